@@ -9,3 +9,4 @@ pub mod TwoSteps
 pub mod Machines
 pub mod Chains
 pub mod Running
+pub mod Facts

@@ -9,3 +9,17 @@ pub mod LineTaken
 pub mod PlacesAwaited
 pub mod MadeReady
 pub mod StepTaken
+pub mod Looks
+pub mod Boxes
+pub mod Brought
+pub mod Coming
+pub mod OneWanted
+pub mod RowsDone
+pub mod RowsPerformed
+pub mod WorkDone
+pub mod Queueing
+pub mod Deeds
+pub mod Latching
+pub mod NextLine
+pub mod Numbered
+pub mod Postings

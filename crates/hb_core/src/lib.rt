@@ -30,6 +30,7 @@ mod outcomes;
 mod performing;
 pub mod progress_laws;
 mod reading;
+pub mod run_laws;
 mod state;
 mod stepping;
 mod threads;

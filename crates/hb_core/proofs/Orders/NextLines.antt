@@ -128,7 +128,7 @@ answered_before number answered a is = by (is_answered number answered) refl (sy
     by true e h = inl e
     by false e h = inr (eqb-true a.line number h)
 
-unanswered_same : (number : ℕ) (answered : List Answered) (a : Answered) → a.line ≢ number → is_answered number (answered ++ a ∷ []) ≡ is_answered number answered
+pub unanswered_same : (number : ℕ) (answered : List Answered) (a : Answered) → a.line ≢ number → is_answered number (answered ++ a ∷ []) ≡ is_answered number answered
 unanswered_same number answered a other = answered_more number answered a ∙ ap (λ (b : Bool). is_answered number answered || b) (ne_eqb a.line number other) ∙ or_false (is_answered number answered)
 
 -- an answer to a line of no such number in the session leaves the session's next line

@@ -193,7 +193,7 @@ pub shows_pages : (d : DiskModel) (c : RunningCore) (m : Machine) (actor : ℕ) 
 shows_pages d c m actor may shows = subst (λ (n : Machine). ShowsMachine d (with_standing actor (m.activity actor) c) n) (sym (own_store m c.store shows.store)) (shows_but d c m actor may shows)
 
 -- what does nothing to the file keeps its files
-keeps_none : (d : DiskModel) (old new : StoreState) (mark : ℕ) (op : Option Op) → op ≡ None → MayDo op mark old new → KeepsFilesBy op d old d new
+pub keeps_none : (d : DiskModel) (old new : StoreState) (mark : ℕ) (op : Option Op) → op ≡ None → MayDo op mark old new → KeepsFilesBy op d old d new
 keeps_none d old new mark None none same = λ durable later keeps. subst (λ (s : StoreState). StoreKeeps d s durable later) (sym same) keeps
 keeps_none d old new mark (Some op) none same = absurd cc
 

@@ -1,0 +1,10 @@
+-- What other crates cite of the core: what one step tells, what many steps come to, and a core that has taken none.
+pub mod PrefixImages
+pub mod LogAndStop
+pub mod AnswersGiven
+pub mod LinesLeft
+pub mod RunFaults
+pub mod RunDisks
+pub mod RunCrashes
+pub mod RunSteps
+pub mod BegunCores

@@ -1,0 +1,92 @@
+-- What a step tells of the log and of a stop: the log's area stays where it is, and as long; and a step that stops a machine says so.
+use Rattle.std.proofs.Common.{◌≡◌, ◌⊎◌, inl, inr, ℕ, List, [], ◌∷◌, Option, Some, None, refl, ap, ◌∙◌}
+use Rattle.hb_activity.specs.Deeds.{Deed}
+use Rattle.hb_core.proofs.Table.StepKinds.{FlushesMore, each_kind, rest_kind}
+use Rattle.hb_core.specs.Acting.{MeetsBadPage}
+use Rattle.hb_core.specs.Forcing.{FailsToWrite, ForcesFirst, StaysSo}
+use Rattle.hb_core.specs.Machines.{Machine}
+use Rattle.hb_core.specs.Performing.{MayDo, Performs}
+use Rattle.hb_core.specs.Steps.{StepsInTurn, StepsTo, Works}
+use Rattle.hb_core.specs.declared.outcomes.Outcome.{Outcome}
+use Rattle.hb_core.specs.declared.outcomes.Outcome.TheVariants as outcomes
+use Rattle.hb_ops.specs.declared.operations.Op.{Op}
+use Rattle.hb_store.specs.States.{StoreState}
+use Rattle.hb_store.specs.declared.stops.StopWhy.{StopWhy}
+use Rattle.hb_wal.specs.Log.{LogState}
+
+-- the log's area is where it was
+pub record KeepsLogPlace (old new : LogState) : Type 0 where
+  pub area : new.area ≡ old.area
+  pub len : new.len ≡ old.len
+
+-- nothing but what the step says has stopped the machine
+abbrev pub SaysStop : Machine → Outcome → Machine → Type 0
+SaysStop m outcome new = (new.stop ≡ m.stop) ⊎ ((why : StopWhy) × (new.stop ≡ Some why) × (outcome ≡ outcomes.Stopped why))
+
+pub record StepTells (m : Machine) (outcome : Outcome) (new : Machine) : Type 0 where
+  pub log : KeepsLogPlace m.store.log new.store.log
+  pub stop : SaysStop m outcome new
+
+same_place : (old new : LogState) → new ≡ old → KeepsLogPlace old new
+same_place old new is = record { area = ap (λ (l : LogState). l.area) is; len = ap (λ (l : LogState). l.len) is }
+
+place_by_op : (op : Option Op) (mark : ℕ) (old fetched new : StoreState) → fetched.log ≡ old.log → MayDo op mark fetched new → KeepsLogPlace old.log new.log
+place_by_op None mark old fetched new log does = same_place old.log new.log (ap (λ (st : StoreState). st.log) does ∙ log)
+place_by_op (Some op) mark old fetched new log does = record {
+  area = does.commits.area ∙ ap (λ (l : LogState). l.area) log;
+  len = does.commits.len ∙ ap (λ (l : LogState). l.len) log;
+}
+
+module _ (m : Machine) (actor : ℕ) (outcome : Outcome) (new : Machine) where
+  stays : (said : Outcome) → StaysSo m said outcome new → StepTells m outcome new
+  stays said so = record { log = same_place m.store.log new.store.log (ap (λ (x : Machine). x.store.log) so.1); stop = inl (ap (λ (x : Machine). x.stop) so.1) }
+
+  fails : {most : ℕ} → FailsToWrite m most outcome new → StepTells m outcome new
+  fails failed = record {
+    log = same_place m.store.log new.store.log (ap (λ (x : Machine). x.store.log) failed.stops);
+    stop = inr (_, ap (λ (x : Machine). x.stop) failed.stops, failed.says);
+  }
+
+  forces : (said : Outcome) → ForcesFirst m said outcome new → StepTells m outcome new
+  forces said (inl (says, is)) = record {
+    log = record { area = ap (λ (x : Machine). x.store.log.area) is; len = ap (λ (x : Machine). x.store.log.len) is };
+    stop = inl (ap (λ (x : Machine). x.stop) is);
+  }
+  forces said (inr badly) = fails badly.1
+
+  more : FlushesMore m outcome new → StepTells m outcome new
+  more (none, left, rest) = absurd left
+
+  performed : (fetched : StoreState) (deed : Deed) → fetched.log ≡ m.store.log → Performs m fetched actor deed outcome new → StepTells m outcome new
+  performed fetched deed log performs = record { log = place_by_op deed.op _ m.store fetched new.store log performs.store; stop = inl performs.stop }
+
+  meets : MeetsBadPage m actor outcome new → StepTells m outcome new
+  meets bad = record {
+    log = same_place m.store.log new.store.log (ap (λ (x : Machine). x.store.log) bad.stops ∙ bad.brings.rest.log);
+    stop = inr (_, ap (λ (x : Machine). x.stop) bad.stops, bad.says);
+  }
+
+  worked : Works m actor outcome new → StepTells m outcome new
+  worked (inl (by, way, so)) = stays (outcomes.Blocked by) so
+  worked (inr (inl (free, unready, inl (waits, force)))) = forces outcomes.Helped force
+  worked (inr (inl (free, unready, inr (none, rest)))) = rest_kind m outcomes.Helped outcome new _ (StepTells m outcome new) none tt more (performed m.store _ refl) rest
+  worked (inr (inr (free, ready, inl acts))) = performed acts.fetched acts.deed acts.brings.rest.log acts.performs
+  worked (inr (inr (free, ready, inr (inl gives)))) = performed gives.fetched _ gives.brings.rest.log gives.performs
+  worked (inr (inr (free, ready, inr (inr bad)))) = meets bad
+
+pub step_tells : (m : Machine) (actor : ℕ) (outcome : Outcome) (new : Machine) → StepsTo m actor outcome new → StepTells m outcome new
+step_tells m actor outcome new step =
+    each_kind m actor outcome new (StepTells m outcome new)
+    (λ said quiet so. stays m actor outcome new said so)
+    (λ said quiet force. forces m actor outcome new said force)
+    (more m actor outcome new)
+    (λ deed outright performs. performed m actor outcome new m.store deed refl performs)
+    (worked m actor outcome new)
+    step
+
+pub log_stays : (actors : List ℕ) (m new : Machine) → StepsInTurn actors m new → KeepsLogPlace m.store.log new.store.log
+log_stays [] m new is = same_place m.store.log new.store.log (ap (λ (x : Machine). x.store.log) is)
+log_stays (actor ∷ rest) m new (outcome, next, step, steps) =
+    let first = (step_tells m actor outcome next step).log in
+    let further = log_stays rest next new steps in
+    record { area = further.area ∙ first.area; len = further.len ∙ first.len }

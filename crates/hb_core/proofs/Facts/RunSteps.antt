@@ -1,0 +1,234 @@
+-- A run of a core: it begins, and goes on by a step.
+use Rattle.std.proofs.Common.{◌≡◌, ℕ, ◌+◌, ◌≤◌, List, [], ◌∷◌, ◌++◌, All, Option, Some, None, IfSome, IsSome, refl, sym, ap, ◌∙◌, subst, arith, append-nil, append_assoc}
+use Rattle.std.proofs.lemmas.List.{append_cancel_left}
+use Rattle.std.proofs.lemmas.List.Elements.{All-append, All-nil, All-weaker}
+use Rattle.hb_core.proofs.Facts.AnswersGiven.{answers_more, given_at, given_now}
+use Rattle.hb_core.proofs.Facts.LinesLeft.{left_after, left_more}
+use Rattle.hb_core.proofs.Facts.LogAndStop.{log_stays, step_tells}
+use Rattle.hb_core.proofs.Facts.PrefixImages.{prefix_less, settled_prefix}
+use Rattle.hb_core.proofs.Facts.RunCrashes.{crashes_more}
+use Rattle.hb_core.proofs.Facts.RunDisks.{log_more, log_touched, moments_touched, shows_them, told_before}
+use Rattle.hb_core.proofs.Facts.RunFaults.{faults_more}
+use Rattle.hb_core.proofs.Machines.GoingOn.{steps_go_on}
+use Rattle.hb_core.proofs.Memory.Moments.{answers_are_timed}
+use Rattle.hb_core.proofs.Orders.PendingKept.{grown_by}
+use Rattle.hb_core.proofs.Table.NoMerges.{nothing_comes_to_merge}
+use Rattle.hb_core.proofs.Table.Ways.{order_grows}
+use Rattle.hb_core.specs.Keeps.{HasSoundFile}
+use Rattle.hb_core.specs.KeptMachine.{CoreKeeps}
+use Rattle.hb_core.specs.Machines.{Files, Machine, settled_count}
+use Rattle.hb_core.specs.MomentLaws.{ImagesHavePrefixes}
+use Rattle.hb_core.specs.Performing.{given_by}
+use Rattle.hb_core.specs.Runs.{AreAnswers, CountsFaults, CrashesTo, HasReadFault, HasRun, HoldsSince, IsPrefixImage, RunningLaws, left_count}
+use Rattle.hb_core.specs.Showing.{RunningCore, ShowsMachine}
+use Rattle.hb_core.specs.Steps.{StepsInTurn, StepsTo}
+use Rattle.hb_core.specs.SteppingLaws.{HasNoSearches, IsBetween}
+use Rattle.hb_core.specs.Touching.{Touches}
+use Rattle.hb_core.specs.Working.{MayGoOn, MayStep}
+use Rattle.hb_core.specs.declared.outcomes.Outcome.{Outcome}
+use Rattle.hb_disk.proofs.Facts.BecomesLaws.{Becomes-read}
+use Rattle.hb_disk.proofs.Facts.FaultLaws.{Stays-same}
+use Rattle.hb_disk.proofs.Facts.RewriteLaws.{Becomes-tells}
+use Rattle.hb_disk.proofs.Facts.RunLaws.{Leaves-start}
+use Rattle.hb_disk.proofs.Facts.TornLaws.{Torn-itself}
+use Rattle.hb_disk.specs.Calls.{Becomes}
+use Rattle.hb_disk.specs.Model.{DiskModel, IsDisk, Torn}
+use Rattle.hb_latch.specs.Tables.{MayLatch}
+use Rattle.hb_lemmas.proofs.Lists.{All-alone}
+use Rattle.hb_lemmas.proofs.Options.{has_value}
+use Rattle.hb_point.specs.SessionRows.{WantsBoxes}
+use Rattle.hb_set.specs.Machine.{RecordSet}
+use Rattle.hb_set.specs.declared.scripts.Answered.{Answered}
+use Rattle.hb_set.specs.declared.scripts.Line.{Line}
+use Rattle.hb_store.proofs.Facts.StoreLaws.{StoreKeeps-opens}
+use Rattle.hb_store.specs.Keeps.{StoreKeeps}
+use Rattle.hb_store.specs.States.{StoreState}
+
+-- ---- it begins
+
+no_fault_yet : (d : DiskModel) (m : Machine) → CountsFaults d d [] m.stop m.stop
+no_fault_yet d m = record { reads = omega arith; writes = omega arith; read = λ has. absurd (nothing has); write = λ stop begun. absurd (begun stop) }
+  where
+    nothing : HasReadFault [] → ⊥
+    nothing (k, a, lt, at, is) = omega (arith, lt)
+
+crashes_begin : ImagesHavePrefixes → (d : DiskModel) (m : Machine) (c : RunningCore) → IsDisk d → ShowsMachine d c m → (n : RecordSet) (files : Files) → CoreKeeps n m files → CrashesTo n d d m []
+crashes_begin images d m c disk shows n files keeps =
+    let them = shows_them d c m files shows keeps.told in
+    record {
+      each = Leaves-start d (IsPrefixImage n m.order 0) disk (λ bytes image. prefix_less n m.order 0 (settled_count m) bytes (omega arith) (settled_prefix images n m files bytes keeps (StoreKeeps-opens d m.store files.durable files.later them.kept bytes image)));
+      since = All-nil (HoldsSince d n m);
+    }
+
+begun_left : (left : ℕ) → 0 + left ≡ left
+begun_left left = omega arith
+
+pub run_begins : RunningLaws → (d : DiskModel) (m : Machine) (c : RunningCore) → IsDisk d → MayStep d c m → HasRun d m [] [] d c
+run_begins laws d m c disk may = record {
+  new = m;
+  may = All-nil MayLatch;
+  steps = refl;
+  shows = may.shows;
+  goes_on = may.goes_on;
+  came = [];
+  answered = sym (append-nil m.answered);
+  answers_are = record { alike = refl; same = λ tells. refl };
+  left = begun_left (left_count m);
+  faults = no_fault_yet d m;
+  in_log = Becomes-read (Torn m.store.log.area m.store.log.len) d d disk (Torn-itself m.store.log.area m.store.log.len) (Stays-same d);
+  crashes = crashes_begin laws.images d m c disk may.shows;
+}
+
+-- ---- a step more
+
+pub one_more_step : (actors : List ℕ) (m mid next : Machine) (actor : ℕ) (outcome : Outcome) → StepsInTurn actors m mid → StepsTo mid actor outcome next → StepsInTurn (actors ++ actor ∷ []) m next
+one_more_step [] m mid next actor outcome is step = (outcome, next, subst (λ (x : Machine). StepsTo x actor outcome next) is step, refl)
+one_more_step (first ∷ rest) m mid next actor outcome (said, one, step, steps) last = (said, one, step, one_more_step rest one mid next actor outcome steps last)
+
+-- no line of the script is a search, as none was before
+same_lines : (m next : Machine) → next.lines ≡ m.lines → HasNoSearches m → HasNoSearches next
+same_lines m next same none = subst (λ (l : List Line). All (λ (line : Line). WantsBoxes line.command → ⊥) l) (sym same) none
+
+module _ (laws : RunningLaws) (e f : DiskModel) (old new : RunningCore) (actor : ℕ) (outcome : Outcome) (mid next : Machine) (may : MayLatch actor) (step : StepsTo mid actor outcome next) (shows : ShowsMachine e old mid) (shows_next : ShowsMachine f new next)
+    (goes_on : MayGoOn mid) (became : Becomes (Torn mid.store.log.area mid.store.log.len) e f) where
+  -- files are told of exactly where they were, and are sound
+  sound_next : IfSome next.files (HasSoundFile next)
+  sound_next = by e.told refl
+    where
+      sound : (files : Files) → mid.files ≡ Some files → IfSome next.files (HasSoundFile next)
+      sound files told =
+          let has = subst (λ (o : Option Files). IfSome o (HasSoundFile mid)) told goes_on.sound in
+          let after = laws.files mid files actor outcome next told goes_on.kept.lines_fit goes_on.kept.pages_of_file has step in
+          subst (λ (o : Option Files). IfSome o (HasSoundFile next)) (sym after.1) after.2
+
+      by : (o : Option (List ℕ)) → e.told ≡ o → IfSome next.files (HasSoundFile next)
+      by None is = subst (λ (o : Option Files). IfSome o (HasSoundFile next)) (sym (shows_next.silent (became.silent is))) tt
+      by (Some b) is = let them = shows.tells (has_value e.told b is) in sound them.files them.told
+
+  pub goes_on_next : MayGoOn next
+  goes_on_next = record {
+    kept = laws.kept mid actor outcome next may goes_on.kept step;
+    sound = sound_next;
+    searches = same_lines mid next (order_grows mid actor outcome next step).0 goes_on.searches;
+    merges = nothing_comes_to_merge mid actor outcome next goes_on.merges step;
+  }
+
+-- What a step of a core came to, with what its caller kept of the answer: `given` has the disk's clock after the step, where it tells.
+pub record WentOn (e : DiskModel) (old : RunningCore) (mid : Machine) (actor : ℕ) (outcome : Outcome) (given : List Answered) (f : DiskModel) (new : RunningCore) : Type 0 where
+  pub next : Machine
+  pub may : MayLatch actor
+  pub step : StepsTo mid actor outcome next
+  pub shows : ShowsMachine f new next
+  pub touches : Touches e old outcome f new
+  pub given_is : AreAnswers f.told given (given_by outcome f.clock)
+
+module _ (laws : RunningLaws) (d : DiskModel) (m : Machine) (actors : List ℕ) (answers : List Answered) (e : DiskModel) (old : RunningCore) (run : HasRun d m actors answers e old) (actor : ℕ) (outcome : Outcome) (given : List Answered) (f : DiskModel) (new : RunningCore)
+    (disk : IsDisk e) (disk_next : IsDisk f) (went : WentOn e old run.new actor outcome given f new) where
+  abbrev mid : Machine
+  mid = run.new
+
+  abbrev next : Machine
+  next = went.next
+
+  all_may : All MayLatch (actors ++ actor ∷ [])
+  all_may = All-append MayLatch actors (actor ∷ []) run.may (All-alone MayLatch actor went.may)
+
+  all_steps : StepsInTurn (actors ++ actor ∷ []) m next
+  all_steps = one_more_step actors m mid next actor outcome run.steps went.step
+
+  -- the core's log lies where that of the first machine does
+  same_store : mid.store ≡ old.store
+  same_store = run.shows.store
+
+  became : Becomes (Torn mid.store.log.area mid.store.log.len) e f
+  became = log_touched e f old new outcome mid.store.log.area mid.store.log.len disk (ap (λ (st : StoreState). st.log.area) (sym same_store)) (ap (λ (st : StoreState). st.log.len) (sym same_store)) went.touches
+
+  in_log : Becomes (Torn m.store.log.area m.store.log.len) d f
+  in_log =
+      let place = log_stays actors m mid run.steps in
+      log_more d e f m.store.log.area m.store.log.len run.in_log
+      (subst (λ (n : ℕ). Becomes (Torn m.store.log.area n) e f) place.len (subst (λ (a : ℕ). Becomes (Torn a mid.store.log.len) e f) place.area became))
+
+  tells_first : IsSome f.told → IsSome d.told
+  tells_first tells = told_before (Torn m.store.log.area m.store.log.len) d f in_log tells
+
+  tells_last : IsSome d.told → IsSome f.told
+  tells_last tells = Becomes-tells (Torn m.store.log.area m.store.log.len) d f in_log tells
+
+  same_clock : IsSome d.told → next.clock ≡ f.clock
+  same_clock tells = (went.shows.tells (tells_last tells)).clock
+
+  came_next : next.answered ≡ m.answered ++ (run.came ++ given_by outcome next.clock)
+  came_next =
+      answers_are_timed mid actor outcome next went.step
+      ∙ ap (λ (l : List Answered). l ++ given_by outcome next.clock) run.answered
+      ∙ append_assoc m.answered run.came (given_by outcome next.clock)
+
+  -- ---- crashes
+
+  -- what was answered is no later than the disk's clock
+  timed : IsSome d.told → mid.clock ≡ e.clock → All (λ (a : Answered). a.at ≤ e.clock) answers
+  timed tells clock =
+      let gone = steps_go_on actors m mid run.steps in
+      let came : gone.answers ≡ answers = append_cancel_left m.answered gone.answers run.came (sym gone.answered ∙ run.answered) ∙ sym (run.answers_are.same tells) in
+      subst (λ (l : List Answered). All (λ (a : Answered). a.at ≤ e.clock) l) came
+      (All-weaker (IsBetween m.clock mid.clock) (λ (a : Answered). a.at ≤ e.clock) (λ a between. let high = between.1 in omega (arith, high, clock)) gone.answers gone.timed)
+
+  crashes : (n : RecordSet) (files : Files) → CoreKeeps n m files → CrashesTo n d f next (answers ++ given)
+  crashes n files keeps =
+      let none = same_lines mid m (sym (steps_go_on actors m mid run.steps).lines) run.goes_on.searches in
+      let before = laws.changes n actors m files mid run.may none keeps run.steps in
+      let after = laws.changes n (actors ++ actor ∷ []) m files next all_may none keeps all_steps in
+      let shown = shows_them e old mid before.0 run.shows before.1.keeps.told in
+      let shown_next = shows_them f new next after.0 went.shows after.1.keeps.told in
+      let grown = grown_by mid next (order_grows mid actor outcome next went.step).1 in
+      let tells = tells_first shown_next.tells in
+      let exactly = went.given_is.same shown_next.tells in
+      let same = run.answers_are.same tells in
+      crashes_more laws.images n d e f mid next answers given disk_next
+      (record {
+        files = before.0;
+        files_then = after.0;
+        keeps = before.1.keeps;
+        keeps_then = after.1.keeps;
+        moments = moments_touched e f old new outcome before.0.durable before.0.later disk (subst (λ (st : StoreState). StoreKeeps e st before.0.durable before.0.later) same_store shown.kept) went.touches;
+        kept_then = shown_next.kept;
+        more = grown.0;
+        order = grown.1;
+        first = m.answered;
+        among = run.answered ∙ ap (λ (l : List Answered). m.answered ++ l) (sym same);
+        among_then = answers_are_timed mid actor outcome next went.step ∙ ap (λ (t : ℕ). mid.answered ++ given_by outcome t) shown_next.clock ∙ ap (λ (l : List Answered). mid.answered ++ l) (sym exactly);
+        timed = timed tells shown.clock;
+        timed_then = subst (λ (l : List Answered). All (λ (a : Answered). a.at ≡ f.clock) l) (sym exactly) (given_now outcome f.clock);
+      })
+      (run.crashes n files keeps)
+
+  pub run_goes_on : HasRun d m (actors ++ actor ∷ []) (answers ++ given) f new
+  run_goes_on = record {
+    new = next;
+    may = all_may;
+    steps = all_steps;
+    shows = went.shows;
+    goes_on = goes_on_next laws e f old new actor outcome mid next went.may went.step run.shows went.shows run.goes_on became;
+    came = run.came ++ given_by outcome next.clock;
+    answered = came_next;
+    answers_are = answers_more d.told f.told answers run.came given outcome f.clock next.clock run.answers_are went.given_is tells_last same_clock;
+    left = left_more run.came (given_by outcome next.clock) (left_count next) (left_count mid) (left_count m) run.left (left_after mid actor outcome next run.goes_on.kept.lines_in_turn went.step);
+    faults = faults_more d e f old new m mid next outcome answers given f.clock run.faults (step_tells mid actor outcome next went.step).stop run.shows.stop went.given_is.alike went.touches;
+    in_log = in_log;
+    crashes = crashes;
+  }
+
+-- ---- as a caller has it
+
+-- what a core wants to take a step
+pub may_go_on : (d : DiskModel) (m : Machine) (actors : List ℕ) (answers : List Answered) (e : DiskModel) (c : RunningCore) → (run : HasRun d m actors answers e c) → MayStep e c run.new
+may_go_on d m actors answers e c run = record { shows = run.shows; goes_on = run.goes_on }
+
+-- By the contract of the core's step, where the caller keeps each answer with what the core told of the clock.
+pub run_by_step : RunningLaws → (d : DiskModel) (m : Machine) (actors : List ℕ) (answers : List Answered) (e : DiskModel) (old : RunningCore) (actor : ℕ) (outcome : Outcome) (clock : ℕ) (f : DiskModel) (new : RunningCore) → HasRun d m actors answers e old → IsDisk e → IsDisk f → MayLatch actor
+    → ((x : Machine) → MayStep e old x → (next : Machine) × StepsTo x actor outcome next × ShowsMachine f new next) → Touches e old outcome f new → (IsSome f.told → clock ≡ f.clock) → HasRun d m (actors ++ actor ∷ []) (answers ++ given_by outcome clock) f new
+run_by_step laws d m actors answers e old actor outcome clock f new run disk disk_next may steps touches same =
+    let took = steps run.new (may_go_on d m actors answers e old run) in
+    run_goes_on laws d m actors answers e old run actor outcome (given_by outcome clock) f new disk disk_next
+    (record { next = took.0; may = may; step = took.1; shows = took.2; touches = touches; given_is = given_at f.told outcome clock f.clock same })

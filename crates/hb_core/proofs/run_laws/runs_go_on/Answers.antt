@@ -1,0 +1,9 @@
+use Rattle.hb_core.proofs.run_laws.runs_go_on.Goals as goal
+
+pub returns : goal.returns
+returns c = record {
+  kept = c.machines_stay_kept.ensures.step;
+  files = c.files_stay_sound.ensures;
+  changes = c.steps_keep_all.ensures.changes;
+  images = c.images_have_prefixes.ensures;
+}
