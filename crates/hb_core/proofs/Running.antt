@@ -3,3 +3,5 @@ pub mod Queueing
 pub mod Deeds
 pub mod Latching
 pub mod NextLine
+pub mod Unanswered
+pub mod Begun
