@@ -23,3 +23,5 @@ pub mod Latching
 pub mod NextLine
 pub mod Numbered
 pub mod Postings
+pub mod Unanswered
+pub mod Begun
