@@ -14,6 +14,7 @@ use Rattle.hb_store.specs.declared.stops.Why.TheVariants.{Rule, Level, Extent}
 use Rattle.hb_activity.specs.Walks.{walk_point, walk_held}
 use Rattle.hb_activity.specs.Wanting.{wanted_of}
 use Rattle.hb_core.specs.Machines.{Machine, live_here}
+pub use Rattle.hb_core.specs.declared.asking.AskedBox.{AskedBox}
 use Rattle.hb_frag.specs.Leaves.{Placed, leaf_at, leaves_of, siblings_of, first_named}
 use Rattle.hb_latch.specs.Tables.{IsGrantable, IsLeastInTheWay}
 use Rattle.hb_space.specs.Boxes.{Area, Within, whole_area}
@@ -46,11 +47,6 @@ IsInTheWay m actor by = IsSomeAnd (wanted_by m actor) (λ wanted. IsLeastInTheWa
 -- none is
 abbrev pub HasWayFree : Machine → ℕ → Type 0
 HasWayFree m actor = IfSome (wanted_by m actor) (λ wanted. IsGrantable m.latches actor wanted.page wanted.mode)
-
--- The box of a page that is asked for: exactly this one, or one that has it within.
-pub record AskedBox : Type 0 where
-  pub area : Area
-  pub exact : Bool
 
 -- the page that a leaf names: a sibling has the leaf's box, a child has it within its own
 abbrev pub box_by_leaf : Placed → Option AskedBox
@@ -86,6 +82,10 @@ box_of_child page name = option_map (λ area. record { area = area; exact = fals
 abbrev pub box_of_sibling : Option LivePage → ℕ → Option AskedBox
 box_of_sibling page name = option_map (λ area. record { area = area; exact = true }) (option_and_then (λ page. first_named name (siblings_of page)) page)
 
+-- the box that the root is to have
+abbrev pub whole_box : ℕ → AskedBox
+whole_box k = record { area = whole_area k; exact = true }
+
 -- the box that the wanted page is to have: of the root the whole space
 abbrev pub asked_box : Activity → StoreState → Option AskedBox
 asked_box (PosterChild job parent) st = box_at (live_here st parent) (Some job.point)
@@ -99,7 +99,7 @@ asked_box (ConsolidatorPromote job parent keep gone) st = None
 asked_box other st = in_walk (walk_held other)
   where
     in_walk : Option ℕ → Option AskedBox
-    in_walk None = Some (record { area = whole_area st.meta.k; exact = true })
+    in_walk None = Some (whole_box st.meta.k)
     in_walk (Some held) = box_at (live_here st held) (walk_point other)
 
 abbrev pub HasAskedBox : AskedBox → Area → Type 0

@@ -5,7 +5,7 @@ use Rattle.hb_activity.specs.declared.activities.Activity.{Activity}
 use Rattle.hb_activity.specs.declared.activities.Activity.TheVariants as at
 use Rattle.hb_frag.specs.declared.pages.LivePage.{LivePage}
 use Rattle.hb_store.specs.declared.stops.StopWhy.TheVariants.{Damaged, WriteFault}
-use Rattle.hb_store.specs.States.{StoreState}
+use Rattle.hb_store.specs.States.{StoreState, in_memory}
 use Rattle.hb_core.specs.declared.halts.Halt.{Halt}
 use Rattle.hb_core.specs.declared.halts.Halt.TheVariants.{GivesUp, Stops}
 use Rattle.hb_core.specs.Acting.{GivesUpFor, IsBadWanted, MayNeed, NeedsNumber}
@@ -58,10 +58,11 @@ pub record MayWork (m : Machine) (actor : ℕ) : Type 0 where
 abbrev pub with_pages : RunningCore → Machine → Machine
 with_pages c m = with_disk c.store m.files m.clock m
 
--- The wanted page is at hand, where one is wanted.
+-- The wanted page is at hand, where one is wanted. The head of the free chain, which may be needed next, didn't leave.
 pub record HasCome (m : Machine) (actor : ℕ) (d : DiskModel) (c : RunningCore) : Type 0 where
   pub may : MayWork m actor
   pub brings : Brings m (IsWantedPage (wanted_by m actor)) c.store
+  pub head : IsSome (in_memory m.store m.store.meta.free) → in_memory c.store m.store.meta.free ≡ in_memory m.store m.store.meta.free
   pub shows : ShowsMachine d c (with_pages c m)
   pub at_hand : IfSome (wanted_by m actor) (λ wanted. (page : LivePage) × IsAtHand (with_pages c m) (m.activity actor) wanted page)
 
@@ -89,3 +90,7 @@ pub record Halts (m : Machine) (actor : ℕ) (halt : Halt) (d : DiskModel) (c : 
   pub brings : Brings m (MayNeed m actor c.store) c.store
   pub shows : ShowsBut d c actor (with_pages c m)
   pub cause : IsHalt m actor c.store halt
+
+abbrev pub IsStop : Halt → Type 0
+IsStop (GivesUp why) = ⊥
+IsStop (Stops why) = Unit {0}

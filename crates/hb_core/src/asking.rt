@@ -1,15 +1,17 @@
 //! Which page a step asks for, and what it tests of that page before it latches it.
-ghost use Rattle.std.specs.Prelude.{◌≡◌, ◌↔◌, ◌≢◌, true, IsTrue, IsSome, IfErr, IfSome, OnOk, MatchOption, option_map};
+ghost use Rattle.std.specs.Prelude.{◌≡◌, ◌↔◌, ◌≢◌, true, length, IsTrue, IsSome, Some, IfErr, IfSome, OnOk, MatchOption};
 ghost use Rattle.hb_activity.specs.Changing.{may_commit};
 ghost use Rattle.hb_activity.specs.Wanting.{HasLeafAt};
-ghost use Rattle.hb_frag.specs.Leaves.{leaf_at};
 ghost use Rattle.hb_frag.specs.declared.pages.Page.TheVariants.{Live};
 ghost use Rattle.hb_latch.specs.Tables.{MayLatch};
+ghost use Rattle.hb_layout.specs.Limits.{IsLayout};
 ghost use Rattle.hb_ops.specs.Given.{given as live_given};
 ghost use Rattle.hb_store.specs.States.{in_memory};
-ghost use Rattle.hb_core.specs.Asking.{HasAskedBox, IsNotAsked, asked_box, box_by_leaf, looked_live, looked_page};
+ghost use Rattle.hb_store.specs.declared.stops.Why.TheVariants.{Extent};
+ghost use Rattle.hb_core.specs.Asking.{HasAskedBox, IsNotAsked, asked_box, box_at, looked_live, looked_page, whole_box};
 ghost use Rattle.hb_core.specs.CoreSeen.{core_seen, core_disk};
-ghost use Rattle.hb_core.specs.Looking.{FailsTest, IsOfOtherLevel, MayLook, PassesTest, wanted_in};
+ghost use Rattle.hb_core.specs.Looking.{FailsTest, MayLook, PassesTest, wanted_in};
+ghost use Rattle.hb_core.specs.Machines.{live_here};
 ghost use Rattle.hb_core.specs.Moving.{StandsAs};
 ghost use Rattle.hb_core.specs.Working.{IsWorking};
 
@@ -17,21 +19,25 @@ use crate::state::Core;
 use hb_activity::{Activity, Wanted};
 use hb_disk::Device;
 use hb_frag::{Leaf, LivePage, Page};
+use hb_layout::Meta;
 use hb_space::{Actor, Area, Point};
 use hb_store::Why;
 
 /// The box of a page that is asked for: exactly this one, or one that has it within.
 #[derive(Debug, Drop)]
 pub(crate) struct AskedBox {
-    area: Area,
-    exact: bool,
+    pub(crate) area: Area,
+    pub(crate) exact: bool,
 }
 
 impl AskedBox {
     /// Whether a page of this box is the one.
-    fn is_of(&self, area: &Area) -> bool {
+    fn is_of(&self, area: &Area) -> bool
+        requires { length self.now.area.lo ≡ length area.now.lo }
+        ensures { IsTrue result ↔ HasAskedBox self.now area.now }
+    {
         if self.exact {
-            self.area == *area
+            *area == self.area
         } else {
             self.area.within(area)
         }
@@ -76,42 +82,73 @@ impl<D: Device> Core<D> {
         ensures passes { OnOk result ((activity : _) → StandsAs (core_seen self.now) actor activity → PassesTest (core_seen self.now).store activity wanted) }
         ensures fails { IfErr result (λ why. (activity : _) → StandsAs (core_seen self.now) actor activity → FailsTest (core_seen self.now).store activity wanted why) }
     {
+        let asked = self.asked_box(self.activity(actor));
         match self.store.get(wanted.page) {
-            Some(Page::Live(page)) => test_page(page, wanted, self.asked_box(self.activity(actor))),
+            Some(Page::Live(page)) => test_page(page, wanted, asked),
             _ => Err(Why::Rule(2)),
         }
     }
 
     /// The box that the wanted page is to have: of the root the whole space.
-    fn asked_box(&self, activity: &Activity) -> Option<AskedBox> {
+    fn asked_box(&self, activity: &Activity) -> Option<AskedBox>
+        requires working { IsWorking activity.now }
+        requires look { MayLook (core_seen self.now).store activity.now }
+        ensures { result ≡ asked_box activity.now (core_seen self.now).store }
+    {
         match activity {
             Activity::PosterChild { job, parent } | Activity::PosterAgain { job, parent } => {
-                box_at(self.live(*parent)?, &job.point)
+                self.box_in(*parent, &job.point)
             }
             Activity::PosterPromote { .. } => None,
             _ => match activity.walk_held() {
-                Some(held) => box_at(self.live(held)?, activity.walk_point()?),
-                None => Some(AskedBox {
-                    area: Area::whole(self.store.meta().k),
-                    exact: true,
-                }),
+                Some(held) => self.box_in(held, activity.walk_point()?),
+                None => Some(whole_box(self.store.meta())),
             },
         }
+    }
+
+    /// The box of the page that the leaf at the point names, in the page of this number.
+    fn box_in(&self, id: u32, point: &Point) -> Option<AskedBox>
+        requires { IfSome (live_here (core_seen self.now).store id) (λ page. HasLeafAt page point.now) }
+        ensures { result ≡ box_at (live_here (core_seen self.now).store id) (Some point.now) }
+    {
+        box_at(self.live(id)?, point)
     }
 }
 
 /// The page into which the next step of the activity looks, to tell which latch it wants.
-fn looked_page(activity: &Activity) -> Option<u32> {
+fn looked_page(activity: &Activity) -> Option<u32>
+    ensures { result ≡ looked_page activity.now }
+{
     match activity {
         Activity::PosterChild { parent, .. }
         | Activity::PosterPromote { parent, .. }
-        | Activity::PosterAgain { parent, .. } => Some(*parent),
+        | Activity::PosterAgain { parent, .. }
+        | Activity::ConsolidatorScan { parent, .. }
+        | Activity::ConsolidatorPromote { parent, .. }
+        | Activity::ConsolidatorKeep { parent, .. }
+        | Activity::ConsolidatorDecide { parent, .. } => Some(*parent),
+        Activity::ConsolidatorTry { keep, .. } => Some(*keep),
         _ => activity.walk_held(),
     }
 }
 
+/// The box of the root: the whole space.
+fn whole_box(meta: &Meta) -> AskedBox
+    requires { IsLayout meta.now }
+    ensures { result ≡ whole_box meta.now.k }
+{
+    AskedBox {
+        area: Area::whole(meta.k),
+        exact: true,
+    }
+}
+
 /// The box of the page that the leaf at the point names: a sibling has the leaf's, and a child has it within its own.
-fn box_at(page: &LivePage, point: &Point) -> Option<AskedBox> {
+fn box_at(page: &LivePage, point: &Point) -> Option<AskedBox>
+    requires { HasLeafAt page.now point.now }
+    ensures { result ≡ box_at (Some page.now) (Some point.now) }
+{
     match page.leaf_at(point) {
         (Leaf::Records(_), _) => None,
         (Leaf::Child(_), area) => Some(AskedBox { area, exact: false }),
@@ -120,7 +157,11 @@ fn box_at(page: &LivePage, point: &Point) -> Option<AskedBox> {
 }
 
 /// Tests a page in use.
-fn test_page(page: &LivePage, wanted: Wanted, asked: Option<AskedBox>) -> Result<(), Why> {
+fn test_page(page: &LivePage, wanted: Wanted, asked: Option<AskedBox>) -> Result<(), Why>
+    requires many { IfSome asked (λ asked. length asked.area.lo ≡ length page.now.area.lo) }
+    ensures passes { OnOk result ((page.now.level ≡ wanted.level) × IfSome asked (λ asked. HasAskedBox asked page.now.area)) }
+    ensures fails { IfErr result (λ why. MatchOption asked (page.now.level ≢ wanted.level) (λ asked. IsNotAsked wanted asked (Live page.now) why)) }
+{
     if page.level != wanted.level {
         return Err(Why::Level {
             asked: wanted.level,
@@ -134,7 +175,11 @@ fn test_page(page: &LivePage, wanted: Wanted, asked: Option<AskedBox>) -> Result
 }
 
 /// Tests the box of a page in use.
-fn test_box(page: &LivePage, asked: AskedBox) -> Result<(), Why> {
+fn test_box(page: &LivePage, asked: AskedBox) -> Result<(), Why>
+    requires { length asked.area.lo ≡ length page.now.area.lo }
+    ensures passes { OnOk result (HasAskedBox asked page.now.area) }
+    ensures fails { IfErr result (λ why. (HasAskedBox asked page.now.area → ⊥) × (why ≡ Extent asked.area page.now.area)) }
+{
     if asked.is_of(&page.area) {
         return Ok(());
     }

@@ -1,5 +1,5 @@
 //! How a step gets its pages, and asks its decider.
-ghost use Rattle.std.specs.Prelude.{◌≡◌, ◌↔◌, IsTrue, IfOk, IfErr, OnErr, length};
+ghost use Rattle.std.specs.Prelude.{◌≡◌, ◌↔◌, IsTrue, IsSome, IfOk, IfErr, OnOk, OnErr, length};
 ghost use Rattle.hb_latch.specs.Tables.{MayLatch};
 ghost use Rattle.hb_activity.specs.Deciding.{deed_of};
 ghost use Rattle.hb_activity.specs.Classes.{idle_of};
@@ -9,11 +9,15 @@ ghost use Rattle.hb_core.specs.Acting.{NeedsNumber, TakesMemory};
 ghost use Rattle.hb_core.specs.Asking.{wanted_by};
 ghost use Rattle.hb_core.specs.CoreSeen.{core_seen, core_disk};
 ghost use Rattle.hb_core.specs.KeptFits.{class_for};
-ghost use Rattle.hb_core.specs.Looking.{number_of_row, other_number, other_page};
+ghost use Rattle.hb_store.specs.States.{in_memory};
+ghost use Rattle.hb_store.specs.declared.stops.StopWhy.TheVariants.{Damaged};
+ghost use Rattle.hb_store.specs.declared.stops.Why.{Why};
+ghost use Rattle.hb_core.specs.declared.halts.Halt.TheVariants.{Stops};
+ghost use Rattle.hb_core.specs.Looking.{FailsTest, MayLook, PassesTest, number_of_row, other_number, other_page};
 ghost use Rattle.hb_core.specs.Machines.{Machine};
-ghost use Rattle.hb_core.specs.Moving.{placed, with_standing};
+ghost use Rattle.hb_core.specs.Moving.{StandsAs, placed, with_standing};
 ghost use Rattle.hb_core.specs.Rows.{Row};
-ghost use Rattle.hb_core.specs.Working.{Halts, HasCome, HasPages, MayStep, MayWork, with_pages};
+ghost use Rattle.hb_core.specs.Working.{Halts, HasCome, HasPages, IsWorking, MayStep, MayWork, with_pages};
 
 use crate::halts::Halt;
 use crate::reading::idle;
@@ -34,11 +38,30 @@ impl<D: Device> Core<D> {
             HasCome m actor (D.model (core_disk self.new)) (core_seen self.new)) }
         ensures halts { IfErr result (λ halt. (m : Machine) → MayStep (D.model (core_disk self.old)) (core_seen self.old) m → MayWork m actor →
             Halts m actor halt (D.model (core_disk self.new)) (core_seen self.new)) }
+        ensures intact { (core_seen self.new).activities ≡ (core_seen self.old).activities }
     {
         let Some(wanted) = wanted else {
             return Ok(());
         };
-        self.store.fetch(wanted.page)?;
+        match self.store.fetch(wanted.page) {
+            Ok(()) => {
+                let _ = self.store.meta();
+                self.tested(actor, wanted)
+            }
+            Err(stop) => Err(Halt::from(stop)),
+        }
+    }
+
+    /// Tests the page that came. The core is to be stopped where it isn't the one.
+    fn tested(&self, actor: Actor, wanted: Wanted) -> Result<(), Halt>
+        requires actor { MayLatch actor }
+        requires there { IsSome (in_memory (core_seen self.now).store wanted.page) }
+        requires working { (activity : _) → StandsAs (core_seen self.now) actor activity → IsWorking activity }
+        requires look { (activity : _) → StandsAs (core_seen self.now) actor activity → MayLook (core_seen self.now).store activity }
+        ensures passes { OnOk result ((activity : _) → StandsAs (core_seen self.now) actor activity → PassesTest (core_seen self.now).store activity wanted) }
+        ensures fails { IfErr result (λ halt. (why : Why) × (halt ≡ Stops (Damaged wanted.page why))
+            × ((activity : _) → StandsAs (core_seen self.now) actor activity → FailsTest (core_seen self.now).store activity wanted why)) }
+    {
         match self.test(actor, wanted) {
             Ok(()) => Ok(()),
             Err(why) => Err(Halt::Stops(StopWhy::Damaged {
@@ -62,11 +85,17 @@ impl<D: Device> Core<D> {
             HasPages m actor free (D.model (core_disk self.new)) (core_seen self.new)) }
         ensures halts { IfErr result (λ halt. (m : Machine) → HasCome m actor (D.model (core_disk self.old)) (core_seen self.old) →
             Halts m actor halt (D.model (core_disk self.new)) (core_seen self.new)) }
+        ensures intact { (core_seen self.new).activities ≡ (core_seen self.old).activities }
     {
-        if self.needs_number(actor, wanted) {
-            return Ok(self.store.next_page()?);
+        if !self.needs_number(actor, wanted) {
+            return Ok(None);
         }
-        Ok(None)
+        let next = self.store.next_page();
+        let _ = self.store.meta();
+        match next {
+            Ok(next) => Ok(next),
+            Err(stop) => Err(Halt::from(stop)),
+        }
     }
 
     /// Whether the row makes a page, if one is free.

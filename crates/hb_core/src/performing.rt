@@ -1,5 +1,5 @@
 //! How a core does what its deciders say: latches, the queue, the order, and what becomes of the line in hand.
-ghost use Rattle.std.specs.Prelude.{◌≡◌, ℕ, ◌<◌, ◌≤◌, ◌++◌, length, take, drop, Some, None, IsSome, IfSome, IfOk, IfErr, List};
+ghost use Rattle.std.specs.Prelude.{◌≡◌, ℕ, ◌<◌, ◌≤◌, ◌^◌, ◌++◌, length, take, drop, Some, None, IsSome, IfSome, IfOk, IfErr, IsErr, OnOk, OnErr, List};
 ghost use Rattle.std.specs.FinMap as map;
 ghost use Rattle.hb_latch.specs.Tables.{IsGrantable, MayLatch, latches_of, mode_at};
 ghost use Rattle.hb_activity.specs.Classes.{class_of, hand_of};
@@ -29,8 +29,9 @@ use hb_disk::Device;
 use hb_frag::LivePage;
 use hb_latch::Latches;
 use hb_latch::laws::{each_call_changes_one_latch, each_latch_counts_once};
+use hb_ops::Op;
 use hb_set::Reply;
-use hb_space::Actor;
+use hb_space::{Actor, NoMemory};
 
 impl<D: Device> Core<D> {
     /// Performs what the decider said, with the number of the line that was in hand. For want of memory nothing changes.
@@ -45,6 +46,7 @@ impl<D: Device> Core<D> {
         requires stand { (st : StoreState) → MayDo next.op (length (core_seen self.old).order) (core_seen self.old).store st →
             MayStand actor (core_seen self.old).latches st (placed_at (length (core_seen self.old).order) next.then) }
         requires room { IsSome (joins_order line next.then next.fate) → length (core_seen self.old).order < length (core_seen self.old).lines }
+        requires few { length (core_seen self.old).order < 2 ^ 32 }
         ensures does { IfOk result (λ outcome. (state : _) → line ≡ number_of (hand_of state) →
             DoesDeed actor (placed (length (core_seen self.old).order) (deed_of state next)) outcome (core_seen self.old) (core_seen self.new)) }
         ensures files { IfOk result (λ outcome. KeepsFilesBy next.op (D.model (core_disk self.old)) (core_seen self.old).store (D.model (core_disk self.new)) (core_seen self.new).store) }
@@ -58,9 +60,9 @@ impl<D: Device> Core<D> {
             fate,
         } = next;
         let place = self.order.len() as u32;
-        if let Some(op) = op {
-            self.store.commit(op, place)?;
-        }
+        let Ok(()) = self.commit(op, place) else {
+            return Err(Halt::GivesUp(DropWhy::NoMemory));
+        };
         self.add_all(jobs);
         let joins = joins(line, &then, &fate);
         self.stand(actor, at_place(then, place));
@@ -68,8 +70,26 @@ impl<D: Device> Core<D> {
         Ok(outcome_of(line, fate))
     }
 
+    /// Does the operation in memory, where there is one. For want of memory nothing changes.
+    fn commit(&mut self, op: Option<Op>, place: u32) -> Result<(), NoMemory>
+        requires may { IfSome op (MayCommit (D.model (core_disk self.old)) (core_seen self.old)) }
+        requires place { place ≡ length (core_seen self.old).order }
+        ensures done { OnOk result (MayDo op place (core_seen self.old).store (core_seen self.new).store) }
+        ensures files { OnOk result (KeepsFilesBy op (D.model (core_disk self.old)) (core_seen self.old).store (D.model (core_disk self.new)) (core_seen self.new).store) }
+        ensures same { OnErr result (core_seen self.new ≡ core_seen self.old) }
+        ensures cause { IsErr result → IsSome op }
+        ensures rest { core_seen self.new ≡ record (core_seen self.old) { store = (core_seen self.new).store } }
+        ensures disk { core_disk self.new ≡ core_disk self.old }
+    {
+        match op {
+            Some(op) => self.store.commit(op, place),
+            None => Ok(()),
+        }
+    }
+
     /// Lets the jobs wait, one after the other.
     fn add_all(&mut self, mut jobs: ArrayVec<Job, 2>)
+        requires { length jobs.items ≤ 2 }
         ensures jobs { AddsJobs jobs.items (core_seen self.old).jobs (core_seen self.new).jobs }
         ensures rest { core_seen self.new ≡ with_jobs (core_seen self.new).jobs (core_seen self.old) }
         ensures disk { core_disk self.new ≡ core_disk self.old }

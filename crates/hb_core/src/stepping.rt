@@ -1,6 +1,6 @@
 //! One step of an actor.
 ghost use Rattle.std.specs.Prelude.{◌≡◌, ◌≤◌, ◌-◌, ◌==◌, ℕ, Some, None, length};
-ghost use Rattle.std.specs.List.{position, slice_get};
+ghost use Rattle.std.specs.List.{position, slice_get, slice_set};
 ghost use Rattle.hb_latch.specs.Tables.{MayLatch};
 ghost use Rattle.hb_activity.specs.declared.activities.Activity.TheVariants as at;
 ghost use Rattle.hb_core.specs.declared.outcomes.Outcome.TheVariants as outcomes;
@@ -66,7 +66,7 @@ impl<D: Device> Core<D> {
             return Outcome::Idle;
         };
         let line = copy_of_line(&self.script.lines.as_slice()[from + place]);
-        self.behind[session] = from + place + 1;
+        self.go_behind(actor, from + place + 1);
         self.stand(
             actor,
             Activity::SessionWalk {
@@ -77,6 +77,16 @@ impl<D: Device> Core<D> {
             },
         );
         Outcome::Moved
+    }
+
+    /// So many lines lie behind the session from now on.
+    fn go_behind(&mut self, actor: Actor, behind: usize)
+        requires actor { MayLatch actor }
+        requires session { (before : ℕ) × (slice_get (core_seen self.old).behind (actor - 1) ≡ Some before) }
+        ensures gone { core_seen self.new ≡ record (core_seen self.old) { behind = slice_set (core_seen self.old).behind (actor - 1) behind } }
+        ensures disk { core_disk self.new ≡ core_disk self.old }
+    {
+        self.behind[usize::from(actor) - 1] = behind;
     }
 
     /// The poster takes its oldest job, where one waits.

@@ -1,15 +1,18 @@
 //! A step that wants a latch or changes the file.
-ghost use Rattle.std.specs.Prelude.{◌≡◌, None, IfOk, IfErr, IfSome, IsSomeAnd};
+ghost use Rattle.std.specs.Prelude.{◌≡◌, ◌↔◌, None, IsTrue, IfOk, IfErr, IfSome, IsSomeAnd};
 ghost use Rattle.hb_latch.specs.Tables.{IsGrantable, IsLeastInTheWay, MayLatch};
 ghost use Rattle.hb_activity.specs.Classes.{hand_of};
 ghost use Rattle.hb_core.specs.Acting.{DoesRow};
-ghost use Rattle.hb_core.specs.Asking.{wanted_by};
+ghost use Rattle.hb_activity.specs.Changing.{may_commit};
+ghost use Rattle.hb_store.specs.Calls.{IsReady};
+ghost use Rattle.hb_core.specs.Asking.{looked_live, wanted_by};
+ghost use Rattle.hb_core.specs.Looking.{MayLook};
 ghost use Rattle.hb_core.specs.CoreSeen.{core_seen, core_disk};
 ghost use Rattle.hb_core.specs.Machines.{Machine};
-ghost use Rattle.hb_core.specs.Moving.{number_of};
+ghost use Rattle.hb_core.specs.Moving.{StandsAs, number_of};
 ghost use Rattle.hb_core.specs.Showing.{ShowsMachine};
 ghost use Rattle.hb_core.specs.Steps.{Works};
-ghost use Rattle.hb_core.specs.Working.{Halts, IsWorking, MayStep, MayWork};
+ghost use Rattle.hb_core.specs.Working.{Halts, IsStop, IsWorking, MayStep, MayWork};
 
 use crate::halts::Halt;
 use crate::outcomes::Outcome;
@@ -30,7 +33,7 @@ impl<D: Device> Core<D> {
         if let Some(by) = self.in_the_way(actor, wanted) {
             return Outcome::Blocked { by };
         }
-        if self.may_commit(actor) && !self.store.ready() {
+        if self.is_unready(actor) {
             return self.get_ready(actor);
         }
         let line = self.line_in_hand(actor);
@@ -39,6 +42,16 @@ impl<D: Device> Core<D> {
             Err(Halt::GivesUp(why)) => self.give_up(actor, line, why),
             Err(Halt::Stops(why)) => self.stop_for(why),
         }
+    }
+
+    /// Whether the actor's next step may change the file, and the log isn't ready for a change.
+    fn is_unready(&self, actor: Actor) -> bool
+        requires actor { MayLatch actor }
+        requires look { (activity : _) → StandsAs (core_seen self.now) actor activity → MayLook (core_seen self.now).store activity }
+        ensures { (activity : _) → StandsAs (core_seen self.now) actor activity →
+            (IsTrue result ↔ (IsTrue (may_commit activity (core_seen self.now).store.meta (looked_live (core_seen self.now).store activity)) × (¬ (IsReady (core_seen self.now).store)))) }
+    {
+        self.may_commit(actor) && !self.store.ready()
     }
 
     /// The least other actor that is in the way of the latch.
@@ -65,10 +78,14 @@ impl<D: Device> Core<D> {
             (new : Machine) × DoesRow m actor outcome new × ShowsMachine (D.model (core_disk self.new)) (core_seen self.new) new) }
         ensures halts { IfErr result (λ halt. (m : Machine) → MayStep (D.model (core_disk self.old)) (core_seen self.old) m → MayWork m actor →
             Halts m actor halt (D.model (core_disk self.new)) (core_seen self.new)) }
+        // where the core is to be stopped, everybody stands as before
+        ensures intact { IfErr result (λ halt. IsStop halt → (core_seen self.new).activities ≡ (core_seen self.old).activities) }
     {
         self.bring(actor, wanted)?;
         let free = self.number(actor, wanted)?;
-        let next = self.decide(actor, wanted, free)?;
-        self.perform(actor, line, next)
+        match self.decide(actor, wanted, free) {
+            Ok(next) => self.perform(actor, line, next),
+            Err(refused) => Err(Halt::from(refused)),
+        }
     }
 }

@@ -76,7 +76,7 @@ met_at axis v (r ∷ rest) lt =
     (λ low. if_below x (v + 1) (λ b. G true b) (λ l h. later (omega (arith, h))) (λ g. absurd (omega (arith, low, g))))
     (λ high. if_below x (v + 1) (λ b. G false b) (λ l h. (0, r, omega arith, refl, omega (arith, high, l))) (λ g h. later h)) lt
 
-some_below : (axis v : ℕ) (records : List Record) → 0 < below axis v records → Any (λ r. slice_index r.key axis < v) records
+pub some_below : (axis v : ℕ) (records : List Record) → 0 < below axis v records → Any (λ r. slice_index r.key axis < v) records
 some_below axis v [] lt = absurd (omega (arith, lt))
 some_below axis v (r ∷ rest) lt =
     let F = filter (λ s. nat_lt (slice_index s.key axis) v) rest in

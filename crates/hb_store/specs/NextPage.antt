@@ -1,5 +1,5 @@
 -- The page number that an allocation takes, and why none is given.
-use Rattle.std.specs.Prelude.{◌≡◌, ◌≢◌, ◌⊎◌, ℕ, ◌+◌, ◌<◌, Some, IsSome}
+use Rattle.std.specs.Prelude.{◌≡◌, ◌≢◌, ◌⊎◌, ℕ, ◌+◌, ◌<◌, Some, None, IsSome}
 use Rattle.hb_disk.specs.Model.{DiskModel}
 use Rattle.hb_frag.specs.declared.pages.LivePage.{LivePage}
 use Rattle.hb_frag.specs.declared.pages.Page.TheVariants.{Live, Free}
@@ -31,6 +31,6 @@ IsDamage (Damaged page why) = Unit {0}
 IsDamage ReadFault = ⊥
 IsDamage NoMemory = ⊥
 
--- The head of the free chain is none that is free: it isn't fetched, or it is in use.
+-- The head of the free chain is none that is free: it isn't fetched, and so isn't in memory, or it is in use.
 abbrev pub IsNoHead : Meta → DiskModel → StoreState → ℕ → FetchStop → Type 0
-IsNoHead meta d new head stop = FetchesNot meta d head stop ⊎ ((page : LivePage) × (in_memory new head ≡ Some (Live page)) × (stop ≡ Damaged head (Rule 2)))
+IsNoHead meta d new head stop = (FetchesNot meta d head stop × (in_memory new head ≡ None)) ⊎ ((page : LivePage) × (in_memory new head ≡ Some (Live page)) × (stop ≡ Damaged head (Rule 2)))

@@ -174,7 +174,7 @@ module _ (lines : List Line) (answered : List Answered) (activity : ℕ → Acti
 
 -- ---- steps
 
-some_such : (o : Option Line) (number : ℕ) → IsSomeAnd o (λ line. line.number ≡ number) → (line : Line) × (o ≡ Some line) × (line.number ≡ number)
+pub some_such : (o : Option Line) (number : ℕ) → IsSomeAnd o (λ line. line.number ≡ number) → (line : Line) × (o ≡ Some line) × (line.number ≡ number)
 some_such None number never = absurd never
 some_such (Some line) number is = (line, refl, is)
 

@@ -31,7 +31,7 @@ pub record EndsHand (activity : Activity) (deed : Deed) : Type 0 where
   pub adds : deed.adds ≡ []
 
 -- who has a line in hand is a session
-line_is_sessions : (activity : Activity) (line : Line) → hand_of activity ≡ HasLine line → class_of activity ≡ Sessions
+pub line_is_sessions : (activity : Activity) (line : Line) → hand_of activity ≡ HasLine line → class_of activity ≡ Sessions
 line_is_sessions at.SessionIdle line is = refl
 line_is_sessions (at.SessionWalk own held rest found) line is = refl
 line_is_sessions (at.SessionSplit own held) line is = refl

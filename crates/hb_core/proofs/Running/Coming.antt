@@ -1,0 +1,274 @@
+-- The wanted page comes and is the one that was asked for, or the step halts.
+use Rattle.std.proofs.Common.{◌≡◌, ◌≢◌, ◌⊎◌, inl, inr, ℕ, true, false, List, Option, Some, None, Result, Ok, Err, IfOk, IfSome, IsSome, refl, sym, ap, ◌∙◌, subst, arith}
+use Rattle.std.specs.Option.{option_and_then, option_map, MatchOption}
+use Rattle.std.specs.Result.{OnOk}
+use Rattle.std.proofs.lemmas.Option.{same_Some}
+use Rattle.hb_disk.specs.Model.{DiskModel}
+use Rattle.hb_frag.specs.declared.leaves.Leaf.{Leaf}
+use Rattle.hb_frag.specs.declared.leaves.Leaf.TheVariants.{Records, Child, Sibling}
+use Rattle.hb_frag.specs.declared.pages.LivePage.{LivePage}
+use Rattle.hb_frag.specs.declared.pages.Page.{Page}
+use Rattle.hb_frag.specs.declared.pages.Page.TheVariants.{Live, Free}
+use Rattle.hb_frag.specs.Leaves.{Placed, leaf_at}
+use Rattle.hb_latch.specs.declared.modes.Mode.{Mode}
+use Rattle.hb_latch.specs.declared.modes.Mode.TheVariants.{Shared, Exclusive}
+use Rattle.hb_latch.specs.Tables.{MayLatch}
+use Rattle.hb_layout.specs.declared.meta.Meta.{Meta}
+use Rattle.hb_lemmas.proofs.Options.{at_value, has_value, if_value, not_none}
+use Rattle.hb_ops.proofs.Facts.PageNumberLaws.{live_so}
+use Rattle.hb_ops.specs.Files.{FileState}
+use Rattle.hb_ops.specs.Sound.{IsSound}
+use Rattle.hb_space.specs.Boxes.{Area}
+use Rattle.hb_activity.specs.declared.dropping.DropWhy.TheVariants as drops
+use Rattle.hb_activity.specs.declared.wanting.Wanted.{Wanted}
+use Rattle.hb_activity.specs.declared.activities.Activity.{Activity}
+use Rattle.hb_activity.specs.declared.activities.Activity.TheVariants as at
+use Rattle.hb_activity.specs.Walks.{goal_of, job_mode, session_mode}
+use Rattle.hb_activity.specs.Wanting.{child_of, in_mode, named_child, named_page, onward_at, walk_next, wanted_of, wanted_page}
+use Rattle.hb_store.specs.Calls.{Fetched}
+use Rattle.hb_store.specs.Fetching.{Breaks, FetchesNot, IsNoPage, LooksUp}
+use Rattle.hb_store.specs.Keeps.{StoreKeeps, last_of}
+use Rattle.hb_store.specs.States.{IsMemory, StoreState, in_memory}
+use Rattle.hb_store.specs.declared.stops.FetchStop.{FetchStop}
+use Rattle.hb_store.specs.declared.stops.FetchStop.TheVariants as fetches
+use Rattle.hb_store.specs.declared.stops.StopWhy.TheVariants as stops
+use Rattle.hb_store.specs.declared.stops.Why.{Why}
+use Rattle.hb_store.specs.declared.stops.Why.TheVariants.{Rule, Level, Extent}
+use Rattle.hb_core.specs.declared.halts.Halt.{Halt}
+use Rattle.hb_core.specs.declared.halts.Halt.TheVariants.{GivesUp, Stops}
+use Rattle.hb_core.proofs.Files.SoundFiles.{current_sound, files_hold}
+use Rattle.hb_core.proofs.Running.Brought.{brings_none, brings_wider, fetch_brings, fetch_keeps, shows_again, shows_store, with_store}
+use Rattle.hb_core.proofs.Running.Looks.{may_look, wants_same}
+use Rattle.hb_core.proofs.Running.StandsElsewhere.{shows_but, stands_as}
+use Rattle.hb_core.specs.Acting.{GivesUpFor, IsBadWanted, LacksNeeded, MayNeed}
+use Rattle.hb_core.specs.Asking.{AskedBox, IsNotAsked, asked_box, box_at, box_by_leaf, looked_live, wanted_by, whole_box}
+use Rattle.hb_core.specs.Fetching.{Brings, IsBadRead, IsDamaged, IsWantedPage}
+use Rattle.hb_core.specs.Keeps.{HasSoundFile}
+use Rattle.hb_core.specs.KeptMachine.{MachineKeeps}
+use Rattle.hb_core.specs.Looking.{FailsTest, IsOfOtherLevel, MayLook, PassesTest, wanted_in}
+use Rattle.hb_core.specs.Moving.{StandsAs}
+use Rattle.hb_core.specs.Machines.{Files, Machine, current_file, live_here, with_disk}
+use Rattle.hb_core.specs.Rows.{IsAtHand}
+use Rattle.hb_core.specs.Showing.{RunningCore, ShowsMachine}
+use Rattle.hb_core.specs.Stopping.{halt_of}
+use Rattle.hb_core.specs.Working.{HasCome, Halts, IsHalt, IsWorking, MayStep, MayWork, with_pages}
+
+-- what is known where a call went well is known of its value
+pub ok_then : {T E : Type 0} (r : Result T E) (P : Type 0) (Q : T → Type 0) → (P → (x : T) → Q x) → OnOk r P → IfOk r Q
+ok_then (Ok x) P Q so known = so known x
+ok_then (Err e) P Q so known = known
+
+pub none_where : {T : Type 0} (o : Option T) → (IsSome o → ⊥) → o ≡ None
+none_where None never = refl
+none_where (Some x) never = absurd (never refl)
+
+-- ---- the box that is asked for
+
+-- a box is asked for
+abbrev AsksFor : Option AskedBox → Type 0
+AsksFor o = (asked : AskedBox) × (o ≡ Some asked)
+
+leaf_asks : (mode : ℕ → Mode) (level : ℕ) (leaf : Leaf) (area : Area) (wanted : Wanted) → in_mode mode (named_page level leaf) ≡ Some wanted → AsksFor (box_by_leaf (record { leaf = leaf; area = area }))
+leaf_asks mode level (Records records) area wanted wants = cc
+leaf_asks mode level (Child page) area wanted wants = (record { area = area; exact = false }, refl)
+leaf_asks mode level (Sibling page) area wanted wants = (record { area = area; exact = true }, refl)
+
+placed_asks : (mode : ℕ → Mode) (level : ℕ) (o : Option Placed) (wanted : Wanted) → in_mode mode (option_and_then (λ (l : Placed). named_page level l.leaf) o) ≡ Some wanted → AsksFor (option_and_then box_by_leaf o)
+placed_asks mode level None wanted wants = cc
+placed_asks mode level (Some l) wanted wants = leaf_asks mode level l.leaf l.area wanted wants
+
+walk_asks : (mode : ℕ → Mode) (goal : Option (List ℕ)) (held : ℕ) (meta : Meta) (o : Option LivePage) (wanted : Wanted) → in_mode mode (walk_next goal (Some held) meta o) ≡ Some wanted → AsksFor (box_at o goal)
+walk_asks mode None held meta o wanted wants = cc
+walk_asks mode (Some p) held meta None wanted wants = cc
+walk_asks mode (Some p) held meta (Some page) wanted wants = placed_asks mode page.level (leaf_at page p) wanted wants
+
+child_leaf_asks : (level : ℕ) (leaf : Leaf) (area : Area) (wanted : Wanted) → in_mode (λ level. Shared) (named_child level leaf) ≡ Some wanted → AsksFor (box_by_leaf (record { leaf = leaf; area = area }))
+child_leaf_asks level (Records records) area wanted wants = cc
+child_leaf_asks level (Child page) area wanted wants = (record { area = area; exact = false }, refl)
+child_leaf_asks level (Sibling page) area wanted wants = cc
+
+child_placed_asks : (level : ℕ) (o : Option Placed) (wanted : Wanted) → in_mode (λ level. Shared) (option_and_then (λ (l : Placed). named_child level l.leaf) o) ≡ Some wanted → AsksFor (option_and_then box_by_leaf o)
+child_placed_asks level None wanted wants = cc
+child_placed_asks level (Some l) wanted wants = child_leaf_asks level l.leaf l.area wanted wants
+
+child_asks : (p : List ℕ) (o : Option LivePage) (wanted : Wanted) → in_mode (λ level. Shared) (option_and_then (λ (page : LivePage). child_of page p) o) ≡ Some wanted → AsksFor (box_at o (Some p))
+child_asks p None wanted wants = cc
+child_asks p (Some page) wanted wants = child_placed_asks page.level (leaf_at page p) wanted wants
+
+-- or none is, of the page that is to be promoted, which is there and of its level
+pub record IsPromoted (st : StoreState) (activity : Activity) (wanted : Wanted) : Type 0 where
+  pub none : asked_box activity st ≡ None
+  pub page : LivePage
+  pub live : live_here st wanted.page ≡ Some page
+  pub level : page.level ≡ wanted.level
+
+promotes : (st : StoreState) (activity : Activity) (parent : ℕ) (o : Option LivePage) (wanted : Wanted) → asked_box activity st ≡ None → live_here st parent ≡ o → option_map (λ (page : LivePage). wanted_page parent page.level Exclusive) o ≡ Some wanted → IsPromoted st activity wanted
+promotes st activity parent None wanted none is wants = cc
+promotes st activity parent (Some page) wanted none is wants =
+    let same : wanted_page parent page.level Exclusive ≡ wanted = same_Some (wanted_page parent page.level Exclusive) wanted wants in
+    record {
+      none = none;
+      page = page;
+      live = ap (live_here st) (sym (ap (λ (w : Wanted). w.page) same)) ∙ is;
+      level = ap (λ (w : Wanted). w.level) same;
+    }
+
+pub asks_or_promotes : (st : StoreState) (activity : Activity) (wanted : Wanted) → IsWorking activity → wanted_in st activity ≡ Some wanted → AsksFor (asked_box activity st) ⊎ IsPromoted st activity wanted
+asks_or_promotes st (at.SessionWalk line None rest found) wanted working wants = inl (whole_box st.meta.k, refl)
+asks_or_promotes st (at.SessionWalk line (Some held) rest found) wanted working wants = inl (walk_asks (session_mode line.command) (goal_of line.command rest) held st.meta (live_here st held) wanted wants)
+asks_or_promotes st (at.PosterGrow job) wanted working wants = inl (whole_box st.meta.k, refl)
+asks_or_promotes st (at.PosterWalk job None) wanted working wants = inl (whole_box st.meta.k, refl)
+asks_or_promotes st (at.PosterWalk job (Some held)) wanted working wants = inl (walk_asks (job_mode job) (Some job.point) held st.meta (live_here st held) wanted wants)
+asks_or_promotes st (at.PosterChild job parent) wanted working wants = inl (child_asks job.point (live_here st parent) wanted wants)
+asks_or_promotes st (at.PosterAgain job parent) wanted working wants = inl (child_asks job.point (live_here st parent) wanted wants)
+asks_or_promotes st (at.PosterPromote job parent) wanted working wants = inr (promotes st (at.PosterPromote job parent) parent (live_here st parent) wanted refl refl wants)
+asks_or_promotes st (at.SessionSplit line held) wanted working wants = cc
+asks_or_promotes st (at.SessionPut line source fresh) wanted working wants = cc
+asks_or_promotes st activity wanted working wants = absurd working
+
+-- ---- a disk that tells has no damaged page
+
+-- the file that is told is sound
+abbrev pub SoundWhereTold : Machine → Type 0
+SoundWhereTold m = IfSome m.files (λ files. IsSound (current_file files))
+
+pub sound_where_told : (m : Machine) → IfSome m.files (HasSoundFile m) → SoundWhereTold m
+sound_where_told m sound = if_value m.files (λ (files : Files). IsSound (current_file files)) (λ files told. current_sound m.store files (files_hold m files (at_value m.files (HasSoundFile m) files told sound)))
+
+-- a disk that tells has a file, which is sound, and which the store keeps; or nothing is told
+pub told_or_not : (d : DiskModel) (c : RunningCore) (m : Machine) (P : Type 0) → ShowsMachine d c m → SoundWhereTold m
+    → ((durable : FileState) (later : List FileState) → StoreKeeps d c.store durable later → IsSound (last_of durable later) → P) → (m.files ≡ None) ⊎ P
+told_or_not d c m P shows sound so = by d.told refl
+  where
+    by : (o : Option (List ℕ)) → d.told ≡ o → (m.files ≡ None) ⊎ P
+    by None none = inl (shows.silent none)
+    by (Some bytes) told =
+        let s = shows.tells (has_value d.told bytes told) in
+        let kept = subst (λ (x : StoreState). StoreKeeps d x s.files.durable s.files.later) shows.store s.kept in
+        inr (so s.files.durable s.files.later kept (at_value m.files (λ (files : Files). IsSound (current_file files)) s.files s.told sound))
+
+module _ (m : Machine) (d : DiskModel) (c : RunningCore) (actor : ℕ) (latches : MayLatch actor) (step : MayStep d c m) (work : MayWork m actor) where
+  abbrev here : StoreState
+  here = c.store
+
+  abbrev activity : Activity
+  activity = m.activity actor
+
+  -- no page is wanted
+  pub none_wanted : wanted_by m actor ≡ None → HasCome m actor d c
+  none_wanted none = record {
+    may = work;
+    brings = brings_none m (IsWantedPage (wanted_by m actor)) c.store step.shows.store;
+    head = λ there. ap (λ (st : StoreState). in_memory st m.store.meta.free) (sym step.shows.store);
+    shows = shows_again d c m step.shows;
+    at_hand = subst (λ (o : Option Wanted). IfSome o (λ wanted. (page : LivePage) × IsAtHand (with_pages c m) (m.activity actor) wanted page)) (sym none) tt;
+  }
+
+  module _ (wanted : Wanted) (wants : wanted_by m actor ≡ Some wanted) where
+    needs_it : (st : StoreState) (id : ℕ) → id ≡ wanted.page → MayNeed m actor st id
+    needs_it st id same = inl (subst (λ (o : Option Wanted). IsWantedPage o id) (sym wants) same)
+
+    -- ---- the page isn't fetched
+
+    module _ (absent : in_memory m.store wanted.page ≡ None) where
+      asks_now : AsksFor (asked_box activity m.store)
+      asks_now = elim (asks_or_promotes m.store activity wanted work.working wants) [
+        | inl asked ↦ asked
+        | inr held ↦ absurd (not_none (in_memory m.store wanted.page) (Live held.page) (live_so (in_memory m.store wanted.page) held.page held.live) absent)
+      ]
+
+      bad_page : (page : ℕ) (why : Why) → page ≡ wanted.page → ((asked : AskedBox) → IsDamaged m.files m.store wanted asked why) → IsHalt m actor m.store (Stops (stops.Damaged page why))
+      bad_page page why same damaged =
+          let asked = asks_now in
+          inl (subst (λ (o : Option Wanted). IsBadWanted m.files m.store o (asked_box activity m.store) page why) (sym wants)
+          (subst (λ (o : Option AskedBox). IsBadWanted m.files m.store (Some wanted) o page why) (sym asked.1) (same, damaged asked.0)))
+
+      breaks : (rule : ℕ) → (m.files ≡ None ⊎ IsNoPage m.store.meta wanted.page) → Breaks m.store.meta d wanted.page rule → (asked : AskedBox) → IsDamaged m.files m.store wanted asked (Rule rule)
+      breaks rule silent (inl (first, lacks)) asked = inl (lacks, ap Rule first)
+      breaks rule (inl silent) (inr (other, some, told)) asked = inr (inl (some, (silent, absent, other)))
+      breaks rule (inr lacks) (inr (other, some, told)) asked = absurd (some lacks)
+
+      lacks : ¬ (IsNoPage m.store.meta wanted.page) → LacksNeeded m actor m.store
+      lacks some = (wanted.page, needs_it m.store wanted.page refl, some, absent)
+
+      abbrev IsRefusedWell : FetchStop → Type 0
+      IsRefusedWell stop = (stop ≢ fetches.ReadFault) → (stop ≢ fetches.NoMemory) → m.files ≡ None ⊎ IsNoPage m.store.meta wanted.page
+
+      refused_by : (stop : FetchStop) → FetchesNot m.store.meta d wanted.page stop → IsRefusedWell stop → IsHalt m actor m.store (halt_of stop)
+      refused_by (fetches.Damaged page (Rule rule)) (same, breaks_it) sound = bad_page page (Rule rule) same (breaks rule (sound (λ is. cc) (λ is. cc)) breaks_it)
+      refused_by (fetches.Damaged page (Level asked found)) why sound = absurd why
+      refused_by (fetches.Damaged page (Extent asked found)) why sound = absurd why
+      refused_by fetches.ReadFault some sound = lacks some
+      refused_by fetches.NoMemory some sound = inl (lacks some)
+
+    -- a file that is told is sound, so that the stop is of a number that no page has
+    abbrev IsSoundly : FetchStop → Type 0
+    IsSoundly stop = (durable : FileState) (later : List FileState) → StoreKeeps d c.store durable later → IsSound (last_of durable later)
+        → (stop ≢ fetches.ReadFault) → (stop ≢ fetches.NoMemory) → IsNoPage c.store.meta wanted.page
+
+    sound_or_untold : (stop : FetchStop) → IsSoundly stop → (stop ≢ fetches.ReadFault) → (stop ≢ fetches.NoMemory) → (m.files ≡ None) ⊎ IsNoPage m.store.meta wanted.page
+    sound_or_untold stop sound fault memory = told_or_not d c m (IsNoPage m.store.meta wanted.page) step.shows (sound_where_told m work.goes_on.sound)
+        (λ durable later kept is. subst (λ (x : StoreState). IsNoPage x.meta wanted.page) (sym step.shows.store) (sound durable later kept is fault memory))
+
+    pub refused : (e : DiskModel) (failed : Type 0) (st : StoreState) (stop : FetchStop) → LooksUp failed d e c.store st → st ≡ c.store → in_memory c.store wanted.page ≡ None → FetchesNot c.store.meta d wanted.page stop
+        → IsSoundly stop → Halts m actor (halt_of stop) e (with_store st c)
+    refused e failed st stop looks kept absent why sound =
+        let same : m.store ≡ st = step.shows.store ∙ sym kept in
+        let none : in_memory m.store wanted.page ≡ None = ap (λ (x : StoreState). in_memory x wanted.page) step.shows.store ∙ absent in
+        let not_there : FetchesNot m.store.meta d wanted.page stop = subst (λ (x : StoreState). FetchesNot x.meta d wanted.page stop) (sym step.shows.store) why in
+        record {
+          brings = brings_none m (MayNeed m actor st) st same;
+          shows = shows_but e (with_store st c) (with_disk st m.files m.clock m) actor latches (shows_store m d e c failed st step.shows looks);
+          cause = subst (λ (x : StoreState). IsHalt m actor x (halt_of stop)) same (refused_by none stop not_there (sound_or_untold stop sound));
+        }
+
+    -- ---- it is fetched, and tested
+
+    module _ (e : DiskModel) (failed : Type 0) (st : StoreState) (looks : LooksUp failed d e c.store st) (memory : IsMemory st) (fetched : Fetched wanted.page c.store st) where
+      brings_it : Brings m (λ id. id ≡ wanted.page) st
+      brings_it = fetch_brings m d e c failed st step.shows looks wanted.page memory fetched
+
+      -- so that the core may look for the box
+      pub looks_as : (stands : Activity) → StandsAs c actor stands → MayLook st stands
+      looks_as stands is = subst (MayLook st) (stands_as d c m actor stands latches step.shows is) (may_look m actor latches work.goes_on.kept (λ id. id ≡ wanted.page) st brings_it)
+
+      wants_then : wanted_in st activity ≡ Some wanted
+      wants_then = wants_same m actor latches work.goes_on.kept (λ id. id ≡ wanted.page) st brings_it ∙ wants
+
+      pub passed : PassesTest st activity wanted → HasCome m actor e (with_store st c)
+      passed passes = record {
+        may = work;
+        brings = brings_wider m (λ id. id ≡ wanted.page) (IsWantedPage (wanted_by m actor)) st (λ id same. subst (λ (o : Option Wanted). IsWantedPage o id) (sym wants) same) brings_it;
+        head = fetch_keeps m d e c failed st step.shows looks wanted.page memory fetched m.store.meta.free;
+        shows = shows_store m d e c failed st step.shows looks;
+        at_hand = subst (λ (o : Option Wanted). IfSome o (λ wanted. (page : LivePage) × IsAtHand (with_disk st m.files m.clock m) (m.activity actor) wanted page)) (sym wants)
+            (passes.page, record { live = passes.live; level = passes.level; box = passes.box });
+      }
+
+      has_number : (page : Page) → in_memory st wanted.page ≡ Some page → ¬ (IsNoPage st.meta wanted.page)
+      has_number page there lacks =
+          let good = memory.good wanted.page page there in
+          elim lacks [
+            | inl zero ↦ absurd (omega (arith, good.0, zero))
+            | inr above ↦ absurd (omega (arith, good.1, above))
+          ]
+
+      of_other_level : (page : Page) (live : LivePage) → page ≡ Live live → live.level ≡ wanted.level → IsOfOtherLevel wanted page → ⊥
+      of_other_level page live same level other = (subst (IsOfOtherLevel wanted) same other) level
+
+      abbrev Mismatches : Page → Why → Option AskedBox → Type 0
+      Mismatches page why o = MatchOption o (IsOfOtherLevel wanted page) (λ asked. IsNotAsked wanted asked page why)
+
+      is_bad : (why : Why) (page : Page) → in_memory st wanted.page ≡ Some page → Mismatches page why (asked_box activity st) → IsBadWanted m.files st (Some wanted) (asked_box activity st) wanted.page why
+      is_bad why page there other = elim (asks_or_promotes st activity wanted work.working wants_then) [
+        | inl asked ↦ subst (λ (o : Option AskedBox). IsBadWanted m.files st (Some wanted) o wanted.page why) (sym asked.1)
+            (refl, inr (inr (has_number page there, page, there, subst (Mismatches page why) asked.1 other)))
+        | inr held ↦ absurd (of_other_level page held.page (same_Some page (Live held.page) (sym there ∙ live_so (in_memory st wanted.page) held.page held.live)) held.level (subst (Mismatches page why) held.none other))
+      ]
+
+      pub failed_test : (why : Why) → FailsTest st activity wanted why → Halts m actor (Stops (stops.Damaged wanted.page why)) e (with_store st c)
+      failed_test why (page, there, other) = record {
+        brings = brings_wider m (λ id. id ≡ wanted.page) (MayNeed m actor st) st (needs_it st) brings_it;
+        shows = shows_but e (with_store st c) (with_disk st m.files m.clock m) actor latches (shows_store m d e c failed st step.shows looks);
+        cause = inl (subst (λ (o : Option Wanted). IsBadWanted m.files st o (asked_box activity st) wanted.page why) (sym wants) (is_bad why page there other));
+      }

@@ -1,0 +1,110 @@
+-- What a deed makes of a core is a step's deed of the machine that it shows, and the core then shows what this leads to.
+use Rattle.std.proofs.Common.{◌≡◌, ◌≢◌, ◌⊎◌, inl, inr, ℕ, ◌-◌, ◌==◌, ◌≤◌, cond, List, [], ◌∷◌, ◌++◌, length, map, slice_get, slice_set, Option, Some, None, IsSome, refl, sym, ap, ◌∙◌, subst}
+use Rattle.std.specs.Option.{option_map}
+use Rattle.std.proofs.lemmas.List.{length-map, map-append}
+use Rattle.hb_activity.specs.declared.activities.Activity.{Activity}
+use Rattle.hb_activity.specs.declared.activities.Activity.TheVariants as at
+use Rattle.hb_activity.specs.declared.jobs.Job.{Job}
+use Rattle.hb_activity.specs.Deeds.{Deed}
+use Rattle.hb_disk.specs.Model.{DiskModel}
+use Rattle.hb_latch.specs.Tables.{LatchTable, MayLatch}
+use Rattle.hb_lemmas.proofs.Booleans.{at_other}
+use Rattle.hb_ops.specs.declared.operations.Op.{Op}
+use Rattle.hb_set.specs.Order.{Entry}
+use Rattle.hb_store.specs.Keeps.{StoreKeeps}
+use Rattle.hb_store.specs.States.{StoreState}
+use Rattle.hb_core.specs.declared.outcomes.Outcome.{Outcome}
+use Rattle.hb_core.specs.KeptTurns.{LinesInTurn}
+use Rattle.hb_core.specs.Machines.{Files, Machine, if_some, with_activity}
+use Rattle.hb_core.specs.Moving.{DoesDeed, KeepsFilesBy, later_with, numbers_joined, with_standing}
+use Rattle.hb_core.specs.Performing.{ChangesQueue, MayDo, Performs, Relatches, files_after, given_by, latches_held, outcome_of, with_effect}
+use Rattle.hb_core.specs.Showing.{RunningCore, ShowsFiles, ShowsMachine}
+use Rattle.hb_core.specs.Working.{ShowsBut, with_pages}
+use Rattle.hb_core.proofs.Running.NumbersInHand.{NumberFate, line_of_number}
+use Rattle.hb_core.proofs.Running.StandsElsewhere.{stand_then, still_all}
+use Rattle.hb_core.proofs.Running.TurnsAfter.{has_turn, turn_after, turn_at}
+
+-- the machine after a deed, with what the core holds then
+abbrev pub after_deed : RunningCore → Machine → ℕ → Deed → Machine
+after_deed c m actor deed = record {
+  lines = m.lines;
+  answered = m.answered ++ given_by (outcome_of deed.says) m.clock;
+  activity = with_activity actor deed.next m.activity;
+  latches = c.latches;
+  jobs = c.jobs;
+  order = m.order ++ if_some deed.joins;
+  stop = m.stop;
+  store = c.store;
+  files = files_after deed.op m.files;
+  clock = m.clock;
+}
+
+joined_numbers : (joins : Option Entry) → map (λ (e : Entry). e.line.number) (if_some joins) ≡ numbers_joined joins
+joined_numbers None = refl
+joined_numbers (Some entry) = refl
+
+-- the files after the operation, which the store keeps then
+files_told : (op : Option Op) (files : Files) → files_after op (Some files) ≡ Some (record { durable = files.durable; later = later_with op files.durable files.later })
+files_told None files = refl
+files_told (Some op) files = refl
+
+files_untold : (op : Option Op) → files_after op None ≡ None
+files_untold None = refl
+files_untold (Some op) = refl
+
+module _ (d : DiskModel) (c after : RunningCore) (m : Machine) (actor : ℕ) (deed : Deed) (outcome : Outcome) (may : MayLatch actor) (shows : ShowsBut d c actor (with_pages c m)) (does : DoesDeed actor deed outcome c after) where
+  abbrev new : Machine
+  new = after_deed after m actor deed
+
+  performed : Performs m c.store actor deed outcome new
+  performed = record {
+    says = does.says;
+    lines = refl;
+    answered = refl;
+    activity = λ other. refl;
+    latches = subst (λ (t : LatchTable). Relatches actor (latches_held after.store deed.next) t after.latches) (sym shows.latches) does.latches;
+    jobs = subst (λ (l : List Job). ChangesQueue deed l after.jobs) (sym shows.jobs) does.jobs;
+    order = refl;
+    stop = refl;
+    store = subst (λ (n : ℕ). MayDo deed.op n c.store after.store) (sym (ap (λ (l : List ℕ). length l) shows.order) ∙ length-map m.order (λ (e : Entry). e.line.number)) does.store;
+    files = refl;
+    clock = refl;
+  }
+
+  of_core : {X : Type 0} (f : RunningCore → X) → f after ≡ f (record (with_standing actor deed.next c) { latches = after.latches; jobs = after.jobs; order = after.order; store = after.store })
+  of_core f = ap f does.rest
+
+  files_shown : KeepsFilesBy deed.op d c.store d after.store → IsSome d.told → ShowsFiles d new
+  files_shown keeps told =
+      let had = shows.tells told in
+      record {
+        files = record { durable = had.files.durable; later = later_with deed.op had.files.durable had.files.later };
+        told = ap (files_after deed.op) had.told ∙ files_told deed.op had.files;
+        kept = keeps had.files.durable had.files.later had.kept;
+        clock = had.clock;
+      }
+
+  nobody_new : (other : ℕ) → ¬ (MayLatch other) → with_activity actor deed.next m.activity other ≡ at.SessionIdle
+  nobody_new other none = at_other other actor deed.next (m.activity other) (λ same. none (subst MayLatch (sym same) may)) ∙ shows.nobody_else other none
+
+  pub deed_shows : LinesInTurn m → NumberFate (m.activity actor) deed → KeepsFilesBy deed.op d c.store d after.store → (new : Machine) × Performs m c.store actor deed outcome new × ShowsMachine d after new
+  deed_shows turn fate keeps = (new, performed, record {
+    lines = shows.lines ∙ sym (of_core (λ s. s.lines));
+    sessions = ap (λ (l : List ℕ). length l) (of_core (λ s. s.behind)) ∙ shows.sessions;
+    turns = λ session behind low high is.
+        has_turn new session behind
+        (turn_after m.lines m.answered m.activity actor deed m.clock turn.rising (line_of_number m actor turn) fate session behind
+        (turn_at (with_pages c m) session behind (shows.turns session behind low high (ap (λ (l : List ℕ). slice_get l (session - 1)) (sym (of_core (λ s. s.behind))) ∙ is))));
+    all_actors = ap (λ (l : List Activity). length l) (of_core (λ s. s.activities)) ∙ still_all c.activities m.activity actor (m.activity actor) deed.next may shows.all_actors;
+    activities = λ other its. ap (λ (l : List Activity). slice_get l (other - 1)) (of_core (λ s. s.activities)) ∙ stand_then c.activities m.activity actor (m.activity actor) deed.next may shows.all_actors shows.activities other its;
+    nobody_else = nobody_new;
+    latches = refl;
+    jobs = refl;
+    order = map-append (λ (e : Entry). e.line.number) m.order (if_some deed.joins)
+        ∙ ap (λ (l : List ℕ). l ++ map (λ (e : Entry). e.line.number) (if_some deed.joins)) shows.order
+        ∙ ap (λ (l : List ℕ). c.order ++ l) (joined_numbers deed.joins) ∙ sym does.order;
+    stop = shows.stop ∙ sym (of_core (λ s. s.stop));
+    store = refl;
+    tells = files_shown keeps;
+    silent = λ none. ap (files_after deed.op) (shows.silent none) ∙ files_untold deed.op;
+  })

@@ -1,0 +1,160 @@
+-- What the calls of a core make of it, put together: a deed.
+use Rattle.std.proofs.Common.{◌≡◌, ℕ, List, [], ◌∷◌, ◌++◌, length, Option, Some, None, refl, sym, ap, subst, ◌∙◌, append-nil}
+use Rattle.hb_latch.specs.Tables.{LatchTable}
+use Rattle.hb_set.specs.declared.commands.Reply.TheVariants as replies
+use Rattle.hb_set.specs.declared.scripts.Line.{Line}
+use Rattle.hb_activity.specs.declared.activities.Activity.{Activity}
+use Rattle.hb_activity.specs.declared.activities.Activity.TheVariants as at
+use Rattle.hb_activity.specs.declared.deciding.Fate.{Fate}
+use Rattle.hb_activity.specs.declared.deciding.Fate.TheVariants as fates
+use Rattle.hb_activity.specs.declared.deciding.Next.{Next}
+use Rattle.hb_activity.specs.declared.jobs.Job.{Job}
+use Rattle.hb_activity.specs.Classes.{Class, Sessions, Hand, Empty, HasLine, HasJob, class_of, hand_of, idle_of}
+use Rattle.hb_activity.specs.Deciding.{deed_of, joined_by, said_by}
+use Rattle.hb_activity.specs.Deeds.{Deed, answers_now, moves_to, takes_job}
+use Rattle.hb_activity.specs.Queue.{AddsJobs, LeavesBy, LeavesFirst}
+use Rattle.hb_store.specs.States.{StoreState}
+use Rattle.hb_core.specs.declared.outcomes.Outcome.{Outcome}
+use Rattle.hb_core.specs.declared.outcomes.Outcome.TheVariants as outcomes
+use Rattle.hb_core.specs.GivingUp.{runs_out}
+use Rattle.hb_core.specs.Moving.{DoesDeed, Stands, joins_order, number_of, numbers_joined, placed, placed_at, pushed, said, with_jobs, with_latches, with_order, with_standing}
+use Rattle.hb_core.specs.Performing.{MayDo, Relatches, latches_held, outcome_of}
+use Rattle.hb_core.specs.Showing.{RunningCore, number_in_hand}
+use Rattle.hb_core.specs.Working.{IsWorking}
+use Rattle.hb_core.specs.KeptFits.{class_for}
+use Rattle.hb_core.proofs.Table.DeedKinds.{line_is_sessions}
+use Rattle.hb_core.proofs.Table.GivenUp.{run_out_is}
+use Rattle.std.proofs.lemmas.Option.{same_Some}
+
+-- a deed, by what became of the store, the jobs and the latches
+pub does_deed : (actor : ℕ) (deed : Deed) (outcome : Outcome) (old new : RunningCore) (store : StoreState) (left jobs : List Job) (latches : LatchTable)
+    → outcome ≡ outcome_of deed.says → LeavesBy deed.takes old.jobs left → AddsJobs deed.adds left jobs → MayDo deed.op (length old.order) old.store store
+    → Relatches actor (latches_held store deed.next) old.latches latches
+    → new ≡ record (with_standing actor deed.next old) { latches = latches; jobs = jobs; order = old.order ++ numbers_joined deed.joins; store = store }
+    → DoesDeed actor deed outcome old new
+does_deed actor deed outcome old new store left jobs latches says takes adds done relatched is =
+    subst (λ (c : RunningCore). DoesDeed actor deed outcome old c) (sym is) (record {
+      says = says;
+      latches = relatched;
+      jobs = record { left = left; takes = takes; adds = adds };
+      order = refl;
+      store = done;
+      rest = refl;
+    })
+
+-- the number of the line that joins the order, and what is said
+joined_so : (hand : Hand) (then : Activity) (fate : Fate) → pushed (joins_order (number_of hand) then fate) ≡ numbers_joined (joined_by hand then fate)
+joined_so Empty (at.SessionAwait number reply place) fates.GoesOn = refl
+joined_so Empty (at.SessionAwait number reply place) fates.TakesEffect = refl
+joined_so Empty (at.SessionAwait number reply place) (fates.Answers given) = refl
+joined_so Empty other fates.GoesOn = refl
+joined_so Empty other fates.TakesEffect = refl
+joined_so Empty other (fates.Answers given) = refl
+joined_so (HasLine line) (at.SessionAwait number reply place) fates.GoesOn = refl
+joined_so (HasLine line) (at.SessionAwait number reply place) fates.TakesEffect = refl
+joined_so (HasLine line) (at.SessionAwait number reply place) (fates.Answers given) = refl
+joined_so (HasLine line) other fates.GoesOn = refl
+joined_so (HasLine line) other fates.TakesEffect = refl
+joined_so (HasLine line) other (fates.Answers given) = refl
+joined_so (HasJob job) (at.SessionAwait number reply place) fates.GoesOn = refl
+joined_so (HasJob job) (at.SessionAwait number reply place) fates.TakesEffect = refl
+joined_so (HasJob job) (at.SessionAwait number reply place) (fates.Answers given) = refl
+joined_so (HasJob job) other fates.GoesOn = refl
+joined_so (HasJob job) other fates.TakesEffect = refl
+joined_so (HasJob job) other (fates.Answers given) = refl
+
+said_so : (hand : Hand) (fate : Fate) → said (number_of hand) fate ≡ outcome_of (said_by hand fate)
+said_so Empty fates.GoesOn = refl
+said_so Empty fates.TakesEffect = refl
+said_so Empty (fates.Answers given) = refl
+said_so (HasLine line) fates.GoesOn = refl
+said_so (HasLine line) fates.TakesEffect = refl
+said_so (HasLine line) (fates.Answers given) = refl
+said_so (HasJob job) fates.GoesOn = refl
+said_so (HasJob job) fates.TakesEffect = refl
+said_so (HasJob job) (fates.Answers given) = refl
+
+-- what a decider said is performed: the operation, the jobs, the latches and the order, one after the other
+pub performed : (actor place : ℕ) (line joins : Option ℕ) (next : Next) (stands_as : Activity) (outcome : Outcome) (old done queued stood new : RunningCore) (state : Activity)
+    → line ≡ number_of (hand_of state) → place ≡ length old.order → stands_as ≡ placed_at place next.then → joins ≡ joins_order line next.then next.fate → outcome ≡ said line next.fate
+    → MayDo next.op place old.store done.store → done ≡ record old { store = done.store } → AddsJobs next.jobs.items done.jobs queued.jobs → queued ≡ with_jobs queued.jobs done
+    → Stands actor stands_as queued stood → new ≡ with_order (stood.order ++ pushed joins) stood
+    → DoesDeed actor (placed (length old.order) (deed_of state next)) outcome old new
+performed actor place line joins next stands_as outcome old done queued stood new state hand at_end is_next is_joined is_said does kept adds queued_so stands joined =
+    let deed : Deed = placed (length old.order) (deed_of state next) in
+    let after : stands_as ≡ deed.next = is_next ∙ ap (λ (n : ℕ). placed_at n next.then) at_end in
+    let jobs_so : queued ≡ record old { store = done.store; jobs = queued.jobs } = queued_so ∙ ap (with_jobs queued.jobs) kept in
+    let stood_so : stood ≡ record (with_standing actor stands_as old) { store = done.store; jobs = queued.jobs; latches = stood.latches } =
+        stands.rest ∙ ap (λ (c : RunningCore). record (with_standing actor stands_as c) { latches = stood.latches }) jobs_so in
+    let all : new ≡ record (with_standing actor stands_as old) { store = done.store; jobs = queued.jobs; latches = stood.latches; order = old.order ++ pushed joins } =
+        joined ∙ ap (λ (c : RunningCore). with_order (c.order ++ pushed joins) c) stood_so in
+    let numbers : pushed joins ≡ numbers_joined deed.joins = ap pushed (is_joined ∙ ap (λ (l : Option ℕ). joins_order l next.then next.fate) hand) ∙ joined_so (hand_of state) next.then next.fate in
+    does_deed actor deed outcome old new done.store old.jobs queued.jobs stood.latches
+      (is_said ∙ ap (λ (l : Option ℕ). said l next.fate) hand ∙ said_so (hand_of state) next.fate)
+      refl
+      (subst (λ (c : RunningCore). AddsJobs next.jobs.items c.jobs queued.jobs) kept adds)
+      (subst (λ (n : ℕ). MayDo next.op n old.store done.store) at_end does)
+      (subst (λ (a : Activity). Relatches actor (latches_held done.store a) old.latches stood.latches) after
+        (subst (λ (c : RunningCore). Relatches actor (latches_held c.store stands_as) c.latches stood.latches) jobs_so stands.latches))
+      (all ∙ ap (λ (l : List ℕ). record (with_standing actor stands_as old) { store = done.store; jobs = queued.jobs; latches = stood.latches; order = old.order ++ l }) numbers
+        ∙ ap (λ (a : Activity). record (with_standing actor a old) { store = done.store; jobs = queued.jobs; latches = stood.latches; order = old.order ++ numbers_joined deed.joins }) after)
+
+-- an actor that stands elsewhere, and does nothing else
+pub just_stands : (actor : ℕ) (deed : Deed) (outcome : Outcome) (old new : RunningCore) → outcome ≡ outcome_of deed.says → LeavesBy deed.takes old.jobs old.jobs → AddsJobs deed.adds old.jobs old.jobs
+    → MayDo deed.op (length old.order) old.store old.store → [] ≡ numbers_joined deed.joins → Stands actor deed.next old new → DoesDeed actor deed outcome old new
+just_stands actor deed outcome old new says takes adds does joins stands =
+    let order : old.order ≡ old.order ++ numbers_joined deed.joins = sym (append-nil old.order) ∙ ap (λ (l : List ℕ). old.order ++ l) joins in
+    does_deed actor deed outcome old new old.store old.jobs old.jobs new.latches says takes adds does stands.latches
+      (stands.rest ∙ ap (λ (l : List ℕ). record (with_standing actor deed.next old) { latches = new.latches; order = l }) order)
+
+-- the oldest job is taken
+pub took_job : (actor : ℕ) (job : Job) (next : Activity) (old left new : RunningCore) → LeavesFirst job.kind old.jobs job left.jobs → left ≡ with_jobs left.jobs old → Stands actor next left new
+    → DoesDeed actor (takes_job next job) outcomes.Moved old new
+took_job actor job next old left new takes left_so stands =
+    let rest : new ≡ record (with_standing actor next old) { latches = new.latches; jobs = left.jobs } =
+        stands.rest ∙ ap (λ (c : RunningCore). record (with_standing actor next c) { latches = new.latches }) left_so in
+    does_deed actor (takes_job next job) outcomes.Moved old new old.store left.jobs left.jobs new.latches refl takes refl refl
+      (subst (λ (c : RunningCore). Relatches actor (latches_held c.store next) c.latches new.latches) left_so stands.latches)
+      (rest ∙ ap (λ (l : List ℕ). record (with_standing actor next old) { latches = new.latches; jobs = left.jobs; order = l }) (sym (append-nil old.order)))
+
+in_hand : (state : Activity) → IsWorking state → number_in_hand state ≡ number_of (hand_of state)
+in_hand (at.SessionWalk line held rest found) works = refl
+in_hand (at.SessionSplit line held) works = refl
+in_hand (at.SessionPut line source fresh) works = refl
+in_hand (at.PosterGrow job) works = refl
+in_hand (at.PosterWalk job held) works = refl
+in_hand (at.PosterChild job parent) works = refl
+in_hand (at.PosterPromote job parent) works = refl
+in_hand (at.PosterAgain job parent) works = refl
+in_hand other works = absurd works
+
+-- the log has no room for a line, or for a job
+pub line_ran_out : (actor : ℕ) (state idle : Activity) (number : ℕ) (old new : RunningCore) → IsWorking state → class_of state ≡ class_for actor → Some number ≡ number_in_hand state → idle ≡ idle_of (class_for actor)
+    → Stands actor idle old new → DoesDeed actor (runs_out state) (outcomes.Answered number replies.Full) old new
+line_ran_out actor state idle number old new works class is idle_is stands =
+    run_out_is (λ (deed : Deed). DoesDeed actor deed (outcomes.Answered number replies.Full) old new) state
+      (λ line hand.
+        let same : number ≡ line.number = same_Some number line.number (is ∙ in_hand state works ∙ ap number_of hand) in
+        let stood : idle ≡ at.SessionIdle = idle_is ∙ ap idle_of (sym class ∙ line_is_sessions state line hand) in
+        just_stands actor (answers_now line.number replies.Full) (outcomes.Answered number replies.Full) old new (ap (λ (n : ℕ). outcomes.Answered n replies.Full) same) refl refl refl refl
+          (subst (λ (a : Activity). Stands actor a old new) stood stands))
+      (λ job hand. absurd (none_there number (is ∙ in_hand state works ∙ ap number_of hand)))
+      (λ hand. absurd (none_there number (is ∙ in_hand state works ∙ ap number_of hand)))
+  where
+    none_there : (n : ℕ) → Some n ≡ None → ⊥
+    none_there n e = cc
+
+pub job_ran_out : (actor : ℕ) (state idle : Activity) (old new : RunningCore) → IsWorking state → class_of state ≡ class_for actor → None ≡ number_in_hand state → idle ≡ idle_of (class_for actor)
+    → Stands actor idle old new → DoesDeed actor (runs_out state) outcomes.Moved old new
+job_ran_out actor state idle old new works class is idle_is stands =
+    run_out_is (λ (deed : Deed). DoesDeed actor deed outcomes.Moved old new) state
+      (λ line hand. absurd (none_there line.number (is ∙ in_hand state works ∙ ap number_of hand)))
+      (λ job hand. stood)
+      (λ hand. stood)
+  where
+    none_there : (n : ℕ) → None ≡ Some n → ⊥
+    none_there n e = cc
+
+    stood : DoesDeed actor (moves_to (idle_of (class_of state)) []) outcomes.Moved old new
+    stood = just_stands actor (moves_to (idle_of (class_of state)) []) outcomes.Moved old new refl refl refl refl refl
+        (subst (λ (a : Activity). Stands actor a old new) (idle_is ∙ ap idle_of (sym class)) stands)

@@ -1,0 +1,214 @@
+-- An idle session of a core takes a line, or the poster takes a job, as a step of the machine that it shows.
+use Rattle.std.proofs.Common.{◌≡◌, ◌≢◌, ◌⊎◌, inl, inr, ℕ, ◌≤◌, ◌+◌, ◌-◌, ◌==◌, Bool, cond, List, [], ◌∷◌, ◌++◌, length, take, drop, slice_get, slice_set, All, Option, Some, None, refl, sym, ap, ◌∙◌, subst, arith, append-nil}
+use Rattle.std.specs.Prelude.{MatchOption}
+use Rattle.std.proofs.lemmas.Bool.{cases_Bool, eq-eqb, eqb-false, eqb-true}
+use Rattle.std.proofs.lemmas.List.{length-set}
+use Rattle.std.proofs.lemmas.List.Elements.{All-contains}
+use Rattle.std.proofs.lemmas.Option.{same_Some, slice_get_within}
+use Rattle.hb_activity.specs.declared.activities.Activity.{Activity}
+use Rattle.hb_activity.specs.declared.activities.Activity.TheVariants as at
+use Rattle.hb_activity.specs.declared.jobs.Job.{Job}
+use Rattle.hb_activity.specs.declared.jobs.JobKind.TheVariants.{Post}
+use Rattle.hb_activity.specs.Classes.{Sessions, class_of}
+use Rattle.hb_activity.specs.Deeds.{Deed, answers_now, takes_job}
+use Rattle.hb_disk.specs.Model.{DiskModel}
+use Rattle.hb_latch.specs.Tables.{LatchTable, MayLatch}
+use Rattle.hb_lemmas.proofs.Booleans.{at_other}
+use Rattle.hb_ops.specs.declared.operations.Op.{Op}
+use Rattle.hb_point.specs.SessionRows.{WantsBoxes, boxes_ahead, next_line, taking}
+use Rattle.hb_poster.specs.PosterRows.{IsPostingOf}
+use Rattle.hb_set.specs.declared.commands.Command.{Command}
+use Rattle.hb_set.specs.declared.commands.Command.TheVariants.{Insert, Delete, Lookup, Search}
+use Rattle.hb_set.specs.declared.commands.Reply.TheVariants as replies
+use Rattle.hb_set.specs.declared.scripts.Line.{Line}
+use Rattle.hb_space.specs.Boxes.{Area}
+use Rattle.hb_store.specs.Keeps.{StoreKeeps}
+use Rattle.hb_store.specs.States.{StoreState}
+use Rattle.hb_core.specs.declared.outcomes.Outcome.{Outcome}
+use Rattle.hb_core.specs.declared.outcomes.Outcome.TheVariants as outcomes
+use Rattle.hb_core.specs.Forcing.{StaysSo}
+use Rattle.hb_core.specs.KeptFits.{class_for}
+use Rattle.hb_core.specs.Machines.{Machine, with_activity, with_disk}
+use Rattle.hb_core.specs.Moving.{DoesDeed, KeepsFilesBy, with_standing}
+use Rattle.hb_core.specs.Performing.{MayDo, Performs, Relatches}
+use Rattle.hb_core.specs.Showing.{HasTurn, RunningCore, ShowsMachine, number_in_hand}
+use Rattle.hb_core.specs.Steps.{StepsAs, TakesPosting}
+use Rattle.hb_core.specs.Taking.{TakesLine, TakesNextLine, TakesNextPosting}
+use Rattle.hb_core.specs.Working.{MayStep, with_pages}
+use Rattle.hb_core.proofs.Orders.NextLines.{next_is}
+use Rattle.hb_core.proofs.Running.DeedShows.{deed_shows}
+use Rattle.hb_core.proofs.Running.LinesAhead.{next_ahead, none_ahead, turn_with}
+use Rattle.hb_core.proofs.Running.NumbersInHand.{NumberFate, job_number}
+use Rattle.hb_core.proofs.Running.StandsElsewhere.{apart, at_set, beside_set, shows_but, stand_then}
+use Rattle.hb_core.proofs.Running.TurnsAfter.{TurnAt, has_turn, turn_at}
+
+-- ---- sessions
+
+-- an actor of the sessions' kind is one of the 16
+no_worker : (actor : ℕ) → class_for actor ≡ Sessions → (actor ≢ 17) × (actor ≢ 18) × (actor ≢ 19)
+no_worker actor is = (
+  λ same. let never : class_for 17 ≡ Sessions = subst (λ (n : ℕ). class_for n ≡ Sessions) same is in cc,
+  λ same. let never : class_for 18 ≡ Sessions = subst (λ (n : ℕ). class_for n ≡ Sessions) same is in cc,
+  λ same. let never : class_for 19 ≡ Sessions = subst (λ (n : ℕ). class_for n ≡ Sessions) same is in cc,
+)
+
+below_workers : (actor : ℕ) → actor ≤ 19 → actor ≢ 17 → actor ≢ 18 → actor ≢ 19 → actor ≤ 16
+below_workers actor le a b c = omega (arith, le, a, b, c)
+
+pub is_session : (actor : ℕ) → MayLatch actor → class_for actor ≡ Sessions → actor ≤ 16
+is_session actor may is = let none = no_worker actor is in below_workers actor may.to_19 none.0 none.1 none.2
+
+-- a command that is no search has no boxes before it
+no_boxes : (command : Command) → (WantsBoxes command → ⊥) → boxes_ahead command ≡ []
+no_boxes (Insert rec) none = refl
+no_boxes (Delete point) none = refl
+no_boxes (Lookup point) none = refl
+no_boxes (Search area) none = absurd (none tt)
+
+-- the machine once the line is taken
+abbrev taken : RunningCore → Machine → ℕ → Line → Machine
+taken c m actor line = record {
+  lines = m.lines;
+  answered = m.answered;
+  activity = with_activity actor (at.SessionWalk line None [] []) m.activity;
+  latches = c.latches;
+  jobs = m.jobs;
+  order = m.order;
+  stop = m.stop;
+  store = m.store;
+  files = m.files;
+  clock = m.clock;
+}
+
+module _ (d : DiskModel) (c after : RunningCore) (m : Machine) (actor behind : ℕ) (may : MayLatch actor) (step : MayStep d c m) (idle : m.activity actor ≡ at.SessionIdle) (there : slice_get c.behind (actor - 1) ≡ Some behind) where
+  session : actor ≤ 16
+  session = is_session actor may (sym (step.goes_on.kept.classes actor) ∙ ap class_of idle)
+
+  turn : TurnAt m.lines m.answered None actor behind
+  turn = subst (λ (o : Option ℕ). TurnAt m.lines m.answered o actor behind) (ap number_in_hand idle) (turn_at m actor behind (step.shows.turns actor behind may.from_1 session there))
+
+  -- what a session does where no line is left
+  pub none_taken : All (λ (l : Line). l.session ≢ actor) (drop behind c.lines) → next_line actor m.answered m.lines ≡ None
+  none_taken none = none_ahead m.lines m.answered actor behind turn (subst (λ (l : List Line). All (λ (l : Line). l.session ≢ actor) (drop behind l)) (sym step.shows.lines) none)
+
+  module _ (place : ℕ) (line : Line) (takes : TakesLine actor behind place line c after) where
+    skipped : All (λ (l : Line). l.session ≢ actor) (take place (drop behind m.lines))
+    skipped = subst (λ (l : List Line). All (λ (l : Line). l.session ≢ actor) (take place (drop behind l))) (sym step.shows.lines) takes.skipped
+
+    stands_there : slice_get (drop behind m.lines) place ≡ Some line
+    stands_there = ap (λ (l : List Line). slice_get (drop behind l) place) step.shows.lines ∙ takes.there
+
+    is_next : next_line actor m.answered m.lines ≡ Some line
+    is_next = next_ahead m.lines m.answered actor behind turn place line step.goes_on.kept.lines_in_turn.rising skipped stands_there takes.own
+
+    boxes : boxes_ahead line.command ≡ []
+    boxes = no_boxes line.command (All-contains (λ (l : Line). WantsBoxes l.command → ⊥) m.lines line step.goes_on.searches (next_is actor m.answered m.lines line is_next).among)
+
+    stands_in : (rest : List Area) → boxes_ahead line.command ≡ rest → with_activity actor (at.SessionWalk line None rest []) m.activity ≡ with_activity actor (at.SessionWalk line None (boxes_ahead line.command) []) m.activity
+    stands_in rest is = ap (λ (r : List Area). with_activity actor (at.SessionWalk line None r []) m.activity) (sym is)
+
+    of_core : {X : Type 0} (f : RunningCore → X) → f after ≡ f (record (with_standing actor (at.SessionWalk line None [] []) c) { latches = after.latches; behind = slice_set c.behind (actor - 1) (behind + place + 1) })
+    of_core f = ap f takes.rest
+
+    performed : (outcome : Outcome) → outcome ≡ outcomes.Moved → Performs m m.store actor (taking line) outcome (taken after m actor line)
+    performed outcome says = record {
+      says = says;
+      lines = refl;
+      answered = sym (append-nil m.answered);
+      activity = λ other. ap (λ (all : ℕ → Activity). all other) (stands_in [] boxes);
+      latches = subst (λ (t : LatchTable). Relatches actor [] t after.latches) (sym step.shows.latches) takes.latches;
+      jobs = record { left = m.jobs; takes = refl; adds = refl };
+      order = sym (append-nil m.order);
+      stop = refl;
+      store = refl;
+      files = refl;
+      clock = refl;
+    }
+
+    -- the actor's turn has the line in hand, and the others have what they had
+    own_turn : (n : ℕ) → behind + place + 1 ≡ n → HasTurn (taken after m actor line) actor n
+    own_turn n is = has_turn (taken after m actor line) actor n
+        (subst (λ (o : Option ℕ). TurnAt m.lines m.answered o actor n) (sym (ap (λ (b : Bool). number_in_hand (cond b (at.SessionWalk line None [] []) (m.activity actor))) (eq-eqb actor actor refl)))
+        (subst (λ (k : ℕ). TurnAt m.lines m.answered (Some line.number) actor k) is (turn_with m.lines m.answered actor behind turn place line step.goes_on.kept.lines_in_turn.rising skipped stands_there takes.own)))
+
+    other_turn : (other n : ℕ) → 1 ≤ other → other ≤ 16 → other ≢ actor → slice_get c.behind (other - 1) ≡ Some n → HasTurn (taken after m actor line) other n
+    other_turn other n low high off is = has_turn (taken after m actor line) other n
+        (subst (λ (o : Option ℕ). TurnAt m.lines m.answered o other n) (sym (ap number_in_hand (at_other other actor (at.SessionWalk line None [] []) (m.activity other) off)))
+        (turn_at m other n (step.shows.turns other n low high is)))
+
+    behind_then : (other n : ℕ) → slice_get after.behind (other - 1) ≡ Some n → slice_get (slice_set c.behind (actor - 1) (behind + place + 1)) (other - 1) ≡ Some n
+    behind_then other n is = ap (λ (l : List ℕ). slice_get l (other - 1)) (sym (of_core (λ s. s.behind))) ∙ is
+
+    turns_then : (other n : ℕ) → 1 ≤ other → other ≤ 16 → slice_get after.behind (other - 1) ≡ Some n → HasTurn (taken after m actor line) other n
+    turns_then other n low high is = elim (cases_Bool (other == actor)) [
+      | inl here ↦
+          let same = eqb-true other actor here in
+          let its = behind_then other n is in
+          let own : slice_get (slice_set c.behind (actor - 1) (behind + place + 1)) (actor - 1) ≡ Some (behind + place + 1) = at_set c.behind (actor - 1) (behind + place + 1) (slice_get_within c.behind (actor - 1) behind there) in
+          subst (λ (k : ℕ). HasTurn (taken after m actor line) k n) (sym same)
+          (own_turn n (same_Some (behind + place + 1) n (sym own ∙ ap (λ (k : ℕ). slice_get (slice_set c.behind (actor - 1) (behind + place + 1)) (k - 1)) (sym same) ∙ its)))
+      | inr off ↦
+          let differ = eqb-false other actor off in
+          other_turn other n low high differ
+          (sym (beside_set c.behind (actor - 1) (other - 1) (behind + place + 1) (apart actor other may (record { from_1 = low; to_19 = omega (arith, high) }) differ)) ∙ behind_then other n is)
+    ]
+
+    shown : ShowsMachine d after (taken after m actor line)
+    shown = record {
+      lines = step.shows.lines ∙ sym (of_core (λ s. s.lines));
+      sessions = ap (λ (l : List ℕ). length l) (of_core (λ s. s.behind)) ∙ length-set c.behind (actor - 1) (behind + place + 1) ∙ step.shows.sessions;
+      turns = turns_then;
+      all_actors = ap (λ (l : List Activity). length l) (of_core (λ s. s.activities)) ∙ length-set c.activities (actor - 1) (at.SessionWalk line None [] []) ∙ step.shows.all_actors;
+      activities = λ other its. ap (λ (l : List Activity). slice_get l (other - 1)) (of_core (λ s. s.activities))
+          ∙ stand_then c.activities m.activity actor (m.activity actor) (at.SessionWalk line None [] []) may (length-set c.activities (actor - 1) (m.activity actor) ∙ step.shows.all_actors)
+          (shows_but d c m actor may step.shows).activities other its;
+      nobody_else = λ other none. at_other other actor (at.SessionWalk line None [] []) (m.activity other) (λ same. none (subst MayLatch (sym same) may)) ∙ step.shows.nobody_else other none;
+      latches = refl;
+      jobs = step.shows.jobs ∙ sym (of_core (λ s. s.jobs));
+      order = step.shows.order ∙ sym (of_core (λ s. s.order));
+      stop = step.shows.stop ∙ sym (of_core (λ s. s.stop));
+      store = step.shows.store ∙ sym (of_core (λ s. s.store));
+      tells = λ told. let had = step.shows.tells told in record { files = had.files; told = had.told; kept = had.kept; clock = had.clock };
+      silent = step.shows.silent;
+    }
+
+  -- the step of an idle session
+  pub line_taken : (outcome : Outcome) → TakesNextLine actor behind outcome c after → (new : Machine) × StepsAs at.SessionIdle m actor outcome new × ShowsMachine d after new
+  line_taken outcome (inl none) =
+      let next = none_taken none.2 in
+      (m, subst (λ (o : Option Line). MatchOption o (StaysSo m outcomes.Idle outcome m) (λ line. Performs m m.store actor (taking line) outcome m ⊎ (WantsBoxes line.command × Performs m m.store actor (answers_now line.number replies.NoMemory) outcome m))) (sym next) (none.0, refl),
+      subst (λ (s : RunningCore). ShowsMachine d s m) (sym none.1) step.shows)
+  line_taken outcome (inr some) =
+      let new = taken after m actor some.2 in
+      (new, subst (λ (o : Option Line). MatchOption o (StaysSo m outcomes.Idle outcome new) (λ line. Performs m m.store actor (taking line) outcome new ⊎ (WantsBoxes line.command × Performs m m.store actor (answers_now line.number replies.NoMemory) outcome new)))
+      (sym (is_next some.1 some.2 some.3)) (inl (performed some.1 some.2 some.3 outcome some.0)), shown some.1 some.2 some.3)
+
+-- ---- the poster
+
+-- a machine with its own store
+pub own_store : (m : Machine) (st : StoreState) → m.store ≡ st → with_disk st m.files m.clock m ≡ m
+own_store m st same = ap (λ (s : StoreState). with_disk s m.files m.clock m) (sym same)
+
+pub shows_pages : (d : DiskModel) (c : RunningCore) (m : Machine) (actor : ℕ) → MayLatch actor → ShowsMachine d c m → ShowsMachine d (with_standing actor (m.activity actor) c) (with_pages c m)
+shows_pages d c m actor may shows = subst (λ (n : Machine). ShowsMachine d (with_standing actor (m.activity actor) c) n) (sym (own_store m c.store shows.store)) (shows_but d c m actor may shows)
+
+-- what does nothing to the file keeps its files
+pub keeps_none : (d : DiskModel) (old new : StoreState) (mark : ℕ) (op : Option Op) → op ≡ None → MayDo op mark old new → KeepsFilesBy op d old d new
+keeps_none d old new mark None none same = λ durable later keeps. subst (λ (s : StoreState). StoreKeeps d s durable later) (sym same) keeps
+keeps_none d old new mark (Some op) none same = absurd cc
+
+module _ (d : DiskModel) (c after : RunningCore) (m : Machine) (actor : ℕ) (may : MayLatch actor) (step : MayStep d c m) where
+  -- a deed of a machine as it is shown, that does nothing to the file
+  pub deed_done : (deed : Deed) (outcome : Outcome) → deed.op ≡ None → NumberFate (m.activity actor) deed → DoesDeed actor deed outcome c after → (new : Machine) × Performs m m.store actor deed outcome new × ShowsMachine d after new
+  deed_done deed outcome none fate does =
+      subst (λ (s : StoreState). (new : Machine) × Performs m s actor deed outcome new × ShowsMachine d after new) (sym step.shows.store)
+      (deed_shows d c after m actor deed outcome may (shows_pages d c m actor may step.shows) does step.goes_on.kept.lines_in_turn fate
+      (keeps_none d c.store after.store (length c.order) deed.op none does.store))
+
+  pub posting_taken : (outcome : Outcome) → m.activity actor ≡ at.PosterIdle → TakesNextPosting actor outcome c after → (new : Machine) × TakesPosting m actor outcome new × ShowsMachine d after new
+  posting_taken outcome idle (inl none) =
+      (m, inl (subst (λ (l : List Job). All (λ (job : Job). job.kind ≢ Post) l) (sym step.shows.jobs) none.2, (none.0, refl)), subst (λ (s : RunningCore). ShowsMachine d s m) (sym none.1) step.shows)
+  posting_taken outcome idle (inr (job, next, kind, posting, does)) =
+      let its : IsPostingOf job m.store.meta.height next = subst (λ (s : StoreState). IsPostingOf job s.meta.height next) (sym step.shows.store) posting in
+      let done = deed_done (takes_job next job) outcome refl (job_number (m.activity actor) job m.store.meta.height next idle its) does in
+      (done.0, inr (takes_job next job, record { job = job; kind = kind; next = next; posting = its; deed_is = refl }, done.1), done.2)

@@ -1,0 +1,144 @@
+-- What the decider of the poster says of the number of a page is what the machine's row needs.
+use Rattle.std.proofs.Common.{◌≡◌, ◌⊎◌, ◌↔◌, inl, inr, ℕ, ◌-◌, ◌<◌, Bool, [], List, Option, Some, None, IfSome, IsSome, IsTrue, refl, sym, ap, ◌∙◌, subst}
+use Rattle.std.specs.Option.{option_and_then}
+use Rattle.std.proofs.lemmas.Option.{same_Some}
+use Rattle.hb_disk.specs.Model.{DiskModel}
+use Rattle.hb_frag.specs.declared.leaves.Leaf.TheVariants.{Child}
+use Rattle.hb_frag.specs.declared.pages.LivePage.{LivePage}
+use Rattle.hb_frag.specs.Leaves.{Placed, leaf_at}
+use Rattle.hb_latch.specs.declared.modes.Mode.TheVariants.{Exclusive, Shared}
+use Rattle.hb_latch.specs.Tables.{MayLatch}
+use Rattle.hb_layout.specs.declared.meta.Meta.{Meta}
+use Rattle.hb_layout.specs.declared.limits.TheConstants.{HEIGHT_MAX}
+use Rattle.hb_lemmas.proofs.Options.{at_value, has_value, some_value}
+use Rattle.hb_ops.specs.Sound.{FitsFile}
+use Rattle.hb_activity.specs.declared.jobs.Job.{Job}
+use Rattle.hb_activity.specs.declared.wanting.Wanted.{Wanted}
+use Rattle.hb_activity.specs.declared.activities.Activity.{Activity}
+use Rattle.hb_activity.specs.declared.activities.Activity.TheVariants as at
+use Rattle.hb_activity.specs.Deciding.{given_sight}
+use Rattle.hb_activity.specs.Passing.{LeadsBelow}
+use Rattle.hb_activity.specs.Sights.{Sight}
+use Rattle.hb_activity.specs.Wanting.{in_mode, named_child, wanted_of, wanted_page}
+use Rattle.hb_poster.specs.Asks.{MakesPage, MayBeAsked}
+use Rattle.hb_poster.specs.PosterRows.{MayGrow}
+use Rattle.hb_terms.specs.Plans.{LacksRoom}
+use Rattle.hb_core.proofs.Memory.StillThere.{fetched_good}
+use Rattle.hb_core.proofs.Running.Brought.{brings_wider}
+use Rattle.hb_core.proofs.Walks.MayBeAsked.{children_may_be_asked}
+use Rattle.hb_core.specs.Acting.{NeedsNumber}
+use Rattle.hb_core.specs.AllowedLaws.{AnyPage}
+use Rattle.hb_core.specs.AskedLaws.{AsksWithParent}
+use Rattle.hb_core.specs.Asking.{looked_live, wanted_by}
+use Rattle.hb_core.specs.Fetching.{Brings, IsWantedPage}
+use Rattle.hb_core.specs.Looking.{number_of_row, other_page}
+use Rattle.hb_core.specs.Machines.{Machine, live_here, sight}
+use Rattle.hb_core.specs.Rows.{IsAtHand}
+use Rattle.hb_core.specs.Showing.{RunningCore}
+use Rattle.hb_core.specs.Working.{HasCome, with_pages}
+
+-- the poster makes a page: for a level, or to split a parent
+abbrev pub MayMakeToPost : Activity → Type 0
+MayMakeToPost (at.PosterGrow job) = Unit {0}
+MayMakeToPost (at.PosterAgain job parent) = Unit {0}
+MayMakeToPost other = ⊥
+
+module _ (m : Machine) (d : DiskModel) (c : RunningCore) (actor : ℕ) (latches : MayLatch actor) (come : HasCome m actor d c) where
+  abbrev now : Machine
+  now = with_pages c m
+
+  any : Brings m AnyPage c.store
+  any = brings_wider m (IsWantedPage (wanted_by m actor)) AnyPage c.store (λ id is. tt) come.brings
+
+  pub fits_page : (id : ℕ) (page : LivePage) → live_here c.store id ≡ Some page → FitsFile c.store.meta page
+  fits_page id page live = subst (λ (meta : Meta). FitsFile meta page) (sym come.brings.rest.meta) (fetched_good m (IsWantedPage (wanted_by m actor)) c.store come.may.goes_on.kept.pages_of_file come.brings id page live).1
+
+  -- ---- it wants a page
+
+  child_wanted : (over : LivePage) (job : Job) → LeadsBelow over job → IsSome (wanted_of (at.PosterAgain job 0) m.store.meta (Some over))
+  child_wanted over job (child, area, leaf) = subst (λ (o : Option Placed). IsSome (in_mode (λ level. Shared) (option_and_then (λ (l : Placed). named_child over.level l.leaf) o))) (sym leaf) refl
+
+  again_wants : (job : Job) (parent : ℕ) → m.activity actor ≡ at.PosterAgain job parent → IsSome (wanted_by m actor)
+  again_wants job parent is = by (come.may.goes_on.kept.walk_in_space.parents actor job parent (inr (inr is)))
+    where
+      by : (page : LivePage) × (live_here m.store parent ≡ Some page) × (page.level ≡ job.level) × LeadsBelow page job → IsSome (wanted_by m actor)
+      by (over, live, level, leads) =
+          subst (λ (a : Activity). IsSome (wanted_of a m.store.meta (looked_live m.store a))) (sym is)
+          (subst (λ (o : Option LivePage). IsSome (wanted_of (at.PosterAgain job parent) m.store.meta o)) (sym live) (child_wanted over job leads))
+
+  wants_some : (activity : Activity) → m.activity actor ≡ activity → MayMakeToPost activity → IsSome (wanted_by m actor)
+  wants_some (at.PosterGrow job) is may = subst (λ (a : Activity). IsSome (wanted_of a m.store.meta (looked_live m.store a))) (sym is) refl
+  wants_some (at.PosterAgain job parent) is may = again_wants job parent is
+  wants_some activity is may = absurd may
+
+  -- ---- at the page that is at hand
+
+  module _ (activity : Activity) (is : m.activity actor ≡ activity) (may : MayMakeToPost activity) where
+    wants : (wanted : Wanted) × (wanted_by m actor ≡ Some wanted)
+    wants = some_value (wanted_by m actor) (wants_some activity is may)
+
+    number : number_of_row activity (wanted_by m actor) ≡ wants.0.page
+    number = ap (number_of_row activity) wants.1
+
+    hand : (page : LivePage) × IsAtHand now (m.activity actor) wants.0 page
+    hand = at_value (wanted_by m actor) (λ (wanted : Wanted). (page : LivePage) × IsAtHand now (m.activity actor) wanted page) wants.0 wants.1 come.at_hand
+
+    pub page_there : IsSome (live_here c.store (number_of_row activity (wanted_by m actor)))
+    page_there = has_value (live_here c.store (number_of_row activity (wanted_by m actor))) hand.0 (ap (live_here c.store) number ∙ hand.1.live)
+
+    module _ (page : LivePage) (live : live_here c.store (number_of_row activity (wanted_by m actor)) ≡ Some page) where
+      hand_is : hand.0 ≡ page
+      hand_is = same_Some hand.0 page (sym hand.1.live ∙ ap (live_here c.store) (sym number) ∙ live)
+
+      hand_at : IsAtHand now activity wants.0 page
+      hand_at = subst (λ (a : Activity). IsAtHand now a wants.0 page) is (subst (IsAtHand now (m.activity actor) wants.0) hand_is hand.1)
+
+      with_parent : (job : Job) (parent : ℕ) → activity ≡ at.PosterAgain job parent → AsksWithParent m actor c.store parent page
+      with_parent job parent again = children_may_be_asked m actor c.store job parent wants.0 page latches come.may.goes_on.kept any (inr (is ∙ again)) wants.1 (subst (λ (a : Activity). IsAtHand now a wants.0 page) (sym is) hand_at)
+
+      pub asked_at : MayBeAsked activity c.store.meta page (other_page c.store activity)
+      asked_at = by activity refl may
+        where
+          by : (a : Activity) → activity ≡ a → MayMakeToPost a → MayBeAsked a c.store.meta page (other_page c.store a)
+          by (at.PosterGrow job) same makes = tt
+          by (at.PosterAgain job parent) same makes =
+              let asks = with_parent job parent same in
+              let may_ask = subst (λ (a : Activity). MayBeAsked a m.store.meta page (Some asks.over)) (is ∙ same) asks.may in
+              subst (λ (o : Option LivePage). MayBeAsked (at.PosterAgain job parent) c.store.meta page o) (sym asks.live)
+              (subst (λ (meta : Meta). MayBeAsked (at.PosterAgain job parent) meta page (Some asks.over)) (sym come.brings.rest.meta) may_ask)
+          by a same makes = absurd makes
+
+      abbrev Needs : Activity → Type 0
+      Needs a = NeedsNumber a (Some wants.0) now
+
+      abbrev Says : Activity → Type 0
+      Says a = (c.store.meta.live < c.store.meta.pages) × MakesPage a c.store.meta page (other_page c.store a)
+
+      grow_same : (s t : Sight) (job : Job) (root : LivePage) → s.meta ≡ t.meta → MayGrow s job root → MayGrow t job root
+      grow_same s t job root same may = record { height = ap (λ (x : Meta). x.height) (sym same) ∙ may.height; below = subst (λ (x : Meta). x.height < HEIGHT_MAX) same may.below; gave = may.gave }
+
+      needed : (a : Activity) → activity ≡ a → MayMakeToPost a → Says a → Needs a
+      needed (at.PosterGrow job) same makes (room, grows) =
+          (room, page, subst (λ (a : Activity). IsAtHand now a wants.0 page) same hand_at, grow_same (given_sight c.store.meta [] None) (sight now) job page refl grows)
+      needed (at.PosterAgain job parent) same makes (room, lacks) =
+          let asks = with_parent job parent same in
+          (room, page, subst (λ (a : Activity). IsAtHand now a wants.0 page) same hand_at,
+            (asks.over, asks.live, subst (λ (o : Option LivePage). MakesPage (at.PosterAgain job parent) c.store.meta page o) asks.live lacks))
+      needed a same makes says = absurd makes
+
+      same_hand : (a : Activity) (root : LivePage) → IsAtHand now a wants.0 root → root ≡ page
+      same_hand a root other = same_Some root page (sym other.live ∙ ap (live_here c.store) (sym number) ∙ live)
+
+      said : (a : Activity) → activity ≡ a → MayMakeToPost a → Needs a → Says a
+      said (at.PosterGrow job) same makes (room, root, other, grows) =
+          (room, grow_same (sight now) (given_sight c.store.meta [] None) job page refl (subst (MayGrow (sight now) job) (same_hand (at.PosterGrow job) root other) grows))
+      said (at.PosterAgain job parent) same makes (room, child, other, (over, there, lacks)) =
+          (room, subst (λ (o : Option LivePage). MakesPage (at.PosterAgain job parent) c.store.meta page o) (sym there)
+            (subst (λ (x : LivePage). LacksRoom over x job.point c.store.meta.icap) (same_hand (at.PosterAgain job parent) child other) lacks))
+      said a same makes needs = absurd makes
+
+      pub number_needed : (b : Bool) → IsTrue b ↔ Says activity → IsTrue b ↔ NeedsNumber (m.activity actor) (wanted_by m actor) now
+      number_needed b says =
+          subst (λ (a : Activity). IsTrue b ↔ NeedsNumber a (wanted_by m actor) now) (sym is)
+          (subst (λ (o : Option Wanted). IsTrue b ↔ NeedsNumber activity o now) (sym wants.1)
+          ((λ yes. needed activity refl may (says.0 yes)), (λ needs. says.1 (said activity refl may needs))))

@@ -1,0 +1,136 @@
+-- A row for which a core has its pages is done, or memory is refused to it.
+use Rattle.std.proofs.Common.{◌≡◌, ◌⊎◌, inl, inr, ℕ, ◌-◌, ◌<◌, List, [], ◌∷◌, length, map, slice_set, Option, Some, None, IsSome, IfSome, IsTrue, refl, sym, ap, ◌∙◌, subst}
+use Rattle.std.specs.Option.{MatchOption}
+use Rattle.std.proofs.lemmas.List.{length-map}
+use Rattle.hb_activity.specs.declared.activities.Activity.{Activity}
+use Rattle.hb_activity.specs.declared.activities.Activity.TheVariants as at
+use Rattle.hb_activity.specs.declared.dropping.DropWhy.TheVariants as drops
+use Rattle.hb_activity.specs.declared.jobs.Job.{Job}
+use Rattle.hb_activity.specs.declared.wanting.Wanted.{Wanted}
+use Rattle.hb_activity.specs.Classes.{class_of, idle_of}
+use Rattle.hb_activity.specs.Deeds.{Deed}
+use Rattle.hb_disk.specs.Model.{DiskModel}
+use Rattle.hb_latch.specs.Tables.{LatchTable, MayLatch}
+use Rattle.hb_ops.specs.declared.operations.Op.{Op}
+use Rattle.hb_poster.specs.PosterRows.{after_look}
+use Rattle.hb_set.specs.Order.{Entry}
+use Rattle.hb_set.specs.declared.scripts.Line.{Line}
+use Rattle.hb_store.specs.States.{StoreState}
+use Rattle.hb_terms.specs.declared.plans.PostPlan.{PostPlan}
+use Rattle.hb_terms.specs.declared.plans.PostPlan.TheVariants as plans
+use Rattle.hb_core.specs.declared.halts.Halt.TheVariants.{GivesUp}
+use Rattle.hb_core.specs.declared.outcomes.Outcome.{Outcome}
+use Rattle.hb_core.specs.Acting.{DoesRow, HasOp, MayNeed, NeedsNumber, TakesMemory, takes_number}
+use Rattle.hb_core.specs.Asking.{wanted_by}
+use Rattle.hb_core.specs.Fetching.{Brings, IsFreeHead, IsWantedPage}
+use Rattle.hb_core.specs.KeptFits.{class_for}
+use Rattle.hb_core.specs.Machines.{Machine, next_of, with_disk}
+use Rattle.hb_core.specs.Moving.{DoesDeed, KeepsFilesBy, MayCommit, MayStand, with_standing}
+use Rattle.hb_core.specs.Performing.{MayDo}
+use Rattle.hb_core.specs.Rows.{Row}
+use Rattle.hb_core.specs.Showing.{RunningCore, ShowsMachine}
+use Rattle.hb_core.specs.Working.{Halts, HasPages, IsWorking, ShowsBut, with_pages}
+use Rattle.hb_core.proofs.Running.Brought.{brings_wider}
+use Rattle.hb_core.proofs.Running.DeedFits.{deed_has_room, deed_may_commit, deed_may_stand, deed_takes_number}
+use Rattle.hb_core.proofs.Running.DeedShows.{deed_shows}
+use Rattle.hb_core.proofs.Running.NumbersInHand.{row_number}
+use Rattle.hb_core.proofs.Running.StandsElsewhere.{shows_but}
+
+set_twice : {X : Type 0} (xs : List X) (n : ℕ) (x y : X) → slice_set (slice_set xs n x) n y ≡ slice_set xs n y
+set_twice [] n x y = refl
+set_twice (z ∷ xs) zero x y = refl
+set_twice (z ∷ xs) (suc n) x y = ap (λ (l : List _). z ∷ l) (set_twice xs n x y)
+
+-- a number that is given is one that the row needs
+needed : (N : Type 0) (given : ℕ × ℕ → Type 0) (free : Option (ℕ × ℕ)) → MatchOption free (¬ N) (λ next. N × given next) → IsSome free → N
+needed N given (Some next) number some = number.0
+needed N given None number none = absurd cc
+
+no_op : (job : Job) (parent : ℕ) (plan : PostPlan) → (after_look job parent plan).op ≡ None
+no_op job parent plans.Nothing = refl
+no_op job parent (plans.Post at inner area) = refl
+no_op job parent plans.SplitFirst = refl
+
+-- a row that does an operation takes memory
+takes_memory : (m : Machine) (activity : Activity) (wanted : Option Wanted) (deed : Deed) → IsWorking activity → Row activity wanted m deed → HasOp deed → TakesMemory activity deed
+takes_memory m (at.SessionWalk line held rest found) wanted deed works row has = inl has
+takes_memory m (at.SessionSplit line held) wanted deed works row has = has
+takes_memory m (at.SessionPut line source fresh) wanted deed works row has = has
+takes_memory m (at.PosterGrow job) wanted deed works row has = has
+takes_memory m (at.PosterWalk job held) wanted deed works row has = has
+takes_memory m (at.PosterChild job parent) None deed works row has = absurd row
+takes_memory m (at.PosterChild job parent) (Some wanted) deed works row has =
+    let looks = row.2 in
+    let none : deed.op ≡ None = ap (λ (x : Deed). x.op) looks.deed_is ∙ no_op job parent looks.plan in
+    absurd (nothing deed.op none has)
+  where
+    nothing : (o : Option Op) → o ≡ None → IsSome o → ⊥
+    nothing None is some = cc
+    nothing (Some op) is some = cc
+takes_memory m (at.PosterPromote job parent) wanted deed works row has = has
+takes_memory m (at.PosterAgain job parent) wanted deed works row has = has
+takes_memory m activity wanted deed works row has = absurd works
+
+module _ (d : DiskModel) (c : RunningCore) (m : Machine) (actor : ℕ) (free : Option (ℕ × ℕ)) (may : MayLatch actor) (pages : HasPages m actor free d c) where
+  -- the core while its decider is asked: the actor has nothing in hand
+  abbrev pub idled : RunningCore
+  idled = with_standing actor (idle_of (class_for actor)) c
+
+  abbrev pub IsRow : Deed → Type 0
+  IsRow deed = Row (m.activity actor) (wanted_by m actor) (with_pages c m) deed
+
+  shows_idled : ShowsBut d idled actor (with_pages idled m)
+  shows_idled = subst (λ (l : List Activity). ShowsMachine d (record c { activities = l }) (with_pages c m))
+      (sym (set_twice c.activities (actor - 1) (idle_of (class_for actor)) (m.activity actor))) (shows_but d c (with_pages c m) actor may pages.shows)
+
+  pub same_length : length c.order ≡ length m.order
+  same_length = ap (λ (l : List ℕ). length l) (sym pages.shows.order) ∙ length-map m.order (λ (e : Entry). e.line.number)
+
+  abbrev Needs : Type 0
+  Needs = NeedsNumber (m.activity actor) (wanted_by m actor) (with_pages c m)
+
+  needs : IsSome free → Needs
+  needs = needed Needs (λ next. next_of c.store ≡ Some next) free pages.number
+
+  brings_row : (deed : Deed) → IsRow deed → Brings m (λ id. IsWantedPage (wanted_by m actor) id ⊎ (IsTrue (takes_number deed.op) × IsFreeHead m.store id)) c.store
+  brings_row deed row = brings_wider m (λ id. IsWantedPage (wanted_by m actor) id ⊎ (IsSome free × IsFreeHead m.store id)) _ c.store wider pages.brings
+    where
+      wider : (id : ℕ) → IsWantedPage (wanted_by m actor) id ⊎ (IsSome free × IsFreeHead m.store id) → IsWantedPage (wanted_by m actor) id ⊎ (IsTrue (takes_number deed.op) × IsFreeHead m.store id)
+      wider id (inl wanted) = inl wanted
+      wider id (inr (some, head)) = inr (deed_takes_number m actor c deed row (needs some), head)
+
+  brings_needed : Brings m (MayNeed m actor c.store) c.store
+  brings_needed = brings_wider m (λ id. IsWantedPage (wanted_by m actor) id ⊎ (IsSome free × IsFreeHead m.store id)) (MayNeed m actor c.store) c.store wider pages.brings
+    where
+      wider : (id : ℕ) → IsWantedPage (wanted_by m actor) id ⊎ (IsSome free × IsFreeHead m.store id) → MayNeed m actor c.store id
+      wider id (inl wanted) = inl wanted
+      wider id (inr (some, head)) = inr (needs some, head)
+
+  -- the row's deed is done
+  pub row_done : (deed : Deed) (outcome : Outcome) (after : RunningCore) → IsRow deed → DoesDeed actor deed outcome idled after → KeepsFilesBy deed.op d c.store d after.store → (new : Machine) × DoesRow m actor outcome new × ShowsMachine d after new
+  row_done deed outcome after row does keeps =
+      let done = deed_shows d idled after m actor deed outcome may shows_idled does pages.may.goes_on.kept.lines_in_turn
+          (row_number m c.store (m.activity actor) (wanted_by m actor) deed pages.may.working row) keeps in
+      (done.0, record { fetched = c.store; deed = deed; brings = brings_row deed row; row = row; performs = done.1 }, done.2)
+
+  -- memory is refused, for what the decider makes, or for the operation
+  pub row_refused : (deed : Deed) × IsRow deed × TakesMemory (m.activity actor) deed → Halts m actor (GivesUp drops.NoMemory) d idled
+  row_refused takes = record { brings = brings_needed; shows = shows_idled; cause = inr takes }
+
+  pub op_refused : (deed : Deed) → IsRow deed → IsSome deed.op → Halts m actor (GivesUp drops.NoMemory) d idled
+  op_refused deed row some = row_refused (deed, row, takes_memory (with_pages c m) (m.activity actor) (wanted_by m actor) deed pages.may.working row some)
+
+  -- what is asked for before it is performed
+  pub row_stands : (deed : Deed) → IsRow deed → (st : StoreState) → MayDo deed.op (length c.order) c.store st → MayStand actor c.latches st deed.next
+  row_stands deed row st does = subst (λ (t : LatchTable). MayStand actor t st deed.next) pages.shows.latches
+      (deed_may_stand m actor c free d may pages deed row st (subst (λ (n : ℕ). MayDo deed.op n c.store st) same_length does))
+
+  commits_idled : (o : Option Op) → IfSome o (MayCommit d c) → IfSome o (MayCommit d idled)
+  commits_idled None commits = commits
+  commits_idled (Some op) commits = record { running = commits.running; ready = commits.ready; points = commits.points; allowed = commits.allowed; licensed = commits.licensed; marks = commits.marks }
+
+  pub row_commits : (deed : Deed) → IsRow deed → IfSome deed.op (MayCommit d idled)
+  row_commits deed row = commits_idled deed.op (deed_may_commit m actor c free d may pages deed row)
+
+  pub row_joins : (deed : Deed) → IsRow deed → IsSome deed.joins → length c.order < length c.lines
+  row_joins deed row joins = subst (λ (n : ℕ). n < length c.lines) (sym same_length) (subst (λ (l : List Line). length m.order < length l) pages.shows.lines (deed_has_room m actor c free d may pages deed row joins))

@@ -1,0 +1,61 @@
+-- Where the actors of a core stand, once one of them stands elsewhere.
+use Rattle.std.proofs.Common.{◌≡◌, ◌≢◌, ℕ, zero, suc, ◌<◌, ◌-◌, ◌==◌, ◌≤◌, cond, List, [], ◌∷◌, length, slice_get, slice_set, Some, refl, sym, ap, ◌∙◌, subst, arith}
+use Rattle.std.proofs.lemmas.List.{length-set}
+use Rattle.hb_activity.specs.declared.activities.Activity.{Activity}
+use Rattle.hb_disk.specs.Model.{DiskModel}
+use Rattle.hb_lemmas.proofs.Booleans.{if_same}
+use Rattle.hb_latch.specs.Tables.{MayLatch}
+use Rattle.hb_core.specs.Machines.{Machine, with_activity}
+use Rattle.hb_core.specs.Moving.{StandsAs, with_standing}
+use Rattle.hb_core.specs.Showing.{RunningCore, ShowsMachine}
+
+-- a list with another element at a place has that one there, and elsewhere what it had
+pub at_set : {X : Type 0} (xs : List X) (n : ℕ) (new : X) → n < length xs → slice_get (slice_set xs n new) n ≡ Some new
+at_set [] n new lt = absurd (omega (arith, lt))
+at_set (x ∷ xs) zero new lt = refl
+at_set (x ∷ xs) (suc n) new lt = at_set xs n new (omega (arith, lt))
+
+pub beside_set : {X : Type 0} (xs : List X) (n m : ℕ) (new : X) → m ≢ n → slice_get (slice_set xs n new) m ≡ slice_get xs m
+beside_set [] n m new ne = refl
+beside_set (x ∷ xs) zero zero new ne = absurd (ne refl)
+beside_set (x ∷ xs) zero (suc m) new ne = refl
+beside_set (x ∷ xs) (suc n) zero new ne = refl
+beside_set (x ∷ xs) (suc n) (suc m) new ne = beside_set xs n m new (λ e. ne (ap suc e))
+
+-- what stands there already stands there
+pub set_as_it_was : {X : Type 0} (xs : List X) (n : ℕ) (x : X) → slice_get xs n ≡ Some x → slice_set xs n x ≡ xs
+set_as_it_was [] n x is = refl
+set_as_it_was (y ∷ xs) zero x is = let same : y ≡ x = cc in ap (λ (z : _). z ∷ xs) (sym same)
+set_as_it_was (y ∷ xs) (suc n) x is = ap (λ (l : List _). y ∷ l) (set_as_it_was xs n x is)
+
+place_within : (actor : ℕ) → MayLatch actor → actor - 1 < 19
+place_within actor may = omega (arith, may.from_1, may.to_19)
+
+-- two actors have two places
+pub apart : (actor other : ℕ) → MayLatch actor → MayLatch other → other ≢ actor → other - 1 ≢ actor - 1
+apart actor other may its ne same = ne (omega (arith, may.from_1, its.from_1, same))
+
+-- Every actor stands as the machine says, where it did so but for one that stands elsewhere now.
+module _ (activities : List Activity) (of : ℕ → Activity) (actor : ℕ) (before next : Activity) (may : MayLatch actor) (all : length (slice_set activities (actor - 1) before) ≡ 19) where
+  pub still_all : length (slice_set activities (actor - 1) next) ≡ 19
+  still_all = length-set activities (actor - 1) next ∙ sym (length-set activities (actor - 1) before) ∙ all
+
+  within : actor - 1 < length activities
+  within = subst (λ (n : ℕ). actor - 1 < n) (sym all ∙ length-set activities (actor - 1) before) (place_within actor may)
+
+  pub stand_then : ((other : ℕ) → MayLatch other → slice_get (slice_set activities (actor - 1) before) (other - 1) ≡ Some (of other))
+      → (other : ℕ) → MayLatch other → slice_get (slice_set activities (actor - 1) next) (other - 1) ≡ Some (with_activity actor next of other)
+  stand_then stands other its = if_same other actor (λ b. slice_get (slice_set activities (actor - 1) next) (other - 1) ≡ Some (cond b next (of other)))
+      (λ same. ap (λ (n : ℕ). slice_get (slice_set activities (actor - 1) next) (n - 1)) same ∙ at_set activities (actor - 1) next within)
+      (λ off. beside_set activities (actor - 1) (other - 1) next (apart actor other may its off) ∙ sym (beside_set activities (actor - 1) (other - 1) before (apart actor other may its off)) ∙ stands other its)
+
+-- A core that shows a machine stands as it stands.
+pub stands_so : (d : DiskModel) (c : RunningCore) (m : Machine) (actor : ℕ) → MayLatch actor → ShowsMachine d c m → with_standing actor (m.activity actor) c ≡ c
+stands_so d c m actor may shows = ap (λ (l : List Activity). record c { activities = l }) (set_as_it_was c.activities (actor - 1) (m.activity actor) (shows.activities actor may))
+
+pub shows_but : (d : DiskModel) (c : RunningCore) (m : Machine) (actor : ℕ) → MayLatch actor → ShowsMachine d c m → ShowsMachine d (with_standing actor (m.activity actor) c) m
+shows_but d c m actor may shows = subst (λ (s : RunningCore). ShowsMachine d s m) (sym (stands_so d c m actor may shows)) shows
+
+-- it is what an activity is that it stands as
+pub stands_as : (d : DiskModel) (c : RunningCore) (m : Machine) (actor : ℕ) (activity : Activity) → MayLatch actor → ShowsMachine d c m → StandsAs c actor activity → m.activity actor ≡ activity
+stands_as d c m actor activity may shows is = let both : Some (m.activity actor) ≡ Some activity = sym (shows.activities actor may) ∙ is in cc

@@ -1,0 +1,109 @@
+-- A core that works takes a step of the machine that it shows.
+use Rattle.std.proofs.Common.{◌≡◌, ◌⊎◌, inl, inr, ℕ, ◌-◌, ◌↔◌, Bool, true, false, List, slice_get, slice_set, Option, Some, None, IsSome, IfSome, IsTrue, refl, sym, ap, ◌∙◌, subst}
+use Rattle.std.specs.Option.{IsSomeAnd, option_map}
+use Rattle.hb_activity.specs.declared.activities.Activity.{Activity}
+use Rattle.hb_activity.specs.declared.dropping.DropWhy.{DropWhy}
+use Rattle.hb_activity.specs.declared.wanting.Wanted.{Wanted}
+use Rattle.hb_activity.specs.Changing.{may_commit}
+use Rattle.hb_activity.specs.Classes.{Hand, Empty, HasJob, HasLine, class_of, hand_of, idle_of}
+use Rattle.hb_activity.specs.Deeds.{Deed}
+use Rattle.hb_disk.specs.Model.{DiskModel}
+use Rattle.hb_latch.specs.Tables.{IsGrantable, IsLeastInTheWay, LatchTable, MayLatch}
+use Rattle.hb_store.specs.declared.stops.StopWhy.{StopWhy}
+use Rattle.hb_store.specs.declared.stops.StopWhy.TheVariants.{Damaged, WriteFault}
+use Rattle.hb_store.specs.Calls.{IsReady}
+use Rattle.hb_store.specs.States.{StoreState}
+use Rattle.hb_core.specs.declared.halts.Halt.TheVariants.{GivesUp, Stops}
+use Rattle.hb_core.specs.declared.outcomes.Outcome.{Outcome}
+use Rattle.hb_core.specs.declared.outcomes.Outcome.TheVariants as outcomes
+use Rattle.hb_core.specs.Acting.{DoesRow}
+use Rattle.hb_core.specs.Asking.{HasWayFree, looked_live, wanted_by}
+use Rattle.hb_core.specs.GivingUp.{gives_up, gives_up_hand}
+use Rattle.hb_core.specs.KeptFits.{class_for}
+use Rattle.hb_core.specs.Looking.{MayLook, wanted_in}
+use Rattle.hb_core.specs.Machines.{Machine, stopped_for}
+use Rattle.hb_core.specs.Moving.{DoesDeed, StandsAs, number_of, with_standing, with_stop}
+use Rattle.hb_core.specs.Showing.{RunningCore, ShowsMachine, number_in_hand}
+use Rattle.hb_core.specs.Steps.{GetsReady, IsUnready, Works}
+use Rattle.hb_core.specs.Working.{Halts, IsWorking, MayStep, MayWork, with_pages}
+use Rattle.hb_core.proofs.Running.DeedShows.{deed_shows}
+use Rattle.hb_core.proofs.Running.ForcedShows.{shown_stopped}
+use Rattle.hb_core.proofs.Running.LineTaken.{keeps_none}
+use Rattle.hb_core.proofs.Running.Looks.{may_look_now}
+use Rattle.hb_core.proofs.Running.NumbersInHand.{given_up_number, number_of_hand, working_waits_not}
+use Rattle.hb_core.proofs.Running.StandsElsewhere.{set_as_it_was, stands_as}
+
+-- ---- what the core looks at is what the machine has
+
+module _ (d : DiskModel) (c : RunningCore) (m : Machine) (actor : ℕ) (may : MayLatch actor) (step : MayStep d c m) where
+  stands : StandsAs c actor (m.activity actor)
+  stands = step.shows.activities actor may
+
+  pub looks_now : (activity : Activity) → StandsAs c actor activity → MayLook c.store activity
+  looks_now activity so = subst (MayLook c.store) (stands_as d c m actor activity may step.shows so)
+      (subst (λ (st : StoreState). MayLook st (m.activity actor)) step.shows.store (may_look_now m actor may step.goes_on.kept))
+
+  pub wants : (wanted : Option Wanted) → ((activity : Activity) → StandsAs c actor activity → wanted ≡ wanted_in c.store activity) → wanted ≡ wanted_by m actor
+  wants wanted is = is (m.activity actor) stands ∙ ap (λ (st : StoreState). wanted_in st (m.activity actor)) (sym step.shows.store)
+
+  pub holds_line : (line : Option ℕ) → IsWorking (m.activity actor) → ((activity : Activity) → StandsAs c actor activity → line ≡ number_in_hand activity) → line ≡ number_of (hand_of (m.activity actor))
+  holds_line line works is = is (m.activity actor) stands ∙ number_of_hand (m.activity actor) (working_waits_not (m.activity actor) works)
+
+  -- another actor is in the way, and the core stays so
+  pub blocked : (wanted : Option Wanted) (by : ℕ) → wanted ≡ wanted_by m actor → IsSomeAnd wanted (λ w. IsLeastInTheWay c.latches actor w.page w.mode by) → (new : Machine) × Works m actor (outcomes.Blocked by) new × ShowsMachine d c new
+  blocked wanted by is least =
+      let its = subst (λ (o : Option Wanted). IsSomeAnd o (λ w. IsLeastInTheWay c.latches actor w.page w.mode by)) is least in
+      (m, inl (by, subst (λ (t : LatchTable). IsSomeAnd (wanted_by m actor) (λ w. IsLeastInTheWay t actor w.page w.mode by)) (sym step.shows.latches) its, (refl, refl)), step.shows)
+
+  pub way_free : (wanted : Option Wanted) → wanted ≡ wanted_by m actor → IfSome wanted (λ w. IsGrantable c.latches actor w.page w.mode) → HasWayFree m actor
+  way_free wanted is free =
+      subst (λ (t : LatchTable). IfSome (wanted_by m actor) (λ w. IsGrantable t actor w.page w.mode)) (sym step.shows.latches)
+      (subst (λ (o : Option Wanted). IfSome o (λ w. IsGrantable c.latches actor w.page w.mode)) is free)
+
+  -- what says whether the log is ready
+  abbrev pub SaysUnready : Bool → Type 0
+  SaysUnready b = (activity : Activity) → StandsAs c actor activity → (IsTrue b ↔ (IsTrue (may_commit activity c.store.meta (looked_live c.store activity)) × (¬ (IsReady c.store))))
+
+  abbrev MayChangeUnready : StoreState → Type 0
+  MayChangeUnready st = IsTrue (may_commit (m.activity actor) st.meta (looked_live st (m.activity actor))) × (¬ (IsReady st))
+
+  pub unready : (b : Bool) → SaysUnready b → b ≡ true → IsUnready m actor
+  unready b says is = inl (subst MayChangeUnready (sym step.shows.store) ((says (m.activity actor) stands).0 is))
+
+  pub ready : (b : Bool) → SaysUnready b → b ≡ false → ¬ (IsUnready m actor)
+  ready b says is (inl change) = let yes : b ≡ true = (says (m.activity actor) stands).1 (subst MayChangeUnready step.shows.store change) in let never : false ≡ true = sym is ∙ yes in cc
+  ready b says is (inr crowded) = crowded.0
+
+  pub works_may : m.stop ≡ None → IsWorking (m.activity actor) → HasWayFree m actor → ¬ (IsUnready m actor) → MayWork m actor
+  works_may runs works free is_ready = record { goes_on = step.goes_on; runs = runs; working = works; free = free; ready = is_ready }
+
+-- ---- the ways in which it works
+
+no_operation : (why : DropWhy) (idle : Activity) (hand : Hand) → (gives_up_hand why idle hand).op ≡ None
+no_operation why idle Empty = refl
+no_operation why idle (HasLine line) = refl
+no_operation why idle (HasJob job) = refl
+
+module _ {D : Type 0} (model : D → DiskModel) (x y : D) (c after : RunningCore) (m : Machine) (actor : ℕ) (may : MayLatch actor) (work : MayWork m actor) (same : y ≡ x) where
+  pub given_up : (why : DropWhy) (line : Option ℕ) (outcome : Outcome) → Halts m actor (GivesUp why) (model x) c → line ≡ number_of (hand_of (m.activity actor))
+      → ((state : Activity) → IsWorking state → class_of state ≡ class_for actor → line ≡ number_of (hand_of state) → DoesDeed actor (gives_up why state) outcome c after)
+      → (new : Machine) × Works m actor outcome new × ShowsMachine (model y) after new
+  given_up why line outcome halts is does =
+      let deed : Deed = gives_up why (m.activity actor) in
+      let done : DoesDeed actor deed outcome c after = does (m.activity actor) work.working (work.goes_on.kept.classes actor) is in
+      let none : deed.op ≡ None = no_operation why (idle_of (class_of (m.activity actor))) (hand_of (m.activity actor)) in
+      let shown = deed_shows (model x) c after m actor deed outcome may halts.shows done work.goes_on.kept.lines_in_turn (given_up_number m why (m.activity actor) work.working)
+          (keeps_none (model x) c.store after.store _ deed.op none done.store) in
+      (shown.0, inr (inr (work.free, work.ready, inr (inl (record { why = why; fetched = c.store; brings = halts.brings; cause = halts.cause; performs = shown.1 })))),
+      subst (λ (k : D). ShowsMachine (model k) after shown.0) (sym same) shown.2)
+
+  -- a page was damaged
+  pub stopped : (why : StopWhy) (before : RunningCore) (outcome : Outcome) → Halts m actor (Stops why) (model x) c → StandsAs before actor (m.activity actor) → c.activities ≡ before.activities
+      → outcome ≡ outcomes.Stopped why → after ≡ with_stop why c → (new : Machine) × Works m actor outcome new × ShowsMachine (model y) after new
+  stopped WriteFault before outcome halts stood intact says stops = absurd halts.cause
+  stopped (Damaged page why) before outcome halts stood intact says stops =
+      let so : slice_set c.activities (actor - 1) (m.activity actor) ≡ c.activities = set_as_it_was c.activities (actor - 1) (m.activity actor) (ap (λ (l : List Activity). slice_get l (actor - 1)) intact ∙ stood) in
+      let shows : ShowsMachine (model x) c (with_pages c m) = subst (λ (l : List Activity). ShowsMachine (model x) (record c { activities = l }) (with_pages c m)) so halts.shows in
+      let new : Machine = stopped_for (Damaged page why) (with_pages c m) in
+      (new, inr (inr (work.free, work.ready, inr (inr (record { fetched = c.store; brings = halts.brings; page = page; why = why; bad = halts.cause; says = says; stops = refl })))),
+      subst (λ (k : D). ShowsMachine (model k) after new) (sym same) (subst (λ (s : RunningCore). ShowsMachine (model x) s new) (sym stops) (shown_stopped (Damaged page why) (model x) c (with_pages c m) shows)))

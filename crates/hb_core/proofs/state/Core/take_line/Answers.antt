@@ -1,0 +1,27 @@
+use Rattle.std.proofs.Common.{rules, ◌≡◌, ◌≤◌, ◌-◌, ◌==◌, ℕ, Some, None, length, ◌+◌, ◌*◌, ◌<◌, ◌/◌, ◌%◌, Bool, true, false, nat_eq, nat_lt, List, [], ◌∷◌, ◌++◌, slice_index_or, slice_set, bit_and, bit_or, Fits, w8, w32, w64, Bor, MutBor}
+use Rattle.std.specs.List.{position, slice_get}
+use Rattle.hb_latch.specs.Tables.{MayLatch}
+use Rattle.hb_activity.specs.declared.activities.Activity.TheVariants as at
+use Rattle.hb_core.specs.declared.outcomes.Outcome.TheVariants as outcomes
+use Rattle.hb_core.specs.CoreSeen.{core_seen, core_disk}
+use Rattle.hb_core.specs.Machines.{Machine}
+use Rattle.hb_poster.specs.PosterRows.{IsPostingOf}
+use Rattle.hb_core.specs.Moving.{StandsAs, with_standing, with_stop}
+use Rattle.hb_core.specs.Showing.{ShowsMachine}
+use Rattle.hb_core.specs.Steps.{AwaitsPlace, GetsReady, StepsTo}
+use Rattle.hb_core.specs.Taking.{TakesNextLine, TakesNextPosting}
+use Rattle.hb_core.specs.Working.{IsWorking, MayStep}
+use Rattle.std.proofs.Common.{inl, inr, refl, ◌∙◌}
+use Rattle.hb_core.proofs.Running.NextLine.{none_left, takes_line}
+use Rattle.hb_core.proofs.state.Core.take_line.Goals as goal
+
+pub returns-in_default-clause-takes : goal.returns-in_default-clause-takes
+returns-in_default-clause-takes g c = λ behind at_behind.
+    inl (refl, refl, none_left c.args.actor c.from-session.result behind c.args.self.now.behind c.args.self.now.script.lines c.as_slice.result.now c.from-session.ensures at_behind c.as_slice.ensures c.in_default.ensures)
+
+pub returns-clause-takes : goal.returns-clause-takes
+returns-clause-takes g c = λ behind at_behind.
+    inr (refl, c.in-Some.place, c.copy_of_line-line.result,
+      takes_line c.args.actor c.from-session.result behind c.in-Some.place c.copy_of_line-line.result c.as_slice.result.now c.as_slice-2.result.now c.new-2.result c.new-4.result
+        (core_seen c.args.self.now) (core_seen c.go_behind.new.self) (core_seen c.stand.new.self) c.from-session.ensures at_behind c.as_slice.ensures c.as_slice-2.ensures c.in-Some.ensures
+        ? (c.new-2.ensures ∙ c.new.ensures.items) (c.new-4.ensures ∙ c.new-3.ensures.items) c.go_behind.ensures.gone c.stand.ensures.stands)
