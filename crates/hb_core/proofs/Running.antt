@@ -6,3 +6,4 @@ pub mod Brought
 pub mod Coming
 pub mod Numbered
 pub mod Postings
+pub mod Wants
