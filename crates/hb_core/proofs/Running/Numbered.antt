@@ -191,7 +191,7 @@ module _ (m : Machine) (d : DiskModel) (c : RunningCore) (actor : ℕ) (latches 
   given_number : (fresh after : ℕ) → IsNext st fresh after → HasPages m actor (Some (fresh, after)) e (with_store st c)
   given_number fresh after next = record {
     may = come.may;
-    brings = brings_wider m _ _ st (λ id may. elim may [ | inl wants ↦ inl wants | inr head ↦ inr (refl, head) ]) joined;
+    brings = brings_wider m _ _ st (λ id may. elim may [ inl wants ↦ inl wants | inr head ↦ inr (refl, head) ]) joined;
     shows = shown;
     at_hand = hand_then;
     number = (needs_then, number_is st fresh after next);

@@ -123,9 +123,12 @@ module _ (m : Machine) (d : DiskModel) (c : RunningCore) (actor : ℕ) (latches 
       needed (at.PosterGrow job) same makes (room, grows) =
           (room, page, subst (λ (a : Activity). IsAtHand now a wants.0 page) same hand_at, grow_same (given_sight c.store.meta [] None) (sight now) job page refl grows)
       needed (at.PosterAgain job parent) same makes (room, lacks) =
-          let asks = with_parent job parent same in
-          (room, page, subst (λ (a : Activity). IsAtHand now a wants.0 page) same hand_at,
-            (asks.over, asks.live, subst (λ (o : Option LivePage). MakesPage (at.PosterAgain job parent) c.store.meta page o) asks.live lacks))
+          let asks = with_parent job parent same in (
+            room,
+            page,
+            subst (λ (a : Activity). IsAtHand now a wants.0 page) same hand_at,
+            (asks.over, asks.live, subst (λ (o : Option LivePage). MakesPage (at.PosterAgain job parent) c.store.meta page o) asks.live lacks),
+          )
       needed a same makes says = absurd makes
 
       same_hand : (a : Activity) (root : LivePage) → IsAtHand now a wants.0 root → root ≡ page
@@ -134,9 +137,11 @@ module _ (m : Machine) (d : DiskModel) (c : RunningCore) (actor : ℕ) (latches 
       said : (a : Activity) → activity ≡ a → MayMakeToPost a → Needs a → Says a
       said (at.PosterGrow job) same makes (room, root, other, grows) =
           (room, grow_same (sight now) (given_sight c.store.meta [] None) job page refl (subst (MayGrow (sight now) job) (same_hand (at.PosterGrow job) root other) grows))
-      said (at.PosterAgain job parent) same makes (room, child, other, (over, there, lacks)) =
-          (room, subst (λ (o : Option LivePage). MakesPage (at.PosterAgain job parent) c.store.meta page o) (sym there)
-            (subst (λ (x : LivePage). LacksRoom over x job.point c.store.meta.icap) (same_hand (at.PosterAgain job parent) child other) lacks))
+      said (at.PosterAgain job parent) same makes (room, child, other, (over, there, lacks)) = (
+        room,
+        subst (λ (o : Option LivePage). MakesPage (at.PosterAgain job parent) c.store.meta page o) (sym there)
+            (subst (λ (x : LivePage). LacksRoom over x job.point c.store.meta.icap) (same_hand (at.PosterAgain job parent) child other) lacks),
+      )
       said a same makes needs = absurd makes
 
       number_needed : (b : Bool) → IsTrue b ↔ Says activity → IsTrue b ↔ NeedsNumber (m.activity actor) (wanted_by m actor) now
