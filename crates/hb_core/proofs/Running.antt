@@ -25,3 +25,4 @@ pub mod Numbered
 pub mod Postings
 pub mod Unanswered
 pub mod Begun
+pub mod Wants
