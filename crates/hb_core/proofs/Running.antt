@@ -22,3 +22,4 @@ pub mod Latching
 pub mod NextLine
 pub mod Numbered
 pub mod Postings
+pub mod StepTaken

@@ -1,0 +1,59 @@
+use Rattle.hb_core.proofs.state.Core.step.Goals as goal
+use Rattle.std.proofs.Common.{◌∙◌}
+use Rattle.hb_core.proofs.Running.StepTaken.{await_step, counted, idle_stays, lies_behind, line_step, posting_step, runs_so, stopped_stays, with_taken, work_step, works_then}
+use Rattle.hb_core.specs.CoreSeen.{core_disk, core_seen}
+
+pub returns-in-Some : goal.returns-in-Some
+returns-in-Some g c = record { steps = λ m step.
+  stopped_stays (g.D.Device.model (core_disk c.args.self.now)) (with_taken c.saturating_add-self.result (core_seen c.args.self.now)) m c.args.actor c.in-Some.why c.copy_of.result
+  (counted c.saturating_add-self.result (g.D.Device.model (core_disk c.args.self.now)) (core_seen c.args.self.now) m step).shows c.in-Some.is c.copy_of.ensures }
+
+pub take_line-requires-clause-behind : goal.take_line-requires-clause-behind
+take_line-requires-clause-behind g c =
+    lies_behind (g.D.Device.model (core_disk c.args.self.now)) (core_seen c.args.self.now) c.requires.may.0 c.args.actor c.activity.result.now c.requires.actor c.requires.may.1 c.in_default.is c.activity.ensures c.in-SessionIdle.is
+
+pub await_place-requires-clause-may : goal.await_place-requires-clause-may
+await_place-requires-clause-may g c =
+    let step = counted c.saturating_add-self.result (g.D.Device.model (core_disk c.args.self.now)) (core_seen c.args.self.now) c.requires.may.0 c.requires.may.1 in
+    (c.requires.may.0, step, step.shows.stop ∙ c.in_default.is)
+
+pub work-requires-clause-may : goal.work-requires-clause-may
+work-requires-clause-may g c =
+    let step = counted c.saturating_add-self.result (g.D.Device.model (core_disk c.args.self.now)) (core_seen c.args.self.now) c.requires.may.0 c.requires.may.1 in
+    (c.requires.may.0, step, step.shows.stop ∙ c.in_default.is,
+    works_then (g.D.Device.model (core_disk c.args.self.now)) (with_taken c.saturating_add-self.result (core_seen c.args.self.now)) c.requires.may.0 c.args.actor c.activity.result.now c.requires.actor step c.in_default.is c.activity.ensures
+    (λ number place reply is. c.in_default-activity.not-SessionAwait number reply place is) c.in_default-activity.not-SessionIdle c.in_default-activity.not-PosterIdle c.in_default-activity.not-ConsolidatorIdle c.in_default-activity.not-Flusher)
+
+pub returns-in-SessionIdle : goal.returns-in-SessionIdle
+returns-in-SessionIdle g c = record { steps = λ m step.
+  let mine = counted c.saturating_add-self.result (g.D.Device.model (core_disk c.args.self.now)) (core_seen c.args.self.now) m step in
+  line_step g.D.Device.model (core_disk c.args.self.now) (core_disk c.take_line.new.self) (with_taken c.saturating_add-self.result (core_seen c.args.self.now)) (core_seen c.take_line.new.self) m c.args.actor c.activity.result.now c.take_line.result
+  c.requires.actor mine c.in_default.is c.activity.ensures c.in-SessionIdle.is c.take_line.ensures.disk c.take_line.ensures.takes }
+
+pub returns-in-SessionAwait : goal.returns-in-SessionAwait
+returns-in-SessionAwait g c = record { steps = λ m step.
+  let mine = counted c.saturating_add-self.result (g.D.Device.model (core_disk c.args.self.now)) (core_seen c.args.self.now) m step in
+  await_step g.D.Device.model (core_disk c.args.self.now) (core_disk c.await_place.new.self) (with_taken c.saturating_add-self.result (core_seen c.args.self.now)) (core_seen c.await_place.new.self) m c.args.actor c.activity.result.now c.await_place.result
+  c.requires.actor mine c.in_default.is c.activity.ensures c.in-SessionAwait.line c.in-SessionAwait.place c.in-SessionAwait.reply c.in-SessionAwait.is
+  (λ runs is. c.await_place.ensures.awaits m c.in-SessionAwait.line c.in-SessionAwait.reply mine runs is) }
+
+pub returns-in-PosterIdle : goal.returns-in-PosterIdle
+returns-in-PosterIdle g c = record { steps = λ m step.
+  let mine = counted c.saturating_add-self.result (g.D.Device.model (core_disk c.args.self.now)) (core_seen c.args.self.now) m step in
+  posting_step g.D.Device.model (core_disk c.args.self.now) (core_disk c.take_posting.new.self) (with_taken c.saturating_add-self.result (core_seen c.args.self.now)) (core_seen c.take_posting.new.self) m c.args.actor c.activity.result.now c.take_posting.result
+  c.requires.actor mine c.in_default.is c.activity.ensures c.in-PosterIdle.is c.take_posting.ensures.disk c.take_posting.ensures.takes }
+
+pub returns-in_default-activity : goal.returns-in_default-activity
+returns-in_default-activity g c = record { steps = λ m step.
+  let mine = counted c.saturating_add-self.result (g.D.Device.model (core_disk c.args.self.now)) (core_seen c.args.self.now) m step in
+  work_step g.D.Device.model (core_disk c.args.self.now) (core_disk c.work.new.self) (with_taken c.saturating_add-self.result (core_seen c.args.self.now)) (core_seen c.work.new.self) m c.args.actor c.activity.result.now c.work.result
+  c.requires.actor mine c.in_default.is c.activity.ensures
+  (works_then (g.D.Device.model (core_disk c.args.self.now)) (with_taken c.saturating_add-self.result (core_seen c.args.self.now)) m c.args.actor c.activity.result.now c.requires.actor mine c.in_default.is c.activity.ensures
+  (λ number place reply is. c.in_default-activity.not-SessionAwait number reply place is) c.in_default-activity.not-SessionIdle c.in_default-activity.not-PosterIdle c.in_default-activity.not-ConsolidatorIdle c.in_default-activity.not-Flusher)
+  (λ runs works. c.work.ensures.works m mine runs works) }
+
+pub returns-in-ConsolidatorIdle : goal.returns-in-ConsolidatorIdle
+returns-in-ConsolidatorIdle g c = record { steps = λ m step.
+  let mine = counted c.saturating_add-self.result (g.D.Device.model (core_disk c.args.self.now)) (core_seen c.args.self.now) m step in
+  idle_stays (g.D.Device.model (core_disk c.args.self.now)) (with_taken c.saturating_add-self.result (core_seen c.args.self.now)) m c.args.actor c.activity.result.now
+  c.requires.actor mine c.in_default.is c.activity.ensures c.in-ConsolidatorIdle.is }
