@@ -8,7 +8,6 @@ pub mod LinesAhead
 pub mod LineTaken
 pub mod PlacesAwaited
 pub mod MadeReady
-pub mod StepTaken
 pub mod Looks
 pub mod Boxes
 pub mod Brought
@@ -26,3 +25,4 @@ pub mod Postings
 pub mod Unanswered
 pub mod Begun
 pub mod Wants
+pub mod StepTaken
