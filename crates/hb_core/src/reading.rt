@@ -1,5 +1,5 @@
 //! A core that has taken no step, and what can be read of a core.
-ghost use Rattle.std.specs.Prelude.{◌≡◌, ◌↔◌, ◌<◌, ◌≤◌, ◌+◌, ◌^◌, ◌++◌, length, map, filter, count_by, not, vec_capacity, IfOk, IfErr, IsSome, IsTrue, Some, None, [], replicate};
+ghost use Rattle.std.specs.Prelude.{◌≡◌, ◌↔◌, ◌<◌, ◌≤◌, ◌+◌, ◌^◌, ◌++◌, length, map, filter, count_by, not, vec_capacity, IfOk, IfErr, IsSome, IsTrue, Some, None, [], ◌∷◌, replicate, if◌then◌else◌};
 ghost use Rattle.std.specs.List.{slice_get};
 ghost use Rattle.hb_latch.specs.Tables.{MayLatch};
 ghost use Rattle.hb_store.specs.Seen.{seen_as, disk_of};
@@ -36,7 +36,6 @@ impl<D: Device> Core<D> {
     /// memory afterwards. For want of memory the store comes back.
     ///
     /// Over a store that has begun it shows each machine of these lines that has taken no step.
-    #[tactic(auto, using(crate::proofs::Running::Begun::begun_shows))]
     pub fn over(
         alloc: Global,
         store: Store<D>,
@@ -49,6 +48,20 @@ impl<D: Device> Core<D> {
         ensures shows { IfOk result (λ c. (m : Machine) → IsBegun m → m.lines ≡ script.lines → m.store ≡ seen_as store →
             (IsSome (D.model (disk_of store)).told → ShowsFiles (D.model (disk_of store)) m) → ((D.model (disk_of store)).told ≡ None → m.files ≡ None) →
             ShowsMachine (D.model (core_disk c)) (core_seen c) m) }
+    {
+        Core::begun(alloc, store, script)
+    }
+
+    /// The same, with what the core holds alone.
+    fn begun(
+        alloc: Global,
+        store: Store<D>,
+        script: Script,
+    ) -> Result<Core<D>, (NoMemory, Store<D>)>
+        requires few { length script.lines < 2 ^ 32 }
+        ensures seen { IfOk result (λ c. core_seen c ≡ begun_core script.lines script.steps (seen_as store)) }
+        ensures disk { IfOk result (λ c. core_disk c ≡ disk_of store) }
+        ensures back { IfErr result (λ e. e.1 ≡ store) }
     {
         match rooms(alloc, script.lines.as_slice().len()) {
             Ok((jobs, order)) => Ok(Core {
@@ -108,9 +121,7 @@ impl<D: Device> Core<D> {
     {
         let mut left = 0;
         for (place, line) in self.script.lines.as_slice().iter().enumerate() {
-            if self.is_left(place, line) {
-                left += 1;
-            }
+            left += self.count_left(place, line);
         }
         left
     }
@@ -123,9 +134,7 @@ impl<D: Device> Core<D> {
             into.new.items ≡ into.old.items ++ map (λ line. line.number) (filter (λ line. not (is_answered line.number m.answered)) m.lines) }
     {
         for (place, line) in self.script.lines.as_slice().iter().enumerate() {
-            if self.is_left(place, line) {
-                into.push(line.number).unwrap();
-            }
+            self.put_left(place, line, into);
         }
     }
 
@@ -152,6 +161,33 @@ impl<D: Device> Core<D> {
     {
         let Core { store, order, .. } = self;
         (store, order)
+    }
+
+    /// 1 where the line, which stands at the place, has no answer, else 0.
+    fn count_left(&self, place: usize, line: &Line) -> u32
+        requires first { 1 ≤ line.now.session }
+        requires last { line.now.session ≤ 16 }
+        ensures value { (m : Machine) → ShowsMachine (D.model (core_disk self.now)) (core_seen self.now) m → MachineKeeps m → slice_get m.lines place ≡ Some line.now →
+            result ≡ (if is_answered line.now.number m.answered then 0 else 1) }
+        ensures few { result ≤ 1 }
+    {
+        if self.is_left(place, line) { 1 } else { 0 }
+    }
+
+    /// Puts the number of the line, which stands at the place, into the vector, where it has no answer.
+    #[tactic(auto, using(crate::proofs::Running::Unanswered::puts_one, crate::proofs::Running::Unanswered::puts_none))]
+    fn put_left(&self, place: usize, line: &Line, into: &mut Vec<u32>)
+        requires first { 1 ≤ line.now.session }
+        requires last { line.now.session ≤ 16 }
+        requires room { length into.old.items < vec_capacity into.old }
+        ensures put { (m : Machine) → ShowsMachine (D.model (core_disk self.now)) (core_seen self.now) m → MachineKeeps m → slice_get m.lines place ≡ Some line.now →
+            into.new.items ≡ into.old.items ++ (if is_answered line.now.number m.answered then [] else line.now.number ∷ []) }
+        ensures room { vec_capacity into.old ≤ vec_capacity into.new }
+        ensures few { length into.new.items ≤ length into.old.items + 1 }
+    {
+        if self.is_left(place, line) {
+            into.push(line.number).unwrap();
+        }
     }
 
     /// Whether the line, which stands at the place, has no answer: its session hasn't come to it, or has it in hand.

@@ -1,16 +1,17 @@
 -- A core that has taken no step shows a machine that has taken none.
-use Rattle.std.proofs.Common.{◌≡◌, ◌≢◌, ℕ, suc, ◌+◌, ◌-◌, ◌<◌, ◌≤◌, List, [], ◌∷◌, ◌++◌, drop, length, map, get_or, replicate, slice_get, All, Option, Some, None, IsSome, false, refl, sym, ap, subst, ◌∙◌, arith}
+use Rattle.std.proofs.Common.{◌≡◌, ◌≢◌, inl, inr, ℕ, ◌==◌, cond, Result, Ok, Err, IfOk, ◌+◌, ◌-◌, ◌<◌, ◌≤◌, List, [], ◌∷◌, ◌++◌, drop, length, map, get_or, replicate, slice_get, All, Option, Some, None, IsSome, false, refl, sym, ap, subst, ◌∙◌, arith}
 use Rattle.std.specs.FinMap as finite
-use Rattle.std.proofs.lemmas.Bool.{false≢true}
+use Rattle.std.proofs.lemmas.Bool.{cases_lt, false≢true}
 use Rattle.std.proofs.lemmas.List.{get_or-replicate}
-use Rattle.std.proofs.lemmas.Option.{get_or_from_slice_get, slice_get_within}
+use Rattle.std.proofs.lemmas.Option.{get_or_from_slice_get, slice_get-get_or, slice_get_within}
 use Rattle.hb_disk.specs.Model.{DiskModel}
-use Rattle.hb_latch.specs.Tables.{LatchTable, MayLatch, mode_at}
+use Rattle.hb_latch.specs.Tables.{LatchTable, MayLatch, latch_cmp, mode_at}
 use Rattle.hb_latch.proofs.KeyOrder.{exact_keys, latch_order}
 use Rattle.hb_set.specs.declared.scripts.Answered.{Answered}
 use Rattle.hb_set.specs.declared.scripts.Line.{Line}
 use Rattle.hb_set.specs.Order.{Entry}
 use Rattle.hb_activity.specs.declared.activities.Activity.{Activity}
+use Rattle.hb_activity.specs.declared.activities.Activity.TheVariants.{SessionIdle, PosterIdle, ConsolidatorIdle, Flusher}
 use Rattle.hb_activity.specs.Classes.{Class, Sessions, Posters, Consolidators, Flushers, idle_of}
 use Rattle.hb_point.specs.SessionRows.{is_answered}
 use Rattle.hb_store.specs.States.{StoreState}
@@ -21,6 +22,9 @@ use Rattle.hb_core.specs.Machines.{Machine}
 use Rattle.hb_core.specs.Showing.{HasTurn, IsDealtWith, IsToCome, ShowsFiles, ShowsMachine, number_in_hand}
 use Rattle.hb_core.specs.SteppingLaws.{IsBegun}
 use Rattle.hb_core.specs.Taking.{all_idle, begun_core}
+use Rattle.hb_lemmas.proofs.Booleans.{at_other}
+use Rattle.hb_lemmas.proofs.Lists.{get-longer}
+use Rattle.hb_core.specs.Showing.{RunningCore}
 use Rattle.hb_core.proofs.Machines.Beginnings.{beginning_keeps}
 
 empty_hand : (kind : Class) → number_in_hand (idle_of kind) ≡ None
@@ -30,38 +34,45 @@ empty_hand Consolidators = refl
 empty_hand Flushers = refl
 
 -- where each of the 19 stands
-at_rest : (n : ℕ) → n < 19 → slice_get all_idle n ≡ Some (idle_of (class_for (suc n)))
-at_rest 0 low = refl
-at_rest 1 low = refl
-at_rest 2 low = refl
-at_rest 3 low = refl
-at_rest 4 low = refl
-at_rest 5 low = refl
-at_rest 6 low = refl
-at_rest 7 low = refl
-at_rest 8 low = refl
-at_rest 9 low = refl
-at_rest 10 low = refl
-at_rest 11 low = refl
-at_rest 12 low = refl
-at_rest 13 low = refl
-at_rest 14 low = refl
-at_rest 15 low = refl
-at_rest 16 low = refl
-at_rest 17 low = refl
-at_rest 18 low = refl
-at_rest other low = absurd (omega (arith, low))
+abbrev IsAtRest : ℕ → Type 0
+IsAtRest actor = slice_get all_idle (actor - 1) ≡ Some (idle_of (class_for actor))
 
-stands_at_rest : (actor : ℕ) → MayLatch actor → slice_get all_idle (actor - 1) ≡ Some (idle_of (class_for actor))
-stands_at_rest actor may =
-    let same : suc (actor - 1) ≡ actor = omega (arith, may.from_1) in
-    at_rest (actor - 1) (omega (arith, may.from_1, may.to_19)) ∙ ap (λ (n : ℕ). Some (idle_of (class_for n))) same
+session_at : (actor : ℕ) → 1 ≤ actor → actor < 17 → IsAtRest actor
+session_at actor low high =
+    let class : class_for actor ≡ Sessions =
+    at_other actor 17 Posters (cond (actor == 18) Consolidators (cond (actor == 19) Flushers Sessions)) (λ e. less 17 (omega arith) e)
+    ∙ at_other actor 18 Consolidators (cond (actor == 19) Flushers Sessions) (λ e. less 18 (omega arith) e)
+    ∙ at_other actor 19 Flushers Sessions (λ e. less 19 (omega arith) e) in
+    get-longer (replicate 16 SessionIdle) (PosterIdle ∷ ConsolidatorIdle ∷ Flusher ∷ []) (actor - 1) SessionIdle
+    (slice_get-get_or (replicate 16 SessionIdle) (actor - 1) SessionIdle inside ∙ ap Some (get_or-replicate 16 (actor - 1) SessionIdle SessionIdle inside))
+    ∙ ap (λ (k : Class). Some (idle_of k)) (sym class)
+  where
+    inside : actor - 1 < 16
+    inside = omega (arith, low, high)
+
+    less : (n : ℕ) → 17 ≤ n → actor ≡ n → ⊥
+    less n most same = omega (arith, high, most, same)
+
+stands_at_rest : (actor : ℕ) → MayLatch actor → IsAtRest actor
+stands_at_rest actor may = elim (cases_lt actor 17) [
+  | inl low ↦ session_at actor may.from_1 low
+  | inr above ↦ elim (cases_lt actor 18) [
+    | inl low ↦ at_number 17 (omega (arith, above, low)) refl
+    | inr over ↦ elim (cases_lt actor 19) [
+      | inl low ↦ at_number 18 (omega (arith, over, low)) refl
+      | inr last ↦ at_number 19 (omega (arith, last, may.to_19)) refl
+    ]
+  ]
+]
+  where
+    at_number : (n : ℕ) → n ≡ actor → IsAtRest n → IsAtRest actor
+    at_number n same rest = subst IsAtRest same rest
 
 unlatched_is : (table : LatchTable) → ((actor page : ℕ) → mode_at table actor page ≡ None) → table ≡ finite.empty
-unlatched_is table none = finite.same_map latch_order exact_keys _ _ (λ q. none q.0 q.1)
+unlatched_is table none = finite.same_map latch_order exact_keys table finite.empty (λ q. none q.0 q.1 ∙ sym (finite.get-empty latch_cmp q))
 
 no_answer : (m : Machine) (line : Line) → m.answered ≡ [] → HasAnswer m line → ⊥
-no_answer m line none answer = false≢true (sym (ap (λ (as : List Answered). is_answered line.number as) none) ∙ answer)
+no_answer m line none answer = false≢true (sym (ap (λ (all : List Answered). is_answered line.number all) none) ∙ answer)
 
 turn_so : (m : Machine) (session behind : ℕ) → IsBegun m → slice_get (replicate 16 0) (session - 1) ≡ Some behind → HasTurn m session behind
 turn_so m session behind begun there =
@@ -94,3 +105,12 @@ begun_shows d m lines steps store begun lines_so store_so tells silent = record 
   tells = tells;
   silent = silent;
 }
+
+-- so of a core that was made, if it was
+pub over_shows : {C E D : Type 0} (result : Result C E) (seen : C → RunningCore) (disk : C → D) (model : D → DiskModel) (d : D) (lines : List Line) (steps : List ℕ) (store : StoreState)
+    → IfOk result (λ c. seen c ≡ begun_core lines steps store) → IfOk result (λ c. disk c ≡ d)
+    → IfOk result (λ c. (m : Machine) → IsBegun m → m.lines ≡ lines → m.store ≡ store → (IsSome (model d).told → ShowsFiles (model d) m) → ((model d).told ≡ None → m.files ≡ None) → ShowsMachine (model (disk c)) (seen c) m)
+over_shows (Ok c) seen disk model d lines steps store seen_so disk_so = λ m begun lines_so store_so tells silent.
+    subst (λ (r : RunningCore). ShowsMachine (model (disk c)) r m) (sym seen_so)
+    (subst (λ e. ShowsMachine (model e) (begun_core lines steps store) m) (sym disk_so) (begun_shows (model d) m lines steps store begun lines_so store_so tells silent))
+over_shows (Err e) seen disk model d lines steps store seen_so disk_so = tt

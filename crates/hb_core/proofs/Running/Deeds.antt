@@ -85,19 +85,19 @@ performed actor place line joins next stands_as outcome old done queued stood ne
     let after : stands_as ≡ deed.next = is_next ∙ ap (λ (n : ℕ). placed_at n next.then) at_end in
     let jobs_so : queued ≡ record old { store = done.store; jobs = queued.jobs } = queued_so ∙ ap (with_jobs queued.jobs) kept in
     let stood_so : stood ≡ record (with_standing actor stands_as old) { store = done.store; jobs = queued.jobs; latches = stood.latches } =
-        stands.rest ∙ ap (λ (c : RunningCore). record (with_standing actor stands_as c) { latches = stood.latches }) jobs_so in
+    stands.rest ∙ ap (λ (c : RunningCore). record (with_standing actor stands_as c) { latches = stood.latches }) jobs_so in
     let all : new ≡ record (with_standing actor stands_as old) { store = done.store; jobs = queued.jobs; latches = stood.latches; order = old.order ++ pushed joins } =
-        joined ∙ ap (λ (c : RunningCore). with_order (c.order ++ pushed joins) c) stood_so in
+    joined ∙ ap (λ (c : RunningCore). with_order (c.order ++ pushed joins) c) stood_so in
     let numbers : pushed joins ≡ numbers_joined deed.joins = ap pushed (is_joined ∙ ap (λ (l : Option ℕ). joins_order l next.then next.fate) hand) ∙ joined_so (hand_of state) next.then next.fate in
     does_deed actor deed outcome old new done.store old.jobs queued.jobs stood.latches
-      (is_said ∙ ap (λ (l : Option ℕ). said l next.fate) hand ∙ said_so (hand_of state) next.fate)
-      refl
-      (subst (λ (c : RunningCore). AddsJobs next.jobs.items c.jobs queued.jobs) kept adds)
-      (subst (λ (n : ℕ). MayDo next.op n old.store done.store) at_end does)
-      (subst (λ (a : Activity). Relatches actor (latches_held done.store a) old.latches stood.latches) after
-        (subst (λ (c : RunningCore). Relatches actor (latches_held c.store stands_as) c.latches stood.latches) jobs_so stands.latches))
-      (all ∙ ap (λ (l : List ℕ). record (with_standing actor stands_as old) { store = done.store; jobs = queued.jobs; latches = stood.latches; order = old.order ++ l }) numbers
-        ∙ ap (λ (a : Activity). record (with_standing actor a old) { store = done.store; jobs = queued.jobs; latches = stood.latches; order = old.order ++ numbers_joined deed.joins }) after)
+    (is_said ∙ ap (λ (l : Option ℕ). said l next.fate) hand ∙ said_so (hand_of state) next.fate)
+    refl
+    (subst (λ (c : RunningCore). AddsJobs next.jobs.items c.jobs queued.jobs) kept adds)
+    (subst (λ (n : ℕ). MayDo next.op n old.store done.store) at_end does)
+    (subst (λ (a : Activity). Relatches actor (latches_held done.store a) old.latches stood.latches) after
+    (subst (λ (c : RunningCore). Relatches actor (latches_held c.store stands_as) c.latches stood.latches) jobs_so stands.latches))
+    (all ∙ ap (λ (l : List ℕ). record (with_standing actor stands_as old) { store = done.store; jobs = queued.jobs; latches = stood.latches; order = old.order ++ l }) numbers
+    ∙ ap (λ (a : Activity). record (with_standing actor a old) { store = done.store; jobs = queued.jobs; latches = stood.latches; order = old.order ++ numbers_joined deed.joins }) after)
 
 -- an actor that stands elsewhere, and does nothing else
 pub just_stands : (actor : ℕ) (deed : Deed) (outcome : Outcome) (old new : RunningCore) → outcome ≡ outcome_of deed.says → LeavesBy deed.takes old.jobs old.jobs → AddsJobs deed.adds old.jobs old.jobs
@@ -105,17 +105,17 @@ pub just_stands : (actor : ℕ) (deed : Deed) (outcome : Outcome) (old new : Run
 just_stands actor deed outcome old new says takes adds does joins stands =
     let order : old.order ≡ old.order ++ numbers_joined deed.joins = sym (append-nil old.order) ∙ ap (λ (l : List ℕ). old.order ++ l) joins in
     does_deed actor deed outcome old new old.store old.jobs old.jobs new.latches says takes adds does stands.latches
-      (stands.rest ∙ ap (λ (l : List ℕ). record (with_standing actor deed.next old) { latches = new.latches; order = l }) order)
+    (stands.rest ∙ ap (λ (l : List ℕ). record (with_standing actor deed.next old) { latches = new.latches; order = l }) order)
 
 -- the oldest job is taken
 pub took_job : (actor : ℕ) (job : Job) (next : Activity) (old left new : RunningCore) → LeavesFirst job.kind old.jobs job left.jobs → left ≡ with_jobs left.jobs old → Stands actor next left new
     → DoesDeed actor (takes_job next job) outcomes.Moved old new
 took_job actor job next old left new takes left_so stands =
     let rest : new ≡ record (with_standing actor next old) { latches = new.latches; jobs = left.jobs } =
-        stands.rest ∙ ap (λ (c : RunningCore). record (with_standing actor next c) { latches = new.latches }) left_so in
+    stands.rest ∙ ap (λ (c : RunningCore). record (with_standing actor next c) { latches = new.latches }) left_so in
     does_deed actor (takes_job next job) outcomes.Moved old new old.store left.jobs left.jobs new.latches refl takes refl refl
-      (subst (λ (c : RunningCore). Relatches actor (latches_held c.store next) c.latches new.latches) left_so stands.latches)
-      (rest ∙ ap (λ (l : List ℕ). record (with_standing actor next old) { latches = new.latches; jobs = left.jobs; order = l }) (sym (append-nil old.order)))
+    (subst (λ (c : RunningCore). Relatches actor (latches_held c.store next) c.latches new.latches) left_so stands.latches)
+    (rest ∙ ap (λ (l : List ℕ). record (with_standing actor next old) { latches = new.latches; jobs = left.jobs; order = l }) (sym (append-nil old.order)))
 
 in_hand : (state : Activity) → IsWorking state → number_in_hand state ≡ number_of (hand_of state)
 in_hand (at.SessionWalk line held rest found) works = refl
@@ -133,13 +133,13 @@ pub line_ran_out : (actor : ℕ) (state idle : Activity) (number : ℕ) (old new
     → Stands actor idle old new → DoesDeed actor (runs_out state) (outcomes.Answered number replies.Full) old new
 line_ran_out actor state idle number old new works class is idle_is stands =
     run_out_is (λ (deed : Deed). DoesDeed actor deed (outcomes.Answered number replies.Full) old new) state
-      (λ line hand.
-        let same : number ≡ line.number = same_Some number line.number (is ∙ in_hand state works ∙ ap number_of hand) in
-        let stood : idle ≡ at.SessionIdle = idle_is ∙ ap idle_of (sym class ∙ line_is_sessions state line hand) in
-        just_stands actor (answers_now line.number replies.Full) (outcomes.Answered number replies.Full) old new (ap (λ (n : ℕ). outcomes.Answered n replies.Full) same) refl refl refl refl
-          (subst (λ (a : Activity). Stands actor a old new) stood stands))
-      (λ job hand. absurd (none_there number (is ∙ in_hand state works ∙ ap number_of hand)))
-      (λ hand. absurd (none_there number (is ∙ in_hand state works ∙ ap number_of hand)))
+    (λ line hand.
+    let same : number ≡ line.number = same_Some number line.number (is ∙ in_hand state works ∙ ap number_of hand) in
+    let stood : idle ≡ at.SessionIdle = idle_is ∙ ap idle_of (sym class ∙ line_is_sessions state line hand) in
+    just_stands actor (answers_now line.number replies.Full) (outcomes.Answered number replies.Full) old new (ap (λ (n : ℕ). outcomes.Answered n replies.Full) same) refl refl refl refl
+    (subst (λ (a : Activity). Stands actor a old new) stood stands))
+    (λ job hand. absurd (none_there number (is ∙ in_hand state works ∙ ap number_of hand)))
+    (λ hand. absurd (none_there number (is ∙ in_hand state works ∙ ap number_of hand)))
   where
     none_there : (n : ℕ) → Some n ≡ None → ⊥
     none_there n e = cc
@@ -148,9 +148,9 @@ pub job_ran_out : (actor : ℕ) (state idle : Activity) (old new : RunningCore) 
     → Stands actor idle old new → DoesDeed actor (runs_out state) outcomes.Moved old new
 job_ran_out actor state idle old new works class is idle_is stands =
     run_out_is (λ (deed : Deed). DoesDeed actor deed outcomes.Moved old new) state
-      (λ line hand. absurd (none_there line.number (is ∙ in_hand state works ∙ ap number_of hand)))
-      (λ job hand. stood)
-      (λ hand. stood)
+    (λ line hand. absurd (none_there line.number (is ∙ in_hand state works ∙ ap number_of hand)))
+    (λ job hand. stood)
+    (λ hand. stood)
   where
     none_there : (n : ℕ) → None ≡ Some n → ⊥
     none_there n e = cc

@@ -61,7 +61,7 @@ takes_first actor behind place line d rest found old middle new first is no_box 
     let at_first = position-Some (is_of actor) lines place d first in
     let here : line ≡ get_or lines place d = is ∙ sym (get_or-drop behind old.lines place d) in
     let walk : at.SessionWalk line None rest found ≡ at.SessionWalk line None [] [] =
-        ap (λ (r : List Area). at.SessionWalk line None r found) no_box ∙ ap (λ (f : List Record). at.SessionWalk line None [] f) no_record in
+    ap (λ (r : List Area). at.SessionWalk line None r found) no_box ∙ ap (λ (f : List Record). at.SessionWalk line None [] f) no_record in
     record {
       skipped = λ k x lt. skip k x (omega (arith, simp length-take at lt));
       there = slice_get-get_or lines place d at_first.0 ∙ ap Some (sym here);
@@ -74,7 +74,7 @@ takes_first actor behind place line d rest found old middle new first is no_box 
     skip : (k : ℕ) (x : Line) → k < place → (get_or (take place (drop behind old.lines)) k x).session ≢ actor
     skip k x low =
         eqb-false (get_or (take place (drop behind old.lines)) k x).session actor
-          (ap (λ (l : Line). l.session == actor) (get_or-take place (drop behind old.lines) k x low) ∙ (position-Some (is_of actor) (drop behind old.lines) place x first).2 k low)
+        (ap (λ (l : Line). l.session == actor) (get_or-take place (drop behind old.lines) k x low) ∙ (position-Some (is_of actor) (drop behind old.lines) place x first).2 k low)
 
 pub takes_line : (actor session behind place : ℕ) (line d : Line) (shown again : List Line) (rest : List Area) (found : List Record) (old middle new : RunningCore)
     → session ≡ actor → slice_get old.behind (actor - 1) ≡ Some behind → shown ≡ old.lines → again ≡ old.lines
@@ -85,8 +85,8 @@ pub takes_line : (actor session behind place : ℕ) (line d : Line) (shown again
 takes_line actor session behind place line d shown again rest found old middle new same there is is_again first line_is no_box no_record gone stands =
     let from = behind_is actor session behind old.behind same there in
     takes_first actor behind place line d rest found old middle new
-      (sym (first ∙ ap (λ (l : List Line). position (is_of actor) l) (front_is actor session behind old.behind old.lines shown same there is)))
-      (line_is ∙ ap (λ (l : List Line). get_or l (slice_index_or old.behind (session - 1) 0 + place) d) is_again ∙ ap (λ (n : ℕ). get_or old.lines (n + place) d) from)
-      no_box no_record
-      (gone ∙ ap (λ (n : ℕ). record old { behind = slice_set old.behind (actor - 1) (n + place + 1) }) from)
-      stands
+    (sym (first ∙ ap (λ (l : List Line). position (is_of actor) l) (front_is actor session behind old.behind old.lines shown same there is)))
+    (line_is ∙ ap (λ (l : List Line). get_or l (slice_index_or old.behind (session - 1) 0 + place) d) is_again ∙ ap (λ (n : ℕ). get_or old.lines (n + place) d) from)
+    no_box no_record
+    (gone ∙ ap (λ (n : ℕ). record old { behind = slice_set old.behind (actor - 1) (n + place + 1) }) from)
+    stands

@@ -12,7 +12,7 @@ use Rattle.hb_activity.specs.Queue.{AddsJob, AddsJobs}
 use Rattle.hb_lemmas.proofs.Lists.{first_member, later_member, member_cases, no_member}
 
 decided : {P : Type 0} (b : Bool) → Decides b P → P ⊎ (P → ⊥)
-decided b tells = elim (cases_Bool b) [ | inl so ↦ inl (tells.0 so) | inr off ↦ inr (λ p. false≢true (sym off ∙ tells.1 p)) ]
+decided b tells = elim (cases_Bool b) [ inl so ↦ inl (tells.0 so) | inr off ↦ inr (λ p. false≢true (sym off ∙ tells.1 p)) ]
 
 same_kind : (k l : JobKind) → (k ≡ l) ⊎ (k ≢ l)
 same_kind Post Post = inl refl
@@ -44,7 +44,7 @@ waits_or_not (x ∷ jobs) job = elim (same_job x job) [
   | inl same ↦ inl (subst (Contains (x ∷ jobs)) same (first_member x jobs))
   | inr off ↦ elim (waits_or_not jobs job) [
     | inl later ↦ inl (later_member x jobs job later)
-    | inr none ↦ inr (λ h. elim (member_cases x jobs job h) [ | inl same ↦ off same | inr later ↦ none later ])
+    | inr none ↦ inr (λ h. elim (member_cases x jobs job h) [ inl same ↦ off same | inr later ↦ none later ])
   ]
 ]
 
@@ -60,7 +60,7 @@ added old new job r tells there joins dropped = elim (waits_or_not old job) [
 ]
   where
     at : (b : Bool) → (IsTrue b ↔ (Contains old job ⊎ (length old < JOBS))) → OnFalse b (new ≡ old) → JOBS ≤ length old → (Contains old job → ⊥) → new ≡ old
-    at true tells dropped full off = elim (tells.0 refl) [ | inl waits ↦ absurd (off waits) | inr few ↦ absurd (omega (arith, few, full)) ]
+    at true tells dropped full off = elim (tells.0 refl) [ inl waits ↦ absurd (off waits) | inr few ↦ absurd (omega (arith, few, full)) ]
     at false tells dropped full off = dropped
 
 pub first_added : (jobs : List Job) (job : Job) (old new : List Job) (r : Bool) → false ≡ (length jobs == 0) → job ≡ slice_index_or jobs 0 job
