@@ -23,3 +23,4 @@ pub mod Latching
 pub mod NextLine
 pub mod Numbered
 pub mod Postings
+pub mod Touched

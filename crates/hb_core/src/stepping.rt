@@ -112,6 +112,7 @@ impl<D: Device> Core<D> {
         ensures awaits { (m : Machine) (number : ℕ) (reply : _) → MayStep (D.model (core_disk self.old)) (core_seen self.old) m → m.stop ≡ None →
             m.activity actor ≡ at.SessionAwait number reply place →
             (new : Machine) × AwaitsPlace m actor number reply place result new × ShowsMachine (D.model (core_disk self.new)) (core_seen self.new) new }
+        ensures touches { Touches (D.model (core_disk self.old)) (core_seen self.old) result (D.model (core_disk self.new)) (core_seen self.new) }
     {
         if place < self.settled() {
             return self.answer_kept(actor);
@@ -143,6 +144,7 @@ impl<D: Device> Core<D> {
         requires may { (m : Machine) × MayStep (D.model (core_disk self.old)) (core_seen self.old) m × (m.stop ≡ None) × IsWorking (m.activity actor) }
         ensures readies { (m : Machine) → MayStep (D.model (core_disk self.old)) (core_seen self.old) m → m.stop ≡ None → IsWorking (m.activity actor) →
             (new : Machine) × GetsReady m actor result new × ShowsMachine (D.model (core_disk self.new)) (core_seen self.new) new }
+        ensures touches { Touches (D.model (core_disk self.old)) (core_seen self.old) result (D.model (core_disk self.new)) (core_seen self.new) }
     {
         match self.store.flush_step() {
             Ok(Flushed::Forced) => Outcome::Helped,

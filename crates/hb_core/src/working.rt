@@ -12,6 +12,7 @@ ghost use Rattle.hb_core.specs.Machines.{Machine};
 ghost use Rattle.hb_core.specs.Moving.{StandsAs, number_of};
 ghost use Rattle.hb_core.specs.Showing.{ShowsMachine};
 ghost use Rattle.hb_core.specs.Steps.{Works};
+ghost use Rattle.hb_core.specs.Touching.{Touches};
 ghost use Rattle.hb_core.specs.Working.{Halts, IsStop, IsWorking, MayStep, MayWork};
 
 use crate::halts::Halt;
@@ -28,6 +29,7 @@ impl<D: Device> Core<D> {
         requires may { (m : Machine) × MayStep (D.model (core_disk self.old)) (core_seen self.old) m × (m.stop ≡ None) × IsWorking (m.activity actor) }
         ensures works { (m : Machine) → MayStep (D.model (core_disk self.old)) (core_seen self.old) m → m.stop ≡ None → IsWorking (m.activity actor) →
             (new : Machine) × Works m actor result new × ShowsMachine (D.model (core_disk self.new)) (core_seen self.new) new }
+        ensures touches { Touches (D.model (core_disk self.old)) (core_seen self.old) result (D.model (core_disk self.new)) (core_seen self.new) }
     {
         let wanted = self.wanted(actor);
         if let Some(by) = self.in_the_way(actor, wanted) {
