@@ -24,3 +24,6 @@ pub mod NextLine
 pub mod Numbered
 pub mod Postings
 pub mod Touched
+pub mod Unanswered
+pub mod Begun
+pub mod Wants

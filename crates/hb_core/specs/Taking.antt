@@ -1,11 +1,13 @@
 -- How an idle actor of a core takes a line or a job, and a core that has taken no step.
-use Rattle.std.specs.Prelude.{◌≡◌, ◌≢◌, ◌⊎◌, ℕ, ◌-◌, ◌+◌, All, List, [], ◌∷◌, ◌++◌, take, drop, replicate, Some, None}
+use Rattle.std.specs.Prelude.{◌≡◌, ◌≢◌, ◌⊎◌, ℕ, ◌-◌, ◌+◌, All, List, [], ◌∷◌, ◌++◌, take, drop, replicate, Some, None, is_some, if◌then◌else◌}
 use Rattle.std.specs.List.{slice_get, slice_set}
 use Rattle.std.specs.FinMap as map
 use Rattle.hb_activity.specs.declared.activities.Activity.{Activity}
 use Rattle.hb_activity.specs.declared.activities.Activity.TheVariants as at
 use Rattle.hb_activity.specs.declared.jobs.Job.{Job}
-use Rattle.hb_activity.specs.declared.jobs.JobKind.TheVariants.{Post}
+use Rattle.hb_activity.specs.declared.jobs.JobKind.{JobKind}
+use Rattle.hb_activity.specs.Classes.{job_in_work}
+use Rattle.hb_activity.specs.declared.jobs.JobKind.TheVariants.{Post, Merge}
 use Rattle.hb_activity.specs.Deeds.{takes_job}
 use Rattle.hb_poster.specs.PosterRows.{IsPostingOf}
 use Rattle.hb_set.specs.declared.scripts.Line.{Line}
@@ -34,6 +36,14 @@ abbrev pub TakesNextPosting : ℕ → Outcome → RunningCore → RunningCore �
 TakesNextPosting actor outcome old new =
     ((outcome ≡ outcomes.Idle) × (new ≡ old) × All (λ (job : Job). job.kind ≢ Post) old.jobs)
     ⊎ ((job : Job) × (next : Activity) × (job.kind ≡ Post) × IsPostingOf job old.store.meta.height next × DoesDeed actor (takes_job next job) outcome old new)
+
+-- who works off the jobs of a kind, and how many an actor has in work
+abbrev pub worker_for : JobKind → ℕ
+worker_for Post = 17
+worker_for Merge = 18
+
+abbrev pub jobs_in_work : Activity → ℕ
+jobs_in_work activity = if is_some (job_in_work activity) then 1 else 0
 
 -- all actors with nothing in hand, and a core that has taken no step
 abbrev pub all_idle : List Activity

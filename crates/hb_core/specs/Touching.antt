@@ -8,6 +8,8 @@ use Rattle.hb_activity.specs.declared.dropping.DropWhy.TheVariants as drops
 use Rattle.hb_store.specs.declared.stops.WriteFault.{WriteFault}
 use Rattle.hb_store.specs.declared.stops.StopWhy.TheVariants as stops
 use Rattle.hb_store.specs.Forced.{WritesOldest}
+use Rattle.hb_core.specs.declared.halts.Halt.{Halt}
+use Rattle.hb_core.specs.declared.halts.Halt.TheVariants.{GivesUp, Stops}
 use Rattle.hb_core.specs.declared.outcomes.Outcome.{Outcome}
 use Rattle.hb_core.specs.declared.outcomes.Outcome.TheVariants as outcomes
 use Rattle.hb_core.specs.Showing.{RunningCore}
@@ -22,6 +24,10 @@ EndsByRead other = ⊥
 pub record ReadsAtMost (d : DiskModel) (old : RunningCore) (outcome : Outcome) (e : DiskModel) : Type 0 where
   pub only : ReadsOnly (EndsByRead outcome) d e
   pub no_write : outcome ≡ outcomes.Stopped stops.WriteFault → old.stop ≡ Some stops.WriteFault
+
+abbrev pub IsReadHalt : Halt → Type 0
+IsReadHalt (GivesUp why) = why ≡ drops.ReadFault
+IsReadHalt (Stops why) = ⊥
 
 -- It wrote the oldest group that waits to the log, and is stopped where that failed. It ended for no read.
 pub record Forces (d : DiskModel) (old : RunningCore) (outcome : Outcome) (e : DiskModel) (new : RunningCore) : Type 0 where

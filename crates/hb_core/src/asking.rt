@@ -1,5 +1,5 @@
 //! Which page a step asks for, and what it tests of that page before it latches it.
-ghost use Rattle.std.specs.Prelude.{◌≡◌, ◌↔◌, ◌≢◌, true, length, IsTrue, IsSome, Some, IfErr, IfSome, OnOk, MatchOption};
+ghost use Rattle.std.specs.Prelude.{◌≡◌, ◌↔◌, ◌≢◌, length, IsTrue, IsSome, Some, IfErr, IfSome, OnOk, MatchOption};
 ghost use Rattle.hb_activity.specs.Changing.{may_commit};
 ghost use Rattle.hb_activity.specs.Wanting.{HasLeafAt};
 ghost use Rattle.hb_frag.specs.declared.pages.Page.TheVariants.{Live};
@@ -9,7 +9,7 @@ ghost use Rattle.hb_ops.specs.Given.{given as live_given};
 ghost use Rattle.hb_store.specs.States.{in_memory};
 ghost use Rattle.hb_store.specs.declared.stops.Why.TheVariants.{Extent};
 ghost use Rattle.hb_core.specs.Asking.{HasAskedBox, IsNotAsked, asked_box, box_at, looked_live, looked_page, whole_box};
-ghost use Rattle.hb_core.specs.CoreSeen.{core_seen, core_disk};
+ghost use Rattle.hb_core.specs.CoreSeen.{core_seen};
 ghost use Rattle.hb_core.specs.Looking.{FailsTest, MayLook, PassesTest, wanted_in};
 ghost use Rattle.hb_core.specs.Machines.{live_here};
 ghost use Rattle.hb_core.specs.Moving.{StandsAs};

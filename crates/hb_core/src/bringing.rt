@@ -1,5 +1,5 @@
 //! How a step gets its pages, and asks its decider.
-ghost use Rattle.std.specs.Prelude.{◌≡◌, ◌↔◌, IsTrue, IsSome, IfOk, IfErr, OnOk, OnErr, length};
+ghost use Rattle.std.specs.Prelude.{◌≡◌, ◌↔◌, IsTrue, IsSome, IfOk, IfErr, OnOk, OnErr, length, IsErrAnd};
 ghost use Rattle.hb_latch.specs.Tables.{MayLatch};
 ghost use Rattle.hb_activity.specs.Deciding.{deed_of};
 ghost use Rattle.hb_activity.specs.Classes.{idle_of};
@@ -17,6 +17,8 @@ ghost use Rattle.hb_core.specs.Looking.{FailsTest, MayLook, PassesTest, number_o
 ghost use Rattle.hb_core.specs.Machines.{Machine};
 ghost use Rattle.hb_core.specs.Moving.{StandsAs, placed, with_standing};
 ghost use Rattle.hb_core.specs.Rows.{Row};
+ghost use Rattle.hb_disk.specs.Calls.{ReadsOnly};
+ghost use Rattle.hb_core.specs.Touching.{IsReadHalt};
 ghost use Rattle.hb_core.specs.Working.{Halts, HasCome, HasPages, IsWorking, MayStep, MayWork, with_pages};
 
 use crate::halts::Halt;
@@ -39,6 +41,7 @@ impl<D: Device> Core<D> {
         ensures halts { IfErr result (λ halt. (m : Machine) → MayStep (D.model (core_disk self.old)) (core_seen self.old) m → MayWork m actor →
             Halts m actor halt (D.model (core_disk self.new)) (core_seen self.new)) }
         ensures intact { (core_seen self.new).activities ≡ (core_seen self.old).activities }
+        ensures reads { ReadsOnly (IsErrAnd result IsReadHalt) (D.model (core_disk self.old)) (D.model (core_disk self.new)) }
     {
         let Some(wanted) = wanted else {
             return Ok(());
@@ -86,6 +89,7 @@ impl<D: Device> Core<D> {
         ensures halts { IfErr result (λ halt. (m : Machine) → HasCome m actor (D.model (core_disk self.old)) (core_seen self.old) →
             Halts m actor halt (D.model (core_disk self.new)) (core_seen self.new)) }
         ensures intact { (core_seen self.new).activities ≡ (core_seen self.old).activities }
+        ensures reads { ReadsOnly (IsErrAnd result IsReadHalt) (D.model (core_disk self.old)) (D.model (core_disk self.new)) }
     {
         if !self.needs_number(actor, wanted) {
             return Ok(None);

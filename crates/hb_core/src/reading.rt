@@ -1,5 +1,6 @@
 //! A core that has taken no step, and what can be read of a core.
-ghost use Rattle.std.specs.Prelude.{◌≡◌, ◌<◌, ◌≤◌, ◌^◌, length, vec_capacity, IfOk, IfErr, IsSome, Some, None, [], replicate};
+ghost use Rattle.std.specs.Prelude.{◌≡◌, ◌↔◌, ◌<◌, ◌≤◌, ◌+◌, ◌^◌, ◌++◌, length, map, filter, count_by, not, vec_capacity, IfOk, IfErr, IsSome, IsTrue, Some, None, [], replicate};
+ghost use Rattle.std.specs.List.{slice_get};
 ghost use Rattle.hb_latch.specs.Tables.{MayLatch};
 ghost use Rattle.hb_store.specs.Seen.{seen_as, disk_of};
 ghost use Rattle.hb_store.specs.States.{in_memory};
@@ -9,15 +10,19 @@ ghost use Rattle.hb_wal.specs.Log.{mark_of};
 ghost use Rattle.hb_core.specs.CoreSeen.{core_seen, core_disk};
 ghost use Rattle.hb_activity.specs.Classes.{idle_of};
 ghost use Rattle.hb_core.specs.KeptFits.{class_for};
-ghost use Rattle.hb_core.specs.Machines.{live_here};
+ghost use Rattle.hb_core.specs.Machines.{Machine, live_here};
 ghost use Rattle.hb_core.specs.Moving.{StandsAs};
-ghost use Rattle.hb_core.specs.Taking.{all_idle, begun_core};
-ghost use Rattle.hb_core.specs.Showing.{number_in_hand};
+ghost use Rattle.hb_activity.specs.Queue.{is_of};
+ghost use Rattle.hb_point.specs.SessionRows.{is_answered};
+ghost use Rattle.hb_core.specs.KeptMachine.{MachineKeeps};
+ghost use Rattle.hb_core.specs.SteppingLaws.{IsBegun};
+ghost use Rattle.hb_core.specs.Taking.{all_idle, begun_core, jobs_in_work, worker_for};
+ghost use Rattle.hb_core.specs.Showing.{ShowsFiles, ShowsMachine, number_in_hand};
 
 use crate::halts::copy_of;
 use crate::state::{ACTORS, Core, POSTER, SESSIONS};
 use arrayvec::ArrayVec;
-use hb_activity::{Activity, JobKind, Jobs};
+use hb_activity::{Activity, JOBS, JobKind, Jobs};
 use hb_disk::{Device, Disk};
 use hb_frag::{LivePage, Page};
 use hb_latch::Latches;
@@ -29,6 +34,9 @@ use std::alloc::Global;
 impl<D: Device> Core<D> {
     /// A core over a store of which no page is latched yet. It reserves the order and the jobs, so that these take no
     /// memory afterwards. For want of memory the store comes back.
+    ///
+    /// Over a store that has begun it shows each machine of these lines that has taken no step.
+    #[tactic(auto, using(crate::proofs::Running::Begun::begun_shows))]
     pub fn over(
         alloc: Global,
         store: Store<D>,
@@ -38,6 +46,9 @@ impl<D: Device> Core<D> {
         ensures seen { IfOk result (λ c. core_seen c ≡ begun_core script.lines script.steps (seen_as store)) }
         ensures disk { IfOk result (λ c. core_disk c ≡ disk_of store) }
         ensures back { IfErr result (λ e. e.1 ≡ store) }
+        ensures shows { IfOk result (λ c. (m : Machine) → IsBegun m → m.lines ≡ script.lines → m.store ≡ seen_as store →
+            (IsSome (D.model (disk_of store)).told → ShowsFiles (D.model (disk_of store)) m) → ((D.model (disk_of store)).told ≡ None → m.files ≡ None) →
+            ShowsMachine (D.model (core_disk c)) (core_seen c) m) }
     {
         match rooms(alloc, script.lines.as_slice().len()) {
             Ok((jobs, order)) => Ok(Core {
@@ -90,18 +101,27 @@ impl<D: Device> Core<D> {
     }
 
     /// How many lines have no answer.
-    pub fn left(&self) -> u32 {
-        self.script
-            .lines
-            .as_slice()
-            .iter()
-            .enumerate()
-            .filter(|(place, line)| self.is_left(*place, line))
-            .count() as u32
+    pub fn left(&self) -> u32
+        requires shows { (m : Machine) × ShowsMachine (D.model (core_disk self.now)) (core_seen self.now) m × MachineKeeps m }
+        ensures { (m : Machine) → ShowsMachine (D.model (core_disk self.now)) (core_seen self.now) m → MachineKeeps m →
+            result ≡ count_by (λ line. not (is_answered line.number m.answered)) m.lines }
+    {
+        let mut left = 0;
+        for (place, line) in self.script.lines.as_slice().iter().enumerate() {
+            if self.is_left(place, line) {
+                left += 1;
+            }
+        }
+        left
     }
 
-    /// Puts the numbers of the lines without an answer into the vector, in their order.
-    pub fn unanswered(&self, into: &mut Vec<u32>) {
+    /// Puts the numbers of the lines without an answer into the vector, in their order. There is room for those of all lines.
+    pub fn unanswered(&self, into: &mut Vec<u32>)
+        requires shows { (m : Machine) × ShowsMachine (D.model (core_disk self.now)) (core_seen self.now) m × MachineKeeps m }
+        requires room { length into.old.items + length (core_seen self.now).lines ≤ vec_capacity into.old }
+        ensures { (m : Machine) → ShowsMachine (D.model (core_disk self.now)) (core_seen self.now) m → MachineKeeps m →
+            into.new.items ≡ into.old.items ++ map (λ line. line.number) (filter (λ line. not (is_answered line.number m.answered)) m.lines) }
+    {
         for (place, line) in self.script.lines.as_slice().iter().enumerate() {
             if self.is_left(place, line) {
                 into.push(line.number).unwrap();
@@ -110,8 +130,12 @@ impl<D: Device> Core<D> {
     }
 
     /// How many jobs of the kind wait or are in work.
-    pub fn jobs(&self, kind: JobKind) -> u32 {
-        self.jobs.count(kind) as u32 + u32::from(self.is_in_work(kind))
+    pub fn jobs(&self, kind: JobKind) -> u32
+        ensures { (m : Machine) → ShowsMachine (D.model (core_disk self.now)) (core_seen self.now) m →
+            result ≡ count_by (is_of kind) m.jobs + jobs_in_work (m.activity (worker_for kind)) }
+    {
+        prove!(self.jobs.as_slice().len() <= JOBS);
+        self.jobs.count(kind) as u32 + jobs_in_work(self.activity(worker_for(kind)))
     }
 
     /// How many steps were taken. The count stands still at its last value.
@@ -131,17 +155,17 @@ impl<D: Device> Core<D> {
     }
 
     /// Whether the line, which stands at the place, has no answer: its session hasn't come to it, or has it in hand.
-    fn is_left(&self, place: usize, line: &Line) -> bool {
+    fn is_left(&self, place: usize, line: &Line) -> bool
+        requires first { 1 ≤ line.now.session }
+        requires last { line.now.session ≤ 16 }
+        ensures { (m : Machine) → ShowsMachine (D.model (core_disk self.now)) (core_seen self.now) m → MachineKeeps m → slice_get m.lines place ≡ Some line.now →
+            result ≡ not (is_answered line.now.number m.answered) }
+    {
         let session = usize::from(line.session) - 1;
-        self.behind[session] <= place || self.line_in_hand(line.session) == Some(line.number)
-    }
-
-    /// Whether a worker has a job of the kind in work.
-    fn is_in_work(&self, kind: JobKind) -> bool {
-        match kind {
-            JobKind::Post => !matches!(self.activity(POSTER), Activity::PosterIdle),
-            JobKind::Merge => !matches!(self.activity(POSTER + 1), Activity::ConsolidatorIdle),
+        if self.behind[session] <= place {
+            return true;
         }
+        is_number(self.line_in_hand(line.session), line.number)
     }
 
     /// Where the actor stands.
@@ -183,6 +207,42 @@ impl<D: Disk> Core<D> {
         ensures { IsSome (D.model (core_disk self.now)).told → result ≡ (D.model (core_disk self.now)).clock }
     {
         self.store.clock()
+    }
+}
+
+/// Whether it is the line of the number that is in hand.
+fn is_number(hand: Option<u32>, number: u32) -> bool
+    ensures { IsTrue result ↔ (hand ≡ Some number) }
+{
+    hand == Some(number)
+}
+
+/// Who works off the jobs of the kind.
+fn worker_for(kind: JobKind) -> Actor
+    ensures value { result ≡ worker_for kind }
+    ensures may { MayLatch result }
+{
+    match kind {
+        JobKind::Post => POSTER,
+        JobKind::Merge => POSTER + 1,
+    }
+}
+
+/// How many jobs are in work where a worker stands so.
+fn jobs_in_work(activity: &Activity) -> u32
+    ensures value { result ≡ jobs_in_work activity.now }
+    ensures few { result ≤ 1 }
+{
+    match activity {
+        Activity::SessionIdle
+        | Activity::SessionWalk { .. }
+        | Activity::SessionSplit { .. }
+        | Activity::SessionPut { .. }
+        | Activity::SessionAwait { .. }
+        | Activity::PosterIdle
+        | Activity::ConsolidatorIdle
+        | Activity::Flusher => 0,
+        _ => 1,
     }
 }
 

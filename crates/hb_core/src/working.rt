@@ -1,5 +1,5 @@
 //! A step that wants a latch or changes the file.
-ghost use Rattle.std.specs.Prelude.{◌≡◌, ◌↔◌, None, IsTrue, IfOk, IfErr, IfSome, IsSomeAnd};
+ghost use Rattle.std.specs.Prelude.{◌≡◌, ◌↔◌, None, IsTrue, IfOk, IfErr, IsErrAnd, IfSome, IsSomeAnd};
 ghost use Rattle.hb_latch.specs.Tables.{IsGrantable, IsLeastInTheWay, MayLatch};
 ghost use Rattle.hb_activity.specs.Classes.{hand_of};
 ghost use Rattle.hb_core.specs.Acting.{DoesRow};
@@ -12,7 +12,8 @@ ghost use Rattle.hb_core.specs.Machines.{Machine};
 ghost use Rattle.hb_core.specs.Moving.{StandsAs, number_of};
 ghost use Rattle.hb_core.specs.Showing.{ShowsMachine};
 ghost use Rattle.hb_core.specs.Steps.{Works};
-ghost use Rattle.hb_core.specs.Touching.{Touches};
+ghost use Rattle.hb_disk.specs.Calls.{ReadsOnly};
+ghost use Rattle.hb_core.specs.Touching.{IsReadHalt, Touches};
 ghost use Rattle.hb_core.specs.Working.{Halts, IsStop, IsWorking, MayStep, MayWork};
 
 use crate::halts::Halt;
@@ -81,6 +82,7 @@ impl<D: Device> Core<D> {
         ensures halts { IfErr result (λ halt. (m : Machine) → MayStep (D.model (core_disk self.old)) (core_seen self.old) m → MayWork m actor →
             Halts m actor halt (D.model (core_disk self.new)) (core_seen self.new)) }
         // where the core is to be stopped, everybody stands as before
+        ensures reads { ReadsOnly (IsErrAnd result IsReadHalt) (D.model (core_disk self.old)) (D.model (core_disk self.new)) }
         ensures intact { IfErr result (λ halt. IsStop halt → (core_seen self.new).activities ≡ (core_seen self.old).activities) }
     {
         self.bring(actor, wanted)?;

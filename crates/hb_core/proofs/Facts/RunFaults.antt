@@ -11,6 +11,7 @@ use Rattle.hb_core.specs.Touching.{EndsByRead, Forces, ReadsAtMost, Touches}
 use Rattle.hb_core.specs.declared.outcomes.Outcome.{Outcome}
 use Rattle.hb_core.specs.declared.outcomes.Outcome.TheVariants as outcomes
 use Rattle.hb_disk.specs.Model.{DiskModel}
+use Rattle.hb_outside.proofs.Facts.CountLaws.{Rose-later}
 use Rattle.hb_outside.specs.Streams.{Rose}
 use Rattle.hb_set.specs.declared.commands.Reply.{Reply}
 use Rattle.hb_set.specs.declared.commands.Reply.TheVariants as replies
@@ -18,14 +19,10 @@ use Rattle.hb_set.specs.declared.scripts.Answered.{Answered}
 use Rattle.hb_store.specs.declared.stops.StopWhy.{StopWhy}
 use Rattle.hb_store.specs.declared.stops.StopWhy.TheVariants as stops
 
--- a count that rose, after which it didn't fall; and before which it didn't
-pub Rose-later : (a b c : ℕ) → a ≤ b → b ≤ c → Rose a b → Rose a c
-Rose-later a b c low high (inl less) = inl (omega (arith, less, high))
-Rose-later a b c low high (inr last) = elim (eq-or-lt_of_le high) [ inl same ↦ inr (sym same ∙ last) | inr less ↦ inl (omega (arith, low, less)) ]
-
-pub Rose-before : (a b c : ℕ) → a ≤ b → Rose b c → Rose a c
-Rose-before a b c low (inl less) = inl (omega (arith, low, less))
-Rose-before a b c low (inr last) = inr last
+-- a count that rose, and didn't fall after that
+pub rose_longer : (a b c : ℕ) → a ≤ b → b ≤ c → Rose a b → Rose a c
+rose_longer a b c low high (inl less) = inl (omega (arith, less, high))
+rose_longer a b c low high (inr last) = elim (eq-or-lt_of_le high) [ inl same ↦ inr (sym same ∙ last) | inr less ↦ inl (omega (arith, low, less)) ]
 
 -- ---- a reply `read fault` among the answers
 
@@ -82,8 +79,8 @@ module _ (d e f : DiskModel) (old new : RunningCore) (m mid next : Machine) (out
       record { reads = omega (arith, first, later); writes = omega (arith, low, same); read = λ has. read (fault_in answers given has); write = λ stop begun. write begun (stopped_when stop) }
     where
       read : HasReadFault answers ⊎ HasReadFault given → Rose d.read_faults f.read_faults
-      read (inl before) = Rose-later d.read_faults e.read_faults f.read_faults run.reads reads.only.reads.later (run.read before)
-      read (inr now) = Rose-before d.read_faults e.read_faults f.read_faults run.reads (reads.only.reads.cause (ends_by_read outcome clock given alike now))
+      read (inl before) = rose_longer d.read_faults e.read_faults f.read_faults run.reads reads.only.reads.later (run.read before)
+      read (inr now) = Rose-later d.read_faults e.read_faults f.read_faults run.reads (reads.only.reads.cause (ends_by_read outcome clock given alike now))
 
       rose : mid.stop ≡ Some stops.WriteFault → (m.stop ≡ Some stops.WriteFault → ⊥) → Rose d.write_faults f.write_faults
       rose stop begun = subst (λ (n : ℕ). Rose d.write_faults n) (sym reads.only.writes) (run.write stop begun)
@@ -105,8 +102,8 @@ module _ (d e f : DiskModel) (old new : RunningCore) (m mid next : Machine) (out
       read (inr now) = absurd (force.no_read (ends_by_read outcome clock given alike now))
 
       write : (m.stop ≡ Some stops.WriteFault → ⊥) → (mid.stop ≡ Some stops.WriteFault) ⊎ (outcome ≡ outcomes.Stopped stops.WriteFault) → Rose d.write_faults f.write_faults
-      write begun (inl stop) = Rose-later d.write_faults e.write_faults f.write_faults run.writes force.writes.wrote.faults.writes.later (run.write stop begun)
-      write begun (inr said) = Rose-before d.write_faults e.write_faults f.write_faults run.writes (force.writes.wrote.faults.writes.cause (force.says.1 said))
+      write begun (inl stop) = rose_longer d.write_faults e.write_faults f.write_faults run.writes force.writes.wrote.faults.writes.later (run.write stop begun)
+      write begun (inr said) = Rose-later d.write_faults e.write_faults f.write_faults run.writes (force.writes.wrote.faults.writes.cause (force.says.1 said))
 
   pub faults_more : Touches e old outcome f new → CountsFaults d f (answers ++ given) m.stop next.stop
   faults_more (inl reads) = after_reads reads

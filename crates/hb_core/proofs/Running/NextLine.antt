@@ -3,10 +3,10 @@ use Rattle.std.proofs.Common.{◌≡◌, ◌≢◌, ℕ, ◌+◌, ◌-◌, ◌<�
 use Rattle.std.specs.List.{position_or_len}
 use Rattle.std.proofs.lemmas.Bool.{cases_lt, eqb-true, eqb-false}
 use Rattle.std.proofs.lemmas.Bool.Decides.{Decides-ltb}
-use Rattle.std.proofs.lemmas.List.{get_or-drop, get_or-take, length-take}
+use Rattle.std.proofs.lemmas.List.{get_or-drop, get_or-take, length-take, take_rest}
 use Rattle.std.proofs.lemmas.List.Quantifiers.{position-Some}
 use Rattle.std.proofs.lemmas.List.Sums.{fails_before_first}
-use Rattle.std.proofs.lemmas.Option.{get_or_from_slice_get, slice_get_read}
+use Rattle.std.proofs.lemmas.Option.{get_or_from_slice_get, slice_get-get_or}
 use Rattle.hb_space.specs.Boxes.{Area}
 use Rattle.hb_space.specs.declared.records.Record.{Record}
 use Rattle.hb_set.specs.declared.scripts.Line.{Line}
@@ -38,52 +38,55 @@ behind_is : (actor session behind : ℕ) (behinds : List ℕ) → session ≡ ac
 behind_is actor session behind behinds same there =
     ap (λ (n : ℕ). get_or behinds (n - 1) 0) same ∙ get_or_from_slice_get behinds (actor - 1) behind 0 there
 
+abbrev rest_from : ℕ → List Line → List Line
+rest_from n lines = take (length lines - n) (drop n lines)
+
 front_is : (actor session behind : ℕ) (behinds : List ℕ) (lines shown : List Line) → session ≡ actor → slice_get behinds (actor - 1) ≡ Some behind → shown ≡ lines
-    → drop (slice_index_or behinds (session - 1) 0) shown ≡ drop behind lines
+    → rest_from (slice_index_or behinds (session - 1) 0) shown ≡ drop behind lines
 front_is actor session behind behinds lines shown same there is =
-    ap (λ (n : ℕ). drop n shown) (behind_is actor session behind behinds same there) ∙ ap (λ (l : List Line). drop behind l) is
+    take_rest shown (slice_index_or behinds (session - 1) 0) ∙ ap (λ (n : ℕ). drop n shown) (behind_is actor session behind behinds same there) ∙ ap (λ (l : List Line). drop behind l) is
 
 pub none_left : (actor session behind : ℕ) (behinds : List ℕ) (lines shown : List Line) → session ≡ actor → slice_get behinds (actor - 1) ≡ Some behind → shown ≡ lines
-    → None ≡ position (is_of actor) (drop (slice_index_or behinds (session - 1) 0) shown) → All (λ (l : Line). l.session ≢ actor) (drop behind lines)
+    → None ≡ position (is_of actor) (rest_from (slice_index_or behinds (session - 1) 0) shown) → All (λ (l : Line). l.session ≢ actor) (drop behind lines)
 none_left actor session behind behinds lines shown same there is none =
     let front = front_is actor session behind behinds lines shown same there is in
     none_among actor (drop behind lines) (sym (none ∙ ap (λ (l : List Line). position (is_of actor) l) front))
 
 -- the lines before the first one aren't the session's, and it is
-takes_first : (actor behind place : ℕ) (line : Line) (rest : List Area) (found : List Record) (old middle new : RunningCore) → position (is_of actor) (drop behind old.lines) ≡ Some place
-    → line ≡ get_or old.lines (behind + place) line → rest ≡ [] → found ≡ [] → middle ≡ record old { behind = slice_set old.behind (actor - 1) (behind + place + 1) }
+takes_first : (actor behind place : ℕ) (line d : Line) (rest : List Area) (found : List Record) (old middle new : RunningCore) → position (is_of actor) (drop behind old.lines) ≡ Some place
+    → line ≡ get_or old.lines (behind + place) d → rest ≡ [] → found ≡ [] → middle ≡ record old { behind = slice_set old.behind (actor - 1) (behind + place + 1) }
     → Stands actor (at.SessionWalk line None rest found) middle new → TakesLine actor behind place line old new
-takes_first actor behind place line rest found old middle new first is no_box no_record gone stands =
+takes_first actor behind place line d rest found old middle new first is no_box no_record gone stands =
     let lines : List Line = drop behind old.lines in
-    let at_first = position-Some (is_of actor) lines place line first in
-    let here : line ≡ get_or lines place line = is ∙ sym (get_or-drop behind old.lines place line) in
+    let at_first = position-Some (is_of actor) lines place d first in
+    let here : line ≡ get_or lines place d = is ∙ sym (get_or-drop behind old.lines place d) in
     let walk : at.SessionWalk line None rest found ≡ at.SessionWalk line None [] [] =
         ap (λ (r : List Area). at.SessionWalk line None r found) no_box ∙ ap (λ (f : List Record). at.SessionWalk line None [] f) no_record in
     record {
-      skipped = λ k d lt. skip k d (omega (arith, simp length-take at lt));
-      there = slice_get_read lines (length lines) place line refl at_first.0 here;
-      own = ap (λ (l : Line). l.session) here ∙ eqb-true (get_or lines place line).session actor at_first.1;
+      skipped = λ k x lt. skip k x (omega (arith, simp length-take at lt));
+      there = slice_get-get_or lines place d at_first.0 ∙ ap Some (sym here);
+      own = ap (λ (l : Line). l.session) here ∙ eqb-true (get_or lines place d).session actor at_first.1;
       latches = subst (λ (c : RunningCore). Relatches actor [] c.latches new.latches) gone stands.latches;
       rest = stands.rest ∙ ap (λ (c : RunningCore). record (with_standing actor (at.SessionWalk line None rest found) c) { latches = new.latches }) gone
           ∙ ap (λ (a : Activity). record (with_standing actor a old) { latches = new.latches; behind = slice_set old.behind (actor - 1) (behind + place + 1) }) walk;
     }
   where
-    skip : (k : ℕ) (d : Line) → k < place → (get_or (take place (drop behind old.lines)) k d).session ≢ actor
-    skip k d low =
-        eqb-false (get_or (take place (drop behind old.lines)) k d).session actor
-          (ap (λ (l : Line). l.session == actor) (get_or-take place (drop behind old.lines) k d low) ∙ (position-Some (is_of actor) (drop behind old.lines) place d first).2 k low)
+    skip : (k : ℕ) (x : Line) → k < place → (get_or (take place (drop behind old.lines)) k x).session ≢ actor
+    skip k x low =
+        eqb-false (get_or (take place (drop behind old.lines)) k x).session actor
+          (ap (λ (l : Line). l.session == actor) (get_or-take place (drop behind old.lines) k x low) ∙ (position-Some (is_of actor) (drop behind old.lines) place x first).2 k low)
 
-pub takes_line : (actor session behind place : ℕ) (line : Line) (shown again : List Line) (rest : List Area) (found : List Record) (old middle new : RunningCore)
+pub takes_line : (actor session behind place : ℕ) (line d : Line) (shown again : List Line) (rest : List Area) (found : List Record) (old middle new : RunningCore)
     → session ≡ actor → slice_get old.behind (actor - 1) ≡ Some behind → shown ≡ old.lines → again ≡ old.lines
-    → Some place ≡ position (is_of actor) (drop (slice_index_or old.behind (session - 1) 0) shown)
-    → line ≡ slice_index_or again (slice_index_or old.behind (session - 1) 0 + place) line → rest ≡ [] → found ≡ []
+    → Some place ≡ position (is_of actor) (rest_from (slice_index_or old.behind (session - 1) 0) shown)
+    → line ≡ slice_index_or again (slice_index_or old.behind (session - 1) 0 + place) d → rest ≡ [] → found ≡ []
     → middle ≡ record old { behind = slice_set old.behind (actor - 1) (slice_index_or old.behind (session - 1) 0 + place + 1) }
     → Stands actor (at.SessionWalk line None rest found) middle new → TakesLine actor behind place line old new
-takes_line actor session behind place line shown again rest found old middle new same there is is_again first line_is no_box no_record gone stands =
+takes_line actor session behind place line d shown again rest found old middle new same there is is_again first line_is no_box no_record gone stands =
     let from = behind_is actor session behind old.behind same there in
-    takes_first actor behind place line rest found old middle new
+    takes_first actor behind place line d rest found old middle new
       (sym (first ∙ ap (λ (l : List Line). position (is_of actor) l) (front_is actor session behind old.behind old.lines shown same there is)))
-      (line_is ∙ ap (λ (l : List Line). get_or l (slice_index_or old.behind (session - 1) 0 + place) line) is_again ∙ ap (λ (n : ℕ). get_or old.lines (n + place) line) from)
+      (line_is ∙ ap (λ (l : List Line). get_or l (slice_index_or old.behind (session - 1) 0 + place) d) is_again ∙ ap (λ (n : ℕ). get_or old.lines (n + place) d) from)
       no_box no_record
       (gone ∙ ap (λ (n : ℕ). record old { behind = slice_set old.behind (actor - 1) (n + place + 1) }) from)
       stands

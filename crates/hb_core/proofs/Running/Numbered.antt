@@ -1,32 +1,23 @@
 -- The number of a page that a row makes, and the first page of the free chain, which comes for it.
-use Rattle.std.proofs.Common.{◌≡◌, ◌≢◌, ◌⊎◌, ◌↔◌, inl, inr, ℕ, ◌+◌, ◌<◌, ◌≤◌, ◌==◌, Bool, true, false, cond, nat_lt, [], List, Option, Some, None, IfSome, IsSome, IsTrue, refl, sym, ap, ◌∙◌, subst, arith}
-use Rattle.std.specs.Option.{option_and_then, MatchOption}
+use Rattle.std.proofs.Common.{◌≡◌, ◌≢◌, ◌⊎◌, inl, inr, ℕ, ◌+◌, ◌<◌, ◌≤◌, ◌==◌, Bool, true, false, cond, nat_lt, List, Option, Some, None, IfSome, IsSome, refl, sym, ap, ◌∙◌, subst, arith}
 use Rattle.std.proofs.lemmas.Bool.{cases_Bool, eqb-true, eqb-false, false≢true, lt-ltb}
-use Rattle.std.proofs.lemmas.Option.{same_Some}
 use Rattle.hb_disk.specs.Model.{DiskModel}
-use Rattle.hb_frag.specs.declared.leaves.Leaf.TheVariants.{Child}
 use Rattle.hb_frag.specs.declared.pages.LivePage.{LivePage}
-use Rattle.hb_frag.specs.declared.pages.Page.{Page}
-use Rattle.hb_frag.specs.declared.pages.Page.TheVariants.{Live, Free}
-use Rattle.hb_frag.specs.Leaves.{Placed, leaf_at}
-use Rattle.hb_latch.specs.declared.modes.Mode.TheVariants.{Shared}
+use Rattle.hb_frag.specs.declared.pages.Page.TheVariants.{Live}
 use Rattle.hb_latch.specs.Tables.{MayLatch}
 use Rattle.hb_layout.specs.declared.limits.TheConstants.{HEIGHT_MAX}
 use Rattle.hb_layout.specs.declared.meta.Meta.{Meta}
 use Rattle.hb_lemmas.proofs.Options.{at_value, has_value, if_value}
 use Rattle.hb_ops.proofs.Facts.PageNumberLaws.{live_so}
 use Rattle.hb_ops.specs.Files.{FileState, if_live}
-use Rattle.hb_ops.specs.Sound.{FitsFile, IsSound}
+use Rattle.hb_ops.specs.Sound.{IsSound}
 use Rattle.hb_terms.specs.Plans.{LacksRoom}
 use Rattle.hb_activity.specs.declared.jobs.Job.{Job}
 use Rattle.hb_activity.specs.declared.wanting.Wanted.{Wanted}
 use Rattle.hb_activity.specs.declared.activities.Activity.{Activity}
 use Rattle.hb_activity.specs.declared.activities.Activity.TheVariants as at
 use Rattle.hb_activity.specs.Walks.{goal_of}
-use Rattle.hb_activity.specs.Wanting.{child_of, in_mode, named_child, wanted_of}
-use Rattle.hb_poster.specs.Asks.{MakesPage, MayBeAsked}
 use Rattle.hb_poster.specs.PosterRows.{MayGrow}
-use Rattle.hb_store.specs.Calls.{Fetched}
 use Rattle.hb_store.specs.Fetching.{Breaks, FetchesNot, IsNoPage, LooksUp}
 use Rattle.hb_store.specs.Keeps.{StoreKeeps, last_of}
 use Rattle.hb_store.specs.NextPage.{IsNext, IsNoHead, MayFetch}
@@ -36,21 +27,15 @@ use Rattle.hb_store.specs.declared.stops.FetchStop.TheVariants as fetches
 use Rattle.hb_store.specs.declared.stops.StopWhy.TheVariants as stops
 use Rattle.hb_store.specs.declared.stops.Why.{Why}
 use Rattle.hb_store.specs.declared.stops.Why.TheVariants.{Rule, Level, Extent}
-use Rattle.hb_core.specs.declared.halts.Halt.TheVariants.{GivesUp, Stops}
-use Rattle.hb_core.proofs.Memory.StillThere.{fetched_good}
+use Rattle.hb_core.specs.declared.halts.Halt.TheVariants.{Stops}
 use Rattle.hb_core.proofs.Running.Brought.{KeepsThere, brings_joined, brings_none, brings_numbered, brings_wider, fetch_brings, shows_store, with_store}
 use Rattle.hb_core.proofs.Running.Coming.{sound_where_told, told_or_not}
 use Rattle.hb_core.proofs.Running.Looks.{looked_stays}
 use Rattle.hb_core.proofs.Running.StandsElsewhere.{shows_but}
-use Rattle.hb_core.proofs.Walks.MayBeAsked.{children_may_be_asked}
-use Rattle.hb_core.specs.Acting.{HasPlanned, LacksNeeded, MayNeed, NeedsNumber}
-use Rattle.hb_core.specs.AllowedLaws.{AnyPage}
-use Rattle.hb_core.specs.AskedLaws.{AsksWithParent}
+use Rattle.hb_core.specs.Acting.{LacksNeeded, MayNeed, NeedsNumber}
 use Rattle.hb_core.specs.Asking.{AskedBox, HasAskedBox, asked_box, box_at, looked_live, wanted_by, whole_box}
 use Rattle.hb_core.specs.Fetching.{Brings, IsBadHead, IsFreeHead, IsWantedPage}
-use Rattle.hb_core.specs.Keeps.{HasSoundFile}
-use Rattle.hb_core.specs.Looking.{number_of_row, other_page}
-use Rattle.hb_core.specs.Machines.{Files, Machine, current_file, live_here, next_of, next_of_chain, sight, with_disk}
+use Rattle.hb_core.specs.Machines.{Machine, live_here, next_of, next_of_chain, sight, with_disk}
 use Rattle.hb_core.specs.Rows.{IsAtHand}
 use Rattle.hb_core.specs.Showing.{RunningCore, ShowsMachine}
 use Rattle.hb_core.specs.Stopping.{halt_of}
@@ -206,7 +191,7 @@ module _ (m : Machine) (d : DiskModel) (c : RunningCore) (actor : ℕ) (latches 
   given_number : (fresh after : ℕ) → IsNext st fresh after → HasPages m actor (Some (fresh, after)) e (with_store st c)
   given_number fresh after next = record {
     may = come.may;
-    brings = brings_wider m _ _ st (λ id may. elim may [ | inl wants ↦ inl wants | inr head ↦ inr (refl, head) ]) joined;
+    brings = brings_wider m _ _ st (λ id may. elim may [ inl wants ↦ inl wants | inr head ↦ inr (refl, head) ]) joined;
     shows = shown;
     at_hand = hand_then;
     number = (needs_then, number_is st fresh after next);

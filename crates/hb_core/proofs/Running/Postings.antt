@@ -1,12 +1,12 @@
 -- What the decider of the poster says of the number of a page is what the machine's row needs.
-use Rattle.std.proofs.Common.{◌≡◌, ◌⊎◌, ◌↔◌, inl, inr, ℕ, ◌-◌, ◌<◌, Bool, [], List, Option, Some, None, IfSome, IsSome, IsTrue, refl, sym, ap, ◌∙◌, subst}
+use Rattle.std.proofs.Common.{◌≡◌, ◌⊎◌, ◌↔◌, inl, inr, ℕ, ◌<◌, Bool, [], Option, Some, None, IsSome, IsTrue, refl, sym, ap, ◌∙◌, subst}
 use Rattle.std.specs.Option.{option_and_then}
+use Rattle.std.proofs.lemmas.Bool.{false≢true}
 use Rattle.std.proofs.lemmas.Option.{same_Some}
 use Rattle.hb_disk.specs.Model.{DiskModel}
-use Rattle.hb_frag.specs.declared.leaves.Leaf.TheVariants.{Child}
 use Rattle.hb_frag.specs.declared.pages.LivePage.{LivePage}
-use Rattle.hb_frag.specs.Leaves.{Placed, leaf_at}
-use Rattle.hb_latch.specs.declared.modes.Mode.TheVariants.{Exclusive, Shared}
+use Rattle.hb_frag.specs.Leaves.{Placed}
+use Rattle.hb_latch.specs.declared.modes.Mode.TheVariants.{Shared}
 use Rattle.hb_latch.specs.Tables.{MayLatch}
 use Rattle.hb_layout.specs.declared.meta.Meta.{Meta}
 use Rattle.hb_layout.specs.declared.limits.TheConstants.{HEIGHT_MAX}
@@ -19,12 +19,13 @@ use Rattle.hb_activity.specs.declared.activities.Activity.TheVariants as at
 use Rattle.hb_activity.specs.Deciding.{given_sight}
 use Rattle.hb_activity.specs.Passing.{LeadsBelow}
 use Rattle.hb_activity.specs.Sights.{Sight}
-use Rattle.hb_activity.specs.Wanting.{in_mode, named_child, wanted_of, wanted_page}
+use Rattle.hb_activity.specs.Wanting.{in_mode, named_child, wanted_of}
 use Rattle.hb_poster.specs.Asks.{MakesPage, MayBeAsked}
 use Rattle.hb_poster.specs.PosterRows.{MayGrow}
 use Rattle.hb_terms.specs.Plans.{LacksRoom}
 use Rattle.hb_core.proofs.Memory.StillThere.{fetched_good}
 use Rattle.hb_core.proofs.Running.Brought.{brings_wider}
+use Rattle.hb_core.proofs.Running.StandsElsewhere.{stands_as}
 use Rattle.hb_core.proofs.Walks.MayBeAsked.{children_may_be_asked}
 use Rattle.hb_core.specs.Acting.{NeedsNumber}
 use Rattle.hb_core.specs.AllowedLaws.{AnyPage}
@@ -33,6 +34,7 @@ use Rattle.hb_core.specs.Asking.{looked_live, wanted_by}
 use Rattle.hb_core.specs.Fetching.{Brings, IsWantedPage}
 use Rattle.hb_core.specs.Looking.{number_of_row, other_page}
 use Rattle.hb_core.specs.Machines.{Machine, live_here, sight}
+use Rattle.hb_core.specs.Moving.{StandsAs}
 use Rattle.hb_core.specs.Rows.{IsAtHand}
 use Rattle.hb_core.specs.Showing.{RunningCore}
 use Rattle.hb_core.specs.Working.{HasCome, with_pages}
@@ -50,7 +52,7 @@ module _ (m : Machine) (d : DiskModel) (c : RunningCore) (actor : ℕ) (latches 
   any : Brings m AnyPage c.store
   any = brings_wider m (IsWantedPage (wanted_by m actor)) AnyPage c.store (λ id is. tt) come.brings
 
-  pub fits_page : (id : ℕ) (page : LivePage) → live_here c.store id ≡ Some page → FitsFile c.store.meta page
+  fits_page : (id : ℕ) (page : LivePage) → live_here c.store id ≡ Some page → FitsFile c.store.meta page
   fits_page id page live = subst (λ (meta : Meta). FitsFile meta page) (sym come.brings.rest.meta) (fetched_good m (IsWantedPage (wanted_by m actor)) c.store come.may.goes_on.kept.pages_of_file come.brings id page live).1
 
   -- ---- it wants a page
@@ -83,7 +85,7 @@ module _ (m : Machine) (d : DiskModel) (c : RunningCore) (actor : ℕ) (latches 
     hand : (page : LivePage) × IsAtHand now (m.activity actor) wants.0 page
     hand = at_value (wanted_by m actor) (λ (wanted : Wanted). (page : LivePage) × IsAtHand now (m.activity actor) wanted page) wants.0 wants.1 come.at_hand
 
-    pub page_there : IsSome (live_here c.store (number_of_row activity (wanted_by m actor)))
+    page_there : IsSome (live_here c.store (number_of_row activity (wanted_by m actor)))
     page_there = has_value (live_here c.store (number_of_row activity (wanted_by m actor))) hand.0 (ap (live_here c.store) number ∙ hand.1.live)
 
     module _ (page : LivePage) (live : live_here c.store (number_of_row activity (wanted_by m actor)) ≡ Some page) where
@@ -96,7 +98,7 @@ module _ (m : Machine) (d : DiskModel) (c : RunningCore) (actor : ℕ) (latches 
       with_parent : (job : Job) (parent : ℕ) → activity ≡ at.PosterAgain job parent → AsksWithParent m actor c.store parent page
       with_parent job parent again = children_may_be_asked m actor c.store job parent wants.0 page latches come.may.goes_on.kept any (inr (is ∙ again)) wants.1 (subst (λ (a : Activity). IsAtHand now a wants.0 page) (sym is) hand_at)
 
-      pub asked_at : MayBeAsked activity c.store.meta page (other_page c.store activity)
+      asked_at : MayBeAsked activity c.store.meta page (other_page c.store activity)
       asked_at = by activity refl may
         where
           by : (a : Activity) → activity ≡ a → MayMakeToPost a → MayBeAsked a c.store.meta page (other_page c.store a)
@@ -121,9 +123,12 @@ module _ (m : Machine) (d : DiskModel) (c : RunningCore) (actor : ℕ) (latches 
       needed (at.PosterGrow job) same makes (room, grows) =
           (room, page, subst (λ (a : Activity). IsAtHand now a wants.0 page) same hand_at, grow_same (given_sight c.store.meta [] None) (sight now) job page refl grows)
       needed (at.PosterAgain job parent) same makes (room, lacks) =
-          let asks = with_parent job parent same in
-          (room, page, subst (λ (a : Activity). IsAtHand now a wants.0 page) same hand_at,
-            (asks.over, asks.live, subst (λ (o : Option LivePage). MakesPage (at.PosterAgain job parent) c.store.meta page o) asks.live lacks))
+          let asks = with_parent job parent same in (
+            room,
+            page,
+            subst (λ (a : Activity). IsAtHand now a wants.0 page) same hand_at,
+            (asks.over, asks.live, subst (λ (o : Option LivePage). MakesPage (at.PosterAgain job parent) c.store.meta page o) asks.live lacks),
+          )
       needed a same makes says = absurd makes
 
       same_hand : (a : Activity) (root : LivePage) → IsAtHand now a wants.0 root → root ≡ page
@@ -132,13 +137,46 @@ module _ (m : Machine) (d : DiskModel) (c : RunningCore) (actor : ℕ) (latches 
       said : (a : Activity) → activity ≡ a → MayMakeToPost a → Needs a → Says a
       said (at.PosterGrow job) same makes (room, root, other, grows) =
           (room, grow_same (sight now) (given_sight c.store.meta [] None) job page refl (subst (MayGrow (sight now) job) (same_hand (at.PosterGrow job) root other) grows))
-      said (at.PosterAgain job parent) same makes (room, child, other, (over, there, lacks)) =
-          (room, subst (λ (o : Option LivePage). MakesPage (at.PosterAgain job parent) c.store.meta page o) (sym there)
-            (subst (λ (x : LivePage). LacksRoom over x job.point c.store.meta.icap) (same_hand (at.PosterAgain job parent) child other) lacks))
+      said (at.PosterAgain job parent) same makes (room, child, other, (over, there, lacks)) = (
+        room,
+        subst (λ (o : Option LivePage). MakesPage (at.PosterAgain job parent) c.store.meta page o) (sym there)
+            (subst (λ (x : LivePage). LacksRoom over x job.point c.store.meta.icap) (same_hand (at.PosterAgain job parent) child other) lacks),
+      )
       said a same makes needs = absurd makes
 
-      pub number_needed : (b : Bool) → IsTrue b ↔ Says activity → IsTrue b ↔ NeedsNumber (m.activity actor) (wanted_by m actor) now
+      number_needed : (b : Bool) → IsTrue b ↔ Says activity → IsTrue b ↔ NeedsNumber (m.activity actor) (wanted_by m actor) now
       number_needed b says =
           subst (λ (a : Activity). IsTrue b ↔ NeedsNumber a (wanted_by m actor) now) (sym is)
           (subst (λ (o : Option Wanted). IsTrue b ↔ NeedsNumber activity o now) (sym wants.1)
           ((λ yes. needed activity refl may (says.0 yes)), (λ needs. says.1 (said activity refl may needs))))
+
+-- who stands in one of these two places
+pub makes_to_post : (activity : Activity) → ((job : Job) × (activity ≡ at.PosterGrow job)) ⊎ ((job : Job) × (parent : ℕ) × (activity ≡ at.PosterAgain job parent)) → MayMakeToPost activity
+makes_to_post activity (inl (job, is)) = subst MayMakeToPost (sym is) tt
+makes_to_post activity (inr (job, parent, is)) = subst MayMakeToPost (sym is) tt
+
+-- The same as the core has it: where its actor stands, the number of the row's page, and what it knows of the file.
+module _ (m : Machine) (d : DiskModel) (c : RunningCore) (actor : ℕ) (latches : MayLatch actor) (come : HasCome m actor d c) (activity : Activity) (stands : StandsAs c actor activity) (may : MayMakeToPost activity)
+    (wanted : Option Wanted) (wants : wanted ≡ wanted_by m actor) (id : ℕ) (number : id ≡ number_of_row activity wanted) where
+  stands_so : m.activity actor ≡ activity
+  stands_so = stands_as d c (with_pages c m) actor activity latches come.shows stands
+
+  same_page : live_here c.store (number_of_row activity (wanted_by m actor)) ≡ live_here c.store id
+  same_page = ap (λ (o : Option Wanted). live_here c.store (number_of_row activity o)) (sym wants) ∙ ap (live_here c.store) (sym number)
+
+  pub not_missing : None ≡ live_here c.store id → ⊥
+  not_missing none = false≢true (subst (λ (o : Option LivePage). IsSome o) (same_page ∙ sym none) (page_there m d c actor latches come activity stands_so may))
+
+  module _ (page : LivePage) (live : Some page ≡ live_here c.store id) (meta : Meta) (meta_is : meta ≡ c.store.meta) (other : Option LivePage) (other_is : other ≡ other_page c.store activity) where
+    pub fits_here : FitsFile meta page
+    fits_here = subst (λ (x : Meta). FitsFile x page) (sym meta_is) (fits_page m d c actor latches come id page (sym live))
+
+    pub asked_here : MayBeAsked activity meta page other
+    asked_here =
+        subst (λ (x : Meta). MayBeAsked activity x page other) (sym meta_is)
+        (subst (λ (o : Option LivePage). MayBeAsked activity c.store.meta page o) (sym other_is) (asked_at m d c actor latches come activity stands_so may page (same_page ∙ sym live)))
+
+    pub needed_here : (b : Bool) → IsTrue b ↔ ((meta.live < meta.pages) × MakesPage activity meta page other) → IsTrue b ↔ NeedsNumber (m.activity actor) (wanted_by m actor) (with_pages c m)
+    needed_here b says = number_needed m d c actor latches come activity stands_so may page (same_page ∙ sym live) b
+        (subst (λ (o : Option LivePage). IsTrue b ↔ ((c.store.meta.live < c.store.meta.pages) × MakesPage activity c.store.meta page o)) other_is
+        (subst (λ (x : Meta). IsTrue b ↔ ((x.live < x.pages) × MakesPage activity x page other)) meta_is says))

@@ -22,6 +22,6 @@ returns-in_default-clause-takes g c = λ behind at_behind.
 pub returns-clause-takes : goal.returns-clause-takes
 returns-clause-takes g c = λ behind at_behind.
     inr (refl, c.in-Some.place, c.copy_of_line-line.result,
-      takes_line c.args.actor c.from-session.result behind c.in-Some.place c.copy_of_line-line.result c.as_slice.result.now c.as_slice-2.result.now c.new-2.result c.new-4.result
+      takes_line c.args.actor c.from-session.result behind c.in-Some.place c.copy_of_line-line.result _ c.as_slice.result.now c.as_slice-2.result.now c.new-2.result c.new-4.result
         (core_seen c.args.self.now) (core_seen c.go_behind.new.self) (core_seen c.stand.new.self) c.from-session.ensures at_behind c.as_slice.ensures c.as_slice-2.ensures c.in-Some.ensures
-        ? (c.new-2.ensures ∙ c.new.ensures.items) (c.new-4.ensures ∙ c.new-3.ensures.items) c.go_behind.ensures.gone c.stand.ensures.stands)
+        (c.copy_of_line-line.ensures ∙ c.index-as_slice-from.is) (c.new-2.ensures ∙ c.new.ensures.items) (c.new-4.ensures ∙ c.new-3.ensures.items) c.go_behind.ensures.gone c.stand.ensures.stands)
