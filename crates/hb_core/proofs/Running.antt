@@ -22,6 +22,7 @@ pub mod Latching
 pub mod NextLine
 pub mod Numbered
 pub mod Postings
+pub mod Touched
 pub mod Unanswered
 pub mod Begun
 pub mod Wants

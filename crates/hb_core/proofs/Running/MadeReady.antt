@@ -25,7 +25,7 @@ use Rattle.hb_core.proofs.Running.LineTaken.{deed_done}
 use Rattle.hb_core.proofs.Running.NumbersInHand.{ran_out_number}
 use Rattle.hb_core.proofs.Table.GivenUp.{run_out_is}
 
-no_operation : (activity : Activity) → (runs_out activity).op ≡ None
+pub no_operation : (activity : Activity) → (runs_out activity).op ≡ None
 no_operation activity = run_out_is (λ (deed : Deed). deed.op ≡ None) activity (λ line is. refl) (λ job is. refl) (λ is. refl)
 
 -- a flush that forced found a group, and one that did nothing found none

@@ -17,7 +17,7 @@ use Rattle.hb_wal.specs.Log.{mark_of}
 use Rattle.hb_core.specs.declared.outcomes.Outcome.{Outcome}
 use Rattle.hb_core.specs.declared.outcomes.Outcome.TheVariants as outcomes
 use Rattle.hb_core.specs.Machines.{Machine, settled_count}
-use Rattle.hb_core.specs.Moving.{DoesDeed, with_standing, with_stop}
+use Rattle.hb_core.specs.Moving.{DoesDeed, StandsAs, with_standing, with_stop}
 use Rattle.hb_core.specs.Performing.{latches_held, mode_among}
 use Rattle.hb_core.specs.Showing.{RunningCore, ShowsMachine, number_in_hand}
 use Rattle.hb_core.specs.Steps.{AwaitsPlace}
@@ -25,6 +25,11 @@ use Rattle.hb_core.specs.Working.{MayStep}
 use Rattle.hb_core.proofs.Running.ForcedShows.{fails, forces, group_waits, with_store}
 use Rattle.hb_core.proofs.Running.LineTaken.{deed_done}
 use Rattle.hb_core.proofs.Running.NumbersInHand.{kept_number}
+use Rattle.hb_core.proofs.Running.StandsElsewhere.{stands_as}
+
+-- the machine stands as the core
+pub awaits_as : (d : DiskModel) (c : RunningCore) (m : Machine) (actor number place : ℕ) (reply : Reply) → MayLatch actor → MayStep d c m → StandsAs c actor (at.SessionAwait number reply place) → m.activity actor ≡ at.SessionAwait number reply place
+awaits_as d c m actor number place reply may step stands = stands_as d c m actor (at.SessionAwait number reply place) may step.shows stands
 
 -- the places that are settled are the machine's
 pub same_length : (d : DiskModel) (c : RunningCore) (m : Machine) → ShowsMachine d c m → length m.order ≡ length c.order
