@@ -9,6 +9,7 @@ use Rattle.hb_activity.specs.declared.activities.Activity.{Activity}
 use Rattle.hb_activity.specs.declared.activities.Activity.TheVariants as at
 use Rattle.hb_activity.specs.Classes.{line_in_hand}
 use Rattle.hb_activity.specs.Deeds.{Deed}
+use Rattle.hb_point.specs.SessionRows.{next_line}
 use Rattle.hb_store.specs.States.{StoreState}
 use Rattle.hb_lemmas.proofs.Options.{at_value, not_none}
 use Rattle.hb_core.proofs.Orders.NextLines.{next_is}
@@ -29,8 +30,8 @@ module _ (m : Machine) (actor : ℕ) (keeps : MachineKeeps m) where
   pub room_for : (line : Line) (reply : Reply) → line_in_hand (m.activity actor) ≡ Some line → length m.order < length m.lines
   room_for line reply is = omega (arith, all)
     where
-      next : _
-      next = at_value (line_in_hand (m.activity actor)) _ line is (keeps.lines_in_turn.in_hand actor)
+      next : next_line actor m.answered m.lines ≡ Some line
+      next = at_value (line_in_hand (m.activity actor)) (λ (line : Line). next_line actor m.answered m.lines ≡ Some line) line is (keeps.lines_in_turn.in_hand actor)
 
       others : All (λ (e : Entry). e.line.number ≢ line.number) m.order
       others = next_not_placed m actor line keeps.lines_in_turn next (none_awaited (m.activity actor) line is)

@@ -40,12 +40,12 @@ module _ (m : Machine) where
   pub takes_what_it_needs : (activity : Activity) (wanted : Option Wanted) (deed : Deed) → NeedsNumber activity wanted m → Row activity wanted m deed → takes_number deed.op ≡ true
   takes_what_it_needs (at.SessionSplit line held) None deed lt (inl none) = absurd (none_left lt none.none_free)
   takes_what_it_needs (at.SessionSplit line held) None deed lt (inr row) = taken deed _ row.deed_is refl
-  takes_what_it_needs (at.PosterGrow job) (Some wanted) deed (lt, (root, (hand, may))) (page, (here, row)) =
+  takes_what_it_needs (at.PosterGrow job) (Some wanted) deed (lt, root, hand, may) (page, here, row) =
       grown job root page deed lt may (same_Some root page (sym hand.live ∙ here.live)) row
-  takes_what_it_needs (at.PosterAgain job parent) (Some wanted) deed (lt, (child, (hand, (over, (live, lacks))))) (page, (here, row)) =
+  takes_what_it_needs (at.PosterAgain job parent) (Some wanted) deed (lt, child, hand, (over, live, lacks)) (page, here, row) =
       let same : child ≡ page = same_Some child page (sym hand.live ∙ here.live) in
       let above : over ≡ row.page = same_Some over row.page (sym live ∙ row.live) in
       let lacks_here = subst (λ (q : LivePage). LacksRoom q page job.point m.store.meta.icap) above (subst (λ (q : LivePage). LacksRoom over q job.point m.store.meta.icap) same lacks) in
       planned job parent row.page row.plan deed lt (one_plan row.page page job.point m.store.meta.icap row.plan plans.SplitFirst row.planned lacks_here) row.does_it
-  takes_what_it_needs (at.SessionSplit line held) (Some wanted) deed needs (page, (here, row)) = absurd row
+  takes_what_it_needs (at.SessionSplit line held) (Some wanted) deed needs (page, here, row) = absurd row
   takes_what_it_needs activity wanted deed needs row = absurd needs
