@@ -8,3 +8,4 @@ pub mod TakesNumbers
 pub mod OrderRoom
 pub mod StandsThere
 pub mod Commits
+pub mod MayPerform

@@ -19,6 +19,6 @@ returns-clause-row g c =
 
 pub returns-clause-memory : goal.returns-clause-memory
 returns-clause-memory g c =
-    on_err_weaker c.next.result _ _
+    on_err_weaker c.next.result
       (poster_wants_memory (seen_as c.args.self.now.store) c.args.state (number_of_row c.args.state c.args.wanted) c.args.free c.page_of-id.result c.live_page-page.result.now (option_copied c.other-other.result) c.meta.result.now
         c.page_of-id.ensures c.live_page-page.ensures c.other-other.ensures c.meta.ensures.meta) c.next.ensures.memory
