@@ -1,6 +1,7 @@
 -- What a decider said may be performed: its operation may be committed, its actor may stand as it says, a line that joins the order has room,
 -- and the pages that came are those that the row needs.
 use Rattle.std.proofs.Common.{◌≡◌, ◌⊎◌, inl, inr, ℕ, ◌<◌, List, length, map, Option, Some, None, IsSome, IsTrue, IfSome, refl, sym, ap, ◌∙◌, subst}
+use Rattle.std.proofs.lemmas.Bool.{false≢true}
 use Rattle.std.proofs.lemmas.List.{length-map}
 use Rattle.hb_disk.specs.Model.{DiskModel}
 use Rattle.hb_latch.specs.Tables.{LatchTable, MayLatch}
@@ -13,7 +14,7 @@ use Rattle.hb_activity.specs.declared.activities.Activity.TheVariants as at
 use Rattle.hb_activity.specs.declared.deciding.Fate.{Fate}
 use Rattle.hb_activity.specs.declared.deciding.Fate.TheVariants as fates
 use Rattle.hb_activity.specs.declared.deciding.Next.{Next}
-use Rattle.hb_activity.specs.Classes.{Hand, HasLine, hand_of}
+use Rattle.hb_activity.specs.Classes.{Empty, Hand, HasJob, HasLine, hand_of}
 use Rattle.hb_activity.specs.Deciding.{deed_of, joined_by}
 use Rattle.hb_activity.specs.Deeds.{Deed}
 use Rattle.hb_store.specs.Keeps.{StoreKeeps}
@@ -37,9 +38,13 @@ use Rattle.hb_core.specs.Showing.{RunningCore}
 use Rattle.hb_core.specs.Working.{HasPages, with_pages}
 
 -- a line joins the order in the code just where it does in the deed
-joined_alike : (hand : Hand) (then : Activity) (fate : Fate) → IsSome (joins_order (number_of hand) then fate) → IsSome (joined_by hand then fate)
-joined_alike (HasLine line) (at.SessionAwait number reply place) fates.TakesEffect joins = refl
-joined_alike hand then fate joins = cc
+joined_alike : (then : Activity) (fate : Fate) (hand : Hand) → IsSome (joins_order (number_of hand) then fate) → IsSome (joined_by hand then fate)
+joined_alike (at.SessionAwait number reply place) fates.TakesEffect (HasLine line) joins = refl
+joined_alike (at.SessionAwait number reply place) fates.TakesEffect Empty joins = absurd (false≢true joins)
+joined_alike (at.SessionAwait number reply place) fates.TakesEffect (HasJob job) joins = absurd (false≢true joins)
+joined_alike (at.SessionAwait number reply place) fates.GoesOn hand joins = absurd (false≢true joins)
+joined_alike (at.SessionAwait number reply place) (fates.Answers said) hand joins = absurd (false≢true joins)
+joined_alike then fate hand joins = absurd (false≢true joins)
 
 module _ (d : DiskModel) (c : RunningCore) (m : Machine) (actor : ℕ) (free : Option (ℕ × ℕ)) (may : MayLatch actor) (has : HasPages m actor free d c) (next : Next)
     (row : Row (m.activity actor) (wanted_by m actor) (with_pages c m) (placed (length m.order) (deed_of (m.activity actor) next))) where
@@ -69,7 +74,7 @@ module _ (d : DiskModel) (c : RunningCore) (m : Machine) (actor : ℕ) (free : O
 
   pub has_room : (line : Option ℕ) → line ≡ number_of (hand_of (m.activity actor)) → IsSome (joins_order line next.then next.fate) → length c.order < length c.lines
   has_room line is joins =
-      let joined = joined_alike (hand_of (m.activity actor)) next.then next.fate (subst (λ (o : Option ℕ). IsSome (joins_order o next.then next.fate)) is joins) in
+      let joined = joined_alike next.then next.fate (hand_of (m.activity actor)) (subst (λ (o : Option ℕ). IsSome (joins_order o next.then next.fate)) is joins) in
       let room = joining_has_room m actor has.may.goes_on.kept c.store deed row joined in
       subst (λ (lines : List Line). length c.order < length lines) has.shows.lines (subst (λ (n : ℕ). n < length m.lines) as_long room)
 
