@@ -40,6 +40,8 @@ pub mod Taking
 pub mod Stopping
 pub mod Looking
 pub mod Working
+pub mod Touching
+pub mod Runs
 pub mod MomentLaws
 pub mod ProgressLaws
 pub mod Examples

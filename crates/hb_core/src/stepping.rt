@@ -10,6 +10,7 @@ ghost use Rattle.hb_poster.specs.PosterRows.{IsPostingOf};
 ghost use Rattle.hb_core.specs.Moving.{StandsAs, with_standing, with_stop};
 ghost use Rattle.hb_core.specs.Showing.{ShowsMachine};
 ghost use Rattle.hb_core.specs.Steps.{AwaitsPlace, GetsReady, StepsTo};
+ghost use Rattle.hb_core.specs.Touching.{Touches};
 ghost use Rattle.hb_core.specs.Taking.{TakesNextLine, TakesNextPosting};
 ghost use Rattle.hb_core.specs.Working.{IsWorking, MayStep};
 
@@ -34,6 +35,7 @@ impl<D: Device> Core<D> {
         requires may { (m : Machine) × MayStep (D.model (core_disk self.old)) (core_seen self.old) m }
         ensures steps { (m : Machine) → MayStep (D.model (core_disk self.old)) (core_seen self.old) m →
             (new : Machine) × StepsTo m actor result new × ShowsMachine (D.model (core_disk self.new)) (core_seen self.new) new }
+        ensures touches { Touches (D.model (core_disk self.old)) (core_seen self.old) result (D.model (core_disk self.new)) (core_seen self.new) }
     {
         self.taken = self.taken.saturating_add(1);
         if let Some(why) = &self.stop {

@@ -1,0 +1,89 @@
+-- What a run of a core comes to: many steps, from a machine that it shows to one that it shows then.
+use Rattle.std.specs.Prelude.{◌≡◌, ℕ, ◌+◌, ◌≤◌, Bool, not, All, Any, List, ◌++◌, count_by, filter, length, map, take, Option, Some, IsSome}
+use Rattle.hb_disk.specs.Calls.{Becomes, Leaves}
+use Rattle.hb_disk.specs.Model.{DiskModel, Torn}
+use Rattle.hb_ops.specs.Files.{FileState, contents_of}
+use Rattle.hb_ops.specs.Sound.{IsSound}
+use Rattle.hb_outside.specs.Streams.{Rose}
+use Rattle.hb_set.specs.declared.commands.Reply.TheVariants as replies
+use Rattle.hb_point.specs.SessionRows.{is_answered}
+use Rattle.hb_set.specs.declared.scripts.Answered.{Answered}
+use Rattle.hb_set.specs.declared.scripts.Line.{Line}
+use Rattle.hb_set.specs.Machine.{RecordSet}
+use Rattle.hb_set.specs.Order.{Entry, result_of}
+use Rattle.hb_sound.specs.PointWalks.{IsPointOf}
+use Rattle.hb_store.specs.declared.stops.StopWhy.{StopWhy}
+use Rattle.hb_store.specs.declared.stops.StopWhy.TheVariants as stops
+use Rattle.hb_store.specs.Opening.{OpensTo}
+use Rattle.hb_core.specs.KeptMachine.{CoreKeeps}
+use Rattle.hb_core.specs.KeptOrder.{StandsInOrder}
+use Rattle.hb_core.specs.Laws.{HasOnePage}
+use Rattle.hb_core.specs.Machines.{Files, Machine}
+use Rattle.hb_core.specs.Showing.{RunningCore, ShowsMachine}
+use Rattle.hb_core.specs.Steps.{StepsInTurn}
+use Rattle.hb_core.specs.Working.{MayGoOn}
+
+-- The bytes open to a sound file that has the set after a prefix of the order, of at least so many entries; and in it each point has
+-- one responsible page, at which the walk from the root ends.
+pub record IsPrefixImage (n : RecordSet) (order : List Entry) (least : ℕ) (bytes : List ℕ) : Type 0 where
+  pub s : FileState
+  pub opens : OpensTo bytes s
+  pub sound : IsSound s
+  pub pages : (p : List ℕ) → IsPointOf s p → HasOnePage s p
+  pub count : ℕ
+  pub enough : least ≤ count
+  pub inside : count ≤ length order
+  pub contents : contents_of s ≡ result_of n (take count order)
+
+-- What crashes leave of a run from one moment of the disk to another, by the machine that it came to: at each moment the set after a
+-- prefix of its order; and since an answer that stands in the order, one that holds it.
+abbrev pub HoldsSince : DiskModel → RecordSet → Machine → Answered → Type 0
+HoldsSince e n m a = (place : ℕ) → StandsInOrder m a.line a.reply place → (c : List ℕ) → e.ImageSince a.at c → IsPrefixImage n m.order (place + 1) c
+
+pub record CrashesTo (n : RecordSet) (d e : DiskModel) (m : Machine) (answers : List Answered) : Type 0 where
+  pub each : Leaves d e (IsPrefixImage n m.order 0)
+  pub since : All (HoldsSince e n m) answers
+
+-- The answers that a run gave are those that came to the machine. Over a disk that tells nothing the clocks are tied to nothing.
+abbrev pub without_clock : Answered → Answered
+without_clock a = record { line = a.line; reply = a.reply; at = 0 }
+
+pub record AreAnswers (told : Option (List ℕ)) (given came : List Answered) : Type 0 where
+  pub alike : map without_clock given ≡ map without_clock came
+  pub same : IsSome told → given ≡ came
+
+-- how many lines have no answer, and their numbers
+abbrev pub has_none : Machine → Line → Bool
+has_none m line = not (is_answered line.number m.answered)
+
+abbrev pub left_count : Machine → ℕ
+left_count m = count_by (has_none m) m.lines
+
+abbrev pub left_numbers : Machine → List ℕ
+left_numbers m = map (λ (l : Line). l.number) (filter (has_none m) m.lines)
+
+-- Counts of faults never fall; a reply `read fault` comes of a failed read, and a stop by a failed write of one.
+abbrev pub HasReadFault : List Answered → Type 0
+HasReadFault answers = Any (λ (a : Answered). a.reply ≡ replies.ReadFault) answers
+
+pub record CountsFaults (d e : DiskModel) (answers : List Answered) (before after : Option StopWhy) : Type 0 where
+  pub reads : d.read_faults ≤ e.read_faults
+  pub writes : d.write_faults ≤ e.write_faults
+  pub read : HasReadFault answers → Rose d.read_faults e.read_faults
+  pub write : after ≡ Some stops.WriteFault → (before ≡ Some stops.WriteFault → ⊥) → Rose d.write_faults e.write_faults
+
+-- Steps of these actors led from the machine to one that the core shows now, and these are the answers that came. What is known of a
+-- machine of which a core takes steps stays known. Only bytes of the log's area may be other ones. Over a disk that tells, and from a
+-- machine that keeps all that it should there, crashes leave prefixes.
+pub record HasRun (d : DiskModel) (m : Machine) (actors : List ℕ) (answers : List Answered) (e : DiskModel) (c : RunningCore) : Type 0 where
+  pub new : Machine
+  pub steps : StepsInTurn actors m new
+  pub shows : ShowsMachine e c new
+  pub goes_on : MayGoOn new
+  pub came : List Answered
+  pub answered : new.answered ≡ m.answered ++ came
+  pub answers_are : AreAnswers d.told answers came
+  pub left : length came + left_count new ≡ left_count m
+  pub faults : CountsFaults d e answers m.stop new.stop
+  pub in_log : Becomes (Torn m.store.log.area m.store.log.len) d e
+  pub crashes : (n : RecordSet) (files : Files) → CoreKeeps n m files → CrashesTo n d e new answers
