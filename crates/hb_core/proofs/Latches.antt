@@ -2,3 +2,4 @@
 pub mod MergerBacked
 pub mod Backing
 pub mod LatchesStay
+pub mod Beside

@@ -27,3 +27,13 @@ pub mod Unanswered
 pub mod Begun
 pub mod Wants
 pub mod StepTaken
+pub mod LiftedRows
+pub mod SeenRows
+pub mod Asked
+pub mod Decided
+pub mod Starved
+pub mod TakesNumbers
+pub mod OrderRoom
+pub mod StandsThere
+pub mod Commits
+pub mod MayPerform

@@ -1,5 +1,5 @@
 -- What every machine keeps over a disk that tells, a record for each part.
-use Rattle.std.specs.Prelude.{◌≡◌, ◌⊎◌, ℕ, ◌<◌, ◌≤◌, List, length, All, Some, None, IfSome}
+use Rattle.std.specs.Prelude.{◌≡◌, ◌⊎◌, ℕ, ◌<◌, ◌≤◌, List, length, All, Some, None, IfSome, IsSome}
 use Rattle.hb_frag.specs.declared.pages.LivePage.{LivePage}
 use Rattle.hb_frag.specs.declared.pages.Page.{Page}
 use Rattle.hb_set.specs.declared.commands.Command.TheVariants.{Insert}
@@ -9,6 +9,7 @@ use Rattle.hb_activity.specs.declared.activities.Activity.TheVariants as at
 use Rattle.hb_activity.specs.declared.jobs.Job.{Job}
 use Rattle.hb_activity.specs.Passing.{LeadsBelow}
 use Rattle.hb_activity.specs.Walks.{walk_held, walk_point}
+use Rattle.hb_activity.specs.Wanting.{onward_at}
 use Rattle.hb_core.specs.KeptMerges.{NamesKnown, merging_at}
 use Rattle.hb_core.specs.Machines.{Files, Machine, current_file, live_here}
 use Rattle.hb_core.specs.Performing.{latches_held, mode_among}
@@ -43,12 +44,15 @@ pub record LatchesFit (m : Machine) : Type 0 where
   pub used : (actor page : ℕ) (mode : Mode) → mode_at m.latches actor page ≡ Some mode → (live : LivePage) × (in_memory m.store page ≡ Some (Live live))
   pub walking : (actor held : ℕ) → MayLatch actor → walk_held (m.activity actor) ≡ Some held → (live : LivePage) × (in_memory m.store held ≡ Some (Live live))
 
--- The page that a walk holds has the walk's point in its box. The parent that a poster holds is of the job's level, and
+-- The page that a walk holds has the walk's point in its box, and its leaf there names the page to which the walk goes on. The
+-- parent that a poster holds is of the job's level, and
 -- has a child leaf at the job's point. The parent that a consolidator holds is of the job's level, and names the pages that
 -- the activity names; a page to keep that it holds is one level below it, and has a sibling leaf to the page to go.
 pub record WalksInSpace (m : Machine) : Type 0 where
   pub held : (actor held : ℕ) (page : LivePage) → walk_held (m.activity actor) ≡ Some held → live_here m.store held ≡ Some page →
       IfSome (walk_point (m.activity actor)) (Holds page.area)
+  pub leads : (actor held : ℕ) (page : LivePage) → walk_held (m.activity actor) ≡ Some held → live_here m.store held ≡ Some page →
+      IfSome (walk_point (m.activity actor)) (λ p. IsSome (onward_at page p))
   pub parents : (actor : ℕ) (job : Job) (parent : ℕ) →
       (m.activity actor ≡ at.PosterChild job parent) ⊎ (m.activity actor ≡ at.PosterPromote job parent) ⊎ (m.activity actor ≡ at.PosterAgain job parent) →
       (page : LivePage) × (live_here m.store parent ≡ Some page) × (page.level ≡ job.level) × LeadsBelow page job

@@ -1,10 +1,13 @@
 //! How a step gets its pages, and asks its decider.
-ghost use Rattle.std.specs.Prelude.{◌≡◌, ◌↔◌, IsTrue, IsSome, IfOk, IfErr, OnOk, OnErr, length, IsErrAnd};
+ghost use Rattle.std.specs.Prelude.{◌≡◌, ◌↔◌, ℕ, Some, IsTrue, IsSome, IfOk, IfErr, IfSome, IsErrAnd, OnOk, OnErr, length};
 ghost use Rattle.hb_latch.specs.Tables.{MayLatch};
 ghost use Rattle.hb_activity.specs.Deciding.{deed_of};
 ghost use Rattle.hb_activity.specs.Classes.{idle_of};
 ghost use Rattle.hb_activity.specs.Deeds.{Deed};
+ghost use Rattle.hb_activity.specs.Walks.{walk_point};
 ghost use Rattle.hb_ops.specs.Given.{given as live_given};
+ghost use Rattle.hb_point.specs.Asks.{SplitsNow};
+ghost use Rattle.hb_space.specs.Points.{IsPoint};
 ghost use Rattle.hb_core.specs.Acting.{NeedsNumber, TakesMemory};
 ghost use Rattle.hb_core.specs.Asking.{wanted_by};
 ghost use Rattle.hb_core.specs.CoreSeen.{core_seen, core_disk};
@@ -13,8 +16,8 @@ ghost use Rattle.hb_store.specs.States.{in_memory};
 ghost use Rattle.hb_store.specs.declared.stops.StopWhy.TheVariants.{Damaged};
 ghost use Rattle.hb_store.specs.declared.stops.Why.{Why};
 ghost use Rattle.hb_core.specs.declared.halts.Halt.TheVariants.{Stops};
-ghost use Rattle.hb_core.specs.Looking.{FailsTest, MayLook, PassesTest, number_of_row, other_number, other_page};
-ghost use Rattle.hb_core.specs.Machines.{Machine};
+ghost use Rattle.hb_core.specs.Looking.{AsksPoint, AsksPoster, FailsTest, HasPointRow, HasPosterRow, MayLook, PassesTest, WantsMemory, number_of_row, other_number, other_page};
+ghost use Rattle.hb_core.specs.Machines.{Machine, live_here};
 ghost use Rattle.hb_core.specs.Moving.{StandsAs, placed, with_standing};
 ghost use Rattle.hb_core.specs.Rows.{Row};
 ghost use Rattle.hb_disk.specs.Calls.{ReadsOnly};
@@ -154,17 +157,65 @@ impl<D: Device> Core<D> {
         ensures disk { core_disk self.new ≡ core_disk self.old }
     {
         let state = self.replace(actor, idle(actor));
-        let id = page_of(&state, wanted);
-        let other = self.other(&state);
-        let Some(page) = self.live(id) else {
-            unreachable!();
-        };
-        let meta = self.store.meta();
+        knows_point(&state);
         if actor == POSTER {
-            hb_poster::next(self.alloc, state, id, page, other, None, free, meta)
+            self.ask_poster(state, wanted, free)
         } else {
-            hb_point::next(self.alloc, state, id, page, other, None, free, meta)
+            self.ask_session(state, wanted, free)
         }
+    }
+
+    /// What the decider of sessions says of this activity.
+    fn ask_session(
+        &self,
+        state: Activity,
+        wanted: Option<Wanted>,
+        free: Option<(u32, u32)>,
+    ) -> Result<Next, NoMemory>
+        requires { AsksPoint (core_seen self.now).store state (number_of_row state wanted) free }
+        ensures row { IfOk result (λ next. (place : ℕ) →
+            HasPointRow (core_seen self.now).store state (number_of_row state wanted) place (placed place (deed_of state next))) }
+        ensures memory { OnErr result (SplitsNow state free) }
+    {
+        let id = page_of(&state, wanted);
+        let page = self.live_page(id);
+        let other = self.other(&state);
+        hb_point::next(self.alloc, state, id, page, other, None, free, self.store.meta())
+    }
+
+    /// What the poster's decider says of this activity.
+    fn ask_poster(
+        &self,
+        state: Activity,
+        wanted: Option<Wanted>,
+        free: Option<(u32, u32)>,
+    ) -> Result<Next, NoMemory>
+        requires { AsksPoster (core_seen self.now).store state (number_of_row state wanted) free }
+        ensures row { IfOk result (λ next. (place : ℕ) →
+            HasPosterRow (core_seen self.now).store state (number_of_row state wanted) place (placed place (deed_of state next))) }
+        ensures memory { OnErr result (WantsMemory (core_seen self.now).store state (number_of_row state wanted) free) }
+    {
+        let id = page_of(&state, wanted);
+        let page = self.live_page(id);
+        let other = self.other(&state);
+        hb_poster::next(self.alloc, state, id, page, other, None, free, self.store.meta())
+    }
+
+    /// The page of the number, which is in memory and in use.
+    fn live_page(&self, id: u32) -> &LivePage
+        requires { IsSome (live_here (core_seen self.now).store id) }
+        ensures { live_here (core_seen self.now).store id ≡ Some result.now }
+    {
+        self.live(id).unwrap()
+    }
+}
+
+/// That the point of a walk is a point, which its type says.
+fn knows_point(activity: &Activity)
+    ensures { IfSome (walk_point activity.now) IsPoint }
+{
+    if let Some(point) = activity.walk_point() {
+        let _values = point.values();
     }
 }
 

@@ -17,11 +17,13 @@ ghost use Rattle.hb_core.specs.Touching.{IsReadHalt, Touches};
 ghost use Rattle.hb_core.specs.Working.{Halts, IsStop, IsWorking, MayStep, MayWork};
 
 use crate::halts::Halt;
+use crate::machine_laws::rows_may_be_done;
 use crate::outcomes::Outcome;
 use crate::state::Core;
 use hb_activity::Wanted;
 use hb_disk::Device;
 use hb_space::Actor;
+use hb_store::laws::a_store_keeps_one_file;
 
 impl<D: Device> Core<D> {
     /// Does the row of the actor's activity, unless another actor is in the way, or the log isn't ready for a change.
@@ -88,7 +90,11 @@ impl<D: Device> Core<D> {
         self.bring(actor, wanted)?;
         let free = self.number(actor, wanted)?;
         match self.decide(actor, wanted, free) {
-            Ok(next) => self.perform(actor, line, next),
+            Ok(next) => {
+                rows_may_be_done();
+                a_store_keeps_one_file(&self.store);
+                self.perform(actor, line, next)
+            }
             Err(refused) => Err(Halt::from(refused)),
         }
     }

@@ -127,7 +127,7 @@ module _ (st : StoreState) (keeps : KeepsPages st) where
       })
 
   -- a parent that has no room weighs enough to be split
-  heavy_parent : (parent : ℕ) (page child : LivePage) (p : List ℕ) → if_live (in_memory st parent) ≡ Some page → LacksRoom page child p st.meta.icap → 6 ≤ weight_of page.frag
+  pub heavy_parent : (parent : ℕ) (page child : LivePage) (p : List ℕ) → if_live (in_memory st parent) ≡ Some page → LacksRoom page child p st.meta.icap → 6 ≤ weight_of page.frag
   heavy_parent parent page child p live lacks =
       let good = good_live parent page live in
       let above = kind_at st.meta page p (record { leaf = Child lacks.outer; area = lacks.leaf }) good.1 lacks.owed.above in
@@ -159,7 +159,7 @@ module _ (m : Machine) (actor : ℕ) (may : ℕ → Type 0) (fetched : StoreStat
   dcap_same = sym (ap (λ (m : Meta). m.dcap) brings.rest.meta)
 
   -- a page that lacks room for a record weighs enough to be split
-  lacking_weighs : (held : ℕ) (p body : List ℕ) (page : LivePage) → LacksRoomFor m held p body → if_live (in_memory fetched held) ≡ Some page → 6 ≤ weight_of page.frag
+  pub lacking_weighs : (held : ℕ) (p body : List ℕ) (page : LivePage) → LacksRoomFor m held p body → if_live (in_memory fetched held) ≡ Some page → 6 ≤ weight_of page.frag
   lacking_weighs held p body page lacks live =
       let rec : Record = record { key = p; body = body } in
       let now = stays_live held lacks.page page lacks.live live in

@@ -15,6 +15,7 @@ use Rattle.hb_activity.specs.Classes.{class_of, idle_of}
 use Rattle.hb_activity.specs.Deeds.{Deed}
 use Rattle.hb_activity.specs.Holding.{walk_latch}
 use Rattle.hb_activity.specs.Walks.{job_mode, session_mode, walk_held}
+use Rattle.hb_core.proofs.Latches.Beside.{beside_from}
 use Rattle.hb_core.proofs.Latches.Backing.{BackedIn, ComesFrom, rests}
 use Rattle.hb_core.proofs.Table.GivenUp.{idle_latches, idle_walks, given_up_is, run_out_is}
 use Rattle.hb_core.proofs.Latches.MergerBacked.{every_row_backed}
@@ -121,20 +122,9 @@ module _ (mutual_modes : (mode other : Mode) → goes_beside mode other ≡ goes
     others_activity : (other : ℕ) → other ≢ actor → new.activity other ≡ m.activity other
     others_activity other another = stood other ∙ ap (λ (b : Bool). cond b deed.next (m.activity other)) (ne_eqb other actor another)
 
-    -- what the actor has goes beside what another one has
-    beside_from : (other page : ℕ) (mode held : Mode) → other ≢ actor → ComesFrom m actor page mode → mode_at m.latches other page ≡ Some held → IsTrue (goes_beside mode held)
-    beside_from other page mode held another (inl own_before) holds =
-        let both = fit.compatible actor other page (λ same. another (sym same)) in
-        if_that (mode_at m.latches other page) (λ held. IsTrue (goes_beside mode held)) held (if_that (mode_at m.latches actor page) (λ mode. IfSome (mode_at m.latches other page) (λ held. IsTrue (goes_beside mode held))) mode both own_before) holds
-    beside_from other page mode held another (inr (inl freely)) holds =
-        let grants : IsGrantable m.latches actor freely.wanted.page freely.wanted.mode = subst (λ (o : Option Wanted). IfSome o (λ wanted. IsGrantable m.latches actor wanted.page wanted.mode)) freely.wants freely.free in
-        let here : IfSome (mode_at m.latches other page) (λ held. IsTrue (goes_beside freely.wanted.mode held)) = subst (λ (n : ℕ). IfSome (mode_at m.latches other n) (λ held. IsTrue (goes_beside freely.wanted.mode held))) freely.page_is (grants other another) in
-        subst (λ (own : Mode). IsTrue (goes_beside own held)) freely.mode_is (if_that (mode_at m.latches other page) (λ held. IsTrue (goes_beside freely.wanted.mode held)) held here holds)
-    beside_from other page mode held another (inr (inr never)) holds = let used = fit.used other page held holds in absurd (never used.0 used.1)
-
     beside : (other page : ℕ) (mode held : Mode) → other ≢ actor → mode_at new.latches actor page ≡ Some mode → mode_at new.latches other page ≡ Some held → IsTrue (goes_beside mode held)
     beside other page mode held another mine holds =
-        beside_from other page mode held another (backed.latches page mode (sym (own page) ∙ mine)).from (sym (rest other page another) ∙ holds)
+        beside_from m actor fit other page mode held another (backed.latches page mode (sym (own page) ∙ mine)).from (sym (rest other page another) ∙ holds)
 
     two_apart : (a b page : ℕ) (mode held : Mode) → a ≢ b → mode_at new.latches a page ≡ Some mode → mode_at new.latches b page ≡ Some held → IsTrue (goes_beside mode held)
     two_apart a b page mode held differ first second = elim (cases_Bool (a == actor)) [

@@ -190,6 +190,7 @@ module _ (m : Machine) (begun : IsBegun m) where
   walks_begin : WalksInSpace m
   walks_begin = record {
     held = λ actor held page walks live. absurd (of_each _ (holds_or_not held) actor walks);
+    leads = λ actor held page walks live. absurd (of_each _ (holds_or_not held) actor walks);
     parents = λ actor job parent stands. absurd (no_parent actor job parent stands);
     merging = of_each (λ a. IfSome (merging_at a) (NamesKnown m.store)) (record { session = tt; poster = tt; consolidator = tt; flusher = tt });
   }

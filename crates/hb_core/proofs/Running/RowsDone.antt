@@ -8,30 +8,29 @@ use Rattle.hb_activity.specs.declared.dropping.DropWhy.TheVariants as drops
 use Rattle.hb_activity.specs.declared.jobs.Job.{Job}
 use Rattle.hb_activity.specs.declared.wanting.Wanted.{Wanted}
 use Rattle.hb_activity.specs.Classes.{class_of, idle_of}
+use Rattle.hb_activity.specs.declared.deciding.Next.{Next}
+use Rattle.hb_activity.specs.Deciding.{deed_of}
 use Rattle.hb_activity.specs.Deeds.{Deed}
 use Rattle.hb_disk.specs.Model.{DiskModel}
-use Rattle.hb_latch.specs.Tables.{LatchTable, MayLatch}
+use Rattle.hb_latch.specs.Tables.{MayLatch}
 use Rattle.hb_ops.specs.declared.operations.Op.{Op}
 use Rattle.hb_poster.specs.PosterRows.{after_look}
 use Rattle.hb_set.specs.Order.{Entry}
-use Rattle.hb_set.specs.declared.scripts.Line.{Line}
-use Rattle.hb_store.specs.States.{StoreState}
 use Rattle.hb_terms.specs.declared.plans.PostPlan.{PostPlan}
 use Rattle.hb_terms.specs.declared.plans.PostPlan.TheVariants as plans
 use Rattle.hb_core.specs.declared.halts.Halt.TheVariants.{GivesUp}
 use Rattle.hb_core.specs.declared.outcomes.Outcome.{Outcome}
-use Rattle.hb_core.specs.Acting.{DoesRow, HasOp, MayNeed, NeedsNumber, TakesMemory, takes_number}
+use Rattle.hb_core.specs.Acting.{DoesRow, HasOp, MayNeed, NeedsNumber, TakesMemory}
 use Rattle.hb_core.specs.Asking.{wanted_by}
 use Rattle.hb_core.specs.Fetching.{Brings, IsFreeHead, IsWantedPage}
 use Rattle.hb_core.specs.KeptFits.{class_for}
 use Rattle.hb_core.specs.Machines.{Machine, next_of, with_disk}
-use Rattle.hb_core.specs.Moving.{DoesDeed, KeepsFilesBy, MayCommit, MayStand, with_standing}
-use Rattle.hb_core.specs.Performing.{MayDo}
+use Rattle.hb_core.specs.Moving.{DoesDeed, KeepsFilesBy, placed, with_standing}
 use Rattle.hb_core.specs.Rows.{Row}
 use Rattle.hb_core.specs.Showing.{RunningCore, ShowsMachine}
 use Rattle.hb_core.specs.Working.{Halts, HasPages, IsWorking, ShowsBut, with_pages}
 use Rattle.hb_core.proofs.Running.Brought.{brings_wider}
-use Rattle.hb_core.proofs.Running.DeedFits.{deed_has_room, deed_may_commit, deed_may_stand, deed_takes_number}
+use Rattle.hb_core.proofs.Running.MayPerform.{brings_as_row, has_room, may_commit_then, stands_after}
 use Rattle.hb_core.proofs.Running.DeedShows.{deed_shows}
 use Rattle.hb_core.proofs.Running.NumbersInHand.{row_number}
 use Rattle.hb_core.proofs.Running.StandsElsewhere.{shows_but}
@@ -92,13 +91,6 @@ module _ (d : DiskModel) (c : RunningCore) (m : Machine) (actor : ℕ) (free : O
   needs : IsSome free → Needs
   needs = needed Needs (λ next. next_of c.store ≡ Some next) free pages.number
 
-  brings_row : (deed : Deed) → IsRow deed → Brings m (λ id. IsWantedPage (wanted_by m actor) id ⊎ (IsTrue (takes_number deed.op) × IsFreeHead m.store id)) c.store
-  brings_row deed row = brings_wider m (λ id. IsWantedPage (wanted_by m actor) id ⊎ (IsSome free × IsFreeHead m.store id)) _ c.store wider pages.brings
-    where
-      wider : (id : ℕ) → IsWantedPage (wanted_by m actor) id ⊎ (IsSome free × IsFreeHead m.store id) → IsWantedPage (wanted_by m actor) id ⊎ (IsTrue (takes_number deed.op) × IsFreeHead m.store id)
-      wider id (inl wanted) = inl wanted
-      wider id (inr (some, head)) = inr (deed_takes_number m actor c deed row (needs some), head)
-
   brings_needed : Brings m (MayNeed m actor c.store) c.store
   brings_needed = brings_wider m (λ id. IsWantedPage (wanted_by m actor) id ⊎ (IsSome free × IsFreeHead m.store id)) (MayNeed m actor c.store) c.store wider pages.brings
     where
@@ -106,31 +98,22 @@ module _ (d : DiskModel) (c : RunningCore) (m : Machine) (actor : ℕ) (free : O
       wider id (inl wanted) = inl wanted
       wider id (inr (some, head)) = inr (needs some, head)
 
-  -- the row's deed is done
-  pub row_done : (deed : Deed) (outcome : Outcome) (after : RunningCore) → IsRow deed → DoesDeed actor deed outcome idled after → KeepsFilesBy deed.op d c.store d after.store → (new : Machine) × DoesRow m actor outcome new × ShowsMachine d after new
-  row_done deed outcome after row does keeps =
-      let done = deed_shows d idled after m actor deed outcome may shows_idled does pages.may.goes_on.kept.lines_in_turn
-          (row_number m c.store (m.activity actor) (wanted_by m actor) deed pages.may.working row) keeps in
-      (done.0, record { fetched = c.store; deed = deed; brings = brings_row deed row; row = row; performs = done.1 }, done.2)
-
-  -- memory is refused, for what the decider makes, or for the operation
+  -- memory is refused, for what the decider makes
   pub row_refused : (deed : Deed) × IsRow deed × TakesMemory (m.activity actor) deed → Halts m actor (GivesUp drops.NoMemory) d idled
   row_refused takes = record { brings = brings_needed; shows = shows_idled; cause = inr takes }
 
-  pub op_refused : (deed : Deed) → IsRow deed → IsSome deed.op → Halts m actor (GivesUp drops.NoMemory) d idled
-  op_refused deed row some = row_refused (deed, row, takes_memory (with_pages c m) (m.activity actor) (wanted_by m actor) deed pages.may.working row some)
+  -- what the decider said
+  module _ (next : Next) (row : IsRow (placed (length m.order) (deed_of (m.activity actor) next))) where
+    abbrev deed : Deed
+    deed = placed (length m.order) (deed_of (m.activity actor) next)
 
-  -- what is asked for before it is performed
-  pub row_stands : (deed : Deed) → IsRow deed → (st : StoreState) → MayDo deed.op (length c.order) c.store st → MayStand actor c.latches st deed.next
-  row_stands deed row st does = subst (λ (t : LatchTable). MayStand actor t st deed.next) pages.shows.latches
-      (deed_may_stand m actor c free d may pages deed row st (subst (λ (n : ℕ). MayDo deed.op n c.store st) same_length does))
+    -- its deed is done
+    pub row_done : (outcome : Outcome) (after : RunningCore) → DoesDeed actor deed outcome idled after → KeepsFilesBy next.op d c.store d after.store → (new : Machine) × DoesRow m actor outcome new × ShowsMachine d after new
+    row_done outcome after does keeps =
+        let done = deed_shows d idled after m actor deed outcome may shows_idled does pages.may.goes_on.kept.lines_in_turn
+            (row_number m c.store (m.activity actor) (wanted_by m actor) deed pages.may.working row) keeps in
+        (done.0, record { fetched = c.store; deed = deed; brings = brings_as_row d c m actor free may pages next row; row = row; performs = done.1 }, done.2)
 
-  commits_idled : (o : Option Op) → IfSome o (MayCommit d c) → IfSome o (MayCommit d idled)
-  commits_idled None commits = commits
-  commits_idled (Some op) commits = record { running = commits.running; ready = commits.ready; points = commits.points; allowed = commits.allowed; licensed = commits.licensed; marks = commits.marks }
-
-  pub row_commits : (deed : Deed) → IsRow deed → IfSome deed.op (MayCommit d idled)
-  row_commits deed row = commits_idled deed.op (deed_may_commit m actor c free d may pages deed row)
-
-  pub row_joins : (deed : Deed) → IsRow deed → IsSome deed.joins → length c.order < length c.lines
-  row_joins deed row joins = subst (λ (n : ℕ). n < length c.lines) (sym same_length) (subst (λ (l : List Line). length m.order < length l) pages.shows.lines (deed_has_room m actor c free d may pages deed row joins))
+    -- or memory is refused to its operation
+    pub op_refused : IsSome next.op → Halts m actor (GivesUp drops.NoMemory) d idled
+    op_refused some = row_refused (deed, row, takes_memory (with_pages c m) (m.activity actor) (wanted_by m actor) deed pages.may.working row some)

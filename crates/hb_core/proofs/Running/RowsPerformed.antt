@@ -1,16 +1,15 @@
 -- What a core performs by its decider's answer is the row of the machine that it shows.
 use Rattle.std.proofs.Common.{◌≡◌, ℕ, ◌<◌, List, length, Option, Some, None, IsSome, IfSome, IfOk, Result, Ok, Err, refl, sym, ap, ◌∙◌, subst}
 use Rattle.hb_activity.specs.declared.activities.Activity.{Activity}
-use Rattle.hb_activity.specs.declared.activities.Activity.TheVariants as at
-use Rattle.hb_activity.specs.declared.deciding.Fate.{Fate}
-use Rattle.hb_activity.specs.declared.deciding.Fate.TheVariants as fates
 use Rattle.hb_activity.specs.declared.deciding.Next.{Next}
 use Rattle.hb_activity.specs.declared.dropping.DropWhy.TheVariants as drops
-use Rattle.hb_activity.specs.Classes.{Hand, HasLine, hand_of, idle_of}
-use Rattle.hb_activity.specs.Deciding.{deed_of, joined_by}
+use Rattle.hb_activity.specs.Classes.{hand_of, idle_of}
+use Rattle.hb_activity.specs.Deciding.{deed_of}
 use Rattle.hb_activity.specs.Deeds.{Deed}
 use Rattle.hb_disk.specs.Model.{DiskModel}
 use Rattle.hb_latch.specs.Tables.{MayLatch}
+use Rattle.hb_ops.specs.Files.{FileState}
+use Rattle.hb_store.specs.Keeps.{StoreKeeps}
 use Rattle.hb_store.specs.States.{StoreState}
 use Rattle.hb_core.specs.declared.halts.Halt.{Halt}
 use Rattle.hb_core.specs.declared.halts.Halt.TheVariants.{GivesUp}
@@ -18,67 +17,65 @@ use Rattle.hb_core.specs.declared.outcomes.Outcome.{Outcome}
 use Rattle.hb_core.specs.Acting.{DoesRow, TakesMemory}
 use Rattle.hb_core.specs.Asking.{wanted_by}
 use Rattle.hb_core.specs.KeptFits.{class_for}
+use Rattle.hb_core.specs.MachineLaws.{RowsMayBeDone}
 use Rattle.hb_core.specs.Machines.{Machine}
 use Rattle.hb_core.specs.Moving.{DoesDeed, KeepsFilesBy, MayCommit, MayStand, joins_order, number_of, placed, placed_at, with_standing}
 use Rattle.hb_core.specs.Performing.{MayDo}
 use Rattle.hb_core.specs.Rows.{Row}
 use Rattle.hb_core.specs.Showing.{RunningCore, ShowsMachine}
 use Rattle.hb_core.specs.Working.{Halts, HasPages, with_pages}
-use Rattle.hb_core.proofs.Running.RowsDone.{IsRow, idled, op_refused, row_commits, row_done, row_joins, row_refused, row_stands, same_length}
+use Rattle.hb_core.proofs.Running.MayPerform.{has_room, may_commit_then, stands_after}
+use Rattle.hb_core.proofs.Running.RowsDone.{IsRow, op_refused, row_done, row_refused, same_length}
 
 -- two facts of what a call gave
 pub ok_both : {A E : Type 0} (r : Result A E) (P Q R : A → Type 0) → ((x : A) → P x → Q x → R x) → IfOk r P → IfOk r Q → IfOk r R
 ok_both (Ok x) P Q R then p q = then x p q
 ok_both (Err e) P Q R then p q = tt
 
--- a line that joins the order is one in hand, and has a reply that is kept
-joined_so : (hand : Hand) (line : Option ℕ) (then : Activity) (fate : Fate) (place : ℕ) → line ≡ number_of hand → IsSome (joins_order line then fate) → IsSome (joined_by hand (placed_at place then) fate)
-joined_so (HasLine l) line (at.SessionAwait number reply before) fates.TakesEffect place is joins = refl
-joined_so hand None (at.SessionAwait number reply before) fates.TakesEffect place is joins = cc
-joined_so hand (Some n) (at.SessionAwait number reply before) fates.TakesEffect place is joins = cc
-joined_so hand line then fate place is joins = cc
+abbrev OneDurable : DiskModel → StoreState → Type 0
+OneDurable d st = (durable other : FileState) (later others : List FileState) → StoreKeeps d st durable later → StoreKeeps d st other others → durable ≡ other
+
+abbrev OneLater : DiskModel → StoreState → Type 0
+OneLater d st = (durable other : FileState) (later others : List FileState) → StoreKeeps d st durable later → StoreKeeps d st other others → later ≡ others
 
 module _ {D : Type 0} (model : D → DiskModel) (x y : D) (c between : RunningCore) (m : Machine) (actor : ℕ) (free : Option (ℕ × ℕ)) (may : MayLatch actor)
-    (rest : between ≡ with_standing actor (idle_of (class_for actor)) c) (same : y ≡ x) (pages : HasPages m actor free (model x) c) (next : Next) where
-  abbrev deed : Deed
-  deed = placed (length m.order) (deed_of (m.activity actor) next)
-
-  long : length c.order ≡ length m.order
-  long = same_length (model x) c m actor free may pages
-
-  pub row_may_commit : Row (m.activity actor) (wanted_by m actor) (with_pages c m) deed → IfSome next.op (MayCommit (model y) between)
-  row_may_commit row = subst (λ (k : D). IfSome next.op (MayCommit (model k) between)) (sym same)
-      (subst (λ (s : RunningCore). IfSome next.op (MayCommit (model x) s)) (sym rest) (row_commits (model x) c m actor free may pages deed row))
-
-  pub row_may_stand : Row (m.activity actor) (wanted_by m actor) (with_pages c m) deed → (st : StoreState) → MayDo next.op (length between.order) between.store st → MayStand actor between.latches st (placed_at (length between.order) next.then)
-  row_may_stand row = subst (λ (s : RunningCore). (st : StoreState) → MayDo next.op (length s.order) s.store st → MayStand actor s.latches st (placed_at (length s.order) next.then)) (sym rest)
-      (λ st does. subst (λ (n : ℕ). MayStand actor c.latches st (placed_at n next.then)) (sym long) (row_stands (model x) c m actor free may pages deed row st does))
-
-  pub row_may_join : Row (m.activity actor) (wanted_by m actor) (with_pages c m) deed → (line : Option ℕ) → line ≡ number_of (hand_of (m.activity actor)) → IsSome (joins_order line next.then next.fate) → length between.order < length between.lines
-  row_may_join row line is joins = subst (λ (s : RunningCore). length s.order < length s.lines) (sym rest)
-      (row_joins (model x) c m actor free may pages deed row (joined_so (hand_of (m.activity actor)) line next.then next.fate (length m.order) is joins))
-
+    (rest : between ≡ with_standing actor (idle_of (class_for actor)) c) (same : y ≡ x) (pages : HasPages m actor free (model x) c) where
   pub refused_halts : (halt : Halt) → halt ≡ GivesUp drops.NoMemory → (deed : Deed) × IsRow (model x) c m actor free may pages deed × TakesMemory (m.activity actor) deed → Halts m actor halt (model y) between
   refused_halts halt is takes = subst (λ (h : Halt). Halts m actor h (model y) between) (sym is) (subst (λ (k : D). Halts m actor (GivesUp drops.NoMemory) (model k) between) (sym same)
       (subst (λ (s : RunningCore). Halts m actor (GivesUp drops.NoMemory) (model x) s) (sym rest) (row_refused (model x) c m actor free may pages takes)))
 
-  module _ (z : D) (after : RunningCore) (then : z ≡ y) (row : Row (m.activity actor) (wanted_by m actor) (with_pages c m) deed) where
-    pub performed_halts : (halt : Halt) → (halt ≡ GivesUp drops.NoMemory) × IsSome next.op × (after ≡ between) → Halts m actor halt (model z) after
-    performed_halts halt why = subst (λ (k : D). Halts m actor halt (model k) after) (sym then) (subst (λ (s : RunningCore). Halts m actor halt (model y) s) (sym why.2)
-        (subst (λ (h : Halt). Halts m actor h (model y) between) (sym why.0) (subst (λ (k : D). Halts m actor (GivesUp drops.NoMemory) (model k) between) (sym same)
-        (subst (λ (s : RunningCore). Halts m actor (GivesUp drops.NoMemory) (model x) s) (sym rest) (op_refused (model x) c m actor free may pages deed row why.1)))))
+  module _ (next : Next) (row : Row (m.activity actor) (wanted_by m actor) (with_pages c m) (placed (length m.order) (deed_of (m.activity actor) next))) where
+    pub row_may_commit : RowsMayBeDone → OneDurable (model y) between.store → OneLater (model y) between.store → IfSome next.op (MayCommit (model y) between)
+    row_may_commit done one_durable one_later = subst (λ (k : D). IfSome next.op (MayCommit (model k) between)) (sym same)
+        (subst (λ (s : RunningCore). IfSome next.op (MayCommit (model x) s)) (sym rest)
+        (may_commit_then (model x) c m actor free may pages next row (idle_of (class_for actor)) done
+        (subst (λ (k : D). OneDurable (model k) c.store) same (subst (λ (s : RunningCore). OneDurable (model y) s.store) rest one_durable))
+        (subst (λ (k : D). OneLater (model k) c.store) same (subst (λ (s : RunningCore). OneLater (model y) s.store) rest one_later))))
 
-    pub performed_row : (line : Option ℕ) (outcome : Outcome) → line ≡ number_of (hand_of (m.activity actor))
-        → ((state : Activity) → line ≡ number_of (hand_of state) → DoesDeed actor (placed (length between.order) (deed_of state next)) outcome between after)
-        → KeepsFilesBy next.op (model y) between.store (model z) after.store → (new : Machine) × DoesRow m actor outcome new × ShowsMachine (model z) after new
-    performed_row line outcome is does keeps =
-        let own : DoesDeed actor (placed (length between.order) (deed_of (m.activity actor) next)) outcome between after = does (m.activity actor) is in
-        let of_idled : DoesDeed actor (placed (length c.order) (deed_of (m.activity actor) next)) outcome (idled (model x) c m actor free may pages) after =
-            subst (λ (s : RunningCore). DoesDeed actor (placed (length s.order) (deed_of (m.activity actor) next)) outcome s after) rest own in
-        let placed_so = subst (λ (n : ℕ). DoesDeed actor (placed n (deed_of (m.activity actor) next)) outcome (idled (model x) c m actor free may pages) after) long of_idled in
-        let kept : KeepsFilesBy next.op (model x) c.store (model x) after.store =
-            subst (λ (k : D). KeepsFilesBy next.op (model x) c.store (model k) after.store) (then ∙ same)
-            (subst (λ (k : D). KeepsFilesBy next.op (model k) c.store (model z) after.store) same
-            (subst (λ (s : RunningCore). KeepsFilesBy next.op (model y) s.store (model z) after.store) rest keeps)) in
-        let done = row_done (model x) c m actor free may pages deed outcome after row placed_so kept in
-        (done.0, done.1, subst (λ (k : D). ShowsMachine (model k) after done.0) (sym (then ∙ same)) done.2)
+    pub row_may_stand : (st : StoreState) → MayDo next.op (length between.order) between.store st → MayStand actor between.latches st (placed_at (length between.order) next.then)
+    row_may_stand = subst (λ (s : RunningCore). (st : StoreState) → MayDo next.op (length s.order) s.store st → MayStand actor s.latches st (placed_at (length s.order) next.then)) (sym rest)
+        (stands_after (model x) c m actor free may pages next row)
+
+    pub row_may_join : (line : Option ℕ) → line ≡ number_of (hand_of (m.activity actor)) → IsSome (joins_order line next.then next.fate) → length between.order < length between.lines
+    row_may_join line is joins = subst (λ (s : RunningCore). length s.order < length s.lines) (sym rest) (has_room (model x) c m actor free may pages next row line is joins)
+
+    module _ (z : D) (after : RunningCore) (then : z ≡ y) where
+      pub performed_halts : (halt : Halt) → (halt ≡ GivesUp drops.NoMemory) × IsSome next.op × (after ≡ between) → Halts m actor halt (model z) after
+      performed_halts halt why = subst (λ (k : D). Halts m actor halt (model k) after) (sym then) (subst (λ (s : RunningCore). Halts m actor halt (model y) s) (sym why.2)
+          (subst (λ (h : Halt). Halts m actor h (model y) between) (sym why.0) (subst (λ (k : D). Halts m actor (GivesUp drops.NoMemory) (model k) between) (sym same)
+          (subst (λ (s : RunningCore). Halts m actor (GivesUp drops.NoMemory) (model x) s) (sym rest) (op_refused (model x) c m actor free may pages next row why.1)))))
+
+      pub performed_row : (line : Option ℕ) (outcome : Outcome) → line ≡ number_of (hand_of (m.activity actor))
+          → ((state : Activity) → line ≡ number_of (hand_of state) → DoesDeed actor (placed (length between.order) (deed_of state next)) outcome between after)
+          → KeepsFilesBy next.op (model y) between.store (model z) after.store → (new : Machine) × DoesRow m actor outcome new × ShowsMachine (model z) after new
+      performed_row line outcome is does keeps =
+          let core : RunningCore = with_standing actor (idle_of (class_for actor)) c in
+          let of_idled : DoesDeed actor (placed (length c.order) (deed_of (m.activity actor) next)) outcome core after =
+              subst (λ (s : RunningCore). DoesDeed actor (placed (length s.order) (deed_of (m.activity actor) next)) outcome s after) rest (does (m.activity actor) is) in
+          let long : length c.order ≡ length m.order = same_length (model x) c m actor free may pages in
+          let kept : KeepsFilesBy next.op (model x) c.store (model x) after.store =
+              subst (λ (k : D). KeepsFilesBy next.op (model x) c.store (model k) after.store) (then ∙ same)
+              (subst (λ (k : D). KeepsFilesBy next.op (model k) c.store (model z) after.store) same
+              (subst (λ (s : RunningCore). KeepsFilesBy next.op (model y) s.store (model z) after.store) rest keeps)) in
+          let done = row_done (model x) c m actor free may pages next row outcome after (subst (λ (n : ℕ). DoesDeed actor (placed n (deed_of (m.activity actor) next)) outcome core after) long of_idled) kept in
+          (done.0, done.1, subst (λ (k : D). ShowsMachine (model k) after done.0) (sym (then ∙ same)) done.2)

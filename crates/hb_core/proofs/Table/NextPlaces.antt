@@ -11,7 +11,7 @@ use Rattle.hb_activity.specs.declared.activities.Activity.TheVariants as at
 use Rattle.hb_activity.specs.declared.dropping.DropWhy.{DropWhy}
 use Rattle.hb_activity.specs.Classes.{Class, class_of, idle_of}
 use Rattle.hb_activity.specs.Deeds.{Deed, moves_to}
-use Rattle.hb_activity.specs.Passing.{posts_owed}
+use Rattle.hb_activity.specs.Passing.{IsPointer, posts_owed}
 use Rattle.hb_activity.specs.Walks.{walk_held, walk_point}
 use Rattle.hb_core.proofs.Table.GivenUp.{given_up_is, idle_latches, idle_merging, idle_walks, run_out_is}
 use Rattle.hb_core.specs.Asking.{wanted_by}
@@ -43,6 +43,7 @@ pub record WalksTo (st : StoreState) (deed : Deed) : Type 0 where
   pub p : List ℕ
   pub placed : Placed
   pub leaf : leaf_at page p ≡ Some placed
+  pub names : IsPointer placed.leaf
   pub held : walk_held deed.next ≡ Some id
   pub point : walk_point deed.next ≡ Some p
   pub merging : merging_at deed.next ≡ None
@@ -122,6 +123,7 @@ module _ (m : Machine) (actor : ℕ) (fetched : StoreState) where
     p = p;
     placed = record { leaf = leaf; area = row.area };
     leaf = row.at_point;
+    names = row.names;
     held = held;
     point = point;
     merging = merging;

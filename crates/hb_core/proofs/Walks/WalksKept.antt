@@ -1,5 +1,5 @@
 -- After a step the page that a walk holds has the walk's point in its box, and the parent that a poster holds a child leaf there.
-use Rattle.std.proofs.Common.{◌≡◌, ◌≢◌, ◌⊎◌, inl, inr, ℕ, ◌==◌, Bool, cond, List, [], ◌∷◌, Option, Some, None, IfSome, refl, sym, ap, ◌∙◌, subst}
+use Rattle.std.proofs.Common.{◌≡◌, ◌≢◌, ◌⊎◌, inl, inr, ℕ, ◌==◌, Bool, cond, List, [], ◌∷◌, Option, Some, None, IfSome, IsSome, refl, sym, ap, ◌∙◌, subst}
 use Rattle.std.proofs.lemmas.Bool.{cases_Bool, eqb-true, eqb-false, eq-eqb, ne_eqb}
 use Rattle.hb_frag.specs.declared.pages.LivePage.{LivePage}
 use Rattle.hb_frag.specs.declared.pages.Page.TheVariants.{Live}
@@ -13,7 +13,12 @@ use Rattle.hb_core.specs.declared.outcomes.Outcome.{Outcome}
 use Rattle.hb_core.specs.declared.outcomes.Outcome.TheVariants as outcomes
 use Rattle.hb_activity.specs.Deeds.{Deed}
 use Rattle.hb_activity.specs.Holding.{latch_on}
-use Rattle.hb_activity.specs.Passing.{LeadsBelow}
+use Rattle.hb_activity.specs.Passing.{IsPointer, LeadsBelow}
+use Rattle.hb_activity.specs.Wanting.{named_page, onward_at}
+use Rattle.hb_frag.specs.Leaves.{Placed, leaf_at}
+use Rattle.std.specs.Option.{option_and_then}
+use Rattle.hb_frag.specs.declared.leaves.Leaf.{Leaf}
+use Rattle.hb_frag.specs.declared.leaves.Leaf.TheVariants.{Records, Child, Sibling}
 use Rattle.hb_activity.specs.Walks.{walk_held, walk_point}
 use Rattle.hb_core.proofs.Memory.BroughtPages.{still_held}
 use Rattle.hb_core.proofs.Latches.LatchesStay.{walk_latched}
@@ -45,14 +50,15 @@ HasParentOf st job parent = (page : LivePage) × (live_here st parent ≡ Some p
 -- what one activity has of it
 pub record StandsInSpace (st : StoreState) (activity : Activity) : Type 0 where
   pub held : (held : ℕ) (page : LivePage) → walk_held activity ≡ Some held → live_here st held ≡ Some page → IfSome (walk_point activity) (Holds page.area)
+  pub leads : (held : ℕ) (page : LivePage) → walk_held activity ≡ Some held → live_here st held ≡ Some page → IfSome (walk_point activity) (λ p. IsSome (onward_at page p))
   pub parents : (job : Job) (parent : ℕ) → IsAtParent activity job parent → HasParentOf st job parent
   pub merging : IfSome (merging_at activity) (NamesKnown st)
 
 each_stands : (m : Machine) → WalksInSpace m → (actor : ℕ) → StandsInSpace m.store (m.activity actor)
-each_stands m walks actor = record { held = walks.held actor; parents = walks.parents actor; merging = walks.merging actor }
+each_stands m walks actor = record { held = walks.held actor; leads = walks.leads actor; parents = walks.parents actor; merging = walks.merging actor }
 
 all_stand : (m : Machine) → ((actor : ℕ) → StandsInSpace m.store (m.activity actor)) → WalksInSpace m
-all_stand m each = record { held = λ actor. (each actor).held; parents = λ actor. (each actor).parents; merging = λ actor. (each actor).merging }
+all_stand m each = record { held = λ actor. (each actor).held; leads = λ actor. (each actor).leads; parents = λ actor. (each actor).parents; merging = λ actor. (each actor).merging }
 
 moved_parent : (old new : StoreState) (job : Job) (parent : ℕ) → ((page : LivePage) → live_here old parent ≡ Some page → live_here new parent ≡ Some page) → HasParentOf old job parent → HasParentOf new job parent
 moved_parent old new job parent moves (page, live, level, leads) = (page, moves page live, level, leads)
@@ -63,6 +69,7 @@ stands_again : (activity : Activity) (old new : StoreState) → StandsInSpace ol
     → ((place : AtParent) → merging_at activity ≡ Some place → PlaceStays old new place) → StandsInSpace new activity
 stands_again activity old new stands walk parent merges = record {
   held = λ held page walks live. stands.held held page walks (walk held page walks live);
+  leads = λ held page walks live. stands.leads held page walks (walk held page walks live);
   parents = λ job at_id is. moved_parent old new job at_id (λ page live. parent job at_id page is live) (stands.parents job at_id is);
   merging = named_again old new (merging_at activity) merges stands.merging;
 }
@@ -92,6 +99,7 @@ no_parent st activity job parent none (inr (inr is)) = some (sym (ap (latches_he
 free_stands : (st : StoreState) (activity : Activity) → HoldsNothing activity → StandsInSpace st activity
 free_stands st activity free = record {
   held = λ held page walks live. absurd (no_walk activity held free.walk walks);
+  leads = λ held page walks live. absurd (no_walk activity held free.walk walks);
   parents = λ job parent is. absurd (no_parent st activity job parent (free.latches st) is);
   merging = none_named st (merging_at activity) free.merging;
 }
@@ -112,6 +120,7 @@ poster_merges_not activity job parent (inr (inr is)) = ap merging_at is
 merges_in_space : (st : StoreState) (activity : Activity) (place : AtParent) → walk_held activity ≡ None → merging_at activity ≡ Some place → NamesKnown st place → StandsInSpace st activity
 merges_in_space st activity place still is named = record {
   held = λ held page walks live. absurd (no_walk activity held still walks);
+  leads = λ held page walks live. absurd (no_walk activity held still walks);
   parents = λ job parent at_parent. absurd (nowhere (sym (poster_merges_not activity job parent at_parent) ∙ is));
   merging = subst (λ (o : Option AtParent). IfSome o (NamesKnown st)) (sym is) named;
 }
@@ -123,6 +132,7 @@ merges_in_space st activity place still is named = record {
 split_stands : (st : StoreState) (activity : Activity) (line : Line) (held : ℕ) → activity ≡ at.SessionSplit line held → StandsInSpace st activity
 split_stands st activity line held is = subst (StandsInSpace st) (sym is) (record {
   held = λ id page walks live. absurd (no_walk (at.SessionSplit line held) id refl walks);
+  leads = λ id page walks live. absurd (no_walk (at.SessionSplit line held) id refl walks);
   parents = λ job parent at_parent. absurd (never job parent at_parent);
   merging = tt;
 })
@@ -135,6 +145,7 @@ split_stands st activity line held is = subst (StandsInSpace st) (sym is) (recor
 put_stands : (st : StoreState) (activity : Activity) (line : Line) (source fresh : ℕ) → activity ≡ at.SessionPut line source fresh → StandsInSpace st activity
 put_stands st activity line source fresh is = subst (StandsInSpace st) (sym is) (record {
   held = λ id page walks live. absurd (no_walk (at.SessionPut line source fresh) id refl walks);
+  leads = λ id page walks live. absurd (no_walk (at.SessionPut line source fresh) id refl walks);
   parents = λ job parent at_parent. absurd (never job parent at_parent);
   merging = tt;
 })
@@ -149,6 +160,7 @@ put_stands st activity line source fresh is = subst (StandsInSpace st) (sym is) 
 same_parent : (activity : Activity) (job : Job) (parent : ℕ) (st : StoreState) → IsAtParent activity job parent → HasParentOf st job parent → StandsInSpace st activity
 same_parent activity job parent st is has = record {
   held = λ held page walks live. absurd (walks_have_none activity held job parent walks is);
+  leads = λ held page walks live. absurd (walks_have_none activity held job parent walks is);
   parents = λ other at_id at_other. by other at_id is at_other;
   merging = none_named st (merging_at activity) (poster_merges_not activity job parent is);
 }
@@ -201,6 +213,15 @@ parent_latched st activity job parent is = by is
     by (inr (inl is)) = (Update, ap (λ (a : Activity). mode_among parent (latches_held st a)) is ∙ one Update)
     by (inr (inr is)) = (Exclusive, ap (λ (a : Activity). mode_among parent (latches_held st a)) is ∙ one Exclusive)
 
+-- a leaf that names a page leads on to that
+leads_on : (page : LivePage) (p : List ℕ) (l : Placed) → leaf_at page p ≡ Some l → IsPointer l.leaf → IsSome (onward_at page p)
+leads_on page p l there names = subst (λ (o : Option Placed). IsSome (option_and_then (λ (placed : Placed). named_page page.level placed.leaf) o)) (sym there) (by l.leaf names)
+  where
+    by : (leaf : Leaf) → IsPointer leaf → IsSome (named_page page.level leaf)
+    by (Records records) none = absurd none
+    by (Child name) some = refl
+    by (Sibling name) some = refl
+
 module _ (m : Machine) (actor : ℕ) (may : ℕ → Type 0) (fetched : StoreState) (latches : MayLatch actor) (fit : LatchesFit m) (inside : HoldsPagesOfFile m) (walks : WalksInSpace m) (brings : Brings m may fetched) (deed : Deed) (outcome : Outcome) (new : Machine) (performs : Performs m fetched actor deed outcome new) where
   -- a page that the actor holds stays
   own_there : (id : ℕ) (mode : Mode) (page : LivePage) → mode_among id (latches_held m.store (m.activity actor)) ≡ Some mode → live_here m.store id ≡ Some page → live_here fetched id ≡ Some page
@@ -217,6 +238,11 @@ module _ (m : Machine) (actor : ℕ) (may : ℕ → Type 0) (fetched : StoreStat
             let live_then : live_here fetched held ≡ Some page = sym (ap (λ (st : StoreState). live_here st held) store) ∙ live in
             let is = same_page (live_here fetched held) to.page page (ap (live_here fetched) (sym id) ∙ to.live) live_then in
             subst (λ (o : Option (List ℕ)). IfSome o (Holds page.area)) (sym to.point) (subst (λ (q : LivePage). Holds q.area to.p) is has);
+        leads = λ held page on live.
+            let id = same_number (walk_held deed.next) to.id held to.held on in
+            let live_then : live_here fetched held ≡ Some page = sym (ap (λ (st : StoreState). live_here st held) store) ∙ live in
+            let is = same_page (live_here fetched held) to.page page (ap (live_here fetched) (sym id) ∙ to.live) live_then in
+            subst (λ (o : Option (List ℕ)). IfSome o (λ p. IsSome (onward_at page p))) (sym to.point) (subst (λ (q : LivePage). IsSome (onward_at q to.p)) is (leads_on to.page to.p to.placed to.leaf to.names));
         parents = λ job parent is. absurd (walks_have_none deed.next to.id job parent to.held is);
         merging = none_named new.store (merging_at deed.next) to.merging;
       }

@@ -32,6 +32,7 @@ perform-requires-clause-commit g c =
     let pages = c.in_ok-free.ensures.numbered m (c.in_ok-bring.ensures.comes m c.requires.may.1 c.requires.may.2) in
     row_may_commit g.D.Device.model (core_disk c.number.new.self) (core_disk c.decide.new.self) (core_seen c.number.new.self) (core_seen c.decide.new.self) m c.args.actor c.in_ok-free.free c.requires.actor
     c.in-Ok.ensures.rest c.in-Ok.ensures.disk pages c.in-Ok.next (c.in-Ok.ensures.row m pages)
+    c.rows_may_be_done.ensures c.a_store_keeps_one_file.ensures.durable c.a_store_keeps_one_file.ensures.later
 
 pub perform-requires-clause-stand : goal.perform-requires-clause-stand
 perform-requires-clause-stand g c =
@@ -51,18 +52,18 @@ pub returns-in-Ok-clause-done : goal.returns-in-Ok-clause-done
 returns-in-Ok-clause-done g c = ok_both c.perform.result _ _ _ (λ outcome does files m may work.
     let pages = c.in_ok-free.ensures.numbered m (c.in_ok-bring.ensures.comes m may work) in
     performed_row g.D.Device.model (core_disk c.number.new.self) (core_disk c.decide.new.self) (core_seen c.number.new.self) (core_seen c.decide.new.self) m c.args.actor c.in_ok-free.free c.requires.actor
-    c.in-Ok.ensures.rest c.in-Ok.ensures.disk pages c.in-Ok.next (core_disk c.perform.new.self) (core_seen c.perform.new.self) c.perform.ensures.disk (c.in-Ok.ensures.row m pages)
+    c.in-Ok.ensures.rest c.in-Ok.ensures.disk pages c.in-Ok.next (c.in-Ok.ensures.row m pages) (core_disk c.perform.new.self) (core_seen c.perform.new.self) c.perform.ensures.disk
     c.args.line outcome (c.requires.line m may) does files) c.perform.ensures.does c.perform.ensures.files
 
 pub returns-in-Ok-clause-halts : goal.returns-in-Ok-clause-halts
 returns-in-Ok-clause-halts g c = IfErr-weaker c.perform.result _ _ (λ halt why m may work.
     let pages = c.in_ok-free.ensures.numbered m (c.in_ok-bring.ensures.comes m may work) in
     performed_halts g.D.Device.model (core_disk c.number.new.self) (core_disk c.decide.new.self) (core_seen c.number.new.self) (core_seen c.decide.new.self) m c.args.actor c.in_ok-free.free c.requires.actor
-    c.in-Ok.ensures.rest c.in-Ok.ensures.disk pages c.in-Ok.next (core_disk c.perform.new.self) (core_seen c.perform.new.self) c.perform.ensures.disk (c.in-Ok.ensures.row m pages)
+    c.in-Ok.ensures.rest c.in-Ok.ensures.disk pages c.in-Ok.next (c.in-Ok.ensures.row m pages) (core_disk c.perform.new.self) (core_seen c.perform.new.self) c.perform.ensures.disk
     halt why) c.perform.ensures.why
 
 pub returns-in-Err-clause-halts : goal.returns-in-Err-clause-halts
 returns-in-Err-clause-halts g c m may work =
     let pages = c.in_ok-free.ensures.numbered m (c.in_ok-bring.ensures.comes m may work) in
     refused_halts g.D.Device.model (core_disk c.number.new.self) (core_disk c.decide.new.self) (core_seen c.number.new.self) (core_seen c.decide.new.self) m c.args.actor c.in_ok-free.free c.requires.actor
-    c.in-Err.ensures.rest c.in-Err.ensures.disk pages c.in-Err.refused c.from.result c.from.ensures (c.in-Err.ensures.memory m pages)
+    c.in-Err.ensures.rest c.in-Err.ensures.disk pages c.from.result c.from.ensures (c.in-Err.ensures.memory m pages)

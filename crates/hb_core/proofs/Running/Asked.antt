@@ -1,0 +1,284 @@
+-- What a decider is asked: a core that has the pages of a step has all that the decider relies on.
+use Rattle.std.proofs.Common.{◌≡◌, ◌≢◌, ◌⊎◌, inl, inr, ℕ, ◌<◌, ◌≤◌, List, [], Option, Some, None, MatchOption, IsSome, IfSome, refl, sym, ap, ◌∙◌, subst, arith}
+use Rattle.std.specs.List.{All}
+use Rattle.std.specs.Option.{option_and_then, option_map}
+use Rattle.std.proofs.lemmas.Bool.{cases_lt}
+use Rattle.std.proofs.lemmas.List.Elements.{All-contains}
+use Rattle.hb_disk.specs.Model.{DiskModel}
+use Rattle.hb_space.specs.Boxes.{Area}
+use Rattle.hb_space.specs.Points.{IsPoint}
+use Rattle.hb_space.specs.declared.records.Record.{Record}
+use Rattle.hb_frag.specs.declared.leaves.Leaf.TheVariants.{Child}
+use Rattle.hb_frag.specs.declared.pages.LivePage.{LivePage}
+use Rattle.hb_frag.specs.Leaves.{Placed, leaf_at}
+use Rattle.hb_latch.specs.declared.modes.Mode.{Mode}
+use Rattle.hb_latch.specs.declared.modes.Mode.TheVariants.{Shared, Exclusive}
+use Rattle.hb_latch.specs.Tables.{MayLatch}
+use Rattle.hb_layout.specs.declared.meta.Meta.{Meta}
+use Rattle.hb_layout.specs.Limits.{IsLayout}
+use Rattle.hb_ops.specs.Files.{if_live}
+use Rattle.hb_ops.specs.Sound.{FitsFile}
+use Rattle.hb_set.specs.declared.commands.Command.{Command}
+use Rattle.hb_set.specs.declared.commands.Command.TheVariants.{Insert, Delete, Lookup, Search}
+use Rattle.hb_set.specs.declared.scripts.Line.{Line}
+use Rattle.hb_activity.specs.declared.jobs.Job.{Job}
+use Rattle.hb_activity.specs.declared.wanting.Wanted.{Wanted}
+use Rattle.hb_activity.specs.declared.activities.Activity.{Activity}
+use Rattle.hb_activity.specs.declared.activities.Activity.TheVariants as at
+use Rattle.hb_activity.specs.Classes.{Posters, Sessions, class_of, line_in_hand}
+use Rattle.hb_activity.specs.Deciding.{FitsFree, given_sight}
+use Rattle.hb_activity.specs.Passing.{LeadsBelow}
+use Rattle.hb_activity.specs.Walks.{goal_of, job_mode, session_mode, walk_held, walk_point}
+use Rattle.hb_activity.specs.Wanting.{child_of, in_mode, named_child, onward_at, walk_next, wanted_of, wanted_page}
+use Rattle.hb_point.specs.Asks.{MayAsk}
+use Rattle.hb_point.specs.SessionRows.{WantsBoxes}
+use Rattle.hb_poster.specs.Asks.{MakesPage, MayBeAsked}
+use Rattle.hb_poster.specs.PosterRows.{MayGrow}
+use Rattle.hb_store.specs.States.{StoreState}
+use Rattle.hb_lemmas.proofs.Options.{at_value, has_value, some_value}
+use Rattle.hb_core.proofs.Orders.NextLines.{next_is}
+use Rattle.hb_core.proofs.Walks.MayBeAsked.{children_may_be_asked, others_may_be_asked, pages_at_hand_fit, points_may_be_asked, poster_walks_may_be_asked, puts_may_be_asked, splits_may_be_asked}
+use Rattle.hb_core.specs.AllowedLaws.{AnyPage}
+use Rattle.hb_core.specs.AskedLaws.{AsksToPut, AsksToSplit, AsksWithParent}
+use Rattle.hb_core.specs.Acting.{NeedsNumber}
+use Rattle.hb_core.specs.Asking.{looked_live, wanted_by}
+use Rattle.hb_core.specs.Fetching.{Brings}
+use Rattle.hb_core.specs.KeptMachine.{MachineKeeps}
+use Rattle.hb_core.specs.Looking.{AsksPoint, AsksPoster, number_of_row, other_page}
+use Rattle.hb_core.specs.Machines.{Machine, live_here, next_of, sight}
+use Rattle.hb_core.specs.Rows.{IsAtHand}
+use Rattle.hb_core.specs.Showing.{RunningCore}
+use Rattle.hb_core.specs.SteppingLaws.{HasNoSearches}
+use Rattle.hb_core.specs.Working.{HasPages, IsWorking, with_pages}
+
+-- pages that came, of whatever numbers
+pub any_brings : (m : Machine) (may : ℕ → Type 0) (fetched : StoreState) → Brings m may fetched → Brings m AnyPage fetched
+any_brings m may fetched brings = record { rest = brings.rest; stays = brings.stays; others = brings.others; only = λ id none some. tt; good = brings.good; told = brings.told }
+
+-- the line in hand is no search
+pub no_search_in_hand : (m : Machine) (actor : ℕ) (line : Line) → MachineKeeps m → HasNoSearches m → line_in_hand (m.activity actor) ≡ Some line → WantsBoxes line.command → ⊥
+no_search_in_hand m actor line keeps none is =
+    let next = at_value (line_in_hand (m.activity actor)) _ line is (keeps.lines_in_turn.in_hand actor) in
+    All-contains (λ (l : Line). WantsBoxes l.command → ⊥) m.lines line none (next_is actor m.answered m.lines line next).among
+
+-- any other command has a point to which it walks
+pub has_goal : (command : Command) (rest : List Area) → (WantsBoxes command → ⊥) → (p : List ℕ) × (goal_of command rest ≡ Some p)
+has_goal (Insert rec) rest none = (rec.key, refl)
+has_goal (Delete point) rest none = (point, refl)
+has_goal (Lookup point) rest none = (point, refl)
+has_goal (Search area) rest none = absurd (none tt)
+
+-- ---- what a step wants is there
+
+module _ (m : Machine) (actor : ℕ) (may : MayLatch actor) (keeps : MachineKeeps m) where
+  wants_on : (mode : ℕ → Mode) (next : Option (ℕ × ℕ)) → IsSome next → IsSome (in_mode mode next)
+  wants_on mode None none = cc
+  wants_on mode (Some next) some = refl
+
+  -- a walk that holds a page wants the one to which that leads
+  held_leads : (mode : ℕ → Mode) (p : List ℕ) (held : ℕ) (o : Option LivePage) → live_here m.store held ≡ o → IsSome o → walk_held (m.activity actor) ≡ Some held → walk_point (m.activity actor) ≡ Some p
+      → IsSome (in_mode mode (walk_next (Some p) (Some held) m.store.meta o))
+  held_leads mode p held None live none walks goal = cc
+  held_leads mode p held (Some page) live some walks goal =
+      wants_on mode (onward_at page p) (at_value (walk_point (m.activity actor)) (λ (q : List ℕ). IsSome (onward_at page q)) p goal (keeps.walk_in_space.leads actor held page walks live))
+
+  walk_wants : (mode : ℕ → Mode) (goal : Option (List ℕ)) (p : List ℕ) (held : Option ℕ) → goal ≡ Some p → walk_point (m.activity actor) ≡ goal → walk_held (m.activity actor) ≡ held
+      → IsSome (in_mode mode (walk_next goal held m.store.meta (option_and_then (live_here m.store) held)))
+  walk_wants mode goal p None is point walks = subst (λ (g : Option (List ℕ)). IsSome (in_mode mode (walk_next g None m.store.meta None))) (sym is) refl
+  walk_wants mode goal p (Some held) is point walks =
+      let there = keeps.latches_fit.walking actor held may walks in
+      subst (λ (g : Option (List ℕ)). IsSome (in_mode mode (walk_next g (Some held) m.store.meta (live_here m.store held)))) (sym is)
+        (held_leads mode p held (live_here m.store held) refl (has_value (live_here m.store held) there.0 (ap if_live there.1)) walks (point ∙ is))
+
+  -- a poster at a parent wants the child at its point, and to have the parent alone that page
+  parent_leads : (job : Job) (page : LivePage) → LeadsBelow page job → IsSome (in_mode (λ level. Shared) (child_of page job.point))
+  parent_leads job page (child, area, leaf) =
+      subst (λ (o : Option Placed). IsSome (in_mode (λ level. Shared) (option_and_then (λ (placed : Placed). named_child page.level placed.leaf) o))) (sym leaf) refl
+
+  parent_wants : (job : Job) (parent : ℕ) (page : LivePage) → live_here m.store parent ≡ Some page → LeadsBelow page job → IsSome (in_mode (λ level. Shared) (option_and_then (λ (page : LivePage). child_of page job.point) (live_here m.store parent)))
+  parent_wants job parent page live leads = subst (λ (o : Option LivePage). IsSome (in_mode (λ level. Shared) (option_and_then (λ (page : LivePage). child_of page job.point) o))) (sym live) (parent_leads job page leads)
+
+  abbrev Wants : Activity → Type 0
+  Wants activity = IsSome (wanted_of activity m.store.meta (looked_live m.store activity))
+
+  wants_page : (activity : Activity) → m.activity actor ≡ activity → Wants activity → IsSome (wanted_by m actor)
+  wants_page activity is wants = subst Wants (sym is) wants
+
+  pub session_wants : (line : Line) (held : Option ℕ) (rest : List Area) (found : List Record) (p : List ℕ) → m.activity actor ≡ at.SessionWalk line held rest found → goal_of line.command rest ≡ Some p → IsSome (wanted_by m actor)
+  session_wants line held rest found p is goal = wants_page (at.SessionWalk line held rest found) is (walk_wants (session_mode line.command) (goal_of line.command rest) p held goal (ap walk_point is) (ap walk_held is))
+
+  -- the poster wants a page wherever it is at work
+  pub poster_wants : (activity : Activity) → m.activity actor ≡ activity → class_of activity ≡ Posters → IsWorking activity → IsSome (wanted_by m actor)
+  poster_wants (at.PosterGrow job) is class working = wants_page (at.PosterGrow job) is refl
+  poster_wants (at.PosterWalk job held) is class working = wants_page (at.PosterWalk job held) is (walk_wants (job_mode job) (Some job.point) job.point held refl (ap walk_point is) (ap walk_held is))
+  poster_wants (at.PosterChild job parent) is class working =
+      let one = keeps.walk_in_space.parents actor job parent (inl is) in
+      wants_page (at.PosterChild job parent) is (parent_wants job parent one.0 one.1 one.3)
+  poster_wants (at.PosterPromote job parent) is class working =
+      let one = keeps.walk_in_space.parents actor job parent (inr (inl is)) in
+      wants_page (at.PosterPromote job parent) is (subst (λ (o : Option LivePage). IsSome (option_map (λ (page : LivePage). wanted_page parent page.level Exclusive) o)) (sym one.1) refl)
+  poster_wants (at.PosterAgain job parent) is class working =
+      let one = keeps.walk_in_space.parents actor job parent (inr (inr is)) in
+      wants_page (at.PosterAgain job parent) is (parent_wants job parent one.0 one.1 one.3)
+  poster_wants (at.SessionWalk line held rest found) is class working = cc
+  poster_wants (at.SessionSplit line held) is class working = cc
+  poster_wants (at.SessionPut line source fresh) is class working = cc
+  poster_wants activity is class working = absurd working
+
+-- A number is given where one is needed: exactly where a page is free.
+pub fits_free : (N : Type 0) (Q : ℕ × ℕ → Type 0) (meta : Meta) (free : Option (ℕ × ℕ)) → meta.live ≤ meta.pages → (N → meta.live < meta.pages) → (meta.live < meta.pages → N) → MatchOption free (¬ N) (λ next. N × Q next) → FitsFree meta free
+fits_free N Q meta (Some next) few gives needs has = gives has.0
+fits_free N Q meta None few gives needs has = elim (cases_lt meta.live meta.pages) [
+  | inl lt ↦ absurd (has (needs lt))
+  | inr ge ↦ omega (arith, ge, few)
+]
+
+module _ (d : DiskModel) (c : RunningCore) (m : Machine) (actor : ℕ) (free : Option (ℕ × ℕ)) (may : MayLatch actor) (has : HasPages m actor free d c) where
+  keeps : MachineKeeps m
+  keeps = has.may.goes_on.kept
+
+  pub brings : Brings m AnyPage c.store
+  brings = any_brings m _ c.store has.brings
+
+  meta : c.store.meta ≡ m.store.meta
+  meta = has.brings.rest.meta
+
+  few : c.store.meta.live ≤ c.store.meta.pages
+  few = subst (λ (m : Meta). m.live ≤ m.pages) (sym meta) keeps.marks_in_place.live
+
+  -- the page at hand
+  pub record HasWanted : Type 0 where
+    pub wanted : Wanted
+    pub wants : wanted_by m actor ≡ Some wanted
+    pub page : LivePage
+    pub hand : IsAtHand (with_pages c m) (m.activity actor) wanted page
+
+  pub has_wanted : IsSome (wanted_by m actor) → HasWanted
+  has_wanted some =
+      let one = some_value (wanted_by m actor) some in
+      let hand = at_value (wanted_by m actor) (λ (wanted : Wanted). (page : LivePage) × IsAtHand (with_pages c m) (m.activity actor) wanted page) one.0 one.1 has.at_hand in
+      record { wanted = one.0; wants = one.1; page = hand.0; hand = hand.1 }
+
+  abbrev pub Needs : Activity → Option Wanted → Type 0
+  Needs activity wanted = NeedsNumber activity wanted (with_pages c m)
+
+  numbers_at : (activity : Activity) (wanted : Option Wanted) → m.activity actor ≡ activity → wanted_by m actor ≡ wanted → MatchOption free (¬ (Needs activity wanted)) (λ next. Needs activity wanted × (next_of c.store ≡ Some next))
+  numbers_at activity wanted is wants =
+      subst (λ (w : Option Wanted). MatchOption free (¬ (Needs activity w)) (λ next. Needs activity w × (next_of c.store ≡ Some next))) wants
+      (subst (λ (a : Activity). MatchOption free (¬ (Needs a (wanted_by m actor))) (λ next. Needs a (wanted_by m actor) × (next_of c.store ≡ Some next))) is has.number)
+
+  pub at_number : (number : ℕ × ℕ) → free ≡ Some number → Needs (m.activity actor) (wanted_by m actor) × (next_of c.store ≡ Some number)
+  at_number number is = subst (λ (o : Option (ℕ × ℕ)). MatchOption o (¬ (Needs (m.activity actor) (wanted_by m actor))) (λ next. Needs (m.activity actor) (wanted_by m actor) × (next_of c.store ≡ Some next))) is has.number
+
+  pub next_is_given : (number : ℕ × ℕ) → free ≡ Some number → next_of c.store ≡ Some number
+  next_is_given number is = (at_number number is).1
+
+  layout : IsLayout c.store.meta
+  layout = subst IsLayout (sym meta) keeps.marks_in_place.layout
+
+  pub made : (id : ℕ) (page : LivePage) → live_here c.store id ≡ Some page → FitsFile c.store.meta page
+  made id page live = subst (λ (m : Meta). FitsFile m page) (sym meta) (pages_at_hand_fit m c.store id page keeps brings live).1
+
+  -- ---- sessions
+
+  asks_point : (activity : Activity) (id : ℕ) (page : LivePage) → live_here c.store id ≡ Some page → MayAsk activity m.store.meta free id page (other_page c.store activity) → AsksPoint c.store activity id free
+  asks_point activity id page live asked = record { layout = layout; page = page; live = live; made = made id page live; asked = subst (λ (m : Meta). MayAsk activity m free id page (other_page c.store activity)) (sym meta) asked; next = next_is_given }
+
+  abbrev AsksSession : Activity → Type 0
+  AsksSession activity = AsksPoint c.store activity (number_of_row activity (wanted_by m actor)) free
+
+  at_wanted : (activity : Activity) (wanted : Option Wanted) → wanted_by m actor ≡ wanted → AsksPoint c.store activity (number_of_row activity wanted) free → AsksSession activity
+  at_wanted activity wanted wants asks = subst (λ (w : Option Wanted). AsksPoint c.store activity (number_of_row activity w) free) (sym wants) asks
+
+  pub alone : (activity : Activity) → m.activity actor ≡ activity → wanted_of activity m.store.meta (looked_live m.store activity) ≡ None → wanted_by m actor ≡ None
+  alone activity is none = ap (λ (a : Activity). wanted_of a m.store.meta (looked_live m.store a)) is ∙ none
+
+  pub split_fits : (line : Line) (held : ℕ) → m.activity actor ≡ at.SessionSplit line held → FitsFree m.store.meta free
+  split_fits line held is = subst (λ (m : Meta). FitsFree m free) meta
+      (fits_free (Needs (at.SessionSplit line held) None) (λ next. next_of c.store ≡ Some next) c.store.meta free few (λ need. need) (λ lt. lt) (numbers_at (at.SessionSplit line held) None is (alone (at.SessionSplit line held) is refl)))
+
+  walk_asks : (line : Line) (held : Option ℕ) (rest : List Area) (found : List Record) → m.activity actor ≡ at.SessionWalk line held rest found → IfSome (walk_point (m.activity actor)) IsPoint → AsksSession (at.SessionWalk line held rest found)
+  walk_asks line held rest found is points =
+      let none = no_search_in_hand m actor line keeps has.may.goes_on.searches (ap line_in_hand is) in
+      let goal = has_goal line.command rest none in
+      let at_goal = ap walk_point is ∙ goal.1 in
+      let its = has_wanted (session_wants m actor may keeps line held rest found goal.0 is goal.1) in
+      let asked = points_may_be_asked m actor c.store line held rest found its.wanted its.page free goal.0 may keeps brings is none at_goal (at_value (walk_point (m.activity actor)) IsPoint goal.0 at_goal points) its.wants its.hand in
+      at_wanted (at.SessionWalk line held rest found) (Some its.wanted) its.wants
+        (asks_point (at.SessionWalk line held rest found) its.wanted.page its.page its.hand.live (subst (λ (a : Activity). MayAsk a m.store.meta free its.wanted.page its.page None) is asked))
+
+  split_asks : (line : Line) (held : ℕ) → m.activity actor ≡ at.SessionSplit line held → AsksSession (at.SessionSplit line held)
+  split_asks line held is =
+      let asks = splits_may_be_asked m actor c.store line held free may keeps brings is (split_fits line held is) in
+      at_wanted (at.SessionSplit line held) None (alone (at.SessionSplit line held) is refl)
+        (asks_point (at.SessionSplit line held) held asks.page asks.live (subst (λ (a : Activity). MayAsk a m.store.meta free held asks.page None) is asks.may))
+
+  put_asks : (line : Line) (source fresh : ℕ) → m.activity actor ≡ at.SessionPut line source fresh → AsksSession (at.SessionPut line source fresh)
+  put_asks line source fresh is =
+      let asks = puts_may_be_asked m actor c.store line source fresh free may keeps brings is in
+      at_wanted (at.SessionPut line source fresh) None (alone (at.SessionPut line source fresh) is refl)
+        (asks_point (at.SessionPut line source fresh) source asks.page asks.live
+          (subst (λ (o : Option LivePage). MayAsk (at.SessionPut line source fresh) m.store.meta free source asks.page o) (sym asks.other_live) (subst (λ (a : Activity). MayAsk a m.store.meta free source asks.page (Some asks.other)) is asks.may)))
+
+  pub session_asks : (activity : Activity) → m.activity actor ≡ activity → class_of activity ≡ Sessions → IsWorking activity → IfSome (walk_point activity) IsPoint → AsksSession activity
+  session_asks (at.SessionWalk line held rest found) is class working points = walk_asks line held rest found is (subst (λ (a : Activity). IfSome (walk_point a) IsPoint) (sym is) points)
+  session_asks (at.SessionSplit line held) is class working points = split_asks line held is
+  session_asks (at.SessionPut line source fresh) is class working points = put_asks line source fresh is
+  session_asks (at.PosterGrow job) is class working points = cc
+  session_asks (at.PosterWalk job held) is class working points = cc
+  session_asks (at.PosterChild job parent) is class working points = cc
+  session_asks (at.PosterPromote job parent) is class working points = cc
+  session_asks (at.PosterAgain job parent) is class working points = cc
+  session_asks activity is class working points = absurd working
+
+  -- ---- the poster
+
+  abbrev AsksAsPoster : Activity → Type 0
+  AsksAsPoster activity = AsksPoster c.store activity (number_of_row activity (wanted_by m actor)) free
+
+  asks_poster : (activity : Activity) (its : HasWanted) → MayBeAsked activity m.store.meta its.page (other_page c.store activity) → (MakesPage activity c.store.meta its.page (other_page c.store activity) → FitsFree c.store.meta free) → AsksAsPoster activity
+  asks_poster activity its asked fits = subst (λ (w : Option Wanted). AsksPoster c.store activity (number_of_row activity w) free) (sym its.wants) (record {
+    layout = layout;
+    page = its.page;
+    live = its.hand.live;
+    made = made its.wanted.page its.page its.hand.live;
+    asked = subst (λ (m : Meta). MayBeAsked activity m its.page (other_page c.store activity)) (sym meta) asked;
+    fits = fits;
+    next = next_is_given;
+  })
+
+  grow_fits : (job : Job) (its : HasWanted) → m.activity actor ≡ at.PosterGrow job → MakesPage (at.PosterGrow job) c.store.meta its.page (other_page c.store (at.PosterGrow job)) → FitsFree c.store.meta free
+  grow_fits job its is grows =
+      fits_free (Needs (at.PosterGrow job) (Some its.wanted)) (λ next. next_of c.store ≡ Some next) c.store.meta free few (λ need. need.0)
+        (λ lt. (lt, its.page, subst (λ (a : Activity). IsAtHand (with_pages c m) a its.wanted its.page) is its.hand, record { height = grows.height; below = grows.below; gave = grows.gave }))
+        (numbers_at (at.PosterGrow job) (Some its.wanted) is its.wants)
+
+  again_fits : (job : Job) (parent : ℕ) (its : HasWanted) (over : LivePage) → m.activity actor ≡ at.PosterAgain job parent → live_here c.store parent ≡ Some over → MakesPage (at.PosterAgain job parent) c.store.meta its.page (Some over) → FitsFree c.store.meta free
+  again_fits job parent its over is live lacks =
+      fits_free (Needs (at.PosterAgain job parent) (Some its.wanted)) (λ next. next_of c.store ≡ Some next) c.store.meta free few (λ need. need.0)
+        (λ lt. (lt, its.page, subst (λ (a : Activity). IsAtHand (with_pages c m) a its.wanted its.page) is its.hand, (over, live, lacks)))
+        (numbers_at (at.PosterAgain job parent) (Some its.wanted) is its.wants)
+
+  asks_at : (activity : Activity) (its : HasWanted) → m.activity actor ≡ activity → IsWorking activity → class_of activity ≡ Posters → IfSome (walk_point activity) IsPoint → AsksAsPoster activity
+  asks_at (at.PosterGrow job) its is working class points =
+      asks_poster (at.PosterGrow job) its tt (grow_fits job its is)
+  asks_at (at.PosterWalk job held) its is working class point =
+      let asked = poster_walks_may_be_asked m actor c.store job held its.wanted its.page may keeps brings is point its.wants its.hand in
+      asks_poster (at.PosterWalk job held) its (subst (λ (a : Activity). MayBeAsked a m.store.meta its.page None) is asked) (λ none. absurd none)
+  asks_at (at.PosterChild job parent) its is working class points =
+      let asks = children_may_be_asked m actor c.store job parent its.wanted its.page may keeps brings (inl is) its.wants its.hand in
+      let asked = subst (λ (a : Activity). MayBeAsked a m.store.meta its.page (Some asks.over)) is asks.may in
+      asks_poster (at.PosterChild job parent) its (subst (λ (o : Option LivePage). MayBeAsked (at.PosterChild job parent) m.store.meta its.page o) (sym asks.live) asked) (λ none. absurd none)
+  asks_at (at.PosterPromote job parent) its is working class points = asks_poster (at.PosterPromote job parent) its tt (λ none. absurd none)
+  asks_at (at.PosterAgain job parent) its is working class points =
+      let asks = children_may_be_asked m actor c.store job parent its.wanted its.page may keeps brings (inr is) its.wants its.hand in
+      let asked = subst (λ (a : Activity). MayBeAsked a m.store.meta its.page (Some asks.over)) is asks.may in
+      asks_poster (at.PosterAgain job parent) its (subst (λ (o : Option LivePage). MayBeAsked (at.PosterAgain job parent) m.store.meta its.page o) (sym asks.live) asked)
+        (λ makes. again_fits job parent its asks.over is asks.live (subst (λ (o : Option LivePage). MakesPage (at.PosterAgain job parent) c.store.meta its.page o) asks.live makes))
+  asks_at (at.SessionWalk line held rest found) its is working class points = cc
+  asks_at (at.SessionSplit line held) its is working class points = cc
+  asks_at (at.SessionPut line source fresh) its is working class points = cc
+  asks_at activity its is working class points = absurd working
+
+  pub poster_asks : (activity : Activity) → m.activity actor ≡ activity → class_of activity ≡ Posters → IsWorking activity → IfSome (walk_point activity) IsPoint → AsksAsPoster activity
+  poster_asks activity is class working points = asks_at activity (has_wanted (poster_wants m actor may keeps activity is class working)) is working class points

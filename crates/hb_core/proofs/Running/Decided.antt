@@ -1,0 +1,164 @@
+-- A decider may be asked at a step that has its pages, and what it says is a row of the step.
+use Rattle.std.proofs.Common.{◌≡◌, ◌≢◌, ◌⊎◌, inl, inr, ℕ, ◌<◌, ◌≤◌, ◌==◌, Bool, true, false, cond, List, [], ◌∷◌, length, Option, Some, None, MatchOption, IsSome, IfSome, refl, sym, ap, ◌∙◌, subst}
+use Rattle.std.proofs.lemmas.Option.{same_Some}
+use Rattle.hb_disk.specs.Model.{DiskModel}
+use Rattle.hb_space.specs.Boxes.{Area}
+use Rattle.hb_space.specs.Points.{IsPoint}
+use Rattle.hb_space.specs.declared.records.Record.{Record}
+use Rattle.hb_frag.specs.declared.pages.LivePage.{LivePage}
+use Rattle.hb_latch.specs.Tables.{MayLatch}
+use Rattle.hb_layout.specs.declared.meta.Meta.{Meta}
+use Rattle.hb_set.specs.declared.scripts.Line.{Line}
+use Rattle.hb_activity.specs.declared.jobs.Job.{Job}
+use Rattle.hb_activity.specs.declared.wanting.Wanted.{Wanted}
+use Rattle.hb_activity.specs.declared.activities.Activity.{Activity}
+use Rattle.hb_activity.specs.declared.activities.Activity.TheVariants as at
+use Rattle.hb_activity.specs.Classes.{Class, Consolidators, Flushers, Posters, Sessions, class_of, line_in_hand}
+use Rattle.hb_activity.specs.Deeds.{Deed}
+use Rattle.hb_activity.specs.Sights.{Sight}
+use Rattle.hb_activity.specs.Walks.{goal_of, walk_point}
+use Rattle.hb_point.specs.PointRows.{PointRow}
+use Rattle.hb_poster.specs.PosterRows.{PosterRow}
+use Rattle.hb_store.specs.States.{StoreState}
+use Rattle.hb_core.proofs.Running.Asked.{HasWanted, alone, has_goal, has_wanted, no_search_in_hand, poster_asks, poster_wants, session_asks, session_wants}
+use Rattle.hb_core.proofs.Running.LiftedRows.{row_of_walk}
+use Rattle.hb_core.specs.Asking.{wanted_by}
+use Rattle.hb_core.specs.KeptFits.{class_for}
+use Rattle.hb_core.specs.KeptMachine.{MachineKeeps}
+use Rattle.hb_core.specs.Looking.{AsksPoint, AsksPoster, HasPointRow, HasPosterRow, number_of_row, sight_in}
+use Rattle.hb_core.specs.Machines.{Machine, live_here, sight}
+use Rattle.hb_core.specs.Moving.{StandsAs}
+use Rattle.hb_core.specs.Rows.{IsAtHand, Row, RowAt}
+use Rattle.hb_core.specs.Showing.{RunningCore}
+use Rattle.hb_core.specs.Working.{HasPages, IsWorking, with_pages}
+
+-- ---- who is at work
+
+pub works_as : (activity : Activity) → IsWorking activity → (class_of activity ≡ Sessions) ⊎ (class_of activity ≡ Posters)
+works_as (at.SessionWalk line held rest found) working = inl refl
+works_as (at.SessionSplit line held) working = inl refl
+works_as (at.SessionPut line source fresh) working = inl refl
+works_as (at.PosterGrow job) working = inr refl
+works_as (at.PosterWalk job held) working = inr refl
+works_as (at.PosterChild job parent) working = inr refl
+works_as (at.PosterPromote job parent) working = inr refl
+works_as (at.PosterAgain job parent) working = inr refl
+works_as activity working = absurd working
+
+never_posts : (merges flushes : Bool) → cond merges Consolidators (cond flushes Flushers Sessions) ≡ Posters → ⊥
+never_posts true flushes is = cc
+never_posts false true is = cc
+never_posts false false is = cc
+
+never_else : (actor : ℕ) → (actor == 17) ≡ false → class_for actor ≡ Posters → ⊥
+never_else actor off is = never_posts (actor == 18) (actor == 19) (sym (ap (λ (b : Bool). cond b Posters (cond (actor == 18) Consolidators (cond (actor == 19) Flushers Sessions))) off) ∙ is)
+
+-- a poster's row at the page that it latched
+row_of_poster : (s : Sight) (activity : Activity) (id : ℕ) (page : LivePage) (deed : Deed) → class_of activity ≡ Posters → IsWorking activity → PosterRow activity s id page deed → RowAt activity s id page deed
+row_of_poster s (at.PosterGrow job) id page deed class working row = row
+row_of_poster s (at.PosterWalk job held) id page deed class working row = row
+row_of_poster s (at.PosterChild job parent) id page deed class working row = row
+row_of_poster s (at.PosterPromote job parent) id page deed class working row = row
+row_of_poster s (at.PosterAgain job parent) id page deed class working row = row
+row_of_poster s (at.SessionWalk line held rest found) id page deed class working row = cc
+row_of_poster s (at.SessionSplit line held) id page deed class working row = cc
+row_of_poster s (at.SessionPut line source fresh) id page deed class working row = cc
+row_of_poster s activity id page deed class working row = absurd working
+
+module _ (d : DiskModel) (c : RunningCore) (m : Machine) (actor : ℕ) (free : Option (ℕ × ℕ)) (may : MayLatch actor) (has : HasPages m actor free d c) where
+  keeps : MachineKeeps m
+  keeps = has.may.goes_on.kept
+
+  pub stands : (activity : Activity) → StandsAs c actor activity → m.activity actor ≡ activity
+  stands activity is = same_Some (m.activity actor) activity (sym (has.shows.activities actor may) ∙ is)
+
+  pub works : (activity : Activity) → m.activity actor ≡ activity → IsWorking activity
+  works activity is = subst IsWorking is has.may.working
+
+  class_is : (activity : Activity) → m.activity actor ≡ activity → class_of activity ≡ class_for actor
+  class_is activity is = sym (ap class_of is) ∙ keeps.classes actor
+
+  pub posts : (activity : Activity) → m.activity actor ≡ activity → actor ≡ 17 → class_of activity ≡ Posters
+  posts activity is poster = class_is activity is ∙ ap class_for poster
+
+  pub is_session : (activity : Activity) → m.activity actor ≡ activity → (actor == 17) ≡ false → class_of activity ≡ Sessions
+  is_session activity is off = elim (works_as activity (works activity is)) [
+    | inl session ↦ session
+    | inr poster ↦ absurd (never_else actor off (sym (class_is activity is) ∙ poster))
+  ]
+
+  -- ---- what the deciders are asked
+
+  pub may_ask_session : (activity : Activity) (wanted : Option Wanted) (st : StoreState) → StandsAs c actor activity → wanted ≡ wanted_by m actor → st ≡ c.store → (actor == 17) ≡ false → IfSome (walk_point activity) IsPoint → AsksPoint st activity (number_of_row activity wanted) free
+  may_ask_session activity wanted st stood wants same off points =
+      let is = stands activity stood in
+      subst (λ (st : StoreState). AsksPoint st activity (number_of_row activity wanted) free) (sym same)
+      (subst (λ (w : Option Wanted). AsksPoint c.store activity (number_of_row activity w) free) (sym wants)
+      (session_asks d c m actor free may has activity is (is_session activity is off) (works activity is) points))
+
+  pub may_ask_poster : (activity : Activity) (wanted : Option Wanted) (st : StoreState) → StandsAs c actor activity → wanted ≡ wanted_by m actor → st ≡ c.store → actor ≡ 17 → IfSome (walk_point activity) IsPoint → AsksPoster st activity (number_of_row activity wanted) free
+  may_ask_poster activity wanted st stood wants same poster points =
+      let is = stands activity stood in
+      subst (λ (st : StoreState). AsksPoster st activity (number_of_row activity wanted) free) (sym same)
+      (subst (λ (w : Option Wanted). AsksPoster c.store activity (number_of_row activity w) free) (sym wants)
+      (poster_asks d c m actor free may has activity is (posts activity is poster) (works activity is) points))
+
+  -- ---- the rows
+
+  abbrev OwnRow : Activity → Option Wanted → Deed → Type 0
+  OwnRow activity wanted deed = Row activity wanted (with_pages c m) deed
+
+  walk_row : (line : Line) (held : Option ℕ) (rest : List Area) (found : List Record) (deed : Deed) → m.activity actor ≡ at.SessionWalk line held rest found
+      → HasPointRow c.store (at.SessionWalk line held rest found) (number_of_row (at.SessionWalk line held rest found) (wanted_by m actor)) (length m.order) deed → OwnRow (at.SessionWalk line held rest found) (wanted_by m actor) deed
+  walk_row line held rest found deed is row =
+      let none = no_search_in_hand m actor line keeps has.may.goes_on.searches (ap line_in_hand is) in
+      let goal = has_goal line.command rest none in
+      let its = has_wanted d c m actor free may has (session_wants m actor may keeps line held rest found goal.0 is goal.1) in
+      let at_page = subst (λ (w : Option Wanted). HasPointRow c.store (at.SessionWalk line held rest found) (number_of_row (at.SessionWalk line held rest found) w) (length m.order) deed) its.wants row in
+      let same : at_page.0 ≡ its.page = same_Some at_page.0 its.page (sym at_page.1 ∙ its.hand.live) in
+      subst (λ (w : Option Wanted). OwnRow (at.SessionWalk line held rest found) w deed) (sym its.wants)
+        (its.page, subst (λ (a : Activity). IsAtHand (with_pages c m) a its.wanted its.page) is its.hand,
+          row_of_walk (sight (with_pages c m)) line (goal_of line.command rest) rest found its.wanted.page its.page deed
+            (subst (λ (q : LivePage). PointRow (at.SessionWalk line held rest found) (sight_in c.store (length m.order)) its.wanted.page q deed) same at_page.2))
+
+  session_row : (activity : Activity) (deed : Deed) → m.activity actor ≡ activity → class_of activity ≡ Sessions → IsWorking activity → HasPointRow c.store activity (number_of_row activity (wanted_by m actor)) (length m.order) deed → OwnRow activity (wanted_by m actor) deed
+  session_row (at.SessionWalk line held rest found) deed is class working row = walk_row line held rest found deed is row
+  session_row (at.SessionSplit line held) deed is class working row =
+      subst (λ (w : Option Wanted). OwnRow (at.SessionSplit line held) w deed) (sym (alone d c m actor free may has (at.SessionSplit line held) is refl)) row.2
+  session_row (at.SessionPut line source fresh) deed is class working row =
+      subst (λ (w : Option Wanted). OwnRow (at.SessionPut line source fresh) w deed) (sym (alone d c m actor free may has (at.SessionPut line source fresh) is refl)) row.2
+  session_row (at.PosterGrow job) deed is class working row = cc
+  session_row (at.PosterWalk job held) deed is class working row = cc
+  session_row (at.PosterChild job parent) deed is class working row = cc
+  session_row (at.PosterPromote job parent) deed is class working row = cc
+  session_row (at.PosterAgain job parent) deed is class working row = cc
+  session_row activity deed is class working row = absurd working
+
+  -- of the page at hand, where one is wanted
+  pub at_hand : (activity : Activity) (its : HasWanted d c m actor free may has) (deed : Deed) → m.activity actor ≡ activity → RowAt activity (sight (with_pages c m)) its.wanted.page its.page deed → OwnRow activity (wanted_by m actor) deed
+  at_hand activity its deed is row =
+      subst (λ (w : Option Wanted). OwnRow activity w deed) (sym its.wants) (its.page, subst (λ (a : Activity). IsAtHand (with_pages c m) a its.wanted its.page) is its.hand, row)
+
+  poster_row : (activity : Activity) (deed : Deed) → m.activity actor ≡ activity → class_of activity ≡ Posters → IsWorking activity → HasPosterRow c.store activity (number_of_row activity (wanted_by m actor)) (length m.order) deed → OwnRow activity (wanted_by m actor) deed
+  poster_row activity deed is class working row =
+      let its = has_wanted d c m actor free may has (poster_wants m actor may keeps activity is class working) in
+      let at_page = subst (λ (w : Option Wanted). HasPosterRow c.store activity (number_of_row activity w) (length m.order) deed) its.wants row in
+      let same : at_page.0 ≡ its.page = same_Some at_page.0 its.page (sym at_page.1 ∙ its.hand.live) in
+      at_hand activity its deed is (row_of_poster (sight (with_pages c m)) activity its.wanted.page its.page deed class working
+        (subst (λ (q : LivePage). PosterRow activity (sight_in c.store (length m.order)) its.wanted.page q deed) same at_page.2))
+
+  pub decided_session : (activity : Activity) (wanted : Option Wanted) (st : StoreState) (deed : Activity → Deed) → StandsAs c actor activity → wanted ≡ wanted_by m actor → st ≡ c.store → (actor == 17) ≡ false
+      → HasPointRow st activity (number_of_row activity wanted) (length m.order) (deed activity) → Row (m.activity actor) (wanted_by m actor) (with_pages c m) (deed (m.activity actor))
+  decided_session activity wanted st deed stood wants same off row =
+      let is = stands activity stood in
+      let here = subst (λ (st : StoreState). HasPointRow st activity (number_of_row activity wanted) (length m.order) (deed activity)) same row in
+      let own = subst (λ (w : Option Wanted). HasPointRow c.store activity (number_of_row activity w) (length m.order) (deed activity)) wants here in
+      subst (λ (a : Activity). OwnRow a (wanted_by m actor) (deed a)) (sym is) (session_row activity (deed activity) is (is_session activity is off) (works activity is) own)
+
+  pub decided_poster : (activity : Activity) (wanted : Option Wanted) (st : StoreState) (deed : Activity → Deed) → StandsAs c actor activity → wanted ≡ wanted_by m actor → st ≡ c.store → actor ≡ 17
+      → HasPosterRow st activity (number_of_row activity wanted) (length m.order) (deed activity) → Row (m.activity actor) (wanted_by m actor) (with_pages c m) (deed (m.activity actor))
+  decided_poster activity wanted st deed stood wants same poster row =
+      let is = stands activity stood in
+      let here = subst (λ (st : StoreState). HasPosterRow st activity (number_of_row activity wanted) (length m.order) (deed activity)) same row in
+      let own = subst (λ (w : Option Wanted). HasPosterRow c.store activity (number_of_row activity w) (length m.order) (deed activity)) wants here in
+      subst (λ (a : Activity). OwnRow a (wanted_by m actor) (deed a)) (sym is) (poster_row activity (deed activity) is (posts activity is poster) (works activity is) own)

@@ -1,0 +1,64 @@
+-- A line that joins the order has room there: the order has no line twice, and the script has them all.
+use Rattle.std.proofs.Common.{◌≡◌, ◌≢◌, inl, inr, ℕ, zero, suc, ◌<◌, ◌≤◌, List, ◌∷◌, length, get_or, Option, Some, None, IsSome, refl, sym, ap, ◌∙◌, subst, arith}
+use Rattle.std.specs.List.{All, AllPairs, Contains}
+use Rattle.hb_set.specs.Order.{Entry}
+use Rattle.hb_set.specs.declared.commands.Reply.{Reply}
+use Rattle.hb_set.specs.declared.scripts.Line.{Line}
+use Rattle.hb_activity.specs.declared.wanting.Wanted.{Wanted}
+use Rattle.hb_activity.specs.declared.activities.Activity.{Activity}
+use Rattle.hb_activity.specs.declared.activities.Activity.TheVariants as at
+use Rattle.hb_activity.specs.Classes.{line_in_hand}
+use Rattle.hb_activity.specs.Deeds.{Deed}
+use Rattle.hb_point.specs.SessionRows.{next_line}
+use Rattle.hb_store.specs.States.{StoreState}
+use Rattle.hb_lemmas.proofs.Options.{at_value, not_none}
+use Rattle.hb_core.proofs.Orders.NextLines.{next_is}
+use Rattle.hb_core.proofs.Orders.ShortOrder.{next_not_placed, no_more_than}
+use Rattle.hb_core.proofs.Table.LineFates.{GoesOn, IsGivenUp, LineFate, TakesEffect, fate_row}
+use Rattle.hb_core.specs.Asking.{wanted_by}
+use Rattle.hb_core.specs.KeptMachine.{MachineKeeps}
+use Rattle.hb_core.specs.KeptTurns.{awaited_number}
+use Rattle.hb_core.specs.Machines.{Machine, with_disk}
+use Rattle.hb_core.specs.Rows.{Row}
+
+-- whoever has a line in hand waits for no place
+none_awaited : (activity : Activity) (line : Line) → line_in_hand activity ≡ Some line → awaited_number activity ≡ None
+none_awaited (at.SessionAwait number reply place) line is = cc
+none_awaited activity line is = refl
+
+module _ (m : Machine) (actor : ℕ) (keeps : MachineKeeps m) where
+  pub room_for : (line : Line) (reply : Reply) → line_in_hand (m.activity actor) ≡ Some line → length m.order < length m.lines
+  room_for line reply is = omega (arith, all)
+    where
+      next : next_line actor m.answered m.lines ≡ Some line
+      next = at_value (line_in_hand (m.activity actor)) (λ (line : Line). next_line actor m.answered m.lines ≡ Some line) line is (keeps.lines_in_turn.in_hand actor)
+
+      others : All (λ (e : Entry). e.line.number ≢ line.number) m.order
+      others = next_not_placed m actor line keeps.lines_in_turn next (none_awaited (m.activity actor) line is)
+
+      once : AllPairs (λ (e : Entry) (f : Entry). e.line.number ≢ f.line.number) (record { line = line; reply = reply } ∷ m.order)
+      once zero zero d low high = absurd (omega (arith, low))
+      once (suc i) zero d low high = absurd (omega (arith, low))
+      once zero (suc k) d low high = λ same. others k d (omega (arith, high)) (sym same)
+      once (suc i) (suc k) d low high = keeps.order_short.once i k d (omega (arith, low)) (omega (arith, high))
+
+      among : All (λ (e : Entry). Contains m.lines e.line) (record { line = line; reply = reply } ∷ m.order)
+      among zero d lt = (next_is actor m.answered m.lines line next).among
+      among (suc k) d lt = (keeps.lines_in_turn.placed k d (omega (arith, lt))).among
+
+      all : suc (length m.order) ≤ length m.lines
+      all = no_more_than (record { line = line; reply = reply } ∷ m.order) m.lines once among
+
+  pub joining_has_room : (fetched : StoreState) (deed : Deed) → Row (m.activity actor) (wanted_by m actor) (with_disk fetched m.files m.clock m) deed → IsSome deed.joins → length m.order < length m.lines
+  joining_has_room fetched deed row joins = by (fate_row m fetched (m.activity actor) (wanted_by m actor) deed row)
+    where
+      none_joins : deed.joins ≡ None → ⊥
+      none_joins none = nothing (subst (λ (o : Option Entry). IsSome o) none joins)
+        where
+          nothing : IsSome {T = Entry} None → ⊥
+          nothing is = cc
+
+      by : LineFate m (m.activity actor) deed → length m.order < length m.lines
+      by (inl goes) = absurd (none_joins goes.joins)
+      by (inr (inl effect)) = room_for effect.line effect.reply effect.hand
+      by (inr (inr given)) = absurd (none_joins given.joins)

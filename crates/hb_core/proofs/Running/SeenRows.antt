@@ -1,0 +1,106 @@
+-- What a decider was given is what the core shows: its answer is a row of the table, at the place that comes next.
+use Rattle.std.proofs.Common.{◌≡◌, ◌≢◌, ◌⊎◌, inl, inr, ℕ, ◌==◌, Bool, true, cond, List, [], ◌∷◌, Option, Some, None, MatchOption, IsSome, refl, sym, ap, ◌∙◌, subst}
+use Rattle.std.specs.List.{AllByRecursion}
+use Rattle.std.specs.Option.{option_and_then}
+use Rattle.std.proofs.lemmas.Bool.{cases_Bool, eqb-true}
+use Rattle.hb_space.specs.Boxes.{Area}
+use Rattle.hb_space.specs.declared.records.Record.{Record}
+use Rattle.hb_frag.specs.declared.pages.LivePage.{LivePage}
+use Rattle.hb_layout.specs.declared.meta.Meta.{Meta}
+use Rattle.hb_layout.specs.Limits.{IsLayout}
+use Rattle.hb_ops.specs.Sound.{FitsFile}
+use Rattle.hb_activity.specs.declared.activities.Activity.{Activity}
+use Rattle.hb_activity.specs.declared.activities.Activity.TheVariants as at
+use Rattle.hb_activity.specs.Deciding.{FitsFree, given_pages, given_sight, page_among}
+use Rattle.hb_activity.specs.Deeds.{Deed}
+use Rattle.hb_point.specs.Asks.{MayAsk}
+use Rattle.hb_point.specs.PointRows.{PointRow}
+use Rattle.hb_poster.specs.Asks.{AsksMemory, MakesPage, MayBeAsked}
+use Rattle.hb_poster.specs.PosterRows.{PosterRow}
+use Rattle.hb_store.specs.States.{StoreState}
+use Rattle.std.proofs.lemmas.Option.{same_Some}
+use Rattle.hb_core.proofs.Running.LiftedRows.{IsSeenIn, lifted_point, lifted_poster}
+use Rattle.hb_core.specs.Looking.{AsksPoint, AsksPoster, HasPointRow, HasPosterRow, WantsMemory, other_number, other_page, sight_in}
+use Rattle.hb_core.specs.Machines.{live_here, next_of}
+use Rattle.hb_core.specs.Moving.{placed}
+
+-- ---- the given pages are those of the core
+
+abbrev IsThere : (ℕ → Option LivePage) → ℕ × LivePage → Type 0
+IsThere f given = f given.0 ≡ Some given.1
+
+among_there : (f : ℕ → Option LivePage) (pages : List (ℕ × LivePage)) → AllByRecursion (IsThere f) pages → (id : ℕ) (page : LivePage) → page_among pages id ≡ Some page → f id ≡ Some page
+among_there f [] all id page is = cc
+among_there f (given ∷ rest) all id page is = elim (cases_Bool (given.0 == id)) [
+  | inl same ↦ ap f (sym (eqb-true given.0 id same)) ∙ all.0 ∙ sym (ap (λ (b : Bool). cond b (Some given.1) (page_among rest id)) same) ∙ is
+  | inr off ↦ among_there f rest all.1 id page (sym (ap (λ (b : Bool). cond b (Some given.1) (page_among rest id)) off) ∙ is)
+]
+
+given_there : (f : ℕ → Option LivePage) (activity : Activity) (id : ℕ) (page : LivePage) (first : Option LivePage) → f id ≡ Some page → first ≡ option_and_then f (other_number activity) → AllByRecursion (IsThere f) (given_pages activity id page first)
+given_there f (at.SessionPut line source fresh) id page (Some other) live is = (live, (sym is, tt))
+given_there f (at.PosterChild job parent) id page (Some over) live is = (sym is, (live, tt))
+given_there f (at.PosterAgain job parent) id page (Some over) live is = (sym is, (live, tt))
+given_there f activity id page first live is = (live, tt)
+
+module _ (st : StoreState) (activity : Activity) (n : ℕ) (free : Option (ℕ × ℕ)) (id : ℕ) (page : LivePage) (first : Option LivePage) (meta : Meta) (is_id : id ≡ n) (live : live_here st id ≡ Some page) (other : first ≡ other_page st activity) (is_meta : meta ≡ st.meta) where
+  shown : ((number : ℕ × ℕ) → free ≡ Some number → next_of st ≡ Some number) → (place : ℕ) → IsSeenIn (sight_in st place) (given_sight meta (given_pages activity id page first) free)
+  shown next place = record { meta = is_meta; pages = among_there (live_here st) (given_pages activity id page first) (given_there (live_here st) activity id page first live other); next = next }
+
+  live_there : live_here st n ≡ Some page
+  live_there = ap (live_here st) (sym is_id) ∙ live
+
+  same_page : (asked : LivePage) → live_here st n ≡ Some asked → asked ≡ page
+  same_page asked there = same_Some asked page (sym there ∙ live_there)
+
+  -- what the decider relies on, of what it was given
+  given_layout : IsLayout st.meta → IsLayout meta
+  given_layout layout = subst IsLayout (sym is_meta) layout
+
+  given_made : (asked : LivePage) → live_here st n ≡ Some asked → FitsFile st.meta asked → FitsFile meta page
+  given_made asked there made = subst (λ (m : Meta). FitsFile m page) (sym is_meta) (subst (FitsFile st.meta) (same_page asked there) made)
+
+  pub point_layout : AsksPoint st activity n free → IsLayout meta
+  point_layout asks = given_layout asks.layout
+
+  pub point_made : AsksPoint st activity n free → FitsFile meta page
+  point_made asks = given_made asks.page asks.live asks.made
+
+  pub point_asked : AsksPoint st activity n free → MayAsk activity meta free id page first
+  point_asked asks =
+      subst (λ (m : Meta). MayAsk activity m free id page first) (sym is_meta)
+      (subst (λ (k : ℕ). MayAsk activity st.meta free k page first) (sym is_id)
+      (subst (λ (o : Option LivePage). MayAsk activity st.meta free n page o) (sym other)
+      (subst (λ (q : LivePage). MayAsk activity st.meta free n q (other_page st activity)) (same_page asks.page asks.live) asks.asked)))
+
+  pub point_said : AsksPoint st activity n free → (deed : Deed) → PointRow activity (given_sight meta (given_pages activity id page first) free) id page deed → (place : ℕ) → HasPointRow st activity n place (placed place deed)
+  point_said asks deed row place =
+      (page, live_there, subst (λ (k : ℕ). PointRow activity (sight_in st place) k page (placed place deed)) is_id
+        (lifted_point (given_sight meta (given_pages activity id page first) free) (sight_in st place) (shown asks.next place) activity id page deed row))
+
+  pub poster_layout : AsksPoster st activity n free → IsLayout meta
+  poster_layout asks = given_layout asks.layout
+
+  pub poster_made : AsksPoster st activity n free → FitsFile meta page
+  poster_made asks = given_made asks.page asks.live asks.made
+
+  pub poster_asked : AsksPoster st activity n free → MayBeAsked activity meta page first
+  poster_asked asks =
+      subst (λ (m : Meta). MayBeAsked activity m page first) (sym is_meta)
+      (subst (λ (o : Option LivePage). MayBeAsked activity st.meta page o) (sym other)
+      (subst (λ (q : LivePage). MayBeAsked activity st.meta q (other_page st activity)) (same_page asks.page asks.live) asks.asked))
+
+  pub poster_free : AsksPoster st activity n free → MakesPage activity meta page first → FitsFree meta free
+  poster_free asks makes =
+      let at_meta = subst (λ (m : Meta). MakesPage activity m page first) is_meta makes in
+      let at_other = subst (λ (o : Option LivePage). MakesPage activity st.meta page o) other at_meta in
+      let at_page = subst (λ (q : LivePage). MakesPage activity st.meta q (other_page st activity)) (sym (same_page asks.page asks.live)) at_other in
+      subst (λ (m : Meta). FitsFree m free) (sym is_meta) (asks.fits at_page)
+
+  pub poster_said : AsksPoster st activity n free → (deed : Deed) → PosterRow activity (given_sight meta (given_pages activity id page first) free) id page deed → (place : ℕ) → HasPosterRow st activity n place (placed place deed)
+  poster_said asks deed row place =
+      (page, live_there, subst (λ (k : ℕ). PosterRow activity (sight_in st place) k page (placed place deed)) is_id
+        (lifted_poster (given_sight meta (given_pages activity id page first) free) (sight_in st place) (shown asks.next place) activity id page deed row))
+
+  pub poster_wants_memory : AsksMemory activity meta page first free → WantsMemory st activity n free
+  poster_wants_memory asks =
+      (page, live_there, subst (λ (o : Option LivePage). AsksMemory activity st.meta page o free) other (subst (λ (m : Meta). AsksMemory activity m page first free) is_meta asks))

@@ -1,0 +1,51 @@
+-- A row that needs a number takes it.
+use Rattle.std.proofs.Common.{◌≡◌, ◌≢◌, ◌⊎◌, inl, inr, ℕ, ◌<◌, true, Option, Some, None, refl, sym, ap, ◌∙◌, subst, arith}
+use Rattle.std.proofs.lemmas.Option.{same_Some}
+use Rattle.hb_frag.specs.declared.pages.LivePage.{LivePage}
+use Rattle.hb_terms.specs.declared.plans.PostPlan.{PostPlan}
+use Rattle.hb_terms.specs.declared.plans.PostPlan.TheVariants as plans
+use Rattle.hb_terms.specs.Plans.{LacksRoom}
+use Rattle.hb_activity.specs.declared.jobs.Job.{Job}
+use Rattle.hb_activity.specs.declared.wanting.Wanted.{Wanted}
+use Rattle.hb_activity.specs.declared.activities.Activity.{Activity}
+use Rattle.hb_activity.specs.declared.activities.Activity.TheVariants as at
+use Rattle.hb_activity.specs.Deeds.{Deed}
+use Rattle.hb_poster.specs.PosterRows.{DoesPlan, GrowsFile, GrowsNot, MayGrow}
+use Rattle.hb_core.proofs.TwoSteps.OnePiece.{one_plan}
+use Rattle.hb_core.specs.Acting.{NeedsNumber, takes_number}
+use Rattle.hb_core.specs.Machines.{Machine, sight}
+use Rattle.hb_core.specs.Rows.{Row}
+
+module _ (m : Machine) where
+  taken : (deed other : Deed) → deed ≡ other → takes_number other.op ≡ true → takes_number deed.op ≡ true
+  taken deed other is takes = ap (λ (d : Deed). takes_number d.op) is ∙ takes
+
+  -- a page is free, so the row isn't the one of a full file
+  none_left : m.store.meta.live < m.store.meta.pages → m.store.meta.live ≡ m.store.meta.pages → ⊥
+  none_left lt same = absurd (omega (arith, lt, same))
+
+  grown : (job : Job) (root here : LivePage) (deed : Deed) → m.store.meta.live < m.store.meta.pages → MayGrow (sight m) job root → root ≡ here → GrowsFile (sight m) job here deed ⊎ GrowsNot (sight m) job here deed → takes_number deed.op ≡ true
+  grown job root here deed lt may same (inl row) = taken deed _ row.deed_is refl
+  grown job root here deed lt may same (inr row) = elim row.why [
+    | inl never ↦ absurd (never (subst (MayGrow (sight m) job) same may))
+    | inr none ↦ absurd (none_left lt none)
+  ]
+
+  planned : (job : Job) (parent : ℕ) (page : LivePage) (plan : PostPlan) (deed : Deed) → m.store.meta.live < m.store.meta.pages → plan ≡ plans.SplitFirst → DoesPlan (sight m) job parent page plan deed → takes_number deed.op ≡ true
+  planned job parent page plans.Nothing deed lt is does = cc
+  planned job parent page (plans.Post at inner area) deed lt is does = cc
+  planned job parent page plans.SplitFirst deed lt is (inl none) = absurd (none_left lt none.none_free)
+  planned job parent page plans.SplitFirst deed lt is (inr row) = taken deed _ row.deed_is refl
+
+  pub takes_what_it_needs : (activity : Activity) (wanted : Option Wanted) (deed : Deed) → NeedsNumber activity wanted m → Row activity wanted m deed → takes_number deed.op ≡ true
+  takes_what_it_needs (at.SessionSplit line held) None deed lt (inl none) = absurd (none_left lt none.none_free)
+  takes_what_it_needs (at.SessionSplit line held) None deed lt (inr row) = taken deed _ row.deed_is refl
+  takes_what_it_needs (at.PosterGrow job) (Some wanted) deed (lt, root, hand, may) (page, here, row) =
+      grown job root page deed lt may (same_Some root page (sym hand.live ∙ here.live)) row
+  takes_what_it_needs (at.PosterAgain job parent) (Some wanted) deed (lt, child, hand, (over, live, lacks)) (page, here, row) =
+      let same : child ≡ page = same_Some child page (sym hand.live ∙ here.live) in
+      let above : over ≡ row.page = same_Some over row.page (sym live ∙ row.live) in
+      let lacks_here = subst (λ (q : LivePage). LacksRoom q page job.point m.store.meta.icap) above (subst (λ (q : LivePage). LacksRoom over q job.point m.store.meta.icap) same lacks) in
+      planned job parent row.page row.plan deed lt (one_plan row.page page job.point m.store.meta.icap row.plan plans.SplitFirst row.planned lacks_here) row.does_it
+  takes_what_it_needs (at.SessionSplit line held) (Some wanted) deed needs (page, here, row) = absurd row
+  takes_what_it_needs activity wanted deed needs row = absurd needs
