@@ -27,3 +27,4 @@ pub mod Unanswered
 pub mod Begun
 pub mod Wants
 pub mod StepTaken
+pub mod WorkTouches
