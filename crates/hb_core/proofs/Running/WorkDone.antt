@@ -43,7 +43,10 @@ module _ (d : DiskModel) (c : RunningCore) (m : Machine) (actor : ℕ) (may : Ma
   looks_now activity so = subst (MayLook c.store) (stands_as d c m actor activity may step.shows so)
       (subst (λ (st : StoreState). MayLook st (m.activity actor)) step.shows.store (may_look_now m actor may step.goes_on.kept))
 
-  pub wants : (wanted : Option Wanted) → ((activity : Activity) → StandsAs c actor activity → wanted ≡ wanted_in c.store activity) → wanted ≡ wanted_by m actor
+  abbrev pub WantsSo : Option Wanted → Type 0
+  WantsSo wanted = (activity : Activity) → StandsAs c actor activity → wanted ≡ wanted_in c.store activity
+
+  pub wants : (wanted : Option Wanted) → WantsSo wanted → wanted ≡ wanted_by m actor
   wants wanted is = is (m.activity actor) stands ∙ ap (λ (st : StoreState). wanted_in st (m.activity actor)) (sym step.shows.store)
 
   pub holds_line : (line : Option ℕ) → IsWorking (m.activity actor) → ((activity : Activity) → StandsAs c actor activity → line ≡ number_in_hand activity) → line ≡ number_of (hand_of (m.activity actor))
@@ -76,6 +79,26 @@ module _ (d : DiskModel) (c : RunningCore) (m : Machine) (actor : ℕ) (may : Ma
 
   pub works_may : m.stop ≡ None → IsWorking (m.activity actor) → HasWayFree m actor → ¬ (IsUnready m actor) → MayWork m actor
   works_may runs works free is_ready = record { goes_on = step.goes_on; runs = runs; working = works; free = free; ready = is_ready }
+
+  -- the step may be done: nobody is in the way of what it wants, and the log is ready
+  pub may_work : (wanted : Option Wanted) (b : Bool) → m.stop ≡ None → IsWorking (m.activity actor) → WantsSo wanted → IfSome wanted (λ w. IsGrantable c.latches actor w.page w.mode) → SaysUnready b → b ≡ false → MayWork m actor
+  may_work wanted b runs works is free says tells = works_may runs works (way_free wanted (wants wanted is) free) (ready b says tells)
+
+  module _ (e : DiskModel) (after : RunningCore) (outcome : Outcome) where
+    abbrev WorksSo : Type 0
+    WorksSo = (new : Machine) × Works m actor outcome new × ShowsMachine e after new
+
+    -- it isn't ready, and flushes
+    pub got_ready : (wanted : Option Wanted) (b : Bool) → WantsSo wanted → IfSome wanted (λ w. IsGrantable c.latches actor w.page w.mode) → SaysUnready b → b ≡ true → (new : Machine) × GetsReady m actor outcome new × ShowsMachine e after new → WorksSo
+    got_ready wanted b is free says tells done = (done.0, inr (inl (way_free wanted (wants wanted is) free, unready b says tells, done.1)), done.2)
+
+    -- its row is done
+    pub did_row : MayWork m actor → (new : Machine) × DoesRow m actor outcome new × ShowsMachine e after new → WorksSo
+    did_row work done = (done.0, inr (inr (work.free, work.ready, inl done.1)), done.2)
+
+  -- another machine that the core shows has the actor at work, too
+  pub works_there : (n : Machine) → ShowsMachine d c n → IsWorking (n.activity actor) → IsWorking (m.activity actor)
+  works_there n shows works = subst IsWorking (stands_as d c n actor (m.activity actor) may shows stands) works
 
 -- ---- the ways in which it works
 

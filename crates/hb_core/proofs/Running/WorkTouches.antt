@@ -97,3 +97,7 @@ module _ (d e : DiskModel) (c after : RunningCore) (outcome : Outcome) where
 
       no_fault : (why : StopWhy) → IsHalt m actor st (Stops why) → why ≡ stops.WriteFault → ⊥
       no_fault why cause is = subst (λ (w : StopWhy). IsHalt m actor st (Stops w)) is cause
+
+-- what came afterwards left the disk alone
+pub touches_along : {D : Type 0} (model : D → DiskModel) (x y z : D) (c after : RunningCore) (outcome : Outcome) → z ≡ y → Touches (model x) c outcome (model y) after → Touches (model x) c outcome (model z) after
+touches_along model x y z c after outcome same touches = subst (λ k. Touches (model x) c outcome (model k) after) (sym same) touches
