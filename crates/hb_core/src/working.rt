@@ -23,7 +23,7 @@ use crate::state::Core;
 use hb_activity::Wanted;
 use hb_disk::Device;
 use hb_space::Actor;
-use hb_store::laws::a_store_keeps_one_file;
+use hb_store::a_store_keeps_one_file;
 
 impl<D: Device> Core<D> {
     /// Does the row of the actor's activity, unless another actor is in the way, or the log isn't ready for a change.
