@@ -1,8 +1,7 @@
-use Rattle.std.proofs.Common.{◌-◌}
 use Rattle.hb_core.specs.CoreSeen.{core_seen}
-use Rattle.hb_core.proofs.state.Core.perform.Goals as goal
 use Rattle.std.proofs.Common.{◌∙◌}
 use Rattle.hb_core.proofs.Running.Deeds.{performed}
+use Rattle.hb_core.proofs.state.Core.perform.Goals as goal
 
 pub returns-clause-does : goal.returns-clause-does
 returns-clause-does g c = λ state hand.

@@ -1,4 +1,3 @@
-use Rattle.std.proofs.Common.{◌-◌}
 use Rattle.hb_core.specs.CoreSeen.{core_seen}
 use Rattle.std.proofs.Common.{inl, inr, refl, ◌∙◌}
 use Rattle.hb_core.proofs.Running.NextLine.{none_left, takes_line}

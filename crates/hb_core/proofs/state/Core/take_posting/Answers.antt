@@ -1,14 +1,12 @@
-use Rattle.std.proofs.Common.{◌-◌}
 use Rattle.hb_core.specs.CoreSeen.{core_seen}
 use Rattle.hb_poster.specs.PosterRows.{IsPostingOf}
-use Rattle.hb_core.proofs.state.Core.take_posting.Goals as goal
 use Rattle.std.proofs.Common.{inr, refl, subst, sym}
 use Rattle.hb_layout.specs.declared.meta.Meta.{Meta}
 use Rattle.hb_activity.specs.declared.jobs.JobKind.{JobKind}
 use Rattle.hb_activity.specs.Queue.{LeavesFirst}
 use Rattle.hb_core.proofs.Running.Deeds.{took_job}
+use Rattle.hb_core.proofs.state.Core.take_posting.Goals as goal
 
--- src/stepping.rt:81:5
 pub returns-clause-takes : goal.returns-clause-takes
 returns-clause-takes g c =
     let taken = c.in-Some.ensures.taken in
