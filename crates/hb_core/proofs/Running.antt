@@ -37,3 +37,4 @@ pub mod OrderRoom
 pub mod StandsThere
 pub mod Commits
 pub mod MayPerform
+pub mod StarvedHalts
