@@ -1,5 +1,5 @@
 //! A core that has taken no step, and what can be read of a core.
-ghost use Rattle.std.specs.Prelude.{◌≡◌, ◌↔◌, ◌<◌, ◌≤◌, ◌+◌, ◌^◌, ◌++◌, length, map, filter, count_by, not, vec_capacity, IfOk, IfErr, IsSome, IsTrue, Some, None, [], ◌∷◌, replicate, if◌then◌else◌};
+ghost use Rattle.std.specs.Prelude.{◌≡◌, ◌↔◌, ◌<◌, ◌≤◌, ◌+◌, ◌^◌, ◌++◌, length, count_by, vec_capacity, IfOk, IfErr, IsSome, IsTrue, Some, None, [], ◌∷◌, replicate, if◌then◌else◌};
 ghost use Rattle.std.specs.List.{slice_get};
 ghost use Rattle.hb_latch.specs.Tables.{MayLatch};
 ghost use Rattle.hb_store.specs.Seen.{seen_as, disk_of};
@@ -15,6 +15,7 @@ ghost use Rattle.hb_core.specs.Moving.{StandsAs};
 ghost use Rattle.hb_activity.specs.Queue.{is_of};
 ghost use Rattle.hb_point.specs.SessionRows.{is_answered};
 ghost use Rattle.hb_core.specs.KeptMachine.{MachineKeeps};
+ghost use Rattle.hb_core.specs.Runs.{has_none, left_count, left_numbers};
 ghost use Rattle.hb_core.specs.SteppingLaws.{IsBegun};
 ghost use Rattle.hb_core.specs.Taking.{all_idle, begun_core, jobs_in_work, worker_for};
 ghost use Rattle.hb_core.specs.Showing.{ShowsFiles, ShowsMachine, number_in_hand};
@@ -117,7 +118,7 @@ impl<D: Device> Core<D> {
     pub fn left(&self) -> u32
         requires shows { (m : Machine) × ShowsMachine (D.model (core_disk self.now)) (core_seen self.now) m × MachineKeeps m }
         ensures { (m : Machine) → ShowsMachine (D.model (core_disk self.now)) (core_seen self.now) m → MachineKeeps m →
-            result ≡ count_by (λ line. not (is_answered line.number m.answered)) m.lines }
+            result ≡ left_count m }
     {
         let mut left = 0;
         for (place, line) in self.script.lines.as_slice().iter().enumerate() {
@@ -131,7 +132,7 @@ impl<D: Device> Core<D> {
         requires shows { (m : Machine) × ShowsMachine (D.model (core_disk self.now)) (core_seen self.now) m × MachineKeeps m }
         requires room { length into.old.items + length (core_seen self.now).lines ≤ vec_capacity into.old }
         ensures { (m : Machine) → ShowsMachine (D.model (core_disk self.now)) (core_seen self.now) m → MachineKeeps m →
-            into.new.items ≡ into.old.items ++ map (λ line. line.number) (filter (λ line. not (is_answered line.number m.answered)) m.lines) }
+            into.new.items ≡ into.old.items ++ left_numbers m }
     {
         for (place, line) in self.script.lines.as_slice().iter().enumerate() {
             self.put_left(place, line, into);
@@ -195,7 +196,7 @@ impl<D: Device> Core<D> {
         requires first { 1 ≤ line.now.session }
         requires last { line.now.session ≤ 16 }
         ensures { (m : Machine) → ShowsMachine (D.model (core_disk self.now)) (core_seen self.now) m → MachineKeeps m → slice_get m.lines place ≡ Some line.now →
-            result ≡ not (is_answered line.now.number m.answered) }
+            result ≡ has_none m line.now }
     {
         let session = usize::from(line.session) - 1;
         if self.behind[session] <= place {

@@ -1,7 +1,7 @@
 -- Where each plane leaves few records on one of its sides, nearly all records have one value in each attribute. Points
 -- are distinct, so there are few records then.
 use Rattle.std.proofs.Common.{◌≡◌, ℕ, zero, suc, ◌+◌, ◌*◌, ◌<◌, ◌≤◌, ◌==◌, ◌⊎◌, inl, inr, Bool, true, false, cond, not, ◌||◌, nat_lt, List, [], ◌∷◌, length, filter, get_or, max, refl, sym, ap, ◌∙◌, arith, subst}
-use Rattle.std.specs.Prelude.{Any, slice_index, AllPairs}
+use Rattle.std.specs.Prelude.{Any, slice_index}
 use Rattle.std.proofs.lemmas.Bool.{cases_lt, or_parts}
 use Rattle.std.proofs.lemmas.List.Filters.{length-filter_both}
 use Rattle.std.proofs.lemmas.List.Kept.{AllPairs-filter}

@@ -1,5 +1,5 @@
 -- A core that has taken no step shows a machine that has taken none.
-use Rattle.std.proofs.Common.{◌≡◌, ◌≢◌, inl, inr, ℕ, ◌==◌, cond, Result, Ok, Err, IfOk, ◌+◌, ◌-◌, ◌<◌, ◌≤◌, List, [], ◌∷◌, ◌++◌, drop, length, map, get_or, replicate, slice_get, All, Option, Some, None, IsSome, false, refl, sym, ap, subst, ◌∙◌, arith}
+use Rattle.std.proofs.Common.{◌≡◌, ◌≢◌, inl, inr, ℕ, ◌==◌, cond, Result, Ok, Err, IfOk, ◌-◌, ◌<◌, ◌≤◌, List, [], ◌∷◌, map, get_or, replicate, slice_get, Some, None, IsSome, refl, sym, ap, subst, ◌∙◌, arith}
 use Rattle.std.specs.FinMap as finite
 use Rattle.std.proofs.lemmas.Bool.{cases_lt, false≢true}
 use Rattle.std.proofs.lemmas.List.{get_or-replicate}
@@ -10,16 +10,14 @@ use Rattle.hb_latch.proofs.KeyOrder.{exact_keys, latch_order}
 use Rattle.hb_set.specs.declared.scripts.Answered.{Answered}
 use Rattle.hb_set.specs.declared.scripts.Line.{Line}
 use Rattle.hb_set.specs.Order.{Entry}
-use Rattle.hb_activity.specs.declared.activities.Activity.{Activity}
 use Rattle.hb_activity.specs.declared.activities.Activity.TheVariants.{SessionIdle, PosterIdle, ConsolidatorIdle, Flusher}
 use Rattle.hb_activity.specs.Classes.{Class, Sessions, Posters, Consolidators, Flushers, idle_of}
 use Rattle.hb_point.specs.SessionRows.{is_answered}
 use Rattle.hb_store.specs.States.{StoreState}
 use Rattle.hb_core.specs.KeptFits.{class_for}
-use Rattle.hb_core.specs.KeptMachine.{MachineKeeps}
 use Rattle.hb_core.specs.KeptTurns.{HasAnswer}
 use Rattle.hb_core.specs.Machines.{Machine}
-use Rattle.hb_core.specs.Showing.{HasTurn, IsDealtWith, IsToCome, ShowsFiles, ShowsMachine, number_in_hand}
+use Rattle.hb_core.specs.Showing.{HasTurn, ShowsFiles, ShowsMachine, number_in_hand}
 use Rattle.hb_core.specs.SteppingLaws.{IsBegun}
 use Rattle.hb_core.specs.Taking.{all_idle, begun_core}
 use Rattle.hb_lemmas.proofs.Booleans.{at_other}

@@ -1,15 +1,14 @@
 -- What the calls of a core make of it, put together: a deed.
-use Rattle.std.proofs.Common.{◌≡◌, ℕ, List, [], ◌∷◌, ◌++◌, length, Option, Some, None, refl, sym, ap, subst, ◌∙◌, append-nil}
+use Rattle.std.proofs.Common.{◌≡◌, ℕ, List, [], ◌++◌, length, Option, Some, None, refl, sym, ap, subst, ◌∙◌, append-nil}
 use Rattle.hb_latch.specs.Tables.{LatchTable}
 use Rattle.hb_set.specs.declared.commands.Reply.TheVariants as replies
-use Rattle.hb_set.specs.declared.scripts.Line.{Line}
 use Rattle.hb_activity.specs.declared.activities.Activity.{Activity}
 use Rattle.hb_activity.specs.declared.activities.Activity.TheVariants as at
 use Rattle.hb_activity.specs.declared.deciding.Fate.{Fate}
 use Rattle.hb_activity.specs.declared.deciding.Fate.TheVariants as fates
 use Rattle.hb_activity.specs.declared.deciding.Next.{Next}
 use Rattle.hb_activity.specs.declared.jobs.Job.{Job}
-use Rattle.hb_activity.specs.Classes.{Class, Sessions, Hand, Empty, HasLine, HasJob, class_of, hand_of, idle_of}
+use Rattle.hb_activity.specs.Classes.{Hand, Empty, HasLine, HasJob, class_of, hand_of, idle_of}
 use Rattle.hb_activity.specs.Deciding.{deed_of, joined_by, said_by}
 use Rattle.hb_activity.specs.Deeds.{Deed, answers_now, moves_to, takes_job}
 use Rattle.hb_activity.specs.Queue.{AddsJobs, LeavesBy, LeavesFirst}
@@ -17,7 +16,7 @@ use Rattle.hb_store.specs.States.{StoreState}
 use Rattle.hb_core.specs.declared.outcomes.Outcome.{Outcome}
 use Rattle.hb_core.specs.declared.outcomes.Outcome.TheVariants as outcomes
 use Rattle.hb_core.specs.GivingUp.{runs_out}
-use Rattle.hb_core.specs.Moving.{DoesDeed, Stands, joins_order, number_of, numbers_joined, placed, placed_at, pushed, said, with_jobs, with_latches, with_order, with_standing}
+use Rattle.hb_core.specs.Moving.{DoesDeed, Stands, joins_order, number_of, numbers_joined, placed, placed_at, pushed, said, with_jobs, with_order, with_standing}
 use Rattle.hb_core.specs.Performing.{MayDo, Relatches, latches_held, outcome_of}
 use Rattle.hb_core.specs.Showing.{RunningCore, number_in_hand}
 use Rattle.hb_core.specs.Working.{IsWorking}

@@ -1,5 +1,5 @@
 -- How few latches an actor holds while it takes another one.
-use Rattle.std.proofs.Common.{◌≡◌, ℕ, ◌<◌, ◌+◌, ◌==◌, cond, Some, None, ap, ◌∙◌, arith}
+use Rattle.std.proofs.Common.{◌≡◌, ℕ, ◌<◌, ◌+◌, ◌==◌, cond, None, ap, ◌∙◌, arith}
 use Rattle.std.specs.FinMap as map
 use Rattle.hb_latch.specs.declared.modes.Mode.{Mode}
 use Rattle.hb_latch.specs.Tables.{LatchTable, latches_of, mode_at}

@@ -1,5 +1,5 @@
 -- What a core performs by its decider's answer is the row of the machine that it shows.
-use Rattle.std.proofs.Common.{◌≡◌, ℕ, ◌<◌, List, length, Option, Some, None, IsSome, IfSome, IfOk, Result, Ok, Err, refl, sym, ap, ◌∙◌, subst}
+use Rattle.std.proofs.Common.{◌≡◌, ℕ, ◌<◌, ◌^◌, List, length, arith, Option, Some, None, IsSome, IfSome, IfOk, Result, Ok, Err, refl, sym, ap, ◌∙◌, subst}
 use Rattle.hb_activity.specs.declared.activities.Activity.{Activity}
 use Rattle.hb_activity.specs.declared.deciding.Next.{Next}
 use Rattle.hb_activity.specs.declared.dropping.DropWhy.TheVariants as drops
@@ -9,6 +9,7 @@ use Rattle.hb_activity.specs.Deeds.{Deed}
 use Rattle.hb_disk.specs.Model.{DiskModel}
 use Rattle.hb_latch.specs.Tables.{MayLatch}
 use Rattle.hb_ops.specs.Files.{FileState}
+use Rattle.hb_set.specs.declared.scripts.Line.{Line}
 use Rattle.hb_store.specs.Keeps.{StoreKeeps}
 use Rattle.hb_store.specs.States.{StoreState}
 use Rattle.hb_core.specs.declared.halts.Halt.{Halt}
@@ -43,6 +44,13 @@ module _ {D : Type 0} (model : D → DiskModel) (x y : D) (c between : RunningCo
   pub refused_halts : (halt : Halt) → halt ≡ GivesUp drops.NoMemory → (deed : Deed) × IsRow (model x) c m actor free may pages deed × TakesMemory (m.activity actor) deed → Halts m actor halt (model y) between
   refused_halts halt is takes = subst (λ (h : Halt). Halts m actor h (model y) between) (sym is) (subst (λ (k : D). Halts m actor (GivesUp drops.NoMemory) (model k) between) (sym same)
       (subst (λ (s : RunningCore). Halts m actor (GivesUp drops.NoMemory) (model x) s) (sym rest) (row_refused (model x) c m actor free may pages takes)))
+
+  pub order_few : length between.lines < 2 ^ 32 → length between.order < 2 ^ 32
+  order_few few =
+      let here : length c.lines < 2 ^ 32 = subst (λ (s : RunningCore). length s.lines < 2 ^ 32) rest few in
+      let long : length c.order ≡ length m.order = same_length (model x) c m actor free may pages in
+      let all : length m.lines ≡ length c.lines = ap (λ (l : List Line). length l) pages.shows.lines in
+      subst (λ (s : RunningCore). length s.order < 2 ^ 32) (sym rest) (omega (arith, here, long, all, pages.may.goes_on.kept.order_short.few))
 
   module _ (next : Next) (row : Row (m.activity actor) (wanted_by m actor) (with_pages c m) (placed (length m.order) (deed_of (m.activity actor) next))) where
     pub row_may_commit : RowsMayBeDone → OneDurable (model y) between.store → OneLater (model y) between.store → IfSome next.op (MayCommit (model y) between)

@@ -2,13 +2,12 @@
 use Rattle.std.proofs.Common.{◌≡◌, ◌≢◌, ◌⊎◌, inl, inr, ◌↔◌, ℕ, zero, suc, ◌+◌, ◌-◌, ◌<◌, ◌≤◌, Bool, true, false, cond, not, IsTrue, List, [], ◌∷◌, ◌++◌, take, drop, length, map, filter, get_or, count_by, slice_get, All, Option, Some, None, IfSome, refl, sym, ap, subst, ◌∙◌, arith, append-nil, append_assoc}
 use Rattle.std.specs.Option.{IsSomeAnd}
 use Rattle.std.proofs.Math.Seq.{take-suc}
-use Rattle.std.proofs.lemmas.Bool.{cases_Bool, false≢true}
+use Rattle.std.proofs.lemmas.Bool.{false≢true}
 use Rattle.std.proofs.lemmas.List.{get_or-drop, get_or-take, length-drop, map-append, take_all}
 use Rattle.std.proofs.lemmas.List.Elements.{filter-append}
 use Rattle.std.proofs.lemmas.List.Sums.{count_by_more_no, count_by_more_yes}
 use Rattle.std.proofs.lemmas.Option.{get_or_from_slice_get, same_Some, slice_get-get_or, slice_get_read, slice_get_within}
 use Rattle.hb_disk.specs.Model.{DiskModel}
-use Rattle.hb_latch.specs.Tables.{MayLatch}
 use Rattle.hb_set.specs.declared.scripts.Answered.{Answered}
 use Rattle.hb_set.specs.declared.scripts.Line.{Line}
 use Rattle.hb_activity.specs.declared.activities.Activity.{Activity}
@@ -17,14 +16,12 @@ use Rattle.hb_activity.specs.Classes.{line_in_hand}
 use Rattle.hb_point.specs.SessionRows.{is_answered, next_line}
 use Rattle.hb_core.specs.KeptFits.{LineFits}
 use Rattle.hb_core.specs.KeptMachine.{MachineKeeps}
-use Rattle.hb_core.specs.KeptTurns.{HasAnswer, LinesInTurn, awaited_number}
+use Rattle.hb_core.specs.KeptTurns.{HasAnswer, awaited_number}
 use Rattle.hb_core.specs.Machines.{Machine}
 use Rattle.hb_core.specs.Moving.{StandsAs}
-use Rattle.hb_core.specs.Showing.{HasTurn, IsDealtWith, IsToCome, RunningCore, ShowsMachine, number_in_hand}
+use Rattle.hb_core.specs.Showing.{IsDealtWith, IsToCome, RunningCore, ShowsMachine, number_in_hand}
+use Rattle.hb_core.specs.Runs.{has_none}
 use Rattle.hb_core.proofs.Orders.NextLines.{next_is}
-
-abbrev pub has_none : Machine → Line → Bool
-has_none m line = not (is_answered line.number m.answered)
 
 -- a member of the front, and one of what lies behind
 in_front : (P : Line → Type 0) (lines : List Line) (n place : ℕ) (line : Line) → All P (take n lines) → place < n → slice_get lines place ≡ Some line → P line

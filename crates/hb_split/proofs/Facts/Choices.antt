@@ -1,5 +1,5 @@
 -- Some part of a full page can be chosen: the best plane is found among the records' values, cut by cut.
-use Rattle.std.proofs.Common.{◌≡◌, ℕ, zero, suc, ◌+◌, ◌*◌, ◌<◌, ◌≤◌, ◌⊎◌, inl, inr, List, [], ◌∷◌, length, filter, get_or, slice_index, Option, Some, None, refl, sym, ap, ◌∙◌, arith, subst}
+use Rattle.std.proofs.Common.{◌≡◌, ℕ, zero, suc, ◌+◌, ◌*◌, ◌≤◌, ◌⊎◌, inl, inr, List, [], ◌∷◌, length, filter, slice_index, Option, Some, None, refl, sym, ap, ◌∙◌, arith, subst}
 use Rattle.std.specs.Prelude.{Any}
 use Rattle.std.proofs.lemmas.Bool.{cases_lt}
 use Rattle.hb_space.specs.Boxes.{Area}
@@ -16,7 +16,7 @@ use Rattle.hb_ops.specs.Cutting.{is_on, records_in}
 use Rattle.hb_ops.specs.declared.leaf_cuts.LeafCut.{LeafCut}
 use Rattle.hb_split.specs.declared.planes.Candidate.{Candidate}
 use Rattle.hb_split.specs.Choosing.{AreChosen, IsChosen, MayCut, NotBehind, count_on, heavier_count, heavier_side, way_down}
-use Rattle.hb_split.specs.Steps.{AreOf, BestOf, BestOn, IsBestOn}
+use Rattle.hb_split.specs.Steps.{AreOf, BestOf, BestOn}
 use Rattle.hb_split.proofs.Better.{all_new, best_alone, best_stays, other_wins}
 use Rattle.hb_split.proofs.Centers.{some_below}
 use Rattle.hb_split.proofs.Facts.Ends.{GoesDown, at_end, chosen_of, no_end, of_page, records_at}

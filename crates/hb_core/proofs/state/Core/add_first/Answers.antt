@@ -1,27 +1,7 @@
-use Rattle.std.proofs.Common.{rules, ◌≡◌, ℕ, ◌<◌, ◌≤◌, ◌++◌, length, take, drop, Some, None, IsSome, IfSome, IfOk, IfErr, List, ◌+◌, ◌-◌, ◌*◌, ◌/◌, ◌%◌, Bool, true, false, nat_eq, nat_lt, [], ◌∷◌, slice_index_or, slice_set, bit_and, bit_or, Fits, w8, w32, w64, Bor, MutBor}
-use Rattle.std.specs.FinMap as map
-use Rattle.hb_latch.specs.Tables.{IsGrantable, MayLatch, latches_of, mode_at}
-use Rattle.hb_activity.specs.Classes.{class_of, hand_of}
-use Rattle.hb_activity.specs.Deciding.{deed_of}
-use Rattle.hb_activity.specs.Queue.{AddsJobs}
-use Rattle.hb_activity.specs.Walks.{walk_held}
-use Rattle.std.specs.Option.{option_and_then}
-use Rattle.hb_ops.specs.Given.{given as live_given}
-use Rattle.hb_store.specs.States.{StoreState}
-use Rattle.hb_core.specs.declared.halts.Halt.TheVariants as halts
-use Rattle.hb_activity.specs.declared.dropping.DropWhy.TheVariants as drops
-use Rattle.hb_core.specs.CoreSeen.{core_seen, core_disk}
-use Rattle.hb_core.specs.GivingUp.{gives_up, reply_for, runs_out}
-use Rattle.hb_core.specs.KeptFits.{class_for}
-use Rattle.hb_core.specs.Machines.{live_here}
-use Rattle.hb_core.specs.Moving.{AreApart, DoesDeed, KeepsFilesBy, MayCommit, MayStand, Stands, StandsAs, joins_order, number_of, placed, placed_at, pushed, said, with_jobs, with_latches, with_order}
-use Rattle.hb_core.specs.Performing.{MayDo, Relatches, mode_among}
-use Rattle.hb_core.specs.Working.{IsWorking}
-use Rattle.hb_core.proofs.state.Core.add_first.Goals as goal
 use Rattle.std.proofs.Common.{sym, ◌∙◌}
 use Rattle.hb_core.proofs.Running.Queueing.{first_added}
+use Rattle.hb_core.proofs.state.Core.add_first.Goals as goal
 
--- src/performing.rt:82:5
 pub returns-then-not-is_empty-clause-jobs : goal.returns-then-not-is_empty-clause-jobs
 returns-then-not-is_empty-clause-jobs g c =
     first_added c.args.jobs.now.items c.remove.result c.args.self.now.jobs c.add.new.self c.add.result (sym c.if-not-is_empty.true ∙ c.is_empty.ensures) c.remove.ensures.value c.add.ensures.waits c.add.ensures.there c.add.ensures.joins c.add.ensures.dropped

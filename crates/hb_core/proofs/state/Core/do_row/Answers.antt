@@ -2,7 +2,7 @@ use Rattle.std.proofs.Common.{◌∙◌, ap}
 use Rattle.std.proofs.lemmas.Result.{IfErr-weaker}
 use Rattle.hb_core.specs.CoreSeen.{core_seen, core_disk}
 use Rattle.hb_core.proofs.Running.OneWanted.{come_want_one, pages_want_one}
-use Rattle.hb_core.proofs.Running.RowsPerformed.{ok_both, performed_halts, performed_row, refused_halts, row_may_commit, row_may_join, row_may_stand}
+use Rattle.hb_core.proofs.Running.RowsPerformed.{ok_both, order_few, performed_halts, performed_row, refused_halts, row_may_commit, row_may_join, row_may_stand}
 use Rattle.hb_core.proofs.state.Core.do_row.Goals as goal
 
 pub number-requires-clause-come : goal.number-requires-clause-come
@@ -67,3 +67,10 @@ returns-in-Err-clause-halts g c m may work =
     let pages = c.in_ok-free.ensures.numbered m (c.in_ok-bring.ensures.comes m may work) in
     refused_halts g.D.Device.model (core_disk c.number.new.self) (core_disk c.decide.new.self) (core_seen c.number.new.self) (core_seen c.decide.new.self) m c.args.actor c.in_ok-free.free c.requires.actor
     c.in-Err.ensures.rest c.in-Err.ensures.disk pages c.from.result c.from.ensures (c.in-Err.ensures.memory m pages)
+
+pub perform-requires-clause-few : goal.perform-requires-clause-few
+perform-requires-clause-few g c =
+    let m = c.requires.may.0 in
+    let pages = c.in_ok-free.ensures.numbered m (c.in_ok-bring.ensures.comes m c.requires.may.1 c.requires.may.2) in
+    order_few g.D.Device.model (core_disk c.number.new.self) (core_disk c.decide.new.self) (core_seen c.number.new.self) (core_seen c.decide.new.self) m c.args.actor c.in_ok-free.free c.requires.actor
+    c.in-Ok.ensures.rest c.in-Ok.ensures.disk pages c.decide.new.self.few

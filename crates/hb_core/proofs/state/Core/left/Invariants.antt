@@ -1,6 +1,5 @@
-use Rattle.std.proofs.Common.{◌≡◌, ◌≤◌, not, count_by, take}
-use Rattle.hb_set.specs.declared.scripts.Line.{Line}
-use Rattle.hb_point.specs.SessionRows.{is_answered}
+use Rattle.std.proofs.Common.{◌≡◌, ◌≤◌, count_by, take}
+use Rattle.hb_core.specs.Runs.{has_none}
 use Rattle.hb_core.specs.CoreSeen.{core_disk, core_seen}
 use Rattle.hb_core.specs.KeptMachine.{MachineKeeps}
 use Rattle.hb_core.specs.Machines.{Machine}
@@ -11,5 +10,5 @@ use Rattle.hb_core.proofs.state.Core.left.Given as goal
 abbrev pub invariant-loop-place : goal.invariant-loop-place
 invariant-loop-place g l = record {
   few : l.left ≤ l.place;
-  counted : (m : Machine) → ShowsMachine (g.D.Device.model (core_disk l.self)) (core_seen l.self) m → MachineKeeps m → l.left ≡ count_by (λ (line : Line). not (is_answered line.number m.answered)) (take l.place m.lines);
+  counted : (m : Machine) → ShowsMachine (g.D.Device.model (core_disk l.self)) (core_seen l.self) m → MachineKeeps m → l.left ≡ count_by (has_none m) (take l.place m.lines);
 }

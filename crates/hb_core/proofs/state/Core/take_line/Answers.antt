@@ -1,16 +1,4 @@
-use Rattle.std.proofs.Common.{rules, ◌≡◌, ◌≤◌, ◌-◌, ◌==◌, ℕ, Some, None, length, ◌+◌, ◌*◌, ◌<◌, ◌/◌, ◌%◌, Bool, true, false, nat_eq, nat_lt, List, [], ◌∷◌, ◌++◌, slice_index_or, slice_set, bit_and, bit_or, Fits, w8, w32, w64, Bor, MutBor}
-use Rattle.std.specs.List.{position, slice_get}
-use Rattle.hb_latch.specs.Tables.{MayLatch}
-use Rattle.hb_activity.specs.declared.activities.Activity.TheVariants as at
-use Rattle.hb_core.specs.declared.outcomes.Outcome.TheVariants as outcomes
-use Rattle.hb_core.specs.CoreSeen.{core_seen, core_disk}
-use Rattle.hb_core.specs.Machines.{Machine}
-use Rattle.hb_poster.specs.PosterRows.{IsPostingOf}
-use Rattle.hb_core.specs.Moving.{StandsAs, with_standing, with_stop}
-use Rattle.hb_core.specs.Showing.{ShowsMachine}
-use Rattle.hb_core.specs.Steps.{AwaitsPlace, GetsReady, StepsTo}
-use Rattle.hb_core.specs.Taking.{TakesNextLine, TakesNextPosting}
-use Rattle.hb_core.specs.Working.{IsWorking, MayStep}
+use Rattle.hb_core.specs.CoreSeen.{core_seen}
 use Rattle.std.proofs.Common.{inl, inr, refl, ◌∙◌}
 use Rattle.hb_core.proofs.Running.NextLine.{none_left, takes_line}
 use Rattle.hb_core.proofs.state.Core.take_line.Goals as goal

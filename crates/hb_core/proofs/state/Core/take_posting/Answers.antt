@@ -1,24 +1,12 @@
-use Rattle.std.proofs.Common.{rules, ◌≡◌, ◌≤◌, ◌-◌, ◌==◌, ℕ, Some, None, length, ◌+◌, ◌*◌, ◌<◌, ◌/◌, ◌%◌, Bool, true, false, nat_eq, nat_lt, List, [], ◌∷◌, ◌++◌, slice_index_or, slice_set, bit_and, bit_or, Fits, w8, w32, w64, Bor, MutBor}
-use Rattle.std.specs.List.{position, slice_get}
-use Rattle.hb_latch.specs.Tables.{MayLatch}
-use Rattle.hb_activity.specs.declared.activities.Activity.TheVariants as at
-use Rattle.hb_core.specs.declared.outcomes.Outcome.TheVariants as outcomes
-use Rattle.hb_core.specs.CoreSeen.{core_seen, core_disk}
-use Rattle.hb_core.specs.Machines.{Machine}
+use Rattle.hb_core.specs.CoreSeen.{core_seen}
 use Rattle.hb_poster.specs.PosterRows.{IsPostingOf}
-use Rattle.hb_core.specs.Moving.{StandsAs, with_standing, with_stop}
-use Rattle.hb_core.specs.Showing.{ShowsMachine}
-use Rattle.hb_core.specs.Steps.{AwaitsPlace, GetsReady, StepsTo}
-use Rattle.hb_core.specs.Taking.{TakesNextLine, TakesNextPosting}
-use Rattle.hb_core.specs.Working.{IsWorking, MayStep}
-use Rattle.hb_core.proofs.state.Core.take_posting.Goals as goal
 use Rattle.std.proofs.Common.{inr, refl, subst, sym}
 use Rattle.hb_layout.specs.declared.meta.Meta.{Meta}
 use Rattle.hb_activity.specs.declared.jobs.JobKind.{JobKind}
 use Rattle.hb_activity.specs.Queue.{LeavesFirst}
 use Rattle.hb_core.proofs.Running.Deeds.{took_job}
+use Rattle.hb_core.proofs.state.Core.take_posting.Goals as goal
 
--- src/stepping.rt:81:5
 pub returns-clause-takes : goal.returns-clause-takes
 returns-clause-takes g c =
     let taken = c.in-Some.ensures.taken in

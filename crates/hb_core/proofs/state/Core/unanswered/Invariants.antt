@@ -1,6 +1,6 @@
-use Rattle.std.proofs.Common.{◌≡◌, ◌≤◌, ◌+◌, ◌++◌, filter, length, map, not, take, vec_capacity}
+use Rattle.std.proofs.Common.{◌≡◌, ◌≤◌, ◌+◌, ◌++◌, filter, length, map, take, vec_capacity}
 use Rattle.hb_set.specs.declared.scripts.Line.{Line}
-use Rattle.hb_point.specs.SessionRows.{is_answered}
+use Rattle.hb_core.specs.Runs.{has_none}
 use Rattle.hb_core.specs.CoreSeen.{core_disk, core_seen}
 use Rattle.hb_core.specs.KeptMachine.{MachineKeeps}
 use Rattle.hb_core.specs.Machines.{Machine}
@@ -13,5 +13,5 @@ invariant-loop-place g l = record {
   room : vec_capacity l.fn.into ≤ vec_capacity l.into;
   few : length l.into.items ≤ length l.fn.into.items + l.place;
   put : (m : Machine) → ShowsMachine (g.D.Device.model (core_disk l.self)) (core_seen l.self) m → MachineKeeps m
-      → l.into.items ≡ l.fn.into.items ++ map (λ (line : Line). line.number) (filter (λ (line : Line). not (is_answered line.number m.answered)) (take l.place m.lines));
+      → l.into.items ≡ l.fn.into.items ++ map (λ (line : Line). line.number) (filter (has_none m) (take l.place m.lines));
 }
