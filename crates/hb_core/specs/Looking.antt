@@ -19,7 +19,7 @@ use Rattle.hb_poster.specs.Asks.{AsksMemory, MakesPage, MayBeAsked}
 use Rattle.hb_poster.specs.PosterRows.{PosterRow}
 use Rattle.hb_store.specs.declared.stops.Why.{Why}
 use Rattle.hb_store.specs.States.{StoreState, in_memory}
-use Rattle.hb_core.specs.Asking.{AskedBox, HasAskedBox, IsNotAsked, asked_box, looked_live}
+use Rattle.hb_core.specs.Asking.{HasAskedBox, IsNotAsked, asked_box, looked_live}
 use Rattle.hb_core.specs.Machines.{live_here, next_of}
 
 -- the page into which an activity looks is in memory, and can be looked into

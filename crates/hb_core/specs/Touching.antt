@@ -2,7 +2,6 @@
 use Rattle.std.specs.Prelude.{◌≡◌, ◌⊎◌, ◌↔◌, Some, Result, IsErr}
 use Rattle.hb_disk.specs.Calls.{ReadsOnly}
 use Rattle.hb_disk.specs.Model.{DiskModel}
-use Rattle.hb_set.specs.declared.commands.Reply.{Reply}
 use Rattle.hb_set.specs.declared.commands.Reply.TheVariants as replies
 use Rattle.hb_activity.specs.declared.dropping.DropWhy.TheVariants as drops
 use Rattle.hb_store.specs.declared.stops.WriteFault.{WriteFault}

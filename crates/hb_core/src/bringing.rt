@@ -180,7 +180,16 @@ impl<D: Device> Core<D> {
         let id = page_of(&state, wanted);
         let page = self.live_page(id);
         let other = self.other(&state);
-        hb_point::next(self.alloc, state, id, page, other, None, free, self.store.meta())
+        hb_point::next(
+            self.alloc,
+            state,
+            id,
+            page,
+            other,
+            None,
+            free,
+            self.store.meta(),
+        )
     }
 
     /// What the poster's decider says of this activity.
@@ -198,7 +207,16 @@ impl<D: Device> Core<D> {
         let id = page_of(&state, wanted);
         let page = self.live_page(id);
         let other = self.other(&state);
-        hb_poster::next(self.alloc, state, id, page, other, None, free, self.store.meta())
+        hb_poster::next(
+            self.alloc,
+            state,
+            id,
+            page,
+            other,
+            None,
+            free,
+            self.store.meta(),
+        )
     }
 
     /// The page of the number, which is in memory and in use.

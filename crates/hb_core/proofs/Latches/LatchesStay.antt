@@ -5,7 +5,6 @@ use Rattle.hb_frag.specs.declared.pages.LivePage.{LivePage}
 use Rattle.hb_frag.specs.declared.pages.Page.TheVariants.{Live}
 use Rattle.hb_latch.specs.declared.modes.Mode.{Mode}
 use Rattle.hb_activity.specs.declared.holding.Latch.{Latch}
-use Rattle.hb_activity.specs.declared.wanting.Wanted.{Wanted}
 use Rattle.hb_activity.specs.declared.activities.Activity.{Activity}
 use Rattle.hb_activity.specs.declared.activities.Activity.TheVariants as at
 use Rattle.hb_activity.specs.declared.dropping.DropWhy.{DropWhy}
@@ -16,7 +15,7 @@ use Rattle.hb_activity.specs.Deeds.{Deed}
 use Rattle.hb_activity.specs.Holding.{walk_latch}
 use Rattle.hb_activity.specs.Walks.{job_mode, session_mode, walk_held}
 use Rattle.hb_core.proofs.Latches.Beside.{beside_from}
-use Rattle.hb_core.proofs.Latches.Backing.{BackedIn, ComesFrom, rests}
+use Rattle.hb_core.proofs.Latches.Backing.{BackedIn, rests}
 use Rattle.hb_core.proofs.Table.GivenUp.{idle_latches, idle_walks, given_up_is, run_out_is}
 use Rattle.hb_core.proofs.Latches.MergerBacked.{every_row_backed}
 use Rattle.hb_core.proofs.Memory.OwnPages.{held_pages_stay}
@@ -30,7 +29,7 @@ use Rattle.hb_core.specs.Machines.{Machine, live_here, with_activity}
 use Rattle.hb_core.specs.Performing.{Performs, latches_held, mode_among}
 use Rattle.hb_core.specs.Steps.{StepsTo, Works}
 use Rattle.hb_latch.specs.Modes.{goes_beside}
-use Rattle.hb_latch.specs.Tables.{AreCompatible, IsGrantable, LatchTable, MayLatch, mode_at}
+use Rattle.hb_latch.specs.Tables.{AreCompatible, LatchTable, MayLatch, mode_at}
 use Rattle.hb_ops.specs.Files.{if_live}
 use Rattle.hb_store.specs.States.{StoreState, in_memory}
 

@@ -1,6 +1,5 @@
 -- What a decider is asked: a core that has the pages of a step has all that the decider relies on.
-use Rattle.std.proofs.Common.{◌≡◌, ◌≢◌, ◌⊎◌, inl, inr, ℕ, ◌<◌, ◌≤◌, List, [], Option, Some, None, MatchOption, IsSome, IfSome, refl, sym, ap, ◌∙◌, subst, arith}
-use Rattle.std.specs.List.{All}
+use Rattle.std.proofs.Common.{◌≡◌, inl, inr, ℕ, ◌<◌, ◌≤◌, List, Option, Some, None, MatchOption, IsSome, IfSome, refl, sym, ap, ◌∙◌, subst, arith}
 use Rattle.std.specs.Option.{option_and_then, option_map}
 use Rattle.std.proofs.lemmas.Bool.{cases_lt}
 use Rattle.std.proofs.lemmas.List.Elements.{All-contains}
@@ -8,9 +7,8 @@ use Rattle.hb_disk.specs.Model.{DiskModel}
 use Rattle.hb_space.specs.Boxes.{Area}
 use Rattle.hb_space.specs.Points.{IsPoint}
 use Rattle.hb_space.specs.declared.records.Record.{Record}
-use Rattle.hb_frag.specs.declared.leaves.Leaf.TheVariants.{Child}
 use Rattle.hb_frag.specs.declared.pages.LivePage.{LivePage}
-use Rattle.hb_frag.specs.Leaves.{Placed, leaf_at}
+use Rattle.hb_frag.specs.Leaves.{Placed}
 use Rattle.hb_latch.specs.declared.modes.Mode.{Mode}
 use Rattle.hb_latch.specs.declared.modes.Mode.TheVariants.{Shared, Exclusive}
 use Rattle.hb_latch.specs.Tables.{MayLatch}
@@ -26,26 +24,24 @@ use Rattle.hb_activity.specs.declared.wanting.Wanted.{Wanted}
 use Rattle.hb_activity.specs.declared.activities.Activity.{Activity}
 use Rattle.hb_activity.specs.declared.activities.Activity.TheVariants as at
 use Rattle.hb_activity.specs.Classes.{Posters, Sessions, class_of, line_in_hand}
-use Rattle.hb_activity.specs.Deciding.{FitsFree, given_sight}
+use Rattle.hb_activity.specs.Deciding.{FitsFree}
 use Rattle.hb_activity.specs.Passing.{LeadsBelow}
 use Rattle.hb_activity.specs.Walks.{goal_of, job_mode, session_mode, walk_held, walk_point}
 use Rattle.hb_activity.specs.Wanting.{child_of, in_mode, named_child, onward_at, walk_next, wanted_of, wanted_page}
 use Rattle.hb_point.specs.Asks.{MayAsk}
 use Rattle.hb_point.specs.SessionRows.{WantsBoxes}
 use Rattle.hb_poster.specs.Asks.{MakesPage, MayBeAsked}
-use Rattle.hb_poster.specs.PosterRows.{MayGrow}
 use Rattle.hb_store.specs.States.{StoreState}
 use Rattle.hb_lemmas.proofs.Options.{at_value, has_value, some_value}
 use Rattle.hb_core.proofs.Orders.NextLines.{next_is}
-use Rattle.hb_core.proofs.Walks.MayBeAsked.{children_may_be_asked, others_may_be_asked, pages_at_hand_fit, points_may_be_asked, poster_walks_may_be_asked, puts_may_be_asked, splits_may_be_asked}
+use Rattle.hb_core.proofs.Walks.MayBeAsked.{children_may_be_asked, pages_at_hand_fit, points_may_be_asked, poster_walks_may_be_asked, puts_may_be_asked, splits_may_be_asked}
 use Rattle.hb_core.specs.AllowedLaws.{AnyPage}
-use Rattle.hb_core.specs.AskedLaws.{AsksToPut, AsksToSplit, AsksWithParent}
 use Rattle.hb_core.specs.Acting.{NeedsNumber}
 use Rattle.hb_core.specs.Asking.{looked_live, wanted_by}
 use Rattle.hb_core.specs.Fetching.{Brings}
 use Rattle.hb_core.specs.KeptMachine.{MachineKeeps}
 use Rattle.hb_core.specs.Looking.{AsksPoint, AsksPoster, number_of_row, other_page}
-use Rattle.hb_core.specs.Machines.{Machine, live_here, next_of, sight}
+use Rattle.hb_core.specs.Machines.{Machine, live_here, next_of}
 use Rattle.hb_core.specs.Rows.{IsAtHand}
 use Rattle.hb_core.specs.Showing.{RunningCore}
 use Rattle.hb_core.specs.SteppingLaws.{HasNoSearches}
@@ -88,7 +84,7 @@ module _ (m : Machine) (actor : ℕ) (may : MayLatch actor) (keeps : MachineKeep
   walk_wants mode goal p (Some held) is point walks =
       let there = keeps.latches_fit.walking actor held may walks in
       subst (λ (g : Option (List ℕ)). IsSome (in_mode mode (walk_next g (Some held) m.store.meta (live_here m.store held)))) (sym is)
-        (held_leads mode p held (live_here m.store held) refl (has_value (live_here m.store held) there.0 (ap if_live there.1)) walks (point ∙ is))
+      (held_leads mode p held (live_here m.store held) refl (has_value (live_here m.store held) there.0 (ap if_live there.1)) walks (point ∙ is))
 
   -- a poster at a parent wants the child at its point, and to have the parent alone that page
   parent_leads : (job : Job) (page : LivePage) → LeadsBelow page job → IsSome (in_mode (λ level. Shared) (child_of page job.point))
@@ -205,20 +201,20 @@ module _ (d : DiskModel) (c : RunningCore) (m : Machine) (actor : ℕ) (free : O
       let its = has_wanted (session_wants m actor may keeps line held rest found goal.0 is goal.1) in
       let asked = points_may_be_asked m actor c.store line held rest found its.wanted its.page free goal.0 may keeps brings is none at_goal (at_value (walk_point (m.activity actor)) IsPoint goal.0 at_goal points) its.wants its.hand in
       at_wanted (at.SessionWalk line held rest found) (Some its.wanted) its.wants
-        (asks_point (at.SessionWalk line held rest found) its.wanted.page its.page its.hand.live (subst (λ (a : Activity). MayAsk a m.store.meta free its.wanted.page its.page None) is asked))
+      (asks_point (at.SessionWalk line held rest found) its.wanted.page its.page its.hand.live (subst (λ (a : Activity). MayAsk a m.store.meta free its.wanted.page its.page None) is asked))
 
   split_asks : (line : Line) (held : ℕ) → m.activity actor ≡ at.SessionSplit line held → AsksSession (at.SessionSplit line held)
   split_asks line held is =
       let asks = splits_may_be_asked m actor c.store line held free may keeps brings is (split_fits line held is) in
       at_wanted (at.SessionSplit line held) None (alone (at.SessionSplit line held) is refl)
-        (asks_point (at.SessionSplit line held) held asks.page asks.live (subst (λ (a : Activity). MayAsk a m.store.meta free held asks.page None) is asks.may))
+      (asks_point (at.SessionSplit line held) held asks.page asks.live (subst (λ (a : Activity). MayAsk a m.store.meta free held asks.page None) is asks.may))
 
   put_asks : (line : Line) (source fresh : ℕ) → m.activity actor ≡ at.SessionPut line source fresh → AsksSession (at.SessionPut line source fresh)
   put_asks line source fresh is =
       let asks = puts_may_be_asked m actor c.store line source fresh free may keeps brings is in
       at_wanted (at.SessionPut line source fresh) None (alone (at.SessionPut line source fresh) is refl)
-        (asks_point (at.SessionPut line source fresh) source asks.page asks.live
-          (subst (λ (o : Option LivePage). MayAsk (at.SessionPut line source fresh) m.store.meta free source asks.page o) (sym asks.other_live) (subst (λ (a : Activity). MayAsk a m.store.meta free source asks.page (Some asks.other)) is asks.may)))
+      (asks_point (at.SessionPut line source fresh) source asks.page asks.live
+      (subst (λ (o : Option LivePage). MayAsk (at.SessionPut line source fresh) m.store.meta free source asks.page o) (sym asks.other_live) (subst (λ (a : Activity). MayAsk a m.store.meta free source asks.page (Some asks.other)) is asks.may)))
 
   pub session_asks : (activity : Activity) → m.activity actor ≡ activity → class_of activity ≡ Sessions → IsWorking activity → IfSome (walk_point activity) IsPoint → AsksSession activity
   session_asks (at.SessionWalk line held rest found) is class working points = walk_asks line held rest found is (subst (λ (a : Activity). IfSome (walk_point a) IsPoint) (sym is) points)
@@ -250,14 +246,14 @@ module _ (d : DiskModel) (c : RunningCore) (m : Machine) (actor : ℕ) (free : O
   grow_fits : (job : Job) (its : HasWanted) → m.activity actor ≡ at.PosterGrow job → MakesPage (at.PosterGrow job) c.store.meta its.page (other_page c.store (at.PosterGrow job)) → FitsFree c.store.meta free
   grow_fits job its is grows =
       fits_free (Needs (at.PosterGrow job) (Some its.wanted)) (λ next. next_of c.store ≡ Some next) c.store.meta free few (λ need. need.0)
-        (λ lt. (lt, its.page, subst (λ (a : Activity). IsAtHand (with_pages c m) a its.wanted its.page) is its.hand, record { height = grows.height; below = grows.below; gave = grows.gave }))
-        (numbers_at (at.PosterGrow job) (Some its.wanted) is its.wants)
+      (λ lt. (lt, its.page, subst (λ (a : Activity). IsAtHand (with_pages c m) a its.wanted its.page) is its.hand, record { height = grows.height; below = grows.below; gave = grows.gave }))
+      (numbers_at (at.PosterGrow job) (Some its.wanted) is its.wants)
 
   again_fits : (job : Job) (parent : ℕ) (its : HasWanted) (over : LivePage) → m.activity actor ≡ at.PosterAgain job parent → live_here c.store parent ≡ Some over → MakesPage (at.PosterAgain job parent) c.store.meta its.page (Some over) → FitsFree c.store.meta free
   again_fits job parent its over is live lacks =
       fits_free (Needs (at.PosterAgain job parent) (Some its.wanted)) (λ next. next_of c.store ≡ Some next) c.store.meta free few (λ need. need.0)
-        (λ lt. (lt, its.page, subst (λ (a : Activity). IsAtHand (with_pages c m) a its.wanted its.page) is its.hand, (over, live, lacks)))
-        (numbers_at (at.PosterAgain job parent) (Some its.wanted) is its.wants)
+      (λ lt. (lt, its.page, subst (λ (a : Activity). IsAtHand (with_pages c m) a its.wanted its.page) is its.hand, (over, live, lacks)))
+      (numbers_at (at.PosterAgain job parent) (Some its.wanted) is its.wants)
 
   asks_at : (activity : Activity) (its : HasWanted) → m.activity actor ≡ activity → IsWorking activity → class_of activity ≡ Posters → IfSome (walk_point activity) IsPoint → AsksAsPoster activity
   asks_at (at.PosterGrow job) its is working class points =
@@ -274,7 +270,7 @@ module _ (d : DiskModel) (c : RunningCore) (m : Machine) (actor : ℕ) (free : O
       let asks = children_may_be_asked m actor c.store job parent its.wanted its.page may keeps brings (inr is) its.wants its.hand in
       let asked = subst (λ (a : Activity). MayBeAsked a m.store.meta its.page (Some asks.over)) is asks.may in
       asks_poster (at.PosterAgain job parent) its (subst (λ (o : Option LivePage). MayBeAsked (at.PosterAgain job parent) m.store.meta its.page o) (sym asks.live) asked)
-        (λ makes. again_fits job parent its asks.over is asks.live (subst (λ (o : Option LivePage). MakesPage (at.PosterAgain job parent) c.store.meta its.page o) asks.live makes))
+      (λ makes. again_fits job parent its asks.over is asks.live (subst (λ (o : Option LivePage). MakesPage (at.PosterAgain job parent) c.store.meta its.page o) asks.live makes))
   asks_at (at.SessionWalk line held rest found) its is working class points = cc
   asks_at (at.SessionSplit line held) its is working class points = cc
   asks_at (at.SessionPut line source fresh) its is working class points = cc

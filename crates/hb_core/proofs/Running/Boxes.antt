@@ -1,5 +1,5 @@
 -- The box that is asked for has as many attributes as the file.
-use Rattle.std.proofs.Common.{◌≡◌, ℕ, List, length, replicate, Option, Some, None, IfSome, refl, sym, ap, ◌∙◌, subst}
+use Rattle.std.proofs.Common.{◌≡◌, ℕ, List, length, replicate, Option, Some, None, IfSome, refl, sym, ◌∙◌, subst}
 use Rattle.std.specs.Option.{option_and_then}
 use Rattle.std.proofs.lemmas.List.{length-replicate}
 use Rattle.hb_frag.proofs.Facts.Tiles.{first_tells}

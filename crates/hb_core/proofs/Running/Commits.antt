@@ -1,5 +1,5 @@
 -- The operation of a row may be committed: over each disk with which the core shows the machine.
-use Rattle.std.proofs.Common.{◌≡◌, ◌⊎◌, inl, inr, ℕ, ◌<◌, ◌≤◌, ◌-◌, ◌==◌, ◌&&◌, Bool, true, false, List, length, map, Option, Some, None, IsSome, IsTrue, IfSome, refl, sym, ap, ◌∙◌, subst, arith}
+use Rattle.std.proofs.Common.{◌≡◌, inl, inr, ℕ, ◌≤◌, ◌-◌, ◌==◌, ◌&&◌, Bool, false, List, length, Option, Some, IsTrue, IfSome, refl, sym, ap, ◌∙◌, subst, arith}
 use Rattle.std.specs.List.{All}
 use Rattle.std.specs.Option.{option_map_or}
 use Rattle.std.proofs.lemmas.Bool.{cases_lt, eq-eqb}
@@ -9,13 +9,11 @@ use Rattle.hb_frag.specs.declared.leaves.Leaf.TheVariants.{Records}
 use Rattle.hb_frag.specs.declared.pages.LivePage.{LivePage}
 use Rattle.hb_frag.specs.Leaves.{leaf_at}
 use Rattle.hb_latch.specs.Tables.{MayLatch}
-use Rattle.hb_layout.specs.declared.meta.Meta.{Meta}
 use Rattle.hb_ops.specs.declared.operations.Op.{Op}
 use Rattle.hb_ops.specs.Files.{FileState}
 use Rattle.hb_ops.specs.Operations.{IsLicensed}
 use Rattle.hb_ops.specs.Sound.{FitsFile}
 use Rattle.hb_set.specs.Order.{Entry}
-use Rattle.hb_set.specs.declared.commands.Command.{Command}
 use Rattle.hb_set.specs.declared.scripts.Line.{Line}
 use Rattle.hb_space.specs.Boxes.{Area}
 use Rattle.hb_space.specs.declared.records.Record.{Record}
@@ -44,7 +42,7 @@ use Rattle.hb_core.specs.Fetching.{Brings}
 use Rattle.hb_core.specs.Keeps.{HasSoundFile}
 use Rattle.hb_core.specs.KeptMachine.{MachineKeeps}
 use Rattle.hb_core.specs.MachineLaws.{MayBeDoneHere, RowsMayBeDone}
-use Rattle.hb_core.specs.Machines.{Files, Machine, current_file, sight, with_disk}
+use Rattle.hb_core.specs.Machines.{Machine, current_file, sight, with_disk}
 use Rattle.hb_core.specs.Moving.{MayCommit}
 use Rattle.hb_core.specs.Rows.{IsAtHand, Row}
 use Rattle.hb_core.specs.Showing.{RunningCore, ShowsFiles, ShowsMachine}
@@ -80,23 +78,23 @@ module _ (m : Machine) (actor : ℕ) (fetched : StoreState) (keeps : MachineKeep
   walk_changes line held rest found its is wants zero_level changes =
       let wanted : wanted_of (at.SessionWalk line held rest found) m.store.meta (looked_live m.store (at.SessionWalk line held rest found)) ≡ Some its = sym (ap (λ (a : Activity). wanted_of a m.store.meta (looked_live m.store a)) is) ∙ wants in
       subst (λ (o : Option Wanted). IsTrue (may_change line.command && option_map_or (λ (wanted : Wanted). wanted.level == 0) o false)) (sym wanted)
-        (subst (λ (b : Bool). IsTrue (b && (its.level == 0))) (sym changes) zero_level)
+      (subst (λ (b : Bool). IsTrue (b && (its.level == 0))) (sym changes) zero_level)
 
   changes_file : (op : Op) (deed : Deed) → Row (m.activity actor) (wanted_by m actor) (with_disk fetched m.files m.clock m) deed → deed.op ≡ Some op → IsTrue (may_change_file m actor)
   changes_file op deed row is = at_value deed.op (λ (op : Op). MayChange (m.activity actor)) op is (shown refl)
     where
       shown : Shown (m.activity actor) deed.op
       shown = each_row (with_disk fetched m.files m.clock m) (λ activity deed. Shown activity deed.op) (m.activity actor) (wanted_by m actor) deed
-        (record { full = λ line held none is. tt; splits = λ line held page live leaves is. refl; puts = λ line source fresh rec command half either page live is. refl })
-        (λ its page wants hand. each_op (sight (with_disk fetched m.files m.clock m)) its.page page Shown (record {
-          none = λ activity is. tt;
-          inserts = λ line held rest found rec command absent room is. walk_changes line held rest found its is wants (at_records its page rec.key absent.records absent.area hand absent.leaf) (ap may_change command);
-          deletes = λ line held rest found p there command stands is. walk_changes line held rest found its is wants (at_records its page p stands.records stands.area hand stands.leaf) (ap may_change command);
-          grows = λ job fresh free_after may free next is. refl;
-          posts = λ job parent above path inner area live plan is. refl;
-          parts = λ job parent above live plan leaves is. refl;
-        }))
-        row
+          (record { full = λ line held none is. tt; splits = λ line held page live leaves is. refl; puts = λ line source fresh rec command half either page live is. refl })
+          (λ its page wants hand. each_op (sight (with_disk fetched m.files m.clock m)) its.page page Shown (record {
+            none = λ activity is. tt;
+            inserts = λ line held rest found rec command absent room is. walk_changes line held rest found its is wants (at_records its page rec.key absent.records absent.area hand absent.leaf) (ap may_change command);
+            deletes = λ line held rest found p there command stands is. walk_changes line held rest found its is wants (at_records its page p stands.records stands.area hand stands.leaf) (ap may_change command);
+            grows = λ job fresh free_after may free next is. refl;
+            posts = λ job parent above path inner area live plan is. refl;
+            parts = λ job parent above live plan leaves is. refl;
+          }))
+          row
 
 module _ (d : DiskModel) (c : RunningCore) (m : Machine) (actor : ℕ) (may : MayLatch actor) (work : MayWork m actor) (brings : Brings m AnyPage c.store) (shows : ShowsMachine d c (with_pages c m)) (deed : Deed) (row : Row (m.activity actor) (wanted_by m actor) (with_pages c m) deed) (op : Op) (is : deed.op ≡ Some op) where
   keeps : MachineKeeps m
@@ -112,7 +110,7 @@ module _ (d : DiskModel) (c : RunningCore) (m : Machine) (actor : ℕ) (may : Ma
   marks_there =
       let long : length c.order ≡ length m.order = sym (ap (λ (order : List ℕ). length order) shows.order) ∙ length-map m.order (λ (e : Entry). e.line.number) in
       subst (λ (groups : List Waiting). All (λ (g : Waiting). g.mark ≤ length c.order) groups) (sym (ap (λ (log : LogState). log.groups) brings.rest.log))
-        (subst (λ (n : ℕ). All (λ (g : Waiting). g.mark ≤ n) m.store.log.groups) (sym long) keeps.marks_rise.inside)
+      (subst (λ (n : ℕ). All (λ (g : Waiting). g.mark ≤ n) m.store.log.groups) (sym long) keeps.marks_rise.inside)
 
   module _ (done : RowsMayBeDone) (one_durable : (durable other : FileState) (later others : List FileState) → StoreKeeps d c.store durable later → StoreKeeps d c.store other others → durable ≡ other)
       (one_later : (durable other : FileState) (later others : List FileState) → StoreKeeps d c.store durable later → StoreKeeps d c.store other others → later ≡ others) where
@@ -126,7 +124,7 @@ module _ (d : DiskModel) (c : RunningCore) (m : Machine) (actor : ℕ) (may : Ma
         let holds : FilesHold c.store its.files = brought_shown m its.files AnyPage c.store its.told brings (files_hold m its.files sound) in
         let licensed : IsLicensed (current_file its.files) op = licensed_in_file c.store (current_file its.files) (brought m AnyPage c.store brings (keeps_pages m keeps.marks_in_place keeps.pages_of_file)) (shows_file c.store its.files holds) op here.licensed in
         subst (λ (file : FileState). IsLicensed (last_of file later) op) (one_durable its.files.durable durable its.files.later later its.kept kept)
-          (subst (λ (files : List FileState). IsLicensed (last_of its.files.durable files) op) (one_later its.files.durable durable its.files.later later its.kept kept) licensed)
+        (subst (λ (files : List FileState). IsLicensed (last_of its.files.durable files) op) (one_later its.files.durable durable its.files.later later its.kept kept) licensed)
 
     pub may_commit_row : MayCommit d c op
     may_commit_row = record {

@@ -1,5 +1,5 @@
 -- A decider may be asked at a step that has its pages, and what it says is a row of the step.
-use Rattle.std.proofs.Common.{◌≡◌, ◌≢◌, ◌⊎◌, inl, inr, ℕ, ◌<◌, ◌≤◌, ◌==◌, Bool, true, false, cond, List, [], ◌∷◌, length, Option, Some, None, MatchOption, IsSome, IfSome, refl, sym, ap, ◌∙◌, subst}
+use Rattle.std.proofs.Common.{◌≡◌, ◌⊎◌, inl, inr, ℕ, ◌==◌, Bool, true, false, cond, List, length, Option, IfSome, refl, sym, ap, ◌∙◌, subst}
 use Rattle.std.proofs.lemmas.Option.{same_Some}
 use Rattle.hb_disk.specs.Model.{DiskModel}
 use Rattle.hb_space.specs.Boxes.{Area}
@@ -7,13 +7,11 @@ use Rattle.hb_space.specs.Points.{IsPoint}
 use Rattle.hb_space.specs.declared.records.Record.{Record}
 use Rattle.hb_frag.specs.declared.pages.LivePage.{LivePage}
 use Rattle.hb_latch.specs.Tables.{MayLatch}
-use Rattle.hb_layout.specs.declared.meta.Meta.{Meta}
 use Rattle.hb_set.specs.declared.scripts.Line.{Line}
-use Rattle.hb_activity.specs.declared.jobs.Job.{Job}
 use Rattle.hb_activity.specs.declared.wanting.Wanted.{Wanted}
 use Rattle.hb_activity.specs.declared.activities.Activity.{Activity}
 use Rattle.hb_activity.specs.declared.activities.Activity.TheVariants as at
-use Rattle.hb_activity.specs.Classes.{Class, Consolidators, Flushers, Posters, Sessions, class_of, line_in_hand}
+use Rattle.hb_activity.specs.Classes.{Consolidators, Flushers, Posters, Sessions, class_of, line_in_hand}
 use Rattle.hb_activity.specs.Deeds.{Deed}
 use Rattle.hb_activity.specs.Sights.{Sight}
 use Rattle.hb_activity.specs.Walks.{goal_of, walk_point}
@@ -26,7 +24,7 @@ use Rattle.hb_core.specs.Asking.{wanted_by}
 use Rattle.hb_core.specs.KeptFits.{class_for}
 use Rattle.hb_core.specs.KeptMachine.{MachineKeeps}
 use Rattle.hb_core.specs.Looking.{AsksPoint, AsksPoster, HasPointRow, HasPosterRow, number_of_row, sight_in}
-use Rattle.hb_core.specs.Machines.{Machine, live_here, sight}
+use Rattle.hb_core.specs.Machines.{Machine, sight}
 use Rattle.hb_core.specs.Moving.{StandsAs}
 use Rattle.hb_core.specs.Rows.{IsAtHand, Row, RowAt}
 use Rattle.hb_core.specs.Showing.{RunningCore}
@@ -116,10 +114,12 @@ module _ (d : DiskModel) (c : RunningCore) (m : Machine) (actor : ℕ) (free : O
       let its = has_wanted d c m actor free may has (session_wants m actor may keeps line held rest found goal.0 is goal.1) in
       let at_page = subst (λ (w : Option Wanted). HasPointRow c.store (at.SessionWalk line held rest found) (number_of_row (at.SessionWalk line held rest found) w) (length m.order) deed) its.wants row in
       let same : at_page.0 ≡ its.page = same_Some at_page.0 its.page (sym at_page.1 ∙ its.hand.live) in
-      subst (λ (w : Option Wanted). OwnRow (at.SessionWalk line held rest found) w deed) (sym its.wants)
-        (its.page, subst (λ (a : Activity). IsAtHand (with_pages c m) a its.wanted its.page) is its.hand,
-          row_of_walk (sight (with_pages c m)) line (goal_of line.command rest) rest found its.wanted.page its.page deed
-            (subst (λ (q : LivePage). PointRow (at.SessionWalk line held rest found) (sight_in c.store (length m.order)) its.wanted.page q deed) same at_page.2))
+      subst (λ (w : Option Wanted). OwnRow (at.SessionWalk line held rest found) w deed) (sym its.wants) (
+        its.page,
+        subst (λ (a : Activity). IsAtHand (with_pages c m) a its.wanted its.page) is its.hand,
+        row_of_walk (sight (with_pages c m)) line (goal_of line.command rest) rest found its.wanted.page its.page deed
+            (subst (λ (q : LivePage). PointRow (at.SessionWalk line held rest found) (sight_in c.store (length m.order)) its.wanted.page q deed) same at_page.2),
+      )
 
   session_row : (activity : Activity) (deed : Deed) → m.activity actor ≡ activity → class_of activity ≡ Sessions → IsWorking activity → HasPointRow c.store activity (number_of_row activity (wanted_by m actor)) (length m.order) deed → OwnRow activity (wanted_by m actor) deed
   session_row (at.SessionWalk line held rest found) deed is class working row = walk_row line held rest found deed is row
@@ -145,7 +145,7 @@ module _ (d : DiskModel) (c : RunningCore) (m : Machine) (actor : ℕ) (free : O
       let at_page = subst (λ (w : Option Wanted). HasPosterRow c.store activity (number_of_row activity w) (length m.order) deed) its.wants row in
       let same : at_page.0 ≡ its.page = same_Some at_page.0 its.page (sym at_page.1 ∙ its.hand.live) in
       at_hand activity its deed is (row_of_poster (sight (with_pages c m)) activity its.wanted.page its.page deed class working
-        (subst (λ (q : LivePage). PosterRow activity (sight_in c.store (length m.order)) its.wanted.page q deed) same at_page.2))
+      (subst (λ (q : LivePage). PosterRow activity (sight_in c.store (length m.order)) its.wanted.page q deed) same at_page.2))
 
   pub decided_session : (activity : Activity) (wanted : Option Wanted) (st : StoreState) (deed : Activity → Deed) → StandsAs c actor activity → wanted ≡ wanted_by m actor → st ≡ c.store → (actor == 17) ≡ false
       → HasPointRow st activity (number_of_row activity wanted) (length m.order) (deed activity) → Row (m.activity actor) (wanted_by m actor) (with_pages c m) (deed (m.activity actor))

@@ -1,6 +1,5 @@
 -- What a deed makes of a core is a step's deed of the machine that it shows, and the core then shows what this leads to.
-use Rattle.std.proofs.Common.{◌≡◌, ◌≢◌, ◌⊎◌, inl, inr, ℕ, ◌-◌, ◌==◌, ◌≤◌, cond, List, [], ◌∷◌, ◌++◌, length, map, slice_get, slice_set, Option, Some, None, IsSome, refl, sym, ap, ◌∙◌, subst}
-use Rattle.std.specs.Option.{option_map}
+use Rattle.std.proofs.Common.{◌≡◌, ℕ, ◌-◌, List, ◌++◌, length, map, slice_get, Option, Some, None, IsSome, refl, sym, ap, ◌∙◌, subst}
 use Rattle.std.proofs.lemmas.List.{length-map, map-append}
 use Rattle.hb_activity.specs.declared.activities.Activity.{Activity}
 use Rattle.hb_activity.specs.declared.activities.Activity.TheVariants as at
@@ -11,13 +10,11 @@ use Rattle.hb_latch.specs.Tables.{LatchTable, MayLatch}
 use Rattle.hb_lemmas.proofs.Booleans.{at_other}
 use Rattle.hb_ops.specs.declared.operations.Op.{Op}
 use Rattle.hb_set.specs.Order.{Entry}
-use Rattle.hb_store.specs.Keeps.{StoreKeeps}
-use Rattle.hb_store.specs.States.{StoreState}
 use Rattle.hb_core.specs.declared.outcomes.Outcome.{Outcome}
 use Rattle.hb_core.specs.KeptTurns.{LinesInTurn}
 use Rattle.hb_core.specs.Machines.{Files, Machine, if_some, with_activity}
 use Rattle.hb_core.specs.Moving.{DoesDeed, KeepsFilesBy, later_with, numbers_joined, with_standing}
-use Rattle.hb_core.specs.Performing.{ChangesQueue, MayDo, Performs, Relatches, files_after, given_by, latches_held, outcome_of, with_effect}
+use Rattle.hb_core.specs.Performing.{ChangesQueue, MayDo, Performs, Relatches, files_after, given_by, latches_held, outcome_of}
 use Rattle.hb_core.specs.Showing.{RunningCore, ShowsFiles, ShowsMachine}
 use Rattle.hb_core.specs.Working.{ShowsBut, with_pages}
 use Rattle.hb_core.proofs.Running.NumbersInHand.{NumberFate, line_of_number}
@@ -88,23 +85,27 @@ module _ (d : DiskModel) (c after : RunningCore) (m : Machine) (actor : ℕ) (de
   nobody_new other none = at_other other actor deed.next (m.activity other) (λ same. none (subst MayLatch (sym same) may)) ∙ shows.nobody_else other none
 
   pub deed_shows : LinesInTurn m → NumberFate (m.activity actor) deed → KeepsFilesBy deed.op d c.store d after.store → (new : Machine) × Performs m c.store actor deed outcome new × ShowsMachine d after new
-  deed_shows turn fate keeps = (new, performed, record {
-    lines = shows.lines ∙ sym (of_core (λ s. s.lines));
-    sessions = ap (λ (l : List ℕ). length l) (of_core (λ s. s.behind)) ∙ shows.sessions;
-    turns = λ session behind low high is.
-        has_turn new session behind
-        (turn_after m.lines m.answered m.activity actor deed m.clock turn.rising (line_of_number m actor turn) fate session behind
-        (turn_at (with_pages c m) session behind (shows.turns session behind low high (ap (λ (l : List ℕ). slice_get l (session - 1)) (sym (of_core (λ s. s.behind))) ∙ is))));
-    all_actors = ap (λ (l : List Activity). length l) (of_core (λ s. s.activities)) ∙ still_all c.activities m.activity actor (m.activity actor) deed.next may shows.all_actors;
-    activities = λ other its. ap (λ (l : List Activity). slice_get l (other - 1)) (of_core (λ s. s.activities)) ∙ stand_then c.activities m.activity actor (m.activity actor) deed.next may shows.all_actors shows.activities other its;
-    nobody_else = nobody_new;
-    latches = refl;
-    jobs = refl;
-    order = map-append (λ (e : Entry). e.line.number) m.order (if_some deed.joins)
-        ∙ ap (λ (l : List ℕ). l ++ map (λ (e : Entry). e.line.number) (if_some deed.joins)) shows.order
-        ∙ ap (λ (l : List ℕ). c.order ++ l) (joined_numbers deed.joins) ∙ sym does.order;
-    stop = shows.stop ∙ sym (of_core (λ s. s.stop));
-    store = refl;
-    tells = files_shown keeps;
-    silent = λ none. ap (files_after deed.op) (shows.silent none) ∙ files_untold deed.op;
-  })
+  deed_shows turn fate keeps = (
+    new,
+    performed,
+    record {
+      lines = shows.lines ∙ sym (of_core (λ s. s.lines));
+      sessions = ap (λ (l : List ℕ). length l) (of_core (λ s. s.behind)) ∙ shows.sessions;
+      turns = λ session behind low high is.
+          has_turn new session behind
+          (turn_after m.lines m.answered m.activity actor deed m.clock turn.rising (line_of_number m actor turn) fate session behind
+          (turn_at (with_pages c m) session behind (shows.turns session behind low high (ap (λ (l : List ℕ). slice_get l (session - 1)) (sym (of_core (λ s. s.behind))) ∙ is))));
+      all_actors = ap (λ (l : List Activity). length l) (of_core (λ s. s.activities)) ∙ still_all c.activities m.activity actor (m.activity actor) deed.next may shows.all_actors;
+      activities = λ other its. ap (λ (l : List Activity). slice_get l (other - 1)) (of_core (λ s. s.activities)) ∙ stand_then c.activities m.activity actor (m.activity actor) deed.next may shows.all_actors shows.activities other its;
+      nobody_else = nobody_new;
+      latches = refl;
+      jobs = refl;
+      order = map-append (λ (e : Entry). e.line.number) m.order (if_some deed.joins)
+          ∙ ap (λ (l : List ℕ). l ++ map (λ (e : Entry). e.line.number) (if_some deed.joins)) shows.order
+          ∙ ap (λ (l : List ℕ). c.order ++ l) (joined_numbers deed.joins) ∙ sym does.order;
+      stop = shows.stop ∙ sym (of_core (λ s. s.stop));
+      store = refl;
+      tells = files_shown keeps;
+      silent = λ none. ap (files_after deed.op) (shows.silent none) ∙ files_untold deed.op;
+    },
+  )

@@ -1,5 +1,5 @@
 -- A force of a core's store is a force of the machine that it shows, or stops it.
-use Rattle.std.proofs.Common.{◌≡◌, ◌≢◌, ◌⊎◌, inl, inr, ℕ, ◌+◌, ◌≤◌, false, List, [], ◌∷◌, map, Option, Some, None, IsOk, IsSome, IfSome, Result, Ok, Err, refl, sym, ap, ◌∙◌, subst, arith}
+use Rattle.std.proofs.Common.{◌≡◌, ◌≢◌, ◌⊎◌, inl, inr, ℕ, ◌+◌, ◌≤◌, false, List, [], ◌∷◌, map, Option, Some, None, IsOk, IsSome, IfSome, Ok, Err, refl, sym, ap, ◌∙◌, subst, arith}
 use Rattle.std.specs.Option.{option_map}
 use Rattle.hb_disk.specs.Model.{DiskModel}
 use Rattle.hb_lemmas.proofs.Options.{not_none, some_value}
@@ -158,15 +158,15 @@ module _ (d e : DiskModel) (c : RunningCore) (st : StoreState) (m : Machine) (sh
         let there : m.store ≡ st = shows.store ∙ sym (nothing_left c.store empty) ∙ sym writes.forced in
         shown_with d e c st m shows m.store m.files m.clock there
         (λ told.
-            let had = shows.tells (was_told told) in
-            let keeps = kept_before had in
-            let behind = leads_nowhere (written_pages keeps.parts) had.files.durable keeps.parts.waiting had.files.later (none_spelled c.store.log.groups keeps.parts.waiting empty keeps.waits.spelled) keeps.waits.leads in
-            record {
-              files = had.files;
-              told = had.told;
-              kept = subst (λ (s : StoreState). StoreKeeps e s had.files.durable had.files.later) (sym there) (as_before e st had.files.durable had.files.later behind (writes.keeps_forced had.files.durable had.files.later keeps));
-              clock = had.clock ∙ sym ((writes.nothing empty).1.clock);
-            })
+        let had = shows.tells (was_told told) in
+        let keeps = kept_before had in
+        let behind = leads_nowhere (written_pages keeps.parts) had.files.durable keeps.parts.waiting had.files.later (none_spelled c.store.log.groups keeps.parts.waiting empty keeps.waits.spelled) keeps.waits.leads in
+        record {
+          files = had.files;
+          told = had.told;
+          kept = subst (λ (s : StoreState). StoreKeeps e s had.files.durable had.files.later) (sym there) (as_before e st had.files.durable had.files.later behind (writes.keeps_forced had.files.durable had.files.later keeps));
+          clock = had.clock ∙ sym ((writes.nothing empty).1.clock);
+        })
         (λ untold. shows.silent (silent_before _ d.told e.told writes.wrote.became.told untold))
 
   module _ {T : Type 0} (fault : WriteFault) (writes : WritesOldest {T = T} (Err fault) d e c.store st) where
@@ -177,9 +177,11 @@ module _ (d e : DiskModel) (c : RunningCore) (st : StoreState) (m : Machine) (sh
         no_ok is = cc
 
     stops_at : (clock : ℕ) → m.clock ≤ clock → clock ≤ m.clock + 4 → (IsSome d.told → clock ≡ e.clock) → (new : Machine) × FailsToWrite m 4 (outcomes.Stopped stops.WriteFault) new × ShowsMachine e (with_stop stops.WriteFault (with_store st c)) new
-    stops_at clock from few tells = (stopped_for stops.WriteFault (failed clock m), record { clock = clock; from = from; few = few; says = refl; stops = refl },
+    stops_at clock from few tells = (
+      stopped_for stops.WriteFault (failed clock m),
+      record { clock = clock; from = from; few = few; says = refl; stops = refl },
       shown_stopped stops.WriteFault e (with_store st c) (failed clock m) (shown_with d e c st m shows (stopped_state m.store) m.files clock same
-      (λ told.
+          (λ told.
           let was = told_before d.told e.told writes.wrote.became.silent told in
           let had = shows.tells was in
           record {
@@ -188,7 +190,8 @@ module _ (d e : DiskModel) (c : RunningCore) (st : StoreState) (m : Machine) (sh
             kept = subst (λ (s : StoreState). StoreKeeps e s had.files.durable had.files.later) (sym same) (writes.keeps_stopped had.files.durable had.files.later (kept_before had));
             clock = tells was;
           })
-      (λ untold. shows.silent (silent_before _ d.told e.told writes.wrote.became.told untold))))
+          (λ untold. shows.silent (silent_before _ d.told e.told writes.wrote.became.told untold))),
+    )
       where
         same : stopped_state m.store ≡ st
         same = ap stopped_state shows.store ∙ sym writes.stopped

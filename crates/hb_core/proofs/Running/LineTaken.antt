@@ -1,5 +1,5 @@
 -- An idle session of a core takes a line, or the poster takes a job, as a step of the machine that it shows.
-use Rattle.std.proofs.Common.{◌≡◌, ◌≢◌, ◌⊎◌, inl, inr, ℕ, ◌≤◌, ◌+◌, ◌-◌, ◌==◌, Bool, cond, List, [], ◌∷◌, ◌++◌, length, take, drop, slice_get, slice_set, All, Option, Some, None, refl, sym, ap, ◌∙◌, subst, arith, append-nil}
+use Rattle.std.proofs.Common.{◌≡◌, ◌≢◌, ◌⊎◌, inl, inr, ℕ, ◌≤◌, ◌+◌, ◌-◌, ◌==◌, Bool, cond, List, [], length, take, drop, slice_get, slice_set, All, Option, Some, None, refl, sym, ap, ◌∙◌, subst, arith, append-nil}
 use Rattle.std.specs.Prelude.{MatchOption}
 use Rattle.std.proofs.lemmas.Bool.{cases_Bool, eq-eqb, eqb-false, eqb-true}
 use Rattle.std.proofs.lemmas.List.{length-set}
@@ -175,13 +175,18 @@ module _ (d : DiskModel) (c after : RunningCore) (m : Machine) (actor behind : �
   -- the step of an idle session
   pub line_taken : (outcome : Outcome) → TakesNextLine actor behind outcome c after → (new : Machine) × StepsAs at.SessionIdle m actor outcome new × ShowsMachine d after new
   line_taken outcome (inl none) =
-      let next = none_taken none.2 in
-      (m, subst (λ (o : Option Line). MatchOption o (StaysSo m outcomes.Idle outcome m) (λ line. Performs m m.store actor (taking line) outcome m ⊎ (WantsBoxes line.command × Performs m m.store actor (answers_now line.number replies.NoMemory) outcome m))) (sym next) (none.0, refl),
-      subst (λ (s : RunningCore). ShowsMachine d s m) (sym none.1) step.shows)
+      let next = none_taken none.2 in (
+        m,
+        subst (λ (o : Option Line). MatchOption o (StaysSo m outcomes.Idle outcome m) (λ line. Performs m m.store actor (taking line) outcome m ⊎ (WantsBoxes line.command × Performs m m.store actor (answers_now line.number replies.NoMemory) outcome m))) (sym next) (none.0, refl),
+        subst (λ (s : RunningCore). ShowsMachine d s m) (sym none.1) step.shows,
+      )
   line_taken outcome (inr some) =
-      let new = taken after m actor some.2 in
-      (new, subst (λ (o : Option Line). MatchOption o (StaysSo m outcomes.Idle outcome new) (λ line. Performs m m.store actor (taking line) outcome new ⊎ (WantsBoxes line.command × Performs m m.store actor (answers_now line.number replies.NoMemory) outcome new)))
-      (sym (is_next some.1 some.2 some.3)) (inl (performed some.1 some.2 some.3 outcome some.0)), shown some.1 some.2 some.3)
+      let new = taken after m actor some.2 in (
+        new,
+        subst (λ (o : Option Line). MatchOption o (StaysSo m outcomes.Idle outcome new) (λ line. Performs m m.store actor (taking line) outcome new ⊎ (WantsBoxes line.command × Performs m m.store actor (answers_now line.number replies.NoMemory) outcome new)))
+            (sym (is_next some.1 some.2 some.3)) (inl (performed some.1 some.2 some.3 outcome some.0)),
+        shown some.1 some.2 some.3,
+      )
 
 -- ---- the poster
 

@@ -1,5 +1,5 @@
 -- The next line of a session, and its turn once that is taken.
-use Rattle.std.proofs.Common.{◌≡◌, ◌≢◌, ◌⊎◌, inl, inr, ℕ, zero, suc, ◌<◌, ◌≤◌, ◌+◌, ◌==◌, ◌&&◌, not, Bool, true, false, cond, List, [], ◌∷◌, ◌++◌, length, take, drop, slice_get, All, Option, Some, None, refl, sym, ap, ◌∙◌, subst, arith, length-append}
+use Rattle.std.proofs.Common.{◌≡◌, ◌≢◌, ◌⊎◌, inl, inr, ℕ, zero, suc, ◌<◌, ◌≤◌, ◌+◌, ◌==◌, ◌&&◌, not, Bool, true, false, cond, List, [], ◌∷◌, ◌++◌, length, take, drop, slice_get, All, Some, None, refl, sym, ap, ◌∙◌, subst, arith, length-append}
 use Rattle.std.proofs.lemmas.Bool.{eq-eqb, eqb-true, false≢true}
 use Rattle.std.proofs.lemmas.List.{append_assoc, drop_at, length-take-le, take-append-drop, take_at}
 use Rattle.std.proofs.lemmas.List.Elements.{All-append, All-contains, All-head, All-tail, All-weaker}
@@ -131,9 +131,10 @@ module _ (lines : List Line) (answered : List Answered) (session behind : ℕ) (
         (All-alone (Dealt answered (Some line.number) session) line (λ same. inr refl)))
 
     rest_to_come : All (ToCome answered (Some line.number) session) rest
-    rest_to_come = each_member (ToCome answered (Some line.number) session) rest (λ l among same.
-      ((All-contains (ToCome answered None session) rest l (All-tail (ToCome answered None session) line rest here_to_come) among same).0,
-      λ held. let equal : line.number ≡ l.number = cc in let above = All-contains (λ (l : Line). line.number < l.number) rest l rest_above among in omega (arith, equal, above)))
+    rest_to_come = each_member (ToCome answered (Some line.number) session) rest (λ l among same. (
+      (All-contains (ToCome answered None session) rest l (All-tail (ToCome answered None session) line rest here_to_come) among same).0,
+      λ held. let equal : line.number ≡ l.number = cc in let above = All-contains (λ (l : Line). line.number < l.number) rest l rest_above among in omega (arith, equal, above),
+    ))
 
     -- the session's turn with the line in hand
     pub turn_with : TurnAt lines answered (Some line.number) session (behind + place + 1)

@@ -48,10 +48,11 @@ module _ {D : Type 0} (model : D → DiskModel) (x y : D) (c : RunningCore) (m :
       → outcome ≡ outcomes.Stopped stops.WriteFault → after ≡ with_stop stops.WriteFault (with_store st c) → z ≡ y → (new : Machine) × GetsReady m actor outcome new × ShowsMachine (model z) after new
   ready_failed fault z after outcome writes says then same =
       let stopped = fails (model x) (model y) c st m step.shows fault writes in
-      let waits = group_waits (model x) (model y) c st m step.shows fault writes in
-      (stopped.0,
-      subst (λ (o : Outcome). GetsReady m actor o stopped.0) (sym says) (inl (waits, inr (waits, stopped.1))),
-      subst (λ (k : D). ShowsMachine (model k) after stopped.0) (sym same) (subst (λ (s : RunningCore). ShowsMachine (model y) s stopped.0) (sym then) stopped.2))
+      let waits = group_waits (model x) (model y) c st m step.shows fault writes in (
+        stopped.0,
+        subst (λ (o : Outcome). GetsReady m actor o stopped.0) (sym says) (inl (waits, inr (waits, stopped.1))),
+        subst (λ (k : D). ShowsMachine (model k) after stopped.0) (sym same) (subst (λ (s : RunningCore). ShowsMachine (model y) s stopped.0) (sym then) stopped.2),
+      )
 
   pub ready_never : {T : Type 0} (v : T) (z : D) (after : RunningCore) (outcome : Outcome) → MayLatch actor → IsWorking (m.activity actor) → c.store.log.groups ≡ [] → WritesOldest (Ok v) (model x) (model y) c.store st
       → ((state : Activity) → StandsAs (with_store st c) actor state → IsWorking state → class_of state ≡ class_for actor → DoesDeed actor (runs_out state) outcome (with_store st c) after) → z ≡ y
@@ -60,5 +61,5 @@ module _ {D : Type 0} (model : D → DiskModel) (x y : D) (c : RunningCore) (m :
       let empty : m.store.log.groups ≡ [] = ap (λ (s : StoreState). s.log.groups) step.shows.store ∙ none in
       let then : MayStep (model y) (with_store st c) m = record { shows = nothing_forced (model x) (model y) c st m step.shows v writes empty; goes_on = step.goes_on } in
       let done = deed_done (model y) (with_store st c) after m actor may then (runs_out (m.activity actor)) outcome (no_operation (m.activity actor)) (ran_out_number m (m.activity actor) works)
-          (does (m.activity actor) (then.shows.activities actor may) works (step.goes_on.kept.classes actor)) in
+      (does (m.activity actor) (then.shows.activities actor may) works (step.goes_on.kept.classes actor)) in
       (done.0, inr (empty, inr (inr (λ more. more, done.1))), subst (λ (k : D). ShowsMachine (model k) after done.0) (sym same) done.2)

@@ -1,6 +1,6 @@
 -- What a decider said may be performed: its operation may be committed, its actor may stand as it says, a line that joins the order has room,
 -- and the pages that came are those that the row needs.
-use Rattle.std.proofs.Common.{◌≡◌, ◌⊎◌, inl, inr, ℕ, ◌<◌, List, length, map, Option, Some, None, IsSome, IsTrue, IfSome, refl, sym, ap, ◌∙◌, subst}
+use Rattle.std.proofs.Common.{◌≡◌, ◌⊎◌, inl, inr, ℕ, ◌<◌, List, length, Option, IsSome, IsTrue, IfSome, refl, sym, ap, ◌∙◌, subst}
 use Rattle.std.proofs.lemmas.Bool.{false≢true}
 use Rattle.std.proofs.lemmas.List.{length-map}
 use Rattle.hb_disk.specs.Model.{DiskModel}
@@ -61,7 +61,7 @@ module _ (d : DiskModel) (c : RunningCore) (m : Machine) (actor : ℕ) (free : O
   stands_after st done =
       let here = may_stand m actor c.store st deed may has.may brings row (subst (λ (n : ℕ). MayDo next.op n c.store st) (sym as_long) done) in
       subst (λ (table : LatchTable). MayStand actor table st (placed_at (length c.order) next.then)) has.shows.latches
-        (subst (λ (n : ℕ). MayStand actor m.latches st (placed_at n next.then)) as_long here)
+      (subst (λ (n : ℕ). MayStand actor m.latches st (placed_at n next.then)) as_long here)
 
   -- the actor has nothing in hand meanwhile
   elsewhere : (op : Op) (idle : Activity) → MayCommit d c op → MayCommit d (with_standing actor idle c) op

@@ -1,12 +1,10 @@
 -- All machines that a core shows want the same of an actor.
-use Rattle.std.proofs.Common.{◌≡◌, ℕ, Option, refl, sym, ap, ◌∙◌}
-use Rattle.hb_activity.specs.declared.activities.Activity.{Activity}
-use Rattle.hb_activity.specs.declared.wanting.Wanted.{Wanted}
+use Rattle.std.proofs.Common.{◌≡◌, ℕ, Option, sym, ap, ◌∙◌}
 use Rattle.hb_disk.specs.Model.{DiskModel}
 use Rattle.hb_latch.specs.Tables.{MayLatch}
 use Rattle.hb_store.specs.States.{StoreState}
 use Rattle.hb_core.specs.Asking.{wanted_by}
-use Rattle.hb_core.specs.Fetching.{IsFreeHead, IsWantedPage}
+use Rattle.hb_core.specs.Fetching.{IsWantedPage}
 use Rattle.hb_core.specs.Looking.{wanted_in}
 use Rattle.hb_core.specs.Machines.{Machine}
 use Rattle.hb_core.specs.Showing.{RunningCore, ShowsMachine}

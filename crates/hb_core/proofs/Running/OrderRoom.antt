@@ -1,20 +1,19 @@
 -- A line that joins the order has room there: the order has no line twice, and the script has them all.
-use Rattle.std.proofs.Common.{◌≡◌, ◌≢◌, inl, inr, ℕ, zero, suc, ◌<◌, ◌≤◌, List, ◌∷◌, length, get_or, Option, Some, None, IsSome, refl, sym, ap, ◌∙◌, subst, arith}
+use Rattle.std.proofs.Common.{◌≡◌, ◌≢◌, inl, inr, ℕ, zero, suc, ◌<◌, ◌≤◌, ◌∷◌, length, Option, Some, None, IsSome, refl, sym, subst, arith}
 use Rattle.std.specs.List.{All, AllPairs, Contains}
 use Rattle.hb_set.specs.Order.{Entry}
 use Rattle.hb_set.specs.declared.commands.Reply.{Reply}
 use Rattle.hb_set.specs.declared.scripts.Line.{Line}
-use Rattle.hb_activity.specs.declared.wanting.Wanted.{Wanted}
 use Rattle.hb_activity.specs.declared.activities.Activity.{Activity}
 use Rattle.hb_activity.specs.declared.activities.Activity.TheVariants as at
 use Rattle.hb_activity.specs.Classes.{line_in_hand}
 use Rattle.hb_activity.specs.Deeds.{Deed}
 use Rattle.hb_point.specs.SessionRows.{next_line}
 use Rattle.hb_store.specs.States.{StoreState}
-use Rattle.hb_lemmas.proofs.Options.{at_value, not_none}
+use Rattle.hb_lemmas.proofs.Options.{at_value}
 use Rattle.hb_core.proofs.Orders.NextLines.{next_is}
 use Rattle.hb_core.proofs.Orders.ShortOrder.{next_not_placed, no_more_than}
-use Rattle.hb_core.proofs.Table.LineFates.{GoesOn, IsGivenUp, LineFate, TakesEffect, fate_row}
+use Rattle.hb_core.proofs.Table.LineFates.{LineFate, fate_row}
 use Rattle.hb_core.specs.Asking.{wanted_by}
 use Rattle.hb_core.specs.KeptMachine.{MachineKeeps}
 use Rattle.hb_core.specs.KeptTurns.{awaited_number}

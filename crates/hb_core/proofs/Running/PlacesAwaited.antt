@@ -1,11 +1,10 @@
 -- A session of a core that awaits its place is answered, or forces, as a step of the machine that is shown.
-use Rattle.std.proofs.Common.{◌≡◌, inl, inr, ℕ, ◌<◌, ◌≤◌, List, [], length, Some, None, Ok, Err, refl, sym, ap, ◌∙◌, subst, arith, append-nil}
+use Rattle.std.proofs.Common.{◌≡◌, inl, inr, ℕ, ◌<◌, ◌≤◌, List, length, None, Ok, Err, refl, sym, ap, ◌∙◌, subst, append-nil}
 use Rattle.std.proofs.lemmas.List.{length-map}
 use Rattle.hb_activity.specs.declared.activities.Activity.{Activity}
 use Rattle.hb_activity.specs.declared.activities.Activity.TheVariants as at
 use Rattle.hb_activity.specs.Deeds.{answers_now}
 use Rattle.hb_disk.specs.Model.{DiskModel}
-use Rattle.hb_latch.specs.declared.modes.Mode.{Mode}
 use Rattle.hb_latch.specs.Tables.{LatchTable, MayLatch, mode_at}
 use Rattle.hb_set.specs.Order.{Entry}
 use Rattle.hb_set.specs.declared.commands.Reply.{Reply}
@@ -71,7 +70,8 @@ module _ {D : Type 0} (model : D → DiskModel) (x y : D) (c : RunningCore) (m :
       → outcome ≡ outcomes.Stopped stops.WriteFault → after ≡ with_stop stops.WriteFault (with_store st c) → z ≡ y → (new : Machine) × AwaitsPlace m actor number reply place outcome new × ShowsMachine (model z) after new
   await_failed fault st z after outcome le writes says then same =
       let stopped = fails (model x) (model y) c st m step.shows fault writes in
-      let waits = group_waits (model x) (model y) c st m step.shows fault writes in
-      (stopped.0,
-      subst (λ (o : Outcome). AwaitsPlace m actor number reply place o stopped.0) (sym says) (inr (not_settled le, inr (waits, stopped.1))),
-      subst (λ (k : D). ShowsMachine (model k) after stopped.0) (sym same) (subst (λ (s : RunningCore). ShowsMachine (model y) s stopped.0) (sym then) stopped.2))
+      let waits = group_waits (model x) (model y) c st m step.shows fault writes in (
+        stopped.0,
+        subst (λ (o : Outcome). AwaitsPlace m actor number reply place o stopped.0) (sym says) (inr (not_settled le, inr (waits, stopped.1))),
+        subst (λ (k : D). ShowsMachine (model k) after stopped.0) (sym same) (subst (λ (s : RunningCore). ShowsMachine (model y) s stopped.0) (sym then) stopped.2),
+      )

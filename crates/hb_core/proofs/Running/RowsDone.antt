@@ -1,5 +1,5 @@
 -- A row for which a core has its pages is done, or memory is refused to it.
-use Rattle.std.proofs.Common.{◌≡◌, ◌⊎◌, inl, inr, ℕ, suc, zero, ◌-◌, ◌<◌, List, [], ◌∷◌, length, map, slice_set, Option, Some, None, IsSome, IfSome, IsTrue, refl, sym, ap, ◌∙◌, subst}
+use Rattle.std.proofs.Common.{◌≡◌, ◌⊎◌, inl, inr, ℕ, suc, zero, ◌-◌, List, [], ◌∷◌, length, slice_set, Option, Some, None, IsSome, refl, sym, ap, ◌∙◌, subst}
 use Rattle.std.specs.Option.{MatchOption}
 use Rattle.std.proofs.lemmas.List.{length-map}
 use Rattle.hb_activity.specs.declared.activities.Activity.{Activity}
@@ -7,7 +7,7 @@ use Rattle.hb_activity.specs.declared.activities.Activity.TheVariants as at
 use Rattle.hb_activity.specs.declared.dropping.DropWhy.TheVariants as drops
 use Rattle.hb_activity.specs.declared.jobs.Job.{Job}
 use Rattle.hb_activity.specs.declared.wanting.Wanted.{Wanted}
-use Rattle.hb_activity.specs.Classes.{class_of, idle_of}
+use Rattle.hb_activity.specs.Classes.{idle_of}
 use Rattle.hb_activity.specs.declared.deciding.Next.{Next}
 use Rattle.hb_activity.specs.Deciding.{deed_of}
 use Rattle.hb_activity.specs.Deeds.{Deed}
@@ -24,13 +24,13 @@ use Rattle.hb_core.specs.Acting.{DoesRow, HasOp, MayNeed, NeedsNumber, TakesMemo
 use Rattle.hb_core.specs.Asking.{wanted_by}
 use Rattle.hb_core.specs.Fetching.{Brings, IsFreeHead, IsWantedPage}
 use Rattle.hb_core.specs.KeptFits.{class_for}
-use Rattle.hb_core.specs.Machines.{Machine, next_of, with_disk}
+use Rattle.hb_core.specs.Machines.{Machine, next_of}
 use Rattle.hb_core.specs.Moving.{DoesDeed, KeepsFilesBy, placed, with_standing}
 use Rattle.hb_core.specs.Rows.{Row}
 use Rattle.hb_core.specs.Showing.{RunningCore, ShowsMachine}
 use Rattle.hb_core.specs.Working.{Halts, HasPages, IsWorking, ShowsBut, with_pages}
 use Rattle.hb_core.proofs.Running.Brought.{brings_wider}
-use Rattle.hb_core.proofs.Running.MayPerform.{brings_as_row, has_room, may_commit_then, stands_after}
+use Rattle.hb_core.proofs.Running.MayPerform.{brings_as_row}
 use Rattle.hb_core.proofs.Running.DeedShows.{deed_shows}
 use Rattle.hb_core.proofs.Running.NumbersInHand.{row_number}
 use Rattle.hb_core.proofs.Running.StandsElsewhere.{shows_but}
@@ -111,7 +111,7 @@ module _ (d : DiskModel) (c : RunningCore) (m : Machine) (actor : ℕ) (free : O
     pub row_done : (outcome : Outcome) (after : RunningCore) → DoesDeed actor deed outcome idled after → KeepsFilesBy next.op d c.store d after.store → (new : Machine) × DoesRow m actor outcome new × ShowsMachine d after new
     row_done outcome after does keeps =
         let done = deed_shows d idled after m actor deed outcome may shows_idled does pages.may.goes_on.kept.lines_in_turn
-            (row_number m c.store (m.activity actor) (wanted_by m actor) deed pages.may.working row) keeps in
+        (row_number m c.store (m.activity actor) (wanted_by m actor) deed pages.may.working row) keeps in
         (done.0, record { fetched = c.store; deed = deed; brings = brings_as_row d c m actor free may pages next row; row = row; performs = done.1 }, done.2)
 
     -- or memory is refused to its operation

@@ -1,5 +1,5 @@
 -- What a core performs by its decider's answer is the row of the machine that it shows.
-use Rattle.std.proofs.Common.{◌≡◌, ℕ, ◌<◌, ◌^◌, List, length, arith, Option, Some, None, IsSome, IfSome, IfOk, Result, Ok, Err, refl, sym, ap, ◌∙◌, subst}
+use Rattle.std.proofs.Common.{◌≡◌, ℕ, ◌<◌, ◌^◌, List, length, arith, Option, IsSome, IfSome, IfOk, Result, Ok, Err, sym, ap, ◌∙◌, subst}
 use Rattle.hb_activity.specs.declared.activities.Activity.{Activity}
 use Rattle.hb_activity.specs.declared.deciding.Next.{Next}
 use Rattle.hb_activity.specs.declared.dropping.DropWhy.TheVariants as drops
@@ -79,11 +79,11 @@ module _ {D : Type 0} (model : D → DiskModel) (x y : D) (c between : RunningCo
       performed_row line outcome is does keeps =
           let core : RunningCore = with_standing actor (idle_of (class_for actor)) c in
           let of_idled : DoesDeed actor (placed (length c.order) (deed_of (m.activity actor) next)) outcome core after =
-              subst (λ (s : RunningCore). DoesDeed actor (placed (length s.order) (deed_of (m.activity actor) next)) outcome s after) rest (does (m.activity actor) is) in
+          subst (λ (s : RunningCore). DoesDeed actor (placed (length s.order) (deed_of (m.activity actor) next)) outcome s after) rest (does (m.activity actor) is) in
           let long : length c.order ≡ length m.order = same_length (model x) c m actor free may pages in
           let kept : KeepsFilesBy next.op (model x) c.store (model x) after.store =
-              subst (λ (k : D). KeepsFilesBy next.op (model x) c.store (model k) after.store) (then ∙ same)
-              (subst (λ (k : D). KeepsFilesBy next.op (model k) c.store (model z) after.store) same
-              (subst (λ (s : RunningCore). KeepsFilesBy next.op (model y) s.store (model z) after.store) rest keeps)) in
+          subst (λ (k : D). KeepsFilesBy next.op (model x) c.store (model k) after.store) (then ∙ same)
+          (subst (λ (k : D). KeepsFilesBy next.op (model k) c.store (model z) after.store) same
+          (subst (λ (s : RunningCore). KeepsFilesBy next.op (model y) s.store (model z) after.store) rest keeps)) in
           let done = row_done (model x) c m actor free may pages next row outcome after (subst (λ (n : ℕ). DoesDeed actor (placed n (deed_of (m.activity actor) next)) outcome core after) long of_idled) kept in
           (done.0, done.1, subst (λ (k : D). ShowsMachine (model k) after done.0) (sym (then ∙ same)) done.2)

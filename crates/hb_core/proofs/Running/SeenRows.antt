@@ -1,10 +1,8 @@
 -- What a decider was given is what the core shows: its answer is a row of the table, at the place that comes next.
-use Rattle.std.proofs.Common.{◌≡◌, ◌≢◌, ◌⊎◌, inl, inr, ℕ, ◌==◌, Bool, true, cond, List, [], ◌∷◌, Option, Some, None, MatchOption, IsSome, refl, sym, ap, ◌∙◌, subst}
+use Rattle.std.proofs.Common.{◌≡◌, inl, inr, ℕ, ◌==◌, Bool, cond, List, [], ◌∷◌, Option, Some, sym, ap, ◌∙◌, subst}
 use Rattle.std.specs.List.{AllByRecursion}
 use Rattle.std.specs.Option.{option_and_then}
 use Rattle.std.proofs.lemmas.Bool.{cases_Bool, eqb-true}
-use Rattle.hb_space.specs.Boxes.{Area}
-use Rattle.hb_space.specs.declared.records.Record.{Record}
 use Rattle.hb_frag.specs.declared.pages.LivePage.{LivePage}
 use Rattle.hb_layout.specs.declared.meta.Meta.{Meta}
 use Rattle.hb_layout.specs.Limits.{IsLayout}
@@ -73,9 +71,12 @@ module _ (st : StoreState) (activity : Activity) (n : ℕ) (free : Option (ℕ �
       (subst (λ (q : LivePage). MayAsk activity st.meta free n q (other_page st activity)) (same_page asks.page asks.live) asks.asked)))
 
   pub point_said : AsksPoint st activity n free → (deed : Deed) → PointRow activity (given_sight meta (given_pages activity id page first) free) id page deed → (place : ℕ) → HasPointRow st activity n place (placed place deed)
-  point_said asks deed row place =
-      (page, live_there, subst (λ (k : ℕ). PointRow activity (sight_in st place) k page (placed place deed)) is_id
-        (lifted_point (given_sight meta (given_pages activity id page first) free) (sight_in st place) (shown asks.next place) activity id page deed row))
+  point_said asks deed row place = (
+    page,
+    live_there,
+    subst (λ (k : ℕ). PointRow activity (sight_in st place) k page (placed place deed)) is_id
+        (lifted_point (given_sight meta (given_pages activity id page first) free) (sight_in st place) (shown asks.next place) activity id page deed row),
+  )
 
   pub poster_layout : AsksPoster st activity n free → IsLayout meta
   poster_layout asks = given_layout asks.layout
@@ -97,9 +98,12 @@ module _ (st : StoreState) (activity : Activity) (n : ℕ) (free : Option (ℕ �
       subst (λ (m : Meta). FitsFree m free) (sym is_meta) (asks.fits at_page)
 
   pub poster_said : AsksPoster st activity n free → (deed : Deed) → PosterRow activity (given_sight meta (given_pages activity id page first) free) id page deed → (place : ℕ) → HasPosterRow st activity n place (placed place deed)
-  poster_said asks deed row place =
-      (page, live_there, subst (λ (k : ℕ). PosterRow activity (sight_in st place) k page (placed place deed)) is_id
-        (lifted_poster (given_sight meta (given_pages activity id page first) free) (sight_in st place) (shown asks.next place) activity id page deed row))
+  poster_said asks deed row place = (
+    page,
+    live_there,
+    subst (λ (k : ℕ). PosterRow activity (sight_in st place) k page (placed place deed)) is_id
+        (lifted_poster (given_sight meta (given_pages activity id page first) free) (sight_in st place) (shown asks.next place) activity id page deed row),
+  )
 
   pub poster_wants_memory : AsksMemory activity meta page first free → WantsMemory st activity n free
   poster_wants_memory asks =

@@ -1,13 +1,12 @@
 -- Where a row's deed is done, its actor may stand as the deed says: nobody is in the way of its latches, and they are on different pages.
-use Rattle.std.proofs.Common.{◌≡◌, ◌≢◌, ◌⊎◌, inl, inr, ℕ, zero, suc, Bool, cond, List, [], ◌∷◌, length, Option, Some, None, IsSome, IsTrue, IfSome, refl, sym, ap, ◌∙◌, subst, arith}
+use Rattle.std.proofs.Common.{◌≡◌, ◌≢◌, ◌⊎◌, inl, inr, ℕ, zero, suc, Bool, cond, [], ◌∷◌, length, Option, Some, None, IsSome, IsTrue, refl, sym, ap, ◌∙◌, subst, arith}
 use Rattle.std.specs.Option.{option_and_then}
 use Rattle.std.proofs.lemmas.Bool.{eq-eqb}
 use Rattle.hb_frag.specs.declared.pages.LivePage.{LivePage}
-use Rattle.hb_frag.specs.declared.pages.Page.TheVariants.{Live}
 use Rattle.hb_latch.specs.declared.modes.Mode.{Mode}
 use Rattle.hb_latch.specs.declared.modes.Mode.TheVariants.{Exclusive, Update}
 use Rattle.hb_latch.specs.Modes.{goes_beside}
-use Rattle.hb_latch.specs.Tables.{IsGrantable, MayLatch, mode_at}
+use Rattle.hb_latch.specs.Tables.{MayLatch, mode_at}
 use Rattle.hb_ops.specs.Files.{if_live}
 use Rattle.hb_set.specs.declared.scripts.Line.{Line}
 use Rattle.hb_activity.specs.declared.holding.Latch.{Latch}
@@ -20,7 +19,6 @@ use Rattle.hb_activity.specs.Holding.{latch_on, walk_latch}
 use Rattle.hb_activity.specs.Walks.{job_mode, session_mode, walk_held}
 use Rattle.hb_store.specs.States.{StoreState, in_memory}
 use Rattle.hb_lemmas.proofs.Options.{has_value, if_value, some_value}
-use Rattle.hb_core.proofs.Latches.Backing.{BackedIn}
 use Rattle.hb_core.proofs.Latches.Beside.{beside_from}
 use Rattle.hb_core.proofs.Latches.MergerBacked.{every_row_backed}
 use Rattle.hb_core.proofs.Memory.NextNumbers.{is_next_number}

@@ -1,5 +1,5 @@
 -- Where a decider lacks memory, a row of the step takes some: a page is split, or a posting is planned.
-use Rattle.std.proofs.Common.{◌≡◌, ◌≢◌, ◌⊎◌, inl, inr, ℕ, ◌<◌, ◌≤◌, ◌+◌, List, [], ◌∷◌, Option, Some, None, IsSome, IfSome, refl, sym, ap, ◌∙◌, subst}
+use Rattle.std.proofs.Common.{◌≡◌, inl, inr, ℕ, ◌<◌, ◌≤◌, ◌+◌, [], ◌∷◌, Option, Some, None, refl, sym, ◌∙◌, subst}
 use Rattle.std.proofs.lemmas.Option.{same_Some}
 use Rattle.hb_disk.specs.Model.{DiskModel}
 use Rattle.hb_frag.specs.declared.pages.LivePage.{LivePage}
@@ -9,7 +9,6 @@ use Rattle.hb_ops.specs.declared.operations.Op.TheVariants as ops
 use Rattle.hb_set.specs.declared.scripts.Line.{Line}
 use Rattle.hb_split.specs.Choosing.{IsChosen}
 use Rattle.hb_split.proofs.Facts.Choices.{a_part_is_chosen}
-use Rattle.hb_terms.specs.declared.plans.PostPlan.{PostPlan}
 use Rattle.hb_terms.specs.declared.plans.PostPlan.TheVariants as plans
 use Rattle.hb_terms.specs.Plans.{LacksRoom}
 use Rattle.hb_activity.specs.declared.jobs.Job.{Job}
@@ -17,7 +16,6 @@ use Rattle.hb_activity.specs.declared.jobs.JobKind.TheVariants.{Post}
 use Rattle.hb_activity.specs.declared.wanting.Wanted.{Wanted}
 use Rattle.hb_activity.specs.declared.activities.Activity.{Activity}
 use Rattle.hb_activity.specs.declared.activities.Activity.TheVariants as at
-use Rattle.hb_activity.specs.Classes.{Posters, Sessions, class_of}
 use Rattle.hb_activity.specs.Deeds.{Deed, does, moves_to}
 use Rattle.hb_activity.specs.Passing.{PartLeavesTo, corner_of}
 use Rattle.hb_point.specs.Asks.{SplitsNow}
@@ -26,7 +24,7 @@ use Rattle.hb_store.specs.States.{StoreState}
 use Rattle.hb_core.proofs.Files.AllowedRows.{heavy_parent, lacking_weighs}
 use Rattle.hb_core.proofs.Memory.KeptPages.{KeepsPages, brought, keeps_pages}
 use Rattle.hb_core.proofs.Running.Asked.{HasWanted, Needs, alone, at_number, brings, has_wanted, made, next_is_given, poster_wants, split_fits}
-use Rattle.hb_core.proofs.Running.Decided.{at_hand, is_session, posts, stands, works}
+use Rattle.hb_core.proofs.Running.Decided.{at_hand, posts, stands, works}
 use Rattle.hb_core.proofs.Walks.MayBeAsked.{splits_may_be_asked}
 use Rattle.hb_core.specs.AllowedLaws.{AnyPage}
 use Rattle.hb_core.specs.Acting.{TakesMemory}
@@ -37,7 +35,7 @@ use Rattle.hb_core.specs.Machines.{Machine, live_here, sight}
 use Rattle.hb_core.specs.Moving.{StandsAs}
 use Rattle.hb_core.specs.Rows.{Row}
 use Rattle.hb_core.specs.Showing.{RunningCore}
-use Rattle.hb_core.specs.Working.{HasPages, IsWorking, with_pages}
+use Rattle.hb_core.specs.Working.{HasPages, with_pages}
 
 module _ (d : DiskModel) (c : RunningCore) (m : Machine) (actor : ℕ) (free : Option (ℕ × ℕ)) (may : MayLatch actor) (has : HasPages m actor free d c) where
   keeps : MachineKeeps m
@@ -95,16 +93,18 @@ module _ (d : DiskModel) (c : RunningCore) (m : Machine) (actor : ℕ) (free : O
   -- ---- the poster
 
   plans_child : (job : Job) (parent : ℕ) (its : HasWanted d c m actor free may has) (over : LivePage) → m.activity actor ≡ at.PosterChild job parent → live_here c.store parent ≡ Some over → PlansPosting c.store.meta job over its.page → Takes (at.PosterChild job parent)
-  plans_child job parent its over is live (way, inner, area, posting) =
-      (moves_to (at.PosterPromote job parent) [],
-        at_hand d c m actor free may has (at.PosterChild job parent) its (moves_to (at.PosterPromote job parent) []) is (record { page = over; live = live; plan = plans.Post way inner area; planned = posting; deed_is = refl }),
-        refl)
+  plans_child job parent its over is live (way, inner, area, posting) = (
+    moves_to (at.PosterPromote job parent) [],
+    at_hand d c m actor free may has (at.PosterChild job parent) its (moves_to (at.PosterPromote job parent) []) is (record { page = over; live = live; plan = plans.Post way inner area; planned = posting; deed_is = refl }),
+    refl,
+  )
 
   plans_again : (job : Job) (parent : ℕ) (its : HasWanted d c m actor free may has) (over : LivePage) → m.activity actor ≡ at.PosterAgain job parent → live_here c.store parent ≡ Some over → PlansPosting c.store.meta job over its.page → Takes (at.PosterAgain job parent)
-  plans_again job parent its over is live (way, inner, area, posting) =
-      (does at.PosterIdle (ops.Post parent way inner area) (job ∷ []),
-        at_hand d c m actor free may has (at.PosterAgain job parent) its (does at.PosterIdle (ops.Post parent way inner area) (job ∷ [])) is (record { page = over; live = live; plan = plans.Post way inner area; planned = posting; does_it = refl }),
-        refl)
+  plans_again job parent its over is live (way, inner, area, posting) = (
+    does at.PosterIdle (ops.Post parent way inner area) (job ∷ []),
+    at_hand d c m actor free may has (at.PosterAgain job parent) its (does at.PosterIdle (ops.Post parent way inner area) (job ∷ [])) is (record { page = over; live = live; plan = plans.Post way inner area; planned = posting; does_it = refl }),
+    refl,
+  )
 
   splits_parent : (job : Job) (parent : ℕ) (its : HasWanted d c m actor free may has) (over : LivePage) (number : ℕ × ℕ) → m.activity actor ≡ at.PosterAgain job parent → free ≡ Some number → live_here c.store parent ≡ Some over
       → LacksRoom over its.page job.point c.store.meta.icap → Takes (at.PosterAgain job parent)

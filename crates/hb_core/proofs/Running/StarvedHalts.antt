@@ -1,5 +1,5 @@
 -- Where memory was refused to a decider, what the actor has in hand is given up.
-use Rattle.std.proofs.Common.{◌≡◌, ◌⊎◌, inl, inr, ℕ, zero, suc, ◌-◌, List, [], ◌∷◌, Option, Some, None, IsSome, sym, ap, ◌∙◌, subst}
+use Rattle.std.proofs.Common.{◌≡◌, ◌⊎◌, inl, inr, ℕ, zero, suc, ◌-◌, List, [], ◌∷◌, Option, Some, IsSome, sym, ap, subst}
 use Rattle.std.specs.List.{slice_get, slice_set}
 use Rattle.std.proofs.lemmas.Option.{same_Some}
 use Rattle.hb_disk.specs.Model.{DiskModel}
@@ -46,7 +46,7 @@ module _ (d : DiskModel) (c : RunningCore) (m : Machine) (actor : ℕ) (free : O
   pub shows_but : (idle : Activity) → ShowsBut d (with_standing actor idle c) actor (with_pages c m)
   shows_but idle =
       subst (λ (core : RunningCore). ShowsMachine d core (with_pages c m))
-        (sym (ap (λ (activities : List Activity). record c { activities = activities }) (set_again c.activities (actor - 1) idle (m.activity actor) (has.shows.activities actor may)))) has.shows
+      (sym (ap (λ (activities : List Activity). record c { activities = activities }) (set_again c.activities (actor - 1) idle (m.activity actor) (has.shows.activities actor may)))) has.shows
 
   pub starved_halts : (idle : Activity) → (deed : Deed) × Row (m.activity actor) (wanted_by m actor) (with_pages c m) deed × TakesMemory (m.activity actor) deed → Halts m actor (halts.GivesUp drops.NoMemory) d (with_standing actor idle c)
   starved_halts idle takes = record { brings = brings_as_needed; shows = shows_but idle; cause = inr takes }

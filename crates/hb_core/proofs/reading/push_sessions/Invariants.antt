@@ -1,4 +1,4 @@
-use Rattle.std.proofs.Common.{◌≡◌, ◌≤◌, replicate, ◌-◌}
+use Rattle.std.proofs.Common.{◌≡◌, ◌≤◌, replicate}
 use Rattle.hb_activity.specs.declared.activities.Activity.TheVariants.{SessionIdle}
 use Rattle.hb_core.proofs.reading.push_sessions.Given as goal
 

@@ -9,16 +9,16 @@ use Rattle.hb_core.proofs.state.Core.ask_poster.Goals as goal
 pub next-requires-clause-free : goal.next-requires-clause-free
 next-requires-clause-free g c =
     poster_free (seen_as c.args.self.now.store) c.args.state (number_of_row c.args.state c.args.wanted) c.args.free c.page_of-id.result c.live_page-page.result.now (option_copied c.other-other.result) c.meta.result.now
-      c.page_of-id.ensures c.live_page-page.ensures c.other-other.ensures c.meta.ensures.meta c.requires
+    c.page_of-id.ensures c.live_page-page.ensures c.other-other.ensures c.meta.ensures.meta c.requires
 
 pub returns-clause-row : goal.returns-clause-row
 returns-clause-row g c =
     IfOk-weaker c.next.result _ _ (λ next row place.
-      poster_said (seen_as c.args.self.now.store) c.args.state (number_of_row c.args.state c.args.wanted) c.args.free c.page_of-id.result c.live_page-page.result.now (option_copied c.other-other.result) c.meta.result.now
-        c.page_of-id.ensures c.live_page-page.ensures c.other-other.ensures c.meta.ensures.meta c.requires (deed_of c.args.state next) row place) c.next.ensures.row
+    poster_said (seen_as c.args.self.now.store) c.args.state (number_of_row c.args.state c.args.wanted) c.args.free c.page_of-id.result c.live_page-page.result.now (option_copied c.other-other.result) c.meta.result.now
+    c.page_of-id.ensures c.live_page-page.ensures c.other-other.ensures c.meta.ensures.meta c.requires (deed_of c.args.state next) row place) c.next.ensures.row
 
 pub returns-clause-memory : goal.returns-clause-memory
 returns-clause-memory g c =
     on_err_weaker c.next.result
-      (poster_wants_memory (seen_as c.args.self.now.store) c.args.state (number_of_row c.args.state c.args.wanted) c.args.free c.page_of-id.result c.live_page-page.result.now (option_copied c.other-other.result) c.meta.result.now
-        c.page_of-id.ensures c.live_page-page.ensures c.other-other.ensures c.meta.ensures.meta) c.next.ensures.memory
+    (poster_wants_memory (seen_as c.args.self.now.store) c.args.state (number_of_row c.args.state c.args.wanted) c.args.free c.page_of-id.result c.live_page-page.result.now (option_copied c.other-other.result) c.meta.result.now
+    c.page_of-id.ensures c.live_page-page.ensures c.other-other.ensures c.meta.ensures.meta) c.next.ensures.memory

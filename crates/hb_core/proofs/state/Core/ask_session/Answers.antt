@@ -9,5 +9,5 @@ use Rattle.hb_core.proofs.state.Core.ask_session.Goals as goal
 pub returns-clause-row : goal.returns-clause-row
 returns-clause-row g c =
     IfOk-weaker c.next.result _ _ (λ next row place.
-      point_said (seen_as c.args.self.now.store) c.args.state (number_of_row c.args.state c.args.wanted) c.args.free c.page_of-id.result c.live_page-page.result.now (option_copied c.other-other.result) c.meta.result.now
-        c.page_of-id.ensures c.live_page-page.ensures c.other-other.ensures c.meta.ensures.meta c.requires (deed_of c.args.state next) row place) c.next.ensures.row
+    point_said (seen_as c.args.self.now.store) c.args.state (number_of_row c.args.state c.args.wanted) c.args.free c.page_of-id.result c.live_page-page.result.now (option_copied c.other-other.result) c.meta.result.now
+    c.page_of-id.ensures c.live_page-page.ensures c.other-other.ensures c.meta.ensures.meta c.requires (deed_of c.args.state next) row place) c.next.ensures.row

@@ -1,4 +1,4 @@
-use Rattle.std.proofs.Common.{◌∙◌, ap}
+use Rattle.std.proofs.Common.{◌∙◌}
 use Rattle.std.proofs.lemmas.Result.{IfErr-weaker}
 use Rattle.hb_core.specs.CoreSeen.{core_seen, core_disk}
 use Rattle.hb_core.proofs.Running.OneWanted.{come_want_one, pages_want_one}
@@ -24,7 +24,7 @@ decide-requires-clause-wanted g c n pages =
     let m = c.requires.may.0 in
     c.requires.wanted m c.requires.may.1
     ∙ pages_want_one (g.D.Device.model (core_disk c.number.new.self)) (core_seen c.number.new.self) m n c.args.actor c.requires.actor c.in_ok-free.free
-      (c.in_ok-free.ensures.numbered m (c.in_ok-bring.ensures.comes m c.requires.may.1 c.requires.may.2)) pages
+    (c.in_ok-free.ensures.numbered m (c.in_ok-bring.ensures.comes m c.requires.may.1 c.requires.may.2)) pages
 
 pub perform-requires-clause-commit : goal.perform-requires-clause-commit
 perform-requires-clause-commit g c =

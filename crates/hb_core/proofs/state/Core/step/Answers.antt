@@ -2,14 +2,14 @@ use Rattle.hb_core.proofs.state.Core.step.Goals as goal
 use Rattle.std.proofs.Common.{refl, ◌∙◌}
 use Rattle.hb_core.specs.declared.outcomes.Outcome.TheVariants as outcomes
 use Rattle.hb_core.proofs.Running.Touched.{as_before_count, idle_well, line_well, posting_well, untouched, untouched_stopped}
-use Rattle.hb_core.proofs.Running.StepTaken.{await_step, counted, idle_stays, lies_behind, line_step, posting_step, runs_so, stopped_stays, with_taken, work_step, works_then}
+use Rattle.hb_core.proofs.Running.StepTaken.{await_step, counted, idle_stays, lies_behind, line_step, posting_step, stopped_stays, with_taken, work_step, works_then}
 use Rattle.hb_core.specs.CoreSeen.{core_disk, core_seen}
 
 pub returns-in-Some : goal.returns-in-Some
 returns-in-Some g c = record {
   steps = λ m step.
-  stopped_stays (g.D.Device.model (core_disk c.args.self.now)) (with_taken c.saturating_add-self.result (core_seen c.args.self.now)) m c.args.actor c.in-Some.why c.copy_of.result
-  (counted c.saturating_add-self.result (g.D.Device.model (core_disk c.args.self.now)) (core_seen c.args.self.now) m step).shows c.in-Some.is c.copy_of.ensures;
+      stopped_stays (g.D.Device.model (core_disk c.args.self.now)) (with_taken c.saturating_add-self.result (core_seen c.args.self.now)) m c.args.actor c.in-Some.why c.copy_of.result
+      (counted c.saturating_add-self.result (g.D.Device.model (core_disk c.args.self.now)) (core_seen c.args.self.now) m step).shows c.in-Some.is c.copy_of.ensures;
   touches = untouched_stopped g.D.Device.model (core_disk c.args.self.now) (core_disk c.args.self.now) (core_seen c.args.self.now) _ (outcomes.Stopped c.copy_of.result) c.in-Some.why c.copy_of.result c.in-Some.is c.copy_of.ensures refl;
 }
 
@@ -24,60 +24,63 @@ await_place-requires-clause-may g c =
 
 pub work-requires-clause-may : goal.work-requires-clause-may
 work-requires-clause-may g c =
-    let step = counted c.saturating_add-self.result (g.D.Device.model (core_disk c.args.self.now)) (core_seen c.args.self.now) c.requires.may.0 c.requires.may.1 in
-    (c.requires.may.0, step, step.shows.stop ∙ c.in_default.is,
-    works_then (g.D.Device.model (core_disk c.args.self.now)) (with_taken c.saturating_add-self.result (core_seen c.args.self.now)) c.requires.may.0 c.args.actor c.activity.result.now c.requires.actor step c.in_default.is c.activity.ensures
-    (λ number place reply is. c.in_default-activity.not-SessionAwait number reply place is) c.in_default-activity.not-SessionIdle c.in_default-activity.not-PosterIdle c.in_default-activity.not-ConsolidatorIdle c.in_default-activity.not-Flusher)
+    let step = counted c.saturating_add-self.result (g.D.Device.model (core_disk c.args.self.now)) (core_seen c.args.self.now) c.requires.may.0 c.requires.may.1 in (
+      c.requires.may.0,
+      step,
+      step.shows.stop ∙ c.in_default.is,
+      works_then (g.D.Device.model (core_disk c.args.self.now)) (with_taken c.saturating_add-self.result (core_seen c.args.self.now)) c.requires.may.0 c.args.actor c.activity.result.now c.requires.actor step c.in_default.is c.activity.ensures
+          (λ number place reply is. c.in_default-activity.not-SessionAwait number reply place is) c.in_default-activity.not-SessionIdle c.in_default-activity.not-PosterIdle c.in_default-activity.not-ConsolidatorIdle c.in_default-activity.not-Flusher,
+    )
 
 pub returns-in-SessionIdle : goal.returns-in-SessionIdle
 returns-in-SessionIdle g c = record {
   steps = λ m step.
-  let mine = counted c.saturating_add-self.result (g.D.Device.model (core_disk c.args.self.now)) (core_seen c.args.self.now) m step in
-  line_step g.D.Device.model (core_disk c.args.self.now) (core_disk c.take_line.new.self) (with_taken c.saturating_add-self.result (core_seen c.args.self.now)) (core_seen c.take_line.new.self) m c.args.actor c.activity.result.now c.take_line.result
-  c.requires.actor mine c.in_default.is c.activity.ensures c.in-SessionIdle.is c.take_line.ensures.disk c.take_line.ensures.takes;
+      let mine = counted c.saturating_add-self.result (g.D.Device.model (core_disk c.args.self.now)) (core_seen c.args.self.now) m step in
+      line_step g.D.Device.model (core_disk c.args.self.now) (core_disk c.take_line.new.self) (with_taken c.saturating_add-self.result (core_seen c.args.self.now)) (core_seen c.take_line.new.self) m c.args.actor c.activity.result.now c.take_line.result
+      c.requires.actor mine c.in_default.is c.activity.ensures c.in-SessionIdle.is c.take_line.ensures.disk c.take_line.ensures.takes;
   touches =
-    let behind = lies_behind (g.D.Device.model (core_disk c.args.self.now)) (core_seen c.args.self.now) c.requires.may.0 c.args.actor c.activity.result.now c.requires.actor c.requires.may.1 c.in_default.is c.activity.ensures c.in-SessionIdle.is in
-    untouched g.D.Device.model (core_disk c.args.self.now) (core_disk c.take_line.new.self) (core_seen c.args.self.now) (core_seen c.take_line.new.self) c.take_line.result
-    (line_well c.args.actor behind.0 c.take_line.result (with_taken c.saturating_add-self.result (core_seen c.args.self.now)) (core_seen c.take_line.new.self) (c.take_line.ensures.takes behind.0 behind.1)) c.take_line.ensures.disk;
+      let behind = lies_behind (g.D.Device.model (core_disk c.args.self.now)) (core_seen c.args.self.now) c.requires.may.0 c.args.actor c.activity.result.now c.requires.actor c.requires.may.1 c.in_default.is c.activity.ensures c.in-SessionIdle.is in
+      untouched g.D.Device.model (core_disk c.args.self.now) (core_disk c.take_line.new.self) (core_seen c.args.self.now) (core_seen c.take_line.new.self) c.take_line.result
+      (line_well c.args.actor behind.0 c.take_line.result (with_taken c.saturating_add-self.result (core_seen c.args.self.now)) (core_seen c.take_line.new.self) (c.take_line.ensures.takes behind.0 behind.1)) c.take_line.ensures.disk;
 }
 
 pub returns-in-SessionAwait : goal.returns-in-SessionAwait
 returns-in-SessionAwait g c = record {
   steps = λ m step.
-  let mine = counted c.saturating_add-self.result (g.D.Device.model (core_disk c.args.self.now)) (core_seen c.args.self.now) m step in
-  await_step g.D.Device.model (core_disk c.args.self.now) (core_disk c.await_place.new.self) (with_taken c.saturating_add-self.result (core_seen c.args.self.now)) (core_seen c.await_place.new.self) m c.args.actor c.activity.result.now c.await_place.result
-  c.requires.actor mine c.in_default.is c.activity.ensures c.in-SessionAwait.line c.in-SessionAwait.place c.in-SessionAwait.reply c.in-SessionAwait.is
-  (λ runs is. c.await_place.ensures.awaits m c.in-SessionAwait.line c.in-SessionAwait.reply mine runs is);
+      let mine = counted c.saturating_add-self.result (g.D.Device.model (core_disk c.args.self.now)) (core_seen c.args.self.now) m step in
+      await_step g.D.Device.model (core_disk c.args.self.now) (core_disk c.await_place.new.self) (with_taken c.saturating_add-self.result (core_seen c.args.self.now)) (core_seen c.await_place.new.self) m c.args.actor c.activity.result.now c.await_place.result
+      c.requires.actor mine c.in_default.is c.activity.ensures c.in-SessionAwait.line c.in-SessionAwait.place c.in-SessionAwait.reply c.in-SessionAwait.is
+      (λ runs is. c.await_place.ensures.awaits m c.in-SessionAwait.line c.in-SessionAwait.reply mine runs is);
   touches = as_before_count g.D.Device.model (core_disk c.args.self.now) (core_disk c.await_place.new.self) c.saturating_add-self.result (core_seen c.args.self.now) (core_seen c.await_place.new.self) c.await_place.result c.await_place.ensures.touches;
 }
 
 pub returns-in-PosterIdle : goal.returns-in-PosterIdle
 returns-in-PosterIdle g c = record {
   steps = λ m step.
-  let mine = counted c.saturating_add-self.result (g.D.Device.model (core_disk c.args.self.now)) (core_seen c.args.self.now) m step in
-  posting_step g.D.Device.model (core_disk c.args.self.now) (core_disk c.take_posting.new.self) (with_taken c.saturating_add-self.result (core_seen c.args.self.now)) (core_seen c.take_posting.new.self) m c.args.actor c.activity.result.now c.take_posting.result
-  c.requires.actor mine c.in_default.is c.activity.ensures c.in-PosterIdle.is c.take_posting.ensures.disk c.take_posting.ensures.takes;
+      let mine = counted c.saturating_add-self.result (g.D.Device.model (core_disk c.args.self.now)) (core_seen c.args.self.now) m step in
+      posting_step g.D.Device.model (core_disk c.args.self.now) (core_disk c.take_posting.new.self) (with_taken c.saturating_add-self.result (core_seen c.args.self.now)) (core_seen c.take_posting.new.self) m c.args.actor c.activity.result.now c.take_posting.result
+      c.requires.actor mine c.in_default.is c.activity.ensures c.in-PosterIdle.is c.take_posting.ensures.disk c.take_posting.ensures.takes;
   touches = untouched g.D.Device.model (core_disk c.args.self.now) (core_disk c.take_posting.new.self) (core_seen c.args.self.now) (core_seen c.take_posting.new.self) c.take_posting.result
-    (posting_well c.args.actor c.take_posting.result (with_taken c.saturating_add-self.result (core_seen c.args.self.now)) (core_seen c.take_posting.new.self) c.take_posting.ensures.takes) c.take_posting.ensures.disk;
+      (posting_well c.args.actor c.take_posting.result (with_taken c.saturating_add-self.result (core_seen c.args.self.now)) (core_seen c.take_posting.new.self) c.take_posting.ensures.takes) c.take_posting.ensures.disk;
 }
 
 pub returns-in_default-activity : goal.returns-in_default-activity
 returns-in_default-activity g c = record {
   steps = λ m step.
-  let mine = counted c.saturating_add-self.result (g.D.Device.model (core_disk c.args.self.now)) (core_seen c.args.self.now) m step in
-  work_step g.D.Device.model (core_disk c.args.self.now) (core_disk c.work.new.self) (with_taken c.saturating_add-self.result (core_seen c.args.self.now)) (core_seen c.work.new.self) m c.args.actor c.activity.result.now c.work.result
-  c.requires.actor mine c.in_default.is c.activity.ensures
-  (works_then (g.D.Device.model (core_disk c.args.self.now)) (with_taken c.saturating_add-self.result (core_seen c.args.self.now)) m c.args.actor c.activity.result.now c.requires.actor mine c.in_default.is c.activity.ensures
-  (λ number place reply is. c.in_default-activity.not-SessionAwait number reply place is) c.in_default-activity.not-SessionIdle c.in_default-activity.not-PosterIdle c.in_default-activity.not-ConsolidatorIdle c.in_default-activity.not-Flusher)
-  (λ runs works. c.work.ensures.works m mine runs works);
+      let mine = counted c.saturating_add-self.result (g.D.Device.model (core_disk c.args.self.now)) (core_seen c.args.self.now) m step in
+      work_step g.D.Device.model (core_disk c.args.self.now) (core_disk c.work.new.self) (with_taken c.saturating_add-self.result (core_seen c.args.self.now)) (core_seen c.work.new.self) m c.args.actor c.activity.result.now c.work.result
+      c.requires.actor mine c.in_default.is c.activity.ensures
+      (works_then (g.D.Device.model (core_disk c.args.self.now)) (with_taken c.saturating_add-self.result (core_seen c.args.self.now)) m c.args.actor c.activity.result.now c.requires.actor mine c.in_default.is c.activity.ensures
+      (λ number place reply is. c.in_default-activity.not-SessionAwait number reply place is) c.in_default-activity.not-SessionIdle c.in_default-activity.not-PosterIdle c.in_default-activity.not-ConsolidatorIdle c.in_default-activity.not-Flusher)
+      (λ runs works. c.work.ensures.works m mine runs works);
   touches = as_before_count g.D.Device.model (core_disk c.args.self.now) (core_disk c.work.new.self) c.saturating_add-self.result (core_seen c.args.self.now) (core_seen c.work.new.self) c.work.result c.work.ensures.touches;
 }
 
 pub returns-in-ConsolidatorIdle : goal.returns-in-ConsolidatorIdle
 returns-in-ConsolidatorIdle g c = record {
   steps = λ m step.
-  let mine = counted c.saturating_add-self.result (g.D.Device.model (core_disk c.args.self.now)) (core_seen c.args.self.now) m step in
-  idle_stays (g.D.Device.model (core_disk c.args.self.now)) (with_taken c.saturating_add-self.result (core_seen c.args.self.now)) m c.args.actor c.activity.result.now
-  c.requires.actor mine c.in_default.is c.activity.ensures c.in-ConsolidatorIdle.is;
+      let mine = counted c.saturating_add-self.result (g.D.Device.model (core_disk c.args.self.now)) (core_seen c.args.self.now) m step in
+      idle_stays (g.D.Device.model (core_disk c.args.self.now)) (with_taken c.saturating_add-self.result (core_seen c.args.self.now)) m c.args.actor c.activity.result.now
+      c.requires.actor mine c.in_default.is c.activity.ensures c.in-ConsolidatorIdle.is;
   touches = untouched g.D.Device.model (core_disk c.args.self.now) (core_disk c.args.self.now) (core_seen c.args.self.now) _ outcomes.Idle idle_well refl;
 }
