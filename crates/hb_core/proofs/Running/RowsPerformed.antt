@@ -32,11 +32,18 @@ ok_both (Ok x) P Q R then p q = then x p q
 ok_both (Err e) P Q R then p q = tt
 
 -- a line that joins the order is one in hand, and has a reply that is kept
-joined_so : (hand : Hand) (line : Option ℕ) (then : Activity) (fate : Fate) (place : ℕ) → line ≡ number_of hand → IsSome (joins_order line then fate) → IsSome (joined_by hand (placed_at place then) fate)
-joined_so (HasLine l) line (at.SessionAwait number reply before) fates.TakesEffect place is joins = refl
-joined_so hand None (at.SessionAwait number reply before) fates.TakesEffect place is joins = cc
-joined_so hand (Some n) (at.SessionAwait number reply before) fates.TakesEffect place is joins = cc
-joined_so hand line then fate place is joins = cc
+joined_so : (hand : Hand) (line : Option ℕ) (then : Activity) (fate : Fate) → line ≡ number_of hand → IsSome (joins_order line then fate) → IsSome (joined_by hand then fate)
+joined_so (HasLine l) line (at.SessionAwait number reply before) fates.TakesEffect is joins = refl
+joined_so hand None (at.SessionAwait number reply before) fates.TakesEffect is joins = cc
+joined_so hand (Some n) (at.SessionAwait number reply before) fates.TakesEffect is joins = cc
+joined_so hand line then fate is joins = cc
+
+module _ {D : Type 0} (model : D → DiskModel) (x y : D) (c between : RunningCore) (m : Machine) (actor : ℕ) (free : Option (ℕ × ℕ)) (may : MayLatch actor)
+    (rest : between ≡ with_standing actor (idle_of (class_for actor)) c) (same : y ≡ x) (pages : HasPages m actor free (model x) c) where
+  -- memory was refused to the row
+  pub refused_halts : (halt : Halt) → halt ≡ GivesUp drops.NoMemory → (deed : Deed) × IsRow (model x) c m actor free may pages deed × TakesMemory (m.activity actor) deed → Halts m actor halt (model y) between
+  refused_halts halt is takes = subst (λ (h : Halt). Halts m actor h (model y) between) (sym is) (subst (λ (k : D). Halts m actor (GivesUp drops.NoMemory) (model k) between) (sym same)
+      (subst (λ (s : RunningCore). Halts m actor (GivesUp drops.NoMemory) (model x) s) (sym rest) (row_refused (model x) c m actor free may pages takes)))
 
 module _ {D : Type 0} (model : D → DiskModel) (x y : D) (c between : RunningCore) (m : Machine) (actor : ℕ) (free : Option (ℕ × ℕ)) (may : MayLatch actor)
     (rest : between ≡ with_standing actor (idle_of (class_for actor)) c) (same : y ≡ x) (pages : HasPages m actor free (model x) c) (next : Next) where
@@ -56,11 +63,7 @@ module _ {D : Type 0} (model : D → DiskModel) (x y : D) (c between : RunningCo
 
   pub row_may_join : Row (m.activity actor) (wanted_by m actor) (with_pages c m) deed → (line : Option ℕ) → line ≡ number_of (hand_of (m.activity actor)) → IsSome (joins_order line next.then next.fate) → length between.order < length between.lines
   row_may_join row line is joins = subst (λ (s : RunningCore). length s.order < length s.lines) (sym rest)
-      (row_joins (model x) c m actor free may pages deed row (joined_so (hand_of (m.activity actor)) line next.then next.fate (length m.order) is joins))
-
-  pub refused_halts : (halt : Halt) → halt ≡ GivesUp drops.NoMemory → (deed : Deed) × IsRow (model x) c m actor free may pages deed × TakesMemory (m.activity actor) deed → Halts m actor halt (model y) between
-  refused_halts halt is takes = subst (λ (h : Halt). Halts m actor h (model y) between) (sym is) (subst (λ (k : D). Halts m actor (GivesUp drops.NoMemory) (model k) between) (sym same)
-      (subst (λ (s : RunningCore). Halts m actor (GivesUp drops.NoMemory) (model x) s) (sym rest) (row_refused (model x) c m actor free may pages takes)))
+      (row_joins (model x) c m actor free may pages deed row (joined_so (hand_of (m.activity actor)) line next.then next.fate is joins))
 
   module _ (z : D) (after : RunningCore) (then : z ≡ y) (row : Row (m.activity actor) (wanted_by m actor) (with_pages c m) deed) where
     pub performed_halts : (halt : Halt) → (halt ≡ GivesUp drops.NoMemory) × IsSome next.op × (after ≡ between) → Halts m actor halt (model z) after

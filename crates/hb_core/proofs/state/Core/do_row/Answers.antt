@@ -65,4 +65,4 @@ pub returns-in-Err-clause-halts : goal.returns-in-Err-clause-halts
 returns-in-Err-clause-halts g c m may work =
     let pages = c.in_ok-free.ensures.numbered m (c.in_ok-bring.ensures.comes m may work) in
     refused_halts g.D.Device.model (core_disk c.number.new.self) (core_disk c.decide.new.self) (core_seen c.number.new.self) (core_seen c.decide.new.self) m c.args.actor c.in_ok-free.free c.requires.actor
-    c.in-Err.ensures.rest c.in-Err.ensures.disk pages c.in-Err.refused c.from.result c.from.ensures (c.in-Err.ensures.memory m pages)
+    c.in-Err.ensures.rest c.in-Err.ensures.disk pages c.from.result c.from.ensures (c.in-Err.ensures.memory m pages)
