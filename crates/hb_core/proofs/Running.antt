@@ -38,3 +38,4 @@ pub mod StandsThere
 pub mod Commits
 pub mod MayPerform
 pub mod StarvedHalts
+pub mod WorkTouches

@@ -52,7 +52,7 @@ answered_well number reply none = record { no_read = none; no_write = λ never. 
 pub well_as : (outcome other : Outcome) → outcome ≡ other → IsWell other → IsWell outcome
 well_as outcome other is well = subst IsWell (sym is) well
 
-full_reply : replies.Full ≡ replies.ReadFault → ⊥
+pub full_reply : replies.Full ≡ replies.ReadFault → ⊥
 full_reply never = cc
 
 pub ran_out_well : (activity : Activity) → IsWell (outcome_of (runs_out activity).says)

@@ -77,6 +77,16 @@ module _ (d : DiskModel) (c : RunningCore) (m : Machine) (actor : ℕ) (may : Ma
   pub works_may : m.stop ≡ None → IsWorking (m.activity actor) → HasWayFree m actor → ¬ (IsUnready m actor) → MayWork m actor
   works_may runs works free is_ready = record { goes_on = step.goes_on; runs = runs; working = works; free = free; ready = is_ready }
 
+-- so it may work, by what the calls said
+pub may_work : (d : DiskModel) (c : RunningCore) (m : Machine) (actor : ℕ) (may : MayLatch actor) (step : MayStep d c m) (wanted : Option Wanted) (b : Bool) → m.stop ≡ None → IsWorking (m.activity actor)
+    → ((activity : Activity) → StandsAs c actor activity → wanted ≡ wanted_in c.store activity) → IfSome wanted (λ w. IsGrantable c.latches actor w.page w.mode) → SaysUnready d c m actor may step b → b ≡ false → MayWork m actor
+may_work d c m actor may step wanted b runs works wants_so free says is =
+    works_may d c m actor may step runs works (way_free d c m actor may step wanted (wants d c m actor may step wanted wants_so) free) (ready d c m actor may step b says is)
+
+-- each machine that is shown works where one does
+pub works_too : (d : DiskModel) (c : RunningCore) (m n : Machine) (actor : ℕ) → MayLatch actor → MayStep d c m → MayStep d c n → IsWorking (n.activity actor) → IsWorking (m.activity actor)
+works_too d c m n actor may step its works = subst IsWorking (sym (stands_as d c m actor (n.activity actor) may step.shows (its.shows.activities actor may))) works
+
 -- ---- the ways in which it works
 
 no_operation : (why : DropWhy) (idle : Activity) (hand : Hand) → (gives_up_hand why idle hand).op ≡ None

@@ -1,7 +1,11 @@
 use Rattle.std.proofs.Common.{inl, inr, sym, subst, ◌∙◌}
+use Rattle.hb_disk.specs.Calls.{ReadsOnly}
+use Rattle.hb_core.specs.declared.halts.Halt.{Halt}
 use Rattle.hb_core.specs.CoreSeen.{core_seen, core_disk}
-use Rattle.hb_core.proofs.Running.OneWanted.{steps_want_one}
-use Rattle.hb_core.proofs.Running.WorkDone.{blocked, given_up, holds_line, looks_now, ready, stopped, unready, wants, way_free, works_may}
+use Rattle.hb_core.specs.Touching.{IsReadHalt, Touches}
+use Rattle.hb_core.specs.Working.{Halts, IsStop}
+use Rattle.hb_core.proofs.Running.WorkDone.{blocked, given_up, holds_line, looks_now, may_work, stopped, unready, wants, way_free, works_too}
+use Rattle.hb_core.proofs.Running.WorkTouches.{done_touches, given_up_touches, row_well, stopped_touches}
 use Rattle.hb_core.proofs.state.Core.work.Goals as goal
 
 pub wanted-wanted-requires-clause-look : goal.wanted-wanted-requires-clause-look
@@ -9,3 +13,79 @@ wanted-wanted-requires-clause-look g c = looks_now (g.D.Device.model (core_disk 
 
 pub is_unready-requires-clause-look : goal.is_unready-requires-clause-look
 is_unready-requires-clause-look g c = looks_now (g.D.Device.model (core_disk c.args.self.now)) (core_seen c.args.self.now) c.requires.may.0 c.args.actor c.requires.actor c.requires.may.1
+
+pub returns-in-Some-clause-works : goal.returns-in-Some-clause-works
+returns-in-Some-clause-works g c m step runs works =
+    blocked (g.D.Device.model (core_disk c.args.self.now)) (core_seen c.args.self.now) m c.args.actor c.requires.actor step c.wanted-wanted.result c.in-Some.by (wants (g.D.Device.model (core_disk c.args.self.now)) (core_seen c.args.self.now) m c.args.actor c.requires.actor step c.wanted-wanted.result c.wanted-wanted.ensures) c.in-Some.ensures.least
+
+pub returns-then-is_unready-clause-works : goal.returns-then-is_unready-clause-works
+returns-then-is_unready-clause-works g c m step runs works =
+    let done = c.get_ready.ensures.readies m step runs works in
+    (done.0, inr (inl (way_free (g.D.Device.model (core_disk c.args.self.now)) (core_seen c.args.self.now) m c.args.actor c.requires.actor step c.wanted-wanted.result (wants (g.D.Device.model (core_disk c.args.self.now)) (core_seen c.args.self.now) m c.args.actor c.requires.actor step c.wanted-wanted.result c.wanted-wanted.ensures) (c.in_the_way.ensures.free c.in_default.is),
+    unready (g.D.Device.model (core_disk c.args.self.now)) (core_seen c.args.self.now) m c.args.actor c.requires.actor step c.is_unready.result c.is_unready.ensures c.if-is_unready.true, done.1)), done.2)
+
+pub do_row-requires-clause-may : goal.do_row-requires-clause-may
+do_row-requires-clause-may g c =
+    let m = c.requires.may.0 in
+    let step = c.requires.may.1 in
+    let runs = c.requires.may.2 in
+    let works = c.requires.may.3 in
+    (m, step, may_work (g.D.Device.model (core_disk c.args.self.now)) (core_seen c.args.self.now) m c.args.actor c.requires.actor step c.wanted-wanted.result c.is_unready.result runs works c.wanted-wanted.ensures (c.in_the_way.ensures.free c.in_default.is) c.is_unready.ensures c.if-is_unready.false)
+
+pub do_row-requires-clause-line : goal.do_row-requires-clause-line
+do_row-requires-clause-line g c m step =
+    holds_line (g.D.Device.model (core_disk c.args.self.now)) (core_seen c.args.self.now) m c.args.actor c.requires.actor step c.line_in_hand-line.result (works_too (g.D.Device.model (core_disk c.args.self.now)) (core_seen c.args.self.now) m c.requires.may.0 c.args.actor c.requires.actor step c.requires.may.1 c.requires.may.3) c.line_in_hand-line.ensures
+
+pub returns-in-Ok-clause-works : goal.returns-in-Ok-clause-works
+returns-in-Ok-clause-works g c m step runs works =
+    let work = may_work (g.D.Device.model (core_disk c.args.self.now)) (core_seen c.args.self.now) m c.args.actor c.requires.actor step c.wanted-wanted.result c.is_unready.result runs works c.wanted-wanted.ensures (c.in_the_way.ensures.free c.in_default.is) c.is_unready.ensures c.if-is_unready.false in
+    let done = c.in-Ok.ensures.done m step work in
+    (done.0, inr (inr (work.free, work.ready, inl done.1)), done.2)
+
+pub returns-in-Ok-clause-touches : goal.returns-in-Ok-clause-touches
+returns-in-Ok-clause-touches g c =
+    let m = c.requires.may.0 in
+    let step = c.requires.may.1 in
+    let runs = c.requires.may.2 in
+    let works = c.requires.may.3 in
+    let done = c.in-Ok.ensures.done m step (may_work (g.D.Device.model (core_disk c.args.self.now)) (core_seen c.args.self.now) m c.args.actor c.requires.actor step c.wanted-wanted.result c.is_unready.result runs works c.wanted-wanted.ensures (c.in_the_way.ensures.free c.in_default.is) c.is_unready.ensures c.if-is_unready.false) in
+    done_touches (g.D.Device.model (core_disk c.args.self.now)) (g.D.Device.model (core_disk c.do_row.new.self)) (core_seen c.args.self.now) (core_seen c.do_row.new.self) c.in-Ok.outcome (λ never. never) (row_well m c.args.actor c.in-Ok.outcome done.0 done.1) c.in-Ok.ensures.reads
+
+pub returns-in-Err-GivesUp-clause-works : goal.returns-in-Err-GivesUp-clause-works
+returns-in-Err-GivesUp-clause-works g c m step runs works =
+    let work = may_work (g.D.Device.model (core_disk c.args.self.now)) (core_seen c.args.self.now) m c.args.actor c.requires.actor step c.wanted-wanted.result c.is_unready.result runs works c.wanted-wanted.ensures (c.in_the_way.ensures.free c.in_default.is) c.is_unready.ensures c.if-is_unready.false in
+    given_up g.D.Device.model (core_disk c.do_row.new.self) (core_disk c.give_up.new.self) (core_seen c.do_row.new.self) (core_seen c.give_up.new.self) m c.args.actor c.requires.actor work c.give_up.ensures.disk
+    c.in-Err-GivesUp.why c.line_in_hand-line.result c.give_up.result
+    (subst (λ (h : Halt). Halts m c.args.actor h (g.D.Device.model (core_disk c.do_row.new.self)) (core_seen c.do_row.new.self)) c.in-Err-GivesUp.field-0-is (c.in-Err-GivesUp.ensures.halts m step work))
+    (holds_line (g.D.Device.model (core_disk c.args.self.now)) (core_seen c.args.self.now) m c.args.actor c.requires.actor step c.line_in_hand-line.result works c.line_in_hand-line.ensures) c.give_up.ensures.does
+
+pub returns-in-Err-GivesUp-clause-touches : goal.returns-in-Err-GivesUp-clause-touches
+returns-in-Err-GivesUp-clause-touches g c =
+    let m = c.requires.may.0 in
+    let step = c.requires.may.1 in
+    let runs = c.requires.may.2 in
+    let works = c.requires.may.3 in
+    subst (λ (k : _). Touches (g.D.Device.model (core_disk c.args.self.now)) (core_seen c.args.self.now) c.give_up.result (g.D.Device.model k) (core_seen c.give_up.new.self)) (sym c.give_up.ensures.disk)
+    (given_up_touches (g.D.Device.model (core_disk c.args.self.now)) (g.D.Device.model (core_disk c.do_row.new.self)) (core_seen c.args.self.now) (core_seen c.give_up.new.self) c.give_up.result c.in-Err-GivesUp.why (m.activity c.args.actor) works
+    (c.give_up.ensures.does (m.activity c.args.actor) works (step.goes_on.kept.classes c.args.actor) (holds_line (g.D.Device.model (core_disk c.args.self.now)) (core_seen c.args.self.now) m c.args.actor c.requires.actor step c.line_in_hand-line.result works c.line_in_hand-line.ensures)).says
+    (subst (λ (h : Halt). ReadsOnly (IsReadHalt h) (g.D.Device.model (core_disk c.args.self.now)) (g.D.Device.model (core_disk c.do_row.new.self))) c.in-Err-GivesUp.field-0-is c.in-Err-GivesUp.ensures.reads))
+
+pub returns-in-Err-Stops-clause-works : goal.returns-in-Err-Stops-clause-works
+returns-in-Err-Stops-clause-works g c m step runs works =
+    let work = may_work (g.D.Device.model (core_disk c.args.self.now)) (core_seen c.args.self.now) m c.args.actor c.requires.actor step c.wanted-wanted.result c.is_unready.result runs works c.wanted-wanted.ensures (c.in_the_way.ensures.free c.in_default.is) c.is_unready.ensures c.if-is_unready.false in
+    stopped g.D.Device.model (core_disk c.do_row.new.self) (core_disk c.stop_for.new.self) (core_seen c.do_row.new.self) (core_seen c.stop_for.new.self) m c.args.actor c.requires.actor work c.stop_for.ensures.disk
+    c.in-Err-Stops.why (core_seen c.args.self.now) c.stop_for.result
+    (subst (λ (h : Halt). Halts m c.args.actor h (g.D.Device.model (core_disk c.do_row.new.self)) (core_seen c.do_row.new.self)) c.in-Err-Stops.field-0-is (c.in-Err-Stops.ensures.halts m step work))
+    (step.shows.activities c.args.actor c.requires.actor) (c.in-Err-Stops.ensures.intact (subst IsStop (sym c.in-Err-Stops.field-0-is) tt)) c.stop_for.ensures.says c.stop_for.ensures.stops
+
+pub returns-in-Err-Stops-clause-touches : goal.returns-in-Err-Stops-clause-touches
+returns-in-Err-Stops-clause-touches g c =
+    let m = c.requires.may.0 in
+    let step = c.requires.may.1 in
+    let runs = c.requires.may.2 in
+    let works = c.requires.may.3 in
+    let work = may_work (g.D.Device.model (core_disk c.args.self.now)) (core_seen c.args.self.now) m c.args.actor c.requires.actor step c.wanted-wanted.result c.is_unready.result runs works c.wanted-wanted.ensures (c.in_the_way.ensures.free c.in_default.is) c.is_unready.ensures c.if-is_unready.false in
+    let halts = subst (λ (h : Halt). Halts m c.args.actor h (g.D.Device.model (core_disk c.do_row.new.self)) (core_seen c.do_row.new.self)) c.in-Err-Stops.field-0-is (c.in-Err-Stops.ensures.halts m step work) in
+    subst (λ (k : _). Touches (g.D.Device.model (core_disk c.args.self.now)) (core_seen c.args.self.now) c.stop_for.result (g.D.Device.model k) (core_seen c.stop_for.new.self)) (sym c.stop_for.ensures.disk)
+    (stopped_touches (g.D.Device.model (core_disk c.args.self.now)) (g.D.Device.model (core_disk c.do_row.new.self)) (core_seen c.args.self.now) (core_seen c.stop_for.new.self) c.stop_for.result m c.args.actor (core_seen c.do_row.new.self).store c.in-Err-Stops.why halts.cause c.stop_for.ensures.says
+    (subst (λ (h : Halt). ReadsOnly (IsReadHalt h) (g.D.Device.model (core_disk c.args.self.now)) (g.D.Device.model (core_disk c.do_row.new.self))) c.in-Err-Stops.field-0-is c.in-Err-Stops.ensures.reads))
