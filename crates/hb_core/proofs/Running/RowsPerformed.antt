@@ -44,39 +44,6 @@ module _ {D : Type 0} (model : D → DiskModel) (x y : D) (c between : RunningCo
   pub refused_halts : (halt : Halt) → halt ≡ GivesUp drops.NoMemory → (deed : Deed) × IsRow (model x) c m actor free may pages deed × TakesMemory (m.activity actor) deed → Halts m actor halt (model y) between
   refused_halts halt is takes = subst (λ (h : Halt). Halts m actor h (model y) between) (sym is) (subst (λ (k : D). Halts m actor (GivesUp drops.NoMemory) (model k) between) (sym same)
       (subst (λ (s : RunningCore). Halts m actor (GivesUp drops.NoMemory) (model x) s) (sym rest) (row_refused (model x) c m actor free may pages takes)))
--- a line that joins the order is one in hand, and has a reply that is kept
-joined_so : (hand : Hand) (line : Option ℕ) (then : Activity) (fate : Fate) → line ≡ number_of hand → IsSome (joins_order line then fate) → IsSome (joined_by hand then fate)
-joined_so (HasLine l) line (at.SessionAwait number reply before) fates.TakesEffect is joins = refl
-joined_so hand None (at.SessionAwait number reply before) fates.TakesEffect is joins = cc
-joined_so hand (Some n) (at.SessionAwait number reply before) fates.TakesEffect is joins = cc
-joined_so hand line then fate is joins = cc
-
-module _ {D : Type 0} (model : D → DiskModel) (x y : D) (c between : RunningCore) (m : Machine) (actor : ℕ) (free : Option (ℕ × ℕ)) (may : MayLatch actor)
-    (rest : between ≡ with_standing actor (idle_of (class_for actor)) c) (same : y ≡ x) (pages : HasPages m actor free (model x) c) where
-  -- memory was refused to the row
-  pub refused_halts : (halt : Halt) → halt ≡ GivesUp drops.NoMemory → (deed : Deed) × IsRow (model x) c m actor free may pages deed × TakesMemory (m.activity actor) deed → Halts m actor halt (model y) between
-  refused_halts halt is takes = subst (λ (h : Halt). Halts m actor h (model y) between) (sym is) (subst (λ (k : D). Halts m actor (GivesUp drops.NoMemory) (model k) between) (sym same)
-      (subst (λ (s : RunningCore). Halts m actor (GivesUp drops.NoMemory) (model x) s) (sym rest) (row_refused (model x) c m actor free may pages takes)))
-
-module _ {D : Type 0} (model : D → DiskModel) (x y : D) (c between : RunningCore) (m : Machine) (actor : ℕ) (free : Option (ℕ × ℕ)) (may : MayLatch actor)
-    (rest : between ≡ with_standing actor (idle_of (class_for actor)) c) (same : y ≡ x) (pages : HasPages m actor free (model x) c) (next : Next) where
-  abbrev deed : Deed
-  deed = placed (length m.order) (deed_of (m.activity actor) next)
-
-  long : length c.order ≡ length m.order
-  long = same_length (model x) c m actor free may pages
-
-  pub row_may_commit : Row (m.activity actor) (wanted_by m actor) (with_pages c m) deed → IfSome next.op (MayCommit (model y) between)
-  row_may_commit row = subst (λ (k : D). IfSome next.op (MayCommit (model k) between)) (sym same)
-      (subst (λ (s : RunningCore). IfSome next.op (MayCommit (model x) s)) (sym rest) (row_commits (model x) c m actor free may pages deed row))
-
-  pub row_may_stand : Row (m.activity actor) (wanted_by m actor) (with_pages c m) deed → (st : StoreState) → MayDo next.op (length between.order) between.store st → MayStand actor between.latches st (placed_at (length between.order) next.then)
-  row_may_stand row = subst (λ (s : RunningCore). (st : StoreState) → MayDo next.op (length s.order) s.store st → MayStand actor s.latches st (placed_at (length s.order) next.then)) (sym rest)
-      (λ st does. subst (λ (n : ℕ). MayStand actor c.latches st (placed_at n next.then)) (sym long) (row_stands (model x) c m actor free may pages deed row st does))
-
-  pub row_may_join : Row (m.activity actor) (wanted_by m actor) (with_pages c m) deed → (line : Option ℕ) → line ≡ number_of (hand_of (m.activity actor)) → IsSome (joins_order line next.then next.fate) → length between.order < length between.lines
-  row_may_join row line is joins = subst (λ (s : RunningCore). length s.order < length s.lines) (sym rest)
-      (row_joins (model x) c m actor free may pages deed row (joined_so (hand_of (m.activity actor)) line next.then next.fate is joins))
 
   pub order_few : length between.lines < 2 ^ 32 → length between.order < 2 ^ 32
   order_few few =
