@@ -37,5 +37,5 @@ pub mod OrderRoom
 pub mod StandsThere
 pub mod Commits
 pub mod MayPerform
-pub mod WorkTouches
 pub mod StarvedHalts
+pub mod WorkTouches

@@ -1,6 +1,6 @@
 -- A core that works takes a step of the machine that it shows.
-use Rattle.std.proofs.Common.{◌≡◌, inl, inr, ℕ, ◌-◌, ◌↔◌, Bool, true, false, List, slice_get, slice_set, Option, None, IfSome, IsTrue, refl, sym, ap, ◌∙◌, subst}
-use Rattle.std.specs.Option.{IsSomeAnd}
+use Rattle.std.proofs.Common.{◌≡◌, ◌⊎◌, inl, inr, ℕ, ◌-◌, ◌↔◌, Bool, true, false, List, slice_get, slice_set, Option, Some, None, IsSome, IfSome, IsTrue, refl, sym, ap, ◌∙◌, subst}
+use Rattle.std.specs.Option.{IsSomeAnd, option_map}
 use Rattle.hb_activity.specs.declared.activities.Activity.{Activity}
 use Rattle.hb_activity.specs.declared.dropping.DropWhy.{DropWhy}
 use Rattle.hb_activity.specs.declared.wanting.Wanted.{Wanted}
@@ -22,7 +22,7 @@ use Rattle.hb_core.specs.GivingUp.{gives_up, gives_up_hand}
 use Rattle.hb_core.specs.KeptFits.{class_for}
 use Rattle.hb_core.specs.Looking.{MayLook, wanted_in}
 use Rattle.hb_core.specs.Machines.{Machine, stopped_for}
-use Rattle.hb_core.specs.Moving.{DoesDeed, StandsAs, number_of, with_stop}
+use Rattle.hb_core.specs.Moving.{DoesDeed, StandsAs, number_of, with_standing, with_stop}
 use Rattle.hb_core.specs.Showing.{RunningCore, ShowsMachine, number_in_hand}
 use Rattle.hb_core.specs.Steps.{GetsReady, IsUnready, Works}
 use Rattle.hb_core.specs.Working.{Halts, IsWorking, MayStep, MayWork, with_pages}
@@ -43,10 +43,7 @@ module _ (d : DiskModel) (c : RunningCore) (m : Machine) (actor : ℕ) (may : Ma
   looks_now activity so = subst (MayLook c.store) (stands_as d c m actor activity may step.shows so)
       (subst (λ (st : StoreState). MayLook st (m.activity actor)) step.shows.store (may_look_now m actor may step.goes_on.kept))
 
-  abbrev pub WantsSo : Option Wanted → Type 0
-  WantsSo wanted = (activity : Activity) → StandsAs c actor activity → wanted ≡ wanted_in c.store activity
-
-  pub wants : (wanted : Option Wanted) → WantsSo wanted → wanted ≡ wanted_by m actor
+  pub wants : (wanted : Option Wanted) → ((activity : Activity) → StandsAs c actor activity → wanted ≡ wanted_in c.store activity) → wanted ≡ wanted_by m actor
   wants wanted is = is (m.activity actor) stands ∙ ap (λ (st : StoreState). wanted_in st (m.activity actor)) (sym step.shows.store)
 
   pub holds_line : (line : Option ℕ) → IsWorking (m.activity actor) → ((activity : Activity) → StandsAs c actor activity → line ≡ number_in_hand activity) → line ≡ number_of (hand_of (m.activity actor))
@@ -80,25 +77,15 @@ module _ (d : DiskModel) (c : RunningCore) (m : Machine) (actor : ℕ) (may : Ma
   pub works_may : m.stop ≡ None → IsWorking (m.activity actor) → HasWayFree m actor → ¬ (IsUnready m actor) → MayWork m actor
   works_may runs works free is_ready = record { goes_on = step.goes_on; runs = runs; working = works; free = free; ready = is_ready }
 
-  -- the step may be done: nobody is in the way of what it wants, and the log is ready
-  pub may_work : (wanted : Option Wanted) (b : Bool) → m.stop ≡ None → IsWorking (m.activity actor) → WantsSo wanted → IfSome wanted (λ w. IsGrantable c.latches actor w.page w.mode) → SaysUnready b → b ≡ false → MayWork m actor
-  may_work wanted b runs works is free says tells = works_may runs works (way_free wanted (wants wanted is) free) (ready b says tells)
+-- so it may work, by what the calls said
+pub may_work : (d : DiskModel) (c : RunningCore) (m : Machine) (actor : ℕ) (may : MayLatch actor) (step : MayStep d c m) (wanted : Option Wanted) (b : Bool) → m.stop ≡ None → IsWorking (m.activity actor)
+    → ((activity : Activity) → StandsAs c actor activity → wanted ≡ wanted_in c.store activity) → IfSome wanted (λ w. IsGrantable c.latches actor w.page w.mode) → SaysUnready d c m actor may step b → b ≡ false → MayWork m actor
+may_work d c m actor may step wanted b runs works wants_so free says is =
+    works_may d c m actor may step runs works (way_free d c m actor may step wanted (wants d c m actor may step wanted wants_so) free) (ready d c m actor may step b says is)
 
-  module _ (e : DiskModel) (after : RunningCore) (outcome : Outcome) where
-    abbrev WorksSo : Type 0
-    WorksSo = (new : Machine) × Works m actor outcome new × ShowsMachine e after new
-
-    -- it isn't ready, and flushes
-    pub got_ready : (wanted : Option Wanted) (b : Bool) → WantsSo wanted → IfSome wanted (λ w. IsGrantable c.latches actor w.page w.mode) → SaysUnready b → b ≡ true → (new : Machine) × GetsReady m actor outcome new × ShowsMachine e after new → WorksSo
-    got_ready wanted b is free says tells done = (done.0, inr (inl (way_free wanted (wants wanted is) free, unready b says tells, done.1)), done.2)
-
-    -- its row is done
-    pub did_row : MayWork m actor → (new : Machine) × DoesRow m actor outcome new × ShowsMachine e after new → WorksSo
-    did_row work done = (done.0, inr (inr (work.free, work.ready, inl done.1)), done.2)
-
-  -- another machine that the core shows has the actor at work, too
-  pub works_there : (n : Machine) → ShowsMachine d c n → IsWorking (n.activity actor) → IsWorking (m.activity actor)
-  works_there n shows works = subst IsWorking (stands_as d c n actor (m.activity actor) may shows stands) works
+-- each machine that is shown works where one does
+pub works_too : (d : DiskModel) (c : RunningCore) (m n : Machine) (actor : ℕ) → MayLatch actor → MayStep d c m → MayStep d c n → IsWorking (n.activity actor) → IsWorking (m.activity actor)
+works_too d c m n actor may step its works = subst IsWorking (sym (stands_as d c m actor (n.activity actor) may step.shows (its.shows.activities actor may))) works
 
 -- ---- the ways in which it works
 
@@ -116,11 +103,9 @@ module _ {D : Type 0} (model : D → DiskModel) (x y : D) (c after : RunningCore
       let done : DoesDeed actor deed outcome c after = does (m.activity actor) work.working (work.goes_on.kept.classes actor) is in
       let none : deed.op ≡ None = no_operation why (idle_of (class_of (m.activity actor))) (hand_of (m.activity actor)) in
       let shown = deed_shows (model x) c after m actor deed outcome may halts.shows done work.goes_on.kept.lines_in_turn (given_up_number m why (m.activity actor) work.working)
-      (keeps_none (model x) c.store after.store _ deed.op none done.store) in (
-        shown.0,
-        inr (inr (work.free, work.ready, inr (inl (record { why = why; fetched = c.store; brings = halts.brings; cause = halts.cause; performs = shown.1 })))),
-        subst (λ (k : D). ShowsMachine (model k) after shown.0) (sym same) shown.2,
-      )
+          (keeps_none (model x) c.store after.store _ deed.op none done.store) in
+      (shown.0, inr (inr (work.free, work.ready, inr (inl (record { why = why; fetched = c.store; brings = halts.brings; cause = halts.cause; performs = shown.1 })))),
+      subst (λ (k : D). ShowsMachine (model k) after shown.0) (sym same) shown.2)
 
   -- a page was damaged
   pub stopped : (why : StopWhy) (before : RunningCore) (outcome : Outcome) → Halts m actor (Stops why) (model x) c → StandsAs before actor (m.activity actor) → c.activities ≡ before.activities
@@ -129,8 +114,6 @@ module _ {D : Type 0} (model : D → DiskModel) (x y : D) (c after : RunningCore
   stopped (Damaged page why) before outcome halts stood intact says stops =
       let so : slice_set c.activities (actor - 1) (m.activity actor) ≡ c.activities = set_as_it_was c.activities (actor - 1) (m.activity actor) (ap (λ (l : List Activity). slice_get l (actor - 1)) intact ∙ stood) in
       let shows : ShowsMachine (model x) c (with_pages c m) = subst (λ (l : List Activity). ShowsMachine (model x) (record c { activities = l }) (with_pages c m)) so halts.shows in
-      let new : Machine = stopped_for (Damaged page why) (with_pages c m) in (
-        new,
-        inr (inr (work.free, work.ready, inr (inr (record { fetched = c.store; brings = halts.brings; page = page; why = why; bad = halts.cause; says = says; stops = refl })))),
-        subst (λ (k : D). ShowsMachine (model k) after new) (sym same) (subst (λ (s : RunningCore). ShowsMachine (model x) s new) (sym stops) (shown_stopped (Damaged page why) (model x) c (with_pages c m) shows)),
-      )
+      let new : Machine = stopped_for (Damaged page why) (with_pages c m) in
+      (new, inr (inr (work.free, work.ready, inr (inr (record { fetched = c.store; brings = halts.brings; page = page; why = why; bad = halts.cause; says = says; stops = refl })))),
+      subst (λ (k : D). ShowsMachine (model k) after new) (sym same) (subst (λ (s : RunningCore). ShowsMachine (model x) s new) (sym stops) (shown_stopped (Damaged page why) (model x) c (with_pages c m) shows)))

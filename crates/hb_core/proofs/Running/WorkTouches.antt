@@ -1,5 +1,6 @@
 -- What a step that works does to the disk: it reads at most, and says so where a read ended it.
-use Rattle.std.proofs.Common.{◌≡◌, ◌⊎◌, inl, inr, ℕ, refl, sym, ap, ◌∙◌, subst}
+use Rattle.std.proofs.Common.{◌≡◌, ◌⊎◌, inl, inr, ℕ, Option, Some, None, Result, Ok, Err, refl, sym, ap, ◌∙◌, subst}
+use Rattle.std.specs.Result.{IsErrAnd}
 use Rattle.hb_activity.specs.declared.activities.Activity.{Activity}
 use Rattle.hb_activity.specs.declared.activities.Activity.TheVariants as at
 use Rattle.hb_activity.specs.declared.dropping.DropWhy.{DropWhy}
@@ -11,6 +12,7 @@ use Rattle.hb_disk.proofs.Facts.FaultLaws.{ReadsOnly-as, ReadsOnly-neither, Read
 use Rattle.hb_set.specs.declared.commands.Reply.TheVariants as replies
 use Rattle.hb_store.specs.declared.stops.StopWhy.{StopWhy}
 use Rattle.hb_store.specs.declared.stops.StopWhy.TheVariants as stops
+use Rattle.hb_core.specs.declared.halts.Halt.{Halt}
 use Rattle.hb_core.specs.declared.halts.Halt.TheVariants.{GivesUp, Stops}
 use Rattle.hb_core.specs.declared.outcomes.Outcome.{Outcome}
 use Rattle.hb_core.specs.declared.outcomes.Outcome.TheVariants as outcomes
@@ -95,7 +97,3 @@ module _ (d e : DiskModel) (c after : RunningCore) (outcome : Outcome) where
 
       no_fault : (why : StopWhy) → IsHalt m actor st (Stops why) → why ≡ stops.WriteFault → ⊥
       no_fault why cause is = subst (λ (w : StopWhy). IsHalt m actor st (Stops w)) is cause
-
--- what came afterwards left the disk alone
-pub touches_along : {D : Type 0} (model : D → DiskModel) (x y z : D) (c after : RunningCore) (outcome : Outcome) → z ≡ y → Touches (model x) c outcome (model y) after → Touches (model x) c outcome (model z) after
-touches_along model x y z c after outcome same touches = subst (λ k. Touches (model x) c outcome (model k) after) (sym same) touches
