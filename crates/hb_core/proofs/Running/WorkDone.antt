@@ -1,6 +1,6 @@
 -- A core that works takes a step of the machine that it shows.
-use Rattle.std.proofs.Common.{◌≡◌, ◌⊎◌, inl, inr, ℕ, ◌-◌, ◌↔◌, Bool, true, false, List, slice_get, slice_set, Option, Some, None, IsSome, IfSome, IsTrue, refl, sym, ap, ◌∙◌, subst}
-use Rattle.std.specs.Option.{IsSomeAnd, option_map}
+use Rattle.std.proofs.Common.{◌≡◌, inl, inr, ℕ, ◌-◌, ◌↔◌, Bool, true, false, List, slice_get, slice_set, Option, None, IfSome, IsTrue, refl, sym, ap, ◌∙◌, subst}
+use Rattle.std.specs.Option.{IsSomeAnd}
 use Rattle.hb_activity.specs.declared.activities.Activity.{Activity}
 use Rattle.hb_activity.specs.declared.dropping.DropWhy.{DropWhy}
 use Rattle.hb_activity.specs.declared.wanting.Wanted.{Wanted}
@@ -16,15 +16,14 @@ use Rattle.hb_store.specs.States.{StoreState}
 use Rattle.hb_core.specs.declared.halts.Halt.TheVariants.{GivesUp, Stops}
 use Rattle.hb_core.specs.declared.outcomes.Outcome.{Outcome}
 use Rattle.hb_core.specs.declared.outcomes.Outcome.TheVariants as outcomes
-use Rattle.hb_core.specs.Acting.{DoesRow}
 use Rattle.hb_core.specs.Asking.{HasWayFree, looked_live, wanted_by}
 use Rattle.hb_core.specs.GivingUp.{gives_up, gives_up_hand}
 use Rattle.hb_core.specs.KeptFits.{class_for}
 use Rattle.hb_core.specs.Looking.{MayLook, wanted_in}
 use Rattle.hb_core.specs.Machines.{Machine, stopped_for}
-use Rattle.hb_core.specs.Moving.{DoesDeed, StandsAs, number_of, with_standing, with_stop}
+use Rattle.hb_core.specs.Moving.{DoesDeed, StandsAs, number_of, with_stop}
 use Rattle.hb_core.specs.Showing.{RunningCore, ShowsMachine, number_in_hand}
-use Rattle.hb_core.specs.Steps.{GetsReady, IsUnready, Works}
+use Rattle.hb_core.specs.Steps.{IsUnready, Works}
 use Rattle.hb_core.specs.Working.{Halts, IsWorking, MayStep, MayWork, with_pages}
 use Rattle.hb_core.proofs.Running.DeedShows.{deed_shows}
 use Rattle.hb_core.proofs.Running.ForcedShows.{shown_stopped}
@@ -103,9 +102,11 @@ module _ {D : Type 0} (model : D → DiskModel) (x y : D) (c after : RunningCore
       let done : DoesDeed actor deed outcome c after = does (m.activity actor) work.working (work.goes_on.kept.classes actor) is in
       let none : deed.op ≡ None = no_operation why (idle_of (class_of (m.activity actor))) (hand_of (m.activity actor)) in
       let shown = deed_shows (model x) c after m actor deed outcome may halts.shows done work.goes_on.kept.lines_in_turn (given_up_number m why (m.activity actor) work.working)
-          (keeps_none (model x) c.store after.store _ deed.op none done.store) in
-      (shown.0, inr (inr (work.free, work.ready, inr (inl (record { why = why; fetched = c.store; brings = halts.brings; cause = halts.cause; performs = shown.1 })))),
-      subst (λ (k : D). ShowsMachine (model k) after shown.0) (sym same) shown.2)
+      (keeps_none (model x) c.store after.store _ deed.op none done.store) in (
+        shown.0,
+        inr (inr (work.free, work.ready, inr (inl (record { why = why; fetched = c.store; brings = halts.brings; cause = halts.cause; performs = shown.1 })))),
+        subst (λ (k : D). ShowsMachine (model k) after shown.0) (sym same) shown.2,
+      )
 
   -- a page was damaged
   pub stopped : (why : StopWhy) (before : RunningCore) (outcome : Outcome) → Halts m actor (Stops why) (model x) c → StandsAs before actor (m.activity actor) → c.activities ≡ before.activities
@@ -114,6 +115,8 @@ module _ {D : Type 0} (model : D → DiskModel) (x y : D) (c after : RunningCore
   stopped (Damaged page why) before outcome halts stood intact says stops =
       let so : slice_set c.activities (actor - 1) (m.activity actor) ≡ c.activities = set_as_it_was c.activities (actor - 1) (m.activity actor) (ap (λ (l : List Activity). slice_get l (actor - 1)) intact ∙ stood) in
       let shows : ShowsMachine (model x) c (with_pages c m) = subst (λ (l : List Activity). ShowsMachine (model x) (record c { activities = l }) (with_pages c m)) so halts.shows in
-      let new : Machine = stopped_for (Damaged page why) (with_pages c m) in
-      (new, inr (inr (work.free, work.ready, inr (inr (record { fetched = c.store; brings = halts.brings; page = page; why = why; bad = halts.cause; says = says; stops = refl })))),
-      subst (λ (k : D). ShowsMachine (model k) after new) (sym same) (subst (λ (s : RunningCore). ShowsMachine (model x) s new) (sym stops) (shown_stopped (Damaged page why) (model x) c (with_pages c m) shows)))
+      let new : Machine = stopped_for (Damaged page why) (with_pages c m) in (
+        new,
+        inr (inr (work.free, work.ready, inr (inr (record { fetched = c.store; brings = halts.brings; page = page; why = why; bad = halts.cause; says = says; stops = refl })))),
+        subst (λ (k : D). ShowsMachine (model k) after new) (sym same) (subst (λ (s : RunningCore). ShowsMachine (model x) s new) (sym stops) (shown_stopped (Damaged page why) (model x) c (with_pages c m) shows)),
+      )

@@ -1,6 +1,5 @@
 -- What a step that works does to the disk: it reads at most, and says so where a read ended it.
-use Rattle.std.proofs.Common.{◌≡◌, ◌⊎◌, inl, inr, ℕ, Option, Some, None, Result, Ok, Err, refl, sym, ap, ◌∙◌, subst}
-use Rattle.std.specs.Result.{IsErrAnd}
+use Rattle.std.proofs.Common.{◌≡◌, ◌⊎◌, inl, inr, ℕ, refl, sym, ap, ◌∙◌, subst}
 use Rattle.hb_activity.specs.declared.activities.Activity.{Activity}
 use Rattle.hb_activity.specs.declared.activities.Activity.TheVariants as at
 use Rattle.hb_activity.specs.declared.dropping.DropWhy.{DropWhy}
@@ -12,7 +11,6 @@ use Rattle.hb_disk.proofs.Facts.FaultLaws.{ReadsOnly-as, ReadsOnly-neither, Read
 use Rattle.hb_set.specs.declared.commands.Reply.TheVariants as replies
 use Rattle.hb_store.specs.declared.stops.StopWhy.{StopWhy}
 use Rattle.hb_store.specs.declared.stops.StopWhy.TheVariants as stops
-use Rattle.hb_core.specs.declared.halts.Halt.{Halt}
 use Rattle.hb_core.specs.declared.halts.Halt.TheVariants.{GivesUp, Stops}
 use Rattle.hb_core.specs.declared.outcomes.Outcome.{Outcome}
 use Rattle.hb_core.specs.declared.outcomes.Outcome.TheVariants as outcomes

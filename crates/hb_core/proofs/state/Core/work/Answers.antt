@@ -1,4 +1,4 @@
-use Rattle.std.proofs.Common.{inl, inr, sym, subst, ◌∙◌}
+use Rattle.std.proofs.Common.{inl, inr, sym, subst}
 use Rattle.hb_disk.specs.Calls.{ReadsOnly}
 use Rattle.hb_core.specs.declared.halts.Halt.{Halt}
 use Rattle.hb_core.specs.CoreSeen.{core_seen, core_disk}
@@ -20,9 +20,15 @@ returns-in-Some-clause-works g c m step runs works =
 
 pub returns-then-is_unready-clause-works : goal.returns-then-is_unready-clause-works
 returns-then-is_unready-clause-works g c m step runs works =
-    let done = c.get_ready.ensures.readies m step runs works in
-    (done.0, inr (inl (way_free (g.D.Device.model (core_disk c.args.self.now)) (core_seen c.args.self.now) m c.args.actor c.requires.actor step c.wanted-wanted.result (wants (g.D.Device.model (core_disk c.args.self.now)) (core_seen c.args.self.now) m c.args.actor c.requires.actor step c.wanted-wanted.result c.wanted-wanted.ensures) (c.in_the_way.ensures.free c.in_default.is),
-    unready (g.D.Device.model (core_disk c.args.self.now)) (core_seen c.args.self.now) m c.args.actor c.requires.actor step c.is_unready.result c.is_unready.ensures c.if-is_unready.true, done.1)), done.2)
+    let done = c.get_ready.ensures.readies m step runs works in (
+      done.0,
+      inr (inl (
+        way_free (g.D.Device.model (core_disk c.args.self.now)) (core_seen c.args.self.now) m c.args.actor c.requires.actor step c.wanted-wanted.result (wants (g.D.Device.model (core_disk c.args.self.now)) (core_seen c.args.self.now) m c.args.actor c.requires.actor step c.wanted-wanted.result c.wanted-wanted.ensures) (c.in_the_way.ensures.free c.in_default.is),
+        unready (g.D.Device.model (core_disk c.args.self.now)) (core_seen c.args.self.now) m c.args.actor c.requires.actor step c.is_unready.result c.is_unready.ensures c.if-is_unready.true,
+        done.1,
+      )),
+      done.2,
+    )
 
 pub do_row-requires-clause-may : goal.do_row-requires-clause-may
 do_row-requires-clause-may g c =
