@@ -12,7 +12,6 @@ pub mod Looks
 pub mod Boxes
 pub mod Brought
 pub mod Coming
-pub mod OneWanted
 pub mod RowsDone
 pub mod RowsPerformed
 pub mod WorkDone
@@ -37,5 +36,4 @@ pub mod OrderRoom
 pub mod StandsThere
 pub mod Commits
 pub mod MayPerform
-pub mod StarvedHalts
 pub mod WorkTouches

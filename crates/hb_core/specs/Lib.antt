@@ -35,6 +35,7 @@ pub mod CauseLaws
 pub mod JobLaws
 pub mod Showing
 pub mod CoreSeen
+pub mod CoreUpdates
 pub mod Moving
 pub mod Taking
 pub mod Stopping

@@ -25,30 +25,10 @@ use Rattle.hb_store.specs.States.{StoreState}
 use Rattle.hb_wal.specs.Log.{Waiting}
 use Rattle.hb_core.specs.declared.outcomes.Outcome.{Outcome}
 use Rattle.hb_core.specs.declared.outcomes.Outcome.TheVariants as outcomes
+pub use Rattle.hb_core.specs.CoreUpdates.{StandsAs, with_jobs, with_latches, with_order, with_standing, with_stop, with_store}
 use Rattle.hb_core.specs.Machines.{live_here}
 use Rattle.hb_core.specs.Performing.{ChangesQueue, MayDo, Relatches, latches_held, mode_among, outcome_of}
 use Rattle.hb_core.specs.Showing.{RunningCore}
-
--- the actor stands so
-abbrev pub StandsAs : RunningCore → ℕ → Activity → Type 0
-StandsAs c actor activity = slice_get c.activities (actor - 1) ≡ Some activity
-
--- where it stands elsewhere, all else is as it was
-abbrev pub with_standing : ℕ → Activity → RunningCore → RunningCore
-with_standing actor next c = record c { activities = slice_set c.activities (actor - 1) next }
-
--- the same with other jobs, a stop, another order, other latches
-abbrev pub with_jobs : List Job → RunningCore → RunningCore
-with_jobs jobs c = record c { jobs = jobs }
-
-abbrev pub with_stop : StopWhy → RunningCore → RunningCore
-with_stop why c = record c { stop = Some why }
-
-abbrev pub with_order : List ℕ → RunningCore → RunningCore
-with_order order c = record c { order = order }
-
-abbrev pub with_latches : LatchTable → RunningCore → RunningCore
-with_latches latches c = record c { latches = latches }
 
 -- latches on different pages
 abbrev pub AreApart : List Latch → Type 0

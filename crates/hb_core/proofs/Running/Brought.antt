@@ -15,11 +15,8 @@ use Rattle.hb_store.specs.States.{IsGoodPage, IsMemory, StoreState, in_memory}
 use Rattle.hb_core.proofs.Chains.BuiltSteps.{nothing_comes}
 use Rattle.hb_core.specs.Fetching.{Brings, MustStay}
 use Rattle.hb_core.specs.Machines.{Files, Machine, current_file, with_disk}
+use Rattle.hb_core.specs.Moving.{with_store}
 use Rattle.hb_core.specs.Showing.{RunningCore, ShowsFiles, ShowsMachine}
-
--- the core with another store
-abbrev pub with_store : StoreState → RunningCore → RunningCore
-with_store st c = record c { store = st }
 
 -- what was there is there as it was
 abbrev pub KeepsThere : StoreState → StoreState → Type 0

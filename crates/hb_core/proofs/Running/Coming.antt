@@ -35,7 +35,7 @@ use Rattle.hb_store.specs.declared.stops.Why.{Why}
 use Rattle.hb_store.specs.declared.stops.Why.TheVariants.{Rule, Level, Extent}
 use Rattle.hb_core.specs.declared.halts.Halt.TheVariants.{Stops}
 use Rattle.hb_core.proofs.Files.SoundFiles.{current_sound, files_hold}
-use Rattle.hb_core.proofs.Running.Brought.{brings_none, brings_wider, fetch_brings, fetch_keeps, shows_again, shows_store, with_store}
+use Rattle.hb_core.proofs.Running.Brought.{brings_none, brings_wider, fetch_brings, fetch_keeps, shows_again, shows_store}
 use Rattle.hb_core.proofs.Running.Looks.{may_look, wants_same}
 use Rattle.hb_core.proofs.Running.StandsElsewhere.{shows_but, stands_as}
 use Rattle.hb_core.specs.Acting.{IsBadWanted, LacksNeeded, MayNeed}
@@ -43,7 +43,7 @@ use Rattle.hb_core.specs.Asking.{AskedBox, IsNotAsked, asked_box, box_at, box_by
 use Rattle.hb_core.specs.Fetching.{Brings, IsDamaged, IsWantedPage}
 use Rattle.hb_core.specs.Keeps.{HasSoundFile}
 use Rattle.hb_core.specs.Looking.{FailsTest, IsOfOtherLevel, MayLook, PassesTest, wanted_in}
-use Rattle.hb_core.specs.Moving.{StandsAs}
+use Rattle.hb_core.specs.Moving.{StandsAs, with_store}
 use Rattle.hb_core.specs.Machines.{Files, Machine, current_file, live_here, with_disk}
 use Rattle.hb_core.specs.Rows.{IsAtHand}
 use Rattle.hb_core.specs.Showing.{RunningCore, ShowsMachine}

@@ -19,13 +19,9 @@ use Rattle.hb_core.specs.declared.outcomes.Outcome.{Outcome}
 use Rattle.hb_core.specs.declared.outcomes.Outcome.TheVariants as outcomes
 use Rattle.hb_core.specs.Forcing.{FailsToWrite, ForcesFirst, forced_files}
 use Rattle.hb_core.specs.Machines.{Files, Machine, stopped_for, with_disk}
-use Rattle.hb_core.specs.Moving.{with_stop}
+use Rattle.hb_core.specs.Moving.{with_stop, with_store}
 use Rattle.hb_core.specs.Showing.{RunningCore, ShowsFiles, ShowsMachine}
 use Rattle.hb_core.specs.Working.{MayStep}
-
--- a core with another store
-abbrev pub with_store : StoreState → RunningCore → RunningCore
-with_store store c = record c { store = store }
 
 -- ---- where a disk tells its bytes
 

@@ -16,11 +16,11 @@ use Rattle.hb_core.specs.declared.outcomes.Outcome.TheVariants as outcomes
 use Rattle.hb_core.specs.GivingUp.{runs_out}
 use Rattle.hb_core.specs.KeptFits.{class_for}
 use Rattle.hb_core.specs.Machines.{Machine}
-use Rattle.hb_core.specs.Moving.{DoesDeed, StandsAs, with_stop}
+use Rattle.hb_core.specs.Moving.{DoesDeed, StandsAs, with_stop, with_store}
 use Rattle.hb_core.specs.Showing.{RunningCore, ShowsMachine}
 use Rattle.hb_core.specs.Steps.{GetsReady}
 use Rattle.hb_core.specs.Working.{IsWorking, MayStep}
-use Rattle.hb_core.proofs.Running.ForcedShows.{fails, forces, group_waits, nothing_forced, with_store}
+use Rattle.hb_core.proofs.Running.ForcedShows.{fails, forces, group_waits, nothing_forced}
 use Rattle.hb_core.proofs.Running.LineTaken.{deed_done}
 use Rattle.hb_core.proofs.Running.NumbersInHand.{ran_out_number}
 use Rattle.hb_core.proofs.Table.GivenUp.{run_out_is}

@@ -27,8 +27,9 @@ use Rattle.hb_store.specs.declared.stops.FetchStop.TheVariants as fetches
 use Rattle.hb_store.specs.declared.stops.StopWhy.TheVariants as stops
 use Rattle.hb_store.specs.declared.stops.Why.{Why}
 use Rattle.hb_store.specs.declared.stops.Why.TheVariants.{Rule, Level, Extent}
+use Rattle.hb_core.specs.Moving.{with_store}
 use Rattle.hb_core.specs.declared.halts.Halt.TheVariants.{Stops}
-use Rattle.hb_core.proofs.Running.Brought.{KeepsThere, brings_joined, brings_none, brings_numbered, brings_wider, fetch_brings, shows_store, with_store}
+use Rattle.hb_core.proofs.Running.Brought.{KeepsThere, brings_joined, brings_none, brings_numbered, brings_wider, fetch_brings, shows_store}
 use Rattle.hb_core.proofs.Running.Coming.{sound_where_told, told_or_not}
 use Rattle.hb_core.proofs.Running.Looks.{looked_stays}
 use Rattle.hb_core.proofs.Running.StandsElsewhere.{shows_but}

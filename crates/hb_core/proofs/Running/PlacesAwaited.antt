@@ -16,12 +16,12 @@ use Rattle.hb_wal.specs.Log.{mark_of}
 use Rattle.hb_core.specs.declared.outcomes.Outcome.{Outcome}
 use Rattle.hb_core.specs.declared.outcomes.Outcome.TheVariants as outcomes
 use Rattle.hb_core.specs.Machines.{Machine, settled_count}
-use Rattle.hb_core.specs.Moving.{DoesDeed, StandsAs, with_standing, with_stop}
+use Rattle.hb_core.specs.Moving.{DoesDeed, StandsAs, with_standing, with_stop, with_store}
 use Rattle.hb_core.specs.Performing.{latches_held, mode_among}
 use Rattle.hb_core.specs.Showing.{RunningCore, ShowsMachine, number_in_hand}
 use Rattle.hb_core.specs.Steps.{AwaitsPlace}
 use Rattle.hb_core.specs.Working.{MayStep}
-use Rattle.hb_core.proofs.Running.ForcedShows.{fails, forces, group_waits, with_store}
+use Rattle.hb_core.proofs.Running.ForcedShows.{fails, forces, group_waits}
 use Rattle.hb_core.proofs.Running.LineTaken.{deed_done}
 use Rattle.hb_core.proofs.Running.NumbersInHand.{kept_number}
 use Rattle.hb_core.proofs.Running.StandsElsewhere.{stands_as}

@@ -1,7 +1,6 @@
 -- A row for which a core has its pages is done, or memory is refused to it.
 use Rattle.std.proofs.Common.{◌≡◌, ◌⊎◌, inl, inr, ℕ, suc, zero, ◌-◌, List, [], ◌∷◌, length, slice_set, Option, Some, None, IsSome, refl, sym, ap, ◌∙◌, subst}
 use Rattle.std.specs.Option.{MatchOption}
-use Rattle.std.proofs.lemmas.List.{length-map}
 use Rattle.hb_activity.specs.declared.activities.Activity.{Activity}
 use Rattle.hb_activity.specs.declared.activities.Activity.TheVariants as at
 use Rattle.hb_activity.specs.declared.dropping.DropWhy.TheVariants as drops
@@ -15,7 +14,6 @@ use Rattle.hb_disk.specs.Model.{DiskModel}
 use Rattle.hb_latch.specs.Tables.{MayLatch}
 use Rattle.hb_ops.specs.declared.operations.Op.{Op}
 use Rattle.hb_poster.specs.PosterRows.{after_look}
-use Rattle.hb_set.specs.Order.{Entry}
 use Rattle.hb_terms.specs.declared.plans.PostPlan.{PostPlan}
 use Rattle.hb_terms.specs.declared.plans.PostPlan.TheVariants as plans
 use Rattle.hb_core.specs.declared.halts.Halt.TheVariants.{GivesUp}
@@ -33,6 +31,7 @@ use Rattle.hb_core.proofs.Running.Brought.{brings_wider}
 use Rattle.hb_core.proofs.Running.MayPerform.{brings_as_row}
 use Rattle.hb_core.proofs.Running.DeedShows.{deed_shows}
 use Rattle.hb_core.proofs.Running.NumbersInHand.{row_number}
+use Rattle.hb_core.proofs.Running.PlacesAwaited.{same_length as shown_length}
 use Rattle.hb_core.proofs.Running.StandsElsewhere.{shows_but}
 
 set_twice : {X : Type 0} (xs : List X) (n : ℕ) (x y : X) → slice_set (slice_set xs n x) n y ≡ slice_set xs n y
@@ -83,7 +82,7 @@ module _ (d : DiskModel) (c : RunningCore) (m : Machine) (actor : ℕ) (free : O
       (sym (set_twice c.activities (actor - 1) (idle_of (class_for actor)) (m.activity actor))) (shows_but d c (with_pages c m) actor may pages.shows)
 
   pub same_length : length c.order ≡ length m.order
-  same_length = ap (λ (l : List ℕ). length l) (sym pages.shows.order) ∙ length-map m.order (λ (e : Entry). e.line.number)
+  same_length = sym (shown_length d c (with_pages c m) pages.shows)
 
   abbrev Needs : Type 0
   Needs = NeedsNumber (m.activity actor) (wanted_by m actor) (with_pages c m)

@@ -19,13 +19,12 @@ use Rattle.hb_core.specs.declared.outcomes.Outcome.TheVariants as outcomes
 use Rattle.hb_core.specs.GivingUp.{runs_out}
 use Rattle.hb_core.specs.KeptOrder.{StandsOutside}
 use Rattle.hb_core.specs.Machines.{Machine}
-use Rattle.hb_core.specs.Moving.{DoesDeed, with_stop}
+use Rattle.hb_core.specs.Moving.{DoesDeed, with_stop, with_store}
 use Rattle.hb_core.specs.Performing.{MayDo, outcome_of}
 use Rattle.hb_core.specs.Showing.{RunningCore}
 use Rattle.hb_core.specs.Taking.{TakesNextLine, TakesNextPosting}
 use Rattle.hb_core.specs.Touching.{EndsByRead, Touches}
 use Rattle.hb_core.specs.Working.{MayStep}
-use Rattle.hb_core.proofs.Running.ForcedShows.{with_store}
 use Rattle.hb_core.proofs.Running.MadeReady.{no_operation}
 use Rattle.hb_core.proofs.Table.GivenUp.{run_out_is}
 

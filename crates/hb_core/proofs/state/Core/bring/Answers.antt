@@ -2,11 +2,11 @@ use Rattle.std.proofs.Common.{sym, subst, ◌∙◌}
 use Rattle.std.proofs.lemmas.Bool.{false≢true}
 use Rattle.std.proofs.lemmas.Result.{IfErr-weaker}
 use Rattle.hb_store.specs.Seen.{seen_as}
+use Rattle.hb_core.specs.Moving.{with_store}
 use Rattle.hb_core.specs.declared.halts.Halt.{Halt}
 use Rattle.hb_core.specs.CoreSeen.{core_seen}
 use Rattle.hb_core.specs.Working.{Halts}
 use Rattle.hb_core.proofs.state.Core.bring.Goals as goal
-use Rattle.hb_core.proofs.Running.Brought.{with_store}
 use Rattle.hb_core.proofs.Running.Coming.{failed_test, looks_as, none_where, ok_then, passed, refused}
 
 pub returns-in-Ok-clause-comes : goal.returns-in-Ok-clause-comes

@@ -1,7 +1,7 @@
 use Rattle.std.proofs.Common.{◌∙◌}
 use Rattle.std.proofs.lemmas.Result.{IfErr-weaker}
 use Rattle.hb_core.specs.CoreSeen.{core_seen, core_disk}
-use Rattle.hb_core.proofs.Running.OneWanted.{come_want_one, pages_want_one}
+use Rattle.hb_core.proofs.Running.Wants.{want_alike}
 use Rattle.hb_core.proofs.Running.RowsPerformed.{ok_both, order_few, performed_halts, performed_row, refused_halts, row_may_commit, row_may_join, row_may_stand}
 use Rattle.hb_core.proofs.state.Core.do_row.Goals as goal
 
@@ -11,8 +11,9 @@ number-requires-clause-come g c = (c.requires.may.0, c.in_ok-bring.ensures.comes
 pub number-requires-clause-wanted : goal.number-requires-clause-wanted
 number-requires-clause-wanted g c n come =
     let m = c.requires.may.0 in
+    let own = c.in_ok-bring.ensures.comes m c.requires.may.1 c.requires.may.2 in
     c.requires.wanted m c.requires.may.1
-    ∙ come_want_one (g.D.Device.model (core_disk c.bring.new.self)) (core_seen c.bring.new.self) m n c.args.actor c.requires.actor (c.in_ok-bring.ensures.comes m c.requires.may.1 c.requires.may.2) come
+    ∙ want_alike (g.D.Device.model (core_disk c.bring.new.self)) (core_seen c.bring.new.self) m n c.args.actor c.requires.actor own.may.goes_on.kept come.may.goes_on.kept _ _ own.brings come.brings own.shows come.shows
 
 pub decide-requires-clause-pages : goal.decide-requires-clause-pages
 decide-requires-clause-pages g c =
@@ -22,9 +23,9 @@ decide-requires-clause-pages g c =
 pub decide-requires-clause-wanted : goal.decide-requires-clause-wanted
 decide-requires-clause-wanted g c n pages =
     let m = c.requires.may.0 in
+    let own = c.in_ok-free.ensures.numbered m (c.in_ok-bring.ensures.comes m c.requires.may.1 c.requires.may.2) in
     c.requires.wanted m c.requires.may.1
-    ∙ pages_want_one (g.D.Device.model (core_disk c.number.new.self)) (core_seen c.number.new.self) m n c.args.actor c.requires.actor c.in_ok-free.free
-    (c.in_ok-free.ensures.numbered m (c.in_ok-bring.ensures.comes m c.requires.may.1 c.requires.may.2)) pages
+    ∙ want_alike (g.D.Device.model (core_disk c.number.new.self)) (core_seen c.number.new.self) m n c.args.actor c.requires.actor own.may.goes_on.kept pages.may.goes_on.kept _ _ own.brings pages.brings own.shows pages.shows
 
 pub perform-requires-clause-commit : goal.perform-requires-clause-commit
 perform-requires-clause-commit g c =

@@ -1,10 +1,10 @@
 use Rattle.std.proofs.Common.{refl, sym, subst}
 use Rattle.hb_store.specs.Seen.{seen_as}
+use Rattle.hb_core.specs.Moving.{with_store}
 use Rattle.hb_core.specs.declared.halts.Halt.{Halt}
 use Rattle.hb_core.specs.CoreSeen.{core_seen}
 use Rattle.hb_core.specs.Working.{Halts}
 use Rattle.hb_core.proofs.state.Core.number.Goals as goal
-use Rattle.hb_core.proofs.Running.Brought.{with_store}
 use Rattle.hb_core.proofs.Running.Numbered.{head_halts, number_then}
 
 pub returns-in-Ok-clause-numbered : goal.returns-in-Ok-clause-numbered
