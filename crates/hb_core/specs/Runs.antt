@@ -25,7 +25,7 @@ use Rattle.hb_core.specs.MachineLaws.{MachineStaysKept}
 use Rattle.hb_core.specs.Machines.{Files, Machine}
 use Rattle.hb_core.specs.MomentLaws.{ImagesHavePrefixes}
 use Rattle.hb_core.specs.Showing.{RunningCore, ShowsMachine}
-use Rattle.hb_core.specs.Steps.{StepsInTurn}
+use Rattle.hb_core.specs.Steps.{StepsInSequence}
 use Rattle.hb_core.specs.Working.{MayGoOn}
 
 -- The bytes open to a sound file that has the set after a prefix of the order, of at least so many entries; and in it each point has
@@ -83,7 +83,7 @@ pub record CountsFaults (d e : DiskModel) (answers : List Answered) (before afte
 pub record HasRun (d : DiskModel) (m : Machine) (actors : List ℕ) (answers : List Answered) (e : DiskModel) (c : RunningCore) : Type 0 where
   pub new : Machine
   pub may : All MayLatch actors
-  pub steps : StepsInTurn actors m new
+  pub steps : StepsInSequence actors m new
   pub shows : ShowsMachine e c new
   pub goes_on : MayGoOn new
   pub came : List Answered

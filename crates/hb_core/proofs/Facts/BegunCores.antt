@@ -135,7 +135,7 @@ module _ (lines : List Line) (store : StoreState) (may : MayBegin lines store) (
     no_job = refl;
     no_order = refl;
     runs = refl;
-    store = record { stands = may.stands; log = may.new.log_is; none_imaged = may.new.none_imaged; runs = may.new.running; pages = λ id page is. absurd (no_page id page is) };
+    store = record { stands = may.stands; log = may.new.log_is; none_in_log = may.new.none_in_log; runs = may.new.running; pages = λ id page is. absurd (no_page id page is) };
   }
 
   -- no line lies behind a session

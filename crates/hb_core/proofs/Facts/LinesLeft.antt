@@ -8,7 +8,7 @@ use Rattle.hb_core.proofs.Memory.Moments.{answers_are_timed}
 use Rattle.hb_core.proofs.Orders.NextLines.{IsNextOf, above_all, next_is, now_answered, unanswered_same}
 use Rattle.hb_core.proofs.Table.StepLines.{LinesAfter, PlaceSettled, lines_after}
 use Rattle.hb_core.proofs.Table.Ways.{order_grows}
-use Rattle.hb_core.specs.KeptTurns.{LinesInTurn, awaited_number}
+use Rattle.hb_core.specs.KeptSequence.{LinesInSequence, awaited_number}
 use Rattle.hb_core.specs.Machines.{Machine}
 use Rattle.hb_core.specs.Performing.{given_by}
 use Rattle.hb_core.specs.Runs.{left_count}
@@ -72,7 +72,7 @@ none_more given left before none same = omega (arith, none, same)
 one_more : (given left after before : ℕ) → given ≡ 1 → left ≡ after → 1 + after ≡ before → given + left ≡ before
 one_more given left after before one is less = omega (arith, one, is, less)
 
-module _ (m : Machine) (actor : ℕ) (outcome : Outcome) (new : Machine) (turn : LinesInTurn m) (step : StepsTo m actor outcome new) where
+module _ (m : Machine) (actor : ℕ) (outcome : Outcome) (new : Machine) (turn : LinesInSequence m) (step : StepsTo m actor outcome new) where
   abbrev given : List Answered
   given = given_by outcome new.clock
 

@@ -6,7 +6,7 @@ use Rattle.hb_core.specs.Acting.{MeetsBadPage}
 use Rattle.hb_core.specs.Forcing.{FailsToWrite, ForcesFirst, StaysSo}
 use Rattle.hb_core.specs.Machines.{Machine}
 use Rattle.hb_core.specs.Performing.{MayDo, Performs}
-use Rattle.hb_core.specs.Steps.{StepsInTurn, StepsTo, Works}
+use Rattle.hb_core.specs.Steps.{StepsInSequence, StepsTo, Works}
 use Rattle.hb_core.specs.declared.outcomes.Outcome.{Outcome}
 use Rattle.hb_core.specs.declared.outcomes.Outcome.TheVariants as outcomes
 use Rattle.hb_ops.specs.declared.operations.Op.{Op}
@@ -84,7 +84,7 @@ step_tells m actor outcome new step =
     (worked m actor outcome new)
     step
 
-pub log_stays : (actors : List ℕ) (m new : Machine) → StepsInTurn actors m new → KeepsLogPlace m.store.log new.store.log
+pub log_stays : (actors : List ℕ) (m new : Machine) → StepsInSequence actors m new → KeepsLogPlace m.store.log new.store.log
 log_stays [] m new is = same_place m.store.log new.store.log (ap (λ (x : Machine). x.store.log) is)
 log_stays (actor ∷ rest) m new (outcome, next, step, steps) =
     let first = (step_tells m actor outcome next step).log in

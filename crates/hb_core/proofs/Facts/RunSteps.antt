@@ -21,7 +21,7 @@ use Rattle.hb_core.specs.MomentLaws.{ImagesHavePrefixes}
 use Rattle.hb_core.specs.Performing.{given_by}
 use Rattle.hb_core.specs.Runs.{AreAnswers, CountsFaults, CrashesTo, HasReadFault, HasRun, HoldsSince, IsPrefixImage, RunningLaws, left_count}
 use Rattle.hb_core.specs.Showing.{RunningCore, ShowsMachine}
-use Rattle.hb_core.specs.Steps.{StepsInTurn, StepsTo}
+use Rattle.hb_core.specs.Steps.{StepsInSequence, StepsTo}
 use Rattle.hb_core.specs.SteppingLaws.{HasNoSearches, IsBetween}
 use Rattle.hb_core.specs.Touching.{Touches}
 use Rattle.hb_core.specs.Working.{MayGoOn, MayStep}
@@ -81,7 +81,7 @@ run_begins laws d m c disk may = record {
 
 -- ---- a step more
 
-pub one_more_step : (actors : List ℕ) (m mid next : Machine) (actor : ℕ) (outcome : Outcome) → StepsInTurn actors m mid → StepsTo mid actor outcome next → StepsInTurn (actors ++ actor ∷ []) m next
+pub one_more_step : (actors : List ℕ) (m mid next : Machine) (actor : ℕ) (outcome : Outcome) → StepsInSequence actors m mid → StepsTo mid actor outcome next → StepsInSequence (actors ++ actor ∷ []) m next
 one_more_step [] m mid next actor outcome is step = (outcome, next, subst (λ (x : Machine). StepsTo x actor outcome next) is step, refl)
 one_more_step (first ∷ rest) m mid next actor outcome (said, one, step, steps) last = (said, one, step, one_more_step rest one mid next actor outcome steps last)
 
@@ -133,7 +133,7 @@ module _ (laws : RunningLaws) (d : DiskModel) (m : Machine) (actors : List ℕ) 
   all_may : All MayLatch (actors ++ actor ∷ [])
   all_may = All-append MayLatch actors (actor ∷ []) run.may (All-alone MayLatch actor went.may)
 
-  all_steps : StepsInTurn (actors ++ actor ∷ []) m next
+  all_steps : StepsInSequence (actors ++ actor ∷ []) m next
   all_steps = one_more_step actors m mid next actor outcome run.steps went.step
 
   -- the core's log lies where that of the first machine does
@@ -213,7 +213,7 @@ module _ (laws : RunningLaws) (d : DiskModel) (m : Machine) (actors : List ℕ) 
     came = run.came ++ given_by outcome next.clock;
     answered = came_next;
     answers_are = answers_more d.told f.told answers run.came given outcome f.clock next.clock run.answers_are went.given_is tells_last same_clock;
-    left = left_more run.came (given_by outcome next.clock) (left_count next) (left_count mid) (left_count m) run.left (left_after mid actor outcome next run.goes_on.kept.lines_in_turn went.step);
+    left = left_more run.came (given_by outcome next.clock) (left_count next) (left_count mid) (left_count m) run.left (left_after mid actor outcome next run.goes_on.kept.lines_in_sequence went.step);
     faults = faults_more d e f old new m mid next outcome answers given f.clock run.faults (step_tells mid actor outcome next went.step).stop run.shows.stop went.given_is.alike went.touches;
     in_log = in_log;
     crashes = crashes;

@@ -54,7 +54,7 @@ any_brings m may fetched brings = record { rest = brings.rest; stays = brings.st
 -- the line in hand is no search
 pub no_search_in_hand : (m : Machine) (actor : ℕ) (line : Line) → MachineKeeps m → HasNoSearches m → line_in_hand (m.activity actor) ≡ Some line → WantsBoxes line.command → ⊥
 no_search_in_hand m actor line keeps none is =
-    let next = at_value (line_in_hand (m.activity actor)) _ line is (keeps.lines_in_turn.in_hand actor) in
+    let next = at_value (line_in_hand (m.activity actor)) _ line is (keeps.lines_in_sequence.in_hand actor) in
     All-contains (λ (l : Line). WantsBoxes l.command → ⊥) m.lines line none (next_is actor m.answered m.lines line next).among
 
 -- any other command has a point to which it walks
@@ -140,7 +140,7 @@ module _ (d : DiskModel) (c : RunningCore) (m : Machine) (actor : ℕ) (free : O
   meta = has.brings.rest.meta
 
   few : c.store.meta.live ≤ c.store.meta.pages
-  few = subst (λ (m : Meta). m.live ≤ m.pages) (sym meta) keeps.marks_in_place.live
+  few = subst (λ (m : Meta). m.live ≤ m.pages) (sym meta) keeps.meta_within_limits.live
 
   -- the page at hand
   pub record HasWanted : Type 0 where
@@ -170,7 +170,7 @@ module _ (d : DiskModel) (c : RunningCore) (m : Machine) (actor : ℕ) (free : O
   next_is_given number is = (at_number number is).1
 
   layout : IsLayout c.store.meta
-  layout = subst IsLayout (sym meta) keeps.marks_in_place.layout
+  layout = subst IsLayout (sym meta) keeps.meta_within_limits.layout
 
   pub made : (id : ℕ) (page : LivePage) → live_here c.store id ≡ Some page → FitsFile c.store.meta page
   made id page live = subst (λ (m : Meta). FitsFile m page) (sym meta) (pages_at_hand_fit m c.store id page keeps brings live).1

@@ -15,7 +15,7 @@ use Rattle.hb_activity.specs.Classes.{Class, Sessions, Posters, Consolidators, F
 use Rattle.hb_point.specs.SessionRows.{is_answered}
 use Rattle.hb_store.specs.States.{StoreState}
 use Rattle.hb_core.specs.KeptFits.{class_for}
-use Rattle.hb_core.specs.KeptTurns.{HasAnswer}
+use Rattle.hb_core.specs.KeptSequence.{HasAnswer}
 use Rattle.hb_core.specs.Machines.{Machine}
 use Rattle.hb_core.specs.Showing.{HasTurn, ShowsFiles, ShowsMachine, number_in_hand}
 use Rattle.hb_core.specs.SteppingLaws.{IsBegun}

@@ -107,13 +107,13 @@ module _ (m : Machine) (may might : ℕ → Type 0) (st then : StoreState) (firs
     turn = second.rest.turn ∙ first.rest.turn;
     meta = second.rest.meta ∙ first.rest.meta;
     log = second.rest.log ∙ first.rest.log;
-    imaged = second.rest.imaged ∙ first.rest.imaged;
+    in_log = second.rest.in_log ∙ first.rest.in_log;
     stopped = second.rest.stopped ∙ first.rest.stopped;
   }
 
   still_must : (id : ℕ) → MustStay m id → MustStay (with_disk st m.files m.clock m) id
   still_must id (inl held) = inl held
-  still_must id (inr imaged) = inr (ap (λ (s : set.FinSet nat_cmp). set.contains s id) first.rest.imaged ∙ imaged)
+  still_must id (inr in_log) = inr (ap (λ (s : set.FinSet nat_cmp). set.contains s id) first.rest.in_log ∙ in_log)
 
   some_then : (id : ℕ) → in_memory st id ≡ in_memory m.store id → IsSome (in_memory m.store id) → IsSome (in_memory st id)
   some_then id same there = subst (λ (o : Option Page). IsSome o) (sym same) there

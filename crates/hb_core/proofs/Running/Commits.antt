@@ -122,7 +122,7 @@ module _ (d : DiskModel) (c : RunningCore) (m : Machine) (actor : ℕ) (may : Ma
         let its : ShowsFiles d (with_pages c m) = shows.tells kept.disk.told in
         let sound : HasSoundFile m its.files = at_value m.files (HasSoundFile m) its.files its.told work.goes_on.sound in
         let holds : FilesHold c.store its.files = brought_shown m its.files AnyPage c.store its.told brings (files_hold m its.files sound) in
-        let licensed : IsLicensed (current_file its.files) op = licensed_in_file c.store (current_file its.files) (brought m AnyPage c.store brings (keeps_pages m keeps.marks_in_place keeps.pages_of_file)) (shows_file c.store its.files holds) op here.licensed in
+        let licensed : IsLicensed (current_file its.files) op = licensed_in_file c.store (current_file its.files) (brought m AnyPage c.store brings (keeps_pages m keeps.meta_within_limits keeps.pages_of_file)) (shows_file c.store its.files holds) op here.licensed in
         subst (λ (file : FileState). IsLicensed (last_of file later) op) (one_durable its.files.durable durable its.files.later later its.kept kept)
         (subst (λ (files : List FileState). IsLicensed (last_of its.files.durable files) op) (one_later its.files.durable durable its.files.later later its.kept kept) licensed)
 

@@ -11,7 +11,7 @@ use Rattle.hb_lemmas.proofs.Booleans.{at_other}
 use Rattle.hb_ops.specs.declared.operations.Op.{Op}
 use Rattle.hb_set.specs.Order.{Entry}
 use Rattle.hb_core.specs.declared.outcomes.Outcome.{Outcome}
-use Rattle.hb_core.specs.KeptTurns.{LinesInTurn}
+use Rattle.hb_core.specs.KeptSequence.{LinesInSequence}
 use Rattle.hb_core.specs.Machines.{Files, Machine, if_some, with_activity}
 use Rattle.hb_core.specs.Moving.{DoesDeed, KeepsFilesBy, later_with, numbers_joined, with_standing}
 use Rattle.hb_core.specs.Performing.{ChangesQueue, MayDo, Performs, Relatches, files_after, given_by, latches_held, outcome_of}
@@ -84,7 +84,7 @@ module _ (d : DiskModel) (c after : RunningCore) (m : Machine) (actor : ℕ) (de
   nobody_new : (other : ℕ) → ¬ (MayLatch other) → with_activity actor deed.next m.activity other ≡ at.SessionIdle
   nobody_new other none = at_other other actor deed.next (m.activity other) (λ same. none (subst MayLatch (sym same) may)) ∙ shows.nobody_else other none
 
-  pub deed_shows : LinesInTurn m → NumberFate (m.activity actor) deed → KeepsFilesBy deed.op d c.store d after.store → (new : Machine) × Performs m c.store actor deed outcome new × ShowsMachine d after new
+  pub deed_shows : LinesInSequence m → NumberFate (m.activity actor) deed → KeepsFilesBy deed.op d c.store d after.store → (new : Machine) × Performs m c.store actor deed outcome new × ShowsMachine d after new
   deed_shows turn fate keeps = (
     new,
     performed,

@@ -99,7 +99,7 @@ module _ (d : DiskModel) (c after : RunningCore) (m : Machine) (actor behind : �
     stands_there = ap (λ (l : List Line). slice_get (drop behind l) place) step.shows.lines ∙ takes.there
 
     is_next : next_line actor m.answered m.lines ≡ Some line
-    is_next = next_ahead m.lines m.answered actor behind turn place line step.goes_on.kept.lines_in_turn.rising skipped stands_there takes.own
+    is_next = next_ahead m.lines m.answered actor behind turn place line step.goes_on.kept.lines_in_sequence.rising skipped stands_there takes.own
 
     boxes : boxes_ahead line.command ≡ []
     boxes = no_boxes line.command (All-contains (λ (l : Line). WantsBoxes l.command → ⊥) m.lines line step.goes_on.searches (next_is actor m.answered m.lines line is_next).among)
@@ -129,7 +129,7 @@ module _ (d : DiskModel) (c after : RunningCore) (m : Machine) (actor behind : �
     own_turn : (n : ℕ) → behind + place + 1 ≡ n → HasTurn (taken after m actor line) actor n
     own_turn n is = has_turn (taken after m actor line) actor n
         (subst (λ (o : Option ℕ). TurnAt m.lines m.answered o actor n) (sym (ap (λ (b : Bool). number_in_hand (cond b (at.SessionWalk line None [] []) (m.activity actor))) (eq-eqb actor actor refl)))
-        (subst (λ (k : ℕ). TurnAt m.lines m.answered (Some line.number) actor k) is (turn_with m.lines m.answered actor behind turn place line step.goes_on.kept.lines_in_turn.rising skipped stands_there takes.own)))
+        (subst (λ (k : ℕ). TurnAt m.lines m.answered (Some line.number) actor k) is (turn_with m.lines m.answered actor behind turn place line step.goes_on.kept.lines_in_sequence.rising skipped stands_there takes.own)))
 
     other_turn : (other n : ℕ) → 1 ≤ other → other ≤ 16 → other ≢ actor → slice_get c.behind (other - 1) ≡ Some n → HasTurn (taken after m actor line) other n
     other_turn other n low high off is = has_turn (taken after m actor line) other n
@@ -207,7 +207,7 @@ module _ (d : DiskModel) (c after : RunningCore) (m : Machine) (actor : ℕ) (ma
   pub deed_done : (deed : Deed) (outcome : Outcome) → deed.op ≡ None → NumberFate (m.activity actor) deed → DoesDeed actor deed outcome c after → (new : Machine) × Performs m m.store actor deed outcome new × ShowsMachine d after new
   deed_done deed outcome none fate does =
       subst (λ (s : StoreState). (new : Machine) × Performs m s actor deed outcome new × ShowsMachine d after new) (sym step.shows.store)
-      (deed_shows d c after m actor deed outcome may (shows_pages d c m actor may step.shows) does step.goes_on.kept.lines_in_turn fate
+      (deed_shows d c after m actor deed outcome may (shows_pages d c m actor may step.shows) does step.goes_on.kept.lines_in_sequence fate
       (keeps_none d c.store after.store (length c.order) deed.op none does.store))
 
   pub posting_taken : (outcome : Outcome) → m.activity actor ≡ at.PosterIdle → TakesNextPosting actor outcome c after → (new : Machine) × TakesPosting m actor outcome new × ShowsMachine d after new

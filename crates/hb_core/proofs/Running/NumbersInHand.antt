@@ -14,11 +14,11 @@ use Rattle.hb_activity.specs.declared.wanting.Wanted.{Wanted}
 use Rattle.hb_activity.specs.Classes.{line_in_hand}
 use Rattle.hb_activity.specs.Deeds.{Answers, Deed, answers_now, takes_job}
 use Rattle.hb_core.proofs.Orders.NextLines.{next_is}
-use Rattle.hb_core.proofs.Orders.Turns.{some_such}
+use Rattle.hb_core.proofs.Orders.Sequences.{some_such}
 use Rattle.hb_core.proofs.Table.LineFates.{LineFate, Waits, fate_given_up, fate_ran_out, fate_row}
 use Rattle.hb_core.proofs.Table.StepKinds.{IsQuiet}
 use Rattle.hb_core.specs.GivingUp.{gives_up, runs_out}
-use Rattle.hb_core.specs.KeptTurns.{LinesInTurn, awaited_number}
+use Rattle.hb_core.specs.KeptSequence.{LinesInSequence, awaited_number}
 use Rattle.hb_core.specs.Machines.{Machine, with_disk}
 use Rattle.hb_core.specs.Performing.{outcome_of}
 use Rattle.hb_core.specs.Rows.{Row}
@@ -96,7 +96,7 @@ own_line session answered lines (at.SessionPut line source fresh) hand await num
 own_line session answered lines (at.SessionAwait own reply place) hand await number is = some_such (next_line session answered lines) number (subst (λ (n : ℕ). IsSomeAnd (next_line session answered lines) (λ line. line.number ≡ n)) (same_Some own number is) await)
 own_line session answered lines other hand await number is = let never : None ≡ Some number = is in cc
 
-pub line_of_number : (m : Machine) (actor : ℕ) → LinesInTurn m → (number : ℕ) → number_in_hand (m.activity actor) ≡ Some number → (line : Line) × Contains m.lines line × (line.session ≡ actor) × (line.number ≡ number)
+pub line_of_number : (m : Machine) (actor : ℕ) → LinesInSequence m → (number : ℕ) → number_in_hand (m.activity actor) ≡ Some number → (line : Line) × Contains m.lines line × (line.session ≡ actor) × (line.number ≡ number)
 line_of_number m actor turn number is =
     let own = own_line actor m.answered m.lines (m.activity actor) (turn.in_hand actor) (turn.awaited actor) number is in
     let next = next_is actor m.answered m.lines own.0 own.1 in

@@ -16,7 +16,7 @@ use Rattle.hb_core.proofs.Orders.ShortOrder.{next_not_placed, no_more_than}
 use Rattle.hb_core.proofs.Table.LineFates.{LineFate, fate_row}
 use Rattle.hb_core.specs.Asking.{wanted_by}
 use Rattle.hb_core.specs.KeptMachine.{MachineKeeps}
-use Rattle.hb_core.specs.KeptTurns.{awaited_number}
+use Rattle.hb_core.specs.KeptSequence.{awaited_number}
 use Rattle.hb_core.specs.Machines.{Machine, with_disk}
 use Rattle.hb_core.specs.Rows.{Row}
 
@@ -30,10 +30,10 @@ module _ (m : Machine) (actor : ℕ) (keeps : MachineKeeps m) where
   room_for line reply is = omega (arith, all)
     where
       next : next_line actor m.answered m.lines ≡ Some line
-      next = at_value (line_in_hand (m.activity actor)) (λ (line : Line). next_line actor m.answered m.lines ≡ Some line) line is (keeps.lines_in_turn.in_hand actor)
+      next = at_value (line_in_hand (m.activity actor)) (λ (line : Line). next_line actor m.answered m.lines ≡ Some line) line is (keeps.lines_in_sequence.in_hand actor)
 
       others : All (λ (e : Entry). e.line.number ≢ line.number) m.order
-      others = next_not_placed m actor line keeps.lines_in_turn next (none_awaited (m.activity actor) line is)
+      others = next_not_placed m actor line keeps.lines_in_sequence next (none_awaited (m.activity actor) line is)
 
       once : AllPairs (λ (e : Entry) (f : Entry). e.line.number ≢ f.line.number) (record { line = line; reply = reply } ∷ m.order)
       once zero zero d low high = absurd (omega (arith, low))
@@ -43,7 +43,7 @@ module _ (m : Machine) (actor : ℕ) (keeps : MachineKeeps m) where
 
       among : All (λ (e : Entry). Contains m.lines e.line) (record { line = line; reply = reply } ∷ m.order)
       among zero d lt = (next_is actor m.answered m.lines line next).among
-      among (suc k) d lt = (keeps.lines_in_turn.placed k d (omega (arith, lt))).among
+      among (suc k) d lt = (keeps.lines_in_sequence.placed k d (omega (arith, lt))).among
 
       all : suc (length m.order) ≤ length m.lines
       all = no_more_than (record { line = line; reply = reply } ∷ m.order) m.lines once among

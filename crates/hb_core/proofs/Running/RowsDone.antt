@@ -109,7 +109,7 @@ module _ (d : DiskModel) (c : RunningCore) (m : Machine) (actor : ℕ) (free : O
     -- its deed is done
     pub row_done : (outcome : Outcome) (after : RunningCore) → DoesDeed actor deed outcome idled after → KeepsFilesBy next.op d c.store d after.store → (new : Machine) × DoesRow m actor outcome new × ShowsMachine d after new
     row_done outcome after does keeps =
-        let done = deed_shows d idled after m actor deed outcome may shows_idled does pages.may.goes_on.kept.lines_in_turn
+        let done = deed_shows d idled after m actor deed outcome may shows_idled does pages.may.goes_on.kept.lines_in_sequence
         (row_number m c.store (m.activity actor) (wanted_by m actor) deed pages.may.working row) keeps in
         (done.0, record { fetched = c.store; deed = deed; brings = brings_as_row d c m actor free may pages next row; row = row; performs = done.1 }, done.2)
 

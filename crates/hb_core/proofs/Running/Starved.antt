@@ -42,7 +42,7 @@ module _ (d : DiskModel) (c : RunningCore) (m : Machine) (actor : ℕ) (free : O
   keeps = has.may.goes_on.kept
 
   pages_kept : KeepsPages c.store
-  pages_kept = brought m AnyPage c.store (brings d c m actor free may has) (keeps_pages m keeps.marks_in_place keeps.pages_of_file)
+  pages_kept = brought m AnyPage c.store (brings d c m actor free may has) (keeps_pages m keeps.meta_within_limits keeps.pages_of_file)
 
   abbrev Takes : Activity → Type 0
   Takes activity = (deed : Deed) × Row activity (wanted_by m actor) (with_pages c m) deed × TakesMemory activity deed

@@ -16,7 +16,7 @@ use Rattle.hb_activity.specs.Classes.{line_in_hand}
 use Rattle.hb_point.specs.SessionRows.{is_answered, next_line}
 use Rattle.hb_core.specs.KeptFits.{LineFits}
 use Rattle.hb_core.specs.KeptMachine.{MachineKeeps}
-use Rattle.hb_core.specs.KeptTurns.{HasAnswer, awaited_number}
+use Rattle.hb_core.specs.KeptSequence.{HasAnswer, awaited_number}
 use Rattle.hb_core.specs.Machines.{Machine}
 use Rattle.hb_core.specs.Moving.{StandsAs}
 use Rattle.hb_core.specs.Showing.{IsDealtWith, IsToCome, RunningCore, ShowsMachine, number_in_hand}
@@ -88,7 +88,7 @@ pub come_to : (d : DiskModel) (c : RunningCore) (m : Machine) (place from : ℕ)
 come_to d c m place from line hand b shows kept low high there same before hand_is tells =
     let turn = shows.turns line.session (get_or c.behind (from - 1) 0) low high (far_so c.behind line.session from shows.sessions same low high) in
     let stands = hand_is (m.activity line.session) (shows.activities line.session (record { from_1 = low; to_19 = omega (arith, high) })) in
-    let turns = kept.lines_in_turn in
+    let turns = kept.lines_in_sequence in
     by b tells stands (in_hand_open line.session m.answered m.lines (m.activity line.session) line.number (turns.in_hand line.session) (turns.awaited line.session))
     (in_front (IsDealtWith m line.session) m.lines (get_or c.behind (from - 1) 0) place line turn.front before there refl)
   where

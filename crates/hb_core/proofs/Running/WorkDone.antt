@@ -101,7 +101,7 @@ module _ {D : Type 0} (model : D → DiskModel) (x y : D) (c after : RunningCore
       let deed : Deed = gives_up why (m.activity actor) in
       let done : DoesDeed actor deed outcome c after = does (m.activity actor) work.working (work.goes_on.kept.classes actor) is in
       let none : deed.op ≡ None = no_operation why (idle_of (class_of (m.activity actor))) (hand_of (m.activity actor)) in
-      let shown = deed_shows (model x) c after m actor deed outcome may halts.shows done work.goes_on.kept.lines_in_turn (given_up_number m why (m.activity actor) work.working)
+      let shown = deed_shows (model x) c after m actor deed outcome may halts.shows done work.goes_on.kept.lines_in_sequence (given_up_number m why (m.activity actor) work.working)
       (keeps_none (model x) c.store after.store _ deed.op none done.store) in (
         shown.0,
         inr (inr (work.free, work.ready, inr (inl (record { why = why; fetched = c.store; brings = halts.brings; cause = halts.cause; performs = shown.1 })))),
