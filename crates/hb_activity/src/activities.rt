@@ -5,7 +5,7 @@ use hb_space::{Areas, Records};
 /// Where an actor stands between two steps. `held`, `source`, `fresh` and `parent` are pages that it
 /// has latched. `child`, `keep` and `gone` are pages that it knows from the parent; `keep` is
 /// latched too, where the activity says so.
-#[derive(Debug, Drop)]
+#[derive(Debug, Default, Drop)]
 pub enum Activity {
     /// A session without a command.
     SessionIdle,
@@ -105,5 +105,6 @@ pub enum Activity {
         gone: u32,
     },
     /// The flusher, which has no state.
+    #[default]
     Flusher,
 }

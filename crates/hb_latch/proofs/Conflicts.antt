@@ -189,6 +189,14 @@ none_named hs actor page mode rise is =
       | Some h ↦ λ found is. cc
     ] refl is
 
+-- and where it can, nobody is
+pub named_nobody : (hs : List Held) (actor page : ℕ) (mode : Mode) → KeysRise hs → IsGrantable (table_of hs) actor page mode → named actor page mode hs ≡ None
+named_nobody hs actor page mode rise grantable =
+    elim (find (conflicts actor page mode) hs) as (λ o. find (conflicts actor page mode) hs ≡ o → option_map (λ (h : Held). h.actor) o ≡ None) [
+      | None ↦ λ found. refl
+      | Some h ↦ λ found. absurd (refused hs actor page mode h rise found grantable)
+    ] refl
+
 -- who isn't someone is no one
 pub no_one : (r o : Option ℕ) → r ≡ o → ((x : ℕ) → r ≡ Some x → ⊥) → None ≡ o
 no_one None o is none = is

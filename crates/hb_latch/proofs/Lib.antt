@@ -1,6 +1,7 @@
 pub mod KeyOrder
 pub mod KeyPlaces
 pub mod TableViews
+pub mod Retained
 pub mod Conflicts
 pub mod Shares
 pub mod KeptEdits

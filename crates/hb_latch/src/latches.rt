@@ -1,4 +1,4 @@
-ghost use Rattle.std.specs.Prelude.{◌≡◌, ◌<◌, ◌≤◌, ◌↔◌, None, Some, IsOk, IsSome, IfOk, IfErr, OnOk, OnErr, option_map, find, count_by, ◌==◌, length, slice_set};
+ghost use Rattle.std.specs.Prelude.{◌≡◌, ◌<◌, ◌≤◌, ◌↔◌, None, Some, IsOk, IsSome, IfOk, IfErr, IfSome, OnOk, OnErr, option_map, find, count_by, if◌then◌else◌, ℕ, ◌==◌, length, slice_set};
 ghost use Rattle.std.specs.FinMap as map;
 ghost use Rattle.hb_latch.specs.declared.modes.Mode.TheVariants.{Update, Exclusive};
 ghost use Rattle.std.specs.FinMap.{find as lookup};
@@ -105,6 +105,24 @@ impl Latches {
     {
         let place = place_of(self.held.as_slice(), actor, page);
         self.held.remove(place);
+    }
+
+    /// Gives back all latches of the actor.
+    pub fn release_all(&mut self, actor: Actor)
+        ensures left { (other page : ℕ) → mode_at self.new other page
+            ≡ (if other == actor then None else mode_at self.old other page) }
+        ensures none { latches_of self.new actor ≡ 0 }
+    {
+        self.held.retain(|held| held.actor != actor);
+    }
+
+    /// The least other actor whose latch on the page doesn't go beside the mode. `None` where there is none: then the actor may
+    /// have the page so.
+    pub fn in_the_way(&self, actor: Actor, page: u32, mode: Mode) -> Option<Actor>
+        ensures free { (result ≡ None) ↔ IsGrantable self.now actor page mode }
+        ensures least { IfSome result (IsLeastInTheWay self.now actor page mode) }
+    {
+        in_the_way(self.held.as_slice(), actor, page, mode)
     }
 
     /// The mode in which the actor holds the page, if it does.
