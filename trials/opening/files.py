@@ -2,7 +2,7 @@
 
 A file has a superblock, a log of frames, and the places of its pages. It is made by random operations
 of all five kinds: some before the turn, whose pages stand in their places, and some in its log, with
-the images that a writer gives. What stands in the places of pages that the log touches is free.
+the page images that a writer gives. What stands in the places of pages that the log touches is free.
 """
 import struct
 
@@ -201,7 +201,7 @@ def step(rng, meta, pages):
 
 
 def free_one(meta, pages):
-    """A page at the high mark that was in use once, and isn't any more."""
+    """The highest page, that was in use once, and isn't any more."""
     if meta["high"] < meta["pages"]:
         meta["high"] += 1
         pages[meta["high"]] = ("free", meta["free"])
@@ -236,8 +236,8 @@ def a_beginning(rng):
     return meta, pages
 
 
-def more_images(rng, images, pages, most):
-    """Images that no writer would give, of pages as they are."""
+def more_page_images(rng, images, pages, most):
+    """Page images that no writer would give, of pages as they are."""
     numbers = {number for number, _ in images}
     for number in rng.sample(sorted(pages), min(len(pages), most)):
         if number not in numbers and len(images) < 3:
@@ -255,9 +255,9 @@ def a_log(rng, meta, pages, most, full):
         reads = [] if op[0] == "grow" else [op[1]]
         images = [(i, whole_page(pages[i])) for i in reads if i not in known]
         if full:
-            more_images(rng, images, pages, 3)
+            more_page_images(rng, images, pages, 3)
         elif rng.random() < 0.05:
-            more_images(rng, images, pages, 1)
+            more_page_images(rng, images, pages, 1)
         known.update(reads, made, (number for number, _ in images))
         meta = said
         pages.update(made)

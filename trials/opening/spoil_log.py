@@ -1,6 +1,6 @@
-"""Logs spoiled: gates and lengths of frames, bytes of groups, operations, images, and their order."""
+"""Logs spoiled: gates and lengths of frames, bytes of groups, operations, page images, and their order."""
 from reading import OPEN, log_at, whole_page
-from files import OPS, fresh_page, group_bytes, live, more_images, near, noise, some_cuts, spelled_or_none
+from files import OPS, fresh_page, group_bytes, live, more_page_images, near, noise, some_cuts, spelled_or_none
 from model import TOP, normal, whole
 from random_pages import a_box, break_page, data_page, parts_of, point_in, tree_of, value
 
@@ -27,7 +27,7 @@ def frame_length(rng, file, meta, pages):
 
 
 def log_byte(rng, file, meta, pages):
-    """A byte of a payload, mostly in the front of its first image or in its operation."""
+    """A byte of a payload, mostly in the front of its first page image or in its operation."""
     which = a_frame(rng, file)
     if which is not None:
         at, length = file.frame_places()[which]
@@ -134,8 +134,8 @@ def group_op(rng, file, meta, pages):
         file.frames[which][at] = (images, op_spoiled(rng, op, file.meta["k"]))
 
 
-def image_spoiled(rng, images, at, meta, pages):
-    """Images with one that is another page, or has another number."""
+def page_image_spoiled(rng, images, at, meta, pages):
+    """Page images with one that is another page, or has another number."""
     number, text = images[at]
     kind = rng.randrange(5)
     if kind == 0:
@@ -151,7 +151,7 @@ def image_spoiled(rng, images, at, meta, pages):
     return images[:at] + [(number, text)] + images[at + 1:]
 
 
-def group_images(rng, file, meta, pages):
+def group_page_images(rng, file, meta, pages):
     place = a_group(rng, file)
     if not place:
         return
@@ -160,14 +160,14 @@ def group_images(rng, file, meta, pages):
     images = list(images)
     kind = rng.randrange(6)
     if not images or kind == 0:
-        more_images(rng, images, pages, rng.randint(1, 3))
+        more_page_images(rng, images, pages, rng.randint(1, 3))
     elif kind == 1:
         del images[rng.randrange(len(images))]
     elif kind == 2:
         images.append(rng.choice((images[0], (near(rng, images[0][0]), images[0][1]))))
         images = images[:3]
     else:
-        images = image_spoiled(rng, images, rng.randrange(len(images)), meta, pages)
+        images = page_image_spoiled(rng, images, rng.randrange(len(images)), meta, pages)
     file.frames[which][at] = (images, op)
 
 

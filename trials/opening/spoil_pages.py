@@ -1,4 +1,4 @@
-"""Pages spoiled, in their places or in images, and files that are too short or have other bytes where none are read."""
+"""Pages spoiled, in their places or in page images, and files that are too short or have other bytes where none are read."""
 from reading import PAGE, page_at, size_of, whole_page
 from files import live, noise, spelled_or_none
 from model import TOP, leaves, whole, with_part, within

@@ -8,11 +8,11 @@ SPOTS = dict(
     gate=(0, 1), version=(9, 1), turn=(10, 1), k=(11, 1), height=(12, 1), pages=(13, 4), log=(17, 4),
     dcap=(21, 2), icap=(23, 2), root=(25, 4), high=(29, 4), live=(33, 4), free=(37, 4),
 )
-MARKS = ("root", "high", "live", "free", "height")
+NUMBERS = ("root", "high", "live", "free", "height")
 
 
 def super_field(rng, file, meta, pages):
-    name = rng.choice(tuple(SPOTS) + MARKS)
+    name = rng.choice(tuple(SPOTS) + NUMBERS)
     at, width = SPOTS[name]
     now = file.meta.get(name, {"gate": OPEN, "version": 1, "turn": file.turn}.get(name))
     new = near(rng, now, width)
@@ -21,9 +21,9 @@ def super_field(rng, file, meta, pages):
     file.writes.append((PAGE * ((file.turn + (rng.random() < 0.1)) % 2) + at, new.to_bytes(width, "big")))
 
 
-def super_marks(rng, file, meta, pages):
+def super_numbers(rng, file, meta, pages):
     """A superblock that says something else of the file, within its limits."""
-    name = rng.choice(MARKS + ("pages", "dcap", "icap", "log"))
+    name = rng.choice(NUMBERS + ("pages", "dcap", "icap", "log"))
     low, high = LIMITS.get(name, (0, 2 ** 32 - 1))
     file.meta[name] = min(max(near(rng, file.meta[name]), low), high)
     file.meta["pages"], file.meta["log"] = min(file.meta["pages"], 12), min(file.meta["log"], 80000)

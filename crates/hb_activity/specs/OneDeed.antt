@@ -11,7 +11,7 @@ pub record IsOnly {X : Type 0} (row : X → Type 0) (one : X) : Type 0 where
   pub only : (other : X) → row other → other ≡ one
 
 -- The number that a page takes that is made is the one that the file gives: the head of the free chain, or where that has
--- none the one behind the high mark.
+-- none the one behind the highest page.
 pub record NumbersAreGiven (s : Sight) : Type 0 where
   pub chain : s.meta.free ≤ s.meta.high
   pub from_chain : s.meta.free ≢ 0 → (fresh free_after : ℕ) → s.next ≡ Some (fresh, free_after) → fresh ≡ s.meta.free

@@ -1,5 +1,5 @@
 -- What every machine keeps over any disk, the beginning, and lists of steps.
-pub mod KeptInTurn
+pub mod KeptInSequence
 pub mod Beginnings
 pub mod EachKept
 pub mod ClassesKept

@@ -1,9 +1,9 @@
--- Lines in their turn, places and replies, contents, and prefixes of the order.
+-- Lines in their sequence, places and replies, contents, and prefixes of the order.
 pub mod LinesFit
 pub mod RowContents
 pub mod StepContents
 pub mod NextLines
-pub mod Turns
+pub mod Sequences
 pub mod OrderPlaces
 pub mod LegalOrder
 pub mod AnswersInPlace

@@ -15,7 +15,7 @@ use Rattle.hb_activity.specs.Deeds.{Deed}
 use Rattle.hb_core.specs.Asking.{wanted_by}
 use Rattle.hb_core.specs.Fetching.{Brings}
 use Rattle.hb_core.specs.Keeps.{HasRoomFor, HoldsPagesOfFile, KnowsRoom}
-use Rattle.hb_core.specs.KeptLines.{MarksInPlace}
+use Rattle.hb_core.specs.KeptLines.{MetaWithinLimits}
 use Rattle.hb_core.specs.Machines.{Machine, with_disk}
 use Rattle.hb_core.specs.Rows.{Row}
 use Rattle.hb_space.specs.Boxes.{Area}
@@ -58,5 +58,5 @@ AnyPage id = Unit {0}
 -- Where a row has an operation, that is allowed: nothing but the row's own condition keeps it from being done. So it is over
 -- every disk.
 abbrev pub RowsAreAllowed : Type 0
-RowsAreAllowed = (m : Machine) (actor : ℕ) (fetched : StoreState) (deed : Deed) (op : Op) → MarksInPlace m → HoldsPagesOfFile m → KnowsRoom m → Brings m AnyPage fetched →
+RowsAreAllowed = (m : Machine) (actor : ℕ) (fetched : StoreState) (deed : Deed) (op : Op) → MetaWithinLimits m → HoldsPagesOfFile m → KnowsRoom m → Brings m AnyPage fetched →
     Row (m.activity actor) (wanted_by m actor) (with_disk fetched m.files m.clock m) deed → deed.op ≡ Some op → HalfHasRoom m actor op → IsAllowedHere fetched op

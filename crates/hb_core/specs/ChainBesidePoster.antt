@@ -39,15 +39,15 @@ beside_before = record {
   written = 0;
   groups = [];
   pages = (1, Live split_page) ∷ (2, Live lower_half) ∷ (3, Live bare_root) ∷ [];
-  imaged = [];
+  in_log = [];
   durable = record { meta = raised_meta; pages = Live split_page ∷ Live lower_half ∷ Live bare_root ∷ [] };
   later = [];
   clock = 0;
 }
 
 -- The root names both, and the record is deleted. Session 2 took effect before session 1, which misses the record. Two jobs wait: the
--- posting that session 1 owed when it passed by, and that of the poster. The frames have 4,132 bytes (an image and the posting) and
--- 4,119 (an image and the delete).
+-- posting that session 1 owed when it passed by, and that of the poster. The frames have 4,132 bytes (a page image and the posting) and
+-- 4,119 (a page image and the delete).
 abbrev pub beside_after : Scene
 beside_after = record {
   lines = seeks_twenty ∷ deletes_twenty ∷ [];
@@ -60,7 +60,7 @@ beside_after = record {
   written = 8251;
   groups = [];
   pages = (1, Live split_page) ∷ (2, Live lower_two) ∷ (3, Live posted_root) ∷ [];
-  imaged = 2 ∷ 3 ∷ [];
+  in_log = 2 ∷ 3 ∷ [];
   durable = record { meta = raised_meta; pages = Live split_page ∷ Live lower_two ∷ Live posted_root ∷ [] };
   later = [];
   clock = 8;

@@ -42,7 +42,7 @@ commands_before = record {
   written = 0;
   groups = [];
   pages = (1, Live split_page) ∷ (2, Live lower_half) ∷ [];
-  imaged = [];
+  in_log = [];
   durable = record { meta = line_meta 2; pages = halves };
   later = [];
   clock = 0;
@@ -61,7 +61,7 @@ commands_after = record {
   written = 0;
   groups = [];
   pages = (1, Live split_page) ∷ (2, Live lower_half) ∷ [];
-  imaged = [];
+  in_log = [];
   durable = record { meta = line_meta 2; pages = halves };
   later = [];
   clock = 0;

@@ -26,7 +26,7 @@ free_before = record {
   written = 0;
   groups = [];
   pages = (1, Live full_page) ∷ [];
-  imaged = [];
+  in_log = [];
   durable = record { meta = tight_meta 2 1 2; pages = Live full_page ∷ Free 0 ∷ [] };
   later = [];
   clock = 0;
@@ -45,7 +45,7 @@ free_after = record {
   written = 4152;
   groups = [];
   pages = (1, Live (upper_half (upper_three ++ lettered 70 103 ∷ []))) ∷ (2, Live lower_half) ∷ [];
-  imaged = 2 ∷ 1 ∷ [];
+  in_log = 2 ∷ 1 ∷ [];
   durable = record { meta = tight_meta 2 2 0; pages = Live (upper_half (upper_three ++ lettered 70 103 ∷ [])) ∷ Live lower_half ∷ [] };
   later = [];
   clock = 8;
@@ -70,7 +70,7 @@ none_free_before = record {
   written = 0;
   groups = [];
   pages = (1, Live full_page) ∷ [];
-  imaged = [];
+  in_log = [];
   durable = record { meta = tight_meta 1 1 0; pages = Live full_page ∷ [] };
   later = [];
   clock = 0;

@@ -42,7 +42,7 @@ log_before = record {
   written = 49150;
   groups = record { bytes = group_bytes (record { images = []; op = Put 1 (lettered 30 99) }); mark = 0 } ∷ [];
   pages = (1, Live (one_page (lettered 30 99 ∷ []))) ∷ [];
-  imaged = 1 ∷ [];
+  in_log = 1 ∷ [];
   durable = record { meta = line_meta 1; pages = Live (one_page []) ∷ [] };
   later = record { meta = line_meta 1; pages = Live (one_page (lettered 30 99 ∷ [])) ∷ [] } ∷ [];
   clock = 0;
@@ -61,7 +61,7 @@ log_after = record {
   written = 49171;
   groups = [];
   pages = (1, Live (one_page (lettered 30 99 ∷ []))) ∷ [];
-  imaged = 1 ∷ [];
+  in_log = 1 ∷ [];
   durable = record { meta = line_meta 1; pages = Live (one_page (lettered 30 99 ∷ [])) ∷ [] };
   later = [];
   clock = 4;

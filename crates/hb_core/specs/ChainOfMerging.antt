@@ -50,7 +50,7 @@ merging_before records = record {
   written = 0;
   groups = [];
   pages = (1, Live keeping_page) ∷ (2, Live (going_page records)) ∷ (3, Live two_children) ∷ [];
-  imaged = [];
+  in_log = [];
   durable = record { meta = raised_meta; pages = merging_pages records };
   later = [];
   clock = 0;

@@ -47,13 +47,13 @@ posting_before = record {
   written = 0;
   groups = [];
   pages = (1, Live split_page) ∷ (2, Live lower_half) ∷ [];
-  imaged = [];
+  in_log = [];
   durable = record { meta = line_meta 2; pages = halves };
   later = [];
   clock = 0;
 }
 
--- No job waits, nobody holds a page, and the root names both pages. Two groups wait, without images: page 3 was made in this turn.
+-- No job waits, nobody holds a page, and the root names both pages. Two groups wait, without page images: page 3 was made in this turn.
 abbrev pub posting_after : Scene
 posting_after = record {
   lines = [];
@@ -67,7 +67,7 @@ posting_after = record {
   groups = record { bytes = group_bytes (record { images = []; op = ops.Grow 3 0 }); mark = 0 }
       ∷ record { bytes = group_bytes (record { images = []; op = ops.Post 3 [] 2 (side_below (whole_area 1) 0 40) }); mark = 0 } ∷ [];
   pages = (1, Live split_page) ∷ (2, Live lower_half) ∷ (3, Live posted_root) ∷ [];
-  imaged = 3 ∷ [];
+  in_log = 3 ∷ [];
   durable = record { meta = line_meta 2; pages = halves };
   later = record { meta = raised_meta; pages = halves ++ Live bare_root ∷ [] } ∷ record { meta = raised_meta; pages = halves ++ Live posted_root ∷ [] } ∷ [];
   clock = 0;

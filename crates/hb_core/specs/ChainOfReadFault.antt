@@ -24,7 +24,7 @@ unread_before = record {
   written = 0;
   groups = [];
   pages = [];
-  imaged = [];
+  in_log = [];
   durable = record { meta = raised_meta; pages = [] };
   later = [];
   clock = 0;

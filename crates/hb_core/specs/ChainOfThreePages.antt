@@ -67,14 +67,14 @@ three_before = record {
   written = 0;
   groups = [];
   pages = (1, Live middle_page) ∷ (2, Live low_page) ∷ (3, Live (high_page full_high)) ∷ [];
-  imaged = [];
+  in_log = [];
   durable = record { meta = tight_meta 3 3 0; pages = three_pages full_high };
   later = [];
   clock = 0;
 }
 
--- Line 12 isn't in the order. Its walk owes a posting too, which that of line 14 doesn't owe again. The frames have 4,119 bytes (an
--- image and the delete) and 20 (the put).
+-- Line 12 isn't in the order. Its walk owes a posting too, which that of line 14 doesn't owe again. The frames have 4,119 bytes (a
+-- page image and the delete) and 20 (the put).
 abbrev pub three_after : Scene
 three_after = record {
   lines = inserts_120 12 ∷ deletes_110 ∷ inserts_120 14 ∷ [];
@@ -87,7 +87,7 @@ three_after = record {
   written = 4139;
   groups = [];
   pages = (1, Live middle_page) ∷ (2, Live low_page) ∷ (3, Live (high_page other_high)) ∷ [];
-  imaged = 3 ∷ [];
+  in_log = 3 ∷ [];
   durable = record { meta = tight_meta 3 3 0; pages = three_pages other_high };
   later = [];
   clock = 8;

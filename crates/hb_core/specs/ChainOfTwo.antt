@@ -62,7 +62,7 @@ two_before = record {
   written = 0;
   groups = [];
   pages = (1, Live full_page) ∷ [];
-  imaged = [];
+  in_log = [];
   durable = record { meta = line_meta 1; pages = Live full_page ∷ [] };
   later = [];
   clock = 0;
@@ -72,7 +72,7 @@ abbrev pub posts_at : ℕ → Job
 posts_at value = record { kind = Post; level = 1; point = value ∷ [] }
 
 -- Both are answered, and nobody holds a page. The page was split at 40, and both halves owe a posting: one from the split, and
--- one since session 2 passed by. Two groups are durable, in frames of 4,131 bytes (an image and the split) and 21 (the put).
+-- one since session 2 passed by. Two groups are durable, in frames of 4,131 bytes (a page image and the split) and 21 (the put).
 abbrev pub two_after : Scene
 two_after = record {
   lines = inserts_seventy ∷ looks_twenty_up ∷ [];
@@ -85,7 +85,7 @@ two_after = record {
   written = 4152;
   groups = [];
   pages = (1, Live (upper_half (upper_three ++ lettered 70 103 ∷ []))) ∷ (2, Live lower_half) ∷ [];
-  imaged = 2 ∷ 1 ∷ [];
+  in_log = 2 ∷ 1 ∷ [];
   durable = record { meta = line_meta 2; pages = Live (upper_half (upper_three ++ lettered 70 103 ∷ [])) ∷ Live lower_half ∷ [] };
   later = [];
   clock = 8;

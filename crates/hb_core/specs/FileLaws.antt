@@ -4,7 +4,7 @@ use Rattle.hb_ops.specs.declared.operations.Op.{Op}
 use Rattle.hb_core.specs.declared.outcomes.Outcome.{Outcome}
 use Rattle.hb_core.specs.Acting.{DoesRow}
 use Rattle.hb_core.specs.Keeps.{HasSoundFile, HoldsPagesOfFile}
-use Rattle.hb_core.specs.KeptLines.{LinesFit, MarksInPlace}
+use Rattle.hb_core.specs.KeptLines.{LinesFit, MetaWithinLimits}
 use Rattle.hb_core.specs.Machines.{Files, Machine, current_file}
 use Rattle.hb_core.specs.Steps.{StepsTo}
 use Rattle.hb_ops.specs.Operations.{IsAllowed, IsLicensed, OpHas}
@@ -16,10 +16,10 @@ LinesStayFit = (m : Machine) (actor : ℕ) (outcome : Outcome) (new : Machine) �
 -- After a step every page in memory is one of the file and keeps the rules that speak of a page alone, and what the file
 -- says of itself is within the limits, over every disk.
 abbrev pub PagesStayOfFile : Type 0
-PagesStayOfFile = (m : Machine) (actor : ℕ) (outcome : Outcome) (new : Machine) → LinesFit m → MarksInPlace m → HoldsPagesOfFile m → StepsTo m actor outcome new → HoldsPagesOfFile new
+PagesStayOfFile = (m : Machine) (actor : ℕ) (outcome : Outcome) (new : Machine) → LinesFit m → MetaWithinLimits m → HoldsPagesOfFile m → StepsTo m actor outcome new → HoldsPagesOfFile new
 
-abbrev pub MarksStayInPlace : Type 0
-MarksStayInPlace = (m : Machine) (actor : ℕ) (outcome : Outcome) (new : Machine) → LinesFit m → MarksInPlace m → HoldsPagesOfFile m → StepsTo m actor outcome new → MarksInPlace new
+abbrev pub MetaStaysWithinLimits : Type 0
+MetaStaysWithinLimits = (m : Machine) (actor : ℕ) (outcome : Outcome) (new : Machine) → LinesFit m → MetaWithinLimits m → HoldsPagesOfFile m → StepsTo m actor outcome new → MetaWithinLimits new
 
 -- The operation that a row does is allowed in the file as the steps see it, and its caller may know what it has to: the
 -- free head afterwards is what the free page names, and the child gave exactly the box that is posted.

@@ -6,13 +6,13 @@ use Rattle.hb_core.specs.declared.outcomes.Outcome.{Outcome}
 use Rattle.hb_core.specs.declared.outcomes.Outcome.TheVariants as outcomes
 use Rattle.hb_core.specs.DamageLaws.{IsUndamaged}
 use Rattle.hb_core.specs.Keeps.{HasNoOtherLatches, HasNobodyElse, HasSoundFile, HoldsPagesOfFile, KnowsRoom, LatchesFit, WalksInSpace}
-use Rattle.hb_core.specs.KeptLines.{MarksInPlace}
+use Rattle.hb_core.specs.KeptLines.{MetaWithinLimits}
 use Rattle.hb_core.specs.KeptOrder.{HasLegalOrder, HasPendingPrefix, StandsInOrder, StandsOutside}
 use Rattle.hb_core.specs.KeptMachine.{CoreKeeps}
 use Rattle.hb_core.specs.Machines.{Files, Machine, settled_count}
 use Rattle.hb_core.specs.OrderLaws.{SearchIsRight}
 use Rattle.hb_core.specs.SteppingLaws.{HasNoSearches, IsBegunOver}
-use Rattle.hb_core.specs.Steps.{StepsInTurn, StepsTo}
+use Rattle.hb_core.specs.Steps.{StepsInSequence, StepsTo}
 use Rattle.hb_latch.specs.Tables.{MayLatch}
 use Rattle.hb_ops.specs.Files.{FileState, contents_of}
 use Rattle.hb_set.specs.Machine.{RecordSet}
@@ -35,7 +35,7 @@ WalksStayInSpace = (m : Machine) (actor : ℕ) (outcome : Outcome) (new : Machin
 -- After a step a page that is to be split directly holds the point of its insert, without a record there and without room, and
 -- one of the two halves of a split directly holds it, without a record there and with room. So it is over every disk.
 abbrev pub RoomStaysKnown : Type 0
-RoomStaysKnown = (m : Machine) (actor : ℕ) (outcome : Outcome) (new : Machine) → MayLatch actor → LatchesFit m → HoldsPagesOfFile m → MarksInPlace m → HasNobodyElse m → KnowsRoom m →
+RoomStaysKnown = (m : Machine) (actor : ℕ) (outcome : Outcome) (new : Machine) → MayLatch actor → LatchesFit m → HoldsPagesOfFile m → MetaWithinLimits m → HasNobodyElse m → KnowsRoom m →
     StepsTo m actor outcome new → KnowsRoom new
 
 -- A line is answered once its place in the order is settled, or outside of the order.
@@ -79,7 +79,7 @@ pub record HasPrefixes (n : RecordSet) (m : Machine) (files : Files) : Type 0 wh
 abbrev pub FilesHavePrefixes : Type 0
 FilesHavePrefixes = (n : RecordSet) (m : Machine) (files : Files) → HasSoundFile m files → HasLegalOrder n m files → HasPendingPrefix n m files → HasPrefixes n m files
 
--- Steps of these actors in turn, where each search that takes effect has the machine's reply. Nothing keeps a box from being
+-- Steps of these actors in sequence, where each search that takes effect has the machine's reply. Nothing keeps a box from being
 -- changed while a search goes through it, before there are locks on boxes.
 abbrev pub AnswersSearches : Machine → Machine → Type 0
 AnswersSearches m new = (files : Files) → m.files ≡ Some files → SearchIsRight m new files
@@ -99,9 +99,9 @@ pub record HasKeptAll (n : RecordSet) (m new : Machine) (files : Files) : Type 0
 abbrev pub StepsKeepAll : Type 0
 StepsKeepAll = (n : RecordSet) (actors : List ℕ) (m : Machine) (files : Files) (new : Machine) → All MayLatch actors → CoreKeeps n m files → StepsRightly actors m new → (files' : Files) × HasKeptAll n m new files'
 
--- So all steps do of a machine whose lines aren't searches, in whatever turn its actors take them; and from a beginning on.
+-- So all steps do of a machine whose lines aren't searches, in whatever sequence its actors take them; and from a beginning on.
 abbrev pub ChangesKeepAll : Type 0
-ChangesKeepAll = (n : RecordSet) (actors : List ℕ) (m : Machine) (files : Files) (new : Machine) → All MayLatch actors → HasNoSearches m → CoreKeeps n m files → StepsInTurn actors m new → (files' : Files) × HasKeptAll n m new files'
+ChangesKeepAll = (n : RecordSet) (actors : List ℕ) (m : Machine) (files : Files) (new : Machine) → All MayLatch actors → HasNoSearches m → CoreKeeps n m files → StepsInSequence actors m new → (files' : Files) × HasKeptAll n m new files'
 
 abbrev pub BegunKeepsAll : Type 0
-BegunKeepsAll = (s : FileState) (actors : List ℕ) (m new : Machine) → IsBegunOver m s → All MayLatch actors → HasNoSearches m → StepsInTurn actors m new → (files : Files) × HasKeptAll (contents_of s) m new files
+BegunKeepsAll = (s : FileState) (actors : List ℕ) (m new : Machine) → IsBegunOver m s → All MayLatch actors → HasNoSearches m → StepsInSequence actors m new → (files : Files) × HasKeptAll (contents_of s) m new files

@@ -1,4 +1,4 @@
--- What every machine keeps of its script's lines, and of the marks of its file.
+-- What every machine keeps of its script's lines, and of what its file says of itself.
 use Rattle.std.specs.Prelude.{◌<◌, ◌≤◌, ◌^◌, ℕ, All, IfSome}
 use Rattle.hb_set.specs.declared.commands.Command.{Command}
 use Rattle.hb_set.specs.declared.commands.Command.TheVariants.{Insert, Delete, Lookup, Search}
@@ -24,7 +24,7 @@ pub record LinesFit (m : Machine) : Type 0 where
   pub in_hand : (actor : ℕ) → IfSome (line_in_hand (m.activity actor)) HasLineBody
 
 -- What the file says of itself is within the limits of a file. So it is over every disk.
-pub record MarksInPlace (m : Machine) : Type 0 where
+pub record MetaWithinLimits (m : Machine) : Type 0 where
   pub layout : IsLayout m.store.meta
   pub high : m.store.meta.high ≤ m.store.meta.pages
   pub live : m.store.meta.live ≤ m.store.meta.pages

@@ -4,19 +4,19 @@ use Rattle.hb_set.specs.Machine.{RecordSet}
 use Rattle.hb_core.specs.KeptOrder.{HasLegalOrder, HasPendingPrefix}
 use Rattle.hb_core.specs.Keeps.{HasNoOtherLatches, HasNobodyElse, HasSoundFile, HoldsPagesOfFile, KnowsRoom, LatchesFit, WalksInSpace}
 use Rattle.hb_core.specs.KeptFits.{AttributesFit, HaveClasses, RunsWithStore, WorkersStand}
-use Rattle.hb_core.specs.KeptLines.{LinesFit, MarksInPlace}
+use Rattle.hb_core.specs.KeptLines.{LinesFit, MetaWithinLimits}
 use Rattle.hb_core.specs.KeptPlaces.{AnswersAreSingle, MarksRise, OrderIsShort, RepliesStand}
-use Rattle.hb_core.specs.KeptTurns.{LinesInTurn}
+use Rattle.hb_core.specs.KeptSequence.{LinesInSequence}
 use Rattle.hb_core.specs.Machines.{Files, Machine}
 
 pub record MachineKeeps (m : Machine) : Type 0 where
   -- what the file says of itself is within its limits
-  pub marks_in_place : MarksInPlace m
+  pub meta_within_limits : MetaWithinLimits m
   -- what the lines would store can be stored, and all points and boxes have the file's number of attributes
   pub lines_fit : LinesFit m
   pub attributes_fit : AttributesFit m
   -- each session answers its lines in their order, once
-  pub lines_in_turn : LinesInTurn m
+  pub lines_in_sequence : LinesInSequence m
   pub order_short : OrderIsShort m
   pub replies_stand : RepliesStand m
   pub answers_single : AnswersAreSingle m

@@ -9,7 +9,7 @@ pub mod GivingUp
 pub mod Acting
 pub mod Steps
 pub mod KeptLines
-pub mod KeptTurns
+pub mod KeptSequence
 pub mod KeptOrder
 pub mod KeptMerges
 pub mod Keeps

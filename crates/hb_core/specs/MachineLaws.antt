@@ -16,7 +16,7 @@ use Rattle.hb_core.specs.Fetching.{Brings}
 use Rattle.hb_core.specs.KeptMachine.{MachineKeeps}
 use Rattle.hb_core.specs.Machines.{Machine, live_here, with_disk}
 use Rattle.hb_core.specs.Rows.{IsAtHand, Row}
-use Rattle.hb_core.specs.Steps.{StepsInTurn, StepsTo}
+use Rattle.hb_core.specs.Steps.{StepsInSequence, StepsTo}
 use Rattle.hb_core.specs.WaitingLaws.{Promotes}
 use Rattle.hb_activity.specs.Deeds.{Deed}
 
@@ -25,7 +25,7 @@ abbrev pub MachineStaysKept : Type 0
 MachineStaysKept = (m : Machine) (actor : ℕ) (outcome : Outcome) (new : Machine) → MayLatch actor → MachineKeeps m → StepsTo m actor outcome new → MachineKeeps new
 
 abbrev pub MachinesStayKept : Type 0
-MachinesStayKept = (actors : List ℕ) (m new : Machine) → All MayLatch actors → MachineKeeps m → StepsInTurn actors m new → MachineKeeps new
+MachinesStayKept = (actors : List ℕ) (m new : Machine) → All MayLatch actors → MachineKeeps m → StepsInSequence actors m new → MachineKeeps new
 
 -- The operation of a row is allowed on the pages in memory and licensed by them, and its points and boxes have the file's number of
 -- attributes.

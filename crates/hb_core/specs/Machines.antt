@@ -41,7 +41,7 @@ pub record Machine : Type 0 where
   -- why nothing more is done, where that is so
   pub stop : Option StopWhy
   -- what the file says of itself; the log with its room and the groups that wait, each with its bytes and its mark; the
-  -- pages in memory; those imaged or made in this turn
+  -- pages in memory; those in this turn's log
   pub store : StoreState
   -- the files, where the disk tells its bytes
   pub files : Option Files

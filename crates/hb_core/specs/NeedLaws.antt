@@ -16,7 +16,7 @@ MayMakePage (at.PosterGrow job) = Unit {0}
 MayMakePage (at.PosterAgain job parent) = Unit {0}
 MayMakePage other = ⊥
 
--- The number of the next page that is made: the first of the free chain, or where that has none the one behind the high mark.
+-- The number of the next page that is made: the first of the free chain, or where that has none the one behind the highest page.
 abbrev pub IsNextNumber : StoreState → ℕ → Type 0
 IsNextNumber st id = IsFreeHead st id ⊎ ((st.meta.free ≡ 0) × (id ≡ st.meta.high + 1))
 

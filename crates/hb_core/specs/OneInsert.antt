@@ -42,14 +42,14 @@ before_insert = record {
   written = 0;
   groups = [];
   pages = [];
-  imaged = [];
+  in_log = [];
   durable = record { meta = flat_meta; pages = Live (page_of_records []) ∷ [] };
   later = [];
   clock = 0;
 }
 
--- The line is answered at 4, the record is durable, and the log has one frame: 5 bytes in front, the count of the images,
--- the image of the page as it was, of 4 and 4,096 bytes, and the put, of 23.
+-- The line is answered at 4, the record is durable, and the log has one frame: 5 bytes in front, the count of the page images,
+-- the page image as it was, of 4 and 4,096 bytes, and the put, of 23.
 abbrev pub after_insert : Scene
 after_insert = record {
   lines = inserts_a ∷ [];
@@ -62,7 +62,7 @@ after_insert = record {
   written = 4129;
   groups = [];
   pages = (1, Live (page_of_records (letter_a ∷ []))) ∷ [];
-  imaged = 1 ∷ [];
+  in_log = 1 ∷ [];
   durable = record { meta = flat_meta; pages = Live (page_of_records (letter_a ∷ [])) ∷ [] };
   later = [];
   clock = 4;

@@ -79,7 +79,7 @@ SaysAside m actor (outcomes.Dropped why) = IsSome (job_in_work (m.activity actor
 SaysAside m actor (outcomes.Stopped why) = Unit {0}
 SaysAside m actor other = ⊥
 
--- It leaves the lines, the jobs that wait, the order and the files, what the file says of itself, the log, the imaged pages,
+-- It leaves the lines, the jobs that wait, the order and the files, what the file says of itself, the log, the pages in it,
 -- and what has to stay in memory.
 pub record ChangesNoFile (m : Machine) (actor : ℕ) (outcome : Outcome) (new : Machine) : Type 0 where
   pub says : SaysAside m actor outcome
@@ -89,7 +89,7 @@ pub record ChangesNoFile (m : Machine) (actor : ℕ) (outcome : Outcome) (new : 
   pub files : new.files ≡ m.files
   pub meta : new.store.meta ≡ m.store.meta
   pub log : new.store.log ≡ m.store.log
-  pub imaged : new.store.imaged ≡ m.store.imaged
+  pub in_log : new.store.in_log ≡ m.store.in_log
   pub memory : (id : ℕ) (page : Page) → MustStay m id → in_memory m.store id ≡ Some page → in_memory new.store id ≡ Some page
 
 abbrev pub AsideChangesNoFile : Type 0

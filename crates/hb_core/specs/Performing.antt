@@ -34,7 +34,7 @@ pub record Relatches (actor : ℕ) (latches : List Latch) (old new : LatchTable)
   pub others : (other page : ℕ) → other ≢ actor → mode_at new other page ≡ mode_at old other page
 
 -- An operation is done in memory: it is allowed there, the pages are changed, and its group waits with its mark. The
--- pages that it reads or makes were imaged or made in this turn from then on (`imaged` of `Commits`).
+-- pages that it reads or makes are in this turn's log from then on (`in_log` of `Commits`).
 pub record DoesOp (op : Op) (mark : ℕ) (old new : StoreState) : Type 0 where
   pub allowed : IsAllowedHere old op
   pub commits : Commits op mark old new

@@ -12,7 +12,7 @@ use Rattle.hb_activity.specs.declared.activities.Activity.{Activity}
 use Rattle.hb_activity.specs.declared.activities.Activity.TheVariants.{SessionIdle, PosterIdle, ConsolidatorIdle, Flusher}
 use Rattle.hb_core.specs.declared.outcomes.Outcome.{Outcome}
 use Rattle.hb_core.specs.Machines.{Machine, with_disk}
-use Rattle.hb_core.specs.Steps.{StepsInTurn, StepsTo}
+use Rattle.hb_core.specs.Steps.{StepsInSequence, StepsTo}
 use Rattle.hb_layout.specs.Offsets.{log_start}
 use Rattle.hb_ops.specs.Files.{FileState}
 use Rattle.hb_set.specs.Order.{Entry}
@@ -34,9 +34,9 @@ pub record Scene : Type 0 where
   -- how much of the log is written, and the groups that wait
   pub written : ℕ
   pub groups : List Waiting
-  -- the pages in memory, and those that were imaged or made in this turn
+  -- the pages in memory, and those in this turn's log
   pub pages : List (ℕ × Page)
-  pub imaged : List ℕ
+  pub in_log : List ℕ
   -- the file that is durable, and those after each group that waits
   pub durable : FileState
   pub later : List FileState
@@ -58,7 +58,7 @@ store_of s = record {
   meta = s.meta;
   log = record { area = log_start 1 s.meta; len = s.meta.log; written = s.written; groups = s.groups };
   pages = finite.from_entries s.pages;
-  imaged = set.from_list s.imaged;
+  in_log = set.from_list s.in_log;
   stopped = false;
 }
 
@@ -81,11 +81,11 @@ machine_of s = record {
 abbrev pub untold_scene : Scene → Machine
 untold_scene s = with_disk (store_of s) None s.clock (machine_of s)
 
--- Steps in turn, each by its actor and with what it comes to.
+-- Steps in sequence, each by its actor and with what it comes to.
 abbrev pub StepsSaying : List (ℕ × Outcome) → Machine → Machine → Type 0
 StepsSaying [] m new = new ≡ m
 StepsSaying (step ∷ rest) m new = (next : Machine) × StepsTo m step.0 step.1 next × StepsSaying rest next new
 
--- They are steps in turn of these actors, of which other laws speak.
+-- They are steps in sequence of these actors, of which other laws speak.
 abbrev pub SayingIsStepping : Type 0
-SayingIsStepping = (steps : List (ℕ × Outcome)) (m new : Machine) → StepsSaying steps m new → StepsInTurn (map (λ step. step.0) steps) m new
+SayingIsStepping = (steps : List (ℕ × Outcome)) (m new : Machine) → StepsSaying steps m new → StepsInSequence (map (λ step. step.0) steps) m new

@@ -13,7 +13,7 @@ use Rattle.hb_store.specs.States.{StoreState}
 use Rattle.hb_store.specs.declared.stops.StopWhy.{StopWhy}
 use Rattle.hb_core.specs.Keeps.{HasNobodyElse}
 use Rattle.hb_core.specs.Machines.{Files, Machine}
-use Rattle.hb_core.specs.Steps.{StepsInTurn}
+use Rattle.hb_core.specs.Steps.{StepsInSequence}
 
 -- What a core holds. It has no replies of the order, no answers and no files: these are in the machines that it shows.
 pub record RunningCore : Type 0 where
@@ -58,5 +58,5 @@ pub record ShowsMachine (d : DiskModel) (c : RunningCore) (m : Machine) : Type 0
 -- Steps of these actors lead from a machine to another one, and these are the answers that came, in their sequence, each with the
 -- clock after its step.
 pub record IsReached (first : Machine) (actors : List ℕ) (answers : List Answered) (new : Machine) : Type 0 where
-  pub steps : StepsInTurn actors first new
+  pub steps : StepsInSequence actors first new
   pub answered : new.answered ≡ first.answered ++ answers

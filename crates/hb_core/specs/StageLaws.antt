@@ -7,7 +7,7 @@ use Rattle.hb_activity.specs.declared.activities.Activity.TheVariants as at
 use Rattle.hb_core.specs.declared.outcomes.Outcome.{Outcome}
 use Rattle.hb_core.specs.Machines.{Machine}
 use Rattle.hb_core.specs.SteppingLaws.{IsBegun}
-use Rattle.hb_core.specs.Steps.{StepsInTurn, StepsTo}
+use Rattle.hb_core.specs.Steps.{StepsInSequence, StepsTo}
 
 abbrev pub IsNoMerge : Job → Type 0
 IsNoMerge job = job.kind ≢ Merge
@@ -40,4 +40,4 @@ abbrev pub NothingComesToMerge : Type 0
 NothingComesToMerge = (m : Machine) (actor : ℕ) (outcome : Outcome) (new : Machine) → HasNothingToMerge m → StepsTo m actor outcome new → HasNothingToMerge new
 
 abbrev pub NothingIsMerged : Type 0
-NothingIsMerged = (actors : List ℕ) (m new : Machine) → HasNothingToMerge m → StepsInTurn actors m new → HasNothingToMerge new
+NothingIsMerged = (actors : List ℕ) (m new : Machine) → HasNothingToMerge m → StepsInSequence actors m new → HasNothingToMerge new

@@ -6,7 +6,7 @@ use Rattle.hb_activity.specs.declared.activities.Activity.TheVariants as at
 use Rattle.hb_store.specs.declared.stops.StopWhy.{StopWhy}
 use Rattle.hb_core.specs.KeptLines.{HasLineBody}
 use Rattle.hb_core.specs.Machines.{Machine}
-use Rattle.hb_core.specs.Steps.{StepsInTurn}
+use Rattle.hb_core.specs.Steps.{StepsInSequence}
 use Rattle.hb_latch.specs.Tables.{mode_at}
 use Rattle.hb_layout.specs.Limits.{IsLayout}
 use Rattle.hb_layout.specs.Offsets.{log_start}
@@ -19,7 +19,7 @@ use Rattle.hb_ops.specs.Files.{FileState, contents_of, page_of}
 use Rattle.hb_ops.specs.Sound.{IsSound}
 use Rattle.hb_point.specs.SessionRows.{WantsBoxes}
 use Rattle.hb_set.specs.Order.{AreRising, Entry}
-use Rattle.hb_store.specs.States.{AreGood, IsStanding, StoreState, in_memory, is_imaged}
+use Rattle.hb_store.specs.States.{AreGood, IsStanding, StoreState, in_memory, is_in_log}
 
 -- No line of the script is a search.
 abbrev pub HasNoSearches : Machine → Type 0
@@ -33,12 +33,12 @@ IsAtRest at.ConsolidatorIdle = Unit {0}
 IsAtRest at.Flusher = Unit {0}
 IsAtRest other = ⊥
 
--- A store as a new file or an opening leaves it, which runs: its log has no frame and no group, and nothing was imaged or made in
+-- A store as a new file or an opening leaves it, which runs: its log has no frame and no group, and no page is in the log of
 -- this turn. Whatever pages are in memory are of the file.
 pub record IsBegunStore (st : StoreState) : Type 0 where
   pub stands : IsStanding st.turn st.meta
   pub log : st.log ≡ record { area = log_start st.turn st.meta; len = st.meta.log; written = 0; groups = [] }
-  pub none_imaged : (id : ℕ) → is_imaged st id ≡ false
+  pub none_in_log : (id : ℕ) → is_in_log st id ≡ false
   pub runs : st.stopped ≡ false
   pub pages : AreGood st.meta (in_memory st)
 
@@ -97,8 +97,8 @@ pub record HasGoneOn (m new : Machine) : Type 0 where
   pub timed : All (IsBetween m.clock new.clock) answers
 
 abbrev pub StepsGoOn : Type 0
-StepsGoOn = (actors : List ℕ) (m new : Machine) → StepsInTurn actors m new → HasGoneOn m new
+StepsGoOn = (actors : List ℕ) (m new : Machine) → StepsInSequence actors m new → HasGoneOn m new
 
 -- A machine that is stopped stays as it is.
 abbrev pub StoppedStays : Type 0
-StoppedStays = (actors : List ℕ) (m new : Machine) (why : StopWhy) → m.stop ≡ Some why → StepsInTurn actors m new → new ≡ m
+StoppedStays = (actors : List ℕ) (m new : Machine) (why : StopWhy) → m.stop ≡ Some why → StepsInSequence actors m new → new ≡ m

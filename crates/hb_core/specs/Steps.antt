@@ -104,7 +104,7 @@ StepsAs (at.ConsolidatorDecide job parent keep gone) m actor outcome new = Works
 abbrev pub StepsTo : Machine → ℕ → Outcome → Machine → Type 0
 StepsTo m actor outcome new = MatchOption m.stop (StepsAs (m.activity actor) m actor outcome new) (λ why. StaysSo m (outcomes.Stopped why) outcome new)
 
--- Steps of these actors in turn, from a machine to another.
-abbrev pub StepsInTurn : List ℕ → Machine → Machine → Type 0
-StepsInTurn [] m new = new ≡ m
-StepsInTurn (actor ∷ rest) m new = (outcome : Outcome) × (next : Machine) × StepsTo m actor outcome next × StepsInTurn rest next new
+-- Steps of these actors in sequence, from a machine to another.
+abbrev pub StepsInSequence : List ℕ → Machine → Machine → Type 0
+StepsInSequence [] m new = new ≡ m
+StepsInSequence (actor ∷ rest) m new = (outcome : Outcome) × (next : Machine) × StepsTo m actor outcome next × StepsInSequence rest next new

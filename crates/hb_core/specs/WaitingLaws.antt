@@ -45,13 +45,13 @@ WantedComesLater = (m : Machine) (files : Files) (actor id : ℕ) (mode : Mode) 
 abbrev pub AwaitsActor : Machine → ℕ → ℕ → Type 0
 AwaitsActor m actor other = WaitsFor m.latches (wanted_by m) actor other
 
-abbrev pub WaitInTurn : Machine → ℕ → List ℕ → ℕ → Type 0
-WaitInTurn m actor [] last = AwaitsActor m actor last
-WaitInTurn m actor (next ∷ rest) last = AwaitsActor m actor next × WaitInTurn m next rest last
+abbrev pub WaitInSequence : Machine → ℕ → List ℕ → ℕ → Type 0
+WaitInSequence m actor [] last = AwaitsActor m actor last
+WaitInSequence m actor (next ∷ rest) last = AwaitsActor m actor next × WaitInSequence m next rest last
 
 -- No actor waits for itself in this way.
 abbrev pub NobodyWaitsInACircle : Type 0
-NobodyWaitsInACircle = (m : Machine) (files : Files) (actor : ℕ) (rest : List ℕ) → LatchesFit m → HasSoundFile m files → HasNobodyElse m → WalksInSpace m → WaitInTurn m actor rest actor → ⊥
+NobodyWaitsInACircle = (m : Machine) (files : Files) (actor : ℕ) (rest : List ℕ) → LatchesFit m → HasSoundFile m files → HasNobodyElse m → WalksInSpace m → WaitInSequence m actor rest actor → ⊥
 
 -- Where an actor is at work, not every actor at work is kept waiting.
 abbrev pub IsAtWork : Machine → ℕ → Type 0

@@ -3,8 +3,8 @@
 
 ghost use Rattle.hb_core.specs.AllowedLaws.{RowsAreAllowed};
 ghost use Rattle.hb_core.specs.ContentsLaws.{ContentsFollowOrder, PointsStay};
-ghost use Rattle.hb_core.specs.FileLaws.{FilesStaySound, LinesStayFit, MarksStayInPlace, PagesStayOfFile, RowsAreLicensed};
-ghost use Rattle.hb_core.specs.OrderLaws.{OrderStaysLegal, TurnsStay};
+ghost use Rattle.hb_core.specs.FileLaws.{FilesStaySound, LinesStayFit, MetaStaysWithinLimits, PagesStayOfFile, RowsAreLicensed};
+ghost use Rattle.hb_core.specs.OrderLaws.{OrderStaysLegal, SequenceStays};
 ghost use Rattle.hb_core.specs.SteppingLaws.{BeginningExists, BeginningKeeps, BeginningKeepsAll};
 
 use crate::laws::a_step_leaves_other_actors_alone;
@@ -24,7 +24,7 @@ pub fn lines_stay_fit()
 /// and what the file says of itself is within its limits. So it is over every disk.
 pub fn pages_stay_pages_of_the_file()
     ensures pages { PagesStayOfFile }
-    ensures marks { MarksStayInPlace }
+    ensures within { MetaStaysWithinLimits }
 {
     changed_pages_are_well_made();
     page_within_capacity_has_spelling();
@@ -78,9 +78,9 @@ pub fn contents_follow_the_order()
 
 /// After a step each session still answers its lines in their order: the line that it has in hand, or for
 /// whose place it waits, is its first one without an answer.
-#[tactic(auto, using(crate::proofs::Orders::Turns::turns_stay))]
-pub fn turns_stay()
-    ensures { TurnsStay }
+#[tactic(auto, using(crate::proofs::Orders::Sequences::sequence_stays))]
+pub fn sequence_stays()
+    ensures { SequenceStays }
 {}
 
 /// After a step the order is legal, and the file has its result, where a search that takes effect in it has

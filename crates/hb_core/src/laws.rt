@@ -17,7 +17,7 @@ pub fn a_step_changes_its_own_pages()
 {}
 
 /// A step brings no page into memory but one that it needs: the page that it wants, or, where a page is made, the
-/// first of the free chain, or the one behind the high mark where that chain has none. A step that waits for
+/// first of the free chain, or the one behind the highest page where that chain has none. A step that waits for
 /// another actor, or flushes, brings none.
 pub fn a_step_brings_what_it_needs()
     ensures { PagesComeByNeed }

@@ -33,10 +33,10 @@ pub fn the_poster_posts()
     ensures { OnePosting }
 {}
 
-/// A chain with what each step comes to is a list of steps in turn, so that the laws over such lists hold
+/// A chain with what each step comes to is a list of steps in sequence, so that the laws over such lists hold
 /// of it.
 #[tactic(auto, using(crate::proofs::Chains::SaidSteps::saying_is_stepping))]
-pub fn a_chain_is_steps_in_turn()
+pub fn a_chain_is_steps_in_sequence()
     ensures { SayingIsStepping }
 {}
 

@@ -29,21 +29,21 @@ Notes-weaker P Q clock call old new weaker noted = record {
 }
 
 -- a refused call that wasn't a listed one, said of any call
-refused_as : (Mark Same : Type 0) (listed : Bool) (clock : ℕ) (e : Refused) → Refuses ⊥ Same false clock e → Refuses Mark Same listed clock e
-refused_as Mark Same listed clock Listed why = absurd why.2
-refused_as Mark Same listed clock Over why = why
-refused_as Mark Same listed clock NoMemory why = why
+refused_as : (OnRecord Same : Type 0) (listed : Bool) (clock : ℕ) (e : Refused) → Refuses ⊥ Same false clock e → Refuses OnRecord Same listed clock e
+refused_as OnRecord Same listed clock Listed why = absurd why.2
+refused_as OnRecord Same listed clock Over why = why
+refused_as OnRecord Same listed clock NoMemory why = why
 
-pub unmarked : {T : Type 0} (r : Result T Refused) (Same : Type 0) (clock : ℕ) → IfErr r (Refuses ⊥ Same false clock) → OnErr r Same
-unmarked (Ok v) Same clock why = tt
-unmarked (Err Listed) Same clock why = absurd why.2
-unmarked (Err Over) Same clock why = why.1
-unmarked (Err NoMemory) Same clock why = why.1
+pub unnoted : {T : Type 0} (r : Result T Refused) (Same : Type 0) (clock : ℕ) → IfErr r (Refuses ⊥ Same false clock) → OnErr r Same
+unnoted (Ok v) Same clock why = tt
+unnoted (Err Listed) Same clock why = absurd why.2
+unnoted (Err Over) Same clock why = why.1
+unnoted (Err NoMemory) Same clock why = why.1
 
 -- a call that wasn't listed, whose change is noted
-pub Passes-noted : (P Q : Change → Type 0) (Mark : Type 0) (bytes : List ℕ) (call : ℕ) (listed : Bool) (r : Result (Unit {0}) Refused) (old new : History) → ((d : Change) → P d → Q d)
-    → listed ≡ false → Passes P ⊥ bytes call false r old new → Passes Q Mark bytes call listed r old new
-Passes-noted P Q Mark bytes call listed (Ok v) old new weaker not passes = record {
+pub Passes-noted : (P Q : Change → Type 0) (OnRecord : Type 0) (bytes : List ℕ) (call : ℕ) (listed : Bool) (r : Result (Unit {0}) Refused) (old new : History) → ((d : Change) → P d → Q d)
+    → listed ≡ false → Passes P ⊥ bytes call false r old new → Passes Q OnRecord bytes call listed r old new
+Passes-noted P Q OnRecord bytes call listed (Ok v) old new weaker not passes = record {
   noted = Notes-weaker P Q old.clock call old.events.items new.events.items weaker passes.noted;
   made = passes.made;
   same = tt;
@@ -51,11 +51,11 @@ Passes-noted P Q Mark bytes call listed (Ok v) old new weaker not passes = recor
   fails = λ l. absurd (true≢false (sym l ∙ not));
   clock = passes.clock;
 }
-Passes-noted P Q Mark bytes call listed (Err e) old new weaker not passes = record {
+Passes-noted P Q OnRecord bytes call listed (Err e) old new weaker not passes = record {
   noted = tt;
   made = tt;
   same = passes.same;
-  why = refused_as Mark (new.events.items ≡ old.events.items) listed old.clock e passes.why;
+  why = refused_as OnRecord (new.events.items ≡ old.events.items) listed old.clock e passes.why;
   fails = λ l. refl;
   clock = passes.clock;
 }
@@ -299,10 +299,10 @@ module _ (bytes : List ℕ) (es : List Event) (clock : ℕ) (fit : All (λ x. x 
           subst Q (ap range_of is) is_open))
 
 -- what a refused call left is nothing, or a try
-pub left_by : (Mark Same : Type 0) (listed : Bool) (clock : ℕ) (e : Refused) → Refuses Mark Same listed clock e → Same ⊎ Mark
-left_by Mark Same listed clock Listed why = inr why.2
-left_by Mark Same listed clock Over why = inl why.1
-left_by Mark Same listed clock NoMemory why = inl why.1
+pub left_by : (OnRecord Same : Type 0) (listed : Bool) (clock : ℕ) (e : Refused) → Refuses OnRecord Same listed clock e → Same ⊎ OnRecord
+left_by OnRecord Same listed clock Listed why = inr why.2
+left_by OnRecord Same listed clock Over why = inl why.1
+left_by OnRecord Same listed clock NoMemory why = inl why.1
 
 carried : (Q : List ℕ → List Event → ℕ → Type 0) (bytes now : List ℕ) (events after : List Event) (clock next : ℕ) → now ≡ bytes → after ≡ events → next ≡ clock → Q bytes events clock → Q now after next
 carried Q bytes now events after clock next same none ticked h =

@@ -65,9 +65,9 @@ counts_after (Err e) before after P good bad later = record { cause = λ failed.
 -- why a call failed, from what its history says
 blame_of : (old new : MemDisk) (listed : Bool) (Tried : Type 0) (e : Refused) → (IsTrue listed ↔ IsListed old) → Refuses Tried (HasSameRecord old new) listed old.history.clock e
     → new.starved ≡ starved_after e old.starved → FailsFor Tried old new
-blame_of old new listed Mark Listed listing why starved = inl (listing.0 why.0, why.1, why.2, starved)
-blame_of old new listed Mark Over listing why starved = inr (inl (why.0, why.1, starved))
-blame_of old new listed Mark NoMemory listing why starved = inr (inr (why.0, why.1, starved))
+blame_of old new listed OnRecord Listed listing why starved = inl (listing.0 why.0, why.1, why.2, starved)
+blame_of old new listed OnRecord Over listing why starved = inr (inl (why.0, why.1, starved))
+blame_of old new listed OnRecord NoMemory listing why starved = inr (inr (why.0, why.1, starved))
 
 -- exactly when a call fails, and what it counts
 module _ (old new : MemDisk) (listed : Bool) (listing : IsTrue listed ↔ IsListed old) (calls : new.calls ≡ next_count old.calls) (failing : new.failing ≡ old.failing)

@@ -30,17 +30,17 @@ IsOver at len bytes change = (before : Vec ℕ Global) × (change ≡ Wrote at b
 -- Why a call was refused, and what it leaves on record: the clock was at its last value, or memory was wanting, and the record
 -- is the same; or it is a listed one, which leaves its mark.
 abbrev pub Refuses : Type 0 → Type 0 → Bool → ℕ → Refused → Type 0
-Refuses Mark Same listed clock Listed = (listed ≡ true) × (clock < last_value) × Mark
-Refuses Mark Same listed clock Over = (clock ≡ last_value) × Same
-Refuses Mark Same listed clock NoMemory = (clock < last_value) × Same
+Refuses OnRecord Same listed clock Listed = (listed ≡ true) × (clock < last_value) × OnRecord
+Refuses OnRecord Same listed clock Over = (clock ≡ last_value) × Same
+Refuses OnRecord Same listed clock NoMemory = (clock < last_value) × Same
 
 -- A call of a history passed. Done, it stands on record, and the bytes are these. Refused, there is a cause, and the bytes are
--- as they were; `Mark` is what a listed call leaves on record. The clock goes on.
-pub record Passes (done : Change → Type 0) (Mark : Type 0) (bytes : List ℕ) (call : ℕ) (listed : Bool) (result : Result (Unit {0}) Refused) (old new : History) : Type 0 where
+-- as they were; `OnRecord` is what a listed call leaves on record. The clock goes on.
+pub record Passes (done : Change → Type 0) (OnRecord : Type 0) (bytes : List ℕ) (call : ℕ) (listed : Bool) (result : Result (Unit {0}) Refused) (old new : History) : Type 0 where
   pub noted : OnOk result (IsNoted done call old new)
   pub made : OnOk result (new.bytes.items ≡ bytes)
   pub same : OnErr result (new.bytes.items ≡ old.bytes.items)
-  pub why : IfErr result (Refuses Mark (new.events.items ≡ old.events.items) listed old.clock)
+  pub why : IfErr result (Refuses OnRecord (new.events.items ≡ old.events.items) listed old.clock)
   pub fails : listed ≡ true → IsErr result
   pub clock : new.clock ≡ next_count old.clock
 

@@ -91,7 +91,7 @@ fn turn_in(alloc: Global, disk: &MemDisk, before: u64, pick: Pick) -> Result<u8,
     turn_of(&mut MemDisk::new(alloc, image))
 }
 
-fn push_turns(alloc: Global, text: &mut String, disk: &MemDisk, before: u64) -> Result<(), Fail> {
+fn push_repeats(alloc: Global, text: &mut String, disk: &MemDisk, before: u64) -> Result<(), Fail> {
     for pick in PICKS {
         let turn = turn_in(alloc, disk, before, pick)?;
         write!(text, " {turn}")?;
@@ -108,7 +108,7 @@ pub(crate) fn write(alloc: Global, question: &str) -> Result<String, Fail> {
     let mut disk = disk_of(alloc, "", second, failing)?;
     let done = wrote(&mut disk, 1);
     let mut text = format!(in alloc; "{done}")?;
-    push_turns(alloc, &mut text, &disk, before)?;
+    push_repeats(alloc, &mut text, &disk, before)?;
     Ok(text)
 }
 

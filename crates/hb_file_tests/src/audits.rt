@@ -1,9 +1,9 @@
 //! Files of one attribute, each with the answer that was worked out by hand from the rules.
 
-use crate::spelled_files::{Marks, Outcome, is_audited};
+use crate::spelled_files::{MetaNumbers, Outcome, is_audited};
 
-/// The marks of a file, its text, and what the audit answers.
-const ROWS: [(Marks, &str, Outcome); 65] = [
+/// The numbers of a file, its text, and what the audit answers.
+const ROWS: [(MetaNumbers, &str, Outcome); 65] = [
     (
         (1, 3, 8, 8, 0),
         "2 * ^3 / 500: >2 | 2 500-18446744073709551615 ^3 | 1 * ^5 / 100: ^6 / 300: >4 | 1 300-18446744073709551615 ^6 / 400: ^7 | 0 * 7 99 / 100: >6 / 400: >7 | 0 100-399 100 299 300 399 | 0 400-18446744073709551615 450 / 600: >8 / 800: 18446744073709551615 | 0 600-799 600 799",
@@ -48,7 +48,7 @@ const ROWS: [(Marks, &str, Outcome); 65] = [
         Err((9, 0)),
     ),
     ((1, 1, 4294967295, 1, 0), "0 *|bad", Err((2, 0))),
-    // 1: the marks and the root
+    // 1: the numbers and the root
     ((1, 1, 0, 0, 0), "0 *", Err((0, 1))),
     ((2, 1, 1, 1, 0), "0 *", Err((0, 1))),
     ((0, 1, 1, 1, 0), "0 *", Err((0, 1))),
@@ -58,7 +58,7 @@ const ROWS: [(Marks, &str, Outcome); 65] = [
     ((1, 2, 1, 1, 0), "0 *", Err((0, 1))),
     ((1, 1, 1, 1, 0), "0 0-5", Err((0, 1))),
     ((1, 1, 1, 0, 1), "free 0", Err((0, 1))),
-    // 2: left out; ends at a page in use, beyond the mark, at one met before; a wrong count
+    // 2: left out; ends at a page in use, beyond the highest page, at one met before; a wrong count
     ((1, 1, 3, 1, 3), "0 * | free 0 | free 0", Err((2, 2))),
     ((1, 1, 2, 1, 0), "0 * | free 0", Err((2, 2))),
     (
@@ -109,7 +109,7 @@ const ROWS: [(Marks, &str, Outcome); 65] = [
         "0 * 1 / 10: >2 | 0 10-* 11 / 20: >3 | 0 30-* 31 / 40: >1",
         Err((2, 7)),
     ),
-    // 8: a child leaf that names its own page, a free one, one beyond the mark, one two levels down, and one whose box
+    // 8: a child leaf that names its own page, a free one, one beyond the highest page, one two levels down, and one whose box
     // isn't within the page's; two pages with such a leaf
     ((1, 2, 1, 1, 0), "1 * ^1", Err((1, 8))),
     (
@@ -162,9 +162,9 @@ const ROWS: [(Marks, &str, Outcome); 65] = [
 
 #[test]
 fn answers_are_those_worked_out(rt: HostRuntime) {
-    for &(marks, text, want) in &ROWS {
+    for &(numbers, text, want) in &ROWS {
         assert!(rt;
-            is_audited(rt.alloc(), 1, marks, text, 0, "", want),
+            is_audited(rt.alloc(), 1, numbers, text, 0, "", want),
             "{text}"
         );
     }

@@ -1,12 +1,12 @@
 //! Files of two, three and four attributes: a sound one of each, and the same with another page in the place of one of its
 //! own. The answers were worked out by hand from the rules.
 
-use crate::spelled_files::{Marks, Outcome, is_audited};
+use crate::spelled_files::{MetaNumbers, Outcome, is_audited};
 
 // Page 1 is the root, and names some of the others. Page 2 has the whole space, and gave a box to another page, which gave a
 // part of it to a third one, and this one to a fourth: to 3, 4 and 5, or with three attributes to 5, 4 and 3. There page 6 is
 // free.
-fn sound_file(k: u8) -> (Marks, &'static str) {
+fn sound_file(k: u8) -> (MetaNumbers, &'static str) {
     match k {
         2 => (
             (1, 2, 5, 5, 0),
@@ -108,9 +108,9 @@ const ROWS: [(u8, usize, &str, Outcome); 40] = [
 #[test]
 fn boxes_of_several_attributes(rt: HostRuntime) {
     for &(k, number, other, want) in &ROWS {
-        let (marks, text) = sound_file(k);
+        let (numbers, text) = sound_file(k);
         assert!(rt;
-            is_audited(rt.alloc(), k, marks, text, number, other, want),
+            is_audited(rt.alloc(), k, numbers, text, number, other, want),
             "{k} {other}"
         );
     }

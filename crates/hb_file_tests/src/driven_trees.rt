@@ -41,7 +41,7 @@ const ABOVE_TWO: &[u8] =
 const ABOVE_THREE: &[u8] =
     b"\x01\x01\x01\0\0\0\0\0\0\0\0\0\xff\xff\xff\xff\xff\xff\xff\xff\0\0\0\0\0\0\0\0\0\x05\x02\0\0\0\x01\0\0\0\0\0\0\0\0\0\x09\x02\0\0\0\x02\x02\0\0\0\x04";
 
-/// The split of page 2 at 9: what isn't below goes to page 4. As in the groups that follow, no image.
+/// The split of page 2 at 9: what isn't below goes to page 4. As in the groups that follow, no page image.
 const SPLIT_2: &[u8] = b"\0\x03\0\0\0\x02\0\0\0\x04\0\0\0\0\0\x01\0\0\0\0\0\0\0\0\x09\x01";
 
 /// The posting of page 2 at the only leaf of page 3, over the box from 5 on.
@@ -69,7 +69,7 @@ pub(crate) const SPLIT_AGAIN: Tree = Tree {
     ],
     fetched: &[2, 3],
     steps: &[(4, SPLIT_2, 4126), (5, POST_2, 4127), (5, POST_4, 28)],
-    // the turn's superblock; then the frames in the second log area. The first two have an image of the page that they read
+    // the turn's superblock; then the frames in the second log area. The first two have a page image of the page that they read
     written: &[
         (4096, TAKEN_NEXT),
         (73_728, b"\xa5\0\0\x10\x1e\x01\0\0\0\x02"),
@@ -204,7 +204,7 @@ pub(crate) const TWO_PARENTS: Tree = Tree {
         (0, POST_BELOW, 28),
         (0, POST_ABOVE, 28),
     ],
-    // only the first group has an image
+    // only the first group has a page image
     written: &[
         (4096, ONE_NEXT),
         (73_728, b"\xa5\0\0\x10\x32\x01\0\0\0\x01"),

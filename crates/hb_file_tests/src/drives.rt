@@ -18,12 +18,12 @@ pub(crate) struct Tree {
     pub(crate) size: usize,
     pub(crate) file: &'static [(usize, &'static [u8])],
     pub(crate) fetched: &'static [u32],
-    /// For each step the number that an allocation takes, 0 for none; the operation, as a group without images has it; and
+    /// For each step the number that an allocation takes, 0 for none; the operation, as a group without page images has it; and
     /// how many bytes its group has.
     pub(crate) steps: &'static [(u32, &'static [u8], u32)],
     /// What the opening and the driving write: pieces at their offsets.
     pub(crate) written: &'static [(usize, &'static [u8])],
-    /// After each number of steps: the root, the height, the high mark and the pages in use.
+    /// After each number of steps: the root, the height, the highest page and the pages in use.
     pub(crate) said: &'static [[u32; 4]],
     /// How many records there are, always.
     pub(crate) records: u64,
@@ -191,7 +191,7 @@ fn reopened(alloc: Global, tree: &Tree, count: usize, bytes: Vec<u8>) -> Option<
     let Ok((store, records)) = recover(alloc, MemDisk::new(alloc, bytes)) else {
         return None;
     };
-    let said = marks(store.meta());
+    let said = meta_numbers(store.meta());
     let disk = store.into_disk();
     let right = records == tree.records && tree.said.get(count) == Some(&said);
     if right && stand(disk.bytes(), tree, count) {
@@ -201,8 +201,8 @@ fn reopened(alloc: Global, tree: &Tree, count: usize, bytes: Vec<u8>) -> Option<
     }
 }
 
-/// What changes of what a file says: the root, the height, the high mark and the pages in use.
-fn marks(meta: &Meta) -> [u32; 4] {
+/// What changes of what a file says: the root, the height, the highest page and the pages in use.
+fn meta_numbers(meta: &Meta) -> [u32; 4] {
     [meta.root, u32::from(meta.height), meta.high, meta.live]
 }
 

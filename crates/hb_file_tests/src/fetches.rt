@@ -1,6 +1,6 @@
 //! The page of a small file, by hand: when it is fetched, how often it is read, and which number an allocation takes.
 
-use crate::stores::{EMPTY, Marks, NEVER, disk, opened};
+use crate::stores::{EMPTY, MetaNumbers, NEVER, disk, opened};
 use hb_disk::RotDisk;
 use hb_frag::Page;
 use hb_store::{FetchStop, Store, Why};
@@ -100,8 +100,8 @@ fn a_fetch_reads_at_most_once(rt: HostRuntime) {
 }
 
 /// What `next_page` gives where the file says this of its pages and the first one's place has these bytes.
-fn next(alloc: Global, marks: Marks, page: &[u8], failing: u64) -> Option<Told> {
-    let mut store = opened(alloc, marks, disk(alloc, &[], page, failing)?)?;
+fn next(alloc: Global, numbers: MetaNumbers, page: &[u8], failing: u64) -> Option<Told> {
+    let mut store = opened(alloc, numbers, disk(alloc, &[], page, failing)?)?;
     match store.next_page() {
         Ok(Some((page, after))) => Some((page, after, 'p')),
         Ok(None) => Some((0, 0, 'n')),
@@ -109,14 +109,14 @@ fn next(alloc: Global, marks: Marks, page: &[u8], failing: u64) -> Option<Told> 
     }
 }
 
-/// The marks of a file of two pages, the first bytes in the place of page 1, the call that fails, and what is given.
-const NUMBERS: [(Marks, &[u8], u64, Told); 11] = [
+/// The numbers of a file of two pages, the first bytes in the place of page 1, the call that fails, and what is given.
+const NUMBERS: [(MetaNumbers, &[u8], u64, Told); 11] = [
     // every page is in use, whatever the free head is, and nothing is read
     ((2, 2, 2, 0), &EMPTY, 0, (0, 0, 'n')),
     ((2, 2, 2, 1), &[2, 0, 0, 0, 0], 0, (0, 0, 'n')),
-    // the number behind the high mark
+    // the number behind the highest page
     ((2, 1, 1, 0), &EMPTY, 0, (2, 0, 'p')),
-    // the head of the chain and what it names, also where a number is left behind the high mark
+    // the head of the chain and what it names, also where a number is left behind the highest page
     ((2, 2, 1, 1), &[2, 0, 0, 0, 0], NEVER, (1, 0, 'p')),
     ((2, 1, 1, 1), &[2, 0, 0, 0, 2], NEVER, (1, 2, 'p')),
     // a head that is in use
@@ -125,7 +125,7 @@ const NUMBERS: [(Marks, &[u8], u64, Told); 11] = [
     ((2, 2, 1, 1), &[], NEVER, (1, 0, 'r')),
     ((2, 2, 1, 1), &SIBLING, NEVER, (1, 5, 'r')),
     ((2, 1, 1, 2), &EMPTY, 0, (2, 1, 'r')),
-    // no chain, and no number behind the high mark
+    // no chain, and no number behind the highest page
     ((2, 2, 1, 0), &EMPTY, 0, (0, 2, 'r')),
     // the disk fails to read
     ((2, 2, 1, 1), &[2, 0, 0, 0, 0], 0, (0, 0, 'd')),
@@ -133,11 +133,11 @@ const NUMBERS: [(Marks, &[u8], u64, Told); 11] = [
 
 #[test]
 fn numbers_are_taken(rt: HostRuntime) {
-    for &(marks, page, failing, want) in &NUMBERS {
+    for &(numbers, page, failing, want) in &NUMBERS {
         assert_eq!(rt;
-            next(rt.alloc(), marks, page, failing),
+            next(rt.alloc(), numbers, page, failing),
             Some(want),
-            "{marks:?}"
+            "{numbers:?}"
         );
     }
 }

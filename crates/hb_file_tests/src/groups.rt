@@ -9,7 +9,7 @@ use hb_ops::Meta;
 use hb_store::{Flushed, Store, read_log};
 use std::alloc::Global;
 
-/// The put of the point 1 with an empty body into page 1, as a group of the log has it. No image.
+/// The put of the point 1 with an empty body into page 1, as a group of the log has it. No page image.
 const PUT_1: [u8; 15] = [0, 1, 0, 0, 0, 1, 0, 0, 0, 0, 0, 0, 0, 1, 0];
 
 /// The put of the point 5 with the body `a` into page 1, and with `b`.
@@ -38,12 +38,12 @@ const CHANGES: [&[u8]; 4] = [&PUT_1, &PUT_5, &PUT_5_B, &DELETE_1];
 const TREE: [&[u8]; 4] = [&SPLIT, &PUT_7, &GROW, &POST];
 
 /// The fields of page 1, how many of the four operations were done, and what comes of them: the bytes that wait; the root, the
-/// height, the high mark and the pages in use; how many pages are in memory; and the number that an allocation takes.
+/// height, the highest page and the pages in use; how many pages are in memory; and the number that an allocation takes.
 type Row = (bool, usize, u32, [u32; 4], usize, u32);
 
 const ROWS: [Row; 9] = [
     (false, 0, 0, [1, 1, 1, 1], 1, 2),
-    // the first group has an image of the page
+    // the first group has a page image
     (false, 1, 4115, [1, 1, 1, 1], 1, 2),
     (false, 2, 4131, [1, 1, 1, 1], 1, 2),
     (false, 3, 4131, [1, 1, 1, 1], 1, 2),
@@ -66,8 +66,8 @@ fn behind(alloc: Global, is_tree: bool, count: usize, failing: u64) -> Option<St
     }
 }
 
-/// What changes of what a file says: the root, the height, the high mark and the pages in use.
-fn marks(meta: &Meta) -> [u32; 4] {
+/// What changes of what a file says: the root, the height, the highest page and the pages in use.
+fn meta_numbers(meta: &Meta) -> [u32; 4] {
     [meta.root, u32::from(meta.height), meta.high, meta.live]
 }
 
@@ -86,7 +86,9 @@ fn there(store: &Store<RotDisk>) -> usize {
 fn comes(alloc: Global, row: Row) -> Option<bool> {
     let (is_tree, count, pending, said, pages, next) = row;
     let mut store = behind(alloc, is_tree, count, NEVER)?;
-    let right = store.pending() == pending && marks(store.meta()) == said && there(&store) == pages;
+    let right = store.pending() == pending
+        && meta_numbers(store.meta()) == said
+        && there(&store) == pages;
     Some(right && store.next_page().ok()? == Some((next, 0)))
 }
 
@@ -144,16 +146,16 @@ fn groups_are_forced(rt: HostRuntime) {
 
 /// Whether the operations are those of the tree, an offset of the disk once all groups were forced, and the bytes there.
 const FRAMES: [(bool, usize, &[u8]); 14] = [
-    // the gate and the length, the count of images, and the number of the image; its page, and the put
+    // the gate and the length, the count of page images, and the number of the one; its page, and the put
     (false, 8192, &[0xA5, 0, 0, 16, 19, 1, 0, 0, 0, 1]),
     (false, 8202, &EMPTY),
     (false, 12_298, b"\x01\0\0\0\x01\0\0\0\0\0\0\0\x01\0"),
-    // the groups of the put and the delete, which have no image
+    // the groups of the put and the delete, which have no page image
     (false, 12_312, &[0xA5, 0, 0, 0, 16]),
     (false, 12_317, &PUT_5),
     (false, 12_333, &[0xA5, 0, 0, 0, 14]),
     (false, 12_338, &DELETE_1),
-    // the split with its image, and three groups without one
+    // the split with its page image, and three groups without one
     (true, 8192, &[0xA5, 0, 0, 0x10, 0x1E, 1, 0, 0, 0, 1]),
     (true, 8202, &POINTS),
     (
@@ -202,7 +204,7 @@ fn replays(alloc: Global, said: [u32; 4]) -> Option<bool> {
         return None;
     }
     let touched = read_log(alloc, &mut disk, 0, &FOUR).ok()?;
-    Some(marks(&touched.meta) == said && touched.pages.len() == 3)
+    Some(meta_numbers(&touched.meta) == said && touched.pages.len() == 3)
 }
 
 #[test]

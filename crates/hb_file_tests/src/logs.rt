@@ -18,9 +18,9 @@ const TWO: Meta = Meta { pages: 2, ..FOUR };
 enum Front {
     /// Nothing.
     None,
-    /// A frame with the put of the point 5 and an image of an empty page under this number.
+    /// A frame with the put of the point 5 and a page image of an empty page under this number.
     Put(u8),
-    /// A frame with the split of page 1 at this value and its image.
+    /// A frame with the split of page 1 at this value and its page image.
     Split(u8),
 }
 

@@ -26,7 +26,7 @@ const SPLIT: [u8; 51] = [
     255, 255, 255, 255, 1, 0, 2, 0, 0, 0, 0, 0, 0, 0, 1, 0, 0, 0, 0, 0, 0, 0, 0, 5, 0,
 ];
 
-/// Behind the image: the split of page 1 at 5, from where on page 2 has its points. Then the frames of three more groups:
+/// Behind the page image: the split of page 1 at 5, from where on page 2 has its points. Then the frames of three more groups:
 /// the put of the point 7 with the body `a` into page 2, the growth by page 3, and the posting of page 2 there.
 const BEHIND: [u8; 93] = [
     3, 0, 0, 0, 1, 0, 0, 0, 2, 0, 0, 0, 0, 0, 1, 0, 0, 0, 0, 0, 0, 0, 0, 5, 1, //
@@ -70,13 +70,13 @@ const LEFT: [(usize, &[u8]); 4] = [
     (4096, &NEXT),
 ];
 
-/// What an opening answers: the root, the height, the high mark and the pages in use, with the number of records; or why not.
+/// What an opening answers: the root, the height, the highest page and the pages in use, with the number of records; or why not.
 type Answer = Result<([u32; 4], u64), OpenFault>;
 
 /// What the file of two levels answers.
 const GOOD: Answer = Ok(([3, 2, 3, 3], 3));
 
-fn marks(meta: &Meta) -> [u32; 4] {
+fn meta_numbers(meta: &Meta) -> [u32; 4] {
     [meta.root, u32::from(meta.height), meta.high, meta.live]
 }
 
@@ -102,7 +102,7 @@ fn file(alloc: Global, size: usize, at: usize, piece: &[u8]) -> Option<Vec<u8>> 
 fn open(alloc: Global, disk: MemDisk) -> (Answer, MemDisk) {
     match recover(alloc, disk) {
         Ok((store, count)) => {
-            let said = marks(store.meta());
+            let said = meta_numbers(store.meta());
             (Ok((said, count)), store.into_disk())
         }
         Err((fault, disk)) => (Err(fault), disk),
@@ -264,7 +264,7 @@ const DAMAGES: [(usize, usize, &[u8], OpenFault); 12] = [
     (SIZE, 8193, &[0, 0, 0, 0], OpenFault::BadGroup { frame: 0 }),
     (SIZE, 12_333, &[4], OpenFault::BadGroup { frame: 1 }),
     (SIZE, 12_354, &[2], OpenFault::BadGroup { frame: 2 }),
-    // more pages in use than the high mark, and no page in its place where the log has no frame
+    // more pages in use than the highest page, and no page in its place where the log has no frame
     (SIZE, 36, &[2], OpenFault::Unsound { page: 0, rule: 1 }),
     (SIZE, 8192, &[0], OpenFault::Unsound { page: 1, rule: 0 }),
 ];

@@ -244,14 +244,14 @@ impl Pages for KeptPages {
     }
 }
 
-/// A file's root, height, high mark, live pages and free head.
-pub(crate) type Marks = (u32, u8, u32, u32, u32);
+/// A file's root, height, highest page, live pages and free head.
+pub(crate) type MetaNumbers = (u32, u8, u32, u32, u32);
 
 /// A file of so many attributes, 1 to 4, with 8 pages. Its height is 1 to 12.
-pub(crate) fn meta_of(k: u8, marks: Marks) -> Meta
+pub(crate) fn meta_of(k: u8, numbers: MetaNumbers) -> Meta
     ensures { IsLayout result }
 {
-    let (root, height, high, live, free) = marks;
+    let (root, height, high, live, free) = numbers;
     Meta {
         k: k.max(1).min(4),
         pages: 8,
@@ -285,14 +285,14 @@ fn has_outcome(alloc: Global, meta: &Meta, mut pages: KeptPages, want: Outcome) 
 pub(crate) fn is_audited(
     alloc: Global,
     k: u8,
-    marks: Marks,
+    numbers: MetaNumbers,
     text: &str,
     number: usize,
     other: &str,
     want: Outcome,
 ) -> bool {
     match KeptPages::new(alloc, text, number, other) {
-        Some(pages) => has_outcome(alloc, &meta_of(k, marks), pages, want),
+        Some(pages) => has_outcome(alloc, &meta_of(k, numbers), pages, want),
         None => false,
     }
 }

@@ -45,7 +45,7 @@ pub(crate) const POINTS: [u8; 41] = [
     0, 0, 0, 0, 1, 0, 0, 0, 0, 0, 0, 0, 0, 5, 0,
 ];
 
-/// The split of page 1 at 5, as a group of the log has it: what isn't below goes to page 2. No image.
+/// The split of page 1 at 5, as a group of the log has it: what isn't below goes to page 2. No page image.
 pub(crate) const SPLIT: [u8; 26] = [
     0, 3, 0, 0, 0, 1, 0, 0, 0, 2, 0, 0, 0, 0, 0, 1, 0, 0, 0, 0, 0, 0, 0, 0, 5, 1,
 ];
@@ -72,16 +72,16 @@ pub(crate) fn disk(alloc: Global, log: &[u8], page: &[u8], failing: u64) -> Opti
     })
 }
 
-/// The pages that a file may have, its high mark, the pages in use and its free head.
-pub(crate) type Marks = (u32, u32, u32, u32);
+/// The pages that a file may have, its highest page, the pages in use and its free head.
+pub(crate) type MetaNumbers = (u32, u32, u32, u32);
 
 /// The store of a file that says so, over such a disk.
-pub(crate) fn opened(alloc: Global, marks: Marks, disk: RotDisk) -> Option<Store<RotDisk>>
+pub(crate) fn opened(alloc: Global, numbers: MetaNumbers, disk: RotDisk) -> Option<Store<RotDisk>>
     requires { (hidden disk).size ≡ 155648 }
     ensures running { IfSome result (λ store. (seen_as store).stopped ≡ false) }
     ensures marks { IfSome result (λ store. All (λ g. g.mark ≤ 7) (seen_as store).log.groups) }
 {
-    let (pages, high, live, free) = marks;
+    let (pages, high, live, free) = numbers;
     if pages == 0 || pages > 4 || high == 0 || high > pages || live > pages {
         return None;
     }

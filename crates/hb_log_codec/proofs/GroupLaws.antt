@@ -9,9 +9,9 @@ use Rattle.hb_lemmas.specs.Numbers.{big_endian}
 use Rattle.hb_frag.specs.declared.pages.Page.{Page}
 use Rattle.hb_frag.specs.Grammar.{HasSpelling, SpellsPage, page_fields}
 use Rattle.hb_ops.specs.declared.operations.Op.{Op}
-use Rattle.hb_log_codec.specs.Groups.{Logged, FitsGroup, FitsImage, FitsOp, SpellsGroups, group_bytes, image_bytes, op_bytes, page_bytes}
+use Rattle.hb_log_codec.specs.Groups.{Logged, FitsGroup, FitsPageImage, FitsOp, SpellsGroups, group_bytes, page_image_bytes, op_bytes, page_bytes}
 use Rattle.hb_log_codec.specs.Fields.{op_at}
-use Rattle.hb_log_codec.specs.Reading.{images_bytes}
+use Rattle.hb_log_codec.specs.Reading.{page_images_bytes}
 use Rattle.hb_log_codec.specs.ExactFields.{ExactFields}
 use Rattle.hb_log_codec.proofs.OpLaws.{op_again, same_number}
 use Rattle.std.proofs.lemmas.Option.{same_Some}
@@ -48,29 +48,29 @@ module _ (f : ExactFields) (once : SpelledOnce) where
       let parts = same_fronts (page_bytes p) (page_bytes q) r s (length_page p p_has ∙ sym (length_page q q_has)) e in
       (once (page_bytes p) p q (spells_page_bytes p p_has) (subst (λ b. SpellsPage b q) (sym parts.0) (spells_page_bytes q q_has)), parts.1)
 
-  pub same_image : (x y : ℕ × Page) (r s : List ℕ) → FitsImage x → FitsImage y → image_bytes x ++ r ≡ image_bytes y ++ s → (x ≡ y) × (r ≡ s)
-  same_image x y r s x_fits y_fits e =
+  pub same_page_image : (x y : ℕ × Page) (r s : List ℕ) → FitsPageImage x → FitsPageImage y → page_image_bytes x ++ r ≡ page_image_bytes y ++ s → (x ≡ y) × (r ≡ s)
+  same_page_image x y r s x_fits y_fits e =
       let numbers = same_number f x.0 y.0 (page_bytes x.1 ++ r) (page_bytes y.1 ++ s) x_fits.number y_fits.number (sym (append_assoc (big_endian 4 x.0) (page_bytes x.1) r) ∙ e ∙ append_assoc (big_endian 4 y.0) (page_bytes y.1) s) in
       let pages = same_page x.1 y.1 r s x_fits.page y_fits.page numbers.1 in
       (λ i. (numbers.0 i, pages.0 i), pages.1)
 
-  pub same_images : (xs ys : List (ℕ × Page)) (r s : List ℕ) → All FitsImage xs → All FitsImage ys → length xs ≡ length ys → images_bytes xs ++ r ≡ images_bytes ys ++ s → (xs ≡ ys) × (r ≡ s)
-  same_images [] [] r s x_fit y_fit many e = (refl, e)
-  same_images [] (y ∷ ys) r s x_fit y_fit many e = absurd (omega (arith, many))
-  same_images (x ∷ xs) [] r s x_fit y_fit many e = absurd (omega (arith, many))
-  same_images (x ∷ xs) (y ∷ ys) r s x_fit y_fit many e =
-      let one = same_image x y (images_bytes xs ++ r) (images_bytes ys ++ s) (All-head FitsImage x xs x_fit) (All-head FitsImage y ys y_fit)
-      (sym (append_assoc (image_bytes x) (images_bytes xs) r) ∙ e ∙ append_assoc (image_bytes y) (images_bytes ys) s) in
-      let more = same_images xs ys r s (All-tail FitsImage x xs x_fit) (All-tail FitsImage y ys y_fit) (omega (arith, many)) one.1 in
+  pub same_page_images : (xs ys : List (ℕ × Page)) (r s : List ℕ) → All FitsPageImage xs → All FitsPageImage ys → length xs ≡ length ys → page_images_bytes xs ++ r ≡ page_images_bytes ys ++ s → (xs ≡ ys) × (r ≡ s)
+  same_page_images [] [] r s x_fit y_fit many e = (refl, e)
+  same_page_images [] (y ∷ ys) r s x_fit y_fit many e = absurd (omega (arith, many))
+  same_page_images (x ∷ xs) [] r s x_fit y_fit many e = absurd (omega (arith, many))
+  same_page_images (x ∷ xs) (y ∷ ys) r s x_fit y_fit many e =
+      let one = same_page_image x y (page_images_bytes xs ++ r) (page_images_bytes ys ++ s) (All-head FitsPageImage x xs x_fit) (All-head FitsPageImage y ys y_fit)
+      (sym (append_assoc (page_image_bytes x) (page_images_bytes xs) r) ∙ e ∙ append_assoc (page_image_bytes y) (page_images_bytes ys) s) in
+      let more = same_page_images xs ys r s (All-tail FitsPageImage x xs x_fit) (All-tail FitsPageImage y ys y_fit) (omega (arith, many)) one.1 in
       (λ i. one.0 i ∷ more.0 i, more.1)
 
   -- no group's spelling begins another's over as many attributes
   pub same_group : (k : ℕ) (x y : Logged) (r s : List ℕ) → FitsGroup k x → FitsGroup k y → group_bytes x ++ r ≡ group_bytes y ++ s → (x ≡ y) × (r ≡ s)
   same_group k x y r s x_fits y_fits e =
-      let tails : images_bytes x.images ++ (op_bytes x.op ++ r) ≡ images_bytes y.images ++ (op_bytes y.op ++ s) =
-      sym (append_assoc (images_bytes x.images) (op_bytes x.op) r) ∙ ap (λ (l : List ℕ). drop 1 l) e ∙ append_assoc (images_bytes y.images) (op_bytes y.op) s in
+      let tails : page_images_bytes x.images ++ (op_bytes x.op ++ r) ≡ page_images_bytes y.images ++ (op_bytes y.op ++ s) =
+      sym (append_assoc (page_images_bytes x.images) (op_bytes x.op) r) ∙ ap (λ (l : List ℕ). drop 1 l) e ∙ append_assoc (page_images_bytes y.images) (op_bytes y.op) s in
       let counts : length x.images ≡ length y.images = first_byte (length x.images) (length y.images) _ _ e in
-      let images = same_images x.images y.images (op_bytes x.op ++ r) (op_bytes y.op ++ s) x_fits.images y_fits.images counts tails in
+      let images = same_page_images x.images y.images (op_bytes x.op ++ r) (op_bytes y.op ++ s) x_fits.images y_fits.images counts tails in
       let ops = same_op f k x.op y.op r s x_fits.op y_fits.op images.1 in
       (λ i. record { images = images.0 i; op = ops.0 i }, ops.1)
     where

@@ -1,4 +1,4 @@
--- What the readers of images, operations and groups find, step by step.
+-- What the readers of page images, operations and groups find, step by step.
 use Rattle.std.proofs.Common.{◌≡◌, ◌≢◌, ◌⊎◌, inl, inr, ℕ, ◌+◌, ◌-◌, ◌<◌, ◌≤◌, List, [], ◌∷◌, ◌++◌, length, map, take, drop, All, Some, None, Result, Ok, Err, refl, sym, ap, subst, ◌∙◌, append_assoc, length-append, arith}
 use Rattle.std.specs.Prelude.{AllPairs}
 use Rattle.std.specs.List.{flat_map}
@@ -13,10 +13,10 @@ use Rattle.hb_ops.specs.declared.operations.Op.{Op}
 use Rattle.hb_page_codec.specs.declared.errors.PageError.{PageError}
 use Rattle.hb_page_codec.specs.declared.errors.PageError.TheVariants as pages
 use Rattle.hb_page_codec.specs.Reading.{number_at}
-use Rattle.hb_log_codec.specs.Groups.{Logged, FitsGroup, FitsImage, FitsOp, group_bytes, image_bytes, op_bytes, page_bytes}
+use Rattle.hb_log_codec.specs.Groups.{Logged, FitsGroup, FitsPageImage, FitsOp, group_bytes, page_image_bytes, op_bytes, page_bytes}
 use Rattle.hb_log_codec.specs.Fields.{op_at}
-use Rattle.hb_log_codec.specs.Reading.{Begins, BeginsNone, Finds, GivesOrStops, StopsFor, FitImages, GroupsEnd, images_bytes, logged, stop_of, stop_at}
-use Rattle.hb_log_codec.proofs.GroupLaws.{spells_page_bytes, page_bytes_spell, length_page, same_images, same_group}
+use Rattle.hb_log_codec.specs.Reading.{Begins, BeginsNone, Finds, GivesOrStops, StopsFor, FitPageImages, GroupsEnd, page_images_bytes, logged, stop_of, stop_at}
+use Rattle.hb_log_codec.proofs.GroupLaws.{spells_page_bytes, page_bytes_spell, length_page, same_page_images, same_group}
 use Rattle.hb_page_codec.specs.Exact.{AreBytes}
 use Rattle.hb_log_codec.specs.ExactFields.{ExactFields}
 use Rattle.hb_log_codec.proofs.OpLaws.{op_again, op_exact}
@@ -42,17 +42,17 @@ op_found f view k some few bytes (Ok x) fits e =
 op_found f view k some few bytes (Err stops.NoMemory) fits e = tt
 op_found f view k some few bytes (Err stops.Bad) fits e = λ x rest b. none_some (x, rest) (sym e ∙ ap (op_at k) b.parts ∙ op_again f k x rest b.fits)
 
--- ---- an image
+-- ---- a page image
 
-image_rest : ExactFields → (bytes : List ℕ) (n : ℕ) (behind : List ℕ) (x : ℕ × Page) (rest : List ℕ) → number_at 4 bytes ≡ Some (n, behind) → Begins FitsImage image_bytes bytes x rest → behind ≡ page_bytes x.1 ++ rest
-image_rest f bytes n behind x rest e b =
+page_image_rest : ExactFields → (bytes : List ℕ) (n : ℕ) (behind : List ℕ) (x : ℕ × Page) (rest : List ℕ) → number_at 4 bytes ≡ Some (n, behind) → Begins FitsPageImage page_image_bytes bytes x rest → behind ≡ page_bytes x.1 ++ rest
+page_image_rest f bytes n behind x rest e b =
     let same : (n, behind) ≡ (x.0, page_bytes x.1 ++ rest) = same_Some _ _
     (sym e ∙ ap (number_at 4) (b.parts ∙ append_assoc (big_endian 4 x.0) (page_bytes x.1) rest) ∙ f.number_4.again x.0 (page_bytes x.1 ++ rest) b.fits.number) in
     ap (λ (p : ℕ × List ℕ). p.1) same
 
-pub image_short : ExactFields → (bytes : List ℕ) (n : ℕ) (behind : List ℕ) → number_at 4 bytes ≡ Some (n, behind) → length behind < PAGE → BeginsNone FitsImage image_bytes bytes
-image_short f bytes n behind e few x rest b =
-    omega (arith, few, ap length (image_rest f bytes n behind x rest e b), length-append (page_bytes x.1) rest, length_page x.1 b.fits.page)
+pub page_image_short : ExactFields → (bytes : List ℕ) (n : ℕ) (behind : List ℕ) → number_at 4 bytes ≡ Some (n, behind) → length behind < PAGE → BeginsNone FitsPageImage page_image_bytes bytes
+page_image_short f bytes n behind e few x rest b =
+    omega (arith, few, ap length (page_image_rest f bytes n behind x rest e b), length-append (page_bytes x.1) rest, length_page x.1 b.fits.page)
 
 -- where bytes spell a page it is read, unless memory was refused
 abbrev pub IsOnly : Result Page PageError → Page → Type 0
@@ -62,21 +62,21 @@ not_refused : (page : Page) → IsOnly (Err pages.BadPage) page → ⊥
 not_refused page (inl same) = absurd cc
 not_refused page (inr same) = absurd cc
 
-image_none : ExactFields → (bytes : List ℕ) (n : ℕ) (behind front back : List ℕ) → number_at 4 bytes ≡ Some (n, behind) → behind ≡ front ++ back → length front ≡ PAGE
-    → ((page : Page) → SpellsPage front page → IsOnly (Err pages.BadPage) page) → BeginsNone FitsImage image_bytes bytes
-image_none f bytes n behind front back e parts long only x rest b =
-    let fronts = same_fronts front (page_bytes x.1) back rest (long ∙ sym (length_page x.1 b.fits.page)) (sym parts ∙ image_rest f bytes n behind x rest e b) in
+page_image_none : ExactFields → (bytes : List ℕ) (n : ℕ) (behind front back : List ℕ) → number_at 4 bytes ≡ Some (n, behind) → behind ≡ front ++ back → length front ≡ PAGE
+    → ((page : Page) → SpellsPage front page → IsOnly (Err pages.BadPage) page) → BeginsNone FitsPageImage page_image_bytes bytes
+page_image_none f bytes n behind front back e parts long only x rest b =
+    let fronts = same_fronts front (page_bytes x.1) back rest (long ∙ sym (length_page x.1 b.fits.page)) (sym parts ∙ page_image_rest f bytes n behind x rest e b) in
     let spelled : SpellsPage front x.1 = subst (λ t. SpellsPage t x.1) (sym fronts.0) (spells_page_bytes x.1 b.fits.page) in
     not_refused x.1 (only x.1 spelled)
 
-pub image_refused : ExactFields → (bytes : List ℕ) (n : ℕ) (behind front back : List ℕ) (stop : PageError) → number_at 4 bytes ≡ Some (n, behind) → behind ≡ front ++ back → length front ≡ PAGE
-    → ((page : Page) → SpellsPage front page → IsOnly (Err stop) page) → StopsFor (BeginsNone FitsImage image_bytes bytes) (stop_of stop)
-image_refused f bytes n behind front back pages.NoMemory e parts long only = tt
-image_refused f bytes n behind front back pages.BadPage e parts long only = image_none f bytes n behind front back e parts long only
+pub page_image_refused : ExactFields → (bytes : List ℕ) (n : ℕ) (behind front back : List ℕ) (stop : PageError) → number_at 4 bytes ≡ Some (n, behind) → behind ≡ front ++ back → length front ≡ PAGE
+    → ((page : Page) → SpellsPage front page → IsOnly (Err stop) page) → StopsFor (BeginsNone FitsPageImage page_image_bytes bytes) (stop_of stop)
+page_image_refused f bytes n behind front back pages.NoMemory e parts long only = tt
+page_image_refused f bytes n behind front back pages.BadPage e parts long only = page_image_none f bytes n behind front back e parts long only
 
-pub image_begins : ExactFields → (bytes : List ℕ) (n : ℕ) (behind front back : List ℕ) (page : Page) → AreBytes bytes → number_at 4 bytes ≡ Some (n, behind) → behind ≡ front ++ back → SpellsPage front page
-    → Begins FitsImage image_bytes bytes (n, page) back
-image_begins f bytes n behind front back page fits e parts spelled =
+pub page_image_begins : ExactFields → (bytes : List ℕ) (n : ℕ) (behind front back : List ℕ) (page : Page) → AreBytes bytes → number_at 4 bytes ≡ Some (n, behind) → behind ≡ front ++ back → SpellsPage front page
+    → Begins FitsPageImage page_image_bytes bytes (n, page) back
+page_image_begins f bytes n behind front back page fits e parts spelled =
     let number = f.number_4.takes bytes (n, behind) fits e in
     let one = page_bytes_spell front page spelled in
     record {
@@ -84,69 +84,69 @@ image_begins f bytes n behind front back page fits e parts spelled =
       parts = number.0 ∙ ap (λ (t : List ℕ). big_endian 4 n ++ t) (parts ∙ ap (λ (t : List ℕ). t ++ back) one.0) ∙ sym (append_assoc (big_endian 4 n) (page_bytes page) back);
     }
 
--- ---- images
+-- ---- page images
 
-pub images_begin : (bytes : List ℕ) → Begins (FitImages 0) images_bytes bytes [] bytes
-images_begin bytes = record { fits = record { many = refl; each = All-nil FitsImage }; parts = refl }
+pub page_images_begin : (bytes : List ℕ) → Begins (FitPageImages 0) page_images_bytes bytes [] bytes
+page_images_begin bytes = record { fits = record { many = refl; each = All-nil FitsPageImage }; parts = refl }
 
-pub images_more : (count : ℕ) (bytes : List ℕ) (images : List (ℕ × Page)) (rest : List ℕ) (image : ℕ × Page) (after : List ℕ) → Begins (FitImages count) images_bytes bytes images rest
-    → Begins FitsImage image_bytes rest image after → Begins (FitImages (count + 1)) images_bytes bytes (images ++ image ∷ []) after
-images_more count bytes images rest image after so_far next = record {
+pub page_images_more : (count : ℕ) (bytes : List ℕ) (images : List (ℕ × Page)) (rest : List ℕ) (page_image : ℕ × Page) (after : List ℕ) → Begins (FitPageImages count) page_images_bytes bytes images rest
+    → Begins FitsPageImage page_image_bytes rest page_image after → Begins (FitPageImages (count + 1)) page_images_bytes bytes (images ++ page_image ∷ []) after
+page_images_more count bytes images rest page_image after so_far next = record {
   fits = record {
-    many = length-append images (image ∷ []) ∙ omega (arith, so_far.fits.many);
-    each = All-append FitsImage images (image ∷ []) so_far.fits.each (All-cons FitsImage image [] next.fits (All-nil FitsImage));
+    many = length-append images (page_image ∷ []) ∙ omega (arith, so_far.fits.many);
+    each = All-append FitsPageImage images (page_image ∷ []) so_far.fits.each (All-cons FitsPageImage page_image [] next.fits (All-nil FitsPageImage));
   };
-  parts = so_far.parts ∙ ap (λ (t : List ℕ). images_bytes images ++ t) next.parts ∙ sym (append_assoc (images_bytes images) (image_bytes image) after)
-      ∙ ap (λ (t : List ℕ). t ++ after) (flat_map_more image_bytes [] images image);
+  parts = so_far.parts ∙ ap (λ (t : List ℕ). page_images_bytes images ++ t) next.parts ∙ sym (append_assoc (page_images_bytes images) (page_image_bytes page_image) after)
+      ∙ ap (λ (t : List ℕ). t ++ after) (flat_map_more page_image_bytes [] images page_image);
 }
 
 module _ (f : ExactFields) (once : SpelledOnce) where
-  images_none : (count done : ℕ) (bytes : List ℕ) (images : List (ℕ × Page)) (rest : List ℕ) → done < count → Begins (FitImages done) images_bytes bytes images rest
-      → BeginsNone FitsImage image_bytes rest → BeginsNone (FitImages count) images_bytes bytes
-  images_none count done bytes images rest lt so_far none xs behind b =
+  page_images_none : (count done : ℕ) (bytes : List ℕ) (images : List (ℕ × Page)) (rest : List ℕ) → done < count → Begins (FitPageImages done) page_images_bytes bytes images rest
+      → BeginsNone FitsPageImage page_image_bytes rest → BeginsNone (FitPageImages count) page_images_bytes bytes
+  page_images_none count done bytes images rest lt so_far none xs behind b =
       let front = take done xs in
       let back = drop done xs in
       let many : length front ≡ done = omega (arith, length-take done xs, b.fits.many, lt) in
-      let split : images_bytes xs ++ behind ≡ images_bytes front ++ (images_bytes back ++ behind) =
-      ap (λ (t : List (ℕ × Page)). images_bytes t ++ behind) (sym (take-append-drop done xs)) ∙ ap (λ (t : List ℕ). t ++ behind) (flat_map-append image_bytes front back) ∙ append_assoc (images_bytes front) (images_bytes back) behind in
-      let same = same_images f once images front rest (images_bytes back ++ behind) so_far.fits.each (All-take FitsImage done xs b.fits.each) (so_far.fits.many ∙ sym many) (sym so_far.parts ∙ b.parts ∙ split) in
-      first_of back (All-drop FitsImage done xs b.fits.each) (omega (arith, length-drop done xs, b.fits.many, lt)) same.1
+      let split : page_images_bytes xs ++ behind ≡ page_images_bytes front ++ (page_images_bytes back ++ behind) =
+      ap (λ (t : List (ℕ × Page)). page_images_bytes t ++ behind) (sym (take-append-drop done xs)) ∙ ap (λ (t : List ℕ). t ++ behind) (flat_map-append page_image_bytes front back) ∙ append_assoc (page_images_bytes front) (page_images_bytes back) behind in
+      let same = same_page_images f once images front rest (page_images_bytes back ++ behind) so_far.fits.each (All-take FitsPageImage done xs b.fits.each) (so_far.fits.many ∙ sym many) (sym so_far.parts ∙ b.parts ∙ split) in
+      first_of back (All-drop FitsPageImage done xs b.fits.each) (omega (arith, length-drop done xs, b.fits.many, lt)) same.1
     where
-      first_of : (ys : List (ℕ × Page)) → All FitsImage ys → 0 < length ys → rest ≡ images_bytes ys ++ behind → ⊥
+      first_of : (ys : List (ℕ × Page)) → All FitsPageImage ys → 0 < length ys → rest ≡ page_images_bytes ys ++ behind → ⊥
       first_of [] each some e = absurd (omega (arith, some))
-      first_of (y ∷ ys) each some e = none y (images_bytes ys ++ behind) (record { fits = All-head FitsImage y ys each; parts = e ∙ append_assoc (image_bytes y) (images_bytes ys) behind })
+      first_of (y ∷ ys) each some e = none y (page_images_bytes ys ++ behind) (record { fits = All-head FitsPageImage y ys each; parts = e ∙ append_assoc (page_image_bytes y) (page_images_bytes ys) behind })
 
-  pub images_stop : (count done : ℕ) (bytes : List ℕ) (images : List (ℕ × Page)) (rest : List ℕ) (stop : GroupStop) → done < count → Begins (FitImages done) images_bytes bytes images rest
-      → StopsFor (BeginsNone FitsImage image_bytes rest) stop → StopsFor (BeginsNone (FitImages count) images_bytes bytes) stop
-  images_stop count done bytes images rest stops.Bad lt so_far none = images_none count done bytes images rest lt so_far none
-  images_stop count done bytes images rest stops.NoMemory lt so_far none = tt
+  pub page_images_stop : (count done : ℕ) (bytes : List ℕ) (images : List (ℕ × Page)) (rest : List ℕ) (stop : GroupStop) → done < count → Begins (FitPageImages done) page_images_bytes bytes images rest
+      → StopsFor (BeginsNone FitsPageImage page_image_bytes rest) stop → StopsFor (BeginsNone (FitPageImages count) page_images_bytes bytes) stop
+  page_images_stop count done bytes images rest stops.Bad lt so_far none = page_images_none count done bytes images rest lt so_far none
+  page_images_stop count done bytes images rest stops.NoMemory lt so_far none = tt
 
   -- ---- a group
 
-  -- the images and the operation of a group that begins with these images
-  group_parts : (k count : ℕ) (bytes behind : List ℕ) (images : List (ℕ × Page)) (rest : List ℕ) (g : Logged) (after : List ℕ) → bytes ≡ count ∷ behind → Begins (FitImages count) images_bytes behind images rest
+  -- the page images and the operation of a group that begins with these page images
+  group_parts : (k count : ℕ) (bytes behind : List ℕ) (images : List (ℕ × Page)) (rest : List ℕ) (g : Logged) (after : List ℕ) → bytes ≡ count ∷ behind → Begins (FitPageImages count) page_images_bytes behind images rest
       → Begins (FitsGroup k) group_bytes bytes g after → (images ≡ g.images) × (rest ≡ op_bytes g.op ++ after)
   group_parts k count bytes behind images rest g after e so_far b =
       let whole : count ∷ behind ≡ group_bytes g ++ after = sym e ∙ b.parts in
       let many : count ≡ length g.images = first_byte count (length g.images) _ _ whole in
-      let tails : images_bytes images ++ rest ≡ images_bytes g.images ++ (op_bytes g.op ++ after) =
-      sym so_far.parts ∙ ap (λ (l : List ℕ). drop 1 l) whole ∙ append_assoc (images_bytes g.images) (op_bytes g.op) after in
-      same_images f once images g.images rest (op_bytes g.op ++ after) so_far.fits.each b.fits.images (so_far.fits.many ∙ many) tails
+      let tails : page_images_bytes images ++ rest ≡ page_images_bytes g.images ++ (op_bytes g.op ++ after) =
+      sym so_far.parts ∙ ap (λ (l : List ℕ). drop 1 l) whole ∙ append_assoc (page_images_bytes g.images) (op_bytes g.op) after in
+      same_page_images f once images g.images rest (op_bytes g.op ++ after) so_far.fits.each b.fits.images (so_far.fits.many ∙ many) tails
     where
       first_byte : (a b : ℕ) (xs ys : List ℕ) → a ∷ xs ≡ b ∷ ys → a ≡ b
       first_byte a b xs ys h = cc
 
-  pub group_not_distinct : (k count : ℕ) (bytes behind : List ℕ) (images : List (ℕ × Page)) (rest : List ℕ) → bytes ≡ count ∷ behind → Begins (FitImages count) images_bytes behind images rest
+  pub group_not_distinct : (k count : ℕ) (bytes behind : List ℕ) (images : List (ℕ × Page)) (rest : List ℕ) → bytes ≡ count ∷ behind → Begins (FitPageImages count) page_images_bytes behind images rest
       → (AllPairs (λ i j. i.0 ≢ j.0) images → ⊥) → BeginsNone (FitsGroup k) group_bytes bytes
   group_not_distinct k count bytes behind images rest e so_far same g after b =
       same (subst (λ l. AllPairs (λ i j. i.0 ≢ j.0) l) (sym (group_parts k count bytes behind images rest g after e so_far b).0) b.fits.distinct)
 
-  group_none : (k count : ℕ) (bytes behind : List ℕ) (images : List (ℕ × Page)) (rest : List ℕ) → bytes ≡ count ∷ behind → Begins (FitImages count) images_bytes behind images rest
+  group_none : (k count : ℕ) (bytes behind : List ℕ) (images : List (ℕ × Page)) (rest : List ℕ) → bytes ≡ count ∷ behind → Begins (FitPageImages count) page_images_bytes behind images rest
       → BeginsNone (FitsOp k) op_bytes rest → BeginsNone (FitsGroup k) group_bytes bytes
   group_none k count bytes behind images rest e so_far none g after b =
       none g.op after (record { fits = b.fits.op; parts = (group_parts k count bytes behind images rest g after e so_far b).1 })
 
-  pub group_no_op : (k count : ℕ) (bytes behind : List ℕ) (images : List (ℕ × Page)) (rest : List ℕ) (stop : GroupStop) → bytes ≡ count ∷ behind → Begins (FitImages count) images_bytes behind images rest
+  pub group_no_op : (k count : ℕ) (bytes behind : List ℕ) (images : List (ℕ × Page)) (rest : List ℕ) (stop : GroupStop) → bytes ≡ count ∷ behind → Begins (FitPageImages count) page_images_bytes behind images rest
       → StopsFor (BeginsNone (FitsOp k) op_bytes rest) stop → StopsFor (BeginsNone (FitsGroup k) group_bytes bytes) stop
   group_no_op k count bytes behind images rest stops.Bad e so_far none = group_none k count bytes behind images rest e so_far none
   group_no_op k count bytes behind images rest stops.NoMemory e so_far none = tt

@@ -11,18 +11,18 @@ use Rattle.hb_frag.specs.declared.pages.Page.{Page}
 use Rattle.hb_ops.specs.declared.leaf_cuts.LeafCut.{LeafCut}
 use Rattle.hb_ops.specs.declared.operations.Op.{Op}
 use Rattle.hb_ops.specs.declared.operations.Op.TheVariants.{Put, Del, Extract, Post, Grow}
-use Rattle.hb_log_codec.specs.Groups.{FitsGroup, FitsImage, FitsOp, Logged, cuts_bytes, group_bytes, image_bytes, leaf_cut_bytes, op_bytes, page_bytes, path_bytes, side_byte}
+use Rattle.hb_log_codec.specs.Groups.{FitsGroup, FitsPageImage, FitsOp, Logged, cuts_bytes, group_bytes, page_image_bytes, leaf_cut_bytes, op_bytes, page_bytes, path_bytes, side_byte}
 use Rattle.hb_log_codec.proofs.GroupLaws.{length_page}
 use Rattle.hb_lemmas.proofs.Numbers.{length_big_endian}
 use Rattle.hb_page_codec.proofs.Facts.Fields.{length_point}
 
-length_image : (image : ℕ × Page) → FitsImage image → length (image_bytes image) ≡ 4100
-length_image image h = omega (arith, length-append (big_endian 4 image.0) (page_bytes image.1), length_big_endian 4 image.0, length_page image.1 h.page)
+length_page_image : (page_image : ℕ × Page) → FitsPageImage page_image → length (page_image_bytes page_image) ≡ 4100
+length_page_image page_image h = omega (arith, length-append (big_endian 4 page_image.0) (page_bytes page_image.1), length_big_endian 4 page_image.0, length_page page_image.1 h.page)
 
-length_images : (images : List (ℕ × Page)) → All FitsImage images → length (flat_map image_bytes images) ≡ 4100 * length images
-length_images [] h = refl
-length_images (i ∷ rest) h =
-    omega (arith, length-append (image_bytes i) (flat_map image_bytes rest), length_image i (All-head FitsImage i rest h), length_images rest (All-tail FitsImage i rest h))
+length_page_images : (images : List (ℕ × Page)) → All FitsPageImage images → length (flat_map page_image_bytes images) ≡ 4100 * length images
+length_page_images [] h = refl
+length_page_images (i ∷ rest) h =
+    omega (arith, length-append (page_image_bytes i) (flat_map page_image_bytes rest), length_page_image i (All-head FitsPageImage i rest h), length_page_images rest (All-tail FitsPageImage i rest h))
 
 length_cut : (cut : LeafCut) → length (leaf_cut_bytes cut) ≡ 10
 length_cut cut = omega (arith, length-append (big_endian 8 cut.value) (side_byte cut.side ∷ []), length_big_endian 8 cut.value)
@@ -65,4 +65,4 @@ length_op k (Grow fresh free_after) small h =
 
 pub group_short : (k : ℕ) (g : Logged) → k ≤ KMAX → FitsGroup k g → length (group_bytes g) ≤ GROUP
 group_short k g small h =
-    omega (arith, h.few, length-append (flat_map image_bytes g.images) (op_bytes g.op), length_images g.images h.images, length_op k g.op small h.op)
+    omega (arith, h.few, length-append (flat_map page_image_bytes g.images) (op_bytes g.op), length_page_images g.images h.images, length_op k g.op small h.op)

@@ -1,4 +1,4 @@
--- A group of the log: images of pages, and one operation. How groups are spelled.
+-- A group of the log: page images, and one operation. How groups are spelled.
 use Rattle.std.specs.Prelude.{◌≡◌, ◌≢◌, ℕ, ◌-◌, ◌<◌, ◌≤◌, ◌^◌, List, [], ◌∷◌, ◌++◌, length, flat_map, map, replicate, All, AllPairs}
 use Rattle.hb_space.specs.declared.form.TheConstants.{PAGE}
 use Rattle.hb_lemmas.specs.Numbers.{big_endian}
@@ -11,7 +11,7 @@ use Rattle.hb_ops.specs.declared.leaf_cuts.LeafCut.{LeafCut}
 use Rattle.hb_ops.specs.declared.operations.Op.{Op}
 use Rattle.hb_ops.specs.declared.operations.Op.TheVariants.{Put, Del, Extract, Post, Grow}
 
--- images stand by the numbers of their pages
+-- page images stand by the numbers of their pages
 pub record Logged : Type 0 where
   pub images : List (ℕ × Page)
   pub op : Op
@@ -20,8 +20,8 @@ pub record Logged : Type 0 where
 abbrev pub page_bytes : Page → List ℕ
 page_bytes page = page_fields page ++ replicate (PAGE - length (page_fields page)) 0
 
-abbrev pub image_bytes : ℕ × Page → List ℕ
-image_bytes image = big_endian 4 image.0 ++ page_bytes image.1
+abbrev pub page_image_bytes : ℕ × Page → List ℕ
+page_image_bytes page_image = big_endian 4 page_image.0 ++ page_bytes page_image.1
 
 -- a step of a path, and a side of a cut
 abbrev pub side_byte : Side → ℕ
@@ -46,14 +46,14 @@ op_bytes (Extract source fresh path cuts free_after) = 3 ∷ big_endian 4 source
 op_bytes (Post parent at inner area) = 4 ∷ big_endian 4 parent ++ path_bytes at ++ big_endian 4 inner ++ point_bytes area.lo ++ point_bytes area.hi
 op_bytes (Grow fresh free_after) = 6 ∷ big_endian 4 fresh ++ big_endian 4 free_after
 
--- a group: the count of its images, the images, the operation
+-- a group: the count of its page images, the page images, the operation
 abbrev pub group_bytes : Logged → List ℕ
-group_bytes g = length g.images ∷ flat_map image_bytes g.images ++ op_bytes g.op
+group_bytes g = length g.images ∷ flat_map page_image_bytes g.images ++ op_bytes g.op
 
--- what of an image, an operation over k attributes and a group has its place in the spelling
-pub record FitsImage (image : ℕ × Page) : Type 0 where
-  pub number : image.0 < 2 ^ 32
-  pub page : HasSpelling image.1
+-- what of a page image, an operation over k attributes and a group has its place in the spelling
+pub record FitsPageImage (page_image : ℕ × Page) : Type 0 where
+  pub number : page_image.0 < 2 ^ 32
+  pub page : HasSpelling page_image.1
 
 pub record FitsLeafCut (cut : LeafCut) : Type 0 where
   pub axis : cut.axis < 2 ^ 8
@@ -91,7 +91,7 @@ HasShortPaths (Grow fresh free_after) = Unit {0}
 
 pub record FitsGroup (k : ℕ) (g : Logged) : Type 0 where
   pub few : length g.images ≤ 3
-  pub images : All FitsImage g.images
+  pub images : All FitsPageImage g.images
   pub distinct : AllPairs (λ i j. i.0 ≢ j.0) g.images
   pub op : FitsOp k g.op
 

@@ -3,7 +3,7 @@ use Rattle.std.specs.Prelude.{◌≡◌, ℕ, ◌<◌, List, ◌++◌, length, t
 use Rattle.hb_frag.specs.declared.pages.Page.{Page}
 use Rattle.hb_page_codec.specs.declared.errors.PageError.{PageError}
 use Rattle.hb_page_codec.specs.declared.errors.PageError.TheVariants as pages
-use Rattle.hb_log_codec.specs.Groups.{Logged, FitsGroup, FitsImage, SpellsGroups, group_bytes, image_bytes}
+use Rattle.hb_log_codec.specs.Groups.{Logged, FitsGroup, FitsPageImage, SpellsGroups, group_bytes, page_image_bytes}
 use Rattle.hb_log_codec.specs.declared.groups.Group.{Group}
 use Rattle.hb_log_codec.specs.declared.reading.GroupStop.{GroupStop}
 use Rattle.hb_log_codec.specs.declared.reading.GroupStop.TheVariants as stops
@@ -38,13 +38,13 @@ abbrev pub Finds : {A X : Type 0} → (A → Type 0) → (A → List ℕ) → Li
 Finds Fits spell bytes view (Ok x) = Begins Fits spell bytes (view x).0 (view x).1
 Finds Fits spell bytes view (Err stop) = StopsFor (BeginsNone Fits spell bytes) stop
 
--- so many images
-abbrev pub images_bytes : List (ℕ × Page) → List ℕ
-images_bytes images = flat_map image_bytes images
+-- so many page images
+abbrev pub page_images_bytes : List (ℕ × Page) → List ℕ
+page_images_bytes images = flat_map page_image_bytes images
 
-pub record FitImages (count : ℕ) (images : List (ℕ × Page)) : Type 0 where
+pub record FitPageImages (count : ℕ) (images : List (ℕ × Page)) : Type 0 where
   pub many : length images ≡ count
-  pub each : All FitsImage images
+  pub each : All FitsPageImage images
 
 -- a group in memory as contracts see it
 abbrev pub logged : Group → Logged

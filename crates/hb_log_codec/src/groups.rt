@@ -4,7 +4,7 @@ use arrayvec::ArrayVec;
 use hb_frag::Page;
 use hb_ops::Op;
 
-/// A group of the log: images of pages by their numbers, and one operation.
+/// A group of the log: page images by their numbers, and one operation.
 #[derive(Debug, Drop)]
 pub struct Group {
     /// The pages as they were before the operation. No two have the same number.

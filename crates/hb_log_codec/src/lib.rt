@@ -3,7 +3,7 @@
 //! The one contract: `decode_all` answers the groups that the bytes spell, one after the other, and
 //! `GroupsError::BadBytes` exactly where they spell no list of groups, with the place where the first
 //! one begins that is none; `encode` writes the one spelling of a group. What the bytes of a group
-//! are is said by `group_bytes` (`specs/Groups.antt`): a count of images, the images, each a page
+//! are is said by `group_bytes` (`specs/Groups.antt`): a count of page images, the page images, each a page
 //! behind its number, and one operation behind its tag. `laws` has what follows: no group's spelling
 //! begins another's over as many attributes, so bytes spell at most one list of groups.
 //!
@@ -29,4 +29,4 @@ mod writing;
 
 pub use groups::Group;
 pub use reading::{GroupsError, decode_all};
-pub use writing::{encode, encode_image, encode_op};
+pub use writing::{encode, encode_op, encode_page_image};

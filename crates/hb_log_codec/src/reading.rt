@@ -1,8 +1,8 @@
 //! Groups from bytes.
 ghost use Rattle.std.specs.Prelude.{◌≡◌, ◌≢◌, ◌<◌, ◌≤◌, ◌↔◌, ◌∷◌, length, map, AllPairs, IfOk, IfErr, IsTrue};
 ghost use Rattle.hb_space.specs.Points.{IsAttributeCount};
-ghost use Rattle.hb_log_codec.specs.Groups.{FitsImage, FitsOp, FitsGroup, SpellsGroups, image_bytes, op_bytes, group_bytes};
-ghost use Rattle.hb_log_codec.specs.Reading.{FitImages, Finds, GroupsEnd, images_bytes, logged, stop_at};
+ghost use Rattle.hb_log_codec.specs.Groups.{FitsPageImage, FitsOp, FitsGroup, SpellsGroups, page_image_bytes, op_bytes, group_bytes};
+ghost use Rattle.hb_log_codec.specs.Reading.{FitPageImages, Finds, GroupsEnd, page_images_bytes, logged, stop_at};
 
 use crate::fields::op_of;
 use crate::groups::Group;
@@ -15,7 +15,7 @@ use hb_page_codec::{PageError, decode, u32_of};
 use hb_space::form::{KMAX, PAGE};
 use std::alloc::{AllocFailed, Global};
 
-/// Why no image, operation or group was read from the front of bytes.
+/// Why no page image, operation or group was read from the front of bytes.
 #[derive(Clone, Copy, Debug, PartialEq, Eq)]
 pub(crate) enum GroupStop {
     /// None stands there.
@@ -79,8 +79,8 @@ impl GroupStop {
 }
 
 /// The page with the number that stands in front of it.
-fn image_of(alloc: Global, bytes: &[u8]) -> Result<((u32, Page), &[u8]), GroupStop>
-    ensures { Finds FitsImage image_bytes bytes.now (λ x. (x.0, x.1.now)) result }
+fn page_image_of(alloc: Global, bytes: &[u8]) -> Result<((u32, Page), &[u8]), GroupStop>
+    ensures { Finds FitsPageImage page_image_bytes bytes.now (λ x. (x.0, x.1.now)) result }
 {
     spelling_law();
     fields_are_exact();
@@ -93,28 +93,28 @@ fn image_of(alloc: Global, bytes: &[u8]) -> Result<((u32, Page), &[u8]), GroupSt
     Ok(((number, page), rest))
 }
 
-/// So many images, three at most.
-fn images_of(
+/// So many page images, three at most.
+fn page_images_of(
     alloc: Global,
     count: u8,
     bytes: &[u8],
 ) -> Result<(ArrayVec<(u32, Page), 3>, &[u8]), GroupStop>
     requires { count ≤ 3 }
-    ensures { Finds (FitImages count) images_bytes bytes.now (λ x. (x.0.items, x.1.now)) result }
+    ensures { Finds (FitPageImages count) page_images_bytes bytes.now (λ x. (x.0.items, x.1.now)) result }
 {
     spelling_law();
     fields_are_exact();
     let mut images = ArrayVec::new();
     let mut rest = bytes;
     for _ in 0..count {
-        let (image, after) = image_of(alloc, rest)?;
-        images.push(image);
+        let (page_image, after) = page_image_of(alloc, rest)?;
+        images.push(page_image);
         rest = after;
     }
     Ok((images, rest))
 }
 
-/// Whether no two images are of one page.
+/// Whether no two page images are of one page.
 fn are_distinct(images: &[(u32, Page)]) -> bool
     requires { length images.now ≤ 3 }
     ensures { IsTrue result ↔ AllPairs (λ i j. i.0 ≢ j.0) images.now }
@@ -137,7 +137,7 @@ fn operation_of(alloc: Global, k: u8, bytes: &[u8]) -> Result<(Op, &[u8]), Group
     op_of(alloc, k, bytes)
 }
 
-/// A group over `k` attributes, behind the count of its images.
+/// A group over `k` attributes, behind the count of its page images.
 fn group_behind(alloc: Global, k: u8, count: u8, bytes: &[u8]) -> Result<(Group, &[u8]), GroupStop>
     requires attributes { IsAttributeCount k }
     requires images { count ≤ 3 }
@@ -145,7 +145,7 @@ fn group_behind(alloc: Global, k: u8, count: u8, bytes: &[u8]) -> Result<(Group,
 {
     spelling_law();
     fields_are_exact();
-    let (images, rest) = images_of(alloc, count, bytes)?;
+    let (images, rest) = page_images_of(alloc, count, bytes)?;
     if !are_distinct(images.as_slice()) {
         return Err(GroupStop::Bad);
     }

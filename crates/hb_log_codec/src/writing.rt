@@ -2,7 +2,7 @@
 ghost use Rattle.std.specs.Prelude.{◌≡◌, ◌<◌, ◌^◌, ◌++◌, ◌∷◌, All, flat_map, length, map, OnOk};
 ghost use Rattle.hb_lemmas.specs.Numbers.{big_endian};
 ghost use Rattle.hb_frag.specs.Grammar.{HasSpelling, point_bytes, record_bytes};
-ghost use Rattle.hb_log_codec.specs.Groups.{FitsGroup, FitsImage, HasShortPaths, cuts_bytes, group_bytes, image_bytes, leaf_cut_bytes, op_bytes, page_bytes, path_bytes, side_byte};
+ghost use Rattle.hb_log_codec.specs.Groups.{FitsGroup, FitsPageImage, HasShortPaths, cuts_bytes, group_bytes, page_image_bytes, leaf_cut_bytes, op_bytes, page_bytes, path_bytes, side_byte};
 ghost use Rattle.hb_log_codec.specs.Reading.{logged};
 
 use crate::groups::Group;
@@ -13,32 +13,32 @@ use hb_page_codec::encode as encode_page;
 use hb_space::form::PAGE;
 use hb_space::{Area, NoMemory, Point, Record};
 
-/// Adds the bytes of a group over `k` attributes: the count of its images, the images, the operation.
+/// Adds the bytes of a group over `k` attributes: the count of its page images, the page images, the operation.
 pub fn encode(group: &Group, k: u8, into: &mut Vec<u8>) -> Result<(), NoMemory>
     requires { FitsGroup k (logged group.now) }
     ensures { OnOk result (into.new.items ≡ into.old.items ++ group_bytes (logged group.now)) }
 {
     let images = group.images.as_slice();
     into.push(images.len() as u8)?;
-    append_images(into, images)?;
+    append_page_images(into, images)?;
     encode_op(&group.op, into)
 }
 
-/// Adds one image after the other.
-fn append_images(into: &mut Vec<u8>, images: &[(u32, Page)]) -> Result<(), NoMemory>
-    requires { All FitsImage images.now }
-    ensures { OnOk result (into.new.items ≡ into.old.items ++ flat_map image_bytes images.now) }
+/// Adds one page image after the other.
+fn append_page_images(into: &mut Vec<u8>, images: &[(u32, Page)]) -> Result<(), NoMemory>
+    requires { All FitsPageImage images.now }
+    ensures { OnOk result (into.new.items ≡ into.old.items ++ flat_map page_image_bytes images.now) }
 {
     for (id, page) in images {
-        encode_image(*id, page, into)?;
+        encode_page_image(*id, page, into)?;
     }
     Ok(())
 }
 
-/// Adds the image of a page under its number.
-pub fn encode_image(id: u32, page: &Page, into: &mut Vec<u8>) -> Result<(), NoMemory>
+/// Adds the page image of a page under its number.
+pub fn encode_page_image(id: u32, page: &Page, into: &mut Vec<u8>) -> Result<(), NoMemory>
     requires { HasSpelling page.now }
-    ensures { OnOk result (into.new.items ≡ into.old.items ++ image_bytes (id, page.now)) }
+    ensures { OnOk result (into.new.items ≡ into.old.items ++ page_image_bytes (id, page.now)) }
 {
     append_u32(into, id)?;
     into.extend_from_slice(&spelled(page))

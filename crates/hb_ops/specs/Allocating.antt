@@ -4,7 +4,7 @@ use Rattle.hb_layout.specs.declared.meta.Meta.{Meta}
 use Rattle.hb_frag.specs.declared.pages.Page.TheVariants.{Free}
 use Rattle.hb_ops.specs.Files.{FileState, page_of}
 
--- there is room, and the number is the first of the free chain, or where that has none the one behind the high mark
+-- there is room, and the number is the first of the free chain, or where that has none the one behind the highest page
 pub record Allocates (meta : Meta) (fresh free_after : ℕ) : Type 0 where
   pub room : meta.live < meta.pages
   pub from_chain : meta.free ≢ 0 → (fresh ≡ meta.free) × (fresh ≤ meta.high)

@@ -1,4 +1,4 @@
--- A file as a whole: what it says of itself, and a page for each number from 1 to the high mark.
+-- A file as a whole: what it says of itself, and a page for each number from 1 to the highest page.
 use Rattle.std.specs.Prelude.{ℕ, ◌-◌, ◌==◌, if◌then◌else◌, List, [], ◌∷◌, map, flat_map, Option, Some, None}
 use Rattle.std.specs.FinMap as finite
 use Rattle.hb_space.specs.Points.{point_cmp}
@@ -14,7 +14,7 @@ pub record FileState : Type 0 where
   pub meta : Meta
   pub pages : List Page
 
--- the page of a number; none for 0 and above the high mark
+-- the page of a number; none for 0 and above the highest page
 abbrev pub page_at : List Page → ℕ → Option Page
 page_at [] id = None
 page_at (page ∷ rest) id = if id == 0 then None else if id == 1 then Some page else page_at rest (id - 1)

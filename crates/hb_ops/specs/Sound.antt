@@ -14,7 +14,7 @@ use Rattle.hb_ops.specs.Files.{FileState, page_of, live_page}
 abbrev pub FitsFile : Meta → LivePage → Type 0
 FitsFile meta page = IsWellMade page meta.k meta.height meta.dcap meta.icap
 
--- S1: the marks are in their places, and the root is in use at the top level and has the whole space
+-- S1: the numbers are in their places, and the root is in use at the top level and has the whole space
 pub record IsRooted (s : FileState) : Type 0 where
   pub numbered : length s.pages ≡ s.meta.high
   pub some : 1 ≤ s.meta.high

@@ -15,7 +15,7 @@ fn named(word: &str) -> &str {
         "full" => "1 0 1 0 8*0 8*255 1 1 196",
         // the free page that ends its chain
         "page" => "2 4095*0",
-        // the put of the point 5 with the body `a` into page 1, and no image
+        // the put of the point 5 with the body `a` into page 1, and no page image
         "put" => "0 1 0 0 0 1 7*0 5 1 97",
         // the delete of the point 5 from page 7, and no image
         "del" => "0 2 0 0 0 7 7*0 5",

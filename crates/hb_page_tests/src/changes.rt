@@ -15,7 +15,7 @@ use std::alloc::Global;
 use std::test::Fail;
 
 // A file of one attribute, from the weight that a page of level 0 may have, how many pages the file
-// may have, its high mark, the pages in use, its free head and its height. A number that isn't there
+// may have, its highest page, the pages in use, its free head and its height. A number that isn't there
 // is 6, 8, 3, 3, 0 and 2.
 fn file_of(text: &str) -> Result<Meta, Fail>
     ensures { IfOk result (λ meta. meta.k ≡ 1) }
@@ -100,7 +100,7 @@ fn outcome(
 }
 
 /// What an operation makes of a page, from `FILE | PAGE | OPERATION`. Where it changes what the file
-/// says of itself, that is told as the root, the height, the high mark, the pages in use and the
+/// says of itself, that is told as the root, the height, the highest page, the pages in use and the
 /// free head.
 pub(crate) fn changed(alloc: Global, question: &str) -> Result<String, Fail> {
     let (file, rest) = halves(question, " | ", "no page")?;
@@ -224,7 +224,7 @@ change: 6 | 0 10=a,20=b | split 3 . 1R20 4 0 => Unfit
 change: 6 | 0 ( 10=a |0:40| 50=b ) | split 3 L - 4 0 => Unfit
 change: 6 | 2 ( ^2 |0:40| ^3 ) | split 3 L - 4 0 => Unfit
 // numbers that are taken
-// behind the high mark, and not elsewhere
+// behind the highest page, and not elsewhere
 change: 6 8 3 3 0 | 1 ( ^2 |0:40| ^3 ) | split 3 R - 4 0 => page 3 1 0.. : ( ^2 |0:40| >4 ); page 4 1 40.. : ^3; file 1 2 4 4 0
 change: 6 4 3 3 0 | 1 ( ^2 |0:40| ^3 ) | split 3 R - 4 0 => page 3 1 0.. : ( ^2 |0:40| >4 ); page 4 1 40.. : ^3; file 1 2 4 4 0
 change: 6 8 3 3 0 | 1 ( ^2 |0:40| ^3 ) | split 3 R - 5 0 => Unfit
@@ -237,7 +237,7 @@ change: 6 8 5 3 2 | 1 ( ^2 |0:40| ^3 ) | split 3 R - 2 0 => page 3 1 0.. : ( ^2 
 change: 6 8 5 3 2 | 1 ( ^2 |0:40| ^3 ) | split 3 R - 1 0 => Unfit
 change: 6 8 5 3 2 | 1 ( ^2 |0:40| ^3 ) | split 3 R - 6 0 => Unfit
 change: 6 8 5 3 7 | 1 ( ^2 |0:40| ^3 ) | split 3 R - 7 0 => Unfit
-// no room: each page is in use, or the high mark is at the last one
+// no room: each page is in use, or the highest page is at the last one
 change: 6 3 3 3 0 | 1 ( ^2 |0:40| ^3 ) | split 3 R - 4 0 => Unfit
 change: 6 5 5 5 2 | 1 ( ^2 |0:40| ^3 ) | split 3 R - 2 0 => Unfit
 change: 6 4 4 3 0 | 1 ( ^2 |0:40| ^3 ) | split 3 R - 5 0 => Unfit

@@ -23,7 +23,7 @@ fn written(alloc: Global, groups: &[Group]) -> Result<Vec<u8>, NoMemory>
     Ok(bytes)
 }
 
-// The images of a group, and its operation.
+// The page images of a group, and its operation.
 fn push_group(text: &mut String, group: &Group) -> Result<(), NoMemory> {
     for (id, page) in &group.images {
         write!(text, "image {id} ")?;
@@ -63,7 +63,7 @@ pub(crate) fn groups(alloc: Global, question: &str) -> Result<String, Fail> {
 }
 
 #[test]
-fn payloads_and_images(rt: HostRuntime) -> Result<(), Fail> {
+fn payloads_and_page_images(rt: HostRuntime) -> Result<(), Fail> {
     expect_all(&rt, rt.alloc(), ROWS)
 }
 
@@ -105,7 +105,7 @@ groups: split 16:0 => none at 17
 // a lower value that equals the upper one, and one that exceeds it
 groups: post 19:39 => 1; post 3 L 2 39..39
 groups: post 19:40 => none at 0
-// images
+// page images
 groups: 1 0 0 0 1 page 1 0 0 0 1 7*0 5 1 97 => 1; image 1 free 0, put 1 5=a
 groups: 2 0 0 0 1 page 0 0 0 2 page 6 0 0 0 3 0 0 0 7 => 1; image 1 free 0, image 2 free 0, grow 3 7
 groups: 3 0 0 0 3 page 0 0 0 1 page 0 0 0 2 page 2 0 0 0 7 7*0 5 => 1; image 3 free 0, image 1 free 0, image 2 free 0, del 7 5

@@ -11,7 +11,7 @@ use Rattle.hb_layout.specs.declared.meta.Meta.{Meta}
 use Rattle.hb_layout.specs.Offsets.{file_size}
 use Rattle.hb_ops.specs.Files.{FileState, file_records}
 use Rattle.hb_ops.specs.Sound.{IsSound}
-use Rattle.hb_sound.specs.Marks.{HasMarks}
+use Rattle.hb_sound.specs.BoundedMeta.{HasBoundedMeta}
 use Rattle.hb_sound.specs.declared.pages.AuditStop.{AuditStop}
 use Rattle.hb_sound.specs.declared.pages.AuditStop.TheVariants as stops
 use Rattle.hb_store.specs.LogReading.{ReadsLog, IsTouched}
@@ -54,11 +54,11 @@ pub record IsFoundIn (bytes : List ℕ) (turn : ℕ) (meta : Meta) (touched : �
   pub sound : IsSound file
   pub counted : count ≡ length (file_records file)
 
--- What may be renewed, whatever the disk was: such a file, whose marks are within their limits, and of which each touched
+-- What may be renewed, whatever the disk was: such a file, whose numbers are within their limits, and of which each touched
 -- page has a spelling.
 pub record IsRenewable (size : ℕ) (found : Found) : Type 0 where
   pub lies : LiesOn size found.turn found.meta
-  pub marks : HasMarks found.meta
+  pub bounded : HasBoundedMeta found.meta
   pub spelled : (id : ℕ) (page : Page) → get nat_cmp found.touched id ≡ Some page → HasSpelling page
 
 -- the refusal where no superblock is read, and where no log is

@@ -7,7 +7,7 @@ use Rattle.hb_layout.specs.declared.meta.Meta.{Meta}
 use Rattle.hb_ops.specs.Files.{FileState, file_records}
 use Rattle.hb_ops.specs.Sound.{IsSound}
 use Rattle.hb_super.specs.Superblocks.{IsNewest}
-use Rattle.hb_sound.specs.Marks.{HasMarks}
+use Rattle.hb_sound.specs.BoundedMeta.{HasBoundedMeta}
 use Rattle.hb_store.specs.Keeps.{StoreKeeps}
 use Rattle.hb_store.specs.Opening.{OpensTo, IsEven}
 use Rattle.hb_store.specs.States.{IsNew, IsSameLayout, StoreState}
@@ -56,9 +56,9 @@ pub record RunsThrough (pages : ℕ) (old new : DiskModel) : Type 0 where
 pub record OpensStore (old new : DiskModel) (store : StoreState) (count : ℕ) : Type 0 where
   -- the bytes open to a sound file of so many records, which the store keeps
   pub file : IfSome old.told (λ b. (s : FileState) × OpensTo b s × IsSound s × (count ≡ length (file_records s)) × StoreKeeps new store s [])
-  -- over every disk the store is new, and the marks of its file are within their limits
+  -- over every disk the store is new, and the numbers of its file are within their limits
   pub is_new : IsNew store.turn store.meta store
-  pub marks : HasMarks store.meta
+  pub bounded : HasBoundedMeta store.meta
   -- the file says of itself what the store has, and the newest superblock has its layout
   pub meta : IfSome old.told (λ b. (s : FileState) → OpensTo b s → s.meta ≡ store.meta)
   pub said : IfSome old.told (λ b. (turn : ℕ) (said : Meta) → IsNewest b turn said → IsSameLayout said store.meta)

@@ -30,7 +30,7 @@ pub record LogSays (bytes : List ℕ) (turn : ℕ) (said : Meta) (groups : List 
   pub spelled : SpellAll said.k payloads groups
   pub replayed : MayReplay (untouched said) groups
 
--- a number up to the high mark beyond the pages that the file may have, or of a page that the log doesn't touch, where
+-- a number up to the highest page beyond the pages that the file may have, or of a page that the log doesn't touch, where
 -- the bytes in its place are none
 abbrev pub LacksPage : List ℕ → Meta → Replayed → ℕ → Type 0
 LacksPage bytes said t id = (1 ≤ id) × (id ≤ t.meta.high)

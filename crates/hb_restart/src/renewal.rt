@@ -56,7 +56,7 @@ fn write_page<D: Device>(disk: &mut D, meta: &Meta, id: u32, page: &Page) -> Res
 }
 
 /// Writes the page of a number to its place, where the log touches it. At most one device call.
-fn settle_one<D: Device>(disk: &mut D, found: &Found, id: u32) -> Result<(), Failed>
+fn place_page<D: Device>(disk: &mut D, found: &Found, id: u32) -> Result<(), Failed>
     requires renewable { IsRenewable (D.model disk.old).size found.now }
     requires some { 1 ≤ id }
     requires most { id ≤ found.now.meta.high }
@@ -78,7 +78,7 @@ fn settle_one<D: Device>(disk: &mut D, found: &Found, id: u32) -> Result<(), Fai
 }
 
 /// Writes each page that the log touches to its place, once. At most a device call for each page of the file.
-fn settle<D: Device>(disk: &mut D, found: &Found) -> Result<(), Failed>
+fn place_pages<D: Device>(disk: &mut D, found: &Found) -> Result<(), Failed>
     requires renewable { IsRenewable (D.model disk.old).size found.now }
     ensures run { Runs found.now.meta.high (file_size found.now.meta) (IsErr result) (D.model disk.old) (D.model disk.new) }
     ensures moments { (said : Said) (s : FileState) → IsHere (D.model disk.old) found.now.turn said found.now.meta (get nat_cmp found.now.touched) s →
@@ -92,7 +92,7 @@ fn settle<D: Device>(disk: &mut D, found: &Found) -> Result<(), Failed>
         IsWrittenTo found.now.meta.high (D.model disk.old).clock b found.now.meta (get nat_cmp found.now.touched) (D.model disk.new)) }
 {
     for place in 0..found.meta.high {
-        settle_one(disk, found, place + 1)?;
+        place_page(disk, found, place + 1)?;
     }
     Ok(())
 }
@@ -139,7 +139,7 @@ fn rewrite<D: Device>(disk: &mut D, found: &Found) -> Result<(), DiskFault>
     ensures all { OnOk result ((said : Said) (s : FileState) (b : List ℕ) → IsHere (D.model disk.old) found.now.turn said found.now.meta (get nat_cmp found.now.touched) s →
         (D.model disk.old).told ≡ Some b → WritesAll (D.model disk.old).clock b found.now.meta (get nat_cmp found.now.touched) (D.model disk.new)) }
 {
-    settle(disk, found)?;
+    place_pages(disk, found)?;
     switch(disk, found.turn, &found.meta)
 }
 

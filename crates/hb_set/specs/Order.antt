@@ -72,7 +72,7 @@ pub record IsAnswerTo (m : RecordSet) (l : Line) (a : Answered) (next : RecordSe
   pub answers : Answers m l.command a.reply next
   pub wanted : a.reply ≡ NoMemory → MayWantMemory l.command m
 
--- Each line was answered in turn, from the first set to the last one: by the machine, or for want of
+-- The lines were answered in sequence, from the first set to the last one: by the machine, or for want of
 -- memory not at all. The answer has the line's number, and no time.
 abbrev pub Ran : RecordSet → List Line → List Answered → RecordSet → Type 0
 Ran m [] [] n = n ≡ m

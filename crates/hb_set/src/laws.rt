@@ -32,7 +32,7 @@ pub fn text_order_keeps_sessions()
     ensures grown { EntriesGrow }
 {}
 
-/// A run, in which each line is answered in turn.
+/// A run, in which the lines are answered in sequence.
 pub fn runs_are_legal_orders()
     ensures grown { RunsGrow }
     ensures replies { RunsReply }

@@ -12,7 +12,7 @@ use Rattle.hb_sound.specs.declared.facts.Fact.{Fact}
 use Rattle.hb_sound.specs.declared.facts.Fact.TheVariants.{Live, Free}
 use Rattle.hb_sound.specs.Covers.{SeesTop}
 use Rattle.hb_sound.specs.Facts.{AreFactsOf, IsFactOf, IsSeenOf, if_next, if_seen, next_at, seen_at}
-use Rattle.hb_sound.specs.Marks.{HasMarks}
+use Rattle.hb_sound.specs.BoundedMeta.{HasBoundedMeta}
 use Rattle.hb_sound.specs.Told.{item_at, file_with}
 use Rattle.hb_sound.specs.Walks.{if_free, next_free}
 
@@ -105,20 +105,20 @@ module _ (meta : Meta) (facts : List Fact) (list : List Page) (are : AreFactsOf 
   next_same id = next_of_both meta (item_at facts id) (page_at list id) (both_at meta facts list id are)
 
   -- rule 1
-  pub to_rooted : length facts ≡ meta.high → HasMarks meta → SeesTop meta facts → IsRooted (file_with meta list)
-  to_rooted count marks top =
+  pub to_rooted : length facts ≡ meta.high → HasBoundedMeta meta → SeesTop meta facts → IsRooted (file_with meta list)
+  to_rooted count bounded top =
       let page = live_seen meta.root top.0 top.1 in
       record {
         numbered = same_length meta facts list are ∙ count;
-        some = marks.some;
-        high = marks.high;
-        root = marks.root;
-        free = marks.free;
-        live = marks.live;
+        some = bounded.some;
+        high = bounded.high;
+        root = bounded.root;
+        free = bounded.free;
+        live = bounded.live;
         top = (page.0, page.1, ap (λ (n : ℕ). n + 1) (sym page.2.level) ∙ top.2, sym page.2.area ∙ top.3);
       }
 
-  pub from_rooted : IsRooted (file_with meta list) → HasMarks meta × SeesTop meta facts
+  pub from_rooted : IsRooted (file_with meta list) → HasBoundedMeta meta × SeesTop meta facts
   from_rooted rooted =
       let seen = seen_live meta.root rooted.top.0 rooted.top.1 in (
         record { some = rooted.some; high = rooted.high; root = rooted.root; free = rooted.free; live = rooted.live },

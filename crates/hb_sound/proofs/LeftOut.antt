@@ -23,35 +23,35 @@ has_fact : (o : Option Fact) (n : ℕ) → if_next o ≡ Some n → (fact : Fact
 has_fact None n e = let never : None ≡ Some n = e in cc
 has_fact (Some fact) n e = (fact, refl)
 
-by_mark : (b : Bool) → ¬ (b ≡ false) → b ≡ true
-by_mark true off = refl
-by_mark false off = absurd (off refl)
+by_flag : (b : Bool) → ¬ (b ≡ false) → b ≡ true
+by_flag true off = refl
+by_flag false off = absurd (off refl)
 
-module _ (facts : List Fact) (marks : List Bool) (chain : List ℕ) (place : ℕ) (fact : Fact) (d : Bool)
-    (within : place < length facts) (is : fact ≡ get_or facts place fact) (same : length marks ≡ length facts) (chained : IsChained chain marks) where
+module _ (facts : List Fact) (flags : List Bool) (chain : List ℕ) (place : ℕ) (fact : Fact) (d : Bool)
+    (within : place < length facts) (is : fact ≡ get_or facts place fact) (same : length flags ≡ length facts) (chained : IsChained chain flags) where
   here : item_at facts (place + 1) ≡ Some fact
   here = item_behind facts place ∙ slice_get_read facts (length facts) place fact refl within is
 
-  mark : item_at marks (place + 1) ≡ Some (get_or marks place d)
-  mark = item_behind marks place ∙ slice_get-get_or marks place d (omega (arith, within, same))
+  flag : item_at flags (place + 1) ≡ Some (get_or flags place d)
+  flag = item_behind flags place ∙ slice_get-get_or flags place d (omega (arith, within, same))
 
-  left_here : IsFreeFact fact × (get_or marks place d ≡ false) → IsLeftOut (next_at facts) chain (place + 1)
+  left_here : IsFreeFact fact × (get_or flags place d ≡ false) → IsLeftOut (next_at facts) chain (place + 1)
   left_here free =
       let next = free_next fact free.0 in
-      ((next.0, ap if_next here ∙ next.1), λ h. absurd (let on = (chained (place + 1)).0 h in let never : Some true ≡ Some false = sym on ∙ mark ∙ ap (λ (b : Bool). Some b) free.1 in cc))
+      ((next.0, ap if_next here ∙ next.1), λ h. absurd (let on = (chained (place + 1)).0 h in let never : Some true ≡ Some false = sym on ∙ flag ∙ ap (λ (b : Bool). Some b) free.1 in cc))
 
   left_there : IsLeftOut (next_at facts) chain (place + 1) → IsFreeFact fact
   left_there out = next_free fact out.0.0 (sym (ap if_next here) ∙ out.0.1)
 
-  unmarked_there : IsLeftOut (next_at facts) chain (place + 1) → (get_or marks place d ≡ false → ⊥) → ⊥
-  unmarked_there out on = out.1 ((chained (place + 1)).1 (mark ∙ ap (λ (b : Bool). Some b) (by_mark (get_or marks place d) on)))
+  unflagged_there : IsLeftOut (next_at facts) chain (place + 1) → (get_or flags place d ≡ false → ⊥) → ⊥
+  unflagged_there out on = out.1 ((chained (place + 1)).1 (flag ∙ ap (λ (b : Bool). Some b) (by_flag (get_or flags place d) on)))
 
-  pub left_found : IsFirstUpTo (IsLeftOut (next_at facts) chain) place None → IsFreeFact fact × (get_or marks place d ≡ false) → IsLeast (IsLeftOut (next_at facts) chain) (place + 1)
+  pub left_found : IsFirstUpTo (IsLeftOut (next_at facts) chain) place None → IsFreeFact fact × (get_or flags place d ≡ false) → IsLeast (IsLeftOut (next_at facts) chain) (place + 1)
   left_found none free = found (IsLeftOut (next_at facts) chain) place none (left_here free)
 
-  pub left_not_yet : IsFirstUpTo (IsLeftOut (next_at facts) chain) place None → ¬ (IsFreeFact fact × (get_or marks place d ≡ false))
+  pub left_not_yet : IsFirstUpTo (IsLeftOut (next_at facts) chain) place None → ¬ (IsFreeFact fact × (get_or flags place d ≡ false))
       → IsFirstUpTo (IsLeftOut (next_at facts) chain) (place + 1) None
-  left_not_yet none not_free = not_yet (IsLeftOut (next_at facts) chain) place none (λ out. unmarked_there out (λ off. not_free (left_there out, off)))
+  left_not_yet none not_free = not_yet (IsLeftOut (next_at facts) chain) place none (λ out. unflagged_there out (λ off. not_free (left_there out, off)))
 
 pub none_left_out : (facts : List Fact) (chain : List ℕ) (n : ℕ) → length facts ≤ n → IsFirstUpTo (IsLeftOut (next_at facts) chain) n None → (id : ℕ) → ¬ (IsLeftOut (next_at facts) chain id)
 none_left_out facts chain n all none id out =

@@ -13,7 +13,7 @@ pub mod RecordsAtHome
 pub mod Partition
 pub mod ExampleParts
 pub mod SmallFile
-pub mod SettledWalks
+pub mod FullyPostedWalks
 pub mod OneParent
 pub mod LostFile
 pub mod LateFile
@@ -42,7 +42,7 @@ pub mod OneChanged
 pub mod PostSound
 pub mod EachOperation
 mod NoneBroken
-mod Marked
+mod Flagged
 mod LeftOut
 mod Levels
 mod Firsts

@@ -8,7 +8,7 @@ use Rattle.hb_sound.specs.declared.pages.AuditStop.TheVariants.{Broken}
 use Rattle.hb_sound.specs.Chains.{IsFreeBreak}
 use Rattle.hb_sound.specs.Covers.{IsLeastRule, SeesRule, SeesTop}
 use Rattle.hb_sound.specs.Facts.{AreFactsOf}
-use Rattle.hb_sound.specs.Marks.{HasMarks}
+use Rattle.hb_sound.specs.BoundedMeta.{HasBoundedMeta}
 use Rattle.hb_sound.specs.Names.{KeepsSix, NamesIn}
 use Rattle.hb_sound.specs.Stops.{OnBroken}
 use Rattle.hb_sound.specs.Told.{file_with}
@@ -27,15 +27,15 @@ err_then (Err e) f h = f e h
 pub on_broken_at : (p : ℕ → ℕ → Type 0) (stop : AuditStop) (id rule : ℕ) → stop ≡ Broken id rule → p id rule → OnBroken p stop
 on_broken_at p stop id rule e h = let Q : AuditStop → Type 0 = λ s. OnBroken p s in subst Q (sym e) h
 
-module _ (meta : Meta) (facts : List Fact) (count : length facts ≡ meta.high) (marks : HasMarks meta) (top : SeesTop meta facts) where
+module _ (meta : Meta) (facts : List Fact) (count : length facts ≡ meta.high) (bounded : HasBoundedMeta meta) (top : SeesTop meta facts) where
   pub free_named : (id : ℕ) → IsFreeBreak meta facts (Some id) → (list : List Page) → AreFactsOf meta facts list → NamesIn (file_with meta list) id 2
   free_named id named list are =
       let is = not_counted meta facts list are id named in
-      inr (inl (refl, to_rooted meta facts list are count marks top, is.0, is.1))
+      inr (inl (refl, to_rooted meta facts list are count bounded top, is.0, is.1))
 
   module _ (kept : IsFreeBreak meta facts None) where
     pub six_kept : ((id rule : ℕ) → 3 ≤ rule → rule ≤ 6 → ¬ (SeesRule facts rule id)) → (list : List Page) → AreFactsOf meta facts list → KeepsSix (file_with meta list)
-    six_kept none list are = (to_rooted meta facts list are count marks top, to_counted meta facts list are kept, keeps_local meta facts list are none)
+    six_kept none list are = (to_rooted meta facts list are count bounded top, to_counted meta facts list are kept, keeps_local meta facts list are none)
 
     pub local_named : (id rule : ℕ) → IsLeastRule facts id rule → (list : List Page) → AreFactsOf meta facts list → NamesIn (file_with meta list) id rule
-    local_named id rule is list are = inr (inr (inl (to_rooted meta facts list are count marks top, to_counted meta facts list are kept, to_local meta facts list are id rule is)))
+    local_named id rule is list are = inr (inr (inl (to_rooted meta facts list are count bounded top, to_counted meta facts list are kept, to_local meta facts list are id rule is)))

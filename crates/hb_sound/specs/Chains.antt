@@ -7,9 +7,9 @@ use Rattle.hb_sound.specs.Facts.{next_at}
 use Rattle.hb_sound.specs.Told.{item_at}
 use Rattle.hb_sound.specs.Walks.{IsLeast, IsLeftOut, IsChainWalk}
 
--- exactly the numbers of the chain are marked
+-- exactly the numbers of the chain are flagged
 abbrev pub IsChained : List ℕ → List Bool → Type 0
-IsChained chain marks = (id : ℕ) → Contains chain id ↔ (item_at marks id ≡ Some true)
+IsChained chain flags = (id : ℕ) → Contains chain id ↔ (item_at flags id ≡ Some true)
 
 -- how many facts are of pages in use
 abbrev pub live_fact : Fact → ℕ

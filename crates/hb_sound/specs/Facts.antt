@@ -108,7 +108,7 @@ pub record IsCountedOn (met : ℕ → ℕ) (old new : List Times) : Type 0 where
   pub same : length new ≡ length old
   pub counted : (id : ℕ) → item_at new id ≡ option_map (more (met id)) (item_at old id)
 
--- a legal layout, and a fact of each page up to the high mark
+-- a legal layout, and a fact of each page up to the highest page
 pub record HasFacts (meta : Meta) (facts : List Fact) : Type 0 where
   pub layout : IsLayout meta
   pub count : length facts ≡ meta.high

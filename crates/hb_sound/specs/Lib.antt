@@ -2,7 +2,7 @@ pub mod Asking
 pub mod PointWalks
 pub mod Laws
 pub mod Examples
-pub mod Settled
+pub mod FullyPosted
 pub mod LostFile
 pub mod LateFile
 pub mod TowerFile
@@ -12,7 +12,7 @@ pub mod Told
 pub mod Walks
 pub mod Broken
 pub mod Names
-pub mod Marks
+pub mod BoundedMeta
 pub mod Stops
 pub mod Facts
 pub mod RecordCounts

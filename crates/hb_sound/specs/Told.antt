@@ -1,4 +1,4 @@
--- The pages of a file that may be hard to read: each number from 1 to the high mark has a page, or bytes that are none.
+-- The pages of a file that may be hard to read: each number from 1 to the highest page has a page, or bytes that are none.
 use Rattle.std.specs.Prelude.{◌≡◌, ℕ, zero, suc, ◌<◌, ◌≤◌, ◌⊎◌, List, [], ◌∷◌, slice_get, length, take, Option, Some, None}
 use Rattle.hb_frag.specs.declared.pages.Page.{Page}
 use Rattle.hb_layout.specs.declared.meta.Meta.{Meta}
@@ -24,11 +24,11 @@ shown_pages (Some page ∷ rest) = page ∷ shown_pages rest
 abbrev pub file_with : Meta → List Page → FileState
 file_with meta list = record { meta = meta; pages = list }
 
--- the file of those that are there, up to the high mark
+-- the file of those that are there, up to the highest page
 abbrev pub file_of : Meta → List (Option Page) → FileState
 file_of meta told = file_with meta (shown_pages (take meta.high told))
 
--- S0: a number from 1 to the high mark beyond the pages that the file may have, or with bytes that are no page
+-- S0: a number from 1 to the highest page beyond the pages that the file may have, or with bytes that are no page
 abbrev pub IsHole : Meta → List (Option Page) → ℕ → Type 0
 IsHole meta told id = (1 ≤ id) × (id ≤ meta.high) × ((meta.pages < id) ⊎ (item_at told id ≡ Some None))
 

@@ -4,7 +4,7 @@ ghost use Rattle.hb_frag.specs.declared.pages.Page.{Page as Content};
 ghost use Rattle.hb_sound.specs.Asking.{Asks};
 ghost use Rattle.hb_layout.specs.Limits.{IsLayout};
 ghost use Rattle.hb_sound.specs.Covers.{HasRule, IsLeastRule, SeesRule, SeesTop};
-ghost use Rattle.hb_sound.specs.Marks.{HasMarks};
+ghost use Rattle.hb_sound.specs.BoundedMeta.{HasBoundedMeta};
 ghost use Rattle.hb_ops.specs.Sound.{IsSound};
 ghost use Rattle.hb_sound.specs.Facts.{AreFactsOf, HasFacts};
 ghost use Rattle.hb_sound.specs.RecordCounts.{IsLightFact, all_records, records_seen};
@@ -42,11 +42,11 @@ fn is_top(meta: &Meta, facts: &[Fact]) -> bool
     }
 }
 
-/// Rule 1, where a page is there up to the high mark.
+/// Rule 1, where a page is there up to the highest page.
 fn is_rooted(meta: &Meta, facts: &[Fact]) -> bool
     requires facts { HasFacts meta.now facts.now }
-    ensures marks { IsTrue result → HasMarks meta.now }
-    ensures rooted { IsTrue result ↔ (HasMarks meta.now × SeesTop meta.now facts.now) }
+    ensures bounded { IsTrue result → HasBoundedMeta meta.now }
+    ensures rooted { IsTrue result ↔ (HasBoundedMeta meta.now × SeesTop meta.now facts.now) }
 {
     meta.high >= 1
         && meta.root <= meta.high
@@ -108,7 +108,7 @@ fn test_pages(alloc: Global, meta: &Meta, facts: &[Fact]) -> Result<(), AuditSto
     requires facts { HasFacts meta.now facts.now }
     ensures keeps { OnOk result ((list : List Content) → AreFactsOf meta.now facts.now list → KeepsSix (file_with meta.now list)) }
     ensures names { IfErr result (OnBroken (λ page rule. (list : List Content) → AreFactsOf meta.now facts.now list → NamesIn (file_with meta.now list) page rule)) }
-    ensures marks { OnOk result (HasMarks meta.now) }
+    ensures bounded { OnOk result (HasBoundedMeta meta.now) }
     ensures no_fault { IsErrOf result Failed → ⊥ }
 {
     if !is_rooted(meta, facts) {
@@ -169,7 +169,7 @@ pub fn audit<P: Pages>(alloc: Global, meta: &Meta, pages: &mut P) -> Result<u64,
     ensures sound { IfOk result (λ n. IfSome (P.model pages.old).told (λ told. IsSoundWith meta.now told n)) }
     ensures names { IfErr result (OnBroken (λ page rule. IfSome (P.model pages.old).told (λ told. Names meta.now told page rule))) }
     // what it says over every source
-    ensures marks { IfOk result (λ _. HasMarks meta.now) }
+    ensures bounded { IfOk result (λ _. HasBoundedMeta meta.now) }
     ensures asks { Asks P.model P.asked (IsErrOf result Failed) pages.old pages.new }
 {
     let facts = read_facts(alloc, meta, pages)?;

@@ -24,7 +24,7 @@ fn step_from(facts: &[Fact], chained: &[bool], id: u32) -> Option<u32>
     }
 }
 
-/// Marks the pages of the free chain, and gives the number at which it ends.
+/// Flags the pages of the free chain, and gives the number at which it ends.
 fn walk(facts: &[Fact], head: u32, chained: &mut [bool]) -> u32
     requires same { length chained.old ≡ length facts.now }
     requires fresh { All (λ b. b ≡ false) chained.old }

@@ -148,7 +148,7 @@ fn read_fact<P: Pages>(
     }
 }
 
-/// A list with room for what is kept of each page up to the high mark. It doesn't grow then, so nothing is moved.
+/// A list with room for what is kept of each page up to the highest page. It doesn't grow then, so nothing is moved.
 fn room_for(alloc: Global, meta: &Meta) -> Result<Vec<Fact>, NoMemory>
     ensures { IfOk result (λ facts. facts.items ≡ []) }
 {
@@ -163,7 +163,7 @@ fn keep(facts: &mut Vec<Fact>, fact: Fact) -> Result<(), NoMemory>
     Ok(())
 }
 
-/// Reads each page up to the high mark, and keeps what is kept of it. Rule 0: a page is there under each number.
+/// Reads each page up to the highest page, and keeps what is kept of it. Rule 0: a page is there under each number.
 pub(crate) fn read_facts<P: Pages>(
     alloc: Global,
     meta: &Meta,

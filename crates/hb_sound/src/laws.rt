@@ -4,7 +4,7 @@
 ghost use Rattle.hb_sound.specs.Laws.{DelsTakeOne, EachPageHasWalks, EachPointIsHeld, LackIsContents, NoPointIsHeldTwice, PagesHaveBoxes, PutsAddOne, RecordsAreAtHome, RootHasWalks, SpaceLaws, StandingIsContents, StepsLeadFurther, TreeLaws, WalksAreOne};
 ghost use Rattle.hb_sound.specs.LawsOfOperations.{GrowthChangesOne, GrowthKeepsContents, GrowthKeepsDirect, GrowthKeepsSound, OperationsKeepContents, OperationsKeepLayout, OperationsKeepSound, SplitsChangeTwo, SplitsKeepContents, SplitsKeepSound, SplitsPartDirect};
 ghost use Rattle.hb_sound.specs.LawsOfPostings.{PostingsChangeParent, PostingsKeepContents, PostingsKeepDirect, PostingsKeepSound, PostingsName};
-ghost use Rattle.hb_sound.specs.Settled.{NoOtherParent, SettledWalksAreShort};
+ghost use Rattle.hb_sound.specs.FullyPosted.{NoOtherParent, FullyPostedWalksAreShort};
 
 use hb_frag::laws::{
     carving_parts_a_leaf, each_point_has_one_leaf, leaves_part_the_box, normal_says_the_same,
@@ -89,10 +89,10 @@ pub fn each_page_has_a_box()
     trees_and_space();
 }
 
-/// In a settled file whose root has no sibling leaf, each whole walk from the root has as many pages as
+/// In a fully posted file whose root has no sibling leaf, each whole walk from the root has as many pages as
 /// the file has levels: it goes down one level at each step.
-pub fn settled_walks_are_short()
-    ensures { SettledWalksAreShort }
+pub fn fully_posted_walks_are_short()
+    ensures { FullyPostedWalksAreShort }
 {
     trees_and_space();
 }

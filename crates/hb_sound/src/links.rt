@@ -264,7 +264,7 @@ impl Links {
     }
 }
 
-/// What the leaves of all pages up to the high mark name. A page is read once more where its fact doesn't say it.
+/// What the leaves of all pages up to the highest page name. A page is read once more where its fact doesn't say it.
 pub(crate) fn read_links<P: Pages>(
     alloc: Global,
     facts: &[Fact],

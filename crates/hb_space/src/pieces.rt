@@ -45,7 +45,7 @@ impl Areas {
 
 impl Area {
     /// What of the box lies outside the other one, as boxes that share no point. For each
-    /// attribute in turn: what lies below their common part, then what lies above it, and then
+    /// attribute after the other: what lies below their common part, then what lies above it, and then
     /// the same of the rest between. The box alone where the two do not meet.
     pub fn outside(&self, alloc: Global, o: &Area) -> Result<Areas, NoMemory>
         requires { length self.now.lo ≡ length o.now.lo }

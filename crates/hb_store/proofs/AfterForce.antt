@@ -89,11 +89,11 @@ front_of_both area len written payloads more c fits count (inr framed) = front_o
 
 -- a log of the same area leaves the rest as it is
 pub memory_logged : (st : StoreState) (log : LogState) → IsMemory st → log.area ≡ st.log.area → log.len ≡ st.log.len → IsMemory (with_log log st)
-memory_logged st log is area len = record { stands = is.stands; area = area ∙ is.area; len = len ∙ is.len; good = is.good; marked = is.marked }
+memory_logged st log is area len = record { stands = is.stands; area = area ∙ is.area; len = len ∙ is.len; good = is.good; in_file = is.in_file }
 
 -- and so does a fault
 pub memory_stopped : (st : StoreState) → IsMemory st → IsMemory (stopped_state st)
-memory_stopped st is = record { stands = is.stands; area = is.area; len = is.len; good = is.good; marked = is.marked }
+memory_stopped st is = record { stands = is.stands; area = is.area; len = is.len; good = is.good; in_file = is.in_file }
 
 module _ (d : DiskModel) (is_disk : IsDisk d) (st : StoreState) (is : IsMemory st) (going : st.stopped ≡ false) (durable : FileState) (later : List FileState) (keeps : StoreKeeps d st durable later) where
   abbrev p : Parts
@@ -194,7 +194,7 @@ module _ (d : DiskModel) (is_disk : IsDisk d) (st : StoreState) (is : IsMemory s
           );
         };
         waits = keeps.waits;
-        imaged = record { touched = keeps.imaged.touched; synced = λ id page off is c image. page_synced id page (keeps.imaged.synced id page off is) c image };
+        in_log = record { touched = keeps.in_log.touched; synced = λ id page off is c image. page_synced id page (keeps.in_log.synced id page off is) c image };
         memory = record {
           layout = keeps.memory.layout;
           meta_is = keeps.memory.meta_is;
@@ -230,9 +230,9 @@ module _ (d : DiskModel) (is_disk : IsDisk d) (st : StoreState) (is : IsMemory s
           );
         };
         waits = record { spelled = spelled; fits = fits; leads = leads };
-        imaged = record {
-          touched = λ id. keeps.imaged.touched id ∙ ap (λ (gs : List Logged). is_some ((replay (untouched p.said) gs).page id)) all;
-          synced = λ id page off is c image. page_synced id page (keeps.imaged.synced id page off (ap (λ (f : FileState). page_of f id) (sym last) ∙ is)) c image;
+        in_log = record {
+          touched = λ id. keeps.in_log.touched id ∙ ap (λ (gs : List Logged). is_some ((replay (untouched p.said) gs).page id)) all;
+          synced = λ id page off is c image. page_synced id page (keeps.in_log.synced id page off (ap (λ (f : FileState). page_of f id) (sym last) ∙ is)) c image;
         };
         memory = record {
           layout = keeps.memory.layout;

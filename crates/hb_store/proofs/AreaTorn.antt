@@ -16,7 +16,7 @@ use Rattle.hb_log_codec.specs.Groups.{Logged, FitsGroup, group_bytes}
 use Rattle.hb_store.specs.Replay.{Replayed, untouched, replay, MayFollow}
 use Rattle.hb_layout.specs.Offsets.{log_start, page_offset}
 use Rattle.hb_store.specs.Opening.{OpensBy, Shows, IsPageIn, log_bytes, place_bytes, SpellAll}
-use Rattle.hb_store.specs.Parts.{AreImagesOf}
+use Rattle.hb_store.specs.Parts.{ArePageImagesOf}
 use Rattle.hb_store.proofs.Facts.ReplayLaws.{replay-append, MayReplay-append, SpellAll-append}
 use Rattle.hb_store.proofs.Shown.{Shows-after}
 use Rattle.hb_store.proofs.Facts.FreshLaws.{IsNewest-elsewhere}
@@ -66,7 +66,7 @@ module _ (turn : ℕ) (said : Meta) (b c : List ℕ) (torn : Torn (log_start tur
 
     -- with a frame more to the file after its group
     pub opens_more : (g : Logged) → HasFrames (log_bytes turn said c) (payloads ++ group_bytes g ∷ []) → FitsGroup said.k g → MayFollow (replay (untouched said) groups) g
-        → AreImagesOf s g.images → IsAllowed s g.op → OpensBy c turn said (payloads ++ group_bytes g ∷ []) (groups ++ g ∷ []) (effect_of s g.op)
+        → ArePageImagesOf s g.images → IsAllowed s g.op → OpensBy c turn said (payloads ++ group_bytes g ∷ []) (groups ++ g ∷ []) (effect_of s g.op)
     opens_more g framed fits may are allowed = record {
       newest = IsNewest-elsewhere b c places_kept turn said opens.newest;
       fits = omega (arith, opens.fits, torn.as_long);

@@ -17,11 +17,11 @@ use Rattle.hb_ops.specs.declared.operations.Op.{Op}
 use Rattle.hb_ops.specs.Files.{FileState, if_live, page_at, page_of}
 use Rattle.hb_ops.specs.Operations.{Change, IsAllowed, IsLicensed, change_of, effect_of, nth_read, reads_of, with_changed_pages}
 use Rattle.hb_log_codec.specs.Groups.{FitsGroup, Logged, group_bytes}
-use Rattle.hb_store.specs.Replay.{MayFollow, Replayed, after_group, change_in, replay, set_pages, touched_read, untouched, with_images, has_page, is_among}
+use Rattle.hb_store.specs.Replay.{MayFollow, Replayed, after_group, change_in, replay, set_pages, touched_read, untouched, with_page_images, has_page, is_among}
 use Rattle.hb_store.proofs.Facts.ReplayLaws.{Leads-append, last_of-append, replay-append}
 use Rattle.hb_store.specs.Opening.{IsPageIn, Shows}
-use Rattle.hb_store.specs.States.{IsGoodPage, IsMemory, IsSameLayout, IsStanding, StoreState, in_memory, is_imaged}
-use Rattle.hb_store.specs.Parts.{AreImagesOf, IsDurable, IsImaged, IsInMemory, IsWaiting, Parts, all_pages, written_pages}
+use Rattle.hb_store.specs.States.{IsGoodPage, IsMemory, IsSameLayout, IsStanding, StoreState, in_memory, is_in_log}
+use Rattle.hb_store.specs.Parts.{ArePageImagesOf, IsDurable, IsInLog, IsInMemory, IsWaiting, Parts, all_pages, written_pages}
 use Rattle.hb_store.specs.Keeps.{StoreKeeps, last_of}
 use Rattle.hb_store.proofs.Facts.StoreLaws.{StoreKeeps-by}
 use Rattle.hb_store.specs.Calls.{Commits, IsAllowedHere, change_here, read_here, with_op}
@@ -34,7 +34,7 @@ use Rattle.hb_ops.proofs.Facts.AllowedOps.{reads_some, same_change, same_allowed
 use Rattle.hb_store.proofs.Shown.{Shows-leads}
 use Rattle.hb_store.proofs.Grouped.{all_needed}
 use Rattle.hb_store.proofs.Setting.{among_all, has_all, none_set, set_some}
-use Rattle.hb_store.proofs.Imaging.{imaged_all, none_of, read_page}
+use Rattle.hb_store.proofs.InLog.{in_log_all, none_of, read_page}
 use Rattle.hb_ops.proofs.Facts.FilePages.{in_file_at}
 use Rattle.hb_ops.proofs.Facts.PageNumberLaws.{page_at-zero}
 
@@ -52,17 +52,17 @@ same_log d old new payloads area len written has =
 -- what was changed, set and let wait is what a commit makes
 pub commits_here : (op : Op) (mark : ℕ) (st new : StoreState) (change : Change) (bytes : List ℕ) → change ≡ change_here st op → new.turn ≡ st.turn → new.stopped ≡ st.stopped → new.meta ≡ change.meta
     → ((id : ℕ) → in_memory new id ≡ set_pages change.pages (in_memory st) id)
-    → ((id : ℕ) → is_imaged new id ≡ (has_page id change.pages || (is_among id (reads_of op) || is_imaged st id)))
+    → ((id : ℕ) → is_in_log new id ≡ (has_page id change.pages || (is_among id (reads_of op) || is_in_log st id)))
     → new.log ≡ record { area = st.log.area; len = st.log.len; written = st.log.written; groups = st.log.groups ++ record { bytes = bytes; mark = mark } ∷ [] }
     → Commits op mark st new
-commits_here op mark st new change bytes is turn stopped meta pages imaged log = record {
+commits_here op mark st new change bytes is turn stopped meta pages in_log log = record {
   turn = turn;
   stopped = stopped;
   meta = meta ∙ ap (λ (c : Change). c.meta) is;
   made = λ id made. set_all id;
   kept = λ id off stays. set_all id ∙ set_not (change_here st op).pages (in_memory st) id off;
   others = λ id off. inl (set_all id ∙ set_not (change_here st op).pages (in_memory st) id off);
-  imaged = λ id. imaged id ∙ ap (λ (c : Change). has_page id c.pages || (is_among id (reads_of op) || is_imaged st id)) is;
+  in_log = λ id. in_log id ∙ ap (λ (c : Change). has_page id c.pages || (is_among id (reads_of op) || is_in_log st id)) is;
   area = ap (λ (l : LogState). l.area) log;
   len = ap (λ (l : LogState). l.len) log;
   written = ap (λ (l : LogState). l.written) log;
@@ -83,16 +83,16 @@ module _ (st new : StoreState) (op : Op) (mark : ℕ) (well : MakesWell op st) (
   rises : st.meta.high ≤ new.meta.high
   rises = subst (λ (m : Meta). st.meta.high ≤ m.high) (sym commits.meta) well.change.high
 
-  -- a page that is imaged then is one of the file
-  marked_after : (id : ℕ) → IsTrue (is_imaged new id) → (1 ≤ id) × (id ≤ new.meta.high)
-  marked_after id on =
+  -- a page that is in the log then is one of the file
+  in_file_after : (id : ℕ) → IsTrue (is_in_log new id) → (1 ≤ id) × (id ≤ new.meta.high)
+  in_file_after id on =
       let P = λ (n : ℕ). (1 ≤ n) × (n ≤ new.meta.high) in
       let reads = reads_numbered st well.memory op allowed in
-      elim (or_cases (has_page id change.pages) (is_among id (reads_of op) || is_imaged st id) (sym (commits.imaged id) ∙ on)) [
+      elim (or_cases (has_page id change.pages) (is_among id (reads_of op) || is_in_log st id) (sym (commits.in_log id) ∙ on)) [
         | inl made ↦ has_all P change.pages id (λ k d lt. subst (λ (m : Meta). (1 ≤ (get_or change.pages k d).0) × ((get_or change.pages k d).0 ≤ m.high)) (sym commits.meta) (well.change.pages k d lt).0) made
-        | inr rest ↦ elim (or_cases (is_among id (reads_of op)) (is_imaged st id) rest) [
+        | inr rest ↦ elim (or_cases (is_among id (reads_of op)) (is_in_log st id) rest) [
           | inl read ↦ among_all P (reads_of op) id (λ k d lt. let at = reads k d lt in (at.0, omega (arith, at.1, rises))) read
-          | inr before ↦ let at = well.memory.marked id before in (at.0, omega (arith, at.1, rises))
+          | inr before ↦ let at = well.memory.in_file id before in (at.0, omega (arith, at.1, rises))
         ]
       ]
 
@@ -108,7 +108,7 @@ module _ (st new : StoreState) (op : Op) (mark : ℕ) (well : MakesWell op st) (
         (λ k d lt. let c = well.change.pages k d lt in (c.0.0, c.0.1, c.1))
         (λ n p is. let old = well.memory.good n p is in (old.0, omega (arith, old.1, well.change.high), well.change.others p old.2))
         id page (Commits-there op mark st new commits id page e));
-    marked = marked_after;
+    in_file = in_file_after;
   }
 
   -- ---- what it keeps of the disk
@@ -134,16 +134,16 @@ module _ (st new : StoreState) (op : Op) (mark : ℕ) (well : MakesWell op st) (
     shows : Shows told.0 p.said t s
     shows = Shows-leads told.0 p.said (written_pages p) durable p.waiting later (StoreKeeps-by d st durable later keeps going told.0 (disk.as_read told.0 told.1)).shows keeps.waits.leads
 
-    marks : (q : ℕ) → is_imaged st q ≡ is_some (t.page q)
-    marks q = keeps.imaged.touched q ∙ ap (λ (r : Replayed). is_some (r.page q)) (replay-append (untouched p.said) p.written p.waiting)
+    touched_too : (q : ℕ) → is_in_log st q ≡ is_some (t.page q)
+    touched_too q = keeps.in_log.touched q ∙ ap (λ (r : Replayed). is_some (r.page q)) (replay-append (untouched p.said) p.written p.waiting)
 
     agree_at : (q : ℕ) (page : Page) (touched : Option Page) → IsTrue (is_some touched) → IsPageIn told.0 p.said q touched page → touched ≡ Some page
     agree_at q page None some is = cc some
     agree_at q page (Some other) some is = ap (λ (o : Page). Some o) is
 
-    -- an imaged page is touched as it is in memory
-    agree : (q : ℕ) (page : Page) → in_memory st q ≡ Some page → IsTrue (is_imaged st q) → t.page q ≡ Some page
-    agree q page is on = agree_at q page (t.page q) (sym (marks q) ∙ on) (shows.each q page (keeps.memory.cached q page is))
+    -- a page in the log is touched as it is in memory
+    agree : (q : ℕ) (page : Page) → in_memory st q ≡ Some page → IsTrue (is_in_log st q) → t.page q ≡ Some page
+    agree q page is on = agree_at q page (t.page q) (sym (touched_too q) ∙ on) (shows.each q page (keeps.memory.cached q page is))
 
     none_at_zero : (o : Option Page) → ((page : Page) → o ≡ Some page → 1 ≤ 0) → o ≡ None
     none_at_zero None h = refl
@@ -153,17 +153,17 @@ module _ (st new : StoreState) (op : Op) (mark : ℕ) (well : MakesWell op st) (
     no_page = none_at_zero (in_memory st 0) (λ page e. (well.memory.good 0 page e).0)
 
     untouched_zero : t.page 0 ≡ None
-    untouched_zero = elim (cases_Bool (is_imaged st 0)) [
-      | inl on ↦ absurd (omega (arith, (well.memory.marked 0 on).0))
-      | inr off ↦ none_of (t.page 0) (sym (marks 0) ∙ off)
+    untouched_zero = elim (cases_Bool (is_in_log st 0)) [
+      | inl on ↦ absurd (omega (arith, (well.memory.in_file 0 on).0))
+      | inr off ↦ none_of (t.page 0) (sym (touched_too 0) ∙ off)
     ]
 
     reads : All (λ id. IsSome (in_memory st id)) (reads_of op)
     reads = reads_some op st.meta (in_memory st) (read_here st op 1) (read_here st op 2) allowed
 
     -- what the operation reads is the same in memory, among the touched pages, and in the file
-    read_touched : (place : ℕ) → read_here st op place ≡ touched_read (with_images t logged) op place
-    read_touched place = ap if_live (sym (read_page (in_memory st) (is_imaged st) (reads_of op) place t.page no_page untouched_zero agree reads))
+    read_touched : (place : ℕ) → read_here st op place ≡ touched_read (with_page_images t logged) op place
+    read_touched place = ap if_live (sym (read_page (in_memory st) (is_in_log st) (reads_of op) place t.page no_page untouched_zero agree reads))
 
     read_file : (place : ℕ) → read_here st op place ≡ nth_read s op place
     read_file place = elim (cases_lt place (length (reads_of op))) [
@@ -185,18 +185,18 @@ module _ (st new : StoreState) (op : Op) (mark : ℕ) (well : MakesWell op st) (
     change_file : change ≡ change_of op s.meta (nth_read s op 0) (nth_read s op 1) (nth_read s op 2)
     change_file = same_change op st.meta s.meta _ _ _ _ _ _ meta_file (read_file 0) (read_file 1) (read_file 2)
 
-    change_touched : change ≡ change_in (with_images t logged) op
+    change_touched : change ≡ change_in (with_page_images t logged) op
     change_touched = same_change op st.meta t.meta _ _ _ _ _ _ meta_touched (read_touched 0) (read_touched 1) (read_touched 2)
 
     may : MayFollow t logged
     may = record {
-      images = all_needed (in_memory st) (is_imaged st) (λ i. (1 ≤ i.0) × (i.0 ≤ t.meta.high)) (reads_of op)
+      images = all_needed (in_memory st) (is_in_log st) (λ i. (1 ≤ i.0) × (i.0 ≤ t.meta.high)) (reads_of op)
           (λ k e lt page there. let h = well.memory.good (get_or (reads_of op) k e) page there in (h.0, subst (λ (m : Meta). get_or (reads_of op) k e ≤ m.high) meta_touched h.1));
       allowed = same_allowed op st.meta t.meta _ _ _ _ _ _ meta_touched (read_touched 0) (read_touched 1) (read_touched 2) allowed;
     }
 
-    are : AreImagesOf s logged.images
-    are = all_needed (in_memory st) (is_imaged st) (λ i. page_of s i.0 ≡ Some i.1) (reads_of op) (λ k e lt page there. keeps.memory.cached (get_or (reads_of op) k e) page there)
+    are : ArePageImagesOf s logged.images
+    are = all_needed (in_memory st) (is_in_log st) (λ i. page_of s i.0 ≡ Some i.1) (reads_of op) (λ k e lt page there. keeps.memory.cached (get_or (reads_of op) k e) page there)
 
     -- the file after the operation
     abbrev n : FileState
@@ -246,21 +246,21 @@ module _ (st new : StoreState) (op : Op) (mark : ℕ) (well : MakesWell op st) (
     whole : all_pages grown ≡ after_group t logged
     whole = replay-append (untouched p.said) p.written (p.waiting ++ logged ∷ []) ∙ replay-append (written_pages p) p.waiting (logged ∷ [])
 
-    touched_after : (id : ℕ) → is_imaged new id ≡ is_some ((all_pages grown).page id)
+    touched_after : (id : ℕ) → is_in_log new id ≡ is_some ((all_pages grown).page id)
     touched_after id =
         let H = has_page id change.pages in
-        commits.imaged id
-        ∙ ap (λ (b : Bool). H || b) (sym (imaged_all (in_memory st) (is_imaged st) (reads_of op) id reads) ∙ ap (λ (b : Bool). has_page id logged.images || b) (marks id) ∙ sym (set_some logged.images t.page id))
+        commits.in_log id
+        ∙ ap (λ (b : Bool). H || b) (sym (in_log_all (in_memory st) (is_in_log st) (reads_of op) id reads) ∙ ap (λ (b : Bool). has_page id logged.images || b) (touched_too id) ∙ sym (set_some logged.images t.page id))
         ∙ sym (set_some change.pages (set_pages logged.images t.page) id)
         ∙ ap (λ (c : Change). is_some (set_pages c.pages (set_pages logged.images t.page) id)) change_touched
         ∙ ap (λ (r : Replayed). is_some (r.page id)) (sym whole)
 
-    imaged_more : IsImaged d (is_imaged new) grown (last_of durable (with_op durable later op))
-    imaged_more = record {
+    in_log_more : IsInLog d (is_in_log new) grown (last_of durable (with_op durable later op))
+    in_log_more = record {
       touched = touched_after;
       synced = λ id page no e c image.
-          let off = or_parts (has_page id change.pages) (is_among id (reads_of op) || is_imaged st id) (sym (commits.imaged id) ∙ no) in
-          keeps.imaged.synced id page (or_parts (is_among id (reads_of op)) (is_imaged st id) off.1).1 (sym (set_not change.pages (page_of s) id off.0) ∙ sym (page_after id) ∙ e) c image;
+          let off = or_parts (has_page id change.pages) (is_among id (reads_of op) || is_in_log st id) (sym (commits.in_log id) ∙ no) in
+          keeps.in_log.synced id page (or_parts (is_among id (reads_of op)) (is_in_log st id) off.1).1 (sym (set_not change.pages (page_of s) id off.0) ∙ sym (page_after id) ∙ e) c image;
     }
 
     -- a page that isn't in memory then was none of those that were made
@@ -285,7 +285,7 @@ module _ (st new : StoreState) (op : Op) (mark : ℕ) (well : MakesWell op st) (
     }
 
     pub keeps_after : StoreKeeps d new durable (with_op durable later op)
-    keeps_after = record { parts = grown; disk = stays_durable; waits = waits_more; imaged = imaged_more; memory = in_memory_then }
+    keeps_after = record { parts = grown; disk = stays_durable; waits = waits_more; in_log = in_log_more; memory = in_memory_then }
 
 -- ---- where the commit is Ok, and where it isn't
 

@@ -1,4 +1,4 @@
--- The file that a store keeps has a page for each number up to its high mark.
+-- The file that a store keeps has a page for each number up to its highest page.
 use Rattle.std.proofs.Common.{List, [], ◌∷◌, sym, ap, subst, ◌∙◌}
 use Rattle.hb_disk.specs.Model.{DiskModel, IsDisk}
 use Rattle.hb_lemmas.proofs.Options.{some_value}

@@ -1,4 +1,4 @@
--- A file has a page for each number up to its high mark, and so has the file after an operation.
+-- A file has a page for each number up to its highest page, and so has the file after an operation.
 use Rattle.std.proofs.Common.{◌≡◌, ℕ, length, get_or, All, ap, ◌∙◌, arith}
 use Rattle.hb_ops.specs.declared.operations.Op.{Op}
 use Rattle.hb_ops.specs.Files.{FileState, page_of}
@@ -10,7 +10,7 @@ use Rattle.hb_ops.proofs.Facts.AllowedOps.{reads_some, high_next}
 use Rattle.hb_ops.proofs.Facts.FilePages.{page_in_range}
 use Rattle.hb_lemmas.proofs.Options.{some_value}
 
--- a page for each number up to the high mark
+-- a page for each number up to the highest page
 abbrev pub HasCount : FileState → Type 0
 HasCount s = length s.pages ≡ s.meta.high
 

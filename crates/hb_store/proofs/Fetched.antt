@@ -86,7 +86,7 @@ memory_with st id page is some high good = record {
         | true ↦ λ here found. subst (λ n. (1 ≤ n) × (n ≤ st.meta.high) × IsGoodPage st.meta p) (sym (eqb-true q id here)) (some, high, subst (IsGoodPage st.meta) (some_is found) good)
         | false ↦ λ _ found. is.good q p found
       ] refl (sym (get-put id q page st.pages) ∙ e);
-  marked = is.marked;
+  in_file = is.in_file;
 }
   where
     some_is : {x y : Page} → Some x ≡ Some y → x ≡ y
@@ -118,7 +118,7 @@ keeps_read d e st durable later stays k = record {
     kept = (synced_read d e _ PAGE stays k.disk.kept.0, synced_read d e st.log.area st.log.written stays k.disk.kept.1);
   };
   waits = k.waits;
-  imaged = record { touched = k.imaged.touched; synced = λ id page none found c image. k.imaged.synced id page none found c (stays.image c image) };
+  in_log = record { touched = k.in_log.touched; synced = λ id page none found c image. k.in_log.synced id page none found c (stays.image c image) };
   memory = record {
     layout = k.memory.layout;
     meta_is = k.memory.meta_is;
@@ -139,7 +139,7 @@ keeps_fetched d disk old new durable later id fetched there k =
       parts = k.parts;
       disk = k.disk;
       waits = k.waits;
-      imaged = k.imaged;
+      in_log = k.in_log;
       memory = record {
         layout = k.memory.layout;
         meta_is = k.memory.meta_is;
@@ -157,13 +157,13 @@ keeps_fetched d disk old new durable later id fetched there k =
     })
   where
     -- the old store with the new one's pages is the new one
-    same : ◌≡◌ {A = StoreState} (record { turn = old.turn; meta = old.meta; log = old.log; pages = new.pages; imaged = old.imaged; stopped = old.stopped }) new
+    same : ◌≡◌ {A = StoreState} (record { turn = old.turn; meta = old.meta; log = old.log; pages = new.pages; in_log = old.in_log; stopped = old.stopped }) new
     same = λ i. record {
       turn = sym fetched.rest.turn i;
       meta = sym fetched.rest.meta i;
       log = sym fetched.rest.log i;
       pages = new.pages;
-      imaged = sym fetched.rest.imaged i;
+      in_log = sym fetched.rest.in_log i;
       stopped = sym fetched.rest.stopped i;
     }
 
@@ -196,7 +196,7 @@ held_there st id page = get-put id id page st.pages ∙ ap (λ b. cond b (Some p
 
 pub fetched_with : (st : StoreState) (id : ℕ) (page : Page) → in_memory st id ≡ None → Fetched id st (with_held id page st)
 fetched_with st id page none = record {
-  rest = record { turn = refl; meta = refl; log = refl; imaged = refl; stopped = refl };
+  rest = record { turn = refl; meta = refl; log = refl; in_log = refl; stopped = refl };
   there = subst (λ (o : Option Page). IsSome o) (sym (held_there st id page)) refl;
   same = λ some. absurd (some_none (in_memory st id) some none);
   kept = λ q some. elim (cases_eq q id) [

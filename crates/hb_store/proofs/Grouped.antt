@@ -1,4 +1,4 @@
--- The group of an operation: which images it has.
+-- The group of an operation: which page images it has.
 use Rattle.std.proofs.Common.{◌≡◌, ◌≢◌, ℕ, zero, suc, ◌^◌, ◌<◌, ◌≤◌, Bool, true, false, List, [], ◌∷◌, ◌++◌, length, get_or, All, AllPairs, Option, Some, None, Result, Ok, Err, refl, arith}
 use Rattle.std.specs.Option.{IfSome}
 use Rattle.std.specs.Result.{IfOk, OnOk}
@@ -12,9 +12,9 @@ use Rattle.hb_layout.specs.declared.meta.Meta.{Meta}
 use Rattle.hb_ops.specs.declared.operations.Op.{Op}
 use Rattle.hb_ops.specs.declared.operations.Op.TheVariants.{Put, Del, Extract, Post, Grow}
 use Rattle.hb_ops.specs.Operations.{reads_of}
-use Rattle.hb_log_codec.specs.Groups.{FitsGroup, FitsImage, FitsOp}
+use Rattle.hb_log_codec.specs.Groups.{FitsGroup, FitsPageImage, FitsOp}
 use Rattle.hb_store.specs.States.{AreGood, IsGoodPage, IsStanding}
-use Rattle.hb_store.specs.Making.{image_needed, images_needed}
+use Rattle.hb_store.specs.Making.{page_image_needed, page_images_needed}
 
 pub good_spelled : (meta : Meta) (page : Page) → IsGoodPage meta page → HasSpelling page
 good_spelled meta (Live page) h = h.0
@@ -24,42 +24,42 @@ pub spelled_in : (o : Option Page) → ((page : Page) → o ≡ Some page → Ha
 spelled_in None h = tt
 spelled_in (Some page) h = h page refl
 
--- ---- the images that pages of some numbers need
+-- ---- the page images that pages of some numbers need
 
 module _ (P : ℕ → Option Page) (I : ℕ → Bool) where
-  -- what holds of each page in memory of these numbers holds of each image
-  pub all_needed : (Q : ℕ × Page → Type 0) (ids : List ℕ) → All (λ id. (page : Page) → P id ≡ Some page → Q (id, page)) ids → All Q (images_needed P I ids)
+  -- what holds of each page in memory of these numbers holds of each page image
+  pub all_needed : (Q : ℕ × Page → Type 0) (ids : List ℕ) → All (λ id. (page : Page) → P id ≡ Some page → Q (id, page)) ids → All Q (page_images_needed P I ids)
   all_needed Q [] h = All-nil Q
   all_needed Q (id ∷ rest) h =
       let R = λ (id : ℕ). (page : Page) → P id ≡ Some page → Q (id, page) in
-      All-append Q (image_needed id (P id) (I id)) (images_needed P I rest) (one (P id) (I id) refl) (all_needed Q rest (All-tail R id rest h))
+      All-append Q (page_image_needed id (P id) (I id)) (page_images_needed P I rest) (one (P id) (I id) refl) (all_needed Q rest (All-tail R id rest h))
     where
-      one : (o : Option Page) (b : Bool) → P id ≡ o → All Q (image_needed id o b)
+      one : (o : Option Page) (b : Bool) → P id ≡ o → All Q (page_image_needed id o b)
       one None b e = All-nil Q
       one (Some page) true e = All-nil Q
       one (Some page) false e = let R = λ (id : ℕ). (page : Page) → P id ≡ Some page → Q (id, page) in All-cons Q (id, page) [] (All-head R id rest h page e) (All-nil Q)
 
-  few_at : (id : ℕ) (o : Option Page) (b : Bool) → length (image_needed id o b) ≤ 1
+  few_at : (id : ℕ) (o : Option Page) (b : Bool) → length (page_image_needed id o b) ≤ 1
   few_at id None b = omega arith
   few_at id (Some page) true = omega arith
   few_at id (Some page) false = omega arith
 
-  few_needed : (ids : List ℕ) → length (images_needed P I ids) ≤ length ids
+  few_needed : (ids : List ℕ) → length (page_images_needed P I ids) ≤ length ids
   few_needed [] = omega arith
-  few_needed (id ∷ rest) = omega (arith, length-append (image_needed id (P id) (I id)) (images_needed P I rest), few_at id (P id) (I id), few_needed rest)
+  few_needed (id ∷ rest) = omega (arith, length-append (page_image_needed id (P id) (I id)) (page_images_needed P I rest), few_at id (P id) (I id), few_needed rest)
 
   abbrev Apart : ℕ × Page → ℕ × Page → Type 0
   Apart i j = i.0 ≢ j.0
 
-  distinct_with : (id : ℕ) (rest : List (ℕ × Page)) (o : Option Page) (b : Bool) → ((page : Page) → o ≡ Some page → All (Apart (id, page)) rest) → AllPairs Apart rest → AllPairs Apart (image_needed id o b ++ rest)
+  distinct_with : (id : ℕ) (rest : List (ℕ × Page)) (o : Option Page) (b : Bool) → ((page : Page) → o ≡ Some page → All (Apart (id, page)) rest) → AllPairs Apart rest → AllPairs Apart (page_image_needed id o b ++ rest)
   distinct_with id rest None b first later = later
   distinct_with id rest (Some page) true first later = later
   distinct_with id rest (Some page) false first later = AllPairs-cons Apart (id, page) rest (first page refl) later
 
-  distinct_needed : (ids : List ℕ) → AllPairs (λ i j. i ≢ j) ids → AllPairs Apart (images_needed P I ids)
+  distinct_needed : (ids : List ℕ) → AllPairs (λ i j. i ≢ j) ids → AllPairs Apart (page_images_needed P I ids)
   distinct_needed [] h = λ i j d lt in_range. absurd (omega (arith, in_range))
   distinct_needed (id ∷ rest) h =
-      distinct_with id (images_needed P I rest) (P id) (I id)
+      distinct_with id (page_images_needed P I rest) (P id) (I id)
       (λ page e. all_needed (Apart (id, page)) rest (λ k d lt other is. h zero (suc k) d (omega arith) (omega (arith, lt))))
       (distinct_needed rest (λ i j d lt in_range. h (suc i) (suc j) d (omega (arith, lt)) (omega (arith, in_range))))
 
@@ -82,10 +82,10 @@ small_high : (turn : ℕ) (meta : Meta) → IsStanding turn meta → meta.high <
 small_high turn meta h = omega (arith, h.high, h.layout.few_pages)
 
 pub fits_group : (P : ℕ → Option Page) (I : ℕ → Bool) (turn : ℕ) (meta : Meta) (op : Op) → IsStanding turn meta → AreGood meta P → FitsOp meta.k op
-    → FitsGroup meta.k (record { images = images_needed P I (reads_of op); op = op })
+    → FitsGroup meta.k (record { images = page_images_needed P I (reads_of op); op = op })
 fits_group P I turn meta op stands good fits = record {
   few = omega (arith, few_needed P I (reads_of op), few_reads op);
-  images = all_needed P I FitsImage (reads_of op) (λ k d lt page e.
+  images = all_needed P I FitsPageImage (reads_of op) (λ k d lt page e.
       let h = good (get_or (reads_of op) k d) page e in
       record { number = omega (arith, h.1, small_high turn meta stands); page = good_spelled meta page h.2 });
   distinct = distinct_needed P I (reads_of op) (distinct_reads op);

@@ -18,7 +18,7 @@ use Rattle.hb_ops.specs.Operations.{reads_of}
 use Rattle.hb_wal.specs.Log.{LogState}
 use Rattle.hb_log_codec.specs.Groups.{Logged}
 use Rattle.hb_store.specs.Fetching.{with_held}
-use Rattle.hb_store.specs.Making.{group_here, images_needed}
+use Rattle.hb_store.specs.Making.{group_here, page_images_needed}
 use Rattle.hb_store.specs.States.{StoreState, new_state}
 
 any_same : (ks : List ℕ) (q : ℕ) → list_any (eq_by_cmp nat_cmp q) ks ≡ list_any (nat_eq q) ks
@@ -54,10 +54,10 @@ module _ {S : Type 0} where
   set_same s t same = set.same_set nat_cmp_total set.nat_cmp-IsAntisymmetric (set_of t) (set_of s) (λ q. set_seen t q ∙ same q ∙ sym (set_seen s q))
 
 -- a group by what is held is that by what is seen
-pub group_seen : {S T : Type 0} (m : hash.HashMap ℕ Page S) (s : bag.HashSet ℕ T) (st : StoreState) → map_of m ≡ st.pages → set_of s ≡ st.imaged → (op : Op)
-    → ◌≡◌ {A = Logged} (record { images = images_needed (hash.get nat_eq m) (bag.contains nat_eq s) (reads_of op); op = op }) (group_here st op)
-group_seen m s st pages imaged op = λ i. record {
-  images = images_needed (λ q. (sym (map_seen m q) ∙ ap (λ (f : map.FinMap nat_cmp Page). map.get f q) pages) i) (λ q. (sym (set_seen s q) ∙ ap (λ (f : set.FinSet nat_cmp). set.contains f q) imaged) i) (reads_of op);
+pub group_seen : {S T : Type 0} (m : hash.HashMap ℕ Page S) (s : bag.HashSet ℕ T) (st : StoreState) → map_of m ≡ st.pages → set_of s ≡ st.in_log → (op : Op)
+    → ◌≡◌ {A = Logged} (record { images = page_images_needed (hash.get nat_eq m) (bag.contains nat_eq s) (reads_of op); op = op }) (group_here st op)
+group_seen m s st pages in_log op = λ i. record {
+  images = page_images_needed (λ q. (sym (map_seen m q) ∙ ap (λ (f : map.FinMap nat_cmp Page). map.get f q) pages) i) (λ q. (sym (set_seen s q) ∙ ap (λ (f : set.FinSet nat_cmp). set.contains f q) in_log) i) (reads_of op);
   op = op;
 }
 
@@ -65,23 +65,23 @@ group_seen m s st pages imaged op = λ i. record {
 
 module _ {S T : Type 0} where
   abbrev pub state_of : ℕ → Meta → LogState → hash.HashMap ℕ Page S → bag.HashSet ℕ T → Bool → StoreState
-  state_of turn meta log m s stopped = record { turn = turn; meta = meta; log = log; pages = map_of m; imaged = set_of s; stopped = stopped }
+  state_of turn meta log m s stopped = record { turn = turn; meta = meta; log = log; pages = map_of m; in_log = set_of s; stopped = stopped }
 
   -- what answers alike is seen alike
   pub state_same : (turn : ℕ) (meta : Meta) (log : LogState) (m n : hash.HashMap ℕ Page S) (s t : bag.HashSet ℕ T) (stopped : Bool)
       → ((q : ℕ) → hash.get nat_eq n q ≡ hash.get nat_eq m q) → ((q : ℕ) → bag.contains nat_eq t q ≡ bag.contains nat_eq s q)
       → state_of turn meta log n t stopped ≡ state_of turn meta log m s stopped
-  state_same turn meta log m n s t stopped pages imaged =
-      λ i. record { turn = turn; meta = meta; log = log; pages = map_same m n pages i; imaged = set_same s t imaged i; stopped = stopped }
+  state_same turn meta log m n s t stopped pages in_log =
+      λ i. record { turn = turn; meta = meta; log = log; pages = map_same m n pages i; in_log = set_same s t in_log i; stopped = stopped }
 
   pub state_put : (turn : ℕ) (meta : Meta) (log : LogState) (m n : hash.HashMap ℕ Page S) (s : bag.HashSet ℕ T) (stopped : Bool) (id : ℕ) (page : Page)
       → ((q : ℕ) → hash.get nat_eq n q ≡ cond (nat_eq id q) (Some page) (hash.get nat_eq m q)) → state_of turn meta log n s stopped ≡ with_held id page (state_of turn meta log m s stopped)
-  state_put turn meta log m n s stopped id page put = λ i. record { turn = turn; meta = meta; log = log; pages = map_put m n id page put i; imaged = set_of s; stopped = stopped }
+  state_put turn meta log m n s stopped id page put = λ i. record { turn = turn; meta = meta; log = log; pages = map_put m n id page put i; in_log = set_of s; stopped = stopped }
 
   -- nothing is held
   pub nothing_seen : (turn : ℕ) (meta : Meta) (log : LogState) (m : hash.HashMap ℕ Page S) (s : bag.HashSet ℕ T) → log ≡ (new_state turn meta).log → m.entries ≡ [] → s.keys ≡ []
       → state_of turn meta log m s false ≡ new_state turn meta
-  nothing_seen turn meta log m s log_is pages imaged = λ i. record { turn = turn; meta = meta; log = log_is i; pages = map.from_entries (pages i); imaged = set.from_list (imaged i); stopped = false }
+  nothing_seen turn meta log m s log_is pages in_log = λ i. record { turn = turn; meta = meta; log = log_is i; pages = map.from_entries (pages i); in_log = set.from_list (in_log i); stopped = false }
 
 -- what a look-up lends
 pub lent_page : (r : Option (Bor Page)) (o : Option Page) → option_copied r ≡ o → MatchOption r (o ≡ None) (λ page. o ≡ Some page.now)

@@ -7,7 +7,7 @@ mod Written
 mod Setting
 mod Held
 mod Grouped
-mod Imaging
+mod InLog
 mod Committed
 pub mod Counting
 pub mod Counted

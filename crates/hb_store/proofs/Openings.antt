@@ -17,12 +17,12 @@ use Rattle.hb_store.specs.States.{IsMemory, IsNew, IsStanding, new_state}
 use Rattle.hb_store.specs.Keeps.{StoreKeeps, IsFresh}
 use Rattle.hb_store.proofs.Facts.ReplayLaws.{opens_fresh}
 
--- no page is in memory, and none is imaged
-none_imaged : (id : ℕ) → set.contains (set.empty {R = nat_cmp}) id ≡ false
-none_imaged id = set.contains-empty nat_cmp id
+-- no page is in memory, and none is in the log
+none_in_log : (id : ℕ) → set.contains (set.empty {R = nat_cmp}) id ≡ false
+none_in_log id = set.contains-empty nat_cmp id
 
 pub is_new : (turn : ℕ) (meta : Meta) → IsNew turn meta (new_state turn meta)
-is_new turn meta = record { turn_is = refl; meta_is = refl; log_is = refl; no_page = λ id. map.get-empty nat_cmp id; none_imaged = none_imaged; running = refl }
+is_new turn meta = record { turn_is = refl; meta_is = refl; log_is = refl; no_page = λ id. map.get-empty nat_cmp id; none_in_log = none_in_log; running = refl }
 
 pub new_memory : (turn : ℕ) (meta : Meta) → IsStanding turn meta → IsMemory (new_state turn meta)
 new_memory turn meta stands = record {
@@ -30,7 +30,7 @@ new_memory turn meta stands = record {
   area = refl;
   len = refl;
   good = λ id page is. let never : None ≡ Some page = sym (map.get-empty nat_cmp id) ∙ is in cc never;
-  marked = λ id on. let never : false ≡ true = sym (none_imaged id) ∙ on in cc never;
+  in_file = λ id on. let never : false ≡ true = sym (none_in_log id) ∙ on in cc never;
 }
 
 module _ (d : DiskModel) (is_disk : IsDisk d) (turn : ℕ) (meta : Meta) (s : FileState) (fresh : IsFresh d turn meta s) (room : file_size meta ≤ d.size) where
@@ -59,7 +59,7 @@ module _ (d : DiskModel) (is_disk : IsDisk d) (turn : ℕ) (meta : Meta) (s : Fi
       );
     };
     waits = record { spelled = refl; fits = All-nil (FitsGroup meta.k); leads = refl };
-    imaged = record { touched = λ id. none_imaged id; synced = λ id page off is c image. fresh.pages id page is c image };
+    in_log = record { touched = λ id. none_in_log id; synced = λ id page off is c image. fresh.pages id page is c image };
     memory = record {
       layout = record { k = refl; pages = refl; log = refl; dcap = refl; icap = refl };
       meta_is = fresh.meta_is;

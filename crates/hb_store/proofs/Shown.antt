@@ -10,10 +10,10 @@ use Rattle.hb_ops.specs.declared.operations.Op.TheVariants.{Put, Del, Extract, P
 use Rattle.hb_ops.specs.Files.{FileState, if_live, page_of}
 use Rattle.hb_ops.specs.Operations.{Change, IsAllowed, change_of, effect_of, nth_read, reads_of}
 use Rattle.hb_log_codec.specs.Groups.{Logged}
-use Rattle.hb_store.specs.Replay.{IsAllowedIn, MayFollow, Replayed, after_group, after_op, change_in, replay, set_pages, touched_read, with_images}
+use Rattle.hb_store.specs.Replay.{IsAllowedIn, MayFollow, Replayed, after_group, after_op, change_in, replay, set_pages, touched_read, with_page_images}
 use Rattle.hb_store.proofs.Facts.ReplayLists.{set_one-same, set_one-other}
 use Rattle.hb_store.specs.Opening.{IsPageIn, Shows}
-use Rattle.hb_store.specs.Parts.{AreImagesOf, Leads}
+use Rattle.hb_store.specs.Parts.{ArePageImagesOf, Leads}
 use Rattle.hb_store.specs.Keeps.{last_of}
 use Rattle.hb_store.proofs.Counting.{HasCount, effect_count, effect_reaches}
 use Rattle.hb_store.proofs.Facts.FilePages.{pages_set}
@@ -34,9 +34,9 @@ module _ (bytes : List ℕ) (said : Meta) where
       ] there) q page is
 
   -- a page of the file set as it is
-  shows_image : (t : Replayed) (s : FileState) (id : ℕ) (same : Page) → Shows bytes said t s → page_of s id ≡ Some same
+  shows_page_image : (t : Replayed) (s : FileState) (id : ℕ) (same : Page) → Shows bytes said t s → page_of s id ≡ Some same
       → Shows bytes said (record { meta = t.meta; page = λ q. cond (q == id) (Some same) (t.page q) }) s
-  shows_image t s id same shows there = record {
+  shows_page_image t s id same shows there = record {
     meta = shows.meta;
     count = shows.count;
     each = λ q page is. elim (cases_Bool (q == id)) [
@@ -52,12 +52,12 @@ module _ (bytes : List ℕ) (said : Meta) where
     ];
   }
 
-  shows_images : (t : Replayed) (s : FileState) (images : List (ℕ × Page)) → Shows bytes said t s → AreImagesOf s images
+  shows_page_images : (t : Replayed) (s : FileState) (images : List (ℕ × Page)) → Shows bytes said t s → ArePageImagesOf s images
       → Shows bytes said (record { meta = t.meta; page = set_pages images t.page }) s
-  shows_images t s [] shows are = shows
-  shows_images t s (one ∷ rest) shows are =
-      shows_images (record { meta = t.meta; page = λ q. cond (q == one.0) (Some one.1) (t.page q) }) s rest
-      (shows_image t s one.0 one.1 shows (All-head (λ (i : ℕ × Page). page_of s i.0 ≡ Some i.1) one rest are))
+  shows_page_images t s [] shows are = shows
+  shows_page_images t s (one ∷ rest) shows are =
+      shows_page_images (record { meta = t.meta; page = λ q. cond (q == one.0) (Some one.1) (t.page q) }) s rest
+      (shows_page_image t s one.0 one.1 shows (All-head (λ (i : ℕ × Page). page_of s i.0 ≡ Some i.1) one rest are))
       (All-tail (λ (i : ℕ × Page). page_of s i.0 ≡ Some i.1) one rest are)
 
   -- an operation that is allowed on the touched pages and in the file
@@ -114,12 +114,12 @@ module _ (bytes : List ℕ) (said : Meta) where
   shows_op t s (Grow fresh free_after) shows may allowed =
       let op = Grow fresh free_after in shows_change t s op shows may allowed (ap (λ (m : Meta). change_of op m None None None) (sym shows.meta))
 
--- A group whose images are pages of the file, and whose operation is allowed there, leads from the file to the file
+-- A group whose page images are pages of the file, and whose operation is allowed there, leads from the file to the file
 -- after the operation.
-pub Shows-after : (bytes : List ℕ) (said : Meta) (t : Replayed) (s : FileState) (g : Logged) → Shows bytes said t s → MayFollow t g → AreImagesOf s g.images → IsAllowed s g.op
+pub Shows-after : (bytes : List ℕ) (said : Meta) (t : Replayed) (s : FileState) (g : Logged) → Shows bytes said t s → MayFollow t g → ArePageImagesOf s g.images → IsAllowed s g.op
     → Shows bytes said (after_group t g) (effect_of s g.op)
 Shows-after bytes said t s g shows may are allowed =
-    shows_op bytes said (with_images t g) s g.op (shows_images bytes said t s g.images shows are) may.allowed allowed
+    shows_op bytes said (with_page_images t g) s g.op (shows_page_images bytes said t s g.images shows are) may.allowed allowed
 
 -- so do groups that lead from file to file
 pub Shows-leads : (bytes : List ℕ) (said : Meta) (t : Replayed) (s : FileState) (gs : List Logged) (later : List FileState) → Shows bytes said t s → Leads t s gs later

@@ -13,7 +13,7 @@ use Rattle.hb_ops.specs.declared.operations.Op.{Op}
 use Rattle.hb_ops.specs.declared.operations.Op.TheVariants.{Put, Del, Extract, Post, Grow}
 use Rattle.hb_ops.specs.Operations.{change_of, reads_of}
 use Rattle.hb_log_codec.specs.Groups.{Logged, FitsGroup, FitsOp}
-use Rattle.hb_store.specs.Replay.{Replayed, with_images, IsAllowedIn, MayFollow, after_group, after_op, change_in, touched_read}
+use Rattle.hb_store.specs.Replay.{Replayed, with_page_images, IsAllowedIn, MayFollow, after_group, after_op, change_in, touched_read}
 use Rattle.hb_ops.proofs.Facts.PageNumberLaws.{live_so}
 use Rattle.hb_store.specs.Replaying.{AreItsPages, HasLimits, IsPageOf, IsReplayable, ReplaysOn, with_pages}
 use Rattle.hb_store.specs.Making.{IsReadable, MakesGoodPages}
@@ -45,8 +45,8 @@ set_its [] t its good = its
 set_its (one ∷ rest) t its good =
     set_its rest (with_pages (one ∷ []) t) (set_one one t its (All-head (IsGood t.meta) one rest good)) (All-tail (IsGood t.meta) one rest good)
 
-pub images_its : (t : Replayed) (g : Logged) (k : ℕ) → AreItsPages t → FitsGroup k g → All (λ i. IsPageOf t.meta i.0) g.images → AreItsPages (with_images t g)
-images_its t g k its fits range = set_its g.images t its (λ i d lt. (range i d lt, (fits.images i d lt).page))
+pub page_images_its : (t : Replayed) (g : Logged) (k : ℕ) → AreItsPages t → FitsGroup k g → All (λ i. IsPageOf t.meta i.0) g.images → AreItsPages (with_page_images t g)
+page_images_its t g k its fits range = set_its g.images t its (λ i d lt. (range i d lt, (fits.images i d lt).page))
 
 -- what an operation reads beside its first page plays no part
 pub change_by_first : (op : Op) (meta : Meta) (first a b c d : Option LivePage) → change_of op meta first a b ≡ change_of op meta first c d
@@ -77,10 +77,10 @@ module _ (makes : MakesGoodPages) where
   -- what a group leads to
   pub group_leads : (t : Replayed) (g : Logged) → IsReplayable t → FitsGroup t.meta.k g → MayFollow t g → ReplaysOn t (after_group t g)
   group_leads t g goes_on fits may =
-      let u = with_images t g in
+      let u = with_page_images t g in
       record {
         meta = comes_after g.op t.meta (touched_read u g.op 0) (touched_read u g.op 1) (touched_read u g.op 2) goes_on.limits fits.op may.allowed;
-        pages = op_its u g.op (images_its t g t.meta.k goes_on.pages fits may.images) goes_on.limits fits.op may.allowed;
+        pages = op_its u g.op (page_images_its t g t.meta.k goes_on.pages fits may.images) goes_on.limits fits.op may.allowed;
       }
 
 -- ---- setting one page after the other

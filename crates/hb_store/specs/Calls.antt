@@ -7,7 +7,7 @@ use Rattle.hb_ops.specs.Files.{FileState, if_live}
 use Rattle.hb_ops.specs.Operations.{Change, IsAllowedOn, change_of, effect_of, reads_of}
 use Rattle.hb_wal.specs.Log.{pending_bytes, room_of}
 use Rattle.hb_store.specs.Replay.{set_pages, has_page, is_among}
-use Rattle.hb_store.specs.States.{StoreState, in_memory, is_imaged}
+use Rattle.hb_store.specs.States.{StoreState, in_memory, is_in_log}
 use Rattle.hb_store.specs.Keeps.{last_of}
 
 -- the page in use that an operation reads at a place of its list, among those in memory
@@ -27,16 +27,16 @@ abbrev pub StaysHere : StoreState → ℕ → Type 0
 StaysHere st id = IsSome (in_memory st id)
 
 -- No page comes under this number: what was there is there as it was, or it left. Then it didn't have to stay, and the log
--- of this turn has no image of it and didn't make it: so it reads in its place as the file has it.
+-- of this turn has no page image of it and didn't make it: so it reads in its place as the file has it.
 abbrev pub NoneComes : StoreState → StoreState → ℕ → Type 0
-NoneComes old new id = (in_memory new id ≡ in_memory old id) ⊎ ((in_memory new id ≡ None) × (¬ (StaysHere old id)) × (is_imaged old id ≡ false))
+NoneComes old new id = (in_memory new id ≡ in_memory old id) ⊎ ((in_memory new id ≡ None) × (¬ (StaysHere old id)) × (is_in_log old id ≡ false))
 
 -- all but the pages in memory is the same
 pub record KeepsAllButPages (old new : StoreState) : Type 0 where
   pub turn : new.turn ≡ old.turn
   pub meta : new.meta ≡ old.meta
   pub log : new.log ≡ old.log
-  pub imaged : new.imaged ≡ old.imaged
+  pub in_log : new.in_log ≡ old.in_log
   pub stopped : new.stopped ≡ old.stopped
 
 -- A fetch: the page of the number is in memory now, and no other page came.
@@ -50,7 +50,7 @@ pub record Fetched (id : ℕ) (old new : StoreState) : Type 0 where
   -- no other page came
   pub others : (q : ℕ) → q ≢ id → NoneComes old new q
 
--- A commit: the changed pages are in memory, they and those that were read are imaged or made in this turn, and one group
+-- A commit: the changed pages are in memory, they and those that were read are in this turn's log, and one group
 -- more waits, with its mark.
 pub record Commits (op : Op) (mark : ℕ) (old new : StoreState) : Type 0 where
   pub turn : new.turn ≡ old.turn
@@ -63,8 +63,8 @@ pub record Commits (op : Op) (mark : ℕ) (old new : StoreState) : Type 0 where
   pub kept : (id : ℕ) → has_page id (change_here old op).pages ≡ false → StaysHere old id → in_memory new id ≡ in_memory old id
   -- no other page came
   pub others : (id : ℕ) → has_page id (change_here old op).pages ≡ false → NoneComes old new id
-  -- these and the pages that it reads are imaged or made in this turn
-  pub imaged : (id : ℕ) → is_imaged new id ≡ (has_page id (change_here old op).pages || (is_among id (reads_of op) || is_imaged old id))
+  -- these and the pages that it reads are in this turn's log
+  pub in_log : (id : ℕ) → is_in_log new id ≡ (has_page id (change_here old op).pages || (is_among id (reads_of op) || is_in_log old id))
   pub area : new.log.area ≡ old.log.area
   pub len : new.log.len ≡ old.log.len
   pub written : new.log.written ≡ old.log.written

@@ -29,7 +29,7 @@ IsDamagedBy meta bytes rule =
 
 -- a store with a page in memory, under its number
 abbrev pub with_held : ℕ → Page → StoreState → StoreState
-with_held id page st = record { turn = st.turn; meta = st.meta; log = st.log; pages = map.insert st.pages id page; imaged = st.imaged; stopped = st.stopped }
+with_held id page st = record { turn = st.turn; meta = st.meta; log = st.log; pages = map.insert st.pages id page; in_log = st.in_log; stopped = st.stopped }
 
 -- What a call that may read a page did to a disk and its store, where `failed` says that a fault of the disk ended it.
 pub record LooksUp (failed : Type 0) (d e : DiskModel) (old new : StoreState) : Type 0 where

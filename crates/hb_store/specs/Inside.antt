@@ -1,4 +1,4 @@
--- How what a store has in memory is held: pages in a hash map by their numbers, and the numbers of the imaged ones in a hash set.
+-- How what a store has in memory is held: pages in a hash map by their numbers, and the numbers of those in the log in a hash set.
 use Rattle.std.specs.FinMap as map
 use Rattle.std.specs.FinSet as set
 use Rattle.hb_store.specs.States.{StoreState}
@@ -10,6 +10,6 @@ memory_seen m = record {
   meta = m.meta;
   log = m.log;
   pages = map.from_entries m.pages.entries;
-  imaged = set.from_list m.imaged.keys;
+  in_log = set.from_list m.in_log.keys;
   stopped = m.stopped;
 }

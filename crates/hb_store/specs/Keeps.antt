@@ -8,8 +8,8 @@ use Rattle.hb_frag.specs.declared.pages.Page.{Page}
 use Rattle.hb_frag.specs.Grammar.{SpellsPage}
 use Rattle.hb_ops.specs.Files.{FileState, page_of}
 use Rattle.hb_store.specs.Opening.{OpensTo, place_bytes}
-use Rattle.hb_store.specs.States.{StoreState, in_memory, is_imaged}
-use Rattle.hb_store.specs.Parts.{Parts, IsRunning, IsDurable, IsWaiting, IsImaged, IsInMemory}
+use Rattle.hb_store.specs.States.{StoreState, in_memory, is_in_log}
+use Rattle.hb_store.specs.Parts.{Parts, IsRunning, IsDurable, IsWaiting, IsInLog, IsInMemory}
 
 -- the last of the files behind the first one
 abbrev pub last_of : FileState → List FileState → FileState
@@ -25,8 +25,8 @@ pub record StoreKeeps (d : DiskModel) (st : StoreState) (durable : FileState) (l
   pub disk : IsDurable d st.turn st.log st.stopped parts durable later
   -- what waits
   pub waits : IsWaiting st.log.groups parts durable later
-  -- what is imaged
-  pub imaged : IsImaged d (is_imaged st) parts (last_of durable later)
+  -- what is in the log
+  pub in_log : IsInLog d (is_in_log st) parts (last_of durable later)
   -- what is in memory
   pub memory : IsInMemory d st.meta (in_memory st) parts (last_of durable later)
 

@@ -9,22 +9,22 @@ use Rattle.hb_ops.specs.declared.operations.Op.{Op}
 use Rattle.hb_ops.specs.declared.operations.Op.TheVariants.{Put, Del, Extract, Post, Grow}
 use Rattle.hb_ops.specs.Operations.{Change, IsAllowedOn, OpHas, change_of, reads_of}
 use Rattle.hb_log_codec.specs.Groups.{FitsGroup, FitsLeafCut, FitsOp, Logged}
-use Rattle.hb_store.specs.States.{IsGoodPage, IsMemory, IsSameLayout, IsStanding, StoreState, in_memory, is_imaged}
+use Rattle.hb_store.specs.States.{IsGoodPage, IsMemory, IsSameLayout, IsStanding, StoreState, in_memory, is_in_log}
 use Rattle.hb_store.specs.Calls.{IsAllowedHere, change_here}
 use Rattle.hb_store.specs.Replaying.{HasLimits, IsPageOf}
 
--- the image of a page, unless it was imaged or made in this turn
-abbrev pub image_needed : ℕ → Option Page → Bool → List (ℕ × Page)
-image_needed id None imaged = []
-image_needed id (Some page) imaged = if imaged then [] else (id, page) ∷ []
+-- the page image of a page, unless this turn's log has it
+abbrev pub page_image_needed : ℕ → Option Page → Bool → List (ℕ × Page)
+page_image_needed id None in_log = []
+page_image_needed id (Some page) in_log = if in_log then [] else (id, page) ∷ []
 
--- the images that pages of these numbers need, in their order
-abbrev pub images_needed : (ℕ → Option Page) → (ℕ → Bool) → List ℕ → List (ℕ × Page)
-images_needed page_in imaged ids = flat_map (λ id. image_needed id (page_in id) (imaged id)) ids
+-- the page images that pages of these numbers need, in their order
+abbrev pub page_images_needed : (ℕ → Option Page) → (ℕ → Bool) → List ℕ → List (ℕ × Page)
+page_images_needed page_in in_log ids = flat_map (λ id. page_image_needed id (page_in id) (in_log id)) ids
 
--- the group of an operation: the images that its reads need, and the operation
+-- the group of an operation: the page images that its reads need, and the operation
 abbrev pub group_here : StoreState → Op → Logged
-group_here st op = record { images = images_needed (in_memory st) (is_imaged st) (reads_of op); op = op }
+group_here st op = record { images = page_images_needed (in_memory st) (is_in_log st) (reads_of op); op = op }
 
 -- the page that an operation reads can be written
 abbrev pub IsReadable : Option LivePage → Type 0
@@ -54,7 +54,7 @@ pub record ChangesWell (turn : ℕ) (meta : Meta) (change : Change) : Type 0 whe
   pub layout : IsSameLayout meta change.meta
   -- what it says of itself is within its limits
   pub stands : IsStanding turn meta → IsStanding turn change.meta
-  -- the high mark does not fall
+  -- the highest page does not fall
   pub high : meta.high ≤ change.meta.high
   -- it rises by one at most
   pub next : change.meta.high ≤ meta.high + 1

@@ -16,7 +16,7 @@ abbrev pub MayFetch : ℕ → StoreState → StoreState → Type 0
 MayFetch id old new = (new ≡ old) ⊎ Fetched id old new
 
 -- The number that is taken, and the free head after it: the first of the free chain and what it names, or where the
--- chain has none the number behind the high mark, and none.
+-- chain has none the number behind the highest page, and none.
 pub record IsNext (st : StoreState) (fresh free_after : ℕ) : Type 0 where
   pub from_chain : st.meta.free ≢ 0 → (fresh ≡ st.meta.free) × (in_memory st fresh ≡ Some (Free free_after))
   pub from_behind : st.meta.free ≡ 0 → (fresh ≡ st.meta.high + 1) × (st.meta.high < st.meta.pages) × (free_after ≡ 0)

@@ -1,4 +1,4 @@
--- What a store keeps of the disk, in parts: what is durable, what waits, what is imaged and what is in memory.
+-- What a store keeps of the disk, in parts: what is durable, what waits, what is in the log and what is in memory.
 use Rattle.std.specs.Prelude.{◌≡◌, ◌⊎◌, ℕ, ◌*◌, Bool, false, List, [], ◌∷◌, ◌++◌, length, map, All, Option, Some, None, IsSome, IsTrue, is_some}
 use Rattle.hb_space.specs.declared.form.TheConstants.{PAGE}
 use Rattle.hb_disk.specs.Model.{DiskModel}
@@ -19,16 +19,16 @@ use Rattle.hb_store.specs.Replay.{Replayed, untouched, replay, after_group, MayF
 use Rattle.hb_store.specs.Opening.{OpensBy, Shows, place_bytes}
 use Rattle.hb_store.specs.States.{IsSameLayout}
 
--- each image is a page of the file as it is
-abbrev pub AreImagesOf : FileState → List (ℕ × Page) → Type 0
-AreImagesOf s images = All (λ i. page_of s i.0 ≡ Some i.1) images
+-- each page image is a page of the file as it is
+abbrev pub ArePageImagesOf : FileState → List (ℕ × Page) → Type 0
+ArePageImagesOf s images = All (λ i. page_of s i.0 ≡ Some i.1) images
 
--- From a file on, groups lead through these files: each group may be replayed, its images are pages of the file before
+-- From a file on, groups lead through these files: each group may be replayed, its page images are pages of the file before
 -- it, its operation is allowed and licensed there, and the next file is that after the operation.
 abbrev pub Leads : Replayed → FileState → List Logged → List FileState → Type 0
 Leads t s [] later = later ≡ []
 Leads t s (g ∷ rest) [] = ⊥
-Leads t s (g ∷ rest) (next ∷ later) = MayFollow t g × AreImagesOf s g.images × IsAllowed s g.op × IsLicensed s g.op × (next ≡ effect_of s g.op) × Leads (after_group t g) next rest later
+Leads t s (g ∷ rest) (next ∷ later) = MayFollow t g × ArePageImagesOf s g.images × IsAllowed s g.op × IsLicensed s g.op × (next ≡ effect_of s g.op) × Leads (after_group t g) next rest later
 
 -- What no code has, but the disk and the groups that wait spell.
 pub record Parts : Type 0 where
@@ -89,12 +89,12 @@ pub record IsWaiting (groups : List Waiting) (p : Parts) (durable : FileState) (
   -- they lead from the durable file on
   pub leads : Leads (written_pages p) durable p.waiting later
 
--- The pages imaged or made in this turn are those that the groups touch; the others of the file stand synced.
-pub record IsImaged (d : DiskModel) (imaged : ℕ → Bool) (p : Parts) (file : FileState) : Type 0 where
+-- The pages in this turn's log are those that the groups touch; the others of the file stand synced.
+pub record IsInLog (d : DiskModel) (in_log : ℕ → Bool) (p : Parts) (file : FileState) : Type 0 where
   -- a number is one of these where the replay of the groups has its page
-  pub touched : (id : ℕ) → imaged id ≡ is_some ((all_pages p).page id)
+  pub touched : (id : ℕ) → in_log id ≡ is_some ((all_pages p).page id)
   -- what is not stands in its place in each image
-  pub synced : (id : ℕ) (page : Page) → imaged id ≡ false → page_of file id ≡ Some page → (c : List ℕ) → d.Image c → SpellsPage (place_bytes p.said id c) page
+  pub synced : (id : ℕ) (page : Page) → in_log id ≡ false → page_of file id ≡ Some page → (c : List ℕ) → d.Image c → SpellsPage (place_bytes p.said id c) page
 
 -- Memory has what the file says of itself, and pages of it; a page that isn't in memory reads in its place.
 pub record IsInMemory (d : DiskModel) (meta : Meta) (page_in : ℕ → Option Page) (p : Parts) (file : FileState) : Type 0 where

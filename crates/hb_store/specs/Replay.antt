@@ -32,8 +32,8 @@ abbrev pub set_pages : List (ℕ × Page) → (ℕ → Option Page) → ℕ → 
 set_pages [] page = page
 set_pages (one ∷ rest) page = set_pages rest (λ id. if id == one.0 then Some one.1 else page id)
 
-abbrev pub with_images : Replayed → Logged → Replayed
-with_images t g = record { meta = t.meta; page = set_pages g.images t.page }
+abbrev pub with_page_images : Replayed → Logged → Replayed
+with_page_images t g = record { meta = t.meta; page = set_pages g.images t.page }
 
 -- the page in use that an operation reads at a place of its list, among those that were touched
 abbrev pub touched_read : Replayed → Op → ℕ → Option LivePage
@@ -49,14 +49,14 @@ change_in t op = change_of op t.meta (touched_read t op 0) (touched_read t op 1)
 abbrev pub after_op : Replayed → Op → Replayed
 after_op t op = record { meta = (change_in t op).meta; page = set_pages (change_in t op).pages t.page }
 
--- first each image sets its page, then the operation is applied to touched pages alone
+-- first each page image sets its page, then the operation is applied to touched pages alone
 abbrev pub after_group : Replayed → Logged → Replayed
-after_group t g = after_op (with_images t g) g.op
+after_group t g = after_op (with_page_images t g) g.op
 
--- A group may be replayed here: its images are of pages of the file, and its operation is allowed then.
+-- A group may be replayed here: its page images are of pages of the file, and its operation is allowed then.
 pub record MayFollow (t : Replayed) (g : Logged) : Type 0 where
   pub images : All (λ i. (1 ≤ i.0) × (i.0 ≤ t.meta.high)) g.images
-  pub allowed : IsAllowedIn (with_images t g) g.op
+  pub allowed : IsAllowedIn (with_page_images t g) g.op
 
 abbrev pub replay : Replayed → List Logged → Replayed
 replay t [] = t

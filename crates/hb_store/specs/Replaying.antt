@@ -38,7 +38,7 @@ pub record HasLimits (meta : Meta) : Type 0 where
   pub root_fits : meta.root < 2 ^ 32
 
 -- What a file says of itself once operations were applied: it was laid down as before, it is within its limits, the
--- height and the high mark don't fall, and the marks stay within their limits.
+-- height and the highest page don't fall, and what the file says of itself stays within its limits.
 pub record ComesAfter (old new : Meta) : Type 0 where
   pub layout : IsSameLayout old new
   pub limits : HasLimits new

@@ -22,8 +22,8 @@ pub record StoreState : Type 0 where
   pub log : LogState
   -- the pages in memory, by their numbers
   pub pages : map.FinMap nat_cmp Page
-  -- the numbers of the pages that were imaged or made in this turn, in memory or not
-  pub imaged : set.FinSet nat_cmp
+  -- the numbers of the pages of which this turn's log has a page image, or which it made, in memory or not
+  pub in_log : set.FinSet nat_cmp
   -- whether a write, zero or sync failed
   pub stopped : Bool
 
@@ -31,9 +31,9 @@ pub record StoreState : Type 0 where
 abbrev pub in_memory : StoreState → ℕ → Option Page
 in_memory st id = map.get st.pages id
 
--- whether the page of a number was imaged or made in this turn
-abbrev pub is_imaged : StoreState → ℕ → Bool
-is_imaged st id = set.contains st.imaged id
+-- whether this turn's log has a page image of the page of a number, or made it
+abbrev pub is_in_log : StoreState → ℕ → Bool
+is_in_log st id = set.contains st.in_log id
 
 -- what a store may say of its turn and its file, over any disk
 pub record IsStanding (turn : ℕ) (meta : Meta) : Type 0 where
@@ -64,8 +64,8 @@ pub record IsMemory (st : StoreState) : Type 0 where
   pub len : st.log.len ≡ st.meta.log
   -- pages in memory are of the file, and good
   pub good : AreGood st.meta (in_memory st)
-  -- only pages of the file are imaged or made
-  pub marked : (id : ℕ) → IsTrue (is_imaged st id) → (1 ≤ id) × (id ≤ st.meta.high)
+  -- only pages of the file are in the log
+  pub in_file : (id : ℕ) → IsTrue (is_in_log st id) → (1 ≤ id) × (id ≤ st.meta.high)
 
 -- What every store is, over every disk.
 pub record IsStore (size : ℕ) (st : StoreState) : Type 0 where
@@ -81,7 +81,7 @@ new_state turn meta = record {
   meta = meta;
   log = record { area = log_start turn meta; len = meta.log; written = 0; groups = [] };
   pages = map.empty;
-  imaged = set.empty;
+  in_log = set.empty;
   stopped = false;
 }
 
@@ -90,7 +90,7 @@ pub record IsNew (turn : ℕ) (meta : Meta) (st : StoreState) : Type 0 where
   pub meta_is : st.meta ≡ meta
   pub log_is : st.log ≡ record { area = log_start turn meta; len = meta.log; written = 0; groups = [] }
   pub no_page : (id : ℕ) → in_memory st id ≡ None
-  pub none_imaged : (id : ℕ) → is_imaged st id ≡ false
+  pub none_in_log : (id : ℕ) → is_in_log st id ≡ false
   pub running : st.stopped ≡ false
 
 -- The parts of a file that no operation changes.

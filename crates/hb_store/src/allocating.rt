@@ -36,7 +36,7 @@ impl<D: Device> Store<D> {
         ensures unread { NeedsNoRead (seen_as self.old) → (self.new.disk ≡ self.old.disk) × (seen_as self.new ≡ seen_as self.old) }
         ensures damage { NeedsNoRead (seen_as self.old) → IfErr result IsDamage }
         ensures looks { LooksUp (IsErrOf result ReadFault) (D.model self.old.disk) (D.model self.new.disk) (seen_as self.old) (seen_as self.new) }
-        // the head of the chain is none that is free, or the chain has none and no number is left behind the high mark
+        // the head of the chain is none that is free, or the chain has none and no number is left behind the highest page
         ensures why { IfErr result (λ stop. (((seen_as self.old).meta.free ≢ 0) × IsNoHead (seen_as self.old).meta (D.model self.old.disk) (seen_as self.new) (seen_as self.old).meta.free stop)
             ⊎ (((seen_as self.old).meta.free ≡ 0) × ((seen_as self.old).meta.high ≡ (seen_as self.old).meta.pages) × (stop ≡ Damaged 0 (Rule 2)))) }
         // in a sound file nothing is damaged

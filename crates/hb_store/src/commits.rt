@@ -59,11 +59,11 @@ impl Memory {
         what_is_made_can_be_written();
         let changed = self.changed(alloc, op)?;
         let group = self.group(alloc, op)?;
-        reserve(&mut self.pages, &mut self.imaged)?;
+        reserve(&mut self.pages, &mut self.in_log)?;
         self.log.append(&group, mark);
-        add_all(&mut self.imaged, &op.reads());
+        add_all(&mut self.in_log, &op.reads());
         self.meta = changed.meta;
-        set_changed(&mut self.pages, &mut self.imaged, changed);
+        set_changed(&mut self.pages, &mut self.in_log, changed);
         Ok(())
     }
 
@@ -103,7 +103,7 @@ impl Memory {
     {
         what_is_made_can_be_written();
         groups_are_short();
-        group_for(alloc, &self.pages, &self.imaged, op)
+        group_for(alloc, &self.pages, &self.in_log, op)
     }
 }
 

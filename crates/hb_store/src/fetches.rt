@@ -26,7 +26,7 @@ use std::alloc::Global;
 impl<D: Device> Store<D> {
     /// Brings the page of a number into memory, where it isn't there. At most one read.
     ///
-    /// `Damaged` exactly where the number isn't 1 to the high mark, which is tested first and reads nothing, or the
+    /// `Damaged` exactly where the number isn't 1 to the highest page, which is tested first and reads nothing, or the
     /// page's bytes are no page or break one of the rules that `local_rule` tests.
     pub fn fetch(&mut self, id: u32) -> Result<(), FetchStop>
         ensures fetched { OnOk result (Fetched id (seen_as self.old) (seen_as self.new)) }

@@ -15,13 +15,13 @@
 //!
 //! A `Store` is a thin shell: it owns the disk, and reads it. All else stands in `Memory`, which
 //! knows of no disk: its contracts say what a call does to the value that it is seen as, and its
-//! invariant holds over every disk. Its turn, its layout and its marks are within their limits, the
+//! invariant holds over every disk. Its turn and what the file says of itself are within their limits, the
 //! log is that of its turn, every page in memory is one of the file, has a spelling, and keeps the
-//! rules that speak of it alone, and only pages of the file are imaged.
+//! rules that speak of it alone, and only pages of the file are in the log.
 //!
-//! A page is brought into the log as an image before an operation of this turn first reads it. So
-//! a replay needs no page from its place. A page that an operation makes needs no image: the log of
-//! the turn makes it again. Which pages were imaged or made is a set of its own, and no mark on a
+//! A page is brought into the log as a page image before an operation of this turn first reads it. So
+//! a replay needs no page from its place. A page that an operation makes needs no page image: the log of
+//! the turn makes it again. Which pages the log has or made is a set of its own, and no flag on a
 //! page, so that it doesn't depend on which pages are in memory. Today these stay there once they
 //! are fetched.
 #![tactic(auto)]

@@ -26,8 +26,8 @@ pub(crate) struct Memory {
     pub(crate) log: Wal,
     /// The pages that were brought here or made, by their numbers.
     pub(crate) pages: HashMap<u32, Page>,
-    /// The numbers of the pages of which the log of this turn has an image, or which it made.
-    pub(crate) imaged: HashSet<u32>,
+    /// The numbers of the pages of which the log of this turn has a page image, or which it made.
+    pub(crate) in_log: HashSet<u32>,
     /// Whether a write, zero or sync failed.
     pub(crate) stopped: bool,
 }
@@ -45,8 +45,8 @@ impl Model for Memory {
     ghost Value = { StoreState };
 
     ghost coded = { code_by _ (coded× (coded× coded_ℕ said.the_row.coded) (coded× area.the_row.coded (coded× (map.code coded_ℕ page.the_row.coded) (coded× (set.code coded_ℕ) coded_bool))))
-        (λ s. ((s.turn, s.meta), (s.log, (s.pages, (s.imaged, s.stopped)))))
-        (λ p. record { turn = p.0.0; meta = p.0.1; log = p.1.0; pages = p.1.1.0; imaged = p.1.1.1.0; stopped = p.1.1.1.1 })
+        (λ s. ((s.turn, s.meta), (s.log, (s.pages, (s.in_log, s.stopped)))))
+        (λ p. record { turn = p.0.0; meta = p.0.1; log = p.1.0; pages = p.1.1.0; in_log = p.1.1.1.0; stopped = p.1.1.1.1 })
         (λ _. refl) };
 
     ghost use Rattle.hb_store.specs.Inside.{memory_seen};
@@ -68,7 +68,7 @@ impl Memory {
             meta,
             log,
             pages: HashMap::new(alloc),
-            imaged: HashSet::new(alloc),
+            in_log: HashSet::new(alloc),
             stopped: false,
         })
     }
@@ -88,7 +88,7 @@ impl Memory {
         self.pages.get(&id)
     }
 
-    /// Holds a page that isn't in memory, under its number. It isn't imaged in this turn.
+    /// Holds a page that isn't in memory, under its number. It isn't in this turn's log.
     pub(crate) fn hold(&mut self, id: u32, page: Page) -> Result<(), NoMemory>
         requires page { IsPageOf self.old.meta id }
         requires good { IsGoodPage self.old.meta page }

@@ -17,35 +17,35 @@ const PAGES: usize = 3;
 /// Nothing else changes.
 pub(crate) fn reserve(
     pages: &mut HashMap<u32, Page>,
-    imaged: &mut HashSet<u32>,
+    in_log: &mut HashSet<u32>,
 ) -> Result<(), NoMemory>
     ensures pages { (q : ℕ) → get nat_eq pages.new q ≡ get nat_eq pages.old q }
-    ensures imaged { (q : ℕ) → contains nat_eq imaged.new q ≡ contains nat_eq imaged.old q }
+    ensures in_log { (q : ℕ) → contains nat_eq in_log.new q ≡ contains nat_eq in_log.old q }
     ensures room { OnOk result (3 ≤ spare pages.new) }
-    ensures marks { OnOk result (6 ≤ spare_of imaged.new) }
+    ensures numbers { OnOk result (6 ≤ spare_of in_log.new) }
 {
     pages.reserve(PAGES)?;
-    imaged.reserve(2 * PAGES)
+    in_log.reserve(2 * PAGES)
 }
 
 /// Adds numbers. It takes no memory.
-pub(crate) fn add_all(imaged: &mut HashSet<u32>, ids: &[u32])
-    requires { length ids.now ≤ spare_of imaged.old }
-    ensures added { (q : ℕ) → contains nat_eq imaged.new q ≡ (is_among q ids.now || contains nat_eq imaged.old q) }
-    ensures room { spare_of imaged.old ≤ spare_of imaged.new + length ids.now }
+pub(crate) fn add_all(in_log: &mut HashSet<u32>, ids: &[u32])
+    requires { length ids.now ≤ spare_of in_log.old }
+    ensures added { (q : ℕ) → contains nat_eq in_log.new q ≡ (is_among q ids.now || contains nat_eq in_log.old q) }
+    ensures room { spare_of in_log.old ≤ spare_of in_log.new + length ids.now }
 {
     for id in ids {
-        add(imaged, *id);
+        add(in_log, *id);
     }
 }
 
 /// Adds a number. It takes no memory.
-fn add(imaged: &mut HashSet<u32>, id: u32)
-    requires { 0 < spare_of imaged.old }
-    ensures added { (q : ℕ) → contains nat_eq imaged.new q ≡ (nat_eq q id || contains nat_eq imaged.old q) }
-    ensures room { spare_of imaged.old ≤ spare_of imaged.new + 1 }
+fn add(in_log: &mut HashSet<u32>, id: u32)
+    requires { 0 < spare_of in_log.old }
+    ensures added { (q : ℕ) → contains nat_eq in_log.new q ≡ (nat_eq q id || contains nat_eq in_log.old q) }
+    ensures room { spare_of in_log.old ≤ spare_of in_log.new + 1 }
 {
-    match imaged.insert(id) {
+    match in_log.insert(id) {
         Ok(_) => {}
         Err(_) => unreachable!(),
     }
@@ -54,31 +54,31 @@ fn add(imaged: &mut HashSet<u32>, id: u32)
 /// Sets the pages that an operation changes under their numbers, in order. It takes no memory.
 pub(crate) fn set_changed(
     pages: &mut HashMap<u32, Page>,
-    imaged: &mut HashSet<u32>,
+    in_log: &mut HashSet<u32>,
     changed: Changed,
 )
     requires room { length changed.pages.items ≤ spare pages.old }
-    requires marks { length changed.pages.items ≤ spare_of imaged.old }
+    requires numbers { length changed.pages.items ≤ spare_of in_log.old }
     ensures pages { (q : ℕ) → get nat_eq pages.new q ≡ set_pages changed.pages.items (get nat_eq pages.old) q }
-    ensures imaged { (q : ℕ) → contains nat_eq imaged.new q ≡ (has_page q changed.pages.items || contains nat_eq imaged.old q) }
+    ensures in_log { (q : ℕ) → contains nat_eq in_log.new q ≡ (has_page q changed.pages.items || contains nat_eq in_log.old q) }
 {
-    set_all(pages, imaged, changed.pages);
+    set_all(pages, in_log, changed.pages);
 }
 
 /// Sets pages under their numbers, in order. It takes no memory.
 fn set_all(
     pages: &mut HashMap<u32, Page>,
-    imaged: &mut HashSet<u32>,
+    in_log: &mut HashSet<u32>,
     mut changed: ArrayVec<(u32, Page), PAGES>,
 )
     requires room { length changed.items ≤ spare pages.old }
-    requires marks { length changed.items ≤ spare_of imaged.old }
+    requires numbers { length changed.items ≤ spare_of in_log.old }
     ensures pages { (q : ℕ) → get nat_eq pages.new q ≡ set_pages changed.items (get nat_eq pages.old) q }
-    ensures imaged { (q : ℕ) → contains nat_eq imaged.new q ≡ (has_page q changed.items || contains nat_eq imaged.old q) }
+    ensures in_log { (q : ℕ) → contains nat_eq in_log.new q ≡ (has_page q changed.items || contains nat_eq in_log.old q) }
 {
     while !changed.is_empty() {
         let (id, page) = changed.remove(0);
-        add(imaged, id);
+        add(in_log, id);
         set(pages, id, page);
     }
 }

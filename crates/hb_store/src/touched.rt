@@ -121,11 +121,11 @@ impl Touched {
         id != 0 && id <= self.meta.high
     }
 
-    /// Whether each image is of a page of the file.
+    /// Whether each page image is of a page of the file.
     fn has_all(&self, images: &[(u32, Page)]) -> bool
         ensures { IsTrue result ↔ All (λ i. IsPageOf self.now.meta i.0) images.now }
     {
-        images.iter().all(|image| self.has(image.0))
+        images.iter().all(|page_image| self.has(page_image.0))
     }
 
     /// The page in use of a number, where it was touched.
@@ -168,7 +168,7 @@ impl Touched {
         Ok(())
     }
 
-    /// Replays a group: sets its images under their numbers, then applies its operation to touched pages.
+    /// Replays a group: sets its page images under their numbers, then applies its operation to touched pages.
     ///
     /// `Unfit` exactly where it may not be replayed here. After an error some of it may be done.
     fn follow(&mut self, alloc: Global, group: Group) -> Result<(), ReplayStop>

@@ -10,7 +10,7 @@ use Rattle.hb_lemmas.specs.Numbers.{big_endian}
 use Rattle.hb_space.specs.declared.form.TheConstants.{KMAX, ICAP_MIN}
 use Rattle.hb_layout.specs.declared.meta.Meta.{Meta}
 use Rattle.hb_layout.specs.Limits.{IsLayout}
-use Rattle.hb_super.specs.Superblocks.{FitsMarks, IsLegal, body_bytes}
+use Rattle.hb_super.specs.Superblocks.{FitsNumbers, IsLegal, body_bytes}
 
 -- it holds, or it doesn't
 abbrev pub Known : Type 0 → Type 0
@@ -74,10 +74,10 @@ said_back turn meta legal =
     let log = number_back 4 meta.log (omega (arith, legal.layout.log_limit)) in
     let dcap = number_back 2 meta.dcap (omega (arith, legal.layout.dcap_most)) in
     let icap = number_back 2 meta.icap (omega (arith, legal.layout.icap_most)) in
-    let root = number_back 4 meta.root legal.marks.root in
-    let high = number_back 4 meta.high legal.marks.high in
-    let live = number_back 4 meta.live legal.marks.live in
-    let free = number_back 4 meta.free legal.marks.free in
+    let root = number_back 4 meta.root legal.numbers.root in
+    let high = number_back 4 meta.high legal.numbers.high in
+    let live = number_back 4 meta.live legal.numbers.live in
+    let free = number_back 4 meta.free legal.numbers.free in
     fields_back turn meta
     ∙ (λ i. record { k = meta.k; pages = pages i; log = log i; dcap = dcap i; icap = icap i; root = root i; height = meta.height; high = high i; live = live i; free = free i })
 
@@ -105,16 +105,16 @@ known_layout meta = elim (both (known_le 1 meta.k) (both (known_le meta.k KMAX) 
       | inr fails ↦ inr (λ is. fails (is.some_attributes, (is.few_attributes, (is.some_pages, (is.few_pages, (is.log_room, (is.log_limit, (is.dcap_least, (is.dcap_most, (is.icap_least, (is.icap_most, (is.some_height, is.few_levels))))))))))))
     ]
 
-known_marks : (meta : Meta) → Known (FitsMarks meta)
-known_marks meta = elim (both (known_lt meta.root (2 ^ 32)) (both (known_lt meta.high (2 ^ 32)) (both (known_lt meta.live (2 ^ 32)) (known_lt meta.free (2 ^ 32))))) [
+known_numbers : (meta : Meta) → Known (FitsNumbers meta)
+known_numbers meta = elim (both (known_lt meta.root (2 ^ 32)) (both (known_lt meta.high (2 ^ 32)) (both (known_lt meta.live (2 ^ 32)) (known_lt meta.free (2 ^ 32))))) [
   | inl holds ↦ inl (record { root = holds.0; high = holds.1.0; live = holds.1.1.0; free = holds.1.1.1 })
   | inr fails ↦ inr (λ is. fails (is.root, (is.high, (is.live, is.free))))
 ]
 
 known_legal : (turn : ℕ) (meta : Meta) → Known (IsLegal turn meta)
-known_legal turn meta = elim (both (known_le turn 3) (both (known_layout meta) (known_marks meta))) [
-  | inl holds ↦ inl (record { turn_fits = holds.0; layout = holds.1.0; marks = holds.1.1 })
-  | inr fails ↦ inr (λ is. fails (is.turn_fits, (is.layout, is.marks)))
+known_legal turn meta = elim (both (known_le turn 3) (both (known_layout meta) (known_numbers meta))) [
+  | inl holds ↦ inl (record { turn_fits = holds.0; layout = holds.1.0; numbers = holds.1.1 })
+  | inr fails ↦ inr (λ is. fails (is.turn_fits, (is.layout, is.numbers)))
 ]
 
 -- the bytes are a legal body of this turn

@@ -31,10 +31,10 @@ same_said injective t m n first second same =
     let log = injective 4 m.log n.log (omega (arith, first.layout.log_limit)) (omega (arith, second.layout.log_limit)) (part 16 20) in
     let dcap = injective 2 m.dcap n.dcap (omega (arith, first.layout.dcap_most)) (omega (arith, second.layout.dcap_most)) (part 20 22) in
     let icap = injective 2 m.icap n.icap (omega (arith, first.layout.icap_most)) (omega (arith, second.layout.icap_most)) (part 22 24) in
-    let root = injective 4 m.root n.root first.marks.root second.marks.root (part 24 28) in
-    let high = injective 4 m.high n.high first.marks.high second.marks.high (part 28 32) in
-    let live = injective 4 m.live n.live first.marks.live second.marks.live (part 32 36) in
-    let free = injective 4 m.free n.free first.marks.free second.marks.free (part 36 40) in
+    let root = injective 4 m.root n.root first.numbers.root second.numbers.root (part 24 28) in
+    let high = injective 4 m.high n.high first.numbers.high second.numbers.high (part 28 32) in
+    let live = injective 4 m.live n.live first.numbers.live second.numbers.live (part 32 36) in
+    let free = injective 4 m.free n.free first.numbers.free second.numbers.free (part 36 40) in
     λ i. record { k = at 10 i; pages = pages i; log = log i; dcap = dcap i; icap = icap i; root = root i; height = at 11 i; high = high i; live = live i; free = free i }
 
 pub one_said : ((width m n : ℕ) → m < 256 ^ width → n < 256 ^ width → big_endian width m ≡ big_endian width n → m ≡ n)

@@ -19,7 +19,7 @@ body_bytes turn meta =
     ++ big_endian 4 meta.root ++ big_endian 4 meta.high ++ big_endian 4 meta.live ++ big_endian 4 meta.free
 
 -- what every number of a body has its bytes for
-pub record FitsMarks (meta : Meta) : Type 0 where
+pub record FitsNumbers (meta : Meta) : Type 0 where
   pub root : meta.root < 2 ^ 32
   pub high : meta.high < 2 ^ 32
   pub live : meta.live < 2 ^ 32
@@ -29,7 +29,7 @@ pub record FitsMarks (meta : Meta) : Type 0 where
 pub record IsLegal (turn : ℕ) (meta : Meta) : Type 0 where
   pub turn_fits : turn ≤ 3
   pub layout : IsLayout meta
-  pub marks : FitsMarks meta
+  pub numbers : FitsNumbers meta
 
 -- A place of the disk's bytes is open over the legal body of this turn, which belongs there.
 pub record HasSuper (bytes : List ℕ) (turn : ℕ) (meta : Meta) : Type 0 where

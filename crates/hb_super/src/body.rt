@@ -2,7 +2,7 @@
 ghost use Rattle.std.specs.Prelude.{◌≡◌, ℕ, ◌+◌, ◌<◌, ◌≤◌, ◌^◌, length, slice_range};
 ghost use Rattle.hb_lemmas.specs.Numbers.{big_endian};
 ghost use Rattle.hb_layout.specs.declared.meta.Meta.{Meta as Said};
-ghost use Rattle.hb_super.specs.Superblocks.{IsLegal, FitsMarks, body_bytes};
+ghost use Rattle.hb_super.specs.Superblocks.{IsLegal, FitsNumbers, body_bytes};
 
 use hb_layout::Meta;
 use hb_outside::{give_u16, give_u32, take_u16, take_u32};
@@ -39,7 +39,7 @@ pub(crate) fn body_of(turn: u8, meta: &Meta) -> [u8; BODY]
 pub(crate) fn fields_of(body: &[u8]) -> (u8, Meta)
     requires { length body.now ≡ 40 }
     ensures exact { (turn : ℕ) (meta : Said) → IsLegal turn meta → body.now ≡ body_bytes turn meta → result ≡ (turn, meta) }
-    ensures marks { FitsMarks result.1 }
+    ensures numbers { FitsNumbers result.1 }
 {
     let meta = Meta {
         k: body[10],

@@ -45,7 +45,7 @@ values_read (word ∷ words) = do
   values ← values_read words
   Ok (value ∷ values)
 
--- a search names a least and a greatest value for each attribute in turn
+-- a search names a least and a greatest value for one attribute after the other
 abbrev pub lows : List ℕ → List ℕ
 lows (lo ∷ hi ∷ rest) = lo ∷ lows rest
 lows _ = []

@@ -64,7 +64,7 @@ pub(crate) fn read_body(words: &mut Words<'_>) -> Result<Body, TextRule>
     }
 }
 
-/// The lower and the upper values of a search, which stand in turn.
+/// The lower and the upper values of a search, one pair after the other.
 fn corners(values: &[u64]) -> (ArrayVec<u64, KMAX>, ArrayVec<u64, KMAX>)
     requires { length values.now ≤ 2 * KMAX }
     ensures lower { result.0.items ≡ lows values.now }

@@ -21,7 +21,7 @@ pub(crate) const STEPS: usize = 10_000_000;
 
 /// Steps of one actor, one after the other.
 #[derive(Clone, Copy)]
-struct Turns {
+struct Repeats {
     actor: Actor,
     count: usize,
 }
@@ -72,25 +72,25 @@ fn cut_at_x(word: &[u8]) -> Option<(&[u8], &[u8])>
 }
 
 /// So many steps of an actor, where both were read.
-fn turns_of(actor: Option<Actor>, count: Option<usize>) -> Option<Turns>
+fn repeats_of(actor: Option<Actor>, count: Option<usize>) -> Option<Repeats>
     requires { IfSome count (λ n. n ≤ 1000000) }
     ensures steps { option_map (λ t. replicate t.count t.actor) result ≡ repeated actor count }
     ensures few { IfSome result (λ t. t.count ≤ 1000000) }
 {
     match (actor, count) {
-        (Some(actor), Some(count)) => Some(Turns { actor, count }),
+        (Some(actor), Some(count)) => Some(Repeats { actor, count }),
         _ => None,
     }
 }
 
 /// The steps that a word says: an actor, alone or with `x` and a count behind it.
-fn read_turns(word: &[u8]) -> Option<Turns>
+fn read_repeats(word: &[u8]) -> Option<Repeats>
     ensures steps { option_map (λ t. replicate t.count t.actor) result ≡ word_steps word.now }
     ensures few { IfSome result (λ t. t.count ≤ 1000000) }
 {
     match cut_at_x(word) {
-        None => turns_of(read_actor(word), Some(1)),
-        Some((actor, count)) => turns_of(read_actor(actor), read_count(count)),
+        None => repeats_of(read_actor(word), Some(1)),
+        Some((actor, count)) => repeats_of(read_actor(actor), read_count(count)),
     }
 }
 
@@ -101,18 +101,18 @@ pub(crate) fn left_behind(words: &mut Words<'_>, left: usize) -> Option<usize>
 {
     let mut left = left;
     while let Some(word) = words.next_word() {
-        let turns = read_turns(word)?;
-        left = left.checked_sub(turns.count)?;
+        let repeats = read_repeats(word)?;
+        left = left.checked_sub(repeats.count)?;
     }
     Some(left)
 }
 
 /// Adds steps of one actor.
-fn push_turns(steps: &mut Vec<Actor>, turns: Turns) -> Result<(), NoMemory>
-    requires { length steps.old.items + turns.count ≤ 10000000 }
-    ensures { OnOk result (steps.new.items ≡ steps.old.items ++ replicate turns.count turns.actor) }
+fn push_repeats(steps: &mut Vec<Actor>, repeats: Repeats) -> Result<(), NoMemory>
+    requires { length steps.old.items + repeats.count ≤ 10000000 }
+    ensures { OnOk result (steps.new.items ≡ steps.old.items ++ replicate repeats.count repeats.actor) }
 {
-    steps.resize(steps.len() + turns.count, turns.actor)
+    steps.resize(steps.len() + repeats.count, repeats.actor)
 }
 
 /// Adds the steps that the words say.
@@ -121,10 +121,10 @@ pub(crate) fn push_steps(words: &mut Words<'_>, steps: &mut Vec<Actor>) -> Resul
     ensures { OnOk result ((said : List ℕ) → steps_of words.old ≡ Some said → steps.new.items ≡ steps.old.items ++ said) }
 {
     while let Some(word) = words.next_word() {
-        let Some(turns) = read_turns(word) else {
+        let Some(repeats) = read_repeats(word) else {
             return Ok(());
         };
-        push_turns(steps, turns)?;
+        push_repeats(steps, repeats)?;
     }
     Ok(())
 }

@@ -44,7 +44,7 @@ pub(crate) fn longest_areas(alloc: Global) -> Result<(), Missed> {
     Ok(())
 }
 
-/// Two inserts of records that stay, and then inserts and deletes of another one in turn, which is there at the end.
+/// Two inserts of records that stay, and then inserts and deletes of another one by turns, which is there at the end.
 fn changes(alloc: Global) -> Result<Script, Missed> {
     let mut script = Script::new(alloc)?;
     for _ in 0..CHANGES {

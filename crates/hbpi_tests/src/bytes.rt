@@ -68,7 +68,7 @@ const ROWS: [(&str, &[&str], usize, &[u8], usize); 16] = [
     (CREATE, &[], PAGE_1, &EMPTY, SIZE - PAGE_1),
     (OTHER, &[], 0, &OTHER_SUPER, PAGE_1),
     (OTHER, &[], PAGE_1, &[1, 0, 2, 0, 0], 5),
-    // a first group has an image
+    // a first group has a page image
     (CREATE, &[ONE], AREA_1, &HEAD, 10),
     (CREATE, &[ONE], AREA_1 + 10, &EMPTY, 4096),
     (CREATE, &[ONE], AREA_1 + 4106, &PUT, 16),

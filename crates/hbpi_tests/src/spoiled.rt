@@ -28,7 +28,7 @@ const UNORDERED: [u8; 41] = [
     0, 0, 0, 0, 6, 0, 0, 0, 0, 0, 0, 0, 0, 5, 0,
 ];
 
-/// A frame with one group, of no image: page 2 becomes the root of a file of one page, whose free chain is empty.
+/// A frame with one group, of no page image: page 2 becomes the root of a file of one page, whose free chain is empty.
 const GROWTH: [u8; 15] = [0xA5, 0, 0, 0, 10, 0, 6, 0, 0, 0, 2, 0, 0, 0, 0];
 
 /// Where page 1 stands.
@@ -56,7 +56,7 @@ const ROWS: [(&[&str], usize, &[u8], usize, &[u8], &str); 54] = [
     (NEW, 11, b"\x05", 0, b"", "7 no super\n"),
     (NEW, 22, b"\x05", 0, b"", "7 no super\n"),
     (NEW, 12, b"\0", 0, b"", "7 no super\n"),
-    // a high mark of 0, another root, a wrong count of pages, and a free page
+    // a highest page of 0, another root, a wrong count of pages, and a free page
     (NEW, 32, b"\0", 0, b"", "7 damaged 0 S1\n"),
     (NEW, 28, b"\x02", 0, b"", "7 damaged 0 S1\n"),
     (NEW, 36, b"\0", 0, b"", "7 damaged 0 S2\n"),
@@ -94,7 +94,7 @@ const ROWS: [(&[&str], usize, &[u8], usize, &[u8], &str); 54] = [
     (NEW, PAGE_1, &UNORDERED, 0, b"", "7 damaged 1 S6\n"),
     (NEW, PAGE_1, &CUT, 0, b"", "7 damaged 1 S7\n"),
     (NEW, PAGE_1, &TWO_LEAVES, 0, b"", "7 damaged 1 S10\n"),
-    // more pages, by the last byte of the high mark and its first one, and more levels
+    // more pages, by the last byte of the highest page and its first one, and more levels
     (NEW, 32, &[2], 0, b"", "7 damaged 2 S0\n"),
     (NEW, 32, &[65], 0, b"", "7 damaged 2 S0\n"),
     (NEW, 29, &[1], 0, b"", "7 damaged 2 S0\n"),

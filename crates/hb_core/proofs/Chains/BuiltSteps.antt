@@ -22,7 +22,7 @@ use Rattle.hb_activity.specs.Holding.{held_of}
 use Rattle.hb_activity.specs.Queue.{AddsJobs, LeavesBy}
 use Rattle.hb_activity.specs.Walks.{walk_held}
 use Rattle.hb_activity.specs.Wanting.{wanted_of}
-use Rattle.hb_core.proofs.Chains.WrittenTables.{add_numbers, add_pages, among_marked, entry_append, entry_at, entry_has, grants, hinders, is_another, is_clear, is_earlier, map_has, mode_in, or_else, or_stays, pages_set, relatched, relatches, set_all, set_entry, set_has, standing_set}
+use Rattle.hb_core.proofs.Chains.WrittenTables.{add_numbers, add_pages, among_in_log, entry_append, entry_at, entry_has, grants, hinders, is_another, is_clear, is_earlier, map_has, mode_in, or_else, or_stays, pages_set, relatched, relatches, set_all, set_entry, set_has, standing_set}
 use Rattle.hb_core.specs.Acting.{takes_number}
 use Rattle.hb_core.specs.Asking.{AskedBox, HasAskedBox, HasWayFree, asked_box, looked_page, wanted_by}
 use Rattle.hb_core.specs.Fetching.{Brings, IsFreeHead, IsWantedPage}
@@ -41,10 +41,10 @@ use Rattle.hb_ops.specs.Operations.{Change, IsAllowedOn, change_of, reads_of}
 use Rattle.hb_store.specs.Calls.{IsReady, change_here, with_op}
 use Rattle.hb_store.specs.Forced.{durable_after, later_after}
 use Rattle.hb_store.specs.Keeps.{last_of}
-use Rattle.hb_store.specs.Making.{group_here, images_needed}
+use Rattle.hb_store.specs.Making.{group_here, page_images_needed}
 use Rattle.hb_store.specs.Replay.{set_pages, has_page, is_among}
 use Rattle.hb_store.proofs.Facts.ReplayLists.{set_not}
-use Rattle.hb_store.specs.States.{IsGoodPage, StoreState, in_memory, is_imaged}
+use Rattle.hb_store.specs.States.{IsGoodPage, StoreState, in_memory, is_in_log}
 use Rattle.hb_wal.specs.Forces.{calls_of_force}
 use Rattle.hb_wal.specs.Frames.{frames}
 use Rattle.hb_wal.specs.Log.{forced, left_waiting}
@@ -54,8 +54,8 @@ use Rattle.hb_wal.specs.Log.{forced, left_waiting}
 pub memory_is : (s : Scene) (id : ℕ) → in_memory (store_of s) id ≡ entry_at id s.pages
 memory_is s id = map_has s.pages id
 
-pub imaged_is : (s : Scene) (id : ℕ) → is_imaged (store_of s) id ≡ is_among id s.imaged
-imaged_is s id = set_has s.imaged id
+pub in_log_is : (s : Scene) (id : ℕ) → is_in_log (store_of s) id ≡ is_among id s.in_log
+in_log_is s id = set_has s.in_log id
 
 abbrev pub live_in : Scene → ℕ → Option LivePage
 live_in s id = if_live (entry_at id s.pages)
@@ -75,7 +75,7 @@ abbrev pub change_in : Scene → Op → Change
 change_in s op = change_of op s.meta (read_in s op 0) (read_in s op 1) (read_in s op 2)
 
 abbrev pub group_in : Scene → Op → Logged
-group_in s op = record { images = images_needed (λ id. entry_at id s.pages) (λ id. is_among id s.imaged) (reads_of op); op = op }
+group_in s op = record { images = page_images_needed (λ id. entry_at id s.pages) (λ id. is_among id s.in_log) (reads_of op); op = op }
 
 -- what an operation is allowed on, and that it leaves the log's place alone
 pub record AllowedIn (s : Scene) (op : Op) : Type 0 where
@@ -90,7 +90,7 @@ change_is : (s : Scene) (op : Op) → change_here (store_of s) op ≡ change_in 
 change_is s op = λ i. change_of op s.meta (live_is s (get_or (reads_of op) 0 0) i) (live_is s (get_or (reads_of op) 1 0) i) (live_is s (get_or (reads_of op) 2 0) i)
 
 group_is : (s : Scene) (op : Op) → group_here (store_of s) op ≡ group_in s op
-group_is s op = λ i. record { images = images_needed (λ id. memory_is s id i) (λ id. imaged_is s id i) (reads_of op); op = op }
+group_is s op = λ i. record { images = page_images_needed (λ id. memory_is s id i) (λ id. in_log_is s id i) (reads_of op); op = op }
 
 -- the scene after an operation, but for who did it
 abbrev pub with_done : Op → Scene → Scene
@@ -105,7 +105,7 @@ with_done op s = record {
   written = s.written;
   groups = s.groups ++ record { bytes = group_bytes (group_in s op); mark = length s.order } ∷ [];
   pages = set_all (change_in s op).pages s.pages;
-  imaged = add_pages (change_in s op).pages (add_numbers (reads_of op) s.imaged);
+  in_log = add_pages (change_in s op).pages (add_numbers (reads_of op) s.in_log);
   durable = s.durable;
   later = with_op s.durable s.later op;
   clock = s.clock;
@@ -132,8 +132,8 @@ does_op s op may = record {
     made = λ id made. pages_are s op id;
     kept = λ id off stays. pages_stay s op id off;
     others = λ id off. inl (pages_stay s op id off);
-    imaged = λ id. imaged_is (with_done op s) id ∙ among_marked id (change_in s op).pages (reads_of op) s.imaged
-        ∙ sym (λ i. has_page id (change_is s op i).pages || (is_among id (reads_of op) || imaged_is s id i));
+    in_log = λ id. in_log_is (with_done op s) id ∙ among_in_log id (change_in s op).pages (reads_of op) s.in_log
+        ∙ sym (λ i. has_page id (change_is s op i).pages || (is_among id (reads_of op) || in_log_is s id i));
     area = ap (λ (n : ℕ). 2 * PAGE + (1 % 2) * n) may.log;
     len = may.log;
     written = refl;
@@ -161,7 +161,7 @@ after actor deed jobs s = let t = with_maybe_done deed.op s in record {
   written = s.written;
   groups = t.groups;
   pages = t.pages;
-  imaged = t.imaged;
+  in_log = t.in_log;
   durable = s.durable;
   later = t.later;
   clock = s.clock;
@@ -179,7 +179,7 @@ disk_after op s = let t = with_maybe_done op s in store_of (record {
   written = s.written;
   groups = t.groups;
   pages = t.pages;
-  imaged = t.imaged;
+  in_log = t.in_log;
   durable = s.durable;
   later = t.later;
   clock = s.clock;
@@ -239,7 +239,7 @@ is_none_not some = cc
 -- no page has to come
 pub nothing_comes : (m : Machine) (may : ℕ → Type 0) → Brings m may m.store
 nothing_comes m may = record {
-  rest = record { turn = refl; meta = refl; log = refl; imaged = refl; stopped = refl };
+  rest = record { turn = refl; meta = refl; log = refl; in_log = refl; stopped = refl };
   stays = λ id must there. refl;
   others = λ id there. inl refl;
   only = λ id none there. absurd (is_none_not (subst (λ (o : Option Page). IsSome o) none there));
@@ -313,7 +313,7 @@ bringing more s = record {
   written = s.written;
   groups = s.groups;
   pages = s.pages ++ more;
-  imaged = s.imaged;
+  in_log = s.in_log;
   durable = s.durable;
   later = s.later;
   clock = s.clock;
@@ -346,7 +346,7 @@ module _ (s : Scene) (may : ℕ → Type 0) (more : List (ℕ × Page)) (each : 
 
   pub come : Brings (machine_of s) may (store_of (bringing more s))
   come = record {
-    rest = record { turn = refl; meta = refl; log = refl; imaged = refl; stopped = refl };
+    rest = record { turn = refl; meta = refl; log = refl; in_log = refl; stopped = refl };
     stays = λ id must there. stays_here id there;
     others = λ id there. inl (stays_here id there);
     only = λ id none there. only id (in_memory (store_of (bringing more s)) id) none refl there;
@@ -408,7 +408,7 @@ forced_scene s = record {
   written = s.written + length (frames (forced s.groups));
   groups = left_waiting s.groups;
   pages = s.pages;
-  imaged = s.imaged;
+  in_log = s.in_log;
   durable = durable_after s.durable s.later;
   later = later_after s.later;
   clock = s.clock + calls_of_force s.groups;

@@ -109,14 +109,14 @@ gather_row = (
   inr (record { front = []; at_hand = asked_area; boxes = refl; records = lower_three; area = _; leaf = refl; goes = refl }),
 )
 
-in_turn : AllPairs Precedes three_found
-in_turn = rising three_found ((refl, (refl, tt)), ((refl, tt), (tt, tt)))
+in_sequence : AllPairs Precedes three_found
+in_sequence = rising three_found ((refl, (refl, tt)), ((refl, tt), (tt, tt)))
 
 gather_all_row : Row (standing half_gathered.at_work 1) (wanted_in half_gathered 1) (machine_of half_gathered) gathers_all
 gather_all_row = (
   split_page,
   at_hand half_gathered (standing half_gathered.at_work 1) _ split_page _ refl refl refl refl,
-  inr (record { front = []; at_hand = rest_area; boxes = refl; records = upper_four; area = _; leaf = refl; goes = (three_found, IsPermutation-refl three_found, in_turn, refl) }),
+  inr (record { front = []; at_hand = rest_area; boxes = refl; records = upper_four; area = _; leaf = refl; goes = (three_found, IsPermutation-refl three_found, in_sequence, refl) }),
 )
 
 -- ---- the steps

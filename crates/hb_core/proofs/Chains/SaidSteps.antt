@@ -1,4 +1,4 @@
--- Steps with what each comes to are steps in turn.
+-- Steps with what each comes to are steps in sequence.
 use Rattle.std.proofs.Common.{[], ◌∷◌}
 use Rattle.hb_core.specs.Scenes.{SayingIsStepping}
 

@@ -173,8 +173,8 @@ among_pages : (q : ℕ) (changed : List (ℕ × Page)) (old : List ℕ) → is_a
 among_pages q [] old = refl
 among_pages q (one ∷ rest) old = among_added q one.0 (add_pages rest old) ∙ ap (λ (b : Bool). (q == one.0) || b) (among_pages q rest old) ∙ or_assoc (q == one.0) (has_page q rest) (is_among q old)
 
-pub among_marked : (q : ℕ) (changed : List (ℕ × Page)) (ns old : List ℕ) → is_among q (add_pages changed (add_numbers ns old)) ≡ (has_page q changed || (is_among q ns || is_among q old))
-among_marked q changed ns old = among_pages q changed (add_numbers ns old) ∙ ap (λ (b : Bool). has_page q changed || b) (among_numbers q ns old)
+pub among_in_log : (q : ℕ) (changed : List (ℕ × Page)) (ns old : List ℕ) → is_among q (add_pages changed (add_numbers ns old)) ≡ (has_page q changed || (is_among q ns || is_among q old))
+among_in_log q changed ns old = among_pages q changed (add_numbers ns old) ∙ ap (λ (b : Bool). has_page q changed || b) (among_numbers q ns old)
 
 -- ---- latches
 

@@ -198,6 +198,6 @@ module _ (m : Machine) (actor : ℕ) (may : ℕ → Type 0) (fetched : StoreStat
       row refl
 
 pub rows_are_allowed : RowsAreAllowed
-rows_are_allowed m actor fetched deed op marks inside room brings row is half =
-    let shown = shown_row m actor AnyPage fetched (brought m AnyPage fetched brings (keeps_pages m marks inside)) room brings (wanted_by m actor) deed row in
+rows_are_allowed m actor fetched deed op within inside room brings row is half =
+    let shown = shown_row m actor AnyPage fetched (brought m AnyPage fetched brings (keeps_pages m within inside)) room brings (wanted_by m actor) deed row in
     subst (λ (o : Option Op). IfSome o (λ op. HalfHasRoom m actor op → IsAllowedHere fetched op)) is shown half

@@ -12,7 +12,7 @@ use Rattle.hb_store.specs.Making.{HaveFittingParts}
 
 pub rows_may_be_done : HaveFittingParts → HeldArePoints → RowsAreAllowed → RowsMayBeDone
 rows_may_be_done parts points law m actor fetched deed op may keeps brings row does =
-    let allowed = rows_can_be_done law m actor fetched deed op keeps.marks_in_place keeps.pages_of_file keeps.room_known brings row does in
-    let now = brought m AnyPage fetched brings (keeps_pages m keeps.marks_in_place keeps.pages_of_file) in
+    let allowed = rows_can_be_done law m actor fetched deed op keeps.meta_within_limits keeps.pages_of_file keeps.room_known brings row does in
+    let now = brought m AnyPage fetched brings (keeps_pages m keeps.meta_within_limits keeps.pages_of_file) in
     let tells = subst (Tells fetched) does (tells_row m actor AnyPage fetched brings (wanted_by m actor) deed refl (keeps.lines_fit.in_hand actor) row) in
     record { allowed = allowed; licensed = tells; attributes = op_has fetched.meta.k op (fits_op points parts fetched now.limits now.high now.framed op tells allowed) }

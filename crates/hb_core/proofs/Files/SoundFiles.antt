@@ -23,7 +23,7 @@ use Rattle.hb_core.specs.Fetching.{Brings}
 use Rattle.hb_core.specs.FileLaws.{FilesStaySound, MayBeDoneIn, RowsAreLicensed}
 use Rattle.hb_core.specs.Forcing.{ForcesFirst, StaysSo, forced_files, FailsToWrite}
 use Rattle.hb_core.specs.Keeps.{HasSoundFile}
-use Rattle.hb_core.specs.KeptLines.{LinesFit, MarksInPlace}
+use Rattle.hb_core.specs.KeptLines.{LinesFit, MetaWithinLimits}
 use Rattle.hb_core.specs.Machines.{Files, Machine, current_file}
 use Rattle.hb_core.specs.Performing.{DoesOp, MayDo, Performs, files_after, with_effect}
 use Rattle.hb_core.specs.Steps.{Works}
@@ -61,9 +61,9 @@ current_sound st files holds = last_sound files.durable files.later holds.durabl
 pub shows_file : (st : StoreState) (files : Files) → FilesHold st files → ShowsFile st (current_file files)
 shows_file st files holds = record { sound = current_sound st files holds; meta = holds.meta; shown = holds.shown }
 
--- the marks of a sound file are within its limits
-pub keeps_marks : (m : Machine) (files : Files) → HasSoundFile m files → MarksInPlace m
-keeps_marks m files has =
+-- what a sound file says of itself is within its limits
+pub sound_within_limits : (m : Machine) (files : Files) → HasSoundFile m files → MetaWithinLimits m
+sound_within_limits m files has =
     let sound = current_sound m.store files (files_hold m files has) in
     let rooted = sound.rooted in
     let high : (current_file files).meta.high ≡ m.store.meta.high = ap (λ (m : Meta). m.high) has.meta in
@@ -113,7 +113,7 @@ module _ (makes : MakesGoodPages) (parts : HaveFittingParts) (points : HeldArePo
 
   pub rows_are_licensed : RowsAreLicensed
   rows_are_licensed m files actor outcome new op told fit inside has does is =
-      let keeps = keeps_pages m (keeps_marks m files has) inside in
+      let keeps = keeps_pages m (sound_within_limits m files has) inside in
       may_be_done does.fetched files op
       (brought m _ does.fetched does.brings keeps)
       (brought_shown m files _ does.fetched told does.brings (files_hold m files has))
@@ -232,7 +232,7 @@ module _ (makes : MakesGoodPages) (parts : HaveFittingParts) (points : HeldArePo
 
     pub files_stay_sound : FilesStaySound
     files_stay_sound m files actor outcome new told fit inside has step =
-        let keeps = keeps_pages m (keeps_marks m files has) inside in
+        let keeps = keeps_pages m (sound_within_limits m files has) inside in
         let holds = files_hold m files has in
         let after = each_kind m actor outcome new (HoldAfter new)
         (λ said quiet so. stays m files actor outcome new told fit keeps holds said so)

@@ -266,7 +266,7 @@ module _ (m : Machine) (actor : ℕ) (may : ℕ → Type 0) (fetched : StoreStat
       })
       (λ its page at_hand hand. record {
         passes = λ line held rest found p goal leaf row is done. session_goes_on its page (wants ∙ at_hand) hand.live hand.level done line held rest rest found found is;
-        settles = λ line held rest found reply settles is done. rests m actor new _ refl refl;
+        only_replies = λ line held rest found reply alone is done. rests m actor new _ refl refl;
         inserts = λ line held rest found rec command absent room is done. rests m actor new _ refl refl;
         lacks_room = λ line held rest found rec command level absent full is done. insert_waits its page (wants ∙ at_hand) hand.live hand.level done line rec held rest found is command level;
         deletes = λ line held rest found p there command stands is done. rests m actor new _ refl refl;

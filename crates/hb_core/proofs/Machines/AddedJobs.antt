@@ -121,7 +121,7 @@ row_adds k now as_many activity wanted deed fits row = each_row now (λ activity
     })
     (λ its page wants hand. record {
       passes = λ line held rest found p goal leaf row fits. owed k page p leaf (goal_fits k line.command rest p fits.line.command fits.boxes goal);
-      settles = λ line held rest found reply settles fits. nothing k;
+      only_replies = λ line held rest found reply alone fits. nothing k;
       inserts = λ line held rest found rec command absent room fits. nothing k;
       lacks_room = λ line held rest found rec command level absent full fits. nothing k;
       deletes = λ line held rest found p there command stands fits. nothing k;

@@ -17,12 +17,12 @@ use Rattle.hb_activity.specs.Classes.{Class, Sessions, Posters, Consolidators, F
 use Rattle.hb_activity.specs.Walks.{walk_held}
 use Rattle.hb_core.specs.Keeps.{KnowsRoom, LatchesFit, WalksInSpace}
 use Rattle.hb_core.specs.KeptFits.{AttributesFit, IsBoxOf, JobFits, LineFits, StandsAbove, WorkersStand, boxes_left, class_for, walking_job}
-use Rattle.hb_core.specs.KeptLines.{HasLineBody, MarksInPlace}
+use Rattle.hb_core.specs.KeptLines.{HasLineBody, MetaWithinLimits}
 use Rattle.hb_core.specs.KeptMachine.{MachineKeeps}
 use Rattle.hb_core.specs.KeptMerges.{NamesKnown, merging_at}
 use Rattle.hb_core.specs.KeptOrder.{FollowMarks, HasLegalOrder, HasPendingPrefix, StandsInOrder, StandsOutside}
 use Rattle.hb_core.specs.KeptPlaces.{AnswersAreSingle, OrderIsShort, RepliesStand}
-use Rattle.hb_core.specs.KeptTurns.{IsInTurn, LinesInTurn, awaited_number}
+use Rattle.hb_core.specs.KeptSequence.{IsInSequence, LinesInSequence, awaited_number}
 use Rattle.hb_core.specs.Machines.{Machine, settled_count}
 use Rattle.hb_core.specs.Performing.{latches_held, mode_among}
 use Rattle.hb_core.specs.SteppingLaws.{BeginningExists, BeginningKeeps, BeginningKeepsAll, IsBegun}
@@ -135,8 +135,8 @@ module _ (m : Machine) (begun : IsBegun m) where
   all_groups : (P : Waiting → Type 0) → All P m.store.log.groups
   all_groups P = subst (λ (l : List Waiting). All P l) (sym no_group) (All-nil P)
 
-  marks_begin : MarksInPlace m
-  marks_begin = let stands = begun.store.stands in record { layout = stands.layout; high = stands.high; live = stands.live; root = stands.root_fits; free = stands.free_fits }
+  meta_begins : MetaWithinLimits m
+  meta_begins = let stands = begun.store.stands in record { layout = stands.layout; high = stands.high; live = stands.live; root = stands.root_fits; free = stands.free_fits }
 
   attributes_begin : AttributesFit m
   attributes_begin = record {
@@ -151,13 +151,13 @@ module _ (m : Machine) (begun : IsBegun m) where
       none : All (IsBoxOf m.store.meta.k) []
       none = All-nil (IsBoxOf m.store.meta.k)
 
-  turns_begin : LinesInTurn m
-  turns_begin = record {
+  sequence_begins : LinesInSequence m
+  sequence_begins = record {
     rising = begun.rising;
     in_hand = λ actor. of_each (λ a. IfSome (line_in_hand a) (λ line. next_line actor m.answered m.lines ≡ Some line)) (record { session = tt; poster = tt; consolidator = tt; flusher = tt }) actor;
     awaited = λ actor. of_each (λ a. IfSome (awaited_number a) (λ number. IsSomeAnd (next_line actor m.answered m.lines) (λ line. line.number ≡ number))) (record { session = tt; poster = tt; consolidator = tt; flusher = tt }) actor;
-    placed = all_entries (IsInTurn m);
-    turns = λ first second among also same lower has. absurd (no_answer second.number has);
+    placed = all_entries (IsInSequence m);
+    earlier_first = λ first second among also same lower has. absurd (no_answer second.number has);
   }
 
   order_begins : OrderIsShort m
@@ -213,10 +213,10 @@ module _ (m : Machine) (begun : IsBegun m) where
 
   pub begins : MachineKeeps m
   begins = record {
-    marks_in_place = marks_begin;
+    meta_within_limits = meta_begins;
     lines_fit = record { script = begun.bodies; in_hand = of_each (λ a. IfSome (line_in_hand a) HasLineBody) (record { session = tt; poster = tt; consolidator = tt; flusher = tt }) };
     attributes_fit = attributes_begin;
-    lines_in_turn = turns_begin;
+    lines_in_sequence = sequence_begins;
     order_short = order_begins;
     replies_stand = replies_begin;
     answers_single = answers_begin;
@@ -291,15 +291,15 @@ no_page_there id page is = let never : None ≡ Some page = sym (map.get-empty n
 -- a sound file stands within its limits
 stands_within : (s : FileState) (turn : ℕ) → IsSound s → IsLayout s.meta → turn ≤ 3 → IsStanding turn s.meta
 stands_within s turn sound layout few =
-    let marks = sound.rooted in
+    let rooted = sound.rooted in
     record {
       turn_fits = few;
       layout = layout;
-      some = marks.some;
-      high = marks.high;
-      live = omega (arith, marks.live, marks.high);
-      root_fits = omega (arith, marks.root, marks.high, layout.few_pages);
-      free_fits = omega (arith, marks.free, marks.high, layout.few_pages);
+      some = rooted.some;
+      high = rooted.high;
+      live = omega (arith, rooted.live, rooted.high);
+      root_fits = omega (arith, rooted.root, rooted.high, layout.few_pages);
+      free_fits = omega (arith, rooted.free, rooted.high, layout.few_pages);
     }
 
 pub beginning_exists : BeginningExists
@@ -320,7 +320,7 @@ beginning_exists s turn lines clock sound layout few rising bodies fit = (
         store = record {
           stands = stands_within s turn sound layout few;
           log = refl;
-          none_imaged = λ id. set.contains-empty nat_cmp id;
+          none_in_log = λ id. set.contains-empty nat_cmp id;
           runs = refl;
           pages = λ id page is. absurd (no_page_there id page is);
         };

@@ -116,7 +116,7 @@ boxes_after meta now good activity wanted deed fits row = each_row now (λ activ
     })
     (λ its page wants hand. record {
       passes = λ line held rest found p goal leaf row fits. record { boxes = fits.boxes; left = fits.left };
-      settles = λ line held rest found reply settles fits. none_ahead meta.k _ (λ never. never);
+      only_replies = λ line held rest found reply alone fits. none_ahead meta.k _ (λ never. never);
       inserts = λ line held rest found rec command absent room fits. none_ahead meta.k _ (λ never. never);
       lacks_room = λ line held rest found rec command level absent full fits. none_ahead meta.k _ (λ never. never);
       deletes = λ line held rest found p there command stands fits. none_ahead meta.k _ (λ never. never);

@@ -10,10 +10,10 @@ use Rattle.hb_core.proofs.Machines.RunsKept.{runs_stay}
 use Rattle.hb_core.proofs.Orders.ShortOrder.{order_stays_short}
 use Rattle.hb_core.proofs.Orders.SingleAnswers.{answers_stay_single}
 use Rattle.hb_core.proofs.Memory.StillThere.{nobody_else_comes, nobody_else_latches}
-use Rattle.hb_core.proofs.Orders.Turns.{turns_stay}
+use Rattle.hb_core.proofs.Orders.Sequences.{sequence_stays}
 use Rattle.hb_core.proofs.Walks.WalksKept.{walks_stay_in_space}
 use Rattle.hb_core.proofs.Walks.WorkersKept.{workers_stand_still}
-use Rattle.hb_core.specs.FileLaws.{MarksStayInPlace, PagesStayOfFile}
+use Rattle.hb_core.specs.FileLaws.{MetaStaysWithinLimits, PagesStayOfFile}
 use Rattle.hb_core.specs.KeepingLaws.{RoomStaysKnown}
 use Rattle.hb_core.specs.KeptMachine.{MachineKeeps}
 use Rattle.hb_core.specs.Laws.{LatchesStayFit}
@@ -23,27 +23,27 @@ use Rattle.hb_latch.specs.Tables.{MayLatch}
 -- the laws of the parts that are contracts
 pub record PartLaws : Type 0 where
   pub pages : PagesStayOfFile
-  pub marks : MarksStayInPlace
+  pub within : MetaStaysWithinLimits
   pub latches : LatchesStayFit
   pub room : RoomStaysKnown
 
 pub machine_stays_kept : PartLaws → MachineStaysKept
 machine_stays_kept laws m actor outcome new may keeps step = record {
-  marks_in_place = laws.marks m actor outcome new keeps.lines_fit keeps.marks_in_place keeps.pages_of_file step;
+  meta_within_limits = laws.within m actor outcome new keeps.lines_fit keeps.meta_within_limits keeps.pages_of_file step;
   lines_fit = lines_stay_fit m actor outcome new keeps.lines_fit step;
   attributes_fit = attributes_fit_still m actor outcome new may keeps step;
-  lines_in_turn = turns_stay m actor outcome new keeps.lines_in_turn step;
+  lines_in_sequence = sequence_stays m actor outcome new keeps.lines_in_sequence step;
   order_short = order_stays_short m actor outcome new may keeps step;
   replies_stand = replies_stand m actor outcome new may keeps step;
   answers_single = answers_stay_single m actor outcome new may keeps step;
-  pages_of_file = laws.pages m actor outcome new keeps.lines_fit keeps.marks_in_place keeps.pages_of_file step;
+  pages_of_file = laws.pages m actor outcome new keeps.lines_fit keeps.meta_within_limits keeps.pages_of_file step;
   classes = classes_stay m actor outcome new may keeps step;
   nobody_else = nobody_else_comes m actor outcome new may keeps.nobody_else step;
   latches_fit = laws.latches m actor outcome new may keeps.latches_fit keeps.pages_of_file step;
   no_other_latches = nobody_else_latches m actor outcome new may keeps.no_other_latches step;
   walk_in_space = walks_stay_in_space m actor outcome new may keeps.latches_fit keeps.pages_of_file keeps.nobody_else keeps.walk_in_space step;
   workers_stand = workers_stand_still m actor outcome new may keeps step;
-  room_known = laws.room m actor outcome new may keeps.latches_fit keeps.pages_of_file keeps.marks_in_place keeps.nobody_else keeps.room_known step;
+  room_known = laws.room m actor outcome new may keeps.latches_fit keeps.pages_of_file keeps.meta_within_limits keeps.nobody_else keeps.room_known step;
   marks_rise = marks_rise_still m actor outcome new may keeps step;
   runs = runs_stay m actor outcome new may keeps step;
 }

@@ -17,10 +17,10 @@ use Rattle.hb_core.proofs.Table.StepKinds.{each_kind, FlushesMore, rest_kind}
 use Rattle.hb_core.specs.Acting.{MeetsBadPage}
 use Rattle.hb_core.specs.Asking.{wanted_by}
 use Rattle.hb_core.specs.Fetching.{Brings}
-use Rattle.hb_core.specs.FileLaws.{MarksStayInPlace, PagesStayOfFile}
+use Rattle.hb_core.specs.FileLaws.{MetaStaysWithinLimits, PagesStayOfFile}
 use Rattle.hb_core.specs.Forcing.{ForcesFirst, StaysSo, FailsToWrite, FlushesWell}
 use Rattle.hb_core.specs.Keeps.{HoldsPagesOfFile}
-use Rattle.hb_core.specs.KeptLines.{LinesFit, MarksInPlace}
+use Rattle.hb_core.specs.KeptLines.{LinesFit, MetaWithinLimits}
 use Rattle.hb_core.specs.Machines.{Machine}
 use Rattle.hb_core.specs.Performing.{MayDo, Performs}
 use Rattle.hb_core.specs.Steps.{StepsTo, Works}
@@ -38,14 +38,14 @@ pub record KeepsPages (st : StoreState) : Type 0 where
   pub free : st.meta.free < 2 ^ 32
   pub framed : AreGood st.meta (in_memory st)
 
-pub keeps_pages : (m : Machine) → MarksInPlace m → HoldsPagesOfFile m → KeepsPages m.store
-keeps_pages m marks inside = record { limits = record { layout = marks.layout; root_fits = marks.root }; high = marks.high; live = marks.live; free = marks.free; framed = inside }
+pub keeps_pages : (m : Machine) → MetaWithinLimits m → HoldsPagesOfFile m → KeepsPages m.store
+keeps_pages m within inside = record { limits = record { layout = within.layout; root_fits = within.root }; high = within.high; live = within.live; free = within.free; framed = inside }
 
 pub pages_kept : (m : Machine) → KeepsPages m.store → HoldsPagesOfFile m
 pages_kept m keeps = keeps.framed
 
-pub marks_kept : (m : Machine) → KeepsPages m.store → MarksInPlace m
-marks_kept m keeps = record { layout = keeps.limits.layout; high = keeps.high; live = keeps.live; root = keeps.limits.root_fits; free = keeps.free }
+pub meta_kept : (m : Machine) → KeepsPages m.store → MetaWithinLimits m
+meta_kept m keeps = record { layout = keeps.limits.layout; high = keeps.high; live = keeps.live; root = keeps.limits.root_fits; free = keeps.free }
 
 -- what a fetch brings keeps it
 pub brought : (m : Machine) (may : ℕ → Type 0) (fetched : StoreState) → Brings m may fetched → KeepsPages m.store → KeepsPages fetched
@@ -105,7 +105,7 @@ module _ (makes : MakesGoodPages) (parts : HaveFittingParts) (points : HeldArePo
     stays : (said : Outcome) → StaysSo m said outcome new → KeepsPages new.store
     stays said (says, is) = same_store (ap (λ (n : Machine). n.store) is)
 
-    -- so does what changes the log and the marks alone, and a write that fails
+    -- so does what changes the log and what the file says of itself alone, and a write that fails
     flushes : {due : Outcome} → FlushesWell m due outcome new → KeepsPages new.store
     flushes well = subst (λ (n : Machine). KeepsPages n.store) (sym well.leaves) (same_pages m.store well.store well.meta well.memory keeps)
 
@@ -148,7 +148,7 @@ module _ (makes : MakesGoodPages) (parts : HaveFittingParts) (points : HeldArePo
       step
 
   pub pages_stay_of_file : PagesStayOfFile
-  pages_stay_of_file m actor outcome new fit marks inside step = pages_kept new (pages_stay m actor outcome new fit (keeps_pages m marks inside) step)
+  pages_stay_of_file m actor outcome new fit within inside step = pages_kept new (pages_stay m actor outcome new fit (keeps_pages m within inside) step)
 
-  pub marks_stay_in_place : MarksStayInPlace
-  marks_stay_in_place m actor outcome new fit marks inside step = marks_kept new (pages_stay m actor outcome new fit (keeps_pages m marks inside) step)
+  pub meta_stays_within_limits : MetaStaysWithinLimits
+  meta_stays_within_limits m actor outcome new fit within inside step = meta_kept new (pages_stay m actor outcome new fit (keeps_pages m within inside) step)

@@ -13,7 +13,7 @@ use Rattle.hb_core.proofs.Orders.NextLines.{next_is, same_line}
 use Rattle.hb_core.proofs.Orders.OrderPlaces.{replies_kept}
 use Rattle.hb_core.specs.ContentsLaws.{ContentsFollowOrder, ContentsStep, contents_now}
 use Rattle.hb_core.specs.KeptOrder.{HasLegalOrder}
-use Rattle.hb_core.specs.KeptTurns.{IsInTurn, LinesInTurn, awaited_number}
+use Rattle.hb_core.specs.KeptSequence.{IsInSequence, LinesInSequence, awaited_number}
 use Rattle.hb_core.specs.Machines.{Files, Machine}
 use Rattle.hb_core.specs.OrderLaws.{SearchIsRight, OrderStaysLegal}
 use Rattle.hb_point.specs.SessionRows.{is_answered, next_line, WantsBoxes}
@@ -45,26 +45,26 @@ hand_waits_not : (activity : Activity) (line : Line) (number : ℕ) → line_in_
 hand_waits_not (at.SessionAwait wait reply place) line number hand waits = cc
 hand_waits_not activity line number hand waits = cc
 
-module _ (m : Machine) (turn : LinesInTurn m) (actor : ℕ) (entry : Entry) (hand : line_in_hand (m.activity actor) ≡ Some entry.line) where
+module _ (m : Machine) (sequence : LinesInSequence m) (actor : ℕ) (entry : Entry) (hand : line_in_hand (m.activity actor) ≡ Some entry.line) where
   next : next_line actor m.answered m.lines ≡ Some entry.line
-  next = subst (λ (o : Option Line). IfSome o (λ line. next_line actor m.answered m.lines ≡ Some line)) hand (turn.in_hand actor)
+  next = subst (λ (o : Option Line). IfSome o (λ line. next_line actor m.answered m.lines ≡ Some line)) hand (sequence.in_hand actor)
 
   -- an entry of the order, of the actor's session, was answered
-  was_answered : (e : Entry) → IsInTurn m e → e.line.session ≡ actor → is_answered e.line.number m.answered ≡ true
+  was_answered : (e : Entry) → IsInSequence m e → e.line.session ≡ actor → is_answered e.line.number m.answered ≡ true
   was_answered e one own = by one.state
     where
       by : (is_answered e.line.number m.answered ≡ true) ⊎ (awaited_number (m.activity e.line.session) ≡ Some e.line.number) → is_answered e.line.number m.answered ≡ true
       by (inl done) = done
       by (inr waits) = absurd (hand_waits_not (m.activity actor) entry.line e.line.number hand (ap (λ (n : ℕ). awaited_number (m.activity n)) (sym own) ∙ waits))
 
-  not_same : (e : Entry) → IsInTurn m e → e.line.number ≢ entry.line.number
+  not_same : (e : Entry) → IsInSequence m e → e.line.number ≢ entry.line.number
   not_same e one same =
       let own = next_is actor m.answered m.lines entry.line next in
-      let line : e.line ≡ entry.line = same_line m.lines e.line entry.line turn.rising one.among own.among same in
+      let line : e.line ≡ entry.line = same_line m.lines e.line entry.line sequence.rising one.among own.among same in
       let done = was_answered e one (ap (λ (l : Line). l.session) line ∙ own.own) in
       false≢true (sym own.open_yet ∙ ap (λ (n : ℕ). is_answered n m.answered) (sym same) ∙ done)
 
-  may_precede : (e : Entry) → IsInTurn m e → MayPrecede e entry
+  may_precede : (e : Entry) → IsInSequence m e → MayPrecede e entry
   may_precede e one = record {
     other_line = not_same e one;
     session_order = λ same. elim (cases_lt e.line.number entry.line.number) [
@@ -73,7 +73,7 @@ module _ (m : Machine) (turn : LinesInTurn m) (actor : ℕ) (entry : Entry) (han
           let own = next_is actor m.answered m.lines entry.line next in
           let above : entry.line.number < e.line.number = below entry.line.number e.line.number more (λ number. not_same e one (sym number)) in
           let done = was_answered e one (same ∙ own.own) in
-          let early = turn.turns entry.line e.line own.among one.among (sym same) above done in
+          let early = sequence.earlier_first entry.line e.line own.among one.among (sym same) above done in
           absurd (false≢true (sym own.open_yet ∙ early))
     ];
   }
@@ -89,7 +89,7 @@ search_or_not (Delete point) = inr (λ never. never)
 search_or_not (Lookup point) = inr (λ never. never)
 search_or_not (Search area) = inl tt
 
-module _ (n : RecordSet) (m : Machine) (files after : Files) (actor : ℕ) (new : Machine) (turn : LinesInTurn m) (legal : HasLegalOrder n m files) (right : SearchIsRight m new files) where
+module _ (n : RecordSet) (m : Machine) (files after : Files) (actor : ℕ) (new : Machine) (sequence : LinesInSequence m) (legal : HasLegalOrder n m files) (right : SearchIsRight m new files) where
   still_legal : ContentsStep m actor new (contents_now files) (contents_now after) → IsLegalOrder n new.order × (result_of n new.order ≡ contents_now after)
   still_legal (inl (order, same)) = (subst (IsLegalOrder n) (sym order) legal.legal, ap (result_of n) order ∙ legal.result ∙ sym same)
   still_legal (inr (entry, order, takes)) =
@@ -97,13 +97,13 @@ module _ (n : RecordSet) (m : Machine) (files after : Files) (actor : ℕ) (new 
       let reply : entry.reply ≡ reply_of entry.line.command (result_of n m.order) = machine ∙ ap (reply_of entry.line.command) (sym legal.result) in (
         subst (IsLegalOrder n) (sym order) (record {
           replies = replies_more n m.order entry legal.legal.replies reply;
-          sessions = sessions_more m.order entry legal.legal.sessions (λ i d lt. may_precede m turn actor entry takes.hand _ (turn.placed i d lt));
+          sessions = sessions_more m.order entry legal.legal.sessions (λ i d lt. may_precede m sequence actor entry takes.hand _ (sequence.placed i d lt));
         }),
         ap (result_of n) order ∙ result_more n m.order entry ∙ ap (set_after entry.line.command) legal.result ∙ sym takes.leaves,
       )
 
 pub order_stays_legal : ContentsFollowOrder → OrderStaysLegal
-order_stays_legal law n m files after actor outcome new told fit inside has turn legal right step is =
-    let both = still_legal n m files after actor new turn legal right (law m files after actor outcome new told fit inside has step is) in
+order_stays_legal law n m files after actor outcome new told fit inside has sequence legal right step is =
+    let both = still_legal n m files after actor new sequence legal right (law m files after actor outcome new told fit inside has step is) in
     let replies = replies_kept m actor outcome new (record { awaits = legal.awaits; answers = legal.answers }) step in
     record { legal = both.0; result = both.1; awaits = replies.awaits; answers = replies.answers }

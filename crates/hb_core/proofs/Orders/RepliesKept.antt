@@ -28,4 +28,4 @@ pub replies_stand : (m : Machine) (actor : ℕ) (outcome : Outcome) (new : Machi
 replies_stand m actor outcome new may keeps step =
     let before : KeepsReplies m = record { awaits = keeps.replies_stand.awaits; answers = keeps.replies_stand.answers } in
     let after = replies_kept m actor outcome new before step in
-    record { awaits = after.awaits; inside = awaited_inside m actor new keeps.replies_stand (lines_after m actor outcome new keeps.lines_in_turn step); answers = after.answers }
+    record { awaits = after.awaits; inside = awaited_inside m actor new keeps.replies_stand (lines_after m actor outcome new keeps.lines_in_sequence step); answers = after.answers }

@@ -32,7 +32,7 @@ use Rattle.hb_set.specs.Order.{Entry}
 use Rattle.hb_sound.specs.Laws.{LackIsContents, StandingIsContents}
 use Rattle.hb_sound.specs.PointWalks.{IsPointOf}
 use Rattle.hb_store.specs.States.{StoreState, in_memory}
-use Rattle.hb_core.proofs.Table.EachRow.{Settles, each_row}
+use Rattle.hb_core.proofs.Table.EachRow.{OnlyReplies, each_row}
 use Rattle.hb_ops.proofs.Facts.PageNumberLaws.{live_so}
 
 -- what an operation does to the contents
@@ -125,16 +125,16 @@ module _ (points : HeldArePoints) (standing : StandingIsContents) (lacking : Lac
   Joins activity deed = JoinsWith (contents_of s) after activity deed.joins
 
   -- a line that takes effect and changes nothing
-  settled : (activity : Activity) (line : Line) (command : Command) (id : ℕ) (page : LivePage) (reply : Reply) → line.command ≡ command → line_in_hand activity ≡ Some line → if_live (in_memory fetched id) ≡ Some page → Settles command page reply → after ≡ contents_of s
+  replied : (activity : Activity) (line : Line) (command : Command) (id : ℕ) (page : LivePage) (reply : Reply) → line.command ≡ command → line_in_hand activity ≡ Some line → if_live (in_memory fetched id) ≡ Some page → OnlyReplies command page reply → after ≡ contents_of s
       → TakesEffectOn (contents_of s) after activity (entry_of line reply)
-  settled activity line (Insert rec) id page reply is hand live (twin, there, said) same =
+  replied activity line (Insert rec) id page reply is hand live (twin, there, said) same =
       subst (λ (r : Reply). TakesEffectOn (contents_of s) after activity (entry_of line r)) (sym said) (twin_stays (contents_of s) after activity line rec twin.body is hand (stands id page rec.key twin live there) same)
-  settled activity line (Delete point) id page reply is hand live (absent, said) same = subst (λ (r : Reply). TakesEffectOn (contents_of s) after activity (entry_of line r)) (sym said) (none_joins (contents_of s) after activity line point is hand (lacks id page point live absent) same)
-  settled activity line (Lookup point) id page reply is hand live (inl (found, there, said)) same =
+  replied activity line (Delete point) id page reply is hand live (absent, said) same = subst (λ (r : Reply). TakesEffectOn (contents_of s) after activity (entry_of line r)) (sym said) (none_joins (contents_of s) after activity line point is hand (lacks id page point live absent) same)
+  replied activity line (Lookup point) id page reply is hand live (inl (found, there, said)) same =
       subst (λ (r : Reply). TakesEffectOn (contents_of s) after activity (entry_of line r)) (sym said) (finds_joins (contents_of s) after activity line point (Some found.body) is hand (stands id page point found live there) same)
-  settled activity line (Lookup point) id page reply is hand live (inr (absent, said)) same =
+  replied activity line (Lookup point) id page reply is hand live (inr (absent, said)) same =
       subst (λ (r : Reply). TakesEffectOn (contents_of s) after activity (entry_of line r)) (sym said) (finds_joins (contents_of s) after activity line point None is hand (lacks id page point live absent) same)
-  settled activity line (Search area) id page reply is hand live (ordered, said) same = record {
+  replied activity line (Search area) id page reply is hand live (ordered, said) same = record {
     hand = hand;
     leaves = same ∙ sym (ap (λ (c : Command). set_after c (contents_of s)) is);
     reply = λ other. absurd (other (subst WantsBoxes (sym is) tt));
@@ -153,7 +153,7 @@ module _ (points : HeldArePoints) (standing : StandingIsContents) (lacking : Lac
       })
       (λ its page wants hand. record {
         passes = λ line held rest found p goal leaf row stays. stays;
-        settles = λ line held rest found reply settles stays. settled (at.SessionWalk line held rest found) line line.command its.page page reply refl refl hand.live settles stays;
+        only_replies = λ line held rest found reply alone stays. replied (at.SessionWalk line held rest found) line line.command its.page page reply refl refl hand.live alone stays;
         inserts = λ line held rest found rec command absent room more. put_joins (contents_of s) after (at.SessionWalk line held rest found) line rec command refl more.0 more.1;
         lacks_room = λ line held rest found rec command level absent full stays. stays;
         deletes = λ line held rest found p there command stands less. del_joins (contents_of s) after (at.SessionWalk line held rest found) line p less.0.0 command refl less.0.1 less.1;

@@ -8,10 +8,10 @@ use Rattle.hb_set.specs.declared.scripts.Line.{Line}
 use Rattle.hb_core.specs.declared.outcomes.Outcome.{Outcome}
 use Rattle.hb_core.proofs.Orders.NextLines.{IsNextOf, next_is, same_line}
 use Rattle.hb_core.proofs.Table.StepLines.{LinesAfter, lines_after}
-use Rattle.hb_core.proofs.Orders.Turns.{turns_stay}
+use Rattle.hb_core.proofs.Orders.Sequences.{sequence_stays}
 use Rattle.hb_core.specs.KeptMachine.{MachineKeeps}
 use Rattle.hb_core.specs.KeptPlaces.{OrderIsShort}
-use Rattle.hb_core.specs.KeptTurns.{IsInTurn, LinesInTurn, awaited_number}
+use Rattle.hb_core.specs.KeptSequence.{IsInSequence, LinesInSequence, awaited_number}
 use Rattle.hb_core.specs.Machines.{Machine}
 use Rattle.hb_core.specs.Steps.{StepsTo}
 use Rattle.hb_latch.specs.Tables.{MayLatch}
@@ -71,10 +71,10 @@ no_more_than (e ∷ order) lines once among =
 -- ---- a step
 
 -- the next line of a session that waits for no place doesn't stand in the order
-pub next_not_placed : (m : Machine) (actor : ℕ) (line : Line) → LinesInTurn m → next_line actor m.answered m.lines ≡ Some line → awaited_number (m.activity actor) ≡ None → All (λ (e : Entry). e.line.number ≢ line.number) m.order
-next_not_placed m actor line turn next none k d lt = by (get_or m.order k d) (turn.placed k d lt)
+pub next_not_placed : (m : Machine) (actor : ℕ) (line : Line) → LinesInSequence m → next_line actor m.answered m.lines ≡ Some line → awaited_number (m.activity actor) ≡ None → All (λ (e : Entry). e.line.number ≢ line.number) m.order
+next_not_placed m actor line sequence next none k d lt = by (get_or m.order k d) (sequence.placed k d lt)
   where
-    by : (e : Entry) → IsInTurn m e → e.line.number ≢ line.number
+    by : (e : Entry) → IsInSequence m e → e.line.number ≢ line.number
     by e one same = elim one.state [
       | inl done ↦ false≢true (sym own.open_yet ∙ ap (λ (n : ℕ). is_answered n m.answered) (sym same) ∙ done)
       | inr waits ↦ nothing (sym none ∙ ap (λ (n : ℕ). awaited_number (m.activity n)) (sym own.own ∙ sym session) ∙ waits)
@@ -84,20 +84,20 @@ next_not_placed m actor line turn next none k d lt = by (get_or m.order k d) (tu
         own = next_is actor m.answered m.lines line next
 
         session : e.line.session ≡ line.session
-        session = ap (λ (l : Line). l.session) (same_line m.lines e.line line turn.rising one.among own.among same)
+        session = ap (λ (l : Line). l.session) (same_line m.lines e.line line sequence.rising one.among own.among same)
 
         nothing : None ≡ Some e.line.number → ⊥
         nothing is = cc
 
-module _ (m : Machine) (actor : ℕ) (new : Machine) (turn : LinesInTurn m) (once : AllPairs AreOfTwo m.order) where
+module _ (m : Machine) (actor : ℕ) (new : Machine) (sequence : LinesInSequence m) (once : AllPairs AreOfTwo m.order) where
   still_once : LinesAfter m actor new → AllPairs AreOfTwo new.order
   still_once (inl stays) = subst (λ (es : List Entry). AllPairs AreOfTwo es) (sym stays.order) once
-  still_once (inr (inl joins)) = subst (λ (es : List Entry). AllPairs AreOfTwo es) (sym joins.order) (all_pairs_push AreOfTwo m.order _ once (next_not_placed m actor joins.line turn joins.next joins.none_awaited))
+  still_once (inr (inl joins)) = subst (λ (es : List Entry). AllPairs AreOfTwo es) (sym joins.order) (all_pairs_push AreOfTwo m.order _ once (next_not_placed m actor joins.line sequence joins.next joins.none_awaited))
   still_once (inr (inr (inl answered))) = subst (λ (es : List Entry). AllPairs AreOfTwo es) (sym answered.order) once
   still_once (inr (inr (inr settled))) = subst (λ (es : List Entry). AllPairs AreOfTwo es) (sym settled.order) once
 
 pub order_stays_short : (m : Machine) (actor : ℕ) (outcome : Outcome) (new : Machine) → MayLatch actor → MachineKeeps m → StepsTo m actor outcome new → OrderIsShort new
 order_stays_short m actor outcome new may keeps step =
-    let once = still_once m actor new keeps.lines_in_turn keeps.order_short.once (lines_after m actor outcome new keeps.lines_in_turn step) in
-    let turn = turns_stay m actor outcome new keeps.lines_in_turn step in
-    record { once = once; few = no_more_than new.order new.lines once (λ k d lt. (turn.placed k d lt).among) }
+    let once = still_once m actor new keeps.lines_in_sequence keeps.order_short.once (lines_after m actor outcome new keeps.lines_in_sequence step) in
+    let sequence = sequence_stays m actor outcome new keeps.lines_in_sequence step in
+    record { once = once; few = no_more_than new.order new.lines once (λ k d lt. (sequence.placed k d lt).among) }

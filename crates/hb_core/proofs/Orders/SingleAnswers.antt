@@ -13,7 +13,7 @@ use Rattle.hb_core.proofs.Table.StepLines.{LinesAfter, PlaceSettled, lines_after
 use Rattle.hb_core.specs.KeptMachine.{MachineKeeps}
 use Rattle.hb_core.specs.KeptOrder.{StandsOutside}
 use Rattle.hb_core.specs.KeptPlaces.{AnswersAreSingle, RepliesStand}
-use Rattle.hb_core.specs.KeptTurns.{LinesInTurn, awaited_number}
+use Rattle.hb_core.specs.KeptSequence.{LinesInSequence, awaited_number}
 use Rattle.hb_core.specs.Machines.{Machine}
 use Rattle.hb_core.specs.Steps.{StepsTo}
 use Rattle.hb_latch.specs.Tables.{MayLatch}
@@ -36,14 +36,14 @@ none_to number (a ∷ answered) none = elim (cases_Bool (a.line == number)) [
   | inr off ↦ All-cons (λ (a : Answered). a.line ≢ number) a answered (eqb-false a.line number off) (none_to number answered (sym (ap (λ (b : Bool). b || is_answered number answered) off) ∙ none))
 ]
 
-module _ (m : Machine) (actor : ℕ) (new : Machine) (turn : LinesInTurn m) (stand : RepliesStand m) (single : AnswersAreSingle m) where
+module _ (m : Machine) (actor : ℕ) (new : Machine) (sequence : LinesInSequence m) (stand : RepliesStand m) (single : AnswersAreSingle m) where
   -- the next line of a session has no answer
   next_open : (line : Line) → next_line actor m.answered m.lines ≡ Some line → All (λ (a : Answered). a.line ≢ line.number) m.answered
   next_open line next = none_to line.number m.answered (next_is actor m.answered m.lines line next).open_yet
 
   -- nor has the one for whose place it waits
   awaited_open : (settled : PlaceSettled m actor new) → All (λ (a : Answered). a.line ≢ settled.number) m.answered
-  awaited_open settled = by (next_line actor m.answered m.lines) refl (subst (λ (o : Option ℕ). IfSome o (λ number. IsSomeAnd (next_line actor m.answered m.lines) (λ line. line.number ≡ number))) (ap awaited_number settled.waited) (turn.awaited actor))
+  awaited_open settled = by (next_line actor m.answered m.lines) refl (subst (λ (o : Option ℕ). IfSome o (λ number. IsSomeAnd (next_line actor m.answered m.lines) (λ line. line.number ≡ number))) (ap awaited_number settled.waited) (sequence.awaited actor))
     where
       by : (o : Option Line) → next_line actor m.answered m.lines ≡ o → IsSomeAnd o (λ line. line.number ≡ settled.number) → All (λ (a : Answered). a.line ≢ settled.number) m.answered
       by None next never = absurd never
@@ -63,11 +63,11 @@ module _ (m : Machine) (actor : ℕ) (new : Machine) (turn : LinesInTurn m) (sta
   single_after (inr (inr (inl answered))) =
       as_one m.order _ answered.order answered.answered
       (all_pairs_push AreToTwo m.answered _ single.once (next_open answered.line answered.next))
-      (All-push (StandsNowhere m.order) m.answered _ single.outside (λ outside. next_not_placed m actor answered.line turn answered.next answered.none_awaited))
+      (All-push (StandsNowhere m.order) m.answered _ single.outside (λ outside. next_not_placed m actor answered.line sequence answered.next answered.none_awaited))
   single_after (inr (inr (inr settled))) =
       as_one m.order _ settled.order settled.answered
       (all_pairs_push AreToTwo m.answered _ single.once (awaited_open settled))
       (All-push (StandsNowhere m.order) m.answered _ single.outside (λ outside. absurd (stand.inside actor settled.number settled.place settled.reply settled.waited outside)))
 
 pub answers_stay_single : (m : Machine) (actor : ℕ) (outcome : Outcome) (new : Machine) → MayLatch actor → MachineKeeps m → StepsTo m actor outcome new → AnswersAreSingle new
-answers_stay_single m actor outcome new may keeps step = single_after m actor new keeps.lines_in_turn keeps.replies_stand keeps.answers_single (lines_after m actor outcome new keeps.lines_in_turn step)
+answers_stay_single m actor outcome new may keeps step = single_after m actor new keeps.lines_in_sequence keeps.replies_stand keeps.answers_single (lines_after m actor outcome new keeps.lines_in_sequence step)

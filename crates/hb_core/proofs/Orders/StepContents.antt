@@ -18,7 +18,7 @@ use Rattle.hb_core.proofs.Table.LineFates.{given_up_joins_nothing, ran_out_joins
 use Rattle.hb_core.proofs.Memory.OwnPages.{gives_up_nothing, runs_out_nothing}
 use Rattle.hb_core.proofs.Orders.RowContents.{Becomes, JoinsWith, joins_row}
 use Rattle.hb_core.proofs.Files.RowTells.{Tells, tells_row}
-use Rattle.hb_core.proofs.Files.SoundFiles.{FilesHold, brought_shown, files_hold, keeps_marks, may_be_done, shows_file}
+use Rattle.hb_core.proofs.Files.SoundFiles.{FilesHold, brought_shown, files_hold, sound_within_limits, may_be_done, shows_file}
 use Rattle.hb_core.proofs.Table.StepKinds.{each_step, FlushesMore, rest_kind}
 use Rattle.hb_core.specs.Acting.{MeetsBadPage}
 use Rattle.hb_core.specs.Asking.{wanted_by}
@@ -137,7 +137,7 @@ same_files o a b first second = let both : Some a ≡ Some b = sym first ∙ sec
 module _ (makes : MakesGoodPages) (parts : HaveFittingParts) (points : HeldArePoints) (keep_contents : OperationsKeepContents) (standing : StandingIsContents) (lacking : LackIsContents) where
   pub contents_follow_order : ContentsFollowOrder
   contents_follow_order m files after actor outcome new told fit inside has step is =
-      let keeps = keeps_pages m (keeps_marks m files has) inside in
+      let keeps = keeps_pages m (sound_within_limits m files has) inside in
       let goes = follows makes parts points keep_contents standing lacking m files actor outcome new told fit keeps (files_hold m files has) step in
       subst (λ (f : Files). ContentsStep m actor new (contents_now files) (contents_now f)) (same_files new.files goes.0 after goes.1 is) goes.2
 

@@ -32,7 +32,7 @@ use Rattle.hb_core.specs.Acting.{MeetsBadPage}
 use Rattle.hb_core.specs.Fetching.{Brings}
 use Rattle.hb_core.specs.Forcing.{ForcesFirst, StaysSo}
 use Rattle.hb_core.specs.KeepingLaws.{RoomStaysKnown}
-use Rattle.hb_core.specs.KeptLines.{MarksInPlace}
+use Rattle.hb_core.specs.KeptLines.{MetaWithinLimits}
 use Rattle.hb_core.specs.Keeps.{HasNobodyElse, HasRoomFor, HoldsPagesOfFile, KnowsRoom, LacksRoomFor, LatchesFit, OneHasRoom}
 use Rattle.hb_core.specs.Machines.{Machine, live_here}
 use Rattle.hb_core.specs.Performing.{MayDo, Performs, latches_held, mode_among}
@@ -247,13 +247,13 @@ knows_as m activity other is knows = subst (KnowsOf m) (sym is) knows
 
 -- ---- the actor that steps
 
-module _ (laws : RoomLaws) (least : DCAP_MIN ≡ 6) (m : Machine) (actor : ℕ) (may : ℕ → Type 0) (fetched : StoreState) (inside : HoldsPagesOfFile m) (marks : MarksInPlace m) (knows : KnowsRoom m)
+module _ (laws : RoomLaws) (least : DCAP_MIN ≡ 6) (m : Machine) (actor : ℕ) (may : ℕ → Type 0) (fetched : StoreState) (inside : HoldsPagesOfFile m) (within : MetaWithinLimits m) (knows : KnowsRoom m)
     (brings : Brings m may fetched) (deed : Deed) (new : Machine) (capacity : SameCapacity m new) (does : MayDo deed.op (length m.order) fetched new.store) where
   full_known : (full : TakesFull (now m actor fetched) deed) → LacksRoom new full.line full.id
   full_known full = (full.rec, full.command, takes_full m actor may fetched inside brings deed new does laws full)
 
   parted_known : (parts : PartsFull m actor (now m actor fetched) deed) → LacksRoom m parts.line parts.held → HasRoom new parts.line parts.held parts.row.leaves.fresh
-  parted_known parts (rec, command, lacks) = (rec, command, one_has_room m actor may fetched inside marks brings laws least new capacity parts.line parts.held deed parts.row does rec lacks)
+  parted_known parts (rec, command, lacks) = (rec, command, one_has_room m actor may fetched inside within brings laws least new capacity parts.line parts.held deed parts.row does rec lacks)
 
   kept_parent_knows : KeepsParent m actor deed → KnowsOf new deed.next
   kept_parent_knows keeps = by keeps.after
@@ -274,7 +274,7 @@ module _ (laws : RoomLaws) (least : DCAP_MIN ≡ 6) (m : Machine) (actor : ℕ) 
 
 -- ---- each step
 
-module _ (laws : RoomLaws) (least : DCAP_MIN ≡ 6) (m : Machine) (actor : ℕ) (outcome : Outcome) (new : Machine) (latches : MayLatch actor) (fit : LatchesFit m) (inside : HoldsPagesOfFile m) (marks : MarksInPlace m) (nobody : HasNobodyElse m)
+module _ (laws : RoomLaws) (least : DCAP_MIN ≡ 6) (m : Machine) (actor : ℕ) (outcome : Outcome) (new : Machine) (latches : MayLatch actor) (fit : LatchesFit m) (inside : HoldsPagesOfFile m) (within : MetaWithinLimits m) (nobody : HasNobodyElse m)
     (knows : KnowsRoom m) (step : StepsTo m actor outcome new) where
   capacity : SameCapacity m new
   capacity = capacity_stays m actor outcome new step
@@ -333,16 +333,16 @@ module _ (laws : RoomLaws) (least : DCAP_MIN ≡ 6) (m : Machine) (actor : ℕ) 
       rest_kind m outcomes.Helped outcome new _ (KnowsRoom new) none tt (λ more. same_but_disk (more_so m actor outcome new more)) (λ performs. freed m.store _ performs (nothing_run_out (m.activity actor))) rest
   worked (inr (inr (free, ready, inl acts))) =
       did acts.fetched acts.deed acts.performs
-      (knows_there laws least m actor _ acts.fetched inside marks knows acts.brings acts.deed new capacity acts.performs.store (place_after m actor acts.fetched _ acts.deed refl acts.row))
+      (knows_there laws least m actor _ acts.fetched inside within knows acts.brings acts.deed new capacity acts.performs.store (place_after m actor acts.fetched _ acts.deed refl acts.row))
   worked (inr (inr (free, ready, inr (inl gives)))) = freed gives.fetched _ gives.performs (nothing_given_up gives.why (m.activity actor))
   worked (inr (inr (free, ready, inr (inr meets)))) = same_but_disk (meets_so m actor outcome new meets)
 
 pub room_stays_known : RoomLaws → DCAP_MIN ≡ 6 → RoomStaysKnown
-room_stays_known laws least m actor outcome new latches fit inside marks nobody knows step =
+room_stays_known laws least m actor outcome new latches fit inside within nobody knows step =
     each_kind m actor outcome new (KnowsRoom new)
-    (λ said quiet so. same_but_disk laws least m actor outcome new latches fit inside marks nobody knows step (stays_so m actor outcome new said so))
-    (λ said quiet force. same_but_disk laws least m actor outcome new latches fit inside marks nobody knows step (forces_so m actor outcome new said force))
-    (λ more. same_but_disk laws least m actor outcome new latches fit inside marks nobody knows step (more_so m actor outcome new more))
-    (λ deed outright performs. freed laws least m actor outcome new latches fit inside marks nobody knows step m.store deed performs (record { walk = outright.walk; latches = outright.latches; merging = outright.merging }))
-    (worked laws least m actor outcome new latches fit inside marks nobody knows step)
+    (λ said quiet so. same_but_disk laws least m actor outcome new latches fit inside within nobody knows step (stays_so m actor outcome new said so))
+    (λ said quiet force. same_but_disk laws least m actor outcome new latches fit inside within nobody knows step (forces_so m actor outcome new said force))
+    (λ more. same_but_disk laws least m actor outcome new latches fit inside within nobody knows step (more_so m actor outcome new more))
+    (λ deed outright performs. freed laws least m actor outcome new latches fit inside within nobody knows step m.store deed performs (record { walk = outright.walk; latches = outright.latches; merging = outright.merging }))
+    (worked laws least m actor outcome new latches fit inside within nobody knows step)
     step

@@ -23,7 +23,7 @@ use Rattle.hb_core.proofs.Room.SplitWeights.{both_have_room, parted_weighs}
 use Rattle.hb_point.proofs.Facts.RecordLeaves.{put_weighs}
 use Rattle.hb_core.proofs.Memory.StillThere.{fetched_good, nothing_done}
 use Rattle.hb_core.specs.Fetching.{Brings}
-use Rattle.hb_core.specs.KeptLines.{MarksInPlace}
+use Rattle.hb_core.specs.KeptLines.{MetaWithinLimits}
 use Rattle.hb_core.specs.Keeps.{HasRoomFor, HoldsPagesOfFile, LacksRoomFor, OneHasRoom}
 use Rattle.hb_core.specs.Machines.{Machine, live_here, sight}
 use Rattle.hb_core.specs.Performing.{DoesOp, MayDo}
@@ -71,7 +71,7 @@ module _ (m : Machine) (actor : ℕ) (may : ℕ → Type 0) (fetched : StoreStat
 
 -- ---- a page that is split
 
-module _ (m : Machine) (actor : ℕ) (may : ℕ → Type 0) (fetched : StoreState) (inside : HoldsPagesOfFile m) (marks : MarksInPlace m) (brings : Brings m may fetched) (laws : RoomLaws) (least : DCAP_MIN ≡ 6)
+module _ (m : Machine) (actor : ℕ) (may : ℕ → Type 0) (fetched : StoreState) (inside : HoldsPagesOfFile m) (within : MetaWithinLimits m) (brings : Brings m may fetched) (laws : RoomLaws) (least : DCAP_MIN ≡ 6)
     (new : Machine) (capacity : new.store.meta.dcap ≡ m.store.meta.dcap) (line : Line) (held : ℕ) (deed : Deed) (row : Splits (sight (now m actor fetched)) line held deed) (done : MayDo deed.op (length m.order) fetched new.store) (rec : Record) (lacks : LacksRoomFor m held rec.key rec.body) where
   abbrev split : Op
   split = ops.Extract held row.leaves.fresh row.leaves.path row.leaves.cuts row.leaves.free_after
@@ -164,7 +164,7 @@ module _ (m : Machine) (actor : ℕ) (may : ℕ → Type 0) (fetched : StoreStat
   one_more = put_weighs page rec absent.records absent.area well.well_cut absent.leaf
 
   six : 6 ≤ m.store.meta.dcap
-  six = let low = marks.layout.dcap_least in omega (arith, low, least)
+  six = let low = within.layout.dcap_least in omega (arith, low, least)
 
   thirds : IsThirds page row.leaves.path row.leaves.cuts
   thirds = is_thirds (weight_of page.frag) page row.leaves.path row.leaves.cuts (omega (arith, six, light, full, one_more)) refl row.leaves.chosen.way well.in_order (row.leaves.chosen.part, row.leaves.chosen.found, row.leaves.chosen.chosen)

@@ -27,7 +27,7 @@ use Rattle.hb_core.specs.JobLaws.{DropsByCause, EndsByRow, FindsNoPlace, JobsEnd
 use Rattle.hb_core.specs.GivingUp.{gives_up, reply_for, runs_out}
 use Rattle.hb_core.specs.KeptMachine.{MachineKeeps}
 use Rattle.hb_core.specs.KeptOrder.{StandsOutside}
-use Rattle.hb_core.specs.KeptTurns.{awaited_number}
+use Rattle.hb_core.specs.KeptSequence.{awaited_number}
 use Rattle.hb_core.specs.Machines.{Machine, with_disk}
 use Rattle.hb_core.specs.Performing.{Performs, outcome_of}
 use Rattle.hb_core.specs.Steps.{StepsTo, TakesJob, TakesMerging}
@@ -114,7 +114,7 @@ IsFirst m actor number = IsSomeAnd (next_line actor m.answered m.lines) (λ line
 pub answers_first_line : AnswersFirstLine
 answers_first_line m actor number reply new keeps step = answering m actor number reply new (IsFirst m actor number) (record {
   refuses = λ line idle next begins number_is reply_is. first line next number_is;
-  settles = λ place is. at_value (awaited_number (m.activity actor)) (λ number. IsSomeAnd (next_line actor m.answered m.lines) (λ line. line.number ≡ number)) number (ap awaited_number is) (keeps.lines_in_turn.awaited actor);
+  settles = λ place is. at_value (awaited_number (m.activity actor)) (λ number. IsSomeAnd (next_line actor m.answered m.lines) (λ line. line.number ≡ number)) number (ap awaited_number is) (keeps.lines_in_sequence.awaited actor);
   runs = λ line hand number_is cause reply_is. in_hand line hand number_is;
   full = λ line held is number_is none_free reply_is. in_hand line (ap line_in_hand is) number_is;
   gives = λ line why hand number_is cause reply_is. in_hand line hand number_is;
@@ -124,7 +124,7 @@ answers_first_line m actor number reply new keeps step = answering m actor numbe
     first line next number_is = subst (λ (o : Option Line). IsSomeAnd o (λ line. line.number ≡ number)) (sym next) (sym number_is)
 
     in_hand : (line : Line) → line_in_hand (m.activity actor) ≡ Some line → number ≡ line.number → IsFirst m actor number
-    in_hand line hand number_is = first line (at_value (line_in_hand (m.activity actor)) (λ line. next_line actor m.answered m.lines ≡ Some line) line hand (keeps.lines_in_turn.in_hand actor)) number_is
+    in_hand line hand number_is = first line (at_value (line_in_hand (m.activity actor)) (λ line. next_line actor m.answered m.lines ≡ Some line) line hand (keeps.lines_in_sequence.in_hand actor)) number_is
 
 -- ---- why it is refused
 

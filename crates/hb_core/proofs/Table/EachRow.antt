@@ -40,11 +40,11 @@ use Rattle.hb_split.specs.Choosing.{IsChosen}
 use Rattle.hb_terms.specs.Plans.{IsPlan}
 
 -- The reply with which a command takes effect that changes nothing.
-abbrev pub Settles : Command → LivePage → Reply → Type 0
-Settles (Insert rec) page reply = (twin : Record) × StandsThere page rec.key twin × (reply ≡ replies.Duplicate)
-Settles (Delete p) page reply = StandsNot page p × (reply ≡ replies.Absent)
-Settles (Lookup p) page reply = ((found : Record) × StandsThere page p found × (reply ≡ replies.Found found.body)) ⊎ (StandsNot page p × (reply ≡ replies.Missing))
-Settles (Search area) page reply = (ordered : List Record) × (reply ≡ replies.Within ordered)
+abbrev pub OnlyReplies : Command → LivePage → Reply → Type 0
+OnlyReplies (Insert rec) page reply = (twin : Record) × StandsThere page rec.key twin × (reply ≡ replies.Duplicate)
+OnlyReplies (Delete p) page reply = StandsNot page p × (reply ≡ replies.Absent)
+OnlyReplies (Lookup p) page reply = ((found : Record) × StandsThere page p found × (reply ≡ replies.Found found.body)) ⊎ (StandsNot page p × (reply ≡ replies.Missing))
+OnlyReplies (Search area) page reply = (ordered : List Record) × (reply ≡ replies.Within ordered)
 
 -- a search takes the last of its boxes, and has these before it then
 pub record Searches (line : Line) (rest : List Area) (page : LivePage) (boxes : List Area) : Type 0 where
@@ -78,7 +78,7 @@ pub record ShowsAlone (s : Sight) (P : Activity → Deed → Type 0) : Type 0 wh
 pub record ShowsAt (s : Sight) (id : ℕ) (page : LivePage) (P : Activity → Deed → Type 0) : Type 0 where
   pub passes : (line : Line) (held : Option ℕ) (rest : List Area) (found : List Record) (p : List ℕ) → goal_of line.command rest ≡ Some p → (leaf : Leaf) → PassesAt page p leaf →
       P (at.SessionWalk line held rest found) (moves_to (at.SessionWalk line (Some id) rest found) (posts_owed page p leaf))
-  pub settles : (line : Line) (held : Option ℕ) (rest : List Area) (found : List Record) (reply : Reply) → Settles line.command page reply → P (at.SessionWalk line held rest found) (takes_effect s.place line reply None [])
+  pub only_replies : (line : Line) (held : Option ℕ) (rest : List Area) (found : List Record) (reply : Reply) → OnlyReplies line.command page reply → P (at.SessionWalk line held rest found) (takes_effect s.place line reply None [])
   pub inserts : (line : Line) (held : Option ℕ) (rest : List Area) (found : List Record) (rec : Record) → line.command ≡ Insert rec → StandsNot page rec.key → weight_of (put_page rec page).frag ≤ s.meta.dcap →
       P (at.SessionWalk line held rest found) (takes_effect s.place line replies.Done (Some (ops.Put id rec)) [])
   pub lacks_room : (line : Line) (held : Option ℕ) (rest : List Area) (found : List Record) (rec : Record) → line.command ≡ Insert rec → page.level ≡ 0 → StandsNot page rec.key → s.meta.dcap < weight_of (put_page rec page).frag →
@@ -121,21 +121,21 @@ module _ (s : Sight) (id : ℕ) (page : LivePage) (P : Activity → Deed → Typ
     abbrev Shown : Type 0
     Shown = P (at.SessionWalk line held rest found) deed
 
-    settled : (command : Command) (reply : Reply) → line.command ≡ command → Settles command page reply → deed ≡ takes_effect s.place line reply None [] → Shown
-    settled command reply command_is settles is = as_other _ deed _ is (shows.settles line held rest found reply (subst (λ (c : Command). Settles c page reply) (sym command_is) settles))
+    replied : (command : Command) (reply : Reply) → line.command ≡ command → OnlyReplies command page reply → deed ≡ takes_effect s.place line reply None [] → Shown
+    replied command reply command_is only_replies is = as_other _ deed _ is (shows.only_replies line held rest found reply (subst (λ (c : Command). OnlyReplies c page reply) (sym command_is) only_replies))
 
     searched : (area : Area) (boxes : List Area) (more : List Record) → line.command ≡ Search area → Searches line rest page boxes → SearchGoesOn s line boxes more deed → Shown
-    searched area [] more command_is goes (ordered, same, rising, is) = settled (Search area) (replies.Within ordered) command_is (ordered, refl) is
+    searched area [] more command_is goes (ordered, same, rising, is) = replied (Search area) (replies.Within ordered) command_is (ordered, refl) is
     searched area (box ∷ others) more command_is goes is = as_other _ deed _ is (shows.searches line held rest found box others more goes)
 
     commanded : (command : Command) (p : List ℕ) → line.command ≡ command → goal_of command rest ≡ Some p → DoesHere s line command rest found id page p deed → Shown
-    commanded (Insert rec) p is goal (inl row) = settled (Insert rec) _ is (row.twin, row.there, refl) row.deed_is
+    commanded (Insert rec) p is goal (inl row) = replied (Insert rec) _ is (row.twin, row.there, refl) row.deed_is
     commanded (Insert rec) p is goal (inr (inl row)) = as_other _ deed _ row.deed_is (shows.inserts line held rest found rec is row.absent row.room)
     commanded (Insert rec) p is goal (inr (inr row)) = as_other _ deed _ row.deed_is (shows.lacks_room line held rest found rec is row.level row.absent row.full)
     commanded (Delete point) p is goal (inl row) = as_other _ deed _ row.deed_is (shows.deletes line held rest found point row.found is row.there)
-    commanded (Delete point) p is goal (inr row) = settled (Delete point) _ is (row.absent, refl) row.deed_is
-    commanded (Lookup point) p is goal (inl row) = settled (Lookup point) _ is (inl (row.found, row.there, refl)) row.deed_is
-    commanded (Lookup point) p is goal (inr row) = settled (Lookup point) _ is (inr (row.absent, refl)) row.deed_is
+    commanded (Delete point) p is goal (inr row) = replied (Delete point) _ is (row.absent, refl) row.deed_is
+    commanded (Lookup point) p is goal (inl row) = replied (Lookup point) _ is (inl (row.found, row.there, refl)) row.deed_is
+    commanded (Lookup point) p is goal (inr row) = replied (Lookup point) _ is (inr (row.absent, refl)) row.deed_is
     commanded (Search area) p is goal row =
         searched area _ _ is (record { whole_box = area; command = is; p = p; goal = goal; front = row.front; at_hand = row.at_hand; whole = row.boxes; records = row.records; area = row.area; leaf = row.leaf; left = refl }) row.goes
 
@@ -200,7 +200,7 @@ pub record ShowsOps (s : Sight) (id : ℕ) (page : LivePage) (P : Activity → O
 pub each_op : (s : Sight) (id : ℕ) (page : LivePage) (P : Activity → Option Op → Type 0) → ShowsOps s id page P → ShowsAt s id page (λ activity deed. P activity deed.op)
 each_op s id page P shows = record {
   passes = λ line held rest found p goal leaf row. shows.none _;
-  settles = λ line held rest found reply settles. shows.none _;
+  only_replies = λ line held rest found reply only_replies. shows.none _;
   inserts = shows.inserts;
   lacks_room = λ line held rest found rec command level absent full. shows.none _;
   deletes = shows.deletes;

@@ -26,7 +26,7 @@ use Rattle.hb_consol.specs.ConsolidatorRows.{IsMergingOf}
 use Rattle.hb_poster.specs.PosterRows.{IsPostingOf}
 use Rattle.hb_core.specs.Steps.{TakesJob, TakesMerging}
 use Rattle.hb_core.proofs.Table.MergerMoves.{StaysMerger, no_line}
-use Rattle.hb_core.proofs.Table.EachRow.{Settles, each_row}
+use Rattle.hb_core.proofs.Table.EachRow.{OnlyReplies, each_row}
 
 -- The line stays in hand, and nothing joins the order or is answered.
 pub record GoesOn (activity : Activity) (deed : Deed) : Type 0 where
@@ -110,13 +110,13 @@ ran_out_joins_nothing activity = run_out_is (λ deed. deed.joins ≡ None) activ
 
 -- ---- the rows
 
--- what settles a command is a reply of the order
-settles_inside : (command : Command) (page : LivePage) (reply : Reply) → Settles command page reply → ¬ (StandsOutside reply)
-settles_inside (Insert rec) page reply (twin, there, is) outside = subst StandsOutside is outside
-settles_inside (Delete p) page reply (absent, is) outside = subst StandsOutside is outside
-settles_inside (Lookup p) page reply (inl (found, there, is)) outside = subst StandsOutside is outside
-settles_inside (Lookup p) page reply (inr (absent, is)) outside = subst StandsOutside is outside
-settles_inside (Search area) page reply (ordered, is) outside = subst StandsOutside is outside
+-- a reply alone is one of the order
+only_replies_inside : (command : Command) (page : LivePage) (reply : Reply) → OnlyReplies command page reply → ¬ (StandsOutside reply)
+only_replies_inside (Insert rec) page reply (twin, there, is) outside = subst StandsOutside is outside
+only_replies_inside (Delete p) page reply (absent, is) outside = subst StandsOutside is outside
+only_replies_inside (Lookup p) page reply (inl (found, there, is)) outside = subst StandsOutside is outside
+only_replies_inside (Lookup p) page reply (inr (absent, is)) outside = subst StandsOutside is outside
+only_replies_inside (Search area) page reply (ordered, is) outside = subst StandsOutside is outside
 
 module _ (m : Machine) (fetched : StoreState) where
   stays_in_hand : (activity : Activity) (deed : Deed) → StaysMerger activity deed → LineFate m activity deed
@@ -132,7 +132,7 @@ module _ (m : Machine) (fetched : StoreState) where
       })
       (λ its page wants hand. record {
         passes = λ line held rest found p goal leaf row. goes m _ _ refl (λ at. refl) refl (λ never. never);
-        settles = λ line held rest found reply settles. effect m _ line reply _ refl refl refl (λ at. refl) (settles_inside line.command page reply settles);
+        only_replies = λ line held rest found reply alone. effect m _ line reply _ refl refl refl (λ at. refl) (only_replies_inside line.command page reply alone);
         inserts = λ line held rest found rec command absent room. effect m _ line replies.Done _ refl refl refl (λ at. refl) (λ never. never);
         lacks_room = λ line held rest found rec command level absent full. goes m _ _ refl (λ at. refl) refl (λ never. never);
         deletes = λ line held rest found p there command stands. effect m _ line replies.Done _ refl refl refl (λ at. refl) (λ never. never);

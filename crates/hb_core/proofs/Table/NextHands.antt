@@ -29,7 +29,7 @@ hand_after now activity wanted deed row = each_row now KeepsHand activity wanted
     })
     (λ its page wants hand. record {
       passes = λ line held rest found p goal leaf row. record { kind = refl; hand = inr refl };
-      settles = λ line held rest found reply settles. record { kind = refl; hand = inl refl };
+      only_replies = λ line held rest found reply alone. record { kind = refl; hand = inl refl };
       inserts = λ line held rest found rec command absent room. record { kind = refl; hand = inl refl };
       lacks_room = λ line held rest found rec command level absent full. record { kind = refl; hand = inr refl };
       deletes = λ line held rest found p there command stands. record { kind = refl; hand = inl refl };

@@ -140,7 +140,7 @@ module _ (m : Machine) (actor : ℕ) (fetched : StoreState) where
       })
       (λ its page at_hand hand. record {
         passes = λ line held rest found p goal leaf row is. goes_on its.page page p (at.SessionWalk line (Some its.page) rest found) leaf hand.live refl goal refl row;
-        settles = λ line held rest found reply settles is. rests _ refl (λ st. refl) refl;
+        only_replies = λ line held rest found reply alone is. rests _ refl (λ st. refl) refl;
         inserts = λ line held rest found rec command absent room is. rests _ refl (λ st. refl) refl;
         lacks_room = λ line held rest found rec command level absent full is. inr (inr (inl (record {
           line = line;

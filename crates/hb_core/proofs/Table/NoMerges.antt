@@ -85,7 +85,7 @@ module _ (m : Machine) (fetched : StoreState) where
       })
       (λ its page wants hand. record {
         passes = λ line held rest found p goal leaf row none. off _ (owed_none page p leaf) refl tt;
-        settles = λ line held rest found reply settles none. off _ (All-nil IsNoMerge) refl tt;
+        only_replies = λ line held rest found reply alone none. off _ (All-nil IsNoMerge) refl tt;
         inserts = λ line held rest found rec command absent room none. off _ (All-nil IsNoMerge) refl tt;
         lacks_room = λ line held rest found rec command level absent full none. off _ (All-nil IsNoMerge) refl tt;
         deletes = λ line held rest found p there command stands none. off _ (All-nil IsNoMerge) refl tt;

@@ -53,7 +53,7 @@ saying_of m activity wanted deed row = each_row m (RowSaying m) activity wanted 
     })
     (λ its page wants hand. record {
       passes = λ line held rest found p goal leaf row. inl (record { says = refl; takes = refl });
-      settles = λ line held rest found reply settles. inl (record { says = refl; takes = refl });
+      only_replies = λ line held rest found reply alone. inl (record { says = refl; takes = refl });
       inserts = λ line held rest found rec command absent room. inl (record { says = refl; takes = refl });
       lacks_room = λ line held rest found rec command level absent full. inl (record { says = refl; takes = refl });
       deletes = λ line held rest found p there command stands. inl (record { says = refl; takes = refl });

@@ -14,10 +14,10 @@ use Rattle.hb_activity.specs.Deeds.{Answers, Deed, Says}
 use Rattle.hb_core.proofs.Table.LineFates.{LineFate, fate_given_up, fate_ran_out, fate_row, idle_never, merge_waits_never, post_waits_never}
 use Rattle.hb_core.proofs.Table.MergerMoves.{Waits}
 use Rattle.hb_core.proofs.Table.StepKinds.{each_step, rest_kind}
-use Rattle.hb_core.proofs.Orders.Turns.{waits_none}
+use Rattle.hb_core.proofs.Orders.Sequences.{waits_none}
 use Rattle.hb_core.proofs.Table.Ways.{KeepsAllButDisk, same_answers, same_order, forces_so, meets_so, more_so, stays_so}
 use Rattle.hb_core.specs.KeptOrder.{StandsOutside}
-use Rattle.hb_core.specs.KeptTurns.{LinesInTurn, awaited_number}
+use Rattle.hb_core.specs.KeptSequence.{LinesInSequence, awaited_number}
 use Rattle.hb_core.specs.Machines.{Machine, if_some}
 use Rattle.hb_core.specs.Performing.{Performs, given_by, outcome_of}
 use Rattle.hb_core.specs.Steps.{StepsTo, Works}
@@ -69,7 +69,7 @@ pub record LinesStay (m new : Machine) : Type 0 where
 abbrev pub LinesAfter : Machine → ℕ → Machine → Type 0
 LinesAfter m actor new = LinesStay m new ⊎ LineJoins m actor new ⊎ LineAnswered m actor new ⊎ PlaceSettled m actor new
 
-module _ (m : Machine) (actor : ℕ) (outcome : Outcome) (new : Machine) (turn : LinesInTurn m) where
+module _ (m : Machine) (actor : ℕ) (outcome : Outcome) (new : Machine) (sequence : LinesInSequence m) where
   stays : KeepsAllButDisk m new → LinesAfter m actor new
   stays keeps = inl (record { order = keeps.order; answered = keeps.answered; awaits = λ other number place reply is. sym (ap (λ (f : ℕ → Activity). f other) keeps.activity) ∙ is })
 
@@ -93,7 +93,7 @@ module _ (m : Machine) (actor : ℕ) (outcome : Outcome) (new : Machine) (turn :
   quiet fetched deed says joins none performs = inl (record { order = same_order m actor outcome new fetched deed performs joins; answered = same_answers m actor outcome new fetched deed performs says; awaits = as_before fetched deed performs none })
 
   hand_is_next : (line : Line) → line_in_hand (m.activity actor) ≡ Some line → next_line actor m.answered m.lines ≡ Some line
-  hand_is_next line is = subst (λ (o : Option Line). IfSome o (λ (l : Line). next_line actor m.answered m.lines ≡ Some l)) is (turn.in_hand actor)
+  hand_is_next line is = subst (λ (o : Option Line). IfSome o (λ (l : Line). next_line actor m.answered m.lines ≡ Some l)) is (sequence.in_hand actor)
 
   joins_or : (fetched : StoreState) (deed : Deed) (line : Line) (said : Reply) (place : ℕ) → Performs m fetched actor deed outcome new → deed.next ≡ at.SessionAwait line.number said place
       → (other number elsewhere : ℕ) (reply : Reply) → new.activity other ≡ at.SessionAwait number reply elsewhere → (m.activity other ≡ at.SessionAwait number reply elsewhere) ⊎ (said ≡ reply)

@@ -110,14 +110,14 @@ module _ (m : Machine) (actor : ℕ) (outcome : Outcome) (new : Machine) where
   record KeepsStore (fetched : StoreState) : Type 0 where
     pub meta : fetched.meta ≡ m.store.meta
     pub log : fetched.log ≡ m.store.log
-    pub imaged : fetched.imaged ≡ m.store.imaged
+    pub in_log : fetched.in_log ≡ m.store.in_log
     pub memory : (id : ℕ) (page : Page) → MustStay m id → in_memory m.store id ≡ Some page → in_memory fetched id ≡ Some page
 
   brought : (may : ℕ → Type 0) (fetched : StoreState) → Brings m may fetched → KeepsStore fetched
   brought may fetched brings = record {
     meta = brings.rest.meta;
     log = brings.rest.log;
-    imaged = brings.rest.imaged;
+    in_log = brings.rest.in_log;
     memory = λ id page must there. brings.stays id must (subst (λ (o : Option Page). IsSome o) (sym there) refl) ∙ there;
   }
 
@@ -136,14 +136,14 @@ module _ (m : Machine) (actor : ℕ) (outcome : Outcome) (new : Machine) where
         files = performs.files ∙ ap (λ (o : Option Op). files_after o m.files) aside.op;
         meta = ap (λ (st : StoreState). st.meta) store ∙ keeps.meta;
         log = ap (λ (st : StoreState). st.log) store ∙ keeps.log;
-        imaged = ap (λ (st : StoreState). st.imaged) store ∙ keeps.imaged;
+        in_log = ap (λ (st : StoreState). st.in_log) store ∙ keeps.in_log;
         memory = λ id page must there. ap (λ (st : StoreState). in_memory st id) store ∙ keeps.memory id page must there;
       }
 
   refused : RefusesSearch m actor outcome new → ChangesNoFile m actor outcome new
   refused one =
       aside_by m.store _ (record { op = refl; takes = refl; adds = refl; joins = refl; says = (inr (one.idle, subst (λ (o : Option Line). IsSomeAnd o (λ l. l.number ≡ one.line.number)) (sym one.next) refl), inl refl) })
-      (record { meta = refl; log = refl; imaged = refl; memory = λ id page must there. there }) one.performs
+      (record { meta = refl; log = refl; in_log = refl; memory = λ id page must there. there }) one.performs
 
   abandoned : Abandons m actor outcome new → ChangesNoFile m actor outcome new
   abandoned one =
@@ -154,12 +154,12 @@ module _ (m : Machine) (actor : ℕ) (outcome : Outcome) (new : Machine) where
   carried other said says is keeps = subst (λ (n : Machine). ChangesNoFile m actor outcome n) (sym is) (subst (λ (o : Outcome). ChangesNoFile m actor o other) (sym says) keeps)
 
   failed : FailsToWrite m 9 outcome new → ChangesNoFile m actor outcome new
-  failed one = carried _ _ one.says one.stops (record { says = tt; lines = refl; jobs = refl; order = refl; files = refl; meta = refl; log = refl; imaged = refl; memory = λ id page must there. there })
+  failed one = carried _ _ one.says one.stops (record { says = tt; lines = refl; jobs = refl; order = refl; files = refl; meta = refl; log = refl; in_log = refl; memory = λ id page must there. there })
 
   damaged : MeetsBadPage m actor outcome new → ChangesNoFile m actor outcome new
   damaged one =
       let keeps = brought _ one.fetched one.brings in
-      carried _ _ one.says one.stops (record { says = tt; lines = refl; jobs = refl; order = refl; files = refl; meta = keeps.meta; log = keeps.log; imaged = keeps.imaged; memory = keeps.memory })
+      carried _ _ one.says one.stops (record { says = tt; lines = refl; jobs = refl; order = refl; files = refl; meta = keeps.meta; log = keeps.log; in_log = keeps.in_log; memory = keeps.memory })
 
 pub aside_changes_no_file : AsideChangesNoFile
 aside_changes_no_file m actor outcome new (inl one) = refused m actor outcome new one

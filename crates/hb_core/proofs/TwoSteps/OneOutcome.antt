@@ -127,7 +127,7 @@ module _ (m : Machine) (files : Files) (tells : m.files ≡ Some files) (may mig
     turn = second.rest.turn ∙ sym first.rest.turn;
     meta = second.rest.meta ∙ sym first.rest.meta;
     log = second.rest.log ∙ sym first.rest.log;
-    imaged = second.rest.imaged ∙ sym first.rest.imaged;
+    in_log = second.rest.in_log ∙ sym first.rest.in_log;
     stopped = second.rest.stopped ∙ sym first.rest.stopped;
   }
 
@@ -155,7 +155,7 @@ module _ (m : Machine) (actor : ℕ) (outcome other : Outcome) (new next : Machi
 
   one_by_deed : (d e : Deed) → d ≡ e → walk_held d.next ≡ None → Performs m m.store actor d outcome new → Performs m m.store actor e other next → AreOneButMemory new next
   one_by_deed d e same walk first second =
-      one_performed m.store m.store (record { turn = refl; meta = refl; log = refl; imaged = refl; stopped = refl }) (λ id a b one two. same_Some a b (sym one ∙ two)) m actor d outcome other new next
+      one_performed m.store m.store (record { turn = refl; meta = refl; log = refl; in_log = refl; stopped = refl }) (λ id a b one two. same_Some a b (sym one ∙ two)) m actor d outcome other new next
       (nowhere d (walk_held d.next) walk) first (subst (λ (x : Deed). Performs m m.store actor x other next) (sym same) second)
 
   one_by_rows : (files : Files) → m.files ≡ Some files → HoldsPagesOfFile m → KnowsRoom m → DoesRow m actor outcome new → DoesRow m actor other next → AreOneButMemory new next

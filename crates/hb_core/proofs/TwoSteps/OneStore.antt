@@ -28,9 +28,9 @@ use Rattle.hb_log_codec.specs.Groups.{Logged, group_bytes}
 use Rattle.hb_ops.specs.Files.{if_live}
 use Rattle.hb_ops.specs.Operations.{Change, IsAllowedOn, change_of, reads_of}
 use Rattle.hb_store.specs.Calls.{IsAllowedHere, KeepsAllButPages, change_here, read_here}
-use Rattle.hb_store.specs.Making.{group_here, image_needed, images_needed}
+use Rattle.hb_store.specs.Making.{group_here, page_image_needed, page_images_needed}
 use Rattle.hb_store.specs.Replay.{set_pages, has_page, is_among}
-use Rattle.hb_store.specs.States.{StoreState, in_memory, is_imaged}
+use Rattle.hb_store.specs.States.{StoreState, in_memory, is_in_log}
 use Rattle.hb_wal.specs.Log.{LogState, Waiting}
 use Rattle.hb_ops.proofs.Facts.PageNumberLaws.{live_so}
 
@@ -47,7 +47,7 @@ one_of_same new next is = subst (AreOneButMemory new) is (record {
   stop = refl;
   files = refl;
   clock = refl;
-  store = record { turn = refl; meta = refl; log = refl; imaged = refl; stopped = refl };
+  store = record { turn = refl; meta = refl; log = refl; in_log = refl; stopped = refl };
   pages = λ id a b one two. same_Some a b (sym one ∙ two);
 })
 
@@ -100,8 +100,8 @@ module _ (f g : StoreState) (alike : KeepsAllButPages f g) (agree : Agree f g) w
   same_meta : f.meta ≡ g.meta
   same_meta = sym alike.meta
 
-  same_imaged : (id : ℕ) → is_imaged f id ≡ is_imaged g id
-  same_imaged id = ap (λ (s : set.FinSet nat_cmp). set.contains s id) (sym alike.imaged)
+  same_in_log : (id : ℕ) → is_in_log f id ≡ is_in_log g id
+  same_in_log id = ap (λ (s : set.FinSet nat_cmp). set.contains s id) (sym alike.in_log)
 
   -- a page that both have in use is the same
   same_there : (id : ℕ) (a b : LivePage) → live_here f id ≡ Some a → live_here g id ≡ Some b → in_memory f id ≡ in_memory g id
@@ -128,19 +128,19 @@ module _ (f g : StoreState) (alike : KeepsAllButPages f g) (agree : Agree f g) w
   reads_alike (Post parent at inner area) one two = (one_read parent (parent ∷ []) refl (page_read (Post parent at inner area) f.meta _ _ _ one) (page_read (Post parent at inner area) g.meta _ _ _ two), tt)
   reads_alike (Grow fresh after) one two = tt
 
-  -- so they need the same images
-  same_images : (ids : List ℕ) → Alike ids → images_needed (in_memory f) (is_imaged f) ids ≡ images_needed (in_memory g) (is_imaged g) ids
-  same_images [] none = refl
-  same_images (id ∷ rest) (same, more) =
-      ap (λ (o : Option Page). image_needed id o (is_imaged f id) ++ images_needed (in_memory f) (is_imaged f) rest) same
-      ∙ ap (λ (b : Bool). image_needed id (in_memory g id) b ++ images_needed (in_memory f) (is_imaged f) rest) (same_imaged id)
-      ∙ ap (λ (l : List (ℕ × Page)). image_needed id (in_memory g id) (is_imaged g id) ++ l) (same_images rest more)
+  -- so they need the same page images
+  same_page_images : (ids : List ℕ) → Alike ids → page_images_needed (in_memory f) (is_in_log f) ids ≡ page_images_needed (in_memory g) (is_in_log g) ids
+  same_page_images [] none = refl
+  same_page_images (id ∷ rest) (same, more) =
+      ap (λ (o : Option Page). page_image_needed id o (is_in_log f id) ++ page_images_needed (in_memory f) (is_in_log f) rest) same
+      ∙ ap (λ (b : Bool). page_image_needed id (in_memory g id) b ++ page_images_needed (in_memory f) (is_in_log f) rest) (same_in_log id)
+      ∙ ap (λ (l : List (ℕ × Page)). page_image_needed id (in_memory g id) (is_in_log g id) ++ l) (same_page_images rest more)
 
   abbrev group_with : Op → List (ℕ × Page) → Logged
   group_with op images = record { images = images; op = op }
 
   same_group : (op : Op) → Alike (reads_of op) → group_here f op ≡ group_here g op
-  same_group op reads = ap (group_with op) (same_images (reads_of op) reads)
+  same_group op reads = ap (group_with op) (same_page_images (reads_of op) reads)
 
   -- and the same change is made
   change_by : (op : Op) (id : ℕ) → (in_memory f id ≡ in_memory g id) → change_of op f.meta (live_here f id) (read_here f op 1) (read_here f op 2) ≡ change_of op g.meta (live_here g id) (read_here g op 1) (read_here g op 2)
@@ -167,16 +167,16 @@ module _ (f g : StoreState) (alike : KeepsAllButPages f g) (agree : Agree f g) w
       let groups : new.log.groups ≡ next.log.groups =
       first.group ∙ ap (λ (l : List Waiting). l ++ record { bytes = group_bytes (group_here f op); mark = mark } ∷ []) (ap (λ (l : LogState). l.groups) (sym alike.log))
       ∙ ap (λ (x : Logged). g.log.groups ++ record { bytes = group_bytes x; mark = mark } ∷ []) (same_group op reads) ∙ sym second.group in
-      let imaged : (id : ℕ) → is_imaged new id ≡ is_imaged next id =
-      λ id. one.imaged id ∙ ap (λ (c : Change). (has_page id c.pages || (is_among id (reads_of op) || is_imaged f id))) change
-      ∙ ap (λ (b : Bool). (has_page id (change_here g op).pages || (is_among id (reads_of op) || b))) (same_imaged id) ∙ sym (two.imaged id) in
+      let in_log : (id : ℕ) → is_in_log new id ≡ is_in_log next id =
+      λ id. one.in_log id ∙ ap (λ (c : Change). (has_page id c.pages || (is_among id (reads_of op) || is_in_log f id))) change
+      ∙ ap (λ (b : Bool). (has_page id (change_here g op).pages || (is_among id (reads_of op) || b))) (same_in_log id) ∙ sym (two.in_log id) in
       record {
         rest = record {
           turn = two.turn ∙ alike.turn ∙ sym one.turn;
           meta = two.meta ∙ ap (λ (c : Change). c.meta) (sym change) ∙ sym one.meta;
           log = sym (same_log new.log next.log (one.area ∙ ap (λ (l : LogState). l.area) (sym alike.log) ∙ sym two.area) (one.len ∙ ap (λ (l : LogState). l.len) (sym alike.log) ∙ sym two.len)
               (one.written ∙ ap (λ (l : LogState). l.written) (sym alike.log) ∙ sym two.written) groups);
-          imaged = sym (set.same_set nat_cmp_total set.nat_cmp-IsAntisymmetric new.imaged next.imaged imaged);
+          in_log = sym (set.same_set nat_cmp_total set.nat_cmp-IsAntisymmetric new.in_log next.in_log in_log);
           stopped = two.stopped ∙ alike.stopped ∙ sym one.stopped;
         };
         pages = λ id a b x y.

@@ -83,11 +83,11 @@ module _ (meta : Meta) (held : LivePage) (good : IsGoodPage meta (Live held)) (p
   at_leaf mode p wanted (Some l) is wants on box = leaf_found mode l.leaf l.area wanted (first_among p (leaves_of held.frag held.area) l is) wants on box
 
   -- the next page of a walk
-  walk_found : (mode : ℕ → Mode) (marks : Meta) (id : ℕ) (goal : Option (List ℕ)) (now then : Option LivePage) (wanted : Wanted) → now ≡ Some held → then ≡ Some held → in_mode mode (walk_next goal (Some id) marks now) ≡ Some wanted
+  walk_found : (mode : ℕ → Mode) (walk_meta : Meta) (id : ℕ) (goal : Option (List ℕ)) (now then : Option LivePage) (wanted : Wanted) → now ≡ Some held → then ≡ Some held → in_mode mode (walk_next goal (Some id) walk_meta now) ≡ Some wanted
       → page.level ≡ wanted.level → HasBox (box_at then goal) → IsLater held page
-  walk_found mode marks id None now then wanted is was wants on box = cc
-  walk_found mode marks id (Some p) now then wanted is was wants on box =
-      at_leaf mode p wanted (leaf_at held p) refl (subst (λ (o : Option LivePage). in_mode mode (walk_next (Some p) (Some id) marks o) ≡ Some wanted) is wants) on
+  walk_found mode walk_meta id None now then wanted is was wants on box = cc
+  walk_found mode walk_meta id (Some p) now then wanted is was wants on box =
+      at_leaf mode p wanted (leaf_at held p) refl (subst (λ (o : Option LivePage). in_mode mode (walk_next (Some p) (Some id) walk_meta o) ≡ Some wanted) is wants) on
       (subst (λ (o : Option LivePage). HasBox (box_at o (Some p))) was box)
 
   -- the child of a poster's parent

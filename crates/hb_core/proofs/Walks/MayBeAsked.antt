@@ -57,7 +57,7 @@ use Rattle.hb_lemmas.proofs.Options.{some_of_map}
 use Rattle.hb_core.proofs.Machines.AddedJobs.{goal_fits}
 
 pub pages_at_hand_fit : PagesAtHandFit
-pages_at_hand_fit m fetched id page keeps brings live = (keeps.marks_in_place.layout, (fetched_good m AnyPage fetched keeps.pages_of_file brings id page live).1)
+pages_at_hand_fit m fetched id page keeps brings live = (keeps.meta_within_limits.layout, (fetched_good m AnyPage fetched keeps.pages_of_file brings id page live).1)
 
 -- ---- how many attributes the point of a walk has
 
@@ -96,11 +96,11 @@ module _ (meta : Meta) (page : LivePage) (good : IsGoodPage meta (Live page)) (p
     at_leaf None mode wanted is wants box = cc
     at_leaf (Some l) mode wanted is wants box = on_leaf l.leaf l.area before.level mode wanted (leaf_has l is) wants box
 
-    onward : (marks : Meta) (id : ℕ) (goal : Option (List ℕ)) (mode : ℕ → Mode) (wanted : Wanted) (now then : Option LivePage) → goal ≡ Some p → now ≡ Some before → then ≡ Some before
-        → in_mode mode (walk_next goal (Some id) marks now) ≡ Some wanted → IsFound (box_at then goal) → Holds page.area p
-    onward marks id goal mode wanted now then goal_is is was wants box =
-        let at_goal = subst (λ (g : Option (List ℕ)). in_mode mode (walk_next g (Some id) marks now) ≡ Some wanted) goal_is wants in
-        let wants_at = subst (λ (o : Option LivePage). in_mode mode (walk_next (Some p) (Some id) marks o) ≡ Some wanted) is at_goal in
+    onward : (walk_meta : Meta) (id : ℕ) (goal : Option (List ℕ)) (mode : ℕ → Mode) (wanted : Wanted) (now then : Option LivePage) → goal ≡ Some p → now ≡ Some before → then ≡ Some before
+        → in_mode mode (walk_next goal (Some id) walk_meta now) ≡ Some wanted → IsFound (box_at then goal) → Holds page.area p
+    onward walk_meta id goal mode wanted now then goal_is is was wants box =
+        let at_goal = subst (λ (g : Option (List ℕ)). in_mode mode (walk_next g (Some id) walk_meta now) ≡ Some wanted) goal_is wants in
+        let wants_at = subst (λ (o : Option LivePage). in_mode mode (walk_next (Some p) (Some id) walk_meta o) ≡ Some wanted) is at_goal in
         let box_there : IsFound (box_at (Some before) (Some p)) = subst (λ (o : Option LivePage). IsFound (box_at o (Some p))) was (subst (λ (g : Option (List ℕ)). IsFound (box_at then g)) goal_is box) in
         at_leaf (leaf_at before p) mode wanted refl wants_at box_there
 

@@ -15,7 +15,7 @@ use Rattle.hb_core.proofs.Memory.StillThere.{may_or_not}
 use Rattle.hb_core.specs.Asking.{looked_live, wanted_by}
 use Rattle.hb_core.specs.Keeps.{HasNobodyElse, HasSoundFile, LatchesFit, WalksInSpace}
 use Rattle.hb_core.specs.Machines.{Files, Machine, current_file}
-use Rattle.hb_core.specs.WaitingLaws.{ComesLater, NobodyWaitsInACircle, WaitInTurn, AwaitsActor, WantsItsOwn}
+use Rattle.hb_core.specs.WaitingLaws.{ComesLater, NobodyWaitsInACircle, WaitInSequence, AwaitsActor, WantsItsOwn}
 use Rattle.hb_latch.specs.Modes.{goes_beside}
 use Rattle.hb_latch.specs.Tables.{MayLatch, mode_at}
 use Rattle.hb_ops.specs.Files.{FileState}
@@ -78,7 +78,7 @@ module _ (m : Machine) (files : Files) (fit : LatchesFit m) (has : HasSoundFile 
       never : IsTrue (goes_beside Update Update) → ⊥
       never beside = cc
 
-  first_wants : (actor : ℕ) (rest : List ℕ) (last : ℕ) → WaitInTurn m actor rest last → (wanted : Wanted) × (wanted_by m actor ≡ Some wanted)
+  first_wants : (actor : ℕ) (rest : List ℕ) (last : ℕ) → WaitInSequence m actor rest last → (wanted : Wanted) × (wanted_by m actor ≡ Some wanted)
   first_wants actor [] last waits = (waits.wanted, waits.wants_it)
   first_wants actor (next ∷ rest) last (waits, more) = (waits.wanted, waits.wants_it)
 
@@ -87,9 +87,9 @@ module _ (m : Machine) (files : Files) (fit : LatchesFit m) (has : HasSoundFile 
   Ends [] wanted last its = IsOwn wanted last its
   Ends (next ∷ rest) wanted last its = ⊥
 
-  pub in_turn : (rest : List ℕ) (actor last : ℕ) (wanted its : Wanted) → wanted_by m actor ≡ Some wanted → wanted_by m last ≡ Some its → WaitInTurn m actor rest last → ComesLater (current_file files) wanted.page its.page ⊎ Ends rest wanted last its
-  in_turn [] actor last wanted its wants its_wants waits = one_wait actor last wanted its wants its_wants waits
-  in_turn (next ∷ []) actor last wanted its wants its_wants (waits, more) =
+  pub in_sequence : (rest : List ℕ) (actor last : ℕ) (wanted its : Wanted) → wanted_by m actor ≡ Some wanted → wanted_by m last ≡ Some its → WaitInSequence m actor rest last → ComesLater (current_file files) wanted.page its.page ⊎ Ends rest wanted last its
+  in_sequence [] actor last wanted its wants its_wants waits = one_wait actor last wanted its wants its_wants waits
+  in_sequence (next ∷ []) actor last wanted its wants its_wants (waits, more) =
       both (one_wait actor next wanted more.wanted wants more.wants_it waits) (one_wait next last more.wanted its more.wants_it its_wants more)
     where
       both : ComesLater (current_file files) wanted.page more.wanted.page ⊎ IsOwn wanted next more.wanted → ComesLater (current_file files) more.wanted.page its.page ⊎ IsOwn more.wanted last its → ComesLater (current_file files) wanted.page its.page ⊎ ⊥
@@ -98,25 +98,25 @@ module _ (m : Machine) (files : Files) (fit : LatchesFit m) (has : HasSoundFile 
       both (inr a) (inl b) = inl (subst (λ (n : ℕ). ComesLater (current_file files) n its.page) a.same b)
       both (inr a) (inr b) = absurd (beside_updates (mode_at m.latches next wanted.page) (mode_at m.latches last wanted.page) a.holds (ap (mode_at m.latches last) (sym a.same) ∙ b.holds)
           (fit.compatible next last wanted.page (λ same. more.kept.another (sym same))))
-  in_turn (next ∷ second ∷ rest) actor last wanted its wants its_wants (waits, more) =
+  in_sequence (next ∷ second ∷ rest) actor last wanted its wants its_wants (waits, more) =
       let middle = first_wants next (second ∷ rest) last more in
-      both middle.0 (one_wait actor next wanted middle.0 wants middle.1 waits) (in_turn (second ∷ rest) next last middle.0 its middle.1 its_wants more)
+      both middle.0 (one_wait actor next wanted middle.0 wants middle.1 waits) (in_sequence (second ∷ rest) next last middle.0 its middle.1 its_wants more)
     where
       both : (middle : Wanted) → ComesLater (current_file files) wanted.page middle.page ⊎ IsOwn wanted next middle → ComesLater (current_file files) middle.page its.page ⊎ ⊥ → ComesLater (current_file files) wanted.page its.page ⊎ ⊥
       both middle (inl a) (inl b) = inl (later_on (current_file files) wanted.page middle.page its.page a b)
       both middle (inr a) (inl b) = inl (subst (λ (n : ℕ). ComesLater (current_file files) n its.page) a.same b)
       both middle a (inr never) = absurd never
 
-  comes_back : (rest : List ℕ) (actor : ℕ) (wanted : Wanted) → WaitInTurn m actor rest actor → ComesLater (current_file files) wanted.page wanted.page ⊎ Ends rest wanted actor wanted → ⊥
+  comes_back : (rest : List ℕ) (actor : ℕ) (wanted : Wanted) → WaitInSequence m actor rest actor → ComesLater (current_file files) wanted.page wanted.page ⊎ Ends rest wanted actor wanted → ⊥
   comes_back [] actor wanted waits (inl later) = not_itself (current_file files) wanted.page later
   comes_back [] actor wanted waits (inr own) = waits.kept.another refl
   comes_back (next ∷ rest) actor wanted waits (inl later) = not_itself (current_file files) wanted.page later
   comes_back (next ∷ rest) actor wanted waits (inr never) = never
 
-  no_circle : (actor : ℕ) (rest : List ℕ) → WaitInTurn m actor rest actor → ⊥
+  no_circle : (actor : ℕ) (rest : List ℕ) → WaitInSequence m actor rest actor → ⊥
   no_circle actor rest waits =
       let wants = first_wants actor rest actor waits in
-      comes_back rest actor wants.0 waits (in_turn rest actor actor wants.0 wants.0 wants.1 wants.1 waits)
+      comes_back rest actor wants.0 waits (in_sequence rest actor actor wants.0 wants.0 wants.1 wants.1 waits)
 
 pub nobody_waits_in_a_circle : NobodyWaitsInACircle
 nobody_waits_in_a_circle m files actor rest fit has nobody walks waits = no_circle m files fit has nobody walks actor rest waits

@@ -6,7 +6,7 @@ use Rattle.hb_latch.specs.declared.modes.Mode.{Mode}
 use Rattle.hb_activity.specs.declared.wanting.Wanted.{Wanted}
 use Rattle.hb_activity.specs.declared.activities.Activity.{Activity}
 use Rattle.hb_activity.specs.declared.activities.Activity.TheVariants as at
-use Rattle.hb_core.proofs.Walks.NoCircle.{held_there, in_turn}
+use Rattle.hb_core.proofs.Walks.NoCircle.{held_there, in_sequence}
 use Rattle.hb_core.proofs.Memory.StillThere.{may_or_not}
 use Rattle.hb_core.specs.Asking.{wanted_by}
 use Rattle.hb_core.specs.Keeps.{HasNoOtherLatches, HasNobodyElse, HasSoundFile, LatchesFit, WalksInSpace}
@@ -68,7 +68,7 @@ module _ (m : Machine) (files : Files) (fit : LatchesFit m) (has : HasSoundFile 
         its = third.waits.wanted;
         wants = third.waits.wants_it;
         works = second.works;
-        later = by (in_turn m files fit has nobody walks (first.other ∷ []) actor second.other wanted third.waits.wanted wants third.waits.wants_it (first.waits, second.waits));
+        later = by (in_sequence m files fit has nobody walks (first.other ∷ []) actor second.other wanted third.waits.wanted wants third.waits.wants_it (first.waits, second.waits));
       }
     where
       by : {a b : ℕ} → ComesLater (current_file files) a b ⊎ ⊥ → ComesLater (current_file files) a b

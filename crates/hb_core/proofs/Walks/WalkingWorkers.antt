@@ -68,7 +68,7 @@ walk_after m actor now wanted deed wants row = each_row now (λ activity deed. m
     })
     (λ its page at_hand hand. record {
       passes = λ line held rest found p goal leaf row is. inl refl;
-      settles = λ line held rest found reply settles is. inl refl;
+      only_replies = λ line held rest found reply alone is. inl refl;
       inserts = λ line held rest found rec command absent room is. inl refl;
       lacks_room = λ line held rest found rec command level absent full is. inl refl;
       deletes = λ line held rest found p there command stands is. inl refl;

@@ -1,4 +1,4 @@
--- What is allowed of an operation, whatever it is: the page number that it takes, the high mark behind it, and the pages
+-- What is allowed of an operation, whatever it is: the page number that it takes, the highest page behind it, and the pages
 -- that it reads.
 use Rattle.std.proofs.Common.{◌≡◌, ◌≢◌, inl, inr, ℕ, ◌+◌, ◌≤◌, eqb, [], ◌∷◌, get_or, All, Option, Some, None, IsSome, refl, subst, arith}
 use Rattle.std.proofs.lemmas.Bool.{cases_Bool, eqb-true, eqb-false}
@@ -29,7 +29,7 @@ taken_is meta fresh free_after takes = elim (cases_Bool (eqb meta.free 0)) [
       record { some = omega (arith, at.0, ne); next = omega (arith, at.1); inside = λ h. omega (arith, at.1, h) }
 ]
 
--- ---- the high mark
+-- ---- the highest page
 
 -- it rises by one at most
 pub high_next : (op : Op) (meta : Meta) (first second third : Option LivePage) → IsAllowedOn op meta first second third → (change_of op meta first second third).meta.high ≤ meta.high + 1

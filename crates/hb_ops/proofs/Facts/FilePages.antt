@@ -107,7 +107,7 @@ all_live (Live page ∷ rest) none =
     let more = all_live rest (λ id next is. none (id + 1) next (page_behind (Live page) rest id (page_in_range rest id (Free next) is).0 ∙ is)) in
     omega (arith, more)
 
--- without a free page there is room only behind the high mark
+-- without a free page there is room only behind the highest page
 pub sound_room : (s : FileState) → IsSound s → s.meta.free ≡ 0 → s.meta.high ≡ s.meta.pages → s.meta.live ≡ s.meta.pages
 sound_room s sound none high = by_chain sound.counted.chain sound.counted.chained sound.counted.all
   where

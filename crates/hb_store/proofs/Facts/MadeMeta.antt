@@ -145,7 +145,7 @@ made_numbered (Grow fresh free_after) meta first second third allowed reads =
     let is = taken_is meta fresh free_after allowed.allocates in
     one_numbered (change_of (Grow fresh free_after) meta first second third).meta _ (is.some, omega arith)
 
--- ---- the high mark
+-- ---- the highest page
 
 one_greatest : (high id : ℕ) → id ≤ high → max high id ≡ high
 one_greatest high id le = omega (arith, le)

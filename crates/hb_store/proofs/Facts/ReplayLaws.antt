@@ -12,7 +12,7 @@ use Rattle.hb_log_codec.specs.Groups.{Logged}
 use Rattle.hb_store.specs.Replay.{Replayed, untouched, after_group, MayFollow, replay, MayReplay}
 use Rattle.hb_layout.specs.Offsets.{file_size}
 use Rattle.hb_store.specs.Opening.{IsPageIn, OpensBy, log_bytes, place_bytes, SpellAll}
-use Rattle.hb_store.specs.Parts.{AreImagesOf, Leads}
+use Rattle.hb_store.specs.Parts.{ArePageImagesOf, Leads}
 use Rattle.hb_store.specs.Keeps.{last_of}
 
 -- groups after groups
@@ -46,7 +46,7 @@ Leads-replayed t s (g ∷ gs) (next ∷ later) leads = (leads.0, Leads-replayed 
 
 -- one group more
 pub Leads-append : (t : Replayed) (s : FileState) (gs : List Logged) (later : List FileState) (g : Logged) → Leads t s gs later → MayFollow (replay t gs) g
-    → AreImagesOf (last_of s later) g.images → IsAllowed (last_of s later) g.op → IsLicensed (last_of s later) g.op
+    → ArePageImagesOf (last_of s later) g.images → IsAllowed (last_of s later) g.op → IsLicensed (last_of s later) g.op
     → Leads t s (gs ++ g ∷ []) (later ++ effect_of (last_of s later) g.op ∷ [])
 Leads-append t s [] [] g leads may are allowed licensed = (may, are, allowed, licensed, refl, refl)
 Leads-append t s [] (next ∷ later) g leads may are allowed licensed = cc leads

@@ -22,7 +22,7 @@ was_there old new id (inr left) page is = let never : None ≡ Some page = sym l
 pub reads_in_place : (d : DiskModel) → IsDisk d → (old new : StoreState) (durable : FileState) (later : List FileState) (keeps : StoreKeeps d old durable later) (id : ℕ) → NoneComes old new id → in_memory new id ≡ None
     → (page : Page) → page_of (last_of durable later) id ≡ Some page → (b : List ℕ) → d.told ≡ Some b → SpellsPage (place_bytes keeps.parts.said id b) page
 reads_in_place d is_disk old new durable later keeps id (inl same) none page is b told = keeps.memory.placed id page b (sym same ∙ none) is told
-reads_in_place d is_disk old new durable later keeps id (inr left) none page is b told = keeps.imaged.synced id page left.2 is b (is_disk.as_read b told)
+reads_in_place d is_disk old new durable later keeps id (inr left) none page is b told = keeps.in_log.synced id page left.2 is b (is_disk.as_read b told)
 
 module _ (op : Op) (mark : ℕ) (old new : StoreState) (commits : Commits op mark old new) where
   -- what is in memory after a commit was there, or was made

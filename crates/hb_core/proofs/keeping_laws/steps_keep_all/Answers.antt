@@ -1,5 +1,5 @@
 use Rattle.hb_core.proofs.keeping_laws.steps_keep_all.Goals as goal
-use Rattle.hb_core.proofs.Machines.KeptInTurn.{begun_keeps_all, changes_keep_all, steps_keep_all}
+use Rattle.hb_core.proofs.Machines.KeptInSequence.{begun_keeps_all, changes_keep_all, steps_keep_all}
 
 pub returns-clause-searches : goal.returns-clause-searches
 returns-clause-searches c =

@@ -5,7 +5,7 @@ pub returns-clause-step : goal.returns-clause-step
 returns-clause-step c =
     machine_stays_kept (record {
       pages = c.pages_stay_pages_of_the_file.ensures.pages;
-      marks = c.pages_stay_pages_of_the_file.ensures.marks;
+      within = c.pages_stay_pages_of_the_file.ensures.within;
       latches = c.latches_stay_fit.ensures;
       room = c.room_stays_known.ensures;
     })

@@ -7,7 +7,7 @@ use Rattle.hb_disk.proofs.Facts.RunLaws.{OnlyReads-read}
 use Rattle.hb_lemmas.proofs.Options.{if_value}
 use Rattle.hb_layout.specs.declared.meta.Meta.{Meta}
 use Rattle.hb_ops.specs.Files.{FileState}
-use Rattle.hb_sound.specs.Marks.{HasMarks}
+use Rattle.hb_sound.specs.BoundedMeta.{HasBoundedMeta}
 use Rattle.hb_super.specs.Superblocks.{next_turn, IsNewest}
 use Rattle.hb_store.specs.Opening.{OpensTo}
 use Rattle.hb_store.specs.States.{IsSameLayout}
@@ -55,16 +55,16 @@ opened-requires-clause-room g c =
 pub opened-requires-clause-stands : goal.opened-requires-clause-stands
 opened-requires-clause-stands g c =
     let found = c.in_ok-found.ensures.renewable in
-    let marks = found.marks in
+    let bounded = found.bounded in
     let layout = found.lies.legal.layout in
     record {
       turn_fits = omega (arith, c.turn_after.ensures);
       layout = layout;
-      some = marks.some;
-      high = marks.high;
-      live = omega (arith, marks.live, marks.high);
-      root_fits = omega (arith, marks.root, marks.high, layout.few_pages);
-      free_fits = omega (arith, marks.free, marks.high, layout.few_pages);
+      some = bounded.some;
+      high = bounded.high;
+      live = omega (arith, bounded.live, bounded.high);
+      root_fits = omega (arith, bounded.root, bounded.high, layout.few_pages);
+      free_fits = omega (arith, bounded.free, bounded.high, layout.few_pages);
     }
 
 pub opened-requires-clause-fresh : goal.opened-requires-clause-fresh
@@ -96,7 +96,7 @@ returns-in-Ok-clause-opened g c =
       file = recovered_opened d mid new reads found.turn found.meta (get nat_cmp found.touched) found.count c.in_ok-found.ensures.found
           c.turn_after.result c.turn_after.ensures renewed (λ s. StoreKeeps (g.D.Device.model (disk_of store)) (seen_as store) s []) c.in-Ok.ensures.keeps;
       is_new = new_again c.turn_after.result found.meta (seen_as store) c.in-Ok.ensures.new;
-      marks = let M : Meta → Type 0 = λ m. HasMarks m in subst M (sym c.in-Ok.ensures.new.meta_is) c.in_ok-found.ensures.renewable.marks;
+      bounded = let M : Meta → Type 0 = λ m. HasBoundedMeta m in subst M (sym c.in-Ok.ensures.new.meta_is) c.in_ok-found.ensures.renewable.bounded;
       meta = recovered_meta d mid new reads found.turn found.meta (get nat_cmp found.touched) found.count c.in_ok-found.ensures.found
           c.turn_after.result c.turn_after.ensures renewed (seen_as store).meta c.in-Ok.ensures.new.meta_is;
       said = if_value d.told (λ b. (turn : ℕ) (said : Meta) → IsNewest b turn said → IsSameLayout said (seen_as store).meta) (λ b told turn said newest.

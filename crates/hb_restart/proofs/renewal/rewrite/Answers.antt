@@ -19,70 +19,70 @@ use Rattle.hb_restart.specs.WritingBack.{WritesAll}
 use Rattle.hb_restart.proofs.EachOnce.{behind_all, all_written}
 use Rattle.hb_restart.proofs.renewal.rewrite.Goals as goal
 
-pub returns-in_err-settle-clause-moments : goal.returns-in_err-settle-clause-moments
-returns-in_err-settle-clause-moments g c = λ said s here.
+pub returns-in_err-place_pages-clause-moments : goal.returns-in_err-place_pages-clause-moments
+returns-in_err-place_pages-clause-moments g c = λ said s here.
     let meta = c.args.found.now.meta in
     let touched = get nat_cmp c.args.found.now.touched in
-    Leaves-weaker (g.D.Device.model c.args.disk.now) (g.D.Device.model c.settle.new.disk) (StillOpens c.args.found.now.turn said meta touched s) (λ x. OpensTo x s)
-    (still_to c.args.found.now.turn said meta touched s) (c.settle.ensures.moments said s here)
+    Leaves-weaker (g.D.Device.model c.args.disk.now) (g.D.Device.model c.place_pages.new.disk) (StillOpens c.args.found.now.turn said meta touched s) (λ x. OpensTo x s)
+    (still_to c.args.found.now.turn said meta touched s) (c.place_pages.ensures.moments said s here)
 
 pub returns-clause-moments : goal.returns-clause-moments
 returns-clause-moments g c = λ said s here.
     let d = g.D.Device.model c.args.disk.now in
-    let mid = g.D.Device.model c.settle.new.disk in
+    let mid = g.D.Device.model c.place_pages.new.disk in
     let meta = c.args.found.now.meta in
     let touched = get nat_cmp c.args.found.now.touched in
     Leaves-then d mid (g.D.Device.model c.switch.new.disk) (λ x. OpensTo x s)
-    (Leaves-weaker d mid (StillOpens c.args.found.now.turn said meta touched s) (λ x. OpensTo x s) (still_to c.args.found.now.turn said meta touched s) (c.settle.ensures.moments said s here))
-    (c.switch.ensures.moments said touched s (c.in_ok-settle.ensures.placed said s here))
+    (Leaves-weaker d mid (StillOpens c.args.found.now.turn said meta touched s) (λ x. OpensTo x s) (still_to c.args.found.now.turn said meta touched s) (c.place_pages.ensures.moments said s here))
+    (c.switch.ensures.moments said touched s (c.in_ok-place_pages.ensures.placed said s here))
 
 pub returns-clause-fresh : goal.returns-clause-fresh
 returns-clause-fresh g c =
     let d = g.D.Device.model c.args.disk.now in
-    let mid = g.D.Device.model c.settle.new.disk in
+    let mid = g.D.Device.model c.place_pages.new.disk in
     let new = g.D.Device.model c.switch.new.disk in
     let turn = c.args.found.now.turn in
     let meta = c.args.found.now.meta in
     let touched = get nat_cmp c.args.found.now.touched in
     on_ok_weaker c.switch.result ((said : Meta) (touched : ℕ → Option Page) (s : FileState) → IsPlaced mid turn said meta touched s → IsFresh new (next_turn turn) meta s)
     ((said : Meta) (s : FileState) → IsHere d turn said meta touched s → IsFresh new (next_turn turn) meta s)
-    (λ fresh said s here. fresh said touched s (c.in_ok-settle.ensures.placed said s here))
+    (λ fresh said s here. fresh said touched s (c.in_ok-place_pages.ensures.placed said s here))
     c.switch.ensures.fresh
 
-pub returns-in_err-settle-clause-run : goal.returns-in_err-settle-clause-run
-returns-in_err-settle-clause-run g c =
+pub returns-in_err-place_pages-clause-run : goal.returns-in_err-place_pages-clause-run
+returns-in_err-place_pages-clause-run g c =
     let n = file_size c.args.found.now.meta in
     let high = c.args.found.now.meta.high in
-    runs_given_up c.settle.result c.from_residual.result high (high + 11) n n (g.D.Device.model c.args.disk.now) (g.D.Device.model c.settle.new.disk) (ap is_err c.in_err-settle.was) c.from_residual.ensures.0 (omega arith) (omega arith) c.settle.ensures.run
+    runs_given_up c.place_pages.result c.from_residual.result high (high + 11) n n (g.D.Device.model c.args.disk.now) (g.D.Device.model c.place_pages.new.disk) (ap is_err c.in_err-place_pages.was) c.from_residual.ensures.0 (omega arith) (omega arith) c.place_pages.ensures.run
 
 pub returns-clause-run : goal.returns-clause-run
 returns-clause-run g c =
     let meta = c.args.found.now.meta in
     let n = file_size meta in
-    let mid = g.D.Device.model c.settle.new.disk in
+    let mid = g.D.Device.model c.place_pages.new.disk in
     let new = g.D.Device.model c.switch.new.disk in
-    runs_then meta.high 11 n (g.D.Device.model c.args.disk.now) mid new (not_failed c.settle.result c.in_ok-settle.field-0 c.in_ok-settle.was) c.settle.ensures.run
+    runs_then meta.high 11 n (g.D.Device.model c.args.disk.now) mid new (not_failed c.place_pages.result c.in_ok-place_pages.field-0 c.in_ok-place_pages.was) c.place_pages.ensures.run
     (runs_as {F = IsErr c.switch.result} {G = IsErr c.switch.result} 11 11 (page_offset meta 1) n mid new (omega arith) (front_within meta) (λ f. f) (λ f. f) c.switch.ensures.run)
 
-pub returns-in_err-settle-clause-once : goal.returns-in_err-settle-clause-once
-returns-in_err-settle-clause-once g c = λ said s b here told. c.settle.ensures.once b told
+pub returns-in_err-place_pages-clause-once : goal.returns-in_err-place_pages-clause-once
+returns-in_err-place_pages-clause-once g c = λ said s b here told. c.place_pages.ensures.once b told
 
 pub returns-clause-once : goal.returns-clause-once
 returns-clause-once g c = λ said s b here told.
-    let mid = g.D.Device.model c.settle.new.disk in
+    let mid = g.D.Device.model c.place_pages.new.disk in
     let touched = get nat_cmp c.args.found.now.touched in
-    behind_all (g.D.Device.model c.args.disk.now).clock b c.args.found.now.meta touched mid (g.D.Device.model c.switch.new.disk) (c.in_ok-settle.ensures.written b told)
-    (c.switch.ensures.moments said touched s (c.in_ok-settle.ensures.placed said s here)).later c.switch.ensures.run.beyond
+    behind_all (g.D.Device.model c.args.disk.now).clock b c.args.found.now.meta touched mid (g.D.Device.model c.switch.new.disk) (c.in_ok-place_pages.ensures.written b told)
+    (c.switch.ensures.moments said touched s (c.in_ok-place_pages.ensures.placed said s here)).later c.switch.ensures.run.beyond
 
 pub returns-clause-all : goal.returns-clause-all
 returns-clause-all g c =
     let d = g.D.Device.model c.args.disk.now in
-    let mid = g.D.Device.model c.settle.new.disk in
+    let mid = g.D.Device.model c.place_pages.new.disk in
     let new = g.D.Device.model c.switch.new.disk in
     let meta = c.args.found.now.meta in
     let touched = get nat_cmp c.args.found.now.touched in
     on_ok c.switch.result ((said : Meta) (s : FileState) (b : List ℕ) → IsHere d c.args.found.now.turn said meta touched s → d.told ≡ Some b → WritesAll d.clock b meta touched new)
     (λ said s b here told.
-    let written = c.in_ok-settle.ensures.written b told in
-    all_written d.clock b meta touched mid new written (c.switch.ensures.moments said touched s (c.in_ok-settle.ensures.placed said s here)).later c.switch.ensures.run.beyond
+    let written = c.in_ok-place_pages.ensures.written b told in
+    all_written d.clock b meta touched mid new written (c.switch.ensures.moments said touched s (c.in_ok-place_pages.ensures.placed said s here)).later c.switch.ensures.run.beyond
     (c.switch.ensures.run.few written.tells))

@@ -1,9 +1,9 @@
 use Rattle.hb_sound.specs.Facts.{next_at}
-use Rattle.hb_sound.proofs.Marked.{less_marked, walk_on}
+use Rattle.hb_sound.proofs.Flagged.{less_unflagged, walk_on}
 use Rattle.hb_sound.proofs.chains.walk.Goals as goal
 
 pub loop-next-smaller : goal.loop-next-smaller
-loop-next-smaller c = less_marked c.loop-next.chained c.loop-next.id c.in-Some.ensures.1
+loop-next-smaller c = less_unflagged c.loop-next.chained c.loop-next.id c.in-Some.ensures.1
 
 pub loop-next-preserved : goal.loop-next-preserved
 loop-next-preserved c =

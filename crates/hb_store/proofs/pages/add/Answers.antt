@@ -7,4 +7,4 @@ use Rattle.hb_store.proofs.pages.add.Goals as goal
 
 pub returns-clause-added : goal.returns-clause-added
 returns-clause-added c = λ q.
-    c.in-Ok.ensures.updates.0 q ∙ or_cond (nat_eq c.args.id q) (contains nat_eq c.args.imaged.now q) ∙ ap (λ b. b || contains nat_eq c.args.imaged.now q) (nat_eq_equiv.symm c.args.id q)
+    c.in-Ok.ensures.updates.0 q ∙ or_cond (nat_eq c.args.id q) (contains nat_eq c.args.in_log.now q) ∙ ap (λ b. b || contains nat_eq c.args.in_log.now q) (nat_eq_equiv.symm c.args.id q)

@@ -14,8 +14,8 @@ loop-id-preserved c =
     let cut : drop i ids ≡ get_or ids i 0 ∷ drop (i + 1) ids = rw (add-one, drop-cons ids i 0) refl in
     record {
       added = λ q.
-          add_next q (get_or ids i 0) (drop (i + 1) ids) (contains nat_eq c.loop-id.imaged q) (contains nat_eq c.add.new.imaged q) (c.add.ensures.added q)
-          ∙ ap (λ (l : List ℕ). is_among q l || contains nat_eq c.loop-id.imaged q) (sym cut)
+          add_next q (get_or ids i 0) (drop (i + 1) ids) (contains nat_eq c.loop-id.in_log q) (contains nat_eq c.add.new.in_log q) (c.add.ensures.added q)
+          ∙ ap (λ (l : List ℕ). is_among q l || contains nat_eq c.loop-id.in_log q) (sym cut)
           ∙ c.loop-id.invariant.added q;
       room = omega (arith, c.loop-id.invariant.room, c.add.ensures.room);
       used = omega (arith, c.loop-id.invariant.used, c.add.ensures.room);

@@ -12,11 +12,11 @@ loop-changed-preserved c =
     let some : 0 < length items = omega arith in
     let less = one_less items rest some c.remove-id.ensures.items in
     let one = set_one items rest c.args.changed.items c.remove-id.result (get nat_eq c.set.new.pages) (get nat_eq c.loop-changed.pages) (get nat_eq c.args.pages.now)
-    (contains nat_eq c.add.new.imaged) (contains nat_eq c.loop-changed.imaged) (contains nat_eq c.args.imaged.now)
+    (contains nat_eq c.add.new.in_log) (contains nat_eq c.loop-changed.in_log) (contains nat_eq c.args.in_log.now)
     some c.remove-id.ensures.value c.remove-id.ensures.items c.set.ensures.set c.add.ensures.added c.loop-changed.invariant.set c.loop-changed.invariant.added in
     record {
       room = omega (arith, less, c.loop-changed.invariant.room, c.set.ensures.room);
-      marks = omega (arith, less, c.loop-changed.invariant.marks, c.add.ensures.room);
+      numbers = omega (arith, less, c.loop-changed.invariant.numbers, c.add.ensures.room);
       set = one.set;
-      added = one.marks;
+      added = one.numbers;
     }

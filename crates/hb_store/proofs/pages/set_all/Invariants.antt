@@ -9,9 +9,9 @@ use Rattle.hb_store.proofs.pages.set_all.Given as goal
 abbrev pub invariant-loop-changed : goal.invariant-loop-changed
 invariant-loop-changed l = record {
   room : length l.changed.items ≤ spare l.pages;
-  marks : length l.changed.items ≤ spare_of l.imaged;
+  numbers : length l.changed.items ≤ spare_of l.in_log;
   set : (q : ℕ) → set_pages l.changed.items (get nat_eq l.pages) q ≡ set_pages l.fn.changed.items (get nat_eq l.fn.pages) q;
-  added : (q : ℕ) → (has_page q l.changed.items || contains nat_eq l.imaged q) ≡ (has_page q l.fn.changed.items || contains nat_eq l.fn.imaged q);
+  added : (q : ℕ) → (has_page q l.changed.items || contains nat_eq l.in_log q) ≡ (has_page q l.fn.changed.items || contains nat_eq l.fn.in_log q);
 }
 
 abbrev pub decreases-loop-changed : goal.decreases-loop-changed

@@ -12,10 +12,10 @@ returns-clause-exact c = λ turn meta legal is.
     let log = c.u32_at-2.ensures meta.log (omega (arith, legal.layout.log_limit)) (part 16 20) in
     let dcap = c.u16_at.ensures meta.dcap (omega (arith, legal.layout.dcap_most)) (part 20 22) in
     let icap = c.u16_at-2.ensures meta.icap (omega (arith, legal.layout.icap_most)) (part 22 24) in
-    let root = c.u32_at-3.ensures meta.root legal.marks.root (part 24 28) in
-    let high = c.u32_at-4.ensures meta.high legal.marks.high (part 28 32) in
-    let live = c.u32_at-5.ensures meta.live legal.marks.live (part 32 36) in
-    let free = c.u32_at-6.ensures meta.free legal.marks.free (part 36 40) in
+    let root = c.u32_at-3.ensures meta.root legal.numbers.root (part 24 28) in
+    let high = c.u32_at-4.ensures meta.high legal.numbers.high (part 28 32) in
+    let live = c.u32_at-5.ensures meta.live legal.numbers.live (part 32 36) in
+    let free = c.u32_at-6.ensures meta.free legal.numbers.free (part 36 40) in
     λ i. (
       at 9 i,
       record { k = at 10 i; pages = pages i; log = log i; dcap = dcap i; icap = icap i; root = root i; height = at 11 i; high = high i; live = live i; free = free i },

@@ -9,7 +9,7 @@ use Rattle.hb_super.proofs.hidden.said_in.Goals.{else-found-turn-via-then-found-
 pub returns-then-eq : goal.returns-then-eq
 returns-then-eq c =
     let same = (bytes_eq-Decides c.args.body.now c.as_slice.result.now).0 (sym c.if-eq.ensures) in (
-      record { turn_fits = c.requires.turn; layout = c.if-is_layout.ensures.within refl; marks = c.fields_of-found.ensures.marks },
+      record { turn_fits = c.requires.turn; layout = c.if-is_layout.ensures.within refl; numbers = c.fields_of-found.ensures.numbers },
       same ∙ c.as_slice.ensures ∙ c.body_of.ensures,
     )
 

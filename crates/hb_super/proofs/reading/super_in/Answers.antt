@@ -14,7 +14,7 @@ returns-then-eq c =
     let fits = c.if-belongs.ensures.within refl in
     let same : take (length bytes - 1) (drop 1 bytes) ≡ c.as_slice.result.now = (bytes_eq-Decides (take (length bytes - 1) (drop 1 bytes)) c.as_slice.result.now).0 (sym c.if-eq.ensures) in
     record {
-      legal = record { turn_fits = fits.0; layout = fits.2; marks = c.fields_of-turn.ensures.marks };
+      legal = record { turn_fits = fits.0; layout = fits.2; numbers = c.fields_of-turn.ensures.numbers };
       here = fits.1;
       gate = c.if-bytes.true;
       body = sym (take_rest bytes 1) ∙ same ∙ c.as_slice.ensures ∙ c.body_of.ensures;

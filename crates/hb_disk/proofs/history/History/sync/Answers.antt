@@ -1,6 +1,6 @@
 use Rattle.std.proofs.Common.{◌≡◌}
 use Rattle.hb_disk.specs.declared.event.Change.TheVariants.{Synced}
-use Rattle.hb_disk.proofs.Histories.{sync_noted, unmarked, Passes-noted}
+use Rattle.hb_disk.proofs.Histories.{sync_noted, unnoted, Passes-noted}
 use Rattle.hb_disk.proofs.history.History.sync.Goals as goal
 
 pub returns-clause-syncs : goal.returns-clause-syncs
@@ -8,7 +8,7 @@ returns-clause-syncs c =
     let old = c.args.self.now in
     let new = c.note.new.self in
     sync_noted old.bytes.items old.events.items old.clock old.bytes_fit old.clock_fits c.args.call new.bytes.items new.events.items new.clock c.note.ensures.clock c.note.result
-    c.note.ensures.made c.note.ensures.same c.note.ensures.noted (unmarked c.note.result (new.events.items ≡ old.events.items) old.clock c.note.ensures.why)
+    c.note.ensures.made c.note.ensures.same c.note.ensures.noted (unnoted c.note.result (new.events.items ≡ old.events.items) old.clock c.note.ensures.why)
 
 pub returns-clause-passes : goal.returns-clause-passes
 returns-clause-passes c =

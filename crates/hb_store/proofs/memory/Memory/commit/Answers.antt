@@ -8,7 +8,7 @@ use Rattle.hb_store.specs.Calls.{Commits}
 use Rattle.hb_store.specs.Inside.{memory_seen}
 use Rattle.hb_store.specs.Making.{MakesWell}
 use Rattle.hb_store.specs.Replay.{has_page, is_among}
-use Rattle.hb_store.specs.States.{IsMemory, StoreState, in_memory, is_imaged}
+use Rattle.hb_store.specs.States.{IsMemory, StoreState, in_memory, is_in_log}
 use Rattle.hb_store.proofs.Facts.Changed.{changes_well}
 use Rattle.hb_store.proofs.Committed.{commits_here, memory_after}
 use Rattle.hb_store.proofs.Held.{map_seen, set_seen, state_of, state_same}
@@ -17,10 +17,10 @@ use Rattle.hb_store.proofs.Touches.{on_err}
 use Rattle.hb_store.proofs.memory.Memory.commit.Goals as goal
 
 -- for want of memory nothing changed, but the order of what is held
-kept_here : (c : goal.After-array_drop-changed-in_err-reserve) → state_of c.self.inside.turn c.self.inside.meta c.self.inside.log c.reserve.new.pages c.reserve.new.imaged c.self.inside.stopped ≡ memory_seen c.self.inside
+kept_here : (c : goal.After-array_drop-changed-in_err-reserve) → state_of c.self.inside.turn c.self.inside.meta c.self.inside.log c.reserve.new.pages c.reserve.new.in_log c.self.inside.stopped ≡ memory_seen c.self.inside
 kept_here c =
     let held = c.self.inside in
-    state_same held.turn held.meta held.log held.pages c.reserve.new.pages held.imaged c.reserve.new.imaged held.stopped c.reserve.ensures.pages c.reserve.ensures.imaged
+    state_same held.turn held.meta held.log held.pages c.reserve.new.pages held.in_log c.reserve.new.in_log held.stopped c.reserve.ensures.pages c.reserve.ensures.in_log
 
 pub invariant_of-self : goal.invariant_of-self
 invariant_of-self c = subst IsMemory (sym (kept_here c)) c.self.invariant
@@ -33,7 +33,7 @@ abbrev change_made : (c : goal.After-drop-group-2) → Change
 change_made c = record { meta = c.in_ok-changed.changed.meta; pages = c.in_ok-changed.changed.pages.items }
 
 abbrev seen_after : (c : goal.After-drop-group-2) → StoreState
-seen_after c = state_of c.self.inside.turn c.in_ok-changed.changed.meta c.append.new.self c.set_changed.new.pages c.set_changed.new.imaged c.self.inside.stopped
+seen_after c = state_of c.self.inside.turn c.in_ok-changed.changed.meta c.append.new.self c.set_changed.new.pages c.set_changed.new.in_log c.self.inside.stopped
 
 well_made : (c : goal.After-drop-group-2) → MakesWell c.args.op.now c.args.self.now
 well_made c =
@@ -51,11 +51,11 @@ made c =
     map_seen c.set_changed.new.pages q ∙ c.set_changed.ensures.pages q
     ∙ set_pages-same (change_made c).pages (get nat_eq c.reserve.new.pages) (in_memory st) (λ r. c.reserve.ensures.pages r ∙ sym (map_seen held.pages r) ∙ ap (λ (s : StoreState). in_memory s r) c.self.view_is) q)
     (λ q.
-    set_seen c.set_changed.new.imaged q ∙ c.set_changed.ensures.imaged q
+    set_seen c.set_changed.new.in_log q ∙ c.set_changed.ensures.in_log q
     ∙ ap (λ (b : Bool). has_page q (change_made c).pages || b)
     (c.add_all.ensures.added q
-    ∙ ap (λ (ids : List ℕ). is_among q ids || contains nat_eq c.reserve.new.imaged q) (c.deref-2.ensures.0 ∙ c.reads.ensures)
-    ∙ ap (λ (b : Bool). is_among q (reads_of op) || b) (c.reserve.ensures.imaged q ∙ sym (set_seen held.imaged q) ∙ ap (λ (s : StoreState). is_imaged s q) c.self.view_is)))
+    ∙ ap (λ (ids : List ℕ). is_among q ids || contains nat_eq c.reserve.new.in_log q) (c.deref-2.ensures.0 ∙ c.reads.ensures)
+    ∙ ap (λ (b : Bool). is_among q (reads_of op) || b) (c.reserve.ensures.in_log q ∙ sym (set_seen held.in_log q) ∙ ap (λ (s : StoreState). is_in_log s q) c.self.view_is)))
     (c.append.ensures ∙ ap (λ (s : StoreState). let l : LogState = record { area = s.log.area; len = s.log.len; written = s.log.written; groups = s.log.groups ++ record { bytes = c.deref.result.now; mark = c.args.mark } ∷ [] } in l) c.self.view_is)
 
 pub invariant_of-self-2 : goal.invariant_of-self-2

@@ -6,7 +6,7 @@ use Rattle.hb_ops.specs.Operations.{reads_of}
 use Rattle.hb_log_codec.specs.Groups.{FitsGroup, Logged, group_bytes}
 use Rattle.hb_store.specs.Calls.{read_here}
 use Rattle.hb_store.specs.Making.{group_here}
-use Rattle.hb_store.specs.States.{IsMemory, StoreState, in_memory, is_imaged}
+use Rattle.hb_store.specs.States.{IsMemory, StoreState, in_memory, is_in_log}
 use Rattle.hb_store.proofs.Facts.Changed.{good_readable, limits_of}
 use Rattle.hb_store.proofs.Grouped.{fits_group, good_spelled, if_both, spelled_in}
 use Rattle.hb_store.proofs.Held.{group_seen, map_seen}
@@ -28,14 +28,14 @@ group_for-requires-clause-parts c =
 pub returns-clause-bytes : goal.returns-clause-bytes
 returns-clause-bytes c =
     let st = c.args.self.now in
-    let same = group_seen c.self.inside.pages c.self.inside.imaged st (ap (λ (s : StoreState). s.pages) c.self.view_is) (ap (λ (s : StoreState). s.imaged) c.self.view_is) c.args.op.now in
+    let same = group_seen c.self.inside.pages c.self.inside.in_log st (ap (λ (s : StoreState). s.pages) c.self.view_is) (ap (λ (s : StoreState). s.in_log) c.self.view_is) c.args.op.now in
     subst (λ (l : Logged). IfOk c.group_for.result (λ group. group.items ≡ group_bytes l)) same c.group_for.ensures.bytes
 
 pub returns-clause-fits : goal.returns-clause-fits
 returns-clause-fits c =
     let st = c.args.self.now in
     let is : IsMemory st = subst IsMemory c.self.view_is c.self.invariant in
-    on_ok_weaker c.group_for.result (λ fits. fits_group (in_memory st) (is_imaged st) st.turn st.meta c.args.op.now is.stands is.good (fits st.meta.k c.requires.points)) c.group_for.ensures.op
+    on_ok_weaker c.group_for.result (λ fits. fits_group (in_memory st) (is_in_log st) st.turn st.meta c.args.op.now is.stands is.good (fits st.meta.k c.requires.points)) c.group_for.ensures.op
 
 pub returns-clause-short : goal.returns-clause-short
 returns-clause-short c =

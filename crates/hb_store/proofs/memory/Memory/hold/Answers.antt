@@ -6,10 +6,10 @@ use Rattle.hb_store.proofs.Fetched.{memory_with}
 use Rattle.hb_store.proofs.Held.{state_of, state_put}
 use Rattle.hb_store.proofs.memory.Memory.hold.Goals as goal
 
-put_here : (c : goal.Joined-branch-2) → state_of c.self.inside.turn c.self.inside.meta c.self.inside.log c.insert.new.self c.self.inside.imaged c.self.inside.stopped ≡ with_held c.args.id c.args.page (memory_seen c.self.inside)
+put_here : (c : goal.Joined-branch-2) → state_of c.self.inside.turn c.self.inside.meta c.self.inside.log c.insert.new.self c.self.inside.in_log c.self.inside.stopped ≡ with_held c.args.id c.args.page (memory_seen c.self.inside)
 put_here c =
     let held = c.self.inside in
-    state_put held.turn held.meta held.log held.pages c.insert.new.self held.imaged held.stopped c.args.id c.args.page c.in_ok-insert.ensures.updates.0
+    state_put held.turn held.meta held.log held.pages c.insert.new.self held.in_log held.stopped c.args.id c.args.page c.in_ok-insert.ensures.updates.0
 
 pub invariant_of-self-2 : goal.invariant_of-self-2
 invariant_of-self-2 c =

@@ -1,4 +1,4 @@
--- In a settled file no walk from the root meets a sibling leaf, so each of its steps leads one level down.
+-- In a fully posted file no walk from the root meets a sibling leaf, so each of its steps leads one level down.
 use Rattle.std.proofs.Common.{◌≡◌, ℕ, suc, inl, inr, List, [], ◌∷◌, All, length, slice_index_or, Some, sym, ap, subst, arith}
 use Rattle.hb_space.specs.Boxes.{Area, IsArea, Holds, whole_area}
 use Rattle.hb_space.specs.declared.records.Record.{Record}
@@ -9,7 +9,7 @@ use Rattle.hb_ops.specs.Files.{FileState, live_page}
 use Rattle.hb_ops.specs.Sound.{AreWellMade, ChildrenMatch, IsCovered, SiblingsMatch}
 use Rattle.hb_sound.specs.Laws.{SpaceLaws, TreeLaws}
 use Rattle.hb_sound.specs.PointWalks.{IsWalk, LeadsOn, Sees}
-use Rattle.hb_sound.specs.Settled.{AllPosted, SettledWalksAreShort}
+use Rattle.hb_sound.specs.FullyPosted.{AllPosted, FullyPostedWalksAreShort}
 use Rattle.hb_sound.proofs.HeldSomewhere.{leaf_there}
 use Rattle.hb_sound.proofs.OneLevel.{same_page}
 use Rattle.hb_sound.proofs.Partition.{whole_holds, whole_is_area}
@@ -49,14 +49,14 @@ module _ (laws : TreeLaws) (s : FileState) (made : AreWellMade s) (match : Sibli
   falls [] id page live direct walk = at_end id page live direct walk
   falls (next ∷ rest) id page live direct walk = one_step next rest (falls rest) id page live direct walk.0 walk.1
 
-pub settled_walks_are_short : TreeLaws → SpaceLaws → SettledWalksAreShort
-settled_walks_are_short trees space s p rest last sound settled lone h whole =
+pub fully_posted_walks_are_short : TreeLaws → SpaceLaws → FullyPostedWalksAreShort
+fully_posted_walks_are_short trees space s p rest last sound full lone h whole =
     let top = sound.rooted.top in
     let none = lone top.0 top.1 in
     let direct : DirectlyHolds top.0 p = record {
       inside = whole_holds trees space s p top.0.area h top.3;
       not_given = subst (λ (xs : List (ℕ × Area)). All (λ x. ¬ (Holds x.1 p)) xs) (sym none) (λ k d lt. absurd (omega (arith, lt)));
     } in
-    let fell = falls trees s sound.well_made sound.siblings sound.children sound.covered (whole_is_area trees space s p h) p settled.posted last whole.records whole.ends rest s.meta.root top.0 top.1 direct whole.walk in
+    let fell = falls trees s sound.well_made sound.siblings sound.children sound.covered (whole_is_area trees space s p h) p full.posted last whole.records whole.ends rest s.meta.root top.0 top.1 direct whole.walk in
     let level = top.2 in
     omega (arith, fell, level)

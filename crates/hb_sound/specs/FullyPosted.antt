@@ -1,4 +1,4 @@
--- Settled files, in which nothing is late to be posted, and the parents of a page.
+-- Fully posted files, in which nothing is late to be posted, and the parents of a page.
 use Rattle.std.specs.Prelude.{◌≡◌, ◌⊎◌, ℕ, ◌+◌, ◌≤◌, List, [], length, All, Contains, Some}
 use Rattle.hb_space.specs.declared.form.TheConstants.{KMAX}
 use Rattle.hb_space.specs.Boxes.{Area, Meets}
@@ -22,14 +22,14 @@ AllPosted s = (id name : ℕ) (page named : LivePage) (area : Area) → live_pag
 abbrev pub HasLoneRoot : FileState → Type 0
 HasLoneRoot s = (page : LivePage) → live_page s s.meta.root ≡ Some page → siblings_of page ≡ []
 
--- A settled file. A file of the greatest height, which is 12, grows no more, so its root may keep sibling leaves.
-pub record IsSettled (s : FileState) : Type 0 where
+-- A fully posted file. A file of the greatest height, which is 12, grows no more, so its root may keep sibling leaves.
+pub record IsFullyPosted (s : FileState) : Type 0 where
   pub posted : AllPosted s
   pub grown : (s.meta.height ≡ 12) ⊎ HasLoneRoot s
 
--- In a settled file whose root has no sibling leaf each whole walk from the root has as many pages as the file has levels.
-abbrev pub SettledWalksAreShort : Type 0
-SettledWalksAreShort = (s : FileState) (p rest : List ℕ) (last : ℕ) → IsSound s → IsSettled s → HasLoneRoot s → IsPointOf s p → IsWholeWalk s p s.meta.root rest last →
+-- In a fully posted file whose root has no sibling leaf each whole walk from the root has as many pages as the file has levels.
+abbrev pub FullyPostedWalksAreShort : Type 0
+FullyPostedWalksAreShort = (s : FileState) (p rest : List ℕ) (last : ℕ) → IsSound s → IsFullyPosted s → HasLoneRoot s → IsPointOf s p → IsWholeWalk s p s.meta.root rest last →
     length rest + 1 ≡ s.meta.height
 
 -- Where a page one level up directly holds the whole box of a page, no other page has a child leaf that names that page.

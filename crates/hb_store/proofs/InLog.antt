@@ -1,4 +1,4 @@
--- The pages imaged or made in this turn are those that the groups touch, also after a group more; and once the images of
+-- The pages in this turn's log are those that the groups touch, also after a group more; and once the page images of
 -- a group are set, the touched pages that its operation reads are those in memory.
 use Rattle.std.proofs.Common.{◌≡◌, ◌⊎◌, inl, inr, ℕ, zero, suc, ◌<◌, ◌==◌, Bool, true, false, cond, List, [], ◌∷◌, ◌++◌, length, get_or, All, Option, Some, None, IsSome, IsTrue, refl, sym, ap, ◌∙◌, subst, arith}
 use Rattle.std.specs.Prelude.{◌||◌}
@@ -7,7 +7,7 @@ use Rattle.std.proofs.lemmas.Bool.{cases_Bool, cases_lt, eq-eqb, eqb-false, eqb-
 use Rattle.std.proofs.lemmas.List.{get_or_past}
 use Rattle.std.proofs.lemmas.List.Elements.{All-head, All-tail}
 use Rattle.hb_frag.specs.declared.pages.Page.{Page}
-use Rattle.hb_store.specs.Making.{image_needed, images_needed}
+use Rattle.hb_store.specs.Making.{page_image_needed, page_images_needed}
 use Rattle.hb_store.specs.Replay.{set_pages, has_page, is_among}
 use Rattle.hb_store.proofs.Facts.ReplayLists.{set_one-same, set_one-other}
 use Rattle.hb_lemmas.proofs.Options.{some_value}
@@ -23,27 +23,27 @@ pub none_of : (o : Option Page) → is_some o ≡ false → o ≡ None
 none_of None e = refl
 none_of (Some page) e = cc e
 
--- P are pages in memory, and I says which of them are imaged.
+-- P are pages in memory, and I says which of them are in the log.
 module _ (P : ℕ → Option Page) (I : ℕ → Bool) where
-  imaged_with : (id q : ℕ) (o : Option Page) (b : Bool) (more : List (ℕ × Page)) (among : Bool) → IsSome o → I id ≡ b → (has_page q more || I q) ≡ (among || I q)
-      → (has_page q (image_needed id o b ++ more) || I q) ≡ (((q == id) || among) || I q)
-  imaged_with id q None b more among some is ih = cc some
-  imaged_with id q (Some page) true more among some is ih =
+  in_log_with : (id q : ℕ) (o : Option Page) (b : Bool) (more : List (ℕ × Page)) (among : Bool) → IsSome o → I id ≡ b → (has_page q more || I q) ≡ (among || I q)
+      → (has_page q (page_image_needed id o b ++ more) || I q) ≡ (((q == id) || among) || I q)
+  in_log_with id q None b more among some is ih = cc some
+  in_log_with id q (Some page) true more among some is ih =
       ih ∙ elim (q == id) as (λ b. (q == id) ≡ b → (among || I q) ≡ ((b || among) || I q)) [
         | true ↦ λ here. ap (λ (b : Bool). among || b) (ap I (eqb-true q id here) ∙ is) ∙ or_right among true refl
         | false ↦ λ off. refl
       ] refl
-  imaged_with id q (Some page) false more among some is ih =
+  in_log_with id q (Some page) false more among some is ih =
       elim (q == id) as (λ b. ((b || has_page q more) || I q) ≡ ((b || among) || I q)) [ true ↦ refl | false ↦ ih ]
 
-  -- a number has an image of its group, or is imaged before, exactly where it is one of these or is imaged before
-  pub imaged_all : (ids : List ℕ) (q : ℕ) → All (λ id. IsSome (P id)) ids → (has_page q (images_needed P I ids) || I q) ≡ (is_among q ids || I q)
-  imaged_all [] q some = refl
-  imaged_all (id ∷ rest) q some =
+  -- a number has a page image of its group, or is in the log before, exactly where it is one of these or is in the log before
+  pub in_log_all : (ids : List ℕ) (q : ℕ) → All (λ id. IsSome (P id)) ids → (has_page q (page_images_needed P I ids) || I q) ≡ (is_among q ids || I q)
+  in_log_all [] q some = refl
+  in_log_all (id ∷ rest) q some =
       let S = λ (n : ℕ). IsSome (P n) in
-      imaged_with id q (P id) (I id) (images_needed P I rest) (is_among q rest) (All-head S id rest some) refl (imaged_all rest q (All-tail S id rest some))
+      in_log_with id q (P id) (I id) (page_images_needed P I rest) (is_among q rest) (All-head S id rest some) refl (in_log_all rest q (All-tail S id rest some))
 
-  not_with : (id q : ℕ) (o : Option Page) (b : Bool) (more : List (ℕ × Page)) → P id ≡ o → P q ≡ None → has_page q more ≡ false → has_page q (image_needed id o b ++ more) ≡ false
+  not_with : (id q : ℕ) (o : Option Page) (b : Bool) (more : List (ℕ × Page)) → P id ≡ o → P q ≡ None → has_page q more ≡ false → has_page q (page_image_needed id o b ++ more) ≡ false
   not_with id q None b more is none ih = ih
   not_with id q (Some page) true more is none ih = ih
   not_with id q (Some page) false more is none ih = elim (cases_Bool (q == id)) [
@@ -51,9 +51,9 @@ module _ (P : ℕ → Option Page) (I : ℕ → Bool) where
     | inr off ↦ ap (λ (b : Bool). b || has_page q more) off ∙ ih
   ]
 
-  not_needed : (ids : List ℕ) (q : ℕ) → P q ≡ None → has_page q (images_needed P I ids) ≡ false
+  not_needed : (ids : List ℕ) (q : ℕ) → P q ≡ None → has_page q (page_images_needed P I ids) ≡ false
   not_needed [] q none = refl
-  not_needed (id ∷ rest) q none = not_with id q (P id) (I id) (images_needed P I rest) refl none (not_needed rest q none)
+  not_needed (id ∷ rest) q none = not_with id q (P id) (I id) (page_images_needed P I rest) refl none (not_needed rest q none)
 
   -- why a page is the touched one once the images are set: it was, or it is needed
   abbrev IsRead : ℕ → Page → Bool → (ℕ → Option Page) → Type 0
@@ -63,9 +63,9 @@ module _ (P : ℕ → Option Page) (I : ℕ → Bool) where
   read_later id q page among T off (inl e) = inl e
   read_later id q page among T off (inr (out, at)) = inr (out, ap (λ (b : Bool). b || among) (sym off) ∙ at)
 
-  read_imaged : (q : ℕ) (page : Page) (among : Bool) (T : ℕ → Option Page) → I q ≡ true → IsRead q page among T → T q ≡ Some page
-  read_imaged q page among T on (inl e) = e
-  read_imaged q page among T on (inr (out, at)) = let never : true ≡ false = sym on ∙ out in cc never
+  read_in_log : (q : ℕ) (page : Page) (among : Bool) (T : ℕ → Option Page) → I q ≡ true → IsRead q page among T → T q ≡ Some page
+  read_in_log q page among T on (inl e) = e
+  read_in_log q page among T on (inr (out, at)) = let never : true ≡ false = sym on ∙ out in cc never
 
   read_other : (q : ℕ) (page : Page) (among : Bool) (T U : ℕ → Option Page) → U q ≡ T q → IsRead q page among T → IsRead q page among U
   read_other q page among T U same (inl e) = inl (same ∙ e)
@@ -73,13 +73,13 @@ module _ (P : ℕ → Option Page) (I : ℕ → Bool) where
 
   read_with : (id q : ℕ) (o : Option Page) (b : Bool) (more : List (ℕ × Page)) (among : Bool) (page : Page) → P id ≡ o → I id ≡ b → P q ≡ Some page
       → ((T : ℕ → Option Page) → IsRead q page among T → set_pages more T q ≡ Some page)
-      → (T : ℕ → Option Page) → IsRead q page ((q == id) || among) T → set_pages (image_needed id o b ++ more) T q ≡ Some page
+      → (T : ℕ → Option Page) → IsRead q page ((q == id) || among) T → set_pages (page_image_needed id o b ++ more) T q ≡ Some page
   read_with id q None b more among page is on there go T why = elim (cases_Bool (q == id)) [
     | inl here ↦ let never : Some page ≡ None = sym there ∙ ap P (eqb-true q id here) ∙ is in cc never
     | inr off ↦ go T (read_later id q page among T off why)
   ]
   read_with id q (Some p) true more among page is on there go T why = elim (cases_Bool (q == id)) [
-    | inl here ↦ go T (inl (read_imaged q page ((q == id) || among) T (ap I (eqb-true q id here) ∙ on) why))
+    | inl here ↦ go T (inl (read_in_log q page ((q == id) || among) T (ap I (eqb-true q id here) ∙ on) why))
     | inr off ↦ go T (read_later id q page among T off why)
   ]
   read_with id q (Some p) false more among page is on there go T why =
@@ -89,15 +89,15 @@ module _ (P : ℕ → Option Page) (I : ℕ → Bool) where
         | inr off ↦ go U (read_other q page among T U (set_one-other T id p q (eqb-false q id off)) (read_later id q page among T off why))
       ]
 
-  read_set : (ids : List ℕ) (q : ℕ) (page : Page) → P q ≡ Some page → (T : ℕ → Option Page) → IsRead q page (is_among q ids) T → set_pages (images_needed P I ids) T q ≡ Some page
+  read_set : (ids : List ℕ) (q : ℕ) (page : Page) → P q ≡ Some page → (T : ℕ → Option Page) → IsRead q page (is_among q ids) T → set_pages (page_images_needed P I ids) T q ≡ Some page
   read_set [] q page there T (inl e) = e
   read_set [] q page there T (inr (out, at)) = cc at
   read_set (id ∷ rest) q page there T why =
-      read_with id q (P id) (I id) (images_needed P I rest) (is_among q rest) page refl refl there (λ U later. read_set rest q page there U later) T why
+      read_with id q (P id) (I id) (page_images_needed P I rest) (is_among q rest) page refl refl there (λ U later. read_set rest q page there U later) T why
 
   -- the page at a place of an operation's reads, and none behind them
   pub read_page : (ids : List ℕ) (place : ℕ) (T : ℕ → Option Page) → P 0 ≡ None → T 0 ≡ None → ((q : ℕ) (page : Page) → P q ≡ Some page → IsTrue (I q) → T q ≡ Some page)
-      → All (λ id. IsSome (P id)) ids → set_pages (images_needed P I ids) T (get_or ids place 0) ≡ P (get_or ids place 0)
+      → All (λ id. IsSome (P id)) ids → set_pages (page_images_needed P I ids) T (get_or ids place 0) ≡ P (get_or ids place 0)
   read_page ids place T none untouched agrees some = elim (cases_lt place (length ids)) [
     | inl lt ↦
         let q = get_or ids place 0 in
@@ -109,7 +109,7 @@ module _ (P : ℕ → Option Page) (I : ℕ → Bool) where
         read_set ids q there.0 there.1 T why ∙ sym there.1
     | inr le ↦
         let past : get_or ids place 0 ≡ 0 = get_or_past ids place 0 le in
-        let images = images_needed P I ids in
+        let images = page_images_needed P I ids in
         let off : is_some (set_pages images T 0) ≡ false =
         set_some images T 0 ∙ ap (λ (b : Bool). b || is_some (T 0)) (not_needed ids 0 none) ∙ ap (λ (o : Option Page). is_some o) untouched in
         subst (λ (n : ℕ). set_pages images T n ≡ P n) (sym past) (none_of (set_pages images T 0) off ∙ sym none)

@@ -20,9 +20,9 @@ use Rattle.hb_core.proofs.Table.MergerMoves.{Waits}
 use Rattle.hb_core.proofs.Orders.NextLines.{IsNextOf, answered_before, earlier_answered, next_is, next_stays, now_answered, same_line, still_answered}
 use Rattle.hb_core.proofs.Table.StepKinds.{each_step, rest_kind}
 use Rattle.hb_core.proofs.Table.Ways.{KeepsAllButDisk, same_answers, same_order, forces_so, meets_so, stays_so, more_so}
-use Rattle.hb_core.specs.KeptTurns.{LinesInTurn, awaited_number}
+use Rattle.hb_core.specs.KeptSequence.{LinesInSequence, awaited_number}
 use Rattle.hb_core.specs.Machines.{Machine, if_some, with_activity}
-use Rattle.hb_core.specs.OrderLaws.{TurnsStay}
+use Rattle.hb_core.specs.OrderLaws.{SequenceStays}
 use Rattle.hb_core.specs.Performing.{Performs, given_by, outcome_of}
 use Rattle.hb_core.specs.Steps.{TakesMerging, TakesJob, Works}
 use Rattle.hb_point.specs.SessionRows.{is_answered, next_line}
@@ -36,7 +36,7 @@ waits_none (at.SessionAwait number reply place) none = absurd (none tt)
 waits_none activity none = refl
 
 -- The same of lines, answers, activities and an order by themselves.
-pub record IsTurnOf (lines : List Line) (answered : List Answered) (activity : ℕ → Activity) (entry : Entry) : Type 0 where
+pub record IsSequenceEntry (lines : List Line) (answered : List Answered) (activity : ℕ → Activity) (entry : Entry) : Type 0 where
   pub among : Contains lines entry.line
   pub state : (is_answered entry.line.number answered ≡ true) ⊎ (awaited_number (activity entry.line.session) ≡ Some entry.line.number)
 
@@ -46,35 +46,35 @@ HandIsNext actor answered lines activity = IfSome (line_in_hand activity) (λ li
 abbrev pub AwaitIsNext : ℕ → List Answered → List Line → Activity → Type 0
 AwaitIsNext actor answered lines activity = IfSome (awaited_number activity) (λ number. IsSomeAnd (next_line actor answered lines) (λ line. line.number ≡ number))
 
-pub record TurnsOf (lines : List Line) (answered : List Answered) (activity : ℕ → Activity) (order : List Entry) : Type 0 where
+pub record SequenceOf (lines : List Line) (answered : List Answered) (activity : ℕ → Activity) (order : List Entry) : Type 0 where
   pub rising : AreRising lines
   pub in_hand : (actor : ℕ) → HandIsNext actor answered lines (activity actor)
   pub awaited : (actor : ℕ) → AwaitIsNext actor answered lines (activity actor)
-  pub placed : All (IsTurnOf lines answered activity) order
-  pub turns : (first second : Line) → Contains lines first → Contains lines second → first.session ≡ second.session → first.number < second.number → is_answered second.number answered ≡ true → is_answered first.number answered ≡ true
+  pub placed : All (IsSequenceEntry lines answered activity) order
+  pub earlier_first : (first second : Line) → Contains lines first → Contains lines second → first.session ≡ second.session → first.number < second.number → is_answered second.number answered ≡ true → is_answered first.number answered ≡ true
 
-pub turns_of : (m : Machine) → LinesInTurn m → TurnsOf m.lines m.answered m.activity m.order
-turns_of m turn = record {
-  rising = turn.rising;
-  in_hand = turn.in_hand;
-  awaited = turn.awaited;
-  placed = λ i d lt. let one = turn.placed i d lt in record { among = one.among; state = one.state };
-  turns = turn.turns;
+pub sequence_of : (m : Machine) → LinesInSequence m → SequenceOf m.lines m.answered m.activity m.order
+sequence_of m sequence = record {
+  rising = sequence.rising;
+  in_hand = sequence.in_hand;
+  awaited = sequence.awaited;
+  placed = λ i d lt. let one = sequence.placed i d lt in record { among = one.among; state = one.state };
+  earlier_first = sequence.earlier_first;
 }
 
-pub lines_in_turn : (m : Machine) → TurnsOf m.lines m.answered m.activity m.order → LinesInTurn m
-lines_in_turn m turn = record {
-  rising = turn.rising;
-  in_hand = turn.in_hand;
-  awaited = turn.awaited;
-  placed = λ i d lt. let one = turn.placed i d lt in record { among = one.among; state = one.state };
-  turns = turn.turns;
+pub lines_in_sequence : (m : Machine) → SequenceOf m.lines m.answered m.activity m.order → LinesInSequence m
+lines_in_sequence m sequence = record {
+  rising = sequence.rising;
+  in_hand = sequence.in_hand;
+  awaited = sequence.awaited;
+  placed = λ i d lt. let one = sequence.placed i d lt in record { among = one.among; state = one.state };
+  earlier_first = sequence.earlier_first;
 }
 
 no_some : (number : ℕ) → None ≡ Some number → ⊥
 no_some number is = cc
 
-module _ (lines : List Line) (answered : List Answered) (activity : ℕ → Activity) (order : List Entry) (turn : TurnsOf lines answered activity order) (actor : ℕ) (next : Activity) where
+module _ (lines : List Line) (answered : List Answered) (activity : ℕ → Activity) (order : List Entry) (sequence : SequenceOf lines answered activity order) (actor : ℕ) (next : Activity) where
   -- what holds of each actor's activity, where it holds of the new one
   each_actor : (P : ℕ → Activity → Type 0) → P actor next → ((other : ℕ) → other ≢ actor → P other (activity other)) → (other : ℕ) → P other (with_activity actor next activity other)
   each_actor P own others other = elim (cases_Bool (other == actor)) [
@@ -86,24 +86,24 @@ module _ (lines : List Line) (answered : List Answered) (activity : ℕ → Acti
   other_waits n number apart waits = subst (λ (b : Bool). awaited_number (cond b next (activity n)) ≡ Some number) (sym (ne_eqb n actor apart)) waits
 
   -- nothing is answered, and the actor awaited nothing
-  still_placed : awaited_number (activity actor) ≡ None → (entry : Entry) → IsTurnOf lines answered activity entry → IsTurnOf lines answered (with_activity actor next activity) entry
+  still_placed : awaited_number (activity actor) ≡ None → (entry : Entry) → IsSequenceEntry lines answered activity entry → IsSequenceEntry lines answered (with_activity actor next activity) entry
   still_placed none entry one = record { among = one.among; state = by one.state }
     where
       by : (is_answered entry.line.number answered ≡ true) ⊎ (awaited_number (activity entry.line.session) ≡ Some entry.line.number) → (is_answered entry.line.number answered ≡ true) ⊎ (awaited_number (with_activity actor next activity entry.line.session) ≡ Some entry.line.number)
       by (inl done) = inl done
       by (inr waits) = inr (other_waits entry.line.session entry.line.number (λ same. no_some entry.line.number (sym none ∙ ap (λ (n : ℕ). awaited_number (activity n)) (sym same) ∙ waits)) waits)
 
-  pub goes_on : awaited_number (activity actor) ≡ None → HandIsNext actor answered lines next → AwaitIsNext actor answered lines next → TurnsOf lines answered (with_activity actor next activity) order
+  pub goes_on : awaited_number (activity actor) ≡ None → HandIsNext actor answered lines next → AwaitIsNext actor answered lines next → SequenceOf lines answered (with_activity actor next activity) order
   goes_on none hand await = record {
-    rising = turn.rising;
-    in_hand = each_actor (λ n a. HandIsNext n answered lines a) hand (λ other apart. turn.in_hand other);
-    awaited = each_actor (λ n a. AwaitIsNext n answered lines a) await (λ other apart. turn.awaited other);
-    placed = λ i d lt. still_placed none _ (turn.placed i d lt);
-    turns = turn.turns;
+    rising = sequence.rising;
+    in_hand = each_actor (λ n a. HandIsNext n answered lines a) hand (λ other apart. sequence.in_hand other);
+    awaited = each_actor (λ n a. AwaitIsNext n answered lines a) await (λ other apart. sequence.awaited other);
+    placed = λ i d lt. still_placed none _ (sequence.placed i d lt);
+    earlier_first = sequence.earlier_first;
   }
 
   -- the line in hand joins the order, and the actor waits for its place
-  pub takes_place : (line : Line) (reply : Reply) → awaited_number (activity actor) ≡ None → next_line actor answered lines ≡ Some line → line_in_hand next ≡ None → awaited_number next ≡ Some line.number → TurnsOf lines answered (with_activity actor next activity) (order ++ record { line = line; reply = reply } ∷ [])
+  pub takes_place : (line : Line) (reply : Reply) → awaited_number (activity actor) ≡ None → next_line actor answered lines ≡ Some line → line_in_hand next ≡ None → awaited_number next ≡ Some line.number → SequenceOf lines answered (with_activity actor next activity) (order ++ record { line = line; reply = reply } ∷ [])
   takes_place line reply none is no_line waits =
       let own = next_is actor answered lines line is in
       let hand : HandIsNext actor answered lines next = subst (λ (o : Option Line). IfSome o (λ line. next_line actor answered lines ≡ Some line)) (sym no_line) tt in
@@ -115,12 +115,12 @@ module _ (lines : List Line) (answered : List Answered) (activity : ℕ → Acti
         rising = rest.rising;
         in_hand = rest.in_hand;
         awaited = rest.awaited;
-        placed = All-append (IsTurnOf lines answered (with_activity actor next activity)) order (entry ∷ []) rest.placed
-            (All-cons (IsTurnOf lines answered (with_activity actor next activity)) entry [] (record {
+        placed = All-append (IsSequenceEntry lines answered (with_activity actor next activity)) order (entry ∷ []) rest.placed
+            (All-cons (IsSequenceEntry lines answered (with_activity actor next activity)) entry [] (record {
               among = own.among;
               state = inr (ap (λ (n : ℕ). awaited_number (with_activity actor next activity n)) own.own ∙ here);
-            }) (All-nil (IsTurnOf lines answered (with_activity actor next activity))));
-        turns = rest.turns;
+            }) (All-nil (IsSequenceEntry lines answered (with_activity actor next activity))));
+        earlier_first = rest.earlier_first;
       }
 
   -- the actor's next line is answered
@@ -130,13 +130,13 @@ module _ (lines : List Line) (answered : List Answered) (activity : ℕ → Acti
 
     apart : (other : ℕ) → other ≢ actor → (l : Line) → Contains lines l → l.session ≡ other → a.line ≢ l.number
     apart other differ l there of_other same =
-        let both : line ≡ l = same_line lines line l turn.rising own.among there (sym number ∙ same) in
+        let both : line ≡ l = same_line lines line l sequence.rising own.among there (sym number ∙ same) in
         differ (sym of_other ∙ sym (ap (λ (l : Line). l.session) both) ∙ own.own)
 
     other_next : (other : ℕ) → other ≢ actor → next_line other (answered ++ a ∷ []) lines ≡ next_line other answered lines
     other_next other differ = next_stays other answered a lines (apart other differ)
 
-    placed_more : (entry : Entry) → IsTurnOf lines answered activity entry → IsTurnOf lines (answered ++ a ∷ []) (with_activity actor next activity) entry
+    placed_more : (entry : Entry) → IsSequenceEntry lines answered activity entry → IsSequenceEntry lines (answered ++ a ∷ []) (with_activity actor next activity) entry
     placed_more entry one = record { among = one.among; state = by one.state }
       where
         of_none : (e : Entry) → awaited_number (activity actor) ≡ None ⊎ (awaited_number (activity actor) ≡ Some line.number) → awaited_number (activity actor) ≡ Some e.line.number → line.number ≡ e.line.number
@@ -151,25 +151,25 @@ module _ (lines : List Line) (answered : List Answered) (activity : ℕ → Acti
           | inr off ↦ inr (other_waits entry.line.session entry.line.number (eqb-false entry.line.session actor off) waiting)
         ]
 
-    turns_more : (first second : Line) → Contains lines first → Contains lines second → first.session ≡ second.session → first.number < second.number → is_answered second.number (answered ++ a ∷ []) ≡ true → is_answered first.number (answered ++ a ∷ []) ≡ true
-    turns_more first second there among same less done = still_answered first.number answered a (by (answered_before second.number answered a done))
+    earlier_more : (first second : Line) → Contains lines first → Contains lines second → first.session ≡ second.session → first.number < second.number → is_answered second.number (answered ++ a ∷ []) ≡ true → is_answered first.number (answered ++ a ∷ []) ≡ true
+    earlier_more first second there among same less done = still_answered first.number answered a (by (answered_before second.number answered a done))
       where
         by : (is_answered second.number answered ≡ true) ⊎ (a.line ≡ second.number) → is_answered first.number answered ≡ true
-        by (inl before) = turn.turns first second there among same less before
+        by (inl before) = sequence.earlier_first first second there among same less before
         by (inr now) =
-            let both : line ≡ second = same_line lines line second turn.rising own.among among (sym number ∙ now) in
+            let both : line ≡ second = same_line lines line second sequence.rising own.among among (sym number ∙ now) in
             let session : first.session ≡ actor = same ∙ sym (ap (λ (l : Line). l.session) both) ∙ own.own in
-            earlier_answered actor answered lines line first turn.rising is there session (subst (λ (l : Line). first.number < l.number) (sym both) less)
+            earlier_answered actor answered lines line first sequence.rising is there session (subst (λ (l : Line). first.number < l.number) (sym both) less)
 
-    pub answers_next : line_in_hand next ≡ None → awaited_number next ≡ None → TurnsOf lines (answered ++ a ∷ []) (with_activity actor next activity) order
+    pub answers_next : line_in_hand next ≡ None → awaited_number next ≡ None → SequenceOf lines (answered ++ a ∷ []) (with_activity actor next activity) order
     answers_next no_line no_wait = record {
-      rising = turn.rising;
+      rising = sequence.rising;
       in_hand = each_actor (λ n l. HandIsNext n (answered ++ a ∷ []) lines l) (subst (λ (o : Option Line). IfSome o (λ line. next_line actor (answered ++ a ∷ []) lines ≡ Some line)) (sym no_line) tt)
-          (λ other differ. subst (λ (o : Option Line). IfSome (line_in_hand (activity other)) (λ line. o ≡ Some line)) (sym (other_next other differ)) (turn.in_hand other));
+          (λ other differ. subst (λ (o : Option Line). IfSome (line_in_hand (activity other)) (λ line. o ≡ Some line)) (sym (other_next other differ)) (sequence.in_hand other));
       awaited = each_actor (λ n l. AwaitIsNext n (answered ++ a ∷ []) lines l) (subst (λ (o : Option ℕ). IfSome o (λ number. IsSomeAnd (next_line actor (answered ++ a ∷ []) lines) (λ line. line.number ≡ number))) (sym no_wait) tt)
-          (λ other differ. subst (λ (o : Option Line). IfSome (awaited_number (activity other)) (λ number. IsSomeAnd o (λ line. line.number ≡ number))) (sym (other_next other differ)) (turn.awaited other));
-      placed = λ i d lt. placed_more _ (turn.placed i d lt);
-      turns = turns_more;
+          (λ other differ. subst (λ (o : Option Line). IfSome (awaited_number (activity other)) (λ number. IsSomeAnd o (λ line. line.number ≡ number))) (sym (other_next other differ)) (sequence.awaited other));
+      placed = λ i d lt. placed_more _ (sequence.placed i d lt);
+      earlier_first = earlier_more;
     }
 
 -- ---- steps
@@ -178,21 +178,21 @@ some_such : (o : Option Line) (number : ℕ) → IsSomeAnd o (λ line. line.numb
 some_such None number never = absurd never
 some_such (Some line) number is = (line, refl, is)
 
-module _ (m : Machine) (actor : ℕ) (outcome : Outcome) (new : Machine) (turn : LinesInTurn m) where
-  stays : KeepsAllButDisk m new → LinesInTurn new
-  stays keeps = lines_in_turn new
-      (subst (λ (l : List Line). TurnsOf l new.answered new.activity new.order) (sym keeps.lines)
-      (subst (λ (l : List Answered). TurnsOf m.lines l new.activity new.order) (sym keeps.answered)
-      (subst (λ (f : ℕ → Activity). TurnsOf m.lines m.answered f new.order) (sym keeps.activity)
-      (subst (λ (l : List Entry). TurnsOf m.lines m.answered m.activity l) (sym keeps.order) (turns_of m turn)))))
+module _ (m : Machine) (actor : ℕ) (outcome : Outcome) (new : Machine) (sequence : LinesInSequence m) where
+  stays : KeepsAllButDisk m new → LinesInSequence new
+  stays keeps = lines_in_sequence new
+      (subst (λ (l : List Line). SequenceOf l new.answered new.activity new.order) (sym keeps.lines)
+      (subst (λ (l : List Answered). SequenceOf m.lines l new.activity new.order) (sym keeps.answered)
+      (subst (λ (f : ℕ → Activity). SequenceOf m.lines m.answered f new.order) (sym keeps.activity)
+      (subst (λ (l : List Entry). SequenceOf m.lines m.answered m.activity l) (sym keeps.order) (sequence_of m sequence)))))
 
   -- a deed, by what it makes of answers, activities and order
-  done : (fetched : StoreState) (deed : Deed) (answered : List Answered) (order : List Entry) → Performs m fetched actor deed outcome new → new.answered ≡ answered → new.order ≡ order → TurnsOf m.lines answered (with_activity actor deed.next m.activity) order → LinesInTurn new
-  done fetched deed answered order performs answered_is order_is after = lines_in_turn new
-      (subst (λ (l : List Line). TurnsOf l new.answered new.activity new.order) (sym performs.lines)
-      (subst (λ (l : List Answered). TurnsOf m.lines l new.activity new.order) (sym answered_is)
-      (subst (λ (f : ℕ → Activity). TurnsOf m.lines answered f new.order) (sym (λ i other. performs.activity other i))
-      (subst (λ (l : List Entry). TurnsOf m.lines answered (with_activity actor deed.next m.activity) l) (sym order_is) after))))
+  done : (fetched : StoreState) (deed : Deed) (answered : List Answered) (order : List Entry) → Performs m fetched actor deed outcome new → new.answered ≡ answered → new.order ≡ order → SequenceOf m.lines answered (with_activity actor deed.next m.activity) order → LinesInSequence new
+  done fetched deed answered order performs answered_is order_is after = lines_in_sequence new
+      (subst (λ (l : List Line). SequenceOf l new.answered new.activity new.order) (sym performs.lines)
+      (subst (λ (l : List Answered). SequenceOf m.lines l new.activity new.order) (sym answered_is)
+      (subst (λ (f : ℕ → Activity). SequenceOf m.lines answered f new.order) (sym (λ i other. performs.activity other i))
+      (subst (λ (l : List Entry). SequenceOf m.lines answered (with_activity actor deed.next m.activity) l) (sym order_is) after))))
 
   no_hand : (deed : Deed) → line_in_hand deed.next ≡ None → HandIsNext actor m.answered m.lines deed.next
   no_hand deed none = subst (λ (o : Option Line). IfSome o (λ line. next_line actor m.answered m.lines ≡ Some line)) (sym none) tt
@@ -200,34 +200,34 @@ module _ (m : Machine) (actor : ℕ) (outcome : Outcome) (new : Machine) (turn :
   no_await : (deed : Deed) → awaited_number deed.next ≡ None → AwaitIsNext actor m.answered m.lines deed.next
   no_await deed none = subst (λ (o : Option ℕ). IfSome o (λ number. IsSomeAnd (next_line actor m.answered m.lines) (λ line. line.number ≡ number))) (sym none) tt
 
-  quiet : (fetched : StoreState) (deed : Deed) → awaited_number (m.activity actor) ≡ None → given_by (outcome_of deed.says) m.clock ≡ [] → deed.joins ≡ None → HandIsNext actor m.answered m.lines deed.next → awaited_number deed.next ≡ None → Performs m fetched actor deed outcome new → LinesInTurn new
+  quiet : (fetched : StoreState) (deed : Deed) → awaited_number (m.activity actor) ≡ None → given_by (outcome_of deed.says) m.clock ≡ [] → deed.joins ≡ None → HandIsNext actor m.answered m.lines deed.next → awaited_number deed.next ≡ None → Performs m fetched actor deed outcome new → LinesInSequence new
   quiet fetched deed idle says joins hand waits performs =
-      done fetched deed m.answered m.order performs (same_answers m actor outcome new fetched deed performs says) (same_order m actor outcome new fetched deed performs joins) (goes_on m.lines m.answered m.activity m.order (turns_of m turn) actor deed.next idle hand (no_await deed waits))
+      done fetched deed m.answered m.order performs (same_answers m actor outcome new fetched deed performs says) (same_order m actor outcome new fetched deed performs joins) (goes_on m.lines m.answered m.activity m.order (sequence_of m sequence) actor deed.next idle hand (no_await deed waits))
 
   -- a line is answered, and its session is idle then
   answers : (fetched : StoreState) (deed : Deed) (line : Line) (number : ℕ) (reply : Reply) → deed.says ≡ Answers number reply → deed.joins ≡ None → deed.next ≡ at.SessionIdle → number ≡ line.number → next_line actor m.answered m.lines ≡ Some line
-      → awaited_number (m.activity actor) ≡ None ⊎ (awaited_number (m.activity actor) ≡ Some line.number) → Performs m fetched actor deed outcome new → LinesInTurn new
+      → awaited_number (m.activity actor) ≡ None ⊎ (awaited_number (m.activity actor) ≡ Some line.number) → Performs m fetched actor deed outcome new → LinesInSequence new
   answers fetched deed line number reply says joins next same is waits performs =
       let a : Answered = record { line = number; reply = reply; at = m.clock } in
       done fetched deed (m.answered ++ a ∷ []) m.order performs (performs.answered ∙ ap (λ (o : Says). m.answered ++ given_by (outcome_of o) m.clock) says) (same_order m actor outcome new fetched deed performs joins)
-      (answers_next m.lines m.answered m.activity m.order (turns_of m turn) actor deed.next line a is same waits (ap line_in_hand next) (ap awaited_number next))
+      (answers_next m.lines m.answered m.activity m.order (sequence_of m sequence) actor deed.next line a is same waits (ap line_in_hand next) (ap awaited_number next))
 
-  fated : (fetched : StoreState) (deed : Deed) → awaited_number (m.activity actor) ≡ None → LineFate m (m.activity actor) deed → Performs m fetched actor deed outcome new → LinesInTurn new
+  fated : (fetched : StoreState) (deed : Deed) → awaited_number (m.activity actor) ≡ None → LineFate m (m.activity actor) deed → Performs m fetched actor deed outcome new → LinesInSequence new
   fated fetched deed idle (inl goes) performs =
-      quiet fetched deed idle (goes.quiet m.clock) goes.joins (subst (λ (o : Option Line). IfSome o (λ line. next_line actor m.answered m.lines ≡ Some line)) (sym goes.hand) (turn.in_hand actor)) (waits_none deed.next goes.awaits) performs
+      quiet fetched deed idle (goes.quiet m.clock) goes.joins (subst (λ (o : Option Line). IfSome o (λ line. next_line actor m.answered m.lines ≡ Some line)) (sym goes.hand) (sequence.in_hand actor)) (waits_none deed.next goes.awaits) performs
   fated fetched deed idle (inr (inl takes)) performs =
-      let is : next_line actor m.answered m.lines ≡ Some takes.line = at_value (line_in_hand (m.activity actor)) (λ line. next_line actor m.answered m.lines ≡ Some line) takes.line takes.hand (turn.in_hand actor) in
+      let is : next_line actor m.answered m.lines ≡ Some takes.line = at_value (line_in_hand (m.activity actor)) (λ line. next_line actor m.answered m.lines ≡ Some line) takes.line takes.hand (sequence.in_hand actor) in
       done fetched deed m.answered (m.order ++ record { line = takes.line; reply = takes.reply } ∷ []) performs (same_answers m actor outcome new fetched deed performs (takes.quiet m.clock)) (performs.order ∙ ap (λ (o : Option Entry). m.order ++ if_some o) takes.joins)
-      (takes_place m.lines m.answered m.activity m.order (turns_of m turn) actor deed.next takes.line takes.reply idle is (ap line_in_hand takes.next) (ap awaited_number takes.next))
+      (takes_place m.lines m.answered m.activity m.order (sequence_of m sequence) actor deed.next takes.line takes.reply idle is (ap line_in_hand takes.next) (ap awaited_number takes.next))
   fated fetched deed idle (inr (inr gives)) performs =
-      let is : next_line actor m.answered m.lines ≡ Some gives.line = at_value (line_in_hand (m.activity actor)) (λ line. next_line actor m.answered m.lines ≡ Some line) gives.line gives.hand (turn.in_hand actor) in
+      let is : next_line actor m.answered m.lines ≡ Some gives.line = at_value (line_in_hand (m.activity actor)) (λ line. next_line actor m.answered m.lines ≡ Some line) gives.line gives.hand (sequence.in_hand actor) in
       answers fetched deed gives.line gives.line.number gives.reply gives.says gives.joins gives.next refl is (inl idle) performs
 
-  worked : awaited_number (m.activity actor) ≡ None → Works m actor outcome new → LinesInTurn new
+  worked : awaited_number (m.activity actor) ≡ None → Works m actor outcome new → LinesInSequence new
   worked idle (inl (by, way, so)) = stays (stays_so m actor outcome new (outcomes.Blocked by) so)
   worked idle (inr (inl (free, unready, inl (waits, force)))) = stays (forces_so m actor outcome new outcomes.Helped force)
   worked idle (inr (inl (free, unready, inr (none, rest)))) =
-      rest_kind m outcomes.Helped outcome new _ (LinesInTurn new) none tt (λ more. stays (more_so m actor outcome new more)) (fated m.store _ idle (fate_ran_out m (m.activity actor))) rest
+      rest_kind m outcomes.Helped outcome new _ (LinesInSequence new) none tt (λ more. stays (more_so m actor outcome new more)) (fated m.store _ idle (fate_ran_out m (m.activity actor))) rest
   worked idle (inr (inr (free, ready, inl acts))) = fated acts.fetched acts.deed idle (fate_row m acts.fetched (m.activity actor) _ acts.deed acts.row) acts.performs
   worked idle (inr (inr (free, ready, inr (inl gives)))) = fated gives.fetched _ idle (fate_given_up m gives.why (m.activity actor)) gives.performs
   worked idle (inr (inr (free, ready, inr (inr meets)))) = stays (meets_so m actor outcome new meets)
@@ -247,21 +247,21 @@ module _ (m : Machine) (actor : ℕ) (outcome : Outcome) (new : Machine) (turn :
       by next (inl (above, is)) = ap awaited_number is
       by next (inr (below, is)) = ap awaited_number is
 
-pub turns_stay : TurnsStay
-turns_stay m actor outcome new turn step = each_step m actor outcome new (LinesInTurn new) (record {
-  stays = λ said plain so. stays m actor outcome new turn (stays_so m actor outcome new said so);
-  forces = λ said silent force. stays m actor outcome new turn (forces_so m actor outcome new said force);
-  more = λ more. stays m actor outcome new turn (more_so m actor outcome new more);
-  takes = λ line idle next performs. quiet m actor outcome new turn m.store _ (ap awaited_number idle) refl refl next refl performs;
-  refuses = λ line idle next boxes performs. answers m actor outcome new turn m.store _ line line.number _ refl refl refl refl next (inl (ap awaited_number idle)) performs;
+pub sequence_stays : SequenceStays
+sequence_stays m actor outcome new sequence step = each_step m actor outcome new (LinesInSequence new) (record {
+  stays = λ said plain so. stays m actor outcome new sequence (stays_so m actor outcome new said so);
+  forces = λ said silent force. stays m actor outcome new sequence (forces_so m actor outcome new said force);
+  more = λ more. stays m actor outcome new sequence (more_so m actor outcome new more);
+  takes = λ line idle next performs. quiet m actor outcome new sequence m.store _ (ap awaited_number idle) refl refl next refl performs;
+  refuses = λ line idle next boxes performs. answers m actor outcome new sequence m.store _ line line.number _ refl refl refl refl next (inl (ap awaited_number idle)) performs;
   posts = λ deed idle takes performs.
-      quiet m actor outcome new turn m.store deed (ap awaited_number idle) (ap (λ (d : Deed). given_by (outcome_of d.says) m.clock) takes.deed_is) (ap (λ (d : Deed). d.joins) takes.deed_is)
-      (no_hand m actor outcome new turn deed (took_job m deed takes)) (posts_await_none m actor outcome new turn deed takes) performs;
+      quiet m actor outcome new sequence m.store deed (ap awaited_number idle) (ap (λ (d : Deed). given_by (outcome_of d.says) m.clock) takes.deed_is) (ap (λ (d : Deed). d.joins) takes.deed_is)
+      (no_hand m actor outcome new sequence deed (took_job m deed takes)) (posts_await_none m actor outcome new sequence deed takes) performs;
   merges = λ deed idle takes performs.
-      quiet m actor outcome new turn m.store deed (ap awaited_number idle) (ap (λ (d : Deed). given_by (outcome_of d.says) m.clock) takes.deed_is) (ap (λ (d : Deed). d.joins) takes.deed_is)
-      (no_hand m actor outcome new turn deed (took_merging m deed takes)) (merges_await_none m actor outcome new turn deed takes) performs;
+      quiet m actor outcome new sequence m.store deed (ap awaited_number idle) (ap (λ (d : Deed). given_by (outcome_of d.says) m.clock) takes.deed_is) (ap (λ (d : Deed). d.joins) takes.deed_is)
+      (no_hand m actor outcome new sequence deed (took_merging m deed takes)) (merges_await_none m actor outcome new sequence deed takes) performs;
   settles = λ number place reply is settled performs.
-      let one = some_such (next_line actor m.answered m.lines) number (at_value (awaited_number (m.activity actor)) (λ number. IsSomeAnd (next_line actor m.answered m.lines) (λ line. line.number ≡ number)) number (ap awaited_number is) (turn.awaited actor)) in
-      answers m actor outcome new turn m.store _ one.0 number reply refl refl refl (sym one.2) one.1 (inr (ap awaited_number is ∙ ap (λ (n : ℕ). Some n) (sym one.2))) performs;
-  works = λ none works. worked m actor outcome new turn (waits_none (m.activity actor) none) works;
+      let one = some_such (next_line actor m.answered m.lines) number (at_value (awaited_number (m.activity actor)) (λ number. IsSomeAnd (next_line actor m.answered m.lines) (λ line. line.number ≡ number)) number (ap awaited_number is) (sequence.awaited actor)) in
+      answers m actor outcome new sequence m.store _ one.0 number reply refl refl refl (sym one.2) one.1 (inr (ap awaited_number is ∙ ap (λ (n : ℕ). Some n) (sym one.2))) performs;
+  works = λ none works. worked m actor outcome new sequence (waits_none (m.activity actor) none) works;
 }) step

@@ -7,7 +7,7 @@ use Rattle.hb_layout.specs.declared.meta.Meta.{Meta}
 use Rattle.hb_ops.specs.Files.{FileState}
 use Rattle.hb_restart.specs.Renewing.{StillOpens, IsHere, IsPlacedTo, Runs}
 use Rattle.hb_restart.specs.WritingBack.{IsWrittenTo}
-use Rattle.hb_restart.proofs.renewal.settle.Given as goal
+use Rattle.hb_restart.proofs.renewal.place_pages.Given as goal
 
 -- the pages up to this one stand in their places, and no call failed
 abbrev pub invariant-loop-place : goal.invariant-loop-place

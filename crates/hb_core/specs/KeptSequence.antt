@@ -17,15 +17,15 @@ abbrev pub HasAnswer : Machine → Line → Type 0
 HasAnswer m line = IsTrue (is_answered line.number m.answered)
 
 -- an entry of the order is of a line of the script, which was answered, or for whose place its session waits
-pub record IsInTurn (m : Machine) (entry : Entry) : Type 0 where
+pub record IsInSequence (m : Machine) (entry : Entry) : Type 0 where
   pub among : Contains m.lines entry.line
   pub state : HasAnswer m entry.line ⊎ (awaited_number (m.activity entry.line.session) ≡ Some entry.line.number)
 
 -- The line that a session has in hand, or for whose place it waits, is its first one without an answer. A session answers
 -- none of its lines before an earlier one.
-pub record LinesInTurn (m : Machine) : Type 0 where
+pub record LinesInSequence (m : Machine) : Type 0 where
   pub rising : AreRising m.lines
   pub in_hand : (actor : ℕ) → IfSome (line_in_hand (m.activity actor)) (λ line. next_line actor m.answered m.lines ≡ Some line)
   pub awaited : (actor : ℕ) → IfSome (awaited_number (m.activity actor)) (λ number. IsSomeAnd (next_line actor m.answered m.lines) (λ line. line.number ≡ number))
-  pub placed : All (IsInTurn m) m.order
-  pub turns : (first second : Line) → Contains m.lines first → Contains m.lines second → first.session ≡ second.session → first.number < second.number → HasAnswer m second → HasAnswer m first
+  pub placed : All (IsInSequence m) m.order
+  pub earlier_first : (first second : Line) → Contains m.lines first → Contains m.lines second → first.session ≡ second.session → first.number < second.number → HasAnswer m second → HasAnswer m first

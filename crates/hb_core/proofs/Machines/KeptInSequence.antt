@@ -11,12 +11,12 @@ use Rattle.hb_core.specs.DamageLaws.{IsUndamaged}
 use Rattle.hb_core.specs.FileLaws.{FilesStaySound}
 use Rattle.hb_core.specs.KeepingLaws.{AnswersSearches, BegunKeepsAll, ChangesKeepAll, HasKeptAll, StepsKeepAll, StepsRightly}
 use Rattle.hb_core.specs.KeptMachine.{CoreKeeps}
-use Rattle.hb_core.specs.KeptTurns.{IsInTurn}
+use Rattle.hb_core.specs.KeptSequence.{IsInSequence}
 use Rattle.hb_core.specs.MachineLaws.{MachineStaysKept}
 use Rattle.hb_core.specs.Machines.{Files, Machine, settled_count}
 use Rattle.hb_core.specs.OrderLaws.{OrderStaysLegal}
 use Rattle.hb_core.specs.SteppingLaws.{BeginningKeepsAll, HasNoSearches}
-use Rattle.hb_core.specs.Steps.{StepsInTurn, StepsTo}
+use Rattle.hb_core.specs.Steps.{StepsInSequence, StepsTo}
 use Rattle.hb_latch.specs.Tables.{MayLatch}
 use Rattle.hb_ops.specs.Files.{contents_of}
 use Rattle.hb_point.specs.SessionRows.{WantsBoxes}
@@ -33,7 +33,7 @@ module _ (laws : StepLaws) (n : RecordSet) where
   kept_by_step : (m : Machine) (files : Files) (actor : ℕ) (outcome : Outcome) (new : Machine) → MayLatch actor → CoreKeeps n m files → StepsTo m actor outcome new → AnswersSearches m new → (files' : Files) × CoreKeeps n new files'
   kept_by_step m files actor outcome new may keeps step right =
       let after = laws.files m files actor outcome new keeps.told keeps.kept.lines_fit keeps.kept.pages_of_file keeps.sound_file step in
-      let legal = laws.order n m files after.0 actor outcome new keeps.told keeps.kept.lines_fit keeps.kept.pages_of_file keeps.sound_file keeps.kept.lines_in_turn keeps.order_legal (right files keeps.told) step after.1 in (
+      let legal = laws.order n m files after.0 actor outcome new keeps.told keeps.kept.lines_fit keeps.kept.pages_of_file keeps.sound_file keeps.kept.lines_in_sequence keeps.order_legal (right files keeps.told) step after.1 in (
         after.0,
         record {
           told = after.1;
@@ -61,11 +61,11 @@ module _ (laws : StepLaws) (n : RecordSet) where
         undamaged = λ well. kept.undamaged (stays_undamaged m files actor outcome next may keeps.told keeps.kept.latches_fit keeps.sound_file keeps.kept.walk_in_space step well);
       }
 
-  kept_in_turn : (actors : List ℕ) (m : Machine) (files : Files) (new : Machine) → All MayLatch actors → CoreKeeps n m files → StepsRightly actors m new → (files' : Files) × HasKeptAll n m new files'
-  kept_in_turn [] m files new may keeps is = (files, nothing_done m files new keeps is)
-  kept_in_turn (actor ∷ rest) m files new may keeps (outcome, next, step, right, steps) =
+  kept_in_sequence : (actors : List ℕ) (m : Machine) (files : Files) (new : Machine) → All MayLatch actors → CoreKeeps n m files → StepsRightly actors m new → (files' : Files) × HasKeptAll n m new files'
+  kept_in_sequence [] m files new may keeps is = (files, nothing_done m files new keeps is)
+  kept_in_sequence (actor ∷ rest) m files new may keeps (outcome, next, step, right, steps) =
       let after = kept_by_step m files actor outcome next (All-head MayLatch actor rest may) keeps step right in
-      let kept = kept_in_turn rest next after.0 new (All-tail MayLatch actor rest may) after.1 steps in
+      let kept = kept_in_sequence rest next after.0 new (All-tail MayLatch actor rest may) after.1 steps in
       (kept.0, one_more m files actor outcome next new kept.0 (All-head MayLatch actor rest may) keeps step kept.1)
 
   -- ---- where no line is a search
@@ -75,12 +75,12 @@ module _ (laws : StepLaws) (n : RecordSet) where
 
   never_searches : (m : Machine) (files : Files) (actor : ℕ) (outcome : Outcome) (new : Machine) → MayLatch actor → HasNoSearches m → CoreKeeps n m files → StepsTo m actor outcome new → AnswersSearches m new
   never_searches m files actor outcome new may none keeps step before told entry is wants =
-      let turns = (laws.kept m actor outcome new may keeps.kept step).lines_in_turn in
+      let earlier_first = (laws.kept m actor outcome new may keeps.kept step).lines_in_sequence in
       let there : Contains new.order entry = subst (λ (es : List Entry). Contains es entry) (sym is) (Contains-push m.order entry) in
-      let in_turn = All-contains (IsInTurn new) new.order entry turns.placed there in
-      absurd (All-contains (λ (line : Line). ¬ (WantsBoxes line.command)) new.lines entry.line (no_search_now m actor outcome new none step) in_turn.among wants)
+      let in_sequence = All-contains (IsInSequence new) new.order entry earlier_first.placed there in
+      absurd (All-contains (λ (line : Line). ¬ (WantsBoxes line.command)) new.lines entry.line (no_search_now m actor outcome new none step) in_sequence.among wants)
 
-  kept_without : (actors : List ℕ) (m : Machine) (files : Files) (new : Machine) → All MayLatch actors → HasNoSearches m → CoreKeeps n m files → StepsInTurn actors m new → (files' : Files) × HasKeptAll n m new files'
+  kept_without : (actors : List ℕ) (m : Machine) (files : Files) (new : Machine) → All MayLatch actors → HasNoSearches m → CoreKeeps n m files → StepsInSequence actors m new → (files' : Files) × HasKeptAll n m new files'
   kept_without [] m files new may none keeps is = (files, nothing_done m files new keeps is)
   kept_without (actor ∷ rest) m files new may none keeps (outcome, next, step, steps) =
       let first = All-head MayLatch actor rest may in
@@ -89,7 +89,7 @@ module _ (laws : StepLaws) (n : RecordSet) where
       (kept.0, one_more m files actor outcome next new kept.0 first keeps step kept.1)
 
 pub steps_keep_all : StepLaws → StepsKeepAll
-steps_keep_all laws n actors m files new may keeps steps = kept_in_turn laws n actors m files new may keeps steps
+steps_keep_all laws n actors m files new may keeps steps = kept_in_sequence laws n actors m files new may keeps steps
 
 pub changes_keep_all : StepLaws → ChangesKeepAll
 changes_keep_all laws n actors m files new may none keeps steps = kept_without laws n actors m files new may none keeps steps

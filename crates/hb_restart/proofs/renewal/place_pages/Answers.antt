@@ -10,23 +10,23 @@ use Rattle.hb_restart.proofs.RunsThen.{runs_as, runs_none, runs_then}
 use Rattle.hb_restart.proofs.Renewed.{placed_none}
 use Rattle.hb_restart.specs.WritingBack.{IsWrittenTo}
 use Rattle.hb_restart.proofs.EachOnce.{between, written_none}
-use Rattle.hb_restart.proofs.renewal.settle.Goals as goal
+use Rattle.hb_restart.proofs.renewal.place_pages.Goals as goal
 
-pub returns-in_err-settle_one-clause-moments : goal.returns-in_err-settle_one-clause-moments
-returns-in_err-settle_one-clause-moments g c = λ said s here.
+pub returns-in_err-place_page-clause-moments : goal.returns-in_err-place_page-clause-moments
+returns-in_err-place_page-clause-moments g c = λ said s here.
     let found = c.args.found.now in
-    Leaves-then (g.D.Device.model c.args.disk.now) (g.D.Device.model c.loop-place.disk) (g.D.Device.model c.settle_one.new.disk) (StillOpens found.turn said found.meta (get nat_cmp found.touched) s)
-    (c.loop-place.invariant.moments said s here) (c.settle_one.ensures.moments said s (c.loop-place.invariant.placed said s here).here)
+    Leaves-then (g.D.Device.model c.args.disk.now) (g.D.Device.model c.loop-place.disk) (g.D.Device.model c.place_page.new.disk) (StillOpens found.turn said found.meta (get nat_cmp found.touched) s)
+    (c.loop-place.invariant.moments said s here) (c.place_page.ensures.moments said s (c.loop-place.invariant.placed said s here).here)
 
-pub returns-in_err-settle_one-clause-run : goal.returns-in_err-settle_one-clause-run
-returns-in_err-settle_one-clause-run g c =
+pub returns-in_err-place_page-clause-run : goal.returns-in_err-place_page-clause-run
+returns-in_err-place_page-clause-run g c =
     let n = file_size c.args.found.now.meta in
     let d = g.D.Device.model c.args.disk.now in
     let mid = g.D.Device.model c.loop-place.disk in
-    let new = g.D.Device.model c.settle_one.new.disk in
-    runs_as {F = IsErr c.settle_one.result} {G = IsErr c.from_residual.result} (c.loop-place.place + 1) c.args.found.now.meta.high n n d new (omega (arith, c.loop-place-test.true)) (omega arith)
-    (λ f. c.from_residual.ensures.0) (λ f. ap is_err c.in_err-settle_one.was)
-    (runs_then c.loop-place.place 1 n d mid new (λ never. never) c.loop-place.invariant.run c.settle_one.ensures.run)
+    let new = g.D.Device.model c.place_page.new.disk in
+    runs_as {F = IsErr c.place_page.result} {G = IsErr c.from_residual.result} (c.loop-place.place + 1) c.args.found.now.meta.high n n d new (omega (arith, c.loop-place-test.true)) (omega arith)
+    (λ f. c.from_residual.ensures.0) (λ f. ap is_err c.in_err-place_page.was)
+    (runs_then c.loop-place.place 1 n d mid new (λ never. never) c.loop-place.invariant.run c.place_page.ensures.run)
 
 pub returns-clause-run : goal.returns-clause-run
 returns-clause-run g c =
@@ -53,15 +53,15 @@ loop-place-preserved g c =
     let n = file_size found.meta in
     let d = g.D.Device.model c.args.disk.now in
     let mid = g.D.Device.model c.loop-place.disk in
-    let new = g.D.Device.model c.settle_one.new.disk in
+    let new = g.D.Device.model c.place_page.new.disk in
     record {
-      run = runs_as {F = IsErr c.settle_one.result} {G = ⊥} (c.loop-place.place + 1) (c.loop-place.place + 1) n n d new (omega arith) (omega arith)
-          (λ f. not_failed c.settle_one.result c.in_ok-settle_one.field-0 c.in_ok-settle_one.was f) (λ never. absurd never)
-          (runs_then c.loop-place.place 1 n d mid new (λ never. never) kept.run c.settle_one.ensures.run);
+      run = runs_as {F = IsErr c.place_page.result} {G = ⊥} (c.loop-place.place + 1) (c.loop-place.place + 1) n n d new (omega arith) (omega arith)
+          (λ f. not_failed c.place_page.result c.in_ok-place_page.field-0 c.in_ok-place_page.was f) (λ never. absurd never)
+          (runs_then c.loop-place.place 1 n d mid new (λ never. never) kept.run c.place_page.ensures.run);
       moments = λ said s here. Leaves-then d mid new (StillOpens found.turn said found.meta (get nat_cmp found.touched) s)
-          (kept.moments said s here) (c.settle_one.ensures.moments said s (kept.placed said s here).here);
-      placed = λ said s here. c.in_ok-settle_one.ensures.placed said s c.loop-place.place refl (kept.placed said s here);
-      written = λ b told. c.in_ok-settle_one.ensures.written d.clock c.loop-place.place b refl (kept.written b told);
+          (kept.moments said s here) (c.place_page.ensures.moments said s (kept.placed said s here).here);
+      placed = λ said s here. c.in_ok-place_page.ensures.placed said s c.loop-place.place refl (kept.placed said s here);
+      written = λ b told. c.in_ok-place_page.ensures.written d.clock c.loop-place.place b refl (kept.written b told);
     }
 
 pub returns-clause-placed : goal.returns-clause-placed
@@ -70,9 +70,9 @@ returns-clause-placed g c = λ said s here.
     let last : c.loop-place.place ≡ found.meta.high = omega (arith, c.loop-place-test.false, c.loop-place.auto.place-end) in
     subst (λ (n : ℕ). IsPlacedTo n (g.D.Device.model c.loop-place.disk) found.turn said found.meta (get nat_cmp found.touched) s) last (c.loop-place.invariant.placed said s here)
 
-pub returns-in_err-settle_one-clause-once : goal.returns-in_err-settle_one-clause-once
-returns-in_err-settle_one-clause-once g c = λ b told.
-    c.settle_one.ensures.once (g.D.Device.model c.args.disk.now).clock c.loop-place.place b refl (c.loop-place.invariant.written b told)
+pub returns-in_err-place_page-clause-once : goal.returns-in_err-place_page-clause-once
+returns-in_err-place_page-clause-once g c = λ b told.
+    c.place_page.ensures.once (g.D.Device.model c.args.disk.now).clock c.loop-place.place b refl (c.loop-place.invariant.written b told)
 
 pub returns-clause-once : goal.returns-clause-once
 returns-clause-once g c = λ b told.
