@@ -12,6 +12,7 @@ use Rattle.hb_latch.specs.declared.modes.Mode.{Mode}
 use Rattle.hb_latch.specs.Tables.{LatchTable, latch_cmp, mode_at, latches_of}
 use Rattle.hb_latch.proofs.KeyOrder.{latch_order, exact_keys, without, entries-remove}
 use Rattle.hb_lemmas.proofs.Orderings.{equal_so, less_so}
+use Rattle.hb_lemmas.proofs.Booleans.{T_true}
 
 abbrev Entry : Type 0
 Entry = (ℕ × ℕ) × Mode
@@ -80,10 +81,6 @@ share_less actor key old (e ∷ es) sorted some =
           omega (arith, share_cons actor e es, first, ap (share actor) left)
       | false ↦ λ other some. omega (arith, share_cons actor e (without key es), share_cons actor e es, share_less actor key old es parts.1 some)
     ] refl some
-
-T_true : (b : Bool) → T b → b ≡ true
-T_true true t = refl
-T_true false t = absurd t
 
 sorted : (table : LatchTable) → is_sorted latch_cmp (map.entries table) ≡ true
 sorted table = T_true _ (map.entries_sorted table)
