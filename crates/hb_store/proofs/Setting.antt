@@ -67,21 +67,21 @@ one_less (x ∷ xs) rest lt is = ap (λ (l : List (ℕ × Page)). suc (length l)
 
 pub record SetsOne (items rest whole : List (ℕ × Page)) (new start : ℕ → Option Page) (added before : ℕ → Bool) : Type 0 where
   pub set : (q : ℕ) → set_pages rest new q ≡ set_pages whole start q
-  pub touched_too : (q : ℕ) → (has_page q rest || added q) ≡ (has_page q whole || before q)
+  pub numbers : (q : ℕ) → (has_page q rest || added q) ≡ (has_page q whole || before q)
 
 pub set_one : (items rest whole : List (ℕ × Page)) (one : ℕ × Page) (new f start : ℕ → Option Page) (added m before : ℕ → Bool) → 0 < length items → one ≡ get_or items 0 one → rest ≡ remove items 0
     → ((q : ℕ) → new q ≡ set_pages (one ∷ []) f q) → ((q : ℕ) → added q ≡ (nat_eq q one.0 || m q))
     → ((q : ℕ) → set_pages items f q ≡ set_pages whole start q) → ((q : ℕ) → (has_page q items || m q) ≡ (has_page q whole || before q))
     → SetsOne items rest whole new start added before
-set_one [] rest whole one new f start added m before lt is left e touched_too set all = absurd (omega (arith, lt))
-set_one (x ∷ xs) rest whole one new f start added m before lt is left e touched_too set all = record {
+set_one [] rest whole one new f start added m before lt is left e numbers set all = absurd (omega (arith, lt))
+set_one (x ∷ xs) rest whole one new f start added m before lt is left e numbers set all = record {
   set = λ q.
       ap (λ (l : List (ℕ × Page)). set_pages l new q) left
       ∙ set_pages-same xs new (λ r. cond (r == one.0) (Some one.1) (f r)) e q
       ∙ ap (λ (p : ℕ × Page). set_pages xs (λ r. cond (r == p.0) (Some p.1) (f r)) q) is
       ∙ set q;
-  touched_too = λ q.
+  numbers = λ q.
       ap (λ (l : List (ℕ × Page)). has_page q l || added q) left
-      ∙ ap (λ (b : Bool). has_page q xs || b) (touched_too q ∙ ap (λ (p : ℕ × Page). (q == p.0) || m q) is)
+      ∙ ap (λ (b : Bool). has_page q xs || b) (numbers q ∙ ap (λ (p : ℕ × Page). (q == p.0) || m q) is)
       ∙ or_swap (has_page q xs) (q == x.0) (m q) ∙ sym (or_assoc (q == x.0) (has_page q xs) (m q)) ∙ all q;
 }

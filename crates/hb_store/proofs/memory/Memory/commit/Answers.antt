@@ -93,12 +93,12 @@ pub group-requires : goal.group-requires
 group-requires c = record { points = c.requires.points; allowed = c.requires.allowed }
 
 pub add_all-requires : goal.add_all-requires
-add_all-requires c = omega (arith, c.deref-2.ensures.1, c.in_ok-reserve.ensures.marks)
+add_all-requires c = omega (arith, c.deref-2.ensures.1, c.in_ok-reserve.ensures.numbers)
 
 pub set_changed-requires : goal.set_changed-requires
 set_changed-requires c =
     let few = c.in_ok-changed.ensures.few in
     record {
       room = omega (arith, few, c.in_ok-reserve.ensures.room);
-      marks = omega (arith, few, c.deref-2.ensures.1, c.add_all.ensures.room, c.in_ok-reserve.ensures.marks);
+      numbers = omega (arith, few, c.deref-2.ensures.1, c.add_all.ensures.room, c.in_ok-reserve.ensures.numbers);
     }
