@@ -1,5 +1,5 @@
 -- The consolidator's rows of pairs that were worked out by hand.
-use Rattle.std.proofs.Common.{◌≡◌, inl, inr, ℕ, zero, suc, ◌+◌, ◌<◌, ◌≤◌, ◌^◌, ◌-◌, [], ◌∷◌, slice_index, Some, refl, sym, ap, ◌∙◌, subst, arith}
+use Rattle.std.proofs.Common.{◌≡◌, inl, inr, ℕ, ◌+◌, ◌-◌, [], ◌∷◌, Some, refl, sym, ap, ◌∙◌, subst, arith}
 use Rattle.std.proofs.lemmas.Option.{same_Some}
 use Rattle.hb_frag.specs.declared.pages.LivePage.{LivePage}
 use Rattle.hb_terms.specs.declared.merging.MergePlan.{MergePlan}
@@ -16,7 +16,7 @@ use Rattle.hb_consol.specs.MergeRows.{Decides, DoesMerge}
 use Rattle.hb_frag.specs.Leaves.{DirectlyCovers, siblings_of}
 use Rattle.hb_frag.specs.Rules.{capacity_of}
 use Rattle.hb_space.proofs.Facts.Intervals.{top, within}
-use Rattle.hb_space.specs.Boxes.{Area, Meets, Within}
+use Rattle.hb_space.specs.Boxes.{Area, Meets}
 use Rattle.hb_terms.proofs.Facts.OneMerge.{one_merge}
 use Rattle.hb_terms.specs.Merging.{IsMergePlan, merged_weight}
 use Rattle.std.proofs.lemmas.List.Elements.{All-from_recursion}

@@ -1,7 +1,5 @@
 -- The rows of searches that were worked out by hand.
-use Rattle.std.proofs.Common.{List, [], ◌∷◌, AllPairs, refl, arith}
-use Rattle.std.specs.List.{AllByRecursion}
-use Rattle.std.proofs.lemmas.List.Kept.{AllPairs-cons}
+use Rattle.std.proofs.Common.{List, [], ◌∷◌, refl}
 use Rattle.std.proofs.lemmas.List.Sorted.{IsPermutation-append_comm}
 use Rattle.hb_space.specs.declared.records.Record.{Record}
 use Rattle.hb_set.specs.declared.scripts.Line.{Line}
@@ -13,7 +11,6 @@ use Rattle.hb_search.proofs.Facts.OneSearch.{searches_have_one_deed}
 use Rattle.hb_search.specs.Examples.{SearchesByHand, box_of, corner_page, rec_of_two}
 use Rattle.hb_search.specs.SearchRows.{Gathers}
 use Rattle.hb_space.specs.Boxes.{Area}
-use Rattle.std.proofs.lemmas.List.Elements.{All-from_recursion}
 
 abbrev of_four : List Record
 of_four = rec_of_two 5 5 ∷ rec_of_two 25 12 ∷ rec_of_two 30 9 ∷ rec_of_two 40 20 ∷ []

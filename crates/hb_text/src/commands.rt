@@ -1,4 +1,4 @@
-ghost use Rattle.std.specs.Prelude.{◌≡◌, ◌<◌, ◌≤◌, length};
+ghost use Rattle.std.specs.Prelude.{◌≡◌, ◌<◌, length};
 ghost use Rattle.hb_space.specs.Points.{IsAttributeCount};
 ghost use Rattle.hb_text.specs.StepWords.{session_of};
 ghost use Rattle.hb_text.specs.Operands.{operand_count, operands_read, command_read};

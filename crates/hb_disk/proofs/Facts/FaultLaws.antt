@@ -1,5 +1,5 @@
 -- How the counts of faults of a disk go on over further calls.
-use Rattle.std.proofs.Common.{◌≡◌, ℕ, Result, Ok, IsErr, refl, ◌∙◌, subst}
+use Rattle.std.proofs.Common.{◌≡◌, Result, Ok, IsErr, refl, ◌∙◌, subst}
 use Rattle.hb_outside.proofs.Facts.CountLaws.{Counts-as, Counts-same, Counts-then}
 use Rattle.hb_outside.specs.Calls.{Counts}
 use Rattle.hb_disk.specs.Model.{DiskModel, Stays}

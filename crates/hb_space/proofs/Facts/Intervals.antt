@@ -1,5 +1,5 @@
 -- Boxes of one attribute.
-use Rattle.std.proofs.Common.{◌≡◌, ◌≢◌, ℕ, zero, suc, ◌+◌, ◌<◌, ◌-◌, ◌≤◌, ◌^◌, [], ◌∷◌, slice_index, refl, ap, arith}
+use Rattle.std.proofs.Common.{◌≡◌, ◌≢◌, ℕ, zero, suc, ◌<◌, ◌-◌, ◌≤◌, ◌^◌, [], ◌∷◌, slice_index, refl, ap, arith}
 use Rattle.hb_space.specs.Boxes.{Area, Cuts, Holds, Within, whole_area}
 
 abbrev pub interval : ℕ → ℕ → Area

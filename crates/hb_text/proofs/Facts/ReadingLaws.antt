@@ -1,5 +1,5 @@
 -- A step of reading, taken apart: what it gave, and what was made of it.
-use Rattle.std.specs.Prelude.{◌≡◌, ℕ, Some, Result, Ok, Err, refl}
+use Rattle.std.specs.Prelude.{◌≡◌, ℕ, Result, Ok, Err, refl}
 use Rattle.std.proofs.Common.{ap}
 use Rattle.hb_text.specs.declared.rules.TextRule.{TextRule}
 use Rattle.hb_text.specs.Grammar.{at_line, Said}
