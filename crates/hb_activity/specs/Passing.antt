@@ -5,7 +5,7 @@ use Rattle.hb_frag.specs.declared.leaves.Leaf.{Leaf}
 use Rattle.hb_frag.specs.declared.leaves.Leaf.TheVariants.{Records, Child, Sibling}
 use Rattle.hb_frag.specs.declared.pages.LivePage.{LivePage}
 use Rattle.hb_frag.specs.declared.paths.Side.{Side}
-use Rattle.hb_frag.specs.Leaves.{leaf_at}
+use Rattle.hb_frag.specs.Leaves.{IsPointer, leaf_at}
 use Rattle.hb_frag.specs.Paths.{part_at}
 use Rattle.hb_ops.specs.Cutting.{reached}
 use Rattle.hb_ops.specs.declared.leaf_cuts.LeafCut.{LeafCut}
@@ -21,11 +21,6 @@ abbrev pub posts_owed : LivePage → List ℕ → Leaf → List Job
 posts_owed page p (Sibling name) = record { kind = Post; level = page.level + 1; point = p } ∷ []
 posts_owed page p (Child name) = []
 posts_owed page p (Records records) = []
-
-abbrev pub IsPointer : Leaf → Type 0
-IsPointer (Records records) = ⊥
-IsPointer (Child page) = Unit {0}
-IsPointer (Sibling page) = Unit {0}
 
 pub record PassesOn (page : LivePage) (p : List ℕ) (next : Activity) (deed : Deed) : Type 0 where
   pub leaf : Leaf

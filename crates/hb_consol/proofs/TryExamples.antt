@@ -1,5 +1,5 @@
 -- The consolidator's rows of pairs that were worked out by hand.
-use Rattle.std.proofs.Common.{◌≡◌, inl, inr, ℕ, zero, suc, ◌+◌, ◌<◌, ◌≤◌, ◌^◌, ◌-◌, [], ◌∷◌, slice_index, Some, refl, sym, ap, ◌∙◌, subst, arith}
+use Rattle.std.proofs.Common.{◌≡◌, inl, inr, ℕ, ◌+◌, ◌-◌, [], ◌∷◌, Some, refl, sym, ap, ◌∙◌, subst, arith}
 use Rattle.std.proofs.lemmas.Option.{same_Some}
 use Rattle.hb_frag.specs.declared.pages.LivePage.{LivePage}
 use Rattle.hb_terms.specs.declared.merging.MergePlan.{MergePlan}
@@ -15,7 +15,8 @@ use Rattle.hb_consol.specs.Examples.{DecidesByHand, KeepsByHand, TriesByHand, na
 use Rattle.hb_consol.specs.MergeRows.{Decides, DoesMerge}
 use Rattle.hb_frag.specs.Leaves.{DirectlyCovers, siblings_of}
 use Rattle.hb_frag.specs.Rules.{capacity_of}
-use Rattle.hb_space.specs.Boxes.{Area, Meets, Within}
+use Rattle.hb_space.proofs.Facts.Intervals.{top, within}
+use Rattle.hb_space.specs.Boxes.{Area, Meets}
 use Rattle.hb_terms.proofs.Facts.OneMerge.{one_merge}
 use Rattle.hb_terms.specs.Merging.{IsMergePlan, merged_weight}
 use Rattle.std.proofs.lemmas.List.Elements.{All-from_recursion}
@@ -23,24 +24,11 @@ use Rattle.hb_activity.proofs.Facts.OneLeaf.{exactly}
 
 -- ---- the plans
 
-abbrev top : ℕ
-top = 2 ^ 64 - 1
-
-abbrev interval : ℕ → ℕ → Area
-interval low high = record { lo = low ∷ []; hi = high ∷ [] }
-
-within : (low high : ℕ) → high ≤ top → Within (interval low high) (interval 0 top)
-within low high below = inside
-  where
-    inside : (i : ℕ) → i < 1 → (slice_index (0 ∷ []) i ≤ slice_index (low ∷ []) i) × (slice_index (high ∷ []) i ≤ slice_index (top ∷ []) i)
-    inside zero lt = (omega arith, below)
-    inside (suc i) lt = absurd (omega (arith, lt))
-
 two_covered : DirectlyCovers names_three page_two.area
-two_covered = record { inside = within 40 69 (omega arith); not_given = All-from_recursion (λ (x : ℕ × Area). ¬ (Meets x.1 page_two.area)) (siblings_of names_three) tt }
+two_covered = record { inside = within 40 69 0 top (omega arith) (omega arith); not_given = All-from_recursion (λ (x : ℕ × Area). ¬ (Meets x.1 page_two.area)) (siblings_of names_three) tt }
 
 four_covered : DirectlyCovers names_three page_four.area
-four_covered = record { inside = within 80 top (omega arith); not_given = All-from_recursion (λ (x : ℕ × Area). ¬ (Meets x.1 page_four.area)) (siblings_of names_three) tt }
+four_covered = record { inside = within 80 top 0 top (omega arith) (omega arith); not_given = All-from_recursion (λ (x : ℕ × Area). ¬ (Meets x.1 page_four.area)) (siblings_of names_three) tt }
 
 light_plan : (dcap icap : ℕ) → dcap ≡ 32 → IsMergePlan names_three gave_three 2 page_two (capacity_of 0 dcap icap) plans.Merge
 light_plan dcap icap is = record { given = refl; whole = two_covered; light = let w : merged_weight gave_three page_two ≡ 5 = refl in omega (arith, w, is) }

@@ -2,6 +2,7 @@ pub mod CarvedKinds
 pub mod CarvedPages
 pub mod NamesListed
 pub mod Parts
+pub mod RisingRecords
 pub mod Points
 pub mod SayingTheSame
 pub mod Sides

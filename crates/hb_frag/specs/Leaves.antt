@@ -13,6 +13,12 @@ pub record Placed : Type 0 where
   pub leaf : Leaf
   pub area : Area
 
+-- a leaf that names a page
+abbrev pub IsPointer : Leaf → Type 0
+IsPointer (Records records) = ⊥
+IsPointer (Child page) = Unit {0}
+IsPointer (Sibling page) = Unit {0}
+
 -- The leaves of a tree in a box: a leaf has the box, and each side of a cut has its side of the box.
 abbrev pub leaves_of : Tree → Area → List Placed
 leaves_of (Tip leaf) area = record { leaf = leaf; area = area } ∷ []

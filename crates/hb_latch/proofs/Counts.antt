@@ -1,17 +1,17 @@
 -- How many latches an actor holds after each call.
-use Rattle.std.proofs.Common.{◌≡◌, ℕ, ◌+◌, ◌==◌, Bool, true, false, cond, not, List, [], ◌∷◌, count_by, Some, None, IsSome, refl, sym, ap, subst, ◌∙◌, arith}
+use Rattle.std.proofs.Common.{◌≡◌, ℕ, ◌+◌, ◌==◌, true, false, cond, not, List, [], ◌∷◌, count_by, Some, None, IsSome, refl, sym, ap, subst, ◌∙◌, arith}
 use Rattle.std.specs.Ordering.{is_lt, is_eq, eq_by_cmp}
 use Rattle.std.specs.FinMap as map
 use Rattle.std.specs.FinMap.{find, put, is_sorted}
 use Rattle.std.specs.FinMap.Entries.{below_all, by_order}
 use Rattle.std.specs.declared.cmp.Ordering.TheVariants.{Less, Equal, Greater}
-use Rattle.std.proofs.Math.Dec.{T}
 use Rattle.std.proofs.lemmas.Bool.{and_parts}
 use Rattle.std.proofs.lemmas.List.Sums.{sum_by-cons}
 use Rattle.hb_latch.specs.declared.modes.Mode.{Mode}
 use Rattle.hb_latch.specs.Tables.{LatchTable, latch_cmp, mode_at, latches_of}
 use Rattle.hb_latch.proofs.KeyOrder.{latch_order, exact_keys, without, entries-remove}
 use Rattle.hb_lemmas.proofs.Orderings.{equal_so, less_so}
+use Rattle.hb_lemmas.proofs.Booleans.{T_true}
 
 abbrev Entry : Type 0
 Entry = (ℕ × ℕ) × Mode
@@ -80,10 +80,6 @@ share_less actor key old (e ∷ es) sorted some =
           omega (arith, share_cons actor e es, first, ap (share actor) left)
       | false ↦ λ other some. omega (arith, share_cons actor e (without key es), share_cons actor e es, share_less actor key old es parts.1 some)
     ] refl some
-
-T_true : (b : Bool) → T b → b ≡ true
-T_true true t = refl
-T_true false t = absurd t
 
 sorted : (table : LatchTable) → is_sorted latch_cmp (map.entries table) ≡ true
 sorted table = T_true _ (map.entries_sorted table)

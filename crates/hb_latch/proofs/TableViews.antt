@@ -1,5 +1,5 @@
 -- The table that latches make, and what an edit of the latches makes of it.
-use Rattle.std.proofs.Common.{◌≡◌, ℕ, Bool, true, false, not, List, [], ◌∷◌, length, get_or, count_by, cond, ◌+◌, ◌==◌, Option, Some, None, IsSome, refl, sym, ap, subst, ◌∙◌}
+use Rattle.std.proofs.Common.{◌≡◌, ℕ, not, List, [], ◌∷◌, length, get_or, count_by, cond, ◌+◌, ◌==◌, Option, Some, None, IsSome, refl, sym, ap, subst, ◌∙◌}
 use Rattle.std.specs.List.{insert, remove}
 use Rattle.std.specs.Ordering.{eq_by_cmp}
 use Rattle.std.specs.FinMap as map
@@ -14,6 +14,7 @@ use Rattle.hb_latch.specs.Tables.{LatchTable, latch_cmp, latches_of}
 use Rattle.hb_latch.specs.Entries.{key_of, table_entries, IsHeldAt, IsGapOf}
 use Rattle.hb_latch.proofs.KeyOrder.{latch_order, without, entries-remove}
 use Rattle.hb_latch.proofs.KeyPlaces.{KeysRise, find_at, find_gap, put_gap, put_at, without_at}
+use Rattle.hb_lemmas.proofs.Booleans.{T_true}
 
 -- the table of the latches
 abbrev pub table_of : List Held → LatchTable
@@ -21,10 +22,6 @@ table_of hs = map.from_sorted (table_entries hs)
 
 sorted_T : (hs : List Held) → KeysRise hs → T (is_sorted latch_cmp (table_entries hs))
 sorted_T hs r = subst T (sym r) tt
-
-T_true : (b : Bool) → T b → b ≡ true
-T_true true t = refl
-T_true false t = absurd t
 
 pub entries_are : (hs : List Held) → KeysRise hs → map.entries (table_of hs) ≡ table_entries hs
 entries_are hs r = map.entries-from_sorted latch_cmp (table_entries hs) (sorted_T hs r)

@@ -1,5 +1,5 @@
 -- Choices by a test.
-use Rattle.std.proofs.Common.{◌≡◌, ◌≢◌, ◌⊎◌, ℕ, ◌<◌, ◌≤◌, ◌==◌, nat_lt, Bool, true, false, not, cond, Option, Some, None, inl, inr, refl, sym, ap, subst, ne_eqb}
+use Rattle.std.proofs.Common.{◌≡◌, ◌≢◌, ◌⊎◌, ℕ, ◌<◌, ◌≤◌, ◌==◌, nat_lt, Bool, true, false, T, not, cond, Option, Some, None, inl, inr, refl, sym, ap, subst, ne_eqb}
 use Rattle.std.proofs.lemmas.Bool.{cases_Bool, cases_lt, eq-eqb, eqb-false, eqb-true, le-ltb, lt-ltb}
 
 -- what was chosen, and by which test
@@ -47,3 +47,8 @@ if_same a b P same other = elim (cases_Bool (a == b)) [
   | inl t ↦ subst P (sym t) (same (eqb-true a b t))
   | inr f ↦ subst P (sym f) (other (eqb-false a b f))
 ]
+
+-- a test that holds
+pub T_true : (b : Bool) → T b → b ≡ true
+T_true true t = refl
+T_true false t = absurd t

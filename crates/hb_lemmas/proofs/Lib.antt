@@ -1,4 +1,5 @@
 pub mod Booleans
+pub mod Decisions
 pub mod Options
 pub mod Lists
 pub mod Maps

@@ -46,7 +46,7 @@ twenty_six_absent = record { records = of_two; area = _; leaf = refl; lack = All
 abbrev of_five : List Record
 of_five = rec_at (10 ∷ []) 1 ∷ rec_at (20 ∷ []) 2 ∷ rec_at (30 ∷ []) 3 ∷ rec_at (40 ∷ []) 4 ∷ rec_at (50 ∷ []) 5 ∷ []
 
-abbrev of_six : List Record
+abbrev pub of_six : List Record
 of_six = rec_at (10 ∷ []) 1 ∷ rec_at (20 ∷ []) 2 ∷ rec_at (30 ∷ []) 3 ∷ rec_at (40 ∷ []) 4 ∷ rec_at (50 ∷ []) 5 ∷ rec_at (60 ∷ []) 6 ∷ []
 
 absent_of_five : StandsNot five_records (35 ∷ [])

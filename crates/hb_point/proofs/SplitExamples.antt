@@ -1,5 +1,5 @@
 -- The rows of splits that were worked out by hand.
-use Rattle.std.proofs.Common.{◌≡◌, ◌⊎◌, inl, inr, ℕ, zero, suc, ◌<◌, ◌≤◌, ◌^◌, ◌-◌, List, [], ◌∷◌, slice_index, Any, Some, refl, sym, ap, ◌∙◌, subst, arith}
+use Rattle.std.proofs.Common.{◌≡◌, ◌⊎◌, inl, inr, ℕ, zero, suc, ◌-◌, List, [], ◌∷◌, slice_index, Any, Some, refl, sym, ap, ◌∙◌, subst, arith}
 use Rattle.std.proofs.lemmas.List.Elements.{All-head, All-from_recursion}
 use Rattle.std.proofs.lemmas.Option.{same_Some}
 use Rattle.hb_space.specs.declared.records.Record.{Record}
@@ -21,15 +21,14 @@ use Rattle.hb_frag.specs.Paths.{part_at}
 use Rattle.hb_frag.specs.Trees.{Tree}
 use Rattle.hb_ops.specs.Cutting.{reached}
 use Rattle.hb_point.proofs.Facts.ChosenCuts.{one_choice}
+use Rattle.hb_point.proofs.PointExamples.{of_six}
 use Rattle.hb_point.specs.Examples.{PutsByHand, SplitsByHand, at_forty, given_half, kept_half, rec_at, six_records}
 use Rattle.hb_point.specs.SplitRows.{PutsInHalf, SplitsOrFull}
+use Rattle.hb_space.proofs.Facts.Intervals.{below_all, held, interval, top}
 use Rattle.hb_space.specs.Boxes.{Area, Holds}
 use Rattle.hb_split.specs.Choosing.{AreChosen, IsBest, IsChosen, MayCut, NotBehind, heavier_count}
 
 -- ---- the six records are cut at 40
-
-abbrev of_six : List Record
-of_six = rec_at (10 ∷ []) 1 ∷ rec_at (20 ∷ []) 2 ∷ rec_at (30 ∷ []) 3 ∷ rec_at (40 ∷ []) 4 ∷ rec_at (50 ∷ []) 5 ∷ rec_at (60 ∷ []) 6 ∷ []
 
 -- no plane at the value of a record is before that one
 abbrev Behind : ℕ → Type 0
@@ -125,33 +124,17 @@ module _ (s : Sight) (line : Line) where
 
 -- ---- the halves
 
-abbrev top : ℕ
-top = 2 ^ 64 - 1
-
-abbrev interval : ℕ → ℕ → Area
-interval low high = record { lo = low ∷ []; hi = high ∷ [] }
-
-held : (low value high : ℕ) → low ≤ value → value ≤ high → Holds (interval low high) (value ∷ [])
-held low value high above below = record { same = refl; between = inside }
-  where
-    inside : (i : ℕ) → i < 1 → (slice_index (low ∷ []) i ≤ slice_index (value ∷ []) i) × (slice_index (value ∷ []) i ≤ slice_index (high ∷ []) i)
-    inside zero lt = (above, below)
-    inside (suc i) lt = absurd (omega (arith, lt))
-
-too_low : (low value high : ℕ) → value < low → Holds (interval low high) (value ∷ []) → ⊥
-too_low low value high less h = let at = (h.between 0 (omega arith)).0 in omega (arith, at, less)
-
 abbrev NotGiven : ℕ → ℕ × Area → Type 0
 NotGiven value x = Holds x.1 (value ∷ []) → ⊥
 
 below_held : DirectlyHolds kept_half (39 ∷ [])
-below_held = record { inside = held 0 39 top (omega arith) (omega arith); not_given = All-from_recursion (NotGiven 39) (siblings_of kept_half) (too_low 40 39 top (omega arith), tt) }
+below_held = record { inside = held 0 39 top (omega arith) (omega arith); not_given = All-from_recursion (NotGiven 39) (siblings_of kept_half) (below_all 40 39 top (omega arith), tt) }
 
 from_held : DirectlyHolds given_half (40 ∷ [])
 from_held = record { inside = held 40 40 top (omega arith) (omega arith); not_given = All-from_recursion (NotGiven 40) (siblings_of given_half) tt }
 
 below_not_given : DirectlyHolds given_half (39 ∷ []) → ⊥
-below_not_given h = too_low 40 39 top (omega arith) h.inside
+below_not_given h = below_all 40 39 top (omega arith) h.inside
 
 from_not_kept : DirectlyHolds kept_half (40 ∷ []) → ⊥
 from_not_kept h = All-head (NotGiven 40) (9, interval 40 top) [] h.not_given (held 40 40 top (omega arith) (omega arith))

@@ -8,7 +8,7 @@ use Rattle.std.proofs.lemmas.List.Elements.{All-get_or}
 use Rattle.hb_outside.specs.Calls.{Counts}
 use Rattle.hb_disk.specs.Model.{DiskModel, Stays}
 use Rattle.hb_disk.specs.Calls.{OnlyReads, ReadsOnly}
-use Rattle.hb_disk.proofs.Facts.FaultLaws.{Counts-as}
+use Rattle.hb_outside.proofs.Facts.CountLaws.{Counts-as}
 use Rattle.hb_lemmas.proofs.Options.{at_value, if_value}
 use Rattle.hb_frag.specs.declared.pages.Page.{Page}
 use Rattle.hb_frag.specs.Grammar.{SpellsPage}

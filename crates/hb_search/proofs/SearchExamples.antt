@@ -1,34 +1,22 @@
 -- The rows of searches that were worked out by hand.
-use Rattle.std.proofs.Common.{List, [], ◌∷◌, AllPairs, refl, arith}
-use Rattle.std.specs.List.{AllByRecursion}
-use Rattle.std.proofs.lemmas.List.Kept.{AllPairs-cons}
+use Rattle.std.proofs.Common.{List, [], ◌∷◌, refl}
 use Rattle.std.proofs.lemmas.List.Sorted.{IsPermutation-append_comm}
 use Rattle.hb_space.specs.declared.records.Record.{Record}
 use Rattle.hb_set.specs.declared.scripts.Line.{Line}
 use Rattle.hb_activity.specs.Deeds.{Deed}
 use Rattle.hb_activity.specs.OneDeed.{IsOnly}
 use Rattle.hb_activity.specs.Sights.{Sight}
-use Rattle.hb_frag.specs.Rules.{Precedes}
+use Rattle.hb_frag.proofs.Facts.RisingRecords.{rising}
 use Rattle.hb_search.proofs.Facts.OneSearch.{searches_have_one_deed}
 use Rattle.hb_search.specs.Examples.{SearchesByHand, box_of, corner_page, rec_of_two}
 use Rattle.hb_search.specs.SearchRows.{Gathers}
 use Rattle.hb_space.specs.Boxes.{Area}
-use Rattle.std.proofs.lemmas.List.Elements.{All-from_recursion}
 
 abbrev of_four : List Record
 of_four = rec_of_two 5 5 ∷ rec_of_two 25 12 ∷ rec_of_two 30 9 ∷ rec_of_two 40 20 ∷ []
 
 abbrev leaf_area : Area
 leaf_area = box_of 0 49 0 30
-
--- records in rising order
-abbrev Rise : List Record → Type 0
-Rise [] = Unit {0}
-Rise (r ∷ rest) = AllByRecursion (Precedes r) rest × Rise rest
-
-rising : (records : List Record) → Rise records → AllPairs Precedes records
-rising [] each = λ i j d less lt. absurd (omega (arith, lt))
-rising (r ∷ rest) each = AllPairs-cons Precedes r rest (All-from_recursion (Precedes r) rest each.0) (rising rest each.1)
 
 only_this : (s : Sight) (line : Line) (rest : List Area) (found : List Record) (deed : Deed) → Gathers s line rest found corner_page (20 ∷ 10 ∷ []) deed → IsOnly (Gathers s line rest found corner_page (20 ∷ 10 ∷ [])) deed
 only_this s line rest found deed row = record { done = row; only = λ other again. searches_have_one_deed s line rest found corner_page (20 ∷ 10 ∷ []) other deed again row }

@@ -1,5 +1,5 @@
 -- The set that handles make, and what an edit of the handles makes of it.
-use Rattle.std.proofs.Common.{◌≡◌, ℕ, suc, Bool, true, false, not, List, [], ◌∷◌, length, get_or, map, Some, None, Box, All, filter, refl, sym, ap, subst, ◌∙◌, arith}
+use Rattle.std.proofs.Common.{◌≡◌, ℕ, suc, not, List, [], ◌∷◌, length, get_or, map, Some, None, Box, All, filter, refl, sym, ap, subst, ◌∙◌, arith}
 use Rattle.std.specs.List.{insert, remove}
 use Rattle.std.specs.Ordering.{eq_by_cmp}
 use Rattle.std.specs.declared.alloc.Global.{Global}
@@ -19,6 +19,7 @@ use Rattle.hb_set.specs.Machine.{RecordSet, record_of, set_records, HasAttribute
 use Rattle.hb_set.proofs.Facts.MachineLaws.{entries_without, entries-remove}
 use Rattle.hb_set.specs.Kept.{records_behind, entries_behind, PointsRise, IsHandleAt, IsHandleGapFor}
 use Rattle.hb_set.proofs.Places.{find_at, find_gap, put_gap, without_at}
+use Rattle.hb_lemmas.proofs.Booleans.{T_true}
 
 -- the set of the records behind the handles
 abbrev pub set_behind : List (Box Record Global) → RecordSet
@@ -26,10 +27,6 @@ set_behind hs = map.from_sorted (entries_behind hs)
 
 sorted_T : (hs : List (Box Record Global)) → PointsRise hs → T (is_sorted point_cmp (entries_behind hs))
 sorted_T hs r = subst T (sym r) tt
-
-T_true : (b : Bool) → T b → b ≡ true
-T_true true t = refl
-T_true false t = absurd t
 
 pub entries_are : (hs : List (Box Record Global)) → PointsRise hs → map.entries (set_behind hs) ≡ entries_behind hs
 entries_are hs r = map.entries-from_sorted point_cmp (entries_behind hs) (sorted_T hs r)

@@ -1,17 +1,17 @@
--- What the examples have in common: a file whose pages are all in use, and boxes of one attribute.
-use Rattle.std.proofs.Common.{◌≡◌, ◌≢◌, ◌⊎◌, inl, inr, ℕ, zero, suc, ◌+◌, ◌<◌, ◌-◌, ◌≤◌, ◌^◌, List, [], ◌∷◌, map, slice_get, slice_index, AllPairs, Contains, Some, refl, sym, ap, subst, ◌∙◌, arith}
+-- What the examples have in common: a file whose pages are all in use.
+use Rattle.std.proofs.Common.{◌≡◌, ◌≢◌, ◌⊎◌, inl, inr, ℕ, zero, suc, ◌+◌, ◌<◌, ◌-◌, List, [], ◌∷◌, map, slice_get, Contains, Some, sym, ap, subst, ◌∙◌, arith}
 use Rattle.std.specs.List.{AllByRecursion}
 use Rattle.std.proofs.lemmas.List.Elements.{All-contains}
-use Rattle.std.proofs.lemmas.List.Kept.{AllPairs-cons}
 use Rattle.std.proofs.lemmas.Bool.{cases_eq}
-use Rattle.hb_space.specs.Boxes.{Area, Cuts, Holds, Within, whole_area}
+use Rattle.hb_space.specs.Boxes.{Area, Holds, Within, whole_area}
 use Rattle.hb_space.specs.declared.records.Record.{Record}
 use Rattle.hb_frag.specs.declared.leaves.Leaf.{Leaf}
 use Rattle.hb_frag.specs.declared.leaves.Leaf.TheVariants.{Records, Child, Sibling}
 use Rattle.hb_frag.specs.declared.pages.LivePage.{LivePage}
 use Rattle.hb_frag.specs.declared.pages.Page.TheVariants.{Live, Free}
 use Rattle.hb_frag.specs.Leaves.{Placed, leaves_of, siblings_of}
-use Rattle.hb_frag.specs.Rules.{IsInOrder, Precedes}
+use Rattle.hb_frag.proofs.Facts.RisingRecords.{Rise, rising}
+use Rattle.hb_frag.specs.Rules.{IsInOrder}
 use Rattle.hb_layout.specs.declared.meta.Meta.{Meta}
 use Rattle.hb_ops.specs.Files.{FileState, live_page, page_of}
 use Rattle.hb_ops.specs.Sound.{ChildrenMatch, IsCovered, IsCounted, SiblingsMatch, count_live, times_named}
@@ -139,15 +139,6 @@ module _ (meta : Meta) (pages : List LivePage) (number : ℕ → ℕ) (each : Al
     named_once = λ id page live part. (as_later id page live part).once;
   }
 
--- records in rising order
-abbrev pub Rise : List Record → Type 0
-Rise [] = Unit {0}
-Rise (r ∷ rest) = AllByRecursion (Precedes r) rest × Rise rest
-
-pub rising : (records : List Record) → Rise records → AllPairs Precedes records
-rising [] each = λ i j d less lt. absurd (omega (arith, lt))
-rising (r ∷ rest) each = AllPairs-cons Precedes r rest (All-from_recursion (Precedes r) rest each.0) (rising rest each.1)
-
 -- a leaf without records, and one with them
 pub no_records : (name : ℕ) (area : Area) → IsInOrder (record { leaf = Child name; area = area })
 no_records name area = record { inside = λ k d lt. absurd (omega (arith, lt)); rising = λ i j d less lt. absurd (omega (arith, lt)) }
@@ -157,38 +148,3 @@ none_given name area = record { inside = λ k d lt. absurd (omega (arith, lt)); 
 
 pub in_order : (records : List Record) (area : Area) → AllByRecursion (λ (r : Record). Holds area r.key) records → Rise records → IsInOrder (record { leaf = Records records; area = area })
 in_order records area each rise = record { inside = All-from_recursion (λ (r : Record). Holds area r.key) records each; rising = rising records rise }
-
--- boxes of one attribute
-abbrev pub interval : ℕ → ℕ → Area
-interval low high = record { lo = low ∷ []; hi = high ∷ [] }
-
-abbrev pub top : ℕ
-top = 2 ^ 64 - 1
-
-pub held : (low value high : ℕ) → low ≤ value → value ≤ high → Holds (interval low high) (value ∷ [])
-held low value high above below = record { same = refl; between = inside }
-  where
-    inside : (i : ℕ) → i < 1 → (slice_index (low ∷ []) i ≤ slice_index (value ∷ []) i) × (slice_index (value ∷ []) i ≤ slice_index (high ∷ []) i)
-    inside zero lt = (above, below)
-    inside (suc i) lt = absurd (omega (arith, lt))
-
-pub below_all : (low value high : ℕ) → value < low → Holds (interval low high) (value ∷ []) → ⊥
-below_all low value high less h = let at = (h.between 0 (omega arith)).0 in omega (arith, at, less)
-
-pub above_all : (low value high : ℕ) → high < value → Holds (interval low high) (value ∷ []) → ⊥
-above_all low value high less h = let at = (h.between 0 (omega arith)).1 in omega (arith, at, less)
-
-pub within : (low high least greatest : ℕ) → least ≤ low → high ≤ greatest → Within (interval low high) (interval least greatest)
-within low high least greatest above below = inside
-  where
-    inside : (i : ℕ) → i < 1 → (slice_index (least ∷ []) i ≤ slice_index (low ∷ []) i) × (slice_index (high ∷ []) i ≤ slice_index (greatest ∷ []) i)
-    inside zero lt = (above, below)
-    inside (suc i) lt = absurd (omega (arith, lt))
-
--- a value above the least and at most the greatest one cuts
-pub cuts : (low high value : ℕ) → low < value → value ≤ high → Cuts (interval low high) 0 value
-cuts low high value above below = record { attribute = omega arith; above_least = above; up_to_greatest = below }
-
--- a box that begins above 0 isn't the whole space
-pub not_whole : (low high : ℕ) → 0 < low → interval low high ≢ whole_area 1
-not_whole low high above e = let least : low ≡ 0 = ap (λ (a : Area). slice_index a.lo 0) e in omega (arith, least, above)

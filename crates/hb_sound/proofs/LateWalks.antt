@@ -7,7 +7,7 @@ use Rattle.hb_frag.specs.Leaves.{leaf_at, siblings_of}
 use Rattle.hb_ops.specs.Files.{live_page}
 use Rattle.hb_sound.specs.LateFile.{LateResponsible, LateWalks, Way, late_aside, late_beside, late_file, late_highest, late_inner, late_lowest, late_middle, late_root, late_shared, late_walks}
 use Rattle.hb_sound.specs.PointWalks.{IsResponsible, IsWholeWalk, LeadsOn}
-use Rattle.hb_sound.proofs.ExampleParts.{above_all, below_all, held, top}
+use Rattle.hb_space.proofs.Facts.Intervals.{above_all, below_all, held, top}
 use Rattle.std.proofs.lemmas.List.Elements.{All-from_recursion}
 
 -- a step down, and one to the page beside

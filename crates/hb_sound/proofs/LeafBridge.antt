@@ -1,10 +1,8 @@
 -- Rules 7 and 8: what the leaves of the pages name, from the facts to the pages.
-use Rattle.std.proofs.Common.{◌≡◌, ◌⊎◌, inl, inr, ℕ, zero, suc, ◌+◌, ◌<◌, ◌≤◌, List, [], ◌∷◌, length, All, Contains, Option, Some, None, refl, sym, ap, ◌∙◌, subst, arith}
-use Rattle.std.proofs.lemmas.Bool.{cases_Bool, cases_eq, cases_lt, true≢false}
+use Rattle.std.proofs.Common.{◌≡◌, inl, inr, ℕ, zero, suc, ◌+◌, ◌<◌, ◌≤◌, List, [], ◌∷◌, length, All, Contains, Option, Some, None, refl, sym, ap, ◌∙◌, subst, arith}
+use Rattle.std.proofs.lemmas.Bool.{cases_eq}
 use Rattle.std.proofs.lemmas.List.{length-set}
 use Rattle.std.proofs.lemmas.List.Elements.{All-cons, All-contains, All-nil, Contains-append_cases, Contains-append_right}
-use Rattle.std.proofs.lemmas.Slice.Eq.{bytes_eq-Decides}
-use Rattle.std.specs.Str.{bytes_eq}
 use Rattle.hb_space.specs.Boxes.{Area, Within, side_below, side_from}
 use Rattle.hb_frag.specs.declared.leaves.Leaf.{Leaf}
 use Rattle.hb_frag.specs.declared.leaves.Leaf.TheVariants.{Records, Child, Sibling}
@@ -27,6 +25,7 @@ use Rattle.hb_sound.specs.Told.{item_at, file_with}
 use Rattle.hb_sound.specs.Walks.{IsLeast}
 use Rattle.hb_sound.proofs.Bridge.{live_seen, seen_live}
 use Rattle.hb_sound.proofs.Firsts.{item_within}
+use Rattle.hb_lemmas.proofs.Decisions.{Known, both, known_le, known_list}
 use Rattle.hb_lemmas.proofs.Lists.{only_one, first_member}
 use Rattle.hb_sound.proofs.Levels.{seen_fact}
 use Rattle.hb_sound.proofs.LocalBridge.{fits}
@@ -43,24 +42,6 @@ leaf_attributes (Cut axis value left right) area leaf a h =
       | inl here ↦ leaf_attributes left below leaf a here
       | inr here ↦ leaf_attributes right from leaf a here ∙ length-set area.lo axis value
     ]
-
--- it holds, or it doesn't
-abbrev pub Known : Type 0 → Type 0
-Known P = P ⊎ (P → ⊥)
-
-both : {P Q : Type 0} → Known P → Known Q → Known (P × Q)
-both (inl p) (inl q) = inl (p, q)
-both (inl p) (inr fails) = inr (λ pq. fails pq.1)
-both (inr fails) q = inr (λ pq. fails pq.0)
-
-known_le : (n m : ℕ) → Known (n ≤ m)
-known_le n m = elim (cases_lt m n) [ inl above ↦ inr (λ le. absurd (omega (arith, above, le))) | inr le ↦ inl le ]
-
-known_list : (xs ys : List ℕ) → Known (xs ≡ ys)
-known_list xs ys = elim (cases_Bool (bytes_eq xs ys)) [
-  | inl holds ↦ inl ((bytes_eq-Decides xs ys).0 holds)
-  | inr fails ↦ inr (λ e. true≢false (sym ((bytes_eq-Decides xs ys).1 e) ∙ fails))
-]
 
 abbrev box : List ℕ → List ℕ → Area
 box lo hi = record { lo = lo; hi = hi }

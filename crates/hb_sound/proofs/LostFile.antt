@@ -8,7 +8,8 @@ use Rattle.hb_ops.specs.Sound.{FitsFile, IsSound, SiblingsMatch, ChildrenMatch, 
 use Rattle.hb_sound.specs.Examples.{small_left}
 use Rattle.hb_sound.specs.LostFile.{lost_file, lost_last, lost_meta, lost_root, lost_second, lost_third}
 use Rattle.hb_sound.specs.PointWalks.{IsResponsible, IsWholeWalk}
-use Rattle.hb_sound.proofs.ExampleParts.{children_match, counted, cuts, each_page, first, held, in_order, interval, is_covered, later, no_records, none_given, not_whole, siblings_match, top, within}
+use Rattle.hb_sound.proofs.ExampleParts.{children_match, counted, each_page, first, in_order, is_covered, later, no_records, none_given, siblings_match}
+use Rattle.hb_space.proofs.Facts.Intervals.{cuts, held, interval, not_whole, top, within}
 use Rattle.std.proofs.lemmas.List.Elements.{All-from_recursion}
 
 abbrev all_pages : List LivePage

@@ -1,4 +1,5 @@
 pub mod Boxes
+pub mod Intervals
 pub mod Lists
 pub mod Outside
 pub mod PointOrder

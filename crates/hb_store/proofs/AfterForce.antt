@@ -30,7 +30,8 @@ use Rattle.hb_store.specs.States.{IsMemory, StoreState}
 use Rattle.hb_store.specs.Parts.{Parts, Leads, OpensNext, written_pages}
 use Rattle.hb_store.specs.Keeps.{StoreKeeps, OpensToFirst, last_of}
 use Rattle.hb_store.specs.Forced.{stopped_state, forced_state, with_log, durable_after, later_after}
-use Rattle.hb_store.proofs.Facts.ReplayLaws.{replay-append, zeros_end}
+use Rattle.hb_store.proofs.Facts.ReplayLaws.{replay-append}
+use Rattle.hb_wal.proofs.Facts.AreaBytes.{end_zeros}
 use Rattle.hb_store.proofs.Facts.StoreLaws.{OpensHere, OpensOn, opens_first, StoreKeeps-by}
 use Rattle.hb_store.proofs.AreaTorn.{places_kept, spelled_kept, shows_kept, opens_same, opens_more}
 
@@ -61,7 +62,7 @@ image_frames d log payloads has b told c image = record {
   payloads_fit = has.payloads_fit;
   rest = replicate (log.len - log.written) 0;
   bytes = has.synced.each b c told image ∙ at_value d.told (λ b. range log.area log.len b ≡ frames payloads ++ replicate (log.len - log.written) 0) b told has.reads;
-  at_end = zeros_end (log.len - log.written);
+  at_end = end_zeros (log.len - log.written);
 }
 
 -- the written frames are no longer than the area

@@ -1,37 +1,14 @@
 -- Whether bytes are a legal body of a turn.
-use Rattle.std.proofs.Common.{◌≡◌, ◌⊎◌, inl, inr, ℕ, ◌^◌, ◌<◌, ◌≤◌, List, [], take, drop, get_or, refl, sym, ap, ◌∙◌, subst, arith}
-use Rattle.std.proofs.lemmas.Bool.{cases_lt, cases_Bool, true≢false}
+use Rattle.std.proofs.Common.{◌≡◌, inl, inr, ℕ, ◌^◌, ◌<◌, List, [], take, drop, get_or, refl, sym, ap, ◌∙◌, subst, arith}
 use Rattle.std.proofs.lemmas.List.{append-nil}
-use Rattle.std.specs.Str.{bytes_eq}
-use Rattle.std.proofs.lemmas.Slice.Eq.{bytes_eq-Decides}
 use Rattle.byteorder.specs.Endian.{big_number, big_bytes}
 use Rattle.byteorder.specs.Numbers.{big_number-reads_back}
+use Rattle.hb_lemmas.proofs.Decisions.{Known, both, known_le, known_lt, known_list}
 use Rattle.hb_lemmas.specs.Numbers.{big_endian}
 use Rattle.hb_space.specs.declared.form.TheConstants.{KMAX, ICAP_MIN}
 use Rattle.hb_layout.specs.declared.meta.Meta.{Meta}
 use Rattle.hb_layout.specs.Limits.{IsLayout}
 use Rattle.hb_super.specs.Superblocks.{FitsNumbers, IsLegal, body_bytes}
-
--- it holds, or it doesn't
-abbrev pub Known : Type 0 → Type 0
-Known P = P ⊎ (P → ⊥)
-
-both : {P Q : Type 0} → Known P → Known Q → Known (P × Q)
-both (inl p) (inl q) = inl (p, q)
-both (inl p) (inr fails) = inr (λ pq. fails pq.1)
-both (inr fails) q = inr (λ pq. fails pq.0)
-
-known_le : (n m : ℕ) → Known (n ≤ m)
-known_le n m = elim (cases_lt m n) [ inl above ↦ inr (λ le. absurd (omega (arith, above, le))) | inr le ↦ inl le ]
-
-known_lt : (n m : ℕ) → Known (n < m)
-known_lt n m = elim (cases_lt n m) [ inl lt ↦ inl lt | inr above ↦ inr (λ lt. absurd (omega (arith, above, lt))) ]
-
-known_same : (xs ys : List ℕ) → Known (xs ≡ ys)
-known_same xs ys = elim (cases_Bool (bytes_eq xs ys)) [
-  | inl holds ↦ inl ((bytes_eq-Decides xs ys).0 holds)
-  | inr fails ↦ inr (λ e. true≢false (sym ((bytes_eq-Decides xs ys).1 e) ∙ fails))
-]
 
 -- the number that its bytes are of
 number_back : (width n : ℕ) → n < 256 ^ width → big_number width (big_endian width n) ≡ n
@@ -122,7 +99,7 @@ abbrev pub HasBody : List ℕ → ℕ → Type 0
 HasBody bytes turn = (meta : Meta) × IsLegal turn meta × (bytes ≡ body_bytes turn meta)
 
 pub known_body : (bytes : List ℕ) (turn : ℕ) → Known (HasBody bytes turn)
-known_body bytes turn = elim (both (known_legal turn (said_in bytes)) (known_same bytes (body_bytes turn (said_in bytes)))) [
+known_body bytes turn = elim (both (known_legal turn (said_in bytes)) (known_list bytes (body_bytes turn (said_in bytes)))) [
   | inl holds ↦ inl (said_in bytes, holds.0, holds.1)
   | inr fails ↦ inr (λ has.
       let is : said_in bytes ≡ has.0 = ap said_in has.2 ∙ said_back turn has.0 has.1 in

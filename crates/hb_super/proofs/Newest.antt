@@ -9,7 +9,8 @@ use Rattle.hb_layout.specs.declared.meta.Meta.{Meta}
 use Rattle.hb_super.specs.Superblocks.{IsLegal, HasSuper, IsNewest, HasNone, body_bytes, next_turn}
 use Rattle.hb_super.specs.SuperLaws.{OneNewest}
 use Rattle.hb_super.proofs.Supers.{same_turn, after_other, alone}
-use Rattle.hb_super.proofs.Bodies.{Known, known_body}
+use Rattle.hb_super.proofs.Bodies.{known_body}
+use Rattle.hb_lemmas.proofs.Decisions.{Known}
 
 pub next_or_before : (t s : ℕ) → t ≤ 3 → s ≤ 3 → t % 2 ≢ s % 2 → (t ≡ next_turn s) ⊎ (s ≡ next_turn t)
 next_or_before t s t_fits s_fits apart = elim (cases_Bool (eqb t (next_turn s))) [

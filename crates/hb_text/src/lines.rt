@@ -1,5 +1,6 @@
 ghost use Rattle.std.specs.Prelude.{◌≡◌, ◌==◌, ◌<◌, ◌≤◌, ◌∷◌, if◌then◌else◌, length, position, OnOk, Err};
 ghost use Rattle.std.specs.List.{list_all, list_any};
+ghost use Rattle.hb_space.specs.Points.{IsAttributeCount};
 ghost use Rattle.hb_text.specs.Grammar.{words_read, line_read, says_steps, SaysLine, SaysSteps};
 ghost use Rattle.hb_text.specs.Words.{lines_of, words_of, is_printable, is_empty};
 ghost use Rattle.hb_text.specs.StepWords.{steps_read};
@@ -9,7 +10,7 @@ use crate::rules::TextRule;
 use crate::steps::{STEPS, left_behind};
 use crate::words::Words;
 use hb_set::Line;
-use hb_space::form::{KMAX, LINE};
+use hb_space::form::LINE;
 
 /// The greatest number of lines.
 const LINES: u32 = 1_000_000;
@@ -87,8 +88,7 @@ fn read_words(
     number: u32,
     line: &[u8],
 ) -> Result<Meaning, TextRule>
-    requires some { 0 < attributes }
-    requires few { attributes ≤ KMAX }
+    requires attributes { IsAttributeCount attributes }
     requires taken { taken ≤ 10000000 }
     ensures { SaysLine (words_of line.now) result (words_read allowed attributes taken number (words_of line.now)) }
 {
@@ -119,8 +119,7 @@ pub(crate) fn read_line(
     number: u32,
     line: &[u8],
 ) -> Result<Meaning, TextRule>
-    requires some { 0 < attributes }
-    requires few { attributes ≤ KMAX }
+    requires attributes { IsAttributeCount attributes }
     requires taken { taken ≤ 10000000 }
     ensures says { SaysLine (words_of line.now) result (line_read allowed attributes taken number line.now) }
     ensures number { OnOk result (number ≤ 1000000) }

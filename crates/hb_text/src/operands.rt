@@ -1,4 +1,5 @@
 ghost use Rattle.std.specs.Prelude.{◌≡◌, ◌*◌, ◌<◌, ◌≤◌, length, take, drop, Ok, Err, MatchResult, IfOk, OnOk};
+ghost use Rattle.hb_space.specs.Points.{IsAttributeCount};
 ghost use Rattle.hb_text.specs.Numbers.{number_read};
 ghost use Rattle.hb_text.specs.Operands.{or_fault, values_read, body_read, lows, highs, box_read, box_words_read};
 
@@ -44,8 +45,7 @@ pub(crate) fn read_values(
 
 /// The point that the next words say, one for each attribute.
 pub(crate) fn read_point(attributes: u8, words: &mut Words<'_>) -> Result<Point, TextRule>
-    requires some { 0 < attributes }
-    requires few { attributes ≤ KMAX }
+    requires attributes { IsAttributeCount attributes }
     requires enough { attributes ≤ length words.old }
     ensures point { result ≡ values_read (take attributes words.old) }
     ensures rest { OnOk result (words.new ≡ drop attributes words.old) }
@@ -95,8 +95,7 @@ fn box_of(values: &[u64]) -> Result<Area, TextRule>
 
 /// The box that the next words say, two for each attribute.
 pub(crate) fn read_box(attributes: u8, words: &mut Words<'_>) -> Result<Area, TextRule>
-    requires some { 0 < attributes }
-    requires few { attributes ≤ KMAX }
+    requires attributes { IsAttributeCount attributes }
     requires enough { 2 * attributes ≤ length words.old }
     ensures { result ≡ box_words_read (take (2 * attributes) words.old) }
 {

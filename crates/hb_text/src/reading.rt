@@ -1,4 +1,5 @@
 ghost use Rattle.std.specs.Prelude.{◌≡◌, ℕ, ◌+◌, ◌<◌, ◌≤◌, false, List, [], ◌∷◌, ◌++◌, length, drop, Some, All, OnOk, IfOk};
+ghost use Rattle.hb_space.specs.Points.{IsAttributeCount};
 ghost use Rattle.hb_set.specs.Scripts.{IsScriptFor};
 ghost use Rattle.hb_text.specs.Grammar.{line_read, text_read};
 ghost use Rattle.hb_text.specs.StepWords.{steps_of};
@@ -10,7 +11,6 @@ use crate::rules::{BadLine, TextError};
 use crate::steps::push_steps;
 use crate::words::Words;
 use hb_set::{Line, Lines, Script, Steps};
-use hb_space::form::KMAX;
 use hb_space::{Actor, NoMemory};
 use std::alloc::Global;
 
@@ -33,8 +33,7 @@ fn add_line(
     number: u32,
     line: &[u8],
 ) -> Result<(), TextError>
-    requires some { 0 < attributes }
-    requires few { attributes ≤ KMAX }
+    requires attributes { IsAttributeCount attributes }
     requires taken { length steps.old.items ≤ 10000000 }
     ensures adds { AddsLine number lines.old.items lines.new.items steps.old.items steps.new.items result
         (line_read allowed attributes (length steps.old.items) number line.now) }
@@ -61,8 +60,7 @@ pub fn read_commands(
     attributes: u8,
     step_lines: bool,
 ) -> Result<Script, TextError>
-    requires some { 0 < attributes }
-    requires few { attributes ≤ KMAX }
+    requires { IsAttributeCount attributes }
     ensures exact { ReadsScript result (text_read step_lines attributes text.now) }
     ensures memory { WantsMemory step_lines attributes text.now result }
     ensures no_steps { IfOk result (λ script. step_lines ≡ false → script.steps ≡ []) }

@@ -10,7 +10,7 @@ use Rattle.hb_wal.specs.Frames.{frames, frame_bytes, IsPayload, range}
 use Rattle.hb_wal.specs.Reading.{FrameIs}
 use Rattle.hb_wal.specs.Loops.{HasRead}
 use Rattle.hb_wal.proofs.Kept.{length-frame}
-use Rattle.hb_wal.proofs.AreaBytes.{frames-push}
+use Rattle.hb_wal.proofs.Facts.AreaBytes.{frames-push}
 
 module _ (area len left : ℕ) (b payload behind : List ℕ) (payloads : List (List ℕ)) (fits : 5 + length payload ≤ left) (inside : left ≤ len)
     (is : range (area + (len - left)) left b ≡ frame_bytes payload ++ behind) where

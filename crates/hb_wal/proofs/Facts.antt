@@ -1,1 +1,2 @@
+pub mod AreaBytes
 pub mod FrameCounts

@@ -16,7 +16,7 @@ use Rattle.hb_wal.specs.Frames.{frames, frame_bytes, frame_body, IsPayload, IsEn
 use Rattle.hb_wal.specs.Log.{Waiting, LogState, IsLog, BeginsWith, forced, after_force, framed_bytes, pending_bytes}
 use Rattle.hb_wal.specs.Forces.{HasLog, ForceLeaves}
 use Rattle.hb_wal.proofs.Kept.{length-frame}
-use Rattle.hb_wal.proofs.AreaBytes.{get_or-range, length-range, range-overwritten, overwritten-zeros, frames-push, end_zeros}
+use Rattle.hb_wal.proofs.Facts.AreaBytes.{get_or-range, length-range, range-overwritten, overwritten-zeros, frames-push, end_zeros}
 
 -- the first group that waits, where a body is its frame's
 pub begins_split : (groups : List Waiting) (body : List ℕ) → BeginsWith groups body

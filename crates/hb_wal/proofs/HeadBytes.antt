@@ -5,7 +5,7 @@ use Rattle.hb_lemmas.specs.Numbers.{big_endian}
 use Rattle.hb_disk.specs.Calls.{open_gate}
 use Rattle.hb_wal.specs.Frames.{IsEnd, IsBadFrame, range}
 use Rattle.hb_wal.specs.Reading.{BeginsFrame}
-use Rattle.hb_wal.proofs.AreaBytes.{length-range}
+use Rattle.hb_wal.proofs.Facts.AreaBytes.{length-range}
 
 -- a few bytes are an end
 pub few_end : (rest : List ℕ) → length rest < 5 → IsEnd rest

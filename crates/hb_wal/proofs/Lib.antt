@@ -1,7 +1,6 @@
 pub mod Facts
 mod Waiting
 mod Kept
-mod AreaBytes
 mod Forces
 mod HeadBytes
 mod AreaReads

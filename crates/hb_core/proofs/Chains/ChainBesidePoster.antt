@@ -27,7 +27,8 @@ use Rattle.hb_ops.specs.Sound.{FitsFile}
 use Rattle.hb_ops.specs.Standing.{StandsNot}
 use Rattle.hb_lemmas.specs.Numbers.{big_endian}
 use Rattle.hb_point.specs.SessionRows.{taking}
-use Rattle.hb_sound.proofs.ExampleParts.{held, in_order, interval, top, within}
+use Rattle.hb_sound.proofs.ExampleParts.{in_order}
+use Rattle.hb_space.proofs.Facts.Intervals.{held, interval, top, within}
 use Rattle.hb_space.specs.Boxes.{side_below, whole_area}
 use Rattle.hb_store.specs.Calls.{IsReady}
 use Rattle.std.proofs.lemmas.List.Elements.{All-from_recursion}

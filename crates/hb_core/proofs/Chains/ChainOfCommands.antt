@@ -17,7 +17,7 @@ use Rattle.hb_core.specs.Scenes.{Scene, machine_of, standing, store_of}
 use Rattle.hb_frag.specs.Rules.{Precedes}
 use Rattle.hb_ops.specs.Standing.{StandsNot}
 use Rattle.hb_point.specs.SessionRows.{taking}
-use Rattle.hb_sound.proofs.ExampleParts.{rising}
+use Rattle.hb_frag.proofs.Facts.RisingRecords.{rising}
 use Rattle.hb_space.specs.Boxes.{Area}
 use Rattle.hb_store.specs.Calls.{IsReady}
 use Rattle.std.proofs.lemmas.List.Elements.{All-from_recursion}

@@ -17,7 +17,7 @@ use Rattle.hb_ops.specs.Extracting.{FitsExtract}
 use Rattle.hb_ops.specs.Recording.{FitsPut}
 use Rattle.hb_lemmas.specs.Numbers.{big_endian}
 use Rattle.hb_point.specs.SessionRows.{taking}
-use Rattle.hb_sound.proofs.ExampleParts.{cuts, top}
+use Rattle.hb_space.proofs.Facts.Intervals.{cuts, top}
 use Rattle.hb_store.specs.Calls.{IsReady}
 use Rattle.hb_core.proofs.Chains.ChainOfTwo.{finds_no_room, puts, splits}
 

@@ -19,7 +19,7 @@ use Rattle.hb_core.specs.Rows.{Row}
 use Rattle.hb_core.specs.Scenes.{Scene, machine_of, standing}
 use Rattle.hb_core.specs.Steps.{TakesMerging}
 use Rattle.hb_core.proofs.Chains.BuiltSteps.{after, at_hand, live_is, only_looks, performed, queued, wanted_in, works}
-use Rattle.hb_sound.proofs.ExampleParts.{interval, top, within}
+use Rattle.hb_space.proofs.Facts.Intervals.{interval, top, within}
 use Rattle.std.proofs.lemmas.List.Elements.{All-from_recursion}
 
 abbrev job : Job

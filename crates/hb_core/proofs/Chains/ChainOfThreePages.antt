@@ -27,7 +27,8 @@ use Rattle.hb_core.specs.declared.outcomes.Outcome.TheVariants.{Moved}
 use Rattle.hb_core.proofs.Chains.BuiltSteps.{after, at_hand, forced_scene, forces, has_room, live_is, one_joins, performed, queued, wanted_in, works}
 use Rattle.hb_core.proofs.Chains.ChainOfTwoParts.{differ}
 use Rattle.hb_point.specs.SessionRows.{taking}
-use Rattle.hb_sound.proofs.ExampleParts.{each_has, held, in_order, interval, top}
+use Rattle.hb_sound.proofs.ExampleParts.{each_has, in_order}
+use Rattle.hb_space.proofs.Facts.Intervals.{held, interval, top}
 use Rattle.hb_store.specs.Calls.{IsReady}
 use Rattle.std.proofs.lemmas.List.Elements.{All-from_recursion}
 

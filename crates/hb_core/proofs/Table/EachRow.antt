@@ -22,14 +22,14 @@ use Rattle.hb_activity.specs.declared.activities.Activity.{Activity}
 use Rattle.hb_activity.specs.declared.activities.Activity.TheVariants as at
 use Rattle.hb_activity.specs.Classes.{HasJob, Posters, class_of, hand_of}
 use Rattle.hb_activity.specs.Deeds.{Deed, answers_now, does, moves_to, takes_effect}
-use Rattle.hb_activity.specs.Passing.{IsPointer, LeadsBelow, PartLeavesTo, PassesOn, corner_of, posts_owed}
+use Rattle.hb_activity.specs.Passing.{LeadsBelow, PartLeavesTo, PassesOn, corner_of, posts_owed}
 use Rattle.hb_activity.specs.Sights.{Sight}
 use Rattle.hb_activity.specs.Walks.{goal_of}
 use Rattle.hb_core.proofs.Table.MergerMoves.{StaysMerger, decided, ended, planned, promoted, scanned, took, tried}
 use Rattle.hb_core.specs.KeptMerges.{IsMerging}
 use Rattle.hb_core.specs.Machines.{Machine, sight}
 use Rattle.hb_core.specs.Rows.{DoesHere, IsAtHand, Row, RowAlone, RowAt}
-use Rattle.hb_frag.specs.Leaves.{first_named, leaf_at, siblings_of, weight_of}
+use Rattle.hb_frag.specs.Leaves.{IsPointer, first_named, leaf_at, siblings_of, weight_of}
 use Rattle.hb_ops.specs.Recording.{put_page}
 use Rattle.hb_ops.specs.Standing.{StandsNot, StandsThere}
 use Rattle.hb_point.specs.SessionRows.{merges_due}

@@ -11,7 +11,7 @@ use Rattle.hb_activity.specs.declared.activities.Activity.TheVariants as at
 use Rattle.hb_activity.specs.declared.dropping.DropWhy.{DropWhy}
 use Rattle.hb_activity.specs.Classes.{Class, class_of, idle_of}
 use Rattle.hb_activity.specs.Deeds.{Deed, moves_to}
-use Rattle.hb_activity.specs.Passing.{IsPointer, posts_owed}
+use Rattle.hb_activity.specs.Passing.{posts_owed}
 use Rattle.hb_activity.specs.Walks.{walk_held, walk_point}
 use Rattle.hb_core.proofs.Table.GivenUp.{given_up_is, idle_latches, idle_merging, idle_walks, run_out_is}
 use Rattle.hb_core.specs.Asking.{wanted_by}
@@ -20,7 +20,7 @@ use Rattle.hb_core.specs.KeptMerges.{IsMerging, merging_at}
 use Rattle.hb_core.specs.Machines.{Machine, live_here, with_disk, sight}
 use Rattle.hb_core.specs.Performing.{latches_held}
 use Rattle.hb_core.specs.Rows.{Row, RowAt}
-use Rattle.hb_frag.specs.Leaves.{Placed, leaf_at}
+use Rattle.hb_frag.specs.Leaves.{IsPointer, Placed, leaf_at}
 use Rattle.hb_point.specs.SessionRows.{FindsNoRoom}
 use Rattle.hb_point.specs.SplitRows.{Splits}
 use Rattle.hb_poster.specs.PosterRows.{Arrives}

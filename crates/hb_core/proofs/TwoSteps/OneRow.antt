@@ -23,7 +23,7 @@ use Rattle.hb_activity.specs.declared.wanting.Wanted.{Wanted}
 use Rattle.hb_activity.specs.declared.activities.Activity.{Activity}
 use Rattle.hb_activity.specs.declared.activities.Activity.TheVariants as at
 use Rattle.hb_activity.specs.Deeds.{Deed, does, takes_effect}
-use Rattle.hb_activity.specs.Passing.{IsPointer, PassesOn, PartLeavesTo, corner_of}
+use Rattle.hb_activity.specs.Passing.{PassesOn, PartLeavesTo, corner_of}
 use Rattle.hb_activity.specs.Walks.{goal_of}
 use Rattle.hb_consol.specs.ConsolidatorRows.{ArrivesToMerge, ConsolidatorPasses, children_of, first_one}
 use Rattle.hb_core.proofs.TwoSteps.OneMerge.{one_decision, one_keep, one_scan, one_try, same_scan}
@@ -31,7 +31,7 @@ use Rattle.hb_core.proofs.TwoSteps.OnePiece.{one_number, one_plan}
 use Rattle.hb_point.proofs.Facts.ChosenCuts.{one_choice}
 use Rattle.hb_core.specs.Machines.{Machine, live_here, with_disk, sight}
 use Rattle.hb_core.specs.Rows.{DoesHere, Row, RowAlone, RowAt}
-use Rattle.hb_frag.specs.Leaves.{Placed, leaf_at, weight_of}
+use Rattle.hb_frag.specs.Leaves.{IsPointer, Placed, leaf_at, weight_of}
 use Rattle.hb_frag.specs.Paths.{part_at}
 use Rattle.hb_frag.specs.Rules.{AreInOrder}
 use Rattle.hb_frag.specs.Trees.{Tree}

@@ -12,14 +12,14 @@ use Rattle.hb_activity.specs.declared.activities.Activity.{Activity}
 use Rattle.hb_activity.specs.declared.activities.Activity.TheVariants as at
 use Rattle.hb_activity.specs.Classes.{Empty, hand_of}
 use Rattle.hb_activity.specs.Deeds.{Deed}
-use Rattle.hb_activity.specs.Passing.{IsPointer, LeadsBelow}
+use Rattle.hb_activity.specs.Passing.{LeadsBelow}
 use Rattle.hb_activity.specs.Walks.{job_mode}
 use Rattle.hb_activity.specs.Wanting.{in_mode, named_page, walk_next, wanted_of, wanted_page}
 use Rattle.hb_core.specs.Asking.{looked_live, wanted_by}
 use Rattle.hb_core.specs.KeptFits.{GaveAwayAt, StandsAbove, walking_job}
 use Rattle.hb_core.specs.Machines.{Machine, live_here}
 use Rattle.hb_core.specs.Rows.{Row}
-use Rattle.hb_frag.specs.Leaves.{Placed, leaf_at}
+use Rattle.hb_frag.specs.Leaves.{IsPointer, Placed, leaf_at}
 use Rattle.hb_space.specs.Boxes.{Area}
 use Rattle.hb_store.specs.States.{StoreState}
 use Rattle.hb_core.proofs.Table.EachRow.{each_row}

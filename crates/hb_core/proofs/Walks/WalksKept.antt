@@ -13,9 +13,9 @@ use Rattle.hb_core.specs.declared.outcomes.Outcome.{Outcome}
 use Rattle.hb_core.specs.declared.outcomes.Outcome.TheVariants as outcomes
 use Rattle.hb_activity.specs.Deeds.{Deed}
 use Rattle.hb_activity.specs.Holding.{latch_on}
-use Rattle.hb_activity.specs.Passing.{IsPointer, LeadsBelow}
+use Rattle.hb_activity.specs.Passing.{LeadsBelow}
 use Rattle.hb_activity.specs.Wanting.{named_page, onward_at}
-use Rattle.hb_frag.specs.Leaves.{Placed, leaf_at}
+use Rattle.hb_frag.specs.Leaves.{IsPointer, Placed, leaf_at}
 use Rattle.std.specs.Option.{option_and_then}
 use Rattle.hb_frag.specs.declared.leaves.Leaf.{Leaf}
 use Rattle.hb_frag.specs.declared.leaves.Leaf.TheVariants.{Records, Child, Sibling}

@@ -10,7 +10,7 @@ use Rattle.hb_activity.specs.declared.jobs.Job.{Job}
 use Rattle.hb_activity.specs.declared.activities.Activity.{Activity}
 use Rattle.hb_core.specs.declared.outcomes.Outcome.{Outcome}
 use Rattle.hb_activity.specs.Deeds.{Deed}
-use Rattle.hb_activity.specs.Passing.{IsPointer, LeadsBelow}
+use Rattle.hb_activity.specs.Passing.{LeadsBelow}
 use Rattle.hb_activity.specs.Walks.{walk_held}
 use Rattle.hb_consol.specs.ConsolidatorRows.{IsMergingOf}
 use Rattle.hb_core.proofs.Table.DeedKinds.{each_again, each_deed}
@@ -25,7 +25,7 @@ use Rattle.hb_core.specs.KeptMachine.{MachineKeeps}
 use Rattle.hb_core.specs.Machines.{Machine, live_here, with_disk}
 use Rattle.hb_core.specs.Performing.{Performs}
 use Rattle.hb_core.specs.Steps.{StepsTo, TakesJob, TakesMerging}
-use Rattle.hb_frag.specs.Leaves.{leaf_at}
+use Rattle.hb_frag.specs.Leaves.{IsPointer, leaf_at}
 use Rattle.hb_latch.specs.Tables.{MayLatch}
 use Rattle.hb_ops.specs.Files.{if_live}
 use Rattle.hb_poster.specs.PosterRows.{IsPostingOf}

@@ -13,10 +13,10 @@ use Rattle.hb_space.proofs.Facts.Boxes.{Holds-side_below, Holds-side_from}
 use Rattle.hb_frag.specs.declared.leaves.Leaf.{Leaf}
 use Rattle.hb_frag.specs.declared.leaves.Leaf.TheVariants.{Records, Child, Sibling}
 use Rattle.hb_frag.specs.Trees.{Tree, Tip, Cut}
-use Rattle.hb_frag.specs.Leaves.{Placed, IsWellCut, first_at, leaves_of, leaves, records_of}
+use Rattle.hb_frag.specs.Leaves.{Placed, IsWellCut, first_at, leaves_of, leaves, records_of, IsPointer}
 use Rattle.hb_frag.specs.Rules.{BelongsAt, IsInOrder}
 use Rattle.hb_frag.specs.Normal.{in_point_order, one_leaf_or_cut, normal}
-use Rattle.hb_frag.specs.NormalLaws.{KeepsLeaf, KeepsPoint, NamesAPage, SaysTheSame}
+use Rattle.hb_frag.specs.NormalLaws.{KeepsLeaf, KeepsPoint, SaysTheSame}
 use Rattle.hb_frag.proofs.Facts.NamesListed.{siblings-append}
 use Rattle.hb_frag.proofs.Facts.Parts.{weight_cut}
 use Rattle.hb_frag.proofs.Facts.Points.{going_left, going_right, way_ends}
@@ -113,7 +113,7 @@ module _ (axis value : ℕ) (l r l' r' : Tree) (f : SaysTheSame l l') (g : SaysT
       subst P (sym (flat_map-append records_of (leaves l) (leaves r))) (subst Q (sym (flat_map-append records_of (leaves l') (leaves r')))
       (IsPermutation-append (flat_map records_of (leaves l)) (flat_map records_of (leaves l')) (flat_map records_of (leaves r)) (flat_map records_of (leaves r')) f.records g.records))
 
-  cut_names : (leaf : Leaf) → NamesAPage leaf → Contains (leaves l' ++ leaves r') leaf ↔ Contains (leaves l ++ leaves r) leaf
+  cut_names : (leaf : Leaf) → IsPointer leaf → Contains (leaves l' ++ leaves r') leaf ↔ Contains (leaves l ++ leaves r) leaf
   cut_names leaf n = (
     λ h. elim (Contains-append_cases (leaves l') (leaves r') leaf h) [
       | inl x ↦ Contains-append_left (leaves l) (leaves r) leaf ((f.names leaf n).0 x)
@@ -163,8 +163,8 @@ module _ (axis value : ℕ) (x y z : Leaf) (left : KeepsLeaf x z) (right : Keeps
             record { before = record { leaf = y; area = side_from a axis value }; after = record { leaf = z; area = a }; old_leaf = going_right axis value (Tip x) (Tip y) a p h cut held.same high ∙ w; new_leaf = here; kept = right }
       ]
 
-no_name : (leaf : Leaf) (xs : List Record) → NamesAPage leaf → Contains (Records xs ∷ []) leaf → ⊥
-no_name leaf xs n w = let P : Leaf → Type 0 = NamesAPage in subst P (sym (only_one (Records xs) leaf w)) n
+no_name : (leaf : Leaf) (xs : List Record) → IsPointer leaf → Contains (Records xs ∷ []) leaf → ⊥
+no_name leaf xs n w = let P : Leaf → Type 0 = IsPointer in subst P (sym (only_one (Records xs) leaf w)) n
 
 says_records : (axis value : ℕ) (xs ys : List Record) → SaysTheSame (Cut axis value (Tip (Records xs)) (Tip (Records ys))) (Tip (Records (in_point_order (xs ++ ys))))
 says_records axis value xs ys =

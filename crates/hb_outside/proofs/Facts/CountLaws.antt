@@ -13,6 +13,10 @@ Rose-later a b c le (inr e) = inr e
 pub Counts-same : {failed : Type 0} {before after : ℕ} → (failed → ⊥) → after ≡ before → Counts failed before after
 Counts-same {before = before} {after = after} never same = record { cause = λ f. absurd (never f); no_fault = λ _. same; later = omega (arith, same) }
 
+-- the same of what failed in other words
+pub Counts-as : {F G : Type 0} (before after : ℕ) → (F → G) → (G → F) → Counts F before after → Counts G before after
+Counts-as before after to from counts = record { cause = λ failed. counts.cause (from failed); no_fault = λ good. counts.no_fault (λ failed. good (to failed)); later = counts.later }
+
 -- a call failed
 pub Counts-rose : {failed : Type 0} {before after : ℕ} → failed → before ≤ after → Rose before after → Counts failed before after
 Counts-rose failed le rose = record { cause = λ _. rose; no_fault = λ never. absurd (never failed); later = le }

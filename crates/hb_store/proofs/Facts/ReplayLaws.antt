@@ -1,9 +1,10 @@
 -- What follows of groups that are replayed: one after the other, and what they make of a file.
-use Rattle.std.proofs.Common.{◌≡◌, inr, ℕ, zero, suc, ◌≤◌, List, [], ◌∷◌, ◌++◌, length, replicate, Option, Some, None, refl, sym, ap, ◌∙◌, subst, arith, append_assoc}
+use Rattle.std.proofs.Common.{◌≡◌, ℕ, ◌≤◌, List, [], ◌∷◌, ◌++◌, length, replicate, Option, Some, None, refl, sym, ap, ◌∙◌, subst, arith, append_assoc}
 use Rattle.std.proofs.lemmas.List.Elements.{All-nil}
 use Rattle.hb_frag.specs.declared.pages.Page.{Page}
 use Rattle.hb_frag.specs.Grammar.{SpellsPage}
-use Rattle.hb_wal.specs.Frames.{HasFrames, IsEnd, IsPayload}
+use Rattle.hb_wal.proofs.Facts.AreaBytes.{end_zeros}
+use Rattle.hb_wal.specs.Frames.{HasFrames, IsPayload}
 use Rattle.hb_super.specs.Superblocks.{IsNewest}
 use Rattle.hb_layout.specs.declared.meta.Meta.{Meta}
 use Rattle.hb_ops.specs.Files.{FileState, page_of}
@@ -82,10 +83,6 @@ opens_elsewhere b c turn said payloads groups s opens newest long same_log same_
         subst Q (sym (same_places id page is none)) spells
     page_in id page is (Some touched) some same = same
 
-pub zeros_end : (m : ℕ) → IsEnd (replicate m 0)
-zeros_end zero = tt
-zeros_end (suc m) = inr (λ e. cc e)
-
 pub opens_fresh : (c : List ℕ) (turn : ℕ) (meta : Meta) (s : FileState) → IsNewest c turn meta → file_size meta ≤ length c → log_bytes turn meta c ≡ replicate meta.log 0
     → s.meta ≡ meta → length s.pages ≡ meta.high → ((id : ℕ) (page : Page) → page_of s id ≡ Some page → SpellsPage (place_bytes meta id c) page)
     → OpensBy c turn meta [] [] s
@@ -96,7 +93,7 @@ opens_fresh c turn meta s newest long zeros meta_is count pages = record {
     payloads_fit = All-nil IsPayload;
     rest = replicate meta.log 0;
     bytes = zeros;
-    at_end = zeros_end meta.log;
+    at_end = end_zeros meta.log;
   };
   spelled = refl;
   replayed = tt;

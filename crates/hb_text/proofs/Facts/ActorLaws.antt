@@ -8,7 +8,7 @@ use Rattle.hb_text.specs.Numbers.{number_read}
 use Rattle.hb_text.specs.declared.numbers.NumberFault.{NumberFault}
 use Rattle.hb_text.specs.StepWords.{actor_of, count_number, repeated, steps_of_parts, word_steps, joined_steps, steps_of, session_number, session_of}
 use Rattle.hb_lemmas.proofs.Booleans.{chosen}
-use Rattle.hb_text.proofs.Facts.ReadingLaws.{some_same}
+use Rattle.std.proofs.lemmas.Option.{same_Some}
 
 -- an actor: 1 to 16 the sessions, then the poster, the consolidator and the flusher
 abbrev pub IsActor : ℕ → Type 0
@@ -28,7 +28,7 @@ all_same (suc n) a h = (h, all_same n a h)
 session_is_actor : (read : Result ℕ NumberFault) (a : ℕ) → session_number read ≡ Some a → IsActor a
 session_is_actor (Err fault) a e = cc
 session_is_actor (Ok n) a e = elim (chosen (nat_le 1 n && nat_le n 16) (Some n) None (Some a) e) [
-  | inl fits ↦ let same : n ≡ a = some_same _ _ fits.1 in (grind (arith, nat_tests, fits.0, same), grind (arith, nat_tests, fits.0, same))
+  | inl fits ↦ let same : n ≡ a = same_Some _ _ fits.1 in (grind (arith, nat_tests, fits.0, same), grind (arith, nat_tests, fits.0, same))
   | inr other ↦ cc (other.1)
 ]
 
@@ -37,18 +37,18 @@ word_is_actor word a e =
     let f = if bytes_eq word (codes "f") then Some 19 else session_of word in
     let c = if bytes_eq word (codes "c") then Some 18 else f in
     elim (chosen (bytes_eq word (codes "p")) (Some 17) c (Some a) e) [
-      | inl p ↦ let same : 17 ≡ a = some_same _ _ p.1 in (omega (arith, same), omega (arith, same))
+      | inl p ↦ let same : 17 ≡ a = same_Some _ _ p.1 in (omega (arith, same), omega (arith, same))
       | inr q ↦ elim (chosen (bytes_eq word (codes "c")) (Some 18) f (Some a) q.1) [
-        | inl p ↦ let same : 18 ≡ a = some_same _ _ p.1 in (omega (arith, same), omega (arith, same))
+        | inl p ↦ let same : 18 ≡ a = same_Some _ _ p.1 in (omega (arith, same), omega (arith, same))
         | inr r ↦ elim (chosen (bytes_eq word (codes "f")) (Some 19) (session_of word) (Some a) r.1) [
-          | inl p ↦ let same : 19 ≡ a = some_same _ _ p.1 in (omega (arith, same), omega (arith, same))
+          | inl p ↦ let same : 19 ≡ a = same_Some _ _ p.1 in (omega (arith, same), omega (arith, same))
           | inr s ↦ session_is_actor (number_read word) a s.1
         ]
       ]
     ]
 
 repeated_actors : (actor count : Option ℕ) (steps : List ℕ) → ((a : ℕ) → actor ≡ Some a → IsActor a) → repeated actor count ≡ Some steps → AreActors steps
-repeated_actors (Some a) (Some n) steps is e = subst AreActors (some_same _ _ e) (all_same n a (is a refl))
+repeated_actors (Some a) (Some n) steps is e = subst AreActors (same_Some _ _ e) (all_same n a (is a refl))
 repeated_actors (Some a) None steps is e = cc
 repeated_actors None count steps is e = cc
 
@@ -59,10 +59,10 @@ parts_actors (actor ∷ count ∷ []) steps e = repeated_actors (actor_of actor)
 parts_actors (actor ∷ count ∷ more ∷ rest) steps e = cc
 
 joined_actors : (one more : Option (List ℕ)) (steps : List ℕ) → ((s : List ℕ) → one ≡ Some s → AreActors s) → ((s : List ℕ) → more ≡ Some s → AreActors s) → joined_steps one more ≡ Some steps → AreActors steps
-joined_actors (Some one) (Some more) steps f g e = subst AreActors (some_same _ _ e) (all_append one more (f one refl) (g more refl))
+joined_actors (Some one) (Some more) steps f g e = subst AreActors (same_Some _ _ e) (all_append one more (f one refl) (g more refl))
 joined_actors (Some one) None steps f g e = cc
 joined_actors None more steps f g e = cc
 
 pub words_actors : (words : List (List ℕ)) (steps : List ℕ) → steps_of words ≡ Some steps → AreActors steps
-words_actors [] steps e = subst AreActors (some_same _ _ e) tt
+words_actors [] steps e = subst AreActors (same_Some _ _ e) tt
 words_actors (word ∷ words) steps e = joined_actors (word_steps word) (steps_of words) steps (λ s is. parts_actors (slice_split (λ c. c == 120) word) s is) (λ s is. words_actors words s is) e

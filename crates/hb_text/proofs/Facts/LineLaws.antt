@@ -14,14 +14,15 @@ use Rattle.hb_text.specs.Operands.{command_read}
 use Rattle.hb_text.specs.StepWords.{session_number}
 use Rattle.std.proofs.lemmas.Bool.Decides.{nat_tests}
 use Rattle.hb_lemmas.proofs.Booleans.{chosen}
-use Rattle.hb_text.proofs.Facts.ReadingLaws.{ok_same, some_same}
+use Rattle.hb_text.proofs.Facts.ReadingLaws.{ok_same}
+use Rattle.std.proofs.lemmas.Option.{same_Some}
 use Rattle.hb_text.proofs.Facts.CommandLaws.{command_attributes}
 
 -- a session is a number from 1 to 16
 pub session_fits : (read : Result ℕ NumberFault) (session : ℕ) → session_number read ≡ Some session → (1 ≤ session) × (session ≤ 16)
 session_fits (Err fault) session e = cc
 session_fits (Ok n) session e = elim (chosen (nat_le 1 n && nat_le n 16) (Some n) None (Some session) e) [
-  | inl fits ↦ let same : n ≡ session = some_same _ _ fits.1 in (grind (arith, nat_tests, fits.0, same), grind (arith, nat_tests, fits.0, same))
+  | inl fits ↦ let same : n ≡ session = same_Some _ _ fits.1 in (grind (arith, nat_tests, fits.0, same), grind (arith, nat_tests, fits.0, same))
   | inr other ↦ cc (other.1)
 ]
 

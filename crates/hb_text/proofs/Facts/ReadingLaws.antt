@@ -1,5 +1,5 @@
 -- A step of reading, taken apart: what it gave, and what was made of it.
-use Rattle.std.specs.Prelude.{◌≡◌, ℕ, Some, Result, Ok, Err, refl}
+use Rattle.std.specs.Prelude.{◌≡◌, ℕ, Result, Ok, Err, refl}
 use Rattle.std.proofs.Common.{ap}
 use Rattle.hb_text.specs.declared.rules.TextRule.{TextRule}
 use Rattle.hb_text.specs.Grammar.{at_line, Said}
@@ -12,9 +12,6 @@ bound (Err d) f y e = cc
 
 pub ok_same : {A E : Type 0} (x y : A) → ◌≡◌ {A = Result A E} (Ok x) (Ok y) → x ≡ y
 ok_same x y e = cc
-
-pub some_same : {A : Type 0} (x y : A) → Some x ≡ Some y → x ≡ y
-some_same x y e = cc
 
 pub at_line_ok : (number : ℕ) (read : Result Said TextRule) (said : Said) → at_line number read ≡ Ok said → read ≡ Ok said
 at_line_ok number (Ok found) said e = ap Ok (ok_same _ _ e)

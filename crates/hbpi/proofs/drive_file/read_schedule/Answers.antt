@@ -24,3 +24,6 @@ returns-in-Ok-2-clause-refused g c =
       λ served. let t : IsTrue c.serves.result = c.serves.ensures.1 served in cc (t, c.if-serves.false),
       c.in-Ok.ensures.counts.no_fault (λ is. cc is),
     )
+
+pub read_commands-requires : goal.read_commands-requires
+read_commands-requires g c = record { some = c.requires.some; few = c.requires.few }

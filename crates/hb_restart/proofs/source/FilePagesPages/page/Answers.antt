@@ -3,7 +3,7 @@ use Rattle.std.specs.Ordering.{nat_cmp}
 use Rattle.std.specs.BTreeMap.{get}
 use Rattle.hb_frag.specs.declared.pages.Page.{Page}
 use Rattle.hb_page_codec.specs.Weight.{IsLight}
-use Rattle.hb_disk.proofs.Facts.FaultLaws.{Counts-none}
+use Rattle.hb_outside.proofs.Facts.CountLaws.{Counts-same}
 use Rattle.hb_disk.proofs.Facts.RunLaws.{OnlyReads-read}
 use Rattle.hb_restart.specs.Source.{AsksOnly-none, told_pages}
 use Rattle.hb_restart.proofs.Told.{gives_none, gives_read, gives_touched, light_page}
@@ -44,14 +44,14 @@ returns-clause-asks g c =
 pub returns-in-Ok-clause-asks : goal.returns-in-Ok-clause-asks
 returns-in-Ok-clause-asks g c =
     let s = c.args.self.now in
-    record { stays = refl; counts = Counts-none _ (λ e. let never : ⊥ = cc e in never); asked = AsksOnly-none (g.D.Device.model s.disk) s.said s.touched }
+    record { stays = refl; counts = Counts-same (λ e. let never : ⊥ = cc e in never) refl; asked = AsksOnly-none (g.D.Device.model s.disk) s.said s.touched }
 
 pub returns-in-Err-clause-asks : goal.returns-in-Err-clause-asks
 returns-in-Err-clause-asks g c =
     let s = c.args.self.now in
-    record { stays = refl; counts = Counts-none _ (λ e. let never : ⊥ = cc e in never); asked = AsksOnly-none (g.D.Device.model s.disk) s.said s.touched }
+    record { stays = refl; counts = Counts-same (λ e. let never : ⊥ = cc e in never) refl; asked = AsksOnly-none (g.D.Device.model s.disk) s.said s.touched }
 
 pub returns-then-id-eq0-clause-asks : goal.returns-then-id-eq0-clause-asks
 returns-then-id-eq0-clause-asks g c =
     let s = c.args.self.now in
-    record { stays = refl; counts = Counts-none _ (λ e. let never : ⊥ = cc e in never); asked = AsksOnly-none (g.D.Device.model s.disk) s.said s.touched }
+    record { stays = refl; counts = Counts-same (λ e. let never : ⊥ = cc e in never) refl; asked = AsksOnly-none (g.D.Device.model s.disk) s.said s.touched }
