@@ -8,3 +8,4 @@ pub mod RunDisks
 pub mod RunCrashes
 pub mod RunSteps
 pub mod BegunCores
+pub mod RunLines

@@ -1,23 +1,46 @@
 //! A schedule's run: exactly its steps, and the output text.
+//!
+//! The one contract is that of `drive`: each step that the script names is taken, once and in its place, of whatever machine
+//! the core shows; the answers are those that came, each with the disk's clock after its step; and the text that is written is
+//! the text of this run, whole, or the front of it that a failing sink took. `specs/Driving.antt` says so.
+//!
+//! No type keeps an invariant.
 #![tactic(auto)]
 
+ghost use Rattle.std.specs.Prelude.{◌≡◌, ◌≢◌, ◌≤◌, [], All, IfOk, length, vec_capacity};
+ghost use Rattle.hb_latch.specs.Tables.{MayLatch};
+ghost use Rattle.hb_core.specs.declared.endings.End.TheVariants as ends;
+ghost use Rattle.hb_core.specs.CoreSeen.{core_seen, core_disk};
+ghost use Rattle.hb_core.specs.Machines.{Machine};
+ghost use Rattle.hb_core.specs.Working.{MayStep};
+ghost use Rattle.hb_drive.specs.Driving.{DrivesTo};
+
+mod ending;
+mod taking;
 mod writing;
 
-use hb_core::{Core, End, Outcome, Ran};
+use ending::end_of;
+use hb_core::{Core, End, Ran};
 use hb_disk::Disk;
 use hb_outside::Sink;
-use hb_set::{Answered, Reply};
+use hb_set::{Answered, Script};
+use hb_space::{Actor, NoMemory};
 use std::alloc::Global;
-use writing::Writer;
+use taking::take_steps;
+use writing::put_rest;
 
 /// Takes exactly the script's steps, and writes the output: the reply of each line as it is answered, then the lines that
 /// have no answer, then the order. After a fault of the sink nothing more is written, and the steps go on.
-pub fn drive<D: Disk, K: Sink>(alloc: Global, mut core: Core<D>, sink: K) -> Ran<D, K> {
-    let lines = core.script().lines.as_slice().len();
-    let (Ok(mut answered), Ok(mut left)) = (
-        Vec::with_capacity(alloc, lines),
-        Vec::with_capacity(alloc, lines),
-    ) else {
+///
+/// For want of memory, which is asked for before the first step alone, no step is taken and nothing is written.
+pub fn drive<D: Disk, K: Sink>(alloc: Global, mut core: Core<D>, mut sink: K) -> Ran<D, K>
+    requires may { (m : Machine) × MayStep (D.model (core_disk core)) (core_seen core) m }
+    requires actors { All MayLatch (core_seen core).steps }
+    ensures unbegun { result.end ≡ ends.NoMemory → (core_seen result.core ≡ core_seen core) × (core_disk result.core ≡ core_disk core) × (result.sink ≡ sink) × (result.answered.items ≡ []) }
+    ensures drives { result.end ≢ ends.NoMemory → (m : Machine) → MayStep (D.model (core_disk core)) (core_seen core) m →
+        DrivesTo m (core_seen core).steps result.answered.items (D.model (core_disk core)) (D.model (core_disk result.core)) (core_seen result.core) result.end (K.model sink) (K.model result.sink) }
+{
+    let Ok((steps, mut answered, mut left)) = room_for(alloc, core.script()) else {
         return Ran {
             core,
             sink,
@@ -25,59 +48,42 @@ pub fn drive<D: Disk, K: Sink>(alloc: Global, mut core: Core<D>, sink: K) -> Ran
             end: End::NoMemory,
         };
     };
-    let mut writer = Writer::new(sink);
-    take_steps(&mut core, &mut writer, &mut answered);
+    let put = take_steps(&mut core, steps.as_slice(), &mut sink, &mut answered);
     core.unanswered(&mut left);
-    writer.put_rest(&left, core.stop().is_some(), core.order(), core.settled());
-    let end = end_of(&writer, &core, &answered);
+    let stop = core.stop();
+    let last = put_rest(
+        &mut sink,
+        put,
+        left.as_slice(),
+        stop.is_some(),
+        core.order(),
+        core.settled(),
+    );
+    let failed = last.is_err();
+    let end = end_of(failed, stop, answered.as_slice());
     Ran {
         core,
-        sink: writer.into_sink(),
+        sink,
         answered,
         end,
     }
 }
 
-/// Takes the script's steps, and keeps each answer with the disk's clock after its step.
-fn take_steps<D: Disk, K: Sink>(
-    core: &mut Core<D>,
-    writer: &mut Writer<K>,
-    answered: &mut Vec<Answered>,
-) {
-    for place in 0..core.script().steps.as_slice().len() {
-        let actor = core.script().steps.as_slice()[place];
-        let outcome = core.step(actor);
-        let at = core.clock();
-        take_answer(writer, outcome, at, answered);
-    }
-}
-
-/// Puts and keeps the answer that a step gave, where it gave one.
-fn take_answer<K: Sink>(
-    writer: &mut Writer<K>,
-    outcome: Outcome,
-    at: u64,
-    answered: &mut Vec<Answered>,
-) {
-    if let Outcome::Answered { line, reply } = outcome {
-        writer.put_answer(line, &reply);
-        answered.push(Answered { line, reply, at }).unwrap();
-    }
-}
-
-/// How the run ended.
-fn end_of<D: Disk, K: Sink>(writer: &Writer<K>, core: &Core<D>, answered: &[Answered]) -> End {
-    if writer.has_failed() {
-        return End::SinkFault;
-    }
-    match core.stop() {
-        Some(why) => End::Stopped(why),
-        None if has_read_fault(answered) => End::ReadFault,
-        None => End::Finished,
-    }
-}
-
-/// Whether some reply is `read fault`.
-fn has_read_fault(answered: &[Answered]) -> bool {
-    answered.iter().any(|a| matches!(a.reply, Reply::ReadFault))
+/// The schedule once more, since a core can't be read while it takes steps, and room for an answer to each line, or for the
+/// number of each.
+fn room_for(
+    alloc: Global,
+    script: &Script,
+) -> Result<(Vec<Actor>, Vec<Answered>, Vec<u32>), NoMemory>
+    ensures steps { IfOk result (λ r. r.0.items ≡ script.now.steps) }
+    ensures answered { IfOk result (λ r. r.1.items ≡ []) }
+    ensures answers { IfOk result (λ r. length script.now.lines ≤ vec_capacity r.1) }
+    ensures left { IfOk result (λ r. r.2.items ≡ []) }
+    ensures numbers { IfOk result (λ r. length script.now.lines ≤ vec_capacity r.2) }
+{
+    let lines = script.lines.as_slice().len();
+    let steps = Vec::from_slice(alloc, script.steps.as_slice())?;
+    let answered = Vec::with_capacity(alloc, lines)?;
+    let left = Vec::with_capacity(alloc, lines)?;
+    Ok((steps, answered, left))
 }

@@ -1,57 +1,89 @@
-//! The output text of a run, until the sink fails.
+//! The output text, piece by piece, until the sink fails.
+ghost use Rattle.std.specs.Prelude.{◌++◌};
+ghost use Rattle.std.specs.List.{flat_map};
+ghost use Rattle.hb_outside.specs.Calls.{PutsOn};
+ghost use Rattle.hb_text.specs.Output.{left_text, order_text, reply_text};
 
-use hb_outside::Sink;
+use hb_outside::{Failed, Sink};
 use hb_set::Reply;
 use hb_text::{put_left, put_order, put_reply};
 
-/// A sink that is written to until it fails.
-#[derive(Drop)]
-pub(crate) struct Writer<K> {
-    sink: K,
-    failed: bool,
+/// Puts a reply, unless the sink failed before.
+#[tactic(auto, using(crate::proofs::PutTexts::puts_on, crate::proofs::PutTexts::puts_off))]
+pub(crate) fn put_answer<K: Sink>(
+    sink: &mut K,
+    so_far: Result<(), Failed>,
+    line: u32,
+    reply: &Reply,
+) -> Result<(), Failed>
+    ensures { PutsOn so_far (reply_text line reply.now) result (K.model sink.old) (K.model sink.new) }
+{
+    match so_far {
+        Ok(()) => put_reply(sink, line, reply),
+        Err(failed) => Err(failed),
+    }
 }
 
-impl<K: Sink> Writer<K> {
-    /// Over a sink that hasn't failed.
-    pub(crate) fn new(sink: K) -> Writer<K> {
-        Writer {
-            sink,
-            failed: false,
-        }
-    }
+/// Puts what follows the replies: the lines that have no answer, and the order, so much of it settled.
+#[tactic(auto, using(crate::proofs::PutTexts::puts_then))]
+pub(crate) fn put_rest<K: Sink>(
+    sink: &mut K,
+    so_far: Result<(), Failed>,
+    left: &[u32],
+    stopped: bool,
+    order: &[u32],
+    settled: u32,
+) -> Result<(), Failed>
+    ensures { PutsOn so_far (flat_map (left_text stopped) left.now ++ order_text order.now settled) result (K.model sink.old) (K.model sink.new) }
+{
+    let put = put_all_left(sink, so_far, left, stopped);
+    put_order_on(sink, put, order, settled)
+}
 
-    /// Whether the sink failed.
-    pub(crate) fn has_failed(&self) -> bool {
-        self.failed
+/// Puts lines that have no answer.
+fn put_all_left<K: Sink>(
+    sink: &mut K,
+    so_far: Result<(), Failed>,
+    lines: &[u32],
+    stopped: bool,
+) -> Result<(), Failed>
+    ensures { PutsOn so_far (flat_map (left_text stopped) lines.now) result (K.model sink.old) (K.model sink.new) }
+{
+    let mut put = so_far;
+    for line in lines {
+        put = put_one_left(sink, put, *line, stopped);
     }
+    put
+}
 
-    /// The sink.
-    pub(crate) fn into_sink(self) -> K {
-        let Writer { sink, .. } = self;
-        sink
+/// Puts a line that has no answer, unless the sink failed before.
+#[tactic(auto, using(crate::proofs::PutTexts::puts_on, crate::proofs::PutTexts::puts_off))]
+fn put_one_left<K: Sink>(
+    sink: &mut K,
+    so_far: Result<(), Failed>,
+    line: u32,
+    stopped: bool,
+) -> Result<(), Failed>
+    ensures { PutsOn so_far (left_text stopped line) result (K.model sink.old) (K.model sink.new) }
+{
+    match so_far {
+        Ok(()) => put_left(sink, line, stopped),
+        Err(failed) => Err(failed),
     }
+}
 
-    /// Puts a reply.
-    pub(crate) fn put_answer(&mut self, line: u32, reply: &Reply) {
-        if !self.failed {
-            self.failed = put_reply(&mut self.sink, line, reply).is_err();
-        }
-    }
-
-    /// Puts what follows the replies: the lines that have no answer, and the order.
-    pub(crate) fn put_rest(&mut self, left: &[u32], stopped: bool, order: &[u32], settled: u32) {
-        for line in left {
-            self.put_one_left(*line, stopped);
-        }
-        if !self.failed {
-            self.failed = put_order(&mut self.sink, order, settled).is_err();
-        }
-    }
-
-    /// Puts a line that has no answer.
-    fn put_one_left(&mut self, line: u32, stopped: bool) {
-        if !self.failed {
-            self.failed = put_left(&mut self.sink, line, stopped).is_err();
-        }
+/// Puts the order, unless the sink failed before.
+#[tactic(auto, using(crate::proofs::PutTexts::puts_on, crate::proofs::PutTexts::puts_off))]
+fn put_order_on<K: Sink>(
+    sink: &mut K,
+    so_far: Result<(), Failed>,
+    order: &[u32],
+    settled: u32,
+) -> Result<(), Failed>
+    ensures { PutsOn so_far (order_text order.now settled) result (K.model sink.old) (K.model sink.new) }
+{
+    match so_far {
+        Ok(()) => put_order(sink, order, settled),
+        Err(failed) => Err(failed),
     }
 }

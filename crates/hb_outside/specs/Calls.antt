@@ -31,3 +31,9 @@ pub record Puts {T E : Type 0} (piece : List ℕ) (result : Result T E) (before 
   pub done : OnOk result (Appends before.written after.written piece)
   pub tried : OnErr result (AppendsFront before.written after.written piece)
   pub counts : Counts (IsErr result) before.faults after.faults
+
+-- One piece more is put only where none failed before.
+pub record PutsOn {T E : Type 0} (so_far : Result T E) (piece : List ℕ) (result : Result T E) (before after : SinkModel) : Type 0 where
+  pub put : OnOk so_far (Puts piece result before after)
+  pub left : OnErr so_far ((after ≡ before) × IsErr result)
+  pub later : before.faults ≤ after.faults

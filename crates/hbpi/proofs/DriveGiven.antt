@@ -1,28 +1,29 @@
 -- What `drive` answers where nothing failed.
 use Rattle.std.proofs.Common.{◌≡◌, ◌⊎◌, inl, inr, ℕ, true, List, Option, Some, Result, Ok, Err, refl, sym, ap, subst, ◌∙◌}
-use Rattle.hb_disk.specs.Model.{DiskModel}
+use Rattle.hb_core.specs.DamageLaws.{IsUndamaged}
+use Rattle.hb_core.specs.KeepingLaws.{BegunKeepsAll}
+use Rattle.hb_core.specs.Machines.{Machine}
 use Rattle.hb_lemmas.proofs.Options.{at_value}
-use Rattle.hb_outside.specs.Streams.{Rose}
 use Rattle.hb_layout.specs.declared.meta.Meta.{Meta}
 use Rattle.hb_ops.specs.Files.{FileState}
+use Rattle.hb_outside.specs.Streams.{Rose}
+use Rattle.hb_restart.specs.Refusals.{GoodIsNotRefused}
+use Rattle.hb_restart.specs.declared.faults.OpenFault.{OpenFault}
 use Rattle.hb_set.specs.declared.scripts.Line.{Line}
 use Rattle.hb_store.specs.Opening.{OpensToOne}
-use Rattle.hb_text.specs.declared.rules.BadLine.{BadLine}
+use Rattle.hb_store.specs.declared.stops.StopWhy.TheVariants as stops
+use Rattle.hb_store.specs.declared.stops.Why.{Why}
 use Rattle.hb_text.specs.Grammar.{Reading, text_read}
-use Rattle.hbpi.specs.Codes.{start_status, status_of}
-use Rattle.hbpi.specs.Core.{CoreState}
-use Rattle.hbpi.specs.Driven.{IsShutOut, IsTurnedAway, OpenedEnds, DriveCommandEnds}
-use Rattle.hbpi.specs.DrivenRuns.{Drove}
-use Rattle.hbpi.specs.Schedules.{IsScheduled}
-use Rattle.hbpi.specs.SeenRuns.{Seen}
-use Rattle.hbpi.specs.Outcome.{IsTextOf, IsWholeText}
-use Rattle.hbpi.specs.Starting.{GoodIsServed}
-use Rattle.hbpi.specs.Runs.{IsCalm, GivesFor, IsDriven}
-use Rattle.hbpi.specs.declared.starting.StartFault.{StartFault}
-use Rattle.hbpi.specs.declared.starting.StartFault.TheVariants as starts
+use Rattle.hb_text.specs.declared.rules.BadLine.{BadLine}
+use Rattle.hbpi.proofs.DriveNames.{opened_k, reads_left}
+use Rattle.hbpi.specs.Codes.{status_of}
+use Rattle.hbpi.specs.Driven.{DriveEnds, Drove, IsShutOut, RanEnds}
+use Rattle.hbpi.specs.Outcome.{IsWholeText}
+use Rattle.hbpi.specs.Promises.{GivesFor, IsCalm, IsDriven}
+use Rattle.hbpi.specs.Schedules.{IsScheduled, IsServed, NotScheduled}
+use Rattle.hbpi.specs.SeenRuns.{Run, Seen}
 use Rattle.hbpi.specs.declared.statuses.Status.{Status}
 use Rattle.hbpi.specs.declared.statuses.Status.TheVariants.{Done, Usage, BadText, SourceFault, SinkFault, DiskFault, Damaged, NoMemory, BadLayout, Small, NotBuilt}
-use Rattle.hbpi.proofs.EndLaws.{front_reads}
 
 -- want of memory is answered to any text
 no_memory : (seen : Seen) (status : Status) (read : Result Reading BadLine) → status ≡ NoMemory → GivesFor seen status read
@@ -30,60 +31,83 @@ no_memory seen status (Ok reading) is = (λ served sink. inr is, λ unserved. in
 no_memory seen status (Err bad) is = inr is
 
 -- a script that is read of the whole text is what the text says
-scheduled_reads : (k : ℕ) (left : List ℕ) (seen : Seen) (lines : List Line) (steps : List ℕ) → seen.source_before.left ≡ Some left → IsScheduled k seen.source_before.left seen.source_after.left lines steps → text_read true k left ≡ Ok (record { lines = lines; steps = steps })
-scheduled_reads k left seen lines steps text scheduled =
+scheduled_reads : (k n : ℕ) (left : List ℕ) (seen : Seen) (lines : List Line) (steps : List ℕ) → n ≡ k → seen.source_before.left ≡ Some left → IsScheduled n seen.source_before.left seen.source_after.left lines steps → text_read true k left ≡ Ok (record { lines = lines; steps = steps })
+scheduled_reads k n left seen lines steps same text scheduled =
     let whole = subst (λ (o : Option (List ℕ)). IsWholeText o seen.source_after.left scheduled.text) text scheduled.whole in
-    ap (text_read true k) (sym whole.0) ∙ scheduled.says
+    ap (λ (m : ℕ). text_read true m left) (sym same) ∙ ap (text_read true n) (sym whole.0) ∙ scheduled.says
 
-gives : (seen : Seen) (status : Status) (k n : ℕ) (left : List ℕ) (read : Result Reading BadLine) → n ≡ k → text_read true n left ≡ read → GivesFor seen status read → GivesFor seen status (text_read true k left)
-gives seen status k n left read same is given =
-    subst (λ (r : Result Reading BadLine). GivesFor seen status r) (sym (ap (λ (m : ℕ). text_read true m left) (sym same) ∙ is)) given
+-- a machine that a beginning over a sound file comes to is met damaged nowhere
+pub undamaged : (run : Run) (after : Machine) (b : List ℕ) → BegunKeepsAll → run.before.told ≡ Some b → Drove run after → IsUndamaged after
+undamaged run after b all told drove =
+    let takes = drove.takes in
+    let here = at_value run.before.told _ b told takes.told in
+    let searches = subst (λ (ls : List Line). IsServed ls) (sym takes.lines_are) drove.served in
+    (all here.0 drove.steps takes.before after here.3 takes.actors searches takes.reached).1.undamaged (inl takes.begun.runs)
 
-module _ (s : FileState) (left : List ℕ) (d e : DiskModel) (seen : Seen) (one : OpensToOne) (calm : IsCalm s left d e seen) where
-  drove_k : (after : CoreState) (drove : Drove d e seen after) → drove.k ≡ s.meta.k
-  drove_k after drove =
-      let here = at_value d.told _ calm.bytes calm.told drove.told in
-      let same : here.0 ≡ s = one calm.bytes here.0 s here.1 calm.opens in
-      sym (ap (λ (f : FileState). f.meta.k) (sym same) ∙ ap (λ (m : Meta). m.k) here.3 ∙ drove.run.attributes)
+no_damage : (after : Machine) (page : ℕ) (why : Why) → IsUndamaged after → after.stop ≡ Some (stops.Damaged page why) → ⊥
+no_damage after page why fine is = elim fine [
+  | inl none ↦ cc (none, is)
+  | inr fault ↦ cc (fault, is)
+]
 
-  away_k : (k : ℕ) (status : Status) → IsTurnedAway k d e seen status → k ≡ s.meta.k
-  away_k k status away =
-      let here = at_value d.told _ calm.bytes calm.told away.told in
-      let same : here.0 ≡ s = one calm.bytes here.0 s here.1 calm.opens in
-      sym (ap (λ (f : FileState). f.meta.k) (sym same) ∙ here.3)
-
-  ran_gives : (status : Status) (after : CoreState) (drove : Drove d e seen after) → (¬ (Rose seen.sink_before.faults seen.sink_after.faults) → (status ≡ Done) ⊎ (status ≡ NoMemory)) → GivesFor seen status (text_read true s.meta.k left)
-  ran_gives status after drove done =
-      gives seen status s.meta.k drove.k left _ (drove_k after drove) (scheduled_reads drove.k left seen drove.before.lines drove.run.steps calm.text drove.run.scheduled)
-      (λ served sink. done sink, λ unserved. absurd (unserved drove.run.served))
-
-  opened_gives : (status : Status) → OpenedEnds d e seen status → GivesFor seen status (text_read true s.meta.k left)
-  opened_gives Done ends = ran_gives Done ends.0 ends.1 (λ sink. inl refl)
-  opened_gives SinkFault ends = ran_gives SinkFault ends.0 ends.1 (λ sink. absurd (sink ends.3))
-  opened_gives DiskFault ends = absurd (calm.disk ends.1)
-  opened_gives (BadText bad) ends =
-      let text = subst (λ (o : Option (List ℕ)). IsTextOf o seen.source_after.left ends.2) calm.text ends.3 in
-      gives seen (BadText bad) s.meta.k ends.0 left (Err bad) (away_k ends.0 (BadText bad) ends.1) (sym (front_reads true ends.0 left) ∙ ap (text_read true ends.0) (sym text.0) ∙ ends.4) (inl refl)
-  opened_gives SourceFault ends = absurd (calm.source ends.2)
-  opened_gives NotBuilt ends =
-      gives seen NotBuilt s.meta.k ends.0 left _ (away_k ends.0 NotBuilt ends.1) (scheduled_reads ends.0 left seen ends.2 ends.3 calm.text ends.4)
-      (λ served sink. absurd (ends.5 served), λ unserved. inl refl)
-  opened_gives NoMemory ends = no_memory seen NoMemory (text_read true s.meta.k left) refl
-  opened_gives (Damaged damage) ends = cc (calm.told, ends.untold)
-  opened_gives Usage ends = absurd ends
-  opened_gives (BadLayout field value) ends = absurd ends
-  opened_gives (Small needed found) ends = absurd ends
-
-  shut_gives : (status : Status) (fault : StartFault) → GoodIsServed → status ≡ start_status fault → IsShutOut d e seen fault → GivesFor seen status (text_read true s.meta.k left)
-  shut_gives status (starts.Closed fault) good is out =
-      elim (good (starts.Closed fault) calm.bytes s calm.opens calm.sound calm.one_page (at_value d.told _ calm.bytes calm.told out.why)) [
-        | inl failed ↦ absurd (calm.disk (out.failed (ap starts.Closed failed)))
-        | inr none ↦ no_memory seen status (text_read true s.meta.k left) (is ∙ ap status_of none)
+module _ (s : FileState) (left : List ℕ) (run : Run) (calm : IsCalm s left run) where
+  shut_gives : (status : Status) (fault : OpenFault) → GoodIsNotRefused → status ≡ status_of fault → IsShutOut run fault → GivesFor run.seen status (text_read true s.meta.k left)
+  shut_gives status fault good is out =
+      elim (good fault calm.bytes s calm.opens calm.sound (at_value run.before.told _ calm.bytes calm.told out.why.why)) [
+        | inl failed ↦ absurd (calm.disk (out.leaves.faults.cause failed))
+        | inr none ↦ no_memory run.seen status (text_read true s.meta.k left) (is ∙ ap status_of none)
       ]
-  shut_gives status starts.NotBuilt good is out = absurd (good starts.NotBuilt calm.bytes s calm.opens calm.sound calm.one_page (at_value d.told _ calm.bytes calm.told out.why))
 
-pub is_driven : (d e : DiskModel) (seen : Seen) (status : Status) → OpensToOne → GoodIsServed → DriveCommandEnds d e seen status → IsDriven d e seen status
-is_driven d e seen status one good ends s left calm = elim ends [
-  | inl shut ↦ shut_gives s left d e seen one calm status shut.0 good shut.1 shut.2
-  | inr opened ↦ opened_gives s left d e seen one calm status opened
+  away_gives : (k : ℕ) (status : Status) → k ≡ s.meta.k → NotScheduled k run.seen.source_before run.seen.source_after status → GivesFor run.seen status (text_read true s.meta.k left)
+  away_gives k (BadText bad) same why =
+      let says = reads_left s.meta.k k left why.0 run.seen.source_before.left run.seen.source_after.left same calm.text why.1 ∙ why.2 in
+      subst (λ (r : Result Reading BadLine). GivesFor run.seen (BadText bad) r) (sym says) (inl refl)
+  away_gives k SourceFault same why = absurd (calm.source why)
+  away_gives k NotBuilt same why =
+      subst (λ (r : Result Reading BadLine). GivesFor run.seen NotBuilt r) (sym (scheduled_reads s.meta.k k left run.seen why.0 why.1 same calm.text why.2)) (λ served sink. absurd (why.3 served), λ unserved. inl refl)
+  away_gives k NoMemory same why = no_memory run.seen NoMemory (text_read true s.meta.k left) refl
+  away_gives k Done same why = absurd why
+  away_gives k SinkFault same why = absurd why
+  away_gives k DiskFault same why = absurd why
+  away_gives k Usage same why = absurd why
+  away_gives k (Damaged damage) same why = absurd why
+  away_gives k (Small needed found) same why = absurd why
+  away_gives k (BadLayout field value) same why = absurd why
+
+  drove_k : (after : Machine) (drove : Drove run after) → OpensToOne → drove.k ≡ s.meta.k
+  drove_k after drove one =
+      let here = at_value run.before.told _ calm.bytes calm.told drove.takes.told in
+      let same : here.0 ≡ s = one calm.bytes here.0 s here.1 calm.opens in
+      sym (ap (λ (f : FileState). f.meta.k) (sym same) ∙ ap (λ (m : Meta). m.k) here.3.meta ∙ drove.takes.attributes)
+
+  -- the steps were taken: the run is done, unless the sink failed
+  ran_done : (status : Status) (after : Machine) → Drove run after → IsUndamaged after → RanEnds status run.seen.sink_before run.seen.sink_after run.seen.answered after → ¬ (Rose run.seen.sink_before.faults run.seen.sink_after.faults) → (status ≡ Done) ⊎ (status ≡ NoMemory)
+  ran_done Done after drove fine ends sink = inl refl
+  ran_done SinkFault after drove fine ends sink = absurd (sink ends.1)
+  ran_done DiskFault after drove fine ends sink = elim ends.1 [
+    | inl write ↦ absurd (calm.disk (inr (drove.takes.faults.write write (λ is. cc (is)))))
+    | inr read ↦ absurd (calm.disk (inl (drove.takes.faults.read read.1)))
+  ]
+  ran_done (Damaged damage) after drove fine ends sink = absurd (no_damage after ends.1 ends.2 fine ends.3)
+  ran_done Usage after drove fine ends sink = absurd ends
+  ran_done (BadText bad) after drove fine ends sink = absurd ends
+  ran_done SourceFault after drove fine ends sink = absurd ends
+  ran_done NoMemory after drove fine ends sink = absurd ends
+  ran_done (BadLayout field value) after drove fine ends sink = absurd ends
+  ran_done (Small needed found) after drove fine ends sink = absurd ends
+  ran_done NotBuilt after drove fine ends sink = absurd ends
+
+  ran_gives : (status : Status) (after : Machine) → OpensToOne → BegunKeepsAll → Drove run after → RanEnds status run.seen.sink_before run.seen.sink_after run.seen.answered after → GivesFor run.seen status (text_read true s.meta.k left)
+  ran_gives status after one all drove ends =
+      subst (λ (r : Result Reading BadLine). GivesFor run.seen status r) (sym (scheduled_reads s.meta.k drove.k left run.seen drove.lines drove.steps (drove_k after drove one) calm.text drove.scheduled))
+      (λ served sink. ran_done status after drove (undamaged run after calm.bytes all calm.told drove) ends sink, λ unserved. absurd (unserved drove.served))
+
+-- Where nothing fails, a good file is driven by a good text, and a text that is bad or not built is refused.
+pub is_driven : (run : Run) (status : Status) → OpensToOne → GoodIsNotRefused → BegunKeepsAll → DriveEnds run status → IsDriven run status
+is_driven run status one good all ends s left calm = elim ends [
+  | inl shut ↦ shut_gives s left run calm status shut.0 good shut.1 shut.2
+  | inr opened ↦ elim opened [
+    | inl away ↦ away_gives s left run calm away.k status (opened_k away.k run.before run.after calm.bytes s away.opened calm.told calm.opens) away.why
+    | inr ran ↦ ran_gives s left run calm status ran.0 one all ran.1 ran.2
+  ]
 ]

@@ -1,60 +1,45 @@
 -- The bad line that `drive` names.
-use Rattle.std.proofs.Common.{◌≡◌, inl, inr, ℕ, true, List, Option, Some, Err, sym, ap, subst, ◌∙◌}
-use Rattle.hb_disk.specs.Model.{DiskModel}
+use Rattle.std.proofs.Common.{◌≡◌, inl, inr, ℕ, true, List, Option, Some, sym, ap, subst, ◌∙◌}
 use Rattle.hb_lemmas.proofs.Options.{at_value}
+use Rattle.hb_disk.specs.Model.{DiskModel}
+use Rattle.hb_layout.specs.declared.meta.Meta.{Meta}
 use Rattle.hb_ops.specs.Files.{FileState}
-use Rattle.hb_store.specs.Opening.{OpensTo, OpensToOne}
-use Rattle.hb_text.specs.declared.rules.BadLine.{BadLine}
+use Rattle.hb_restart.specs.declared.faults.OpenFault.{OpenFault}
+use Rattle.hb_store.specs.Opening.{OpensTo}
 use Rattle.hb_text.specs.Grammar.{text_read}
-use Rattle.hbpi.specs.Codes.{start_status}
-use Rattle.hbpi.specs.Driven.{IsTurnedAway, OpenedEnds, DriveCommandEnds}
-use Rattle.hbpi.specs.SeenRuns.{Seen}
+use Rattle.hb_text.specs.declared.rules.BadLine.{BadLine}
+use Rattle.hbpi.proofs.EndLaws.{front_reads, of_closed}
+use Rattle.hbpi.specs.Codes.{status_of}
+use Rattle.hbpi.specs.Driven.{DriveEnds, IsOpened, RanEnds}
 use Rattle.hbpi.specs.Outcome.{IsTextOf}
-use Rattle.hbpi.specs.Runs.{NamesScheduleLine}
-use Rattle.hb_restart.specs.declared.faults.OpenFault.TheVariants as faults
-use Rattle.hbpi.specs.declared.starting.StartFault.{StartFault}
-use Rattle.hbpi.specs.declared.starting.StartFault.TheVariants as starts
+use Rattle.hbpi.specs.Promises.{NamesScheduleLine}
+use Rattle.hbpi.specs.Schedules.{NotScheduled}
+use Rattle.hbpi.specs.SeenRuns.{Run}
 use Rattle.hbpi.specs.declared.statuses.Status.{Status}
-use Rattle.hbpi.specs.declared.statuses.Status.TheVariants.{Done, Usage, BadText, SourceFault, SinkFault, DiskFault, Damaged, NoMemory, BadLayout, Small, NotBuilt}
-use Rattle.hbpi.proofs.EndLaws.{front_reads}
+use Rattle.hbpi.specs.declared.statuses.Status.TheVariants.{BadText}
 
 -- no refusal of a file names a line
-no_line : (fault : StartFault) (bad : BadLine) → start_status fault ≡ BadText bad → ⊥
-no_line (starts.Closed (faults.Small needed found)) bad is = cc is
-no_line (starts.Closed faults.NoSuper) bad is = cc is
-no_line starts.NotBuilt bad is = cc is
-no_line (starts.Closed (faults.BadGroup frame)) bad is = cc is
-no_line (starts.Closed (faults.Unsound page rule)) bad is = cc is
-no_line (starts.Closed faults.DiskFault) bad is = cc is
-no_line (starts.Closed faults.NoMemory) bad is = cc is
+no_line : (fault : OpenFault) (bad : BadLine) → status_of fault ≡ BadText bad → ⊥
+no_line fault bad = of_closed fault (λ x. x ≡ BadText bad → ⊥) (λ needed found is. cc (is)) (λ damage is. cc (is)) (λ is. cc (is)) (λ is. cc (is))
 
-module _ (d e : DiskModel) (seen : Seen) (one : OpensToOne) (b : List ℕ) (s : FileState) (left : List ℕ) (bad : BadLine)
-    (told : d.told ≡ Some b) (opens : OpensTo b s) (text : seen.source_before.left ≡ Some left) where
-  -- the file that was opened is the one that the bytes open to
-  away_k : (k : ℕ) (status : Status) → IsTurnedAway k d e seen status → k ≡ s.meta.k
-  away_k k status away =
-      let here = at_value d.told _ b told away.told in
-      let same : here.0 ≡ s = one b here.0 s here.1 opens in
-      sym (ap (λ (f : FileState). f.meta.k) (sym same) ∙ here.3)
+-- the file that was opened is the one that the bytes open to
+pub opened_k : (k : ℕ) (d e : DiskModel) (b : List ℕ) (s : FileState) → IsOpened k d e → d.told ≡ Some b → OpensTo b s → k ≡ s.meta.k
+opened_k k d e b s opened told opens =
+    sym (ap (λ (m : Meta). m.k) (at_value d.told _ b told opened.opens.meta s opens) ∙ opened.attributes)
 
-  opened_names : (status : Status) → OpenedEnds d e seen status → status ≡ BadText bad → text_read true s.meta.k left ≡ Err bad
-  opened_names (BadText found) ends is =
-      let read = subst (λ (o : Option (List ℕ)). IsTextOf o seen.source_after.left ends.2) text ends.3 in
-      let same : found ≡ bad = cc (is) in
-      ap (λ (k : ℕ). text_read true k left) (sym (away_k ends.0 (BadText found) ends.1)) ∙ sym (front_reads true ends.0 left) ∙ ap (text_read true ends.0) (sym read.0) ∙ ends.4 ∙ ap Err same
-  opened_names Done _ is = cc is
-  opened_names Usage _ is = cc is
-  opened_names SourceFault _ is = cc is
-  opened_names SinkFault _ is = cc is
-  opened_names DiskFault _ is = cc is
-  opened_names (Damaged damage) _ is = cc is
-  opened_names NoMemory _ is = cc is
-  opened_names (BadLayout field value) _ is = cc is
-  opened_names (Small needed found) _ is = cc is
-  opened_names NotBuilt _ is = cc is
+-- the text that was read says what is left
+pub reads_left : (k n : ℕ) (left text : List ℕ) (before : Option (List ℕ)) (after : Option (List ℕ)) → n ≡ k → before ≡ Some left → IsTextOf before after text → text_read true k left ≡ text_read true n text
+reads_left k n left text before after same told read =
+    let here = subst (λ (o : Option (List ℕ)). IsTextOf o after text) told read in
+    ap (λ (m : ℕ). text_read true m left) (sym same) ∙ sym (front_reads true n left) ∙ ap (text_read true n) (sym here.0)
 
-pub names_line : (d e : DiskModel) (seen : Seen) (status : Status) → OpensToOne → DriveCommandEnds d e seen status → NamesScheduleLine d seen status
-names_line d e seen status one ends b s left bad told opens text is = elim ends [
+pub names_line : (run : Run) (status : Status) → DriveEnds run status → NamesScheduleLine run status
+names_line run status ends b s left bad told opens text is = elim ends [
   | inl shut ↦ absurd (no_line shut.0 bad (sym shut.1 ∙ is))
-  | inr opened ↦ opened_names d e seen one b s left bad told opens text status opened is
+  | inr opened ↦ elim opened [
+    | inl away ↦
+      let why = subst (λ (x : Status). NotScheduled away.k run.seen.source_before run.seen.source_after x) is away.why in
+      reads_left s.meta.k away.k left why.0 run.seen.source_before.left run.seen.source_after.left (opened_k away.k run.before run.after b s away.opened told opens) text why.1 ∙ why.2
+    | inr ran ↦ absurd (subst (λ (x : Status). RanEnds x run.seen.sink_before run.seen.sink_after run.seen.answered ran.0) is ran.2)
+  ]
 ]

@@ -1,5 +1,5 @@
 -- What follows from how a run ends.
-use Rattle.std.proofs.Common.{◌≡◌, ℕ, ◌⊎◌, inl, inr, Bool, false, List, length, take, Option, Some, None, Result, Ok, Err, refl, sym, ap, subst, ◌∙◌, arith, drop, ◌<◌, ◌≤◌, length-take, take-append-drop}
+use Rattle.std.proofs.Common.{◌≡◌, ◌↔◌, ℕ, ◌⊎◌, inl, inr, Bool, false, List, length, take, Option, Some, None, Result, Ok, Err, refl, sym, ap, subst, ◌∙◌, arith, drop, ◌<◌, ◌≤◌, length-take, take-append-drop}
 use Rattle.std.proofs.lemmas.List.{take_all}
 use Rattle.std.proofs.lemmas.Bool.{cases_lt}
 use Rattle.hb_text.proofs.Facts.TextFront.{front_is_all}
@@ -7,17 +7,25 @@ use Rattle.hb_text.specs.declared.rules.BadLine.{BadLine}
 use Rattle.hb_text.specs.Grammar.{Reading, text_read}
 use Rattle.hb_text.proofs.Facts.TextLength.{text_is_short}
 use Rattle.hbpi.specs.declared.forms.Form.{Form}
-use Rattle.hbpi.specs.declared.forms.Form.TheVariants.{Create, Dry}
+use Rattle.hbpi.specs.declared.forms.Form.TheVariants.{Create, Drive, Dry}
 use Rattle.hbpi.specs.declared.statuses.Status.{Status}
 use Rattle.hbpi.specs.declared.statuses.Status.TheVariants.{Done, Usage, BadText, SourceFault, SinkFault, DiskFault, Damaged, NoMemory, BadLayout, Small, NotBuilt}
 use Rattle.hb_outside.specs.Streams.{Rose}
 use Rattle.hbpi.specs.Outcome.{greatest_text, IsTextOf, IsWholeText}
-use Rattle.hb_disk.specs.Model.{DiskModel}
 use Rattle.hb_restart.specs.Layouts.{first_fault, size_of}
 use Rattle.hb_restart.specs.declared.faults.BadField.{BadField}
-use Rattle.hbpi.specs.Runs.{RunEnds, disk_seen}
-use Rattle.hbpi.specs.Ends.{DryEnds, IsAnswered, IsComplete, RefusesBadText, NamesBadLine}
-use Rattle.hbpi.specs.SeenRuns.{Seen, DiskSeen}
+use Rattle.hb_restart.specs.declared.faults.OpenFault.{OpenFault}
+use Rattle.hb_restart.specs.declared.faults.OpenFault.TheVariants as faults
+use Rattle.hbpi.specs.Codes.{status_of}
+use Rattle.hbpi.specs.declared.statuses.Damage.{Damage}
+use Rattle.hbpi.specs.declared.statuses.Damage.TheVariants as damages
+use Rattle.hbpi.specs.Runs.{RunEnds}
+use Rattle.hbpi.specs.Ends.{DryEnds, IsAnswered, IsComplete, RefusesBadText, NamesBadLine, UnbuiltEnds, UsageEnds}
+use Rattle.hbpi.specs.SeenRuns.{Run, Seen}
+use Rattle.hbpi.specs.Driven.{DriveEnds, RanEnds}
+use Rattle.hbpi.specs.Forms.{IsUnbuilt}
+use Rattle.hbpi.specs.Schedules.{NotScheduled}
+use Rattle.hb_outside.specs.Calls.{SourceModel}
 use Rattle.hbpi.specs.MadeEnds.{CreateEnds, IsMadeWhole}
 
 -- a good text is read whole
@@ -80,17 +88,17 @@ dry_refuses k seen (BadLayout field value) ends left bad told wrong source = abs
 dry_refuses k seen (Small needed found) ends left bad told wrong source = absurd ends
 dry_refuses k seen NotBuilt ends left bad told wrong source = absurd ends
 
-pub ends_complete : (form : Option Form) (seen : Seen) (d e : DiskModel) (status : Status) → RunEnds form d e seen status → IsComplete form seen status
-ends_complete None _ _ _ _ _ _ _ _ is _ _ _ _ = cc (is)
-ends_complete (Some (Dry n)) seen d e status ends k left reading is told good source sink =
-    dry_complete n seen status ends left reading told (rw (same_attributes n k is) good) source sink
-ends_complete (Some form) _ _ _ _ _ _ _ _ is _ _ _ _ = cc (is)
+pub ends_complete : (form : Option Form) (run : Run) (status : Status) → RunEnds form run status → IsComplete form run.seen status
+ends_complete None _ _ _ _ _ _ is _ _ _ _ = cc (is)
+ends_complete (Some (Dry n)) run status ends k left reading is told good source sink =
+    dry_complete n run.seen status ends left reading told (rw (same_attributes n k is) good) source sink
+ends_complete (Some form) _ _ _ _ _ _ is _ _ _ _ = cc (is)
 
-pub ends_refuses : (form : Option Form) (seen : Seen) (d e : DiskModel) (status : Status) → RunEnds form d e seen status → RefusesBadText form seen status
-ends_refuses None _ _ _ _ _ _ _ _ is _ _ _ = cc (is)
-ends_refuses (Some (Dry n)) seen d e status ends k left bad is told wrong source =
-    dry_refuses n seen status ends left bad told (front_reads false n left ∙ rw (same_attributes n k is) wrong) source
-ends_refuses (Some form) _ _ _ _ _ _ _ _ is _ _ _ = cc (is)
+pub ends_refuses : (form : Option Form) (run : Run) (status : Status) → RunEnds form run status → RefusesBadText form run.seen status
+ends_refuses None _ _ _ _ _ _ is _ _ _ = cc (is)
+ends_refuses (Some (Dry n)) run status ends k left bad is told wrong source =
+    dry_refuses n run.seen status ends left bad told (front_reads false n left ∙ rw (same_attributes n k is) wrong) source
+ends_refuses (Some form) _ _ _ _ _ _ is _ _ _ = cc (is)
 
 same_named : (found bad : BadLine) → BadText found ≡ BadText bad → found ≡ bad
 same_named found bad is = cc (is)
@@ -111,10 +119,10 @@ dry_names _ _ (BadLayout field value) _ _ _ _ is = cc (is)
 dry_names _ _ (Small needed found) _ _ _ _ is = cc (is)
 dry_names _ _ NotBuilt _ _ _ _ is = cc (is)
 
-pub ends_names : (form : Option Form) (seen : Seen) (d e : DiskModel) (status : Status) → RunEnds form d e seen status → NamesBadLine form seen status
-ends_names None _ _ _ _ _ _ _ _ is _ _ = cc (is)
-ends_names (Some (Dry n)) seen d e status ends k left bad is told named = rw (← same_attributes n k is) (dry_names n seen status ends left bad told named)
-ends_names (Some form) _ _ _ _ _ _ _ _ is _ _ = cc (is)
+pub ends_names : (form : Option Form) (run : Run) (status : Status) → RunEnds form run status → NamesBadLine form run.seen status
+ends_names None _ _ _ _ _ _ is _ _ = cc (is)
+ends_names (Some (Dry n)) run status ends k left bad is told named = rw (← same_attributes n k is) (dry_names n run.seen status ends left bad told named)
+ends_names (Some form) _ _ _ _ _ _ is _ _ = cc (is)
 
 same_layout : (a b c d e f g h i j : ℕ) (P : ℕ → ℕ → ℕ → ℕ → ℕ → Type 0) → ◌≡◌ {A = Option Form} (Some (Create a b c d e)) (Some (Create f g h i j)) → P f g h i j → P a b c d e
 same_layout a b c d e f g h i j P is p =
@@ -125,29 +133,131 @@ same_layout a b c d e f g h i j P is p =
     let icap : j ≡ e = cc in
     subst (λ (x : ℕ). P x b c d e) k (subst (λ (x : ℕ). P f x c d e) pages (subst (λ (x : ℕ). P f g x d e) log (subst (λ (x : ℕ). P f g h x e) dcap (subst (λ (x : ℕ). P f g h i x) icap p))))
 
-create_complete : (fault : Option BadField) (needed : ℕ) (seen : Seen) (disk : DiskSeen) (status : Status) → CreateEnds fault needed seen disk status → fault ≡ None → needed ≤ disk.size → ¬ (Rose disk.writes_before disk.writes_after) → ¬ (Rose seen.sink_before.faults seen.sink_after.faults) → (status ≡ Done) ⊎ (status ≡ NoMemory)
-create_complete fault needed seen disk Done ends good large writes sink = inl refl
-create_complete fault needed seen disk SinkFault ends good large writes sink = absurd (sink ends.2)
-create_complete fault needed seen disk (BadLayout field value) ends good large writes sink = cc (ends.0, good)
-create_complete fault needed seen disk (Small wanted found) ends good large writes sink = absurd (omega (arith, ends.2, large))
-create_complete fault needed seen disk DiskFault ends good large writes sink = absurd (writes ends.1)
-create_complete fault needed seen disk NoMemory ends good large writes sink = inr refl
-create_complete fault needed seen disk Usage ends good large writes sink = absurd ends
-create_complete fault needed seen disk (BadText bad) ends good large writes sink = absurd ends
-create_complete fault needed seen disk SourceFault ends good large writes sink = absurd ends
-create_complete fault needed seen disk (Damaged damage) ends good large writes sink = absurd ends
-create_complete fault needed seen disk NotBuilt ends good large writes sink = absurd ends
+create_complete : (fault : Option BadField) (needed : ℕ) (run : Run) (status : Status) → CreateEnds fault needed run status → fault ≡ None → needed ≤ run.before.size → ¬ (Rose run.before.write_faults run.after.write_faults) → ¬ (Rose run.seen.sink_before.faults run.seen.sink_after.faults) → (status ≡ Done) ⊎ (status ≡ NoMemory)
+create_complete fault needed run Done ends good large writes sink = inl refl
+create_complete fault needed run SinkFault ends good large writes sink = absurd (sink ends.2)
+create_complete fault needed run (BadLayout field value) ends good large writes sink = cc (ends.0, good)
+create_complete fault needed run (Small wanted found) ends good large writes sink = absurd (omega (arith, ends.2, large))
+create_complete fault needed run DiskFault ends good large writes sink = absurd (writes ends.1)
+create_complete fault needed run NoMemory ends good large writes sink = inr refl
+create_complete fault needed run Usage ends good large writes sink = absurd ends
+create_complete fault needed run (BadText bad) ends good large writes sink = absurd ends
+create_complete fault needed run SourceFault ends good large writes sink = absurd ends
+create_complete fault needed run (Damaged damage) ends good large writes sink = absurd ends
+create_complete fault needed run NotBuilt ends good large writes sink = absurd ends
 
-pub ends_made : (form : Option Form) (seen : Seen) (d e : DiskModel) (status : Status) → RunEnds form d e seen status → IsMadeWhole form seen (disk_seen d e) status
-ends_made None _ _ _ _ _ _ _ _ _ _ is _ _ _ _ = cc (is)
-ends_made (Some (Create a b c x y)) seen d e status ends k pages log dcap icap is good large writes sink =
-    create_complete (first_fault k pages log dcap icap) (size_of pages log) seen (disk_seen d e) status
-    (same_layout k pages log dcap icap a b c x y (λ k pages log dcap icap. CreateEnds (first_fault k pages log dcap icap) (size_of pages log) seen (disk_seen d e) status) (sym is) ends)
+pub ends_made : (form : Option Form) (run : Run) (status : Status) → RunEnds form run status → IsMadeWhole form run status
+ends_made None _ _ _ _ _ _ _ _ is _ _ _ _ = cc (is)
+ends_made (Some (Create a b c x y)) run status ends k pages log dcap icap is good large writes sink =
+    create_complete (first_fault k pages log dcap icap) (size_of pages log) run status
+    (same_layout k pages log dcap icap a b c x y (λ k pages log dcap icap. CreateEnds (first_fault k pages log dcap icap) (size_of pages log) run status) (sym is) ends)
     good large writes sink
-ends_made (Some form) _ _ _ _ _ _ _ _ _ _ is _ _ _ _ = cc (is)
+ends_made (Some form) _ _ _ _ _ _ _ _ is _ _ _ _ = cc (is)
 
-pub never_usage : (fault : Option BadField) (needed : ℕ) (seen : Seen) (disk : DiskSeen) (status : Status) → CreateEnds fault needed seen disk status → status ≡ Usage → ⊥
-never_usage fault needed seen disk status ends is = subst (λ (x : Status). CreateEnds fault needed seen disk x) is ends
+-- What holds of each status of a file that wasn't opened.
+pub of_closed : (fault : OpenFault) (P : Status → Type 0) → ((needed found : ℕ) → P (Small needed found)) → ((damage : Damage) → P (Damaged damage)) → P DiskFault → P NoMemory → P (status_of fault)
+of_closed (faults.Small needed found) P small damaged disk memory = small needed found
+of_closed faults.NoSuper P small damaged disk memory = damaged damages.NoSuper
+of_closed (faults.BadGroup frame) P small damaged disk memory = damaged (damages.BadGroup frame)
+of_closed (faults.Unsound page rule) P small damaged disk memory = damaged (damages.Rule page rule)
+of_closed faults.DiskFault P small damaged disk memory = disk
+of_closed faults.NoMemory P small damaged disk memory = memory
 
-pub never_unbuilt : (fault : Option BadField) (needed : ℕ) (seen : Seen) (disk : DiskSeen) (status : Status) → CreateEnds fault needed seen disk status → status ≡ NotBuilt → ⊥
-never_unbuilt fault needed seen disk status ends is = subst (λ (x : Status). CreateEnds fault needed seen disk x) is ends
+-- where no schedule was read, the source failed by its status alone
+pub source_kept : (status : Status) (k : ℕ) (before after : SourceModel) → NotScheduled k before after status → ¬ (status ≡ SourceFault) → after.faults ≡ before.faults
+source_kept (BadText bad) k before after why other = why.3
+source_kept SourceFault k before after why other = absurd (other refl)
+source_kept NotBuilt k before after why other = why.4
+source_kept NoMemory k before after why other = why
+source_kept Done k before after why other = absurd why
+source_kept SinkFault k before after why other = absurd why
+source_kept DiskFault k before after why other = absurd why
+source_kept Usage k before after why other = absurd why
+source_kept (Damaged damage) k before after why other = absurd why
+source_kept (Small needed found) k before after why other = absurd why
+source_kept (BadLayout field value) k before after why other = absurd why
+
+dry_source : (k : ℕ) (seen : Seen) (status : Status) → DryEnds k seen status → ¬ (status ≡ SourceFault) → seen.source_after.faults ≡ seen.source_before.faults
+dry_source k seen Done ends other = ends.1.faults
+dry_source k seen SinkFault ends other = ends.1.faults
+dry_source k seen (BadText bad) ends other = ends.4
+dry_source k seen SourceFault ends other = absurd (other refl)
+dry_source k seen NoMemory ends other = ends.1
+dry_source k seen Usage ends other = absurd ends
+dry_source k seen DiskFault ends other = absurd ends
+dry_source k seen (Damaged damage) ends other = absurd ends
+dry_source k seen (BadLayout field value) ends other = absurd ends
+dry_source k seen (Small needed found) ends other = absurd ends
+dry_source k seen NotBuilt ends other = absurd ends
+
+create_source : (fault : Option BadField) (needed : ℕ) (run : Run) (status : Status) → CreateEnds fault needed run status → run.seen.source_after.faults ≡ run.seen.source_before.faults
+create_source fault needed run Done ends = ends.0.unread.faults
+create_source fault needed run SinkFault ends = ends.0.unread.faults
+create_source fault needed run (BadLayout field value) ends = ends.2.faults
+create_source fault needed run (Small wanted found) ends = ends.3.unread.faults
+create_source fault needed run DiskFault ends = ends.2.unread.faults
+create_source fault needed run NoMemory ends = ends.1.unread.faults
+create_source fault needed run Usage ends = absurd ends
+create_source fault needed run (BadText bad) ends = absurd ends
+create_source fault needed run SourceFault ends = absurd ends
+create_source fault needed run (Damaged damage) ends = absurd ends
+create_source fault needed run NotBuilt ends = absurd ends
+
+drive_source : (run : Run) (status : Status) → DriveEnds run status → ¬ (status ≡ SourceFault) → run.seen.source_after.faults ≡ run.seen.source_before.faults
+drive_source run status ends other = elim ends [
+  | inl shut ↦ shut.2.unread.faults
+  | inr opened ↦ elim opened [
+    | inl away ↦ source_kept status away.k run.seen.source_before run.seen.source_after away.why other
+    | inr ran ↦ ran.1.source
+  ]
+]
+
+usage_source : (seen : Seen) (status : Status) → UsageEnds seen status → seen.source_after.faults ≡ seen.source_before.faults
+usage_source seen Usage ends = ends.1.faults
+usage_source seen other ends = absurd ends
+
+unbuilt_source : (seen : Seen) (status : Status) → UnbuiltEnds seen status → seen.source_after.faults ≡ seen.source_before.faults
+unbuilt_source seen NotBuilt ends = ends.1.faults
+unbuilt_source seen other ends = absurd ends
+
+-- The count of the source's faults is as it was, unless the status says that the source failed.
+pub ends_source : (form : Option Form) (run : Run) (status : Status) → RunEnds form run status → ¬ (status ≡ SourceFault) → run.seen.source_after.faults ≡ run.seen.source_before.faults
+ends_source None run status ends other = usage_source run.seen status ends
+ends_source (Some (Dry k)) run status ends other = dry_source k run.seen status ends other
+ends_source (Some (Create k pages log dcap icap)) run status ends other = create_source (first_fault k pages log dcap icap) (size_of pages log) run status ends
+ends_source (Some Drive) run status ends other = drive_source run status ends other
+ends_source (Some form) run status ends other = unbuilt_source run.seen status ends
+
+-- The words alone decide whether they are no form.
+drive_never_usage : (run : Run) (status : Status) → DriveEnds run status → status ≡ Usage → ⊥
+drive_never_usage run status ends is = elim ends [
+  | inl shut ↦ of_closed shut.0 (λ x. x ≡ Usage → ⊥) (λ needed found no. cc (no)) (λ damage no. cc (no)) (λ no. cc (no)) (λ no. cc (no)) (sym shut.1 ∙ is)
+  | inr opened ↦ elim opened [
+    | inl away ↦ subst (λ (x : Status). NotScheduled away.k run.seen.source_before run.seen.source_after x) is away.why
+    | inr ran ↦ subst (λ (x : Status). RanEnds x run.seen.sink_before run.seen.sink_after run.seen.answered ran.0) is ran.2
+  ]
+]
+
+is_usage : (seen : Seen) (status : Status) → UsageEnds seen status → status ≡ Usage
+is_usage seen Usage ends = refl
+is_usage seen other ends = absurd ends
+
+is_unbuilt : (seen : Seen) (status : Status) → UnbuiltEnds seen status → status ≡ NotBuilt
+is_unbuilt seen NotBuilt ends = refl
+is_unbuilt seen other ends = absurd ends
+
+pub ends_usage : (form : Option Form) (run : Run) (status : Status) → RunEnds form run status → (status ≡ Usage) ↔ (form ≡ None)
+ends_usage None run status ends = (λ is. refl, λ none. is_usage run.seen status ends)
+ends_usage (Some (Dry k)) run status ends = (λ is. absurd (subst (λ (x : Status). DryEnds k run.seen x) is ends), λ none. cc (none))
+ends_usage (Some (Create k pages log dcap icap)) run status ends =
+    (λ is. absurd (subst (λ (x : Status). CreateEnds (first_fault k pages log dcap icap) (size_of pages log) run x) is ends), λ none. cc (none))
+ends_usage (Some Drive) run status ends = (λ is. absurd (drive_never_usage run status ends is), λ none. cc (none))
+ends_usage (Some form) run status ends = (λ is. cc (is, is_unbuilt run.seen status ends), λ none. cc (none))
+
+-- A form that isn't built gives `not built`.
+pub ends_unbuilt : (form : Option Form) (run : Run) (status : Status) → IsUnbuilt form → RunEnds form run status → status ≡ NotBuilt
+ends_unbuilt None run status unbuilt ends = absurd unbuilt
+ends_unbuilt (Some (Dry k)) run status unbuilt ends = absurd unbuilt
+ends_unbuilt (Some (Create k pages log dcap icap)) run status unbuilt ends = absurd unbuilt
+ends_unbuilt (Some Drive) run status unbuilt ends = absurd unbuilt
+ends_unbuilt (Some form) run status unbuilt ends = is_unbuilt run.seen status ends

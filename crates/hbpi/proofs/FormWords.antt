@@ -5,7 +5,7 @@ use Rattle.std.specs.Str.{bytes_eq}
 use Rattle.std.proofs.lemmas.Bool.Decides.{nat_tests}
 use Rattle.hbpi.specs.declared.forms.Form.{Form}
 use Rattle.hbpi.specs.declared.forms.Form.TheVariants.{Dry, Run, Drive, Check, Map, Tidy}
-use Rattle.hbpi.specs.Forms.{◌>>=◌, number_of, attributes_of, line_count_of, create_of, dry_of, gen_of, work_of, alone, form_from, form_of}
+use Rattle.hbpi.specs.Forms.{◌>>=◌, number_said, attributes_of, line_count_of, create_of, dry_of, gen_of, work_of, alone, form_from, form_of}
 use Rattle.hb_lemmas.proofs.Booleans.{chosen}
 
 pub create_short : (ws : List (List ℕ)) → length ws < 5 → create_of ws ≡ None
@@ -54,7 +54,7 @@ same_count m n e = cc
 
 attributes_fit : (word : List ℕ) (k : ℕ) → attributes_of word ≡ Some k → (0 < k) × (k ≤ 4)
 attributes_fit word k e =
-    let n = fed (number_of word) (λ k. cond (nat_le 1 k && nat_le k 4) (Some k) None) k e in
+    let n = fed (number_said word) (λ k. cond (nat_le 1 k && nat_le k 4) (Some k) None) k e in
     elim (chosen (nat_le 1 n.0 && nat_le n.0 4) (Some n.0) None (Some k) n.1) [
       | inl fits ↦ let same = some_number n.0 k fits.1 in (grind (arith, nat_tests, fits.0, same), grind (arith, nat_tests, fits.0, same))
       | inr none ↦ cc (none.1)
@@ -78,11 +78,11 @@ create_other (a ∷ b ∷ []) k e = cc
 create_other (a ∷ b ∷ c ∷ []) k e = cc
 create_other (a ∷ b ∷ c ∷ d ∷ []) k e = cc
 create_other (a ∷ b ∷ c ∷ d ∷ i ∷ []) k e =
-    let one = fed (number_of a) _ (Dry k) e in
-    let two = fed (number_of b) _ (Dry k) one.1 in
-    let three = fed (number_of c) _ (Dry k) two.1 in
-    let four = fed (number_of d) _ (Dry k) three.1 in
-    let five = fed (number_of i) _ (Dry k) four.1 in
+    let one = fed (number_said a) _ (Dry k) e in
+    let two = fed (number_said b) _ (Dry k) one.1 in
+    let three = fed (number_said c) _ (Dry k) two.1 in
+    let four = fed (number_said d) _ (Dry k) three.1 in
+    let five = fed (number_said i) _ (Dry k) four.1 in
     cc (five.1)
 create_other (a ∷ b ∷ c ∷ d ∷ i ∷ j ∷ words) k e = cc
 
@@ -91,7 +91,7 @@ gen_other [] k e = cc
 gen_other (a ∷ []) k e = cc
 gen_other (a ∷ b ∷ []) k e = cc
 gen_other (a ∷ b ∷ c ∷ []) k e =
-    let one = fed (number_of a) _ (Dry k) e in
+    let one = fed (number_said a) _ (Dry k) e in
     let two = fed (line_count_of b) _ (Dry k) one.1 in
     let three = fed (attributes_of c) _ (Dry k) two.1 in
     cc (three.1)
@@ -101,7 +101,7 @@ work_other : (words : List (List ℕ)) (k : ℕ) → work_of words ≡ Some (Dry
 work_other [] k e = cc
 work_other (a ∷ []) k e = cc
 work_other (a ∷ b ∷ []) k e =
-    let one = fed (number_of a) _ (Dry k) e in
+    let one = fed (number_said a) _ (Dry k) e in
     let two = fed (line_count_of b) _ (Dry k) one.1 in
     cc (two.1)
 work_other (a ∷ b ∷ c ∷ words) k e = cc

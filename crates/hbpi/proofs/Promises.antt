@@ -1,144 +1,146 @@
 -- The promise of `drive`, from how its run ends.
-use Rattle.std.proofs.Common.{◌≡◌, ◌⊎◌, inl, inr, ℕ, ◌+◌, ◌≤◌, zero, suc, List, [], length, Option, Some, None, refl, sym, ap, subst, ◌∙◌}
-use Rattle.std.specs.List.{All}
-use Rattle.std.proofs.lemmas.List.Elements.{All-nil}
-use Rattle.hb_disk.specs.Model.{DiskModel}
-use Rattle.hb_disk.specs.Calls.{Leaves}
+use Rattle.std.proofs.Common.{◌≡◌, ◌⊎◌, inl, inr, ℕ, ◌+◌, ◌≤◌, List, [], ◌∷◌, All, Some, None, refl, sym, ap, subst, ◌∙◌, arith}
+use Rattle.std.proofs.lemmas.List.Elements.{All-nil, All-weaker}
+use Rattle.std.specs.List.{Contains}
+use Rattle.hb_core.specs.KeepingLaws.{BegunKeepsAll}
+use Rattle.hb_core.specs.KeptOrder.{StandsInOrder, StandsOutside}
+use Rattle.hb_core.specs.KeptSequence.{IsInSequence}
+use Rattle.hb_core.specs.Laws.{HasOnePage, PointsHaveOnePage}
+use Rattle.hb_core.specs.Machines.{Files, Machine, settled_count}
+use Rattle.hb_core.specs.Runs.{HoldsSince, IsPrefixImage}
+use Rattle.hb_core.specs.Steps.{StepsInSequence}
+use Rattle.hb_core.specs.SteppingLaws.{IsBegunOver, StepsGoOn}
 use Rattle.hb_disk.proofs.Facts.RunLaws.{Leaves-weaker}
-use Rattle.hb_lemmas.proofs.Options.{at_value}
+use Rattle.hb_disk.specs.Calls.{Leaves}
+use Rattle.hb_disk.specs.Model.{DiskModel}
+use Rattle.hb_latch.specs.Tables.{MayLatch}
 use Rattle.hb_layout.specs.declared.meta.Meta.{Meta}
+use Rattle.hb_lemmas.proofs.Options.{at_value, has_value}
 use Rattle.hb_ops.specs.Files.{FileState, contents_of}
 use Rattle.hb_ops.specs.Sound.{IsSound}
-use Rattle.hb_set.specs.declared.scripts.Line.{Line}
+use Rattle.hb_restart.specs.declared.faults.OpenFault.{OpenFault}
 use Rattle.hb_set.specs.declared.scripts.Answered.{Answered}
-use Rattle.hb_store.specs.Opening.{OpensTo, IsEven, OpensToOne}
-use Rattle.hbpi.specs.Codes.{start_status}
-use Rattle.hbpi.specs.Core.{CoreState, settled_of}
-use Rattle.hbpi.specs.Keeping.{OpensToPrefix, AreAmong}
-use Rattle.hbpi.specs.Moments.{HoldsAnswers, LeavesLate}
-use Rattle.hbpi.specs.AnsweredLines.{IsReplied}
-use Rattle.hbpi.specs.Driven.{IsTurnedAway, OpenedEnds, DriveCommandEnds}
-use Rattle.hbpi.specs.Schedules.{IsScheduled}
-use Rattle.hbpi.specs.DrivenRuns.{RunsFrom, Drove}
-use Rattle.hbpi.specs.SeenRuns.{Seen}
-use Rattle.hbpi.specs.Moves.{MovesOn, Shown, shown}
-use Rattle.hbpi.specs.Runs.{KeepsPromise}
-use Rattle.hb_restart.specs.declared.faults.OpenFault.TheVariants as faults
-use Rattle.hbpi.specs.declared.starting.StartFault.{StartFault}
-use Rattle.hbpi.specs.declared.starting.StartFault.TheVariants as starts
+use Rattle.hb_set.specs.declared.scripts.Line.{Line}
+use Rattle.hb_sound.specs.Laws.{NoPointIsHeldTwice, RootHasWalks}
+use Rattle.hb_sound.specs.PointWalks.{IsPointOf}
+use Rattle.hb_store.specs.Opening.{IsEven, OpensTo, OpensToOne}
+use Rattle.hbpi.proofs.EndLaws.{of_closed}
+use Rattle.hbpi.proofs.Reopened.{no_line_yet, pages_of}
+use Rattle.hbpi.specs.Codes.{status_of}
+use Rattle.hbpi.specs.Driven.{DriveEnds, Drove, IsOpened, RanEnds}
+use Rattle.hbpi.specs.Drives.{LeavesLate, LeavesPrefixes}
+use Rattle.hbpi.specs.Promises.{AreOfText, IsHeld, KeepsPromise, StandsAt}
+use Rattle.hbpi.specs.Schedules.{IsScheduled, IsServed, NotScheduled}
+use Rattle.hbpi.specs.SeenRuns.{Run}
 use Rattle.hbpi.specs.declared.statuses.Status.{Status}
-use Rattle.hbpi.specs.declared.statuses.Status.TheVariants.{Done, Usage, BadText, SourceFault, SinkFault, DiskFault, Damaged, NoMemory, BadLayout, Small, NotBuilt}
-use Rattle.hbpi.proofs.LinesInOrder.{among_whole}
-use Rattle.hbpi.proofs.Reopened.{no_line_yet}
+use Rattle.hbpi.specs.declared.statuses.Status.TheVariants.{Done}
 
-not_done : (fault : StartFault) → start_status fault ≡ Done → ⊥
-not_done (starts.Closed (faults.Small needed found)) is = cc (is)
-not_done (starts.Closed faults.NoSuper) is = cc (is)
-not_done starts.NotBuilt is = cc (is)
-not_done (starts.Closed (faults.BadGroup frame)) is = cc (is)
-not_done (starts.Closed (faults.Unsound page rule)) is = cc (is)
-not_done (starts.Closed faults.DiskFault) is = cc (is)
-not_done (starts.Closed faults.NoMemory) is = cc (is)
+-- The laws that it takes: bytes open to one file at most; what steps keep from a beginning on; and each point has one page.
+pub record PromiseLaws : Type 0 where
+  pub one : OpensToOne
+  pub begun : BegunKeepsAll
+  pub further : StepsGoOn
+  pub walks : RootHasWalks
+  pub alone : NoPointIsHeldTwice
+
+not_done : (fault : OpenFault) → status_of fault ≡ Done → ⊥
+not_done fault = of_closed fault (λ x. x ≡ Done → ⊥) (λ needed found is. cc (is)) (λ damage is. cc (is)) (λ is. cc (is)) (λ is. cc (is))
 
 -- where no command was done
-nothing_done : (s : FileState) (d e : DiskModel) (seen : Seen) (status : Status) → IsSound s → seen.answered ≡ [] → seen.order ≡ [] → (IsEven d s → Leaves d e (λ c. OpensTo c s)) → (d.clock + 2 ≤ e.clock → LeavesLate d e (λ c. OpensTo c s))
-    → (status ≡ Done → ⊥) → KeepsPromise s d e seen status
-nothing_done s d e seen status sound none_answered none_ordered leaves late undone =
-    let held : HoldsAnswers e (contents_of s) [] seen.answered = let Q : List Answered → Type 0 = λ a. HoldsAnswers e (contents_of s) [] a in subst Q (sym none_answered) (All-nil _) in
+nothing_done : (s : FileState) (run : Run) (status : Status) → IsSound s → ((p : List ℕ) → IsPointOf s p → HasOnePage s p) → run.seen.answered ≡ [] → run.seen.order ≡ []
+    → (IsEven run.before s → Leaves run.before run.after (λ c. OpensTo c s)) → (run.before.clock + 2 ≤ run.after.clock → LeavesLate run.before run.after (λ c. OpensTo c s)) → (status ≡ Done → ⊥) → KeepsPromise s run status
+nothing_done s run status sound pages none_answered none_ordered leaves late undone =
+    let P : List ℕ → Type 0 = IsPrefixImage (contents_of s) [] 0 in
+    let weaker : (c : List ℕ) → OpensTo c s → P c = λ c opens. no_line_yet s [] c sound pages opens in
     record {
-      done = [];
-      numbers = sym none_ordered;
+      order = [];
+      numbers = none_ordered;
       said = inl refl;
       legal = record { replies = tt; sessions = tt };
-      replied = let Q : List Answered → Type 0 = λ a. All (IsReplied (contents_of s) []) a in subst Q (sym none_answered) (All-nil _);
-      held = held;
-      crashes = λ even. record {
-        each = Leaves-weaker d e (λ c. OpensTo c s) (OpensToPrefix (contents_of s) [] 0) (λ c opens. no_line_yet s [] c sound opens) (leaves even);
-        since = held;
-      };
-      late = λ later. let here = late later in record { since = here.since; soon = here.soon; each = λ c left. no_line_yet s [] c sound (here.each c left) };
+      replied = let Q : List Answered → Type 0 = λ a. All (λ x. StandsOutside x.reply ⊎ ((place : ℕ) × StandsAt [] x place)) a in subst Q (sym none_answered) (All-nil _);
+      held = let Q : List Answered → Type 0 = λ a. All (IsHeld run.after (contents_of s) []) a in subst Q (sym none_answered) (All-nil _);
+      crashes = λ even. Leaves-weaker run.before run.after (λ c. OpensTo c s) P weaker (leaves even);
+      late = λ later. let here = late later in record { since = here.since; soon = here.soon; each = λ c left. weaker c (here.each c left) };
       even = λ is. absurd (undone is);
     }
 
-same_lines : (n : ℕ) (before : Shown) (answered : List Answered) (after : Shown) → MovesOn n before answered after → after.core.lines ≡ before.core.lines
-same_lines zero before answered after moves = ap (λ (x : Shown). x.core.lines) moves.0
-same_lines (suc n) before answered after moves = moves.5.lines ∙ same_lines n before moves.1 moves.0 moves.4
+-- what stands in the order of a machine stands in the order
+stands_there : (m : Machine) (a : Answered) (place : ℕ) → StandsInOrder m a.line a.reply place → StandsAt m.order a place
+stands_there m a place stands = record { entry = stands.entry; there = stands.there; number = stands.number_is; reply = stands.reply_is }
 
--- where the steps were taken
-ran : (b : List ℕ) (s : FileState) (d e : DiskModel) (seen : Seen) (status : Status) (after : CoreState) → OpensToOne → d.told ≡ Some b → OpensTo b s → Drove d e seen after → (status ≡ Done → after.stop ≡ None) → KeepsPromise s d e seen status
-ran b s d e seen status after one told opens drove going =
-    let here = at_value d.told _ b told drove.told in
-    let same : here.0 ≡ s = one b here.0 s here.1 opens in
-    let meta : s.meta ≡ drove.before.store.meta = subst (λ (f : FileState). f.meta ≡ drove.before.store.meta) same here.3 in
-    let run : RunsFrom s (length drove.run.steps) d e drove.before after seen.answered = subst (λ (f : FileState). RunsFrom f (length drove.run.steps) d e drove.before after seen.answered) same here.4 in
-    let k : drove.k ≡ s.meta.k = sym (ap (λ (m : Meta). m.k) meta ∙ drove.run.attributes) in
-    record {
-      done = run.done;
-      numbers = run.ordered ∙ sym drove.run.order;
-      said = inr (
-        drove.before.lines,
-        drove.run.steps,
-        subst (λ (n : ℕ). IsScheduled n seen.source_before.left seen.source_after.left drove.before.lines drove.run.steps) k drove.run.scheduled,
-        subst (λ (ls : List Line). AreAmong run.done ls) (same_lines (length drove.run.steps) (shown d drove.before) seen.answered (shown e after) drove.run.moves) (among_whole run.done after.lines after.taken run.among),
-      );
-      legal = run.legal;
-      replied = run.replied;
-      held = run.held;
-      crashes = run.crashes;
-      late = λ later. run.late;
-      even = λ is. let even = run.even (going is) in (even.0, settled_of after, even.1, even.2, even.3);
-    }
+stands_here : (m : Machine) (a : Answered) (place : ℕ) → StandsAt m.order a place → StandsInOrder m a.line a.reply place
+stands_here m a place stands = record { entry = stands.entry; there = stands.there; number_is = stands.number; reply_is = stands.reply }
 
-away : (k : ℕ) (b : List ℕ) (s : FileState) (d e : DiskModel) (seen : Seen) (status : Status) → OpensToOne → d.told ≡ Some b → OpensTo b s → IsSound s → IsTurnedAway k d e seen status → (status ≡ Done → ⊥) → KeepsPromise s d e seen status
-away k b s d e seen status one told opens sound turned undone =
-    let here = at_value d.told _ b told turned.told in
-    let same : here.0 ≡ s = one b here.0 s here.1 opens in
-    nothing_done s d e seen status sound turned.refused.none_answered turned.refused.none_ordered (subst (λ (f : FileState). IsEven d f → Leaves d e (λ c. OpensTo c f)) same here.5)
-    (λ later. subst (λ (f : FileState). LeavesLate d e (λ c. OpensTo c f)) same here.7) undone
+-- where the steps were taken, from this file on
+module _ (laws : PromiseLaws) (b : List ℕ) (run : Run) (status : Status) (after : Machine) (told : run.before.told ≡ Some b) (drove : Drove run after) (going : status ≡ Done → after.stop ≡ None) where
+  of_text : (s : FileState) → IsBegunOver drove.takes.before s → All (IsInSequence after) after.order → AreOfText s.meta.k run.seen after.order
+  of_text s over placed =
+      let takes = drove.takes in
+      let k : drove.k ≡ s.meta.k = sym (ap (λ (m : Meta). m.k) over.meta ∙ takes.attributes) in
+      let lines : after.lines ≡ drove.lines = (laws.further drove.steps takes.before after takes.reached).lines ∙ takes.lines_are in
+      record {
+        lines = drove.lines;
+        steps = drove.steps;
+        scheduled = subst (λ (n : ℕ). IsScheduled n run.seen.source_before.left run.seen.source_after.left drove.lines drove.steps) k drove.scheduled;
+        among = All-weaker (IsInSequence after) (λ e. Contains drove.lines e.line) (λ e placed. subst (λ (ls : List Line). Contains ls e.line) lines placed.among) after.order placed;
+      }
 
--- the statuses but the first
-abbrev IsOther : Status → Type 0
-IsOther Done = ⊥
-IsOther Usage = Unit {0}
-IsOther (BadText bad) = Unit {0}
-IsOther SourceFault = Unit {0}
-IsOther SinkFault = Unit {0}
-IsOther DiskFault = Unit {0}
-IsOther (Damaged damage) = Unit {0}
-IsOther NoMemory = Unit {0}
-IsOther (BadLayout field value) = Unit {0}
-IsOther (Small needed found) = Unit {0}
-IsOther NotBuilt = Unit {0}
+  ran_promise : (s : FileState) → IsBegunOver drove.takes.before s → LeavesPrefixes s run.before run.after run.seen.answered after → KeepsPromise s run status
+  ran_promise s over prefixes =
+      let takes = drove.takes in
+      let n = contents_of s in
+      let searches = subst (λ (ls : List Line). IsServed ls) (sym takes.lines_are) drove.served in
+      let keeps = (laws.begun s drove.steps takes.before after over takes.actors searches takes.reached).1.keeps in
+      let came : run.seen.answered ≡ after.answered = takes.came.same (has_value run.before.told b told) in
+      let R : Answered → Type 0 = λ a. StandsOutside a.reply ⊎ ((place : ℕ) × StandsAt after.order a place) in
+      record {
+        order = after.order;
+        numbers = takes.order_is;
+        said = inr (of_text s over keeps.kept.lines_in_sequence.placed);
+        legal = keeps.order_legal.legal;
+        replied = subst (λ (given : List Answered). All R given) (sym came)
+            (All-weaker (λ a. StandsOutside a.reply ⊎ ((place : ℕ) × StandsInOrder after a.line a.reply place)) R
+            (λ a stands. elim stands [ inl outside ↦ inl outside | inr inside ↦ inr (inside.0, stands_there after a inside.0 inside.1) ]) after.answered keeps.order_legal.answers);
+        held = All-weaker (HoldsSince run.after n after) (IsHeld run.after n after.order) (λ a holds place stands. holds place (stands_here after a place stands)) run.seen.answered prefixes.since;
+        crashes = prefixes.even;
+        late = λ later. prefixes.late;
+        even = λ is. let even = prefixes.settled (going is) in (even.0, settled_count after, even.1, even.2, even.3);
+      }
 
-other : (status : Status) → IsOther status → status ≡ Done → ⊥
-other status is done = subst IsOther done is
+  drove_promise : (s : FileState) → OpensTo b s → KeepsPromise s run status
+  drove_promise s opens =
+      let here = at_value run.before.told _ b told drove.takes.told in
+      let same : here.0 ≡ s = laws.one b here.0 s here.1 opens in
+      subst (λ (f : FileState). KeepsPromise f run status) same (ran_promise here.0 here.3 here.4)
 
-told_some : (o : Option (List ℕ)) (b : List ℕ) → o ≡ Some b → o ≡ None → ⊥
-told_some o b some none = cc (some, none)
+-- over a file that was opened each image since the first sync opens to it
+opened_late : (k : ℕ) (d e : DiskModel) (b : List ℕ) (s : FileState) → IsOpened k d e → d.told ≡ Some b → OpensTo b s → LeavesLate d e (λ c. OpensTo c s)
+opened_late k d e b s opened told opens = record { since = d.clock + 1; soon = omega arith; each = at_value d.told _ b told opened.through.late s opens }
 
-module _ (b : List ℕ) (s : FileState) (d e : DiskModel) (seen : Seen) (one : OpensToOne) (told : d.told ≡ Some b) (opens : OpensTo b s) (sound : IsSound s) where
-  turned_promise : (k : ℕ) (status : Status) → IsTurnedAway k d e seen status → IsOther status → KeepsPromise s d e seen status
-  turned_promise k status turned is = away k b s d e seen status one told opens sound turned (other status is)
+shut_late : (d e : DiskModel) (b : List ℕ) (s : FileState) → d.told ≡ Some b → OpensTo b s
+    → ((b : List ℕ) → d.told ≡ Some b → (s : FileState) → OpensTo b s → d.clock + 2 ≤ e.clock → (c : List ℕ) → e.ImageSince (d.clock + 1) c → OpensTo c s) → d.clock + 2 ≤ e.clock → LeavesLate d e (λ c. OpensTo c s)
+shut_late d e b s told opens late later = record { since = d.clock + 1; soon = omega arith; each = late b told s opens later }
 
-  run_promise : (status : Status) (after : CoreState) → Drove d e seen after → IsOther status → KeepsPromise s d e seen status
-  run_promise status after drove is = ran b s d e seen status after one told opens drove (λ done. absurd (other status is done))
-
-  opened_promise : (status : Status) → OpenedEnds d e seen status → KeepsPromise s d e seen status
-  opened_promise Done ends = ran b s d e seen Done ends.0 one told opens ends.1 (λ is. ends.3)
-  opened_promise SinkFault ends = run_promise SinkFault ends.0 ends.1 tt
-  opened_promise DiskFault ends = run_promise DiskFault ends.0 ends.2 tt
-  opened_promise (BadText bad) ends = turned_promise ends.0 (BadText bad) ends.1 tt
-  opened_promise SourceFault ends = turned_promise ends.0 SourceFault ends.1 tt
-  opened_promise NotBuilt ends = turned_promise ends.0 NotBuilt ends.1 tt
-  opened_promise NoMemory ends = turned_promise ends.0 NoMemory ends.1 tt
-  opened_promise (Damaged damage) ends = absurd (told_some d.told b told ends.untold)
-  opened_promise Usage ends = absurd ends
-  opened_promise (BadLayout field value) ends = absurd ends
-  opened_promise (Small needed found) ends = absurd ends
-
-pub keeps_promise : (status : Status) (b : List ℕ) (s : FileState) (d e : DiskModel) (seen : Seen) → OpensToOne → d.told ≡ Some b → OpensTo b s → IsSound s → DriveCommandEnds d e seen status → KeepsPromise s d e seen status
-keeps_promise status b s d e seen one told opens sound ends = elim ends [
-  | inl shut ↦ nothing_done s d e seen status sound shut.2.refused.none_answered shut.2.refused.none_ordered (shut.2.even s)
-      (λ later. at_value d.told (λ b. (s : FileState) → OpensTo b s → (shut.0 ≡ starts.NotBuilt) ⊎ (d.clock + 2 ≤ e.clock) → LeavesLate d e (λ c. OpensTo c s)) b told shut.2.late s opens (inr later)) (λ is. not_done shut.0 (sym shut.1 ∙ is))
-  | inr opened ↦ opened_promise b s d e seen one told opens sound status opened
+pub keeps_promise : (laws : PromiseLaws) (run : Run) (status : Status) (b : List ℕ) (s : FileState) → run.before.told ≡ Some b → OpensTo b s → IsSound s → DriveEnds run status → KeepsPromise s run status
+keeps_promise laws run status b s told opens sound ends = elim ends [
+  | inl shut ↦
+    let out = shut.2 in
+    nothing_done s run status sound (pages_of laws.walks laws.alone s sound) out.refused.none_answered out.refused.none_ordered (out.leaves.even s)
+    (shut_late run.before run.after b s told opens (λ c is. at_value run.before.told _ c is out.leaves.late)) (λ is. not_done shut.0 (sym shut.1 ∙ is))
+  | inr opened ↦ elim opened [
+    | inl away ↦ nothing_done s run status sound (pages_of laws.walks laws.alone s sound) away.refused.none_answered away.refused.none_ordered (away.opened.leaves.even s)
+      (λ later. opened_late away.k run.before run.after b s away.opened told opens) (λ is. subst (λ (x : Status). NotScheduled away.k run.seen.source_before run.seen.source_after x) is away.why)
+    | inr ran ↦ drove_promise laws b run status ran.0 told ran.1
+      (λ is. (subst (λ (x : Status). RanEnds x run.seen.sink_before run.seen.sink_after run.seen.answered ran.0) is ran.2).2) s opens
+  ]
 ]
+
+-- In the file after each step on the way, and in those that a crash may leave of it, each point has one page.
+pub files_have_one_page : (laws : PromiseLaws) (pages : PointsHaveOnePage) (run : Run) (after : Machine) (b : List ℕ) → run.before.told ≡ Some b → (drove : Drove run after) (front : List ℕ) (here : Machine) → All MayLatch front → StepsInSequence front drove.takes.before here
+    → (files : Files) × (here.files ≡ Some files) × ((s : FileState) (p : List ℕ) → Contains (files.durable ∷ files.later) s → IsPointOf s p → HasOnePage s p)
+files_have_one_page laws pages run after b told drove front here may reached =
+    let takes = drove.takes in
+    let opened = at_value run.before.told _ b told takes.told in
+    let searches = subst (λ (ls : List Line). IsServed ls) (sym takes.lines_are) drove.served in
+    let kept = laws.begun opened.0 front takes.before here opened.3 may searches reached in
+    (kept.0, kept.1.keeps.told, λ s p among point. pages here kept.0 s p kept.1.keeps.sound_file among point)

@@ -4,10 +4,12 @@ use Rattle.hb_restart.specs.declared.faults.CreateFault.{CreateFault}
 use Rattle.hb_restart.specs.declared.faults.CreateFault.TheVariants as makes
 use Rattle.hb_restart.specs.declared.faults.OpenFault.{OpenFault}
 use Rattle.hb_restart.specs.declared.faults.OpenFault.TheVariants as faults
+use Rattle.hb_core.specs.declared.endings.End.{End}
+use Rattle.hb_core.specs.declared.endings.End.TheVariants as ends
+use Rattle.hb_store.specs.declared.stops.StopWhy.{StopWhy}
+use Rattle.hb_store.specs.declared.stops.StopWhy.TheVariants as stops
 use Rattle.hb_store.specs.declared.stops.Why.{Why}
 use Rattle.hb_store.specs.declared.stops.Why.TheVariants as whys
-use Rattle.hbpi.specs.declared.starting.StartFault.{StartFault}
-use Rattle.hbpi.specs.declared.starting.StartFault.TheVariants as starts
 use Rattle.hbpi.specs.declared.statuses.Damage.{Damage}
 use Rattle.hbpi.specs.declared.statuses.Damage.TheVariants as damages
 use Rattle.hbpi.specs.declared.statuses.Status.{Status}
@@ -48,7 +50,14 @@ status_of (faults.Unsound page rule) = Damaged (damages.Rule page rule)
 status_of faults.DiskFault = DiskFault
 status_of faults.NoMemory = NoMemory
 
--- the status of a run that was refused by its file
-abbrev pub start_status : StartFault → Status
-start_status (starts.Closed fault) = status_of fault
-start_status starts.NotBuilt = NotBuilt
+-- the status behind the last step
+abbrev pub stop_status : StopWhy → Status
+stop_status stops.WriteFault = DiskFault
+stop_status (stops.Damaged page why) = Damaged (damage_of page why)
+
+abbrev pub status_after : End → Status
+status_after ends.Finished = Done
+status_after ends.NoMemory = NoMemory
+status_after ends.SinkFault = SinkFault
+status_after ends.ReadFault = DiskFault
+status_after (ends.Stopped why) = stop_status why

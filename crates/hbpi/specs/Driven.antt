@@ -1,105 +1,88 @@
 -- What a run of `drive` leaves, by its status.
-use Rattle.std.specs.Prelude.{◌≡◌, ◌⊎◌, ℕ, ◌+◌, ◌≤◌, true, List, ◌++◌, Option, Some, None, Err, IfSome}
+use Rattle.std.specs.Prelude.{◌≡◌, ◌⊎◌, ℕ, List, None, Some}
+use Rattle.hb_core.specs.Machines.{Machine}
+use Rattle.hb_core.specs.Runs.{HasReadFault}
+use Rattle.hb_disk.specs.Calls.{OnlyReads}
 use Rattle.hb_disk.specs.Model.{DiskModel}
-use Rattle.hb_disk.specs.Calls.{Leaves, OnlyReads}
+use Rattle.hb_drive.specs.Driving.{run_text}
+use Rattle.hb_outside.specs.Calls.{SinkModel}
 use Rattle.hb_outside.specs.Streams.{Rose, Appends, AppendsFront}
-use Rattle.hb_ops.specs.Files.{FileState}
-use Rattle.hb_ops.specs.Sound.{IsSound}
-use Rattle.hb_set.specs.declared.scripts.Line.{Line}
-use Rattle.hb_store.specs.Opening.{OpensTo, IsEven}
-use Rattle.hb_store.specs.declared.stops.StopWhy.{StopWhy}
-use Rattle.hb_store.specs.declared.stops.StopWhy.TheVariants as stops
-use Rattle.hbpi.specs.declared.drive.End.{End}
-use Rattle.hbpi.specs.declared.drive.End.TheVariants as ends
-use Rattle.hb_store.specs.declared.stops.Why.{Why}
-use Rattle.hb_text.specs.Grammar.{text_read}
-use Rattle.hbpi.specs.Codes.{damage_of, start_status}
-use Rattle.hbpi.specs.Core.{CoreState}
-use Rattle.hbpi.specs.Drives.{HasReadFault, run_output}
-use Rattle.hbpi.specs.SeenRuns.{Seen, IsRefused, IsUnread}
-use Rattle.hbpi.specs.Outcome.{GetsLine, IsTextOf, fault_line}
+use Rattle.hb_restart.specs.declared.faults.OpenFault.{OpenFault}
 use Rattle.hb_restart.specs.declared.faults.OpenFault.TheVariants as faults
-use Rattle.hbpi.specs.Starting.{RefusesStart, IsOnePage, IsShutBy, IsUnwrittenBy}
-use Rattle.hbpi.specs.declared.starting.StartFault.{StartFault}
-use Rattle.hbpi.specs.declared.starting.StartFault.TheVariants as starts
-use Rattle.hbpi.specs.declared.statuses.Damage.{Damage}
+use Rattle.hb_restart.specs.Leaving.{LeavesOpening, OpensStore, RunsThrough}
+use Rattle.hb_restart.specs.Refusals.{IsRefusal, IsUnwritten}
+use Rattle.hb_set.specs.declared.scripts.Answered.{Answered}
+use Rattle.hb_set.specs.declared.scripts.Line.{Line}
+use Rattle.hb_store.specs.States.{StoreState}
+use Rattle.hb_store.specs.declared.stops.StopWhy.TheVariants as stops
+use Rattle.hb_store.specs.declared.stops.Why.{Why}
+use Rattle.hbpi.specs.Codes.{damage_of, status_of}
+use Rattle.hbpi.specs.Drives.{TakesSteps}
+use Rattle.hbpi.specs.Outcome.{GetsLine, fault_line}
+use Rattle.hbpi.specs.Schedules.{IsScheduled, IsServed, NotScheduled}
+use Rattle.hbpi.specs.SeenRuns.{IsRefused, IsUnread, Run}
 use Rattle.hbpi.specs.declared.statuses.Status.{Status}
 use Rattle.hbpi.specs.declared.statuses.Status.TheVariants.{Done, Usage, BadText, SourceFault, SinkFault, DiskFault, Damaged, NoMemory, BadLayout, Small, NotBuilt}
-use Rattle.hbpi.specs.Schedules.{IsScheduled, IsServedScript}
-use Rattle.hbpi.specs.DrivenRuns.{Drove, HasFailed, HasNotFailed}
-use Rattle.hbpi.specs.Moments.{LeavesLate}
 
--- The file wasn't opened, or is a larger one, and the source wasn't read. Over an even disk a crash leaves the same file.
--- A larger one was opened first, and every image of now opens to it. Whatever the disk was, each image since the first sync
--- succeeded opens to the file: behind a larger one it has, and else a second tick of the clock tells so.
-pub record IsShutOut (d e : DiskModel) (seen : Seen) (fault : StartFault) : Type 0 where
-  pub refused : IsRefused seen (start_status fault)
-  pub unread : IsUnread seen
-  pub why : IfSome d.told (RefusesStart fault)
-  pub shut : IsShutBy d.size fault
-  pub failed : fault ≡ starts.Closed faults.DiskFault → HasFailed d e
-  pub no_fault : ¬ (fault ≡ starts.Closed faults.DiskFault) → HasNotFailed d e
-  pub unwritten : IsUnwrittenBy fault → OnlyReads d e
-  pub left : fault ≡ starts.NotBuilt → IfSome d.told (λ b. (s : FileState) × OpensTo b s × IsEven e s)
-  pub even : (s : FileState) → IsEven d s → Leaves d e (λ c. OpensTo c s)
-  pub late : IfSome d.told (λ b. (s : FileState) → OpensTo b s → (fault ≡ starts.NotBuilt) ⊎ (d.clock + 2 ≤ e.clock) → LeavesLate d e (λ c. OpensTo c s))
+-- The file wasn't opened, and the source wasn't read.
+pub record IsShutOut (run : Run) (fault : OpenFault) : Type 0 where
+  pub refused : IsRefused run.seen (status_of fault)
+  pub unread : IsUnread run.seen
+  pub why : IsRefusal run.before fault
+  pub unwritten : IsUnwritten fault → OnlyReads run.before run.after
+  pub leaves : LeavesOpening (fault ≡ faults.DiskFault) run.before run.after
 
--- The file was opened, over k attributes, and no command was done. Every image of now opens to the file; and over
--- an even disk every image since the run began does, and over any other each since the first sync succeeded.
-pub record IsTurnedAway (k : ℕ) (d e : DiskModel) (seen : Seen) (status : Status) : Type 0 where
-  pub refused : IsRefused seen status
-  pub no_fault : HasNotFailed d e
-  pub source : ¬ (status ≡ SourceFault) → seen.source_after.faults ≡ seen.source_before.faults
-  pub told : IfSome d.told (λ b. (s : FileState) × OpensTo b s × IsSound s × (s.meta.k ≡ k) × IsEven e s × (IsEven d s → Leaves d e (λ c. OpensTo c s)) × IsOnePage s.meta × LeavesLate d e (λ c. OpensTo c s))
+-- A file of so many attributes was opened, and nothing else was done to the disk.
+pub record IsOpened (k : ℕ) (old new : DiskModel) : Type 0 where
+  pub store : StoreState
+  pub count : ℕ
+  pub attributes : store.meta.k ≡ k
+  pub opens : OpensStore old new store count
+  pub through : RunsThrough store.meta.high old new
+  pub leaves : LeavesOpening ⊥ old new
 
--- the whole output and the fault line behind it, or a front of these where the sink failed
-abbrev pub GetsOutput : Seen → CoreState → Status → Type 0
-GetsOutput seen after status = GetsLine seen.sink_before seen.sink_after (run_output seen.answered after ++ fault_line status)
+-- The file was opened, and no command was done: no schedule was read of the text, or memory was refused.
+pub record IsTurnedAway (run : Run) (status : Status) : Type 0 where
+  pub k : ℕ
+  pub opened : IsOpened k run.before run.after
+  pub refused : IsRefused run.seen status
+  pub why : NotScheduled k run.seen.source_before run.seen.source_after status
 
--- why a run that got to its steps ends with a fault of the disk: a write failed, or a reply is a read fault
-abbrev pub EndsByFault : DiskModel → DiskModel → Seen → CoreState → Type 0
-EndsByFault d e seen after =
-    ((after.stop ≡ Some stops.WriteFault) × Rose d.write_faults e.write_faults)
-    ⊎ ((after.stop ≡ None) × HasReadFault seen.answered × Rose d.read_faults e.read_faults)
+-- the steps of the text were taken, which was read whole
+pub record Drove (run : Run) (after : Machine) : Type 0 where
+  pub k : ℕ
+  pub lines : List Line
+  pub steps : List ℕ
+  pub scheduled : IsScheduled k run.seen.source_before.left run.seen.source_after.left lines steps
+  pub served : IsServed lines
+  pub source : run.seen.source_after.faults ≡ run.seen.source_before.faults
+  pub takes : TakesSteps run.before run.after k lines steps run.seen.answered run.seen.order after
 
--- Only a disk that doesn't tell its bytes may be met damaged behind the opening.
-pub record IsMetDamaged (d e : DiskModel) (seen : Seen) (damage : Damage) : Type 0 where
-  pub untold : d.told ≡ None
-  pub after : CoreState
-  pub drove : Drove d e seen after
-  pub page : ℕ
-  pub why : Why
-  pub stop : after.stop ≡ Some (stops.Damaged page why)
-  pub damage_is : damage ≡ damage_of page why
-  pub output : GetsOutput seen after (Damaged damage)
+-- the whole text of the run, and behind it the fault line of the status, or a front of that
+pub record GetsOutput (before after : SinkModel) (text : List ℕ) (status : Status) : Type 0 where
+  pub between : SinkModel
+  pub whole : Appends before.written between.written text
+  pub same : between.faults ≡ before.faults
+  pub line : GetsLine between after (fault_line status)
 
--- How a run ends whose file was opened.
-abbrev pub OpenedEnds : DiskModel → DiskModel → Seen → Status → Type 0
-OpenedEnds d e seen Done = (after : CoreState) × Drove d e seen after × Appends seen.sink_before.written seen.sink_after.written (run_output seen.answered after) × (after.stop ≡ None) × (¬ (HasReadFault seen.answered)) × (seen.sink_after.faults ≡ seen.sink_before.faults)
-OpenedEnds d e seen SinkFault = (after : CoreState) × Drove d e seen after × AppendsFront seen.sink_before.written seen.sink_after.written (run_output seen.answered after) × Rose seen.sink_before.faults seen.sink_after.faults
-OpenedEnds d e seen (BadText bad) = (k : ℕ) × IsTurnedAway k d e seen (BadText bad) × (text : List ℕ) × IsTextOf seen.source_before.left seen.source_after.left text × (text_read true k text ≡ Err bad)
-OpenedEnds d e seen SourceFault = (k : ℕ) × IsTurnedAway k d e seen SourceFault × Rose seen.source_before.faults seen.source_after.faults
-OpenedEnds d e seen NotBuilt = (k : ℕ) × IsTurnedAway k d e seen NotBuilt × (lines : List Line) × (steps : List ℕ) × IsScheduled k seen.source_before.left seen.source_after.left lines steps × (¬ (IsServedScript lines steps))
-OpenedEnds d e seen DiskFault = (after : CoreState) × HasFailed d e × Drove d e seen after × EndsByFault d e seen after × GetsOutput seen after DiskFault
-OpenedEnds d e seen (Damaged damage) = IsMetDamaged d e seen damage
-OpenedEnds d e seen NoMemory = (k : ℕ) × IsTurnedAway k d e seen NoMemory
-OpenedEnds d e seen (Small needed found) = ⊥
-OpenedEnds d e seen Usage = ⊥
-OpenedEnds d e seen (BadLayout field value) = ⊥
+-- Why a run that came to this machine ends so, and what it has put: the sink failed; or else the machine is stopped; or a reply is a
+-- read fault; or none of these.
+abbrev pub RanEnds : Status → SinkModel → SinkModel → List Answered → Machine → Type 0
+RanEnds Done before after answered m = Appends before.written after.written (run_text answered m) × (after.faults ≡ before.faults) × (m.stop ≡ None) × (¬ (HasReadFault answered))
+RanEnds SinkFault before after answered m = AppendsFront before.written after.written (run_text answered m) × Rose before.faults after.faults
+RanEnds DiskFault before after answered m = GetsOutput before after (run_text answered m) DiskFault × ((m.stop ≡ Some stops.WriteFault) ⊎ ((m.stop ≡ None) × HasReadFault answered))
+RanEnds (Damaged damage) before after answered m = GetsOutput before after (run_text answered m) (Damaged damage) × (page : ℕ) × (why : Why) × (m.stop ≡ Some (stops.Damaged page why)) × (damage ≡ damage_of page why)
+RanEnds Usage before after answered m = ⊥
+RanEnds (BadText bad) before after answered m = ⊥
+RanEnds SourceFault before after answered m = ⊥
+RanEnds NoMemory before after answered m = ⊥
+RanEnds (BadLayout field value) before after answered m = ⊥
+RanEnds (Small needed found) before after answered m = ⊥
+RanEnds NotBuilt before after answered m = ⊥
 
--- a run of `drive`: its file wasn't opened or is a larger one, or it was opened
-abbrev pub DriveCommandEnds : DiskModel → DiskModel → Seen → Status → Type 0
-DriveCommandEnds d e seen status = ((fault : StartFault) × (status ≡ start_status fault) × IsShutOut d e seen fault) ⊎ OpenedEnds d e seen status
-
--- the status behind the last step, by the end of the run and why the core is stopped
-abbrev pub status_by : Option StopWhy → Status
-status_by (Some (stops.Damaged page why)) = Damaged (damage_of page why)
-status_by (Some stops.WriteFault) = DiskFault
-status_by None = DiskFault
-
-abbrev pub status_after : End → Option StopWhy → Status
-status_after ends.Finished stop = Done
-status_after ends.NoMemory stop = NoMemory
-status_after ends.SinkFault stop = SinkFault
-status_after ends.ReadFault stop = DiskFault
-status_after ends.Stopped stop = status_by stop
+-- How a run of `drive` ends: its file wasn't opened; or the text wasn't taken; or its steps were.
+abbrev pub DriveEnds : Run → Status → Type 0
+DriveEnds run status =
+    ((fault : OpenFault) × (status ≡ status_of fault) × IsShutOut run fault)
+    ⊎ IsTurnedAway run status
+    ⊎ ((after : Machine) × Drove run after × RanEnds status run.seen.sink_before run.seen.sink_after run.seen.answered after)

@@ -1,76 +1,49 @@
--- What a run of a schedule leaves.
-use Rattle.std.specs.Prelude.{◌≡◌, ℕ, Bool, true, false, List, [], Some, None, IsSome, All, Any, is_some}
+-- What the steps of a run of `drive` come to.
+use Rattle.std.specs.Prelude.{◌≡◌, ℕ, ◌+◌, ◌≤◌, List, map, take, All, None, IfSome}
+use Rattle.hb_core.specs.Machines.{Machine, settled_count}
+use Rattle.hb_core.specs.Runs.{AreAnswers, CountsFaults, HoldsSince, IsPrefixImage}
+use Rattle.hb_core.specs.Steps.{StepsInSequence}
+use Rattle.hb_core.specs.SteppingLaws.{IsBegun, IsBegunOver}
+use Rattle.hb_disk.specs.Calls.{Leaves}
 use Rattle.hb_disk.specs.Model.{DiskModel}
-use Rattle.hb_outside.specs.Calls.{SinkModel}
-use Rattle.hb_outside.specs.Streams.{Rose, Appends, AppendsFront}
-use Rattle.hb_set.specs.Machine.{RecordSet}
-use Rattle.hb_set.specs.Order.{IsLegalOrder}
-use Rattle.hb_set.specs.declared.commands.Reply.TheVariants.{ReadFault}
-use Rattle.hb_set.specs.declared.scripts.Line.{Line}
+use Rattle.hb_latch.specs.Tables.{MayLatch}
+use Rattle.hb_ops.specs.Files.{FileState, contents_of}
+use Rattle.hb_ops.specs.Sound.{IsSound}
+use Rattle.hb_set.specs.Order.{result_of}
 use Rattle.hb_set.specs.declared.scripts.Answered.{Answered}
-use Rattle.hb_ops.specs.Files.{FileState}
-use Rattle.hb_store.specs.Keeps.{last_of}
-use Rattle.hb_store.specs.declared.stops.StopWhy.TheVariants.{WriteFault}
-use Rattle.hb_text.specs.Output.{output_text}
-use Rattle.hbpi.specs.Core.{CoreState, settled_of}
-use Rattle.hbpi.specs.Keeping.{EngineKeeps, entries_from}
-use Rattle.hbpi.specs.Moments.{Reaches, CrashesTo}
-use Rattle.hbpi.specs.AnsweredLines.{IsReplied, AnswersFirst, left_lines}
-use Rattle.hbpi.specs.declared.engine.session.Session.TheVariants.{Idle}
-use Rattle.hbpi.specs.declared.drive.End.{End}
-use Rattle.hbpi.specs.declared.drive.End.TheVariants as ends
+use Rattle.hb_set.specs.declared.scripts.Line.{Line}
+use Rattle.hb_store.specs.Opening.{IsEven, OpensTo}
+use Rattle.hb_store.specs.States.{IsNew}
 
--- no line was taken yet
-pub record IsStart (c : CoreState) : Type 0 where
-  pub taken : c.taken ≡ 0
-  pub session : c.session ≡ Idle
-  pub order : c.order ≡ []
-  pub going : c.stop ≡ None
+-- Whatever a crash might have left when the run began: since a value of the clock that is at most one more than the first
+-- one, so since the first call that writes, every image has P.
+pub record LeavesLate (d e : DiskModel) (P : List ℕ → Type 0) : Type 0 where
+  pub since : ℕ
+  pub soon : since ≤ d.clock + 1
+  pub each : (c : List ℕ) → e.ImageSince since c → P c
 
--- So many steps lead from the one core over its file to the other and give these answers, with the clock after each step
--- that gave one. The answers are to the first lines, in order. The lines that took effect, with the machine's replies, are
--- a legal order from the set, and the answers have these replies. What the core keeps is kept; and crashes leave the set
--- after a prefix of the order.
-pub record RunsTo (steps : ℕ) (d : DiskModel) (core : CoreState) (file : FileState) (answered : List Answered) (e : DiskModel) (after : CoreState) (n : RecordSet) : Type 0 where
-  pub file_after : FileState
-  pub reaches : Reaches steps (record { clock = d.clock; core = core; file = file }) answered (record { clock = e.clock; core = after; file = file_after })
-  pub done : List Line
-  pub keeps : EngineKeeps e after n done
-  pub file_is : last_of keeps.durable keeps.later ≡ file_after
-  pub legal : IsLegalOrder n (entries_from n done)
-  pub first : AnswersFirst after answered
-  pub replied : All (IsReplied n done) answered
-  pub crashes : CrashesTo d e n done answered
+-- What crashes leave of a run that came to this machine, from a file on: at each moment a sound file with the set after a prefix of
+-- the order, in which each point has one page; since an answer, a prefix that holds it; and at the end, where nothing has stopped
+-- the machine, one file, which has what is settled.
+pub record LeavesPrefixes (s : FileState) (d e : DiskModel) (answered : List Answered) (after : Machine) : Type 0 where
+  pub since : All (HoldsSince e (contents_of s) after) answered
+  pub even : IsEven d s → Leaves d e (IsPrefixImage (contents_of s) after.order 0)
+  pub late : LeavesLate d e (IsPrefixImage (contents_of s) after.order 0)
+  pub clock : after.clock ≡ e.clock
+  pub settled : after.stop ≡ None → (t : FileState) × IsEven e t × IsSound t × (contents_of t ≡ result_of (contents_of s) (take (settled_count after) after.order))
 
--- the output of a run
-abbrev pub run_output : List Answered → CoreState → List ℕ
-run_output answered c = output_text answered (left_lines c.lines answered) (is_some c.stop) c.order (settled_of c)
-
--- some reply is a read fault
-abbrev pub HasReadFault : List Answered → Type 0
-HasReadFault answered = Any (λ (a : Answered). a.reply ≡ ReadFault) answered
-
--- The count of failed reads rose exactly where some reply is a read fault, and that of failed writes exactly where the core
--- is stopped for a write that failed.
-pub record RunFaults (d e : DiskModel) (answered : List Answered) (after : CoreState) : Type 0 where
-  pub read_fault : HasReadFault answered → Rose d.read_faults e.read_faults
-  pub reads_same : ¬ (HasReadFault answered) → e.read_faults ≡ d.read_faults
-  pub write_fault : after.stop ≡ Some WriteFault → Rose d.write_faults e.write_faults
-  pub writes_same : ¬ (after.stop ≡ Some WriteFault) → e.write_faults ≡ d.write_faults
-
--- Which end it is: a fault of the sink comes first, then a stop, then a read fault.
-abbrev pub EndsAs : End → Bool → Bool → List Answered → Type 0
-EndsAs ends.NoMemory failed stopped answered = ⊥
-EndsAs ends.SinkFault failed stopped answered = failed ≡ true
-EndsAs ends.Stopped failed stopped answered = (failed ≡ false) × (stopped ≡ true)
-EndsAs ends.ReadFault failed stopped answered = (failed ≡ false) × (stopped ≡ false) × HasReadFault answered
-EndsAs ends.Finished failed stopped answered = (failed ≡ false) × (stopped ≡ false) × (¬ (HasReadFault answered))
-
--- How it ended: the whole output was written, or the sink failed and has a front of it. Of the other ends a fault of the
--- sink comes first, then a stop, then a read fault.
-abbrev pub DriveEnds : End → SinkModel → SinkModel → List Answered → CoreState → Type 0
-DriveEnds ends.NoMemory before after answered c = Appends before.written after.written [] × (after.faults ≡ before.faults)
-DriveEnds ends.SinkFault before after answered c = AppendsFront before.written after.written (run_output answered c) × Rose before.faults after.faults
-DriveEnds ends.Stopped before after answered c = Appends before.written after.written (run_output answered c) × IsSome c.stop × (after.faults ≡ before.faults)
-DriveEnds ends.ReadFault before after answered c = Appends before.written after.written (run_output answered c) × (c.stop ≡ None) × HasReadFault answered × (after.faults ≡ before.faults)
-DriveEnds ends.Finished before after answered c = Appends before.written after.written (run_output answered c) × (c.stop ≡ None) × (¬ (HasReadFault answered)) × (after.faults ≡ before.faults)
+-- These steps of the 19 actors were taken, each as the table says, from a machine that has taken none over the file of the disk, to this machine; and
+-- these are its answers, with the disk's clock after each one's step, and the numbers of its order.
+pub record TakesSteps (d e : DiskModel) (k : ℕ) (lines : List Line) (steps : List ℕ) (answered : List Answered) (order : List ℕ) (after : Machine) : Type 0 where
+  pub before : Machine
+  pub begun : IsBegun before
+  pub opened : IsNew before.store.turn before.store.meta before.store
+  pub lines_are : before.lines ≡ lines
+  pub attributes : before.store.meta.k ≡ k
+  pub actors : All MayLatch steps
+  pub reached : StepsInSequence steps before after
+  pub came : AreAnswers d.told answered after.answered
+  pub order_is : order ≡ map (λ e. e.line.number) after.order
+  pub faults : CountsFaults d e answered None after.stop
+  pub told : IfSome d.told (λ b. (s : FileState) × OpensTo b s × IsSound s × IsBegunOver before s × LeavesPrefixes s d e answered after × (d.clock ≤ before.clock))
+  pub silent : d.told ≡ None → (before.files ≡ None) × (e.told ≡ None)

@@ -1,6 +1,6 @@
 -- What the parts of a run of `dry` say.
-use Rattle.std.specs.Prelude.{◌≡◌, ℕ, ◌≤◌, false, List, [], length, Option, Result, Ok, Err, IsErr, OnOk, OnErr}
-use Rattle.hb_outside.specs.Calls.{SourceModel, SinkModel, Puts}
+use Rattle.std.specs.Prelude.{◌≡◌, ℕ, false, List, [], length, Option, Result, Ok, Err}
+use Rattle.hb_outside.specs.Calls.{PutsOn, SourceModel, SinkModel}
 use Rattle.hb_outside.specs.declared.traits.Failed.{Failed}
 use Rattle.hb_outside.specs.Streams.{Rose, Appends, AppendsFront}
 use Rattle.hb_set.specs.declared.scripts.Line.{Line}
@@ -11,12 +11,6 @@ use Rattle.hb_text.specs.Output.{order_text, output_text}
 use Rattle.hbpi.specs.declared.statuses.Status.{Status}
 use Rattle.hbpi.specs.declared.statuses.Status.TheVariants.{Done, BadText, SourceFault, SinkFault, NoMemory}
 use Rattle.hbpi.specs.Outcome.{fault_line, GetsLine, IsTextOf, IsWholeText, IsDryRun}
-
--- One piece more is put only where none failed before.
-pub record PutsOn {T E : Type 0} (so_far : Result T E) (piece : List ℕ) (result : Result T E) (before after : SinkModel) : Type 0 where
-  pub put : OnOk so_far (Puts piece result before after)
-  pub left : OnErr so_far ((after ≡ before) × IsErr result)
-  pub later : before.faults ≤ after.faults
 
 -- a text that was read and says a script over k attributes
 pub record IsRead (k : ℕ) (left rest : Option (List ℕ)) (lines : List Line) : Type 0 where

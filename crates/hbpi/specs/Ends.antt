@@ -9,6 +9,7 @@ use Rattle.hbpi.specs.declared.forms.Form.{Form}
 use Rattle.hbpi.specs.declared.forms.Form.TheVariants.{Create, Dry, Drive}
 use Rattle.hbpi.specs.declared.statuses.Status.{Status}
 use Rattle.hbpi.specs.declared.statuses.Status.TheVariants.{Done, Usage, BadText, SourceFault, SinkFault, DiskFault, Damaged, NoMemory, BadLayout, Small, NotBuilt}
+use Rattle.hbpi.specs.Created.{IsUnmade}
 use Rattle.hbpi.specs.Outcome.{IsTextOf, IsWholeText, IsDryRun}
 use Rattle.hbpi.specs.SeenRuns.{Seen, IsRefused, IsUnread}
 
@@ -47,12 +48,12 @@ abbrev pub UnbuiltEnds : Seen → Status → Type 0
 UnbuiltEnds seen NotBuilt = IsRefused seen NotBuilt × IsUnread seen
 UnbuiltEnds seen _ = ⊥
 
--- only these commands use the disk
-abbrev pub UsesNoDisk : Option Form → Type 0
-UsesNoDisk None = Unit {0}
-UsesNoDisk (Some (Create k pages log dcap icap)) = ⊥
-UsesNoDisk (Some Drive) = ⊥
-UsesNoDisk (Some form) = Unit {0}
+-- The disk is as it was: `drive` alone may write it, and `create` where it makes a file or tries to.
+abbrev pub LeavesDisk : Option Form → Status → Type 0
+LeavesDisk None status = Unit {0}
+LeavesDisk (Some (Create k pages log dcap icap)) status = IsUnmade status
+LeavesDisk (Some Drive) status = ⊥
+LeavesDisk (Some form) status = Unit {0}
 
 -- A good text is answered whole, unless the source or the sink failed or memory was refused.
 abbrev pub IsComplete : Option Form → Seen → Status → Type 0

@@ -13,28 +13,28 @@ abbrev pub ◌>>=◌ : {A B : Type 0} → Option A → (A → Option B) → Opti
 None >>= f = None
 
 -- a number word: decimal digits without a leading zero, at most 2 ^ 64 - 1
-abbrev pub number_of : List ℕ → Option ℕ
-number_of word = result_ok (number_read word)
+abbrev pub number_said : List ℕ → Option ℕ
+number_said word = result_ok (number_read word)
 
 -- 1 to 4 attributes, and at most 1,000,000 lines
 abbrev pub attributes_of : List ℕ → Option ℕ
 attributes_of word = do
-  k ← number_of word
+  k ← number_said word
   if nat_le 1 k && nat_le k KMAX then Some k else None
 
 abbrev pub line_count_of : List ℕ → Option ℕ
 line_count_of word = do
-  n ← number_of word
+  n ← number_said word
   if nat_le n 1000000 then Some n else None
 
 -- the words behind each first word
 abbrev pub create_of : List (List ℕ) → Option Form
 create_of (k ∷ pages ∷ log ∷ dcap ∷ icap ∷ []) = do
-  k ← number_of k
-  pages ← number_of pages
-  log ← number_of log
-  dcap ← number_of dcap
-  icap ← number_of icap
+  k ← number_said k
+  pages ← number_said pages
+  log ← number_said log
+  dcap ← number_said dcap
+  icap ← number_said icap
   Some (Create k pages log dcap icap)
 create_of _ = None
 
@@ -46,7 +46,7 @@ dry_of _ = None
 
 abbrev pub gen_of : List (List ℕ) → Option Form
 gen_of (x ∷ n ∷ k ∷ []) = do
-  x ← number_of x
+  x ← number_said x
   n ← line_count_of n
   k ← attributes_of k
   Some (Gen x n k)
@@ -54,7 +54,7 @@ gen_of _ = None
 
 abbrev pub work_of : List (List ℕ) → Option Form
 work_of (x ∷ n ∷ []) = do
-  x ← number_of x
+  x ← number_said x
   n ← line_count_of n
   Some (Work x n)
 work_of _ = None

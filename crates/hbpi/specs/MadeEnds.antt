@@ -7,42 +7,42 @@ use Rattle.hbpi.specs.declared.statuses.Status.{Status}
 use Rattle.hbpi.specs.declared.statuses.Status.TheVariants.{Done, Usage, BadText, SourceFault, SinkFault, DiskFault, Damaged, NoMemory, BadLayout, Small, NotBuilt}
 use Rattle.hb_restart.specs.declared.faults.BadField.{BadField}
 use Rattle.hb_restart.specs.Layouts.{first_fault, size_of}
-use Rattle.hbpi.specs.SeenRuns.{Seen, IsRefused, IsUnread, DiskSeen, KeepsFaults}
+use Rattle.hbpi.specs.SeenRuns.{HasNotFailed, IsRefused, IsUnread, Run}
 
 -- a file was made: its layout is within the limits, and the disk has room for it
-pub record IsMade (fault : Option BadField) (needed : ℕ) (seen : Seen) (disk : DiskSeen) : Type 0 where
+pub record IsMade (fault : Option BadField) (needed : ℕ) (run : Run) : Type 0 where
   pub good : fault ≡ None
-  pub large : needed ≤ disk.size
-  pub faults : KeepsFaults disk
-  pub unread : IsUnread seen
-  pub none_answered : seen.answered ≡ []
-  pub none_ordered : seen.order ≡ []
+  pub large : needed ≤ run.before.size
+  pub faults : HasNotFailed run
+  pub unread : IsUnread run.seen
+  pub none_answered : run.seen.answered ≡ []
+  pub none_ordered : run.seen.order ≡ []
 
 -- making a file was refused behind the test of the layout
-pub record IsNotMade (fault : Option BadField) (seen : Seen) (status : Status) : Type 0 where
+pub record IsNotMade (fault : Option BadField) (run : Run) (status : Status) : Type 0 where
   pub good : fault ≡ None
-  pub refused : IsRefused seen status
-  pub unread : IsUnread seen
+  pub refused : IsRefused run.seen status
+  pub unread : IsUnread run.seen
 
 -- a new file, whose layout has this bad field and wants so many bytes
-abbrev pub CreateEnds : Option BadField → ℕ → Seen → DiskSeen → Status → Type 0
-CreateEnds fault needed seen disk Done = IsMade fault needed seen disk × Appends seen.sink_before.written seen.sink_after.written (codes "created\n") × (seen.sink_after.faults ≡ seen.sink_before.faults)
-CreateEnds fault needed seen disk SinkFault = IsMade fault needed seen disk × AppendsFront seen.sink_before.written seen.sink_after.written (codes "created\n") × Rose seen.sink_before.faults seen.sink_after.faults
-CreateEnds fault needed seen disk (BadLayout field value) = (fault ≡ Some (record { field = field; value = value })) × IsRefused seen (BadLayout field value) × IsUnread seen × KeepsFaults disk
-CreateEnds fault needed seen disk (Small wanted found) = (wanted ≡ needed) × (found ≡ disk.size) × (disk.size < needed) × IsNotMade fault seen (Small wanted found) × KeepsFaults disk
-CreateEnds fault needed seen disk DiskFault = (needed ≤ disk.size) × Rose disk.writes_before disk.writes_after × IsNotMade fault seen DiskFault × (disk.reads_after ≡ disk.reads_before)
-CreateEnds fault needed seen disk NoMemory = (needed ≤ disk.size) × IsNotMade fault seen NoMemory × KeepsFaults disk
-CreateEnds fault needed seen disk Usage = ⊥
-CreateEnds fault needed seen disk (BadText bad) = ⊥
-CreateEnds fault needed seen disk SourceFault = ⊥
-CreateEnds fault needed seen disk (Damaged damage) = ⊥
-CreateEnds fault needed seen disk NotBuilt = ⊥
+abbrev pub CreateEnds : Option BadField → ℕ → Run → Status → Type 0
+CreateEnds fault needed run Done = IsMade fault needed run × Appends run.seen.sink_before.written run.seen.sink_after.written (codes "created\n") × (run.seen.sink_after.faults ≡ run.seen.sink_before.faults)
+CreateEnds fault needed run SinkFault = IsMade fault needed run × AppendsFront run.seen.sink_before.written run.seen.sink_after.written (codes "created\n") × Rose run.seen.sink_before.faults run.seen.sink_after.faults
+CreateEnds fault needed run (BadLayout field value) = (fault ≡ Some (record { field = field; value = value })) × IsRefused run.seen (BadLayout field value) × IsUnread run.seen × HasNotFailed run
+CreateEnds fault needed run (Small wanted found) = (wanted ≡ needed) × (found ≡ run.before.size) × (run.before.size < needed) × IsNotMade fault run (Small wanted found) × HasNotFailed run
+CreateEnds fault needed run DiskFault = (needed ≤ run.before.size) × Rose run.before.write_faults run.after.write_faults × IsNotMade fault run DiskFault × (run.after.read_faults ≡ run.before.read_faults)
+CreateEnds fault needed run NoMemory = (needed ≤ run.before.size) × IsNotMade fault run NoMemory × HasNotFailed run
+CreateEnds fault needed run Usage = ⊥
+CreateEnds fault needed run (BadText bad) = ⊥
+CreateEnds fault needed run SourceFault = ⊥
+CreateEnds fault needed run (Damaged damage) = ⊥
+CreateEnds fault needed run NotBuilt = ⊥
 
 -- A layout within its limits on a disk with room for it is made into a file, unless the disk or the sink failed or memory
 -- was refused.
-abbrev pub IsMadeWhole : Option Form → Seen → DiskSeen → Status → Type 0
-IsMadeWhole form seen disk status = (k pages log dcap icap : ℕ) → form ≡ Some (Create k pages log dcap icap) → first_fault k pages log dcap icap ≡ None → size_of pages log ≤ disk.size →
-    ¬ (Rose disk.writes_before disk.writes_after) → ¬ (Rose seen.sink_before.faults seen.sink_after.faults) → (status ≡ Done) ⊎ (status ≡ NoMemory)
+abbrev pub IsMadeWhole : Option Form → Run → Status → Type 0
+IsMadeWhole form run status = (k pages log dcap icap : ℕ) → form ≡ Some (Create k pages log dcap icap) → first_fault k pages log dcap icap ≡ None → size_of pages log ≤ run.before.size →
+    ¬ (Rose run.before.write_faults run.after.write_faults) → ¬ (Rose run.seen.sink_before.faults run.seen.sink_after.faults) → (status ≡ Done) ⊎ (status ≡ NoMemory)
 
 -- after a status of a file that was made
 abbrev pub HasMade : Status → Type 0

@@ -1,11 +1,13 @@
 -- What is seen of a run from outside, and when it was refused.
-use Rattle.std.specs.Prelude.{◌≡◌, ℕ, List, []}
+use Rattle.std.specs.Prelude.{◌≡◌, ◌⊎◌, ℕ, List, []}
+use Rattle.hb_disk.specs.Model.{DiskModel}
 use Rattle.hb_outside.specs.Calls.{SourceModel, SinkModel}
+use Rattle.hb_outside.specs.Streams.{Rose}
 use Rattle.hb_set.specs.declared.scripts.Answered.{Answered}
 use Rattle.hbpi.specs.declared.statuses.Status.{Status}
 use Rattle.hbpi.specs.Outcome.{fault_line, GetsLine}
 
--- what is seen of a run from outside: the source and the sink before and after it, and what was answered, in which order
+-- the source and the sink before and after a run, and what was answered, in which order
 pub record Seen : Type 0 where
   pub source_before : SourceModel
   pub source_after : SourceModel
@@ -24,6 +26,15 @@ seen_by source_before source_after sink_before sink_after answered order = recor
   order = order;
 }
 
+-- and the disk before and after it: all that is seen of a run
+pub record Run : Type 1 where
+  pub seen : Seen
+  pub before : DiskModel
+  pub after : DiskModel
+
+abbrev pub run_of : Seen → DiskModel → DiskModel → Run
+run_of seen before after = record { seen = seen; before = before; after = after }
+
 -- no command was done, and the fault line was written last
 pub record IsRefused (seen : Seen) (status : Status) : Type 0 where
   pub line : GetsLine seen.sink_before seen.sink_after (fault_line status)
@@ -35,15 +46,10 @@ pub record IsUnread (seen : Seen) : Type 0 where
   pub rest : seen.source_after.left ≡ seen.source_before.left
   pub faults : seen.source_after.faults ≡ seen.source_before.faults
 
--- what a run saw of the disk: its size, and its counts of faults before and after
-pub record DiskSeen : Type 0 where
-  pub size : ℕ
-  pub reads_before : ℕ
-  pub reads_after : ℕ
-  pub writes_before : ℕ
-  pub writes_after : ℕ
+-- no call of the disk failed, and some call did
+pub record HasNotFailed (run : Run) : Type 0 where
+  pub reads : run.after.read_faults ≡ run.before.read_faults
+  pub writes : run.after.write_faults ≡ run.before.write_faults
 
--- no call of the disk failed
-pub record KeepsFaults (disk : DiskSeen) : Type 0 where
-  pub reads : disk.reads_after ≡ disk.reads_before
-  pub writes : disk.writes_after ≡ disk.writes_before
+abbrev pub HasFailed : Run → Type 0
+HasFailed run = Rose run.before.read_faults run.after.read_faults ⊎ Rose run.before.write_faults run.after.write_faults

@@ -5,8 +5,7 @@ ghost use Rattle.hb_set.specs.Order.{with_entry, order_of};
 ghost use Rattle.hb_set.specs.Scripts.{IsScriptFor};
 ghost use Rattle.hb_text.specs.Output.{reply_text, answer_text, order_text};
 ghost use Rattle.hbpi.specs.Outcome.{IsDryRun};
-ghost use Rattle.hb_outside.specs.Calls.{Puts};
-ghost use Rattle.hbpi.specs.DryParts.{PutsOn};
+ghost use Rattle.hb_outside.specs.Calls.{Puts, PutsOn};
 
 use hb_outside::{Failed, Sink};
 use hb_set::{Answered, Line, Reply, Set};

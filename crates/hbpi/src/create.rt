@@ -2,7 +2,7 @@
 ghost use Rattle.std.specs.Prelude.{◌≡◌, ◌≢◌, ℕ, ◌≤◌, ◌<◌, IfOk, IfErr, IsSome, Some, None};
 ghost use Rattle.hb_store.specs.Opening.{IsEven};
 ghost use Rattle.hb_outside.specs.Calls.{SourceModel};
-ghost use Rattle.hbpi.specs.SeenRuns.{seen_by};
+ghost use Rattle.hbpi.specs.SeenRuns.{run_of, seen_by};
 ghost use Rattle.hbpi.specs.MadeEnds.{CreateEnds, HasMade};
 ghost use Rattle.hb_restart.specs.Layouts.{first_fault, size_of};
 ghost use Rattle.hb_restart.specs.NewFiles.{new_file};
@@ -75,13 +75,7 @@ pub(crate) fn create_file<K: Sink, D: Device>(
     disk: D,
 ) -> Finished<K, D>
     ensures ends { (source : SourceModel) → CreateEnds (first_fault k pages log dcap icap) (size_of pages log)
-        (seen_by source source (K.model sink) (K.model result.sink) result.answered.items result.order.items) (record {
-          size = (D.model disk).size;
-          reads_before = (D.model disk).read_faults;
-          reads_after = (D.model result.disk).read_faults;
-          writes_before = (D.model disk).write_faults;
-          writes_after = (D.model result.disk).write_faults;
-        }) result.status }
+        (run_of (seen_by source source (K.model sink) (K.model result.sink) result.answered.items result.order.items) (D.model disk) (D.model result.disk)) result.status }
     ensures opens { HasMade result.status → IsSome (D.model disk).told → IsEven (D.model result.disk)
         (new_file (record { k = k; pages = pages; log = log; dcap = dcap; icap = icap })) }
     ensures beyond { KeepsBeyond (size_of pages log) (D.model disk) (D.model result.disk) }

@@ -1,5 +1,5 @@
 ghost use Rattle.std.specs.Prelude.{◌≡◌, ℕ, ◌<◌, ◌≤◌, Some, map, string_bytes};
-ghost use Rattle.hbpi.specs.Forms.{number_of, attributes_of, line_count_of, create_of, dry_of, gen_of, work_of, alone, form_from, form_of};
+ghost use Rattle.hbpi.specs.Forms.{number_said, attributes_of, line_count_of, create_of, dry_of, gen_of, work_of, alone, form_from, form_of};
 
 use hb_space::form::KMAX;
 use hb_text::read_number;
@@ -39,7 +39,7 @@ pub enum Form {
 
 /// The number that a word says.
 fn read_word(word: &String) -> Option<u64>
-    ensures { result ≡ number_of (string_bytes word.now) }
+    ensures { result ≡ number_said (string_bytes word.now) }
 {
     read_number(word.as_bytes()).ok()
 }

@@ -1,8 +1,9 @@
 //! The program `hbpi` as a library: records in one file, found by points and boxes.
 //!
-//! The one contract: `top::top` does what the words ask for, over any source, sink and disk. Its clauses
-//! say for each status why it comes, what was read and written, what was answered in which order,
-//! and what a crash may leave of the disk. `run_process` and `run` make the disk, the source and the
+//! The one contract: `top::top` does what the words ask for, over any source, sink and disk. It says
+//! which row of one table the run is of (`RunEnds`): for each form and status why it comes, what was
+//! read and written, what was answered in which order, and what a crash may leave of the disk. What
+//! follows of that is lemmas of `proofs/`. `run_process` and `run` make the disk, the source and the
 //! sink, call `top` with the words after the file's name, and give its status; nothing is claimed of
 //! these two, since no contract can say what a file or a stream holds.
 //!
@@ -15,16 +16,13 @@
 mod answers;
 mod calls;
 mod create;
-mod drive;
 mod drive_file;
 mod dry;
-mod engine;
 mod faults;
 mod file_disk;
 mod files;
 mod finished;
 mod forms;
-mod starting;
 mod statuses;
 mod texts;
 pub mod top;

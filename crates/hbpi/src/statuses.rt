@@ -1,7 +1,6 @@
 ghost use Rattle.std.specs.Prelude.{◌≡◌, ◌≢◌};
 ghost use Rattle.hbpi.specs.Codes.{code_of, damage_of, made_status, status_of};
 
-use crate::starting::StartFault;
 use hb_restart::{CreateFault, Field, OpenFault};
 use hb_store::Why;
 use hb_text::BadLine;
@@ -57,8 +56,7 @@ pub enum Status {
     BadLayout { field: Field, value: u64 },
     /// The disk has fewer bytes than are needed.
     Small { needed: u64, found: u64 },
-    /// The words are a form whose command isn't built; or a file has more pages or levels, or a text has lines or
-    /// steps, that `drive` doesn't serve.
+    /// The words are a form whose command isn't built; or a text for `drive` has a search.
     NotBuilt,
 }
 
@@ -129,21 +127,6 @@ impl From<OpenFault> for Status {
             OpenFault::Unsound { page, rule } => Status::Damaged(Damage::Rule { page, rule }),
             OpenFault::DiskFault => Status::DiskFault,
             OpenFault::NoMemory => Status::NoMemory,
-        }
-    }
-}
-
-impl From<StartFault> for Status {
-    ghost use Rattle.std.specs.Prelude.{◌≡◌};
-    ghost use Rattle.hbpi.specs.Codes.{start_status};
-
-    ghost from_gives = { λ fault status. status ≡ start_status fault };
-
-    /// The status of a run that was refused by its file.
-    fn from(fault: StartFault) -> Status {
-        match fault {
-            StartFault::Closed(fault) => Status::from(fault),
-            StartFault::NotBuilt => Status::NotBuilt,
         }
     }
 }

@@ -39,7 +39,7 @@ step 1x28
 step 1x2
 ";
 
-/// The two records that are left, and four more; for a further one there is no room, which takes two steps to say.
+/// The two records that are left, and five more: for the last one the page is split, which takes three steps more.
 const SECOND: &str = "1 lookup 5 7
 1 lookup 6 9
 1 lookup 18446744073709551615 0
@@ -48,19 +48,20 @@ const SECOND: &str = "1 lookup 5 7
 1 insert 3 0 =
 1 insert 4 0 =
 1 insert 7 0 =
-step 1x27
+step 1x32
 ";
 
+/// These have as many steps as they take on a page that another one names.
 const LOOKUP: &str = "1 lookup 5 7
-step 1x3
+step 1x4
 ";
 
 const DELETE: &str = "1 delete 5 7
-step 1x4
+step 1x5
 ";
 
 const INSERT: &str = "1 insert 5 7 =again
-step 1x4
+step 1x5
 ";
 
 /// Log area 1 of a new file isn't in use, so it may have any bytes: the same ones here and there. An opening zeroes it.

@@ -47,12 +47,12 @@ const TEXTS: [(&str, &str, &str); 32] = [
     (
         "",
         "1 insert 1 =a\n1 insert 3 =c\n1 insert 2 =b\n1 insert 6 =f\n1 insert 5 =e\n1 insert 4 =d\n1 insert 7 =g\nstep 1x40\n",
-        "0 1 ok\n2 ok\n3 ok\n4 ok\n5 ok\n6 ok\n7 full\norder 1 2 3 4 5 6\n",
+        "0 1 ok\n2 ok\n3 ok\n4 ok\n5 ok\n6 ok\n7 ok\norder 1 2 3 4 5 6 7\n",
     ),
     (
         "",
         "1 insert 1 =a\n1 insert 3 =c\n1 insert 2 =b\n1 insert 6 =f\n1 insert 5 =e\n1 insert 4 =d\n1 insert 7 =g\n1 insert 3 =x\n1 delete 1\n1 insert 7 =g\n1 lookup 7\nstep 1x60\n",
-        "0 1 ok\n2 ok\n3 ok\n4 ok\n5 ok\n6 ok\n7 full\n8 duplicate\n9 ok\n10 ok\n11 found =g\norder 1 2 3 4 5 6 8 9 10 11\n",
+        "0 1 ok\n2 ok\n3 ok\n4 ok\n5 ok\n6 ok\n7 ok\n8 duplicate\n9 ok\n10 duplicate\n11 found =g\norder 1 2 3 4 5 6 7 8 9 10 11\n",
     ),
     (
         "",
@@ -63,12 +63,12 @@ const TEXTS: [(&str, &str, &str); 32] = [
     (
         "",
         "1 insert 1 =a\n2 lookup 1\nstep 1x9\n",
-        "11 not built\n",
+        "0 1 ok\n2 unfinished\norder 1\n",
     ),
-    ("", "1 insert 1 =a\nstep 1x9 2\n", "11 not built\n"),
-    ("", "1 insert 1 =a\nstep 1x9 p\n", "11 not built\n"),
-    ("", "1 insert 1 =a\nstep 1x9 c\n", "11 not built\n"),
-    ("", "1 insert 1 =a\nstep 1x9\nstep f\n", "11 not built\n"),
+    ("", "1 insert 1 =a\nstep 1x9 2\n", "0 1 ok\norder 1\n"),
+    ("", "1 insert 1 =a\nstep 1x9 p\n", "0 1 ok\norder 1\n"),
+    ("", "1 insert 1 =a\nstep 1x9 c\n", "0 1 ok\norder 1\n"),
+    ("", "1 insert 1 =a\nstep 1x9\nstep f\n", "0 1 ok\norder 1\n"),
     ("", "1 insert 1 =a\nstep 1x0\n", "3 bad text 2 BadStep\n"),
     ("", "1 insert 1 =a\nstep\n", "3 bad text 2 BadStep\n"),
     ("", "1 insert 1 2 =a\nstep 1x9\n", "3 bad text 1 BadCount\n"),
@@ -105,8 +105,8 @@ const TEXTS: [(&str, &str, &str); 32] = [
     ),
     (
         "1 insert 1 =a\n1 insert 2 =b\n1 insert 3 =c\n1 insert 4 =d\n1 insert 5 =e\n1 insert 6 =f\nstep 1x24\n",
-        "1 insert 7 =g\n1 delete 6\n1 insert 7 =g\n1 lookup 7\n1 lookup 6\nstep 1x16\n",
-        "0 1 full\n2 ok\n3 ok\n4 found =g\n5 none\norder 2 3 4 5\n",
+        "1 insert 7 =g\n1 delete 6\n1 insert 7 =g\n1 lookup 7\n1 lookup 6\nstep 1x20\n",
+        "0 1 ok\n2 ok\n3 duplicate\n4 found =g\n5 none\norder 1 2 3 4 5\n",
     ),
 ];
 

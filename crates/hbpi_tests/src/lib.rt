@@ -12,9 +12,13 @@ mod plain_list;
 #[cfg(test)]
 mod runs;
 #[cfg(test)]
+mod sessions;
+#[cfg(test)]
 mod spoiled;
 #[cfg(test)]
 mod stops;
+#[cfg(test)]
+mod taller;
 #[cfg(test)]
 mod texts;
 #[cfg(test)]

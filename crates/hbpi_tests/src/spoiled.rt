@@ -101,7 +101,7 @@ const ROWS: [(&[&str], usize, &[u8], usize, &[u8], &str); 54] = [
     (NEW, 12, &[2], 0, b"", "7 damaged 0 S1\n"),
     (NEW, 12, &[12], 0, b"", "7 damaged 0 S1\n"),
     // The log area of a new file's turn begins at 8192. There the new root has to be page 2, and none is free afterwards.
-    (NEW, 8_192, &GROWTH, 0, b"", "11 not built\n"),
+    (NEW, 8_192, &GROWTH, 0, b"", "0 1 unfinished\norder 1\n"),
     (NEW, 8_192, &GROWTH, 8_202, b"\x03", "7 bad group 0\n"),
     (NEW, 8_192, &GROWTH, 8_206, b"\x01", "7 bad group 0\n"),
     (NEW, 8_192, &GROWTH, 8_192, b"\0", "0 1 ok\norder 1\n"),
@@ -171,10 +171,9 @@ fn over(
     drive_on(alloc, "1 insert 1 =a\nstep 1x4\n", bytes.as_slice())
 }
 
-/// Whether this was said, and the disk is untouched where it is a refusal of the bytes. A file that is opened, and isn't
-/// served, begins its next turn first.
+/// Whether this was said, and the disk is untouched where it is a refusal of the bytes.
 fn is_right(left: &Left, want: &str) -> bool {
-    let may_write = want.starts_with('0') || want.starts_with("11");
+    let may_write = want.starts_with('0');
     left.said.as_str() == want && (left.disk.clock() == 0 || may_write)
 }
 

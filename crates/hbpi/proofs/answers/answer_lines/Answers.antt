@@ -2,7 +2,8 @@ use Rattle.std.proofs.Common.{ℕ, sym, ap, subst, arith, length, length-append}
 use Rattle.hb_set.specs.Machine.{HasAttributes}
 use Rattle.hb_set.proofs.Facts.ScriptLaws.{line_attributes, script_is_short}
 use Rattle.hb_set.specs.declared.scripts.Answered.{Answered}
-use Rattle.hbpi.proofs.PutTexts.{has_put_none, has_put_more, answer_texts}
+use Rattle.hb_outside.proofs.Facts.PutLaws.{has_put_more}
+use Rattle.hbpi.proofs.PutTexts.{has_put_none, answer_texts}
 use Rattle.hbpi.proofs.RunLines.{ran_more, order_more, run_is_dry}
 use Rattle.hbpi.proofs.answers.answer_lines.Goals as goal
 

@@ -1,6 +1,6 @@
 use Rattle.std.proofs.Common.{◌≡◌, ℕ, List, length, ◌∙◌, subst}
 use Rattle.hb_text.specs.Output.{order_text}
-use Rattle.hbpi.specs.DryParts.{PutsOn}
+use Rattle.hb_outside.specs.Calls.{PutsOn}
 use Rattle.hbpi.proofs.dry.finish.Goals as goal
 
 pub returns-clause-ends : goal.returns-clause-ends

@@ -1,0 +1,3 @@
+pub mod PutTexts
+pub mod RunParts
+pub mod RunEnds

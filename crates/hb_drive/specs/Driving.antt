@@ -1,0 +1,40 @@
+-- What a schedule's run comes to: its steps, its answers, and the text that it writes.
+use Rattle.std.specs.Prelude.{◌≡◌, ℕ, Bool, true, false, List, map, Option, None, Some, is_some}
+use Rattle.hb_disk.specs.Model.{DiskModel}
+use Rattle.hb_outside.specs.Calls.{SinkModel}
+use Rattle.hb_outside.specs.Streams.{Appends, AppendsFront, Rose}
+use Rattle.hb_set.specs.declared.scripts.Answered.{Answered}
+use Rattle.hb_store.specs.declared.stops.StopWhy.{StopWhy}
+use Rattle.hb_text.specs.Output.{output_text}
+use Rattle.hb_core.specs.declared.endings.End.{End}
+use Rattle.hb_core.specs.declared.endings.End.TheVariants as ends
+use Rattle.hb_core.specs.Machines.{Machine, settled_count}
+use Rattle.hb_core.specs.Runs.{HasReadFault, HasRun, left_numbers}
+use Rattle.hb_core.specs.Showing.{RunningCore}
+
+-- the output of a run: the replies in the sequence of answering, the lines without an answer, and the order, with a bar before the first
+-- place that isn't settled
+abbrev pub run_text : List Answered → Machine → List ℕ
+run_text answers m = output_text answers (left_numbers m) (is_some m.stop) (map (λ e. e.line.number) m.order) (settled_count m)
+
+-- How a run ended: its whole text was written, or the sink failed and has a front of it. A fault of the sink comes first, then a stop,
+-- then a reply `read fault`.
+abbrev pub EndsWith : End → SinkModel → SinkModel → List ℕ → List Answered → Option StopWhy → Type 0
+EndsWith ends.NoMemory before after text answers stop = ⊥
+EndsWith ends.SinkFault before after text answers stop = AppendsFront before.written after.written text × Rose before.faults after.faults
+EndsWith (ends.Stopped why) before after text answers stop = Appends before.written after.written text × (after.faults ≡ before.faults) × (stop ≡ Some why)
+EndsWith ends.ReadFault before after text answers stop = Appends before.written after.written text × (after.faults ≡ before.faults) × (stop ≡ None) × HasReadFault answers
+EndsWith ends.Finished before after text answers stop = Appends before.written after.written text × (after.faults ≡ before.faults) × (stop ≡ None) × (¬ (HasReadFault answers))
+
+-- which end it is, by whether the sink failed, the stop and the answers
+abbrev pub IsEndOf : End → Bool → Option StopWhy → List Answered → Type 0
+IsEndOf ends.NoMemory failed stop answers = ⊥
+IsEndOf ends.SinkFault failed stop answers = failed ≡ true
+IsEndOf (ends.Stopped why) failed stop answers = (failed ≡ false) × (stop ≡ Some why)
+IsEndOf ends.ReadFault failed stop answers = (failed ≡ false) × (stop ≡ None) × HasReadFault answers
+IsEndOf ends.Finished failed stop answers = (failed ≡ false) × (stop ≡ None) × (¬ (HasReadFault answers))
+
+-- Exactly the schedule's steps lead from the machine to one that the core shows then, with these answers, and the run's text was written.
+pub record DrivesTo (m : Machine) (actors : List ℕ) (answers : List Answered) (d e : DiskModel) (c : RunningCore) (end : End) (before after : SinkModel) : Type 0 where
+  pub run : HasRun d m actors answers e c
+  pub text : EndsWith end before after (run_text answers run.new) answers run.new.stop

@@ -1,0 +1,96 @@
+-- A line is `full` by its cause: at a machine on the way its page lacks the point and room, and no page is free; or nothing makes the
+-- log ready.
+use Rattle.std.proofs.Common.{◌≡◌, ◌⊎◌, ℕ, List, [], ◌∷◌, ◌++◌, All, refl, sym, ap, subst, ◌∙◌, append-nil, append_assoc}
+use Rattle.std.proofs.lemmas.List.Elements.{All-head, All-nil, All-tail, All-weaker}
+use Rattle.hb_core.specs.CauseLaws.{CannotBeReady, FullByCause, SplitFindsNoPage}
+use Rattle.hb_core.specs.KeptMachine.{MachineKeeps}
+use Rattle.hb_core.specs.Laws.{AnswersAreTimed}
+use Rattle.hb_core.specs.MachineLaws.{MachineStaysKept}
+use Rattle.hb_core.specs.Machines.{Machine}
+use Rattle.hb_core.specs.Performing.{given_by}
+use Rattle.hb_core.specs.Steps.{StepsInSequence, StepsTo}
+use Rattle.hb_core.specs.SteppingLaws.{BeginningKeeps}
+use Rattle.hb_core.specs.declared.outcomes.Outcome.{Outcome}
+use Rattle.hb_core.specs.declared.outcomes.Outcome.TheVariants as outcomes
+use Rattle.hb_latch.specs.Tables.{MayLatch}
+use Rattle.hb_lemmas.proofs.Lists.{All-alone, All-parts}
+use Rattle.hb_set.specs.declared.commands.Reply.{Reply}
+use Rattle.hb_set.specs.declared.commands.Reply.TheVariants as replies
+use Rattle.hb_set.specs.declared.scripts.Answered.{Answered}
+use Rattle.hbpi.specs.Driven.{Drove}
+use Rattle.hbpi.specs.SeenRuns.{Run}
+
+-- These steps have a front that leads to a machine at which the next one finds no page, or no room in the log.
+pub record FullOnWay (m : Machine) (actors : List ℕ) (number : ℕ) : Type 0 where
+  pub front : List ℕ
+  pub actor : ℕ
+  pub rest : List ℕ
+  pub parts : actors ≡ front ++ actor ∷ rest
+  pub here : Machine
+  pub reached : StepsInSequence front m here
+  pub cause : SplitFindsNoPage here actor number ⊎ CannotBeReady here actor
+
+abbrev pub IsFullByCause : Machine → List ℕ → Answered → Type 0
+IsFullByCause m actors a = a.reply ≡ replies.Full → FullOnWay m actors a.line
+
+pub record CauseLaws : Type 0 where
+  pub kept : MachineStaysKept
+  pub full : FullByCause
+  pub timed : AnswersAreTimed
+
+-- the answers that came of steps
+pub record CameByCause (m : Machine) (actors : List ℕ) (new : Machine) : Type 0 where
+  pub came : List Answered
+  pub answered : new.answered ≡ m.answered ++ came
+  pub causes : All (IsFullByCause m actors) came
+
+given_by_cause : (laws : CauseLaws) (m : Machine) (actor : ℕ) (rest : List ℕ) (outcome : Outcome) (next : Machine) (at : ℕ) → MachineKeeps m → StepsTo m actor outcome next → All (IsFullByCause m (actor ∷ rest)) (given_by outcome at)
+given_by_cause laws m actor rest (outcomes.Answered number reply) next at keeps step =
+    All-alone (IsFullByCause m (actor ∷ rest)) (record { line = number; reply = reply; at = at }) (λ full. record {
+      front = [];
+      actor = actor;
+      rest = rest;
+      parts = refl;
+      here = m;
+      reached = refl;
+      cause = laws.full m actor number next keeps (subst (λ (r : Reply). StepsTo m actor (outcomes.Answered number r) next) full step);
+    })
+given_by_cause laws m actor rest (outcomes.Stopped why) next at keeps step = All-nil _
+given_by_cause laws m actor rest outcomes.Idle next at keeps step = All-nil _
+given_by_cause laws m actor rest (outcomes.Blocked by) next at keeps step = All-nil _
+given_by_cause laws m actor rest outcomes.Helped next at keeps step = All-nil _
+given_by_cause laws m actor rest (outcomes.Dropped why) next at keeps step = All-nil _
+given_by_cause laws m actor rest outcomes.Moved next at keeps step = All-nil _
+
+one_step_earlier : (m : Machine) (actor : ℕ) (outcome : Outcome) (next : Machine) (rest : List ℕ) (number : ℕ) → StepsTo m actor outcome next → FullOnWay next rest number → FullOnWay m (actor ∷ rest) number
+one_step_earlier m actor outcome next rest number step full = record {
+  front = actor ∷ full.front;
+  actor = full.actor;
+  rest = full.rest;
+  parts = ap (λ (l : List ℕ). actor ∷ l) full.parts;
+  here = full.here;
+  reached = (outcome, next, step, full.reached);
+  cause = full.cause;
+}
+
+pub came_by_cause : (laws : CauseLaws) (actors : List ℕ) (m new : Machine) → MachineKeeps m → All MayLatch actors → StepsInSequence actors m new → CameByCause m actors new
+came_by_cause laws [] m new keeps may steps = record { came = []; answered = ap (λ (x : Machine). x.answered) steps ∙ sym (append-nil m.answered); causes = All-nil _ }
+came_by_cause laws (actor ∷ rest) m new keeps may (outcome, next, step, more) =
+    let then = came_by_cause laws rest next new (laws.kept m actor outcome next (All-head MayLatch actor rest may) keeps step) (All-tail MayLatch actor rest may) more in
+    let given = given_by outcome next.clock in
+    record {
+      came = given ++ then.came;
+      answered = then.answered ∙ ap (λ (a : List Answered). a ++ then.came) (laws.timed m actor outcome next step) ∙ append_assoc m.answered given then.came;
+      causes = (All-parts (IsFullByCause m (actor ∷ rest)) given then.came).1 (
+        given_by_cause laws m actor rest outcome next next.clock keeps step,
+        All-weaker (IsFullByCause next rest) (IsFullByCause m (actor ∷ rest)) (λ a causes full. one_step_earlier m actor outcome next rest a.line step (causes full)) then.came then.causes,
+      );
+    }
+
+-- so of a run, whatever its disk tells
+pub drove_by_cause : (laws : CauseLaws) (run : Run) (after : Machine) → BeginningKeeps → (drove : Drove run after) → All (IsFullByCause drove.takes.before drove.steps) after.answered
+drove_by_cause laws run after begins drove =
+    let takes = drove.takes in
+    let came = came_by_cause laws drove.steps takes.before after (begins takes.before takes.begun) takes.actors takes.reached in
+    let same : after.answered ≡ came.came = came.answered ∙ ap (λ (a : List Answered). a ++ came.came) takes.begun.unanswered in
+    subst (λ (a : List Answered). All (IsFullByCause takes.before drove.steps) a) (sym same) came.causes

@@ -1,0 +1,91 @@
+-- What follows of how a run of `drive` ends: the statements of lemmas.
+use Rattle.std.specs.Prelude.{◌≡◌, ◌⊎◌, ℕ, ◌+◌, ◌≤◌, true, List, [], map, take, All, Some, Result, Ok, Err}
+use Rattle.std.specs.List.{Contains, slice_get}
+use Rattle.hb_core.specs.KeptOrder.{StandsOutside}
+use Rattle.hb_core.specs.Runs.{IsPrefixImage}
+use Rattle.hb_disk.specs.Calls.{Leaves}
+use Rattle.hb_disk.specs.Model.{DiskModel}
+use Rattle.hb_ops.specs.Files.{FileState, contents_of}
+use Rattle.hb_ops.specs.Sound.{IsSound}
+use Rattle.hb_outside.specs.Streams.{Rose}
+use Rattle.hb_restart.specs.Refusals.{IsUnwritten, RefusesBytes}
+use Rattle.hb_restart.specs.declared.faults.OpenFault.{OpenFault}
+use Rattle.hb_set.specs.Machine.{RecordSet}
+use Rattle.hb_set.specs.Order.{Entry, IsLegalOrder, result_of}
+use Rattle.hb_set.specs.declared.scripts.Answered.{Answered}
+use Rattle.hb_set.specs.declared.scripts.Line.{Line}
+use Rattle.hb_store.specs.Opening.{IsEven, OpensTo}
+use Rattle.hb_text.specs.Grammar.{Reading, text_read}
+use Rattle.hb_text.specs.declared.rules.BadLine.{BadLine}
+use Rattle.hbpi.specs.Codes.{status_of}
+use Rattle.hbpi.specs.Drives.{LeavesLate}
+use Rattle.hbpi.specs.Schedules.{IsScheduled, IsServed}
+use Rattle.hbpi.specs.SeenRuns.{HasFailed, Run, Seen}
+use Rattle.hbpi.specs.declared.statuses.Status.{Status}
+use Rattle.hbpi.specs.declared.statuses.Status.TheVariants.{Done, BadText, NoMemory, NotBuilt}
+
+-- The answered line stands at this place of the order, with its reply.
+pub record StandsAt (order : List Entry) (a : Answered) (place : ℕ) : Type 0 where
+  pub entry : Entry
+  pub there : slice_get order place ≡ Some entry
+  pub number : entry.line.number ≡ a.line
+  pub reply : entry.reply ≡ a.reply
+
+-- Since its answer every image has a prefix of the order that holds it.
+abbrev pub IsHeld : DiskModel → RecordSet → List Entry → Answered → Type 0
+IsHeld e n order a = (place : ℕ) → StandsAt order a place → (c : List ℕ) → e.ImageSince a.at c → IsPrefixImage n order (place + 1) c
+
+-- some lines of the text, which was read whole
+pub record AreOfText (k : ℕ) (seen : Seen) (order : List Entry) : Type 0 where
+  pub lines : List Line
+  pub steps : List ℕ
+  pub scheduled : IsScheduled k seen.source_before.left seen.source_after.left lines steps
+  pub among : All (λ e. Contains lines e.line) order
+
+-- The promise over a disk that tells and opens to a sound file. There is one order of lines of the text that took effect: its numbers
+-- are those that the run prints, it keeps each session's order, and its replies are the record set's from the file on. Every answer
+-- stands in it with its reply, or outside of it. Every image since an answer has a prefix that holds it; every image since the run
+-- began has a prefix, where every image opened to the file then; and over any other disk every image since the first sync succeeded:
+-- a second tick of the clock comes only after that. When the run is done every image opens to one file, which has a prefix.
+pub record KeepsPromise (s : FileState) (run : Run) (status : Status) : Type 0 where
+  pub order : List Entry
+  pub numbers : run.seen.order ≡ map (λ e. e.line.number) order
+  pub said : (order ≡ []) ⊎ AreOfText s.meta.k run.seen order
+  pub legal : IsLegalOrder (contents_of s) order
+  pub replied : All (λ a. StandsOutside a.reply ⊎ ((place : ℕ) × StandsAt order a place)) run.seen.answered
+  pub held : All (IsHeld run.after (contents_of s) order) run.seen.answered
+  pub crashes : IsEven run.before s → Leaves run.before run.after (IsPrefixImage (contents_of s) order 0)
+  pub late : run.before.clock + 2 ≤ run.after.clock → LeavesLate run.before run.after (IsPrefixImage (contents_of s) order 0)
+  pub even : status ≡ Done → (t : FileState) × (count : ℕ) × IsEven run.after t × IsSound t × (contents_of t ≡ result_of (contents_of s) (take count order))
+
+-- Nothing failed: a disk that tells bytes, which open to this sound file, and a source that told what it had left.
+pub record IsCalm (s : FileState) (left : List ℕ) (run : Run) : Type 0 where
+  pub bytes : List ℕ
+  pub told : run.before.told ≡ Some bytes
+  pub opens : OpensTo bytes s
+  pub sound : IsSound s
+  pub text : run.seen.source_before.left ≡ Some left
+  pub source : ¬ (Rose run.seen.source_before.faults run.seen.source_after.faults)
+  pub disk : ¬ (HasFailed run)
+
+-- what `drive` answers to a text, but for want of memory: that it is done, unless the sink failed, or why not
+abbrev pub GivesFor : Seen → Status → Result Reading BadLine → Type 0
+GivesFor seen status (Ok reading) =
+    (IsServed reading.lines → ¬ (Rose seen.sink_before.faults seen.sink_after.faults) → (status ≡ Done) ⊎ (status ≡ NoMemory))
+    × (¬ (IsServed reading.lines) → (status ≡ NotBuilt) ⊎ (status ≡ NoMemory))
+GivesFor seen status (Err bad) = (status ≡ BadText bad) ⊎ (status ≡ NoMemory)
+
+abbrev pub IsDriven : Run → Status → Type 0
+IsDriven run status = (s : FileState) (left : List ℕ) → IsCalm s left run → GivesFor run.seen status (text_read true s.meta.k left)
+
+-- The line and the rule that `drive` names are the first bad line of all that the source had left, by the attributes of
+-- the file that the disk opens to, and its first rule.
+abbrev pub NamesScheduleLine : Run → Status → Type 0
+NamesScheduleLine run status = (bytes : List ℕ) (s : FileState) (left : List ℕ) (bad : BadLine) → run.before.told ≡ Some bytes → OpensTo bytes s → run.seen.source_before.left ≡ Some left → status ≡ BadText bad → text_read true s.meta.k left ≡ Err bad
+
+-- Where no call of a disk that tells failed: bytes that open to no sound file are refused, by a refusal that is true of
+-- them; and a refusal that is true of them is the one that is answered. Memory may be refused in their place.
+abbrev pub RefusesFile : Run → Status → Type 0
+RefusesFile run status = (bytes : List ℕ) → run.before.told ≡ Some bytes → ¬ (HasFailed run) →
+    (((s : FileState) → OpensTo bytes s → IsSound s → ⊥) → (status ≡ NoMemory) ⊎ ((fault : OpenFault) × (status ≡ status_of fault) × RefusesBytes fault bytes × IsUnwritten fault))
+    × ((fault : OpenFault) → RefusesBytes fault bytes → IsUnwritten fault → (status ≡ status_of fault) ⊎ (status ≡ NoMemory))
