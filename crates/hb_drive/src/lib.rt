@@ -39,6 +39,7 @@ pub fn drive<D: Disk, K: Sink>(alloc: Global, mut core: Core<D>, mut sink: K) ->
     ensures unbegun { result.end ≡ ends.NoMemory → (core_seen result.core ≡ core_seen core) × (core_disk result.core ≡ core_disk core) × (result.sink ≡ sink) × (result.answered.items ≡ []) }
     ensures drives { result.end ≢ ends.NoMemory → (m : Machine) → MayStep (D.model (core_disk core)) (core_seen core) m →
         DrivesTo m (core_seen core).steps result.answered.items (D.model (core_disk core)) (D.model (core_disk result.core)) (core_seen result.core) result.end (K.model sink) (K.model result.sink) }
+    ensures later { (K.model sink).faults ≤ (K.model result.sink).faults }
 {
     let Ok((steps, mut answered, mut left)) = room_for(alloc, core.script()) else {
         return Ran {

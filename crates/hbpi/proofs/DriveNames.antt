@@ -38,8 +38,8 @@ names_line run status ends b s left bad told opens text is = elim ends [
   | inl shut ↦ absurd (no_line shut.0 bad (sym shut.1 ∙ is))
   | inr opened ↦ elim opened [
     | inl away ↦
-      let why = subst (λ (x : Status). NotScheduled away.k run.seen.source_before run.seen.source_after x) is away.why in
-      reads_left s.meta.k away.k left why.0 run.seen.source_before.left run.seen.source_after.left (opened_k away.k run.before run.after b s away.opened told opens) text why.1 ∙ why.2
+        let why = subst (λ (x : Status). NotScheduled away.k run.seen.source_before run.seen.source_after x) is away.why in
+        reads_left s.meta.k away.k left why.0 run.seen.source_before.left run.seen.source_after.left (opened_k away.k run.before run.after b s away.opened told opens) text why.1 ∙ why.2
     | inr ran ↦ absurd (subst (λ (x : Status). RanEnds x run.seen.sink_before run.seen.sink_after run.seen.answered ran.0) is ran.2)
   ]
 ]

@@ -56,9 +56,9 @@ opened_sound bytes status good opens = (
 pub refuses_file : (run : Run) (status : Status) → GoodIsNotRefused → IsRefusedOnce → DriveEnds run status → RefusesFile run status
 refuses_file run status good once ends bytes told calm = elim ends [
   | inl shut ↦
-    let why = at_value run.before.told _ bytes told shut.2.why.why in
-    let held : shut.0 ≡ faults.DiskFault → ⊥ = λ is. calm (shut.2.leaves.faults.cause is) in
-    (λ none. of_bytes shut.0 bytes status shut.1 why held, λ fault that unwritten. is_same shut.0 fault bytes status once shut.1 why held that unwritten)
+      let why = at_value run.before.told _ bytes told shut.2.why.why in
+      let held : shut.0 ≡ faults.DiskFault → ⊥ = λ is. calm (shut.2.leaves.faults.cause is) in
+      (λ none. of_bytes shut.0 bytes status shut.1 why held, λ fault that unwritten. is_same shut.0 fault bytes status once shut.1 why held that unwritten)
   | inr opened ↦ elim opened [
     | inl away ↦ let here = at_value run.before.told _ bytes told away.opened.opens.file in opened_sound bytes status good (here.0, here.1, here.2)
     | inr ran ↦ let here = at_value run.before.told _ bytes told ran.1.takes.told in opened_sound bytes status good (here.0, here.1, here.2)

@@ -124,14 +124,14 @@ shut_late d e b s told opens late later = record { since = d.clock + 1; soon = o
 pub keeps_promise : (laws : PromiseLaws) (run : Run) (status : Status) (b : List ℕ) (s : FileState) → run.before.told ≡ Some b → OpensTo b s → IsSound s → DriveEnds run status → KeepsPromise s run status
 keeps_promise laws run status b s told opens sound ends = elim ends [
   | inl shut ↦
-    let out = shut.2 in
-    nothing_done s run status sound (pages_of laws.walks laws.alone s sound) out.refused.none_answered out.refused.none_ordered (out.leaves.even s)
-    (shut_late run.before run.after b s told opens (λ c is. at_value run.before.told _ c is out.leaves.late)) (λ is. not_done shut.0 (sym shut.1 ∙ is))
+      let out = shut.2 in
+      nothing_done s run status sound (pages_of laws.walks laws.alone s sound) out.refused.none_answered out.refused.none_ordered (out.leaves.even s)
+      (shut_late run.before run.after b s told opens (λ c is. at_value run.before.told _ c is out.leaves.late)) (λ is. not_done shut.0 (sym shut.1 ∙ is))
   | inr opened ↦ elim opened [
     | inl away ↦ nothing_done s run status sound (pages_of laws.walks laws.alone s sound) away.refused.none_answered away.refused.none_ordered (away.opened.leaves.even s)
-      (λ later. opened_late away.k run.before run.after b s away.opened told opens) (λ is. subst (λ (x : Status). NotScheduled away.k run.seen.source_before run.seen.source_after x) is away.why)
+        (λ later. opened_late away.k run.before run.after b s away.opened told opens) (λ is. subst (λ (x : Status). NotScheduled away.k run.seen.source_before run.seen.source_after x) is away.why)
     | inr ran ↦ drove_promise laws b run status ran.0 told ran.1
-      (λ is. (subst (λ (x : Status). RanEnds x run.seen.sink_before run.seen.sink_after run.seen.answered ran.0) is ran.2).2) s opens
+        (λ is. (subst (λ (x : Status). RanEnds x run.seen.sink_before run.seen.sink_after run.seen.answered ran.0) is ran.2).2) s opens
   ]
 ]
 

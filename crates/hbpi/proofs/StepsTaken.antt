@@ -201,8 +201,8 @@ module _ {X Y : Type 0} (M : X → DiskModel) (S : Y → SinkModel) (lines : Lis
   script_beyond disk new begun = elim (is_unbegun end) [
     | inl none ↦ subst (λ (x : X). KeepsBeyond (file_size store.meta) (M first) (M x)) (sym (facts.disk_is ∙ (facts.unbegun none).1 ∙ facts.disk)) (beyond_none (file_size store.meta) (M first) disk)
     | inr some ↦
-      let drove = run_here begun.0 begun.1 some in
-      subst (λ (x : X). KeepsBeyond (file_size store.meta) (M first) (M x)) (sym facts.disk_is) (run_beyond (M first) (M over) store begun.0 new begun.1.may.shows.store drove.run.in_log)
+        let drove = run_here begun.0 begun.1 some in
+        subst (λ (x : X). KeepsBeyond (file_size store.meta) (M first) (M x)) (sym facts.disk_is) (run_beyond (M first) (M over) store begun.0 new begun.1.may.shows.store drove.run.in_log)
   ]
 
 -- How a run over a store that was just opened ends, by its text.

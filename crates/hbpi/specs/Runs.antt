@@ -42,7 +42,7 @@ pub record CountsLater (run : Run) (status : Status) : Type 0 where
   pub reads : run.before.read_faults ≤ run.after.read_faults
   pub writes : run.before.write_faults ≤ run.after.write_faults
 
--- all of this
+-- What is said of a run, whatever its form.
 pub record IsRunOf (form : Option Form) (run : Run) (status : Status) : Type 0 where
   pub ends : RunEnds form run status
   pub file : LeavesFile form run status

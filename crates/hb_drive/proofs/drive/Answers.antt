@@ -1,4 +1,4 @@
-use Rattle.std.proofs.Common.{ℕ, List, ◌++◌, Option, is_some, ap, ◌∙◌, subst}
+use Rattle.std.proofs.Common.{ℕ, List, ◌++◌, Option, is_some, arith, ap, ◌∙◌, subst}
 use Rattle.std.specs.Vec.{vec_capacity}
 use Rattle.hb_set.specs.declared.scripts.Answered.{Answered}
 use Rattle.hb_store.specs.declared.stops.StopWhy.{StopWhy}
@@ -55,3 +55,6 @@ returns-clause-drives g c = λ begun m may.
       fails = c.is_err-failed.ensures.value;
       ended = subst S c.stop-stop.ensures (subst A c.as_slice-3.ensures.value c.end_of-end.ensures);
     })
+
+pub returns-clause-later : goal.returns-clause-later
+returns-clause-later g c = omega (arith, c.take_steps-put.ensures.put.counts.later, c.put_rest-last.ensures.later)

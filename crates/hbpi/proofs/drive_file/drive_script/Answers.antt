@@ -22,9 +22,11 @@ pub drive-requires-clause-may : goal.drive-requires-clause-may
 drive-requires-clause-may g c =
     let M : g.row.D.Denot → DiskModel = g.D.Device.model in
     let store = seen_as c.args.store in
-    let begun = begins_script (M (disk_of c.args.store)) c.args.script.lines c.args.script.steps store c.requires.script c.requires.new c.requires.stands c.requires.kept in
-    (begun.0, subst (λ (x : g.row.D.Denot). MayStep (M x) (core_seen c.in-Ok.core) begun.0) (sym c.in-Ok.ensures.disk)
-    (subst (λ (r : RunningCore). MayStep (M (disk_of c.args.store)) r begun.0) (sym c.in-Ok.ensures.seen) begun.1.may))
+    let begun = begins_script (M (disk_of c.args.store)) c.args.script.lines c.args.script.steps store c.requires.script c.requires.new c.requires.stands c.requires.kept in (
+      begun.0,
+      subst (λ (x : g.row.D.Denot). MayStep (M x) (core_seen c.in-Ok.core) begun.0) (sym c.in-Ok.ensures.disk)
+          (subst (λ (r : RunningCore). MayStep (M (disk_of c.args.store)) r begun.0) (sym c.in-Ok.ensures.seen) begun.1.may),
+    )
 
 pub drive-requires-clause-actors : goal.drive-requires-clause-actors
 drive-requires-clause-actors g c =
@@ -37,7 +39,7 @@ returns-in-Ok-clause-ends g c =
     let store = seen_as c.args.store in
     let begun = begins_script (M (disk_of c.args.store)) c.args.script.lines c.args.script.steps store c.requires.script c.requires.new c.requires.stands c.requires.kept in
     let facts : RanScript M S c.args.script.lines c.args.script.steps store (disk_of c.args.store) (core_disk c.in-Ok.core) (core_disk c.drive.result.core) c.finish.result.disk c.args.sink c.drive.result.sink c.finish.result.sink (core_seen c.in-Ok.core) (core_seen c.drive.result.core)
-        c.drive.result.end c.drive.result.answered.items c.finish.result.answered.items c.finish.result.order.items c.finish.result.status = record {
+    c.drive.result.end c.drive.result.answered.items c.finish.result.answered.items c.finish.result.order.items c.finish.result.status = record {
       seen = c.in-Ok.ensures.seen;
       disk = c.in-Ok.ensures.disk;
       unbegun = c.drive.ensures.unbegun;
@@ -59,7 +61,7 @@ returns-in-Ok-clause-beyond g c =
     let store = seen_as c.args.store in
     let begun = begins_script (M (disk_of c.args.store)) c.args.script.lines c.args.script.steps store c.requires.script c.requires.new c.requires.stands c.requires.kept in
     let facts : RanScript M S c.args.script.lines c.args.script.steps store (disk_of c.args.store) (core_disk c.in-Ok.core) (core_disk c.drive.result.core) c.finish.result.disk c.args.sink c.drive.result.sink c.finish.result.sink (core_seen c.in-Ok.core) (core_seen c.drive.result.core)
-        c.drive.result.end c.drive.result.answered.items c.finish.result.answered.items c.finish.result.order.items c.finish.result.status = record {
+    c.drive.result.end c.drive.result.answered.items c.finish.result.answered.items c.finish.result.order.items c.finish.result.status = record {
       seen = c.in-Ok.ensures.seen;
       disk = c.in-Ok.ensures.disk;
       unbegun = c.drive.ensures.unbegun;
@@ -90,3 +92,6 @@ returns-in-Err-clause-beyond g c =
     let n = file_size (seen_as store).meta in
     let back : c.refused.result.disk ≡ disk_of store = c.refused.ensures.disk ∙ c.into_disk.ensures ∙ ap (λ x. disk_of x) c.in-Err.ensures.back in
     subst (λ (x : g.row.D.Denot). KeepsBeyond n (M (disk_of store)) (M x)) (sym back) (beyond_none n (M (disk_of store)) (g.met.D.Device.is_disk (disk_of store)))
+
+pub returns-in-Ok-clause-sink_later : goal.returns-in-Ok-clause-sink_later
+returns-in-Ok-clause-sink_later g c = omega (arith, c.drive.ensures.later, c.finish.ensures.later)

@@ -38,7 +38,7 @@ returns-in-Err-clause-ends g c =
         none_ordered = c.refused.ensures.order;
       },
       subst (λ (n : ℕ). NotScheduled n before after c.refused.result.status) (ap (λ (m : Meta). m.k) c.meta.ensures.meta)
-      (subst (λ (x : Status). NotScheduled c.meta.result.now.k before after x) (sym c.refused.ensures.status) c.in-Err.ensures.refused),
+          (subst (λ (x : Status). NotScheduled c.meta.result.now.k before after x) (sym c.refused.ensures.status) c.in-Err.ensures.refused),
     )
 
 pub returns-in-Err-clause-beyond : goal.returns-in-Err-clause-beyond
