@@ -94,5 +94,5 @@ HasPointRow st activity id place deed = (page : LivePage) × (live_here st id �
 abbrev pub HasPosterRow : StoreState → Activity → ℕ → ℕ → Deed → Type 0
 HasPosterRow st activity id place deed = (page : LivePage) × (live_here st id ≡ Some page) × PosterRow activity (sight_in st place) id page deed
 
-abbrev pub WantsMemory : StoreState → Activity → ℕ → Option (ℕ × ℕ) → Type 0
-WantsMemory st activity id free = (page : LivePage) × (live_here st id ≡ Some page) × AsksMemory activity st.meta page (other_page st activity) free
+abbrev pub IsStarved : StoreState → Activity → ℕ → Option (ℕ × ℕ) → Type 0
+IsStarved st activity id free = (page : LivePage) × (live_here st id ≡ Some page) × AsksMemory activity st.meta page (other_page st activity) free

@@ -42,7 +42,7 @@ pub record MayStand (actor : ℕ) (table : LatchTable) (st : StoreState) (activi
   pub free : (page : ℕ) (mode : Mode) → mode_among page (latches_held st activity) ≡ Some mode → IsGrantable table actor page mode
 
 -- An actor stands elsewhere, and has the latches of that and no other. All else is as it was.
-pub record Stands (actor : ℕ) (next : Activity) (old new : RunningCore) : Type 0 where
+pub record StandsNow (actor : ℕ) (next : Activity) (old new : RunningCore) : Type 0 where
   pub latches : Relatches actor (latches_held old.store next) old.latches new.latches
   pub rest : new ≡ record (with_standing actor next old) { latches = new.latches }
 

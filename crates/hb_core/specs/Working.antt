@@ -55,25 +55,25 @@ pub record MayWork (m : Machine) (actor : ℕ) : Type 0 where
   pub ready : ¬ (IsUnready m actor)
 
 -- the machine with the pages that a core has in memory now
-abbrev pub with_pages : RunningCore → Machine → Machine
-with_pages c m = with_disk c.store m.files m.clock m
+abbrev pub with_memory : RunningCore → Machine → Machine
+with_memory c m = with_disk c.store m.files m.clock m
 
 -- The wanted page is at hand, where one is wanted. The head of the free chain, which may be needed next, didn't leave.
 pub record HasCome (m : Machine) (actor : ℕ) (d : DiskModel) (c : RunningCore) : Type 0 where
   pub may : MayWork m actor
   pub brings : Brings m (IsWantedPage (wanted_by m actor)) c.store
   pub head : IsSome (in_memory m.store m.store.meta.free) → in_memory c.store m.store.meta.free ≡ in_memory m.store m.store.meta.free
-  pub shows : ShowsMachine d c (with_pages c m)
-  pub at_hand : IfSome (wanted_by m actor) (λ wanted. (page : LivePage) × IsAtHand (with_pages c m) (m.activity actor) wanted page)
+  pub shows : ShowsMachine d c (with_memory c m)
+  pub at_hand : IfSome (wanted_by m actor) (λ wanted. (page : LivePage) × IsAtHand (with_memory c m) (m.activity actor) wanted page)
 
 -- And so is the number of a page, with the free head afterwards: given exactly where the row makes one.
 pub record HasPages (m : Machine) (actor : ℕ) (free : Option (ℕ × ℕ)) (d : DiskModel) (c : RunningCore) : Type 0 where
   pub may : MayWork m actor
   pub brings : Brings m (λ id. IsWantedPage (wanted_by m actor) id ⊎ (IsSome free × IsFreeHead m.store id)) c.store
-  pub shows : ShowsMachine d c (with_pages c m)
-  pub at_hand : IfSome (wanted_by m actor) (λ wanted. (page : LivePage) × IsAtHand (with_pages c m) (m.activity actor) wanted page)
-  pub number : MatchOption free (¬ (NeedsNumber (m.activity actor) (wanted_by m actor) (with_pages c m)))
-      (λ next. NeedsNumber (m.activity actor) (wanted_by m actor) (with_pages c m) × (next_of c.store ≡ Some next))
+  pub shows : ShowsMachine d c (with_memory c m)
+  pub at_hand : IfSome (wanted_by m actor) (λ wanted. (page : LivePage) × IsAtHand (with_memory c m) (m.activity actor) wanted page)
+  pub number : MatchOption free (¬ (NeedsNumber (m.activity actor) (wanted_by m actor) (with_memory c m)))
+      (λ next. NeedsNumber (m.activity actor) (wanted_by m actor) (with_memory c m) × (next_of c.store ≡ Some next))
 
 -- A core shows a machine but for where this actor stands.
 abbrev pub ShowsBut : DiskModel → RunningCore → ℕ → Machine → Type 0
@@ -88,7 +88,7 @@ IsHalt m actor st (Stops (Damaged page why)) = IsBadWanted m.files st (wanted_by
 
 pub record Halts (m : Machine) (actor : ℕ) (halt : Halt) (d : DiskModel) (c : RunningCore) : Type 0 where
   pub brings : Brings m (MayNeed m actor c.store) c.store
-  pub shows : ShowsBut d c actor (with_pages c m)
+  pub shows : ShowsBut d c actor (with_memory c m)
   pub cause : IsHalt m actor c.store halt
 
 abbrev pub IsStop : Halt → Type 0

@@ -16,13 +16,13 @@ ghost use Rattle.hb_store.specs.States.{in_memory};
 ghost use Rattle.hb_store.specs.declared.stops.StopWhy.TheVariants.{Damaged};
 ghost use Rattle.hb_store.specs.declared.stops.Why.{Why};
 ghost use Rattle.hb_core.specs.declared.halts.Halt.TheVariants.{Stops};
-ghost use Rattle.hb_core.specs.Looking.{AsksPoint, AsksPoster, FailsTest, HasPointRow, HasPosterRow, MayLook, PassesTest, WantsMemory, number_of_row, other_number, other_page};
+ghost use Rattle.hb_core.specs.Looking.{AsksPoint, AsksPoster, FailsTest, HasPointRow, HasPosterRow, MayLook, PassesTest, IsStarved, number_of_row, other_number, other_page};
 ghost use Rattle.hb_core.specs.Machines.{Machine, live_here};
 ghost use Rattle.hb_core.specs.Moving.{StandsAs, placed, with_standing};
 ghost use Rattle.hb_core.specs.Rows.{Row};
 ghost use Rattle.hb_disk.specs.Calls.{ReadsOnly};
 ghost use Rattle.hb_core.specs.Touching.{IsReadHalt};
-ghost use Rattle.hb_core.specs.Working.{Halts, HasCome, HasPages, IsWorking, MayStep, MayWork, with_pages};
+ghost use Rattle.hb_core.specs.Working.{Halts, HasCome, HasPages, IsWorking, MayStep, MayWork, with_memory};
 
 use crate::halts::Halt;
 use crate::reading::idle;
@@ -111,7 +111,7 @@ impl<D: Device> Core<D> {
         requires come { (m : Machine) × HasCome m actor (D.model (core_disk self.now)) (core_seen self.now) }
         requires wanted { (m : Machine) → HasCome m actor (D.model (core_disk self.now)) (core_seen self.now) → wanted ≡ wanted_by m actor }
         ensures { (m : Machine) → HasCome m actor (D.model (core_disk self.now)) (core_seen self.now) →
-            (IsTrue result ↔ NeedsNumber (m.activity actor) (wanted_by m actor) (with_pages (core_seen self.now) m)) }
+            (IsTrue result ↔ NeedsNumber (m.activity actor) (wanted_by m actor) (with_memory (core_seen self.now) m)) }
     {
         let activity = self.activity(actor);
         match activity {
@@ -150,9 +150,9 @@ impl<D: Device> Core<D> {
         requires pages { (m : Machine) × HasPages m actor free (D.model (core_disk self.old)) (core_seen self.old) }
         requires wanted { (m : Machine) → HasPages m actor free (D.model (core_disk self.old)) (core_seen self.old) → wanted ≡ wanted_by m actor }
         ensures row { IfOk result (λ next. (m : Machine) → HasPages m actor free (D.model (core_disk self.old)) (core_seen self.old) →
-            Row (m.activity actor) (wanted_by m actor) (with_pages (core_seen self.old) m) (placed (length m.order) (deed_of (m.activity actor) next))) }
+            Row (m.activity actor) (wanted_by m actor) (with_memory (core_seen self.old) m) (placed (length m.order) (deed_of (m.activity actor) next))) }
         ensures memory { OnErr result ((m : Machine) → HasPages m actor free (D.model (core_disk self.old)) (core_seen self.old) →
-            (deed : Deed) × Row (m.activity actor) (wanted_by m actor) (with_pages (core_seen self.old) m) deed × TakesMemory (m.activity actor) deed) }
+            (deed : Deed) × Row (m.activity actor) (wanted_by m actor) (with_memory (core_seen self.old) m) deed × TakesMemory (m.activity actor) deed) }
         ensures rest { core_seen self.new ≡ with_standing actor (idle_of (class_for actor)) (core_seen self.old) }
         ensures disk { core_disk self.new ≡ core_disk self.old }
     {
@@ -202,7 +202,7 @@ impl<D: Device> Core<D> {
         requires { AsksPoster (core_seen self.now).store state (number_of_row state wanted) free }
         ensures row { IfOk result (λ next. (place : ℕ) →
             HasPosterRow (core_seen self.now).store state (number_of_row state wanted) place (placed place (deed_of state next))) }
-        ensures memory { OnErr result (WantsMemory (core_seen self.now).store state (number_of_row state wanted) free) }
+        ensures memory { OnErr result (IsStarved (core_seen self.now).store state (number_of_row state wanted) free) }
     {
         let id = page_of(&state, wanted);
         let page = self.live_page(id);

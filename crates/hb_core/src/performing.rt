@@ -15,7 +15,7 @@ ghost use Rattle.hb_core.specs.CoreSeen.{core_seen, core_disk};
 ghost use Rattle.hb_core.specs.GivingUp.{gives_up, reply_for, runs_out};
 ghost use Rattle.hb_core.specs.KeptFits.{class_for};
 ghost use Rattle.hb_core.specs.Machines.{live_here};
-ghost use Rattle.hb_core.specs.Moving.{AreApart, DoesDeed, KeepsFilesBy, MayCommit, MayStand, Stands, StandsAs, joins_order, number_of, placed, placed_at, pushed, said, with_jobs, with_latches, with_order};
+ghost use Rattle.hb_core.specs.Moving.{AreApart, DoesDeed, KeepsFilesBy, MayCommit, MayStand, StandsNow, StandsAs, joins_order, number_of, placed, placed_at, pushed, said, with_jobs, with_latches, with_order};
 ghost use Rattle.hb_core.specs.Performing.{MayDo, Relatches, mode_among};
 ghost use Rattle.hb_core.specs.Working.{IsWorking};
 
@@ -125,7 +125,7 @@ impl<D: Device> Core<D> {
     pub(crate) fn stand(&mut self, actor: Actor, next: Activity)
         requires actor { MayLatch actor }
         requires may { MayStand actor (core_seen self.old).latches (core_seen self.old).store next }
-        ensures stands { Stands actor next (core_seen self.old) (core_seen self.new) }
+        ensures stands { StandsNow actor next (core_seen self.old) (core_seen self.new) }
         ensures disk { core_disk self.new ≡ core_disk self.old }
     {
         let held = next.held(self.walked(&next));

@@ -45,7 +45,7 @@ use Rattle.hb_core.specs.Machines.{Machine, live_here, next_of}
 use Rattle.hb_core.specs.Rows.{IsAtHand}
 use Rattle.hb_core.specs.Showing.{RunningCore}
 use Rattle.hb_core.specs.SteppingLaws.{HasNoSearches}
-use Rattle.hb_core.specs.Working.{HasPages, IsWorking, with_pages}
+use Rattle.hb_core.specs.Working.{HasPages, IsWorking, with_memory}
 
 -- pages that came, of whatever numbers
 pub any_brings : (m : Machine) (may : ℕ → Type 0) (fetched : StoreState) → Brings m may fetched → Brings m AnyPage fetched
@@ -147,16 +147,16 @@ module _ (d : DiskModel) (c : RunningCore) (m : Machine) (actor : ℕ) (free : O
     pub wanted : Wanted
     pub wants : wanted_by m actor ≡ Some wanted
     pub page : LivePage
-    pub hand : IsAtHand (with_pages c m) (m.activity actor) wanted page
+    pub hand : IsAtHand (with_memory c m) (m.activity actor) wanted page
 
   pub has_wanted : IsSome (wanted_by m actor) → HasWanted
   has_wanted some =
       let one = some_value (wanted_by m actor) some in
-      let hand = at_value (wanted_by m actor) (λ (wanted : Wanted). (page : LivePage) × IsAtHand (with_pages c m) (m.activity actor) wanted page) one.0 one.1 has.at_hand in
+      let hand = at_value (wanted_by m actor) (λ (wanted : Wanted). (page : LivePage) × IsAtHand (with_memory c m) (m.activity actor) wanted page) one.0 one.1 has.at_hand in
       record { wanted = one.0; wants = one.1; page = hand.0; hand = hand.1 }
 
   abbrev pub Needs : Activity → Option Wanted → Type 0
-  Needs activity wanted = NeedsNumber activity wanted (with_pages c m)
+  Needs activity wanted = NeedsNumber activity wanted (with_memory c m)
 
   numbers_at : (activity : Activity) (wanted : Option Wanted) → m.activity actor ≡ activity → wanted_by m actor ≡ wanted → MatchOption free (¬ (Needs activity wanted)) (λ next. Needs activity wanted × (next_of c.store ≡ Some next))
   numbers_at activity wanted is wants =
@@ -246,13 +246,13 @@ module _ (d : DiskModel) (c : RunningCore) (m : Machine) (actor : ℕ) (free : O
   grow_fits : (job : Job) (its : HasWanted) → m.activity actor ≡ at.PosterGrow job → MakesPage (at.PosterGrow job) c.store.meta its.page (other_page c.store (at.PosterGrow job)) → FitsFree c.store.meta free
   grow_fits job its is grows =
       fits_free (Needs (at.PosterGrow job) (Some its.wanted)) (λ next. next_of c.store ≡ Some next) c.store.meta free few (λ need. need.0)
-      (λ lt. (lt, its.page, subst (λ (a : Activity). IsAtHand (with_pages c m) a its.wanted its.page) is its.hand, record { height = grows.height; below = grows.below; gave = grows.gave }))
+      (λ lt. (lt, its.page, subst (λ (a : Activity). IsAtHand (with_memory c m) a its.wanted its.page) is its.hand, record { height = grows.height; below = grows.below; gave = grows.gave }))
       (numbers_at (at.PosterGrow job) (Some its.wanted) is its.wants)
 
   again_fits : (job : Job) (parent : ℕ) (its : HasWanted) (over : LivePage) → m.activity actor ≡ at.PosterAgain job parent → live_here c.store parent ≡ Some over → MakesPage (at.PosterAgain job parent) c.store.meta its.page (Some over) → FitsFree c.store.meta free
   again_fits job parent its over is live lacks =
       fits_free (Needs (at.PosterAgain job parent) (Some its.wanted)) (λ next. next_of c.store ≡ Some next) c.store.meta free few (λ need. need.0)
-      (λ lt. (lt, its.page, subst (λ (a : Activity). IsAtHand (with_pages c m) a its.wanted its.page) is its.hand, (over, live, lacks)))
+      (λ lt. (lt, its.page, subst (λ (a : Activity). IsAtHand (with_memory c m) a its.wanted its.page) is its.hand, (over, live, lacks)))
       (numbers_at (at.PosterAgain job parent) (Some its.wanted) is its.wants)
 
   asks_at : (activity : Activity) (its : HasWanted) → m.activity actor ≡ activity → IsWorking activity → class_of activity ≡ Posters → IfSome (walk_point activity) IsPoint → AsksAsPoster activity

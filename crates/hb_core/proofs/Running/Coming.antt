@@ -48,7 +48,7 @@ use Rattle.hb_core.specs.Machines.{Files, Machine, current_file, live_here, with
 use Rattle.hb_core.specs.Rows.{IsAtHand}
 use Rattle.hb_core.specs.Showing.{RunningCore, ShowsMachine}
 use Rattle.hb_core.specs.Stopping.{halt_of}
-use Rattle.hb_core.specs.Working.{HasCome, Halts, IsHalt, IsWorking, MayStep, MayWork, with_pages}
+use Rattle.hb_core.specs.Working.{HasCome, Halts, IsHalt, IsWorking, MayStep, MayWork, with_memory}
 
 -- what is known where a call went well is known of its value
 pub ok_then : {T E : Type 0} (r : Result T E) (P : Type 0) (Q : T → Type 0) → (P → (x : T) → Q x) → OnOk r P → IfOk r Q
@@ -158,7 +158,7 @@ module _ (m : Machine) (d : DiskModel) (c : RunningCore) (actor : ℕ) (latches 
     brings = brings_none m (IsWantedPage (wanted_by m actor)) c.store step.shows.store;
     head = λ there. ap (λ (st : StoreState). in_memory st m.store.meta.free) (sym step.shows.store);
     shows = shows_again d c m step.shows;
-    at_hand = subst (λ (o : Option Wanted). IfSome o (λ wanted. (page : LivePage) × IsAtHand (with_pages c m) (m.activity actor) wanted page)) (sym none) tt;
+    at_hand = subst (λ (o : Option Wanted). IfSome o (λ wanted. (page : LivePage) × IsAtHand (with_memory c m) (m.activity actor) wanted page)) (sym none) tt;
   }
 
   module _ (wanted : Wanted) (wants : wanted_by m actor ≡ Some wanted) where

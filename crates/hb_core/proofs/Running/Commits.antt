@@ -47,7 +47,7 @@ use Rattle.hb_core.specs.Moving.{MayCommit}
 use Rattle.hb_core.specs.Rows.{IsAtHand, Row}
 use Rattle.hb_core.specs.Showing.{RunningCore, ShowsFiles, ShowsMachine}
 use Rattle.hb_core.specs.Steps.{may_change_file}
-use Rattle.hb_core.specs.Working.{MayWork, with_pages}
+use Rattle.hb_core.specs.Working.{MayWork, with_memory}
 
 -- what can't be denied of two numbers and two others holds
 not_denied : (a b c d : ℕ) → (¬ (¬ ((a ≤ b) × (c ≤ d)))) → (a ≤ b) × (c ≤ d)
@@ -96,7 +96,7 @@ module _ (m : Machine) (actor : ℕ) (fetched : StoreState) (keeps : MachineKeep
           }))
           row
 
-module _ (d : DiskModel) (c : RunningCore) (m : Machine) (actor : ℕ) (may : MayLatch actor) (work : MayWork m actor) (brings : Brings m AnyPage c.store) (shows : ShowsMachine d c (with_pages c m)) (deed : Deed) (row : Row (m.activity actor) (wanted_by m actor) (with_pages c m) deed) (op : Op) (is : deed.op ≡ Some op) where
+module _ (d : DiskModel) (c : RunningCore) (m : Machine) (actor : ℕ) (may : MayLatch actor) (work : MayWork m actor) (brings : Brings m AnyPage c.store) (shows : ShowsMachine d c (with_memory c m)) (deed : Deed) (row : Row (m.activity actor) (wanted_by m actor) (with_memory c m) deed) (op : Op) (is : deed.op ≡ Some op) where
   keeps : MachineKeeps m
   keeps = work.goes_on.kept
 
@@ -119,7 +119,7 @@ module _ (d : DiskModel) (c : RunningCore) (m : Machine) (actor : ℕ) (may : Ma
 
     licensed_there : (durable : FileState) (later : List FileState) → StoreKeeps d c.store durable later → IsLicensed (last_of durable later) op
     licensed_there durable later kept =
-        let its : ShowsFiles d (with_pages c m) = shows.tells kept.disk.told in
+        let its : ShowsFiles d (with_memory c m) = shows.tells kept.disk.told in
         let sound : HasSoundFile m its.files = at_value m.files (HasSoundFile m) its.files its.told work.goes_on.sound in
         let holds : FilesHold c.store its.files = brought_shown m its.files AnyPage c.store its.told brings (files_hold m its.files sound) in
         let licensed : IsLicensed (current_file its.files) op = licensed_in_file c.store (current_file its.files) (brought m AnyPage c.store brings (keeps_pages m keeps.meta_within_limits keeps.pages_of_file)) (shows_file c.store its.files holds) op here.licensed in

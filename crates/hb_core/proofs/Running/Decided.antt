@@ -28,7 +28,7 @@ use Rattle.hb_core.specs.Machines.{Machine, sight}
 use Rattle.hb_core.specs.Moving.{StandsAs}
 use Rattle.hb_core.specs.Rows.{IsAtHand, Row, RowAt}
 use Rattle.hb_core.specs.Showing.{RunningCore}
-use Rattle.hb_core.specs.Working.{HasPages, IsWorking, with_pages}
+use Rattle.hb_core.specs.Working.{HasPages, IsWorking, with_memory}
 
 -- ---- who is at work
 
@@ -104,7 +104,7 @@ module _ (d : DiskModel) (c : RunningCore) (m : Machine) (actor : ℕ) (free : O
   -- ---- the rows
 
   abbrev OwnRow : Activity → Option Wanted → Deed → Type 0
-  OwnRow activity wanted deed = Row activity wanted (with_pages c m) deed
+  OwnRow activity wanted deed = Row activity wanted (with_memory c m) deed
 
   walk_row : (line : Line) (held : Option ℕ) (rest : List Area) (found : List Record) (deed : Deed) → m.activity actor ≡ at.SessionWalk line held rest found
       → HasPointRow c.store (at.SessionWalk line held rest found) (number_of_row (at.SessionWalk line held rest found) (wanted_by m actor)) (length m.order) deed → OwnRow (at.SessionWalk line held rest found) (wanted_by m actor) deed
@@ -116,8 +116,8 @@ module _ (d : DiskModel) (c : RunningCore) (m : Machine) (actor : ℕ) (free : O
       let same : at_page.0 ≡ its.page = same_Some at_page.0 its.page (sym at_page.1 ∙ its.hand.live) in
       subst (λ (w : Option Wanted). OwnRow (at.SessionWalk line held rest found) w deed) (sym its.wants) (
         its.page,
-        subst (λ (a : Activity). IsAtHand (with_pages c m) a its.wanted its.page) is its.hand,
-        row_of_walk (sight (with_pages c m)) line (goal_of line.command rest) rest found its.wanted.page its.page deed
+        subst (λ (a : Activity). IsAtHand (with_memory c m) a its.wanted its.page) is its.hand,
+        row_of_walk (sight (with_memory c m)) line (goal_of line.command rest) rest found its.wanted.page its.page deed
             (subst (λ (q : LivePage). PointRow (at.SessionWalk line held rest found) (sight_in c.store (length m.order)) its.wanted.page q deed) same at_page.2),
       )
 
@@ -135,20 +135,20 @@ module _ (d : DiskModel) (c : RunningCore) (m : Machine) (actor : ℕ) (free : O
   session_row activity deed is class working row = absurd working
 
   -- of the page at hand, where one is wanted
-  pub at_hand : (activity : Activity) (its : HasWanted d c m actor free may has) (deed : Deed) → m.activity actor ≡ activity → RowAt activity (sight (with_pages c m)) its.wanted.page its.page deed → OwnRow activity (wanted_by m actor) deed
+  pub at_hand : (activity : Activity) (its : HasWanted d c m actor free may has) (deed : Deed) → m.activity actor ≡ activity → RowAt activity (sight (with_memory c m)) its.wanted.page its.page deed → OwnRow activity (wanted_by m actor) deed
   at_hand activity its deed is row =
-      subst (λ (w : Option Wanted). OwnRow activity w deed) (sym its.wants) (its.page, subst (λ (a : Activity). IsAtHand (with_pages c m) a its.wanted its.page) is its.hand, row)
+      subst (λ (w : Option Wanted). OwnRow activity w deed) (sym its.wants) (its.page, subst (λ (a : Activity). IsAtHand (with_memory c m) a its.wanted its.page) is its.hand, row)
 
   poster_row : (activity : Activity) (deed : Deed) → m.activity actor ≡ activity → class_of activity ≡ Posters → IsWorking activity → HasPosterRow c.store activity (number_of_row activity (wanted_by m actor)) (length m.order) deed → OwnRow activity (wanted_by m actor) deed
   poster_row activity deed is class working row =
       let its = has_wanted d c m actor free may has (poster_wants m actor may keeps activity is class working) in
       let at_page = subst (λ (w : Option Wanted). HasPosterRow c.store activity (number_of_row activity w) (length m.order) deed) its.wants row in
       let same : at_page.0 ≡ its.page = same_Some at_page.0 its.page (sym at_page.1 ∙ its.hand.live) in
-      at_hand activity its deed is (row_of_poster (sight (with_pages c m)) activity its.wanted.page its.page deed class working
+      at_hand activity its deed is (row_of_poster (sight (with_memory c m)) activity its.wanted.page its.page deed class working
       (subst (λ (q : LivePage). PosterRow activity (sight_in c.store (length m.order)) its.wanted.page q deed) same at_page.2))
 
   pub decided_session : (activity : Activity) (wanted : Option Wanted) (st : StoreState) (deed : Activity → Deed) → StandsAs c actor activity → wanted ≡ wanted_by m actor → st ≡ c.store → (actor == 17) ≡ false
-      → HasPointRow st activity (number_of_row activity wanted) (length m.order) (deed activity) → Row (m.activity actor) (wanted_by m actor) (with_pages c m) (deed (m.activity actor))
+      → HasPointRow st activity (number_of_row activity wanted) (length m.order) (deed activity) → Row (m.activity actor) (wanted_by m actor) (with_memory c m) (deed (m.activity actor))
   decided_session activity wanted st deed stood wants same off row =
       let is = stands activity stood in
       let here = subst (λ (st : StoreState). HasPointRow st activity (number_of_row activity wanted) (length m.order) (deed activity)) same row in
@@ -156,7 +156,7 @@ module _ (d : DiskModel) (c : RunningCore) (m : Machine) (actor : ℕ) (free : O
       subst (λ (a : Activity). OwnRow a (wanted_by m actor) (deed a)) (sym is) (session_row activity (deed activity) is (is_session activity is off) (works activity is) own)
 
   pub decided_poster : (activity : Activity) (wanted : Option Wanted) (st : StoreState) (deed : Activity → Deed) → StandsAs c actor activity → wanted ≡ wanted_by m actor → st ≡ c.store → actor ≡ 17
-      → HasPosterRow st activity (number_of_row activity wanted) (length m.order) (deed activity) → Row (m.activity actor) (wanted_by m actor) (with_pages c m) (deed (m.activity actor))
+      → HasPosterRow st activity (number_of_row activity wanted) (length m.order) (deed activity) → Row (m.activity actor) (wanted_by m actor) (with_memory c m) (deed (m.activity actor))
   decided_poster activity wanted st deed stood wants same poster row =
       let is = stands activity stood in
       let here = subst (λ (st : StoreState). HasPosterRow st activity (number_of_row activity wanted) (length m.order) (deed activity)) same row in

@@ -16,7 +16,7 @@ use Rattle.hb_core.specs.Machines.{Files, Machine, if_some, with_activity}
 use Rattle.hb_core.specs.Moving.{DoesDeed, KeepsFilesBy, later_with, numbers_joined, with_standing}
 use Rattle.hb_core.specs.Performing.{ChangesQueue, MayDo, Performs, Relatches, files_after, given_by, latches_held, outcome_of}
 use Rattle.hb_core.specs.Showing.{RunningCore, ShowsFiles, ShowsMachine}
-use Rattle.hb_core.specs.Working.{ShowsBut, with_pages}
+use Rattle.hb_core.specs.Working.{ShowsBut, with_memory}
 use Rattle.hb_core.proofs.Running.NumbersInHand.{NumberFate, line_of_number}
 use Rattle.hb_core.proofs.Running.StandsElsewhere.{stand_then, still_all}
 use Rattle.hb_core.proofs.Running.TurnsAfter.{has_turn, turn_after, turn_at}
@@ -49,7 +49,7 @@ files_untold : (op : Option Op) → files_after op None ≡ None
 files_untold None = refl
 files_untold (Some op) = refl
 
-module _ (d : DiskModel) (c after : RunningCore) (m : Machine) (actor : ℕ) (deed : Deed) (outcome : Outcome) (may : MayLatch actor) (shows : ShowsBut d c actor (with_pages c m)) (does : DoesDeed actor deed outcome c after) where
+module _ (d : DiskModel) (c after : RunningCore) (m : Machine) (actor : ℕ) (deed : Deed) (outcome : Outcome) (may : MayLatch actor) (shows : ShowsBut d c actor (with_memory c m)) (does : DoesDeed actor deed outcome c after) where
   abbrev new : Machine
   new = after_deed after m actor deed
 
@@ -94,7 +94,7 @@ module _ (d : DiskModel) (c after : RunningCore) (m : Machine) (actor : ℕ) (de
       turns = λ session behind low high is.
           has_turn new session behind
           (turn_after m.lines m.answered m.activity actor deed m.clock turn.rising (line_of_number m actor turn) fate session behind
-          (turn_at (with_pages c m) session behind (shows.turns session behind low high (ap (λ (l : List ℕ). slice_get l (session - 1)) (sym (of_core (λ s. s.behind))) ∙ is))));
+          (turn_at (with_memory c m) session behind (shows.turns session behind low high (ap (λ (l : List ℕ). slice_get l (session - 1)) (sym (of_core (λ s. s.behind))) ∙ is))));
       all_actors = ap (λ (l : List Activity). length l) (of_core (λ s. s.activities)) ∙ still_all c.activities m.activity actor (m.activity actor) deed.next may shows.all_actors;
       activities = λ other its. ap (λ (l : List Activity). slice_get l (other - 1)) (of_core (λ s. s.activities)) ∙ stand_then c.activities m.activity actor (m.activity actor) deed.next may shows.all_actors shows.activities other its;
       nobody_else = nobody_new;

@@ -16,7 +16,7 @@ use Rattle.hb_store.specs.States.{StoreState}
 use Rattle.hb_core.specs.declared.outcomes.Outcome.{Outcome}
 use Rattle.hb_core.specs.declared.outcomes.Outcome.TheVariants as outcomes
 use Rattle.hb_core.specs.GivingUp.{runs_out}
-use Rattle.hb_core.specs.Moving.{DoesDeed, Stands, joins_order, number_of, numbers_joined, placed, placed_at, pushed, said, with_jobs, with_order, with_standing}
+use Rattle.hb_core.specs.Moving.{DoesDeed, StandsNow, joins_order, number_of, numbers_joined, placed, placed_at, pushed, said, with_jobs, with_order, with_standing}
 use Rattle.hb_core.specs.Performing.{MayDo, Relatches, latches_held, outcome_of}
 use Rattle.hb_core.specs.Showing.{RunningCore, number_in_hand}
 use Rattle.hb_core.specs.Working.{IsWorking}
@@ -77,7 +77,7 @@ said_so (HasJob job) (fates.Answers given) = refl
 pub performed : (actor place : ℕ) (line joins : Option ℕ) (next : Next) (stands_as : Activity) (outcome : Outcome) (old done queued stood new : RunningCore) (state : Activity)
     → line ≡ number_of (hand_of state) → place ≡ length old.order → stands_as ≡ placed_at place next.then → joins ≡ joins_order line next.then next.fate → outcome ≡ said line next.fate
     → MayDo next.op place old.store done.store → done ≡ record old { store = done.store } → AddsJobs next.jobs.items done.jobs queued.jobs → queued ≡ with_jobs queued.jobs done
-    → Stands actor stands_as queued stood → new ≡ with_order (stood.order ++ pushed joins) stood
+    → StandsNow actor stands_as queued stood → new ≡ with_order (stood.order ++ pushed joins) stood
     → DoesDeed actor (placed (length old.order) (deed_of state next)) outcome old new
 performed actor place line joins next stands_as outcome old done queued stood new state hand at_end is_next is_joined is_said does kept adds queued_so stands joined =
     let deed : Deed = placed (length old.order) (deed_of state next) in
@@ -100,14 +100,14 @@ performed actor place line joins next stands_as outcome old done queued stood ne
 
 -- an actor that stands elsewhere, and does nothing else
 pub just_stands : (actor : ℕ) (deed : Deed) (outcome : Outcome) (old new : RunningCore) → outcome ≡ outcome_of deed.says → LeavesBy deed.takes old.jobs old.jobs → AddsJobs deed.adds old.jobs old.jobs
-    → MayDo deed.op (length old.order) old.store old.store → [] ≡ numbers_joined deed.joins → Stands actor deed.next old new → DoesDeed actor deed outcome old new
+    → MayDo deed.op (length old.order) old.store old.store → [] ≡ numbers_joined deed.joins → StandsNow actor deed.next old new → DoesDeed actor deed outcome old new
 just_stands actor deed outcome old new says takes adds does joins stands =
     let order : old.order ≡ old.order ++ numbers_joined deed.joins = sym (append-nil old.order) ∙ ap (λ (l : List ℕ). old.order ++ l) joins in
     does_deed actor deed outcome old new old.store old.jobs old.jobs new.latches says takes adds does stands.latches
     (stands.rest ∙ ap (λ (l : List ℕ). record (with_standing actor deed.next old) { latches = new.latches; order = l }) order)
 
 -- the oldest job is taken
-pub took_job : (actor : ℕ) (job : Job) (next : Activity) (old left new : RunningCore) → LeavesFirst job.kind old.jobs job left.jobs → left ≡ with_jobs left.jobs old → Stands actor next left new
+pub took_job : (actor : ℕ) (job : Job) (next : Activity) (old left new : RunningCore) → LeavesFirst job.kind old.jobs job left.jobs → left ≡ with_jobs left.jobs old → StandsNow actor next left new
     → DoesDeed actor (takes_job next job) outcomes.Moved old new
 took_job actor job next old left new takes left_so stands =
     let rest : new ≡ record (with_standing actor next old) { latches = new.latches; jobs = left.jobs } =
@@ -129,14 +129,14 @@ in_hand other works = absurd works
 
 -- the log has no room for a line, or for a job
 pub line_ran_out : (actor : ℕ) (state idle : Activity) (number : ℕ) (old new : RunningCore) → IsWorking state → class_of state ≡ class_for actor → Some number ≡ number_in_hand state → idle ≡ idle_of (class_for actor)
-    → Stands actor idle old new → DoesDeed actor (runs_out state) (outcomes.Answered number replies.Full) old new
+    → StandsNow actor idle old new → DoesDeed actor (runs_out state) (outcomes.Answered number replies.Full) old new
 line_ran_out actor state idle number old new works class is idle_is stands =
     run_out_is (λ (deed : Deed). DoesDeed actor deed (outcomes.Answered number replies.Full) old new) state
     (λ line hand.
     let same : number ≡ line.number = same_Some number line.number (is ∙ in_hand state works ∙ ap number_of hand) in
     let stood : idle ≡ at.SessionIdle = idle_is ∙ ap idle_of (sym class ∙ line_is_sessions state line hand) in
     just_stands actor (answers_now line.number replies.Full) (outcomes.Answered number replies.Full) old new (ap (λ (n : ℕ). outcomes.Answered n replies.Full) same) refl refl refl refl
-    (subst (λ (a : Activity). Stands actor a old new) stood stands))
+    (subst (λ (a : Activity). StandsNow actor a old new) stood stands))
     (λ job hand. absurd (none_there number (is ∙ in_hand state works ∙ ap number_of hand)))
     (λ hand. absurd (none_there number (is ∙ in_hand state works ∙ ap number_of hand)))
   where
@@ -144,7 +144,7 @@ line_ran_out actor state idle number old new works class is idle_is stands =
     none_there n e = cc
 
 pub job_ran_out : (actor : ℕ) (state idle : Activity) (old new : RunningCore) → IsWorking state → class_of state ≡ class_for actor → None ≡ number_in_hand state → idle ≡ idle_of (class_for actor)
-    → Stands actor idle old new → DoesDeed actor (runs_out state) outcomes.Moved old new
+    → StandsNow actor idle old new → DoesDeed actor (runs_out state) outcomes.Moved old new
 job_ran_out actor state idle old new works class is idle_is stands =
     run_out_is (λ (deed : Deed). DoesDeed actor deed outcomes.Moved old new) state
     (λ line hand. absurd (none_there line.number (is ∙ in_hand state works ∙ ap number_of hand)))
@@ -156,4 +156,4 @@ job_ran_out actor state idle old new works class is idle_is stands =
 
     stood : DoesDeed actor (moves_to (idle_of (class_of state)) []) outcomes.Moved old new
     stood = just_stands actor (moves_to (idle_of (class_of state)) []) outcomes.Moved old new refl refl refl refl refl
-        (subst (λ (a : Activity). Stands actor a old new) (idle_is ∙ ap idle_of (sym class)) stands)
+        (subst (λ (a : Activity). StandsNow actor a old new) (idle_is ∙ ap idle_of (sym class)) stands)

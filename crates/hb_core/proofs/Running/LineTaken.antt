@@ -34,7 +34,7 @@ use Rattle.hb_core.specs.Performing.{MayDo, Performs, Relatches}
 use Rattle.hb_core.specs.Showing.{HasTurn, RunningCore, ShowsMachine, number_in_hand}
 use Rattle.hb_core.specs.Steps.{StepsAs, TakesPosting}
 use Rattle.hb_core.specs.Taking.{TakesLine, TakesNextLine, TakesNextPosting}
-use Rattle.hb_core.specs.Working.{MayStep, with_pages}
+use Rattle.hb_core.specs.Working.{MayStep, with_memory}
 use Rattle.hb_core.proofs.Orders.NextLines.{next_is}
 use Rattle.hb_core.proofs.Running.DeedShows.{deed_shows}
 use Rattle.hb_core.proofs.Running.LinesAhead.{next_ahead, none_ahead, turn_with}
@@ -194,7 +194,7 @@ module _ (d : DiskModel) (c after : RunningCore) (m : Machine) (actor behind : �
 pub own_store : (m : Machine) (st : StoreState) → m.store ≡ st → with_disk st m.files m.clock m ≡ m
 own_store m st same = ap (λ (s : StoreState). with_disk s m.files m.clock m) (sym same)
 
-pub shows_pages : (d : DiskModel) (c : RunningCore) (m : Machine) (actor : ℕ) → MayLatch actor → ShowsMachine d c m → ShowsMachine d (with_standing actor (m.activity actor) c) (with_pages c m)
+pub shows_pages : (d : DiskModel) (c : RunningCore) (m : Machine) (actor : ℕ) → MayLatch actor → ShowsMachine d c m → ShowsMachine d (with_standing actor (m.activity actor) c) (with_memory c m)
 shows_pages d c m actor may shows = subst (λ (n : Machine). ShowsMachine d (with_standing actor (m.activity actor) c) n) (sym (own_store m c.store shows.store)) (shows_but d c m actor may shows)
 
 -- what does nothing to the file keeps its files

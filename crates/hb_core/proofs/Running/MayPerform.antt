@@ -35,7 +35,7 @@ use Rattle.hb_core.specs.Moving.{MayCommit, MayStand, joins_order, number_of, pl
 use Rattle.hb_core.specs.Performing.{MayDo}
 use Rattle.hb_core.specs.Rows.{Row}
 use Rattle.hb_core.specs.Showing.{RunningCore}
-use Rattle.hb_core.specs.Working.{HasPages, with_pages}
+use Rattle.hb_core.specs.Working.{HasPages, with_memory}
 
 -- a line joins the order in the code just where it does in the deed
 joined_alike : (then : Activity) (fate : Fate) (hand : Hand) → IsSome (joins_order (number_of hand) then fate) → IsSome (joined_by hand then fate)
@@ -47,7 +47,7 @@ joined_alike (at.SessionAwait number reply place) (fates.Answers said) hand join
 joined_alike then fate hand joins = absurd (false≢true joins)
 
 module _ (d : DiskModel) (c : RunningCore) (m : Machine) (actor : ℕ) (free : Option (ℕ × ℕ)) (may : MayLatch actor) (has : HasPages m actor free d c) (next : Next)
-    (row : Row (m.activity actor) (wanted_by m actor) (with_pages c m) (placed (length m.order) (deed_of (m.activity actor) next))) where
+    (row : Row (m.activity actor) (wanted_by m actor) (with_memory c m) (placed (length m.order) (deed_of (m.activity actor) next))) where
   abbrev deed : Deed
   deed = placed (length m.order) (deed_of (m.activity actor) next)
 
@@ -93,4 +93,4 @@ module _ (d : DiskModel) (c : RunningCore) (m : Machine) (actor : ℕ) (free : O
       by id (inl wanted) = inl wanted
       by id (inr (given, head)) =
           let number = some_value free given in
-          inr (takes_what_it_needs (with_pages c m) (m.activity actor) (wanted_by m actor) deed (at_number d c m actor free may has number.0 number.1).0 row, head)
+          inr (takes_what_it_needs (with_memory c m) (m.activity actor) (wanted_by m actor) deed (at_number d c m actor free may has number.0 number.1).0 row, head)

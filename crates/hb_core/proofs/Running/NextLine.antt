@@ -12,7 +12,7 @@ use Rattle.hb_space.specs.declared.records.Record.{Record}
 use Rattle.hb_set.specs.declared.scripts.Line.{Line}
 use Rattle.hb_activity.specs.declared.activities.Activity.{Activity}
 use Rattle.hb_activity.specs.declared.activities.Activity.TheVariants as at
-use Rattle.hb_core.specs.Moving.{Stands, with_standing}
+use Rattle.hb_core.specs.Moving.{StandsNow, with_standing}
 use Rattle.hb_core.specs.Performing.{Relatches}
 use Rattle.hb_core.specs.Showing.{RunningCore}
 use Rattle.hb_core.specs.Taking.{TakesLine}
@@ -55,7 +55,7 @@ none_left actor session behind behinds lines shown same there is none =
 -- the lines before the first one aren't the session's, and it is
 takes_first : (actor behind place : ℕ) (line d : Line) (rest : List Area) (found : List Record) (old middle new : RunningCore) → position (is_of actor) (drop behind old.lines) ≡ Some place
     → line ≡ get_or old.lines (behind + place) d → rest ≡ [] → found ≡ [] → middle ≡ record old { behind = slice_set old.behind (actor - 1) (behind + place + 1) }
-    → Stands actor (at.SessionWalk line None rest found) middle new → TakesLine actor behind place line old new
+    → StandsNow actor (at.SessionWalk line None rest found) middle new → TakesLine actor behind place line old new
 takes_first actor behind place line d rest found old middle new first is no_box no_record gone stands =
     let lines : List Line = drop behind old.lines in
     let at_first = position-Some (is_of actor) lines place d first in
@@ -81,7 +81,7 @@ pub takes_line : (actor session behind place : ℕ) (line d : Line) (shown again
     → Some place ≡ position (is_of actor) (rest_from (slice_index_or old.behind (session - 1) 0) shown)
     → line ≡ slice_index_or again (slice_index_or old.behind (session - 1) 0 + place) d → rest ≡ [] → found ≡ []
     → middle ≡ record old { behind = slice_set old.behind (actor - 1) (slice_index_or old.behind (session - 1) 0 + place + 1) }
-    → Stands actor (at.SessionWalk line None rest found) middle new → TakesLine actor behind place line old new
+    → StandsNow actor (at.SessionWalk line None rest found) middle new → TakesLine actor behind place line old new
 takes_line actor session behind place line d shown again rest found old middle new same there is is_again first line_is no_box no_record gone stands =
     let from = behind_is actor session behind old.behind same there in
     takes_first actor behind place line d rest found old middle new

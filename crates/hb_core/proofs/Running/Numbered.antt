@@ -40,7 +40,7 @@ use Rattle.hb_core.specs.Machines.{Machine, live_here, next_of, next_of_chain, s
 use Rattle.hb_core.specs.Rows.{IsAtHand}
 use Rattle.hb_core.specs.Showing.{RunningCore, ShowsMachine}
 use Rattle.hb_core.specs.Stopping.{halt_of}
-use Rattle.hb_core.specs.Working.{HasCome, HasPages, Halts, IsHalt, IsWorking, with_pages}
+use Rattle.hb_core.specs.Working.{HasCome, HasPages, Halts, IsHalt, IsWorking, with_memory}
 
 -- ---- the number that the store gives is the one of the machine
 
@@ -111,7 +111,7 @@ needs_room now (at.PosterAgain job parent) (Some wanted) (room, child, hand, pla
 needs_room now activity wanted needs = absurd needs
 
 -- no number is given where none is needed
-pub none_given : (m : Machine) (d : DiskModel) (c : RunningCore) (actor : ℕ) → HasCome m actor d c → ¬ (NeedsNumber (m.activity actor) (wanted_by m actor) (with_pages c m)) → HasPages m actor None d c
+pub none_given : (m : Machine) (d : DiskModel) (c : RunningCore) (actor : ℕ) → HasCome m actor d c → ¬ (NeedsNumber (m.activity actor) (wanted_by m actor) (with_memory c m)) → HasPages m actor None d c
 none_given m d c actor come not = record {
   may = come.may;
   brings = brings_wider m (IsWantedPage (wanted_by m actor)) _ c.store (λ id is. inl is) come.brings;
@@ -120,10 +120,10 @@ none_given m d c actor come not = record {
   number = not;
 }
 
-module _ (m : Machine) (d : DiskModel) (c : RunningCore) (actor : ℕ) (latches : MayLatch actor) (come : HasCome m actor d c) (needs : NeedsNumber (m.activity actor) (wanted_by m actor) (with_pages c m))
+module _ (m : Machine) (d : DiskModel) (c : RunningCore) (actor : ℕ) (latches : MayLatch actor) (come : HasCome m actor d c) (needs : NeedsNumber (m.activity actor) (wanted_by m actor) (with_memory c m))
     (e : DiskModel) (failed : Type 0) (st : StoreState) (looks : LooksUp failed d e c.store st) (memory : IsMemory st) (came : MayFetch c.store.meta.free c.store st) where
   abbrev now : Machine
-  now = with_pages c m
+  now = with_memory c m
 
   abbrev then : Machine
   then = with_disk st m.files m.clock m

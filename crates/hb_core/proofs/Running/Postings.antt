@@ -37,7 +37,7 @@ use Rattle.hb_core.specs.Machines.{Machine, live_here, sight}
 use Rattle.hb_core.specs.Moving.{StandsAs}
 use Rattle.hb_core.specs.Rows.{IsAtHand}
 use Rattle.hb_core.specs.Showing.{RunningCore}
-use Rattle.hb_core.specs.Working.{HasCome, with_pages}
+use Rattle.hb_core.specs.Working.{HasCome, with_memory}
 
 -- the poster makes a page: for a level, or to split a parent
 abbrev pub MayMakeToPost : Activity → Type 0
@@ -47,7 +47,7 @@ MayMakeToPost other = ⊥
 
 module _ (m : Machine) (d : DiskModel) (c : RunningCore) (actor : ℕ) (latches : MayLatch actor) (come : HasCome m actor d c) where
   abbrev now : Machine
-  now = with_pages c m
+  now = with_memory c m
 
   any : Brings m AnyPage c.store
   any = brings_wider m (IsWantedPage (wanted_by m actor)) AnyPage c.store (λ id is. tt) come.brings
@@ -159,7 +159,7 @@ makes_to_post activity (inr (job, parent, is)) = subst MayMakeToPost (sym is) tt
 module _ (m : Machine) (d : DiskModel) (c : RunningCore) (actor : ℕ) (latches : MayLatch actor) (come : HasCome m actor d c) (activity : Activity) (stands : StandsAs c actor activity) (may : MayMakeToPost activity)
     (wanted : Option Wanted) (wants : wanted ≡ wanted_by m actor) (id : ℕ) (number : id ≡ number_of_row activity wanted) where
   stands_so : m.activity actor ≡ activity
-  stands_so = stands_as d c (with_pages c m) actor activity latches come.shows stands
+  stands_so = stands_as d c (with_memory c m) actor activity latches come.shows stands
 
   same_page : live_here c.store (number_of_row activity (wanted_by m actor)) ≡ live_here c.store id
   same_page = ap (λ (o : Option Wanted). live_here c.store (number_of_row activity o)) (sym wants) ∙ ap (live_here c.store) (sym number)
@@ -176,7 +176,7 @@ module _ (m : Machine) (d : DiskModel) (c : RunningCore) (actor : ℕ) (latches 
         subst (λ (x : Meta). MayBeAsked activity x page other) (sym meta_is)
         (subst (λ (o : Option LivePage). MayBeAsked activity c.store.meta page o) (sym other_is) (asked_at m d c actor latches come activity stands_so may page (same_page ∙ sym live)))
 
-    pub needed_here : (b : Bool) → IsTrue b ↔ ((meta.live < meta.pages) × MakesPage activity meta page other) → IsTrue b ↔ NeedsNumber (m.activity actor) (wanted_by m actor) (with_pages c m)
+    pub needed_here : (b : Bool) → IsTrue b ↔ ((meta.live < meta.pages) × MakesPage activity meta page other) → IsTrue b ↔ NeedsNumber (m.activity actor) (wanted_by m actor) (with_memory c m)
     needed_here b says = number_needed m d c actor latches come activity stands_so may page (same_page ∙ sym live) b
         (subst (λ (o : Option LivePage). IsTrue b ↔ ((c.store.meta.live < c.store.meta.pages) × MakesPage activity c.store.meta page o)) other_is
         (subst (λ (x : Meta). IsTrue b ↔ ((x.live < x.pages) × MakesPage activity x page other)) meta_is says))

@@ -26,7 +26,7 @@ use Rattle.hb_core.specs.Machines.{Machine, next_of}
 use Rattle.hb_core.specs.Moving.{DoesDeed, KeepsFilesBy, placed, with_standing}
 use Rattle.hb_core.specs.Rows.{Row}
 use Rattle.hb_core.specs.Showing.{RunningCore, ShowsMachine}
-use Rattle.hb_core.specs.Working.{Halts, HasPages, IsWorking, ShowsBut, with_pages}
+use Rattle.hb_core.specs.Working.{Halts, HasPages, IsWorking, ShowsBut, with_memory}
 use Rattle.hb_core.proofs.Running.Brought.{brings_wider}
 use Rattle.hb_core.proofs.Running.MayPerform.{brings_as_row}
 use Rattle.hb_core.proofs.Running.DeedShows.{deed_shows}
@@ -75,17 +75,17 @@ module _ (d : DiskModel) (c : RunningCore) (m : Machine) (actor : ℕ) (free : O
   idled = with_standing actor (idle_of (class_for actor)) c
 
   abbrev pub IsRow : Deed → Type 0
-  IsRow deed = Row (m.activity actor) (wanted_by m actor) (with_pages c m) deed
+  IsRow deed = Row (m.activity actor) (wanted_by m actor) (with_memory c m) deed
 
-  shows_idled : ShowsBut d idled actor (with_pages idled m)
-  shows_idled = subst (λ (l : List Activity). ShowsMachine d (record c { activities = l }) (with_pages c m))
-      (sym (set_twice c.activities (actor - 1) (idle_of (class_for actor)) (m.activity actor))) (shows_but d c (with_pages c m) actor may pages.shows)
+  shows_idled : ShowsBut d idled actor (with_memory idled m)
+  shows_idled = subst (λ (l : List Activity). ShowsMachine d (record c { activities = l }) (with_memory c m))
+      (sym (set_twice c.activities (actor - 1) (idle_of (class_for actor)) (m.activity actor))) (shows_but d c (with_memory c m) actor may pages.shows)
 
   pub same_length : length c.order ≡ length m.order
-  same_length = sym (shown_length d c (with_pages c m) pages.shows)
+  same_length = sym (shown_length d c (with_memory c m) pages.shows)
 
   abbrev Needs : Type 0
-  Needs = NeedsNumber (m.activity actor) (wanted_by m actor) (with_pages c m)
+  Needs = NeedsNumber (m.activity actor) (wanted_by m actor) (with_memory c m)
 
   needs : IsSome free → Needs
   needs = needed Needs (λ next. next_of c.store ≡ Some next) free pages.number
@@ -115,4 +115,4 @@ module _ (d : DiskModel) (c : RunningCore) (m : Machine) (actor : ℕ) (free : O
 
     -- or memory is refused to its operation
     pub op_refused : IsSome next.op → Halts m actor (GivesUp drops.NoMemory) d idled
-    op_refused some = row_refused (deed, row, takes_memory (with_pages c m) (m.activity actor) (wanted_by m actor) deed pages.may.working row some)
+    op_refused some = row_refused (deed, row, takes_memory (with_memory c m) (m.activity actor) (wanted_by m actor) deed pages.may.working row some)

@@ -24,7 +24,7 @@ use Rattle.hb_core.specs.Moving.{DoesDeed, KeepsFilesBy, MayCommit, MayStand, jo
 use Rattle.hb_core.specs.Performing.{MayDo}
 use Rattle.hb_core.specs.Rows.{Row}
 use Rattle.hb_core.specs.Showing.{RunningCore, ShowsMachine}
-use Rattle.hb_core.specs.Working.{Halts, HasPages, with_pages}
+use Rattle.hb_core.specs.Working.{Halts, HasPages, with_memory}
 use Rattle.hb_core.proofs.Running.MayPerform.{has_room, may_commit_then, stands_after}
 use Rattle.hb_core.proofs.Running.RowsDone.{IsRow, op_refused, row_done, row_refused, same_length}
 
@@ -52,7 +52,7 @@ module _ {D : Type 0} (model : D → DiskModel) (x y : D) (c between : RunningCo
       let all : length m.lines ≡ length c.lines = ap (λ (l : List Line). length l) pages.shows.lines in
       subst (λ (s : RunningCore). length s.order < 2 ^ 32) (sym rest) (omega (arith, here, long, all, pages.may.goes_on.kept.order_short.few))
 
-  module _ (next : Next) (row : Row (m.activity actor) (wanted_by m actor) (with_pages c m) (placed (length m.order) (deed_of (m.activity actor) next))) where
+  module _ (next : Next) (row : Row (m.activity actor) (wanted_by m actor) (with_memory c m) (placed (length m.order) (deed_of (m.activity actor) next))) where
     pub row_may_commit : RowsMayBeDone → OneDurable (model y) between.store → OneLater (model y) between.store → IfSome next.op (MayCommit (model y) between)
     row_may_commit done one_durable one_later = subst (λ (k : D). IfSome next.op (MayCommit (model k) between)) (sym same)
         (subst (λ (s : RunningCore). IfSome next.op (MayCommit (model x) s)) (sym rest)

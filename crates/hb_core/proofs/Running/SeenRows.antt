@@ -18,7 +18,7 @@ use Rattle.hb_poster.specs.PosterRows.{PosterRow}
 use Rattle.hb_store.specs.States.{StoreState}
 use Rattle.std.proofs.lemmas.Option.{same_Some}
 use Rattle.hb_core.proofs.Running.LiftedRows.{IsSeenIn, lifted_point, lifted_poster}
-use Rattle.hb_core.specs.Looking.{AsksPoint, AsksPoster, HasPointRow, HasPosterRow, WantsMemory, other_number, other_page, sight_in}
+use Rattle.hb_core.specs.Looking.{AsksPoint, AsksPoster, HasPointRow, HasPosterRow, IsStarved, other_number, other_page, sight_in}
 use Rattle.hb_core.specs.Machines.{live_here, next_of}
 use Rattle.hb_core.specs.Moving.{placed}
 
@@ -105,6 +105,6 @@ module _ (st : StoreState) (activity : Activity) (n : ℕ) (free : Option (ℕ �
         (lifted_poster (given_sight meta (given_pages activity id page first) free) (sight_in st place) (shown asks.next place) activity id page deed row),
   )
 
-  pub poster_wants_memory : AsksMemory activity meta page first free → WantsMemory st activity n free
+  pub poster_wants_memory : AsksMemory activity meta page first free → IsStarved st activity n free
   poster_wants_memory asks =
       (page, live_there, subst (λ (o : Option LivePage). AsksMemory activity st.meta page o free) other (subst (λ (m : Meta). AsksMemory activity m page first free) is_meta asks))

@@ -30,12 +30,12 @@ use Rattle.hb_core.specs.AllowedLaws.{AnyPage}
 use Rattle.hb_core.specs.Acting.{TakesMemory}
 use Rattle.hb_core.specs.Asking.{wanted_by}
 use Rattle.hb_core.specs.KeptMachine.{MachineKeeps}
-use Rattle.hb_core.specs.Looking.{WantsMemory, number_of_row, other_page}
+use Rattle.hb_core.specs.Looking.{IsStarved, number_of_row, other_page}
 use Rattle.hb_core.specs.Machines.{Machine, live_here, sight}
 use Rattle.hb_core.specs.Moving.{StandsAs}
 use Rattle.hb_core.specs.Rows.{Row}
 use Rattle.hb_core.specs.Showing.{RunningCore}
-use Rattle.hb_core.specs.Working.{HasPages, with_pages}
+use Rattle.hb_core.specs.Working.{HasPages, with_memory}
 
 module _ (d : DiskModel) (c : RunningCore) (m : Machine) (actor : ℕ) (free : Option (ℕ × ℕ)) (may : MayLatch actor) (has : HasPages m actor free d c) where
   keeps : MachineKeeps m
@@ -45,10 +45,10 @@ module _ (d : DiskModel) (c : RunningCore) (m : Machine) (actor : ℕ) (free : O
   pages_kept = brought m AnyPage c.store (brings d c m actor free may has) (keeps_pages m keeps.meta_within_limits keeps.pages_of_file)
 
   abbrev Takes : Activity → Type 0
-  Takes activity = (deed : Deed) × Row activity (wanted_by m actor) (with_pages c m) deed × TakesMemory activity deed
+  Takes activity = (deed : Deed) × Row activity (wanted_by m actor) (with_memory c m) deed × TakesMemory activity deed
 
   -- a page that weighs enough has a part that may leave it to the number that is given
-  part_leaves : (id : ℕ) (page : LivePage) (number : ℕ × ℕ) → live_here c.store id ≡ Some page → 6 ≤ weight_of page.frag → c.store.meta.live < c.store.meta.pages → free ≡ Some number → PartLeavesTo (sight (with_pages c m)) (IsChosen page) page
+  part_leaves : (id : ℕ) (page : LivePage) (number : ℕ × ℕ) → live_here c.store id ≡ Some page → 6 ≤ weight_of page.frag → c.store.meta.live < c.store.meta.pages → free ≡ Some number → PartLeavesTo (sight (with_memory c m)) (IsChosen page) page
   part_leaves id page number live full lt is =
       let choice = a_part_is_chosen page (made d c m actor free may has id page live).in_order full in
       record {
@@ -65,11 +65,11 @@ module _ (d : DiskModel) (c : RunningCore) (m : Machine) (actor : ℕ) (free : O
 
   -- ---- a session that splits
 
-  split_done : (line : Line) (held : ℕ) (page : LivePage) → m.activity actor ≡ at.SessionSplit line held → live_here c.store held ≡ Some page → PartLeavesTo (sight (with_pages c m)) (IsChosen page) page → Takes (at.SessionSplit line held)
+  split_done : (line : Line) (held : ℕ) (page : LivePage) → m.activity actor ≡ at.SessionSplit line held → live_here c.store held ≡ Some page → PartLeavesTo (sight (with_memory c m)) (IsChosen page) page → Takes (at.SessionSplit line held)
   split_done line held page is live leaves =
       let deed = does (at.SessionPut line held leaves.fresh) (ops.Extract held leaves.fresh leaves.path leaves.cuts leaves.free_after) (record { kind = Post; level = 1; point = corner_of leaves } ∷ []) in
       let none = alone d c m actor free may has (at.SessionSplit line held) is refl in
-      (deed, subst (λ (w : Option Wanted). Row (at.SessionSplit line held) w (with_pages c m) deed) (sym none) (inr (record { page = page; live = live; leaves = leaves; deed_is = refl })), refl)
+      (deed, subst (λ (w : Option Wanted). Row (at.SessionSplit line held) w (with_memory c m) deed) (sym none) (inr (record { page = page; live = live; leaves = leaves; deed_is = refl })), refl)
 
   split_takes : (line : Line) (held : ℕ) → m.activity actor ≡ at.SessionSplit line held → (o : Option (ℕ × ℕ)) → free ≡ o → SplitsNow (at.SessionSplit line held) o → Takes (at.SessionSplit line held)
   split_takes line held is None none splits = absurd splits
@@ -121,10 +121,10 @@ module _ (d : DiskModel) (c : RunningCore) (m : Machine) (actor : ℕ) (free : O
   poster_takes (at.PosterAgain job parent) its (Some over) (Some number) is live given (inr lacks) = splits_parent job parent its over number is given live lacks
   poster_takes activity its first o is live given asks = absurd asks
 
-  pub poster_starved : (activity : Activity) (wanted : Option Wanted) (st : StoreState) → StandsAs c actor activity → wanted ≡ wanted_by m actor → st ≡ c.store → actor ≡ 17 → WantsMemory st activity (number_of_row activity wanted) free → Takes (m.activity actor)
+  pub poster_starved : (activity : Activity) (wanted : Option Wanted) (st : StoreState) → StandsAs c actor activity → wanted ≡ wanted_by m actor → st ≡ c.store → actor ≡ 17 → IsStarved st activity (number_of_row activity wanted) free → Takes (m.activity actor)
   poster_starved activity wanted st stood wants same poster asks =
       let is = stands d c m actor free may has activity stood in
       let its = has_wanted d c m actor free may has (poster_wants m actor may keeps activity is (posts d c m actor free may has activity is poster) (works d c m actor free may has activity is)) in
-      let here = subst (λ (w : Option Wanted). WantsMemory c.store activity (number_of_row activity w) free) (wants ∙ its.wants) (subst (λ (st : StoreState). WantsMemory st activity (number_of_row activity wanted) free) same asks) in
+      let here = subst (λ (w : Option Wanted). IsStarved c.store activity (number_of_row activity w) free) (wants ∙ its.wants) (subst (λ (st : StoreState). IsStarved st activity (number_of_row activity wanted) free) same asks) in
       let page : here.0 ≡ its.page = same_Some here.0 its.page (sym here.1 ∙ its.hand.live) in
       subst Takes (sym is) (poster_takes activity its (other_page c.store activity) free is refl refl (subst (λ (q : LivePage). AsksMemory activity c.store.meta q (other_page c.store activity) free) page here.2))

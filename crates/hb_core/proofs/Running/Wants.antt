@@ -15,7 +15,7 @@ use Rattle.hb_core.specs.Machines.{Machine}
 use Rattle.hb_core.specs.Moving.{StandsAs}
 use Rattle.hb_core.specs.Showing.{RunningCore, ShowsMachine}
 use Rattle.hb_core.specs.Steps.{may_change_file}
-use Rattle.hb_core.specs.Working.{with_pages}
+use Rattle.hb_core.specs.Working.{with_memory}
 
 -- ---- before pages came
 
@@ -40,18 +40,18 @@ module _ (d : DiskModel) (c : RunningCore) (m : Machine) (actor : ℕ) (latches 
 
 -- ---- once pages came
 
-module _ (d : DiskModel) (c : RunningCore) (m : Machine) (actor : ℕ) (latches : MayLatch actor) (keeps : MachineKeeps m) (needs : ℕ → Type 0) (brings : Brings m needs c.store) (shows : ShowsMachine d c (with_pages c m)) where
+module _ (d : DiskModel) (c : RunningCore) (m : Machine) (actor : ℕ) (latches : MayLatch actor) (keeps : MachineKeeps m) (needs : ℕ → Type 0) (brings : Brings m needs c.store) (shows : ShowsMachine d c (with_memory c m)) where
   pub looks_then : (activity : Activity) → StandsAs c actor activity → MayLook c.store activity
-  looks_then activity stands = subst (MayLook c.store) (stands_as d c (with_pages c m) actor activity latches shows stands) (may_look m actor latches keeps needs c.store brings)
+  looks_then activity stands = subst (MayLook c.store) (stands_as d c (with_memory c m) actor activity latches shows stands) (may_look m actor latches keeps needs c.store brings)
 
   pub wants_then : (activity : Activity) → StandsAs c actor activity → wanted_in c.store activity ≡ wanted_by m actor
   wants_then activity stands =
-      ap (wanted_in c.store) (sym (stands_as d c (with_pages c m) actor activity latches shows stands))
+      ap (wanted_in c.store) (sym (stands_as d c (with_memory c m) actor activity latches shows stands))
       ∙ wants_same m actor latches keeps needs c.store brings
 
 -- two machines that a core shows with the pages that came want the same
 pub want_alike : (d : DiskModel) (c : RunningCore) (m n : Machine) (actor : ℕ) → MayLatch actor → MachineKeeps m → MachineKeeps n → (needs might : ℕ → Type 0)
-    → Brings m needs c.store → Brings n might c.store → ShowsMachine d c (with_pages c m) → ShowsMachine d c (with_pages c n) → wanted_by m actor ≡ wanted_by n actor
+    → Brings m needs c.store → Brings n might c.store → ShowsMachine d c (with_memory c m) → ShowsMachine d c (with_memory c n) → wanted_by m actor ≡ wanted_by n actor
 want_alike d c m n actor latches keeps its needs might brings other shows also =
     let stands = shows.activities actor latches in
     sym (wants_then d c m actor latches keeps needs brings shows (m.activity actor) stands) ∙ wants_then d c n actor latches its might other also (m.activity actor) stands

@@ -24,7 +24,7 @@ use Rattle.hb_core.specs.Machines.{Machine, stopped_for}
 use Rattle.hb_core.specs.Moving.{DoesDeed, StandsAs, number_of, with_stop}
 use Rattle.hb_core.specs.Showing.{RunningCore, ShowsMachine, number_in_hand}
 use Rattle.hb_core.specs.Steps.{IsUnready, Works}
-use Rattle.hb_core.specs.Working.{Halts, IsWorking, MayStep, MayWork, with_pages}
+use Rattle.hb_core.specs.Working.{Halts, IsWorking, MayStep, MayWork, with_memory}
 use Rattle.hb_core.proofs.Running.DeedShows.{deed_shows}
 use Rattle.hb_core.proofs.Running.ForcedShows.{shown_stopped}
 use Rattle.hb_core.proofs.Running.LineTaken.{keeps_none}
@@ -114,9 +114,9 @@ module _ {D : Type 0} (model : D → DiskModel) (x y : D) (c after : RunningCore
   stopped WriteFault before outcome halts stood intact says stops = absurd halts.cause
   stopped (Damaged page why) before outcome halts stood intact says stops =
       let so : slice_set c.activities (actor - 1) (m.activity actor) ≡ c.activities = set_as_it_was c.activities (actor - 1) (m.activity actor) (ap (λ (l : List Activity). slice_get l (actor - 1)) intact ∙ stood) in
-      let shows : ShowsMachine (model x) c (with_pages c m) = subst (λ (l : List Activity). ShowsMachine (model x) (record c { activities = l }) (with_pages c m)) so halts.shows in
-      let new : Machine = stopped_for (Damaged page why) (with_pages c m) in (
+      let shows : ShowsMachine (model x) c (with_memory c m) = subst (λ (l : List Activity). ShowsMachine (model x) (record c { activities = l }) (with_memory c m)) so halts.shows in
+      let new : Machine = stopped_for (Damaged page why) (with_memory c m) in (
         new,
         inr (inr (work.free, work.ready, inr (inr (record { fetched = c.store; brings = halts.brings; page = page; why = why; bad = halts.cause; says = says; stops = refl })))),
-        subst (λ (k : D). ShowsMachine (model k) after new) (sym same) (subst (λ (s : RunningCore). ShowsMachine (model x) s new) (sym stops) (shown_stopped (Damaged page why) (model x) c (with_pages c m) shows)),
+        subst (λ (k : D). ShowsMachine (model k) after new) (sym same) (subst (λ (s : RunningCore). ShowsMachine (model x) s new) (sym stops) (shown_stopped (Damaged page why) (model x) c (with_memory c m) shows)),
       )
