@@ -81,10 +81,16 @@ module _ (axis : ℕ) (records : List Record) where
   with_one r rest (inl cuts) (inr (w, (may_w, first))) =
       let own = slice_index r.key axis in
       elim (either_first axis (heavier_count axis own records) own (heavier_count axis w records) w) [
-        | inl before ↦ inr (own, (cuts, λ v met may. elim (on_first r rest v met) [
-          | inl is ↦ subst (Before own) is (inr (refl, inr (refl, omega arith)))
-          | inr later ↦ first_of_three axis (heavier_count axis own records) own (heavier_count axis w records) w (heavier_count axis v records) v before (first v later may)
-        ]))
+        | inl before ↦ inr (
+          own,
+          (
+            cuts,
+            λ v met may. elim (on_first r rest v met) [
+              | inl is ↦ subst (Before own) is (inr (refl, inr (refl, omega arith)))
+              | inr later ↦ first_of_three axis (heavier_count axis own records) own (heavier_count axis w records) w (heavier_count axis v records) v before (first v later may)
+            ],
+          ),
+        )
         | inr before ↦ inr (w, (may_w, λ v met may. elim (on_first r rest v met) [ inl is ↦ subst (Before w) is before | inr later ↦ first v later may ]))
       ]
 
@@ -95,10 +101,13 @@ module _ (axis : ℕ) (records : List Record) where
   best_here : (best : Option Candidate) × BestOn axis records best
   best_here = elim (first_among records (λ v met. met)) [
     | inl none ↦ (None, λ v may. none v may.met may)
-    | inr (w, (may, first)) ↦ (Some (record {
+    | inr (w, (may, first)) ↦ (
+      Some (record {
         cut = record { axis = axis; value = w; side = heavier_side (count_on Left axis w records) (count_on Right axis w records) };
         count = heavier_count axis w records;
-      }), record { axis_of = refl; may = may; first = λ v other. first v other.met other; told = record { count = refl; side = refl } })
+      }),
+      record { axis_of = refl; may = may; first = λ v other. first v other.met other; told = record { count = refl; side = refl } },
+    )
   ]
 
 -- ---- of all attributes
