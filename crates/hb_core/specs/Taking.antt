@@ -1,5 +1,5 @@
 -- How an idle actor of a core takes a line or a job, and a core that has taken no step.
-use Rattle.std.specs.Prelude.{◌≡◌, ◌≢◌, ◌⊎◌, ℕ, ◌-◌, ◌+◌, All, List, [], ◌∷◌, ◌++◌, take, drop, replicate, Some, None, is_some, if◌then◌else◌}
+use Rattle.std.specs.Prelude.{◌≡◌, ◌≢◌, ◌⊎◌, ℕ, ◌-◌, ◌+◌, All, List, [], ◌∷◌, ◌++◌, length, take, drop, replicate, Some, None, is_some, if◌then◌else◌}
 use Rattle.std.specs.List.{slice_get, slice_set}
 use Rattle.std.specs.FinMap as map
 use Rattle.hb_activity.specs.declared.activities.Activity.{Activity}
@@ -18,7 +18,7 @@ use Rattle.hb_core.specs.Moving.{DoesDeed, with_standing}
 use Rattle.hb_core.specs.Performing.{Relatches}
 use Rattle.hb_core.specs.Showing.{RunningCore}
 
--- A session takes its next line, none of which is a search, and walks from the root; or none is left.
+-- A session takes its next line, none of which is a search, and walks from the root; or none is left, and all lie behind it then.
 pub record TakesLine (actor : ℕ) (behind place : ℕ) (line : Line) (old new : RunningCore) : Type 0 where
   pub skipped : All (λ (l : Line). l.session ≢ actor) (take place (drop behind old.lines))
   pub there : slice_get (drop behind old.lines) place ≡ Some line
@@ -28,7 +28,7 @@ pub record TakesLine (actor : ℕ) (behind place : ℕ) (line : Line) (old new :
 
 abbrev pub TakesNextLine : ℕ → ℕ → Outcome → RunningCore → RunningCore → Type 0
 TakesNextLine actor behind outcome old new =
-    ((outcome ≡ outcomes.Idle) × (new ≡ old) × All (λ (l : Line). l.session ≢ actor) (drop behind old.lines))
+    ((outcome ≡ outcomes.Idle) × (new ≡ record old { behind = slice_set old.behind (actor - 1) (length old.lines) }) × All (λ (l : Line). l.session ≢ actor) (drop behind old.lines))
     ⊎ ((outcome ≡ outcomes.Moved) × (place : ℕ) × (line : Line) × TakesLine actor behind place line old new)
 
 -- The poster takes its oldest job; or none waits.

@@ -53,7 +53,8 @@ impl<D: Device> Core<D> {
         }
     }
 
-    /// The session takes its next line, where one is left.
+    /// The session takes its next line, where one is left. Where none is, all lines lie behind it from now on, so that no later
+    /// step looks through them again.
     fn take_line(&mut self, actor: Actor) -> Outcome
         requires actor { MayLatch actor }
         requires behind { (behind : ℕ) × (slice_get (core_seen self.old).behind (actor - 1) ≡ Some behind) × (behind ≤ length (core_seen self.old).lines) }
@@ -63,6 +64,8 @@ impl<D: Device> Core<D> {
         let session = usize::from(actor) - 1;
         let from = self.behind[session];
         let Some(place) = next_of(&self.script.lines.as_slice()[from..], actor) else {
+            let all = self.script.lines.as_slice().len();
+            self.go_behind(actor, all);
             return Outcome::Idle;
         };
         let line = copy_of_line(&self.script.lines.as_slice()[from + place]);

@@ -37,7 +37,7 @@ use Rattle.hb_core.specs.Taking.{TakesLine, TakesNextLine, TakesNextPosting}
 use Rattle.hb_core.specs.Working.{MayStep, with_memory}
 use Rattle.hb_core.proofs.Orders.NextLines.{next_is}
 use Rattle.hb_core.proofs.Running.DeedShows.{deed_shows}
-use Rattle.hb_core.proofs.Running.LinesAhead.{next_ahead, none_ahead, turn_with}
+use Rattle.hb_core.proofs.Running.LinesAhead.{next_ahead, none_ahead, turn_at_end, turn_with}
 use Rattle.hb_core.proofs.Running.NumbersInHand.{NumberFate, job_number}
 use Rattle.hb_core.proofs.Running.StandsElsewhere.{apart, at_set, beside_set, shows_but, stand_then}
 use Rattle.hb_core.proofs.Running.TurnsAfter.{TurnAt, has_turn, turn_at}
@@ -91,6 +91,47 @@ module _ (d : DiskModel) (c after : RunningCore) (m : Machine) (actor behind : �
   pub none_taken : All (λ (l : Line). l.session ≢ actor) (drop behind c.lines) → next_line actor m.answered m.lines ≡ None
   none_taken none = none_ahead m.lines m.answered actor behind turn (subst (λ (l : List Line). All (λ (l : Line). l.session ≢ actor) (drop behind l)) (sym step.shows.lines) none)
 
+  -- the turns of all, once so many lines lie behind this session
+  turns_with : (new : Machine) (k : ℕ) → HasTurn new actor k → ((other n : ℕ) → 1 ≤ other → other ≤ 16 → other ≢ actor → slice_get c.behind (other - 1) ≡ Some n → HasTurn new other n)
+      → (other n : ℕ) → 1 ≤ other → other ≤ 16 → slice_get (slice_set c.behind (actor - 1) k) (other - 1) ≡ Some n → HasTurn new other n
+  turns_with new k own others other n low high its = elim (cases_Bool (other == actor)) [
+    | inl here ↦
+        let same = eqb-true other actor here in
+        let at_own : slice_get (slice_set c.behind (actor - 1) k) (actor - 1) ≡ Some k = at_set c.behind (actor - 1) k (slice_get_within c.behind (actor - 1) behind there) in
+        let equal = same_Some k n (sym at_own ∙ ap (λ (o : ℕ). slice_get (slice_set c.behind (actor - 1) k) (o - 1)) (sym same) ∙ its) in
+        subst (λ (o : ℕ). HasTurn new o n) (sym same) (subst (λ (o : ℕ). HasTurn new actor o) equal own)
+    | inr off ↦
+        let differ = eqb-false other actor off in
+        others other n low high differ (sym (beside_set c.behind (actor - 1) (other - 1) k (apart actor other may (record { from_1 = low; to_19 = omega (arith, high) }) differ)) ∙ its)
+  ]
+
+  -- the same machine is shown where none was left, and all lie behind the session
+  abbrev at_end : RunningCore
+  at_end = record c { behind = slice_set c.behind (actor - 1) (length c.lines) }
+
+  module _ (none : All (λ (l : Line). l.session ≢ actor) (drop behind c.lines)) where
+    end_turn : HasTurn m actor (length c.lines)
+    end_turn = subst (λ (l : List Line). HasTurn m actor (length l)) step.shows.lines (has_turn m actor (length m.lines)
+        (subst (λ (o : Option ℕ). TurnAt m.lines m.answered o actor (length m.lines)) (sym (ap number_in_hand idle))
+        (turn_at_end m.lines m.answered actor behind turn (subst (λ (l : List Line). All (λ (l : Line). l.session ≢ actor) (drop behind l)) (sym step.shows.lines) none))))
+
+    shown_at_end : ShowsMachine d at_end m
+    shown_at_end = record {
+      lines = step.shows.lines;
+      sessions = length-set c.behind (actor - 1) (length c.lines) ∙ step.shows.sessions;
+      turns = turns_with m (length c.lines) end_turn (λ other n low high off is. step.shows.turns other n low high is);
+      all_actors = step.shows.all_actors;
+      activities = step.shows.activities;
+      nobody_else = step.shows.nobody_else;
+      latches = step.shows.latches;
+      jobs = step.shows.jobs;
+      order = step.shows.order;
+      stop = step.shows.stop;
+      store = step.shows.store;
+      tells = step.shows.tells;
+      silent = step.shows.silent;
+    }
+
   module _ (place : ℕ) (line : Line) (takes : TakesLine actor behind place line c after) where
     skipped : All (λ (l : Line). l.session ≢ actor) (take place (drop behind m.lines))
     skipped = subst (λ (l : List Line). All (λ (l : Line). l.session ≢ actor) (take place (drop behind l))) (sym step.shows.lines) takes.skipped
@@ -126,32 +167,19 @@ module _ (d : DiskModel) (c after : RunningCore) (m : Machine) (actor behind : �
     }
 
     -- the actor's turn has the line in hand, and the others have what they had
-    own_turn : (n : ℕ) → behind + place + 1 ≡ n → HasTurn (taken after m actor line) actor n
-    own_turn n is = has_turn (taken after m actor line) actor n
-        (subst (λ (o : Option ℕ). TurnAt m.lines m.answered o actor n) (sym (ap (λ (b : Bool). number_in_hand (cond b (at.SessionWalk line None [] []) (m.activity actor))) (eq-eqb actor actor refl)))
-        (subst (λ (k : ℕ). TurnAt m.lines m.answered (Some line.number) actor k) is (turn_with m.lines m.answered actor behind turn place line step.goes_on.kept.lines_in_sequence.rising skipped stands_there takes.own)))
+    own_turn : HasTurn (taken after m actor line) actor (behind + place + 1)
+    own_turn = has_turn (taken after m actor line) actor (behind + place + 1)
+        (subst (λ (o : Option ℕ). TurnAt m.lines m.answered o actor (behind + place + 1)) (sym (ap (λ (b : Bool). number_in_hand (cond b (at.SessionWalk line None [] []) (m.activity actor))) (eq-eqb actor actor refl)))
+        (turn_with m.lines m.answered actor behind turn place line step.goes_on.kept.lines_in_sequence.rising skipped stands_there takes.own))
 
     other_turn : (other n : ℕ) → 1 ≤ other → other ≤ 16 → other ≢ actor → slice_get c.behind (other - 1) ≡ Some n → HasTurn (taken after m actor line) other n
     other_turn other n low high off is = has_turn (taken after m actor line) other n
         (subst (λ (o : Option ℕ). TurnAt m.lines m.answered o other n) (sym (ap number_in_hand (at_other other actor (at.SessionWalk line None [] []) (m.activity other) off)))
         (turn_at m other n (step.shows.turns other n low high is)))
 
-    behind_then : (other n : ℕ) → slice_get after.behind (other - 1) ≡ Some n → slice_get (slice_set c.behind (actor - 1) (behind + place + 1)) (other - 1) ≡ Some n
-    behind_then other n is = ap (λ (l : List ℕ). slice_get l (other - 1)) (sym (of_core (λ s. s.behind))) ∙ is
-
     turns_then : (other n : ℕ) → 1 ≤ other → other ≤ 16 → slice_get after.behind (other - 1) ≡ Some n → HasTurn (taken after m actor line) other n
-    turns_then other n low high is = elim (cases_Bool (other == actor)) [
-      | inl here ↦
-          let same = eqb-true other actor here in
-          let its = behind_then other n is in
-          let own : slice_get (slice_set c.behind (actor - 1) (behind + place + 1)) (actor - 1) ≡ Some (behind + place + 1) = at_set c.behind (actor - 1) (behind + place + 1) (slice_get_within c.behind (actor - 1) behind there) in
-          subst (λ (k : ℕ). HasTurn (taken after m actor line) k n) (sym same)
-          (own_turn n (same_Some (behind + place + 1) n (sym own ∙ ap (λ (k : ℕ). slice_get (slice_set c.behind (actor - 1) (behind + place + 1)) (k - 1)) (sym same) ∙ its)))
-      | inr off ↦
-          let differ = eqb-false other actor off in
-          other_turn other n low high differ
-          (sym (beside_set c.behind (actor - 1) (other - 1) (behind + place + 1) (apart actor other may (record { from_1 = low; to_19 = omega (arith, high) }) differ)) ∙ behind_then other n is)
-    ]
+    turns_then other n low high is =
+        turns_with (taken after m actor line) (behind + place + 1) own_turn other_turn other n low high (ap (λ (l : List ℕ). slice_get l (other - 1)) (sym (of_core (λ s. s.behind))) ∙ is)
 
     shown : ShowsMachine d after (taken after m actor line)
     shown = record {
@@ -178,7 +206,7 @@ module _ (d : DiskModel) (c after : RunningCore) (m : Machine) (actor behind : �
       let next = none_taken none.2 in (
         m,
         subst (λ (o : Option Line). MatchOption o (StaysSo m outcomes.Idle outcome m) (λ line. Performs m m.store actor (taking line) outcome m ⊎ (WantsBoxes line.command × Performs m m.store actor (answers_now line.number replies.NoMemory) outcome m))) (sym next) (none.0, refl),
-        subst (λ (s : RunningCore). ShowsMachine d s m) (sym none.1) step.shows,
+        subst (λ (s : RunningCore). ShowsMachine d s m) (sym none.1) (shown_at_end none.2),
       )
   line_taken outcome (inr some) =
       let new = taken after m actor some.2 in (

@@ -1,7 +1,7 @@
 -- The next line of a session, and its turn once that is taken.
 use Rattle.std.proofs.Common.{◌≡◌, ◌≢◌, ◌⊎◌, inl, inr, ℕ, zero, suc, ◌<◌, ◌≤◌, ◌+◌, ◌==◌, ◌&&◌, not, Bool, true, false, cond, List, [], ◌∷◌, ◌++◌, length, take, drop, slice_get, All, Some, None, refl, sym, ap, ◌∙◌, subst, arith, length-append}
 use Rattle.std.proofs.lemmas.Bool.{eq-eqb, eqb-true, false≢true}
-use Rattle.std.proofs.lemmas.List.{append_assoc, drop_at, length-take-le, take-append-drop, take_at}
+use Rattle.std.proofs.lemmas.List.{append_assoc, drop_all, drop_at, length-take-le, take-append-drop, take_all, take_at}
 use Rattle.std.proofs.lemmas.List.Elements.{All-append, All-contains, All-head, All-tail, All-weaker}
 use Rattle.std.proofs.lemmas.Option.{slice_get_within}
 use Rattle.hb_lemmas.proofs.Lists.{All-alone, All-behind, each_member}
@@ -73,6 +73,16 @@ module _ (lines : List Line) (answered : List Answered) (session behind : ℕ) (
   none_ahead others = none_next session answered lines (subst (λ (l : List Line). All (IsPassed answered session) l) (take-append-drop behind lines)
       (All-append (IsPassed answered session) (take behind lines) (drop behind lines) front_passed
       (All-weaker (λ (l : Line). l.session ≢ session) (IsPassed answered session) (λ line other own. absurd (other own)) (drop behind lines) others)))
+
+  -- then all lines lie behind the session, and none is to come
+  pub turn_at_end : All (λ (l : Line). l.session ≢ session) (drop behind lines) → TurnAt lines answered None session (length lines)
+  turn_at_end others = record {
+    few = omega arith;
+    front = subst (λ (l : List Line). All (Dealt answered None session) l) (take-append-drop behind lines ∙ sym (take_all (length lines) lines (omega arith)))
+        (All-append (Dealt answered None session) (take behind lines) (drop behind lines) turn.front
+        (All-weaker (λ (l : Line). l.session ≢ session) (Dealt answered None session) (λ l other own. absurd (other own)) (drop behind lines) others));
+    back = subst (λ (l : List Line). All (ToCome answered None session) l) (sym (drop_all (length lines) lines (omega arith))) (λ k d lt. absurd (omega (arith, lt)));
+  }
 
   module _ (place : ℕ) (line : Line) (rising : AreRising lines) (skipped : All (λ (l : Line). l.session ≢ session) (take place (drop behind lines))) (there : slice_get (drop behind lines) place ≡ Some line) (own : line.session ≡ session) where
     abbrev over : List Line

@@ -52,6 +52,12 @@ none_left actor session behind behinds lines shown same there is none =
     let front = front_is actor session behind behinds lines shown same there is in
     none_among actor (drop behind lines) (sym (none ∙ ap (λ (l : List Line). position (is_of actor) l) front))
 
+-- then all lines lie behind the session
+pub goes_to_end : (actor count : ℕ) (shown : List Line) (old new : RunningCore) → shown ≡ old.lines → count ≡ length shown → new ≡ record old { behind = slice_set old.behind (actor - 1) count }
+    → new ≡ record old { behind = slice_set old.behind (actor - 1) (length old.lines) }
+goes_to_end actor count shown old new is long gone =
+    gone ∙ ap (λ (n : ℕ). record old { behind = slice_set old.behind (actor - 1) n }) (long ∙ ap (λ (l : List Line). length l) is)
+
 -- the lines before the first one aren't the session's, and it is
 takes_first : (actor behind place : ℕ) (line d : Line) (rest : List Area) (found : List Record) (old middle new : RunningCore) → position (is_of actor) (drop behind old.lines) ≡ Some place
     → line ≡ get_or old.lines (behind + place) d → rest ≡ [] → found ≡ [] → middle ≡ record old { behind = slice_set old.behind (actor - 1) (behind + place + 1) }
