@@ -1,13 +1,11 @@
 -- What the private calls of a core make of it, said of what it holds.
-use Rattle.std.specs.Prelude.{◌≡◌, ◌≢◌, ℕ, ◌-◌, ◌≤◌, All, AllPairs, List, [], ◌∷◌, ◌++◌, length, false, Option, Some, None, IsSome, option_map}
+use Rattle.std.specs.Prelude.{◌≡◌, ◌≢◌, ℕ, ◌≤◌, All, AllPairs, List, [], ◌∷◌, ◌++◌, length, false, Option, Some, None, IsSome, option_map}
 use Rattle.std.specs.Option.{option_and_then}
-use Rattle.std.specs.List.{slice_get, slice_set}
 use Rattle.hb_disk.specs.Model.{DiskModel}
 use Rattle.hb_latch.specs.declared.modes.Mode.{Mode}
 use Rattle.hb_activity.specs.declared.activities.Activity.{Activity}
 use Rattle.hb_activity.specs.declared.activities.Activity.TheVariants as at
 use Rattle.hb_activity.specs.declared.holding.Latch.{Latch}
-use Rattle.hb_activity.specs.declared.jobs.Job.{Job}
 use Rattle.hb_activity.specs.declared.deciding.Fate.{Fate}
 use Rattle.hb_activity.specs.declared.deciding.Fate.TheVariants as fates
 use Rattle.hb_activity.specs.Classes.{Hand, line_of}
@@ -20,7 +18,6 @@ use Rattle.hb_ops.specs.declared.operations.Op.{Op}
 use Rattle.hb_set.specs.Order.{Entry}
 use Rattle.hb_store.specs.Calls.{IsAllowedHere, IsReady, with_op}
 use Rattle.hb_store.specs.Keeps.{StoreKeeps, last_of}
-use Rattle.hb_store.specs.declared.stops.StopWhy.{StopWhy}
 use Rattle.hb_store.specs.States.{StoreState}
 use Rattle.hb_wal.specs.Log.{Waiting}
 use Rattle.hb_core.specs.declared.outcomes.Outcome.{Outcome}

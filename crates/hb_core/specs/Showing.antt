@@ -21,7 +21,8 @@ pub record RunningCore : Type 0 where
   -- the script: its lines, and who takes each step
   pub lines : List Line
   pub steps : List ℕ
-  -- how many of the lines lie behind each session, session 1 first: all that it took, and those of others between them
+  -- how many of the lines lie behind each session, session 1 first: all that it took, and those of others between them;
+  -- or all, once none of its own was left
   pub behind : List ℕ
   -- where the 19 actors stand, actor 1 first
   pub activities : List Activity

@@ -27,7 +27,8 @@ pub struct Core<D: Device> {
     pub(crate) store: Store<D>,
     /// The command lines, which no step changes.
     pub(crate) script: Script,
-    /// How many of the lines lie behind each session: all that it took, and those of others between them.
+    /// How many of the lines lie behind each session: all that it took, and those of others between them;
+    /// or all, once none of its own was left.
     pub(crate) behind: [usize; SESSIONS],
     /// Where the actors stand, actor 1 first.
     pub(crate) activities: ArrayVec<Activity, ACTORS>,
