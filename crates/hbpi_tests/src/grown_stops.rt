@@ -2,7 +2,7 @@
 //! posts both.
 
 use crate::ordered::{Commands, EMPTY, Plain, Verb, holds, told};
-use crate::runs::{Left, NEVER, file_of, run_over};
+use crate::runs::{Left, NEVER, left_of, run_over};
 use hb_disk::{Disk, MemDisk, Pick};
 use std::alloc::Global;
 
@@ -54,13 +54,18 @@ fn lines(alloc: Global) -> Option<Commands> {
     Some(commands)
 }
 
+/// A new file of four pages.
+fn new_file(alloc: Global) -> Option<Vec<u8>> {
+    left_of(alloc, "create 1 4 65536 6 32", &[], 155_648, 0)
+}
+
 /// What a run of them over a new file leaves, whose calls of these numbers fail: so many from the first one on.
 fn run(alloc: Global, commands: &Commands, first: u64, count: u64) -> Option<Left> {
     let mut calls = Vec::new(alloc);
     for more in 0..count {
         calls.push(first.saturating_add(more)).ok()?;
     }
-    let disk = MemDisk::failing(alloc, file_of(alloc, &[])?, calls);
+    let disk = MemDisk::failing(alloc, new_file(alloc)?, calls);
     run_over(alloc, "drive", commands.text.as_str(), NEVER, NEVER, disk)
 }
 

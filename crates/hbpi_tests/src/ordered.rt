@@ -233,7 +233,7 @@ fn lookups(alloc: Global, k: u8, places: usize) -> Option<Commands> {
     for place in 0..places {
         commands.add(1, Verb::Lookup, place)?;
     }
-    commands.text.push_str("step 1x2000\n").ok()?;
+    commands.text.push_str("step 1x600\n").ok()?;
     Some(commands)
 }
 
