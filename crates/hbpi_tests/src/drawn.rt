@@ -1,7 +1,7 @@
 //! A hundred schedules drawn from seeds, of one to four sessions and the poster, over one or two attributes, with a reopening in
 //! the middle. What is printed and kept is compared with a plain list by the printed order.
 
-use crate::ordered::{Commands, EMPTY, Plain, Told, Verb, holds, told};
+use crate::ordered::{Commands, EMPTY, Plain, Told, Verb, holds, told_by};
 use crate::plain_list::drawn;
 use crate::runs::{drive_on, left_of};
 use std::alloc::Global;
@@ -57,7 +57,7 @@ impl Draw {
     }
 
     /// Twenty commands, and thirty times some steps.
-    fn commands(&mut self, alloc: Global, from: u32) -> Option<Commands> {
+    fn commands(&mut self, alloc: Global, from: usize) -> Option<Commands> {
         let mut commands = Commands::new(alloc, self.k, from);
         for _ in 0..20 {
             self.command(&mut commands)?;
@@ -89,7 +89,7 @@ fn driven(
     file: &[u8],
 ) -> Option<(Told, Vec<u8>)> {
     let left = drive_on(alloc, commands.text.as_str(), file)?;
-    let told = told(commands, before, left.said.as_str())?;
+    let told = told_by(commands, before, left.said.as_str())?;
     let bytes = left.disk.bytes().to_vec(alloc).ok()?;
     Some((told, bytes))
 }

@@ -1,7 +1,7 @@
 //! A crash before each device call, and each device call failing, once or from then on, of a run that splits a page twice and
 //! posts both.
 
-use crate::ordered::{Commands, EMPTY, Plain, Verb, holds, told};
+use crate::ordered::{Commands, EMPTY, Plain, Verb, holds, told_by};
 use crate::runs::{Left, NEVER, left_of, run_over};
 use hb_disk::{Disk, MemDisk, Pick};
 use std::alloc::Global;
@@ -110,7 +110,7 @@ fn a_growing_file_is_stopped(rt: HostRuntime) {
     let commands = lines(rt.alloc()).expect(&rt, "memory");
     let left = run(rt.alloc(), &commands, 0, 0).expect(&rt, "memory");
     let said = left.said.as_str();
-    let told = told(&commands, EMPTY, said).expect(&rt, said);
+    let told = told_by(&commands, EMPTY, said).expect(&rt, said);
     assert!(rt;
         told.done && left.disk.calls() == CALLS,
         "{said} {}",
@@ -129,7 +129,7 @@ fn ends(commands: &Commands, said: &str) -> Option<(Plain, Plain)> {
     if said == "6 disk fault\n" {
         return Some((EMPTY, EMPTY));
     }
-    let told = told(commands, EMPTY, said)?;
+    let told = told_by(commands, EMPTY, said)?;
     Some((told.settled, told.whole))
 }
 

@@ -8,7 +8,7 @@ use std::alloc::Global;
 /// Where page 1 stands.
 const PAGES: usize = 139_264;
 
-/// Where the first three pages and the second place of the superblock stand.
+/// Where the first four pages and the second place of the superblock stand.
 const PAGE_1: usize = PAGES;
 
 const PAGE_2: usize = PAGES + 4096;

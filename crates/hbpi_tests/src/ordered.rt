@@ -5,7 +5,7 @@ use crate::runs::drive_on;
 use std::alloc::Global;
 
 /// The body that each of 64 points has, which is a number; 0 where it has no record.
-pub(crate) type Plain = [u32; 64];
+pub(crate) type Plain = [usize; 64];
 
 /// Points without a record.
 pub(crate) const EMPTY: Plain = [0; 64];
@@ -29,7 +29,7 @@ struct Command {
 #[derive(Clone, Copy)]
 enum Reply {
     Word(&'static str),
-    Found(u32),
+    Found(usize),
 }
 
 /// Whether these words are the reply.
@@ -37,14 +37,14 @@ fn says(words: &str, reply: Reply) -> bool {
     match reply {
         Reply::Word(word) => words == word,
         Reply::Found(body) => match words.strip_prefix("found =") {
-            Some(rest) => rest.parse::<u32>() == Ok(body),
+            Some(rest) => rest.parse::<usize>() == Ok(body),
             None => false,
         },
     }
 }
 
 /// What a command replies, and what the points have then.
-fn effect(plain: &mut Plain, command: &Command, body: u32) -> Option<Reply> {
+fn effect(plain: &mut Plain, command: &Command, body: usize) -> Option<Reply> {
     let held = plain.get_mut(command.place)?;
     let old = *held;
     let (word, new) = match command.verb {
@@ -67,11 +67,11 @@ pub(crate) struct Commands {
     /// The number of attributes, 1 or 2.
     k: u8,
     /// A body is this number and that of its line.
-    from: u32,
+    from: usize,
 }
 
 impl Commands {
-    pub(crate) fn new(alloc: Global, k: u8, from: u32) -> Commands {
+    pub(crate) fn new(alloc: Global, k: u8, from: usize) -> Commands {
         Commands {
             list: Vec::new(alloc),
             text: String::new(alloc),
@@ -81,8 +81,8 @@ impl Commands {
     }
 
     /// The body that an insert on the line of this place has.
-    fn body(&self, place: usize) -> u32 {
-        self.from.wrapping_add(place as u32).wrapping_add(1)
+    fn body(&self, place: usize) -> usize {
+        self.from.wrapping_add(place).wrapping_add(1)
     }
 
     /// Adds a command.
@@ -215,7 +215,7 @@ impl Told {
 
 /// What the output of these commands says over points that had this. It is `None` where a reply isn't the plain list's over the
 /// printed order, where the order turns two lines of a session round, or where a line is missing or there twice.
-pub(crate) fn told(commands: &Commands, before: Plain, said: &str) -> Option<Told> {
+pub(crate) fn told_by(commands: &Commands, before: Plain, said: &str) -> Option<Told> {
     let (_, body) = said.split_once(' ')?;
     let (lines, rest) = body.split_once("order")?;
     let mut told = Told::new(before);
@@ -249,7 +249,7 @@ pub(crate) fn holds(
     let commands = lookups(alloc, k, places)?;
     let left = drive_on(alloc, commands.text.as_str(), file)?;
     for &plain in &[one, other] {
-        if let Some(told) = told(&commands, plain, left.said.as_str()) {
+        if let Some(told) = told_by(&commands, plain, left.said.as_str()) {
             if told.done {
                 return Some(true);
             }

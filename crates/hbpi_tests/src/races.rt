@@ -1,6 +1,6 @@
 //! Two sessions on one page, in all interleavings of their first six steps each.
 
-use crate::ordered::{Commands, Verb, holds, told};
+use crate::ordered::{Commands, Verb, holds, told_by};
 use crate::runs::{Left, drive_on, expect_said, file_of, left_of};
 use std::alloc::Global;
 
@@ -123,7 +123,7 @@ fn is_right(
 ) -> Option<bool> {
     let text = interleaved(alloc, commands, bits)?;
     let left = drive_on(alloc, text.as_str(), before.1.as_slice())?;
-    let told = told(commands, before.0.behind(6)?, left.said.as_str())?;
+    let told = told_by(commands, before.0.behind(6)?, left.said.as_str())?;
     if !told.done {
         return Some(false);
     }
