@@ -50,3 +50,55 @@ def searches(count, attributes, share):
     for _ in range(count):
         lows = [next(drawn) % (SIDE - width + 1) for _ in range(attributes)]
         yield f"1 search {words(value for low in lows for value in (low, low + width - 1))}"
+
+
+def spread(count):
+    """Points of two attributes that are spread over all values below SIDE."""
+    drawn = numbers(13)
+    return [(next(drawn) % SIDE, next(drawn) % SIDE) for _ in range(count)]
+
+
+def in_order(count):
+    """Points of two attributes, each of which has greater values than the one before."""
+    return [(value, value) for value in range(count)]
+
+
+def scrambled(points):
+    """The same points in an order without a plan."""
+    drawn = numbers(17)
+    return [point for _, point in sorted((next(drawn), point) for point in points)]
+
+
+def insert_all(points, sessions):
+    """Inserts of these points by so many sessions in turn."""
+    for number, point in enumerate(points):
+        yield f"{number % sessions + 1} insert {words(point)} =record{number % 10}"
+
+
+def look_up_all(points, sessions):
+    """Lookups of these points by so many sessions in turn."""
+    for number, point in enumerate(points):
+        yield f"{number % sessions + 1} lookup {words(point)}"
+
+
+def replace_some(points, count):
+    """So many changes of session 1: deletes and inserts in turn of points that are drawn from these."""
+    drawn = numbers(19)
+    for number in range(count // 2):
+        point = words(points[next(drawn) % len(points)])
+        yield f"1 delete {point}"
+        yield f"1 insert {point} =record{number % 10}"
+
+
+def look_up_some(points, count):
+    """So many lookups of session 1, of points that are drawn from these."""
+    drawn = numbers(23)
+    for _ in range(count):
+        yield f"1 lookup {words(points[next(drawn) % len(points)])}"
+
+
+def schedule(steps, sessions, poster):
+    """Step lines of at least so many steps of so many sessions in turn, with one of the poster behind each 20, or without."""
+    for first in range(0, steps, 20):
+        turns = ["1x20"] if sessions == 1 else [str((first + at) % sessions + 1) for at in range(20)]
+        yield f"step {words(turns)}{' p' if poster else ''}"
