@@ -48,6 +48,16 @@ impl Area {
         Area { lo, hi }
     }
 
+    /// The corners, the lower one first.
+    pub(crate) fn into_corners(self) -> (Point, Point)
+        ensures lower { result.0 ≡ self.lo }
+        ensures upper { result.1 ≡ self.hi }
+        ensures area { IsArea self }
+    {
+        let Area { lo, hi } = self;
+        (lo, hi)
+    }
+
     /// The whole space of `k` attributes.
     pub fn whole(k: u8) -> Area
         requires some { 1 ≤ k }

@@ -71,6 +71,16 @@ impl Point {
         point
     }
 
+    /// The same point, moved to another value in one attribute.
+    pub(crate) fn moved(self, axis: usize, value: u64) -> Point
+        requires { axis < length self }
+        ensures { result ≡ slice_set self axis value }
+    {
+        let Point { mut values } = self;
+        values.as_mut_slice()[axis] = value;
+        Point { values }
+    }
+
     /// Whether no value exceeds that of the other point in the same attribute.
     pub(crate) fn is_at_most(&self, other: &Point) -> bool
         requires { length self.now ≡ length other.now }

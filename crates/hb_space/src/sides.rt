@@ -30,4 +30,22 @@ impl Area {
         let from = Area::of_corners(self.lo().with(at, value), self.hi().copy());
         (below, from)
     }
+
+    /// What of the box lies below `value` in the attribute. Nothing is copied.
+    pub fn below(self, axis: u8, value: u64) -> Area
+        requires { Cuts self axis value }
+        ensures { result ≡ side_below self axis value }
+    {
+        let (lo, hi) = self.into_corners();
+        Area::of_corners(lo, hi.moved(usize::from(axis), value - 1))
+    }
+
+    /// What of the box lies at `value` in the attribute, or above it. Nothing is copied.
+    pub fn at_least(self, axis: u8, value: u64) -> Area
+        requires { Cuts self axis value }
+        ensures { result ≡ side_from self axis value }
+    {
+        let (lo, hi) = self.into_corners();
+        Area::of_corners(lo.moved(usize::from(axis), value), hi)
+    }
 }
