@@ -113,12 +113,11 @@ impl Frag {
                 left,
                 right,
             } => {
-                let (below, from) = area.cut(*axis, *value);
                 let at = usize::from(*axis);
                 if p.values()[at] < *value {
-                    left.leaf_at(below, p)
+                    left.leaf_at(area.below(*axis, *value), p)
                 } else {
-                    right.leaf_at(from, p)
+                    right.leaf_at(area.at_least(*axis, *value), p)
                 }
             }
         }

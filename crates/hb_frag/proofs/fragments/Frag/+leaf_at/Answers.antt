@@ -15,7 +15,7 @@ pub returns-then-values-at : goal.returns-then-values-at
 returns-then-values-at t c =
     let e : c.args.self.now ≡ Cut c.in-Cut.axis c.in-Cut.value c.in-Cut.left.value c.in-Cut.right.value = sym c.self.view_is ∙ ap tree_of c.in-Cut.is in
     record {
-      value = found_left c.args.self.now c.in-Cut.left.value c.in-Cut.right.value c.deref.result.now c.in-Cut.axis c.in-Cut.value c.args.area c.cut-below.result.0 c.args.p.now _ e c.deref.ensures c.cut-below.ensures.left c.leaf_at.ensures.value;
+      value = found_left c.args.self.now c.in-Cut.left.value c.in-Cut.right.value c.deref.result.now c.in-Cut.axis c.in-Cut.value c.args.area c.below.result c.args.p.now _ e c.deref.ensures c.below.ensures c.leaf_at.ensures.value;
       inside = c.leaf_at.ensures.inside;
     }
 
@@ -25,7 +25,7 @@ returns-else-values-at t c =
     let box : IsArea c.args.area = search rules in
     let behind : c.in-Cut.value ≤ get_or c.args.p.now c.in-Cut.axis 0 = rw (c.values.ensures.value, c.from-at.ensures) at c.if-values-at.false in
     record {
-      value = found_right c.args.self.now c.in-Cut.left.value c.in-Cut.right.value c.deref-else-values-at.result.now c.in-Cut.axis c.in-Cut.value c.args.area c.cut-below.result.1 c.args.p.now _ e
-          c.deref-else-values-at.ensures c.cut-below.ensures.right box c.requires.well_cut c.requires.held behind c.leaf_at-else-values-at.ensures.value;
+      value = found_right c.args.self.now c.in-Cut.left.value c.in-Cut.right.value c.deref-else-values-at.result.now c.in-Cut.axis c.in-Cut.value c.args.area c.at_least.result c.args.p.now _ e
+          c.deref-else-values-at.ensures c.at_least.ensures box c.requires.well_cut c.requires.held behind c.leaf_at-else-values-at.ensures.value;
       inside = c.leaf_at-else-values-at.ensures.inside;
     }
