@@ -6,9 +6,21 @@
 #[cfg(test)]
 mod bytes;
 #[cfg(test)]
+mod drawn;
+#[cfg(test)]
 mod files;
 #[cfg(test)]
+mod grown_stops;
+#[cfg(test)]
+mod maps;
+#[cfg(test)]
+mod ordered;
+#[cfg(test)]
 mod plain_list;
+#[cfg(test)]
+mod postings;
+#[cfg(test)]
+mod races;
 #[cfg(test)]
 mod runs;
 #[cfg(test)]

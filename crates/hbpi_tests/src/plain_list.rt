@@ -139,7 +139,7 @@ impl Case {
 }
 
 /// A number of 0 to 7.
-fn drawn(seed: &mut u64) -> u64 {
+pub(crate) fn drawn(seed: &mut u64) -> u64 {
     *seed = seed
         .wrapping_mul(6364136223846793005)
         .wrapping_add(1442695040888963407);

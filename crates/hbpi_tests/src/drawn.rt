@@ -1,0 +1,147 @@
+//! A hundred schedules drawn from seeds, of one to four sessions and the poster, over one or two attributes, with a reopening in
+//! the middle. What is printed and kept is compared with a plain list by the printed order.
+
+use crate::ordered::{Commands, EMPTY, Plain, Told, Verb, holds, told_by};
+use crate::plain_list::drawn;
+use crate::runs::{drive_on, left_of};
+use std::alloc::Global;
+
+/// What a case is drawn from.
+#[derive(Drop)]
+struct Draw {
+    k: u8,
+    sessions: u64,
+    seed: u64,
+}
+
+impl Draw {
+    fn new(seed: u64) -> Draw {
+        Draw {
+            k: if seed % 8 < 4 { 1 } else { 2 },
+            sessions: seed % 4 + 1,
+            seed,
+        }
+    }
+
+    /// The session behind this number, or the first one where there is none.
+    fn session(&self, number: u64) -> u8 {
+        if number < self.sessions {
+            (number % 4) as u8 + 1
+        } else {
+            1
+        }
+    }
+
+    /// Adds a command of some session to the commands.
+    fn command(&mut self, commands: &mut Commands) -> Option<()> {
+        let number = drawn(&mut self.seed) % 4;
+        let session = self.session(number);
+        let place = drawn(&mut self.seed) % 8 * 8 + drawn(&mut self.seed) % 8;
+        let verb = match drawn(&mut self.seed) {
+            0 | 1 | 2 | 3 | 4 => Verb::Insert,
+            5 => Verb::Delete,
+            _ => Verb::Lookup,
+        };
+        commands.add(session, verb, place as usize)
+    }
+
+    /// Up to eight steps of a session or of the poster.
+    fn steps(&mut self, text: &mut String) -> Option<()> {
+        let actor = drawn(&mut self.seed) % 6;
+        let count = drawn(&mut self.seed) % 8 + 1;
+        if actor >= 4 {
+            return write!(text, " px{count}").ok();
+        }
+        let session = self.session(actor);
+        write!(text, " {session}x{count}").ok()
+    }
+
+    /// Twenty commands, and thirty times some steps.
+    fn commands(&mut self, alloc: Global, from: usize) -> Option<Commands> {
+        let mut commands = Commands::new(alloc, self.k, from);
+        for _ in 0..20 {
+            self.command(&mut commands)?;
+        }
+        commands.text.push_str("step").ok()?;
+        for _ in 0..30 {
+            self.steps(&mut commands.text)?;
+        }
+        commands.text.push('\n').ok()?;
+        Some(commands)
+    }
+}
+
+/// A new file of so many attributes.
+fn new_file(alloc: Global, k: u8) -> Option<Vec<u8>> {
+    let words = if k == 1 {
+        "create 1 16 65536 6 32"
+    } else {
+        "create 2 16 65536 6 32"
+    };
+    left_of(alloc, words, &[], 204_800, 0)
+}
+
+/// Drives the commands over a file with these records. What comes of it is told, with the file that is left.
+fn driven(
+    alloc: Global,
+    commands: &Commands,
+    before: Plain,
+    file: &[u8],
+) -> Option<(Told, Vec<u8>)> {
+    let left = drive_on(alloc, commands.text.as_str(), file)?;
+    let told = told_by(commands, before, left.said.as_str())?;
+    let bytes = left.disk.bytes().to_vec(alloc).ok()?;
+    Some((told, bytes))
+}
+
+/// Steps enough for what is left of the commands.
+fn finish(text: &mut String) -> Option<()> {
+    for _ in 0..30 {
+        text.push_str("step 1x8 2x8 3x8 4x8 px8\n").ok()?;
+    }
+    Some(())
+}
+
+/// Whether a case is right. Its first run is cut off by its schedule: what isn't settled then is lost.
+fn is_right(alloc: Global, seed: u64) -> Option<bool> {
+    let mut draw = Draw::new(seed);
+    let first = draw.commands(alloc, 0)?;
+    let (one, file) = driven(alloc, &first, EMPTY, &new_file(alloc, draw.k)?)?;
+    let mut second = draw.commands(alloc, 100)?;
+    finish(&mut second.text)?;
+    let (two, file) = driven(alloc, &second, one.settled, file.as_slice())?;
+    if !two.done {
+        return Some(false);
+    }
+    holds(alloc, file.as_slice(), draw.k, 64, two.whole, two.whole)
+}
+
+/// Whether the cases of 25 seeds from this one on are right.
+fn are_right(alloc: Global, first: u64) -> Option<bool> {
+    for more in 0..25 {
+        if !is_right(alloc, first.wrapping_add(more))? {
+            return Some(false);
+        }
+    }
+    Some(true)
+}
+
+#[test]
+fn schedules_as_a_plain_list(rt: HostRuntime) {
+    assert!(rt; are_right(rt.alloc(), 0) == Some(true));
+}
+
+#[test]
+fn more_schedules_as_a_plain_list(rt: HostRuntime) {
+    assert!(rt; are_right(rt.alloc(), 25) == Some(true));
+}
+
+#[test]
+fn later_schedules_as_a_plain_list(rt: HostRuntime) {
+    assert!(rt; are_right(rt.alloc(), 50) == Some(true));
+}
+
+#[test]
+fn last_schedules_as_a_plain_list(rt: HostRuntime) {
+    assert!(rt; are_right(rt.alloc(), 75) == Some(true));
+}

@@ -1,0 +1,259 @@
+//! Commands on up to 64 points, and whether what `drive` printed of them is what a plain list of records says over the printed
+//! order. Where something is `None`, memory was refused, or the output is none that such a run may have.
+
+use crate::runs::drive_on;
+use std::alloc::Global;
+
+/// The body that each of 64 points has, which is a number; 0 where it has no record.
+pub(crate) type Plain = [usize; 64];
+
+/// Points without a record.
+pub(crate) const EMPTY: Plain = [0; 64];
+
+#[derive(Clone, Copy)]
+pub(crate) enum Verb {
+    Insert,
+    Delete,
+    Lookup,
+}
+
+/// A command of a session on the point of a place.
+#[derive(Drop)]
+struct Command {
+    session: u8,
+    verb: Verb,
+    place: usize,
+}
+
+/// What a reply says behind the number of its line.
+#[derive(Clone, Copy)]
+enum Reply {
+    Word(&'static str),
+    Found(usize),
+}
+
+/// Whether these words are the reply.
+fn says(words: &str, reply: Reply) -> bool {
+    match reply {
+        Reply::Word(word) => words == word,
+        Reply::Found(body) => match words.strip_prefix("found =") {
+            Some(rest) => rest.parse::<usize>() == Ok(body),
+            None => false,
+        },
+    }
+}
+
+/// What a command replies, and what the points have then.
+fn effect(plain: &mut Plain, command: &Command, body: usize) -> Option<Reply> {
+    let held = plain.get_mut(command.place)?;
+    let old = *held;
+    let (word, new) = match command.verb {
+        Verb::Insert if old == 0 => ("ok", body),
+        Verb::Insert => ("duplicate", old),
+        Verb::Delete if old == 0 => ("absent", 0),
+        Verb::Delete => ("ok", 0),
+        Verb::Lookup if old == 0 => ("none", 0),
+        Verb::Lookup => return Some(Reply::Found(old)),
+    };
+    *held = new;
+    Some(Reply::Word(word))
+}
+
+/// The commands of a text, one on each line from line 1 on.
+#[derive(Drop)]
+pub(crate) struct Commands {
+    list: Vec<Command>,
+    pub(crate) text: String,
+    /// The number of attributes, 1 or 2.
+    k: u8,
+    /// A body is this number and that of its line.
+    from: usize,
+}
+
+impl Commands {
+    pub(crate) fn new(alloc: Global, k: u8, from: usize) -> Commands {
+        Commands {
+            list: Vec::new(alloc),
+            text: String::new(alloc),
+            k,
+            from,
+        }
+    }
+
+    /// The body that an insert on the line of this place has.
+    fn body(&self, place: usize) -> usize {
+        self.from.wrapping_add(place).wrapping_add(1)
+    }
+
+    /// Adds a command.
+    pub(crate) fn add(&mut self, session: u8, verb: Verb, place: usize) -> Option<()> {
+        let word = match verb {
+            Verb::Insert => "insert",
+            Verb::Delete => "delete",
+            Verb::Lookup => "lookup",
+        };
+        write!(self.text, "{session} {word}").ok()?;
+        if self.k == 2 {
+            write!(self.text, " {} {}", place / 8, place % 8).ok()?;
+        } else {
+            write!(self.text, " {place}").ok()?;
+        }
+        if let Verb::Insert = verb {
+            let body = self.body(self.list.len());
+            write!(self.text, " ={body}").ok()?;
+        }
+        self.text.push('\n').ok()?;
+        self.list
+            .push(Command {
+                session,
+                verb,
+                place,
+            })
+            .ok()
+    }
+
+    /// What the points have behind the first of these commands, one after the other.
+    pub(crate) fn behind(&self, count: usize) -> Option<Plain> {
+        let mut plain = EMPTY;
+        for (place, command) in self.list.iter().enumerate().take(count) {
+            effect(&mut plain, command, self.body(place))?;
+        }
+        Some(plain)
+    }
+}
+
+/// What an output says.
+#[derive(Drop)]
+pub(crate) struct Told {
+    /// What the points have behind the settled part of the order.
+    pub(crate) settled: Plain,
+    /// And behind all of it.
+    pub(crate) whole: Plain,
+    /// Whether each line was answered, and all of the order is settled.
+    pub(crate) done: bool,
+    /// What each line in the order has to reply.
+    replies: [Option<Reply>; 64],
+    /// The lines that were printed.
+    printed: [bool; 64],
+    count: usize,
+    /// The last line of each session in the order.
+    last: [usize; 17],
+}
+
+impl Told {
+    fn new(before: Plain) -> Told {
+        Told {
+            settled: before,
+            whole: before,
+            done: true,
+            replies: [None; 64],
+            printed: [false; 64],
+            count: 0,
+            last: [0; 17],
+        }
+    }
+
+    /// Takes a line that the order names.
+    fn line(&mut self, commands: &Commands, line: usize) -> Option<()> {
+        let place = line.checked_sub(1)?;
+        let command = commands.list.get(place)?;
+        let last = self.last.get_mut(command.session as usize)?;
+        if *last >= line {
+            return None;
+        }
+        *last = line;
+        let reply = effect(&mut self.whole, command, commands.body(place))?;
+        *self.replies.get_mut(place)? = Some(reply);
+        Some(())
+    }
+
+    /// Takes the order. What stands behind a bar isn't settled.
+    fn order(&mut self, commands: &Commands, order: &str) -> Option<()> {
+        for word in order.split_whitespace() {
+            if word == "|" {
+                self.settled = self.whole;
+                self.done = false;
+            } else {
+                self.line(commands, word.parse::<usize>().ok()?)?;
+            }
+        }
+        if self.done {
+            self.settled = self.whole;
+        }
+        Some(())
+    }
+
+    /// Takes what was printed of a line: its reply, or that it has none. A fault is none of the order.
+    fn print(&mut self, line: &str) -> Option<()> {
+        let (number, words) = line.split_once(' ')?;
+        let place = number.parse::<usize>().ok()?.checked_sub(1)?;
+        let printed = self.printed.get_mut(place)?;
+        if *printed {
+            return None;
+        }
+        *printed = true;
+        self.count = self.count.wrapping_add(1);
+        if words == "unfinished" || words == "unanswered" {
+            self.done = false;
+            return Some(());
+        }
+        match *self.replies.get(place)? {
+            Some(reply) if says(words, reply) => Some(()),
+            None if words == "read fault" => Some(()),
+            _ => None,
+        }
+    }
+
+    /// Takes all that was printed of lines.
+    fn prints(&mut self, lines: &str) -> Option<()> {
+        for line in lines.lines() {
+            self.print(line)?;
+        }
+        Some(())
+    }
+}
+
+/// What the output of these commands says over points that had this. It is `None` where a reply isn't the plain list's over the
+/// printed order, where the order turns two lines of a session round, or where a line is missing or there twice.
+pub(crate) fn told_by(commands: &Commands, before: Plain, said: &str) -> Option<Told> {
+    let (_, body) = said.split_once(' ')?;
+    let (lines, rest) = body.split_once("order")?;
+    let mut told = Told::new(before);
+    told.order(commands, rest.lines().next()?)?;
+    told.prints(lines)?;
+    if told.count != commands.list.len() {
+        return None;
+    }
+    Some(told)
+}
+
+/// Lookups of the points below this place, and steps enough for them.
+fn lookups(alloc: Global, k: u8, places: usize) -> Option<Commands> {
+    let mut commands = Commands::new(alloc, k, 0);
+    for place in 0..places {
+        commands.add(1, Verb::Lookup, place)?;
+    }
+    commands.text.push_str("step 1x600\n").ok()?;
+    Some(commands)
+}
+
+/// Whether a file opens with one of two sets of records, below this place.
+pub(crate) fn holds(
+    alloc: Global,
+    file: &[u8],
+    k: u8,
+    places: usize,
+    one: Plain,
+    other: Plain,
+) -> Option<bool> {
+    let commands = lookups(alloc, k, places)?;
+    let left = drive_on(alloc, commands.text.as_str(), file)?;
+    for &plain in &[one, other] {
+        if let Some(told) = told_by(&commands, plain, left.said.as_str()) {
+            if told.done {
+                return Some(true);
+            }
+        }
+    }
+    Some(false)
+}
