@@ -7,9 +7,9 @@ strace -o trace true 2>/dev/null || { echo "no strace can be used here"; exit 2;
 
 # The calls that matter, in their order, each as its name and what it is for; up to the first write, also of the output.
 asked() {
-    strace -y -o trace -e trace=flock,ftruncate,fsync,fdatasync,write "$HBPI" "$@" >out </dev/null
+    strace -y -o trace -e trace=flock,ftruncate,fsync,fdatasync,write,pwrite64 "$HBPI" "$@" >out </dev/null
     status=$?
-    sed -n 's/^\([a-z]*\)([0-9]*<[^>]*\/\([^>\/]*\)>.*/\1 \2/p' trace | awk '{ print } /^write/ { exit }' | tr '\n' '/'
+    sed -n 's/^pwrite64/write/; s/^\([a-z]*\)([0-9]*<[^>]*\/\([^>\/]*\)>.*/\1 \2/p' trace | awk '{ print } /^write/ { exit }' | tr '\n' '/'
 }
 
 # A call of the program under a fault that strace puts in, for a new file g.
