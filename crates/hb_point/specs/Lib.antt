@@ -1,7 +1,5 @@
 pub mod SessionRows
 pub mod SplitRows
 pub mod PointRows
-pub mod Laws
 pub mod Examples
 pub mod Asks
-pub mod Doing

@@ -34,15 +34,11 @@ next_line session answered (line ∷ rest) = if (line.session == session) && not
 -- a search wants memory for its boxes
 abbrev pub WantsBoxes : Command → Type 0
 WantsBoxes (Search area) = Unit {0}
-WantsBoxes (Insert rec) = ⊥
-WantsBoxes (Delete point) = ⊥
-WantsBoxes (Lookup point) = ⊥
+WantsBoxes other = ⊥
 
 abbrev pub boxes_ahead : Command → List Area
 boxes_ahead (Search area) = area ∷ []
-boxes_ahead (Insert rec) = []
-boxes_ahead (Delete point) = []
-boxes_ahead (Lookup point) = []
+boxes_ahead other = []
 
 abbrev pub taking : Line → Deed
 taking line = moves_to (SessionWalk line None (boxes_ahead line.command) []) []

@@ -6,8 +6,7 @@ ghost use Rattle.hb_activity.specs.Walks.{goal_of};
 ghost use Rattle.hb_layout.specs.Limits.{IsLayout};
 ghost use Rattle.hb_ops.specs.Sound.{FitsFile};
 ghost use Rattle.hb_ops.specs.Standing.{StandsNot, StandsThere};
-ghost use Rattle.hb_point.specs.Asks.{WalksInside};
-ghost use Rattle.hb_point.specs.Doing.{DoesBy, HasLeafOfRecords, RecordsThere, WalksBy, line_with};
+ghost use Rattle.hb_point.specs.Asks.{WalksInside, DoesBy, HasLeafOfRecords, RecordsThere, WalksBy, line_with};
 ghost use Rattle.hb_set.specs.declared.commands.Command.TheVariants as commands;
 ghost use Rattle.hb_space.specs.Boxes.{Area as Extent, Holds};
 

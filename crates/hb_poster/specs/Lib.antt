@@ -1,4 +1,3 @@
 pub mod PosterRows
-pub mod Laws
 pub mod Examples
 pub mod Asks

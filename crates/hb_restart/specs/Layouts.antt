@@ -4,7 +4,7 @@ use Rattle.hb_space.specs.declared.form.TheConstants.{PAGE, KMAX, ICAP_MIN}
 use Rattle.hb_restart.specs.declared.faults.Field.TheVariants as fields
 use Rattle.hb_restart.specs.declared.faults.BadField.{BadField}
 use Rattle.hb_restart.specs.declared.faults.CreateFault.{CreateFault}
-use Rattle.hb_restart.specs.declared.faults.CreateFault.TheVariants.{BadLayout, Small, DiskFault, NoMemory}
+use Rattle.hb_restart.specs.declared.faults.CreateFault.TheVariants.{BadLayout, Small}
 use Rattle.hb_restart.specs.declared.layout.Layout.{Layout}
 
 -- the first of these numbers that is out of its limits
@@ -37,5 +37,4 @@ layout_size l = size_of l.pages l.log
 abbrev pub RefusesLayout : Layout → ℕ → CreateFault → Type 0
 RefusesLayout l size (BadLayout bad) = layout_fault l ≡ Some bad
 RefusesLayout l size (Small needed found) = IsNone (layout_fault l) × (needed ≡ layout_size l) × (found ≡ size) × (size < layout_size l)
-RefusesLayout l size DiskFault = IsNone (layout_fault l) × (layout_size l ≤ size)
-RefusesLayout l size NoMemory = IsNone (layout_fault l) × (layout_size l ≤ size)
+RefusesLayout l size other = IsNone (layout_fault l) × (layout_size l ≤ size)

@@ -1,10 +1,6 @@
 pub mod Layouts
 pub mod NewFiles
-pub mod Creation
 pub mod Refusals
-pub mod Renewing
-pub mod Found
 pub mod Source
 pub mod Beyond
-pub mod WritingBack
 pub mod Leaving

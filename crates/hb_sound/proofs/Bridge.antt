@@ -12,8 +12,7 @@ use Rattle.hb_sound.specs.declared.facts.Fact.{Fact}
 use Rattle.hb_sound.specs.declared.facts.Fact.TheVariants.{Live, Free}
 use Rattle.hb_sound.specs.Covers.{SeesTop}
 use Rattle.hb_sound.specs.Facts.{AreFactsOf, IsFactOf, IsSeenOf, if_next, if_seen, next_at, seen_at}
-use Rattle.hb_sound.specs.BoundedMeta.{HasBoundedMeta}
-use Rattle.hb_sound.specs.Told.{item_at, file_with}
+use Rattle.hb_sound.specs.Told.{HasBoundedMeta, item_at, file_with}
 use Rattle.hb_sound.specs.Walks.{if_free, next_free}
 
 page_slice : (list : List Page) (n : ℕ) → page_at list (suc n) ≡ slice_get list n

@@ -9,7 +9,7 @@ use Rattle.hb_ops.specs.Files.{FileState, page_of}
 use Rattle.hb_ops.specs.Sound.{IsChain, IsCounted, count_live}
 use Rattle.hb_sound.specs.declared.facts.Fact.{Fact}
 use Rattle.hb_sound.specs.declared.facts.Fact.TheVariants.{Live, Free}
-use Rattle.hb_sound.specs.Chains.{IsFreeBreak, live_facts}
+use Rattle.hb_sound.specs.Covers.{IsFreeBreak, live_facts}
 use Rattle.hb_sound.specs.Facts.{AreFactsOf, next_at}
 use Rattle.hb_sound.specs.Names.{NamesFree}
 use Rattle.hb_sound.specs.Told.{file_with}

@@ -21,10 +21,9 @@ use Rattle.hb_sound.specs.declared.facts.Fact.{Fact}
 use Rattle.hb_sound.specs.declared.facts.Fact.TheVariants.{Live, Free}
 use Rattle.hb_sound.specs.declared.names.Times.{Times}
 use Rattle.hb_sound.specs.declared.names.Times.TheVariants.{Never, Once, Often}
-use Rattle.hb_sound.specs.Broken.{HasSame, IsLoose, LacksFirst}
+use Rattle.hb_sound.specs.Names.{HasSame, IsLoose, LacksFirst, KeepsSix, NamesLoose}
 use Rattle.hb_sound.specs.Covers.{AreBelow, HasBox, IsCoverBreak, LacksLevel, SeesSome, SeesLoose}
 use Rattle.hb_sound.specs.Facts.{AreFactsOf, if_seen, more, once_more, seen_at}
-use Rattle.hb_sound.specs.Names.{KeepsSix, NamesLoose}
 use Rattle.hb_sound.specs.Told.{item_at, file_with}
 use Rattle.hb_sound.proofs.Bridge.{live_seen, page_item, seen_live}
 use Rattle.hb_lemmas.proofs.Lists.{only_one}

@@ -15,8 +15,7 @@ use Rattle.hb_ops.specs.LawsOfContents.{DelStaysSound, PutStaysSound}
 use Rattle.hb_ops.specs.Operations.{IsAllowed, IsAllowedOn, IsLicensed, OpHas, change_of, nth_read}
 use Rattle.hb_ops.specs.Sound.{IsSound}
 use Rattle.hb_sound.specs.Laws.{DelsTakeOne, PagesHaveBoxes, PutsAddOne, TreeLaws}
-use Rattle.hb_sound.specs.LawsOfOperations.{GrowthKeepsContents, GrowthKeepsSound, OperationsKeepContents, OperationsKeepLayout, OperationsKeepSound, SplitsKeepContents, SplitsKeepSound}
-use Rattle.hb_sound.specs.LawsOfPostings.{MayBeDone, PostingsKeepContents, PostingsKeepSound}
+use Rattle.hb_sound.specs.LawsOfOperations.{GrowthKeepsContents, GrowthKeepsSound, OperationsKeepContents, OperationsKeepLayout, OperationsKeepSound, SplitsKeepContents, SplitsKeepSound, MayBeDone, PostingsKeepContents, PostingsKeepSound}
 use Rattle.hb_sound.specs.PointWalks.{IsPointOf}
 use Rattle.hb_ops.proofs.Facts.Contents.{del_on, put_on}
 use Rattle.hb_ops.proofs.Facts.PlacedLaws.{placed}

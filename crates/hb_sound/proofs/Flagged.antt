@@ -2,7 +2,7 @@
 use Rattle.std.proofs.Common.{◌≡◌, inl, inr, ℕ, zero, suc, ◌+◌, ◌-◌, ◌<◌, ◌≤◌, Bool, true, false, List, [], ◌∷◌, ◌++◌, Contains, Option, Some, None, slice_get, slice_set, refl, sym, ◌∙◌, subst, arith}
 use Rattle.std.proofs.lemmas.Bool.{cases_eq}
 use Rattle.std.proofs.lemmas.List.Elements.{Contains-append_cases, Contains-append_left, Contains-append_right}
-use Rattle.hb_sound.specs.Chains.{IsChained}
+use Rattle.hb_sound.specs.Covers.{IsChained}
 use Rattle.hb_sound.specs.Told.{item_at}
 use Rattle.hb_sound.specs.Walks.{IsOnce, LeadsAlong}
 use Rattle.hb_sound.proofs.Counts.{get_set_other, get_set_same}

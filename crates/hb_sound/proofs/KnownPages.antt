@@ -14,7 +14,7 @@ use Rattle.hb_sound.specs.declared.facts.Fact.TheVariants.{Live, Free}
 use Rattle.hb_sound.specs.declared.rests.Rest.{Rest}
 use Rattle.hb_sound.specs.declared.rests.Rest.TheVariants.{Nothing, Lone, More}
 use Rattle.hb_sound.specs.Facts.{FindsBelow, if_seen, seen_at}
-use Rattle.hb_sound.specs.Rests.{IsRestOf, Knows, KnowsTold}
+use Rattle.hb_sound.specs.Links.{IsRestOf, Knows, KnowsTold}
 use Rattle.hb_sound.specs.Told.{GivesPage, item_at}
 
 -- an item of a list stays where it is when one more comes

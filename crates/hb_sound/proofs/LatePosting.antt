@@ -5,7 +5,7 @@ use Rattle.hb_ops.specs.Files.{live_page}
 use Rattle.hb_ops.specs.Operations.{effect_of}
 use Rattle.hb_ops.specs.Posting.{FitsPost, GaveAway}
 use Rattle.hb_sound.specs.LateFile.{late_aside, late_aside_posted, late_file, late_highest, late_meta, late_posting}
-use Rattle.hb_sound.specs.LawsOfPostings.{MayBeDone}
+use Rattle.hb_sound.specs.LawsOfOperations.{MayBeDone}
 use Rattle.hb_frag.specs.declared.paths.Side.TheVariants.{Right}
 use Rattle.hb_space.proofs.Facts.Intervals.{interval, top}
 use Rattle.std.proofs.lemmas.List.Elements.{All-from_recursion}

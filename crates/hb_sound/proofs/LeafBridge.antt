@@ -17,10 +17,9 @@ use Rattle.hb_ops.specs.Sound.{ChildrenMatch, SiblingsMatch}
 use Rattle.hb_sound.specs.declared.facts.Seen.{Seen}
 use Rattle.hb_sound.specs.declared.facts.Fact.{Fact}
 use Rattle.hb_sound.specs.declared.facts.Fact.TheVariants.{Live}
-use Rattle.hb_sound.specs.Broken.{HasBelow, HasSame, MissesChild, MissesSibling}
+use Rattle.hb_sound.specs.Names.{HasBelow, HasSame, MissesChild, MissesSibling, KeepsLocally}
 use Rattle.hb_sound.specs.Facts.{AreFactsOf, FindsBelow, FindsSame, SeesBelow, SeesSame, seen_at}
 use Rattle.hb_sound.specs.Links.{IsFirstUpTo, LosesChild, LosesSibling}
-use Rattle.hb_sound.specs.Names.{KeepsLocally}
 use Rattle.hb_sound.specs.Told.{item_at, file_with}
 use Rattle.hb_sound.specs.Walks.{IsLeast}
 use Rattle.hb_sound.proofs.Bridge.{live_seen, seen_live}

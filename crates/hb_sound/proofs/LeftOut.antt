@@ -4,7 +4,7 @@ use Rattle.std.proofs.lemmas.Option.{slice_get-get_or, slice_get_read}
 use Rattle.hb_sound.specs.declared.facts.Fact.{Fact}
 use Rattle.hb_sound.specs.declared.facts.Fact.TheVariants.{Live, Free}
 use Rattle.hb_layout.specs.declared.meta.Meta.{Meta}
-use Rattle.hb_sound.specs.Chains.{IsChained, IsFreeBreak, IsFreeFact, live_facts}
+use Rattle.hb_sound.specs.Covers.{IsChained, IsFreeBreak, IsFreeFact, live_facts}
 use Rattle.hb_sound.specs.Facts.{if_next, next_at}
 use Rattle.hb_sound.specs.Links.{IsFirstUpTo}
 use Rattle.hb_sound.specs.Told.{item_at}

@@ -15,8 +15,7 @@ use Rattle.hb_sound.specs.declared.links.Links.{Links}
 use Rattle.hb_sound.specs.declared.names.Times.{Times}
 use Rattle.hb_sound.specs.declared.names.Times.TheVariants.{Never}
 use Rattle.hb_sound.specs.Facts.{more, names_in}
-use Rattle.hb_sound.specs.Links.{Adds, AddsPage, AreLinks, AreRead, FindsChildren, FindsSiblings, IsCut, IsFirstUpTo, IsNextBad, LosesChild, LosesSibling}
-use Rattle.hb_sound.specs.Rests.{KnowsTold}
+use Rattle.hb_sound.specs.Links.{Adds, AddsPage, AreLinks, AreRead, FindsChildren, FindsSiblings, IsCut, IsFirstUpTo, IsNextBad, LosesChild, LosesSibling, KnowsTold}
 use Rattle.hb_sound.specs.Stops.{OnBroken}
 use Rattle.hb_sound.specs.Told.{item_at}
 use Rattle.hb_sound.specs.declared.pages.AuditStop.{AuditStop}

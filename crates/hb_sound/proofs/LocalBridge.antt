@@ -10,10 +10,9 @@ use Rattle.hb_ops.specs.Files.{FileState}
 use Rattle.hb_ops.specs.LocalRule.{BreaksFirst}
 use Rattle.hb_sound.specs.declared.facts.Fact.{Fact}
 use Rattle.hb_sound.specs.declared.facts.Fact.TheVariants.{Live, Free}
-use Rattle.hb_sound.specs.Broken.{BreaksRule}
+use Rattle.hb_sound.specs.Names.{BreaksRule, KeepsLocally, NamesLocal}
 use Rattle.hb_sound.specs.Covers.{HasRule, IsLeastRule, SeesRule}
 use Rattle.hb_sound.specs.Facts.{AreFactsOf, if_seen}
-use Rattle.hb_sound.specs.Names.{KeepsLocally, NamesLocal}
 use Rattle.hb_sound.specs.Told.{item_at, file_with}
 use Rattle.hb_sound.specs.Walks.{IsLeast}
 use Rattle.hb_sound.proofs.Bridge.{live_seen, seen_live}

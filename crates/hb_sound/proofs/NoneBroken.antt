@@ -6,8 +6,7 @@ use Rattle.hb_ops.specs.Files.{FileState}
 use Rattle.hb_ops.specs.LocalRule.{BreaksFirst}
 use Rattle.hb_ops.specs.Sound.{FitsFile, IsSound}
 use Rattle.hb_sound.specs.Told.{file_of}
-use Rattle.hb_sound.specs.Broken.{BreaksRule}
-use Rattle.hb_sound.specs.Names.{NamesIn, SoundBreaksNone}
+use Rattle.hb_sound.specs.Names.{BreaksRule, NamesIn, SoundBreaksNone}
 
 pub not_broken : (rule : ℕ) (page : LivePage) (meta : Meta) → BreaksFirst rule page meta → FitsFile meta page → ⊥
 not_broken rule page meta (inl three) fits = three.1 fits.fits

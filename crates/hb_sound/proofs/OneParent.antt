@@ -5,9 +5,8 @@ use Rattle.hb_space.specs.Boxes.{Area, IsArea, Holds, Within}
 use Rattle.hb_frag.specs.declared.leaves.Leaf.TheVariants.{Child}
 use Rattle.hb_frag.specs.declared.pages.LivePage.{LivePage}
 use Rattle.hb_frag.specs.Leaves.{DirectlyCovers, DirectlyHolds, Placed, leaf_at, leaves_of, siblings_of}
-use Rattle.hb_sound.specs.Laws.{SpaceLaws, TreeLaws}
+use Rattle.hb_sound.specs.Laws.{SpaceLaws, TreeLaws, NoOtherParent}
 use Rattle.hb_sound.specs.PointWalks.{IsPointOf}
-use Rattle.hb_sound.specs.FullyPosted.{NoOtherParent}
 use Rattle.hb_sound.proofs.HeldSomewhere.{holds_directly}
 use Rattle.hb_sound.proofs.OneLevel.{holds_where_leaf, page_area, same_page}
 use Rattle.hb_sound.proofs.Partition.{no_point_is_held_twice}

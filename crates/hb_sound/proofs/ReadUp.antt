@@ -5,7 +5,7 @@ use Rattle.hb_frag.specs.declared.pages.Page.{Page}
 use Rattle.hb_layout.specs.declared.meta.Meta.{Meta}
 use Rattle.hb_sound.specs.declared.facts.Fact.{Fact}
 use Rattle.hb_sound.specs.Facts.{AreFactsOf, IsFactOf}
-use Rattle.hb_sound.specs.Rests.{Knows, KnowsTold}
+use Rattle.hb_sound.specs.Links.{Knows, KnowsTold}
 use Rattle.hb_sound.specs.Told.{CoversFile, IsHole, IsWholeFile, file_of, item_at, shown_pages}
 use Rattle.hb_sound.specs.Walks.{IsLeast}
 use Rattle.hb_sound.proofs.Firsts.{item_behind}

@@ -22,8 +22,7 @@ use Rattle.hb_sound.specs.declared.links.Links.{Links}
 use Rattle.hb_sound.specs.declared.rests.Rest.{Rest}
 use Rattle.hb_sound.specs.declared.rests.Rest.TheVariants.{Nothing, Lone, More}
 use Rattle.hb_sound.specs.Facts.{FindsBelow, FindsSame, SeesSame, if_seen, more, names_in, seen_at}
-use Rattle.hb_sound.specs.Links.{Adds, AddsPage, FindsSiblings, IsNextBad, or_else}
-use Rattle.hb_sound.specs.Rests.{IsRestOf, Knows, KnowsTold}
+use Rattle.hb_sound.specs.Links.{Adds, AddsPage, FindsSiblings, IsNextBad, or_else, IsRestOf, Knows, KnowsTold}
 use Rattle.hb_sound.specs.Told.{item_at}
 use Rattle.hb_sound.proofs.Counts.{none_more}
 use Rattle.hb_sound.proofs.Levels.{seen_fact}

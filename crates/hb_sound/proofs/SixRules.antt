@@ -5,13 +5,11 @@ use Rattle.hb_layout.specs.declared.meta.Meta.{Meta}
 use Rattle.hb_sound.specs.declared.facts.Fact.{Fact}
 use Rattle.hb_sound.specs.declared.pages.AuditStop.{AuditStop}
 use Rattle.hb_sound.specs.declared.pages.AuditStop.TheVariants.{Broken}
-use Rattle.hb_sound.specs.Chains.{IsFreeBreak}
-use Rattle.hb_sound.specs.Covers.{IsLeastRule, SeesRule, SeesTop}
+use Rattle.hb_sound.specs.Covers.{IsFreeBreak, IsLeastRule, SeesRule, SeesTop}
 use Rattle.hb_sound.specs.Facts.{AreFactsOf}
-use Rattle.hb_sound.specs.BoundedMeta.{HasBoundedMeta}
+use Rattle.hb_sound.specs.Told.{HasBoundedMeta, file_with}
 use Rattle.hb_sound.specs.Names.{KeepsSix, NamesIn}
 use Rattle.hb_sound.specs.Stops.{OnBroken}
-use Rattle.hb_sound.specs.Told.{file_with}
 use Rattle.hb_sound.proofs.Bridge.{to_rooted}
 use Rattle.hb_sound.proofs.ChainBridge.{not_counted, to_counted}
 use Rattle.hb_sound.proofs.LocalBridge.{keeps_local, to_local}

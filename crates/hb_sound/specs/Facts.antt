@@ -1,5 +1,5 @@
 -- The few facts that the audit keeps of each page, and what they say together.
-use Rattle.std.specs.Prelude.{◌≡◌, ◌⊎◌, ℕ, zero, suc, ◌+◌, ◌≤◌, ◌==◌, if◌then◌else◌, List, [], ◌∷◌, length, option_map, Option, Some, None}
+use Rattle.std.specs.Prelude.{◌≡◌, ◌⊎◌, ℕ, zero, suc, ◌+◌, ◌≤◌, ◌==◌, if◌then◌else◌, List, [], ◌∷◌, length, option_map, Option, Some, None, ◌^◌, ◌<◌}
 use Rattle.hb_space.specs.Boxes.{Area, Within}
 use Rattle.hb_frag.specs.declared.leaves.Leaf.{Leaf}
 use Rattle.hb_frag.specs.declared.leaves.Leaf.TheVariants.{Records, Child, Sibling}
@@ -43,18 +43,16 @@ AreFactsOf meta _ _ = ⊥
 
 -- what was seen under a number
 abbrev pub if_seen : Option Fact → Option Seen
-if_seen None = None
 if_seen (Some (Live seen)) = Some seen
-if_seen (Some (Free next)) = None
+if_seen other = None
 
 abbrev pub seen_at : List Fact → ℕ → Option Seen
 seen_at facts id = if_seen (item_at facts id)
 
 -- what follows in the free chain
 abbrev pub if_next : Option Fact → Option ℕ
-if_next None = None
-if_next (Some (Live seen)) = None
 if_next (Some (Free next)) = Some next
+if_next other = None
 
 abbrev pub next_at : List Fact → ℕ → Option ℕ
 next_at facts id = if_next (item_at facts id)
@@ -70,14 +68,12 @@ SeesBelow facts level name area = (seen : Seen) × (seen_at facts name ≡ Some 
 
 -- what holds of the page that a leaf names, where it is a sibling leaf, and where it is a child leaf
 abbrev pub IfSibling : (ℕ → Type 0) → Leaf → Type 0
-IfSibling p (Records records) = Unit {0}
-IfSibling p (Child name) = Unit {0}
 IfSibling p (Sibling name) = p name
+IfSibling p other = Unit {0}
 
 abbrev pub IfChild : (ℕ → Type 0) → Leaf → Type 0
-IfChild p (Records records) = Unit {0}
 IfChild p (Child name) = p name
-IfChild p (Sibling name) = Unit {0}
+IfChild p other = Unit {0}
 
 -- a leaf, where it is a sibling leaf, names a page of this level and its box; where it is a child leaf, one below
 pub record FindsSame (facts : List Fact) (level : ℕ) (placed : Placed) : Type 0 where
@@ -113,3 +109,16 @@ pub record HasFacts (meta : Meta) (facts : List Fact) : Type 0 where
   pub layout : IsLayout meta
   pub count : length facts ≡ meta.high
   pub within : meta.high ≤ meta.pages
+
+-- how many records the page has, fewer than 2^32
+abbrev pub records_seen : Fact → ℕ
+records_seen (Live seen) = seen.records
+records_seen (Free next) = 0
+
+abbrev pub IsLightFact : Fact → Type 0
+IsLightFact fact = records_seen fact < 2 ^ 32
+
+-- how many records the pages have together
+abbrev pub all_records : List Fact → ℕ
+all_records [] = 0
+all_records (fact ∷ rest) = records_seen fact + all_records rest

@@ -1,12 +1,12 @@
--- What a split and a growth make of a sound file, as laws, and what every operation does.
+-- What a split, a growth and a posting make of a sound file, as laws, and what every operation does.
 use Rattle.std.specs.Prelude.{◌≡◌, ◌≢◌, ◌⊎◌, ◌↔◌, ℕ, ◌<◌, ◌≤◌, List, Some, None}
 use Rattle.std.specs.FinMap as finite
 use Rattle.hb_space.specs.declared.form.TheConstants.{KMAX}
-use Rattle.hb_space.specs.Boxes.{Area}
+use Rattle.hb_space.specs.Boxes.{Area, Holds}
 use Rattle.hb_layout.specs.Limits.{IsLayout}
 use Rattle.hb_frag.specs.declared.pages.LivePage.{LivePage}
 use Rattle.hb_frag.specs.declared.paths.Side.{Side}
-use Rattle.hb_frag.specs.Leaves.{DirectlyHolds}
+use Rattle.hb_frag.specs.Leaves.{DirectlyHolds, Placed, leaf_at}
 use Rattle.hb_frag.specs.Paths.{part_at}
 use Rattle.hb_frag.specs.Trees.{Tree}
 use Rattle.hb_ops.specs.declared.leaf_cuts.LeafCut.{LeafCut}
@@ -18,6 +18,8 @@ use Rattle.hb_ops.specs.Growing.{new_root}
 use Rattle.hb_ops.specs.Operations.{IsAllowed, IsLicensed, OpHas, effect_of}
 use Rattle.hb_ops.specs.Sound.{IsSound}
 use Rattle.hb_sound.specs.PointWalks.{HasOn, IsPointOf}
+use Rattle.hb_frag.specs.declared.leaves.Leaf.TheVariants.{Child}
+use Rattle.hb_ops.specs.Posting.{IsChildAt, post_page}
 
 -- A split that is allowed and licensed leaves a sound file sound.
 abbrev pub SplitsKeepSound : Type 0
@@ -95,9 +97,57 @@ OperationsKeepLayout = (s : FileState) (op : Op) → IsLayout s.meta → IsAllow
 abbrev pub ContentsBecome : FileState → Op → Type 0
 ContentsBecome s (Put id rec) = (finite.get (contents_of s) rec.key ≡ None) × (contents_of (effect_of s (Put id rec)) ≡ finite.insert (contents_of s) rec.key rec.body)
 ContentsBecome s (Del id point) = ((body : List ℕ) × (finite.get (contents_of s) point ≡ Some body)) × (contents_of (effect_of s (Del id point)) ≡ finite.remove (contents_of s) point)
-ContentsBecome s (Extract source fresh path cuts free_after) = contents_of (effect_of s (Extract source fresh path cuts free_after)) ≡ contents_of s
-ContentsBecome s (Post parent at inner area) = contents_of (effect_of s (Post parent at inner area)) ≡ contents_of s
-ContentsBecome s (Grow fresh free_after) = contents_of (effect_of s (Grow fresh free_after)) ≡ contents_of s
+ContentsBecome s op = contents_of (effect_of s op) ≡ contents_of s
 
 abbrev pub OperationsKeepContents : Type 0
 OperationsKeepContents = (s : FileState) (op : Op) → IsSound s → IsLayout s.meta → OpHas s.meta.k op → IsAllowed s op → IsLicensed s op → ContentsBecome s op
+
+-- the file is sound and has a number of attributes that there may be, and the operation is allowed and licensed there
+pub record MayBeDone (s : FileState) (op : Op) : Type 0 where
+  pub sound : IsSound s
+  pub some_attributes : 1 ≤ s.meta.k
+  pub few_attributes : s.meta.k ≤ KMAX
+  pub has : OpHas s.meta.k op
+  pub allowed : IsAllowed s op
+  pub licensed : IsLicensed s op
+
+-- A posting leaves a sound file sound, and its contents as they are.
+abbrev pub PostingsKeepSound : Type 0
+PostingsKeepSound = (s : FileState) (parent : ℕ) (at : List Side) (inner : ℕ) (area : Area) → let op = Post parent at inner area in MayBeDone s op → IsSound (effect_of s op)
+
+abbrev pub PostingsKeepContents : Type 0
+PostingsKeepContents = (s : FileState) (parent : ℕ) (at : List Side) (inner : ℕ) (area : Area) → let op = Post parent at inner area in
+    MayBeDone s op → contents_of (effect_of s op) ≡ contents_of s
+
+-- Every page directly holds what it held.
+abbrev pub PostingsKeepDirect : Type 0
+PostingsKeepDirect = (s : FileState) (parent : ℕ) (at : List Side) (inner : ℕ) (area : Area) (level : ℕ) (p : List ℕ) (id : ℕ) → let op = Post parent at inner area in
+    MayBeDone s op → HasOn s level p id ↔ HasOn (effect_of s op) level p id
+
+-- The parent alone changes.
+pub record ChangesParent (s t : FileState) (parent : ℕ) (at : List Side) (inner : ℕ) (area : Area) : Type 0 where
+  pub page : LivePage
+  pub live : live_page s parent ≡ Some page
+  pub now : live_page t parent ≡ Some (post_page at inner area page)
+  pub others : (id : ℕ) → id ≢ parent → page_of t id ≡ page_of s id
+
+abbrev pub PostingsChangeParent : Type 0
+PostingsChangeParent = (s : FileState) (parent : ℕ) (at : List Side) (inner : ℕ) (area : Area) → let op = Post parent at inner area in
+    MayBeDone s op → ChangesParent s (effect_of s op) parent at inner area
+
+-- What the leaf at a point names: the new child where the point lies in the box that was given and in that of the leaf
+-- to which the path leads, and otherwise what it named before.
+pub record NamesAt (page new : LivePage) (at : List Side) (inner : ℕ) (area : Area) (p : List ℕ) : Type 0 where
+  pub outer : ℕ
+  pub box : Area
+  pub leaf : IsChildAt at page outer box
+  pub before : Placed
+  pub after : Placed
+  pub was : leaf_at page p ≡ Some before
+  pub now : leaf_at new p ≡ Some after
+  pub given : Holds box p → Holds area p → after.leaf ≡ Child inner
+  pub kept : ¬ (Holds box p × Holds area p) → after.leaf ≡ before.leaf
+
+abbrev pub PostingsName : Type 0
+PostingsName = (s : FileState) (parent : ℕ) (at : List Side) (inner : ℕ) (area : Area) (page : LivePage) (p : List ℕ) → let op = Post parent at inner area in
+    MayBeDone s op → live_page s parent ≡ Some page → Holds page.area p → NamesAt page (post_page at inner area page) at inner area p

@@ -1,9 +1,9 @@
--- What the leaves of the pages name, by the facts of the pages.
-use Rattle.std.specs.Prelude.{◌≡◌, ◌⊎◌, ℕ, ◌≤◌, List, length, All, take, option_map, vec_len, Option, Some, None, Result, IfErr, IfSome, OnOk}
+-- What the leaves of the pages name, by the facts of the pages, and what the first reading leaves of that to the second.
+use Rattle.std.specs.Prelude.{◌≡◌, ◌⊎◌, ℕ, ◌≤◌, List, length, All, take, option_map, vec_len, Option, Some, None, Result, IfErr, IfSome, OnOk, ◌<◌, ◌∷◌, []}
 use Rattle.hb_frag.specs.declared.pages.LivePage.{LivePage}
 use Rattle.hb_frag.specs.declared.pages.Page.{Page}
 use Rattle.hb_frag.specs.declared.pages.Page.TheVariants as pages
-use Rattle.hb_frag.specs.Leaves.{WellCut, leaves, leaves_of}
+use Rattle.hb_frag.specs.Leaves.{WellCut, leaves, leaves_of, Placed, siblings}
 use Rattle.hb_ops.specs.Files.{page_at, if_live}
 use Rattle.hb_ops.specs.Sound.{times_named}
 use Rattle.hb_sound.specs.declared.facts.Fact.{Fact}
@@ -11,10 +11,35 @@ use Rattle.hb_sound.specs.declared.links.Links.{Links}
 use Rattle.hb_sound.specs.declared.names.Times.TheVariants.{Never}
 use Rattle.hb_sound.specs.declared.pages.AuditStop.{AuditStop}
 use Rattle.hb_sound.specs.Facts.{FindsBelow, FindsSame, more, names_in}
-use Rattle.hb_sound.specs.Rests.{KnowsTold}
 use Rattle.hb_sound.specs.Stops.{OnBroken}
 use Rattle.hb_sound.specs.Told.{item_at}
 use Rattle.hb_sound.specs.Walks.{IsLeast}
+use Rattle.hb_space.specs.declared.form.TheConstants.{KMAX}
+use Rattle.hb_sound.specs.declared.facts.Fact.TheVariants.{Live, Free}
+use Rattle.hb_sound.specs.declared.rests.Rest.{Rest}
+use Rattle.hb_sound.specs.declared.rests.Rest.TheVariants.{Nothing, Lone, More}
+
+-- the corners of a box
+pub record AreCorners (lo hi : List ℕ) : Type 0 where
+  pub some : 0 < length lo
+  pub few : length lo ≤ KMAX
+  pub same : length lo ≡ length hi
+
+-- where not more is left, each child leaf among these keeps rule 8 by the facts, and these are the sibling leaves
+abbrev pub IsRestOf : List Fact → ℕ → List Placed → Rest → Type 0
+IsRestOf facts level leaves Nothing = (siblings leaves ≡ []) × All (FindsBelow facts level) leaves
+IsRestOf facts level leaves (Lone name area) = (siblings leaves ≡ (name, area) ∷ []) × All (FindsBelow facts level) leaves
+IsRestOf facts level leaves More = Unit {0}
+
+-- the fact is of a page of this kind, and what it leaves is what the page leaves
+abbrev pub Knows : List Fact → Fact → Page → Type 0
+Knows facts (Live seen) (pages.Live page) = (seen.level ≡ page.level) × IsRestOf facts page.level (leaves_of page.frag page.area) seen.rest
+Knows facts (Free next) (pages.Free other) = Unit {0}
+Knows facts _ _ = ⊥
+
+-- so it is of each fact, and the page that is told under its number
+abbrev pub KnowsTold : List Fact → List (Option Page) → Type 0
+KnowsTold facts told = (id : ℕ) (fact : Fact) (page : Page) → item_at facts id ≡ Some fact → item_at told id ≡ Some (Some page) → Knows facts fact page
 
 -- these pages are told
 abbrev pub Tells : List (Option Page) → List Page → Type 0

@@ -8,8 +8,7 @@ use Rattle.hb_sound.specs.declared.pages.AuditStop.TheVariants as stops
 -- what holds of the page and the rule, where it stopped at a broken one
 abbrev pub OnBroken : (ℕ → ℕ → Type 0) → AuditStop → Type 0
 OnBroken p (stops.Broken page rule) = p page rule
-OnBroken p stops.Failed = Unit {0}
-OnBroken p stops.NoMemory = Unit {0}
+OnBroken p other = Unit {0}
 
 abbrev pub page_stop : PageStop → AuditStop
 page_stop pages.Failed = stops.Failed

@@ -39,3 +39,10 @@ IsWholeFile meta told = (id : ℕ) → ¬ (IsHole meta told id)
 -- what is told speaks of each page that the file may have
 abbrev pub CoversFile : Meta → List (Option Page) → Type 0
 CoversFile meta told = meta.pages ≤ length told
+
+pub record HasBoundedMeta (meta : Meta) : Type 0 where
+  pub some : 1 ≤ meta.high
+  pub high : meta.high ≤ meta.pages
+  pub root : meta.root ≤ meta.high
+  pub free : meta.free ≤ meta.high
+  pub live : meta.live ≤ meta.high

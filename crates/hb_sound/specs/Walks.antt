@@ -1,7 +1,7 @@
 -- The walk along the free chain of any file, sound or not.
 use Rattle.std.specs.Prelude.{◌≡◌, ℕ, ◌≤◌, ◌⊎◌, List, [], ◌∷◌, Contains, Option, Some, None}
 use Rattle.hb_frag.specs.declared.pages.Page.{Page}
-use Rattle.hb_frag.specs.declared.pages.Page.TheVariants.{Live, Free}
+use Rattle.hb_frag.specs.declared.pages.Page.TheVariants.{Free}
 use Rattle.hb_ops.specs.Files.{FileState, page_of}
 
 -- the least number of which something holds
@@ -11,9 +11,8 @@ pub record IsLeast (p : ℕ → Type 0) (n : ℕ) : Type 0 where
 
 -- what follows a page in the chain, where it is free
 abbrev pub if_free : Option Page → Option ℕ
-if_free None = None
-if_free (Some (Live page)) = None
 if_free (Some (Free next)) = Some next
+if_free other = None
 
 abbrev pub next_free : FileState → ℕ → Option ℕ
 next_free s id = if_free (page_of s id)

@@ -4,14 +4,12 @@ ghost use Rattle.hb_frag.specs.declared.pages.Page.{Page as Content};
 ghost use Rattle.hb_sound.specs.Asking.{Asks};
 ghost use Rattle.hb_layout.specs.Limits.{IsLayout};
 ghost use Rattle.hb_sound.specs.Covers.{HasRule, IsLeastRule, SeesRule, SeesTop};
-ghost use Rattle.hb_sound.specs.BoundedMeta.{HasBoundedMeta};
+ghost use Rattle.hb_sound.specs.Told.{HasBoundedMeta, CoversFile, file_with};
 ghost use Rattle.hb_ops.specs.Sound.{IsSound};
-ghost use Rattle.hb_sound.specs.Facts.{AreFactsOf, HasFacts};
-ghost use Rattle.hb_sound.specs.RecordCounts.{IsLightFact, all_records, records_seen};
+ghost use Rattle.hb_sound.specs.Facts.{AreFactsOf, HasFacts, IsLightFact, all_records, records_seen};
 ghost use Rattle.hb_sound.specs.Links.{AreLinks};
 ghost use Rattle.hb_sound.specs.Names.{IsSoundWith, KeepsSix, Names, NamesIn, OneIsNamed, SoundBreaksNone};
 ghost use Rattle.hb_sound.specs.Stops.{OnBroken};
-ghost use Rattle.hb_sound.specs.Told.{CoversFile, file_with};
 ghost use Rattle.hb_sound.specs.Walks.{IsLeast};
 ghost use Rattle.hb_sound.specs.declared.pages.AuditStop.TheVariants.{Broken, Failed};
 

@@ -1,6 +1,6 @@
 //! Rule 2: the free chain, and the count of pages in use.
 ghost use Rattle.std.specs.Prelude.{◌≡◌, ◌<◌, ◌≤◌, ◌^◌, ◌↔◌, ◌⊎◌, ℕ, List, All, length, Some, None, true, false, IfOk, IsTrue, MatchOption};
-ghost use Rattle.hb_sound.specs.Chains.{IsChained, IsFreeBreak, IsFreeFact, live_fact, live_facts};
+ghost use Rattle.hb_sound.specs.Covers.{IsChained, IsFreeBreak, IsFreeFact, live_fact, live_facts};
 ghost use Rattle.hb_sound.specs.Facts.{next_at};
 ghost use Rattle.hb_sound.specs.Told.{item_at};
 ghost use Rattle.hb_sound.specs.Walks.{IsLeast, IsLeftOut, IsChainWalk};

@@ -4,11 +4,9 @@ ghost use Rattle.std.specs.Prelude.{◌≡◌, [], ◌∷◌, Some};
 ghost use Rattle.hb_ops.specs.Files.{live_page};
 ghost use Rattle.hb_ops.specs.Operations.{effect_of};
 ghost use Rattle.hb_ops.specs.Sound.{IsSound};
-ghost use Rattle.hb_sound.specs.Examples.{small_file};
+ghost use Rattle.hb_sound.specs.Examples.{small_file, lost_file, tower_file};
 ghost use Rattle.hb_sound.specs.LateFile.{LateResponsible, LateWalks, late_aside_posted, late_file, late_posting};
-ghost use Rattle.hb_sound.specs.LawsOfPostings.{MayBeDone};
-ghost use Rattle.hb_sound.specs.LostFile.{lost_file};
-ghost use Rattle.hb_sound.specs.TowerFile.{tower_file};
+ghost use Rattle.hb_sound.specs.LawsOfOperations.{MayBeDone};
 ghost use Rattle.hb_sound.specs.PointWalks.{IsResponsible, IsWholeWalk};
 
 /// A file of two levels is sound. From its root, and from the page beside it, a walk leads to the

@@ -4,7 +4,7 @@ ghost use Rattle.hb_frag.specs.Leaves.{IsWellCut, Placed, WellCut, leaves_of};
 ghost use Rattle.hb_frag.specs.declared.leaves.Leaf.TheVariants.{Child, Sibling};
 ghost use Rattle.hb_sound.specs.declared.facts.Fact.{Fact as FactSeen};
 ghost use Rattle.hb_sound.specs.declared.rests.Rest.TheVariants.{Nothing, Lone, More};
-ghost use Rattle.hb_sound.specs.Rests.{AreCorners, IsRestOf};
+ghost use Rattle.hb_sound.specs.Links.{AreCorners, IsRestOf};
 
 use crate::facts::Fact;
 use crate::links::sees_below;

@@ -10,9 +10,8 @@ use Rattle.hb_log_codec.specs.Reading.{logged}
 use Rattle.hb_store.proofs.Facts.Spellings.{OneList}
 use Rattle.hb_store.specs.Replay.{Replayed, MayFollow, MayReplay, after_group, replay, untouched}
 use Rattle.hb_store.specs.Opening.{IsBadPayload}
-use Rattle.hb_store.specs.Replaying.{Follows}
+use Rattle.hb_store.specs.Replaying.{Follows, HasReplayed}
 use Rattle.hb_store.proofs.Facts.ReplayLaws.{MayReplay-append, MayReplay-back, SpellAll-append, replay-append}
-use Rattle.hb_store.specs.LogReading.{HasReplayed}
 
 -- ---- the groups of a payload, one after the other
 

@@ -8,7 +8,7 @@ use Rattle.hb_frag.specs.Grammar.{SpellsPage}
 use Rattle.hb_layout.specs.declared.meta.Meta.{Meta}
 use Rattle.hb_ops.specs.LocalRule.{BreaksFirst}
 use Rattle.hb_store.specs.Opening.{place_bytes}
-use Rattle.hb_store.specs.declared.stops.Why.TheVariants.{Rule, Level, Extent}
+use Rattle.hb_store.specs.declared.stops.Why.TheVariants.{Rule}
 use Rattle.hb_store.specs.declared.stops.FetchStop.{FetchStop}
 use Rattle.hb_store.specs.declared.stops.FetchStop.TheVariants as fetches
 use Rattle.std.specs.FinMap as map
@@ -46,24 +46,17 @@ Breaks meta d id rule = ((rule ≡ 1) × IsNoPage meta id) ⊎ ((rule ≢ 1) × 
 -- Why a page of this number was not fetched.
 abbrev pub FetchesNot : Meta → DiskModel → ℕ → FetchStop → Type 0
 FetchesNot meta d id (fetches.Damaged page (Rule rule)) = (page ≡ id) × Breaks meta d id rule
-FetchesNot meta d id (fetches.Damaged page (Level asked found)) = ⊥
-FetchesNot meta d id (fetches.Damaged page (Extent asked found)) = ⊥
-FetchesNot meta d id fetches.ReadFault = ¬ (IsNoPage meta id)
-FetchesNot meta d id fetches.NoMemory = ¬ (IsNoPage meta id)
+FetchesNot meta d id (fetches.Damaged page other) = ⊥
+FetchesNot meta d id other = ¬ (IsNoPage meta id)
 
 -- The page breaks a rule that speaks of it alone, and the stop names it.
 abbrev pub BreaksHere : Meta → ℕ → Page → FetchStop → Type 0
 BreaksHere meta id page (fetches.Damaged at (Rule rule)) = (at ≡ id) × (rule ≢ 0) × (rule ≢ 1) × (live : LivePage) × (page ≡ Live live) × BreaksFirst rule live meta
-BreaksHere meta id page (fetches.Damaged at (Level asked found)) = ⊥
-BreaksHere meta id page (fetches.Damaged at (Extent asked found)) = ⊥
-BreaksHere meta id page fetches.ReadFault = ⊥
-BreaksHere meta id page fetches.NoMemory = ⊥
+BreaksHere meta id page other = ⊥
 
 -- Why the place of a page gave none: it holds no good page, by its bytes where they are known, and the stop says why. A
 -- fault and want of memory say nothing of it.
 abbrev pub HoldsNot : Meta → Option (List ℕ) → ℕ → FetchStop → Type 0
 HoldsNot meta bytes id (fetches.Damaged at (Rule rule)) = (at ≡ id) × (rule ≢ 1) × IfSome bytes (λ b. IsDamagedBy meta b rule)
-HoldsNot meta bytes id (fetches.Damaged at (Level asked found)) = ⊥
-HoldsNot meta bytes id (fetches.Damaged at (Extent asked found)) = ⊥
-HoldsNot meta bytes id fetches.ReadFault = Unit {0}
-HoldsNot meta bytes id fetches.NoMemory = Unit {0}
+HoldsNot meta bytes id (fetches.Damaged at other) = ⊥
+HoldsNot meta bytes id other = Unit {0}

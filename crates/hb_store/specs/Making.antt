@@ -6,7 +6,7 @@ use Rattle.hb_frag.specs.declared.pages.Page.TheVariants.{Live}
 use Rattle.hb_frag.specs.Grammar.{HasSpelling}
 use Rattle.hb_layout.specs.declared.meta.Meta.{Meta}
 use Rattle.hb_ops.specs.declared.operations.Op.{Op}
-use Rattle.hb_ops.specs.declared.operations.Op.TheVariants.{Put, Del, Extract, Post, Grow}
+use Rattle.hb_ops.specs.declared.operations.Op.TheVariants.{Extract, Post}
 use Rattle.hb_ops.specs.Operations.{Change, IsAllowedOn, OpHas, change_of, reads_of}
 use Rattle.hb_log_codec.specs.Groups.{FitsGroup, FitsLeafCut, FitsOp, Logged}
 use Rattle.hb_store.specs.States.{IsGoodPage, IsMemory, IsSameLayout, IsStanding, StoreState, in_memory, is_in_log}
@@ -37,11 +37,9 @@ MakesGoodPages = (op : Op) (meta : Meta) (first second third : Option LivePage) 
 
 -- the paths and the cuts of an operation have their places in its spelling
 abbrev pub HasFittingParts : Op → Type 0
-HasFittingParts (Put page rec) = Unit {0}
-HasFittingParts (Del page point) = Unit {0}
 HasFittingParts (Extract source fresh path cuts free_after) = (length path < 2 ^ 8) × (length cuts < 2 ^ 8) × All FitsLeafCut cuts
 HasFittingParts (Post parent at inner area) = length at < 2 ^ 8
-HasFittingParts (Grow fresh free_after) = Unit {0}
+HasFittingParts other = Unit {0}
 
 -- An allowed operation's have.
 abbrev pub HaveFittingParts : Type 0

@@ -8,7 +8,7 @@ use Rattle.hb_store.specs.Calls.{Fetched}
 use Rattle.hb_store.specs.States.{StoreState, in_memory}
 use Rattle.hb_store.specs.Fetching.{FetchesNot}
 use Rattle.hb_store.specs.declared.stops.FetchStop.{FetchStop}
-use Rattle.hb_store.specs.declared.stops.FetchStop.TheVariants.{Damaged, ReadFault, NoMemory}
+use Rattle.hb_store.specs.declared.stops.FetchStop.TheVariants.{Damaged}
 use Rattle.hb_store.specs.declared.stops.Why.TheVariants.{Rule}
 
 -- a page was fetched, or nothing changed
@@ -28,8 +28,7 @@ NeedsNoRead st = (st.meta.live ≡ st.meta.pages) ⊎ ((st.meta.free ≡ 0) ⊎ 
 -- the stop names a page that is damaged
 abbrev pub IsDamage : FetchStop → Type 0
 IsDamage (Damaged page why) = Unit {0}
-IsDamage ReadFault = ⊥
-IsDamage NoMemory = ⊥
+IsDamage other = ⊥
 
 -- The head of the free chain is none that is free: it isn't fetched, and so isn't in memory, or it is in use.
 abbrev pub IsNoHead : Meta → DiskModel → StoreState → ℕ → FetchStop → Type 0

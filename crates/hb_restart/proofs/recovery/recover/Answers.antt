@@ -7,15 +7,14 @@ use Rattle.hb_disk.proofs.Facts.RunLaws.{OnlyReads-read}
 use Rattle.hb_lemmas.proofs.Options.{if_value}
 use Rattle.hb_layout.specs.declared.meta.Meta.{Meta}
 use Rattle.hb_ops.specs.Files.{FileState}
-use Rattle.hb_sound.specs.BoundedMeta.{HasBoundedMeta}
+use Rattle.hb_sound.specs.Told.{HasBoundedMeta}
 use Rattle.hb_super.specs.Superblocks.{next_turn, IsNewest}
 use Rattle.hb_store.specs.Opening.{OpensTo}
 use Rattle.hb_store.specs.States.{IsSameLayout}
 use Rattle.hb_store.specs.Keeps.{IsFresh, StoreKeeps}
 use Rattle.hb_store.specs.Seen.{seen_as, disk_of}
-use Rattle.hb_restart.specs.Found.{IsFoundIn, IsRenewable}
-use Rattle.hb_restart.specs.Leaving.{LeavesOpening, RunsThrough}
-use Rattle.hb_restart.specs.WritingBack.{WritesAll}
+use Rattle.hb_restart.specs.Refusals.{IsFoundIn, IsRenewable}
+use Rattle.hb_restart.specs.Leaving.{LeavesOpening, RunsThrough, WritesAll}
 use Rattle.hb_restart.specs.declared.faults.OpenFault.{OpenFault}
 use Rattle.hb_restart.specs.declared.faults.OpenFault.TheVariants.{DiskFault, NoMemory}
 use Rattle.hb_restart.proofs.Facts.Beyond.{found_said}

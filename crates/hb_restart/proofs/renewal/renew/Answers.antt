@@ -7,14 +7,13 @@ use Rattle.hb_layout.specs.declared.meta.Meta.{Meta}
 use Rattle.hb_ops.specs.Files.{FileState}
 use Rattle.hb_store.specs.Opening.{OpensTo}
 use Rattle.hb_store.specs.Keeps.{IsFresh}
-use Rattle.hb_restart.specs.Found.{IsFoundIn}
-use Rattle.hb_restart.specs.Renewing.{IsHere}
+use Rattle.hb_restart.specs.Refusals.{IsFoundIn}
+use Rattle.hb_restart.specs.Leaving.{IsHere, WritesAll, WritesEachOnce}
 use Rattle.hb_restart.proofs.SyncedRuns.{synced_counted, synced_even, synced_late, synced_renewed}
 use Rattle.hb_layout.specs.Offsets.{file_size}
 use Rattle.hb_disk.proofs.Facts.FaultLaws.{not_failed}
 use Rattle.hb_restart.proofs.RunsThen.{runs_as, runs_given_up, runs_sync, runs_then}
 use Rattle.hb_disk.proofs.Facts.RunLaws.{one_tick}
-use Rattle.hb_restart.specs.WritingBack.{WritesAll, WritesEachOnce}
 use Rattle.hb_restart.proofs.EachOnce.{none_written}
 use Rattle.hb_restart.proofs.renewal.renew.Goals as goal
 

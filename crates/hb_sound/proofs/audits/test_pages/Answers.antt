@@ -2,7 +2,7 @@ use Rattle.std.proofs.Common.{inl, ℕ, List, Option, refl, sym, ◌∙◌, subs
 use Rattle.std.proofs.lemmas.Bool.{false≢true}
 use Rattle.std.proofs.lemmas.Result.{err_from_is_err_and}
 use Rattle.hb_frag.specs.declared.pages.Page.{Page}
-use Rattle.hb_sound.specs.Chains.{IsFreeBreak}
+use Rattle.hb_sound.specs.Covers.{IsFreeBreak}
 use Rattle.hb_sound.specs.Facts.{AreFactsOf}
 use Rattle.hb_sound.specs.Names.{NamesIn}
 use Rattle.hb_sound.specs.Told.{file_with}

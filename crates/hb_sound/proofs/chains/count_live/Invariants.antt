@@ -1,5 +1,5 @@
 use Rattle.std.proofs.Common.{◌≡◌, ◌+◌, ◌≤◌, drop}
-use Rattle.hb_sound.specs.Chains.{live_facts}
+use Rattle.hb_sound.specs.Covers.{live_facts}
 use Rattle.hb_sound.proofs.chains.count_live.Given as goal
 
 -- those so far and those of the rest are all

@@ -1,5 +1,5 @@
 use Rattle.std.proofs.Common.{ℕ, List, None}
-use Rattle.hb_sound.specs.Chains.{IsChained}
+use Rattle.hb_sound.specs.Covers.{IsChained}
 use Rattle.hb_sound.specs.Facts.{next_at}
 use Rattle.hb_sound.specs.Links.{IsFirstUpTo}
 use Rattle.hb_sound.specs.Walks.{IsLeftOut}

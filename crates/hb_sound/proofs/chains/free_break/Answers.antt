@@ -1,6 +1,6 @@
 use Rattle.std.proofs.Common.{Bool, List, ◌∙◌, subst, sym, arith}
 use Rattle.std.proofs.lemmas.List.{with_items_is}
-use Rattle.hb_sound.specs.Chains.{IsChained}
+use Rattle.hb_sound.specs.Covers.{IsChained}
 use Rattle.hb_sound.proofs.LeftOut.{ended, left_one}
 use Rattle.hb_sound.proofs.chains.free_break.Goals as goal
 

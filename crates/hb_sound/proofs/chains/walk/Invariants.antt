@@ -1,5 +1,5 @@
 use Rattle.std.proofs.Common.{ℕ, List}
-use Rattle.hb_sound.specs.Chains.{IsChained}
+use Rattle.hb_sound.specs.Covers.{IsChained}
 use Rattle.hb_sound.specs.Facts.{next_at}
 use Rattle.hb_sound.specs.Walks.{IsOnce, LeadsAlong}
 use Rattle.hb_sound.proofs.Flagged.{unflagged}

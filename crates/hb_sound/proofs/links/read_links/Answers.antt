@@ -4,8 +4,7 @@ use Rattle.hb_frag.specs.declared.pages.Page.{Page}
 use Rattle.hb_sound.specs.declared.links.Links.{Links}
 use Rattle.hb_sound.specs.declared.pages.AuditStop.{AuditStop}
 use Rattle.hb_sound.specs.declared.pages.AuditStop.TheVariants.{Failed}
-use Rattle.hb_sound.specs.Links.{AddsPage, AreRead, IsCut}
-use Rattle.hb_sound.specs.Rests.{KnowsTold}
+use Rattle.hb_sound.specs.Links.{AddsPage, AreRead, IsCut, KnowsTold}
 use Rattle.hb_sound.specs.Told.{item_at}
 use Rattle.hb_sound.proofs.Asking.{asks_as, asks_on}
 use Rattle.hb_sound.proofs.LinkSteps.{links_more, never_broken, on_broken}

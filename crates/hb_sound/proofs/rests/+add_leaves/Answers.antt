@@ -1,7 +1,7 @@
 use Rattle.std.proofs.Common.{ℕ, ◌++◌, ◌-◌, slice_set, subst}
 use Rattle.hb_frag.specs.Leaves.{leaves_of}
 use Rattle.hb_frag.specs.Trees.{Cut}
-use Rattle.hb_sound.specs.Rests.{IsRestOf}
+use Rattle.hb_sound.specs.Links.{IsRestOf}
 use Rattle.hb_sound.proofs.RestSteps.{cut_more}
 use Rattle.hb_sound.proofs.rests.+add_leaves.Goals as goal
 use Rattle.hb_lemmas.proofs.Lists.{put_back}

@@ -1,7 +1,6 @@
 use Rattle.std.proofs.Common.{◌≡◌, length, map}
 use Rattle.hb_store.specs.Replay.{untouched}
-use Rattle.hb_store.specs.Replaying.{ReplaysOn, replayed_of}
-use Rattle.hb_store.specs.LogReading.{HasReplayed}
+use Rattle.hb_store.specs.Replaying.{ReplaysOn, replayed_of, HasReplayed}
 use Rattle.hb_store.proofs.reading.replayed.Given as goal
 
 -- the payloads so far were replayed, and counted

@@ -3,7 +3,7 @@ use Rattle.std.proofs.lemmas.List.{with_items_is}
 use Rattle.hb_frag.specs.Leaves.{leaves_of}
 use Rattle.hb_sound.specs.declared.names.Times.{Times}
 use Rattle.hb_sound.specs.declared.rests.Rest.TheVariants.{Lone}
-use Rattle.hb_sound.specs.Rests.{IsRestOf}
+use Rattle.hb_sound.specs.Links.{IsRestOf}
 use Rattle.hb_sound.specs.Told.{item_at}
 use Rattle.hb_sound.proofs.RestSteps.{lone_adds}
 use Rattle.hb_sound.proofs.links.Links.add_lone.Goals as goal
