@@ -2,5 +2,6 @@
 pub mod AllowedDeeds
 pub mod HeldLatches
 pub mod LaterPages
+pub mod NoPlace
 pub mod OneLeaf
 pub mod OneRecord

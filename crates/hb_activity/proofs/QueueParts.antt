@@ -1,9 +1,8 @@
 -- The first job of a kind, and what is left without it.
-use Rattle.std.proofs.Common.{◌≡◌, ◌≢◌, ℕ, suc, ◌<◌, ◌≤◌, Bool, true, false, cond, List, length, get_or, take, drop, position, All, Some, None, refl, sym, ap, ◌∙◌, inl, inr, arith}
-use Rattle.std.specs.List.{remove, position_or_len}
+use Rattle.std.proofs.Common.{◌≡◌, ◌≢◌, ℕ, suc, ◌<◌, true, false, List, get_or, take, drop, position, All, Some, None, refl, sym, ap, ◌∙◌, arith}
+use Rattle.std.specs.List.{remove}
 use Rattle.std.proofs.Math.ListN.{set}
-use Rattle.std.proofs.lemmas.Bool.{false≢true, cases_lt}
-use Rattle.std.proofs.lemmas.Bool.Decides.{Decides-ltb}
+use Rattle.std.proofs.lemmas.Bool.{false≢true}
 use Rattle.std.proofs.lemmas.List.{get_or-take, set-get_or, set_split, length-take}
 use Rattle.std.proofs.lemmas.List.Quantifiers.{position-Some}
 use Rattle.std.proofs.lemmas.List.Sums.{fails_before_first}
@@ -11,6 +10,7 @@ use Rattle.hb_activity.specs.declared.jobs.JobKind.{JobKind}
 use Rattle.hb_activity.specs.declared.jobs.JobKind.TheVariants.{Post, Merge}
 use Rattle.hb_activity.specs.declared.jobs.Job.{Job}
 use Rattle.hb_activity.specs.Queue.{is_of, LeavesFirst}
+use Rattle.hb_activity.proofs.Facts.NoPlace.{none_before}
 
 -- the test of the kind
 kind_so : (kind : JobKind) (job : Job) → is_of kind job ≡ true → job.kind ≡ kind
@@ -28,15 +28,6 @@ kind_not kind job isnt same = by kind (ap (λ (k : JobKind). is_of kind (record 
     by : (k : JobKind) → is_of k (record job { kind = k }) ≡ false → ⊥
     by Post e = false≢true (sym e)
     by Merge e = false≢true (sym e)
-
--- no place is found where no job is of the kind
-none_before : (p : Job → Bool) (jobs : List Job) → position p jobs ≡ None → length jobs ≤ position_or_len p jobs
-none_before p jobs none = elim (cases_lt (position_or_len p jobs) (length jobs)) [
-  | inl lt ↦
-      let some : position p jobs ≡ Some (position_or_len p jobs) = ap (λ b. cond b (Some (position_or_len p jobs)) None) ((Decides-ltb (position_or_len p jobs) (length jobs)).1 lt) in
-      cc
-  | inr ge ↦ ge
-]
 
 pub none_of : (kind : JobKind) (jobs : List Job) → position (is_of kind) jobs ≡ None → All (λ job. job.kind ≢ kind) jobs
 none_of kind jobs none k d lt = kind_not kind (get_or jobs k d) (fails_before_first (is_of kind) jobs k d (omega (arith, none_before (is_of kind) jobs none)))

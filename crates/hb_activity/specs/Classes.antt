@@ -40,25 +40,21 @@ pub data Hand : Type 0 where
   HasJob : Job → Hand
 
 abbrev pub hand_of : Activity → Hand
-hand_of at.SessionIdle = Empty
 hand_of (at.SessionWalk line held rest found) = HasLine line
 hand_of (at.SessionSplit line held) = HasLine line
 hand_of (at.SessionPut line source fresh) = HasLine line
-hand_of (at.SessionAwait line reply place) = Empty
-hand_of at.PosterIdle = Empty
 hand_of (at.PosterGrow job) = HasJob job
 hand_of (at.PosterWalk job held) = HasJob job
 hand_of (at.PosterChild job parent) = HasJob job
 hand_of (at.PosterPromote job parent) = HasJob job
 hand_of (at.PosterAgain job parent) = HasJob job
-hand_of at.ConsolidatorIdle = Empty
 hand_of (at.ConsolidatorWalk job held) = HasJob job
 hand_of (at.ConsolidatorScan job parent child) = HasJob job
 hand_of (at.ConsolidatorTry job parent keep gone leaf) = HasJob job
 hand_of (at.ConsolidatorPromote job parent keep gone) = HasJob job
 hand_of (at.ConsolidatorKeep job parent keep gone) = HasJob job
 hand_of (at.ConsolidatorDecide job parent keep gone) = HasJob job
-hand_of at.Flusher = Empty
+hand_of other = Empty
 
 -- how one of the kind stands with nothing in hand
 abbrev pub idle_of : Class → Activity
@@ -69,14 +65,12 @@ idle_of Flushers = at.Flusher
 
 -- the line that an actor has in hand, and the job that it has in work
 abbrev pub line_of : Hand → Option Line
-line_of Empty = None
 line_of (HasLine line) = Some line
-line_of (HasJob job) = None
+line_of other = None
 
 abbrev pub job_of : Hand → Option Job
-job_of Empty = None
-job_of (HasLine line) = None
 job_of (HasJob job) = Some job
+job_of other = None
 
 abbrev pub line_in_hand : Activity → Option Line
 line_in_hand activity = line_of (hand_of activity)

@@ -11,7 +11,7 @@ use Rattle.hb_activity.specs.declared.activities.Activity.TheVariants as at
 use Rattle.hb_activity.specs.declared.deciding.Fate.{Fate}
 use Rattle.hb_activity.specs.declared.deciding.Fate.TheVariants as fates
 use Rattle.hb_activity.specs.declared.deciding.Next.{Next}
-use Rattle.hb_activity.specs.Classes.{Hand, Empty, HasLine, HasJob, hand_of}
+use Rattle.hb_activity.specs.Classes.{Hand, HasLine, hand_of}
 use Rattle.hb_activity.specs.Deeds.{Answers, Deed, GoesOn, Says}
 use Rattle.hb_activity.specs.Sights.{Sight}
 
@@ -33,25 +33,20 @@ kept_reply other = None
 -- The line in hand joins the order with the reply that is kept, where it takes effect.
 abbrev pub joins_with : Hand → Option Reply → Option Entry
 joins_with (HasLine line) (Some reply) = Some (record { line = line; reply = reply })
-joins_with (HasLine line) None = None
-joins_with Empty reply = None
-joins_with (HasJob job) reply = None
+joins_with hand reply = None
 
 abbrev pub joined_by : Hand → Activity → Fate → Option Entry
-joined_by hand after fates.GoesOn = None
 joined_by hand after fates.TakesEffect = joins_with hand (kept_reply after)
-joined_by hand after (fates.Answers reply) = None
+joined_by hand after other = None
 
 -- and is answered with this one, where it is answered now
 abbrev pub says_with : Hand → Reply → Says
 says_with (HasLine line) reply = Answers line.number reply
-says_with Empty reply = GoesOn
-says_with (HasJob job) reply = GoesOn
+says_with hand reply = GoesOn
 
 abbrev pub said_by : Hand → Fate → Says
-said_by hand fates.GoesOn = GoesOn
-said_by hand fates.TakesEffect = GoesOn
 said_by hand (fates.Answers reply) = says_with hand reply
+said_by hand other = GoesOn
 
 abbrev pub deed_of : Activity → Next → Deed
 deed_of activity next = record {

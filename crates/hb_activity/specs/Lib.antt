@@ -3,9 +3,7 @@ pub mod Walks
 pub mod Holding
 pub mod Wanting
 pub mod BoxLocks
-pub mod Changing
 pub mod Waiting
-pub mod Laws
 pub mod Classes
 pub mod Deeds
 pub mod Sights

@@ -2,7 +2,7 @@
 use Rattle.std.specs.Prelude.{◌≡◌, ℕ, ◌+◌, ◌<◌, List, [], ◌∷◌, Some}
 use Rattle.hb_space.specs.Boxes.{Area}
 use Rattle.hb_frag.specs.declared.leaves.Leaf.{Leaf}
-use Rattle.hb_frag.specs.declared.leaves.Leaf.TheVariants.{Records, Child, Sibling}
+use Rattle.hb_frag.specs.declared.leaves.Leaf.TheVariants.{Child, Sibling}
 use Rattle.hb_frag.specs.declared.pages.LivePage.{LivePage}
 use Rattle.hb_frag.specs.declared.paths.Side.{Side}
 use Rattle.hb_frag.specs.Leaves.{IsPointer, leaf_at}
@@ -19,8 +19,7 @@ use Rattle.hb_activity.specs.Sights.{Sight}
 -- A leaf that names a page leads on to that. A sibling leaf shows that the parent owes a posting.
 abbrev pub posts_owed : LivePage → List ℕ → Leaf → List Job
 posts_owed page p (Sibling name) = record { kind = Post; level = page.level + 1; point = p } ∷ []
-posts_owed page p (Child name) = []
-posts_owed page p (Records records) = []
+posts_owed page p other = []
 
 pub record PassesOn (page : LivePage) (p : List ℕ) (next : Activity) (deed : Deed) : Type 0 where
   pub leaf : Leaf

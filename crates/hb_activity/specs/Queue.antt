@@ -11,9 +11,8 @@ is_of kind job = same_kind kind job.kind
   where
     same_kind : JobKind → JobKind → Bool
     same_kind Post Post = true
-    same_kind Post Merge = false
-    same_kind Merge Post = false
     same_kind Merge Merge = true
+    same_kind one other = false
 
 -- no job stands twice, and there are at most 256
 pub record AreQueued (jobs : List Job) : Type 0 where

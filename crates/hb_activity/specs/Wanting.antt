@@ -1,7 +1,7 @@
--- Which latch the next step of an activity wants.
-use Rattle.std.specs.Prelude.{ℕ, ◌-◌, List, Option, Some, None, IfSome, IsSome}
-use Rattle.std.specs.Option.{option_and_then, option_map}
-use Rattle.hb_space.specs.Boxes.{Holds}
+-- Which latch the next step of an activity wants, whether it may change the file, and what the laws of activities speak of.
+use Rattle.std.specs.Prelude.{ℕ, ◌-◌, List, Option, Some, None, IfSome, IsSome, ◌==◌, Bool, true, false, ◌&&◌, ◌≡◌, ◌⊎◌, IsTrue, [], ◌∷◌, Any, IsSomeAnd}
+use Rattle.std.specs.Option.{option_and_then, option_map, option_map_or}
+use Rattle.hb_space.specs.Boxes.{Holds, Area}
 use Rattle.hb_frag.specs.declared.leaves.Leaf.{Leaf}
 use Rattle.hb_frag.specs.declared.leaves.Leaf.TheVariants.{Records, Child, Sibling}
 use Rattle.hb_frag.specs.declared.pages.LivePage.{LivePage}
@@ -11,8 +11,12 @@ use Rattle.hb_latch.specs.declared.modes.Mode.{Mode}
 use Rattle.hb_latch.specs.declared.modes.Mode.TheVariants.{Shared, Exclusive}
 use Rattle.hb_activity.specs.declared.wanting.Wanted.{Wanted}
 use Rattle.hb_activity.specs.declared.activities.Activity.{Activity}
-use Rattle.hb_activity.specs.declared.activities.Activity.TheVariants.{SessionWalk, PosterGrow, PosterWalk, PosterChild, PosterPromote, PosterAgain, ConsolidatorWalk, ConsolidatorScan, ConsolidatorTry, ConsolidatorPromote, ConsolidatorKeep, ConsolidatorDecide}
-use Rattle.hb_activity.specs.Walks.{session_mode, job_mode, goal_of, walk_point, walk_held}
+use Rattle.hb_activity.specs.declared.activities.Activity.TheVariants.{SessionWalk, PosterGrow, PosterWalk, PosterChild, PosterPromote, PosterAgain, ConsolidatorWalk, ConsolidatorScan, ConsolidatorTry, ConsolidatorPromote, ConsolidatorKeep, ConsolidatorDecide, SessionSplit, SessionPut}
+use Rattle.hb_activity.specs.Walks.{session_mode, job_mode, goal_of, walk_point, walk_held, may_change}
+use Rattle.hb_space.specs.declared.records.Record.{Record}
+use Rattle.hb_set.specs.declared.scripts.Line.{Line}
+use Rattle.hb_activity.specs.declared.jobs.Job.{Job}
+use Rattle.hb_activity.specs.Holding.{latch_on, held_of}
 
 abbrev pub wanted_page : ℕ → ℕ → Mode → Wanted
 wanted_page page level mode = record { page = page; level = level; mode = mode }
@@ -25,9 +29,8 @@ named_page level (Sibling page) = Some (page, level)
 
 -- the child alone
 abbrev pub named_child : ℕ → Leaf → Option (ℕ × ℕ)
-named_child level (Records records) = None
 named_child level (Child page) = Some (page, level - 1)
-named_child level (Sibling page) = None
+named_child level other = None
 
 -- where a walk to the point goes on from a page, and the child at the point
 abbrev pub onward_at : LivePage → List ℕ → Option (ℕ × ℕ)
@@ -89,3 +92,28 @@ pub record HasLeafAt (page : LivePage) (p : List ℕ) : Type 0 where
 -- the page can be looked into
 abbrev pub CanLook : Activity → Option LivePage → Type 0
 CanLook activity page = IfSome page (λ page. IfSome (looked_at activity) (HasLeafAt page))
+
+-- A walk of an insert or a delete may, where the page that it wants is one of records. Else the activity says it.
+abbrev pub may_commit : Activity → Meta → Option LivePage → Bool
+may_commit (SessionWalk line held rest found) meta page = may_change line.command && option_map_or (λ wanted. wanted.level == 0) (wanted_of (SessionWalk line held rest found) meta page) false
+may_commit (SessionSplit line held) meta page = true
+may_commit (SessionPut line source fresh) meta page = true
+may_commit (PosterGrow job) meta page = true
+may_commit (PosterAgain job parent) meta page = true
+may_commit (ConsolidatorDecide job parent keep gone) meta page = true
+may_commit other meta page = false
+
+-- A walk that goes on to the page that it wants, which is of the wanted level, then holds just that one as it wanted it.
+-- `at` is the walk with another held page.
+abbrev pub GoesOn : (Option ℕ → Activity) → Type 0
+GoesOn at = (held : Option ℕ) (meta : Meta) (before : Option LivePage) (wanted : Wanted) (page : LivePage) → wanted_of (at held) meta before ≡ Some wanted → page.level ≡ wanted.level → held_of (at (Some wanted.page)) (Some page) ≡ latch_on wanted.page wanted.mode ∷ []
+
+abbrev pub SessionsGoOn : Type 0
+SessionsGoOn = (line : Line) (rest : List Area) (found : List Record) → GoesOn (λ held. SessionWalk line held rest found)
+
+abbrev pub WorkersGoOn : Type 0
+WorkersGoOn = (job : Job) → GoesOn (PosterWalk job) × GoesOn (ConsolidatorWalk job)
+
+-- What may change the file holds a page alone, or wants one so.
+abbrev pub ChangersAreAlone : Type 0
+ChangersAreAlone = (activity : Activity) (meta : Meta) (page : Option LivePage) → IsTrue (may_commit activity meta page) → Any (λ latch. latch.mode ≡ Exclusive) (held_of activity page) ⊎ IsSomeAnd (wanted_of activity meta page) (λ wanted. wanted.mode ≡ Exclusive)

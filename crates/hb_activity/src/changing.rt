@@ -7,8 +7,7 @@ use hb_frag::LivePage;
 use hb_layout::Meta;
 
 impl Activity {
-    ghost use Rattle.hb_activity.specs.Wanting.{LooksIntoPage, CanLook};
-    ghost use Rattle.hb_activity.specs.Changing.{may_commit};
+    ghost use Rattle.hb_activity.specs.Wanting.{LooksIntoPage, CanLook, may_commit};
 
     /// Whether the next step may apply an operation to the file. The page is that of `wanted`.
     pub fn may_commit(&self, meta: &Meta, page: Option<&LivePage>) -> bool

@@ -3,8 +3,7 @@ ghost use Rattle.hb_space.specs.Boxes.{Area as Extent, Cuts as Parts};
 ghost use Rattle.hb_frag.specs.Leaves.{WellCut};
 ghost use Rattle.hb_frag.specs.Paths.{part_at};
 ghost use Rattle.hb_frag.specs.Trees.{Tree};
-ghost use Rattle.hb_ops.specs.Cutting.{PartLeaves, half_area, reached};
-ghost use Rattle.hb_ops.specs.Splits.{PlanesCut};
+ghost use Rattle.hb_ops.specs.Cutting.{PartLeaves, half_area, reached, PlanesCut};
 
 use hb_frag::{LivePage, Path, Side};
 use hb_ops::{Cuts, LeafCut};

@@ -8,7 +8,7 @@ ghost use Rattle.hb_activity.specs.declared.wanting.Wanted.{Wanted as OneLatch};
 ghost use Rattle.hb_activity.specs.declared.activities.Activity.{Activity as Standing};
 ghost use Rattle.hb_activity.specs.Holding.{held_of};
 ghost use Rattle.hb_activity.specs.Waiting.{WaitsFor, IsLater, GetLater, last_page};
-ghost use Rattle.hb_activity.specs.Laws.{SessionsGoOn, WorkersGoOn, ChangersAreAlone};
+ghost use Rattle.hb_activity.specs.Wanting.{SessionsGoOn, WorkersGoOn, ChangersAreAlone};
 
 /// An activity holds two latches at most. An actor may hold three, so there is always room for the
 /// one that its next step wants.

@@ -2,9 +2,9 @@
 //! it holds, the one that its next step wants, the box that its command has locked, and whether
 //! its next step may change the file. And the jobs that wait for the workers.
 //!
-//! The one contract: each of these is as the table of `specs/Holding.antt`, `specs/Wanting.antt`,
-//! `specs/BoxLocks.antt` and `specs/Changing.antt` says for the activity, and the jobs are a list in
-//! the order in which they came, each once.
+//! The one contract: each of these is as the table of `specs/Holding.antt`, `specs/Wanting.antt` and
+//! `specs/BoxLocks.antt` says for the activity, and the jobs are a list in the order in which they
+//! came, each once.
 //!
 //! Invariants: of `Jobs`, that no job stands twice, that there are at most `JOBS`, and that there
 //! is room for so many. An `Activity` is plain data.

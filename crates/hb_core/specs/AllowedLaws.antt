@@ -21,7 +21,7 @@ use Rattle.hb_core.specs.Rows.{Row}
 use Rattle.hb_space.specs.Boxes.{Area}
 use Rattle.hb_space.specs.Points.{IsBody}
 use Rattle.hb_store.specs.Calls.{IsAllowedHere}
-use Rattle.hb_store.specs.NextPage.{IsNext}
+use Rattle.hb_store.specs.Fetching.{IsNext}
 use Rattle.hb_store.specs.States.{StoreState, in_memory}
 use Rattle.hb_terms.specs.Plans.{Posts}
 

@@ -14,7 +14,7 @@ use Rattle.hb_frag.specs.declared.pages.Page.TheVariants.{Live, Free}
 use Rattle.hb_layout.specs.Limits.{IsLayout}
 use Rattle.hb_ops.specs.Sound.{FitsFile}
 use Rattle.hb_point.specs.Asks.{MayAsk}
-use Rattle.hb_point.specs.PointRows.{PointRow}
+use Rattle.hb_point.specs.SessionRows.{PointRow}
 use Rattle.hb_poster.specs.Asks.{AsksMemory, MakesPage, MayBeAsked}
 use Rattle.hb_poster.specs.PosterRows.{PosterRow}
 use Rattle.hb_store.specs.declared.stops.Why.{Why}

@@ -8,7 +8,7 @@ use Rattle.hb_activity.specs.declared.jobs.Job.{Job}
 use Rattle.hb_activity.specs.declared.activities.Activity.TheVariants as at
 use Rattle.hb_core.specs.declared.outcomes.Outcome.{Outcome}
 use Rattle.hb_core.specs.declared.outcomes.Outcome.TheVariants as outcomes
-use Rattle.hb_activity.specs.Changing.{may_commit}
+use Rattle.hb_activity.specs.Wanting.{may_commit}
 use Rattle.hb_activity.specs.Deeds.{Deed, answers_now, takes_job}
 use Rattle.hb_consol.specs.ConsolidatorRows.{IsMergingOf}
 use Rattle.hb_core.specs.Acting.{DoesRow, Abandons, MeetsBadPage}

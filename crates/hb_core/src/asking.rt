@@ -1,7 +1,6 @@
 //! Which page a step asks for, and what it tests of that page before it latches it.
 ghost use Rattle.std.specs.Prelude.{◌≡◌, ◌↔◌, ◌≢◌, length, IsTrue, IsSome, Some, IfErr, IfSome, OnOk, MatchOption};
-ghost use Rattle.hb_activity.specs.Changing.{may_commit};
-ghost use Rattle.hb_activity.specs.Wanting.{HasLeafAt};
+ghost use Rattle.hb_activity.specs.Wanting.{may_commit, HasLeafAt};
 ghost use Rattle.hb_frag.specs.declared.pages.Page.TheVariants.{Live};
 ghost use Rattle.hb_latch.specs.Tables.{MayLatch};
 ghost use Rattle.hb_layout.specs.Limits.{IsLayout};

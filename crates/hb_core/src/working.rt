@@ -3,7 +3,7 @@ ghost use Rattle.std.specs.Prelude.{◌≡◌, ◌↔◌, None, IsTrue, IfOk, If
 ghost use Rattle.hb_latch.specs.Tables.{IsGrantable, IsLeastInTheWay, MayLatch};
 ghost use Rattle.hb_activity.specs.Classes.{hand_of};
 ghost use Rattle.hb_core.specs.Acting.{DoesRow};
-ghost use Rattle.hb_activity.specs.Changing.{may_commit};
+ghost use Rattle.hb_activity.specs.Wanting.{may_commit};
 ghost use Rattle.hb_store.specs.Calls.{IsReady};
 ghost use Rattle.hb_core.specs.Asking.{looked_live, wanted_by};
 ghost use Rattle.hb_core.specs.Looking.{MayLook};

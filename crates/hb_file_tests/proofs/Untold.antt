@@ -9,7 +9,7 @@ use Rattle.hb_ops.specs.Operations.{IsLicensed}
 use Rattle.hb_store.specs.Calls.{Fetched}
 use Rattle.hb_store.specs.States.{StoreState}
 use Rattle.hb_store.specs.Keeps.{StoreKeeps, last_of}
-use Rattle.hb_store.specs.NextPage.{MayFetch}
+use Rattle.hb_store.specs.Fetching.{MayFetch}
 use Rattle.hb_store.specs.Forced.{forced_state}
 
 pub licensed : (size reads writes : ℕ) (st : StoreState) (op : Op) (durable : FileState) (later : List FileState) → StoreKeeps (untold_of size reads writes) st durable later → IsLicensed (last_of durable later) op

@@ -12,9 +12,8 @@ use Rattle.hb_frag.specs.Paths.{StaysInside, part_at}
 use Rattle.hb_frag.specs.Rules.{IsSiblingTip}
 use Rattle.hb_frag.specs.Trees.{Tree, Tip, Cut}
 use Rattle.hb_ops.specs.declared.leaf_cuts.LeafCut.{LeafCut}
-use Rattle.hb_ops.specs.Cutting.{PartLeaves, going, half_area, is_on, other_side, reached}
+use Rattle.hb_ops.specs.Cutting.{PartLeaves, going, half_area, is_on, other_side, reached, PlanesCut, goes_on}
 use Rattle.hb_ops.specs.Extracting.{FitsPart}
-use Rattle.hb_ops.specs.Splits.{PlanesCut, goes_on}
 
 -- two filters are one
 twice : (p q : Record → Bool) (rs : List Record) → filter (λ r. p r && q r) rs ≡ filter q (filter p rs)

@@ -10,8 +10,7 @@ use Rattle.hb_frag.specs.Normal.{normal}
 use Rattle.hb_frag.specs.Paths.{StaysInside, with_part}
 use Rattle.hb_frag.specs.Trees.{Tree, Tip}
 use Rattle.hb_layout.specs.declared.meta.Meta.{Meta}
-use Rattle.hb_ops.specs.Posting.{FitsPost, IsChildAt, post_page, posted}
-use Rattle.hb_ops.specs.Posts.{PostsAt}
+use Rattle.hb_ops.specs.Posting.{FitsPost, IsChildAt, post_page, posted, PostsAt}
 use Rattle.hb_ops.specs.Sound.{FitsFile}
 use Rattle.hb_ops.proofs.CutTests.{stays_inside}
 use Rattle.hb_ops.proofs.Facts.PathLaws.{part_has}

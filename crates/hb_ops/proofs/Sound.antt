@@ -13,10 +13,10 @@ use Rattle.hb_layout.specs.declared.meta.Meta.{Meta}
 use Rattle.hb_ops.specs.declared.operations.Op.TheVariants.{Put, Del}
 use Rattle.hb_ops.specs.Files.{FileState, if_live, live_page, page_of}
 use Rattle.hb_ops.specs.Recording.{joined, page_with, without}
-use Rattle.hb_ops.specs.Operations.{change_of, nth_read, with_page, with_changed_pages}
-use Rattle.hb_ops.specs.LawsOfContents.{PutStaysSound, DelStaysSound}
-use Rattle.hb_ops.specs.Sound.{ChildrenMatch, FitsFile, IsChain, IsCounted, IsCovered, IsRooted, IsSound, SiblingsMatch, count_live, count_name, times_named}
+use Rattle.hb_ops.specs.Operations.{change_of, nth_read, with_page, with_changed_pages, PutStaysSound, DelStaysSound}
+use Rattle.hb_ops.specs.Sound.{ChildrenMatch, FitsFile, IsCounted, IsCovered, IsRooted, IsSound, SiblingsMatch, count_live, count_name, times_named}
 use Rattle.hb_ops.proofs.Facts.Contents.{del_on, put_on}
+use Rattle.hb_ops.proofs.Facts.FilePages.{chain_kept}
 use Rattle.hb_ops.proofs.Facts.PageNumberLaws.{get-set_other, get-set_same, in_range, live_so, page_at-suc, page_at-zero, place_of, with_page-there}
 use Rattle.hb_ops.proofs.Remade.{children_again, del_made, put_made, siblings_again}
 use Rattle.hb_ops.proofs.Facts.PlacedLaws.{placed}
@@ -97,10 +97,6 @@ module _ (s : FileState) (n : ℕ) (page made : LivePage) (at : slice_get s.page
     | inr ne ↦ sym (other_page id ne) ∙ e
   ]
 
-  chain_stays : (head : ℕ) (chain : List ℕ) → IsChain s head chain → IsChain after head chain
-  chain_stays head [] h = h
-  chain_stays head (id ∷ rest) h = (h.0, h.1, h.2, free_stays id h.2 h.3, chain_stays h.2 rest h.4)
-
   rooted_again : IsRooted s → IsRooted after
   rooted_again h =
       let top = pair_of_old s.meta.root h.top.0 h.top.1 in
@@ -117,7 +113,7 @@ module _ (s : FileState) (n : ℕ) (page made : LivePage) (at : slice_get s.page
   counted_again : IsCounted s → IsCounted after
   counted_again h = record {
     chain = h.chain;
-    chained = chain_stays s.meta.free h.chain h.chained;
+    chained = chain_kept s after free_stays s.meta.free h.chain h.chained;
     all = λ id next e. h.all id next (free_was id next e);
     live = h.live ∙ sym (count-set s.pages n page made at);
   }

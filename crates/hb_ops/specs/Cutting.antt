@@ -1,5 +1,5 @@
--- A records leaf is cut, one cut inside the other, and each goes on at its side.
-use Rattle.std.specs.Prelude.{◌≡◌, ℕ, ◌<◌, Bool, not, nat_lt, List, [], ◌∷◌, length, filter, slice_index}
+-- A records leaf is cut, one cut inside the other, and each goes on at its side: which records go on at all of them.
+use Rattle.std.specs.Prelude.{◌≡◌, ℕ, ◌<◌, Bool, not, nat_lt, List, [], ◌∷◌, length, filter, slice_index, true, ◌&&◌}
 use Rattle.hb_space.specs.Boxes.{Area, Cuts, side_below, side_from}
 use Rattle.hb_space.specs.declared.records.Record.{Record}
 use Rattle.hb_frag.specs.declared.leaves.Leaf.TheVariants.{Records}
@@ -68,3 +68,13 @@ pub record PartsLeaf (cut : LeafCut) (tree : Tree) (area : Area) : Type 0 where
 abbrev pub PartLeaves : List LeafCut → Tree → Area → Type 0
 PartLeaves [] tree area = Unit {0}
 PartLeaves (cut ∷ cuts) tree area = PartsLeaf cut tree area × PartLeaves cuts (going cut tree) (half_area cut area)
+
+-- a record goes on at each of the cuts
+abbrev pub goes_on : List LeafCut → Record → Bool
+goes_on [] r = true
+goes_on (cut ∷ cuts) r = is_on cut.side cut.axis cut.value r && goes_on cuts r
+
+-- the cuts' planes part the box, one inside the other
+abbrev pub PlanesCut : List LeafCut → Area → Type 0
+PlanesCut [] area = Unit {0}
+PlanesCut (cut ∷ cuts) area = Cuts area cut.axis cut.value × PlanesCut cuts (half_area cut area)

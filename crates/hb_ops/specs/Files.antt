@@ -24,9 +24,8 @@ page_of s id = page_at s.pages id
 
 -- the same where it is in use
 abbrev pub if_live : Option Page → Option LivePage
-if_live None = None
 if_live (Some (Live page)) = Some page
-if_live (Some (Free next)) = None
+if_live other = None
 
 abbrev pub live_page : FileState → ℕ → Option LivePage
 live_page s id = if_live (page_of s id)

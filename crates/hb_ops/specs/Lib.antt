@@ -5,13 +5,6 @@ pub mod Allocating
 pub mod Cutting
 pub mod Extracting
 pub mod Posting
-pub mod Growing
 pub mod Operations
-pub mod LocalRule
 pub mod Given
-pub mod LawsOfContents
-pub mod Edits
 pub mod Standing
-pub mod Looked
-pub mod Splits
-pub mod Posts

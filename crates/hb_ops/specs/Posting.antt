@@ -1,24 +1,22 @@
 -- A page gets a child leaf to a page to which its child gave a box.
-use Rattle.std.specs.Prelude.{◌≡◌, ◌≢◌, ℕ, ◌<◌, ◌≤◌, List, Contains, Option, Some, None}
+use Rattle.std.specs.Prelude.{◌≡◌, ◌≢◌, ℕ, ◌<◌, ◌≤◌, List, Contains, Option, Some, None, length}
 use Rattle.hb_space.specs.Boxes.{Area, Meets}
 use Rattle.hb_layout.specs.declared.meta.Meta.{Meta}
-use Rattle.hb_frag.specs.declared.leaves.Leaf.TheVariants.{Records, Child, Sibling}
+use Rattle.hb_frag.specs.declared.leaves.Leaf.TheVariants.{Child}
 use Rattle.hb_frag.specs.declared.pages.LivePage.{LivePage}
 use Rattle.hb_frag.specs.declared.paths.Side.{Side}
 use Rattle.hb_frag.specs.Carving.{carved}
 use Rattle.hb_frag.specs.Leaves.{siblings_of, weight_of}
 use Rattle.hb_frag.specs.Normal.{normal}
 use Rattle.hb_frag.specs.Paths.{part_at, with_part}
-use Rattle.hb_frag.specs.Trees.{Tree, Tip, Cut}
+use Rattle.hb_frag.specs.Trees.{Tree, Tip}
 use Rattle.hb_ops.specs.Files.{FileState, live_page}
 use Rattle.hb_ops.specs.Sound.{FitsFile}
 
 -- a child leaf of this box, once a page is named over what the box has in common with another one; another part stays
 abbrev pub named_within : ℕ → Area → Tree × Area → Tree
-named_within inner area (Tip (Records records), box) = Tip (Records records)
 named_within inner area (Tip (Child outer), box) = carved box area outer inner
-named_within inner area (Tip (Sibling page), box) = Tip (Sibling page)
-named_within inner area (Cut axis value left right, box) = Cut axis value left right
+named_within inner area (other, box) = other
 
 -- the page afterwards, without cuts whose two sides should be one leaf; where the path leads out of it, it stays
 abbrev pub posted : List Side → ℕ → Area → Tree → Option (Tree × Area) → Tree
@@ -55,3 +53,10 @@ pub record GaveAway (s : FileState) (parent : ℕ) (at : List Side) (inner : ℕ
   pub child : LivePage
   pub named : live_page s outer ≡ Some child
   pub gave : Contains (siblings_of child) (inner, area)
+
+-- a posting is allowed, and the path leads to this child leaf, whose box meets the one that was given
+pub record PostsAt (meta : Meta) (page : LivePage) (at : List Side) (inner : ℕ) (area : Area) (outer : ℕ) (box : Area) : Type 0 where
+  pub allowed : FitsPost meta page at inner area
+  pub leaf : IsChildAt at page outer box
+  pub meets : Meets box area
+  pub attributes : length area.lo ≡ length box.lo

@@ -1,15 +1,17 @@
--- A record joins a page, or goes from one.
-use Rattle.std.specs.Prelude.{◌≡◌, ◌≢◌, ℕ, ◌≤◌, List, ◌∷◌, ◌++◌, filter, All, Any, Some}
+-- A record joins a page, or goes from one, and what a put and a delete find in it.
+use Rattle.std.specs.Prelude.{◌≡◌, ◌≢◌, ℕ, ◌≤◌, List, ◌∷◌, ◌++◌, filter, All, Any, Some, ◌<◌, length}
 use Rattle.std.specs.Ordering.{is_lt, is_gt, is_ne}
 use Rattle.hb_space.specs.Points.{point_cmp}
-use Rattle.hb_space.specs.Boxes.{Area}
+use Rattle.hb_space.specs.Boxes.{Area, Holds}
 use Rattle.hb_space.specs.declared.records.Record.{Record}
 use Rattle.hb_frag.specs.declared.leaves.Leaf.{Leaf}
-use Rattle.hb_frag.specs.declared.leaves.Leaf.TheVariants.{Records, Child, Sibling}
+use Rattle.hb_frag.specs.declared.leaves.Leaf.TheVariants.{Records}
 use Rattle.hb_frag.specs.declared.pages.LivePage.{LivePage}
 use Rattle.hb_frag.specs.Leaves.{leaf_at, with_leaf_at, weight_of}
 use Rattle.hb_layout.specs.declared.meta.Meta.{Meta}
 use Rattle.hb_ops.specs.Sound.{FitsFile}
+use Rattle.std.specs.List.{AllWithin, HoldsAt}
+use Rattle.std.specs.declared.cmp.Ordering.TheVariants.{Less, Greater}
 
 -- a record among the records of a leaf, in the order of their points
 abbrev pub joined : Record → List Record → List Record
@@ -22,8 +24,7 @@ without point records = filter (λ r. is_ne (point_cmp r.key point)) records
 -- a leaf with its records changed; one that names a page stays
 abbrev pub on_records : (List Record → List Record) → Leaf → Leaf
 on_records change (Records records) = Records (change records)
-on_records change (Child page) = Child page
-on_records change (Sibling page) = Sibling page
+on_records change other = other
 
 -- a page with the records changed that its leaf at the point has
 abbrev pub page_with : List ℕ → (List Record → List Record) → LivePage → LivePage
@@ -56,3 +57,34 @@ pub record FitsDel (meta : Meta) (page : LivePage) (point : List ℕ) : Type 0 w
   pub made : FitsFile meta page
   pub level : page.level ≡ 0
   pub there : HasRecordsAt page point (Any (λ r. r.key ≡ point))
+
+-- the page is well made and of level 0, and its leaf at the point has these records
+pub record IsOpenAt (meta : Meta) (page : LivePage) (point : List ℕ) (records : List Record) : Type 0 where
+  pub made : FitsFile meta page
+  pub level : page.level ≡ 0
+  pub inside : Holds page.area point
+  pub area : Area
+  pub leaf : leaf_at page point ≡ Some (record { leaf = Records records; area = area })
+
+-- the record at the place has the point
+pub record IsAt (records : List Record) (p : List ℕ) (place : ℕ) : Type 0 where
+  pub in_range : place < length records
+  pub same_point : HoldsAt (λ r. r.key ≡ p) records place
+
+-- the point would go to the place: lesser points before it, and greater ones from it on
+pub record IsGapFor (records : List Record) (p : List ℕ) (place : ℕ) : Type 0 where
+  pub in_range : place ≤ length records
+  pub lesser_before : AllWithin (λ r. point_cmp r.key p ≡ Less) records 0 place
+  pub greater_after : AllWithin (λ r. point_cmp r.key p ≡ Greater) records place (length records)
+
+-- a put of the record is allowed, and these are its leaf's records with their gap for it
+pub record HasGap (meta : Meta) (page : LivePage) (rec : Record) (records : List Record) (place : ℕ) : Type 0 where
+  pub fits : FitsPut meta page rec
+  pub opened : IsOpenAt meta page rec.key records
+  pub gap : IsGapFor records rec.key place
+
+-- a delete of the point is allowed, and these are its leaf's records with its place among them
+pub record HasPlace (meta : Meta) (page : LivePage) (point : List ℕ) (records : List Record) (place : ℕ) : Type 0 where
+  pub fits : FitsDel meta page point
+  pub opened : IsOpenAt meta page point records
+  pub found : IsAt records point place

@@ -1,12 +1,12 @@
--- When a file is sound. The number of each rule is the one that a refusal names.
-use Rattle.std.specs.Prelude.{◌≡◌, ◌≢◌, ℕ, ◌+◌, ◌<◌, ◌≤◌, ◌==◌, if◌then◌else◌, List, [], ◌∷◌, length, Contains, Some}
+-- When a file is sound, and the first rule that a page breaks by itself. The number of a rule is the one that a refusal names.
+use Rattle.std.specs.Prelude.{◌≡◌, ◌≢◌, ℕ, ◌+◌, ◌<◌, ◌≤◌, ◌==◌, if◌then◌else◌, List, [], ◌∷◌, length, Contains, Some, ◌⊎◌}
 use Rattle.hb_space.specs.Boxes.{Area, Within, whole_area}
 use Rattle.hb_frag.specs.declared.leaves.Leaf.TheVariants.{Child}
 use Rattle.hb_frag.specs.declared.pages.LivePage.{LivePage}
 use Rattle.hb_frag.specs.declared.pages.Page.{Page}
 use Rattle.hb_frag.specs.declared.pages.Page.TheVariants.{Live, Free}
-use Rattle.hb_frag.specs.Leaves.{leaves_of, siblings_of}
-use Rattle.hb_frag.specs.Rules.{IsWellMade}
+use Rattle.hb_frag.specs.Leaves.{leaves_of, siblings_of, WellCut}
+use Rattle.hb_frag.specs.Rules.{IsWellMade, Fits, IsFilledRight, AreInOrder, IsNormal}
 use Rattle.hb_layout.specs.declared.meta.Meta.{Meta}
 use Rattle.hb_ops.specs.Files.{FileState, page_of, live_page}
 
@@ -82,3 +82,14 @@ pub record IsSound (s : FileState) : Type 0 where
   pub siblings : SiblingsMatch s
   pub children : ChildrenMatch s
   pub covered : IsCovered s
+
+-- it keeps every earlier rule and breaks the one of this number: 3, 4, 5, 6 or 10
+abbrev pub BreaksFirst : ℕ → LivePage → Meta → Type 0
+BreaksFirst rule page meta =
+    let fits = Fits page meta.k meta.height in
+    let filled = IsFilledRight page meta.dcap meta.icap in
+    ((rule ≡ 3) × (¬ fits))
+    ⊎ ((rule ≡ 4) × fits × (¬ (WellCut page)))
+    ⊎ ((rule ≡ 5) × fits × WellCut page × (¬ filled))
+    ⊎ ((rule ≡ 6) × fits × WellCut page × filled × (¬ (AreInOrder page)))
+    ⊎ ((rule ≡ 10) × fits × WellCut page × filled × AreInOrder page × (¬ (IsNormal page.frag)))

@@ -9,7 +9,9 @@ use Rattle.hb_frag.specs.declared.pages.LivePage.{LivePage}
 use Rattle.hb_frag.specs.Leaves.{leaf_at}
 use Rattle.hb_ops.specs.Files.{FileState, live_page, contents_of}
 use Rattle.hb_ops.specs.Sound.{FitsFile}
-use Rattle.hb_ops.specs.LawsOfContents.{OthersLack}
+use Rattle.hb_ops.specs.Operations.{OthersLack}
+use Rattle.hb_ops.specs.declared.looking.Standing.{Standing}
+use Rattle.hb_ops.specs.declared.looking.Standing.TheVariants as standings
 
 -- the leaf at the point has records, and this one is of the point
 pub record StandsThere (page : LivePage) (p : List ℕ) (r : Record) : Type 0 where
@@ -40,3 +42,14 @@ RecordsAreContents = (s : FileState) (id : ℕ) (page : LivePage) (p : List ℕ)
 abbrev pub AbsenceIsContents : Type 0
 AbsenceIsContents = (s : FileState) (id : ℕ) (page : LivePage) (p : List ℕ) → live_page s id ≡ Some page → FitsFile s.meta page → page.level ≡ 0 → OthersLack s id p →
     StandsNot page p → finite.get (contents_of s) p ≡ None
+
+abbrev pub Stands : LivePage → List ℕ → Standing → Type 0
+Stands page p (standings.There r) = StandsThere page p r.now
+Stands page p standings.Absent = StandsNot page p
+Stands page p (standings.Elsewhere id) = StandsElsewhere page p id
+
+-- the same among the records of one leaf
+abbrev pub StandsAmong : List Record → List ℕ → Standing → Type 0
+StandsAmong records p (standings.There r) = (place : ℕ) × (slice_get records place ≡ Some r.now) × (r.now.key ≡ p)
+StandsAmong records p standings.Absent = All (λ r. r.key ≢ p) records
+StandsAmong records p (standings.Elsewhere id) = ⊥

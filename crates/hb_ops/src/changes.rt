@@ -1,6 +1,5 @@
 ghost use Rattle.std.specs.Prelude.{◌≡◌, ◌<◌, ◌≤◌, [], ◌∷◌, None, Ok, Err, IfOk, IfErr, IsErrOf};
-ghost use Rattle.hb_ops.specs.Allocating.{Allocates, allocated};
-ghost use Rattle.hb_ops.specs.Growing.{FitsGrow};
+ghost use Rattle.hb_ops.specs.Allocating.{Allocates, allocated, FitsGrow};
 ghost use Rattle.hb_ops.specs.declared.operations.Op.TheVariants as kinds;
 ghost use Rattle.hb_frag.specs.declared.pages.LivePage.{LivePage as Made};
 ghost use Rattle.hb_frag.specs.declared.pages.Page.TheVariants.{Live};

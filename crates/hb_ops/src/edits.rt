@@ -6,8 +6,7 @@ ghost use Rattle.hb_space.specs.declared.records.Record.{Record as Entry};
 ghost use Rattle.hb_frag.specs.declared.leaves.Leaf.TheVariants as kinds;
 ghost use Rattle.hb_frag.specs.Leaves.{WellCut, weight_of, with_leaf_at};
 ghost use Rattle.hb_frag.specs.Rules.{Precedes};
-ghost use Rattle.hb_ops.specs.Edits.{HasGap, HasPlace, IsAt, IsGapFor, IsOpenAt};
-ghost use Rattle.hb_ops.specs.Recording.{FitsDel, FitsPut, del_page, put_page};
+ghost use Rattle.hb_ops.specs.Recording.{HasGap, HasPlace, IsAt, IsGapFor, IsOpenAt, FitsDel, FitsPut, del_page, put_page};
 ghost use Rattle.hb_ops.specs.declared.changes.ChangeError.TheVariants.{Unfit, NoMemory as Starved};
 
 use crate::local::local_rule;

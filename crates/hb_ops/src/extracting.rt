@@ -9,7 +9,6 @@ ghost use Rattle.hb_frag.specs.Trees.{Tree, Tip};
 ghost use Rattle.hb_ops.specs.Cutting as cutting;
 ghost use Rattle.hb_ops.specs.Extracting.{FitsExtract, FitsPart, fresh_page, source_page};
 ghost use Rattle.hb_ops.specs.Sound.{FitsFile};
-ghost use Rattle.hb_ops.specs.Splits as splits;
 ghost use Rattle.hb_ops.specs.declared.changes.ChangeError.TheVariants.{Unfit, NoMemory as Starved};
 
 use crate::allocations::allocates;
@@ -122,7 +121,7 @@ fn records_leaf(frag: &Frag) -> Option<&[Record]>
 fn part_records(records: &[Record], area: &Area, cuts: &[LeafCut], place: usize) -> bool
     requires { place ≤ length cuts.now }
     ensures { IsTrue result ↔ cutting.PartLeaves (drop place cuts.now)
-        (Tip (kinds.Records (filter (splits.goes_on (take place cuts.now)) records.now))) area.now }
+        (Tip (kinds.Records (filter (cutting.goes_on (take place cuts.now)) records.now))) area.now }
 {
     if place == cuts.len() {
         return true;
@@ -141,8 +140,8 @@ fn part_records(records: &[Record], area: &Area, cuts: &[LeafCut], place: usize)
 // goes on, and others don't.
 fn has_both_sides(records: &[Record], before: &[LeafCut], cut: LeafCut) -> bool
     ensures { IsTrue result ↔
-        ((0 < length (filter (cutting.is_on cut.side cut.axis cut.value) (filter (splits.goes_on before.now) records.now)))
-        × (0 < length (filter (cutting.is_on (cutting.other_side cut.side) cut.axis cut.value) (filter (splits.goes_on before.now) records.now)))) }
+        ((0 < length (filter (cutting.is_on cut.side cut.axis cut.value) (filter (cutting.goes_on before.now) records.now)))
+        × (0 < length (filter (cutting.is_on (cutting.other_side cut.side) cut.axis cut.value) (filter (cutting.goes_on before.now) records.now)))) }
 {
     let mut on = 0_usize;
     let mut off = 0_usize;
@@ -160,7 +159,7 @@ fn has_both_sides(records: &[Record], before: &[LeafCut], cut: LeafCut) -> bool
 
 // Whether the record goes on at each of the cuts.
 fn goes_on(each: &Record, cuts: &[LeafCut]) -> bool
-    ensures { result ≡ splits.goes_on cuts.now each.now }
+    ensures { result ≡ cutting.goes_on cuts.now each.now }
 {
     match cuts {
         [] => true,
@@ -195,7 +194,7 @@ fn half_area(area: &Area, cut: LeafCut) -> Area
 
 // The box of what goes on at all cuts.
 fn reached_area(area: Area, cuts: &[LeafCut]) -> Area
-    requires { splits.PlanesCut cuts.now area }
+    requires { cutting.PlanesCut cuts.now area }
     ensures { (tree : Tree) → result ≡ (cutting.reached cuts.now tree area).1 }
 {
     match cuts {
@@ -215,7 +214,7 @@ fn split(
     area: Area,
 ) -> Result<(LivePage, LivePage), NoMemory>
     requires inside { StaysInside path.now page.now.frag }
-    requires planes { splits.PlanesCut cuts.now area }
+    requires planes { cutting.PlanesCut cuts.now area }
     ensures source { IfOk result (λ pages. pages.0 ≡ source_page fresh path.now cuts.now page.now (frag.now, area)) }
     ensures fresh { IfOk result (λ pages. pages.1 ≡ fresh_page cuts.now page.now (frag.now, area)) }
 {

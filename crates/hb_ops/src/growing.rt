@@ -3,7 +3,7 @@
 ghost use Rattle.std.specs.Prelude.{◌≡◌, ◌<◌, ◌≤◌, ◌↔◌, [], ◌∷◌, IsTrue};
 ghost use Rattle.hb_frag.specs.declared.pages.Page.TheVariants.{Live};
 ghost use Rattle.hb_layout.specs.declared.limits.TheConstants.{HEIGHT_MAX as HIGHEST};
-ghost use Rattle.hb_ops.specs.Growing.{FitsGrow, new_root, raised};
+ghost use Rattle.hb_ops.specs.Allocating.{FitsGrow, new_root, raised};
 
 use crate::Meta;
 use crate::allocations::allocates;

@@ -5,8 +5,7 @@ ghost use Rattle.hb_space.specs.Boxes.{Cuts, Holds};
 ghost use Rattle.hb_frag.specs.Leaves.{IsWellCut, WellCut, leaves, leaves_of};
 ghost use Rattle.hb_frag.specs.Trees.{Tip};
 ghost use Rattle.hb_frag.specs.Rules.{AreAlike, AreInOrder, BelongsAt, Fits, IsFilledRight, IsInOrder, IsNormal, IsSiblingTip, Precedes, capacity_of};
-ghost use Rattle.hb_ops.specs.Sound.{FitsFile};
-ghost use Rattle.hb_ops.specs.LocalRule.{BreaksFirst};
+ghost use Rattle.hb_ops.specs.Sound.{FitsFile, BreaksFirst};
 
 use crate::Meta;
 use hb_frag::{Frag, Leaf, LivePage, Node};

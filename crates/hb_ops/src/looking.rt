@@ -5,7 +5,7 @@ ghost use Rattle.hb_space.specs.Boxes.{Holds};
 ghost use Rattle.hb_frag.specs.Rules.{Precedes};
 ghost use Rattle.hb_ops.specs.Sound.{FitsFile};
 ghost use Rattle.hb_ops.specs.Recording.{FitsPut};
-ghost use Rattle.hb_ops.specs.Looked.{Stands, StandsAmong};
+ghost use Rattle.hb_ops.specs.Standing.{Stands, StandsAmong};
 
 use crate::Meta;
 use crate::edits::{gap_for, place_of};

@@ -6,8 +6,7 @@ ghost use Rattle.hb_frag.specs.Carving.{carved};
 ghost use Rattle.hb_frag.specs.Leaves.{weight_of, WellCut};
 ghost use Rattle.hb_frag.specs.declared.leaves.Leaf.TheVariants as kinds;
 ghost use Rattle.hb_frag.specs.Trees.{Tip};
-ghost use Rattle.hb_ops.specs.Posting.{FitsPost, IsChildAt, post_page};
-ghost use Rattle.hb_ops.specs.Posts.{PostsAt};
+ghost use Rattle.hb_ops.specs.Posting.{FitsPost, IsChildAt, post_page, PostsAt};
 ghost use Rattle.hb_ops.specs.Sound.{FitsFile};
 ghost use Rattle.hb_ops.specs.declared.changes.ChangeError.TheVariants.{Unfit, NoMemory as Starved};
 

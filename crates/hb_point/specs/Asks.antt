@@ -17,9 +17,7 @@ use Rattle.hb_frag.specs.declared.leaves.Leaf.TheVariants.{Records}
 use Rattle.hb_activity.specs.declared.deciding.Next.{Next}
 use Rattle.hb_activity.specs.Classes.{HasLine}
 use Rattle.hb_activity.specs.Deeds.{Deed}
-use Rattle.hb_point.specs.SplitRows.{PutsInHalf}
-use Rattle.hb_point.specs.PointRows.{PointRow}
-use Rattle.hb_point.specs.SessionRows.{DoesThere}
+use Rattle.hb_point.specs.SessionRows.{PutsInHalf, DoesThere, PointRow}
 use Rattle.hb_layout.specs.Limits.{IsLayout}
 use Rattle.hb_ops.specs.Sound.{FitsFile}
 

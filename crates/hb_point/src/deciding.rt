@@ -6,7 +6,7 @@ ghost use Rattle.hb_activity.specs.Deciding.{deed_of, given_pages, given_sight};
 ghost use Rattle.hb_layout.specs.Limits.{IsLayout};
 ghost use Rattle.hb_ops.specs.Sound.{FitsFile};
 ghost use Rattle.hb_point.specs.Asks.{MayAsk, SplitsNow};
-ghost use Rattle.hb_point.specs.PointRows.{PointRow};
+ghost use Rattle.hb_point.specs.SessionRows.{PointRow};
 
 use crate::halving::{put, split};
 use crate::walking::walk;

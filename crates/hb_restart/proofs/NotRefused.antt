@@ -1,6 +1,6 @@
 -- A good file is not refused.
 use Rattle.std.proofs.Common.{◌≡◌, inl, inr, ℕ, ◌≤◌, List, [], ◌∷◌, Option, Some, None, refl, sym, ap, subst, ◌∙◌, arith}
-use Rattle.hb_wal.specs.FrameLaws.{ReadsOneWay}
+use Rattle.hb_wal.specs.Frames.{ReadsOneWay}
 use Rattle.hb_super.specs.Superblocks.{IsNewest}
 use Rattle.hb_frag.specs.declared.pages.LivePage.{LivePage}
 use Rattle.hb_frag.specs.declared.pages.Page.{Page}

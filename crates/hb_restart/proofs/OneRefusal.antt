@@ -1,6 +1,6 @@
 -- Bytes are refused in one way.
 use Rattle.std.proofs.Common.{◌≡◌, inl, inr, ℕ, ◌≤◌, List, length, refl, sym, ap, subst, ◌∙◌, arith}
-use Rattle.hb_wal.specs.FrameLaws.{ReadsOneWay}
+use Rattle.hb_wal.specs.Frames.{ReadsOneWay}
 use Rattle.hb_super.specs.Superblocks.{IsNewest, HasNone}
 use Rattle.hb_layout.specs.declared.meta.Meta.{Meta}
 use Rattle.hb_ops.specs.Files.{FileState}

@@ -16,8 +16,7 @@ use Rattle.hb_frag.specs.Grammar.{SpellsPage}
 use Rattle.hb_wal.specs.Frames.{range}
 use Rattle.hb_layout.specs.Offsets.{slot_offset, file_size, log_start, page_offset}
 use Rattle.hb_super.specs.Superblocks.{IsNewest, next_turn}
-use Rattle.hb_super.specs.Moments.{WriteLeaves, IsUncovered, HasNoBody, HidesNoOther}
-use Rattle.hb_super.specs.Hidden.{ClearLeaves}
+use Rattle.hb_super.specs.Moments.{WriteLeaves, IsUncovered, HasNoBody, HidesNoOther, ClearLeaves}
 use Rattle.hb_super.proofs.Facts.BodyLaws.{HasNoBody-other}
 use Rattle.hb_layout.specs.declared.meta.Meta.{Meta}
 use Rattle.hb_ops.specs.Files.{FileState, page_of}

@@ -8,8 +8,7 @@ use Rattle.hb_layout.specs.declared.meta.Meta.{Meta}
 use Rattle.hb_log_codec.specs.Groups.{Logged}
 use Rattle.hb_ops.specs.Files.{FileState}
 use Rattle.hb_super.specs.Superblocks.{IsNewest}
-use Rattle.hb_wal.specs.FrameLaws.{ReadsOneWay}
-use Rattle.hb_wal.specs.Frames.{HasFrames}
+use Rattle.hb_wal.specs.Frames.{ReadsOneWay, HasFrames}
 use Rattle.hb_store.proofs.Facts.Spellings.{OneList, same_spelled}
 use Rattle.hb_store.specs.Opening.{log_bytes, SpellAll}
 use Rattle.hb_store.specs.Replay.{Replayed, untouched, replay}

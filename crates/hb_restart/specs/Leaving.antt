@@ -1,8 +1,8 @@
 -- What opening or making a file makes of its disk, and what it leaves of that, whether it succeeds or not, and of a store:
 -- the touched pages are written to their places, each once and in the order of their numbers, and the next turn begins.
 use Rattle.std.specs.Prelude.{◌≡◌, ℕ, ◌+◌, ◌≤◌, List, [], length, Option, IfSome, IsSome, Result, Ok, Err, ◌⊎◌, ◌*◌, replicate, Some, zero, suc, ◌<◌, None, get_or, IsNone}
-use Rattle.hb_disk.specs.Model.{DiskModel}
-use Rattle.hb_disk.specs.Calls.{Leaves, IsSynced}
+use Rattle.hb_disk.specs.Model.{DiskModel, Torn}
+use Rattle.hb_disk.specs.Calls.{Leaves, IsSynced, Becomes}
 use Rattle.hb_frag.specs.declared.pages.Page.{Page}
 use Rattle.hb_layout.specs.declared.meta.Meta.{Meta}
 use Rattle.hb_ops.specs.Files.{FileState, file_records, page_of}
@@ -12,7 +12,6 @@ use Rattle.hb_sound.specs.Told.{HasBoundedMeta}
 use Rattle.hb_store.specs.Keeps.{StoreKeeps, IsFresh}
 use Rattle.hb_store.specs.Opening.{OpensTo, IsEven, OpensBy, log_bytes, place_bytes}
 use Rattle.hb_store.specs.States.{IsNew, IsSameLayout, StoreState}
-use Rattle.hb_restart.specs.Beyond.{KeepsBeyondFile, KeepsBeyond}
 use Rattle.hb_space.specs.declared.form.TheConstants.{PAGE}
 use Rattle.hb_outside.specs.Streams.{Rose}
 use Rattle.hb_super.specs.Moments.{HidesNoOther, HasNoBody}
@@ -25,6 +24,15 @@ use Rattle.hb_restart.specs.NewFiles.{new_file, new_meta}
 use Rattle.hb_restart.specs.declared.faults.CreateFault.{CreateFault}
 use Rattle.hb_restart.specs.declared.faults.CreateFault.TheVariants.{NoMemory}
 use Rattle.hb_restart.specs.declared.layout.Layout.{Layout}
+use Rattle.hb_layout.specs.Offsets.{file_size}
+
+-- Only the first n bytes may be other ones, of what a read gives and of each image.
+abbrev pub KeepsBeyond : ℕ → DiskModel → DiskModel → Type 0
+KeepsBeyond n old new = Becomes (Torn 0 n) old new
+
+-- only the bytes of the file by the newest superblock may
+abbrev pub KeepsBeyondFile : DiskModel → DiskModel → Type 0
+KeepsBeyondFile old new = (b : List ℕ) (turn : ℕ) (said : Meta) → old.told ≡ Some b → IsNewest b turn said → KeepsBeyond (file_size said) old new
 
 -- one for a page, and nothing where there is none
 abbrev pub one_for : Option Page → ℕ

@@ -2,5 +2,4 @@ pub mod Layouts
 pub mod NewFiles
 pub mod Refusals
 pub mod Source
-pub mod Beyond
 pub mod Leaving

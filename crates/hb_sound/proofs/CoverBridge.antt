@@ -14,8 +14,7 @@ use Rattle.hb_frag.specs.Rules.{Fits, IsFilledRight, IsSiblingTip}
 use Rattle.hb_frag.specs.Trees.{Tree, Tip, Cut}
 use Rattle.hb_layout.specs.declared.meta.Meta.{Meta}
 use Rattle.hb_ops.specs.Files.{FileState, if_live, live_page}
-use Rattle.hb_ops.specs.LocalRule.{BreaksFirst}
-use Rattle.hb_ops.specs.Sound.{FitsFile, IsCovered, SiblingsMatch, count_name, times_named}
+use Rattle.hb_ops.specs.Sound.{BreaksFirst, FitsFile, IsCovered, SiblingsMatch, count_name, times_named}
 use Rattle.hb_sound.specs.declared.facts.Seen.{Seen}
 use Rattle.hb_sound.specs.declared.facts.Fact.{Fact}
 use Rattle.hb_sound.specs.declared.facts.Fact.TheVariants.{Live, Free}

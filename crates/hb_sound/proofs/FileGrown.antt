@@ -8,13 +8,13 @@ use Rattle.hb_frag.specs.declared.pages.Page.TheVariants.{Live}
 use Rattle.hb_layout.specs.declared.meta.Meta.{Meta}
 use Rattle.hb_ops.specs.Files.{FileState, if_live, live_page, page_of}
 use Rattle.hb_ops.specs.Operations.{with_page}
-use Rattle.hb_ops.specs.Sound.{IsChain, IsCounted, IsSound, times_named}
+use Rattle.hb_ops.specs.Sound.{IsCounted, IsSound, times_named}
 use Rattle.hb_sound.proofs.Growths.{Growth, LicensesGrowth, MayGrow, growth, grown}
 use Rattle.hb_sound.specs.LawsOfOperations.{GrowthChangesOne}
-use Rattle.hb_ops.specs.Growing.{new_root, raised}
+use Rattle.hb_ops.specs.Allocating.{new_root, raised, allocated}
 use Rattle.hb_sound.proofs.Extractions.{Extraction}
-use Rattle.hb_ops.specs.Allocating.{allocated}
 use Rattle.hb_sound.proofs.FileParted.{IsParted, is_parted}
+use Rattle.hb_ops.proofs.Facts.FilePages.{chain_kept}
 use Rattle.hb_ops.proofs.Facts.PageNumberLaws.{in_range, live_so, place_of, with_page-there}
 use Rattle.hb_sound.proofs.SplitChains.{counted_again, high_fits}
 use Rattle.std.proofs.lemmas.Option.{same_Some}
@@ -31,12 +31,8 @@ put_same s id q e =
     ap (λ (m : ℕ). with_page m q s.pages) here.1 ∙ with_page-there s.pages here.0 q (in_range s.pages here.0 q here.2) ∙ set_same s.pages here.0 q here.2
 
 -- a chain is one of the pages, whatever the file says of itself
-chain_stays : (meta other : Meta) (pages : List Page) (head : ℕ) (chain : List ℕ) → IsChain (record { meta = meta; pages = pages }) head chain → IsChain (record { meta = other; pages = pages }) head chain
-chain_stays meta other pages head [] h = h
-chain_stays meta other pages head (id ∷ chain) h = (h.0, h.1, h.2, h.3, chain_stays meta other pages h.2 chain h.4)
-
 counted_raised : (meta : Meta) (root : ℕ) (pages : List Page) → IsCounted (record { meta = meta; pages = pages }) → IsCounted (record { meta = raised meta root; pages = pages })
-counted_raised meta root pages h = record { chain = h.chain; chained = chain_stays meta (raised meta root) pages meta.free h.chain h.chained; all = h.all; live = h.live }
+counted_raised meta root pages h = record { chain = h.chain; chained = chain_kept (record { meta = meta; pages = pages }) (record { meta = raised meta root; pages = pages }) (λ id next e. e) meta.free h.chain h.chained; all = h.all; live = h.live }
 
 -- a split of the old root, which stays as it is
 abbrev as_split : FileState → Growth → Extraction

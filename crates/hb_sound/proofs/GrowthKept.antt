@@ -18,7 +18,7 @@ use Rattle.hb_ops.proofs.Facts.PageNumberLaws.{in_range, place_of, with_page-beh
 use Rattle.hb_sound.specs.Laws.{SpaceLaws}
 use Rattle.hb_sound.proofs.Growths.{Growth, LicensesGrowth, MayGrow, growth, grown}
 use Rattle.hb_sound.specs.LawsOfOperations.{GrowthKeepsContents, GrowthKeepsDirect}
-use Rattle.hb_ops.specs.Growing.{new_root}
+use Rattle.hb_ops.specs.Allocating.{new_root}
 use Rattle.std.proofs.lemmas.List.Elements.{All-from_recursion}
 use Rattle.hb_sound.proofs.FileGrown.{comes_from, is_grown, stays_live}
 use Rattle.std.proofs.lemmas.Option.{same_Some}

@@ -12,7 +12,7 @@ use Rattle.hb_ops.specs.Files.{FileState, if_live, live_page}
 use Rattle.hb_ops.specs.Sound.{AreWellMade, ChildrenMatch, FitsFile, IsCovered, IsRooted, IsSound, SiblingsMatch, times_named}
 use Rattle.hb_sound.proofs.Growths.{Growth, growth, grown}
 use Rattle.hb_sound.specs.LawsOfOperations.{GrowthKeepsSound}
-use Rattle.hb_ops.specs.Growing.{new_root}
+use Rattle.hb_ops.specs.Allocating.{new_root}
 use Rattle.hb_sound.proofs.ExampleParts.{no_records}
 use Rattle.std.proofs.lemmas.List.Elements.{All-from_recursion}
 use Rattle.hb_sound.proofs.FileGrown.{IsGrown, comes_from, is_grown, stays_live}

@@ -1,9 +1,8 @@
 -- A growth by its fields, and the file that it makes.
 use Rattle.std.proofs.Common.{ℕ}
 use Rattle.hb_frag.specs.declared.pages.Page.TheVariants.{Live}
-use Rattle.hb_ops.specs.Allocating.{NamesNext, allocated}
+use Rattle.hb_ops.specs.Allocating.{NamesNext, allocated, FitsGrow, new_root, raised}
 use Rattle.hb_ops.specs.Files.{FileState}
-use Rattle.hb_ops.specs.Growing.{FitsGrow, new_root, raised}
 use Rattle.hb_ops.specs.Operations.{with_page}
 
 -- the page that becomes the root, and the free head afterwards

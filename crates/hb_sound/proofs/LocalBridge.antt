@@ -7,7 +7,7 @@ use Rattle.hb_frag.specs.Leaves.{WellCut}
 use Rattle.hb_frag.specs.Rules.{AreInOrder, Fits, IsFilledRight}
 use Rattle.hb_layout.specs.declared.meta.Meta.{Meta}
 use Rattle.hb_ops.specs.Files.{FileState}
-use Rattle.hb_ops.specs.LocalRule.{BreaksFirst}
+use Rattle.hb_ops.specs.Sound.{BreaksFirst}
 use Rattle.hb_sound.specs.declared.facts.Fact.{Fact}
 use Rattle.hb_sound.specs.declared.facts.Fact.TheVariants.{Live, Free}
 use Rattle.hb_sound.specs.Names.{BreaksRule, KeepsLocally, NamesLocal}

@@ -5,8 +5,7 @@ use Rattle.std.proofs.lemmas.List.Elements.{Contains-append_right}
 use Rattle.hb_frag.specs.declared.pages.LivePage.{LivePage}
 use Rattle.hb_layout.specs.declared.meta.Meta.{Meta}
 use Rattle.hb_ops.specs.Files.{FileState}
-use Rattle.hb_ops.specs.LocalRule.{BreaksFirst}
-use Rattle.hb_ops.specs.Sound.{SiblingsMatch, ChildrenMatch}
+use Rattle.hb_ops.specs.Sound.{BreaksFirst, SiblingsMatch, ChildrenMatch}
 use Rattle.hb_sound.specs.Names.{BreaksRule, MissesSibling, MissesChild, IsLoose, KeepsLocally, NamesFree, NamesIn, NamesLocal, NamesLoose}
 use Rattle.hb_sound.specs.Walks.{IsLeast, IsLeftOut, IsOnce, LeadsAlong, next_free}
 use Rattle.hb_sound.proofs.ChainBridge.{contains_cases}

@@ -3,8 +3,7 @@ use Rattle.std.proofs.Common.{inl, inr, ℕ}
 use Rattle.hb_frag.specs.declared.pages.LivePage.{LivePage}
 use Rattle.hb_layout.specs.declared.meta.Meta.{Meta}
 use Rattle.hb_ops.specs.Files.{FileState}
-use Rattle.hb_ops.specs.LocalRule.{BreaksFirst}
-use Rattle.hb_ops.specs.Sound.{FitsFile, IsSound}
+use Rattle.hb_ops.specs.Sound.{BreaksFirst, FitsFile, IsSound}
 use Rattle.hb_sound.specs.Told.{file_of}
 use Rattle.hb_sound.specs.Names.{BreaksRule, NamesIn, SoundBreaksNone}
 

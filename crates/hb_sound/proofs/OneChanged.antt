@@ -1,5 +1,5 @@
 -- A file with another page in place of one in use, which has its level, its box and its sibling leaves: it is as sound as before.
-use Rattle.std.proofs.Common.{◌≡◌, ◌≢◌, ℕ, ◌+◌, inl, inr, List, [], ◌∷◌, length, Some, refl, sym, ap, subst, ◌∙◌, arith}
+use Rattle.std.proofs.Common.{◌≡◌, ◌≢◌, ℕ, ◌+◌, inl, inr, List, length, Some, refl, sym, ap, subst, ◌∙◌, arith}
 use Rattle.std.specs.List.{Contains}
 use Rattle.std.proofs.lemmas.Bool.{cases_eq}
 use Rattle.hb_space.specs.Boxes.{Area, Within}
@@ -9,9 +9,10 @@ use Rattle.hb_frag.specs.declared.pages.Page.TheVariants.{Live, Free}
 use Rattle.hb_frag.specs.Leaves.{leaves_of, siblings_of}
 use Rattle.hb_ops.specs.Files.{FileState, if_live, live_page, page_of}
 use Rattle.hb_ops.specs.Operations.{with_page}
-use Rattle.hb_ops.specs.Sound.{ChildrenMatch, FitsFile, IsChain, IsCounted, IsCovered, IsRooted, IsSound, SiblingsMatch, count_name, times_named}
+use Rattle.hb_ops.specs.Sound.{ChildrenMatch, FitsFile, IsCounted, IsCovered, IsRooted, IsSound, SiblingsMatch, count_name, times_named}
 use Rattle.hb_sound.specs.Names.{HasBelow}
 use Rattle.hb_sound.proofs.PageLists.{HasInstead, put_instead}
+use Rattle.hb_ops.proofs.Facts.FilePages.{chain_kept}
 use Rattle.hb_ops.proofs.Facts.PageNumberLaws.{live_so}
 use Rattle.hb_ops.proofs.Facts.PlacedLaws.{placed}
 use Rattle.std.proofs.lemmas.Option.{same_Some}
@@ -84,10 +85,6 @@ module _ (s : FileState) (id : ℕ) (page new : LivePage) (live : live_page s id
     | inr ne ↦ sym (others_stay other ne) ∙ e
   ]
 
-  chain_stays : (head : ℕ) (chain : List ℕ) → IsChain s head chain → IsChain after head chain
-  chain_stays head [] h = h
-  chain_stays head (other ∷ rest) h = (h.0, h.1, h.2, free_stays other h.2 h.3, chain_stays h.2 rest h.4)
-
   rooted_again : IsRooted s → IsRooted after
   rooted_again h =
       let top = pair_of_old s.meta.root h.top.0 h.top.1 in
@@ -104,7 +101,7 @@ module _ (s : FileState) (id : ℕ) (page new : LivePage) (live : live_page s id
   counted_again : IsCounted s → IsCounted after
   counted_again h = record {
     chain = h.chain;
-    chained = chain_stays s.meta.free h.chain h.chained;
+    chained = chain_kept s after free_stays s.meta.free h.chain h.chained;
     all = λ other next e. h.all other next (free_was other next e);
     live = let same = put.0.counted in let was = h.live in omega (arith, same, was);
   }

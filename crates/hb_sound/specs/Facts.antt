@@ -10,8 +10,7 @@ use Rattle.hb_frag.specs.Leaves.{Placed}
 use Rattle.hb_layout.specs.Limits.{IsLayout}
 use Rattle.hb_layout.specs.declared.meta.Meta.{Meta}
 use Rattle.hb_ops.specs.Files.{page_records}
-use Rattle.hb_ops.specs.LocalRule.{BreaksFirst}
-use Rattle.hb_ops.specs.Sound.{FitsFile}
+use Rattle.hb_ops.specs.Sound.{BreaksFirst, FitsFile}
 use Rattle.hb_sound.specs.declared.facts.Seen.{Seen}
 use Rattle.hb_sound.specs.declared.facts.Fact.{Fact}
 use Rattle.hb_sound.specs.declared.facts.Fact.TheVariants.{Live, Free}

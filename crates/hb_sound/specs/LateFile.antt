@@ -42,11 +42,7 @@ late_lowest = record { level = 0; area = whole_area 1; frag = Cut 0 100 (Tip (Re
 
 -- page 6, from 100 to 399, with two parents: records at both its ends and on both sides of its parents' border
 abbrev pub late_shared : LivePage
-late_shared = record {
-  level = 0;
-  area = record { lo = 100 ∷ []; hi = 399 ∷ [] };
-  frag = Tip (Records (late_record 100 ∷ late_record 299 ∷ late_record 300 ∷ late_record 399 ∷ []));
-}
+late_shared = record { level = 0; area = record { lo = 100 ∷ []; hi = 399 ∷ [] }; frag = Tip (Records (late_record 100 ∷ late_record 299 ∷ late_record 300 ∷ late_record 399 ∷ [])) }
 
 -- page 7, from 400 on: a record at 450, from 600 to 799 page 8, and behind that a record at the greatest value
 abbrev pub late_highest : LivePage
@@ -58,11 +54,7 @@ late_highest = record {
 
 -- page 8, from 600 to 799, cut out of page 7: records at both its ends, and no page of level 1 names it
 abbrev pub late_inner : LivePage
-late_inner = record {
-  level = 0;
-  area = record { lo = 600 ∷ []; hi = 799 ∷ [] };
-  frag = Tip (Records (late_record 600 ∷ late_record 799 ∷ []));
-}
+late_inner = record { level = 0; area = record { lo = 600 ∷ []; hi = 799 ∷ [] }; frag = Tip (Records (late_record 600 ∷ late_record 799 ∷ [])) }
 
 abbrev pub late_file : FileState
 late_file = record {
@@ -106,8 +98,4 @@ late_posting = Post 4 (Right ∷ []) 8 (record { lo = 600 ∷ []; hi = 799 ∷ [
 
 -- page 4 once it came
 abbrev pub late_aside_posted : LivePage
-late_aside_posted = record {
-  level = 1;
-  area = side_from (whole_area 1) 0 300;
-  frag = Cut 0 400 (Tip (Child 6)) (Cut 0 600 (Tip (Child 7)) (Cut 0 800 (Tip (Child 8)) (Tip (Child 7))));
-}
+late_aside_posted = record late_aside { frag = Cut 0 400 (Tip (Child 6)) (Cut 0 600 (Tip (Child 7)) (Cut 0 800 (Tip (Child 8)) (Tip (Child 7)))) }

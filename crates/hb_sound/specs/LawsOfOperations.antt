@@ -14,7 +14,7 @@ use Rattle.hb_ops.specs.declared.operations.Op.{Op}
 use Rattle.hb_ops.specs.declared.operations.Op.TheVariants.{Put, Del, Extract, Post, Grow}
 use Rattle.hb_ops.specs.Extracting.{fresh_page, source_page}
 use Rattle.hb_ops.specs.Files.{FileState, contents_of, live_page, page_of}
-use Rattle.hb_ops.specs.Growing.{new_root}
+use Rattle.hb_ops.specs.Allocating.{new_root}
 use Rattle.hb_ops.specs.Operations.{IsAllowed, IsLicensed, OpHas, effect_of}
 use Rattle.hb_ops.specs.Sound.{IsSound}
 use Rattle.hb_sound.specs.PointWalks.{HasOn, IsPointOf}

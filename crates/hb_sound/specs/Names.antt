@@ -4,8 +4,7 @@ use Rattle.hb_frag.specs.declared.pages.LivePage.{LivePage}
 use Rattle.hb_frag.specs.declared.pages.Page.{Page}
 use Rattle.hb_layout.specs.declared.meta.Meta.{Meta}
 use Rattle.hb_ops.specs.Files.{FileState, file_records, live_page}
-use Rattle.hb_ops.specs.LocalRule.{BreaksFirst}
-use Rattle.hb_ops.specs.Sound.{FitsFile, IsRooted, IsCounted, SiblingsMatch, ChildrenMatch, IsCovered, IsSound, times_named}
+use Rattle.hb_ops.specs.Sound.{BreaksFirst, FitsFile, IsRooted, IsCounted, SiblingsMatch, ChildrenMatch, IsCovered, IsSound, times_named}
 use Rattle.hb_sound.specs.Told.{IsHole, IsWholeFile, file_of}
 use Rattle.hb_sound.specs.Walks.{IsLeast, IsChainWalk, IsLeftOut, next_free}
 use Rattle.hb_space.specs.Boxes.{Area, Within, whole_area}

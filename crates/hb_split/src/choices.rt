@@ -1,8 +1,7 @@
 ghost use Rattle.std.specs.Prelude.{◌<◌, ◌≤◌, ◌^◌, length, IfOk};
 ghost use Rattle.hb_frag.specs.Leaves.{weight_of, WellCut};
 ghost use Rattle.hb_frag.specs.Rules.{AreInOrder};
-ghost use Rattle.hb_split.specs.Choosing.{IsChosen};
-ghost use Rattle.hb_split.specs.Laws.{IsThirds, MayLeave};
+ghost use Rattle.hb_split.specs.Choosing.{IsChosen, IsThirds, MayLeave};
 
 use crate::parting::cuts_at;
 use crate::ways::way_down;

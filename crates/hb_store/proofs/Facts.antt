@@ -11,3 +11,4 @@ pub mod MadePages
 pub mod Changed
 pub mod LookLaws
 pub mod BadGroups
+pub mod OtherAnswers

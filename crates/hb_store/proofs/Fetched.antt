@@ -14,8 +14,7 @@ use Rattle.hb_frag.specs.declared.pages.Page.TheVariants.{Live}
 use Rattle.hb_frag.specs.Grammar.{SpellsPage}
 use Rattle.hb_layout.specs.declared.meta.Meta.{Meta}
 use Rattle.hb_ops.specs.Files.{FileState, if_live, page_of}
-use Rattle.hb_ops.specs.LocalRule.{BreaksFirst}
-use Rattle.hb_ops.specs.Sound.{FitsFile, IsSound}
+use Rattle.hb_ops.specs.Sound.{BreaksFirst, FitsFile, IsSound}
 use Rattle.hb_wal.specs.Frames.{frames, range}
 use Rattle.hb_page_codec.proofs.Facts.PageLaws.{SpelledOnce}
 use Rattle.hb_layout.specs.Offsets.{page_offset}

@@ -8,8 +8,7 @@ use Rattle.hb_layout.specs.declared.meta.Meta.{Meta}
 use Rattle.hb_ops.specs.Allocating.{Allocates}
 use Rattle.hb_store.specs.States.{IsMemory, StoreState, in_memory}
 use Rattle.hb_store.specs.Keeps.{StoreKeeps, last_of}
-use Rattle.hb_store.specs.NextPage.{MayFetch}
-use Rattle.hb_store.specs.Fetching.{IsNoPage}
+use Rattle.hb_store.specs.Fetching.{MayFetch, IsNoPage}
 use Rattle.hb_store.proofs.Counted.{store_count}
 use Rattle.hb_ops.proofs.Facts.FilePages.{page_in_range, sound_head, sound_room}
 

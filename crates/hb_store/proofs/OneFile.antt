@@ -4,7 +4,7 @@ use Rattle.hb_frag.specs.declared.pages.Page.{Page}
 use Rattle.hb_layout.specs.declared.meta.Meta.{Meta}
 use Rattle.hb_ops.specs.Files.{FileState, page_at}
 use Rattle.hb_super.specs.Superblocks.{IsNewest}
-use Rattle.hb_wal.specs.FrameLaws.{ReadsOneWay}
+use Rattle.hb_wal.specs.Frames.{ReadsOneWay}
 use Rattle.hb_page_codec.proofs.Facts.PageLaws.{SpelledOnce}
 use Rattle.hb_store.proofs.Facts.Spellings.{OneList, same_spelled}
 use Rattle.hb_store.specs.Replay.{Replayed, replay, untouched}

@@ -1,6 +1,5 @@
 -- What it is to write the oldest group, from what the log's force did.
 use Rattle.std.proofs.Common.{zero, suc, ◌*◌, ◌%◌, ◌<◌, ◌≤◌, ◌≡◌, ℕ, ◌+◌, ◌++◌, List, [], ◌∷◌, Ok, Err, IsSome, false, refl, sym, subst, ap, arith}
-use Rattle.std.proofs.lemmas.Bool.{false≢true}
 use Rattle.hb_lemmas.proofs.Options.{some_value}
 use Rattle.hb_disk.specs.Model.{DiskModel, IsDisk, Stays, Torn}
 use Rattle.hb_disk.specs.Calls.{Leaves}
@@ -69,32 +68,6 @@ module _ (d e : DiskModel) (is_disk : IsDisk d) (is_new : IsDisk e) (st : StoreS
     moments = moments;
     wrote = record { became = wrote.became; later = wrote.later; few = wrote.few; faults = wrote.faults };
     clock = λ told. tt;
-  }
-
--- the same in another answer
-module _ {T X : Type 0} (d e : DiskModel) (old new : StoreState) where
-  pub WritesOldest-ok : (x : T) (y : X) → WritesOldest (Ok x) d e old new → WritesOldest (Ok y) d e old new
-  WritesOldest-ok x y w = record {
-    nothing = w.nothing;
-    forced = w.forced;
-    stopped = w.stopped;
-    keeps_forced = w.keeps_forced;
-    keeps_stopped = w.keeps_stopped;
-    moments = w.moments;
-    wrote = record { became = w.wrote.became; later = w.wrote.later; few = w.wrote.few; faults = w.wrote.faults };
-    clock = w.clock;
-  }
-
-  pub WritesOldest-err : (fault : WriteFault) → WritesOldest {T = T} (Err fault) d e old new → WritesOldest {T = X} (Err fault) d e old new
-  WritesOldest-err fault w = record {
-    nothing = λ none. let never = (w.nothing none).0 in absurd (false≢true never);
-    forced = w.forced;
-    stopped = w.stopped;
-    keeps_forced = w.keeps_forced;
-    keeps_stopped = w.keeps_stopped;
-    moments = w.moments;
-    wrote = record { became = w.wrote.became; later = w.wrote.later; few = w.wrote.few; faults = w.wrote.faults };
-    clock = w.clock;
   }
 
 -- where no group waits nothing is done

@@ -9,4 +9,3 @@ pub mod Forced
 pub mod Making
 pub mod Fetching
 pub mod Replaying
-pub mod NextPage

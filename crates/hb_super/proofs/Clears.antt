@@ -15,8 +15,7 @@ use Rattle.hb_disk.proofs.Facts.SyncedLaws.{part_of}
 use Rattle.hb_layout.specs.declared.meta.Meta.{Meta}
 use Rattle.hb_layout.specs.Offsets.{slot_offset}
 use Rattle.hb_super.specs.Superblocks.{IsLegal, IsNewest, body_bytes, next_turn}
-use Rattle.hb_super.specs.Moments.{NoOther, HidesNoOther}
-use Rattle.hb_super.specs.Hidden.{IsOther, HidesOther, ClearLeaves}
+use Rattle.hb_super.specs.Moments.{NoOther, HidesNoOther, IsOther, HidesOther, ClearLeaves}
 use Rattle.hb_super.proofs.Supers.{gate_at, body_at, same_place, other_parity}
 use Rattle.hb_super.proofs.Bodies.{one_body}
 use Rattle.hb_super.proofs.Writes.{place_fits, places_apart, next_apart}

@@ -6,8 +6,7 @@ use Rattle.hb_lemmas.specs.Numbers.{big_endian}
 use Rattle.hb_space.specs.declared.form.TheConstants.{PAGE}
 use Rattle.hb_disk.specs.Calls.{open_gate}
 use Rattle.hb_layout.specs.declared.meta.Meta.{Meta}
-use Rattle.hb_super.specs.Superblocks.{IsLegal, HasSuper, IsNewest, HasNone, body_bytes, next_turn}
-use Rattle.hb_super.specs.SuperLaws.{OneNewest}
+use Rattle.hb_super.specs.Superblocks.{IsLegal, HasSuper, IsNewest, HasNone, body_bytes, next_turn, OneNewest}
 use Rattle.hb_super.proofs.Supers.{same_turn, after_other, alone}
 use Rattle.hb_super.proofs.Bodies.{known_body}
 use Rattle.hb_lemmas.proofs.Decisions.{Known}

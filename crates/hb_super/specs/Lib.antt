@@ -1,5 +1,3 @@
 pub mod Superblocks
 pub mod Reading
 pub mod Moments
-pub mod Hidden
-pub mod SuperLaws

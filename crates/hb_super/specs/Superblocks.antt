@@ -49,3 +49,9 @@ pub record IsNewest (bytes : List ℕ) (turn : ℕ) (meta : Meta) : Type 0 where
 -- neither place has one
 abbrev pub HasNone : List ℕ → Type 0
 HasNone bytes = (turn : ℕ) (meta : Meta) → HasSuper bytes turn meta → ⊥
+
+-- a superblock is the newest
+pub record OneNewest (bytes : List ℕ) : Type 0 where
+  pub turn : ℕ
+  pub said : Meta
+  pub newest : IsNewest bytes turn said

@@ -7,8 +7,7 @@ ghost use Rattle.hb_disk.specs.Runs.{WritesThrough};
 ghost use Rattle.hb_layout.specs.declared.meta.Meta.{Meta as Said};
 ghost use Rattle.hb_layout.specs.Offsets.{slot_offset};
 ghost use Rattle.hb_super.specs.Superblocks.{IsLegal, IsNewest, next_turn};
-ghost use Rattle.hb_super.specs.Moments.{NoOther, HidesNoOther};
-ghost use Rattle.hb_super.specs.Hidden.{SaysOf, IsOther, HidesOther, Clears, ClearLeaves};
+ghost use Rattle.hb_super.specs.Moments.{NoOther, HidesNoOther, SaysOf, IsOther, HidesOther, Clears, ClearLeaves};
 
 use crate::body::{BODY, body_of, fields_of};
 use hb_disk::{Device, DiskFault, OPEN};

@@ -1,9 +1,8 @@
 //! What follows of superblocks from their definitions alone.
 ghost use Rattle.std.specs.Prelude.{◌≡◌, ◌≢◌, ◌⊎◌, ℕ, ◌%◌, ◌≤◌, List};
 ghost use Rattle.hb_layout.specs.declared.meta.Meta.{Meta as Said};
-ghost use Rattle.hb_super.specs.Superblocks.{HasSuper, IsNewest, HasNone, next_turn};
+ghost use Rattle.hb_super.specs.Superblocks.{HasSuper, IsNewest, HasNone, next_turn, OneNewest};
 ghost use Rattle.hb_super.specs.Moments.{IsUncovered, HidesNoOther};
-ghost use Rattle.hb_super.specs.SuperLaws.{OneNewest};
 
 use hb_outside::big_endian_law;
 

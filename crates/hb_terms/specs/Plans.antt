@@ -1,16 +1,17 @@
--- What a posting does.
-use Rattle.std.specs.Prelude.{◌≡◌, ◌≢◌, ℕ, ◌<◌, ◌≤◌, List, Some}
-use Rattle.hb_space.specs.Boxes.{Area}
+-- What a posting does, and what the laws of postings speak of.
+use Rattle.std.specs.Prelude.{◌≡◌, ◌≢◌, ℕ, ◌<◌, ◌≤◌, List, Some, length}
+use Rattle.hb_space.specs.Boxes.{Area, IsArea, Meets}
 use Rattle.hb_frag.specs.declared.leaves.Leaf.TheVariants.{Child, Sibling}
 use Rattle.hb_frag.specs.declared.pages.LivePage.{LivePage}
 use Rattle.hb_frag.specs.declared.paths.Side.{Side}
-use Rattle.hb_frag.specs.Trees.{Tree}
-use Rattle.hb_frag.specs.Leaves.{leaf_at, weight_of}
-use Rattle.hb_frag.specs.Paths.{with_part, way_to}
+use Rattle.hb_frag.specs.Trees.{Tree, Tip}
+use Rattle.hb_frag.specs.Leaves.{leaf_at, weight_of, siblings_of}
+use Rattle.hb_frag.specs.Paths.{with_part, way_to, part_at}
 use Rattle.hb_frag.specs.Carving.{carved}
 use Rattle.hb_frag.specs.Normal.{normal}
 use Rattle.hb_terms.specs.declared.plans.PostPlan.{PostPlan}
 use Rattle.hb_terms.specs.declared.plans.PostPlan.TheVariants.{Nothing, Post, SplitFirst}
+use Rattle.std.specs.List.{Contains}
 
 -- the page's leaf at the point is a child leaf
 pub record NamesChildAt (page : LivePage) (p : List ℕ) : Type 0 where
@@ -59,3 +60,18 @@ abbrev pub IsPlan : LivePage → LivePage → List ℕ → ℕ → PostPlan → 
 IsPlan parent child p icap Nothing = OwesNothing parent child p
 IsPlan parent child p icap (Post at inner area) = Posts parent child p icap at inner area
 IsPlan parent child p icap SplitFirst = LacksRoom parent child p icap
+
+-- A posting that may be made: the way ends at a child leaf that names another page, over a box that meets the area;
+-- the child gave exactly this area to the page `inner`; and the parent has room for what becomes of it.
+pub record MayPost (parent child : LivePage) (icap : ℕ) (at : List Side) (inner : ℕ) (area : Area) : Type 0 where
+  -- whom the leaf names, and its box
+  pub outer : ℕ
+  pub leaf : Area
+  pub place : part_at at parent.frag parent.area ≡ Some (Tip (Child outer), leaf)
+  pub other : inner ≢ outer
+  pub leaf_area : IsArea leaf
+  pub given_area : IsArea area
+  pub attributes : length area.lo ≡ length leaf.lo
+  pub meets : Meets leaf area
+  pub given : Contains (siblings_of child) (inner, area)
+  pub room : weight_of (normal (with_part at parent.frag (carved leaf area outer inner))) ≤ icap

@@ -7,8 +7,7 @@ use Rattle.hb_disk.specs.Calls.{ReadsOnly}
 use Rattle.hb_disk.proofs.Facts.FaultLaws.{ReadsOnly-then, ReadsOnly-neither}
 use Rattle.hb_lemmas.proofs.Options.{if_value, at_value}
 use Rattle.hb_wal.specs.Frames.{frames, frame_bytes, IsPayload, range}
-use Rattle.hb_wal.specs.Reading.{FrameIs}
-use Rattle.hb_wal.specs.Loops.{HasRead}
+use Rattle.hb_wal.specs.Reading.{FrameIs, HasRead}
 use Rattle.hb_wal.proofs.Kept.{length-frame}
 use Rattle.hb_wal.proofs.Facts.AreaBytes.{frames-push}
 

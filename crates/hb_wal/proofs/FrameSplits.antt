@@ -9,8 +9,7 @@ use Rattle.std.proofs.lemmas.Nat.{be_bytes_4}
 use Rattle.byteorder.specs.Endian.{big_number}
 use Rattle.hb_lemmas.specs.Numbers.{big_endian}
 use Rattle.hb_disk.specs.Calls.{open_gate}
-use Rattle.hb_wal.specs.Frames.{frames, frame_bytes, IsPayload, IsEnd, IsBadFrame, HasFrames, HasBadFrame}
-use Rattle.hb_wal.specs.FrameLaws.{OneWay}
+use Rattle.hb_wal.specs.Frames.{frames, frame_bytes, IsPayload, IsEnd, IsBadFrame, HasFrames, HasBadFrame, OneWay}
 use Rattle.hb_wal.proofs.Kept.{four_bytes}
 use Rattle.hb_wal.proofs.HeadBytes.{few_end}
 

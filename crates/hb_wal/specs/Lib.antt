@@ -3,6 +3,3 @@ pub mod Log
 pub mod Forces
 pub mod Kept
 pub mod Reading
-pub mod Stops
-pub mod Loops
-pub mod FrameLaws

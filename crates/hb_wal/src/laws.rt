@@ -1,8 +1,7 @@
 //! What follows of frames from their definitions alone.
 
 ghost use Rattle.std.specs.Prelude.{◌≡◌, ◌↔◌, ◌⊎◌, ℕ, ◌<◌, ◌^◌, List, [], length, All};
-ghost use Rattle.hb_wal.specs.Frames.{frames, HasFrames, HasBadFrame};
-ghost use Rattle.hb_wal.specs.FrameLaws.{ReadsOneWay};
+ghost use Rattle.hb_wal.specs.Frames.{frames, HasFrames, HasBadFrame, ReadsOneWay};
 
 use hb_outside::big_endian_law;
 

@@ -2,7 +2,7 @@ ghost use Rattle.std.specs.Prelude.{◌≡◌, ℕ, ◌<◌, ◌≤◌, ◌+◌,
 ghost use Rattle.hb_disk.specs.Calls.{ReadsOnly};
 ghost use Rattle.hb_wal.specs.declared.reading.ReadStop.TheVariants.{NoMemory, DiskFault};
 ghost use Rattle.hb_wal.specs.Frames.{frames, IsPayload, HasFrames, range};
-ghost use Rattle.hb_wal.specs.Stops.{StopsAt, stop_after};
+ghost use Rattle.hb_wal.specs.Reading.{StopsAt, stop_after};
 
 use crate::Payloads;
 use crate::heads::{FRAME, FrameStop, read_frame};

@@ -12,8 +12,7 @@ use Rattle.hb_activity.specs.declared.activities.Activity.{Activity}
 use Rattle.hb_activity.specs.declared.activities.Activity.TheVariants.{SessionIdle, SessionWalk, SessionSplit, SessionPut, SessionAwait, PosterIdle, PosterGrow, PosterWalk, PosterChild, PosterPromote, PosterAgain, ConsolidatorIdle, ConsolidatorWalk, ConsolidatorScan, ConsolidatorTry, ConsolidatorPromote, ConsolidatorKeep, ConsolidatorDecide, Flusher}
 use Rattle.hb_activity.specs.Walks.{may_change, goal_of, session_mode, job_mode}
 use Rattle.hb_activity.specs.Holding.{latch_on, walk_latch, held_of}
-use Rattle.hb_activity.specs.Wanting.{wanted_page, walk_next, in_mode}
-use Rattle.hb_activity.specs.Laws.{SessionsGoOn, WorkersGoOn, ChangersAreAlone}
+use Rattle.hb_activity.specs.Wanting.{wanted_page, walk_next, in_mode, SessionsGoOn, WorkersGoOn, ChangersAreAlone}
 
 one_at_most : (held : Option ℕ) (page : Option LivePage) (mode : ℕ → Mode) → length (walk_latch held page mode) ≤ 2
 one_at_most None page mode = omega arith

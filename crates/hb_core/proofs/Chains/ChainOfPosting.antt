@@ -21,7 +21,7 @@ use Rattle.hb_core.specs.Scenes.{Scene, machine_of, standing, store_of}
 use Rattle.hb_core.specs.Steps.{TakesJob}
 use Rattle.hb_frag.specs.Leaves.{Placed, leaves, leaves_of, siblings_of}
 use Rattle.hb_frag.specs.Rules.{BelongsAt, IsInOrder}
-use Rattle.hb_ops.specs.Growing.{FitsGrow}
+use Rattle.hb_ops.specs.Allocating.{FitsGrow}
 use Rattle.hb_ops.specs.Posting.{FitsPost}
 use Rattle.hb_ops.specs.Sound.{FitsFile}
 use Rattle.hb_lemmas.specs.Numbers.{big_endian}

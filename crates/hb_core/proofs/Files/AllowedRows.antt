@@ -44,7 +44,7 @@ use Rattle.hb_split.proofs.Facts.Allowed.{is_allowed}
 use Rattle.hb_split.proofs.Facts.Ends.{is_thirds}
 use Rattle.hb_split.specs.Choosing.{IsChosen}
 use Rattle.hb_store.specs.Calls.{IsAllowedHere}
-use Rattle.hb_store.specs.NextPage.{IsNext}
+use Rattle.hb_store.specs.Fetching.{IsNext}
 use Rattle.hb_store.specs.States.{IsGoodPage, StoreState, in_memory}
 use Rattle.hb_terms.proofs.Facts.Owing.{planned_may_be, room_told}
 use Rattle.hb_terms.specs.Plans.{IsPlan, LacksRoom}

@@ -26,7 +26,7 @@ use Rattle.hb_space.specs.Boxes.{Area, Holds}
 use Rattle.hb_store.proofs.Facts.FilePages.{Reaches, pages_set}
 use Rattle.hb_store.proofs.Facts.MadeMeta.{op_has}
 use Rattle.hb_store.specs.Calls.{IsAllowedHere, change_here, read_here}
-use Rattle.hb_store.specs.NextPage.{IsNext}
+use Rattle.hb_store.specs.Fetching.{IsNext}
 use Rattle.hb_store.specs.Replay.{set_pages}
 use Rattle.hb_store.specs.States.{StoreState, in_memory}
 use Rattle.hb_terms.proofs.Facts.Owing.{planned_may_be, way_ends_there}

@@ -26,7 +26,7 @@ use Rattle.hb_store.proofs.Facts.Changed.{good_readable}
 use Rattle.hb_store.proofs.Facts.MadeLeaves.{AllFit, FitsIn, all_fit}
 use Rattle.hb_store.specs.Calls.{IsAllowedHere, read_here}
 use Rattle.hb_store.specs.Making.{HaveFittingParts, IsReadable}
-use Rattle.hb_store.specs.NextPage.{IsNext}
+use Rattle.hb_store.specs.Fetching.{IsNext}
 use Rattle.hb_store.specs.Replaying.{HasLimits}
 use Rattle.hb_store.specs.States.{AreGood, IsGoodPage, StoreState, in_memory}
 use Rattle.hb_terms.proofs.Facts.Owing.{planned_may_be}

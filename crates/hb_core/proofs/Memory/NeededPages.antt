@@ -29,7 +29,7 @@ use Rattle.hb_core.specs.Steps.{GetsReady, Works}
 use Rattle.hb_ops.specs.Files.{if_live}
 use Rattle.hb_ops.specs.Operations.{change_of}
 use Rattle.hb_store.specs.Calls.{change_here, read_here}
-use Rattle.hb_store.specs.NextPage.{IsNext}
+use Rattle.hb_store.specs.Fetching.{IsNext}
 use Rattle.hb_store.specs.Replay.{set_pages}
 use Rattle.hb_store.specs.States.{StoreState, in_memory}
 use Rattle.hb_core.proofs.Table.EachRow.{each_op, each_row}

@@ -37,10 +37,10 @@ use Rattle.hb_ops.specs.Operations.{IsAllowedOn, change_of}
 use Rattle.hb_ops.specs.Recording.{put_page}
 use Rattle.hb_ops.specs.Sound.{FitsFile}
 use Rattle.hb_ops.specs.Standing.{StandsNot}
-use Rattle.hb_point.specs.SplitRows.{Splits}
+use Rattle.hb_point.specs.SessionRows.{Splits}
 use Rattle.hb_space.specs.Boxes.{Area, IsArea}
 use Rattle.hb_split.proofs.Facts.Ends.{is_thirds}
-use Rattle.hb_split.specs.Laws.{IsThirds}
+use Rattle.hb_split.specs.Choosing.{IsThirds}
 use Rattle.hb_store.specs.Calls.{change_here, read_here}
 use Rattle.hb_store.specs.Replay.{set_pages}
 use Rattle.hb_store.specs.States.{IsGoodPage, StoreState, in_memory}

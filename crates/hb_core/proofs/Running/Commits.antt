@@ -20,10 +20,9 @@ use Rattle.hb_space.specs.declared.records.Record.{Record}
 use Rattle.hb_activity.specs.declared.wanting.Wanted.{Wanted}
 use Rattle.hb_activity.specs.declared.activities.Activity.{Activity}
 use Rattle.hb_activity.specs.declared.activities.Activity.TheVariants as at
-use Rattle.hb_activity.specs.Changing.{may_commit}
+use Rattle.hb_activity.specs.Wanting.{may_commit, wanted_of}
 use Rattle.hb_activity.specs.Deeds.{Deed}
 use Rattle.hb_activity.specs.Walks.{may_change}
-use Rattle.hb_activity.specs.Wanting.{wanted_of}
 use Rattle.hb_activity.proofs.Facts.AllowedDeeds.{kind_at}
 use Rattle.hb_lemmas.proofs.Options.{at_value}
 use Rattle.hb_store.specs.Calls.{IsReady}

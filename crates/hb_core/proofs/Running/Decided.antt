@@ -15,7 +15,7 @@ use Rattle.hb_activity.specs.Classes.{Consolidators, Flushers, Posters, Sessions
 use Rattle.hb_activity.specs.Deeds.{Deed}
 use Rattle.hb_activity.specs.Sights.{Sight}
 use Rattle.hb_activity.specs.Walks.{goal_of, walk_point}
-use Rattle.hb_point.specs.PointRows.{PointRow}
+use Rattle.hb_point.specs.SessionRows.{PointRow}
 use Rattle.hb_poster.specs.PosterRows.{PosterRow}
 use Rattle.hb_store.specs.States.{StoreState}
 use Rattle.hb_core.proofs.Running.Asked.{HasWanted, alone, has_goal, has_wanted, no_search_in_hand, poster_asks, poster_wants, session_asks, session_wants}

@@ -12,7 +12,7 @@ use Rattle.hb_activity.specs.declared.activities.Activity.TheVariants as at
 use Rattle.hb_activity.specs.Deciding.{FitsFree, given_pages, given_sight, page_among}
 use Rattle.hb_activity.specs.Deeds.{Deed}
 use Rattle.hb_point.specs.Asks.{MayAsk}
-use Rattle.hb_point.specs.PointRows.{PointRow}
+use Rattle.hb_point.specs.SessionRows.{PointRow}
 use Rattle.hb_poster.specs.Asks.{AsksMemory, MakesPage, MayBeAsked}
 use Rattle.hb_poster.specs.PosterRows.{PosterRow}
 use Rattle.hb_store.specs.States.{StoreState}

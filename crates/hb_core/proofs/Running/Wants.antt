@@ -3,7 +3,7 @@ use Rattle.std.proofs.Common.{◌≡◌, ℕ, sym, ap, ◌∙◌, subst}
 use Rattle.hb_disk.specs.Model.{DiskModel}
 use Rattle.hb_latch.specs.Tables.{MayLatch}
 use Rattle.hb_activity.specs.declared.activities.Activity.{Activity}
-use Rattle.hb_activity.specs.Changing.{may_commit}
+use Rattle.hb_activity.specs.Wanting.{may_commit}
 use Rattle.hb_store.specs.States.{StoreState}
 use Rattle.hb_core.proofs.Running.Looks.{may_look, may_look_now, wants_same}
 use Rattle.hb_core.proofs.Running.StandsElsewhere.{stands_as}

@@ -4,7 +4,7 @@ use Rattle.std.specs.Option.{IsSomeAnd}
 use Rattle.hb_activity.specs.declared.activities.Activity.{Activity}
 use Rattle.hb_activity.specs.declared.dropping.DropWhy.{DropWhy}
 use Rattle.hb_activity.specs.declared.wanting.Wanted.{Wanted}
-use Rattle.hb_activity.specs.Changing.{may_commit}
+use Rattle.hb_activity.specs.Wanting.{may_commit}
 use Rattle.hb_activity.specs.Classes.{Hand, Empty, HasJob, HasLine, class_of, hand_of, idle_of}
 use Rattle.hb_activity.specs.Deeds.{Deed}
 use Rattle.hb_disk.specs.Model.{DiskModel}

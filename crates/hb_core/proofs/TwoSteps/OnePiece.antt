@@ -24,7 +24,7 @@ use Rattle.hb_core.specs.Steps.{TakesJob, TakesMerging}
 use Rattle.hb_frag.specs.Leaves.{Placed, weight_of}
 use Rattle.hb_poster.specs.PosterRows.{IsPostingOf}
 use Rattle.hb_space.specs.Boxes.{Area}
-use Rattle.hb_store.specs.NextPage.{IsNext}
+use Rattle.hb_store.specs.Fetching.{IsNext}
 use Rattle.hb_store.specs.States.{StoreState, in_memory}
 use Rattle.hb_terms.specs.Plans.{IsOwed, IsPlan, posted_parent}
 use Rattle.hb_poster.proofs.Facts.OnePosting.{one_posting}

@@ -116,3 +116,8 @@ sound_room s sound none high = by_chain sound.counted.chain sound.counted.chaine
         let live = all_live s.pages (λ id next is. let never : Contains [] id = all id next is in absurd (omega (arith, never.1))) in
         sound.counted.live ∙ live ∙ sound.rooted.numbered ∙ high
     by_chain (id ∷ rest) is all = absurd (is.1 none)
+
+-- a chain of free pages stays where these stay as they are
+pub chain_kept : (s t : FileState) → ((id next : ℕ) → page_of s id ≡ Some (Free next) → page_of t id ≡ Some (Free next)) → (head : ℕ) (chain : List ℕ) → IsChain s head chain → IsChain t head chain
+chain_kept s t stays head [] h = h
+chain_kept s t stays head (id ∷ rest) h = (h.0, h.1, h.2, stays id h.2 h.3, chain_kept s t stays h.2 rest h.4)

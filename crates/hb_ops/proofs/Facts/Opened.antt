@@ -14,8 +14,7 @@ use Rattle.hb_frag.specs.Leaves.{IsWellCut, Placed, WellCut, first_at, leaf_at, 
 use Rattle.hb_frag.specs.Paths.{StaysInside, way_to}
 use Rattle.hb_frag.specs.Rules.{AreInOrder, IsInOrder, Precedes, capacity_of}
 use Rattle.hb_layout.specs.declared.meta.Meta.{Meta}
-use Rattle.hb_ops.specs.Edits.{HasGap, HasPlace, IsAt, IsGapFor, IsOpenAt}
-use Rattle.hb_ops.specs.Recording.{FitsDel, FitsPut, joined, on_records, page_with, put_page}
+use Rattle.hb_ops.specs.Recording.{HasGap, HasPlace, IsAt, IsGapFor, IsOpenAt, FitsDel, FitsPut, joined, on_records, page_with, put_page}
 use Rattle.hb_ops.proofs.Boxes.{apart}
 use Rattle.hb_ops.proofs.Facts.Places.{gap_lacks, joined_at, place_has}
 use Rattle.hb_ops.proofs.Facts.Tips.{first_append, first_held, parted, tip_at, unchanged}

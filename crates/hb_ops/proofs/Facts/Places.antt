@@ -11,8 +11,7 @@ use Rattle.std.proofs.lemmas.List.Sorted.{searchable_from_sorted}
 use Rattle.hb_space.specs.Points.{point_cmp}
 use Rattle.hb_space.specs.declared.records.Record.{Record}
 use Rattle.hb_frag.specs.Rules.{Precedes}
-use Rattle.hb_ops.specs.Edits.{IsAt, IsGapFor}
-use Rattle.hb_ops.specs.Recording.{joined, without}
+use Rattle.hb_ops.specs.Recording.{IsAt, IsGapFor, joined, without}
 use Rattle.hb_space.proofs.Facts.PointOrder.{exact_points, turned}
 
 -- the comparisons with a point rise, as a binary search asks

@@ -13,8 +13,7 @@ use Rattle.hb_frag.specs.Paths.{part_at}
 use Rattle.hb_frag.specs.Rules.{AreInOrder, IsSiblingTip}
 use Rattle.hb_ops.specs.Cutting.{going, half_area, is_on, other_side, records_in, reached, PartLeaves}
 use Rattle.hb_ops.specs.declared.leaf_cuts.LeafCut.{LeafCut}
-use Rattle.hb_split.specs.Choosing.{way_down, MayCut, AreChosen}
-use Rattle.hb_split.specs.Laws.{IsThirds, MayLeave}
+use Rattle.hb_split.specs.Choosing.{way_down, MayCut, AreChosen, IsThirds, MayLeave}
 use Rattle.hb_split.proofs.Facts.Ends.{at_end, of_page, records_held}
 use Rattle.hb_split.proofs.Nexts.{parts}
 use Rattle.hb_ops.proofs.Facts.LeafHalfLaws.{holds_on, side_attributes}

@@ -9,7 +9,7 @@ use Rattle.hb_disk.proofs.Facts.BecomesLaws.{Becomes-read}
 use Rattle.hb_disk.proofs.Facts.RunLaws.{OnlyReads-read}
 use Rattle.hb_disk.proofs.Facts.SyncedLaws.{IsSynced-durable}
 use Rattle.hb_layout.specs.Offsets.{slot_offset}
-use Rattle.hb_super.specs.Hidden.{Clears}
+use Rattle.hb_super.specs.Moments.{Clears}
 
 -- reads keep a range synced
 pub IsSynced-reads : (old new : DiskModel) (at n : ℕ) → OnlyReads old new → IsSynced old at n → IsSynced new at n

@@ -3,8 +3,7 @@ use Rattle.hb_space.specs.Boxes.{Area}
 use Rattle.hb_frag.specs.declared.leaves.Leaf.TheVariants.{Records}
 use Rattle.hb_frag.specs.declared.paths.Side.TheVariants.{Left}
 use Rattle.hb_frag.specs.Trees.{Tip}
-use Rattle.hb_ops.specs.Cutting.{PartLeaves}
-use Rattle.hb_ops.specs.Splits.{goes_on}
+use Rattle.hb_ops.specs.Cutting.{PartLeaves, goes_on}
 use Rattle.hb_ops.proofs.CutTests.{one_more_cut}
 use Rattle.hb_ops.proofs.extracting.+part_records.Goals as goal
 

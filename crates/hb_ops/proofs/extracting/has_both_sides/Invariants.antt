@@ -1,6 +1,5 @@
 use Rattle.std.proofs.Common.{◌≡◌, ◌≤◌, ◌+◌, length, take, filter}
-use Rattle.hb_ops.specs.Cutting.{is_on, other_side}
-use Rattle.hb_ops.specs.Splits.{goes_on}
+use Rattle.hb_ops.specs.Cutting.{is_on, other_side, goes_on}
 use Rattle.hb_ops.proofs.extracting.has_both_sides.Given as goal
 
 abbrev pub invariant-loop-each : goal.invariant-loop-each

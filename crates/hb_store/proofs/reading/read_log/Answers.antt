@@ -1,7 +1,7 @@
 use Rattle.std.proofs.Common.{◌≡◌, Err, ap, length, refl, subst}
 use Rattle.std.specs.Prelude.{IfSome}
 use Rattle.hb_wal.specs.Frames.{HasFrames, HasBadFrame, range}
-use Rattle.hb_wal.specs.Stops.{StopsAt}
+use Rattle.hb_wal.specs.Reading.{StopsAt}
 use Rattle.hb_disk.proofs.Facts.FaultLaws.{ReadsOnly-as}
 use Rattle.hb_store.specs.declared.touched.LogStop.TheVariants.{DiskFault}
 use Rattle.hb_store.proofs.LogReads.{few_payloads, no_log_ok, no_log_bad}

@@ -1,7 +1,6 @@
 use Rattle.std.proofs.Common.{◌≡◌, length, take, drop}
 use Rattle.hb_lemmas.proofs.Options.{if_value, at_value}
-use Rattle.hb_super.specs.Moments.{NoOther, HidesNoOther}
-use Rattle.hb_super.specs.Hidden.{IsOther, HidesOther}
+use Rattle.hb_super.specs.Moments.{NoOther, HidesNoOther, IsOther, HidesOther}
 use Rattle.hb_super.proofs.Supers.{place_bytes}
 use Rattle.hb_super.proofs.Clears.{place_read}
 use Rattle.hb_super.proofs.hidden.hides_other.Goals as goal

@@ -2,7 +2,7 @@ use Rattle.std.proofs.Common.{◌≡◌, ℕ, ◌+◌, ◌-◌, ◌≤◌, List,
 use Rattle.hb_lemmas.proofs.Options.{at_value}
 use Rattle.hb_disk.proofs.Facts.FaultLaws.{ReadsOnly-then, ReadsOnly-as, ReadsOnly-neither}
 use Rattle.hb_wal.specs.Frames.{IsPayload}
-use Rattle.hb_wal.specs.Stops.{stop_after}
+use Rattle.hb_wal.specs.Reading.{stop_after}
 use Rattle.hb_wal.specs.declared.heads.FrameStop.{FrameStop}
 use Rattle.hb_wal.specs.declared.heads.FrameStop.TheVariants.{DiskFault}
 use Rattle.hb_wal.specs.declared.heads.FrameStop.TheVariants as frame_stops

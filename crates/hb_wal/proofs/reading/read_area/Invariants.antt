@@ -1,4 +1,4 @@
-use Rattle.hb_wal.specs.Loops.{HasRead}
+use Rattle.hb_wal.specs.Reading.{HasRead}
 use Rattle.hb_wal.proofs.reading.read_area.Given as goal
 
 abbrev pub invariant-loop-payloads : goal.invariant-loop-payloads

@@ -1,7 +1,8 @@
 use Rattle.std.proofs.Common.{rules, ◌≡◌, []}
 use Rattle.std.proofs.lemmas.Result.{err_from_is_err_and}
 use Rattle.hb_store.specs.Seen.{seen_as}
-use Rattle.hb_store.proofs.Written.{WritesOldest-err, WritesOldest-ok, nothing_written}
+use Rattle.hb_store.proofs.Facts.OtherAnswers.{WritesOldest-err, WritesOldest-ok}
+use Rattle.hb_store.proofs.Written.{nothing_written}
 use Rattle.hb_store.proofs.store.Store.flush_step.Goals as goal
 
 pub returns-then-is_idle-clause-writes : goal.returns-then-is_idle-clause-writes

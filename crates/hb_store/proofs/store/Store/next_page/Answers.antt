@@ -5,7 +5,7 @@ use Rattle.hb_layout.specs.declared.meta.Meta.{Meta}
 use Rattle.hb_ops.specs.Allocating.{Allocates}
 use Rattle.hb_ops.specs.Files.{page_of}
 use Rattle.hb_store.specs.Keeps.{last_of}
-use Rattle.hb_store.specs.NextPage.{MayFetch}
+use Rattle.hb_store.specs.Fetching.{MayFetch}
 use Rattle.hb_store.specs.States.{in_memory}
 use Rattle.hb_store.specs.Seen.{seen_as}
 use Rattle.hb_store.proofs.Facts.LookLaws.{LooksUp-none, LooksUp-as, LooksUp-stop}
