@@ -28,6 +28,12 @@ WalksInside page (Delete point) = Holds page.area point
 WalksInside page (Lookup point) = Holds page.area point
 WalksInside page (Search area) = ⊥
 
+-- a walk is at such a page, which keeps the rules of a page alone, over a file within its limits
+pub record WalksAt (meta : Meta) (page : LivePage) (command : Command) : Type 0 where
+  pub layout : IsLayout meta
+  pub made : FitsFile meta page
+  pub inside : WalksInside page command
+
 -- The page that is to be split is the one given, and it has no record at the point of the insert and no room for it.
 pub record MustSplit (meta : Meta) (free : Option (ℕ × ℕ)) (line : Line) (held id : ℕ) (page : LivePage) : Type 0 where
   pub given : id ≡ held

@@ -4,9 +4,8 @@
 ghost use Rattle.std.specs.Prelude.{◌≡◌, ℕ, List, [], Some, MatchOption};
 ghost use Rattle.hb_activity.specs.Walks.{goal_of};
 ghost use Rattle.hb_layout.specs.Limits.{IsLayout};
-ghost use Rattle.hb_ops.specs.Sound.{FitsFile};
 ghost use Rattle.hb_ops.specs.Standing.{StandsNot, StandsThere};
-ghost use Rattle.hb_point.specs.Asks.{WalksInside, DoesBy, HasLeafOfRecords, RecordsThere, WalksBy, line_with};
+ghost use Rattle.hb_point.specs.Asks.{WalksAt, WalksInside, DoesBy, HasLeafOfRecords, RecordsThere, WalksBy, line_with};
 ghost use Rattle.hb_set.specs.declared.commands.Command.TheVariants as commands;
 ghost use Rattle.hb_space.specs.Boxes.{Area as Extent, Holds};
 
@@ -26,9 +25,7 @@ pub(crate) fn walk(
     page: &LivePage,
     meta: &Meta,
 ) -> Next
-    requires layout { IsLayout meta.now }
-    requires made { FitsFile meta.now page.now }
-    requires inside { WalksInside page.now line.command }
+    requires { WalksAt meta.now page.now line.command }
     ensures { WalksBy meta.now line rest found id page.now result }
 {
     let point = point_of(page, &line.command);
@@ -74,9 +71,7 @@ fn point_of<'a>(page: &LivePage, command: &'a Command) -> &'a Point
 /// What the command does at a page whose leaf at its point has records.
 #[tactic(auto, using(crate::proofs::AskedRows::does_as))]
 fn does_there(line: Line, id: u32, page: &LivePage, meta: &Meta) -> Next
-    requires layout { IsLayout meta.now }
-    requires made { FitsFile meta.now page.now }
-    requires inside { WalksInside page.now line.command }
+    requires here { WalksAt meta.now page.now line.command }
     requires records { MatchOption (goal_of line.command []) ⊥ (RecordsThere page.now) }
     ensures { DoesBy meta.now line id page.now result }
 {
