@@ -1,5 +1,5 @@
 -- The consolidator's rows of pairs that were worked out by hand.
-use Rattle.std.proofs.Common.{◌≡◌, inl, inr, ℕ, ◌+◌, ◌-◌, [], ◌∷◌, Some, refl, sym, ap, ◌∙◌, subst, arith}
+use Rattle.std.proofs.Common.{◌≡◌, inl, inr, ℕ, ◌+◌, [], ◌∷◌, Some, refl, sym, ap, ◌∙◌, subst, arith}
 use Rattle.std.proofs.lemmas.Option.{same_Some}
 use Rattle.hb_frag.specs.declared.pages.LivePage.{LivePage}
 use Rattle.hb_terms.specs.declared.merging.MergePlan.{MergePlan}
@@ -10,9 +10,8 @@ use Rattle.hb_activity.specs.declared.activities.Activity.TheVariants.{Consolida
 use Rattle.hb_activity.specs.Deeds.{Deed, moves_to}
 use Rattle.hb_activity.specs.OneDeed.{IsOnly}
 use Rattle.hb_activity.specs.Sights.{Sight}
-use Rattle.hb_consol.specs.ConsolidatorRows.{HasMergePlan, TriesPair, after_try}
+use Rattle.hb_consol.specs.ConsolidatorRows.{HasMergePlan, TriesPair, after_try, Decides, DoesMerge}
 use Rattle.hb_consol.specs.Examples.{DecidesByHand, KeepsByHand, TriesByHand, names_three, page_four, gave_three, page_two}
-use Rattle.hb_consol.specs.MergeRows.{Decides, DoesMerge}
 use Rattle.hb_frag.specs.Leaves.{DirectlyCovers, siblings_of}
 use Rattle.hb_frag.specs.Rules.{capacity_of}
 use Rattle.hb_space.proofs.Facts.Intervals.{top, within}

@@ -1,4 +1,2 @@
 pub mod ConsolidatorRows
-pub mod MergeRows
-pub mod Laws
 pub mod Examples

@@ -2,8 +2,7 @@
 //! become one, and merges them.
 //!
 //! The one contract: a step of the consolidator does one of these rows, which are records over what a row
-//! reads: `specs/ConsolidatorRows.antt` up to the promotion of the parent, `specs/MergeRows.antt` behind
-//! it. hb_core joins them with the rows of the other actors.
+//! reads: `specs/ConsolidatorRows.antt`. hb_core joins them with the rows of the other actors.
 //!
 //! Source of the idea: Evangelidis, Lomet and Salzberg 1997.
 #![tactic(auto)]
