@@ -78,9 +78,6 @@ is_forced = forced_scene put
 abbrev answered : Scene
 answered = after 1 (answers_now 1 replies.Done) [] is_forced
 
-ready : IsReady (store_of taken)
-ready = (omega arith, omega arith)
-
 put_fits : FitsPut flat_meta (page_of_records []) letter_a
 put_fits = record { made = empty_fits; level = refl; absent = record { records = []; area = _; leaf = refl; keeps = All-from_recursion (λ (r : Record). r.key ≢ letter_a.key) [] tt }; room = omega arith }
 
@@ -102,7 +99,7 @@ one_insert = (
   inl (performed before_insert 1 (taking inserts_a) [] (queued refl refl) tt),
   (
     machine_of put,
-    works_bringing page_1 taken 1 puts [] (page_comes, tt) refl (has_room taken 1 ready) put_row (queued refl refl) (record { allowed = put_fits; log = refl }),
+    works_bringing page_1 taken 1 puts [] (page_comes, tt) refl (has_room taken 1 (omega arith, omega arith)) put_row (queued refl refl) (record { allowed = put_fits; log = refl }),
     (
       machine_of is_forced,
       inr (omega arith, forces put Moved),
