@@ -3,13 +3,12 @@ use Rattle.std.proofs.Common.{◌≡◌, ◌≢◌, inl, inr, List, [], ◌∷�
 use Rattle.hb_space.specs.declared.records.Record.{Record}
 use Rattle.hb_frag.specs.declared.pages.LivePage.{LivePage}
 use Rattle.hb_ops.specs.declared.operations.Op.TheVariants as ops
-use Rattle.hb_terms.specs.declared.plans.PostPlan.TheVariants as plans
 use Rattle.hb_latch.specs.declared.modes.Mode.TheVariants.{Exclusive, Shared}
 use Rattle.hb_set.specs.declared.commands.Reply.TheVariants as replies
 use Rattle.hb_activity.specs.declared.jobs.Job.{Job}
 use Rattle.hb_activity.specs.declared.activities.Activity.TheVariants as at
 use Rattle.hb_core.specs.declared.outcomes.Outcome.TheVariants.{Moved}
-use Rattle.hb_activity.specs.Deeds.{Deed, answers_now, does, moves_to, takes_effect}
+use Rattle.hb_activity.specs.Deeds.{Deed, answers_now, moves_to, takes_effect}
 use Rattle.hb_core.proofs.Chains.BuiltSteps.{after, at_hand, blocked, forced_scene, forces, has_room, live_is, none_waits, one_joins, only_looks, performed, wanted_in, works, queued}
 use Rattle.hb_core.proofs.Chains.ChainOfPosting.{again_row, arrive_row, arrives, it_leaves, job, look_row, looks, post_fits, posts, promote_row, promotes, takes}
 use Rattle.hb_core.proofs.Chains.ChainOfTwoParts.{differ}
@@ -18,7 +17,7 @@ use Rattle.hb_core.specs.ChainBesidePoster.{SessionsBesidePoster, beside_before,
 use Rattle.hb_core.specs.ChainOfPosting.{bare_root, posted_root, raised_meta, split_page}
 use Rattle.hb_core.specs.ChainOfTwo.{lettered, lower_half, lower_three, posts_at}
 use Rattle.hb_core.specs.Rows.{Row}
-use Rattle.hb_core.specs.Scenes.{Scene, machine_of, standing, store_of}
+use Rattle.hb_core.specs.Scenes.{Scene, machine_of, standing}
 use Rattle.hb_core.specs.Steps.{TakesJob}
 use Rattle.hb_frag.specs.Leaves.{leaves, leaves_of}
 use Rattle.hb_frag.specs.Rules.{BelongsAt, IsInOrder}
@@ -29,8 +28,6 @@ use Rattle.hb_lemmas.specs.Numbers.{big_endian}
 use Rattle.hb_point.specs.SessionRows.{taking}
 use Rattle.hb_sound.proofs.ExampleParts.{in_order}
 use Rattle.hb_space.proofs.Facts.Intervals.{held, interval, top, within}
-use Rattle.hb_space.specs.Boxes.{side_below, whole_area}
-use Rattle.hb_store.specs.Calls.{IsReady}
 use Rattle.std.proofs.lemmas.List.Elements.{All-from_recursion}
 use Rattle.hb_lemmas.proofs.Lists.{only_one}
 

@@ -13,13 +13,12 @@ use Rattle.hb_core.specs.ChainOfCommands.{CommandsOfOne, asked_area, commands_be
 use Rattle.hb_core.specs.ChainOfPosting.{split_page}
 use Rattle.hb_core.specs.ChainOfTwo.{lettered, lower_half, lower_three, posts_at}
 use Rattle.hb_core.specs.Rows.{Row}
-use Rattle.hb_core.specs.Scenes.{Scene, machine_of, standing, store_of}
+use Rattle.hb_core.specs.Scenes.{Scene, machine_of, standing}
 use Rattle.hb_frag.specs.Rules.{Precedes}
 use Rattle.hb_ops.specs.Standing.{StandsNot}
 use Rattle.hb_point.specs.SessionRows.{taking}
 use Rattle.hb_frag.proofs.Facts.RisingRecords.{rising}
 use Rattle.hb_space.specs.Boxes.{Area}
-use Rattle.hb_store.specs.Calls.{IsReady}
 use Rattle.std.proofs.lemmas.List.Elements.{All-from_recursion}
 
 -- ---- the scenes, one after the other

@@ -6,20 +6,19 @@ use Rattle.hb_frag.specs.declared.pages.Page.TheVariants.{Free}
 use Rattle.hb_set.specs.declared.commands.Reply.TheVariants as replies
 use Rattle.hb_core.specs.declared.outcomes.Outcome.TheVariants.{Moved}
 use Rattle.hb_activity.specs.Deeds.{Deed, answers_now}
-use Rattle.hb_core.proofs.Chains.BuiltSteps.{MayCome, MayNeedIn, after, at_hand, bringing, forced_scene, forces, has_room, live_is, memory_is, none_waits, one_joins, performed, wanted_in, works, works_bringing, queued}
+use Rattle.hb_core.proofs.Chains.BuiltSteps.{MayCome, MayNeedIn, after, bringing, forced_scene, forces, has_room, memory_is, none_waits, one_joins, performed, wanted_in, works, works_bringing, queued}
 use Rattle.hb_core.proofs.Chains.ChainOfTwoParts.{full_fits, put_fits, six}
 use Rattle.hb_core.specs.ChainOfFreePage.{FreePageIsTaken, NoPageIsFree, free_before, none_free_before, tight_meta}
 use Rattle.hb_core.specs.ChainOfTwo.{full_page, inserts_seventy, lettered, posts_at, upper_half, upper_three}
 use Rattle.hb_core.specs.Machines.{next_of_chain}
 use Rattle.hb_core.specs.Rows.{Row}
-use Rattle.hb_core.specs.Scenes.{Scene, machine_of, standing, store_of}
+use Rattle.hb_core.specs.Scenes.{Scene, machine_of, standing}
 use Rattle.hb_frag.specs.Grammar.{HasSpelling}
 use Rattle.hb_ops.specs.Extracting.{FitsExtract}
 use Rattle.hb_ops.specs.Recording.{FitsPut}
 use Rattle.hb_lemmas.specs.Numbers.{big_endian}
 use Rattle.hb_point.specs.SessionRows.{taking}
 use Rattle.hb_space.proofs.Facts.Intervals.{cuts, top}
-use Rattle.hb_store.specs.Calls.{IsReady}
 use Rattle.hb_core.proofs.Chains.SplitRows.{finds_no_room, no_room_row, put_row, puts, split_row, splits}
 
 -- ---- the scenes, one after the other

@@ -10,7 +10,7 @@ use Rattle.hb_activity.specs.Deeds.{Deed, answers_now, takes_effect}
 use Rattle.hb_core.proofs.Chains.BuiltSteps.{MayCome, MayNeedIn, after, at_hand, bringing, forced_scene, forces, has_room, performed, wanted_in, works_bringing, queued}
 use Rattle.hb_core.specs.OneInsert.{OneInsert, before_insert, flat_meta, inserts_a, letter_a, page_of_records}
 use Rattle.hb_core.specs.Rows.{Row}
-use Rattle.hb_core.specs.Scenes.{Scene, machine_of, standing, store_of}
+use Rattle.hb_core.specs.Scenes.{Scene, machine_of, standing}
 use Rattle.hb_frag.specs.Grammar.{FitsRecord, HasSpelling}
 use Rattle.hb_frag.specs.Leaves.{leaves, leaves_of}
 use Rattle.hb_frag.specs.Rules.{BelongsAt, IsInOrder}
@@ -21,7 +21,6 @@ use Rattle.hb_point.specs.SessionRows.{taking}
 use Rattle.hb_sound.proofs.ExampleParts.{in_order}
 use Rattle.hb_space.specs.Boxes.{whole_area}
 use Rattle.hb_space.specs.Points.{IsPoint}
-use Rattle.hb_store.specs.Calls.{IsReady}
 use Rattle.std.proofs.lemmas.List.Elements.{All-from_recursion}
 
 -- the empty page is well made

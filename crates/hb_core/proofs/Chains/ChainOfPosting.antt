@@ -34,7 +34,6 @@ use Rattle.hb_poster.specs.PosterRows.{ends_job}
 use Rattle.hb_sound.proofs.ExampleParts.{no_records}
 use Rattle.hb_space.proofs.Facts.Intervals.{interval, top, within}
 use Rattle.hb_space.specs.Boxes.{Meets, side_below, whole_area}
-use Rattle.hb_store.specs.Calls.{IsReady}
 use Rattle.hb_terms.specs.Plans.{IsPlan}
 use Rattle.std.proofs.lemmas.List.Elements.{All-from_recursion}
 

@@ -22,14 +22,13 @@ use Rattle.hb_core.specs.ChainOfMerging.{valued}
 use Rattle.hb_core.specs.ChainOfThreePages.{FullGoesOn, deletes_110, five_high, full_high, high_page, inserts_120, middle_page, postings_owed, three_before}
 use Rattle.hb_core.specs.ChainOfTwo.{posts_at}
 use Rattle.hb_core.specs.Rows.{Row}
-use Rattle.hb_core.specs.Scenes.{Scene, machine_of, standing, store_of}
+use Rattle.hb_core.specs.Scenes.{Scene, machine_of, standing}
 use Rattle.hb_core.specs.declared.outcomes.Outcome.TheVariants.{Moved}
 use Rattle.hb_core.proofs.Chains.BuiltSteps.{after, at_hand, forced_scene, forces, has_room, live_is, one_joins, performed, queued, wanted_in, works}
 use Rattle.hb_core.proofs.Chains.ChainOfTwoParts.{differ}
 use Rattle.hb_point.specs.SessionRows.{taking}
 use Rattle.hb_sound.proofs.ExampleParts.{each_has, in_order}
 use Rattle.hb_space.proofs.Facts.Intervals.{held, interval, top}
-use Rattle.hb_store.specs.Calls.{IsReady}
 use Rattle.std.proofs.lemmas.List.Elements.{All-from_recursion}
 
 abbrev all_jobs : List Job

@@ -1,25 +1,21 @@
 -- A core that has taken no step shows a machine that has taken none.
 use Rattle.hb_core.proofs.Running.Begun.{begun_shows}
-use Rattle.std.proofs.Common.{◌≡◌, ◌⊎◌, inl, inr, ℕ, zero, suc, ◌+◌, ◌-◌, ◌<◌, ◌≤◌, ◌==◌, Bool, cond, List, [], ◌∷◌, ◌++◌, All, Option, Some, None, IfSome, IsSome, refl, sym, ap, ◌∙◌, subst, arith, ne_eqb, replicate, slice_get}
+use Rattle.std.proofs.Common.{◌≡◌, ℕ, List, [], All, Option, Some, None, IfSome, IsSome, refl, subst}
 use Rattle.std.specs.FinMap as map
-use Rattle.std.proofs.Math.Nat.{eq-or-lt_of_le}
-use Rattle.std.proofs.lemmas.List.Elements.{All-nil}
-use Rattle.std.proofs.lemmas.Option.{same_Some}
-use Rattle.hb_activity.specs.Classes.{Class, Consolidators, Flushers, Posters, Sessions, idle_of}
-use Rattle.hb_activity.specs.declared.activities.Activity.TheVariants as at
+use Rattle.hb_activity.specs.Classes.{idle_of}
 use Rattle.hb_core.proofs.Machines.Beginnings.{beginning_keeps, beginning_keeps_all}
 use Rattle.hb_core.proofs.Table.NoMerges.{begun_has_nothing}
 use Rattle.hb_core.specs.KeptFits.{LineFits, class_for}
 use Rattle.hb_core.specs.KeptLines.{HasLineBody}
 use Rattle.hb_core.specs.Keeps.{HasSoundFile}
 use Rattle.hb_core.specs.Machines.{Files, Machine}
-use Rattle.hb_core.specs.Showing.{HasTurn, IsDealtWith, ShowsFiles, ShowsMachine, number_in_hand}
+use Rattle.hb_core.specs.Showing.{ShowsFiles, ShowsMachine}
 use Rattle.hb_core.specs.SteppingLaws.{IsBegun, IsBegunOver}
-use Rattle.hb_core.specs.Taking.{all_idle, begun_core}
+use Rattle.hb_core.specs.Taking.{begun_core}
 use Rattle.hb_core.specs.Working.{MayStep}
 use Rattle.hb_disk.specs.Model.{DiskModel}
 use Rattle.hb_frag.specs.declared.pages.Page.{Page}
-use Rattle.hb_latch.specs.Tables.{MayLatch, latch_cmp}
+use Rattle.hb_latch.specs.Tables.{latch_cmp}
 use Rattle.hb_lemmas.proofs.Options.{has_value, not_none}
 use Rattle.hb_ops.specs.Files.{FileState}
 use Rattle.hb_ops.specs.Sound.{IsSound}

@@ -1,12 +1,12 @@
 -- What crashes leave of a run, one step more.
 use Rattle.hb_core.proofs.Orders.OrderPlaces.{StandsSomewhere}
 use Rattle.hb_core.proofs.Orders.PendingKept.{IsSettledIn}
-use Rattle.std.proofs.Common.{◌≡◌, ◌⊎◌, inl, inr, ℕ, ◌+◌, ◌<◌, ◌≤◌, List, ◌++◌, get_or, All, sym, subst, arith}
+use Rattle.std.proofs.Common.{◌≡◌, ◌⊎◌, inl, inr, ℕ, ◌+◌, ◌≤◌, List, ◌++◌, get_or, All, sym, subst, arith}
 use Rattle.std.proofs.lemmas.List.Elements.{All-append}
 use Rattle.hb_core.proofs.Facts.PrefixImages.{prefix_less, prefix_longer, settled_prefix}
 use Rattle.hb_core.proofs.TwoSteps.SinglePlaces.{no_place, one_place, stands_longer}
 use Rattle.hb_core.specs.KeptMachine.{CoreKeeps}
-use Rattle.hb_core.specs.KeptOrder.{StandsInOrder, StandsOutside}
+use Rattle.hb_core.specs.KeptOrder.{StandsInOrder}
 use Rattle.hb_core.specs.Machines.{Files, Machine, settled_count}
 use Rattle.hb_core.specs.MomentLaws.{ImagesHavePrefixes}
 use Rattle.hb_core.specs.Runs.{CrashesTo, HoldsSince, IsPrefixImage}

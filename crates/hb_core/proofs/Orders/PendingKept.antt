@@ -21,7 +21,7 @@ use Rattle.hb_core.specs.Acting.{MeetsBadPage}
 use Rattle.hb_core.specs.Forcing.{ForcesFirst, StaysSo, forced_files}
 use Rattle.hb_core.specs.KeepingLaws.{IsAnsweredInPlace, PrefixStaysPending, SettledStaysSettled}
 use Rattle.hb_core.specs.Keeps.{HasSoundFile}
-use Rattle.hb_core.specs.KeptOrder.{FollowMarks, HasLegalOrder, HasPendingPrefix, StandsInOrder, StandsOutside}
+use Rattle.hb_core.specs.KeptOrder.{FollowMarks, HasLegalOrder, HasPendingPrefix, StandsInOrder}
 use Rattle.hb_core.specs.Machines.{Files, Machine, current_file, if_some, settled_count}
 use Rattle.hb_core.specs.Performing.{MayDo, Performs, files_after, given_by, with_effect}
 use Rattle.hb_core.specs.Steps.{StepsTo, Works}

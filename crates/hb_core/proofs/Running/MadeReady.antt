@@ -1,8 +1,7 @@
 -- A core that isn't ready for a change flushes once, as a step of the machine that it shows.
 use Rattle.hb_core.proofs.Memory.OwnPages.{runs_out_nothing}
-use Rattle.std.proofs.Common.{◌≡◌, ◌≢◌, ◌↔◌, inl, inr, ℕ, List, [], None, Ok, Err, refl, sym, ap, ◌∙◌, subst}
+use Rattle.std.proofs.Common.{◌≡◌, ◌≢◌, ◌↔◌, inl, inr, ℕ, List, [], Ok, Err, sym, ap, ◌∙◌, subst}
 use Rattle.hb_activity.specs.Classes.{class_of}
-use Rattle.hb_activity.specs.Deeds.{Deed}
 use Rattle.hb_activity.specs.declared.activities.Activity.{Activity}
 use Rattle.hb_disk.specs.Model.{DiskModel}
 use Rattle.hb_latch.specs.Tables.{MayLatch}
@@ -24,7 +23,6 @@ use Rattle.hb_core.specs.Working.{IsWorking, MayStep}
 use Rattle.hb_core.proofs.Running.ForcedShows.{fails, forces, group_waits, nothing_forced}
 use Rattle.hb_core.proofs.Running.LineTaken.{deed_done}
 use Rattle.hb_core.proofs.Running.NumbersInHand.{ran_out_number}
-use Rattle.hb_core.proofs.Table.GivenUp.{run_out_is}
 
 -- a flush that forced found a group, and one that did nothing found none
 pub some_forced : (did : Flushed) (groups : List Waiting) → did ≡ Flushed.Forced → ((did ≡ Flushed.Nothing) ↔ (groups ≡ [])) → groups ≢ []

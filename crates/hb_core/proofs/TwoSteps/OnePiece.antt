@@ -1,15 +1,10 @@
 -- The pieces of a row that the table fixes: the oldest job, the plan, the next number, the part that leaves a page.
-use Rattle.std.proofs.Common.{◌≡◌, ◌≢◌, inl, inr, ℕ, ◌++◌, List, [], ◌∷◌, All, Option, Some, None, refl, sym, ap, ◌∙◌, subst, arith}
+use Rattle.std.proofs.Common.{◌≡◌, ◌≢◌, inl, inr, ℕ, ◌++◌, List, [], ◌∷◌, All, Option, Some, None, sym, ap, ◌∙◌, subst, arith}
 use Rattle.std.proofs.lemmas.Bool.{cases_lt}
 use Rattle.std.proofs.lemmas.List.Elements.{All-head, All-tail}
-use Rattle.std.proofs.lemmas.Option.{same_Some}
 use Rattle.hb_layout.specs.declared.meta.Meta.{Meta}
-use Rattle.hb_frag.specs.declared.leaves.Leaf.TheVariants.{Child, Sibling}
-use Rattle.hb_frag.specs.declared.pages.LivePage.{LivePage}
 use Rattle.hb_frag.specs.declared.pages.Page.{Page}
 use Rattle.hb_frag.specs.declared.pages.Page.TheVariants.{Free}
-use Rattle.hb_terms.specs.declared.plans.PostPlan.{PostPlan}
-use Rattle.hb_terms.specs.declared.plans.PostPlan.TheVariants as plans
 use Rattle.hb_activity.specs.declared.jobs.Job.{Job}
 use Rattle.hb_activity.specs.declared.jobs.JobKind.{JobKind}
 use Rattle.hb_activity.specs.declared.jobs.JobKind.TheVariants.{Post, Merge}
@@ -21,12 +16,9 @@ use Rattle.hb_core.proofs.Memory.NextNumbers.{is_next_number}
 use Rattle.hb_core.specs.Machines.{Machine, next_of}
 use Rattle.hb_core.specs.Performing.{ChangesQueue}
 use Rattle.hb_core.specs.Steps.{TakesJob, TakesMerging}
-use Rattle.hb_frag.specs.Leaves.{Placed, weight_of}
 use Rattle.hb_poster.specs.PosterRows.{IsPostingOf}
-use Rattle.hb_space.specs.Boxes.{Area}
 use Rattle.hb_store.specs.NextPage.{IsNext}
 use Rattle.hb_store.specs.States.{StoreState, in_memory}
-use Rattle.hb_terms.specs.Plans.{IsOwed, IsPlan, posted_parent}
 use Rattle.hb_poster.proofs.Facts.OnePosting.{one_posting}
 use Rattle.hb_consol.proofs.Facts.OneMerging.{one_merging as one_way}
 

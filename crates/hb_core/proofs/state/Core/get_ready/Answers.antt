@@ -31,8 +31,8 @@ returns-in-Err g c = record {
   readies = λ m step runs works.
       ready_failed g.D.Device.model (core_disk c.args.self.now) c.flush_step.new.self.disk (core_seen c.args.self.now) m c.args.actor (seen_as c.flush_step.new.self) step
       c.in-Err._fault (core_disk c.stop_for.new.self) (core_seen c.stop_for.new.self) c.stop_for.result c.in-Err.ensures.writes
-      c.stop_for.ensures.says c.stop_for.ensures.stops c.stop_for.ensures.disk;
+      c.stop_for.ensures.says c.stop_for.ensures.stops.does c.stop_for.ensures.stops.disk;
   touches =
       failed_then g.D.Device.model (core_disk c.args.self.now) c.flush_step.new.self.disk (core_disk c.stop_for.new.self) (core_seen c.args.self.now) (core_seen c.stop_for.new.self) (seen_as c.flush_step.new.self) c.stop_for.result
-      c.in-Err._fault c.in-Err.ensures.writes c.stop_for.ensures.says c.stop_for.ensures.stops c.stop_for.ensures.disk;
+      c.in-Err._fault c.in-Err.ensures.writes c.stop_for.ensures.says c.stop_for.ensures.stops.does c.stop_for.ensures.stops.disk;
 }
