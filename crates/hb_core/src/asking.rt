@@ -1,12 +1,10 @@
 //! Which page a step asks for, and what it tests of that page before it latches it.
-ghost use Rattle.std.specs.Prelude.{◌≡◌, ◌↔◌, ◌≢◌, length, IsTrue, IsSome, Some, IfErr, IfSome, OnOk, MatchOption};
+ghost use Rattle.std.specs.Prelude.{◌≡◌, ◌↔◌, ◌≢◌, length, IsTrue, Some, IfErr, IfSome, OnOk, MatchOption};
 ghost use Rattle.hb_activity.specs.Changing.{may_commit};
 ghost use Rattle.hb_activity.specs.Wanting.{HasLeafAt};
 ghost use Rattle.hb_frag.specs.declared.pages.Page.TheVariants.{Live};
-ghost use Rattle.hb_latch.specs.Tables.{MayLatch};
 ghost use Rattle.hb_layout.specs.Limits.{IsLayout};
 ghost use Rattle.hb_ops.specs.Given.{given as live_given};
-ghost use Rattle.hb_store.specs.States.{in_memory};
 ghost use Rattle.hb_store.specs.declared.stops.Why.TheVariants.{Extent};
 ghost use Rattle.hb_core.specs.Asking.{HasAskedBox, IsNotAsked, asked_box, box_at, looked_live, looked_page, whole_box};
 ghost use Rattle.hb_core.specs.CoreSeen.{core_seen};

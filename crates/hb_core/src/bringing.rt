@@ -1,6 +1,5 @@
 //! How a step gets its pages, and asks its decider.
 ghost use Rattle.std.specs.Prelude.{◌≡◌, ◌↔◌, ℕ, Some, IsTrue, IsSome, IfOk, IfErr, IfSome, IsErrAnd, OnOk, OnErr, length};
-ghost use Rattle.hb_latch.specs.Tables.{MayLatch};
 ghost use Rattle.hb_activity.specs.Deciding.{deed_of};
 ghost use Rattle.hb_activity.specs.Classes.{idle_of};
 ghost use Rattle.hb_activity.specs.Deeds.{Deed};
@@ -12,17 +11,16 @@ ghost use Rattle.hb_core.specs.Acting.{NeedsNumber, TakesMemory};
 ghost use Rattle.hb_core.specs.Asking.{wanted_by};
 ghost use Rattle.hb_core.specs.CoreSeen.{core_seen, core_disk, Becomes};
 ghost use Rattle.hb_core.specs.KeptFits.{class_for};
-ghost use Rattle.hb_store.specs.States.{in_memory};
 ghost use Rattle.hb_store.specs.declared.stops.StopWhy.TheVariants.{Damaged};
 ghost use Rattle.hb_store.specs.declared.stops.Why.{Why};
 ghost use Rattle.hb_core.specs.declared.halts.Halt.TheVariants.{Stops};
-ghost use Rattle.hb_core.specs.Looking.{AsksPoint, AsksPoster, FailsTest, HasPointRow, HasPosterRow, MayLook, PassesTest, IsStarved, number_of_row, other_number, other_page};
+ghost use Rattle.hb_core.specs.Looking.{AsksPoint, AsksPoster, FailsTest, HasPointRow, HasPosterRow, PassesTest, IsStarved, number_of_row, other_number, other_page};
 ghost use Rattle.hb_core.specs.Machines.{Machine, live_here};
 ghost use Rattle.hb_core.specs.Moving.{StandsAs, placed, with_standing};
 ghost use Rattle.hb_core.specs.Rows.{Row};
 ghost use Rattle.hb_disk.specs.Calls.{ReadsOnly};
 ghost use Rattle.hb_core.specs.Touching.{IsReadHalt};
-ghost use Rattle.hb_core.specs.Working.{Halts, HasCome, HasPages, IsWorking, MayStep, MayWork, with_memory};
+ghost use Rattle.hb_core.specs.Working.{Halts, HasCome, HasPages, MayStep, MayWork, with_memory};
 ghost use Rattle.hb_core.specs.Relied.{MayDecide, MayDoRow, MayNumber, MayTest};
 
 use crate::halts::Halt;

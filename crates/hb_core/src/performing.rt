@@ -1,5 +1,5 @@
 //! How a core does what its deciders say: latches, the queue, the order, and what becomes of the line in hand.
-ghost use Rattle.std.specs.Prelude.{◌≡◌, ℕ, ◌<◌, ◌≤◌, ◌^◌, ◌++◌, length, take, drop, Some, None, IsSome, IfSome, IfOk, IfErr, IsErr, OnOk, OnErr, List};
+ghost use Rattle.std.specs.Prelude.{◌≡◌, ℕ, ◌<◌, ◌≤◌, ◌^◌, ◌++◌, length, take, drop, Some, None, IsSome, IfSome, IfOk, IfErr, IsErr, OnOk, OnErr};
 ghost use Rattle.std.specs.FinMap as map;
 ghost use Rattle.hb_latch.specs.Tables.{IsGrantable, MayLatch, latches_of, mode_at};
 ghost use Rattle.hb_activity.specs.Classes.{class_of, hand_of};
@@ -15,7 +15,7 @@ ghost use Rattle.hb_core.specs.CoreSeen.{core_seen, core_disk, Alters, Becomes};
 ghost use Rattle.hb_core.specs.GivingUp.{gives_up, reply_for, runs_out};
 ghost use Rattle.hb_core.specs.KeptFits.{class_for};
 ghost use Rattle.hb_core.specs.Machines.{live_here};
-ghost use Rattle.hb_core.specs.Moving.{AreApart, DoesDeed, KeepsFilesBy, MayCommit, MayStand, StandsNow, StandsAs, joins_order, number_of, placed, placed_at, pushed, said, with_jobs, with_latches, with_order, with_store};
+ghost use Rattle.hb_core.specs.Moving.{AreApart, DoesDeed, KeepsFilesBy, MayCommit, MayHave, MayStand, Queues, StandsNow, StandsAs, joins_order, number_of, placed, placed_at, pushed, said, with_jobs, with_latches, with_order, with_store};
 ghost use Rattle.hb_core.specs.Performing.{MayDo, Relatches, mode_among};
 ghost use Rattle.hb_core.specs.Working.{IsWorking};
 
@@ -88,8 +88,7 @@ impl<D: Device> Core<D> {
     /// Lets the jobs wait, one after the other.
     fn add_all(&mut self, mut jobs: ArrayVec<Job, 2>)
         requires { length jobs.items ≤ 2 }
-        ensures jobs { AddsJobs jobs.items (core_seen self.old).jobs (core_seen self.new).jobs }
-        ensures rest { Becomes (with_jobs (core_seen self.new).jobs) self.old self.new }
+        ensures { Alters (Queues jobs.items) self.old self.new }
     {
         self.add_first(&mut jobs);
         self.add_first(&mut jobs);
@@ -97,9 +96,8 @@ impl<D: Device> Core<D> {
 
     /// Lets the first of the jobs wait, where there is one.
     fn add_first(&mut self, jobs: &mut ArrayVec<Job, 2>)
-        ensures jobs { AddsJobs (take 1 jobs.old.items) (core_seen self.old).jobs (core_seen self.new).jobs }
+        ensures jobs { Alters (Queues (take 1 jobs.old.items)) self.old self.new }
         ensures left { jobs.new.items ≡ drop 1 jobs.old.items }
-        ensures rest { Becomes (with_jobs (core_seen self.new).jobs) self.old self.new }
     {
         if !jobs.is_empty() {
             let _ = self.jobs.add(jobs.remove(0));
@@ -135,11 +133,7 @@ impl<D: Device> Core<D> {
 
     /// The actor has these latches and no other. Nobody is in the way of them.
     fn latch_all(&mut self, actor: Actor, latches: &[Latch])
-        requires actor { MayLatch actor }
-        requires few { length latches.now ≤ 2 }
-        requires apart { AreApart latches.now }
-        requires free { (page : ℕ) (mode : _) → mode_among page latches.now ≡ Some mode →
-            IsGrantable (core_seen self.old).latches actor page mode }
+        requires { MayHave actor (core_seen self.old).latches latches.now }
         ensures latches { Relatches actor latches.now (core_seen self.old).latches (core_seen self.new).latches }
         ensures rest { Becomes (with_latches (core_seen self.new).latches) self.old self.new }
     {

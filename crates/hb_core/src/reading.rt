@@ -3,8 +3,6 @@ ghost use Rattle.std.specs.Prelude.{◌≡◌, ◌↔◌, ◌<◌, ◌≤◌, �
 ghost use Rattle.std.specs.List.{slice_get};
 ghost use Rattle.hb_latch.specs.Tables.{MayLatch};
 ghost use Rattle.hb_store.specs.Seen.{seen_as, disk_of};
-ghost use Rattle.hb_store.specs.States.{in_memory};
-ghost use Rattle.hb_ops.specs.Files.{if_live};
 ghost use Rattle.hb_ops.specs.Given.{given as live_given};
 ghost use Rattle.hb_wal.specs.Log.{mark_of};
 ghost use Rattle.hb_core.specs.CoreSeen.{core_seen, core_disk};

@@ -1,5 +1,5 @@
 //! One step of an actor.
-ghost use Rattle.std.specs.Prelude.{◌≡◌, ◌≤◌, ◌-◌, ◌==◌, ℕ, Some, None, length};
+ghost use Rattle.std.specs.Prelude.{◌≡◌, ◌-◌, ◌==◌, ℕ, Some, None};
 ghost use Rattle.std.specs.List.{position, slice_get, slice_set};
 ghost use Rattle.hb_latch.specs.Tables.{MayLatch};
 ghost use Rattle.hb_activity.specs.declared.activities.Activity.TheVariants as at;
@@ -10,7 +10,7 @@ ghost use Rattle.hb_poster.specs.PosterRows.{IsPostingOf};
 ghost use Rattle.hb_core.specs.Moving.{StandsAs, with_standing, with_stop};
 ghost use Rattle.hb_core.specs.Showing.{ShowsMachine};
 ghost use Rattle.hb_core.specs.Steps.{AwaitsPlace, GetsReady, StepsTo};
-ghost use Rattle.hb_core.specs.Touching.{Touches};
+ghost use Rattle.hb_core.specs.Touching.{StepsSo, Touches};
 ghost use Rattle.hb_core.specs.Taking.{TakesNextLine, TakesNextPosting};
 ghost use Rattle.hb_core.specs.Working.{IsWorking, MayStep};
 ghost use Rattle.hb_core.specs.Relied.{AwaitsSomePlace, HasLinesBehind, IsAtWork, MayAwait};
@@ -107,10 +107,9 @@ impl<D: Device> Core<D> {
     /// Answers the line, where its place is settled, and else forces.
     fn await_place(&mut self, actor: Actor, place: u32) -> Outcome
         requires { MayAwait (D.model (core_disk self.old)) (core_seen self.old) actor place }
-        ensures awaits { (m : Machine) (number : ℕ) (reply : _) → MayStep (D.model (core_disk self.old)) (core_seen self.old) m → m.stop ≡ None →
-            m.activity actor ≡ at.SessionAwait number reply place →
-            (new : Machine) × AwaitsPlace m actor number reply place result new × ShowsMachine (D.model (core_disk self.new)) (core_seen self.new) new }
-        ensures touches { Touches (D.model (core_disk self.old)) (core_seen self.old) result (D.model (core_disk self.new)) (core_seen self.new) }
+        ensures { StepsSo (λ m. (number : ℕ) (reply : _) → m.stop ≡ None → m.activity actor ≡ at.SessionAwait number reply place →
+            (new : Machine) × AwaitsPlace m actor number reply place result new × ShowsMachine (D.model (core_disk self.new)) (core_seen self.new) new)
+            (D.model (core_disk self.old)) (core_seen self.old) result (D.model (core_disk self.new)) (core_seen self.new) }
     {
         if place < self.settled() {
             return self.answer_kept(actor);
@@ -137,9 +136,9 @@ impl<D: Device> Core<D> {
     /// dropped.
     pub(crate) fn get_ready(&mut self, actor: Actor) -> Outcome
         requires { IsAtWork (D.model (core_disk self.old)) (core_seen self.old) actor }
-        ensures readies { (m : Machine) → MayStep (D.model (core_disk self.old)) (core_seen self.old) m → m.stop ≡ None → IsWorking (m.activity actor) →
-            (new : Machine) × GetsReady m actor result new × ShowsMachine (D.model (core_disk self.new)) (core_seen self.new) new }
-        ensures touches { Touches (D.model (core_disk self.old)) (core_seen self.old) result (D.model (core_disk self.new)) (core_seen self.new) }
+        ensures { StepsSo (λ m. m.stop ≡ None → IsWorking (m.activity actor) →
+            (new : Machine) × GetsReady m actor result new × ShowsMachine (D.model (core_disk self.new)) (core_seen self.new) new)
+            (D.model (core_disk self.old)) (core_seen self.old) result (D.model (core_disk self.new)) (core_seen self.new) }
     {
         match self.store.flush_step() {
             Ok(Flushed::Forced) => Outcome::Helped,

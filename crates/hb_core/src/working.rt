@@ -1,12 +1,11 @@
 //! A step that wants a latch or changes the file.
 ghost use Rattle.std.specs.Prelude.{◌≡◌, ◌↔◌, None, IsTrue, IfOk, IfErr, IsErrAnd, IfSome, IsSomeAnd};
-ghost use Rattle.hb_latch.specs.Tables.{IsGrantable, IsLeastInTheWay, MayLatch};
+ghost use Rattle.hb_latch.specs.Tables.{IsGrantable, IsLeastInTheWay};
 ghost use Rattle.hb_activity.specs.Classes.{hand_of};
 ghost use Rattle.hb_core.specs.Acting.{DoesRow};
 ghost use Rattle.hb_activity.specs.Changing.{may_commit};
 ghost use Rattle.hb_store.specs.Calls.{IsReady};
-ghost use Rattle.hb_core.specs.Asking.{looked_live, wanted_by};
-ghost use Rattle.hb_core.specs.Looking.{MayLook};
+ghost use Rattle.hb_core.specs.Asking.{looked_live};
 ghost use Rattle.hb_core.specs.CoreSeen.{core_seen, core_disk};
 ghost use Rattle.hb_core.specs.Machines.{Machine};
 ghost use Rattle.hb_core.specs.Moving.{StandsAs, number_of};

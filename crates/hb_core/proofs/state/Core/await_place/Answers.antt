@@ -13,7 +13,7 @@ answer_kept-requires g c =
 
 pub returns-then-place-settled : goal.returns-then-place-settled
 returns-then-place-settled g c = record {
-  awaits = λ m number reply step runs is.
+  steps = λ m step number reply runs is.
       let said = c.answer_kept.ensures.does number c.args.place reply (step.shows.activities c.args.actor c.requires.actor ∙ ap Some is) in
       await_answered g.D.Device.model (core_disk c.args.self.now) (core_disk c.answer_kept.new.self) (core_seen c.args.self.now) m c.args.actor number c.args.place c.settled.result reply step c.settled.ensures
       (core_seen c.answer_kept.new.self) c.answer_kept.result c.requires.actor is c.if-place-settled.true said.0 said.1 c.answer_kept.ensures.disk;
@@ -29,7 +29,7 @@ returns-then-place-settled g c = record {
 
 pub returns-in-Ok : goal.returns-in-Ok
 returns-in-Ok g c = record {
-  awaits = λ m number reply step runs is.
+  steps = λ m step number reply runs is.
       await_forced g.D.Device.model (core_disk c.args.self.now) c.force.new.self.disk (core_seen c.args.self.now) m c.args.actor number c.args.place c.settled.result reply step c.settled.ensures
       c.in-Ok.field-0 (seen_as c.force.new.self) c.if-place-settled.false c.in-Ok.ensures;
   touches = touched_forced g.D.Device.model (core_disk c.args.self.now) c.force.new.self.disk (core_seen c.args.self.now) _ outcomes.Moved c.in-Ok.field-0 moved_well c.in-Ok.ensures;
@@ -37,7 +37,7 @@ returns-in-Ok g c = record {
 
 pub returns-in-Err : goal.returns-in-Err
 returns-in-Err g c = record {
-  awaits = λ m number reply step runs is.
+  steps = λ m step number reply runs is.
       await_failed g.D.Device.model (core_disk c.args.self.now) c.force.new.self.disk (core_seen c.args.self.now) m c.args.actor number c.args.place c.settled.result reply step c.settled.ensures
       c.in-Err._fault (seen_as c.force.new.self) (core_disk c.stop_for.new.self) (core_seen c.stop_for.new.self) c.stop_for.result c.if-place-settled.false c.in-Err.ensures
       c.stop_for.ensures.says c.stop_for.ensures.stops.does c.stop_for.ensures.stops.disk;

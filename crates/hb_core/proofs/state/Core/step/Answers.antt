@@ -61,7 +61,7 @@ returns-in-SessionAwait g c = record {
       let mine = counted c.saturating_add-self.result (g.D.Device.model (core_disk c.args.self.now)) (core_seen c.args.self.now) m step in
       await_step g.D.Device.model (core_disk c.args.self.now) (core_disk c.await_place.new.self) (with_taken c.saturating_add-self.result (core_seen c.args.self.now)) (core_seen c.await_place.new.self) m c.args.actor c.activity.result.now c.await_place.result
       c.requires.actor mine c.in_default.is c.activity.ensures c.in-SessionAwait.line c.in-SessionAwait.place c.in-SessionAwait.reply c.in-SessionAwait.is
-      (λ runs is. c.await_place.ensures.awaits m c.in-SessionAwait.line c.in-SessionAwait.reply mine runs is);
+      (λ runs is. c.await_place.ensures.steps m mine c.in-SessionAwait.line c.in-SessionAwait.reply runs is);
   touches = as_before_count g.D.Device.model (core_disk c.args.self.now) (core_disk c.await_place.new.self) c.saturating_add-self.result (core_seen c.args.self.now) (core_seen c.await_place.new.self) c.await_place.result c.await_place.ensures.touches;
 }
 

@@ -20,7 +20,7 @@ returns-in-Some-clause-works g c m step runs works =
 
 pub returns-then-is_unready-clause-works : goal.returns-then-is_unready-clause-works
 returns-then-is_unready-clause-works g c m step runs works =
-    let done = c.get_ready.ensures.readies m step runs works in (
+    let done = c.get_ready.ensures.steps m step runs works in (
       done.0,
       inr (inl (
         way_free (g.D.Device.model (core_disk c.args.self.now)) (core_seen c.args.self.now) m c.args.actor c.requires.actor step c.wanted-wanted.result (wants (g.D.Device.model (core_disk c.args.self.now)) (core_seen c.args.self.now) m c.args.actor c.requires.actor step c.wanted-wanted.result c.wanted-wanted.ensures) (c.in_the_way.ensures.free c.in_default.is),
