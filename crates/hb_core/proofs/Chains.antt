@@ -3,6 +3,7 @@ pub mod WrittenTables
 pub mod BuiltSteps
 pub mod ChainOfInsert
 pub mod ChainOfTwoParts
+pub mod SplitRows
 pub mod ChainOfTwo
 pub mod ChainOfPosting
 pub mod SaidSteps

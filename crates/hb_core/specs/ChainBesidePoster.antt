@@ -11,7 +11,7 @@ use Rattle.hb_core.specs.declared.outcomes.Outcome.{Outcome}
 use Rattle.hb_core.specs.declared.outcomes.Outcome.TheVariants.{Moved, Blocked, Answered}
 use Rattle.hb_core.specs.ChainOfPosting.{bare_root, posted_root, raised_meta, split_page}
 use Rattle.hb_core.specs.ChainOfTwo.{lettered, lower_half, posts_at}
-use Rattle.hb_core.specs.Scenes.{Scene, StepsSaying, machine_of}
+use Rattle.hb_core.specs.Scenes.{Scene, StepsSaying, at_start, machine_of}
 use Rattle.hb_frag.specs.Trees.{Tip}
 use Rattle.hb_space.specs.Boxes.{side_below, whole_area}
 
@@ -28,22 +28,7 @@ lower_two = record { level = 0; area = side_below (whole_area 1) 0 40; frag = Ti
 
 -- The root names page 1 alone, and a job waits, to post at 10.
 abbrev pub beside_before : Scene
-beside_before = record {
-  lines = seeks_twenty ∷ deletes_twenty ∷ [];
-  answered = [];
-  at_work = [];
-  latched = [];
-  jobs = posts_at 10 ∷ [];
-  order = [];
-  meta = raised_meta;
-  written = 0;
-  groups = [];
-  pages = (1, Live split_page) ∷ (2, Live lower_half) ∷ (3, Live bare_root) ∷ [];
-  in_log = [];
-  durable = record { meta = raised_meta; pages = Live split_page ∷ Live lower_half ∷ Live bare_root ∷ [] };
-  later = [];
-  clock = 0;
-}
+beside_before = at_start (seeks_twenty ∷ deletes_twenty ∷ []) (posts_at 10 ∷ []) ((1, Live split_page) ∷ (2, Live lower_half) ∷ (3, Live bare_root) ∷ []) (record { meta = raised_meta; pages = Live split_page ∷ Live lower_half ∷ Live bare_root ∷ [] })
 
 -- The root names both, and the record is deleted. Session 2 took effect before session 1, which misses the record. Two jobs wait: the
 -- posting that session 1 owed when it passed by, and that of the poster. The frames have 4,132 bytes (a page image and the posting) and

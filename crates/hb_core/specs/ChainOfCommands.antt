@@ -11,7 +11,7 @@ use Rattle.hb_core.specs.declared.outcomes.Outcome.{Outcome}
 use Rattle.hb_core.specs.declared.outcomes.Outcome.TheVariants.{Moved, Answered, Idle}
 use Rattle.hb_core.specs.ChainOfPosting.{halves, split_page}
 use Rattle.hb_core.specs.ChainOfTwo.{lettered, line_meta, lower_half, posts_at}
-use Rattle.hb_core.specs.Scenes.{Scene, StepsSaying, machine_of}
+use Rattle.hb_core.specs.Scenes.{Scene, StepsSaying, at_start, machine_of}
 use Rattle.hb_space.specs.Boxes.{Area}
 
 -- 50 is there, 45 isn't, and the search is from 25 to 55
@@ -31,22 +31,7 @@ abbrev pub three_found : List Record
 three_found = lettered 30 99 ∷ lettered 40 100 ∷ lettered 50 101 ∷ []
 
 abbrev pub commands_before : Scene
-commands_before = record {
-  lines = inserts_fifty ∷ deletes_none ∷ searches ∷ [];
-  answered = [];
-  at_work = [];
-  latched = [];
-  jobs = [];
-  order = [];
-  meta = line_meta 2;
-  written = 0;
-  groups = [];
-  pages = (1, Live split_page) ∷ (2, Live lower_half) ∷ [];
-  in_log = [];
-  durable = record { meta = line_meta 2; pages = halves };
-  later = [];
-  clock = 0;
-}
+commands_before = at_start (inserts_fifty ∷ deletes_none ∷ searches ∷ []) [] ((1, Live split_page) ∷ (2, Live lower_half) ∷ []) (record { meta = line_meta 2; pages = halves })
 
 -- All is as it was but for the answers, the order, and a job: the search passed by the leaf of page 1 that names page 2.
 abbrev pub commands_after : Scene

@@ -7,7 +7,7 @@ use Rattle.hb_activity.specs.declared.activities.Activity.TheVariants.{SessionId
 use Rattle.hb_core.specs.declared.outcomes.Outcome.{Outcome}
 use Rattle.hb_core.specs.declared.outcomes.Outcome.TheVariants.{Moved, Answered}
 use Rattle.hb_core.specs.ChainOfTwo.{full_page, inserts_seventy, lettered, lower_half, posts_at, upper_half, upper_three}
-use Rattle.hb_core.specs.Scenes.{Scene, StepsSaying, machine_of}
+use Rattle.hb_core.specs.Scenes.{Scene, StepsSaying, at_start, machine_of}
 
 -- a file that may have so many pages and has had all of them in use: so many still are, and the free chain begins with this one
 abbrev pub tight_meta : ℕ → ℕ → ℕ → Meta
@@ -15,22 +15,7 @@ tight_meta pages live free = record { k = 1; pages = pages; log = 65536; dcap = 
 
 -- Page 2 is free and not in memory, and nothing is free behind it.
 abbrev pub free_before : Scene
-free_before = record {
-  lines = inserts_seventy ∷ [];
-  answered = [];
-  at_work = [];
-  latched = [];
-  jobs = [];
-  order = [];
-  meta = tight_meta 2 1 2;
-  written = 0;
-  groups = [];
-  pages = (1, Live full_page) ∷ [];
-  in_log = [];
-  durable = record { meta = tight_meta 2 1 2; pages = Live full_page ∷ Free 0 ∷ [] };
-  later = [];
-  clock = 0;
-}
+free_before = at_start (inserts_seventy ∷ []) [] ((1, Live full_page) ∷ []) (record { meta = tight_meta 2 1 2; pages = Live full_page ∷ Free 0 ∷ [] })
 
 -- Page 2 has the lower half, and no page is free.
 abbrev pub free_after : Scene
@@ -59,22 +44,7 @@ FreePageIsTaken = StepsSaying steps_of_free_page (machine_of free_before) (machi
 
 -- The file has one page, and may have no more: before, and once the line was answered `full`, outside of the order.
 abbrev pub none_free_before : Scene
-none_free_before = record {
-  lines = inserts_seventy ∷ [];
-  answered = [];
-  at_work = [];
-  latched = [];
-  jobs = [];
-  order = [];
-  meta = tight_meta 1 1 0;
-  written = 0;
-  groups = [];
-  pages = (1, Live full_page) ∷ [];
-  in_log = [];
-  durable = record { meta = tight_meta 1 1 0; pages = Live full_page ∷ [] };
-  later = [];
-  clock = 0;
-}
+none_free_before = at_start (inserts_seventy ∷ []) [] ((1, Live full_page) ∷ []) (record { meta = tight_meta 1 1 0; pages = Live full_page ∷ [] })
 
 abbrev pub none_free_after : Scene
 none_free_after = record none_free_before { answered = record { line = 1; reply = replies.Full; at = 0 } ∷ []; at_work = (1, SessionIdle) ∷ [] }

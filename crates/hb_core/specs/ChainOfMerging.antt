@@ -15,11 +15,12 @@ use Rattle.hb_activity.specs.declared.activities.Activity.TheVariants.{Consolida
 use Rattle.hb_core.specs.declared.outcomes.Outcome.{Outcome}
 use Rattle.hb_core.specs.declared.outcomes.Outcome.TheVariants.{Moved, Idle}
 use Rattle.hb_core.specs.ChainOfPosting.{raised_meta}
-use Rattle.hb_core.specs.Scenes.{Scene, StepsSaying, machine_of}
+use Rattle.hb_sound.specs.LateFile.{late_record}
+use Rattle.hb_core.specs.Scenes.{Scene, StepsSaying, at_start, machine_of}
 
 -- a record of one value, without a body
 abbrev pub valued : ℕ → Record
-valued value = record { key = value ∷ []; body = [] }
+valued = late_record
 
 -- page 1 of the whole space, which gave 40 to 59 to page 2; page 2 with these records; and page 3, their parent
 abbrev pub keeping_page : LivePage
@@ -39,22 +40,7 @@ merges_at value = record { kind = Merge; level = 1; point = value ∷ [] }
 
 -- A job waits, to merge at 45.
 abbrev pub merging_before : List Record → Scene
-merging_before records = record {
-  lines = [];
-  answered = [];
-  at_work = [];
-  latched = [];
-  jobs = merges_at 45 ∷ [];
-  order = [];
-  meta = raised_meta;
-  written = 0;
-  groups = [];
-  pages = (1, Live keeping_page) ∷ (2, Live (going_page records)) ∷ (3, Live two_children) ∷ [];
-  in_log = [];
-  durable = record { meta = raised_meta; pages = merging_pages records };
-  later = [];
-  clock = 0;
-}
+merging_before records = at_start [] (merges_at 45 ∷ []) ((1, Live keeping_page) ∷ (2, Live (going_page records)) ∷ (3, Live two_children) ∷ []) (record { meta = raised_meta; pages = merging_pages records })
 
 -- With three records page 2 weighs 3, as page 1 does. Together they would weigh 5, more than three quarters of the 6 that a page may.
 abbrev pub three_to_go : List Record

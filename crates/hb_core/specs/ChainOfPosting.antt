@@ -11,9 +11,10 @@ use Rattle.hb_activity.specs.declared.activities.Activity.TheVariants.{PosterIdl
 use Rattle.hb_core.specs.declared.outcomes.Outcome.{Outcome}
 use Rattle.hb_core.specs.declared.outcomes.Outcome.TheVariants.{Moved, Idle}
 use Rattle.hb_core.specs.ChainOfTwo.{lettered, line_meta, lower_half, posts_at, upper_half, upper_three}
-use Rattle.hb_core.specs.Scenes.{Scene, StepsSaying, machine_of}
+use Rattle.hb_core.specs.Scenes.{Scene, StepsSaying, at_start, machine_of}
 use Rattle.hb_frag.specs.Trees.{Cut, Tip}
 use Rattle.hb_log_codec.specs.Groups.{group_bytes}
+use Rattle.hb_poster.specs.Examples.{page_three}
 use Rattle.hb_space.specs.Boxes.{side_below, whole_area}
 
 -- the two halves of a page that was split at 40, and that the leaf of page 1 names page 2
@@ -29,29 +30,14 @@ raised_meta = record { k = 1; pages = 64; log = 65536; dcap = 6; icap = 32; root
 
 -- the root as it is made, and with a leaf to page 2
 abbrev pub bare_root : LivePage
-bare_root = record { level = 1; area = whole_area 1; frag = Tip (Child 1) }
+bare_root = page_three
 
 abbrev pub posted_root : LivePage
 posted_root = record { level = 1; area = whole_area 1; frag = Cut 0 40 (Tip (Child 2)) (Tip (Child 1)) }
 
 -- A job waits, to post at 10 one level up.
 abbrev pub posting_before : Scene
-posting_before = record {
-  lines = [];
-  answered = [];
-  at_work = [];
-  latched = [];
-  jobs = posts_at 10 ∷ [];
-  order = [];
-  meta = line_meta 2;
-  written = 0;
-  groups = [];
-  pages = (1, Live split_page) ∷ (2, Live lower_half) ∷ [];
-  in_log = [];
-  durable = record { meta = line_meta 2; pages = halves };
-  later = [];
-  clock = 0;
-}
+posting_before = at_start [] (posts_at 10 ∷ []) ((1, Live split_page) ∷ (2, Live lower_half) ∷ []) (record { meta = line_meta 2; pages = halves })
 
 -- No job waits, nobody holds a page, and the root names both pages. Two groups wait, without page images: page 3 was made in this turn.
 abbrev pub posting_after : Scene

@@ -9,26 +9,11 @@ use Rattle.hb_core.specs.declared.outcomes.Outcome.TheVariants.{Moved, Answered,
 use Rattle.hb_core.specs.ChainBesidePoster.{seeks_twenty}
 use Rattle.hb_core.specs.ChainOfPosting.{raised_meta}
 use Rattle.hb_core.specs.ChainOfTwo.{posts_at}
-use Rattle.hb_core.specs.Scenes.{Scene, StepsSaying, untold_scene}
+use Rattle.hb_core.specs.Scenes.{Scene, StepsSaying, at_start, untold_scene}
 
 -- No page is in memory. A line and a job wait.
 abbrev pub unread_before : Scene
-unread_before = record {
-  lines = seeks_twenty ∷ [];
-  answered = [];
-  at_work = [];
-  latched = [];
-  jobs = posts_at 10 ∷ [];
-  order = [];
-  meta = raised_meta;
-  written = 0;
-  groups = [];
-  pages = [];
-  in_log = [];
-  durable = record { meta = raised_meta; pages = [] };
-  later = [];
-  clock = 0;
-}
+unread_before = at_start (seeks_twenty ∷ []) (posts_at 10 ∷ []) [] (record { meta = raised_meta; pages = [] })
 
 -- The line was answered outside of the order, and the job is gone.
 abbrev pub unread_after : Scene

@@ -18,7 +18,7 @@ use Rattle.hb_core.specs.declared.outcomes.Outcome.TheVariants.{Moved, Answered,
 use Rattle.hb_core.specs.ChainOfFreePage.{tight_meta}
 use Rattle.hb_core.specs.ChainOfMerging.{valued}
 use Rattle.hb_core.specs.ChainOfTwo.{posts_at}
-use Rattle.hb_core.specs.Scenes.{Scene, StepsSaying, machine_of}
+use Rattle.hb_core.specs.Scenes.{Scene, StepsSaying, at_start, machine_of}
 
 -- The pages as the inserts of 10, 20 and so on up to 110 leave them: page 1 gave what lies below 40 to page 2, and what lies from 60 on
 -- to page 3.
@@ -56,22 +56,7 @@ postings_owed = posts_at 0 ∷ posts_at 60 ∷ posts_at 100 ∷ posts_at 110 ∷
 
 -- The eleven lines before aren't written here. The pages are in memory, and the file was opened again since.
 abbrev pub three_before : Scene
-three_before = record {
-  lines = inserts_120 12 ∷ deletes_110 ∷ inserts_120 14 ∷ [];
-  answered = [];
-  at_work = [];
-  latched = [];
-  jobs = postings_owed;
-  order = [];
-  meta = tight_meta 3 3 0;
-  written = 0;
-  groups = [];
-  pages = (1, Live middle_page) ∷ (2, Live low_page) ∷ (3, Live (high_page full_high)) ∷ [];
-  in_log = [];
-  durable = record { meta = tight_meta 3 3 0; pages = three_pages full_high };
-  later = [];
-  clock = 0;
-}
+three_before = at_start (inserts_120 12 ∷ deletes_110 ∷ inserts_120 14 ∷ []) postings_owed ((1, Live middle_page) ∷ (2, Live low_page) ∷ (3, Live (high_page full_high)) ∷ []) (record { meta = tight_meta 3 3 0; pages = three_pages full_high })
 
 -- Line 12 isn't in the order. Its walk owes a posting too, which that of line 14 doesn't owe again. The frames have 4,119 bytes (a
 -- page image and the delete) and 20 (the put).

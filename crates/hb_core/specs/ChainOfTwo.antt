@@ -14,7 +14,7 @@ use Rattle.hb_activity.specs.declared.jobs.JobKind.TheVariants.{Post}
 use Rattle.hb_activity.specs.declared.activities.Activity.TheVariants.{SessionIdle}
 use Rattle.hb_core.specs.declared.outcomes.Outcome.{Outcome}
 use Rattle.hb_core.specs.declared.outcomes.Outcome.TheVariants.{Moved, Blocked, Answered, Idle}
-use Rattle.hb_core.specs.Scenes.{Scene, StepsSaying, machine_of}
+use Rattle.hb_core.specs.Scenes.{Scene, StepsSaying, at_start, machine_of}
 use Rattle.hb_frag.specs.Trees.{Cut, Tip}
 use Rattle.hb_space.specs.Boxes.{side_below, whole_area}
 
@@ -51,22 +51,7 @@ abbrev pub looks_twenty_up : Line
 looks_twenty_up = record { number = 2; session = 2; command = Lookup (20 ∷ []) }
 
 abbrev pub two_before : Scene
-two_before = record {
-  lines = inserts_seventy ∷ looks_twenty_up ∷ [];
-  answered = [];
-  at_work = [];
-  latched = [];
-  jobs = [];
-  order = [];
-  meta = line_meta 1;
-  written = 0;
-  groups = [];
-  pages = (1, Live full_page) ∷ [];
-  in_log = [];
-  durable = record { meta = line_meta 1; pages = Live full_page ∷ [] };
-  later = [];
-  clock = 0;
-}
+two_before = at_start (inserts_seventy ∷ looks_twenty_up ∷ []) [] ((1, Live full_page) ∷ []) (record { meta = line_meta 1; pages = Live full_page ∷ [] })
 
 abbrev pub posts_at : ℕ → Job
 posts_at value = record { kind = Post; level = 1; point = value ∷ [] }

@@ -26,6 +26,10 @@ CommandFits k (Delete point) = length point ≡ k
 CommandFits k (Lookup point) = length point ≡ k
 CommandFits k (Search area) = IsBoxOf k area
 
+pub record IsOfSession (line : Line) : Type 0 where
+  pub first : 1 ≤ line.session
+  pub last : line.session ≤ 16
+
 pub record LineFits (k : ℕ) (line : Line) : Type 0 where
   pub command : CommandFits k line.command
   pub first_session : 1 ≤ line.session

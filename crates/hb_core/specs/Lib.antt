@@ -41,6 +41,7 @@ pub mod Taking
 pub mod Stopping
 pub mod Looking
 pub mod Working
+pub mod Relied
 pub mod Touching
 pub mod Runs
 pub mod MomentLaws

@@ -1,4 +1,6 @@
 -- What the private calls of a core make of it, said of what it holds.
+use Rattle.hb_activity.specs.declared.jobs.Job.{Job}
+use Rattle.hb_activity.specs.Queue.{AddsJobs}
 use Rattle.std.specs.Prelude.{◌≡◌, ◌≢◌, ℕ, ◌≤◌, All, AllPairs, List, [], ◌∷◌, ◌++◌, length, false, Option, Some, None, IsSome, option_map}
 use Rattle.std.specs.Option.{option_and_then}
 use Rattle.hb_disk.specs.Model.{DiskModel}
@@ -11,7 +13,7 @@ use Rattle.hb_activity.specs.declared.deciding.Fate.TheVariants as fates
 use Rattle.hb_activity.specs.Classes.{Hand, line_of}
 use Rattle.hb_activity.specs.Deeds.{Deed}
 use Rattle.hb_activity.specs.Walks.{walk_held}
-use Rattle.hb_latch.specs.Tables.{IsGrantable, LatchTable}
+use Rattle.hb_latch.specs.Tables.{IsGrantable, LatchTable, MayLatch}
 use Rattle.hb_ops.specs.Files.{FileState}
 use Rattle.hb_ops.specs.Operations.{IsLicensed, OpHas}
 use Rattle.hb_ops.specs.declared.operations.Op.{Op}
@@ -31,12 +33,25 @@ use Rattle.hb_core.specs.Showing.{RunningCore}
 abbrev pub AreApart : List Latch → Type 0
 AreApart latches = AllPairs (λ (l : Latch) (m : Latch). l.page ≢ m.page) latches
 
+-- An actor may have these latches: they are two at most, on different pages, and nobody is in the way.
+pub record MayHave (who : ℕ) (table : LatchTable) (latches : List Latch) : Type 0 where
+  pub actor : MayLatch who
+  pub few : length latches ≤ 2
+  pub apart : AreApart latches
+  pub free : (page : ℕ) (mode : Mode) → mode_among page latches ≡ Some mode → IsGrantable table who page mode
+
 -- An actor may stand so, with its latches among these: nobody is in the way of them, they are on different pages, and the page that
 -- a walk holds is in memory and in use.
 pub record MayStand (actor : ℕ) (table : LatchTable) (st : StoreState) (activity : Activity) : Type 0 where
+  pub latches : MayLatch actor
   pub walks : IsSome (walk_held activity) → IsSome (option_and_then (live_here st) (walk_held activity))
   pub apart : AreApart (latches_held st activity)
   pub free : (page : ℕ) (mode : Mode) → mode_among page (latches_held st activity) ≡ Some mode → IsGrantable table actor page mode
+
+-- Jobs join the queue. All else is as it was.
+pub record Queues (jobs : List Job) (old new : RunningCore) : Type 0 where
+  pub adds : AddsJobs jobs old.jobs new.jobs
+  pub rest : new ≡ with_jobs new.jobs old
 
 -- An actor stands elsewhere, and has the latches of that and no other. All else is as it was.
 pub record StandsNow (actor : ℕ) (next : Activity) (old new : RunningCore) : Type 0 where

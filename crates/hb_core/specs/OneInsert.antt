@@ -11,7 +11,7 @@ use Rattle.hb_set.specs.declared.scripts.Line.{Line}
 use Rattle.hb_activity.specs.declared.activities.Activity.TheVariants.{SessionIdle}
 use Rattle.hb_core.specs.declared.outcomes.Outcome.{Outcome}
 use Rattle.hb_core.specs.declared.outcomes.Outcome.TheVariants.{Moved, Answered, Idle}
-use Rattle.hb_core.specs.Scenes.{Scene, StepsSaying, machine_of}
+use Rattle.hb_core.specs.Scenes.{Scene, StepsSaying, at_start, machine_of}
 use Rattle.hb_frag.specs.Trees.{Tip}
 use Rattle.hb_space.specs.Boxes.{whole_area}
 
@@ -31,22 +31,7 @@ inserts_a = record { number = 1; session = 1; command = Insert letter_a }
 
 -- Nothing was done yet, and no page is in memory.
 abbrev pub before_insert : Scene
-before_insert = record {
-  lines = inserts_a ∷ [];
-  answered = [];
-  at_work = [];
-  latched = [];
-  jobs = [];
-  order = [];
-  meta = flat_meta;
-  written = 0;
-  groups = [];
-  pages = [];
-  in_log = [];
-  durable = record { meta = flat_meta; pages = Live (page_of_records []) ∷ [] };
-  later = [];
-  clock = 0;
-}
+before_insert = at_start (inserts_a ∷ []) [] [] (record { meta = flat_meta; pages = Live (page_of_records []) ∷ [] })
 
 -- The line is answered at 4, the record is durable, and the log has one frame: 5 bytes in front, the count of the page images,
 -- the page image as it was, of 4 and 4,096 bytes, and the put, of 23.

@@ -42,6 +42,25 @@ pub record Scene : Type 0 where
   pub later : List FileState
   pub clock : ℕ
 
+-- at the start: these lines and jobs wait, these pages are in memory, and all else is this file alone
+abbrev pub at_start : List Line → List Job → List (ℕ × Page) → FileState → Scene
+at_start lines jobs pages file = record {
+  lines = lines;
+  answered = [];
+  at_work = [];
+  latched = [];
+  jobs = jobs;
+  order = [];
+  meta = file.meta;
+  written = 0;
+  groups = [];
+  pages = pages;
+  in_log = [];
+  durable = file;
+  later = [];
+  clock = 0;
+}
+
 -- what an actor does that has nothing in hand
 abbrev pub at_rest : ℕ → Activity
 at_rest actor = if nat_le actor 16 then SessionIdle else if actor == 17 then PosterIdle else if actor == 18 then ConsolidatorIdle else Flusher

@@ -1,5 +1,5 @@
 -- How an idle actor of a core takes a line or a job, and a core that has taken no step.
-use Rattle.std.specs.Prelude.{◌≡◌, ◌≢◌, ◌⊎◌, ℕ, ◌-◌, ◌+◌, All, List, [], ◌∷◌, ◌++◌, length, take, drop, replicate, Some, None, is_some, if◌then◌else◌}
+use Rattle.std.specs.Prelude.{◌≡◌, ◌≢◌, ◌⊎◌, ℕ, Result, IfOk, IfErr, ◌-◌, ◌+◌, All, List, [], ◌∷◌, ◌++◌, length, take, drop, replicate, Some, None, is_some, if◌then◌else◌}
 use Rattle.std.specs.List.{slice_get, slice_set}
 use Rattle.std.specs.FinMap as map
 use Rattle.hb_activity.specs.declared.activities.Activity.{Activity}
@@ -62,3 +62,9 @@ begun_core lines steps store = record {
   store = store;
   taken = 0;
 }
+
+-- A core was made that holds this over this disk, or the store comes back.
+pub record IsMade {C D S E : Type 0} (seen_of : C → RunningCore) (disk_of : C → D) (core : RunningCore) (over : D) (store : S) (result : Result C (E × S)) : Type 0 where
+  pub seen : IfOk result (λ c. seen_of c ≡ core)
+  pub disk : IfOk result (λ c. disk_of c ≡ over)
+  pub back : IfErr result (λ e. e.1 ≡ store)

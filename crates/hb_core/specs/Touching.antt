@@ -1,4 +1,6 @@
 -- What a step does to the disk.
+use Rattle.hb_core.specs.Machines.{Machine}
+use Rattle.hb_core.specs.Working.{MayStep}
 use Rattle.std.specs.Prelude.{◌≡◌, ◌⊎◌, ◌↔◌, Some, Result, IsErr}
 use Rattle.hb_disk.specs.Calls.{ReadsOnly}
 use Rattle.hb_disk.specs.Model.{DiskModel}
@@ -38,3 +40,8 @@ pub record Forces (d : DiskModel) (old : RunningCore) (outcome : Outcome) (e : D
 -- A step reads at most, or it forces.
 abbrev pub Touches : DiskModel → RunningCore → Outcome → DiskModel → RunningCore → Type 0
 Touches d old outcome e new = ReadsAtMost d old outcome e ⊎ Forces d old outcome e new
+
+-- A part of a step: what it makes of each machine that the core shows, and what it does to the disk.
+pub record StepsSo (so : Machine → Type 0) (d : DiskModel) (old : RunningCore) (outcome : Outcome) (e : DiskModel) (new : RunningCore) : Type 0 where
+  pub steps : (m : Machine) → MayStep d old m → so m
+  pub touches : Touches d old outcome e new

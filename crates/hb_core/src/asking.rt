@@ -1,11 +1,9 @@
 //! Which page a step asks for, and what it tests of that page before it latches it.
-ghost use Rattle.std.specs.Prelude.{◌≡◌, ◌↔◌, ◌≢◌, length, IsTrue, IsSome, Some, IfErr, IfSome, OnOk, MatchOption};
+ghost use Rattle.std.specs.Prelude.{◌≡◌, ◌↔◌, ◌≢◌, length, IsTrue, Some, IfErr, IfSome, OnOk, MatchOption};
 ghost use Rattle.hb_activity.specs.Wanting.{may_commit, HasLeafAt};
 ghost use Rattle.hb_frag.specs.declared.pages.Page.TheVariants.{Live};
-ghost use Rattle.hb_latch.specs.Tables.{MayLatch};
 ghost use Rattle.hb_layout.specs.Limits.{IsLayout};
 ghost use Rattle.hb_ops.specs.Given.{given as live_given};
-ghost use Rattle.hb_store.specs.States.{in_memory};
 ghost use Rattle.hb_store.specs.declared.stops.Why.TheVariants.{Extent};
 ghost use Rattle.hb_core.specs.Asking.{HasAskedBox, IsNotAsked, asked_box, box_at, looked_live, looked_page, whole_box};
 ghost use Rattle.hb_core.specs.CoreSeen.{core_seen};
@@ -13,6 +11,7 @@ ghost use Rattle.hb_core.specs.Looking.{FailsTest, MayLook, PassesTest, wanted_i
 ghost use Rattle.hb_core.specs.Machines.{live_here};
 ghost use Rattle.hb_core.specs.Moving.{StandsAs};
 ghost use Rattle.hb_core.specs.Working.{IsWorking};
+ghost use Rattle.hb_core.specs.Relied.{MayLookFor, MayTest};
 
 use crate::state::Core;
 use hb_activity::{Activity, Wanted};
@@ -46,8 +45,7 @@ impl AskedBox {
 impl<D: Device> Core<D> {
     /// The latch that the actor's next step wants.
     pub(crate) fn wanted(&self, actor: Actor) -> Option<Wanted>
-        requires actor { MayLatch actor }
-        requires look { (activity : _) → StandsAs (core_seen self.now) actor activity → MayLook (core_seen self.now).store activity }
+        requires { MayLookFor (core_seen self.now) actor }
         ensures { (activity : _) → StandsAs (core_seen self.now) actor activity → result ≡ wanted_in (core_seen self.now).store activity }
     {
         let activity = self.activity(actor);
@@ -56,8 +54,7 @@ impl<D: Device> Core<D> {
 
     /// Whether the actor's next step may change the file.
     pub(crate) fn may_commit(&self, actor: Actor) -> bool
-        requires actor { MayLatch actor }
-        requires look { (activity : _) → StandsAs (core_seen self.now) actor activity → MayLook (core_seen self.now).store activity }
+        requires { MayLookFor (core_seen self.now) actor }
         ensures { (activity : _) → StandsAs (core_seen self.now) actor activity →
             result ≡ may_commit activity (core_seen self.now).store.meta (looked_live (core_seen self.now).store activity) }
     {
@@ -74,10 +71,7 @@ impl<D: Device> Core<D> {
 
     /// Tests the page that is wanted, which is in memory: it is in use, and of the level and the box that are asked for.
     pub(crate) fn test(&self, actor: Actor, wanted: Wanted) -> Result<(), Why>
-        requires actor { MayLatch actor }
-        requires there { IsSome (in_memory (core_seen self.now).store wanted.page) }
-        requires working { (activity : _) → StandsAs (core_seen self.now) actor activity → IsWorking activity }
-        requires look { (activity : _) → StandsAs (core_seen self.now) actor activity → MayLook (core_seen self.now).store activity }
+        requires { MayTest (core_seen self.now) actor wanted }
         ensures passes { OnOk result ((activity : _) → StandsAs (core_seen self.now) actor activity → PassesTest (core_seen self.now).store activity wanted) }
         ensures fails { IfErr result (λ why. (activity : _) → StandsAs (core_seen self.now) actor activity → FailsTest (core_seen self.now).store activity wanted why) }
     {

@@ -1,6 +1,5 @@
 //! How a step gets its pages, and asks its decider.
 ghost use Rattle.std.specs.Prelude.{◌≡◌, ◌↔◌, ℕ, Some, IsTrue, IsSome, IfOk, IfErr, IfSome, IsErrAnd, OnOk, OnErr, length};
-ghost use Rattle.hb_latch.specs.Tables.{MayLatch};
 ghost use Rattle.hb_activity.specs.Deciding.{deed_of};
 ghost use Rattle.hb_activity.specs.Classes.{idle_of};
 ghost use Rattle.hb_activity.specs.Deeds.{Deed};
@@ -10,19 +9,19 @@ ghost use Rattle.hb_point.specs.Asks.{SplitsNow};
 ghost use Rattle.hb_space.specs.Points.{IsPoint};
 ghost use Rattle.hb_core.specs.Acting.{NeedsNumber, TakesMemory};
 ghost use Rattle.hb_core.specs.Asking.{wanted_by};
-ghost use Rattle.hb_core.specs.CoreSeen.{core_seen, core_disk};
+ghost use Rattle.hb_core.specs.CoreSeen.{core_seen, core_disk, Becomes};
 ghost use Rattle.hb_core.specs.KeptFits.{class_for};
-ghost use Rattle.hb_store.specs.States.{in_memory};
 ghost use Rattle.hb_store.specs.declared.stops.StopWhy.TheVariants.{Damaged};
 ghost use Rattle.hb_store.specs.declared.stops.Why.{Why};
 ghost use Rattle.hb_core.specs.declared.halts.Halt.TheVariants.{Stops};
-ghost use Rattle.hb_core.specs.Looking.{AsksPoint, AsksPoster, FailsTest, HasPointRow, HasPosterRow, MayLook, PassesTest, IsStarved, number_of_row, other_number, other_page};
+ghost use Rattle.hb_core.specs.Looking.{AsksPoint, AsksPoster, FailsTest, HasPointRow, HasPosterRow, PassesTest, IsStarved, number_of_row, other_number, other_page};
 ghost use Rattle.hb_core.specs.Machines.{Machine, live_here};
 ghost use Rattle.hb_core.specs.Moving.{StandsAs, placed, with_standing};
 ghost use Rattle.hb_core.specs.Rows.{Row};
 ghost use Rattle.hb_disk.specs.Calls.{ReadsOnly};
 ghost use Rattle.hb_core.specs.Touching.{IsReadHalt};
-ghost use Rattle.hb_core.specs.Working.{Halts, HasCome, HasPages, IsWorking, MayStep, MayWork, with_memory};
+ghost use Rattle.hb_core.specs.Working.{Halts, HasCome, HasPages, MayStep, MayWork, with_memory};
+ghost use Rattle.hb_core.specs.Relied.{MayDecide, MayDoRow, MayNumber, MayTest};
 
 use crate::halts::Halt;
 use crate::reading::idle;
@@ -36,9 +35,7 @@ use hb_store::StopWhy;
 impl<D: Device> Core<D> {
     /// Brings the page that is wanted into memory, where one is, and tests it.
     pub(crate) fn bring(&mut self, actor: Actor, wanted: Option<Wanted>) -> Result<(), Halt>
-        requires actor { MayLatch actor }
-        requires may { (m : Machine) × MayStep (D.model (core_disk self.old)) (core_seen self.old) m × MayWork m actor }
-        requires wanted { (m : Machine) → MayStep (D.model (core_disk self.old)) (core_seen self.old) m → wanted ≡ wanted_by m actor }
+        requires { MayDoRow (D.model (core_disk self.old)) (core_seen self.old) actor wanted }
         ensures comes { IfOk result (λ done. (m : Machine) → MayStep (D.model (core_disk self.old)) (core_seen self.old) m → MayWork m actor →
             HasCome m actor (D.model (core_disk self.new)) (core_seen self.new)) }
         ensures halts { IfErr result (λ halt. (m : Machine) → MayStep (D.model (core_disk self.old)) (core_seen self.old) m → MayWork m actor →
@@ -60,10 +57,7 @@ impl<D: Device> Core<D> {
 
     /// Tests the page that came. The core is to be stopped where it isn't the one.
     fn tested(&self, actor: Actor, wanted: Wanted) -> Result<(), Halt>
-        requires actor { MayLatch actor }
-        requires there { IsSome (in_memory (core_seen self.now).store wanted.page) }
-        requires working { (activity : _) → StandsAs (core_seen self.now) actor activity → IsWorking activity }
-        requires look { (activity : _) → StandsAs (core_seen self.now) actor activity → MayLook (core_seen self.now).store activity }
+        requires { MayTest (core_seen self.now) actor wanted }
         ensures passes { OnOk result ((activity : _) → StandsAs (core_seen self.now) actor activity → PassesTest (core_seen self.now).store activity wanted) }
         ensures fails { IfErr result (λ halt. (why : Why) × (halt ≡ Stops (Damaged wanted.page why))
             × ((activity : _) → StandsAs (core_seen self.now) actor activity → FailsTest (core_seen self.now).store activity wanted why)) }
@@ -84,9 +78,7 @@ impl<D: Device> Core<D> {
         actor: Actor,
         wanted: Option<Wanted>,
     ) -> Result<Option<(u32, u32)>, Halt>
-        requires actor { MayLatch actor }
-        requires come { (m : Machine) × HasCome m actor (D.model (core_disk self.old)) (core_seen self.old) }
-        requires wanted { (m : Machine) → HasCome m actor (D.model (core_disk self.old)) (core_seen self.old) → wanted ≡ wanted_by m actor }
+        requires { MayNumber (D.model (core_disk self.old)) (core_seen self.old) actor wanted }
         ensures numbered { IfOk result (λ free. (m : Machine) → HasCome m actor (D.model (core_disk self.old)) (core_seen self.old) →
             HasPages m actor free (D.model (core_disk self.new)) (core_seen self.new)) }
         ensures halts { IfErr result (λ halt. (m : Machine) → HasCome m actor (D.model (core_disk self.old)) (core_seen self.old) →
@@ -107,9 +99,7 @@ impl<D: Device> Core<D> {
 
     /// Whether the row makes a page, if one is free.
     fn needs_number(&self, actor: Actor, wanted: Option<Wanted>) -> bool
-        requires actor { MayLatch actor }
-        requires come { (m : Machine) × HasCome m actor (D.model (core_disk self.now)) (core_seen self.now) }
-        requires wanted { (m : Machine) → HasCome m actor (D.model (core_disk self.now)) (core_seen self.now) → wanted ≡ wanted_by m actor }
+        requires { MayNumber (D.model (core_disk self.now)) (core_seen self.now) actor wanted }
         ensures { (m : Machine) → HasCome m actor (D.model (core_disk self.now)) (core_seen self.now) →
             (IsTrue result ↔ NeedsNumber (m.activity actor) (wanted_by m actor) (with_memory (core_seen self.now) m)) }
     {
@@ -146,15 +136,12 @@ impl<D: Device> Core<D> {
         wanted: Option<Wanted>,
         free: Option<(u32, u32)>,
     ) -> Result<Next, NoMemory>
-        requires actor { MayLatch actor }
-        requires pages { (m : Machine) × HasPages m actor free (D.model (core_disk self.old)) (core_seen self.old) }
-        requires wanted { (m : Machine) → HasPages m actor free (D.model (core_disk self.old)) (core_seen self.old) → wanted ≡ wanted_by m actor }
+        requires { MayDecide (D.model (core_disk self.old)) (core_seen self.old) actor wanted free }
         ensures row { IfOk result (λ next. (m : Machine) → HasPages m actor free (D.model (core_disk self.old)) (core_seen self.old) →
             Row (m.activity actor) (wanted_by m actor) (with_memory (core_seen self.old) m) (placed (length m.order) (deed_of (m.activity actor) next))) }
         ensures memory { OnErr result ((m : Machine) → HasPages m actor free (D.model (core_disk self.old)) (core_seen self.old) →
             (deed : Deed) × Row (m.activity actor) (wanted_by m actor) (with_memory (core_seen self.old) m) deed × TakesMemory (m.activity actor) deed) }
-        ensures rest { core_seen self.new ≡ with_standing actor (idle_of (class_for actor)) (core_seen self.old) }
-        ensures disk { core_disk self.new ≡ core_disk self.old }
+        ensures rest { Becomes (with_standing actor (idle_of (class_for actor))) self.old self.new }
     {
         let state = self.replace(actor, idle(actor));
         knows_point(&state);

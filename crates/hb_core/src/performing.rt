@@ -1,5 +1,5 @@
 //! How a core does what its deciders say: latches, the queue, the order, and what becomes of the line in hand.
-ghost use Rattle.std.specs.Prelude.{◌≡◌, ℕ, ◌<◌, ◌≤◌, ◌^◌, ◌++◌, length, take, drop, Some, None, IsSome, IfSome, IfOk, IfErr, IsErr, OnOk, OnErr, List};
+ghost use Rattle.std.specs.Prelude.{◌≡◌, ℕ, ◌<◌, ◌≤◌, ◌^◌, ◌++◌, length, take, drop, Some, None, IsSome, IfSome, IfOk, IfErr, IsErr, OnOk, OnErr};
 ghost use Rattle.std.specs.FinMap as map;
 ghost use Rattle.hb_latch.specs.Tables.{IsGrantable, MayLatch, latches_of, mode_at};
 ghost use Rattle.hb_activity.specs.Classes.{class_of, hand_of};
@@ -11,11 +11,11 @@ ghost use Rattle.hb_ops.specs.Given.{given as live_given};
 ghost use Rattle.hb_store.specs.States.{StoreState};
 ghost use Rattle.hb_core.specs.declared.halts.Halt.TheVariants as halts;
 ghost use Rattle.hb_activity.specs.declared.dropping.DropWhy.TheVariants as drops;
-ghost use Rattle.hb_core.specs.CoreSeen.{core_seen, core_disk};
+ghost use Rattle.hb_core.specs.CoreSeen.{core_seen, core_disk, Alters, Becomes};
 ghost use Rattle.hb_core.specs.GivingUp.{gives_up, reply_for, runs_out};
 ghost use Rattle.hb_core.specs.KeptFits.{class_for};
 ghost use Rattle.hb_core.specs.Machines.{live_here};
-ghost use Rattle.hb_core.specs.Moving.{AreApart, DoesDeed, KeepsFilesBy, MayCommit, MayStand, StandsNow, StandsAs, joins_order, number_of, placed, placed_at, pushed, said, with_jobs, with_latches, with_order};
+ghost use Rattle.hb_core.specs.Moving.{AreApart, DoesDeed, KeepsFilesBy, MayCommit, MayHave, MayStand, Queues, StandsNow, StandsAs, joins_order, number_of, placed, placed_at, pushed, said, with_jobs, with_latches, with_order, with_store};
 ghost use Rattle.hb_core.specs.Performing.{MayDo, Relatches, mode_among};
 ghost use Rattle.hb_core.specs.Working.{IsWorking};
 
@@ -41,7 +41,6 @@ impl<D: Device> Core<D> {
         line: Option<u32>,
         next: Next,
     ) -> Result<Outcome, Halt>
-        requires actor { MayLatch actor }
         requires commit { IfSome next.op (MayCommit (D.model (core_disk self.old)) (core_seen self.old)) }
         requires stand { (st : StoreState) → MayDo next.op (length (core_seen self.old).order) (core_seen self.old).store st →
             MayStand actor (core_seen self.old).latches st (placed_at (length (core_seen self.old).order) next.then) }
@@ -78,8 +77,7 @@ impl<D: Device> Core<D> {
         ensures files { OnOk result (KeepsFilesBy op (D.model (core_disk self.old)) (core_seen self.old).store (D.model (core_disk self.new)) (core_seen self.new).store) }
         ensures same { OnErr result (core_seen self.new ≡ core_seen self.old) }
         ensures cause { IsErr result → IsSome op }
-        ensures rest { core_seen self.new ≡ record (core_seen self.old) { store = (core_seen self.new).store } }
-        ensures disk { core_disk self.new ≡ core_disk self.old }
+        ensures rest { Becomes (with_store (core_seen self.new).store) self.old self.new }
     {
         match op {
             Some(op) => self.store.commit(op, place),
@@ -90,9 +88,7 @@ impl<D: Device> Core<D> {
     /// Lets the jobs wait, one after the other.
     fn add_all(&mut self, mut jobs: ArrayVec<Job, 2>)
         requires { length jobs.items ≤ 2 }
-        ensures jobs { AddsJobs jobs.items (core_seen self.old).jobs (core_seen self.new).jobs }
-        ensures rest { core_seen self.new ≡ with_jobs (core_seen self.new).jobs (core_seen self.old) }
-        ensures disk { core_disk self.new ≡ core_disk self.old }
+        ensures { Alters (Queues jobs.items) self.old self.new }
     {
         self.add_first(&mut jobs);
         self.add_first(&mut jobs);
@@ -100,10 +96,8 @@ impl<D: Device> Core<D> {
 
     /// Lets the first of the jobs wait, where there is one.
     fn add_first(&mut self, jobs: &mut ArrayVec<Job, 2>)
-        ensures jobs { AddsJobs (take 1 jobs.old.items) (core_seen self.old).jobs (core_seen self.new).jobs }
+        ensures jobs { Alters (Queues (take 1 jobs.old.items)) self.old self.new }
         ensures left { jobs.new.items ≡ drop 1 jobs.old.items }
-        ensures rest { core_seen self.new ≡ with_jobs (core_seen self.new).jobs (core_seen self.old) }
-        ensures disk { core_disk self.new ≡ core_disk self.old }
     {
         if !jobs.is_empty() {
             let _ = self.jobs.add(jobs.remove(0));
@@ -113,8 +107,7 @@ impl<D: Device> Core<D> {
     /// The line of the number takes effect, where there is one.
     fn join(&mut self, line: Option<u32>)
         requires room { IsSome line → length (core_seen self.old).order < length (core_seen self.old).lines }
-        ensures joined { core_seen self.new ≡ with_order ((core_seen self.old).order ++ pushed line) (core_seen self.old) }
-        ensures disk { core_disk self.new ≡ core_disk self.old }
+        ensures { Becomes (with_order ((core_seen self.old).order ++ pushed line)) self.old self.new }
     {
         if let Some(line) = line {
             self.order.push(line).unwrap();
@@ -123,10 +116,8 @@ impl<D: Device> Core<D> {
 
     /// The actor stands so from now on, with the latches of that and no other.
     pub(crate) fn stand(&mut self, actor: Actor, next: Activity)
-        requires actor { MayLatch actor }
-        requires may { MayStand actor (core_seen self.old).latches (core_seen self.old).store next }
-        ensures stands { StandsNow actor next (core_seen self.old) (core_seen self.new) }
-        ensures disk { core_disk self.new ≡ core_disk self.old }
+        requires { MayStand actor (core_seen self.old).latches (core_seen self.old).store next }
+        ensures { Alters (StandsNow actor next) self.old self.new }
     {
         let held = next.held(self.walked(&next));
         self.latch_all(actor, held.as_slice());
@@ -142,14 +133,9 @@ impl<D: Device> Core<D> {
 
     /// The actor has these latches and no other. Nobody is in the way of them.
     fn latch_all(&mut self, actor: Actor, latches: &[Latch])
-        requires actor { MayLatch actor }
-        requires few { length latches.now ≤ 2 }
-        requires apart { AreApart latches.now }
-        requires free { (page : ℕ) (mode : _) → mode_among page latches.now ≡ Some mode →
-            IsGrantable (core_seen self.old).latches actor page mode }
+        requires { MayHave actor (core_seen self.old).latches latches.now }
         ensures latches { Relatches actor latches.now (core_seen self.old).latches (core_seen self.new).latches }
-        ensures rest { core_seen self.new ≡ with_latches (core_seen self.new).latches (core_seen self.old) }
-        ensures disk { core_disk self.new ≡ core_disk self.old }
+        ensures rest { Becomes (with_latches (core_seen self.new).latches) self.old self.new }
     {
         each_call_changes_one_latch();
         each_latch_counts_once();
@@ -168,9 +154,8 @@ impl<D: Device> Core<D> {
     /// What the actor has in hand is given up: a line is answered outside the order, and a job is dropped.
     pub(crate) fn give_up(&mut self, actor: Actor, line: Option<u32>, why: DropWhy) -> Outcome
         requires actor { MayLatch actor }
-        ensures does { (state : _) → IsWorking state → class_of state ≡ class_for actor → line ≡ number_of (hand_of state) →
-            DoesDeed actor (gives_up why state) result (core_seen self.old) (core_seen self.new) }
-        ensures disk { core_disk self.new ≡ core_disk self.old }
+        ensures { Alters (λ c after. (state : _) → IsWorking state → class_of state ≡ class_for actor → line ≡ number_of (hand_of state) →
+            DoesDeed actor (gives_up why state) result c after) self.old self.new }
     {
         self.stand(actor, idle(actor));
         match line {
@@ -185,9 +170,8 @@ impl<D: Device> Core<D> {
     /// The log has no room, and nothing is left to flush: the line is `full`, and a job is dropped.
     pub(crate) fn run_out(&mut self, actor: Actor) -> Outcome
         requires actor { MayLatch actor }
-        ensures does { (state : _) → StandsAs (core_seen self.old) actor state → IsWorking state → class_of state ≡ class_for actor →
-            DoesDeed actor (runs_out state) result (core_seen self.old) (core_seen self.new) }
-        ensures disk { core_disk self.new ≡ core_disk self.old }
+        ensures { Alters (λ c after. (state : _) → StandsAs c actor state → IsWorking state → class_of state ≡ class_for actor →
+            DoesDeed actor (runs_out state) result c after) self.old self.new }
     {
         let line = self.line_in_hand(actor);
         self.stand(actor, idle(actor));

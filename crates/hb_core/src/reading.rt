@@ -3,13 +3,11 @@ ghost use Rattle.std.specs.Prelude.{◌≡◌, ◌↔◌, ◌<◌, ◌≤◌, �
 ghost use Rattle.std.specs.List.{slice_get};
 ghost use Rattle.hb_latch.specs.Tables.{MayLatch};
 ghost use Rattle.hb_store.specs.Seen.{seen_as, disk_of};
-ghost use Rattle.hb_store.specs.States.{in_memory};
-ghost use Rattle.hb_ops.specs.Files.{if_live};
 ghost use Rattle.hb_ops.specs.Given.{given as live_given};
 ghost use Rattle.hb_wal.specs.Log.{mark_of};
 ghost use Rattle.hb_core.specs.CoreSeen.{core_seen, core_disk};
 ghost use Rattle.hb_activity.specs.Classes.{idle_of};
-ghost use Rattle.hb_core.specs.KeptFits.{class_for};
+ghost use Rattle.hb_core.specs.KeptFits.{IsOfSession, class_for};
 ghost use Rattle.hb_core.specs.Machines.{Machine, live_here};
 ghost use Rattle.hb_core.specs.Moving.{StandsAs};
 ghost use Rattle.hb_activity.specs.Queue.{is_of};
@@ -17,7 +15,7 @@ ghost use Rattle.hb_point.specs.SessionRows.{is_answered};
 ghost use Rattle.hb_core.specs.KeptMachine.{MachineKeeps};
 ghost use Rattle.hb_core.specs.Runs.{has_none, left_count, left_numbers};
 ghost use Rattle.hb_core.specs.SteppingLaws.{IsBegun};
-ghost use Rattle.hb_core.specs.Taking.{all_idle, begun_core, jobs_in_work, worker_for};
+ghost use Rattle.hb_core.specs.Taking.{IsMade, all_idle, begun_core, jobs_in_work, worker_for};
 ghost use Rattle.hb_core.specs.Showing.{ShowsFiles, ShowsMachine, number_in_hand};
 
 use crate::halts::copy_of;
@@ -59,10 +57,8 @@ impl<D: Device> Core<D> {
         store: Store<D>,
         script: Script,
     ) -> Result<Core<D>, (NoMemory, Store<D>)>
-        requires few { length script.lines < 2 ^ 32 }
-        ensures seen { IfOk result (λ c. core_seen c ≡ begun_core script.lines script.steps (seen_as store)) }
-        ensures disk { IfOk result (λ c. core_disk c ≡ disk_of store) }
-        ensures back { IfErr result (λ e. e.1 ≡ store) }
+        requires { length script.lines < 2 ^ 32 }
+        ensures { IsMade core_seen core_disk (begun_core script.lines script.steps (seen_as store)) (disk_of store) store result }
     {
         match rooms(alloc, script.lines.as_slice().len()) {
             Ok((jobs, order)) => Ok(Core {
@@ -166,8 +162,7 @@ impl<D: Device> Core<D> {
 
     /// 1 where the line, which stands at the place, has no answer, else 0.
     fn count_left(&self, place: usize, line: &Line) -> u32
-        requires first { 1 ≤ line.now.session }
-        requires last { line.now.session ≤ 16 }
+        requires { IsOfSession line.now }
         ensures value { (m : Machine) → ShowsMachine (D.model (core_disk self.now)) (core_seen self.now) m → MachineKeeps m → slice_get m.lines place ≡ Some line.now →
             result ≡ (if is_answered line.now.number m.answered then 0 else 1) }
         ensures few { result ≤ 1 }
@@ -178,8 +173,7 @@ impl<D: Device> Core<D> {
     /// Puts the number of the line, which stands at the place, into the vector, where it has no answer.
     #[tactic(auto, using(crate::proofs::Running::Unanswered::puts_one, crate::proofs::Running::Unanswered::puts_none))]
     fn put_left(&self, place: usize, line: &Line, into: &mut Vec<u32>)
-        requires first { 1 ≤ line.now.session }
-        requires last { line.now.session ≤ 16 }
+        requires session { IsOfSession line.now }
         requires room { length into.old.items < vec_capacity into.old }
         ensures put { (m : Machine) → ShowsMachine (D.model (core_disk self.now)) (core_seen self.now) m → MachineKeeps m → slice_get m.lines place ≡ Some line.now →
             into.new.items ≡ into.old.items ++ (if is_answered line.now.number m.answered then [] else line.now.number ∷ []) }
@@ -193,8 +187,7 @@ impl<D: Device> Core<D> {
 
     /// Whether the line, which stands at the place, has no answer: its session hasn't come to it, or has it in hand.
     fn is_left(&self, place: usize, line: &Line) -> bool
-        requires first { 1 ≤ line.now.session }
-        requires last { line.now.session ≤ 16 }
+        requires { IsOfSession line.now }
         ensures { (m : Machine) → ShowsMachine (D.model (core_disk self.now)) (core_seen self.now) m → MachineKeeps m → slice_get m.lines place ≡ Some line.now →
             result ≡ has_none m line.now }
     {

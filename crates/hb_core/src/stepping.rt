@@ -1,18 +1,19 @@
 //! One step of an actor.
-ghost use Rattle.std.specs.Prelude.{◌≡◌, ◌≤◌, ◌-◌, ◌==◌, ℕ, Some, None, length};
+ghost use Rattle.std.specs.Prelude.{◌≡◌, ◌-◌, ◌==◌, ℕ, Some, None};
 ghost use Rattle.std.specs.List.{position, slice_get, slice_set};
 ghost use Rattle.hb_latch.specs.Tables.{MayLatch};
 ghost use Rattle.hb_activity.specs.declared.activities.Activity.TheVariants as at;
 ghost use Rattle.hb_core.specs.declared.outcomes.Outcome.TheVariants as outcomes;
-ghost use Rattle.hb_core.specs.CoreSeen.{core_seen, core_disk};
+ghost use Rattle.hb_core.specs.CoreSeen.{core_seen, core_disk, Alters, Becomes};
 ghost use Rattle.hb_core.specs.Machines.{Machine};
 ghost use Rattle.hb_poster.specs.PosterRows.{IsPostingOf};
 ghost use Rattle.hb_core.specs.Moving.{StandsAs, with_standing, with_stop};
 ghost use Rattle.hb_core.specs.Showing.{ShowsMachine};
 ghost use Rattle.hb_core.specs.Steps.{AwaitsPlace, GetsReady, StepsTo};
-ghost use Rattle.hb_core.specs.Touching.{Touches};
+ghost use Rattle.hb_core.specs.Touching.{StepsSo, Touches};
 ghost use Rattle.hb_core.specs.Taking.{TakesNextLine, TakesNextPosting};
 ghost use Rattle.hb_core.specs.Working.{IsWorking, MayStep};
+ghost use Rattle.hb_core.specs.Relied.{AwaitsSomePlace, HasLinesBehind, IsAtWork, MayAwait};
 
 use crate::halts::copy_of;
 use crate::outcomes::Outcome;
@@ -56,10 +57,8 @@ impl<D: Device> Core<D> {
     /// The session takes its next line, where one is left. Where none is, all lines lie behind it from now on, so that no later
     /// step looks through them again.
     fn take_line(&mut self, actor: Actor) -> Outcome
-        requires actor { MayLatch actor }
-        requires behind { (behind : ℕ) × (slice_get (core_seen self.old).behind (actor - 1) ≡ Some behind) × (behind ≤ length (core_seen self.old).lines) }
-        ensures takes { (behind : ℕ) → slice_get (core_seen self.old).behind (actor - 1) ≡ Some behind → TakesNextLine actor behind result (core_seen self.old) (core_seen self.new) }
-        ensures disk { core_disk self.new ≡ core_disk self.old }
+        requires { HasLinesBehind (core_seen self.old) actor }
+        ensures { Alters (λ c after. (behind : ℕ) → slice_get c.behind (actor - 1) ≡ Some behind → TakesNextLine actor behind result c after) self.old self.new }
     {
         let session = usize::from(actor) - 1;
         let from = self.behind[session];
@@ -86,8 +85,7 @@ impl<D: Device> Core<D> {
     fn go_behind(&mut self, actor: Actor, behind: usize)
         requires actor { MayLatch actor }
         requires session { (before : ℕ) × (slice_get (core_seen self.old).behind (actor - 1) ≡ Some before) }
-        ensures gone { core_seen self.new ≡ record (core_seen self.old) { behind = slice_set (core_seen self.old).behind (actor - 1) behind } }
-        ensures disk { core_disk self.new ≡ core_disk self.old }
+        ensures { Becomes (λ c. record c { behind = slice_set c.behind (actor - 1) behind }) self.old self.new }
     {
         self.behind[usize::from(actor) - 1] = behind;
     }
@@ -95,8 +93,7 @@ impl<D: Device> Core<D> {
     /// The poster takes its oldest job, where one waits.
     fn take_posting(&mut self, actor: Actor) -> Outcome
         requires actor { MayLatch actor }
-        ensures takes { TakesNextPosting actor result (core_seen self.old) (core_seen self.new) }
-        ensures disk { core_disk self.new ≡ core_disk self.old }
+        ensures { Alters (TakesNextPosting actor result) self.old self.new }
     {
         let Some(job) = self.jobs.take(JobKind::Post) else {
             return Outcome::Idle;
@@ -109,13 +106,10 @@ impl<D: Device> Core<D> {
 
     /// Answers the line, where its place is settled, and else forces.
     fn await_place(&mut self, actor: Actor, place: u32) -> Outcome
-        requires actor { MayLatch actor }
-        requires may { (m : Machine) × MayStep (D.model (core_disk self.old)) (core_seen self.old) m × (m.stop ≡ None) }
-        requires awaits { (number : ℕ) × (reply : _) × StandsAs (core_seen self.old) actor (at.SessionAwait number reply place) }
-        ensures awaits { (m : Machine) (number : ℕ) (reply : _) → MayStep (D.model (core_disk self.old)) (core_seen self.old) m → m.stop ≡ None →
-            m.activity actor ≡ at.SessionAwait number reply place →
-            (new : Machine) × AwaitsPlace m actor number reply place result new × ShowsMachine (D.model (core_disk self.new)) (core_seen self.new) new }
-        ensures touches { Touches (D.model (core_disk self.old)) (core_seen self.old) result (D.model (core_disk self.new)) (core_seen self.new) }
+        requires { MayAwait (D.model (core_disk self.old)) (core_seen self.old) actor place }
+        ensures { StepsSo (λ m. (number : ℕ) (reply : _) → m.stop ≡ None → m.activity actor ≡ at.SessionAwait number reply place →
+            (new : Machine) × AwaitsPlace m actor number reply place result new × ShowsMachine (D.model (core_disk self.new)) (core_seen self.new) new)
+            (D.model (core_disk self.old)) (core_seen self.old) result (D.model (core_disk self.new)) (core_seen self.new) }
     {
         if place < self.settled() {
             return self.answer_kept(actor);
@@ -128,11 +122,9 @@ impl<D: Device> Core<D> {
 
     /// Answers the line with the reply that was kept.
     fn answer_kept(&mut self, actor: Actor) -> Outcome
-        requires actor { MayLatch actor }
-        requires awaits { (number place : ℕ) × (reply : _) × StandsAs (core_seen self.old) actor (at.SessionAwait number reply place) }
-        ensures answers { (number place : ℕ) (reply : _) → StandsAs (core_seen self.old) actor (at.SessionAwait number reply place) →
-            (result ≡ outcomes.Answered number reply) × (core_seen self.new ≡ with_standing actor at.SessionIdle (core_seen self.old)) }
-        ensures disk { core_disk self.new ≡ core_disk self.old }
+        requires { AwaitsSomePlace (core_seen self.old) actor }
+        ensures { Alters (λ c after. (number place : ℕ) (reply : _) → StandsAs c actor (at.SessionAwait number reply place) →
+            (result ≡ outcomes.Answered number reply) × (after ≡ with_standing actor at.SessionIdle c)) self.old self.new }
     {
         match self.replace(actor, Activity::SessionIdle) {
             Activity::SessionAwait { line, reply, .. } => Outcome::Answered { line, reply },
@@ -143,11 +135,10 @@ impl<D: Device> Core<D> {
     /// Flushes once, where a change isn't ready. Where nothing is left to flush, the line is answered `full`, or the job is
     /// dropped.
     pub(crate) fn get_ready(&mut self, actor: Actor) -> Outcome
-        requires actor { MayLatch actor }
-        requires may { (m : Machine) × MayStep (D.model (core_disk self.old)) (core_seen self.old) m × (m.stop ≡ None) × IsWorking (m.activity actor) }
-        ensures readies { (m : Machine) → MayStep (D.model (core_disk self.old)) (core_seen self.old) m → m.stop ≡ None → IsWorking (m.activity actor) →
-            (new : Machine) × GetsReady m actor result new × ShowsMachine (D.model (core_disk self.new)) (core_seen self.new) new }
-        ensures touches { Touches (D.model (core_disk self.old)) (core_seen self.old) result (D.model (core_disk self.new)) (core_seen self.new) }
+        requires { IsAtWork (D.model (core_disk self.old)) (core_seen self.old) actor }
+        ensures { StepsSo (λ m. m.stop ≡ None → IsWorking (m.activity actor) →
+            (new : Machine) × GetsReady m actor result new × ShowsMachine (D.model (core_disk self.new)) (core_seen self.new) new)
+            (D.model (core_disk self.old)) (core_seen self.old) result (D.model (core_disk self.new)) (core_seen self.new) }
     {
         match self.store.flush_step() {
             Ok(Flushed::Forced) => Outcome::Helped,
@@ -159,8 +150,7 @@ impl<D: Device> Core<D> {
     /// The core is stopped from now on.
     pub(crate) fn stop_for(&mut self, why: StopWhy) -> Outcome
         ensures says { result ≡ outcomes.Stopped why }
-        ensures stops { core_seen self.new ≡ with_stop why (core_seen self.old) }
-        ensures disk { core_disk self.new ≡ core_disk self.old }
+        ensures stops { Becomes (with_stop why) self.old self.new }
     {
         let said = copy_of(&why);
         self.stop = Some(why);
@@ -171,8 +161,7 @@ impl<D: Device> Core<D> {
     pub(crate) fn replace(&mut self, actor: Actor, next: Activity) -> Activity
         requires actor { MayLatch actor }
         ensures old { StandsAs (core_seen self.old) actor result }
-        ensures new { core_seen self.new ≡ with_standing actor next (core_seen self.old) }
-        ensures disk { core_disk self.new ≡ core_disk self.old }
+        ensures new { Becomes (with_standing actor next) self.old self.new }
     {
         mem::replace(
             &mut self.activities.as_mut_slice()[usize::from(actor) - 1],

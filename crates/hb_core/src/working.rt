@@ -1,12 +1,11 @@
 //! A step that wants a latch or changes the file.
 ghost use Rattle.std.specs.Prelude.{◌≡◌, ◌↔◌, None, IsTrue, IfOk, IfErr, IsErrAnd, IfSome, IsSomeAnd};
-ghost use Rattle.hb_latch.specs.Tables.{IsGrantable, IsLeastInTheWay, MayLatch};
+ghost use Rattle.hb_latch.specs.Tables.{IsGrantable, IsLeastInTheWay};
 ghost use Rattle.hb_activity.specs.Classes.{hand_of};
 ghost use Rattle.hb_core.specs.Acting.{DoesRow};
 ghost use Rattle.hb_activity.specs.Wanting.{may_commit};
 ghost use Rattle.hb_store.specs.Calls.{IsReady};
-ghost use Rattle.hb_core.specs.Asking.{looked_live, wanted_by};
-ghost use Rattle.hb_core.specs.Looking.{MayLook};
+ghost use Rattle.hb_core.specs.Asking.{looked_live};
 ghost use Rattle.hb_core.specs.CoreSeen.{core_seen, core_disk};
 ghost use Rattle.hb_core.specs.Machines.{Machine};
 ghost use Rattle.hb_core.specs.Moving.{StandsAs, number_of};
@@ -15,6 +14,7 @@ ghost use Rattle.hb_core.specs.Steps.{Works};
 ghost use Rattle.hb_disk.specs.Calls.{ReadsOnly};
 ghost use Rattle.hb_core.specs.Touching.{IsReadHalt, Touches};
 ghost use Rattle.hb_core.specs.Working.{Halts, IsStop, IsWorking, MayStep, MayWork};
+ghost use Rattle.hb_core.specs.Relied.{IsAtWork, MayDoRow, MayLookFor};
 
 use crate::halts::Halt;
 use crate::machine_laws::rows_may_be_done;
@@ -28,8 +28,7 @@ use hb_store::a_store_keeps_one_file;
 impl<D: Device> Core<D> {
     /// Does the row of the actor's activity, unless another actor is in the way, or the log isn't ready for a change.
     pub(crate) fn work(&mut self, actor: Actor) -> Outcome
-        requires actor { MayLatch actor }
-        requires may { (m : Machine) × MayStep (D.model (core_disk self.old)) (core_seen self.old) m × (m.stop ≡ None) × IsWorking (m.activity actor) }
+        requires { IsAtWork (D.model (core_disk self.old)) (core_seen self.old) actor }
         ensures works { (m : Machine) → MayStep (D.model (core_disk self.old)) (core_seen self.old) m → m.stop ≡ None → IsWorking (m.activity actor) →
             (new : Machine) × Works m actor result new × ShowsMachine (D.model (core_disk self.new)) (core_seen self.new) new }
         ensures touches { Touches (D.model (core_disk self.old)) (core_seen self.old) result (D.model (core_disk self.new)) (core_seen self.new) }
@@ -51,8 +50,7 @@ impl<D: Device> Core<D> {
 
     /// Whether the actor's next step may change the file, and the log isn't ready for a change.
     fn is_unready(&self, actor: Actor) -> bool
-        requires actor { MayLatch actor }
-        requires look { (activity : _) → StandsAs (core_seen self.now) actor activity → MayLook (core_seen self.now).store activity }
+        requires { MayLookFor (core_seen self.now) actor }
         ensures { (activity : _) → StandsAs (core_seen self.now) actor activity →
             (IsTrue result ↔ (IsTrue (may_commit activity (core_seen self.now).store.meta (looked_live (core_seen self.now).store activity)) × (¬ (IsReady (core_seen self.now).store)))) }
     {
@@ -75,9 +73,7 @@ impl<D: Device> Core<D> {
         wanted: Option<Wanted>,
         line: Option<u32>,
     ) -> Result<Outcome, Halt>
-        requires actor { MayLatch actor }
-        requires may { (m : Machine) × MayStep (D.model (core_disk self.old)) (core_seen self.old) m × MayWork m actor }
-        requires wanted { (m : Machine) → MayStep (D.model (core_disk self.old)) (core_seen self.old) m → wanted ≡ wanted_by m actor }
+        requires row { MayDoRow (D.model (core_disk self.old)) (core_seen self.old) actor wanted }
         requires line { (m : Machine) → MayStep (D.model (core_disk self.old)) (core_seen self.old) m → line ≡ number_of (hand_of (m.activity actor)) }
         ensures done { IfOk result (λ outcome. (m : Machine) → MayStep (D.model (core_disk self.old)) (core_seen self.old) m → MayWork m actor →
             (new : Machine) × DoesRow m actor outcome new × ShowsMachine (D.model (core_disk self.new)) (core_seen self.new) new) }

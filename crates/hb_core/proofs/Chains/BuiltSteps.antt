@@ -94,21 +94,12 @@ group_is s op = λ i. record { images = page_images_needed (λ id. memory_is s i
 
 -- the scene after an operation, but for who did it
 abbrev pub with_done : Op → Scene → Scene
-with_done op s = record {
-  lines = s.lines;
-  answered = s.answered;
-  at_work = s.at_work;
-  latched = s.latched;
-  jobs = s.jobs;
-  order = s.order;
+with_done op s = record s {
   meta = (change_in s op).meta;
-  written = s.written;
   groups = s.groups ++ record { bytes = group_bytes (group_in s op); mark = length s.order } ∷ [];
   pages = set_all (change_in s op).pages s.pages;
   in_log = add_pages (change_in s op).pages (add_numbers (reads_of op) s.in_log);
-  durable = s.durable;
   later = with_op s.durable s.later op;
-  clock = s.clock;
 }
 
 abbrev pub with_maybe_done : Option Op → Scene → Scene
@@ -150,39 +141,26 @@ held_in s next = held_of next (option_and_then (live_in s) (walk_held next))
 
 -- the scene after a deed of an actor, with the jobs that wait then
 abbrev pub after : ℕ → Deed → List Job → Scene → Scene
-after actor deed jobs s = let t = with_maybe_done deed.op s in record {
-  lines = s.lines;
+after actor deed jobs s = let t = with_maybe_done deed.op s in record s {
   answered = s.answered ++ given_by (outcome_of deed.says) s.clock;
   at_work = set_entry actor deed.next s.at_work;
   latched = relatched actor (held_in t deed.next) s.latched;
   jobs = jobs;
   order = s.order ++ if_some deed.joins;
   meta = t.meta;
-  written = s.written;
   groups = t.groups;
   pages = t.pages;
   in_log = t.in_log;
-  durable = s.durable;
   later = t.later;
-  clock = s.clock;
 }
 
 abbrev pub disk_after : Option Op → Scene → StoreState
-disk_after op s = let t = with_maybe_done op s in store_of (record {
-  lines = s.lines;
-  answered = s.answered;
-  at_work = s.at_work;
-  latched = s.latched;
-  jobs = s.jobs;
-  order = s.order;
+disk_after op s = let t = with_maybe_done op s in store_of (record s {
   meta = t.meta;
-  written = s.written;
   groups = t.groups;
   pages = t.pages;
   in_log = t.in_log;
-  durable = s.durable;
   later = t.later;
-  clock = s.clock;
 })
 
 may_do : (s : Scene) (op : Option Op) → MayBeIn s op → MayDo op (length s.order) (store_of s) (disk_after op s)
@@ -302,22 +280,7 @@ one_joins job old new few = (old ++ job ∷ [], inr (inl (new, few, refl)), refl
 -- ---- pages that come into memory first
 
 abbrev pub bringing : List (ℕ × Page) → Scene → Scene
-bringing more s = record {
-  lines = s.lines;
-  answered = s.answered;
-  at_work = s.at_work;
-  latched = s.latched;
-  jobs = s.jobs;
-  order = s.order;
-  meta = s.meta;
-  written = s.written;
-  groups = s.groups;
-  pages = s.pages ++ more;
-  in_log = s.in_log;
-  durable = s.durable;
-  later = s.later;
-  clock = s.clock;
-}
+bringing more s = record s { pages = s.pages ++ more }
 
 -- each of them is of the file, good, and one that the step may need
 pub record MayCome (s : Scene) (may : ℕ → Type 0) (one : ℕ × Page) : Type 0 where
@@ -397,18 +360,9 @@ works_bringing more s actor deed jobs each clear ready row queue may =
 -- ---- a force
 
 abbrev pub forced_scene : Scene → Scene
-forced_scene s = record {
-  lines = s.lines;
-  answered = s.answered;
-  at_work = s.at_work;
-  latched = s.latched;
-  jobs = s.jobs;
-  order = s.order;
-  meta = s.meta;
+forced_scene s = record s {
   written = s.written + length (frames (forced s.groups));
   groups = left_waiting s.groups;
-  pages = s.pages;
-  in_log = s.in_log;
   durable = durable_after s.durable s.later;
   later = later_after s.later;
   clock = s.clock + calls_of_force s.groups;

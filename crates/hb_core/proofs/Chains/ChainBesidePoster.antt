@@ -3,22 +3,21 @@ use Rattle.std.proofs.Common.{◌≡◌, ◌≢◌, inl, inr, List, [], ◌∷�
 use Rattle.hb_space.specs.declared.records.Record.{Record}
 use Rattle.hb_frag.specs.declared.pages.LivePage.{LivePage}
 use Rattle.hb_ops.specs.declared.operations.Op.TheVariants as ops
-use Rattle.hb_terms.specs.declared.plans.PostPlan.TheVariants as plans
 use Rattle.hb_latch.specs.declared.modes.Mode.TheVariants.{Exclusive, Shared}
 use Rattle.hb_set.specs.declared.commands.Reply.TheVariants as replies
 use Rattle.hb_activity.specs.declared.jobs.Job.{Job}
 use Rattle.hb_activity.specs.declared.activities.Activity.TheVariants as at
 use Rattle.hb_core.specs.declared.outcomes.Outcome.TheVariants.{Moved}
-use Rattle.hb_activity.specs.Deeds.{Deed, answers_now, does, moves_to, takes_effect}
+use Rattle.hb_activity.specs.Deeds.{Deed, answers_now, moves_to, takes_effect}
 use Rattle.hb_core.proofs.Chains.BuiltSteps.{after, at_hand, blocked, forced_scene, forces, has_room, live_is, none_waits, one_joins, only_looks, performed, wanted_in, works, queued}
-use Rattle.hb_core.proofs.Chains.ChainOfPosting.{job, owes_two, post_fits, takes, it_leaves}
+use Rattle.hb_core.proofs.Chains.ChainOfPosting.{again_row, arrive_row, arrives, it_leaves, job, look_row, looks, post_fits, posts, promote_row, promotes, takes}
 use Rattle.hb_core.proofs.Chains.ChainOfTwoParts.{differ}
 use Rattle.hb_core.specs.Asking.{box_at}
 use Rattle.hb_core.specs.ChainBesidePoster.{SessionsBesidePoster, beside_before, deletes_twenty, lower_two, seeks_twenty}
 use Rattle.hb_core.specs.ChainOfPosting.{bare_root, posted_root, raised_meta, split_page}
 use Rattle.hb_core.specs.ChainOfTwo.{lettered, lower_half, lower_three, posts_at}
 use Rattle.hb_core.specs.Rows.{Row}
-use Rattle.hb_core.specs.Scenes.{Scene, machine_of, standing, store_of}
+use Rattle.hb_core.specs.Scenes.{Scene, machine_of, standing}
 use Rattle.hb_core.specs.Steps.{TakesJob}
 use Rattle.hb_frag.specs.Leaves.{leaves, leaves_of}
 use Rattle.hb_frag.specs.Rules.{BelongsAt, IsInOrder}
@@ -29,8 +28,6 @@ use Rattle.hb_lemmas.specs.Numbers.{big_endian}
 use Rattle.hb_point.specs.SessionRows.{taking}
 use Rattle.hb_sound.proofs.ExampleParts.{in_order}
 use Rattle.hb_space.proofs.Facts.Intervals.{held, interval, top, within}
-use Rattle.hb_space.specs.Boxes.{side_below, whole_area}
-use Rattle.hb_store.specs.Calls.{IsReady}
 use Rattle.std.proofs.lemmas.List.Elements.{All-from_recursion}
 use Rattle.hb_lemmas.proofs.Lists.{only_one}
 
@@ -39,17 +36,11 @@ use Rattle.hb_lemmas.proofs.Lists.{only_one}
 abbrev job_taken : Scene
 job_taken = after 17 (takes (at.PosterWalk job None)) [] beside_before
 
-abbrev arrives : Deed
-arrives = moves_to (at.PosterChild job 3) []
-
 abbrev at_root : Scene
 at_root = after 17 arrives [] job_taken
 
 abbrev line_taken : Scene
 line_taken = after 1 (taking seeks_twenty) [] at_root
-
-abbrev looks : Deed
-looks = moves_to (at.PosterPromote job 3) []
 
 abbrev to_promote : Scene
 to_promote = after 17 looks [] line_taken
@@ -66,17 +57,11 @@ steps_down = moves_to (at.SessionWalk seeks_twenty (Some 1) [] []) (posts_at 20 
 abbrev is_below : Scene
 is_below = after 1 steps_down (posts_at 20 ∷ []) both_at_root
 
-abbrev promotes : Deed
-promotes = moves_to (at.PosterAgain job 3) []
-
 abbrev is_promoted : Scene
 is_promoted = after 17 promotes (posts_at 20 ∷ []) is_below
 
 abbrev other_taken : Scene
 other_taken = after 2 (taking deletes_twenty) (posts_at 20 ∷ []) is_promoted
-
-abbrev posts : Deed
-posts = does at.PosterIdle (ops.Post 3 [] 2 (side_below (whole_area 1) 0 40)) (job ∷ [])
 
 abbrev two_jobs : List Job
 two_jobs = posts_at 20 ∷ posts_at 10 ∷ []
@@ -146,16 +131,6 @@ twenty_absent = record {
 takes_to_walk : TakesJob (machine_of beside_before) (takes (at.PosterWalk job None))
 takes_to_walk = record { job = job; kind = refl; next = at.PosterWalk job None; posting = inr (inr (omega arith, refl)); deed_is = refl }
 
-arrive_row : Row (standing job_taken.at_work 17) (wanted_in job_taken 17) (machine_of job_taken) arrives
-arrive_row = (bare_root, at_hand job_taken (standing job_taken.at_work 17) _ bare_root _ refl refl refl refl, inl (record { level = refl; child = 1; area = _; leaf = refl; deed_is = refl }))
-
-look_row : Row (standing line_taken.at_work 17) (wanted_in line_taken 17) (machine_of line_taken) looks
-look_row = (
-  split_page,
-  at_hand line_taken (standing line_taken.at_work 17) _ split_page _ refl refl (ap (λ (o : Option LivePage). box_at o (Some (10 ∷ []))) (live_is line_taken 3)) (within 0 top 0 top (omega arith) (omega arith)),
-  record { page = bare_root; live = live_is line_taken 3; plan = plans.Post [] 2 (side_below (whole_area 1) 0 40); planned = owes_two; deed_is = refl },
-)
-
 share_row : Row (standing to_promote.at_work 1) (wanted_in to_promote 1) (machine_of to_promote) shares
 share_row = (bare_root, at_hand to_promote (standing to_promote.at_work 1) _ bare_root _ refl refl refl refl, inl (record { leaf = _; area = _; at_point = refl; names = tt; deed_is = refl }))
 
@@ -164,16 +139,6 @@ down_row = (
   split_page,
   at_hand both_at_root (standing both_at_root.at_work 1) _ split_page _ refl refl (ap (λ (o : Option LivePage). box_at o (Some (20 ∷ []))) (live_is both_at_root 3)) (within 0 top 0 top (omega arith) (omega arith)),
   inl (record { leaf = _; area = _; at_point = refl; names = tt; deed_is = refl }),
-)
-
-promote_row : Row (standing is_below.at_work 17) (wanted_in is_below 17) (machine_of is_below) promotes
-promote_row = (bare_root, at_hand is_below (standing is_below.at_work 17) _ bare_root _ refl refl refl tt, refl)
-
-again_row : Row (standing other_taken.at_work 17) (wanted_in other_taken 17) (machine_of other_taken) posts
-again_row = (
-  split_page,
-  at_hand other_taken (standing other_taken.at_work 17) _ split_page _ refl refl (ap (λ (o : Option LivePage). box_at o (Some (10 ∷ []))) (live_is other_taken 3)) (within 0 top 0 top (omega arith) (omega arith)),
-  record { page = bare_root; live = live_is other_taken 3; plan = plans.Post [] 2 (side_below (whole_area 1) 0 40); planned = owes_two; does_it = refl },
 )
 
 root_row : Row (standing is_posted.at_work 2) (wanted_in is_posted 2) (machine_of is_posted) passes_root
@@ -193,21 +158,10 @@ miss_row = (
   inr (inr (record { absent = twenty_absent; deed_is = refl })),
 )
 
--- ---- the log is ready, and the jobs differ
+-- ---- the jobs differ
 
 other_waits : ¬ (Contains (posts_at 20 ∷ []) (posts_at 10))
 other_waits has = let same : 20 ≡ 10 = ap (λ (one : Job). slice_index one.point 0) (only_one (posts_at 20) (posts_at 10) has) in omega (arith, same)
-
-ready_to_post : IsReady (store_of other_taken)
-ready_to_post = (omega arith, omega arith)
-
-ready_to_walk : IsReady (store_of is_posted)
-unfolding big_endian
-ready_to_walk = (omega arith, omega arith)
-
-ready_to_delete : IsReady (store_of root_passed)
-unfolding big_endian
-ready_to_delete = (omega arith, omega arith)
 
 -- ---- the steps
 
@@ -218,13 +172,13 @@ sessions_beside_poster = (
   inr (takes (at.PosterWalk job None), takes_to_walk, performed beside_before 17 (takes (at.PosterWalk job None)) [] (it_leaves _) tt),
   (
     machine_of at_root,
-    works job_taken 17 arrives [] refl (only_looks job_taken 17 refl) arrive_row (queued refl refl) tt,
+    works job_taken 17 arrives [] refl (only_looks job_taken 17 refl) (arrive_row job_taken refl refl) (queued refl refl) tt,
     (
       machine_of line_taken,
       inl (performed at_root 1 (taking seeks_twenty) [] (queued refl refl) tt),
       (
         machine_of to_promote,
-        works line_taken 17 looks [] refl (only_looks line_taken 17 refl) look_row (queued refl refl) tt,
+        works line_taken 17 looks [] refl (only_looks line_taken 17 refl) (look_row line_taken refl refl refl) (queued refl refl) tt,
         (
           machine_of both_at_root,
           works to_promote 1 shares [] refl (only_looks to_promote 1 refl) share_row (queued refl refl) tt,
@@ -236,7 +190,7 @@ sessions_beside_poster = (
               works both_at_root 1 steps_down (posts_at 20 ∷ []) refl (only_looks both_at_root 1 refl) down_row (queued refl (one_joins (posts_at 20) [] (none_waits (posts_at 20)) (omega arith))) tt,
               (
                 machine_of is_promoted,
-                works is_below 17 promotes (posts_at 20 ∷ []) refl (only_looks is_below 17 refl) promote_row (queued refl refl) tt,
+                works is_below 17 promotes (posts_at 20 ∷ []) refl (only_looks is_below 17 refl) (promote_row is_below refl refl) (queued refl refl) tt,
                 (
                   machine_of other_taken,
                   inl (performed is_promoted 2 (taking deletes_twenty) (posts_at 20 ∷ []) (queued refl refl) tt),
@@ -245,13 +199,13 @@ sessions_beside_poster = (
                     blocked other_taken 2 17 Exclusive _ refl (omega arith) refl refl refl,
                     (
                       machine_of is_posted,
-                      works other_taken 17 posts two_jobs refl (has_room other_taken 17 ready_to_post) again_row (queued refl (one_joins (posts_at 10) (posts_at 20 ∷ []) other_waits (omega arith))) (record { allowed = post_fits; log = refl }),
+                      works other_taken 17 posts two_jobs refl (has_room other_taken 17 (omega arith, omega arith)) (again_row other_taken refl refl refl) (queued refl (one_joins (posts_at 10) (posts_at 20 ∷ []) other_waits (omega arith))) (record { allowed = post_fits; log = refl }),
                       (
                         machine_of root_passed,
-                        works is_posted 2 passes_root two_jobs refl (has_room is_posted 2 ready_to_walk) root_row (queued refl refl) tt,
+                        works is_posted 2 passes_root two_jobs refl (has_room is_posted 2 (omega arith, omega arith)) root_row (queued refl refl) tt,
                         (
                           machine_of is_deleted,
-                          works root_passed 2 deletes two_jobs refl (has_room root_passed 2 ready_to_delete) delete_row (queued refl refl) (record { allowed = del_fits; log = refl }),
+                          works root_passed 2 deletes two_jobs refl (has_room root_passed 2 (omega arith, omega arith)) delete_row (queued refl refl) (record { allowed = del_fits; log = refl }),
                           (
                             machine_of is_missed,
                             works is_deleted 1 misses two_jobs refl (only_looks is_deleted 1 refl) miss_row (queued refl refl) tt,

@@ -13,13 +13,12 @@ use Rattle.hb_core.specs.ChainOfCommands.{CommandsOfOne, asked_area, commands_be
 use Rattle.hb_core.specs.ChainOfPosting.{split_page}
 use Rattle.hb_core.specs.ChainOfTwo.{lettered, lower_half, lower_three, posts_at}
 use Rattle.hb_core.specs.Rows.{Row}
-use Rattle.hb_core.specs.Scenes.{Scene, machine_of, standing, store_of}
+use Rattle.hb_core.specs.Scenes.{Scene, machine_of, standing}
 use Rattle.hb_frag.specs.Rules.{Precedes}
 use Rattle.hb_ops.specs.Standing.{StandsNot}
 use Rattle.hb_point.specs.SessionRows.{taking}
 use Rattle.hb_frag.proofs.Facts.RisingRecords.{rising}
 use Rattle.hb_space.specs.Boxes.{Area}
-use Rattle.hb_store.specs.Calls.{IsReady}
 use Rattle.std.proofs.lemmas.List.Elements.{All-from_recursion}
 
 -- ---- the scenes, one after the other
@@ -121,19 +120,13 @@ gather_all_row = (
 
 -- ---- the steps
 
-ready_first : IsReady (store_of first_taken)
-ready_first = (omega arith, omega arith)
-
-ready_second : IsReady (store_of second_taken)
-ready_second = (omega arith, omega arith)
-
 pub commands_of_one : CommandsOfOne
 commands_of_one = (
   machine_of first_taken,
   inl (performed commands_before 1 (taking inserts_fifty) [] (queued refl refl) tt),
   (
     machine_of first_done,
-    works first_taken 1 finds_twin [] refl (has_room first_taken 1 ready_first) twin_row (queued refl refl) tt,
+    works first_taken 1 finds_twin [] refl (has_room first_taken 1 (omega arith, omega arith)) twin_row (queued refl refl) tt,
     (
       machine_of first_answered,
       inl (omega arith, performed first_done 1 (answers_now 1 replies.Duplicate) [] (queued refl refl) tt),
@@ -142,7 +135,7 @@ commands_of_one = (
         inl (performed first_answered 1 (taking deletes_none) [] (queued refl refl) tt),
         (
           machine_of second_done,
-          works second_taken 1 finds_nothing [] refl (has_room second_taken 1 ready_second) nothing_row (queued refl refl) tt,
+          works second_taken 1 finds_nothing [] refl (has_room second_taken 1 (omega arith, omega arith)) nothing_row (queued refl refl) tt,
           (
             machine_of second_answered,
             inl (omega arith, performed second_done 1 (answers_now 2 replies.Absent) [] (queued refl refl) tt),

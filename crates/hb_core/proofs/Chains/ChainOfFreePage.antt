@@ -1,25 +1,25 @@
 -- A split that takes the number of a free page, and one for which none is left: each step of the chains.
+use Rattle.hb_point.specs.Examples.{at_forty}
 use Rattle.std.proofs.Common.{inl, inr, ℕ, List, [], ◌∷◌, refl, ap, arith}
 use Rattle.hb_frag.specs.declared.pages.Page.{Page}
 use Rattle.hb_frag.specs.declared.pages.Page.TheVariants.{Free}
 use Rattle.hb_set.specs.declared.commands.Reply.TheVariants as replies
 use Rattle.hb_core.specs.declared.outcomes.Outcome.TheVariants.{Moved}
 use Rattle.hb_activity.specs.Deeds.{Deed, answers_now}
-use Rattle.hb_core.proofs.Chains.BuiltSteps.{MayCome, MayNeedIn, after, at_hand, bringing, forced_scene, forces, has_room, live_is, memory_is, none_waits, one_joins, performed, wanted_in, works, works_bringing, queued}
-use Rattle.hb_core.proofs.Chains.ChainOfTwoParts.{chosen_at_forty, cut_at_forty, full_fits, put_fits, seventy_absent, seventy_held, six}
+use Rattle.hb_core.proofs.Chains.BuiltSteps.{MayCome, MayNeedIn, after, bringing, forced_scene, forces, has_room, memory_is, none_waits, one_joins, performed, wanted_in, works, works_bringing, queued}
+use Rattle.hb_core.proofs.Chains.ChainOfTwoParts.{full_fits, put_fits, six}
 use Rattle.hb_core.specs.ChainOfFreePage.{FreePageIsTaken, NoPageIsFree, free_before, none_free_before, tight_meta}
 use Rattle.hb_core.specs.ChainOfTwo.{full_page, inserts_seventy, lettered, posts_at, upper_half, upper_three}
 use Rattle.hb_core.specs.Machines.{next_of_chain}
 use Rattle.hb_core.specs.Rows.{Row}
-use Rattle.hb_core.specs.Scenes.{Scene, machine_of, standing, store_of}
+use Rattle.hb_core.specs.Scenes.{Scene, machine_of, standing}
 use Rattle.hb_frag.specs.Grammar.{HasSpelling}
 use Rattle.hb_ops.specs.Extracting.{FitsExtract}
 use Rattle.hb_ops.specs.Recording.{FitsPut}
 use Rattle.hb_lemmas.specs.Numbers.{big_endian}
 use Rattle.hb_point.specs.SessionRows.{taking}
 use Rattle.hb_space.proofs.Facts.Intervals.{cuts, top}
-use Rattle.hb_store.specs.Calls.{IsReady}
-use Rattle.hb_core.proofs.Chains.ChainOfTwo.{finds_no_room, puts, splits}
+use Rattle.hb_core.proofs.Chains.SplitRows.{finds_no_room, no_room_row, put_row, puts, split_row, splits}
 
 -- ---- the scenes, one after the other
 
@@ -53,9 +53,6 @@ is_answered = after 1 (answers_now 1 replies.Done) (posts_at 0 ∷ []) twice_for
 
 -- ---- the rows
 
-no_room_row : Row (standing is_taken.at_work 1) (wanted_in is_taken 1) (machine_of is_taken) finds_no_room
-no_room_row = (full_page, at_hand is_taken (standing is_taken.at_work 1) _ full_page _ refl refl refl refl, inr (inr (inr (record { level = refl; absent = seventy_absent; full = omega arith; deed_is = refl }))))
-
 free_spelled : HasSpelling (Free 0)
 unfolding big_endian
 free_spelled = record { fits = omega arith; short = omega arith }
@@ -63,25 +60,7 @@ free_spelled = record { fits = omega arith; short = omega arith }
 free_comes : MayCome to_split (MayNeedIn to_split 1 splits.op) (2, Free 0)
 free_comes = record { needed = inr (refl, (refl, λ e. absurd (omega (arith, e)))); from_1 = omega arith; to_high = omega arith; good = free_spelled; told = refl }
 
-split_row : Row (standing to_split.at_work 1) (wanted_in to_split 1) (machine_of with_free) splits
-split_row = inr (record {
-  page = full_page;
-  live = live_is with_free 1;
-  leaves = record {
-    path = [];
-    cuts = cut_at_forty ∷ [];
-    chosen = chosen_at_forty;
-    part = (full_page.frag, full_page.area);
-    there = refl;
-    fresh = 2;
-    free_after = 0;
-    free = omega arith;
-    next = ap (next_of_chain 2) (memory_is with_free 2);
-  };
-  deed_is = refl;
-})
-
-split_fits : FitsExtract (tight_meta 2 1 2) full_page 2 [] (cut_at_forty ∷ []) 0
+split_fits : FitsExtract (tight_meta 2 1 2) full_page 2 [] (at_forty ∷ []) 0
 split_fits = record {
   allocates = record { room = omega arith; from_chain = λ some. (refl, omega arith); from_behind = λ none. absurd (omega (arith, none)) };
   made = full_fits;
@@ -94,23 +73,10 @@ split_fits = record {
   };
 }
 
-put_row : Row (standing is_split.at_work 1) (wanted_in is_split 1) (machine_of is_split) puts
-put_row = record { rec = lettered 70 103; command = refl; half = 1; either = inl refl; page = upper_half upper_three; live = live_is is_split 1; holds = seventy_held; deed_is = refl }
-
 put_fits_here : FitsPut (tight_meta 2 2 0) (upper_half upper_three) (lettered 70 103)
 put_fits_here = record { made = put_fits.made; level = refl; absent = put_fits.absent; room = put_fits.room }
 
 -- ---- the steps
-
-ready_first : IsReady (store_of is_taken)
-ready_first = (omega arith, omega arith)
-
-ready_to_split : IsReady (store_of to_split)
-ready_to_split = (omega arith, omega arith)
-
-ready_to_put : IsReady (store_of is_split)
-unfolding big_endian
-ready_to_put = (omega arith, omega arith)
 
 pub free_page_is_taken : FreePageIsTaken
 unfolding big_endian
@@ -119,14 +85,14 @@ free_page_is_taken = (
   inl (performed free_before 1 (taking inserts_seventy) [] (queued refl refl) tt),
   (
     machine_of to_split,
-    works is_taken 1 finds_no_room [] refl (has_room is_taken 1 ready_first) no_room_row (queued refl refl) tt,
+    works is_taken 1 finds_no_room [] refl (has_room is_taken 1 (omega arith, omega arith)) (no_room_row is_taken refl refl refl) (queued refl refl) tt,
     (
       machine_of is_split,
-      works_bringing page_2 to_split 1 splits (posts_at 0 ∷ []) (free_comes, tt) tt (has_room to_split 1 ready_to_split) split_row
+      works_bringing page_2 to_split 1 splits (posts_at 0 ∷ []) (free_comes, tt) tt (has_room to_split 1 (omega arith, omega arith)) (split_row with_free refl (omega arith) (ap (next_of_chain 2) (memory_is with_free 2)))
           (queued refl (one_joins (posts_at 0) [] (none_waits (posts_at 0)) (omega arith))) (record { allowed = split_fits; log = refl }),
       (
         machine_of is_put,
-        works is_split 1 puts (posts_at 0 ∷ []) tt (has_room is_split 1 ready_to_put) put_row (queued refl refl) (record { allowed = put_fits_here; log = refl }),
+        works is_split 1 puts (posts_at 0 ∷ []) tt (has_room is_split 1 (omega arith, omega arith)) (put_row is_split refl refl) (queued refl refl) (record { allowed = put_fits_here; log = refl }),
         (
           machine_of once_forced,
           inr (omega arith, forces is_put Moved),
@@ -159,17 +125,8 @@ gives_up = answers_now 1 replies.Full
 abbrev none_answered : Scene
 none_answered = after 1 gives_up [] none_to_split
 
-full_row : Row (standing none_taken.at_work 1) (wanted_in none_taken 1) (machine_of none_taken) finds_no_room
-full_row = (full_page, at_hand none_taken (standing none_taken.at_work 1) _ full_page _ refl refl refl refl, inr (inr (inr (record { level = refl; absent = seventy_absent; full = omega arith; deed_is = refl }))))
-
 none_row : Row (standing none_to_split.at_work 1) (wanted_in none_to_split 1) (machine_of none_to_split) gives_up
 none_row = inl (record { none_free = refl; deed_is = refl })
-
-ready_full : IsReady (store_of none_taken)
-ready_full = (omega arith, omega arith)
-
-ready_none : IsReady (store_of none_to_split)
-ready_none = (omega arith, omega arith)
 
 pub no_page_is_free : NoPageIsFree
 no_page_is_free = (
@@ -177,10 +134,10 @@ no_page_is_free = (
   inl (performed none_free_before 1 (taking inserts_seventy) [] (queued refl refl) tt),
   (
     machine_of none_to_split,
-    works none_taken 1 finds_no_room [] refl (has_room none_taken 1 ready_full) full_row (queued refl refl) tt,
+    works none_taken 1 finds_no_room [] refl (has_room none_taken 1 (omega arith, omega arith)) (no_room_row none_taken refl refl refl) (queued refl refl) tt,
     (
       machine_of none_answered,
-      works none_to_split 1 gives_up [] tt (has_room none_to_split 1 ready_none) none_row (queued refl refl) tt,
+      works none_to_split 1 gives_up [] tt (has_room none_to_split 1 (omega arith, omega arith)) none_row (queued refl refl) tt,
       refl,
     ),
   ),

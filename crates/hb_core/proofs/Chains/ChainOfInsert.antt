@@ -10,7 +10,7 @@ use Rattle.hb_activity.specs.Deeds.{Deed, answers_now, takes_effect}
 use Rattle.hb_core.proofs.Chains.BuiltSteps.{MayCome, MayNeedIn, after, at_hand, bringing, forced_scene, forces, has_room, performed, wanted_in, works_bringing, queued}
 use Rattle.hb_core.specs.OneInsert.{OneInsert, before_insert, flat_meta, inserts_a, letter_a, page_of_records}
 use Rattle.hb_core.specs.Rows.{Row}
-use Rattle.hb_core.specs.Scenes.{Scene, machine_of, standing, store_of}
+use Rattle.hb_core.specs.Scenes.{Scene, machine_of, standing}
 use Rattle.hb_frag.specs.Grammar.{FitsRecord, HasSpelling}
 use Rattle.hb_frag.specs.Leaves.{leaves, leaves_of}
 use Rattle.hb_frag.specs.Rules.{BelongsAt, IsInOrder}
@@ -21,7 +21,6 @@ use Rattle.hb_point.specs.SessionRows.{taking}
 use Rattle.hb_sound.proofs.ExampleParts.{in_order}
 use Rattle.hb_space.specs.Boxes.{whole_area}
 use Rattle.hb_space.specs.Points.{IsPoint}
-use Rattle.hb_store.specs.Calls.{IsReady}
 use Rattle.std.proofs.lemmas.List.Elements.{All-from_recursion}
 
 -- the empty page is well made
@@ -78,9 +77,6 @@ is_forced = forced_scene put
 abbrev answered : Scene
 answered = after 1 (answers_now 1 replies.Done) [] is_forced
 
-ready : IsReady (store_of taken)
-ready = (omega arith, omega arith)
-
 put_fits : FitsPut flat_meta (page_of_records []) letter_a
 put_fits = record { made = empty_fits; level = refl; absent = record { records = []; area = _; leaf = refl; keeps = All-from_recursion (λ (r : Record). r.key ≢ letter_a.key) [] tt }; room = omega arith }
 
@@ -102,7 +98,7 @@ one_insert = (
   inl (performed before_insert 1 (taking inserts_a) [] (queued refl refl) tt),
   (
     machine_of put,
-    works_bringing page_1 taken 1 puts [] (page_comes, tt) refl (has_room taken 1 ready) put_row (queued refl refl) (record { allowed = put_fits; log = refl }),
+    works_bringing page_1 taken 1 puts [] (page_comes, tt) refl (has_room taken 1 (omega arith, omega arith)) put_row (queued refl refl) (record { allowed = put_fits; log = refl }),
     (
       machine_of is_forced,
       inr (omega arith, forces put Moved),

@@ -1,5 +1,10 @@
 -- The poster gives the file a level and posts: each step of the chain.
-use Rattle.std.proofs.Common.{◌≢◌, inl, inr, zero, suc, [], ◌∷◌, Option, Some, None, IsSomeAnd, refl, sym, ap, subst, arith}
+use Rattle.hb_layout.specs.declared.meta.Meta.{Meta}
+use Rattle.hb_latch.specs.declared.modes.Mode.TheVariants.{Exclusive, Shared, Update}
+use Rattle.hb_activity.specs.Wanting.{wanted_page}
+use Rattle.hb_terms.specs.declared.plans.PostPlan.{PostPlan}
+use Rattle.hb_core.specs.Machines.{live_here}
+use Rattle.std.proofs.Common.{◌≡◌, ◌≢◌, ◌∙◌, inl, inr, zero, suc, [], ◌∷◌, Option, Some, None, IsSomeAnd, refl, sym, ap, subst, arith}
 use Rattle.hb_frag.specs.declared.pages.LivePage.{LivePage}
 use Rattle.hb_frag.specs.declared.leaves.Leaf.{Leaf}
 use Rattle.hb_frag.specs.declared.leaves.Leaf.TheVariants.{Records, Child, Sibling}
@@ -11,12 +16,12 @@ use Rattle.hb_activity.specs.declared.activities.Activity.{Activity}
 use Rattle.hb_activity.specs.declared.activities.Activity.TheVariants as at
 use Rattle.hb_activity.specs.Deeds.{Deed, does, moves_to, takes_job}
 use Rattle.hb_activity.specs.Queue.{LeavesFirst}
-use Rattle.hb_core.proofs.Chains.BuiltSteps.{after, at_hand, has_room, live_is, none_waits, one_joins, only_looks, performed, wanted_in, works, queued}
-use Rattle.hb_core.specs.Asking.{box_at}
+use Rattle.hb_core.proofs.Chains.BuiltSteps.{after, at_hand, has_room, live_in, live_is, none_waits, one_joins, only_looks, performed, wanted_in, works, queued}
+use Rattle.hb_core.specs.Asking.{asked_box, box_at}
 use Rattle.hb_core.specs.ChainOfPosting.{OnePosting, bare_root, posted_root, posting_before, raised_meta, split_page}
 use Rattle.hb_core.specs.ChainOfTwo.{lower_half, posts_at}
 use Rattle.hb_core.specs.Performing.{ChangesQueue}
-use Rattle.hb_core.specs.Rows.{Row}
+use Rattle.hb_core.specs.Rows.{IsAtHand, Row}
 use Rattle.hb_core.specs.Scenes.{Scene, machine_of, standing, store_of}
 use Rattle.hb_core.specs.Steps.{TakesJob}
 use Rattle.hb_frag.specs.Leaves.{Placed, leaves, leaves_of, siblings_of}
@@ -29,7 +34,6 @@ use Rattle.hb_poster.specs.PosterRows.{ends_job}
 use Rattle.hb_sound.proofs.ExampleParts.{no_records}
 use Rattle.hb_space.proofs.Facts.Intervals.{interval, top, within}
 use Rattle.hb_space.specs.Boxes.{Meets, side_below, whole_area}
-use Rattle.hb_store.specs.Calls.{IsReady}
 use Rattle.hb_terms.specs.Plans.{IsPlan}
 use Rattle.std.proofs.lemmas.List.Elements.{All-from_recursion}
 
@@ -53,25 +57,25 @@ is_grown = after 17 grows (job ∷ []) is_taken
 abbrev taken_again : Scene
 taken_again = after 17 (takes (at.PosterWalk job None)) [] is_grown
 
-abbrev arrives : Deed
+abbrev pub arrives : Deed
 arrives = moves_to (at.PosterChild job 3) []
 
 abbrev at_child : Scene
 at_child = after 17 arrives [] taken_again
 
-abbrev looks : Deed
+abbrev pub looks : Deed
 looks = moves_to (at.PosterPromote job 3) []
 
 abbrev to_promote : Scene
 to_promote = after 17 looks [] at_child
 
-abbrev promotes : Deed
+abbrev pub promotes : Deed
 promotes = moves_to (at.PosterAgain job 3) []
 
 abbrev is_promoted : Scene
 is_promoted = after 17 promotes [] to_promote
 
-abbrev posts : Deed
+abbrev pub posts : Deed
 posts = does at.PosterIdle (ops.Post 3 [] 2 (side_below (whole_area 1) 0 40)) (job ∷ [])
 
 abbrev is_posted : Scene
@@ -80,17 +84,11 @@ is_posted = after 17 posts (job ∷ []) is_promoted
 abbrev taken_last : Scene
 taken_last = after 17 (takes (at.PosterWalk job None)) [] is_posted
 
-abbrev arrives_last : Deed
-arrives_last = moves_to (at.PosterChild job 3) []
-
 abbrev at_last : Scene
-at_last = after 17 arrives_last [] taken_last
-
-abbrev ends : Deed
-ends = ends_job
+at_last = after 17 arrives [] taken_last
 
 abbrev is_ended : Scene
-is_ended = after 17 ends [] at_last
+is_ended = after 17 ends_job [] at_last
 
 -- ---- what the operations ask for
 
@@ -147,31 +145,40 @@ grow_row = (
   }),
 )
 
-arrive_row : Row (standing taken_again.at_work 17) (wanted_in taken_again 17) (machine_of taken_again) arrives
-arrive_row = (bare_root, at_hand taken_again (standing taken_again.at_work 17) _ bare_root _ refl refl refl refl, inl (record { level = refl; child = 1; area = _; leaf = refl; deed_is = refl }))
-
 -- the root owes page 2 a leaf
-pub owes_two : IsPlan bare_root split_page (10 ∷ []) 32 (plans.Post [] 2 (side_below (whole_area 1) 0 40))
+abbrev posting : PostPlan
+posting = plans.Post [] 2 (side_below (whole_area 1) 0 40)
+
+owes_two : IsPlan bare_root split_page (10 ∷ []) 32 posting
 owes_two = record { outer = 1; leaf = whole_area 1; owed = record { above = refl; below = refl; other = λ e. absurd (omega (arith, e)) }; way = refl; room = omega arith }
 
-look_row : Row (standing at_child.at_work 17) (wanted_in at_child 17) (machine_of at_child) looks
-look_row = (
-  split_page,
-  at_hand at_child (standing at_child.at_work 17) _ split_page _ refl refl (ap (λ (o : Option LivePage). box_at o (Some (10 ∷ []))) (live_is at_child 3)) (within 0 top 0 top (omega arith) (omega arith)),
-  record { page = bare_root; live = live_is at_child 3; plan = plans.Post [] 2 (side_below (whole_area 1) 0 40); planned = owes_two; deed_is = refl },
-)
+-- The poster's way at a root that names page 1 alone: it comes there, looks at page 1, gets the root for itself, and looks again.
+module _ (s : Scene) (meta : s.meta ≡ raised_meta) (root : live_in s 3 ≡ Some bare_root) where
+  pub arrive_row : Row (at.PosterWalk job None) (Some (wanted_page 3 1 Update)) (machine_of s) arrives
+  arrive_row = (
+    bare_root,
+    record { live = live_is s 3 ∙ root; level = refl; box = ap (λ (m : Meta). whole_area m.k) (sym meta) },
+    inl (record { level = refl; child = 1; area = _; leaf = refl; deed_is = refl }),
+  )
 
-promote_row : Row (standing to_promote.at_work 17) (wanted_in to_promote 17) (machine_of to_promote) promotes
-promote_row = (bare_root, at_hand to_promote (standing to_promote.at_work 17) _ bare_root _ refl refl refl tt, refl)
+  pub promote_row : Row (at.PosterPromote job 3) (Some (wanted_page 3 1 Exclusive)) (machine_of s) promotes
+  promote_row = (bare_root, record { live = live_is s 3 ∙ root; level = refl; box = tt }, refl)
 
-again_row : Row (standing is_promoted.at_work 17) (wanted_in is_promoted 17) (machine_of is_promoted) posts
-again_row = (
-  split_page,
-  at_hand is_promoted (standing is_promoted.at_work 17) _ split_page _ refl refl (ap (λ (o : Option LivePage). box_at o (Some (10 ∷ []))) (live_is is_promoted 3)) (within 0 top 0 top (omega arith) (omega arith)),
-  record { page = bare_root; live = live_is is_promoted 3; plan = plans.Post [] 2 (side_below (whole_area 1) 0 40); planned = owes_two; does_it = refl },
-)
+  owes_here : IsPlan bare_root split_page (10 ∷ []) s.meta.icap posting
+  owes_here = subst (λ (m : Meta). IsPlan bare_root split_page (10 ∷ []) m.icap posting) (sym meta) owes_two
 
-arrive_last_row : Row (standing taken_last.at_work 17) (wanted_in taken_last 17) (machine_of taken_last) arrives_last
+  module _ (child : live_in s 1 ≡ Some split_page) where
+    child_at_hand : (activity : Activity) → asked_box activity (store_of s) ≡ box_at (live_here (store_of s) 3) (Some (10 ∷ [])) → IsAtHand (machine_of s) activity (wanted_page 1 0 Shared) split_page
+    child_at_hand activity asks =
+        at_hand s activity (wanted_page 1 0 Shared) split_page _ child refl (asks ∙ ap (λ (o : Option LivePage). box_at o (Some (10 ∷ []))) (live_is s 3 ∙ root)) (within 0 top 0 top (omega arith) (omega arith))
+
+    pub look_row : Row (at.PosterChild job 3) (Some (wanted_page 1 0 Shared)) (machine_of s) looks
+    look_row = (split_page, child_at_hand (at.PosterChild job 3) refl, record { page = bare_root; live = live_is s 3 ∙ root; plan = posting; planned = owes_here; deed_is = refl })
+
+    pub again_row : Row (at.PosterAgain job 3) (Some (wanted_page 1 0 Shared)) (machine_of s) posts
+    again_row = (split_page, child_at_hand (at.PosterAgain job 3) refl, record { page = bare_root; live = live_is s 3 ∙ root; plan = posting; planned = owes_here; does_it = refl })
+
+arrive_last_row : Row (standing taken_last.at_work 17) (wanted_in taken_last 17) (machine_of taken_last) arrives
 arrive_last_row = (posted_root, at_hand taken_last (standing taken_last.at_work 17) _ posted_root _ refl refl refl refl, inl (record { level = refl; child = 2; area = _; leaf = refl; deed_is = refl }))
 
 abbrev IsSiblingLeaf : Leaf → Type 0
@@ -182,21 +189,12 @@ IsSiblingLeaf (Sibling page) = Unit {0}
 owes_none : IsPlan posted_root lower_half (10 ∷ []) 32 plans.Nothing
 owes_none outer inner leaf area owed = subst (λ (o : Option Placed). IsSomeAnd o (λ placed. IsSiblingLeaf placed.leaf)) (sym owed.below) tt
 
-end_row : Row (standing at_last.at_work 17) (wanted_in at_last 17) (machine_of at_last) ends
+end_row : Row (standing at_last.at_work 17) (wanted_in at_last 17) (machine_of at_last) ends_job
 end_row = (
   lower_half,
   at_hand at_last (standing at_last.at_work 17) _ lower_half _ refl refl (ap (λ (o : Option LivePage). box_at o (Some (10 ∷ []))) (live_is at_last 3)) (within 0 39 0 39 (omega arith) (omega arith)),
   record { page = posted_root; live = live_is at_last 3; plan = plans.Nothing; planned = owes_none; deed_is = refl },
 )
-
--- ---- the log is ready
-
-ready_to_grow : IsReady (store_of is_taken)
-ready_to_grow = (omega arith, omega arith)
-
-ready_to_post : IsReady (store_of is_promoted)
-unfolding big_endian
-ready_to_post = (omega arith, omega arith)
 
 pub one_posting : OnePosting
 unfolding big_endian
@@ -205,31 +203,31 @@ one_posting = (
   inr (takes (at.PosterGrow job), takes_to_grow, performed posting_before 17 (takes (at.PosterGrow job)) [] (it_leaves _) tt),
   (
     machine_of is_grown,
-    works is_taken 17 grows (job ∷ []) refl (has_room is_taken 17 ready_to_grow) grow_row (queued refl (one_joins job [] (none_waits job) (omega arith))) (record { allowed = grow_fits; log = refl }),
+    works is_taken 17 grows (job ∷ []) refl (has_room is_taken 17 (omega arith, omega arith)) grow_row (queued refl (one_joins job [] (none_waits job) (omega arith))) (record { allowed = grow_fits; log = refl }),
     (
       machine_of taken_again,
       inr (takes (at.PosterWalk job None), takes_to_walk, performed is_grown 17 (takes (at.PosterWalk job None)) [] (it_leaves _) tt),
       (
         machine_of at_child,
-        works taken_again 17 arrives [] refl (only_looks taken_again 17 refl) arrive_row (queued refl refl) tt,
+        works taken_again 17 arrives [] refl (only_looks taken_again 17 refl) (arrive_row taken_again refl refl) (queued refl refl) tt,
         (
           machine_of to_promote,
-          works at_child 17 looks [] refl (only_looks at_child 17 refl) look_row (queued refl refl) tt,
+          works at_child 17 looks [] refl (only_looks at_child 17 refl) (look_row at_child refl refl refl) (queued refl refl) tt,
           (
             machine_of is_promoted,
-            works to_promote 17 promotes [] refl (only_looks to_promote 17 refl) promote_row (queued refl refl) tt,
+            works to_promote 17 promotes [] refl (only_looks to_promote 17 refl) (promote_row to_promote refl refl) (queued refl refl) tt,
             (
               machine_of is_posted,
-              works is_promoted 17 posts (job ∷ []) refl (has_room is_promoted 17 ready_to_post) again_row (queued refl (one_joins job [] (none_waits job) (omega arith))) (record { allowed = post_fits; log = refl }),
+              works is_promoted 17 posts (job ∷ []) refl (has_room is_promoted 17 (omega arith, omega arith)) (again_row is_promoted refl refl refl) (queued refl (one_joins job [] (none_waits job) (omega arith))) (record { allowed = post_fits; log = refl }),
               (
                 machine_of taken_last,
                 inr (takes (at.PosterWalk job None), takes_to_walk_last, performed is_posted 17 (takes (at.PosterWalk job None)) [] (it_leaves _) tt),
                 (
                   machine_of at_last,
-                  works taken_last 17 arrives_last [] refl (only_looks taken_last 17 refl) arrive_last_row (queued refl refl) tt,
+                  works taken_last 17 arrives [] refl (only_looks taken_last 17 refl) arrive_last_row (queued refl refl) tt,
                   (
                     machine_of is_ended,
-                    works at_last 17 ends [] refl (only_looks at_last 17 refl) end_row (queued refl refl) tt,
+                    works at_last 17 ends_job [] refl (only_looks at_last 17 refl) end_row (queued refl refl) tt,
                     (machine_of is_ended, inl (All-from_recursion (λ (one : Job). one.kind ≢ Post) [] tt, (refl, refl)), refl),
                   ),
                 ),

@@ -22,14 +22,13 @@ use Rattle.hb_core.specs.ChainOfMerging.{valued}
 use Rattle.hb_core.specs.ChainOfThreePages.{FullGoesOn, deletes_110, five_high, full_high, high_page, inserts_120, middle_page, postings_owed, three_before}
 use Rattle.hb_core.specs.ChainOfTwo.{posts_at}
 use Rattle.hb_core.specs.Rows.{Row}
-use Rattle.hb_core.specs.Scenes.{Scene, machine_of, standing, store_of}
+use Rattle.hb_core.specs.Scenes.{Scene, machine_of, standing}
 use Rattle.hb_core.specs.declared.outcomes.Outcome.TheVariants.{Moved}
 use Rattle.hb_core.proofs.Chains.BuiltSteps.{after, at_hand, forced_scene, forces, has_room, live_is, one_joins, performed, queued, wanted_in, works}
 use Rattle.hb_core.proofs.Chains.ChainOfTwoParts.{differ}
 use Rattle.hb_point.specs.SessionRows.{taking}
 use Rattle.hb_sound.proofs.ExampleParts.{each_has, in_order}
 use Rattle.hb_space.proofs.Facts.Intervals.{held, interval, top}
-use Rattle.hb_store.specs.Calls.{IsReady}
 use Rattle.std.proofs.lemmas.List.Elements.{All-from_recursion}
 
 abbrev all_jobs : List Job
@@ -199,31 +198,6 @@ none_at_120 has = each_has (λ (one : Job). slice_index one.point 0 ≢ 120) pos
 waits_already : (one : Job) → Contains all_jobs one → AddsJobs (one ∷ []) all_jobs all_jobs
 waits_already one has = (all_jobs, inl (has, refl), refl)
 
--- ---- the log is ready
-
-ready_1 : IsReady (store_of first_taken)
-ready_1 = (omega arith, omega arith)
-
-ready_2 : IsReady (store_of first_passed)
-ready_2 = (omega arith, omega arith)
-
-ready_3 : IsReady (store_of to_split)
-ready_3 = (omega arith, omega arith)
-
-ready_4 : IsReady (store_of second_taken)
-ready_4 = (omega arith, omega arith)
-
-ready_5 : IsReady (store_of second_passed)
-ready_5 = (omega arith, omega arith)
-
-ready_6 : IsReady (store_of third_taken)
-unfolding big_endian
-ready_6 = (omega arith, omega arith)
-
-ready_7 : IsReady (store_of third_passed)
-unfolding big_endian
-ready_7 = (omega arith, omega arith)
-
 -- ---- the steps
 
 pub full_goes_on : FullGoesOn
@@ -233,22 +207,22 @@ full_goes_on = (
   inl (performed three_before 1 (taking (inserts_120 12)) postings_owed (queued refl refl) tt),
   (
     machine_of first_passed,
-    works first_taken 1 (passes (inserts_120 12) 120) all_jobs refl (has_room first_taken 1 ready_1) first_pass_row (queued refl (one_joins (posts_at 120) postings_owed none_at_120 (omega arith))) tt,
+    works first_taken 1 (passes (inserts_120 12) 120) all_jobs refl (has_room first_taken 1 (omega arith, omega arith)) first_pass_row (queued refl (one_joins (posts_at 120) postings_owed none_at_120 (omega arith))) tt,
     (
       machine_of to_split,
-      works first_passed 1 finds_no_room all_jobs refl (has_room first_passed 1 ready_2) no_room_row (queued refl refl) tt,
+      works first_passed 1 finds_no_room all_jobs refl (has_room first_passed 1 (omega arith, omega arith)) no_room_row (queued refl refl) tt,
       (
         machine_of first_answered,
-        works to_split 1 (answers_now 12 replies.Full) all_jobs tt (has_room to_split 1 ready_3) full_row (queued refl refl) tt,
+        works to_split 1 (answers_now 12 replies.Full) all_jobs tt (has_room to_split 1 (omega arith, omega arith)) full_row (queued refl refl) tt,
         (
           machine_of second_taken,
           inl (performed first_answered 1 (taking deletes_110) all_jobs (queued refl refl) tt),
           (
             machine_of second_passed,
-            works second_taken 1 (passes deletes_110 110) all_jobs refl (has_room second_taken 1 ready_4) second_pass_row (queued refl (waits_already (posts_at 110) (3, omega arith, refl))) tt,
+            works second_taken 1 (passes deletes_110 110) all_jobs refl (has_room second_taken 1 (omega arith, omega arith)) second_pass_row (queued refl (waits_already (posts_at 110) (3, omega arith, refl))) tt,
             (
               machine_of is_deleted,
-              works second_passed 1 deletes all_jobs refl (has_room second_passed 1 ready_5) delete_row (queued refl refl) (record { allowed = del_fits; log = refl }),
+              works second_passed 1 deletes all_jobs refl (has_room second_passed 1 (omega arith, omega arith)) delete_row (queued refl refl) (record { allowed = del_fits; log = refl }),
               (
                 machine_of once_forced,
                 inr (omega arith, forces is_deleted Moved),
@@ -260,10 +234,10 @@ full_goes_on = (
                     inl (performed second_answered 1 (taking (inserts_120 14)) all_jobs (queued refl refl) tt),
                     (
                       machine_of third_passed,
-                      works third_taken 1 (passes (inserts_120 14) 120) all_jobs refl (has_room third_taken 1 ready_6) third_pass_row (queued refl (waits_already (posts_at 120) (4, omega arith, refl))) tt,
+                      works third_taken 1 (passes (inserts_120 14) 120) all_jobs refl (has_room third_taken 1 (omega arith, omega arith)) third_pass_row (queued refl (waits_already (posts_at 120) (4, omega arith, refl))) tt,
                       (
                         machine_of is_put,
-                        works third_passed 1 puts all_jobs refl (has_room third_passed 1 ready_7) put_row (queued refl refl) (record { allowed = put_fits; log = refl }),
+                        works third_passed 1 puts all_jobs refl (has_room third_passed 1 (omega arith, omega arith)) put_row (queued refl refl) (record { allowed = put_fits; log = refl }),
                         (
                           machine_of twice_forced,
                           inr (omega arith, forces is_put Moved),

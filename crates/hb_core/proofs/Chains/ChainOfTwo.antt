@@ -1,22 +1,21 @@
 -- Two sessions on one page: each step of the chain.
+use Rattle.hb_core.proofs.Chains.SplitRows.{finds_no_room, no_room_row, put_row, puts, split_row, splits}
 use Rattle.std.proofs.Common.{◌≡◌, inl, inr, [], ◌∷◌, slice_index, Contains, Option, Some, None, refl, ap, arith}
 use Rattle.hb_frag.specs.declared.pages.LivePage.{LivePage}
-use Rattle.hb_ops.specs.declared.operations.Op.TheVariants.{Put, Extract}
 use Rattle.hb_latch.specs.declared.modes.Mode.TheVariants.{Exclusive}
 use Rattle.hb_set.specs.declared.commands.Reply.TheVariants as replies
 use Rattle.hb_activity.specs.declared.jobs.Job.{Job}
-use Rattle.hb_activity.specs.declared.activities.Activity.TheVariants.{SessionPut, SessionSplit, SessionWalk}
+use Rattle.hb_activity.specs.declared.activities.Activity.TheVariants.{SessionWalk}
 use Rattle.hb_core.specs.declared.outcomes.Outcome.TheVariants.{Moved}
-use Rattle.hb_activity.specs.Deeds.{Deed, answers_now, does, moves_to, takes_effect}
+use Rattle.hb_activity.specs.Deeds.{Deed, answers_now, moves_to, takes_effect}
 use Rattle.hb_core.proofs.Chains.BuiltSteps.{after, at_hand, blocked, forced_scene, forces, has_room, live_is, none_waits, one_joins, only_looks, performed, wanted_in, works, queued}
-use Rattle.hb_core.proofs.Chains.ChainOfTwoParts.{chosen_at_forty, cut_at_forty, extract_fits, put_fits, seventy_absent, seventy_held, twenty_there}
+use Rattle.hb_core.proofs.Chains.ChainOfTwoParts.{extract_fits, put_fits, twenty_there}
 use Rattle.hb_core.specs.Asking.{box_at}
-use Rattle.hb_core.specs.ChainOfTwo.{TwoOnOnePage, full_page, inserts_seventy, lettered, looks_twenty_up, lower_half, posts_at, two_before, upper_half, upper_three}
+use Rattle.hb_core.specs.ChainOfTwo.{TwoOnOnePage, inserts_seventy, lettered, looks_twenty_up, lower_half, posts_at, two_before, upper_half}
 use Rattle.hb_core.specs.Rows.{Row}
-use Rattle.hb_core.specs.Scenes.{Scene, machine_of, standing, store_of}
+use Rattle.hb_core.specs.Scenes.{Scene, machine_of, standing}
 use Rattle.hb_lemmas.specs.Numbers.{big_endian}
 use Rattle.hb_point.specs.SessionRows.{taking}
-use Rattle.hb_store.specs.Calls.{IsReady}
 use Rattle.hb_lemmas.proofs.Lists.{only_one}
 
 -- ---- the scenes, one after the other
@@ -27,20 +26,11 @@ first_taken = after 1 (taking inserts_seventy) [] two_before
 abbrev both_taken : Scene
 both_taken = after 2 (taking looks_twenty_up) [] first_taken
 
-abbrev pub finds_no_room : Deed
-finds_no_room = moves_to (SessionSplit inserts_seventy 1) []
-
 abbrev to_split : Scene
 to_split = after 1 finds_no_room [] both_taken
 
-abbrev pub splits : Deed
-splits = does (SessionPut inserts_seventy 1 2) (Extract 1 2 [] (cut_at_forty ∷ []) 0) (posts_at 0 ∷ [])
-
 abbrev is_split : Scene
 is_split = after 1 splits (posts_at 0 ∷ []) to_split
-
-abbrev pub puts : Deed
-puts = takes_effect 0 inserts_seventy replies.Done (Some (Put 1 (lettered 70 103))) []
 
 abbrev is_put : Scene
 is_put = after 1 puts (posts_at 0 ∷ []) is_split
@@ -71,34 +61,6 @@ both_answered = after 2 (answers_now 2 (replies.Found (98 ∷ []))) (posts_at 0 
 
 -- ---- the rows
 
-no_room_row : Row (standing both_taken.at_work 1) (wanted_in both_taken 1) (machine_of both_taken) finds_no_room
-no_room_row = (
-  full_page,
-  at_hand both_taken (standing both_taken.at_work 1) _ full_page _ refl refl refl refl,
-  inr (inr (inr (record { level = refl; absent = seventy_absent; full = omega arith; deed_is = refl }))),
-)
-
-split_row : Row (standing to_split.at_work 1) (wanted_in to_split 1) (machine_of to_split) splits
-split_row = inr (record {
-  page = full_page;
-  live = live_is to_split 1;
-  leaves = record {
-    path = [];
-    cuts = cut_at_forty ∷ [];
-    chosen = chosen_at_forty;
-    part = (full_page.frag, full_page.area);
-    there = refl;
-    fresh = 2;
-    free_after = 0;
-    free = omega arith;
-    next = refl;
-  };
-  deed_is = refl;
-})
-
-put_row : Row (standing is_split.at_work 1) (wanted_in is_split 1) (machine_of is_split) puts
-put_row = record { rec = lettered 70 103; command = refl; half = 1; either = inl refl; page = upper_half upper_three; live = live_is is_split 1; holds = seventy_held; deed_is = refl }
-
 abbrev upper_four : LivePage
 upper_four = upper_half (lettered 40 100 ∷ lettered 50 101 ∷ lettered 60 102 ∷ lettered 70 103 ∷ [])
 
@@ -116,20 +78,10 @@ find_row = (
   inr (inl (record { found = lettered 20 98; there = twenty_there; deed_is = refl })),
 )
 
--- ---- the log is ready, and the jobs differ
+-- ---- the jobs differ
 
 other_waits : ¬ (Contains (posts_at 0 ∷ []) (posts_at 20))
 other_waits has = let same : 0 ≡ 20 = ap (λ (job : Job). slice_index job.point 0) (only_one (posts_at 0) (posts_at 20) has) in omega (arith, same)
-
-ready_first : IsReady (store_of both_taken)
-ready_first = (omega arith, omega arith)
-
-ready_to_split : IsReady (store_of to_split)
-ready_to_split = (omega arith, omega arith)
-
-ready_to_put : IsReady (store_of is_split)
-unfolding big_endian
-ready_to_put = (omega arith, omega arith)
 
 pub two_on_one_page : TwoOnOnePage
 unfolding big_endian
@@ -141,20 +93,20 @@ two_on_one_page = (
     inl (performed first_taken 2 (taking looks_twenty_up) [] (queued refl refl) tt),
     (
       machine_of to_split,
-      works both_taken 1 finds_no_room [] refl (has_room both_taken 1 ready_first) no_room_row (queued refl refl) tt,
+      works both_taken 1 finds_no_room [] refl (has_room both_taken 1 (omega arith, omega arith)) (no_room_row both_taken refl refl refl) (queued refl refl) tt,
       (
         machine_of to_split,
         blocked to_split 2 1 Exclusive _ refl (omega arith) refl refl refl,
         (
           machine_of is_split,
-          works to_split 1 splits (posts_at 0 ∷ []) tt (has_room to_split 1 ready_to_split) split_row
+          works to_split 1 splits (posts_at 0 ∷ []) tt (has_room to_split 1 (omega arith, omega arith)) (split_row to_split refl (omega arith) refl)
               (queued refl (one_joins (posts_at 0) [] (none_waits (posts_at 0)) (omega arith))) (record { allowed = extract_fits; log = refl }),
           (
             machine_of is_split,
             blocked is_split 2 1 Exclusive _ refl (omega arith) refl refl refl,
             (
               machine_of is_put,
-              works is_split 1 puts (posts_at 0 ∷ []) tt (has_room is_split 1 ready_to_put) put_row (queued refl refl) (record { allowed = put_fits; log = refl }),
+              works is_split 1 puts (posts_at 0 ∷ []) tt (has_room is_split 1 (omega arith, omega arith)) (put_row is_split refl refl) (queued refl refl) (record { allowed = put_fits; log = refl }),
               (
                 machine_of on_its_way,
                 works is_put 2 passes (posts_at 0 ∷ posts_at 20 ∷ []) refl (only_looks is_put 2 refl) pass_row

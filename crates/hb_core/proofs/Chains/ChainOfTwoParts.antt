@@ -1,9 +1,8 @@
 -- The pages of the chain of two sessions, and what its operations ask for.
+use Rattle.hb_point.specs.Examples.{at_forty}
 use Rattle.std.proofs.Common.{◌≡◌, ◌≢◌, inl, inr, ℕ, zero, suc, List, [], ◌∷◌, ◌++◌, slice_index, refl, sym, ap, ◌∙◌, subst, arith}
 use Rattle.std.specs.Prelude.{Any}
 use Rattle.hb_space.specs.declared.records.Record.{Record}
-use Rattle.hb_frag.specs.declared.paths.Side.TheVariants.{Left}
-use Rattle.hb_ops.specs.declared.leaf_cuts.LeafCut.{LeafCut}
 use Rattle.hb_core.specs.ChainOfTwo.{full_page, lettered, line_meta, lower_half, lower_three, upper_half, upper_three}
 use Rattle.hb_frag.specs.Leaves.{DirectlyHolds, leaves, leaves_of, siblings_of}
 use Rattle.hb_frag.specs.Rules.{BelongsAt, IsInOrder}
@@ -65,9 +64,6 @@ upper_fits = record {
 
 -- ---- where the page is cut
 
-abbrev pub cut_at_forty : LeafCut
-cut_at_forty = record { axis = 0; value = 40; side = Left }
-
 abbrev EachValue : (ℕ → Type 0) → List Record → Type 0
 EachValue P [] = Unit {0}
 EachValue P (r ∷ rest) = P (slice_index r.key 0) × EachValue P rest
@@ -93,7 +89,7 @@ best_at_forty = record {
         (of_value IsBehindForty six value (inl (omega arith), (inl (omega arith), (inl (omega arith), (inr (refl, inr (refl, omega arith)), (inl (omega arith), (inl (omega arith), tt))))))
         (subst (λ (a : ℕ). Any (λ (r : Record). slice_index r.key a ≡ value) six) is may.met))
 
-pub chosen_at_forty : IsChosen full_page [] (cut_at_forty ∷ [])
+pub chosen_at_forty : IsChosen full_page [] (at_forty ∷ [])
 chosen_at_forty = record {
   way = refl;
   part = (full_page.frag, full_page.area);
@@ -101,7 +97,7 @@ chosen_at_forty = record {
   chosen = (record { records = six; leaf = refl; heavy = omega arith; best = best_at_forty; side = refl }, omega arith);
 }
 
-pub extract_fits : FitsExtract (line_meta 1) full_page 2 [] (cut_at_forty ∷ []) 0
+pub extract_fits : FitsExtract (line_meta 1) full_page 2 [] (at_forty ∷ []) 0
 extract_fits = record {
   allocates = record { room = omega arith; from_chain = λ some. absurd (some refl); from_behind = λ none. (refl, omega arith, refl) };
   made = full_fits;

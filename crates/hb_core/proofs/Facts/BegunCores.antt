@@ -1,24 +1,21 @@
 -- A core that has taken no step shows a machine that has taken none.
-use Rattle.std.proofs.Common.{◌≡◌, ◌⊎◌, inl, inr, ℕ, zero, suc, ◌+◌, ◌-◌, ◌<◌, ◌≤◌, ◌==◌, Bool, cond, List, [], ◌∷◌, ◌++◌, All, Option, Some, None, IfSome, IsSome, refl, sym, ap, ◌∙◌, subst, arith, ne_eqb, replicate, slice_get}
+use Rattle.hb_core.proofs.Running.Begun.{begun_shows}
+use Rattle.std.proofs.Common.{◌≡◌, ℕ, List, [], All, Option, Some, None, IfSome, IsSome, refl, subst}
 use Rattle.std.specs.FinMap as map
-use Rattle.std.proofs.Math.Nat.{eq-or-lt_of_le}
-use Rattle.std.proofs.lemmas.List.Elements.{All-nil}
-use Rattle.std.proofs.lemmas.Option.{same_Some}
-use Rattle.hb_activity.specs.Classes.{Class, Consolidators, Flushers, Posters, Sessions, idle_of}
-use Rattle.hb_activity.specs.declared.activities.Activity.TheVariants as at
+use Rattle.hb_activity.specs.Classes.{idle_of}
 use Rattle.hb_core.proofs.Machines.Beginnings.{beginning_keeps, beginning_keeps_all}
 use Rattle.hb_core.proofs.Table.NoMerges.{begun_has_nothing}
 use Rattle.hb_core.specs.KeptFits.{LineFits, class_for}
 use Rattle.hb_core.specs.KeptLines.{HasLineBody}
 use Rattle.hb_core.specs.Keeps.{HasSoundFile}
 use Rattle.hb_core.specs.Machines.{Files, Machine}
-use Rattle.hb_core.specs.Showing.{HasTurn, IsDealtWith, ShowsFiles, ShowsMachine, number_in_hand}
+use Rattle.hb_core.specs.Showing.{ShowsFiles, ShowsMachine}
 use Rattle.hb_core.specs.SteppingLaws.{IsBegun, IsBegunOver}
-use Rattle.hb_core.specs.Taking.{all_idle, begun_core}
+use Rattle.hb_core.specs.Taking.{begun_core}
 use Rattle.hb_core.specs.Working.{MayStep}
 use Rattle.hb_disk.specs.Model.{DiskModel}
 use Rattle.hb_frag.specs.declared.pages.Page.{Page}
-use Rattle.hb_latch.specs.Tables.{MayLatch, latch_cmp}
+use Rattle.hb_latch.specs.Tables.{latch_cmp}
 use Rattle.hb_lemmas.proofs.Options.{has_value, not_none}
 use Rattle.hb_ops.specs.Files.{FileState}
 use Rattle.hb_ops.specs.Sound.{IsSound}
@@ -27,61 +24,6 @@ use Rattle.hb_set.specs.Order.{AreRising}
 use Rattle.hb_set.specs.declared.scripts.Line.{Line}
 use Rattle.hb_store.specs.Keeps.{StoreKeeps}
 use Rattle.hb_store.specs.States.{IsNew, IsStanding, StoreState, in_memory}
-
--- ---- nobody has a line in hand
-
--- what stands at each place of a list of the same
-same_each : {X : Type 0} (x y : X) (n k : ℕ) → slice_get (replicate n x) k ≡ Some y → x ≡ y
-same_each x y zero k is = cc is
-same_each x y (suc n) zero is = same_Some x y is
-same_each x y (suc n) (suc k) is = same_each x y n k is
-
-first_each : {X : Type 0} (x : X) (n k : ℕ) (more : List X) → k < n → slice_get (replicate n x ++ more) k ≡ Some x
-first_each x zero k more less = absurd (omega (arith, less))
-first_each x (suc n) zero more less = refl
-first_each x (suc n) (suc k) more less = first_each x n k more (omega (arith, less))
-
--- an actor below the workers is a session
-is_session : (actor : ℕ) → actor < 17 → class_for actor ≡ Sessions
-is_session actor low =
-    ap (λ (b : Bool). cond b Posters (cond (actor == 18) Consolidators (cond (actor == 19) Flushers Sessions))) (ne_eqb actor 17 (λ is. omega (arith, low, is)))
-    ∙ ap (λ (b : Bool). cond b Consolidators (cond (actor == 19) Flushers Sessions)) (ne_eqb actor 18 (λ is. omega (arith, low, is)))
-    ∙ ap (λ (b : Bool). cond b Flushers Sessions) (ne_eqb actor 19 (λ is. omega (arith, low, is)))
-
-abbrev StandsIdle : ℕ → Type 0
-StandsIdle actor = slice_get all_idle (actor - 1) ≡ Some (idle_of (class_for actor))
-
-each_idle : (actor : ℕ) → MayLatch actor → StandsIdle actor
-each_idle actor may = last (eq-or-lt_of_le may.to_19)
-  where
-    session : actor < 17 → StandsIdle actor
-    session low =
-        let from = may.from_1 in
-        first_each at.SessionIdle 16 (actor - 1) (at.PosterIdle ∷ at.ConsolidatorIdle ∷ at.Flusher ∷ []) (omega (arith, low, from)) ∙ sym (ap (λ (kind : Class). Some (idle_of kind)) (is_session actor low))
-
-    poster : (actor ≡ 17) ⊎ (actor < 17) → StandsIdle actor
-    poster (inl is) = subst StandsIdle (sym is) refl
-    poster (inr low) = session low
-
-    merger : (actor ≡ 18) ⊎ (actor < 18) → StandsIdle actor
-    merger (inl is) = subst StandsIdle (sym is) refl
-    merger (inr low) = poster (eq-or-lt_of_le (below 17 low))
-      where
-        below : (n : ℕ) → actor < n + 1 → actor ≤ n
-        below n low = omega (arith, low)
-
-    last : (actor ≡ 19) ⊎ (actor < 19) → StandsIdle actor
-    last (inl is) = subst StandsIdle (sym is) refl
-    last (inr low) = merger (eq-or-lt_of_le (below 18 low))
-      where
-        below : (n : ℕ) → actor < n + 1 → actor ≤ n
-        below n low = omega (arith, low)
-
-none_in_hand : (kind : Class) → number_in_hand (idle_of kind) ≡ None
-none_in_hand Sessions = refl
-none_in_hand Posters = refl
-none_in_hand Consolidators = refl
-none_in_hand Flushers = refl
 
 -- ---- the machine
 
@@ -138,36 +80,8 @@ module _ (lines : List Line) (store : StoreState) (may : MayBegin lines store) (
     store = record { stands = may.stands; log = may.new.log_is; none_in_log = may.new.none_in_log; runs = may.new.running; pages = λ id page is. absurd (no_page id page is) };
   }
 
-  -- no line lies behind a session
-  none_behind : (session : ℕ) → HasTurn m session 0
-  none_behind session = record {
-    few = omega arith;
-    front = All-nil (IsDealtWith m session);
-    back = λ k line lt own. (λ has. cc has, λ is. never (class_for session) _ is);
-  }
-    where
-      never : (kind : Class) (number : ℕ) → number_in_hand (idle_of kind) ≡ Some number → ⊥
-      never kind number is = not_none (number_in_hand (idle_of kind)) number is (none_in_hand kind)
-
-  turns : (session behind : ℕ) → slice_get (replicate 16 0) (session - 1) ≡ Some behind → HasTurn m session behind
-  turns session behind is = subst (HasTurn m session) (same_each 0 behind 16 (session - 1) is) (none_behind session)
-
   pub shows_begun : (d : DiskModel) (steps : List ℕ) → (IsSome d.told → ShowsFiles d (begun_machine lines store files clock)) → (d.told ≡ None → files ≡ None) → ShowsMachine d (begun_core lines steps store) (begun_machine lines store files clock)
-  shows_begun d steps tells silent = record {
-    lines = refl;
-    sessions = refl;
-    turns = λ session behind low high is. turns session behind is;
-    all_actors = refl;
-    activities = λ actor who. each_idle actor who;
-    nobody_else = (beginning_keeps m is_begun).nobody_else;
-    latches = refl;
-    jobs = refl;
-    order = refl;
-    stop = refl;
-    store = refl;
-    tells = tells;
-    silent = silent;
-  }
+  shows_begun d steps tells silent = begun_shows d m lines steps store is_begun refl refl tells silent
 
   pub may_step_begun : (d : DiskModel) (steps : List ℕ) → ShowsMachine d (begun_core lines steps store) (begun_machine lines store files clock) → IfSome files (HasSoundFile (begun_machine lines store files clock)) → MayStep d (begun_core lines steps store) (begun_machine lines store files clock)
   may_step_begun d steps shows sound = record {

@@ -1,10 +1,12 @@
 -- What crashes leave of a run, one step more.
-use Rattle.std.proofs.Common.{◌≡◌, ◌⊎◌, inl, inr, ℕ, ◌+◌, ◌<◌, ◌≤◌, List, ◌++◌, get_or, All, sym, subst, arith}
+use Rattle.hb_core.proofs.Orders.OrderPlaces.{StandsSomewhere}
+use Rattle.hb_core.proofs.Orders.PendingKept.{IsSettledIn}
+use Rattle.std.proofs.Common.{◌≡◌, ◌⊎◌, inl, inr, ℕ, ◌+◌, ◌≤◌, List, ◌++◌, get_or, All, sym, subst, arith}
 use Rattle.std.proofs.lemmas.List.Elements.{All-append}
 use Rattle.hb_core.proofs.Facts.PrefixImages.{prefix_less, prefix_longer, settled_prefix}
 use Rattle.hb_core.proofs.TwoSteps.SinglePlaces.{no_place, one_place, stands_longer}
 use Rattle.hb_core.specs.KeptMachine.{CoreKeeps}
-use Rattle.hb_core.specs.KeptOrder.{StandsInOrder, StandsOutside}
+use Rattle.hb_core.specs.KeptOrder.{StandsInOrder}
 use Rattle.hb_core.specs.Machines.{Files, Machine, settled_count}
 use Rattle.hb_core.specs.MomentLaws.{ImagesHavePrefixes}
 use Rattle.hb_core.specs.Runs.{CrashesTo, HoldsSince, IsPrefixImage}
@@ -17,13 +19,6 @@ use Rattle.hb_set.specs.Order.{Entry}
 use Rattle.hb_set.specs.declared.scripts.Answered.{Answered}
 use Rattle.hb_store.proofs.Facts.StoreLaws.{StoreKeeps-opens}
 use Rattle.hb_store.specs.Keeps.{OpensToFirst, StoreKeeps}
-
--- what a machine keeps of an answer that it has
-abbrev pub StandsOrOutside : Machine → Answered → Type 0
-StandsOrOutside m a = StandsOutside a.reply ⊎ ((place : ℕ) × StandsInOrder m a.line a.reply place)
-
-abbrev pub SettledAt : Machine → Answered → Type 0
-SettledAt m a = (place : ℕ) → StandsInOrder m a.line a.reply place → place < settled_count m
 
 -- The machine at the end of a run, and the one after a step more: both keep all that they should over a disk that tells.
 pub record StepKeepsAll (n : RecordSet) (e f : DiskModel) (mid next : Machine) (answers given : List Answered) : Type 0 where
@@ -55,13 +50,13 @@ module _ (images : ImagesHavePrefixes) (n : RecordSet) (d e f : DiskModel) (mid 
       (Leaves-weaker e f (OpensToFirst step.files.durable step.files.later) (IsPrefixImage n next.order 0) (λ c opens. opened 0 c (omega arith) opens) step.moments)
 
   -- an answer of before: what it stands for it stood for then
-  stood : (a : Answered) (place : ℕ) → StandsOrOutside mid a → StandsInOrder next a.line a.reply place → StandsInOrder mid a.line a.reply place
+  stood : (a : Answered) (place : ℕ) → StandsSomewhere mid a → StandsInOrder next a.line a.reply place → StandsInOrder mid a.line a.reply place
   stood a place (inl outside) stands = absurd (no_place n next a.line place a.reply step.keeps_then.order_legal.legal outside stands)
   stood a place (inr (other, was)) stands =
       let same = one_place n next a.line place other a.reply step.keeps_then.order_legal.legal stands (stands_longer mid next step.more a.line other a.reply step.order was) in
       subst (λ (p : ℕ). StandsInOrder mid a.line a.reply p) (sym same) was
 
-  older : (a : Answered) → HoldsSince e n mid a → StandsOrOutside mid a → SettledAt mid a → a.at ≤ e.clock → HoldsSince f n next a
+  older : (a : Answered) → HoldsSince e n mid a → StandsSomewhere mid a → IsSettledIn mid a → a.at ≤ e.clock → HoldsSince f n next a
   older a since stands settled timed place now c image = by (step.moments.before a.at c timed image)
     where
       was : StandsInOrder mid a.line a.reply place
@@ -71,7 +66,7 @@ module _ (images : ImagesHavePrefixes) (n : RecordSet) (d e f : DiskModel) (mid 
       by (inl before) = longer (place + 1) c (since place was c before)
       by (inr opens) = let less = settled place was in opened (place + 1) c (omega (arith, less)) opens
 
-  newer : (a : Answered) → SettledAt next a → a.at ≡ f.clock → HoldsSince f n next a
+  newer : (a : Answered) → IsSettledIn next a → a.at ≡ f.clock → HoldsSince f n next a
   newer a settled timed place stands c image =
       let less = settled place stands in
       let now = disk.only_now c (subst (λ (t : ℕ). f.ImageSince t c) timed image) in
@@ -86,9 +81,9 @@ module _ (images : ImagesHavePrefixes) (n : RecordSet) (d e f : DiskModel) (mid 
 
   since_more : All (HoldsSince f n next) (answers ++ given)
   since_more =
-      let stands = of_answers (StandsOrOutside mid) step.keeps.order_legal.answers in
-      let settled = of_answers (SettledAt mid) step.keeps.pending_prefix.settled in
-      let settled_then = of_given (SettledAt next) step.keeps_then.pending_prefix.settled in
+      let stands = of_answers (StandsSomewhere mid) step.keeps.order_legal.answers in
+      let settled = of_answers (IsSettledIn mid) step.keeps.pending_prefix.settled in
+      let settled_then = of_given (IsSettledIn next) step.keeps_then.pending_prefix.settled in
       All-append (HoldsSince f n next) answers given (λ k x lt. older (get_or answers k x) (run.since k x lt) (stands k x lt) (settled k x lt) (step.timed k x lt)) (λ k x lt. newer (get_or given k x) (settled_then k x lt) (step.timed_then k x lt))
 
   pub crashes_more : CrashesTo n d f next (answers ++ given)

@@ -15,7 +15,7 @@ use Rattle.hb_activity.specs.Holding.{latch_on}
 use Rattle.hb_activity.specs.Walks.{job_mode}
 use Rattle.hb_activity.specs.Wanting.{walk_next, wanted_of}
 use Rattle.hb_consol.specs.ConsolidatorRows.{after_try, children_of, one_behind, scans, tries, after_keep}
-use Rattle.hb_core.proofs.Latches.Backing.{AreBacked, BackedIn, IsBacked, at_hand, backed_row, goes, held_backed, live_now, one_backed, own_mode, rests, stands, there_now, walk_backed}
+use Rattle.hb_core.proofs.Latches.Backing.{AreBacked, Backed, BackedIn, IsBacked, at_hand, backed_deed, backed_row, goes, held_backed, live_now, one_backed, own_mode, rests, stands, there_now, walk_backed}
 use Rattle.hb_core.proofs.Table.MergerMoves.{decided, of_page}
 use Rattle.hb_activity.proofs.Facts.HeldLatches.{in_its_mode}
 use Rattle.hb_core.specs.Asking.{HasWayFree, looked_live, wanted_by}
@@ -54,10 +54,10 @@ module _ (m : Machine) (actor : ℕ) (may : ℕ → Type 0) (fetched : StoreStat
   m' = with_disk fetched m.files m.clock m
 
   abbrev Backs : Deed → Type 0
-  Backs deed = BackedIn m actor new deed.next
+  Backs = Backed m actor may fetched new latches fit inside free brings
 
   backs : (deed other : Deed) → deed ≡ other → Backs other → Backs deed
-  backs deed other is backed = subst (λ (d : Deed). BackedIn m actor new d.next) (sym is) backed
+  backs deed other is backed = backed_deed m actor may fetched new latches fit inside free brings deed other is backed
 
   -- the latch at hand, and one that was held
   latched : (mode : Mode) → wanted.mode ≡ mode → IsBacked m actor new wanted.page mode

@@ -1,5 +1,6 @@
 -- After a step the file before each group that waits has the set after as many entries of the order as its mark says, marks
 -- don't fall, and each answered entry stands below the oldest one's.
+use Rattle.hb_core.proofs.Orders.OrderPlaces.{StandsSomewhere}
 use Rattle.std.proofs.Common.{◌≡◌, ◌⊎◌, inl, inr, ℕ, suc, ◌<◌, ◌≤◌, List, [], ◌∷◌, ◌++◌, length, take, get_or, All, AllPairs, Option, Some, None, option_map, refl, sym, ap, ◌∙◌, subst, arith, append-nil}
 use Rattle.std.proofs.lemmas.List.{length-append, take_all, take-append-le}
 use Rattle.std.proofs.lemmas.List.Elements.{All-append, All-cons, All-nil, All-push}
@@ -20,7 +21,7 @@ use Rattle.hb_core.specs.Acting.{MeetsBadPage}
 use Rattle.hb_core.specs.Forcing.{ForcesFirst, StaysSo, forced_files}
 use Rattle.hb_core.specs.KeepingLaws.{IsAnsweredInPlace, PrefixStaysPending, SettledStaysSettled}
 use Rattle.hb_core.specs.Keeps.{HasSoundFile}
-use Rattle.hb_core.specs.KeptOrder.{FollowMarks, HasLegalOrder, HasPendingPrefix, StandsInOrder, StandsOutside}
+use Rattle.hb_core.specs.KeptOrder.{FollowMarks, HasLegalOrder, HasPendingPrefix, StandsInOrder}
 use Rattle.hb_core.specs.Machines.{Files, Machine, current_file, if_some, settled_count}
 use Rattle.hb_core.specs.Performing.{MayDo, Performs, files_after, given_by, with_effect}
 use Rattle.hb_core.specs.Steps.{StepsTo, Works}
@@ -209,7 +210,7 @@ module _ (n : RecordSet) (m : Machine) (files : Files) (actor : ℕ) (new : Mach
       let same = one_place n new number place other reply legal_now stands (stands_longer m new more number other reply order_is stood) in
       omega (arith, same, less, rises)
 
-  by_old : (a : Answered) → StandsOutside a.reply ⊎ ((place : ℕ) × StandsInOrder m a.line a.reply place) → IsSettledIn m a → IsSettledIn new a
+  by_old : (a : Answered) → StandsSomewhere m a → IsSettledIn m a → IsSettledIn new a
   by_old a (inl outside) settled place stands = absurd (no_place n new a.line place a.reply legal_now outside stands)
   by_old a (inr (other, stood)) settled place stands = settled_at a.line place other a.reply stood (settled other stood) stands
 

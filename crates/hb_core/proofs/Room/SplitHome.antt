@@ -21,7 +21,7 @@ use Rattle.hb_ops.proofs.Facts.PartedPageLaws.{fresh_made, source_made}
 use Rattle.hb_ops.proofs.Facts.PlacedLaws.{leaf_is_sibling, placed, placed_is_leaf, sibling_is_leaf}
 use Rattle.hb_ops.specs.Sound.{FitsFile}
 use Rattle.hb_ops.specs.Standing.{StandsNot}
-use Rattle.hb_ops.proofs.Facts.StemLaws.{PartLaws, fresh_stems, source_stems, stretch}
+use Rattle.hb_ops.proofs.Facts.StemLaws.{PartLaws, fresh_stems, opened, source_stems, stretch}
 use Rattle.hb_sound.proofs.RecordsParted.{cut_has_on}
 use Rattle.hb_sound.proofs.OneLevel.{TreeLaws}
 use Rattle.hb_sound.proofs.PagesParted.{stems_sibling}
@@ -130,8 +130,8 @@ module _ (laws : RoomLaws) (meta : Meta) (fresh_id : ℕ) (path : List Side) (cu
   abbrev fresh : LivePage
   fresh = fresh_page cuts page part
 
-  abbrev opened : Tree
-  opened = cut_through cuts part.0 (Tip (Sibling fresh_id))
+  abbrev middle : Tree
+  middle = opened laws.parts fresh_id path cuts page part fits
 
   source_well : FitsFile meta source
   source_well = source_made laws.parts meta fresh_id path cuts page part made fits
@@ -148,8 +148,8 @@ module _ (laws : RoomLaws) (meta : Meta) (fresh_id : ℕ) (path : List Side) (cu
   named : Contains (leaves_of source.frag source.area) (placed (Sibling fresh_id) fresh.area)
   named =
       let leaf = placed (Sibling fresh_id) fresh.area in
-      subst (λ (ls : List Placed). Contains ls leaf) (sym ((stretch laws.parts fresh_id path cuts page part fits).other opened))
-      (Contains-append_left (front ++ leaves_of opened part.1) behind leaf (Contains-append_right front (leaves_of opened part.1) leaf (names_new fresh_id cuts part.0 part.1)))
+      subst (λ (ls : List Placed). Contains ls leaf) (sym ((stretch laws.parts fresh_id path cuts page part fits).other middle))
+      (Contains-append_left (front ++ leaves_of middle part.1) behind leaf (Contains-append_right front (leaves_of middle part.1) leaf (names_new fresh_id cuts part.0 part.1)))
 
   fresh_box : IsArea fresh.area
   fresh_box = All-contains (λ (l : Placed). IsArea l.area) (leaves_of source.frag source.area) (placed (Sibling fresh_id) fresh.area) (laws.trees.areas source.frag source.area box source_well.well_cut) named

@@ -1,7 +1,7 @@
 -- A core that isn't ready for a change flushes once, as a step of the machine that it shows.
-use Rattle.std.proofs.Common.{◌≡◌, ◌≢◌, ◌↔◌, inl, inr, ℕ, List, [], None, Ok, Err, refl, sym, ap, ◌∙◌, subst}
+use Rattle.hb_core.proofs.Memory.OwnPages.{runs_out_nothing}
+use Rattle.std.proofs.Common.{◌≡◌, ◌≢◌, ◌↔◌, inl, inr, ℕ, List, [], Ok, Err, sym, ap, ◌∙◌, subst}
 use Rattle.hb_activity.specs.Classes.{class_of}
-use Rattle.hb_activity.specs.Deeds.{Deed}
 use Rattle.hb_activity.specs.declared.activities.Activity.{Activity}
 use Rattle.hb_disk.specs.Model.{DiskModel}
 use Rattle.hb_latch.specs.Tables.{MayLatch}
@@ -23,10 +23,6 @@ use Rattle.hb_core.specs.Working.{IsWorking, MayStep}
 use Rattle.hb_core.proofs.Running.ForcedShows.{fails, forces, group_waits, nothing_forced}
 use Rattle.hb_core.proofs.Running.LineTaken.{deed_done}
 use Rattle.hb_core.proofs.Running.NumbersInHand.{ran_out_number}
-use Rattle.hb_core.proofs.Table.GivenUp.{run_out_is}
-
-pub no_operation : (activity : Activity) → (runs_out activity).op ≡ None
-no_operation activity = run_out_is (λ (deed : Deed). deed.op ≡ None) activity (λ line is. refl) (λ job is. refl) (λ is. refl)
 
 -- a flush that forced found a group, and one that did nothing found none
 pub some_forced : (did : Flushed) (groups : List Waiting) → did ≡ Flushed.Forced → ((did ≡ Flushed.Nothing) ↔ (groups ≡ [])) → groups ≢ []
@@ -60,6 +56,6 @@ module _ {D : Type 0} (model : D → DiskModel) (x y : D) (c : RunningCore) (m :
   ready_never v z after outcome may works none writes does same =
       let empty : m.store.log.groups ≡ [] = ap (λ (s : StoreState). s.log.groups) step.shows.store ∙ none in
       let then : MayStep (model y) (with_store st c) m = record { shows = nothing_forced (model x) (model y) c st m step.shows v writes empty; goes_on = step.goes_on } in
-      let done = deed_done (model y) (with_store st c) after m actor may then (runs_out (m.activity actor)) outcome (no_operation (m.activity actor)) (ran_out_number m (m.activity actor) works)
+      let done = deed_done (model y) (with_store st c) after m actor may then (runs_out (m.activity actor)) outcome (runs_out_nothing (m.activity actor)) (ran_out_number m (m.activity actor) works)
       (does (m.activity actor) (then.shows.activities actor may) works (step.goes_on.kept.classes actor)) in
       (done.0, inr (empty, inr (inr (λ more. more, done.1))), subst (λ (k : D). ShowsMachine (model k) after done.0) (sym same) done.2)

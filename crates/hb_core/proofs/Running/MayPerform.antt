@@ -20,7 +20,7 @@ use Rattle.hb_activity.specs.Deeds.{Deed}
 use Rattle.hb_store.specs.Keeps.{StoreKeeps}
 use Rattle.hb_store.specs.States.{StoreState}
 use Rattle.hb_lemmas.proofs.Options.{if_value, some_value}
-use Rattle.hb_core.proofs.Running.Asked.{any_brings, at_number}
+use Rattle.hb_core.proofs.Running.Asked.{at_number, brings}
 use Rattle.hb_core.proofs.Running.Commits.{may_commit_row}
 use Rattle.hb_core.proofs.Running.OrderRoom.{joining_has_room}
 use Rattle.hb_core.proofs.Running.StandsThere.{may_stand}
@@ -51,15 +51,15 @@ module _ (d : DiskModel) (c : RunningCore) (m : Machine) (actor : ℕ) (free : O
   abbrev deed : Deed
   deed = placed (length m.order) (deed_of (m.activity actor) next)
 
-  brings : Brings m AnyPage c.store
-  brings = any_brings m _ c.store has.brings
+  came : Brings m AnyPage c.store
+  came = brings d c m actor free may has
 
   as_long : length m.order ≡ length c.order
   as_long = sym (length-map m.order (λ (e : Entry). e.line.number)) ∙ ap (λ (order : List ℕ). length order) has.shows.order
 
   pub stands_after : (st : StoreState) → MayDo next.op (length c.order) c.store st → MayStand actor c.latches st (placed_at (length c.order) next.then)
   stands_after st done =
-      let here = may_stand m actor c.store st deed may has.may brings row (subst (λ (n : ℕ). MayDo next.op n c.store st) (sym as_long) done) in
+      let here = may_stand m actor c.store st deed may has.may came row (subst (λ (n : ℕ). MayDo next.op n c.store st) (sym as_long) done) in
       subst (λ (table : LatchTable). MayStand actor table st (placed_at (length c.order) next.then)) has.shows.latches
       (subst (λ (n : ℕ). MayStand actor m.latches st (placed_at n next.then)) as_long here)
 
@@ -70,7 +70,7 @@ module _ (d : DiskModel) (c : RunningCore) (m : Machine) (actor : ℕ) (free : O
   pub may_commit_then : (idle : Activity) → RowsMayBeDone → ((durable other : FileState) (later others : List FileState) → StoreKeeps d c.store durable later → StoreKeeps d c.store other others → durable ≡ other)
       → ((durable other : FileState) (later others : List FileState) → StoreKeeps d c.store durable later → StoreKeeps d c.store other others → later ≡ others) → IfSome next.op (MayCommit d (with_standing actor idle c))
   may_commit_then idle done one_durable one_later =
-      if_value next.op (MayCommit d (with_standing actor idle c)) (λ op is. elsewhere op idle (may_commit_row d c m actor may has.may brings has.shows deed row op is done one_durable one_later))
+      if_value next.op (MayCommit d (with_standing actor idle c)) (λ op is. elsewhere op idle (may_commit_row d c m actor may has.may came has.shows deed row op is done one_durable one_later))
 
   pub has_room : (line : Option ℕ) → line ≡ number_of (hand_of (m.activity actor)) → IsSome (joins_order line next.then next.fate) → length c.order < length c.lines
   has_room line is joins =

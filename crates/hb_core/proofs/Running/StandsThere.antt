@@ -132,6 +132,7 @@ module _ (m : Machine) (actor : ℕ) (fetched st : StoreState) (deed : Deed) (la
   may_stand done =
       let backed = every_row_backed m actor AnyPage fetched st latches keeps.latches_fit keeps.pages_of_file work.free brings (wanted_by m actor) deed refl done row in
       record {
+        latches = latches;
         walks = λ walks.
             let held = some_value (walk_held deed.next) walks in
             let there = backed.walk held.0 held.1 in

@@ -11,7 +11,7 @@ use Rattle.hb_activity.specs.declared.activities.Activity.{Activity}
 use Rattle.hb_activity.specs.declared.activities.Activity.TheVariants as at
 use Rattle.hb_activity.specs.Deeds.{Deed}
 use Rattle.hb_poster.specs.PosterRows.{DoesPlan, GrowsFile, GrowsNot, MayGrow}
-use Rattle.hb_core.proofs.TwoSteps.OnePiece.{one_plan}
+use Rattle.hb_terms.proofs.Facts.Owing.{one_plan}
 use Rattle.hb_core.specs.Acting.{NeedsNumber, takes_number}
 use Rattle.hb_core.specs.Machines.{Machine, sight}
 use Rattle.hb_core.specs.Rows.{Row}

@@ -25,7 +25,7 @@ use Rattle.hb_core.specs.Showing.{RunningCore}
 use Rattle.hb_core.specs.Taking.{TakesNextLine, TakesNextPosting}
 use Rattle.hb_core.specs.Touching.{EndsByRead, Touches}
 use Rattle.hb_core.specs.Working.{MayStep}
-use Rattle.hb_core.proofs.Running.MadeReady.{no_operation}
+use Rattle.hb_core.proofs.Memory.OwnPages.{runs_out_nothing}
 use Rattle.hb_core.proofs.Table.GivenUp.{run_out_is}
 
 -- an outcome for which no read and no write failed
@@ -135,7 +135,7 @@ same_store None mark old new none does = does
 same_store (Some op) mark old new none does = absurd cc
 
 pub ran_out_store : (actor : ℕ) (activity : Activity) (outcome : Outcome) (old new : RunningCore) → DoesDeed actor (runs_out activity) outcome old new → new.store ≡ old.store
-ran_out_store actor activity outcome old new does = same_store (runs_out activity).op _ old.store new.store (no_operation activity) does.store
+ran_out_store actor activity outcome old new does = same_store (runs_out activity).op _ old.store new.store (runs_out_nothing activity) does.store
 
 -- a force that failed, and a core that is stopped then
 pub failed_then : {D : Type 0} (model : D → DiskModel) (x y z : D) (c after : RunningCore) (st : StoreState) (outcome : Outcome) {T : Type 0} (fault : WriteFault) → WritesOldest {T = T} (Err fault) (model x) (model y) c.store st

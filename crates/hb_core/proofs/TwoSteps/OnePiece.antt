@@ -1,15 +1,10 @@
 -- The pieces of a row that the table fixes: the oldest job, the plan, the next number, the part that leaves a page.
-use Rattle.std.proofs.Common.{◌≡◌, ◌≢◌, inl, inr, ℕ, ◌++◌, List, [], ◌∷◌, All, Option, Some, None, refl, sym, ap, ◌∙◌, subst, arith}
+use Rattle.std.proofs.Common.{◌≡◌, ◌≢◌, inl, inr, ℕ, ◌++◌, List, [], ◌∷◌, All, Option, Some, None, sym, ap, ◌∙◌, subst, arith}
 use Rattle.std.proofs.lemmas.Bool.{cases_lt}
 use Rattle.std.proofs.lemmas.List.Elements.{All-head, All-tail}
-use Rattle.std.proofs.lemmas.Option.{same_Some}
 use Rattle.hb_layout.specs.declared.meta.Meta.{Meta}
-use Rattle.hb_frag.specs.declared.leaves.Leaf.TheVariants.{Child, Sibling}
-use Rattle.hb_frag.specs.declared.pages.LivePage.{LivePage}
 use Rattle.hb_frag.specs.declared.pages.Page.{Page}
 use Rattle.hb_frag.specs.declared.pages.Page.TheVariants.{Free}
-use Rattle.hb_terms.specs.declared.plans.PostPlan.{PostPlan}
-use Rattle.hb_terms.specs.declared.plans.PostPlan.TheVariants as plans
 use Rattle.hb_activity.specs.declared.jobs.Job.{Job}
 use Rattle.hb_activity.specs.declared.jobs.JobKind.{JobKind}
 use Rattle.hb_activity.specs.declared.jobs.JobKind.TheVariants.{Post, Merge}
@@ -21,12 +16,9 @@ use Rattle.hb_core.proofs.Memory.NextNumbers.{is_next_number}
 use Rattle.hb_core.specs.Machines.{Machine, next_of}
 use Rattle.hb_core.specs.Performing.{ChangesQueue}
 use Rattle.hb_core.specs.Steps.{TakesJob, TakesMerging}
-use Rattle.hb_frag.specs.Leaves.{Placed, weight_of}
 use Rattle.hb_poster.specs.PosterRows.{IsPostingOf}
-use Rattle.hb_space.specs.Boxes.{Area}
 use Rattle.hb_store.specs.Fetching.{IsNext}
 use Rattle.hb_store.specs.States.{StoreState, in_memory}
-use Rattle.hb_terms.specs.Plans.{IsOwed, IsPlan, posted_parent}
 use Rattle.hb_poster.proofs.Facts.OnePosting.{one_posting}
 use Rattle.hb_consol.proofs.Facts.OneMerging.{one_merging as one_way}
 
@@ -96,56 +88,6 @@ one_left (Some job) old left other first second = (first_leaves job.kind old lef
 pub one_queue : (deed : Deed) (old new other : List Job) → ChangesQueue deed old new → ChangesQueue deed old other → new ≡ other
 one_queue deed old new other first second =
     one_adding deed.adds second.left new other (subst (λ (l : List Job). AddsJobs deed.adds l new) (one_left deed.takes old first.left second.left first.takes second.takes) first.adds) second.adds
-
--- ---- the plan of a posting
-
-pub record SamePosting (outer inner other next : ℕ) (leaf area box found : Area) : Type 0 where
-  pub outer_is : outer ≡ other
-  pub inner_is : inner ≡ next
-  pub leaf_is : leaf ≡ box
-  pub area_is : area ≡ found
-
-same_child : (a b : ℕ) → Child a ≡ Child b → a ≡ b
-same_child a b is = cc
-
-same_sibling : (a b : ℕ) → Sibling a ≡ Sibling b → a ≡ b
-same_sibling a b is = cc
-
-one_owed : (page child : LivePage) (p : List ℕ) (outer inner other next : ℕ) (leaf area box found : Area) → IsOwed page child p outer inner leaf area → IsOwed page child p other next box found → SamePosting outer inner other next leaf area box found
-one_owed page child p outer inner other next leaf area box found first second =
-    let above = same_Some _ _ (sym first.above ∙ second.above) in
-    let below = same_Some _ _ (sym first.below ∙ second.below) in
-    record {
-      outer_is = same_child outer other (ap (λ (x : Placed). x.leaf) above);
-      inner_is = same_sibling inner next (ap (λ (x : Placed). x.leaf) below);
-      leaf_is = ap (λ (x : Placed). x.area) above;
-      area_is = ap (λ (x : Placed). x.area) below;
-    }
-
-same_weight : (page : LivePage) (p : List ℕ) (outer inner other next : ℕ) (leaf area box found : Area) → SamePosting outer inner other next leaf area box found
-    → weight_of (posted_parent page p outer inner leaf area) ≡ weight_of (posted_parent page p other next box found)
-same_weight page p outer inner other next leaf area box found same =
-    ap (λ n. weight_of (posted_parent page p n inner leaf area)) same.outer_is
-    ∙ ap (λ n. weight_of (posted_parent page p other n leaf area)) same.inner_is
-    ∙ ap (λ a. weight_of (posted_parent page p other next a area)) same.leaf_is
-    ∙ ap (λ a. weight_of (posted_parent page p other next box a)) same.area_is
-
-pub one_plan : (page child : LivePage) (p : List ℕ) (icap : ℕ) (plan other : PostPlan) → IsPlan page child p icap plan → IsPlan page child p icap other → plan ≡ other
-one_plan page child p icap plans.Nothing plans.Nothing first second = refl
-one_plan page child p icap plans.Nothing (plans.Post at inner area) first second = absurd (first second.outer inner second.leaf area second.owed)
-one_plan page child p icap plans.Nothing plans.SplitFirst first second = absurd (first second.outer second.inner second.leaf second.area second.owed)
-one_plan page child p icap (plans.Post at inner area) plans.Nothing first second = absurd (second first.outer inner first.leaf area first.owed)
-one_plan page child p icap plans.SplitFirst plans.Nothing first second = absurd (second first.outer first.inner first.leaf first.area first.owed)
-one_plan page child p icap (plans.Post at inner area) (plans.Post to next found) first second =
-    let same = one_owed page child p first.outer inner second.outer next first.leaf area second.leaf found first.owed second.owed in
-    ap (λ w. plans.Post w inner area) (first.way ∙ sym second.way) ∙ ap (λ n. plans.Post to n area) same.inner_is ∙ ap (λ a. plans.Post to next a) same.area_is
-one_plan page child p icap (plans.Post at inner area) plans.SplitFirst first second =
-    let same = one_owed page child p first.outer inner second.outer second.inner first.leaf area second.leaf second.area first.owed second.owed in
-    absurd (omega (arith, first.room, second.heavy, same_weight page p first.outer inner second.outer second.inner first.leaf area second.leaf second.area same))
-one_plan page child p icap plans.SplitFirst (plans.Post at inner area) first second =
-    let same = one_owed page child p second.outer inner first.outer first.inner second.leaf area first.leaf first.area second.owed first.owed in
-    absurd (omega (arith, second.room, first.heavy, same_weight page p second.outer inner first.outer first.inner second.leaf area first.leaf first.area same))
-one_plan page child p icap plans.SplitFirst plans.SplitFirst first second = refl
 
 -- ---- the next number
 

@@ -1,4 +1,5 @@
 -- Two rows of one activity, over memories that have the same pages, are one deed.
+use Rattle.hb_terms.proofs.Facts.Owing.{one_plan}
 use Rattle.std.proofs.Common.{◌≡◌, ◌⊎◌, inl, inr, ℕ, ◌+◌, ◌<◌, List, [], ◌∷◌, length, Option, Some, None, refl, sym, ap, ◌∙◌, subst, arith, ◌≤◌}
 use Rattle.std.specs.Prelude.{MatchOption}
 use Rattle.std.proofs.lemmas.Option.{same_Some}
@@ -27,7 +28,7 @@ use Rattle.hb_activity.specs.Passing.{PassesOn, PartLeavesTo, corner_of}
 use Rattle.hb_activity.specs.Walks.{goal_of}
 use Rattle.hb_consol.specs.ConsolidatorRows.{ArrivesToMerge, ConsolidatorPasses, children_of, first_one}
 use Rattle.hb_core.proofs.TwoSteps.OneMerge.{one_decision, one_keep, one_scan, one_try, same_scan}
-use Rattle.hb_core.proofs.TwoSteps.OnePiece.{one_number, one_plan}
+use Rattle.hb_core.proofs.TwoSteps.OnePiece.{one_number}
 use Rattle.hb_point.proofs.Facts.ChosenCuts.{one_choice}
 use Rattle.hb_core.specs.Machines.{Machine, live_here, with_disk, sight}
 use Rattle.hb_core.specs.Rows.{DoesHere, Row, RowAlone, RowAt}

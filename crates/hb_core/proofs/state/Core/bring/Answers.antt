@@ -1,3 +1,5 @@
+use Rattle.hb_core.specs.Working.{IsWorking}
+use Rattle.hb_core.proofs.Running.StandsElsewhere.{stands_as}
 use Rattle.std.proofs.Common.{sym, subst, ◌∙◌}
 use Rattle.std.proofs.lemmas.Bool.{false≢true}
 use Rattle.std.proofs.lemmas.Result.{IfErr-weaker}
@@ -29,7 +31,13 @@ returns-in-Err-clause-halts g c m may work =
     (g.D.Device.model c.fetch.new.self.disk) _ (seen_as c.fetch.new.self) c.in-Err.stop c.in-Err.ensures.looks c.in-Err.ensures.kept
     (none_where _ (λ there. false≢true (c.in-Err.ensures.there there).0)) c.in-Err.ensures.why c.in-Err.ensures.sound)
 
-pub tested-requires-clause-look : goal.tested-requires-clause-look
-tested-requires-clause-look g c = looks_as c.requires.may.0 (g.D.Device.model c.args.self.now.store.disk) (core_seen c.args.self.now) c.args.actor c.requires.actor c.requires.may.1 c.requires.may.2 c.in-Some.wanted
-    (sym (c.requires.wanted c.requires.may.0 c.requires.may.1) ∙ c.in-Some.is)
-    (g.D.Device.model c.fetch.new.self.disk) _ (seen_as c.fetch.new.self) c.in-Ok.ensures.looks c.meta.ensures.store.memory c.in-Ok.ensures.fetched
+pub tested-requires : goal.tested-requires
+tested-requires g c = record {
+  actor = c.requires.actor;
+  there = c.in-Ok.ensures.fetched.there;
+  working = λ activity stands. subst IsWorking (stands_as (g.D.Device.model c.args.self.now.store.disk) (core_seen c.args.self.now) c.requires.may.0 c.args.actor activity c.requires.actor c.requires.may.1.shows stands) c.requires.may.2.working;
+  look =
+      looks_as c.requires.may.0 (g.D.Device.model c.args.self.now.store.disk) (core_seen c.args.self.now) c.args.actor c.requires.actor c.requires.may.1 c.requires.may.2 c.in-Some.wanted
+      (sym (c.requires.wanted c.requires.may.0 c.requires.may.1) ∙ c.in-Some.is)
+      (g.D.Device.model c.fetch.new.self.disk) _ (seen_as c.fetch.new.self) c.in-Ok.ensures.looks c.meta.ensures.store.memory c.in-Ok.ensures.fetched;
+}

@@ -14,32 +14,32 @@ pub ask_poster-requires : goal.ask_poster-requires
 ask_poster-requires g c =
     let has = c.requires.pages in
     may_ask_poster (g.D.Device.model (core_disk c.args.self.now)) (core_seen c.args.self.now) has.0 c.args.actor c.args.free c.requires.actor has.1 c.replace-state.result c.args.wanted (core_seen c.replace-state.new.self).store
-    c.replace-state.ensures.old (c.requires.wanted has.0 has.1) (ap (λ (core : RunningCore). core.store) c.replace-state.ensures.new) c.if-actor-eq-POSTER.true c.knows_point.ensures
+    c.replace-state.ensures.old (c.requires.wanted has.0 has.1) (ap (λ (core : RunningCore). core.store) c.replace-state.ensures.new.does) c.if-actor-eq-POSTER.true c.knows_point.ensures
 
 pub ask_session-requires : goal.ask_session-requires
 ask_session-requires g c =
     let has = c.requires.pages in
     may_ask_session (g.D.Device.model (core_disk c.args.self.now)) (core_seen c.args.self.now) has.0 c.args.actor c.args.free c.requires.actor has.1 c.replace-state.result c.args.wanted (core_seen c.replace-state.new.self).store
-    c.replace-state.ensures.old (c.requires.wanted has.0 has.1) (ap (λ (core : RunningCore). core.store) c.replace-state.ensures.new) (ne_eqb c.args.actor 17 c.if-actor-eq-POSTER.false) c.knows_point.ensures
+    c.replace-state.ensures.old (c.requires.wanted has.0 has.1) (ap (λ (core : RunningCore). core.store) c.replace-state.ensures.new.does) (ne_eqb c.args.actor 17 c.if-actor-eq-POSTER.false) c.knows_point.ensures
 
 pub returns-then-actor-eq-POSTER-clause-row : goal.returns-then-actor-eq-POSTER-clause-row
 returns-then-actor-eq-POSTER-clause-row g c =
     IfOk-weaker c.ask_poster.result _ _ (λ next row m has.
     decided_poster (g.D.Device.model (core_disk c.args.self.now)) (core_seen c.args.self.now) m c.args.actor c.args.free c.requires.actor has c.replace-state.result c.args.wanted (core_seen c.replace-state.new.self).store
-    (λ (activity : Activity). placed (length m.order) (deed_of activity next)) c.replace-state.ensures.old (c.requires.wanted m has) (ap (λ (core : RunningCore). core.store) c.replace-state.ensures.new)
+    (λ (activity : Activity). placed (length m.order) (deed_of activity next)) c.replace-state.ensures.old (c.requires.wanted m has) (ap (λ (core : RunningCore). core.store) c.replace-state.ensures.new.does)
     c.if-actor-eq-POSTER.true (row (length m.order))) c.ask_poster.ensures.row
 
 pub returns-then-actor-eq-POSTER-clause-memory : goal.returns-then-actor-eq-POSTER-clause-memory
 returns-then-actor-eq-POSTER-clause-memory g c =
     on_err_weaker c.ask_poster.result (λ asks m has.
     poster_starved (g.D.Device.model (core_disk c.args.self.now)) (core_seen c.args.self.now) m c.args.actor c.args.free c.requires.actor has c.replace-state.result c.args.wanted (core_seen c.replace-state.new.self).store
-    c.replace-state.ensures.old (c.requires.wanted m has) (ap (λ (core : RunningCore). core.store) c.replace-state.ensures.new) c.if-actor-eq-POSTER.true asks) c.ask_poster.ensures.memory
+    c.replace-state.ensures.old (c.requires.wanted m has) (ap (λ (core : RunningCore). core.store) c.replace-state.ensures.new.does) c.if-actor-eq-POSTER.true asks) c.ask_poster.ensures.memory
 
 pub returns-else-actor-eq-POSTER-clause-row : goal.returns-else-actor-eq-POSTER-clause-row
 returns-else-actor-eq-POSTER-clause-row g c =
     IfOk-weaker c.ask_session.result _ _ (λ next row m has.
     decided_session (g.D.Device.model (core_disk c.args.self.now)) (core_seen c.args.self.now) m c.args.actor c.args.free c.requires.actor has c.replace-state.result c.args.wanted (core_seen c.replace-state.new.self).store
-    (λ (activity : Activity). placed (length m.order) (deed_of activity next)) c.replace-state.ensures.old (c.requires.wanted m has) (ap (λ (core : RunningCore). core.store) c.replace-state.ensures.new)
+    (λ (activity : Activity). placed (length m.order) (deed_of activity next)) c.replace-state.ensures.old (c.requires.wanted m has) (ap (λ (core : RunningCore). core.store) c.replace-state.ensures.new.does)
     (ne_eqb c.args.actor 17 c.if-actor-eq-POSTER.false) (row (length m.order))) c.ask_session.ensures.row
 
 pub returns-else-actor-eq-POSTER-clause-memory : goal.returns-else-actor-eq-POSTER-clause-memory

@@ -6,4 +6,4 @@ use Rattle.hb_core.proofs.state.Core.perform.Goals as goal
 pub returns-clause-does : goal.returns-clause-does
 returns-clause-does g c = λ state hand.
     performed c.args.actor c.len-place.result c.args.line c.joins-joins.result c.args.next c.at_place.result c.outcome_of.result (core_seen c.args.self.now) (core_seen c.commit.new.self) (core_seen c.add_all.new.self) (core_seen c.stand.new.self) (core_seen c.join.new.self) state
-    hand (c.len-place.ensures ∙ c.args.self.now.order.ok.0) c.at_place.ensures c.joins-joins.ensures c.outcome_of.ensures c.in-Ok.ensures.done c.commit.ensures.rest c.add_all.ensures.jobs c.add_all.ensures.rest c.stand.ensures.stands c.join.ensures.joined
+    hand (c.len-place.ensures ∙ c.args.self.now.order.ok.0) c.at_place.ensures c.joins-joins.ensures c.outcome_of.ensures c.in-Ok.ensures.done c.commit.ensures.rest.does c.add_all.ensures.does.adds c.add_all.ensures.does.rest c.stand.ensures.does c.join.ensures.does

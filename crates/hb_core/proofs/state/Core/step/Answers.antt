@@ -1,5 +1,5 @@
 use Rattle.hb_core.proofs.state.Core.step.Goals as goal
-use Rattle.std.proofs.Common.{refl, ◌∙◌}
+use Rattle.std.proofs.Common.{Some, refl, ap, ◌∙◌}
 use Rattle.hb_core.specs.declared.outcomes.Outcome.TheVariants as outcomes
 use Rattle.hb_core.proofs.Running.Touched.{as_before_count, idle_well, line_well, posting_well, untouched, untouched_stopped}
 use Rattle.hb_core.proofs.Running.StepTaken.{await_step, counted, idle_stays, lies_behind, line_step, posting_step, stopped_stays, with_taken, work_step, works_then}
@@ -13,35 +13,46 @@ returns-in-Some g c = record {
   touches = untouched_stopped g.D.Device.model (core_disk c.args.self.now) (core_disk c.args.self.now) (core_seen c.args.self.now) _ (outcomes.Stopped c.copy_of.result) c.in-Some.why c.copy_of.result c.in-Some.is c.copy_of.ensures refl;
 }
 
-pub take_line-requires-clause-behind : goal.take_line-requires-clause-behind
-take_line-requires-clause-behind g c =
-    lies_behind (g.D.Device.model (core_disk c.args.self.now)) (core_seen c.args.self.now) c.requires.may.0 c.args.actor c.activity.result.now c.requires.actor c.requires.may.1 c.in_default.is c.activity.ensures c.in-SessionIdle.is
+pub take_line-requires : goal.take_line-requires
+take_line-requires g c = record {
+  actor = c.requires.actor;
+  behind =
+      lies_behind (g.D.Device.model (core_disk c.args.self.now)) (core_seen c.args.self.now) c.requires.may.0 c.args.actor c.activity.result.now c.requires.actor c.requires.may.1 c.in_default.is c.activity.ensures c.in-SessionIdle.is;
+}
 
-pub await_place-requires-clause-may : goal.await_place-requires-clause-may
-await_place-requires-clause-may g c =
+pub await_place-requires : goal.await_place-requires
+await_place-requires g c =
     let step = counted c.saturating_add-self.result (g.D.Device.model (core_disk c.args.self.now)) (core_seen c.args.self.now) c.requires.may.0 c.requires.may.1 in
-    (c.requires.may.0, step, step.shows.stop ∙ c.in_default.is)
+    record {
+      actor = c.requires.actor;
+      may = (c.requires.may.0, step, step.shows.stop ∙ c.in_default.is);
+      awaits = (c.in-SessionAwait.line, c.in-SessionAwait.reply, c.activity.ensures ∙ ap Some c.in-SessionAwait.is);
+    }
 
-pub work-requires-clause-may : goal.work-requires-clause-may
-work-requires-clause-may g c =
-    let step = counted c.saturating_add-self.result (g.D.Device.model (core_disk c.args.self.now)) (core_seen c.args.self.now) c.requires.may.0 c.requires.may.1 in (
-      c.requires.may.0,
-      step,
-      step.shows.stop ∙ c.in_default.is,
-      works_then (g.D.Device.model (core_disk c.args.self.now)) (with_taken c.saturating_add-self.result (core_seen c.args.self.now)) c.requires.may.0 c.args.actor c.activity.result.now c.requires.actor step c.in_default.is c.activity.ensures
-          (λ number place reply is. c.in_default-activity.not-SessionAwait number reply place is) c.in_default-activity.not-SessionIdle c.in_default-activity.not-PosterIdle c.in_default-activity.not-ConsolidatorIdle c.in_default-activity.not-Flusher,
-    )
+pub work-requires : goal.work-requires
+work-requires g c =
+    let step = counted c.saturating_add-self.result (g.D.Device.model (core_disk c.args.self.now)) (core_seen c.args.self.now) c.requires.may.0 c.requires.may.1 in
+    record {
+      actor = c.requires.actor;
+      may = (
+        c.requires.may.0,
+        step,
+        step.shows.stop ∙ c.in_default.is,
+        works_then (g.D.Device.model (core_disk c.args.self.now)) (with_taken c.saturating_add-self.result (core_seen c.args.self.now)) c.requires.may.0 c.args.actor c.activity.result.now c.requires.actor step c.in_default.is c.activity.ensures
+            (λ number place reply is. c.in_default-activity.not-SessionAwait number reply place is) c.in_default-activity.not-SessionIdle c.in_default-activity.not-PosterIdle c.in_default-activity.not-ConsolidatorIdle c.in_default-activity.not-Flusher,
+      );
+    }
 
 pub returns-in-SessionIdle : goal.returns-in-SessionIdle
 returns-in-SessionIdle g c = record {
   steps = λ m step.
       let mine = counted c.saturating_add-self.result (g.D.Device.model (core_disk c.args.self.now)) (core_seen c.args.self.now) m step in
       line_step g.D.Device.model (core_disk c.args.self.now) (core_disk c.take_line.new.self) (with_taken c.saturating_add-self.result (core_seen c.args.self.now)) (core_seen c.take_line.new.self) m c.args.actor c.activity.result.now c.take_line.result
-      c.requires.actor mine c.in_default.is c.activity.ensures c.in-SessionIdle.is c.take_line.ensures.disk c.take_line.ensures.takes;
+      c.requires.actor mine c.in_default.is c.activity.ensures c.in-SessionIdle.is c.take_line.ensures.disk c.take_line.ensures.does;
   touches =
       let behind = lies_behind (g.D.Device.model (core_disk c.args.self.now)) (core_seen c.args.self.now) c.requires.may.0 c.args.actor c.activity.result.now c.requires.actor c.requires.may.1 c.in_default.is c.activity.ensures c.in-SessionIdle.is in
       untouched g.D.Device.model (core_disk c.args.self.now) (core_disk c.take_line.new.self) (core_seen c.args.self.now) (core_seen c.take_line.new.self) c.take_line.result
-      (line_well c.args.actor behind.0 c.take_line.result (with_taken c.saturating_add-self.result (core_seen c.args.self.now)) (core_seen c.take_line.new.self) (c.take_line.ensures.takes behind.0 behind.1)) c.take_line.ensures.disk;
+      (line_well c.args.actor behind.0 c.take_line.result (with_taken c.saturating_add-self.result (core_seen c.args.self.now)) (core_seen c.take_line.new.self) (c.take_line.ensures.does behind.0 behind.1)) c.take_line.ensures.disk;
 }
 
 pub returns-in-SessionAwait : goal.returns-in-SessionAwait
@@ -50,7 +61,7 @@ returns-in-SessionAwait g c = record {
       let mine = counted c.saturating_add-self.result (g.D.Device.model (core_disk c.args.self.now)) (core_seen c.args.self.now) m step in
       await_step g.D.Device.model (core_disk c.args.self.now) (core_disk c.await_place.new.self) (with_taken c.saturating_add-self.result (core_seen c.args.self.now)) (core_seen c.await_place.new.self) m c.args.actor c.activity.result.now c.await_place.result
       c.requires.actor mine c.in_default.is c.activity.ensures c.in-SessionAwait.line c.in-SessionAwait.place c.in-SessionAwait.reply c.in-SessionAwait.is
-      (λ runs is. c.await_place.ensures.awaits m c.in-SessionAwait.line c.in-SessionAwait.reply mine runs is);
+      (λ runs is. c.await_place.ensures.steps m mine c.in-SessionAwait.line c.in-SessionAwait.reply runs is);
   touches = as_before_count g.D.Device.model (core_disk c.args.self.now) (core_disk c.await_place.new.self) c.saturating_add-self.result (core_seen c.args.self.now) (core_seen c.await_place.new.self) c.await_place.result c.await_place.ensures.touches;
 }
 
@@ -59,9 +70,9 @@ returns-in-PosterIdle g c = record {
   steps = λ m step.
       let mine = counted c.saturating_add-self.result (g.D.Device.model (core_disk c.args.self.now)) (core_seen c.args.self.now) m step in
       posting_step g.D.Device.model (core_disk c.args.self.now) (core_disk c.take_posting.new.self) (with_taken c.saturating_add-self.result (core_seen c.args.self.now)) (core_seen c.take_posting.new.self) m c.args.actor c.activity.result.now c.take_posting.result
-      c.requires.actor mine c.in_default.is c.activity.ensures c.in-PosterIdle.is c.take_posting.ensures.disk c.take_posting.ensures.takes;
+      c.requires.actor mine c.in_default.is c.activity.ensures c.in-PosterIdle.is c.take_posting.ensures.disk c.take_posting.ensures.does;
   touches = untouched g.D.Device.model (core_disk c.args.self.now) (core_disk c.take_posting.new.self) (core_seen c.args.self.now) (core_seen c.take_posting.new.self) c.take_posting.result
-      (posting_well c.args.actor c.take_posting.result (with_taken c.saturating_add-self.result (core_seen c.args.self.now)) (core_seen c.take_posting.new.self) c.take_posting.ensures.takes) c.take_posting.ensures.disk;
+      (posting_well c.args.actor c.take_posting.result (with_taken c.saturating_add-self.result (core_seen c.args.self.now)) (core_seen c.take_posting.new.self) c.take_posting.ensures.does) c.take_posting.ensures.disk;
 }
 
 pub returns-in_default-activity : goal.returns-in_default-activity

@@ -8,11 +8,11 @@ use Rattle.hb_core.proofs.Running.WorkDone.{blocked, given_up, holds_line, looks
 use Rattle.hb_core.proofs.Running.WorkTouches.{done_touches, given_up_touches, row_well, stopped_touches}
 use Rattle.hb_core.proofs.state.Core.work.Goals as goal
 
-pub wanted-wanted-requires-clause-look : goal.wanted-wanted-requires-clause-look
-wanted-wanted-requires-clause-look g c = looks_now (g.D.Device.model (core_disk c.args.self.now)) (core_seen c.args.self.now) c.requires.may.0 c.args.actor c.requires.actor c.requires.may.1
+pub wanted-wanted-requires : goal.wanted-wanted-requires
+wanted-wanted-requires g c = record { actor = c.requires.actor; look = looks_now (g.D.Device.model (core_disk c.args.self.now)) (core_seen c.args.self.now) c.requires.may.0 c.args.actor c.requires.actor c.requires.may.1 }
 
-pub is_unready-requires-clause-look : goal.is_unready-requires-clause-look
-is_unready-requires-clause-look g c = looks_now (g.D.Device.model (core_disk c.args.self.now)) (core_seen c.args.self.now) c.requires.may.0 c.args.actor c.requires.actor c.requires.may.1
+pub is_unready-requires : goal.is_unready-requires
+is_unready-requires g c = record { actor = c.requires.actor; look = looks_now (g.D.Device.model (core_disk c.args.self.now)) (core_seen c.args.self.now) c.requires.may.0 c.args.actor c.requires.actor c.requires.may.1 }
 
 pub returns-in-Some-clause-works : goal.returns-in-Some-clause-works
 returns-in-Some-clause-works g c m step runs works =
@@ -20,7 +20,7 @@ returns-in-Some-clause-works g c m step runs works =
 
 pub returns-then-is_unready-clause-works : goal.returns-then-is_unready-clause-works
 returns-then-is_unready-clause-works g c m step runs works =
-    let done = c.get_ready.ensures.readies m step runs works in (
+    let done = c.get_ready.ensures.steps m step runs works in (
       done.0,
       inr (inl (
         way_free (g.D.Device.model (core_disk c.args.self.now)) (core_seen c.args.self.now) m c.args.actor c.requires.actor step c.wanted-wanted.result (wants (g.D.Device.model (core_disk c.args.self.now)) (core_seen c.args.self.now) m c.args.actor c.requires.actor step c.wanted-wanted.result c.wanted-wanted.ensures) (c.in_the_way.ensures.free c.in_default.is),
@@ -30,13 +30,17 @@ returns-then-is_unready-clause-works g c m step runs works =
       done.2,
     )
 
-pub do_row-requires-clause-may : goal.do_row-requires-clause-may
-do_row-requires-clause-may g c =
+pub do_row-requires-clause-row : goal.do_row-requires-clause-row
+do_row-requires-clause-row g c =
     let m = c.requires.may.0 in
     let step = c.requires.may.1 in
     let runs = c.requires.may.2 in
     let works = c.requires.may.3 in
-    (m, step, may_work (g.D.Device.model (core_disk c.args.self.now)) (core_seen c.args.self.now) m c.args.actor c.requires.actor step c.wanted-wanted.result c.is_unready.result runs works c.wanted-wanted.ensures (c.in_the_way.ensures.free c.in_default.is) c.is_unready.ensures c.if-is_unready.false)
+    record {
+      actor = c.requires.actor;
+      may = (m, step, may_work (g.D.Device.model (core_disk c.args.self.now)) (core_seen c.args.self.now) m c.args.actor c.requires.actor step c.wanted-wanted.result c.is_unready.result runs works c.wanted-wanted.ensures (c.in_the_way.ensures.free c.in_default.is) c.is_unready.ensures c.if-is_unready.false);
+      wanted = λ n its. wants (g.D.Device.model (core_disk c.args.self.now)) (core_seen c.args.self.now) n c.args.actor c.requires.actor its c.wanted-wanted.result c.wanted-wanted.ensures;
+    }
 
 pub do_row-requires-clause-line : goal.do_row-requires-clause-line
 do_row-requires-clause-line g c m step =
@@ -79,10 +83,10 @@ returns-in-Err-GivesUp-clause-touches g c =
 pub returns-in-Err-Stops-clause-works : goal.returns-in-Err-Stops-clause-works
 returns-in-Err-Stops-clause-works g c m step runs works =
     let work = may_work (g.D.Device.model (core_disk c.args.self.now)) (core_seen c.args.self.now) m c.args.actor c.requires.actor step c.wanted-wanted.result c.is_unready.result runs works c.wanted-wanted.ensures (c.in_the_way.ensures.free c.in_default.is) c.is_unready.ensures c.if-is_unready.false in
-    stopped g.D.Device.model (core_disk c.do_row.new.self) (core_disk c.stop_for.new.self) (core_seen c.do_row.new.self) (core_seen c.stop_for.new.self) m c.args.actor c.requires.actor work c.stop_for.ensures.disk
+    stopped g.D.Device.model (core_disk c.do_row.new.self) (core_disk c.stop_for.new.self) (core_seen c.do_row.new.self) (core_seen c.stop_for.new.self) m c.args.actor c.requires.actor work c.stop_for.ensures.stops.disk
     c.in-Err-Stops.why (core_seen c.args.self.now) c.stop_for.result
     (subst (λ (h : Halt). Halts m c.args.actor h (g.D.Device.model (core_disk c.do_row.new.self)) (core_seen c.do_row.new.self)) c.in-Err-Stops.field-0-is (c.in-Err-Stops.ensures.halts m step work))
-    (step.shows.activities c.args.actor c.requires.actor) (c.in-Err-Stops.ensures.intact (subst IsStop (sym c.in-Err-Stops.field-0-is) tt)) c.stop_for.ensures.says c.stop_for.ensures.stops
+    (step.shows.activities c.args.actor c.requires.actor) (c.in-Err-Stops.ensures.intact (subst IsStop (sym c.in-Err-Stops.field-0-is) tt)) c.stop_for.ensures.says c.stop_for.ensures.stops.does
 
 pub returns-in-Err-Stops-clause-touches : goal.returns-in-Err-Stops-clause-touches
 returns-in-Err-Stops-clause-touches g c =
@@ -92,6 +96,6 @@ returns-in-Err-Stops-clause-touches g c =
     let works = c.requires.may.3 in
     let work = may_work (g.D.Device.model (core_disk c.args.self.now)) (core_seen c.args.self.now) m c.args.actor c.requires.actor step c.wanted-wanted.result c.is_unready.result runs works c.wanted-wanted.ensures (c.in_the_way.ensures.free c.in_default.is) c.is_unready.ensures c.if-is_unready.false in
     let halts = subst (λ (h : Halt). Halts m c.args.actor h (g.D.Device.model (core_disk c.do_row.new.self)) (core_seen c.do_row.new.self)) c.in-Err-Stops.field-0-is (c.in-Err-Stops.ensures.halts m step work) in
-    subst (λ (k : _). Touches (g.D.Device.model (core_disk c.args.self.now)) (core_seen c.args.self.now) c.stop_for.result (g.D.Device.model k) (core_seen c.stop_for.new.self)) (sym c.stop_for.ensures.disk)
+    subst (λ (k : _). Touches (g.D.Device.model (core_disk c.args.self.now)) (core_seen c.args.self.now) c.stop_for.result (g.D.Device.model k) (core_seen c.stop_for.new.self)) (sym c.stop_for.ensures.stops.disk)
     (stopped_touches (g.D.Device.model (core_disk c.args.self.now)) (g.D.Device.model (core_disk c.do_row.new.self)) (core_seen c.args.self.now) (core_seen c.stop_for.new.self) c.stop_for.result m c.args.actor (core_seen c.do_row.new.self).store c.in-Err-Stops.why halts.cause c.stop_for.ensures.says
     (subst (λ (h : Halt). ReadsOnly (IsReadHalt h) (g.D.Device.model (core_disk c.args.self.now)) (g.D.Device.model (core_disk c.do_row.new.self))) c.in-Err-Stops.field-0-is c.in-Err-Stops.ensures.reads))
