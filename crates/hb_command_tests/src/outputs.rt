@@ -83,6 +83,59 @@ fn replies(rt: HostRuntime) {
     }
 }
 
+/// A body, and what is printed of it. Only those without a byte outside 33 to 126 can come from a command.
+const BODIES: [(&[u8], &str); 16] = [
+    (b"", "="),
+    (b"=", "=="),
+    (b"%41", "=%41"),
+    (b"!~", "=!~"),
+    (b" ", "%20"),
+    (b"\n", "%0a"),
+    (&[0], "%00"),
+    (&[127], "%7f"),
+    (&[128], "%80"),
+    (&[255], "%ff"),
+    (b"\nA", "%0a41"),
+    (b"a b", "%612062"),
+    (b"a\n", "%610a"),
+    (&[9, 144, 154, 169], "%09909aa9"),
+    (
+        b"x\n2 ok\norder 2",
+        "%780a32206f6b0a6f726465722032",
+    ),
+    (
+        &[255; 32],
+        "%ffffffffffffffffffffffffffffffffffffffffffffffffffffffffffffffff",
+    ),
+];
+
+/// The reply to a search with one record, which has this body.
+fn box_with(alloc: Global, body: Body) -> Option<Reply> {
+    let mut records = Vec::new(alloc);
+    let key = Point::new(&[5]);
+    records.push(Record { key, body }).ok()?;
+    Some(Reply::Within(Records::new(records)))
+}
+
+/// Whether a body is put so, under a lookup and under a search, and each line in one put.
+fn says_body(alloc: Global, bytes: &[u8], want: &str) -> Option<bool> {
+    if bytes.len() > 32 {
+        return None;
+    }
+    let mut sink = sink_of(alloc, NEVER)?;
+    put_reply(&mut sink, 7, &Reply::Found(Body::new(bytes))).ok()?;
+    put_reply(&mut sink, 8, &box_with(alloc, Body::new(bytes))?).ok()?;
+    let text = format!(in alloc; "7 found {want}\n8 box 1\n+ 5 {want}\n").ok()?;
+    Some(sink.bytes() == text.as_bytes() && sink.calls_made() == 3)
+}
+
+#[test]
+fn bodies(rt: HostRuntime) {
+    for &(bytes, want) in &BODIES {
+        assert!(rt; says_body(rt.alloc(), bytes, want) == Some(true), "{want}");
+    }
+}
+
 /// The lines of an order, how many of them are settled, and its text.
 const ORDERS: [(&[u32], u32, &str); 6] = [
     (&[], 0, "order\n"),

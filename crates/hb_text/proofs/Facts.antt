@@ -1,4 +1,5 @@
 pub mod ActorLaws
+pub mod BodyLaws
 pub mod CommandLaws
 pub mod FirstLineFeed
 pub mod TextFront

@@ -10,6 +10,7 @@ pub mod Words
 pub mod StepWords
 pub mod Operands
 pub mod Steps
+pub mod BodyText
 pub mod Output
 pub mod Reading
 pub mod Waiting

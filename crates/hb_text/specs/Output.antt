@@ -6,6 +6,7 @@ use Rattle.hb_space.specs.declared.records.Record.{Record}
 use Rattle.hb_set.specs.declared.commands.Reply.{Reply}
 use Rattle.hb_set.specs.declared.commands.Reply.TheVariants.{Done, Duplicate, Absent, Found, Missing, Within, Full, NoMemory, ReadFault}
 use Rattle.hb_set.specs.declared.scripts.Answered.{Answered}
+use Rattle.hb_text.specs.BodyText.{body_text}
 
 -- numbers, each after a space
 abbrev pub numbers_text : List ℕ → List ℕ
@@ -13,14 +14,14 @@ numbers_text ns = flat_map (λ n. 32 ∷ decimal n) ns
 
 -- a record of a search's reply, in a line of its own
 abbrev pub record_text : Record → List ℕ
-record_text r = (43 ∷ numbers_text r.key) ++ codes " =" ++ r.body ++ codes "\n"
+record_text r = (43 ∷ numbers_text r.key) ++ codes " " ++ body_text r.body ++ codes "\n"
 
 -- what follows the line's number
 abbrev pub said_of : Reply → List ℕ
 said_of Done = codes " ok\n"
 said_of Duplicate = codes " duplicate\n"
 said_of Absent = codes " absent\n"
-said_of (Found body) = codes " found =" ++ body ++ codes "\n"
+said_of (Found body) = codes " found " ++ body_text body ++ codes "\n"
 said_of Missing = codes " none\n"
 said_of (Within records) = codes " box " ++ decimal (length records) ++ codes "\n" ++ flat_map record_text records
 said_of Full = codes " full\n"

@@ -1,10 +1,15 @@
-//! What follows of the command text from the definitions alone. Each law is the contract of a
-//! function that does nothing: a caller learns it by the call.
+//! What follows of the command text and of the output from the definitions alone. Each law is the
+//! contract of a function that does nothing: a caller learns it by the call.
 
-ghost use Rattle.std.specs.Prelude.{◌≡◌, ◌≢◌, ◌<◌, ◌^◌, ◌↔◌, ℕ, List, [], ◌∷◌, ◌++◌, length, Ok};
+ghost use Rattle.std.specs.Prelude.{◌≡◌, ◌≢◌, ◌<◌, ◌^◌, ◌↔◌, ℕ, List, [], ◌∷◌, ◌++◌, length, codes, Ok};
 ghost use Rattle.std.specs.List.{AllByRecursion, join_with_byte};
 ghost use Rattle.std.specs.Fmt.{decimal};
+ghost use Rattle.hb_space.specs.Points.{IsPoint, IsBody};
+ghost use Rattle.hb_space.specs.declared.records.Record.{Record};
+ghost use Rattle.hb_set.specs.declared.commands.Reply.TheVariants.{Found};
+ghost use Rattle.hb_text.specs.BodyText.{body_text, IsVisible};
 ghost use Rattle.hb_text.specs.Numbers.{number_read};
+ghost use Rattle.hb_text.specs.Output.{numbers_text, record_text, reply_text};
 ghost use Rattle.hb_text.specs.Words.{lines_of, words_of};
 ghost use Rattle.hb_text.specs.TextLaws.{HasNo, with_line_feeds};
 
@@ -32,4 +37,16 @@ pub fn words_make_the_line()
     ensures whole { (line : List ℕ) → join_with_byte 32 (words_of line) ≡ line }
     ensures back { (words : List (List ℕ)) → 0 < length words → AllByRecursion (HasNo 32) words → words_of (join_with_byte 32 words) ≡ words }
     ensures cut { (line : List ℕ) → AllByRecursion (HasNo 32) (words_of line) }
+{}
+
+/// No body can be taken for other output. Bodies that are printed the same are the same; what is
+/// printed of one has no space and no control byte; and the line that it stands in is one line.
+#[tactic(auto, using(crate::proofs::Facts::BodyLaws::one_body, crate::proofs::Facts::BodyLaws::printed_is_visible, crate::proofs::Facts::BodyLaws::found_is_a_line, crate::proofs::Facts::BodyLaws::record_is_a_line))]
+pub fn bodies_forge_no_output()
+    ensures same { (a b : List ℕ) → body_text a ≡ body_text b → a ≡ b }
+    ensures visible { (body : List ℕ) → IsBody body → AllByRecursion IsVisible (body_text body) }
+    ensures found { (line : ℕ) (body : List ℕ) → line < 2 ^ 64 → IsBody body →
+        lines_of (reply_text line (Found body)) ≡ (decimal line ++ (codes " found " ++ body_text body)) ∷ [] }
+    ensures held { (r : Record) → IsPoint r.key → IsBody r.body →
+        lines_of (record_text r) ≡ ((43 ∷ numbers_text r.key) ++ codes " " ++ body_text r.body) ∷ [] }
 {}

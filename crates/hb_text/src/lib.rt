@@ -6,8 +6,9 @@
 //! the number that a word says, and tells a word that is none from a number that is too large.
 //! `put_reply`, `put_left` and `put_order` write the lines of an answer, of a line that has none,
 //! and of the order, as `specs/Output.antt` has them: all of them, or the front that a failing sink
-//! took. The functions of `laws` say what follows from the grammar alone: numbers are decimal
-//! spellings, lines and words make the text that they were cut from.
+//! took. The functions of `laws` say what follows from the definitions alone: numbers are decimal
+//! spellings, lines and words make the text that they were cut from, and no body that is printed
+//! can be taken for other output.
 //!
 //! Invariants: a line that is read has a number from 1 to 1,000,000 and a session from 1 to 16, its
 //! command has as many attributes as were asked for, and lines stand in the order of their numbers.

@@ -13,8 +13,9 @@ use hb_space::{Body, Record};
 // A piece with more bytes is put before another number is added.
 const FULL: usize = 160;
 
-/// Puts the lines of a reply to the line of this number: one put for each line. After `Failed` a
-/// front of them was put.
+/// Puts the lines of a reply to the line of this number: one put for each line. A body that no
+/// command can say is spelled in digits, so that it can't be taken for other lines
+/// (`bodies_forge_no_output`). After `Failed` a front of them was put.
 pub fn put_reply<K: Sink>(sink: &mut K, line: u32, reply: &Reply) -> Result<(), Failed>
     ensures { Puts (reply_text line reply.now) result (K.model sink.old) (K.model sink.new) }
 {
@@ -119,7 +120,7 @@ fn make_room<K: Sink>(sink: &mut K, piece: &mut LineBuffer) -> Result<(), Failed
 
 // Puts a line's number and what is said of that line, which is short.
 fn put_said<K: Sink>(sink: &mut K, line: u32, said: &[u8]) -> Result<(), Failed>
-    requires { length said.now ≤ 64 }
+    requires { length said.now ≤ 80 }
     ensures { Puts (decimal line ++ said.now) result (K.model sink.old) (K.model sink.new) }
 {
     let mut text = LineBuffer::new();
@@ -133,8 +134,8 @@ fn put_found<K: Sink>(sink: &mut K, line: u32, body: &Body) -> Result<(), Failed
     ensures { Puts (reply_text line (Reply.Found body.now)) result (K.model sink.old) (K.model sink.new) }
 {
     let mut said = LineBuffer::new();
-    said.add(b" found =");
-    said.add(body.bytes());
+    said.add(b" found ");
+    said.add_body(body);
     said.add(b"\n");
     put_said(sink, line, said.as_slice())
 }
@@ -185,8 +186,8 @@ fn record_line(record: &Record) -> LineBuffer
     let mut line = LineBuffer::new();
     line.add(b"+");
     line.add_numbers(record.key.values());
-    line.add(b" =");
-    line.add(record.body.bytes());
+    line.add(b" ");
+    line.add_body(&record.body);
     line.add(b"\n");
     line
 }

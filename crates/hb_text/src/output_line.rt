@@ -1,11 +1,14 @@
 // A line of output text while it is built, in a buffer on the stack.
-ghost use Rattle.std.specs.Prelude.{◌≡◌, ◌+◌, ◌*◌, ◌≤◌, [], ◌∷◌, ◌++◌, length, decimal};
+ghost use Rattle.std.specs.Prelude.{◌≡◌, ◌+◌, ◌*◌, ◌<◌, ◌≤◌, [], ◌∷◌, ◌++◌, length, decimal};
+ghost use Rattle.std.specs.List.{list_all, flat_map};
+ghost use Rattle.hb_text.specs.BodyText.{body_text, byte_digits, hex_digit, is_visible};
 ghost use Rattle.hb_text.specs.Output.{numbers_text};
 
 use arrayvec::ArrayVec;
+use hb_space::Body;
 use itoa::Buffer;
 
-// Room for the longest line, which is a record's: 1 + 4 * 21 + 2 + 32 + 1 bytes.
+// Room for the longest line, which is a record's: 1 + 4 * 21 + 1 + 65 + 1 bytes.
 const ROOM: usize = 192;
 
 // The bytes of a line so far.
@@ -62,6 +65,7 @@ impl LineBuffer {
         let mut digits = Buffer::new();
         self.add(digits.format(n).as_bytes());
     }
+
     // Adds a space and a number in decimal, for which there is room.
     pub fn add_word(&mut self, n: u64)
         requires { length self.old.bytes.items + 21 ≤ ROOM }
@@ -81,5 +85,52 @@ impl LineBuffer {
         for number in numbers {
             self.add_word(*number);
         }
+    }
+
+    // Adds a body, for which there is room.
+    #[tactic(auto, unfolding(crate::specs::BodyText::body_text))]
+    pub fn add_body(&mut self, body: &Body)
+        requires { length self.old.bytes.items + 65 ≤ ROOM }
+        ensures text { self.new.bytes.items ≡ self.old.bytes.items ++ body_text body.now }
+        ensures longer { length self.new.bytes.items ≤ length self.old.bytes.items + 65 }
+    {
+        let bytes = body.bytes();
+        if are_visible(bytes) {
+            self.add(b"=");
+            self.add(bytes);
+        } else {
+            self.add(b"%");
+            self.add_digits(bytes);
+        }
+    }
+
+    // Adds two digits for each byte, for which there is room.
+    fn add_digits(&mut self, bytes: &[u8])
+        requires { length self.old.bytes.items + 2 * length bytes.now ≤ ROOM }
+        ensures text { self.new.bytes.items ≡ self.old.bytes.items ++ flat_map byte_digits bytes.now }
+        ensures longer { length self.new.bytes.items ≤ length self.old.bytes.items + 2 * length bytes.now }
+    {
+        for byte in bytes {
+            self.add(&[hex_digit(*byte / 16), hex_digit(*byte % 16)]);
+        }
+    }
+}
+
+// Whether a body of a command may have all these bytes.
+fn are_visible(bytes: &[u8]) -> bool
+    ensures { result ≡ list_all is_visible bytes.now }
+{
+    bytes.iter().all(|byte| 33 <= *byte && *byte <= 126)
+}
+
+// The hexadecimal digit of a number.
+fn hex_digit(number: u8) -> u8
+    requires { number < 16 }
+    ensures { result ≡ hex_digit number }
+{
+    if number < 10 {
+        b'0' + number
+    } else {
+        b'a' - 10 + number
     }
 }

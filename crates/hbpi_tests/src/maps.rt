@@ -1,7 +1,7 @@
 //! The pages of files of more than one page, behind a recovery. Pages and their bytes were worked out by hand, after
 //! `docs/FORMAT.md`: each page is spelled as its head, its box, and its cuts and leaves from the left.
 
-use crate::runs::{CREATE, SIZE, drive_on, left_of};
+use crate::runs::{CREATE, SIZE, drive_on, expect_said, left_of};
 use crate::taller::{BETWEEN, POSTING, SEVEN, TWELVE};
 use std::alloc::Global;
 
@@ -186,10 +186,10 @@ const POSTED: [(&str, usize, &str); 5] = [
     ),
 ];
 
-/// The file by hand.
-fn owed(alloc: Global) -> Option<Vec<u8>> {
+/// A file by hand: what stands at these places of it, and zeros elsewhere.
+fn by_hand(alloc: Global, places: &[(usize, &str)]) -> Option<Vec<u8>> {
     let mut file = vec![in alloc; 0; SIZE].ok()?;
-    for &(at, text) in &OWED {
+    for &(at, text) in places {
         let bytes = spelled(alloc, text)?;
         for (place, byte) in file.iter_mut().skip(at).zip(bytes.as_slice()) {
             *place = *byte;
@@ -200,7 +200,7 @@ fn owed(alloc: Global) -> Option<Vec<u8>> {
 
 /// Whether the text leaves this at a place, behind a recovery.
 fn is_posted(alloc: Global, text: &str, at: usize, want: &str) -> Option<bool> {
-    let left = drive_on(alloc, text, owed(alloc)?.as_slice())?;
+    let left = drive_on(alloc, text, by_hand(alloc, &OWED)?.as_slice())?;
     if left.said.as_str() != OVERTAKEN_SAID {
         return None;
     }
@@ -216,4 +216,25 @@ fn a_child_splits_before_it_is_posted(rt: HostRuntime) {
             "{at} {want}"
         );
     }
+}
+
+/// A file of height 1 by hand. The body under the point 5 is `x`, a line feed, `2 ok`, a line feed, `order 2`, which no command
+/// can say.
+const FORGED: [(usize, &str); 2] = [
+    (
+        0,
+        "a5 4842504954524545 01 00 01 01 00000040 00010000 0006 0020 00000001 00000001 00000001 00000000",
+    ),
+    (
+        PAGE_1,
+        "01000100 0000000000000000 ffffffffffffffff 01 0001 0000000000000005 0e 78 0a 32206f6b 0a 6f726465722032",
+    ),
+];
+
+#[test]
+fn a_file_forges_no_output(rt: HostRuntime) {
+    let file = by_hand(rt.alloc(), &FORGED).expect(&rt, "memory");
+    let text = "1 lookup 5\nstep 1x4\n";
+    let want = "0 1 found %780a32206f6b0a6f726465722032\norder 1\n";
+    expect_said(&rt, drive_on(rt.alloc(), text, &file), want, text);
 }

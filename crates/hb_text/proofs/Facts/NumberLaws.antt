@@ -13,7 +13,8 @@ use Rattle.hb_text.specs.declared.numbers.NumberFault.TheVariants.{NotANumber, A
 use Rattle.hb_text.specs.Numbers.{is_number, number_read}
 use Rattle.hb_lemmas.proofs.Booleans.{chosen}
 
-own : IsNumeralModel (λ ds. list_all is_ascii_digit ds ≡ true) (digits_value 10)
+-- the digits of a number, and its value by them
+pub own : IsNumeralModel (λ ds. list_all is_ascii_digit ds ≡ true) (digits_value 10)
 own = numerals_by_value _ (search rules)
 
 -- decimal digits, one or more, with no leading zero
