@@ -36,3 +36,11 @@ SharedKeepsNone = (table : LockTable) (actor other : ℕ) (lock held : BoxLock) 
 abbrev pub AloneHasItsPoints : Type 0
 AloneHasItsPoints = (table : LockTable) (actor other : ℕ) (lock held : BoxLock) → AreSharedWhereTheyMeet table → actor ≢ other →
     lock_at table actor ≡ Some lock → lock_at table other ≡ Some held → lock.shared ≡ false → Disjoint lock.area held.area
+
+-- Where each locked box has so many attributes, each has so many after each call, too.
+abbrev pub TakingKeepsAttributes : Type 0
+TakingKeepsAttributes = (table : LockTable) (actor : ℕ) (lock : BoxLock) (k : ℕ) → HaveAttributes table k → length lock.area.lo ≡ k →
+    HaveAttributes (map.insert table actor lock) k
+
+abbrev pub ReleasingKeepsAttributes : Type 0
+ReleasingKeepsAttributes = (table : LockTable) (actor k : ℕ) → HaveAttributes table k → HaveAttributes (map.remove table actor) k

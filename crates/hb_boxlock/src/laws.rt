@@ -1,9 +1,10 @@
 //! What follows of locks from their definitions alone. Each law is the contract of a function that does
 //! nothing: a caller learns it by the call.
 
+ghost use Rattle.std.specs.Prelude.{ℕ};
 ghost use Rattle.std.specs.FinMap as map;
-ghost use Rattle.hb_boxlock.specs.Laws.{AloneHasItsPoints, ReleasedMayBeHad, ReleasesOneLock, ReleasingKeepsThemShared, SharedKeepsNone, TakesOneLock, TakingKeepsThemShared};
-ghost use Rattle.hb_boxlock.specs.Locking.{AreSharedWhereTheyMeet};
+ghost use Rattle.hb_boxlock.specs.Laws.{AloneHasItsPoints, ReleasedMayBeHad, ReleasesOneLock, ReleasingKeepsAttributes, ReleasingKeepsThemShared, SharedKeepsNone, TakesOneLock, TakingKeepsAttributes, TakingKeepsThemShared};
+ghost use Rattle.hb_boxlock.specs.Locking.{AreSharedWhereTheyMeet, HaveAttributes};
 
 /// What is taken changes one actor's lock, and so does what is released.
 #[tactic(auto, using(crate::proofs::Places::after_insert, crate::proofs::Places::after_remove))]
@@ -37,4 +38,12 @@ pub fn shared_locks_go_together()
 #[tactic(auto, using(crate::proofs::Sharing::alone_there))]
 pub fn a_lock_for_one_alone_has_its_points()
     ensures { AloneHasItsPoints }
+{}
+
+/// Where each locked box has so many attributes, each has so many after each call, too.
+#[tactic(auto, using(crate::proofs::Facts::LockedBoxes::none_locked, crate::proofs::Facts::LockedBoxes::attributes_taken, crate::proofs::Facts::LockedBoxes::attributes_released))]
+pub fn locked_boxes_keep_their_attributes()
+    ensures none { (k : ℕ) → HaveAttributes map.empty k }
+    ensures taken { TakingKeepsAttributes }
+    ensures released { ReleasingKeepsAttributes }
 {}
