@@ -9,16 +9,16 @@ cd "$room" || exit 2
 # says NAME WANT GOT: WANT and GOT are an output, with a slash for each line feed, and a status.
 says() {
     if [ "$2" = "$3" ]; then
-        echo "ok   $1: $3"
+        printf '%s\n' "ok   $1: $3"
     else
-        echo "BAD  $1: $3, but wanted: $2"
+        printf '%s\n' "BAD  $1: $3, but wanted: $2"
         bad=1
     fi
 }
 
-# The output of a call with a slash for each line feed, and its status.
+# The output of a call with a slash for each line feed, and its status. Its standard error goes to the file told.
 call() {
-    out=$("$@")
+    out=$("$@" 2>told)
     status=$?
     printf '%s (%d)' "$(printf '%s' "$out" | tr '\n' '/')" "$status"
 }
@@ -31,4 +31,9 @@ drive() {
 
 make() {
     call "$HBPI" "$1" create 1 64 65536 6 32 </dev/null
+}
+
+# hears NAME WANT: what the last call told on its standard error, with # for the number of a process.
+hears() {
+    says "$1" "$2" "$(sed 's/new-[0-9]*/new-#/' told | tr '\n' '/')"
 }

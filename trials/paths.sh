@@ -1,34 +1,74 @@
 #!/bin/sh
-# Files that are there, that aren't, and that can't be had.
+# Files that are there, that aren't, and that can't be had; and words that are no call.
 . "$(dirname "$(readlink -f "$0")")/lib.sh"
 
 says "create" "created (0)" "$(make f)"
+hears "nothing is told" ""
 says "size" "401408" "$(stat -c %s f)"
 says "insert" "1 ok/order 1 (0)" "$(drive f '1 insert 5 =a/step 1x4')"
 before=$(cksum <f)
 says "create on a file that is there" "disk fault (6)" "$(make f)"
+hears "told" "hbpi: \"f\": can't be made: one of this name is there/"
 says "and it is as it was" "$before" "$(cksum <f)"
 says "lookup" "1 found =a/order 1 (0)" "$(drive f '1 lookup 5/step 1x3')"
 ln -s nowhere link
 says "create on a link that leads nowhere" "disk fault (6)" "$(make link)"
+hears "told" "hbpi: \"link\": can't be made: one of this name is there/"
+says "drive of it" "disk fault (6)" "$(drive link '')"
 says "create in a folder that isn't there" "disk fault (6)" "$(make none/f)"
+hears "told" "hbpi: \"none/f\": can't be made beside it, as .new-#: its folder isn't there/"
+says "create below a file" "disk fault (6)" "$(make f/g)"
+hears "told" "hbpi: \"f/g\": can't be made: Not a directory (os error 20)/"
+says "create under a name without a letter" "disk fault (6)" "$(make '')"
 says "drive of a file that isn't there" "disk fault (6)" "$(drive none '')"
+hears "told" "hbpi: \"none\": can't be opened for reading and writing: No such file or directory (os error 2)/"
 [ -e none ] && says "a file was made" no yes
+says "a name of two lines is told in one" "disk fault (6)" "$(drive "a
+b" '')"
+hears "told" "hbpi: \"a\\nb\": can't be opened for reading and writing: No such file or directory (os error 2)/"
 mkdir folder
+says "create on a folder" "disk fault (6)" "$(make folder)"
 says "drive of a folder" "disk fault (6)" "$(drive folder '')"
+hears "told" "hbpi: \"folder\": can't be opened for reading and writing: Is a directory (os error 21)/"
+ln -s f way
+says "drive by a link" "1 found =a/order 1 (0)" "$(drive way '1 lookup 5/step 1x3')"
+mkfifo pipe
+says "drive of a pipe" "small 8192 0 (9)" "$(drive pipe '')"
+says "create on a pipe" "disk fault (6)" "$(make pipe)"
 says "drive of an empty file" "small 8192 0 (9)" "$(: >empty; drive empty '')"
 says "drive of /dev/null" "small 8192 0 (9)" "$(drive /dev/null '')"
+
+# forms that need no file open it all the same
+before=$(cksum <f)
+says "dry with a file" "order (0)" "$(call "$HBPI" f dry 1 </dev/null)"
+says "dry without one" "order (0)" "$(call "$HBPI" - dry 1 </dev/null)"
+says "dry of a file that isn't there" "disk fault (6)" "$(call "$HBPI" none dry 1 </dev/null)"
+hears "told" "hbpi: \"none\": can't be opened for reading and writing: No such file or directory (os error 2)/"
+for words in run check map tidy "gen 1 10 2" "work 1 10"; do
+    says "$words with a file" "not built (11)" "$(call "$HBPI" f $words </dev/null)"
+    says "$words without one" "not built (11)" "$(call "$HBPI" - $words </dev/null)"
+    says "$words of a file that isn't there" "disk fault (6)" "$(call "$HBPI" none $words </dev/null)"
+done
+says "the file is as it was" "$before" "$(cksum <f)"
+says "no word" "usage (2)" "$(call "$HBPI" </dev/null)"
+says "a name alone" "usage (2)" "$(call "$HBPI" f </dev/null)"
+bad_word=$(printf 'a\377')
+says "a name that isn't UTF-8" "usage (2)" "$(call "$HBPI" "$bad_word" create 1 64 65536 6 32 </dev/null)"
+says "a word that isn't" "usage (2)" "$(call "$HBPI" g "$bad_word" </dev/null)"
 says "bad layout makes no file" "bad layout DCAP 5 (9)" "$(call "$HBPI" g create 1 64 65536 5 32 </dev/null)"
-[ -e g ] && says "a file was made" no yes
 says "words that are no form make no file" "usage (2)" "$(call "$HBPI" g create 1 64 65536 6 </dev/null)"
-[ -e g ] && says "a file was made" no yes
+says "what stands here" "empty f folder link pipe text told way" "$(ls | tr '\n' ' ' | sed 's/ $//')"
+
 # as a user without rights, where this one has all
 mkdir shut && cp f shut/f && chmod 644 shut/f && chmod 555 shut && chmod 755 "$room"
 cp "$HBPI" program && chmod 755 program
 user=$([ "$(id -u)" = 0 ] && echo "setpriv --reuid=65534 --regid=65534 --clear-groups")
 says "create in a folder that can't be written" "disk fault (6)" \
     "$(call $user ./program shut/g create 1 64 65536 6 32 </dev/null)"
-[ -n "$user" ] && says "drive of a file that can't be written" "disk fault (6)" \
-    "$(call $user ./program shut/f drive </dev/null)"
+hears "told" "hbpi: \"shut/g\": can't be made beside it, as .new-#: Permission denied (os error 13)/"
+if [ -n "$user" ]; then
+    says "drive of a file that can't be written" "disk fault (6)" "$(call $user ./program shut/f drive </dev/null)"
+    hears "told" "hbpi: \"shut/f\": can't be opened for reading and writing: Permission denied (os error 13)/"
+fi
 chmod 755 shut
 exit $bad

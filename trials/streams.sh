@@ -36,5 +36,6 @@ says "the file" "1 found =a/order 1 (0)" "$(drive g '1 lookup 5/step 1x3')"
 "$HBPI" j create 1 64 65536 6 32 >/dev/full
 says "create into a full output: the file is made" 5 $?
 says "the file" "1 none/order 1 (0)" "$(drive j '1 lookup 5/step 1x3')"
+says "a refusal without a standard error" "disk fault (6)" "$(out=$("$HBPI" none drive <&- 2>&-); echo "$out ($?)")"
 says "drive of a folder as the text" "source fault (4)" "$(call "$HBPI" g drive <.)"
 exit $bad

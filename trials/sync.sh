@@ -8,7 +8,7 @@ strace -o trace true 2>/dev/null || { echo "no strace can be used here"; exit 2;
 stopped() {
     cp new f
     printf '1 insert 5 =a\n1 lookup 5\nstep 1x7\n' >text
-    out=$(strace -y -o trace -e trace=write,fdatasync -e inject=fdatasync:error=EIO:when="$1" "$HBPI" f drive <text)
+    out=$(strace -y -o trace -e trace=write,fdatasync -e inject=fdatasync:error=EIO:when="$1" "$HBPI" f drive <text 2>told)
     printf '%s (%d), then %d' "$(printf '%s' "$out" | tr '\n' '/')" $? \
         "$(sed '1,/INJECTED/d' trace | grep -c '/f>')"
 }

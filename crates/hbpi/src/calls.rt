@@ -2,12 +2,16 @@
 
 use crate::faults::put_fault;
 use crate::file_disk::FileDisk;
-use crate::files::{make_file, open_file};
+use crate::files::open_file;
+use crate::finished::Finished;
 use crate::forms::Form;
+use crate::new_files::NewFile;
+use crate::searches::Watched;
 use crate::statuses::Status;
 use crate::top::top;
+use crate::trouble::{Told, Trouble};
 use hb_disk::{Disk, MemDisk};
-use hb_outside::{ReadSource, WriteSink};
+use hb_outside::{ReadSource, Sink, WriteSink};
 use hb_restart::Layout;
 use std::alloc::Global;
 use std::io::{BufWriter, Read, Write};
@@ -20,6 +24,14 @@ pub struct Call {
     pub file: Option<String>,
     /// The words behind it.
     pub words: Vec<String>,
+}
+
+/// How a call ended.
+#[derive(Clone, Copy)]
+pub struct Ended {
+    pub status: Status,
+    /// What is told on the standard error.
+    pub told: Option<Told>,
 }
 
 /// Where the file of a call is.
@@ -84,45 +96,118 @@ impl Call {
     }
 }
 
-/// Runs the program over these streams and a disk. The output is flushed at the end.
+/// Ends an output: flushes it, and gives the status, which tells where that fails. Nothing is written behind a failure.
+fn end_output<O: Write + Drop>(mut sink: WriteSink<BufWriter<O>>, status: Status) -> Status {
+    if status != Status::SinkFault && sink.flush().is_ok() {
+        return status;
+    }
+    // A buffer that is dropped writes what it has; its parts don't.
+    let (_output, _unwritten) = sink.into_inner().into_parts();
+    status.after_sink_fault()
+}
+
+/// What is told of a run over a disk that met this trouble, and over a text whose first search is in this line.
+fn told_of(status: Status, trouble: Option<Trouble>, search: Option<u64>) -> Option<Told> {
+    match (status, trouble, search) {
+        (Status::NotBuilt, _, Some(line)) => Some(Told::Search(line)),
+        (Status::NotBuilt, _, None) => Some(Told::Form),
+        (_, Some(trouble), _) => Some(Told::Trouble(trouble)),
+        _ => None,
+    }
+}
+
+/// Runs the program over these streams and a disk, which is given back with the status and the line of the first search.
 fn run_over<I: Read + Drop, O: Write + Drop, D: Disk + Drop>(
     alloc: Global,
     words: &[String],
-    mut source: ReadSource<I>,
-    sink: WriteSink<O>,
+    input: I,
+    sink: WriteSink<BufWriter<O>>,
     disk: D,
-) -> Status {
-    let mut finished = top(alloc, words, &mut source, sink, disk);
-    match finished.sink.flush() {
-        Ok(()) => finished.status,
-        Err(_) => finished.status.after_sink_fault(),
+) -> (Status, Option<u64>, D) {
+    let mut source = ReadSource::new(Watched::new(input));
+    let Finished {
+        status,
+        sink,
+        disk,
+        ..
+    } = top(alloc, words, &mut source, sink, disk);
+    let search = source.into_inner().search();
+    (end_output(sink, status), search, disk)
+}
+
+/// Refuses a call whose file can't be had, or can't be given its name. Where writing fails, nobody can be told.
+fn refuse_file<O: Write + Drop>(mut sink: WriteSink<BufWriter<O>>, trouble: Trouble) -> Ended {
+    put_fault(&mut sink, Status::DiskFault);
+    Ended {
+        status: end_output(sink, Status::DiskFault),
+        told: Some(Told::Trouble(trouble)),
     }
 }
 
-/// Runs the program over a file, where it could be had.
-fn run_on<I: Read + Drop, O: Write + Drop>(
-    alloc: Global,
-    words: &[String],
-    source: ReadSource<I>,
-    sink: WriteSink<O>,
-    file: io::Result<FileDisk>,
-) -> Status {
-    match file {
-        Ok(disk) => run_over(alloc, words, source, sink, disk),
-        Err(_) => refuse(sink, Status::DiskFault),
+/// Room for the output of a `create`, which is one line.
+const LINE: usize = 64;
+
+/// Runs `create` over a new file, which gets its name once it is whole and synced. The output is held back until then. The
+/// file is locked until this returns.
+fn run_new<I: Read + Drop, O: Write + Drop>(
+    rt: &HostRuntime,
+    call: &Call,
+    input: I,
+    mut sink: WriteSink<BufWriter<O>>,
+    size: u64,
+) -> io::Result<Ended> {
+    let held = WriteSink::new(Vec::with_capacity(rt.alloc(), LINE)?);
+    let (file, disk) = match NewFile::make(rt, call.name(), size) {
+        Ok(made) => made,
+        Err(trouble) => return Ok(refuse_file(sink, trouble)),
+    };
+    let mut source = ReadSource::new(input);
+    let Finished {
+        status,
+        sink: held,
+        disk,
+        ..
+    } = top(rt.alloc(), call.words.as_slice(), &mut source, held, disk);
+    match status {
+        Status::Done => {
+            if let Err(trouble) = file.name(rt, call.name()) {
+                return Ok(refuse_file(sink, trouble));
+            }
+        }
+        _ => file.remove(rt),
+    }
+    let status = match sink.put(held.into_inner().as_slice()) {
+        Ok(()) => end_output(sink, status),
+        Err(_) => end_output(sink, status.after_sink_fault()),
+    };
+    Ok(Ended {
+        status,
+        told: disk.trouble().map(Told::Trouble),
+    })
+}
+
+/// Runs the program over a file that is there.
+fn run_there<I: Read + Drop, O: Write + Drop>(
+    rt: &HostRuntime,
+    call: &Call,
+    input: I,
+    sink: WriteSink<BufWriter<O>>,
+) -> Ended {
+    match open_file(rt, call.name()) {
+        Ok(disk) => {
+            let words = call.words.as_slice();
+            let (status, search, disk) = run_over(rt.alloc(), words, input, sink, disk);
+            Ended {
+                status,
+                told: told_of(status, disk.trouble(), search),
+            }
+        }
+        Err(trouble) => refuse_file(sink, trouble),
     }
 }
 
-/// Refuses a call that `top` isn't asked: writes the fault line of the status, and gives the status back. Where writing
-/// fails, nobody can be told.
-fn refuse<O: Write + Drop>(mut sink: WriteSink<O>, status: Status) -> Status {
-    put_fault(&mut sink, status);
-    let _unheard = sink.flush();
-    status
-}
-
-/// Runs the program over the file of the call, with the text from `input` and the output to `output`, and gives the
-/// status. The output is buffered, and flushed at the end. A file that can't be had is `DiskFault`.
+/// Runs the program over the file of the call, with the text from `input` and the output to `output`, and says how it
+/// ended. The output is buffered, and flushed at the end. A file that can't be had is `DiskFault`.
 ///
 /// Errors: where memory is refused for the output's buffer. No file was made or opened then, and nothing was written.
 pub fn run<I: Read + Drop, O: Write + Drop>(
@@ -130,31 +215,40 @@ pub fn run<I: Read + Drop, O: Write + Drop>(
     call: &Call,
     input: I,
     output: O,
-) -> io::Result<Status> {
+) -> io::Result<Ended> {
     let alloc = rt.alloc();
-    let words = call.words.as_slice();
-    let source = ReadSource::new(input);
     let sink = WriteSink::new(BufWriter::new(alloc, output)?);
     match place_of(call) {
         Place::Memory => {
             let disk = MemDisk::new(alloc, Vec::new(alloc));
-            Ok(run_over(alloc, words, source, sink, disk))
+            let words = call.words.as_slice();
+            let (status, search, _disk) = run_over(alloc, words, input, sink, disk);
+            Ok(Ended {
+                status,
+                told: told_of(status, None, search),
+            })
         }
-        Place::New(size) => {
-            let file = make_file(rt, call.name(), size);
-            Ok(run_on(alloc, words, source, sink, file))
-        }
-        Place::There => {
-            let file = open_file(rt, call.name());
-            Ok(run_on(alloc, words, source, sink, file))
-        }
+        Place::New(size) => run_new(rt, call, input, sink, size),
+        Place::There => Ok(run_there(rt, call, input, sink)),
     }
 }
 
-/// The call of this process, over its standard streams.
+/// The call of this process, over its standard streams. What kept it from its file is told on the standard error, where
+/// that can be written.
 fn run_call(rt: &HostRuntime) -> io::Result<Status> {
     let call = call_of(rt)?;
-    run(rt, &call, rt.reader(), io::writer(rt))
+    let ended = run(rt, &call, rt.reader(), io::writer(rt))?;
+    if let Some(told) = ended.told {
+        let name = call.name();
+        let _unheard = eprintln!(rt; "hbpi: {name:?}: {told}");
+    }
+    Ok(ended.status)
+}
+
+/// Refuses a call without a file: writes the fault line of the status, and gives it back.
+fn refuse(rt: &HostRuntime, status: Status) -> Status {
+    put_fault(&mut WriteSink::new(io::writer(rt)), status);
+    status
 }
 
 /// Runs the program as this process was called, over its standard streams, and gives the status to end with.
@@ -162,9 +256,7 @@ pub fn run_process(rt: &HostRuntime) -> Status {
     match run_call(rt) {
         Ok(status) => status,
         // A word that isn't UTF-8 is no word of a form.
-        Err(error) if error.kind() == io::ErrorKind::InvalidData => {
-            refuse(WriteSink::new(io::writer(rt)), Status::Usage)
-        }
-        Err(_) => refuse(WriteSink::new(io::writer(rt)), Status::NoMemory),
+        Err(error) if error.kind() == io::ErrorKind::InvalidData => refuse(rt, Status::Usage),
+        Err(_) => refuse(rt, Status::NoMemory),
     }
 }

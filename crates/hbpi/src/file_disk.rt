@@ -1,14 +1,16 @@
 //! A file as a disk.
-ghost use Rattle.std.specs.Prelude.{◌≡◌, ◌+◌, ◌≤◌, length, IsErr};
+ghost use Rattle.std.specs.Prelude.{◌≡◌, ◌↔◌, ◌+◌, ◌≤◌, length, IsErr, IsSome};
 ghost use Rattle.hb_disk.specs.Model.{last_value};
 ghost use Rattle.hb_disk.specs.Calls.{Writes};
 ghost use Rattle.hb_outside.specs.Calls.{Counts};
 ghost use Rattle.hb_disk.specs.Untold.{untold_of, untold_is_disk};
 
+use crate::trouble::{Attempt, Trouble};
 use hb_disk::{Device, Disk};
 use hb_lemmas::is_zero;
 use hb_outside::Failed;
 use std::fs::File;
+use std::io;
 use std::os::unix::fs::FileExt;
 
 /// A file of fixed size as a disk. It tells nothing of its bytes: that a file behaves as a disk that
@@ -24,6 +26,8 @@ pub struct FileDisk {
     clock: u64,
     read_faults: u64,
     write_faults: u64,
+    /// The first call that failed.
+    trouble: Option<Trouble>,
     ghost size_fits: { size ≤ last_value },
 }
 
@@ -37,25 +41,29 @@ impl FileDisk {
             clock: 0,
             read_faults: 0,
             write_faults: 0,
+            trouble: None,
         }
     }
-}
 
-/// Fills the bytes from a place of the file on. One call of the system, where the file isn't short.
-fn read_at(file: &File, at: u64, into: &mut [u8]) -> Result<(), Failed>
-    ensures { length into.new ≡ length into.old }
-{
-    match file.read_exact_at(into, at) {
-        Ok(()) => Ok(()),
-        Err(_) => Err(Failed),
+    /// How many reads failed.
+    pub fn read_faults(&self) -> u64
+        ensures { result ≡ self.now.read_faults }
+    {
+        self.read_faults
     }
-}
 
-/// Writes all of the bytes from a place of the file on. One call of the system, where the disk isn't full.
-fn write_at(file: &File, at: u64, from: &[u8]) -> Result<(), Failed> {
-    match file.write_all_at(from, at) {
-        Ok(()) => Ok(()),
-        Err(_) => Err(Failed),
+    /// How many writes, zeroes and syncs failed.
+    pub fn write_faults(&self) -> u64
+        ensures { result ≡ self.now.write_faults }
+    {
+        self.write_faults
+    }
+
+    /// The first call that failed, and what the system answered.
+    pub fn trouble(&self) -> Option<Trouble>
+        ensures { result ≡ self.now.trouble }
+    {
+        self.trouble
     }
 }
 
@@ -67,18 +75,18 @@ const PIECE: usize = 65_536;
 ///
 /// Where the file has all its blocks, what is zero already isn't written. Where it may lack some it is, so that it has
 /// them there, and no later write behind it wants new ones.
-fn zero_piece(file: &File, at: u64, piece: &mut [u8], is_whole: bool) -> Result<(), Failed>
+fn zero_piece(file: &File, at: u64, piece: &mut [u8], is_whole: bool) -> io::Result<()>
     ensures { length piece.new ≡ length piece.old }
 {
     if is_whole && file.read_exact_at(piece, at).is_ok() && is_zero(piece) {
         return Ok(());
     }
     piece.fill(0);
-    write_at(file, at, piece)
+    file.write_all_at(piece, at)
 }
 
 /// Makes so many bytes from a place of the file on zero, where it has a block for each of its bytes or not.
-fn zero_at(file: &File, at: u64, len: u64, is_whole: bool) -> Result<(), Failed>
+fn zero_at(file: &File, at: u64, len: u64, is_whole: bool) -> io::Result<()>
     requires { at + len ≤ last_value }
 {
     let mut piece = [0; PIECE];
@@ -96,15 +104,28 @@ fn zero_at(file: &File, at: u64, len: u64, is_whole: bool) -> Result<(), Failed>
     Ok(())
 }
 
-/// Counts a call that failed.
-fn counted(done: Result<(), Failed>, faults: &mut u64) -> Result<(), Failed>
-    ensures same { result ≡ done }
+/// Counts a call that failed, and keeps the first one.
+fn counted(
+    attempt: Attempt,
+    done: io::Result<()>,
+    faults: &mut u64,
+    first: &mut Option<Trouble>,
+) -> Result<(), Failed>
+    ensures same { IsErr result ↔ IsErr done }
+    ensures kept { IsSome first.old → first.new ≡ first.old }
+    ensures told { IsErr done → IsSome first.new }
     ensures counts { Counts (IsErr result) faults.old faults.new }
 {
-    if done.is_err() {
-        *faults = faults.saturating_add(1);
+    match attempt.of(done) {
+        Ok(()) => Ok(()),
+        Err(trouble) => {
+            *faults = faults.saturating_add(1);
+            if first.is_none() {
+                *first = Some(trouble);
+            }
+            Err(Failed)
+        }
     }
-    done
 }
 
 impl Device for FileDisk {
@@ -115,29 +136,46 @@ impl Device for FileDisk {
     }
 
     fn read(&mut self, at: u64, into: &mut [u8]) -> Result<(), Failed> {
-        counted(read_at(&self.file, at, into), &mut self.read_faults)
+        let done = self.file.read_exact_at(into, at);
+        counted(
+            Attempt::Read,
+            done,
+            &mut self.read_faults,
+            &mut self.trouble,
+        )
     }
 
     fn write(&mut self, at: u64, from: &[u8]) -> Result<(), Failed> {
         self.clock = self.clock.saturating_add(1);
-        counted(write_at(&self.file, at, from), &mut self.write_faults)
+        let done = self.file.write_all_at(from, at);
+        counted(
+            Attempt::Write,
+            done,
+            &mut self.write_faults,
+            &mut self.trouble,
+        )
     }
 
     fn zero(&mut self, at: u64, len: u64) -> Result<(), Failed> {
         self.clock = self.clock.saturating_add(1);
+        let done = zero_at(&self.file, at, len, self.is_whole);
         counted(
-            zero_at(&self.file, at, len, self.is_whole),
+            Attempt::Write,
+            done,
             &mut self.write_faults,
+            &mut self.trouble,
         )
     }
 
     fn sync(&mut self) -> Result<(), Failed> {
         self.clock = self.clock.saturating_add(1);
-        let done = match self.file.sync_data() {
-            Ok(()) => Ok(()),
-            Err(_) => Err(Failed),
-        };
-        counted(done, &mut self.write_faults)
+        let done = self.file.sync_data();
+        counted(
+            Attempt::Sync,
+            done,
+            &mut self.write_faults,
+            &mut self.trouble,
+        )
     }
 
     ghost is_disk = { λ d. untold_is_disk d.size d.read_faults d.write_faults d.size_fits };

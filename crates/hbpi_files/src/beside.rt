@@ -2,9 +2,9 @@
 
 use hb_disk::{Disk, MemDisk};
 use hb_outside::{MemSink, MemSource};
-use hbpi::{Call, run, top};
+use hbpi::{Call, Ended, Told, run, top};
 use std::alloc::Global;
-use std::io::Write;
+use std::io::{Read, Write};
 use std::{fs, io, str};
 
 /// A real file, and a disk in memory that is to have the same bytes.
@@ -33,11 +33,32 @@ pub(crate) fn call_of(alloc: Global, name: &str, words: &str) -> io::Result<Call
     })
 }
 
-/// The call over the file itself, by the functions of the program.
-fn on_file(rt: &HostRuntime, call: &Call, text: &str) -> io::Result<Outcome> {
+/// The call over the file itself, by the functions of the program, and what is told on the standard error.
+fn on_file<I: Read + Drop>(
+    rt: &HostRuntime,
+    call: &Call,
+    input: I,
+) -> io::Result<(Outcome, Option<Told>)> {
     let mut output = Vec::new(rt.alloc());
-    let status = run(rt, call, text.as_bytes(), &mut output)?.code();
-    Ok(Outcome { status, output })
+    let Ended { status, told } = run(rt, call, input, &mut output)?;
+    let outcome = Outcome {
+        status: status.code(),
+        output,
+    };
+    Ok((outcome, told))
+}
+
+/// Makes a call over the file of this name alone, and prints what came of it.
+pub(crate) fn call_alone<I: Read + Drop>(
+    rt: &HostRuntime,
+    name: &str,
+    words: &str,
+    input: I,
+) -> io::Result<()> {
+    println!(rt; "> {words}")?;
+    let call = call_of(rt.alloc(), name, words)?;
+    let (outcome, told) = on_file(rt, &call, input)?;
+    tell(rt, &outcome, told)
 }
 
 /// The same call over a disk, and that disk behind it.
@@ -58,14 +79,18 @@ pub(crate) fn on_disk<D: Disk + Drop>(
     Ok((outcome, finished.disk))
 }
 
-/// Prints the output and the status.
-fn tell(rt: &HostRuntime, outcome: &Outcome) -> io::Result<()> {
+/// Prints the output, the status, and what is told.
+pub(crate) fn tell(rt: &HostRuntime, outcome: &Outcome, told: Option<Told>) -> io::Result<()> {
     match str::from_utf8(outcome.output.as_slice()) {
         Ok(text) => rt.print(text)?,
         Err(_) => println!(rt; "the output isn't text")?,
     }
     let status = outcome.status;
-    println!(rt; "status {status}")
+    println!(rt; "status {status}")?;
+    match told {
+        Some(told) => println!(rt; "told: {told}"),
+        None => Ok(()),
+    }
 }
 
 impl Pair {
@@ -88,8 +113,8 @@ impl Pair {
         println!(rt; "> {words}")?;
         let Pair { name, disk } = self;
         let call = call_of(rt.alloc(), name, words)?;
-        let outcome = on_file(rt, &call, text)?;
-        tell(rt, &outcome)?;
+        let (outcome, told) = on_file(rt, &call, text.as_bytes())?;
+        tell(rt, &outcome, told)?;
         let (wanted, disk) = on_disk(rt.alloc(), &call, text, disk)?;
         if outcome != wanted {
             println!(rt; "in memory it comes to another output or status")?;
@@ -106,9 +131,7 @@ impl Pair {
         words: &str,
         text: &str,
     ) -> io::Result<()> {
-        println!(rt; "> {words}")?;
-        let call = call_of(rt.alloc(), self.name, words)?;
-        tell(rt, &on_file(rt, &call, text)?)?;
+        call_alone(rt, self.name, words, text.as_bytes())?;
         self.compare(rt)
     }
 
@@ -124,7 +147,7 @@ impl Pair {
         println!(rt; "> {words}")?;
         let Pair { name, disk } = self;
         let call = call_of(rt.alloc(), name, words)?;
-        let status = run(rt, &call, text.as_bytes(), output)?.code();
+        let status = run(rt, &call, text.as_bytes(), output)?.status.code();
         println!(rt; "status {status}")?;
         let (_, disk) = on_disk(rt.alloc(), &call, text, disk)?;
         let pair = Pair { name, disk };

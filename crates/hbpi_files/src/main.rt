@@ -9,7 +9,9 @@
 #![tactic(auto)]
 
 mod beside;
+mod failing;
 mod lost;
+mod making;
 mod places;
 mod story;
 
@@ -17,5 +19,7 @@ use std::io;
 
 fn main(rt: HostRuntime) -> io::Result<()> {
     story::tell(&rt)?;
-    places::tell(&rt)
+    places::tell(&rt)?;
+    making::tell(&rt)?;
+    failing::tell(&rt)
 }

@@ -1,7 +1,7 @@
 //! A file as a disk, call by call: what isn't written because it is zero may show in no read.
 
 use hb_disk::{Device, MemDisk};
-use hbpi::{make_file, open_file};
+use hbpi::{NewFile, open_file};
 use std::alloc::Global;
 use std::{fs, io};
 
@@ -118,7 +118,9 @@ fn on_written(rt: &HostRuntime) -> io::Result<()> {
 /// A new file, which has none.
 fn on_made(rt: &HostRuntime) -> io::Result<()> {
     let mut beside = MemDisk::new(rt.alloc(), vec![in rt.alloc(); 0; SIZE]?);
-    compare(rt, &mut make_file(rt, NAME, SIZE as u64)?, &mut beside)?;
+    let (file, mut disk) = NewFile::make(rt, NAME, SIZE as u64)?;
+    compare(rt, &mut disk, &mut beside)?;
+    file.name(rt, NAME)?;
     compare_bytes(rt, beside.bytes())
 }
 

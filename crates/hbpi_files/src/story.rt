@@ -3,7 +3,7 @@
 use crate::beside::{Pair, call_of, on_disk};
 use crate::lost::{FailsToFlush, Full};
 use hb_disk::{Disk, MemDisk};
-use hbpi::{make_file, open_file};
+use hbpi::{NewFile, open_file};
 use std::alloc::Global;
 use std::fs::File;
 use std::io::{Seek, SeekFrom, Write};
@@ -64,6 +64,14 @@ const INSERT: &str = "1 insert 5 7 =again
 step 1x5
 ";
 
+/// A good text whose third line is a search, behind a line that only looks like one.
+const SEARCHES: &str = "1 insert 8 8 =search
+1 insert 9 9 =
+1 search 0 5 0 9
+1 search 0 5 0 9
+step 1x12
+";
+
 /// Log area 1 of a new file isn't in use, so it may have any bytes: the same ones here and there. An opening zeroes it.
 fn fill_area(rt: &HostRuntime, pair: Pair) -> io::Result<Pair> {
     let filling = [165; 4096];
@@ -107,14 +115,17 @@ fn refuse(rt: &HostRuntime, pair: Pair) -> io::Result<Pair> {
     pair.call_that_changes_nothing(rt, "drive", LOOKUP)?;
     drop(held);
     println!(rt; "let go")?;
-    pair.call(rt, "drive", LOOKUP)
+    let pair = pair.call(rt, "drive", LOOKUP)?;
+    pair.call(rt, "drive", SEARCHES)
 }
 
 /// `drive` on a new file that is held since it was made, and then. `create` makes nine calls of a disk.
 fn hold_a_new_file(rt: &HostRuntime) -> io::Result<()> {
     let alloc = rt.alloc();
     let call = call_of(alloc, SHORT, CREATE)?;
-    let (_, held) = on_disk(alloc, &call, "", make_file(rt, SHORT, SIZE as u64)?)?;
+    let (file, disk) = NewFile::make(rt, SHORT, SIZE as u64)?;
+    let (_, held) = on_disk(alloc, &call, "", disk)?;
+    file.name(rt, SHORT)?;
     let (_, disk) = on_disk(alloc, &call, "", zeros(alloc)?)?;
     let pair = Pair { name: SHORT, disk };
     let count = held.clock();
