@@ -5,7 +5,8 @@ use Rattle.std.proofs.lemmas.Bool.{eqb-true}
 use Rattle.hb_frag.specs.declared.leaves.Leaf.{Leaf}
 use Rattle.hb_frag.specs.declared.leaves.Leaf.TheVariants.{Records, Child, Sibling}
 use Rattle.hb_frag.specs.declared.pages.LivePage.{LivePage}
-use Rattle.hb_consol.specs.ConsolidatorRows.{names_child, one_on, pair_among, PairsAreNamed}
+use Rattle.hb_consol.specs.ConsolidatorRows.{names_child, one_on, pair_among}
+use Rattle.hb_consol.specs.Laws.{PairsAreNamed}
 use Rattle.hb_frag.specs.Leaves.{leaves}
 
 abbrev IdPlace : ℕ × ℕ → ℕ × ℕ → Type 0

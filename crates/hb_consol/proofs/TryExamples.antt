@@ -10,7 +10,8 @@ use Rattle.hb_activity.specs.declared.activities.Activity.TheVariants.{Consolida
 use Rattle.hb_activity.specs.Deeds.{Deed, moves_to}
 use Rattle.hb_activity.specs.OneDeed.{IsOnly}
 use Rattle.hb_activity.specs.Sights.{Sight}
-use Rattle.hb_consol.specs.ConsolidatorRows.{HasMergePlan, TriesPair, after_try, Decides, DoesMerge}
+use Rattle.hb_consol.specs.ConsolidatorRows.{HasMergePlan, TriesPair, after_try}
+use Rattle.hb_consol.specs.MergeRows.{Decides, DoesMerge}
 use Rattle.hb_consol.specs.Examples.{DecidesByHand, KeepsByHand, TriesByHand, names_three, page_four, gave_three, page_two}
 use Rattle.hb_frag.specs.Leaves.{DirectlyCovers, siblings_of}
 use Rattle.hb_frag.specs.Rules.{capacity_of}

@@ -1,7 +1,7 @@
 -- The rows of the consolidator, up to the promotion of a parent and at a parent that it has for itself, and what follows of
 -- them. The page of a row is the one that the step latches.
-use Rattle.std.specs.Prelude.{◌≡◌, ◌⊎◌, ℕ, ◌+◌, ◌-◌, ◌==◌, ◌<◌, ◌≤◌, ◌&&◌, if◌then◌else◌, Bool, List, [], ◌∷◌, Option, Some, None, option_map, ◌*◌, nat_le, IsTrue}
-use Rattle.std.specs.List.{list_any, slice_get}
+use Rattle.std.specs.Prelude.{◌≡◌, ◌⊎◌, ℕ, ◌+◌, ◌-◌, ◌==◌, ◌<◌, ◌≤◌, ◌&&◌, if◌then◌else◌, Bool, List, [], ◌∷◌, Option, Some, None, option_map}
+use Rattle.std.specs.List.{list_any}
 use Rattle.hb_frag.specs.declared.leaves.Leaf.{Leaf}
 use Rattle.hb_frag.specs.declared.leaves.Leaf.TheVariants.{Records, Child, Sibling}
 use Rattle.hb_frag.specs.declared.pages.LivePage.{LivePage}
@@ -9,17 +9,13 @@ use Rattle.hb_terms.specs.declared.merging.MergePlan.{MergePlan}
 use Rattle.hb_terms.specs.declared.merging.MergePlan.TheVariants as plans
 use Rattle.hb_activity.specs.declared.jobs.Job.{Job}
 use Rattle.hb_activity.specs.declared.activities.Activity.{Activity}
-use Rattle.hb_activity.specs.declared.activities.Activity.TheVariants.{ConsolidatorIdle, ConsolidatorWalk, ConsolidatorScan, ConsolidatorTry, ConsolidatorPromote, ConsolidatorDecide}
-use Rattle.hb_activity.specs.Deeds.{Deed, moves_to, does}
+use Rattle.hb_activity.specs.declared.activities.Activity.TheVariants.{ConsolidatorIdle, ConsolidatorWalk, ConsolidatorScan, ConsolidatorTry, ConsolidatorPromote}
+use Rattle.hb_activity.specs.Deeds.{Deed, moves_to}
 use Rattle.hb_activity.specs.Passing.{PassesOn, LeadsBelow}
 use Rattle.hb_activity.specs.Sights.{Sight}
-use Rattle.hb_frag.specs.Leaves.{child_names, firsts, leaves, first_named, siblings_of, weight_of}
+use Rattle.hb_frag.specs.Leaves.{child_names, firsts, leaves}
 use Rattle.hb_frag.specs.Rules.{capacity_of}
 use Rattle.hb_terms.specs.Merging.{IsMergePlan}
-use Rattle.hb_ops.specs.declared.operations.Op.{Op}
-use Rattle.hb_activity.specs.declared.activities.Activity.TheVariants as at
-use Rattle.hb_activity.specs.declared.jobs.JobKind.TheVariants as kinds
-use Rattle.hb_space.specs.Boxes.{Area}
 
 -- Idle: the consolidator takes the oldest job of its kind. One that isn't below the file's height is dropped.
 abbrev pub IsMergingOf : Job → ℕ → Activity → Type 0
@@ -102,64 +98,3 @@ after_try job parent keep gone leaf above kept other = tries job parent above ke
 pub record TriesPair (s : Sight) (job : Job) (parent keep gone leaf : ℕ) (page : LivePage) (deed : Deed) : Type 0 where
   pub has : HasMergePlan s parent keep gone page
   pub deed_is : deed ≡ after_try job parent keep gone leaf has.above has.kept has.plan
-
--- Taking the page to keep: where it gave nothing to the page to go any more, the job is dropped.
-abbrev pub after_keep : Job → ℕ → ℕ → ℕ → Option Area → Deed
-after_keep job parent keep gone None = ends_merging
-after_keep job parent keep gone (Some area) = moves_to (ConsolidatorDecide job parent keep gone) []
-
-abbrev pub takes_keep : Job → ℕ → ℕ → ℕ → LivePage → Deed
-takes_keep job parent keep gone page = after_keep job parent keep gone (first_named gone (siblings_of page))
-
--- Deciding, with all three alone: the plan is made anew. Where the two may become one they do, and the job waits again. A
--- parent that weighs a quarter of its capacity then, or less, is thin.
-abbrev pub merges_above : Job → LivePage → ℕ → List Job
-merges_above job parent capacity = if nat_le (4 * weight_of parent.frag) capacity then record { kind = kinds.Merge; level = job.level + 1; point = job.point } ∷ [] else []
-
--- The operation by which a page takes over what a sibling page has, with their parent before and after it. None is it before
--- the operation is built. So where a consolidator has decided to merge, no row is done; but no job ever leads there while pages
--- aren't merged.
-abbrev pub IsMergeOf : Op → ℕ → ℕ → ℕ → LivePage → LivePage → Type 0
-IsMergeOf op parent keep gone before after = ⊥
-
--- The two become one. Before the operation is built, none is it, and this row can't be done.
-pub record Merges (s : Sight) (job : Job) (parent keep gone : ℕ) (above : LivePage) (deed : Deed) : Type 0 where
-  pub live : 0 < s.meta.live
-  pub op : Op
-  -- the parent afterwards
-  pub after : LivePage
-  pub merge : IsMergeOf op parent keep gone above after
-  pub deed_is : deed ≡ does ConsolidatorIdle op (job ∷ merges_above job after s.meta.icap)
-
--- no page is in use, by what the file says of itself
-pub record MergesNot (s : Sight) (deed : Deed) : Type 0 where
-  pub none_live : s.meta.live ≡ 0
-  pub deed_is : deed ≡ ends_merging
-
-abbrev pub DoesMerge : Sight → Job → ℕ → ℕ → ℕ → LivePage → MergePlan → Deed → Type 0
-DoesMerge s job parent keep gone above plans.Merge deed = Merges s job parent keep gone above deed ⊎ MergesNot s deed
-DoesMerge s job parent keep gone above other deed = deed ≡ ends_merging
-
-pub record Decides (s : Sight) (job : Job) (parent keep gone : ℕ) (page : LivePage) (deed : Deed) : Type 0 where
-  pub has : HasMergePlan s parent keep gone page
-  pub does_it : DoesMerge s job parent keep gone has.above has.plan deed
-
--- the row of the consolidator, by where it stands, at the page that its step latched
-abbrev pub ConsolidatorRow : Activity → Sight → ℕ → LivePage → Deed → Type 0
-ConsolidatorRow (at.ConsolidatorWalk job held) s id page deed = ArrivesToMerge job id page deed ⊎ ConsolidatorPasses job id page deed
-ConsolidatorRow (at.ConsolidatorScan job parent child) s id page deed = Scans s job parent child page deed
-ConsolidatorRow (at.ConsolidatorTry job parent keep gone leaf) s id page deed = TriesPair s job parent keep gone leaf page deed
-ConsolidatorRow (at.ConsolidatorPromote job parent keep gone) s id page deed = deed ≡ moves_to (at.ConsolidatorKeep job parent keep gone) []
-ConsolidatorRow (at.ConsolidatorKeep job parent keep gone) s id page deed = deed ≡ takes_keep job parent keep gone page
-ConsolidatorRow (at.ConsolidatorDecide job parent keep gone) s id page deed = Decides s job parent keep gone page deed
-ConsolidatorRow other s id page deed = ⊥
-
--- The page that may go is one that the parent names, and the leaf at this place of the page to keep names it. None of the places
--- that were looked at before is looked at again.
-pub record IsPair (parent keep : LivePage) (from gone place : ℕ) : Type 0 where
-  pub named : IsTrue (names_child parent gone)
-  pub leaf : slice_get (leaves keep.frag) place ≡ Some (Sibling gone)
-  pub onward : from ≤ place
-
-abbrev pub PairsAreNamed : Type 0
-PairsAreNamed = (parent keep : LivePage) (from gone place : ℕ) → pair_from parent keep from ≡ Some (gone, place) → IsPair parent keep from gone place

@@ -10,7 +10,8 @@ use Rattle.hb_activity.specs.declared.activities.Activity.TheVariants.{Consolida
 use Rattle.hb_activity.specs.Deeds.{Deed, moves_to}
 use Rattle.hb_activity.specs.OneDeed.{IsOnly}
 use Rattle.hb_activity.specs.Sights.{Sight}
-use Rattle.hb_consol.specs.ConsolidatorRows.{ArrivesToMerge, ConsolidatorPasses, IsMergingOf, Scans, TriesPair, children_of, one_behind, pair_among, Decides, merges_above, takes_keep}
+use Rattle.hb_consol.specs.ConsolidatorRows.{ArrivesToMerge, ConsolidatorPasses, IsMergingOf, Scans, TriesPair, children_of, one_behind, pair_among}
+use Rattle.hb_consol.specs.MergeRows.{Decides, merges_above, takes_keep}
 use Rattle.hb_frag.specs.Trees.{Cut, Tip}
 use Rattle.hb_space.specs.Boxes.{side_from, whole_area}
 

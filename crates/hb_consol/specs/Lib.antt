@@ -1,2 +1,4 @@
 pub mod ConsolidatorRows
+pub mod MergeRows
+pub mod Laws
 pub mod Examples

@@ -12,10 +12,11 @@ use Rattle.hb_activity.specs.Deeds.{Deed}
 use Rattle.hb_activity.specs.Passing.{PassesOn}
 use Rattle.hb_activity.specs.Sights.{Sight}
 use Rattle.hb_activity.specs.Walks.{goal_of}
-use Rattle.hb_consol.specs.ConsolidatorRows.{ConsolidatorRow}
+use Rattle.hb_consol.specs.MergeRows.{ConsolidatorRow}
 use Rattle.hb_core.specs.Asking.{HasAskedBox, asked_box}
 use Rattle.hb_core.specs.Machines.{Machine, live_here, sight}
-use Rattle.hb_point.specs.SessionRows.{DoesThere, PutsInHalf, SplitsOrFull}
+use Rattle.hb_point.specs.SessionRows.{DoesThere}
+use Rattle.hb_point.specs.SplitRows.{PutsInHalf, SplitsOrFull}
 use Rattle.hb_poster.specs.PosterRows.{PosterRow}
 use Rattle.hb_search.specs.SearchRows.{Gathers}
 use Rattle.hb_space.specs.Boxes.{Area}

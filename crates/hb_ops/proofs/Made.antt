@@ -16,7 +16,7 @@ use Rattle.hb_ops.specs.declared.leaf_cuts.LeafCut.{LeafCut}
 use Rattle.hb_ops.specs.declared.operations.Op.TheVariants.{Put, Del, Extract, Post, Grow}
 use Rattle.hb_ops.specs.Allocating.{allocated, new_root, raised}
 use Rattle.hb_ops.specs.Extracting.{FitsExtract, fresh_page, source_page, split_pages}
-use Rattle.hb_ops.specs.Operations.{ChangesMakeWell, IsWellIn}
+use Rattle.hb_ops.specs.LawsOfContents.{ChangesMakeWell, IsWellIn}
 use Rattle.hb_ops.specs.Posting.{post_page}
 use Rattle.hb_ops.specs.Recording.{del_page, put_page}
 use Rattle.hb_ops.specs.Sound.{FitsFile}

@@ -13,7 +13,8 @@ use Rattle.hb_layout.specs.declared.meta.Meta.{Meta}
 use Rattle.hb_ops.specs.declared.operations.Op.TheVariants.{Put, Del}
 use Rattle.hb_ops.specs.Files.{FileState, if_live, live_page, page_of}
 use Rattle.hb_ops.specs.Recording.{joined, page_with, without}
-use Rattle.hb_ops.specs.Operations.{change_of, nth_read, with_page, with_changed_pages, PutStaysSound, DelStaysSound}
+use Rattle.hb_ops.specs.Operations.{change_of, nth_read, with_page, with_changed_pages}
+use Rattle.hb_ops.specs.LawsOfContents.{PutStaysSound, DelStaysSound}
 use Rattle.hb_ops.specs.Sound.{ChildrenMatch, FitsFile, IsCounted, IsCovered, IsRooted, IsSound, SiblingsMatch, count_live, count_name, times_named}
 use Rattle.hb_ops.proofs.Facts.Contents.{del_on, put_on}
 use Rattle.hb_ops.proofs.Facts.FilePages.{chain_kept}

@@ -6,5 +6,6 @@ pub mod Cutting
 pub mod Extracting
 pub mod Posting
 pub mod Operations
+pub mod LawsOfContents
 pub mod Given
 pub mod Standing

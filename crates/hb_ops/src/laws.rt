@@ -1,6 +1,6 @@
 //! What follows of operations from their definitions alone.
 
-ghost use Rattle.hb_ops.specs.Operations.{ChangesMakeWell, DelStaysSound, DelTakesOne, LonePage, PutAddsOne, PutStaysSound};
+ghost use Rattle.hb_ops.specs.LawsOfContents.{ChangesMakeWell, DelStaysSound, DelTakesOne, LonePage, PutAddsOne, PutStaysSound};
 ghost use Rattle.hb_ops.specs.Standing.{AbsenceIsContents, RecordsAreContents};
 
 use hb_frag::laws::{normal_says_the_same, parts_are_stretches};

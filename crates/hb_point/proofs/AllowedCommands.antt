@@ -19,7 +19,8 @@ use Rattle.hb_ops.specs.Recording.{put_page}
 use Rattle.hb_ops.specs.Sound.{FitsFile}
 use Rattle.hb_ops.specs.Standing.{StandsNot, StandsThere}
 use Rattle.hb_point.proofs.Facts.RecordLeaves.{put_weighs, any_at}
-use Rattle.hb_point.specs.SessionRows.{CommandsAreAllowed, FullPagesAreHeavy, PutsAreAllowed, SplitsAreAllowed, DoesThere}
+use Rattle.hb_point.specs.SessionRows.{DoesThere}
+use Rattle.hb_point.specs.Laws.{CommandsAreAllowed, FullPagesAreHeavy, PutsAreAllowed, SplitsAreAllowed}
 use Rattle.hb_space.specs.Boxes.{Area}
 use Rattle.hb_split.proofs.Facts.Allowed.{is_allowed}
 use Rattle.hb_split.proofs.Facts.Ends.{is_thirds}

@@ -18,8 +18,10 @@ use Rattle.hb_layout.specs.declared.meta.Meta.{Meta}
 use Rattle.hb_ops.specs.Cutting.{reached}
 use Rattle.hb_ops.specs.declared.leaf_cuts.LeafCut.{LeafCut}
 use Rattle.hb_ops.specs.declared.operations.Op.TheVariants.{Extract, Put}
-use Rattle.hb_point.specs.Asks.{MayAsk, DoesBy, IsHalfFor, PutsBy, WalksBy, deed_for, line_with}
-use Rattle.hb_point.specs.SessionRows.{PointRow, DoesThere, PutsInHalf, SplitsOrFull}
+use Rattle.hb_point.specs.Asks.{MayAsk, deed_for, line_with}
+use Rattle.hb_point.specs.Doing.{DoesBy, IsHalfFor, PutsBy, WalksBy}
+use Rattle.hb_point.specs.SessionRows.{PointRow, DoesThere}
+use Rattle.hb_point.specs.SplitRows.{PutsInHalf, SplitsOrFull}
 use Rattle.hb_set.specs.declared.commands.Command.{Command}
 use Rattle.hb_set.specs.declared.commands.Command.TheVariants.{Insert}
 use Rattle.hb_set.specs.declared.commands.Reply.TheVariants as replies

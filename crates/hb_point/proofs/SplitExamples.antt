@@ -23,7 +23,7 @@ use Rattle.hb_ops.specs.Cutting.{reached}
 use Rattle.hb_point.proofs.Facts.ChosenCuts.{one_choice}
 use Rattle.hb_point.proofs.PointExamples.{of_six}
 use Rattle.hb_point.specs.Examples.{PutsByHand, SplitsByHand, at_forty, given_half, kept_half, rec_at, six_records}
-use Rattle.hb_point.specs.SessionRows.{PutsInHalf, SplitsOrFull}
+use Rattle.hb_point.specs.SplitRows.{PutsInHalf, SplitsOrFull}
 use Rattle.hb_space.proofs.Facts.Intervals.{below_all, held, interval, top}
 use Rattle.hb_space.specs.Boxes.{Area, Holds}
 use Rattle.hb_split.specs.Choosing.{AreChosen, IsBest, IsChosen, MayCut, NotBehind, heavier_count}

@@ -17,7 +17,8 @@ use Rattle.hb_activity.specs.OneDeed.{IsOnly}
 use Rattle.hb_activity.specs.Sights.{Sight}
 use Rattle.hb_activity.specs.Stages.{pages_are_merged}
 use Rattle.hb_frag.specs.Trees.{Tip, Cut}
-use Rattle.hb_point.specs.SessionRows.{DoesThere, next_line, PutsInHalf, SplitsOrFull}
+use Rattle.hb_point.specs.SessionRows.{DoesThere, next_line}
+use Rattle.hb_point.specs.SplitRows.{PutsInHalf, SplitsOrFull}
 use Rattle.hb_space.specs.Boxes.{side_from, whole_area}
 
 abbrev pub rec_at : List ℕ → ℕ → Record

@@ -1,3 +1,6 @@
+pub mod SplitRows
 pub mod SessionRows
+pub mod Laws
 pub mod Examples
 pub mod Asks
+pub mod Doing

@@ -5,30 +5,27 @@ use Rattle.std.specs.List.{list_any}
 use Rattle.std.specs.Prelude.{◌≡◌, ◌⊎◌, ℕ, Bool, ◌<◌, ◌≤◌, ◌*◌, ◌==◌, ◌&&◌, not, nat_le, if◌then◌else◌, List, [], ◌∷◌, Option, Some, None, MatchOption}
 use Rattle.hb_space.specs.declared.records.Record.{Record}
 use Rattle.hb_frag.specs.declared.pages.LivePage.{LivePage}
-use Rattle.hb_ops.specs.declared.operations.Op.TheVariants.{Put, Del, Extract}
+use Rattle.hb_ops.specs.declared.operations.Op.TheVariants.{Put, Del}
 use Rattle.hb_set.specs.declared.commands.Command.{Command}
 use Rattle.hb_set.specs.declared.commands.Command.TheVariants.{Insert, Delete, Lookup, Search}
 use Rattle.hb_set.specs.declared.commands.Reply.TheVariants as replies
 use Rattle.hb_set.specs.declared.scripts.Answered.{Answered}
 use Rattle.hb_set.specs.declared.scripts.Line.{Line}
 use Rattle.hb_activity.specs.declared.jobs.Job.{Job}
-use Rattle.hb_activity.specs.declared.jobs.JobKind.TheVariants.{Merge, Post}
+use Rattle.hb_activity.specs.declared.jobs.JobKind.TheVariants.{Merge}
 use Rattle.hb_activity.specs.declared.activities.Activity.TheVariants.{SessionWalk, SessionSplit, SessionPut}
-use Rattle.hb_activity.specs.Deeds.{Deed, moves_to, takes_effect, does, answers_now}
+use Rattle.hb_activity.specs.Deeds.{Deed, moves_to, takes_effect}
 use Rattle.hb_activity.specs.Sights.{Sight}
 use Rattle.hb_activity.specs.Stages.{pages_are_merged}
-use Rattle.hb_frag.specs.Leaves.{weight_of, DirectlyHolds}
+use Rattle.hb_frag.specs.Leaves.{weight_of}
 use Rattle.hb_ops.specs.Recording.{del_page, put_page}
 use Rattle.hb_ops.specs.Standing.{StandsThere, StandsNot}
 use Rattle.hb_space.specs.Boxes.{Area}
-use Rattle.hb_activity.specs.Passing.{HasNoPage, PartLeavesTo, corner_of, PassesOn}
-use Rattle.hb_split.specs.Choosing.{IsChosen}
+use Rattle.hb_activity.specs.Passing.{PassesOn}
 use Rattle.hb_activity.specs.declared.activities.Activity.{Activity}
 use Rattle.hb_activity.specs.declared.activities.Activity.TheVariants as at
 use Rattle.hb_activity.specs.Walks.{goal_of}
-use Rattle.hb_ops.specs.declared.operations.Op.{Op}
-use Rattle.hb_activity.specs.OneDeed.{IsAllowedAlone, NumbersAreGiven}
-use Rattle.hb_ops.specs.Sound.{FitsFile}
+use Rattle.hb_point.specs.SplitRows.{PutsInHalf, SplitsOrFull}
 
 -- whether a line of this number was answered
 abbrev pub is_answered : ℕ → List Answered → Bool
@@ -100,58 +97,9 @@ DoesThere s line (Delete point) id page deed = Deletes s line point id page deed
 DoesThere s line (Lookup point) id page deed = FindsBody s line point page deed ⊎ Misses s line point page deed
 DoesThere s line (Search area) id page deed = ⊥
 
--- Splitting: where no page is free, the line is answered `full`. Else the chosen part leaves the page, and its box is a
--- box that the parent owes a posting.
-pub record Splits (s : Sight) (line : Line) (held : ℕ) (deed : Deed) : Type 0 where
-  pub page : LivePage
-  pub live : s.page_at held ≡ Some page
-  pub leaves : PartLeavesTo s (IsChosen page) page
-  pub deed_is : deed ≡ does (SessionPut line held leaves.fresh) (Extract held leaves.fresh leaves.path leaves.cuts leaves.free_after)
-      (record { kind = Post; level = 1; point = corner_of leaves } ∷ [])
-
--- Putting: the record goes into the half that directly holds its point.
-pub record PutsInHalf (s : Sight) (line : Line) (source fresh : ℕ) (deed : Deed) : Type 0 where
-  pub rec : Record
-  pub command : line.command ≡ Insert rec
-  pub half : ℕ
-  pub either : (half ≡ source) ⊎ (half ≡ fresh)
-  pub page : LivePage
-  pub live : s.page_at half ≡ Some page
-  pub holds : DirectlyHolds page rec.key
-  pub deed_is : deed ≡ takes_effect s.place line replies.Done (Some (Put half rec)) []
-
--- what a session does whose step latches no page but the one that it makes
-abbrev pub SplitsOrFull : Sight → Line → ℕ → Deed → Type 0
-SplitsOrFull s line held deed = HasNoPage s deed (answers_now line.number replies.Full) ⊎ Splits s line held deed
-
 abbrev pub PointRow : Activity → Sight → ℕ → LivePage → Deed → Type 0
 PointRow (at.SessionWalk line held rest found) s id page deed = MatchOption (goal_of line.command rest) ⊥
     (λ p. PassesOn page p (at.SessionWalk line (Some id) rest found) deed ⊎ DoesThere s line line.command id page deed)
 PointRow (at.SessionSplit line held) s id page deed = SplitsOrFull s line held deed
 PointRow (at.SessionPut line source fresh) s id page deed = PutsInHalf s line source fresh deed
 PointRow other s id page deed = ⊥
-
--- A command on a point that has an operation may do it, where the page keeps the rules of a page alone.
-abbrev pub CommandsAreAllowed : Type 0
-CommandsAreAllowed = (s : Sight) (line : Line) (command : Command) (id : ℕ) (page : LivePage) (deed : Deed) (op : Op) → FitsFile s.meta page →
-    DoesThere s line command id page deed → deed.op ≡ Some op → IsAllowedAlone s id page op
-
--- A page that has no room for a record weighs 6 or more.
-abbrev pub FullPagesAreHeavy : Type 0
-FullPagesAreHeavy = (s : Sight) (line : Line) (rec : Record) (id : ℕ) (page : LivePage) (deed : Deed) → FitsFile s.meta page → 6 ≤ s.meta.dcap →
-    FindsNoRoom s line rec id page deed → 6 ≤ weight_of page.frag
-
--- Such a page may be split as the row says.
-abbrev pub SplitsAreAllowed : Type 0
-SplitsAreAllowed = (s : Sight) (line : Line) (held : ℕ) (deed : Deed) (op : Op) (row : Splits s line held deed) → NumbersAreGiven s → FitsFile s.meta row.page →
-    6 ≤ weight_of row.page.frag → deed.op ≡ Some op → IsAllowedAlone s held row.page op
-
--- The record may be put into its half, where it isn't there and the half has room for it.
-abbrev pub PutsAreAllowed : Type 0
-PutsAreAllowed = (s : Sight) (line : Line) (source fresh : ℕ) (deed : Deed) (op : Op) (row : PutsInHalf s line source fresh deed) → FitsFile s.meta row.page →
-    StandsNot row.page row.rec.key → weight_of (put_page row.rec row.page).frag ≤ s.meta.dcap → deed.op ≡ Some op → IsAllowedAlone s row.half row.page op
-
--- A command on a point has one deed at a page.
-abbrev pub CommandsHaveOneDeed : Type 0
-CommandsHaveOneDeed = (s : Sight) (line : Line) (command : Command) (id : ℕ) (page : LivePage) (deed other : Deed) → FitsFile s.meta page →
-    DoesThere s line command id page deed → DoesThere s line command id page other → deed ≡ other

@@ -3,8 +3,9 @@
 ghost use Rattle.std.specs.Prelude.{◌≡◌, ◌⊎◌, ◌↔◌, ℕ, [], ◌∷◌, Some, IfOk, IsTrue, IsSome, OnErr};
 ghost use Rattle.hb_activity.specs.Deciding.{given_sight};
 ghost use Rattle.hb_frag.specs.Leaves.{DirectlyHolds};
-ghost use Rattle.hb_point.specs.Asks.{CanHold, InsertsInto, IsHalfFor, PartsPage, PutsBy, deed_for, line_with};
-ghost use Rattle.hb_point.specs.SessionRows.{SplitsOrFull};
+ghost use Rattle.hb_point.specs.Asks.{deed_for, line_with};
+ghost use Rattle.hb_point.specs.Doing.{CanHold, InsertsInto, IsHalfFor, PartsPage, PutsBy};
+ghost use Rattle.hb_point.specs.SplitRows.{SplitsOrFull};
 ghost use Rattle.hb_set.specs.declared.commands.Command.TheVariants as commands;
 ghost use Rattle.hb_space.specs.Boxes.{Cuts as Parts};
 

@@ -1,7 +1,7 @@
 //! What follows of these rows. Each law is the contract of a function that does nothing: a caller
 //! learns it by the call.
 
-ghost use Rattle.hb_point.specs.SessionRows.{CommandsAreAllowed, CommandsHaveOneDeed, FullPagesAreHeavy, PutsAreAllowed, SplitsAreAllowed};
+ghost use Rattle.hb_point.specs.Laws.{CommandsAreAllowed, CommandsHaveOneDeed, FullPagesAreHeavy, PutsAreAllowed, SplitsAreAllowed};
 
 /// A command on a point may do its operation: the page of its row keeps the rules of a page alone, and
 /// the row's own conditions are all that is wanted beside.

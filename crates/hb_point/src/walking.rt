@@ -5,7 +5,8 @@ ghost use Rattle.std.specs.Prelude.{◌≡◌, ℕ, List, [], Some, MatchOption}
 ghost use Rattle.hb_activity.specs.Walks.{goal_of};
 ghost use Rattle.hb_layout.specs.Limits.{IsLayout};
 ghost use Rattle.hb_ops.specs.Standing.{StandsNot, StandsThere};
-ghost use Rattle.hb_point.specs.Asks.{WalksAt, WalksInside, DoesBy, HasLeafOfRecords, RecordsThere, WalksBy, line_with};
+ghost use Rattle.hb_point.specs.Asks.{WalksAt, WalksInside, line_with};
+ghost use Rattle.hb_point.specs.Doing.{DoesBy, HasLeafOfRecords, RecordsThere, WalksBy};
 ghost use Rattle.hb_set.specs.declared.commands.Command.TheVariants as commands;
 ghost use Rattle.hb_space.specs.Boxes.{Area as Extent, Holds};
 

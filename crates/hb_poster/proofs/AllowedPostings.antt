@@ -22,7 +22,8 @@ use Rattle.hb_frag.specs.Paths.{part_at}
 use Rattle.hb_frag.specs.Trees.{Tree}
 use Rattle.hb_ops.specs.Operations.{IsAllowedOn, reads_of}
 use Rattle.hb_ops.specs.Posting.{posted}
-use Rattle.hb_poster.specs.PosterRows.{ArePagesAtHand, GrowthIsAllowed, IsOfChild, PostingsAreAllowed, PostingsAreOfTheChild, DoesPlan}
+use Rattle.hb_poster.specs.PosterRows.{DoesPlan}
+use Rattle.hb_poster.specs.Laws.{ArePagesAtHand, GrowthIsAllowed, IsOfChild, PostingsAreAllowed, PostingsAreOfTheChild}
 use Rattle.hb_space.specs.Boxes.{Area, Holds, common_area}
 use Rattle.hb_split.proofs.Facts.Allowed.{is_allowed}
 use Rattle.hb_split.proofs.Facts.Ends.{is_thirds}

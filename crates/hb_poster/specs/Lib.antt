@@ -1,3 +1,4 @@
 pub mod PosterRows
+pub mod Laws
 pub mod Examples
 pub mod Asks

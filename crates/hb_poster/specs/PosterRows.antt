@@ -1,5 +1,5 @@
 -- The rows of the poster. The page of a row is the one that the step latches.
-use Rattle.std.specs.Prelude.{◌≡◌, ◌≢◌, ◌⊎◌, ℕ, ◌+◌, ◌<◌, [], ◌∷◌, Some, None, List, Contains}
+use Rattle.std.specs.Prelude.{◌≡◌, ◌≢◌, ◌⊎◌, ℕ, ◌+◌, ◌<◌, [], ◌∷◌, Some, None}
 use Rattle.hb_layout.specs.declared.limits.TheConstants.{HEIGHT_MAX}
 use Rattle.hb_frag.specs.declared.leaves.Leaf.TheVariants.{Child}
 use Rattle.hb_frag.specs.declared.pages.LivePage.{LivePage}
@@ -15,16 +15,9 @@ use Rattle.hb_activity.specs.Deeds.{Deed, does, moves_to}
 use Rattle.hb_activity.specs.Passing.{HasNoPage, PartLeavesTo, corner_of, PassesOn, LeadsBelow}
 use Rattle.hb_activity.specs.Sights.{Sight}
 use Rattle.hb_frag.specs.Leaves.{leaf_at, siblings_of}
-use Rattle.hb_space.specs.Boxes.{Area, IsArea}
+use Rattle.hb_space.specs.Boxes.{Area}
 use Rattle.hb_split.specs.Choosing.{IsChosen}
 use Rattle.hb_terms.specs.Plans.{IsPlan}
-use Rattle.hb_frag.specs.declared.paths.Side.{Side}
-use Rattle.hb_ops.specs.declared.operations.Op.{Op}
-use Rattle.hb_activity.specs.OneDeed.{IsAllowedAlone, NumbersAreGiven}
-use Rattle.hb_layout.specs.Limits.{IsLayout}
-use Rattle.hb_ops.specs.Operations.{IsAllowedOn, reads_of}
-use Rattle.hb_ops.specs.Posting.{IsChildAt}
-use Rattle.hb_ops.specs.Sound.{FitsFile}
 
 -- Idle: the poster takes the oldest job of its kind. A job above the file's height is dropped; one at the height is to give
 -- the file a level; any other is done at a page of its level.
@@ -108,33 +101,3 @@ PosterRow (at.PosterChild job parent) s id page deed = LooksAtChild s job parent
 PosterRow (at.PosterPromote job parent) s id page deed = deed ≡ moves_to (at.PosterAgain job parent) []
 PosterRow (at.PosterAgain job parent) s id page deed = LooksAgain s job parent page deed
 PosterRow other s id page deed = ⊥
-
--- A file may grow as the row says. That reads no page.
-abbrev pub GrowthIsAllowed : Type 0
-GrowthIsAllowed = (s : Sight) (job : Job) (root : LivePage) (deed : Deed) (op : Op) → GrowsFile s job root deed → NumbersAreGiven s → deed.op ≡ Some op →
-    (reads_of op ≡ []) × IsAllowedOn op s.meta None None None
-
--- What a row is given where the poster looks at the child again: both pages have boxes and keep the rules of a page alone, and
--- what the file says of itself is within its limits.
-pub record ArePagesAtHand (s : Sight) (parent child : LivePage) : Type 0 where
-  pub layout : IsLayout s.meta
-  pub above : FitsFile s.meta parent
-  pub above_area : IsArea parent.area
-  pub below : FitsFile s.meta child
-  pub below_area : IsArea child.area
-
--- The posting, or the split of the parent, is allowed.
-abbrev pub PostingsAreAllowed : Type 0
-PostingsAreAllowed = (s : Sight) (job : Job) (parent : ℕ) (child : LivePage) (deed : Deed) (op : Op) (row : LooksAgain s job parent child deed) → NumbersAreGiven s →
-    ArePagesAtHand s row.page child → deed.op ≡ Some op → IsAllowedAlone s parent row.page op
-
--- A posting names a page, over a box, at a child leaf of the parent, and the child gave exactly this box to that page.
-pub record IsOfChild (page child : LivePage) (way : List Side) (inner : ℕ) (area : Area) : Type 0 where
-  pub outer : ℕ
-  pub box : Area
-  pub leaf : IsChildAt way page outer box
-  pub gave : Contains (siblings_of child) (inner, area)
-
-abbrev pub PostingsAreOfTheChild : Type 0
-PostingsAreOfTheChild = (s : Sight) (job : Job) (parent : ℕ) (child : LivePage) (deed : Deed) (row : LooksAgain s job parent child deed) (id : ℕ) (way : List Side) (inner : ℕ) (area : Area) →
-    ArePagesAtHand s row.page child → deed.op ≡ Some (ops.Post id way inner area) → IsOfChild row.page child way inner area

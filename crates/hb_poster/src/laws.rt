@@ -1,7 +1,7 @@
 //! What follows of these rows. Each law is the contract of a function that does nothing: a caller
 //! learns it by the call.
 
-ghost use Rattle.hb_poster.specs.PosterRows.{GrowthIsAllowed, PostingsAreAllowed, PostingsAreOfTheChild};
+ghost use Rattle.hb_poster.specs.Laws.{GrowthIsAllowed, PostingsAreAllowed, PostingsAreOfTheChild};
 
 /// A file that is to grow may.
 pub fn growth_is_allowed()

@@ -25,7 +25,8 @@ use Rattle.hb_sound.specs.Told.{IsHole, IsWholeFile, file_of, shown_pages}
 use Rattle.hb_store.specs.States.{IsSameLayout}
 use Rattle.hb_store.specs.Opening.{IsPageIn, Shows, place_bytes}
 use Rattle.hb_store.specs.Replay.{Replayed, untouched, replay}
-use Rattle.hb_restart.specs.Refusals.{IsFoundIn, IsReadIn, audit_fault, touched_pages, IsRefusal, IsShut, LogSays, IsUnsound, LacksPage, RefusesBytes}
+use Rattle.hb_restart.specs.Refusals.{IsRefusal, IsShut, LogSays, IsUnsound, LacksPage, RefusesBytes}
+use Rattle.hb_restart.specs.Found.{IsFoundIn, IsReadIn, audit_fault, touched_pages}
 use Rattle.hb_restart.specs.Source.{touched_or, page_there, pages_from, told_pages}
 use Rattle.hb_restart.specs.declared.faults.OpenFault.{OpenFault}
 use Rattle.hb_restart.specs.declared.faults.OpenFault.TheVariants as faults

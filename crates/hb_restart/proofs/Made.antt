@@ -23,7 +23,7 @@ use Rattle.hb_layout.specs.Offsets.{file_size, log_start, page_offset}
 use Rattle.hb_store.specs.Opening.{log_bytes, place_bytes, OpensTo}
 use Rattle.hb_store.specs.Keeps.{IsFresh}
 use Rattle.hb_store.proofs.Facts.ReplayLaws.{opens_fresh}
-use Rattle.hb_restart.specs.Leaving.{HasEmptyPlaces, IsLaidOut}
+use Rattle.hb_restart.specs.Creation.{HasEmptyPlaces, IsLaidOut}
 use Rattle.hb_restart.specs.NewFiles.{lone}
 use Rattle.hb_restart.proofs.Facts.LoneLaws.{page_alone}
 

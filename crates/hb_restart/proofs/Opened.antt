@@ -14,8 +14,10 @@ use Rattle.hb_store.proofs.Facts.Spellings.{OneList}
 use Rattle.hb_store.specs.Keeps.{IsFresh}
 use Rattle.hb_store.specs.Opening.{IsEven, OpensTo}
 use Rattle.hb_store.specs.States.{IsNew, StoreState}
-use Rattle.hb_restart.specs.Leaving.{KeepsBeyond, LeavesOpening, RunsThrough, DiskFaults, Runs, WritesAll, WritesEachOnce}
-use Rattle.hb_restart.specs.Refusals.{IsFoundIn}
+use Rattle.hb_restart.specs.Leaving.{LeavesOpening, RunsThrough}
+use Rattle.hb_restart.specs.Renewing.{DiskFaults, Runs, WritesAll, WritesEachOnce}
+use Rattle.hb_restart.specs.Beyond.{KeepsBeyond}
+use Rattle.hb_restart.specs.Found.{IsFoundIn}
 use Rattle.hb_restart.proofs.EachOnce.{also_all, also_each}
 use Rattle.hb_restart.proofs.Facts.Beyond.{beyond_found, beyond_looked}
 use Rattle.hb_restart.proofs.Made.{told_before}

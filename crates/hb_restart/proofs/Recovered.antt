@@ -11,8 +11,8 @@ use Rattle.hb_ops.specs.Files.{FileState, file_records}
 use Rattle.hb_ops.specs.Sound.{IsSound}
 use Rattle.hb_store.specs.Opening.{OpensTo, IsEven}
 use Rattle.hb_store.specs.Keeps.{IsFresh}
-use Rattle.hb_restart.specs.Refusals.{IsFoundIn}
-use Rattle.hb_restart.specs.Leaving.{WritesAll}
+use Rattle.hb_restart.specs.Found.{IsFoundIn}
+use Rattle.hb_restart.specs.Renewing.{WritesAll}
 use Rattle.hb_restart.proofs.Made.{told_before}
 use Rattle.hb_restart.proofs.SyncedRuns.{found_to}
 

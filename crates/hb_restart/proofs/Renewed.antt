@@ -25,7 +25,7 @@ use Rattle.hb_store.specs.Opening.{OpensTo, IsPageIn, log_bytes, place_bytes}
 use Rattle.hb_store.specs.Keeps.{IsFresh}
 use Rattle.hb_store.proofs.Facts.ReplayLaws.{opens_elsewhere, opens_fresh}
 use Rattle.hb_store.proofs.Facts.FreshLaws.{IsNewest-elsewhere, IsFresh-from}
-use Rattle.hb_restart.specs.Leaving.{StillOpens, IsHere, IsPlaced, IsPlacedTo, IsReadyFor}
+use Rattle.hb_restart.specs.Renewing.{StillOpens, IsHere, IsPlaced, IsPlacedTo, IsReadyFor}
 use Rattle.hb_restart.proofs.Numbered.{last_number, some_number}
 use Rattle.hb_restart.proofs.RunSteps.{now_has, Tore, tore}
 use Rattle.hb_disk.proofs.Facts.RewriteLaws.{Becomes-tells}

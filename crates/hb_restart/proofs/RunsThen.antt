@@ -8,7 +8,7 @@ use Rattle.hb_disk.proofs.Facts.RewriteLaws.{Becomes-tells, Rewrites-sync}
 use Rattle.hb_layout.specs.Offsets.{slot_offset}
 use Rattle.hb_super.specs.Moments.{Clears}
 use Rattle.hb_super.proofs.Facts.ClearLaws.{cleared_cause, cleared_faults_later, cleared_few, cleared_lasts, cleared_no_fault, cleared_place, cleared_synced}
-use Rattle.hb_restart.specs.Leaving.{DiskFaults, Runs}
+use Rattle.hb_restart.specs.Renewing.{DiskFaults, Runs}
 use Rattle.hb_restart.proofs.Facts.Beyond.{beyond_none, beyond_then, beyond_wider}
 
 -- no call failed

@@ -11,8 +11,8 @@ use Rattle.hb_layout.specs.declared.meta.Meta.{Meta}
 use Rattle.hb_ops.specs.Files.{FileState}
 use Rattle.hb_store.specs.Opening.{OpensTo, IsEven, OpensToOne}
 use Rattle.hb_store.specs.Keeps.{IsFresh}
-use Rattle.hb_restart.specs.Refusals.{IsFoundIn}
-use Rattle.hb_restart.specs.Leaving.{StillOpens, IsHere}
+use Rattle.hb_restart.specs.Found.{IsFoundIn}
+use Rattle.hb_restart.specs.Renewing.{StillOpens, IsHere}
 use Rattle.hb_restart.proofs.Renewed.{still_to}
 use Rattle.hb_restart.proofs.RunSteps.{ok_tick}
 

@@ -1,5 +1,9 @@
 pub mod Layouts
 pub mod NewFiles
 pub mod Refusals
+pub mod Found
 pub mod Source
+pub mod Beyond
+pub mod Renewing
 pub mod Leaving
+pub mod Creation

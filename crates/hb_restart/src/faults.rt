@@ -53,7 +53,7 @@ pub enum OpenFault {
 
 impl From<AuditStop> for OpenFault {
     ghost use Rattle.std.specs.Prelude.{◌≡◌};
-    ghost use Rattle.hb_restart.specs.Refusals.{audit_fault};
+    ghost use Rattle.hb_restart.specs.Found.{audit_fault};
 
     ghost from_gives = { λ stop fault. fault ≡ audit_fault stop };
 
@@ -68,7 +68,7 @@ impl From<AuditStop> for OpenFault {
 
 impl From<SuperStop> for OpenFault {
     ghost use Rattle.std.specs.Prelude.{◌≡◌};
-    ghost use Rattle.hb_restart.specs.Refusals.{super_fault};
+    ghost use Rattle.hb_restart.specs.Found.{super_fault};
 
     ghost from_gives = { λ stop fault. fault ≡ super_fault stop };
 
@@ -82,7 +82,7 @@ impl From<SuperStop> for OpenFault {
 
 impl From<LogStop> for OpenFault {
     ghost use Rattle.std.specs.Prelude.{◌≡◌};
-    ghost use Rattle.hb_restart.specs.Refusals.{log_fault};
+    ghost use Rattle.hb_restart.specs.Found.{log_fault};
 
     ghost from_gives = { λ stop fault. fault ≡ log_fault stop };
 

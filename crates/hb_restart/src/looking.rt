@@ -3,7 +3,8 @@ ghost use Rattle.std.specs.Prelude.{IfOk, IfErr, IfSome};
 ghost use Rattle.std.specs.Ordering.{nat_cmp};
 ghost use Rattle.std.specs.BTreeMap.{get};
 ghost use Rattle.hb_disk.specs.Calls.{ReadsOnly};
-ghost use Rattle.hb_restart.specs.Refusals.{IsFoundIn, IsReadIn, IsRenewable, IsWholeRead, IsRefusal, IsShut, RefusesBytes};
+ghost use Rattle.hb_restart.specs.Refusals.{IsRefusal, IsShut, RefusesBytes};
+ghost use Rattle.hb_restart.specs.Found.{IsFoundIn, IsReadIn, IsRenewable, IsWholeRead};
 ghost use Rattle.hb_restart.specs.Leaving.{FailedBy, disk_left};
 ghost use Rattle.hb_restart.specs.declared.faults.OpenFault.TheVariants.{DiskFault};
 

@@ -1,7 +1,8 @@
 //! What a file is by its superblock and its log. Nothing is written.
 ghost use Rattle.std.specs.Prelude.{IfOk, IfErr, IfSome, IsErrOf};
 ghost use Rattle.hb_disk.specs.Calls.{ReadsOnly};
-ghost use Rattle.hb_restart.specs.Refusals.{IsReadIn, IsWholeRead, IsRefusal};
+ghost use Rattle.hb_restart.specs.Refusals.{IsRefusal};
+ghost use Rattle.hb_restart.specs.Found.{IsReadIn, IsWholeRead};
 ghost use Rattle.hb_restart.specs.declared.faults.OpenFault.TheVariants.{DiskFault};
 
 use crate::faults::OpenFault;

@@ -16,8 +16,8 @@ ghost use Rattle.hb_layout.specs.Offsets as offsets;
 ghost use Rattle.hb_layout.specs.Offsets.{file_size};
 ghost use Rattle.hb_store.specs.Opening.{OpensTo, IsEven, place_bytes};
 ghost use Rattle.hb_store.specs.Keeps.{IsFresh};
-ghost use Rattle.hb_restart.specs.Refusals.{IsFoundIn, IsRenewable, LiesOn};
-ghost use Rattle.hb_restart.specs.Leaving.{StillOpens, IsHere, IsPlaced, IsPlacedTo, IsReadyFor, Runs, IsWrittenTo, WritesAll, WritesEachOnce};
+ghost use Rattle.hb_restart.specs.Found.{IsFoundIn, IsRenewable, LiesOn};
+ghost use Rattle.hb_restart.specs.Renewing.{StillOpens, IsHere, IsPlaced, IsPlacedTo, IsReadyFor, Runs, IsWrittenTo, WritesAll, WritesEachOnce};
 ghost use Rattle.hb_restart.specs.Source.{HasPlaceFor};
 
 use crate::looking::Found;

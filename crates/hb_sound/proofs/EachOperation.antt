@@ -11,10 +11,12 @@ use Rattle.hb_frag.specs.Leaves.{Placed, leaf_at, leaves_of}
 use Rattle.hb_ops.specs.declared.operations.Op.{Op}
 use Rattle.hb_ops.specs.declared.operations.Op.TheVariants.{Put, Del, Extract, Post, Grow}
 use Rattle.hb_ops.specs.Files.{FileState, live_page}
-use Rattle.hb_ops.specs.Operations.{DelStaysSound, PutStaysSound, IsAllowed, IsAllowedOn, IsLicensed, OpHas, change_of, nth_read}
+use Rattle.hb_ops.specs.Operations.{IsAllowed, IsAllowedOn, IsLicensed, OpHas, change_of, nth_read}
+use Rattle.hb_ops.specs.LawsOfContents.{DelStaysSound, PutStaysSound}
 use Rattle.hb_ops.specs.Sound.{IsSound}
 use Rattle.hb_sound.specs.Laws.{DelsTakeOne, PagesHaveBoxes, PutsAddOne, TreeLaws}
-use Rattle.hb_sound.specs.LawsOfOperations.{GrowthKeepsContents, GrowthKeepsSound, OperationsKeepContents, OperationsKeepLayout, OperationsKeepSound, SplitsKeepContents, SplitsKeepSound, MayBeDone, PostingsKeepContents, PostingsKeepSound}
+use Rattle.hb_sound.specs.LawsOfOperations.{GrowthKeepsContents, GrowthKeepsSound, OperationsKeepContents, OperationsKeepLayout, OperationsKeepSound, SplitsKeepContents, SplitsKeepSound, MayBeDone}
+use Rattle.hb_sound.specs.LawsOfPostings.{PostingsKeepContents, PostingsKeepSound}
 use Rattle.hb_sound.specs.PointWalks.{IsPointOf}
 use Rattle.hb_ops.proofs.Facts.Contents.{del_on, put_on}
 use Rattle.hb_ops.proofs.Facts.PlacedLaws.{placed}

@@ -8,7 +8,8 @@ use Rattle.hb_frag.specs.Leaves.{leaf_at}
 use Rattle.hb_ops.specs.Files.{FileState, live_page}
 use Rattle.hb_ops.specs.Sound.{IsSound}
 use Rattle.hb_ops.specs.declared.operations.Op.TheVariants.{Put, Del}
-use Rattle.hb_ops.specs.Operations.{DelTakesOne, PutAddsOne, nth_read}
+use Rattle.hb_ops.specs.Operations.{nth_read}
+use Rattle.hb_ops.specs.LawsOfContents.{DelTakesOne, PutAddsOne}
 use Rattle.hb_ops.specs.Standing.{AbsenceIsContents, RecordsAreContents}
 use Rattle.hb_sound.specs.Laws.{DelsTakeOne, EachPageHasWalks, EachPointIsHeld, LackIsContents, NoPointIsHeldTwice, PagesHaveBoxes, PutsAddOne, RecordsAreAtHome, RootHasWalks, SpaceLaws, StandingIsContents, StepsLeadFurther, TreeLaws}
 use Rattle.hb_sound.specs.PointWalks.{IsPointOf, IsResponsible}

@@ -19,7 +19,8 @@ use Rattle.hb_ops.specs.Posting.{FitsPost, GaveAway, IsChildAt, post_page}
 use Rattle.hb_ops.specs.Sound.{IsSound}
 use Rattle.hb_sound.specs.Laws.{SpaceLaws, TreeLaws}
 use Rattle.hb_sound.specs.Names.{HasBelow}
-use Rattle.hb_sound.specs.LawsOfOperations.{ChangesParent, MayBeDone, NamesAt, PostingsChangeParent, PostingsKeepContents, PostingsKeepDirect, PostingsKeepSound, PostingsName}
+use Rattle.hb_sound.specs.LawsOfOperations.{MayBeDone}
+use Rattle.hb_sound.specs.LawsOfPostings.{ChangesParent, NamesAt, PostingsChangeParent, PostingsKeepContents, PostingsKeepDirect, PostingsKeepSound, PostingsName}
 use Rattle.hb_sound.specs.PointWalks.{HasOn}
 use Rattle.hb_sound.proofs.GrowthKept.{contents_from, records-set}
 use Rattle.hb_sound.proofs.OneChanged.{IsLike, after as changed, new_live, others_stay, pair_of_new, pair_of_old, sound_again}

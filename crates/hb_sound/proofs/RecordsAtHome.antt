@@ -15,7 +15,7 @@ use Rattle.hb_frag.specs.Trees.{Tree, Tip, Cut}
 use Rattle.hb_frag.specs.Leaves.{Placed, leaf_at, leaves, leaves_of, records_of}
 use Rattle.hb_frag.specs.Rules.{IsInOrder}
 use Rattle.hb_ops.specs.Files.{FileState, if_live, live_page, page_of, page_records}
-use Rattle.hb_ops.specs.Operations.{OthersLack}
+use Rattle.hb_ops.specs.LawsOfContents.{OthersLack}
 use Rattle.hb_ops.specs.Sound.{AreWellMade, IsCovered, SiblingsMatch}
 use Rattle.hb_sound.specs.Laws.{TreeLaws}
 use Rattle.hb_sound.specs.PointWalks.{HasOn}

@@ -12,7 +12,8 @@ use Rattle.hb_sound.specs.declared.facts.Fact.TheVariants.{Live, Free}
 use Rattle.hb_sound.specs.declared.links.Links.{Links}
 use Rattle.hb_sound.specs.declared.pages.AuditStop.{AuditStop}
 use Rattle.hb_sound.specs.declared.pages.AuditStop.TheVariants as stops
-use Rattle.hb_sound.specs.Facts.{AreFactsOf, IsFactOf, all_records, records_seen}
+use Rattle.hb_sound.specs.Facts.{AreFactsOf, IsFactOf}
+use Rattle.hb_sound.specs.RecordCounts.{all_records, records_seen}
 use Rattle.hb_sound.specs.Links.{AreLinks, AreRead, IsCut, Tells, KnowsTold}
 use Rattle.hb_sound.specs.Names.{IsSoundWith, KeepsSix, Names, NamesIn}
 use Rattle.hb_sound.specs.Stops.{OnBroken}

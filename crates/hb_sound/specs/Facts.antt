@@ -1,5 +1,5 @@
 -- The few facts that the audit keeps of each page, and what they say together.
-use Rattle.std.specs.Prelude.{◌≡◌, ◌⊎◌, ℕ, zero, suc, ◌+◌, ◌≤◌, ◌==◌, if◌then◌else◌, List, [], ◌∷◌, length, option_map, Option, Some, None, ◌^◌, ◌<◌}
+use Rattle.std.specs.Prelude.{◌≡◌, ◌⊎◌, ℕ, zero, suc, ◌+◌, ◌≤◌, ◌==◌, if◌then◌else◌, List, [], ◌∷◌, length, option_map, Option, Some, None}
 use Rattle.hb_space.specs.Boxes.{Area, Within}
 use Rattle.hb_frag.specs.declared.leaves.Leaf.{Leaf}
 use Rattle.hb_frag.specs.declared.leaves.Leaf.TheVariants.{Records, Child, Sibling}
@@ -108,16 +108,3 @@ pub record HasFacts (meta : Meta) (facts : List Fact) : Type 0 where
   pub layout : IsLayout meta
   pub count : length facts ≡ meta.high
   pub within : meta.high ≤ meta.pages
-
--- how many records the page has, fewer than 2^32
-abbrev pub records_seen : Fact → ℕ
-records_seen (Live seen) = seen.records
-records_seen (Free next) = 0
-
-abbrev pub IsLightFact : Fact → Type 0
-IsLightFact fact = records_seen fact < 2 ^ 32
-
--- how many records the pages have together
-abbrev pub all_records : List Fact → ℕ
-all_records [] = 0
-all_records (fact ∷ rest) = records_seen fact + all_records rest

@@ -10,7 +10,8 @@ use Rattle.hb_frag.specs.Leaves.{IsWellCut, Placed, first_at, leaves_of, Directl
 use Rattle.hb_frag.specs.Trees.{Tree}
 use Rattle.hb_ops.specs.declared.operations.Op.TheVariants.{Put, Del}
 use Rattle.hb_ops.specs.Files.{FileState, live_page, contents_of}
-use Rattle.hb_ops.specs.Operations.{IsAllowed, effect_of, OthersLack}
+use Rattle.hb_ops.specs.Operations.{IsAllowed, effect_of}
+use Rattle.hb_ops.specs.LawsOfContents.{OthersLack}
 use Rattle.hb_ops.specs.Sound.{IsSound}
 use Rattle.hb_ops.specs.Standing.{StandsThere, StandsNot}
 use Rattle.hb_sound.specs.PointWalks.{IsPointOf, HasOn, HasWalk, IsResponsible, IsWholeWalk, LeadsFurther, LeadsOn}

@@ -4,10 +4,12 @@ pub mod Laws
 pub mod Examples
 pub mod LateFile
 pub mod LawsOfOperations
+pub mod LawsOfPostings
 pub mod Told
 pub mod Walks
 pub mod Names
 pub mod Stops
+pub mod RecordCounts
 pub mod Facts
 pub mod Links
 pub mod Covers

@@ -2,7 +2,8 @@
 //! that does nothing: a caller learns it by the call.
 
 ghost use Rattle.hb_sound.specs.Laws.{DelsTakeOne, EachPageHasWalks, EachPointIsHeld, LackIsContents, NoPointIsHeldTwice, PagesHaveBoxes, PutsAddOne, RecordsAreAtHome, RootHasWalks, SpaceLaws, StandingIsContents, StepsLeadFurther, TreeLaws, WalksAreOne, NoOtherParent, FullyPostedWalksAreShort};
-ghost use Rattle.hb_sound.specs.LawsOfOperations.{GrowthChangesOne, GrowthKeepsContents, GrowthKeepsDirect, GrowthKeepsSound, OperationsKeepContents, OperationsKeepLayout, OperationsKeepSound, SplitsChangeTwo, SplitsKeepContents, SplitsKeepSound, SplitsPartDirect, PostingsChangeParent, PostingsKeepContents, PostingsKeepDirect, PostingsKeepSound, PostingsName};
+ghost use Rattle.hb_sound.specs.LawsOfOperations.{GrowthChangesOne, GrowthKeepsContents, GrowthKeepsDirect, GrowthKeepsSound, OperationsKeepContents, OperationsKeepLayout, OperationsKeepSound, SplitsChangeTwo, SplitsKeepContents, SplitsKeepSound, SplitsPartDirect};
+ghost use Rattle.hb_sound.specs.LawsOfPostings.{PostingsChangeParent, PostingsKeepContents, PostingsKeepDirect, PostingsKeepSound, PostingsName};
 
 use hb_frag::laws::{
     carving_parts_a_leaf, each_point_has_one_leaf, leaves_part_the_box, normal_says_the_same,

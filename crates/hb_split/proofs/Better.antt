@@ -3,7 +3,8 @@ use Rattle.std.proofs.Common.{◌≡◌, ℕ, ◌+◌, ◌<◌, ◌≤◌, ◌�
 use Rattle.std.proofs.lemmas.Bool.{cases_lt}
 use Rattle.hb_space.specs.declared.records.Record.{Record}
 use Rattle.hb_split.specs.declared.planes.Candidate.{Candidate}
-use Rattle.hb_split.specs.Choosing.{MayCut, NotBehind, IsBest, heavier_count, BestOf, IsBestOn, BestOn, heavier_at, BestStep}
+use Rattle.hb_split.specs.Choosing.{MayCut, NotBehind, IsBest, heavier_count}
+use Rattle.hb_split.specs.Steps.{BestOf, IsBestOn, BestOn, heavier_at, BestStep}
 
 pub fewer : (k a v : ℕ) (records : List Record) → a < k → MayCut (k + 1) a v records → MayCut k a v records
 fewer k a v records lt m = record { attribute = lt; met = m.met; exceeds = m.exceeds }

@@ -9,7 +9,8 @@ use Rattle.std.proofs.lemmas.List.Elements.{All-filter}
 use Rattle.hb_space.specs.declared.records.Record.{Record}
 use Rattle.hb_frag.specs.declared.paths.Side.TheVariants.{Left, Right}
 use Rattle.hb_frag.specs.Rules.{Precedes}
-use Rattle.hb_split.specs.Choosing.{MayCut, count_on, AreOf}
+use Rattle.hb_split.specs.Choosing.{MayCut, count_on}
+use Rattle.hb_split.specs.Steps.{AreOf}
 use Rattle.hb_split.proofs.Nexts.{differs}
 use Rattle.hb_split.proofs.Thirds.{both}
 use Rattle.hb_lemmas.proofs.Booleans.{if_below, if_same}

@@ -15,7 +15,8 @@ use Rattle.hb_space.specs.Boxes.{Area}
 use Rattle.hb_frag.specs.declared.pages.LivePage.{LivePage}
 use Rattle.hb_frag.specs.Paths.{part_at}
 use Rattle.hb_frag.specs.Rules.{AreInOrder, Precedes}
-use Rattle.hb_split.specs.Choosing.{AreChosen, way_down, Chooses, IsBest, NotBehind, count_on, heavier_count, heavier_side, AreOf}
+use Rattle.hb_split.specs.Choosing.{AreChosen, way_down, Chooses, IsBest, NotBehind, count_on, heavier_count, heavier_side}
+use Rattle.hb_split.specs.Steps.{AreOf}
 use Rattle.hb_split.proofs.Centers.{LeavesFew, few_records, times}
 use Rattle.hb_split.proofs.Facts.Ends.{at_end, of_page, records_at}
 use Rattle.hb_split.proofs.Thirds.{both}

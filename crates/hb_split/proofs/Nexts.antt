@@ -16,7 +16,8 @@ use Rattle.hb_frag.specs.Rules.{Precedes}
 use Rattle.hb_ops.specs.Cutting.{is_on}
 use Rattle.hb_ops.specs.declared.leaf_cuts.LeafCut.{LeafCut}
 use Rattle.hb_split.specs.declared.planes.Candidate.{Candidate}
-use Rattle.hb_split.specs.Choosing.{MayCut, count_on, AreOf, BestOf, IsNextCut, AddsCuts}
+use Rattle.hb_split.specs.Choosing.{MayCut, count_on}
+use Rattle.hb_split.specs.Steps.{AreOf, BestOf, IsNextCut, AddsCuts}
 use Rattle.hb_split.proofs.Thirds.{both}
 
 some_on : (p : Record → Bool) (records : List Record) (k : ℕ) (r : Record) → k < length records → get_or records k r ≡ r → p r ≡ true → 0 < length (filter p records)

@@ -9,7 +9,8 @@ use Rattle.hb_space.specs.declared.records.Record.{Record}
 use Rattle.hb_frag.specs.declared.paths.Side.TheVariants.{Left, Right}
 use Rattle.hb_ops.specs.Cutting.{is_on}
 use Rattle.hb_split.specs.declared.planes.Candidate.{Candidate}
-use Rattle.hb_split.specs.Choosing.{MayCut, NotBehind, heavier_side, heavier_count, count_on, IsBestOn, AreValues, IsStep, heavier_at, BestStep}
+use Rattle.hb_split.specs.Choosing.{MayCut, NotBehind, heavier_side, heavier_count, count_on}
+use Rattle.hb_split.specs.Steps.{IsBestOn, AreValues, IsStep, heavier_at, BestStep}
 use Rattle.hb_split.proofs.Thirds.{both}
 
 abbrev below : ℕ → List ℕ → ℕ

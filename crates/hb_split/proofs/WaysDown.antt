@@ -5,7 +5,8 @@ use Rattle.hb_frag.specs.declared.paths.Side.{Side}
 use Rattle.hb_frag.specs.declared.paths.Side.TheVariants.{Left, Right}
 use Rattle.hb_frag.specs.Trees.{Tree, Tip, Cut}
 use Rattle.hb_frag.specs.Leaves.{weight_of}
-use Rattle.hb_split.specs.Choosing.{heavier_side, is_heavy, way_down, own_step}
+use Rattle.hb_split.specs.Choosing.{heavier_side, is_heavy, way_down}
+use Rattle.hb_split.specs.Steps.{own_step}
 use Rattle.hb_frag.proofs.Facts.Parts.{weight_cut}
 use Rattle.hb_lemmas.proofs.Booleans.{if_below}
 

@@ -1,5 +1,5 @@
 -- Which part leaves a full page, what the parts of the choice say to each other, and what contracts say of an extraction.
-use Rattle.std.specs.Prelude.{◌≡◌, ℕ, ◌+◌, ◌*◌, ◌<◌, ◌≤◌, ◌⊎◌, max, Bool, nat_lt, if◌then◌else◌, List, [], ◌∷◌, length, filter, slice_index, Any, Some, ◌-◌, ◌++◌, map, All, AllPairs, Option, MatchOption}
+use Rattle.std.specs.Prelude.{◌≡◌, ℕ, ◌+◌, ◌*◌, ◌<◌, ◌≤◌, ◌⊎◌, max, Bool, nat_lt, if◌then◌else◌, List, [], ◌∷◌, length, filter, slice_index, Any, Some}
 use Rattle.hb_space.specs.Boxes.{Area}
 use Rattle.hb_space.specs.declared.records.Record.{Record}
 use Rattle.hb_frag.specs.declared.leaves.Leaf.TheVariants.{Records}
@@ -11,10 +11,7 @@ use Rattle.hb_frag.specs.Leaves.{weight_of}
 use Rattle.hb_frag.specs.Paths.{part_at, StaysInside}
 use Rattle.hb_ops.specs.Cutting.{is_on, going, reached, PartLeaves}
 use Rattle.hb_ops.specs.declared.leaf_cuts.LeafCut.{LeafCut}
-use Rattle.hb_frag.specs.Rules.{IsSiblingTip, Precedes}
-use Rattle.std.specs.List.Sorted.{IsPermutation, IsSorted}
-use Rattle.std.specs.Ordering.{nat_cmp}
-use Rattle.hb_split.specs.declared.planes.Candidate.{Candidate}
+use Rattle.hb_frag.specs.Rules.{IsSiblingTip}
 
 -- the heavier side of two, the left one where both weigh the same
 abbrev pub heavier_side : ℕ → ℕ → Side
@@ -89,69 +86,3 @@ pub record MayLeave (page : LivePage) (path : List Side) (cuts : List LeafCut) :
   pub parts : PartLeaves cuts part.0 part.1
   pub some : ¬ ((path ≡ []) × (cuts ≡ []))
   pub own : ¬ (IsSiblingTip (reached cuts part.0 part.1).0)
-
--- the step at a cut, where its sides together have more than two thirds
-abbrev pub own_step : ℕ → ℕ → ℕ → List Side
-own_step n left right = if is_heavy n (left + right) then heavier_side left right ∷ [] else []
-
--- what the records of a leaf are: each has k attributes, and their points rise
-pub record AreOf (k : ℕ) (records : List Record) : Type 0 where
-  pub attributes : All (λ r. length r.key ≡ k) records
-  pub rising : AllPairs Precedes records
-
--- these cuts are added, all those that are chosen of the records
-abbrev pub AddsCuts : ℕ → ℕ → List Record → List LeafCut → List LeafCut → Type 0
-AddsCuts n k records old new = (more : List LeafCut) × (new ≡ old ++ more) × AreChosen n k more (Tip (Records records))
-
--- a candidate's count and side are those of its plane
-pub record IsOfPlane (records : List Record) (candidate : Candidate) : Type 0 where
-  pub count : candidate.count ≡ heavier_count candidate.cut.axis candidate.cut.value records
-  pub side : candidate.cut.side ≡ heavier_side (count_on Left candidate.cut.axis candidate.cut.value records) (count_on Right candidate.cut.axis candidate.cut.value records)
-
--- the best plane of the first k attributes, where there is one
-abbrev pub BestOf : ℕ → List Record → Option Candidate → Type 0
-BestOf k records best = MatchOption best
-    ((axis value : ℕ) → ¬ (MayCut k axis value records))
-    (λ c. IsBest k c.cut.axis c.cut.value records × IsOfPlane records c)
-
--- the cut that is made next of these records, and what it leaves
-pub record IsNextCut (k : ℕ) (records : List Record) (cut : LeafCut) : Type 0 where
-  pub best : IsBest k cut.axis cut.value records
-  pub side : cut.side ≡ heavier_side (count_on Left cut.axis cut.value records) (count_on Right cut.axis cut.value records)
-  pub inside : All (λ r. cut.axis < length r.key) records
-  pub fewer : length (filter (is_on cut.side cut.axis cut.value) records) < length records
-  pub kept : AreOf k (filter (is_on cut.side cut.axis cut.value) records)
-
--- a plane of this one attribute that isn't behind another one of it
-pub record IsBestOn (axis : ℕ) (records : List Record) (candidate : Candidate) : Type 0 where
-  pub axis_of : candidate.cut.axis ≡ axis
-  pub may : MayCut (axis + 1) axis candidate.cut.value records
-  pub first : (value : ℕ) → MayCut (axis + 1) axis value records
-      → NotBehind (heavier_count axis candidate.cut.value records) axis candidate.cut.value (heavier_count axis value records) axis value
-  pub told : IsOfPlane records candidate
-
-abbrev pub BestOn : ℕ → List Record → Option Candidate → Type 0
-BestOn axis records best = MatchOption best
-    ((value : ℕ) → ¬ (MayCut (axis + 1) axis value records))
-    (IsBestOn axis records)
-
--- the records' values of an attribute, the least first
-pub record AreValues (axis : ℕ) (records : List Record) (values : List ℕ) : Type 0 where
-  pub same : IsPermutation (map (λ r. slice_index r.key axis) records) values
-  pub sorted : IsSorted nat_cmp values
-
--- a place of a sorted list whose value exceeds the one in front
-pub record IsStep (values : List ℕ) (at : ℕ) : Type 0 where
-  pub inside : at < length values
-  pub behind : 0 < at
-  pub exceeds : slice_index values (at - 1) < slice_index values at
-
--- how many values lie on the heavier side of a place
-abbrev pub heavier_at : List ℕ → ℕ → ℕ
-heavier_at values at = max at (length values - at)
-
--- the step with the lightest heavier side, the first of these, among those below a place
-abbrev pub BestStep : List ℕ → ℕ → Option ℕ → Type 0
-BestStep values end best = MatchOption best
-    ((at : ℕ) → at < end → ¬ (IsStep values at))
-    (λ b. (b < end) × IsStep values b × ((at : ℕ) → at < end → IsStep values at → (heavier_at values b < heavier_at values at) ⊎ ((heavier_at values b ≡ heavier_at values at) × (b ≤ at))))

@@ -7,7 +7,8 @@ ghost use Rattle.hb_frag.specs.Leaves.{records_of, weight_of, WellCut};
 ghost use Rattle.hb_frag.specs.Paths.{part_at};
 ghost use Rattle.hb_frag.specs.Rules.{AreInOrder};
 ghost use Rattle.hb_ops.specs.Cutting.{is_on, records_in};
-ghost use Rattle.hb_split.specs.Choosing.{way_down, AreChosen, AreOf, AddsCuts};
+ghost use Rattle.hb_split.specs.Choosing.{way_down, AreChosen};
+ghost use Rattle.hb_split.specs.Steps.{AreOf, AddsCuts};
 
 use crate::planes::best_cut;
 use crate::ways::is_heavy;

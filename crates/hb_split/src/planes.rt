@@ -1,5 +1,6 @@
 ghost use Rattle.std.specs.Prelude.{◌≡◌, ◌≤◌, ◌<◌, ◌^◌, ◌+◌, ◌-◌, length, slice_index, All, Some, IfOk};
-ghost use Rattle.hb_split.specs.Choosing.{AreOf, AreValues, BestOf, BestOn, BestStep, IsBestOn, IsNextCut, heavier_at, heavier_side};
+ghost use Rattle.hb_split.specs.Choosing.{heavier_side};
+ghost use Rattle.hb_split.specs.Steps.{AreOf, AreValues, BestOf, BestOn, BestStep, IsBestOn, IsNextCut, heavier_at};
 
 use crate::ways::heavier_side;
 use hb_ops::LeafCut;

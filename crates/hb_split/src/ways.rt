@@ -1,6 +1,7 @@
 ghost use Rattle.std.specs.Prelude.{◌≡◌, ◌+◌, ◌≤◌, ◌++◌, ◌<◌, ◌^◌, ◌*◌, ◌↔◌, reverse, IfOk, IsTrue, OnOk};
 ghost use Rattle.hb_frag.specs.Leaves.{weight_of};
-ghost use Rattle.hb_split.specs.Choosing.{heavier_side, way_down, own_step};
+ghost use Rattle.hb_split.specs.Choosing.{heavier_side, way_down};
+ghost use Rattle.hb_split.specs.Steps.{own_step};
 
 use hb_frag::{Frag, Node, Path, Side};
 use hb_space::NoMemory;

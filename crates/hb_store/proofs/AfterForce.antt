@@ -27,7 +27,8 @@ use Rattle.hb_log_codec.specs.Groups.{Logged, FitsGroup, group_bytes}
 use Rattle.hb_store.specs.Replay.{Replayed, untouched, replay}
 use Rattle.hb_store.specs.Opening.{OpensBy, log_bytes, place_bytes}
 use Rattle.hb_store.specs.States.{IsMemory, StoreState}
-use Rattle.hb_store.specs.Keeps.{Parts, Leads, OpensNext, written_pages, StoreKeeps, OpensToFirst, last_of}
+use Rattle.hb_store.specs.Keeps.{StoreKeeps, OpensToFirst, last_of}
+use Rattle.hb_store.specs.Parts.{Parts, Leads, OpensNext, written_pages}
 use Rattle.hb_store.specs.Forced.{stopped_state, forced_state, with_log, durable_after, later_after}
 use Rattle.hb_store.proofs.Facts.ReplayLaws.{replay-append}
 use Rattle.hb_wal.proofs.Facts.AreaBytes.{end_zeros}

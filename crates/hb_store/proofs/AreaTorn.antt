@@ -16,7 +16,7 @@ use Rattle.hb_log_codec.specs.Groups.{Logged, FitsGroup, group_bytes}
 use Rattle.hb_store.specs.Replay.{Replayed, untouched, replay, MayFollow}
 use Rattle.hb_layout.specs.Offsets.{log_start, page_offset}
 use Rattle.hb_store.specs.Opening.{OpensBy, Shows, IsPageIn, log_bytes, place_bytes, SpellAll}
-use Rattle.hb_store.specs.Keeps.{ArePageImagesOf}
+use Rattle.hb_store.specs.Parts.{ArePageImagesOf}
 use Rattle.hb_store.proofs.Facts.ReplayLaws.{replay-append, MayReplay-append, SpellAll-append}
 use Rattle.hb_store.proofs.Shown.{Shows-after}
 use Rattle.hb_store.proofs.Facts.FreshLaws.{IsNewest-elsewhere}

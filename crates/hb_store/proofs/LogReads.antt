@@ -12,7 +12,8 @@ use Rattle.hb_wal.specs.Frames.{frames, frame_bytes, IsPayload, HasFrames, HasBa
 use Rattle.hb_store.specs.Replay.{Replayed, untouched}
 use Rattle.hb_layout.specs.Offsets.{log_start}
 use Rattle.hb_store.specs.Opening.{IsBadPayload, HasBadGroup, log_bytes}
-use Rattle.hb_store.specs.Replaying.{AreItsPages, ReplaysOn, replayed_of, HasReplayed, IsFirstBad, NamesBad, NamesBadOr, log_stop, IsTouched, ReadsNoLog}
+use Rattle.hb_store.specs.Replaying.{AreItsPages, ReplaysOn, replayed_of, HasReplayed, IsFirstBad}
+use Rattle.hb_store.specs.LogReading.{NamesBad, NamesBadOr, log_stop, IsTouched, ReadsNoLog}
 use Rattle.hb_store.specs.declared.touched.Touched.{Touched}
 use Rattle.hb_store.specs.declared.touched.LogStop.{LogStop}
 use Rattle.hb_store.specs.declared.touched.LogStop.TheVariants as logs

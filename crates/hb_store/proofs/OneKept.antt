@@ -15,7 +15,8 @@ use Rattle.hb_store.proofs.Facts.Spellings.{OneGroup, OneList, same_spelled}
 use Rattle.hb_store.specs.Replay.{Replayed, untouched, replay, after_group}
 use Rattle.hb_store.specs.Opening.{OpensBy, Shows, log_bytes, SpellAll}
 use Rattle.hb_store.specs.States.{StoreState}
-use Rattle.hb_store.specs.Keeps.{Leads, OpensNext, StoreKeeps}
+use Rattle.hb_store.specs.Keeps.{StoreKeeps}
+use Rattle.hb_store.specs.Parts.{Leads, OpensNext}
 use Rattle.hb_store.proofs.Facts.StoreLaws.{as_waits}
 use Rattle.hb_store.proofs.OneFile.{OneTurn, OneMeta, same_shown}
 

@@ -2,6 +2,7 @@ pub mod Replay
 pub mod Opening
 pub mod States
 pub mod Inside
+pub mod Parts
 pub mod Keeps
 pub mod Seen
 pub mod Calls
@@ -9,3 +10,4 @@ pub mod Forced
 pub mod Making
 pub mod Fetching
 pub mod Replaying
+pub mod LogReading

@@ -2,7 +2,8 @@ ghost use Rattle.std.specs.Prelude.{◌≡◌, ◌<◌, ◌≤◌, ◌^◌, leng
 ghost use Rattle.hb_disk.specs.Calls.{ReadsOnly};
 ghost use Rattle.hb_super.specs.Superblocks.{IsLegal};
 ghost use Rattle.hb_layout.specs.Offsets.{file_size};
-ghost use Rattle.hb_store.specs.Replaying.{HasLimits, replayed_of, HasReplayed, NamesBad, NamesBadOr, log_stop, ReadsLog, ReadsNoLog, IsTouched};
+ghost use Rattle.hb_store.specs.Replaying.{HasLimits, replayed_of, HasReplayed};
+ghost use Rattle.hb_store.specs.LogReading.{NamesBad, NamesBadOr, log_stop, ReadsLog, ReadsNoLog, IsTouched};
 ghost use Rattle.hb_store.specs.declared.touched.LogStop.TheVariants.{DiskFault};
 
 use crate::touched::{LogStop, ReplayStop, Touched};

@@ -7,7 +7,7 @@ use Rattle.hb_super.specs.Superblocks.{IsNewest}
 use Rattle.hb_layout.specs.declared.meta.Meta.{Meta}
 use Rattle.hb_layout.specs.Offsets.{file_size, log_start}
 use Rattle.hb_store.specs.States.{IsSameLayout}
-use Rattle.hb_restart.specs.Leaving.{KeepsBeyond, KeepsBeyondFile}
+use Rattle.hb_restart.specs.Beyond.{KeepsBeyond, KeepsBeyondFile}
 use Rattle.hb_restart.proofs.Facts.Beyond.{beyond_then, beyond_wider, front_within, log_within, same_size}
 
 -- a log area is a part of its file

@@ -21,7 +21,7 @@ use Rattle.hb_ops.specs.Sound.{IsSound}
 use Rattle.hb_outside.specs.Calls.{SinkModel, SourceModel}
 use Rattle.hb_outside.specs.Streams.{Appends, AppendsFront, Rose}
 use Rattle.hb_restart.proofs.Facts.Beyond.{beyond_none}
-use Rattle.hb_restart.specs.Leaving.{KeepsBeyond}
+use Rattle.hb_restart.specs.Beyond.{KeepsBeyond}
 use Rattle.hb_set.specs.Machine.{RecordSet}
 use Rattle.hb_set.specs.Order.{result_of}
 use Rattle.hb_set.specs.declared.scripts.Answered.{Answered}

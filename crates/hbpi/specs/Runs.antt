@@ -1,6 +1,6 @@
 -- What `top` says of a run: one table of how it ends, by its words and its status, and what holds of every run.
 use Rattle.std.specs.Prelude.{◌≡◌, ◌≤◌, Option, Some, None, IsSome}
-use Rattle.hb_restart.specs.Leaving.{KeepsBeyond, KeepsBeyondFile}
+use Rattle.hb_restart.specs.Beyond.{KeepsBeyond, KeepsBeyondFile}
 use Rattle.hb_restart.specs.Layouts.{first_fault, size_of}
 use Rattle.hb_restart.specs.NewFiles.{new_file}
 use Rattle.hb_store.specs.Opening.{IsEven}

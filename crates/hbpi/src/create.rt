@@ -6,7 +6,7 @@ ghost use Rattle.hbpi.specs.SeenRuns.{run_of, seen_by};
 ghost use Rattle.hbpi.specs.MadeEnds.{CreateEnds, HasMade};
 ghost use Rattle.hb_restart.specs.Layouts.{first_fault, size_of};
 ghost use Rattle.hb_restart.specs.NewFiles.{new_file};
-ghost use Rattle.hb_restart.specs.Leaving.{KeepsBeyond};
+ghost use Rattle.hb_restart.specs.Beyond.{KeepsBeyond};
 ghost use Rattle.hbpi.specs.Created.{IsMadeOn, IsUnmade, NotMadeOn};
 ghost use Rattle.hb_restart.specs.declared.faults.CreateFault.TheVariants.{DiskFault, NoMemory};
 

@@ -8,7 +8,7 @@ ghost use Rattle.hb_layout.specs.Offsets.{file_size};
 ghost use Rattle.hb_ops.specs.Files.{FileState};
 ghost use Rattle.hb_ops.specs.Sound.{IsSound};
 ghost use Rattle.hb_point.specs.SessionRows.{WantsBoxes};
-ghost use Rattle.hb_restart.specs.Leaving.{KeepsBeyond, KeepsBeyondFile};
+ghost use Rattle.hb_restart.specs.Beyond.{KeepsBeyond, KeepsBeyondFile};
 ghost use Rattle.hb_store.specs.Keeps.{StoreKeeps};
 ghost use Rattle.hb_store.specs.Seen.{seen_as, disk_of};
 ghost use Rattle.hb_store.specs.States.{IsNew, IsStanding};

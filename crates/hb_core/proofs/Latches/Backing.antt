@@ -39,7 +39,7 @@ use Rattle.hb_latch.specs.Tables.{MayLatch, mode_at}
 use Rattle.hb_ops.specs.Extracting.{fresh_page, source_page, split_pages}
 use Rattle.hb_ops.specs.Files.{if_live}
 use Rattle.hb_ops.specs.Operations.{change_of}
-use Rattle.hb_point.specs.SessionRows.{Splits}
+use Rattle.hb_point.specs.SplitRows.{Splits}
 use Rattle.hb_space.specs.Boxes.{Area}
 use Rattle.hb_store.specs.Calls.{change_here, read_here}
 use Rattle.hb_store.specs.Replay.{set_pages}

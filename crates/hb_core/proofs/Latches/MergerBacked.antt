@@ -14,7 +14,8 @@ use Rattle.hb_activity.specs.Deeds.{Deed}
 use Rattle.hb_activity.specs.Holding.{latch_on}
 use Rattle.hb_activity.specs.Walks.{job_mode}
 use Rattle.hb_activity.specs.Wanting.{walk_next, wanted_of}
-use Rattle.hb_consol.specs.ConsolidatorRows.{after_try, children_of, one_behind, scans, tries, after_keep}
+use Rattle.hb_consol.specs.ConsolidatorRows.{after_try, children_of, one_behind, scans, tries}
+use Rattle.hb_consol.specs.MergeRows.{after_keep}
 use Rattle.hb_core.proofs.Latches.Backing.{AreBacked, Backed, BackedIn, IsBacked, at_hand, backed_deed, backed_row, goes, held_backed, live_now, one_backed, own_mode, rests, stands, there_now, walk_backed}
 use Rattle.hb_core.proofs.Table.MergerMoves.{decided, of_page}
 use Rattle.hb_activity.proofs.Facts.HeldLatches.{in_its_mode}

@@ -19,7 +19,7 @@ use Rattle.hb_core.specs.Keeps.{HasRoomFor, OneHasRoom}
 use Rattle.hb_core.specs.Machines.{Machine, live_here, with_disk, sight}
 use Rattle.hb_core.specs.Rows.{Row}
 use Rattle.hb_frag.specs.Leaves.{DirectlyHolds}
-use Rattle.hb_point.specs.SessionRows.{PutsInHalf}
+use Rattle.hb_point.specs.SplitRows.{PutsInHalf}
 use Rattle.hb_store.specs.States.{StoreState}
 
 -- the operation of a put tells its half and its record

@@ -37,7 +37,7 @@ use Rattle.hb_ops.specs.Operations.{IsAllowedOn, change_of}
 use Rattle.hb_ops.specs.Recording.{put_page}
 use Rattle.hb_ops.specs.Sound.{FitsFile}
 use Rattle.hb_ops.specs.Standing.{StandsNot}
-use Rattle.hb_point.specs.SessionRows.{Splits}
+use Rattle.hb_point.specs.SplitRows.{Splits}
 use Rattle.hb_space.specs.Boxes.{Area, IsArea}
 use Rattle.hb_split.proofs.Facts.Ends.{is_thirds}
 use Rattle.hb_split.specs.Choosing.{IsThirds}

@@ -6,7 +6,8 @@ use Rattle.hb_lemmas.proofs.Options.{not_none, some_value}
 use Rattle.hb_log_codec.specs.Groups.{Logged, group_bytes}
 use Rattle.hb_ops.specs.Files.{FileState}
 use Rattle.hb_store.specs.Forced.{MayWriteOldest, WritesOldest, durable_after, forced_state, later_after, stopped_state, with_log}
-use Rattle.hb_store.specs.Keeps.{StoreKeeps, Leads, written_pages}
+use Rattle.hb_store.specs.Keeps.{StoreKeeps}
+use Rattle.hb_store.specs.Parts.{Leads, written_pages}
 use Rattle.hb_store.specs.Replay.{Replayed}
 use Rattle.hb_store.specs.States.{StoreState}
 use Rattle.hb_store.specs.declared.stops.StopWhy.{StopWhy}

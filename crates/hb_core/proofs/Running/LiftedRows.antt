@@ -24,7 +24,8 @@ use Rattle.hb_activity.specs.Deeds.{Deed, moves_to, takes_effect}
 use Rattle.hb_activity.specs.Passing.{PartLeavesTo, PassesOn, posts_owed}
 use Rattle.hb_activity.specs.Sights.{Sight}
 use Rattle.hb_activity.specs.Walks.{goal_of}
-use Rattle.hb_point.specs.SessionRows.{PointRow, DoesThere, merges_due, PutsInHalf, SplitsOrFull}
+use Rattle.hb_point.specs.SessionRows.{PointRow, DoesThere, merges_due}
+use Rattle.hb_point.specs.SplitRows.{PutsInHalf, SplitsOrFull}
 use Rattle.hb_poster.specs.PosterRows.{Arrives, DoesPlan, GrowsFile, GrowsNot, MayGrow, PosterPasses, PosterRow, after_look}
 use Rattle.hb_split.specs.Choosing.{IsChosen}
 use Rattle.hb_core.specs.Moving.{placed, placed_at}

@@ -13,7 +13,8 @@ use Rattle.hb_activity.specs.Deeds.{Deed, moves_to}
 use Rattle.hb_activity.specs.Sights.{Sight}
 use Rattle.hb_activity.specs.Walks.{walk_held}
 use Rattle.hb_activity.specs.Wanting.{wanted_page}
-use Rattle.hb_consol.specs.ConsolidatorRows.{after_try, children_of, ends_merging, one_behind, scans, tries, DoesMerge, after_keep}
+use Rattle.hb_consol.specs.ConsolidatorRows.{after_try, children_of, ends_merging, one_behind, scans, tries}
+use Rattle.hb_consol.specs.MergeRows.{DoesMerge, after_keep}
 use Rattle.hb_core.specs.KeptFits.{walking_job}
 use Rattle.hb_space.specs.Boxes.{Area}
 

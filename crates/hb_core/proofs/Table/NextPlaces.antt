@@ -21,7 +21,8 @@ use Rattle.hb_core.specs.Machines.{Machine, live_here, with_disk, sight}
 use Rattle.hb_core.specs.Performing.{latches_held}
 use Rattle.hb_core.specs.Rows.{Row, RowAt}
 use Rattle.hb_frag.specs.Leaves.{IsPointer, Placed, leaf_at}
-use Rattle.hb_point.specs.SessionRows.{FindsNoRoom, Splits}
+use Rattle.hb_point.specs.SessionRows.{FindsNoRoom}
+use Rattle.hb_point.specs.SplitRows.{Splits}
 use Rattle.hb_poster.specs.PosterRows.{Arrives}
 use Rattle.hb_store.specs.States.{StoreState}
 use Rattle.hb_frag.specs.declared.leaves.Leaf.{Leaf}

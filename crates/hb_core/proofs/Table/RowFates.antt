@@ -16,7 +16,8 @@ use Rattle.hb_activity.specs.declared.activities.Activity.{Activity}
 use Rattle.hb_activity.specs.declared.activities.Activity.TheVariants as at
 use Rattle.hb_activity.specs.Classes.{job_in_work}
 use Rattle.hb_activity.specs.Deeds.{Deed, GoesOn, answers_now}
-use Rattle.hb_consol.specs.ConsolidatorRows.{HasMergePlan, after_try, children_of, first_one, one_behind, pair_from, scans, tries, DoesMerge, after_keep}
+use Rattle.hb_consol.specs.ConsolidatorRows.{HasMergePlan, after_try, children_of, first_one, one_behind, pair_from, scans, tries}
+use Rattle.hb_consol.specs.MergeRows.{DoesMerge, after_keep}
 use Rattle.hb_core.specs.JobLaws.{EndsAt, IsLastPair}
 use Rattle.hb_core.specs.Machines.{Machine, live_here, sight}
 use Rattle.hb_core.specs.Rows.{Row, RowAlone, RowAt}

@@ -6,7 +6,8 @@ use Rattle.hb_terms.specs.declared.merging.MergePlan.{MergePlan}
 use Rattle.hb_terms.specs.declared.merging.MergePlan.TheVariants as plans
 use Rattle.hb_activity.specs.declared.jobs.Job.{Job}
 use Rattle.hb_activity.specs.Deeds.{Deed}
-use Rattle.hb_consol.specs.ConsolidatorRows.{Scans, TriesPair, after_try, children_of, one_behind, pair_from, scans, tries, Decides, after_keep, takes_keep}
+use Rattle.hb_consol.specs.ConsolidatorRows.{Scans, TriesPair, after_try, children_of, one_behind, pair_from, scans, tries}
+use Rattle.hb_consol.specs.MergeRows.{Decides, after_keep, takes_keep}
 use Rattle.hb_core.proofs.Table.MergerMoves.{decided}
 use Rattle.hb_core.specs.Machines.{Machine, live_here, with_disk, sight}
 use Rattle.hb_frag.specs.Leaves.{first_named, siblings_of}

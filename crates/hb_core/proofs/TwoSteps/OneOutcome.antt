@@ -27,7 +27,7 @@ use Rattle.hb_core.specs.Rows.{Row}
 use Rattle.hb_frag.specs.Leaves.{DirectlyHolds}
 use Rattle.hb_frag.specs.Rules.{AreInOrder}
 use Rattle.hb_ops.specs.Files.{if_live}
-use Rattle.hb_point.specs.SessionRows.{PutsInHalf}
+use Rattle.hb_point.specs.SplitRows.{PutsInHalf}
 use Rattle.hb_store.specs.Calls.{KeepsAllButPages}
 use Rattle.hb_store.specs.States.{StoreState, in_memory}
 use Rattle.hb_core.proofs.Table.NextPlaces.{place_after}

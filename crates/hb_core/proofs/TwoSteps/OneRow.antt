@@ -37,7 +37,8 @@ use Rattle.hb_frag.specs.Paths.{part_at}
 use Rattle.hb_frag.specs.Rules.{AreInOrder}
 use Rattle.hb_frag.specs.Trees.{Tree}
 use Rattle.hb_ops.specs.Cutting.{reached}
-use Rattle.hb_point.specs.SessionRows.{merges_due, DoesThere, PutsInHalf, Splits}
+use Rattle.hb_point.specs.SessionRows.{merges_due, DoesThere}
+use Rattle.hb_point.specs.SplitRows.{PutsInHalf, Splits}
 use Rattle.hb_poster.specs.PosterRows.{Arrives, DoesPlan, GrowsFile, GrowsNot, LooksAgain, LooksAtChild, MayGrow, PosterPasses, after_look}
 use Rattle.hb_search.specs.SearchRows.{Gathers, SearchGoesOn}
 use Rattle.hb_space.specs.Boxes.{Area, holds}

@@ -8,7 +8,7 @@ use Rattle.hb_activity.specs.Deeds.{Deed, GoesOn}
 use Rattle.hb_core.specs.Machines.{Machine, with_disk, sight}
 use Rattle.hb_core.specs.Rows.{Row, RowAlone, RowAt}
 use Rattle.hb_store.specs.States.{StoreState}
-use Rattle.hb_point.specs.SessionRows.{SplitsOrFull}
+use Rattle.hb_point.specs.SplitRows.{SplitsOrFull}
 use Rattle.hb_core.proofs.Table.RowFates.{RowSaying, saying_of}
 use Rattle.hb_core.proofs.Table.EachRow.{each_alone}
 

@@ -17,7 +17,8 @@ use Rattle.hb_layout.specs.declared.meta.Meta.{Meta}
 use Rattle.hb_ops.specs.declared.operations.Op.TheVariants.{Put, Del}
 use Rattle.hb_ops.specs.Files.{FileState, file_records, live_page, page_of, page_records}
 use Rattle.hb_ops.specs.Recording.{FitsDel, FitsPut, joined, on_records, page_with, put_page, del_page, without}
-use Rattle.hb_ops.specs.Operations.{IsAllowedOn, change_of, effect_of, nth_read, with_page, with_changed_pages, DelTakesOne, LonePage, OthersLack, PutAddsOne}
+use Rattle.hb_ops.specs.Operations.{IsAllowedOn, change_of, effect_of, nth_read, with_page, with_changed_pages}
+use Rattle.hb_ops.specs.LawsOfContents.{DelTakesOne, LonePage, OthersLack, PutAddsOne}
 use Rattle.hb_ops.proofs.Facts.Finds.{absent, contents, del_done, put_done, there}
 use Rattle.hb_lemmas.proofs.Lists.{whole}
 use Rattle.hb_ops.proofs.Pages.{Lack, stands_among}

@@ -16,7 +16,8 @@ use Rattle.hb_frag.specs.Leaves.{weight_of}
 use Rattle.hb_frag.specs.Rules.{AreInOrder}
 use Rattle.hb_ops.specs.Recording.{put_page}
 use Rattle.hb_ops.specs.Standing.{StandsNot, StandsThere}
-use Rattle.hb_point.specs.SessionRows.{CommandsHaveOneDeed, DoesThere, merges_due}
+use Rattle.hb_point.specs.SessionRows.{DoesThere, merges_due}
+use Rattle.hb_point.specs.Laws.{CommandsHaveOneDeed}
 use Rattle.hb_activity.proofs.Facts.OneRecord.{one_stands}
 
 -- ---- each row, and no other

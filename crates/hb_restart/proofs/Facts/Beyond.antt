@@ -11,8 +11,8 @@ use Rattle.hb_layout.specs.Offsets.{slot_offset, file_size, log_start, page_offs
 use Rattle.hb_super.specs.Superblocks.{IsNewest}
 use Rattle.hb_layout.specs.declared.meta.Meta.{Meta}
 use Rattle.hb_store.specs.States.{IsSameLayout}
-use Rattle.hb_restart.specs.Leaving.{KeepsBeyond, KeepsBeyondFile}
-use Rattle.hb_restart.specs.Refusals.{IsFoundIn}
+use Rattle.hb_restart.specs.Beyond.{KeepsBeyond, KeepsBeyondFile}
+use Rattle.hb_restart.specs.Found.{IsFoundIn}
 
 -- reads alone
 pub beyond_reads : (n : ℕ) (old new : DiskModel) → IsDisk old → OnlyReads old new → KeepsBeyond n old new

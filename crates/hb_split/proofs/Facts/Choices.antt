@@ -15,7 +15,8 @@ use Rattle.hb_frag.specs.Rules.{AreInOrder}
 use Rattle.hb_ops.specs.Cutting.{is_on, records_in}
 use Rattle.hb_ops.specs.declared.leaf_cuts.LeafCut.{LeafCut}
 use Rattle.hb_split.specs.declared.planes.Candidate.{Candidate}
-use Rattle.hb_split.specs.Choosing.{AreChosen, IsChosen, MayCut, NotBehind, count_on, heavier_count, heavier_side, way_down, AreOf, BestOf, BestOn}
+use Rattle.hb_split.specs.Choosing.{AreChosen, IsChosen, MayCut, NotBehind, count_on, heavier_count, heavier_side, way_down}
+use Rattle.hb_split.specs.Steps.{AreOf, BestOf, BestOn}
 use Rattle.hb_split.proofs.Better.{all_new, best_alone, best_stays, other_wins}
 use Rattle.hb_split.proofs.Centers.{some_below}
 use Rattle.hb_split.proofs.Facts.Ends.{GoesDown, at_end, chosen_of, no_end, of_page, records_at}

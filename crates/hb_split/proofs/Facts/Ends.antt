@@ -15,7 +15,8 @@ use Rattle.hb_frag.specs.declared.leaves.Leaf.TheVariants.{Records, Child, Sibli
 use Rattle.hb_frag.specs.declared.pages.LivePage.{LivePage}
 use Rattle.hb_ops.specs.Cutting.{records_in}
 use Rattle.hb_ops.specs.declared.leaf_cuts.LeafCut.{LeafCut}
-use Rattle.hb_split.specs.Choosing.{way_down, AreChosen, IsThirds, AreOf, AddsCuts}
+use Rattle.hb_split.specs.Choosing.{way_down, AreChosen, IsThirds}
+use Rattle.hb_split.specs.Steps.{AreOf, AddsCuts}
 use Rattle.hb_split.proofs.Thirds.{thirds}
 use Rattle.hb_frag.proofs.Facts.Parts.{weight_cut}
 use Rattle.hb_lemmas.proofs.Booleans.{if_below}

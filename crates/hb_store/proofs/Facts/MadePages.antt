@@ -21,7 +21,8 @@ use Rattle.hb_ops.specs.declared.operations.Op.TheVariants.{Put, Del, Extract, P
 use Rattle.hb_ops.specs.Cutting.{cut_through}
 use Rattle.hb_ops.specs.Extracting.{fresh_page, source_page, split_pages}
 use Rattle.hb_ops.specs.Allocating.{new_root}
-use Rattle.hb_ops.specs.Operations.{ChangesMakeWell, IsWellIn, IsAllowedOn, change_of}
+use Rattle.hb_ops.specs.Operations.{IsAllowedOn, change_of}
+use Rattle.hb_ops.specs.LawsOfContents.{ChangesMakeWell, IsWellIn}
 use Rattle.hb_ops.specs.Posting.{posted, post_page}
 use Rattle.hb_ops.specs.Recording.{del_page, joined, put_page, without}
 use Rattle.hb_ops.specs.Sound.{FitsFile}

@@ -8,7 +8,8 @@ use Rattle.hb_log_codec.specs.Groups.{Logged, group_bytes}
 use Rattle.hb_store.specs.Replay.{Replayed}
 use Rattle.hb_store.specs.Opening.{OpensBy, OpensTo}
 use Rattle.hb_store.specs.States.{StoreState}
-use Rattle.hb_store.specs.Keeps.{Parts, Leads, OpensNext, StoreKeeps, OpensToFirst, last_of}
+use Rattle.hb_store.specs.Keeps.{StoreKeeps, OpensToFirst, last_of}
+use Rattle.hb_store.specs.Parts.{Parts, Leads, OpensNext}
 use Rattle.hb_store.specs.Forced.{durable_after, later_after}
 
 -- By the durable file's groups, or by those and the first that waits. `OpensHere` and `OpensOn` say so of a store's parts.

@@ -7,7 +7,7 @@ use Rattle.hb_frag.specs.Grammar.{SpellsPage}
 use Rattle.hb_super.specs.Superblocks.{IsNewest, body_bytes}
 use Rattle.hb_store.specs.Keeps.{IsFresh}
 use Rattle.hb_layout.specs.Offsets.{file_size}
-use Rattle.hb_restart.specs.Leaving.{IsLaidOut}
+use Rattle.hb_restart.specs.Creation.{IsLaidOut}
 use Rattle.hb_restart.specs.NewFiles.{lone}
 use Rattle.hb_disk.proofs.Facts.RewriteLaws.{Rewrites-as, Rewrites-torn, Rewrites-weaker}
 use Rattle.hb_disk.proofs.Facts.TornLaws.{Torn-wider}

@@ -2,7 +2,7 @@ use Rattle.std.proofs.Common.{◌≡◌, ℕ, ◌+◌, ◌*◌, ◌≤◌, ◌�
 use Rattle.std.proofs.lemmas.List.{length-replicate}
 use Rattle.hb_disk.specs.Model.{overwritten}
 use Rattle.hb_lemmas.proofs.Options.{if_value, at_value, on_ok}
-use Rattle.hb_restart.specs.Leaving.{HasEmptyPlaces, IsLaidOut}
+use Rattle.hb_restart.specs.Creation.{HasEmptyPlaces, IsLaidOut}
 use Rattle.hb_layout.specs.Offsets.{file_size}
 use Rattle.hb_disk.specs.Model.{Torn}
 use Rattle.hb_disk.proofs.Facts.RewriteLaws.{Rewrites-as, Rewrites-sync, Rewrites-torn, Rewrites-write}

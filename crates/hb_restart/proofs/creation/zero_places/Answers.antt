@@ -1,7 +1,7 @@
 use Rattle.std.proofs.Common.{◌≡◌, ℕ, ◌≤◌, List, replicate, Some, IfSome, length, arith}
 use Rattle.hb_disk.specs.Model.{overwritten}
 use Rattle.hb_lemmas.proofs.Options.{if_value, at_value, on_ok_weaker}
-use Rattle.hb_restart.specs.Leaving.{HasEmptyPlaces}
+use Rattle.hb_restart.specs.Creation.{HasEmptyPlaces}
 use Rattle.hb_restart.proofs.Made.{zeroed_places}
 use Rattle.hb_restart.proofs.creation.zero_places.Goals as goal
 

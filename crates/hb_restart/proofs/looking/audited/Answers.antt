@@ -3,7 +3,7 @@ use Rattle.std.specs.Ordering.{nat_cmp}
 use Rattle.std.specs.BTreeMap.{get}
 use Rattle.hb_sound.specs.declared.pages.AuditStop.{AuditStop}
 use Rattle.hb_sound.specs.declared.pages.AuditStop.TheVariants.{Failed}
-use Rattle.hb_restart.specs.Refusals.{audit_fault}
+use Rattle.hb_restart.specs.Found.{audit_fault}
 use Rattle.hb_restart.proofs.Audited.{asked_only, disk_bytes, failed_is, found_ok, named_err}
 use Rattle.hb_restart.proofs.Told.{covers, weight_page}
 use Rattle.hb_restart.proofs.looking.audited.Goals as goal

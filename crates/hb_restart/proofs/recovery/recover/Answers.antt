@@ -13,8 +13,9 @@ use Rattle.hb_store.specs.Opening.{OpensTo}
 use Rattle.hb_store.specs.States.{IsSameLayout}
 use Rattle.hb_store.specs.Keeps.{IsFresh, StoreKeeps}
 use Rattle.hb_store.specs.Seen.{seen_as, disk_of}
-use Rattle.hb_restart.specs.Refusals.{IsFoundIn, IsRenewable}
-use Rattle.hb_restart.specs.Leaving.{LeavesOpening, RunsThrough, WritesAll}
+use Rattle.hb_restart.specs.Found.{IsFoundIn, IsRenewable}
+use Rattle.hb_restart.specs.Leaving.{LeavesOpening, RunsThrough}
+use Rattle.hb_restart.specs.Renewing.{WritesAll}
 use Rattle.hb_restart.specs.declared.faults.OpenFault.{OpenFault}
 use Rattle.hb_restart.specs.declared.faults.OpenFault.TheVariants.{DiskFault, NoMemory}
 use Rattle.hb_restart.proofs.Facts.Beyond.{found_said}

@@ -4,7 +4,7 @@ use Rattle.hb_super.specs.Moments.{HidesNoOther}
 use Rattle.hb_frag.specs.declared.pages.Page.{Page}
 use Rattle.hb_layout.specs.declared.meta.Meta.{Meta}
 use Rattle.hb_ops.specs.Files.{FileState}
-use Rattle.hb_restart.specs.Leaving.{StillOpens, IsPlaced, IsReadyFor}
+use Rattle.hb_restart.specs.Renewing.{StillOpens, IsPlaced, IsReadyFor}
 use Rattle.hb_restart.proofs.Renewed.{zeroed_moments, zeroed_ready, cleared_moments, cleared_ready}
 use Rattle.hb_restart.proofs.RunSteps.{on_ok_given_so}
 use Rattle.hb_layout.specs.Offsets.{page_offset}

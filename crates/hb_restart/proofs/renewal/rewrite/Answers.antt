@@ -9,7 +9,7 @@ use Rattle.hb_layout.specs.declared.meta.Meta.{Meta}
 use Rattle.hb_ops.specs.Files.{FileState}
 use Rattle.hb_store.specs.Opening.{OpensTo}
 use Rattle.hb_store.specs.Keeps.{IsFresh}
-use Rattle.hb_restart.specs.Leaving.{StillOpens, IsHere, IsPlaced, WritesAll}
+use Rattle.hb_restart.specs.Renewing.{StillOpens, IsHere, IsPlaced, WritesAll}
 use Rattle.hb_restart.proofs.Renewed.{still_to}
 use Rattle.hb_layout.specs.Offsets.{file_size, page_offset}
 use Rattle.hb_restart.proofs.Facts.Beyond.{front_within}

@@ -6,7 +6,7 @@ use Rattle.hb_layout.specs.declared.meta.Meta.{Meta}
 use Rattle.hb_ops.specs.Files.{FileState}
 use Rattle.hb_store.specs.Opening.{OpensTo}
 use Rattle.hb_store.specs.Keeps.{IsFresh}
-use Rattle.hb_restart.specs.Leaving.{StillOpens, IsPlaced}
+use Rattle.hb_restart.specs.Renewing.{StillOpens, IsPlaced}
 use Rattle.hb_restart.proofs.Renewed.{still_to, super_moments, super_fresh}
 use Rattle.hb_restart.proofs.RunSteps.{on_ok_each, on_ok_two}
 use Rattle.hb_layout.specs.Offsets.{page_offset, slot_offset}

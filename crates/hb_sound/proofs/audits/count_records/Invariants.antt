@@ -1,5 +1,5 @@
 use Rattle.std.proofs.Common.{◌≡◌, ◌+◌, ◌*◌, ◌^◌, ◌≤◌, drop}
-use Rattle.hb_sound.specs.Facts.{all_records}
+use Rattle.hb_sound.specs.RecordCounts.{all_records}
 use Rattle.hb_sound.proofs.audits.count_records.Given as goal
 
 -- those so far and those of the rest are all

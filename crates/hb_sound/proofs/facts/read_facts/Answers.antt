@@ -2,7 +2,8 @@ use Rattle.std.proofs.Common.{◌≡◌, inr, ◌+◌, ◌∷◌, [], List, Opti
 use Rattle.std.proofs.lemmas.List.Elements.{All-append, All-cons, All-nil}
 use Rattle.hb_frag.specs.declared.pages.Page.{Page}
 use Rattle.hb_sound.specs.declared.facts.Fact.{Fact}
-use Rattle.hb_sound.specs.Facts.{IsFactOf, IsLightFact}
+use Rattle.hb_sound.specs.Facts.{IsFactOf}
+use Rattle.hb_sound.specs.RecordCounts.{IsLightFact}
 use Rattle.hb_sound.specs.Links.{Knows}
 use Rattle.hb_sound.specs.Told.{item_at}
 use Rattle.hb_sound.proofs.Asking.{asks_as, asks_on}

@@ -1,6 +1,6 @@
 use Rattle.std.proofs.Common.{◌≡◌, ◌⊎◌, ◌≤◌, All, IfSome, vec_len}
 use Rattle.hb_sound.specs.Asking.{Asks}
-use Rattle.hb_sound.specs.Facts.{IsLightFact}
+use Rattle.hb_sound.specs.RecordCounts.{IsLightFact}
 use Rattle.hb_sound.proofs.ReadUp.{IsReadTo}
 use Rattle.hb_sound.proofs.facts.read_facts.Given as goal
 

@@ -1,5 +1,5 @@
 use Rattle.std.proofs.Common.{ℕ, length, sym, ap, subst, ◌∙◌, arith}
-use Rattle.hb_split.specs.Choosing.{AreOf}
+use Rattle.hb_split.specs.Steps.{AreOf}
 use Rattle.hb_split.proofs.Facts.Ends.{of_page, no_end, at_end, few_in, records_at, is_chosen_at}
 use Rattle.hb_split.proofs.parting.cuts_at.Goals as goal
 

@@ -1,4 +1,4 @@
-use Rattle.hb_split.specs.Choosing.{BestOf}
+use Rattle.hb_split.specs.Steps.{BestOf}
 use Rattle.hb_split.proofs.planes.best_cut.Given as goal
 
 abbrev pub invariant-loop-axis : goal.invariant-loop-axis

@@ -1,4 +1,4 @@
-use Rattle.hb_split.specs.Choosing.{BestStep}
+use Rattle.hb_split.specs.Steps.{BestStep}
 use Rattle.hb_split.proofs.planes.best_step.Given as goal
 
 abbrev pub invariant-loop-at : goal.invariant-loop-at

@@ -1,5 +1,5 @@
 use Rattle.std.proofs.Common.{subst}
-use Rattle.hb_split.specs.Choosing.{BestOf, BestOn}
+use Rattle.hb_split.specs.Steps.{BestOf, BestOn}
 use Rattle.hb_split.proofs.Better.{all_new, best_alone}
 use Rattle.hb_split.proofs.planes.better.Goals as goal
 

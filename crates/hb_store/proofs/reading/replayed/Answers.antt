@@ -4,7 +4,8 @@ use Rattle.std.proofs.lemmas.Iterator.Adapters.{YieldsList-from_vec}
 use Rattle.std.proofs.lemmas.Iterator.Consumers.{YieldsList-so_far, YieldsList-turn}
 use Rattle.hb_store.specs.Opening.{IsBadPayload}
 use Rattle.hb_store.specs.Replay.{untouched}
-use Rattle.hb_store.specs.Replaying.{Follows, replayed_of, ReplaysOn, HasReplayed, NamesBad, log_stop}
+use Rattle.hb_store.specs.Replaying.{Follows, replayed_of, ReplaysOn, HasReplayed}
+use Rattle.hb_store.specs.LogReading.{NamesBad, log_stop}
 use Rattle.hb_store.proofs.LogReads.{none_its, parted, touched_is, first_bad}
 use Rattle.hb_store.proofs.Facts.MadeMeta.{after_itself, after_more}
 use Rattle.hb_store.proofs.Replays.{replayed_none, replayed_more, splits}

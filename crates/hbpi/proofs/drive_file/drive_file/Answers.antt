@@ -1,6 +1,6 @@
 use Rattle.std.proofs.Common.{◌≡◌, inl, refl, sym, subst, ◌∙◌}
 use Rattle.hb_disk.specs.Model.{DiskModel}
-use Rattle.hb_restart.specs.Leaving.{KeepsBeyondFile}
+use Rattle.hb_restart.specs.Beyond.{KeepsBeyondFile}
 use Rattle.hb_store.specs.Seen.{disk_of, seen_as}
 use Rattle.hbpi.proofs.Beyond.{beyond_driven}
 use Rattle.hbpi.proofs.Reopened.{ends_before, kept_of}

@@ -7,7 +7,7 @@ use Rattle.hb_latch.specs.Tables.{MayLatch}
 use Rattle.hb_layout.specs.Offsets.{file_size}
 use Rattle.hb_outside.specs.Calls.{SinkModel}
 use Rattle.hb_restart.proofs.Facts.Beyond.{beyond_none}
-use Rattle.hb_restart.specs.Leaving.{KeepsBeyond}
+use Rattle.hb_restart.specs.Beyond.{KeepsBeyond}
 use Rattle.hb_set.proofs.Facts.ScriptLaws.{script_is_short}
 use Rattle.hb_store.specs.Seen.{disk_of, seen_as}
 use Rattle.std.specs.List.{All}

@@ -3,7 +3,7 @@ use Rattle.hb_disk.specs.Model.{DiskModel}
 use Rattle.hb_layout.specs.Offsets.{file_size}
 use Rattle.hb_layout.specs.declared.meta.Meta.{Meta}
 use Rattle.hb_restart.proofs.Facts.Beyond.{beyond_none}
-use Rattle.hb_restart.specs.Leaving.{KeepsBeyond}
+use Rattle.hb_restart.specs.Beyond.{KeepsBeyond}
 use Rattle.hb_store.specs.Seen.{disk_of, seen_as}
 use Rattle.hbpi.proofs.StepsTaken.{store_ends}
 use Rattle.hbpi.specs.Outcome.{GetsLine, fault_line}

@@ -1,0 +1,66 @@
+-- What the parts of the decider say to each other.
+use Rattle.std.specs.Prelude.{◌≡◌, ◌⊎◌, ℕ, length, Option, Some, List}
+use Rattle.hb_frag.specs.Leaves.{DirectlyHolds, WellCut, leaf_at}
+use Rattle.hb_frag.specs.declared.pages.LivePage.{LivePage}
+use Rattle.hb_layout.specs.declared.meta.Meta.{Meta}
+use Rattle.hb_set.specs.declared.commands.Command.TheVariants.{Insert}
+use Rattle.hb_set.specs.declared.scripts.Line.{Line}
+use Rattle.hb_activity.specs.declared.activities.Activity.TheVariants as at
+use Rattle.hb_activity.specs.Deciding.{given_pages, given_sight}
+use Rattle.hb_space.specs.Boxes.{Holds, Area}
+use Rattle.hb_space.specs.declared.records.Record.{Record}
+use Rattle.hb_frag.specs.declared.leaves.Leaf.TheVariants.{Records}
+use Rattle.hb_activity.specs.declared.deciding.Next.{Next}
+use Rattle.hb_point.specs.SessionRows.{DoesThere, PointRow}
+use Rattle.hb_point.specs.SplitRows.{PutsInHalf}
+use Rattle.hb_layout.specs.Limits.{IsLayout}
+use Rattle.hb_ops.specs.Sound.{FitsFile}
+use Rattle.hb_point.specs.Asks.{MustSplit, HasHalves, deed_for}
+
+-- the page's leaf at the point has records
+pub record RecordsThere (page : LivePage) (p : List ℕ) : Type 0 where
+  pub records : List Record
+  pub area : Area
+  pub leaf : leaf_at page p ≡ Some (record { leaf = Records records; area = area })
+
+-- An answer is the row of a walk at this page, whatever page the walk held before and whatever else was seen.
+abbrev pub WalksBy : Meta → Line → List Area → List Record → ℕ → LivePage → Next → Type 0
+WalksBy meta line rest found id page next = (held : Option ℕ) (pages : List (ℕ × LivePage)) (free : Option (ℕ × ℕ)) →
+    PointRow (at.SessionWalk line held rest found) (given_sight meta pages free) id page (deed_for line next)
+
+-- It is a row at a leaf of records.
+abbrev pub DoesBy : Meta → Line → ℕ → LivePage → Next → Type 0
+DoesBy meta line id page next = (pages : List (ℕ × LivePage)) (free : Option (ℕ × ℕ)) →
+    DoesThere (given_sight meta pages free) line line.command id page (deed_for line next)
+
+-- a page that can be looked into at the point, which has the attributes of its box
+pub record CanHold (page : LivePage) (p : List ℕ) : Type 0 where
+  pub well_cut : WellCut page
+  pub attributes : length p ≡ length page.area.lo
+
+-- the line inserts a record that the page can hold
+pub record InsertsInto (line : Line) (page : LivePage) : Type 0 where
+  pub rec : Record
+  pub command : line.command ≡ Insert rec
+  pub can : CanHold page rec.key
+
+-- the page keeps the rules of a page alone, and its leaf at the point, which its box has, has records
+pub record HasLeafOfRecords (meta : Meta) (page : LivePage) (p : List ℕ) : Type 0 where
+  pub made : FitsFile meta page
+  pub inside : Holds page.area p
+  pub records : RecordsThere page p
+
+-- a page to be split, over a file within its limits
+pub record PartsPage (meta : Meta) (free : Option (ℕ × ℕ)) (line : Line) (held : ℕ) (page : LivePage) : Type 0 where
+  pub layout : IsLayout meta
+  pub made : FitsFile meta page
+  pub must : MustSplit meta free line held held page
+
+-- An answer is the row that puts, whatever is given as the other half.
+abbrev pub PutsBy : Line → ℕ → ℕ → LivePage → Next → Type 0
+PutsBy line source fresh page next = (meta : Meta) (id : ℕ) (first : Option LivePage) (free : Option (ℕ × ℕ)) → HasHalves meta line source fresh id page first →
+    PutsInHalf (given_sight meta (given_pages (at.SessionPut line source fresh) id page first) free) line source fresh (deed_for line next)
+
+-- The half is the page, where that directly holds the point, and else the other one.
+abbrev pub IsHalfFor : LivePage → List ℕ → ℕ → ℕ → ℕ → Type 0
+IsHalfFor page p source fresh half = ((half ≡ source) × DirectlyHolds page p) ⊎ ((half ≡ fresh) × (¬ (DirectlyHolds page p)))
