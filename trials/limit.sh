@@ -26,14 +26,15 @@ least() {
     echo $high
 }
 
-# fits NAME NEED FILE WORDS..: above what an empty text takes, the least limit is at most twice the need, in bytes
+# fits NAME NEED FILE WORDS..: above what an empty text takes, the least limit is at most five quarters of the need, in
+# bytes. The count is a power of two, so that lists that grow by doubling have no free places.
 fits() {
     name=$1 need=$(($2 / 1024))
     shift 2
     "$HBPI" "$@" <text >full || says "$name" 0 "$?"
     took=$(($(least "$@") - base))
     echo "     $name: needs $need KB, takes $took"
-    says "$name" "within twice" "$([ $took -le $((2 * need)) ] && echo within twice)"
+    says "$name" "within five quarters" "$([ $took -le $((need * 5 / 4)) ] && echo within five quarters)"
 }
 
 : >text
