@@ -46,11 +46,12 @@ pub(crate) fn zeros(alloc: Global, size: usize) -> Result<MemDisk, AllocError> {
     Ok(MemDisk::new(alloc, vec![in alloc; 0; size]?))
 }
 
-/// Runs the program over the disk, and compares: the status has to be 0, and the output this one.
-pub(crate) fn call(
+/// Runs the program over the disk, and compares: the status has to be this one, and the output.
+pub(crate) fn ends(
     alloc: Global,
     words: &'static str,
     text: &str,
+    code: u8,
     output: &str,
     disk: MemDisk,
 ) -> Result<MemDisk, Missed> {
@@ -64,7 +65,7 @@ pub(crate) fn call(
     let finished = top(alloc, list.as_slice(), &mut source, sink, disk);
     let (got, wanted) = (finished.sink.bytes(), output.as_bytes());
     let status = finished.status.code();
-    if status == 0 && got == wanted {
+    if status == code && got == wanted {
         return Ok(finished.disk);
     }
     let same = got.iter().zip(wanted).take_while(|pair| *pair.0 == *pair.1);
@@ -74,6 +75,17 @@ pub(crate) fn call(
         status,
         from,
     })
+}
+
+/// The same where the status has to be 0.
+pub(crate) fn call(
+    alloc: Global,
+    words: &'static str,
+    text: &str,
+    output: &str,
+    disk: MemDisk,
+) -> Result<MemDisk, Missed> {
+    ends(alloc, words, text, 0, output, disk)
 }
 
 /// Runs `drive` of this text over the disk, and compares.

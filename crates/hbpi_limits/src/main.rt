@@ -6,12 +6,20 @@
 //! has to come is worked out here, by the rules of the command language and of the bytes of a page.
 #![tactic(auto)]
 
+mod asks;
+mod attributes;
+mod audits;
 mod calls;
+mod fields;
+mod free_pages;
+mod heights;
 mod logs;
 mod missed;
 mod pages;
 mod records;
 mod searches;
+mod sizes;
+mod trees;
 
 use crate::missed::Missed;
 use std::io;
@@ -52,5 +60,35 @@ fn main(rt: HostRuntime) -> io::Result<()> {
         &rt,
         "1000000 lines, and 500000 records in one reply",
         searches::many_lines(alloc),
+    )?;
+    tell(
+        &rt,
+        "one to four attributes, from a new file to a last look",
+        attributes::one_to_four(alloc),
+    )?;
+    tell(
+        &rt,
+        "one to twelve levels, and one more where there may be",
+        heights::each_height(alloc),
+    )?;
+    tell(
+        &rt,
+        "65, 1000 and 65536 pages, changed, replayed and found in their places",
+        sizes::many_pages(alloc),
+    )?;
+    tell(
+        &rt,
+        "300 splits, with 100 pages of a free chain and 200 new ones",
+        free_pages::all_are_taken(alloc),
+    )?;
+    tell(
+        &rt,
+        "each rule that the last of 1000 pages may break",
+        audits::each_rule(alloc),
+    )?;
+    tell(
+        &rt,
+        "the pages of a sound file, once or twice",
+        asks::pages_are_asked(alloc),
     )
 }

@@ -21,6 +21,23 @@ pub(crate) enum Missed {
     WrittenOtherwise,
     /// A page was read that isn't the one of the bytes.
     AnotherPage,
+    /// The file has another number of levels.
+    Height {
+        height: u8,
+    },
+    /// A file whose pages were all taken says otherwise.
+    NotUsedUp,
+    /// A sound file was refused.
+    NotSound,
+    /// A page was asked for more or less often.
+    Asked {
+        page: u32,
+        count: u8,
+    },
+    /// A page doesn't stand in its place as it was changed.
+    NotHome {
+        page: u32,
+    },
 }
 
 impl From<AllocError> for Missed {

@@ -1,0 +1,118 @@
+//! Files of one to twelve levels, of which each but the highest gets one more.
+
+use crate::calls::{Script, drive};
+use crate::fields::{
+    DCAP, ICAP, LOG, blank, page_at, put_cut, put_fields, put_head, put_name, put_records,
+};
+use crate::missed::Missed;
+use crate::sizes::{find, insert};
+use hb_disk::MemDisk;
+use hb_layout::Meta;
+use std::alloc::{AllocError, Global};
+
+/// How many levels a file may have.
+const MOST: u8 = 12;
+
+/// From here on the first values of points lie in the second page of each level.
+const SECOND: u64 = 1 << 32;
+
+/// What a file says of itself. It has two pages on each level, and some may be added.
+fn meta_of(height: u8) -> Meta {
+    let live = 2 * u32::from(height);
+    Meta {
+        k: height % 4 + 1,
+        pages: live + 2,
+        log: LOG,
+        dcap: DCAP,
+        icap: ICAP,
+        root: live.saturating_sub(1),
+        height,
+        high: live,
+        live,
+        free: 0,
+    }
+}
+
+/// Puts what a page has of its own: one record, or the child leaf to the page that is two numbers less.
+fn put_own(
+    bytes: &mut Vec<u8>,
+    k: u8,
+    level: u8,
+    number: u32,
+    from: u64,
+) -> Result<(), AllocError> {
+    if level == 0 {
+        put_records(bytes, k, from, 1)
+    } else {
+        put_name(bytes, 2, number.saturating_sub(2))
+    }
+}
+
+/// Puts the two pages of a level. The first one has the whole space, and gave the upper part to the second one, which has
+/// the next number.
+fn put_level(alloc: Global, file: &mut [u8], k: u8, level: u8) -> Result<(), AllocError> {
+    let number = 2 * u32::from(level) + 1;
+    let mut first = Vec::new(alloc);
+    put_head(&mut first, level, k, 0)?;
+    put_cut(&mut first, SECOND)?;
+    put_own(&mut first, k, level, number, 0)?;
+    put_name(&mut first, 3, number + 1)?;
+    put_fields(file, page_at(number), &first);
+    let mut second = Vec::new(alloc);
+    put_head(&mut second, level, k, SECOND)?;
+    put_own(&mut second, k, level, number + 1, SECOND)?;
+    put_fields(file, page_at(number + 1), &second);
+    Ok(())
+}
+
+/// The file of so many levels.
+fn file_of(alloc: Global, meta: &Meta) -> Result<Vec<u8>, AllocError> {
+    let mut file = blank(alloc, meta)?;
+    for level in 0..meta.height {
+        put_level(alloc, &mut file, meta.k, level)?;
+    }
+    Ok(file)
+}
+
+/// A lookup goes by the root's sibling leaf and over one page a level, 3 steps and one for each level. So the poster gives
+/// the file a level, and posts the sibling there. An insert goes over one page a level again, now with the new root, and
+/// forces both and what it did.
+fn growth(alloc: Global, meta: &Meta) -> Result<Script, Missed> {
+    let mut script = Script::new(alloc)?;
+    let levels = u32::from(meta.height);
+    find(&mut script, meta.k, SECOND)?;
+    insert(&mut script, meta.k, SECOND + 1)?;
+    write!(script.text, "step 1x{} px40 1x{}\n", levels + 3, levels + 6)?;
+    script.end("")?;
+    Ok(script)
+}
+
+/// Lookups on each side. A lookup takes 2 steps and one for each level of the grown file. In one of twelve levels the upper
+/// part is behind the root's sibling leaf, a page more.
+fn finds(alloc: Global, meta: &Meta) -> Result<Script, Missed> {
+    let mut script = Script::new(alloc)?;
+    find(&mut script, meta.k, 0)?;
+    find(&mut script, meta.k, SECOND)?;
+    find(&mut script, meta.k, SECOND + 1)?;
+    let before = u32::from(meta.height);
+    let after = u32::from(meta.height.saturating_add(1).min(MOST));
+    let steps = (2 + after) + 2 * (3 + before);
+    write!(script.text, "step 1x{steps}\n")?;
+    script.end("")?;
+    Ok(script)
+}
+
+/// Lets each of the files grow, and looks into it. The superblock of turn 2 has its height.
+pub(crate) fn each_height(alloc: Global) -> Result<(), Missed> {
+    for below in 0..MOST {
+        let meta = meta_of(below + 1);
+        let disk = MemDisk::new(alloc, file_of(alloc, &meta)?);
+        let disk = drive(alloc, &growth(alloc, &meta)?, disk)?;
+        let disk = drive(alloc, &finds(alloc, &meta)?, disk)?;
+        let height = disk.bytes().get(12).copied().unwrap_or(0);
+        if height != MOST.min(meta.height.saturating_add(1)) {
+            return Err(Missed::Height { height });
+        }
+    }
+    Ok(())
+}
