@@ -99,10 +99,7 @@ const BODIES: [(&[u8], &str); 16] = [
     (b"a b", "%612062"),
     (b"a\n", "%610a"),
     (&[9, 144, 154, 169], "%09909aa9"),
-    (
-        b"x\n2 ok\norder 2",
-        "%780a32206f6b0a6f726465722032",
-    ),
+    (b"x\n2 ok\norder 2", "%780a32206f6b0a6f726465722032"),
     (
         &[255; 32],
         "%ffffffffffffffffffffffffffffffffffffffffffffffffffffffffffffffff",
