@@ -3,7 +3,7 @@ use Rattle.std.specs.Prelude.{Option, Some, None, true, false}
 use Rattle.hb_space.specs.Boxes.{point_area}
 use Rattle.hb_set.specs.declared.commands.Command.{Command}
 use Rattle.hb_set.specs.declared.commands.Command.TheVariants.{Insert, Delete, Lookup, Search}
-use Rattle.hb_activity.specs.declared.box_locks.BoxLock.{BoxLock}
+use Rattle.hb_boxlock.specs.declared.locks.BoxLock.{BoxLock}
 use Rattle.hb_activity.specs.declared.activities.Activity.{Activity}
 use Rattle.hb_activity.specs.declared.activities.Activity.TheVariants.{SessionWalk, SessionSplit, SessionPut}
 

@@ -1,31 +1,21 @@
 ghost use Rattle.std.specs.Prelude.{◌≡◌, true, false};
+ghost use Rattle.hb_activity.specs.BoxLocks.{lock_of_command};
 
 use crate::Activity;
+use hb_boxlock::BoxLock;
 use hb_set::Command;
 use hb_space::Area;
 
-/// A lock on a box of points.
-#[derive(Debug, Drop)]
-pub struct BoxLock {
-    pub area: Area,
-    /// Whether others that share it may have boxes locked that meet this one.
-    pub shared: bool,
-}
-
-impl BoxLock {
-    ghost use Rattle.hb_activity.specs.BoxLocks.{lock_of_command};
-
-    /// The lock that a session wants for the command: an insert or a delete for its point alone,
-    /// a lookup its point and a search its box, shared.
-    pub fn of_command(command: &Command) -> BoxLock
-        ensures { result ≡ lock_of_command command.now }
-    {
-        match command {
-            Command::Insert(record) => alone(Area::of_point(&record.key)),
-            Command::Delete(point) => alone(Area::of_point(point)),
-            Command::Lookup(point) => shared(Area::of_point(point)),
-            Command::Search(area) => shared(area.copy()),
-        }
+/// The lock that a session wants for the command: an insert or a delete for its point alone, a
+/// lookup its point and a search its box, shared.
+pub fn box_lock_for(command: &Command) -> BoxLock
+    ensures { result ≡ lock_of_command command.now }
+{
+    match command {
+        Command::Insert(record) => alone(Area::of_point(&record.key)),
+        Command::Delete(point) => alone(Area::of_point(point)),
+        Command::Lookup(point) => shared(Area::of_point(point)),
+        Command::Search(area) => shared(area.copy()),
     }
 }
 
@@ -40,7 +30,7 @@ impl Activity {
         match self {
             Activity::SessionWalk { line, .. }
             | Activity::SessionSplit { line, .. }
-            | Activity::SessionPut { line, .. } => Some(BoxLock::of_command(&line.command)),
+            | Activity::SessionPut { line, .. } => Some(box_lock_for(&line.command)),
             _ => None,
         }
     }

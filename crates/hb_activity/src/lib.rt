@@ -26,7 +26,7 @@ mod walks;
 mod wanting;
 
 pub use activities::Activity;
-pub use box_locks::BoxLock;
+pub use box_locks::box_lock_for;
 pub use corners::corner_of;
 pub use deciding::{Fate, Next};
 pub use dropping::DropWhy;
