@@ -130,7 +130,7 @@ ready_second = (omega arith, omega arith)
 pub commands_of_one : CommandsOfOne
 commands_of_one = (
   machine_of first_taken,
-  inl (performed commands_before 1 (taking inserts_fifty) [] (queued refl refl) tt),
+  takes_line commands_before 1 inserts_fifty [] (queued refl refl) tt,
   (
     machine_of first_done,
     works first_taken 1 finds_twin [] refl (has_room first_taken 1 ready_first) twin_row (queued refl refl) tt,
@@ -139,7 +139,7 @@ commands_of_one = (
       inl (omega arith, performed first_done 1 (answers_now 1 replies.Duplicate) [] (queued refl refl) tt),
       (
         machine_of second_taken,
-        inl (performed first_answered 1 (taking deletes_none) [] (queued refl refl) tt),
+        takes_line first_answered 1 deletes_none [] (queued refl refl) (inl refl, tt),
         (
           machine_of second_done,
           works second_taken 1 finds_nothing [] refl (has_room second_taken 1 ready_second) nothing_row (queued refl refl) tt,
@@ -148,7 +148,7 @@ commands_of_one = (
             inl (omega arith, performed second_done 1 (answers_now 2 replies.Absent) [] (queued refl refl) tt),
             (
               machine_of third_taken,
-              inl (performed second_answered 1 (taking searches) [] (queued refl refl) tt),
+              takes_line second_answered 1 searches [] (queued refl refl) (inl refl, tt),
               (
                 machine_of is_passed,
                 works third_taken 1 passes (posts_at 25 ∷ []) refl (only_looks third_taken 1 refl) pass_row (queued refl (one_joins (posts_at 25) [] (none_waits (posts_at 25)) (omega arith))) tt,

@@ -116,7 +116,7 @@ pub free_page_is_taken : FreePageIsTaken
 unfolding big_endian
 free_page_is_taken = (
   machine_of is_taken,
-  inl (performed free_before 1 (taking inserts_seventy) [] (queued refl refl) tt),
+  takes_line free_before 1 inserts_seventy [] (queued refl refl) tt,
   (
     machine_of to_split,
     works is_taken 1 finds_no_room [] refl (has_room is_taken 1 ready_first) no_room_row (queued refl refl) tt,
@@ -174,7 +174,7 @@ ready_none = (omega arith, omega arith)
 pub no_page_is_free : NoPageIsFree
 no_page_is_free = (
   machine_of none_taken,
-  inl (performed none_free_before 1 (taking inserts_seventy) [] (queued refl refl) tt),
+  takes_line none_free_before 1 inserts_seventy [] (queued refl refl) tt,
   (
     machine_of none_to_split,
     works none_taken 1 finds_no_room [] refl (has_room none_taken 1 ready_full) full_row (queued refl refl) tt,

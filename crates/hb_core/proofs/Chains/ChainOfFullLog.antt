@@ -36,7 +36,7 @@ pub log_has_no_room : LogHasNoRoom
 unfolding big_endian
 log_has_no_room = (
   machine_of is_taken,
-  inl (performed log_before 1 (taking inserts_forty) [] (queued refl refl) tt),
+  takes_line log_before 1 inserts_forty [] (queued refl refl) (inr (λ none. none), tt),
   (
     machine_of is_forced,
     helps is_taken 1 refl (inl (refl, not_ready)) some_wait,

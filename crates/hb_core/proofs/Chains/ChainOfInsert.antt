@@ -99,7 +99,7 @@ pub one_insert : OneInsert
 unfolding big_endian
 one_insert = (
   machine_of taken,
-  inl (performed before_insert 1 (taking inserts_a) [] (queued refl refl) tt),
+  takes_line before_insert 1 inserts_a [] (queued refl refl) tt,
   (
     machine_of put,
     works_bringing page_1 taken 1 puts [] (page_comes, tt) refl (has_room taken 1 ready) put_row (queued refl refl) (record { allowed = put_fits; log = refl }),

@@ -40,7 +40,7 @@ is_page (inr more) = absurd (omega (arith, more))
 pub root_is_not_read : RootIsNotRead
 root_is_not_read = (
   untold_scene line_taken,
-  inl (performed_untold unread_before 1 (taking seeks_twenty) (job ∷ []) (queued refl refl) tt),
+  takes_line_untold unread_before 1 seeks_twenty (job ∷ []) (queued refl refl) tt,
   (
     untold_scene both_taken,
     inr (takes (at.PosterWalk job None), takes_to_walk, performed_untold line_taken 17 (takes (at.PosterWalk job None)) [] (it_leaves _) tt),

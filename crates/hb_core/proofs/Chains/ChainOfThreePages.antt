@@ -230,7 +230,7 @@ pub full_goes_on : FullGoesOn
 unfolding big_endian
 full_goes_on = (
   machine_of first_taken,
-  inl (performed three_before 1 (taking (inserts_120 12)) postings_owed (queued refl refl) tt),
+  takes_line three_before 1 (inserts_120 12) postings_owed (queued refl refl) tt,
   (
     machine_of first_passed,
     works first_taken 1 (passes (inserts_120 12) 120) all_jobs refl (has_room first_taken 1 ready_1) first_pass_row (queued refl (one_joins (posts_at 120) postings_owed none_at_120 (omega arith))) tt,
@@ -242,7 +242,7 @@ full_goes_on = (
         works to_split 1 (answers_now 12 replies.Full) all_jobs tt (has_room to_split 1 ready_3) full_row (queued refl refl) tt,
         (
           machine_of second_taken,
-          inl (performed first_answered 1 (taking deletes_110) all_jobs (queued refl refl) tt),
+          takes_line first_answered 1 deletes_110 all_jobs (queued refl refl) (inl refl, tt),
           (
             machine_of second_passed,
             works second_taken 1 (passes deletes_110 110) all_jobs refl (has_room second_taken 1 ready_4) second_pass_row (queued refl (waits_already (posts_at 110) (3, omega arith, refl))) tt,
@@ -257,7 +257,7 @@ full_goes_on = (
                   inl (omega arith, performed once_forced 1 (answers_now 13 replies.Done) all_jobs (queued refl refl) tt),
                   (
                     machine_of third_taken,
-                    inl (performed second_answered 1 (taking (inserts_120 14)) all_jobs (queued refl refl) tt),
+                    takes_line second_answered 1 (inserts_120 14) all_jobs (queued refl refl) (inl refl, tt),
                     (
                       machine_of third_passed,
                       works third_taken 1 (passes (inserts_120 14) 120) all_jobs refl (has_room third_taken 1 ready_6) third_pass_row (queued refl (waits_already (posts_at 120) (4, omega arith, refl))) tt,

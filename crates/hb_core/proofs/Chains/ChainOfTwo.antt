@@ -135,10 +135,10 @@ pub two_on_one_page : TwoOnOnePage
 unfolding big_endian
 two_on_one_page = (
   machine_of first_taken,
-  inl (performed two_before 1 (taking inserts_seventy) [] (queued refl refl) tt),
+  takes_line two_before 1 inserts_seventy [] (queued refl refl) tt,
   (
     machine_of both_taken,
-    inl (performed first_taken 2 (taking looks_twenty_up) [] (queued refl refl) tt),
+    takes_line first_taken 2 looks_twenty_up [] (queued refl refl) (inr (points_apart 20 70 true false (λ same. omega (arith, same))), tt),
     (
       machine_of to_split,
       works both_taken 1 finds_no_room [] refl (has_room both_taken 1 ready_first) no_room_row (queued refl refl) tt,
