@@ -167,7 +167,7 @@ module _ (points : HeldArePoints) (standing : StandingIsContents) (lacking : Lac
       by [] more (ordered, same, rising, is) so_far =
           let joined : record { line = line; reply = replies.Within ordered } ≡ entry = same_Some _ entry (sym (ap (λ (d : Deed). d.joins) is) ∙ joins) in
           let all = reply_is (contents_now files) box more ordered whole_box.0
-              (λ r. (λ there. (let x = (so_far.exact r).0 there in (x.0, x.1)), λ x. (so_far.exact r).1 (x.0, x.1, λ some. no_any r.key some))) same rising in
+          (λ r. (λ there. (let x = (so_far.exact r).0 there in (x.0, x.1)), λ x. (so_far.exact r).1 (x.0, x.1, λ some. no_any r.key some))) same rising in
           sym (ap (λ (e : Entry). e.reply) joined) ∙ ap replies.Within all ∙ sym (ap (λ (c : Command). reply_of c (contents_now files)) (ap (λ (e : Entry). e.line.command) (sym joined) ∙ command))
         where
           no_any : (q : List ℕ) → Any (λ (a : Area). Holds a q) [] → ⊥

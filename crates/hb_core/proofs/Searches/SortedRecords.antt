@@ -3,7 +3,7 @@ use Rattle.std.proofs.Common.{◌≡◌, ◌↔◌, inl, inr, ℕ, zero, suc, �
 use Rattle.std.specs.FinMap as finite
 use Rattle.std.specs.FinMap.Entries.{below_all, find, is_sorted}
 use Rattle.std.specs.List.Sorted.{IsPermutation}
-use Rattle.std.specs.Ordering.{eq_by_cmp, is_lt}
+use Rattle.std.specs.Ordering.{eq_by_cmp, is_eq, is_lt}
 use Rattle.std.specs.declared.cmp.Ordering.{Ordering}
 use Rattle.std.specs.declared.cmp.Ordering.TheVariants.{Less, Equal, Greater}
 use Rattle.std.proofs.lemmas.Bool.{cases_Bool, false≢true}
@@ -13,7 +13,7 @@ use Rattle.std.proofs.lemmas.List.Kept.{AllPairs-filter}
 use Rattle.std.proofs.lemmas.List.Sorted.{Contains-permutation, IsPermutation-sym}
 use Rattle.hb_activity.proofs.Facts.OneRecord.{Rises, not_itself, rises}
 use Rattle.hb_frag.specs.Rules.{Precedes}
-use Rattle.hb_lemmas.proofs.Lists.{filter_has, first_member, later_member, member_cases, no_member}
+use Rattle.hb_lemmas.proofs.Lists.{each_member, filter_has, first_member, later_member, member_cases, no_member}
 use Rattle.hb_set.specs.Machine.{RecordSet, record_of, set_records}
 use Rattle.hb_space.proofs.Facts.Boxes.{Holds-from_test, test-from_Holds}
 use Rattle.hb_space.proofs.Facts.PointOrder.{same_point}
@@ -134,14 +134,14 @@ among_records n r = (
 
 -- ---- the reply of a search
 
+second_true : (a b : Bool) → IsTrue (a && b) → IsTrue b
+second_true true b test = test
+second_true false b test = absurd (false≢true test)
+
 -- a test that holds says that there are as many values
 as_many : (lo hi p : List ℕ) → IsTrue (is_between lo hi p) → length p ≡ length lo
 as_many [] [] [] test = refl
-as_many (l ∷ lo) (h ∷ hi) (x ∷ p) test = by (nat_le l x && nat_le x h) test
-  where
-    by : (b : Bool) → IsTrue (b && is_between lo hi p) → suc (length p) ≡ suc (length lo)
-    by true rest = ap suc (as_many lo hi p rest)
-    by false rest = absurd (false≢true rest)
+as_many (l ∷ lo) (h ∷ hi) (x ∷ p) test = ap suc (as_many lo hi p (second_true (nat_le l x && nat_le x h) (is_between lo hi p) test))
 as_many [] [] (x ∷ p) test = absurd (false≢true test)
 as_many [] (h ∷ hi) p test = absurd (false≢true test)
 as_many (l ∷ lo) [] p test = absurd (false≢true test)
