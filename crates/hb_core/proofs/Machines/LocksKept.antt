@@ -72,7 +72,7 @@ merging_hand job height next (inl (above, is)) = ap line_in_hand is
 merging_hand job height next (inr (below, is)) = ap line_in_hand is
 
 -- a box of as many attributes as the file
-pub pub command_box : (k : ℕ) (command : Command) → CommandFits k command → length (lock_of_command command).area.lo ≡ k
+pub command_box : (k : ℕ) (command : Command) → CommandFits k command → length (lock_of_command command).area.lo ≡ k
 command_box k (Insert rec) fits = fits
 command_box k (Delete point) fits = fits
 command_box k (Lookup point) fits = fits
