@@ -1,10 +1,9 @@
 -- After a step each search has found exactly what it should so far; and where one takes effect, its reply is the machine's.
-use Rattle.std.proofs.Common.{◌≡◌, ◌≢◌, ◌↔◌, ◌⊎◌, inl, inr, ℕ, ◌==◌, ◌++◌, Bool, true, false, List, [], ◌∷◌, filter, length, All, AllPairs, Any, Contains, Option, Some, None, IfSome, IsTrue, refl, sym, ap, ◌∙◌, subst, append-nil, arith}
+use Rattle.std.proofs.Common.{◌≡◌, ◌≢◌, ◌↔◌, ◌⊎◌, inl, inr, ℕ, ◌==◌, ◌++◌, Bool, true, false, cond, List, [], ◌∷◌, filter, option_map, length, All, AllPairs, Any, Contains, Option, Some, None, IfSome, IsTrue, refl, sym, ap, ◌∙◌, subst, append-nil, arith}
 use Rattle.std.specs.Prelude.{MatchOption}
 use Rattle.std.specs.FinMap as map
 use Rattle.std.proofs.lemmas.Bool.{cases_Bool, eq-eqb, eqb-true, eqb-false, false≢true}
 use Rattle.std.proofs.lemmas.List.{length-append}
-use Rattle.std.proofs.lemmas.List.Elements.{All-alone, All-cons, All-nil}
 use Rattle.std.proofs.lemmas.Option.{same_Some}
 use Rattle.hb_activity.specs.BoxLocks.{lock_of, lock_of_command}
 use Rattle.hb_activity.specs.Classes.{Consolidators, HasLine, class_of, hand_of, line_in_hand, line_of}
@@ -17,7 +16,7 @@ use Rattle.hb_frag.specs.Leaves.{leaf_at}
 use Rattle.hb_frag.specs.declared.leaves.Leaf.TheVariants.{Records}
 use Rattle.hb_frag.specs.declared.pages.LivePage.{LivePage}
 use Rattle.hb_latch.specs.Tables.{MayLatch}
-use Rattle.hb_lemmas.proofs.Lists.{All-one, no_member, only_one, same_ends}
+use Rattle.hb_lemmas.proofs.Lists.{All-last, All-one, no_member, same_ends}
 use Rattle.hb_ops.specs.Files.{FileState, contents_of}
 use Rattle.hb_point.specs.SessionRows.{WantsBoxes, boxes_ahead, next_line, taking}
 use Rattle.hb_search.specs.SearchRows.{Gathers, SearchGoesOn}
@@ -32,7 +31,8 @@ use Rattle.hb_sound.specs.Laws.{LackIsContents, StandingIsContents}
 use Rattle.hb_space.proofs.Facts.Boxes.{Meets-from_point, lo_held}
 use Rattle.hb_space.specs.Boxes.{Area, Disjoint, Holds, IsArea, Within, common_area, holds, pieces_outside, point_area}
 use Rattle.hb_space.specs.declared.records.Record.{Record}
-use Rattle.hb_store.specs.States.{StoreState}
+use Rattle.hb_ops.proofs.Facts.PageNumberLaws.{live_so}
+use Rattle.hb_store.specs.States.{StoreState, in_memory}
 use Rattle.hb_core.proofs.Files.FileOps.{ShowsFile}
 use Rattle.hb_core.proofs.Files.FitOps.{HeldArePoints}
 use Rattle.hb_core.proofs.Files.SoundFiles.{brought_shown, files_hold, shows_file, sound_within_limits}
@@ -49,12 +49,13 @@ use Rattle.hb_core.proofs.Table.StepSays.{each_saying}
 use Rattle.hb_core.proofs.Table.Ways.{KeepsAllButDisk, others_stay}
 use Rattle.hb_core.specs.Acting.{DoesRow}
 use Rattle.hb_core.specs.Asking.{wanted_by}
+use Rattle.hb_core.specs.Fetching.{Brings}
 use Rattle.hb_core.specs.ContentsLaws.{ChangesAt, PointsStay, contents_now}
 use Rattle.hb_core.specs.KeptFits.{CommandFits, IsBoxOf, LineFits, boxes_left}
 use Rattle.hb_core.specs.KeptMachine.{MachineKeeps}
 use Rattle.hb_core.specs.KeptSearches.{HasFoundSoFar, IsAmong, SearchesAreExact}
 use Rattle.hb_core.specs.Keeps.{HasSoundFile}
-use Rattle.hb_core.specs.Machines.{Files, Machine, current_file, if_some, sight, with_activity, with_disk}
+use Rattle.hb_core.specs.Machines.{Files, Machine, current_file, if_some, live_here, sight, with_activity, with_disk}
 use Rattle.hb_core.specs.OrderLaws.{SearchesAreRight, SearchesStayExact}
 use Rattle.hb_core.specs.Performing.{Performs}
 use Rattle.hb_core.specs.Rows.{Row}
@@ -186,7 +187,7 @@ module _ (points : HeldArePoints) (standing : StandingIsContents) (lacking : Lac
       by : (boxes : List Area) (more : List Record) → SearchGoesOn (sight (with_disk fetched m.files m.clock m)) line boxes more deed → HasFoundSoFar (contents_now files) box boxes more → HasFoundSoFar (contents_now files) box rest' found'
       by [] more (ordered, same, rising, is) so_far = absurd (none (sym (ap (λ (d : Deed). d.next) is) ∙ next))
         where
-          none : at.SessionAwait line.number (replies.Within ordered) _ ≡ at.SessionWalk other held' rest' found' → ⊥
+          none : at.SessionAwait line.number (replies.Within ordered) (length m.order) ≡ at.SessionWalk other held' rest' found' → ⊥
           none nothing = cc
       by (a ∷ boxes) more is so_far = same_walk (sym (ap (λ (d : Deed). d.next) is) ∙ next)
         where
@@ -255,7 +256,7 @@ module _ (points : HeldArePoints) (standing : StandingIsContents) (lacking : Lac
     joins_not : {fetched : StoreState} (deed : Deed) → Performs m fetched actor deed outcome new → deed.joins ≡ None → IsRight
     joins_not deed performs none = stays_not (performs.order ∙ ap (λ (o : Option Entry). m.order ++ if_some o) none ∙ append-nil m.order)
 
-    joins_it : (joins : Option Entry) → new.order ≡ m.order ++ if_some joins → joins ≡ Some entry ⊎ IsRight
+    joins_it : (joins : Option Entry) → new.order ≡ m.order ++ if_some joins → (joins ≡ Some entry) ⊎ IsRight
     joins_it None order = inr (stays_not (order ∙ append-nil m.order))
     joins_it (Some one) order = inl (ap Some (same_ends m.order m.order one entry (sym order ∙ grown)).1)
 

@@ -1,5 +1,5 @@
 -- The row of a search that walks; and who walked before a row that walks on, or by which a search joins the order.
-use Rattle.std.proofs.Common.{◌≡◌, ◌⊎◌, inl, inr, ℕ, List, [], Option, Some, None, refl, sym, ap, ◌∙◌, subst}
+use Rattle.std.proofs.Common.{◌≡◌, ◌⊎◌, inl, inr, ℕ, List, [], ◌∷◌, Option, Some, None, refl, sym, ap, ◌∙◌, subst}
 use Rattle.std.specs.Prelude.{MatchOption}
 use Rattle.hb_activity.specs.Classes.{Class, Consolidators, Sessions, class_of}
 use Rattle.hb_activity.specs.Deeds.{Deed}

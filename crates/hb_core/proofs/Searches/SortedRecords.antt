@@ -1,5 +1,5 @@
 -- Records in the order of their points: two such lists with the same members are one; and those of a set are such a list.
-use Rattle.std.proofs.Common.{◌≡◌, ◌↔◌, inl, inr, ℕ, zero, suc, ◌&&◌, Bool, true, false, cond, T, List, [], ◌∷◌, filter, length, map, All, AllPairs, Contains, Option, Some, None, IsTrue, refl, sym, ap, ◌∙◌, subst, arith}
+use Rattle.std.proofs.Common.{◌≡◌, ◌↔◌, inl, inr, ℕ, zero, suc, ◌&&◌, nat_le, Bool, true, false, cond, T, List, [], ◌∷◌, filter, length, map, All, AllPairs, Contains, Option, Some, None, IsTrue, refl, sym, ap, ◌∙◌, subst, arith}
 use Rattle.std.specs.FinMap as finite
 use Rattle.std.specs.FinMap.Entries.{below_all, find, is_sorted}
 use Rattle.std.specs.List.Sorted.{IsPermutation}
