@@ -59,6 +59,13 @@ place_within activities actor lock place against = some_there activities place l
 pub none_at_all : (activities : List Activity) (actor : ℕ) (lock : BoxLock) (n : ℕ) → length activities ≤ n → NoneBefore activities actor lock n → NoneAgainst activities actor lock
 none_at_all activities actor lock n over none place against = let within = place_within activities actor lock place against in none place (omega (arith, over, within)) against
 
+-- the same of lists and locks that are equal
+pub none_here : (shown activities : List Activity) (actor : ℕ) (lock its : BoxLock) → shown ≡ activities → lock ≡ its → NoneAgainst shown actor lock → NoneAgainst activities actor its
+none_here shown activities actor lock its same is none = subst (λ (l : List Activity). NoneAgainst l actor its) same (subst (λ (k : BoxLock). NoneAgainst shown actor k) is none)
+
+pub first_here : (shown activities : List Activity) (actor by : ℕ) (lock its : BoxLock) → shown ≡ activities → lock ≡ its → IsFirstAgainst shown actor lock by → IsFirstAgainst activities actor its by
+first_here shown activities actor by lock its same is first = subst (λ (l : List Activity). IsFirstAgainst l actor its by) same (subst (λ (k : BoxLock). IsFirstAgainst shown actor k by) is first)
+
 -- ---- the machine that is shown
 
 module _ (d : DiskModel) (c : RunningCore) (m : Machine) (shows : ShowsMachine d c m) (actor : ℕ) (lock : BoxLock) where
