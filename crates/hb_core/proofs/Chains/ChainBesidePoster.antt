@@ -1,5 +1,5 @@
 -- The poster and two sessions: each step of the chain.
-use Rattle.std.proofs.Common.{◌≡◌, ◌≢◌, inl, inr, List, [], ◌∷◌, slice_index, Contains, Option, Some, None, refl, ap, arith}
+use Rattle.std.proofs.Common.{◌≡◌, ◌≢◌, inl, inr, List, [], ◌∷◌, slice_index, Contains, Option, Some, None, refl, ap, arith, true, false}
 use Rattle.hb_space.specs.declared.records.Record.{Record}
 use Rattle.hb_frag.specs.declared.pages.LivePage.{LivePage}
 use Rattle.hb_ops.specs.declared.operations.Op.TheVariants as ops

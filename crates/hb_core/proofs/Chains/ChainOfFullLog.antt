@@ -1,5 +1,5 @@
 -- The log has no room: each step of the chain.
-use Rattle.std.proofs.Common.{◌≢◌, inl, [], refl, arith}
+use Rattle.std.proofs.Common.{◌≢◌, inl, [], refl, arith, inr}
 use Rattle.hb_set.specs.declared.commands.Reply.TheVariants as replies
 use Rattle.hb_activity.specs.Deeds.{answers_now}
 use Rattle.hb_core.proofs.Chains.BuiltSteps.{after, forced_scene, gives_out, helps, performed, queued, takes_line}
