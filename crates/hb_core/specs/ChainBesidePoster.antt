@@ -73,7 +73,7 @@ abbrev pub steps_beside : List (ℕ × Outcome)
 steps_beside =
     (17, Moved) ∷ (17, Moved) ∷ (1, Moved) ∷ (17, Moved) ∷ (1, Moved) ∷ (17, Blocked 1) ∷ (1, Moved) ∷ (17, Moved)
     ∷ (2, Moved) ∷ (2, Blocked 17) ∷ (17, Moved) ∷ (2, Moved) ∷ (2, Moved) ∷ (1, Moved)
-    ∷ (2, Moved) ∷ (1, Moved) ∷ (2, Answered 2 replies.Done) ∷ (1, Answered 1 replies.Found (98 ∷ [])) ∷ []
+    ∷ (2, Moved) ∷ (1, Moved) ∷ (2, Answered 2 replies.Done) ∷ (1, Answered 1 (replies.Found (98 ∷ []))) ∷ []
 
 abbrev pub SessionsBesidePoster : Type 0
 SessionsBesidePoster = StepsSaying steps_beside (machine_of beside_before) (machine_of beside_after)

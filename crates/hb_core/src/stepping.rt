@@ -1,5 +1,5 @@
 //! One step of an actor.
-ghost use Rattle.std.specs.Prelude.{◌≡◌, ◌≤◌, ◌-◌, ◌==◌, ℕ, Some, None, length};
+ghost use Rattle.std.specs.Prelude.{◌≡◌, ◌≤◌, ◌-◌, ◌==◌, ℕ, All, Some, None, length};
 ghost use Rattle.std.specs.List.{position, slice_get, slice_set};
 ghost use Rattle.hb_latch.specs.Tables.{MayLatch};
 ghost use Rattle.hb_activity.specs.declared.activities.Activity.TheVariants as at;
@@ -11,14 +11,16 @@ ghost use Rattle.hb_core.specs.Moving.{StandsAs, with_standing, with_stop};
 ghost use Rattle.hb_core.specs.Showing.{ShowsMachine};
 ghost use Rattle.hb_core.specs.Steps.{AwaitsPlace, GetsReady, StepsTo};
 ghost use Rattle.hb_core.specs.Touching.{Touches};
-ghost use Rattle.hb_core.specs.Taking.{TakesNextLine, TakesNextPosting};
+ghost use Rattle.hb_core.specs.KeptFits.{LineFits};
+ghost use Rattle.hb_core.specs.Taking.{HaveBoxes, TakesNextLine, TakesNextPosting};
 ghost use Rattle.hb_core.specs.Working.{IsWorking, MayStep};
 
 use crate::halts::copy_of;
+use crate::locking::first_against;
 use crate::outcomes::Outcome;
 use crate::reading::idle;
 use crate::state::Core;
-use hb_activity::{Activity, Job, JobKind};
+use hb_activity::{Activity, BoxLock, Job, JobKind};
 use hb_disk::Device;
 use hb_set::{Command, Line};
 use hb_space::{Actor, Areas, Record, Records};
@@ -53,10 +55,12 @@ impl<D: Device> Core<D> {
         }
     }
 
-    /// The session takes its next line, where one is left. Where none is, all lines lie behind it from now on, so that no later
-    /// step looks through them again.
+    /// The session takes its next line, where one is left and no other actor's lock keeps it from the line's box. Where none is left, all
+    /// lines lie behind it from now on, so that no later step looks through them again.
     fn take_line(&mut self, actor: Actor) -> Outcome
         requires actor { MayLatch actor }
+        requires boxes { HaveBoxes (core_seen self.old).store.meta.k (core_seen self.old).activities }
+        requires lines { All (LineFits (core_seen self.old).store.meta.k) (core_seen self.old).lines }
         requires behind { (behind : ℕ) × (slice_get (core_seen self.old).behind (actor - 1) ≡ Some behind) × (behind ≤ length (core_seen self.old).lines) }
         ensures takes { (behind : ℕ) → slice_get (core_seen self.old).behind (actor - 1) ≡ Some behind → TakesNextLine actor behind result (core_seen self.old) (core_seen self.new) }
         ensures disk { core_disk self.new ≡ core_disk self.old }
@@ -69,6 +73,10 @@ impl<D: Device> Core<D> {
             return Outcome::Idle;
         };
         let line = copy_of_line(&self.script.lines.as_slice()[from + place]);
+        let lock = BoxLock::of_command(&line.command);
+        if let Some(by) = first_against(self.activities.as_slice(), actor, &lock) {
+            return Outcome::Blocked { by };
+        }
         self.go_behind(actor, from + place + 1);
         self.stand(
             actor,

@@ -1,6 +1,7 @@
 -- A step is built: the machine after a deed, and that the deed is done so.
-use Rattle.std.proofs.Common.{◌≡◌, ◌≢◌, ◌⊎◌, inl, inr, ℕ, ◌<◌, ◌≤◌, ◌++◌, false, List, [], ◌∷◌, Contains, length, get_or, Option, Some, None, IfSome, IsSome, IsSomeAnd, IsTrue, refl, sym, ap, ◌∙◌, subst, arith}
+use Rattle.std.proofs.Common.{◌≡◌, ◌≢◌, ◌⊎◌, inl, inr, ℕ, ◌==◌, nat_le, Bool, true, cond, ◌<◌, ◌≤◌, ◌++◌, false, List, [], ◌∷◌, Contains, length, get_or, Option, Some, None, IfSome, IsSome, IsSomeAnd, IsTrue, refl, sym, ap, ◌∙◌, subst, arith}
 use mathlib.Core.Path.{fun_ext}
+use Rattle.std.proofs.lemmas.Bool.{eqb-true}
 use Rattle.std.specs.Prelude.{◌||◌, ◌+◌, ◌*◌, ◌%◌}
 use Rattle.std.specs.FinMap as map
 use Rattle.hb_space.specs.declared.form.TheConstants.{PAGE}

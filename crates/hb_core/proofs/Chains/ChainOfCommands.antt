@@ -6,7 +6,7 @@ use Rattle.hb_frag.specs.declared.pages.LivePage.{LivePage}
 use Rattle.hb_set.specs.declared.commands.Reply.TheVariants as replies
 use Rattle.hb_activity.specs.declared.activities.Activity.TheVariants.{SessionWalk}
 use Rattle.hb_activity.specs.Deeds.{Deed, answers_now, moves_to, takes_effect}
-use Rattle.hb_core.proofs.Chains.BuiltSteps.{after, at_hand, has_room, live_is, none_waits, one_joins, only_looks, performed, wanted_in, works, queued}
+use Rattle.hb_core.proofs.Chains.BuiltSteps.{after, at_hand, has_room, live_is, none_waits, one_joins, only_looks, performed, queued, takes_line, wanted_in, works}
 use Rattle.hb_core.proofs.Chains.ChainOfTwoParts.{differ}
 use Rattle.hb_core.specs.Asking.{box_at}
 use Rattle.hb_core.specs.ChainOfCommands.{CommandsOfOne, asked_area, commands_before, deletes_none, inserts_fifty, searches, three_found}

@@ -12,7 +12,7 @@ use Rattle.hb_core.specs.Scenes.{Scene, standing, untold_scene}
 use Rattle.hb_core.specs.Steps.{TakesJob}
 use Rattle.hb_core.proofs.Chains.BuiltSteps.{after, only_looks, queued}
 use Rattle.hb_core.proofs.Chains.ChainOfPosting.{it_leaves, job, takes}
-use Rattle.hb_core.proofs.Chains.UntoldSteps.{performed_untold, reads_not}
+use Rattle.hb_core.proofs.Chains.UntoldSteps.{performed_untold, reads_not, takes_line_untold}
 use Rattle.hb_point.specs.SessionRows.{taking}
 use Rattle.hb_store.specs.Fetching.{IsNoPage}
 use Rattle.std.proofs.lemmas.List.Elements.{All-from_recursion}

@@ -24,7 +24,7 @@ use Rattle.hb_core.specs.ChainOfTwo.{posts_at}
 use Rattle.hb_core.specs.Rows.{Row}
 use Rattle.hb_core.specs.Scenes.{Scene, machine_of, standing, store_of}
 use Rattle.hb_core.specs.declared.outcomes.Outcome.TheVariants.{Moved}
-use Rattle.hb_core.proofs.Chains.BuiltSteps.{after, at_hand, forced_scene, forces, has_room, live_is, one_joins, performed, queued, wanted_in, works}
+use Rattle.hb_core.proofs.Chains.BuiltSteps.{after, at_hand, forced_scene, forces, has_room, live_is, one_joins, performed, queued, takes_line, wanted_in, works}
 use Rattle.hb_core.proofs.Chains.ChainOfTwoParts.{differ}
 use Rattle.hb_point.specs.SessionRows.{taking}
 use Rattle.hb_sound.proofs.ExampleParts.{each_has, in_order}

@@ -1,5 +1,5 @@
 -- Two sessions on one page: each step of the chain.
-use Rattle.std.proofs.Common.{◌≡◌, inl, inr, [], ◌∷◌, slice_index, Contains, Option, Some, None, refl, ap, arith}
+use Rattle.std.proofs.Common.{◌≡◌, inl, inr, [], ◌∷◌, slice_index, Contains, Option, Some, None, refl, ap, arith, true, false}
 use Rattle.hb_frag.specs.declared.pages.LivePage.{LivePage}
 use Rattle.hb_ops.specs.declared.operations.Op.TheVariants.{Put, Extract}
 use Rattle.hb_latch.specs.declared.modes.Mode.TheVariants.{Exclusive}
@@ -8,7 +8,7 @@ use Rattle.hb_activity.specs.declared.jobs.Job.{Job}
 use Rattle.hb_activity.specs.declared.activities.Activity.TheVariants.{SessionPut, SessionSplit, SessionWalk}
 use Rattle.hb_core.specs.declared.outcomes.Outcome.TheVariants.{Moved}
 use Rattle.hb_activity.specs.Deeds.{Deed, answers_now, does, moves_to, takes_effect}
-use Rattle.hb_core.proofs.Chains.BuiltSteps.{after, at_hand, blocked, forced_scene, forces, has_room, live_is, none_waits, one_joins, only_looks, performed, wanted_in, works, queued}
+use Rattle.hb_core.proofs.Chains.BuiltSteps.{after, at_hand, blocked, forced_scene, forces, has_room, live_is, none_waits, one_joins, only_looks, performed, points_apart, queued, takes_line, wanted_in, works}
 use Rattle.hb_core.proofs.Chains.ChainOfTwoParts.{chosen_at_forty, cut_at_forty, extract_fits, put_fits, seventy_absent, seventy_held, twenty_there}
 use Rattle.hb_core.specs.Asking.{box_at}
 use Rattle.hb_core.specs.ChainOfTwo.{TwoOnOnePage, full_page, inserts_seventy, lettered, looks_twenty_up, lower_half, posts_at, two_before, upper_half, upper_three}
