@@ -41,8 +41,7 @@ pub undamaged : (run : Run) (after : Machine) (b : List ℕ) → BegunKeepsAll �
 undamaged run after b all told drove =
     let takes = drove.takes in
     let here = at_value run.before.told _ b told takes.told in
-    let searches = subst (λ (ls : List Line). IsServed ls) (sym takes.lines_are) drove.served in
-    (all here.0 drove.steps takes.before after here.3 takes.actors searches takes.reached).1.undamaged (inl takes.begun.runs)
+    (all here.0 drove.steps takes.before after here.3 takes.actors takes.reached).1.undamaged (inl takes.begun.runs)
 
 no_damage : (after : Machine) (page : ℕ) (why : Why) → IsUndamaged after → after.stop ≡ Some (stops.Damaged page why) → ⊥
 no_damage after page why fine is = elim fine [
