@@ -3,4 +3,5 @@ pub mod SortedRecords
 pub mod Gathered
 pub mod LeafRecords
 pub mod SearchRow
+pub mod GatheringKept
 pub mod SearchKept
