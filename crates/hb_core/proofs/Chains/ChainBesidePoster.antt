@@ -1,6 +1,5 @@
 -- The poster and two sessions: each step of the chain.
-use Rattle.std.proofs.Common.{◌≡◌, ◌≢◌, inl, inr, List, [], ◌∷◌, slice_index, Contains, Option, Some, None, refl, ap, arith, true, false}
-use Rattle.hb_space.specs.declared.records.Record.{Record}
+use Rattle.std.proofs.Common.{◌≡◌, inl, inr, List, [], ◌∷◌, slice_index, Contains, Option, Some, None, refl, ap, arith, true, false}
 use Rattle.hb_frag.specs.declared.pages.LivePage.{LivePage}
 use Rattle.hb_ops.specs.declared.operations.Op.TheVariants as ops
 use Rattle.hb_terms.specs.declared.plans.PostPlan.TheVariants as plans
@@ -12,7 +11,6 @@ use Rattle.hb_core.specs.declared.outcomes.Outcome.TheVariants.{Moved}
 use Rattle.hb_activity.specs.Deeds.{Deed, answers_now, does, moves_to, takes_effect}
 use Rattle.hb_core.proofs.Chains.BuiltSteps.{after, at_hand, blocked, forced_scene, forces, has_room, live_is, none_waits, one_joins, only_looks, performed, points_apart, queued, takes_line, wanted_in, works}
 use Rattle.hb_core.proofs.Chains.ChainOfPosting.{job, owes_two, post_fits, takes, it_leaves}
-use Rattle.hb_core.proofs.Chains.ChainOfTwoParts.{differ}
 use Rattle.hb_core.specs.Asking.{box_at}
 use Rattle.hb_core.specs.ChainBesidePoster.{SessionsBesidePoster, beside_before, deletes_thirty, lower_two, seeks_twenty}
 use Rattle.hb_core.specs.ChainOfPosting.{bare_root, posted_root, raised_meta, split_page}
@@ -24,7 +22,6 @@ use Rattle.hb_frag.specs.Leaves.{leaves, leaves_of}
 use Rattle.hb_frag.specs.Rules.{BelongsAt, IsInOrder}
 use Rattle.hb_ops.specs.Recording.{FitsDel}
 use Rattle.hb_ops.specs.Sound.{FitsFile}
-use Rattle.hb_ops.specs.Standing.{StandsNot}
 use Rattle.hb_lemmas.specs.Numbers.{big_endian}
 use Rattle.hb_point.specs.SessionRows.{taking}
 use Rattle.hb_sound.proofs.ExampleParts.{in_order}

@@ -8,7 +8,7 @@ use Rattle.hb_activity.specs.declared.activities.Activity.TheVariants as at
 use Rattle.hb_activity.specs.declared.box_locks.BoxLock.{BoxLock}
 use Rattle.hb_activity.specs.declared.jobs.Job.{Job}
 use Rattle.hb_activity.specs.BoxLocks.{lock_of, lock_of_command}
-use Rattle.hb_activity.specs.Classes.{Empty, Hand, HasJob, HasLine, hand_of, line_in_hand, line_of}
+use Rattle.hb_activity.specs.Classes.{Hand, hand_of, line_in_hand, line_of}
 use Rattle.hb_activity.specs.Deeds.{Deed}
 use Rattle.hb_consol.specs.ConsolidatorRows.{IsMergingOf}
 use Rattle.hb_point.specs.SessionRows.{next_line, taking}

@@ -1,5 +1,5 @@
 -- An idle session of a core takes a line, or the poster takes a job, as a step of the machine that it shows.
-use Rattle.std.proofs.Common.{◌≡◌, ◌≢◌, ◌⊎◌, inl, inr, ℕ, ◌≤◌, ◌+◌, ◌-◌, ◌==◌, Bool, cond, List, [], length, take, drop, slice_get, slice_set, All, Option, Some, None, refl, sym, ap, ◌∙◌, subst, arith, append-nil}
+use Rattle.std.proofs.Common.{◌≡◌, ◌≢◌, inl, inr, ℕ, ◌≤◌, ◌+◌, ◌-◌, ◌==◌, Bool, cond, List, [], length, take, drop, slice_get, slice_set, All, Option, Some, None, refl, sym, ap, ◌∙◌, subst, arith, append-nil}
 use Rattle.std.specs.Prelude.{MatchOption}
 use Rattle.std.proofs.lemmas.Bool.{cases_Bool, eq-eqb, eqb-false, eqb-true}
 use Rattle.std.proofs.lemmas.List.{length-set}

@@ -1,9 +1,9 @@
 -- What a search has found so far, once it took a leaf's records: of the box at hand what lies outside the leaf's box remains.
-use Rattle.std.proofs.Common.{◌≡◌, ◌≢◌, ◌↔◌, ◌⊎◌, inl, inr, ℕ, zero, suc, List, [], ◌∷◌, ◌++◌, filter, length, get_or, All, AllPairs, Any, Contains, true, false, sym, ap, ◌∙◌, subst, arith}
+use Rattle.std.proofs.Common.{◌≡◌, ◌≢◌, ◌↔◌, ◌⊎◌, inl, inr, ℕ, zero, suc, List, [], ◌∷◌, ◌++◌, filter, length, All, AllPairs, Any, Contains, sym, ◌∙◌, subst, arith}
 use Rattle.std.proofs.lemmas.Bool.{cases_Bool, false≢true}
-use Rattle.std.proofs.lemmas.List.Elements.{All-append, All-contains, All-cons, All-head, All-nil, All-tail, Contains-append_cases, Contains-append_left, Contains-append_right}
+use Rattle.std.proofs.lemmas.List.Elements.{All-append, All-contains, All-head, All-tail, Contains-append_cases, Contains-append_left, Contains-append_right}
 use Rattle.std.proofs.lemmas.List.Kept.{AllPairs-cons, AllPairs-filter}
-use Rattle.hb_lemmas.proofs.Lists.{All-front, All-last, each_member, first_member, later_member, no_member}
+use Rattle.hb_lemmas.proofs.Lists.{All-front, All-last, each_member, first_member, later_member}
 use Rattle.hb_space.proofs.Facts.Boxes.{Holds-common_area, Holds-from_test, Holds-within, IsArea-common_area, Meets-from_point, Within-common_area, Within-from_points, test-from_Holds}
 use Rattle.hb_space.proofs.Facts.Lists.{length-zip_by}
 use Rattle.hb_space.proofs.Facts.Outside.{AllPairs-from_recursion, Any-from_recursion, Apart, Apart-append, Apart-pieces_outside, SomeHolds, SomeHolds-append_cases, SomeHolds-append_left, SomeHolds-append_right, SomeHolds-pieces_outside, holds_at, recursion_from_Any}

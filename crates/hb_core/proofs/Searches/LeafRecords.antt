@@ -1,5 +1,5 @@
 -- A leaf of records of a page in memory has exactly the records of the contents in its box.
-use Rattle.std.proofs.Common.{◌≡◌, ◌≢◌, ◌↔◌, ◌⊎◌, inl, inr, ℕ, zero, suc, ◌<◌, List, [], ◌∷◌, get_or, length, refl, All, AllPairs, Contains, Option, Some, None, sym, ap, ◌∙◌, subst, arith}
+use Rattle.std.proofs.Common.{◌≡◌, ◌≢◌, ◌⊎◌, inl, inr, ℕ, zero, suc, ◌<◌, List, [], ◌∷◌, get_or, length, refl, All, AllPairs, Contains, Some, None, sym, ap, ◌∙◌, subst, arith}
 use Rattle.std.specs.List.{slice_get}
 use Rattle.std.specs.FinMap as map
 use Rattle.std.proofs.lemmas.List.Elements.{All-cons, All-contains, All-nil}
@@ -22,8 +22,6 @@ use Rattle.hb_lemmas.proofs.Lists.{first_member, later_member, place_within}
 use Rattle.hb_ops.proofs.Facts.Opened.{first_has}
 use Rattle.hb_ops.proofs.Facts.PageNumberLaws.{live_so}
 use Rattle.hb_ops.specs.Files.{FileState, contents_of, if_live, live_page}
-use Rattle.hb_ops.specs.Standing.{StandsNot, StandsThere}
-use Rattle.hb_set.specs.Machine.{RecordSet}
 use Rattle.hb_sound.specs.Laws.{LackIsContents, StandingIsContents}
 use Rattle.hb_sound.specs.PointWalks.{IsPointOf}
 use Rattle.hb_space.specs.Boxes.{Area, Holds}

@@ -1,39 +1,32 @@
 -- After a step each search has found exactly what it should so far; and where one takes effect, its reply is the machine's.
-use Rattle.std.proofs.Common.{◌≡◌, ◌≢◌, ◌↔◌, ◌⊎◌, inl, inr, ℕ, ◌==◌, ◌++◌, Bool, true, false, cond, List, [], ◌∷◌, filter, option_map, length, All, AllPairs, Any, Contains, Option, Some, None, IfSome, IsTrue, refl, sym, ap, ◌∙◌, subst, append-nil, arith}
-use Rattle.std.specs.Prelude.{MatchOption}
+use Rattle.std.proofs.Common.{◌≡◌, ◌≢◌, ◌⊎◌, inl, inr, ℕ, ◌==◌, ◌++◌, Bool, true, false, cond, List, [], ◌∷◌, filter, option_map, length, All, Any, Option, Some, None, IfSome, refl, sym, ap, ◌∙◌, subst, append-nil, arith}
 use Rattle.std.specs.FinMap as map
 use Rattle.std.proofs.lemmas.Bool.{cases_Bool, eq-eqb, eqb-true, eqb-false, false≢true}
 use Rattle.std.proofs.lemmas.List.{length-append}
 use Rattle.std.proofs.lemmas.Option.{same_Some}
 use Rattle.hb_activity.specs.BoxLocks.{lock_of, lock_of_command}
-use Rattle.hb_activity.specs.Classes.{Consolidators, HasLine, class_of, hand_of, line_in_hand, line_of}
-use Rattle.hb_activity.specs.Deeds.{Deed, moves_to, takes_effect}
+use Rattle.hb_activity.specs.Classes.{line_in_hand, line_of}
+use Rattle.hb_activity.specs.Deeds.{Deed}
 use Rattle.hb_activity.specs.Walks.{goal_of}
 use Rattle.hb_activity.specs.declared.activities.Activity.{Activity}
 use Rattle.hb_activity.specs.declared.activities.Activity.TheVariants as at
-use Rattle.hb_activity.specs.declared.wanting.Wanted.{Wanted}
-use Rattle.hb_frag.specs.Leaves.{leaf_at}
-use Rattle.hb_frag.specs.declared.leaves.Leaf.TheVariants.{Records}
 use Rattle.hb_frag.specs.declared.pages.LivePage.{LivePage}
-use Rattle.hb_latch.specs.Tables.{MayLatch}
 use Rattle.hb_lemmas.proofs.Lists.{All-last, All-one, no_member, same_ends}
-use Rattle.hb_ops.specs.Files.{FileState, contents_of}
-use Rattle.hb_point.specs.SessionRows.{WantsBoxes, boxes_ahead, next_line, taking}
+use Rattle.hb_ops.specs.Files.{contents_of}
+use Rattle.hb_point.specs.SessionRows.{WantsBoxes, boxes_ahead, taking}
 use Rattle.hb_search.specs.SearchRows.{Gathers, SearchGoesOn}
-use Rattle.hb_set.specs.Machine.{RecordSet, reply_of, set_records}
+use Rattle.hb_set.specs.Machine.{RecordSet, reply_of}
 use Rattle.hb_set.specs.Order.{Entry}
 use Rattle.hb_set.specs.declared.commands.Command.{Command}
 use Rattle.hb_set.specs.declared.commands.Command.TheVariants.{Insert, Delete, Lookup, Search}
-use Rattle.hb_set.specs.declared.commands.Reply.{Reply}
 use Rattle.hb_set.specs.declared.commands.Reply.TheVariants as replies
 use Rattle.hb_set.specs.declared.scripts.Line.{Line}
 use Rattle.hb_sound.specs.Laws.{LackIsContents, StandingIsContents}
 use Rattle.hb_space.proofs.Facts.Boxes.{Meets-from_point, lo_held}
-use Rattle.hb_space.specs.Boxes.{Area, Disjoint, Holds, IsArea, Within, common_area, holds, pieces_outside, point_area}
+use Rattle.hb_space.specs.Boxes.{Area, Holds, Within, common_area, holds, pieces_outside, point_area}
 use Rattle.hb_space.specs.declared.records.Record.{Record}
 use Rattle.hb_ops.proofs.Facts.PageNumberLaws.{live_so}
 use Rattle.hb_store.specs.States.{StoreState, in_memory}
-use Rattle.hb_core.proofs.Files.FileOps.{ShowsFile}
 use Rattle.hb_core.proofs.Files.FitOps.{HeldArePoints}
 use Rattle.hb_core.proofs.Files.SoundFiles.{brought_shown, files_hold, shows_file, sound_within_limits}
 use Rattle.hb_core.proofs.Machines.BoxesAhead.{goal_at_hand, leaf_box}
@@ -44,7 +37,7 @@ use Rattle.hb_core.proofs.Searches.GatheringKept.{gathering_begins}
 use Rattle.hb_core.proofs.Searches.LeafRecords.{leaf_of, records_of_leaf}
 use Rattle.hb_core.proofs.Searches.SearchRow.{IsWalkOf, joined_before, walk_row, walked_before}
 use Rattle.hb_core.proofs.Searches.SortedRecords.{reply_is}
-use Rattle.hb_core.proofs.Table.DeedKinds.{EndsHand, each_deed}
+use Rattle.hb_core.proofs.Table.DeedKinds.{each_deed}
 use Rattle.hb_core.proofs.Table.LineFates.{given_up_joins_nothing, ran_out_joins_nothing}
 use Rattle.hb_core.proofs.Table.StepSays.{each_saying}
 use Rattle.hb_core.proofs.Table.Ways.{KeepsAllButDisk, others_stay}
@@ -54,13 +47,13 @@ use Rattle.hb_core.specs.Fetching.{Brings}
 use Rattle.hb_core.specs.ContentsLaws.{ChangesAt, PointsStay, contents_now}
 use Rattle.hb_core.specs.KeptFits.{CommandFits, IsBoxOf, LineFits, boxes_left}
 use Rattle.hb_core.specs.KeptMachine.{MachineKeeps}
-use Rattle.hb_core.specs.KeptSearches.{HasFoundSoFar, IsAmong, SearchesAreExact}
+use Rattle.hb_core.specs.KeptSearches.{HasFoundSoFar, SearchesAreExact}
 use Rattle.hb_core.specs.Keeps.{HasSoundFile}
-use Rattle.hb_core.specs.Machines.{Files, Machine, current_file, if_some, live_here, sight, with_activity, with_disk}
+use Rattle.hb_core.specs.Machines.{Files, Machine, current_file, if_some, live_here, sight, with_disk}
 use Rattle.hb_core.specs.OrderLaws.{SearchesAreRight, SearchesStayExact}
 use Rattle.hb_core.specs.Performing.{Performs}
 use Rattle.hb_core.specs.Rows.{Row}
-use Rattle.hb_core.specs.Steps.{StepsTo, TakesJob, TakesMerging}
+use Rattle.hb_core.specs.Steps.{StepsTo}
 use Rattle.hb_core.specs.declared.outcomes.Outcome.{Outcome}
 
 -- ---- a search that begins, and one whose box's points stay as they are

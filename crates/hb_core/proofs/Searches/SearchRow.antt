@@ -1,7 +1,7 @@
 -- The row of a search that walks; and who walked before a row that walks on, or by which a search joins the order.
-use Rattle.std.proofs.Common.{◌≡◌, ◌⊎◌, inl, inr, ℕ, List, [], ◌∷◌, Option, Some, None, refl, sym, ap, ◌∙◌, subst}
+use Rattle.std.proofs.Common.{◌≡◌, ◌⊎◌, inl, inr, ℕ, List, ◌∷◌, Option, Some, None, refl, sym, ap, ◌∙◌, subst}
 use Rattle.std.specs.Prelude.{MatchOption}
-use Rattle.hb_activity.specs.Classes.{Class, Consolidators, Sessions, class_of}
+use Rattle.hb_activity.specs.Classes.{Consolidators, Sessions, class_of}
 use Rattle.hb_activity.specs.Deeds.{Deed}
 use Rattle.hb_activity.specs.Passing.{PassesOn}
 use Rattle.hb_activity.specs.Walks.{goal_of}
@@ -13,7 +13,7 @@ use Rattle.hb_point.specs.SessionRows.{WantsBoxes}
 use Rattle.hb_search.specs.SearchRows.{Gathers}
 use Rattle.hb_set.specs.Order.{Entry}
 use Rattle.hb_set.specs.declared.commands.Command.{Command}
-use Rattle.hb_set.specs.declared.commands.Command.TheVariants.{Insert, Delete, Lookup, Search}
+use Rattle.hb_set.specs.declared.commands.Command.TheVariants.{Insert, Search}
 use Rattle.hb_set.specs.declared.scripts.Line.{Line}
 use Rattle.hb_space.specs.Boxes.{Area}
 use Rattle.hb_space.specs.declared.records.Record.{Record}

@@ -1,9 +1,8 @@
 -- Who has a box locked is at work; and where somebody is under way, not everybody who is waits.
-use Rattle.std.proofs.Common.{◌≡◌, ◌⊎◌, inl, inr, ℕ, Option, Some, None, IsSome, IsSomeAnd, sym, subst}
+use Rattle.std.proofs.Common.{◌≡◌, inl, inr, ℕ, Option, Some, None, IsSomeAnd, sym, subst}
 use Rattle.hb_activity.specs.declared.activities.Activity.{Activity}
 use Rattle.hb_activity.specs.declared.activities.Activity.TheVariants as at
 use Rattle.hb_activity.specs.declared.box_locks.BoxLock.{BoxLock}
-use Rattle.hb_activity.specs.declared.wanting.Wanted.{Wanted}
 use Rattle.hb_activity.specs.BoxLocks.{lock_of, lock_of_command}
 use Rattle.hb_activity.specs.Wanting.{wanted_of}
 use Rattle.hb_latch.specs.Tables.{IsLeastInTheWay}
@@ -11,9 +10,9 @@ use Rattle.hb_point.specs.SessionRows.{next_line}
 use Rattle.hb_set.specs.declared.scripts.Line.{Line}
 use Rattle.hb_core.proofs.Memory.StillThere.{may_or_not}
 use Rattle.hb_core.proofs.Walks.SomebodyFree.{somebody_goes_on}
-use Rattle.hb_core.specs.Asking.{IsInTheWay, looked_live, wanted_by}
+use Rattle.hb_core.specs.Asking.{IsInTheWay, looked_live}
 use Rattle.hb_core.specs.Keeps.{HasNobodyElse}
-use Rattle.hb_core.specs.Locking.{AwaitsBox, Excludes, LocksOut}
+use Rattle.hb_core.specs.Locking.{Excludes, LocksOut}
 use Rattle.hb_core.specs.Machines.{Machine}
 use Rattle.hb_core.specs.SteppingLaws.{IsAtRest}
 use Rattle.hb_core.specs.WaitingLaws.{IsAtWork, IsKeptBack, IsKeptWaiting, IsUnderWay, LockHoldersWork, SomebodyUnderWayGoesOn}

@@ -16,7 +16,7 @@ use Rattle.hb_core.specs.Asking.{looked_live, wanted_by}
 use Rattle.hb_core.specs.Keeps.{HasNoOtherLatches, HasNobodyElse, HasSoundFile, LatchesFit, WalksInSpace}
 use Rattle.hb_core.specs.Machines.{Files, Machine, current_file}
 use Rattle.hb_core.specs.Performing.{latches_held, mode_among}
-use Rattle.hb_core.specs.Locking.{AwaitsBox, Excludes, LocksOut}
+use Rattle.hb_core.specs.Locking.{Excludes, LocksOut}
 use Rattle.hb_core.specs.WaitingLaws.{AwaitsActor, ComesLater, NobodyWaitsInACircle, WaitInSequence, WantsItsOwn}
 use Rattle.hb_latch.specs.Modes.{goes_beside}
 use Rattle.hb_latch.specs.Tables.{MayLatch, mode_at}
