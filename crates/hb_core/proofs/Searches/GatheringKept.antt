@@ -1,5 +1,5 @@
 -- After a step the boxes that remain of a search share no point, and its records are of different points outside of them.
-use Rattle.std.proofs.Common.{◌≡◌, ◌≢◌, ◌⊎◌, inl, inr, ℕ, List, [], ◌∷◌, ◌++◌, filter, All, Option, Some, None, refl, sym, ap, ◌∙◌, subst, arith}
+use Rattle.std.proofs.Common.{◌≡◌, inl, inr, ℕ, List, [], ◌∷◌, ◌++◌, filter, All, Option, Some, None, refl, sym, ap, ◌∙◌, subst, arith}
 use Rattle.std.proofs.lemmas.List.Elements.{All-nil}
 use Rattle.hb_activity.specs.Classes.{line_in_hand, line_of}
 use Rattle.hb_activity.specs.Deeds.{Deed}
@@ -10,8 +10,8 @@ use Rattle.hb_frag.specs.declared.pages.LivePage.{LivePage}
 use Rattle.hb_frag.specs.declared.pages.Page.TheVariants.{Live}
 use Rattle.hb_layout.specs.declared.meta.Meta.{Meta}
 use Rattle.hb_lemmas.proofs.Lists.{All-last}
-use Rattle.hb_point.specs.SessionRows.{WantsBoxes, boxes_ahead, next_line, taking}
-use Rattle.hb_search.specs.SearchRows.{Gathers, SearchGoesOn}
+use Rattle.hb_point.specs.SessionRows.{WantsBoxes, boxes_ahead, taking}
+use Rattle.hb_search.specs.SearchRows.{SearchGoesOn}
 use Rattle.hb_set.specs.declared.commands.Command.{Command}
 use Rattle.hb_set.specs.declared.commands.Command.TheVariants.{Insert, Delete, Lookup, Search}
 use Rattle.hb_set.specs.declared.scripts.Line.{Line}

@@ -30,12 +30,12 @@ use Rattle.hb_store.specs.States.{StoreState, in_memory}
 use Rattle.hb_core.proofs.Files.FitOps.{HeldArePoints}
 use Rattle.hb_core.proofs.Files.SoundFiles.{brought_shown, files_hold, shows_file, sound_within_limits}
 use Rattle.hb_core.proofs.Machines.BoxesAhead.{goal_at_hand, leaf_box}
-use Rattle.hb_core.proofs.Machines.LocksKept.{lock_in_hand, lock_is, merging_hand, posting_hand}
-use Rattle.hb_core.proofs.Memory.KeptPages.{KeepsPages, brought, keeps_pages}
+use Rattle.hb_core.proofs.Machines.LocksKept.{lock_is, merging_hand, posting_hand}
+use Rattle.hb_core.proofs.Memory.KeptPages.{brought, keeps_pages}
 use Rattle.hb_core.proofs.Searches.Gathered.{IsLeafOf, gathered}
 use Rattle.hb_core.proofs.Searches.GatheringKept.{gathering_begins}
 use Rattle.hb_core.proofs.Searches.LeafRecords.{leaf_of, records_of_leaf}
-use Rattle.hb_core.proofs.Searches.SearchRow.{IsWalkOf, joined_before, walk_row, walked_before}
+use Rattle.hb_core.proofs.Searches.SearchRow.{joined_before, walk_row, walked_before}
 use Rattle.hb_core.proofs.Searches.SortedRecords.{reply_is}
 use Rattle.hb_core.proofs.Table.DeedKinds.{each_deed}
 use Rattle.hb_core.proofs.Table.LineFates.{given_up_joins_nothing, ran_out_joins_nothing}
