@@ -21,7 +21,7 @@ first_against-requires-clause-boxes g c =
 pub returns-in-Some-first_against-clause-takes : goal.returns-in-Some-first_against-clause-takes
 returns-in-Some-first_against-clause-takes g c = λ behind at_behind.
     let core = core_seen c.args.self.now in
-    inr (inr (
+    inr (inr (inl (
       c.in-Some-first_against.by,
       c.in-Some.place,
       c.copy_of_line-line.result,
@@ -30,7 +30,7 @@ returns-in-Some-first_against-clause-takes g c = λ behind at_behind.
       first_here c.as_slice-3.result.now core.activities c.args.actor c.in-Some-first_against.by c.of_command-lock.result _ c.as_slice-3.ensures.value c.of_command-lock.ensures c.in-Some-first_against.ensures.least,
       refl,
       refl,
-    ))
+    )))
 
 pub returns-clause-takes : goal.returns-clause-takes
 returns-clause-takes g c = λ behind at_behind.
@@ -42,6 +42,6 @@ returns-clause-takes g c = λ behind at_behind.
       refl,
       c.in-Some.place,
       c.copy_of_line-line.result,
-      takes_line c.args.actor c.from-session.result behind c.in-Some.place c.copy_of_line-line.result c.new-2.result c.new-4.result core (core_seen c.go_behind-2.new.self) (core_seen c.stand.new.self)
-          c.from-session.ensures at_behind next free (c.new-2.ensures ∙ c.new.ensures.items) (c.new-4.ensures ∙ c.new-3.ensures.items) c.go_behind-2.ensures.gone c.stand.ensures.stands,
+      takes_line c.args.actor c.from-session.result behind c.in-Some.place c.copy_of_line-line.result c.in-Ok.rest c.new-2.result core (core_seen c.go_behind-2.new.self) (core_seen c.stand.new.self)
+          c.from-session.ensures at_behind next free ? (c.new-2.ensures ∙ c.new.ensures.items) c.go_behind-2.ensures.gone c.stand.ensures.stands,
     ))
