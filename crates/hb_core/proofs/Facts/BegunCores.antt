@@ -22,7 +22,6 @@ use Rattle.hb_latch.specs.Tables.{MayLatch, latch_cmp}
 use Rattle.hb_lemmas.proofs.Options.{has_value, not_none}
 use Rattle.hb_ops.specs.Files.{FileState}
 use Rattle.hb_ops.specs.Sound.{IsSound}
-use Rattle.hb_point.specs.SessionRows.{WantsBoxes}
 use Rattle.hb_set.specs.Order.{AreRising}
 use Rattle.hb_set.specs.declared.scripts.Line.{Line}
 use Rattle.hb_store.specs.Keeps.{StoreKeeps}

@@ -36,10 +36,8 @@ use Rattle.hb_disk.specs.Model.{DiskModel, IsDisk, Torn}
 use Rattle.hb_latch.specs.Tables.{MayLatch}
 use Rattle.hb_lemmas.proofs.Lists.{All-alone}
 use Rattle.hb_lemmas.proofs.Options.{has_value}
-use Rattle.hb_point.specs.SessionRows.{WantsBoxes}
 use Rattle.hb_set.specs.Machine.{RecordSet}
 use Rattle.hb_set.specs.declared.scripts.Answered.{Answered}
-use Rattle.hb_set.specs.declared.scripts.Line.{Line}
 use Rattle.hb_store.proofs.Facts.StoreLaws.{StoreKeeps-opens}
 use Rattle.hb_store.specs.Keeps.{StoreKeeps}
 use Rattle.hb_store.specs.States.{StoreState}
