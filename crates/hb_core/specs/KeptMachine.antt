@@ -6,7 +6,7 @@ use Rattle.hb_core.specs.Keeps.{HasNoOtherLatches, HasNobodyElse, HasSoundFile, 
 use Rattle.hb_core.specs.KeptFits.{AttributesFit, HaveClasses, RunsWithStore, WorkersStand}
 use Rattle.hb_core.specs.KeptLines.{LinesFit, MetaWithinLimits}
 use Rattle.hb_core.specs.KeptPlaces.{AnswersAreSingle, MarksRise, OrderIsShort, RepliesStand}
-use Rattle.hb_core.specs.KeptSearches.{SearchesAreExact}
+use Rattle.hb_core.specs.KeptSearches.{SearchesAreExact, SearchesGather}
 use Rattle.hb_core.specs.KeptSequence.{LinesInSequence}
 use Rattle.hb_core.specs.Locking.{BoxLocksFit}
 use Rattle.hb_core.specs.Machines.{Files, Machine}
@@ -30,6 +30,7 @@ pub record MachineKeeps (m : Machine) : Type 0 where
   pub latches_fit : LatchesFit m
   pub no_other_latches : HasNoOtherLatches m
   pub box_locks_fit : BoxLocksFit m
+  pub searches_gather : SearchesGather m
   pub walk_in_space : WalksInSpace m
   pub workers_stand : WorkersStand m
   pub room_known : KnowsRoom m

@@ -6,7 +6,6 @@ use crate::files::open_file;
 use crate::finished::Finished;
 use crate::forms::Form;
 use crate::new_files::NewFile;
-use crate::searches::Watched;
 use crate::statuses::Status;
 use crate::top::top;
 use crate::trouble::{Told, Trouble};
@@ -106,33 +105,31 @@ fn end_output<O: Write + Drop>(mut sink: WriteSink<BufWriter<O>>, status: Status
     status.after_sink_fault()
 }
 
-/// What is told of a run over a disk that met this trouble, and over a text whose first search is in this line.
-fn told_of(status: Status, trouble: Option<Trouble>, search: Option<u64>) -> Option<Told> {
-    match (status, trouble, search) {
-        (Status::NotBuilt, _, Some(line)) => Some(Told::Search(line)),
-        (Status::NotBuilt, _, None) => Some(Told::Form),
-        (_, Some(trouble), _) => Some(Told::Trouble(trouble)),
+/// What is told of a run over a disk that met this trouble.
+fn told_of(status: Status, trouble: Option<Trouble>) -> Option<Told> {
+    match (status, trouble) {
+        (Status::NotBuilt, _) => Some(Told::Form),
+        (_, Some(trouble)) => Some(Told::Trouble(trouble)),
         _ => None,
     }
 }
 
-/// Runs the program over these streams and a disk, which is given back with the status and the line of the first search.
+/// Runs the program over these streams and a disk, which is given back with the status.
 fn run_over<I: Read + Drop, O: Write + Drop, D: Disk + Drop>(
     alloc: Global,
     words: &[String],
     input: I,
     sink: WriteSink<BufWriter<O>>,
     disk: D,
-) -> (Status, Option<u64>, D) {
-    let mut source = ReadSource::new(Watched::new(input));
+) -> (Status, D) {
+    let mut source = ReadSource::new(input);
     let Finished {
         status,
         sink,
         disk,
         ..
     } = top(alloc, words, &mut source, sink, disk);
-    let search = source.into_inner().search();
-    (end_output(sink, status), search, disk)
+    (end_output(sink, status), disk)
 }
 
 /// Refuses a call whose file can't be had, or can't be given its name. Where writing fails, nobody can be told.
@@ -196,10 +193,10 @@ fn run_there<I: Read + Drop, O: Write + Drop>(
     match open_file(rt, call.name()) {
         Ok(disk) => {
             let words = call.words.as_slice();
-            let (status, search, disk) = run_over(rt.alloc(), words, input, sink, disk);
+            let (status, disk) = run_over(rt.alloc(), words, input, sink, disk);
             Ended {
                 status,
-                told: told_of(status, disk.trouble(), search),
+                told: told_of(status, disk.trouble()),
             }
         }
         Err(trouble) => refuse_file(sink, trouble),
@@ -222,10 +219,10 @@ pub fn run<I: Read + Drop, O: Write + Drop>(
         Place::Memory => {
             let disk = MemDisk::new(alloc, Vec::new(alloc));
             let words = call.words.as_slice();
-            let (status, search, _disk) = run_over(alloc, words, input, sink, disk);
+            let (status, _disk) = run_over(alloc, words, input, sink, disk);
             Ok(Ended {
                 status,
-                told: told_of(status, None, search),
+                told: told_of(status, None),
             })
         }
         Place::New(size) => run_new(rt, call, input, sink, size),

@@ -24,7 +24,6 @@ mod files;
 mod finished;
 mod forms;
 mod new_files;
-mod searches;
 mod statuses;
 mod texts;
 pub mod top;

@@ -56,7 +56,7 @@ pub enum Status {
     BadLayout { field: Field, value: u64 },
     /// The disk has fewer bytes than are needed.
     Small { needed: u64, found: u64 },
-    /// The words are a form whose command isn't built; or a text for `drive` has a search.
+    /// The words are a form whose command isn't built.
     NotBuilt,
 }
 

@@ -117,8 +117,6 @@ pub enum Told {
     Trouble(Trouble),
     /// The words are a form that isn't built.
     Form,
-    /// The text has a search in this line, which `drive` doesn't serve.
-    Search(u64),
 }
 
 impl Display for Told {
@@ -126,7 +124,6 @@ impl Display for Told {
         match self {
             Told::Trouble(trouble) => write!(f, "{trouble}"),
             Told::Form => f.pad("the program can't do this yet"),
-            Told::Search(line) => write!(f, "drive can't search yet, as line {line} asks"),
         }
     }
 }

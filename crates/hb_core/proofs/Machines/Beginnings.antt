@@ -25,6 +25,7 @@ use Rattle.hb_core.specs.KeptMerges.{NamesKnown, merging_at}
 use Rattle.hb_core.specs.KeptOrder.{FollowMarks, HasLegalOrder, HasPendingPrefix, StandsInOrder, StandsOutside}
 use Rattle.hb_core.specs.KeptPlaces.{AnswersAreSingle, OrderIsShort, RepliesStand}
 use Rattle.hb_core.specs.KeptSearches.{SearchesAreExact}
+use Rattle.hb_search.specs.Searching.{StaysGathering}
 use Rattle.hb_core.specs.KeptSequence.{IsInSequence, LinesInSequence, awaited_number}
 use Rattle.hb_core.specs.Machines.{Machine, settled_count}
 use Rattle.hb_core.specs.Performing.{latches_held, mode_among}
@@ -233,6 +234,7 @@ module _ (m : Machine) (begun : IsBegun m) where
     latches_fit = latches_begin;
     no_other_latches = λ actor page none. begun.unlatched actor page;
     box_locks_fit = λ actor other lock held apart is. absurd (no_lock actor lock is);
+    searches_gather = of_each StaysGathering (record { session = tt; poster = tt; consolidator = tt; flusher = tt });
     walk_in_space = walks_begin;
     workers_stand = workers_begin;
     room_known = room_begins;

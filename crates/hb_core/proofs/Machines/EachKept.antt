@@ -10,6 +10,7 @@ use Rattle.hb_core.proofs.Orders.RepliesKept.{replies_stand}
 use Rattle.hb_core.proofs.Machines.RunsKept.{runs_stay}
 use Rattle.hb_core.proofs.Orders.ShortOrder.{order_stays_short}
 use Rattle.hb_core.proofs.Orders.SingleAnswers.{answers_stay_single}
+use Rattle.hb_core.proofs.Searches.GatheringKept.{searches_gather_still}
 use Rattle.hb_core.proofs.Memory.StillThere.{nobody_else_comes, nobody_else_latches}
 use Rattle.hb_core.proofs.Orders.Sequences.{sequence_stays}
 use Rattle.hb_core.proofs.Walks.WalksKept.{walks_stay_in_space}
@@ -43,6 +44,7 @@ machine_stays_kept laws m actor outcome new may keeps step = record {
   latches_fit = laws.latches m actor outcome new may keeps.latches_fit keeps.pages_of_file step;
   no_other_latches = nobody_else_latches m actor outcome new may keeps.no_other_latches step;
   box_locks_fit = box_locks_stay_fit m actor outcome new keeps step;
+  searches_gather = searches_gather_still m actor outcome new keeps step;
   walk_in_space = walks_stay_in_space m actor outcome new may keeps.latches_fit keeps.pages_of_file keeps.nobody_else keeps.walk_in_space step;
   workers_stand = workers_stand_still m actor outcome new may keeps step;
   room_known = laws.room m actor outcome new may keeps.latches_fit keeps.pages_of_file keeps.meta_within_limits keeps.nobody_else keeps.room_known step;

@@ -1,5 +1,5 @@
 -- What a search has found so far, once it took a leaf's records: of the box at hand what lies outside the leaf's box remains.
-use Rattle.std.proofs.Common.{◌≡◌, ◌≢◌, ◌↔◌, ◌⊎◌, inl, inr, ℕ, zero, suc, List, [], ◌∷◌, ◌++◌, filter, length, All, AllPairs, Any, Contains, sym, ◌∙◌, subst, arith}
+use Rattle.std.proofs.Common.{◌≡◌, ◌↔◌, ◌⊎◌, inl, inr, ℕ, zero, suc, List, [], ◌∷◌, ◌++◌, filter, length, All, AllPairs, Any, Contains, sym, ◌∙◌, subst, arith}
 use Rattle.std.proofs.lemmas.Bool.{cases_Bool, false≢true}
 use Rattle.std.proofs.lemmas.List.Elements.{All-append, All-contains, All-head, All-tail, Contains-append_cases, Contains-append_left, Contains-append_right}
 use Rattle.std.proofs.lemmas.List.Kept.{AllPairs-cons, AllPairs-filter}
@@ -14,11 +14,9 @@ use Rattle.hb_core.proofs.Machines.PieceBoxes.{pieces_are_boxes}
 use Rattle.hb_core.proofs.Searches.SortedRecords.{filter_keeps, filter_tells}
 use Rattle.hb_core.specs.KeptFits.{IsBoxOf}
 use Rattle.hb_core.specs.KeptSearches.{HasFoundSoFar, IsAmong}
+use Rattle.hb_search.specs.Searching.{Differ, IsGathering}
 
 -- ---- lists in pairs
-
-abbrev pub OfTwo : Record → Record → Type 0
-OfTwo r s = r.key ≢ s.key
 
 pairs_first : {X : Type 0} (R : X → X → Type 0) (x : X) (xs : List X) → AllPairs R (x ∷ xs) → All (R x) xs
 pairs_first R x xs pairs k d lt = pairs zero (suc k) d (omega arith) (omega (arith, lt))
@@ -70,17 +68,22 @@ some_or_none k (a ∷ us) p boxes long =
       ]
     ]
 
+-- no box of the list holds a point that none does
+none_of : (us : List Area) (p : List ℕ) → All (λ (a : Area). ¬ (Holds a p)) us → SomeHolds us p → ⊥
+none_of [] p none never = never
+none_of (a ∷ us) p none (inl here) = All-head (λ (a : Area). ¬ (Holds a p)) a us none here
+none_of (a ∷ us) p none (inr later) = none_of us p (All-tail (λ (a : Area). ¬ (Holds a p)) a us none) later
+
 -- ---- a search at a leaf
 
--- A leaf of records, of a page of the file: it has exactly the records of the contents in its box, each once.
-pub record HasRecordsOf (n : RecordSet) (k : ℕ) (records : List Record) (area : Area) : Type 0 where
+-- a leaf of records, which lie in its box and are of different points
+pub record IsLeafOf (k : ℕ) (records : List Record) (area : Area) : Type 0 where
   pub box : IsBoxOf k area
   pub inside : (r : Record) → Contains records r → Holds area r.key
-  pub once : AllPairs OfTwo records
-  pub exact : (r : Record) → Holds area r.key → Contains records r ↔ IsAmong n r
+  pub once : AllPairs Differ records
 
-module _ (n : RecordSet) (k : ℕ) (box : Area) (front : List Area) (at_hand : Area) (found records : List Record) (area : Area) (p : List ℕ)
-    (whole : IsBoxOf k box) (boxes : All (IsBoxOf k) (front ++ at_hand ∷ [])) (leaf : HasRecordsOf n k records area) (in_hand : Holds at_hand p) (in_leaf : Holds area p) (so_far : HasFoundSoFar n box (front ++ at_hand ∷ []) found) where
+module _ (k : ℕ) (front : List Area) (at_hand : Area) (found records : List Record) (area : Area) (p : List ℕ) (boxes : All (IsBoxOf k) (front ++ at_hand ∷ [])) (leaf : IsLeafOf k records area) (in_hand : Holds at_hand p) (in_leaf : Holds area p)
+    (gathering : IsGathering (front ++ at_hand ∷ []) found) where
   hand : IsBoxOf k at_hand
   hand = All-last (IsBoxOf k) front at_hand boxes
 
@@ -112,20 +115,8 @@ module _ (n : RecordSet) (k : ℕ) (box : Area) (front : List Area) (at_hand : A
   pieces_fit : All (IsBoxOf k) pieces
   pieces_fit = pieces_are_boxes k at_hand area p hand leaf.box in_hand in_leaf
 
-  hand_within : Within at_hand box
-  hand_within = All-last (λ (a : Area). Within a box) front at_hand so_far.within
-
-  hand_inside : (q : List ℕ) → Holds at_hand q → Holds box q
-  hand_inside q held = Holds-within at_hand box q (hand.1 ∙ sym whole.1) hand_within held
-
   all_apart : Apart (front ++ at_hand ∷ [])
-  all_apart = apart_of (front ++ at_hand ∷ []) so_far.apart
-
-  within_after : All (λ (a : Area). Within a box) (front ++ pieces)
-  within_after =
-      All-append (λ (a : Area). Within a box) front pieces (All-front (λ (a : Area). Within a box) front (at_hand ∷ []) so_far.within)
-      (each_member (λ (a : Area). Within a box) pieces (λ a there.
-      Within-from_points a box (All-contains (IsBoxOf k) pieces a pieces_fit there).0 (λ q held. hand_inside q ((piece_tells q).0 (some_by_member pieces a q there held)).0)))
+  all_apart = apart_of (front ++ at_hand ∷ []) gathering.apart
 
   apart_after : AllPairs Disjoint (front ++ pieces)
   apart_after =
@@ -140,10 +131,13 @@ module _ (n : RecordSet) (k : ℕ) (box : Area) (front : List Area) (at_hand : A
       let in_area = leaf.inside r is.0 in
       (is.0, Holds-from_test at_hand r.key hand.0 (in_area.same ∙ sym as_long) is.1)
 
-  once_after : AllPairs OfTwo (found ++ more)
-  once_after = pairs_append OfTwo found more so_far.once (AllPairs-filter OfTwo (λ (r : Record). holds at_hand r.key) records leaf.once) (λ r s here there same.
-      ((so_far.exact r).0 here).2 (Any-from_recursion (front ++ at_hand ∷ []) r.key
-      (SomeHolds-append_right front (at_hand ∷ []) r.key (inl (subst (Holds at_hand) (sym same) (taken_in_hand s there).1)))))
+  -- a record that was found lies in none of the boxes
+  none_holds : (r : Record) → Contains found r → SomeHolds (front ++ at_hand ∷ []) r.key → ⊥
+  none_holds r there some = none_of (front ++ at_hand ∷ []) r.key (All-contains (λ (r : Record). All (λ (a : Area). ¬ (Holds a r.key)) (front ++ at_hand ∷ [])) found r gathering.outside there) some
+
+  once_after : AllPairs Differ (found ++ more)
+  once_after = pairs_append Differ found more gathering.once (AllPairs-filter Differ (λ (r : Record). holds at_hand r.key) records leaf.once)
+      (λ r s here there same. none_holds r here (SomeHolds-append_right front (at_hand ∷ []) r.key (inl (subst (Holds at_hand) (sym same) (taken_in_hand s there).1))))
 
   -- what the boxes hold that remain, they held before
   held_before : (q : List ℕ) → SomeHolds (front ++ pieces) q → SomeHolds (front ++ at_hand ∷ []) q
@@ -159,40 +153,64 @@ module _ (n : RecordSet) (k : ℕ) (box : Area) (front : List Area) (at_hand : A
     | inr piece ↦ ((piece_tells q).0 piece).1 ((Holds-common_area at_hand area q hand.0 leaf.box.0 as_long).1 (here, leafy))
   ]
 
-  to_contents : (r : Record) → Contains (found ++ more) r → IsAmong n r × Holds box r.key × ¬ (Any (λ (a : Area). Holds a r.key) (front ++ pieces))
-  to_contents r there = elim (Contains-append_cases found more r there) [
-    | inl old ↦ (let is = (so_far.exact r).0 old in
-        (is.0, is.1, λ some. is.2 (Any-from_recursion (front ++ at_hand ∷ []) r.key (held_before r.key (recursion_from_Any (front ++ pieces) r.key some)))))
-    | inr new ↦ (let is = taken_in_hand r new in
-        let leafy = leaf.inside r is.0 in
-        ((leaf.exact r leafy).0 is.0, hand_inside r.key is.1, λ some. none_after r.key is.1 leafy (recursion_from_Any (front ++ pieces) r.key some)))
-  ]
+  outside_after : All (λ (r : Record). All (λ (a : Area). ¬ (Holds a r.key)) (front ++ pieces)) (found ++ more)
+  outside_after = each_member (λ (r : Record). All (λ (a : Area). ¬ (Holds a r.key)) (front ++ pieces)) (found ++ more) (λ r there.
+      each_member (λ (a : Area). ¬ (Holds a r.key)) (front ++ pieces) (λ a among held. elim (Contains-append_cases found more r there) [
+        | inl old ↦ none_holds r old (held_before r.key (some_by_member (front ++ pieces) a r.key among held))
+        | inr new ↦ (let is = taken_in_hand r new in none_after r.key is.1 (leaf.inside r is.0) (some_by_member (front ++ pieces) a r.key among held))
+      ]))
 
-  -- a record of the box at hand that no piece holds is the leaf's
-  taken : (r : Record) → IsAmong n r → Holds at_hand r.key → ¬ (SomeHolds pieces r.key) → Contains more r
-  taken r among here none = elim (cases_Bool (holds area r.key)) [
-    | inl test ↦
-        let leafy = Holds-from_test area r.key leaf.box.0 (here.same ∙ as_long) test in
-        filter_keeps (λ (r : Record). holds at_hand r.key) records r ((leaf.exact r leafy).1 among) (test-from_Holds at_hand r.key hand.0 here)
-    | inr off ↦ absurd (none ((piece_tells r.key).1 (here, λ in_both. false≢true (sym off ∙ test-from_Holds area r.key leaf.box.0 ((Holds-common_area at_hand area r.key hand.0 leaf.box.0 as_long).0 in_both).1))))
-  ]
+  pub gathering_after : IsGathering (front ++ pieces) (found ++ more)
+  gathering_after = record { apart = apart_after; once = once_after; outside = outside_after }
 
-  from_contents : (r : Record) → IsAmong n r → Holds box r.key → ¬ (Any (λ (a : Area). Holds a r.key) (front ++ pieces)) → Contains (found ++ more) r
-  from_contents r among held none = elim (some_or_none k (front ++ at_hand ∷ []) r.key boxes (held.same ∙ whole.1)) [
-    | inr nowhere ↦ Contains-append_left found more r ((so_far.exact r).1 (among, held, λ some. nowhere (recursion_from_Any (front ++ at_hand ∷ []) r.key some)))
-    | inl some ↦ elim (SomeHolds-append_cases front (at_hand ∷ []) r.key some) [
-      | inl here ↦ absurd (none (Any-from_recursion (front ++ pieces) r.key (SomeHolds-append_left front pieces r.key here)))
-      | inr last ↦ elim last [
-        | inl there ↦ Contains-append_right found more r (taken r among there (λ piece. none (Any-from_recursion (front ++ pieces) r.key (SomeHolds-append_right front pieces r.key piece))))
-        | inr never ↦ absurd never
+  -- ---- by the contents of a file
+
+  module _ (n : RecordSet) (box : Area) (whole : IsBoxOf k box) (all_there : (r : Record) → Holds area r.key → Contains records r ↔ IsAmong n r) (so_far : HasFoundSoFar n box (front ++ at_hand ∷ []) found) where
+    hand_within : Within at_hand box
+    hand_within = All-last (λ (a : Area). Within a box) front at_hand so_far.within
+
+    hand_inside : (q : List ℕ) → Holds at_hand q → Holds box q
+    hand_inside q held = Holds-within at_hand box q (hand.1 ∙ sym whole.1) hand_within held
+
+    within_after : All (λ (a : Area). Within a box) (front ++ pieces)
+    within_after =
+        All-append (λ (a : Area). Within a box) front pieces (All-front (λ (a : Area). Within a box) front (at_hand ∷ []) so_far.within)
+        (each_member (λ (a : Area). Within a box) pieces (λ a there.
+        Within-from_points a box (All-contains (IsBoxOf k) pieces a pieces_fit there).0 (λ q held. hand_inside q ((piece_tells q).0 (some_by_member pieces a q there held)).0)))
+
+    to_contents : (r : Record) → Contains (found ++ more) r → IsAmong n r × Holds box r.key × ¬ (Any (λ (a : Area). Holds a r.key) (front ++ pieces))
+    to_contents r there = elim (Contains-append_cases found more r there) [
+      | inl old ↦ (let is = (so_far.exact r).0 old in
+          (is.0, is.1, λ some. is.2 (Any-from_recursion (front ++ at_hand ∷ []) r.key (held_before r.key (recursion_from_Any (front ++ pieces) r.key some)))))
+      | inr new ↦ (let is = taken_in_hand r new in
+          let leafy = leaf.inside r is.0 in
+          ((all_there r leafy).0 is.0, hand_inside r.key is.1, λ some. none_after r.key is.1 leafy (recursion_from_Any (front ++ pieces) r.key some)))
+    ]
+
+    -- a record of the box at hand that no piece holds is the leaf's
+    taken : (r : Record) → IsAmong n r → Holds at_hand r.key → ¬ (SomeHolds pieces r.key) → Contains more r
+    taken r among here none = elim (cases_Bool (holds area r.key)) [
+      | inl test ↦
+          let leafy = Holds-from_test area r.key leaf.box.0 (here.same ∙ as_long) test in
+          filter_keeps (λ (r : Record). holds at_hand r.key) records r ((all_there r leafy).1 among) (test-from_Holds at_hand r.key hand.0 here)
+      | inr off ↦ absurd (none ((piece_tells r.key).1 (here, λ in_both. false≢true (sym off ∙ test-from_Holds area r.key leaf.box.0 ((Holds-common_area at_hand area r.key hand.0 leaf.box.0 as_long).0 in_both).1))))
+    ]
+
+    from_contents : (r : Record) → IsAmong n r → Holds box r.key → ¬ (Any (λ (a : Area). Holds a r.key) (front ++ pieces)) → Contains (found ++ more) r
+    from_contents r among held none = elim (some_or_none k (front ++ at_hand ∷ []) r.key boxes (held.same ∙ whole.1)) [
+      | inr nowhere ↦ Contains-append_left found more r ((so_far.exact r).1 (among, held, λ some. nowhere (recursion_from_Any (front ++ at_hand ∷ []) r.key some)))
+      | inl some ↦ elim (SomeHolds-append_cases front (at_hand ∷ []) r.key some) [
+        | inl here ↦ absurd (none (Any-from_recursion (front ++ pieces) r.key (SomeHolds-append_left front pieces r.key here)))
+        | inr last ↦ elim last [
+          | inl there ↦ Contains-append_right found more r (taken r among there (λ piece. none (Any-from_recursion (front ++ pieces) r.key (SomeHolds-append_right front pieces r.key piece))))
+          | inr never ↦ absurd never
+        ]
       ]
     ]
-  ]
 
-  pub gathered : HasFoundSoFar n box (front ++ pieces) (found ++ more)
-  gathered = record {
-    within = within_after;
-    apart = apart_after;
-    once = once_after;
-    exact = λ r. (to_contents r, λ is. from_contents r is.0 is.1 is.2);
-  }
+    pub gathered : HasFoundSoFar n box (front ++ pieces) (found ++ more)
+    gathered = record {
+      within = within_after;
+      gathering = gathering_after;
+      exact = λ r. (to_contents r, λ is. from_contents r is.0 is.1 is.2);
+    }

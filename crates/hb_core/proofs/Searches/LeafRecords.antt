@@ -1,5 +1,5 @@
 -- A leaf of records of a page in memory has exactly the records of the contents in its box.
-use Rattle.std.proofs.Common.{◌≡◌, ◌≢◌, ◌⊎◌, inl, inr, ℕ, zero, suc, ◌<◌, List, [], ◌∷◌, get_or, length, refl, All, AllPairs, Contains, Some, None, sym, ap, ◌∙◌, subst, arith}
+use Rattle.std.proofs.Common.{◌↔◌, ◌≡◌, ◌≢◌, ◌⊎◌, inl, inr, ℕ, zero, suc, ◌<◌, List, [], ◌∷◌, get_or, length, refl, All, AllPairs, Contains, Some, None, sym, ap, ◌∙◌, subst, arith}
 use Rattle.std.specs.List.{slice_get}
 use Rattle.std.specs.FinMap as map
 use Rattle.std.proofs.lemmas.List.Elements.{All-cons, All-contains, All-nil}
@@ -8,8 +8,9 @@ use Rattle.hb_core.proofs.Files.FileOps.{ShowsFile}
 use Rattle.hb_core.proofs.Files.FitOps.{HeldArePoints}
 use Rattle.hb_core.proofs.Machines.BoxesAhead.{leaf_box}
 use Rattle.hb_core.proofs.Memory.KeptPages.{KeepsPages}
-use Rattle.hb_core.proofs.Searches.Gathered.{HasRecordsOf, OfTwo}
+use Rattle.hb_core.proofs.Searches.Gathered.{IsLeafOf}
 use Rattle.hb_core.specs.KeptSearches.{IsAmong}
+use Rattle.hb_search.specs.Searching.{Differ}
 use Rattle.hb_frag.proofs.Facts.Tiles.{first_tells}
 use Rattle.hb_frag.specs.Leaves.{Placed, leaf_at, leaves_of}
 use Rattle.hb_frag.specs.Rules.{IsInOrder, Precedes}
@@ -49,8 +50,19 @@ of_point (x ∷ xs) p = elim (known_list x.key p) [
 ]
 
 -- records whose points rise are of different points
-rise_apart : (records : List Record) → AllPairs Precedes records → AllPairs OfTwo records
+rise_apart : (records : List Record) → AllPairs Precedes records → AllPairs Differ records
 rise_apart records rising i j d low high same = not_itself _ _ same (rising i j d low high)
+
+-- a leaf of a page that is good
+pub leaf_of : (meta : Meta) (page : LivePage) (p : List ℕ) (records : List Record) (area : Area) → IsGoodPage meta (Live page) → leaf_at page p ≡ Some (record { leaf = Records records; area = area }) → IsLeafOf meta.k records area
+leaf_of meta page p records area good there =
+    let placed : Placed = record { leaf = Records records; area = area } in
+    let in_order = first_has IsInOrder p (leaves_of page.frag page.area) placed there good.1.in_order in
+    record {
+      box = (leaf_box meta page p placed good there).0;
+      inside = λ r has. All-contains (λ (r : Record). Holds area r.key) records r in_order.inside has;
+      once = rise_apart records in_order.rising;
+    }
 
 module _ (points : HeldArePoints) (standing : StandingIsContents) (lacking : LackIsContents) (fetched : StoreState) (s : FileState) (keeps : KeepsPages fetched) (file : ShowsFile fetched s)
     (id : ℕ) (page : LivePage) (live : if_live (in_memory fetched id) ≡ Some page) (p : List ℕ) (records : List Record) (area : Area) (leaf : leaf_at page p ≡ Some (record { leaf = Records records; area = area })) where
@@ -62,9 +74,6 @@ module _ (points : HeldArePoints) (standing : StandingIsContents) (lacking : Lac
 
   abbrev placed : Placed
   placed = record { leaf = Records records; area = area }
-
-  in_order : IsInOrder placed
-  in_order = first_has IsInOrder p (leaves_of page.frag page.area) placed leaf good.1.in_order
 
   -- the leaf is that of each point in its box
   leaf_there : (q : List ℕ) → Holds area q → leaf_at page q ≡ Some placed
@@ -99,10 +108,5 @@ module _ (points : HeldArePoints) (standing : StandingIsContents) (lacking : Lac
         cc
   ]
 
-  pub records_of_leaf : HasRecordsOf (contents_of s) fetched.meta.k records area
-  records_of_leaf = record {
-    box = (leaf_box fetched.meta page p placed good leaf).0;
-    inside = λ r has. All-contains (λ (r : Record). Holds area r.key) records r in_order.inside has;
-    once = rise_apart records in_order.rising;
-    exact = λ r held. (there r held, back r held);
-  }
+  pub records_of_leaf : (r : Record) → Holds area r.key → Contains records r ↔ IsAmong (contents_of s) r
+  records_of_leaf r held = (there r held, back r held)

@@ -32,8 +32,9 @@ use Rattle.hb_core.proofs.Files.SoundFiles.{brought_shown, files_hold, shows_fil
 use Rattle.hb_core.proofs.Machines.BoxesAhead.{goal_at_hand, leaf_box}
 use Rattle.hb_core.proofs.Machines.LocksKept.{lock_is, merging_hand, posting_hand}
 use Rattle.hb_core.proofs.Memory.KeptPages.{brought, keeps_pages}
-use Rattle.hb_core.proofs.Searches.Gathered.{HasRecordsOf, gathered}
-use Rattle.hb_core.proofs.Searches.LeafRecords.{records_of_leaf}
+use Rattle.hb_core.proofs.Searches.Gathered.{IsLeafOf, gathered}
+use Rattle.hb_core.proofs.Searches.GatheringKept.{gathering_begins}
+use Rattle.hb_core.proofs.Searches.LeafRecords.{leaf_of, records_of_leaf}
 use Rattle.hb_core.proofs.Searches.SearchRow.{joined_before, walk_row, walked_before}
 use Rattle.hb_core.proofs.Searches.SortedRecords.{reply_is}
 use Rattle.hb_core.proofs.Table.DeedKinds.{each_deed}
@@ -63,16 +64,14 @@ within_itself a i lt = (omega arith, omega arith)
 begins_exact : (n : RecordSet) (box : Area) → HasFoundSoFar n box (box ∷ []) []
 begins_exact n box = record {
   within = (All-one (λ (a : Area). Within a box) box).1 (within_itself box);
-  apart = λ i j d low high. absurd (omega (arith, low, high));
-  once = λ i j d low high. absurd (omega (arith, high));
+  gathering = gathering_begins box;
   exact = λ r. (λ there. absurd (no_member r there), λ is. absurd (is.2 (0, box, omega arith, refl, is.1)));
 }
 
 moved : (n other : RecordSet) (box : Area) (rest : List Area) (found : List Record) → ((q : List ℕ) → Holds box q → map.get other q ≡ map.get n q) → HasFoundSoFar n box rest found → HasFoundSoFar other box rest found
 moved n other box rest found agree so_far = record {
   within = so_far.within;
-  apart = so_far.apart;
-  once = so_far.once;
+  gathering = so_far.gathering;
   exact = λ r. (
     λ there. (let is = (so_far.exact r).0 there in (agree r.key is.1 ∙ is.0, is.1, is.2)),
     λ is. (so_far.exact r).1 (sym (agree r.key is.1) ∙ is.0, is.1, is.2),
@@ -144,12 +143,13 @@ module _ (points : HeldArePoints) (standing : StandingIsContents) (lacking : Lac
       let file = shows_file fetched files (brought_shown m files may fetched told brings (files_hold m files has)) in
       let boxes : All (IsBoxOf k) (row.front ++ row.at_hand ∷ []) = subst (λ (r : List Area). All (IsBoxOf k) r) row.boxes left_boxes in
       let hand : IsBoxOf k row.at_hand = All-last (IsBoxOf k) row.front row.at_hand boxes in
-      let leaf = subst (λ (n : ℕ). HasRecordsOf (contents_of s) n row.records row.area) (ap (λ meta. meta.k) brings.rest.meta) (records_of_leaf points standing lacking fetched s keeps file id page live p row.records row.area row.leaf) in
       let good = (keeps.framed id _ (live_so (in_memory fetched id) page live)).2 in
+      let leaf = subst (λ (n : ℕ). IsLeafOf n row.records row.area) (ap (λ meta. meta.k) brings.rest.meta) (leaf_of fetched.meta page p row.records row.area good row.leaf) in
       let in_leaf = (leaf_box fetched.meta page p _ good row.leaf).1 in
       let in_hand : Holds row.at_hand p = subst (Holds row.at_hand) (goal_at_hand box rest row.front row.at_hand p row.boxes goal) (lo_held row.at_hand hand.0) in
-      gathered (contents_of s) k box row.front row.at_hand found row.records row.area p whole_box boxes leaf in_hand in_leaf
-      (subst Whole row.boxes (exact actor line held rest found box walks command))
+      let so_far : Whole (row.front ++ row.at_hand ∷ []) = subst Whole row.boxes (exact actor line held rest found box walks command) in
+      gathered k row.front row.at_hand found row.records row.area p boxes leaf in_hand in_leaf so_far.gathering (contents_of s) box whole_box
+      (records_of_leaf points standing lacking fetched s keeps file id page live p row.records row.area row.leaf) so_far
 
   -- where the search takes effect, its reply is the machine's
   pub replies_right : {fetched : StoreState} {may : ℕ → Type 0} → Brings m may fetched → (id : ℕ) (page : LivePage) (p : List ℕ) (deed : Deed) (entry : Entry) → live_here fetched id ≡ Some page → goal_of (Search box) rest ≡ Some p
