@@ -1,11 +1,11 @@
 -- Who keeps an actor from a lock, as the places tell it.
-use Rattle.std.proofs.Common.{◌≡◌, ◌≢◌, inl, inr, ℕ, zero, suc, ◌+◌, ◌≤◌, ◌<◌, List, length, get_or, Option, Some, None, IfSome, refl, sym, ap, subst, ◌∙◌, arith}
+use Rattle.std.proofs.Common.{◌≡◌, ◌≢◌, inl, inr, ℕ, zero, suc, ◌+◌, ◌≤◌, ◌<◌, List, length, get_or, Option, None, IfSome, refl, sym, subst, ◌∙◌, arith}
 use Rattle.std.proofs.Math.ListN.{get_or-eq_default}
 use Rattle.std.proofs.lemmas.Bool.{cases_lt}
 use Rattle.std.proofs.lemmas.List.{get_or_default}
 use Rattle.std.specs.Option.{IsSomeAnd}
 use Rattle.hb_boxlock.specs.declared.locks.BoxLock.{BoxLock}
-use Rattle.hb_boxlock.specs.Locking.{Excludes, HaveAttributes, IsLeastToKeep, KeepsFromLock, LockTable, MayHaveLock, lock_at}
+use Rattle.hb_boxlock.specs.Locking.{Excludes, HaveAttributes, IsLeastToKeep, KeepsFromLock, MayHaveLock}
 use Rattle.hb_boxlock.proofs.Places.{in_front, of_actor, table_of}
 
 -- the lock, where one is there, excludes this one

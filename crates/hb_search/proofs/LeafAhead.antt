@@ -1,5 +1,5 @@
 -- A search at a leaf of records: what it finds there is of other points than what it found before.
-use Rattle.std.proofs.Common.{◌≡◌, ◌≢◌, ◌-◌, ℕ, suc, true, List, [], ◌∷◌, ◌++◌, length, get_or, filter, All, AllPairs, Some, None, IsTrue, refl, sym, ap, subst, ◌∙◌, arith}
+use Rattle.std.proofs.Common.{◌≡◌, ◌-◌, suc, true, List, [], ◌∷◌, ◌++◌, length, get_or, filter, All, Some, None, sym, ap, subst, ◌∙◌, arith}
 use Rattle.std.specs.List.{Contains, slice_get}
 use Rattle.std.proofs.lemmas.List.Elements.{All-contains, Contains-get_or, filter_passes}
 use Rattle.std.proofs.lemmas.List.Kept.{AllPairs-filter}
@@ -7,7 +7,7 @@ use Rattle.std.proofs.lemmas.Option.{slice_get_past}
 use Rattle.hb_activity.proofs.Facts.OneRecord.{not_itself}
 use Rattle.hb_frag.proofs.Facts.Tiles.{tiles_areas}
 use Rattle.hb_frag.specs.Leaves.{WellCut, leaf_at, leaves_of}
-use Rattle.hb_frag.specs.Rules.{AreInOrder, IsInOrder, Precedes}
+use Rattle.hb_frag.specs.Rules.{AreInOrder, IsInOrder}
 use Rattle.hb_frag.specs.declared.leaves.Leaf.TheVariants.{Records}
 use Rattle.hb_frag.specs.declared.pages.LivePage.{LivePage}
 use Rattle.hb_lemmas.proofs.Lists.{All-last, filter_has}

@@ -1,14 +1,14 @@
 -- What remains of a search's boxes and what it found stay apart at a leaf of records.
-use Rattle.std.proofs.Common.{◌≡◌, ℕ, zero, suc, ◌<◌, inl, inr, List, [], ◌∷◌, ◌++◌, length, get_or, filter, All, AllPairs, Any, refl, sym, ap, subst, ◌∙◌, arith}
+use Rattle.std.proofs.Common.{◌≡◌, ℕ, zero, suc, ◌<◌, List, [], ◌∷◌, ◌++◌, length, get_or, All, AllPairs, refl, arith}
 use Rattle.std.specs.List.{Contains}
-use Rattle.std.proofs.lemmas.List.Elements.{All-contains, All-head, All-tail, Contains-get_or}
+use Rattle.std.proofs.lemmas.List.Elements.{All-head, All-tail, Contains-get_or}
 use Rattle.std.proofs.lemmas.List.{get_or_default}
 use Rattle.std.proofs.lemmas.List.Kept.{AllPairs-cons}
 use Rattle.hb_lemmas.proofs.Lists.{All-front, All-last, All-parts}
 use Rattle.hb_search.specs.Gathering.{boxes_then}
 use Rattle.hb_search.specs.Searching.{Differ, IsGathering}
 use Rattle.hb_space.proofs.Facts.Boxes.{Holds-common_area, IsArea-common_area, Within-common_area, lo_held}
-use Rattle.hb_space.proofs.Facts.Outside.{cover_from_pieces, disjoint_from_pieces, recursion_from_Any}
+use Rattle.hb_space.proofs.Facts.Outside.{cover_from_pieces, disjoint_from_pieces}
 use Rattle.hb_space.specs.Boxes.{Area, Disjoint, Holds, IsArea, Meets, Within, common_area, pieces_outside}
 use Rattle.hb_space.specs.declared.records.Record.{Record}
 

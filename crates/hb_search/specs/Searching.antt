@@ -1,5 +1,5 @@
 -- What the decider of a search's step is given, and what it may rely on.
-use Rattle.std.specs.Prelude.{◌≡◌, ◌≢◌, ◌⊎◌, ℕ, List, Option, Some, All, AllPairs, MatchOption}
+use Rattle.std.specs.Prelude.{◌≡◌, ◌≢◌, ◌⊎◌, ℕ, List, Some, All, AllPairs, MatchOption}
 use Rattle.hb_frag.specs.Leaves.{leaf_at}
 use Rattle.hb_frag.specs.declared.leaves.Leaf.TheVariants.{Records}
 use Rattle.hb_frag.specs.declared.pages.LivePage.{LivePage}

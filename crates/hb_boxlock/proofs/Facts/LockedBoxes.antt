@@ -1,11 +1,11 @@
 -- Each box that is locked has so many attributes, before and after each call.
-use Rattle.std.proofs.Common.{◌≡◌, inl, inr, ℕ, length, Option, Some, None, IfSome, refl, sym, ap, cond, ◌==◌, subst, ◌∙◌, ne_eqb, eq-eqb}
+use Rattle.std.proofs.Common.{◌≡◌, inl, inr, ℕ, length, Option, Some, None, IfSome, sym, ap, cond, subst, ◌∙◌, ne_eqb, eq-eqb}
 use Rattle.std.proofs.lemmas.Bool.{cases_eq}
 use Rattle.std.specs.FinMap as map
 use Rattle.std.specs.Ordering.{nat_cmp}
 use Rattle.hb_boxlock.specs.declared.locks.BoxLock.{BoxLock}
 use Rattle.hb_boxlock.specs.Laws.{ReleasingKeepsAttributes, TakingKeepsAttributes}
-use Rattle.hb_boxlock.specs.Locking.{HaveAttributes, LockTable, lock_at}
+use Rattle.hb_boxlock.specs.Locking.{HaveAttributes, lock_at}
 use Rattle.hb_boxlock.proofs.Places.{after_insert, after_remove}
 
 abbrev HasSo : ℕ → Option BoxLock → Type 0

@@ -1,9 +1,7 @@
-use Rattle.std.proofs.Common.{◌≡◌, ◌+◌, List, get_or, Option, None, refl, sym, subst, ◌∙◌, arith, IfSome, length}
+use Rattle.std.proofs.Common.{◌≡◌, ◌+◌, Option, refl, sym, subst, ◌∙◌, arith, IfSome, length}
 use Rattle.std.proofs.lemmas.Bool.{false≢true}
 use Rattle.hb_boxlock.specs.declared.locks.BoxLock.{BoxLock}
-use Rattle.hb_boxlock.specs.Locking.{IsLeastToKeep}
 use Rattle.hb_boxlock.proofs.Keeping.{ThereExcludes, against_there, attributes_there, keeps_there, least_there, nobody_and_this, nobody_at_all, nobody_at_first, read_there}
-use Rattle.hb_boxlock.proofs.Places.{table_of}
 use Rattle.hb_boxlock.proofs.tables.first_against.Goals as goal
 
 pub loop-place-init : goal.loop-place-init

@@ -1,4 +1,4 @@
-use Rattle.std.proofs.Common.{refl, subst, sym, ◌∙◌, rules}
+use Rattle.std.proofs.Common.{subst, sym, ◌∙◌}
 use Rattle.hb_activity.specs.Walks.{goal_of}
 use Rattle.hb_frag.specs.declared.leaves.Leaf.TheVariants.{Records, Child, Sibling}
 use Rattle.hb_search.proofs.AskedSearches.{gathers_if, leaf_here, meets_records, passes_on, stays_so}
