@@ -1,5 +1,8 @@
 //! Boxes with a hole, each with any of its sides free: what lies outside the hole, and a leaf that is carved by it.
 
+ghost use Rattle.std.specs.Prelude.{◌≡◌, length, IsTrue};
+ghost use Rattle.hb_space.specs.Boxes.{Meets};
+
 use crate::indexes::same;
 use crate::missed::Missed;
 use crate::shapes::{bits_of, hole_in, holed, side_of, whole};
@@ -18,7 +21,10 @@ fn middle(k: u8) -> Result<Area, Missed> {
 }
 
 /// Whether the two have as many attributes and share a point.
-fn meet(area: &Area, hole: &Area) -> bool {
+fn meet(area: &Area, hole: &Area) -> bool
+    ensures attributes { IsTrue result → length hole.now.lo ≡ length area.now.lo }
+    ensures meets { IsTrue result → Meets area.now hole.now }
+{
     area.lo().attributes() == hole.lo().attributes() && area.meets(hole)
 }
 
