@@ -280,8 +280,8 @@ impl Deep {
         let first = self.first()?;
         let records = records(alloc, &first, 0, MOST - self.cuts.min(MOST))?;
         let mut made = Vec::new(alloc);
-        for rec in records.iter().skip(1).take(cuts as usize) {
-            let axis = self.row.axis(made.len() as u32);
+        for (rec, number) in records.iter().skip(1).zip(0..cuts) {
+            let axis = self.row.axis(number);
             let value = rec.key.values().get(usize::from(axis)).copied();
             made.push(LeafCut {
                 axis,
