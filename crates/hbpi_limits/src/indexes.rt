@@ -3,7 +3,7 @@
 ghost use Rattle.std.specs.Prelude.{◌≡◌, ◌<◌, ◌≤◌, ◌^◌, IsTrue};
 ghost use Rattle.hb_space.specs.Boxes.{Holds};
 ghost use Rattle.hb_frag.specs.Leaves.{weight_of, WellCut};
-ghost use Rattle.hb_frag.specs.Rules.{AreInOrder, IsNormal};
+ghost use Rattle.hb_frag.specs.Rules.{IsNormal};
 ghost use Rattle.hb_ops.specs.Operations.{OpHas};
 ghost use Rattle.hb_ops.specs.Sound.{FitsFile};
 ghost use Rattle.hb_terms.specs.Plans.{NamesChildAt};
@@ -73,19 +73,9 @@ pub(crate) fn changed(
     }
 }
 
-/// Whether the page keeps the rules that speak of it alone.
-fn keeps_rules(page: &LivePage, meta: &Meta) -> bool
-    ensures made { IsTrue result → FitsFile meta.now page.now }
-    ensures order { IsTrue result → AreInOrder page.now }
-    ensures cut { IsTrue result → WellCut page.now }
-    ensures normal { IsTrue result → IsNormal page.now.frag }
-{
-    local_rule(page, meta).is_none()
-}
-
 /// The part that leaves a page of a sound file.
 pub(crate) fn chosen(alloc: Global, page: &LivePage, meta: &Meta) -> Result<Extraction, Missed> {
-    if !keeps_rules(page, meta) {
+    if local_rule(page, meta).is_some() {
         return Err(Missed::AnotherPage);
     }
     if page.weighs_at_most(5) || !page.weighs_at_most(256) {
@@ -127,7 +117,7 @@ fn planned(
     child: &LivePage,
     point: &Point,
 ) -> Result<PostPlan, Missed> {
-    if !keeps_rules(parent, meta) || !reaches(parent, point) || !reaches(child, point) {
+    if local_rule(parent, meta).is_some() || !reaches(parent, point) || !reaches(child, point) {
         return Err(Missed::AnotherPage);
     }
     if !names_child(parent, point) || !parent.weighs_at_most(meta.icap) {
