@@ -1,3 +1,4 @@
+pub mod Facts
 pub mod PutTexts
 pub mod RunParts
 pub mod RunEnds

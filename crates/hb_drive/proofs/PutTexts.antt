@@ -1,18 +1,15 @@
 -- Texts that are put piece by piece: of the answers, and of the lines that have none.
-use Rattle.std.proofs.Common.{◌≡◌, ℕ, ◌+◌, ◌<◌, Bool, List, [], ◌∷◌, ◌++◌, length, take, get_or, Result, Ok, sym, ap, subst, ◌∙◌, append-nil}
+use Rattle.std.proofs.Common.{◌≡◌, ℕ, ◌+◌, ◌<◌, Bool, List, [], ◌∷◌, ◌++◌, length, take, get_or, Result, sym, ap, subst, ◌∙◌, append-nil}
 use Rattle.std.specs.List.{flat_map}
 use Rattle.std.proofs.lemmas.List.{take_more}
 use Rattle.std.proofs.lemmas.Grind.{flat_map-append}
 use Rattle.hb_outside.specs.Calls.{Puts, PutsOn, SinkModel}
-use Rattle.hb_outside.proofs.Facts.PutLaws.{Puts-none, has_put_more}
+use Rattle.hb_outside.proofs.Facts.PutLaws.{has_put_more}
 use Rattle.hb_set.specs.declared.commands.Reply.{Reply}
 use Rattle.hb_set.specs.declared.scripts.Answered.{Answered}
 use Rattle.hb_text.specs.Output.{answer_text, left_text, reply_text}
 pub use Rattle.hb_outside.proofs.Facts.PutLaws.{puts_none, puts_on, puts_off, puts_then}
-
--- nothing was put yet
-pub has_put_none : {E : Type 0} (a : SinkModel) (answered : List Answered) → answered ≡ [] → Puts {T = Unit {0}} {E = E} (flat_map answer_text answered) (Ok (tt {0})) a a
-has_put_none a answered none = rw none (Puts-none a)
+pub use Rattle.hb_drive.proofs.Facts.AnswerTexts.{has_put_none}
 
 -- the text of one answer
 pub puts_answer : {T E : Type 0} (so_far result : Result T E) (a b : SinkModel) (line at : ℕ) (reply : Reply) → PutsOn so_far (reply_text line reply) result a b

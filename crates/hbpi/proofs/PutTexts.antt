@@ -7,16 +7,13 @@ use Rattle.hb_outside.specs.Calls.{Puts, SinkModel}
 use Rattle.hb_outside.specs.declared.traits.Failed.{Failed}
 use Rattle.hb_outside.proofs.Facts.PutLaws.{Puts-none, has_put_more}
 pub use Rattle.hb_outside.proofs.Facts.PutLaws.{puts_on, puts_off}
+pub use Rattle.hb_drive.proofs.Facts.AnswerTexts.{has_put_none}
 use Rattle.hb_set.specs.declared.scripts.Answered.{Answered}
 use Rattle.hb_set.specs.declared.scripts.Line.{Line}
 use Rattle.hb_text.specs.Output.{answer_text, order_text, output_text}
 use Rattle.hbpi.specs.DryParts.{EndsBySink, EndsRun, put_status}
 use Rattle.hbpi.specs.Outcome.{IsDryRun, GetsLine}
 use Rattle.hbpi.specs.declared.statuses.Status.{Status}
-
--- nothing was put yet
-pub has_put_none : {E : Type 0} (a : SinkModel) (answered : List Answered) → answered ≡ [] → Puts {T = Unit {0}} {E = E} (flat_map answer_text answered) (Ok (tt {0})) a a
-has_put_none a answered none = rw none (Puts-none a)
 
 -- a status without a fault line puts none
 pub gets_nothing : (a : SinkModel) → GetsLine a a []

@@ -13,12 +13,19 @@ mod calls;
 mod fields;
 mod free_pages;
 mod heights;
+mod holes;
+mod indexes;
+mod leaves;
 mod logs;
 mod missed;
 mod pages;
+mod paths;
+mod payloads;
 mod records;
 mod searches;
+mod shapes;
 mod sizes;
+mod spaces;
 mod trees;
 
 use crate::missed::Missed;
@@ -44,7 +51,53 @@ fn main(rt: HostRuntime) -> io::Result<()> {
     tell(
         &rt,
         "a page of 313 cuts, each on a side of the one before",
-        pages::many_cuts(alloc),
+        paths::all_lengths(alloc),
+    )?;
+    tell(
+        &rt,
+        "pages of 6 to 256 children, split, posted in and joined",
+        indexes::all_counts(alloc),
+    )?;
+    tell(&rt, "files of 2 to 12 levels", indexes::all_levels(alloc))?;
+    tell(
+        &rt,
+        "boxes with a hole, carved by 0 to 8 cuts",
+        holes::all_holes(alloc),
+    )?;
+    tell(
+        &rt,
+        "leaves of 0 to 48 records that become one",
+        leaves::all_joined(alloc),
+    )?;
+    tell(
+        &rt,
+        "records that come and go behind 0 to 47 cuts",
+        leaves::all_places(alloc),
+    )?;
+    tell(
+        &rt,
+        "parts that leave by 0 to 47 cuts",
+        leaves::all_parts(alloc),
+    )?;
+    tell(
+        &rt,
+        "parts of stars, cut on each attribute",
+        leaves::all_stars(alloc),
+    )?;
+    tell(
+        &rt,
+        "payloads of 1 to 100 groups of each length",
+        payloads::all_groups(alloc),
+    )?;
+    tell(
+        &rt,
+        "log areas of 67108864 bytes, full of frames",
+        payloads::all_frames(alloc),
+    )?;
+    tell(
+        &rt,
+        "files of three levels that are posted, and sets, of one to four attributes",
+        spaces::all_spaces(alloc),
     )?;
     tell(
         &rt,

@@ -38,6 +38,15 @@ pub(crate) enum Missed {
     NotHome {
         page: u32,
     },
+    /// A call gave up, or found what it was given unfit.
+    Refused,
+    /// A call answered otherwise than it should, for a page of so many leaves or steps.
+    Otherwise {
+        call: &'static str,
+        attributes: u8,
+        level: u8,
+        count: u32,
+    },
 }
 
 impl From<AllocError> for Missed {

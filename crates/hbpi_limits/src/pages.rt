@@ -1,10 +1,11 @@
 //! Pages that have all that a page may have, written by hand.
 
 use crate::missed::Missed;
-use hb_frag::{Frag, Leaf, LivePage, Node, Page};
+use crate::shapes::Row;
+use hb_frag::{Leaf, LivePage, Node, Page, Side};
 use hb_page_codec::{decode, encode};
 use hb_space::form::PAGE;
-use hb_space::{Area, Point, Record};
+use hb_space::{Area, Record};
 use std::alloc::{AllocError, Global};
 
 /// How many children a page above the records may have.
@@ -12,10 +13,6 @@ const CHILDREN: u32 = 256;
 
 /// How many records a page of records may have.
 const RECORDS: u64 = 48;
-
-/// How many cuts have room in a page of one attribute, 20 bytes behind its beginning: a cut takes 10, and a leaf without
-/// records 3, and there is one leaf more than cuts.
-const CUTS: usize = (PAGE - 20 - 3) / (10 + 3);
 
 /// The first bytes of a page of the whole space.
 fn head_of(alloc: Global, level: u8, k: u8) -> Result<Vec<u8>, AllocError> {
@@ -35,7 +32,7 @@ fn put_cut(bytes: &mut Vec<u8>, axis: u8, value: u64) -> Result<(), AllocError> 
 }
 
 /// Reads the page that these fields begin and zeros end, and writes it again.
-fn again(alloc: Global, fields: Vec<u8>) -> Result<LivePage, Missed> {
+pub(crate) fn again(alloc: Global, fields: Vec<u8>) -> Result<LivePage, Missed> {
     let mut bytes = fields;
     bytes.resize(PAGE, 0)?;
     let Ok(page) = decode(alloc, &bytes) else {
@@ -127,52 +124,62 @@ pub(crate) fn many_records(alloc: Global) -> Result<(), Missed> {
     }
 }
 
+/// Puts a leaf that names a page, or has no record.
+fn put_leaf(bytes: &mut Vec<u8>, leaf: &Leaf) -> Result<(), AllocError> {
+    match leaf {
+        Leaf::Child(page) => {
+            bytes.push(2)?;
+            bytes.extend_from_slice(&page.to_be_bytes())
+        }
+        Leaf::Sibling(page) => {
+            bytes.push(3)?;
+            bytes.extend_from_slice(&page.to_be_bytes())
+        }
+        Leaf::Records(_) => bytes.extend_from_slice(&[1, 0, 0]),
+    }
+}
+
 /// A page where each cut is the left side of the one before it.
-fn cuts_on_the_left(alloc: Global) -> Result<Vec<u8>, AllocError> {
-    let mut bytes = head_of(alloc, 0, 1)?;
-    for cut in 0..CUTS {
-        put_cut(&mut bytes, 0, (CUTS - cut) as u64)?;
+fn cuts_on_the_left(
+    alloc: Global,
+    row: Row,
+    bytes: &mut Vec<u8>,
+    cuts: u32,
+) -> Result<(), AllocError> {
+    for cut in 0..cuts {
+        put_cut(bytes, row.axis(cut), row.value(cut))?;
     }
-    for _ in 0..CUTS + 1 {
-        bytes.extend_from_slice(&[1, 0, 0])?;
+    for cut in (0..=cuts).rev() {
+        put_leaf(bytes, &row.leaf(alloc, cut))?;
     }
-    Ok(bytes)
+    Ok(())
 }
 
 /// A page where each cut is the right side of the one before it.
-fn cuts_on_the_right(alloc: Global) -> Result<Vec<u8>, AllocError> {
-    let mut bytes = head_of(alloc, 0, 1)?;
-    for cut in 0..CUTS {
-        put_cut(&mut bytes, 0, cut as u64 + 1)?;
-        bytes.extend_from_slice(&[1, 0, 0])?;
+fn cuts_on_the_right(
+    alloc: Global,
+    row: Row,
+    bytes: &mut Vec<u8>,
+    cuts: u32,
+) -> Result<(), AllocError> {
+    for cut in 0..cuts {
+        put_cut(bytes, row.axis(cut), row.value(cut))?;
+        put_leaf(bytes, &row.leaf(alloc, cut))?;
     }
-    bytes.extend_from_slice(&[1, 0, 0])?;
+    put_leaf(bytes, &row.leaf(alloc, cuts))
+}
+
+/// The fields of a page of the whole space that is cut so often.
+pub(crate) fn row_bytes(
+    alloc: Global,
+    row: Row,
+    level: u8,
+    cuts: u32,
+) -> Result<Vec<u8>, AllocError> {
+    let mut bytes = head_of(alloc, level, row.k)?;
+    match row.side {
+        Side::Left => cuts_on_the_left(alloc, row, &mut bytes, cuts)?,
+        Side::Right => cuts_on_the_right(alloc, row, &mut bytes, cuts)?,
+    }
     Ok(bytes)
-}
-
-/// How many cuts are passed on the way to a value of the whole space, in a page with this inside.
-fn cuts_on_the_way(alloc: Global, frag: Frag, value: u64) -> Result<usize, Missed> {
-    let point = Point::new(&[value]);
-    let page = LivePage {
-        level: 0,
-        area: Area::whole(point.attributes()),
-        frag,
-    };
-    if !page.is_well_cut() {
-        return Err(Missed::AnotherPage);
-    }
-    Ok(page.path_to(alloc, &point)?.as_slice().len())
-}
-
-/// The deepest pages that there are.
-pub(crate) fn many_cuts(alloc: Global) -> Result<(), Missed> {
-    let left = again(alloc, cuts_on_the_left(alloc)?)?;
-    let right = again(alloc, cuts_on_the_right(alloc)?)?;
-    let left = cuts_on_the_way(alloc, left.frag, 0)?;
-    let right = cuts_on_the_way(alloc, right.frag, u64::MAX)?;
-    if left == CUTS && right == CUTS {
-        Ok(())
-    } else {
-        Err(Missed::AnotherPage)
-    }
 }

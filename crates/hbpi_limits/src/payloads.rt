@@ -1,0 +1,293 @@
+//! Groups of the log as bytes, by the hundred and of all lengths; and log areas that are full of frames.
+
+ghost use Rattle.std.specs.Prelude.{◌≤◌, All};
+ghost use Rattle.hb_log_codec.specs.Groups.{FitsGroup};
+ghost use Rattle.hb_log_codec.specs.Reading.{logged};
+
+use crate::missed::Missed;
+use crate::pages::row_bytes;
+use crate::shapes::{Beside, Row};
+use hb_disk::{Device, MemDisk};
+use hb_frag::Side;
+use hb_log_codec::{Group, decode_all, encode};
+use hb_space::NoMemory;
+use hb_space::form::{KMAX, PAGE};
+use hb_wal::{Payloads, read_area};
+use std::alloc::{AllocError, Global};
+
+/// The greatest length of a log area.
+const AREA: u32 = 67_108_864;
+
+/// How long the path, the cuts and the body of a group are.
+#[derive(Clone, Copy)]
+struct Lengths {
+    path: u8,
+    cuts: u8,
+    body: u8,
+}
+
+/// Puts a path behind its length: left and right by turns.
+fn put_path(bytes: &mut Vec<u8>, steps: u8) -> Result<(), AllocError> {
+    bytes.push(steps)?;
+    for step in 0..steps {
+        bytes.push(step % 2)?;
+    }
+    Ok(())
+}
+
+/// Puts cuts behind their number.
+fn put_cuts(bytes: &mut Vec<u8>, cuts: u8) -> Result<(), AllocError> {
+    bytes.push(cuts)?;
+    for cut in 0..cuts {
+        bytes.push(cut)?;
+        bytes.extend_from_slice(&u64::from(cut).to_be_bytes())?;
+        bytes.push(cut / 2 % 2)?;
+    }
+    Ok(())
+}
+
+/// Puts a point, each of whose values is this one.
+fn put_point(bytes: &mut Vec<u8>, k: u8, value: u64) -> Result<(), AllocError> {
+    for _ in 0..k {
+        bytes.extend_from_slice(&value.to_be_bytes())?;
+    }
+    Ok(())
+}
+
+/// Puts numbers of pages.
+fn put_pages(bytes: &mut Vec<u8>, pages: &[u32]) -> Result<(), AllocError> {
+    for page in pages {
+        bytes.extend_from_slice(&page.to_be_bytes())?;
+    }
+    Ok(())
+}
+
+/// Puts an operation of one of five kinds: a put, a delete, a split, a posting, a growth.
+fn put_op(bytes: &mut Vec<u8>, k: u8, kind: u32, lengths: Lengths) -> Result<(), AllocError> {
+    match kind % 5 {
+        0 => {
+            bytes.push(1)?;
+            put_pages(bytes, &[kind])?;
+            put_point(bytes, k, u64::MAX)?;
+            bytes.push(lengths.body)?;
+            for byte in 0..lengths.body {
+                bytes.push(byte)?;
+            }
+            Ok(())
+        }
+        1 => {
+            bytes.push(2)?;
+            put_pages(bytes, &[kind])?;
+            put_point(bytes, k, u64::from(kind))
+        }
+        2 => {
+            bytes.push(3)?;
+            put_pages(bytes, &[kind, u32::MAX, 7])?;
+            put_path(bytes, lengths.path)?;
+            put_cuts(bytes, lengths.cuts)
+        }
+        3 => {
+            bytes.push(4)?;
+            put_pages(bytes, &[kind])?;
+            put_path(bytes, lengths.path)?;
+            put_pages(bytes, &[9])?;
+            put_point(bytes, k, 5)?;
+            put_point(bytes, k, u64::from(kind).saturating_add(5))
+        }
+        _ => {
+            bytes.push(6)?;
+            put_pages(bytes, &[kind, 0])
+        }
+    }
+}
+
+/// Puts page images behind their number: full pages, of 1 to 3 numbers.
+fn put_images(alloc: Global, bytes: &mut Vec<u8>, k: u8, images: u8) -> Result<(), AllocError> {
+    bytes.push(images)?;
+    for image in 0..images {
+        put_pages(bytes, &[u32::from(image).saturating_add(1)])?;
+        let (side, beside) = (Side::Right, Beside::Child);
+        let mut page = row_bytes(alloc, Row { k, side, beside }, 1, 255)?;
+        page.resize(PAGE, 0)?;
+        bytes.extend_from_slice(&page)?;
+    }
+    Ok(())
+}
+
+/// The groups once more as bytes.
+fn written(alloc: Global, groups: &[Group], k: u8) -> Result<Vec<u8>, NoMemory>
+    requires { All (λ g. FitsGroup k (logged g)) groups.now }
+{
+    let mut bytes = Vec::new(alloc);
+    for group in groups {
+        encode(group, k, &mut bytes)?;
+    }
+    Ok(bytes)
+}
+
+/// How many groups the bytes spell, and these once more as bytes.
+fn read(alloc: Global, bytes: &[u8], k: u8) -> Result<(usize, Vec<u8>), Missed>
+    requires some { 1 ≤ k }
+    requires few { k ≤ KMAX }
+{
+    match decode_all(alloc, bytes, k) {
+        Ok(groups) => {
+            let again = written(alloc, &groups, k)?;
+            Ok((groups.len(), again))
+        }
+        Err(_) => Err(Missed::NotRead),
+    }
+}
+
+/// Reads a payload of so many groups, and writes it again.
+fn again(alloc: Global, bytes: &[u8], k: u8, count: u32) -> Result<(), Missed> {
+    if k < 1 || KMAX < usize::from(k) {
+        return Err(Missed::AnotherPage);
+    }
+    let (groups, written) = read(alloc, bytes, k)?;
+    if groups as u64 == u64::from(count) && written.as_slice() == bytes {
+        return Ok(());
+    }
+    Err(Missed::WrittenOtherwise)
+}
+
+/// Payloads of 1 to 100 groups of all kinds.
+fn many_groups(alloc: Global, k: u8) -> Result<(), Missed> {
+    let mut bytes = Vec::new(alloc);
+    for number in 0..100u32 {
+        let lengths = Lengths {
+            path: (number * 37 % 256) as u8,
+            cuts: (number * 3 % 256) as u8,
+            body: (number % 33) as u8,
+        };
+        put_images(alloc, &mut bytes, k, 0)?;
+        put_op(&mut bytes, k, number, lengths)?;
+        again(alloc, &bytes, k, number + 1)?;
+    }
+    Ok(())
+}
+
+/// Groups with each length of a path and of cuts, and with 0 to 3 page images.
+fn long_groups(alloc: Global, k: u8) -> Result<(), Missed> {
+    for path in 0..=255u8 {
+        let lengths = Lengths {
+            path,
+            cuts: 255 - path,
+            body: path % 33,
+        };
+        for kind in 0..5 {
+            let mut bytes = Vec::new(alloc);
+            put_images(alloc, &mut bytes, k, 0)?;
+            put_op(&mut bytes, k, kind, lengths)?;
+            again(alloc, &bytes, k, 1)?;
+        }
+    }
+    Ok(())
+}
+
+/// Groups with 0 to 3 page images, and a hundred of the longest that there is, in one payload.
+fn longest_groups(alloc: Global, k: u8) -> Result<(), Missed> {
+    let lengths = Lengths {
+        path: 255,
+        cuts: 255,
+        body: 32,
+    };
+    for images in 0..=3 {
+        for kind in 0..5 {
+            let mut bytes = Vec::new(alloc);
+            put_images(alloc, &mut bytes, k, images)?;
+            put_op(&mut bytes, k, kind, lengths)?;
+            again(alloc, &bytes, k, 1)?;
+        }
+    }
+    let mut bytes = Vec::new(alloc);
+    for _ in 0..100 {
+        put_images(alloc, &mut bytes, k, 3)?;
+        put_op(&mut bytes, k, 2, lengths)?;
+    }
+    again(alloc, &bytes, k, 100)
+}
+
+/// Payloads of up to 100 groups, of one to four attributes.
+pub(crate) fn all_groups(alloc: Global) -> Result<(), Missed> {
+    for k in 1..=4 {
+        many_groups(alloc, k)?;
+        long_groups(alloc, k)?;
+        longest_groups(alloc, k)?;
+    }
+    Ok(())
+}
+
+/// How long the payloads of a log area are.
+#[derive(Clone, Copy)]
+enum Filling {
+    /// Each has so many bytes.
+    Of(u32),
+    /// Each has a byte more than the one before it, beginning with 1.
+    Rising,
+}
+
+impl Filling {
+    fn length(self, number: u32) -> u32 {
+        match self {
+            Filling::Of(length) => length,
+            Filling::Rising => number.saturating_add(1),
+        }
+    }
+}
+
+/// Fills an area of this length with as many frames as have room in it, and says how many these are.
+fn filled(alloc: Global, len: u32, lengths: Filling) -> Result<(Vec<u8>, u32), AllocError> {
+    let mut bytes = Vec::with_capacity(alloc, len as usize)?;
+    let mut count = 0;
+    for number in 0..len {
+        let length = lengths.length(number);
+        let end = (bytes.len() as u64)
+            .saturating_add(5)
+            .saturating_add(u64::from(length));
+        if end > u64::from(len) {
+            break;
+        }
+        bytes.push(0xa5)?;
+        bytes.extend_from_slice(&length.to_be_bytes())?;
+        bytes.resize(bytes.len().saturating_add(length as usize), 0xa5)?;
+        count = number.saturating_add(1);
+    }
+    bytes.resize(len as usize, 0)?;
+    Ok((bytes, count))
+}
+
+/// The payloads of the frames in the whole of a disk.
+fn whole_area(alloc: Global, disk: &mut MemDisk) -> Result<Payloads, Missed> {
+    let Ok(len) = u32::try_from(disk.size()) else {
+        return Err(Missed::AnotherPage);
+    };
+    match read_area(alloc, disk, 0, len) {
+        Ok(payloads) => Ok(payloads),
+        Err(_) => Err(Missed::NotRead),
+    }
+}
+
+/// Reads an area that is full of such frames.
+fn is_read(alloc: Global, len: u32, lengths: Filling) -> Result<(), Missed> {
+    let (bytes, count) = filled(alloc, len, lengths)?;
+    let mut disk = MemDisk::new(alloc, bytes);
+    let payloads = whole_area(alloc, &mut disk)?;
+    if payloads.len() as u64 == u64::from(count) {
+        return Ok(());
+    }
+    Err(Missed::Frames {
+        count: payloads.len(),
+    })
+}
+
+/// The longest area, full of the shortest changes, of payloads of rising length, and of the longest group's.
+pub(crate) fn all_frames(alloc: Global) -> Result<(), Missed> {
+    is_read(alloc, AREA, Filling::Of(14))?;
+    is_read(alloc, AREA, Filling::Rising)?;
+    is_read(alloc, AREA, Filling::Of(16_384))?;
+    for length in 1..=64 {
+        is_read(alloc, 65_536, Filling::Of(length))?;
+    }
+    Ok(())
+}
