@@ -64,12 +64,9 @@ const INSERT: &str = "1 insert 5 7 =again
 step 1x5
 ";
 
-/// A good text whose third line is a search, behind a line that only looks like one.
-const SEARCHES: &str = "1 insert 8 8 =search
-1 insert 9 9 =
-1 search 0 5 0 9
-1 search 0 5 0 9
-step 1x12
+/// A search over both pages.
+const SEARCH: &str = "1 search 0 5 0 9
+step 1x20
 ";
 
 /// Log area 1 of a new file isn't in use, so it may have any bytes: the same ones here and there. An opening zeroes it.
@@ -116,7 +113,7 @@ fn refuse(rt: &HostRuntime, pair: Pair) -> io::Result<Pair> {
     drop(held);
     println!(rt; "let go")?;
     let pair = pair.call(rt, "drive", LOOKUP)?;
-    pair.call(rt, "drive", SEARCHES)
+    pair.call(rt, "drive", SEARCH)
 }
 
 /// `drive` on a new file that is held since it was made, and then. `create` makes nine calls of a disk.
