@@ -1,5 +1,5 @@
 -- How an idle actor of a core takes a line or a job, and a core that has taken no step.
-use Rattle.std.specs.Prelude.{◌≡◌, ◌≢◌, ◌⊎◌, ℕ, Result, IfOk, IfErr, ◌-◌, ◌+◌, All, List, [], ◌∷◌, ◌++◌, length, take, drop, replicate, Some, None, is_some, ◌<◌, IfSome, IsSomeAnd}
+use Rattle.std.specs.Prelude.{◌≡◌, ◌≢◌, ◌⊎◌, ℕ, Result, IfOk, IfErr, ◌-◌, ◌+◌, All, List, [], ◌∷◌, ◌++◌, length, take, drop, replicate, Some, None, is_some, if◌then◌else◌, ◌<◌, IfSome, IsSomeAnd}
 use Rattle.std.specs.List.{slice_get, slice_set}
 use Rattle.std.specs.FinMap as map
 use Rattle.hb_activity.specs.declared.activities.Activity.{Activity}
