@@ -20,11 +20,12 @@ const FIRST: &str = "1 insert 5 7 =a
 step 1x4
 ";
 
-/// Three lines, with as many steps as they take.
+/// Three lines, with as many steps as they take. Where no page can be read, session 1 has the point of its second line locked
+/// while session 2 would insert there, which gets its turn behind it.
 const SECOND: &str = "1 lookup 5 7
 2 insert 6 9 =b
 1 lookup 6 9
-step 1x3 2x4 1x3
+step 1x3 2x4 1x3 2x4
 ";
 
 /// A text that is read behind the opening. Then another handle cuts the file to so many bytes.
