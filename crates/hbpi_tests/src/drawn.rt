@@ -40,7 +40,8 @@ impl Draw {
         let verb = match drawn(&mut self.seed) {
             0 | 1 | 2 | 3 | 4 => Verb::Insert,
             5 => Verb::Delete,
-            _ => Verb::Lookup,
+            6 => Verb::Lookup,
+            _ => Verb::Search,
         };
         commands.add(session, verb, place as usize)
     }

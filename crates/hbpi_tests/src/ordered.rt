@@ -15,6 +15,8 @@ pub(crate) enum Verb {
     Insert,
     Delete,
     Lookup,
+    /// Of the box whose lower corner the point is: eight values long, of two attributes three.
+    Search,
 }
 
 /// A command of a session on the point of a place.
@@ -30,6 +32,55 @@ struct Command {
 enum Reply {
     Word(&'static str),
     Found(usize),
+    Within(Digest),
+}
+
+/// Records in a sequence: how many they are, and a number that hangs on each place and body and on the sequence.
+#[derive(Clone, Copy, PartialEq, Eq)]
+struct Digest {
+    count: usize,
+    sum: usize,
+}
+
+/// No record.
+const NOTHING: Digest = Digest { count: 0, sum: 0 };
+
+impl Digest {
+    /// With a record behind.
+    fn with(self, place: usize, body: usize) -> Digest {
+        Digest {
+            count: self.count.wrapping_add(1),
+            sum: self
+                .sum
+                .wrapping_mul(1_000_003)
+                .wrapping_add(place.wrapping_mul(4099).wrapping_add(body)),
+        }
+    }
+}
+
+/// Whether a value is one of so many from the first one on.
+fn is_from(first: usize, count: usize, value: usize) -> bool {
+    value >= first && value.wrapping_sub(first) < count
+}
+
+/// Whether the place lies in the box of a search at a place.
+fn is_within(k: u8, corner: usize, place: usize) -> bool {
+    if k == 2 {
+        is_from(corner / 8, 3, place / 8) && is_from(corner % 8, 3, place % 8)
+    } else {
+        is_from(corner, 8, place)
+    }
+}
+
+/// The records in the box of a search.
+fn found_in(plain: &Plain, k: u8, corner: usize) -> Digest {
+    let mut digest = NOTHING;
+    for (place, &body) in plain.iter().enumerate() {
+        if body != 0 && is_within(k, corner, place) {
+            digest = digest.with(place, body);
+        }
+    }
+    digest
 }
 
 /// Whether these words are the reply.
@@ -40,11 +91,18 @@ fn says(words: &str, reply: Reply) -> bool {
             Some(rest) => rest.parse::<usize>() == Ok(body),
             None => false,
         },
+        Reply::Within(digest) => match words.strip_prefix("box ") {
+            Some(rest) => rest.parse::<usize>() == Ok(digest.count),
+            None => false,
+        },
     }
 }
 
-/// What a command replies, and what the points have then.
-fn effect(plain: &mut Plain, command: &Command, body: usize) -> Option<Reply> {
+/// What a command replies over so many attributes, and what the points have then.
+fn effect(plain: &mut Plain, k: u8, command: &Command, body: usize) -> Option<Reply> {
+    if let Verb::Search = command.verb {
+        return Some(Reply::Within(found_in(plain, k, command.place)));
+    }
     let held = plain.get_mut(command.place)?;
     let old = *held;
     let (word, new) = match command.verb {
@@ -53,7 +111,7 @@ fn effect(plain: &mut Plain, command: &Command, body: usize) -> Option<Reply> {
         Verb::Delete if old == 0 => ("absent", 0),
         Verb::Delete => ("ok", 0),
         Verb::Lookup if old == 0 => ("none", 0),
-        Verb::Lookup => return Some(Reply::Found(old)),
+        Verb::Lookup | Verb::Search => return Some(Reply::Found(old)),
     };
     *held = new;
     Some(Reply::Word(word))
@@ -91,12 +149,21 @@ impl Commands {
             Verb::Insert => "insert",
             Verb::Delete => "delete",
             Verb::Lookup => "lookup",
+            Verb::Search => "search",
         };
         write!(self.text, "{session} {word}").ok()?;
-        if self.k == 2 {
-            write!(self.text, " {} {}", place / 8, place % 8).ok()?;
-        } else {
-            write!(self.text, " {place}").ok()?;
+        let (row, column) = (place / 8, place % 8);
+        match (verb, self.k) {
+            (Verb::Search, 2) => {
+                let (below, beside) = (row.wrapping_add(2), column.wrapping_add(2));
+                write!(self.text, " {row} {below} {column} {beside}").ok()?;
+            }
+            (Verb::Search, _) => {
+                let last = place.wrapping_add(7);
+                write!(self.text, " {place} {last}").ok()?;
+            }
+            (_, 2) => write!(self.text, " {row} {column}").ok()?,
+            _ => write!(self.text, " {place}").ok()?,
         }
         if let Verb::Insert = verb {
             let body = self.body(self.list.len());
@@ -116,7 +183,7 @@ impl Commands {
     pub(crate) fn behind(&self, count: usize) -> Option<Plain> {
         let mut plain = EMPTY;
         for (place, command) in self.list.iter().enumerate().take(count) {
-            effect(&mut plain, command, self.body(place))?;
+            effect(&mut plain, self.k, command, self.body(place))?;
         }
         Some(plain)
     }
@@ -138,6 +205,9 @@ pub(crate) struct Told {
     count: usize,
     /// The last line of each session in the order.
     last: [usize; 17],
+    /// The records that the search has to print whose reply was printed last, and those that it printed so far.
+    wanted: Digest,
+    found: Digest,
 }
 
 impl Told {
@@ -150,6 +220,8 @@ impl Told {
             printed: [false; 64],
             count: 0,
             last: [0; 17],
+            wanted: NOTHING,
+            found: NOTHING,
         }
     }
 
@@ -162,7 +234,7 @@ impl Told {
             return None;
         }
         *last = line;
-        let reply = effect(&mut self.whole, command, commands.body(place))?;
+        let reply = effect(&mut self.whole, commands.k, command, commands.body(place))?;
         *self.replies.get_mut(place)? = Some(reply);
         Some(())
     }
@@ -183,9 +255,32 @@ impl Told {
         Some(())
     }
 
+    /// Takes a record of the search whose reply was printed last.
+    fn record(&mut self, k: u8, words: &str) -> Option<()> {
+        let (point, body) = words.split_once(" =")?;
+        let place = if k == 2 {
+            let (row, column) = point.split_once(' ')?;
+            let column = column.parse::<usize>().ok()?;
+            row.parse::<usize>()
+                .ok()?
+                .checked_mul(8)?
+                .checked_add(column)?
+        } else {
+            point.parse::<usize>().ok()?
+        };
+        self.found = self.found.with(place, body.parse::<usize>().ok()?);
+        Some(())
+    }
+
     /// Takes what was printed of a line: its reply, or that it has none. A fault is none of the order.
-    fn print(&mut self, line: &str) -> Option<()> {
+    fn print(&mut self, k: u8, line: &str) -> Option<()> {
         let (number, words) = line.split_once(' ')?;
+        if number == "+" {
+            return self.record(k, words);
+        }
+        if self.found != self.wanted {
+            return None;
+        }
         let place = number.parse::<usize>().ok()?.checked_sub(1)?;
         let printed = self.printed.get_mut(place)?;
         if *printed {
@@ -197,7 +292,13 @@ impl Told {
             self.done = false;
             return Some(());
         }
-        match *self.replies.get(place)? {
+        self.wanted = NOTHING;
+        self.found = NOTHING;
+        let reply = *self.replies.get(place)?;
+        if let Some(Reply::Within(digest)) = reply {
+            self.wanted = digest;
+        }
+        match reply {
             Some(reply) if says(words, reply) => Some(()),
             None if words == "read fault" => Some(()),
             _ => None,
@@ -205,9 +306,12 @@ impl Told {
     }
 
     /// Takes all that was printed of lines.
-    fn prints(&mut self, lines: &str) -> Option<()> {
+    fn prints(&mut self, k: u8, lines: &str) -> Option<()> {
         for line in lines.lines() {
-            self.print(line)?;
+            self.print(k, line)?;
+        }
+        if self.found != self.wanted {
+            return None;
         }
         Some(())
     }
@@ -220,7 +324,7 @@ pub(crate) fn told_by(commands: &Commands, before: Plain, said: &str) -> Option<
     let (lines, rest) = body.split_once("order")?;
     let mut told = Told::new(before);
     told.order(commands, rest.lines().next()?)?;
-    told.prints(lines)?;
+    told.prints(commands.k, lines)?;
     if told.count != commands.list.len() {
         return None;
     }

@@ -7,11 +7,15 @@ use std::alloc::Global;
 const SIX: &str =
     "1 insert 10 =\n1 insert 20 =\n1 insert 30 =\n1 insert 40 =\n1 insert 50 =\n1 insert 60 =\nstep 1x24\n";
 
+/// One more: the page is split at 40, and what lies below is on page 2.
+const SEVEN: &str =
+    "1 insert 10 =\n1 insert 20 =\n1 insert 30 =\n1 insert 40 =\n1 insert 50 =\n1 insert 60 =\n1 insert 70 =\nstep 1x40\n";
+
 /// A change that waits, and a lookup that has seen it.
 const WAITING: &str = "1 insert 10 =a\n2 lookup 10\nstep 1x2 2x2\n";
 
 /// Texts that were driven before, and then a text and what `drive` says to it.
-const ROWS: [(&[&str], &str, &str); 8] = [
+const ROWS: [(&[&str], &str, &str); 13] = [
     // Session 1 has the point locked while it splits the page, and session 2 waits for that. The split and the record wait in a group
     // each, so that session 2 forces twice.
     (
@@ -46,6 +50,36 @@ const ROWS: [(&[&str], &str, &str); 8] = [
         &[],
         "1 lookup 5\n2 lookup 5\nstep 1 2 2 1 2 1\n",
         "0 2 none\n1 none\norder 2 1\n",
+    ),
+    // The search stands between the two pages. Line 2 is answered outside its box, and line 3 waits until the search has taken effect.
+    (
+        &[SEVEN],
+        "1 search 0 100\n2 insert 200 =\n2 insert 15 =\nstep 1x3 2x5 1x2 2x5\n",
+        "0 2 ok\n1 box 7\n+ 10 =\n+ 20 =\n+ 30 =\n+ 40 =\n+ 50 =\n+ 60 =\n+ 70 =\n3 ok\norder 2 1 3\n",
+    ),
+    // Page 1 is split while the search stands between the pages: it finds the rest of its box on both parts.
+    (
+        &[SEVEN],
+        "2 insert 200 =\n1 search 0 60\n2 insert 201 =\nstep 2x4 1x3 2x7 1x10\n",
+        "0 1 ok\n3 ok\n2 box 6\n+ 10 =\n+ 20 =\n+ 30 =\n+ 40 =\n+ 50 =\n+ 60 =\norder 1 3 2\n",
+    ),
+    // Searches that meet share their boxes, and a change waits for both.
+    (
+        &["1 insert 1 =a\n1 insert 2 =b\nstep 1x8\n"],
+        "1 search 0 9\n2 search 2 5\n3 insert 4 =\nstep 1 2 3 1x2 3 2x2 3x4\n",
+        "0 1 box 2\n+ 1 =a\n+ 2 =b\n2 box 1\n+ 2 =b\n3 ok\norder 1 2 3\n",
+    ),
+    // A box of one point, and all of the space.
+    (
+        &[],
+        "1 insert 1 =x\n1 search 0 0\n1 search 1 9\n1 search 1 1\n1 search 0 18446744073709551615\nstep 1x16\n",
+        "0 1 ok\n2 box 0\n3 box 1\n+ 1 =x\n4 box 1\n+ 1 =x\n5 box 1\n+ 1 =x\norder 1 2 3 4 5\n",
+    ),
+    // A search that isn't taken to its end: the change behind it never comes.
+    (
+        &[SEVEN],
+        "1 search 0 100\n2 delete 70\nstep 1x3 2x9\n",
+        "0 1 unfinished\n2 unfinished\norder\n",
     ),
     (&[], WAITING, "0 1 unfinished\n2 unfinished\norder | 1 2\n"),
     // What waited is no longer there in the next run.
