@@ -255,6 +255,12 @@ impl Told {
         Some(())
     }
 
+    /// Whether the search whose reply was printed last has printed what it has to.
+    fn has_all_found(&self) -> bool {
+        let (found, wanted) = (self.found, self.wanted);
+        found == wanted
+    }
+
     /// Takes a record of the search whose reply was printed last.
     fn record(&mut self, k: u8, words: &str) -> Option<()> {
         let (point, body) = words.split_once(" =")?;
@@ -278,7 +284,7 @@ impl Told {
         if number == "+" {
             return self.record(k, words);
         }
-        if self.found != self.wanted {
+        if !self.has_all_found() {
             return None;
         }
         let place = number.parse::<usize>().ok()?.checked_sub(1)?;
@@ -310,7 +316,7 @@ impl Told {
         for line in lines.lines() {
             self.print(k, line)?;
         }
-        if self.found != self.wanted {
+        if !self.has_all_found() {
             return None;
         }
         Some(())
