@@ -3,7 +3,7 @@ use Rattle.std.proofs.Common.{◌≡◌, inl, inr, ℕ, ◌<◌, ◌≤◌, List
 use Rattle.std.specs.Option.{option_and_then, option_map}
 use Rattle.std.proofs.lemmas.Bool.{cases_lt}
 use Rattle.hb_disk.specs.Model.{DiskModel}
-use Rattle.hb_space.specs.Boxes.{Area, Holds}
+use Rattle.hb_space.specs.Boxes.{Area}
 use Rattle.hb_space.specs.Points.{IsPoint}
 use Rattle.hb_space.specs.declared.records.Record.{Record}
 use Rattle.hb_frag.specs.declared.pages.LivePage.{LivePage}
@@ -30,11 +30,11 @@ use Rattle.hb_activity.specs.Wanting.{child_of, in_mode, named_child, onward_at,
 use Rattle.hb_point.specs.Asks.{MayAsk}
 use Rattle.hb_point.specs.SessionRows.{WantsBoxes}
 use Rattle.hb_poster.specs.Asks.{MakesPage, MayBeAsked}
-use Rattle.hb_search.specs.Searching.{SearchesInside, StaysGathering}
+use Rattle.hb_search.specs.Searching.{MaySearch}
 use Rattle.hb_store.specs.States.{StoreState}
 use Rattle.hb_lemmas.proofs.Options.{at_value, has_value, some_value}
 use Rattle.hb_core.proofs.Machines.BoxesAhead.{corner_ahead, has_last}
-use Rattle.hb_core.proofs.Walks.MayBeAsked.{children_may_be_asked, pages_at_hand_fit, points_may_be_asked, poster_walks_may_be_asked, puts_may_be_asked, splits_may_be_asked, walks_stay_inside}
+use Rattle.hb_core.proofs.Walks.MayBeAsked.{children_may_be_asked, pages_at_hand_fit, points_may_be_asked, poster_walks_may_be_asked, puts_may_be_asked, searches_may_be_asked, splits_may_be_asked}
 use Rattle.hb_core.specs.AllowedLaws.{AnyPage}
 use Rattle.hb_core.specs.Acting.{NeedsNumber}
 use Rattle.hb_core.specs.Asking.{looked_live, wanted_by}
@@ -56,13 +56,6 @@ has_goal (Insert rec) rest none = (rec.key, refl)
 has_goal (Delete point) rest none = (point, refl)
 has_goal (Lookup point) rest none = (point, refl)
 has_goal (Search area) rest none = absurd (none tt)
-
--- and a search the corner of its last box
-inside_by : (page : LivePage) (command : Command) (rest : List Area) (p : List ℕ) → WantsBoxes command → goal_of command rest ≡ Some p → Holds page.area p → SearchesInside page command rest
-inside_by page (Search area) rest p wants goal has = subst (λ (g : Option (List ℕ)). MatchOption g ⊥ (Holds page.area)) (sym goal) has
-inside_by page (Insert rec) rest p wants goal has = absurd wants
-inside_by page (Delete point) rest p wants goal has = absurd wants
-inside_by page (Lookup point) rest p wants goal has = absurd wants
 
 -- ---- what a step wants is there
 
@@ -237,14 +230,14 @@ module _ (d : DiskModel) (c : RunningCore) (m : Machine) (actor : ℕ) (free : O
       let goal = corner_ahead line.command rest ends wants in
       let at_goal = ap walk_point is ∙ goal in
       let its = has_wanted (session_wants m actor may keeps line held rest found ends.last.lo is goal) in
-      let inside = walks_stay_inside m actor c.store its.wanted its.page ends.last.lo may keeps brings at_goal (at_value (walk_point (m.activity actor)) IsPoint ends.last.lo at_goal points) its.wants its.hand in
+      let asked = searches_may_be_asked m actor c.store line held rest found its.wanted its.page ends.last.lo may keeps brings is wants at_goal (at_value (walk_point (m.activity actor)) IsPoint ends.last.lo at_goal points) its.wants its.hand in
       subst (λ (w : Option Wanted). AsksSearcher c.store (at.SessionWalk line held rest found) (number_of_row (at.SessionWalk line held rest found) w) free) (sym its.wants) (record {
         layout = layout;
         page = its.page;
         live = its.hand.live;
         made = made its.wanted.page its.page its.hand.live;
         next = next_is_given;
-        asked = (inside_by its.page line.command rest ends.last.lo wants goal inside, subst StaysGathering is (keeps.searches_gather actor));
+        asked = subst (λ (a : Activity). MaySearch a its.page) is asked;
       })
 
   pub searcher_asks : (activity : Activity) → m.activity actor ≡ activity → WalksToSearch activity → IfSome (walk_point activity) IsPoint → AsksAsSearcher activity
