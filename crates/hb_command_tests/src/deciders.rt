@@ -150,7 +150,7 @@ fn weight(frag: &Frag) -> Option<u32>
 }
 
 // Whether the page is one of the file.
-fn fits(page: &LivePage, meta: &Meta) -> bool
+pub(crate) fn fits(page: &LivePage, meta: &Meta) -> bool
     ensures { IsTrue result → FitsFile meta.now page.now }
 {
     match weight(&page.frag) {
@@ -159,7 +159,7 @@ fn fits(page: &LivePage, meta: &Meta) -> bool
     }
 }
 
-fn is_inside(page: &LivePage, point: &Point) -> bool
+pub(crate) fn is_inside(page: &LivePage, point: &Point) -> bool
     ensures { IsTrue result → Holds page.now.area point.now }
 {
     page.area.lo().attributes() == point.attributes() && page.area.holds(point)

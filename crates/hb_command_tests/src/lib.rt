@@ -1,11 +1,13 @@
-//! The tests of hb_set, hb_text, hb_latch, hb_activity, hb_point and hb_poster: sets of records, texts and outputs,
-//! latches, activities, jobs and deciders by hand.
+//! The tests of hb_set, hb_text, hb_latch, hb_boxlock, hb_activity, hb_point, hb_search and hb_poster: sets of records,
+//! texts and outputs, latches, locks on boxes, activities, jobs and deciders by hand.
 //!
 //! They stand in a crate of their own, since a crate with tests is proved twice. No contract is here.
 #![tactic(auto)]
 
 #[cfg(test)]
 mod activities;
+#[cfg(test)]
+mod boxes_locked;
 #[cfg(test)]
 mod deciders;
 #[cfg(test)]
@@ -18,5 +20,7 @@ mod outputs;
 mod plain_list;
 #[cfg(test)]
 mod scripts;
+#[cfg(test)]
+mod searches;
 #[cfg(test)]
 mod sets;

@@ -16,6 +16,7 @@ use Rattle.hb_activity.specs.Walks.{walk_point}
 use Rattle.hb_point.specs.Asks.{MayAsk}
 use Rattle.hb_point.specs.SessionRows.{WantsBoxes}
 use Rattle.hb_poster.specs.Asks.{MayBeAsked}
+use Rattle.hb_search.specs.Searching.{MaySearch}
 use Rattle.hb_store.specs.States.{StoreState}
 use Rattle.hb_core.specs.AllowedLaws.{AnyPage}
 use Rattle.hb_core.specs.Asking.{wanted_by}
@@ -34,11 +35,17 @@ abbrev pub WalksStayInside : Type 0
 WalksStayInside = (m : Machine) (actor : ℕ) (fetched : StoreState) (wanted : Wanted) (page : LivePage) (p : List ℕ) → MayLatch actor → MachineKeeps m → Brings m AnyPage fetched →
     walk_point (m.activity actor) ≡ Some p → IsPoint p → wanted_by m actor ≡ Some wanted → IsAtHand (with_disk fetched m.files m.clock m) (m.activity actor) wanted page → Holds page.area p
 
--- A walk of a command on a point may ask the decider of such commands. A search isn't one.
+-- A walk of a command on a point may ask the decider of such commands.
 abbrev pub PointsMayBeAsked : Type 0
 PointsMayBeAsked = (m : Machine) (actor : ℕ) (fetched : StoreState) (line : Line) (held : Option ℕ) (rest : List Area) (found : List Record) (wanted : Wanted) (page : LivePage) (free : Option (ℕ × ℕ)) (p : List ℕ) →
     MayLatch actor → MachineKeeps m → Brings m AnyPage fetched → m.activity actor ≡ at.SessionWalk line held rest found → (WantsBoxes line.command → ⊥) → walk_point (m.activity actor) ≡ Some p → IsPoint p →
     wanted_by m actor ≡ Some wanted → IsAtHand (with_disk fetched m.files m.clock m) (m.activity actor) wanted page → MayAsk (m.activity actor) m.store.meta free wanted.page page None
+
+-- A walk of a search may ask the decider of searches.
+abbrev pub SearchesMayBeAsked : Type 0
+SearchesMayBeAsked = (m : Machine) (actor : ℕ) (fetched : StoreState) (line : Line) (held : Option ℕ) (rest : List Area) (found : List Record) (wanted : Wanted) (page : LivePage) (p : List ℕ) →
+    MayLatch actor → MachineKeeps m → Brings m AnyPage fetched → m.activity actor ≡ at.SessionWalk line held rest found → WantsBoxes line.command → walk_point (m.activity actor) ≡ Some p → IsPoint p →
+    wanted_by m actor ≡ Some wanted → IsAtHand (with_disk fetched m.files m.clock m) (m.activity actor) wanted page → MaySearch (m.activity actor) page
 
 -- The page that is to be split is still in memory, and the decider may be asked with it.
 pub record AsksToSplit (m : Machine) (actor : ℕ) (fetched : StoreState) (free : Option (ℕ × ℕ)) (held : ℕ) : Type 0 where

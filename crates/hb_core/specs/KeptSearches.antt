@@ -1,30 +1,17 @@
 -- What every machine keeps of its searches: over any disk, and over one that tells.
-use Rattle.std.specs.Prelude.{◌≡◌, ◌≢◌, ◌↔◌, ℕ, List, All, AllPairs, Any, Contains, Option, Some}
+use Rattle.std.specs.Prelude.{◌≡◌, ◌↔◌, ℕ, List, All, Any, Contains, Option, Some}
 use Rattle.std.specs.FinMap as map
-use Rattle.hb_space.specs.Boxes.{Area, Disjoint, Holds, Within}
+use Rattle.hb_space.specs.Boxes.{Area, Holds, Within}
 use Rattle.hb_space.specs.declared.records.Record.{Record}
 use Rattle.hb_set.specs.Machine.{RecordSet}
 use Rattle.hb_set.specs.declared.commands.Command.TheVariants.{Search}
 use Rattle.hb_set.specs.declared.scripts.Line.{Line}
-use Rattle.hb_activity.specs.declared.activities.Activity.{Activity}
 use Rattle.hb_activity.specs.declared.activities.Activity.TheVariants as at
+use Rattle.hb_search.specs.Searching.{IsGathering, StaysGathering}
 use Rattle.hb_core.specs.Machines.{Files, Machine, current_file}
 use Rattle.hb_ops.specs.Files.{contents_of}
 
--- What a search has between two pages: no two of the boxes that remain share a point, and the records that it found are of different
--- points, none of which lies in a box that remains.
-abbrev pub Differ : Record → Record → Type 0
-Differ r s = r.key ≢ s.key
-
-pub record IsGathering (rest : List Area) (found : List Record) : Type 0 where
-  pub apart : AllPairs Disjoint rest
-  pub once : AllPairs Differ found
-  pub outside : All (λ r. All (λ a. ¬ (Holds a r.key)) rest) found
-
-abbrev pub StaysGathering : Activity → Type 0
-StaysGathering (at.SessionWalk line held rest found) = IsGathering rest found
-StaysGathering other = Unit {0}
-
+-- What each search has between two pages is apart.
 abbrev pub SearchesGather : Machine → Type 0
 SearchesGather m = (actor : ℕ) → StaysGathering (m.activity actor)
 

@@ -16,7 +16,9 @@ use Rattle.hb_ops.specs.Sound.{FitsFile}
 use Rattle.hb_point.specs.Asks.{MayAsk}
 use Rattle.hb_point.specs.PointRows.{PointRow}
 use Rattle.hb_poster.specs.Asks.{AsksMemory, MakesPage, MayBeAsked}
+use Rattle.hb_point.specs.SessionRows.{WantsBoxes}
 use Rattle.hb_poster.specs.PosterRows.{PosterRow}
+use Rattle.hb_search.specs.Searching.{GathersNow, MaySearch, SearchRow}
 use Rattle.hb_store.specs.declared.stops.Why.{Why}
 use Rattle.hb_store.specs.States.{StoreState, in_memory}
 use Rattle.hb_core.specs.Asking.{HasAskedBox, IsNotAsked, asked_box, looked_live}
@@ -83,11 +85,24 @@ pub record AsksPoster (st : StoreState) (activity : Activity) (id : ℕ) (free :
   pub asked : MayBeAsked activity st.meta page (other_page st activity)
   pub fits : MakesPage activity st.meta page (other_page st activity) → FitsFree st.meta free
 
+-- A session that walks for a search asks a decider of its own.
+abbrev pub WalksToSearch : Activity → Type 0
+WalksToSearch (at.SessionWalk line held rest found) = WantsBoxes line.command
+WalksToSearch other = ⊥
+
+pub record AsksSearcher (st : StoreState) (activity : Activity) (id : ℕ) (free : Option (ℕ × ℕ)) : Type 0 where
+  pub layout : IsLayout st.meta
+  pub page : LivePage
+  pub live : live_here st id ≡ Some page
+  pub made : FitsFile st.meta page
+  pub next : (number : ℕ × ℕ) → free ≡ Some number → next_of st ≡ Some number
+  pub asked : MaySearch activity page
+
 -- what the rows read, at a place of the order
 abbrev pub sight_in : StoreState → ℕ → Sight
 sight_in st place = record { meta = st.meta; page_at = live_here st; next = next_of st; place = place }
 
--- what a decider's answer is: a row at the page of this number, or want of the poster's memory
+-- what a decider's answer is: a row at the page of this number, or want of memory
 abbrev pub HasPointRow : StoreState → Activity → ℕ → ℕ → Deed → Type 0
 HasPointRow st activity id place deed = (page : LivePage) × (live_here st id ≡ Some page) × PointRow activity (sight_in st place) id page deed
 
@@ -96,3 +111,9 @@ HasPosterRow st activity id place deed = (page : LivePage) × (live_here st id �
 
 abbrev pub IsStarved : StoreState → Activity → ℕ → Option (ℕ × ℕ) → Type 0
 IsStarved st activity id free = (page : LivePage) × (live_here st id ≡ Some page) × AsksMemory activity st.meta page (other_page st activity) free
+
+abbrev pub HasSearchRow : StoreState → Activity → ℕ → ℕ → Deed → Type 0
+HasSearchRow st activity id place deed = (page : LivePage) × (live_here st id ≡ Some page) × SearchRow activity (sight_in st place) id page deed
+
+abbrev pub GathersAt : StoreState → Activity → ℕ → Type 0
+GathersAt st activity id = (page : LivePage) × (live_here st id ≡ Some page) × GathersNow activity page

@@ -17,13 +17,8 @@ use Rattle.hb_core.specs.KeptFits.{LineFits, class_for}
 use Rattle.hb_core.specs.KeptMachine.{CoreKeeps, MachineKeeps}
 use Rattle.hb_ops.specs.Files.{FileState, contents_of, page_of}
 use Rattle.hb_ops.specs.Sound.{IsSound}
-use Rattle.hb_point.specs.SessionRows.{WantsBoxes}
 use Rattle.hb_set.specs.Order.{AreRising, Entry}
 use Rattle.hb_store.specs.States.{AreGood, IsStanding, StoreState, in_memory, is_in_log}
-
--- No line of the script is a search.
-abbrev pub HasNoSearches : Machine → Type 0
-HasNoSearches m = All (λ line. WantsBoxes line.command → ⊥) m.lines
 
 -- an actor that has nothing in hand
 abbrev pub IsAtRest : Activity → Type 0

@@ -11,7 +11,9 @@ use Rattle.hb_activity.specs.BoxLocks.{lock_of, lock_of_command}
 use Rattle.hb_activity.specs.Classes.{job_in_work}
 use Rattle.hb_activity.specs.declared.jobs.JobKind.TheVariants.{Post, Merge}
 use Rattle.hb_activity.specs.Deeds.{takes_job}
+use Rattle.hb_point.specs.SessionRows.{WantsBoxes, boxes_ahead}
 use Rattle.hb_poster.specs.PosterRows.{IsPostingOf}
+use Rattle.hb_set.specs.declared.commands.Reply.TheVariants as replies
 use Rattle.hb_set.specs.declared.scripts.Line.{Line}
 use Rattle.hb_store.specs.States.{StoreState}
 use Rattle.hb_core.specs.declared.outcomes.Outcome.{Outcome}
@@ -45,19 +47,27 @@ pub record IsNextLine (actor : ℕ) (behind place : ℕ) (line : Line) (core : R
   pub there : slice_get (drop behind core.lines) place ≡ Some line
   pub own : line.session ≡ actor
 
--- A session takes its next line, none of which is a search, and walks from the root; or none is left, and all lie behind it then; or
--- somebody keeps it from the line's box.
+-- A session takes its next line, and walks from the root, of a search with its own box before it; or none is left, and all lie behind
+-- it then; or somebody keeps it from the line's box; or memory is refused for the box of a search, whose line lies behind it then.
 pub record TakesLine (actor : ℕ) (behind place : ℕ) (line : Line) (old new : RunningCore) : Type 0 where
   pub next : IsNextLine actor behind place line old
   pub free : NoneAgainst old.activities actor (lock_of_command line.command)
   pub latches : Relatches actor [] old.latches new.latches
-  pub rest : new ≡ record (with_standing actor (at.SessionWalk line None [] []) old) { latches = new.latches; behind = slice_set old.behind (actor - 1) (behind + place + 1) }
+  pub rest : new ≡ record (with_standing actor (at.SessionWalk line None (boxes_ahead line.command) []) old) { latches = new.latches; behind = slice_set old.behind (actor - 1) (behind + place + 1) }
+
+pub record RefusesLine (actor : ℕ) (behind place : ℕ) (line : Line) (outcome : Outcome) (old new : RunningCore) : Type 0 where
+  pub next : IsNextLine actor behind place line old
+  pub free : NoneAgainst old.activities actor (lock_of_command line.command)
+  pub boxes : WantsBoxes line.command
+  pub says : outcome ≡ outcomes.Answered line.number replies.NoMemory
+  pub rest : new ≡ record old { behind = slice_set old.behind (actor - 1) (behind + place + 1) }
 
 abbrev pub TakesNextLine : ℕ → ℕ → Outcome → RunningCore → RunningCore → Type 0
 TakesNextLine actor behind outcome old new =
     ((outcome ≡ outcomes.Idle) × (new ≡ record old { behind = slice_set old.behind (actor - 1) (length old.lines) }) × All (λ (l : Line). l.session ≢ actor) (drop behind old.lines))
     ⊎ ((outcome ≡ outcomes.Moved) × (place : ℕ) × (line : Line) × TakesLine actor behind place line old new)
     ⊎ ((by place : ℕ) × (line : Line) × IsNextLine actor behind place line old × IsFirstAgainst old.activities actor (lock_of_command line.command) by × (outcome ≡ outcomes.Blocked by) × (new ≡ old))
+    ⊎ ((place : ℕ) × (line : Line) × RefusesLine actor behind place line outcome old new)
 
 -- The poster takes its oldest job; or none waits.
 abbrev pub TakesNextPosting : ℕ → Outcome → RunningCore → RunningCore → Type 0

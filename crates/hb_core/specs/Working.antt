@@ -19,14 +19,12 @@ use Rattle.hb_core.specs.Rows.{IsAtHand}
 use Rattle.hb_core.specs.Showing.{RunningCore, ShowsMachine}
 use Rattle.hb_core.specs.StageLaws.{HasNothingToMerge}
 use Rattle.hb_core.specs.Steps.{IsUnready}
-use Rattle.hb_core.specs.SteppingLaws.{HasNoSearches}
 
--- What is known of a machine of which a core takes a step: it keeps what every machine keeps, its files are sound, no line of its script
--- is a search, and nothing is to be merged.
+-- What is known of a machine of which a core takes a step: it keeps what every machine keeps, its files are sound, and nothing
+-- is to be merged.
 pub record MayGoOn (m : Machine) : Type 0 where
   pub kept : MachineKeeps m
   pub sound : IfSome m.files (HasSoundFile m)
-  pub searches : HasNoSearches m
   pub merges : HasNothingToMerge m
 
 -- A core over a disk shows such a machine.

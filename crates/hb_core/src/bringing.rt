@@ -16,7 +16,7 @@ ghost use Rattle.hb_store.specs.States.{in_memory};
 ghost use Rattle.hb_store.specs.declared.stops.StopWhy.TheVariants.{Damaged};
 ghost use Rattle.hb_store.specs.declared.stops.Why.{Why};
 ghost use Rattle.hb_core.specs.declared.halts.Halt.TheVariants.{Stops};
-ghost use Rattle.hb_core.specs.Looking.{AsksPoint, AsksPoster, FailsTest, HasPointRow, HasPosterRow, MayLook, PassesTest, IsStarved, number_of_row, other_number, other_page};
+ghost use Rattle.hb_core.specs.Looking.{AsksPoint, AsksPoster, AsksSearcher, FailsTest, GathersAt, HasPointRow, HasPosterRow, HasSearchRow, MayLook, PassesTest, IsStarved, WalksToSearch, number_of_row, other_number, other_page};
 ghost use Rattle.hb_core.specs.Machines.{Machine, live_here};
 ghost use Rattle.hb_core.specs.Moving.{StandsAs, placed, with_standing};
 ghost use Rattle.hb_core.specs.Rows.{Row};
@@ -30,6 +30,7 @@ use crate::state::{Core, POSTER};
 use hb_activity::{Activity, Next, Wanted};
 use hb_disk::Device;
 use hb_frag::LivePage;
+use hb_set::Command;
 use hb_space::{Actor, NoMemory};
 use hb_store::StopWhy;
 
@@ -158,11 +159,41 @@ impl<D: Device> Core<D> {
     {
         let state = self.replace(actor, idle(actor));
         knows_point(&state);
+        if walks_to_search(&state) {
+            return self.ask_searcher(state, wanted, free);
+        }
         if actor == POSTER {
             self.ask_poster(state, wanted, free)
         } else {
             self.ask_session(state, wanted, free)
         }
+    }
+
+    /// What the decider of searches says of this activity.
+    fn ask_searcher(
+        &self,
+        state: Activity,
+        wanted: Option<Wanted>,
+        free: Option<(u32, u32)>,
+    ) -> Result<Next, NoMemory>
+        requires { AsksSearcher (core_seen self.now).store state (number_of_row state wanted) free }
+        ensures row { IfOk result (λ next. (place : ℕ) →
+            HasSearchRow (core_seen self.now).store state (number_of_row state wanted) place (placed place (deed_of state next))) }
+        ensures memory { OnErr result (GathersAt (core_seen self.now).store state (number_of_row state wanted)) }
+    {
+        let id = page_of(&state, wanted);
+        let page = self.live_page(id);
+        let other = self.other(&state);
+        hb_search::next(
+            self.alloc,
+            state,
+            id,
+            page,
+            other,
+            None,
+            free,
+            self.store.meta(),
+        )
     }
 
     /// What the decider of sessions says of this activity.
@@ -225,6 +256,16 @@ impl<D: Device> Core<D> {
         ensures { live_here (core_seen self.now).store id ≡ Some result.now }
     {
         self.live(id).unwrap()
+    }
+}
+
+/// Whether a session walks for a search.
+fn walks_to_search(activity: &Activity) -> bool
+    ensures { IsTrue result ↔ WalksToSearch activity.now }
+{
+    match activity {
+        Activity::SessionWalk { line, .. } => matches!(line.command, Command::Search(_)),
+        _ => false,
     }
 }
 

@@ -1,11 +1,12 @@
 //! One step of an actor.
-ghost use Rattle.std.specs.Prelude.{◌≡◌, ◌≤◌, ◌-◌, ◌==◌, ℕ, All, Some, None, length};
+ghost use Rattle.std.specs.Prelude.{◌≡◌, ◌≤◌, ◌-◌, ◌==◌, ℕ, All, Some, None, length, IfOk, OnErr};
 ghost use Rattle.std.specs.List.{position, slice_get, slice_set};
 ghost use Rattle.hb_latch.specs.Tables.{MayLatch};
 ghost use Rattle.hb_activity.specs.declared.activities.Activity.TheVariants as at;
 ghost use Rattle.hb_core.specs.declared.outcomes.Outcome.TheVariants as outcomes;
 ghost use Rattle.hb_core.specs.CoreSeen.{core_seen, core_disk};
 ghost use Rattle.hb_core.specs.Machines.{Machine};
+ghost use Rattle.hb_point.specs.SessionRows.{WantsBoxes, boxes_ahead};
 ghost use Rattle.hb_poster.specs.PosterRows.{IsPostingOf};
 ghost use Rattle.hb_core.specs.Moving.{StandsAs, with_standing, with_stop};
 ghost use Rattle.hb_core.specs.Showing.{ShowsMachine};
@@ -22,9 +23,10 @@ use crate::reading::idle;
 use crate::state::Core;
 use hb_activity::{Activity, BoxLock, Job, JobKind};
 use hb_disk::Device;
-use hb_set::{Command, Line};
-use hb_space::{Actor, Areas, Record, Records};
+use hb_set::{Command, Line, Reply};
+use hb_space::{Actor, Areas, NoMemory, Record, Records};
 use hb_store::{Flushed, StopWhy};
+use std::alloc::Global;
 use std::mem;
 
 impl<D: Device> Core<D> {
@@ -56,7 +58,8 @@ impl<D: Device> Core<D> {
     }
 
     /// The session takes its next line, where one is left and no other actor's lock keeps it from the line's box. Where none is left, all
-    /// lines lie behind it from now on, so that no later step looks through them again.
+    /// lines lie behind it from now on, so that no later step looks through them again. Where memory is refused for a search, its line is
+    /// answered so.
     fn take_line(&mut self, actor: Actor) -> Outcome
         requires actor { MayLatch actor }
         requires boxes { HaveBoxes (core_seen self.old).store.meta.k (core_seen self.old).activities }
@@ -78,12 +81,18 @@ impl<D: Device> Core<D> {
             return Outcome::Blocked { by };
         }
         self.go_behind(actor, from + place + 1);
+        let Ok(rest) = boxes_ahead(self.alloc, &line.command) else {
+            return Outcome::Answered {
+                line: line.number,
+                reply: Reply::NoMemory,
+            };
+        };
         self.stand(
             actor,
             Activity::SessionWalk {
                 line,
                 held: None,
-                rest: Areas::new(Vec::new(self.alloc)),
+                rest,
                 found: Records::new(Vec::new(self.alloc)),
             },
         );
@@ -207,6 +216,18 @@ fn next_of(lines: &[Line], session: Actor) -> Option<usize>
     ensures { result ≡ position (λ line. line.session == session) lines.now }
 {
     lines.iter().position(|line| line.session == session)
+}
+
+/// The boxes that a command has before it: a search its own.
+fn boxes_ahead(alloc: Global, command: &Command) -> Result<Areas, NoMemory>
+    ensures boxes { IfOk result (λ boxes. boxes ≡ boxes_ahead command.now) }
+    ensures memory { OnErr result (WantsBoxes command.now) }
+{
+    let mut boxes = Vec::new(alloc);
+    if let Command::Search(area) = command {
+        boxes.push(area.copy())?;
+    }
+    Ok(Areas::new(boxes))
 }
 
 /// The same line once more.

@@ -1,11 +1,12 @@
 -- What follows of this row.
-use Rattle.std.specs.Prelude.{◌≡◌, ℕ, List, [], None}
+use Rattle.std.specs.Prelude.{◌≡◌, ℕ, List, [], ◌∷◌, None}
 use Rattle.hb_space.specs.declared.records.Record.{Record}
 use Rattle.hb_frag.specs.declared.pages.LivePage.{LivePage}
 use Rattle.hb_set.specs.declared.scripts.Line.{Line}
 use Rattle.hb_activity.specs.Deeds.{Deed}
 use Rattle.hb_activity.specs.Sights.{Sight}
 use Rattle.hb_search.specs.SearchRows.{Gathers}
+use Rattle.hb_search.specs.Searching.{IsGathering}
 use Rattle.hb_space.specs.Boxes.{Area}
 
 -- A search has one deed at a page.
@@ -17,3 +18,7 @@ SearchesHaveOneDeed = (s : Sight) (line : Line) (rest : List Area) (found : List
 abbrev pub SearchesChangeNothing : Type 0
 SearchesChangeNothing = (s : Sight) (line : Line) (rest : List Area) (found : List Record) (page : LivePage) (p : List ℕ) (deed : Deed) →
     Gathers s line rest found page p deed → (deed.op ≡ None) × (deed.adds ≡ [])
+
+-- A search begins with its own box, and nothing found.
+abbrev pub SearchesBeginApart : Type 0
+SearchesBeginApart = (area : Area) → IsGathering (area ∷ []) []

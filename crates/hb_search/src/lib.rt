@@ -4,7 +4,15 @@
 //! The one contract: a search takes the records of the last box that remains, puts what of the box lies
 //! outside the leaf in its place, and takes effect once no box is left, with its records in the order of
 //! their points (`specs/SearchRows.antt`).
+//!
+//! `next` tells the row's outcome from the page that the step latched, and touches nothing itself. What it
+//! may be asked is in `specs/Searching.antt`.
 #![tactic(auto)]
 
+mod deciding;
 pub mod examples;
+mod gathering;
 pub mod laws;
+mod walking;
+
+pub use deciding::next;

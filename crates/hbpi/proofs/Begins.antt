@@ -11,7 +11,6 @@ use Rattle.hb_disk.specs.Model.{DiskModel}
 use Rattle.hb_lemmas.proofs.Options.{at_value, has_value, if_value, some_value}
 use Rattle.hb_ops.specs.Files.{FileState}
 use Rattle.hb_ops.specs.Sound.{IsSound}
-use Rattle.hb_point.specs.SessionRows.{WantsBoxes}
 use Rattle.hb_set.specs.Machine.{attributes}
 use Rattle.hb_set.specs.Scripts.{IsLineFor}
 use Rattle.hb_set.specs.declared.commands.Command.{Command}
@@ -20,7 +19,7 @@ use Rattle.hb_set.specs.declared.scripts.Line.{Line}
 use Rattle.hb_store.specs.Keeps.{StoreKeeps}
 use Rattle.hb_store.specs.States.{IsNew, IsStanding, StoreState}
 use Rattle.hb_core.proofs.Facts.BegunCores.{begins_over}
-use Rattle.hbpi.specs.Schedules.{IsScript}
+use Rattle.hbpi.specs.Schedules.{HasBox, HasLineBox, IsScript}
 
 -- Such a machine, of a core with this script over a store that was just opened.
 pub record IsBegunHere (d : DiskModel) (lines : List Line) (steps : List ℕ) (store : StoreState) (m : Machine) : Type 0 where
@@ -28,17 +27,17 @@ pub record IsBegunHere (d : DiskModel) (lines : List Line) (steps : List ℕ) (s
   pub begun : IsBegun m
   pub told : IfSome d.told (λ b. (s : FileState) × IsBegunOver m s × StoreKeeps d store s [])
 
-command_fits : (k : ℕ) (c : Command) → attributes c ≡ k → (WantsBoxes c → ⊥) → CommandFits k c
-command_fits k (Insert rec) is served = is
-command_fits k (Delete point) is served = is
-command_fits k (Lookup point) is served = is
-command_fits k (Search area) is served = absurd (served tt)
+command_fits : (k : ℕ) (c : Command) → attributes c ≡ k → HasBox c → CommandFits k c
+command_fits k (Insert rec) is box = is
+command_fits k (Delete point) is box = is
+command_fits k (Lookup point) is box = is
+command_fits k (Search area) is box = (box, is)
 
-each_fits : (k : ℕ) (lines : List Line) → AllByRecursion (IsLineFor k) lines → AllByRecursion (λ (l : Line). WantsBoxes l.command → ⊥) lines → AllByRecursion (LineFits k) lines
-each_fits k [] is served = tt
-each_fits k (l ∷ rest) is served = (
-  record { command = command_fits k l.command is.0.attributes_are served.0; first_session = is.0.session_from; last_session = is.0.session_to },
-  each_fits k rest is.1 served.1,
+each_fits : (k : ℕ) (lines : List Line) → AllByRecursion (IsLineFor k) lines → AllByRecursion HasLineBox lines → AllByRecursion (LineFits k) lines
+each_fits k [] is boxes = tt
+each_fits k (l ∷ rest) is boxes = (
+  record { command = command_fits k l.command is.0.attributes_are boxes.0; first_session = is.0.session_from; last_session = is.0.session_to },
+  each_fits k rest is.1 boxes.1,
 )
 
 -- so of a script that was read
@@ -50,7 +49,6 @@ begins_script d lines steps store script new stands kept =
       stands = stands;
       rising = script.script.rising;
       bodies = script.bodies;
-      fit = All-from_recursion (LineFits store.meta.k) lines (each_fits store.meta.k lines script.script.lines (recursion_from_All (λ (l : Line). WantsBoxes l.command → ⊥) lines script.served));
-      no_searches = script.served;
+      fit = All-from_recursion (LineFits store.meta.k) lines (each_fits store.meta.k lines script.script.lines (recursion_from_All HasLineBox lines script.boxes));
     }) (λ tells. let b = some_value d.told tells in let from = at_value d.told _ b.0 b.1 kept in (from.0, record { kept = from.2; sound = from.1 })) in
     (begins.m, record { may = begins.may; begun = begins.begun; told = if_value d.told _ (λ b is. let from = begins.told (has_value d.told b is) in (from.0, from.2, from.1)) })

@@ -20,14 +20,14 @@ use Rattle.hbpi.specs.Codes.{status_of}
 use Rattle.hbpi.specs.Driven.{DriveEnds, Drove, IsShutOut, RanEnds}
 use Rattle.hbpi.specs.Outcome.{IsWholeText}
 use Rattle.hbpi.specs.Promises.{GivesFor, IsCalm, IsDriven}
-use Rattle.hbpi.specs.Schedules.{IsScheduled, IsServed, NotScheduled}
+use Rattle.hbpi.specs.Schedules.{IsScheduled, NotScheduled}
 use Rattle.hbpi.specs.SeenRuns.{Run, Seen}
 use Rattle.hbpi.specs.declared.statuses.Status.{Status}
 use Rattle.hbpi.specs.declared.statuses.Status.TheVariants.{Done, Usage, BadText, SourceFault, SinkFault, DiskFault, Damaged, NoMemory, BadLayout, Small, NotBuilt}
 
 -- want of memory is answered to any text
 no_memory : (seen : Seen) (status : Status) (read : Result Reading BadLine) → status ≡ NoMemory → GivesFor seen status read
-no_memory seen status (Ok reading) is = (λ served sink. inr is, λ unserved. inr is)
+no_memory seen status (Ok reading) is = λ sink. inr is
 no_memory seen status (Err bad) is = inr is
 
 -- a script that is read of the whole text is what the text says
@@ -62,8 +62,6 @@ module _ (s : FileState) (left : List ℕ) (run : Run) (calm : IsCalm s left run
       let says = reads_left s.meta.k k left why.0 run.seen.source_before.left run.seen.source_after.left same calm.text why.1 ∙ why.2 in
       subst (λ (r : Result Reading BadLine). GivesFor run.seen (BadText bad) r) (sym says) (inl refl)
   away_gives k SourceFault same why = absurd (calm.source why)
-  away_gives k NotBuilt same why =
-      subst (λ (r : Result Reading BadLine). GivesFor run.seen NotBuilt r) (sym (scheduled_reads s.meta.k k left run.seen why.0 why.1 same calm.text why.2)) (λ served sink. absurd (why.3 served), λ unserved. inl refl)
   away_gives k NoMemory same why = no_memory run.seen NoMemory (text_read true s.meta.k left) refl
   away_gives k Done same why = absurd why
   away_gives k SinkFault same why = absurd why
@@ -72,6 +70,7 @@ module _ (s : FileState) (left : List ℕ) (run : Run) (calm : IsCalm s left run
   away_gives k (Damaged damage) same why = absurd why
   away_gives k (Small needed found) same why = absurd why
   away_gives k (BadLayout field value) same why = absurd why
+  away_gives k NotBuilt same why = absurd why
 
   drove_k : (after : Machine) (drove : Drove run after) → OpensToOne → drove.k ≡ s.meta.k
   drove_k after drove one =
@@ -99,9 +98,9 @@ module _ (s : FileState) (left : List ℕ) (run : Run) (calm : IsCalm s left run
   ran_gives : (status : Status) (after : Machine) → OpensToOne → BegunKeepsAll → Drove run after → RanEnds status run.seen.sink_before run.seen.sink_after run.seen.answered after → GivesFor run.seen status (text_read true s.meta.k left)
   ran_gives status after one all drove ends =
       subst (λ (r : Result Reading BadLine). GivesFor run.seen status r) (sym (scheduled_reads s.meta.k drove.k left run.seen drove.lines drove.steps (drove_k after drove one) calm.text drove.scheduled))
-      (λ served sink. ran_done status after drove (undamaged run after calm.bytes all calm.told drove) ends sink, λ unserved. absurd (unserved drove.served))
+      (λ sink. ran_done status after drove (undamaged run after calm.bytes all calm.told drove) ends sink)
 
--- Where nothing fails, a good file is driven by a good text, and a text that is bad or not built is refused.
+-- Where nothing fails, a good file is driven by a good text, and a bad text is refused.
 pub is_driven : (run : Run) (status : Status) → OpensToOne → GoodIsNotRefused → BegunKeepsAll → DriveEnds run status → IsDriven run status
 is_driven run status one good all ends s left calm = elim ends [
   | inl shut ↦ shut_gives s left run calm status shut.0 good shut.1 shut.2

@@ -167,7 +167,7 @@ of_closed faults.NoMemory P small damaged disk memory = memory
 pub source_kept : (status : Status) (k : ℕ) (before after : SourceModel) → NotScheduled k before after status → ¬ (status ≡ SourceFault) → after.faults ≡ before.faults
 source_kept (BadText bad) k before after why other = why.3
 source_kept SourceFault k before after why other = absurd (other refl)
-source_kept NotBuilt k before after why other = why.4
+source_kept NotBuilt k before after why other = absurd why
 source_kept NoMemory k before after why other = why
 source_kept Done k before after why other = absurd why
 source_kept SinkFault k before after why other = absurd why

@@ -30,7 +30,7 @@ use Rattle.hbpi.specs.Codes.{status_of}
 use Rattle.hbpi.specs.Driven.{DriveEnds, Drove, IsOpened, RanEnds}
 use Rattle.hbpi.specs.Drives.{LeavesLate, LeavesPrefixes}
 use Rattle.hbpi.specs.Promises.{AreOfText, IsHeld, KeepsPromise, StandsAt}
-use Rattle.hbpi.specs.Schedules.{IsScheduled, IsServed, NotScheduled}
+use Rattle.hbpi.specs.Schedules.{IsScheduled, NotScheduled}
 use Rattle.hbpi.specs.SeenRuns.{Run}
 use Rattle.hbpi.specs.declared.statuses.Status.{Status}
 use Rattle.hbpi.specs.declared.statuses.Status.TheVariants.{Done}

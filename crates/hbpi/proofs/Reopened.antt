@@ -88,7 +88,6 @@ drove_before d m e seen after walks alone one opening drove = record {
   lines = drove.lines;
   steps = drove.steps;
   scheduled = drove.scheduled;
-  served = drove.served;
   source = drove.source;
   takes = takes_before d m e drove.k drove.lines drove.steps seen.answered seen.order after walks alone one opening drove.takes;
 }

@@ -41,7 +41,7 @@ use Rattle.hbpi.specs.Codes.{status_after}
 use Rattle.hbpi.specs.Driven.{Drove, RanEnds}
 use Rattle.hbpi.specs.Drives.{LeavesPrefixes, TakesSteps}
 use Rattle.hbpi.specs.Outcome.{GetsLine, fault_line}
-use Rattle.hbpi.specs.Schedules.{IsScheduled, IsServed, NotScheduled}
+use Rattle.hbpi.specs.Schedules.{IsScheduled, NotScheduled}
 use Rattle.hbpi.specs.SeenRuns.{IsRefused, Seen, run_of, seen_by}
 use Rattle.hbpi.specs.declared.statuses.Status.{Status}
 use Rattle.hbpi.specs.declared.statuses.Status.TheVariants.{NoMemory}
@@ -212,13 +212,13 @@ StoreEnds M first last k seen status =
     ⊎ ((m : Machine) × Drove (run_of seen (M first) (M last)) m × RanEnds status seen.sink_before seen.sink_after seen.answered m)
 
 pub store_ends : {X Y : Type 0} (M : X → DiskModel) (S : Y → SinkModel) (k : ℕ) (lines : List Line) (steps : List ℕ) (first last : X) (sink after : Y) (answered : List Answered) (order : List ℕ) (status : Status) (source rest : SourceModel)
-    → IsScheduled k source.left rest.left lines steps → IsServed lines → rest.faults ≡ source.faults → ScriptEnds M S k lines steps first last sink after answered order status
+    → IsScheduled k source.left rest.left lines steps → rest.faults ≡ source.faults → ScriptEnds M S k lines steps first last sink after answered order status
     → StoreEnds M first last k (seen_by source rest (S sink) (S after) answered order) status
-store_ends M S k lines steps first last sink after answered order status source rest scheduled served same ends = elim ends [
+store_ends M S k lines steps first last sink after answered order status source rest scheduled same ends = elim ends [
   | inl not ↦ inl (
     not.0,
     record { line = subst (λ (x : Status). GetsLine (S sink) (S after) (fault_line x)) (sym not.1) not.2; none_answered = not.3; none_ordered = not.4 },
     subst (λ (x : Status). NotScheduled k source rest x) (sym not.1) same,
   )
-  | inr ran ↦ inr (ran.0, record { k = k; lines = lines; steps = steps; scheduled = scheduled; served = served; source = same; takes = ran.1 }, ran.2)
+  | inr ran ↦ inr (ran.0, record { k = k; lines = lines; steps = steps; scheduled = scheduled; source = same; takes = ran.1 }, ran.2)
 ]

@@ -19,7 +19,7 @@ use Rattle.hb_store.specs.declared.stops.Why.{Why}
 use Rattle.hbpi.specs.Codes.{damage_of, status_of}
 use Rattle.hbpi.specs.Drives.{TakesSteps}
 use Rattle.hbpi.specs.Outcome.{GetsLine, fault_line}
-use Rattle.hbpi.specs.Schedules.{IsScheduled, IsServed, NotScheduled}
+use Rattle.hbpi.specs.Schedules.{IsScheduled, NotScheduled}
 use Rattle.hbpi.specs.SeenRuns.{IsRefused, IsUnread, Run}
 use Rattle.hbpi.specs.declared.statuses.Status.{Status}
 use Rattle.hbpi.specs.declared.statuses.Status.TheVariants.{Done, Usage, BadText, SourceFault, SinkFault, DiskFault, Damaged, NoMemory, BadLayout, Small, NotBuilt}
@@ -54,7 +54,6 @@ pub record Drove (run : Run) (after : Machine) : Type 0 where
   pub lines : List Line
   pub steps : List ℕ
   pub scheduled : IsScheduled k run.seen.source_before.left run.seen.source_after.left lines steps
-  pub served : IsServed lines
   pub source : run.seen.source_after.faults ≡ run.seen.source_before.faults
   pub takes : TakesSteps run.before run.after k lines steps run.seen.answered run.seen.order after
 

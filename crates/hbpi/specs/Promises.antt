@@ -19,10 +19,10 @@ use Rattle.hb_text.specs.Grammar.{Reading, text_read}
 use Rattle.hb_text.specs.declared.rules.BadLine.{BadLine}
 use Rattle.hbpi.specs.Codes.{status_of}
 use Rattle.hbpi.specs.Drives.{LeavesLate}
-use Rattle.hbpi.specs.Schedules.{IsScheduled, IsServed}
+use Rattle.hbpi.specs.Schedules.{IsScheduled}
 use Rattle.hbpi.specs.SeenRuns.{HasFailed, Run, Seen}
 use Rattle.hbpi.specs.declared.statuses.Status.{Status}
-use Rattle.hbpi.specs.declared.statuses.Status.TheVariants.{Done, BadText, NoMemory, NotBuilt}
+use Rattle.hbpi.specs.declared.statuses.Status.TheVariants.{Done, BadText, NoMemory}
 
 -- The answered line stands at this place of the order, with its reply.
 pub record StandsAt (order : List Entry) (a : Answered) (place : ℕ) : Type 0 where
@@ -70,9 +70,7 @@ pub record IsCalm (s : FileState) (left : List ℕ) (run : Run) : Type 0 where
 
 -- what `drive` answers to a text, but for want of memory: that it is done, unless the sink failed, or why not
 abbrev pub GivesFor : Seen → Status → Result Reading BadLine → Type 0
-GivesFor seen status (Ok reading) =
-    (IsServed reading.lines → ¬ (Rose seen.sink_before.faults seen.sink_after.faults) → (status ≡ Done) ⊎ (status ≡ NoMemory))
-    × (¬ (IsServed reading.lines) → (status ≡ NotBuilt) ⊎ (status ≡ NoMemory))
+GivesFor seen status (Ok reading) = ¬ (Rose seen.sink_before.faults seen.sink_after.faults) → (status ≡ Done) ⊎ (status ≡ NoMemory)
 GivesFor seen status (Err bad) = (status ≡ BadText bad) ⊎ (status ≡ NoMemory)
 
 abbrev pub IsDriven : Run → Status → Type 0

@@ -1,11 +1,13 @@
--- Which texts are a schedule that `drive` serves.
+-- Which texts are a schedule.
 use Rattle.std.specs.Prelude.{◌≡◌, ℕ, ◌≤◌, true, List, All, Option, Ok, Err}
 use Rattle.hb_core.specs.KeptLines.{HasLineBody}
 use Rattle.hb_outside.specs.Calls.{SourceModel}
 use Rattle.hb_outside.specs.Streams.{Rose}
-use Rattle.hb_point.specs.SessionRows.{WantsBoxes}
 use Rattle.hb_set.specs.Scripts.{IsScriptFor}
+use Rattle.hb_set.specs.declared.commands.Command.{Command}
+use Rattle.hb_set.specs.declared.commands.Command.TheVariants.{Insert, Delete, Lookup, Search}
 use Rattle.hb_set.specs.declared.scripts.Line.{Line}
+use Rattle.hb_space.specs.Boxes.{IsArea}
 use Rattle.hb_text.specs.Grammar.{text_read}
 use Rattle.hbpi.specs.Outcome.{IsTextOf, IsWholeText}
 use Rattle.hbpi.specs.declared.statuses.Status.{Status}
@@ -17,22 +19,27 @@ pub record IsScheduled (k : ℕ) (left rest : Option (List ℕ)) (lines : List L
   pub whole : IsWholeText left rest text
   pub says : text_read true k text ≡ Ok (record { lines = lines; steps = steps })
 
--- what is built: no searches
-abbrev pub IsServed : List Line → Type 0
-IsServed lines = All (λ line. WantsBoxes line.command → ⊥) lines
+-- the box of a search is one
+abbrev pub HasBox : Command → Type 0
+HasBox (Insert rec) = Unit {0}
+HasBox (Delete point) = Unit {0}
+HasBox (Lookup point) = Unit {0}
+HasBox (Search area) = IsArea area
 
--- a script that a core may take: of a text over k attributes, and served
+abbrev pub HasLineBox : Line → Type 0
+HasLineBox line = HasBox line.command
+
+-- a script that a core may take, of a text over k attributes
 pub record IsScript (k : ℕ) (lines : List Line) (steps : List ℕ) : Type 0 where
   pub script : IsScriptFor k lines
-  pub served : IsServed lines
   pub bodies : All HasLineBody lines
+  pub boxes : All HasLineBox lines
   pub actors : All (λ actor. (1 ≤ actor) × (actor ≤ 19)) steps
 
 -- why no schedule was read of a text over k attributes
 abbrev pub NotScheduled : ℕ → SourceModel → SourceModel → Status → Type 0
 NotScheduled k before after (BadText bad) = (text : List ℕ) × IsTextOf before.left after.left text × (text_read true k text ≡ Err bad) × (after.faults ≡ before.faults)
 NotScheduled k before after SourceFault = Rose before.faults after.faults
-NotScheduled k before after NotBuilt = (lines : List Line) × (steps : List ℕ) × IsScheduled k before.left after.left lines steps × (¬ (IsServed lines)) × (after.faults ≡ before.faults)
 NotScheduled k before after NoMemory = after.faults ≡ before.faults
 NotScheduled k before after Done = ⊥
 NotScheduled k before after SinkFault = ⊥
@@ -41,3 +48,4 @@ NotScheduled k before after Usage = ⊥
 NotScheduled k before after (Damaged damage) = ⊥
 NotScheduled k before after (Small needed found) = ⊥
 NotScheduled k before after (BadLayout field value) = ⊥
+NotScheduled k before after NotBuilt = ⊥

@@ -1,5 +1,5 @@
 //! The command `drive`.
-ghost use Rattle.std.specs.Prelude.{◌≡◌, ◌⊎◌, ◌<◌, ◌≤◌, ◌↔◌, [], All, IfOk, IfErr, OnOk, IfSome, IsTrue};
+ghost use Rattle.std.specs.Prelude.{◌≡◌, ◌⊎◌, ◌<◌, ◌≤◌, [], All, IfOk, IfErr, OnOk, IfSome};
 ghost use Rattle.hb_core.specs.CoreSeen.{core_seen, core_disk};
 ghost use Rattle.hb_core.specs.KeptLines.{HasLineBody};
 ghost use Rattle.hb_core.specs.Machines.{Machine};
@@ -7,7 +7,6 @@ ghost use Rattle.hb_core.specs.declared.endings.End.TheVariants as ends;
 ghost use Rattle.hb_layout.specs.Offsets.{file_size};
 ghost use Rattle.hb_ops.specs.Files.{FileState};
 ghost use Rattle.hb_ops.specs.Sound.{IsSound};
-ghost use Rattle.hb_point.specs.SessionRows.{WantsBoxes};
 ghost use Rattle.hb_restart.specs.Beyond.{KeepsBeyond, KeepsBeyondFile};
 ghost use Rattle.hb_store.specs.Keeps.{StoreKeeps};
 ghost use Rattle.hb_store.specs.Seen.{seen_as, disk_of};
@@ -16,7 +15,7 @@ ghost use Rattle.hbpi.specs.Codes.{status_after, stop_status};
 ghost use Rattle.hbpi.specs.Driven.{DriveEnds, Drove, RanEnds};
 ghost use Rattle.hbpi.specs.Drives.{TakesSteps};
 ghost use Rattle.hbpi.specs.Outcome.{GetsLine, fault_line};
-ghost use Rattle.hbpi.specs.Schedules.{IsScheduled, IsScript, IsServed, NotScheduled};
+ghost use Rattle.hbpi.specs.Schedules.{HasLineBox, IsScheduled, IsScript, NotScheduled};
 ghost use Rattle.hbpi.specs.SeenRuns.{IsRefused, run_of, seen_by};
 
 use crate::dry::refused;
@@ -38,27 +37,30 @@ use hb_store::{StopWhy, Store, an_image_opens_to_one_file};
 use hb_text::{TextError, read_commands};
 use std::alloc::Global;
 
-/// Whether a line is served: it is no search.
-fn serves_line(line: &Line) -> bool
-    ensures served { IsTrue result ↔ (WantsBoxes line.now.command → ⊥) }
+/// That a line's body can be stored, and that its box is one, which their types say.
+fn knows_line(line: &Line)
     ensures body { HasLineBody line.now }
+    ensures area { HasLineBox line.now }
 {
     match &line.command {
         Command::Insert(record) => {
             let _bytes = record.body.bytes();
-            true
         }
-        Command::Delete(_) | Command::Lookup(_) => true,
-        Command::Search(_) => false,
+        Command::Search(area) => {
+            let _corner = area.lo();
+        }
+        Command::Delete(_) | Command::Lookup(_) => {}
     }
 }
 
-/// Whether lines are served.
-fn serves(lines: &[Line]) -> bool
-    ensures served { IsTrue result ↔ IsServed lines.now }
-    ensures bodies { IsTrue result → All HasLineBody lines.now }
+/// So of each of these lines.
+fn knows_lines(lines: &[Line])
+    ensures bodies { All HasLineBody lines.now }
+    ensures boxes { All HasLineBox lines.now }
 {
-    lines.iter().all(|line| serves_line(line))
+    for line in lines {
+        knows_line(line);
+    }
 }
 
 /// Reads the script of a text over `k` attributes with its steps, or the status that refuses it.
@@ -77,8 +79,10 @@ fn read_schedule<S: Source>(alloc: Global, k: u8, source: &mut S) -> Result<Scri
         Err(TextStop::NoMemory) => return Err(Status::NoMemory),
     };
     match read_commands(alloc, text.as_slice(), k, true) {
-        Ok(script) if serves(script.lines.as_slice()) => Ok(script),
-        Ok(_) => Err(Status::NotBuilt),
+        Ok(script) => {
+            knows_lines(script.lines.as_slice());
+            Ok(script)
+        }
         Err(TextError::Bad(bad)) => Err(Status::BadText(bad)),
         Err(TextError::NoMemory) => Err(Status::NoMemory),
     }

@@ -59,7 +59,17 @@ const TEXTS: [(&str, &str, &str); 32] = [
         "1 insert 18446744073709551615 =~\n1 insert 0 =abcdefghijklmnopqrstuvwxyzabcdef\n1 lookup 0\n1 lookup 18446744073709551615\nstep 1x14\n",
         "0 1 ok\n2 ok\n3 found =abcdefghijklmnopqrstuvwxyzabcdef\n4 found =~\norder 1 2 3 4\n",
     ),
-    ("", "1 search 0 9\nstep 1x9\n", "11 not built\n"),
+    ("", "1 search 0 9\nstep 1x9\n", "0 1 box 0\norder 1\n"),
+    (
+        "",
+        "1 insert 1 =a\n1 insert 3 =c\n1 insert 2 =b\n1 insert 6 =f\n1 insert 5 =e\n1 insert 4 =d\n1 insert 7 =g\n1 search 2 6\nstep 1x60\n",
+        "0 1 ok\n2 ok\n3 ok\n4 ok\n5 ok\n6 ok\n7 ok\n8 box 5\n+ 2 =b\n+ 3 =c\n+ 4 =d\n+ 5 =e\n+ 6 =f\norder 1 2 3 4 5 6 7 8\n",
+    ),
+    (
+        "1 insert 1 =a\n1 insert 2 =b\n1 insert 3 =\nstep 1x16\n",
+        "1 search 2 9\n2 delete 2\n3 delete 1\nstep 1\nstep 2 3x6\nstep 1x6\nstep 2x6\n",
+        "0 3 ok\n1 box 2\n+ 2 =b\n+ 3 =\n2 ok\norder 3 1 2\n",
+    ),
     (
         "",
         "1 insert 1 =a\n2 lookup 1\nstep 1x9\n",

@@ -22,7 +22,6 @@ use Rattle.hb_latch.specs.Tables.{MayLatch, latch_cmp}
 use Rattle.hb_lemmas.proofs.Options.{has_value, not_none}
 use Rattle.hb_ops.specs.Files.{FileState}
 use Rattle.hb_ops.specs.Sound.{IsSound}
-use Rattle.hb_point.specs.SessionRows.{WantsBoxes}
 use Rattle.hb_set.specs.Order.{AreRising}
 use Rattle.hb_set.specs.declared.scripts.Line.{Line}
 use Rattle.hb_store.specs.Keeps.{StoreKeeps}
@@ -110,7 +109,6 @@ pub record MayBegin (lines : List Line) (store : StoreState) : Type 0 where
   pub rising : AreRising lines
   pub bodies : All HasLineBody lines
   pub fit : All (LineFits store.meta.k) lines
-  pub no_searches : All (λ (line : Line). WantsBoxes line.command → ⊥) lines
 
 -- and besides over one that tells
 pub record KeepsSound (d : DiskModel) (store : StoreState) (s : FileState) : Type 0 where
@@ -172,7 +170,7 @@ module _ (lines : List Line) (store : StoreState) (may : MayBegin lines store) (
   pub may_step_begun : (d : DiskModel) (steps : List ℕ) → ShowsMachine d (begun_core lines steps store) (begun_machine lines store files clock) → IfSome files (HasSoundFile (begun_machine lines store files clock)) → MayStep d (begun_core lines steps store) (begun_machine lines store files clock)
   may_step_begun d steps shows sound = record {
     shows = shows;
-    goes_on = record { kept = beginning_keeps m is_begun; sound = sound; searches = may.no_searches; merges = begun_has_nothing m is_begun };
+    goes_on = record { kept = beginning_keeps m is_begun; sound = sound; merges = begun_has_nothing m is_begun };
   }
 
 -- A machine from which a core goes on that has taken no step; over a disk that tells, with a sound file that the store keeps.

@@ -22,7 +22,7 @@ use Rattle.hb_core.specs.Performing.{given_by}
 use Rattle.hb_core.specs.Runs.{AreAnswers, CountsFaults, CrashesTo, HasReadFault, HasRun, HoldsSince, IsPrefixImage, RunningLaws, left_count}
 use Rattle.hb_core.specs.Showing.{RunningCore, ShowsMachine}
 use Rattle.hb_core.specs.Steps.{StepsInSequence, StepsTo}
-use Rattle.hb_core.specs.SteppingLaws.{HasNoSearches, IsBetween}
+use Rattle.hb_core.specs.SteppingLaws.{IsBetween}
 use Rattle.hb_core.specs.Touching.{Touches}
 use Rattle.hb_core.specs.Working.{MayGoOn, MayStep}
 use Rattle.hb_core.specs.declared.outcomes.Outcome.{Outcome}
@@ -36,10 +36,8 @@ use Rattle.hb_disk.specs.Model.{DiskModel, IsDisk, Torn}
 use Rattle.hb_latch.specs.Tables.{MayLatch}
 use Rattle.hb_lemmas.proofs.Lists.{All-alone}
 use Rattle.hb_lemmas.proofs.Options.{has_value}
-use Rattle.hb_point.specs.SessionRows.{WantsBoxes}
 use Rattle.hb_set.specs.Machine.{RecordSet}
 use Rattle.hb_set.specs.declared.scripts.Answered.{Answered}
-use Rattle.hb_set.specs.declared.scripts.Line.{Line}
 use Rattle.hb_store.proofs.Facts.StoreLaws.{StoreKeeps-opens}
 use Rattle.hb_store.specs.Keeps.{StoreKeeps}
 use Rattle.hb_store.specs.States.{StoreState}
@@ -85,10 +83,6 @@ pub one_more_step : (actors : List ℕ) (m mid next : Machine) (actor : ℕ) (ou
 one_more_step [] m mid next actor outcome is step = (outcome, next, subst (λ (x : Machine). StepsTo x actor outcome next) is step, refl)
 one_more_step (first ∷ rest) m mid next actor outcome (said, one, step, steps) last = (said, one, step, one_more_step rest one mid next actor outcome steps last)
 
--- no line of the script is a search, as none was before
-same_lines : (m next : Machine) → next.lines ≡ m.lines → HasNoSearches m → HasNoSearches next
-same_lines m next same none = subst (λ (l : List Line). All (λ (line : Line). WantsBoxes line.command → ⊥) l) (sym same) none
-
 module _ (laws : RunningLaws) (e f : DiskModel) (old new : RunningCore) (actor : ℕ) (outcome : Outcome) (mid next : Machine) (may : MayLatch actor) (step : StepsTo mid actor outcome next) (shows : ShowsMachine e old mid) (shows_next : ShowsMachine f new next)
     (goes_on : MayGoOn mid) (became : Becomes (Torn mid.store.log.area mid.store.log.len) e f) where
   -- files are told of exactly where they were, and are sound
@@ -109,7 +103,6 @@ module _ (laws : RunningLaws) (e f : DiskModel) (old new : RunningCore) (actor :
   goes_on_next = record {
     kept = laws.kept mid actor outcome next may goes_on.kept step;
     sound = sound_next;
-    searches = same_lines mid next (order_grows mid actor outcome next step).0 goes_on.searches;
     merges = nothing_comes_to_merge mid actor outcome next goes_on.merges step;
   }
 

@@ -24,7 +24,8 @@ use Rattle.hb_core.specs.KeptMachine.{MachineKeeps}
 use Rattle.hb_core.specs.KeptMerges.{NamesKnown, merging_at}
 use Rattle.hb_core.specs.KeptOrder.{FollowMarks, HasLegalOrder, HasPendingPrefix, StandsInOrder, StandsOutside}
 use Rattle.hb_core.specs.KeptPlaces.{AnswersAreSingle, OrderIsShort, RepliesStand}
-use Rattle.hb_core.specs.KeptSearches.{SearchesAreExact, StaysGathering}
+use Rattle.hb_core.specs.KeptSearches.{SearchesAreExact}
+use Rattle.hb_search.specs.Searching.{StaysGathering}
 use Rattle.hb_core.specs.KeptSequence.{IsInSequence, LinesInSequence, awaited_number}
 use Rattle.hb_core.specs.Machines.{Machine, settled_count}
 use Rattle.hb_core.specs.Performing.{latches_held, mode_among}

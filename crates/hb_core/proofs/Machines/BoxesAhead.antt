@@ -8,7 +8,8 @@ use Rattle.hb_space.specs.declared.records.Record.{Record}
 use Rattle.hb_frag.specs.declared.pages.LivePage.{LivePage}
 use Rattle.hb_frag.specs.declared.pages.Page.TheVariants.{Live}
 use Rattle.hb_layout.specs.declared.meta.Meta.{Meta}
-use Rattle.hb_set.specs.declared.commands.Command.TheVariants.{Search}
+use Rattle.hb_set.specs.declared.commands.Command.{Command}
+use Rattle.hb_set.specs.declared.commands.Command.TheVariants.{Insert, Delete, Lookup, Search}
 use Rattle.hb_set.specs.declared.scripts.Line.{Line}
 use Rattle.hb_activity.specs.declared.wanting.Wanted.{Wanted}
 use Rattle.hb_activity.specs.declared.activities.Activity.{Activity}
@@ -80,6 +81,31 @@ goal_at_hand area rest front last p is goal =
   where
     by : Some last.lo ≡ Some p → last.lo ≡ p
     by same = cc
+
+-- which one is left to it
+pub record HasLast (rest : List Area) : Type 0 where
+  pub front : List Area
+  pub last : Area
+  pub is : rest ≡ front ++ last ∷ []
+
+not_nothing : (a : Area) (rest : List Area) → a ∷ rest ≢ []
+not_nothing a rest is = cc
+
+pub has_last : (rest : List Area) → rest ≢ [] → HasLast rest
+has_last [] some = absurd (some refl)
+has_last (a ∷ []) some = record { front = []; last = a; is = refl }
+has_last (a ∷ b ∷ rest) some =
+    let behind = has_last (b ∷ rest) (not_nothing b rest) in
+    record { front = a ∷ behind.front; last = behind.last; is = ap (λ (l : List Area). a ∷ l) behind.is }
+
+pub corner_ahead : (command : Command) (rest : List Area) (ends : HasLast rest) → WantsBoxes command → goal_of command rest ≡ Some ends.last.lo
+corner_ahead (Search area) rest ends wants =
+    let long = length-append {A = Area} ends.front (ends.last ∷ []) in
+    let there = last_there ends.front ends.last (length (ends.front ++ ends.last ∷ []) - 1) (omega (arith, long)) in
+    subst (λ (r : List Area). goal_of (Search area) r ≡ Some ends.last.lo) (sym ends.is) (ap (option_map (λ (a : Area). a.lo)) there)
+corner_ahead (Insert rec) rest ends wants = absurd wants
+corner_ahead (Delete point) rest ends wants = absurd wants
+corner_ahead (Lookup point) rest ends wants = absurd wants
 
 -- the box of a leaf of a page of the file
 pub leaf_box : (meta : Meta) (page : LivePage) (p : List ℕ) (l : Placed) → IsGoodPage meta (Live page) → leaf_at page p ≡ Some l → IsBoxOf meta.k l.area × Holds l.area p

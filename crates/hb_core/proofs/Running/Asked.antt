@@ -2,7 +2,6 @@
 use Rattle.std.proofs.Common.{◌≡◌, inl, inr, ℕ, ◌<◌, ◌≤◌, List, Option, Some, None, MatchOption, IsSome, IfSome, refl, sym, ap, ◌∙◌, subst, arith}
 use Rattle.std.specs.Option.{option_and_then, option_map}
 use Rattle.std.proofs.lemmas.Bool.{cases_lt}
-use Rattle.std.proofs.lemmas.List.Elements.{All-contains}
 use Rattle.hb_disk.specs.Model.{DiskModel}
 use Rattle.hb_space.specs.Boxes.{Area}
 use Rattle.hb_space.specs.Points.{IsPoint}
@@ -23,7 +22,7 @@ use Rattle.hb_activity.specs.declared.jobs.Job.{Job}
 use Rattle.hb_activity.specs.declared.wanting.Wanted.{Wanted}
 use Rattle.hb_activity.specs.declared.activities.Activity.{Activity}
 use Rattle.hb_activity.specs.declared.activities.Activity.TheVariants as at
-use Rattle.hb_activity.specs.Classes.{Posters, Sessions, class_of, line_in_hand}
+use Rattle.hb_activity.specs.Classes.{Posters, Sessions, class_of}
 use Rattle.hb_activity.specs.Deciding.{FitsFree}
 use Rattle.hb_activity.specs.Passing.{LeadsBelow}
 use Rattle.hb_activity.specs.Walks.{goal_of, job_mode, session_mode, walk_held, walk_point}
@@ -31,33 +30,27 @@ use Rattle.hb_activity.specs.Wanting.{child_of, in_mode, named_child, onward_at,
 use Rattle.hb_point.specs.Asks.{MayAsk}
 use Rattle.hb_point.specs.SessionRows.{WantsBoxes}
 use Rattle.hb_poster.specs.Asks.{MakesPage, MayBeAsked}
+use Rattle.hb_search.specs.Searching.{MaySearch}
 use Rattle.hb_store.specs.States.{StoreState}
 use Rattle.hb_lemmas.proofs.Options.{at_value, has_value, some_value}
-use Rattle.hb_core.proofs.Orders.NextLines.{next_is}
-use Rattle.hb_core.proofs.Walks.MayBeAsked.{children_may_be_asked, pages_at_hand_fit, points_may_be_asked, poster_walks_may_be_asked, puts_may_be_asked, splits_may_be_asked}
+use Rattle.hb_core.proofs.Machines.BoxesAhead.{corner_ahead, has_last}
+use Rattle.hb_core.proofs.Walks.MayBeAsked.{children_may_be_asked, pages_at_hand_fit, points_may_be_asked, poster_walks_may_be_asked, puts_may_be_asked, searches_may_be_asked, splits_may_be_asked}
 use Rattle.hb_core.specs.AllowedLaws.{AnyPage}
 use Rattle.hb_core.specs.Acting.{NeedsNumber}
 use Rattle.hb_core.specs.Asking.{looked_live, wanted_by}
 use Rattle.hb_core.specs.Fetching.{Brings}
 use Rattle.hb_core.specs.KeptMachine.{MachineKeeps}
-use Rattle.hb_core.specs.Looking.{AsksPoint, AsksPoster, number_of_row, other_page}
+use Rattle.hb_core.specs.Looking.{AsksPoint, AsksPoster, AsksSearcher, WalksToSearch, number_of_row, other_page}
 use Rattle.hb_core.specs.Machines.{Machine, live_here, next_of}
 use Rattle.hb_core.specs.Rows.{IsAtHand}
 use Rattle.hb_core.specs.Showing.{RunningCore}
-use Rattle.hb_core.specs.SteppingLaws.{HasNoSearches}
 use Rattle.hb_core.specs.Working.{HasPages, IsWorking, with_memory}
 
 -- pages that came, of whatever numbers
 pub any_brings : (m : Machine) (may : ℕ → Type 0) (fetched : StoreState) → Brings m may fetched → Brings m AnyPage fetched
 any_brings m may fetched brings = record { rest = brings.rest; stays = brings.stays; others = brings.others; only = λ id none some. tt; good = brings.good; told = brings.told }
 
--- the line in hand is no search
-pub no_search_in_hand : (m : Machine) (actor : ℕ) (line : Line) → MachineKeeps m → HasNoSearches m → line_in_hand (m.activity actor) ≡ Some line → WantsBoxes line.command → ⊥
-no_search_in_hand m actor line keeps none is =
-    let next = at_value (line_in_hand (m.activity actor)) _ line is (keeps.lines_in_sequence.in_hand actor) in
-    All-contains (λ (l : Line). WantsBoxes l.command → ⊥) m.lines line none (next_is actor m.answered m.lines line next).among
-
--- any other command has a point to which it walks
+-- a command that is no search has a point to which it walks
 pub has_goal : (command : Command) (rest : List Area) → (WantsBoxes command → ⊥) → (p : List ℕ) × (goal_of command rest ≡ Some p)
 has_goal (Insert rec) rest none = (rec.key, refl)
 has_goal (Delete point) rest none = (point, refl)
@@ -193,9 +186,8 @@ module _ (d : DiskModel) (c : RunningCore) (m : Machine) (actor : ℕ) (free : O
   split_fits line held is = subst (λ (m : Meta). FitsFree m free) meta
       (fits_free (Needs (at.SessionSplit line held) None) (λ next. next_of c.store ≡ Some next) c.store.meta free few (λ need. need) (λ lt. lt) (numbers_at (at.SessionSplit line held) None is (alone (at.SessionSplit line held) is refl)))
 
-  walk_asks : (line : Line) (held : Option ℕ) (rest : List Area) (found : List Record) → m.activity actor ≡ at.SessionWalk line held rest found → IfSome (walk_point (m.activity actor)) IsPoint → AsksSession (at.SessionWalk line held rest found)
-  walk_asks line held rest found is points =
-      let none = no_search_in_hand m actor line keeps has.may.goes_on.searches (ap line_in_hand is) in
+  walk_asks : (line : Line) (held : Option ℕ) (rest : List Area) (found : List Record) → m.activity actor ≡ at.SessionWalk line held rest found → (WantsBoxes line.command → ⊥) → IfSome (walk_point (m.activity actor)) IsPoint → AsksSession (at.SessionWalk line held rest found)
+  walk_asks line held rest found is none points =
       let goal = has_goal line.command rest none in
       let at_goal = ap walk_point is ∙ goal.1 in
       let its = has_wanted (session_wants m actor may keeps line held rest found goal.0 is goal.1) in
@@ -216,16 +208,41 @@ module _ (d : DiskModel) (c : RunningCore) (m : Machine) (actor : ℕ) (free : O
       (asks_point (at.SessionPut line source fresh) source asks.page asks.live
       (subst (λ (o : Option LivePage). MayAsk (at.SessionPut line source fresh) m.store.meta free source asks.page o) (sym asks.other_live) (subst (λ (a : Activity). MayAsk a m.store.meta free source asks.page (Some asks.other)) is asks.may)))
 
-  pub session_asks : (activity : Activity) → m.activity actor ≡ activity → class_of activity ≡ Sessions → IsWorking activity → IfSome (walk_point activity) IsPoint → AsksSession activity
-  session_asks (at.SessionWalk line held rest found) is class working points = walk_asks line held rest found is (subst (λ (a : Activity). IfSome (walk_point a) IsPoint) (sym is) points)
-  session_asks (at.SessionSplit line held) is class working points = split_asks line held is
-  session_asks (at.SessionPut line source fresh) is class working points = put_asks line source fresh is
-  session_asks (at.PosterGrow job) is class working points = cc
-  session_asks (at.PosterWalk job held) is class working points = cc
-  session_asks (at.PosterChild job parent) is class working points = cc
-  session_asks (at.PosterPromote job parent) is class working points = cc
-  session_asks (at.PosterAgain job parent) is class working points = cc
-  session_asks activity is class working points = absurd working
+  pub session_asks : (activity : Activity) → m.activity actor ≡ activity → class_of activity ≡ Sessions → IsWorking activity → (WalksToSearch activity → ⊥) → IfSome (walk_point activity) IsPoint → AsksSession activity
+  session_asks (at.SessionWalk line held rest found) is class working none points = walk_asks line held rest found is none (subst (λ (a : Activity). IfSome (walk_point a) IsPoint) (sym is) points)
+  session_asks (at.SessionSplit line held) is class working none points = split_asks line held is
+  session_asks (at.SessionPut line source fresh) is class working none points = put_asks line source fresh is
+  session_asks (at.PosterGrow job) is class working none points = cc
+  session_asks (at.PosterWalk job held) is class working none points = cc
+  session_asks (at.PosterChild job parent) is class working none points = cc
+  session_asks (at.PosterPromote job parent) is class working none points = cc
+  session_asks (at.PosterAgain job parent) is class working none points = cc
+  session_asks activity is class working none points = absurd working
+
+  -- ---- searches
+
+  abbrev AsksAsSearcher : Activity → Type 0
+  AsksAsSearcher activity = AsksSearcher c.store activity (number_of_row activity (wanted_by m actor)) free
+
+  search_walk_asks : (line : Line) (held : Option ℕ) (rest : List Area) (found : List Record) → m.activity actor ≡ at.SessionWalk line held rest found → WantsBoxes line.command → IfSome (walk_point (m.activity actor)) IsPoint → AsksAsSearcher (at.SessionWalk line held rest found)
+  search_walk_asks line held rest found is wants points =
+      let ends = has_last rest (keeps.attributes_fit.box_left actor line held rest found is wants) in
+      let goal = corner_ahead line.command rest ends wants in
+      let at_goal = ap walk_point is ∙ goal in
+      let its = has_wanted (session_wants m actor may keeps line held rest found ends.last.lo is goal) in
+      let asked = searches_may_be_asked m actor c.store line held rest found its.wanted its.page ends.last.lo may keeps brings is wants at_goal (at_value (walk_point (m.activity actor)) IsPoint ends.last.lo at_goal points) its.wants its.hand in
+      subst (λ (w : Option Wanted). AsksSearcher c.store (at.SessionWalk line held rest found) (number_of_row (at.SessionWalk line held rest found) w) free) (sym its.wants) (record {
+        layout = layout;
+        page = its.page;
+        live = its.hand.live;
+        made = made its.wanted.page its.page its.hand.live;
+        next = next_is_given;
+        asked = subst (λ (a : Activity). MaySearch a its.page) is asked;
+      })
+
+  pub searcher_asks : (activity : Activity) → m.activity actor ≡ activity → WalksToSearch activity → IfSome (walk_point activity) IsPoint → AsksAsSearcher activity
+  searcher_asks (at.SessionWalk line held rest found) is wants points = search_walk_asks line held rest found is wants (subst (λ (a : Activity). IfSome (walk_point a) IsPoint) (sym is) points)
+  searcher_asks activity is wants points = absurd wants
 
   -- ---- the poster
 

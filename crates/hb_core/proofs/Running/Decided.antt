@@ -11,19 +11,22 @@ use Rattle.hb_set.specs.declared.scripts.Line.{Line}
 use Rattle.hb_activity.specs.declared.wanting.Wanted.{Wanted}
 use Rattle.hb_activity.specs.declared.activities.Activity.{Activity}
 use Rattle.hb_activity.specs.declared.activities.Activity.TheVariants as at
-use Rattle.hb_activity.specs.Classes.{Consolidators, Flushers, Posters, Sessions, class_of, line_in_hand}
+use Rattle.hb_activity.specs.Classes.{Consolidators, Flushers, Posters, Sessions, class_of}
 use Rattle.hb_activity.specs.Deeds.{Deed}
 use Rattle.hb_activity.specs.Sights.{Sight}
 use Rattle.hb_activity.specs.Walks.{goal_of, walk_point}
 use Rattle.hb_point.specs.PointRows.{PointRow}
+use Rattle.hb_point.specs.SessionRows.{WantsBoxes}
 use Rattle.hb_poster.specs.PosterRows.{PosterRow}
+use Rattle.hb_search.specs.Searching.{SearchRow}
 use Rattle.hb_store.specs.States.{StoreState}
-use Rattle.hb_core.proofs.Running.Asked.{HasWanted, alone, has_goal, has_wanted, no_search_in_hand, poster_asks, poster_wants, session_asks, session_wants}
-use Rattle.hb_core.proofs.Running.LiftedRows.{row_of_walk}
+use Rattle.hb_core.proofs.Machines.BoxesAhead.{corner_ahead, has_last}
+use Rattle.hb_core.proofs.Running.Asked.{HasWanted, alone, has_goal, has_wanted, poster_asks, poster_wants, searcher_asks, session_asks, session_wants}
+use Rattle.hb_core.proofs.Running.LiftedRows.{row_of_search, row_of_walk}
 use Rattle.hb_core.specs.Asking.{wanted_by}
 use Rattle.hb_core.specs.KeptFits.{class_for}
 use Rattle.hb_core.specs.KeptMachine.{MachineKeeps}
-use Rattle.hb_core.specs.Looking.{AsksPoint, AsksPoster, HasPointRow, HasPosterRow, number_of_row, sight_in}
+use Rattle.hb_core.specs.Looking.{AsksPoint, AsksPoster, AsksSearcher, HasPointRow, HasPosterRow, HasSearchRow, WalksToSearch, number_of_row, sight_in}
 use Rattle.hb_core.specs.Machines.{Machine, sight}
 use Rattle.hb_core.specs.Moving.{StandsAs}
 use Rattle.hb_core.specs.Rows.{IsAtHand, Row, RowAt}
@@ -87,12 +90,18 @@ module _ (d : DiskModel) (c : RunningCore) (m : Machine) (actor : ℕ) (free : O
 
   -- ---- what the deciders are asked
 
-  pub may_ask_session : (activity : Activity) (wanted : Option Wanted) (st : StoreState) → StandsAs c actor activity → wanted ≡ wanted_by m actor → st ≡ c.store → (actor == 17) ≡ false → IfSome (walk_point activity) IsPoint → AsksPoint st activity (number_of_row activity wanted) free
-  may_ask_session activity wanted st stood wants same off points =
+  pub may_ask_session : (activity : Activity) (wanted : Option Wanted) (st : StoreState) → StandsAs c actor activity → wanted ≡ wanted_by m actor → st ≡ c.store → (actor == 17) ≡ false → (WalksToSearch activity → ⊥) → IfSome (walk_point activity) IsPoint → AsksPoint st activity (number_of_row activity wanted) free
+  may_ask_session activity wanted st stood wants same off none points =
       let is = stands activity stood in
       subst (λ (st : StoreState). AsksPoint st activity (number_of_row activity wanted) free) (sym same)
       (subst (λ (w : Option Wanted). AsksPoint c.store activity (number_of_row activity w) free) (sym wants)
-      (session_asks d c m actor free may has activity is (is_session activity is off) (works activity is) points))
+      (session_asks d c m actor free may has activity is (is_session activity is off) (works activity is) none points))
+
+  pub may_ask_searcher : (activity : Activity) (wanted : Option Wanted) (st : StoreState) → StandsAs c actor activity → wanted ≡ wanted_by m actor → st ≡ c.store → WalksToSearch activity → IfSome (walk_point activity) IsPoint → AsksSearcher st activity (number_of_row activity wanted) free
+  may_ask_searcher activity wanted st stood wants same searches points =
+      subst (λ (st : StoreState). AsksSearcher st activity (number_of_row activity wanted) free) (sym same)
+      (subst (λ (w : Option Wanted). AsksSearcher c.store activity (number_of_row activity w) free) (sym wants)
+      (searcher_asks d c m actor free may has activity (stands activity stood) searches points))
 
   pub may_ask_poster : (activity : Activity) (wanted : Option Wanted) (st : StoreState) → StandsAs c actor activity → wanted ≡ wanted_by m actor → st ≡ c.store → actor ≡ 17 → IfSome (walk_point activity) IsPoint → AsksPoster st activity (number_of_row activity wanted) free
   may_ask_poster activity wanted st stood wants same poster points =
@@ -106,10 +115,9 @@ module _ (d : DiskModel) (c : RunningCore) (m : Machine) (actor : ℕ) (free : O
   abbrev OwnRow : Activity → Option Wanted → Deed → Type 0
   OwnRow activity wanted deed = Row activity wanted (with_memory c m) deed
 
-  walk_row : (line : Line) (held : Option ℕ) (rest : List Area) (found : List Record) (deed : Deed) → m.activity actor ≡ at.SessionWalk line held rest found
+  walk_row : (line : Line) (held : Option ℕ) (rest : List Area) (found : List Record) (deed : Deed) → m.activity actor ≡ at.SessionWalk line held rest found → (WantsBoxes line.command → ⊥)
       → HasPointRow c.store (at.SessionWalk line held rest found) (number_of_row (at.SessionWalk line held rest found) (wanted_by m actor)) (length m.order) deed → OwnRow (at.SessionWalk line held rest found) (wanted_by m actor) deed
-  walk_row line held rest found deed is row =
-      let none = no_search_in_hand m actor line keeps has.may.goes_on.searches (ap line_in_hand is) in
+  walk_row line held rest found deed is none row =
       let goal = has_goal line.command rest none in
       let its = has_wanted d c m actor free may has (session_wants m actor may keeps line held rest found goal.0 is goal.1) in
       let at_page = subst (λ (w : Option Wanted). HasPointRow c.store (at.SessionWalk line held rest found) (number_of_row (at.SessionWalk line held rest found) w) (length m.order) deed) its.wants row in
@@ -121,18 +129,36 @@ module _ (d : DiskModel) (c : RunningCore) (m : Machine) (actor : ℕ) (free : O
             (subst (λ (q : LivePage). PointRow (at.SessionWalk line held rest found) (sight_in c.store (length m.order)) its.wanted.page q deed) same at_page.2),
       )
 
-  session_row : (activity : Activity) (deed : Deed) → m.activity actor ≡ activity → class_of activity ≡ Sessions → IsWorking activity → HasPointRow c.store activity (number_of_row activity (wanted_by m actor)) (length m.order) deed → OwnRow activity (wanted_by m actor) deed
-  session_row (at.SessionWalk line held rest found) deed is class working row = walk_row line held rest found deed is row
-  session_row (at.SessionSplit line held) deed is class working row =
+  search_walk_row : (line : Line) (held : Option ℕ) (rest : List Area) (found : List Record) (deed : Deed) → m.activity actor ≡ at.SessionWalk line held rest found → WantsBoxes line.command
+      → HasSearchRow c.store (at.SessionWalk line held rest found) (number_of_row (at.SessionWalk line held rest found) (wanted_by m actor)) (length m.order) deed → OwnRow (at.SessionWalk line held rest found) (wanted_by m actor) deed
+  search_walk_row line held rest found deed is wants row =
+      let ends = has_last rest (keeps.attributes_fit.box_left actor line held rest found is wants) in
+      let its = has_wanted d c m actor free may has (session_wants m actor may keeps line held rest found ends.last.lo is (corner_ahead line.command rest ends wants)) in
+      let at_page = subst (λ (w : Option Wanted). HasSearchRow c.store (at.SessionWalk line held rest found) (number_of_row (at.SessionWalk line held rest found) w) (length m.order) deed) its.wants row in
+      let same : at_page.0 ≡ its.page = same_Some at_page.0 its.page (sym at_page.1 ∙ its.hand.live) in
+      subst (λ (w : Option Wanted). OwnRow (at.SessionWalk line held rest found) w deed) (sym its.wants) (
+        its.page,
+        subst (λ (a : Activity). IsAtHand (with_memory c m) a its.wanted its.page) is its.hand,
+        row_of_search (sight (with_memory c m)) line (goal_of line.command rest) rest found its.wanted.page its.page deed wants
+            (subst (λ (q : LivePage). SearchRow (at.SessionWalk line held rest found) (sight_in c.store (length m.order)) its.wanted.page q deed) same at_page.2),
+      )
+
+  search_row : (activity : Activity) (deed : Deed) → m.activity actor ≡ activity → WalksToSearch activity → HasSearchRow c.store activity (number_of_row activity (wanted_by m actor)) (length m.order) deed → OwnRow activity (wanted_by m actor) deed
+  search_row (at.SessionWalk line held rest found) deed is wants row = search_walk_row line held rest found deed is wants row
+  search_row activity deed is wants row = absurd wants
+
+  session_row : (activity : Activity) (deed : Deed) → m.activity actor ≡ activity → class_of activity ≡ Sessions → IsWorking activity → (WalksToSearch activity → ⊥) → HasPointRow c.store activity (number_of_row activity (wanted_by m actor)) (length m.order) deed → OwnRow activity (wanted_by m actor) deed
+  session_row (at.SessionWalk line held rest found) deed is class working none row = walk_row line held rest found deed is none row
+  session_row (at.SessionSplit line held) deed is class working none row =
       subst (λ (w : Option Wanted). OwnRow (at.SessionSplit line held) w deed) (sym (alone d c m actor free may has (at.SessionSplit line held) is refl)) row.2
-  session_row (at.SessionPut line source fresh) deed is class working row =
+  session_row (at.SessionPut line source fresh) deed is class working none row =
       subst (λ (w : Option Wanted). OwnRow (at.SessionPut line source fresh) w deed) (sym (alone d c m actor free may has (at.SessionPut line source fresh) is refl)) row.2
-  session_row (at.PosterGrow job) deed is class working row = cc
-  session_row (at.PosterWalk job held) deed is class working row = cc
-  session_row (at.PosterChild job parent) deed is class working row = cc
-  session_row (at.PosterPromote job parent) deed is class working row = cc
-  session_row (at.PosterAgain job parent) deed is class working row = cc
-  session_row activity deed is class working row = absurd working
+  session_row (at.PosterGrow job) deed is class working none row = cc
+  session_row (at.PosterWalk job held) deed is class working none row = cc
+  session_row (at.PosterChild job parent) deed is class working none row = cc
+  session_row (at.PosterPromote job parent) deed is class working none row = cc
+  session_row (at.PosterAgain job parent) deed is class working none row = cc
+  session_row activity deed is class working none row = absurd working
 
   -- of the page at hand, where one is wanted
   pub at_hand : (activity : Activity) (its : HasWanted d c m actor free may has) (deed : Deed) → m.activity actor ≡ activity → RowAt activity (sight (with_memory c m)) its.wanted.page its.page deed → OwnRow activity (wanted_by m actor) deed
@@ -147,13 +173,21 @@ module _ (d : DiskModel) (c : RunningCore) (m : Machine) (actor : ℕ) (free : O
       at_hand activity its deed is (row_of_poster (sight (with_memory c m)) activity its.wanted.page its.page deed class working
       (subst (λ (q : LivePage). PosterRow activity (sight_in c.store (length m.order)) its.wanted.page q deed) same at_page.2))
 
-  pub decided_session : (activity : Activity) (wanted : Option Wanted) (st : StoreState) (deed : Activity → Deed) → StandsAs c actor activity → wanted ≡ wanted_by m actor → st ≡ c.store → (actor == 17) ≡ false
+  pub decided_session : (activity : Activity) (wanted : Option Wanted) (st : StoreState) (deed : Activity → Deed) → StandsAs c actor activity → wanted ≡ wanted_by m actor → st ≡ c.store → (actor == 17) ≡ false → (WalksToSearch activity → ⊥)
       → HasPointRow st activity (number_of_row activity wanted) (length m.order) (deed activity) → Row (m.activity actor) (wanted_by m actor) (with_memory c m) (deed (m.activity actor))
-  decided_session activity wanted st deed stood wants same off row =
+  decided_session activity wanted st deed stood wants same off none row =
       let is = stands activity stood in
       let here = subst (λ (st : StoreState). HasPointRow st activity (number_of_row activity wanted) (length m.order) (deed activity)) same row in
       let own = subst (λ (w : Option Wanted). HasPointRow c.store activity (number_of_row activity w) (length m.order) (deed activity)) wants here in
-      subst (λ (a : Activity). OwnRow a (wanted_by m actor) (deed a)) (sym is) (session_row activity (deed activity) is (is_session activity is off) (works activity is) own)
+      subst (λ (a : Activity). OwnRow a (wanted_by m actor) (deed a)) (sym is) (session_row activity (deed activity) is (is_session activity is off) (works activity is) none own)
+
+  pub decided_search : (activity : Activity) (wanted : Option Wanted) (st : StoreState) (deed : Activity → Deed) → StandsAs c actor activity → wanted ≡ wanted_by m actor → st ≡ c.store → WalksToSearch activity
+      → HasSearchRow st activity (number_of_row activity wanted) (length m.order) (deed activity) → Row (m.activity actor) (wanted_by m actor) (with_memory c m) (deed (m.activity actor))
+  decided_search activity wanted st deed stood wants same searches row =
+      let is = stands activity stood in
+      let here = subst (λ (st : StoreState). HasSearchRow st activity (number_of_row activity wanted) (length m.order) (deed activity)) same row in
+      let own = subst (λ (w : Option Wanted). HasSearchRow c.store activity (number_of_row activity w) (length m.order) (deed activity)) wants here in
+      subst (λ (a : Activity). OwnRow a (wanted_by m actor) (deed a)) (sym is) (search_row activity (deed activity) is searches own)
 
   pub decided_poster : (activity : Activity) (wanted : Option Wanted) (st : StoreState) (deed : Activity → Deed) → StandsAs c actor activity → wanted ≡ wanted_by m actor → st ≡ c.store → actor ≡ 17
       → HasPosterRow st activity (number_of_row activity wanted) (length m.order) (deed activity) → Row (m.activity actor) (wanted_by m actor) (with_memory c m) (deed (m.activity actor))

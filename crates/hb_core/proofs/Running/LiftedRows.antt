@@ -1,6 +1,8 @@
 -- A row that holds of what a decider was given holds of what the machine shows.
-use Rattle.std.proofs.Common.{◌≡◌, ◌⊎◌, inl, inr, ℕ, ◌<◌, ◌≤◌, List, Option, Some, None, MatchOption, refl, sym, ap, ◌∙◌, subst}
-use Rattle.hb_space.specs.Boxes.{Area}
+use Rattle.std.proofs.Common.{◌≡◌, ◌⊎◌, inl, inr, ℕ, ◌<◌, ◌≤◌, List, [], ◌∷◌, ◌++◌, filter, Option, Some, None, MatchOption, refl, sym, ap, ◌∙◌, subst}
+use Rattle.hb_search.specs.SearchRows.{Gathers, SearchGoesOn}
+use Rattle.hb_search.specs.Searching.{SearchRow}
+use Rattle.hb_space.specs.Boxes.{Area, common_area, holds, pieces_outside}
 use Rattle.hb_space.specs.declared.records.Record.{Record}
 use Rattle.hb_frag.specs.declared.paths.Side.{Side}
 use Rattle.hb_frag.specs.declared.pages.LivePage.{LivePage}
@@ -25,7 +27,7 @@ use Rattle.hb_activity.specs.Passing.{PartLeavesTo, PassesOn, posts_owed}
 use Rattle.hb_activity.specs.Sights.{Sight}
 use Rattle.hb_activity.specs.Walks.{goal_of}
 use Rattle.hb_point.specs.PointRows.{PointRow}
-use Rattle.hb_point.specs.SessionRows.{DoesThere, merges_due}
+use Rattle.hb_point.specs.SessionRows.{DoesThere, WantsBoxes, merges_due}
 use Rattle.hb_point.specs.SplitRows.{PutsInHalf, SplitsOrFull}
 use Rattle.hb_poster.specs.PosterRows.{Arrives, DoesPlan, GrowsFile, GrowsNot, MayGrow, PosterPasses, PosterRow, after_look}
 use Rattle.hb_split.specs.Choosing.{IsChosen}
@@ -95,6 +97,34 @@ module _ (s t : Sight) (seen : IsSeenIn t s) where
   lifted_point (at.SessionPut line source fresh) id page deed row = puts line source fresh deed row
   lifted_point activity id page deed row = absurd row
 
+  -- ---- searches
+
+  search_goes : (line : Line) (boxes : List Area) (more : List Record) (deed : Deed) → SearchGoesOn s line boxes more deed → SearchGoesOn t line boxes more (at_end deed)
+  search_goes line [] more deed (ordered, same, rising, is) = (ordered, same, rising, ap at_end is)
+  search_goes line (a ∷ boxes) more deed is = ap at_end is
+
+  gathers : (line : Line) (rest : List Area) (found : List Record) (page : LivePage) (p : List ℕ) (deed : Deed) → Gathers s line rest found page p deed → Gathers t line rest found page p (at_end deed)
+  gathers line rest found page p deed row = record {
+    front = row.front;
+    at_hand = row.at_hand;
+    boxes = row.boxes;
+    records = row.records;
+    area = row.area;
+    leaf = row.leaf;
+    goes = search_goes line (row.front ++ pieces_outside row.at_hand (common_area row.at_hand row.area)) (found ++ filter (λ r. holds row.at_hand r.key) row.records) deed row.goes;
+  }
+
+  searched : (line : Line) (goal : Option (List ℕ)) (rest : List Area) (found : List Record) (id : ℕ) (page : LivePage) (deed : Deed)
+      → MatchOption goal ⊥ (λ p. PassesOn page p (at.SessionWalk line (Some id) rest found) deed ⊎ Gathers s line rest found page p deed)
+      → MatchOption goal ⊥ (λ p. PassesOn page p (at.SessionWalk line (Some id) rest found) (at_end deed) ⊎ Gathers t line rest found page p (at_end deed))
+  searched line None rest found id page deed none = none
+  searched line (Some p) rest found id page deed (inl on) = inl (passes page p (at.SessionWalk line (Some id) rest found) deed refl on)
+  searched line (Some p) rest found id page deed (inr row) = inr (gathers line rest found page p deed row)
+
+  pub lifted_search : (activity : Activity) (id : ℕ) (page : LivePage) (deed : Deed) → SearchRow activity s id page deed → SearchRow activity t id page (at_end deed)
+  lifted_search (at.SessionWalk line held rest found) id page deed row = searched line (goal_of line.command rest) rest found id page deed row
+  lifted_search activity id page deed row = absurd row
+
   -- ---- the poster
 
   may_grow : (job : Job) (root : LivePage) → MayGrow s job root → MayGrow t job root
@@ -152,3 +182,18 @@ pub row_of_walk : (s : Sight) (line : Line) (goal : Option (List ℕ)) (rest : L
 row_of_walk s line None rest found id page deed none = none
 row_of_walk s line (Some p) rest found id page deed (inl on) = inl on
 row_of_walk s line (Some p) rest found id page deed (inr does) = inr (here s line line.command rest found id page p deed does)
+
+-- and what a search's decider says
+
+sought : (s : Sight) (line : Line) (command : Command) (rest : List Area) (found : List Record) (id : ℕ) (page : LivePage) (p : List ℕ) (deed : Deed) → WantsBoxes command → Gathers s line rest found page p deed → DoesHere s line command rest found id page p deed
+sought s line (Search area) rest found id page p deed wants row = row
+sought s line (Insert rec) rest found id page p deed wants row = absurd wants
+sought s line (Delete point) rest found id page p deed wants row = absurd wants
+sought s line (Lookup point) rest found id page p deed wants row = absurd wants
+
+pub row_of_search : (s : Sight) (line : Line) (goal : Option (List ℕ)) (rest : List Area) (found : List Record) (id : ℕ) (page : LivePage) (deed : Deed) → WantsBoxes line.command
+    → MatchOption goal ⊥ (λ p. PassesOn page p (at.SessionWalk line (Some id) rest found) deed ⊎ Gathers s line rest found page p deed)
+    → MatchOption goal ⊥ (λ p. PassesOn page p (at.SessionWalk line (Some id) rest found) deed ⊎ DoesHere s line line.command rest found id page p deed)
+row_of_search s line None rest found id page deed wants none = none
+row_of_search s line (Some p) rest found id page deed wants (inl on) = inl on
+row_of_search s line (Some p) rest found id page deed wants (inr row) = inr (sought s line line.command rest found id page p deed wants row)

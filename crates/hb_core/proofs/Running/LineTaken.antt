@@ -1,9 +1,8 @@
 -- An idle session of a core takes a line, or the poster takes a job, as a step of the machine that it shows.
-use Rattle.std.proofs.Common.{◌≡◌, ◌≢◌, inl, inr, ℕ, ◌≤◌, ◌+◌, ◌-◌, ◌==◌, Bool, cond, List, [], length, take, drop, slice_get, slice_set, All, Option, Some, None, refl, sym, ap, ◌∙◌, subst, arith, append-nil}
+use Rattle.std.proofs.Common.{◌≡◌, ◌≢◌, inl, inr, ℕ, ◌≤◌, ◌+◌, ◌-◌, ◌==◌, Bool, cond, List, [], length, take, drop, slice_get, slice_set, All, Option, Some, None, refl, sym, ap, ◌∙◌, subst, arith, append-nil, ◌++◌, ◌∷◌}
 use Rattle.std.specs.Prelude.{MatchOption}
 use Rattle.std.proofs.lemmas.Bool.{cases_Bool, eq-eqb, eqb-false, eqb-true}
 use Rattle.std.proofs.lemmas.List.{length-set}
-use Rattle.std.proofs.lemmas.List.Elements.{All-contains}
 use Rattle.std.proofs.lemmas.Option.{same_Some, slice_get_within}
 use Rattle.hb_activity.specs.declared.activities.Activity.{Activity}
 use Rattle.hb_activity.specs.declared.activities.Activity.TheVariants as at
@@ -11,17 +10,17 @@ use Rattle.hb_activity.specs.declared.jobs.Job.{Job}
 use Rattle.hb_activity.specs.declared.jobs.JobKind.TheVariants.{Post}
 use Rattle.hb_activity.specs.Classes.{Sessions, class_of}
 use Rattle.hb_activity.specs.BoxLocks.{lock_of_command}
-use Rattle.hb_activity.specs.Deeds.{Deed, takes_job}
+use Rattle.hb_activity.specs.Deeds.{Deed, answers_now, takes_job}
 use Rattle.hb_disk.specs.Model.{DiskModel}
-use Rattle.hb_latch.specs.Tables.{LatchTable, MayLatch}
-use Rattle.hb_lemmas.proofs.Booleans.{at_other}
+use Rattle.hb_latch.specs.Tables.{LatchTable, MayLatch, mode_at}
+use Rattle.hb_lemmas.proofs.Booleans.{at_other, if_same}
 use Rattle.hb_ops.specs.declared.operations.Op.{Op}
-use Rattle.hb_point.specs.SessionRows.{WantsBoxes, boxes_ahead, next_line, taking}
+use Rattle.hb_point.specs.SessionRows.{boxes_ahead, next_line, taking}
 use Rattle.hb_poster.specs.PosterRows.{IsPostingOf}
-use Rattle.hb_set.specs.declared.commands.Command.{Command}
-use Rattle.hb_set.specs.declared.commands.Command.TheVariants.{Insert, Delete, Lookup, Search}
+use Rattle.hb_set.specs.Order.{AreRising}
+use Rattle.hb_set.specs.declared.commands.Reply.TheVariants as replies
+use Rattle.hb_set.specs.declared.scripts.Answered.{Answered}
 use Rattle.hb_set.specs.declared.scripts.Line.{Line}
-use Rattle.hb_space.specs.Boxes.{Area}
 use Rattle.hb_store.specs.Keeps.{StoreKeeps}
 use Rattle.hb_store.specs.States.{StoreState}
 use Rattle.hb_core.specs.declared.outcomes.Outcome.{Outcome}
@@ -30,10 +29,10 @@ use Rattle.hb_core.specs.Forcing.{StaysSo}
 use Rattle.hb_core.specs.KeptFits.{class_for}
 use Rattle.hb_core.specs.Machines.{Machine, with_activity, with_disk}
 use Rattle.hb_core.specs.Moving.{DoesDeed, KeepsFilesBy, with_standing}
-use Rattle.hb_core.specs.Performing.{MayDo, Performs, Relatches}
+use Rattle.hb_core.specs.Performing.{MayDo, Performs, Relatches, latches_held, mode_among}
 use Rattle.hb_core.specs.Showing.{HasTurn, RunningCore, ShowsMachine, number_in_hand}
 use Rattle.hb_core.specs.Steps.{BeginsLine, StepsAs, TakesPosting}
-use Rattle.hb_core.specs.Taking.{IsNextLine, TakesLine, TakesNextLine, TakesNextPosting}
+use Rattle.hb_core.specs.Taking.{IsNextLine, RefusesLine, TakesLine, TakesNextLine, TakesNextPosting}
 use Rattle.hb_core.specs.Working.{MayStep, with_memory}
 use Rattle.hb_core.proofs.Orders.NextLines.{next_is}
 use Rattle.hb_core.proofs.Running.AgainstPlaces.{box_in_the_way, has_box_free}
@@ -41,7 +40,7 @@ use Rattle.hb_core.proofs.Running.DeedShows.{deed_shows}
 use Rattle.hb_core.proofs.Running.LinesAhead.{next_ahead, none_ahead, turn_at_end, turn_with}
 use Rattle.hb_core.proofs.Running.NumbersInHand.{NumberFate, job_number}
 use Rattle.hb_core.proofs.Running.StandsElsewhere.{apart, at_set, beside_set, shows_but, stand_then}
-use Rattle.hb_core.proofs.Running.TurnsAfter.{TurnAt, has_turn, turn_at}
+use Rattle.hb_core.proofs.Running.TurnsAfter.{TurnAt, answered_elsewhere, answered_here, has_turn, turn_at}
 
 -- ---- sessions
 
@@ -59,19 +58,12 @@ below_workers actor le a b c = omega (arith, le, a, b, c)
 pub is_session : (actor : ℕ) → MayLatch actor → class_for actor ≡ Sessions → actor ≤ 16
 is_session actor may is = let none = no_worker actor is in below_workers actor may.to_19 none.0 none.1 none.2
 
--- a command that is no search has no boxes before it
-no_boxes : (command : Command) → (WantsBoxes command → ⊥) → boxes_ahead command ≡ []
-no_boxes (Insert rec) none = refl
-no_boxes (Delete point) none = refl
-no_boxes (Lookup point) none = refl
-no_boxes (Search area) none = absurd (none tt)
-
 -- the machine once the line is taken
 abbrev taken : RunningCore → Machine → ℕ → Line → Machine
 taken c m actor line = record {
   lines = m.lines;
   answered = m.answered;
-  activity = with_activity actor (at.SessionWalk line None [] []) m.activity;
+  activity = with_activity actor (at.SessionWalk line None (boxes_ahead line.command) []) m.activity;
   latches = c.latches;
   jobs = m.jobs;
   order = m.order;
@@ -144,13 +136,10 @@ module _ (d : DiskModel) (c after : RunningCore) (m : Machine) (actor behind : �
     is_next = next_ahead m.lines m.answered actor behind turn place line step.goes_on.kept.lines_in_sequence.rising skipped stands_there next.own
 
   module _ (place : ℕ) (line : Line) (takes : TakesLine actor behind place line c after) where
-    boxes : boxes_ahead line.command ≡ []
-    boxes = no_boxes line.command (All-contains (λ (l : Line). WantsBoxes l.command → ⊥) m.lines line step.goes_on.searches (next_is actor m.answered m.lines line (is_next place line takes.next)).among)
+    abbrev walk : Activity
+    walk = at.SessionWalk line None (boxes_ahead line.command) []
 
-    stands_in : (rest : List Area) → boxes_ahead line.command ≡ rest → with_activity actor (at.SessionWalk line None rest []) m.activity ≡ with_activity actor (at.SessionWalk line None (boxes_ahead line.command) []) m.activity
-    stands_in rest is = ap (λ (r : List Area). with_activity actor (at.SessionWalk line None r []) m.activity) (sym is)
-
-    of_core : {X : Type 0} (f : RunningCore → X) → f after ≡ f (record (with_standing actor (at.SessionWalk line None [] []) c) { latches = after.latches; behind = slice_set c.behind (actor - 1) (behind + place + 1) })
+    of_core : {X : Type 0} (f : RunningCore → X) → f after ≡ f (record (with_standing actor walk c) { latches = after.latches; behind = slice_set c.behind (actor - 1) (behind + place + 1) })
     of_core f = ap f takes.rest
 
     performed : (outcome : Outcome) → outcome ≡ outcomes.Moved → Performs m m.store actor (taking line) outcome (taken after m actor line)
@@ -158,7 +147,7 @@ module _ (d : DiskModel) (c after : RunningCore) (m : Machine) (actor behind : �
       says = says;
       lines = refl;
       answered = sym (append-nil m.answered);
-      activity = λ other. ap (λ (all : ℕ → Activity). all other) (stands_in [] boxes);
+      activity = λ other. refl;
       latches = subst (λ (t : LatchTable). Relatches actor [] t after.latches) (sym step.shows.latches) takes.latches;
       jobs = record { left = m.jobs; takes = refl; adds = refl };
       order = sym (append-nil m.order);
@@ -171,12 +160,12 @@ module _ (d : DiskModel) (c after : RunningCore) (m : Machine) (actor behind : �
     -- the actor's turn has the line in hand, and the others have what they had
     own_turn : HasTurn (taken after m actor line) actor (behind + place + 1)
     own_turn = has_turn (taken after m actor line) actor (behind + place + 1)
-        (subst (λ (o : Option ℕ). TurnAt m.lines m.answered o actor (behind + place + 1)) (sym (ap (λ (b : Bool). number_in_hand (cond b (at.SessionWalk line None [] []) (m.activity actor))) (eq-eqb actor actor refl)))
+        (subst (λ (o : Option ℕ). TurnAt m.lines m.answered o actor (behind + place + 1)) (sym (ap (λ (b : Bool). number_in_hand (cond b walk (m.activity actor))) (eq-eqb actor actor refl)))
         (turn_with m.lines m.answered actor behind turn place line step.goes_on.kept.lines_in_sequence.rising (skipped place line takes.next) (stands_there place line takes.next) takes.next.own))
 
     other_turn : (other n : ℕ) → 1 ≤ other → other ≤ 16 → other ≢ actor → slice_get c.behind (other - 1) ≡ Some n → HasTurn (taken after m actor line) other n
     other_turn other n low high off is = has_turn (taken after m actor line) other n
-        (subst (λ (o : Option ℕ). TurnAt m.lines m.answered o other n) (sym (ap number_in_hand (at_other other actor (at.SessionWalk line None [] []) (m.activity other) off)))
+        (subst (λ (o : Option ℕ). TurnAt m.lines m.answered o other n) (sym (ap number_in_hand (at_other other actor walk (m.activity other) off)))
         (turn_at m other n (step.shows.turns other n low high is)))
 
     turns_then : (other n : ℕ) → 1 ≤ other → other ≤ 16 → slice_get after.behind (other - 1) ≡ Some n → HasTurn (taken after m actor line) other n
@@ -188,16 +177,76 @@ module _ (d : DiskModel) (c after : RunningCore) (m : Machine) (actor behind : �
       lines = step.shows.lines ∙ sym (of_core (λ s. s.lines));
       sessions = ap (λ (l : List ℕ). length l) (of_core (λ s. s.behind)) ∙ length-set c.behind (actor - 1) (behind + place + 1) ∙ step.shows.sessions;
       turns = turns_then;
-      all_actors = ap (λ (l : List Activity). length l) (of_core (λ s. s.activities)) ∙ length-set c.activities (actor - 1) (at.SessionWalk line None [] []) ∙ step.shows.all_actors;
+      all_actors = ap (λ (l : List Activity). length l) (of_core (λ s. s.activities)) ∙ length-set c.activities (actor - 1) walk ∙ step.shows.all_actors;
       activities = λ other its. ap (λ (l : List Activity). slice_get l (other - 1)) (of_core (λ s. s.activities))
-          ∙ stand_then c.activities m.activity actor (m.activity actor) (at.SessionWalk line None [] []) may (length-set c.activities (actor - 1) (m.activity actor) ∙ step.shows.all_actors)
+          ∙ stand_then c.activities m.activity actor (m.activity actor) walk may (length-set c.activities (actor - 1) (m.activity actor) ∙ step.shows.all_actors)
           (shows_but d c m actor may step.shows).activities other its;
-      nobody_else = λ other none. at_other other actor (at.SessionWalk line None [] []) (m.activity other) (λ same. none (subst MayLatch (sym same) may)) ∙ step.shows.nobody_else other none;
+      nobody_else = λ other none. at_other other actor walk (m.activity other) (λ same. none (subst MayLatch (sym same) may)) ∙ step.shows.nobody_else other none;
       latches = refl;
       jobs = step.shows.jobs ∙ sym (of_core (λ s. s.jobs));
       order = step.shows.order ∙ sym (of_core (λ s. s.order));
       stop = step.shows.stop ∙ sym (of_core (λ s. s.stop));
       store = step.shows.store ∙ sym (of_core (λ s. s.store));
+      tells = λ told. let had = step.shows.tells told in record { files = had.files; told = had.told; kept = had.kept; clock = had.clock };
+      silent = step.shows.silent;
+    }
+
+  -- memory is refused for the box of a search: the line is answered
+  module _ (place : ℕ) (line : Line) (outcome : Outcome) (refuses : RefusesLine actor behind place line outcome c after) where
+    abbrev given : Answered
+    given = record { line = line.number; reply = replies.NoMemory; at = m.clock }
+
+    abbrev refused : Machine
+    refused = record m { answered = m.answered ++ given ∷ [] }
+
+    rising : AreRising m.lines
+    rising = step.goes_on.kept.lines_in_sequence.rising
+
+    holds_none : (page : ℕ) → mode_at m.latches actor page ≡ None
+    holds_none page = step.goes_on.kept.latches_fit.exact actor page may ∙ ap (λ (a : Activity). mode_among page (latches_held m.store a)) idle
+
+    still_idle : (other : ℕ) → m.activity other ≡ with_activity actor at.SessionIdle m.activity other
+    still_idle other = if_same other actor (λ b. m.activity other ≡ cond b at.SessionIdle (m.activity other)) (λ same. ap m.activity same ∙ idle) (λ off. refl)
+
+    answers : Performs m m.store actor (answers_now line.number replies.NoMemory) outcome refused
+    answers = record {
+      says = refuses.says;
+      lines = refl;
+      answered = refl;
+      activity = still_idle;
+      latches = record { own = holds_none; others = λ other page off. refl };
+      jobs = record { left = m.jobs; takes = refl; adds = refl };
+      order = sym (append-nil m.order);
+      stop = refl;
+      store = refl;
+      files = refl;
+      clock = refl;
+    }
+
+    refused_turn : HasTurn refused actor (behind + place + 1)
+    refused_turn = has_turn refused actor (behind + place + 1)
+        (subst (λ (o : Option ℕ). TurnAt m.lines (m.answered ++ given ∷ []) o actor (behind + place + 1)) (sym (ap number_in_hand idle))
+        (answered_here m.lines m.answered given actor (behind + place + 1)
+        (turn_with m.lines m.answered actor behind turn place line rising (skipped place line refuses.next) (stands_there place line refuses.next) refuses.next.own)))
+
+    refused_other : (other n : ℕ) → 1 ≤ other → other ≤ 16 → other ≢ actor → slice_get c.behind (other - 1) ≡ Some n → HasTurn refused other n
+    refused_other other n low high off is = has_turn refused other n
+        (answered_elsewhere m.lines m.answered given line (number_in_hand (m.activity other)) other n rising (next_is actor m.answered m.lines line (is_next place line refuses.next)).among refl
+        (λ same. off (sym same ∙ refuses.next.own)) (turn_at m other n (step.shows.turns other n low high is)))
+
+    shown_refused : ShowsMachine d (record c { behind = slice_set c.behind (actor - 1) (behind + place + 1) }) refused
+    shown_refused = record {
+      lines = step.shows.lines;
+      sessions = length-set c.behind (actor - 1) (behind + place + 1) ∙ step.shows.sessions;
+      turns = turns_with refused (behind + place + 1) refused_turn refused_other;
+      all_actors = step.shows.all_actors;
+      activities = step.shows.activities;
+      nobody_else = step.shows.nobody_else;
+      latches = step.shows.latches;
+      jobs = step.shows.jobs;
+      order = step.shows.order;
+      stop = step.shows.stop;
+      store = step.shows.store;
       tells = λ told. let had = step.shows.tells told in record { files = had.files; told = had.told; kept = had.kept; clock = had.clock };
       silent = step.shows.silent;
     }
@@ -219,10 +268,16 @@ module _ (d : DiskModel) (c after : RunningCore) (m : Machine) (actor behind : �
         begins outcome new line (is_next place line takes.next) (inr (has_box_free d c m step.shows actor (lock_of_command line.command) takes.free, inl (performed place line takes outcome says))),
         shown place line takes,
       )
-  line_taken outcome (inr (inr (by, place, line, next, first, says, same))) = (
+  line_taken outcome (inr (inr (inl (by, place, line, next, first, says, same)))) = (
     m,
     begins outcome m line (is_next place line next) (inl (by, box_in_the_way d c m step.shows actor (lock_of_command line.command) by first, (says, refl))),
     subst (λ (s : RunningCore). ShowsMachine d s m) (sym same) step.shows,
+  )
+  line_taken outcome (inr (inr (inr (place, line, refuses)))) = (
+    refused place line outcome refuses,
+    begins outcome (refused place line outcome refuses) line (is_next place line refuses.next)
+        (inr (has_box_free d c m step.shows actor (lock_of_command line.command) refuses.free, inr (refuses.boxes, answers place line outcome refuses))),
+    subst (λ (s : RunningCore). ShowsMachine d s (refused place line outcome refuses)) (sym refuses.rest) (shown_refused place line outcome refuses),
   )
 
 -- ---- the poster

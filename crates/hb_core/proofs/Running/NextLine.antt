@@ -15,7 +15,11 @@ use Rattle.hb_activity.specs.declared.activities.Activity.TheVariants as at
 use Rattle.hb_core.specs.Moving.{StandsNow, with_standing}
 use Rattle.hb_core.specs.Performing.{Relatches}
 use Rattle.hb_core.specs.Showing.{RunningCore}
-use Rattle.hb_core.specs.Taking.{HaveBoxes, IsNextLine, NoneAgainst, TakesLine}
+use Rattle.hb_core.specs.Taking.{HaveBoxes, IsNextLine, NoneAgainst, RefusesLine, TakesLine}
+use Rattle.hb_core.specs.declared.outcomes.Outcome.{Outcome}
+use Rattle.hb_core.specs.declared.outcomes.Outcome.TheVariants as outcomes
+use Rattle.hb_point.specs.SessionRows.{WantsBoxes, boxes_ahead}
+use Rattle.hb_set.specs.declared.commands.Reply.TheVariants as replies
 use Rattle.hb_core.specs.KeptFits.{LineFits}
 use Rattle.hb_core.proofs.Machines.LocksKept.{command_box}
 use Rattle.hb_activity.specs.BoxLocks.{lock_of_command}
@@ -92,13 +96,13 @@ next_is actor session behind place line d shown again core same there is is_agai
 
 -- the session takes it, and walks from the root
 pub takes_line : (actor session behind place : ℕ) (line : Line) (rest : List Area) (found : List Record) (old middle new : RunningCore) → session ≡ actor → slice_get old.behind (actor - 1) ≡ Some behind → IsNextLine actor behind place line old
-    → NoneAgainst old.activities actor (lock_of_command line.command) → rest ≡ [] → found ≡ [] → middle ≡ record old { behind = slice_set old.behind (actor - 1) (slice_index_or old.behind (session - 1) 0 + place + 1) }
+    → NoneAgainst old.activities actor (lock_of_command line.command) → rest ≡ boxes_ahead line.command → found ≡ [] → middle ≡ record old { behind = slice_set old.behind (actor - 1) (slice_index_or old.behind (session - 1) 0 + place + 1) }
     → StandsNow actor (at.SessionWalk line None rest found) middle new → TakesLine actor behind place line old new
-takes_line actor session behind place line rest found old middle new same there next free no_box no_record middle_is stands =
+takes_line actor session behind place line rest found old middle new same there next free boxes no_record middle_is stands =
     let from = behind_is actor session behind old.behind same there in
     let gone : middle ≡ record old { behind = slice_set old.behind (actor - 1) (behind + place + 1) } = middle_is ∙ ap (λ (n : ℕ). record old { behind = slice_set old.behind (actor - 1) (n + place + 1) }) from in
-    let walk : at.SessionWalk line None rest found ≡ at.SessionWalk line None [] [] =
-    ap (λ (r : List Area). at.SessionWalk line None r found) no_box ∙ ap (λ (f : List Record). at.SessionWalk line None [] f) no_record in
+    let walk : at.SessionWalk line None rest found ≡ at.SessionWalk line None (boxes_ahead line.command) [] =
+    ap (λ (r : List Area). at.SessionWalk line None r found) boxes ∙ ap (λ (f : List Record). at.SessionWalk line None (boxes_ahead line.command) f) no_record in
     record {
       next = next;
       free = free;
@@ -106,6 +110,18 @@ takes_line actor session behind place line rest found old middle new same there 
       rest = stands.rest ∙ ap (λ (c : RunningCore). record (with_standing actor (at.SessionWalk line None rest found) c) { latches = new.latches }) gone
           ∙ ap (λ (a : Activity). record (with_standing actor a old) { latches = new.latches; behind = slice_set old.behind (actor - 1) (behind + place + 1) }) walk;
     }
+
+-- or memory is refused for its box
+pub refuses_line : (actor session behind place : ℕ) (line : Line) (outcome : Outcome) (old new : RunningCore) → session ≡ actor → slice_get old.behind (actor - 1) ≡ Some behind → IsNextLine actor behind place line old
+    → NoneAgainst old.activities actor (lock_of_command line.command) → WantsBoxes line.command → outcome ≡ outcomes.Answered line.number replies.NoMemory
+    → new ≡ record old { behind = slice_set old.behind (actor - 1) (slice_index_or old.behind (session - 1) 0 + place + 1) } → RefusesLine actor behind place line outcome old new
+refuses_line actor session behind place line outcome old new same there next free boxes says new_is = record {
+  next = next;
+  free = free;
+  boxes = boxes;
+  says = says;
+  rest = new_is ∙ ap (λ (n : ℕ). record old { behind = slice_set old.behind (actor - 1) (n + place + 1) }) (behind_is actor session behind old.behind same there);
+}
 
 -- the boxes of all locks have as many attributes as that of the line
 pub as_many_boxes : (k actor behind place : ℕ) (line : Line) (lock : BoxLock) (core : RunningCore) → HaveBoxes k core.activities → All (LineFits k) core.lines → IsNextLine actor behind place line core → lock ≡ lock_of_command line.command → HaveBoxes (length lock.area.lo) core.activities

@@ -15,10 +15,11 @@ use Rattle.hb_point.specs.Asks.{MayAsk}
 use Rattle.hb_point.specs.PointRows.{PointRow}
 use Rattle.hb_poster.specs.Asks.{AsksMemory, MakesPage, MayBeAsked}
 use Rattle.hb_poster.specs.PosterRows.{PosterRow}
+use Rattle.hb_search.specs.Searching.{GathersNow, MaySearch, SearchRow}
 use Rattle.hb_store.specs.States.{StoreState}
 use Rattle.std.proofs.lemmas.Option.{same_Some}
-use Rattle.hb_core.proofs.Running.LiftedRows.{IsSeenIn, lifted_point, lifted_poster}
-use Rattle.hb_core.specs.Looking.{AsksPoint, AsksPoster, HasPointRow, HasPosterRow, IsStarved, other_number, other_page, sight_in}
+use Rattle.hb_core.proofs.Running.LiftedRows.{IsSeenIn, lifted_point, lifted_poster, lifted_search}
+use Rattle.hb_core.specs.Looking.{AsksPoint, AsksPoster, AsksSearcher, GathersAt, HasPointRow, HasPosterRow, HasSearchRow, IsStarved, other_number, other_page, sight_in}
 use Rattle.hb_core.specs.Machines.{live_here, next_of}
 use Rattle.hb_core.specs.Moving.{placed}
 
@@ -77,6 +78,26 @@ module _ (st : StoreState) (activity : Activity) (n : ℕ) (free : Option (ℕ �
     subst (λ (k : ℕ). PointRow activity (sight_in st place) k page (placed place deed)) is_id
         (lifted_point (given_sight meta (given_pages activity id page first) free) (sight_in st place) (shown asks.next place) activity id page deed row),
   )
+
+  pub search_layout : AsksSearcher st activity n free → IsLayout meta
+  search_layout asks = given_layout asks.layout
+
+  pub search_made : AsksSearcher st activity n free → FitsFile meta page
+  search_made asks = given_made asks.page asks.live asks.made
+
+  pub search_asked : AsksSearcher st activity n free → MaySearch activity page
+  search_asked asks = subst (MaySearch activity) (same_page asks.page asks.live) asks.asked
+
+  pub search_said : AsksSearcher st activity n free → (deed : Deed) → SearchRow activity (given_sight meta (given_pages activity id page first) free) id page deed → (place : ℕ) → HasSearchRow st activity n place (placed place deed)
+  search_said asks deed row place = (
+    page,
+    live_there,
+    subst (λ (k : ℕ). SearchRow activity (sight_in st place) k page (placed place deed)) is_id
+        (lifted_search (given_sight meta (given_pages activity id page first) free) (sight_in st place) (shown asks.next place) activity id page deed row),
+  )
+
+  pub search_gathers : GathersNow activity page → GathersAt st activity n
+  search_gathers gathers = (page, live_there, gathers)
 
   pub poster_layout : AsksPoster st activity n free → IsLayout meta
   poster_layout asks = given_layout asks.layout

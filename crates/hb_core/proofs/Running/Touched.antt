@@ -51,6 +51,9 @@ answered_well number reply none = record { no_read = none; no_write = λ never. 
 pub well_as : (outcome other : Outcome) → outcome ≡ other → IsWell other → IsWell outcome
 well_as outcome other is well = subst IsWell (sym is) well
 
+memory_reply : replies.NoMemory ≡ replies.ReadFault → ⊥
+memory_reply never = cc
+
 pub full_reply : replies.Full ≡ replies.ReadFault → ⊥
 full_reply never = cc
 
@@ -60,7 +63,8 @@ ran_out_well activity = run_out_is (λ (deed : Deed). IsWell (outcome_of deed.sa
 pub line_well : (actor behind : ℕ) (outcome : Outcome) (old new : RunningCore) → TakesNextLine actor behind outcome old new → IsWell outcome
 line_well actor behind outcome old new (inl none) = well_as outcome outcomes.Idle none.0 idle_well
 line_well actor behind outcome old new (inr (inl some)) = well_as outcome outcomes.Moved some.0 moved_well
-line_well actor behind outcome old new (inr (inr (by, place, line, next, first, says, same))) = well_as outcome (outcomes.Blocked by) says (blocked_well by)
+line_well actor behind outcome old new (inr (inr (inl (by, place, line, next, first, says, same)))) = well_as outcome (outcomes.Blocked by) says (blocked_well by)
+line_well actor behind outcome old new (inr (inr (inr (place, line, refuses)))) = well_as outcome (outcomes.Answered line.number replies.NoMemory) refuses.says (answered_well line.number replies.NoMemory memory_reply)
 
 pub posting_well : (actor : ℕ) (outcome : Outcome) (old new : RunningCore) → TakesNextPosting actor outcome old new → IsWell outcome
 posting_well actor outcome old new (inl none) = well_as outcome outcomes.Idle none.0 idle_well

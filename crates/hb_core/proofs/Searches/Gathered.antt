@@ -13,7 +13,8 @@ use Rattle.hb_set.specs.Machine.{RecordSet}
 use Rattle.hb_core.proofs.Machines.PieceBoxes.{pieces_are_boxes}
 use Rattle.hb_core.proofs.Searches.SortedRecords.{filter_keeps, filter_tells}
 use Rattle.hb_core.specs.KeptFits.{IsBoxOf}
-use Rattle.hb_core.specs.KeptSearches.{Differ, HasFoundSoFar, IsAmong, IsGathering}
+use Rattle.hb_core.specs.KeptSearches.{HasFoundSoFar, IsAmong}
+use Rattle.hb_search.specs.Searching.{Differ, IsGathering}
 
 -- ---- lists in pairs
 

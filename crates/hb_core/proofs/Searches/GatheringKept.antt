@@ -34,7 +34,8 @@ use Rattle.hb_core.specs.Acting.{DoesRow}
 use Rattle.hb_core.specs.Asking.{wanted_by}
 use Rattle.hb_core.specs.KeptFits.{IsBoxOf, boxes_left}
 use Rattle.hb_core.specs.KeptMachine.{MachineKeeps}
-use Rattle.hb_core.specs.KeptSearches.{IsGathering, SearchesGather, StaysGathering}
+use Rattle.hb_core.specs.KeptSearches.{SearchesGather}
+use Rattle.hb_search.specs.Searching.{IsGathering, StaysGathering}
 use Rattle.hb_core.specs.Machines.{Machine, live_here, sight, with_disk}
 use Rattle.hb_core.specs.Performing.{Performs}
 use Rattle.hb_core.specs.Rows.{Row}

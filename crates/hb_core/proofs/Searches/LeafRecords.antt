@@ -9,7 +9,8 @@ use Rattle.hb_core.proofs.Files.FitOps.{HeldArePoints}
 use Rattle.hb_core.proofs.Machines.BoxesAhead.{leaf_box}
 use Rattle.hb_core.proofs.Memory.KeptPages.{KeepsPages}
 use Rattle.hb_core.proofs.Searches.Gathered.{IsLeafOf}
-use Rattle.hb_core.specs.KeptSearches.{Differ, IsAmong}
+use Rattle.hb_core.specs.KeptSearches.{IsAmong}
+use Rattle.hb_search.specs.Searching.{Differ}
 use Rattle.hb_frag.proofs.Facts.Tiles.{first_tells}
 use Rattle.hb_frag.specs.Leaves.{Placed, leaf_at, leaves_of}
 use Rattle.hb_frag.specs.Rules.{IsInOrder, Precedes}

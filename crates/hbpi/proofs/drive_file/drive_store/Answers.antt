@@ -24,7 +24,7 @@ returns-in-Ok-clause-ends g c =
     let after = g.S.Source.model c.read_schedule.new.source in
     let scheduled = subst (λ (n : ℕ). IsScheduled n before.left after.left c.in-Ok.script.lines c.in-Ok.script.steps) (ap (λ (m : Meta). m.k) c.meta.ensures.meta) c.in-Ok.ensures.read in
     store_ends g.D.Device.model g.K.Sink.model (seen_as c.args.store).meta.k c.in-Ok.script.lines c.in-Ok.script.steps (disk_of c.args.store) c.drive_script.result.disk c.args.sink c.drive_script.result.sink c.drive_script.result.answered.items c.drive_script.result.order.items c.drive_script.result.status before after
-    scheduled c.in-Ok.ensures.script.served c.in-Ok.ensures.no_fault c.drive_script.ensures.ends
+    scheduled c.in-Ok.ensures.no_fault c.drive_script.ensures.ends
 
 pub returns-in-Err-clause-ends : goal.returns-in-Err-clause-ends
 returns-in-Err-clause-ends g c =

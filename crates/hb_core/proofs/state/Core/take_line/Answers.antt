@@ -3,7 +3,7 @@ use Rattle.std.proofs.Common.{List, inl, inr, length, refl, subst, sym, ◌∙�
 use Rattle.hb_activity.specs.declared.activities.Activity.{Activity}
 use Rattle.hb_core.specs.Taking.{HaveBoxes}
 use Rattle.hb_core.proofs.Running.AgainstPlaces.{first_here, none_here}
-use Rattle.hb_core.proofs.Running.NextLine.{as_many_boxes, goes_to_end, next_is, none_left, takes_line}
+use Rattle.hb_core.proofs.Running.NextLine.{as_many_boxes, goes_to_end, next_is, none_left, refuses_line, takes_line}
 use Rattle.hb_core.proofs.state.Core.take_line.Goals as goal
 
 pub returns-in_default-clause-takes : goal.returns-in_default-clause-takes
@@ -21,7 +21,7 @@ first_against-requires-clause-boxes g c =
 pub returns-in-Some-first_against-clause-takes : goal.returns-in-Some-first_against-clause-takes
 returns-in-Some-first_against-clause-takes g c = λ behind at_behind.
     let core = core_seen c.args.self.now in
-    inr (inr (
+    inr (inr (inl (
       c.in-Some-first_against.by,
       c.in-Some.place,
       c.copy_of_line-line.result,
@@ -30,7 +30,7 @@ returns-in-Some-first_against-clause-takes g c = λ behind at_behind.
       first_here c.as_slice-3.result.now core.activities c.args.actor c.in-Some-first_against.by c.of_command-lock.result _ c.as_slice-3.ensures.value c.of_command-lock.ensures c.in-Some-first_against.ensures.least,
       refl,
       refl,
-    ))
+    )))
 
 pub returns-clause-takes : goal.returns-clause-takes
 returns-clause-takes g c = λ behind at_behind.
@@ -42,6 +42,18 @@ returns-clause-takes g c = λ behind at_behind.
       refl,
       c.in-Some.place,
       c.copy_of_line-line.result,
-      takes_line c.args.actor c.from-session.result behind c.in-Some.place c.copy_of_line-line.result c.new-2.result c.new-4.result core (core_seen c.go_behind-2.new.self) (core_seen c.stand.new.self)
-          c.from-session.ensures at_behind next free (c.new-2.ensures ∙ c.new.ensures.items) (c.new-4.ensures ∙ c.new-3.ensures.items) c.go_behind-2.ensures.gone c.stand.ensures.stands,
+      takes_line c.args.actor c.from-session.result behind c.in-Some.place c.copy_of_line-line.result c.in-Ok.rest c.new-2.result core (core_seen c.go_behind-2.new.self) (core_seen c.stand.new.self)
+          c.from-session.ensures at_behind next free c.in-Ok.ensures.boxes (c.new-2.ensures ∙ c.new.ensures.items) c.go_behind-2.ensures.gone c.stand.ensures.stands,
     ))
+
+pub returns-in_default-boxes_ahead-clause-takes : goal.returns-in_default-boxes_ahead-clause-takes
+returns-in_default-boxes_ahead-clause-takes g c = λ behind at_behind.
+    let core = core_seen c.args.self.now in
+    let next = next_is c.args.actor c.from-session.result behind c.in-Some.place c.copy_of_line-line.result _ c.as_slice.result.now c.as_slice-2.result.now core
+    c.from-session.ensures at_behind c.as_slice.ensures c.as_slice-2.ensures c.in-Some.ensures (c.copy_of_line-line.ensures ∙ c.index-as_slice-from.is) in
+    let free = none_here c.as_slice-3.result.now core.activities c.args.actor c.of_command-lock.result _ c.as_slice-3.ensures.value c.of_command-lock.ensures (c.first_against.ensures.free c.in_default-first_against.is) in
+    inr (inr (inr (
+      c.in-Some.place,
+      c.copy_of_line-line.result,
+      refuses_line c.args.actor c.from-session.result behind c.in-Some.place c.copy_of_line-line.result _ core (core_seen c.go_behind-2.new.self) c.from-session.ensures at_behind next free c.in_default-boxes_ahead.ensures.memory refl c.go_behind-2.ensures.gone,
+    )))

@@ -1,0 +1,2 @@
+-- Lemmas on what this crate defines, which the crates above cite.
+pub mod LockedBoxes

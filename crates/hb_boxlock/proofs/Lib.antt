@@ -1,0 +1,4 @@
+pub mod Facts
+pub mod Places
+pub mod Keeping
+pub mod Sharing

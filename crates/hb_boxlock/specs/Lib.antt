@@ -1,0 +1,3 @@
+pub mod Locking
+pub mod Slots
+pub mod Laws
