@@ -7,7 +7,7 @@ use hb_disk::{Disk, MemDisk};
 use std::alloc::Global;
 
 /// A text that was driven before, where it isn't empty; a text, and what `drive` says to it.
-const TEXTS: [(&str, &str, &str); 32] = [
+const TEXTS: [(&str, &str, &str); 34] = [
     ("", "", "0 order\n"),
     ("", "step 1x9\n", "0 order\n"),
     ("", "1 lookup 1\n", "0 1 unfinished\norder\n"),
