@@ -8,5 +8,6 @@ pub mod Orders
 pub mod TwoSteps
 pub mod Machines
 pub mod Chains
+pub mod Searches
 pub mod Running
 pub mod Facts

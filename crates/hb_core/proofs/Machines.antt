@@ -1,6 +1,7 @@
 -- What every machine keeps over any disk, the beginning, and lists of steps.
 pub mod KeptInSequence
 pub mod Beginnings
+pub mod LocksKept
 pub mod EachKept
 pub mod ClassesKept
 pub mod RunsKept

@@ -5,6 +5,7 @@ pub mod StandsElsewhere
 pub mod DeedShows
 pub mod ForcedShows
 pub mod LinesAhead
+pub mod AgainstPlaces
 pub mod LineTaken
 pub mod PlacesAwaited
 pub mod MadeReady

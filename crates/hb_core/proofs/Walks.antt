@@ -11,4 +11,5 @@ pub mod AtHand
 pub mod MayBeAsked
 pub mod WalkingWorkers
 pub mod WorkersKept
+pub mod LockHolders
 pub mod WhoGoesOn

@@ -15,32 +15,32 @@ use Rattle.hb_core.specs.Scenes.{Scene, StepsSaying, at_start, machine_of}
 use Rattle.hb_frag.specs.Trees.{Tip}
 use Rattle.hb_space.specs.Boxes.{side_below, whole_area}
 
--- session 1 looks 20 up, and session 2 deletes it
+-- session 1 looks 20 up, and session 2 deletes 30
 abbrev pub seeks_twenty : Line
 seeks_twenty = record { number = 1; session = 1; command = Lookup (20 ∷ []) }
 
-abbrev pub deletes_twenty : Line
-deletes_twenty = record { number = 2; session = 2; command = Delete (20 ∷ []) }
+abbrev pub deletes_thirty : Line
+deletes_thirty = record { number = 2; session = 2; command = Delete (30 ∷ []) }
 
--- page 2 without it
+-- page 2 without that
 abbrev pub lower_two : LivePage
-lower_two = record { level = 0; area = side_below (whole_area 1) 0 40; frag = Tip (Records (lettered 10 97 ∷ lettered 30 99 ∷ [])) }
+lower_two = record { level = 0; area = side_below (whole_area 1) 0 40; frag = Tip (Records (lettered 10 97 ∷ lettered 20 98 ∷ [])) }
 
 -- The root names page 1 alone, and a job waits, to post at 10.
 abbrev pub beside_before : Scene
-beside_before = at_start (seeks_twenty ∷ deletes_twenty ∷ []) (posts_at 10 ∷ []) ((1, Live split_page) ∷ (2, Live lower_half) ∷ (3, Live bare_root) ∷ []) (record { meta = raised_meta; pages = Live split_page ∷ Live lower_half ∷ Live bare_root ∷ [] })
+beside_before = at_start (seeks_twenty ∷ deletes_thirty ∷ []) (posts_at 10 ∷ []) ((1, Live split_page) ∷ (2, Live lower_half) ∷ (3, Live bare_root) ∷ []) (record { meta = raised_meta; pages = Live split_page ∷ Live lower_half ∷ Live bare_root ∷ [] })
 
--- The root names both, and the record is deleted. Session 2 took effect before session 1, which misses the record. Two jobs wait: the
+-- The root names both, and the record is deleted. Session 2 took effect before session 1, which finds its record. Two jobs wait: the
 -- posting that session 1 owed when it passed by, and that of the poster. The frames have 4,132 bytes (a page image and the posting) and
 -- 4,119 (a page image and the delete).
 abbrev pub beside_after : Scene
 beside_after = record {
-  lines = seeks_twenty ∷ deletes_twenty ∷ [];
-  answered = record { line = 2; reply = replies.Done; at = 8 } ∷ record { line = 1; reply = replies.Missing; at = 8 } ∷ [];
+  lines = seeks_twenty ∷ deletes_thirty ∷ [];
+  answered = record { line = 2; reply = replies.Done; at = 8 } ∷ record { line = 1; reply = replies.Found (98 ∷ []); at = 8 } ∷ [];
   at_work = (17, PosterIdle) ∷ (1, SessionIdle) ∷ (2, SessionIdle) ∷ [];
   latched = [];
   jobs = posts_at 20 ∷ posts_at 10 ∷ [];
-  order = record { line = deletes_twenty; reply = replies.Done } ∷ record { line = seeks_twenty; reply = replies.Missing } ∷ [];
+  order = record { line = deletes_thirty; reply = replies.Done } ∷ record { line = seeks_twenty; reply = replies.Found (98 ∷ []) } ∷ [];
   meta = raised_meta;
   written = 8251;
   groups = [];
@@ -58,7 +58,7 @@ abbrev pub steps_beside : List (ℕ × Outcome)
 steps_beside =
     (17, Moved) ∷ (17, Moved) ∷ (1, Moved) ∷ (17, Moved) ∷ (1, Moved) ∷ (17, Blocked 1) ∷ (1, Moved) ∷ (17, Moved)
     ∷ (2, Moved) ∷ (2, Blocked 17) ∷ (17, Moved) ∷ (2, Moved) ∷ (2, Moved) ∷ (1, Moved)
-    ∷ (2, Moved) ∷ (1, Moved) ∷ (2, Answered 2 replies.Done) ∷ (1, Answered 1 replies.Missing) ∷ []
+    ∷ (2, Moved) ∷ (1, Moved) ∷ (2, Answered 2 replies.Done) ∷ (1, Answered 1 (replies.Found (98 ∷ []))) ∷ []
 
 abbrev pub SessionsBesidePoster : Type 0
 SessionsBesidePoster = StepsSaying steps_beside (machine_of beside_before) (machine_of beside_after)

@@ -1,5 +1,5 @@
 -- What each step keeps of the walks, the room and the groups that wait, and what follows for a list of steps, as laws.
-use Rattle.std.specs.Prelude.{◌≡◌, ◌⊎◌, ℕ, ◌<◌, ◌≤◌, List, [], ◌∷◌, length, take, All, Some}
+use Rattle.std.specs.Prelude.{◌≡◌, ◌⊎◌, ℕ, ◌<◌, ◌≤◌, List, length, take, All, Some}
 use Rattle.hb_set.specs.declared.scripts.Answered.{Answered}
 use Rattle.hb_activity.specs.declared.activities.Activity.TheVariants as at
 use Rattle.hb_core.specs.declared.outcomes.Outcome.{Outcome}
@@ -10,8 +10,7 @@ use Rattle.hb_core.specs.KeptLines.{MetaWithinLimits}
 use Rattle.hb_core.specs.KeptOrder.{HasLegalOrder, HasPendingPrefix, StandsInOrder, StandsOutside}
 use Rattle.hb_core.specs.KeptMachine.{CoreKeeps}
 use Rattle.hb_core.specs.Machines.{Files, Machine, settled_count}
-use Rattle.hb_core.specs.OrderLaws.{SearchIsRight}
-use Rattle.hb_core.specs.SteppingLaws.{HasNoSearches, IsBegunOver}
+use Rattle.hb_core.specs.SteppingLaws.{IsBegunOver}
 use Rattle.hb_core.specs.Steps.{StepsInSequence, StepsTo}
 use Rattle.hb_latch.specs.Tables.{MayLatch}
 use Rattle.hb_ops.specs.Files.{FileState, contents_of}
@@ -79,17 +78,8 @@ pub record HasPrefixes (n : RecordSet) (m : Machine) (files : Files) : Type 0 wh
 abbrev pub FilesHavePrefixes : Type 0
 FilesHavePrefixes = (n : RecordSet) (m : Machine) (files : Files) → HasSoundFile m files → HasLegalOrder n m files → HasPendingPrefix n m files → HasPrefixes n m files
 
--- Steps of these actors in sequence, where each search that takes effect has the machine's reply. Nothing keeps a box from being
--- changed while a search goes through it, before there are locks on boxes.
-abbrev pub AnswersSearches : Machine → Machine → Type 0
-AnswersSearches m new = (files : Files) → m.files ≡ Some files → SearchIsRight m new files
-
-abbrev pub StepsRightly : List ℕ → Machine → Machine → Type 0
-StepsRightly [] m new = new ≡ m
-StepsRightly (actor ∷ rest) m new = (outcome : Outcome) × (next : Machine) × StepsTo m actor outcome next × AnswersSearches m next × StepsRightly rest next new
-
--- Such steps of the 19 actors keep all that a machine keeps over a disk that tells, and unsettle no place of the order. Where
--- nothing but a write fault had stopped the machine, nothing else has.
+-- Steps of the 19 actors, in whatever sequence, keep all that a machine keeps over a disk that tells, and unsettle no place of the
+-- order. Where nothing but a write fault had stopped the machine, nothing else has.
 pub record HasKeptAll (n : RecordSet) (m new : Machine) (files : Files) : Type 0 where
   pub keeps : CoreKeeps n new files
   pub prefixes : HasPrefixes n new files
@@ -97,11 +87,8 @@ pub record HasKeptAll (n : RecordSet) (m new : Machine) (files : Files) : Type 0
   pub undamaged : IsUndamaged m → IsUndamaged new
 
 abbrev pub StepsKeepAll : Type 0
-StepsKeepAll = (n : RecordSet) (actors : List ℕ) (m : Machine) (files : Files) (new : Machine) → All MayLatch actors → CoreKeeps n m files → StepsRightly actors m new → (files' : Files) × HasKeptAll n m new files'
+StepsKeepAll = (n : RecordSet) (actors : List ℕ) (m : Machine) (files : Files) (new : Machine) → All MayLatch actors → CoreKeeps n m files → StepsInSequence actors m new → (files' : Files) × HasKeptAll n m new files'
 
--- So all steps do of a machine whose lines aren't searches, in whatever sequence its actors take them; and from a beginning on.
-abbrev pub ChangesKeepAll : Type 0
-ChangesKeepAll = (n : RecordSet) (actors : List ℕ) (m : Machine) (files : Files) (new : Machine) → All MayLatch actors → HasNoSearches m → CoreKeeps n m files → StepsInSequence actors m new → (files' : Files) × HasKeptAll n m new files'
-
+-- So they do from a beginning on.
 abbrev pub BegunKeepsAll : Type 0
-BegunKeepsAll = (s : FileState) (actors : List ℕ) (m new : Machine) → IsBegunOver m s → All MayLatch actors → HasNoSearches m → StepsInSequence actors m new → (files : Files) × HasKeptAll (contents_of s) m new files
+BegunKeepsAll = (s : FileState) (actors : List ℕ) (m new : Machine) → IsBegunOver m s → All MayLatch actors → StepsInSequence actors m new → (files : Files) × HasKeptAll (contents_of s) m new files

@@ -6,7 +6,9 @@ use Rattle.hb_core.specs.Keeps.{HasNoOtherLatches, HasNobodyElse, HasSoundFile, 
 use Rattle.hb_core.specs.KeptFits.{AttributesFit, HaveClasses, RunsWithStore, WorkersStand}
 use Rattle.hb_core.specs.KeptLines.{LinesFit, MetaWithinLimits}
 use Rattle.hb_core.specs.KeptPlaces.{AnswersAreSingle, MarksRise, OrderIsShort, RepliesStand}
+use Rattle.hb_core.specs.KeptSearches.{SearchesAreExact}
 use Rattle.hb_core.specs.KeptSequence.{LinesInSequence}
+use Rattle.hb_core.specs.Locking.{BoxLocksFit}
 use Rattle.hb_core.specs.Machines.{Files, Machine}
 
 pub record MachineKeeps (m : Machine) : Type 0 where
@@ -27,6 +29,7 @@ pub record MachineKeeps (m : Machine) : Type 0 where
   pub nobody_else : HasNobodyElse m
   pub latches_fit : LatchesFit m
   pub no_other_latches : HasNoOtherLatches m
+  pub box_locks_fit : BoxLocksFit m
   pub walk_in_space : WalksInSpace m
   pub workers_stand : WorkersStand m
   pub room_known : KnowsRoom m
@@ -34,11 +37,12 @@ pub record MachineKeeps (m : Machine) : Type 0 where
   pub marks_rise : MarksRise m
   pub runs : RunsWithStore m
 
--- Over a disk that tells, from the set that was opened: the files are sound, the order is legal, and each file has the set after a
--- prefix of it.
+-- Over a disk that tells, from the set that was opened: the files are sound, each search has found what it should so far, the order
+-- is legal, and each file has the set after a prefix of it.
 pub record CoreKeeps (n : RecordSet) (m : Machine) (files : Files) : Type 0 where
   pub told : m.files ≡ Some files
   pub kept : MachineKeeps m
   pub sound_file : HasSoundFile m files
+  pub search_exact : SearchesAreExact m files
   pub order_legal : HasLegalOrder n m files
   pub pending_prefix : HasPendingPrefix n m files

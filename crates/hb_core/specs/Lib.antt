@@ -6,6 +6,7 @@ pub mod Performing
 pub mod Rows
 pub mod Forcing
 pub mod GivingUp
+pub mod Locking
 pub mod Acting
 pub mod Steps
 pub mod KeptLines
@@ -15,6 +16,7 @@ pub mod KeptMerges
 pub mod Keeps
 pub mod KeptFits
 pub mod KeptPlaces
+pub mod KeptSearches
 pub mod KeptMachine
 pub mod Laws
 pub mod NeedLaws

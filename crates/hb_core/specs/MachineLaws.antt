@@ -14,11 +14,16 @@ use Rattle.hb_core.specs.AllowedLaws.{AnyPage, IsLicensedHere}
 use Rattle.hb_core.specs.Asking.{wanted_by}
 use Rattle.hb_core.specs.Fetching.{Brings}
 use Rattle.hb_core.specs.KeptMachine.{MachineKeeps}
+use Rattle.hb_core.specs.Locking.{BoxLocksFit}
 use Rattle.hb_core.specs.Machines.{Machine, live_here, with_disk}
 use Rattle.hb_core.specs.Rows.{IsAtHand, Row}
 use Rattle.hb_core.specs.Steps.{StepsInSequence, StepsTo}
 use Rattle.hb_core.specs.WaitingLaws.{Promotes}
 use Rattle.hb_activity.specs.Deeds.{Deed}
+
+-- After a step locks of different actors whose boxes meet are shared.
+abbrev pub BoxLocksStayFit : Type 0
+BoxLocksStayFit = (m : Machine) (actor : ℕ) (outcome : Outcome) (new : Machine) → MachineKeeps m → StepsTo m actor outcome new → BoxLocksFit new
 
 -- Every step keeps it, and so does a list of steps.
 abbrev pub MachineStaysKept : Type 0

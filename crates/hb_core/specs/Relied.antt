@@ -1,5 +1,5 @@
 -- What the private calls of a step rely on: a record for each, which also says that the actor is one of the 19.
-use Rattle.std.specs.Prelude.{◌≡◌, ℕ, ◌-◌, ◌≤◌, length, Option, Some, None, IsSome}
+use Rattle.std.specs.Prelude.{◌≡◌, ℕ, ◌-◌, ◌≤◌, All, length, Option, Some, None, IsSome}
 use Rattle.std.specs.List.{slice_get}
 use Rattle.hb_disk.specs.Model.{DiskModel}
 use Rattle.hb_latch.specs.Tables.{MayLatch}
@@ -10,16 +10,20 @@ use Rattle.hb_activity.specs.declared.wanting.Wanted.{Wanted}
 use Rattle.hb_store.specs.States.{in_memory}
 use Rattle.hb_core.specs.Asking.{wanted_by}
 use Rattle.hb_core.specs.CoreUpdates.{StandsAs}
+use Rattle.hb_core.specs.KeptFits.{LineFits}
 use Rattle.hb_core.specs.Looking.{MayLook}
 use Rattle.hb_core.specs.Machines.{Machine}
 use Rattle.hb_core.specs.Showing.{RunningCore}
+use Rattle.hb_core.specs.Taking.{HaveBoxes}
 use Rattle.hb_core.specs.Working.{HasCome, HasPages, IsWorking, MayStep, MayWork}
 
 -- ---- a step that takes or answers a line
 
--- so many lines lie behind a session, and no more than there are
-pub record HasLinesBehind (c : RunningCore) (who : ℕ) : Type 0 where
+-- so many lines lie behind a session, and no more than there are; the boxes of lines and of locks have the file's attributes
+pub record MayTakeLine (c : RunningCore) (who : ℕ) : Type 0 where
   pub actor : MayLatch who
+  pub boxes : HaveBoxes c.store.meta.k c.activities
+  pub lines : All (LineFits c.store.meta.k) c.lines
   pub behind : (behind : ℕ) × (slice_get c.behind (who - 1) ≡ Some behind) × (behind ≤ length c.lines)
 
 -- a session awaits some place; or this one, in a machine that runs

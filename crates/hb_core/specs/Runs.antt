@@ -17,7 +17,7 @@ use Rattle.hb_store.specs.declared.stops.StopWhy.{StopWhy}
 use Rattle.hb_store.specs.declared.stops.StopWhy.TheVariants as stops
 use Rattle.hb_store.specs.Opening.{OpensTo}
 use Rattle.hb_core.specs.FileLaws.{FilesStaySound}
-use Rattle.hb_core.specs.KeepingLaws.{ChangesKeepAll}
+use Rattle.hb_core.specs.KeepingLaws.{StepsKeepAll}
 use Rattle.hb_core.specs.KeptMachine.{CoreKeeps}
 use Rattle.hb_core.specs.KeptOrder.{StandsInOrder}
 use Rattle.hb_core.specs.Laws.{HasOnePage}
@@ -98,5 +98,5 @@ pub record HasRun (d : DiskModel) (m : Machine) (actors : List ℕ) (answers : L
 pub record RunningLaws : Type 0 where
   pub kept : MachineStaysKept
   pub files : FilesStaySound
-  pub changes : ChangesKeepAll
+  pub changes : StepsKeepAll
   pub images : ImagesHavePrefixes

@@ -1,6 +1,7 @@
 -- One step of an actor, as one relation: the tests in their order, and then the row of its activity.
 use Rattle.std.specs.Prelude.{◌≡◌, ◌≢◌, ◌⊎◌, ℕ, ◌<◌, ◌≤◌, Bool, IsTrue, List, [], ◌∷◌, All, MatchOption, None, IsSomeAnd}
 use Rattle.hb_set.specs.declared.commands.Reply.{Reply}
+use Rattle.hb_set.specs.declared.scripts.Line.{Line}
 use Rattle.hb_set.specs.declared.commands.Reply.TheVariants as replies
 use Rattle.hb_activity.specs.declared.jobs.JobKind.TheVariants.{Post, Merge}
 use Rattle.hb_activity.specs.declared.activities.Activity.{Activity}
@@ -9,12 +10,14 @@ use Rattle.hb_activity.specs.declared.activities.Activity.TheVariants as at
 use Rattle.hb_core.specs.declared.outcomes.Outcome.{Outcome}
 use Rattle.hb_core.specs.declared.outcomes.Outcome.TheVariants as outcomes
 use Rattle.hb_activity.specs.Wanting.{may_commit}
+use Rattle.hb_activity.specs.BoxLocks.{lock_of_command}
 use Rattle.hb_activity.specs.Deeds.{Deed, answers_now, takes_job}
 use Rattle.hb_consol.specs.ConsolidatorRows.{IsMergingOf}
 use Rattle.hb_core.specs.Acting.{DoesRow, Abandons, MeetsBadPage}
 use Rattle.hb_core.specs.Asking.{HasWayFree, IsInTheWay, looked_live, wanted_by}
 use Rattle.hb_core.specs.Forcing.{Flushes, ForcesFirst, StaysSo, FlushesOnce}
 use Rattle.hb_core.specs.GivingUp.{runs_out}
+use Rattle.hb_core.specs.Locking.{HasBoxFree, IsBoxInTheWay}
 use Rattle.hb_core.specs.Machines.{Machine, settled_count}
 use Rattle.hb_core.specs.Performing.{Performs}
 use Rattle.hb_core.specs.Stages.{HasNoPlace}
@@ -77,10 +80,16 @@ AwaitsPlace m actor number reply place outcome new =
     ((place < settled_count m) × Performs m m.store actor (answers_now number reply) outcome new)
     ⊎ ((settled_count m ≤ place) × ForcesFirst m outcomes.Moved outcome new)
 
--- One step of an activity. An idle session takes its next line; for a search that takes memory. The consolidator has no job before jobs to merge come, and the flusher no step before it takes any.
+-- An idle session takes its next line, unless another actor's lock keeps it from the line's box: then the line stays where it is.
+-- For a search that takes memory.
+abbrev pub BeginsLine : Machine → ℕ → Line → Outcome → Machine → Type 0
+BeginsLine m actor line outcome new =
+    ((by : ℕ) × IsBoxInTheWay m actor (lock_of_command line.command) by × StaysSo m (outcomes.Blocked by) outcome new)
+    ⊎ (HasBoxFree m actor (lock_of_command line.command) × (Performs m m.store actor (taking line) outcome new ⊎ (WantsBoxes line.command × Performs m m.store actor (answers_now line.number replies.NoMemory) outcome new)))
+
+-- One step of an activity. The consolidator has no job before jobs to merge come, and the flusher no step before it takes any.
 abbrev pub StepsAs : Activity → Machine → ℕ → Outcome → Machine → Type 0
-StepsAs at.SessionIdle m actor outcome new = MatchOption (next_line actor m.answered m.lines) (StaysSo m outcomes.Idle outcome new)
-    (λ line. Performs m m.store actor (taking line) outcome new ⊎ (WantsBoxes line.command × Performs m m.store actor (answers_now line.number replies.NoMemory) outcome new))
+StepsAs at.SessionIdle m actor outcome new = MatchOption (next_line actor m.answered m.lines) (StaysSo m outcomes.Idle outcome new) (λ line. BeginsLine m actor line outcome new)
 StepsAs (at.SessionAwait number reply place) m actor outcome new = AwaitsPlace m actor number reply place outcome new
 StepsAs at.PosterIdle m actor outcome new = TakesPosting m actor outcome new
 StepsAs at.ConsolidatorIdle m actor outcome new = TakesJobToMerge m actor outcome new

@@ -1,11 +1,13 @@
 -- How an idle actor of a core takes a line or a job, and a core that has taken no step.
-use Rattle.std.specs.Prelude.{◌≡◌, ◌≢◌, ◌⊎◌, ℕ, Result, IfOk, IfErr, ◌-◌, ◌+◌, All, List, [], ◌∷◌, ◌++◌, length, take, drop, replicate, Some, None, is_some, if◌then◌else◌}
+use Rattle.std.specs.Prelude.{◌≡◌, ◌≢◌, ◌⊎◌, ℕ, Result, IfOk, IfErr, ◌-◌, ◌+◌, All, List, [], ◌∷◌, ◌++◌, length, take, drop, replicate, Some, None, is_some, if◌then◌else◌, ◌<◌, IfSome, IsSomeAnd}
 use Rattle.std.specs.List.{slice_get, slice_set}
 use Rattle.std.specs.FinMap as map
 use Rattle.hb_activity.specs.declared.activities.Activity.{Activity}
 use Rattle.hb_activity.specs.declared.activities.Activity.TheVariants as at
+use Rattle.hb_boxlock.specs.declared.locks.BoxLock.{BoxLock}
 use Rattle.hb_activity.specs.declared.jobs.Job.{Job}
 use Rattle.hb_activity.specs.declared.jobs.JobKind.{JobKind}
+use Rattle.hb_activity.specs.BoxLocks.{lock_of, lock_of_command}
 use Rattle.hb_activity.specs.Classes.{job_in_work}
 use Rattle.hb_activity.specs.declared.jobs.JobKind.TheVariants.{Post, Merge}
 use Rattle.hb_activity.specs.Deeds.{takes_job}
@@ -14,15 +16,40 @@ use Rattle.hb_set.specs.declared.scripts.Line.{Line}
 use Rattle.hb_store.specs.States.{StoreState}
 use Rattle.hb_core.specs.declared.outcomes.Outcome.{Outcome}
 use Rattle.hb_core.specs.declared.outcomes.Outcome.TheVariants as outcomes
+use Rattle.hb_boxlock.specs.Locking.{Excludes}
 use Rattle.hb_core.specs.Moving.{DoesDeed, with_standing}
 use Rattle.hb_core.specs.Performing.{Relatches}
 use Rattle.hb_core.specs.Showing.{RunningCore}
 
--- A session takes its next line, none of which is a search, and walks from the root; or none is left, and all lie behind it then.
-pub record TakesLine (actor : ℕ) (behind place : ℕ) (line : Line) (old new : RunningCore) : Type 0 where
-  pub skipped : All (λ (l : Line). l.session ≢ actor) (take place (drop behind old.lines))
-  pub there : slice_get (drop behind old.lines) place ≡ Some line
+-- At a place of the activities, actor 1 first, another actor stands whose lock excludes this one; it is the first such; there is none.
+pub record IsAgainst (activities : List Activity) (actor : ℕ) (lock : BoxLock) (place : ℕ) : Type 0 where
+  pub another : place + 1 ≢ actor
+  pub excluded : IsSomeAnd (slice_get activities place) (λ activity. IsSomeAnd (lock_of activity) (Excludes lock))
+
+pub record IsFirstAgainst (activities : List Activity) (actor : ℕ) (lock : BoxLock) (by : ℕ) : Type 0 where
+  pub place : ℕ
+  pub by_is : by ≡ place + 1
+  pub against : IsAgainst activities actor lock place
+  pub least : (earlier : ℕ) → earlier < place → ¬ (IsAgainst activities actor lock earlier)
+
+abbrev pub NoneAgainst : List Activity → ℕ → BoxLock → Type 0
+NoneAgainst activities actor lock = (place : ℕ) → ¬ (IsAgainst activities actor lock place)
+
+-- the boxes of all locks have so many attributes
+abbrev pub HaveBoxes : ℕ → List Activity → Type 0
+HaveBoxes k activities = All (λ activity. IfSome (lock_of activity) (λ held. length held.area.lo ≡ k)) activities
+
+-- the next line of a session, by how many lie behind it
+pub record IsNextLine (actor : ℕ) (behind place : ℕ) (line : Line) (core : RunningCore) : Type 0 where
+  pub skipped : All (λ (l : Line). l.session ≢ actor) (take place (drop behind core.lines))
+  pub there : slice_get (drop behind core.lines) place ≡ Some line
   pub own : line.session ≡ actor
+
+-- A session takes its next line, and walks from the root; or none is left, and all lie behind it then; or
+-- somebody keeps it from the line's box.
+pub record TakesLine (actor : ℕ) (behind place : ℕ) (line : Line) (old new : RunningCore) : Type 0 where
+  pub next : IsNextLine actor behind place line old
+  pub free : NoneAgainst old.activities actor (lock_of_command line.command)
   pub latches : Relatches actor [] old.latches new.latches
   pub rest : new ≡ record (with_standing actor (at.SessionWalk line None [] []) old) { latches = new.latches; behind = slice_set old.behind (actor - 1) (behind + place + 1) }
 
@@ -30,6 +57,7 @@ abbrev pub TakesNextLine : ℕ → ℕ → Outcome → RunningCore → RunningCo
 TakesNextLine actor behind outcome old new =
     ((outcome ≡ outcomes.Idle) × (new ≡ record old { behind = slice_set old.behind (actor - 1) (length old.lines) }) × All (λ (l : Line). l.session ≢ actor) (drop behind old.lines))
     ⊎ ((outcome ≡ outcomes.Moved) × (place : ℕ) × (line : Line) × TakesLine actor behind place line old new)
+    ⊎ ((by place : ℕ) × (line : Line) × IsNextLine actor behind place line old × IsFirstAgainst old.activities actor (lock_of_command line.command) by × (outcome ≡ outcomes.Blocked by) × (new ≡ old))
 
 -- The poster takes its oldest job; or none waits.
 abbrev pub TakesNextPosting : ℕ → Outcome → RunningCore → RunningCore → Type 0

@@ -4,7 +4,7 @@
 ghost use Rattle.hb_core.specs.AllowedLaws.{RowsAreAllowed};
 ghost use Rattle.hb_core.specs.ContentsLaws.{ContentsFollowOrder, PointsStay};
 ghost use Rattle.hb_core.specs.FileLaws.{FilesStaySound, LinesStayFit, MetaStaysWithinLimits, PagesStayOfFile, RowsAreLicensed};
-ghost use Rattle.hb_core.specs.OrderLaws.{OrderStaysLegal, SequenceStays};
+ghost use Rattle.hb_core.specs.OrderLaws.{OrderStaysLegal, SearchesAreRight, SearchesStayExact, SequenceStays};
 ghost use Rattle.hb_core.specs.SteppingLaws.{BeginningExists, BeginningKeeps, BeginningKeepsAll};
 
 use crate::laws::a_step_leaves_other_actors_alone;
@@ -83,12 +83,23 @@ pub fn sequence_stays()
     ensures { SequenceStays }
 {}
 
-/// After a step the order is legal, and the file has its result, where a search that takes effect in it has
-/// the right reply.
+/// After a step each search has found exactly the records of the contents that its box holds and none of its
+/// remaining boxes does. So the reply of a search that takes effect is the machine's.
+pub fn searches_are_exact()
+    ensures exact { SearchesStayExact }
+    ensures replies { SearchesAreRight }
+{
+    contents_follow_the_order();
+    held_is_a_point();
+    what_stands_is_what_the_contents_have();
+}
+
+/// After a step the order is legal, and the file has its result.
 pub fn the_order_stays_legal()
     ensures { OrderStaysLegal }
 {
     contents_follow_the_order();
+    searches_are_exact();
 }
 
 /// Where a row has an operation, that is allowed on the pages in memory: nothing but the row's own condition

@@ -2,12 +2,13 @@
 //! of steps. Each law is the contract of a function that does nothing: a caller learns it by the call.
 
 ghost use Rattle.hb_core.specs.DoableLaws.{PutsFindRoom, RowsCanBeDone};
-ghost use Rattle.hb_core.specs.KeepingLaws.{AnswersAreInPlace, BegunKeepsAll, ChangesKeepAll, FilesHavePrefixes, NobodyElseComes, NobodyElseLatches, PrefixStaysPending, RoomStaysKnown, SettledStaysSettled, StepsKeepAll, WalksStayInSpace};
+ghost use Rattle.hb_core.specs.KeepingLaws.{AnswersAreInPlace, BegunKeepsAll, FilesHavePrefixes, NobodyElseComes, NobodyElseLatches, PrefixStaysPending, RoomStaysKnown, SettledStaysSettled, StepsKeepAll, WalksStayInSpace};
 ghost use Rattle.hb_core.specs.SteppingLaws.{StepsGoOn, StoppedStays};
 ghost use Rattle.hb_core.specs.StageLaws.{BegunHasNothingToMerge, NothingComesToMerge, NothingIsMerged};
 
 use crate::file_laws::{
-    a_beginning_keeps_all, files_stay_sound, rows_are_allowed, the_order_stays_legal,
+    a_beginning_keeps_all, files_stay_sound, rows_are_allowed, searches_are_exact,
+    the_order_stays_legal,
 };
 use crate::machine_laws::machines_stay_kept;
 use hb_frag::laws::{each_point_has_one_leaf, leaves_part_the_box, parts_are_stretches};
@@ -77,16 +78,15 @@ pub fn steps_go_on()
 {}
 
 /// A list of steps of the 19 actors keeps all that a machine keeps over a disk that tells, and unsettles no
-/// place of the order, where each search that takes effect has the machine's reply; so any list of steps
-/// does of a machine whose lines aren't searches, and from a beginning on.
+/// place of the order; and so it is from a beginning on.
 pub fn steps_keep_all()
-    ensures searches { StepsKeepAll }
-    ensures changes { ChangesKeepAll }
+    ensures steps { StepsKeepAll }
     ensures begun { BegunKeepsAll }
 {
     a_beginning_keeps_all();
     machines_stay_kept();
     files_stay_sound();
+    searches_are_exact();
     the_order_stays_legal();
 }
 

@@ -24,6 +24,7 @@ pub mod file_laws;
 mod halts;
 pub mod keeping_laws;
 pub mod laws;
+mod locking;
 pub mod machine_laws;
 pub mod outcome_laws;
 mod outcomes;

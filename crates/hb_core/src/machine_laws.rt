@@ -1,13 +1,19 @@
 //! What each step keeps over any disk, and what a body may know of a machine there. Each law is the
 //! contract of a function that does nothing: a caller learns it by the call.
 
-ghost use Rattle.hb_core.specs.MachineLaws.{MachineStaysKept, MachinesStayKept, NoPageIsLatchedTwice, RowsMayBeDone, WalksLeadOn};
+ghost use Rattle.hb_core.specs.MachineLaws.{BoxLocksStayFit, MachineStaysKept, MachinesStayKept, NoPageIsLatchedTwice, RowsMayBeDone, WalksLeadOn};
 
 use crate::file_laws::{pages_stay_pages_of_the_file, rows_are_allowed};
 use crate::keeping_laws::room_stays_known;
 use crate::laws::latches_stay_fit;
 use hb_frag::laws::{leaves_part_the_box, parts_are_stretches};
 use hb_space::laws::held_is_a_point;
+
+/// After a step locks of different actors whose boxes meet are shared.
+#[tactic(auto, using(crate::proofs::Machines::LocksKept::box_locks_stay_fit))]
+pub fn box_locks_stay_fit()
+    ensures { BoxLocksStayFit }
+{}
 
 /// Each step of one of the 19 actors keeps what every machine keeps, and so does a list of such steps. So it
 /// is over any disk, whether it tells its bytes or not.

@@ -13,13 +13,14 @@ ghost use Rattle.hb_core.specs.Steps.{AwaitsPlace, GetsReady, StepsTo};
 ghost use Rattle.hb_core.specs.Touching.{StepsSo, Touches};
 ghost use Rattle.hb_core.specs.Taking.{TakesNextLine, TakesNextPosting};
 ghost use Rattle.hb_core.specs.Working.{IsWorking, MayStep};
-ghost use Rattle.hb_core.specs.Relied.{AwaitsSomePlace, HasLinesBehind, IsAtWork, MayAwait};
+ghost use Rattle.hb_core.specs.Relied.{AwaitsSomePlace, MayTakeLine, IsAtWork, MayAwait};
 
 use crate::halts::copy_of;
+use crate::locking::first_against;
 use crate::outcomes::Outcome;
 use crate::reading::idle;
 use crate::state::Core;
-use hb_activity::{Activity, Job, JobKind};
+use hb_activity::{Activity, Job, JobKind, box_lock_for};
 use hb_disk::Device;
 use hb_set::{Command, Line};
 use hb_space::{Actor, Areas, Record, Records};
@@ -54,10 +55,10 @@ impl<D: Device> Core<D> {
         }
     }
 
-    /// The session takes its next line, where one is left. Where none is, all lines lie behind it from now on, so that no later
-    /// step looks through them again.
+    /// The session takes its next line, where one is left and no other actor's lock keeps it from the line's box. Where none is left, all
+    /// lines lie behind it from now on, so that no later step looks through them again.
     fn take_line(&mut self, actor: Actor) -> Outcome
-        requires { HasLinesBehind (core_seen self.old) actor }
+        requires { MayTakeLine (core_seen self.old) actor }
         ensures { Alters (λ c after. (behind : ℕ) → slice_get c.behind (actor - 1) ≡ Some behind → TakesNextLine actor behind result c after) self.old self.new }
     {
         let session = usize::from(actor) - 1;
@@ -68,6 +69,10 @@ impl<D: Device> Core<D> {
             return Outcome::Idle;
         };
         let line = copy_of_line(&self.script.lines.as_slice()[from + place]);
+        let lock = box_lock_for(&line.command);
+        if let Some(by) = first_against(self.activities.as_slice(), actor, &lock) {
+            return Outcome::Blocked { by };
+        }
         self.go_behind(actor, from + place + 1);
         self.stand(
             actor,

@@ -4,7 +4,7 @@
 //! Source of the idea: Lomet and Salzberg 1992, who take latches from the root down and from container to
 //! contained page, and promote one only while nothing later in that order is held.
 
-ghost use Rattle.hb_core.specs.WaitingLaws.{NobodyWaitsInACircle, SomebodyGoesOn, WantedComesLater};
+ghost use Rattle.hb_core.specs.WaitingLaws.{LockHoldersWork, NobodyWaitsInACircle, SomebodyGoesOn, SomebodyUnderWayGoesOn, WantedComesLater};
 
 /// The page that a step wants comes later than each page that its actor holds: its level is lower, or the
 /// level is the same and its box holds fewer points. The exception is a promotion: there the actor holds
@@ -13,7 +13,7 @@ pub fn what_is_wanted_comes_later()
     ensures { WantedComesLater }
 {}
 
-/// No actor waits for itself, by others in between.
+/// No actor waits for itself, by others in between: neither for latches nor for boxes.
 #[tactic(auto, using(crate::proofs::Walks::NoCircle::nobody_waits_in_a_circle))]
 pub fn nobody_waits_in_a_circle()
     ensures { NobodyWaitsInACircle }
@@ -24,4 +24,12 @@ pub fn nobody_waits_in_a_circle()
 #[tactic(auto, using(crate::proofs::Walks::SomebodyFree::somebody_goes_on))]
 pub fn somebody_goes_on()
     ensures { SomebodyGoesOn }
+{}
+
+/// Whom an idle session waits for to lock its box is at work. So where somebody is under way, at work or with
+/// a line to take next, not everybody who is under way is kept back by a latch or a box.
+#[tactic(auto, using(crate::proofs::Walks::LockHolders::lock_holders_work, crate::proofs::Walks::LockHolders::somebody_under_way_goes_on))]
+pub fn somebody_under_way_goes_on()
+    ensures holders { LockHoldersWork }
+    ensures further { SomebodyUnderWayGoesOn }
 {}

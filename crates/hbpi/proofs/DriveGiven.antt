@@ -20,7 +20,7 @@ use Rattle.hbpi.specs.Codes.{status_of}
 use Rattle.hbpi.specs.Driven.{DriveEnds, Drove, IsShutOut, RanEnds}
 use Rattle.hbpi.specs.Outcome.{IsWholeText}
 use Rattle.hbpi.specs.Promises.{GivesFor, IsCalm, IsDriven}
-use Rattle.hbpi.specs.Schedules.{IsScheduled, IsServed, NotScheduled}
+use Rattle.hbpi.specs.Schedules.{IsScheduled, NotScheduled}
 use Rattle.hbpi.specs.SeenRuns.{Run, Seen}
 use Rattle.hbpi.specs.declared.statuses.Status.{Status}
 use Rattle.hbpi.specs.declared.statuses.Status.TheVariants.{Done, Usage, BadText, SourceFault, SinkFault, DiskFault, Damaged, NoMemory, BadLayout, Small, NotBuilt}
@@ -41,8 +41,7 @@ pub undamaged : (run : Run) (after : Machine) (b : List ℕ) → BegunKeepsAll �
 undamaged run after b all told drove =
     let takes = drove.takes in
     let here = at_value run.before.told _ b told takes.told in
-    let searches = subst (λ (ls : List Line). IsServed ls) (sym takes.lines_are) drove.served in
-    (all here.0 drove.steps takes.before after here.3 takes.actors searches takes.reached).1.undamaged (inl takes.begun.runs)
+    (all here.0 drove.steps takes.before after here.3 takes.actors takes.reached).1.undamaged (inl takes.begun.runs)
 
 no_damage : (after : Machine) (page : ℕ) (why : Why) → IsUndamaged after → after.stop ≡ Some (stops.Damaged page why) → ⊥
 no_damage after page why fine is = elim fine [

@@ -30,7 +30,7 @@ use Rattle.hbpi.specs.Codes.{status_of}
 use Rattle.hbpi.specs.Driven.{DriveEnds, Drove, IsOpened, RanEnds}
 use Rattle.hbpi.specs.Drives.{LeavesLate, LeavesPrefixes}
 use Rattle.hbpi.specs.Promises.{AreOfText, IsHeld, KeepsPromise, StandsAt}
-use Rattle.hbpi.specs.Schedules.{IsScheduled, IsServed, NotScheduled}
+use Rattle.hbpi.specs.Schedules.{IsScheduled, NotScheduled}
 use Rattle.hbpi.specs.SeenRuns.{Run}
 use Rattle.hbpi.specs.declared.statuses.Status.{Status}
 use Rattle.hbpi.specs.declared.statuses.Status.TheVariants.{Done}
@@ -89,8 +89,7 @@ module _ (laws : PromiseLaws) (b : List ℕ) (run : Run) (status : Status) (afte
   ran_promise s over prefixes =
       let takes = drove.takes in
       let n = contents_of s in
-      let searches = subst (λ (ls : List Line). IsServed ls) (sym takes.lines_are) drove.served in
-      let keeps = (laws.begun s drove.steps takes.before after over takes.actors searches takes.reached).1.keeps in
+      let keeps = (laws.begun s drove.steps takes.before after over takes.actors takes.reached).1.keeps in
       let came : run.seen.answered ≡ after.answered = takes.came.same (has_value run.before.told b told) in
       let R : Answered → Type 0 = λ a. StandsOutside a.reply ⊎ ((place : ℕ) × StandsAt after.order a place) in
       record {
@@ -141,6 +140,5 @@ pub files_have_one_page : (laws : PromiseLaws) (pages : PointsHaveOnePage) (run 
 files_have_one_page laws pages run after b told drove front here may reached =
     let takes = drove.takes in
     let opened = at_value run.before.told _ b told takes.told in
-    let searches = subst (λ (ls : List Line). IsServed ls) (sym takes.lines_are) drove.served in
-    let kept = laws.begun opened.0 front takes.before here opened.3 may searches reached in
+    let kept = laws.begun opened.0 front takes.before here opened.3 may reached in
     (kept.0, kept.1.keeps.told, λ s p among point. pages here kept.0 s p kept.1.keeps.sound_file among point)

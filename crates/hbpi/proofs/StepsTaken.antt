@@ -4,7 +4,7 @@ use Rattle.hb_core.specs.KeepingLaws.{BegunKeepsAll, HasKeptAll}
 use Rattle.hb_core.specs.Machines.{Files, Machine, settled_count}
 use Rattle.hb_core.specs.Runs.{AreAnswers, CountsFaults, HasRun, IsPrefixImage}
 use Rattle.hb_core.specs.Showing.{RunningCore, ShowsFiles}
-use Rattle.hb_core.specs.SteppingLaws.{BeginningKeepsAll, HasNoSearches, IsBegunOver}
+use Rattle.hb_core.specs.SteppingLaws.{BeginningKeepsAll, IsBegunOver}
 use Rattle.hb_core.specs.Taking.{begun_core}
 use Rattle.hb_core.specs.Working.{MayStep}
 use Rattle.hb_core.specs.declared.endings.End.{End}
@@ -58,11 +58,11 @@ settled_even e n old m files kept shown going =
     (files.durable, even_store e m.store files.durable files.later store (kept.keeps.kept.runs going), kept.keeps.sound_file.durable, kept.prefixes.durable.contents)
 
 -- what crashes leave of a run from a beginning over a file on
-leaves_prefixes : (d e : DiskModel) (m : Machine) (steps : List ℕ) (answered : List Answered) (c : RunningCore) (s : FileState) → BeginningKeepsAll → BegunKeepsAll → IsSome d.told → HasNoSearches m → All MayLatch steps → IsBegunOver m s
+leaves_prefixes : (d e : DiskModel) (m : Machine) (steps : List ℕ) (answered : List Answered) (c : RunningCore) (s : FileState) → BeginningKeepsAll → BegunKeepsAll → IsSome d.told → All MayLatch steps → IsBegunOver m s
     → (run : HasRun d m steps answered e c) → LeavesPrefixes s d e answered run.new
-leaves_prefixes d e m steps answered c s keeps all tells served actors over run =
+leaves_prefixes d e m steps answered c s keeps all tells actors over run =
     let crashes = run.crashes (contents_of s) (record { durable = s; later = [] }) (keeps m s over) in
-    let kept = all s steps m run.new over actors served run.steps in
+    let kept = all s steps m run.new over actors run.steps in
     let shown = run.shows.tells (Becomes-tells (Torn m.store.log.area m.store.log.len) d e run.in_log tells) in
     record {
       since = crashes.since;
@@ -91,7 +91,7 @@ takes_steps d e lines steps store c answered m keeps all disk new actors here ru
       told = if_value d.told _ (λ b is.
           let from = at_value d.told _ b is here.told in
           let even = even_store d store from.0 [] from.2 new.running in
-          (from.0, even.images b (disk.as_read b is), from.1.sound, from.1, leaves_prefixes d e m steps answered c from.0 keeps all (has_value d.told b is) here.may.goes_on.searches actors from.1 run, starts (has_value d.told b is)));
+          (from.0, even.images b (disk.as_read b is), from.1.sound, from.1, leaves_prefixes d e m steps answered c from.0 keeps all (has_value d.told b is) actors from.1 run, starts (has_value d.told b is)));
       silent = λ none. (here.may.shows.silent none, run.in_log.silent none);
     }
 

@@ -13,8 +13,9 @@ const BOTH: &str = "1 insert 30 =b\n2 insert 30 =c\n1 lookup 30\n2 delete 10\n";
 /// The steps, and what `drive` says of both sessions over the two records.
 ///
 /// A command is taken, takes effect, and awaits its place: it forces the oldest group, until its place is settled, and then it
-/// is answered. What comes second of both inserts is a duplicate, and has no group of its own.
-const ROWS: [(&str, &str); 11] = [
+/// is answered. Until one insert has taken effect, the other one isn't taken: its session is blocked. What comes second is a
+/// duplicate, and has no group of its own.
+const ROWS: [(&str, &str); 12] = [
     (
         "step 1x6 2x6\n",
         "0 1 ok\n2 duplicate\n3 unfinished\n4 unfinished\norder 1 3 2 4\n",
@@ -25,11 +26,11 @@ const ROWS: [(&str, &str); 11] = [
     ),
     (
         "step 1 2 1 2 1 2 1 2 1 2 1 2\n",
-        "0 2 duplicate\n1 ok\n3 unfinished\n4 unfinished\norder 1 2 4 3\n",
+        "0 1 ok\n2 duplicate\n3 unfinished\n4 unfinished\norder 1 2 3 | 4\n",
     ),
     (
         "step 2 1 2 1 2 1 2 1 2 1 2 1\n",
-        "0 1 duplicate\n2 ok\n3 found =c\n4 unfinished\norder 2 1 3 | 4\n",
+        "0 2 ok\n1 duplicate\n3 unfinished\n4 unfinished\norder 2 1 | 4 3\n",
     ),
     (
         "step 1x2 2x6 1x4\n",
@@ -45,19 +46,24 @@ const ROWS: [(&str, &str); 11] = [
     ),
     (
         "step 1 2x6 1x5\n",
-        "0 2 ok\n1 duplicate\n3 unfinished\n4 unfinished\norder 2 4 1 3\n",
+        "0 1 ok\n2 unfinished\n3 unfinished\n4 unfinished\norder 1 3\n",
     ),
     (
         "step 2 1x6 2x5\n",
-        "0 1 ok\n2 duplicate\n3 unfinished\n4 unfinished\norder 1 3 2 4\n",
+        "0 2 ok\n1 unfinished\n3 unfinished\n4 unfinished\norder 2 | 4\n",
     ),
     (
         "step 1x5 2x4 1 2x2\n",
-        "0 1 ok\n2 duplicate\n3 unfinished\n4 unfinished\norder 1 2 3 4\n",
+        "0 1 ok\n2 unfinished\n3 unfinished\n4 unfinished\norder 1 3 2\n",
     ),
     (
         "step 2x5 1x4 2 1x2\n",
         "0 2 ok\n1 duplicate\n3 unfinished\n4 unfinished\norder 2 1 4 3\n",
+    ),
+    // the first schedule of docs/SCHEDULES.md
+    (
+        "step 2 1 2 1x3 2 1x2 2x2 1x3 2\n",
+        "0 2 ok\n1 duplicate\n3 found =c\n4 ok\norder 2 1 4 3\n",
     ),
 ];
 

@@ -1,6 +1,7 @@
 -- A step is built: the machine after a deed, and that the deed is done so.
-use Rattle.std.proofs.Common.{◌≡◌, ◌≢◌, ◌⊎◌, inl, inr, ℕ, ◌<◌, ◌≤◌, ◌++◌, false, List, [], ◌∷◌, Contains, length, get_or, Option, Some, None, IfSome, IsSome, IsSomeAnd, IsTrue, refl, sym, ap, ◌∙◌, subst, arith}
+use Rattle.std.proofs.Common.{◌≡◌, ◌≢◌, ◌⊎◌, inl, inr, ℕ, ◌==◌, nat_le, Bool, true, cond, ◌<◌, ◌≤◌, ◌++◌, false, List, [], ◌∷◌, Contains, length, get_or, Option, Some, None, IfSome, IsSome, IsSomeAnd, IsTrue, refl, sym, ap, ◌∙◌, subst, arith}
 use mathlib.Core.Path.{fun_ext}
+use Rattle.std.proofs.lemmas.Bool.{eqb-true}
 use Rattle.std.specs.Prelude.{◌||◌, ◌+◌, ◌*◌, ◌%◌}
 use Rattle.std.specs.FinMap as map
 use Rattle.hb_space.specs.declared.form.TheConstants.{PAGE}
@@ -15,6 +16,7 @@ use Rattle.hb_activity.specs.declared.jobs.Job.{Job}
 use Rattle.hb_activity.specs.declared.waiting_jobs.TheConstants.{JOBS}
 use Rattle.hb_activity.specs.declared.wanting.Wanted.{Wanted}
 use Rattle.hb_activity.specs.declared.activities.Activity.{Activity}
+use Rattle.hb_activity.specs.declared.activities.Activity.TheVariants.{SessionIdle, PosterIdle, ConsolidatorIdle, Flusher}
 use Rattle.hb_core.specs.declared.outcomes.Outcome.{Outcome}
 use Rattle.hb_core.specs.declared.outcomes.Outcome.TheVariants as outcomes
 use Rattle.hb_activity.specs.Deeds.{Deed}
@@ -31,8 +33,15 @@ use Rattle.hb_core.specs.GivingUp.{runs_out}
 use Rattle.hb_core.specs.Machines.{Files, if_some, live_here, Machine}
 use Rattle.hb_core.specs.Performing.{DoesOp, MayDo, Performs, Relatches, files_after, given_by, ChangesQueue, outcome_of}
 use Rattle.hb_core.specs.Rows.{IsAtHand, Row}
-use Rattle.hb_core.specs.Scenes.{Scene, machine_of, standing, store_of}
-use Rattle.hb_core.specs.Steps.{IsUnready, Works, may_change_file}
+use Rattle.hb_core.specs.Scenes.{Scene, at_rest, machine_of, standing, store_of}
+use Rattle.hb_boxlock.specs.Locking.{Excludes}
+use Rattle.hb_core.specs.Locking.{HasBoxFree}
+use Rattle.hb_core.specs.Steps.{BeginsLine, IsUnready, Works, may_change_file}
+use Rattle.hb_activity.specs.BoxLocks.{lock_of, lock_of_command}
+use Rattle.hb_boxlock.specs.declared.locks.BoxLock.{BoxLock}
+use Rattle.hb_point.specs.SessionRows.{taking}
+use Rattle.hb_space.specs.Boxes.{point_area}
+use Rattle.hb_set.specs.declared.scripts.Line.{Line}
 use Rattle.hb_latch.specs.Modes.{goes_beside}
 use Rattle.hb_latch.specs.Tables.{IsGrantable, IsLeastInTheWay}
 use Rattle.hb_log_codec.specs.Groups.{Logged, group_bytes}
@@ -191,6 +200,41 @@ performed s actor deed jobs queue may = record {
   files = files_are s deed.op;
   clock = refl;
 }
+
+-- ---- a line that is taken
+
+-- nobody at work has a lock that keeps an actor from this one
+abbrev pub NoneLocksOut : ℕ → BoxLock → List (ℕ × Activity) → Type 0
+NoneLocksOut actor lock [] = Unit {0}
+NoneLocksOut actor lock (one ∷ rest) = ((one.0 ≡ actor) ⊎ ¬ (IsSomeAnd (lock_of one.1) (Excludes lock))) × NoneLocksOut actor lock rest
+
+-- who rests has none
+rests_open : (actor : ℕ) (lock : BoxLock) → IsSomeAnd (lock_of (at_rest actor)) (Excludes lock) → ⊥
+rests_open actor lock out = elim (nat_le actor 16) as (λ b. IsSomeAnd (lock_of (cond b SessionIdle (cond (actor == 17) PosterIdle (cond (actor == 18) ConsolidatorIdle Flusher)))) (Excludes lock) → ⊥) [
+  | true ↦ λ none. none
+  | false ↦ elim (actor == 17) as (λ b. IsSomeAnd (lock_of (cond b PosterIdle (cond (actor == 18) ConsolidatorIdle Flusher))) (Excludes lock) → ⊥) [
+    | true ↦ λ none. none
+    | false ↦ elim (actor == 18) as (λ b. IsSomeAnd (lock_of (cond b ConsolidatorIdle Flusher)) (Excludes lock) → ⊥) [ true ↦ λ none. none | false ↦ λ none. none ]
+  ]
+] out
+
+none_out : (actor : ℕ) (lock : BoxLock) (all : List (ℕ × Activity)) → NoneLocksOut actor lock all → (other : ℕ) → other ≢ actor → IsSomeAnd (lock_of (standing all other)) (Excludes lock) → ⊥
+none_out actor lock [] none other another out = rests_open other lock out
+none_out actor lock (one ∷ rest) none other another out = elim (other == one.0) as (λ b. (other == one.0) ≡ b → IsSomeAnd (lock_of (cond b one.1 (standing rest other))) (Excludes lock) → ⊥) [
+  | true ↦ λ here its. elim none.0 [ inl same ↦ another (eqb-true other one.0 here ∙ same) | inr open_to ↦ open_to its ]
+  | false ↦ λ off its. none_out actor lock rest none.1 other another its
+] refl out
+
+pub box_free : (s : Scene) (actor : ℕ) (lock : BoxLock) → NoneLocksOut actor lock s.at_work → HasBoxFree (machine_of s) actor lock
+box_free s actor lock none other out = none_out actor lock s.at_work none other out.another out.excluded
+
+-- locks on two points don't
+pub points_apart : (a b : ℕ) (one other : Bool) → a ≢ b → Excludes (record { area = point_area (a ∷ []); shared = one }) (record { area = point_area (b ∷ []); shared = other }) → ⊥
+points_apart a b one other apart out = let meets = out.meets 0 (omega arith) in apart (omega (arith, meets))
+
+pub takes_line : (s : Scene) (actor : ℕ) (line : Line) (jobs : List Job) → ChangesQueue (taking line) s.jobs jobs → NoneLocksOut actor (lock_of_command line.command) s.at_work
+    → BeginsLine (machine_of s) actor line outcomes.Moved (machine_of (after actor (taking line) jobs s))
+takes_line s actor line jobs queue none = inr (box_free s actor (lock_of_command line.command) none, inl (performed s actor (taking line) jobs queue tt))
 
 -- ---- a step that works
 

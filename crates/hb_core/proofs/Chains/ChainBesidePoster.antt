@@ -1,6 +1,5 @@
 -- The poster and two sessions: each step of the chain.
-use Rattle.std.proofs.Common.{◌≡◌, ◌≢◌, inl, inr, List, [], ◌∷◌, slice_index, Contains, Option, Some, None, refl, ap, arith}
-use Rattle.hb_space.specs.declared.records.Record.{Record}
+use Rattle.std.proofs.Common.{◌≡◌, inl, inr, List, [], ◌∷◌, slice_index, Contains, Option, Some, None, refl, ap, arith, true, false}
 use Rattle.hb_frag.specs.declared.pages.LivePage.{LivePage}
 use Rattle.hb_ops.specs.declared.operations.Op.TheVariants as ops
 use Rattle.hb_latch.specs.declared.modes.Mode.TheVariants.{Exclusive, Shared}
@@ -9,11 +8,10 @@ use Rattle.hb_activity.specs.declared.jobs.Job.{Job}
 use Rattle.hb_activity.specs.declared.activities.Activity.TheVariants as at
 use Rattle.hb_core.specs.declared.outcomes.Outcome.TheVariants.{Moved}
 use Rattle.hb_activity.specs.Deeds.{Deed, answers_now, moves_to, takes_effect}
-use Rattle.hb_core.proofs.Chains.BuiltSteps.{after, at_hand, blocked, forced_scene, forces, has_room, live_is, none_waits, one_joins, only_looks, performed, wanted_in, works, queued}
+use Rattle.hb_core.proofs.Chains.BuiltSteps.{after, at_hand, blocked, forced_scene, forces, has_room, live_is, none_waits, one_joins, only_looks, performed, wanted_in, works, queued, points_apart, takes_line}
 use Rattle.hb_core.proofs.Chains.ChainOfPosting.{again_row, arrive_row, arrives, it_leaves, job, look_row, looks, post_fits, posts, promote_row, promotes, takes}
-use Rattle.hb_core.proofs.Chains.ChainOfTwoParts.{differ}
 use Rattle.hb_core.specs.Asking.{box_at}
-use Rattle.hb_core.specs.ChainBesidePoster.{SessionsBesidePoster, beside_before, deletes_twenty, lower_two, seeks_twenty}
+use Rattle.hb_core.specs.ChainBesidePoster.{SessionsBesidePoster, beside_before, deletes_thirty, lower_two, seeks_twenty}
 use Rattle.hb_core.specs.ChainOfPosting.{bare_root, posted_root, raised_meta, split_page}
 use Rattle.hb_core.specs.ChainOfTwo.{lettered, lower_half, lower_three, posts_at}
 use Rattle.hb_core.specs.Rows.{Row}
@@ -23,7 +21,6 @@ use Rattle.hb_frag.specs.Leaves.{leaves, leaves_of}
 use Rattle.hb_frag.specs.Rules.{BelongsAt, IsInOrder}
 use Rattle.hb_ops.specs.Recording.{FitsDel}
 use Rattle.hb_ops.specs.Sound.{FitsFile}
-use Rattle.hb_ops.specs.Standing.{StandsNot}
 use Rattle.hb_lemmas.specs.Numbers.{big_endian}
 use Rattle.hb_point.specs.SessionRows.{taking}
 use Rattle.hb_sound.proofs.ExampleParts.{in_order}
@@ -61,7 +58,7 @@ abbrev is_promoted : Scene
 is_promoted = after 17 promotes (posts_at 20 ∷ []) is_below
 
 abbrev other_taken : Scene
-other_taken = after 2 (taking deletes_twenty) (posts_at 20 ∷ []) is_promoted
+other_taken = after 2 (taking deletes_thirty) (posts_at 20 ∷ []) is_promoted
 
 abbrev two_jobs : List Job
 two_jobs = posts_at 20 ∷ posts_at 10 ∷ []
@@ -70,25 +67,25 @@ abbrev is_posted : Scene
 is_posted = after 17 posts two_jobs other_taken
 
 abbrev passes_root : Deed
-passes_root = moves_to (at.SessionWalk deletes_twenty (Some 3) [] []) []
+passes_root = moves_to (at.SessionWalk deletes_thirty (Some 3) [] []) []
 
 abbrev root_passed : Scene
 root_passed = after 2 passes_root two_jobs is_posted
 
 abbrev deletes : Deed
-deletes = takes_effect 0 deletes_twenty replies.Done (Some (ops.Del 2 (20 ∷ []))) []
+deletes = takes_effect 0 deletes_thirty replies.Done (Some (ops.Del 2 (30 ∷ []))) []
 
 abbrev is_deleted : Scene
 is_deleted = after 2 deletes two_jobs root_passed
 
-abbrev misses : Deed
-misses = takes_effect 1 seeks_twenty replies.Missing None []
+abbrev finds : Deed
+finds = takes_effect 1 seeks_twenty (replies.Found (98 ∷ [])) None []
 
-abbrev is_missed : Scene
-is_missed = after 1 misses two_jobs is_deleted
+abbrev is_found : Scene
+is_found = after 1 finds two_jobs is_deleted
 
 abbrev once_forced : Scene
-once_forced = forced_scene is_missed
+once_forced = forced_scene is_found
 
 abbrev twice_forced : Scene
 twice_forced = forced_scene once_forced
@@ -97,7 +94,7 @@ abbrev one_answered : Scene
 one_answered = after 2 (answers_now 2 replies.Done) two_jobs twice_forced
 
 abbrev both_answered : Scene
-both_answered = after 1 (answers_now 1 replies.Missing) two_jobs one_answered
+both_answered = after 1 (answers_now 1 (replies.Found (98 ∷ []))) two_jobs one_answered
 
 -- ---- what the delete asks for
 
@@ -115,16 +112,8 @@ lower_fits = record {
   normal = tt;
 }
 
-del_fits : FitsDel raised_meta lower_half (20 ∷ [])
-del_fits = record { made = lower_fits; level = refl; there = record { records = lower_three; area = _; leaf = refl; keeps = (1, lettered 20 98, omega arith, refl, refl) } }
-
-twenty_absent : StandsNot lower_two (20 ∷ [])
-twenty_absent = record {
-  records = lettered 10 97 ∷ lettered 30 99 ∷ [];
-  area = _;
-  leaf = refl;
-  lack = All-from_recursion (λ (r : Record). r.key ≢ 20 ∷ []) (lettered 10 97 ∷ lettered 30 99 ∷ []) (differ 10 20 (omega arith), (differ 30 20 (omega arith), tt));
-}
+del_fits : FitsDel raised_meta lower_half (30 ∷ [])
+del_fits = record { made = lower_fits; level = refl; there = record { records = lower_three; area = _; leaf = refl; keeps = (2, lettered 30 99, omega arith, refl, refl) } }
 
 -- ---- the rows
 
@@ -147,15 +136,15 @@ root_row = (posted_root, at_hand is_posted (standing is_posted.at_work 2) _ post
 delete_row : Row (standing root_passed.at_work 2) (wanted_in root_passed 2) (machine_of root_passed) deletes
 delete_row = (
   lower_half,
-  at_hand root_passed (standing root_passed.at_work 2) _ lower_half _ refl refl (ap (λ (o : Option LivePage). box_at o (Some (20 ∷ []))) (live_is root_passed 3)) (within 0 39 0 39 (omega arith) (omega arith)),
-  inr (inl (record { found = lettered 20 98; there = record { records = lower_three; area = _; leaf = refl; place = 1; among = refl; key = refl }; deed_is = refl })),
+  at_hand root_passed (standing root_passed.at_work 2) _ lower_half _ refl refl (ap (λ (o : Option LivePage). box_at o (Some (30 ∷ []))) (live_is root_passed 3)) (within 0 39 0 39 (omega arith) (omega arith)),
+  inr (inl (record { found = lettered 30 99; there = record { records = lower_three; area = _; leaf = refl; place = 2; among = refl; key = refl }; deed_is = refl })),
 )
 
-miss_row : Row (standing is_deleted.at_work 1) (wanted_in is_deleted 1) (machine_of is_deleted) misses
-miss_row = (
+find_row : Row (standing is_deleted.at_work 1) (wanted_in is_deleted 1) (machine_of is_deleted) finds
+find_row = (
   lower_two,
   at_hand is_deleted (standing is_deleted.at_work 1) _ lower_two _ refl refl (ap (λ (o : Option LivePage). box_at o (Some (20 ∷ []))) (live_is is_deleted 1)) refl,
-  inr (inr (record { absent = twenty_absent; deed_is = refl })),
+  inr (inl (record { found = lettered 20 98; there = record { records = lettered 10 97 ∷ lettered 20 98 ∷ []; area = _; leaf = refl; place = 1; among = refl; key = refl }; deed_is = refl })),
 )
 
 -- ---- the jobs differ
@@ -175,7 +164,7 @@ sessions_beside_poster = (
     works job_taken 17 arrives [] refl (only_looks job_taken 17 refl) (arrive_row job_taken refl refl) (queued refl refl) tt,
     (
       machine_of line_taken,
-      inl (performed at_root 1 (taking seeks_twenty) [] (queued refl refl) tt),
+      takes_line at_root 1 seeks_twenty [] (queued refl refl) (inr (λ none. none), tt),
       (
         machine_of to_promote,
         works line_taken 17 looks [] refl (only_looks line_taken 17 refl) (look_row line_taken refl refl refl) (queued refl refl) tt,
@@ -193,7 +182,7 @@ sessions_beside_poster = (
                 works is_below 17 promotes (posts_at 20 ∷ []) refl (only_looks is_below 17 refl) (promote_row is_below refl refl) (queued refl refl) tt,
                 (
                   machine_of other_taken,
-                  inl (performed is_promoted 2 (taking deletes_twenty) (posts_at 20 ∷ []) (queued refl refl) tt),
+                  takes_line is_promoted 2 deletes_thirty (posts_at 20 ∷ []) (queued refl refl) (inr (λ none. none), (inr (points_apart 30 20 false true (λ same. omega (arith, same))), tt)),
                   (
                     machine_of other_taken,
                     blocked other_taken 2 17 Exclusive _ refl (omega arith) refl refl refl,
@@ -207,11 +196,11 @@ sessions_beside_poster = (
                           machine_of is_deleted,
                           works root_passed 2 deletes two_jobs refl (has_room root_passed 2 (omega arith, omega arith)) delete_row (queued refl refl) (record { allowed = del_fits; log = refl }),
                           (
-                            machine_of is_missed,
-                            works is_deleted 1 misses two_jobs refl (only_looks is_deleted 1 refl) miss_row (queued refl refl) tt,
+                            machine_of is_found,
+                            works is_deleted 1 finds two_jobs refl (only_looks is_deleted 1 refl) find_row (queued refl refl) tt,
                             (
                               machine_of once_forced,
-                              inr (omega arith, forces is_missed Moved),
+                              inr (omega arith, forces is_found Moved),
                               (
                                 machine_of twice_forced,
                                 inr (omega arith, forces once_forced Moved),
@@ -220,7 +209,7 @@ sessions_beside_poster = (
                                   inl (omega arith, performed twice_forced 2 (answers_now 2 replies.Done) two_jobs (queued refl refl) tt),
                                   (
                                     machine_of both_answered,
-                                    inl (omega arith, performed one_answered 1 (answers_now 1 replies.Missing) two_jobs (queued refl refl) tt),
+                                    inl (omega arith, performed one_answered 1 (answers_now 1 (replies.Found (98 ∷ []))) two_jobs (queued refl refl) tt),
                                     refl,
                                   ),
                                 ),

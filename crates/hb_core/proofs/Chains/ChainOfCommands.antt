@@ -6,7 +6,7 @@ use Rattle.hb_frag.specs.declared.pages.LivePage.{LivePage}
 use Rattle.hb_set.specs.declared.commands.Reply.TheVariants as replies
 use Rattle.hb_activity.specs.declared.activities.Activity.TheVariants.{SessionWalk}
 use Rattle.hb_activity.specs.Deeds.{Deed, answers_now, moves_to, takes_effect}
-use Rattle.hb_core.proofs.Chains.BuiltSteps.{after, at_hand, has_room, live_is, none_waits, one_joins, only_looks, performed, wanted_in, works, queued}
+use Rattle.hb_core.proofs.Chains.BuiltSteps.{after, at_hand, has_room, live_is, none_waits, one_joins, only_looks, performed, queued, takes_line, wanted_in, works}
 use Rattle.hb_core.proofs.Chains.ChainOfTwoParts.{differ}
 use Rattle.hb_core.specs.Asking.{box_at}
 use Rattle.hb_core.specs.ChainOfCommands.{CommandsOfOne, asked_area, commands_before, deletes_none, inserts_fifty, searches, three_found}
@@ -123,7 +123,7 @@ gather_all_row = (
 pub commands_of_one : CommandsOfOne
 commands_of_one = (
   machine_of first_taken,
-  inl (performed commands_before 1 (taking inserts_fifty) [] (queued refl refl) tt),
+  takes_line commands_before 1 inserts_fifty [] (queued refl refl) tt,
   (
     machine_of first_done,
     works first_taken 1 finds_twin [] refl (has_room first_taken 1 (omega arith, omega arith)) twin_row (queued refl refl) tt,
@@ -132,7 +132,7 @@ commands_of_one = (
       inl (omega arith, performed first_done 1 (answers_now 1 replies.Duplicate) [] (queued refl refl) tt),
       (
         machine_of second_taken,
-        inl (performed first_answered 1 (taking deletes_none) [] (queued refl refl) tt),
+        takes_line first_answered 1 deletes_none [] (queued refl refl) (inl refl, tt),
         (
           machine_of second_done,
           works second_taken 1 finds_nothing [] refl (has_room second_taken 1 (omega arith, omega arith)) nothing_row (queued refl refl) tt,
@@ -141,7 +141,7 @@ commands_of_one = (
             inl (omega arith, performed second_done 1 (answers_now 2 replies.Absent) [] (queued refl refl) tt),
             (
               machine_of third_taken,
-              inl (performed second_answered 1 (taking searches) [] (queued refl refl) tt),
+              takes_line second_answered 1 searches [] (queued refl refl) (inl refl, tt),
               (
                 machine_of is_passed,
                 works third_taken 1 passes (posts_at 25 ∷ []) refl (only_looks third_taken 1 refl) pass_row (queued refl (one_joins (posts_at 25) [] (none_waits (posts_at 25)) (omega arith))) tt,

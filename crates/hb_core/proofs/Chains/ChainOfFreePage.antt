@@ -6,7 +6,7 @@ use Rattle.hb_frag.specs.declared.pages.Page.TheVariants.{Free}
 use Rattle.hb_set.specs.declared.commands.Reply.TheVariants as replies
 use Rattle.hb_core.specs.declared.outcomes.Outcome.TheVariants.{Moved}
 use Rattle.hb_activity.specs.Deeds.{Deed, answers_now}
-use Rattle.hb_core.proofs.Chains.BuiltSteps.{MayCome, MayNeedIn, after, bringing, forced_scene, forces, has_room, memory_is, none_waits, one_joins, performed, wanted_in, works, works_bringing, queued}
+use Rattle.hb_core.proofs.Chains.BuiltSteps.{MayCome, MayNeedIn, after, bringing, forced_scene, forces, has_room, memory_is, none_waits, one_joins, performed, wanted_in, works, works_bringing, queued, takes_line}
 use Rattle.hb_core.proofs.Chains.ChainOfTwoParts.{full_fits, put_fits, six}
 use Rattle.hb_core.specs.ChainOfFreePage.{FreePageIsTaken, NoPageIsFree, free_before, none_free_before, tight_meta}
 use Rattle.hb_core.specs.ChainOfTwo.{full_page, inserts_seventy, lettered, posts_at, upper_half, upper_three}
@@ -82,7 +82,7 @@ pub free_page_is_taken : FreePageIsTaken
 unfolding big_endian
 free_page_is_taken = (
   machine_of is_taken,
-  inl (performed free_before 1 (taking inserts_seventy) [] (queued refl refl) tt),
+  takes_line free_before 1 inserts_seventy [] (queued refl refl) tt,
   (
     machine_of to_split,
     works is_taken 1 finds_no_room [] refl (has_room is_taken 1 (omega arith, omega arith)) (no_room_row is_taken refl refl refl) (queued refl refl) tt,
@@ -131,7 +131,7 @@ none_row = inl (record { none_free = refl; deed_is = refl })
 pub no_page_is_free : NoPageIsFree
 no_page_is_free = (
   machine_of none_taken,
-  inl (performed none_free_before 1 (taking inserts_seventy) [] (queued refl refl) tt),
+  takes_line none_free_before 1 inserts_seventy [] (queued refl refl) tt,
   (
     machine_of none_to_split,
     works none_taken 1 finds_no_room [] refl (has_room none_taken 1 (omega arith, omega arith)) (no_room_row none_taken refl refl refl) (queued refl refl) tt,

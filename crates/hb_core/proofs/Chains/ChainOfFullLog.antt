@@ -1,8 +1,8 @@
 -- The log has no room: each step of the chain.
-use Rattle.std.proofs.Common.{◌≢◌, inl, [], refl, arith}
+use Rattle.std.proofs.Common.{◌≢◌, inl, [], refl, arith, inr}
 use Rattle.hb_set.specs.declared.commands.Reply.TheVariants as replies
 use Rattle.hb_activity.specs.Deeds.{answers_now}
-use Rattle.hb_core.proofs.Chains.BuiltSteps.{after, forced_scene, gives_out, helps, performed, queued}
+use Rattle.hb_core.proofs.Chains.BuiltSteps.{after, forced_scene, gives_out, helps, performed, queued, takes_line}
 use Rattle.hb_core.specs.ChainOfFullLog.{LogHasNoRoom, inserts_forty, log_before}
 use Rattle.hb_core.specs.Scenes.{Scene, machine_of, store_of}
 use Rattle.hb_lemmas.specs.Numbers.{big_endian}
@@ -36,7 +36,7 @@ pub log_has_no_room : LogHasNoRoom
 unfolding big_endian
 log_has_no_room = (
   machine_of is_taken,
-  inl (performed log_before 1 (taking inserts_forty) [] (queued refl refl) tt),
+  takes_line log_before 1 inserts_forty [] (queued refl refl) (inr (λ none. none), tt),
   (
     machine_of is_forced,
     helps is_taken 1 refl (inl (refl, not_ready)) some_wait,

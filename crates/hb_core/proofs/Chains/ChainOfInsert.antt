@@ -7,7 +7,7 @@ use Rattle.hb_ops.specs.declared.operations.Op.TheVariants.{Put}
 use Rattle.hb_set.specs.declared.commands.Reply.TheVariants as replies
 use Rattle.hb_core.specs.declared.outcomes.Outcome.TheVariants.{Moved}
 use Rattle.hb_activity.specs.Deeds.{Deed, answers_now, takes_effect}
-use Rattle.hb_core.proofs.Chains.BuiltSteps.{MayCome, MayNeedIn, after, at_hand, bringing, forced_scene, forces, has_room, performed, wanted_in, works_bringing, queued}
+use Rattle.hb_core.proofs.Chains.BuiltSteps.{MayCome, MayNeedIn, after, at_hand, bringing, forced_scene, forces, has_room, performed, queued, takes_line, wanted_in, works_bringing}
 use Rattle.hb_core.specs.OneInsert.{OneInsert, before_insert, flat_meta, inserts_a, letter_a, page_of_records}
 use Rattle.hb_core.specs.Rows.{Row}
 use Rattle.hb_core.specs.Scenes.{Scene, machine_of, standing}
@@ -95,7 +95,7 @@ pub one_insert : OneInsert
 unfolding big_endian
 one_insert = (
   machine_of taken,
-  inl (performed before_insert 1 (taking inserts_a) [] (queued refl refl) tt),
+  takes_line before_insert 1 inserts_a [] (queued refl refl) tt,
   (
     machine_of put,
     works_bringing page_1 taken 1 puts [] (page_comes, tt) refl (has_room taken 1 (omega arith, omega arith)) put_row (queued refl refl) (record { allowed = put_fits; log = refl }),

@@ -12,7 +12,7 @@ use Rattle.hb_core.specs.Scenes.{Scene, standing, untold_scene}
 use Rattle.hb_core.specs.Steps.{TakesJob}
 use Rattle.hb_core.proofs.Chains.BuiltSteps.{after, only_looks, queued}
 use Rattle.hb_core.proofs.Chains.ChainOfPosting.{it_leaves, job, takes}
-use Rattle.hb_core.proofs.Chains.UntoldSteps.{performed_untold, reads_not}
+use Rattle.hb_core.proofs.Chains.UntoldSteps.{performed_untold, reads_not, takes_line_untold}
 use Rattle.hb_point.specs.SessionRows.{taking}
 use Rattle.hb_store.specs.Fetching.{IsNoPage}
 use Rattle.std.proofs.lemmas.List.Elements.{All-from_recursion}
@@ -40,7 +40,7 @@ is_page (inr more) = absurd (omega (arith, more))
 pub root_is_not_read : RootIsNotRead
 root_is_not_read = (
   untold_scene line_taken,
-  inl (performed_untold unread_before 1 (taking seeks_twenty) (job ∷ []) (queued refl refl) tt),
+  takes_line_untold unread_before 1 seeks_twenty (job ∷ []) (queued refl refl) tt,
   (
     untold_scene both_taken,
     inr (takes (at.PosterWalk job None), takes_to_walk, performed_untold line_taken 17 (takes (at.PosterWalk job None)) [] (it_leaves _) tt),

@@ -24,7 +24,7 @@ use Rattle.hb_core.specs.ChainOfTwo.{posts_at}
 use Rattle.hb_core.specs.Rows.{Row}
 use Rattle.hb_core.specs.Scenes.{Scene, machine_of, standing}
 use Rattle.hb_core.specs.declared.outcomes.Outcome.TheVariants.{Moved}
-use Rattle.hb_core.proofs.Chains.BuiltSteps.{after, at_hand, forced_scene, forces, has_room, live_is, one_joins, performed, queued, wanted_in, works}
+use Rattle.hb_core.proofs.Chains.BuiltSteps.{after, at_hand, forced_scene, forces, has_room, live_is, one_joins, performed, queued, takes_line, wanted_in, works}
 use Rattle.hb_core.proofs.Chains.ChainOfTwoParts.{differ}
 use Rattle.hb_point.specs.SessionRows.{taking}
 use Rattle.hb_sound.proofs.ExampleParts.{each_has, in_order}
@@ -204,7 +204,7 @@ pub full_goes_on : FullGoesOn
 unfolding big_endian
 full_goes_on = (
   machine_of first_taken,
-  inl (performed three_before 1 (taking (inserts_120 12)) postings_owed (queued refl refl) tt),
+  takes_line three_before 1 (inserts_120 12) postings_owed (queued refl refl) tt,
   (
     machine_of first_passed,
     works first_taken 1 (passes (inserts_120 12) 120) all_jobs refl (has_room first_taken 1 (omega arith, omega arith)) first_pass_row (queued refl (one_joins (posts_at 120) postings_owed none_at_120 (omega arith))) tt,
@@ -216,7 +216,7 @@ full_goes_on = (
         works to_split 1 (answers_now 12 replies.Full) all_jobs tt (has_room to_split 1 (omega arith, omega arith)) full_row (queued refl refl) tt,
         (
           machine_of second_taken,
-          inl (performed first_answered 1 (taking deletes_110) all_jobs (queued refl refl) tt),
+          takes_line first_answered 1 deletes_110 all_jobs (queued refl refl) (inl refl, tt),
           (
             machine_of second_passed,
             works second_taken 1 (passes deletes_110 110) all_jobs refl (has_room second_taken 1 (omega arith, omega arith)) second_pass_row (queued refl (waits_already (posts_at 110) (3, omega arith, refl))) tt,
@@ -231,7 +231,7 @@ full_goes_on = (
                   inl (omega arith, performed once_forced 1 (answers_now 13 replies.Done) all_jobs (queued refl refl) tt),
                   (
                     machine_of third_taken,
-                    inl (performed second_answered 1 (taking (inserts_120 14)) all_jobs (queued refl refl) tt),
+                    takes_line second_answered 1 (inserts_120 14) all_jobs (queued refl refl) (inl refl, tt),
                     (
                       machine_of third_passed,
                       works third_taken 1 (passes (inserts_120 14) 120) all_jobs refl (has_room third_taken 1 (omega arith, omega arith)) third_pass_row (queued refl (waits_already (posts_at 120) (4, omega arith, refl))) tt,

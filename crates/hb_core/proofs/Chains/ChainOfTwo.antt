@@ -1,6 +1,6 @@
 -- Two sessions on one page: each step of the chain.
 use Rattle.hb_core.proofs.Chains.SplitRows.{finds_no_room, no_room_row, put_row, puts, split_row, splits}
-use Rattle.std.proofs.Common.{◌≡◌, inl, inr, [], ◌∷◌, slice_index, Contains, Option, Some, None, refl, ap, arith}
+use Rattle.std.proofs.Common.{◌≡◌, inl, inr, [], ◌∷◌, slice_index, Contains, Option, Some, None, refl, ap, arith, true, false}
 use Rattle.hb_frag.specs.declared.pages.LivePage.{LivePage}
 use Rattle.hb_latch.specs.declared.modes.Mode.TheVariants.{Exclusive}
 use Rattle.hb_set.specs.declared.commands.Reply.TheVariants as replies
@@ -8,7 +8,7 @@ use Rattle.hb_activity.specs.declared.jobs.Job.{Job}
 use Rattle.hb_activity.specs.declared.activities.Activity.TheVariants.{SessionWalk}
 use Rattle.hb_core.specs.declared.outcomes.Outcome.TheVariants.{Moved}
 use Rattle.hb_activity.specs.Deeds.{Deed, answers_now, moves_to, takes_effect}
-use Rattle.hb_core.proofs.Chains.BuiltSteps.{after, at_hand, blocked, forced_scene, forces, has_room, live_is, none_waits, one_joins, only_looks, performed, wanted_in, works, queued}
+use Rattle.hb_core.proofs.Chains.BuiltSteps.{after, at_hand, blocked, forced_scene, forces, has_room, live_is, none_waits, one_joins, only_looks, performed, wanted_in, works, queued, points_apart, takes_line}
 use Rattle.hb_core.proofs.Chains.ChainOfTwoParts.{extract_fits, put_fits, twenty_there}
 use Rattle.hb_core.specs.Asking.{box_at}
 use Rattle.hb_core.specs.ChainOfTwo.{TwoOnOnePage, inserts_seventy, lettered, looks_twenty_up, lower_half, posts_at, two_before, upper_half}
@@ -87,10 +87,10 @@ pub two_on_one_page : TwoOnOnePage
 unfolding big_endian
 two_on_one_page = (
   machine_of first_taken,
-  inl (performed two_before 1 (taking inserts_seventy) [] (queued refl refl) tt),
+  takes_line two_before 1 inserts_seventy [] (queued refl refl) tt,
   (
     machine_of both_taken,
-    inl (performed first_taken 2 (taking looks_twenty_up) [] (queued refl refl) tt),
+    takes_line first_taken 2 looks_twenty_up [] (queued refl refl) (inr (points_apart 20 70 true false (λ same. omega (arith, same))), tt),
     (
       machine_of to_split,
       works both_taken 1 finds_no_room [] refl (has_room both_taken 1 (omega arith, omega arith)) (no_room_row both_taken refl refl refl) (queued refl refl) tt,

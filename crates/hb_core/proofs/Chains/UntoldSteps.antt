@@ -10,8 +10,12 @@ use Rattle.hb_core.specs.GivingUp.{gives_up}
 use Rattle.hb_core.specs.Machines.{Files}
 use Rattle.hb_core.specs.Performing.{ChangesQueue, Performs, files_after, outcome_of}
 use Rattle.hb_core.specs.Scenes.{Scene, machine_of, standing, store_of, untold_scene}
-use Rattle.hb_core.specs.Steps.{IsUnready, Works}
-use Rattle.hb_core.proofs.Chains.BuiltSteps.{IsClearIn, MayBeIn, after, memory_is, nothing_comes, performed, wanted_in, wanted_is, way_free}
+use Rattle.hb_core.specs.Steps.{BeginsLine, IsUnready, Works}
+use Rattle.hb_core.specs.declared.outcomes.Outcome.TheVariants as outcomes
+use Rattle.hb_activity.specs.BoxLocks.{lock_of_command}
+use Rattle.hb_point.specs.SessionRows.{taking}
+use Rattle.hb_set.specs.declared.scripts.Line.{Line}
+use Rattle.hb_core.proofs.Chains.BuiltSteps.{IsClearIn, MayBeIn, NoneLocksOut, after, box_free, memory_is, nothing_comes, performed, wanted_in, wanted_is, way_free}
 use Rattle.hb_core.proofs.Chains.WrittenTables.{entry_at}
 use Rattle.hb_store.specs.Fetching.{IsNoPage}
 
@@ -36,6 +40,12 @@ performed_untold s actor deed jobs queue may =
       files = none_told deed.op;
       clock = refl;
     }
+
+pub takes_line_untold : (s : Scene) (actor : ℕ) (line : Line) (jobs : List Job) → ChangesQueue (taking line) s.jobs jobs → NoneLocksOut actor (lock_of_command line.command) s.at_work
+    → BeginsLine (untold_scene s) actor line outcomes.Moved (untold_scene (after actor (taking line) jobs s))
+takes_line_untold s actor line jobs queue none =
+    let free = box_free s actor (lock_of_command line.command) none in
+    inr (λ other out. free other (record { another = out.another; excluded = out.excluded }), inl (performed_untold s actor (taking line) jobs queue tt))
 
 -- the wanted page isn't in memory and can't be read
 pub reads_not : (s : Scene) (actor id : ℕ) (jobs : List Job) → IsClearIn s actor → ¬ (IsUnready (machine_of s) actor) → IsWantedPage (wanted_in s actor) id → ¬ (IsNoPage s.meta id)

@@ -176,9 +176,8 @@ module _ (laws : RunningLaws) (d : DiskModel) (m : Machine) (actors : List ℕ) 
 
   crashes : (n : RecordSet) (files : Files) → CoreKeeps n m files → CrashesTo n d f next (answers ++ given)
   crashes n files keeps =
-      let none = same_lines mid m (sym (steps_go_on actors m mid run.steps).lines) run.goes_on.searches in
-      let before = laws.changes n actors m files mid run.may none keeps run.steps in
-      let after = laws.changes n (actors ++ actor ∷ []) m files next all_may none keeps all_steps in
+      let before = laws.changes n actors m files mid run.may keeps run.steps in
+      let after = laws.changes n (actors ++ actor ∷ []) m files next all_may keeps all_steps in
       let shown = shows_them e old mid before.0 run.shows before.1.keeps.told in
       let shown_next = shows_them f new next after.0 went.shows after.1.keeps.told in
       let grown = grown_by mid next (order_grows mid actor outcome next went.step).1 in

@@ -14,6 +14,8 @@ use Rattle.hb_activity.specs.declared.activities.Activity.{Activity}
 use Rattle.hb_activity.specs.declared.activities.Activity.TheVariants as at
 use Rattle.hb_activity.specs.declared.jobs.Job.{Job}
 use Rattle.hb_activity.specs.Classes.{Class, Sessions, Posters, Consolidators, Flushers, class_of, idle_of, job_in_work, line_in_hand}
+use Rattle.hb_boxlock.specs.declared.locks.BoxLock.{BoxLock}
+use Rattle.hb_activity.specs.BoxLocks.{lock_of}
 use Rattle.hb_activity.specs.Walks.{walk_held}
 use Rattle.hb_core.specs.Keeps.{KnowsRoom, LatchesFit, WalksInSpace}
 use Rattle.hb_core.specs.KeptFits.{AttributesFit, IsBoxOf, JobFits, LineFits, StandsAbove, WorkersStand, boxes_left, class_for, walking_job}
@@ -22,6 +24,7 @@ use Rattle.hb_core.specs.KeptMachine.{MachineKeeps}
 use Rattle.hb_core.specs.KeptMerges.{NamesKnown, merging_at}
 use Rattle.hb_core.specs.KeptOrder.{FollowMarks, HasLegalOrder, HasPendingPrefix, StandsInOrder, StandsOutside}
 use Rattle.hb_core.specs.KeptPlaces.{AnswersAreSingle, OrderIsShort, RepliesStand}
+use Rattle.hb_core.specs.KeptSearches.{SearchesAreExact}
 use Rattle.hb_core.specs.KeptSequence.{IsInSequence, LinesInSequence, awaited_number}
 use Rattle.hb_core.specs.Machines.{Machine, settled_count}
 use Rattle.hb_core.specs.Performing.{latches_held, mode_among}
@@ -209,6 +212,9 @@ module _ (m : Machine) (begun : IsBegun m) where
     puts = λ actor source fresh line is. absurd (of_each _ (put_or_not line source fresh) actor is);
   }
 
+  no_lock : (actor : ℕ) (lock : BoxLock) → lock_of (m.activity actor) ≡ Some lock → ⊥
+  no_lock actor lock is = of_each (λ a. lock_of a ≡ Some lock → ⊥) (record { session = λ some. cc; poster = λ some. cc; consolidator = λ some. cc; flusher = λ some. cc }) actor is
+
   groups_rise : AllPairs NoLater m.store.log.groups
   groups_rise = subst (λ (l : List Waiting). AllPairs NoLater l) (sym no_group) (no_pairs NoLater)
 
@@ -226,6 +232,7 @@ module _ (m : Machine) (begun : IsBegun m) where
     nobody_else = λ actor none. begun.idle actor ∙ ap idle_of (nobodys_kind actor none);
     latches_fit = latches_begin;
     no_other_latches = λ actor page none. begun.unlatched actor page;
+    box_locks_fit = λ actor other lock held apart is. absurd (no_lock actor lock is);
     walk_in_space = walks_begin;
     workers_stand = workers_begin;
     room_known = room_begins;
@@ -242,6 +249,9 @@ module _ (m : Machine) (begun : IsBegun m) where
     awaits = replies_begin.awaits;
     answers = replies_begin.answers;
   }
+
+  exact_then : (s : FileState) → SearchesAreExact m (record { durable = s; later = [] })
+  exact_then s actor line held rest found box is command = absurd (of_each _ (walk_or_not line held rest found) actor is)
 
   pending_then : (s : FileState) → HasPendingPrefix (contents_of s) m (record { durable = s; later = [] })
   pending_then s = record {
@@ -265,6 +275,7 @@ beginning_keeps_all m s over = record {
     meta = over.meta;
     shown = over.shown;
   };
+  search_exact = exact_then m over.begun s;
   order_legal = order_legal_then m over.begun s;
   pending_prefix = pending_then m over.begun s;
 }

@@ -71,7 +71,7 @@ last_there (a ∷ front) last zero is = absurd (omega (arith, is))
 last_there (a ∷ front) last (suc place) is = last_there front last place (omega (arith, is))
 
 -- it walks to the lower corner of the last box
-goal_at_hand : (area : Area) (rest front : List Area) (last : Area) (p : List ℕ) → rest ≡ front ++ last ∷ [] → goal_of (Search area) rest ≡ Some p → last.lo ≡ p
+pub goal_at_hand : (area : Area) (rest front : List Area) (last : Area) (p : List ℕ) → rest ≡ front ++ last ∷ [] → goal_of (Search area) rest ≡ Some p → last.lo ≡ p
 goal_at_hand area rest front last p is goal =
     let whole : goal_of (Search area) (front ++ last ∷ []) ≡ Some p = subst (λ (r : List Area). goal_of (Search area) r ≡ Some p) is goal in
     let long = length-append {A = Area} front (last ∷ []) in

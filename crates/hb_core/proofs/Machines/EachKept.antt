@@ -3,6 +3,7 @@ use Rattle.std.proofs.Common.{[], ◌∷◌, sym, subst}
 use Rattle.std.proofs.lemmas.List.Elements.{All-head, All-tail}
 use Rattle.hb_core.proofs.Machines.AttributesKept.{attributes_fit_still}
 use Rattle.hb_core.proofs.Machines.ClassesKept.{classes_stay}
+use Rattle.hb_core.proofs.Machines.LocksKept.{box_locks_stay_fit}
 use Rattle.hb_core.proofs.Orders.LinesFit.{lines_stay_fit}
 use Rattle.hb_core.proofs.Orders.MarksKept.{marks_rise_still}
 use Rattle.hb_core.proofs.Orders.RepliesKept.{replies_stand}
@@ -41,6 +42,7 @@ machine_stays_kept laws m actor outcome new may keeps step = record {
   nobody_else = nobody_else_comes m actor outcome new may keeps.nobody_else step;
   latches_fit = laws.latches m actor outcome new may keeps.latches_fit keeps.pages_of_file step;
   no_other_latches = nobody_else_latches m actor outcome new may keeps.no_other_latches step;
+  box_locks_fit = box_locks_stay_fit m actor outcome new keeps step;
   walk_in_space = walks_stay_in_space m actor outcome new may keeps.latches_fit keeps.pages_of_file keeps.nobody_else keeps.walk_in_space step;
   workers_stand = workers_stand_still m actor outcome new may keeps step;
   room_known = laws.room m actor outcome new may keeps.latches_fit keeps.pages_of_file keeps.meta_within_limits keeps.nobody_else keeps.room_known step;

@@ -15,7 +15,7 @@ use Rattle.hb_core.specs.ContentsLaws.{ContentsFollowOrder, ContentsStep, conten
 use Rattle.hb_core.specs.KeptOrder.{HasLegalOrder}
 use Rattle.hb_core.specs.KeptSequence.{IsInSequence, LinesInSequence, awaited_number}
 use Rattle.hb_core.specs.Machines.{Files, Machine}
-use Rattle.hb_core.specs.OrderLaws.{SearchIsRight, OrderStaysLegal}
+use Rattle.hb_core.specs.OrderLaws.{OrderStaysLegal, SearchesAreRight}
 use Rattle.hb_point.specs.SessionRows.{is_answered, next_line, WantsBoxes}
 use Rattle.hb_set.specs.Machine.{RecordSet, reply_of, set_after}
 use Rattle.hb_set.specs.Order.{AreReplies, Entry, IsLegalOrder, KeepsSessions, MayPrecede, result_of}
@@ -89,7 +89,11 @@ search_or_not (Delete point) = inr (λ never. never)
 search_or_not (Lookup point) = inr (λ never. never)
 search_or_not (Search area) = inl tt
 
-module _ (n : RecordSet) (m : Machine) (files after : Files) (actor : ℕ) (new : Machine) (sequence : LinesInSequence m) (legal : HasLegalOrder n m files) (right : SearchIsRight m new files) where
+-- where a search takes effect, its reply is the machine's
+abbrev IsRight : Machine → Machine → Files → Type 0
+IsRight m new files = (entry : Entry) → new.order ≡ m.order ++ entry ∷ [] → WantsBoxes entry.line.command → entry.reply ≡ reply_of entry.line.command (contents_now files)
+
+module _ (n : RecordSet) (m : Machine) (files after : Files) (actor : ℕ) (new : Machine) (sequence : LinesInSequence m) (legal : HasLegalOrder n m files) (right : IsRight m new files) where
   still_legal : ContentsStep m actor new (contents_now files) (contents_now after) → IsLegalOrder n new.order × (result_of n new.order ≡ contents_now after)
   still_legal (inl (order, same)) = (subst (IsLegalOrder n) (sym order) legal.legal, ap (result_of n) order ∙ legal.result ∙ sym same)
   still_legal (inr (entry, order, takes)) =
@@ -102,8 +106,9 @@ module _ (n : RecordSet) (m : Machine) (files after : Files) (actor : ℕ) (new 
         ap (result_of n) order ∙ result_more n m.order entry ∙ ap (set_after entry.line.command) legal.result ∙ sym takes.leaves,
       )
 
-pub order_stays_legal : ContentsFollowOrder → OrderStaysLegal
-order_stays_legal law n m files after actor outcome new told fit inside has sequence legal right step is =
-    let both = still_legal n m files after actor new sequence legal right (law m files after actor outcome new told fit inside has step is) in
+pub order_stays_legal : ContentsFollowOrder → SearchesAreRight → OrderStaysLegal
+order_stays_legal law searches n m files after actor outcome new told kept has exact legal step is =
+    let right : IsRight m new files = λ entry joins wants. searches m files actor outcome new entry told kept has exact step joins wants in
+    let both = still_legal n m files after actor new kept.lines_in_sequence legal right (law m files after actor outcome new told kept.lines_fit kept.pages_of_file has step is) in
     let replies = replies_kept m actor outcome new (record { awaits = legal.awaits; answers = legal.answers }) step in
     record { legal = both.0; result = both.1; awaits = replies.awaits; answers = replies.answers }

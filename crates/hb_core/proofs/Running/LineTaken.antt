@@ -1,5 +1,5 @@
 -- An idle session of a core takes a line, or the poster takes a job, as a step of the machine that it shows.
-use Rattle.std.proofs.Common.{◌≡◌, ◌≢◌, ◌⊎◌, inl, inr, ℕ, ◌≤◌, ◌+◌, ◌-◌, ◌==◌, Bool, cond, List, [], length, take, drop, slice_get, slice_set, All, Option, Some, None, refl, sym, ap, ◌∙◌, subst, arith, append-nil}
+use Rattle.std.proofs.Common.{◌≡◌, ◌≢◌, inl, inr, ℕ, ◌≤◌, ◌+◌, ◌-◌, ◌==◌, Bool, cond, List, [], length, take, drop, slice_get, slice_set, All, Option, Some, None, refl, sym, ap, ◌∙◌, subst, arith, append-nil}
 use Rattle.std.specs.Prelude.{MatchOption}
 use Rattle.std.proofs.lemmas.Bool.{cases_Bool, eq-eqb, eqb-false, eqb-true}
 use Rattle.std.proofs.lemmas.List.{length-set}
@@ -10,7 +10,8 @@ use Rattle.hb_activity.specs.declared.activities.Activity.TheVariants as at
 use Rattle.hb_activity.specs.declared.jobs.Job.{Job}
 use Rattle.hb_activity.specs.declared.jobs.JobKind.TheVariants.{Post}
 use Rattle.hb_activity.specs.Classes.{Sessions, class_of}
-use Rattle.hb_activity.specs.Deeds.{Deed, answers_now, takes_job}
+use Rattle.hb_activity.specs.BoxLocks.{lock_of_command}
+use Rattle.hb_activity.specs.Deeds.{Deed, takes_job}
 use Rattle.hb_disk.specs.Model.{DiskModel}
 use Rattle.hb_latch.specs.Tables.{LatchTable, MayLatch}
 use Rattle.hb_lemmas.proofs.Booleans.{at_other}
@@ -19,7 +20,6 @@ use Rattle.hb_point.specs.SessionRows.{WantsBoxes, boxes_ahead, next_line, takin
 use Rattle.hb_poster.specs.PosterRows.{IsPostingOf}
 use Rattle.hb_set.specs.declared.commands.Command.{Command}
 use Rattle.hb_set.specs.declared.commands.Command.TheVariants.{Insert, Delete, Lookup, Search}
-use Rattle.hb_set.specs.declared.commands.Reply.TheVariants as replies
 use Rattle.hb_set.specs.declared.scripts.Line.{Line}
 use Rattle.hb_space.specs.Boxes.{Area}
 use Rattle.hb_store.specs.Keeps.{StoreKeeps}
@@ -32,10 +32,11 @@ use Rattle.hb_core.specs.Machines.{Machine, with_activity, with_disk}
 use Rattle.hb_core.specs.Moving.{DoesDeed, KeepsFilesBy, with_standing}
 use Rattle.hb_core.specs.Performing.{MayDo, Performs, Relatches}
 use Rattle.hb_core.specs.Showing.{HasTurn, RunningCore, ShowsMachine, number_in_hand}
-use Rattle.hb_core.specs.Steps.{StepsAs, TakesPosting}
-use Rattle.hb_core.specs.Taking.{TakesLine, TakesNextLine, TakesNextPosting}
+use Rattle.hb_core.specs.Steps.{BeginsLine, StepsAs, TakesPosting}
+use Rattle.hb_core.specs.Taking.{IsNextLine, TakesLine, TakesNextLine, TakesNextPosting}
 use Rattle.hb_core.specs.Working.{MayStep, with_memory}
 use Rattle.hb_core.proofs.Orders.NextLines.{next_is}
+use Rattle.hb_core.proofs.Running.AgainstPlaces.{box_in_the_way, has_box_free}
 use Rattle.hb_core.proofs.Running.DeedShows.{deed_shows}
 use Rattle.hb_core.proofs.Running.LinesAhead.{next_ahead, none_ahead, turn_at_end, turn_with}
 use Rattle.hb_core.proofs.Running.NumbersInHand.{NumberFate, job_number}
@@ -132,18 +133,19 @@ module _ (d : DiskModel) (c after : RunningCore) (m : Machine) (actor behind : �
       silent = step.shows.silent;
     }
 
-  module _ (place : ℕ) (line : Line) (takes : TakesLine actor behind place line c after) where
+  module _ (place : ℕ) (line : Line) (next : IsNextLine actor behind place line c) where
     skipped : All (λ (l : Line). l.session ≢ actor) (take place (drop behind m.lines))
-    skipped = subst (λ (l : List Line). All (λ (l : Line). l.session ≢ actor) (take place (drop behind l))) (sym step.shows.lines) takes.skipped
+    skipped = subst (λ (l : List Line). All (λ (l : Line). l.session ≢ actor) (take place (drop behind l))) (sym step.shows.lines) next.skipped
 
     stands_there : slice_get (drop behind m.lines) place ≡ Some line
-    stands_there = ap (λ (l : List Line). slice_get (drop behind l) place) step.shows.lines ∙ takes.there
+    stands_there = ap (λ (l : List Line). slice_get (drop behind l) place) step.shows.lines ∙ next.there
 
     is_next : next_line actor m.answered m.lines ≡ Some line
-    is_next = next_ahead m.lines m.answered actor behind turn place line step.goes_on.kept.lines_in_sequence.rising skipped stands_there takes.own
+    is_next = next_ahead m.lines m.answered actor behind turn place line step.goes_on.kept.lines_in_sequence.rising skipped stands_there next.own
 
+  module _ (place : ℕ) (line : Line) (takes : TakesLine actor behind place line c after) where
     boxes : boxes_ahead line.command ≡ []
-    boxes = no_boxes line.command (All-contains (λ (l : Line). WantsBoxes l.command → ⊥) m.lines line step.goes_on.searches (next_is actor m.answered m.lines line is_next).among)
+    boxes = no_boxes line.command (All-contains (λ (l : Line). WantsBoxes l.command → ⊥) m.lines line step.goes_on.searches (next_is actor m.answered m.lines line (is_next place line takes.next)).among)
 
     stands_in : (rest : List Area) → boxes_ahead line.command ≡ rest → with_activity actor (at.SessionWalk line None rest []) m.activity ≡ with_activity actor (at.SessionWalk line None (boxes_ahead line.command) []) m.activity
     stands_in rest is = ap (λ (r : List Area). with_activity actor (at.SessionWalk line None r []) m.activity) (sym is)
@@ -170,7 +172,7 @@ module _ (d : DiskModel) (c after : RunningCore) (m : Machine) (actor behind : �
     own_turn : HasTurn (taken after m actor line) actor (behind + place + 1)
     own_turn = has_turn (taken after m actor line) actor (behind + place + 1)
         (subst (λ (o : Option ℕ). TurnAt m.lines m.answered o actor (behind + place + 1)) (sym (ap (λ (b : Bool). number_in_hand (cond b (at.SessionWalk line None [] []) (m.activity actor))) (eq-eqb actor actor refl)))
-        (turn_with m.lines m.answered actor behind turn place line step.goes_on.kept.lines_in_sequence.rising skipped stands_there takes.own))
+        (turn_with m.lines m.answered actor behind turn place line step.goes_on.kept.lines_in_sequence.rising (skipped place line takes.next) (stands_there place line takes.next) takes.next.own))
 
     other_turn : (other n : ℕ) → 1 ≤ other → other ≤ 16 → other ≢ actor → slice_get c.behind (other - 1) ≡ Some n → HasTurn (taken after m actor line) other n
     other_turn other n low high off is = has_turn (taken after m actor line) other n
@@ -201,20 +203,27 @@ module _ (d : DiskModel) (c after : RunningCore) (m : Machine) (actor behind : �
     }
 
   -- the step of an idle session
+  begins : (outcome : Outcome) (new : Machine) (line : Line) → next_line actor m.answered m.lines ≡ Some line → BeginsLine m actor line outcome new → StepsAs at.SessionIdle m actor outcome new
+  begins outcome new line next does = subst (λ (o : Option Line). MatchOption o (StaysSo m outcomes.Idle outcome new) (λ line. BeginsLine m actor line outcome new)) (sym next) does
+
   pub line_taken : (outcome : Outcome) → TakesNextLine actor behind outcome c after → (new : Machine) × StepsAs at.SessionIdle m actor outcome new × ShowsMachine d after new
   line_taken outcome (inl none) =
       let next = none_taken none.2 in (
         m,
-        subst (λ (o : Option Line). MatchOption o (StaysSo m outcomes.Idle outcome m) (λ line. Performs m m.store actor (taking line) outcome m ⊎ (WantsBoxes line.command × Performs m m.store actor (answers_now line.number replies.NoMemory) outcome m))) (sym next) (none.0, refl),
+        subst (λ (o : Option Line). MatchOption o (StaysSo m outcomes.Idle outcome m) (λ line. BeginsLine m actor line outcome m)) (sym next) (none.0, refl),
         subst (λ (s : RunningCore). ShowsMachine d s m) (sym none.1) (shown_at_end none.2),
       )
-  line_taken outcome (inr some) =
-      let new = taken after m actor some.2 in (
+  line_taken outcome (inr (inl (says, place, line, takes))) =
+      let new = taken after m actor line in (
         new,
-        subst (λ (o : Option Line). MatchOption o (StaysSo m outcomes.Idle outcome new) (λ line. Performs m m.store actor (taking line) outcome new ⊎ (WantsBoxes line.command × Performs m m.store actor (answers_now line.number replies.NoMemory) outcome new)))
-            (sym (is_next some.1 some.2 some.3)) (inl (performed some.1 some.2 some.3 outcome some.0)),
-        shown some.1 some.2 some.3,
+        begins outcome new line (is_next place line takes.next) (inr (has_box_free d c m step.shows actor (lock_of_command line.command) takes.free, inl (performed place line takes outcome says))),
+        shown place line takes,
       )
+  line_taken outcome (inr (inr (by, place, line, next, first, says, same))) = (
+    m,
+    begins outcome m line (is_next place line next) (inl (by, box_in_the_way d c m step.shows actor (lock_of_command line.command) by first, (says, refl))),
+    subst (λ (s : RunningCore). ShowsMachine d s m) (sym same) step.shows,
+  )
 
 -- ---- the poster
 

@@ -1,9 +1,9 @@
 -- The line that a session takes: the first of its own among those that don't lie behind it.
-use Rattle.std.proofs.Common.{◌≡◌, ◌≢◌, ℕ, ◌+◌, ◌-◌, ◌<◌, ◌≤◌, ◌==◌, Bool, cond, List, [], take, drop, length, get_or, position, slice_get, slice_set, slice_index_or, All, Some, None, sym, ap, subst, ◌∙◌, inl, inr, arith}
+use Rattle.std.proofs.Common.{◌≡◌, ◌≢◌, ℕ, ◌+◌, ◌-◌, ◌<◌, ◌≤◌, ◌==◌, Bool, cond, List, [], take, drop, length, get_or, position, slice_get, slice_set, slice_index_or, All, Contains, Some, None, sym, ap, subst, ◌∙◌, inl, inr, arith}
 use Rattle.std.specs.List.{position_or_len}
 use Rattle.std.proofs.lemmas.Bool.{cases_lt, eqb-true, eqb-false}
 use Rattle.std.proofs.lemmas.Bool.Decides.{Decides-ltb}
-use Rattle.std.proofs.lemmas.List.{get_or-drop, get_or-take, length-take, take_rest}
+use Rattle.std.proofs.lemmas.List.{get_or-drop, get_or-take, length-drop, length-take, take_rest}
 use Rattle.std.proofs.lemmas.List.Quantifiers.{position-Some}
 use Rattle.std.proofs.lemmas.List.Sums.{fails_before_first}
 use Rattle.std.proofs.lemmas.Option.{get_or_from_slice_get, slice_get-get_or}
@@ -15,7 +15,13 @@ use Rattle.hb_activity.specs.declared.activities.Activity.TheVariants as at
 use Rattle.hb_core.specs.Moving.{StandsNow, with_standing}
 use Rattle.hb_core.specs.Performing.{Relatches}
 use Rattle.hb_core.specs.Showing.{RunningCore}
-use Rattle.hb_core.specs.Taking.{TakesLine}
+use Rattle.hb_core.specs.Taking.{HaveBoxes, IsNextLine, NoneAgainst, TakesLine}
+use Rattle.hb_core.specs.KeptFits.{LineFits}
+use Rattle.hb_core.proofs.Machines.LocksKept.{command_box}
+use Rattle.hb_activity.specs.BoxLocks.{lock_of_command}
+use Rattle.hb_boxlock.specs.declared.locks.BoxLock.{BoxLock}
+use Rattle.hb_lemmas.proofs.Lists.{place_member}
+use Rattle.std.proofs.lemmas.List.Elements.{All-contains}
 
 abbrev is_of : ℕ → Line → Bool
 is_of actor line = line.session == actor
@@ -59,40 +65,53 @@ goes_to_end actor count shown old new is long gone =
     gone ∙ ap (λ (n : ℕ). record old { behind = slice_set old.behind (actor - 1) n }) (long ∙ ap (λ (l : List Line). length l) is)
 
 -- the lines before the first one aren't the session's, and it is
-takes_first : (actor behind place : ℕ) (line d : Line) (rest : List Area) (found : List Record) (old middle new : RunningCore) → position (is_of actor) (drop behind old.lines) ≡ Some place
-    → line ≡ get_or old.lines (behind + place) d → rest ≡ [] → found ≡ [] → middle ≡ record old { behind = slice_set old.behind (actor - 1) (behind + place + 1) }
-    → StandsNow actor (at.SessionWalk line None rest found) middle new → TakesLine actor behind place line old new
-takes_first actor behind place line d rest found old middle new first is no_box no_record gone stands =
-    let lines : List Line = drop behind old.lines in
+first_is : (actor behind place : ℕ) (line d : Line) (core : RunningCore) → position (is_of actor) (drop behind core.lines) ≡ Some place → line ≡ get_or core.lines (behind + place) d → IsNextLine actor behind place line core
+first_is actor behind place line d core first is =
+    let lines : List Line = drop behind core.lines in
     let at_first = position-Some (is_of actor) lines place d first in
-    let here : line ≡ get_or lines place d = is ∙ sym (get_or-drop behind old.lines place d) in
-    let walk : at.SessionWalk line None rest found ≡ at.SessionWalk line None [] [] =
-    ap (λ (r : List Area). at.SessionWalk line None r found) no_box ∙ ap (λ (f : List Record). at.SessionWalk line None [] f) no_record in
+    let here : line ≡ get_or lines place d = is ∙ sym (get_or-drop behind core.lines place d) in
     record {
       skipped = λ k x lt. skip k x (omega (arith, simp length-take at lt));
       there = slice_get-get_or lines place d at_first.0 ∙ ap Some (sym here);
       own = ap (λ (l : Line). l.session) here ∙ eqb-true (get_or lines place d).session actor at_first.1;
+    }
+  where
+    skip : (k : ℕ) (x : Line) → k < place → (get_or (take place (drop behind core.lines)) k x).session ≢ actor
+    skip k x low =
+        eqb-false (get_or (take place (drop behind core.lines)) k x).session actor
+        (ap (λ (l : Line). l.session == actor) (get_or-take place (drop behind core.lines) k x low) ∙ (position-Some (is_of actor) (drop behind core.lines) place x first).2 k low)
+
+pub next_is : (actor session behind place : ℕ) (line d : Line) (shown again : List Line) (core : RunningCore) → session ≡ actor → slice_get core.behind (actor - 1) ≡ Some behind → shown ≡ core.lines → again ≡ core.lines
+    → Some place ≡ position (is_of actor) (rest_from (slice_index_or core.behind (session - 1) 0) shown)
+    → line ≡ slice_index_or again (slice_index_or core.behind (session - 1) 0 + place) d → IsNextLine actor behind place line core
+next_is actor session behind place line d shown again core same there is is_again first line_is =
+    let from = behind_is actor session behind core.behind same there in
+    first_is actor behind place line d core
+    (sym (first ∙ ap (λ (l : List Line). position (is_of actor) l) (front_is actor session behind core.behind core.lines shown same there is)))
+    (line_is ∙ ap (λ (l : List Line). get_or l (slice_index_or core.behind (session - 1) 0 + place) d) is_again ∙ ap (λ (n : ℕ). get_or core.lines (n + place) d) from)
+
+-- the session takes it, and walks from the root
+pub takes_line : (actor session behind place : ℕ) (line : Line) (rest : List Area) (found : List Record) (old middle new : RunningCore) → session ≡ actor → slice_get old.behind (actor - 1) ≡ Some behind → IsNextLine actor behind place line old
+    → NoneAgainst old.activities actor (lock_of_command line.command) → rest ≡ [] → found ≡ [] → middle ≡ record old { behind = slice_set old.behind (actor - 1) (slice_index_or old.behind (session - 1) 0 + place + 1) }
+    → StandsNow actor (at.SessionWalk line None rest found) middle new → TakesLine actor behind place line old new
+takes_line actor session behind place line rest found old middle new same there next free no_box no_record middle_is stands =
+    let from = behind_is actor session behind old.behind same there in
+    let gone : middle ≡ record old { behind = slice_set old.behind (actor - 1) (behind + place + 1) } = middle_is ∙ ap (λ (n : ℕ). record old { behind = slice_set old.behind (actor - 1) (n + place + 1) }) from in
+    let walk : at.SessionWalk line None rest found ≡ at.SessionWalk line None [] [] =
+    ap (λ (r : List Area). at.SessionWalk line None r found) no_box ∙ ap (λ (f : List Record). at.SessionWalk line None [] f) no_record in
+    record {
+      next = next;
+      free = free;
       latches = subst (λ (c : RunningCore). Relatches actor [] c.latches new.latches) gone stands.latches;
       rest = stands.rest ∙ ap (λ (c : RunningCore). record (with_standing actor (at.SessionWalk line None rest found) c) { latches = new.latches }) gone
           ∙ ap (λ (a : Activity). record (with_standing actor a old) { latches = new.latches; behind = slice_set old.behind (actor - 1) (behind + place + 1) }) walk;
     }
-  where
-    skip : (k : ℕ) (x : Line) → k < place → (get_or (take place (drop behind old.lines)) k x).session ≢ actor
-    skip k x low =
-        eqb-false (get_or (take place (drop behind old.lines)) k x).session actor
-        (ap (λ (l : Line). l.session == actor) (get_or-take place (drop behind old.lines) k x low) ∙ (position-Some (is_of actor) (drop behind old.lines) place x first).2 k low)
 
-pub takes_line : (actor session behind place : ℕ) (line d : Line) (shown again : List Line) (rest : List Area) (found : List Record) (old middle new : RunningCore)
-    → session ≡ actor → slice_get old.behind (actor - 1) ≡ Some behind → shown ≡ old.lines → again ≡ old.lines
-    → Some place ≡ position (is_of actor) (rest_from (slice_index_or old.behind (session - 1) 0) shown)
-    → line ≡ slice_index_or again (slice_index_or old.behind (session - 1) 0 + place) d → rest ≡ [] → found ≡ []
-    → middle ≡ record old { behind = slice_set old.behind (actor - 1) (slice_index_or old.behind (session - 1) 0 + place + 1) }
-    → StandsNow actor (at.SessionWalk line None rest found) middle new → TakesLine actor behind place line old new
-takes_line actor session behind place line d shown again rest found old middle new same there is is_again first line_is no_box no_record gone stands =
-    let from = behind_is actor session behind old.behind same there in
-    takes_first actor behind place line d rest found old middle new
-    (sym (first ∙ ap (λ (l : List Line). position (is_of actor) l) (front_is actor session behind old.behind old.lines shown same there is)))
-    (line_is ∙ ap (λ (l : List Line). get_or l (slice_index_or old.behind (session - 1) 0 + place) d) is_again ∙ ap (λ (n : ℕ). get_or old.lines (n + place) d) from)
-    no_box no_record
-    (gone ∙ ap (λ (n : ℕ). record old { behind = slice_set old.behind (actor - 1) (n + place + 1) }) from)
-    stands
+-- the boxes of all locks have as many attributes as that of the line
+pub as_many_boxes : (k actor behind place : ℕ) (line : Line) (lock : BoxLock) (core : RunningCore) → HaveBoxes k core.activities → All (LineFits k) core.lines → IsNextLine actor behind place line core → lock ≡ lock_of_command line.command → HaveBoxes (length lock.area.lo) core.activities
+as_many_boxes k actor behind place line lock core boxes lines next is =
+    let fits : LineFits k line = All-contains (LineFits k) core.lines line lines (drop_has behind core.lines line (place_member (drop behind core.lines) place line next.there)) in
+    subst (λ (n : ℕ). HaveBoxes n core.activities) (sym (ap (λ (l : BoxLock). length l.area.lo) is ∙ command_box k line.command fits.command)) boxes
+  where
+    drop_has : (n : ℕ) (lines : List Line) (line : Line) → Contains (drop n lines) line → Contains lines line
+    drop_has n lines line (i, lt, same) = (n + i, omega (arith, lt, length-drop n lines), sym (get_or-drop n lines i line) ∙ same)

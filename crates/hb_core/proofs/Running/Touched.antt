@@ -59,7 +59,8 @@ ran_out_well activity = run_out_is (λ (deed : Deed). IsWell (outcome_of deed.sa
 
 pub line_well : (actor behind : ℕ) (outcome : Outcome) (old new : RunningCore) → TakesNextLine actor behind outcome old new → IsWell outcome
 line_well actor behind outcome old new (inl none) = well_as outcome outcomes.Idle none.0 idle_well
-line_well actor behind outcome old new (inr some) = well_as outcome outcomes.Moved some.0 moved_well
+line_well actor behind outcome old new (inr (inl some)) = well_as outcome outcomes.Moved some.0 moved_well
+line_well actor behind outcome old new (inr (inr (by, place, line, next, first, says, same))) = well_as outcome (outcomes.Blocked by) says (blocked_well by)
 
 pub posting_well : (actor : ℕ) (outcome : Outcome) (old new : RunningCore) → TakesNextPosting actor outcome old new → IsWell outcome
 posting_well actor outcome old new (inl none) = well_as outcome outcomes.Idle none.0 idle_well

@@ -19,7 +19,7 @@ use Rattle.hb_core.specs.KeptMerges.{merging_at}
 use Rattle.hb_core.specs.Machines.{Machine, settled_count}
 use Rattle.hb_core.specs.Performing.{Performs, given_by, latches_held}
 use Rattle.hb_core.specs.Stages.{HasMoreToFlush}
-use Rattle.hb_core.specs.Steps.{AwaitsPlace, StepsAs, StepsTo, TakesJobToMerge, TakesPosting, Works, TakesJob, TakesMerging}
+use Rattle.hb_core.specs.Steps.{AwaitsPlace, BeginsLine, StepsAs, StepsTo, TakesJobToMerge, TakesPosting, Works, TakesJob, TakesMerging}
 use Rattle.hb_point.specs.SessionRows.{next_line, taking, WantsBoxes}
 use Rattle.hb_poster.specs.PosterRows.{IsPostingOf}
 use Rattle.hb_store.specs.States.{StoreState}
@@ -97,10 +97,11 @@ pub record ShowsEach (m : Machine) (actor : ℕ) (outcome : Outcome) (new : Mach
 
 module _ (m : Machine) (actor : ℕ) (outcome : Outcome) (new : Machine) (G : Type 0) (shows : ShowsEach m actor outcome new G) where
   took_line : (line : Option Line) → m.activity actor ≡ at.SessionIdle → next_line actor m.answered m.lines ≡ line
-      → MatchOption line (StaysSo m outcomes.Idle outcome new) (λ line. Performs m m.store actor (taking line) outcome new ⊎ (WantsBoxes line.command × Performs m m.store actor (answers_now line.number replies.NoMemory) outcome new)) → G
+      → MatchOption line (StaysSo m outcomes.Idle outcome new) (λ line. BeginsLine m actor line outcome new) → G
   took_line None idle next so = shows.stays outcomes.Idle tt so
-  took_line (Some line) idle next (inl performs) = shows.takes line idle next performs
-  took_line (Some line) idle next (inr (boxes, performs)) = shows.refuses line idle next boxes performs
+  took_line (Some line) idle next (inl (by, way, so)) = shows.stays (outcomes.Blocked by) tt so
+  took_line (Some line) idle next (inr (free, inl performs)) = shows.takes line idle next performs
+  took_line (Some line) idle next (inr (free, inr (boxes, performs))) = shows.refuses line idle next boxes performs
 
   took_posting : m.activity actor ≡ at.PosterIdle → TakesPosting m actor outcome new → G
   took_posting idle (inl (none, so)) = shows.stays outcomes.Idle tt so

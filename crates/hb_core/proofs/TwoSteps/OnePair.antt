@@ -6,7 +6,6 @@ use Rattle.std.proofs.lemmas.Bool.{cases_lt}
 use Rattle.std.proofs.lemmas.List.Elements.{All-contains, Contains-append_right, Contains-get_or}
 use Rattle.hb_latch.specs.declared.modes.Mode.{Mode}
 use Rattle.hb_set.specs.declared.commands.Reply.{Reply}
-use Rattle.hb_set.specs.declared.commands.Reply.TheVariants as replies
 use Rattle.hb_set.specs.declared.scripts.Line.{Line}
 use Rattle.hb_activity.specs.declared.jobs.Job.{Job}
 use Rattle.hb_activity.specs.declared.jobs.JobKind.{JobKind}
@@ -17,6 +16,8 @@ use Rattle.hb_activity.specs.declared.activities.Activity.TheVariants as at
 use Rattle.hb_store.specs.declared.stops.StopWhy.{StopWhy}
 use Rattle.hb_core.specs.declared.outcomes.Outcome.{Outcome}
 use Rattle.hb_core.specs.declared.outcomes.Outcome.TheVariants as outcomes
+use Rattle.hb_boxlock.specs.declared.locks.BoxLock.{BoxLock}
+use Rattle.hb_activity.specs.BoxLocks.{lock_of_command}
 use Rattle.hb_activity.specs.Deeds.{Deed, answers_now}
 use Rattle.hb_activity.specs.Queue.{LeavesFirst}
 use Rattle.hb_activity.specs.Walks.{walk_held}
@@ -27,13 +28,14 @@ use Rattle.hb_core.specs.Acting.{Abandons, DoesRow, MeetsBadPage}
 use Rattle.hb_core.specs.Asking.{wanted_by}
 use Rattle.hb_core.specs.Forcing.{FailsToWrite, Flushes, FlushesOnce, FlushesRest, ForcesFirst, StaysSo}
 use Rattle.hb_core.specs.GivingUp.{runs_out}
+use Rattle.hb_core.specs.Locking.{IsBoxInTheWay}
 use Rattle.hb_core.specs.Machines.{Machine}
 use Rattle.hb_core.specs.OutcomeLaws.{IsTurnedAside}
 use Rattle.hb_core.specs.Performing.{ChangesQueue, Performs}
-use Rattle.hb_core.specs.Steps.{TakesJob, TakesMerging, AwaitsPlace, GetsReady, StepsAs, StepsTo, TakesJobToMerge, TakesPosting, Works}
+use Rattle.hb_core.specs.Steps.{BeginsLine, TakesJob, TakesMerging, AwaitsPlace, GetsReady, StepsAs, StepsTo, TakesJobToMerge, TakesPosting, Works}
 use Rattle.hb_latch.specs.Modes.{goes_beside}
 use Rattle.hb_latch.specs.Tables.{IsGrantable, IsLeastInTheWay, LatchTable, mode_at}
-use Rattle.hb_point.specs.SessionRows.{next_line, taking, WantsBoxes}
+use Rattle.hb_point.specs.SessionRows.{next_line, taking}
 use Rattle.hb_poster.specs.PosterRows.{IsPostingOf}
 
 -- ---- the least actor in the way is one, and where one is the way isn't free
@@ -56,6 +58,15 @@ module _ (table : LatchTable) (actor : ℕ) where
   not_free : (wanted : Option Wanted) (by : ℕ) → IsSomeAnd wanted (λ w. IsLeastInTheWay table actor w.page w.mode by) → IfSome wanted (λ w. IsGrantable table actor w.page w.mode) → ⊥
   not_free None by none free = none
   not_free (Some w) by least free = clash_at w.mode (mode_at table by w.page) least.keeps.conflict (free by least.keeps.another)
+
+one_in_the_way : (m : Machine) (actor : ℕ) (lock : BoxLock) (by other : ℕ) → IsBoxInTheWay m actor lock by → IsBoxInTheWay m actor lock other → by ≡ other
+one_in_the_way m actor lock by other first second = elim (cases_lt by other) [
+  | inl lt ↦ absurd (second.least by lt first.keeps)
+  | inr ge ↦ elim (cases_lt other by) [
+    | inl lt ↦ absurd (first.least other lt second.keeps)
+    | inr le ↦ omega (arith, ge, le)
+  ]
+]
 
 -- who takes a job holds no page of a walk yet
 posting_holds_nothing : (job : Job) (height : ℕ) (next : Activity) → IsPostingOf job height next → walk_held next ≡ None
@@ -134,13 +145,20 @@ module _ (m : Machine) (actor : ℕ) (outcome other : Outcome) (new next : Machi
   -- ---- what takes a line or a job, and what awaits its place
 
   abbrev TakesOr : (o : Outcome) (n : Machine) → Option Line → Type 0
-  TakesOr o n line = MatchOption line (StaysSo m outcomes.Idle o n) (λ line. Performs m m.store actor (taking line) o n ⊎ (WantsBoxes line.command × Performs m m.store actor (answers_now line.number replies.NoMemory) o n))
+  TakesOr o n line = MatchOption line (StaysSo m outcomes.Idle o n) (λ line. BeginsLine m actor line o n)
+
+  both_begin : (line : Line) → m.activity actor ≡ at.SessionIdle → next_line actor m.answered m.lines ≡ Some line → BeginsLine m actor line outcome new → BeginsLine m actor line other next → G
+  both_begin line idle is (inl (by, way, first)) (inl (by', way', second)) =
+      both_stay (outcomes.Blocked by) first (subst (λ (n : ℕ). StaysSo m (outcomes.Blocked n) other next) (sym (one_in_the_way m actor (lock_of_command line.command) by by' way way')) second)
+  both_begin line idle is (inl (by, way, first)) (inr (free, second)) = absurd (free by way.keeps)
+  both_begin line idle is (inr (free, first)) (inl (by, way, second)) = absurd (free by way.keeps)
+  both_begin line idle is (inr (free, inr (boxes, performs))) (inr (free', second)) = shows.first_aside (inl (record { idle = idle; line = line; next = is; boxes = boxes; performs = performs }))
+  both_begin line idle is (inr (free, inl first)) (inr (free', inr (boxes, performs))) = shows.second_aside (inl (record { idle = idle; line = line; next = is; boxes = boxes; performs = performs }))
+  both_begin line idle is (inr (free, inl first)) (inr (free', inl second)) = shows.deeds (taking line) (taking line) refl refl first second
 
   both_take : (line : Option Line) → m.activity actor ≡ at.SessionIdle → next_line actor m.answered m.lines ≡ line → TakesOr outcome new line → TakesOr other next line → G
   both_take None idle is first second = both_stay outcomes.Idle first second
-  both_take (Some line) idle is (inr (boxes, performs)) second = shows.first_aside (inl (record { idle = idle; line = line; next = is; boxes = boxes; performs = performs }))
-  both_take (Some line) idle is (inl first) (inr (boxes, performs)) = shows.second_aside (inl (record { idle = idle; line = line; next = is; boxes = boxes; performs = performs }))
-  both_take (Some line) idle is (inl first) (inl second) = shows.deeds (taking line) (taking line) refl refl first second
+  both_take (Some line) idle is first second = both_begin line idle is first second
 
   -- a job that is taken was among those that wait
   was_waiting : (kind : JobKind) (job : Job) (old left : List Job) → LeavesFirst kind old job left → All (λ (job : Job). job.kind ≢ kind) old → ⊥

@@ -8,17 +8,33 @@ use Rattle.hb_activity.specs.declared.wanting.Wanted.{Wanted}
 use Rattle.hb_activity.specs.declared.activities.Activity.{Activity}
 use Rattle.hb_activity.specs.declared.activities.Activity.TheVariants as at
 use Rattle.hb_activity.proofs.Facts.LaterPages.{never_itself, onward}
-use Rattle.hb_activity.specs.Waiting.{IsLater}
+use Rattle.hb_activity.specs.Waiting.{IsLater, WaitsFor}
 use Rattle.hb_activity.specs.Wanting.{wanted_of}
 use Rattle.hb_core.proofs.Walks.LaterWanted.{wanted_comes_later}
 use Rattle.hb_core.proofs.Memory.StillThere.{may_or_not}
 use Rattle.hb_core.specs.Asking.{looked_live, wanted_by}
-use Rattle.hb_core.specs.Keeps.{HasNobodyElse, HasSoundFile, LatchesFit, WalksInSpace}
+use Rattle.hb_core.specs.Keeps.{HasNoOtherLatches, HasNobodyElse, HasSoundFile, LatchesFit, WalksInSpace}
 use Rattle.hb_core.specs.Machines.{Files, Machine, current_file}
-use Rattle.hb_core.specs.WaitingLaws.{ComesLater, NobodyWaitsInACircle, WaitInSequence, AwaitsActor, WantsItsOwn}
+use Rattle.hb_core.specs.Performing.{latches_held, mode_among}
+use Rattle.hb_boxlock.specs.Locking.{Excludes}
+use Rattle.hb_core.specs.Locking.{LocksOut}
+use Rattle.hb_core.specs.WaitingLaws.{AwaitsActor, ComesLater, NobodyWaitsInACircle, WaitInSequence, WantsItsOwn}
 use Rattle.hb_latch.specs.Modes.{goes_beside}
 use Rattle.hb_latch.specs.Tables.{MayLatch, mode_at}
 use Rattle.hb_ops.specs.Files.{FileState}
+use Rattle.hb_activity.specs.BoxLocks.{lock_of, lock_of_command}
+use Rattle.hb_boxlock.specs.declared.locks.BoxLock.{BoxLock}
+use Rattle.hb_point.specs.SessionRows.{next_line}
+use Rattle.hb_set.specs.declared.scripts.Line.{Line}
+use Rattle.hb_store.specs.States.{StoreState}
+
+-- an actor waits for another one's latch, and so on, to the last
+abbrev pub AwaitsLatch : Machine → ℕ → ℕ → Type 0
+AwaitsLatch m actor other = WaitsFor m.latches (wanted_by m) actor other
+
+abbrev pub LatchSequence : Machine → ℕ → List ℕ → ℕ → Type 0
+LatchSequence m actor [] last = AwaitsLatch m actor last
+LatchSequence m actor (next ∷ rest) last = AwaitsLatch m actor next × LatchSequence m next rest last
 
 later_on : (s : FileState) (a b c : ℕ) → ComesLater s a b → ComesLater s b c → ComesLater s a c
 later_on s a b c first second =
@@ -60,7 +76,7 @@ module _ (m : Machine) (files : Files) (fit : LatchesFit m) (has : HasSoundFile 
   held_there (Some held) mode conflict = (held, refl)
 
   -- what an actor wants for which another one waits comes later than what that one wants
-  one_wait : (actor other : ℕ) (wanted its : Wanted) → wanted_by m actor ≡ Some wanted → wanted_by m other ≡ Some its → AwaitsActor m actor other → ComesLater (current_file files) wanted.page its.page ⊎ IsOwn wanted other its
+  one_wait : (actor other : ℕ) (wanted its : Wanted) → wanted_by m actor ≡ Some wanted → wanted_by m other ≡ Some its → AwaitsLatch m actor other → ComesLater (current_file files) wanted.page its.page ⊎ IsOwn wanted other its
   one_wait actor other wanted its wants its_wants waits =
       let same : waits.wanted ≡ wanted = same_Some waits.wanted wanted (sym waits.wants_it ∙ wants) in
       let held = held_there (mode_at m.latches other waits.wanted.page) waits.wanted.mode waits.kept.conflict in
@@ -78,7 +94,7 @@ module _ (m : Machine) (files : Files) (fit : LatchesFit m) (has : HasSoundFile 
       never : IsTrue (goes_beside Update Update) → ⊥
       never beside = cc
 
-  first_wants : (actor : ℕ) (rest : List ℕ) (last : ℕ) → WaitInSequence m actor rest last → (wanted : Wanted) × (wanted_by m actor ≡ Some wanted)
+  first_wants : (actor : ℕ) (rest : List ℕ) (last : ℕ) → LatchSequence m actor rest last → (wanted : Wanted) × (wanted_by m actor ≡ Some wanted)
   first_wants actor [] last waits = (waits.wanted, waits.wants_it)
   first_wants actor (next ∷ rest) last (waits, more) = (waits.wanted, waits.wants_it)
 
@@ -87,7 +103,7 @@ module _ (m : Machine) (files : Files) (fit : LatchesFit m) (has : HasSoundFile 
   Ends [] wanted last its = IsOwn wanted last its
   Ends (next ∷ rest) wanted last its = ⊥
 
-  pub in_sequence : (rest : List ℕ) (actor last : ℕ) (wanted its : Wanted) → wanted_by m actor ≡ Some wanted → wanted_by m last ≡ Some its → WaitInSequence m actor rest last → ComesLater (current_file files) wanted.page its.page ⊎ Ends rest wanted last its
+  pub in_sequence : (rest : List ℕ) (actor last : ℕ) (wanted its : Wanted) → wanted_by m actor ≡ Some wanted → wanted_by m last ≡ Some its → LatchSequence m actor rest last → ComesLater (current_file files) wanted.page its.page ⊎ Ends rest wanted last its
   in_sequence [] actor last wanted its wants its_wants waits = one_wait actor last wanted its wants its_wants waits
   in_sequence (next ∷ []) actor last wanted its wants its_wants (waits, more) =
       both (one_wait actor next wanted more.wanted wants more.wants_it waits) (one_wait next last more.wanted its more.wants_it its_wants more)
@@ -107,16 +123,62 @@ module _ (m : Machine) (files : Files) (fit : LatchesFit m) (has : HasSoundFile 
       both middle (inr a) (inl b) = inl (subst (λ (n : ℕ). ComesLater (current_file files) n its.page) a.same b)
       both middle a (inr never) = absurd never
 
-  comes_back : (rest : List ℕ) (actor : ℕ) (wanted : Wanted) → WaitInSequence m actor rest actor → ComesLater (current_file files) wanted.page wanted.page ⊎ Ends rest wanted actor wanted → ⊥
+  comes_back : (rest : List ℕ) (actor : ℕ) (wanted : Wanted) → LatchSequence m actor rest actor → ComesLater (current_file files) wanted.page wanted.page ⊎ Ends rest wanted actor wanted → ⊥
   comes_back [] actor wanted waits (inl later) = not_itself (current_file files) wanted.page later
   comes_back [] actor wanted waits (inr own) = waits.kept.another refl
   comes_back (next ∷ rest) actor wanted waits (inl later) = not_itself (current_file files) wanted.page later
   comes_back (next ∷ rest) actor wanted waits (inr never) = never
 
-  no_circle : (actor : ℕ) (rest : List ℕ) → WaitInSequence m actor rest actor → ⊥
+  no_circle : (actor : ℕ) (rest : List ℕ) → LatchSequence m actor rest actor → ⊥
   no_circle actor rest waits =
       let wants = first_wants actor rest actor waits in
       comes_back rest actor wants.0 waits (in_sequence rest actor actor wants.0 wants.0 wants.1 wants.1 waits)
 
+-- ---- in a circle everybody is waited for, so nobody is idle, and all wait for latches
+
+module _ (m : Machine) (fit : LatchesFit m) (nobody : HasNobodyElse m) (none_else : HasNoOtherLatches m) where
+  idle_holds : (st : StoreState) (page : ℕ) (held : Mode) (activity : Activity) → activity ≡ at.SessionIdle → mode_among page (latches_held st activity) ≡ Some held → ⊥
+  idle_holds st page held activity idle holds = none (subst (λ (a : Activity). mode_among page (latches_held st a) ≡ Some held) idle holds)
+    where
+      none : None ≡ Some held → ⊥
+      none nothing = cc
+
+  holder_stands : (actor page : ℕ) (held : Mode) → mode_at m.latches actor page ≡ Some held → m.activity actor ≡ at.SessionIdle → ⊥
+  holder_stands actor page held holds idle = elim (may_or_not actor) [
+    | inl may ↦ idle_holds m.store page held (m.activity actor) idle (sym (fit.exact actor page may) ∙ holds)
+    | inr none ↦ let nothing : None ≡ Some held = sym (none_else actor page none) ∙ holds in cc
+  ]
+
+  latch_held : (o : Option Mode) (mode : Mode) → IsSomeAnd o (λ held. ¬ (IsTrue (goes_beside mode held))) → (held : Mode) × (o ≡ Some held)
+  latch_held None mode never = absurd never
+  latch_held (Some held) mode conflict = (held, refl)
+
+  idle_locks : (lock : BoxLock) (activity : Activity) → activity ≡ at.SessionIdle → IsSomeAnd (lock_of activity) (Excludes lock) → ⊥
+  idle_locks lock activity idle out = subst (λ (a : Activity). IsSomeAnd (lock_of a) (Excludes lock)) idle out
+
+  box_held : (actor other : ℕ) (next : Option Line) → m.activity other ≡ at.SessionIdle → IsSomeAnd next (λ line. LocksOut m actor (lock_of_command line.command) other) → ⊥
+  box_held actor other None idle none = none
+  box_held actor other (Some line) idle out = idle_locks (lock_of_command line.command) (m.activity other) idle out.excluded
+
+  -- who is waited for isn't idle
+  waited_for : (actor other : ℕ) → AwaitsActor m actor other → m.activity other ≡ at.SessionIdle → ⊥
+  waited_for actor other (inl waits) idle =
+      let held = latch_held (mode_at m.latches other waits.wanted.page) waits.wanted.mode waits.kept.conflict in
+      holder_stands other waits.wanted.page held.0 held.1 idle
+  waited_for actor other (inr awaits) idle = box_held actor other (next_line actor m.answered m.lines) idle awaits.locked
+
+  by_latch : (actor other : ℕ) → (m.activity actor ≡ at.SessionIdle → ⊥) → AwaitsActor m actor other → AwaitsLatch m actor other
+  by_latch actor other stands (inl waits) = waits
+  by_latch actor other stands (inr awaits) = absurd (stands awaits.idle)
+
+  last_stands : (rest : List ℕ) (actor last : ℕ) → WaitInSequence m actor rest last → m.activity last ≡ at.SessionIdle → ⊥
+  last_stands [] actor last waits = waited_for actor last waits
+  last_stands (next ∷ rest) actor last (waits, more) = last_stands rest next last more
+
+  all_by_latch : (rest : List ℕ) (actor last : ℕ) → (m.activity actor ≡ at.SessionIdle → ⊥) → WaitInSequence m actor rest last → LatchSequence m actor rest last
+  all_by_latch [] actor last stands waits = by_latch actor last stands waits
+  all_by_latch (next ∷ rest) actor last stands (waits, more) = (by_latch actor next stands waits, all_by_latch rest next last (waited_for actor next waits) more)
+
 pub nobody_waits_in_a_circle : NobodyWaitsInACircle
-nobody_waits_in_a_circle m files actor rest fit has nobody walks waits = no_circle m files fit has nobody walks actor rest waits
+nobody_waits_in_a_circle m files actor rest fit has nobody none_else walks waits =
+    no_circle m files fit has nobody walks actor rest (all_by_latch m fit nobody none_else rest actor actor (last_stands m fit nobody none_else rest actor actor waits) waits)

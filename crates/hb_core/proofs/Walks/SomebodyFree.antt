@@ -6,14 +6,14 @@ use Rattle.hb_latch.specs.declared.modes.Mode.{Mode}
 use Rattle.hb_activity.specs.declared.wanting.Wanted.{Wanted}
 use Rattle.hb_activity.specs.declared.activities.Activity.{Activity}
 use Rattle.hb_activity.specs.declared.activities.Activity.TheVariants as at
-use Rattle.hb_core.proofs.Walks.NoCircle.{held_there, in_sequence}
+use Rattle.hb_core.proofs.Walks.NoCircle.{AwaitsLatch, held_there, in_sequence}
 use Rattle.hb_core.proofs.Memory.StillThere.{may_or_not}
 use Rattle.hb_core.specs.Asking.{wanted_by}
 use Rattle.hb_core.specs.Keeps.{HasNoOtherLatches, HasNobodyElse, HasSoundFile, LatchesFit, WalksInSpace}
 use Rattle.hb_core.specs.Machines.{Files, Machine, current_file}
 use Rattle.hb_core.specs.Performing.{latches_held, mode_among}
 use Rattle.hb_core.specs.SteppingLaws.{IsAtRest}
-use Rattle.hb_core.specs.WaitingLaws.{ComesLater, IsAtWork, IsKeptWaiting, SomebodyGoesOn, AwaitsActor}
+use Rattle.hb_core.specs.WaitingLaws.{ComesLater, IsAtWork, IsKeptWaiting, SomebodyGoesOn}
 use Rattle.hb_latch.specs.Tables.{IsLeastInTheWay, mode_at}
 use Rattle.hb_ops.specs.Files.{live_page}
 use Rattle.hb_space.specs.Boxes.{volume}
@@ -38,7 +38,7 @@ module _ (m : Machine) (files : Files) (fit : LatchesFit m) (has : HasSoundFile 
 
   record IsKeptBy (actor : ℕ) : Type 0 where
     pub other : ℕ
-    pub waits : AwaitsActor m actor other
+    pub waits : AwaitsLatch m actor other
     pub works : IsAtWork m other
 
   kept_by : (actor by : ℕ) (wants : Option Wanted) → wanted_by m actor ≡ wants → IsSomeAnd wants (λ wanted. IsLeastInTheWay m.latches actor wanted.page wanted.mode by) → IsKeptBy actor

@@ -10,7 +10,6 @@ use Rattle.hb_latch.specs.Modes.{goes_beside}
 use Rattle.hb_latch.specs.Tables.{IsGrantable, IsLeastInTheWay, KeepsFrom, LatchTable, MayLatch, mode_at}
 use Rattle.hb_latch.proofs.InTheWay.{nobody_keeps, none_keeps}
 use Rattle.hb_set.specs.declared.commands.Reply.{Reply}
-use Rattle.hb_set.specs.declared.commands.Reply.TheVariants as replies
 use Rattle.hb_set.specs.declared.scripts.Answered.{Answered}
 use Rattle.hb_set.specs.declared.scripts.Line.{Line}
 use Rattle.hb_activity.specs.declared.jobs.Job.{Job}
@@ -20,13 +19,15 @@ use Rattle.hb_activity.specs.declared.wanting.Wanted.{Wanted}
 use Rattle.hb_activity.specs.declared.activities.Activity.{Activity}
 use Rattle.hb_activity.specs.declared.activities.Activity.TheVariants as at
 use Rattle.hb_activity.specs.Classes.{Consolidators, Flushers, Posters, Sessions, class_of, idle_of}
-use Rattle.hb_activity.specs.Deeds.{Answers, Deed, Drops, GoesOn, Says, answers_now}
-use Rattle.hb_point.specs.SessionRows.{WantsBoxes, is_answered, next_line, taking}
+use Rattle.hb_boxlock.specs.declared.locks.BoxLock.{BoxLock}
+use Rattle.hb_activity.specs.Deeds.{Answers, Deed, Drops, GoesOn, Says}
+use Rattle.hb_point.specs.SessionRows.{is_answered, next_line}
 use Rattle.hb_store.specs.declared.stops.StopWhy.{StopWhy}
 use Rattle.hb_store.specs.States.{StoreState}
 use Rattle.hb_set.specs.Machine.{RecordSet}
 use Rattle.hb_core.specs.declared.outcomes.Outcome.{Outcome}
 use Rattle.hb_core.specs.declared.outcomes.Outcome.TheVariants as outcomes
+use Rattle.hb_core.proofs.Walks.LockHolders.{holder_works}
 use Rattle.hb_core.proofs.Walks.SomebodyFree.{somebody_goes_on}
 use Rattle.hb_core.proofs.Memory.StillThere.{may_or_not}
 use Rattle.hb_core.specs.Asking.{HasWayFree, wanted_by}
@@ -34,12 +35,13 @@ use Rattle.hb_core.specs.Forcing.{FlushesOnce, ForcesFirst, StaysSo}
 use Rattle.hb_core.specs.GivingUp.{runs_out}
 use Rattle.hb_core.specs.Keeps.{HasNoOtherLatches}
 use Rattle.hb_core.specs.KeptFits.{LineFits, class_for}
+use Rattle.hb_core.specs.Locking.{HasBoxFree}
 use Rattle.hb_core.specs.KeptMachine.{CoreKeeps}
 use Rattle.hb_core.specs.Machines.{Files, Machine}
 use Rattle.hb_core.specs.Performing.{Performs, outcome_of}
 use Rattle.hb_core.specs.ProgressLaws.{GoesForward, GoesOnNow, HasSomethingLeft, SomebodyGoesOnNow}
 use Rattle.hb_core.specs.SteppingLaws.{IsAtRest}
-use Rattle.hb_core.specs.Steps.{AwaitsPlace, StepsAs, StepsTo, TakesJobToMerge, TakesPosting, Works}
+use Rattle.hb_core.specs.Steps.{AwaitsPlace, BeginsLine, StepsAs, StepsTo, TakesJobToMerge, TakesPosting, Works}
 use Rattle.hb_core.specs.WaitingLaws.{IsAtWork, IsKeptWaiting}
 
 -- ---- whether an actor rests, and whether it is kept waiting
@@ -193,11 +195,11 @@ module _ (m : Machine) (actor : ℕ) (outcome : Outcome) (new : Machine) where
   stepped activity works free one = worked free one
 
   -- an idle actor with something to do
-  next_forward : (line : Option Line) → IsSome line
-      → MatchOption line (StaysSo m outcomes.Idle outcome new) (λ line. Performs m m.store actor (taking line) outcome new ⊎ (WantsBoxes line.command × Performs m m.store actor (answers_now line.number replies.NoMemory) outcome new)) → GoesForward outcome
-  next_forward None some one = absurd (false≢true some)
-  next_forward (Some line) some (inl performs) = performed m.store _ performs
-  next_forward (Some line) some (inr (boxes, performs)) = performed m.store _ performs
+  next_forward : ((lock : BoxLock) → HasBoxFree m actor lock) → (line : Option Line) → IsSome line → MatchOption line (StaysSo m outcomes.Idle outcome new) (λ line. BeginsLine m actor line outcome new) → GoesForward outcome
+  next_forward free None some one = absurd (false≢true some)
+  next_forward free (Some line) some (inl (by, way, so)) = absurd (free _ by way.keeps)
+  next_forward free (Some line) some (inr (way, inl performs)) = performed m.store _ performs
+  next_forward free (Some line) some (inr (way, inr (boxes, performs))) = performed m.store _ performs
 
   post_forward : (job : Job) → Contains m.jobs job → job.kind ≡ Post → TakesPosting m actor outcome new → GoesForward outcome
   post_forward job waits kind (inl (none, so)) = absurd (All-contains (λ (job : Job). job.kind ≢ Post) m.jobs job none waits kind)
@@ -256,10 +258,10 @@ module _ (n : RecordSet) (m : Machine) (files : Files) (keeps : CoreKeeps n m fi
   rests_as : (actor : ℕ) → IsAtRest (m.activity actor) → m.activity actor ≡ idle_of (class_for actor)
   rests_as actor rests = idle_so (m.activity actor) rests ∙ ap idle_of (keeps.kept.classes actor)
 
-  -- somebody at work
-  at_work : (actor : ℕ) → IsAtWork m actor → Somebody
-  at_work actor works = elim (first_free m keeps.kept.no_other_latches 20) [
-    | inl (free, is) ↦ (
+  -- somebody at work goes on, or nobody is at work
+  works_or_none : Somebody ⊎ ((actor : ℕ) → ¬ (IsAtWork m actor))
+  works_or_none = elim (first_free m keeps.kept.no_other_latches 20) [
+    | inl (free, is) ↦ inl (
       free,
       record {
         may = is.works.0;
@@ -267,9 +269,20 @@ module _ (n : RecordSet) (m : Machine) (files : Files) (keeps : CoreKeeps n m fi
         forward = λ outcome new step. stepped m free outcome new (m.activity free) is.works.1 is.free (as_it_runs free outcome new step);
       },
     )
-    | inr kept ↦ absurd (somebody_goes_on m files actor keeps.kept.latches_fit keeps.sound_file keeps.kept.nobody_else keeps.kept.no_other_latches keeps.kept.walk_in_space works
+    | inr kept ↦ inr (λ actor works. somebody_goes_on m files actor keeps.kept.latches_fit keeps.sound_file keeps.kept.nobody_else keeps.kept.no_other_latches keeps.kept.walk_in_space works
         (λ other busy. let last = busy.0.to_19 in kept other (omega (arith, last)) busy))
   ]
+
+  at_work : (actor : ℕ) → IsAtWork m actor → Somebody
+  at_work actor works = elim works_or_none [ inl somebody ↦ somebody | inr none ↦ absurd (none actor works) ]
+
+  -- where nobody is at work, nobody has a box locked
+  all_free : ((actor : ℕ) → ¬ (IsAtWork m actor)) → (actor : ℕ) (lock : BoxLock) → HasBoxFree m actor lock
+  all_free none actor lock other out = none other (holder_works m actor other lock keeps.kept.nobody_else out)
+
+  idle_takes : (actor : ℕ) → MayLatch actor → m.activity actor ≡ at.SessionIdle → IsSome (next_line actor m.answered m.lines) → ((other : ℕ) → ¬ (IsAtWork m other)) → Somebody
+  idle_takes actor may idle some none =
+      (actor, record { may = may; to_do = inr (inl (idle, some)); forward = λ outcome new step. next_forward m actor outcome new (all_free none actor) _ some (as_idle actor at.SessionIdle idle outcome new step) })
 
   -- a line without an answer
   of_line : (line : Line) → Contains m.lines line → is_answered line.number m.answered ≡ false → Somebody
@@ -283,7 +296,7 @@ module _ (n : RecordSet) (m : Machine) (files : Files) (keeps : CoreKeeps n m fi
         | inr works ↦ at_work line.session (may, works)
         | inl rests ↦
             let idle : m.activity line.session ≡ at.SessionIdle = rests_as line.session rests ∙ ap idle_of (session_class line.session last) in
-            (line.session, record { may = may; to_do = inr (inl (idle, some)); forward = λ outcome new step. next_forward m line.session outcome new _ some (as_idle line.session at.SessionIdle idle outcome new step) })
+            elim works_or_none [ inl somebody ↦ somebody | inr none ↦ idle_takes line.session may idle some none ]
       ]
 
   -- a job that waits

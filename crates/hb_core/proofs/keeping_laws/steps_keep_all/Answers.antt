@@ -1,19 +1,12 @@
 use Rattle.hb_core.proofs.keeping_laws.steps_keep_all.Goals as goal
-use Rattle.hb_core.proofs.Machines.KeptInSequence.{begun_keeps_all, changes_keep_all, steps_keep_all}
+use Rattle.hb_core.proofs.Machines.KeptInSequence.{begun_keeps_all, steps_keep_all}
 
-pub returns-clause-searches : goal.returns-clause-searches
-returns-clause-searches c =
+pub returns-clause-steps : goal.returns-clause-steps
+returns-clause-steps c =
     steps_keep_all (record {
       kept = c.machines_stay_kept.ensures.step;
       files = c.files_stay_sound.ensures;
-      order = c.the_order_stays_legal.ensures;
-    })
-
-pub returns-clause-changes : goal.returns-clause-changes
-returns-clause-changes c =
-    changes_keep_all (record {
-      kept = c.machines_stay_kept.ensures.step;
-      files = c.files_stay_sound.ensures;
+      searches = c.searches_are_exact.ensures.exact;
       order = c.the_order_stays_legal.ensures;
     })
 
@@ -23,6 +16,7 @@ returns-clause-begun c =
     (record {
       kept = c.machines_stay_kept.ensures.step;
       files = c.files_stay_sound.ensures;
+      searches = c.searches_are_exact.ensures.exact;
       order = c.the_order_stays_legal.ensures;
     })
     c.a_beginning_keeps_all.ensures

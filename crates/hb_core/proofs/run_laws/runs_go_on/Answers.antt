@@ -4,6 +4,6 @@ pub returns : goal.returns
 returns c = record {
   kept = c.machines_stay_kept.ensures.step;
   files = c.files_stay_sound.ensures;
-  changes = c.steps_keep_all.ensures.changes;
+  changes = c.steps_keep_all.ensures.steps;
   images = c.images_have_prefixes.ensures;
 }

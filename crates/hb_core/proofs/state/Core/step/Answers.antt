@@ -1,6 +1,7 @@
 use Rattle.hb_core.proofs.state.Core.step.Goals as goal
 use Rattle.std.proofs.Common.{Some, refl, ap, ◌∙◌}
 use Rattle.hb_core.specs.declared.outcomes.Outcome.TheVariants as outcomes
+use Rattle.hb_core.proofs.Running.AgainstPlaces.{lines_have_boxes, locks_have_boxes}
 use Rattle.hb_core.proofs.Running.Touched.{as_before_count, idle_well, line_well, posting_well, untouched, untouched_stopped}
 use Rattle.hb_core.proofs.Running.StepTaken.{await_step, counted, idle_stays, lies_behind, line_step, posting_step, stopped_stays, with_taken, work_step, works_then}
 use Rattle.hb_core.specs.CoreSeen.{core_disk, core_seen}
@@ -16,6 +17,8 @@ returns-in-Some g c = record {
 pub take_line-requires : goal.take_line-requires
 take_line-requires g c = record {
   actor = c.requires.actor;
+  boxes = locks_have_boxes (g.D.Device.model (core_disk c.args.self.now)) (core_seen c.args.self.now) c.requires.may.0 c.requires.may.1.shows c.requires.may.1.goes_on.kept;
+  lines = lines_have_boxes (g.D.Device.model (core_disk c.args.self.now)) (core_seen c.args.self.now) c.requires.may.0 c.requires.may.1.shows c.requires.may.1.goes_on.kept;
   behind =
       lies_behind (g.D.Device.model (core_disk c.args.self.now)) (core_seen c.args.self.now) c.requires.may.0 c.args.actor c.activity.result.now c.requires.actor c.requires.may.1 c.in_default.is c.activity.ensures c.in-SessionIdle.is;
 }

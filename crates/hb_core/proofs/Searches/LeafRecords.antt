@@ -1,0 +1,108 @@
+-- A leaf of records of a page in memory has exactly the records of the contents in its box.
+use Rattle.std.proofs.Common.{◌≡◌, ◌≢◌, ◌⊎◌, inl, inr, ℕ, zero, suc, ◌<◌, List, [], ◌∷◌, get_or, length, refl, All, AllPairs, Contains, Some, None, sym, ap, ◌∙◌, subst, arith}
+use Rattle.std.specs.List.{slice_get}
+use Rattle.std.specs.FinMap as map
+use Rattle.std.proofs.lemmas.List.Elements.{All-cons, All-contains, All-nil}
+use Rattle.hb_activity.proofs.Facts.OneRecord.{not_itself}
+use Rattle.hb_core.proofs.Files.FileOps.{ShowsFile}
+use Rattle.hb_core.proofs.Files.FitOps.{HeldArePoints}
+use Rattle.hb_core.proofs.Machines.BoxesAhead.{leaf_box}
+use Rattle.hb_core.proofs.Memory.KeptPages.{KeepsPages}
+use Rattle.hb_core.proofs.Searches.Gathered.{HasRecordsOf, OfTwo}
+use Rattle.hb_core.specs.KeptSearches.{IsAmong}
+use Rattle.hb_frag.proofs.Facts.Tiles.{first_tells}
+use Rattle.hb_frag.specs.Leaves.{Placed, leaf_at, leaves_of}
+use Rattle.hb_frag.specs.Rules.{IsInOrder, Precedes}
+use Rattle.hb_frag.specs.declared.leaves.Leaf.TheVariants.{Records}
+use Rattle.hb_frag.specs.declared.pages.LivePage.{LivePage}
+use Rattle.hb_frag.specs.declared.pages.Page.TheVariants.{Live}
+use Rattle.hb_layout.specs.declared.meta.Meta.{Meta}
+use Rattle.hb_lemmas.proofs.Decisions.{known_list}
+use Rattle.hb_lemmas.proofs.Lists.{first_member, later_member, place_within}
+use Rattle.hb_ops.proofs.Facts.Opened.{first_has}
+use Rattle.hb_ops.proofs.Facts.PageNumberLaws.{live_so}
+use Rattle.hb_ops.specs.Files.{FileState, contents_of, if_live, live_page}
+use Rattle.hb_sound.specs.Laws.{LackIsContents, StandingIsContents}
+use Rattle.hb_sound.specs.PointWalks.{IsPointOf}
+use Rattle.hb_space.specs.Boxes.{Area, Holds}
+use Rattle.hb_space.specs.declared.records.Record.{Record}
+use Rattle.hb_store.specs.States.{IsGoodPage, StoreState, in_memory}
+
+-- where a member stands
+member_place : (records : List Record) (r : Record) → Contains records r → (place : ℕ) × (slice_get records place ≡ Some r)
+member_place records r (k, lt, is) = let there = place_within records k lt in (k, there.1 ∙ ap Some (by records k lt there.0 there.1 ∙ is))
+  where
+    by : (xs : List Record) (k : ℕ) → k < length xs → (x : Record) → slice_get xs k ≡ Some x → x ≡ get_or xs k r
+    by [] k lt x is = absurd (omega (arith, lt))
+    by (y ∷ xs) zero lt x is = cc
+    by (y ∷ xs) (suc k) lt x is = by xs k (omega (arith, lt)) x is
+
+-- a record of a point, or none of it
+of_point : (records : List Record) (p : List ℕ) → ((r : Record) × Contains records r × (r.key ≡ p)) ⊎ All (λ (r : Record). r.key ≢ p) records
+of_point [] p = inr (All-nil (λ (r : Record). r.key ≢ p))
+of_point (x ∷ xs) p = elim (known_list x.key p) [
+  | inl here ↦ inl (x, first_member x xs, here)
+  | inr off ↦ elim (of_point xs p) [
+    | inl (r, there, is) ↦ inl (r, later_member x xs r there, is)
+    | inr none ↦ inr (All-cons (λ (r : Record). r.key ≢ p) x xs off none)
+  ]
+]
+
+-- records whose points rise are of different points
+rise_apart : (records : List Record) → AllPairs Precedes records → AllPairs OfTwo records
+rise_apart records rising i j d low high same = not_itself _ _ same (rising i j d low high)
+
+module _ (points : HeldArePoints) (standing : StandingIsContents) (lacking : LackIsContents) (fetched : StoreState) (s : FileState) (keeps : KeepsPages fetched) (file : ShowsFile fetched s)
+    (id : ℕ) (page : LivePage) (live : if_live (in_memory fetched id) ≡ Some page) (p : List ℕ) (records : List Record) (area : Area) (leaf : leaf_at page p ≡ Some (record { leaf = Records records; area = area })) where
+  good : IsGoodPage fetched.meta (Live page)
+  good = (keeps.framed id (Live page) (live_so (in_memory fetched id) page live)).2
+
+  in_file : live_page s id ≡ Some page
+  in_file = ap if_live (file.shown id (Live page) (live_so (in_memory fetched id) page live))
+
+  abbrev placed : Placed
+  placed = record { leaf = Records records; area = area }
+
+  in_order : IsInOrder placed
+  in_order = first_has IsInOrder p (leaves_of page.frag page.area) placed leaf good.1.in_order
+
+  -- the leaf is that of each point in its box
+  leaf_there : (q : List ℕ) → Holds area q → leaf_at page q ≡ Some placed
+  leaf_there q held =
+      let among = ((first_tells page.frag page.area p placed good.0.fits.1 good.1.well_cut).0 leaf).0 in
+      (first_tells page.frag page.area q placed good.0.fits.1 good.1.well_cut).1 (among, held)
+
+  point_of : (q : List ℕ) → Holds area q → IsPointOf s q
+  point_of q held =
+      let box = leaf_box fetched.meta page p placed good leaf in
+      record { point = points area q box.0.0 held; attributes = held.same ∙ box.0.1 ∙ sym (ap (λ (m : Meta). m.k) file.meta) }
+
+  there : (r : Record) → Holds area r.key → Contains records r → IsAmong (contents_of s) r
+  there r held has =
+      let place = member_place records r has in
+      standing s r.key id page r file.sound (point_of r.key held) in_file (record { records = records; area = area; leaf = leaf_there r.key held; place = place.0; among = place.1; key = refl })
+
+  same_record : (r x : Record) → x.key ≡ r.key → Some x.body ≡ Some r.body → x ≡ r
+  same_record r x key body =
+      let same : x.body ≡ r.body = cc in
+      ap (λ (k : List ℕ). record { key = k; body = x.body }) key ∙ ap (λ (b : List ℕ). record { key = r.key; body = b }) same
+
+  back : (r : Record) → Holds area r.key → IsAmong (contents_of s) r → Contains records r
+  back r held among = elim (of_point records r.key) [
+    | inl (x, has, key) ↦
+        let stands = there x (subst (Holds area) (sym key) held) has in
+        let body : Some x.body ≡ Some r.body = sym stands ∙ ap (map.get (contents_of s)) key ∙ among in
+        subst (Contains records) (same_record r x key body) has
+    | inr none ↦
+        let lacks = lacking s r.key id page file.sound (point_of r.key held) in_file (record { records = records; area = area; leaf = leaf_there r.key held; lack = none }) in
+        let nothing : None ≡ Some r.body = sym lacks ∙ among in
+        cc
+  ]
+
+  pub records_of_leaf : HasRecordsOf (contents_of s) fetched.meta.k records area
+  records_of_leaf = record {
+    box = (leaf_box fetched.meta page p placed good leaf).0;
+    inside = λ r has. All-contains (λ (r : Record). Holds area r.key) records r in_order.inside has;
+    once = rise_apart records in_order.rising;
+    exact = λ r held. (there r held, back r held);
+  }

@@ -1,0 +1,339 @@
+-- After a step each search has found exactly what it should so far; and where one takes effect, its reply is the machine's.
+use Rattle.std.proofs.Common.{◌≡◌, ◌≢◌, ◌⊎◌, inl, inr, ℕ, ◌==◌, ◌++◌, Bool, true, false, cond, List, [], ◌∷◌, filter, option_map, length, All, Any, Option, Some, None, IfSome, refl, sym, ap, ◌∙◌, subst, append-nil, arith}
+use Rattle.std.specs.FinMap as map
+use Rattle.std.proofs.lemmas.Bool.{cases_Bool, eq-eqb, eqb-true, eqb-false, false≢true}
+use Rattle.std.proofs.lemmas.List.{length-append}
+use Rattle.std.proofs.lemmas.Option.{same_Some}
+use Rattle.hb_activity.specs.BoxLocks.{lock_of, lock_of_command}
+use Rattle.hb_activity.specs.Classes.{line_in_hand, line_of}
+use Rattle.hb_activity.specs.Deeds.{Deed}
+use Rattle.hb_activity.specs.Walks.{goal_of}
+use Rattle.hb_activity.specs.declared.activities.Activity.{Activity}
+use Rattle.hb_activity.specs.declared.activities.Activity.TheVariants as at
+use Rattle.hb_frag.specs.declared.pages.LivePage.{LivePage}
+use Rattle.hb_lemmas.proofs.Lists.{All-last, All-one, no_member, same_ends}
+use Rattle.hb_ops.specs.Files.{contents_of}
+use Rattle.hb_point.specs.SessionRows.{WantsBoxes, boxes_ahead, taking}
+use Rattle.hb_search.specs.SearchRows.{Gathers, SearchGoesOn}
+use Rattle.hb_set.specs.Machine.{RecordSet, reply_of}
+use Rattle.hb_set.specs.Order.{Entry}
+use Rattle.hb_set.specs.declared.commands.Command.{Command}
+use Rattle.hb_set.specs.declared.commands.Command.TheVariants.{Insert, Delete, Lookup, Search}
+use Rattle.hb_set.specs.declared.commands.Reply.TheVariants as replies
+use Rattle.hb_set.specs.declared.scripts.Line.{Line}
+use Rattle.hb_sound.specs.Laws.{LackIsContents, StandingIsContents}
+use Rattle.hb_space.proofs.Facts.Boxes.{Meets-from_point, lo_held}
+use Rattle.hb_space.specs.Boxes.{Area, Holds, Within, common_area, holds, pieces_outside, point_area}
+use Rattle.hb_space.specs.declared.records.Record.{Record}
+use Rattle.hb_ops.proofs.Facts.PageNumberLaws.{live_so}
+use Rattle.hb_store.specs.States.{StoreState, in_memory}
+use Rattle.hb_core.proofs.Files.FitOps.{HeldArePoints}
+use Rattle.hb_core.proofs.Files.SoundFiles.{brought_shown, files_hold, shows_file, sound_within_limits}
+use Rattle.hb_core.proofs.Machines.BoxesAhead.{goal_at_hand, leaf_box}
+use Rattle.hb_core.proofs.Machines.LocksKept.{lock_is, merging_hand, posting_hand}
+use Rattle.hb_core.proofs.Memory.KeptPages.{brought, keeps_pages}
+use Rattle.hb_core.proofs.Searches.Gathered.{HasRecordsOf, gathered}
+use Rattle.hb_core.proofs.Searches.LeafRecords.{records_of_leaf}
+use Rattle.hb_core.proofs.Searches.SearchRow.{joined_before, walk_row, walked_before}
+use Rattle.hb_core.proofs.Searches.SortedRecords.{reply_is}
+use Rattle.hb_core.proofs.Table.DeedKinds.{each_deed}
+use Rattle.hb_core.proofs.Table.LineFates.{given_up_joins_nothing, ran_out_joins_nothing}
+use Rattle.hb_core.proofs.Table.StepSays.{each_saying}
+use Rattle.hb_core.proofs.Table.Ways.{KeepsAllButDisk, others_stay}
+use Rattle.hb_core.specs.Acting.{DoesRow}
+use Rattle.hb_core.specs.Asking.{wanted_by}
+use Rattle.hb_core.specs.Fetching.{Brings}
+use Rattle.hb_core.specs.ContentsLaws.{ChangesAt, PointsStay, contents_now}
+use Rattle.hb_core.specs.KeptFits.{CommandFits, IsBoxOf, LineFits, boxes_left}
+use Rattle.hb_core.specs.KeptMachine.{MachineKeeps}
+use Rattle.hb_core.specs.KeptSearches.{HasFoundSoFar, SearchesAreExact}
+use Rattle.hb_core.specs.Keeps.{HasSoundFile}
+use Rattle.hb_core.specs.Machines.{Files, Machine, current_file, if_some, live_here, sight, with_disk}
+use Rattle.hb_core.specs.OrderLaws.{SearchesAreRight, SearchesStayExact}
+use Rattle.hb_core.specs.Performing.{Performs}
+use Rattle.hb_core.specs.Rows.{Row}
+use Rattle.hb_core.specs.Steps.{StepsTo}
+use Rattle.hb_core.specs.declared.outcomes.Outcome.{Outcome}
+
+-- ---- a search that begins, and one whose box's points stay as they are
+
+within_itself : (a : Area) → Within a a
+within_itself a i lt = (omega arith, omega arith)
+
+begins_exact : (n : RecordSet) (box : Area) → HasFoundSoFar n box (box ∷ []) []
+begins_exact n box = record {
+  within = (All-one (λ (a : Area). Within a box) box).1 (within_itself box);
+  apart = λ i j d low high. absurd (omega (arith, low, high));
+  once = λ i j d low high. absurd (omega (arith, high));
+  exact = λ r. (λ there. absurd (no_member r there), λ is. absurd (is.2 (0, box, omega arith, refl, is.1)));
+}
+
+moved : (n other : RecordSet) (box : Area) (rest : List Area) (found : List Record) → ((q : List ℕ) → Holds box q → map.get other q ≡ map.get n q) → HasFoundSoFar n box rest found → HasFoundSoFar other box rest found
+moved n other box rest found agree so_far = record {
+  within = so_far.within;
+  apart = so_far.apart;
+  once = so_far.once;
+  exact = λ r. (
+    λ there. (let is = (so_far.exact r).0 there in (agree r.key is.1 ∙ is.0, is.1, is.2)),
+    λ is. (so_far.exact r).1 (sym (agree r.key is.1) ∙ is.0, is.1, is.2),
+  );
+}
+
+-- ---- what a line may change it has locked alone
+
+changes_lock : (command : Command) (q : List ℕ) → ChangesAt command q → lock_of_command command ≡ record { area = point_area q; shared = false }
+changes_lock (Insert rec) q is = ap (λ (p : List ℕ). record { area = point_area p; shared = false }) (sym is)
+changes_lock (Delete point) q is = ap (λ (p : List ℕ). record { area = point_area p; shared = false }) (sym is)
+changes_lock (Lookup point) q never = absurd never
+changes_lock (Search area) q never = absurd never
+
+holds_itself : (q : List ℕ) → Holds (point_area q) q
+holds_itself q = record { same = refl; between = λ i lt. (omega arith, omega arith) }
+
+line_lock : (activity : Activity) (line : Line) → line_in_hand activity ≡ Some line → lock_of activity ≡ Some (lock_of_command line.command)
+line_lock activity line hand = lock_is activity ∙ ap (option_map (λ (l : Line). lock_of_command l.command)) hand
+
+module _ (m : Machine) (files after : Files) (actor : ℕ) (outcome : Outcome) (new : Machine) (kept : MachineKeeps m) (stays : (q : List ℕ) → (map.get (contents_now after) q ≡ map.get (contents_now files) q)
+    ⊎ ((entry : Entry) × (new.order ≡ m.order ++ entry ∷ []) × (line_in_hand (m.activity actor) ≡ Some entry.line) × ChangesAt entry.line.command q)) where
+  -- nobody else changes a point of a search's box
+  other_agrees : (other : ℕ) (line : Line) (held : Option ℕ) (rest : List Area) (found : List Record) (box : Area) → other ≢ actor → m.activity other ≡ at.SessionWalk line held rest found → line.command ≡ Search box
+      → (q : List ℕ) → Holds box q → map.get (contents_now after) q ≡ map.get (contents_now files) q
+  other_agrees other line held rest found box another walks command q inside = elim (stays q) [
+    | inl same ↦ same
+    | inr (entry, joins, hand, changes) ↦
+        let lock = ap lock_of walks ∙ ap (λ (c : Command). Some (lock_of_command c)) command in
+        let its = line_lock (m.activity actor) entry.line hand ∙ ap Some (changes_lock entry.line.command q changes) in
+        let both = kept.box_locks_fit other actor (record { area = box; shared = true }) (record { area = point_area q; shared = false }) another lock its (Meets-from_point box (point_area q) q inside (holds_itself q)) in
+        absurd (false≢true both.1)
+  ]
+
+  -- and a search changes none
+  own_agrees : (line : Line) (box : Area) → line_in_hand (m.activity actor) ≡ Some line → line.command ≡ Search box → (q : List ℕ) → map.get (contents_now after) q ≡ map.get (contents_now files) q
+  own_agrees line box has command q = elim (stays q) [
+    | inl same ↦ same
+    | inr (entry, joins, hand, changes) ↦
+        let same : entry.line ≡ line = same_Some entry.line line (sym hand ∙ has) in
+        absurd (subst (λ (c : Command). ChangesAt c q) (ap (λ (l : Line). l.command) same ∙ command) changes)
+  ]
+
+-- ---- a search at a leaf
+
+module _ (points : HeldArePoints) (standing : StandingIsContents) (lacking : LackIsContents) (m : Machine) (files : Files) (actor : ℕ) (told : m.files ≡ Some files) (kept : MachineKeeps m) (has : HasSoundFile m files) (exact : SearchesAreExact m files)
+    (line : Line) (held : Option ℕ) (rest : List Area) (found : List Record) (box : Area) (walks : m.activity actor ≡ at.SessionWalk line held rest found) (command : line.command ≡ Search box) where
+  abbrev pub k : ℕ
+  k = m.store.meta.k
+
+  whole_box : IsBoxOf k box
+  whole_box =
+      let fits : LineFits k line = subst (λ (a : Activity). IfSome (line_in_hand a) (LineFits k)) walks (kept.attributes_fit.in_hand actor) in
+      subst (CommandFits k) command fits.command
+
+  left_boxes : All (IsBoxOf k) rest
+  left_boxes = subst (λ (a : Activity). All (IsBoxOf k) (boxes_left a)) walks (kept.attributes_fit.boxes actor)
+
+  abbrev pub Whole : List Area → Type 0
+  Whole r = HasFoundSoFar (contents_now files) box r found
+
+  -- what it has found once it took the leaf's records
+  pub at_leaf : {fetched : StoreState} {may : ℕ → Type 0} → Brings m may fetched → (id : ℕ) (page : LivePage) (p : List ℕ) (deed : Deed) → live_here fetched id ≡ Some page → goal_of (Search box) rest ≡ Some p
+      → (row : Gathers (sight (with_disk fetched m.files m.clock m)) line rest found page p deed)
+      → HasFoundSoFar (contents_now files) box (row.front ++ pieces_outside row.at_hand (common_area row.at_hand row.area)) (found ++ filter (λ r. holds row.at_hand r.key) row.records)
+  at_leaf {fetched} {may} brings id page p deed live goal row =
+      let s = current_file files in
+      let keeps = brought m may fetched brings (keeps_pages m (sound_within_limits m files has) kept.pages_of_file) in
+      let file = shows_file fetched files (brought_shown m files may fetched told brings (files_hold m files has)) in
+      let boxes : All (IsBoxOf k) (row.front ++ row.at_hand ∷ []) = subst (λ (r : List Area). All (IsBoxOf k) r) row.boxes left_boxes in
+      let hand : IsBoxOf k row.at_hand = All-last (IsBoxOf k) row.front row.at_hand boxes in
+      let leaf = subst (λ (n : ℕ). HasRecordsOf (contents_of s) n row.records row.area) (ap (λ meta. meta.k) brings.rest.meta) (records_of_leaf points standing lacking fetched s keeps file id page live p row.records row.area row.leaf) in
+      let good = (keeps.framed id _ (live_so (in_memory fetched id) page live)).2 in
+      let in_leaf = (leaf_box fetched.meta page p _ good row.leaf).1 in
+      let in_hand : Holds row.at_hand p = subst (Holds row.at_hand) (goal_at_hand box rest row.front row.at_hand p row.boxes goal) (lo_held row.at_hand hand.0) in
+      gathered (contents_of s) k box row.front row.at_hand found row.records row.area p whole_box boxes leaf in_hand in_leaf
+      (subst Whole row.boxes (exact actor line held rest found box walks command))
+
+  -- where the search takes effect, its reply is the machine's
+  pub replies_right : {fetched : StoreState} {may : ℕ → Type 0} → Brings m may fetched → (id : ℕ) (page : LivePage) (p : List ℕ) (deed : Deed) (entry : Entry) → live_here fetched id ≡ Some page → goal_of (Search box) rest ≡ Some p
+      → Gathers (sight (with_disk fetched m.files m.clock m)) line rest found page p deed → deed.joins ≡ Some entry → entry.reply ≡ reply_of entry.line.command (contents_now files)
+  replies_right {fetched} brings id page p deed entry live goal row joins =
+      by (row.front ++ pieces_outside row.at_hand (common_area row.at_hand row.area)) (found ++ filter (λ r. holds row.at_hand r.key) row.records) row.goes (at_leaf brings id page p deed live goal row)
+    where
+      by : (boxes : List Area) (more : List Record) → SearchGoesOn (sight (with_disk fetched m.files m.clock m)) line boxes more deed → HasFoundSoFar (contents_now files) box boxes more → entry.reply ≡ reply_of entry.line.command (contents_now files)
+      by [] more (ordered, same, rising, is) so_far =
+          let joined : record { line = line; reply = replies.Within ordered } ≡ entry = same_Some _ entry (sym (ap (λ (d : Deed). d.joins) is) ∙ joins) in
+          let all = reply_is (contents_now files) box more ordered whole_box.0
+          (λ r. (λ there. (let x = (so_far.exact r).0 there in (x.0, x.1)), λ x. (so_far.exact r).1 (x.0, x.1, λ some. no_any r.key some))) same rising in
+          sym (ap (λ (e : Entry). e.reply) joined) ∙ ap replies.Within all ∙ sym (ap (λ (c : Command). reply_of c (contents_now files)) (ap (λ (e : Entry). e.line.command) (sym joined) ∙ command))
+        where
+          no_any : (q : List ℕ) → Any (λ (a : Area). Holds a q) [] → ⊥
+          no_any q some = absurd (omega (arith, some.2))
+      by (a ∷ boxes) more is so_far = absurd (none (sym (ap (λ (d : Deed). d.joins) is) ∙ joins))
+        where
+          none : None ≡ Some entry → ⊥
+          none nothing = cc
+
+  -- where it walks on, what it has found is exact still
+  pub walks_right : {fetched : StoreState} {may : ℕ → Type 0} → Brings m may fetched → (id : ℕ) (page : LivePage) (p : List ℕ) (deed : Deed) (other : Line) (held' : Option ℕ) (rest' : List Area) (found' : List Record) → live_here fetched id ≡ Some page → goal_of (Search box) rest ≡ Some p
+      → Gathers (sight (with_disk fetched m.files m.clock m)) line rest found page p deed → deed.next ≡ at.SessionWalk other held' rest' found' → HasFoundSoFar (contents_now files) box rest' found'
+  walks_right {fetched} brings id page p deed other held' rest' found' live goal row next =
+      by (row.front ++ pieces_outside row.at_hand (common_area row.at_hand row.area)) (found ++ filter (λ r. holds row.at_hand r.key) row.records) row.goes (at_leaf brings id page p deed live goal row)
+    where
+      by : (boxes : List Area) (more : List Record) → SearchGoesOn (sight (with_disk fetched m.files m.clock m)) line boxes more deed → HasFoundSoFar (contents_now files) box boxes more → HasFoundSoFar (contents_now files) box rest' found'
+      by [] more (ordered, same, rising, is) so_far = absurd (none (sym (ap (λ (d : Deed). d.next) is) ∙ next))
+        where
+          none : at.SessionAwait line.number (replies.Within ordered) (length m.order) ≡ at.SessionWalk other held' rest' found' → ⊥
+          none nothing = cc
+      by (a ∷ boxes) more is so_far = same_walk (sym (ap (λ (d : Deed). d.next) is) ∙ next)
+        where
+          same_walk : at.SessionWalk line None (a ∷ boxes) more ≡ at.SessionWalk other held' rest' found' → HasFoundSoFar (contents_now files) box rest' found'
+          same_walk eq =
+              let left : a ∷ boxes ≡ rest' = cc in
+              let gives : more ≡ found' = cc in
+              subst (λ (f : List Record). HasFoundSoFar (contents_now files) box rest' f) gives (subst (λ (r : List Area). HasFoundSoFar (contents_now files) box r more) left so_far)
+
+-- ---- each step
+
+module _ (points : HeldArePoints) (standing : StandingIsContents) (lacking : LackIsContents) (m : Machine) (files : Files) (actor : ℕ) (outcome : Outcome) (new : Machine) (told : m.files ≡ Some files) (kept : MachineKeeps m) (has : HasSoundFile m files) (exact : SearchesAreExact m files) where
+  abbrev now : StoreState → Machine
+  now fetched = with_disk fetched m.files m.clock m
+
+  -- the row of a search that walked before
+  walks_on : (does : DoesRow m actor outcome new) (line other : Line) (held held' : Option ℕ) (rest rest' : List Area) (found found' : List Record) (box : Area) → m.activity actor ≡ at.SessionWalk line held rest found → line.command ≡ Search box
+      → does.deed.next ≡ at.SessionWalk other held' rest' found' → HasFoundSoFar (contents_now files) box rest' found'
+  walks_on does line other held held' rest rest' found found' box walks command next =
+      let row = walk_row (now does.fetched) line held rest found box (wanted_by m actor) does.deed command (subst (λ (a : Activity). Row a (wanted_by m actor) (now does.fetched) does.deed) walks does.row) in
+      elim row.goes [
+        | inl passes ↦ same_walk row.id (sym passes.next ∙ next)
+        | inr gathers ↦ walks_right points standing lacking m files actor told kept has exact line held rest found box walks command does.brings row.id row.page row.p does.deed other held' rest' found' row.live row.goal gathers next
+      ]
+    where
+      same_walk : (id : ℕ) → at.SessionWalk line (Some id) rest found ≡ at.SessionWalk other held' rest' found' → HasFoundSoFar (contents_now files) box rest' found'
+      same_walk id eq =
+          let left : rest ≡ rest' = cc in
+          let gives : found ≡ found' = cc in
+          subst (λ (f : List Record). HasFoundSoFar (contents_now files) box rest' f) gives (subst (λ (r : List Area). HasFoundSoFar (contents_now files) box r found) left (exact actor line held rest found box walks command))
+
+  search_box : (command : Command) → WantsBoxes command → (box : Area) × (command ≡ Search box)
+  search_box (Search area) wants = (area, refl)
+  search_box (Insert rec) never = absurd never
+  search_box (Delete point) never = absurd never
+  search_box (Lookup point) never = absurd never
+
+  no_join : (entry : Entry) (o : Option Entry) → o ≡ None → o ≡ Some entry → ⊥
+  no_join entry o none some = never (sym none ∙ some)
+    where
+      never : None ≡ Some entry → ⊥
+      never nothing = cc
+
+  takes_right : (does : DoesRow m actor outcome new) (entry : Entry) → does.deed.joins ≡ Some entry → WantsBoxes entry.line.command → entry.reply ≡ reply_of entry.line.command (contents_now files)
+  takes_right does entry joins wants =
+      let before = joined_before entry wants (now does.fetched) (m.activity actor) (wanted_by m actor) does.deed does.row joins in
+      let command = search_box entry.line.command wants in
+      let row = walk_row (now does.fetched) entry.line before.held before.rest before.found command.0 (wanted_by m actor) does.deed command.1 (subst (λ (a : Activity). Row a (wanted_by m actor) (now does.fetched) does.deed) before.is does.row) in
+      elim row.goes [
+        | inl passes ↦ absurd (no_join entry does.deed.joins passes.joins joins)
+        | inr gathers ↦ replies_right points standing lacking m files actor told kept has exact entry.line before.held before.rest before.found command.0 before.is command.1 does.brings row.id row.page row.p does.deed entry row.live row.goal gathers joins
+      ]
+
+  -- ---- the reply of a search that joins the order
+
+  module _ (entry : Entry) (grown : new.order ≡ m.order ++ entry ∷ []) (wants : WantsBoxes entry.line.command) where
+    abbrev IsRight : Type 0
+    IsRight = entry.reply ≡ reply_of entry.line.command (contents_now files)
+
+    stays_not : new.order ≡ m.order → IsRight
+    stays_not same =
+        let lengths = ap (λ (l : List Entry). length l) (sym same ∙ grown) in
+        let longer = length-append m.order (entry ∷ []) in
+        absurd (omega (arith, lengths, longer))
+
+    joins_not : {fetched : StoreState} (deed : Deed) → Performs m fetched actor deed outcome new → deed.joins ≡ None → IsRight
+    joins_not deed performs none = stays_not (performs.order ∙ ap (λ (o : Option Entry). m.order ++ if_some o) none ∙ append-nil m.order)
+
+    joins_it : (joins : Option Entry) → new.order ≡ m.order ++ if_some joins → (joins ≡ Some entry) ⊎ IsRight
+    joins_it None order = inr (stays_not (order ∙ append-nil m.order))
+    joins_it (Some one) order = inl (ap Some (same_ends m.order m.order one entry (sym order ∙ grown)).1)
+
+    acts : DoesRow m actor outcome new → IsRight
+    acts does = elim (joins_it does.deed.joins does.performs.order) [ inl joins ↦ takes_right does entry joins wants | inr right ↦ right ]
+
+    pub reply_right : StepsTo m actor outcome new → IsRight
+    reply_right step = each_saying m actor outcome new IsRight (record {
+      plain = λ plain keeps. stays_not keeps.order;
+      takes = λ line idle next performs. joins_not _ performs refl;
+      refuses = λ line idle next boxes performs. joins_not _ performs refl;
+      posts = λ deed idle taken performs. joins_not deed performs (ap (λ (d : Deed). d.joins) taken.deed_is);
+      merges = λ deed idle taken performs. joins_not deed performs (ap (λ (d : Deed). d.joins) taken.deed_is);
+      settles = λ number place reply is settled performs. joins_not _ performs refl;
+      runs = λ runs. joins_not _ runs.performs (ran_out_joins_nothing (m.activity actor));
+      does = acts;
+      gives = λ gives. joins_not _ gives.performs (given_up_joins_nothing gives.why (m.activity actor));
+    }) step
+
+  -- ---- what is found after the step
+
+  module _ (after : Files) (stays : (q : List ℕ) → (map.get (contents_now after) q ≡ map.get (contents_now files) q)
+      ⊎ ((entry : Entry) × (new.order ≡ m.order ++ entry ∷ []) × (line_in_hand (m.activity actor) ≡ Some entry.line) × ChangesAt entry.line.command q))
+      (line : Line) (held : Option ℕ) (rest : List Area) (found : List Record) (box : Area) (command : line.command ≡ Search box) where
+    abbrev Exact : Type 0
+    Exact = HasFoundSoFar (contents_now after) box rest found
+
+    -- its own box, as it is before the step
+    own_moved : line_in_hand (m.activity actor) ≡ Some line → HasFoundSoFar (contents_now files) box rest found → Exact
+    own_moved hand so_far = moved (contents_now files) (contents_now after) box rest found (λ q inside. own_agrees m files after actor outcome new kept stays line box hand command q) so_far
+
+    module _ (walks : new.activity actor ≡ at.SessionWalk line held rest found) where
+      own_next : {fetched : StoreState} (deed : Deed) → Performs m fetched actor deed outcome new → deed.next ≡ at.SessionWalk line held rest found
+      own_next deed performs = sym (performs.activity actor ∙ ap (λ (b : Bool). cond b deed.next (m.activity actor)) (eq-eqb actor actor refl)) ∙ walks
+
+      keeps : KeepsAllButDisk m new → Exact
+      keeps same =
+          let before : m.activity actor ≡ at.SessionWalk line held rest found = ap (λ (all : ℕ → Activity). all actor) (sym same.activity) ∙ walks in
+          own_moved (ap line_in_hand before) (exact actor line held rest found box before command)
+
+      begins : (taken : Line) → at.SessionWalk taken None (boxes_ahead taken.command) [] ≡ at.SessionWalk line held rest found → Exact
+      begins taken is =
+          let same : taken ≡ line = cc in
+          let boxes : boxes_ahead taken.command ≡ rest = cc in
+          let none : [] ≡ found = cc in
+          let left : box ∷ [] ≡ rest = ap boxes_ahead (sym (ap (λ (l : Line). l.command) same ∙ command)) ∙ boxes in
+          subst (λ (f : List Record). HasFoundSoFar (contents_now after) box rest f) none (subst (λ (r : List Area). HasFoundSoFar (contents_now after) box r []) left (begins_exact (contents_now after) box))
+
+      -- who has no line in hand doesn't walk for one
+      no_walk : (next : Activity) → line_in_hand next ≡ None → next ≡ at.SessionWalk line held rest found → Exact
+      no_walk next none is = absurd (never (sym none ∙ ap line_in_hand is))
+        where
+          never : None ≡ Some line → ⊥
+          never nothing = cc
+
+      does_row : DoesRow m actor outcome new → Exact
+      does_row does =
+          let next = own_next does.deed does.performs in
+          let before = walked_before line held rest found (now does.fetched) (m.activity actor) (wanted_by m actor) does.deed does.row next in
+          own_moved (ap line_in_hand before.is) (walks_on does line line before.held held before.rest rest before.found found box before.is command next)
+
+      pub own_exact : StepsTo m actor outcome new → Exact
+      own_exact step = each_deed m actor outcome new Exact (record {
+        keeps = λ same meta. keeps same;
+        takes = λ taken idle next performs. begins taken (own_next (taking taken) performs);
+        posts = λ deed idle taken performs. no_walk deed.next (ap (λ (d : Deed). line_in_hand d.next) taken.deed_is ∙ posting_hand taken.job m.store.meta.height taken.next taken.posting) (own_next deed performs);
+        merges = λ deed idle taken performs. no_walk deed.next (ap (λ (d : Deed). line_in_hand d.next) taken.deed_is ∙ merging_hand taken.job m.store.meta.height taken.next taken.merging) (own_next deed performs);
+        acts = does_row;
+        ends = λ fetched deed meta ended performs. no_walk deed.next (ap line_of ended.hand) (own_next deed performs);
+      }) step
+
+    pub other_exact : (other : ℕ) → other ≢ actor → new.activity other ≡ at.SessionWalk line held rest found → StepsTo m actor outcome new → Exact
+    other_exact other another walks step =
+        let before : m.activity other ≡ at.SessionWalk line held rest found = sym (others_stay m actor outcome new step other another).0 ∙ walks in
+        moved (contents_now files) (contents_now after) box rest found (other_agrees m files after actor outcome new kept stays other line held rest found box another before command) (exact other line held rest found box before command)
+
+module _ (points : HeldArePoints) (standing : StandingIsContents) (lacking : LackIsContents) where
+  pub searches_stay_exact : PointsStay → SearchesStayExact
+  searches_stay_exact law m files after actor outcome new may told kept has exact step is other line held rest found box walks command =
+      let stays = λ (q : List ℕ). law m files after actor outcome new q told kept.lines_fit kept.pages_of_file has step is in
+      elim (cases_Bool (other == actor)) [
+        | inl here ↦ own_exact points standing lacking m files actor outcome new told kept has exact after stays line held rest found box command (ap new.activity (sym (eqb-true other actor here)) ∙ walks) step
+        | inr off ↦ other_exact points standing lacking m files actor outcome new told kept has exact after stays line held rest found box command other (eqb-false other actor off) walks step
+      ]
+
+  pub searches_are_right : SearchesAreRight
+  searches_are_right m files actor outcome new entry told kept has exact step joins wants = reply_right points standing lacking m files actor outcome new told kept has exact entry joins wants step
