@@ -22,6 +22,10 @@ class Said:
         self.replies, self.left, self.order, self.settled, self.fault = [], [], None, None, None
         for line in text.split("\n")[:-1]:
             front, _, rest = line.partition(" ")
+            if front == "+" and self.replies and self.order is None:
+                number, said = self.replies[-1]
+                self.replies[-1] = (number, f"{said}\n+ {rest}")
+                continue
             if self.order is not None or not (front.isdigit() or front == "order"):
                 if self.fault is not None:
                     raise Bad(f"a line behind the fault line: {line}")
@@ -48,6 +52,9 @@ def do(records, line):
         return "ok"
     if verb == "delete":
         return "absent" if records.pop(point, None) is None else "ok"
+    if verb == "search":
+        found = [held for held in sorted(records) if all(low <= value <= high for low, value, high in zip(point, held, body))]
+        return f"box {len(found)}" + "".join("\n+ " + " ".join(map(str, held)) + f" ={records[held]}" for held in found)
     return f"found ={records[point]}" if point in records else "none"
 
 
@@ -90,8 +97,8 @@ class Run:
                 raise Bad(f"line {line} in the order")
             if line in places and places[line] >= said.settled:
                 raise Bad(f"line {line} was answered before its place was settled")
-            if reply == "full" and self.lines[line][2] == "lookup":
-                raise Bad("a lookup is full")
+            if reply == "full" and self.lines[line][2] in ("lookup", "search"):
+                raise Bad("a lookup or a search is full")
         self.check_sessions(places)
 
     def check_sessions(self, places):

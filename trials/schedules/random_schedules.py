@@ -3,7 +3,7 @@
 
     trials/schedules/random_schedules.py KIND COUNT SEED
 
-KIND is `random`, `deep` (files of three levels), `failing` (each device call fails, once and for good), `racing` (two sessions on one page, in all
+KIND is `random`, `searching` (random, with searches), `deep` (files of three levels), `failing` (each device call fails, once and for good), `racing` (two sessions on one page, in all
 interleavings of their first six steps), `high` (3,000 inserts with the poster), or `refused` (each allocation is refused in
 turn; with TRIAL_PROGRAM alone). It copies the repository's sources into a
 temporary folder, puts program.txt there as one more program, and runs it unproved (`rt try`); or it runs the program that
@@ -46,7 +46,8 @@ class Case:
         lines, steps = self.runs[number][:2]
         said = []
         for _, session, verb, point, body in lines:
-            said.append(" ".join([str(session), verb] + [str(value) for value in point]) + (f" ={body}" if verb == "insert" else ""))
+            values = [value for pair in zip(point, body) for value in pair] if verb == "search" else point
+            said.append(" ".join([str(session), verb] + [str(value) for value in values]) + (f" ={body}" if verb == "insert" else ""))
         words = [f"{actor}x{len(list(group))}" for actor, group in itertools.groupby(steps)]
         said += ["step " + " ".join(words[at:at + 20]) for at in range(0, len(words), 20)]
         return "".join(line + "\n" for line in said)
@@ -65,12 +66,15 @@ class Case:
 
 
 def a_line(rng, number, sessions, k, values, shares):
-    verb = rng.choices(["insert", "delete", "lookup"], shares)[0]
+    verb = rng.choices(["insert", "delete", "lookup", "search"][:len(shares)], shares)[0]
+    if verb == "search":
+        sides = [sorted((rng.choice(values), rng.choice(values))) for _ in range(k)]
+        return (number, rng.randint(1, sessions), verb, tuple(side[0] for side in sides), tuple(side[1] for side in sides))
     body = "".join(rng.choice("abcxyz~!") for _ in range(rng.choice([0, 1, 3, 32]))) if verb == "insert" else None
     return (number, rng.randint(1, sessions), verb, tuple(rng.choice(values) for _ in range(k)), body)
 
 
-def a_schedule(rng, sessions, lines, poster):
+def a_schedule(rng, sessions, lines, poster, turn=60):
     """Steps of all actors, in bursts or one by one, and whether they are enough for all lines."""
     actors = [str(session) for session in range(1, sessions + 1)]
     steps, most, burst = [], len(lines) * rng.choice([3, 5, 8, 12]), rng.choice([1, 1, 2, 4, 9])
@@ -82,12 +86,12 @@ def a_schedule(rng, sessions, lines, poster):
     if finishes:
         for _ in range(max(collections.Counter(line[1] for line in lines).values()) + 4):
             for actor in actors:
-                steps += [actor] * 60
+                steps += [actor] * turn
             steps += ["p"] * (6 if poster else 0)
     return steps, finishes
 
 
-def a_case(rng, seed, failing):
+def a_case(rng, seed, failing, searching=False):
     """Small files and large ones, with few values and many."""
     k, sessions = rng.randint(1, 4), rng.choice([1, 2, 3, 4, 8, 16])
     pages, log = rng.choice([(1, 65536), (3, 65536), (8, 65536), (16, 131072), (16, 131072), (16, 131072), (40, 262144), (40, 262144), (40, 262144), (120, 524288)])
@@ -95,16 +99,18 @@ def a_case(rng, seed, failing):
     large = [0, 1, 2 ** 63 - 1, 2 ** 63, 2 ** 64 - 2, 2 ** 64 - 1] + [rng.randrange(2 ** 64) for _ in range(60)]
     values = rng.choice([list(range(2)), list(range(4)), list(range(9)), list(range(40)), large])
     shares, poster = rng.choice([(8, 1, 1), (4, 2, 2), (3, 3, 2), (10, 0, 1)]), rng.choice([0, 0.1, 0.3])
+    if searching:
+        shares = rng.choice([(8, 1, 1, 2), (4, 2, 1, 3), (3, 3, 2, 2), (10, 0, 0, 1)])
     for _ in range(rng.randint(1, 3) if failing else rng.randint(2, 4)):
         lines = [a_line(rng, at + 1, sessions, k, values, shares) for at in range(rng.randint(2, 14) if failing else rng.choice([5, 10, 20, 20, 40, 80, 160]))]
-        steps, finishes = a_schedule(rng, sessions, lines, poster)
+        steps, finishes = a_schedule(rng, sessions, lines, poster, 400 if searching else 60)
         case.add(lines, steps, 20, rng.random() < 0.05, 60000 if failing else rng.choice([0, 0, 0, 1]), rng.random() < 0.4, finishes)
     return case
 
 
-def random_cases(count, seed, failing):
+def random_cases(count, seed, failing, searching=False):
     for number in range(count):
-        yield a_case(random.Random(f"{seed} {number}"), number, failing)
+        yield a_case(random.Random(f"{seed} {number}"), number, failing, searching)
 
 
 def deep_cases(count, seed):
@@ -297,7 +303,8 @@ def compare_run(told, case, number, records, counts, refused=False):
     counts["lines"] += len(run.said.replies)
     counts["calls"] += calls
     for _, reply in run.said.replies:
-        counts[reply.split(" =")[0]] += 1
+        counts[reply.split(" =")[0].split(" ")[0]] += 1
+        counts["found by searches"] += reply.count("\n")
     compare_images(told, run, True, counts, refused)
     while told.line(peek=True)[0] in ("failed", "stopped"):
         name, tried, bad = told.line()
@@ -387,6 +394,7 @@ def main():
     if kind == "refused":
         refuse(refused_cases(count, seed))
     made = {"random": lambda: random_cases(count, seed, False), "failing": lambda: random_cases(count, seed, True),
+            "searching": lambda: random_cases(count, seed, False, True),
             "racing": lambda: itertools.islice(racing_cases(), count), "deep": lambda: deep_cases(count, seed), "high": lambda: high_cases(count, seed)}[kind]()
     size = {"failing": 2, "high": 1, "deep": 1}.get(kind, FILE)
     counts, differ = collections.Counter(), 0
