@@ -8,7 +8,6 @@ pub mod Classes
 pub mod Deeds
 pub mod Sights
 pub mod Passing
-pub mod Stages
 pub mod Deciding
 pub mod OneDeed
 pub mod Examples

@@ -5,11 +5,6 @@ use Rattle.std.specs.Ordering.{nat_cmp}
 use Rattle.hb_space.specs.Boxes.{Area, Meets}
 use Rattle.hb_boxlock.specs.declared.locks.BoxLock.{BoxLock}
 
--- who may lock a box: 1 to 16 are sessions, 17 posts, 18 consolidates, 19 flushes
-pub record MayLock (actor : ℕ) : Type 0 where
-  pub from_1 : 1 ≤ actor
-  pub to_19 : actor ≤ 19
-
 abbrev pub lock_on : Area → Bool → BoxLock
 lock_on area share = record { area = area; shared = share }
 

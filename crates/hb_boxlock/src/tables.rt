@@ -1,7 +1,8 @@
 ghost use Rattle.std.specs.Prelude.{◌≡◌, ◌≢◌, ◌<◌, ◌+◌, ◌↔◌, length, None, IsOk, IsSome, IsSomeAnd, IsTrue, IfErr, IfSome, OnOk, OnErr};
 ghost use Rattle.std.specs.Option.{option_copied};
 ghost use Rattle.std.specs.FinMap as map;
-ghost use Rattle.hb_boxlock.specs.Locking.{Excludes, HaveAttributes, IsLeastToKeep, MayHaveLock, MayLock, lock_at, lock_on};
+ghost use Rattle.hb_boxlock.specs.Locking.{Excludes, HaveAttributes, IsLeastToKeep, MayHaveLock, lock_at, lock_on};
+ghost use Rattle.hb_space.specs.Actors.{IsActor};
 ghost use Rattle.hb_boxlock.specs.Slots.{table_from};
 
 use crate::BoxLock;
@@ -56,7 +57,7 @@ impl BoxLocks {
     /// Locks the box for the actor, for itself alone or shared, unless another actor's lock excludes
     /// that.
     pub fn try_take(&mut self, actor: Actor, area: Area, share: bool) -> Result<(), HeldBy>
-        requires actor { MayLock actor }
+        requires actor { IsActor actor }
         requires absent { lock_at self.old actor ≡ None }
         requires attributes { HaveAttributes self.old (length area.lo) }
         ensures granted { IsOk result ↔ MayHaveLock self.old actor (lock_on area share) }
@@ -77,7 +78,7 @@ impl BoxLocks {
 
     /// Gives back the actor's lock.
     pub fn release(&mut self, actor: Actor)
-        requires actor { MayLock actor }
+        requires actor { IsActor actor }
         requires held { IsSome (lock_at self.old actor) }
         ensures { self.new ≡ map.remove self.old actor }
     {
@@ -96,7 +97,7 @@ impl BoxLocks {
 
     /// The lock that the actor has, if it has one.
     pub fn lock_of(&self, actor: Actor) -> Option<&BoxLock>
-        requires { MayLock actor }
+        requires { IsActor actor }
         ensures { option_copied result ≡ lock_at self.now actor }
     {
         match &self.places[place_of(actor)] {
@@ -108,7 +109,7 @@ impl BoxLocks {
 
 // Where the actor's lock stands.
 fn place_of(actor: Actor) -> usize
-    requires { MayLock actor }
+    requires { IsActor actor }
     ensures place { result + 1 ≡ actor }
     ensures few { result < ACTORS }
 {

@@ -18,7 +18,8 @@ use Rattle.hb_frag.specs.Rules.{capacity_of}
 use Rattle.hb_space.proofs.Facts.Intervals.{top, within}
 use Rattle.hb_space.specs.Boxes.{Area, Meets}
 use Rattle.hb_terms.proofs.Facts.OneMerge.{one_merge}
-use Rattle.hb_terms.specs.Merging.{IsMergePlan, merged_weight}
+use Rattle.hb_terms.specs.Merging.{IsMergePlan}
+use Rattle.hb_ops.specs.Merging.{merged_weight}
 use Rattle.std.proofs.lemmas.List.Elements.{All-from_recursion}
 use Rattle.hb_activity.proofs.Facts.OneLeaf.{exactly}
 

@@ -9,7 +9,8 @@ use Rattle.hb_activity.specs.declared.activities.Activity.TheVariants.{Consolida
 use Rattle.hb_activity.specs.Deeds.{Deed, moves_to, does}
 use Rattle.hb_activity.specs.Sights.{Sight}
 use Rattle.hb_frag.specs.Leaves.{first_named, siblings_of, weight_of}
-use Rattle.hb_ops.specs.declared.operations.Op.{Op}
+use Rattle.hb_ops.specs.declared.operations.Op.TheVariants as ops
+use Rattle.hb_ops.specs.Merging.{parent_page}
 use Rattle.hb_activity.specs.declared.activities.Activity.TheVariants as at
 use Rattle.hb_activity.specs.declared.jobs.JobKind.TheVariants as kinds
 use Rattle.hb_space.specs.Boxes.{Area}
@@ -28,20 +29,10 @@ takes_keep job parent keep gone page = after_keep job parent keep gone (first_na
 abbrev pub merges_above : Job → LivePage → ℕ → List Job
 merges_above job parent capacity = if nat_le (4 * weight_of parent.frag) capacity then record { kind = kinds.Merge; level = job.level + 1; point = job.point } ∷ [] else []
 
--- The operation by which a page takes over what a sibling page has, with their parent before and after it. None is it before
--- the operation is built. So where a consolidator has decided to merge, no row is done; but no job ever leads there while pages
--- aren't merged.
-abbrev pub IsMergeOf : Op → ℕ → ℕ → ℕ → LivePage → LivePage → Type 0
-IsMergeOf op parent keep gone before after = ⊥
-
--- The two become one. Before the operation is built, none is it, and this row can't be done.
+-- The two become one.
 pub record Merges (s : Sight) (job : Job) (parent keep gone : ℕ) (above : LivePage) (deed : Deed) : Type 0 where
   pub live : 0 < s.meta.live
-  pub op : Op
-  -- the parent afterwards
-  pub after : LivePage
-  pub merge : IsMergeOf op parent keep gone above after
-  pub deed_is : deed ≡ does ConsolidatorIdle op (job ∷ merges_above job after s.meta.icap)
+  pub deed_is : deed ≡ does ConsolidatorIdle (ops.Merge parent keep gone) (job ∷ merges_above job (parent_page keep gone above) s.meta.icap)
 
 -- no page is in use, by what the file says of itself
 pub record MergesNot (s : Sight) (deed : Deed) : Type 0 where

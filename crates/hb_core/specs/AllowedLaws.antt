@@ -23,7 +23,7 @@ use Rattle.hb_space.specs.Points.{IsBody}
 use Rattle.hb_store.specs.Calls.{IsAllowedHere}
 use Rattle.hb_store.specs.Fetching.{IsNext}
 use Rattle.hb_store.specs.States.{StoreState, in_memory}
-use Rattle.hb_terms.specs.Plans.{Posts}
+use Rattle.hb_ops.specs.Owing.{Posts}
 
 -- A posting by a plan: the parent and its child are in memory and in use, and at the job's point the parent's leaf names
 -- the child.

@@ -4,7 +4,7 @@ use Rattle.hb_space.specs.Boxes.{Area, Holds}
 use Rattle.hb_space.specs.Points.{IsPoint}
 use Rattle.hb_space.specs.declared.records.Record.{Record}
 use Rattle.hb_frag.specs.declared.pages.LivePage.{LivePage}
-use Rattle.hb_latch.specs.Tables.{MayLatch}
+use Rattle.hb_space.specs.Actors.{IsActor}
 use Rattle.hb_layout.specs.Limits.{IsLayout}
 use Rattle.hb_ops.specs.Sound.{FitsFile}
 use Rattle.hb_set.specs.declared.scripts.Line.{Line}
@@ -31,13 +31,13 @@ PagesAtHandFit = (m : Machine) (fetched : StoreState) (id : ℕ) (page : LivePag
 -- The page at hand of a walk has the walk's point in its box. That it is a point, with values below 2 ^ 64, nothing of the machine
 -- says: a body knows it of every point that it has.
 abbrev pub WalksStayInside : Type 0
-WalksStayInside = (m : Machine) (actor : ℕ) (fetched : StoreState) (wanted : Wanted) (page : LivePage) (p : List ℕ) → MayLatch actor → MachineKeeps m → Brings m AnyPage fetched →
+WalksStayInside = (m : Machine) (actor : ℕ) (fetched : StoreState) (wanted : Wanted) (page : LivePage) (p : List ℕ) → IsActor actor → MachineKeeps m → Brings m AnyPage fetched →
     walk_point (m.activity actor) ≡ Some p → IsPoint p → wanted_by m actor ≡ Some wanted → IsAtHand (with_disk fetched m.files m.clock m) (m.activity actor) wanted page → Holds page.area p
 
 -- A walk of a command on a point may ask the decider of such commands. A search isn't one.
 abbrev pub PointsMayBeAsked : Type 0
 PointsMayBeAsked = (m : Machine) (actor : ℕ) (fetched : StoreState) (line : Line) (held : Option ℕ) (rest : List Area) (found : List Record) (wanted : Wanted) (page : LivePage) (free : Option (ℕ × ℕ)) (p : List ℕ) →
-    MayLatch actor → MachineKeeps m → Brings m AnyPage fetched → m.activity actor ≡ at.SessionWalk line held rest found → (WantsBoxes line.command → ⊥) → walk_point (m.activity actor) ≡ Some p → IsPoint p →
+    IsActor actor → MachineKeeps m → Brings m AnyPage fetched → m.activity actor ≡ at.SessionWalk line held rest found → (WantsBoxes line.command → ⊥) → walk_point (m.activity actor) ≡ Some p → IsPoint p →
     wanted_by m actor ≡ Some wanted → IsAtHand (with_disk fetched m.files m.clock m) (m.activity actor) wanted page → MayAsk (m.activity actor) m.store.meta free wanted.page page None
 
 -- The page that is to be split is still in memory, and the decider may be asked with it.
@@ -48,7 +48,7 @@ pub record AsksToSplit (m : Machine) (actor : ℕ) (fetched : StoreState) (free 
 
 -- So it is of each session that is to split a page, where a number is given exactly if a page is free.
 abbrev pub SplitsMayBeAsked : Type 0
-SplitsMayBeAsked = (m : Machine) (actor : ℕ) (fetched : StoreState) (line : Line) (held : ℕ) (free : Option (ℕ × ℕ)) → MayLatch actor → MachineKeeps m → Brings m AnyPage fetched →
+SplitsMayBeAsked = (m : Machine) (actor : ℕ) (fetched : StoreState) (line : Line) (held : ℕ) (free : Option (ℕ × ℕ)) → IsActor actor → MachineKeeps m → Brings m AnyPage fetched →
     m.activity actor ≡ at.SessionSplit line held → FitsFree m.store.meta free → AsksToSplit m actor fetched free held
 
 -- Both halves of a page that was split are still in memory, and the decider may be asked with them.
@@ -61,12 +61,12 @@ pub record AsksToPut (m : Machine) (actor : ℕ) (fetched : StoreState) (free : 
 
 -- So it is of each session that is to put its record into one of them.
 abbrev pub PutsMayBeAsked : Type 0
-PutsMayBeAsked = (m : Machine) (actor : ℕ) (fetched : StoreState) (line : Line) (source fresh : ℕ) (free : Option (ℕ × ℕ)) → MayLatch actor → MachineKeeps m → Brings m AnyPage fetched →
+PutsMayBeAsked = (m : Machine) (actor : ℕ) (fetched : StoreState) (line : Line) (source fresh : ℕ) (free : Option (ℕ × ℕ)) → IsActor actor → MachineKeeps m → Brings m AnyPage fetched →
     m.activity actor ≡ at.SessionPut line source fresh → AsksToPut m actor fetched free source fresh
 
 -- The poster may ask at the page of its walk.
 abbrev pub PosterWalksMayBeAsked : Type 0
-PosterWalksMayBeAsked = (m : Machine) (actor : ℕ) (fetched : StoreState) (job : Job) (held : Option ℕ) (wanted : Wanted) (page : LivePage) → MayLatch actor → MachineKeeps m → Brings m AnyPage fetched →
+PosterWalksMayBeAsked = (m : Machine) (actor : ℕ) (fetched : StoreState) (job : Job) (held : Option ℕ) (wanted : Wanted) (page : LivePage) → IsActor actor → MachineKeeps m → Brings m AnyPage fetched →
     m.activity actor ≡ at.PosterWalk job held → IsPoint job.point → wanted_by m actor ≡ Some wanted → IsAtHand (with_disk fetched m.files m.clock m) (m.activity actor) wanted page → MayBeAsked (m.activity actor) m.store.meta page None
 
 -- The parent is still in memory, and the decider may be asked with it at the child.
@@ -77,7 +77,7 @@ pub record AsksWithParent (m : Machine) (actor : ℕ) (fetched : StoreState) (pa
 
 -- So it is of the poster where it looks at a child, and where it looks again.
 abbrev pub ChildrenMayBeAsked : Type 0
-ChildrenMayBeAsked = (m : Machine) (actor : ℕ) (fetched : StoreState) (job : Job) (parent : ℕ) (wanted : Wanted) (page : LivePage) → MayLatch actor → MachineKeeps m → Brings m AnyPage fetched →
+ChildrenMayBeAsked = (m : Machine) (actor : ℕ) (fetched : StoreState) (job : Job) (parent : ℕ) (wanted : Wanted) (page : LivePage) → IsActor actor → MachineKeeps m → Brings m AnyPage fetched →
     (m.activity actor ≡ at.PosterChild job parent) ⊎ (m.activity actor ≡ at.PosterAgain job parent) → wanted_by m actor ≡ Some wanted → IsAtHand (with_disk fetched m.files m.clock m) (m.activity actor) wanted page →
     AsksWithParent m actor fetched parent page
 

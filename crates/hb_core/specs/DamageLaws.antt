@@ -9,13 +9,13 @@ use Rattle.hb_core.specs.KeptMachine.{CoreKeeps}
 use Rattle.hb_core.specs.Machines.{Files, Machine}
 use Rattle.hb_core.specs.OutcomeLaws.{RefusesSearch, AreOneButMemory}
 use Rattle.hb_core.specs.Steps.{StepsTo}
-use Rattle.hb_latch.specs.Tables.{MayLatch}
+use Rattle.hb_space.specs.Actors.{IsActor}
 use Rattle.hb_set.specs.Machine.{RecordSet}
 
 -- Each page that a step asks for is one of the file, in use, of the level and the box that were asked for; and the first page
 -- of the free chain is free. So no step meets a damaged page.
 abbrev pub NoPageIsDamaged : Type 0
-NoPageIsDamaged = (m : Machine) (files : Files) (actor : ℕ) (outcome : Outcome) (new : Machine) → MayLatch actor → m.files ≡ Some files → LatchesFit m → HasSoundFile m files → WalksInSpace m →
+NoPageIsDamaged = (m : Machine) (files : Files) (actor : ℕ) (outcome : Outcome) (new : Machine) → IsActor actor → m.files ≡ Some files → LatchesFit m → HasSoundFile m files → WalksInSpace m →
     MeetsBadPage m actor outcome new → ⊥
 
 -- a machine that runs, or that a write fault has stopped
@@ -23,7 +23,7 @@ abbrev pub IsUndamaged : Machine → Type 0
 IsUndamaged m = (m.stop ≡ None) ⊎ (m.stop ≡ Some WriteFault)
 
 abbrev pub StaysUndamaged : Type 0
-StaysUndamaged = (m : Machine) (files : Files) (actor : ℕ) (outcome : Outcome) (new : Machine) → MayLatch actor → m.files ≡ Some files → LatchesFit m → HasSoundFile m files → WalksInSpace m →
+StaysUndamaged = (m : Machine) (files : Files) (actor : ℕ) (outcome : Outcome) (new : Machine) → IsActor actor → m.files ≡ Some files → LatchesFit m → HasSoundFile m files → WalksInSpace m →
     StepsTo m actor outcome new → IsUndamaged m → IsUndamaged new
 
 -- A step that want of memory or a fault of the device has turned aside.
@@ -33,5 +33,5 @@ IsRefusedOrFails m actor outcome new = RefusesSearch m actor outcome new ⊎ Fai
 -- Of a machine that keeps all that it should, two steps of one actor say the same and lead to machines that are one but for the
 -- pages in memory, unless one of them was turned aside so.
 abbrev pub KeptStepIsOne : Type 0
-KeptStepIsOne = (n : RecordSet) (m : Machine) (files : Files) (actor : ℕ) (outcome other : Outcome) (new next : Machine) → MayLatch actor → CoreKeeps n m files → StepsTo m actor outcome new → StepsTo m actor other next →
+KeptStepIsOne = (n : RecordSet) (m : Machine) (files : Files) (actor : ℕ) (outcome other : Outcome) (new next : Machine) → IsActor actor → CoreKeeps n m files → StepsTo m actor outcome new → StepsTo m actor other next →
     IsRefusedOrFails m actor outcome new ⊎ IsRefusedOrFails m actor other next ⊎ ((outcome ≡ other) × AreOneButMemory new next)

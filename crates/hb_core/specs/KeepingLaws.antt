@@ -12,29 +12,29 @@ use Rattle.hb_core.specs.KeptMachine.{CoreKeeps}
 use Rattle.hb_core.specs.Machines.{Files, Machine, settled_count}
 use Rattle.hb_core.specs.SteppingLaws.{IsBegunOver}
 use Rattle.hb_core.specs.Steps.{StepsInSequence, StepsTo}
-use Rattle.hb_latch.specs.Tables.{MayLatch}
+use Rattle.hb_space.specs.Actors.{IsActor}
 use Rattle.hb_ops.specs.Files.{FileState, contents_of}
 use Rattle.hb_set.specs.Machine.{RecordSet}
 use Rattle.hb_set.specs.Order.{IsLegalOrder, result_of}
 
 -- Under no number but those of the 19 actors anybody comes to stand.
 abbrev pub NobodyElseComes : Type 0
-NobodyElseComes = (m : Machine) (actor : ℕ) (outcome : Outcome) (new : Machine) → MayLatch actor → HasNobodyElse m → StepsTo m actor outcome new → HasNobodyElse new
+NobodyElseComes = (m : Machine) (actor : ℕ) (outcome : Outcome) (new : Machine) → IsActor actor → HasNobodyElse m → StepsTo m actor outcome new → HasNobodyElse new
 
 -- and under no other one a latch is taken.
 abbrev pub NobodyElseLatches : Type 0
-NobodyElseLatches = (m : Machine) (actor : ℕ) (outcome : Outcome) (new : Machine) → MayLatch actor → HasNoOtherLatches m → StepsTo m actor outcome new → HasNoOtherLatches new
+NobodyElseLatches = (m : Machine) (actor : ℕ) (outcome : Outcome) (new : Machine) → IsActor actor → HasNoOtherLatches m → StepsTo m actor outcome new → HasNoOtherLatches new
 
 -- After a step the page that a walk holds has the walk's point in its box, and the parent that a poster holds has a child
 -- leaf at the job's point. So it is over every disk.
 abbrev pub WalksStayInSpace : Type 0
-WalksStayInSpace = (m : Machine) (actor : ℕ) (outcome : Outcome) (new : Machine) → MayLatch actor → LatchesFit m → HoldsPagesOfFile m → HasNobodyElse m → WalksInSpace m →
+WalksStayInSpace = (m : Machine) (actor : ℕ) (outcome : Outcome) (new : Machine) → IsActor actor → LatchesFit m → HoldsPagesOfFile m → HasNobodyElse m → WalksInSpace m →
     StepsTo m actor outcome new → WalksInSpace new
 
 -- After a step a page that is to be split directly holds the point of its insert, without a record there and without room, and
 -- one of the two halves of a split directly holds it, without a record there and with room. So it is over every disk.
 abbrev pub RoomStaysKnown : Type 0
-RoomStaysKnown = (m : Machine) (actor : ℕ) (outcome : Outcome) (new : Machine) → MayLatch actor → LatchesFit m → HoldsPagesOfFile m → MetaWithinLimits m → HasNobodyElse m → KnowsRoom m →
+RoomStaysKnown = (m : Machine) (actor : ℕ) (outcome : Outcome) (new : Machine) → IsActor actor → LatchesFit m → HoldsPagesOfFile m → MetaWithinLimits m → HasNobodyElse m → KnowsRoom m →
     StepsTo m actor outcome new → KnowsRoom new
 
 -- A line is answered once its place in the order is settled, or outside of the order.
@@ -87,8 +87,8 @@ pub record HasKeptAll (n : RecordSet) (m new : Machine) (files : Files) : Type 0
   pub undamaged : IsUndamaged m → IsUndamaged new
 
 abbrev pub StepsKeepAll : Type 0
-StepsKeepAll = (n : RecordSet) (actors : List ℕ) (m : Machine) (files : Files) (new : Machine) → All MayLatch actors → CoreKeeps n m files → StepsInSequence actors m new → (files' : Files) × HasKeptAll n m new files'
+StepsKeepAll = (n : RecordSet) (actors : List ℕ) (m : Machine) (files : Files) (new : Machine) → All IsActor actors → CoreKeeps n m files → StepsInSequence actors m new → (files' : Files) × HasKeptAll n m new files'
 
 -- So they do from a beginning on.
 abbrev pub BegunKeepsAll : Type 0
-BegunKeepsAll = (s : FileState) (actors : List ℕ) (m new : Machine) → IsBegunOver m s → All MayLatch actors → StepsInSequence actors m new → (files : Files) × HasKeptAll (contents_of s) m new files
+BegunKeepsAll = (s : FileState) (actors : List ℕ) (m new : Machine) → IsBegunOver m s → All IsActor actors → StepsInSequence actors m new → (files : Files) × HasKeptAll (contents_of s) m new files

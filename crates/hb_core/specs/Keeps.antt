@@ -14,7 +14,8 @@ use Rattle.hb_core.specs.KeptMerges.{NamesKnown, merging_at}
 use Rattle.hb_core.specs.Machines.{Files, Machine, current_file, live_here}
 use Rattle.hb_core.specs.Performing.{latches_held, mode_among}
 use Rattle.hb_frag.specs.Leaves.{DirectlyHolds, weight_of}
-use Rattle.hb_latch.specs.Tables.{AreCompatible, MayLatch, mode_at}
+use Rattle.hb_latch.specs.Tables.{AreCompatible, mode_at}
+use Rattle.hb_space.specs.Actors.{IsActor}
 use Rattle.hb_layout.specs.Limits.{IsLayout}
 use Rattle.hb_ops.specs.Files.{page_of}
 use Rattle.hb_ops.specs.Recording.{put_page}
@@ -40,9 +41,9 @@ HoldsPagesOfFile m = (id : ℕ) (page : Page) → in_memory m.store id ≡ Some 
 -- go beside each other.
 pub record LatchesFit (m : Machine) : Type 0 where
   pub compatible : AreCompatible m.latches
-  pub exact : (actor page : ℕ) → MayLatch actor → mode_at m.latches actor page ≡ mode_among page (latches_held m.store (m.activity actor))
+  pub exact : (actor page : ℕ) → IsActor actor → mode_at m.latches actor page ≡ mode_among page (latches_held m.store (m.activity actor))
   pub used : (actor page : ℕ) (mode : Mode) → mode_at m.latches actor page ≡ Some mode → (live : LivePage) × (in_memory m.store page ≡ Some (Live live))
-  pub walking : (actor held : ℕ) → MayLatch actor → walk_held (m.activity actor) ≡ Some held → (live : LivePage) × (in_memory m.store held ≡ Some (Live live))
+  pub walking : (actor held : ℕ) → IsActor actor → walk_held (m.activity actor) ≡ Some held → (live : LivePage) × (in_memory m.store held ≡ Some (Live live))
 
 -- The page that a walk holds has the walk's point in its box, and its leaf there names the page to which the walk goes on. The
 -- parent that a poster holds is of the job's level, and
@@ -91,8 +92,8 @@ pub record KnowsRoom (m : Machine) : Type 0 where
 
 -- There are 19 actors: under every other number an idle session stands.
 abbrev pub HasNobodyElse : Machine → Type 0
-HasNobodyElse m = (actor : ℕ) → ¬ (MayLatch actor) → m.activity actor ≡ at.SessionIdle
+HasNobodyElse m = (actor : ℕ) → ¬ (IsActor actor) → m.activity actor ≡ at.SessionIdle
 
 -- And under no other number a latch is held.
 abbrev pub HasNoOtherLatches : Machine → Type 0
-HasNoOtherLatches m = (actor page : ℕ) → ¬ (MayLatch actor) → mode_at m.latches actor page ≡ None
+HasNoOtherLatches m = (actor page : ℕ) → ¬ (IsActor actor) → mode_at m.latches actor page ≡ None

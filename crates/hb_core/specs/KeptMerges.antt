@@ -9,7 +9,7 @@ use Rattle.hb_consol.specs.ConsolidatorRows.{names_child}
 use Rattle.hb_core.specs.Machines.{live_here}
 use Rattle.hb_frag.specs.Leaves.{leaves}
 use Rattle.hb_store.specs.States.{StoreState}
-use Rattle.hb_terms.specs.Merging.{GaveTo}
+use Rattle.hb_ops.specs.Merging.{GaveTo}
 
 -- The page to keep, where a consolidator holds it, and the page to go. `leaf` is the place of the sibling leaf that names the
 -- latter, while the pair is tried.

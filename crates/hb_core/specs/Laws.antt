@@ -15,7 +15,8 @@ use Rattle.hb_core.specs.Machines.{Files, Machine, current_file, live_here}
 use Rattle.hb_core.specs.Performing.{given_by}
 use Rattle.hb_core.specs.Stages.{HasMoreToFlush}
 use Rattle.hb_core.specs.Steps.{StepsTo}
-use Rattle.hb_latch.specs.Tables.{MayLatch, mode_at}
+use Rattle.hb_latch.specs.Tables.{mode_at}
+use Rattle.hb_space.specs.Actors.{IsActor}
 use Rattle.hb_ops.specs.Files.{FileState}
 use Rattle.hb_set.specs.Order.{Entry}
 use Rattle.hb_sound.specs.PointWalks.{HasWalk, IsPointOf, IsResponsible, LeadsFurther}
@@ -42,17 +43,17 @@ MayHaveLeft m id new = (¬ (MustStay m id)) × (in_memory new.store id ≡ None)
 
 -- A step changes no page in use but those that its actor has for itself. The page that it makes was in no use.
 abbrev pub OwnPagesChange : Type 0
-OwnPagesChange = (m : Machine) (actor : ℕ) (outcome : Outcome) (new : Machine) → MayLatch actor → LatchesFit m → HoldsPagesOfFile m → StepsTo m actor outcome new →
+OwnPagesChange = (m : Machine) (actor : ℕ) (outcome : Outcome) (new : Machine) → IsActor actor → LatchesFit m → HoldsPagesOfFile m → StepsTo m actor outcome new →
     (id : ℕ) (page : LivePage) → IsInUse m id page → IsInUse new id page ⊎ MayHaveLeft m id new ⊎ HasAlone m actor id
 
 -- So what another actor holds, in whatever mode, stays as it was.
 abbrev pub HeldPagesStay : Type 0
-HeldPagesStay = (m : Machine) (actor : ℕ) (outcome : Outcome) (new : Machine) → MayLatch actor → LatchesFit m → HoldsPagesOfFile m → StepsTo m actor outcome new →
+HeldPagesStay = (m : Machine) (actor : ℕ) (outcome : Outcome) (new : Machine) → IsActor actor → LatchesFit m → HoldsPagesOfFile m → StepsTo m actor outcome new →
     (other id : ℕ) (mode : Mode) (page : LivePage) → other ≢ actor → mode_at m.latches other id ≡ Some mode → IsInUse m id page → IsInUse new id page
 
 -- After a step each actor holds the latches of its activity, on pages in use, and latches on one page go beside each other.
 abbrev pub LatchesStayFit : Type 0
-LatchesStayFit = (m : Machine) (actor : ℕ) (outcome : Outcome) (new : Machine) → MayLatch actor → LatchesFit m → HoldsPagesOfFile m → StepsTo m actor outcome new → LatchesFit new
+LatchesStayFit = (m : Machine) (actor : ℕ) (outcome : Outcome) (new : Machine) → IsActor actor → LatchesFit m → HoldsPagesOfFile m → StepsTo m actor outcome new → LatchesFit new
 
 -- No other actor stands elsewhere after a step, or has other latches.
 abbrev pub OthersStay : Type 0

@@ -1,7 +1,8 @@
 -- What each step keeps over any disk, and what a body may know of a machine there, as laws.
 use Rattle.std.specs.Prelude.{◌≡◌, ◌⊎◌, ℕ, List, All, Some, None}
 use Rattle.hb_frag.specs.declared.pages.LivePage.{LivePage}
-use Rattle.hb_latch.specs.Tables.{MayLatch, mode_at}
+use Rattle.hb_latch.specs.Tables.{mode_at}
+use Rattle.hb_space.specs.Actors.{IsActor}
 use Rattle.hb_ops.specs.declared.operations.Op.{Op}
 use Rattle.hb_ops.specs.Operations.{OpHas}
 use Rattle.hb_activity.specs.declared.wanting.Wanted.{Wanted}
@@ -27,10 +28,10 @@ BoxLocksStayFit = (m : Machine) (actor : ℕ) (outcome : Outcome) (new : Machine
 
 -- Every step keeps it, and so does a list of steps.
 abbrev pub MachineStaysKept : Type 0
-MachineStaysKept = (m : Machine) (actor : ℕ) (outcome : Outcome) (new : Machine) → MayLatch actor → MachineKeeps m → StepsTo m actor outcome new → MachineKeeps new
+MachineStaysKept = (m : Machine) (actor : ℕ) (outcome : Outcome) (new : Machine) → IsActor actor → MachineKeeps m → StepsTo m actor outcome new → MachineKeeps new
 
 abbrev pub MachinesStayKept : Type 0
-MachinesStayKept = (actors : List ℕ) (m new : Machine) → All MayLatch actors → MachineKeeps m → StepsInSequence actors m new → MachineKeeps new
+MachinesStayKept = (actors : List ℕ) (m new : Machine) → All IsActor actors → MachineKeeps m → StepsInSequence actors m new → MachineKeeps new
 
 -- The operation of a row is allowed on the pages in memory and licensed by them, and its points and boxes have the file's number of
 -- attributes.
@@ -40,16 +41,16 @@ pub record MayBeDoneHere (st : StoreState) (op : Op) : Type 0 where
   pub attributes : OpHas st.meta.k op
 
 abbrev pub RowsMayBeDone : Type 0
-RowsMayBeDone = (m : Machine) (actor : ℕ) (fetched : StoreState) (deed : Deed) (op : Op) → MayLatch actor → MachineKeeps m → Brings m AnyPage fetched →
+RowsMayBeDone = (m : Machine) (actor : ℕ) (fetched : StoreState) (deed : Deed) (op : Op) → IsActor actor → MachineKeeps m → Brings m AnyPage fetched →
     Row (m.activity actor) (wanted_by m actor) (with_disk fetched m.files m.clock m) deed → deed.op ≡ Some op → MayBeDoneHere fetched op
 
 -- The page that a walk latches after one that it holds comes later: it is of a lower level, or of the same level with a smaller
 -- box. Any other page fails the test of level and box.
 abbrev pub WalksLeadOn : Type 0
-WalksLeadOn = (m : Machine) (actor : ℕ) (fetched : StoreState) (held : ℕ) (before : LivePage) (wanted : Wanted) (page : LivePage) → MayLatch actor → MachineKeeps m → Brings m AnyPage fetched →
+WalksLeadOn = (m : Machine) (actor : ℕ) (fetched : StoreState) (held : ℕ) (before : LivePage) (wanted : Wanted) (page : LivePage) → IsActor actor → MachineKeeps m → Brings m AnyPage fetched →
     walk_held (m.activity actor) ≡ Some held → live_here m.store held ≡ Some before → wanted_by m actor ≡ Some wanted → IsAtHand (with_disk fetched m.files m.clock m) (m.activity actor) wanted page → IsLater before page
 
 -- The page that a step latches is none that its actor holds, but for a promotion.
 abbrev pub NoPageIsLatchedTwice : Type 0
-NoPageIsLatchedTwice = (m : Machine) (actor : ℕ) (fetched : StoreState) (wanted : Wanted) (page : LivePage) → MayLatch actor → MachineKeeps m → Brings m AnyPage fetched → wanted_by m actor ≡ Some wanted →
+NoPageIsLatchedTwice = (m : Machine) (actor : ℕ) (fetched : StoreState) (wanted : Wanted) (page : LivePage) → IsActor actor → MachineKeeps m → Brings m AnyPage fetched → wanted_by m actor ≡ Some wanted →
     IsAtHand (with_disk fetched m.files m.clock m) (m.activity actor) wanted page → (mode_at m.latches actor wanted.page ≡ None) ⊎ Promotes (m.activity actor) wanted.page

@@ -1,6 +1,6 @@
 -- What a step does to the order, as laws.
 use Rattle.std.specs.Prelude.{◌≡◌, ℕ, [], ◌∷◌, ◌++◌, Some}
-use Rattle.hb_latch.specs.Tables.{MayLatch}
+use Rattle.hb_space.specs.Actors.{IsActor}
 use Rattle.hb_core.specs.declared.outcomes.Outcome.{Outcome}
 use Rattle.hb_core.specs.ContentsLaws.{contents_now}
 use Rattle.hb_core.specs.Keeps.{HasSoundFile}
@@ -21,7 +21,7 @@ SequenceStays = (m : Machine) (actor : ℕ) (outcome : Outcome) (new : Machine) 
 -- After a step each search has found exactly the records of the contents that its box holds and no remaining box does: nobody else
 -- changes a point of a box that is locked.
 abbrev pub SearchesStayExact : Type 0
-SearchesStayExact = (m : Machine) (files after : Files) (actor : ℕ) (outcome : Outcome) (new : Machine) → MayLatch actor → m.files ≡ Some files → MachineKeeps m → HasSoundFile m files →
+SearchesStayExact = (m : Machine) (files after : Files) (actor : ℕ) (outcome : Outcome) (new : Machine) → IsActor actor → m.files ≡ Some files → MachineKeeps m → HasSoundFile m files →
     SearchesAreExact m files → StepsTo m actor outcome new → new.files ≡ Some after → SearchesAreExact new after
 
 -- Where a search takes effect in a step, its reply is the machine's.

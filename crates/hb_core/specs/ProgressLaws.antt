@@ -1,6 +1,6 @@
 -- That somebody may always go on, as laws.
 use Rattle.std.specs.Prelude.{◌≡◌, ◌⊎◌, ℕ, false, Contains, None, IsSome}
-use Rattle.hb_latch.specs.Tables.{MayLatch}
+use Rattle.hb_space.specs.Actors.{IsActor}
 use Rattle.hb_set.specs.Machine.{RecordSet}
 use Rattle.hb_set.specs.declared.scripts.Line.{Line}
 use Rattle.hb_activity.specs.declared.jobs.Job.{Job}
@@ -27,7 +27,7 @@ abbrev pub HasSomethingLeft : Machine → Type 0
 HasSomethingLeft m =
     ((line : Line) × Contains m.lines line × (is_answered line.number m.answered ≡ false))
     ⊎ ((job : Job) × Contains m.jobs job)
-    ⊎ ((actor : ℕ) × MayLatch actor × (¬ (IsAtRest (m.activity actor))))
+    ⊎ ((actor : ℕ) × IsActor actor × (¬ (IsAtRest (m.activity actor))))
 
 -- what a step says that neither waits nor finds nothing to do
 abbrev pub GoesForward : Outcome → Type 0
@@ -40,7 +40,7 @@ GoesForward (outcomes.Dropped why) = Unit {0}
 GoesForward outcomes.Moved = Unit {0}
 
 pub record GoesOnNow (m : Machine) (actor : ℕ) : Type 0 where
-  pub may : MayLatch actor
+  pub may : IsActor actor
   pub to_do : HasToDo m actor
   pub forward : (outcome : Outcome) (new : Machine) → StepsTo m actor outcome new → GoesForward outcome
 

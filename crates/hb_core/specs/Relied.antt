@@ -2,7 +2,7 @@
 use Rattle.std.specs.Prelude.{◌≡◌, ℕ, ◌-◌, ◌≤◌, All, length, Option, Some, None, IsSome}
 use Rattle.std.specs.List.{slice_get}
 use Rattle.hb_disk.specs.Model.{DiskModel}
-use Rattle.hb_latch.specs.Tables.{MayLatch}
+use Rattle.hb_space.specs.Actors.{IsActor}
 use Rattle.hb_set.specs.declared.commands.Reply.{Reply}
 use Rattle.hb_activity.specs.declared.activities.Activity.{Activity}
 use Rattle.hb_activity.specs.declared.activities.Activity.TheVariants as at
@@ -21,18 +21,18 @@ use Rattle.hb_core.specs.Working.{HasCome, HasPages, IsWorking, MayStep, MayWork
 
 -- so many lines lie behind a session, and no more than there are; the boxes of lines and of locks have the file's attributes
 pub record MayTakeLine (c : RunningCore) (who : ℕ) : Type 0 where
-  pub actor : MayLatch who
+  pub actor : IsActor who
   pub boxes : HaveBoxes c.store.meta.k c.activities
   pub lines : All (LineFits c.store.meta.k) c.lines
   pub behind : (behind : ℕ) × (slice_get c.behind (who - 1) ≡ Some behind) × (behind ≤ length c.lines)
 
 -- a session awaits some place; or this one, in a machine that runs
 pub record AwaitsSomePlace (c : RunningCore) (who : ℕ) : Type 0 where
-  pub actor : MayLatch who
+  pub actor : IsActor who
   pub awaits : (number place : ℕ) × (reply : Reply) × StandsAs c who (at.SessionAwait number reply place)
 
 pub record MayAwait (d : DiskModel) (c : RunningCore) (who place : ℕ) : Type 0 where
-  pub actor : MayLatch who
+  pub actor : IsActor who
   pub may : (m : Machine) × MayStep d c m × (m.stop ≡ None)
   pub awaits : (number : ℕ) × (reply : Reply) × StandsAs c who (at.SessionAwait number reply place)
 
@@ -40,35 +40,35 @@ pub record MayAwait (d : DiskModel) (c : RunningCore) (who place : ℕ) : Type 0
 
 -- the actor is at work, in a machine that runs
 pub record IsAtWork (d : DiskModel) (c : RunningCore) (who : ℕ) : Type 0 where
-  pub actor : MayLatch who
+  pub actor : IsActor who
   pub may : (m : Machine) × MayStep d c m × (m.stop ≡ None) × IsWorking (m.activity who)
 
 -- the page into which its step looks is there
 pub record MayLookFor (c : RunningCore) (who : ℕ) : Type 0 where
-  pub actor : MayLatch who
+  pub actor : IsActor who
   pub look : (activity : Activity) → StandsAs c who activity → MayLook c.store activity
 
 -- its row may be done, and wants this page
 pub record MayDoRow (d : DiskModel) (c : RunningCore) (who : ℕ) (page : Option Wanted) : Type 0 where
-  pub actor : MayLatch who
+  pub actor : IsActor who
   pub may : (m : Machine) × MayStep d c m × MayWork m who
   pub wanted : (m : Machine) → MayStep d c m → page ≡ wanted_by m who
 
 -- that page is in memory, and is to be tested
 pub record MayTest (c : RunningCore) (who : ℕ) (wanted : Wanted) : Type 0 where
-  pub actor : MayLatch who
+  pub actor : IsActor who
   pub there : IsSome (in_memory c.store wanted.page)
   pub working : (activity : Activity) → StandsAs c who activity → IsWorking activity
   pub look : (activity : Activity) → StandsAs c who activity → MayLook c.store activity
 
 -- it passed, and a number may be needed
 pub record MayNumber (d : DiskModel) (c : RunningCore) (who : ℕ) (page : Option Wanted) : Type 0 where
-  pub actor : MayLatch who
+  pub actor : IsActor who
   pub come : (m : Machine) × HasCome m who d c
   pub wanted : (m : Machine) → HasCome m who d c → page ≡ wanted_by m who
 
 -- so is the number, and the decider may be asked
 pub record MayDecide (d : DiskModel) (c : RunningCore) (who : ℕ) (page : Option Wanted) (free : Option (ℕ × ℕ)) : Type 0 where
-  pub actor : MayLatch who
+  pub actor : IsActor who
   pub pages : (m : Machine) × HasPages m who free d c
   pub wanted : (m : Machine) → HasPages m who free d c → page ≡ wanted_by m who

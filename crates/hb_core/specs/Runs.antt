@@ -2,7 +2,7 @@
 use Rattle.std.specs.Prelude.{◌≡◌, ℕ, ◌+◌, ◌≤◌, Bool, not, All, Any, List, ◌++◌, count_by, filter, length, map, take, Option, Some, IsSome}
 use Rattle.hb_disk.specs.Calls.{Becomes, Leaves}
 use Rattle.hb_disk.specs.Model.{DiskModel, Torn}
-use Rattle.hb_latch.specs.Tables.{MayLatch}
+use Rattle.hb_space.specs.Actors.{IsActor}
 use Rattle.hb_ops.specs.Files.{FileState, contents_of}
 use Rattle.hb_ops.specs.Sound.{IsSound}
 use Rattle.hb_outside.specs.Streams.{Rose}
@@ -82,7 +82,7 @@ pub record CountsFaults (d e : DiskModel) (answers : List Answered) (before afte
 -- machine that keeps all that it should there, crashes leave prefixes.
 pub record HasRun (d : DiskModel) (m : Machine) (actors : List ℕ) (answers : List Answered) (e : DiskModel) (c : RunningCore) : Type 0 where
   pub new : Machine
-  pub may : All MayLatch actors
+  pub may : All IsActor actors
   pub steps : StepsInSequence actors m new
   pub shows : ShowsMachine e c new
   pub goes_on : MayGoOn new

@@ -2,7 +2,8 @@
 use Rattle.std.specs.Prelude.{◌≡◌, ◌≢◌, ◌⊎◌, ℕ, ◌-◌, ◌≤◌, All, List, ◌++◌, map, take, drop, length, Option, Some, None, IsSome}
 use Rattle.std.specs.List.{slice_get}
 use Rattle.hb_disk.specs.Model.{DiskModel}
-use Rattle.hb_latch.specs.Tables.{LatchTable, MayLatch}
+use Rattle.hb_latch.specs.Tables.{LatchTable}
+use Rattle.hb_space.specs.Actors.{IsActor}
 use Rattle.hb_set.specs.declared.scripts.Line.{Line}
 use Rattle.hb_set.specs.declared.scripts.Answered.{Answered}
 use Rattle.hb_activity.specs.declared.jobs.Job.{Job}
@@ -69,7 +70,7 @@ pub record ShowsMachine (d : DiskModel) (c : RunningCore) (m : Machine) : Type 0
   pub sessions : length c.behind ≡ 16
   pub turns : (session behind : ℕ) → 1 ≤ session → session ≤ 16 → slice_get c.behind (session - 1) ≡ Some behind → HasTurn m session behind
   pub all_actors : length c.activities ≡ 19
-  pub activities : (actor : ℕ) → MayLatch actor → slice_get c.activities (actor - 1) ≡ Some (m.activity actor)
+  pub activities : (actor : ℕ) → IsActor actor → slice_get c.activities (actor - 1) ≡ Some (m.activity actor)
   pub nobody_else : HasNobodyElse m
   pub latches : m.latches ≡ c.latches
   pub jobs : m.jobs ≡ c.jobs

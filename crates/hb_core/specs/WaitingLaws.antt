@@ -13,7 +13,8 @@ use Rattle.hb_core.specs.Keeps.{HasNoOtherLatches, HasNobodyElse, HasSoundFile, 
 use Rattle.hb_core.specs.Locking.{AwaitsBox}
 use Rattle.hb_core.specs.Machines.{Files, Machine, current_file}
 use Rattle.hb_core.specs.SteppingLaws.{IsAtRest}
-use Rattle.hb_latch.specs.Tables.{MayLatch, mode_at}
+use Rattle.hb_latch.specs.Tables.{mode_at}
+use Rattle.hb_space.specs.Actors.{IsActor}
 use Rattle.hb_ops.specs.Files.{FileState, live_page}
 use Rattle.hb_point.specs.SessionRows.{next_line}
 
@@ -40,7 +41,7 @@ pub record WantsItsOwn (m : Machine) (actor id : ℕ) (mode : Mode) (wanted : Wa
 -- The page that a step wants comes later than each page that its actor holds, but for a promotion, whose actor holds that one
 -- page alone.
 abbrev pub WantedComesLater : Type 0
-WantedComesLater = (m : Machine) (files : Files) (actor id : ℕ) (mode : Mode) (wanted : Wanted) → MayLatch actor → LatchesFit m → HasSoundFile m files → WalksInSpace m →
+WantedComesLater = (m : Machine) (files : Files) (actor id : ℕ) (mode : Mode) (wanted : Wanted) → IsActor actor → LatchesFit m → HasSoundFile m files → WalksInSpace m →
     wanted_by m actor ≡ Some wanted → mode_at m.latches actor id ≡ Some mode → ComesLater (current_file files) id wanted.page ⊎ WantsItsOwn m actor id mode wanted
 
 -- An actor waits for another one, for its latch on a page or for its box; and so on, to the last.
@@ -57,7 +58,7 @@ NobodyWaitsInACircle = (m : Machine) (files : Files) (actor : ℕ) (rest : List 
 
 -- Where an actor is at work, not every actor at work is kept waiting.
 abbrev pub IsAtWork : Machine → ℕ → Type 0
-IsAtWork m actor = MayLatch actor × (¬ (IsAtRest (m.activity actor)))
+IsAtWork m actor = IsActor actor × (¬ (IsAtRest (m.activity actor)))
 
 abbrev pub IsKeptWaiting : Machine → ℕ → Type 0
 IsKeptWaiting m actor = (by : ℕ) × IsInTheWay m actor by

@@ -1,7 +1,8 @@
 //! How a core does what its deciders say: latches, the queue, the order, and what becomes of the line in hand.
 ghost use Rattle.std.specs.Prelude.{◌≡◌, ℕ, ◌<◌, ◌≤◌, ◌^◌, ◌++◌, length, take, drop, Some, None, IsSome, IfSome, IfOk, IfErr, IsErr, OnOk, OnErr};
 ghost use Rattle.std.specs.FinMap as map;
-ghost use Rattle.hb_latch.specs.Tables.{IsGrantable, MayLatch, latches_of, mode_at};
+ghost use Rattle.hb_latch.specs.Tables.{IsGrantable, latches_of, mode_at};
+ghost use Rattle.hb_space.specs.Actors.{IsActor};
 ghost use Rattle.hb_activity.specs.Classes.{class_of, hand_of};
 ghost use Rattle.hb_activity.specs.Deciding.{deed_of};
 ghost use Rattle.hb_activity.specs.Queue.{AddsJobs};
@@ -153,7 +154,7 @@ impl<D: Device> Core<D> {
 
     /// What the actor has in hand is given up: a line is answered outside the order, and a job is dropped.
     pub(crate) fn give_up(&mut self, actor: Actor, line: Option<u32>, why: DropWhy) -> Outcome
-        requires actor { MayLatch actor }
+        requires actor { IsActor actor }
         ensures { Alters (λ c after. (state : _) → IsWorking state → class_of state ≡ class_for actor → line ≡ number_of (hand_of state) →
             DoesDeed actor (gives_up why state) result c after) self.old self.new }
     {
@@ -169,7 +170,7 @@ impl<D: Device> Core<D> {
 
     /// The log has no room, and nothing is left to flush: the line is `full`, and a job is dropped.
     pub(crate) fn run_out(&mut self, actor: Actor) -> Outcome
-        requires actor { MayLatch actor }
+        requires actor { IsActor actor }
         ensures { Alters (λ c after. (state : _) → StandsAs c actor state → IsWorking state → class_of state ≡ class_for actor →
             DoesDeed actor (runs_out state) result c after) self.old self.new }
     {
@@ -187,7 +188,7 @@ impl<D: Device> Core<D> {
 
 /// Takes a latch that nobody is in the way of.
 fn take(latches: &mut Latches, actor: Actor, latch: Latch)
-    requires actor { MayLatch actor }
+    requires actor { IsActor actor }
     requires few { latches_of latches.old actor < 3 }
     requires absent { mode_at latches.old actor latch.page ≡ None }
     requires free { IsGrantable latches.old actor latch.page latch.mode }

@@ -1,7 +1,7 @@
 //! A core that has taken no step, and what can be read of a core.
 ghost use Rattle.std.specs.Prelude.{◌≡◌, ◌↔◌, ◌<◌, ◌≤◌, ◌+◌, ◌^◌, ◌++◌, length, count_by, vec_capacity, IfOk, IfErr, IsSome, IsTrue, Some, None, [], ◌∷◌, replicate, if◌then◌else◌};
 ghost use Rattle.std.specs.List.{slice_get};
-ghost use Rattle.hb_latch.specs.Tables.{MayLatch};
+ghost use Rattle.hb_space.specs.Actors.{IsActor};
 ghost use Rattle.hb_store.specs.Seen.{seen_as, disk_of};
 ghost use Rattle.hb_ops.specs.Given.{given as live_given};
 ghost use Rattle.hb_wal.specs.Log.{mark_of};
@@ -200,7 +200,7 @@ impl<D: Device> Core<D> {
 
     /// Where the actor stands.
     pub(crate) fn activity(&self, actor: Actor) -> &Activity
-        requires actor { MayLatch actor }
+        requires actor { IsActor actor }
         ensures { StandsAs (core_seen self.now) actor result.now }
     {
         &self.activities.as_slice()[usize::from(actor) - 1]
@@ -208,7 +208,7 @@ impl<D: Device> Core<D> {
 
     /// The number of the line that the actor has in hand.
     pub(crate) fn line_in_hand(&self, actor: Actor) -> Option<u32>
-        requires actor { MayLatch actor }
+        requires actor { IsActor actor }
         ensures { (activity : _) → StandsAs (core_seen self.now) actor activity → result ≡ number_in_hand activity }
     {
         match self.activity(actor) {
@@ -250,7 +250,7 @@ fn is_number(hand: Option<u32>, number: u32) -> bool
 /// Who works off the jobs of the kind.
 fn worker_for(kind: JobKind) -> Actor
     ensures value { result ≡ worker_for kind }
-    ensures may { MayLatch result }
+    ensures may { IsActor result }
 {
     match kind {
         JobKind::Post => POSTER,

@@ -1,7 +1,7 @@
 //! One step of an actor.
 ghost use Rattle.std.specs.Prelude.{◌≡◌, ◌-◌, ◌==◌, ℕ, Some, None, IfOk, OnErr};
 ghost use Rattle.std.specs.List.{position, slice_get, slice_set};
-ghost use Rattle.hb_latch.specs.Tables.{MayLatch};
+ghost use Rattle.hb_space.specs.Actors.{IsActor};
 ghost use Rattle.hb_activity.specs.declared.activities.Activity.TheVariants as at;
 ghost use Rattle.hb_core.specs.declared.outcomes.Outcome.TheVariants as outcomes;
 ghost use Rattle.hb_core.specs.CoreSeen.{core_seen, core_disk, Alters, Becomes};
@@ -35,7 +35,7 @@ impl<D: Device> Core<D> {
     /// For each machine that the core shows there is a step of the table that leads to a machine which it shows then, and says
     /// what the call answers.
     pub fn step(&mut self, actor: Actor) -> Outcome
-        requires actor { MayLatch actor }
+        requires actor { IsActor actor }
         requires may { (m : Machine) × MayStep (D.model (core_disk self.old)) (core_seen self.old) m }
         ensures steps { (m : Machine) → MayStep (D.model (core_disk self.old)) (core_seen self.old) m →
             (new : Machine) × StepsTo m actor result new × ShowsMachine (D.model (core_disk self.new)) (core_seen self.new) new }
@@ -97,7 +97,7 @@ impl<D: Device> Core<D> {
 
     /// So many lines lie behind the session from now on.
     fn go_behind(&mut self, actor: Actor, behind: usize)
-        requires actor { MayLatch actor }
+        requires actor { IsActor actor }
         requires session { (before : ℕ) × (slice_get (core_seen self.old).behind (actor - 1) ≡ Some before) }
         ensures { Becomes (λ c. record c { behind = slice_set c.behind (actor - 1) behind }) self.old self.new }
     {
@@ -106,7 +106,7 @@ impl<D: Device> Core<D> {
 
     /// The poster takes its oldest job, where one waits.
     fn take_posting(&mut self, actor: Actor) -> Outcome
-        requires actor { MayLatch actor }
+        requires actor { IsActor actor }
         ensures { Alters (TakesNextPosting actor result) self.old self.new }
     {
         let Some(job) = self.jobs.take(JobKind::Post) else {
@@ -173,7 +173,7 @@ impl<D: Device> Core<D> {
 
     /// The actor stands elsewhere. What it stood as before is given back.
     pub(crate) fn replace(&mut self, actor: Actor, next: Activity) -> Activity
-        requires actor { MayLatch actor }
+        requires actor { IsActor actor }
         ensures old { StandsAs (core_seen self.old) actor result }
         ensures new { Becomes (with_standing actor next) self.old self.new }
     {

@@ -3,7 +3,7 @@ use Rattle.std.proofs.Common.{◌≡◌, ℕ, ◌+◌, ◌<◌, ◌≤◌, List,
 use Rattle.std.proofs.lemmas.List.{length-map, take_more}
 use Rattle.std.proofs.lemmas.List.Sums.{count_by-le-length}
 use Rattle.hb_disk.specs.Model.{DiskModel, IsDisk}
-use Rattle.hb_latch.specs.Tables.{MayLatch}
+use Rattle.hb_space.specs.Actors.{IsActor}
 use Rattle.hb_set.specs.declared.scripts.Answered.{Answered}
 use Rattle.hb_set.specs.declared.scripts.Line.{Line}
 use Rattle.hb_core.specs.declared.outcomes.Outcome.{Outcome}
@@ -53,7 +53,7 @@ order_is_short d c m limit may few =
 pub record TookStep (e : DiskModel) (old : RunningCore) (actor : ℕ) (outcome : Outcome) (at : ℕ) (f : DiskModel) (new : RunningCore) : Type 0 where
   pub disk : IsDisk e
   pub disk_next : IsDisk f
-  pub may : MayLatch actor
+  pub may : IsActor actor
   pub steps : (m : Machine) → MayStep e old m → (next : Machine) × StepsTo m actor outcome next × ShowsMachine f new next
   pub touches : Touches e old outcome f new
   pub clock : IsSome f.told → at ≡ f.clock

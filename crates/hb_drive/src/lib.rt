@@ -8,7 +8,7 @@
 #![tactic(auto)]
 
 ghost use Rattle.std.specs.Prelude.{◌≡◌, ◌≢◌, ◌≤◌, [], All, IfOk, length, vec_capacity};
-ghost use Rattle.hb_latch.specs.Tables.{MayLatch};
+ghost use Rattle.hb_space.specs.Actors.{IsActor};
 ghost use Rattle.hb_core.specs.declared.endings.End.TheVariants as ends;
 ghost use Rattle.hb_core.specs.CoreSeen.{core_seen, core_disk};
 ghost use Rattle.hb_core.specs.Machines.{Machine};
@@ -35,7 +35,7 @@ use writing::put_rest;
 /// For want of memory, which is asked for before the first step alone, no step is taken and nothing is written.
 pub fn drive<D: Disk, K: Sink>(alloc: Global, mut core: Core<D>, mut sink: K) -> Ran<D, K>
     requires may { (m : Machine) × MayStep (D.model (core_disk core)) (core_seen core) m }
-    requires actors { All MayLatch (core_seen core).steps }
+    requires actors { All IsActor (core_seen core).steps }
     ensures unbegun { result.end ≡ ends.NoMemory → (core_seen result.core ≡ core_seen core) × (core_disk result.core ≡ core_disk core) × (result.sink ≡ sink) × (result.answered.items ≡ []) }
     ensures drives { result.end ≢ ends.NoMemory → (m : Machine) → MayStep (D.model (core_disk core)) (core_seen core) m →
         DrivesTo m (core_seen core).steps result.answered.items (D.model (core_disk core)) (D.model (core_disk result.core)) (core_seen result.core) result.end (K.model sink) (K.model result.sink) }

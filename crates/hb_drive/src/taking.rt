@@ -1,7 +1,7 @@
 //! The steps of a schedule, and the answers that come of them.
 ghost use Rattle.std.specs.Prelude.{◌≡◌, ◌+◌, ◌≤◌, [], ◌++◌, All, length, vec_len, vec_capacity};
 ghost use Rattle.std.specs.List.{flat_map};
-ghost use Rattle.hb_latch.specs.Tables.{MayLatch};
+ghost use Rattle.hb_space.specs.Actors.{IsActor};
 ghost use Rattle.hb_outside.specs.Calls.{Puts, PutsOn};
 ghost use Rattle.hb_text.specs.Output.{answer_text};
 ghost use Rattle.hb_core.specs.CoreSeen.{core_seen, core_disk};
@@ -27,7 +27,7 @@ pub(crate) fn take_steps<D: Disk, K: Sink>(
     answered: &mut Vec<Answered>,
 ) -> Result<(), Failed>
     requires may { (m : Machine) × MayStep (D.model (core_disk core.old)) (core_seen core.old) m }
-    requires actors { All MayLatch steps.now }
+    requires actors { All IsActor steps.now }
     requires none { answered.old.items ≡ [] }
     requires room { length (core_seen core.old).lines ≤ vec_capacity answered.old }
     ensures runs { (m : Machine) → MayStep (D.model (core_disk core.old)) (core_seen core.old) m →

@@ -3,8 +3,9 @@ use Rattle.std.specs.Prelude.{◌≡◌, ◌↔◌, ℕ, if◌then◌else◌, Li
 use Rattle.hb_space.specs.Boxes.{Area, IsArea, Holds, holds}
 use Rattle.hb_frag.specs.declared.leaves.Leaf.{Leaf}
 use Rattle.hb_frag.specs.declared.paths.Side.{Side}
+use Rattle.hb_frag.specs.declared.leaves.Leaf.TheVariants.{Sibling}
 use Rattle.hb_frag.specs.Trees.{Tree, Tip}
-use Rattle.hb_frag.specs.Leaves.{Placed, IsWellCut, first_at, leaves_of, with_leaf_at}
+use Rattle.hb_frag.specs.Leaves.{Placed, IsWellCut, first_at, first_named, leaves_of, siblings, with_leaf_at}
 use Rattle.hb_frag.specs.Paths.{part_at, with_part, way_to}
 
 -- a leaf with a change made where its box holds the point
@@ -33,3 +34,9 @@ pub record IsPart (path : List Side) (t : Tree) (area : Area) (part : Tree × Ar
   pub inside : (p : List ℕ) → Holds part.1 p → Holds area p
   pub again : (other : Tree) → part_at path (with_part path t other) area ≡ Some (other, part.1)
   pub cuts : (other : Tree) → IsWellCut (with_part path t other) area ↔ IsWellCut other part.1
+
+-- The path leads to a sibling leaf to this page, and its box is that of the first such leaf from the left.
+pub record IsWayToSibling (id : ℕ) (t : Tree) (area : Area) (way : List Side) : Type 0 where
+  pub box : Area
+  pub part : part_at way t area ≡ Some (Tip (Sibling id), box)
+  pub first : first_named id (siblings (leaves_of t area)) ≡ Some box

@@ -8,5 +8,6 @@ pub mod Grammar
 pub mod Laws
 pub mod Carving
 pub mod Normal
+pub mod Renaming
 pub mod CarvingLaws
 pub mod NormalLaws

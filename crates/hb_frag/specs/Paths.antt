@@ -1,6 +1,9 @@
 -- Parts of a tree, by the path that leads to them from the root.
-use Rattle.std.specs.Prelude.{ℕ, nat_lt, if◌then◌else◌, List, [], ◌∷◌, slice_index, Option, Some, None}
+use Rattle.std.specs.Prelude.{◌≡◌, ℕ, ◌==◌, nat_lt, if◌then◌else◌, Bool, true, false, List, [], ◌∷◌, ◌++◌, slice_index, Option, Some, None}
+use Rattle.std.specs.Option.{option_map}
 use Rattle.hb_space.specs.Boxes.{Area, side_below, side_from}
+use Rattle.hb_frag.specs.declared.leaves.Leaf.{Leaf}
+use Rattle.hb_frag.specs.declared.leaves.Leaf.TheVariants.{Records, Child, Sibling}
 use Rattle.hb_frag.specs.declared.paths.Side.{Side}
 use Rattle.hb_frag.specs.declared.paths.Side.TheVariants.{Left, Right}
 use Rattle.hb_frag.specs.Trees.{Tree, Tip, Cut}
@@ -30,3 +33,22 @@ StaysInside [] tree = Unit {0}
 StaysInside (Left ∷ path) (Cut axis value left right) = StaysInside path left
 StaysInside (Right ∷ path) (Cut axis value left right) = StaysInside path right
 StaysInside (side ∷ path) (Tip leaf) = ⊥
+
+-- The path to the first sibling leaf from the left that names a page. None where there is none.
+abbrev pub sibling_way : ℕ → Tree → Option (List Side)
+sibling_way id (Tip leaf) = here leaf
+  where
+    here : Leaf → Option (List Side)
+    here (Records records) = None
+    here (Child page) = None
+    here (Sibling page) = if page == id then Some [] else None
+sibling_way id (Cut axis value left right) = first_way (sibling_way id left) (sibling_way id right)
+  where
+    first_way : Option (List Side) → Option (List Side) → Option (List Side)
+    first_way (Some way) other = Some (Left ∷ way)
+    first_way None other = option_map (λ way. Right ∷ way) other
+
+-- Steps are added that lead somewhere, where some do; else none are.
+abbrev pub TracesTo : Option (List Side) → List Side → List Side → Bool → Type 0
+TracesTo (Some way) old new found = (found ≡ true) × (new ≡ old ++ way)
+TracesTo None old new found = (found ≡ false) × (new ≡ old)

@@ -3,7 +3,8 @@ ghost use Rattle.std.specs.List.{Contains};
 ghost use Rattle.hb_space.specs.Boxes.{Holds, Meets};
 ghost use Rattle.hb_frag.specs.Trees.{Tip, Cut};
 ghost use Rattle.hb_frag.specs.Leaves.{IsWellCut, first_at, leaves_of, leaves, child_names, with_names, first_named, siblings, weight_of};
-ghost use Rattle.hb_frag.specs.Paths.{part_at, with_part, way_to, StaysInside};
+ghost use Rattle.hb_frag.specs.Paths.{part_at, with_part, way_to, sibling_way, StaysInside, TracesTo};
+ghost use Rattle.hb_frag.specs.Renaming.{renamed};
 
 use crate::{Leaf, Pages, Path, Side};
 use hb_space::{Area, NoMemory, Point};
@@ -222,6 +223,29 @@ impl Frag {
         }
     }
 
+    /// Adds the steps to the first sibling leaf from the left that names the page. Where none does, it
+    /// adds no step and tells so.
+    pub(crate) fn trace_sibling(&self, id: u32, path: &mut Path) -> Result<bool, NoMemory>
+        ensures { IfOk result (λ found. TracesTo (sibling_way id self.now) path.old path.new found) }
+    {
+        match &self.node {
+            Node::Tip(leaf) => Ok(leaf.is_sibling(id)),
+            Node::Cut { left, right, .. } => {
+                path.push(Side::Left)?;
+                if left.trace_sibling(id, path)? {
+                    return Ok(true);
+                }
+                path.pop();
+                path.push(Side::Right)?;
+                if right.trace_sibling(id, path)? {
+                    return Ok(true);
+                }
+                path.pop();
+                Ok(false)
+            }
+        }
+    }
+
     /// Whether no sibling leaf's box meets the box `a`, in a part with the box `area`.
     pub(crate) fn is_clear_of(&self, area: Area, a: &Area) -> bool
         requires well_cut { IsWellCut self.now area }
@@ -301,6 +325,25 @@ impl Frag {
             } => {
                 let left = Box::new(alloc, left.copy(alloc)?)?;
                 let right = Box::new(alloc, right.copy(alloc)?)?;
+                Ok(Frag::cut(*axis, *value, left, right))
+            }
+        }
+    }
+
+    /// The same part once more, but with `new` in the place of `old` in the child leaves that name it.
+    pub fn copy_renamed(&self, alloc: Global, old: u32, new: u32) -> Result<Frag, NoMemory>
+        ensures { IfOk result (λ frag. frag ≡ renamed old new self.now) }
+    {
+        match &self.node {
+            Node::Tip(leaf) => Ok(Frag::tip(leaf.copy_renamed(alloc, old, new)?)),
+            Node::Cut {
+                axis,
+                value,
+                left,
+                right,
+            } => {
+                let left = Box::new(alloc, left.copy_renamed(alloc, old, new)?)?;
+                let right = Box::new(alloc, right.copy_renamed(alloc, old, new)?)?;
                 Ok(Frag::cut(*axis, *value, left, right))
             }
         }

@@ -1,7 +1,7 @@
 //! What follows of pages from their definitions alone. Each law is the contract of a function
 //! that does nothing: a caller learns it by the call.
 
-ghost use Rattle.std.specs.Prelude.{◌≡◌, ◌≢◌, ◌≤◌, ◌↔◌, ◌+◌, ◌*◌, ℕ, List, [], length, map, All, Any, AllPairs, Some, IsSome};
+ghost use Rattle.std.specs.Prelude.{◌≡◌, ◌≢◌, ◌≤◌, ◌↔◌, ◌+◌, ◌*◌, ℕ, List, [], length, map, All, Any, AllPairs, Some, None, IsSome};
 ghost use Rattle.std.specs.List.{Contains};
 ghost use Rattle.std.specs.List.Sorted.{IsPermutation, IsSortedByKey, IsStableByKey};
 ghost use Rattle.hb_space.specs.Points.{point_cmp};
@@ -11,9 +11,10 @@ ghost use Rattle.hb_frag.specs.declared.pages.LivePage.{LivePage as OnePage};
 ghost use Rattle.hb_frag.specs.declared.leaves.Leaf.{Leaf as OneLeaf};
 ghost use Rattle.hb_frag.specs.declared.paths.Side.{Side as Step};
 ghost use Rattle.hb_frag.specs.Trees.{Tree, Tip};
-ghost use Rattle.hb_frag.specs.Leaves.{Placed, IsWellCut, first_at, leaves_of, leaves, siblings, with_leaf_at, weight_of, DirectlyHolds, DirectlyCovers, WellCut};
-ghost use Rattle.hb_frag.specs.Paths.{part_at, with_part, StaysInside};
-ghost use Rattle.hb_frag.specs.Laws.{changed_at, LeadsTo, IsStretch, IsPart};
+ghost use Rattle.hb_frag.specs.Leaves.{Placed, IsWellCut, first_at, first_named, leaves_of, leaves, siblings, with_leaf_at, weight_of, DirectlyHolds, DirectlyCovers, WellCut};
+ghost use Rattle.hb_frag.specs.Paths.{part_at, with_part, sibling_way, StaysInside};
+ghost use Rattle.hb_frag.specs.Laws.{changed_at, LeadsTo, IsStretch, IsPart, IsWayToSibling};
+ghost use Rattle.hb_frag.specs.Renaming.{Renames};
 ghost use Rattle.hb_frag.specs.Rules.{IsNormal};
 ghost use Rattle.hb_frag.specs.Carving.{carved};
 ghost use Rattle.hb_frag.specs.CarvingLaws.{Carves};
@@ -130,4 +131,19 @@ pub fn a_carved_leaf_joins_others_only_whole()
         weight_of t ≤ capacity →
         (weight_of (normal (with_part path t (carved leaf area outer inner))) ≤ capacity)
         ↔ (weight_of t + weight_of (carved leaf area outer inner) ≤ capacity + 1) }
+{}
+
+/// The path to the first sibling leaf that names a page leads there, and there is one where a sibling
+/// leaf names the page.
+pub fn ways_lead_to_siblings()
+    ensures leads { (id : ℕ) (t : Tree) (a : Area) (way : List Step) →
+        sibling_way id t ≡ Some way → IsWayToSibling id t a way }
+    ensures none { (id : ℕ) (t : Tree) (a : Area) →
+        sibling_way id t ≡ None → first_named id (siblings (leaves_of t a)) ≡ None }
+{}
+
+/// Where a page takes another one's place in child leaves, the boxes, the cuts, the sibling leaves and
+/// the weight stay as they are.
+pub fn renaming_changes_names_alone()
+    ensures { (old new : ℕ) (t : Tree) → Renames old new t }
 {}

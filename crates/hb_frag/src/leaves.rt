@@ -1,6 +1,7 @@
 ghost use Rattle.std.specs.Prelude.{◌≡◌, ◌-◌, ◌<◌, ◌^◌, min, ◌↔◌, [], ◌∷◌, length, All, IfOk, IsTrue, OnOk};
 ghost use Rattle.hb_space.specs.Boxes.{Meets};
 ghost use Rattle.hb_frag.specs.Leaves.{leaf_weight, child_names, with_names, first_named, siblings};
+ghost use Rattle.hb_frag.specs.Renaming.{renamed_leaf};
 
 use crate::Pages;
 use crate::records::copies;
@@ -55,6 +56,27 @@ impl Leaf {
             Leaf::Records(records) => Ok(Leaf::Records(copies(alloc, records)?)),
             Leaf::Child(page) => Ok(Leaf::Child(*page)),
             Leaf::Sibling(page) => Ok(Leaf::Sibling(*page)),
+        }
+    }
+
+    /// The same leaf once more, but with `new` in the place of `old` where it is a child leaf that names it.
+    pub(crate) fn copy_renamed(&self, alloc: Global, old: u32, new: u32) -> Result<Leaf, NoMemory>
+        ensures { IfOk result (λ leaf. leaf ≡ renamed_leaf old new self.now) }
+    {
+        match self {
+            Leaf::Child(page) if *page == old => Ok(Leaf::Child(new)),
+            Leaf::Child(page) => Ok(Leaf::Child(*page)),
+            Leaf::Records(_) | Leaf::Sibling(_) => self.copy(alloc),
+        }
+    }
+
+    /// Whether it is the sibling leaf that names the page.
+    pub(crate) fn is_sibling(&self, id: u32) -> bool
+        ensures { IsTrue result ↔ (self.now ≡ Leaf.Sibling id) }
+    {
+        match self {
+            Leaf::Sibling(page) => *page == id,
+            Leaf::Records(_) | Leaf::Child(_) => false,
         }
     }
 

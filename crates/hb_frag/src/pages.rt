@@ -3,7 +3,7 @@ ghost use Rattle.std.specs.List.{Contains};
 ghost use Rattle.hb_space.specs.Boxes.{IsArea, Holds};
 ghost use Rattle.hb_frag.specs.Trees.{Tip};
 ghost use Rattle.hb_frag.specs.Leaves.{Placed, leaf_at, with_leaf_at, leaves, child_names, firsts, first_named, siblings_of, weight_of, DirectlyCovers, WellCut};
-ghost use Rattle.hb_frag.specs.Paths.{part_at, with_part, way_to, StaysInside};
+ghost use Rattle.hb_frag.specs.Paths.{part_at, with_part, way_to, sibling_way, StaysInside};
 
 use crate::{Frag, Leaf, Pages, Path};
 use hb_space::{Area, NoMemory, Point};
@@ -115,6 +115,18 @@ impl LivePage {
         ensures found { IsSome result ↔ Any (λ s. s.0 ≡ id) (siblings_of self.now) }
     {
         self.frag.sibling_area(self.area.copy(), id)
+    }
+
+    /// The path to the first sibling leaf from the left that names the page. `None` where none does.
+    pub fn sibling_path(&self, alloc: Global, id: u32) -> Result<Option<Path>, NoMemory>
+        ensures { IfOk result (λ path. path ≡ sibling_way id self.now.frag) }
+    {
+        let mut path = Path::new(SmallVec::new(alloc));
+        if self.frag.trace_sibling(id, &mut path)? {
+            Ok(Some(path))
+        } else {
+            Ok(None)
+        }
     }
 
     /// Whether the page directly holds the box: it lies in the page's and meets no sibling

@@ -58,4 +58,12 @@ impl Path {
     {
         Ok(self.steps.push(side)?)
     }
+
+    /// Takes the last step away.
+    pub(crate) fn pop(&mut self)
+        requires { (front : List Side) × (side : Side) × (self.old ≡ front ++ side ∷ []) }
+        ensures { (front : List Side) (side : Side) → self.old ≡ front ++ side ∷ [] → self.new ≡ front }
+    {
+        self.steps.pop();
+    }
 }

@@ -6,19 +6,19 @@ use Rattle.std.proofs.lemmas.Bool.Decides.{Decides-eqb}
 use Rattle.std.proofs.lemmas.List.Elements.{All-append, All-take, All-drop, All-cons, All-set}
 use Rattle.std.proofs.lemmas.List.Sums.{sum_by-insert, sum_by-remove, sum_by-set}
 use Rattle.hb_latch.specs.declared.entries.Held.{Held}
-use Rattle.hb_latch.specs.Tables.{MayLatch}
+use Rattle.hb_space.specs.Actors.{IsActor}
 use Rattle.hb_latch.specs.Entries.{key_of, IsKept, IsHeldAt, IsGapOf}
 use Rattle.hb_latch.proofs.Shares.{share}
 use Rattle.hb_latch.proofs.TableViews.{rise_insert, rise_set, rise_remove}
 
-actors_insert : (hs : List Held) (n : Held) (i : ℕ) → All (λ h. MayLatch h.actor) hs → MayLatch n.actor → All (λ h. MayLatch h.actor) (insert hs i n)
+actors_insert : (hs : List Held) (n : Held) (i : ℕ) → All (λ h. IsActor h.actor) hs → IsActor n.actor → All (λ h. IsActor h.actor) (insert hs i n)
 actors_insert hs n i all is =
-    let P : Held → Type 0 = λ h. MayLatch h.actor in
+    let P : Held → Type 0 = λ h. IsActor h.actor in
     All-append P _ _ (All-take P i hs all) (All-cons P n _ is (All-drop P i hs all))
 
-actors_remove : (hs : List Held) (i : ℕ) → All (λ h. MayLatch h.actor) hs → All (λ h. MayLatch h.actor) (remove hs i)
+actors_remove : (hs : List Held) (i : ℕ) → All (λ h. IsActor h.actor) hs → All (λ h. IsActor h.actor) (remove hs i)
 actors_remove hs i all =
-    let P : Held → Type 0 = λ h. MayLatch h.actor in
+    let P : Held → Type 0 = λ h. IsActor h.actor in
     All-append P _ _ (All-take P i hs all) (All-drop P (suc i) hs all)
 
 few_insert : (hs : List Held) (n : Held) (i : ℕ) → ((a : ℕ) → share a hs ≤ 3) → share n.actor hs < 3 → (a : ℕ) → share a (insert hs i n) ≤ 3
@@ -38,7 +38,7 @@ few_set hs n i d lt same few a =
     let one : cond {A = ℕ} ((get_or hs i d).actor == a) 1 0 ≡ cond {A = ℕ} (n.actor == a) 1 0 = ap (λ (x : ℕ). cond (x == a) 1 0) same in
     omega (arith, few a, one, sum)
 
-pub kept_insert : (hs : List Held) (n : Held) (i : ℕ) → IsKept hs → IsGapOf hs (key_of n) i → MayLatch n.actor → share n.actor hs < 3 → IsKept (insert hs i n)
+pub kept_insert : (hs : List Held) (n : Held) (i : ℕ) → IsKept hs → IsGapOf hs (key_of n) i → IsActor n.actor → share n.actor hs < 3 → IsKept (insert hs i n)
 kept_insert hs n i kept gap is room = record {
   rising = rise_insert hs n i kept.rising gap;
   actors = actors_insert hs n i kept.actors is;
@@ -48,10 +48,10 @@ kept_insert hs n i kept gap is room = record {
 pub kept_set : (hs : List Held) (n : Held) (i : ℕ) → IsKept hs → IsHeldAt hs (key_of n) i → IsKept (set hs i n)
 kept_set hs n i kept at =
     let same : (get_or hs i n).actor ≡ n.actor = ap (λ (k : ℕ × ℕ). k.0) (at.same_key n) in
-    let P : Held → Type 0 = λ h. MayLatch h.actor in
+    let P : Held → Type 0 = λ h. IsActor h.actor in
     record {
       rising = rise_set hs n i kept.rising at;
-      actors = All-set P hs i n (subst MayLatch same (kept.actors i n at.in_range)) kept.actors;
+      actors = All-set P hs i n (subst IsActor same (kept.actors i n at.in_range)) kept.actors;
       few = few_set hs n i n at.in_range same kept.few;
     }
 

@@ -7,7 +7,8 @@ use Rattle.std.proofs.lemmas.List.Elements.{All-filter}
 use Rattle.std.proofs.lemmas.List.Sums.{sum_by-cons}
 use Rattle.hb_lemmas.proofs.Booleans.{cond-not}
 use Rattle.hb_latch.specs.declared.entries.Held.{Held}
-use Rattle.hb_latch.specs.Tables.{LatchTable, MayLatch, latch_cmp, mode_at}
+use Rattle.hb_latch.specs.Tables.{LatchTable, latch_cmp, mode_at}
+use Rattle.hb_space.specs.Actors.{IsActor}
 use Rattle.hb_latch.specs.Entries.{IsKept, key_of, table_entries}
 use Rattle.hb_latch.proofs.KeyOrder.{exact_keys, latch_order}
 use Rattle.hb_latch.proofs.KeyPlaces.{KeysRise}
@@ -49,7 +50,7 @@ module _ (p : ℕ → Bool) where
   pub kept_left : (hs : List Held) → IsKept hs → IsKept (filter (λ h. p h.actor) hs)
   kept_left hs kept = record {
     rising = rise_left hs kept.rising;
-    actors = All-filter (λ (h : Held). p h.actor) (λ (h : Held). MayLatch h.actor) hs kept.actors;
+    actors = All-filter (λ (h : Held). p h.actor) (λ (h : Held). IsActor h.actor) hs kept.actors;
     few = λ a. omega (arith, fewer a hs, kept.few a);
   }
 

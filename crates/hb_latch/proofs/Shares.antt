@@ -6,7 +6,7 @@ use Rattle.std.proofs.lemmas.Bool.Decides.{Decides-eqb, nat_tests}
 use Rattle.std.proofs.lemmas.List.Elements.{All-head, All-tail}
 use Rattle.std.proofs.lemmas.List.Sums.{sum_by-cons}
 use Rattle.hb_latch.specs.declared.entries.Held.{Held}
-use Rattle.hb_latch.specs.Tables.{MayLatch}
+use Rattle.hb_space.specs.Actors.{IsActor}
 
 -- how many latches of the list are the actor's
 abbrev pub share : ℕ → List Held → ℕ
@@ -38,11 +38,11 @@ shares_more (suc n) h hs low high =
     ] refl (share_cons (suc n) h hs)
 
 -- so the list has no more latches than the 19 actors have
-all_shared : (hs : List Held) → All (λ h. MayLatch h.actor) hs → length hs ≤ shares 19 hs
+all_shared : (hs : List Held) → All (λ h. IsActor h.actor) hs → length hs ≤ shares 19 hs
 all_shared [] actors = omega arith
 all_shared (h ∷ hs) actors =
-    let one : MayLatch h.actor = All-head (λ (x : Held). MayLatch x.actor) h hs actors in
-    let rest = all_shared hs (All-tail (λ (x : Held). MayLatch x.actor) h hs actors) in
+    let one : IsActor h.actor = All-head (λ (x : Held). IsActor x.actor) h hs actors in
+    let rest = all_shared hs (All-tail (λ (x : Held). IsActor x.actor) h hs actors) in
     let more = shares_more 19 h hs one.from_1 one.to_19 in
     omega arith
 
@@ -58,5 +58,5 @@ shares_room (suc n) actor hs few room low high = elim (cases_lt actor (suc n)) [
 ]
 
 -- there is room
-pub has_room : (actor : ℕ) (hs : List Held) → All (λ h. MayLatch h.actor) hs → ((a : ℕ) → share a hs ≤ 3) → MayLatch actor → share actor hs < 3 → length hs < 57
+pub has_room : (actor : ℕ) (hs : List Held) → All (λ h. IsActor h.actor) hs → ((a : ℕ) → share a hs ≤ 3) → IsActor actor → share actor hs < 3 → length hs < 57
 has_room actor hs actors few is room = omega (arith, all_shared hs actors, shares_room 19 actor hs few room is.from_1 is.to_19)

@@ -7,7 +7,8 @@ use Rattle.hb_latch.specs.declared.latches.TheConstants.{LATCHES}
 use Rattle.hb_latch.specs.declared.modes.Mode.{Mode}
 use Rattle.hb_latch.specs.declared.entries.Held.{Held}
 use Rattle.hb_latch.specs.Modes.{goes_beside}
-use Rattle.hb_latch.specs.Tables.{MayLatch, latch_cmp}
+use Rattle.hb_latch.specs.Tables.{latch_cmp}
+use Rattle.hb_space.specs.Actors.{IsActor}
 
 -- whose latch it is, and on which page
 abbrev pub key_of : Held → ℕ × ℕ
@@ -24,7 +25,7 @@ table_entries latches = map (λ h. (key_of h, h.mode)) latches
 -- their keys rise, their actors are actors, and none has more than it may
 pub record IsKept (latches : List Held) : Type 0 where
   pub rising : IsTrue (is_sorted latch_cmp (table_entries latches))
-  pub actors : All (λ h. MayLatch h.actor) latches
+  pub actors : All (λ h. IsActor h.actor) latches
   pub few : (actor : ℕ) → count_by (λ h. h.actor == actor) latches ≤ LATCHES
 
 -- the latch at the place is the one of the key

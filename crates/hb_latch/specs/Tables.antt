@@ -6,11 +6,6 @@ use Rattle.std.specs.declared.cmp.Ordering.{Ordering}
 use Rattle.hb_latch.specs.declared.modes.Mode.{Mode}
 use Rattle.hb_latch.specs.Modes.{goes_beside}
 
--- who may hold latches: 1 to 16 are sessions, 17 posts, 18 consolidates, 19 flushes
-pub record MayLatch (actor : ℕ) : Type 0 where
-  pub from_1 : 1 ≤ actor
-  pub to_19 : actor ≤ 19
-
 -- keys, each an actor and a page, in the order of their actors, and those of one actor in the order of their pages
 abbrev pub latch_cmp : ℕ × ℕ → ℕ × ℕ → Ordering
 latch_cmp k l = ordering_then (nat_cmp k.0 l.0) (nat_cmp k.1 l.1)

@@ -3,7 +3,8 @@ ghost use Rattle.std.specs.FinMap as map;
 ghost use Rattle.hb_latch.specs.declared.modes.Mode.TheVariants.{Update, Exclusive};
 ghost use Rattle.std.specs.FinMap.{find as lookup};
 ghost use Rattle.hb_latch.specs.Entries.{conflicts, table_entries, IsHeldAt, IsGapOf, IsKept};
-ghost use Rattle.hb_latch.specs.Tables.{MayLatch, latch_cmp, mode_at, latches_of, IsGrantable, IsLeastInTheWay};
+ghost use Rattle.hb_latch.specs.Tables.{latch_cmp, mode_at, latches_of, IsGrantable, IsLeastInTheWay};
+ghost use Rattle.hb_space.specs.Actors.{IsActor};
 
 use crate::Mode;
 use crate::entries::Held;
@@ -60,7 +61,7 @@ impl Latches {
     /// Takes the page for the actor in the mode, unless another actor's latch on the page
     /// conflicts.
     pub fn try_take(&mut self, actor: Actor, page: u32, mode: Mode) -> Result<(), HeldBy>
-        requires actor { MayLatch actor }
+        requires actor { IsActor actor }
         requires few { latches_of self.old actor < LATCHES }
         requires absent { mode_at self.old actor page ≡ None }
         ensures granted { IsOk result ↔ IsGrantable self.old actor page mode }
@@ -128,7 +129,7 @@ impl Latches {
     /// The mode in which the actor holds the page, if it does.
     pub fn mode_of(&self, actor: Actor, page: u32) -> Option<Mode>
         ensures value { result ≡ mode_at self.now actor page }
-        ensures actor { IsSome result → MayLatch actor }
+        ensures actor { IsSome result → IsActor actor }
     {
         match search(self.held.as_slice(), actor, page) {
             Ok(place) => Some(self.held.as_slice()[place].mode),

@@ -10,7 +10,7 @@ use Rattle.hb_ops.specs.Files.{FileState, page_of, page_records, contents_of}
 use Rattle.std.specs.FinMap as finite
 use Rattle.hb_space.specs.declared.records.Record.{Record}
 use Rattle.hb_ops.specs.Sound.{FitsFile, IsSound}
-use Rattle.hb_ops.specs.Operations.{IsAllowedOn, change_of, IsAllowed, effect_of, OpHas}
+use Rattle.hb_ops.specs.Operations.{BoxesMatch, IsAllowedOn, change_of, IsAllowed, effect_of, OpHas}
 
 -- no other page of level 0 has a record of the point
 abbrev pub OthersLack : FileState → ℕ → List ℕ → Type 0
@@ -43,7 +43,7 @@ IsWellIn meta (Live page) = FitsFile meta page
 IsWellIn meta (Free next) = Unit {0}
 
 -- What an allowed operation makes of the pages that it reads, and the page that it makes, are well made for the file
--- afterwards.
+-- afterwards, where their boxes match.
 abbrev pub ChangesMakeWell : Type 0
-ChangesMakeWell = (op : Op) (meta : Meta) (first second third : Option LivePage) → 1 ≤ meta.icap → 1 ≤ meta.height → OpHas meta.k op → IsAllowedOn op meta first second third →
+ChangesMakeWell = (op : Op) (meta : Meta) (first second third : Option LivePage) → 1 ≤ meta.icap → 1 ≤ meta.height → OpHas meta.k op → IsAllowedOn op meta first second third → BoxesMatch op first second third →
     All (λ c. IsWellIn (change_of op meta first second third).meta c.1) (change_of op meta first second third).pages

@@ -5,7 +5,10 @@ pub mod Allocating
 pub mod Cutting
 pub mod Extracting
 pub mod Posting
+pub mod Merging
 pub mod Operations
+pub mod Owing
+pub mod Settled
 pub mod LawsOfContents
 pub mod Given
 pub mod Standing

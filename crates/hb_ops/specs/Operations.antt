@@ -4,14 +4,16 @@ use Rattle.std.specs.Prelude.{◌≡◌, ℕ, ◌+◌, ◌-◌, ◌==◌, nat_lt
 use Rattle.hb_space.specs.Boxes.{IsArea}
 use Rattle.hb_frag.specs.declared.pages.LivePage.{LivePage}
 use Rattle.hb_frag.specs.declared.pages.Page.{Page}
-use Rattle.hb_frag.specs.declared.pages.Page.TheVariants.{Live}
+use Rattle.hb_frag.specs.declared.pages.Page.TheVariants.{Live, Free}
+use Rattle.hb_frag.specs.Leaves.{first_named, siblings_of}
 use Rattle.hb_frag.specs.Paths.{part_at}
 use Rattle.hb_layout.specs.declared.meta.Meta.{Meta}
 use Rattle.hb_ops.specs.declared.operations.Op.{Op}
-use Rattle.hb_ops.specs.declared.operations.Op.TheVariants.{Put, Del, Extract, Post, Grow}
+use Rattle.hb_ops.specs.declared.operations.Op.TheVariants.{Put, Del, Extract, Post, Merge, Grow}
 use Rattle.hb_ops.specs.Allocating.{NamesNext, allocated, FitsGrow, new_root, raised}
 use Rattle.hb_ops.specs.Extracting.{FitsExtract, split_pages}
 use Rattle.hb_ops.specs.Files.{FileState, live_page}
+use Rattle.hb_ops.specs.Merging.{FitsMerge, kept_page, parent_page, released}
 use Rattle.hb_ops.specs.Posting.{FitsPost, GaveAway, post_page}
 use Rattle.hb_ops.specs.Recording.{FitsDel, FitsPut, del_page, put_page}
 
@@ -21,6 +23,7 @@ reads_of (Put page rec) = page ∷ []
 reads_of (Del page point) = page ∷ []
 reads_of (Extract source fresh path cuts free_after) = source ∷ []
 reads_of (Post parent at inner area) = parent ∷ []
+reads_of (Merge parent keep gone) = parent ∷ keep ∷ gone ∷ []
 reads_of (Grow fresh free_after) = []
 
 -- An operation is allowed on what it reads. A page that isn't in use isn't given, and then no operation is allowed
@@ -30,6 +33,7 @@ IsAllowedOn (Put id rec) meta (Some page) second third = FitsPut meta page rec
 IsAllowedOn (Del id point) meta (Some page) second third = FitsDel meta page point
 IsAllowedOn (Extract source fresh path cuts free_after) meta (Some page) second third = FitsExtract meta page fresh path cuts free_after
 IsAllowedOn (Post parent at inner area) meta (Some page) second third = FitsPost meta page at inner area
+IsAllowedOn (Merge parent keep gone) meta (Some above) (Some kept) (Some going) = FitsMerge meta parent keep gone above kept going
 IsAllowedOn (Grow fresh free_after) meta first second third = FitsGrow meta fresh free_after
 IsAllowedOn op meta first second third = ⊥
 
@@ -50,6 +54,10 @@ change_of (Extract source fresh path cuts free_after) meta (Some page) second th
   pages = split_pages source fresh path cuts page (part_at path page.frag page.area);
 }
 change_of (Post parent at inner area) meta (Some page) second third = record { meta = meta; pages = (parent, Live (post_page at inner area page)) ∷ [] }
+change_of (Merge parent keep gone) meta (Some above) (Some kept) (Some going) = record {
+  meta = released meta gone;
+  pages = (parent, Live (parent_page keep gone above)) ∷ (keep, Live (kept_page gone kept going)) ∷ (gone, Free meta.free) ∷ [];
+}
 change_of (Grow fresh free_after) meta first second third = record {
   meta = raised (allocated meta fresh free_after) fresh;
   pages = (fresh, Live (new_root meta)) ∷ [];
@@ -64,7 +72,7 @@ nth_read s op place = live_page s (get_or (reads_of op) place 0)
 abbrev pub IsAllowed : FileState → Op → Type 0
 IsAllowed s op = IsAllowedOn op s.meta (nth_read s op 0) (nth_read s op 1) (nth_read s op 2)
 
--- What a caller of the store knows beyond that, which no page that an operation reads can tell. A put and a delete
+-- What a caller of the store knows beyond that, which no page that an operation reads can tell. A put, a delete and a merge
 -- need nothing more.
 abbrev pub IsLicensed : FileState → Op → Type 0
 IsLicensed s (Extract source fresh path cuts free_after) = NamesNext s fresh free_after
@@ -91,3 +99,9 @@ OpHas k (Put page rec) = length rec.key ≡ k
 OpHas k (Del page point) = length point ≡ k
 OpHas k (Post parent at inner area) = IsArea area × (length area.lo ≡ k)
 OpHas k op = Unit {0}
+
+-- The leaf that names the page to go, in the page to keep, has exactly that page's box. In a sound file it has; other operations
+-- need nothing.
+abbrev pub BoxesMatch : Op → Option LivePage → Option LivePage → Option LivePage → Type 0
+BoxesMatch (Merge parent keep gone) first (Some kept) (Some going) = first_named gone (siblings_of kept) ≡ Some going.area
+BoxesMatch op first second third = Unit {0}

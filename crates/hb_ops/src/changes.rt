@@ -2,7 +2,8 @@ ghost use Rattle.std.specs.Prelude.{◌≡◌, ◌<◌, ◌≤◌, [], ◌∷◌
 ghost use Rattle.hb_ops.specs.Allocating.{Allocates, allocated, FitsGrow};
 ghost use Rattle.hb_ops.specs.declared.operations.Op.TheVariants as kinds;
 ghost use Rattle.hb_frag.specs.declared.pages.LivePage.{LivePage as Made};
-ghost use Rattle.hb_frag.specs.declared.pages.Page.TheVariants.{Live};
+ghost use Rattle.hb_frag.specs.declared.pages.Page.TheVariants.{Live, Free};
+ghost use Rattle.hb_ops.specs.Merging.{released};
 ghost use Rattle.hb_ops.specs.Operations.{IsAllowedOn, change_of, OpHas};
 ghost use Rattle.hb_ops.specs.Given.{given};
 ghost use Rattle.hb_ops.specs.declared.changes.ChangeError.TheVariants.{Unfit, NoMemory as Starved};
@@ -11,6 +12,7 @@ use crate::allocations::allocated;
 use crate::edits::{delete, put};
 use crate::extracting::extract;
 use crate::growing::{may_grow, new_root, raised};
+use crate::merging::{merge, released};
 use crate::posting::post;
 use crate::{Meta, Op};
 use arrayvec::ArrayVec;
@@ -87,6 +89,13 @@ pub fn change(
             None => Err(ChangeError::Unfit),
             Some(page) => one_made(meta, *parent, post(alloc, page, meta, at, *inner, area)),
         },
+        Op::Merge { parent, keep, gone } => match (first, second, third) {
+            (Some(above), Some(kept), Some(going)) => {
+                let pages = merge(alloc, meta, *parent, *keep, *gone, above, kept, going)?;
+                Ok(merged(meta, *parent, *keep, *gone, pages))
+            }
+            _ => Err(ChangeError::Unfit),
+        },
         Op::Grow { fresh, free_after } => grown(meta, *fresh, *free_after),
     }
 }
@@ -108,6 +117,22 @@ fn split(
     changed.push((fresh, Page::Live(pages.1)));
     Changed {
         meta: allocated(meta, fresh, free_after),
+        pages: changed,
+    }
+}
+
+// The parent and the page to keep as they are made, and the page to go, which becomes free.
+fn merged(meta: &Meta, parent: u32, keep: u32, gone: u32, pages: (LivePage, LivePage)) -> Changed
+    requires { 1 ≤ meta.now.live }
+    ensures meta { result.meta ≡ released meta.now gone }
+    ensures pages { result.pages.items ≡ (parent, Live pages.0) ∷ (keep, Live pages.1) ∷ (gone, Free meta.now.free) ∷ [] }
+{
+    let mut changed = ArrayVec::new();
+    changed.push((parent, Page::Live(pages.0)));
+    changed.push((keep, Page::Live(pages.1)));
+    changed.push((gone, Page::Free { next: meta.free }));
+    Changed {
+        meta: released(meta, gone),
         pages: changed,
     }
 }

@@ -3,7 +3,8 @@
 //! The one contract: `change` answers with pages exactly where the operation is allowed on the
 //! pages that it reads, and they are those that the operation is defined to make. Whether it is
 //! allowed is decided before any memory is taken. A put and a delete change one record, an extract
-//! splits a page, a post names a page in one above it, and a grow gives the file a level.
+//! splits a page, a post names a page in one above it, a merge makes one page of two, and a grow gives
+//! the file a level.
 //! `local_rule` names the first rule that a page breaks by itself, and `laws` has what follows of
 //! operations from their definitions alone: a put adds one record to the contents of a file, a
 //! delete takes one away, both keep the file sound, and what any operation makes is well made.
@@ -22,6 +23,7 @@ mod laws;
 mod leaf_cuts;
 mod local;
 mod looking;
+mod merging;
 mod operations;
 mod posting;
 mod threads;
@@ -35,4 +37,5 @@ pub use laws::{
 pub use leaf_cuts::{Cuts, LeafCut};
 pub use local::local_rule;
 pub use looking::{Standing, has_room, look_at};
+pub use merging::parent_after;
 pub use operations::Op;

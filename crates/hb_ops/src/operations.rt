@@ -42,6 +42,15 @@ pub enum Op {
         /// The box that the child gave.
         area: Area,
     },
+    /// A page takes over what a page has to which it gave a part of its box. That page becomes free, and
+    /// their parent names the one that is kept in its place.
+    Merge {
+        parent: u32,
+        /// The page that takes over.
+        keep: u32,
+        /// The page that goes.
+        gone: u32,
+    },
     /// A page of the whole space, with a child leaf to the root, becomes the root.
     Grow {
         /// The page that is made.
@@ -61,6 +70,11 @@ impl Op {
             Op::Put { page, .. } | Op::Del { page, .. } => reads.push(*page),
             Op::Extract { source, .. } => reads.push(*source),
             Op::Post { parent, .. } => reads.push(*parent),
+            Op::Merge { parent, keep, gone } => {
+                reads.push(*parent);
+                reads.push(*keep);
+                reads.push(*gone);
+            }
             Op::Grow { .. } => {}
         }
         reads

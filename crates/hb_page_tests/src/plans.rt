@@ -4,7 +4,7 @@ ghost use Rattle.std.specs.Prelude.{◌≡◌, ◌<◌, ◌^◌, IfOk, IsTrue};
 ghost use Rattle.hb_space.specs.Boxes.{Holds};
 ghost use Rattle.hb_frag.specs.Leaves.{weight_of, WellCut};
 ghost use Rattle.hb_frag.specs.Rules.{IsNormal};
-ghost use Rattle.hb_terms.specs.Plans.{NamesChildAt};
+ghost use Rattle.hb_ops.specs.Owing.{NamesChildAt};
 
 use crate::operations::push_posted;
 use crate::rows::expect_all;

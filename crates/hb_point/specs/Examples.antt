@@ -15,7 +15,6 @@ use Rattle.hb_activity.specs.declared.activities.Activity.TheVariants.{SessionSp
 use Rattle.hb_activity.specs.Deeds.{does, moves_to, takes_effect, answers_now}
 use Rattle.hb_activity.specs.OneDeed.{IsOnly}
 use Rattle.hb_activity.specs.Sights.{Sight}
-use Rattle.hb_activity.specs.Stages.{pages_are_merged}
 use Rattle.hb_frag.specs.Trees.{Tip, Cut}
 use Rattle.hb_point.specs.SessionRows.{DoesThere, next_line}
 use Rattle.hb_point.specs.SplitRows.{PutsInHalf, SplitsOrFull}
@@ -52,7 +51,7 @@ thin_page = record { level = 0; area = whole_area 1; frag = Tip (Records (rec_at
 pub record DeletesByHand (s : Sight) (line : Line) : Type 0 where
   pub there : s.meta.dcap ≡ 6 → IsOnly (DoesThere s line (Delete (20 ∷ 5 ∷ [])) 5 two_records) (takes_effect s.place line replies.Done (Some (Del 5 (20 ∷ 5 ∷ []))) [])
   pub thin : s.meta.dcap ≡ 6 → IsOnly (DoesThere s line (Delete (20 ∷ [])) 5 thin_page)
-      (takes_effect s.place line replies.Done (Some (Del 5 (20 ∷ []))) (if pages_are_merged then record { kind = Merge; level = 1; point = 20 ∷ [] } ∷ [] else []))
+      (takes_effect s.place line replies.Done (Some (Del 5 (20 ∷ []))) (record { kind = Merge; level = 1; point = 20 ∷ [] } ∷ []))
   pub absent : IsOnly (DoesThere s line (Delete (20 ∷ 6 ∷ [])) 5 two_records) (takes_effect s.place line replies.Absent None [])
 
 -- A lookup gives the body of its point, where that is there.

@@ -16,7 +16,6 @@ use Rattle.hb_activity.specs.declared.jobs.JobKind.TheVariants.{Merge}
 use Rattle.hb_activity.specs.declared.activities.Activity.TheVariants.{SessionWalk, SessionSplit, SessionPut}
 use Rattle.hb_activity.specs.Deeds.{Deed, moves_to, takes_effect}
 use Rattle.hb_activity.specs.Sights.{Sight}
-use Rattle.hb_activity.specs.Stages.{pages_are_merged}
 use Rattle.hb_frag.specs.Leaves.{weight_of}
 use Rattle.hb_ops.specs.Recording.{del_page, put_page}
 use Rattle.hb_ops.specs.Standing.{StandsThere, StandsNot}
@@ -69,7 +68,7 @@ pub record FindsNoRoom (s : Sight) (line : Line) (rec : Record) (id : ℕ) (page
 -- A delete of a point that is there, and of one that isn't. A page that weighs a quarter of its capacity then, or less,
 -- is thin.
 abbrev pub merges_due : LivePage → List ℕ → ℕ → List Job
-merges_due page p capacity = if pages_are_merged && nat_le (4 * weight_of (del_page p page).frag) capacity then record { kind = Merge; level = 1; point = p } ∷ [] else []
+merges_due page p capacity = if nat_le (4 * weight_of (del_page p page).frag) capacity then record { kind = Merge; level = 1; point = p } ∷ [] else []
 
 pub record Deletes (s : Sight) (line : Line) (p : List ℕ) (id : ℕ) (page : LivePage) (deed : Deed) : Type 0 where
   pub found : Record

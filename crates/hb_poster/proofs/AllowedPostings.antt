@@ -29,7 +29,8 @@ use Rattle.hb_split.proofs.Facts.Allowed.{is_allowed}
 use Rattle.hb_split.proofs.Facts.Ends.{is_thirds}
 use Rattle.hb_split.specs.Choosing.{IsChosen}
 use Rattle.hb_terms.proofs.Facts.Owing.{planned_may_be, room_told}
-use Rattle.hb_terms.specs.Plans.{IsPlan, LacksRoom}
+use Rattle.hb_terms.specs.Plans.{IsPlan}
+use Rattle.hb_ops.specs.Owing.{LacksRoom}
 
 pub growth_is_allowed : GrowthIsAllowed
 growth_is_allowed s job root deed op row given is =

@@ -20,7 +20,7 @@ use Rattle.hb_activity.specs.declared.jobs.Job.{Job}
 use Rattle.hb_poster.proofs.LeavesAtPoints.{kind_there, of_first}
 use Rattle.hb_space.specs.Boxes.{Area, common_area, side_below, side_from}
 use Rattle.hb_terms.proofs.Facts.Owing.{one_plan}
-use Rattle.hb_terms.specs.Plans.{LacksRoom}
+use Rattle.hb_ops.specs.Owing.{LacksRoom}
 use Rattle.hb_terms.specs.declared.plans.PostPlan.TheVariants.{Post, SplitFirst}
 use Rattle.hb_poster.specs.Asks.{PlansPosting}
 

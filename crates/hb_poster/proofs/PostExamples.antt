@@ -26,7 +26,8 @@ use Rattle.hb_poster.specs.PosterRows.{DoesPlan, LooksAgain, LooksAtChild, after
 use Rattle.hb_space.specs.Boxes.{Area}
 use Rattle.hb_split.specs.Choosing.{AreChosen, IsChosen}
 use Rattle.hb_terms.proofs.Facts.Owing.{one_plan}
-use Rattle.hb_terms.specs.Plans.{IsPlan, posted_parent}
+use Rattle.hb_terms.specs.Plans.{IsPlan}
+use Rattle.hb_ops.specs.Owing.{posted_parent}
 use Rattle.hb_activity.proofs.Facts.OneLeaf.{exactly}
 
 -- ---- the plans

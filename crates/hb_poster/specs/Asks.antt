@@ -5,7 +5,7 @@ use Rattle.hb_layout.specs.declared.meta.Meta.{Meta}
 use Rattle.hb_frag.specs.declared.pages.LivePage.{LivePage}
 use Rattle.hb_frag.specs.declared.paths.Side.{Side}
 use Rattle.hb_ops.specs.Sound.{FitsFile}
-use Rattle.hb_terms.specs.Plans.{LacksRoom, Posts}
+use Rattle.hb_ops.specs.Owing.{LacksRoom, Posts}
 use Rattle.hb_activity.specs.declared.jobs.Job.{Job}
 use Rattle.hb_activity.specs.declared.activities.Activity.{Activity}
 use Rattle.hb_activity.specs.declared.activities.Activity.TheVariants as at

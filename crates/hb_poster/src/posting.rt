@@ -9,7 +9,8 @@ ghost use Rattle.hb_activity.specs.Deciding.{FitsFree, deed_of, given_sight};
 ghost use Rattle.hb_activity.specs.Sights.{Sight};
 ghost use Rattle.hb_poster.specs.Asks.{AsksMemory, LooksAgainBelow, LooksAt, PlansPosting};
 ghost use Rattle.hb_poster.specs.PosterRows.{PosterRow, SplitsParent};
-ghost use Rattle.hb_terms.specs.Plans.{IsPlan, LacksRoom};
+ghost use Rattle.hb_terms.specs.Plans.{IsPlan};
+ghost use Rattle.hb_ops.specs.Owing.{LacksRoom};
 
 use hb_activity::{Activity, Job, JobKind, Next, corner_of};
 use hb_frag::LivePage;

@@ -7,7 +7,8 @@ use Rattle.hb_frag.specs.declared.pages.LivePage.{LivePage}
 use Rattle.hb_frag.specs.Leaves.{DirectlyHolds, siblings_of}
 use Rattle.hb_ops.specs.Files.{FileState, live_page}
 use Rattle.hb_ops.specs.Sound.{AreWellMade, ChildrenMatch, IsCovered, SiblingsMatch}
-use Rattle.hb_sound.specs.Laws.{SpaceLaws, TreeLaws, AllPosted, FullyPostedWalksAreShort}
+use Rattle.hb_sound.specs.Laws.{SpaceLaws, TreeLaws, FullyPostedWalksAreShort}
+use Rattle.hb_ops.specs.Settled.{AllPosted}
 use Rattle.hb_sound.specs.PointWalks.{IsWalk, LeadsOn, Sees}
 use Rattle.hb_sound.proofs.HeldSomewhere.{leaf_there}
 use Rattle.hb_sound.proofs.OneLevel.{same_page}

@@ -13,6 +13,7 @@ use Rattle.hb_ops.specs.Files.{FileState, live_page, contents_of}
 use Rattle.hb_ops.specs.Operations.{IsAllowed, effect_of}
 use Rattle.hb_ops.specs.LawsOfContents.{OthersLack}
 use Rattle.hb_ops.specs.Sound.{IsSound}
+use Rattle.hb_ops.specs.Settled.{HasChild, HasLoneRoot, IsSettled}
 use Rattle.hb_ops.specs.Standing.{StandsThere, StandsNot}
 use Rattle.hb_sound.specs.PointWalks.{IsPointOf, HasOn, HasWalk, IsResponsible, IsWholeWalk, LeadsFurther, LeadsOn}
 use Rattle.hb_frag.specs.declared.leaves.Leaf.TheVariants.{Child}
@@ -75,27 +76,9 @@ abbrev pub DelsTakeOne : Type 0
 DelsTakeOne = (s : FileState) (id : ℕ) (point : List ℕ) → IsSound s → IsPointOf s point → IsAllowed s (Del id point) →
     ((body : List ℕ) × (finite.get (contents_of s) point ≡ Some body)) × (contents_of (effect_of s (Del id point)) ≡ finite.remove (contents_of s) point)
 
--- this page has a child leaf of this box that names that page
-abbrev pub HasChild : LivePage → ℕ → Area → Type 0
-HasChild page name area = Contains (leaves_of page.frag page.area) (record { leaf = Child name; area = area })
-
--- no child leaf's box meets a sibling leaf's box in the page that it names
-abbrev pub AllPosted : FileState → Type 0
-AllPosted s = (id name : ℕ) (page named : LivePage) (area : Area) → live_page s id ≡ Some page → HasChild page name area → live_page s name ≡ Some named →
-    All (λ sibling. ¬ (Meets area sibling.1)) (siblings_of named)
-
--- the root has no sibling leaf
-abbrev pub HasLoneRoot : FileState → Type 0
-HasLoneRoot s = (page : LivePage) → live_page s s.meta.root ≡ Some page → siblings_of page ≡ []
-
--- A fully posted file. A file of the greatest height, which is 12, grows no more, so its root may keep sibling leaves.
-pub record IsFullyPosted (s : FileState) : Type 0 where
-  pub posted : AllPosted s
-  pub grown : (s.meta.height ≡ 12) ⊎ HasLoneRoot s
-
 -- In a fully posted file whose root has no sibling leaf each whole walk from the root has as many pages as the file has levels.
 abbrev pub FullyPostedWalksAreShort : Type 0
-FullyPostedWalksAreShort = (s : FileState) (p rest : List ℕ) (last : ℕ) → IsSound s → IsFullyPosted s → HasLoneRoot s → IsPointOf s p → IsWholeWalk s p s.meta.root rest last →
+FullyPostedWalksAreShort = (s : FileState) (p rest : List ℕ) (last : ℕ) → IsSound s → IsSettled s → HasLoneRoot s → IsPointOf s p → IsWholeWalk s p s.meta.root rest last →
     length rest + 1 ≡ s.meta.height
 
 -- Where a page one level up directly holds the whole box of a page, no other page has a child leaf that names that page.

@@ -1,2 +1,3 @@
 pub mod Points
 pub mod Boxes
+pub mod Actors

@@ -1,33 +1,21 @@
--- What a merge does: a page takes over what a page has to which it gave a part of its box.
-use Rattle.std.specs.Prelude.{◌≡◌, ℕ, ◌-◌, ◌+◌, ◌*◌, ◌<◌, ◌≤◌, None, IsSome}
+-- The plan of a merge.
+use Rattle.std.specs.Prelude.{◌≡◌, ℕ, ◌*◌, ◌<◌, None}
 use Rattle.hb_frag.specs.declared.pages.LivePage.{LivePage}
-use Rattle.hb_frag.specs.Leaves.{DirectlyCovers, first_named, siblings_of, weight_of}
+use Rattle.hb_frag.specs.Leaves.{DirectlyCovers, first_named, siblings_of}
+use Rattle.hb_ops.specs.Merging.{GaveTo, MayMerge, merged_weight}
 use Rattle.hb_terms.specs.declared.merging.MergePlan.{MergePlan}
 use Rattle.hb_terms.specs.declared.merging.MergePlan.TheVariants.{NotContained, ManyParents, TooHeavy, Merge}
-
--- the page gave a part of its box to the page of this number
-abbrev pub GaveTo : LivePage → ℕ → Type 0
-GaveTo keep gone_id = IsSome (first_named gone_id (siblings_of keep))
-
--- what the page to keep weighs afterwards: one leaf of it goes, and the other page's leaves come
-abbrev pub merged_weight : LivePage → LivePage → ℕ
-merged_weight keep gone = weight_of keep.frag - 1 + weight_of gone.frag
 
 -- It gave one, and a part of the other page's box lies with another parent.
 pub record HasManyParents (parent keep : LivePage) (gone_id : ℕ) (gone : LivePage) : Type 0 where
   pub given : GaveTo keep gone_id
   pub elsewhere : ¬ (DirectlyCovers parent gone.area)
 
--- The parent directly holds all of it, and together the two weigh more than three quarters of the capacity; or not more.
+-- The parent directly holds all of it, and together the two weigh more than three quarters of the capacity.
 pub record AreTooHeavy (parent keep : LivePage) (gone_id : ℕ) (gone : LivePage) (cap : ℕ) : Type 0 where
   pub given : GaveTo keep gone_id
   pub whole : DirectlyCovers parent gone.area
   pub heavy : 3 * cap < 4 * merged_weight keep gone
-
-pub record MayMerge (parent keep : LivePage) (gone_id : ℕ) (gone : LivePage) (cap : ℕ) : Type 0 where
-  pub given : GaveTo keep gone_id
-  pub whole : DirectlyCovers parent gone.area
-  pub light : 4 * merged_weight keep gone ≤ 3 * cap
 
 -- The plan for a parent, the page to keep, the page to go with its number, and what a page of their level may weigh. That
 -- the parent names both is no part of it.

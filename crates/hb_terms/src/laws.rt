@@ -9,7 +9,8 @@ ghost use Rattle.hb_frag.specs.Leaves.{WellCut};
 ghost use Rattle.hb_terms.specs.declared.plans.PostPlan.{PostPlan as OnePlan};
 ghost use Rattle.hb_terms.specs.declared.merging.MergePlan.{MergePlan as OneMerge};
 ghost use Rattle.hb_terms.specs.Merging.{IsMergePlan};
-ghost use Rattle.hb_terms.specs.Plans.{IsPlan, MayPost};
+ghost use Rattle.hb_terms.specs.Plans.{IsPlan};
+ghost use Rattle.hb_ops.specs.Owing.{MayPost};
 
 use crate::PostPlan;
 

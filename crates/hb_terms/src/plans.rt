@@ -4,7 +4,8 @@ ghost use Rattle.hb_frag.specs.declared.paths.Side.{Side};
 ghost use Rattle.hb_frag.specs.Leaves.{weight_of, WellCut};
 ghost use Rattle.hb_frag.specs.Rules.{IsNormal};
 ghost use Rattle.hb_frag.specs.Carving.{carved};
-ghost use Rattle.hb_terms.specs.Plans.{IsPlan, NamesChildAt, Posts};
+ghost use Rattle.hb_terms.specs.Plans.{IsPlan};
+ghost use Rattle.hb_ops.specs.Owing.{NamesChildAt, Posts};
 
 use hb_frag::{Leaf, LivePage, Path, carved_weight};
 use hb_space::{Area, NoMemory, Point};

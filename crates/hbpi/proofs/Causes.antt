@@ -12,7 +12,7 @@ use Rattle.hb_core.specs.Steps.{StepsInSequence, StepsTo}
 use Rattle.hb_core.specs.SteppingLaws.{BeginningKeeps}
 use Rattle.hb_core.specs.declared.outcomes.Outcome.{Outcome}
 use Rattle.hb_core.specs.declared.outcomes.Outcome.TheVariants as outcomes
-use Rattle.hb_latch.specs.Tables.{MayLatch}
+use Rattle.hb_space.specs.Actors.{IsActor}
 use Rattle.hb_lemmas.proofs.Lists.{All-alone, All-parts}
 use Rattle.hb_set.specs.declared.commands.Reply.{Reply}
 use Rattle.hb_set.specs.declared.commands.Reply.TheVariants as replies
@@ -73,10 +73,10 @@ one_step_earlier m actor outcome next rest number step full = record {
   cause = full.cause;
 }
 
-pub came_by_cause : (laws : CauseLaws) (actors : List ℕ) (m new : Machine) → MachineKeeps m → All MayLatch actors → StepsInSequence actors m new → CameByCause m actors new
+pub came_by_cause : (laws : CauseLaws) (actors : List ℕ) (m new : Machine) → MachineKeeps m → All IsActor actors → StepsInSequence actors m new → CameByCause m actors new
 came_by_cause laws [] m new keeps may steps = record { came = []; answered = ap (λ (x : Machine). x.answered) steps ∙ sym (append-nil m.answered); causes = All-nil _ }
 came_by_cause laws (actor ∷ rest) m new keeps may (outcome, next, step, more) =
-    let then = came_by_cause laws rest next new (laws.kept m actor outcome next (All-head MayLatch actor rest may) keeps step) (All-tail MayLatch actor rest may) more in
+    let then = came_by_cause laws rest next new (laws.kept m actor outcome next (All-head IsActor actor rest may) keeps step) (All-tail IsActor actor rest may) more in
     let given = given_by outcome next.clock in
     record {
       came = given ++ then.came;

@@ -13,7 +13,7 @@ use Rattle.hb_core.specs.SteppingLaws.{IsBegunOver, StepsGoOn}
 use Rattle.hb_disk.proofs.Facts.RunLaws.{Leaves-weaker}
 use Rattle.hb_disk.specs.Calls.{Leaves}
 use Rattle.hb_disk.specs.Model.{DiskModel}
-use Rattle.hb_latch.specs.Tables.{MayLatch}
+use Rattle.hb_space.specs.Actors.{IsActor}
 use Rattle.hb_layout.specs.declared.meta.Meta.{Meta}
 use Rattle.hb_lemmas.proofs.Options.{at_value, has_value}
 use Rattle.hb_ops.specs.Files.{FileState, contents_of}
@@ -135,7 +135,7 @@ keeps_promise laws run status b s told opens sound ends = elim ends [
 ]
 
 -- In the file after each step on the way, and in those that a crash may leave of it, each point has one page.
-pub files_have_one_page : (laws : PromiseLaws) (pages : PointsHaveOnePage) (run : Run) (after : Machine) (b : List ℕ) → run.before.told ≡ Some b → (drove : Drove run after) (front : List ℕ) (here : Machine) → All MayLatch front → StepsInSequence front drove.takes.before here
+pub files_have_one_page : (laws : PromiseLaws) (pages : PointsHaveOnePage) (run : Run) (after : Machine) (b : List ℕ) → run.before.told ≡ Some b → (drove : Drove run after) (front : List ℕ) (here : Machine) → All IsActor front → StepsInSequence front drove.takes.before here
     → (files : Files) × (here.files ≡ Some files) × ((s : FileState) (p : List ℕ) → Contains (files.durable ∷ files.later) s → IsPointOf s p → HasOnePage s p)
 files_have_one_page laws pages run after b told drove front here may reached =
     let takes = drove.takes in

@@ -13,7 +13,7 @@ use Rattle.hb_disk.proofs.Facts.RewriteLaws.{Becomes-tells}
 use Rattle.hb_disk.specs.Calls.{Becomes}
 use Rattle.hb_disk.specs.Model.{DiskModel, IsDisk, Torn}
 use Rattle.hb_drive.specs.Driving.{DrivesTo, EndsWith, run_text}
-use Rattle.hb_latch.specs.Tables.{MayLatch}
+use Rattle.hb_space.specs.Actors.{IsActor}
 use Rattle.hb_layout.specs.Offsets.{file_size, log_start}
 use Rattle.hb_lemmas.proofs.Options.{at_value, if_value, has_value}
 use Rattle.hb_ops.specs.Files.{FileState, contents_of}
@@ -46,8 +46,8 @@ use Rattle.hbpi.specs.SeenRuns.{IsRefused, Seen, run_of, seen_by}
 use Rattle.hbpi.specs.declared.statuses.Status.{Status}
 use Rattle.hbpi.specs.declared.statuses.Status.TheVariants.{NoMemory}
 
-pub may_latch : (steps : List ℕ) → All (λ actor. (1 ≤ actor) × (actor ≤ 19)) steps → All MayLatch steps
-may_latch steps all = All-weaker (λ actor. (1 ≤ actor) × (actor ≤ 19)) MayLatch (λ actor is. record { from_1 = is.0; to_19 = is.1 }) steps all
+pub may_latch : (steps : List ℕ) → All (λ actor. (1 ≤ actor) × (actor ≤ 19)) steps → All IsActor steps
+may_latch steps all = All-weaker (λ actor. (1 ≤ actor) × (actor ≤ 19)) IsActor (λ actor is. record { from_1 = is.0; to_19 = is.1 }) steps all
 
 -- where nothing has stopped the machine, each image opens to the file that is durable
 settled_even : (e : DiskModel) (n : RecordSet) (old m : Machine) (files : Files) → HasKeptAll n old m files → ShowsFiles e m → m.stop ≡ None
@@ -58,7 +58,7 @@ settled_even e n old m files kept shown going =
     (files.durable, even_store e m.store files.durable files.later store (kept.keeps.kept.runs going), kept.keeps.sound_file.durable, kept.prefixes.durable.contents)
 
 -- what crashes leave of a run from a beginning over a file on
-leaves_prefixes : (d e : DiskModel) (m : Machine) (steps : List ℕ) (answered : List Answered) (c : RunningCore) (s : FileState) → BeginningKeepsAll → BegunKeepsAll → IsSome d.told → All MayLatch steps → IsBegunOver m s
+leaves_prefixes : (d e : DiskModel) (m : Machine) (steps : List ℕ) (answered : List Answered) (c : RunningCore) (s : FileState) → BeginningKeepsAll → BegunKeepsAll → IsSome d.told → All IsActor steps → IsBegunOver m s
     → (run : HasRun d m steps answered e c) → LeavesPrefixes s d e answered run.new
 leaves_prefixes d e m steps answered c s keeps all tells actors over run =
     let crashes = run.crashes (contents_of s) (record { durable = s; later = [] }) (keeps m s over) in
@@ -73,7 +73,7 @@ leaves_prefixes d e m steps answered c s keeps all tells actors over run =
     }
 
 pub takes_steps : (d e : DiskModel) (lines : List Line) (steps : List ℕ) (store : StoreState) (c : RunningCore) (answered : List Answered) (m : Machine) → BeginningKeepsAll → BegunKeepsAll → IsDisk d → IsNew store.turn store.meta store
-    → All MayLatch steps → IsBegunHere d lines steps store m → (run : HasRun d m steps answered e c) → TakesSteps d e store.meta.k lines steps answered c.order run.new
+    → All IsActor steps → IsBegunHere d lines steps store m → (run : HasRun d m steps answered e c) → TakesSteps d e store.meta.k lines steps answered c.order run.new
 takes_steps d e lines steps store c answered m keeps all disk new actors here run =
     let starts : IsSome d.told → d.clock ≤ m.clock = λ tells. let clock = (here.may.shows.tells tells).clock in omega (arith, clock) in
     let came : run.new.answered ≡ run.came = run.answered ∙ ap (λ (a : List Answered). a ++ run.came) here.begun.unanswered in
@@ -162,7 +162,7 @@ module _ {X Y : Type 0} (M : X → DiskModel) (S : Y → SinkModel) (lines : Lis
       let from_start = subst (λ (c : RunningCore). DrivesTo m c.steps given (M start) (M over) ran end (S sink) (S mid)) facts.seen (facts.drives some m may) in
       subst (λ (x : X). DrivesTo m steps given (M x) (M over) ran end (S sink) (S mid)) facts.disk from_start
 
-  did_run : BeginningKeepsAll → BegunKeepsAll → IsDisk (M first) → IsNew store.turn store.meta store → All MayLatch steps → (m : Machine) → IsBegunHere (M first) lines steps store m → end ≢ ends.NoMemory
+  did_run : BeginningKeepsAll → BegunKeepsAll → IsDisk (M first) → IsNew store.turn store.meta store → All IsActor steps → (m : Machine) → IsBegunHere (M first) lines steps store m → end ≢ ends.NoMemory
       → ScriptEnds M S store.meta.k lines steps first last sink after answered order status
   did_run keeps all disk new_store actors m here some =
       let drove = run_here m here some in
@@ -189,7 +189,7 @@ module _ {X Y : Type 0} (M : X → DiskModel) (S : Y → SinkModel) (lines : Lis
         facts.order_is ∙ ap (λ (c : RunningCore). c.order) still.0 ∙ ap (λ (c : RunningCore). c.order) facts.seen,
       )
 
-  pub script_ends : BeginningKeepsAll → BegunKeepsAll → IsDisk (M first) → IsNew store.turn store.meta store → All MayLatch steps → (m : Machine) × IsBegunHere (M first) lines steps store m
+  pub script_ends : BeginningKeepsAll → BegunKeepsAll → IsDisk (M first) → IsNew store.turn store.meta store → All IsActor steps → (m : Machine) × IsBegunHere (M first) lines steps store m
       → ScriptEnds M S store.meta.k lines steps first last sink after answered order status
   script_ends keeps all disk new_store actors begun = elim (is_unbegun end) [
     | inl none ↦ did_not none

@@ -6,7 +6,7 @@ use Rattle.hb_core.specs.Steps.{StepsInSequence}
 use Rattle.hb_core.specs.SteppingLaws.{IsBegun, IsBegunOver}
 use Rattle.hb_disk.specs.Calls.{Leaves}
 use Rattle.hb_disk.specs.Model.{DiskModel}
-use Rattle.hb_latch.specs.Tables.{MayLatch}
+use Rattle.hb_space.specs.Actors.{IsActor}
 use Rattle.hb_ops.specs.Files.{FileState, contents_of}
 use Rattle.hb_ops.specs.Sound.{IsSound}
 use Rattle.hb_set.specs.Order.{result_of}
@@ -40,7 +40,7 @@ pub record TakesSteps (d e : DiskModel) (k : ℕ) (lines : List Line) (steps : L
   pub opened : IsNew before.store.turn before.store.meta before.store
   pub lines_are : before.lines ≡ lines
   pub attributes : before.store.meta.k ≡ k
-  pub actors : All MayLatch steps
+  pub actors : All IsActor steps
   pub reached : StepsInSequence steps before after
   pub came : AreAnswers d.told answered after.answered
   pub order_is : order ≡ map (λ e. e.line.number) after.order

@@ -6,7 +6,7 @@ ghost use Rattle.hb_frag.specs.Leaves.{weight_of, WellCut};
 ghost use Rattle.hb_frag.specs.Rules.{IsNormal};
 ghost use Rattle.hb_ops.specs.Operations.{OpHas};
 ghost use Rattle.hb_ops.specs.Sound.{FitsFile};
-ghost use Rattle.hb_terms.specs.Plans.{NamesChildAt};
+ghost use Rattle.hb_ops.specs.Owing.{NamesChildAt};
 
 use crate::missed::Missed;
 use crate::pages::{again, row_bytes};

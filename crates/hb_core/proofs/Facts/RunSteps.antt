@@ -33,7 +33,7 @@ use Rattle.hb_disk.proofs.Facts.RunLaws.{Leaves-start}
 use Rattle.hb_disk.proofs.Facts.TornLaws.{Torn-itself}
 use Rattle.hb_disk.specs.Calls.{Becomes}
 use Rattle.hb_disk.specs.Model.{DiskModel, IsDisk, Torn}
-use Rattle.hb_latch.specs.Tables.{MayLatch}
+use Rattle.hb_space.specs.Actors.{IsActor}
 use Rattle.hb_lemmas.proofs.Lists.{All-alone}
 use Rattle.hb_lemmas.proofs.Options.{has_value}
 use Rattle.hb_set.specs.Machine.{RecordSet}
@@ -64,7 +64,7 @@ begun_left left = omega arith
 pub run_begins : RunningLaws → (d : DiskModel) (m : Machine) (c : RunningCore) → IsDisk d → MayStep d c m → HasRun d m [] [] d c
 run_begins laws d m c disk may = record {
   new = m;
-  may = All-nil MayLatch;
+  may = All-nil IsActor;
   steps = refl;
   shows = may.shows;
   goes_on = may.goes_on;
@@ -83,7 +83,7 @@ pub one_more_step : (actors : List ℕ) (m mid next : Machine) (actor : ℕ) (ou
 one_more_step [] m mid next actor outcome is step = (outcome, next, subst (λ (x : Machine). StepsTo x actor outcome next) is step, refl)
 one_more_step (first ∷ rest) m mid next actor outcome (said, one, step, steps) last = (said, one, step, one_more_step rest one mid next actor outcome steps last)
 
-module _ (laws : RunningLaws) (e f : DiskModel) (old new : RunningCore) (actor : ℕ) (outcome : Outcome) (mid next : Machine) (may : MayLatch actor) (step : StepsTo mid actor outcome next) (shows : ShowsMachine e old mid) (shows_next : ShowsMachine f new next)
+module _ (laws : RunningLaws) (e f : DiskModel) (old new : RunningCore) (actor : ℕ) (outcome : Outcome) (mid next : Machine) (may : IsActor actor) (step : StepsTo mid actor outcome next) (shows : ShowsMachine e old mid) (shows_next : ShowsMachine f new next)
     (goes_on : MayGoOn mid) (became : Becomes (Torn mid.store.log.area mid.store.log.len) e f) where
   -- files are told of exactly where they were, and are sound
   sound_next : IfSome next.files (HasSoundFile next)
@@ -109,7 +109,7 @@ module _ (laws : RunningLaws) (e f : DiskModel) (old new : RunningCore) (actor :
 -- What a step of a core came to, with what its caller kept of the answer: `given` has the disk's clock after the step, where it tells.
 pub record WentOn (e : DiskModel) (old : RunningCore) (mid : Machine) (actor : ℕ) (outcome : Outcome) (given : List Answered) (f : DiskModel) (new : RunningCore) : Type 0 where
   pub next : Machine
-  pub may : MayLatch actor
+  pub may : IsActor actor
   pub step : StepsTo mid actor outcome next
   pub shows : ShowsMachine f new next
   pub touches : Touches e old outcome f new
@@ -123,8 +123,8 @@ module _ (laws : RunningLaws) (d : DiskModel) (m : Machine) (actors : List ℕ) 
   abbrev next : Machine
   next = went.next
 
-  all_may : All MayLatch (actors ++ actor ∷ [])
-  all_may = All-append MayLatch actors (actor ∷ []) run.may (All-alone MayLatch actor went.may)
+  all_may : All IsActor (actors ++ actor ∷ [])
+  all_may = All-append IsActor actors (actor ∷ []) run.may (All-alone IsActor actor went.may)
 
   all_steps : StepsInSequence (actors ++ actor ∷ []) m next
   all_steps = one_more_step actors m mid next actor outcome run.steps went.step
@@ -218,7 +218,7 @@ pub may_go_on : (d : DiskModel) (m : Machine) (actors : List ℕ) (answers : Lis
 may_go_on d m actors answers e c run = record { shows = run.shows; goes_on = run.goes_on }
 
 -- By the contract of the core's step, where the caller keeps each answer with what the core told of the clock.
-pub run_by_step : RunningLaws → (d : DiskModel) (m : Machine) (actors : List ℕ) (answers : List Answered) (e : DiskModel) (old : RunningCore) (actor : ℕ) (outcome : Outcome) (clock : ℕ) (f : DiskModel) (new : RunningCore) → HasRun d m actors answers e old → IsDisk e → IsDisk f → MayLatch actor
+pub run_by_step : RunningLaws → (d : DiskModel) (m : Machine) (actors : List ℕ) (answers : List Answered) (e : DiskModel) (old : RunningCore) (actor : ℕ) (outcome : Outcome) (clock : ℕ) (f : DiskModel) (new : RunningCore) → HasRun d m actors answers e old → IsDisk e → IsDisk f → IsActor actor
     → ((x : Machine) → MayStep e old x → (next : Machine) × StepsTo x actor outcome next × ShowsMachine f new next) → Touches e old outcome f new → (IsSome f.told → clock ≡ f.clock) → HasRun d m (actors ++ actor ∷ []) (answers ++ given_by outcome clock) f new
 run_by_step laws d m actors answers e old actor outcome clock f new run disk disk_next may steps touches same =
     let took = steps run.new (may_go_on d m actors answers e old run) in

@@ -47,7 +47,8 @@ use Rattle.hb_store.specs.Calls.{IsAllowedHere}
 use Rattle.hb_store.specs.Fetching.{IsNext}
 use Rattle.hb_store.specs.States.{IsGoodPage, StoreState, in_memory}
 use Rattle.hb_terms.proofs.Facts.Owing.{planned_may_be, room_told}
-use Rattle.hb_terms.specs.Plans.{IsPlan, LacksRoom}
+use Rattle.hb_terms.specs.Plans.{IsPlan}
+use Rattle.hb_ops.specs.Owing.{LacksRoom}
 use Rattle.hb_core.proofs.Table.EachRow.{each_op, each_row}
 use Rattle.hb_ops.proofs.Facts.PageNumberLaws.{live_so}
 use Rattle.hb_activity.proofs.Facts.AllowedDeeds.{kind_at}

@@ -37,7 +37,7 @@ use Rattle.hb_core.specs.Machines.{Files, Machine, current_file, live_here, with
 use Rattle.hb_core.specs.OutcomeLaws.{AreOneButMemory, ComesToSame, IsTurnedAside}
 use Rattle.hb_core.specs.Performing.{Performs}
 use Rattle.hb_core.specs.Steps.{StepsTo, Works}
-use Rattle.hb_latch.specs.Tables.{MayLatch}
+use Rattle.hb_space.specs.Actors.{IsActor}
 use Rattle.hb_ops.specs.Files.{FileState, if_live, live_page, page_of}
 use Rattle.hb_ops.specs.Sound.{IsSound}
 use Rattle.hb_space.specs.Boxes.{whole_area}
@@ -113,7 +113,7 @@ module _ (files : Files) (st : StoreState) (holds : FilesHold st files) where
           let pages : (current_file files).meta.pages ≡ st.meta.pages = ap (λ (m : Meta). m.pages) holds.meta in
           omega (arith, full, live, pages, room)
 
-module _ (m : Machine) (files : Files) (actor : ℕ) (may : MayLatch actor) (fit : LatchesFit m) (has : HasSoundFile m files) (walks : WalksInSpace m)
+module _ (m : Machine) (files : Files) (actor : ℕ) (may : IsActor actor) (fit : LatchesFit m) (has : HasSoundFile m files) (walks : WalksInSpace m)
     (needs : ℕ → Type 0) (fetched : StoreState) (brings : Brings m needs fetched) where
   meta : (current_file files).meta ≡ m.store.meta
   meta = has.meta

@@ -30,7 +30,7 @@ use Rattle.hb_ops.specs.Files.{if_live}
 use Rattle.hb_space.specs.Boxes.{Area}
 use Rattle.hb_space.specs.Points.{IsBody}
 use Rattle.hb_store.specs.States.{StoreState, in_memory}
-use Rattle.hb_terms.specs.Plans.{Posts}
+use Rattle.hb_ops.specs.Owing.{Posts}
 use Rattle.hb_core.proofs.Table.EachRow.{each_op, each_row}
 use Rattle.hb_ops.proofs.Facts.PageNumberLaws.{live_so}
 

@@ -35,7 +35,8 @@ use Rattle.hb_core.specs.Machines.{Machine, with_disk, sight}
 use Rattle.hb_core.specs.Performing.{DoesOp, MayDo, latches_held, mode_among}
 use Rattle.hb_core.specs.Rows.{Row, RowAt}
 use Rattle.hb_frag.specs.Trees.{Tree}
-use Rattle.hb_latch.specs.Tables.{MayLatch, mode_at}
+use Rattle.hb_latch.specs.Tables.{mode_at}
+use Rattle.hb_space.specs.Actors.{IsActor}
 use Rattle.hb_ops.specs.Extracting.{fresh_page, source_page, split_pages}
 use Rattle.hb_ops.specs.Files.{if_live}
 use Rattle.hb_ops.specs.Operations.{change_of}
@@ -133,7 +134,7 @@ split_in_use source fresh a b page_in = (first, (b, ap (λ (c : Bool). cond c (S
 
 -- ---- the rows
 
-module _ (m : Machine) (actor : ℕ) (may : ℕ → Type 0) (fetched : StoreState) (new : StoreState) (latches : MayLatch actor) (fit : LatchesFit m) (inside : HoldsPagesOfFile m) (free : HasWayFree m actor) (brings : Brings m may fetched) where
+module _ (m : Machine) (actor : ℕ) (may : ℕ → Type 0) (fetched : StoreState) (new : StoreState) (latches : IsActor actor) (fit : LatchesFit m) (inside : HoldsPagesOfFile m) (free : HasWayFree m actor) (brings : Brings m may fetched) where
   abbrev pub m' : Machine
   m' = with_disk fetched m.files m.clock m
 

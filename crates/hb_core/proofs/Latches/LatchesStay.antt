@@ -29,7 +29,8 @@ use Rattle.hb_core.specs.Machines.{Machine, live_here, with_activity}
 use Rattle.hb_core.specs.Performing.{Performs, latches_held, mode_among}
 use Rattle.hb_core.specs.Steps.{StepsTo, Works}
 use Rattle.hb_latch.specs.Modes.{goes_beside}
-use Rattle.hb_latch.specs.Tables.{AreCompatible, LatchTable, MayLatch, mode_at}
+use Rattle.hb_latch.specs.Tables.{AreCompatible, LatchTable, mode_at}
+use Rattle.hb_space.specs.Actors.{IsActor}
 use Rattle.hb_ops.specs.Files.{if_live}
 use Rattle.hb_store.specs.States.{StoreState, in_memory}
 
@@ -70,7 +71,7 @@ if_that o P mode all is = subst (λ (o : Option Mode). IfSome o P) is all
 
 -- ---- a step
 
-module _ (mutual_modes : (mode other : Mode) → goes_beside mode other ≡ goes_beside other mode) (m : Machine) (actor : ℕ) (outcome : Outcome) (new : Machine) (latches : MayLatch actor) (fit : LatchesFit m) (inside : HoldsPagesOfFile m) (step : StepsTo m actor outcome new) where
+module _ (mutual_modes : (mode other : Mode) → goes_beside mode other ≡ goes_beside other mode) (m : Machine) (actor : ℕ) (outcome : Outcome) (new : Machine) (latches : IsActor actor) (fit : LatchesFit m) (inside : HoldsPagesOfFile m) (step : StepsTo m actor outcome new) where
   -- another actor's page stays
   others_page : (other page : ℕ) (mode : Mode) → other ≢ actor → mode_at m.latches other page ≡ Some mode → (live : LivePage) × (in_memory new.store page ≡ Some (Live live))
   others_page other page mode another holds =
@@ -78,18 +79,18 @@ module _ (mutual_modes : (mode other : Mode) → goes_beside mode other ≡ goes
       (used.0, held_pages_stay m actor outcome new latches fit inside step other page mode used.0 another holds used.1)
 
   -- and so what its activity says of its latches
-  walks_latch : (other held : ℕ) (live : LivePage) → MayLatch other → walk_held (m.activity other) ≡ Some held → in_memory m.store held ≡ Some (Live live) → (mode : Mode) × (mode_at m.latches other held ≡ Some mode)
+  walks_latch : (other held : ℕ) (live : LivePage) → IsActor other → walk_held (m.activity other) ≡ Some held → in_memory m.store held ≡ Some (Live live) → (mode : Mode) × (mode_at m.latches other held ≡ Some mode)
   walks_latch other held live may walks there =
       let latched = walk_latched (m.activity other) m.store held live walks (ap if_live there) in
       (latched.0, fit.exact other held may ∙ latched.1)
 
-  others_walk : (other held : ℕ) → other ≢ actor → MayLatch other → walk_held (m.activity other) ≡ Some held → (live : LivePage) × (in_memory m.store held ≡ Some (Live live)) × (in_memory new.store held ≡ Some (Live live))
+  others_walk : (other held : ℕ) → other ≢ actor → IsActor other → walk_held (m.activity other) ≡ Some held → (live : LivePage) × (in_memory m.store held ≡ Some (Live live)) × (in_memory new.store held ≡ Some (Live live))
   others_walk other held another may walks =
       let old = fit.walking other held may walks in
       let latch = walks_latch other held old.0 may walks old.1 in
       (old.0, old.1, held_pages_stay m actor outcome new latches fit inside step other held latch.0 old.0 another latch.1 old.1)
 
-  others_exact : (other page : ℕ) → other ≢ actor → MayLatch other → mode_at new.latches other page ≡ mode_at m.latches other page → new.activity other ≡ m.activity other → mode_at new.latches other page ≡ mode_among page (latches_held new.store (new.activity other))
+  others_exact : (other page : ℕ) → other ≢ actor → IsActor other → mode_at new.latches other page ≡ mode_at m.latches other page → new.activity other ≡ m.activity other → mode_at new.latches other page ≡ mode_among page (latches_held new.store (new.activity other))
   others_exact other page another may table activity =
       let same : latches_held new.store (m.activity other) ≡ latches_held m.store (m.activity other) = same_latches (m.activity other) m.store new.store (λ held walks. let both = others_walk other held another may walks in ap if_live both.2 ∙ sym (ap if_live both.1)) in
       table ∙ fit.exact other page may ∙ sym (ap (mode_among page) same) ∙ sym (ap (λ (a : Activity). mode_among page (latches_held new.store a)) activity)
@@ -183,7 +184,7 @@ ran_out m actor st activity =
 
 -- ---- each step
 
-module _ (mutual_modes : (mode other : Mode) → goes_beside mode other ≡ goes_beside other mode) (m : Machine) (actor : ℕ) (outcome : Outcome) (new : Machine) (latches : MayLatch actor) (fit : LatchesFit m) (inside : HoldsPagesOfFile m) (step : StepsTo m actor outcome new) where
+module _ (mutual_modes : (mode other : Mode) → goes_beside mode other ≡ goes_beside other mode) (m : Machine) (actor : ℕ) (outcome : Outcome) (new : Machine) (latches : IsActor actor) (fit : LatchesFit m) (inside : HoldsPagesOfFile m) (step : StepsTo m actor outcome new) where
   fits : (fetched : StoreState) (deed : Deed) → Performs m fetched actor deed outcome new → BackedIn m actor new.store deed.next → LatchesFit new
   fits fetched deed performs backed = deed_fits mutual_modes m actor outcome new latches fit inside step deed performs.latches.own performs.latches.others performs.activity backed
 

@@ -29,7 +29,7 @@ use Rattle.hb_core.specs.KeptMachine.{MachineKeeps}
 use Rattle.hb_core.specs.Machines.{Machine, live_here, with_disk}
 use Rattle.hb_core.specs.Performing.{Performs}
 use Rattle.hb_core.specs.Steps.{StepsTo, TakesJob, TakesMerging}
-use Rattle.hb_latch.specs.Tables.{MayLatch}
+use Rattle.hb_space.specs.Actors.{IsActor}
 use Rattle.hb_point.specs.SessionRows.{WantsBoxes, boxes_ahead, taking}
 use Rattle.hb_poster.specs.PosterRows.{IsPostingOf}
 use Rattle.hb_store.specs.States.{IsGoodPage, StoreState}
@@ -193,7 +193,7 @@ module _ (m : Machine) (actor : ℕ) (outcome : Outcome) (new : Machine) (kept :
   ends : (fetched : StoreState) (deed : Deed) → fetched.meta ≡ m.store.meta → EndsHand (m.activity actor) deed → Performs m fetched actor deed outcome new → AttributesFit new
   ends fetched deed same ended performs = performed fetched deed same performs (empty_fits k deed.next ended.hand) (no_adds deed ended.adds)
 
-pub attributes_fit_still : (m : Machine) (actor : ℕ) (outcome : Outcome) (new : Machine) → MayLatch actor → MachineKeeps m → StepsTo m actor outcome new → AttributesFit new
+pub attributes_fit_still : (m : Machine) (actor : ℕ) (outcome : Outcome) (new : Machine) → IsActor actor → MachineKeeps m → StepsTo m actor outcome new → AttributesFit new
 attributes_fit_still m actor outcome new may kept step = each_deed m actor outcome new (AttributesFit new) (record {
   keeps = keeps m actor outcome new kept;
   takes = λ line idle next performs.

@@ -31,7 +31,8 @@ use Rattle.hb_core.specs.Machines.{Machine, settled_count}
 use Rattle.hb_core.specs.Performing.{latches_held, mode_among}
 use Rattle.hb_core.specs.SteppingLaws.{BeginningExists, BeginningKeeps, BeginningKeepsAll, IsBegun}
 use Rattle.hb_latch.specs.Modes.{goes_beside}
-use Rattle.hb_latch.specs.Tables.{MayLatch, latch_cmp, mode_at}
+use Rattle.hb_latch.specs.Tables.{latch_cmp, mode_at}
+use Rattle.hb_space.specs.Actors.{IsActor}
 use Rattle.hb_layout.specs.Limits.{IsLayout}
 use Rattle.hb_ops.specs.Files.{FileState, contents_of}
 use Rattle.hb_ops.specs.Sound.{IsSound}
@@ -87,7 +88,7 @@ holds_or_not : (held : ℕ) → OfEachIdle (λ a. walk_held a ≢ Some held)
 holds_or_not held = record { session = λ is. cc; poster = λ is. cc; consolidator = λ is. cc; flusher = λ is. cc }
 
 -- under a number that is none of an actor an idle session stands
-nobodys_kind : (actor : ℕ) → ¬ (MayLatch actor) → class_for actor ≡ Sessions
+nobodys_kind : (actor : ℕ) → ¬ (IsActor actor) → class_for actor ≡ Sessions
 nobodys_kind actor none = elim (cases_Bool (actor == 17)) [
   | inl is ↦ absurd (none (one 17 (eqb-true actor 17 is) (omega arith) (omega arith)))
   | inr off ↦ first off ∙ elim (cases_Bool (actor == 18)) [
@@ -99,8 +100,8 @@ nobodys_kind actor none = elim (cases_Bool (actor == 17)) [
   ]
 ]
   where
-    one : (n : ℕ) → actor ≡ n → 1 ≤ n → n ≤ 19 → MayLatch actor
-    one n is low high = subst MayLatch (sym is) (record { from_1 = low; to_19 = high })
+    one : (n : ℕ) → actor ≡ n → 1 ≤ n → n ≤ 19 → IsActor actor
+    one n is low high = subst IsActor (sym is) (record { from_1 = low; to_19 = high })
 
     first : (actor == 17) ≡ false → class_for actor ≡ cond (actor == 18) Consolidators (cond (actor == 19) Flushers Sessions)
     first off = ap (λ (b : Bool). cond b Posters (cond (actor == 18) Consolidators (cond (actor == 19) Flushers Sessions))) off

@@ -12,7 +12,7 @@ use Rattle.hb_core.specs.KeptMachine.{MachineKeeps}
 use Rattle.hb_core.specs.Machines.{Machine}
 use Rattle.hb_core.specs.Performing.{Performs}
 use Rattle.hb_core.specs.Steps.{StepsTo, TakesJob, TakesMerging}
-use Rattle.hb_latch.specs.Tables.{MayLatch}
+use Rattle.hb_space.specs.Actors.{IsActor}
 use Rattle.hb_poster.specs.PosterRows.{IsPostingOf}
 use Rattle.hb_store.specs.States.{StoreState}
 
@@ -37,7 +37,7 @@ module _ (m : Machine) (actor : ℕ) (outcome : Outcome) (new : Machine) (classe
   performed fetched deed performs kind =
       each_again (λ (other : ℕ) (activity : Activity). class_of activity ≡ class_for other) m.activity new.activity actor deed.next performs.activity (kind ∙ classes actor) (λ other another. classes other)
 
-pub classes_stay : (m : Machine) (actor : ℕ) (outcome : Outcome) (new : Machine) → MayLatch actor → MachineKeeps m → StepsTo m actor outcome new → HaveClasses new
+pub classes_stay : (m : Machine) (actor : ℕ) (outcome : Outcome) (new : Machine) → IsActor actor → MachineKeeps m → StepsTo m actor outcome new → HaveClasses new
 classes_stay m actor outcome new may kept step = each_deed m actor outcome new (HaveClasses new) (record {
   keeps = λ keeps meta other. ap (λ (all : ℕ → Activity). class_of (all other)) keeps.activity ∙ kept.classes other;
   takes = λ line idle next performs. performed m actor outcome new kept.classes m.store _ performs (sym (ap class_of idle));

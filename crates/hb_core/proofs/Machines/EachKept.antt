@@ -20,7 +20,7 @@ use Rattle.hb_core.specs.KeepingLaws.{RoomStaysKnown}
 use Rattle.hb_core.specs.KeptMachine.{MachineKeeps}
 use Rattle.hb_core.specs.Laws.{LatchesStayFit}
 use Rattle.hb_core.specs.MachineLaws.{MachineStaysKept, MachinesStayKept}
-use Rattle.hb_latch.specs.Tables.{MayLatch}
+use Rattle.hb_space.specs.Actors.{IsActor}
 
 -- the laws of the parts that are contracts
 pub record PartLaws : Type 0 where
@@ -55,4 +55,4 @@ machine_stays_kept laws m actor outcome new may keeps step = record {
 pub machines_stay_kept : MachineStaysKept → MachinesStayKept
 machines_stay_kept law [] m new may keeps is = subst MachineKeeps (sym is) keeps
 machines_stay_kept law (actor ∷ rest) m new may keeps (outcome, next, step, steps) =
-    machines_stay_kept law rest next new (All-tail MayLatch actor rest may) (law m actor outcome next (All-head MayLatch actor rest may) keeps step) steps
+    machines_stay_kept law rest next new (All-tail IsActor actor rest may) (law m actor outcome next (All-head IsActor actor rest may) keeps step) steps

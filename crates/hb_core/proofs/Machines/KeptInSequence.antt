@@ -14,7 +14,7 @@ use Rattle.hb_core.specs.Machines.{Files, Machine, settled_count}
 use Rattle.hb_core.specs.OrderLaws.{OrderStaysLegal, SearchesStayExact}
 use Rattle.hb_core.specs.SteppingLaws.{BeginningKeepsAll}
 use Rattle.hb_core.specs.Steps.{StepsInSequence, StepsTo}
-use Rattle.hb_latch.specs.Tables.{MayLatch}
+use Rattle.hb_space.specs.Actors.{IsActor}
 use Rattle.hb_ops.specs.Files.{contents_of}
 use Rattle.hb_set.specs.Machine.{RecordSet}
 
@@ -26,7 +26,7 @@ pub record StepLaws : Type 0 where
   pub order : OrderStaysLegal
 
 module _ (laws : StepLaws) (n : RecordSet) where
-  kept_by_step : (m : Machine) (files : Files) (actor : ℕ) (outcome : Outcome) (new : Machine) → MayLatch actor → CoreKeeps n m files → StepsTo m actor outcome new → (files' : Files) × CoreKeeps n new files'
+  kept_by_step : (m : Machine) (files : Files) (actor : ℕ) (outcome : Outcome) (new : Machine) → IsActor actor → CoreKeeps n m files → StepsTo m actor outcome new → (files' : Files) × CoreKeeps n new files'
   kept_by_step m files actor outcome new may keeps step =
       let after = laws.files m files actor outcome new keeps.told keeps.kept.lines_fit keeps.kept.pages_of_file keeps.sound_file step in
       let legal = laws.order n m files after.0 actor outcome new keeps.told keeps.kept keeps.sound_file keeps.search_exact keeps.order_legal step after.1 in (
@@ -47,7 +47,7 @@ module _ (laws : StepLaws) (n : RecordSet) where
       let same = ap settled_count is in
       record { keeps = now; prefixes = files_have_prefixes n new files now.sound_file now.order_legal now.pending_prefix; settled = omega (arith, same); undamaged = λ well. subst IsUndamaged (sym is) well }
 
-  one_more : (m : Machine) (files : Files) (actor : ℕ) (outcome : Outcome) (next new : Machine) (files' : Files) → MayLatch actor → CoreKeeps n m files → StepsTo m actor outcome next → HasKeptAll n next new files' → HasKeptAll n m new files'
+  one_more : (m : Machine) (files : Files) (actor : ℕ) (outcome : Outcome) (next new : Machine) (files' : Files) → IsActor actor → CoreKeeps n m files → StepsTo m actor outcome next → HasKeptAll n next new files' → HasKeptAll n m new files'
   one_more m files actor outcome next new files' may keeps step kept =
       let rises = settled_stays_settled n m files actor outcome next keeps.told keeps.sound_file keeps.order_legal keeps.pending_prefix step in
       let further = kept.settled in
@@ -58,12 +58,12 @@ module _ (laws : StepLaws) (n : RecordSet) where
         undamaged = λ well. kept.undamaged (stays_undamaged m files actor outcome next may keeps.told keeps.kept.latches_fit keeps.sound_file keeps.kept.walk_in_space step well);
       }
 
-  kept_in_sequence : (actors : List ℕ) (m : Machine) (files : Files) (new : Machine) → All MayLatch actors → CoreKeeps n m files → StepsInSequence actors m new → (files' : Files) × HasKeptAll n m new files'
+  kept_in_sequence : (actors : List ℕ) (m : Machine) (files : Files) (new : Machine) → All IsActor actors → CoreKeeps n m files → StepsInSequence actors m new → (files' : Files) × HasKeptAll n m new files'
   kept_in_sequence [] m files new may keeps is = (files, nothing_done m files new keeps is)
   kept_in_sequence (actor ∷ rest) m files new may keeps (outcome, next, step, steps) =
-      let after = kept_by_step m files actor outcome next (All-head MayLatch actor rest may) keeps step in
-      let kept = kept_in_sequence rest next after.0 new (All-tail MayLatch actor rest may) after.1 steps in
-      (kept.0, one_more m files actor outcome next new kept.0 (All-head MayLatch actor rest may) keeps step kept.1)
+      let after = kept_by_step m files actor outcome next (All-head IsActor actor rest may) keeps step in
+      let kept = kept_in_sequence rest next after.0 new (All-tail IsActor actor rest may) after.1 steps in
+      (kept.0, one_more m files actor outcome next new kept.0 (All-head IsActor actor rest may) keeps step kept.1)
 
 pub steps_keep_all : StepLaws → StepsKeepAll
 steps_keep_all laws n actors m files new may keeps steps = kept_in_sequence laws n actors m files new may keeps steps

@@ -28,7 +28,8 @@ use Rattle.hb_core.specs.Machines.{Machine}
 use Rattle.hb_core.specs.Performing.{MayDo, Performs}
 use Rattle.hb_core.specs.Steps.{GetsReady, Works}
 use Rattle.hb_latch.specs.Modes.{goes_beside}
-use Rattle.hb_latch.specs.Tables.{IsGrantable, MayLatch, mode_at}
+use Rattle.hb_latch.specs.Tables.{IsGrantable, mode_at}
+use Rattle.hb_space.specs.Actors.{IsActor}
 use Rattle.hb_store.specs.Calls.{change_here, read_here}
 use Rattle.hb_store.specs.Replay.{set_pages}
 use Rattle.hb_store.specs.States.{StoreState, in_memory}
@@ -40,7 +41,7 @@ gives_up_nothing why activity = given_up_is (λ deed. deed.op ≡ None) why acti
 pub runs_out_nothing : (activity : Activity) → (runs_out activity).op ≡ None
 runs_out_nothing activity = run_out_is (λ deed. deed.op ≡ None) activity (λ line is. refl) (λ job is. refl) (λ is. refl)
 
-module _ (m : Machine) (actor : ℕ) (latches : MayLatch actor) (fit : LatchesFit m) (inside : HoldsPagesOfFile m) (new : Machine) (id : ℕ) (page : LivePage) (used : IsInUse m id page) where
+module _ (m : Machine) (actor : ℕ) (latches : IsActor actor) (fit : LatchesFit m) (inside : HoldsPagesOfFile m) (new : Machine) (id : ℕ) (page : LivePage) (used : IsInUse m id page) where
   abbrev pub Goal : Type 0
   Goal = IsInUse new id page ⊎ MayHaveLeft m id new ⊎ HasAlone m actor id
 

@@ -26,7 +26,7 @@ use Rattle.hb_core.specs.Laws.{HasAlone, IsInUse}
 use Rattle.hb_core.specs.Machines.{Machine, with_disk, sight}
 use Rattle.hb_core.specs.Performing.{MayDo, latches_held, mode_among}
 use Rattle.hb_core.specs.Rows.{Row}
-use Rattle.hb_latch.specs.Tables.{MayLatch}
+use Rattle.hb_space.specs.Actors.{IsActor}
 use Rattle.hb_ops.specs.Files.{if_live}
 use Rattle.hb_ops.specs.Operations.{IsAllowedOn}
 use Rattle.hb_space.specs.Boxes.{Area}
@@ -76,7 +76,7 @@ made_is_free : (m : Machine) (may : ℕ → Type 0) (fetched : StoreState) (acto
 made_is_free m may fetched actor fresh free_after inside brings next = inr (made_was_free m may fetched fresh free_after inside brings next)
 
 -- what an actor holds exclusively
-pub held_alone : (m : Machine) (actor id : ℕ) → MayLatch actor → LatchesFit m → mode_among id (latches_held m.store (m.activity actor)) ≡ Some Exclusive → IsFreeFor m actor id
+pub held_alone : (m : Machine) (actor id : ℕ) → IsActor actor → LatchesFit m → mode_among id (latches_held m.store (m.activity actor)) ≡ Some Exclusive → IsFreeFor m actor id
 held_alone m actor id may fit is = inl (inl (fit.exact actor id may ∙ is))
 
 pub second_mode : (first id : ℕ) → cond (first == id) (Some Exclusive) (cond (id == id) (Some Exclusive) None) ≡ Some Exclusive
@@ -85,7 +85,7 @@ second_mode first id = elim (cases_Bool (first == id)) [
   | inr off ↦ ap (λ (b : Bool). cond b (Some Exclusive) (cond (id == id) (Some Exclusive) None)) off ∙ at_itself id (Some Exclusive) None
 ]
 
-held_by : (m : Machine) (actor id : ℕ) (activity : Activity) → MayLatch actor → LatchesFit m → m.activity actor ≡ activity → mode_among id (latches_held m.store activity) ≡ Some Exclusive → IsFreeFor m actor id
+held_by : (m : Machine) (actor id : ℕ) (activity : Activity) → IsActor actor → LatchesFit m → m.activity actor ≡ activity → mode_among id (latches_held m.store activity) ≡ Some Exclusive → IsFreeFor m actor id
 held_by m actor id activity may fit is mode = held_alone m actor id may fit (subst (λ (a : Activity). mode_among id (latches_held m.store a) ≡ Some Exclusive) (sym is) mode)
 
 -- ---- a walk of an insert or a delete at a page of records
@@ -124,7 +124,7 @@ allowed_by (Some op) mark old new done = done.allowed
 
 -- ---- the rows
 
-module _ (m : Machine) (actor : ℕ) (may : ℕ → Type 0) (fetched : StoreState) (latches : MayLatch actor) (fit : LatchesFit m) (inside : HoldsPagesOfFile m) (free : HasWayFree m actor) (brings : Brings m may fetched) where
+module _ (m : Machine) (actor : ℕ) (may : ℕ → Type 0) (fetched : StoreState) (latches : IsActor actor) (fit : LatchesFit m) (inside : HoldsPagesOfFile m) (free : HasWayFree m actor) (brings : Brings m may fetched) where
   -- the machine with the pages that came
   abbrev pub m' : Machine
   m' = with_disk fetched m.files m.clock m

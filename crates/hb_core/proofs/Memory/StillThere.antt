@@ -20,7 +20,8 @@ use Rattle.hb_core.specs.Keeps.{HoldsPagesOfFile, LatchesFit}
 use Rattle.hb_core.specs.Machines.{Machine, live_here}
 use Rattle.hb_core.specs.Performing.{MayDo, Performs, latches_held, mode_among}
 use Rattle.hb_core.specs.Steps.{StepsTo}
-use Rattle.hb_latch.specs.Tables.{MayLatch, mode_at}
+use Rattle.hb_latch.specs.Tables.{mode_at}
+use Rattle.hb_space.specs.Actors.{IsActor}
 use Rattle.hb_ops.specs.Files.{if_live}
 use Rattle.hb_store.specs.States.{IsGoodPage, StoreState, in_memory}
 use Rattle.hb_ops.proofs.Facts.PageNumberLaws.{live_so}
@@ -31,7 +32,7 @@ pub record StandsInBoth (old new : StoreState) (id : ℕ) (page : LivePage) : Ty
   pub after : live_here new id ≡ Some page
 
 -- whether a number is that of an actor
-pub may_or_not : (actor : ℕ) → MayLatch actor ⊎ (¬ (MayLatch actor))
+pub may_or_not : (actor : ℕ) → IsActor actor ⊎ (¬ (IsActor actor))
 may_or_not actor = elim (cases_Bool (nat_le 1 actor)) [
   | inl low ↦ elim (cases_Bool (nat_le actor 19)) [
     | inl high ↦ inl (record { from_1 = leb-true 1 actor low; to_19 = leb-true actor 19 high })
@@ -42,12 +43,12 @@ may_or_not actor = elim (cases_Bool (nat_le 1 actor)) [
 
 pub nobody_else_comes : NobodyElseComes
 nobody_else_comes m actor outcome new may nobody step other none =
-    let another : other ≢ actor = λ same. none (subst MayLatch (sym same) may) in
+    let another : other ≢ actor = λ same. none (subst IsActor (sym same) may) in
     (others_stay m actor outcome new step other another).0 ∙ nobody other none
 
 pub nobody_else_latches : NobodyElseLatches
 nobody_else_latches m actor outcome new may nobody step other page none =
-    let another : other ≢ actor = λ same. none (subst MayLatch (sym same) may) in
+    let another : other ≢ actor = λ same. none (subst IsActor (sym same) may) in
     (others_stay m actor outcome new step other another).1 page ∙ nobody other page none
 
 -- where nothing is done, the memory is what was fetched
@@ -69,7 +70,7 @@ module _ (m : Machine) (actor : ℕ) (fetched : StoreState) (deed : Deed) (outco
   pub own_next : new.activity actor ≡ deed.next
   own_next = performs.activity actor ∙ ap (λ (b : Bool). cond b deed.next (m.activity actor)) (eq-eqb actor actor refl)
 
-module _ (m : Machine) (actor : ℕ) (outcome : Outcome) (new : Machine) (latches : MayLatch actor) (fit : LatchesFit m) (inside : HoldsPagesOfFile m) (step : StepsTo m actor outcome new) (other : ℕ) (another : other ≢ actor) (may : MayLatch other) where
+module _ (m : Machine) (actor : ℕ) (outcome : Outcome) (new : Machine) (latches : IsActor actor) (fit : LatchesFit m) (inside : HoldsPagesOfFile m) (step : StepsTo m actor outcome new) (other : ℕ) (another : other ≢ actor) (may : IsActor other) where
   -- another actor stands where it stood
   pub other_stands : new.activity other ≡ m.activity other
   other_stands = (others_stay m actor outcome new step other another).0

@@ -14,7 +14,7 @@ use Rattle.hb_core.specs.KeptPlaces.{MarksRise}
 use Rattle.hb_core.specs.Machines.{Machine, if_some}
 use Rattle.hb_core.specs.Performing.{MayDo, Performs}
 use Rattle.hb_core.specs.Steps.{StepsTo, Works}
-use Rattle.hb_latch.specs.Tables.{MayLatch}
+use Rattle.hb_space.specs.Actors.{IsActor}
 use Rattle.hb_log_codec.specs.Groups.{group_bytes}
 use Rattle.hb_set.specs.Order.{Entry}
 use Rattle.hb_store.specs.Making.{group_here}
@@ -88,7 +88,7 @@ module _ (m : Machine) (actor : ℕ) (outcome : Outcome) (new : Machine) (marks 
   worked (inr (inr (free, ready, inr (inl gives)))) = performed gives.fetched _ gives.brings.rest.log gives.performs
   worked (inr (inr (free, ready, inr (inr meets)))) = same (ap (λ (n : Machine). n.order) meets.stops) (ap (λ (n : Machine). n.store.log.groups) meets.stops ∙ ap (λ (log : LogState). log.groups) meets.brings.rest.log)
 
-pub marks_rise_still : (m : Machine) (actor : ℕ) (outcome : Outcome) (new : Machine) → MayLatch actor → MachineKeeps m → StepsTo m actor outcome new → MarksRise new
+pub marks_rise_still : (m : Machine) (actor : ℕ) (outcome : Outcome) (new : Machine) → IsActor actor → MachineKeeps m → StepsTo m actor outcome new → MarksRise new
 marks_rise_still m actor outcome new may kept step =
     each_kind m actor outcome new (MarksRise new)
     (λ said quiet so. stays m actor outcome new kept.marks_rise said so)

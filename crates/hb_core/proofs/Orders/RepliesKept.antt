@@ -11,7 +11,7 @@ use Rattle.hb_core.specs.KeptOrder.{StandsOutside}
 use Rattle.hb_core.specs.KeptPlaces.{RepliesStand}
 use Rattle.hb_core.specs.Machines.{Machine}
 use Rattle.hb_core.specs.Steps.{StepsTo}
-use Rattle.hb_latch.specs.Tables.{MayLatch}
+use Rattle.hb_space.specs.Actors.{IsActor}
 
 module _ (m : Machine) (actor : ℕ) (new : Machine) (stand : RepliesStand m) where
   -- what is awaited is a reply of the order
@@ -24,7 +24,7 @@ module _ (m : Machine) (actor : ℕ) (new : Machine) (stand : RepliesStand m) wh
   awaited_inside (inr (inr (inl answered))) other number place reply is = stand.inside other number place reply (answered.awaits other number place reply is)
   awaited_inside (inr (inr (inr settled))) other number place reply is = stand.inside other number place reply (settled.awaits other number place reply is)
 
-pub replies_stand : (m : Machine) (actor : ℕ) (outcome : Outcome) (new : Machine) → MayLatch actor → MachineKeeps m → StepsTo m actor outcome new → RepliesStand new
+pub replies_stand : (m : Machine) (actor : ℕ) (outcome : Outcome) (new : Machine) → IsActor actor → MachineKeeps m → StepsTo m actor outcome new → RepliesStand new
 replies_stand m actor outcome new may keeps step =
     let before : KeepsReplies m = record { awaits = keeps.replies_stand.awaits; answers = keeps.replies_stand.answers } in
     let after = replies_kept m actor outcome new before step in

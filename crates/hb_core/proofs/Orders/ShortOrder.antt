@@ -14,7 +14,7 @@ use Rattle.hb_core.specs.KeptPlaces.{OrderIsShort}
 use Rattle.hb_core.specs.KeptSequence.{IsInSequence, LinesInSequence, awaited_number}
 use Rattle.hb_core.specs.Machines.{Machine}
 use Rattle.hb_core.specs.Steps.{StepsTo}
-use Rattle.hb_latch.specs.Tables.{MayLatch}
+use Rattle.hb_space.specs.Actors.{IsActor}
 use Rattle.hb_point.specs.SessionRows.{is_answered, next_line}
 use Rattle.hb_set.specs.Order.{Entry}
 
@@ -96,7 +96,7 @@ module _ (m : Machine) (actor : ℕ) (new : Machine) (sequence : LinesInSequence
   still_once (inr (inr (inl answered))) = subst (λ (es : List Entry). AllPairs AreOfTwo es) (sym answered.order) once
   still_once (inr (inr (inr settled))) = subst (λ (es : List Entry). AllPairs AreOfTwo es) (sym settled.order) once
 
-pub order_stays_short : (m : Machine) (actor : ℕ) (outcome : Outcome) (new : Machine) → MayLatch actor → MachineKeeps m → StepsTo m actor outcome new → OrderIsShort new
+pub order_stays_short : (m : Machine) (actor : ℕ) (outcome : Outcome) (new : Machine) → IsActor actor → MachineKeeps m → StepsTo m actor outcome new → OrderIsShort new
 order_stays_short m actor outcome new may keeps step =
     let once = still_once m actor new keeps.lines_in_sequence keeps.order_short.once (lines_after m actor outcome new keeps.lines_in_sequence step) in
     let sequence = sequence_stays m actor outcome new keeps.lines_in_sequence step in

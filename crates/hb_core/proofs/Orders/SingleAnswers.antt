@@ -16,7 +16,7 @@ use Rattle.hb_core.specs.KeptPlaces.{AnswersAreSingle, RepliesStand}
 use Rattle.hb_core.specs.KeptSequence.{LinesInSequence, awaited_number}
 use Rattle.hb_core.specs.Machines.{Machine}
 use Rattle.hb_core.specs.Steps.{StepsTo}
-use Rattle.hb_latch.specs.Tables.{MayLatch}
+use Rattle.hb_space.specs.Actors.{IsActor}
 use Rattle.hb_point.specs.SessionRows.{is_answered, next_line}
 use Rattle.hb_set.specs.Order.{Entry}
 
@@ -69,5 +69,5 @@ module _ (m : Machine) (actor : ℕ) (new : Machine) (sequence : LinesInSequence
       (all_pairs_push AreToTwo m.answered _ single.once (awaited_open settled))
       (All-push (StandsNowhere m.order) m.answered _ single.outside (λ outside. absurd (stand.inside actor settled.number settled.place settled.reply settled.waited outside)))
 
-pub answers_stay_single : (m : Machine) (actor : ℕ) (outcome : Outcome) (new : Machine) → MayLatch actor → MachineKeeps m → StepsTo m actor outcome new → AnswersAreSingle new
+pub answers_stay_single : (m : Machine) (actor : ℕ) (outcome : Outcome) (new : Machine) → IsActor actor → MachineKeeps m → StepsTo m actor outcome new → AnswersAreSingle new
 answers_stay_single m actor outcome new may keeps step = single_after m actor new keeps.lines_in_sequence keeps.replies_stand keeps.answers_single (lines_after m actor outcome new keeps.lines_in_sequence step)

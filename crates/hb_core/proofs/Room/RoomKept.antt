@@ -38,7 +38,7 @@ use Rattle.hb_core.specs.Machines.{Machine, live_here}
 use Rattle.hb_core.specs.Performing.{MayDo, Performs, latches_held, mode_among}
 use Rattle.hb_core.specs.Steps.{StepsTo, Works}
 use Rattle.hb_frag.specs.Leaves.{weight_of}
-use Rattle.hb_latch.specs.Tables.{MayLatch}
+use Rattle.hb_space.specs.Actors.{IsActor}
 use Rattle.hb_ops.specs.Files.{if_live}
 use Rattle.hb_ops.specs.Operations.{change_of}
 use Rattle.hb_ops.specs.Recording.{put_page}
@@ -274,12 +274,12 @@ module _ (laws : RoomLaws) (least : DCAP_MIN ≡ 6) (m : Machine) (actor : ℕ) 
 
 -- ---- each step
 
-module _ (laws : RoomLaws) (least : DCAP_MIN ≡ 6) (m : Machine) (actor : ℕ) (outcome : Outcome) (new : Machine) (latches : MayLatch actor) (fit : LatchesFit m) (inside : HoldsPagesOfFile m) (within : MetaWithinLimits m) (nobody : HasNobodyElse m)
+module _ (laws : RoomLaws) (least : DCAP_MIN ≡ 6) (m : Machine) (actor : ℕ) (outcome : Outcome) (new : Machine) (latches : IsActor actor) (fit : LatchesFit m) (inside : HoldsPagesOfFile m) (within : MetaWithinLimits m) (nobody : HasNobodyElse m)
     (knows : KnowsRoom m) (step : StepsTo m actor outcome new) where
   capacity : SameCapacity m new
   capacity = capacity_stays m actor outcome new step
 
-  other_knows : (other : ℕ) → other ≢ actor → MayLatch other → KnowsOf new (m.activity other)
+  other_knows : (other : ℕ) → other ≢ actor → IsActor other → KnowsOf new (m.activity other)
   other_knows other another may = record {
     splits = λ held line is.
         splits_again m new capacity line held

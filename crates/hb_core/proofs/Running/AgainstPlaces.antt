@@ -6,7 +6,7 @@ use Rattle.hb_activity.specs.BoxLocks.{lock_of}
 use Rattle.hb_activity.specs.declared.activities.Activity.{Activity}
 use Rattle.hb_boxlock.specs.declared.locks.BoxLock.{BoxLock}
 use Rattle.hb_disk.specs.Model.{DiskModel}
-use Rattle.hb_latch.specs.Tables.{MayLatch}
+use Rattle.hb_space.specs.Actors.{IsActor}
 use Rattle.hb_set.specs.declared.scripts.Line.{Line}
 use Rattle.hb_store.specs.States.{StoreState}
 use Rattle.hb_core.proofs.Machines.LocksKept.{lock_box}
@@ -70,14 +70,14 @@ first_here shown activities actor by lock its same is first = subst (λ (l : Lis
 -- ---- the machine that is shown
 
 module _ (d : DiskModel) (c : RunningCore) (m : Machine) (shows : ShowsMachine d c m) (actor : ℕ) (lock : BoxLock) where
-  stands_at : (other : ℕ) → MayLatch other → slice_get c.activities (other - 1) ≡ Some (m.activity other)
+  stands_at : (other : ℕ) → IsActor other → slice_get c.activities (other - 1) ≡ Some (m.activity other)
   stands_at other may = shows.activities other may
 
   locks_out : (place : ℕ) → IsAgainst c.activities actor lock place → LocksOut m actor lock (place + 1)
   locks_out place against =
       let within = place_within c.activities actor lock place against in
       let all = shows.all_actors in
-      let may : MayLatch (place + 1) = record { from_1 = omega arith; to_19 = omega (arith, within, all) } in
+      let may : IsActor (place + 1) = record { from_1 = omega arith; to_19 = omega (arith, within, all) } in
       let number : place + 1 - 1 ≡ place = omega arith in
       record {
         another = against.another;
@@ -113,7 +113,7 @@ lock_fits k (Some lock) fits = fits lock refl
 pub locks_have_boxes : (d : DiskModel) (c : RunningCore) (m : Machine) → ShowsMachine d c m → MachineKeeps m → HaveBoxes c.store.meta.k c.activities
 locks_have_boxes d c m shows kept place x lt =
     let all = shows.all_actors in
-    let may : MayLatch (place + 1) = record { from_1 = omega arith; to_19 = omega (arith, lt, all) } in
+    let may : IsActor (place + 1) = record { from_1 = omega arith; to_19 = omega (arith, lt, all) } in
     let number : place + 1 - 1 ≡ place = omega arith in
     let there : slice_get c.activities place ≡ Some (m.activity (place + 1)) = sym (ap (slice_get c.activities) number) ∙ shows.activities (place + 1) may in
     let fits : IfSome (lock_of (m.activity (place + 1))) (λ held. length held.area.lo ≡ m.store.meta.k) = lock_fits m.store.meta.k (lock_of (m.activity (place + 1))) (lock_box m kept (place + 1)) in

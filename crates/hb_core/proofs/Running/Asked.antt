@@ -10,7 +10,7 @@ use Rattle.hb_frag.specs.declared.pages.LivePage.{LivePage}
 use Rattle.hb_frag.specs.Leaves.{Placed}
 use Rattle.hb_latch.specs.declared.modes.Mode.{Mode}
 use Rattle.hb_latch.specs.declared.modes.Mode.TheVariants.{Shared, Exclusive}
-use Rattle.hb_latch.specs.Tables.{MayLatch}
+use Rattle.hb_space.specs.Actors.{IsActor}
 use Rattle.hb_layout.specs.declared.meta.Meta.{Meta}
 use Rattle.hb_layout.specs.Limits.{IsLayout}
 use Rattle.hb_ops.specs.Files.{if_live}
@@ -66,7 +66,7 @@ inside_by page (Lookup point) rest p wants goal has = absurd wants
 
 -- ---- what a step wants is there
 
-module _ (m : Machine) (actor : ℕ) (may : MayLatch actor) (keeps : MachineKeeps m) where
+module _ (m : Machine) (actor : ℕ) (may : IsActor actor) (keeps : MachineKeeps m) where
   wants_on : (mode : ℕ → Mode) (next : Option (ℕ × ℕ)) → IsSome next → IsSome (in_mode mode next)
   wants_on mode None none = cc
   wants_on mode (Some next) some = refl
@@ -129,7 +129,7 @@ fits_free N Q meta None few gives needs has = elim (cases_lt meta.live meta.page
   | inr ge ↦ omega (arith, ge, few)
 ]
 
-module _ (d : DiskModel) (c : RunningCore) (m : Machine) (actor : ℕ) (free : Option (ℕ × ℕ)) (may : MayLatch actor) (has : HasPages m actor free d c) where
+module _ (d : DiskModel) (c : RunningCore) (m : Machine) (actor : ℕ) (free : Option (ℕ × ℕ)) (may : IsActor actor) (has : HasPages m actor free d c) where
   keeps : MachineKeeps m
   keeps = has.may.goes_on.kept
 

@@ -5,7 +5,8 @@ use Rattle.std.proofs.lemmas.Bool.{cases_lt, false≢true}
 use Rattle.std.proofs.lemmas.List.{get_or-replicate}
 use Rattle.std.proofs.lemmas.Option.{get_or_from_slice_get, slice_get-get_or, slice_get_within}
 use Rattle.hb_disk.specs.Model.{DiskModel}
-use Rattle.hb_latch.specs.Tables.{LatchTable, MayLatch, latch_cmp, mode_at}
+use Rattle.hb_latch.specs.Tables.{LatchTable, latch_cmp, mode_at}
+use Rattle.hb_space.specs.Actors.{IsActor}
 use Rattle.hb_latch.proofs.KeyOrder.{exact_keys, latch_order}
 use Rattle.hb_set.specs.declared.scripts.Answered.{Answered}
 use Rattle.hb_set.specs.declared.scripts.Line.{Line}
@@ -51,7 +52,7 @@ session_at actor low high =
     less : (n : ℕ) → 17 ≤ n → actor ≡ n → ⊥
     less n most same = omega (arith, high, most, same)
 
-stands_at_rest : (actor : ℕ) → MayLatch actor → IsAtRest actor
+stands_at_rest : (actor : ℕ) → IsActor actor → IsAtRest actor
 stands_at_rest actor may = elim (cases_lt actor 17) [
   | inl low ↦ session_at actor may.from_1 low
   | inr above ↦ elim (cases_lt actor 18) [

@@ -12,7 +12,7 @@ use Rattle.hb_frag.specs.declared.pages.Page.TheVariants.{Live}
 use Rattle.hb_frag.specs.Leaves.{Placed, leaf_at}
 use Rattle.hb_latch.specs.declared.modes.Mode.{Mode}
 use Rattle.hb_latch.specs.declared.modes.Mode.TheVariants.{Shared, Exclusive}
-use Rattle.hb_latch.specs.Tables.{MayLatch}
+use Rattle.hb_space.specs.Actors.{IsActor}
 use Rattle.hb_layout.specs.declared.meta.Meta.{Meta}
 use Rattle.hb_lemmas.proofs.Options.{at_value, has_value, if_value, not_none}
 use Rattle.hb_ops.proofs.Facts.PageNumberLaws.{live_so}
@@ -144,7 +144,7 @@ told_or_not d c m P shows sound so = by d.told refl
         let kept = subst (λ (x : StoreState). StoreKeeps d x s.files.durable s.files.later) shows.store s.kept in
         inr (so s.files.durable s.files.later kept (at_value m.files (λ (files : Files). IsSound (current_file files)) s.files s.told sound))
 
-module _ (m : Machine) (d : DiskModel) (c : RunningCore) (actor : ℕ) (latches : MayLatch actor) (step : MayStep d c m) (work : MayWork m actor) where
+module _ (m : Machine) (d : DiskModel) (c : RunningCore) (actor : ℕ) (latches : IsActor actor) (step : MayStep d c m) (work : MayWork m actor) where
   abbrev here : StoreState
   here = c.store
 

@@ -8,7 +8,7 @@ use Rattle.hb_disk.specs.Model.{DiskModel}
 use Rattle.hb_frag.specs.declared.leaves.Leaf.TheVariants.{Records}
 use Rattle.hb_frag.specs.declared.pages.LivePage.{LivePage}
 use Rattle.hb_frag.specs.Leaves.{leaf_at}
-use Rattle.hb_latch.specs.Tables.{MayLatch}
+use Rattle.hb_space.specs.Actors.{IsActor}
 use Rattle.hb_ops.specs.declared.operations.Op.{Op}
 use Rattle.hb_ops.specs.Files.{FileState}
 use Rattle.hb_ops.specs.Operations.{IsLicensed}
@@ -95,7 +95,7 @@ module _ (m : Machine) (actor : ℕ) (fetched : StoreState) (keeps : MachineKeep
           }))
           row
 
-module _ (d : DiskModel) (c : RunningCore) (m : Machine) (actor : ℕ) (may : MayLatch actor) (work : MayWork m actor) (brings : Brings m AnyPage c.store) (shows : ShowsMachine d c (with_memory c m)) (deed : Deed) (row : Row (m.activity actor) (wanted_by m actor) (with_memory c m) deed) (op : Op) (is : deed.op ≡ Some op) where
+module _ (d : DiskModel) (c : RunningCore) (m : Machine) (actor : ℕ) (may : IsActor actor) (work : MayWork m actor) (brings : Brings m AnyPage c.store) (shows : ShowsMachine d c (with_memory c m)) (deed : Deed) (row : Row (m.activity actor) (wanted_by m actor) (with_memory c m) deed) (op : Op) (is : deed.op ≡ Some op) where
   keeps : MachineKeeps m
   keeps = work.goes_on.kept
 

@@ -6,7 +6,7 @@ use Rattle.hb_space.specs.Boxes.{Area}
 use Rattle.hb_space.specs.Points.{IsPoint}
 use Rattle.hb_space.specs.declared.records.Record.{Record}
 use Rattle.hb_frag.specs.declared.pages.LivePage.{LivePage}
-use Rattle.hb_latch.specs.Tables.{MayLatch}
+use Rattle.hb_space.specs.Actors.{IsActor}
 use Rattle.hb_set.specs.declared.scripts.Line.{Line}
 use Rattle.hb_activity.specs.declared.wanting.Wanted.{Wanted}
 use Rattle.hb_activity.specs.declared.activities.Activity.{Activity}
@@ -65,7 +65,7 @@ row_of_poster s (at.SessionSplit line held) id page deed class working row = cc
 row_of_poster s (at.SessionPut line source fresh) id page deed class working row = cc
 row_of_poster s activity id page deed class working row = absurd working
 
-module _ (d : DiskModel) (c : RunningCore) (m : Machine) (actor : ℕ) (free : Option (ℕ × ℕ)) (may : MayLatch actor) (has : HasPages m actor free d c) where
+module _ (d : DiskModel) (c : RunningCore) (m : Machine) (actor : ℕ) (free : Option (ℕ × ℕ)) (may : IsActor actor) (has : HasPages m actor free d c) where
   keeps : MachineKeeps m
   keeps = has.may.goes_on.kept
 

@@ -6,7 +6,8 @@ use Rattle.hb_activity.specs.declared.activities.Activity.TheVariants as at
 use Rattle.hb_activity.specs.declared.jobs.Job.{Job}
 use Rattle.hb_activity.specs.Deeds.{Deed}
 use Rattle.hb_disk.specs.Model.{DiskModel}
-use Rattle.hb_latch.specs.Tables.{LatchTable, MayLatch}
+use Rattle.hb_latch.specs.Tables.{LatchTable}
+use Rattle.hb_space.specs.Actors.{IsActor}
 use Rattle.hb_lemmas.proofs.Booleans.{at_other}
 use Rattle.hb_ops.specs.declared.operations.Op.{Op}
 use Rattle.hb_set.specs.Order.{Entry}
@@ -49,7 +50,7 @@ files_untold : (op : Option Op) → files_after op None ≡ None
 files_untold None = refl
 files_untold (Some op) = refl
 
-module _ (d : DiskModel) (c after : RunningCore) (m : Machine) (actor : ℕ) (deed : Deed) (outcome : Outcome) (may : MayLatch actor) (shows : ShowsBut d c actor (with_memory c m)) (does : DoesDeed actor deed outcome c after) where
+module _ (d : DiskModel) (c after : RunningCore) (m : Machine) (actor : ℕ) (deed : Deed) (outcome : Outcome) (may : IsActor actor) (shows : ShowsBut d c actor (with_memory c m)) (does : DoesDeed actor deed outcome c after) where
   abbrev new : Machine
   new = after_deed after m actor deed
 
@@ -81,8 +82,8 @@ module _ (d : DiskModel) (c after : RunningCore) (m : Machine) (actor : ℕ) (de
         clock = had.clock;
       }
 
-  nobody_new : (other : ℕ) → ¬ (MayLatch other) → with_activity actor deed.next m.activity other ≡ at.SessionIdle
-  nobody_new other none = at_other other actor deed.next (m.activity other) (λ same. none (subst MayLatch (sym same) may)) ∙ shows.nobody_else other none
+  nobody_new : (other : ℕ) → ¬ (IsActor other) → with_activity actor deed.next m.activity other ≡ at.SessionIdle
+  nobody_new other none = at_other other actor deed.next (m.activity other) (λ same. none (subst IsActor (sym same) may)) ∙ shows.nobody_else other none
 
   pub deed_shows : LinesInSequence m → NumberFate (m.activity actor) deed → KeepsFilesBy deed.op d c.store d after.store → (new : Machine) × Performs m c.store actor deed outcome new × ShowsMachine d after new
   deed_shows turn fate keeps = (

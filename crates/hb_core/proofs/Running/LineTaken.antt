@@ -12,7 +12,8 @@ use Rattle.hb_activity.specs.Classes.{Sessions, class_of}
 use Rattle.hb_activity.specs.BoxLocks.{lock_of_command}
 use Rattle.hb_activity.specs.Deeds.{Deed, answers_now, takes_job}
 use Rattle.hb_disk.specs.Model.{DiskModel}
-use Rattle.hb_latch.specs.Tables.{LatchTable, MayLatch, mode_at}
+use Rattle.hb_latch.specs.Tables.{LatchTable, mode_at}
+use Rattle.hb_space.specs.Actors.{IsActor}
 use Rattle.hb_lemmas.proofs.Booleans.{at_other, if_same}
 use Rattle.hb_ops.specs.declared.operations.Op.{Op}
 use Rattle.hb_point.specs.SessionRows.{boxes_ahead, next_line, taking}
@@ -55,7 +56,7 @@ no_worker actor is = (
 below_workers : (actor : ℕ) → actor ≤ 19 → actor ≢ 17 → actor ≢ 18 → actor ≢ 19 → actor ≤ 16
 below_workers actor le a b c = omega (arith, le, a, b, c)
 
-pub is_session : (actor : ℕ) → MayLatch actor → class_for actor ≡ Sessions → actor ≤ 16
+pub is_session : (actor : ℕ) → IsActor actor → class_for actor ≡ Sessions → actor ≤ 16
 is_session actor may is = let none = no_worker actor is in below_workers actor may.to_19 none.0 none.1 none.2
 
 -- the machine once the line is taken
@@ -73,7 +74,7 @@ taken c m actor line = record {
   clock = m.clock;
 }
 
-module _ (d : DiskModel) (c after : RunningCore) (m : Machine) (actor behind : ℕ) (may : MayLatch actor) (step : MayStep d c m) (idle : m.activity actor ≡ at.SessionIdle) (there : slice_get c.behind (actor - 1) ≡ Some behind) where
+module _ (d : DiskModel) (c after : RunningCore) (m : Machine) (actor behind : ℕ) (may : IsActor actor) (step : MayStep d c m) (idle : m.activity actor ≡ at.SessionIdle) (there : slice_get c.behind (actor - 1) ≡ Some behind) where
   session : actor ≤ 16
   session = is_session actor may (sym (step.goes_on.kept.classes actor) ∙ ap class_of idle)
 
@@ -181,7 +182,7 @@ module _ (d : DiskModel) (c after : RunningCore) (m : Machine) (actor behind : �
       activities = λ other its. ap (λ (l : List Activity). slice_get l (other - 1)) (of_core (λ s. s.activities))
           ∙ stand_then c.activities m.activity actor (m.activity actor) walk may (length-set c.activities (actor - 1) (m.activity actor) ∙ step.shows.all_actors)
           (shows_but d c m actor may step.shows).activities other its;
-      nobody_else = λ other none. at_other other actor walk (m.activity other) (λ same. none (subst MayLatch (sym same) may)) ∙ step.shows.nobody_else other none;
+      nobody_else = λ other none. at_other other actor walk (m.activity other) (λ same. none (subst IsActor (sym same) may)) ∙ step.shows.nobody_else other none;
       latches = refl;
       jobs = step.shows.jobs ∙ sym (of_core (λ s. s.jobs));
       order = step.shows.order ∙ sym (of_core (λ s. s.order));
@@ -286,7 +287,7 @@ module _ (d : DiskModel) (c after : RunningCore) (m : Machine) (actor behind : �
 pub own_store : (m : Machine) (st : StoreState) → m.store ≡ st → with_disk st m.files m.clock m ≡ m
 own_store m st same = ap (λ (s : StoreState). with_disk s m.files m.clock m) (sym same)
 
-pub shows_pages : (d : DiskModel) (c : RunningCore) (m : Machine) (actor : ℕ) → MayLatch actor → ShowsMachine d c m → ShowsMachine d (with_standing actor (m.activity actor) c) (with_memory c m)
+pub shows_pages : (d : DiskModel) (c : RunningCore) (m : Machine) (actor : ℕ) → IsActor actor → ShowsMachine d c m → ShowsMachine d (with_standing actor (m.activity actor) c) (with_memory c m)
 shows_pages d c m actor may shows = subst (λ (n : Machine). ShowsMachine d (with_standing actor (m.activity actor) c) n) (sym (own_store m c.store shows.store)) (shows_but d c m actor may shows)
 
 -- what does nothing to the file keeps its files
@@ -294,7 +295,7 @@ pub keeps_none : (d : DiskModel) (old new : StoreState) (mark : ℕ) (op : Optio
 keeps_none d old new mark None none same = λ durable later keeps. subst (λ (s : StoreState). StoreKeeps d s durable later) (sym same) keeps
 keeps_none d old new mark (Some op) none same = absurd cc
 
-module _ (d : DiskModel) (c after : RunningCore) (m : Machine) (actor : ℕ) (may : MayLatch actor) (step : MayStep d c m) where
+module _ (d : DiskModel) (c after : RunningCore) (m : Machine) (actor : ℕ) (may : IsActor actor) (step : MayStep d c m) where
   -- a deed of a machine as it is shown, that does nothing to the file
   pub deed_done : (deed : Deed) (outcome : Outcome) → deed.op ≡ None → NumberFate (m.activity actor) deed → DoesDeed actor deed outcome c after → (new : Machine) × Performs m m.store actor deed outcome new × ShowsMachine d after new
   deed_done deed outcome none fate does =

@@ -7,7 +7,7 @@ use Rattle.hb_frag.specs.declared.leaves.Leaf.TheVariants.{Child}
 use Rattle.hb_frag.specs.declared.pages.LivePage.{LivePage}
 use Rattle.hb_frag.specs.declared.pages.Page.TheVariants.{Live}
 use Rattle.hb_latch.specs.declared.modes.Mode.{Mode}
-use Rattle.hb_latch.specs.Tables.{MayLatch}
+use Rattle.hb_space.specs.Actors.{IsActor}
 use Rattle.hb_layout.specs.declared.meta.Meta.{Meta}
 use Rattle.hb_ops.proofs.Facts.Tips.{first_held}
 use Rattle.hb_ops.proofs.Facts.PageNumberLaws.{live_so}
@@ -40,7 +40,7 @@ pub record LooksInto (st : StoreState) (activity : Activity) (id : ℕ) : Type 0
   pub latched : mode_among id (latches_held st activity) ≡ Some mode
   pub holds : IfSome (looked_at activity) (Holds page.area)
 
-module _ (m : Machine) (actor : ℕ) (may : MayLatch actor) (keeps : MachineKeeps m) where
+module _ (m : Machine) (actor : ℕ) (may : IsActor actor) (keeps : MachineKeeps m) where
   abbrev Looks : Activity → Type 0
   Looks activity = (id : ℕ) → looked_page activity ≡ Some id → LooksInto m.store activity id
 
@@ -127,7 +127,7 @@ names_looked (at.PosterWalk job held) into = into
 names_looked (at.ConsolidatorWalk job held) into = into
 names_looked activity into = absurd (false≢true into)
 
-module _ (m : Machine) (actor : ℕ) (may : MayLatch actor) (keeps : MachineKeeps m) (st : StoreState)
+module _ (m : Machine) (actor : ℕ) (may : IsActor actor) (keeps : MachineKeeps m) (st : StoreState)
     (stays : (id : ℕ) (mode : Mode) (page : LivePage) → mode_among id (latches_held m.store (m.activity actor)) ≡ Some mode → live_here m.store id ≡ Some page → live_here st id ≡ Some page) where
   looked_into : (id : ℕ) → looked_page (m.activity actor) ≡ Some id → (into : LooksInto m.store (m.activity actor) id) × (live_here st id ≡ Some into.page)
   looked_into id is = let into = looks m actor may keeps id is in (into, stays id into.mode into.page into.latched into.live)
@@ -165,10 +165,10 @@ module _ (m : Machine) (actor : ℕ) (may : MayLatch actor) (keeps : MachineKeep
   }
 
 -- where nothing came
-pub may_look_now : (m : Machine) (actor : ℕ) → MayLatch actor → MachineKeeps m → MayLook m.store (m.activity actor)
+pub may_look_now : (m : Machine) (actor : ℕ) → IsActor actor → MachineKeeps m → MayLook m.store (m.activity actor)
 may_look_now m actor may keeps = may_look_then m actor may keeps m.store (λ id mode page latched live. live)
 
-module _ (m : Machine) (actor : ℕ) (may : MayLatch actor) (keeps : MachineKeeps m) (needs : ℕ → Type 0) (st : StoreState) (brings : Brings m needs st) where
+module _ (m : Machine) (actor : ℕ) (may : IsActor actor) (keeps : MachineKeeps m) (needs : ℕ → Type 0) (st : StoreState) (brings : Brings m needs st) where
   -- a page that the actor holds stays
   pub held_stays : (id : ℕ) (mode : Mode) (page : LivePage) → mode_among id (latches_held m.store (m.activity actor)) ≡ Some mode → live_here m.store id ≡ Some page → live_here st id ≡ Some page
   held_stays id mode page among live = ap if_live (still_held m needs st brings actor id mode (Live page) (keeps.latches_fit.exact actor id may ∙ among) (live_so (in_memory m.store id) page live))

@@ -4,7 +4,7 @@ use Rattle.std.proofs.Common.{◌≡◌, ◌≢◌, ◌↔◌, inl, inr, ℕ, Li
 use Rattle.hb_activity.specs.Classes.{class_of}
 use Rattle.hb_activity.specs.declared.activities.Activity.{Activity}
 use Rattle.hb_disk.specs.Model.{DiskModel}
-use Rattle.hb_latch.specs.Tables.{MayLatch}
+use Rattle.hb_space.specs.Actors.{IsActor}
 use Rattle.hb_store.specs.Forced.{WritesOldest}
 use Rattle.hb_store.specs.States.{StoreState}
 use Rattle.hb_store.specs.declared.stops.Flushed.{Flushed}
@@ -50,7 +50,7 @@ module _ {D : Type 0} (model : D → DiskModel) (x y : D) (c : RunningCore) (m :
         subst (λ (k : D). ShowsMachine (model k) after stopped.0) (sym same) (subst (λ (s : RunningCore). ShowsMachine (model y) s stopped.0) (sym then) stopped.2),
       )
 
-  pub ready_never : {T : Type 0} (v : T) (z : D) (after : RunningCore) (outcome : Outcome) → MayLatch actor → IsWorking (m.activity actor) → c.store.log.groups ≡ [] → WritesOldest (Ok v) (model x) (model y) c.store st
+  pub ready_never : {T : Type 0} (v : T) (z : D) (after : RunningCore) (outcome : Outcome) → IsActor actor → IsWorking (m.activity actor) → c.store.log.groups ≡ [] → WritesOldest (Ok v) (model x) (model y) c.store st
       → ((state : Activity) → StandsAs (with_store st c) actor state → IsWorking state → class_of state ≡ class_for actor → DoesDeed actor (runs_out state) outcome (with_store st c) after) → z ≡ y
       → (new : Machine) × GetsReady m actor outcome new × ShowsMachine (model z) after new
   ready_never v z after outcome may works none writes does same =

@@ -4,7 +4,8 @@ use Rattle.std.proofs.Common.{◌≡◌, ◌⊎◌, inl, inr, ℕ, ◌<◌, List
 use Rattle.std.proofs.lemmas.Bool.{false≢true}
 use Rattle.std.proofs.lemmas.List.{length-map}
 use Rattle.hb_disk.specs.Model.{DiskModel}
-use Rattle.hb_latch.specs.Tables.{LatchTable, MayLatch}
+use Rattle.hb_latch.specs.Tables.{LatchTable}
+use Rattle.hb_space.specs.Actors.{IsActor}
 use Rattle.hb_ops.specs.declared.operations.Op.{Op}
 use Rattle.hb_ops.specs.Files.{FileState}
 use Rattle.hb_set.specs.Order.{Entry}
@@ -46,7 +47,7 @@ joined_alike (at.SessionAwait number reply place) fates.GoesOn hand joins = absu
 joined_alike (at.SessionAwait number reply place) (fates.Answers said) hand joins = absurd (false≢true joins)
 joined_alike then fate hand joins = absurd (false≢true joins)
 
-module _ (d : DiskModel) (c : RunningCore) (m : Machine) (actor : ℕ) (free : Option (ℕ × ℕ)) (may : MayLatch actor) (has : HasPages m actor free d c) (next : Next)
+module _ (d : DiskModel) (c : RunningCore) (m : Machine) (actor : ℕ) (free : Option (ℕ × ℕ)) (may : IsActor actor) (has : HasPages m actor free d c) (next : Next)
     (row : Row (m.activity actor) (wanted_by m actor) (with_memory c m) (placed (length m.order) (deed_of (m.activity actor) next))) where
   abbrev deed : Deed
   deed = placed (length m.order) (deed_of (m.activity actor) next)

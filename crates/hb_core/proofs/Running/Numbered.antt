@@ -4,14 +4,14 @@ use Rattle.std.proofs.lemmas.Bool.{cases_Bool, eqb-true, eqb-false, false≢true
 use Rattle.hb_disk.specs.Model.{DiskModel}
 use Rattle.hb_frag.specs.declared.pages.LivePage.{LivePage}
 use Rattle.hb_frag.specs.declared.pages.Page.TheVariants.{Live}
-use Rattle.hb_latch.specs.Tables.{MayLatch}
+use Rattle.hb_space.specs.Actors.{IsActor}
 use Rattle.hb_layout.specs.declared.limits.TheConstants.{HEIGHT_MAX}
 use Rattle.hb_layout.specs.declared.meta.Meta.{Meta}
 use Rattle.hb_lemmas.proofs.Options.{at_value, has_value, if_value}
 use Rattle.hb_ops.proofs.Facts.PageNumberLaws.{live_so}
 use Rattle.hb_ops.specs.Files.{FileState, if_live}
 use Rattle.hb_ops.specs.Sound.{IsSound}
-use Rattle.hb_terms.specs.Plans.{LacksRoom}
+use Rattle.hb_ops.specs.Owing.{LacksRoom}
 use Rattle.hb_activity.specs.declared.jobs.Job.{Job}
 use Rattle.hb_activity.specs.declared.wanting.Wanted.{Wanted}
 use Rattle.hb_activity.specs.declared.activities.Activity.{Activity}
@@ -119,7 +119,7 @@ none_given m d c actor come not = record {
   number = not;
 }
 
-module _ (m : Machine) (d : DiskModel) (c : RunningCore) (actor : ℕ) (latches : MayLatch actor) (come : HasCome m actor d c) (needs : NeedsNumber (m.activity actor) (wanted_by m actor) (with_memory c m))
+module _ (m : Machine) (d : DiskModel) (c : RunningCore) (actor : ℕ) (latches : IsActor actor) (come : HasCome m actor d c) (needs : NeedsNumber (m.activity actor) (wanted_by m actor) (with_memory c m))
     (e : DiskModel) (failed : Type 0) (st : StoreState) (looks : LooksUp failed d e c.store st) (memory : IsMemory st) (came : MayFetch c.store.meta.free c.store st) where
   abbrev now : Machine
   now = with_memory c m

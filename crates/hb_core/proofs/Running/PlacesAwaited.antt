@@ -5,7 +5,8 @@ use Rattle.hb_activity.specs.declared.activities.Activity.{Activity}
 use Rattle.hb_activity.specs.declared.activities.Activity.TheVariants as at
 use Rattle.hb_activity.specs.Deeds.{answers_now}
 use Rattle.hb_disk.specs.Model.{DiskModel}
-use Rattle.hb_latch.specs.Tables.{LatchTable, MayLatch, mode_at}
+use Rattle.hb_latch.specs.Tables.{LatchTable, mode_at}
+use Rattle.hb_space.specs.Actors.{IsActor}
 use Rattle.hb_set.specs.Order.{Entry}
 use Rattle.hb_set.specs.declared.commands.Reply.{Reply}
 use Rattle.hb_store.specs.Forced.{WritesOldest}
@@ -27,7 +28,7 @@ use Rattle.hb_core.proofs.Running.NumbersInHand.{kept_number}
 use Rattle.hb_core.proofs.Running.StandsElsewhere.{stands_as}
 
 -- the machine stands as the core
-pub awaits_as : (d : DiskModel) (c : RunningCore) (m : Machine) (actor number place : ℕ) (reply : Reply) → MayLatch actor → MayStep d c m → StandsAs c actor (at.SessionAwait number reply place) → m.activity actor ≡ at.SessionAwait number reply place
+pub awaits_as : (d : DiskModel) (c : RunningCore) (m : Machine) (actor number place : ℕ) (reply : Reply) → IsActor actor → MayStep d c m → StandsAs c actor (at.SessionAwait number reply place) → m.activity actor ≡ at.SessionAwait number reply place
 awaits_as d c m actor number place reply may step stands = stands_as d c m actor (at.SessionAwait number reply place) may step.shows stands
 
 -- the places that are settled are the machine's
@@ -38,12 +39,12 @@ same_settled : (d : DiskModel) (c : RunningCore) (m : Machine) → ShowsMachine 
 same_settled d c m shows = ap (λ (s : StoreState). mark_of s.log.groups (length m.order)) shows.store ∙ ap (mark_of c.store.log.groups) (same_length d c m shows)
 
 -- who awaits its place holds no latch
-no_latch : (d : DiskModel) (c : RunningCore) (m : Machine) (actor number place : ℕ) (reply : Reply) → MayLatch actor → MayStep d c m → m.activity actor ≡ at.SessionAwait number reply place → (page : ℕ) → mode_at c.latches actor page ≡ None
+no_latch : (d : DiskModel) (c : RunningCore) (m : Machine) (actor number place : ℕ) (reply : Reply) → IsActor actor → MayStep d c m → m.activity actor ≡ at.SessionAwait number reply place → (page : ℕ) → mode_at c.latches actor page ≡ None
 no_latch d c m actor number place reply may step is page =
     ap (λ (t : LatchTable). mode_at t actor page) (sym step.shows.latches) ∙ step.goes_on.kept.latches_fit.exact actor page may ∙ ap (λ (a : Activity). mode_among page (latches_held m.store a)) is
 
 module _ {D : Type 0} (model : D → DiskModel) (x y : D) (c : RunningCore) (m : Machine) (actor number place settled : ℕ) (reply : Reply) (step : MayStep (model x) c m) (is_settled : settled ≡ mark_of c.store.log.groups (length c.order)) where
-  pub await_answered : (after : RunningCore) (outcome : Outcome) → MayLatch actor → m.activity actor ≡ at.SessionAwait number reply place → place < settled → outcome ≡ outcomes.Answered number reply → after ≡ with_standing actor at.SessionIdle c → y ≡ x
+  pub await_answered : (after : RunningCore) (outcome : Outcome) → IsActor actor → m.activity actor ≡ at.SessionAwait number reply place → place < settled → outcome ≡ outcomes.Answered number reply → after ≡ with_standing actor at.SessionIdle c → y ≡ x
       → (new : Machine) × AwaitsPlace m actor number reply place outcome new × ShowsMachine (model y) after new
   await_answered after outcome may is lt says then same =
       let does : DoesDeed actor (answers_now number reply) outcome c (with_standing actor at.SessionIdle c) = record {

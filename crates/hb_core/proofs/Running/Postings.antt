@@ -7,7 +7,7 @@ use Rattle.hb_disk.specs.Model.{DiskModel}
 use Rattle.hb_frag.specs.declared.pages.LivePage.{LivePage}
 use Rattle.hb_frag.specs.Leaves.{Placed}
 use Rattle.hb_latch.specs.declared.modes.Mode.TheVariants.{Shared}
-use Rattle.hb_latch.specs.Tables.{MayLatch}
+use Rattle.hb_space.specs.Actors.{IsActor}
 use Rattle.hb_layout.specs.declared.meta.Meta.{Meta}
 use Rattle.hb_layout.specs.declared.limits.TheConstants.{HEIGHT_MAX}
 use Rattle.hb_lemmas.proofs.Options.{at_value, has_value, some_value}
@@ -22,7 +22,7 @@ use Rattle.hb_activity.specs.Sights.{Sight}
 use Rattle.hb_activity.specs.Wanting.{in_mode, named_child, wanted_of}
 use Rattle.hb_poster.specs.Asks.{MakesPage, MayBeAsked}
 use Rattle.hb_poster.specs.PosterRows.{MayGrow}
-use Rattle.hb_terms.specs.Plans.{LacksRoom}
+use Rattle.hb_ops.specs.Owing.{LacksRoom}
 use Rattle.hb_core.proofs.Memory.StillThere.{fetched_good}
 use Rattle.hb_core.proofs.Running.Brought.{brings_wider}
 use Rattle.hb_core.proofs.Running.StandsElsewhere.{stands_as}
@@ -45,7 +45,7 @@ MayMakeToPost (at.PosterGrow job) = Unit {0}
 MayMakeToPost (at.PosterAgain job parent) = Unit {0}
 MayMakeToPost other = ⊥
 
-module _ (m : Machine) (d : DiskModel) (c : RunningCore) (actor : ℕ) (latches : MayLatch actor) (come : HasCome m actor d c) where
+module _ (m : Machine) (d : DiskModel) (c : RunningCore) (actor : ℕ) (latches : IsActor actor) (come : HasCome m actor d c) where
   abbrev now : Machine
   now = with_memory c m
 
@@ -156,7 +156,7 @@ makes_to_post activity (inl (job, is)) = subst MayMakeToPost (sym is) tt
 makes_to_post activity (inr (job, parent, is)) = subst MayMakeToPost (sym is) tt
 
 -- The same as the core has it: where its actor stands, the number of the row's page, and what it knows of the file.
-module _ (m : Machine) (d : DiskModel) (c : RunningCore) (actor : ℕ) (latches : MayLatch actor) (come : HasCome m actor d c) (activity : Activity) (stands : StandsAs c actor activity) (may : MayMakeToPost activity)
+module _ (m : Machine) (d : DiskModel) (c : RunningCore) (actor : ℕ) (latches : IsActor actor) (come : HasCome m actor d c) (activity : Activity) (stands : StandsAs c actor activity) (may : MayMakeToPost activity)
     (wanted : Option Wanted) (wants : wanted ≡ wanted_by m actor) (id : ℕ) (number : id ≡ number_of_row activity wanted) where
   stands_so : m.activity actor ≡ activity
   stands_so = stands_as d c (with_memory c m) actor activity latches come.shows stands

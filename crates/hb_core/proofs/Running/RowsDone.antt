@@ -11,7 +11,7 @@ use Rattle.hb_activity.specs.declared.deciding.Next.{Next}
 use Rattle.hb_activity.specs.Deciding.{deed_of}
 use Rattle.hb_activity.specs.Deeds.{Deed}
 use Rattle.hb_disk.specs.Model.{DiskModel}
-use Rattle.hb_latch.specs.Tables.{MayLatch}
+use Rattle.hb_space.specs.Actors.{IsActor}
 use Rattle.hb_ops.specs.declared.operations.Op.{Op}
 use Rattle.hb_poster.specs.PosterRows.{after_look}
 use Rattle.hb_terms.specs.declared.plans.PostPlan.{PostPlan}
@@ -69,7 +69,7 @@ takes_memory m (at.PosterPromote job parent) wanted deed works row has = has
 takes_memory m (at.PosterAgain job parent) wanted deed works row has = has
 takes_memory m activity wanted deed works row has = absurd works
 
-module _ (d : DiskModel) (c : RunningCore) (m : Machine) (actor : ℕ) (free : Option (ℕ × ℕ)) (may : MayLatch actor) (pages : HasPages m actor free d c) where
+module _ (d : DiskModel) (c : RunningCore) (m : Machine) (actor : ℕ) (free : Option (ℕ × ℕ)) (may : IsActor actor) (pages : HasPages m actor free d c) where
   -- the core while its decider is asked: the actor has nothing in hand
   abbrev pub idled : RunningCore
   idled = with_standing actor (idle_of (class_for actor)) c

@@ -7,7 +7,7 @@ use Rattle.hb_activity.specs.Classes.{hand_of, idle_of}
 use Rattle.hb_activity.specs.Deciding.{deed_of}
 use Rattle.hb_activity.specs.Deeds.{Deed}
 use Rattle.hb_disk.specs.Model.{DiskModel}
-use Rattle.hb_latch.specs.Tables.{MayLatch}
+use Rattle.hb_space.specs.Actors.{IsActor}
 use Rattle.hb_ops.specs.Files.{FileState}
 use Rattle.hb_set.specs.declared.scripts.Line.{Line}
 use Rattle.hb_store.specs.Keeps.{StoreKeeps}
@@ -39,7 +39,7 @@ OneDurable d st = (durable other : FileState) (later others : List FileState) �
 abbrev OneLater : DiskModel → StoreState → Type 0
 OneLater d st = (durable other : FileState) (later others : List FileState) → StoreKeeps d st durable later → StoreKeeps d st other others → later ≡ others
 
-module _ {D : Type 0} (model : D → DiskModel) (x y : D) (c between : RunningCore) (m : Machine) (actor : ℕ) (free : Option (ℕ × ℕ)) (may : MayLatch actor)
+module _ {D : Type 0} (model : D → DiskModel) (x y : D) (c between : RunningCore) (m : Machine) (actor : ℕ) (free : Option (ℕ × ℕ)) (may : IsActor actor)
     (rest : between ≡ with_standing actor (idle_of (class_for actor)) c) (same : y ≡ x) (pages : HasPages m actor free (model x) c) where
   pub refused_halts : (halt : Halt) → halt ≡ GivesUp drops.NoMemory → (deed : Deed) × IsRow (model x) c m actor free may pages deed × TakesMemory (m.activity actor) deed → Halts m actor halt (model y) between
   refused_halts halt is takes = subst (λ (h : Halt). Halts m actor h (model y) between) (sym is) (subst (λ (k : D). Halts m actor (GivesUp drops.NoMemory) (model k) between) (sym same)

@@ -6,7 +6,8 @@ use Rattle.hb_frag.specs.declared.pages.LivePage.{LivePage}
 use Rattle.hb_latch.specs.declared.modes.Mode.{Mode}
 use Rattle.hb_latch.specs.declared.modes.Mode.TheVariants.{Exclusive, Update}
 use Rattle.hb_latch.specs.Modes.{goes_beside}
-use Rattle.hb_latch.specs.Tables.{MayLatch, mode_at}
+use Rattle.hb_latch.specs.Tables.{mode_at}
+use Rattle.hb_space.specs.Actors.{IsActor}
 use Rattle.hb_ops.specs.Files.{if_live}
 use Rattle.hb_set.specs.declared.scripts.Line.{Line}
 use Rattle.hb_activity.specs.declared.holding.Latch.{Latch}
@@ -72,7 +73,7 @@ apart_by st (at.PosterAgain job parent) class apart = one_apart (latch_on parent
 apart_by st activity (inl class) apart = cc
 apart_by st activity (inr class) apart = cc
 
-module _ (m : Machine) (actor : ℕ) (fetched st : StoreState) (deed : Deed) (latches : MayLatch actor) (work : MayWork m actor) (brings : Brings m AnyPage fetched) (row : Row (m.activity actor) (wanted_by m actor) (with_disk fetched m.files m.clock m) deed) where
+module _ (m : Machine) (actor : ℕ) (fetched st : StoreState) (deed : Deed) (latches : IsActor actor) (work : MayWork m actor) (brings : Brings m AnyPage fetched) (row : Row (m.activity actor) (wanted_by m actor) (with_disk fetched m.files m.clock m) deed) where
   keeps : MachineKeeps m
   keeps = work.goes_on.kept
 

@@ -4,7 +4,7 @@ use Rattle.std.proofs.lemmas.Option.{same_Some}
 use Rattle.hb_disk.specs.Model.{DiskModel}
 use Rattle.hb_frag.specs.declared.pages.LivePage.{LivePage}
 use Rattle.hb_frag.specs.Leaves.{weight_of}
-use Rattle.hb_latch.specs.Tables.{MayLatch}
+use Rattle.hb_space.specs.Actors.{IsActor}
 use Rattle.hb_ops.specs.declared.operations.Op.TheVariants as ops
 use Rattle.hb_lemmas.proofs.Lists.{All-last}
 use Rattle.hb_search.specs.SearchRows.{Gathers, SearchGoesOn}
@@ -17,7 +17,7 @@ use Rattle.hb_space.specs.declared.records.Record.{Record}
 use Rattle.hb_split.specs.Choosing.{IsChosen}
 use Rattle.hb_split.proofs.Facts.Choices.{a_part_is_chosen}
 use Rattle.hb_terms.specs.declared.plans.PostPlan.TheVariants as plans
-use Rattle.hb_terms.specs.Plans.{LacksRoom}
+use Rattle.hb_ops.specs.Owing.{LacksRoom}
 use Rattle.hb_activity.specs.declared.jobs.Job.{Job}
 use Rattle.hb_activity.specs.declared.jobs.JobKind.TheVariants.{Post}
 use Rattle.hb_activity.specs.declared.wanting.Wanted.{Wanted}
@@ -53,7 +53,7 @@ use Rattle.hb_core.specs.Rows.{Row}
 use Rattle.hb_core.specs.Showing.{RunningCore}
 use Rattle.hb_core.specs.Working.{HasPages, with_memory}
 
-module _ (d : DiskModel) (c : RunningCore) (m : Machine) (actor : ℕ) (free : Option (ℕ × ℕ)) (may : MayLatch actor) (has : HasPages m actor free d c) where
+module _ (d : DiskModel) (c : RunningCore) (m : Machine) (actor : ℕ) (free : Option (ℕ × ℕ)) (may : IsActor actor) (has : HasPages m actor free d c) where
   keeps : MachineKeeps m
   keeps = has.may.goes_on.kept
 

@@ -5,7 +5,7 @@ use Rattle.hb_activity.specs.Classes.{class_of}
 use Rattle.hb_activity.specs.declared.activities.Activity.{Activity}
 use Rattle.hb_activity.specs.declared.activities.Activity.TheVariants as at
 use Rattle.hb_disk.specs.Model.{DiskModel}
-use Rattle.hb_latch.specs.Tables.{MayLatch}
+use Rattle.hb_space.specs.Actors.{IsActor}
 use Rattle.hb_lemmas.proofs.Lists.{place_within}
 use Rattle.hb_set.specs.declared.commands.Reply.{Reply}
 use Rattle.hb_set.specs.declared.scripts.Line.{Line}
@@ -88,7 +88,7 @@ pub stopped_stays : (d : DiskModel) (c : RunningCore) (m : Machine) (actor : ℕ
 stopped_stays d c m actor why said shows is same =
     (m, subst (λ (o : Option StopWhy). MatchOption o (StepsAs (m.activity actor) m actor (outcomes.Stopped said) m) (λ why. StaysSo m (outcomes.Stopped why) (outcomes.Stopped said) m)) (sym (shows.stop ∙ is)) (ap outcomes.Stopped same, refl), shows)
 
-module _ (d : DiskModel) (c : RunningCore) (m : Machine) (actor : ℕ) (activity : Activity) (may : MayLatch actor) (step : MayStep d c m) (runs : c.stop ≡ None) (stands : StandsAs c actor activity) where
+module _ (d : DiskModel) (c : RunningCore) (m : Machine) (actor : ℕ) (activity : Activity) (may : IsActor actor) (step : MayStep d c m) (runs : c.stop ≡ None) (stands : StandsAs c actor activity) where
   pub runs_so : m.stop ≡ None
   runs_so = step.shows.stop ∙ runs
 
@@ -111,7 +111,7 @@ module _ (d : DiskModel) (c : RunningCore) (m : Machine) (actor : ℕ) (activity
   works_then await session poster consolidator flusher =
       subst IsWorking (sym stands_so) (is_working activity (subst MergesNothing stands_so (step.goes_on.merges.hands actor)) session await poster consolidator flusher)
 
-module _ {D : Type 0} (model : D → DiskModel) (x y : D) (c after : RunningCore) (m : Machine) (actor : ℕ) (activity : Activity) (outcome : Outcome) (may : MayLatch actor) (step : MayStep (model x) c m) (runs : c.stop ≡ None) (stands : StandsAs c actor activity) where
+module _ {D : Type 0} (model : D → DiskModel) (x y : D) (c after : RunningCore) (m : Machine) (actor : ℕ) (activity : Activity) (outcome : Outcome) (may : IsActor actor) (step : MayStep (model x) c m) (runs : c.stop ≡ None) (stands : StandsAs c actor activity) where
   abbrev Steps : Type 0
   Steps = (new : Machine) × StepsTo m actor outcome new × ShowsMachine (model y) after new
 

@@ -1,7 +1,7 @@
 -- What a core's actor wants is what it wants in each machine that the core shows, also once pages came.
 use Rattle.std.proofs.Common.{◌≡◌, ℕ, sym, ap, ◌∙◌, subst}
 use Rattle.hb_disk.specs.Model.{DiskModel}
-use Rattle.hb_latch.specs.Tables.{MayLatch}
+use Rattle.hb_space.specs.Actors.{IsActor}
 use Rattle.hb_activity.specs.declared.activities.Activity.{Activity}
 use Rattle.hb_activity.specs.Wanting.{may_commit}
 use Rattle.hb_store.specs.States.{StoreState}
@@ -19,7 +19,7 @@ use Rattle.hb_core.specs.Working.{with_memory}
 
 -- ---- before pages came
 
-module _ (d : DiskModel) (c : RunningCore) (m : Machine) (actor : ℕ) (latches : MayLatch actor) (shows : ShowsMachine d c m) where
+module _ (d : DiskModel) (c : RunningCore) (m : Machine) (actor : ℕ) (latches : IsActor actor) (shows : ShowsMachine d c m) where
   -- the actor may look
   pub looks_now : MachineKeeps m → (activity : Activity) → StandsAs c actor activity → MayLook c.store activity
   looks_now keeps activity stands =
@@ -40,7 +40,7 @@ module _ (d : DiskModel) (c : RunningCore) (m : Machine) (actor : ℕ) (latches 
 
 -- ---- once pages came
 
-module _ (d : DiskModel) (c : RunningCore) (m : Machine) (actor : ℕ) (latches : MayLatch actor) (keeps : MachineKeeps m) (needs : ℕ → Type 0) (brings : Brings m needs c.store) (shows : ShowsMachine d c (with_memory c m)) where
+module _ (d : DiskModel) (c : RunningCore) (m : Machine) (actor : ℕ) (latches : IsActor actor) (keeps : MachineKeeps m) (needs : ℕ → Type 0) (brings : Brings m needs c.store) (shows : ShowsMachine d c (with_memory c m)) where
   pub looks_then : (activity : Activity) → StandsAs c actor activity → MayLook c.store activity
   looks_then activity stands = subst (MayLook c.store) (stands_as d c (with_memory c m) actor activity latches shows stands) (may_look m actor latches keeps needs c.store brings)
 
@@ -50,7 +50,7 @@ module _ (d : DiskModel) (c : RunningCore) (m : Machine) (actor : ℕ) (latches 
       ∙ wants_same m actor latches keeps needs c.store brings
 
 -- two machines that a core shows with the pages that came want the same
-pub want_alike : (d : DiskModel) (c : RunningCore) (m n : Machine) (actor : ℕ) → MayLatch actor → MachineKeeps m → MachineKeeps n → (needs might : ℕ → Type 0)
+pub want_alike : (d : DiskModel) (c : RunningCore) (m n : Machine) (actor : ℕ) → IsActor actor → MachineKeeps m → MachineKeeps n → (needs might : ℕ → Type 0)
     → Brings m needs c.store → Brings n might c.store → ShowsMachine d c (with_memory c m) → ShowsMachine d c (with_memory c n) → wanted_by m actor ≡ wanted_by n actor
 want_alike d c m n actor latches keeps its needs might brings other shows also =
     let stands = shows.activities actor latches in

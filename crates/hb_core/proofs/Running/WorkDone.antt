@@ -8,7 +8,8 @@ use Rattle.hb_activity.specs.Wanting.{may_commit}
 use Rattle.hb_activity.specs.Classes.{Hand, Empty, HasJob, HasLine, class_of, hand_of, idle_of}
 use Rattle.hb_activity.specs.Deeds.{Deed}
 use Rattle.hb_disk.specs.Model.{DiskModel}
-use Rattle.hb_latch.specs.Tables.{IsGrantable, IsLeastInTheWay, LatchTable, MayLatch}
+use Rattle.hb_latch.specs.Tables.{IsGrantable, IsLeastInTheWay, LatchTable}
+use Rattle.hb_space.specs.Actors.{IsActor}
 use Rattle.hb_store.specs.declared.stops.StopWhy.{StopWhy}
 use Rattle.hb_store.specs.declared.stops.StopWhy.TheVariants.{Damaged, WriteFault}
 use Rattle.hb_store.specs.Calls.{IsReady}
@@ -34,7 +35,7 @@ use Rattle.hb_core.proofs.Running.StandsElsewhere.{set_as_it_was, stands_as}
 
 -- ---- what the core looks at is what the machine has
 
-module _ (d : DiskModel) (c : RunningCore) (m : Machine) (actor : ℕ) (may : MayLatch actor) (step : MayStep d c m) where
+module _ (d : DiskModel) (c : RunningCore) (m : Machine) (actor : ℕ) (may : IsActor actor) (step : MayStep d c m) where
   stands : StandsAs c actor (m.activity actor)
   stands = step.shows.activities actor may
 
@@ -77,13 +78,13 @@ module _ (d : DiskModel) (c : RunningCore) (m : Machine) (actor : ℕ) (may : Ma
   works_may runs works free is_ready = record { goes_on = step.goes_on; runs = runs; working = works; free = free; ready = is_ready }
 
 -- so it may work, by what the calls said
-pub may_work : (d : DiskModel) (c : RunningCore) (m : Machine) (actor : ℕ) (may : MayLatch actor) (step : MayStep d c m) (wanted : Option Wanted) (b : Bool) → m.stop ≡ None → IsWorking (m.activity actor)
+pub may_work : (d : DiskModel) (c : RunningCore) (m : Machine) (actor : ℕ) (may : IsActor actor) (step : MayStep d c m) (wanted : Option Wanted) (b : Bool) → m.stop ≡ None → IsWorking (m.activity actor)
     → ((activity : Activity) → StandsAs c actor activity → wanted ≡ wanted_in c.store activity) → IfSome wanted (λ w. IsGrantable c.latches actor w.page w.mode) → SaysUnready d c m actor may step b → b ≡ false → MayWork m actor
 may_work d c m actor may step wanted b runs works wants_so free says is =
     works_may d c m actor may step runs works (way_free d c m actor may step wanted (wants d c m actor may step wanted wants_so) free) (ready d c m actor may step b says is)
 
 -- each machine that is shown works where one does
-pub works_too : (d : DiskModel) (c : RunningCore) (m n : Machine) (actor : ℕ) → MayLatch actor → MayStep d c m → MayStep d c n → IsWorking (n.activity actor) → IsWorking (m.activity actor)
+pub works_too : (d : DiskModel) (c : RunningCore) (m n : Machine) (actor : ℕ) → IsActor actor → MayStep d c m → MayStep d c n → IsWorking (n.activity actor) → IsWorking (m.activity actor)
 works_too d c m n actor may step its works = subst IsWorking (sym (stands_as d c m actor (n.activity actor) may step.shows (its.shows.activities actor may))) works
 
 -- ---- the ways in which it works
@@ -93,7 +94,7 @@ no_operation why idle Empty = refl
 no_operation why idle (HasLine line) = refl
 no_operation why idle (HasJob job) = refl
 
-module _ {D : Type 0} (model : D → DiskModel) (x y : D) (c after : RunningCore) (m : Machine) (actor : ℕ) (may : MayLatch actor) (work : MayWork m actor) (same : y ≡ x) where
+module _ {D : Type 0} (model : D → DiskModel) (x y : D) (c after : RunningCore) (m : Machine) (actor : ℕ) (may : IsActor actor) (work : MayWork m actor) (same : y ≡ x) where
   pub given_up : (why : DropWhy) (line : Option ℕ) (outcome : Outcome) → Halts m actor (GivesUp why) (model x) c → line ≡ number_of (hand_of (m.activity actor))
       → ((state : Activity) → IsWorking state → class_of state ≡ class_for actor → line ≡ number_of (hand_of state) → DoesDeed actor (gives_up why state) outcome c after)
       → (new : Machine) × Works m actor outcome new × ShowsMachine (model y) after new

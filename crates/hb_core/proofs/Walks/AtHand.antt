@@ -42,7 +42,7 @@ use Rattle.hb_core.specs.WaitingLaws.{Promotes}
 use Rattle.hb_frag.proofs.Facts.Tiles.{leaves_placed}
 use Rattle.hb_frag.specs.Leaves.{Placed, first_named, leaf_at, leaves, leaves_of, siblings_of}
 use Rattle.hb_frag.specs.Rules.{BelongsAt}
-use Rattle.hb_latch.specs.Tables.{MayLatch}
+use Rattle.hb_space.specs.Actors.{IsActor}
 use Rattle.hb_ops.specs.Files.{if_live}
 use Rattle.hb_ops.proofs.Facts.PlacedLaws.{leaf_is_sibling, placed, placed_is_leaf}
 use Rattle.hb_space.specs.Boxes.{Area, volume}
@@ -137,7 +137,7 @@ never_later a b same (inr (on, fewer)) = let points = ap (λ (p : LivePage). vol
 off_one : (id : ℕ) (mode : Mode) (other : ℕ) (rest : List Latch) → id ≢ other → mode_among other (latch_on id mode ∷ rest) ≡ mode_among other rest
 off_one id mode other rest off = ap (λ (b : Bool). cond b (Some mode) (mode_among other rest)) (ne_eqb id other off)
 
-module _ (m : Machine) (actor : ℕ) (fetched : StoreState) (may : MayLatch actor) (keeps : MachineKeeps m) (brings : Brings m AnyPage fetched) where
+module _ (m : Machine) (actor : ℕ) (fetched : StoreState) (may : IsActor actor) (keeps : MachineKeeps m) (brings : Brings m AnyPage fetched) where
   pub good_here : (id : ℕ) (page : LivePage) → live_here m.store id ≡ Some page → IsGoodPage m.store.meta (Live page)
   good_here id page live = (keeps.pages_of_file id (Live page) (live_so (in_memory m.store id) page live)).2
 

@@ -30,7 +30,7 @@ use Rattle.hb_core.specs.Machines.{Files, Machine, current_file, live_here}
 use Rattle.hb_core.specs.Performing.{latches_held, mode_among}
 use Rattle.hb_core.specs.WaitingLaws.{ComesLater, Promotes, WantedComesLater, WantsItsOwn}
 use Rattle.hb_frag.specs.Leaves.{Placed, first_named, leaf_at, leaves, leaves_of, siblings_of}
-use Rattle.hb_latch.specs.Tables.{MayLatch}
+use Rattle.hb_space.specs.Actors.{IsActor}
 use Rattle.hb_ops.specs.Files.{FileState, if_live, live_page}
 use Rattle.hb_ops.proofs.Facts.PlacedLaws.{leaf_is_sibling, placed}
 use Rattle.hb_ops.specs.Sound.{IsSound}
@@ -121,7 +121,7 @@ walk_among : (held : ℕ) (page : Option LivePage) (its : ℕ → Mode) (id : �
 walk_among held None its id mode is = absurd (none_among id mode is)
 walk_among held (Some page) its id mode is = (one_among held (its page.level) id mode is).0
 
-module _ (m : Machine) (files : Files) (actor id : ℕ) (mode : Mode) (wanted : Wanted) (may : MayLatch actor) (fit : LatchesFit m) (has : HasSoundFile m files) (walks : WalksInSpace m) where
+module _ (m : Machine) (files : Files) (actor id : ℕ) (mode : Mode) (wanted : Wanted) (may : IsActor actor) (fit : LatchesFit m) (has : HasSoundFile m files) (walks : WalksInSpace m) where
   sound_now : IsSound (current_file files)
   sound_now = current_sound m.store files (files_hold m files has)
 

@@ -17,7 +17,7 @@ use Rattle.hb_frag.proofs.Facts.Tiles.{first_tells}
 use Rattle.hb_frag.specs.Leaves.{DirectlyHolds, Placed, leaf_at}
 use Rattle.hb_latch.specs.declared.modes.Mode.{Mode}
 use Rattle.hb_latch.specs.declared.modes.Mode.TheVariants.{Exclusive}
-use Rattle.hb_latch.specs.Tables.{MayLatch}
+use Rattle.hb_space.specs.Actors.{IsActor}
 use Rattle.hb_ops.specs.Files.{if_live}
 use Rattle.hb_layout.specs.declared.meta.Meta.{Meta}
 use Rattle.hb_ops.proofs.Facts.Tips.{first_held}
@@ -114,7 +114,7 @@ module _ (meta : Meta) (page : LivePage) (good : IsGoodPage meta (Live page)) (p
 
 -- ---- what a step has at hand
 
-module _ (m : Machine) (actor : ℕ) (fetched : StoreState) (may : MayLatch actor) (keeps : MachineKeeps m) (brings : Brings m AnyPage fetched) where
+module _ (m : Machine) (actor : ℕ) (fetched : StoreState) (may : IsActor actor) (keeps : MachineKeeps m) (brings : Brings m AnyPage fetched) where
   good_there : (id : ℕ) (page : LivePage) → live_here fetched id ≡ Some page → IsGoodPage m.store.meta (Live page)
   good_there id page live = fetched_good m AnyPage fetched keeps.pages_of_file brings id page live
 
@@ -246,7 +246,7 @@ poster_walks_may_be_asked m actor fetched job held wanted page may keeps brings 
     let some = fits.level in
     subst (λ (a : Activity). MayBeAsked a m.store.meta page None) (sym is) (record { above = omega (arith, above, level, some); held = has })
 
-module _ (m : Machine) (actor : ℕ) (fetched : StoreState) (may : MayLatch actor) (keeps : MachineKeeps m) (brings : Brings m AnyPage fetched) (job : Job) (parent : ℕ) (wanted : Wanted) (page : LivePage) (live : live_here fetched wanted.page ≡ Some page) where
+module _ (m : Machine) (actor : ℕ) (fetched : StoreState) (may : IsActor actor) (keeps : MachineKeeps m) (brings : Brings m AnyPage fetched) (job : Job) (parent : ℕ) (wanted : Wanted) (page : LivePage) (live : live_here fetched wanted.page ≡ Some page) where
   -- the parent, with all that the machine keeps of it, and the child's box
   record HasBoth : Type 0 where
     over : LivePage

@@ -20,7 +20,8 @@ use Rattle.hb_boxlock.specs.Locking.{Excludes}
 use Rattle.hb_core.specs.Locking.{LocksOut}
 use Rattle.hb_core.specs.WaitingLaws.{AwaitsActor, ComesLater, NobodyWaitsInACircle, WaitInSequence, WantsItsOwn}
 use Rattle.hb_latch.specs.Modes.{goes_beside}
-use Rattle.hb_latch.specs.Tables.{MayLatch, mode_at}
+use Rattle.hb_latch.specs.Tables.{mode_at}
+use Rattle.hb_space.specs.Actors.{IsActor}
 use Rattle.hb_ops.specs.Files.{FileState}
 use Rattle.hb_activity.specs.BoxLocks.{lock_of, lock_of_command}
 use Rattle.hb_boxlock.specs.declared.locks.BoxLock.{BoxLock}
@@ -60,7 +61,7 @@ module _ (m : Machine) (files : Files) (fit : LatchesFit m) (has : HasSoundFile 
       none : None ≡ Some wanted → ⊥
       none nothing = cc
 
-  wants_may : (actor : ℕ) (wanted : Wanted) → wanted_by m actor ≡ Some wanted → MayLatch actor
+  wants_may : (actor : ℕ) (wanted : Wanted) → wanted_by m actor ≡ Some wanted → IsActor actor
   wants_may actor wanted wants = elim (may_or_not actor) [
     | inl may ↦ may
     | inr none ↦ absurd (idle_wants actor wanted (m.activity actor) (nobody actor none) wants)

@@ -34,7 +34,7 @@ use Rattle.hb_core.specs.KeptMerges.{AtParent, NamesKnown, merging_at}
 use Rattle.hb_core.specs.Machines.{Machine, live_here}
 use Rattle.hb_core.specs.Performing.{Performs, latches_held, mode_among}
 use Rattle.hb_core.specs.Steps.{StepsTo, Works}
-use Rattle.hb_latch.specs.Tables.{MayLatch}
+use Rattle.hb_space.specs.Actors.{IsActor}
 use Rattle.hb_ops.proofs.Facts.Tips.{first_held}
 use Rattle.hb_ops.specs.Files.{if_live}
 use Rattle.hb_space.specs.Boxes.{Holds}
@@ -222,7 +222,7 @@ leads_on page p l there names = subst (λ (o : Option Placed). IsSome (option_an
     by (Child name) some = refl
     by (Sibling name) some = refl
 
-module _ (m : Machine) (actor : ℕ) (may : ℕ → Type 0) (fetched : StoreState) (latches : MayLatch actor) (fit : LatchesFit m) (inside : HoldsPagesOfFile m) (walks : WalksInSpace m) (brings : Brings m may fetched) (deed : Deed) (outcome : Outcome) (new : Machine) (performs : Performs m fetched actor deed outcome new) where
+module _ (m : Machine) (actor : ℕ) (may : ℕ → Type 0) (fetched : StoreState) (latches : IsActor actor) (fit : LatchesFit m) (inside : HoldsPagesOfFile m) (walks : WalksInSpace m) (brings : Brings m may fetched) (deed : Deed) (outcome : Outcome) (new : Machine) (performs : Performs m fetched actor deed outcome new) where
   -- a page that the actor holds stays
   own_there : (id : ℕ) (mode : Mode) (page : LivePage) → mode_among id (latches_held m.store (m.activity actor)) ≡ Some mode → live_here m.store id ≡ Some page → live_here fetched id ≡ Some page
   own_there id mode page among live = ap if_live (still_held m may fetched brings actor id mode (Live page) (fit.exact actor id latches ∙ among) (live_so (in_memory m.store id) page live))
@@ -304,8 +304,8 @@ module _ (m : Machine) (actor : ℕ) (may : ℕ → Type 0) (fetched : StoreStat
 
 -- ---- each step
 
-module _ (m : Machine) (actor : ℕ) (outcome : Outcome) (new : Machine) (latches : MayLatch actor) (fit : LatchesFit m) (inside : HoldsPagesOfFile m) (nobody : HasNobodyElse m) (walks : WalksInSpace m) (step : StepsTo m actor outcome new) where
-  other_in_space : (other : ℕ) → other ≢ actor → MayLatch other → StandsInSpace new.store (m.activity other)
+module _ (m : Machine) (actor : ℕ) (outcome : Outcome) (new : Machine) (latches : IsActor actor) (fit : LatchesFit m) (inside : HoldsPagesOfFile m) (nobody : HasNobodyElse m) (walks : WalksInSpace m) (step : StepsTo m actor outcome new) where
+  other_in_space : (other : ℕ) → other ≢ actor → IsActor other → StandsInSpace new.store (m.activity other)
   other_in_space other another may = stands_again (m.activity other) m.store new.store (each_stands m walks other)
       (λ held page on live. let both = other_walks m actor outcome new latches fit inside step other another may held on in both.1.before ∙ sym both.1.after ∙ live)
       (λ job parent page is live. let latch = parent_latched m.store (m.activity other) job parent is in other_holds m actor outcome new latches fit inside step other another may (m.activity other) parent latch.0 page refl latch.1 live)

@@ -7,7 +7,8 @@ use Rattle.std.proofs.lemmas.Bool.{cases_Bool, eq-eqb, eqb-false, eqb-true, fals
 use Rattle.std.proofs.lemmas.List.Elements.{All-contains}
 use Rattle.hb_latch.specs.declared.modes.Mode.{Mode}
 use Rattle.hb_latch.specs.Modes.{goes_beside}
-use Rattle.hb_latch.specs.Tables.{IsGrantable, IsLeastInTheWay, KeepsFrom, LatchTable, MayLatch, mode_at}
+use Rattle.hb_latch.specs.Tables.{IsGrantable, IsLeastInTheWay, KeepsFrom, LatchTable, mode_at}
+use Rattle.hb_space.specs.Actors.{IsActor}
 use Rattle.hb_latch.proofs.InTheWay.{nobody_keeps, none_keeps}
 use Rattle.hb_set.specs.declared.commands.Reply.{Reply}
 use Rattle.hb_set.specs.declared.scripts.Answered.{Answered}
@@ -280,7 +281,7 @@ module _ (n : RecordSet) (m : Machine) (files : Files) (keeps : CoreKeeps n m fi
   all_free : ((actor : ℕ) → ¬ (IsAtWork m actor)) → (actor : ℕ) (lock : BoxLock) → HasBoxFree m actor lock
   all_free none actor lock other out = none other (holder_works m actor other lock keeps.kept.nobody_else out)
 
-  idle_takes : (actor : ℕ) → MayLatch actor → m.activity actor ≡ at.SessionIdle → IsSome (next_line actor m.answered m.lines) → ((other : ℕ) → ¬ (IsAtWork m other)) → Somebody
+  idle_takes : (actor : ℕ) → IsActor actor → m.activity actor ≡ at.SessionIdle → IsSome (next_line actor m.answered m.lines) → ((other : ℕ) → ¬ (IsAtWork m other)) → Somebody
   idle_takes actor may idle some none =
       (actor, record { may = may; to_do = inr (inl (idle, some)); forward = λ outcome new step. next_forward m actor outcome new (all_free none actor) _ some (as_idle actor at.SessionIdle idle outcome new step) })
 
@@ -290,7 +291,7 @@ module _ (n : RecordSet) (m : Machine) (files : Files) (keeps : CoreKeeps n m fi
       let fits = All-contains (LineFits m.store.meta.k) m.lines line keeps.kept.attributes_fit.script there in
       let first = fits.first_session in
       let last = fits.last_session in
-      let may : MayLatch line.session = record { from_1 = first; to_19 = omega (arith, last) } in
+      let may : IsActor line.session = record { from_1 = first; to_19 = omega (arith, last) } in
       let some = next_there line.session m.answered m.lines line there refl unanswered in
       elim (rests_or_not (m.activity line.session)) [
         | inr works ↦ at_work line.session (may, works)
@@ -302,7 +303,7 @@ module _ (n : RecordSet) (m : Machine) (files : Files) (keeps : CoreKeeps n m fi
   -- a job that waits
   of_posting : (job : Job) → Contains m.jobs job → job.kind ≡ Post → Somebody
   of_posting job waits kind =
-      let may : MayLatch 17 = record { from_1 = omega arith; to_19 = omega arith } in
+      let may : IsActor 17 = record { from_1 = omega arith; to_19 = omega arith } in
       elim (rests_or_not (m.activity 17)) [
         | inr works ↦ at_work 17 (may, works)
         | inl rests ↦
@@ -312,7 +313,7 @@ module _ (n : RecordSet) (m : Machine) (files : Files) (keeps : CoreKeeps n m fi
 
   of_merging : (job : Job) → Contains m.jobs job → job.kind ≡ Merge → Somebody
   of_merging job waits kind =
-      let may : MayLatch 18 = record { from_1 = omega arith; to_19 = omega arith } in
+      let may : IsActor 18 = record { from_1 = omega arith; to_19 = omega arith } in
       elim (rests_or_not (m.activity 18)) [
         | inr works ↦ at_work 18 (may, works)
         | inl rests ↦

@@ -26,7 +26,7 @@ use Rattle.hb_core.specs.Machines.{Machine, live_here, with_disk}
 use Rattle.hb_core.specs.Performing.{Performs}
 use Rattle.hb_core.specs.Steps.{StepsTo, TakesJob, TakesMerging}
 use Rattle.hb_frag.specs.Leaves.{IsPointer, leaf_at}
-use Rattle.hb_latch.specs.Tables.{MayLatch}
+use Rattle.hb_space.specs.Actors.{IsActor}
 use Rattle.hb_ops.specs.Files.{if_live}
 use Rattle.hb_poster.specs.PosterRows.{IsPostingOf}
 use Rattle.hb_space.specs.Boxes.{Area}
@@ -101,7 +101,7 @@ merging_stands st job height next grows (inr (below, is)) = subst (StandsByJob s
 
 -- ---- each step
 
-module _ (m : Machine) (actor : ℕ) (outcome : Outcome) (new : Machine) (may : MayLatch actor) (kept : MachineKeeps m) (step : StepsTo m actor outcome new) where
+module _ (m : Machine) (actor : ℕ) (outcome : Outcome) (new : Machine) (may : IsActor actor) (kept : MachineKeeps m) (step : StepsTo m actor outcome new) where
   other_stands : (other : ℕ) → other ≢ actor → m.store.meta.height ≤ new.store.meta.height → StandsByJob new.store (m.activity other)
   other_stands other another grows = elim (may_or_not other) [
     | inl latches ↦ stands_again m.store new.store (walk_held (m.activity other)) (walking_job (m.activity other)) grows
@@ -162,7 +162,7 @@ module _ (m : Machine) (actor : ℕ) (outcome : Outcome) (new : Machine) (may : 
       by (inl none) = none_stands new.store does.deed.next none
       by (inr walks) = walked does.fetched does.deed does.brings.rest.meta does.performs walks
 
-pub workers_stand_still : (m : Machine) (actor : ℕ) (outcome : Outcome) (new : Machine) → MayLatch actor → MachineKeeps m → StepsTo m actor outcome new → WorkersStand new
+pub workers_stand_still : (m : Machine) (actor : ℕ) (outcome : Outcome) (new : Machine) → IsActor actor → MachineKeeps m → StepsTo m actor outcome new → WorkersStand new
 workers_stand_still m actor outcome new may kept step = each_deed m actor outcome new (WorkersStand new) (record {
   keeps = keeps m actor outcome new may kept step;
   takes = λ line idle next performs. performed m actor outcome new may kept step m.store _ refl performs tt;

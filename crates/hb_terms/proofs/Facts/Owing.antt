@@ -19,7 +19,8 @@ use Rattle.hb_frag.specs.Rules.{IsNormal}
 use Rattle.hb_frag.proofs.Facts.Points.{way_ends}
 use Rattle.hb_frag.proofs.Facts.Tiles.{first_tells, found_where_held, tiles_areas}
 use Rattle.hb_frag.proofs.Facts.CarvedPages.{carved_room}
-use Rattle.hb_terms.specs.Plans.{IsOwed, OwesNothing, posted_parent, Posts, LacksRoom, IsPlan, MayPost}
+use Rattle.hb_terms.specs.Plans.{IsPlan}
+use Rattle.hb_ops.specs.Owing.{IsOwed, OwesNothing, posted_parent, Posts, LacksRoom, MayPost}
 use Rattle.hb_terms.specs.declared.plans.PostPlan.{PostPlan}
 use Rattle.hb_terms.specs.declared.plans.PostPlan.TheVariants.{Nothing, Post, SplitFirst}
 

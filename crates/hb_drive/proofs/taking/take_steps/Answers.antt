@@ -1,7 +1,7 @@
 use Rattle.std.proofs.Common.{ℕ, ◌≤◌, List, length, subst, arith, rules, length-append}
 use Rattle.std.proofs.lemmas.List.{take_all}
 use Rattle.std.proofs.lemmas.List.Elements.{All-get_or}
-use Rattle.hb_latch.specs.Tables.{MayLatch}
+use Rattle.hb_space.specs.Actors.{IsActor}
 use Rattle.hb_set.specs.declared.scripts.Answered.{Answered}
 use Rattle.hb_core.specs.CoreSeen.{core_seen, core_disk}
 use Rattle.hb_core.specs.Performing.{given_by}
@@ -21,7 +21,7 @@ loop-actor-init g c =
 
 pub step-outcome-requires-clause-actor : goal.step-outcome-requires-clause-actor
 step-outcome-requires-clause-actor g c =
-    All-get_or MayLatch c.args.steps.now c.loop-actor.actor-index _ (omega arith) c.requires.actors
+    All-get_or IsActor c.args.steps.now c.loop-actor.actor-index _ (omega arith) c.requires.actors
 
 pub step-outcome-requires-clause-may : goal.step-outcome-requires-clause-may
 step-outcome-requires-clause-may g c =
@@ -39,7 +39,7 @@ take_answer-put-requires g c =
     (record {
       disk = g.met.D.Device.is_disk (core_disk c.loop-actor.core);
       disk_next = g.met.D.Device.is_disk (core_disk c.step-outcome.new.self);
-      may = All-get_or MayLatch c.args.steps.now c.loop-actor.actor-index _ (omega arith) c.requires.actors;
+      may = All-get_or IsActor c.args.steps.now c.loop-actor.actor-index _ (omega arith) c.requires.actors;
       steps = step.steps;
       touches = step.touches;
       clock = c.clock-at.ensures;
@@ -60,7 +60,7 @@ loop-actor-preserved g c =
           (record {
             disk = g.met.D.Device.is_disk (core_disk c.loop-actor.core);
             disk_next = g.met.D.Device.is_disk (core_disk c.step-outcome.new.self);
-            may = All-get_or MayLatch c.args.steps.now c.loop-actor.actor-index _ (omega arith) c.requires.actors;
+            may = All-get_or IsActor c.args.steps.now c.loop-actor.actor-index _ (omega arith) c.requires.actors;
             steps = step.steps;
             touches = step.touches;
             clock = c.clock-at.ensures;

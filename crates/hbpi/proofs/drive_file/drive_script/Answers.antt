@@ -3,7 +3,7 @@ use Rattle.hb_core.specs.CoreSeen.{core_disk, core_seen}
 use Rattle.hb_core.specs.Showing.{RunningCore}
 use Rattle.hb_core.specs.Working.{MayStep}
 use Rattle.hb_disk.specs.Model.{DiskModel}
-use Rattle.hb_latch.specs.Tables.{MayLatch}
+use Rattle.hb_space.specs.Actors.{IsActor}
 use Rattle.hb_layout.specs.Offsets.{file_size}
 use Rattle.hb_outside.specs.Calls.{SinkModel}
 use Rattle.hb_restart.proofs.Facts.Beyond.{beyond_none}
@@ -30,7 +30,7 @@ drive-requires-clause-may g c =
 
 pub drive-requires-clause-actors : goal.drive-requires-clause-actors
 drive-requires-clause-actors g c =
-    subst (λ (steps : List ℕ). All MayLatch steps) (sym (ap (λ (r : RunningCore). r.steps) c.in-Ok.ensures.seen)) (may_latch c.args.script.steps c.requires.script.actors)
+    subst (λ (steps : List ℕ). All IsActor steps) (sym (ap (λ (r : RunningCore). r.steps) c.in-Ok.ensures.seen)) (may_latch c.args.script.steps c.requires.script.actors)
 
 pub returns-in-Ok-clause-ends : goal.returns-in-Ok-clause-ends
 returns-in-Ok-clause-ends g c =
