@@ -9,3 +9,5 @@ pub mod Sides
 pub mod Tiles
 pub mod Direct
 pub mod PointOrder
+pub mod Renamed
+pub mod SiblingWays

@@ -1,13 +1,13 @@
 -- What is allowed of an operation, whatever it is: the page number that it takes, the highest page behind it, and the pages
 -- that it reads.
-use Rattle.std.proofs.Common.{◌≡◌, ◌≢◌, inl, inr, ℕ, ◌+◌, ◌≤◌, eqb, [], ◌∷◌, get_or, All, Option, Some, None, IsSome, refl, subst, arith}
+use Rattle.std.proofs.Common.{◌≡◌, ◌≢◌, inl, inr, ℕ, ◌+◌, ◌≤◌, eqb, [], ◌∷◌, get_or, All, Option, Some, None, IsSome, refl, sym, subst, ◌∙◌, arith}
 use Rattle.std.proofs.lemmas.Bool.{cases_Bool, eqb-true, eqb-false}
 use Rattle.std.proofs.lemmas.List.Elements.{All-cons, All-nil}
 use Rattle.hb_frag.specs.declared.pages.LivePage.{LivePage}
 use Rattle.hb_frag.specs.declared.pages.Page.{Page}
 use Rattle.hb_layout.specs.declared.meta.Meta.{Meta}
 use Rattle.hb_ops.specs.declared.operations.Op.{Op}
-use Rattle.hb_ops.specs.declared.operations.Op.TheVariants.{Put, Del, Extract, Post, Grow}
+use Rattle.hb_ops.specs.declared.operations.Op.TheVariants.{Put, Del, Extract, Post, Merge, Grow}
 use Rattle.hb_ops.specs.Allocating.{Allocates}
 use Rattle.hb_ops.specs.Files.{if_live}
 use Rattle.hb_ops.specs.Operations.{IsAllowedOn, change_of, reads_of}
@@ -41,6 +41,10 @@ high_next (Extract source fresh path cuts free_after) meta None second third all
 high_next (Extract source fresh path cuts free_after) meta (Some page) second third allowed = let is = taken_is meta fresh free_after allowed.allocates in omega (arith, is.next)
 high_next (Post parent at inner area) meta None second third allowed = absurd allowed
 high_next (Post parent at inner area) meta (Some page) second third allowed = omega arith
+high_next (Merge parent keep gone) meta None second third allowed = absurd allowed
+high_next (Merge parent keep gone) meta (Some above) None third allowed = absurd allowed
+high_next (Merge parent keep gone) meta (Some above) (Some kept) None allowed = absurd allowed
+high_next (Merge parent keep gone) meta (Some above) (Some kept) (Some going) allowed = omega arith
 high_next (Grow fresh free_after) meta first second third allowed = let is = taken_is meta fresh free_after allowed.allocates in omega (arith, is.next)
 
 -- ---- the same operation on the same pages
@@ -61,15 +65,31 @@ live_some : (o : Option Page) → (if_live o ≡ None → ⊥) → IsSome o
 live_some None h = absurd (h refl)
 live_some (Some page) h = refl
 
+abbrev pub read_by : (ℕ → Option Page) → Op → ℕ → Option LivePage
+read_by f op place = if_live (f (get_or (reads_of op) place 0))
+
 module _ (op : Op) (meta : Meta) (f : ℕ → Option Page) (second third : Option LivePage) where
   -- one page, without which the operation isn't allowed
   one_read : (id : ℕ) → (IsAllowedOn op meta None second third → ⊥) → IsAllowedOn op meta (if_live (f id)) second third → All (λ n. IsSome (f n)) (id ∷ [])
   one_read id not allowed =
       All-cons (λ (n : ℕ). IsSome (f n)) id [] (live_some (f id) (λ none. not (subst (λ (o : Option LivePage). IsAllowedOn op meta o second third) none allowed))) (All-nil (λ (n : ℕ). IsSome (f n)))
 
-pub reads_some : (op : Op) (meta : Meta) (f : ℕ → Option Page) (second third : Option LivePage) → IsAllowedOn op meta (if_live (f (get_or (reads_of op) 0 0))) second third → All (λ id. IsSome (f id)) (reads_of op)
-reads_some (Put id rec) meta f second third h = one_read (Put id rec) meta f second third id (λ never. never) h
-reads_some (Del id point) meta f second third h = one_read (Del id point) meta f second third id (λ never. never) h
-reads_some (Extract source fresh path cuts free_after) meta f second third h = one_read (Extract source fresh path cuts free_after) meta f second third source (λ never. never) h
-reads_some (Post parent at inner area) meta f second third h = one_read (Post parent at inner area) meta f second third parent (λ never. never) h
-reads_some (Grow fresh free_after) meta f second third h = All-nil (λ (n : ℕ). IsSome (f n))
+-- three pages, without each of which a merge isn't
+three_read : (parent keep gone : ℕ) (meta : Meta) (f : ℕ → Option Page) (a b c : Option LivePage) → if_live (f parent) ≡ a → if_live (f keep) ≡ b → if_live (f gone) ≡ c
+    → IsAllowedOn (Merge parent keep gone) meta a b c → All (λ n. IsSome (f n)) (parent ∷ keep ∷ gone ∷ [])
+three_read parent keep gone meta f None b c ea eb ec allowed = absurd allowed
+three_read parent keep gone meta f (Some above) None c ea eb ec allowed = absurd allowed
+three_read parent keep gone meta f (Some above) (Some kept) None ea eb ec allowed = absurd allowed
+three_read parent keep gone meta f (Some above) (Some kept) (Some going) ea eb ec allowed =
+    let P : ℕ → Type 0 = λ n. IsSome (f n) in
+    All-cons P parent _ (live_some (f parent) (λ none. let no : None ≡ Some above = sym none ∙ ea in cc))
+    (All-cons P keep _ (live_some (f keep) (λ none. let no : None ≡ Some kept = sym none ∙ eb in cc))
+    (All-cons P gone _ (live_some (f gone) (λ none. let no : None ≡ Some going = sym none ∙ ec in cc)) (All-nil P)))
+
+pub reads_some : (op : Op) (meta : Meta) (f : ℕ → Option Page) → IsAllowedOn op meta (read_by f op 0) (read_by f op 1) (read_by f op 2) → All (λ id. IsSome (f id)) (reads_of op)
+reads_some (Put id rec) meta f h = one_read (Put id rec) meta f (if_live (f 0)) (if_live (f 0)) id (λ never. never) h
+reads_some (Del id point) meta f h = one_read (Del id point) meta f (if_live (f 0)) (if_live (f 0)) id (λ never. never) h
+reads_some (Extract source fresh path cuts free_after) meta f h = one_read (Extract source fresh path cuts free_after) meta f (if_live (f 0)) (if_live (f 0)) source (λ never. never) h
+reads_some (Post parent at inner area) meta f h = one_read (Post parent at inner area) meta f (if_live (f 0)) (if_live (f 0)) parent (λ never. never) h
+reads_some (Merge parent keep gone) meta f h = three_read parent keep gone meta f (if_live (f parent)) (if_live (f keep)) (if_live (f gone)) refl refl refl h
+reads_some (Grow fresh free_after) meta f h = All-nil (λ (n : ℕ). IsSome (f n))
