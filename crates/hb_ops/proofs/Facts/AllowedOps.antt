@@ -82,9 +82,9 @@ three_read parent keep gone meta f (Some above) None c ea eb ec allowed = absurd
 three_read parent keep gone meta f (Some above) (Some kept) None ea eb ec allowed = absurd allowed
 three_read parent keep gone meta f (Some above) (Some kept) (Some going) ea eb ec allowed =
     let P : ℕ → Type 0 = λ n. IsSome (f n) in
-    All-cons P parent _ (live_some (f parent) (λ none. let no : None ≡ Some above = sym none ∙ ea in cc))
-    (All-cons P keep _ (live_some (f keep) (λ none. let no : None ≡ Some kept = sym none ∙ eb in cc))
-    (All-cons P gone _ (live_some (f gone) (λ none. let no : None ≡ Some going = sym none ∙ ec in cc)) (All-nil P)))
+    All-cons P parent (keep ∷ gone ∷ []) (live_some (f parent) (λ none. let no : None ≡ Some above = sym none ∙ ea in cc))
+    (All-cons P keep (gone ∷ []) (live_some (f keep) (λ none. let no : None ≡ Some kept = sym none ∙ eb in cc))
+    (All-cons P gone [] (live_some (f gone) (λ none. let no : None ≡ Some going = sym none ∙ ec in cc)) (All-nil P)))
 
 pub reads_some : (op : Op) (meta : Meta) (f : ℕ → Option Page) → IsAllowedOn op meta (read_by f op 0) (read_by f op 1) (read_by f op 2) → All (λ id. IsSome (f id)) (reads_of op)
 reads_some (Put id rec) meta f h = one_read (Put id rec) meta f (if_live (f 0)) (if_live (f 0)) id (λ never. never) h
