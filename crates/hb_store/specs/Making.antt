@@ -7,10 +7,10 @@ use Rattle.hb_frag.specs.Grammar.{HasSpelling}
 use Rattle.hb_layout.specs.declared.meta.Meta.{Meta}
 use Rattle.hb_ops.specs.declared.operations.Op.{Op}
 use Rattle.hb_ops.specs.declared.operations.Op.TheVariants.{Extract, Post}
-use Rattle.hb_ops.specs.Operations.{Change, IsAllowedOn, OpHas, change_of, reads_of}
+use Rattle.hb_ops.specs.Operations.{BoxesMatch, Change, IsAllowedOn, OpHas, change_of, reads_of}
 use Rattle.hb_log_codec.specs.Groups.{FitsGroup, FitsLeafCut, FitsOp, Logged}
 use Rattle.hb_store.specs.States.{IsGoodPage, IsMemory, IsSameLayout, IsStanding, StoreState, in_memory, is_in_log}
-use Rattle.hb_store.specs.Calls.{IsAllowedHere, change_here}
+use Rattle.hb_store.specs.Calls.{IsAllowedHere, change_here, read_here}
 use Rattle.hb_store.specs.Replaying.{HasLimits, IsPageOf}
 
 -- the page image of a page, unless this turn's log has it
@@ -26,14 +26,21 @@ page_images_needed page_in in_log ids = flat_map (λ id. page_image_needed id (p
 abbrev pub group_here : StoreState → Op → Logged
 group_here st op = record { images = page_images_needed (in_memory st) (is_in_log st) (reads_of op); op = op }
 
--- the page that an operation reads can be written
+-- the pages that an operation reads can be written
 abbrev pub IsReadable : Option LivePage → Type 0
-IsReadable first = (page : LivePage) → first ≡ Some page → HasSpelling (Live page)
+IsReadable given = (page : LivePage) → given ≡ Some page → HasSpelling (Live page)
 
--- The pages that an allowed operation makes can be written, and keep the rules that speak of each alone.
+abbrev pub AreReadable : Option LivePage → Option LivePage → Option LivePage → Type 0
+AreReadable first second third = IsReadable first × IsReadable second × IsReadable third
+
+-- The pages that an allowed operation makes can be written, and keep the rules that speak of each alone where their boxes match.
+abbrev pub MakesWritablePages : Type 0
+MakesWritablePages = (op : Op) (meta : Meta) (first second third : Option LivePage) → HasLimits meta → FitsOp meta.k op → IsAllowedOn op meta first second third → AreReadable first second third
+    → All (λ c. HasSpelling c.1) (change_of op meta first second third).pages
+
 abbrev pub MakesGoodPages : Type 0
-MakesGoodPages = (op : Op) (meta : Meta) (first second third : Option LivePage) → HasLimits meta → FitsOp meta.k op → IsAllowedOn op meta first second third → IsReadable first
-    → All (λ c. IsGoodPage (change_of op meta first second third).meta c.1) (change_of op meta first second third).pages
+MakesGoodPages = (op : Op) (meta : Meta) (first second third : Option LivePage) → HasLimits meta → FitsOp meta.k op → IsAllowedOn op meta first second third → AreReadable first second third
+    → BoxesMatch op first second third → All (λ c. IsGoodPage (change_of op meta first second third).meta c.1) (change_of op meta first second third).pages
 
 -- the paths and the cuts of an operation have their places in its spelling
 abbrev pub HasFittingParts : Op → Type 0
@@ -43,7 +50,7 @@ HasFittingParts other = Unit {0}
 
 -- An allowed operation's have.
 abbrev pub HaveFittingParts : Type 0
-HaveFittingParts = (op : Op) (meta : Meta) (first second third : Option LivePage) → HasLimits meta → IsAllowedOn op meta first second third → IsReadable first → HasFittingParts op
+HaveFittingParts = (op : Op) (meta : Meta) (first second third : Option LivePage) → HasLimits meta → IsAllowedOn op meta first second third → AreReadable first second third → HasFittingParts op
 
 -- What an operation changes: the layout stays, what the file says of itself still stands, good pages are good, and each
 -- changed page is one of the file then, and is good.
@@ -61,10 +68,12 @@ pub record ChangesWell (turn : ℕ) (meta : Meta) (change : Change) : Type 0 whe
   -- each changed page is of the file, and good
   pub pages : All (λ c. IsPageOf change.meta c.0 × IsGoodPage change.meta c.1) change.pages
 
--- an operation that a store can do: its points have as many attributes as the file says, and it is allowed on the pages in memory
+-- an operation that a store can do: its points have as many attributes as the file says, it is allowed on the pages in memory, and
+-- their boxes match
 pub record IsDoableHere (op : Op) (st : StoreState) : Type 0 where
   pub points : OpHas st.meta.k op
   pub allowed : IsAllowedHere st op
+  pub boxes : BoxesMatch op (read_here st op 0) (read_here st op 1) (read_here st op 2)
 
 -- What an operation makes of a store is well made, and its group fits the log.
 pub record MakesWell (op : Op) (st : StoreState) : Type 0 where

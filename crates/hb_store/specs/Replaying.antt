@@ -37,6 +37,7 @@ AreItsPages t = (id : ℕ) (page : Page) → t.page id ≡ Some page → IsPageO
 pub record HasLimits (meta : Meta) : Type 0 where
   pub layout : IsLayout meta
   pub root_fits : meta.root < 2 ^ 32
+  pub free_fits : meta.free < 2 ^ 32
 
 -- What a file says of itself once operations were applied: it was laid down as before, it is within its limits, the
 -- height and the highest page don't fall, and what the file says of itself stays within its limits.
@@ -47,7 +48,6 @@ pub record ComesAfter (old new : Meta) : Type 0 where
   pub rises : old.high ≤ new.high
   pub high : old.high ≤ old.pages → new.high ≤ new.pages
   pub live : old.live ≤ old.pages → new.live ≤ new.pages
-  pub free : old.free < 2 ^ 32 → new.free < 2 ^ 32
 
 -- what a replay goes on from: a file within its limits, and touched pages of it that can be written
 pub record IsReplayable (t : Replayed) : Type 0 where
