@@ -1,6 +1,6 @@
 -- How a walk passes on: the row that all walks have in common.
-use Rattle.std.specs.Prelude.{◌≡◌, ℕ, ◌+◌, ◌<◌, List, [], ◌∷◌, Some}
-use Rattle.hb_space.specs.Boxes.{Area}
+use Rattle.std.specs.Prelude.{◌≡◌, ℕ, ◌+◌, ◌<◌, ◌≤◌, List, [], ◌∷◌, Some}
+use Rattle.hb_space.specs.Boxes.{Area, Holds}
 use Rattle.hb_frag.specs.declared.leaves.Leaf.{Leaf}
 use Rattle.hb_frag.specs.declared.leaves.Leaf.TheVariants.{Child, Sibling}
 use Rattle.hb_frag.specs.declared.pages.LivePage.{LivePage}
@@ -31,6 +31,11 @@ pub record PassesOn (page : LivePage) (p : List ℕ) (next : Activity) (deed : D
 -- The page's leaf at the job's point is a child leaf: there a worker's walk is over, at its level.
 abbrev pub LeadsBelow : LivePage → Job → Type 0
 LeadsBelow page job = (child : ℕ) × (area : Area) × (leaf_at page job.point ≡ Some (record { leaf = Child child; area = area }))
+
+-- The page of a walk is above the records, and its box has the job's point.
+pub record WalksAbove (job : Job) (page : LivePage) : Type 0 where
+  pub above : 1 ≤ page.level
+  pub held : Holds page.area job.point
 
 -- Splitting, where no page is free: another deed is done in its place.
 pub record HasNoPage (s : Sight) (deed : Deed) (other : Deed) : Type 0 where

@@ -2,3 +2,4 @@ pub mod ConsolidatorRows
 pub mod MergeRows
 pub mod Laws
 pub mod Examples
+pub mod Asks

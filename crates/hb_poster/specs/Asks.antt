@@ -10,7 +10,7 @@ use Rattle.hb_activity.specs.declared.jobs.Job.{Job}
 use Rattle.hb_activity.specs.declared.activities.Activity.{Activity}
 use Rattle.hb_activity.specs.declared.activities.Activity.TheVariants as at
 use Rattle.hb_activity.specs.Deciding.{given_sight}
-use Rattle.hb_activity.specs.Passing.{LeadsBelow}
+use Rattle.hb_activity.specs.Passing.{LeadsBelow, WalksAbove}
 use Rattle.hb_poster.specs.PosterRows.{MayGrow}
 
 -- Where the step makes a page, if one is free: the file may get a level, or the parent has no room for what is to be posted.
@@ -18,11 +18,6 @@ abbrev pub MakesPage : Activity → Meta → LivePage → Option LivePage → Ty
 MakesPage (at.PosterGrow job) meta page first = MayGrow (given_sight meta [] None) job page
 MakesPage (at.PosterAgain job parent) meta page (Some over) = LacksRoom over page job.point meta.icap
 MakesPage other meta page first = ⊥
-
--- The page of a walk is above the records, and its box has the job's point.
-pub record WalksAbove (job : Job) (page : LivePage) : Type 0 where
-  pub above : 1 ≤ page.level
-  pub held : Holds page.area job.point
 
 -- The parent keeps the rules of a page alone, and its leaf at the job's point is a child leaf. Its box and the child's have the point.
 pub record LooksBelow (meta : Meta) (job : Job) (over child : LivePage) : Type 0 where

@@ -1,0 +1,52 @@
+-- What the decider of the consolidator may rely on, and where it asks for memory.
+use Rattle.std.specs.Prelude.{◌≡◌, ◌≢◌, ℕ, ◌<◌, List, [], ◌∷◌, Option, Some}
+use Rattle.hb_layout.specs.declared.meta.Meta.{Meta}
+use Rattle.hb_frag.specs.declared.pages.LivePage.{LivePage}
+use Rattle.hb_frag.specs.Rules.{capacity_of}
+use Rattle.hb_ops.specs.Merging.{MayMerge}
+use Rattle.hb_ops.specs.Sound.{FitsFile}
+use Rattle.hb_activity.specs.declared.jobs.Job.{Job}
+use Rattle.hb_activity.specs.declared.activities.Activity.{Activity}
+use Rattle.hb_activity.specs.declared.activities.Activity.TheVariants as at
+use Rattle.hb_activity.specs.Passing.{LeadsBelow, WalksAbove}
+
+-- The pages that a step is given, by their numbers: in front of the one that it latched the parent, and the page to keep where a
+-- pair is tried or decided.
+abbrev pub pages_given : Activity → ℕ → LivePage → Option LivePage → Option LivePage → List (ℕ × LivePage)
+pages_given (at.ConsolidatorScan job parent child) id page (Some above) second = (parent, above) ∷ (id, page) ∷ []
+pages_given (at.ConsolidatorTry job parent keep gone leaf) id page (Some above) (Some kept) = (parent, above) ∷ (keep, kept) ∷ (id, page) ∷ []
+pages_given (at.ConsolidatorDecide job parent keep gone) id page (Some above) (Some kept) = (parent, above) ∷ (keep, kept) ∷ (id, page) ∷ []
+pages_given other id page first second = (id, page) ∷ []
+
+-- The parent and the page to keep are two, and keep the rules of a page alone.
+pub record HoldsBoth (meta : Meta) (parent keep : ℕ) (above kept : LivePage) : Type 0 where
+  pub two : parent ≢ keep
+  pub above_made : FitsFile meta above
+  pub kept_made : FitsFile meta kept
+
+-- Deciding, the parent is of the job's level.
+pub record DecidesAt (meta : Meta) (job : Job) (parent keep : ℕ) (above kept : LivePage) : Type 0 where
+  pub level : above.level ≡ job.level
+  pub both : HoldsBoth meta parent keep above kept
+
+-- What the decider may be asked, by where the consolidator stands. Elsewhere it has no step at a page.
+abbrev pub MayBeAsked : Activity → Meta → LivePage → Option LivePage → Option LivePage → Type 0
+MayBeAsked (at.ConsolidatorWalk job held) meta page first second = WalksAbove job page
+MayBeAsked (at.ConsolidatorScan job parent child) meta page (Some above) second = Unit {0}
+MayBeAsked (at.ConsolidatorTry job parent keep gone leaf) meta page (Some above) (Some kept) = HoldsBoth meta parent keep above kept
+MayBeAsked (at.ConsolidatorPromote job parent keep gone) meta page first second = Unit {0}
+MayBeAsked (at.ConsolidatorKeep job parent keep gone) meta page first second = Unit {0}
+MayBeAsked (at.ConsolidatorDecide job parent keep gone) meta page (Some above) (Some kept) = DecidesAt meta job parent keep above kept
+MayBeAsked other meta page first second = ⊥
+
+-- the two become one
+abbrev pub MergesTwo : Meta → ℕ → LivePage → LivePage → LivePage → Type 0
+MergesTwo meta gone above kept page = (0 < meta.live) × MayMerge above kept gone page (capacity_of page.level meta.dcap meta.icap)
+
+-- Memory is asked for where the children of a parent are listed, and where two pages become one.
+abbrev pub AsksMemory : Activity → Meta → LivePage → Option LivePage → Option LivePage → Type 0
+AsksMemory (at.ConsolidatorWalk job held) meta page first second = (page.level ≡ job.level) × LeadsBelow page job
+AsksMemory (at.ConsolidatorScan job parent child) meta page first second = Unit {0}
+AsksMemory (at.ConsolidatorTry job parent keep gone leaf) meta page first second = Unit {0}
+AsksMemory (at.ConsolidatorDecide job parent keep gone) meta page (Some above) (Some kept) = MergesTwo meta gone above kept page
+AsksMemory other meta page first second = ⊥
