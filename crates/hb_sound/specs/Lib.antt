@@ -5,6 +5,7 @@ pub mod Examples
 pub mod LateFile
 pub mod LawsOfOperations
 pub mod LawsOfPostings
+pub mod LawsOfMerges
 pub mod Told
 pub mod Walks
 pub mod Names
