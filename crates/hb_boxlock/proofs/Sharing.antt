@@ -6,16 +6,11 @@ use Rattle.std.specs.FinMap as map
 use Rattle.std.specs.Ordering.{nat_cmp}
 use Rattle.std.specs.Option.{IsSomeAnd}
 use Rattle.hb_space.specs.Boxes.{Area, Meets}
-use Rattle.hb_space.proofs.Facts.Boxes.{Meets-from_point}
+use Rattle.hb_space.proofs.Facts.Boxes.{Meets-back, Meets-from_point}
 use Rattle.hb_boxlock.specs.declared.locks.BoxLock.{BoxLock}
 use Rattle.hb_boxlock.specs.Laws.{AloneHasItsPoints, ReleasedMayBeHad, ReleasingKeepsThemShared, SharedKeepsNone, TakingKeepsThemShared}
 use Rattle.hb_boxlock.specs.Locking.{AreSharedWhereTheyMeet, Excludes, HaveAttributes, LockTable, MayHaveLock, lock_at}
 use Rattle.hb_boxlock.proofs.Places.{after_insert, after_remove}
-
--- boxes meet from both sides
-meets_back : (a b : Area) → length a.lo ≡ length b.lo → Meets a b → Meets b a
-meets_back a b same meets i lt = subst (λ (n : ℕ). n ≤ min (slice_index b.hi i) (slice_index a.hi i)) (max_comm (slice_index a.lo i) (slice_index b.lo i))
-    (subst (λ (n : ℕ). max (slice_index a.lo i) (slice_index b.lo i) ≤ n) (min_comm (slice_index a.hi i) (slice_index b.hi i)) (meets i (omega (arith, same, lt))))
 
 both : (s t : Bool) → ¬ (IsTrue (not (s && t))) → IsTrue s × IsTrue t
 both true true apart = (refl, refl)
@@ -62,7 +57,7 @@ taken_shared table actor lock old attributes may one two x y apart is there meet
       elim (cases_eq two actor) [
         | inl second ↦
             let own = own_lock table actor two lock y second there in
-            let back = meets_back x.area lock.area (attributes_of table one (length lock.area.lo) x attributes held) (subst (λ (l : BoxLock). Meets x.area l.area) (sym own) meets) in
+            let back = Meets-back x.area lock.area (attributes_of table one (length lock.area.lo) x attributes held) (subst (λ (l : BoxLock). Meets x.area l.area) (sym own) meets) in
             let shared = both_shared lock x (not_excluded table actor one lock x may first held) back in
             subst (λ (l : BoxLock). IsTrue x.shared × IsTrue l.shared) own (shared.1, shared.0)
         | inr second ↦ old one two x y apart held (other_lock table actor two lock y second there) meets

@@ -91,6 +91,19 @@ filter_has p (y ∷ xs) x h = elim (cases_Bool (p y)) [
   | inr f ↦ later_member y xs x (filter_has p xs x (subst (λ (b : Bool). Contains (cond b (y ∷ filter p xs) (filter p xs)) x) f h))
 ]
 
+pub filter_keeps : {X : Type 0} (p : X → Bool) (xs : List X) (x : X) → Contains xs x → p x ≡ true → Contains (filter p xs) x
+filter_keeps p [] x there passes = absurd (no_member x there)
+filter_keeps p (y ∷ xs) x there passes = elim (cases_Bool (p y)) [
+  | inl t ↦ subst (λ (b : Bool). Contains (cond b (y ∷ filter p xs) (filter p xs)) x) (sym t) (elim (member_cases y xs x there) [
+    | inl e ↦ (zero, omega arith, e)
+    | inr later ↦ later_member y (filter p xs) x (filter_keeps p xs x later passes)
+  ])
+  | inr f ↦ subst (λ (b : Bool). Contains (cond b (y ∷ filter p xs) (filter p xs)) x) (sym f) (elim (member_cases y xs x there) [
+    | inl e ↦ absurd (false≢true (sym f ∙ ap p e ∙ passes))
+    | inr later ↦ filter_keeps p xs x later passes
+  ])
+]
+
 -- ---- places
 
 -- what stands at a place is a member, and one for which all holds

@@ -4,6 +4,7 @@ use Rattle.std.proofs.lemmas.Bool.{cases_eq, cases_lt, false≢true}
 use Rattle.std.proofs.lemmas.Bool.Decides.{nat_tests}
 use Rattle.std.proofs.lemmas.List.{length-set, get_or-set_other}
 use Rattle.std.proofs.lemmas.Grind.{get_or-set_at}
+use Rattle.hb_space.proofs.Facts.Boxes.{as_long}
 use Rattle.hb_space.specs.Boxes.{Area, Cuts, Holds, holds, is_between, side_below, side_from}
 
 past : (xs : List ℕ) (i : ℕ) → length xs ≤ i → get_or xs i 0 ≡ 0
@@ -12,16 +13,6 @@ past (x ∷ xs) zero h = absurd (omega arith)
 past (x ∷ xs) (suc i) h = past xs i (omega arith)
 
 -- a point that passes the test lies in the box
-as_long : (lo hi p : List ℕ) → IsTrue (is_between lo hi p) → length p ≡ length lo
-as_long [] [] [] t = refl
-as_long [] [] (x ∷ xs) t = absurd (false≢true t)
-as_long [] (h ∷ hs) p t = absurd (false≢true t)
-as_long (l ∷ ls) [] p t = absurd (false≢true t)
-as_long (l ∷ ls) (h ∷ hs) [] t = absurd (false≢true t)
-as_long (l ∷ ls) (h ∷ hs) (x ∷ xs) t =
-    let rest : IsTrue (is_between ls hs xs) = grind (arith, nat_tests) in
-    let same = as_long ls hs xs rest in omega arith
-
 between : (lo hi p : List ℕ) → IsTrue (is_between lo hi p) → EachIndex p (λ i. (get_or lo i 0 ≤ get_or p i 0) × (get_or p i 0 ≤ get_or hi i 0))
 between [] [] [] t i lt = absurd (omega arith)
 between [] [] (x ∷ xs) t i lt = absurd (false≢true t)

@@ -14,6 +14,7 @@ use Rattle.hb_lemmas.proofs.Lists.{All-last, filter_has}
 use Rattle.hb_ops.proofs.Facts.Opened.{first_has}
 use Rattle.hb_search.proofs.StaysApart.{pairs_joined, stays_apart}
 use Rattle.hb_search.specs.Gathering.{IsLeafAhead}
+use Rattle.hb_search.specs.SearchRows.{records_within}
 use Rattle.hb_search.specs.Searching.{Differ, IsGathering}
 use Rattle.hb_space.proofs.Facts.Boxes.{Holds-from_test, Meets-from_point, lo_held}
 use Rattle.hb_space.specs.Boxes.{Area, Holds, IsArea, holds}
@@ -48,7 +49,7 @@ module _ (page : LivePage) (rest : List Area) (found records : List Record) (are
   attributes r there = (All-contains (λ s. Holds area s.key) records r in_leaf.inside there).same ∙ sym inside.same
 
   abbrev taken : List Record
-  taken = filter (λ r. holds at_hand r.key) records
+  taken = records_within at_hand records
 
   lies_in : (s : Record) → Contains taken s → Holds at_hand s.key
   lies_in s there = Holds-from_test at_hand s.key is_area (attributes s (filter_has (λ r. holds at_hand r.key) records s there)) (All-contains (λ r. holds at_hand r.key ≡ true) taken s (filter_passes (λ r. holds at_hand r.key) records) there)

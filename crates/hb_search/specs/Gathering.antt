@@ -1,14 +1,14 @@
 -- What the parts of the decider say to each other.
-use Rattle.std.specs.Prelude.{◌≡◌, ℕ, List, [], ◌∷◌, ◌++◌, length, filter, All, Option}
+use Rattle.std.specs.Prelude.{◌≡◌, ℕ, List, [], ◌∷◌, ◌++◌, length, All, Option}
 use Rattle.hb_frag.specs.declared.pages.LivePage.{LivePage}
 use Rattle.hb_layout.specs.declared.meta.Meta.{Meta}
 use Rattle.hb_set.specs.declared.scripts.Line.{Line}
 use Rattle.hb_activity.specs.Deciding.{deed_of, given_sight}
 use Rattle.hb_activity.specs.declared.activities.Activity.TheVariants as at
 use Rattle.hb_activity.specs.declared.deciding.Next.{Next}
-use Rattle.hb_search.specs.SearchRows.{SearchGoesOn}
+use Rattle.hb_search.specs.SearchRows.{SearchGoesOn, records_within}
 use Rattle.hb_search.specs.Searching.{IsGathering, SearchRow}
-use Rattle.hb_space.specs.Boxes.{Area, Meets, common_area, holds, pieces_outside}
+use Rattle.hb_space.specs.Boxes.{Area, Meets, common_area, pieces_outside}
 use Rattle.hb_space.specs.declared.records.Record.{Record}
 
 -- An answer is the row of a search at this page, whatever page the walk held before and whatever else was seen.
@@ -33,9 +33,9 @@ pub record IsLeafAhead (rest : List Area) (found records : List Record) (area : 
   pub same : length at_hand.lo ≡ length area.lo
   pub meets : Meets at_hand area
   pub keys : All (λ r. length r.key ≡ length at_hand.lo) records
-  pub stays : IsGathering (boxes_then front at_hand area) (found ++ filter (λ r. holds at_hand r.key) records)
+  pub stays : IsGathering (boxes_then front at_hand area) (found ++ records_within at_hand records)
 
 -- what a search gathers at such a leaf
 abbrev pub GathersBy : Meta → Line → List Area → List Record → List Record → Area → Next → Type 0
 GathersBy meta line rest found records area next = (front : List Area) (at_hand : Area) → rest ≡ front ++ at_hand ∷ [] →
-    GoesOnBy meta line (boxes_then front at_hand area) (found ++ filter (λ r. holds at_hand r.key) records) next
+    GoesOnBy meta line (boxes_then front at_hand area) (found ++ records_within at_hand records) next

@@ -13,6 +13,10 @@ use Rattle.hb_frag.specs.Leaves.{leaf_at}
 use Rattle.hb_frag.specs.Rules.{Precedes}
 use Rattle.hb_space.specs.Boxes.{Area, common_area, holds, pieces_outside}
 
+-- the records that lie in a box
+abbrev pub records_within : Area → List Record → List Record
+records_within at_hand records = filter (λ r. holds at_hand r.key) records
+
 -- A search at a leaf of records takes those of the box at hand, and has what of this lies outside the leaf's box before
 -- it, the last piece first. With no box left its records are put in the order of their points, and it takes effect.
 abbrev pub SearchGoesOn : Sight → Line → List Area → List Record → Deed → Type 0
@@ -26,4 +30,4 @@ pub record Gathers (s : Sight) (line : Line) (rest : List Area) (found : List Re
   pub records : List Record
   pub area : Area
   pub leaf : leaf_at page p ≡ Some (record { leaf = Records records; area = area })
-  pub goes : SearchGoesOn s line (front ++ pieces_outside at_hand (common_area at_hand area)) (found ++ filter (λ r. holds at_hand r.key) records) deed
+  pub goes : SearchGoesOn s line (front ++ pieces_outside at_hand (common_area at_hand area)) (found ++ records_within at_hand records) deed

@@ -1,10 +1,11 @@
 //! What a search gathers at a leaf of records.
 
-ghost use Rattle.std.specs.Prelude.{◌≡◌, ℕ, List, ◌++◌, length, filter, All, AllPairs, IfOk, OnOk};
+ghost use Rattle.std.specs.Prelude.{◌≡◌, ℕ, List, ◌++◌, length, All, AllPairs, IfOk, OnOk};
 ghost use Rattle.std.specs.List.Sorted.{IsPermutation};
 ghost use Rattle.hb_frag.specs.Rules.{Precedes};
 ghost use Rattle.hb_layout.specs.declared.meta.Meta.{Meta as Facts};
 ghost use Rattle.hb_search.specs.Gathering.{GathersBy, GoesOnBy, IsLeafAhead};
+ghost use Rattle.hb_search.specs.SearchRows.{records_within};
 ghost use Rattle.hb_search.specs.Searching.{Differ, IsGathering, StaysGathering};
 ghost use Rattle.hb_space.specs.Boxes.{Meets, common_area, holds, pieces_outside};
 
@@ -40,7 +41,7 @@ pub(crate) fn gather(
 /// Copies of the records that the box holds join those that were found.
 fn take_held(found: &mut Vec<Record>, records: &[Record], at_hand: &Area) -> Result<(), NoMemory>
     requires { All (λ r. length r.key ≡ length at_hand.now.lo) records.now }
-    ensures { OnOk result (found.new.items ≡ found.old.items ++ filter (λ r. holds at_hand.now r.key) records.now) }
+    ensures { OnOk result (found.new.items ≡ found.old.items ++ records_within at_hand.now records.now) }
 {
     for record in records {
         if at_hand.holds(&record.key) {

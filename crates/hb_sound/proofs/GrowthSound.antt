@@ -10,6 +10,7 @@ use Rattle.hb_frag.specs.Leaves.{Placed, leaves_of, siblings_of}
 use Rattle.hb_frag.specs.Rules.{BelongsAt, IsInOrder, capacity_of}
 use Rattle.hb_ops.specs.Files.{FileState, if_live, live_page}
 use Rattle.hb_ops.specs.Sound.{AreWellMade, ChildrenMatch, FitsFile, IsCovered, IsRooted, IsSound, SiblingsMatch, times_named}
+use Rattle.hb_space.proofs.Facts.Boxes.{Within-self}
 use Rattle.hb_sound.proofs.Growths.{Growth, growth, grown}
 use Rattle.hb_sound.specs.LawsOfOperations.{GrowthKeepsSound}
 use Rattle.hb_ops.specs.Allocating.{new_root}
@@ -24,10 +25,6 @@ use Rattle.hb_sound.proofs.SplitSound.{named_none}
 -- a page above the ground may weigh 1, where a page of a higher level may
 light : (level dcap icap : ℕ) → 0 < level → 1 ≤ icap → 1 ≤ capacity_of level dcap icap
 light level dcap icap above room = subst (λ (b : Bool). 1 ≤ cond b dcap icap) (sym (ne_eqb level 0 (λ e. absurd (omega (arith, above, e))))) room
-
--- a box lies within itself
-within_self : (a : Area) → Within a a
-within_self a i lt = (omega arith, omega arith)
 
 module _ (s : FileState) (x : Growth) (grew : IsGrown s x) where
   abbrev after : FileState
@@ -103,7 +100,7 @@ module _ (s : FileState) (x : Growth) (grew : IsGrown s x) where
       let leaf = ap (λ (l : Placed). l.leaf) e in
       let same : s.meta.root ≡ name = cc in
       let box : whole_area s.meta.k ≡ area = ap (λ (l : Placed). l.area) e in
-      (h.top.0, ap (live_page after) (sym same) ∙ stays_live s x grew s.meta.root h.top.0 h.top.1, h.top.2, subst (λ (a : Area). Within a h.top.0.area) (h.top.3 ∙ box) (within_self h.top.0.area))
+      (h.top.0, ap (live_page after) (sym same) ∙ stays_live s x grew s.meta.root h.top.0 h.top.1, h.top.2, subst (λ (a : Area). Within a h.top.0.area) (h.top.3 ∙ box) (Within-self h.top.0.area))
   children_of_root h name area (suc k, lt, e) = absurd (omega arith)
 
   children_match : IsRooted s → ChildrenMatch s → ChildrenMatch after

@@ -17,20 +17,10 @@ use Rattle.hb_ops.specs.Sound.{FitsFile}
 use Rattle.hb_sound.proofs.Extractions.{Extraction, FitsPart, fresh_page, source_page}
 use Rattle.hb_ops.specs.declared.leaf_cuts.LeafCut.{LeafCut}
 use Rattle.hb_ops.specs.Cutting.{PartLeaves, PartsLeaf, area_on, cut_through, cut_with, going, half_area, half_on, is_on, other_side, reached, records_in, staying}
-use Rattle.hb_lemmas.proofs.Lists.{only_one}
+use Rattle.hb_lemmas.proofs.Lists.{filter_keeps, only_one}
 use Rattle.hb_ops.proofs.Facts.CutLeafLaws.{StemsFrom}
 use Rattle.hb_ops.proofs.Facts.StemLaws.{PartLaws, fresh_stems, source_stems, stretch as stretch_of}
 use Rattle.hb_ops.proofs.Facts.PlacedLaws.{placed}
-
--- what passes stays among what a filter keeps
-filter_keeps : {X : Type 0} (p : X → Bool) (xs : List X) (x : X) → Contains xs x → p x ≡ true → Contains (filter p xs) x
-filter_keeps p [] x (k, lt, e) passes = absurd (omega arith)
-filter_keeps p (y ∷ ys) x (zero, lt, e) passes =
-    subst (λ (b : Bool). Contains (cond b (y ∷ filter p ys) (filter p ys)) x) (sym (ap p e ∙ passes)) (zero, omega arith, e)
-filter_keeps p (y ∷ ys) x (suc k, lt, e) passes = elim (p y) as (λ b. Contains (cond b (y ∷ filter p ys) (filter p ys)) x) [
-  | true ↦ Contains-append_right (y ∷ []) (filter p ys) x (filter_keeps p ys x (k, omega arith, e) passes)
-  | false ↦ filter_keeps p ys x (k, omega arith, e) passes
-]
 
 -- a leaf of these has the record
 pub record AmongLeaves (ls : List Placed) (r : Record) : Type 0 where

@@ -35,6 +35,7 @@ use Rattle.hb_core.specs.MachineLaws.{BoxLocksStayFit}
 use Rattle.hb_core.specs.Machines.{Machine, with_activity, with_disk}
 use Rattle.hb_core.specs.Performing.{Performs}
 use Rattle.hb_core.specs.Steps.{BeginsLine, StepsAs, StepsTo, TakesJob, TakesMerging}
+use Rattle.hb_space.proofs.Facts.Boxes.{Meets-back}
 
 -- ---- the lock of an activity is that of the line in its hand
 
@@ -94,9 +95,6 @@ lock_box m kept actor lock is = hand_box m.store.meta.k (line_in_hand (m.activit
 
 -- ---- locks that don't exclude each other
 
-meets_back : (a b : Area) → length a.lo ≡ length b.lo → Meets a b → Meets b a
-meets_back a b same meets i lt = let one = meets i (omega (arith, same, lt)) in omega (arith, one)
-
 both_or_alone : (a b : Bool) → (IsTrue (not (a && b)) → ⊥) → IsTrue a × IsTrue b
 both_or_alone true true never = (refl, refl)
 both_or_alone true false never = absurd (never refl)
@@ -146,7 +144,7 @@ module _ (m : Machine) (actor : ℕ) (outcome : Outcome) (new : Machine) (kept :
   own_second next may other lock held another is held_is meets = elim (may held held_is) [
     | inl before ↦ kept.box_locks_fit other actor lock held another is before meets
     | inr (free, long) ↦
-        let both = free_beside m actor other held lock free another is (meets_back lock.area held.area (lock_box m kept other lock is ∙ sym long) meets) in
+        let both = free_beside m actor other held lock free another is (Meets-back lock.area held.area (lock_box m kept other lock is ∙ sym long) meets) in
         (both.1, both.0)
   ]
 

@@ -3,7 +3,7 @@ use Rattle.std.proofs.Common.{◌≡◌, ◌↔◌, ◌⊎◌, inl, inr, ℕ, ze
 use Rattle.std.proofs.lemmas.Bool.{cases_Bool, false≢true}
 use Rattle.std.proofs.lemmas.List.Elements.{All-append, All-contains, All-head, All-tail, Contains-append_cases, Contains-append_left, Contains-append_right}
 use Rattle.std.proofs.lemmas.List.Kept.{AllPairs-cons, AllPairs-filter}
-use Rattle.hb_lemmas.proofs.Lists.{All-front, All-last, each_member, first_member, later_member}
+use Rattle.hb_lemmas.proofs.Lists.{All-front, All-last, each_member, filter_keeps, first_member, later_member}
 use Rattle.hb_space.proofs.Facts.Boxes.{Holds-common_area, Holds-from_test, Holds-within, IsArea-common_area, Meets-from_point, Within-common_area, Within-from_points, test-from_Holds}
 use Rattle.hb_space.proofs.Facts.Lists.{length-zip_by}
 use Rattle.hb_space.proofs.Facts.Outside.{AllPairs-from_recursion, Any-from_recursion, Apart, Apart-append, Apart-pieces_outside, SomeHolds, SomeHolds-append_cases, SomeHolds-append_left, SomeHolds-append_right, SomeHolds-pieces_outside, holds_at, recursion_from_Any}
@@ -11,9 +11,10 @@ use Rattle.hb_space.specs.Boxes.{Area, Disjoint, Holds, IsArea, Within, common_a
 use Rattle.hb_space.specs.declared.records.Record.{Record}
 use Rattle.hb_set.specs.Machine.{RecordSet}
 use Rattle.hb_core.proofs.Machines.PieceBoxes.{pieces_are_boxes}
-use Rattle.hb_core.proofs.Searches.SortedRecords.{filter_keeps, filter_tells}
+use Rattle.hb_core.proofs.Searches.SortedRecords.{filter_tells}
 use Rattle.hb_core.specs.KeptFits.{IsBoxOf}
 use Rattle.hb_core.specs.KeptSearches.{HasFoundSoFar, IsAmong}
+use Rattle.hb_search.specs.SearchRows.{records_within}
 use Rattle.hb_search.specs.Searching.{Differ, IsGathering}
 
 -- ---- lists in pairs
@@ -106,7 +107,7 @@ module _ (k : ℕ) (front : List Area) (at_hand : Area) (found records : List Re
   pieces = pieces_outside at_hand both
 
   abbrev more : List Record
-  more = filter (λ r. holds at_hand r.key) records
+  more = records_within at_hand records
 
   -- what the pieces hold
   piece_tells : (q : List ℕ) → SomeHolds pieces q ↔ (Holds at_hand q × ¬ (Holds both q))

@@ -22,7 +22,7 @@ use Rattle.hb_set.specs.declared.commands.Command.TheVariants.{Insert, Delete, L
 use Rattle.hb_set.specs.declared.commands.Reply.TheVariants as replies
 use Rattle.hb_set.specs.declared.scripts.Line.{Line}
 use Rattle.hb_sound.specs.Laws.{LackIsContents, StandingIsContents}
-use Rattle.hb_space.proofs.Facts.Boxes.{Meets-from_point, lo_held}
+use Rattle.hb_space.proofs.Facts.Boxes.{Meets-from_point, Within-self, lo_held}
 use Rattle.hb_space.specs.Boxes.{Area, Holds, Within, common_area, holds, pieces_outside, point_area}
 use Rattle.hb_space.specs.declared.records.Record.{Record}
 use Rattle.hb_ops.proofs.Facts.PageNumberLaws.{live_so}
@@ -58,12 +58,9 @@ use Rattle.hb_core.specs.declared.outcomes.Outcome.{Outcome}
 
 -- ---- a search that begins, and one whose box's points stay as they are
 
-within_itself : (a : Area) → Within a a
-within_itself a i lt = (omega arith, omega arith)
-
 begins_exact : (n : RecordSet) (box : Area) → HasFoundSoFar n box (box ∷ []) []
 begins_exact n box = record {
-  within = (All-one (λ (a : Area). Within a box) box).1 (within_itself box);
+  within = (All-one (λ (a : Area). Within a box) box).1 (Within-self box);
   gathering = gathering_begins box;
   exact = λ r. (λ there. absurd (no_member r there), λ is. absurd (is.2 (0, box, omega arith, refl, is.1)));
 }

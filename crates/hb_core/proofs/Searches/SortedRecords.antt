@@ -12,9 +12,9 @@ use Rattle.std.proofs.lemmas.List.Elements.{All-cons, All-contains, All-nil, fil
 use Rattle.std.proofs.lemmas.List.Sorted.{Contains-permutation, IsPermutation-sym}
 use Rattle.hb_activity.proofs.Facts.OneRecord.{Rises, not_itself, rises}
 use Rattle.hb_frag.specs.Rules.{Precedes}
-use Rattle.hb_lemmas.proofs.Lists.{each_member, filter_has, first_member, later_member, member_cases, no_member}
+use Rattle.hb_lemmas.proofs.Lists.{each_member, filter_has, filter_keeps, first_member, later_member, member_cases, no_member}
 use Rattle.hb_set.specs.Machine.{RecordSet, record_of, set_records}
-use Rattle.hb_space.proofs.Facts.Boxes.{Holds-from_test, test-from_Holds}
+use Rattle.hb_space.proofs.Facts.Boxes.{Holds-from_test, as_long, test-from_Holds}
 use Rattle.hb_space.proofs.Facts.PointOrder.{same_point}
 use Rattle.hb_space.specs.Boxes.{Area, Holds, IsArea, holds, is_between}
 use Rattle.hb_space.specs.Points.{point_cmp}
@@ -22,19 +22,6 @@ use Rattle.hb_space.specs.declared.records.Record.{Record}
 use Rattle.hb_core.specs.KeptSearches.{IsAmong}
 
 -- ---- what a filter keeps
-
-pub filter_keeps : {X : Type 0} (p : X → Bool) (xs : List X) (x : X) → Contains xs x → p x ≡ true → Contains (filter p xs) x
-filter_keeps p [] x there passes = absurd (no_member x there)
-filter_keeps p (y ∷ xs) x there passes = elim (cases_Bool (p y)) [
-  | inl t ↦ subst (λ (b : Bool). Contains (cond b (y ∷ filter p xs) (filter p xs)) x) (sym t) (elim (member_cases y xs x there) [
-    | inl e ↦ (zero, omega arith, e)
-    | inr later ↦ later_member y (filter p xs) x (filter_keeps p xs x later passes)
-  ])
-  | inr f ↦ subst (λ (b : Bool). Contains (cond b (y ∷ filter p xs) (filter p xs)) x) (sym f) (elim (member_cases y xs x there) [
-    | inl e ↦ absurd (false≢true (sym f ∙ ap p e ∙ passes))
-    | inr later ↦ filter_keeps p xs x later passes
-  ])
-]
 
 pub filter_tells : {X : Type 0} (p : X → Bool) (xs : List X) (x : X) → Contains (filter p xs) x → Contains xs x × (p x ≡ true)
 filter_tells p xs x there = (filter_has p xs x there, All-contains (λ y. p y ≡ true) (filter p xs) x (filter_passes p xs) there)
@@ -133,19 +120,6 @@ among_records n r = (
 
 -- ---- the reply of a search
 
-second_true : (a b : Bool) → IsTrue (a && b) → IsTrue b
-second_true true b test = test
-second_true false b test = absurd (false≢true test)
-
--- a test that holds says that there are as many values
-as_many : (lo hi p : List ℕ) → IsTrue (is_between lo hi p) → length p ≡ length lo
-as_many [] [] [] test = refl
-as_many (l ∷ lo) (h ∷ hi) (x ∷ p) test = ap suc (as_many lo hi p (second_true (nat_le l x && nat_le x h) (is_between lo hi p) test))
-as_many [] [] (x ∷ p) test = absurd (false≢true test)
-as_many [] (h ∷ hi) p test = absurd (false≢true test)
-as_many (l ∷ lo) [] p test = absurd (false≢true test)
-as_many (l ∷ lo) (h ∷ hi) [] test = absurd (false≢true test)
-
 -- what a box holds of the contents, in the order of points, is one list
 pub reply_is : (n : RecordSet) (box : Area) (found ordered : List Record) → IsArea box → ((r : Record) → Contains found r ↔ (IsAmong n r × Holds box r.key)) → IsPermutation found ordered → AllPairs Precedes ordered → ordered ≡ filter (λ r. holds box r.key) (set_records n)
 reply_is n box found ordered area exact same rising =
@@ -155,7 +129,7 @@ reply_is n box found ordered area exact same rising =
     filter_keeps inside (set_records n) r ((among_records n r).0 is.0) (test-from_Holds box r.key area is.1))
     (λ r there.
     let is = filter_tells inside (set_records n) r there in
-    Contains-permutation found ordered r same ((exact r).1 ((among_records n r).1 is.0, Holds-from_test box r.key area (as_many box.lo box.hi r.key is.1) is.1)))
+    Contains-permutation found ordered r same ((exact r).1 ((among_records n r).1 is.0, Holds-from_test box r.key area (as_long box.lo box.hi r.key is.1) is.1)))
   where
     inside : Record → Bool
     inside r = holds box r.key

@@ -41,6 +41,7 @@ use Rattle.hb_point.specs.SessionRows.{merges_due, DoesThere}
 use Rattle.hb_point.specs.SplitRows.{PutsInHalf, Splits}
 use Rattle.hb_poster.specs.PosterRows.{Arrives, DoesPlan, GrowsFile, GrowsNot, LooksAgain, LooksAtChild, MayGrow, PosterPasses, after_look}
 use Rattle.hb_search.specs.SearchRows.{Gathers, SearchGoesOn}
+use Rattle.hb_search.specs.Searching.{MeetsRecords}
 use Rattle.hb_space.specs.Boxes.{Area, holds}
 use Rattle.hb_split.specs.Choosing.{AreChosen, IsChosen}
 use Rattle.hb_store.specs.States.{StoreState, in_memory}
@@ -53,22 +54,19 @@ use Rattle.hb_ops.specs.Recording.{put_page}
 
 -- ---- the leaf at a point
 
-abbrev HasRecords : LivePage → List ℕ → Type 0
-HasRecords page p = (records : List Record) × (area : Area) × (leaf_at page p ≡ Some (record { leaf = Records records; area = area }))
-
-no_pointer : (page : LivePage) (p : List ℕ) (n : Machine) (next : Activity) (d : Deed) → HasRecords page p → PassesOn page p next d → ⊥
+no_pointer : (page : LivePage) (p : List ℕ) (n : Machine) (next : Activity) (d : Deed) → MeetsRecords page p → PassesOn page p next d → ⊥
 no_pointer page p n next d (records, area, leaf) row =
     let same = same_leaf page p (record { leaf = row.leaf; area = row.area }) (record { leaf = Records records; area = area }) row.at_point leaf in
     subst IsPointer (ap (λ (x : Placed). x.leaf) same) row.names
 
-there_records : (n : Machine) (line : Line) (command : Command) (rest : List Area) (found : List Record) (id : ℕ) (page : LivePage) (p : List ℕ) (d : Deed) → goal_of command rest ≡ Some p → DoesHere (sight n) line command rest found id page p d → HasRecords page p
-there_records n line (Insert rec) rest found id page p d goal (inl row) = subst (HasRecords page) (same_Some rec.key p goal) (row.there.records, row.there.area, row.there.leaf)
-there_records n line (Insert rec) rest found id page p d goal (inr (inl row)) = subst (HasRecords page) (same_Some rec.key p goal) (row.absent.records, row.absent.area, row.absent.leaf)
-there_records n line (Insert rec) rest found id page p d goal (inr (inr row)) = subst (HasRecords page) (same_Some rec.key p goal) (row.absent.records, row.absent.area, row.absent.leaf)
-there_records n line (Delete point) rest found id page p d goal (inl row) = subst (HasRecords page) (same_Some point p goal) (row.there.records, row.there.area, row.there.leaf)
-there_records n line (Delete point) rest found id page p d goal (inr row) = subst (HasRecords page) (same_Some point p goal) (row.absent.records, row.absent.area, row.absent.leaf)
-there_records n line (Lookup point) rest found id page p d goal (inl row) = subst (HasRecords page) (same_Some point p goal) (row.there.records, row.there.area, row.there.leaf)
-there_records n line (Lookup point) rest found id page p d goal (inr row) = subst (HasRecords page) (same_Some point p goal) (row.absent.records, row.absent.area, row.absent.leaf)
+there_records : (n : Machine) (line : Line) (command : Command) (rest : List Area) (found : List Record) (id : ℕ) (page : LivePage) (p : List ℕ) (d : Deed) → goal_of command rest ≡ Some p → DoesHere (sight n) line command rest found id page p d → MeetsRecords page p
+there_records n line (Insert rec) rest found id page p d goal (inl row) = subst (MeetsRecords page) (same_Some rec.key p goal) (row.there.records, row.there.area, row.there.leaf)
+there_records n line (Insert rec) rest found id page p d goal (inr (inl row)) = subst (MeetsRecords page) (same_Some rec.key p goal) (row.absent.records, row.absent.area, row.absent.leaf)
+there_records n line (Insert rec) rest found id page p d goal (inr (inr row)) = subst (MeetsRecords page) (same_Some rec.key p goal) (row.absent.records, row.absent.area, row.absent.leaf)
+there_records n line (Delete point) rest found id page p d goal (inl row) = subst (MeetsRecords page) (same_Some point p goal) (row.there.records, row.there.area, row.there.leaf)
+there_records n line (Delete point) rest found id page p d goal (inr row) = subst (MeetsRecords page) (same_Some point p goal) (row.absent.records, row.absent.area, row.absent.leaf)
+there_records n line (Lookup point) rest found id page p d goal (inl row) = subst (MeetsRecords page) (same_Some point p goal) (row.there.records, row.there.area, row.there.leaf)
+there_records n line (Lookup point) rest found id page p d goal (inr row) = subst (MeetsRecords page) (same_Some point p goal) (row.absent.records, row.absent.area, row.absent.leaf)
 there_records n line (Search area) rest found id page p d goal row = (row.records, row.area, row.leaf)
 
 same_live : (a b : LivePage) → Live a ≡ Live b → a ≡ b

@@ -53,6 +53,11 @@ not_itself s a one =
     let same : one.named ≡ one.page = same_Some one.named one.page (sym one.live_named ∙ one.live) in
     never_itself one.page (subst (IsLater one.page) same one.later)
 
+-- a latch that is in the way is held
+held_there : (o : Option Mode) (mode : Mode) → IsSomeAnd o (λ held. ¬ (IsTrue (goes_beside mode held))) → (held : Mode) × (o ≡ Some held)
+held_there None mode never = absurd never
+held_there (Some held) mode conflict = (held, refl)
+
 module _ (m : Machine) (files : Files) (fit : LatchesFit m) (has : HasSoundFile m files) (nobody : HasNobodyElse m) (walks : WalksInSpace m) where
   -- who wants a page is one of the actors
   idle_wants : (actor : ℕ) (wanted : Wanted) (activity : Activity) → activity ≡ at.SessionIdle → wanted_of activity m.store.meta (looked_live m.store activity) ≡ Some wanted → ⊥
@@ -71,10 +76,6 @@ module _ (m : Machine) (files : Files) (fit : LatchesFit m) (has : HasSoundFile 
   pub record IsOwn (wanted : Wanted) (other : ℕ) (its : Wanted) : Type 0 where
     pub same : its.page ≡ wanted.page
     pub holds : mode_at m.latches other wanted.page ≡ Some Update
-
-  pub held_there : (o : Option Mode) (mode : Mode) → IsSomeAnd o (λ held. ¬ (IsTrue (goes_beside mode held))) → (held : Mode) × (o ≡ Some held)
-  held_there None mode never = absurd never
-  held_there (Some held) mode conflict = (held, refl)
 
   -- what an actor wants for which another one waits comes later than what that one wants
   one_wait : (actor other : ℕ) (wanted its : Wanted) → wanted_by m actor ≡ Some wanted → wanted_by m other ≡ Some its → AwaitsLatch m actor other → ComesLater (current_file files) wanted.page its.page ⊎ IsOwn wanted other its
@@ -150,10 +151,6 @@ module _ (m : Machine) (fit : LatchesFit m) (nobody : HasNobodyElse m) (none_els
     | inr none ↦ let nothing : None ≡ Some held = sym (none_else actor page none) ∙ holds in cc
   ]
 
-  latch_held : (o : Option Mode) (mode : Mode) → IsSomeAnd o (λ held. ¬ (IsTrue (goes_beside mode held))) → (held : Mode) × (o ≡ Some held)
-  latch_held None mode never = absurd never
-  latch_held (Some held) mode conflict = (held, refl)
-
   idle_locks : (lock : BoxLock) (activity : Activity) → activity ≡ at.SessionIdle → IsSomeAnd (lock_of activity) (Excludes lock) → ⊥
   idle_locks lock activity idle out = subst (λ (a : Activity). IsSomeAnd (lock_of a) (Excludes lock)) idle out
 
@@ -164,7 +161,7 @@ module _ (m : Machine) (fit : LatchesFit m) (nobody : HasNobodyElse m) (none_els
   -- who is waited for isn't idle
   waited_for : (actor other : ℕ) → AwaitsActor m actor other → m.activity other ≡ at.SessionIdle → ⊥
   waited_for actor other (inl waits) idle =
-      let held = latch_held (mode_at m.latches other waits.wanted.page) waits.wanted.mode waits.kept.conflict in
+      let held = held_there (mode_at m.latches other waits.wanted.page) waits.wanted.mode waits.kept.conflict in
       holder_stands other waits.wanted.page held.0 held.1 idle
   waited_for actor other (inr awaits) idle = box_held actor other (next_line actor m.answered m.lines) idle awaits.locked
 

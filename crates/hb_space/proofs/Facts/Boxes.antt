@@ -2,7 +2,7 @@
 use Rattle.std.proofs.Common.{◌≡◌, ℕ, zero, suc, ◌<◌, ◌≤◌, ◌-◌, Bool, true, false, List, [], ◌∷◌, length, get_or, EachIndex, IsTrue, ◌↔◌, refl, ap, sym, ◌∙◌, arith, min, max, inl, inr, ◌⊎◌}
 use Rattle.std.proofs.lemmas.Grind.{same_number_lists, common_steps}
 use Rattle.std.proofs.lemmas.List.{length-set, get_or-set_same}
-use Rattle.std.proofs.lemmas.Bool.{cases_lt}
+use Rattle.std.proofs.lemmas.Bool.{cases_lt, false≢true}
 use Rattle.std.proofs.lemmas.Bool.Decides.{nat_tests}
 use Rattle.hb_space.specs.Points.{IsPoint}
 use Rattle.hb_space.specs.Boxes.{Area, IsArea, Holds, Meets, Within, Cuts, Disjoint, holds, is_between, whole_area, side_below, side_from, common_area}
@@ -224,3 +224,21 @@ Holds-within a b p e w h = record {
       let l' : i < length a.lo = omega (arith, h.same) in
       (omega (arith, (w i l').0, (h.between i l).0), omega (arith, (w i l').1, (h.between i l).1));
 }
+
+-- a box lies within itself, and boxes meet from both sides
+pub Within-self : (a : Area) → Within a a
+Within-self a i lt = (omega arith, omega arith)
+
+pub Meets-back : (a b : Area) → length a.lo ≡ length b.lo → Meets a b → Meets b a
+Meets-back a b same meets i lt = let one = meets i (omega (arith, same, lt)) in omega (arith, one)
+
+-- a test that holds says that there are as many values
+pub as_long : (lo hi p : List ℕ) → IsTrue (is_between lo hi p) → length p ≡ length lo
+as_long [] [] [] t = refl
+as_long [] [] (x ∷ xs) t = absurd (false≢true t)
+as_long [] (h ∷ hs) p t = absurd (false≢true t)
+as_long (l ∷ ls) [] p t = absurd (false≢true t)
+as_long (l ∷ ls) (h ∷ hs) [] t = absurd (false≢true t)
+as_long (l ∷ ls) (h ∷ hs) (x ∷ xs) t =
+    let rest : IsTrue (is_between ls hs xs) = grind (arith, nat_tests) in
+    let same = as_long ls hs xs rest in omega arith
