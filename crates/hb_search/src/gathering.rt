@@ -7,7 +7,7 @@ ghost use Rattle.hb_layout.specs.declared.meta.Meta.{Meta as Facts};
 ghost use Rattle.hb_search.specs.Gathering.{GathersBy, GoesOnBy, IsLeafAhead};
 ghost use Rattle.hb_search.specs.SearchRows.{records_within};
 ghost use Rattle.hb_search.specs.Searching.{Differ, IsGathering, StaysGathering};
-ghost use Rattle.hb_space.specs.Boxes.{Meets, common_area, holds, pieces_outside};
+ghost use Rattle.hb_space.specs.Boxes.{Meets, common_area, pieces_outside};
 
 use hb_activity::{Activity, Next};
 use hb_set::{Line, Reply};
