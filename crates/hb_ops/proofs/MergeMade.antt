@@ -1,5 +1,5 @@
 -- Where two pages become one, the page that is kept and the parent are well made again.
-use Rattle.std.proofs.Common.{◌≡◌, ℕ, ◌+◌, ◌<◌, ◌≤◌, List, [], ◌∷◌, ◌++◌, All, Option, Some, None, refl, sym, subst, ◌∙◌, arith}
+use Rattle.std.proofs.Common.{◌≡◌, ℕ, List, [], ◌++◌, All, Option, Some, None, refl, sym, subst, ◌∙◌, arith}
 use Rattle.std.proofs.lemmas.List.Elements.{All-append, All-cons, All-head, All-nil}
 use Rattle.std.proofs.lemmas.Option.{same_Some}
 use Rattle.hb_space.specs.Boxes.{Area}
@@ -7,12 +7,11 @@ use Rattle.hb_frag.specs.declared.leaves.Leaf.{Leaf}
 use Rattle.hb_frag.specs.declared.leaves.Leaf.TheVariants.{Records, Child, Sibling}
 use Rattle.hb_frag.specs.declared.pages.LivePage.{LivePage}
 use Rattle.hb_frag.specs.declared.paths.Side.{Side}
-use Rattle.hb_frag.specs.Laws.{IsWayToSibling}
-use Rattle.hb_frag.specs.Leaves.{IsWellCut, Placed, first_named, leaves, leaves_of, siblings_of, weight_of}
+use Rattle.hb_frag.specs.Leaves.{Placed, first_named, leaves, leaves_of, siblings_of, weight_of}
 use Rattle.hb_frag.specs.Normal.{normal}
 use Rattle.hb_frag.specs.Paths.{part_at, sibling_way, with_part}
 use Rattle.hb_frag.specs.Renaming.{renamed, renamed_leaf}
-use Rattle.hb_frag.specs.Rules.{BelongsAt, IsInOrder, IsSiblingTip, capacity_of}
+use Rattle.hb_frag.specs.Rules.{BelongsAt, IsInOrder, IsSiblingTip}
 use Rattle.hb_frag.specs.Trees.{Tree, Tip, Cut}
 use Rattle.hb_frag.proofs.Facts.OrderKept.{order_kept}
 use Rattle.hb_frag.proofs.Facts.Renamed.{renames}

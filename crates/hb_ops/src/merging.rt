@@ -1,6 +1,6 @@
 //! Two pages of a level become one.
 
-ghost use Rattle.std.specs.Prelude.{◌≡◌, ◌≢◌, ◌+◌, ◌*◌, ◌^◌, ◌<◌, ◌≤◌, ◌↔◌, Contains, IfOk, IsErrOf, IsTrue};
+ghost use Rattle.std.specs.Prelude.{◌≡◌, ◌≢◌, ◌+◌, ◌*◌, ◌≤◌, ◌↔◌, Contains, IfOk, IsErrOf, IsTrue};
 ghost use Rattle.hb_frag.specs.declared.leaves.Leaf.TheVariants.{Child};
 ghost use Rattle.hb_frag.specs.Leaves.{leaves, weight_of};
 ghost use Rattle.hb_frag.specs.Paths.{sibling_way};
@@ -79,13 +79,7 @@ fn are_well_made(meta: &Meta, above: &LivePage, kept: &LivePage, going: &LivePag
 }
 
 // Whether the parent is one level above the two others, and names both.
-fn are_named(
-    keep: u32,
-    gone: u32,
-    above: &LivePage,
-    kept: &LivePage,
-    going: &LivePage,
-) -> bool
+fn are_named(keep: u32, gone: u32, above: &LivePage, kept: &LivePage, going: &LivePage) -> bool
     ensures { IsTrue result ↔ NamesBoth above.now keep kept.now gone going.now }
 {
     are_below(kept, going, above) && names_two(above, keep, gone)
@@ -113,21 +107,13 @@ fn is_below(page: &LivePage, above: &LivePage) -> bool
 }
 
 // Whether these pages may become one, which are well made.
-fn may_merge(
-    meta: &Meta,
-    gone: u32,
-    above: &LivePage,
-    kept: &LivePage,
-    going: &LivePage,
-) -> bool
+fn may_merge(meta: &Meta, gone: u32, above: &LivePage, kept: &LivePage, going: &LivePage) -> bool
     requires above { FitsFile meta.now above.now }
     requires kept { FitsFile meta.now kept.now }
     requires going { FitsFile meta.now going.now }
     ensures { IsTrue result ↔ MayMerge above.now kept.now gone going.now (capacity_of kept.now.level meta.now.dcap meta.now.icap) }
 {
-    kept.sibling_area(gone).is_some()
-        && above.directly(&going.area)
-        && are_light(meta, kept, going)
+    kept.sibling_area(gone).is_some() && above.directly(&going.area) && are_light(meta, kept, going)
 }
 
 // Whether two pages weigh at most three quarters of the capacity once they are one.
@@ -181,12 +167,7 @@ fn with_frag(page: &LivePage, frag: Frag) -> LivePage
 }
 
 // What the page to keep has inside afterwards.
-fn taken_over(
-    alloc: Global,
-    gone: u32,
-    kept: &LivePage,
-    going: &LivePage,
-) -> Result<Frag, NoMemory>
+fn taken_over(alloc: Global, gone: u32, kept: &LivePage, going: &LivePage) -> Result<Frag, NoMemory>
     ensures { IfOk result (λ frag. frag ≡ taken_over kept.now going.now (sibling_way gone kept.now.frag)) }
 {
     ways_lead_to_siblings();

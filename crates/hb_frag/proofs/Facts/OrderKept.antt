@@ -1,5 +1,5 @@
 -- A tree without cuts that part nothing has its records in order where the tree has, whatever its box.
-use Rattle.std.proofs.Common.{ℕ, zero, List, [], ◌∷◌, arith}
+use Rattle.std.proofs.Common.{ℕ, zero, arith}
 use Rattle.std.specs.List.{All}
 use Rattle.std.proofs.lemmas.List.Elements.{All-append}
 use Rattle.hb_space.specs.Boxes.{Area, Cuts, side_below, side_from}
