@@ -40,6 +40,7 @@ pub mod GrowthSteps
 pub mod PostedPage
 pub mod OneChanged
 pub mod PostSound
+pub mod MergedPages
 pub mod EachOperation
 mod NoneBroken
 mod Flagged
