@@ -41,6 +41,7 @@ pub mod PostedPage
 pub mod OneChanged
 pub mod PostSound
 pub mod MergedPages
+pub mod MergedLeaves
 pub mod EachOperation
 mod NoneBroken
 mod Flagged
