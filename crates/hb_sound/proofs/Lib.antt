@@ -42,6 +42,9 @@ pub mod OneChanged
 pub mod PostSound
 pub mod MergedPages
 pub mod MergedLeaves
+pub mod UnnamedPages
+pub mod MergedFile
+pub mod MergeSound
 pub mod EachOperation
 mod NoneBroken
 mod Flagged

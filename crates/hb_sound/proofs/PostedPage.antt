@@ -68,7 +68,7 @@ lone_names_none (Cut axis value left right) n lone has = absurd lone
 lone_names_none (Tip (Sibling page)) n lone (zero, lt, e) = let no : ⊥ = cc in no
 lone_names_none (Tip (Sibling page)) n lone (suc k, lt, e) = absurd (omega arith)
 
-capacity_above : (level dcap icap : ℕ) → 0 < level → capacity_of level dcap icap ≡ icap
+pub capacity_above : (level dcap icap : ℕ) → 0 < level → capacity_of level dcap icap ≡ icap
 capacity_above level dcap icap above = ap (λ (b : Bool). cond b dcap icap) (ne_eqb level 0 (λ e. absurd (omega (arith, above, e))))
 
 module _ (trees : TreeLaws) (laws : PostLaws) (meta : Meta) (page : LivePage) (at : List Side) (inner : ℕ) (area : Area) (page_box : IsArea page.area) (area_box : IsArea area) (attributes : length area.lo ≡ meta.k) (fits : FitsPost meta page at inner area) where

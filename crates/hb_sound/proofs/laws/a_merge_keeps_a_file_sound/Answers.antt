@@ -1,5 +1,6 @@
-use Rattle.hb_sound.proofs.MergedPages.{merges_change_three}
+use Rattle.hb_sound.proofs.MergeSound.{merges_keep_sound}
 use Rattle.hb_sound.proofs.MergedLeaves.{MergeLaws}
+use Rattle.hb_sound.proofs.MergedPages.{merges_change_three}
 use Rattle.hb_sound.proofs.laws.a_merge_keeps_a_file_sound.Goals as goal
 use Rattle.hb_sound.proofs.laws.a_merge_keeps_a_file_sound.Goals.{After-changed_pages_are_well_made}
 
@@ -12,6 +13,11 @@ merges c = record {
   same = c.normal_says_the_same.ensures.same;
   well = c.changed_pages_are_well_made.ensures;
 }
+
+pub returns-clause-sound : goal.returns-clause-sound
+returns-clause-sound c =
+    let at = (goal.at.returns-clause-sound c).After-changed_pages_are_well_made in
+    merges_keep_sound c.trees_and_space.ensures.trees c.trees_and_space.ensures.space (merges at)
 
 pub returns-clause-pages : goal.returns-clause-pages
 returns-clause-pages c = merges_change_three
