@@ -176,8 +176,8 @@ pub fn growing_keeps_a_file_sound()
 }
 
 /// Whatever operation is allowed and licensed, a sound file of a legal layout stays sound, and its
-/// layout legal. A put adds one record to its contents, a delete takes one away, and a split, a posting
-/// and a growth leave them as they are.
+/// layout legal. A put adds one record to its contents, a delete takes one away, and a split, a
+/// posting, a merge and a growth leave them as they are.
 pub fn operations_keep_a_file_sound()
     ensures sound { OperationsKeepSound }
     ensures layout { OperationsKeepLayout }
@@ -190,5 +190,6 @@ pub fn operations_keep_a_file_sound()
     puts_and_deletes_change_one_record();
     a_split_keeps_a_file_sound();
     a_posting_keeps_a_file_sound();
+    a_merge_keeps_a_file_sound();
     growing_keeps_a_file_sound();
 }
