@@ -45,6 +45,10 @@ pub mod MergedLeaves
 pub mod UnnamedPages
 pub mod MergedFile
 pub mod MergeSound
+pub mod DoneMerges
+pub mod MergeDirect
+pub mod MergeContents
+pub mod MergeNames
 pub mod EachOperation
 mod NoneBroken
 mod Flagged

@@ -33,7 +33,7 @@ use Rattle.std.proofs.lemmas.Option.{same_Some}
 use Rattle.hb_space.proofs.Facts.Boxes.{Holds-within, hi_held, lo_held}
 
 -- the same box and sibling leaves directly hold the same points
-direct_again : (was now : LivePage) (p : List ℕ) → now.area ≡ was.area → siblings_of now ≡ siblings_of was → DirectlyHolds was p → DirectlyHolds now p
+pub direct_again : (was now : LivePage) (p : List ℕ) → now.area ≡ was.area → siblings_of now ≡ siblings_of was → DirectlyHolds was p → DirectlyHolds now p
 direct_again was now p area siblings h = record {
   inside = subst (λ (a : Area). Holds a p) (sym area) h.inside;
   not_given = subst (λ (ss : List (ℕ × Area)). All (λ x. ¬ (Holds x.1 p)) ss) (sym siblings) h.not_given;
