@@ -154,6 +154,8 @@ pub fn a_merge_keeps_a_file_sound()
     normal_says_the_same();
     ways_lead_to_siblings();
     renaming_changes_names_alone();
+    held_is_a_point();
+    what_stands_is_in_the_contents();
     changed_pages_are_well_made();
 }
 

@@ -1,3 +1,7 @@
+use Rattle.hb_sound.specs.LawsOfMerges.{MergesKeepSound}
+use Rattle.hb_sound.proofs.MergeContents.{merges_keep_contents}
+use Rattle.hb_sound.proofs.MergeDirect.{merges_join_direct}
+use Rattle.hb_sound.proofs.MergeNames.{merges_rename}
 use Rattle.hb_sound.proofs.MergeSound.{merges_keep_sound}
 use Rattle.hb_sound.proofs.MergedLeaves.{MergeLaws}
 use Rattle.hb_sound.proofs.MergedPages.{merges_change_three}
@@ -14,10 +18,29 @@ merges c = record {
   well = c.changed_pages_are_well_made.ensures;
 }
 
+keeps : After-changed_pages_are_well_made → MergesKeepSound
+keeps c = merges_keep_sound c.trees_and_space.ensures.trees c.trees_and_space.ensures.space (merges c)
+
 pub returns-clause-sound : goal.returns-clause-sound
-returns-clause-sound c =
-    let at = (goal.at.returns-clause-sound c).After-changed_pages_are_well_made in
-    merges_keep_sound c.trees_and_space.ensures.trees c.trees_and_space.ensures.space (merges at)
+returns-clause-sound c = keeps (goal.at.returns-clause-sound c).After-changed_pages_are_well_made
+
+pub returns-clause-contents : goal.returns-clause-contents
+returns-clause-contents c =
+    let at = (goal.at.returns-clause-contents c).After-changed_pages_are_well_made in
+    merges_keep_contents c.trees_and_space.ensures.trees c.trees_and_space.ensures.space
+    c.held_is_a_point.ensures
+    c.what_stands_is_in_the_contents.ensures.there
+    (merges at) (keeps at) merges_change_three
+
+pub returns-clause-direct : goal.returns-clause-direct
+returns-clause-direct c =
+    let at = (goal.at.returns-clause-direct c).After-changed_pages_are_well_made in
+    merges_join_direct c.trees_and_space.ensures.trees c.trees_and_space.ensures.space (merges at) (keeps at) merges_change_three
 
 pub returns-clause-pages : goal.returns-clause-pages
 returns-clause-pages c = merges_change_three
+
+pub returns-clause-names : goal.returns-clause-names
+returns-clause-names c =
+    let at = (goal.at.returns-clause-names c).After-changed_pages_are_well_made in
+    merges_rename c.trees_and_space.ensures.trees c.trees_and_space.ensures.space (merges at) (keeps at) merges_change_three
