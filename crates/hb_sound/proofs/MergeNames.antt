@@ -1,5 +1,5 @@
 -- What a merge makes of the names in the parent: the page to keep stands where the page to go stood.
-use Rattle.std.proofs.Common.{◌≡◌, ℕ, ◌+◌, ◌<◌, Bool, true, false, cond, List, [], ◌∷◌, map, Some, refl, sym, ap, subst, ◌∙◌, arith}
+use Rattle.std.proofs.Common.{◌≡◌, ℕ, ◌+◌, ◌<◌, true, false, cond, List, [], ◌∷◌, map, Some, refl, sym, ap, subst, ◌∙◌, arith}
 use Rattle.std.specs.Option.{option_map}
 use Rattle.std.proofs.lemmas.List.Elements.{All-contains}
 use Rattle.hb_space.specs.Boxes.{IsArea, Holds, holds}
@@ -11,7 +11,6 @@ use Rattle.hb_frag.specs.NormalLaws.{KeepsPoint}
 use Rattle.hb_frag.specs.Renaming.{renamed, renamed_leaf, renamed_place}
 use Rattle.hb_frag.specs.Rules.{BelongsAt}
 use Rattle.hb_frag.specs.Trees.{Tree}
-use Rattle.hb_ops.specs.Files.{FileState, live_page}
 use Rattle.hb_ops.specs.Merging.{parent_page}
 use Rattle.hb_ops.specs.Sound.{FitsFile}
 use Rattle.hb_layout.specs.declared.meta.Meta.{Meta}
