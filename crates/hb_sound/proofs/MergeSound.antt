@@ -1,5 +1,5 @@
 -- A merge leaves a sound file sound: what it makes is well made, and each child leaf afterwards lies in the box of the page that it names.
-use Rattle.std.proofs.Common.{◌≡◌, ◌≢◌, ℕ, zero, suc, ◌+◌, ◌<◌, ◌≤◌, inl, inr, List, [], ◌∷◌, length, Some, refl, sym, ap, subst, ◌∙◌, arith}
+use Rattle.std.proofs.Common.{◌≡◌, ◌≢◌, ℕ, zero, suc, ◌+◌, inl, inr, List, [], ◌∷◌, length, Some, refl, sym, ap, subst, ◌∙◌, arith}
 use Rattle.std.specs.List.{All, Contains}
 use Rattle.std.proofs.lemmas.List.Elements.{All-contains}
 use Rattle.hb_space.specs.Boxes.{Area, IsArea, Holds, Within}
@@ -9,7 +9,6 @@ use Rattle.hb_frag.specs.declared.pages.LivePage.{LivePage}
 use Rattle.hb_frag.specs.declared.pages.Page.{Page}
 use Rattle.hb_frag.specs.declared.pages.Page.TheVariants.{Live, Free}
 use Rattle.hb_frag.specs.Leaves.{Placed, leaves_of}
-use Rattle.hb_frag.specs.Rules.{capacity_of}
 use Rattle.hb_frag.proofs.Facts.CarvedKinds.{some_weight}
 use Rattle.hb_ops.specs.declared.operations.Op.TheVariants.{Merge}
 use Rattle.hb_ops.specs.Files.{FileState, if_live, live_page}
@@ -23,7 +22,7 @@ use Rattle.hb_sound.specs.Laws.{SpaceLaws, TreeLaws}
 use Rattle.hb_sound.specs.LawsOfMerges.{MergesKeepSound}
 use Rattle.hb_sound.specs.LawsOfOperations.{MayBeDone}
 use Rattle.hb_sound.specs.Names.{HasBelow}
-use Rattle.hb_sound.proofs.MergedFile.{OtherPage, StaysLive, above_now, after as merged_file, comes_from, counted_again, covered_again, found, kept_now, named_gone, rooted_again, same_level, siblings_match, stays_live}
+use Rattle.hb_sound.proofs.MergedFile.{OtherPage, above_now, after as merged_file, comes_from, counted_again, covered_again, found, kept_now, named_gone, rooted_again, same_level, siblings_match, stays_live}
 use Rattle.hb_sound.proofs.MergedLeaves.{MergeLaws, NamesChild, child_from, kept_so, parent_child_from}
 use Rattle.hb_sound.proofs.MergedPages.{is_joined, joins, merged_so, Joins}
 use Rattle.hb_sound.proofs.OneLevel.{same_page}
@@ -113,7 +112,7 @@ module _ (trees : TreeLaws) (space : SpaceLaws) (laws : MergeLaws) (s : FileStat
       let leaf : Placed = placed (Sibling gone) may.going.area in
       let has = sibling_is_leaf (leaves_of may.kept.frag may.kept.area) gone may.going.area (named_gone trees laws s parent keep gone may sound) in
       let within : Within may.going.area may.kept.area = All-contains (λ (l : Placed). Within l.area may.kept.area) (leaves_of may.kept.frag may.kept.area) leaf
-          (trees.within may.kept.frag may.kept.area (box_of keep may.kept may.kept_live) may.fits.kept_made.well_cut) has in
+      (trees.within may.kept.frag may.kept.area (box_of keep may.kept may.kept_live) may.fits.kept_made.well_cut) has in
       Holds-within may.going.area may.kept.area p (attributes_of gone may.going may.gone_live ∙ sym (attributes_of keep may.kept may.kept_live)) within held
 
   -- so the page to keep holds what the page that went did
@@ -122,7 +121,7 @@ module _ (trees : TreeLaws) (space : SpaceLaws) (laws : MergeLaws) (s : FileStat
       let m = sound.children parent may.above gone w.area may.above_live w.has in
       let same : m.0 ≡ may.going = same_page s gone m.0 may.going m.1 may.gone_live in
       let long : length w.area.lo ≡ length may.above.area.lo =
-          All-contains (λ (l : Placed). length l.area.lo ≡ length may.above.area.lo) (leaves_of may.above.frag may.above.area) (placed (Child gone) w.area) (trees.attributes may.above.frag may.above.area) w.has in
+      All-contains (λ (l : Placed). length l.area.lo ≡ length may.above.area.lo) (leaves_of may.above.frag may.above.area) (placed (Child gone) w.area) (trees.attributes may.above.frag may.above.area) w.has in
       let inside : Holds m.0.area p = Holds-within w.area m.0.area p (long ∙ attributes_of parent may.above may.above_live ∙ sym (attributes_of gone m.0 m.1)) m.3 w.held in
       record {
         named = kept;
@@ -180,7 +179,7 @@ module _ (trees : TreeLaws) (space : SpaceLaws) (laws : MergeLaws) (s : FileStat
   other_children id page name a w has =
       let m = sound.children id page name a w.live has in
       let ne : name ≢ gone = λ is. w.not_parent (no_other_parent trees space s gone parent id may.going may.above page a sound done.some_attributes done.few_attributes
-          may.gone_live may.above_live may.fits.gone_level may.fits.may.whole w.live (subst (λ (n : ℕ). HasChild page n a) is has)) in
+      may.gone_live may.above_live may.fits.gone_level may.fits.may.whole w.live (subst (λ (n : ℕ). HasChild page n a) is has)) in
       let again = stays_live trees laws s parent keep gone may sound name m.0 m.1 ne in
       (again.new, again.live, ap (λ (k : ℕ). k + 1) again.level ∙ m.2, subst (λ (b : Area). Within a b) (sym again.area) m.3)
 

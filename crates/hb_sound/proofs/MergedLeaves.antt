@@ -173,11 +173,14 @@ old_name : (gone keep name : ℕ) (leaf : Leaf) → renamed_leaf gone keep leaf 
 old_name gone keep name (Records records) e = absurd (let no : ⊥ = cc in no)
 old_name gone keep name (Sibling page) e = absurd (let no : ⊥ = cc in no)
 old_name gone keep name (Child page) e =
-    let now : cond (eqb page gone) keep page ≡ name = cc in
-    (page, refl, elim (cases_eq page gone) [
-      | inl is ↦ inl (is, sym now ∙ ap (λ (b : Bool). cond b keep page) (eq-eqb page gone is))
-      | inr ne ↦ inr (ne, sym now ∙ ap (λ (b : Bool). cond b keep page) (ne_eqb page gone ne))
-    ])
+    let now : cond (eqb page gone) keep page ≡ name = cc in (
+      page,
+      refl,
+      elim (cases_eq page gone) [
+        | inl is ↦ inl (is, sym now ∙ ap (λ (b : Bool). cond b keep page) (eq-eqb page gone is))
+        | inr ne ↦ inr (ne, sym now ∙ ap (λ (b : Bool). cond b keep page) (ne_eqb page gone ne))
+      ],
+    )
 
 module _ (trees : TreeLaws) (laws : MergeLaws) (keep gone : ℕ) (above : LivePage) where
   -- no sibling leaf of the parent changes
@@ -192,9 +195,12 @@ module _ (trees : TreeLaws) (laws : MergeLaws) (keep gone : ℕ) (above : LivePa
       let w = named_before trees (renamed gone keep above.frag) above.area (laws.same (renamed gone keep above.frag)) box ((names.cuts above.area).1 cut) name a p has held in
       let m = mapped_from (renamed_place gone keep) (leaves_of above.frag above.area) (placed (Child name) w.0) (subst (λ (ls : List Placed). Contains ls (placed (Child name) w.0)) (names.leaves above.area) w.1) in
       let o = old_name gone keep name m.0.leaf (ap (λ (l : Placed). l.leaf) m.2) in
-      let area : m.0.area ≡ w.0 = ap (λ (l : Placed). l.area) m.2 in
-      (o.0, record {
-        area = m.0.area;
-        has = subst (λ (l : Leaf). Contains (leaves_of above.frag above.area) (placed l m.0.area)) o.1 m.1;
-        held = subst (λ (b : Area). Holds b p) (sym area) w.2;
-      }, o.2)
+      let area : m.0.area ≡ w.0 = ap (λ (l : Placed). l.area) m.2 in (
+        o.0,
+        record {
+          area = m.0.area;
+          has = subst (λ (l : Leaf). Contains (leaves_of above.frag above.area) (placed l m.0.area)) o.1 m.1;
+          held = subst (λ (b : Area). Holds b p) (sym area) w.2;
+        },
+        o.2,
+      )

@@ -1,5 +1,5 @@
 -- The pages of a file after a merge: the three that change, and all others as before.
-use Rattle.std.proofs.Common.{◌≡◌, ◌≢◌, ℕ, zero, suc, ◌+◌, inl, inr, Bool, cond, List, [], ◌∷◌, length, Option, Some, None, IsSome, refl, sym, ap, subst, ◌∙◌, arith, eq-eqb, ne_eqb}
+use Rattle.std.proofs.Common.{◌≡◌, ◌≢◌, ℕ, zero, ◌+◌, inl, inr, Bool, cond, List, [], ◌∷◌, length, Option, Some, None, IsSome, refl, sym, ap, subst, ◌∙◌, arith, eq-eqb, ne_eqb}
 use Rattle.std.specs.List.{Contains}
 use Rattle.std.proofs.lemmas.Bool.{cases_eq}
 use Rattle.std.proofs.lemmas.List.Elements.{Contains-append_right}
@@ -12,7 +12,7 @@ use Rattle.hb_ops.specs.declared.operations.Op.TheVariants.{Merge}
 use Rattle.hb_ops.specs.Files.{FileState, if_live, live_page, page_at, page_of}
 use Rattle.hb_ops.specs.Merging.{FitsMerge, kept_page, parent_page, released}
 use Rattle.hb_ops.specs.Operations.{IsAllowed, IsAllowedOn, change_of, effect_of, with_changed_pages, with_page}
-use Rattle.hb_ops.specs.Sound.{IsSound, SiblingsMatch, count_live, count_name, times_named}
+use Rattle.hb_ops.specs.Sound.{SiblingsMatch, count_live, count_name, times_named}
 use Rattle.hb_sound.specs.LawsOfMerges.{ChangesThree, MergesChangeThree}
 use Rattle.hb_sound.proofs.OneLevel.{same_page}
 use Rattle.hb_sound.proofs.PageLists.{HasInstead, put_instead}

@@ -1,5 +1,5 @@
 -- How often a file counts the name of a sibling leaf, and that no leaf of a sound file names a page that isn't in use.
-use Rattle.std.proofs.Common.{◌≡◌, ◌≢◌, ℕ, zero, suc, ◌+◌, ◌≤◌, inl, inr, Bool, cond, List, [], ◌∷◌, slice_get, Some, refl, ap, subst, arith, eqb, eq-eqb}
+use Rattle.std.proofs.Common.{◌≡◌, ℕ, zero, suc, ◌+◌, ◌≤◌, inl, inr, Bool, cond, List, [], ◌∷◌, slice_get, Some, refl, ap, subst, arith, eqb, eq-eqb}
 use Rattle.std.specs.List.{Contains}
 use Rattle.std.proofs.lemmas.List.Elements.{Contains-append_cases, Contains-append_left, Contains-append_right}
 use Rattle.hb_lemmas.proofs.Lists.{first_member, member_cases, only_one}
