@@ -3,3 +3,4 @@ pub mod NamedPairs
 pub mod ScanExamples
 pub mod TryExamples
 pub mod ScannedPairs
+pub mod MadeRows

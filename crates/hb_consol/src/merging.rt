@@ -38,8 +38,8 @@ pub(crate) fn try_pair(
 ) -> Result<Next, NoMemory>
     requires layout { IsLayout meta.now }
     requires made { AreThreeMade meta.now above.now kept.now page.now }
-    ensures { (state : OneActivity) → IfOk result (λ next. (plan : OnePlan) × PlansMerge meta.now gone above.now kept.now page.now plan
-        × (deed_of state next ≡ after_try job parent keep gone leaf above.now kept.now plan)) }
+    ensures { IfOk result (λ next. (plan : OnePlan) × PlansMerge meta.now gone above.now kept.now page.now plan
+        × ((state : OneActivity) → deed_of state next ≡ after_try job parent keep gone leaf above.now kept.now plan)) }
 {
     match plan_for(gone, above, kept, page, meta) {
         MergePlan::Merge => Ok(Next::moves(Activity::ConsolidatorPromote {
@@ -92,8 +92,8 @@ pub(crate) fn decide(
     requires layout { IsLayout meta.now }
     requires made { AreThreeMade meta.now above.now kept.now page.now }
     requires low { job.level < 255 }
-    ensures row { (state : OneActivity) (pages : List (ℕ × OnePage)) (free : Option (ℕ × ℕ)) → IfOk result (λ next. (plan : OnePlan) × PlansMerge meta.now gone above.now kept.now page.now plan
-        × DoesMerge (given_sight meta.now pages free) job parent keep gone above.now plan (deed_of state next)) }
+    ensures row { IfOk result (λ next. (plan : OnePlan) × PlansMerge meta.now gone above.now kept.now page.now plan
+        × ((state : OneActivity) (pages : List (ℕ × OnePage)) (free : Option (ℕ × ℕ)) → DoesMerge (given_sight meta.now pages free) job parent keep gone above.now plan (deed_of state next))) }
     ensures memory { OnErr result (MergesTwo meta.now gone above.now kept.now page.now) }
 {
     match plan_for(gone, above, kept, page, meta) {
@@ -122,7 +122,7 @@ fn merge(
 ) -> Result<Next, NoMemory>
     requires live { 0 < meta.now.live }
     requires low { job.level < 255 }
-    ensures { (state : OneActivity) (pages : List (ℕ × OnePage)) (free : Option (ℕ × ℕ)) → IfOk result (λ next. Merges (given_sight meta.now pages free) job parent keep gone above.now (deed_of state next)) }
+    ensures { IfOk result (λ next. (state : OneActivity) (pages : List (ℕ × OnePage)) (free : Option (ℕ × ℕ)) → Merges (given_sight meta.now pages free) job parent keep gone above.now (deed_of state next)) }
 {
     let after = parent_after(alloc, above, keep, gone)?;
     let thin = after.weighs_at_most(meta.icap / 4);

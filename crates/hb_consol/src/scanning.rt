@@ -33,7 +33,7 @@ pub(crate) fn tries(
     from: u64,
 ) -> Result<Next, NoMemory>
     requires { length (leaves kept.now.frag) < 2 ^ 32 }
-    ensures { (state : OneActivity) → IfOk result (λ next. deed_of state next ≡ tries job parent above.now keep (pair_from above.now kept.now from)) }
+    ensures { IfOk result (λ next. (state : OneActivity) → deed_of state next ≡ tries job parent above.now keep (pair_from above.now kept.now from)) }
 {
     match pair_in(above, &kept.frag, from) {
         Scanned::Pair { gone, place } => Ok(Next::moves(Activity::ConsolidatorTry {

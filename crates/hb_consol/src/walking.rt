@@ -26,7 +26,7 @@ pub(crate) fn walk(alloc: Global, job: Job, id: u32, page: &LivePage) -> Result<
     requires held { Holds page.now.area job.point }
     requires above { 1 ≤ page.now.level }
     requires low { page.now.level < 255 }
-    ensures row { (held : Option ℕ) (s : Sight) → IfOk result (λ next. ConsolidatorRow (Activity.ConsolidatorWalk job held) s id page.now
+    ensures row { IfOk result (λ next. (held : Option ℕ) (s : Sight) → ConsolidatorRow (Activity.ConsolidatorWalk job held) s id page.now
         (deed_of (Activity.ConsolidatorWalk job held) next)) }
     ensures memory { OnErr result ((page.now.level ≡ job.level) × LeadsBelow page.now job) }
 {
@@ -52,7 +52,7 @@ pub(crate) fn walk(alloc: Global, job: Job, id: u32, page: &LivePage) -> Result<
 
 // The first child of the parent is scanned.
 fn scan_first(alloc: Global, job: Job, id: u32, page: &LivePage) -> Result<Next, NoMemory>
-    ensures { (held : Option ℕ) → IfOk result (λ next. deed_of (Activity.ConsolidatorWalk job held) next ≡ scans job id (first_one (children_of page.now))) }
+    ensures { IfOk result (λ next. (held : Option ℕ) → deed_of (Activity.ConsolidatorWalk job held) next ≡ scans job id (first_one (children_of page.now))) }
 {
     let children = page.children(alloc)?;
     Ok(scans(job, id, first_one(children.as_slice())))
