@@ -6,7 +6,7 @@ use Rattle.hb_latch.specs.Tables.{LatchTable, KeepsFrom}
 use Rattle.hb_activity.specs.declared.wanting.Wanted.{Wanted}
 
 -- An actor waits for another one: the latch that its next step wants conflicts with one that the other holds on that
--- page. Locks on boxes aren't part of it: a crate of its own is to have them.
+-- page. Who waits for a lock on a box waits elsewhere: hb_boxlock has these locks.
 pub record WaitsFor (table : LatchTable) (wants : ℕ → Option Wanted) (actor other : ℕ) : Type 0 where
   pub wanted : Wanted
   pub wants_it : wants actor ≡ Some wanted

@@ -2,3 +2,5 @@ pub mod Facts
 pub mod NamedPairs
 pub mod ScanExamples
 pub mod TryExamples
+pub mod ScannedPairs
+pub mod MadeRows

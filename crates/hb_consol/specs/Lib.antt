@@ -3,3 +3,4 @@ pub mod MergeRows
 pub mod Laws
 pub mod Examples
 pub mod Asks
+pub mod Doing

@@ -7,5 +7,12 @@
 //! Source of the idea: Evangelidis, Lomet and Salzberg 1997.
 #![tactic(auto)]
 
+mod deciding;
 pub mod examples;
 pub mod laws;
+mod merging;
+mod scanning;
+mod walking;
+
+pub use deciding::next;
+pub use scanning::Scanned;

@@ -8,6 +8,7 @@ pub mod SayingTheSame
 pub mod Sides
 pub mod Tiles
 pub mod Direct
+pub mod OrderKept
 pub mod PointOrder
 pub mod Renamed
 pub mod SiblingWays

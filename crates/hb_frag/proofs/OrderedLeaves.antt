@@ -1,17 +1,20 @@
 -- Two records leaves whose points rise are one whose points do, once a plane has parted their boxes.
-use Rattle.std.proofs.Common.{◌≡◌, ◌≢◌, ℕ, zero, suc, ◌<◌, ◌≤◌, true, false, cond, List, [], ◌∷◌, ◌++◌, length, get_or, refl, sym, ap, subst, ◌∙◌, arith}
+use Rattle.std.proofs.Common.{◌≡◌, ◌≢◌, ℕ, zero, suc, ◌<◌, ◌≤◌, ◌-◌, inl, inr, true, false, cond, List, [], ◌∷◌, ◌++◌, length, get_or, refl, sym, ap, subst, ◌∙◌, arith}
 use Rattle.std.specs.List.{All, AllPairs}
 use Rattle.std.specs.Ordering.{is_gt, ordering_reverse}
 use Rattle.std.specs.declared.cmp.Ordering.{Ordering}
 use Rattle.std.specs.declared.cmp.Ordering.TheVariants.{Less, Equal, Greater}
+use Rattle.std.proofs.lemmas.Bool.{cases_lt}
+use Rattle.std.proofs.lemmas.List.{get_or-set_same, get_or_past}
 use Rattle.std.proofs.lemmas.Cmp.{nat_list_cmp_total}
 use Rattle.std.proofs.lemmas.List.Elements.{All-append}
 use Rattle.std.proofs.lemmas.Map.Lookups.{exact_bytes}
 use Rattle.std.proofs.lemmas.List.Sorted.{All-permutation}
 use Rattle.hb_space.specs.Points.{point_cmp}
-use Rattle.hb_space.specs.Boxes.{Area, IsArea, Holds, Cuts, side_below, side_from}
+use Rattle.hb_space.specs.Boxes.{Area, Holds, Cuts, side_below, side_from}
 use Rattle.hb_space.specs.declared.records.Record.{Record}
-use Rattle.hb_space.proofs.Facts.Boxes.{Holds-side_below, Holds-side_from}
+use Rattle.hb_space.proofs.Facts.Boxes.{Holds-side_from}
+use Rattle.hb_space.proofs.Facts.Lists.{set_cases}
 use Rattle.hb_frag.specs.declared.leaves.Leaf.TheVariants.{Records}
 use Rattle.hb_frag.specs.Rules.{Precedes, IsInOrder}
 use Rattle.hb_frag.specs.Normal.{with_record_in_order, in_point_order}
@@ -140,12 +143,29 @@ module _ (axis value : ℕ) where
     both_apart xs ys h.1 k (λ i d l. low (suc i) d (omega arith)) high,
   )
 
-pub order_of_both : (axis value : ℕ) (xs ys : List Record) (a : Area) → IsArea a → Cuts a axis value → All IsInOrder (record { leaf = Records xs; area = side_below a axis value } ∷ record { leaf = Records ys; area = side_from a axis value } ∷ []) → All IsInOrder (record { leaf = Records (in_point_order (xs ++ ys)); area = a } ∷ [])
-order_of_both axis value xs ys a h cuts k =
+-- what the part below a plane holds, the box holds below the plane
+held_below : (a : Area) (axis value : ℕ) (p : List ℕ) → Cuts a axis value → Holds (side_below a axis value) p → Holds a p × (get_or p axis 0 < value)
+held_below a axis value p cuts s =
+    let in_hi : axis < length a.hi = elim (cases_lt axis (length a.hi)) [
+      | inl l ↦ l
+      | inr past ↦ absurd (omega (arith, get_or_past a.hi axis 0 past, cuts.above_least, cuts.up_to_greatest))
+    ] in (
+      record {
+        same = s.same;
+        between = λ i l. elim (set_cases a.hi axis (value - 1) i in_hi) [
+          | inl w ↦ ((s.between i l).0, omega (arith, (s.between i l).1, w.1, cuts.up_to_greatest, ap (λ j. get_or a.hi j 0) w.0))
+          | inr w ↦ ((s.between i l).0, omega (arith, (s.between i l).1, w.1))
+        ];
+      },
+      omega (arith, (s.between axis (omega (arith, s.same, cuts.attribute))).1, get_or-set_same a.hi axis (value - 1) 0 in_hi, cuts.above_least),
+    )
+
+pub order_of_both : (axis value : ℕ) (xs ys : List Record) (a : Area) → Cuts a axis value → All IsInOrder (record { leaf = Records xs; area = side_below a axis value } ∷ record { leaf = Records ys; area = side_from a axis value } ∷ []) → All IsInOrder (record { leaf = Records (in_point_order (xs ++ ys)); area = a } ∷ [])
+order_of_both axis value xs ys a cuts k =
     let zs = in_point_order (xs ++ ys) in
     let left = k zero (record { leaf = Records xs; area = side_below a axis value }) (omega arith) in
     let right = k 1 (record { leaf = Records ys; area = side_from a axis value }) (omega arith) in
-    let below = λ (p : List ℕ) (held : Holds (side_below a axis value) p). (Holds-side_below a axis value p h cuts).0 held in
+    let below = λ (p : List ℕ) (held : Holds (side_below a axis value) p). held_below a axis value p cuts held in
     let from = λ (p : List ℕ) (held : Holds (side_from a axis value) p). (Holds-side_from a axis value p cuts).0 held in
     let apart = both_apart axis value xs ys (apart_pairs xs left.rising) (apart_pairs ys right.rising) (λ i d l. (below (get_or xs i d).key (left.inside i d l)).1) (λ i d l. (from (get_or ys i d).key (right.inside i d l)).1) in
     All-alone IsInOrder (record { leaf = Records zs; area = a }) (record {

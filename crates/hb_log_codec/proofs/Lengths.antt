@@ -10,7 +10,7 @@ use Rattle.hb_frag.specs.Grammar.{point_bytes, record_bytes}
 use Rattle.hb_frag.specs.declared.pages.Page.{Page}
 use Rattle.hb_ops.specs.declared.leaf_cuts.LeafCut.{LeafCut}
 use Rattle.hb_ops.specs.declared.operations.Op.{Op}
-use Rattle.hb_ops.specs.declared.operations.Op.TheVariants.{Put, Del, Extract, Post, Grow}
+use Rattle.hb_ops.specs.declared.operations.Op.TheVariants.{Put, Del, Extract, Post, Merge, Grow}
 use Rattle.hb_log_codec.specs.Groups.{FitsGroup, FitsPageImage, FitsOp, Logged, cuts_bytes, group_bytes, page_image_bytes, leaf_cut_bytes, op_bytes, page_bytes, path_bytes, side_byte}
 use Rattle.hb_log_codec.proofs.GroupLaws.{length_page}
 use Rattle.hb_lemmas.proofs.Numbers.{length_big_endian}
@@ -60,6 +60,12 @@ length_op k (Post parent at inner area) small h =
     let three : length (N ++ P ++ I) ≡ 9 + length at = omega (arith, length-append (N ++ P) I, two, length_big_endian 4 inner) in
     let four : length (N ++ P ++ I ++ L) ≡ 9 + length at + 8 * length area.lo = omega (arith, length-append (N ++ P ++ I) L, three, length_point area.lo) in
     omega (arith, length-append (N ++ P ++ I ++ L) H, four, length_point area.hi, h.is_area.same, h.attributes, h.steps, small)
+length_op k (Merge parent keep gone) small h =
+    let P : List ℕ = big_endian 4 parent in
+    let K : List ℕ = big_endian 4 keep in
+    let G : List ℕ = big_endian 4 gone in
+    let two : length (P ++ K) ≡ 8 = omega (arith, length-append P K, length_big_endian 4 parent, length_big_endian 4 keep) in
+    omega (arith, length-append (P ++ K) G, two, length_big_endian 4 gone)
 length_op k (Grow fresh free_after) small h =
     omega (arith, length-append (big_endian 4 fresh) (big_endian 4 free_after), length_big_endian 4 fresh, length_big_endian 4 free_after)
 

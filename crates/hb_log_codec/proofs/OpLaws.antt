@@ -6,12 +6,12 @@ use Rattle.hb_space.specs.declared.form.TheConstants.{KMAX}
 use Rattle.hb_space.specs.declared.records.Record.{Record}
 use Rattle.hb_frag.specs.Grammar.{FitsRecord, point_bytes, record_bytes}
 use Rattle.hb_ops.specs.declared.operations.Op.{Op}
-use Rattle.hb_ops.specs.declared.operations.Op.TheVariants.{Put, Del, Extract, Post, Grow}
+use Rattle.hb_ops.specs.declared.operations.Op.TheVariants.{Put, Del, Extract, Post, Merge, Grow}
 use Rattle.hb_page_codec.specs.Exact.{AreBytes, IsExact}
 use Rattle.hb_page_codec.specs.Reading.{◌>>=◌, number_at}
 use Rattle.hb_page_codec.specs.ReadingFields.{area_at, point_at, record_at}
 use Rattle.hb_log_codec.specs.Groups.{FitsOp, cuts_bytes, op_bytes, path_bytes}
-use Rattle.hb_log_codec.specs.Fields.{cuts_at, del_at, extract_at, grow_at, op_at, path_at, post_at, put_at}
+use Rattle.hb_log_codec.specs.Fields.{cuts_at, del_at, extract_at, grow_at, merge_at, op_at, path_at, post_at, put_at}
 use Rattle.hb_log_codec.specs.ExactFields.{ExactFields}
 use Rattle.hb_log_codec.proofs.FieldLaws.{taken}
 use Rattle.hb_log_codec.proofs.PathLaws.{FewCuts, cuts_exact, path_exact}
@@ -99,6 +99,20 @@ module _ (f : ExactFields) where
         record { parent_fits = parent.1; inner_fits = inner.1; steps = path.1; is_area = area.1.0; attributes = area.1.1 },
       )
 
+  merge_takes : (k : ℕ) (rest : List ℕ) (x : Op × List ℕ) → AreBytes rest → merge_at rest ≡ Some x → TakesOp k 5 rest x
+  unfolding merge_at
+  merge_takes k rest x fits e =
+      let a = bind_some (number_at 4 rest) (λ parent. number_at 4 parent.1 >>= λ keep. number_at 4 keep.1 >>= λ gone. Some (Merge parent.0 keep.0 gone.0, gone.1)) x e in
+      let b = bind_some (number_at 4 a.0.1) (λ keep. number_at 4 keep.1 >>= λ gone. Some (Merge a.0.0 keep.0 gone.0, gone.1)) x a.2 in
+      let c = bind_some (number_at 4 b.0.1) (λ gone. Some (Merge a.0.0 b.0.0 gone.0, gone.1)) x b.2 in
+      let parent = number rest a.0 fits a.1 in
+      let keep = number a.0.1 b.0 parent.0.rest_fits b.1 in
+      let gone = number b.0.1 c.0 keep.0.rest_fits c.1 in
+      let two = Takes-then rest (big_endian 4 a.0.0) a.0.1 (big_endian 4 b.0.0) b.0.1 parent.0 keep.0 in
+      let three = Takes-byte 5 rest _ c.0.1 (Takes-then rest _ b.0.1 (big_endian 4 c.0.0) c.0.1 two gone.0) in
+      let made : Op × List ℕ = (Merge a.0.0 b.0.0 c.0.0, c.0.1) in
+      subst (TakesOp k 5 rest) (same_Some made x c.2) (three.parts, (parent.1, keep.1, gone.1))
+
   grow_takes : (k : ℕ) (rest : List ℕ) (x : Op × List ℕ) → AreBytes rest → grow_at rest ≡ Some x → TakesOp k 6 rest x
   unfolding grow_at
   grow_takes k rest x fits e =
@@ -117,13 +131,13 @@ module _ (f : ExactFields) where
   op_takes k some few (suc (suc zero) ∷ rest) x fits e = del_takes k rest x (AreBytes-rest 2 rest fits) e
   op_takes k some few (suc (suc (suc zero)) ∷ rest) x fits e = extract_takes k rest x (AreBytes-rest 3 rest fits) e
   op_takes k some few (suc (suc (suc (suc zero))) ∷ rest) x fits e = post_takes k rest x some few (AreBytes-rest 4 rest fits) e
-  op_takes k some few (suc (suc (suc (suc (suc zero)))) ∷ rest) x fits e = absurd cc
+  op_takes k some few (suc (suc (suc (suc (suc zero)))) ∷ rest) x fits e = merge_takes k rest x (AreBytes-rest 5 rest fits) e
   op_takes k some few (suc (suc (suc (suc (suc (suc zero))))) ∷ rest) x fits e = grow_takes k rest x (AreBytes-rest 6 rest fits) e
   op_takes k some few (suc (suc (suc (suc (suc (suc (suc b)))))) ∷ rest) x fits e = absurd cc
 
   -- the numbers, paths and cuts in a row, each in front of what follows
   pub op_again : (k : ℕ) (op : Op) (rest : List ℕ) → FitsOp k op → op_at k (op_bytes op ++ rest) ≡ Some (op, rest)
-  unfolding put_at del_at extract_at post_at grow_at
+  unfolding put_at del_at extract_at post_at merge_at grow_at
   op_again k (Put page rec) rest fits =
       ap (λ (xs : List ℕ). op_at k (1 ∷ xs)) (append_assoc (big_endian 4 page) (record_bytes rec) rest)
       ∙ rw (f.number_4.again page (record_bytes rec ++ rest) fits.0, (f.record_of k).again rec rest fits.1) refl
@@ -161,6 +175,13 @@ module _ (f : ExactFields) where
         f.number_4.again inner ((L ++ H) ++ rest) fits.inner_fits,
         (f.area k (omega (arith, fits.attributes, fits.is_area.lo_point.some)) (omega (arith, fits.attributes, fits.is_area.lo_point.few))).again area rest (fits.is_area, fits.attributes),
       ) refl
+  op_again k (Merge parent keep gone) rest fits =
+      let P = big_endian 4 parent in
+      let K = big_endian 4 keep in
+      let G = big_endian 4 gone in
+      let regrouped : (P ++ K ++ G) ++ rest ≡ P ++ (K ++ (G ++ rest)) = append_assoc (P ++ K) G rest ∙ append_assoc P K (G ++ rest) in
+      ap (λ (xs : List ℕ). op_at k (5 ∷ xs)) regrouped
+      ∙ rw (f.number_4.again parent (K ++ (G ++ rest)) fits.0, f.number_4.again keep (G ++ rest) fits.1, f.number_4.again gone rest fits.2) refl
   op_again k (Grow fresh free_after) rest fits =
       ap (λ (xs : List ℕ). op_at k (6 ∷ xs)) (append_assoc (big_endian 4 fresh) (big_endian 4 free_after) rest)
       ∙ rw (f.number_4.again fresh (big_endian 4 free_after ++ rest) fits.0, f.number_4.again free_after rest fits.1) refl

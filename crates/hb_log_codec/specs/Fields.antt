@@ -4,7 +4,7 @@ use Rattle.hb_frag.specs.declared.paths.Side.{Side}
 use Rattle.hb_frag.specs.declared.paths.Side.TheVariants.{Left, Right}
 use Rattle.hb_ops.specs.declared.leaf_cuts.LeafCut.{LeafCut}
 use Rattle.hb_ops.specs.declared.operations.Op.{Op}
-use Rattle.hb_ops.specs.declared.operations.Op.TheVariants.{Put, Del, Extract, Post, Grow}
+use Rattle.hb_ops.specs.declared.operations.Op.TheVariants.{Put, Del, Extract, Post, Merge, Grow}
 use Rattle.hb_page_codec.specs.Reading.{◌>>=◌, byte_at, many_at, number_at}
 use Rattle.hb_page_codec.specs.ReadingFields.{area_at, point_at, record_at}
 
@@ -63,6 +63,13 @@ post_at k bytes = do
   area ← area_at k inner.1
   Some (Post parent.0 path.0 inner.0 area.0, area.1)
 
+unfoldable pub merge_at : List ℕ → Option (Op × List ℕ)
+merge_at bytes = do
+  parent ← number_at 4 bytes
+  keep ← number_at 4 parent.1
+  gone ← number_at 4 keep.1
+  Some (Merge parent.0 keep.0 gone.0, gone.1)
+
 unfoldable pub grow_at : List ℕ → Option (Op × List ℕ)
 grow_at bytes = do
   fresh ← number_at 4 bytes
@@ -77,6 +84,6 @@ op_at k (suc zero ∷ rest) = put_at k rest
 op_at k (suc (suc zero) ∷ rest) = del_at k rest
 op_at k (suc (suc (suc zero)) ∷ rest) = extract_at rest
 op_at k (suc (suc (suc (suc zero))) ∷ rest) = post_at k rest
-op_at k (suc (suc (suc (suc (suc zero)))) ∷ rest) = None
+op_at k (suc (suc (suc (suc (suc zero)))) ∷ rest) = merge_at rest
 op_at k (suc (suc (suc (suc (suc (suc zero))))) ∷ rest) = grow_at rest
 op_at k (suc (suc (suc (suc (suc (suc (suc b)))))) ∷ rest) = None

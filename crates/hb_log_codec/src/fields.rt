@@ -1,6 +1,6 @@
 //! Operations, from the front of bytes.
 ghost use Rattle.hb_space.specs.Points.{IsAttributeCount};
-ghost use Rattle.hb_log_codec.specs.Fields.{side_at, path_at, leaf_cut_at, cuts_at, put_at, del_at, extract_at, post_at, grow_at, op_at};
+ghost use Rattle.hb_log_codec.specs.Fields.{side_at, path_at, leaf_cut_at, cuts_at, put_at, del_at, extract_at, post_at, merge_at, grow_at, op_at};
 ghost use Rattle.hb_log_codec.specs.Reading.{GivesOrStops};
 ghost use Rattle.hb_page_codec.specs.Reading.{byte_at, many_at};
 
@@ -160,6 +160,17 @@ fn post_of(alloc: Global, k: u8, bytes: &[u8]) -> Result<(Op, &[u8]), GroupStop>
     Ok((op, rest))
 }
 
+/// A merge, behind its tag.
+#[tactic(auto, unfolding(crate::specs::Fields::merge_at))]
+fn merge_of(bytes: &[u8]) -> Result<(Op, &[u8]), GroupStop>
+    ensures { GivesOrStops (λ x. (x.0, x.1.now)) result (merge_at bytes.now) }
+{
+    let (parent, rest) = u32_of(bytes).ok_or(GroupStop::Bad)?;
+    let (keep, rest) = u32_of(rest).ok_or(GroupStop::Bad)?;
+    let (gone, rest) = u32_of(rest).ok_or(GroupStop::Bad)?;
+    Ok((Op::Merge { parent, keep, gone }, rest))
+}
+
 /// A growth, behind its tag.
 #[tactic(auto, unfolding(crate::specs::Fields::grow_at))]
 fn grow_of(bytes: &[u8]) -> Result<(Op, &[u8]), GroupStop>
@@ -180,6 +191,7 @@ pub(crate) fn op_of(alloc: Global, k: u8, bytes: &[u8]) -> Result<(Op, &[u8]), G
         [2, rest @ ..] => del_of(k, rest),
         [3, rest @ ..] => extract_of(alloc, rest),
         [4, rest @ ..] => post_of(alloc, k, rest),
+        [5, rest @ ..] => merge_of(rest),
         [6, rest @ ..] => grow_of(rest),
         _ => Err(GroupStop::Bad),
     }

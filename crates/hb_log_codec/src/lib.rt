@@ -13,6 +13,7 @@
 //! | delete | 02, page (4), a value (8) for each attribute |
 //! | split | 03, source (4), fresh (4), free head afterwards (4), path length (1), path, count of cuts (1), for each an axis (1), value (8), side (1) |
 //! | posting | 04, parent (4), path length (1), path, inner (4), lower and upper values (8 each) |
+//! | merge | 05, parent (4), page to keep (4), page to go (4) |
 //! | growth | 06, fresh (4), free head afterwards (4) |
 //!
 //! A decoder can't trust its bytes: each field is tested where it is read. Page numbers may be any.

@@ -96,6 +96,12 @@ pub fn encode_op(op: &Op, into: &mut Vec<u8>) -> Result<(), NoMemory>
             append_u32(into, *inner)?;
             append_area(into, area)
         }
+        Op::Merge { parent, keep, gone } => {
+            into.push(5)?;
+            append_u32(into, *parent)?;
+            append_u32(into, *keep)?;
+            append_u32(into, *gone)
+        }
         Op::Grow { fresh, free_after } => {
             into.push(6)?;
             append_u32(into, *fresh)?;

@@ -29,7 +29,7 @@ pub record JoinLaws : Type 0 where
   pub same : (t : Tree) → SaysTheSame t (normal t)
 
 -- what holds of the leaves of a tree and of another one holds where the one stands in the other
-with_leaves : (P : Leaf → Type 0) (path : List Side) (t other : Tree) → All P (leaves t) → All P (leaves other) → All P (leaves (with_part path t other))
+pub with_leaves : (P : Leaf → Type 0) (path : List Side) (t other : Tree) → All P (leaves t) → All P (leaves other) → All P (leaves (with_part path t other))
 with_leaves P [] t other old new = new
 with_leaves P (Left ∷ path) (Tip leaf) other old new = old
 with_leaves P (Right ∷ path) (Tip leaf) other old new = old
@@ -64,11 +64,11 @@ joined_own axis value (Tip (Child page)) (Cut a v l r) lone = lone
 joined_own axis value (Tip (Sibling page)) right lone = lone
 joined_own axis value (Cut a v l r) right lone = lone
 
-normal_own : (t : Tree) → IsSiblingTip (normal t) → IsSiblingTip t
+pub normal_own : (t : Tree) → IsSiblingTip (normal t) → IsSiblingTip t
 normal_own (Tip leaf) lone = lone
 normal_own (Cut axis value left right) lone = absurd (joined_own axis value (normal left) (normal right) lone)
 
-with_own : (path : List Side) (t : Tree) (area : Area) (w : Tree × Area) (other : Tree) → part_at path t area ≡ Some w → ¬ (IsSiblingTip other) → ¬ (IsSiblingTip (with_part path t other))
+pub with_own : (path : List Side) (t : Tree) (area : Area) (w : Tree × Area) (other : Tree) → part_at path t area ≡ Some w → ¬ (IsSiblingTip other) → ¬ (IsSiblingTip (with_part path t other))
 with_own [] t area w other e own = own
 with_own (side ∷ path) t area w other e own = not_lone_again side path t area w other e
 

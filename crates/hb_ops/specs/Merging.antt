@@ -28,6 +28,10 @@ pub record MayMerge (parent keep : LivePage) (gone_id : ℕ) (gone : LivePage) (
   pub whole : DirectlyCovers parent gone.area
   pub light : 4 * merged_weight keep gone ≤ 3 * cap
 
+-- the parent is one level above the two pages, and names both
+abbrev pub NamesBoth : LivePage → ℕ → LivePage → ℕ → LivePage → Type 0
+NamesBoth above keep kept gone going = ((kept.level + 1 ≡ above.level) × (going.level + 1 ≡ above.level)) × (Contains (leaves above.frag) (Child keep) × Contains (leaves above.frag) (Child gone))
+
 -- Three pages of different numbers, all well made, of which the parent is one level above the two others and names both, where
 -- these may become one.
 pub record FitsMerge (meta : Meta) (parent keep gone : ℕ) (above kept going : LivePage) : Type 0 where

@@ -105,8 +105,8 @@ fn is_filled_right(page: &LivePage, meta: &Meta) -> bool
         && !is_sibling_tip(&page.frag)
 }
 
-// What a page of the level may weigh.
-fn capacity(level: u8, meta: &Meta) -> u16
+/// What a page of the level may weigh.
+pub(crate) fn capacity(level: u8, meta: &Meta) -> u16
     ensures { result ≡ capacity_of level meta.now.dcap meta.now.icap }
 {
     if level == 0 { meta.dcap } else { meta.icap }

@@ -1,12 +1,18 @@
 //! Two pages of a level become one.
 
-ghost use Rattle.std.specs.Prelude.{◌≡◌, ◌≤◌, ◌↔◌, IfOk, IsErrOf, IsTrue};
-ghost use Rattle.hb_ops.specs.Merging.{FitsMerge, kept_page, parent_page, released};
+ghost use Rattle.std.specs.Prelude.{◌≡◌, ◌≢◌, ◌+◌, ◌*◌, ◌≤◌, ◌↔◌, Contains, IfOk, IsErrOf, IsTrue};
+ghost use Rattle.hb_frag.specs.declared.leaves.Leaf.TheVariants.{Child};
+ghost use Rattle.hb_frag.specs.Leaves.{leaves, weight_of};
+ghost use Rattle.hb_frag.specs.Paths.{sibling_way};
+ghost use Rattle.hb_frag.specs.Rules.{capacity_of};
+ghost use Rattle.hb_ops.specs.Merging.{FitsMerge, MayMerge, NamesBoth, kept_page, merged_weight, parent_page, released, taken_over};
+ghost use Rattle.hb_ops.specs.Sound.{FitsFile};
 ghost use Rattle.hb_ops.specs.declared.changes.ChangeError.TheVariants.{Unfit, NoMemory as Starved};
 
-use crate::local::local_rule;
+use crate::local::{capacity, local_rule};
 use crate::{ChangeError, Meta};
-use hb_frag::{LivePage, normal};
+use hb_frag::laws::ways_lead_to_siblings;
+use hb_frag::{Frag, LivePage, normal};
 use hb_space::NoMemory;
 use std::alloc::Global;
 
@@ -21,13 +27,157 @@ pub(crate) fn merge(
     kept: &LivePage,
     going: &LivePage,
 ) -> Result<(LivePage, LivePage), ChangeError>
-    requires stub { ⊥ }
     ensures allowed { IfOk result (λ made. FitsMerge meta.now parent keep gone above.now kept.now going.now) }
     ensures effect { IfOk result (λ made. (made.0 ≡ parent_page keep gone above.now) × (made.1 ≡ kept_page gone kept.now going.now)) }
     ensures unfit { IsErrOf result Unfit → ¬ (FitsMerge meta.now parent keep gone above.now kept.now going.now) }
     ensures memory { IsErrOf result Starved → FitsMerge meta.now parent keep gone above.now kept.now going.now }
 {
-    Err(ChangeError::Unfit)
+    if !fits(meta, parent, keep, gone, above, kept, going) {
+        return Err(ChangeError::Unfit);
+    }
+    match both_after(alloc, keep, gone, above, kept, going) {
+        Ok(made) => Ok(made),
+        Err(_) => Err(ChangeError::NoMemory),
+    }
+}
+
+// Whether the two pages may become one.
+fn fits(
+    meta: &Meta,
+    parent: u32,
+    keep: u32,
+    gone: u32,
+    above: &LivePage,
+    kept: &LivePage,
+    going: &LivePage,
+) -> bool
+    ensures { IsTrue result ↔ FitsMerge meta.now parent keep gone above.now kept.now going.now }
+{
+    if !are_others(parent, keep, gone) || meta.live == 0 {
+        return false;
+    }
+    if !are_well_made(meta, above, kept, going) {
+        return false;
+    }
+    are_named(keep, gone, above, kept, going) && may_merge(meta, gone, above, kept, going)
+}
+
+// Whether the three pages have different numbers.
+fn are_others(parent: u32, keep: u32, gone: u32) -> bool
+    ensures { IsTrue result ↔ ((parent ≢ keep) × (parent ≢ gone) × (keep ≢ gone)) }
+{
+    parent != keep && parent != gone && keep != gone
+}
+
+// Whether each of the pages keeps the rules that speak of it alone.
+fn are_well_made(meta: &Meta, above: &LivePage, kept: &LivePage, going: &LivePage) -> bool
+    ensures { IsTrue result ↔ (FitsFile meta.now above.now × FitsFile meta.now kept.now × FitsFile meta.now going.now) }
+{
+    local_rule(above, meta).is_none()
+        && local_rule(kept, meta).is_none()
+        && local_rule(going, meta).is_none()
+}
+
+// Whether the parent is one level above the two others, and names both.
+fn are_named(keep: u32, gone: u32, above: &LivePage, kept: &LivePage, going: &LivePage) -> bool
+    ensures { IsTrue result ↔ NamesBoth above.now keep kept.now gone going.now }
+{
+    are_below(kept, going, above) && names_two(above, keep, gone)
+}
+
+// Whether two pages are one level below another one.
+fn are_below(one: &LivePage, other: &LivePage, above: &LivePage) -> bool
+    ensures { IsTrue result ↔ ((one.now.level + 1 ≡ above.now.level) × (other.now.level + 1 ≡ above.now.level)) }
+{
+    is_below(one, above) && is_below(other, above)
+}
+
+// Whether a page names both pages.
+fn names_two(above: &LivePage, one: u32, other: u32) -> bool
+    ensures { IsTrue result ↔ (Contains (leaves above.now.frag) (Child one) × Contains (leaves above.now.frag) (Child other)) }
+{
+    above.names(one) && above.names(other)
+}
+
+// Whether a page is one level below another one.
+fn is_below(page: &LivePage, above: &LivePage) -> bool
+    ensures { IsTrue result ↔ (page.now.level + 1 ≡ above.now.level) }
+{
+    u16::from(page.level) + 1 == u16::from(above.level)
+}
+
+// Whether these pages may become one, which are well made.
+fn may_merge(meta: &Meta, gone: u32, above: &LivePage, kept: &LivePage, going: &LivePage) -> bool
+    requires above { FitsFile meta.now above.now }
+    requires kept { FitsFile meta.now kept.now }
+    requires going { FitsFile meta.now going.now }
+    ensures { IsTrue result ↔ MayMerge above.now kept.now gone going.now (capacity_of kept.now.level meta.now.dcap meta.now.icap) }
+{
+    kept.sibling_area(gone).is_some() && above.directly(&going.area) && are_light(meta, kept, going)
+}
+
+// Whether two pages weigh at most three quarters of the capacity once they are one.
+fn are_light(meta: &Meta, kept: &LivePage, going: &LivePage) -> bool
+    requires kept { FitsFile meta.now kept.now }
+    requires going { FitsFile meta.now going.now }
+    ensures { IsTrue result ↔ (4 * merged_weight kept.now going.now ≤ 3 * capacity_of kept.now.level meta.now.dcap meta.now.icap) }
+{
+    let most = capacity(kept.level, meta);
+    let merged = page_weight(kept, most).saturating_sub(1)
+        + page_weight(going, capacity(going.level, meta));
+    4 * merged <= 3 * u64::from(most)
+}
+
+// What a page weighs that weighs at most so much.
+fn page_weight(page: &LivePage, most: u16) -> u64
+    requires { weight_of page.now.frag ≤ most }
+    ensures weight { result ≡ weight_of page.now.frag }
+    ensures light { result ≤ most }
+{
+    u64::from(page.weight())
+}
+
+// The parent and the page to keep afterwards.
+fn both_after(
+    alloc: Global,
+    keep: u32,
+    gone: u32,
+    above: &LivePage,
+    kept: &LivePage,
+    going: &LivePage,
+) -> Result<(LivePage, LivePage), NoMemory>
+    ensures { IfOk result (λ made. (made.0 ≡ parent_page keep gone above.now) × (made.1 ≡ kept_page gone kept.now going.now)) }
+{
+    let parent = parent_after(alloc, above, keep, gone)?;
+    let frag = taken_over(alloc, gone, kept, going)?;
+    Ok((parent, with_frag(kept, frag)))
+}
+
+// A page of the same level and box, with another inside.
+fn with_frag(page: &LivePage, frag: Frag) -> LivePage
+    ensures level { result.level ≡ page.now.level }
+    ensures area { result.area ≡ page.now.area }
+    ensures frag { result.frag ≡ frag }
+{
+    LivePage {
+        level: page.level,
+        area: page.area.copy(),
+        frag,
+    }
+}
+
+// What the page to keep has inside afterwards.
+fn taken_over(alloc: Global, gone: u32, kept: &LivePage, going: &LivePage) -> Result<Frag, NoMemory>
+    ensures { IfOk result (λ frag. frag ≡ taken_over kept.now going.now (sibling_way gone kept.now.frag)) }
+{
+    ways_lead_to_siblings();
+    match kept.sibling_path(alloc, gone)? {
+        None => kept.frag.copy(alloc),
+        Some(path) => {
+            let frag = kept.frag.copy_with(alloc, &path, going.frag.copy(alloc)?)?;
+            normal(alloc, frag)
+        }
+    }
 }
 
 /// What the file says of itself once the page is free.

@@ -2,3 +2,4 @@
 pub mod RecordLeaves
 pub mod ChosenCuts
 pub mod OneCommand
+pub mod DeletedRecords

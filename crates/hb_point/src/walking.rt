@@ -1,14 +1,20 @@
 //! A walk to a command's point: it passes on to the page that a leaf names, or does there what the
 //! command is.
 
-ghost use Rattle.std.specs.Prelude.{◌≡◌, ℕ, List, [], Some, MatchOption};
+ghost use Rattle.std.specs.Prelude.{◌≡◌, ◌*◌, ℕ, if◌then◌else◌, nat_le, List, [], ◌∷◌, Some, MatchOption};
+ghost use Rattle.hb_activity.specs.Deciding.{NextIs};
 ghost use Rattle.hb_activity.specs.Walks.{goal_of};
+ghost use Rattle.hb_activity.specs.declared.deciding.Fate.TheVariants.{TakesEffect};
+ghost use Rattle.hb_frag.specs.Leaves.{leaf_at, weight_of};
+ghost use Rattle.hb_frag.specs.declared.leaves.Leaf.TheVariants as leaves;
 ghost use Rattle.hb_layout.specs.Limits.{IsLayout};
+ghost use Rattle.hb_ops.specs.Recording.{del_page};
 ghost use Rattle.hb_ops.specs.Standing.{StandsNot, StandsThere};
 ghost use Rattle.hb_point.specs.Asks.{WalksAt, WalksInside, line_with};
 ghost use Rattle.hb_point.specs.Doing.{DoesBy, HasLeafOfRecords, RecordsThere, WalksBy};
 ghost use Rattle.hb_set.specs.declared.commands.Command.TheVariants as commands;
 ghost use Rattle.hb_space.specs.Boxes.{Area as Extent, Holds};
+ghost use Rattle.hb_space.specs.declared.records.Record.{Record as Entry};
 
 use hb_activity::{Activity, Job, JobKind, Next};
 use hb_frag::{Leaf, LivePage};
@@ -131,8 +137,55 @@ fn delete(number: u32, point: Point, id: u32, page: &LivePage, meta: &Meta) -> N
     ensures { (session : ℕ) → DoesBy meta.now (line_with number session (commands.Delete point)) id page.now result }
 {
     match record_at(page, meta, &point) {
-        Some(_) => Next::takes_effect(number, Reply::Done, Some(Op::Del { page: id, point })),
+        Some(_) => {
+            let thin = is_thin_without(page, meta, &point);
+            taken(number, point, id, thin)
+        }
         None => Next::takes_effect(number, Reply::Absent, None),
+    }
+}
+
+/// The record of the point goes from the page, which is to be merged where it is thin then.
+fn taken(number: u32, point: Point, id: u32, thin: bool) -> Next
+    ensures { NextIs result (Activity.SessionAwait number Reply.Done 0) (Some (Op.Del id point))
+        (if thin then record { kind = JobKind.Merge; level = 1; point = point } ∷ [] else []) TakesEffect }
+{
+    let job = Job {
+        kind: JobKind::Merge,
+        level: 1,
+        point: point.copy(),
+    };
+    let op = Op::Del { page: id, point };
+    let mut next = Next::takes_effect(number, Reply::Done, Some(op));
+    if thin {
+        next.jobs.push(job);
+    }
+    next
+}
+
+/// Whether the page weighs a quarter of its capacity, or less, once the record of the point is gone. A
+/// leaf without records weighs 1, as one of a single record does.
+fn is_thin_without(page: &LivePage, meta: &Meta, point: &Point) -> bool
+    requires given { HasLeafOfRecords meta.now page.now point.now }
+    requires there { (found : Entry) × StandsThere page.now point.now found }
+    ensures { result ≡ nat_le (4 * weight_of (del_page point.now page.now).frag) meta.now.dcap }
+{
+    let quarter = meta.dcap / 4;
+    if records_at(page, meta, point).len() > 1 {
+        page.weighs_at_most(quarter + 1)
+    } else {
+        page.weighs_at_most(quarter)
+    }
+}
+
+/// The records of the leaf at the point, in a page whose leaf there has records.
+fn records_at<'a>(page: &'a LivePage, meta: &Meta, point: &Point) -> &'a [Record]
+    requires { HasLeafOfRecords meta.now page.now point.now }
+    ensures { (area : Extent) × (leaf_at page.now point.now ≡ Some (record { leaf = leaves.Records result.now; area = area })) }
+{
+    match page.leaf_at(point) {
+        (Leaf::Records(records), _) => records.as_slice(),
+        (Leaf::Child(_) | Leaf::Sibling(_), _) => unreachable!(),
     }
 }
 

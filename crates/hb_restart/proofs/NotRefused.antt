@@ -6,7 +6,7 @@ use Rattle.hb_frag.specs.declared.pages.LivePage.{LivePage}
 use Rattle.hb_frag.specs.declared.pages.Page.{Page}
 use Rattle.hb_layout.specs.declared.meta.Meta.{Meta}
 use Rattle.hb_ops.specs.declared.operations.Op.{Op}
-use Rattle.hb_ops.specs.declared.operations.Op.TheVariants.{Put, Del, Extract, Post, Grow}
+use Rattle.hb_ops.specs.declared.operations.Op.TheVariants.{Put, Del, Extract, Post, Merge, Grow}
 use Rattle.hb_ops.specs.Files.{FileState}
 use Rattle.hb_ops.specs.Operations.{change_of}
 use Rattle.hb_ops.specs.Sound.{IsSound}
@@ -31,6 +31,10 @@ op_pages (Extract source fresh path cuts free_after) meta (Some page) second thi
 op_pages (Extract source fresh path cuts free_after) meta None second third = refl
 op_pages (Post parent at inner area) meta (Some page) second third = refl
 op_pages (Post parent at inner area) meta None second third = refl
+op_pages (Merge parent keep gone) meta (Some above) (Some kept) (Some going) = refl
+op_pages (Merge parent keep gone) meta (Some above) (Some kept) None = refl
+op_pages (Merge parent keep gone) meta (Some above) None third = refl
+op_pages (Merge parent keep gone) meta None second third = refl
 op_pages (Grow fresh free_after) meta first second third = refl
 
 replay_pages : (t : Replayed) (groups : List Logged) → (replay t groups).meta.pages ≡ t.meta.pages

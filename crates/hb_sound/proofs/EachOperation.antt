@@ -9,13 +9,14 @@ use Rattle.hb_frag.specs.declared.leaves.Leaf.TheVariants.{Records}
 use Rattle.hb_frag.specs.declared.pages.LivePage.{LivePage}
 use Rattle.hb_frag.specs.Leaves.{Placed, leaf_at, leaves_of}
 use Rattle.hb_ops.specs.declared.operations.Op.{Op}
-use Rattle.hb_ops.specs.declared.operations.Op.TheVariants.{Put, Del, Extract, Post, Grow}
+use Rattle.hb_ops.specs.declared.operations.Op.TheVariants.{Put, Del, Extract, Post, Merge, Grow}
 use Rattle.hb_ops.specs.Files.{FileState, live_page}
 use Rattle.hb_ops.specs.Operations.{IsAllowed, IsAllowedOn, IsLicensed, OpHas, change_of, nth_read}
 use Rattle.hb_ops.specs.LawsOfContents.{DelStaysSound, PutStaysSound}
 use Rattle.hb_ops.specs.Sound.{IsSound}
 use Rattle.hb_sound.specs.Laws.{DelsTakeOne, PagesHaveBoxes, PutsAddOne, TreeLaws}
 use Rattle.hb_sound.specs.LawsOfOperations.{GrowthKeepsContents, GrowthKeepsSound, OperationsKeepContents, OperationsKeepLayout, OperationsKeepSound, SplitsKeepContents, SplitsKeepSound, MayBeDone}
+use Rattle.hb_sound.specs.LawsOfMerges.{MergesKeepContents, MergesKeepSound}
 use Rattle.hb_sound.specs.LawsOfPostings.{PostingsKeepContents, PostingsKeepSound}
 use Rattle.hb_sound.specs.PointWalks.{IsPointOf}
 use Rattle.hb_ops.proofs.Facts.Contents.{del_on, put_on}
@@ -57,6 +58,10 @@ change_keeps (Extract source fresh path cuts free_after) meta (Some page) second
 change_keeps (Extract source fresh path cuts free_after) meta None second third h allowed = h
 change_keeps (Post parent at inner area) meta (Some page) second third h allowed = h
 change_keeps (Post parent at inner area) meta None second third h allowed = h
+change_keeps (Merge parent keep gone) meta None second third h allowed = h
+change_keeps (Merge parent keep gone) meta (Some above) None third h allowed = h
+change_keeps (Merge parent keep gone) meta (Some above) (Some kept) None h allowed = h
+change_keeps (Merge parent keep gone) meta (Some above) (Some kept) (Some going) h allowed = same_layout meta _ h refl refl refl refl refl refl
 change_keeps (Grow fresh free_after) meta o second third h allowed = record {
   some_attributes = h.some_attributes;
   few_attributes = h.few_attributes;
@@ -75,13 +80,15 @@ change_keeps (Grow fresh free_after) meta o second third h allowed = record {
 pub operations_keep_layout : OperationsKeepLayout
 operations_keep_layout s op layout allowed = change_keeps op s.meta (nth_read s op 0) (nth_read s op 1) (nth_read s op 2) layout allowed
 
-pub operations_keep_sound : PutStaysSound → DelStaysSound → SplitsKeepSound → PostingsKeepSound → GrowthKeepsSound → OperationsKeepSound
-operations_keep_sound puts dels splits posts grows s (Put id rec) sound layout has allowed licensed = puts s id rec sound has allowed
-operations_keep_sound puts dels splits posts grows s (Del id point) sound layout has allowed licensed = dels s id point sound has allowed
-operations_keep_sound puts dels splits posts grows s (Extract source fresh path cuts free_after) sound layout has allowed licensed = splits s source fresh path cuts free_after sound allowed licensed
-operations_keep_sound puts dels splits posts grows s (Post parent at inner area) sound layout has allowed licensed =
+pub operations_keep_sound : PutStaysSound → DelStaysSound → SplitsKeepSound → PostingsKeepSound → MergesKeepSound → GrowthKeepsSound → OperationsKeepSound
+operations_keep_sound puts dels splits posts merges grows s (Put id rec) sound layout has allowed licensed = puts s id rec sound has allowed
+operations_keep_sound puts dels splits posts merges grows s (Del id point) sound layout has allowed licensed = dels s id point sound has allowed
+operations_keep_sound puts dels splits posts merges grows s (Extract source fresh path cuts free_after) sound layout has allowed licensed = splits s source fresh path cuts free_after sound allowed licensed
+operations_keep_sound puts dels splits posts merges grows s (Post parent at inner area) sound layout has allowed licensed =
     posts s parent at inner area (may_be_done s (Post parent at inner area) sound layout has allowed licensed)
-operations_keep_sound puts dels splits posts grows s (Grow fresh free_after) sound layout has allowed licensed =
+operations_keep_sound puts dels splits posts merges grows s (Merge parent keep gone) sound layout has allowed licensed =
+    merges s parent keep gone (may_be_done s (Merge parent keep gone) sound layout has allowed licensed)
+operations_keep_sound puts dels splits posts merges grows s (Grow fresh free_after) sound layout has allowed licensed =
     grows s fresh free_after sound (let least = layout.icap_least in omega (arith, least)) allowed licensed
 
 -- a leaf of a page is at points of the file alone
@@ -97,17 +104,19 @@ point_there trees boxes points s id page p x sound layout live at attributes =
     }
 
 module _ (trees : TreeLaws) (boxes : PagesHaveBoxes) (points : (a : Area) (p : List ℕ) → IsArea a → Holds a p → IsPoint p) where
-  pub operations_keep_contents : PutsAddOne → DelsTakeOne → SplitsKeepContents → PostingsKeepContents → GrowthKeepsContents → OperationsKeepContents
-  operations_keep_contents puts dels splits posts grows s (Put id rec) sound layout has allowed licensed =
+  pub operations_keep_contents : PutsAddOne → DelsTakeOne → SplitsKeepContents → PostingsKeepContents → MergesKeepContents → GrowthKeepsContents → OperationsKeepContents
+  operations_keep_contents puts dels splits posts merges grows s (Put id rec) sound layout has allowed licensed =
       let on = put_on id rec s.meta (live_page s id) (live_page s 0) (live_page s 0) allowed in
       let absent = on.2.absent in
       puts s id rec sound (point_there trees boxes points s id on.0 rec.key (placed (Records absent.records) absent.area) sound layout on.1 absent.leaf has) allowed
-  operations_keep_contents puts dels splits posts grows s (Del id point) sound layout has allowed licensed =
+  operations_keep_contents puts dels splits posts merges grows s (Del id point) sound layout has allowed licensed =
       let on = del_on id point s.meta (live_page s id) (live_page s 0) (live_page s 0) allowed in
       let there = on.2.there in
       dels s id point sound (point_there trees boxes points s id on.0 point (placed (Records there.records) there.area) sound layout on.1 there.leaf has) allowed
-  operations_keep_contents puts dels splits posts grows s (Extract source fresh path cuts free_after) sound layout has allowed licensed =
+  operations_keep_contents puts dels splits posts merges grows s (Extract source fresh path cuts free_after) sound layout has allowed licensed =
       splits s source fresh path cuts free_after sound layout.few_attributes allowed licensed
-  operations_keep_contents puts dels splits posts grows s (Post parent at inner area) sound layout has allowed licensed =
+  operations_keep_contents puts dels splits posts merges grows s (Post parent at inner area) sound layout has allowed licensed =
       posts s parent at inner area (may_be_done s (Post parent at inner area) sound layout has allowed licensed)
-  operations_keep_contents puts dels splits posts grows s (Grow fresh free_after) sound layout has allowed licensed = grows s fresh free_after sound allowed licensed
+  operations_keep_contents puts dels splits posts merges grows s (Merge parent keep gone) sound layout has allowed licensed =
+      merges s parent keep gone (may_be_done s (Merge parent keep gone) sound layout has allowed licensed)
+  operations_keep_contents puts dels splits posts merges grows s (Grow fresh free_after) sound layout has allowed licensed = grows s fresh free_after sound allowed licensed

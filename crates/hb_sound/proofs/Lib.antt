@@ -40,6 +40,15 @@ pub mod GrowthSteps
 pub mod PostedPage
 pub mod OneChanged
 pub mod PostSound
+pub mod MergedPages
+pub mod MergedLeaves
+pub mod UnnamedPages
+pub mod MergedFile
+pub mod MergeSound
+pub mod DoneMerges
+pub mod MergeDirect
+pub mod MergeContents
+pub mod MergeNames
 pub mod EachOperation
 mod NoneBroken
 mod Flagged

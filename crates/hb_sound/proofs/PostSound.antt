@@ -33,7 +33,7 @@ use Rattle.std.proofs.lemmas.Option.{same_Some}
 use Rattle.hb_space.proofs.Facts.Boxes.{Holds-within, hi_held, lo_held}
 
 -- the same box and sibling leaves directly hold the same points
-direct_again : (was now : LivePage) (p : List ℕ) → now.area ≡ was.area → siblings_of now ≡ siblings_of was → DirectlyHolds was p → DirectlyHolds now p
+pub direct_again : (was now : LivePage) (p : List ℕ) → now.area ≡ was.area → siblings_of now ≡ siblings_of was → DirectlyHolds was p → DirectlyHolds now p
 direct_again was now p area siblings h = record {
   inside = subst (λ (a : Area). Holds a p) (sym area) h.inside;
   not_given = subst (λ (ss : List (ℕ × Area)). All (λ x. ¬ (Holds x.1 p)) ss) (sym siblings) h.not_given;
@@ -44,7 +44,7 @@ post_on : (parent : ℕ) (at : List Side) (inner : ℕ) (area : Area) (meta : Me
 post_on parent at inner area meta None second third h = absurd h
 post_on parent at inner area meta (Some page) second third h = (page, refl, h)
 
-within_by_corners : (a b : Area) → IsArea a → Holds b a.lo → Holds b a.hi → Within a b
+pub within_by_corners : (a b : Area) → IsArea a → Holds b a.lo → Holds b a.hi → Within a b
 within_by_corners a b h low high i lt = ((low.between i lt).0, (high.between i (omega (arith, h.same, lt))).1)
 
 child_name : (o : Option (Tree × Area)) (a b : ℕ) (x y : Area) → o ≡ Some (Tip (Child a), x) → o ≡ Some (Tip (Child b), y) → a ≡ b

@@ -38,7 +38,7 @@ pub record PostLaws : Type 0 where
   pub common : (a b : Area) (p : List ℕ) → IsArea a → IsArea b → length a.lo ≡ length b.lo → Holds (common_area a b) p ↔ (Holds a p × Holds b p)
 
 -- a leaf above the ground that keeps another one's says the same
-kept_same : (level : ℕ) → 0 < level → (a b : Leaf) → BelongsAt level a → KeepsLeaf a b → b ≡ a
+pub kept_same : (level : ℕ) → 0 < level → (a b : Leaf) → BelongsAt level a → KeepsLeaf a b → b ≡ a
 kept_same level above (Records records) b on kept = absurd (omega (arith, above, on))
 kept_same level above (Child page) (Records others) on kept = absurd kept
 kept_same level above (Child page) (Child other) on kept = ap Child (sym kept)
@@ -47,11 +47,11 @@ kept_same level above (Sibling page) (Records others) on kept = absurd kept
 kept_same level above (Sibling page) (Child other) on kept = absurd kept
 kept_same level above (Sibling page) (Sibling other) on kept = ap Sibling (sym kept)
 
-some_of : (o : Option Placed) → IsSome o → (x : Placed) × (o ≡ Some x)
+pub some_of : (o : Option Placed) → IsSome o → (x : Placed) × (o ≡ Some x)
 some_of None is = absurd (let no : ⊥ = cc in no)
 some_of (Some x) is = (x, refl)
 
-same_first : (o : Option Placed) (x y : Placed) → o ≡ Some x → o ≡ Some y → x ≡ y
+pub same_first : (o : Option Placed) (x y : Placed) → o ≡ Some x → o ≡ Some y → x ≡ y
 same_first o x y e f = cc
 
 siblings-between : (front middle other behind : List Placed) → siblings middle ≡ siblings other → siblings ((front ++ middle) ++ behind) ≡ siblings ((front ++ other) ++ behind)
@@ -68,7 +68,7 @@ lone_names_none (Cut axis value left right) n lone has = absurd lone
 lone_names_none (Tip (Sibling page)) n lone (zero, lt, e) = let no : ⊥ = cc in no
 lone_names_none (Tip (Sibling page)) n lone (suc k, lt, e) = absurd (omega arith)
 
-capacity_above : (level dcap icap : ℕ) → 0 < level → capacity_of level dcap icap ≡ icap
+pub capacity_above : (level dcap icap : ℕ) → 0 < level → capacity_of level dcap icap ≡ icap
 capacity_above level dcap icap above = ap (λ (b : Bool). cond b dcap icap) (ne_eqb level 0 (λ e. absurd (omega (arith, above, e))))
 
 module _ (trees : TreeLaws) (laws : PostLaws) (meta : Meta) (page : LivePage) (at : List Side) (inner : ℕ) (area : Area) (page_box : IsArea page.area) (area_box : IsArea area) (attributes : length area.lo ≡ meta.k) (fits : FitsPost meta page at inner area) where

@@ -72,7 +72,7 @@ in_page (q ∷ rest) r has = elim (Contains-append_cases (page_records q) (flat_
 ]
 
 -- of a leaf there
-in_leaf : (t : Tree) (area : Area) (r : Record) → Contains (flat_map records_of (leaves t)) r → (x : Placed) × Contains (leaves_of t area) x × Contains (records_of x.leaf) r
+pub in_leaf : (t : Tree) (area : Area) (r : Record) → Contains (flat_map records_of (leaves t)) r → (x : Placed) × Contains (leaves_of t area) x × Contains (records_of x.leaf) r
 in_leaf (Tip leaf) area r has = elim (Contains-append_cases (records_of leaf) [] r has) [
   | inl l ↦ (placed leaf area, (zero, omega arith, refl), l)
   | inr none ↦ absurd (omega (arith, none.1))

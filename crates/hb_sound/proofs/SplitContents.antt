@@ -30,10 +30,10 @@ use Rattle.hb_sound.proofs.Widths.{width, width_between}
 use Rattle.hb_space.proofs.Facts.PointOrder.{exact_points}
 
 -- a record of a leaf of a page is one of the file
-in_file : (s : FileState) (id : ℕ) (page : LivePage) (r : Record) → live_page s id ≡ Some page → page.level ≡ 0 → AmongLeaves (leaves_of page.frag page.area) r → HasRecord s r
+pub in_file : (s : FileState) (id : ℕ) (page : LivePage) (r : Record) → live_page s id ≡ Some page → page.level ≡ 0 → AmongLeaves (leaves_of page.frag page.area) r → HasRecord s r
 in_file s id page r live level w = record { id = id; page = page; live = live; level = level; leaf = w.leaf; there = w.there; among = w.among }
 
-among_of : (s : FileState) (r : Record) (h : HasRecord s r) → AmongLeaves (leaves_of h.page.frag h.page.area) r
+pub among_of : (s : FileState) (r : Record) (h : HasRecord s r) → AmongLeaves (leaves_of h.page.frag h.page.area) r
 among_of s r h = record { leaf = h.leaf; there = h.there; among = h.among }
 
 module _ (s : FileState) (x : Extraction) (pages : List Page) (page source fresh : LivePage) (allocates : Allocates s.meta x.fresh x.free_after) (parted : IsParted s (record { meta = allocated s.meta x.fresh x.free_after; pages = pages }) x page source fresh) (parts : ArePartsOf s.meta x.fresh page source fresh) (share : ShareRecords page source fresh) where
@@ -91,7 +91,7 @@ module _ (trees : TreeLaws) (space : SpaceLaws) (points : (a : Area) (p : List �
       let w = contents_stand s q body e in
       ap (finite.get (contents_of t)) (sym w.key) ∙ has_body t w.rec sound some few (stays w.rec w.has) ∙ ap (λ (b : List ℕ). Some b) w.value
 
-  same_contents : (s t : FileState) → IsSound s → IsSound t → 1 ≤ s.meta.k → s.meta.k ≤ KMAX → t.meta.k ≡ s.meta.k → ((r : Record) → HasRecord s r → HasRecord t r) → ((r : Record) → HasRecord t r → HasRecord s r) → contents_of t ≡ contents_of s
+  pub same_contents : (s t : FileState) → IsSound s → IsSound t → 1 ≤ s.meta.k → s.meta.k ≤ KMAX → t.meta.k ≡ s.meta.k → ((r : Record) → HasRecord s r → HasRecord t r) → ((r : Record) → HasRecord t r → HasRecord s r) → contents_of t ≡ contents_of s
   same_contents s t sound sound' some few k stays was = finite.same_map nat_list_cmp_total exact_points (contents_of t) (contents_of s) (λ q.
       same_options (finite.get (contents_of t) q) (finite.get (contents_of s) q)
       (body_stays t s sound some few was q)

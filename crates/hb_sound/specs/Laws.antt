@@ -1,12 +1,12 @@
 -- What every sound file has, as laws, and what a fully posted one has, in which nothing is late to be posted.
-use Rattle.std.specs.Prelude.{◌≡◌, ◌↔◌, ℕ, ◌<◌, ◌≤◌, List, All, Contains, length, IsSome, Some, None, ◌⊎◌, ◌+◌, []}
+use Rattle.std.specs.Prelude.{◌≡◌, ◌↔◌, ℕ, ◌<◌, ◌≤◌, List, All, Contains, length, IsSome, Some, None, ◌+◌}
 use Rattle.std.specs.FinMap as finite
 use Rattle.hb_space.specs.declared.form.TheConstants.{KMAX}
 use Rattle.hb_space.specs.declared.records.Record.{Record}
-use Rattle.hb_space.specs.Boxes.{Area, IsArea, Holds, Within, whole_area, Meets}
+use Rattle.hb_space.specs.Boxes.{Area, IsArea, Holds, Within, whole_area}
 use Rattle.hb_space.specs.Points.{IsPoint}
 use Rattle.hb_frag.specs.declared.pages.LivePage.{LivePage}
-use Rattle.hb_frag.specs.Leaves.{IsWellCut, Placed, first_at, leaves_of, DirectlyCovers, siblings_of}
+use Rattle.hb_frag.specs.Leaves.{IsWellCut, Placed, first_at, leaves_of, DirectlyCovers}
 use Rattle.hb_frag.specs.Trees.{Tree}
 use Rattle.hb_ops.specs.declared.operations.Op.TheVariants.{Put, Del}
 use Rattle.hb_ops.specs.Files.{FileState, live_page, contents_of}
@@ -16,7 +16,6 @@ use Rattle.hb_ops.specs.Sound.{IsSound}
 use Rattle.hb_ops.specs.Settled.{HasChild, HasLoneRoot, IsSettled}
 use Rattle.hb_ops.specs.Standing.{StandsThere, StandsNot}
 use Rattle.hb_sound.specs.PointWalks.{IsPointOf, HasOn, HasWalk, IsResponsible, IsWholeWalk, LeadsFurther, LeadsOn}
-use Rattle.hb_frag.specs.declared.leaves.Leaf.TheVariants.{Child}
 
 -- what the laws of trees say, and those of the space, from which the others follow
 pub record TreeLaws : Type 0 where

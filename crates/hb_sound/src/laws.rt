@@ -3,15 +3,16 @@
 
 ghost use Rattle.hb_sound.specs.Laws.{DelsTakeOne, EachPageHasWalks, EachPointIsHeld, LackIsContents, NoPointIsHeldTwice, PagesHaveBoxes, PutsAddOne, RecordsAreAtHome, RootHasWalks, SpaceLaws, StandingIsContents, StepsLeadFurther, TreeLaws, WalksAreOne, NoOtherParent, FullyPostedWalksAreShort};
 ghost use Rattle.hb_sound.specs.LawsOfOperations.{GrowthChangesOne, GrowthKeepsContents, GrowthKeepsDirect, GrowthKeepsSound, OperationsKeepContents, OperationsKeepLayout, OperationsKeepSound, SplitsChangeTwo, SplitsKeepContents, SplitsKeepSound, SplitsPartDirect};
+ghost use Rattle.hb_sound.specs.LawsOfMerges.{FreePagesAreNotNamed, MergesChangeThree, MergesJoinDirect, MergesKeepContents, MergesKeepSound, MergesRename};
 ghost use Rattle.hb_sound.specs.LawsOfPostings.{PostingsChangeParent, PostingsKeepContents, PostingsKeepDirect, PostingsKeepSound, PostingsName};
 
 use hb_frag::laws::{
     carving_parts_a_leaf, each_point_has_one_leaf, leaves_part_the_box, normal_says_the_same,
-    parts_are_stretches,
+    parts_are_stretches, renaming_changes_names_alone, ways_lead_to_siblings,
 };
 use hb_ops::{
-    delete_takes_one_record, put_adds_one_record, puts_and_deletes_keep_a_file_sound,
-    what_stands_is_in_the_contents,
+    changed_pages_are_well_made, delete_takes_one_record, put_adds_one_record,
+    puts_and_deletes_keep_a_file_sound, what_stands_is_in_the_contents,
 };
 use hb_space::laws::{common_box_is_a_box, held_is_a_point, whole_space_holds_every_point};
 
@@ -137,6 +138,32 @@ pub fn a_posting_keeps_a_file_sound()
     common_box_is_a_box();
 }
 
+/// A merge makes one page of two: the page to keep takes over what the page to go has, the parent's
+/// leaves to the page to go name the page to keep, and the number of the page to go is free. Where it
+/// is allowed, a sound file stays sound, and its contents stay as they are. What either of the two
+/// pages directly held, the page to keep directly holds afterwards. No page changes but these three.
+pub fn a_merge_keeps_a_file_sound()
+    ensures sound { MergesKeepSound }
+    ensures contents { MergesKeepContents }
+    ensures direct { MergesJoinDirect }
+    ensures pages { MergesChangeThree }
+    ensures names { MergesRename }
+{
+    trees_and_space();
+    parts_are_stretches();
+    normal_says_the_same();
+    ways_lead_to_siblings();
+    renaming_changes_names_alone();
+    held_is_a_point();
+    what_stands_is_in_the_contents();
+    changed_pages_are_well_made();
+}
+
+/// No leaf of a sound file names a page that isn't in use.
+pub fn free_pages_are_not_named()
+    ensures { FreePagesAreNotNamed }
+{}
+
 /// A growth gives a file one level more: a page of the whole space, one level above the old root and
 /// with a child leaf to it alone, becomes the root. Where it is allowed and licensed, a sound file stays
 /// sound, and its contents stay as they are. On the levels of before each page directly holds what it
@@ -151,8 +178,8 @@ pub fn growing_keeps_a_file_sound()
 }
 
 /// Whatever operation is allowed and licensed, a sound file of a legal layout stays sound, and its
-/// layout legal. A put adds one record to its contents, a delete takes one away, and a split, a posting
-/// and a growth leave them as they are.
+/// layout legal. A put adds one record to its contents, a delete takes one away, and a split, a
+/// posting, a merge and a growth leave them as they are.
 pub fn operations_keep_a_file_sound()
     ensures sound { OperationsKeepSound }
     ensures layout { OperationsKeepLayout }
@@ -165,5 +192,6 @@ pub fn operations_keep_a_file_sound()
     puts_and_deletes_change_one_record();
     a_split_keeps_a_file_sound();
     a_posting_keeps_a_file_sound();
+    a_merge_keeps_a_file_sound();
     growing_keeps_a_file_sound();
 }

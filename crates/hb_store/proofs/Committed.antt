@@ -159,7 +159,7 @@ module _ (st new : StoreState) (op : Op) (mark : ℕ) (well : MakesWell op st) (
     ]
 
     reads : All (λ id. IsSome (in_memory st id)) (reads_of op)
-    reads = reads_some op st.meta (in_memory st) (read_here st op 1) (read_here st op 2) allowed
+    reads = reads_some op st.meta (in_memory st) allowed
 
     -- what the operation reads is the same in memory, among the touched pages, and in the file
     read_touched : (place : ℕ) → read_here st op place ≡ touched_read (with_page_images t logged) op place

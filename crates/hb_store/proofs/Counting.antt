@@ -19,7 +19,7 @@ HasCount s = length s.pages ≡ s.meta.high
 module _ (s : FileState) (op : Op) (counted : HasCount s) (allowed : IsAllowed s op) where
   read_inside : All (IsPageOf s.meta) (reads_of op)
   read_inside = λ i d lt.
-      let there = some_value (page_of s (get_or (reads_of op) i d)) (reads_some op s.meta (page_of s) (nth_read s op 1) (nth_read s op 2) allowed i d lt) in
+      let there = some_value (page_of s (get_or (reads_of op) i d)) (reads_some op s.meta (page_of s) allowed i d lt) in
       let range = page_in_range s.pages (get_or (reads_of op) i d) there.0 there.1 in
       (range.0, omega (arith, range.1, counted))
 

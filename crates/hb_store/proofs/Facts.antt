@@ -8,6 +8,7 @@ pub mod FilePages
 pub mod MadeLeaves
 pub mod MadeMeta
 pub mod MadePages
+pub mod MadeMerges
 pub mod Changed
 pub mod LookLaws
 pub mod BadGroups

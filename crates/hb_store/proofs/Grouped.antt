@@ -5,13 +5,14 @@ use Rattle.std.specs.Result.{IfOk, OnOk}
 use Rattle.std.proofs.lemmas.List.{length-append}
 use Rattle.std.proofs.lemmas.List.Elements.{All-append, All-cons, All-head, All-nil, All-tail}
 use Rattle.std.proofs.lemmas.List.Kept.{AllPairs-cons}
+use Rattle.hb_frag.specs.declared.pages.LivePage.{LivePage}
 use Rattle.hb_frag.specs.declared.pages.Page.{Page}
 use Rattle.hb_frag.specs.declared.pages.Page.TheVariants.{Live, Free}
 use Rattle.hb_frag.specs.Grammar.{HasSpelling}
 use Rattle.hb_layout.specs.declared.meta.Meta.{Meta}
 use Rattle.hb_ops.specs.declared.operations.Op.{Op}
-use Rattle.hb_ops.specs.declared.operations.Op.TheVariants.{Put, Del, Extract, Post, Grow}
-use Rattle.hb_ops.specs.Operations.{reads_of}
+use Rattle.hb_ops.specs.declared.operations.Op.TheVariants.{Put, Del, Extract, Post, Merge, Grow}
+use Rattle.hb_ops.specs.Operations.{IsAllowedOn, reads_of}
 use Rattle.hb_log_codec.specs.Groups.{FitsGroup, FitsPageImage, FitsOp}
 use Rattle.hb_store.specs.States.{AreGood, IsGoodPage, IsStanding}
 use Rattle.hb_store.specs.Making.{page_image_needed, page_images_needed}
@@ -69,26 +70,40 @@ few_reads (Put page rec) = omega arith
 few_reads (Del page point) = omega arith
 few_reads (Extract source fresh path cuts free_after) = omega arith
 few_reads (Post parent at inner area) = omega arith
+few_reads (Merge parent keep gone) = omega arith
 few_reads (Grow fresh free_after) = omega arith
 
-pub distinct_reads : (op : Op) → AllPairs (λ i j. i ≢ j) (reads_of op)
-distinct_reads (Put page rec) = λ i j d lt in_range. absurd (omega (arith, lt, in_range))
-distinct_reads (Del page point) = λ i j d lt in_range. absurd (omega (arith, lt, in_range))
-distinct_reads (Extract source fresh path cuts free_after) = λ i j d lt in_range. absurd (omega (arith, lt, in_range))
-distinct_reads (Post parent at inner area) = λ i j d lt in_range. absurd (omega (arith, lt, in_range))
-distinct_reads (Grow fresh free_after) = λ i j d lt in_range. absurd (omega (arith, in_range))
+one_apart : (id : ℕ) → AllPairs (λ i j. i ≢ j) (id ∷ [])
+one_apart id = λ i j d lt in_range. absurd (omega (arith, lt, in_range))
+
+three_apart : (a b c : ℕ) → a ≢ b → a ≢ c → b ≢ c → AllPairs (λ i j. i ≢ j) (a ∷ b ∷ c ∷ [])
+three_apart a b c ab ac bc =
+    let R : ℕ → ℕ → Type 0 = λ i j. i ≢ j in
+    AllPairs-cons R a (b ∷ c ∷ []) (All-cons (R a) b (c ∷ []) ab (All-cons (R a) c [] ac (All-nil (R a))))
+    (AllPairs-cons R b (c ∷ []) (All-cons (R b) c [] bc (All-nil (R b))) (one_apart c))
+
+pub distinct_reads : (op : Op) (meta : Meta) (first second third : Option LivePage) → IsAllowedOn op meta first second third → AllPairs (λ i j. i ≢ j) (reads_of op)
+distinct_reads (Put page rec) meta first second third allowed = one_apart page
+distinct_reads (Del page point) meta first second third allowed = one_apart page
+distinct_reads (Extract source fresh path cuts free_after) meta first second third allowed = one_apart source
+distinct_reads (Post parent at inner area) meta first second third allowed = one_apart parent
+distinct_reads (Merge parent keep gone) meta None second third allowed = absurd allowed
+distinct_reads (Merge parent keep gone) meta (Some above) None third allowed = absurd allowed
+distinct_reads (Merge parent keep gone) meta (Some above) (Some kept) None allowed = absurd allowed
+distinct_reads (Merge parent keep gone) meta (Some above) (Some kept) (Some going) allowed = three_apart parent keep gone allowed.others.0 allowed.others.1 allowed.two
+distinct_reads (Grow fresh free_after) meta first second third allowed = λ i j d lt in_range. absurd (omega (arith, in_range))
 
 small_high : (turn : ℕ) (meta : Meta) → IsStanding turn meta → meta.high < 2 ^ 32
 small_high turn meta h = omega (arith, h.high, h.layout.few_pages)
 
-pub fits_group : (P : ℕ → Option Page) (I : ℕ → Bool) (turn : ℕ) (meta : Meta) (op : Op) → IsStanding turn meta → AreGood meta P → FitsOp meta.k op
+pub fits_group : (P : ℕ → Option Page) (I : ℕ → Bool) (turn : ℕ) (meta : Meta) (op : Op) (first second third : Option LivePage) → IsStanding turn meta → AreGood meta P → IsAllowedOn op meta first second third → FitsOp meta.k op
     → FitsGroup meta.k (record { images = page_images_needed P I (reads_of op); op = op })
-fits_group P I turn meta op stands good fits = record {
+fits_group P I turn meta op first second third stands good allowed fits = record {
   few = omega (arith, few_needed P I (reads_of op), few_reads op);
   images = all_needed P I FitsPageImage (reads_of op) (λ k d lt page e.
       let h = good (get_or (reads_of op) k d) page e in
       record { number = omega (arith, h.1, small_high turn meta stands); page = good_spelled meta page h.2 });
-  distinct = distinct_needed P I (reads_of op) (distinct_reads op);
+  distinct = distinct_needed P I (reads_of op) (distinct_reads op meta first second third allowed);
   op = fits;
 }
 

@@ -1,12 +1,12 @@
 -- What groups make of a file is what they make of its touched pages.
-use Rattle.std.proofs.Common.{◌≡◌, ◌≢◌, inl, inr, ℕ, ◌==◌, true, false, cond, List, [], ◌∷◌, get_or, All, Option, Some, None, IsSome, refl, sym, ap, ◌∙◌, subst}
+use Rattle.std.proofs.Common.{◌≡◌, ◌≢◌, inl, inr, ℕ, ◌<◌, ◌==◌, true, false, cond, List, [], ◌∷◌, length, get_or, All, Option, Some, None, IsSome, refl, sym, ap, ◌∙◌, subst, arith}
 use Rattle.std.proofs.lemmas.Bool.{cases_Bool, eqb-true, eqb-false}
 use Rattle.std.proofs.lemmas.List.Elements.{All-head, All-tail}
 use Rattle.hb_frag.specs.declared.pages.LivePage.{LivePage}
 use Rattle.hb_frag.specs.declared.pages.Page.{Page}
 use Rattle.hb_layout.specs.declared.meta.Meta.{Meta}
 use Rattle.hb_ops.specs.declared.operations.Op.{Op}
-use Rattle.hb_ops.specs.declared.operations.Op.TheVariants.{Put, Del, Extract, Post, Grow}
+use Rattle.hb_ops.specs.declared.operations.Op.TheVariants.{Put, Del, Extract, Post, Merge, Grow}
 use Rattle.hb_ops.specs.Files.{FileState, if_live, page_of}
 use Rattle.hb_ops.specs.Operations.{Change, IsAllowed, change_of, effect_of, nth_read, reads_of}
 use Rattle.hb_log_codec.specs.Groups.{Logged}
@@ -17,7 +17,7 @@ use Rattle.hb_store.specs.Keeps.{last_of}
 use Rattle.hb_store.specs.Parts.{ArePageImagesOf, Leads}
 use Rattle.hb_store.proofs.Counting.{HasCount, effect_count, effect_reaches}
 use Rattle.hb_store.proofs.Facts.FilePages.{pages_set}
-use Rattle.hb_ops.proofs.Facts.AllowedOps.{reads_some}
+use Rattle.hb_ops.proofs.Facts.AllowedOps.{reads_some, same_change}
 use Rattle.hb_store.proofs.Touches.{change_by_first}
 use Rattle.hb_lemmas.proofs.Options.{some_value}
 
@@ -72,26 +72,28 @@ module _ (bytes : List ℕ) (said : Meta) where
         touched.1 ∙ ap (λ (p : Page). Some p) same ∙ sym page.1
 
     touched_some : All (λ id. IsSome (t.page id)) (reads_of op)
-    touched_some = reads_some op t.meta t.page (touched_read t op 1) (touched_read t op 2) may
+    touched_some = reads_some op t.meta t.page may
 
     file_some : All (λ id. IsSome (page_of s id)) (reads_of op)
-    file_some = reads_some op s.meta (page_of s) (nth_read s op 1) (nth_read s op 2) allowed
+    file_some = reads_some op s.meta (page_of s) allowed
 
     -- and so changes the same
     abbrev in_file : Change
     in_file = change_of op s.meta (nth_read s op 0) (nth_read s op 1) (nth_read s op 2)
 
-    by_first : touched_read t op 0 ≡ nth_read s op 0 → change_in t op ≡ in_file
-    by_first e =
-        ap (λ (m : Meta). change_of op m (touched_read t op 0) (touched_read t op 1) (touched_read t op 2)) (sym shows.meta)
-        ∙ ap (λ (o : Option LivePage). change_of op s.meta o (touched_read t op 1) (touched_read t op 2)) e
-        ∙ change_by_first op s.meta (nth_read s op 0) (touched_read t op 1) (touched_read t op 2) (nth_read s op 1) (nth_read s op 2)
+    -- the pages that it reads are the same in both
+    same_read : (place : ℕ) → place < length (reads_of op) → touched_read t op place ≡ nth_read s op place
+    same_read place lt = ap if_live (same_page (get_or (reads_of op) place 0) (touched_some place 0 lt) (file_some place 0 lt))
 
-    by_read : (id : ℕ) → reads_of op ≡ id ∷ [] → change_in t op ≡ in_file
-    by_read id is =
-        let here : IsSome (t.page id) = All-head (λ (n : ℕ). IsSome (t.page n)) id [] (subst (λ (ids : List ℕ). All (λ n. IsSome (t.page n)) ids) is touched_some) in
-        let there : IsSome (page_of s id) = All-head (λ (n : ℕ). IsSome (page_of s n)) id [] (subst (λ (ids : List ℕ). All (λ n. IsSome (page_of s n)) ids) is file_some) in
-        by_first (subst (λ (ids : List ℕ). if_live (t.page (get_or ids 0 0)) ≡ if_live (page_of s (get_or ids 0 0))) (sym is) (ap if_live (same_page id here there)))
+    by_first : 1 ≡ length (reads_of op) → change_in t op ≡ in_file
+    by_first one =
+        ap (λ (m : Meta). change_of op m (touched_read t op 0) (touched_read t op 1) (touched_read t op 2)) (sym shows.meta)
+        ∙ ap (λ (o : Option LivePage). change_of op s.meta o (touched_read t op 1) (touched_read t op 2)) (same_read 0 (omega (arith, one)))
+        ∙ change_by_first op s.meta (nth_read s op 0) (touched_read t op 1) (touched_read t op 2) (nth_read s op 1) (nth_read s op 2) (omega (arith, one))
+
+    by_three : 3 ≡ length (reads_of op) → change_in t op ≡ in_file
+    by_three three =
+        same_change op t.meta s.meta _ _ _ _ _ _ (sym shows.meta) (same_read 0 (omega (arith, three))) (same_read 1 (omega (arith, three))) (same_read 2 (omega (arith, three)))
 
     shows_change : change_in t op ≡ in_file → Shows bytes said (after_op t op) (effect_of s op)
     shows_change same =
@@ -106,11 +108,12 @@ module _ (bytes : List ℕ) (said : Meta) where
         }
 
   shows_op : (t : Replayed) (s : FileState) (op : Op) → Shows bytes said t s → IsAllowedIn t op → IsAllowed s op → Shows bytes said (after_op t op) (effect_of s op)
-  shows_op t s (Put id rec) shows may allowed = let op = Put id rec in shows_change t s op shows may allowed (by_read t s op shows may allowed id refl)
-  shows_op t s (Del id point) shows may allowed = let op = Del id point in shows_change t s op shows may allowed (by_read t s op shows may allowed id refl)
+  shows_op t s (Put id rec) shows may allowed = let op = Put id rec in shows_change t s op shows may allowed (by_first t s op shows may allowed refl)
+  shows_op t s (Del id point) shows may allowed = let op = Del id point in shows_change t s op shows may allowed (by_first t s op shows may allowed refl)
   shows_op t s (Extract source fresh path cuts free_after) shows may allowed =
-      let op = Extract source fresh path cuts free_after in shows_change t s op shows may allowed (by_read t s op shows may allowed source refl)
-  shows_op t s (Post parent at inner area) shows may allowed = let op = Post parent at inner area in shows_change t s op shows may allowed (by_read t s op shows may allowed parent refl)
+      let op = Extract source fresh path cuts free_after in shows_change t s op shows may allowed (by_first t s op shows may allowed refl)
+  shows_op t s (Post parent at inner area) shows may allowed = let op = Post parent at inner area in shows_change t s op shows may allowed (by_first t s op shows may allowed refl)
+  shows_op t s (Merge parent keep gone) shows may allowed = let op = Merge parent keep gone in shows_change t s op shows may allowed (by_three t s op shows may allowed refl)
   shows_op t s (Grow fresh free_after) shows may allowed =
       let op = Grow fresh free_after in shows_change t s op shows may allowed (ap (λ (m : Meta). change_of op m None None None) (sym shows.meta))
 

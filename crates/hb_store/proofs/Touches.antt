@@ -1,5 +1,5 @@
 -- What images and operations make of touched pages.
-use Rattle.std.proofs.Common.{◌≡◌, ℕ, ◌<◌, true, false, cond, eqb, List, [], ◌∷◌, length, get_or, All, Option, Some, None, Result, Ok, Err, refl, sym, ap, subst, ◌∙◌, arith}
+use Rattle.std.proofs.Common.{◌≡◌, ℕ, ◌<◌, ◌≤◌, true, false, cond, eqb, List, [], ◌∷◌, length, get_or, All, Option, Some, None, Result, Ok, Err, refl, sym, ap, subst, ◌∙◌, arith}
 use Rattle.std.specs.Prelude.{OnErr, OnOk}
 use Rattle.std.specs.List.{remove}
 use Rattle.std.proofs.lemmas.Bool.{eqb-true}
@@ -10,14 +10,13 @@ use Rattle.hb_frag.specs.declared.pages.Page.TheVariants.{Live}
 use Rattle.hb_frag.specs.Grammar.{HasSpelling}
 use Rattle.hb_layout.specs.declared.meta.Meta.{Meta}
 use Rattle.hb_ops.specs.declared.operations.Op.{Op}
-use Rattle.hb_ops.specs.declared.operations.Op.TheVariants.{Put, Del, Extract, Post, Grow}
+use Rattle.hb_ops.specs.declared.operations.Op.TheVariants.{Put, Del, Extract, Post, Merge, Grow}
 use Rattle.hb_ops.specs.Operations.{change_of, reads_of}
 use Rattle.hb_log_codec.specs.Groups.{Logged, FitsGroup, FitsOp}
 use Rattle.hb_store.specs.Replay.{Replayed, with_page_images, IsAllowedIn, MayFollow, after_group, after_op, change_in, touched_read}
 use Rattle.hb_ops.proofs.Facts.PageNumberLaws.{live_so}
 use Rattle.hb_store.specs.Replaying.{AreItsPages, HasLimits, IsPageOf, IsReplayable, ReplaysOn, with_pages}
-use Rattle.hb_store.specs.Making.{IsReadable, MakesGoodPages}
-use Rattle.hb_store.proofs.Grouped.{good_spelled}
+use Rattle.hb_store.specs.Making.{AreReadable, IsReadable, MakesWritablePages}
 use Rattle.hb_store.proofs.Facts.MadeMeta.{comes_after, made_numbered}
 use Rattle.hb_ops.proofs.Facts.AllowedOps.{reads_some}
 use Rattle.hb_store.proofs.Facts.ReplayLists.{all_set}
@@ -48,30 +47,37 @@ set_its (one ∷ rest) t its good =
 pub page_images_its : (t : Replayed) (g : Logged) (k : ℕ) → AreItsPages t → FitsGroup k g → All (λ i. IsPageOf t.meta i.0) g.images → AreItsPages (with_page_images t g)
 page_images_its t g k its fits range = set_its g.images t its (λ i d lt. (range i d lt, (fits.images i d lt).page))
 
--- what an operation reads beside its first page plays no part
-pub change_by_first : (op : Op) (meta : Meta) (first a b c d : Option LivePage) → change_of op meta first a b ≡ change_of op meta first c d
-change_by_first (Put id rec) meta None a b c d = refl
-change_by_first (Put id rec) meta (Some page) a b c d = refl
-change_by_first (Del id point) meta None a b c d = refl
-change_by_first (Del id point) meta (Some page) a b c d = refl
-change_by_first (Extract source fresh path cuts free_after) meta None a b c d = refl
-change_by_first (Extract source fresh path cuts free_after) meta (Some page) a b c d = refl
-change_by_first (Post parent at inner area) meta None a b c d = refl
-change_by_first (Post parent at inner area) meta (Some page) a b c d = refl
-change_by_first (Grow fresh free_after) meta first a b c d = refl
+-- where an operation reads one page, what is given beside it plays no part
+pub change_by_first : (op : Op) (meta : Meta) (first a b c d : Option LivePage) → length (reads_of op) ≤ 1 → change_of op meta first a b ≡ change_of op meta first c d
+change_by_first (Put id rec) meta None a b c d few = refl
+change_by_first (Put id rec) meta (Some page) a b c d few = refl
+change_by_first (Del id point) meta None a b c d few = refl
+change_by_first (Del id point) meta (Some page) a b c d few = refl
+change_by_first (Extract source fresh path cuts free_after) meta None a b c d few = refl
+change_by_first (Extract source fresh path cuts free_after) meta (Some page) a b c d few = refl
+change_by_first (Post parent at inner area) meta None a b c d few = refl
+change_by_first (Post parent at inner area) meta (Some page) a b c d few = refl
+change_by_first (Merge parent keep gone) meta first a b c d few = absurd (omega (arith, few))
+change_by_first (Grow fresh free_after) meta first a b c d few = refl
 
-module _ (makes : MakesGoodPages) where
+module _ (makes : MakesWritablePages) where
+  -- the touched pages that an operation reads can be written
+  touched_readable : (t : Replayed) (op : Op) → AreItsPages t → AreReadable (touched_read t op 0) (touched_read t op 1) (touched_read t op 2)
+  touched_readable t op its = (one 0, one 1, one 2)
+    where
+      one : (place : ℕ) → IsReadable (touched_read t op place)
+      one place page is = let id = get_or (reads_of op) place 0 in (its id (Live page) (live_so (t.page id) page is)).1
+
   op_its : (t : Replayed) (op : Op) → AreItsPages t → HasLimits t.meta → FitsOp t.meta.k op → IsAllowedIn t op → AreItsPages (after_op t op)
   op_its t op its limits fits allowed =
       let change = change_in t op in
       let after = comes_after op t.meta (touched_read t op 0) (touched_read t op 1) (touched_read t op 2) limits fits allowed in
-      let readable : IsReadable (touched_read t op 0) = λ page is. (its (get_or (reads_of op) 0 0) (Live page) (live_so (t.page (get_or (reads_of op) 0 0)) page is)).1 in
-      let good = makes op t.meta (touched_read t op 0) (touched_read t op 1) (touched_read t op 2) limits fits allowed readable in
-      let there = reads_some op t.meta t.page (touched_read t op 1) (touched_read t op 2) allowed in
+      let spelled = makes op t.meta (touched_read t op 0) (touched_read t op 1) (touched_read t op 2) limits fits allowed (touched_readable t op its) in
+      let there = reads_some op t.meta t.page allowed in
       let reads : All (IsPageOf t.meta) (reads_of op) = λ i d lt. let page = some_value (t.page (get_or (reads_of op) i d)) (there i d lt) in (its (get_or (reads_of op) i d) page.0 page.1).0 in
       let numbered = made_numbered op t.meta (touched_read t op 0) (touched_read t op 1) (touched_read t op 2) allowed reads in
       all_set (λ q page. IsPageOf change.meta q × HasSpelling page) change.pages t.page
-      (λ i d lt. (numbered i d lt, good_spelled change.meta (get_or change.pages i d).1 (good i d lt)))
+      (λ i d lt. (numbered i d lt, spelled i d lt))
       (λ q page is. let old = its q page is in ((old.0.0, omega (arith, old.0.1, after.rises)), old.1))
 
   -- what a group leads to

@@ -3,7 +3,7 @@ ghost use Rattle.std.specs.Prelude.{◌≡◌, ◌<◌, ◌≤◌, ◌∷◌, �
 ghost use Rattle.hb_space.specs.declared.form.TheConstants.{GROUP};
 ghost use Rattle.hb_ops.specs.Given.{given as live_given};
 ghost use Rattle.hb_ops.specs.Files.{FileState, if_live};
-ghost use Rattle.hb_ops.specs.Operations.{IsLicensed, OpHas, reads_of};
+ghost use Rattle.hb_ops.specs.Operations.{BoxesMatch, IsLicensed, OpHas, reads_of};
 ghost use Rattle.hb_log_codec.specs.Groups.{FitsGroup, group_bytes};
 ghost use Rattle.hb_store.specs.Keeps.{StoreKeeps, last_of};
 ghost use Rattle.hb_store.specs.Making.{IsDoableHere, MakesWell, group_here};
@@ -30,6 +30,7 @@ impl<D: Device> Store<D> {
         requires ready { IsReady (seen_as self.old) }
         requires points { OpHas (seen_as self.old).meta.k op }
         requires allowed { IsAllowedHere (seen_as self.old) op }
+        requires boxes { BoxesMatch op (read_here (seen_as self.old) op 0) (read_here (seen_as self.old) op 1) (read_here (seen_as self.old) op 2) }
         requires licensed { (durable : FileState) (later : List FileState) → StoreKeeps (D.model self.old.disk) (seen_as self.old) durable later →
             IsLicensed (last_of durable later) op }
         requires marks { All (λ g. g.mark ≤ mark) (seen_as self.old).log.groups }
@@ -50,6 +51,7 @@ impl Memory {
         requires ready { IsReady self.old }
         requires points { OpHas self.old.meta.k op.now }
         requires allowed { IsAllowedHere self.old op.now }
+        requires boxes { BoxesMatch op.now (read_here self.old op.now 0) (read_here self.old op.now 1) (read_here self.old op.now 2) }
         requires marks { All (λ g. g.mark ≤ mark) self.old.log.groups }
         ensures commits { OnOk result (Commits op.now mark self.old self.new) }
         ensures group { OnOk result (self.new.log.groups ≡ self.old.log.groups ++ record { bytes = group_bytes (group_here self.old op.now); mark = mark } ∷ []) }
@@ -108,7 +110,7 @@ impl Memory {
 }
 
 /// The number at a place of those that an operation reads. 0 behind them.
-fn read_at(op: &Op, place: usize) -> u32
+pub(crate) fn read_at(op: &Op, place: usize) -> u32
     ensures { result ≡ get_or (reads_of op.now) place 0 }
 {
     op.reads().get(place).copied().unwrap_or(0)

@@ -61,6 +61,9 @@ fn op_fits(op: &Op)
         Op::Post { parent, inner, .. } => {
             let _numbers = (*parent, *inner);
         }
+        Op::Merge { parent, keep, gone } => {
+            let _numbers = (*parent, *keep, *gone);
+        }
         Op::Grow { fresh, free_after } => {
             let _numbers = (*fresh, *free_after);
         }

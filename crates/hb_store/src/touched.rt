@@ -1,7 +1,6 @@
-ghost use Rattle.std.specs.Prelude.{◌≡◌, ◌<◌, ◌↔◌, [], ◌∷◌, get_or, All, IfOk, IsErrOf, IsTrue, OnOk};
+ghost use Rattle.std.specs.Prelude.{◌≡◌, ◌<◌, ◌↔◌, [], ◌∷◌, All, IfOk, IsErrOf, IsTrue, OnOk};
 ghost use Rattle.hb_ops.specs.Files.{if_live};
 ghost use Rattle.hb_ops.specs.Given.{given};
-ghost use Rattle.hb_ops.specs.Operations.{reads_of};
 ghost use Rattle.hb_log_codec.specs.Groups.{FitsGroup, FitsOp};
 ghost use Rattle.hb_log_codec.specs.Reading.{logged};
 ghost use Rattle.hb_store.specs.Opening.{IsBadPayload};
@@ -9,6 +8,7 @@ ghost use Rattle.hb_store.specs.Replay.{MayFollow, IsAllowedIn, after_group, aft
 ghost use Rattle.hb_store.specs.Replaying.{Follows, HasLimits, IsPageOf, IsReplayable, replayed_of, ReplaysOn, with_pages};
 ghost use Rattle.hb_store.specs.declared.touched.ReplayStop.TheVariants.{Unfit};
 
+use crate::commits::read_at;
 use crate::making::what_is_made_can_be_written;
 use arrayvec::ArrayVec;
 use hb_frag::{LivePage, Page};
@@ -148,8 +148,10 @@ impl Touched {
         ensures effect { IfOk result (λ c. record { meta = c.meta; pages = c.pages.items } ≡ change_in (replayed_of self.now) op.now) }
         ensures unfit { IsErrOf result Unfit → ¬ (IsAllowedIn (replayed_of self.now) op.now) }
     {
-        let page = self.live(page_read(op));
-        Ok(change(alloc, op, &self.meta, page, None, None)?)
+        let first = self.live(read_at(op, 0));
+        let second = self.live(read_at(op, 1));
+        let third = self.live(read_at(op, 2));
+        Ok(change(alloc, op, &self.meta, first, second, third)?)
     }
 
     /// Applies an operation to touched pages.
@@ -202,17 +204,5 @@ impl Touched {
             self.follow(alloc, group)?;
         }
         Ok(())
-    }
-}
-
-/// The number of the page that an operation reads. 0 where it reads none.
-fn page_read(op: &Op) -> u32
-    ensures { result ≡ get_or (reads_of op.now) 0 0 }
-{
-    match op {
-        Op::Put { page, .. } | Op::Del { page, .. } => *page,
-        Op::Extract { source, .. } => *source,
-        Op::Post { parent, .. } => *parent,
-        Op::Grow { .. } => 0,
     }
 }

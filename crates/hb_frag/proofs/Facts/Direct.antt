@@ -1,8 +1,8 @@
 -- What a page directly holds, point by point.
-use Rattle.std.proofs.Common.{◌≡◌, ℕ, zero, suc, ◌<◌, ◌↔◌, List, [], ◌∷◌, length, get_or, sym, ◌∙◌, arith}
+use Rattle.std.proofs.Common.{◌≡◌, ℕ, zero, suc, ◌↔◌, List, [], ◌∷◌, length, get_or, sym, ◌∙◌, arith}
 use Rattle.std.specs.List.{All}
 use Rattle.std.proofs.lemmas.List.Elements.{All-cons}
-use Rattle.hb_space.specs.Boxes.{Area, IsArea, Holds, Within}
+use Rattle.hb_space.specs.Boxes.{Area, IsArea, Holds}
 use Rattle.hb_space.proofs.Facts.Boxes.{Meets-from_point, point_from_meeting, Within-from_points, Holds-within}
 use Rattle.hb_frag.specs.declared.leaves.Leaf.{Leaf}
 use Rattle.hb_frag.specs.declared.leaves.Leaf.TheVariants.{Records, Child, Sibling}

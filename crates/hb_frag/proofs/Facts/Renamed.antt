@@ -1,11 +1,11 @@
 -- A page takes another one's place in child leaves.
-use Rattle.std.proofs.Common.{◌≡◌, ◌↔◌, ℕ, ◌+◌, List, [], ◌∷◌, ◌++◌, map, refl, sym, ap, ◌∙◌}
+use Rattle.std.proofs.Common.{◌≡◌, ℕ, List, [], ◌∷◌, ◌++◌, map, refl, sym, ap, ◌∙◌}
 use Rattle.std.specs.List.{sum}
 use Rattle.hb_space.specs.Boxes.{Area, side_below, side_from}
 use Rattle.hb_frag.specs.declared.leaves.Leaf.{Leaf}
 use Rattle.hb_frag.specs.declared.leaves.Leaf.TheVariants.{Records, Child, Sibling}
 use Rattle.hb_frag.specs.Trees.{Tree, Tip, Cut}
-use Rattle.hb_frag.specs.Leaves.{IsWellCut, Placed, leaf_weight, leaves, leaves_of, siblings, weight_of}
+use Rattle.hb_frag.specs.Leaves.{IsWellCut, Placed, leaf_weight, leaves, leaves_of, siblings}
 use Rattle.hb_frag.specs.Renaming.{Renames, renamed, renamed_leaf, renamed_place}
 
 module _ (old new : ℕ) where

@@ -186,7 +186,7 @@ says_records axis value xs ys =
       );
       weight = let n : length zs ≡ length (xs ++ ys) = length_permutation (xs ++ ys) zs moved in omega (arith, length-append xs ys);
       kinds = λ level h. All-alone (BelongsAt level) (Records zs) (h zero (Records xs) (omega arith));
-      order = λ a h cut k. order_of_both axis value xs ys a h cut.0 k;
+      order = λ a h cut k. order_of_both axis value xs ys a cut.0 k;
     }
 
 says_children : (axis value page : ℕ) → SaysTheSame (Cut axis value (Tip (Child page)) (Tip (Child page))) (Tip (Child page))

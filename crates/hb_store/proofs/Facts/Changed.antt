@@ -9,12 +9,12 @@ use Rattle.hb_layout.specs.declared.meta.Meta.{Meta}
 use Rattle.hb_layout.specs.Offsets.{file_size}
 use Rattle.hb_ops.specs.declared.operations.Op.{Op}
 use Rattle.hb_ops.specs.Files.{if_live}
-use Rattle.hb_ops.specs.Operations.{reads_of}
+use Rattle.hb_ops.specs.Operations.{BoxesMatch, reads_of}
 use Rattle.hb_ops.specs.Sound.{FitsFile}
 use Rattle.hb_log_codec.specs.Groups.{FitsOp}
 use Rattle.hb_store.specs.States.{AreGood, IsGoodPage, IsMemory, IsSameLayout, IsStanding, StoreState, in_memory}
 use Rattle.hb_store.specs.Calls.{IsAllowedHere, change_here, read_here}
-use Rattle.hb_store.specs.Making.{ChangesWell, IsReadable, MakesGoodPages}
+use Rattle.hb_store.specs.Making.{AreReadable, ChangesWell, IsReadable, MakesGoodPages}
 use Rattle.hb_ops.proofs.Facts.PageNumberLaws.{live_so}
 use Rattle.hb_store.specs.Replaying.{ComesAfter, HasLimits, IsPageOf}
 use Rattle.hb_ops.proofs.Facts.AllowedOps.{high_next, reads_some}
@@ -23,7 +23,7 @@ use Rattle.hb_store.proofs.Facts.MadeMeta.{comes_after, made_numbered}
 use Rattle.hb_lemmas.proofs.Options.{some_value}
 
 pub limits_of : (turn : ℕ) (meta : Meta) → IsStanding turn meta → HasLimits meta
-limits_of turn meta stands = record { layout = stands.layout; root_fits = stands.root_fits }
+limits_of turn meta stands = record { layout = stands.layout; root_fits = stands.root_fits; free_fits = stands.free_fits }
 
 pub same_size : (old new : Meta) → IsSameLayout old new → file_size new ≡ file_size old
 same_size old new same = λ i. 2 * PAGE + 2 * same.log i + PAGE * same.pages i
@@ -36,7 +36,7 @@ still_stands turn old new after stands = record {
   high = after.high stands.high;
   live = after.live stands.live;
   root_fits = after.limits.root_fits;
-  free_fits = after.free stands.free_fits;
+  free_fits = after.limits.free_fits;
 }
 
 still_fits : (old new : Meta) → ComesAfter old new → (page : LivePage) → FitsFile old page → FitsFile new page
@@ -59,22 +59,29 @@ still_good old new after (Free next) good = good
 pub good_readable : (meta : Meta) (page_in : ℕ → Option Page) → AreGood meta page_in → (id : ℕ) → IsReadable (if_live (page_in id))
 good_readable meta page_in good id page is = good_spelled meta (Live page) (good id (Live page) (live_so (page_in id) page is)).2
 
+-- so can those that an operation reads
+pub reads_readable : (st : StoreState) → IsMemory st → (op : Op) → AreReadable (read_here st op 0) (read_here st op 1) (read_here st op 2)
+reads_readable st is op =
+    let one = λ (place : ℕ). good_readable st.meta (in_memory st) is.good (get_or (reads_of op) place 0) in
+    (one 0, one 1, one 2)
+
 -- what an allowed operation reads is of the file
 pub reads_numbered : (st : StoreState) → IsMemory st → (op : Op) → IsAllowedHere st op → All (IsPageOf st.meta) (reads_of op)
 reads_numbered st is op allowed i d lt =
     let id = get_or (reads_of op) i d in
-    let page = some_value (in_memory st id) (reads_some op st.meta (in_memory st) (read_here st op 1) (read_here st op 2) allowed i d lt) in
+    let page = some_value (in_memory st id) (reads_some op st.meta (in_memory st) allowed i d lt) in
     let at = is.good id page.0 page.1 in
     (at.0, at.1)
 
 -- what it makes here is well made
-pub changes_well : MakesGoodPages → (st : StoreState) → IsMemory st → (op : Op) → FitsOp st.meta.k op → IsAllowedHere st op → ChangesWell st.turn st.meta (change_here st op)
-changes_well makes st is op fits allowed =
+pub changes_well : MakesGoodPages → (st : StoreState) → IsMemory st → (op : Op) → FitsOp st.meta.k op → IsAllowedHere st op → BoxesMatch op (read_here st op 0) (read_here st op 1) (read_here st op 2)
+    → ChangesWell st.turn st.meta (change_here st op)
+changes_well makes st is op fits allowed match =
     let meta = st.meta in
     let limits = limits_of st.turn meta is.stands in
     let after = comes_after op meta (read_here st op 0) (read_here st op 1) (read_here st op 2) limits fits allowed in
     let numbered = made_numbered op meta (read_here st op 0) (read_here st op 1) (read_here st op 2) allowed (reads_numbered st is op allowed) in
-    let good = makes op meta (read_here st op 0) (read_here st op 1) (read_here st op 2) limits fits allowed (good_readable meta (in_memory st) is.good (get_or (reads_of op) 0 0)) in
+    let good = makes op meta (read_here st op 0) (read_here st op 1) (read_here st op 2) limits fits allowed (reads_readable st is op) match in
     record {
       layout = after.layout;
       stands = still_stands st.turn meta (change_here st op).meta after;

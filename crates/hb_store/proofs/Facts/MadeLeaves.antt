@@ -15,6 +15,7 @@ use Rattle.hb_frag.specs.declared.paths.Side.TheVariants.{Left, Right}
 use Rattle.hb_frag.specs.Trees.{Tree, Tip, Cut}
 use Rattle.hb_frag.specs.Leaves.{leaf_weight, leaves, with_leaf_at}
 use Rattle.hb_frag.specs.Paths.{part_at, with_part}
+use Rattle.hb_frag.specs.Renaming.{renamed, renamed_leaf}
 use Rattle.hb_frag.specs.Carving.{carve_above, carve_below, carve_from}
 use Rattle.hb_frag.specs.Normal.{in_point_order, normal, one_leaf_or_cut, with_record_in_order}
 use Rattle.hb_frag.specs.Grammar.{FitsLeaf, FitsRecord, FitsTree}
@@ -104,6 +105,19 @@ fit_with_part k (Right ∷ path) (Cut axis value left right) other fit new =
     All-append (FitsIn k) (leaves left) (leaves (with_part path right other)) (All-front (FitsIn k) (leaves left) (leaves right) fit) (fit_with_part k path right other (All-behind (FitsIn k) (leaves left) (leaves right) fit) new)
 fit_with_part k (Left ∷ path) (Tip leaf) other fit new = fit
 fit_with_part k (Right ∷ path) (Tip leaf) other fit new = fit
+
+-- ---- names that are exchanged
+
+leaf_renamed : (k old new : ℕ) → new < 2 ^ 32 → (leaf : Leaf) → FitsIn k leaf → FitsIn k (renamed_leaf old new leaf)
+leaf_renamed k old new few (Records records) fits = fits
+leaf_renamed k old new few (Child page) fits = elim (page == old) as (λ b. cond b new page < 2 ^ 32) [ true ↦ few | false ↦ fits ]
+leaf_renamed k old new few (Sibling page) fits = fits
+
+pub fit_renamed : (k old new : ℕ) → new < 2 ^ 32 → (tree : Tree) → AllFit k tree → AllFit k (renamed old new tree)
+fit_renamed k old new few (Tip leaf) fit = All-alone (FitsIn k) (renamed_leaf old new leaf) (leaf_renamed k old new few leaf (All-head (FitsIn k) leaf [] fit))
+fit_renamed k old new few (Cut axis value left right) fit =
+    All-append (FitsIn k) (leaves (renamed old new left)) (leaves (renamed old new right))
+    (fit_renamed k old new few left (All-front (FitsIn k) (leaves left) (leaves right) fit)) (fit_renamed k old new few right (All-behind (FitsIn k) (leaves left) (leaves right) fit))
 
 -- ---- a records leaf that is cut
 

@@ -1,9 +1,13 @@
 use Rattle.hb_store.proofs.Facts.MadePages.{fitting_parts, good_pages}
+use Rattle.hb_store.proofs.Facts.MadeMerges.{writable_pages}
 use Rattle.hb_store.proofs.making.what_is_made_can_be_written.Goals as goal
 
 pub returns-clause-pages : goal.returns-clause-pages
 returns-clause-pages c =
-    good_pages c.leaves_part_the_box.ensures.areas c.parts_are_stretches.ensures.cuts c.page_within_capacity_has_spelling.ensures.live c.whole_space_holds_every_point.ensures.area c.changed_pages_are_well_made.ensures
+    good_pages c.leaves_part_the_box.ensures.areas c.parts_are_stretches.ensures.cuts c.page_within_capacity_has_spelling.ensures.live c.page_within_capacity_has_spelling.ensures.free c.whole_space_holds_every_point.ensures.area c.changed_pages_are_well_made.ensures
+
+pub returns-clause-writable : goal.returns-clause-writable
+returns-clause-writable c = writable_pages c.normal_says_the_same.ensures.same c.page_within_capacity_has_spelling.ensures.live c.page_within_capacity_has_spelling.ensures.free (returns-clause-pages c)
 
 pub returns-clause-parts : goal.returns-clause-parts
 returns-clause-parts c = fitting_parts c.leaves_part_the_box.ensures.areas c.parts_are_stretches.ensures.cuts

@@ -39,7 +39,7 @@ well_made : (c : goal.After-drop-group-2) → MakesWell c.args.op.now c.args.sel
 well_made c =
     let st = c.args.self.now in
     let is : IsMemory st = subst IsMemory c.self.view_is c.self.invariant in
-    record { memory = is; change = changes_well c.what_is_made_can_be_written.ensures.pages st is c.args.op.now c.in_ok-group.ensures.fits.op c.requires.allowed; group = c.in_ok-group.ensures.fits }
+    record { memory = is; change = changes_well c.what_is_made_can_be_written.ensures.pages st is c.args.op.now c.in_ok-group.ensures.fits.op c.requires.allowed c.requires.boxes; group = c.in_ok-group.ensures.fits }
 
 made : (c : goal.After-drop-group-2) → Commits c.args.op.now c.args.mark c.args.self.now (seen_after c)
 made c =
@@ -87,10 +87,10 @@ append-requires c =
     }
 
 pub changed-requires : goal.changed-requires
-changed-requires c = record { points = c.requires.points; allowed = c.requires.allowed }
+changed-requires c = record { points = c.requires.points; allowed = c.requires.allowed; boxes = c.requires.boxes }
 
 pub group-requires : goal.group-requires
-group-requires c = record { points = c.requires.points; allowed = c.requires.allowed }
+group-requires c = record { points = c.requires.points; allowed = c.requires.allowed; boxes = c.requires.boxes }
 
 pub add_all-requires : goal.add_all-requires
 add_all-requires c = omega (arith, c.deref-2.ensures.1, c.in_ok-reserve.ensures.numbers)

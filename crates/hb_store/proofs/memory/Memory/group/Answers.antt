@@ -2,12 +2,11 @@ use Rattle.std.proofs.Common.{◌≡◌, ◌≤◌, length, get_or, subst, ap, �
 use Rattle.std.proofs.lemmas.Result.{on_ok_weaker}
 use Rattle.std.specs.Prelude.{nat_eq, IfOk}
 use Rattle.std.specs.HashMap.{get}
-use Rattle.hb_ops.specs.Operations.{reads_of}
 use Rattle.hb_log_codec.specs.Groups.{FitsGroup, Logged, group_bytes}
 use Rattle.hb_store.specs.Calls.{read_here}
 use Rattle.hb_store.specs.Making.{group_here}
 use Rattle.hb_store.specs.States.{IsMemory, StoreState, in_memory, is_in_log}
-use Rattle.hb_store.proofs.Facts.Changed.{good_readable, limits_of}
+use Rattle.hb_store.proofs.Facts.Changed.{limits_of, reads_readable}
 use Rattle.hb_store.proofs.Grouped.{fits_group, good_spelled, if_both, spelled_in}
 use Rattle.hb_store.proofs.Held.{group_seen, map_seen}
 use Rattle.hb_store.proofs.memory.Memory.group.Goals as goal
@@ -23,7 +22,7 @@ group_for-requires-clause-parts c =
     let op = c.args.op.now in
     let is : IsMemory st = subst IsMemory c.self.view_is c.self.invariant in
     c.what_is_made_can_be_written.ensures.parts op st.meta (read_here st op 0) (read_here st op 1) (read_here st op 2) (limits_of st.turn st.meta is.stands) c.requires.allowed
-    (good_readable st.meta (in_memory st) is.good (get_or (reads_of op) 0 0))
+    (reads_readable st is op)
 
 pub returns-clause-bytes : goal.returns-clause-bytes
 returns-clause-bytes c =
@@ -34,8 +33,9 @@ returns-clause-bytes c =
 pub returns-clause-fits : goal.returns-clause-fits
 returns-clause-fits c =
     let st = c.args.self.now in
+    let op = c.args.op.now in
     let is : IsMemory st = subst IsMemory c.self.view_is c.self.invariant in
-    on_ok_weaker c.group_for.result (λ fits. fits_group (in_memory st) (is_in_log st) st.turn st.meta c.args.op.now is.stands is.good (fits st.meta.k c.requires.points)) c.group_for.ensures.op
+    on_ok_weaker c.group_for.result (λ fits. fits_group (in_memory st) (is_in_log st) st.turn st.meta op (read_here st op 0) (read_here st op 1) (read_here st op 2) is.stands is.good c.requires.allowed (fits st.meta.k c.requires.points)) c.group_for.ensures.op
 
 pub returns-clause-short : goal.returns-clause-short
 returns-clause-short c =

@@ -29,7 +29,7 @@ returns-clause-leads c =
     let may : IsAllowedIn (replayed_of c.set_all.new.self) g.op → MayFollow t g = λ allowed. record { images = range; allowed = subst (λ u. IsAllowedIn u g.op) c.in_ok-set_all.ensures allowed } in
     on_both c.apply.result
     (λ allowed same. subst (ReplaysOn t) (sym (same ∙ (λ i. after_op (c.in_ok-set_all.ensures i) g.op)))
-    (group_leads c.what_is_made_can_be_written.ensures.pages t g c.requires.goes_on c.requires.fits (may allowed)))
+    (group_leads c.what_is_made_can_be_written.ensures.writable t g c.requires.goes_on c.requires.fits (may allowed)))
     c.apply.ensures.allowed c.apply.ensures.effect
 
 pub returns-clause-unfit : goal.returns-clause-unfit

@@ -1,0 +1,163 @@
+-- A scan of two lists of leaves, one behind the other.
+use Rattle.std.proofs.Common.{◌≡◌, inl, inr, ℕ, zero, suc, ◌+◌, ◌-◌, ◌<◌, ◌≤◌, All, ◌==◌, ◌&&◌, ◌||◌, Bool, true, false, cond, List, [], ◌∷◌, ◌++◌, length, IsTrue, ◌↔◌, Option, Some, None, refl, sym, ap, ◌∙◌, subst, arith, eq-eqb}
+use Rattle.std.specs.List.{Contains, list_any}
+use Rattle.std.proofs.lemmas.Bool.{cases_Bool, eqb-true}
+use Rattle.std.proofs.lemmas.List.{length-append}
+use Rattle.hb_frag.specs.Leaves.{child_names, leaf_at, leaves, leaves_of}
+use Rattle.hb_frag.specs.Rules.{BelongsAt}
+use Rattle.hb_ops.proofs.Facts.Opened.{first_has}
+use Rattle.hb_ops.proofs.Facts.PlacedLaws.{placed, placed_is_leaf}
+use Rattle.hb_space.specs.Boxes.{Area}
+use Rattle.hb_space.specs.declared.records.Record.{Record}
+use Rattle.std.proofs.lemmas.List.Elements.{All-contains, All-contains_itself}
+use Rattle.hb_frag.specs.declared.leaves.Leaf.{Leaf}
+use Rattle.hb_frag.specs.declared.leaves.Leaf.TheVariants.{Records, Child, Sibling}
+use Rattle.hb_frag.specs.declared.pages.LivePage.{LivePage}
+use Rattle.hb_consol.specs.ConsolidatorRows.{names_child, one_on, pair_among}
+use Rattle.hb_consol.specs.Doing.{IsScanned, counts_behind, found_behind}
+use Rattle.hb_consol.specs.declared.scanning.Scanned.{Scanned}
+use Rattle.hb_consol.specs.declared.scanning.Scanned.TheVariants.{Pair, Passed}
+
+abbrev pub Found : Type 0
+Found = Option (ℕ × ℕ)
+
+-- what is found so many places further on
+abbrev pub moved : ℕ → Found → Found
+moved n None = None
+moved n (Some (page, place)) = Some (page, n + place)
+
+moved_none : (found : Found) → moved 0 found ≡ found
+moved_none None = refl
+moved_none (Some (page, place)) = ap (λ k. Some (page, k)) (let is : 0 + place ≡ place = omega arith in is)
+
+one_moved : (n : ℕ) (found : Found) → one_on (moved n found) ≡ moved (suc n) found
+one_moved n None = refl
+one_moved n (Some (page, place)) = ap (λ k. Some (page, k)) (let is : n + place + 1 ≡ suc n + place = omega arith in is)
+
+one_none : (found : Found) → one_on found ≡ None → found ≡ None
+one_none None is = refl
+one_none (Some (page, place)) is = absurd (let no : ⊥ = cc in no)
+
+one_some : (front whole : Found) (p : ℕ × ℕ) → ((q : ℕ × ℕ) → front ≡ Some q → whole ≡ Some q) → one_on front ≡ Some p → one_on whole ≡ Some p
+one_some None whole p later is = absurd (let no : ⊥ = cc in no)
+one_some (Some q) whole p later is = ap one_on (later q refl) ∙ is
+
+module _ (parent : LivePage) where
+  -- what a front has is the first of both
+  pub in_front : (from : ℕ) (xs ys : List Leaf) (p : ℕ × ℕ) → pair_among parent from xs ≡ Some p → pair_among parent from (xs ++ ys) ≡ Some p
+  in_front from [] ys p is = absurd (let no : ⊥ = cc in no)
+  in_front from (Records records ∷ xs) ys p is = one_some (pair_among parent (from - 1) xs) (pair_among parent (from - 1) (xs ++ ys)) p (λ q. in_front (from - 1) xs ys q) is
+  in_front from (Child page ∷ xs) ys p is = one_some (pair_among parent (from - 1) xs) (pair_among parent (from - 1) (xs ++ ys)) p (λ q. in_front (from - 1) xs ys q) is
+  in_front from (Sibling page ∷ xs) ys p is = by (λ q. in_front (from - 1) xs ys q) ((from == 0) && names_child parent page) is
+    where
+      by : ((q : ℕ × ℕ) → pair_among parent (from - 1) xs ≡ Some q → pair_among parent (from - 1) (xs ++ ys) ≡ Some q) → (b : Bool) → cond b (Some (page, 0)) (one_on (pair_among parent (from - 1) xs)) ≡ Some p
+          → cond b (Some (page, 0)) (one_on (pair_among parent (from - 1) (xs ++ ys))) ≡ Some p
+      by later true is = is
+      by later false is = one_some (pair_among parent (from - 1) xs) (pair_among parent (from - 1) (xs ++ ys)) p later is
+
+  -- one place more
+  step : (from : ℕ) (xs ys : List Leaf) → pair_among parent (from - 1) (xs ++ ys) ≡ moved (length xs) (pair_among parent (from - 1 - length xs) ys)
+      → one_on (pair_among parent (from - 1) (xs ++ ys)) ≡ moved (suc (length xs)) (pair_among parent (from - suc (length xs)) ys)
+  step from xs ys is =
+      let less : from - 1 - length xs ≡ from - suc (length xs) = omega arith in
+      ap one_on is ∙ one_moved (length xs) (pair_among parent (from - 1 - length xs) ys) ∙ ap (λ (n : ℕ). moved (suc (length xs)) (pair_among parent n ys)) less
+
+  -- where it has none, what the rest has is
+  pub behind_all : (from : ℕ) (xs ys : List Leaf) → pair_among parent from xs ≡ None → pair_among parent from (xs ++ ys) ≡ moved (length xs) (pair_among parent (from - length xs) ys)
+  behind_all from [] ys none =
+      let all : from ≡ from - 0 = omega arith in
+      ap (λ (n : ℕ). pair_among parent n ys) all ∙ sym (moved_none (pair_among parent (from - 0) ys))
+  behind_all from (Records records ∷ xs) ys none = step from xs ys (behind_all (from - 1) xs ys (one_none (pair_among parent (from - 1) xs) none))
+  behind_all from (Child page ∷ xs) ys none = step from xs ys (behind_all (from - 1) xs ys (one_none (pair_among parent (from - 1) xs) none))
+  behind_all from (Sibling page ∷ xs) ys none = by (behind_all (from - 1) xs ys) ((from == 0) && names_child parent page) none
+    where
+      by : (pair_among parent (from - 1) xs ≡ None → pair_among parent (from - 1) (xs ++ ys) ≡ moved (length xs) (pair_among parent (from - 1 - length xs) ys)) → (b : Bool) → cond b (Some (page, 0)) (one_on (pair_among parent (from - 1) xs)) ≡ None → cond b (Some (page, 0)) (one_on (pair_among parent (from - 1) (xs ++ ys))) ≡ moved (suc (length xs)) (pair_among parent (from - suc (length xs)) ys)
+      by later true none = absurd (let no : ⊥ = cc in no)
+      by later false none = step from xs ys (later (one_none (pair_among parent (from - 1) xs) none))
+
+  -- ---- scans
+
+  pub found_in_front : (from : ℕ) (xs ys : List Leaf) (gone place : ℕ) → IsScanned parent from xs (Pair gone place) → IsScanned parent from (xs ++ ys) (Pair gone place)
+  found_in_front from xs ys gone place scan =
+      let both = length-append xs ys in
+      let low = scan.1 in
+      (in_front from xs ys (gone, place) scan.0, omega (arith, both, low))
+
+  pub found_in_both : (from : ℕ) (xs ys : List Leaf) (count : ℕ) (rest : Scanned) → IsScanned parent from xs (Passed count) → IsScanned parent (from - count) ys rest → IsScanned parent from (xs ++ ys) (found_behind count rest)
+  found_in_both from xs ys count (Pair gone place) scan then =
+      let all = behind_all from xs ys scan.0 in
+      let later = ap (λ (n : ℕ). pair_among parent (from - n) ys) (sym scan.1) ∙ then.0 in
+      let both = length-append xs ys in
+      let low = then.1 in
+      let n = scan.1 in
+      (all ∙ ap (moved (length xs)) later ∙ ap (λ k. Some (gone, k + place)) (sym n), omega (arith, both, low, n))
+  found_in_both from xs ys count (Passed more) scan then =
+      let all = behind_all from xs ys scan.0 in
+      let later = ap (λ (n : ℕ). pair_among parent (from - n) ys) (sym scan.1) ∙ then.0 in
+      let both = length-append xs ys in
+      let m = then.1 in
+      let n = scan.1 in
+      (all ∙ ap (moved (length xs)) later, omega (arith, both, m, n))
+
+  -- so the places are few where the leaves are
+  pub counts_few : (from other : ℕ) (xs ys : List Leaf) (count : ℕ) (rest : Scanned) → length (xs ++ ys) < 4294967296 → IsScanned parent from xs (Passed count) → IsScanned parent other ys rest → counts_behind count rest < 4294967296
+  counts_few from other xs ys count (Pair gone place) few scan then = let both = length-append xs ys in let low = then.1 in let n = scan.1 in omega (arith, both, low, n, few)
+  counts_few from other xs ys count (Passed more) few scan then = let both = length-append xs ys in let m = then.1 in let n = scan.1 in omega (arith, both, m, n, few)
+
+-- ---- one leaf
+
+pub other_leaf : (parent : LivePage) (from : ℕ) (leaf : Leaf) → ((page : ℕ) → leaf ≡ Sibling page → (from == 0) && names_child parent page ≡ false) → IsScanned parent from (leaf ∷ []) (Passed 1)
+other_leaf parent from (Records records) fails = (refl, refl)
+other_leaf parent from (Child page) fails = (refl, refl)
+other_leaf parent from (Sibling page) fails = (ap (λ b. cond b (Some (page, 0)) None) (fails page refl), refl)
+
+-- ---- the pages that a parent names
+
+pub named_leaf : (name : ℕ) (ls : List Leaf) → IsTrue (list_any (λ x. x == name) (child_names ls)) → Contains ls (Child name)
+named_leaf name [] named = cc
+named_leaf name (Records records ∷ rest) named = let more = named_leaf name rest named in (suc more.0, omega (arith, more.1), more.2)
+named_leaf name (Sibling page ∷ rest) named = let more = named_leaf name rest named in (suc more.0, omega (arith, more.1), more.2)
+named_leaf name (Child page ∷ rest) named = by (named_leaf name rest) named
+  where
+    by : (IsTrue (list_any (λ x. x == name) (child_names rest)) → Contains rest (Child name)) → IsTrue ((page == name) || list_any (λ x. x == name) (child_names rest)) → Contains (Child page ∷ rest) (Child name)
+    by later here =
+        elim (page == name) as (λ t. (page == name) ≡ t → IsTrue (t || list_any (λ x. x == name) (child_names rest)) → Contains (Child page ∷ rest) (Child name)) [
+          | true ↦ λ same h. (0, omega arith, ap Child (eqb-true page name same))
+          | false ↦ λ other h. let more = later h in (suc more.0, omega (arith, more.1), more.2)
+        ] refl here
+
+true_before : (b c : Bool) → b ≡ true → b || c ≡ true
+true_before true c is = refl
+true_before false c is = absurd (let no : ⊥ = cc in no)
+
+true_behind : (b c : Bool) → c ≡ true → b || c ≡ true
+true_behind true c is = refl
+true_behind false c is = is
+
+-- and the other way
+leaf_named : (name : ℕ) (ls : List Leaf) → Contains ls (Child name) → list_any (λ x. x == name) (child_names ls) ≡ true
+leaf_named name [] has = absurd (omega (arith, has.1))
+leaf_named name (Records records ∷ rest) (zero, lt, e) = absurd (let no : ⊥ = cc in no)
+leaf_named name (Records records ∷ rest) (suc k, lt, e) = leaf_named name rest (k, omega (arith, lt), e)
+leaf_named name (Sibling page ∷ rest) (zero, lt, e) = absurd (let no : ⊥ = cc in no)
+leaf_named name (Sibling page ∷ rest) (suc k, lt, e) = leaf_named name rest (k, omega (arith, lt), e)
+leaf_named name (Child page ∷ rest) (zero, lt, e) = let same : page ≡ name = cc in true_before (page == name) (list_any (λ x. x == name) (child_names rest)) (eq-eqb page name same)
+leaf_named name (Child page ∷ rest) (suc k, lt, e) = true_behind (page == name) (list_any (λ x. x == name) (child_names rest)) (leaf_named name rest (k, omega (arith, lt), e))
+
+pub named_as_child : (b : Bool) (parent : LivePage) (id : ℕ) → (IsTrue b ↔ Contains (leaves parent.frag) (Child id)) → b ≡ names_child parent id
+named_as_child true parent id test = sym (leaf_named id (leaves parent.frag) (test.0 refl))
+named_as_child false parent id test = elim (cases_Bool (names_child parent id)) [
+  | inl named ↦ absurd (let there = test.1 (named_leaf id (leaves parent.frag) named) in cc)
+  | inr fails ↦ sym fails
+]
+
+-- ---- the leaf at a point
+
+-- a page above the records has none at any point
+pub no_records : (page : LivePage) (p : List ℕ) (leaf : Leaf) (area : Area) (records : List Record) → All (BelongsAt page.level) (leaves page.frag) → 1 ≤ page.level
+    → leaf_at page p ≡ Some (record { leaf = leaf; area = area }) → leaf ≡ Records records → ⊥
+no_records page p leaf area records kinds above is has =
+    let there = first_has (Contains (leaves_of page.frag page.area)) p (leaves_of page.frag page.area) (placed leaf area) is (All-contains_itself (leaves_of page.frag page.area)) in
+    let kind = All-contains (BelongsAt page.level) (leaves page.frag) leaf kinds (placed_is_leaf page.frag page.area (placed leaf area) there) in
+    let bottom : page.level ≡ 0 = subst (BelongsAt page.level) has kind in
+    omega (arith, bottom, above)
