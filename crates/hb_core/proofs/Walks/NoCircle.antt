@@ -54,7 +54,7 @@ not_itself s a one =
     never_itself one.page (subst (IsLater one.page) same one.later)
 
 -- a latch that is in the way is held
-held_there : (o : Option Mode) (mode : Mode) → IsSomeAnd o (λ held. ¬ (IsTrue (goes_beside mode held))) → (held : Mode) × (o ≡ Some held)
+pub held_there : (o : Option Mode) (mode : Mode) → IsSomeAnd o (λ held. ¬ (IsTrue (goes_beside mode held))) → (held : Mode) × (o ≡ Some held)
 held_there None mode never = absurd never
 held_there (Some held) mode conflict = (held, refl)
 

@@ -44,7 +44,7 @@ module _ (m : Machine) (files : Files) (fit : LatchesFit m) (has : HasSoundFile 
   kept_by : (actor by : ℕ) (wants : Option Wanted) → wanted_by m actor ≡ wants → IsSomeAnd wants (λ wanted. IsLeastInTheWay m.latches actor wanted.page wanted.mode by) → IsKeptBy actor
   kept_by actor by None is never = absurd never
   kept_by actor by (Some wanted) is least =
-      let held = held_there m files fit has nobody walks (mode_at m.latches by wanted.page) wanted.mode least.keeps.conflict in
+      let held = held_there (mode_at m.latches by wanted.page) wanted.mode least.keeps.conflict in
       record { other = by; waits = record { wanted = wanted; wants_it = is; kept = least.keeps }; works = holder_works by wanted.page held.0 held.1 }
 
   keeps_it : (actor : ℕ) → IsAtWork m actor → IsKeptBy actor
