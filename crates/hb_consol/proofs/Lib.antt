@@ -4,3 +4,4 @@ pub mod ScanExamples
 pub mod TryExamples
 pub mod ScannedPairs
 pub mod MadeRows
+pub mod AllowedMerges

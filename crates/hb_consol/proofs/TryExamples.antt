@@ -1,5 +1,5 @@
 -- The consolidator's rows of pairs that were worked out by hand.
-use Rattle.std.proofs.Common.{◌≡◌, inl, inr, ℕ, ◌+◌, [], ◌∷◌, Some, refl, sym, ap, ◌∙◌, subst, arith}
+use Rattle.std.proofs.Common.{◌≡◌, inl, inr, ℕ, ◌+◌, List, [], ◌∷◌, Some, refl, sym, ap, ◌∙◌, subst, arith}
 use Rattle.std.proofs.lemmas.Option.{same_Some}
 use Rattle.hb_frag.specs.declared.pages.LivePage.{LivePage}
 use Rattle.hb_terms.specs.declared.merging.MergePlan.{MergePlan}
@@ -11,15 +11,15 @@ use Rattle.hb_activity.specs.Deeds.{Deed, moves_to}
 use Rattle.hb_activity.specs.OneDeed.{IsOnly}
 use Rattle.hb_activity.specs.Sights.{Sight}
 use Rattle.hb_consol.specs.ConsolidatorRows.{HasMergePlan, TriesPair, after_try}
-use Rattle.hb_consol.specs.MergeRows.{Decides, DoesMerge}
-use Rattle.hb_consol.specs.Examples.{DecidesByHand, KeepsByHand, TriesByHand, names_three, page_four, gave_three, page_two}
+use Rattle.hb_consol.specs.MergeRows.{Decides, DoesMerge, merges_above}
+use Rattle.hb_consol.specs.Examples.{DecidesByHand, KeepsByHand, TriesByHand, merge_of, names_three, page_four, gave_three, page_two}
 use Rattle.hb_frag.specs.Leaves.{DirectlyCovers, siblings_of}
 use Rattle.hb_frag.specs.Rules.{capacity_of}
 use Rattle.hb_space.proofs.Facts.Intervals.{top, within}
 use Rattle.hb_space.specs.Boxes.{Area, Meets}
 use Rattle.hb_terms.proofs.Facts.OneMerge.{one_merge}
 use Rattle.hb_terms.specs.Merging.{IsMergePlan}
-use Rattle.hb_ops.specs.Merging.{merged_weight}
+use Rattle.hb_ops.specs.Merging.{merged_weight, parent_page}
 use Rattle.std.proofs.lemmas.List.Elements.{All-from_recursion}
 use Rattle.hb_activity.proofs.Facts.OneLeaf.{exactly}
 
@@ -94,10 +94,29 @@ no_live s job none = record { done = inr (record { none_live = none; deed_is = r
     only other (inl row) = absurd (omega (arith, row.live, none))
     only other (inr row) = row.deed_is
 
+-- the parent afterwards, and the jobs
+abbrev after_two : LivePage
+after_two = parent_page 1 2 names_three
+
+merging : (s : Sight) (job : Job) (jobs : List Job) → s.meta.live ≡ 3 → merges_above job after_two s.meta.icap ≡ jobs → IsOnly (DoesMerge s job 3 1 2 names_three plans.Merge) (merge_of job jobs)
+merging s job jobs live is = record { done = inl (record { live = omega (arith, live); deed_is = ap (merge_of job) (sym is) }); only = only }
+  where
+    only : (other : Deed) → DoesMerge s job 3 1 2 names_three plans.Merge other → other ≡ merge_of job jobs
+    only other (inl row) = row.deed_is ∙ ap (merge_of job) is
+    only other (inr row) = absurd (omega (arith, row.none_live, live))
+
+thin_parent : (s : Sight) (job : Job) → s.meta.live ≡ 3 → s.meta.icap ≡ 16 → job.level ≡ 1 → IsOnly (DoesMerge s job 3 1 2 names_three plans.Merge) (merge_of job (record { kind = Merge; level = 2; point = job.point } ∷ []))
+thin_parent s job live small level =
+    let thin : merges_above job after_two 16 ≡ record { kind = Merge; level = job.level + 1; point = job.point } ∷ [] = refl in
+    merging s job _ live (ap (merges_above job after_two) small ∙ thin ∙ ap (λ n. record { kind = Merge; level = n + 1; point = job.point } ∷ []) level)
+
+full_parent : (s : Sight) (job : Job) → s.meta.live ≡ 3 → s.meta.icap ≡ 15 → IsOnly (DoesMerge s job 3 1 2 names_three plans.Merge) (merge_of job [])
+full_parent s job live small = merging s job [] live (ap (merges_above job after_two) small)
+
 pub decides_by_hand : (s : Sight) (job : Job) → DecidesByHand s job
 decides_by_hand s job = record {
   heavy = λ above kept six. only_decision s job 2 page_two above kept plans.TooHeavy (heavy_two s.meta.dcap s.meta.icap six) _ (exactly _);
   none_live = λ above kept wide none. only_decision s job 2 page_two above kept plans.Merge (light_plan s.meta.dcap s.meta.icap wide) _ (no_live s job none);
-  thin = λ level. ap (λ n. record { kind = Merge; level = n + 1; point = job.point } ∷ []) level;
-  not_thin = refl;
+  thin = λ above kept wide live small level. only_decision s job 2 page_two above kept plans.Merge (light_plan s.meta.dcap s.meta.icap wide) _ (thin_parent s job live small level);
+  not_thin = λ above kept wide live small. only_decision s job 2 page_two above kept plans.Merge (light_plan s.meta.dcap s.meta.icap wide) _ (full_parent s job live small);
 }

@@ -7,11 +7,12 @@ use Rattle.hb_frag.specs.declared.pages.LivePage.{LivePage}
 use Rattle.hb_activity.specs.declared.jobs.Job.{Job}
 use Rattle.hb_activity.specs.declared.jobs.JobKind.TheVariants.{Post, Merge}
 use Rattle.hb_activity.specs.declared.activities.Activity.TheVariants.{ConsolidatorIdle, ConsolidatorWalk, ConsolidatorScan, ConsolidatorTry, ConsolidatorPromote, ConsolidatorDecide}
-use Rattle.hb_activity.specs.Deeds.{Deed, moves_to}
+use Rattle.hb_activity.specs.Deeds.{Deed, does, moves_to}
 use Rattle.hb_activity.specs.OneDeed.{IsOnly}
 use Rattle.hb_activity.specs.Sights.{Sight}
 use Rattle.hb_consol.specs.ConsolidatorRows.{ArrivesToMerge, ConsolidatorPasses, IsMergingOf, Scans, TriesPair, children_of, one_behind, pair_among}
-use Rattle.hb_consol.specs.MergeRows.{Decides, merges_above, takes_keep}
+use Rattle.hb_consol.specs.MergeRows.{Decides, takes_keep}
+use Rattle.hb_ops.specs.declared.operations.Op.TheVariants as ops
 use Rattle.hb_frag.specs.Trees.{Cut, Tip}
 use Rattle.hb_space.specs.Boxes.{side_from, whole_area}
 
@@ -81,10 +82,15 @@ pub record KeepsByHand (job : Job) : Type 0 where
   pub gave : takes_keep job 3 1 2 gave_three ≡ moves_to (ConsolidatorDecide job 3 1 2) []
   pub gave_none : takes_keep job 3 1 5 gave_three ≡ moves_to ConsolidatorIdle []
 
--- Where the two are too heavy by now, or no page is in use, the job is dropped. A parent that weighs 4 is thin where it may weigh
--- 32, and not where it may weigh 6.
+-- Where the two are light still and three pages are in use, page 2 goes into page 1, and the job waits again. The parent weighs 4
+-- then as before, since no cut of it parts two leaves of one name alone: that is a quarter of 16, and more than a quarter of 15.
+-- Where the two are too heavy by now, or no page is in use, the job is dropped.
+abbrev pub merge_of : Job → List Job → Deed
+merge_of job more = does ConsolidatorIdle (ops.Merge 3 1 2) (job ∷ more)
+
 pub record DecidesByHand (s : Sight) (job : Job) : Type 0 where
   pub heavy : s.page_at 3 ≡ Some names_three → s.page_at 1 ≡ Some gave_three → s.meta.dcap ≡ 6 → IsOnly (Decides s job 3 1 2 page_two) (moves_to ConsolidatorIdle [])
   pub none_live : s.page_at 3 ≡ Some names_three → s.page_at 1 ≡ Some gave_three → s.meta.dcap ≡ 32 → s.meta.live ≡ 0 → IsOnly (Decides s job 3 1 2 page_two) (moves_to ConsolidatorIdle [])
-  pub thin : job.level ≡ 1 → merges_above job names_three 32 ≡ record { kind = Merge; level = 2; point = job.point } ∷ []
-  pub not_thin : merges_above job names_three 6 ≡ []
+  pub thin : s.page_at 3 ≡ Some names_three → s.page_at 1 ≡ Some gave_three → s.meta.dcap ≡ 32 → s.meta.live ≡ 3 → s.meta.icap ≡ 16 → job.level ≡ 1 →
+      IsOnly (Decides s job 3 1 2 page_two) (merge_of job (record { kind = Merge; level = 2; point = job.point } ∷ []))
+  pub not_thin : s.page_at 3 ≡ Some names_three → s.page_at 1 ≡ Some gave_three → s.meta.dcap ≡ 32 → s.meta.live ≡ 3 → s.meta.icap ≡ 15 → IsOnly (Decides s job 3 1 2 page_two) (merge_of job [])

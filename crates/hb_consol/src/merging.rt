@@ -140,13 +140,7 @@ fn merge(
 }
 
 // The plan for the pair.
-fn plan_for(
-    gone: u32,
-    above: &LivePage,
-    kept: &LivePage,
-    page: &LivePage,
-    meta: &Meta,
-) -> MergePlan
+fn plan_for(gone: u32, above: &LivePage, kept: &LivePage, page: &LivePage, meta: &Meta) -> MergePlan
     requires layout { IsLayout meta.now }
     requires made { AreThreeMade meta.now above.now kept.now page.now }
     ensures { PlansMerge meta.now gone above.now kept.now page.now result }

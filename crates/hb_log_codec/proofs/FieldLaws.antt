@@ -2,7 +2,6 @@
 use Rattle.std.proofs.Common.{◌≡◌, ℕ, ◌+◌, ◌<◌, List, ◌++◌, length, get_or, drop, Option, Some, refl, ap, subst, ◌∙◌}
 use Rattle.std.proofs.lemmas.List.{drop_at, get_or-drop}
 use Rattle.hb_page_codec.specs.Exact.{AreBytes, IsExact}
-use Rattle.hb_page_codec.specs.Reading.{◌>>=◌}
 use Rattle.hb_page_codec.proofs.Facts.Fields.{Takes}
 
 pub bytes_behind : (bytes front rest : List ℕ) → bytes ≡ front ++ rest → AreBytes bytes → AreBytes rest

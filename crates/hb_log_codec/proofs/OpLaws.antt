@@ -1,9 +1,8 @@
 -- Operations are read exactly.
 use Rattle.std.proofs.Common.{◌≡◌, ℕ, zero, suc, ◌^◌, ◌<◌, ◌≤◌, List, [], ◌∷◌, ◌++◌, length, All, Some, refl, sym, ap, subst, ◌∙◌, append_assoc, arith}
 use Rattle.hb_lemmas.specs.Numbers.{big_endian}
-use Rattle.hb_space.specs.Boxes.{Area, IsArea}
+use Rattle.hb_space.specs.Boxes.{IsArea}
 use Rattle.hb_space.specs.declared.form.TheConstants.{KMAX}
-use Rattle.hb_space.specs.declared.records.Record.{Record}
 use Rattle.hb_frag.specs.Grammar.{FitsRecord, point_bytes, record_bytes}
 use Rattle.hb_ops.specs.declared.operations.Op.{Op}
 use Rattle.hb_ops.specs.declared.operations.Op.TheVariants.{Put, Del, Extract, Post, Merge, Grow}

@@ -12,7 +12,7 @@ use Rattle.hb_log_codec.specs.Groups.{FitsLeafCut, cuts_bytes, leaf_cut_bytes, p
 use Rattle.hb_log_codec.specs.Fields.{cuts_at, leaf_cut_at, path_at, side_at}
 use Rattle.hb_log_codec.specs.ExactFields.{ExactFields}
 use Rattle.hb_log_codec.proofs.FieldLaws.{taken}
-use Rattle.hb_page_codec.proofs.Facts.Fields.{bind_some, Takes, Takes-then, many_take, many_again}
+use Rattle.hb_page_codec.proofs.Facts.Fields.{bind_some, Takes-then, many_take, many_again}
 use Rattle.std.proofs.lemmas.Option.{same_Some}
 
 -- a side's byte, as a list

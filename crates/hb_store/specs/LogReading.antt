@@ -10,7 +10,6 @@ use Rattle.hb_store.specs.Replay.{Replayed, replay, MayReplay, untouched}
 use Rattle.hb_store.specs.declared.touched.Touched.{Touched}
 use Rattle.hb_store.specs.declared.touched.ReplayStop.{ReplayStop}
 use Rattle.hb_store.specs.declared.touched.ReplayStop.TheVariants as replays
-use Rattle.hb_log_codec.specs.declared.reading.GroupsError.TheVariants as groups
 use Rattle.hb_store.specs.Opening.{log_bytes, HasBadGroup, SpellAll}
 use Rattle.hb_store.specs.declared.touched.LogStop.{LogStop}
 use Rattle.hb_store.specs.declared.touched.LogStop.TheVariants as logs

@@ -13,7 +13,6 @@ use Rattle.hb_frag.specs.Trees.{Tree, Tip}
 use Rattle.hb_frag.specs.Leaves.{leaf_weight, leaves, weight_of}
 use Rattle.hb_frag.specs.Carving.{carved}
 use Rattle.hb_frag.specs.declared.paths.Side.{Side}
-use Rattle.hb_frag.specs.Normal.{normal}
 use Rattle.hb_frag.specs.Renaming.{renamed}
 use Rattle.hb_frag.specs.Paths.{sibling_way, with_part}
 use Rattle.hb_frag.specs.Rules.{IsFilledRight, capacity_of}

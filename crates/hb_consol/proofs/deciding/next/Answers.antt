@@ -1,6 +1,6 @@
 use Rattle.std.proofs.Common.{[], ◌∷◌}
 use Rattle.std.proofs.lemmas.Result.{IfOk-weaker}
-use Rattle.hb_activity.specs.Deciding.{deed_of, given_sight}
+use Rattle.hb_activity.specs.Deciding.{given_sight}
 use Rattle.hb_activity.specs.declared.activities.Activity.TheVariants as at
 use Rattle.hb_consol.proofs.MadeRows.{few_leaves, scans_there, tries_there, decides_there}
 use Rattle.hb_consol.proofs.deciding.next.Goals as goal

@@ -1,4 +1,4 @@
-use Rattle.std.proofs.Common.{◌≡◌, ℕ, ◌-◌, sym, ap, ◌∙◌, subst}
+use Rattle.std.proofs.Common.{◌≡◌, ℕ, ◌-◌, ap, ◌∙◌, subst}
 use Rattle.hb_frag.specs.Leaves.{leaves}
 use Rattle.hb_consol.proofs.ScannedPairs.{found_in_both, found_in_front}
 use Rattle.hb_consol.proofs.scanning.+pair_in.Goals as goal
