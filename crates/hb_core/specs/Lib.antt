@@ -30,7 +30,6 @@ pub mod DamageLaws
 pub mod SteppingLaws
 pub mod KeepingLaws
 pub mod WaitingLaws
-pub mod StageLaws
 pub mod MachineLaws
 pub mod AskedLaws
 pub mod CauseLaws
