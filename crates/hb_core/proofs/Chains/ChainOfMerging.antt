@@ -25,7 +25,7 @@ use Rattle.hb_core.specs.Scenes.{Scene, machine_of, standing}
 use Rattle.hb_core.specs.Steps.{TakesMerging}
 use Rattle.hb_core.proofs.Chains.BuiltSteps.{after, at_hand, has_room, live_is, none_waits, one_joins, only_looks, performed, queued, wanted_in, works}
 use Rattle.hb_lemmas.specs.Numbers.{big_endian}
-use Rattle.hb_sound.proofs.ExampleParts.{in_order, no_records}
+use Rattle.hb_sound.proofs.ExampleParts.{in_order, no_records, none_given}
 use Rattle.hb_space.proofs.Facts.Intervals.{cuts, held, interval, top, within}
 use Rattle.std.proofs.lemmas.List.Elements.{All-from_recursion}
 
@@ -201,7 +201,7 @@ keep_fits = record {
   filled = record { kinds = All-from_recursion (BelongsAt 0) (leaves keeping_page.frag) (refl, (tt, (refl, tt))); light = omega arith; own = λ none. none };
   in_order = All-from_recursion IsInOrder (leaves_of keeping_page.frag keeping_page.area) (
     in_order (valued 10 ∷ []) (interval 0 39) (held 0 10 39 (omega arith) (omega arith), tt) (tt, tt),
-    (no_siblings 2 _, (in_order (valued 70 ∷ []) (interval 60 top) (held 60 70 top (omega arith) (omega arith), tt) (tt, tt), tt)),
+    (none_given 2 _, (in_order (valued 70 ∷ []) (interval 60 top) (held 60 70 top (omega arith) (omega arith), tt) (tt, tt), tt)),
   );
   normal = (λ alike. alike, (tt, (λ alike. alike, (tt, tt))));
 }
