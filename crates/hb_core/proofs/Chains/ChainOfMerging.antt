@@ -188,22 +188,22 @@ keep_row = (
 parent_fits : FitsFile raised_meta two_children
 parent_fits = record {
   fits = record { level = omega arith; attributes = refl };
-  well_cut = (cuts 0 top 40 (omega arith) (omega arith), (tt, (cuts 40 top 60 (omega arith) (omega arith), (tt, tt))));
+  well_cut = (cuts 0 top 40 (omega arith) (omega arith), tt, (cuts 40 top 60 (omega arith) (omega arith), tt, tt));
   filled = record { kinds = All-from_recursion (BelongsAt 1) (leaves two_children.frag) (omega arith, (omega arith, (omega arith, tt))); light = omega arith; own = λ none. none };
   in_order = All-from_recursion IsInOrder (leaves_of two_children.frag two_children.area) (no_records 1 _, (no_records 2 _, (no_records 1 _, tt)));
-  normal = (λ alike. alike, (tt, (λ same. absurd (omega (arith, same)), (tt, tt))));
+  normal = (λ alike. alike, tt, (λ same. absurd (omega (arith, same)), tt, tt));
 }
 
 keep_fits : FitsFile raised_meta keeping_page
 keep_fits = record {
   fits = record { level = omega arith; attributes = refl };
-  well_cut = (cuts 0 top 40 (omega arith) (omega arith), (tt, (cuts 40 top 60 (omega arith) (omega arith), (tt, tt))));
+  well_cut = (cuts 0 top 40 (omega arith) (omega arith), tt, (cuts 40 top 60 (omega arith) (omega arith), tt, tt));
   filled = record { kinds = All-from_recursion (BelongsAt 0) (leaves keeping_page.frag) (refl, (tt, (refl, tt))); light = omega arith; own = λ none. none };
   in_order = All-from_recursion IsInOrder (leaves_of keeping_page.frag keeping_page.area) (
     in_order (valued 10 ∷ []) (interval 0 39) (held 0 10 39 (omega arith) (omega arith), tt) (tt, tt),
     (none_given 2 _, (in_order (valued 70 ∷ []) (interval 60 top) (held 60 70 top (omega arith) (omega arith), tt) (tt, tt), tt)),
   );
-  normal = (λ alike. alike, (tt, (λ alike. alike, (tt, tt))));
+  normal = (λ alike. alike, tt, (λ alike. alike, tt, tt));
 }
 
 gone_fits : FitsFile raised_meta (going_page one_to_go)

@@ -31,6 +31,7 @@ use Rattle.hb_frag.specs.Leaves.{weight_of}
 use Rattle.hb_frag.specs.Paths.{part_at}
 use Rattle.hb_frag.specs.Trees.{Tree, Tip, Cut}
 use Rattle.hb_ops.specs.Cutting.{area_on}
+use Rattle.hb_ops.specs.Merging.{parent_page}
 use Rattle.hb_ops.specs.Recording.{del_page}
 use Rattle.hb_point.specs.SessionRows.{merges_due}
 use Rattle.hb_space.specs.Boxes.{Area, side_below, side_from}
@@ -144,7 +145,7 @@ row_adds k now as_many activity wanted deed fits row = each_row now (λ activity
       only_replies = λ line held rest found reply alone fits. nothing k;
       inserts = λ line held rest found rec command absent room fits. nothing k;
       lacks_room = λ line held rest found rec command level absent full fits. nothing k;
-      deletes = λ line held rest found p there command stands fits. thin_page k page p _ (goal_fits k (Delete p) rest p (subst (CommandFits k) command fits.line.command) fits.boxes refl);
+      deletes = λ line held rest found p there command stands fits. thin_page k page p (sight now).meta.dcap (goal_fits k (Delete p) rest p (subst (CommandFits k) command fits.line.command) fits.boxes refl);
       searches = λ line held rest found area others more row fits. nothing k;
       grows = λ job fresh free_after may free next fits. again k job fits.job;
       ends = λ activity job kind hand fits. nothing k;
@@ -156,5 +157,5 @@ row_adds k now as_many activity wanted deed fits row = each_row now (λ activity
       parts = λ job parent above live plan leaves fits. All-cons (JobFits k) _ (job ∷ []) (record { level = omega arith; point = corner_as_many (sight now) _ above leaves ∙ as_many parent above live }) (again k job fits.job);
       walks_to_merge = λ job held leaf farther row fits. owed k page job.point leaf fits.job.point;
       merges = λ activity deed kind row stays fits. subst (AddsFit k) (sym stays.is) (nothing k);
-      merges_two = λ job parent keep gone pair fits. All-cons (JobFits k) job _ fits.job (thin_above k job _ _ fits.job);
+      merges_two = λ job parent keep gone pair fits. All-cons (JobFits k) job _ fits.job (thin_above k job (parent_page keep gone pair.above) (sight now).meta.icap fits.job);
     }) row fits

@@ -144,7 +144,7 @@ module _ (f g : StoreState) (alike : KeepsAllButPages f g) (agree : Agree f g) w
   reads_alike (Merge parent keep gone) one two =
       let a = merge_reads parent keep gone f.meta _ _ _ one in
       let b = merge_reads parent keep gone g.meta _ _ _ two in
-      (same_there parent a.0.0 b.0.0 a.0.1 b.0.1, same_there keep a.1.0 b.1.0 a.1.1 b.1.1, same_there gone a.2.0 b.2.0 a.2.1 b.2.1, tt)
+      (same_there parent a.0.0 b.0.0 a.0.1 b.0.1, (same_there keep a.1.0 b.1.0 a.1.1 b.1.1, (same_there gone a.2.0 b.2.0 a.2.1 b.2.1, tt)))
   reads_alike (Grow fresh after) one two = tt
 
   -- so they need the same page images
@@ -173,7 +173,7 @@ module _ (f g : StoreState) (alike : KeepsAllButPages f g) (agree : Agree f g) w
   same_change (Del id point) (same, rest) = change_by (Del id point) id tt same
   same_change (Extract source fresh path cuts after) (same, rest) = change_by (Extract source fresh path cuts after) source tt same
   same_change (Post parent at inner area) (same, rest) = change_by (Post parent at inner area) parent tt same
-  same_change (Merge parent keep gone) (above, kept, going, rest) = λ i. change_of (Merge parent keep gone) (same_meta i) (if_live (above i)) (if_live (kept i)) (if_live (going i))
+  same_change (Merge parent keep gone) (above, (kept, (going, rest))) = λ i. change_of (Merge parent keep gone) (same_meta i) (if_live (above i)) (if_live (kept i)) (if_live (going i))
   same_change (Grow fresh after) reads = ap (λ (x : Meta). change_of (Grow fresh after) x None None None) same_meta
 
   -- ---- the stores afterwards
