@@ -41,6 +41,7 @@ pub mod Moving
 pub mod Taking
 pub mod Stopping
 pub mod Looking
+pub mod LookingToMerge
 pub mod Working
 pub mod Relied
 pub mod Touching
