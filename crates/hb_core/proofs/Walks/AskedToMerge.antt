@@ -46,7 +46,7 @@ pair_apart st job parent names pair known same =
 
 module _ (m : Machine) (actor : ℕ) (fetched : StoreState) (may : IsActor actor) (keeps : MachineKeeps m) (brings : Brings m AnyPage fetched) where
   -- what the consolidator knows is still known once pages came
-  place_stays : (place : AtParent) → merging_at (m.activity actor) ≡ Some place → PlaceStays m.store fetched place
+  pub place_stays : (place : AtParent) → merging_at (m.activity actor) ≡ Some place → PlaceStays m.store fetched place
   place_stays place at_place =
       let latched = place_latched m.store (m.activity actor) place at_place in
       record {
