@@ -52,13 +52,19 @@ get_in_front [] ys place x is = cc
 get_in_front (y ∷ xs) ys zero x is = is
 get_in_front (y ∷ xs) ys (suc place) x is = get_in_front xs ys place x is
 
+none_more : (n : ℕ) → 0 + n ≡ n
+none_more n = omega arith
+
+one_more : (n m : ℕ) → suc n + m ≡ suc (n + m)
+one_more n m = omega arith
+
 get_behind : (xs ys : List Placed) (rest : ℕ) → slice_get (xs ++ ys) (length xs + rest) ≡ slice_get ys rest
-get_behind [] ys rest = refl
-get_behind (x ∷ xs) ys rest = get_behind xs ys rest
+get_behind [] ys rest = ap (slice_get ys) (none_more rest)
+get_behind (x ∷ xs) ys rest = ap (slice_get (x ∷ xs ++ ys)) (one_more (length xs) rest) ∙ get_behind xs ys rest
 
 get_past : (xs : List Placed) (rest : ℕ) → slice_get xs (length xs + rest) ≡ None
 get_past [] rest = refl
-get_past (x ∷ xs) rest = get_past xs rest
+get_past (x ∷ xs) rest = ap (slice_get (x ∷ xs)) (one_more (length xs) rest) ∙ get_past xs rest
 
 pub place_in_front : (xs ys : List Placed) (place : ℕ) (asked : Option AskedBox) → IsBoxAt xs place asked → IsBoxAt (xs ++ ys) place asked
 place_in_front xs ys place asked box = record { placed = box.placed; there = get_in_front xs ys place box.placed box.there; box = box.box }
@@ -68,6 +74,8 @@ place_behind xs ys place rest asked is box = record { placed = box.placed; there
 
 pub place_past : (xs ys : List Placed) (place rest last : ℕ) → place ≡ length xs + rest → rest ≡ length ys + last → place ≡ length (xs ++ ys) + last
 place_past xs ys place rest last first second = omega (arith, first, second, length-append xs ys)
+
+pub ruleset place_found = (place_in_front, place_behind, place_past)
 
 -- ---- what is asked for by a page
 
