@@ -4,12 +4,13 @@ use Rattle.std.specs.List.{All, Contains, slice_get}
 use Rattle.std.specs.Option.{option_and_then, option_map}
 use Rattle.std.proofs.lemmas.List.{length-append}
 use Rattle.std.proofs.lemmas.List.Elements.{All-contains, All-head, All-tail, All-weaker}
-use Rattle.hb_space.specs.Boxes.{Area}
+use Rattle.hb_space.specs.Boxes.{Area, side_below, side_from}
 use Rattle.hb_frag.proofs.Facts.Tiles.{leaves_placed, tiles_attributes}
 use Rattle.hb_frag.specs.declared.leaves.Leaf.{Leaf}
 use Rattle.hb_frag.specs.declared.leaves.Leaf.TheVariants.{Records, Child, Sibling}
 use Rattle.hb_frag.specs.declared.pages.LivePage.{LivePage}
 use Rattle.hb_frag.specs.Leaves.{Placed, first_named, leaves, leaves_of, siblings_of}
+use Rattle.hb_frag.specs.Trees.{Tree, Cut}
 use Rattle.hb_lemmas.proofs.Booleans.{at_itself}
 use Rattle.hb_ops.proofs.Facts.PlacedLaws.{placed, sibling_is_leaf}
 use Rattle.hb_consol.specs.ConsolidatorRows.{names_child}
@@ -74,6 +75,17 @@ place_behind xs ys place rest asked is box = record { placed = box.placed; there
 
 pub place_past : (xs ys : List Placed) (place rest last : ℕ) → place ≡ length xs + rest → rest ≡ length ys + last → place ≡ length (xs ++ ys) + last
 place_past xs ys place rest last first second = omega (arith, first, second, length-append xs ys)
+
+pub place_at_first : (leaf : Leaf) (area : Area) (place : ℕ) (asked : Option AskedBox) → place ≡ 0 → asked ≡ box_by_leaf (placed leaf area) → IsBoxAt (placed leaf area ∷ []) place asked
+place_at_first leaf area place asked first box = record { placed = placed leaf area; there = ap (slice_get (placed leaf area ∷ [])) first; box = box }
+
+pub both_sides : (tree : Tree) (area : Area) (axis value : ℕ) (left right : Tree) (place rest last : ℕ) (l r : Tree) (below from : Area) → tree ≡ Cut axis value left right → l ≡ left → r ≡ right
+    → below ≡ side_below area axis value → from ≡ side_from area axis value → place ≡ length (leaves_of l below) + rest → rest ≡ length (leaves_of r from) + last → place ≡ length (leaves_of tree area) + last
+both_sides tree area axis value left right place rest last l r below from is of_left of_right is_below is_from first second =
+    subst (λ (t : Tree). place ≡ length (leaves_of t area) + last) (sym is)
+    (place_past (leaves_of left (side_below area axis value)) (leaves_of right (side_from area axis value)) place rest last
+    (subst (λ (t : Tree). place ≡ length (leaves_of t (side_below area axis value)) + rest) of_left (subst (λ (a : Area). place ≡ length (leaves_of l a) + rest) is_below first))
+    (subst (λ (t : Tree). rest ≡ length (leaves_of t (side_from area axis value)) + last) of_right (subst (λ (a : Area). rest ≡ length (leaves_of r a) + last) is_from second)))
 
 pub ruleset place_found = (place_in_front, place_behind, place_past)
 
