@@ -45,7 +45,7 @@ const ROWS: [(&str, &str, u32, u32, &str); 7] = [
 ];
 
 // A file in which a page of records may weigh 6, and another one 32.
-fn meta(live: u32) -> Meta {
+pub(crate) fn meta(live: u32) -> Meta {
     Meta {
         k: 1,
         pages: 64,
@@ -80,7 +80,7 @@ fn record_at(value: u32) -> Record {
 }
 
 // A leaf with a record at each ten from the least one on, below the end.
-fn records(alloc: Global, least: u32, end: u32) -> Option<Frag> {
+pub(crate) fn records(alloc: Global, least: u32, end: u32) -> Option<Frag> {
     let mut records = Vec::new(alloc);
     for ten in least..end {
         records.push(record_at(ten.wrapping_mul(10))).ok()?;
@@ -88,7 +88,7 @@ fn records(alloc: Global, least: u32, end: u32) -> Option<Frag> {
     Some(Frag::tip(Leaf::Records(Records::new(records))))
 }
 
-fn cut_at(alloc: Global, value: u64, left: Frag, right: Frag) -> Option<Frag> {
+pub(crate) fn cut_at(alloc: Global, value: u64, left: Frag, right: Frag) -> Option<Frag> {
     let left = Box::new(alloc, left).ok()?;
     let right = Box::new(alloc, right).ok()?;
     Some(Frag::cut(0, value, left, right))
@@ -113,6 +113,8 @@ fn page_one(alloc: Global) -> Option<Frag> {
 // A page of the whole space.
 fn page_of(alloc: Global, name: &str) -> Option<LivePage> {
     let (level, frag) = match name {
+        "three" => (0, records(alloc, 1, 4)?),
+        "four" => (0, records(alloc, 1, 5)?),
         "five" => (0, records(alloc, 1, 6)?),
         "six" => (0, records(alloc, 1, 7)?),
         "one child" => (1, children(alloc, 1)?),
@@ -285,6 +287,7 @@ fn next_of(alloc: Global, step: &str, page: &LivePage, value: u32, meta: &Meta) 
     match step {
         "split" => split(alloc, page, rec, meta),
         "lookup" => walk(alloc, page, Command::Lookup(rec.key), meta),
+        "delete" => walk(alloc, page, Command::Delete(rec.key), meta),
         _ => walk(alloc, page, Command::Insert(rec), meta),
     }
 }
@@ -311,7 +314,7 @@ fn show_cuts(text: &mut String, cuts: &Cuts) -> Option<()> {
     Some(())
 }
 
-fn show_op(text: &mut String, op: &Op) -> Option<()> {
+pub(crate) fn show_op(text: &mut String, op: &Op) -> Option<()> {
     match op {
         Op::Put { page, rec } => write!(text, "put {page} {}", rec.key.values()[0]).ok(),
         Op::Extract {
@@ -337,7 +340,9 @@ fn show_op(text: &mut String, op: &Op) -> Option<()> {
             let least = area.lo().values()[0];
             write!(text, " {inner} {least}..{}", area.hi().values()[0]).ok()
         }
-        Op::Del { .. } | Op::Grow { .. } => None,
+        Op::Del { page, point } => write!(text, "del {page} {}", point.values()[0]).ok(),
+        Op::Merge { parent, keep, gone } => write!(text, "merge {parent} {keep} {gone}").ok(),
+        Op::Grow { .. } => None,
     }
 }
 
@@ -385,5 +390,23 @@ fn rows_of_deciders(rt: HostRuntime) {
     for &(step, name, live, value, want) in &ROWS {
         let right = comes_to(rt.alloc(), step, name, &meta(live), value, want);
         assert!(rt; right, "{step} {name}: {want}");
+    }
+}
+
+/// Pages of records, which may weigh 8, and what a delete of 20 comes to: at a quarter a job, and above it none.
+const DELETES: [(&str, &str); 2] = [
+    ("three", "del 5 20; M1.20 done"),
+    ("four", "del 5 20; done"),
+];
+
+#[test]
+fn deletes_at_a_quarter(rt: HostRuntime) {
+    let meta = Meta {
+        dcap: 8,
+        ..meta(40)
+    };
+    for &(name, want) in &DELETES {
+        let right = comes_to(rt.alloc(), "delete", name, &meta, 20, want);
+        assert!(rt; right, "{name}: {want}");
     }
 }

@@ -1,4 +1,4 @@
-//! The tests of hb_set, hb_text, hb_latch, hb_boxlock, hb_activity, hb_point, hb_search and hb_poster: sets of records,
+//! The tests of hb_set, hb_text, hb_latch, hb_boxlock, hb_activity, hb_point, hb_search, hb_poster and hb_consol: sets of records,
 //! texts and outputs, latches, locks on boxes, activities, jobs and deciders by hand.
 //!
 //! They stand in a crate of their own, since a crate with tests is proved twice. No contract is here.
@@ -14,6 +14,8 @@ mod deciders;
 mod jobs;
 #[cfg(test)]
 mod latches;
+#[cfg(test)]
+mod mergers;
 #[cfg(test)]
 mod outputs;
 #[cfg(test)]

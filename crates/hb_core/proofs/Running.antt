@@ -10,6 +10,7 @@ pub mod LineTaken
 pub mod PlacesAwaited
 pub mod MadeReady
 pub mod Looks
+pub mod LeafBoxes
 pub mod Boxes
 pub mod Brought
 pub mod Coming
@@ -28,10 +29,13 @@ pub mod Begun
 pub mod Wants
 pub mod StepTaken
 pub mod LiftedRows
+pub mod LiftedMerges
 pub mod SeenRows
 pub mod Asked
 pub mod Decided
+pub mod SomePlan
 pub mod Starved
+pub mod StarvedMerger
 pub mod TakesNumbers
 pub mod OrderRoom
 pub mod StandsThere

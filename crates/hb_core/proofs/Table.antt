@@ -1,6 +1,5 @@
 -- What a step and a row come to, by cases: the kinds of steps, what is given up, where an actor stands afterwards.
 pub mod GivenUp
-pub mod NoMerges
 pub mod MergerMoves
 pub mod EachRow
 pub mod Targets

@@ -9,6 +9,7 @@ pub mod NoCircle
 pub mod SomebodyFree
 pub mod AtHand
 pub mod MayBeAsked
+pub mod AskedToMerge
 pub mod WalkingWorkers
 pub mod WorkersKept
 pub mod LockHolders

@@ -14,15 +14,16 @@ use Rattle.hb_activity.specs.declared.activities.Activity.TheVariants.{SessionPu
 use Rattle.hb_activity.specs.Deeds.{Deed}
 use Rattle.hb_core.specs.Asking.{wanted_by}
 use Rattle.hb_core.specs.Fetching.{Brings}
-use Rattle.hb_core.specs.Keeps.{HasRoomFor, HoldsPagesOfFile, KnowsRoom}
+use Rattle.hb_core.specs.Keeps.{HasRoomFor, HoldsPagesOfFile, KnowsRoom, WalksInSpace}
 use Rattle.hb_core.specs.KeptLines.{MetaWithinLimits}
-use Rattle.hb_core.specs.Machines.{Machine, with_disk}
+use Rattle.hb_core.specs.Machines.{Machine, live_here, with_disk}
 use Rattle.hb_core.specs.Rows.{Row}
 use Rattle.hb_space.specs.Boxes.{Area}
 use Rattle.hb_space.specs.Points.{IsBody}
 use Rattle.hb_store.specs.Calls.{IsAllowedHere}
 use Rattle.hb_store.specs.Fetching.{IsNext}
 use Rattle.hb_store.specs.States.{StoreState, in_memory}
+use Rattle.hb_ops.specs.Operations.{BoxesMatch}
 use Rattle.hb_ops.specs.Owing.{Posts}
 
 -- A posting by a plan: the parent and its child are in memory and in use, and at the job's point the parent's leaf names
@@ -39,12 +40,13 @@ pub record IsPlanned (st : StoreState) (parent : ℕ) (at : List Side) (inner : 
   pub planned : Posts page child p st.meta.icap at inner area
 
 -- What a body knows of an operation beyond that it is allowed: a body that can be stored, the free head that the free page names,
--- and a posting by a plan.
+-- a posting by a plan, and that the page to go has the box that the page to keep gave it.
 abbrev pub IsLicensedHere : StoreState → Op → Type 0
 IsLicensedHere st (ops.Put id rec) = IsBody rec.body
 IsLicensedHere st (ops.Del id point) = Unit {0}
 IsLicensedHere st (ops.Extract source fresh path cuts free_after) = IsNext st fresh free_after
 IsLicensedHere st (ops.Post parent at inner area) = IsPlanned st parent at inner area
+IsLicensedHere st (ops.Merge parent keep gone) = BoxesMatch (ops.Merge parent keep gone) (live_here st parent) (live_here st keep) (live_here st gone)
 IsLicensedHere st (ops.Grow fresh free_after) = IsNext st fresh free_after
 
 -- of the two halves of a split, the one into which a session puts its record has room for it
@@ -58,5 +60,5 @@ AnyPage id = Unit {0}
 -- Where a row has an operation, that is allowed: nothing but the row's own condition keeps it from being done. So it is over
 -- every disk.
 abbrev pub RowsAreAllowed : Type 0
-RowsAreAllowed = (m : Machine) (actor : ℕ) (fetched : StoreState) (deed : Deed) (op : Op) → MetaWithinLimits m → HoldsPagesOfFile m → KnowsRoom m → Brings m AnyPage fetched →
+RowsAreAllowed = (m : Machine) (actor : ℕ) (fetched : StoreState) (deed : Deed) (op : Op) → MetaWithinLimits m → HoldsPagesOfFile m → KnowsRoom m → WalksInSpace m → Brings m AnyPage fetched →
     Row (m.activity actor) (wanted_by m actor) (with_disk fetched m.files m.clock m) deed → deed.op ≡ Some op → HalfHasRoom m actor op → IsAllowedHere fetched op

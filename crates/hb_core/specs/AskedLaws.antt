@@ -1,5 +1,5 @@
 -- That the deciders may be asked at the page that a kept machine's step has at hand, as laws.
-use Rattle.std.specs.Prelude.{◌≡◌, ◌⊎◌, ℕ, List, Option, Some, None}
+use Rattle.std.specs.Prelude.{◌≡◌, ◌⊎◌, ℕ, List, Option, Some, None, IsSome}
 use Rattle.hb_space.specs.Boxes.{Area, Holds}
 use Rattle.hb_space.specs.Points.{IsPoint}
 use Rattle.hb_space.specs.declared.records.Record.{Record}
@@ -13,14 +13,19 @@ use Rattle.hb_activity.specs.declared.wanting.Wanted.{Wanted}
 use Rattle.hb_activity.specs.declared.activities.Activity.TheVariants as at
 use Rattle.hb_activity.specs.Deciding.{FitsFree}
 use Rattle.hb_activity.specs.Walks.{walk_point}
+use Rattle.hb_consol.specs.Asks.{MayBeAsked as MayAskToMerge}
 use Rattle.hb_point.specs.Asks.{MayAsk}
 use Rattle.hb_point.specs.SessionRows.{WantsBoxes}
 use Rattle.hb_poster.specs.Asks.{MayBeAsked}
+use Rattle.hb_search.specs.Searching.{MaySearch}
 use Rattle.hb_store.specs.States.{StoreState}
 use Rattle.hb_core.specs.AllowedLaws.{AnyPage}
 use Rattle.hb_core.specs.Asking.{wanted_by}
 use Rattle.hb_core.specs.Fetching.{Brings}
 use Rattle.hb_core.specs.KeptMachine.{MachineKeeps}
+use Rattle.hb_core.specs.KeptMerges.{merging_at}
+use Rattle.hb_core.specs.Looking.{other_page}
+use Rattle.hb_core.specs.LookingToMerge.{second_page}
 use Rattle.hb_core.specs.Machines.{Machine, live_here, with_disk}
 use Rattle.hb_core.specs.Rows.{IsAtHand}
 
@@ -34,11 +39,17 @@ abbrev pub WalksStayInside : Type 0
 WalksStayInside = (m : Machine) (actor : ℕ) (fetched : StoreState) (wanted : Wanted) (page : LivePage) (p : List ℕ) → IsActor actor → MachineKeeps m → Brings m AnyPage fetched →
     walk_point (m.activity actor) ≡ Some p → IsPoint p → wanted_by m actor ≡ Some wanted → IsAtHand (with_disk fetched m.files m.clock m) (m.activity actor) wanted page → Holds page.area p
 
--- A walk of a command on a point may ask the decider of such commands. A search isn't one.
+-- A walk of a command on a point may ask the decider of such commands.
 abbrev pub PointsMayBeAsked : Type 0
 PointsMayBeAsked = (m : Machine) (actor : ℕ) (fetched : StoreState) (line : Line) (held : Option ℕ) (rest : List Area) (found : List Record) (wanted : Wanted) (page : LivePage) (free : Option (ℕ × ℕ)) (p : List ℕ) →
     IsActor actor → MachineKeeps m → Brings m AnyPage fetched → m.activity actor ≡ at.SessionWalk line held rest found → (WantsBoxes line.command → ⊥) → walk_point (m.activity actor) ≡ Some p → IsPoint p →
     wanted_by m actor ≡ Some wanted → IsAtHand (with_disk fetched m.files m.clock m) (m.activity actor) wanted page → MayAsk (m.activity actor) m.store.meta free wanted.page page None
+
+-- A walk of a search may ask the decider of searches.
+abbrev pub SearchesMayBeAsked : Type 0
+SearchesMayBeAsked = (m : Machine) (actor : ℕ) (fetched : StoreState) (line : Line) (held : Option ℕ) (rest : List Area) (found : List Record) (wanted : Wanted) (page : LivePage) (p : List ℕ) →
+    IsActor actor → MachineKeeps m → Brings m AnyPage fetched → m.activity actor ≡ at.SessionWalk line held rest found → WantsBoxes line.command → walk_point (m.activity actor) ≡ Some p → IsPoint p →
+    wanted_by m actor ≡ Some wanted → IsAtHand (with_disk fetched m.files m.clock m) (m.activity actor) wanted page → MaySearch (m.activity actor) page
 
 -- The page that is to be split is still in memory, and the decider may be asked with it.
 pub record AsksToSplit (m : Machine) (actor : ℕ) (fetched : StoreState) (free : Option (ℕ × ℕ)) (held : ℕ) : Type 0 where
@@ -84,3 +95,13 @@ ChildrenMayBeAsked = (m : Machine) (actor : ℕ) (fetched : StoreState) (job : J
 -- To give the file a level, and to have the parent alone, it may ask at any page.
 abbrev pub OthersMayBeAsked : Type 0
 OthersMayBeAsked = (m : Machine) (actor : ℕ) (job : Job) (parent : ℕ) (page : LivePage) → (m.activity actor ≡ at.PosterGrow job) ⊎ (m.activity actor ≡ at.PosterPromote job parent) → MayBeAsked (m.activity actor) m.store.meta page None
+
+-- The consolidator may ask at the page of its walk.
+abbrev pub MergerWalksMayBeAsked : Type 0
+MergerWalksMayBeAsked = (m : Machine) (actor : ℕ) (fetched : StoreState) (job : Job) (held : Option ℕ) (wanted : Wanted) (page : LivePage) → IsActor actor → MachineKeeps m → Brings m AnyPage fetched →
+    m.activity actor ≡ at.ConsolidatorWalk job held → IsPoint job.point → wanted_by m actor ≡ Some wanted → IsAtHand (with_disk fetched m.files m.clock m) (m.activity actor) wanted page → MayAskToMerge (m.activity actor) m.store.meta page None None
+
+-- Where it stands at a parent, that and the page to keep are still in memory, and the decider may be asked with them at any page.
+abbrev pub PairsMayBeAsked : Type 0
+PairsMayBeAsked = (m : Machine) (actor : ℕ) (fetched : StoreState) (page : LivePage) → IsActor actor → MachineKeeps m → Brings m AnyPage fetched → IsSome (merging_at (m.activity actor)) →
+    MayAskToMerge (m.activity actor) m.store.meta page (other_page fetched (m.activity actor)) (second_page fetched (m.activity actor))

@@ -1,5 +1,5 @@
 -- Chains of the consolidator at a parent of two pages: the pair that it tries weighs too much, so that the job ends; or the two may
--- become one, and it gets the parent and the page to keep for itself.
+-- become one, and do.
 use Rattle.std.specs.Prelude.{ℕ, List, [], ◌∷◌}
 use Rattle.hb_space.specs.Boxes.{whole_area}
 use Rattle.hb_space.specs.declared.records.Record.{Record}
@@ -7,16 +7,18 @@ use Rattle.hb_frag.specs.declared.leaves.Leaf.TheVariants.{Records, Child, Sibli
 use Rattle.hb_frag.specs.Trees.{Cut, Tip}
 use Rattle.hb_frag.specs.declared.pages.LivePage.{LivePage}
 use Rattle.hb_frag.specs.declared.pages.Page.{Page}
-use Rattle.hb_frag.specs.declared.pages.Page.TheVariants.{Live}
-use Rattle.hb_latch.specs.declared.modes.Mode.TheVariants.{Exclusive}
+use Rattle.hb_frag.specs.declared.pages.Page.TheVariants.{Live, Free}
+use Rattle.hb_layout.specs.declared.meta.Meta.{Meta}
+use Rattle.hb_ops.specs.declared.operations.Op.TheVariants as ops
 use Rattle.hb_activity.specs.declared.jobs.Job.{Job}
 use Rattle.hb_activity.specs.declared.jobs.JobKind.TheVariants.{Merge}
-use Rattle.hb_activity.specs.declared.activities.Activity.TheVariants.{ConsolidatorDecide, ConsolidatorIdle}
+use Rattle.hb_activity.specs.declared.activities.Activity.TheVariants.{ConsolidatorIdle}
 use Rattle.hb_core.specs.declared.outcomes.Outcome.{Outcome}
 use Rattle.hb_core.specs.declared.outcomes.Outcome.TheVariants.{Moved, Idle}
 use Rattle.hb_core.specs.ChainOfPosting.{raised_meta}
 use Rattle.hb_sound.specs.LateFile.{late_record}
 use Rattle.hb_core.specs.Scenes.{Scene, StepsSaying, at_start, machine_of}
+use Rattle.hb_log_codec.specs.Groups.{group_bytes}
 
 -- a record of one value, without a body
 abbrev pub valued : ℕ → Record
@@ -61,13 +63,42 @@ MergeIsGivenUp = StepsSaying steps_too_heavy (machine_of (merging_before three_t
 abbrev pub one_to_go : List Record
 one_to_go = valued 45 ∷ []
 
--- It has the parent and page 1 for itself, and is to decide about page 2.
-abbrev pub light_after : Scene
-light_after = record (merging_before one_to_go) { at_work = (18, ConsolidatorDecide (merges_at 45) 3 1 2) ∷ []; latched = ((18, 3), Exclusive) ∷ ((18, 1), Exclusive) ∷ []; jobs = [] }
+-- Page 1 has all of the records then, the parent names page 1 alone, and page 2 is the first of the free chain.
+abbrev pub joined_page : LivePage
+joined_page = record { level = 0; area = whole_area 1; frag = Tip (Records (valued 10 ∷ valued 45 ∷ valued 70 ∷ [])) }
 
--- It takes the job, finds the parent, scans page 1 and tries the pair, promotes the parent, and takes page 1.
-abbrev pub steps_to_decide : List (ℕ × Outcome)
-steps_to_decide = (18, Moved) ∷ (18, Moved) ∷ (18, Moved) ∷ (18, Moved) ∷ (18, Moved) ∷ (18, Moved) ∷ []
+abbrev pub one_child : LivePage
+one_child = record { level = 1; area = whole_area 1; frag = Tip (Child 1) }
 
-abbrev pub MergeComesToDecide : Type 0
-MergeComesToDecide = StepsSaying steps_to_decide (machine_of (merging_before one_to_go)) (machine_of light_after)
+abbrev pub joined_meta : Meta
+joined_meta = record { k = 1; pages = 64; log = 65536; dcap = 6; icap = 32; root = 3; height = 2; high = 3; live = 2; free = 2 }
+
+-- No job waits, and nobody holds a page. One group waits, with page images of all three pages.
+abbrev pub joined_after : Scene
+joined_after = record {
+  lines = [];
+  answered = [];
+  at_work = (18, ConsolidatorIdle) ∷ [];
+  latched = [];
+  jobs = [];
+  order = [];
+  meta = joined_meta;
+  written = 0;
+  groups = record { bytes = group_bytes (record { images = (3, Live two_children) ∷ (1, Live keeping_page) ∷ (2, Live (going_page one_to_go)) ∷ []; op = ops.Merge 3 1 2 }); mark = 0 } ∷ [];
+  pages = (1, Live joined_page) ∷ (2, Free 0) ∷ (3, Live one_child) ∷ [];
+  in_log = 3 ∷ 1 ∷ 2 ∷ [];
+  durable = record { meta = raised_meta; pages = merging_pages one_to_go };
+  later = record { meta = joined_meta; pages = Live joined_page ∷ Free 0 ∷ Live one_child ∷ [] } ∷ [];
+  clock = 0;
+}
+
+-- It takes the job, finds the parent, scans page 1 and tries the pair, promotes the parent, takes page 1, and merges: the job waits
+-- again, and behind it one for the parent, which is thin then. It takes the job again, finds the parent, and finds no pair. The other
+-- job is of the file's height and is dropped. Then it has no job left.
+abbrev pub steps_of_merging : List (ℕ × Outcome)
+steps_of_merging =
+    (18, Moved) ∷ (18, Moved) ∷ (18, Moved) ∷ (18, Moved) ∷ (18, Moved) ∷ (18, Moved) ∷ (18, Moved)
+    ∷ (18, Moved) ∷ (18, Moved) ∷ (18, Moved) ∷ (18, Moved) ∷ (18, Idle) ∷ []
+
+abbrev pub PairBecomesOne : Type 0
+PairBecomesOne = StepsSaying steps_of_merging (machine_of (merging_before one_to_go)) (machine_of joined_after)

@@ -41,7 +41,7 @@ IsInUse m id page = in_memory m.store id ≡ Some (Live page)
 abbrev pub MayHaveLeft : Machine → ℕ → Machine → Type 0
 MayHaveLeft m id new = (¬ (MustStay m id)) × (in_memory new.store id ≡ None)
 
--- A step changes no page in use but those that its actor has for itself. The page that it makes was in no use.
+-- A step changes no page in use, and makes none free, but those that its actor has for itself. The page that it makes was in no use.
 abbrev pub OwnPagesChange : Type 0
 OwnPagesChange = (m : Machine) (actor : ℕ) (outcome : Outcome) (new : Machine) → IsActor actor → LatchesFit m → HoldsPagesOfFile m → StepsTo m actor outcome new →
     (id : ℕ) (page : LivePage) → IsInUse m id page → IsInUse new id page ⊎ MayHaveLeft m id new ⊎ HasAlone m actor id

@@ -30,7 +30,6 @@ pub mod DamageLaws
 pub mod SteppingLaws
 pub mod KeepingLaws
 pub mod WaitingLaws
-pub mod StageLaws
 pub mod MachineLaws
 pub mod AskedLaws
 pub mod CauseLaws
@@ -42,6 +41,7 @@ pub mod Moving
 pub mod Taking
 pub mod Stopping
 pub mod Looking
+pub mod LookingToMerge
 pub mod Working
 pub mod Relied
 pub mod Touching

@@ -14,9 +14,8 @@ use Rattle.hb_frag.specs.declared.pages.Page.TheVariants.{Live, Free}
 use Rattle.hb_layout.specs.Limits.{IsLayout}
 use Rattle.hb_ops.specs.Sound.{FitsFile}
 use Rattle.hb_point.specs.Asks.{MayAsk}
-use Rattle.hb_point.specs.SessionRows.{PointRow}
+use Rattle.hb_point.specs.SessionRows.{PointRow, WantsBoxes}
 use Rattle.hb_poster.specs.Asks.{AsksMemory, MakesPage, MayBeAsked}
-use Rattle.hb_point.specs.SessionRows.{WantsBoxes}
 use Rattle.hb_poster.specs.PosterRows.{PosterRow}
 use Rattle.hb_search.specs.Searching.{GathersNow, MaySearch, SearchRow}
 use Rattle.hb_store.specs.declared.stops.Why.{Why}
@@ -49,8 +48,7 @@ abbrev pub FailsTest : StoreState → Activity → Wanted → Why → Type 0
 FailsTest st activity wanted why = (page : Page) × (in_memory st wanted.page ≡ Some page)
     × MatchOption (asked_box activity st) (IsOfOtherLevel wanted page) (λ asked. IsNotAsked wanted asked page why)
 
--- The number of the page that a row speaks of, the wanted one or the one that is held; and of the other one that it reads: the half
--- that left, or the parent.
+-- the number of the page that a row speaks of, the wanted one or the held one; and of the half that left, or the parent, which it reads
 abbrev pub number_of_row : Activity → Option Wanted → ℕ
 number_of_row activity (Some wanted) = wanted.page
 number_of_row (at.SessionSplit line held) None = held
@@ -61,6 +59,9 @@ abbrev pub other_number : Activity → Option ℕ
 other_number (at.SessionPut line source fresh) = Some fresh
 other_number (at.PosterChild job parent) = Some parent
 other_number (at.PosterAgain job parent) = Some parent
+other_number (at.ConsolidatorScan job parent child) = Some parent
+other_number (at.ConsolidatorTry job parent keep gone leaf) = Some parent
+other_number (at.ConsolidatorDecide job parent keep gone) = Some parent
 other_number other = None
 
 abbrev pub other_page : StoreState → Activity → Option LivePage

@@ -16,10 +16,10 @@ use Rattle.hb_activity.specs.Walks.{walk_held}
 use Rattle.hb_latch.specs.Tables.{IsGrantable, LatchTable}
 use Rattle.hb_space.specs.Actors.{IsActor}
 use Rattle.hb_ops.specs.Files.{FileState}
-use Rattle.hb_ops.specs.Operations.{IsLicensed, OpHas}
+use Rattle.hb_ops.specs.Operations.{BoxesMatch, IsLicensed, OpHas}
 use Rattle.hb_ops.specs.declared.operations.Op.{Op}
 use Rattle.hb_set.specs.Order.{Entry}
-use Rattle.hb_store.specs.Calls.{IsAllowedHere, IsReady, with_op}
+use Rattle.hb_store.specs.Calls.{IsAllowedHere, IsReady, read_here, with_op}
 use Rattle.hb_store.specs.Keeps.{StoreKeeps, last_of}
 use Rattle.hb_store.specs.States.{StoreState}
 use Rattle.hb_wal.specs.Log.{Waiting}
@@ -94,6 +94,7 @@ pub record MayCommit (d : DiskModel) (c : RunningCore) (op : Op) : Type 0 where
   pub ready : IsReady c.store
   pub points : OpHas c.store.meta.k op
   pub allowed : IsAllowedHere c.store op
+  pub boxes : BoxesMatch op (read_here c.store op 0) (read_here c.store op 1) (read_here c.store op 2)
   pub licensed : (durable : FileState) (later : List FileState) → StoreKeeps d c.store durable later → IsLicensed (last_of durable later) op
   pub marks : All (λ (g : Waiting). g.mark ≤ length c.order) c.store.log.groups
 

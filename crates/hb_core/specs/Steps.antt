@@ -87,7 +87,7 @@ BeginsLine m actor line outcome new =
     ((by : ℕ) × IsBoxInTheWay m actor (lock_of_command line.command) by × StaysSo m (outcomes.Blocked by) outcome new)
     ⊎ (HasBoxFree m actor (lock_of_command line.command) × (Performs m m.store actor (taking line) outcome new ⊎ (WantsBoxes line.command × Performs m m.store actor (answers_now line.number replies.NoMemory) outcome new)))
 
--- One step of an activity. The consolidator has no job before jobs to merge come, and the flusher no step before it takes any.
+-- One step of an activity. The flusher has no step before it takes any.
 abbrev pub StepsAs : Activity → Machine → ℕ → Outcome → Machine → Type 0
 StepsAs at.SessionIdle m actor outcome new = MatchOption (next_line actor m.answered m.lines) (StaysSo m outcomes.Idle outcome new) (λ line. BeginsLine m actor line outcome new)
 StepsAs (at.SessionAwait number reply place) m actor outcome new = AwaitsPlace m actor number reply place outcome new

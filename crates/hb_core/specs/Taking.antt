@@ -12,6 +12,7 @@ use Rattle.hb_activity.specs.Classes.{job_in_work}
 use Rattle.hb_activity.specs.declared.jobs.JobKind.TheVariants.{Post, Merge}
 use Rattle.hb_activity.specs.Deeds.{takes_job}
 use Rattle.hb_point.specs.SessionRows.{WantsBoxes, boxes_ahead}
+use Rattle.hb_consol.specs.ConsolidatorRows.{IsMergingOf}
 use Rattle.hb_poster.specs.PosterRows.{IsPostingOf}
 use Rattle.hb_set.specs.declared.commands.Reply.TheVariants as replies
 use Rattle.hb_set.specs.declared.scripts.Line.{Line}
@@ -74,6 +75,12 @@ abbrev pub TakesNextPosting : ℕ → Outcome → RunningCore → RunningCore �
 TakesNextPosting actor outcome old new =
     ((outcome ≡ outcomes.Idle) × (new ≡ old) × All (λ (job : Job). job.kind ≢ Post) old.jobs)
     ⊎ ((job : Job) × (next : Activity) × (job.kind ≡ Post) × IsPostingOf job old.store.meta.height next × DoesDeed actor (takes_job next job) outcome old new)
+
+-- So does the consolidator.
+abbrev pub TakesNextMerging : ℕ → Outcome → RunningCore → RunningCore → Type 0
+TakesNextMerging actor outcome old new =
+    ((outcome ≡ outcomes.Idle) × (new ≡ old) × All (λ (job : Job). job.kind ≢ Merge) old.jobs)
+    ⊎ ((job : Job) × (next : Activity) × (job.kind ≡ Merge) × IsMergingOf job old.store.meta.height next × DoesDeed actor (takes_job next job) outcome old new)
 
 -- who works off the jobs of a kind, and how many an actor has in work
 abbrev pub worker_for : JobKind → ℕ

@@ -17,22 +17,19 @@ use Rattle.hb_core.specs.Machines.{Machine, next_of, with_disk}
 use Rattle.hb_core.specs.Moving.{with_standing}
 use Rattle.hb_core.specs.Rows.{IsAtHand}
 use Rattle.hb_core.specs.Showing.{RunningCore, ShowsMachine}
-use Rattle.hb_core.specs.StageLaws.{HasNothingToMerge}
 use Rattle.hb_core.specs.Steps.{IsUnready}
 
--- What is known of a machine of which a core takes a step: it keeps what every machine keeps, its files are sound, and nothing
--- is to be merged.
+-- What is known of a machine of which a core takes a step: it keeps what every machine keeps, and its files are sound.
 pub record MayGoOn (m : Machine) : Type 0 where
   pub kept : MachineKeeps m
   pub sound : IfSome m.files (HasSoundFile m)
-  pub merges : HasNothingToMerge m
 
 -- A core over a disk shows such a machine.
 pub record MayStep (d : DiskModel) (c : RunningCore) (m : Machine) : Type 0 where
   pub shows : ShowsMachine d c m
   pub goes_on : MayGoOn m
 
--- the activities of sessions and of the poster that want a latch or change the file
+-- the activities that want a latch or change the file
 abbrev pub IsWorking : Activity → Type 0
 IsWorking (at.SessionWalk line held rest found) = Unit {0}
 IsWorking (at.SessionSplit line held) = Unit {0}
@@ -42,6 +39,12 @@ IsWorking (at.PosterWalk job held) = Unit {0}
 IsWorking (at.PosterChild job parent) = Unit {0}
 IsWorking (at.PosterPromote job parent) = Unit {0}
 IsWorking (at.PosterAgain job parent) = Unit {0}
+IsWorking (at.ConsolidatorWalk job held) = Unit {0}
+IsWorking (at.ConsolidatorScan job parent child) = Unit {0}
+IsWorking (at.ConsolidatorTry job parent keep gone leaf) = Unit {0}
+IsWorking (at.ConsolidatorPromote job parent keep gone) = Unit {0}
+IsWorking (at.ConsolidatorKeep job parent keep gone) = Unit {0}
+IsWorking (at.ConsolidatorDecide job parent keep gone) = Unit {0}
 IsWorking other = ⊥
 
 -- Such a step may be done: the machine runs, nobody is in the way, and the log is ready for a change, where one may come.

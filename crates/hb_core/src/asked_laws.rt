@@ -1,7 +1,7 @@
 //! That a body may ask the deciders of the rows at the pages that its step has at hand. Each law is the
 //! contract of a function that does nothing: a caller learns it by the call.
 
-ghost use Rattle.hb_core.specs.AskedLaws.{ChildrenMayBeAsked, OthersMayBeAsked, PagesAtHandFit, PointsMayBeAsked, PosterWalksMayBeAsked, PutsMayBeAsked, SplitsMayBeAsked, WalksStayInside};
+ghost use Rattle.hb_core.specs.AskedLaws.{ChildrenMayBeAsked, MergerWalksMayBeAsked, OthersMayBeAsked, PagesAtHandFit, PairsMayBeAsked, PointsMayBeAsked, PosterWalksMayBeAsked, PutsMayBeAsked, SearchesMayBeAsked, SplitsMayBeAsked, WalksStayInside};
 
 /// Every page in memory keeps the rules that speak of a page alone, in a file within its limits.
 pub fn pages_at_hand_fit()
@@ -22,6 +22,12 @@ pub fn points_may_be_asked()
     ensures puts { PutsMayBeAsked }
 {}
 
+/// The decider of searches may be asked at the page of a walk, where the line is a search.
+#[tactic(auto, using(crate::proofs::Walks::MayBeAsked::searches_may_be_asked))]
+pub fn searches_may_be_asked()
+    ensures { SearchesMayBeAsked }
+{}
+
 /// The decider of the poster may be asked at the page of its walk, at a child together with its parent,
 /// and where the file gets a level or the parent is to be had alone.
 #[tactic(auto, using(crate::proofs::Walks::MayBeAsked::poster_walks_may_be_asked, crate::proofs::Walks::MayBeAsked::others_may_be_asked))]
@@ -29,4 +35,12 @@ pub fn the_poster_may_be_asked()
     ensures walks { PosterWalksMayBeAsked }
     ensures children { ChildrenMayBeAsked }
     ensures others { OthersMayBeAsked }
+{}
+
+/// The decider of the consolidator may be asked at the page of its walk, and at a parent, with that and the
+/// page to keep.
+#[tactic(auto, using(crate::proofs::Walks::AskedToMerge::merger_walks_may_be_asked, crate::proofs::Walks::AskedToMerge::pairs_may_be_asked))]
+pub fn the_consolidator_may_be_asked()
+    ensures walks { MergerWalksMayBeAsked }
+    ensures pairs { PairsMayBeAsked }
 {}

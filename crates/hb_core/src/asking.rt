@@ -13,10 +13,11 @@ ghost use Rattle.hb_core.specs.Moving.{StandsAs};
 ghost use Rattle.hb_core.specs.Working.{IsWorking};
 ghost use Rattle.hb_core.specs.Relied.{MayLookFor, MayTest};
 
+use crate::leaf_boxes::box_by_leaf;
 use crate::state::Core;
 use hb_activity::{Activity, Wanted};
 use hb_disk::Device;
-use hb_frag::{Leaf, LivePage, Page};
+use hb_frag::{LivePage, Page};
 use hb_layout::Meta;
 use hb_space::{Actor, Area, Point};
 use hb_store::Why;
@@ -92,7 +93,11 @@ impl<D: Device> Core<D> {
             Activity::PosterChild { job, parent } | Activity::PosterAgain { job, parent } => {
                 self.box_in(*parent, &job.point)
             }
-            Activity::PosterPromote { .. } => None,
+            Activity::PosterPromote { .. } | Activity::ConsolidatorPromote { .. } => None,
+            Activity::ConsolidatorScan { parent, child, .. } => self.child_box(*parent, *child),
+            Activity::ConsolidatorTry { keep, leaf, .. } => self.place_box(*keep, *leaf),
+            Activity::ConsolidatorKeep { parent, keep, .. } => self.child_box(*parent, *keep),
+            Activity::ConsolidatorDecide { keep, gone, .. } => self.sibling_box(*keep, *gone),
             _ => match activity.walk_held() {
                 Some(held) => self.box_in(held, activity.walk_point()?),
                 None => Some(whole_box(self.store.meta())),
@@ -142,11 +147,8 @@ fn box_at(page: &LivePage, point: &Point) -> Option<AskedBox>
     requires { HasLeafAt page.now point.now }
     ensures { result ≡ box_at (Some page.now) (Some point.now) }
 {
-    match page.leaf_at(point) {
-        (Leaf::Records(_), _) => None,
-        (Leaf::Child(_), area) => Some(AskedBox { area, exact: false }),
-        (Leaf::Sibling(_), area) => Some(AskedBox { area, exact: true }),
-    }
+    let (leaf, area) = page.leaf_at(point);
+    box_by_leaf(leaf, area)
 }
 
 /// Tests a page in use.

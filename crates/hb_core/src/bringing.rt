@@ -15,6 +15,7 @@ ghost use Rattle.hb_store.specs.declared.stops.StopWhy.TheVariants.{Damaged};
 ghost use Rattle.hb_store.specs.declared.stops.Why.{Why};
 ghost use Rattle.hb_core.specs.declared.halts.Halt.TheVariants.{Stops};
 ghost use Rattle.hb_core.specs.Looking.{AsksPoint, AsksPoster, AsksSearcher, FailsTest, GathersAt, HasPointRow, HasPosterRow, HasSearchRow, PassesTest, IsStarved, WalksToSearch, number_of_row, other_number, other_page};
+ghost use Rattle.hb_core.specs.LookingToMerge.{AsksMerger, HasMergerRow, LacksToMerge, second_number, second_page};
 ghost use Rattle.hb_core.specs.Machines.{Machine, live_here};
 ghost use Rattle.hb_core.specs.Moving.{StandsAs, placed, with_standing};
 ghost use Rattle.hb_core.specs.Rows.{Row};
@@ -25,7 +26,7 @@ ghost use Rattle.hb_core.specs.Relied.{MayDecide, MayDoRow, MayNumber, MayTest};
 
 use crate::halts::Halt;
 use crate::reading::idle;
-use crate::state::{Core, POSTER};
+use crate::state::{CONSOLIDATOR, Core, POSTER};
 use hb_activity::{Activity, Next, Wanted};
 use hb_disk::Device;
 use hb_frag::LivePage;
@@ -130,6 +131,13 @@ impl<D: Device> Core<D> {
         self.live(other_of(activity)?)
     }
 
+    /// The page to keep, which the row of a consolidator reads besides.
+    fn second(&self, activity: &Activity) -> Option<&LivePage>
+        ensures { live_given result ≡ second_page (core_seen self.now).store activity.now }
+    {
+        self.live(second_of(activity)?)
+    }
+
     /// What the actor's decider says. The actor has nothing in hand meanwhile.
     pub(crate) fn decide(
         &mut self,
@@ -151,6 +159,8 @@ impl<D: Device> Core<D> {
         }
         if actor == POSTER {
             self.ask_poster(state, wanted, free)
+        } else if actor == CONSOLIDATOR {
+            self.ask_merger(state, wanted)
         } else {
             self.ask_session(state, wanted, free)
         }
@@ -237,6 +247,29 @@ impl<D: Device> Core<D> {
         )
     }
 
+    /// What the consolidator's decider says of this activity.
+    fn ask_merger(&self, state: Activity, wanted: Option<Wanted>) -> Result<Next, NoMemory>
+        requires { AsksMerger (core_seen self.now).store state (number_of_row state wanted) }
+        ensures row { IfOk result (λ next. (place : ℕ) →
+            HasMergerRow (core_seen self.now).store state (number_of_row state wanted) place (placed place (deed_of state next))) }
+        ensures memory { OnErr result (LacksToMerge (core_seen self.now).store state (number_of_row state wanted)) }
+    {
+        let id = page_of(&state, wanted);
+        let page = self.live_page(id);
+        let other = self.other(&state);
+        let second = self.second(&state);
+        hb_consol::next(
+            self.alloc,
+            state,
+            id,
+            page,
+            other,
+            second,
+            None,
+            self.store.meta(),
+        )
+    }
+
     /// The page of the number, which is in memory and in use.
     fn live_page(&self, id: u32) -> &LivePage
         requires { IsSome (live_here (core_seen self.now).store id) }
@@ -271,8 +304,22 @@ fn other_of(activity: &Activity) -> Option<u32>
 {
     match activity {
         Activity::SessionPut { fresh, .. } => Some(*fresh),
-        Activity::PosterChild { parent, .. } | Activity::PosterAgain { parent, .. } => {
-            Some(*parent)
+        Activity::PosterChild { parent, .. }
+        | Activity::PosterAgain { parent, .. }
+        | Activity::ConsolidatorScan { parent, .. }
+        | Activity::ConsolidatorTry { parent, .. }
+        | Activity::ConsolidatorDecide { parent, .. } => Some(*parent),
+        _ => None,
+    }
+}
+
+/// The number of the page to keep, where a pair is tried or decided.
+fn second_of(activity: &Activity) -> Option<u32>
+    ensures { result ≡ second_number activity.now }
+{
+    match activity {
+        Activity::ConsolidatorTry { keep, .. } | Activity::ConsolidatorDecide { keep, .. } => {
+            Some(*keep)
         }
         _ => None,
     }

@@ -4,7 +4,6 @@
 ghost use Rattle.hb_core.specs.DoableLaws.{PutsFindRoom, RowsCanBeDone};
 ghost use Rattle.hb_core.specs.KeepingLaws.{AnswersAreInPlace, BegunKeepsAll, FilesHavePrefixes, NobodyElseComes, NobodyElseLatches, PrefixStaysPending, RoomStaysKnown, SettledStaysSettled, StepsKeepAll, WalksStayInSpace};
 ghost use Rattle.hb_core.specs.SteppingLaws.{StepsGoOn, StoppedStays};
-ghost use Rattle.hb_core.specs.StageLaws.{BegunHasNothingToMerge, NothingComesToMerge, NothingIsMerged};
 
 use crate::file_laws::{
     a_beginning_keeps_all, files_stay_sound, rows_are_allowed, searches_are_exact,
@@ -89,12 +88,3 @@ pub fn steps_keep_all()
     searches_are_exact();
     the_order_stays_legal();
 }
-
-/// While pages aren't merged no job to merge waits, and the consolidator stays idle: so it is after a step
-/// and after any list of steps, over every disk, and at a beginning where no job waits.
-#[tactic(auto, using(crate::proofs::Table::NoMerges::nothing_comes_to_merge, crate::proofs::Table::NoMerges::nothing_is_merged, crate::proofs::Table::NoMerges::begun_has_nothing))]
-pub fn nothing_is_merged()
-    ensures begun { BegunHasNothingToMerge }
-    ensures comes { NothingComesToMerge }
-    ensures merged { NothingIsMerged }
-{}

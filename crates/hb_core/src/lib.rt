@@ -24,6 +24,7 @@ pub mod file_laws;
 mod halts;
 pub mod keeping_laws;
 pub mod laws;
+mod leaf_boxes;
 mod locking;
 pub mod machine_laws;
 pub mod outcome_laws;

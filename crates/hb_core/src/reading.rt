@@ -19,7 +19,7 @@ ghost use Rattle.hb_core.specs.Taking.{IsMade, all_idle, begun_core, jobs_in_wor
 ghost use Rattle.hb_core.specs.Showing.{ShowsFiles, ShowsMachine, number_in_hand};
 
 use crate::halts::copy_of;
-use crate::state::{ACTORS, Core, POSTER, SESSIONS};
+use crate::state::{ACTORS, CONSOLIDATOR, Core, POSTER, SESSIONS};
 use arrayvec::ArrayVec;
 use hb_activity::{Activity, JOBS, JobKind, Jobs};
 use hb_disk::{Device, Disk};
@@ -254,7 +254,7 @@ fn worker_for(kind: JobKind) -> Actor
 {
     match kind {
         JobKind::Post => POSTER,
-        JobKind::Merge => POSTER + 1,
+        JobKind::Merge => CONSOLIDATOR,
     }
 }
 

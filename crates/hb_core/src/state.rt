@@ -19,6 +19,9 @@ pub(crate) const ACTORS: usize = 19;
 /// The actor that posts.
 pub(crate) const POSTER: Actor = 17;
 
+/// The actor that merges.
+pub(crate) const CONSOLIDATOR: Actor = 18;
+
 /// A file with its command lines, and the actors that do them, each by steps of its own.
 #[derive(Drop)]
 pub struct Core<D: Device> {

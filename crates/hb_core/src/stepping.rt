@@ -8,11 +8,12 @@ ghost use Rattle.hb_core.specs.CoreSeen.{core_seen, core_disk, Alters, Becomes};
 ghost use Rattle.hb_core.specs.Machines.{Machine};
 ghost use Rattle.hb_point.specs.SessionRows.{WantsBoxes, boxes_ahead};
 ghost use Rattle.hb_poster.specs.PosterRows.{IsPostingOf};
+ghost use Rattle.hb_consol.specs.ConsolidatorRows.{IsMergingOf};
 ghost use Rattle.hb_core.specs.Moving.{StandsAs, with_standing, with_stop};
 ghost use Rattle.hb_core.specs.Showing.{ShowsMachine};
 ghost use Rattle.hb_core.specs.Steps.{AwaitsPlace, GetsReady, StepsTo};
 ghost use Rattle.hb_core.specs.Touching.{StepsSo, Touches};
-ghost use Rattle.hb_core.specs.Taking.{TakesNextLine, TakesNextPosting};
+ghost use Rattle.hb_core.specs.Taking.{TakesNextLine, TakesNextMerging, TakesNextPosting};
 ghost use Rattle.hb_core.specs.Working.{IsWorking, MayStep};
 ghost use Rattle.hb_core.specs.Relied.{AwaitsSomePlace, MayTakeLine, IsAtWork, MayAwait};
 
@@ -52,7 +53,8 @@ impl<D: Device> Core<D> {
                 self.await_place(actor, place)
             }
             Activity::PosterIdle => self.take_posting(actor),
-            Activity::ConsolidatorIdle | Activity::Flusher => Outcome::Idle,
+            Activity::ConsolidatorIdle => self.take_merging(actor),
+            Activity::Flusher => Outcome::Idle,
             _ => self.work(actor),
         }
     }
@@ -114,6 +116,20 @@ impl<D: Device> Core<D> {
         };
         let height = self.store.meta().height;
         let next = posting_of(job, height);
+        self.stand(actor, next);
+        Outcome::Moved
+    }
+
+    /// The consolidator takes its oldest job, where one waits.
+    fn take_merging(&mut self, actor: Actor) -> Outcome
+        requires actor { IsActor actor }
+        ensures { Alters (TakesNextMerging actor result) self.old self.new }
+    {
+        let Some(job) = self.jobs.take(JobKind::Merge) else {
+            return Outcome::Idle;
+        };
+        let height = self.store.meta().height;
+        let next = merging_of(job, height);
         self.stand(actor, next);
         Outcome::Moved
     }
@@ -195,6 +211,16 @@ fn posting_of(job: Job, height: u8) -> Activity
         return Activity::PosterGrow { job };
     }
     Activity::PosterWalk { job, held: None }
+}
+
+/// How the consolidator begins with a job, in a file of this height: a job that isn't below it is dropped.
+fn merging_of(job: Job, height: u8) -> Activity
+    ensures { IsMergingOf job height result }
+{
+    if height <= job.level {
+        return Activity::ConsolidatorIdle;
+    }
+    Activity::ConsolidatorWalk { job, held: None }
 }
 
 /// The place of the session's first line among these.

@@ -5,7 +5,7 @@ ghost use Rattle.hb_core.specs.ChainBesidePoster.{SessionsBesidePoster};
 ghost use Rattle.hb_core.specs.ChainOfCommands.{CommandsOfOne};
 ghost use Rattle.hb_core.specs.ChainOfFreePage.{FreePageIsTaken, NoPageIsFree};
 ghost use Rattle.hb_core.specs.ChainOfFullLog.{LogHasNoRoom};
-ghost use Rattle.hb_core.specs.ChainOfMerging.{MergeComesToDecide, MergeIsGivenUp};
+ghost use Rattle.hb_core.specs.ChainOfMerging.{MergeIsGivenUp, PairBecomesOne};
 ghost use Rattle.hb_core.specs.ChainOfPosting.{OnePosting};
 ghost use Rattle.hb_core.specs.ChainOfReadFault.{RootIsNotRead};
 ghost use Rattle.hb_core.specs.ChainOfThreePages.{FullGoesOn};
@@ -68,11 +68,11 @@ pub fn a_split_takes_a_free_page()
 {}
 
 /// The consolidator scans the children of a parent and tries the pair that it finds. Where the two weigh
-/// too much the job ends; where they may become one, it gets the parent and the page to keep for itself.
-#[tactic(auto, using(crate::proofs::Chains::ChainOfMerging::merge_is_given_up, crate::proofs::Chains::ChainOfMerging::merge_comes_to_decide))]
+/// too much the job ends; where they may become one they do, and the job waits again.
+#[tactic(auto, using(crate::proofs::Chains::ChainOfMerging::merge_is_given_up, crate::proofs::Chains::ChainOfMerging::pair_becomes_one))]
 pub fn the_consolidator_tries_a_pair()
     ensures given_up { MergeIsGivenUp }
-    ensures decides { MergeComesToDecide }
+    ensures joined { PairBecomesOne }
 {}
 
 /// Over a disk that doesn't tell its bytes the root can't be read: a lookup is answered `read fault`, and

@@ -4,7 +4,6 @@ use Rattle.std.proofs.Common.{◌≡◌, ℕ, List, [], All, Option, Some, None,
 use Rattle.std.specs.FinMap as map
 use Rattle.hb_activity.specs.Classes.{idle_of}
 use Rattle.hb_core.proofs.Machines.Beginnings.{beginning_keeps, beginning_keeps_all}
-use Rattle.hb_core.proofs.Table.NoMerges.{begun_has_nothing}
 use Rattle.hb_core.specs.KeptFits.{LineFits, class_for}
 use Rattle.hb_core.specs.KeptLines.{HasLineBody}
 use Rattle.hb_core.specs.Keeps.{HasSoundFile}
@@ -84,7 +83,7 @@ module _ (lines : List Line) (store : StoreState) (may : MayBegin lines store) (
   pub may_step_begun : (d : DiskModel) (steps : List ℕ) → ShowsMachine d (begun_core lines steps store) (begun_machine lines store files clock) → IfSome files (HasSoundFile (begun_machine lines store files clock)) → MayStep d (begun_core lines steps store) (begun_machine lines store files clock)
   may_step_begun d steps shows sound = record {
     shows = shows;
-    goes_on = record { kept = beginning_keeps m is_begun; sound = sound; merges = begun_has_nothing m is_begun };
+    goes_on = record { kept = beginning_keeps m is_begun; sound = sound };
   }
 
 -- A machine from which a core goes on that has taken no step; over a disk that tells, with a sound file that the store keeps.

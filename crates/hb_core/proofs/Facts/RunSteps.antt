@@ -12,7 +12,6 @@ use Rattle.hb_core.proofs.Facts.RunFaults.{faults_more}
 use Rattle.hb_core.proofs.Machines.GoingOn.{steps_go_on}
 use Rattle.hb_core.proofs.Memory.Moments.{answers_are_timed}
 use Rattle.hb_core.proofs.Orders.PendingKept.{grown_by}
-use Rattle.hb_core.proofs.Table.NoMerges.{nothing_comes_to_merge}
 use Rattle.hb_core.proofs.Table.Ways.{order_grows}
 use Rattle.hb_core.specs.Keeps.{HasSoundFile}
 use Rattle.hb_core.specs.KeptMachine.{CoreKeeps}
@@ -103,7 +102,6 @@ module _ (laws : RunningLaws) (e f : DiskModel) (old new : RunningCore) (actor :
   goes_on_next = record {
     kept = laws.kept mid actor outcome next may goes_on.kept step;
     sound = sound_next;
-    merges = nothing_comes_to_merge mid actor outcome next goes_on.merges step;
   }
 
 -- What a step of a core came to, with what its caller kept of the answer: `given` has the disk's clock after the step, where it tells.

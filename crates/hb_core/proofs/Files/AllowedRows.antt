@@ -18,6 +18,7 @@ use Rattle.hb_activity.specs.declared.activities.Activity.TheVariants as at
 use Rattle.hb_activity.specs.Deeds.{Deed}
 use Rattle.hb_activity.specs.Passing.{PartLeavesTo}
 use Rattle.hb_activity.specs.Sights.{Sight}
+use Rattle.hb_core.proofs.Files.MergedPair.{merge_allowed}
 use Rattle.hb_core.proofs.Memory.BroughtPages.{both_there}
 use Rattle.hb_core.proofs.Memory.KeptPages.{KeepsPages, brought, keeps_pages}
 use Rattle.hb_core.proofs.Memory.NextNumbers.{is_next_number}
@@ -25,7 +26,7 @@ use Rattle.hb_point.proofs.Facts.RecordLeaves.{put_weighs, any_at}
 use Rattle.hb_core.specs.AllowedLaws.{AnyPage, HalfHasRoom, RowsAreAllowed}
 use Rattle.hb_core.specs.Asking.{wanted_by}
 use Rattle.hb_core.specs.Fetching.{Brings}
-use Rattle.hb_core.specs.Keeps.{KnowsRoom, LacksRoomFor}
+use Rattle.hb_core.specs.Keeps.{KnowsRoom, LacksRoomFor, WalksInSpace}
 use Rattle.hb_core.specs.Machines.{Machine, with_disk, sight}
 use Rattle.hb_core.specs.Rows.{Row}
 use Rattle.hb_frag.proofs.Facts.CarvedKinds.{carved_light}
@@ -145,7 +146,7 @@ module _ (st : StoreState) (keeps : KeepsPages st) where
 
 -- ---- the rows
 
-module _ (m : Machine) (actor : ℕ) (may : ℕ → Type 0) (fetched : StoreState) (keeps : KeepsPages fetched) (room : KnowsRoom m) (brings : Brings m may fetched) where
+module _ (m : Machine) (actor : ℕ) (may : ℕ → Type 0) (fetched : StoreState) (keeps : KeepsPages fetched) (room : KnowsRoom m) (walks : WalksInSpace m) (brings : Brings m may fetched) where
   abbrev pub m' : Machine
   m' = with_disk fetched m.files m.clock m
 
@@ -181,8 +182,8 @@ module _ (m : Machine) (actor : ℕ) (may : ℕ → Type 0) (fetched : StoreStat
   part_allowed : (id : ℕ) (page : LivePage) (leaves : PartLeavesTo (sight m') (IsChosen page) page) → if_live (in_memory fetched id) ≡ Some page → 6 ≤ weight_of page.frag → IsAllowedHere fetched (ops.Extract id leaves.fresh leaves.path leaves.cuts leaves.free_after)
   part_allowed id page leaves live full = split_allowed fetched keeps id page (sight m') leaves refl (is_next_number fetched leaves.fresh leaves.free_after leaves.next) live full
 
-  shown_row : (wanted : Option Wanted) (deed : Deed) → Row (m.activity actor) wanted m' deed → IfSome deed.op (λ op. HalfHasRoom m actor op → IsAllowedHere fetched op)
-  shown_row wanted deed row = each_row m' (λ activity deed. Shown activity deed.op) (m.activity actor) wanted deed
+  shown_row : (wanted : Option Wanted) (deed : Deed) → wanted_by m actor ≡ wanted → Row (m.activity actor) wanted m' deed → IfSome deed.op (λ op. HalfHasRoom m actor op → IsAllowedHere fetched op)
+  shown_row wanted deed asks row = each_row m' (λ activity deed. Shown activity deed.op) (m.activity actor) wanted deed
       (record {
         full = λ line held none is. tt;
         splits = λ line held page live leaves is half. let lacks = room.splits actor held line is in part_allowed held page leaves live (lacking_weighs held lacks.0.key lacks.0.body page lacks.2 live);
@@ -195,10 +196,11 @@ module _ (m : Machine) (actor : ℕ) (may : ℕ → Type 0) (fetched : StoreStat
         grows = λ job fresh free_after may free next is half. grow_allowed fetched keeps fresh free_after free (is_next_number fetched fresh free_after next) may.below;
         posts = λ job parent above path inner area live plan is half. post_allowed fetched keeps parent path inner area above page its.page job.point live hand.live plan;
         parts = λ job parent above live plan leaves is half. part_allowed parent above leaves live (heavy_parent fetched keeps parent above page job.point live plan);
+        merges = λ job parent keep gone pair is half. merge_allowed m actor may fetched keeps walks brings job parent keep gone its page pair is (asks ∙ wants) hand;
       }))
       row refl
 
 pub rows_are_allowed : RowsAreAllowed
-rows_are_allowed m actor fetched deed op within inside room brings row is half =
-    let shown = shown_row m actor AnyPage fetched (brought m AnyPage fetched brings (keeps_pages m within inside)) room brings (wanted_by m actor) deed row in
+rows_are_allowed m actor fetched deed op within inside room walks brings row is half =
+    let shown = shown_row m actor AnyPage fetched (brought m AnyPage fetched brings (keeps_pages m within inside)) room walks brings (wanted_by m actor) deed refl row in
     subst (λ (o : Option Op). IfSome o (λ op. HalfHasRoom m actor op → IsAllowedHere fetched op)) is shown half

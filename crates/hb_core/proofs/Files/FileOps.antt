@@ -52,7 +52,7 @@ module _ (st : StoreState) (s : FileState) (keeps : KeepsPages st) (file : Shows
   read_file : (place : ℕ) → read_here st op place ≡ nth_read s op place
   read_file place = elim (cases_lt place (length (reads_of op))) [
     | inl lt ↦
-        let there = reads_some op st.meta (in_memory st) (read_here st op 1) (read_here st op 2) allowed place 0 lt in
+        let there = reads_some op st.meta (in_memory st) allowed place 0 lt in
         let q = get_or (reads_of op) place 0 in
         let found = some_value (in_memory st q) there in
         ap if_live (found.1 ∙ sym (file.shown q found.0 found.1))
@@ -120,6 +120,7 @@ module _ (st : StoreState) (s : FileState) (keeps : KeepsPages st) (file : Shows
   licensed_in_file (ops.Del id point) tells = tt
   licensed_in_file (ops.Extract source fresh path cuts free_after) tells = names_next fresh free_after tells
   licensed_in_file (ops.Post parent at inner area) tells = gave_away parent at inner area tells
+  licensed_in_file (ops.Merge parent keep gone) tells = tt
   licensed_in_file (ops.Grow fresh free_after) tells = names_next fresh free_after tells
 
   pub has_in_file : (op : Op) → FitsOp st.meta.k op → OpHas s.meta.k op

@@ -1,5 +1,5 @@
 -- The operation of a row has its place in the log: its numbers, its point, its body and its box.
-use Rattle.std.proofs.Common.{◌≡◌, inl, inr, ℕ, ◌<◌, ◌≤◌, ◌^◌, ◌==◌, List, [], length, All, Option, Some, None, IsSome, refl, sym, ◌∙◌, subst, arith}
+use Rattle.std.proofs.Common.{◌≡◌, inl, inr, ℕ, ◌<◌, ◌≤◌, ◌^◌, ◌==◌, List, [], length, get_or, All, Option, Some, None, IsSome, refl, sym, ◌∙◌, subst, arith}
 use Rattle.std.specs.List.{Contains}
 use Rattle.std.proofs.lemmas.Bool.{cases_Bool, eqb-true, eqb-false}
 use Rattle.std.proofs.lemmas.List.Elements.{All-append, All-cons, All-contains, All-head, All-nil}
@@ -19,13 +19,13 @@ use Rattle.hb_frag.specs.Leaves.{Placed, leaf_at, leaves, leaves_of}
 use Rattle.hb_frag.specs.Trees.{Tree, Tip, Cut}
 use Rattle.hb_log_codec.specs.Groups.{FitsOp}
 use Rattle.hb_ops.specs.Files.{if_live}
-use Rattle.hb_ops.specs.Operations.{IsAllowedOn}
+use Rattle.hb_ops.specs.Operations.{IsAllowedOn, reads_of}
 use Rattle.hb_space.specs.Boxes.{Area, IsArea, Holds, side_below, side_from}
 use Rattle.hb_space.specs.Points.{IsPoint}
 use Rattle.hb_store.proofs.Facts.Changed.{good_readable}
 use Rattle.hb_store.proofs.Facts.MadeLeaves.{AllFit, FitsIn, all_fit}
 use Rattle.hb_store.specs.Calls.{IsAllowedHere, read_here}
-use Rattle.hb_store.specs.Making.{HaveFittingParts, IsReadable}
+use Rattle.hb_store.specs.Making.{AreReadable, HaveFittingParts}
 use Rattle.hb_store.specs.Fetching.{IsNext}
 use Rattle.hb_store.specs.Replaying.{HasLimits}
 use Rattle.hb_store.specs.States.{AreGood, IsGoodPage, StoreState, in_memory}
@@ -112,6 +112,14 @@ module _ (points : HeldArePoints) (parts : HaveFittingParts) (st : StoreState) (
       let l : Placed = record { leaf = Records at.records; area = at.area } in
       (page_fits id (Live page) (live_so (in_memory st id) page is), as_many points st.meta page good p l at.leaf, (point_there points st.meta page good p l at.leaf).fits)
 
+  -- what an operation reads can be written
+  readable : (op : Op) → AreReadable (read_here st op 0) (read_here st op 1) (read_here st op 2)
+  readable op = (
+    good_readable st.meta (in_memory st) framed (get_or (reads_of op) 0 0),
+    good_readable st.meta (in_memory st) framed (get_or (reads_of op) 1 0),
+    good_readable st.meta (in_memory st) framed (get_or (reads_of op) 2 0),
+  )
+
   -- what a plan posts
   fits_post : (parent : ℕ) (at : List Side) (inner : ℕ) (area : Area) → IsLicensedHere st (ops.Post parent at inner area) → IsAllowedHere st (ops.Post parent at inner area) → FitsOp st.meta.k (ops.Post parent at inner area)
   fits_post parent at inner area tells allowed =
@@ -125,18 +133,20 @@ module _ (points : HeldArePoints) (parts : HaveFittingParts) (st : StoreState) (
       record {
         parent_fits = page_fits parent (Live page) tells.live;
         inner_fits = leaf_fits_there points st.meta child good_child tells.p sibling below;
-        steps = parts (ops.Post parent at inner area) st.meta (read_here st (ops.Post parent at inner area) 0) (read_here st (ops.Post parent at inner area) 1) (read_here st (ops.Post parent at inner area) 2) limits allowed (good_readable st.meta (in_memory st) framed parent);
+        steps = parts (ops.Post parent at inner area) st.meta (read_here st (ops.Post parent at inner area) 0) (read_here st (ops.Post parent at inner area) 1) (read_here st (ops.Post parent at inner area) 2) limits allowed (readable (ops.Post parent at inner area));
         is_area = may.given_area;
         attributes = sym (at_leaf points st.meta child good_child tells.p sibling below).1.same ∙ as_many points st.meta child good_child tells.p sibling below;
       }
 
-  fits_split : (source fresh : ℕ) (path : List Side) (cuts : List LeafCut) (free_after : ℕ) (o : Option LivePage) → if_live (in_memory st source) ≡ o → (second third : Option LivePage) → IsNext st fresh free_after → IsAllowedOn (ops.Extract source fresh path cuts free_after) st.meta o second third
+  fits_split : (source fresh : ℕ) (path : List Side) (cuts : List LeafCut) (free_after : ℕ) (o : Option LivePage) → if_live (in_memory st source) ≡ o → IsNext st fresh free_after
+      → IsAllowedOn (ops.Extract source fresh path cuts free_after) st.meta o (read_here st (ops.Extract source fresh path cuts free_after) 1) (read_here st (ops.Extract source fresh path cuts free_after) 2)
       → FitsOp st.meta.k (ops.Extract source fresh path cuts free_after)
-  fits_split source fresh path cuts free_after None is second third next allowed = absurd allowed
-  fits_split source fresh path cuts free_after (Some page) is second third next allowed =
+  fits_split source fresh path cuts free_after None is next allowed = absurd allowed
+  fits_split source fresh path cuts free_after (Some page) is next allowed =
       let op = ops.Extract source fresh path cuts free_after in
       let number = takes_number fresh free_after next in
-      let short = parts op st.meta (Some page) second third limits allowed (subst (λ (o : Option LivePage). IsReadable o) is (good_readable st.meta (in_memory st) framed source)) in
+      let whole : IsAllowedHere st op = subst (λ (o : Option LivePage). IsAllowedOn op st.meta o (read_here st op 1) (read_here st op 2)) (sym is) allowed in
+      let short = parts op st.meta (read_here st op 0) (read_here st op 1) (read_here st op 2) limits whole (readable op) in
       record {
         source_fits = page_fits source (Live page) (live_so (in_memory st source) page is);
         fresh_fits = number.fresh_fits;
@@ -146,9 +156,22 @@ module _ (points : HeldArePoints) (parts : HaveFittingParts) (st : StoreState) (
         each = short.2;
       }
 
+  -- each of these is in memory
+  fits_merge : (parent keep gone : ℕ) (first second third : Option LivePage) → if_live (in_memory st parent) ≡ first → if_live (in_memory st keep) ≡ second → if_live (in_memory st gone) ≡ third → IsAllowedOn (ops.Merge parent keep gone) st.meta first second third
+      → FitsOp st.meta.k (ops.Merge parent keep gone)
+  fits_merge parent keep gone None second third one two three allowed = absurd allowed
+  fits_merge parent keep gone (Some above) None third one two three allowed = absurd allowed
+  fits_merge parent keep gone (Some above) (Some kept) None one two three allowed = absurd allowed
+  fits_merge parent keep gone (Some above) (Some kept) (Some going) one two three allowed = (
+    page_fits parent (Live above) (live_so (in_memory st parent) above one),
+    page_fits keep (Live kept) (live_so (in_memory st keep) kept two),
+    page_fits gone (Live going) (live_so (in_memory st gone) going three),
+  )
+
   pub fits_op : (op : Op) → IsLicensedHere st op → IsAllowedHere st op → FitsOp st.meta.k op
   fits_op (ops.Put id rec) tells allowed = fits_put id rec (if_live (in_memory st id)) refl _ _ tells allowed
   fits_op (ops.Del id p) tells allowed = fits_del id p (if_live (in_memory st id)) refl _ _ allowed
-  fits_op (ops.Extract source fresh path cuts free_after) tells allowed = fits_split source fresh path cuts free_after (if_live (in_memory st source)) refl _ _ tells allowed
+  fits_op (ops.Extract source fresh path cuts free_after) tells allowed = fits_split source fresh path cuts free_after (if_live (in_memory st source)) refl tells allowed
   fits_op (ops.Post parent at inner area) tells allowed = fits_post parent at inner area tells allowed
+  fits_op (ops.Merge parent keep gone) tells allowed = fits_merge parent keep gone (if_live (in_memory st parent)) (if_live (in_memory st keep)) (if_live (in_memory st gone)) refl refl refl allowed
   fits_op (ops.Grow fresh free_after) tells allowed = let number = takes_number fresh free_after tells in (number.fresh_fits, number.free_fits)

@@ -8,6 +8,7 @@ use Rattle.hb_frag.specs.declared.pages.LivePage.{LivePage}
 use Rattle.hb_frag.specs.declared.paths.Side.{Side}
 use Rattle.hb_latch.specs.declared.modes.Mode.TheVariants.{Shared}
 use Rattle.hb_ops.specs.declared.operations.Op.{Op}
+use Rattle.hb_ops.specs.declared.operations.Op.TheVariants as ops
 use Rattle.hb_set.specs.declared.commands.Command.{Command}
 use Rattle.hb_set.specs.declared.commands.Command.TheVariants.{Insert}
 use Rattle.hb_activity.specs.declared.jobs.Job.{Job}
@@ -17,6 +18,7 @@ use Rattle.hb_activity.specs.declared.activities.Activity.TheVariants as at
 use Rattle.hb_activity.specs.Classes.{line_in_hand}
 use Rattle.hb_activity.specs.Deeds.{Deed}
 use Rattle.hb_activity.specs.Wanting.{in_mode, named_child, wanted_of, wanted_page}
+use Rattle.hb_core.proofs.Files.PairAtHand.{pair_boxes}
 use Rattle.hb_core.proofs.Memory.BroughtPages.{both_there}
 use Rattle.hb_core.proofs.Memory.NextNumbers.{is_next_number}
 use Rattle.hb_core.specs.AllowedLaws.{IsLicensedHere, IsPlanned}
@@ -27,8 +29,10 @@ use Rattle.hb_core.specs.Machines.{Machine, with_disk, sight}
 use Rattle.hb_core.specs.Rows.{Row}
 use Rattle.hb_frag.specs.Leaves.{Placed, leaf_at}
 use Rattle.hb_ops.specs.Files.{if_live}
+use Rattle.hb_ops.specs.Operations.{BoxesMatch}
 use Rattle.hb_space.specs.Boxes.{Area}
 use Rattle.hb_space.specs.Points.{IsBody}
+use Rattle.hb_store.specs.Calls.{read_here}
 use Rattle.hb_store.specs.States.{StoreState, in_memory}
 use Rattle.hb_ops.specs.Owing.{Posts}
 use Rattle.hb_core.proofs.Table.EachRow.{each_op, each_row}
@@ -37,6 +41,15 @@ use Rattle.hb_ops.proofs.Facts.PageNumberLaws.{live_so}
 abbrev pub Tells : StoreState → Option Op → Type 0
 Tells st None = Unit {0}
 Tells st (Some op) = IsLicensedHere st op
+
+-- the boxes match of the pages that it reads
+pub boxes_told : (st : StoreState) (op : Op) → IsLicensedHere st op → BoxesMatch op (read_here st op 0) (read_here st op 1) (read_here st op 2)
+boxes_told st (ops.Put id rec) tells = tt
+boxes_told st (ops.Del id point) tells = tt
+boxes_told st (ops.Extract source fresh path cuts free_after) tells = tt
+boxes_told st (ops.Post parent at inner area) tells = tt
+boxes_told st (ops.Merge parent keep gone) tells = tells
+boxes_told st (ops.Grow fresh free_after) tells = tt
 
 pub tells_none : (st : StoreState) (op : Option Op) → op ≡ None → Tells st op
 tells_none st op none = subst (Tells st) (sym none) tt
@@ -101,21 +114,22 @@ module _ (m : Machine) (actor : ℕ) (may : ℕ → Type 0) (fetched : StoreStat
 
   -- what an activity wants and has in hand, and what its operation is told by
   abbrev Told : Option Wanted → Activity → Option Op → Type 0
-  Told wanted activity op = wanted_of activity m.store.meta (looked_live m.store activity) ≡ wanted → IfSome (line_in_hand activity) HasLineBody → Tells fetched op
+  Told wanted activity op = m.activity actor ≡ activity → wanted_of activity m.store.meta (looked_live m.store activity) ≡ wanted → IfSome (line_in_hand activity) HasLineBody → Tells fetched op
 
   pub tells_row : (wanted : Option Wanted) (deed : Deed) → wanted_by m actor ≡ wanted → IfSome (line_in_hand (m.activity actor)) HasLineBody → Row (m.activity actor) wanted m' deed → Tells fetched deed.op
   tells_row wanted deed wants body row = each_row m' (λ activity deed. Told wanted activity deed.op) (m.activity actor) wanted deed
       (record {
-        full = λ line held none wants body. tt;
-        splits = λ line held page live leaves wants body. is_next_number fetched leaves.fresh leaves.free_after leaves.next;
-        puts = λ line source fresh rec command half either page live wants body. put_body line.command rec command body;
+        full = λ line held none stands wants body. tt;
+        splits = λ line held page live leaves stands wants body. is_next_number fetched leaves.fresh leaves.free_after leaves.next;
+        puts = λ line source fresh rec command half either page live stands wants body. put_body line.command rec command body;
       })
       (λ its page is hand. each_op (sight m') its.page page (Told wanted) (record {
-        none = λ activity wants body. tt;
-        inserts = λ line held rest found rec command absent room wants body. put_body line.command rec command body;
-        deletes = λ line held rest found p there command stands wants body. tt;
-        grows = λ job fresh free_after may free next wants body. is_next_number fetched fresh free_after next;
-        posts = λ job parent above path inner area live plan wants body. planned job parent its page above path inner area (wants ∙ is) hand.live live plan;
-        parts = λ job parent above live plan leaves wants body. is_next_number fetched leaves.fresh leaves.free_after leaves.next;
+        none = λ activity stands wants body. tt;
+        inserts = λ line held rest found rec command absent room stands wants body. put_body line.command rec command body;
+        deletes = λ line held rest found p there command there_now stands wants body. tt;
+        grows = λ job fresh free_after may free next stands wants body. is_next_number fetched fresh free_after next;
+        posts = λ job parent above path inner area live plan stands wants body. planned job parent its page above path inner area (wants ∙ is) hand.live live plan;
+        parts = λ job parent above live plan leaves stands wants body. is_next_number fetched leaves.fresh leaves.free_after leaves.next;
+        merges = λ job parent keep gone pair stands asks body. pair_boxes m actor fetched job parent keep gone its page pair stands (wants ∙ is) hand;
       }))
-      row wants body
+      row refl wants body

@@ -1,9 +1,10 @@
--- The operation of a row is allowed on the pages in memory and licensed by them, and its points and boxes have the file's number of attributes.
+-- The operation of a row is allowed on the pages in memory and licensed by them, its points and boxes have the file's number of
+-- attributes, and boxes match.
 use Rattle.std.proofs.Common.{refl, subst}
 use Rattle.hb_core.proofs.Files.FitOps.{HeldArePoints, fits_op}
 use Rattle.hb_core.proofs.Memory.KeptPages.{brought, keeps_pages}
 use Rattle.hb_core.proofs.Room.PutHalves.{rows_can_be_done}
-use Rattle.hb_core.proofs.Files.RowTells.{Tells, tells_row}
+use Rattle.hb_core.proofs.Files.RowTells.{Tells, boxes_told, tells_row}
 use Rattle.hb_core.specs.AllowedLaws.{AnyPage, RowsAreAllowed}
 use Rattle.hb_core.specs.Asking.{wanted_by}
 use Rattle.hb_core.specs.MachineLaws.{RowsMayBeDone}
@@ -12,7 +13,12 @@ use Rattle.hb_store.specs.Making.{HaveFittingParts}
 
 pub rows_may_be_done : HaveFittingParts → HeldArePoints → RowsAreAllowed → RowsMayBeDone
 rows_may_be_done parts points law m actor fetched deed op may keeps brings row does =
-    let allowed = rows_can_be_done law m actor fetched deed op keeps.meta_within_limits keeps.pages_of_file keeps.room_known brings row does in
+    let allowed = rows_can_be_done law m actor fetched deed op keeps.meta_within_limits keeps.pages_of_file keeps.room_known keeps.walk_in_space brings row does in
     let now = brought m AnyPage fetched brings (keeps_pages m keeps.meta_within_limits keeps.pages_of_file) in
     let tells = subst (Tells fetched) does (tells_row m actor AnyPage fetched brings (wanted_by m actor) deed refl (keeps.lines_fit.in_hand actor) row) in
-    record { allowed = allowed; licensed = tells; attributes = op_has fetched.meta.k op (fits_op points parts fetched now.limits now.high now.framed op tells allowed) }
+    record {
+      allowed = allowed;
+      licensed = tells;
+      attributes = op_has fetched.meta.k op (fits_op points parts fetched now.limits now.high now.framed op tells allowed);
+      boxes = boxes_told fetched op tells;
+    }

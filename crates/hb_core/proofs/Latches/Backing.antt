@@ -283,4 +283,5 @@ module _ (m : Machine) (actor : ℕ) (may : ℕ → Type 0) (fetched : StoreStat
         walks_to_merge = λ job held leaf farther row is done. merges its page (wants ∙ at_hand) hand.live hand.level (at.ConsolidatorWalk job held) _ done tt is
             (inr (record { farther = farther; passes = record { leaf = leaf; area = row.area; at_point = row.at_point; names = row.names; deed_is = refl } }));
         merges = λ activity deed kind row stays is done. merges its page (wants ∙ at_hand) hand.live hand.level activity deed (nothing_done deed _ stays.is refl done) kind is row;
+        merges_two = λ job parent keep gone pair is done. rests m actor new _ refl refl;
       }) row refl done

@@ -15,9 +15,9 @@ use Rattle.hb_activity.specs.Holding.{latch_on}
 use Rattle.hb_activity.specs.Walks.{job_mode}
 use Rattle.hb_activity.specs.Wanting.{walk_next, wanted_of}
 use Rattle.hb_consol.specs.ConsolidatorRows.{after_try, children_of, one_behind, scans, tries}
-use Rattle.hb_consol.specs.MergeRows.{after_keep}
+use Rattle.hb_consol.specs.MergeRows.{DoesMerge, after_keep}
 use Rattle.hb_core.proofs.Latches.Backing.{AreBacked, Backed, BackedIn, IsBacked, at_hand, backed_deed, backed_row, goes, held_backed, live_now, one_backed, own_mode, rests, stands, there_now, walk_backed}
-use Rattle.hb_core.proofs.Table.MergerMoves.{decided, of_page}
+use Rattle.hb_core.proofs.Table.MergerMoves.{of_page}
 use Rattle.hb_activity.proofs.Facts.HeldLatches.{in_its_mode}
 use Rattle.hb_core.specs.Asking.{HasWayFree, looked_live, wanted_by}
 use Rattle.hb_core.specs.Fetching.{Brings}
@@ -114,6 +114,14 @@ module _ (m : Machine) (actor : ℕ) (may : ℕ → Type 0) (fetched : StoreStat
 
   -- ---- the rows
 
+  -- decided either way, it holds nothing
+  decides_so : (job : Job) (parent keep gone : ℕ) (above : LivePage) (plan : MergePlan) (deed : Deed) → DoesMerge (sight m') job parent keep gone above plan deed → Backs deed
+  decides_so job parent keep gone above plans.Merge deed (inl row) = backs deed _ row.deed_is (rests m actor new _ refl refl)
+  decides_so job parent keep gone above plans.Merge deed (inr row) = backs deed _ row.deed_is (rests m actor new _ refl refl)
+  decides_so job parent keep gone above plans.NotContained deed is = backs deed _ is (rests m actor new _ refl refl)
+  decides_so job parent keep gone above plans.ManyParents deed is = backs deed _ is (rests m actor new _ refl refl)
+  decides_so job parent keep gone above plans.TooHeavy deed is = backs deed _ is (rests m actor new _ refl refl)
+
   arrives : (job : Job) (on : Option ℕ) → m.activity actor ≡ at.ConsolidatorWalk job on → page.level ≡ job.level → IsBacked m actor new wanted.page Update
   arrives job on is same = latched Update (walk_mode job on is ∙ ap (λ (b : Bool). cond b Update Shared) (eq-eqb page.level job.level same))
 
@@ -134,7 +142,7 @@ module _ (m : Machine) (actor : ℕ) (may : ℕ → Type 0) (fetched : StoreStat
       let promote : Activity = at.ConsolidatorPromote job parent keep gone in
       backs deed _ row (stands m actor new (at.ConsolidatorKeep job parent keep gone) refl (one_backed m actor new parent Exclusive (latched_on parent Exclusive (of_page parent _ Exclusive (looked_live m.store promote) wanted (wants_as promote is)))))
   merger_backed (at.ConsolidatorKeep job parent keep gone) deed kind is row = backs deed _ row (keep_next job parent keep gone (first_named gone (siblings_of page)) is)
-  merger_backed (at.ConsolidatorDecide job parent keep gone) deed kind is row = backs deed _ (decided (sight m') job parent keep gone row.has.above row.has.plan deed row.does_it) (rests m actor new _ refl refl)
+  merger_backed (at.ConsolidatorDecide job parent keep gone) deed kind is row = decides_so job parent keep gone row.has.above row.has.plan deed row.does_it
   merger_backed activity deed kind is row = absurd kind
 
 -- ---- every row

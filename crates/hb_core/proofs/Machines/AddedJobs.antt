@@ -1,5 +1,5 @@
 -- The jobs that a row adds are of a level above the records, at points of as many attributes as the file's.
-use Rattle.std.proofs.Common.{◌≡◌, inl, inr, ℕ, ◌-◌, List, [], ◌∷◌, length, All, Option, Some, None, IfSome, refl, sym, ap, ◌∙◌, subst, arith}
+use Rattle.std.proofs.Common.{◌≡◌, inl, inr, ℕ, ◌+◌, ◌-◌, ◌*◌, Bool, true, false, cond, nat_le, List, [], ◌∷◌, length, All, Option, Some, None, IfSome, refl, sym, ap, ◌∙◌, subst, arith}
 use Rattle.std.specs.Prelude.{slice_get}
 use Rattle.std.specs.Option.{option_map}
 use Rattle.std.proofs.lemmas.List.Elements.{All-append, All-cons, All-head, All-nil, All-push, All-tail}
@@ -13,6 +13,7 @@ use Rattle.hb_set.specs.declared.commands.Command.{Command}
 use Rattle.hb_set.specs.declared.commands.Command.TheVariants.{Insert, Delete, Lookup, Search}
 use Rattle.hb_activity.specs.declared.jobs.Job.{Job}
 use Rattle.hb_activity.specs.declared.jobs.JobKind.{JobKind}
+use Rattle.hb_activity.specs.declared.jobs.JobKind.TheVariants.{Merge}
 use Rattle.hb_activity.specs.declared.wanting.Wanted.{Wanted}
 use Rattle.hb_activity.specs.declared.activities.Activity.{Activity}
 use Rattle.hb_activity.specs.Classes.{job_in_work, line_in_hand}
@@ -21,13 +22,18 @@ use Rattle.hb_activity.specs.Passing.{PartLeavesTo, corner_of, posts_owed}
 use Rattle.hb_activity.specs.Queue.{AddsJob, AddsJobs, LeavesBy, LeavesFirst}
 use Rattle.hb_activity.specs.Sights.{Sight}
 use Rattle.hb_activity.specs.Walks.{goal_of}
+use Rattle.hb_consol.specs.MergeRows.{merges_above}
 use Rattle.hb_core.specs.KeptFits.{CommandFits, IsBoxOf, JobFits, LineFits, boxes_left}
 use Rattle.hb_core.specs.Machines.{Machine, sight}
 use Rattle.hb_core.specs.Rows.{Row}
 use Rattle.hb_frag.proofs.Facts.Sides.{same-side_from}
+use Rattle.hb_frag.specs.Leaves.{weight_of}
 use Rattle.hb_frag.specs.Paths.{part_at}
 use Rattle.hb_frag.specs.Trees.{Tree, Tip, Cut}
 use Rattle.hb_ops.specs.Cutting.{area_on}
+use Rattle.hb_ops.specs.Merging.{parent_page}
+use Rattle.hb_ops.specs.Recording.{del_page}
+use Rattle.hb_point.specs.SessionRows.{merges_due}
 use Rattle.hb_space.specs.Boxes.{Area, side_below, side_from}
 use Rattle.hb_core.proofs.Table.EachRow.{each_row}
 use Rattle.hb_ops.proofs.Facts.CutLeafLaws.{reached_attributes}
@@ -112,6 +118,21 @@ owed k page p (Records records) same = nothing k
 owed k page p (Child name) same = nothing k
 owed k page p (Sibling name) same = again k _ (record { level = omega arith; point = same })
 
+-- a job to merge a thin page
+thin_page : (k : ℕ) (page : LivePage) (p : List ℕ) (capacity : ℕ) → length p ≡ k → JobsFit k (merges_due page p capacity)
+thin_page k page p capacity same = by (nat_le (4 * weight_of (del_page p page).frag) capacity)
+  where
+    by : (thin : Bool) → JobsFit k (cond thin (record { kind = Merge; level = 1; point = p } ∷ []) [])
+    by true = again k _ (record { level = omega arith; point = same })
+    by false = nothing k
+
+thin_above : (k : ℕ) (job : Job) (parent : LivePage) (capacity : ℕ) → JobFits k job → JobsFit k (merges_above job parent capacity)
+thin_above k job parent capacity fits = by (nat_le (4 * weight_of parent.frag) capacity)
+  where
+    by : (thin : Bool) → JobsFit k (cond thin (record { kind = Merge; level = job.level + 1; point = job.point } ∷ []) [])
+    by true = again k _ (record { level = omega arith; point = fits.point })
+    by false = nothing k
+
 pub row_adds : (k : ℕ) (now : Machine) (as_many : (id : ℕ) (page : LivePage) → (sight now).page_at id ≡ Some page → length page.area.lo ≡ k) (activity : Activity) (wanted : Option Wanted) (deed : Deed) → HandFits k activity → Row activity wanted now deed → AddsFit k deed
 row_adds k now as_many activity wanted deed fits row = each_row now (λ activity deed. HandFits k activity → AddsFit k deed) activity wanted deed
     (record {
@@ -124,7 +145,7 @@ row_adds k now as_many activity wanted deed fits row = each_row now (λ activity
       only_replies = λ line held rest found reply alone fits. nothing k;
       inserts = λ line held rest found rec command absent room fits. nothing k;
       lacks_room = λ line held rest found rec command level absent full fits. nothing k;
-      deletes = λ line held rest found p there command stands fits. nothing k;
+      deletes = λ line held rest found p there command stands fits. thin_page k page p (sight now).meta.dcap (goal_fits k (Delete p) rest p (subst (CommandFits k) command fits.line.command) fits.boxes refl);
       searches = λ line held rest found area others more row fits. nothing k;
       grows = λ job fresh free_after may free next fits. again k job fits.job;
       ends = λ activity job kind hand fits. nothing k;
@@ -136,4 +157,5 @@ row_adds k now as_many activity wanted deed fits row = each_row now (λ activity
       parts = λ job parent above live plan leaves fits. All-cons (JobFits k) _ (job ∷ []) (record { level = omega arith; point = corner_as_many (sight now) _ above leaves ∙ as_many parent above live }) (again k job fits.job);
       walks_to_merge = λ job held leaf farther row fits. owed k page job.point leaf fits.job.point;
       merges = λ activity deed kind row stays fits. subst (AddsFit k) (sym stays.is) (nothing k);
+      merges_two = λ job parent keep gone pair fits. All-cons (JobFits k) job _ fits.job (thin_above k job (parent_page keep gone pair.above) (sight now).meta.icap fits.job);
     }) row fits

@@ -157,4 +157,5 @@ boxes_after meta now good activity wanted deed fits row = each_row now (λ activ
       parts = λ job parent above live plan leaves fits. none_ahead meta.k _ (λ never. never);
       walks_to_merge = λ job held leaf farther row fits. none_ahead meta.k _ (λ never. never);
       merges = λ activity deed kind row stays fits. subst (λ (d : Deed). BoxesFit meta.k d.next) (sym stays.is) (others_have_none meta.k stays.next Consolidators (λ never. never) stays.after.kind);
+      merges_two = λ job parent keep gone pair fits. none_ahead meta.k _ (λ never. never);
     }) row fits

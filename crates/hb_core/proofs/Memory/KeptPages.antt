@@ -11,7 +11,7 @@ use Rattle.hb_core.proofs.Memory.BroughtPages.{same_there}
 use Rattle.hb_core.proofs.Files.FitOps.{HeldArePoints, fits_op}
 use Rattle.hb_core.proofs.Files.GoodChanges.{IsGoodChange, good_change}
 use Rattle.hb_core.proofs.Memory.OwnPages.{gives_up_nothing, runs_out_nothing}
-use Rattle.hb_core.proofs.Files.RowTells.{Tells, tells_row, tells_none}
+use Rattle.hb_core.proofs.Files.RowTells.{Tells, boxes_told, tells_row, tells_none}
 use Rattle.hb_core.specs.AllowedLaws.{IsLicensedHere}
 use Rattle.hb_core.proofs.Table.StepKinds.{each_kind, FlushesMore, rest_kind}
 use Rattle.hb_core.specs.Acting.{MeetsBadPage}
@@ -24,7 +24,7 @@ use Rattle.hb_core.specs.KeptLines.{LinesFit, MetaWithinLimits}
 use Rattle.hb_core.specs.Machines.{Machine}
 use Rattle.hb_core.specs.Performing.{MayDo, Performs}
 use Rattle.hb_core.specs.Steps.{StepsTo, Works}
-use Rattle.hb_store.specs.Calls.{IsAllowedHere, change_here, read_here}
+use Rattle.hb_store.specs.Calls.{IsAllowedHere, change_here}
 use Rattle.hb_store.specs.Making.{HaveFittingParts, MakesGoodPages}
 use Rattle.hb_store.specs.Replaying.{HasLimits}
 use Rattle.hb_store.specs.States.{AreGood, IsGoodPage, StoreState, in_memory}
@@ -39,7 +39,7 @@ pub record KeepsPages (st : StoreState) : Type 0 where
   pub framed : AreGood st.meta (in_memory st)
 
 pub keeps_pages : (m : Machine) → MetaWithinLimits m → HoldsPagesOfFile m → KeepsPages m.store
-keeps_pages m within inside = record { limits = record { layout = within.layout; root_fits = within.root }; high = within.high; live = within.live; free = within.free; framed = inside }
+keeps_pages m within inside = record { limits = record { layout = within.layout; root_fits = within.root; free_fits = within.free }; high = within.high; live = within.live; free = within.free; framed = inside }
 
 pub pages_kept : (m : Machine) → KeepsPages m.store → HoldsPagesOfFile m
 pages_kept m keeps = keeps.framed
@@ -77,7 +77,7 @@ same_pages old new meta memory keeps = record {
 module _ (makes : MakesGoodPages) (parts : HaveFittingParts) (points : HeldArePoints) where
   pub change_is_well : (st : StoreState) (op : Op) → KeepsPages st → IsLicensedHere st op → IsAllowedHere st op → IsGoodChange st.meta (change_here st op)
   change_is_well st op keeps tells allowed =
-      good_change makes st.meta keeps.limits (in_memory st) keeps.framed op (read_here st op 1) (read_here st op 2) (fits_op points parts st keeps.limits keeps.high keeps.framed op tells allowed) allowed
+      good_change makes st.meta keeps.limits (in_memory st) keeps.framed op (fits_op points parts st keeps.limits keeps.high keeps.framed op tells allowed) allowed (boxes_told st op tells)
 
   done : (op : Option Op) (mark : ℕ) (old new : StoreState) → KeepsPages old → Tells old op → MayDo op mark old new → KeepsPages new
   done None mark old new keeps tells same = subst KeepsPages (sym same) keeps
@@ -90,7 +90,7 @@ module _ (makes : MakesGoodPages) (parts : HaveFittingParts) (points : HeldArePo
         limits = subst HasLimits meta after.limits;
         high = subst (λ (meta : Meta). meta.high ≤ meta.pages) meta (after.high keeps.high);
         live = subst (λ (meta : Meta). meta.live ≤ meta.pages) meta (after.live keeps.live);
-        free = subst (λ (meta : Meta). meta.free < 2 ^ 32) meta (after.free keeps.free);
+        free = subst (λ (meta : Meta). meta.free < 2 ^ 32) meta after.limits.free_fits;
         framed = λ id page there. subst (λ (meta : Meta). (1 ≤ id) × (id ≤ meta.high) × IsGoodPage meta page) meta
             (all_set (λ n p. (1 ≤ n) × (n ≤ change.meta.high) × IsGoodPage change.meta p) change.pages (in_memory old)
             (λ k d lt. let c = well.pages k d lt in (c.0.0, c.0.1, c.1))

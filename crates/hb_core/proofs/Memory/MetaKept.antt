@@ -3,7 +3,7 @@ use Rattle.std.proofs.Common.{◌≡◌, ℕ, ◌≤◌, Option, Some, None, ref
 use Rattle.hb_frag.specs.declared.pages.LivePage.{LivePage}
 use Rattle.hb_layout.specs.declared.meta.Meta.{Meta}
 use Rattle.hb_ops.specs.declared.operations.Op.{Op}
-use Rattle.hb_ops.specs.declared.operations.Op.TheVariants.{Put, Del, Extract, Post, Grow}
+use Rattle.hb_ops.specs.declared.operations.Op.TheVariants.{Put, Del, Extract, Post, Merge, Grow}
 use Rattle.hb_core.specs.Performing.{MayDo}
 use Rattle.hb_ops.specs.Operations.{change_of}
 use Rattle.hb_store.specs.Calls.{read_here}
@@ -25,6 +25,10 @@ change_keeps (Extract source fresh path cuts free_after) meta None second third 
 change_keeps (Extract source fresh path cuts free_after) meta (Some page) second third = record { k = refl; height = omega arith }
 change_keeps (Post parent way inner area) meta None second third = same_meta meta meta refl
 change_keeps (Post parent way inner area) meta (Some page) second third = same_meta meta meta refl
+change_keeps (Merge parent keep gone) meta None second third = same_meta meta meta refl
+change_keeps (Merge parent keep gone) meta (Some above) None third = same_meta meta meta refl
+change_keeps (Merge parent keep gone) meta (Some above) (Some kept) None = same_meta meta meta refl
+change_keeps (Merge parent keep gone) meta (Some above) (Some kept) (Some going) = record { k = refl; height = omega arith }
 change_keeps (Grow fresh free_after) meta first second third = record { k = refl; height = omega arith }
 
 -- so does a deed

@@ -51,6 +51,7 @@ IsMade (ops.Put page rec) id = ⊥
 IsMade (ops.Del page point) id = ⊥
 IsMade (ops.Extract source fresh path cuts free_after) id = id ≡ fresh
 IsMade (ops.Post parent path inner area) id = ⊥
+IsMade (ops.Merge parent keep gone) id = ⊥
 IsMade (ops.Grow fresh free_after) id = id ≡ fresh
 
 read_there : (st : StoreState) (id page : ℕ) (live : LivePage) → if_live (in_memory st page) ≡ Some live → id ≡ page → IsSome (in_memory st id)
@@ -91,6 +92,17 @@ made_or_read (ops.Post parent path inner area) st id number = by (if_live (in_me
     by None is never = absurd never
     by (Some live) is (inl same) = inr (read_there st id parent live is same)
     by (Some live) is (inr never) = absurd never
+made_or_read (ops.Merge parent keep gone) st id number = by (if_live (in_memory st parent)) (if_live (in_memory st keep)) (if_live (in_memory st gone)) refl refl refl number
+  where
+    by : (first second third : Option LivePage) → if_live (in_memory st parent) ≡ first → if_live (in_memory st keep) ≡ second → if_live (in_memory st gone) ≡ third
+        → IsNumber id (change_of (ops.Merge parent keep gone) st.meta first second third).pages → ⊥ ⊎ IsSome (in_memory st id)
+    by None second third one two three never = absurd never
+    by (Some above) None third one two three never = absurd never
+    by (Some above) (Some kept) None one two three never = absurd never
+    by (Some above) (Some kept) (Some going) one two three (inl same) = inr (read_there st id parent above one same)
+    by (Some above) (Some kept) (Some going) one two three (inr (inl same)) = inr (read_there st id keep kept two same)
+    by (Some above) (Some kept) (Some going) one two three (inr (inr (inl same))) = inr (read_there st id gone going three same)
+    by (Some above) (Some kept) (Some going) one two three (inr (inr (inr never))) = absurd never
 made_or_read (ops.Grow fresh free_after) st id (inl is) = inl is
 made_or_read (ops.Grow fresh free_after) st id (inr never) = absurd never
 
@@ -106,6 +118,7 @@ MakesWell st activity (Some (ops.Put page rec)) = Unit {0}
 MakesWell st activity (Some (ops.Del page point)) = Unit {0}
 MakesWell st activity (Some (ops.Extract source fresh path cuts free_after)) = IsWellMade st activity fresh free_after
 MakesWell st activity (Some (ops.Post parent path inner area)) = Unit {0}
+MakesWell st activity (Some (ops.Merge parent keep gone)) = Unit {0}
 MakesWell st activity (Some (ops.Grow fresh free_after)) = IsWellMade st activity fresh free_after
 
 module _ (m : Machine) where
@@ -123,6 +136,7 @@ module _ (m : Machine) where
         grows = λ job fresh free_after may free next. (tt, free, is_next_number m.store fresh free_after next);
         posts = λ job parent above path inner area live plan. tt;
         parts = λ job parent above live plan leaves. (tt, leaves.free, is_next_number m.store leaves.fresh leaves.free_after leaves.next);
+        merges = λ job parent keep gone pair. tt;
       }))
       row
 
@@ -142,6 +156,7 @@ takes_makes st activity (Some (ops.Put page rec)) well takes = absurd (false≢t
 takes_makes st activity (Some (ops.Del page point)) well takes = absurd (false≢true takes)
 takes_makes st activity (Some (ops.Extract source fresh path cuts free_after)) well takes = (well.0, well.1)
 takes_makes st activity (Some (ops.Post parent path inner area)) well takes = absurd (false≢true takes)
+takes_makes st activity (Some (ops.Merge parent keep gone)) well takes = absurd (false≢true takes)
 takes_makes st activity (Some (ops.Grow fresh free_after)) well takes = (well.0, well.1)
 
 -- and the page that it makes has the next number
@@ -159,6 +174,7 @@ well_made st activity (ops.Put page rec) id well never = absurd never
 well_made st activity (ops.Del page point) id well never = absurd never
 well_made st activity (ops.Extract source fresh path cuts free_after) id well made = (well.0, well.1, subst (IsNextNumber st) (sym made) (next_is_number st fresh free_after well.2))
 well_made st activity (ops.Post parent path inner area) id well never = absurd never
+well_made st activity (ops.Merge parent keep gone) id well never = absurd never
 well_made st activity (ops.Grow fresh free_after) id well made = (well.0, well.1, subst (IsNextNumber st) (sym made) (next_is_number st fresh free_after well.2))
 
 -- ---- the steps

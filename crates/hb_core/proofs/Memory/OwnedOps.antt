@@ -11,12 +11,14 @@ use Rattle.hb_ops.specs.declared.operations.Op.TheVariants as ops
 use Rattle.hb_set.specs.declared.commands.Command.{Command}
 use Rattle.hb_set.specs.declared.scripts.Line.{Line}
 use Rattle.hb_latch.specs.declared.modes.Mode.TheVariants.{Shared, Exclusive}
+use Rattle.hb_activity.specs.declared.jobs.Job.{Job}
 use Rattle.hb_activity.specs.declared.wanting.Wanted.{Wanted}
 use Rattle.hb_activity.specs.declared.activities.Activity.{Activity}
 use Rattle.hb_activity.specs.declared.activities.Activity.TheVariants as at
 use Rattle.hb_activity.specs.Deeds.{Deed}
 use Rattle.hb_activity.specs.Walks.{goal_of, may_change, session_mode}
 use Rattle.hb_activity.specs.Wanting.{walk_next, wanted_of}
+use Rattle.hb_core.proofs.Files.PairAtHand.{decides_page}
 use Rattle.hb_core.proofs.Memory.NextNumbers.{is_next_number}
 use Rattle.hb_core.proofs.Table.Targets.{IsTarget}
 use Rattle.hb_core.specs.Asking.{HasWayFree, looked_live, wanted_by}
@@ -144,6 +146,14 @@ module _ (m : Machine) (actor : ℕ) (may : ℕ → Type 0) (fetched : StoreStat
   own_parts activity page fresh free_after is mode next id (inl same) = own activity page id is mode same
   own_parts activity page fresh free_after is mode next id (inr same) = made fresh free_after id next same
 
+  -- the three pages of a merge: two are held, and the one that goes is the one that the step latches
+  own_three : (job : Job) (parent keep gone : ℕ) (wanted : Wanted) → m.activity actor ≡ at.ConsolidatorDecide job parent keep gone → wanted_by m actor ≡ Some wanted → (id : ℕ) → (id ≡ parent) ⊎ (id ≡ keep) ⊎ (id ≡ gone) → IsFreeFor m actor id
+  own_three job parent keep gone wanted is wants id (inl same) = own (at.ConsolidatorDecide job parent keep gone) parent id is (at_itself parent (Some Exclusive) (cond (keep == parent) (Some Exclusive) None)) same
+  own_three job parent keep gone wanted is wants id (inr (inl same)) = own (at.ConsolidatorDecide job parent keep gone) keep id is (second_mode parent keep) same
+  own_three job parent keep gone wanted is wants id (inr (inr same)) =
+      let named = decides_page m actor job parent keep gone wanted is wants in
+      like m actor id gone same (inl (inr (record { wanted = wanted; wants = wants; page = named.0; mode = named.1; free = free })))
+
   abbrev Owned : Activity → Option Op → Type 0
   Owned activity op = m.activity actor ≡ activity → Allowed fetched op → OwnsTargets m actor op
 
@@ -165,5 +175,6 @@ module _ (m : Machine) (actor : ℕ) (may : ℕ → Type 0) (fetched : StoreStat
         grows = λ job fresh free_after may free next is allowed id same. made fresh free_after id next same;
         posts = λ job parent above path inner area live plan is allowed id same. own (at.PosterAgain job parent) parent id is (at_itself parent (Some Exclusive) None) same;
         parts = λ job parent above live plan leaves is allowed. own_parts (at.PosterAgain job parent) parent leaves.fresh leaves.free_after is (at_itself parent (Some Exclusive) None) leaves.next;
+        merges = λ job parent keep gone pair is allowed. own_three job parent keep gone its is (wants ∙ at_hand);
       }))
       row refl allowed

@@ -42,6 +42,7 @@ Becomes before after (Some (ops.Put id rec)) = (map.get before rec.key ≡ None)
 Becomes before after (Some (ops.Del id point)) = ((body : List ℕ) × (map.get before point ≡ Some body)) × (after ≡ map.remove before point)
 Becomes before after (Some (ops.Extract source fresh path cuts free_after)) = after ≡ before
 Becomes before after (Some (ops.Post parent at inner area)) = after ≡ before
+Becomes before after (Some (ops.Merge parent keep gone)) = after ≡ before
 Becomes before after (Some (ops.Grow fresh free_after)) = after ≡ before
 
 -- what a line that joins the order does to them
@@ -168,4 +169,5 @@ module _ (points : HeldArePoints) (standing : StandingIsContents) (lacking : Lac
         parts = λ job parent above live plan leaves stays. stays;
         walks_to_merge = λ job held leaf farther row stays. stays;
         merges = λ activity deed kind row moves becomes. joins_of (contents_of s) after activity deed _ moves.is (becomes_of (contents_of s) after activity deed _ moves.is becomes);
+        merges_two = λ job parent keep gone pair stays. stays;
       }) row becomes

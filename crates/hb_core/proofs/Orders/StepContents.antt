@@ -50,6 +50,7 @@ becomes_so s (ops.Put id rec) becomes = becomes
 becomes_so s (ops.Del id point) becomes = becomes
 becomes_so s (ops.Extract source fresh path cuts free_after) becomes = becomes
 becomes_so s (ops.Post parent at inner area) becomes = becomes
+becomes_so s (ops.Merge parent keep gone) becomes = becomes
 becomes_so s (ops.Grow fresh free_after) becomes = becomes
 
 module _ (makes : MakesGoodPages) (parts : HaveFittingParts) (points : HeldArePoints) (keep_contents : OperationsKeepContents) (standing : StandingIsContents) (lacking : LackIsContents)

@@ -74,5 +74,5 @@ puts_find_room m actor fetched deed op knows brings row does line source fresh h
     by (same, command, one) = put_finds m fetched brings line source fresh deed puts half rec (does ∙ ap (λ (o : Op). Some o) put) same command one
 
 pub rows_can_be_done : RowsAreAllowed → RowsCanBeDone
-rows_can_be_done allowed m actor fetched deed op within inside knows brings row does =
-    allowed m actor fetched deed op within inside knows brings row does (puts_find_room m actor fetched deed op knows brings row does)
+rows_can_be_done allowed m actor fetched deed op within inside knows walks brings row does =
+    allowed m actor fetched deed op within inside knows walks brings row does (puts_find_room m actor fetched deed op knows brings row does)

@@ -60,6 +60,10 @@ capacity_of_change (ops.Extract source fresh path cuts free_after) meta None sec
 capacity_of_change (ops.Extract source fresh path cuts free_after) meta (Some page) second third = refl
 capacity_of_change (ops.Post parent way inner area) meta None second third = refl
 capacity_of_change (ops.Post parent way inner area) meta (Some page) second third = refl
+capacity_of_change (ops.Merge parent keep gone) meta None second third = refl
+capacity_of_change (ops.Merge parent keep gone) meta (Some above) None third = refl
+capacity_of_change (ops.Merge parent keep gone) meta (Some above) (Some kept) None = refl
+capacity_of_change (ops.Merge parent keep gone) meta (Some above) (Some kept) (Some going) = refl
 capacity_of_change (ops.Grow fresh free_after) meta first second third = refl
 
 abbrev pub SameCapacity : Machine → Machine → Type 0

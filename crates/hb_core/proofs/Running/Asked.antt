@@ -1,9 +1,9 @@
 -- What a decider is asked: a core that has the pages of a step has all that the decider relies on.
-use Rattle.std.proofs.Common.{◌≡◌, inl, inr, ℕ, ◌<◌, ◌≤◌, List, Option, Some, None, MatchOption, IsSome, IfSome, refl, sym, ap, ◌∙◌, subst, arith}
+use Rattle.std.proofs.Common.{◌≡◌, inl, inr, ℕ, ◌-◌, ◌<◌, ◌≤◌, List, Option, Some, None, MatchOption, IsSome, IfSome, refl, sym, ap, ◌∙◌, subst, arith}
 use Rattle.std.specs.Option.{option_and_then, option_map}
 use Rattle.std.proofs.lemmas.Bool.{cases_lt}
 use Rattle.hb_disk.specs.Model.{DiskModel}
-use Rattle.hb_space.specs.Boxes.{Area, Holds}
+use Rattle.hb_space.specs.Boxes.{Area}
 use Rattle.hb_space.specs.Points.{IsPoint}
 use Rattle.hb_space.specs.declared.records.Record.{Record}
 use Rattle.hb_frag.specs.declared.pages.LivePage.{LivePage}
@@ -27,20 +27,24 @@ use Rattle.hb_activity.specs.Deciding.{FitsFree}
 use Rattle.hb_activity.specs.Passing.{LeadsBelow}
 use Rattle.hb_activity.specs.Walks.{goal_of, job_mode, session_mode, walk_held, walk_point}
 use Rattle.hb_activity.specs.Wanting.{child_of, in_mode, named_child, onward_at, walk_next, wanted_of, wanted_page}
+use Rattle.hb_consol.specs.Asks.{MayBeAsked as MayAskToMerge}
 use Rattle.hb_point.specs.Asks.{MayAsk}
 use Rattle.hb_point.specs.SessionRows.{WantsBoxes}
 use Rattle.hb_poster.specs.Asks.{MakesPage, MayBeAsked}
-use Rattle.hb_search.specs.Searching.{SearchesInside, StaysGathering}
+use Rattle.hb_search.specs.Searching.{MaySearch}
 use Rattle.hb_store.specs.States.{StoreState}
 use Rattle.hb_lemmas.proofs.Options.{at_value, has_value, some_value}
 use Rattle.hb_core.proofs.Machines.BoxesAhead.{corner_ahead, has_last}
-use Rattle.hb_core.proofs.Walks.MayBeAsked.{children_may_be_asked, pages_at_hand_fit, points_may_be_asked, poster_walks_may_be_asked, puts_may_be_asked, splits_may_be_asked, walks_stay_inside}
+use Rattle.hb_core.proofs.Walks.AskedToMerge.{merger_walks_may_be_asked, pairs_may_be_asked}
+use Rattle.hb_core.proofs.Walks.MayBeAsked.{children_may_be_asked, pages_at_hand_fit, points_may_be_asked, poster_walks_may_be_asked, puts_may_be_asked, searches_may_be_asked, splits_may_be_asked}
 use Rattle.hb_core.specs.AllowedLaws.{AnyPage}
 use Rattle.hb_core.specs.Acting.{NeedsNumber}
 use Rattle.hb_core.specs.Asking.{looked_live, wanted_by}
 use Rattle.hb_core.specs.Fetching.{Brings}
 use Rattle.hb_core.specs.KeptMachine.{MachineKeeps}
+use Rattle.hb_core.specs.KeptMerges.{AtParent, IsMerging, NamesKnown, PairHeld, knows, merging_at}
 use Rattle.hb_core.specs.Looking.{AsksPoint, AsksPoster, AsksSearcher, WalksToSearch, number_of_row, other_page}
+use Rattle.hb_core.specs.LookingToMerge.{AsksMerger, second_page}
 use Rattle.hb_core.specs.Machines.{Machine, live_here, next_of}
 use Rattle.hb_core.specs.Rows.{IsAtHand}
 use Rattle.hb_core.specs.Showing.{RunningCore}
@@ -56,13 +60,6 @@ has_goal (Insert rec) rest none = (rec.key, refl)
 has_goal (Delete point) rest none = (point, refl)
 has_goal (Lookup point) rest none = (point, refl)
 has_goal (Search area) rest none = absurd (none tt)
-
--- and a search the corner of its last box
-inside_by : (page : LivePage) (command : Command) (rest : List Area) (p : List ℕ) → WantsBoxes command → goal_of command rest ≡ Some p → Holds page.area p → SearchesInside page command rest
-inside_by page (Search area) rest p wants goal has = subst (λ (g : Option (List ℕ)). MatchOption g ⊥ (Holds page.area)) (sym goal) has
-inside_by page (Insert rec) rest p wants goal has = absurd wants
-inside_by page (Delete point) rest p wants goal has = absurd wants
-inside_by page (Lookup point) rest p wants goal has = absurd wants
 
 -- ---- what a step wants is there
 
@@ -119,7 +116,37 @@ module _ (m : Machine) (actor : ℕ) (may : IsActor actor) (keeps : MachineKeeps
   poster_wants (at.SessionWalk line held rest found) is class working = cc
   poster_wants (at.SessionSplit line held) is class working = cc
   poster_wants (at.SessionPut line source fresh) is class working = cc
+  poster_wants (at.ConsolidatorWalk job held) is class working = cc
+  poster_wants (at.ConsolidatorScan job parent child) is class working = cc
+  poster_wants (at.ConsolidatorTry job parent keep gone leaf) is class working = cc
+  poster_wants (at.ConsolidatorPromote job parent keep gone) is class working = cc
+  poster_wants (at.ConsolidatorKeep job parent keep gone) is class working = cc
+  poster_wants (at.ConsolidatorDecide job parent keep gone) is class working = cc
   poster_wants activity is class working = absurd working
+
+  -- so does the consolidator
+  parent_level : (activity : Activity) (place : AtParent) (named : ℕ) (level : LivePage → ℕ) (mode : Mode) → m.activity actor ≡ activity → merging_at activity ≡ Some place
+      → IsSome (option_map (λ (page : LivePage). wanted_page named (level page) mode) (live_here m.store place.parent))
+  parent_level activity place named level mode is at_place =
+      let known = at_value (merging_at activity) (NamesKnown m.store) place at_place (subst (λ (a : Activity). IfSome (merging_at a) (NamesKnown m.store)) is (keeps.walk_in_space.merging actor)) in
+      subst (λ (o : Option LivePage). IsSome (option_map (λ (page : LivePage). wanted_page named (level page) mode) o)) (sym known.live) refl
+
+  keep_level : (activity : Activity) (job : Job) (parent : ℕ) (names : List ℕ) (pair : PairHeld) (named : ℕ) → m.activity actor ≡ activity → merging_at activity ≡ knows job parent names (Some pair)
+      → IsSome (option_map (λ (page : LivePage). wanted_page named page.level Shared) (live_here m.store pair.keep))
+  keep_level activity job parent names pair named is at_place =
+      let place : AtParent = record { job = job; parent = parent; known = names; pair = Some pair } in
+      let known = at_value (merging_at activity) (NamesKnown m.store) place at_place (subst (λ (a : Activity). IfSome (merging_at a) (NamesKnown m.store)) is (keeps.walk_in_space.merging actor)) in
+      subst (λ (o : Option LivePage). IsSome (option_map (λ (page : LivePage). wanted_page named page.level Shared) o)) (sym known.pair.live) refl
+
+  pub merger_wants : (activity : Activity) → m.activity actor ≡ activity → IsMerging activity → IsSome (wanted_by m actor)
+  merger_wants (at.ConsolidatorWalk job held) is works = wants_page (at.ConsolidatorWalk job held) is (walk_wants (job_mode job) (Some job.point) job.point held refl (ap walk_point is) (ap walk_held is))
+  merger_wants (at.ConsolidatorScan job parent child) is works = wants_page (at.ConsolidatorScan job parent child) is (parent_level (at.ConsolidatorScan job parent child) _ child (λ page. page.level - 1) Shared is refl)
+  merger_wants (at.ConsolidatorTry job parent keep gone leaf) is works =
+      wants_page (at.ConsolidatorTry job parent keep gone leaf) is (keep_level (at.ConsolidatorTry job parent keep gone leaf) job parent _ (record { keep = keep; gone = gone; leaf = Some leaf }) gone is refl)
+  merger_wants (at.ConsolidatorPromote job parent keep gone) is works = wants_page (at.ConsolidatorPromote job parent keep gone) is (parent_level (at.ConsolidatorPromote job parent keep gone) _ parent (λ page. page.level) Exclusive is refl)
+  merger_wants (at.ConsolidatorKeep job parent keep gone) is works = wants_page (at.ConsolidatorKeep job parent keep gone) is (parent_level (at.ConsolidatorKeep job parent keep gone) _ keep (λ page. page.level - 1) Exclusive is refl)
+  merger_wants (at.ConsolidatorDecide job parent keep gone) is works = wants_page (at.ConsolidatorDecide job parent keep gone) is (parent_level (at.ConsolidatorDecide job parent keep gone) _ gone (λ page. page.level - 1) Exclusive is refl)
+  merger_wants activity is works = absurd works
 
 -- A number is given where one is needed: exactly where a page is free.
 pub fits_free : (N : Type 0) (Q : ℕ × ℕ → Type 0) (meta : Meta) (free : Option (ℕ × ℕ)) → meta.live ≤ meta.pages → (N → meta.live < meta.pages) → (meta.live < meta.pages → N) → MatchOption free (¬ N) (λ next. N × Q next) → FitsFree meta free
@@ -224,6 +251,12 @@ module _ (d : DiskModel) (c : RunningCore) (m : Machine) (actor : ℕ) (free : O
   session_asks (at.PosterChild job parent) is class working none points = cc
   session_asks (at.PosterPromote job parent) is class working none points = cc
   session_asks (at.PosterAgain job parent) is class working none points = cc
+  session_asks (at.ConsolidatorWalk job held) is class working none points = cc
+  session_asks (at.ConsolidatorScan job parent child) is class working none points = cc
+  session_asks (at.ConsolidatorTry job parent keep gone leaf) is class working none points = cc
+  session_asks (at.ConsolidatorPromote job parent keep gone) is class working none points = cc
+  session_asks (at.ConsolidatorKeep job parent keep gone) is class working none points = cc
+  session_asks (at.ConsolidatorDecide job parent keep gone) is class working none points = cc
   session_asks activity is class working none points = absurd working
 
   -- ---- searches
@@ -237,14 +270,14 @@ module _ (d : DiskModel) (c : RunningCore) (m : Machine) (actor : ℕ) (free : O
       let goal = corner_ahead line.command rest ends wants in
       let at_goal = ap walk_point is ∙ goal in
       let its = has_wanted (session_wants m actor may keeps line held rest found ends.last.lo is goal) in
-      let inside = walks_stay_inside m actor c.store its.wanted its.page ends.last.lo may keeps brings at_goal (at_value (walk_point (m.activity actor)) IsPoint ends.last.lo at_goal points) its.wants its.hand in
+      let asked = searches_may_be_asked m actor c.store line held rest found its.wanted its.page ends.last.lo may keeps brings is wants at_goal (at_value (walk_point (m.activity actor)) IsPoint ends.last.lo at_goal points) its.wants its.hand in
       subst (λ (w : Option Wanted). AsksSearcher c.store (at.SessionWalk line held rest found) (number_of_row (at.SessionWalk line held rest found) w) free) (sym its.wants) (record {
         layout = layout;
         page = its.page;
         live = its.hand.live;
         made = made its.wanted.page its.page its.hand.live;
         next = next_is_given;
-        asked = (inside_by its.page line.command rest ends.last.lo wants goal inside, subst StaysGathering is (keeps.searches_gather actor));
+        asked = subst (λ (a : Activity). MaySearch a its.page) is asked;
       })
 
   pub searcher_asks : (activity : Activity) → m.activity actor ≡ activity → WalksToSearch activity → IfSome (walk_point activity) IsPoint → AsksAsSearcher activity
@@ -298,7 +331,46 @@ module _ (d : DiskModel) (c : RunningCore) (m : Machine) (actor : ℕ) (free : O
   asks_at (at.SessionWalk line held rest found) its is working class points = cc
   asks_at (at.SessionSplit line held) its is working class points = cc
   asks_at (at.SessionPut line source fresh) its is working class points = cc
+  asks_at (at.ConsolidatorWalk job held) its is working class points = cc
+  asks_at (at.ConsolidatorScan job parent child) its is working class points = cc
+  asks_at (at.ConsolidatorTry job parent keep gone leaf) its is working class points = cc
+  asks_at (at.ConsolidatorPromote job parent keep gone) its is working class points = cc
+  asks_at (at.ConsolidatorKeep job parent keep gone) its is working class points = cc
+  asks_at (at.ConsolidatorDecide job parent keep gone) its is working class points = cc
   asks_at activity its is working class points = absurd working
 
   pub poster_asks : (activity : Activity) → m.activity actor ≡ activity → class_of activity ≡ Posters → IsWorking activity → IfSome (walk_point activity) IsPoint → AsksAsPoster activity
   poster_asks activity is class working points = asks_at activity (has_wanted (poster_wants m actor may keeps activity is class working)) is working class points
+
+  -- ---- the consolidator
+
+  abbrev AsksAsMerger : Activity → Type 0
+  AsksAsMerger activity = AsksMerger c.store activity (number_of_row activity (wanted_by m actor))
+
+  asks_merger : (activity : Activity) (its : HasWanted) → MayAskToMerge activity m.store.meta its.page (other_page c.store activity) (second_page c.store activity) → AsksAsMerger activity
+  asks_merger activity its asked = subst (λ (w : Option Wanted). AsksMerger c.store activity (number_of_row activity w)) (sym its.wants) (record {
+    layout = layout;
+    page = its.page;
+    live = its.hand.live;
+    made = made its.wanted.page its.page its.hand.live;
+    asked = subst (λ (m : Meta). MayAskToMerge activity m its.page (other_page c.store activity) (second_page c.store activity)) (sym meta) asked;
+  })
+
+  asks_at_parent : (activity : Activity) (its : HasWanted) → m.activity actor ≡ activity → IsSome (merging_at activity) → AsksAsMerger activity
+  asks_at_parent activity its is some = asks_merger activity its
+      (subst (λ (a : Activity). MayAskToMerge a m.store.meta its.page (other_page c.store a) (second_page c.store a)) is
+      (pairs_may_be_asked m actor c.store its.page may keeps brings (subst (λ (a : Activity). IsSome (merging_at a)) (sym is) some)))
+
+  asks_to_merge : (activity : Activity) (its : HasWanted) → m.activity actor ≡ activity → IsMerging activity → IfSome (walk_point activity) IsPoint → AsksAsMerger activity
+  asks_to_merge (at.ConsolidatorWalk job held) its is works point =
+      let asked = merger_walks_may_be_asked m actor c.store job held its.wanted its.page may keeps brings is point its.wants its.hand in
+      asks_merger (at.ConsolidatorWalk job held) its (subst (λ (a : Activity). MayAskToMerge a m.store.meta its.page None None) is asked)
+  asks_to_merge (at.ConsolidatorScan job parent child) its is works point = asks_at_parent (at.ConsolidatorScan job parent child) its is refl
+  asks_to_merge (at.ConsolidatorTry job parent keep gone leaf) its is works point = asks_at_parent (at.ConsolidatorTry job parent keep gone leaf) its is refl
+  asks_to_merge (at.ConsolidatorPromote job parent keep gone) its is works point = asks_at_parent (at.ConsolidatorPromote job parent keep gone) its is refl
+  asks_to_merge (at.ConsolidatorKeep job parent keep gone) its is works point = asks_at_parent (at.ConsolidatorKeep job parent keep gone) its is refl
+  asks_to_merge (at.ConsolidatorDecide job parent keep gone) its is works point = asks_at_parent (at.ConsolidatorDecide job parent keep gone) its is refl
+  asks_to_merge activity its is works point = absurd works
+
+  pub merger_asks : (activity : Activity) → m.activity actor ≡ activity → IsMerging activity → IfSome (walk_point activity) IsPoint → AsksAsMerger activity
+  merger_asks activity is works points = asks_to_merge activity (has_wanted (merger_wants m actor may keeps activity is works)) is works points

@@ -1,7 +1,8 @@
 -- The wanted page comes and is the one that was asked for, or the step halts.
-use Rattle.std.proofs.Common.{◌≡◌, ◌≢◌, ◌⊎◌, inl, inr, ℕ, true, false, List, Option, Some, None, Result, Ok, Err, IfOk, IfSome, IsSome, refl, sym, ap, ◌∙◌, subst, arith}
+use Rattle.std.proofs.Common.{◌≡◌, ◌≢◌, ◌⊎◌, inl, inr, ℕ, true, false, List, [], ◌∷◌, Option, Some, None, Result, Ok, Err, IfOk, IfSome, IsSome, IsTrue, refl, sym, ap, ◌∙◌, subst, arith}
 use Rattle.std.specs.Option.{option_and_then, option_map, MatchOption}
 use Rattle.std.specs.Result.{OnOk}
+use Rattle.std.proofs.lemmas.List.Elements.{All-head}
 use Rattle.std.proofs.lemmas.Option.{same_Some}
 use Rattle.hb_disk.specs.Model.{DiskModel}
 use Rattle.hb_frag.specs.declared.leaves.Leaf.{Leaf}
@@ -24,6 +25,7 @@ use Rattle.hb_activity.specs.declared.activities.Activity.{Activity}
 use Rattle.hb_activity.specs.declared.activities.Activity.TheVariants as at
 use Rattle.hb_activity.specs.Walks.{goal_of, job_mode, session_mode}
 use Rattle.hb_activity.specs.Wanting.{child_of, in_mode, named_child, named_page, walk_next, wanted_page}
+use Rattle.hb_consol.specs.ConsolidatorRows.{names_child}
 use Rattle.hb_store.specs.Calls.{Fetched}
 use Rattle.hb_store.specs.Fetching.{Breaks, FetchesNot, IsNoPage, LooksUp}
 use Rattle.hb_store.specs.Keeps.{StoreKeeps, last_of}
@@ -36,12 +38,14 @@ use Rattle.hb_store.specs.declared.stops.Why.TheVariants.{Rule, Level, Extent}
 use Rattle.hb_core.specs.declared.halts.Halt.TheVariants.{Stops}
 use Rattle.hb_core.proofs.Files.SoundFiles.{current_sound, files_hold}
 use Rattle.hb_core.proofs.Running.Brought.{brings_none, brings_wider, fetch_brings, fetch_keeps, shows_again, shows_store}
-use Rattle.hb_core.proofs.Running.Looks.{may_look, wants_same}
+use Rattle.hb_core.proofs.Running.LeafBoxes.{Asks, child_asks_there, place_asks_there, sibling_asks_there}
+use Rattle.hb_core.proofs.Running.Looks.{may_look, names_stay, wants_same}
 use Rattle.hb_core.proofs.Running.StandsElsewhere.{shows_but, stands_as}
 use Rattle.hb_core.specs.Acting.{IsBadWanted, LacksNeeded, MayNeed}
-use Rattle.hb_core.specs.Asking.{AskedBox, IsNotAsked, asked_box, box_at, box_by_leaf, wanted_by, whole_box}
+use Rattle.hb_core.specs.Asking.{AskedBox, IsNotAsked, asked_box, box_at, box_by_leaf, box_of_child, box_of_place, box_of_sibling, wanted_by, whole_box}
 use Rattle.hb_core.specs.Fetching.{Brings, IsDamaged, IsWantedPage}
 use Rattle.hb_core.specs.Keeps.{HasSoundFile}
+use Rattle.hb_core.specs.KeptMerges.{NamesKnown, merging_at}
 use Rattle.hb_core.specs.Looking.{FailsTest, IsOfOtherLevel, MayLook, PassesTest, wanted_in}
 use Rattle.hb_core.specs.Moving.{StandsAs, with_store}
 use Rattle.hb_core.specs.Machines.{Files, Machine, current_file, live_here, with_disk}
@@ -61,34 +65,30 @@ none_where (Some x) never = absurd (never refl)
 
 -- ---- the box that is asked for
 
--- a box is asked for
-abbrev AsksFor : Option AskedBox → Type 0
-AsksFor o = (asked : AskedBox) × (o ≡ Some asked)
-
-leaf_asks : (mode : ℕ → Mode) (level : ℕ) (leaf : Leaf) (area : Area) (wanted : Wanted) → in_mode mode (named_page level leaf) ≡ Some wanted → AsksFor (box_by_leaf (record { leaf = leaf; area = area }))
+leaf_asks : (mode : ℕ → Mode) (level : ℕ) (leaf : Leaf) (area : Area) (wanted : Wanted) → in_mode mode (named_page level leaf) ≡ Some wanted → Asks (box_by_leaf (record { leaf = leaf; area = area }))
 leaf_asks mode level (Records records) area wanted wants = cc
 leaf_asks mode level (Child page) area wanted wants = (record { area = area; exact = false }, refl)
 leaf_asks mode level (Sibling page) area wanted wants = (record { area = area; exact = true }, refl)
 
-placed_asks : (mode : ℕ → Mode) (level : ℕ) (o : Option Placed) (wanted : Wanted) → in_mode mode (option_and_then (λ (l : Placed). named_page level l.leaf) o) ≡ Some wanted → AsksFor (option_and_then box_by_leaf o)
+placed_asks : (mode : ℕ → Mode) (level : ℕ) (o : Option Placed) (wanted : Wanted) → in_mode mode (option_and_then (λ (l : Placed). named_page level l.leaf) o) ≡ Some wanted → Asks (option_and_then box_by_leaf o)
 placed_asks mode level None wanted wants = cc
 placed_asks mode level (Some l) wanted wants = leaf_asks mode level l.leaf l.area wanted wants
 
-walk_asks : (mode : ℕ → Mode) (goal : Option (List ℕ)) (held : ℕ) (meta : Meta) (o : Option LivePage) (wanted : Wanted) → in_mode mode (walk_next goal (Some held) meta o) ≡ Some wanted → AsksFor (box_at o goal)
+walk_asks : (mode : ℕ → Mode) (goal : Option (List ℕ)) (held : ℕ) (meta : Meta) (o : Option LivePage) (wanted : Wanted) → in_mode mode (walk_next goal (Some held) meta o) ≡ Some wanted → Asks (box_at o goal)
 walk_asks mode None held meta o wanted wants = cc
 walk_asks mode (Some p) held meta None wanted wants = cc
 walk_asks mode (Some p) held meta (Some page) wanted wants = placed_asks mode page.level (leaf_at page p) wanted wants
 
-child_leaf_asks : (level : ℕ) (leaf : Leaf) (area : Area) (wanted : Wanted) → in_mode (λ level. Shared) (named_child level leaf) ≡ Some wanted → AsksFor (box_by_leaf (record { leaf = leaf; area = area }))
+child_leaf_asks : (level : ℕ) (leaf : Leaf) (area : Area) (wanted : Wanted) → in_mode (λ level. Shared) (named_child level leaf) ≡ Some wanted → Asks (box_by_leaf (record { leaf = leaf; area = area }))
 child_leaf_asks level (Records records) area wanted wants = cc
 child_leaf_asks level (Child page) area wanted wants = (record { area = area; exact = false }, refl)
 child_leaf_asks level (Sibling page) area wanted wants = cc
 
-child_placed_asks : (level : ℕ) (o : Option Placed) (wanted : Wanted) → in_mode (λ level. Shared) (option_and_then (λ (l : Placed). named_child level l.leaf) o) ≡ Some wanted → AsksFor (option_and_then box_by_leaf o)
+child_placed_asks : (level : ℕ) (o : Option Placed) (wanted : Wanted) → in_mode (λ level. Shared) (option_and_then (λ (l : Placed). named_child level l.leaf) o) ≡ Some wanted → Asks (option_and_then box_by_leaf o)
 child_placed_asks level None wanted wants = cc
 child_placed_asks level (Some l) wanted wants = child_leaf_asks level l.leaf l.area wanted wants
 
-child_asks : (p : List ℕ) (o : Option LivePage) (wanted : Wanted) → in_mode (λ level. Shared) (option_and_then (λ (page : LivePage). child_of page p) o) ≡ Some wanted → AsksFor (box_at o (Some p))
+child_asks : (p : List ℕ) (o : Option LivePage) (wanted : Wanted) → in_mode (λ level. Shared) (option_and_then (λ (page : LivePage). child_of page p) o) ≡ Some wanted → Asks (box_at o (Some p))
 child_asks p None wanted wants = cc
 child_asks p (Some page) wanted wants = child_placed_asks page.level (leaf_at page p) wanted wants
 
@@ -110,18 +110,33 @@ promotes st activity parent (Some page) wanted none is wants =
       level = ap (λ (w : Wanted). w.level) same;
     }
 
-pub asks_or_promotes : (st : StoreState) (activity : Activity) (wanted : Wanted) → IsWorking activity → wanted_in st activity ≡ Some wanted → AsksFor (asked_box activity st) ⊎ IsPromoted st activity wanted
-asks_or_promotes st (at.SessionWalk line None rest found) wanted working wants = inl (whole_box st.meta.k, refl)
-asks_or_promotes st (at.SessionWalk line (Some held) rest found) wanted working wants = inl (walk_asks (session_mode line.command) (goal_of line.command rest) held st.meta (live_here st held) wanted wants)
-asks_or_promotes st (at.PosterGrow job) wanted working wants = inl (whole_box st.meta.k, refl)
-asks_or_promotes st (at.PosterWalk job None) wanted working wants = inl (whole_box st.meta.k, refl)
-asks_or_promotes st (at.PosterWalk job (Some held)) wanted working wants = inl (walk_asks (job_mode job) (Some job.point) held st.meta (live_here st held) wanted wants)
-asks_or_promotes st (at.PosterChild job parent) wanted working wants = inl (child_asks job.point (live_here st parent) wanted wants)
-asks_or_promotes st (at.PosterAgain job parent) wanted working wants = inl (child_asks job.point (live_here st parent) wanted wants)
-asks_or_promotes st (at.PosterPromote job parent) wanted working wants = inr (promotes st (at.PosterPromote job parent) parent (live_here st parent) wanted refl refl wants)
-asks_or_promotes st (at.SessionSplit line held) wanted working wants = cc
-asks_or_promotes st (at.SessionPut line source fresh) wanted working wants = cc
-asks_or_promotes st activity wanted working wants = absurd working
+-- of a page that is there
+asks_by : (box : Option LivePage → Option AskedBox) (o : Option LivePage) (page : LivePage) → o ≡ Some page → Asks (box (Some page)) → Asks (box o)
+asks_by box o page is asks = subst (λ (q : Option LivePage). Asks (box q)) (sym is) asks
+
+pub asks_or_promotes : (st : StoreState) (activity : Activity) (wanted : Wanted) → IsWorking activity → IfSome (merging_at activity) (NamesKnown st) → wanted_in st activity ≡ Some wanted → Asks (asked_box activity st) ⊎ IsPromoted st activity wanted
+asks_or_promotes st (at.SessionWalk line None rest found) wanted working known wants = inl (whole_box st.meta.k, refl)
+asks_or_promotes st (at.SessionWalk line (Some held) rest found) wanted working known wants = inl (walk_asks (session_mode line.command) (goal_of line.command rest) held st.meta (live_here st held) wanted wants)
+asks_or_promotes st (at.PosterGrow job) wanted working known wants = inl (whole_box st.meta.k, refl)
+asks_or_promotes st (at.PosterWalk job None) wanted working known wants = inl (whole_box st.meta.k, refl)
+asks_or_promotes st (at.PosterWalk job (Some held)) wanted working known wants = inl (walk_asks (job_mode job) (Some job.point) held st.meta (live_here st held) wanted wants)
+asks_or_promotes st (at.PosterChild job parent) wanted working known wants = inl (child_asks job.point (live_here st parent) wanted wants)
+asks_or_promotes st (at.PosterAgain job parent) wanted working known wants = inl (child_asks job.point (live_here st parent) wanted wants)
+asks_or_promotes st (at.PosterPromote job parent) wanted working known wants = inr (promotes st (at.PosterPromote job parent) parent (live_here st parent) wanted refl refl wants)
+asks_or_promotes st (at.SessionSplit line held) wanted working known wants = cc
+asks_or_promotes st (at.SessionPut line source fresh) wanted working known wants = cc
+asks_or_promotes st (at.ConsolidatorWalk job None) wanted working known wants = inl (whole_box st.meta.k, refl)
+asks_or_promotes st (at.ConsolidatorWalk job (Some held)) wanted working known wants = inl (walk_asks (job_mode job) (Some job.point) held st.meta (live_here st held) wanted wants)
+asks_or_promotes st (at.ConsolidatorScan job parent child) wanted working known wants =
+    inl (asks_by (λ o. box_of_child o child) (live_here st parent) known.page known.live (child_asks_there known.page child (All-head (λ (id : ℕ). IsTrue (names_child known.page id)) child [] known.names)))
+asks_or_promotes st (at.ConsolidatorTry job parent keep gone leaf) wanted working known wants =
+    inl (asks_by (λ o. box_of_place o leaf) (live_here st keep) known.pair.page known.pair.live (place_asks_there known.pair.page leaf gone known.pair.gave))
+asks_or_promotes st (at.ConsolidatorPromote job parent keep gone) wanted working known wants = inr (promotes st (at.ConsolidatorPromote job parent keep gone) parent (live_here st parent) wanted refl refl wants)
+asks_or_promotes st (at.ConsolidatorKeep job parent keep gone) wanted working known wants =
+    inl (asks_by (λ o. box_of_child o keep) (live_here st parent) known.page known.live (child_asks_there known.page keep (All-head (λ (id : ℕ). IsTrue (names_child known.page id)) keep (gone ∷ []) known.names)))
+asks_or_promotes st (at.ConsolidatorDecide job parent keep gone) wanted working known wants =
+    inl (asks_by (λ o. box_of_sibling o gone) (live_here st keep) known.pair.page known.pair.live (sibling_asks_there known.pair.page gone known.pair.gave))
+asks_or_promotes st activity wanted working known wants = absurd working
 
 -- ---- a disk that tells has no damaged page
 
@@ -168,8 +183,8 @@ module _ (m : Machine) (d : DiskModel) (c : RunningCore) (actor : ℕ) (latches 
     -- ---- the page isn't fetched
 
     module _ (absent : in_memory m.store wanted.page ≡ None) where
-      asks_now : AsksFor (asked_box activity m.store)
-      asks_now = elim (asks_or_promotes m.store activity wanted work.working wants) [
+      asks_now : Asks (asked_box activity m.store)
+      asks_now = elim (asks_or_promotes m.store activity wanted work.working (work.goes_on.kept.walk_in_space.merging actor) wants) [
         | inl asked ↦ asked
         | inr held ↦ absurd (not_none (in_memory m.store wanted.page) (Live held.page) (live_so (in_memory m.store wanted.page) held.page held.live) absent)
       ]
@@ -232,6 +247,9 @@ module _ (m : Machine) (d : DiskModel) (c : RunningCore) (actor : ℕ) (latches 
       wants_then : wanted_in st activity ≡ Some wanted
       wants_then = wants_same m actor latches work.goes_on.kept (λ id. id ≡ wanted.page) st brings_it ∙ wants
 
+      known_then : IfSome (merging_at activity) (NamesKnown st)
+      known_then = names_stay m actor latches work.goes_on.kept (λ id. id ≡ wanted.page) st brings_it
+
       pub passed : PassesTest st activity wanted → HasCome m actor e (with_store st c)
       passed passes = record {
         may = work;
@@ -257,7 +275,7 @@ module _ (m : Machine) (d : DiskModel) (c : RunningCore) (actor : ℕ) (latches 
       Mismatches page why o = MatchOption o (IsOfOtherLevel wanted page) (λ asked. IsNotAsked wanted asked page why)
 
       is_bad : (why : Why) (page : Page) → in_memory st wanted.page ≡ Some page → Mismatches page why (asked_box activity st) → IsBadWanted m.files st (Some wanted) (asked_box activity st) wanted.page why
-      is_bad why page there other = elim (asks_or_promotes st activity wanted work.working wants_then) [
+      is_bad why page there other = elim (asks_or_promotes st activity wanted work.working known_then wants_then) [
         | inl asked ↦ subst (λ (o : Option AskedBox). IsBadWanted m.files st (Some wanted) o wanted.page why) (sym asked.1)
             (refl, inr (inr (has_number page there, page, there, subst (Mismatches page why) asked.1 other)))
         | inr held ↦ absurd (of_other_level page held.page (same_Some page (Live held.page) (sym there ∙ live_so (in_memory st wanted.page) held.page held.live)) held.level (subst (Mismatches page why) held.none other))

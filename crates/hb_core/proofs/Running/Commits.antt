@@ -92,6 +92,7 @@ module _ (m : Machine) (actor : ℕ) (fetched : StoreState) (keeps : MachineKeep
             grows = λ job fresh free_after may free next is. refl;
             posts = λ job parent above path inner area live plan is. refl;
             parts = λ job parent above live plan leaves is. refl;
+            merges = λ job parent keep gone pair is. refl;
           }))
           row
 
@@ -131,6 +132,7 @@ module _ (d : DiskModel) (c : RunningCore) (m : Machine) (actor : ℕ) (may : Is
       ready = ready_there;
       points = here.attributes;
       allowed = here.allowed;
+      boxes = here.boxes;
       licensed = licensed_there;
       marks = marks_there;
     }

@@ -15,17 +15,20 @@ use Rattle.hb_activity.specs.Classes.{Consolidators, Flushers, Posters, Sessions
 use Rattle.hb_activity.specs.Deeds.{Deed}
 use Rattle.hb_activity.specs.Sights.{Sight}
 use Rattle.hb_activity.specs.Walks.{goal_of, walk_point}
+use Rattle.hb_consol.specs.MergeRows.{ConsolidatorRow}
 use Rattle.hb_point.specs.SessionRows.{PointRow, WantsBoxes}
 use Rattle.hb_poster.specs.PosterRows.{PosterRow}
 use Rattle.hb_search.specs.Searching.{SearchRow}
 use Rattle.hb_store.specs.States.{StoreState}
 use Rattle.hb_core.proofs.Machines.BoxesAhead.{corner_ahead, has_last}
-use Rattle.hb_core.proofs.Running.Asked.{HasWanted, alone, has_goal, has_wanted, poster_asks, poster_wants, searcher_asks, session_asks, session_wants}
+use Rattle.hb_core.proofs.Running.Asked.{HasWanted, alone, has_goal, has_wanted, merger_asks, merger_wants, poster_asks, poster_wants, searcher_asks, session_asks, session_wants}
 use Rattle.hb_core.proofs.Running.LiftedRows.{row_of_search, row_of_walk}
 use Rattle.hb_core.specs.Asking.{wanted_by}
 use Rattle.hb_core.specs.KeptFits.{class_for}
 use Rattle.hb_core.specs.KeptMachine.{MachineKeeps}
+use Rattle.hb_core.specs.KeptMerges.{IsMerging}
 use Rattle.hb_core.specs.Looking.{AsksPoint, AsksPoster, AsksSearcher, HasPointRow, HasPosterRow, HasSearchRow, WalksToSearch, number_of_row, sight_in}
+use Rattle.hb_core.specs.LookingToMerge.{AsksMerger, HasMergerRow}
 use Rattle.hb_core.specs.Machines.{Machine, sight}
 use Rattle.hb_core.specs.Moving.{StandsAs}
 use Rattle.hb_core.specs.Rows.{IsAtHand, Row, RowAt}
@@ -34,21 +37,45 @@ use Rattle.hb_core.specs.Working.{HasPages, IsWorking, with_memory}
 
 -- ---- who is at work
 
-pub works_as : (activity : Activity) → IsWorking activity → (class_of activity ≡ Sessions) ⊎ (class_of activity ≡ Posters)
+pub works_as : (activity : Activity) → IsWorking activity → (class_of activity ≡ Sessions) ⊎ (class_of activity ≡ Posters) ⊎ IsMerging activity
 works_as (at.SessionWalk line held rest found) working = inl refl
 works_as (at.SessionSplit line held) working = inl refl
 works_as (at.SessionPut line source fresh) working = inl refl
-works_as (at.PosterGrow job) working = inr refl
-works_as (at.PosterWalk job held) working = inr refl
-works_as (at.PosterChild job parent) working = inr refl
-works_as (at.PosterPromote job parent) working = inr refl
-works_as (at.PosterAgain job parent) working = inr refl
+works_as (at.PosterGrow job) working = inr (inl refl)
+works_as (at.PosterWalk job held) working = inr (inl refl)
+works_as (at.PosterChild job parent) working = inr (inl refl)
+works_as (at.PosterPromote job parent) working = inr (inl refl)
+works_as (at.PosterAgain job parent) working = inr (inl refl)
+works_as (at.ConsolidatorWalk job held) working = inr (inr tt)
+works_as (at.ConsolidatorScan job parent child) working = inr (inr tt)
+works_as (at.ConsolidatorTry job parent keep gone leaf) working = inr (inr tt)
+works_as (at.ConsolidatorPromote job parent keep gone) working = inr (inr tt)
+works_as (at.ConsolidatorKeep job parent keep gone) working = inr (inr tt)
+works_as (at.ConsolidatorDecide job parent keep gone) working = inr (inr tt)
 works_as activity working = absurd working
 
 never_posts : (merges flushes : Bool) → cond merges Consolidators (cond flushes Flushers Sessions) ≡ Posters → ⊥
 never_posts true flushes is = cc
 never_posts false true is = cc
 never_posts false false is = cc
+
+-- who merges is a consolidator, and a consolidator is the one actor for that
+merging_class : (activity : Activity) → IsMerging activity → class_of activity ≡ Consolidators
+merging_class (at.ConsolidatorWalk job held) merging = refl
+merging_class (at.ConsolidatorScan job parent child) merging = refl
+merging_class (at.ConsolidatorTry job parent keep gone leaf) merging = refl
+merging_class (at.ConsolidatorPromote job parent keep gone) merging = refl
+merging_class (at.ConsolidatorKeep job parent keep gone) merging = refl
+merging_class (at.ConsolidatorDecide job parent keep gone) merging = refl
+merging_class activity merging = absurd merging
+
+never_merges : (posts flushes : Bool) → cond posts Posters (cond flushes Flushers Sessions) ≡ Consolidators → ⊥
+never_merges true flushes is = cc
+never_merges false true is = cc
+never_merges false false is = cc
+
+no_merger : (actor : ℕ) → (actor == 18) ≡ false → class_for actor ≡ Consolidators → ⊥
+no_merger actor off is = never_merges (actor == 17) (actor == 19) (sym (ap (λ (b : Bool). cond (actor == 17) Posters (cond b Consolidators (cond (actor == 19) Flushers Sessions))) off) ∙ is)
 
 never_else : (actor : ℕ) → (actor == 17) ≡ false → class_for actor ≡ Posters → ⊥
 never_else actor off is = never_posts (actor == 18) (actor == 19) (sym (ap (λ (b : Bool). cond b Posters (cond (actor == 18) Consolidators (cond (actor == 19) Flushers Sessions))) off) ∙ is)
@@ -63,7 +90,23 @@ row_of_poster s (at.PosterAgain job parent) id page deed class working row = row
 row_of_poster s (at.SessionWalk line held rest found) id page deed class working row = cc
 row_of_poster s (at.SessionSplit line held) id page deed class working row = cc
 row_of_poster s (at.SessionPut line source fresh) id page deed class working row = cc
+row_of_poster s (at.ConsolidatorWalk job held) id page deed class working row = cc
+row_of_poster s (at.ConsolidatorScan job parent child) id page deed class working row = cc
+row_of_poster s (at.ConsolidatorTry job parent keep gone leaf) id page deed class working row = cc
+row_of_poster s (at.ConsolidatorPromote job parent keep gone) id page deed class working row = cc
+row_of_poster s (at.ConsolidatorKeep job parent keep gone) id page deed class working row = cc
+row_of_poster s (at.ConsolidatorDecide job parent keep gone) id page deed class working row = cc
 row_of_poster s activity id page deed class working row = absurd working
+
+-- and a consolidator's
+pub row_of_merger : (s : Sight) (activity : Activity) (id : ℕ) (page : LivePage) (deed : Deed) → IsMerging activity → ConsolidatorRow activity s id page deed → RowAt activity s id page deed
+row_of_merger s (at.ConsolidatorWalk job held) id page deed merging row = row
+row_of_merger s (at.ConsolidatorScan job parent child) id page deed merging row = row
+row_of_merger s (at.ConsolidatorTry job parent keep gone leaf) id page deed merging row = row
+row_of_merger s (at.ConsolidatorPromote job parent keep gone) id page deed merging row = row
+row_of_merger s (at.ConsolidatorKeep job parent keep gone) id page deed merging row = row
+row_of_merger s (at.ConsolidatorDecide job parent keep gone) id page deed merging row = row
+row_of_merger s activity id page deed merging row = absurd merging
 
 module _ (d : DiskModel) (c : RunningCore) (m : Machine) (actor : ℕ) (free : Option (ℕ × ℕ)) (may : IsActor actor) (has : HasPages m actor free d c) where
   keeps : MachineKeeps m
@@ -81,20 +124,34 @@ module _ (d : DiskModel) (c : RunningCore) (m : Machine) (actor : ℕ) (free : O
   pub posts : (activity : Activity) → m.activity actor ≡ activity → actor ≡ 17 → class_of activity ≡ Posters
   posts activity is poster = class_is activity is ∙ ap class_for poster
 
-  pub is_session : (activity : Activity) → m.activity actor ≡ activity → (actor == 17) ≡ false → class_of activity ≡ Sessions
-  is_session activity is off = elim (works_as activity (works activity is)) [
+  pub merges : (activity : Activity) → m.activity actor ≡ activity → actor ≡ 18 → IsMerging activity
+  merges activity is merger = elim (works_as activity (works activity is)) [
+    | inl session ↦ absurd (no_session (sym session ∙ class_is activity is ∙ ap class_for merger))
+    | inr (inl poster) ↦ absurd (no_poster (sym poster ∙ class_is activity is ∙ ap class_for merger))
+    | inr (inr merging) ↦ merging
+  ]
+    where
+      no_session : Sessions ≡ Consolidators → ⊥
+      no_session is = cc
+
+      no_poster : Posters ≡ Consolidators → ⊥
+      no_poster is = cc
+
+  pub is_session : (activity : Activity) → m.activity actor ≡ activity → (actor == 17) ≡ false → (actor == 18) ≡ false → class_of activity ≡ Sessions
+  is_session activity is off other = elim (works_as activity (works activity is)) [
     | inl session ↦ session
-    | inr poster ↦ absurd (never_else actor off (sym (class_is activity is) ∙ poster))
+    | inr (inl poster) ↦ absurd (never_else actor off (sym (class_is activity is) ∙ poster))
+    | inr (inr merging) ↦ absurd (no_merger actor other (sym (class_is activity is) ∙ merging_class activity merging))
   ]
 
   -- ---- what the deciders are asked
 
-  pub may_ask_session : (activity : Activity) (wanted : Option Wanted) (st : StoreState) → StandsAs c actor activity → wanted ≡ wanted_by m actor → st ≡ c.store → (actor == 17) ≡ false → (WalksToSearch activity → ⊥) → IfSome (walk_point activity) IsPoint → AsksPoint st activity (number_of_row activity wanted) free
-  may_ask_session activity wanted st stood wants same off none points =
+  pub may_ask_session : (activity : Activity) (wanted : Option Wanted) (st : StoreState) → StandsAs c actor activity → wanted ≡ wanted_by m actor → st ≡ c.store → (actor == 17) ≡ false → (actor == 18) ≡ false → (WalksToSearch activity → ⊥) → IfSome (walk_point activity) IsPoint → AsksPoint st activity (number_of_row activity wanted) free
+  may_ask_session activity wanted st stood wants same off other none points =
       let is = stands activity stood in
       subst (λ (st : StoreState). AsksPoint st activity (number_of_row activity wanted) free) (sym same)
       (subst (λ (w : Option Wanted). AsksPoint c.store activity (number_of_row activity w) free) (sym wants)
-      (session_asks d c m actor free may has activity is (is_session activity is off) (works activity is) none points))
+      (session_asks d c m actor free may has activity is (is_session activity is off other) (works activity is) none points))
 
   pub may_ask_searcher : (activity : Activity) (wanted : Option Wanted) (st : StoreState) → StandsAs c actor activity → wanted ≡ wanted_by m actor → st ≡ c.store → WalksToSearch activity → IfSome (walk_point activity) IsPoint → AsksSearcher st activity (number_of_row activity wanted) free
   may_ask_searcher activity wanted st stood wants same searches points =
@@ -108,6 +165,13 @@ module _ (d : DiskModel) (c : RunningCore) (m : Machine) (actor : ℕ) (free : O
       subst (λ (st : StoreState). AsksPoster st activity (number_of_row activity wanted) free) (sym same)
       (subst (λ (w : Option Wanted). AsksPoster c.store activity (number_of_row activity w) free) (sym wants)
       (poster_asks d c m actor free may has activity is (posts activity is poster) (works activity is) points))
+
+  pub may_ask_merger : (activity : Activity) (wanted : Option Wanted) (st : StoreState) → StandsAs c actor activity → wanted ≡ wanted_by m actor → st ≡ c.store → actor ≡ 18 → IfSome (walk_point activity) IsPoint → AsksMerger st activity (number_of_row activity wanted)
+  may_ask_merger activity wanted st stood wants same merger points =
+      let is = stands activity stood in
+      subst (λ (st : StoreState). AsksMerger st activity (number_of_row activity wanted)) (sym same)
+      (subst (λ (w : Option Wanted). AsksMerger c.store activity (number_of_row activity w)) (sym wants)
+      (merger_asks d c m actor free may has activity is (merges activity is merger) points))
 
   -- ---- the rows
 
@@ -157,6 +221,12 @@ module _ (d : DiskModel) (c : RunningCore) (m : Machine) (actor : ℕ) (free : O
   session_row (at.PosterChild job parent) deed is class working none row = cc
   session_row (at.PosterPromote job parent) deed is class working none row = cc
   session_row (at.PosterAgain job parent) deed is class working none row = cc
+  session_row (at.ConsolidatorWalk job held) deed is class working none row = cc
+  session_row (at.ConsolidatorScan job parent child) deed is class working none row = cc
+  session_row (at.ConsolidatorTry job parent keep gone leaf) deed is class working none row = cc
+  session_row (at.ConsolidatorPromote job parent keep gone) deed is class working none row = cc
+  session_row (at.ConsolidatorKeep job parent keep gone) deed is class working none row = cc
+  session_row (at.ConsolidatorDecide job parent keep gone) deed is class working none row = cc
   session_row activity deed is class working none row = absurd working
 
   -- of the page at hand, where one is wanted
@@ -172,13 +242,13 @@ module _ (d : DiskModel) (c : RunningCore) (m : Machine) (actor : ℕ) (free : O
       at_hand activity its deed is (row_of_poster (sight (with_memory c m)) activity its.wanted.page its.page deed class working
       (subst (λ (q : LivePage). PosterRow activity (sight_in c.store (length m.order)) its.wanted.page q deed) same at_page.2))
 
-  pub decided_session : (activity : Activity) (wanted : Option Wanted) (st : StoreState) (deed : Activity → Deed) → StandsAs c actor activity → wanted ≡ wanted_by m actor → st ≡ c.store → (actor == 17) ≡ false → (WalksToSearch activity → ⊥)
+  pub decided_session : (activity : Activity) (wanted : Option Wanted) (st : StoreState) (deed : Activity → Deed) → StandsAs c actor activity → wanted ≡ wanted_by m actor → st ≡ c.store → (actor == 17) ≡ false → (actor == 18) ≡ false → (WalksToSearch activity → ⊥)
       → HasPointRow st activity (number_of_row activity wanted) (length m.order) (deed activity) → Row (m.activity actor) (wanted_by m actor) (with_memory c m) (deed (m.activity actor))
-  decided_session activity wanted st deed stood wants same off none row =
+  decided_session activity wanted st deed stood wants same off other none row =
       let is = stands activity stood in
       let here = subst (λ (st : StoreState). HasPointRow st activity (number_of_row activity wanted) (length m.order) (deed activity)) same row in
       let own = subst (λ (w : Option Wanted). HasPointRow c.store activity (number_of_row activity w) (length m.order) (deed activity)) wants here in
-      subst (λ (a : Activity). OwnRow a (wanted_by m actor) (deed a)) (sym is) (session_row activity (deed activity) is (is_session activity is off) (works activity is) none own)
+      subst (λ (a : Activity). OwnRow a (wanted_by m actor) (deed a)) (sym is) (session_row activity (deed activity) is (is_session activity is off other) (works activity is) none own)
 
   pub decided_search : (activity : Activity) (wanted : Option Wanted) (st : StoreState) (deed : Activity → Deed) → StandsAs c actor activity → wanted ≡ wanted_by m actor → st ≡ c.store → WalksToSearch activity
       → HasSearchRow st activity (number_of_row activity wanted) (length m.order) (deed activity) → Row (m.activity actor) (wanted_by m actor) (with_memory c m) (deed (m.activity actor))
@@ -195,3 +265,19 @@ module _ (d : DiskModel) (c : RunningCore) (m : Machine) (actor : ℕ) (free : O
       let here = subst (λ (st : StoreState). HasPosterRow st activity (number_of_row activity wanted) (length m.order) (deed activity)) same row in
       let own = subst (λ (w : Option Wanted). HasPosterRow c.store activity (number_of_row activity w) (length m.order) (deed activity)) wants here in
       subst (λ (a : Activity). OwnRow a (wanted_by m actor) (deed a)) (sym is) (poster_row activity (deed activity) is (posts activity is poster) (works activity is) own)
+
+  merger_row : (activity : Activity) (deed : Deed) → m.activity actor ≡ activity → IsMerging activity → HasMergerRow c.store activity (number_of_row activity (wanted_by m actor)) (length m.order) deed → OwnRow activity (wanted_by m actor) deed
+  merger_row activity deed is merging row =
+      let its = has_wanted d c m actor free may has (merger_wants m actor may keeps activity is merging) in
+      let at_page = subst (λ (w : Option Wanted). HasMergerRow c.store activity (number_of_row activity w) (length m.order) deed) its.wants row in
+      let same : at_page.0 ≡ its.page = same_Some at_page.0 its.page (sym at_page.1 ∙ its.hand.live) in
+      at_hand activity its deed is (row_of_merger (sight (with_memory c m)) activity its.wanted.page its.page deed merging
+      (subst (λ (q : LivePage). ConsolidatorRow activity (sight_in c.store (length m.order)) its.wanted.page q deed) same at_page.2))
+
+  pub decided_merger : (activity : Activity) (wanted : Option Wanted) (st : StoreState) (deed : Activity → Deed) → StandsAs c actor activity → wanted ≡ wanted_by m actor → st ≡ c.store → actor ≡ 18
+      → HasMergerRow st activity (number_of_row activity wanted) (length m.order) (deed activity) → Row (m.activity actor) (wanted_by m actor) (with_memory c m) (deed (m.activity actor))
+  decided_merger activity wanted st deed stood wants same merger row =
+      let is = stands activity stood in
+      let here = subst (λ (st : StoreState). HasMergerRow st activity (number_of_row activity wanted) (length m.order) (deed activity)) same row in
+      let own = subst (λ (w : Option Wanted). HasMergerRow c.store activity (number_of_row activity w) (length m.order) (deed activity)) wants here in
+      subst (λ (a : Activity). OwnRow a (wanted_by m actor) (deed a)) (sym is) (merger_row activity (deed activity) is (merges activity is merger) own)

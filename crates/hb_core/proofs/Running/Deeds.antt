@@ -125,6 +125,12 @@ in_hand (at.PosterWalk job held) works = refl
 in_hand (at.PosterChild job parent) works = refl
 in_hand (at.PosterPromote job parent) works = refl
 in_hand (at.PosterAgain job parent) works = refl
+in_hand (at.ConsolidatorWalk job held) works = refl
+in_hand (at.ConsolidatorScan job parent child) works = refl
+in_hand (at.ConsolidatorTry job parent keep gone leaf) works = refl
+in_hand (at.ConsolidatorPromote job parent keep gone) works = refl
+in_hand (at.ConsolidatorKeep job parent keep gone) works = refl
+in_hand (at.ConsolidatorDecide job parent keep gone) works = refl
 in_hand other works = absurd works
 
 -- the log has no room for a line, or for a job

@@ -7,7 +7,7 @@ use Rattle.std.proofs.lemmas.Option.{same_Some, slice_get_within}
 use Rattle.hb_activity.specs.declared.activities.Activity.{Activity}
 use Rattle.hb_activity.specs.declared.activities.Activity.TheVariants as at
 use Rattle.hb_activity.specs.declared.jobs.Job.{Job}
-use Rattle.hb_activity.specs.declared.jobs.JobKind.TheVariants.{Post}
+use Rattle.hb_activity.specs.declared.jobs.JobKind.TheVariants.{Merge, Post}
 use Rattle.hb_activity.specs.Classes.{Sessions, class_of}
 use Rattle.hb_activity.specs.BoxLocks.{lock_of_command}
 use Rattle.hb_activity.specs.Deeds.{Deed, answers_now, takes_job}
@@ -17,6 +17,7 @@ use Rattle.hb_space.specs.Actors.{IsActor}
 use Rattle.hb_lemmas.proofs.Booleans.{at_other, if_same}
 use Rattle.hb_ops.specs.declared.operations.Op.{Op}
 use Rattle.hb_point.specs.SessionRows.{boxes_ahead, next_line, taking}
+use Rattle.hb_consol.specs.ConsolidatorRows.{IsMergingOf}
 use Rattle.hb_poster.specs.PosterRows.{IsPostingOf}
 use Rattle.hb_set.specs.Order.{AreRising}
 use Rattle.hb_set.specs.declared.commands.Reply.TheVariants as replies
@@ -32,14 +33,14 @@ use Rattle.hb_core.specs.Machines.{Machine, with_activity, with_disk}
 use Rattle.hb_core.specs.Moving.{DoesDeed, KeepsFilesBy, with_standing}
 use Rattle.hb_core.specs.Performing.{MayDo, Performs, Relatches, latches_held, mode_among}
 use Rattle.hb_core.specs.Showing.{HasTurn, RunningCore, ShowsMachine, number_in_hand}
-use Rattle.hb_core.specs.Steps.{BeginsLine, StepsAs, TakesPosting}
-use Rattle.hb_core.specs.Taking.{IsNextLine, RefusesLine, TakesLine, TakesNextLine, TakesNextPosting}
+use Rattle.hb_core.specs.Steps.{BeginsLine, StepsAs, TakesJobToMerge, TakesPosting}
+use Rattle.hb_core.specs.Taking.{IsNextLine, RefusesLine, TakesLine, TakesNextLine, TakesNextMerging, TakesNextPosting}
 use Rattle.hb_core.specs.Working.{MayStep, with_memory}
 use Rattle.hb_core.proofs.Orders.NextLines.{next_is}
 use Rattle.hb_core.proofs.Running.AgainstPlaces.{box_in_the_way, has_box_free}
 use Rattle.hb_core.proofs.Running.DeedShows.{deed_shows}
 use Rattle.hb_core.proofs.Running.LinesAhead.{next_ahead, none_ahead, turn_at_end, turn_with}
-use Rattle.hb_core.proofs.Running.NumbersInHand.{NumberFate, job_number}
+use Rattle.hb_core.proofs.Running.NumbersInHand.{NumberFate, job_number, merging_job_number}
 use Rattle.hb_core.proofs.Running.StandsElsewhere.{apart, at_set, beside_set, shows_but, stand_then}
 use Rattle.hb_core.proofs.Running.TurnsAfter.{TurnAt, answered_elsewhere, answered_here, has_turn, turn_at}
 
@@ -281,7 +282,7 @@ module _ (d : DiskModel) (c after : RunningCore) (m : Machine) (actor behind : �
     subst (λ (s : RunningCore). ShowsMachine d s (refused place line outcome refuses)) (sym refuses.rest) (shown_refused place line outcome refuses),
   )
 
--- ---- the poster
+-- ---- a worker
 
 -- a machine with its own store
 pub own_store : (m : Machine) (st : StoreState) → m.store ≡ st → with_disk st m.files m.clock m ≡ m
@@ -310,3 +311,11 @@ module _ (d : DiskModel) (c after : RunningCore) (m : Machine) (actor : ℕ) (ma
       let its : IsPostingOf job m.store.meta.height next = subst (λ (s : StoreState). IsPostingOf job s.meta.height next) (sym step.shows.store) posting in
       let done = deed_done (takes_job next job) outcome refl (job_number (m.activity actor) job m.store.meta.height next idle its) does in
       (done.0, inr (takes_job next job, record { job = job; kind = kind; next = next; posting = its; deed_is = refl }, done.1), done.2)
+
+  pub merging_taken : (outcome : Outcome) → m.activity actor ≡ at.ConsolidatorIdle → TakesNextMerging actor outcome c after → (new : Machine) × TakesJobToMerge m actor outcome new × ShowsMachine d after new
+  merging_taken outcome idle (inl none) =
+      (m, inl (subst (λ (l : List Job). All (λ (job : Job). job.kind ≢ Merge) l) (sym step.shows.jobs) none.2, (none.0, refl)), subst (λ (s : RunningCore). ShowsMachine d s m) (sym none.1) step.shows)
+  merging_taken outcome idle (inr (job, next, kind, merging, does)) =
+      let its : IsMergingOf job m.store.meta.height next = subst (λ (s : StoreState). IsMergingOf job s.meta.height next) (sym step.shows.store) merging in
+      let done = deed_done (takes_job next job) outcome refl (merging_job_number (m.activity actor) job m.store.meta.height next idle its) does in
+      (done.0, inr (takes_job next job, record { job = job; kind = kind; next = next; merging = its; deed_is = refl }, done.1), done.2)

@@ -22,7 +22,7 @@ use Rattle.hb_activity.specs.Wanting.{CanLook, HasLeafAt, LooksIntoPage, looked_
 use Rattle.hb_store.specs.States.{IsGoodPage, StoreState, in_memory}
 use Rattle.hb_core.proofs.Latches.LatchesStay.{walk_latched}
 use Rattle.hb_core.proofs.Memory.BroughtPages.{still_held}
-use Rattle.hb_core.proofs.Walks.MergesKept.{place_latched}
+use Rattle.hb_core.proofs.Walks.MergesKept.{named_again, place_latched}
 use Rattle.hb_core.proofs.Walks.WalksKept.{IsAtParent, parent_latched}
 use Rattle.hb_core.specs.Asking.{looked_live, looked_page, wanted_by}
 use Rattle.hb_core.specs.Fetching.{Brings}
@@ -184,3 +184,12 @@ module _ (m : Machine) (actor : ℕ) (may : IsActor actor) (keeps : MachineKeeps
   wants_same =
       ap (λ (meta : Meta). wanted_of (m.activity actor) meta (looked_live st (m.activity actor))) brings.rest.meta
       ∙ ap (wanted_of (m.activity actor) m.store.meta) looked_stays
+
+  -- and what a consolidator knows it knows still
+  pub names_stay : IfSome (merging_at (m.activity actor)) (NamesKnown st)
+  names_stay = named_again m.store st (merging_at (m.activity actor)) (λ place at_place.
+      let latched = place_latched m.store (m.activity actor) place at_place in
+      record {
+        parent = λ page live. held_stays place.parent latched.parent.0 page latched.parent.1 live;
+        pair = λ pair is page live. let latch = latched.pair pair is in held_stays pair.keep latch.0 page latch.1 live;
+      }) (keeps.walk_in_space.merging actor)

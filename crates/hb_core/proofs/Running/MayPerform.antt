@@ -66,7 +66,7 @@ module _ (d : DiskModel) (c : RunningCore) (m : Machine) (actor : ℕ) (free : O
 
   -- the actor has nothing in hand meanwhile
   elsewhere : (op : Op) (idle : Activity) → MayCommit d c op → MayCommit d (with_standing actor idle c) op
-  elsewhere op idle may_commit = record { running = may_commit.running; ready = may_commit.ready; points = may_commit.points; allowed = may_commit.allowed; licensed = may_commit.licensed; marks = may_commit.marks }
+  elsewhere op idle may_commit = record { running = may_commit.running; ready = may_commit.ready; points = may_commit.points; allowed = may_commit.allowed; boxes = may_commit.boxes; licensed = may_commit.licensed; marks = may_commit.marks }
 
   pub may_commit_then : (idle : Activity) → RowsMayBeDone → ((durable other : FileState) (later others : List FileState) → StoreKeeps d c.store durable later → StoreKeeps d c.store other others → durable ≡ other)
       → ((durable other : FileState) (later others : List FileState) → StoreKeeps d c.store durable later → StoreKeeps d c.store other others → later ≡ others) → IfSome next.op (MayCommit d (with_standing actor idle c))

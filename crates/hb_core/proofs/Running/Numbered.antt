@@ -16,7 +16,6 @@ use Rattle.hb_activity.specs.declared.jobs.Job.{Job}
 use Rattle.hb_activity.specs.declared.wanting.Wanted.{Wanted}
 use Rattle.hb_activity.specs.declared.activities.Activity.{Activity}
 use Rattle.hb_activity.specs.declared.activities.Activity.TheVariants as at
-use Rattle.hb_activity.specs.Walks.{goal_of}
 use Rattle.hb_poster.specs.PosterRows.{MayGrow}
 use Rattle.hb_store.specs.Fetching.{Breaks, FetchesNot, IsNoPage, LooksUp, IsNext, IsNoHead, MayFetch}
 use Rattle.hb_store.specs.Keeps.{StoreKeeps, last_of}
@@ -39,7 +38,7 @@ use Rattle.hb_core.specs.Machines.{Machine, live_here, next_of, next_of_chain, s
 use Rattle.hb_core.specs.Rows.{IsAtHand}
 use Rattle.hb_core.specs.Showing.{RunningCore, ShowsMachine}
 use Rattle.hb_core.specs.Stopping.{halt_of}
-use Rattle.hb_core.specs.Working.{HasCome, HasPages, Halts, IsHalt, IsWorking, with_memory}
+use Rattle.hb_core.specs.Working.{HasCome, HasPages, Halts, IsHalt, with_memory}
 
 -- ---- the number that the store gives is the one of the machine
 
@@ -63,20 +62,13 @@ number_is st fresh after next = elim (cases_Bool (st.meta.free == 0)) [
       ∙ pair_same st.meta.free after fresh after (sym chain.0) refl
 ]
 
--- ---- what the step asks is told by the page into which it looks
+-- ---- what a step asks that makes a page is told by the page into which it looks
 
-box_by_look : (st then : StoreState) (activity : Activity) → IsWorking activity → then.meta ≡ st.meta → looked_live then activity ≡ looked_live st activity → asked_box activity then ≡ asked_box activity st
-box_by_look st then (at.SessionWalk line None rest found) working meta look = ap (λ (x : Meta). Some (whole_box x.k)) meta
-box_by_look st then (at.SessionWalk line (Some held) rest found) working meta look = ap (λ (o : Option LivePage). box_at o (goal_of line.command rest)) look
-box_by_look st then (at.SessionSplit line held) working meta look = ap (λ (x : Meta). Some (whole_box x.k)) meta
-box_by_look st then (at.SessionPut line source fresh) working meta look = ap (λ (x : Meta). Some (whole_box x.k)) meta
-box_by_look st then (at.PosterGrow job) working meta look = ap (λ (x : Meta). Some (whole_box x.k)) meta
-box_by_look st then (at.PosterWalk job None) working meta look = ap (λ (x : Meta). Some (whole_box x.k)) meta
-box_by_look st then (at.PosterWalk job (Some held)) working meta look = ap (λ (o : Option LivePage). box_at o (Some job.point)) look
-box_by_look st then (at.PosterChild job parent) working meta look = ap (λ (o : Option LivePage). box_at o (Some job.point)) look
-box_by_look st then (at.PosterAgain job parent) working meta look = ap (λ (o : Option LivePage). box_at o (Some job.point)) look
-box_by_look st then (at.PosterPromote job parent) working meta look = refl
-box_by_look st then activity working meta look = absurd working
+box_by_look : (st then : StoreState) (now : Machine) (activity : Activity) (wanted : Option Wanted) → NeedsNumber activity wanted now → then.meta ≡ st.meta → looked_live then activity ≡ looked_live st activity → asked_box activity then ≡ asked_box activity st
+box_by_look st then now (at.SessionSplit line held) wanted needs meta look = ap (λ (x : Meta). Some (whole_box x.k)) meta
+box_by_look st then now (at.PosterGrow job) wanted needs meta look = ap (λ (x : Meta). Some (whole_box x.k)) meta
+box_by_look st then now (at.PosterAgain job parent) wanted needs meta look = ap (λ (o : Option LivePage). box_at o (Some job.point)) look
+box_by_look st then now activity wanted needs meta look = absurd needs
 
 -- who makes a page where one is free stands so
 pub record NeedsMove (now then : Machine) (activity : Activity) : Type 0 where
@@ -174,7 +166,7 @@ module _ (m : Machine) (d : DiskModel) (c : RunningCore) (actor : ℕ) (latches 
     hand = λ wanted page hand. record {
       live = live_then wanted.page page hand.live;
       level = hand.level;
-      box = subst (λ (o : Option AskedBox). IfSome o (λ asked. HasAskedBox asked page.area)) (sym (box_by_look c.store st activity come.may.working meta_then look_then)) hand.box;
+      box = subst (λ (o : Option AskedBox). IfSome o (λ asked. HasAskedBox asked page.area)) (sym (box_by_look c.store st now activity (wanted_by m actor) needs meta_then look_then)) hand.box;
     };
   }
 

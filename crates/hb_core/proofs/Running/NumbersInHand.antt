@@ -25,6 +25,7 @@ use Rattle.hb_core.specs.Rows.{Row}
 use Rattle.hb_core.specs.Showing.{number_in_hand}
 use Rattle.hb_core.specs.Working.{IsWorking}
 use Rattle.hb_point.specs.SessionRows.{next_line}
+use Rattle.hb_consol.specs.ConsolidatorRows.{IsMergingOf}
 use Rattle.hb_poster.specs.PosterRows.{IsPostingOf}
 use Rattle.hb_store.specs.States.{StoreState}
 
@@ -85,6 +86,13 @@ posting_number job height next (inr (inr (below, is))) = ap number_in_hand is
 
 pub job_number : (activity : Activity) (job : Job) (height : ℕ) (next : Activity) → activity ≡ at.PosterIdle → IsPostingOf job height next → NumberFate activity (takes_job next job)
 job_number activity job height next idle posting = inl (λ clock. refl, posting_number job height next posting ∙ sym (ap number_in_hand idle))
+
+merging_number : (job : Job) (height : ℕ) (next : Activity) → IsMergingOf job height next → number_in_hand next ≡ None
+merging_number job height next (inl (high, is)) = ap number_in_hand is
+merging_number job height next (inr (below, is)) = ap number_in_hand is
+
+pub merging_job_number : (activity : Activity) (job : Job) (height : ℕ) (next : Activity) → activity ≡ at.ConsolidatorIdle → IsMergingOf job height next → NumberFate activity (takes_job next job)
+merging_job_number activity job height next idle merging = inl (λ clock. refl, merging_number job height next merging ∙ sym (ap number_in_hand idle))
 
 -- the line of the number, which is its session's next one
 own_line : (session : ℕ) (answered : List Answered) (lines : List Line) (activity : Activity) → IfSome (line_in_hand activity) (λ line. next_line session answered lines ≡ Some line)

@@ -13,6 +13,7 @@ use Rattle.hb_activity.specs.Deeds.{Deed}
 use Rattle.hb_disk.specs.Model.{DiskModel}
 use Rattle.hb_space.specs.Actors.{IsActor}
 use Rattle.hb_ops.specs.declared.operations.Op.{Op}
+use Rattle.hb_consol.specs.ConsolidatorRows.{children_of, first_one, scans}
 use Rattle.hb_poster.specs.PosterRows.{after_look}
 use Rattle.hb_terms.specs.declared.plans.PostPlan.{PostPlan}
 use Rattle.hb_terms.specs.declared.plans.PostPlan.TheVariants as plans
@@ -49,6 +50,14 @@ no_op job parent plans.Nothing = refl
 no_op job parent (plans.Post at inner area) = refl
 no_op job parent plans.SplitFirst = refl
 
+scans_none : (job : Job) (parent : ℕ) (child : Option ℕ) → (scans job parent child).op ≡ None
+scans_none job parent None = refl
+scans_none job parent (Some child) = refl
+
+not_both : (o : Option Op) → o ≡ None → IsSome o → ⊥
+not_both None is some = cc
+not_both (Some op) is some = cc
+
 -- a row that does an operation takes memory
 takes_memory : (m : Machine) (activity : Activity) (wanted : Option Wanted) (deed : Deed) → IsWorking activity → Row activity wanted m deed → HasOp deed → TakesMemory activity deed
 takes_memory m (at.SessionWalk line held rest found) wanted deed works row has = inl has
@@ -60,13 +69,17 @@ takes_memory m (at.PosterChild job parent) None deed works row has = absurd row
 takes_memory m (at.PosterChild job parent) (Some wanted) deed works row has =
     let looks = row.2 in
     let none : deed.op ≡ None = ap (λ (x : Deed). x.op) looks.deed_is ∙ no_op job parent looks.plan in
-    absurd (nothing deed.op none has)
-  where
-    nothing : (o : Option Op) → o ≡ None → IsSome o → ⊥
-    nothing None is some = cc
-    nothing (Some op) is some = cc
+    absurd (not_both deed.op none has)
 takes_memory m (at.PosterPromote job parent) wanted deed works row has = has
 takes_memory m (at.PosterAgain job parent) wanted deed works row has = has
+takes_memory m (at.ConsolidatorWalk job held) None deed works row has = absurd row
+takes_memory m (at.ConsolidatorWalk job held) (Some wanted) deed works (page, hand, inl row) has = absurd (not_both deed.op (ap (λ (x : Deed). x.op) row.deed_is ∙ scans_none job wanted.page (first_one (children_of page))) has)
+takes_memory m (at.ConsolidatorWalk job held) (Some wanted) deed works (page, hand, inr row) has = absurd (not_both deed.op (ap (λ (x : Deed). x.op) row.passes.deed_is) has)
+takes_memory m (at.ConsolidatorScan job parent child) wanted deed works row has = tt
+takes_memory m (at.ConsolidatorTry job parent keep gone leaf) wanted deed works row has = tt
+takes_memory m (at.ConsolidatorPromote job parent keep gone) wanted deed works row has = has
+takes_memory m (at.ConsolidatorKeep job parent keep gone) wanted deed works row has = has
+takes_memory m (at.ConsolidatorDecide job parent keep gone) wanted deed works row has = has
 takes_memory m activity wanted deed works row has = absurd works
 
 module _ (d : DiskModel) (c : RunningCore) (m : Machine) (actor : ℕ) (free : Option (ℕ × ℕ)) (may : IsActor actor) (pages : HasPages m actor free d c) where

@@ -1,5 +1,5 @@
 -- What a decider was given is what the core shows: its answer is a row of the table, at the place that comes next.
-use Rattle.std.proofs.Common.{◌≡◌, inl, inr, ℕ, ◌==◌, Bool, cond, List, [], ◌∷◌, Option, Some, sym, ap, ◌∙◌, subst}
+use Rattle.std.proofs.Common.{◌≡◌, inl, inr, ℕ, ◌==◌, Bool, cond, List, [], ◌∷◌, Option, Some, None, sym, ap, ◌∙◌, subst}
 use Rattle.std.specs.List.{AllByRecursion}
 use Rattle.std.specs.Option.{option_and_then}
 use Rattle.std.proofs.lemmas.Bool.{cases_Bool, eqb-true}
@@ -11,6 +11,8 @@ use Rattle.hb_activity.specs.declared.activities.Activity.{Activity}
 use Rattle.hb_activity.specs.declared.activities.Activity.TheVariants as at
 use Rattle.hb_activity.specs.Deciding.{FitsFree, given_pages, given_sight, page_among}
 use Rattle.hb_activity.specs.Deeds.{Deed}
+use Rattle.hb_consol.specs.Asks.{AsksMemory as LacksMemoryToMerge, MayBeAsked as MayAskToMerge, pages_given}
+use Rattle.hb_consol.specs.MergeRows.{ConsolidatorRow}
 use Rattle.hb_point.specs.Asks.{MayAsk}
 use Rattle.hb_point.specs.SessionRows.{PointRow}
 use Rattle.hb_poster.specs.Asks.{AsksMemory, MakesPage, MayBeAsked}
@@ -18,8 +20,10 @@ use Rattle.hb_poster.specs.PosterRows.{PosterRow}
 use Rattle.hb_search.specs.Searching.{GathersNow, MaySearch, SearchRow}
 use Rattle.hb_store.specs.States.{StoreState}
 use Rattle.std.proofs.lemmas.Option.{same_Some}
+use Rattle.hb_core.proofs.Running.LiftedMerges.{lifted_merger}
 use Rattle.hb_core.proofs.Running.LiftedRows.{IsSeenIn, lifted_point, lifted_poster, lifted_search}
 use Rattle.hb_core.specs.Looking.{AsksPoint, AsksPoster, AsksSearcher, GathersAt, HasPointRow, HasPosterRow, HasSearchRow, IsStarved, other_number, other_page, sight_in}
+use Rattle.hb_core.specs.LookingToMerge.{AsksMerger, HasMergerRow, LacksToMerge, second_number, second_page}
 use Rattle.hb_core.specs.Machines.{live_here, next_of}
 use Rattle.hb_core.specs.Moving.{placed}
 
@@ -129,3 +133,58 @@ module _ (st : StoreState) (activity : Activity) (n : ℕ) (free : Option (ℕ �
   pub poster_wants_memory : AsksMemory activity meta page first free → IsStarved st activity n free
   poster_wants_memory asks =
       (page, live_there, subst (λ (o : Option LivePage). AsksMemory activity st.meta page o free) other (subst (λ (m : Meta). AsksMemory activity m page first free) is_meta asks))
+
+-- ---- what the consolidator's decider was given
+
+pair_there : (f : ℕ → Option LivePage) (activity : Activity) (id : ℕ) (page : LivePage) (first second : Option LivePage) → f id ≡ Some page → first ≡ option_and_then f (other_number activity) → second ≡ option_and_then f (second_number activity)
+    → AllByRecursion (IsThere f) (pages_given activity id page first second)
+pair_there f (at.ConsolidatorScan job parent child) id page (Some above) second live is has = (sym is, (live, tt))
+pair_there f (at.ConsolidatorTry job parent keep gone leaf) id page (Some above) (Some kept) live is has = (sym is, (sym has, (live, tt)))
+pair_there f (at.ConsolidatorDecide job parent keep gone) id page (Some above) (Some kept) live is has = (sym is, (sym has, (live, tt)))
+pair_there f activity id page first second live is has = (live, tt)
+
+module _ (st : StoreState) (activity : Activity) (n : ℕ) (id : ℕ) (page : LivePage) (first second : Option LivePage) (meta : Meta) (is_id : id ≡ n) (live : live_here st id ≡ Some page) (other : first ≡ other_page st activity) (kept : second ≡ second_page st activity)
+    (is_meta : meta ≡ st.meta) where
+  no_number : (number : ℕ × ℕ) → None ≡ Some number → next_of st ≡ Some number
+  no_number number is = absurd (nothing is)
+    where
+      nothing : None ≡ Some number → ⊥
+      nothing is = cc
+
+  pair_shown : (place : ℕ) → IsSeenIn (sight_in st place) (given_sight meta (pages_given activity id page first second) None)
+  pair_shown place = record { meta = is_meta; pages = among_there (live_here st) (pages_given activity id page first second) (pair_there (live_here st) activity id page first second live other kept); next = no_number }
+
+  its_page : live_here st n ≡ Some page
+  its_page = ap (live_here st) (sym is_id) ∙ live
+
+  one_page : (asked : LivePage) → live_here st n ≡ Some asked → asked ≡ page
+  one_page asked there = same_Some asked page (sym there ∙ its_page)
+
+  pub merger_layout : AsksMerger st activity n → IsLayout meta
+  merger_layout asks = subst IsLayout (sym is_meta) asks.layout
+
+  pub merger_made : AsksMerger st activity n → FitsFile meta page
+  merger_made asks = subst (λ (m : Meta). FitsFile m page) (sym is_meta) (subst (FitsFile st.meta) (one_page asks.page asks.live) asks.made)
+
+  pub merger_asked : AsksMerger st activity n → MayAskToMerge activity meta page first second
+  merger_asked asks =
+      subst (λ (m : Meta). MayAskToMerge activity m page first second) (sym is_meta)
+      (subst (λ (o : Option LivePage). MayAskToMerge activity st.meta page o second) (sym other)
+      (subst (λ (o : Option LivePage). MayAskToMerge activity st.meta page (other_page st activity) o) (sym kept)
+      (subst (λ (q : LivePage). MayAskToMerge activity st.meta q (other_page st activity) (second_page st activity)) (one_page asks.page asks.live) asks.asked)))
+
+  pub merger_said : (deed : Deed) → ((free : Option (ℕ × ℕ)) → ConsolidatorRow activity (given_sight meta (pages_given activity id page first second) free) id page deed) → (place : ℕ) → HasMergerRow st activity n place (placed place deed)
+  merger_said deed row place = (
+    page,
+    its_page,
+    subst (λ (k : ℕ). ConsolidatorRow activity (sight_in st place) k page (placed place deed)) is_id
+        (lifted_merger (given_sight meta (pages_given activity id page first second) None) (sight_in st place) (pair_shown place) activity id page deed (row None)),
+  )
+
+  pub merger_lacks : LacksMemoryToMerge activity meta page first second → LacksToMerge st activity n
+  merger_lacks asks = (
+    page,
+    its_page,
+    subst (λ (o : Option LivePage). LacksMemoryToMerge activity st.meta page (other_page st activity) o) kept
+        (subst (λ (o : Option LivePage). LacksMemoryToMerge activity st.meta page o second) other (subst (λ (m : Meta). LacksMemoryToMerge activity m page first second) is_meta asks)),
+  )

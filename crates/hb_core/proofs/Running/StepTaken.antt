@@ -16,11 +16,10 @@ use Rattle.hb_core.specs.Forcing.{StaysSo}
 use Rattle.hb_core.specs.Machines.{Machine}
 use Rattle.hb_core.specs.Moving.{StandsAs}
 use Rattle.hb_core.specs.Showing.{RunningCore, ShowsMachine}
-use Rattle.hb_core.specs.StageLaws.{MergesNothing}
 use Rattle.hb_core.specs.Steps.{AwaitsPlace, StepsAs, StepsTo, Works}
-use Rattle.hb_core.specs.Taking.{TakesNextLine, TakesNextPosting}
+use Rattle.hb_core.specs.Taking.{TakesNextLine, TakesNextMerging, TakesNextPosting}
 use Rattle.hb_core.specs.Working.{IsWorking, MayStep}
-use Rattle.hb_core.proofs.Running.LineTaken.{is_session, line_taken, posting_taken}
+use Rattle.hb_core.proofs.Running.LineTaken.{is_session, line_taken, merging_taken, posting_taken}
 use Rattle.hb_core.proofs.Running.StandsElsewhere.{stands_as}
 
 -- a core that counts another number of steps shows the same
@@ -49,22 +48,27 @@ counted taken d c m step = record {
 
 -- ---- which activities work
 
-pub is_working : (activity : Activity) → MergesNothing activity → (activity ≡ at.SessionIdle → ⊥) → ((number place : ℕ) (reply : Reply) → activity ≡ at.SessionAwait number reply place → ⊥)
+pub is_working : (activity : Activity) → (activity ≡ at.SessionIdle → ⊥) → ((number place : ℕ) (reply : Reply) → activity ≡ at.SessionAwait number reply place → ⊥)
     → (activity ≡ at.PosterIdle → ⊥) → (activity ≡ at.ConsolidatorIdle → ⊥) → (activity ≡ at.Flusher → ⊥) → IsWorking activity
-is_working at.SessionIdle off session await poster consolidator flusher = absurd (session refl)
-is_working (at.SessionWalk line held rest found) off session await poster consolidator flusher = tt
-is_working (at.SessionSplit line held) off session await poster consolidator flusher = tt
-is_working (at.SessionPut line source fresh) off session await poster consolidator flusher = tt
-is_working (at.SessionAwait number reply place) off session await poster consolidator flusher = absurd (await number place reply refl)
-is_working at.PosterIdle off session await poster consolidator flusher = absurd (poster refl)
-is_working (at.PosterGrow job) off session await poster consolidator flusher = tt
-is_working (at.PosterWalk job held) off session await poster consolidator flusher = tt
-is_working (at.PosterChild job parent) off session await poster consolidator flusher = tt
-is_working (at.PosterPromote job parent) off session await poster consolidator flusher = tt
-is_working (at.PosterAgain job parent) off session await poster consolidator flusher = tt
-is_working at.ConsolidatorIdle off session await poster consolidator flusher = absurd (consolidator refl)
-is_working at.Flusher off session await poster consolidator flusher = absurd (flusher refl)
-is_working other off session await poster consolidator flusher = absurd off
+is_working at.SessionIdle session await poster consolidator flusher = absurd (session refl)
+is_working (at.SessionWalk line held rest found) session await poster consolidator flusher = tt
+is_working (at.SessionSplit line held) session await poster consolidator flusher = tt
+is_working (at.SessionPut line source fresh) session await poster consolidator flusher = tt
+is_working (at.SessionAwait number reply place) session await poster consolidator flusher = absurd (await number place reply refl)
+is_working at.PosterIdle session await poster consolidator flusher = absurd (poster refl)
+is_working (at.PosterGrow job) session await poster consolidator flusher = tt
+is_working (at.PosterWalk job held) session await poster consolidator flusher = tt
+is_working (at.PosterChild job parent) session await poster consolidator flusher = tt
+is_working (at.PosterPromote job parent) session await poster consolidator flusher = tt
+is_working (at.PosterAgain job parent) session await poster consolidator flusher = tt
+is_working (at.ConsolidatorWalk job held) session await poster consolidator flusher = tt
+is_working (at.ConsolidatorScan job parent child) session await poster consolidator flusher = tt
+is_working (at.ConsolidatorTry job parent keep gone leaf) session await poster consolidator flusher = tt
+is_working (at.ConsolidatorPromote job parent keep gone) session await poster consolidator flusher = tt
+is_working (at.ConsolidatorKeep job parent keep gone) session await poster consolidator flusher = tt
+is_working (at.ConsolidatorDecide job parent keep gone) session await poster consolidator flusher = tt
+is_working at.ConsolidatorIdle session await poster consolidator flusher = absurd (consolidator refl)
+is_working at.Flusher session await poster consolidator flusher = absurd (flusher refl)
 
 pub works_as : (m : Machine) (actor : ℕ) (outcome : Outcome) (new : Machine) (activity : Activity) → IsWorking activity → Works m actor outcome new → StepsAs activity m actor outcome new
 works_as m actor outcome new (at.SessionWalk line held rest found) is works = works
@@ -75,6 +79,12 @@ works_as m actor outcome new (at.PosterWalk job held) is works = works
 works_as m actor outcome new (at.PosterChild job parent) is works = works
 works_as m actor outcome new (at.PosterPromote job parent) is works = works
 works_as m actor outcome new (at.PosterAgain job parent) is works = works
+works_as m actor outcome new (at.ConsolidatorWalk job held) is works = works
+works_as m actor outcome new (at.ConsolidatorScan job parent child) is works = works
+works_as m actor outcome new (at.ConsolidatorTry job parent keep gone leaf) is works = works
+works_as m actor outcome new (at.ConsolidatorPromote job parent keep gone) is works = works
+works_as m actor outcome new (at.ConsolidatorKeep job parent keep gone) is works = works
+works_as m actor outcome new (at.ConsolidatorDecide job parent keep gone) is works = works
 works_as m actor outcome new other is works = absurd is
 
 -- ---- a step, by where the actor stands
@@ -95,10 +105,9 @@ module _ (d : DiskModel) (c : RunningCore) (m : Machine) (actor : ℕ) (activity
   pub stands_so : m.activity actor ≡ activity
   stands_so = stands_as d c m actor activity may step.shows stands
 
-  -- a worker that has nothing to do
-  pub idle_stays : (activity ≡ at.ConsolidatorIdle) ⊎ (activity ≡ at.Flusher) → (new : Machine) × StepsTo m actor outcomes.Idle new × ShowsMachine d c new
-  idle_stays (inl is) = (m, steps_by m actor outcomes.Idle m at.ConsolidatorIdle runs_so (stands_so ∙ is) (inl (step.goes_on.merges.waiting, (refl, refl))), step.shows)
-  idle_stays (inr is) = (m, steps_by m actor outcomes.Idle m at.Flusher runs_so (stands_so ∙ is) (inr (λ never. never, (refl, refl))), step.shows)
+  -- the flusher has nothing to do
+  pub idle_stays : activity ≡ at.Flusher → (new : Machine) × StepsTo m actor outcomes.Idle new × ShowsMachine d c new
+  idle_stays is = (m, steps_by m actor outcomes.Idle m at.Flusher runs_so (stands_so ∙ is) (inr (λ never. never, (refl, refl))), step.shows)
 
   -- how many lines lie behind an idle session
   pub lies_behind : activity ≡ at.SessionIdle → (behind : ℕ) × (slice_get c.behind (actor - 1) ≡ Some behind) × (behind ≤ length c.lines)
@@ -109,7 +118,7 @@ module _ (d : DiskModel) (c : RunningCore) (m : Machine) (actor : ℕ) (activity
 
   pub works_then : ((number place : ℕ) (reply : Reply) → activity ≡ at.SessionAwait number reply place → ⊥) → (activity ≡ at.SessionIdle → ⊥) → (activity ≡ at.PosterIdle → ⊥) → (activity ≡ at.ConsolidatorIdle → ⊥) → (activity ≡ at.Flusher → ⊥) → IsWorking (m.activity actor)
   works_then await session poster consolidator flusher =
-      subst IsWorking (sym stands_so) (is_working activity (subst MergesNothing stands_so (step.goes_on.merges.hands actor)) session await poster consolidator flusher)
+      subst IsWorking (sym stands_so) (is_working activity session await poster consolidator flusher)
 
 module _ {D : Type 0} (model : D → DiskModel) (x y : D) (c after : RunningCore) (m : Machine) (actor : ℕ) (activity : Activity) (outcome : Outcome) (may : IsActor actor) (step : MayStep (model x) c m) (runs : c.stop ≡ None) (stands : StandsAs c actor activity) where
   abbrev Steps : Type 0
@@ -133,6 +142,12 @@ module _ {D : Type 0} (model : D → DiskModel) (x y : D) (c after : RunningCore
       let idle = its_activity ∙ is in
       let done = posting_taken (model x) c after m actor may step outcome idle takes in
       (done.0, steps_by m actor outcome done.0 at.PosterIdle its_stop idle done.1, subst (λ (k : D). ShowsMachine (model k) after done.0) (sym same) done.2)
+
+  pub merging_step : activity ≡ at.ConsolidatorIdle → y ≡ x → TakesNextMerging actor outcome c after → Steps
+  merging_step is same takes =
+      let idle = its_activity ∙ is in
+      let done = merging_taken (model x) c after m actor may step outcome idle takes in
+      (done.0, steps_by m actor outcome done.0 at.ConsolidatorIdle its_stop idle done.1, subst (λ (k : D). ShowsMachine (model k) after done.0) (sym same) done.2)
 
   pub await_step : (number place : ℕ) (reply : Reply) → activity ≡ at.SessionAwait number reply place
       → (m.stop ≡ None → m.activity actor ≡ at.SessionAwait number reply place → (new : Machine) × AwaitsPlace m actor number reply place outcome new × ShowsMachine (model y) after new) → Steps

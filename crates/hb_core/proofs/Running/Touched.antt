@@ -22,7 +22,7 @@ use Rattle.hb_core.specs.Machines.{Machine}
 use Rattle.hb_core.specs.Moving.{DoesDeed, with_stop, with_store}
 use Rattle.hb_core.specs.Performing.{MayDo, outcome_of}
 use Rattle.hb_core.specs.Showing.{RunningCore}
-use Rattle.hb_core.specs.Taking.{TakesNextLine, TakesNextPosting}
+use Rattle.hb_core.specs.Taking.{TakesNextLine, TakesNextMerging, TakesNextPosting}
 use Rattle.hb_core.specs.Touching.{EndsByRead, Touches}
 use Rattle.hb_core.specs.Working.{MayStep}
 use Rattle.hb_core.proofs.Memory.OwnPages.{runs_out_nothing}
@@ -69,6 +69,10 @@ line_well actor behind outcome old new (inr (inr (inr (place, line, refuses)))) 
 pub posting_well : (actor : ℕ) (outcome : Outcome) (old new : RunningCore) → TakesNextPosting actor outcome old new → IsWell outcome
 posting_well actor outcome old new (inl none) = well_as outcome outcomes.Idle none.0 idle_well
 posting_well actor outcome old new (inr (job, next, kind, posting, does)) = well_as outcome outcomes.Moved does.says moved_well
+
+pub merging_well : (actor : ℕ) (outcome : Outcome) (old new : RunningCore) → TakesNextMerging actor outcome old new → IsWell outcome
+merging_well actor outcome old new (inl none) = well_as outcome outcomes.Idle none.0 idle_well
+merging_well actor outcome old new (inr (job, next, kind, merging, does)) = well_as outcome outcomes.Moved does.says moved_well
 
 -- a reply that was kept is one of the order
 pub kept_well : (d : DiskModel) (c : RunningCore) (m : Machine) (actor number place : ℕ) (reply : Reply) → MayStep d c m → m.activity actor ≡ at.SessionAwait number reply place → IsWell (outcomes.Answered number reply)

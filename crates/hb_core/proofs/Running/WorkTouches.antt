@@ -70,6 +70,12 @@ given_up_for why (at.PosterWalk job held) works = dropped_for why
 given_up_for why (at.PosterChild job parent) works = dropped_for why
 given_up_for why (at.PosterPromote job parent) works = dropped_for why
 given_up_for why (at.PosterAgain job parent) works = dropped_for why
+given_up_for why (at.ConsolidatorWalk job held) works = dropped_for why
+given_up_for why (at.ConsolidatorScan job parent child) works = dropped_for why
+given_up_for why (at.ConsolidatorTry job parent keep gone leaf) works = dropped_for why
+given_up_for why (at.ConsolidatorPromote job parent keep gone) works = dropped_for why
+given_up_for why (at.ConsolidatorKeep job parent keep gone) works = dropped_for why
+given_up_for why (at.ConsolidatorDecide job parent keep gone) works = dropped_for why
 given_up_for why other works = absurd works
 
 module _ (d e : DiskModel) (c after : RunningCore) (outcome : Outcome) where

@@ -99,6 +99,7 @@ other_row now activity wanted deed none gathers row = each_row now GathersStill 
       parts = λ job parent above live plan leaves none gathers. tt;
       walks_to_merge = λ job held leaf farther row none gathers. tt;
       merges = λ activity deed kind row stays none gathers. after_merging activity deed stays;
+      merges_two = λ job parent keep gone pair none gathers. tt;
     }) row none gathers
 
 module _ (meta : Meta) (now : Machine) (good : (id : ℕ) (page : LivePage) → live_here now.store id ≡ Some page → IsGoodPage meta (Live page)) where

@@ -99,6 +99,7 @@ module _ (line : Line) (held : Option ℕ) (rest : List Area) (found : List Reco
         parts = λ job parent above live plan leaves next. absurd (let no : ⊥ = cc in no);
         walks_to_merge = λ job had leaf farther row next. absurd (let no : ⊥ = cc in no);
         merges = λ activity deed kind row stays. after_merging activity deed stays;
+        merges_two = λ job parent keep gone pair next. absurd (let no : ⊥ = cc in no);
       }) row
 
 module _ (entry : Entry) (wants : WantsBoxes entry.line.command) where
@@ -141,4 +142,5 @@ module _ (entry : Entry) (wants : WantsBoxes entry.line.command) where
         parts = λ job parent above live plan leaves joins. absurd (no_entry joins);
         walks_to_merge = λ job had leaf farther row joins. absurd (no_entry joins);
         merges = λ activity deed kind row stays. merged activity deed stays;
+        merges_two = λ job parent keep gone pair joins. absurd (no_entry joins);
       }) row

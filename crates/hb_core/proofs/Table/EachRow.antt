@@ -13,6 +13,8 @@ use Rattle.hb_set.specs.declared.commands.Command.TheVariants.{Insert, Delete, L
 use Rattle.hb_set.specs.declared.commands.Reply.{Reply}
 use Rattle.hb_set.specs.declared.commands.Reply.TheVariants as replies
 use Rattle.hb_set.specs.declared.scripts.Line.{Line}
+use Rattle.hb_terms.specs.declared.merging.MergePlan.{MergePlan}
+use Rattle.hb_terms.specs.declared.merging.MergePlan.TheVariants as merging
 use Rattle.hb_terms.specs.declared.plans.PostPlan.{PostPlan}
 use Rattle.hb_terms.specs.declared.plans.PostPlan.TheVariants as plans
 use Rattle.hb_activity.specs.declared.jobs.Job.{Job}
@@ -25,11 +27,15 @@ use Rattle.hb_activity.specs.Deeds.{Deed, answers_now, does, moves_to, takes_eff
 use Rattle.hb_activity.specs.Passing.{LeadsBelow, PartLeavesTo, PassesOn, corner_of, posts_owed}
 use Rattle.hb_activity.specs.Sights.{Sight}
 use Rattle.hb_activity.specs.Walks.{goal_of}
-use Rattle.hb_core.proofs.Table.MergerMoves.{StaysMerger, decided, ended, planned, promoted, scanned, took, tried}
+use Rattle.hb_consol.specs.ConsolidatorRows.{HasMergePlan, ends_merging}
+use Rattle.hb_consol.specs.MergeRows.{DoesMerge, merges_above}
+use Rattle.hb_core.proofs.Table.MergerMoves.{MergesPair, StaysMerger, ended, planned, promoted, scanned, took, tried}
 use Rattle.hb_core.specs.KeptMerges.{IsMerging}
 use Rattle.hb_core.specs.Machines.{Machine, sight}
 use Rattle.hb_core.specs.Rows.{DoesHere, IsAtHand, Row, RowAlone, RowAt}
 use Rattle.hb_frag.specs.Leaves.{IsPointer, first_named, leaf_at, siblings_of, weight_of}
+use Rattle.hb_frag.specs.Rules.{capacity_of}
+use Rattle.hb_ops.specs.Merging.{parent_page}
 use Rattle.hb_ops.specs.Recording.{put_page}
 use Rattle.hb_ops.specs.Standing.{StandsNot, StandsThere}
 use Rattle.hb_point.specs.SessionRows.{merges_due}
@@ -37,6 +43,7 @@ use Rattle.hb_poster.specs.PosterRows.{DoesPlan, MayGrow, after_look, ends_job}
 use Rattle.hb_search.specs.SearchRows.{SearchGoesOn}
 use Rattle.hb_space.specs.Boxes.{Area, common_area, pieces_outside}
 use Rattle.hb_split.specs.Choosing.{IsChosen}
+use Rattle.hb_terms.specs.Merging.{IsMergePlan}
 use Rattle.hb_terms.specs.Plans.{IsPlan}
 
 -- The reply with which a command takes effect that changes nothing.
@@ -100,6 +107,8 @@ pub record ShowsAt (s : Sight) (id : ℕ) (page : LivePage) (P : Activity → De
   pub walks_to_merge : (job : Job) (held : Option ℕ) (leaf : Leaf) → (page.level ≡ job.level → ¬ (LeadsBelow page job)) → PassesAt page job.point leaf →
       P (at.ConsolidatorWalk job held) (moves_to (at.ConsolidatorWalk job (Some id)) (posts_owed page job.point leaf))
   pub merges : (activity : Activity) (deed : Deed) → IsMerging activity → RowAt activity s id page deed → StaysMerger activity deed → P activity deed
+  pub merges_two : (job : Job) (parent keep gone : ℕ) (pair : MergesPair s parent keep gone page) →
+      P (at.ConsolidatorDecide job parent keep gone) (does at.ConsolidatorIdle (ops.Merge parent keep gone) (job ∷ merges_above job (parent_page keep gone pair.above) s.meta.icap))
 
 module _ (s : Sight) (P : Activity → Deed → Type 0) (shows : ShowsAlone s P) where
   as_alone : (activity : Activity) (deed other : Deed) → deed ≡ other → P activity other → P activity deed
@@ -157,6 +166,29 @@ module _ (s : Sight) (id : ℕ) (page : LivePage) (P : Activity → Deed → Typ
   again job parent above plans.SplitFirst deed live plan (inl row) = as_other _ deed _ row.deed_is (shows.ends (at.PosterAgain job parent) job refl refl)
   again job parent above plans.SplitFirst deed live plan (inr row) = as_other _ deed _ row.deed_is (shows.parts job parent above live plan row.leaves)
 
+  -- ---- the consolidator
+
+  decides : (job : Job) (parent keep gone : ℕ) (has : HasMergePlan s parent keep gone page) (plan : MergePlan) → has.plan ≡ plan → (deed : Deed) → RowAt (at.ConsolidatorDecide job parent keep gone) s id page deed → DoesMerge s job parent keep gone has.above plan deed
+      → P (at.ConsolidatorDecide job parent keep gone) deed
+  decides job parent keep gone has plan plan_is deed row = by plan plan_is
+    where
+      drops : deed ≡ ends_merging → P (at.ConsolidatorDecide job parent keep gone) deed
+      drops is = shows.merges (at.ConsolidatorDecide job parent keep gone) deed tt row (ended (at.ConsolidatorDecide job parent keep gone) job (record { kind = refl; hand = refl }) deed is)
+
+      by : (plan : MergePlan) → has.plan ≡ plan → DoesMerge s job parent keep gone has.above plan deed → P (at.ConsolidatorDecide job parent keep gone) deed
+      by merging.Merge is (inl merges) = as_other _ deed _ merges.deed_is (shows.merges_two job parent keep gone (record {
+        live = merges.live;
+        above = has.above;
+        above_live = has.above_live;
+        kept = has.kept;
+        kept_live = has.kept_live;
+        may = subst (IsMergePlan has.above has.kept gone page (capacity_of page.level s.meta.dcap s.meta.icap)) is has.planned;
+      }))
+      by merging.Merge is (inr not) = drops not.deed_is
+      by merging.NotContained is ends = drops ends
+      by merging.ManyParents is ends = drops ends
+      by merging.TooHeavy is ends = drops ends
+
   -- ---- every row
 
   each_at : (activity : Activity) (deed : Deed) → RowAt activity s id page deed → P activity deed
@@ -178,8 +210,7 @@ module _ (s : Sight) (id : ℕ) (page : LivePage) (P : Activity → Deed → Typ
   each_at (at.ConsolidatorPromote job parent keep gone) deed row = shows.merges (at.ConsolidatorPromote job parent keep gone) deed tt row (promoted _ job (record { kind = refl; hand = refl }) parent keep gone deed row)
   each_at (at.ConsolidatorKeep job parent keep gone) deed row =
       shows.merges (at.ConsolidatorKeep job parent keep gone) deed tt row (took _ job (record { kind = refl; hand = refl }) parent keep gone (first_named gone (siblings_of page)) deed row)
-  each_at (at.ConsolidatorDecide job parent keep gone) deed row =
-      shows.merges (at.ConsolidatorDecide job parent keep gone) deed tt row (ended _ job (record { kind = refl; hand = refl }) deed (decided s job parent keep gone row.has.above row.has.plan deed row.does_it))
+  each_at (at.ConsolidatorDecide job parent keep gone) deed row = decides job parent keep gone row.has row.has.plan refl deed row row.does_it
   each_at activity deed row = absurd row
 
 pub each_row : (now : Machine) (P : Activity → Deed → Type 0) (activity : Activity) (wanted : Option Wanted) (deed : Deed) → ShowsAlone (sight now) P
@@ -196,6 +227,7 @@ pub record ShowsOps (s : Sight) (id : ℕ) (page : LivePage) (P : Activity → O
   pub posts : (job : Job) (parent : ℕ) (above : LivePage) (path : List Side) (inner : ℕ) (area : Area) → s.page_at parent ≡ Some above → IsPlan above page job.point s.meta.icap (plans.Post path inner area) → P (at.PosterAgain job parent) (Some (ops.Post parent path inner area))
   pub parts : (job : Job) (parent : ℕ) (above : LivePage) → s.page_at parent ≡ Some above → IsPlan above page job.point s.meta.icap plans.SplitFirst → (leaves : PartLeavesTo s (IsChosen above) above) →
       P (at.PosterAgain job parent) (Some (ops.Extract parent leaves.fresh leaves.path leaves.cuts leaves.free_after))
+  pub merges : (job : Job) (parent keep gone : ℕ) → MergesPair s parent keep gone page → P (at.ConsolidatorDecide job parent keep gone) (Some (ops.Merge parent keep gone))
 
 pub each_op : (s : Sight) (id : ℕ) (page : LivePage) (P : Activity → Option Op → Type 0) → ShowsOps s id page P → ShowsAt s id page (λ activity deed. P activity deed.op)
 each_op s id page P shows = record {
@@ -215,4 +247,5 @@ each_op s id page P shows = record {
   parts = shows.parts;
   walks_to_merge = λ job held leaf farther row. shows.none _;
   merges = λ activity deed kind row stays. subst (λ (d : Deed). P activity d.op) (sym stays.is) (shows.none activity);
+  merges_two = shows.merges;
 }

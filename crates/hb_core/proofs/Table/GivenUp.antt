@@ -11,7 +11,6 @@ use Rattle.hb_activity.specs.Walks.{walk_held}
 use Rattle.hb_core.specs.GivingUp.{drops_job, gives_up, gives_up_hand, reply_for, runs_out, runs_out_hand}
 use Rattle.hb_core.specs.KeptMerges.{merging_at}
 use Rattle.hb_core.specs.Performing.{latches_held}
-use Rattle.hb_core.specs.StageLaws.{MergesNothing}
 use Rattle.hb_store.specs.States.{StoreState}
 
 -- with nothing in hand
@@ -38,12 +37,6 @@ idle_merging Sessions = refl
 idle_merging Posters = refl
 idle_merging Consolidators = refl
 idle_merging Flushers = refl
-
-pub idle_off : (kind : Class) → MergesNothing (idle_of kind)
-idle_off Sessions = tt
-idle_off Posters = tt
-idle_off Consolidators = tt
-idle_off Flushers = tt
 
 -- what is given up
 pub given_up_is : (P : Deed → Type 0) (why : DropWhy) (activity : Activity) → ((line : Line) → hand_of activity ≡ HasLine line → P (answers_now line.number (reply_for why)))

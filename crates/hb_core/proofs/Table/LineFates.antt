@@ -147,6 +147,7 @@ module _ (m : Machine) (fetched : StoreState) where
         parts = λ job parent above live plan leaves. goes m _ _ refl (λ at. refl) refl (λ never. never);
         walks_to_merge = λ job held leaf farther row. goes m _ _ refl (λ at. refl) refl (λ never. never);
         merges = λ activity deed kind row stays. stays_in_hand activity deed stays;
+        merges_two = λ job parent keep gone pair. goes m _ _ refl (λ at. refl) refl (λ never. never);
       }) row
 
 -- ---- who waits for no place afterwards

@@ -1,6 +1,8 @@
--- Each row of a consolidator that doesn't walk on moves it to its next page or its end, and does nothing to the file.
-use Rattle.std.proofs.Common.{◌≡◌, ◌⊎◌, inl, inr, ℕ, [], Option, Some, None, option_map, refl, sym, ap}
+-- Each row of a consolidator that neither walks on nor merges moves it to its next page or its end, and does nothing to the file.
+use Rattle.std.proofs.Common.{◌≡◌, ◌⊎◌, inl, inr, ℕ, ◌<◌, [], Option, Some, None, option_map, refl, sym, ap, ◌∙◌}
 use Rattle.hb_frag.specs.declared.pages.LivePage.{LivePage}
+use Rattle.hb_ops.specs.declared.operations.Op.{Op}
+use Rattle.hb_ops.specs.declared.operations.Op.TheVariants as ops
 use Rattle.hb_terms.specs.declared.merging.MergePlan.{MergePlan}
 use Rattle.hb_terms.specs.declared.merging.MergePlan.TheVariants as plans
 use Rattle.hb_activity.specs.declared.jobs.Job.{Job}
@@ -16,6 +18,8 @@ use Rattle.hb_activity.specs.Wanting.{wanted_page}
 use Rattle.hb_consol.specs.ConsolidatorRows.{after_try, children_of, ends_merging, one_behind, scans, tries}
 use Rattle.hb_consol.specs.MergeRows.{DoesMerge, after_keep}
 use Rattle.hb_core.specs.KeptFits.{walking_job}
+use Rattle.hb_frag.specs.Rules.{capacity_of}
+use Rattle.hb_ops.specs.Merging.{MayMerge}
 use Rattle.hb_space.specs.Boxes.{Area}
 
 -- what an actor waits for, where it does
@@ -83,10 +87,22 @@ module _ (activity : Activity) (job : Job) (before : IsMergingFor activity job) 
   took parent keep gone None deed is = ended deed is
   took parent keep gone (Some area) deed is = record { job = job; before = before; next = at.ConsolidatorDecide job parent keep gone; is = is; after = record { kind = refl; hand = inr refl; walk = refl; goal = refl; awaits = λ never. never } }
 
--- while no operation merges, the job is dropped
-pub decided : (s : Sight) (job : Job) (parent keep gone : ℕ) (above : LivePage) (plan : MergePlan) (deed : Deed) → DoesMerge s job parent keep gone above plan deed → deed ≡ ends_merging
-decided s job parent keep gone above plans.Merge deed (inl row) = absurd row.merge
-decided s job parent keep gone above plans.Merge deed (inr row) = row.deed_is
-decided s job parent keep gone above plans.NotContained deed is = is
-decided s job parent keep gone above plans.ManyParents deed is = is
-decided s job parent keep gone above plans.TooHeavy deed is = is
+-- Three pages of which two may become one, beside the one that the step latched: the parent and the page to keep.
+pub record MergesPair (s : Sight) (parent keep gone : ℕ) (page : LivePage) : Type 0 where
+  pub live : 0 < s.meta.live
+  pub above : LivePage
+  pub above_live : s.page_at parent ≡ Some above
+  pub kept : LivePage
+  pub kept_live : s.page_at keep ≡ Some kept
+  pub may : MayMerge above kept gone page (capacity_of page.level s.meta.dcap s.meta.icap)
+
+-- a decision that does nothing to the file drops the job
+pub decided : (s : Sight) (job : Job) (parent keep gone : ℕ) (above : LivePage) (plan : MergePlan) (deed : Deed) → deed.op ≡ None → DoesMerge s job parent keep gone above plan deed → deed ≡ ends_merging
+decided s job parent keep gone above plans.Merge deed none (inl row) = absurd (something (ops.Merge parent keep gone) (sym none ∙ ap (λ (d : Deed). d.op) row.deed_is))
+  where
+    something : (op : Op) → None ≡ Some op → ⊥
+    something op is = cc
+decided s job parent keep gone above plans.Merge deed none (inr row) = row.deed_is
+decided s job parent keep gone above plans.NotContained deed none is = is
+decided s job parent keep gone above plans.ManyParents deed none is = is
+decided s job parent keep gone above plans.TooHeavy deed none is = is

@@ -44,4 +44,5 @@ hand_after now activity wanted deed row = each_row now KeepsHand activity wanted
       parts = λ job parent above live plan leaves. record { kind = refl; hand = inl refl };
       walks_to_merge = λ job held leaf farther row. record { kind = refl; hand = inr refl };
       merges = λ activity deed kind row stays. after_merging activity deed stays;
+      merges_two = λ job parent keep gone pair. record { kind = refl; hand = inl refl };
     }) row

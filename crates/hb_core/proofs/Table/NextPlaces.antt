@@ -175,6 +175,7 @@ module _ (m : Machine) (actor : ℕ) (fetched : StoreState) where
           row = row;
           stays = stays;
         }))))));
+        merges_two = λ job parent keep gone pair is. rests _ refl (λ st. refl) refl;
       }) row refl
 
 -- ---- what can't go on holds nothing

@@ -68,6 +68,7 @@ saying_of m activity wanted deed row = each_row m (RowSaying m) activity wanted 
       parts = λ job parent above live plan leaves. inl (record { says = refl; takes = refl });
       walks_to_merge = λ job held leaf farther row. inl (record { says = refl; takes = refl });
       merges = λ activity deed kind row stays. inl (record { says = ap (λ (d : Deed). d.says) stays.is; takes = ap (λ (d : Deed). d.takes) stays.is });
+      merges_two = λ job parent keep gone pair. inl (record { says = refl; takes = refl });
     }) row
 
 -- ---- what becomes of the job in work

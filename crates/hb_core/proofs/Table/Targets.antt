@@ -7,7 +7,7 @@ use Rattle.hb_frag.specs.declared.paths.Side.{Side}
 use Rattle.hb_layout.specs.declared.meta.Meta.{Meta}
 use Rattle.hb_ops.specs.declared.leaf_cuts.LeafCut.{LeafCut}
 use Rattle.hb_ops.specs.declared.operations.Op.{Op}
-use Rattle.hb_ops.specs.declared.operations.Op.TheVariants.{Put, Del, Extract, Post, Grow}
+use Rattle.hb_ops.specs.declared.operations.Op.TheVariants.{Put, Del, Extract, Post, Merge, Grow}
 use Rattle.hb_frag.specs.Paths.{part_at}
 use Rattle.hb_frag.specs.Trees.{Tree}
 use Rattle.hb_ops.specs.Extracting.{split_pages}
@@ -38,6 +38,7 @@ IsTarget (Put page rec) id = id ≡ page
 IsTarget (Del page point) id = id ≡ page
 IsTarget (Extract source fresh path cuts free_after) id = (id ≡ source) ⊎ (id ≡ fresh)
 IsTarget (Post parent at inner area) id = id ≡ parent
+IsTarget (Merge parent keep gone) id = (id ≡ parent) ⊎ (id ≡ keep) ⊎ (id ≡ gone)
 IsTarget (Grow fresh free_after) id = id ≡ fresh
 
 one_of_two : (id source fresh : ℕ) (path : List Side) (cuts : List LeafCut) (page : LivePage) (part : Option (Tree × Area)) → IsNumber id (split_pages source fresh path cuts page part) → (id ≡ source) ⊎ (id ≡ fresh)
@@ -58,5 +59,12 @@ numbers_are_targets (Extract source fresh path cuts free_after) meta (Some first
 numbers_are_targets (Post parent at inner area) meta None second third id never = absurd never
 numbers_are_targets (Post parent at inner area) meta (Some first) second third id (inl is) = is
 numbers_are_targets (Post parent at inner area) meta (Some first) second third id (inr never) = absurd never
+numbers_are_targets (Merge parent keep gone) meta None second third id never = absurd never
+numbers_are_targets (Merge parent keep gone) meta (Some above) None third id never = absurd never
+numbers_are_targets (Merge parent keep gone) meta (Some above) (Some kept) None id never = absurd never
+numbers_are_targets (Merge parent keep gone) meta (Some above) (Some kept) (Some going) id (inl is) = inl is
+numbers_are_targets (Merge parent keep gone) meta (Some above) (Some kept) (Some going) id (inr (inl is)) = inr (inl is)
+numbers_are_targets (Merge parent keep gone) meta (Some above) (Some kept) (Some going) id (inr (inr (inl is))) = inr (inr is)
+numbers_are_targets (Merge parent keep gone) meta (Some above) (Some kept) (Some going) id (inr (inr (inr never))) = absurd never
 numbers_are_targets (Grow fresh free_after) meta first second third id (inl is) = is
 numbers_are_targets (Grow fresh free_after) meta first second third id (inr never) = absurd never

@@ -12,7 +12,7 @@ use Rattle.hb_frag.specs.declared.pages.Page.{Page}
 use Rattle.hb_frag.specs.declared.pages.Page.TheVariants.{Live}
 use Rattle.hb_layout.specs.declared.meta.Meta.{Meta}
 use Rattle.hb_ops.specs.declared.operations.Op.{Op}
-use Rattle.hb_ops.specs.declared.operations.Op.TheVariants.{Put, Del, Extract, Post, Grow}
+use Rattle.hb_ops.specs.declared.operations.Op.TheVariants.{Put, Del, Extract, Post, Merge, Grow}
 use Rattle.hb_activity.specs.declared.holding.Latch.{Latch}
 use Rattle.hb_core.specs.declared.outcomes.Outcome.{Outcome}
 use Rattle.hb_activity.specs.Deeds.{Deed}
@@ -63,19 +63,34 @@ page_read (Extract source fresh path cuts free_after) meta (Some page) second th
 page_read (Extract source fresh path cuts free_after) meta None second third never = absurd never
 page_read (Post parent at inner area) meta (Some page) second third fits = inr (page, refl)
 page_read (Post parent at inner area) meta None second third never = absurd never
+page_read (Merge parent keep gone) meta (Some above) second third fits = inr (above, refl)
+page_read (Merge parent keep gone) meta None second third never = absurd never
 page_read (Grow fresh free_after) meta o second third fits = inl refl
 
--- and makes the same of that, whatever else is there
-one_change : (op : Op) (meta : Meta) (o second third other last : Option LivePage) → change_of op meta o second third ≡ change_of op meta o other last
-one_change (Put id rec) meta (Some page) second third other last = refl
-one_change (Put id rec) meta None second third other last = refl
-one_change (Del id point) meta (Some page) second third other last = refl
-one_change (Del id point) meta None second third other last = refl
-one_change (Extract source fresh path cuts free_after) meta (Some page) second third other last = refl
-one_change (Extract source fresh path cuts free_after) meta None second third other last = refl
-one_change (Post parent at inner area) meta (Some page) second third other last = refl
-one_change (Post parent at inner area) meta None second third other last = refl
-one_change (Grow fresh free_after) meta o second third other last = refl
+-- a merge finds all three
+merge_reads : (parent keep gone : ℕ) (meta : Meta) (first second third : Option LivePage) → IsAllowedOn (Merge parent keep gone) meta first second third
+    → ((above : LivePage) × (first ≡ Some above)) × ((kept : LivePage) × (second ≡ Some kept)) × ((going : LivePage) × (third ≡ Some going))
+merge_reads parent keep gone meta None second third never = absurd never
+merge_reads parent keep gone meta (Some above) None third never = absurd never
+merge_reads parent keep gone meta (Some above) (Some kept) None never = absurd never
+merge_reads parent keep gone meta (Some above) (Some kept) (Some going) fits = ((above, refl), (kept, refl), (going, refl))
+
+-- any other one makes the same of the one that it reads, whatever else is there
+abbrev ReadsOne : Op → Type 0
+ReadsOne (Merge parent keep gone) = ⊥
+ReadsOne other = Unit {0}
+
+one_change : (op : Op) (meta : Meta) (o second third other last : Option LivePage) → ReadsOne op → change_of op meta o second third ≡ change_of op meta o other last
+one_change (Put id rec) meta (Some page) second third other last one = refl
+one_change (Put id rec) meta None second third other last one = refl
+one_change (Del id point) meta (Some page) second third other last one = refl
+one_change (Del id point) meta None second third other last one = refl
+one_change (Extract source fresh path cuts free_after) meta (Some page) second third other last one = refl
+one_change (Extract source fresh path cuts free_after) meta None second third other last one = refl
+one_change (Post parent at inner area) meta (Some page) second third other last one = refl
+one_change (Post parent at inner area) meta None second third other last one = refl
+one_change (Merge parent keep gone) meta o second third other last never = absurd never
+one_change (Grow fresh free_after) meta o second third other last one = refl
 
 abbrev AgreeIn : (ℕ → Option Page) → (ℕ → Option Page) → Type 0
 AgreeIn F G = (id : ℕ) (a b : Page) → F id ≡ Some a → G id ≡ Some b → a ≡ b
@@ -126,6 +141,10 @@ module _ (f g : StoreState) (alike : KeepsAllButPages f g) (agree : Agree f g) w
   reads_alike (Extract source fresh path cuts after) one two =
       (one_read source (source ∷ []) refl (page_read (Extract source fresh path cuts after) f.meta _ _ _ one) (page_read (Extract source fresh path cuts after) g.meta _ _ _ two), tt)
   reads_alike (Post parent at inner area) one two = (one_read parent (parent ∷ []) refl (page_read (Post parent at inner area) f.meta _ _ _ one) (page_read (Post parent at inner area) g.meta _ _ _ two), tt)
+  reads_alike (Merge parent keep gone) one two =
+      let a = merge_reads parent keep gone f.meta _ _ _ one in
+      let b = merge_reads parent keep gone g.meta _ _ _ two in
+      (same_there parent a.0.0 b.0.0 a.0.1 b.0.1, (same_there keep a.1.0 b.1.0 a.1.1 b.1.1, (same_there gone a.2.0 b.2.0 a.2.1 b.2.1, tt)))
   reads_alike (Grow fresh after) one two = tt
 
   -- so they need the same page images
@@ -143,17 +162,18 @@ module _ (f g : StoreState) (alike : KeepsAllButPages f g) (agree : Agree f g) w
   same_group op reads = ap (group_with op) (same_page_images (reads_of op) reads)
 
   -- and the same change is made
-  change_by : (op : Op) (id : ℕ) → (in_memory f id ≡ in_memory g id) → change_of op f.meta (live_here f id) (read_here f op 1) (read_here f op 2) ≡ change_of op g.meta (live_here g id) (read_here g op 1) (read_here g op 2)
-  change_by op id same =
-      one_change op f.meta (live_here f id) (read_here f op 1) (read_here f op 2) (read_here g op 1) (read_here g op 2)
+  change_by : (op : Op) (id : ℕ) → ReadsOne op → (in_memory f id ≡ in_memory g id) → change_of op f.meta (live_here f id) (read_here f op 1) (read_here f op 2) ≡ change_of op g.meta (live_here g id) (read_here g op 1) (read_here g op 2)
+  change_by op id one same =
+      one_change op f.meta (live_here f id) (read_here f op 1) (read_here f op 2) (read_here g op 1) (read_here g op 2) one
       ∙ ap (λ (o : Option Page). change_of op f.meta (if_live o) (read_here g op 1) (read_here g op 2)) same
       ∙ ap (λ (x : Meta). change_of op x (live_here g id) (read_here g op 1) (read_here g op 2)) same_meta
 
   same_change : (op : Op) → Alike (reads_of op) → change_here f op ≡ change_here g op
-  same_change (Put id rec) (same, rest) = change_by (Put id rec) id same
-  same_change (Del id point) (same, rest) = change_by (Del id point) id same
-  same_change (Extract source fresh path cuts after) (same, rest) = change_by (Extract source fresh path cuts after) source same
-  same_change (Post parent at inner area) (same, rest) = change_by (Post parent at inner area) parent same
+  same_change (Put id rec) (same, rest) = change_by (Put id rec) id tt same
+  same_change (Del id point) (same, rest) = change_by (Del id point) id tt same
+  same_change (Extract source fresh path cuts after) (same, rest) = change_by (Extract source fresh path cuts after) source tt same
+  same_change (Post parent at inner area) (same, rest) = change_by (Post parent at inner area) parent tt same
+  same_change (Merge parent keep gone) (above, (kept, (going, rest))) = λ i. change_of (Merge parent keep gone) (same_meta i) (if_live (above i)) (if_live (kept i)) (if_live (going i))
   same_change (Grow fresh after) reads = ap (λ (x : Meta). change_of (Grow fresh after) x None None None) same_meta
 
   -- ---- the stores afterwards

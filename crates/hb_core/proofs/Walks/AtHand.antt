@@ -66,7 +66,7 @@ module _ (meta : Meta) (held : LivePage) (good : IsGoodPage meta (Live held)) (p
       let above : 0 < held.level = All-contains (BelongsAt held.level) (leaves held.frag) (Child name) good.1.filled.kinds (placed_is_leaf held.frag held.area (placed (Child name) area) among) in
       omega (arith, above, on)
 
-  sibling_found : (name : ℕ) (area : Area) → Contains (siblings_of held) (name, area) → page.level ≡ held.level → page.area ≡ area → IsLater held page
+  pub sibling_found : (name : ℕ) (area : Area) → Contains (siblings_of held) (name, area) → page.level ≡ held.level → page.area ≡ area → IsLater held page
   sibling_found name area has on box = inr (on, subst (λ (a : Area). volume a < volume held.area) (sym box) (sibling_fewer held.frag held.area name area good.1.well_cut good.1.filled.own has))
 
   leaf_found : (mode : ℕ → Mode) (leaf : Leaf) (area : Area) (wanted : Wanted) → Contains (leaves_of held.frag held.area) (placed leaf area) → in_mode mode (named_page held.level leaf) ≡ Some wanted → page.level ≡ wanted.level
@@ -130,7 +130,7 @@ module _ (meta : Meta) (held : LivePage) (good : IsGoodPage meta (Live held)) (p
 
 -- ---- the latches of an actor
 
-never_later : (a b : LivePage) → a ≡ b → IsLater a b → ⊥
+pub never_later : (a b : LivePage) → a ≡ b → IsLater a b → ⊥
 never_later a b same (inl lower) = let level = ap (λ (p : LivePage). p.level) same in omega (arith, level, lower)
 never_later a b same (inr (on, fewer)) = let points = ap (λ (p : LivePage). volume p.area) same in omega (arith, points, fewer)
 

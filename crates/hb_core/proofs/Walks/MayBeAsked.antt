@@ -1,5 +1,5 @@
 -- The deciders may be asked at the page that a kept machine's step has at hand.
-use Rattle.std.proofs.Common.{◌≡◌, ◌≢◌, ◌⊎◌, inl, inr, ℕ, ◌≤◌, ◌==◌, Bool, true, false, cond, List, [], ◌∷◌, length, Option, Some, None, IfSome, refl, sym, ap, ◌∙◌, subst, arith}
+use Rattle.std.proofs.Common.{◌≡◌, ◌≢◌, ◌⊎◌, inl, inr, ℕ, ◌≤◌, ◌==◌, Bool, true, false, cond, List, [], ◌∷◌, length, Option, Some, None, MatchOption, IfSome, refl, sym, ap, ◌∙◌, subst, arith}
 use Rattle.std.specs.List.{All, slice_get}
 use Rattle.std.specs.Option.{option_and_then, option_map}
 use Rattle.std.proofs.lemmas.Bool.{eq-eqb}
@@ -38,6 +38,7 @@ use Rattle.hb_point.specs.Asks.{MayAsk, WalksInside}
 use Rattle.hb_point.specs.SessionRows.{WantsBoxes}
 use Rattle.hb_poster.specs.Asks.{LooksBelow, MayBeAsked}
 use Rattle.hb_space.proofs.Facts.Boxes.{Holds-within as holds_within}
+use Rattle.hb_search.specs.Searching.{MaySearch, SearchesInside, StaysGathering}
 use Rattle.hb_store.specs.States.{IsGoodPage, StoreState}
 use Rattle.hb_core.proofs.Files.AskedPages.{place_among}
 use Rattle.hb_core.proofs.Memory.StillThere.{fetched_good}
@@ -45,7 +46,7 @@ use Rattle.hb_core.proofs.Walks.AtHand.{good_here, own_there, walked_there}
 use Rattle.hb_core.proofs.Walks.WalkingWorkers.{walk_wants_above}
 use Rattle.hb_core.proofs.Walks.WalksKept.{IsAtParent, parent_latched}
 use Rattle.hb_core.specs.AllowedLaws.{AnyPage}
-use Rattle.hb_core.specs.AskedLaws.{AsksToPut, AsksToSplit, AsksWithParent, ChildrenMayBeAsked, OthersMayBeAsked, PagesAtHandFit, PointsMayBeAsked, PosterWalksMayBeAsked, PutsMayBeAsked, SplitsMayBeAsked, WalksStayInside}
+use Rattle.hb_core.specs.AskedLaws.{AsksToPut, AsksToSplit, AsksWithParent, ChildrenMayBeAsked, OthersMayBeAsked, PagesAtHandFit, PointsMayBeAsked, PosterWalksMayBeAsked, PutsMayBeAsked, SearchesMayBeAsked, SplitsMayBeAsked, WalksStayInside}
 use Rattle.hb_core.specs.Asking.{AskedBox, HasAskedBox, asked_box, box_at, box_by_leaf, looked_live}
 use Rattle.hb_core.specs.Fetching.{Brings}
 use Rattle.hb_core.specs.Keeps.{LacksRoomFor, OneHasRoom}
@@ -169,6 +170,19 @@ pub points_may_be_asked : PointsMayBeAsked
 points_may_be_asked m actor fetched line held rest found wanted page free p may keeps brings is none goal point wants hand =
     let has = walks_stay_inside m actor fetched wanted page p may keeps brings goal point wants hand in
     subst (λ (a : Activity). MayAsk a m.store.meta free wanted.page page None) (sym is) (inside_by page line.command rest p none (sym (ap walk_point is) ∙ goal) has)
+
+-- ---- a walk of a search
+
+searches_inside : (page : LivePage) (command : Command) (rest : List Area) (p : List ℕ) → WantsBoxes command → goal_of command rest ≡ Some p → Holds page.area p → SearchesInside page command rest
+searches_inside page (Search area) rest p wants goal has = subst (λ (g : Option (List ℕ)). MatchOption g ⊥ (Holds page.area)) (sym goal) has
+searches_inside page (Insert rec) rest p wants goal has = absurd wants
+searches_inside page (Delete point) rest p wants goal has = absurd wants
+searches_inside page (Lookup point) rest p wants goal has = absurd wants
+
+pub searches_may_be_asked : SearchesMayBeAsked
+searches_may_be_asked m actor fetched line held rest found wanted page p may keeps brings is wants goal point wanted_is hand =
+    let has = walks_stay_inside m actor fetched wanted page p may keeps brings goal point wanted_is hand in
+    subst (λ (a : Activity). MaySearch a page) (sym is) (searches_inside page line.command rest p wants (sym (ap walk_point is) ∙ goal) has, subst StaysGathering is (keeps.searches_gather actor))
 
 -- ---- a page that is split, and its halves
 

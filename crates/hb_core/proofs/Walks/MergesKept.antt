@@ -369,7 +369,7 @@ module _ (m : Machine) (actor : ℕ) (fetched : StoreState) (good : (id : ℕ) (
   lands (at.ConsolidatorKeep job parent keep gone) id page deed is asks live kind row stays =
       let keeping : Activity = at.ConsolidatorKeep job parent keep gone in
       landed deed _ row (keep_lands job parent keep gone id page (first_named gone (siblings_of page)) refl is asks (at_named keeping id keep _ Exclusive page is asks (λ o. refl) live))
-  lands (at.ConsolidatorDecide job parent keep gone) id page deed is asks live kind row stays = landed deed _ (decided (sight here) job parent keep gone row.has.above row.has.plan deed row.does_it) idle
+  lands (at.ConsolidatorDecide job parent keep gone) id page deed is asks live kind row stays = landed deed _ (decided (sight here) job parent keep gone row.has.above row.has.plan deed (ap (λ (d : Deed). d.op) stays.is) row.does_it) idle
   lands activity id page deed is asks live kind row stays = absurd kind
 
   pub merged_place : (deed : Deed) → MergesOn m actor here deed → Lands deed.next

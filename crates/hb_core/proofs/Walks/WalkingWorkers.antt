@@ -119,6 +119,7 @@ walk_after m actor now wanted deed wants row = each_row now (λ activity deed. m
         };
       });
       merges = λ activity deed kind row stays is. inl (ap (λ (d : Deed). walking_job d.next) stays.is ∙ stays.after.goal);
+      merges_two = λ job parent keep gone pair is. inl refl;
     }) row refl
 
 -- ---- the level of the page that a walk wants

@@ -2,8 +2,8 @@ use Rattle.hb_core.proofs.state.Core.step.Goals as goal
 use Rattle.std.proofs.Common.{Some, refl, ap, ◌∙◌}
 use Rattle.hb_core.specs.declared.outcomes.Outcome.TheVariants as outcomes
 use Rattle.hb_core.proofs.Running.AgainstPlaces.{lines_have_boxes, locks_have_boxes}
-use Rattle.hb_core.proofs.Running.Touched.{as_before_count, idle_well, line_well, posting_well, untouched, untouched_stopped}
-use Rattle.hb_core.proofs.Running.StepTaken.{await_step, counted, idle_stays, lies_behind, line_step, posting_step, stopped_stays, with_taken, work_step, works_then}
+use Rattle.hb_core.proofs.Running.Touched.{as_before_count, idle_well, line_well, merging_well, posting_well, untouched, untouched_stopped}
+use Rattle.hb_core.proofs.Running.StepTaken.{await_step, counted, idle_stays, lies_behind, line_step, merging_step, posting_step, stopped_stays, with_taken, work_step, works_then}
 use Rattle.hb_core.specs.CoreSeen.{core_disk, core_seen}
 
 pub returns-in-Some : goal.returns-in-Some
@@ -94,7 +94,17 @@ pub returns-in-ConsolidatorIdle : goal.returns-in-ConsolidatorIdle
 returns-in-ConsolidatorIdle g c = record {
   steps = λ m step.
       let mine = counted c.saturating_add-self.result (g.D.Device.model (core_disk c.args.self.now)) (core_seen c.args.self.now) m step in
+      merging_step g.D.Device.model (core_disk c.args.self.now) (core_disk c.take_merging.new.self) (with_taken c.saturating_add-self.result (core_seen c.args.self.now)) (core_seen c.take_merging.new.self) m c.args.actor c.activity.result.now c.take_merging.result
+      c.requires.actor mine c.in_default.is c.activity.ensures c.in-ConsolidatorIdle.is c.take_merging.ensures.disk c.take_merging.ensures.does;
+  touches = untouched g.D.Device.model (core_disk c.args.self.now) (core_disk c.take_merging.new.self) (core_seen c.args.self.now) (core_seen c.take_merging.new.self) c.take_merging.result
+      (merging_well c.args.actor c.take_merging.result (with_taken c.saturating_add-self.result (core_seen c.args.self.now)) (core_seen c.take_merging.new.self) c.take_merging.ensures.does) c.take_merging.ensures.disk;
+}
+
+pub returns-in-Flusher : goal.returns-in-Flusher
+returns-in-Flusher g c = record {
+  steps = λ m step.
+      let mine = counted c.saturating_add-self.result (g.D.Device.model (core_disk c.args.self.now)) (core_seen c.args.self.now) m step in
       idle_stays (g.D.Device.model (core_disk c.args.self.now)) (with_taken c.saturating_add-self.result (core_seen c.args.self.now)) m c.args.actor c.activity.result.now
-      c.requires.actor mine c.in_default.is c.activity.ensures c.in-ConsolidatorIdle.is;
+      c.requires.actor mine c.in_default.is c.activity.ensures c.in-Flusher.is;
   touches = untouched g.D.Device.model (core_disk c.args.self.now) (core_disk c.args.self.now) (core_seen c.args.self.now) _ outcomes.Idle idle_well refl;
 }

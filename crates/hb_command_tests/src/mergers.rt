@@ -1,0 +1,219 @@
+//! What steps of the consolidator come to, with ample memory, at a parent that names four children.
+
+ghost use Rattle.std.specs.Prelude.{◌≡◌, ◌≤◌};
+ghost use Rattle.hb_layout.specs.Limits.{IsLayout};
+ghost use Rattle.hb_ops.specs.Sound.{FitsFile};
+
+use crate::deciders::{cut_at, fits, is_inside, meta, records, show_op};
+use crate::jobs::{job, show};
+use hb_activity::{Activity, Job, JobKind, Next};
+use hb_frag::{Frag, Leaf, LivePage};
+use hb_layout::Meta;
+use hb_space::Area;
+use std::alloc::Global;
+
+/// A step, what a page of records may weigh and a page above them, and what the step comes to: where the consolidator stands
+/// then, the operation, and the jobs.
+///
+/// Page 3 names 1, 2, 1 again and 4. Page 1 gave boxes to 9, 2 and 4, and weighs 5. Page 2 has no sibling leaf, and weighs 1.
+const ROWS: [(&str, u16, u16, &str); 9] = [
+    ("walk", 32, 32, "scan 1;"),
+    ("scan 1", 32, 32, "try 2 2;"),
+    ("scan 2", 32, 32, "scan 4;"),
+    ("try", 32, 32, "promote;"),
+    ("try", 6, 32, "try 4 4;"),
+    ("keep", 32, 32, "decide;"),
+    ("decide", 6, 32, "idle;"),
+    ("decide", 32, 16, "idle merge 3 1 2; M1.50 M2.50"),
+    ("decide", 32, 15, "idle merge 3 1 2; M1.50"),
+];
+
+fn tip(leaf: Leaf) -> Frag {
+    Frag::tip(leaf)
+}
+
+fn parent(alloc: Global) -> Option<LivePage> {
+    let last = cut_at(alloc, 80, tip(Leaf::Child(1)), tip(Leaf::Child(4)))?;
+    let rest = cut_at(alloc, 70, tip(Leaf::Child(2)), last)?;
+    Some(LivePage {
+        level: 1,
+        area: Area::whole(1),
+        frag: cut_at(alloc, 40, tip(Leaf::Child(1)), rest)?,
+    })
+}
+
+fn page_one(alloc: Global) -> Option<LivePage> {
+    let last = cut_at(alloc, 80, records(alloc, 7, 7)?, tip(Leaf::Sibling(4)))?;
+    let third = cut_at(alloc, 70, tip(Leaf::Sibling(2)), last)?;
+    let second = cut_at(alloc, 40, tip(Leaf::Sibling(9)), third)?;
+    Some(LivePage {
+        level: 0,
+        area: Area::whole(1),
+        frag: cut_at(alloc, 20, records(alloc, 1, 2)?, second)?,
+    })
+}
+
+fn page_two(alloc: Global) -> Option<LivePage> {
+    let (_, from) = Area::whole(1).cut(0, 40);
+    let (below, _) = from.cut(0, 70);
+    Some(LivePage {
+        level: 0,
+        area: below,
+        frag: records(alloc, 5, 6)?,
+    })
+}
+
+// Where the consolidator stands.
+fn show_then(text: &mut String, then: &Activity) -> Option<()> {
+    match then {
+        Activity::ConsolidatorScan { child, .. } => write!(text, "scan {child}").ok(),
+        Activity::ConsolidatorTry { gone, leaf, .. } => write!(text, "try {gone} {leaf}").ok(),
+        Activity::ConsolidatorPromote { .. } => text.push_str("promote").ok(),
+        Activity::ConsolidatorDecide { .. } => text.push_str("decide").ok(),
+        Activity::ConsolidatorIdle => text.push_str("idle").ok(),
+        _ => None,
+    }
+}
+
+fn shown(alloc: Global, next: &Next) -> Option<String> {
+    let mut text = String::new(alloc);
+    show_then(&mut text, &next.then)?;
+    if let Some(op) = &next.op {
+        text.push(' ').ok()?;
+        show_op(&mut text, op)?;
+    }
+    text.push(';').ok()?;
+    show(&mut text, next.jobs.as_slice())?;
+    Some(text)
+}
+
+fn walk(alloc: Global, above: &LivePage, meta: &Meta) -> Option<Next>
+    requires layout { IsLayout meta.now }
+    requires above { FitsFile meta.now above.now }
+{
+    let job = job(JobKind::Merge, 1, 50);
+    if above.level < 1 || !is_inside(above, &job.point) {
+        return None;
+    }
+    let state = Activity::ConsolidatorWalk { job, held: None };
+    hb_consol::next(alloc, state, 3, above, None, None, None, meta).ok()
+}
+
+fn scan(
+    alloc: Global,
+    child: u32,
+    above: &LivePage,
+    page: &LivePage,
+    meta: &Meta,
+) -> Option<Next>
+    requires layout { IsLayout meta.now }
+    requires page { FitsFile meta.now page.now }
+{
+    let state = Activity::ConsolidatorScan {
+        job: job(JobKind::Merge, 1, 50),
+        parent: 3,
+        child,
+    };
+    hb_consol::next(alloc, state, child, page, Some(above), None, None, meta).ok()
+}
+
+fn keep(alloc: Global, kept: &LivePage, meta: &Meta) -> Option<Next>
+    requires layout { IsLayout meta.now }
+    requires kept { FitsFile meta.now kept.now }
+{
+    let state = Activity::ConsolidatorKeep {
+        job: job(JobKind::Merge, 1, 50),
+        parent: 3,
+        keep: 1,
+        gone: 2,
+    };
+    hb_consol::next(alloc, state, 1, kept, None, None, None, meta).ok()
+}
+
+fn try_pair(
+    alloc: Global,
+    above: &LivePage,
+    kept: &LivePage,
+    page: &LivePage,
+    meta: &Meta,
+) -> Option<Next>
+    requires layout { IsLayout meta.now }
+    requires above { FitsFile meta.now above.now }
+    requires kept { FitsFile meta.now kept.now }
+    requires page { FitsFile meta.now page.now }
+{
+    let state = Activity::ConsolidatorTry {
+        job: job(JobKind::Merge, 1, 50),
+        parent: 3,
+        keep: 1,
+        gone: 2,
+        leaf: 2,
+    };
+    hb_consol::next(alloc, state, 2, page, Some(above), Some(kept), None, meta).ok()
+}
+
+fn decide(
+    alloc: Global,
+    above: &LivePage,
+    kept: &LivePage,
+    page: &LivePage,
+    meta: &Meta,
+) -> Option<Next>
+    requires layout { IsLayout meta.now }
+    requires above { FitsFile meta.now above.now }
+    requires kept { FitsFile meta.now kept.now }
+    requires page { FitsFile meta.now page.now }
+{
+    let job = job(JobKind::Merge, 1, 50);
+    if above.level != job.level {
+        return None;
+    }
+    let state = Activity::ConsolidatorDecide {
+        job,
+        parent: 3,
+        keep: 1,
+        gone: 2,
+    };
+    hb_consol::next(alloc, state, 2, page, Some(above), Some(kept), None, meta).ok()
+}
+
+fn next_of(alloc: Global, step: &str, meta: &Meta) -> Option<Next> {
+    let above = parent(alloc)?;
+    let kept = page_one(alloc)?;
+    let page = page_two(alloc)?;
+    if !meta.is_layout() || !fits(&above, meta) || !fits(&kept, meta) || !fits(&page, meta) {
+        return None;
+    }
+    match step {
+        "walk" => walk(alloc, &above, meta),
+        "scan 1" => scan(alloc, 1, &above, &kept, meta),
+        "scan 2" => scan(alloc, 2, &above, &page, meta),
+        "keep" => keep(alloc, &kept, meta),
+        "try" => try_pair(alloc, &above, &kept, &page, meta),
+        _ => decide(alloc, &above, &kept, &page, meta),
+    }
+}
+
+// Whether the step comes to this.
+fn comes_to(alloc: Global, step: &str, meta: &Meta, want: &str) -> bool {
+    match next_of(alloc, step, meta) {
+        Some(next) => match shown(alloc, &next) {
+            Some(text) => text.as_str() == want,
+            None => false,
+        },
+        None => false,
+    }
+}
+
+#[test]
+fn rows_of_the_consolidator(rt: HostRuntime) {
+    for &(step, dcap, icap, want) in &ROWS {
+        let meta = Meta {
+            dcap,
+            icap,
+            ..meta(40)
+        };
+        let right = comes_to(rt.alloc(), step, &meta, want);
+        assert!(rt; right, "{step} {dcap} {icap}: {want}");
+    }
+}

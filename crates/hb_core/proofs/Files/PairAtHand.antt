@@ -1,0 +1,57 @@
+-- A consolidator that decides on a pair has the page to go at hand, with the box that the page to keep gave it.
+use Rattle.std.proofs.Common.{◌≡◌, ℕ, ◌-◌, Option, Some, None, IfSome, IsSome, option_map, true, refl, sym, ap, ◌∙◌, subst}
+use Rattle.hb_frag.specs.declared.pages.LivePage.{LivePage}
+use Rattle.hb_latch.specs.declared.modes.Mode.TheVariants.{Exclusive}
+use Rattle.hb_ops.specs.declared.operations.Op.TheVariants as ops
+use Rattle.hb_activity.specs.declared.jobs.Job.{Job}
+use Rattle.hb_activity.specs.declared.wanting.Wanted.{Wanted}
+use Rattle.hb_activity.specs.declared.activities.Activity.{Activity}
+use Rattle.hb_activity.specs.declared.activities.Activity.TheVariants as at
+use Rattle.hb_activity.specs.Wanting.{wanted_of}
+use Rattle.hb_core.proofs.Table.MergerMoves.{MergesPair, of_page}
+use Rattle.hb_core.specs.Asking.{HasAskedBox, asked_box, box_of_sibling, looked_live, wanted_by}
+use Rattle.hb_core.specs.Machines.{Machine, live_here, with_disk, sight}
+use Rattle.hb_core.specs.Rows.{IsAtHand}
+use Rattle.hb_frag.specs.Leaves.{first_named, siblings_of}
+use Rattle.hb_ops.specs.Operations.{BoxesMatch}
+use Rattle.hb_space.specs.Boxes.{Area}
+use Rattle.hb_store.specs.States.{StoreState}
+
+-- the page that it wants is the one to go, exclusively
+pub decides_page : (m : Machine) (actor : ℕ) (job : Job) (parent keep gone : ℕ) (wanted : Wanted) → m.activity actor ≡ at.ConsolidatorDecide job parent keep gone → wanted_by m actor ≡ Some wanted → (wanted.page ≡ gone) × (wanted.mode ≡ Exclusive)
+decides_page m actor job parent keep gone wanted is wants =
+    let deciding : Activity = at.ConsolidatorDecide job parent keep gone in
+    let so : wanted_of deciding m.store.meta (looked_live m.store deciding) ≡ Some wanted = subst (λ (a : Activity). wanted_of a m.store.meta (looked_live m.store a) ≡ Some wanted) is wants in
+    of_page gone (λ (page : LivePage). page.level - 1) Exclusive (looked_live m.store deciding) wanted so
+
+-- a page with the box of the leaf that names it
+given_box : (kept : LivePage) (gone : ℕ) (area : Area) (o : Option Area) → first_named gone (siblings_of kept) ≡ o → IsSome (first_named gone (siblings_of kept)) → IfSome (box_of_sibling (Some kept) gone) (λ asked. HasAskedBox asked area) → first_named gone (siblings_of kept) ≡ Some area
+given_box kept gone area None is some has = absurd (nothing (subst (λ (o : Option Area). IsSome o) is some))
+  where
+    none : Option Area
+    none = None
+
+    nothing : IsSome none → ⊥
+    nothing never = cc
+given_box kept gone area (Some box) is some has =
+    let exact : IfSome (option_map (λ (area : Area). record { area = area; exact = true }) (Some box)) (λ asked. HasAskedBox asked area) = subst (λ (o : Option Area). IfSome (option_map (λ (area : Area). record { area = area; exact = true }) o) (λ asked. HasAskedBox asked area)) is has in
+    let same : area ≡ box = exact in
+    is ∙ ap (λ (a : Area). Some a) (sym same)
+
+module _ (m : Machine) (actor : ℕ) (fetched : StoreState) (job : Job) (parent keep gone : ℕ) (wanted : Wanted) (page : LivePage) (pair : MergesPair (sight (with_disk fetched m.files m.clock m)) parent keep gone page) (is : m.activity actor ≡ at.ConsolidatorDecide job parent keep gone) (wants : wanted_by m actor ≡ Some wanted)
+    (hand : IsAtHand (with_disk fetched m.files m.clock m) (m.activity actor) wanted page) where
+  pub gone_live : live_here fetched gone ≡ Some page
+  gone_live = ap (live_here fetched) (sym (decides_page m actor job parent keep gone wanted is wants).0) ∙ hand.live
+
+  pub gone_box : first_named gone (siblings_of pair.kept) ≡ Some page.area
+  gone_box =
+      let deciding : Activity = at.ConsolidatorDecide job parent keep gone in
+      let asked : IfSome (asked_box deciding fetched) (λ asked. HasAskedBox asked page.area) = subst (λ (a : Activity). IfSome (asked_box a fetched) (λ asked. HasAskedBox asked page.area)) is hand.box in
+      let kept : IfSome (box_of_sibling (Some pair.kept) gone) (λ asked. HasAskedBox asked page.area) = subst (λ (o : Option LivePage). IfSome (box_of_sibling o gone) (λ asked. HasAskedBox asked page.area)) pair.kept_live asked in
+      given_box pair.kept gone page.area (first_named gone (siblings_of pair.kept)) refl pair.may.given kept
+
+  pub pair_boxes : BoxesMatch (ops.Merge parent keep gone) (live_here fetched parent) (live_here fetched keep) (live_here fetched gone)
+  pair_boxes =
+      let op = ops.Merge parent keep gone in
+      let kept = subst (λ (o : Option LivePage). BoxesMatch op (live_here fetched parent) (Some pair.kept) o) (sym gone_live) gone_box in
+      subst (λ (o : Option LivePage). BoxesMatch op (live_here fetched parent) o (live_here fetched gone)) (sym pair.kept_live) kept
