@@ -8,7 +8,7 @@ import os
 
 MOST = 2 ** 64 - 1
 # whether deletes add jobs to merge
-MERGES = os.environ.get("TRIAL_MERGES", "0") == "1"
+MERGES = os.environ.get("TRIAL_MERGES", "1") == "1"
 SHARED, UPDATE, ALONE = "S", "U", "X"
 POSTER, MERGER = 17, 18
 

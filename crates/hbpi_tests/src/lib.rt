@@ -14,6 +14,10 @@ mod grown_stops;
 #[cfg(test)]
 mod maps;
 #[cfg(test)]
+mod merges;
+#[cfg(test)]
+mod merges_by_hand;
+#[cfg(test)]
 mod ordered;
 #[cfg(test)]
 mod plain_list;

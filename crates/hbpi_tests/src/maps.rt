@@ -15,7 +15,7 @@ pub(crate) const PAGE_2: usize = PAGES + 4096;
 
 pub(crate) const PAGE_3: usize = PAGES + 8192;
 
-const PAGE_4: usize = PAGES + 12_288;
+pub(crate) const PAGE_4: usize = PAGES + 12_288;
 
 const TURN_1: usize = 4096;
 
