@@ -92,6 +92,24 @@ def way_to_sibling(node, page, way=()):
     return list(way) if node == ("sibling", page) else None
 
 
+def spelled(page):
+    """A page's bytes, without the zeros behind them."""
+    if not isinstance(page, tuple):
+        return b"\x02" + page.to_bytes(4, "big")
+    level, box, frag = page
+    ends = [low for low, _ in box] + [high for _, high in box]
+    return bytes([1, level, len(box), 0]) + b"".join(value.to_bytes(8, "big") for value in ends) + spelled_node(frag)
+
+
+def spelled_node(node):
+    if node[0] == "cut":
+        return bytes([0, node[1]]) + node[2].to_bytes(8, "big") + spelled_node(node[3]) + spelled_node(node[4])
+    if node[0] == "records":
+        return b"\x01" + len(node[1]).to_bytes(2, "big") + b"".join(
+            b"".join(value.to_bytes(8, "big") for value in point) + bytes([len(body)]) + body.encode() for point, body in node[1])
+    return (b"\x02" if node[0] == "child" else b"\x03") + node[1].to_bytes(4, "big")
+
+
 # ---- boxes
 
 def meets(one, other):
@@ -213,6 +231,10 @@ class File:
         self.pages[number] = page
         self.live += 1
         return number
+
+    def bytes(self):
+        """All pages, as they stand in a file."""
+        return b"".join(spelled(self.pages[number]).ljust(4096, b"\0") for number in range(1, self.high + 1))
 
     def records(self):
         return dict(r for page in self.pages.values() if isinstance(page, tuple) and page[0] == 0 for leaf in leaves(page[2]) if leaf[0] == "records" for r in leaf[1])

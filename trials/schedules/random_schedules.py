@@ -16,6 +16,7 @@ of the first runs that differ all that it takes to do them again. The status is 
 """
 import collections
 import itertools
+import operator
 import os
 import random
 import re
@@ -388,12 +389,17 @@ def step_machine(case, number, run, counts):
 
 
 def next_file(made, states, words, crashes):
-    """The machine's file behind a run: what is durable, or behind a crash the one state that looks so, if it is one."""
+    """The machine's file behind a run: what is durable, or behind a crash the state that has these pages."""
     asked = [made.durable] if not crashes else states
-    like = [file for file in asked if [file.height, file.high, file.live] == [int(word) for word in words[2:5]] and has_sum(file, words[1])]
-    if not like:
-        raise Bad(f"the machine has no such file: {words}")
-    return like[0] if all(file.pages == like[0].pages and file.free == like[0].free for file in like) else None
+    for file in asked:
+        if [file.height, file.high, file.live] == [int(word) for word in words[2:5]] and f"{pages_sum(file):x}" == words[5] and has_sum(file, words[1]):
+            return file
+    raise Bad(f"the machine has no such file: {words}")
+
+
+def pages_sum(file):
+    data = file.bytes()
+    return sum(map(operator.mul, struct.unpack(f">{len(data) // 8}Q", data), itertools.count(1, 2))) % 2 ** 64
 
 
 def has_sum(file, word):
