@@ -62,7 +62,7 @@ class Run:
     """A run over these records, and what was said of it."""
 
     def __init__(self, k, records, lines, status, text, at, clock):
-        self.k, self.status, self.at, self.clock = k, status, at, clock
+        self.k, self.status, self.text, self.at, self.clock = k, status, text, at, clock
         self.said, self.lines = Said(text), {line[0]: line for line in lines}
         self.sets, self.sums = [dict(records)], [0]
         for point, body in records.items():

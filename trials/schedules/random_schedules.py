@@ -3,15 +3,20 @@
 
     trials/schedules/random_schedules.py KIND COUNT SEED
 
-KIND is `random`, `searching` (random, with searches), `deep` (files of three levels), `failing` (each device call fails, once and for good), `racing` (two sessions on one page, in all
-interleavings of their first six steps), `high` (3,000 inserts with the poster), or `refused` (each allocation is refused in
-turn; with TRIAL_PROGRAM alone). It copies the repository's sources into a
+KIND is `random`, `searching` (random, with searches), `deep` (files of three levels), `failing` (each device call fails, once
+and for good), `searching-failing` (the same with searches), `racing` (two sessions on one page, in all interleavings of their
+first six steps), `high` (3,000 inserts with the poster), `refused` (each allocation is refused in turn; with TRIAL_PROGRAM
+alone), `searching-refused` (some allocations of schedules with searches), `merging` (waves of inserts and deletes with searches,
+the poster and the consolidator), `merging-deep` (the same over files of three levels), `merging-failing` or `merging-refused`.
+Each run that starts with a known file is also taken step by step by a machine in Python (machine.py), which has to print the
+same and to leave as many pages; of merges its counts tell. It copies the repository's sources into a
 temporary folder, puts program.txt there as one more program, and runs it unproved (`rt try`); or it runs the program that
 TRIAL_PROGRAM names, which was built of these sources with optimisation, since `rt try` takes a hundred times as long. It prints what was tried, and
 of the first runs that differ all that it takes to do them again. The status is 0 where none does.
 """
 import collections
 import itertools
+import operator
 import os
 import random
 import re
@@ -21,7 +26,8 @@ import subprocess
 import sys
 import tempfile
 
-from plain_list import Bad, Run
+import machine
+from plain_list import Bad, Run, sum_of
 
 HERE = os.path.dirname(os.path.abspath(__file__))
 ROOT = os.path.dirname(os.path.dirname(HERE))
@@ -37,7 +43,7 @@ class Case:
 
     def __init__(self, seed, k, pages, log, dcap, icap):
         self.seed, self.k, self.pages, self.log, self.dcap, self.icap = seed, k, pages, log, dcap, icap
-        self.runs, self.wanted = [], None
+        self.runs, self.wanted, self.file = [], None, None
 
     def add(self, lines, steps, moments=20, stopped=0, failing=0, crashes=False, finishes=False):
         self.runs.append((lines, steps, moments, stopped, failing, crashes, finishes))
@@ -74,20 +80,20 @@ def a_line(rng, number, sessions, k, values, shares):
     return (number, rng.randint(1, sessions), verb, tuple(rng.choice(values) for _ in range(k)), body)
 
 
-def a_schedule(rng, sessions, lines, poster, turn=60):
+def a_schedule(rng, sessions, lines, poster, turn=60, merger=0):
     """Steps of all actors, in bursts or one by one, and whether they are enough for all lines."""
     actors = [str(session) for session in range(1, sessions + 1)]
     steps, most, burst = [], len(lines) * rng.choice([3, 5, 8, 12]), rng.choice([1, 1, 2, 4, 9])
     while len(steps) < most:
         drawn = rng.random()
-        actor = "p" if drawn < poster else rng.choice("cf") if drawn > 0.98 else rng.choice(actors)
+        actor = "p" if drawn < poster else "c" if drawn < poster + merger else rng.choice("cf") if drawn > 0.98 else rng.choice(actors)
         steps += [actor] * rng.randint(1, burst)
     finishes = rng.random() < 0.4
     if finishes:
-        for _ in range(max(collections.Counter(line[1] for line in lines).values()) + 4):
+        for _ in range((max(collections.Counter(line[1] for line in lines).values()) + 4) * (2 if merger else 1)):
             for actor in actors:
                 steps += [actor] * turn
-            steps += ["p"] * (6 if poster else 0)
+            steps += ["p"] * (6 if poster else 0) + ["c"] * (9 if merger else 0)
     return steps, finishes
 
 
@@ -136,6 +142,72 @@ RACES = [
 ]
 
 
+# of inserts, deletes, lookups and searches
+WAVES = {"fill": (17, 1, 1, 1), "drain": (1, 17, 1, 1), "mix": (6, 7, 2, 3)}
+
+
+def some_points(rng, k, count):
+    """Distinct points of a small space or of all of it, some on a line or around a middle."""
+    most = rng.choice([8, 40, 1000, 2 ** 64]) if k > 1 else rng.choice([2 * count, 1000, 2 ** 64])
+    points = set()
+    while len(points) < count and len(points) < most ** k:
+        point = [rng.randrange(most) for _ in range(k)]
+        if rng.random() < 0.3:
+            point = [most // 2 if rng.random() < 0.7 else value for value in point]
+        points.add(tuple(point))
+        most += len(points) < count
+    return sorted(points)
+
+
+def a_wave(rng, kind, points, size, sessions, k):
+    """Lines of a wave: the points of inserts and deletes come in a sequence of their own, each once before one comes again."""
+    values, drawn = sorted({value for point in points for value in point}), []
+    lines = []
+    for at in range(size):
+        line = a_line(rng, at + 1, sessions, k, values, WAVES[kind])
+        if line[2] != "search":
+            drawn = drawn or rng.sample(points, len(points))
+            line = line[:3] + (drawn.pop(),) + line[4:]
+        lines.append(line)
+    return lines
+
+
+def a_merging_case(rng, seed, failing):
+    k, sessions = rng.randint(1, 4), rng.choice([1, 1, 2, 3, 4, 8])
+    pages, log = rng.choice([(4, 131072), (6, 131072), (16, 262144), (40, 524288), (40, 524288), (120, 1048576)])
+    case = Case(seed, k, pages, log, rng.choice([6, 6, 7, 8] if failing else [6, 6, 7, 8, 12, 20]), rng.choice([32, 32, 40]))
+    points = some_points(rng, k, rng.choice([9, 11] if failing else [10, 20, 40, 80, 120]))
+    waves = ["fill", "drain", rng.choice(["fill", "mix"])] + ([] if failing else rng.choice([[], ["mix"], ["drain", "fill"]]))
+    poster, merger = rng.choice([0.1, 0.2, 0.3]), rng.choice([0.1, 0.2, 0.3])
+    for turn, wave in enumerate(waves):
+        lines = a_wave(rng, wave, points, max(4, len(points) * rng.choice([9, 10, 12]) // 10), sessions, k)
+        steps, finishes = a_schedule(rng, sessions, lines, poster, 400, merger)
+        if failing or (turn == 0 and not finishes):
+            steps += (["c"] * (9 if turn else 0) + ["p"] * 8 + [str(actor) for actor in range(1, sessions + 1)] * 9) * len(lines)
+        case.add(lines, steps, 20, rng.random() < 0.05, (60000 if turn else 0) if failing else rng.choice([0, 0, 0, 1]), turn > 0 and rng.random() < 0.3, finishes)
+    return case
+
+
+def merging_cases(count, seed, failing=False):
+    for number in range(count):
+        yield a_merging_case(random.Random(f"{seed} {number}"), number, failing)
+
+
+def merging_deep_cases(count, seed):
+    """Files that grow to three levels and are emptied, so that pages above merge, too."""
+    for number in range(count):
+        rng = random.Random(f"{seed} {number}")
+        case, sessions = Case(number, 1 + number % 4, 220, 1048576, 6, 32), rng.choice([1, 2, 4])
+        points = some_points(rng, case.k, 400)
+        for wave in ("fill", "drain", "fill"):
+            lines = a_wave(rng, wave, points, 400, sessions, case.k)
+            steps = a_schedule(rng, sessions, lines, 0.25, 60, 0.25)[0]
+            for _ in range(400):
+                steps += [str(actor) for actor in range(1, sessions + 1) for _ in range(9)] + ["p"] * 6 + ["c"] * 9
+            case.add(lines, steps, 6, 0, 1, False)
+        yield case
+
+
 def racing_cases():
     for before, one, other in RACES:
         for places in itertools.combinations(range(12), 6):
@@ -173,14 +245,27 @@ def high_cases(count, seed):
         yield case
 
 
-def refused_cases(count, seed):
+def merging_refused_cases(count, seed):
+    """A file that is filled, emptied and filled, by few lines."""
+    for number in range(count):
+        rng = random.Random(f"{seed} {number}")
+        case = Case(number, 1 + number % 4, 40, 262144, 6, 32)
+        points = some_points(rng, case.k, 12)
+        for wave in ("fill", "drain", "fill"):
+            lines = a_wave(rng, wave, points, 12, 2, case.k)
+            steps = a_schedule(rng, 2, lines, 0.25, 60, 0.25)[0] + (["1", "2"] * 6 + ["p"] * 8 + ["c"] * 10) * 12
+            case.add(lines, steps, 1)
+        yield case
+
+
+def refused_cases(count, seed, searching=False):
     """Pages that split and are posted, by few lines."""
     for number in range(count):
         rng = random.Random(f"{seed} {number}")
         case = Case(number, 1 + number % 4, 40, 262144, 6, 32)
         values = list(range(9 if case.k > 1 else 30))
         for size in (12, 8):
-            lines = [a_line(rng, at + 1, 3, case.k, values, (8, 1, 1)) for at in range(size)]
+            lines = [a_line(rng, at + 1, 3, case.k, values, (8, 1, 1, 5) if searching and size == 8 else (8, 1, 1)) for at in range(size)]
             steps = a_schedule(rng, 3, lines, 0.3)[0] + ["1", "2", "3", "p"] * 20
             case.add(lines, steps, 1)
         yield case
@@ -287,6 +372,43 @@ def compare_images(told, run, whole, counts, refused=False):
         run.check_end(last)
 
 
+def step_machine(case, number, run, counts):
+    """The same run by the machine in Python: it has to say the same."""
+    made = machine.Machine(case.file, case.runs[number][0])
+    states = [made.file.copy()]
+    for actor in case.runs[number][1]:
+        waiting = len(made.groups)
+        made.step(actor)
+        states += [group[2] for group in made.groups[waiting:]]
+    if made.said() != run.text:
+        raise Bad(f"the machine says otherwise: {made.said()}")
+    for name, count in made.counts.items():
+        counts["machine: " + name] += count
+    counts["machine: runs"] += 1
+    return made, states
+
+
+def next_file(made, states, words, crashes):
+    """The machine's file behind a run: what is durable, or behind a crash the state that has these pages."""
+    asked = [made.durable] if not crashes else states
+    for file in asked:
+        if [file.height, file.high, file.live] == [int(word) for word in words[2:5]] and f"{pages_sum(file):x}" == words[5] and has_sum(file, words[1]):
+            return file
+    raise Bad(f"the machine has no such file: {words}")
+
+
+def pages_sum(file):
+    data = file.bytes()
+    return sum(map(operator.mul, struct.unpack(f">{len(data) // 8}Q", data), itertools.count(1, 2))) % 2 ** 64
+
+
+def has_sum(file, word):
+    records = file.records()
+    if word.split("/")[1] != str(len(records)):
+        return False
+    return f"{sum(sum_of(file.k, point, body) for point, body in records.items()) % 2 ** 64:x}" == word.split("/")[0]
+
+
 def compare_run(told, case, number, records, counts, refused=False):
     """One run and all that was tried of it. It gives the records of the next one."""
     lines, _, _, _, _, crashes, finishes = case.runs[number]
@@ -305,6 +427,8 @@ def compare_run(told, case, number, records, counts, refused=False):
     for _, reply in run.said.replies:
         counts[reply.split(" =")[0].split(" ")[0]] += 1
         counts["found by searches"] += reply.count("\n")
+    counts["searches without memory"] += sum(reply == "no memory" and run.lines[line][2] == "search" for line, reply in run.said.replies)
+    stepped = step_machine(case, number, run, counts) if case.file else None
     compare_images(told, run, True, counts, refused)
     while told.line(peek=True)[0] in ("failed", "stopped"):
         name, tried, bad = told.line()
@@ -323,8 +447,9 @@ def compare_run(told, case, number, records, counts, refused=False):
         raise Untold
     if words[0] != "next":
         raise Bad(f"next: {words}")
-    # what a crash left may have fewer pages than the run had
-    check_full(case, run, case.pages if crashes or len(words) < 5 else int(words[4]), counts)
+    # what a crash left may have fewer pages than the run had, and merged pages were in use once
+    check_full(case, run, case.pages if crashes or len(words) < 5 else int(words[3]), counts)
+    case.file = next_file(*stepped, words, crashes) if stepped else None
     if len(words) > 4:
         counts[f"height {words[2]}"] += 1
     if case.wanted and (words[1].split("/")[1], words[2]) != case.wanted:
@@ -343,6 +468,7 @@ def compare(case, told, counts, refused=False):
     if made != "0":
         raise Bad("the file wasn't made")
     records, number = {}, 0
+    case.file = None if refused or case.wanted else machine.File(case.k, case.pages, case.log, case.dcap, case.icap)
     try:
         for number in range(len(case.runs)):
             records = compare_run(told, case, number, records, counts, refused)
@@ -362,8 +488,8 @@ def show(case, bad, told, begun):
     print(f"DIFFERS: case {case.seed}: {bad}; see {place}")
 
 
-def refuse(cases):
-    """Each case once for each allocation that is refused."""
+def refuse(cases, most=None):
+    """Each case once for each allocation that is refused, or for so many of them that are drawn."""
     counts, differ = collections.Counter(), 0
     with Program() as program, tempfile.TemporaryDirectory() as folder:
         shim, said = os.path.join(folder, "refuse.so"), os.path.join(folder, "said")
@@ -373,7 +499,9 @@ def refuse(cases):
             program.call(spelled, LD_PRELOAD=shim, REFUSE_TOLD=said)
             with open(said) as f:
                 all_of_them = int(f.read())
-            for number in range(1, all_of_them + 1):
+            counts["cases"] += 1
+            drawn = range(1, all_of_them + 1) if most is None else sorted(random.Random(case.seed).sample(range(1, all_of_them + 1), min(most, all_of_them)))
+            for number in drawn:
                 text = program.call(spelled, LD_PRELOAD=shim, REFUSE=str(number), REFUSE_TOLD=said)
                 counts["refused" if text is not None else "refused to the trial itself"] += 1
                 if text is None:
@@ -385,7 +513,8 @@ def refuse(cases):
                     differ += 1
                     if differ <= 9:
                         show(case, f"allocation {number}: {bad}", told, 0)
-            print(f"case {case.seed}, {all_of_them} allocations, {differ} differ", dict(counts), flush=True)
+            if most is None or counts["cases"] % 50 == 0:
+                print(f"case {case.seed}, {all_of_them} allocations, {differ} differ", dict(counts), flush=True)
     sys.exit(differ > 0)
 
 
@@ -393,10 +522,15 @@ def main():
     kind, count, seed = sys.argv[1], int(sys.argv[2]), sys.argv[3]
     if kind == "refused":
         refuse(refused_cases(count, seed))
+    if kind == "searching-refused":
+        refuse(refused_cases(count, seed, True), 40)
+    if kind == "merging-refused":
+        refuse(merging_refused_cases(count, seed), 40)
     made = {"random": lambda: random_cases(count, seed, False), "failing": lambda: random_cases(count, seed, True),
-            "searching": lambda: random_cases(count, seed, False, True),
+            "searching": lambda: random_cases(count, seed, False, True), "searching-failing": lambda: random_cases(count, seed, True, True),
+            "merging": lambda: merging_cases(count, seed), "merging-failing": lambda: merging_cases(count, seed, True), "merging-deep": lambda: merging_deep_cases(count, seed),
             "racing": lambda: itertools.islice(racing_cases(), count), "deep": lambda: deep_cases(count, seed), "high": lambda: high_cases(count, seed)}[kind]()
-    size = {"failing": 2, "high": 1, "deep": 1}.get(kind, FILE)
+    size = {"failing": 2, "searching-failing": 2, "merging-failing": 2, "high": 1, "deep": 1, "merging-deep": 1}.get(kind, FILE)
     counts, differ = collections.Counter(), 0
     with Program() as program:
         while batch := list(itertools.islice(made, size * BATCH)):
@@ -416,6 +550,9 @@ def main():
                         at = re.compile(r"^case ", re.M).search(told.text, told.at)
                         told.at = at.start() if at else len(told.text)
             print(counts["schedules"], "schedules,", differ, "differ", dict(counts), flush=True)
+    if kind.startswith("merging") and not counts["machine: merged"]:
+        print("NO MERGE happened")
+        differ += 1
     sys.exit(differ > 0)
 
 

@@ -1,12 +1,14 @@
-//! Operations on files of one page, by hand: what their groups are, in memory and on the disk, and a tree that grows: a page
-//! is split, one above it is made and names both, and the log makes the same pages again. The disk tells nothing.
+//! Operations on files of one page, by hand: what their groups are, in memory and on the disk, and a tree that grows and
+//! shrinks: a page is split, one above it is made and names both, and the two become one again. The log makes the same pages.
+//! The disk tells nothing.
 ghost use Rattle.std.specs.Prelude.{◌≡◌, false, IfSome};
 ghost use Rattle.hb_store.specs.Seen.{seen_as};
 
 use crate::stores::{EMPTY, FOUR, NEVER, POINTS, SPLIT, with_groups};
 use hb_disk::{Device, RotDisk};
+use hb_frag::{Leaf, Node, Page};
 use hb_ops::Meta;
-use hb_store::{Flushed, Store, read_log};
+use hb_store::{Flushed, Store, Touched, read_log};
 use std::alloc::Global;
 
 /// The put of the point 1 with an empty body into page 1, as a group of the log has it. No page image.
@@ -31,17 +33,20 @@ const POST: [u8; 27] = [
     0, 4, 0, 0, 0, 3, 0, 0, 0, 0, 2, 0, 0, 0, 0, 0, 0, 0, 5, 255, 255, 255, 255, 255, 255, 255, 255,
 ];
 
+/// The merge of page 2 into page 1 under page 3.
+const MERGE: [u8; 14] = [0, 5, 0, 0, 0, 3, 0, 0, 0, 1, 0, 0, 0, 2];
+
 /// Four operations on a page without a record: the third one isn't allowed.
 const CHANGES: [&[u8]; 4] = [&PUT_1, &PUT_5, &PUT_5_B, &DELETE_1];
 
-/// Four operations on the page with two points.
-const TREE: [&[u8]; 4] = [&SPLIT, &PUT_7, &GROW, &POST];
+/// Five operations on the page with two points.
+const TREE: [&[u8]; 5] = [&SPLIT, &PUT_7, &GROW, &POST, &MERGE];
 
-/// The fields of page 1, how many of the four operations were done, and what comes of them: the bytes that wait; the root, the
+/// The fields of page 1, how many of the operations were done, and what comes of them: the bytes that wait; the root, the
 /// height, the highest page and the pages in use; how many pages are in memory; and the number that an allocation takes.
 type Row = (bool, usize, u32, [u32; 4], usize, u32);
 
-const ROWS: [Row; 9] = [
+const ROWS: [Row; 10] = [
     (false, 0, 0, [1, 1, 1, 1], 1, 2),
     // the first group has a page image
     (false, 1, 4115, [1, 1, 1, 1], 1, 2),
@@ -53,6 +58,8 @@ const ROWS: [Row; 9] = [
     (true, 2, 4142, [1, 1, 2, 2], 2, 3),
     (true, 3, 4152, [3, 2, 3, 3], 3, 4),
     (true, 4, 4179, [3, 2, 3, 3], 3, 4),
+    // the page that goes is the next one that is taken
+    (true, 5, 4193, [3, 2, 3, 2], 3, 2),
 ];
 
 /// The store once so many of the operations were done.
@@ -145,7 +152,7 @@ fn groups_are_forced(rt: HostRuntime) {
 }
 
 /// Whether the operations are those of the tree, an offset of the disk once all groups were forced, and the bytes there.
-const FRAMES: [(bool, usize, &[u8]); 14] = [
+const FRAMES: [(bool, usize, &[u8]); 16] = [
     // the gate and the length, the count of page images, and the number of the one; its page, and the put
     (false, 8192, &[0xA5, 0, 0, 16, 19, 1, 0, 0, 0, 1]),
     (false, 8202, &EMPTY),
@@ -155,7 +162,7 @@ const FRAMES: [(bool, usize, &[u8]); 14] = [
     (false, 12_317, &PUT_5),
     (false, 12_333, &[0xA5, 0, 0, 0, 14]),
     (false, 12_338, &DELETE_1),
-    // the split with its page image, and three groups without one
+    // the split with its page image, and four groups without one
     (true, 8192, &[0xA5, 0, 0, 0x10, 0x1E, 1, 0, 0, 0, 1]),
     (true, 8202, &POINTS),
     (
@@ -170,20 +177,23 @@ const FRAMES: [(bool, usize, &[u8]); 14] = [
         b"\xA5\0\0\0\x0A\0\x06\0\0\0\x03\0\0\0\0\xA5\0\0\0\x1B",
     ),
     (true, 12_364, &POST),
+    (true, 12_391, &[0xA5, 0, 0, 0, 14]),
+    (true, 12_396, &MERGE),
     // a closed gate behind them
-    (true, 12_391, &[0]),
+    (true, 12_410, &[0]),
 ];
 
-/// The disk once all groups were forced.
-fn forced(alloc: Global, is_tree: bool) -> Option<RotDisk> {
-    let mut store = behind(alloc, is_tree, 4, NEVER)?;
-    flushed(&mut store, 5);
+/// The disk once the groups of so many of the operations were forced.
+fn forced(alloc: Global, is_tree: bool, count: usize) -> Option<RotDisk> {
+    let mut store = behind(alloc, is_tree, count, NEVER)?;
+    flushed(&mut store, 6);
     Some(store.into_disk())
 }
 
 /// Whether these bytes stand at an offset of it.
 fn stands(alloc: Global, is_tree: bool, at: usize, want: &[u8]) -> Option<bool> {
-    let disk = forced(alloc, is_tree)?;
+    let count = if is_tree { TREE.len() } else { CHANGES.len() };
+    let disk = forced(alloc, is_tree, count)?;
     Some(disk.inner.bytes().get(at..)?.starts_with(want))
 }
 
@@ -197,17 +207,67 @@ fn groups_have_these_bytes(rt: HostRuntime) {
     }
 }
 
-/// Whether the log of the tree makes three pages, and of what the file says this.
-fn replays(alloc: Global, said: [u32; 4]) -> Option<bool> {
-    let mut disk = forced(alloc, true)?;
+/// What the log of the tree makes, once so many of the operations were done.
+fn replayed(alloc: Global, count: usize) -> Option<Touched> {
+    let mut disk = forced(alloc, true, count)?;
     if disk.size() < 155_648 {
         return None;
     }
-    let touched = read_log(alloc, &mut disk, 0, &FOUR).ok()?;
+    read_log(alloc, &mut disk, 0, &FOUR).ok()
+}
+
+/// Whether it makes three pages, and of what the file says this.
+fn replays(alloc: Global, count: usize, said: [u32; 4]) -> Option<bool> {
+    let touched = replayed(alloc, count)?;
     Some(meta_numbers(&touched.meta) == said && touched.pages.len() == 3)
 }
 
 #[test]
 fn a_tree_grows(rt: HostRuntime) {
-    assert!(rt; replays(rt.alloc(), [3, 2, 3, 3]) == Some(true));
+    assert!(rt; replays(rt.alloc(), 4, [3, 2, 3, 3]) == Some(true));
+}
+
+/// Whether a page is one leaf of records with the points 1, 5 and 7.
+fn has_points(page: &Page) -> bool {
+    match page {
+        Page::Live(page) => match &page.frag.node {
+            Node::Tip(Leaf::Records(records)) => match records.as_slice() {
+                [first, second, third] => {
+                    first.key.values() == [1]
+                        && second.key.values() == [5]
+                        && third.key.values() == [7]
+                }
+                _ => false,
+            },
+            _ => false,
+        },
+        Page::Free { .. } => false,
+    }
+}
+
+/// Whether a page is one leaf that names page 1.
+fn names_1(page: &Page) -> bool {
+    match page {
+        Page::Live(page) => match &page.frag.node {
+            Node::Tip(Leaf::Child(1)) => true,
+            _ => false,
+        },
+        Page::Free { .. } => false,
+    }
+}
+
+/// Whether the merge makes one page of records, one above it, and a free page that ends the chain.
+fn merges(alloc: Global) -> Option<bool> {
+    let touched = replayed(alloc, 5)?;
+    let last = match touched.pages.get(&2)? {
+        Page::Free { next } => *next == 0 && touched.meta.free == 2,
+        Page::Live(_) => false,
+    };
+    Some(last && has_points(touched.pages.get(&1)?) && names_1(touched.pages.get(&3)?))
+}
+
+#[test]
+fn a_tree_shrinks(rt: HostRuntime) {
+    assert!(rt; replays(rt.alloc(), 5, [3, 2, 3, 2]) == Some(true));
+    assert!(rt; merges(rt.alloc()) == Some(true));
 }

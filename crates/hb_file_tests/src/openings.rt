@@ -70,6 +70,35 @@ const LEFT: [(usize, &[u8]); 4] = [
     (4096, &NEXT),
 ];
 
+/// The frame of a merge behind the others: page 2 into page 1 under page 3.
+const MERGE: [u8; 19] = [
+    0xA5, 0, 0, 0, 14, 0, 5, 0, 0, 0, 3, 0, 0, 0, 1, 0, 0, 0, 2,
+];
+
+/// What an opening leaves then: the three points in one page, the free page, the page above, and the next superblock's root,
+/// highest page, pages in use and free head.
+const MERGED: [(usize, &[u8]); 4] = [
+    (
+        139_264,
+        &[
+            1, 0, 1, 0, 0, 0, 0, 0, 0, 0, 0, 0, 255, 255, 255, 255, 255, 255, 255, 255, 1, 0, 3, 0,
+            0, 0, 0, 0, 0, 0, 1, 0, 0, 0, 0, 0, 0, 0, 0, 5, 0, 0, 0, 0, 0, 0, 0, 0, 7, 1, 0x61, 0,
+        ],
+    ),
+    (143_360, &[2, 0, 0, 0, 0, 0, 0]),
+    (
+        147_456,
+        &[
+            1, 1, 1, 0, 0, 0, 0, 0, 0, 0, 0, 0, 255, 255, 255, 255, 255, 255, 255, 255, 2, 0, 0, 0,
+            1, 0,
+        ],
+    ),
+    (
+        4121,
+        &[0, 0, 0, 3, 0, 0, 0, 3, 0, 0, 0, 2, 0, 0, 0, 2],
+    ),
+];
+
 /// What an opening answers: the root, the height, the highest page and the pages in use, with the number of records; or why not.
 type Answer = Result<([u32; 4], u64), OpenFault>;
 
@@ -143,6 +172,16 @@ fn a_file_of_two_levels_opens(rt: HostRuntime) {
     assert_eq!(rt; said, GOOD);
     assert!(rt; opens_again(rt.alloc(), &disk));
     for &(at, want) in &LEFT {
+        assert!(rt; stands(disk.bytes(), at, want), "{at}");
+    }
+}
+
+#[test]
+fn a_file_with_a_merge_opens(rt: HostRuntime) {
+    let bytes = file(rt.alloc(), SIZE, 12_391, &MERGE).expect(&rt, "memory");
+    let (said, disk) = open(rt.alloc(), MemDisk::new(rt.alloc(), bytes));
+    assert_eq!(rt; said, Ok(([3, 2, 3, 2], 3)));
+    for &(at, want) in &MERGED {
         assert!(rt; stands(disk.bytes(), at, want), "{at}");
     }
 }

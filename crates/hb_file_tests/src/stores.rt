@@ -1,11 +1,13 @@
 //! Stores of small files of one attribute, by hand, over a disk that tells nothing. Where something is `None`, memory was
 //! refused, or a row of a test is wrong.
-ghost use Rattle.std.specs.Prelude.{◌≡◌, ◌<◌, ◌≤◌, ◌^◌, true, false, get_or, All, IfSome, IsTrue, Some};
+ghost use Rattle.std.specs.Prelude.{◌≡◌, ◌<◌, ◌≤◌, ◌^◌, ℕ, true, false, get_or, All, IfSome, IsTrue, Option, Some};
 ghost use Rattle.hb_disk.specs.RotDisk.{hidden};
 ghost use Rattle.hb_frag.specs.declared.pages.Page.TheVariants.{Live};
-ghost use Rattle.hb_frag.specs.Leaves.{weight_of};
+ghost use Rattle.hb_frag.specs.declared.pages.LivePage.{LivePage as OnePage};
+ghost use Rattle.hb_frag.specs.Leaves.{weight_of, first_named, siblings_of, WellCut};
+ghost use Rattle.hb_ops.specs.declared.operations.Op.TheVariants.{Merge as Merging};
 ghost use Rattle.hb_ops.specs.Given.{given as live_given};
-ghost use Rattle.hb_ops.specs.Operations.{OpHas, reads_of};
+ghost use Rattle.hb_ops.specs.Operations.{BoxesMatch, OpHas, reads_of};
 ghost use Rattle.hb_store.specs.Calls.{IsAllowedHere, read_here};
 ghost use Rattle.hb_store.specs.Seen.{seen_as};
 ghost use Rattle.hb_store.specs.States.{in_memory};
@@ -14,6 +16,7 @@ use hb_disk::{MemDisk, RotDisk};
 use hb_frag::{LivePage, Page};
 use hb_log_codec::{Group, decode_all};
 use hb_ops::{ChangeError, Meta, Op, change};
+use hb_space::Area;
 use hb_store::Store;
 use std::alloc::Global;
 
@@ -106,7 +109,7 @@ fn has_one(op: &Op) -> bool
         Op::Put { rec, .. } => rec.key.attributes() == 1,
         Op::Del { point, .. } => point.attributes() == 1,
         Op::Post { area, .. } => area.lo().attributes() == 1,
-        Op::Extract { .. } | Op::Grow { .. } => true,
+        Op::Extract { .. } | Op::Merge { .. } | Op::Grow { .. } => true,
     }
 }
 
@@ -150,16 +153,55 @@ fn page_read<'a>(store: &'a Store<RotDisk>, op: &Op, place: usize) -> Option<&'a
     }
 }
 
-/// Whether an operation is allowed on the pages in memory. `None` for want of memory.
+/// Whether the page gave this box to the page of this number.
+fn gave(kept: &LivePage, gone: u32, area: &Area) -> bool
+    requires { WellCut kept.now }
+    ensures { IsTrue result → first_named gone (siblings_of kept.now) ≡ Some area.now }
+{
+    match kept.sibling_area(gone) {
+        Some(given) => given == *area,
+        None => false,
+    }
+}
+
+/// Whether a merge's page to go has the box that the page to keep gave to it.
+fn has_box(gone: u32, kept: Option<&LivePage>, going: Option<&LivePage>) -> bool
+    ensures { IsTrue result → (parent keep : ℕ) (above : Option OnePage) → BoxesMatch (Merging parent keep gone) above (live_given kept.entry) (live_given going.entry) }
+{
+    match kept {
+        Some(kept) => match going {
+            Some(going) => kept.is_well_cut() && gave(kept, gone, &going.area),
+            None => true,
+        },
+        None => true,
+    }
+}
+
+/// Whether the boxes of the pages match that an operation reads.
+fn boxes_match(op: &Op, kept: Option<&LivePage>, going: Option<&LivePage>) -> bool
+    ensures { IsTrue result → (above : Option OnePage) → BoxesMatch op.now above (live_given kept.entry) (live_given going.entry) }
+{
+    match op {
+        Op::Merge { gone, .. } => has_box(*gone, kept, going),
+        Op::Put { .. }
+        | Op::Del { .. }
+        | Op::Post { .. }
+        | Op::Extract { .. }
+        | Op::Grow { .. } => true,
+    }
+}
+
+/// Whether an operation is allowed on the pages in memory, and their boxes match. `None` for want of memory.
 fn is_allowed(alloc: Global, store: &Store<RotDisk>, op: &Op) -> Option<bool>
     requires { OpHas (seen_as store.now).meta.k op.now }
-    ensures { result ≡ Some true → IsAllowedHere (seen_as store.now) op.now }
+    ensures allowed { result ≡ Some true → IsAllowedHere (seen_as store.now) op.now }
+    ensures boxes { result ≡ Some true → BoxesMatch op.now (read_here (seen_as store.now) op.now 0) (read_here (seen_as store.now) op.now 1) (read_here (seen_as store.now) op.now 2) }
 {
     let first = page_read(store, op, 0);
     let second = page_read(store, op, 1);
     let third = page_read(store, op, 2);
     match change(alloc, op, store.meta(), first, second, third) {
-        Ok(_) => Some(true),
+        Ok(_) => Some(boxes_match(op, second, third)),
         Err(ChangeError::Unfit) => Some(false),
         Err(ChangeError::NoMemory) => None,
     }

@@ -24,6 +24,8 @@ fn named(word: &str) -> &str {
         "split" => "0 3 0 0 0 1 0 0 0 2 0 0 0 9 1 1 1 0 7*0 40 0",
         // the posting of page 2 over 0 to 39 at the left leaf of page 3, and no image
         "post" => "0 4 0 0 0 3 1 0 0 0 0 2 8*0 7*0 39",
+        // the merge of page 2 into page 1 under page 3, and no image
+        "merge" => "0 5 0 0 0 3 0 0 0 1 0 0 0 2",
         // the growth by page 3, with page 7 as the free head afterwards, and no image
         "grow" => "0 6 0 0 0 3 0 0 0 7",
         _ => word,

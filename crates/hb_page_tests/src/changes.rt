@@ -1,11 +1,12 @@
-//! Changes of pages of one attribute by each kind of operation, and rules that a page breaks.
+//! Changes of pages of one attribute by each kind of operation, merges of pages of four, and rules that a page breaks.
 
-ghost use Rattle.std.specs.Prelude.{◌≡◌, ◌<◌, ◌^◌, IfOk, IfSome};
+ghost use Rattle.std.specs.Prelude.{◌≡◌, ◌<◌, ◌≤◌, ◌^◌, IfOk, IfSome};
+ghost use Rattle.hb_space.specs.declared.form.TheConstants.{KMAX};
 ghost use Rattle.hb_frag.specs.Leaves.{weight_of};
 ghost use Rattle.hb_ops.specs.Operations.{OpHas};
 
 use crate::drawn::push_page;
-use crate::operations::op_of;
+use crate::operations::{merge_of, op_of};
 use crate::rows::expect_all;
 use crate::spelled::{halves, page_of};
 use hb_frag::LivePage;
@@ -50,18 +51,36 @@ fn standing(alloc: Global, text: &str) -> Result<Option<LivePage>, Fail>
     }
 }
 
+// The pages that an operation reads.
+#[derive(Drop)]
+struct Pages {
+    first: Option<LivePage>,
+    second: Option<LivePage>,
+    third: Option<LivePage>,
+}
+
+// The pages of the text, with ` & ` between them. One that isn't there is none.
+fn pages_of(alloc: Global, text: &str) -> Result<Pages, Fail> {
+    let (first, others) = text.split_once(" & ").unwrap_or((text, "none"));
+    let (second, third) = others.split_once(" & ").unwrap_or((others, "none"));
+    let first = standing(alloc, first)?;
+    let second = standing(alloc, second)?;
+    let third = standing(alloc, third)?;
+    Ok(Pages {
+        first,
+        second,
+        third,
+    })
+}
+
 // The operation is taken by value: one that lives on has to be let go behind each `?`.
-fn change_of(
-    alloc: Global,
-    op: Op,
-    meta: &Meta,
-    page: Option<LivePage>,
-) -> Result<Changed, ChangeError>
-    requires attributes { meta.now.k ≡ 1 }
-    requires points { OpHas 1 op }
-    requires light { IfSome page (λ p. weight_of p.frag < 2 ^ 32) }
+fn change_of(alloc: Global, op: Op, meta: &Meta, pages: &Pages) -> Result<Changed, ChangeError>
+    requires some { 1 ≤ meta.now.k }
+    requires few { meta.now.k ≤ KMAX }
+    requires points { OpHas meta.now.k op }
 {
-    change(alloc, &op, meta, page.as_ref(), None, None)
+    let (first, second) = (pages.first.as_ref(), pages.second.as_ref());
+    change(alloc, &op, meta, first, second, pages.third.as_ref())
 }
 
 // Each page that changed, and what the file says of itself where that changed.
@@ -99,16 +118,38 @@ fn outcome(
     }
 }
 
-/// What an operation makes of a page, from `FILE | PAGE | OPERATION`. Where it changes what the file
+/// What an operation makes of the pages that it reads, from `FILE | PAGES | OPERATION`. Where it changes what the file
 /// says of itself, that is told as the root, the height, the highest page, the pages in use and the
 /// free head.
 pub(crate) fn changed(alloc: Global, question: &str) -> Result<String, Fail> {
     let (file, rest) = halves(question, " | ", "no page")?;
     let (page, op) = halves(rest, " | ", "no operation")?;
     let meta = file_of(file)?;
-    let page = standing(alloc, page)?;
+    let pages = pages_of(alloc, page)?;
     let op = op_of(alloc, op)?;
-    Ok(outcome(alloc, &meta, change_of(alloc, op, &meta, page))?)
+    Ok(outcome(
+        alloc,
+        &meta,
+        change_of(alloc, op, &meta, &pages),
+    )?)
+}
+
+/// What a merge makes of pages of four attributes in a file of three levels, from `PARENT & KEEP & GONE | NUMBERS`.
+pub(crate) fn merged(alloc: Global, question: &str) -> Result<String, Fail> {
+    let (pages, numbers) = halves(question, " | ", "no numbers")?;
+    let meta = Meta {
+        k: 4,
+        icap: 32,
+        height: 3,
+        ..file_of("")?
+    };
+    let pages = pages_of(alloc, pages)?;
+    let op = merge_of(numbers)?;
+    Ok(outcome(
+        alloc,
+        &meta,
+        change_of(alloc, op, &meta, &pages),
+    )?)
 }
 
 /// The first rule that a page breaks by itself. 0 where it keeps them all.
@@ -277,11 +318,44 @@ change: 6 | 1 ( ^1 |0:40| ^3 ) | post 3 . 2 0..39 => Unfit
 change: 6 | 1 ^1 | post 3 L 2 0..39 => Unfit
 change: 6 | 0 10=a | post 3 . 2 0..39 => Unfit
 change: 6 | 1 ( ^1 |0:40| ^1 ) | post 3 L 2 0..19 => Unfit
+// merges: a page of the whole space takes over what its part from 40 to 59 gave to page 2
+change: 6 | 1 ( ^1 |0:40| ( ^2 |0:60| ^1 ) ) & 0 ( 10=a |0:40| ( >2 |0:60| 70=c ) ) & 0 40..59 : 45=b | merge 3 1 2 => page 3 1 0.. : ^1; page 1 0 0.. : 10=a,45=b,70=c; page 2 free 0; file 1 2 3 2 2
+// the page that goes names the old free head, and a leaf without records is no leaf more
+change: 6 8 5 4 4 | 1 ( ^1 |0:40| ( ^2 |0:60| ^1 ) ) & 0 ( 10=a |0:40| ( >2 |0:60| 70=c ) ) & 0 40..59 : - | merge 3 1 2 => page 3 1 0.. : ^1; page 1 0 0.. : 10=a,70=c; page 2 free 4; file 1 2 5 3 2
+// what the page gave to others stays given, and so does what the page to go gave
+change: 6 | 1 ( ^1 |0:40| ( ^2 |0:60| ^1 ) ) & 0 ( >5 |0:40| ( >2 |0:60| 70=c ) ) & 0 40..59 : 45=b | merge 3 1 2 => page 3 1 0.. : ^1; page 1 0 0.. : ( >5 |0:40| 45=b,70=c ); page 2 free 0; file 1 2 3 2 2
+change: 6 | 1 ( ^1 |0:40| ( ^2 |0:60| ^1 ) ) & 0 ( 10=a |0:40| ( >2 |0:60| 70=c ) ) & 0 40..59 : ( 45=b |0:50| >5 ) | merge 3 1 2 => page 3 1 0.. : ^1; page 1 0 0.. : ( 10=a |0:40| ( ( 45=b |0:50| >5 ) |0:60| 70=c ) ); page 2 free 0; file 1 2 3 2 2
+// a parent with a third child keeps its cut
+change: 6 | 1 ( ^4 |0:40| ( ^2 |0:60| ^1 ) ) & 0 ( 10=a |0:40| ( >2 |0:60| 70=c ) ) & 0 40..59 : 45=b | merge 3 1 2 => page 3 1 0.. : ( ^4 |0:40| ^1 ); page 1 0 0.. : 10=a,45=b,70=c; page 2 free 0; file 1 2 3 2 2
+// three quarters of the capacity, and one record more
+change: 6 | 1 ( ^1 |0:40| ( ^2 |0:60| ^1 ) ) & 0 ( 10=a |0:40| ( >2 |0:60| 70=c ) ) & 0 40..59 : 45=b,46=d | merge 3 1 2 => page 3 1 0.. : ^1; page 1 0 0.. : 10=a,45=b,46=d,70=c; page 2 free 0; file 1 2 3 2 2
+change: 6 | 1 ( ^1 |0:40| ( ^2 |0:60| ^1 ) ) & 0 ( 10=a |0:40| ( >2 |0:60| 70=c ) ) & 0 40..59 : 45=b,46=d,47=e | merge 3 1 2 => Unfit
+// a page that isn't given, one page twice, other levels
+change: 6 | 1 ( ^1 |0:40| ( ^2 |0:60| ^1 ) ) & 0 ( 10=a |0:40| ( >2 |0:60| 70=c ) ) | merge 3 1 2 => Unfit
+change: 6 | none & 0 ( 10=a |0:40| ( >2 |0:60| 70=c ) ) & 0 40..59 : 45=b | merge 3 1 2 => Unfit
+change: 6 | 1 ( ^1 |0:40| ( ^2 |0:60| ^1 ) ) & none & 0 40..59 : 45=b | merge 3 1 2 => Unfit
+change: 6 | 1 ( ^1 |0:40| ( ^2 |0:60| ^1 ) ) & 0 ( 10=a |0:40| ( >2 |0:60| 70=c ) ) & 0 40..59 : 45=b | merge 1 1 2 => Unfit
+change: 6 | 1 ( ^1 |0:40| ( ^2 |0:60| ^1 ) ) & 0 ( 10=a |0:40| ( >2 |0:60| 70=c ) ) & 0 40..59 : 45=b | merge 2 1 2 => Unfit
+change: 6 | 1 ( ^1 |0:40| ( ^2 |0:60| ^1 ) ) & 0 ( 10=a |0:40| ( >2 |0:60| 70=c ) ) & 0 40..59 : 45=b | merge 3 2 2 => Unfit
+change: 6 | 1 ( ^1 |0:40| ( ^2 |0:60| ^1 ) ) & 1 ( ^7 |0:40| ( >2 |0:60| ^7 ) ) & 0 40..59 : 45=b | merge 3 1 2 => Unfit
+// the page gave nothing to the page to go, the parent doesn't name one of the two, or it gave a part of the box away
+change: 6 | 1 ( ^1 |0:40| ( ^2 |0:60| ^1 ) ) & 0 ( 10=a |0:40| ( >5 |0:60| 70=c ) ) & 0 40..59 : 45=b | merge 3 1 2 => Unfit
+change: 6 | 1 ( ^4 |0:40| ( ^2 |0:60| ^4 ) ) & 0 ( 10=a |0:40| ( >2 |0:60| 70=c ) ) & 0 40..59 : 45=b | merge 3 1 2 => Unfit
+change: 6 | 1 ( ^1 |0:40| ( ^4 |0:60| ^1 ) ) & 0 ( 10=a |0:40| ( >2 |0:60| 70=c ) ) & 0 40..59 : 45=b | merge 3 1 2 => Unfit
+change: 6 | 1 ( ^1 |0:40| ( ^2 |0:50| >9 ) ) & 0 ( 10=a |0:40| ( >2 |0:60| 70=c ) ) & 0 40..59 : 45=b | merge 3 1 2 => Unfit
+// a file that has no page in use
+change: 6 8 3 0 0 | 1 ( ^1 |0:40| ( ^2 |0:60| ^1 ) ) & 0 ( 10=a |0:40| ( >2 |0:60| 70=c ) ) & 0 40..59 : 45=b | merge 3 1 2 => Unfit
+// four attributes, with the hole at a corner: the page to go names another child, and the same one
+merged: 2 0.. 0.. 0.. 0.. : ( ( ( ( ^2 |3:40| ^1 ) |2:40| ^1 ) |1:40| ^1 ) |0:40| ^1 ) & 1 0.. 0.. 0.. 0.. : ( ( ( ( >2 |3:40| ^5 ) |2:40| ^5 ) |1:40| ^5 ) |0:40| ^5 ) & 1 0..39 0..39 0..39 0..39 : ^6 | 3 1 2 => page 3 2 0.. 0.. 0.. 0.. : ^1; page 1 1 0.. 0.. 0.. 0.. : ( ( ( ( ^6 |3:40| ^5 ) |2:40| ^5 ) |1:40| ^5 ) |0:40| ^5 ); page 2 free 0; file 1 3 3 2 2
+merged: 2 0.. 0.. 0.. 0.. : ( ( ( ( ^2 |3:40| ^1 ) |2:40| ^1 ) |1:40| ^1 ) |0:40| ^1 ) & 1 0.. 0.. 0.. 0.. : ( ( ( ( >2 |3:40| ^5 ) |2:40| ^5 ) |1:40| ^5 ) |0:40| ^5 ) & 1 0..39 0..39 0..39 0..39 : ^5 | 3 1 2 => page 3 2 0.. 0.. 0.. 0.. : ^1; page 1 1 0.. 0.. 0.. 0.. : ^5; page 2 free 0; file 1 3 3 2 2
+merged: 2 0.. 0.. 0.. 0.. : ( ( ( ( ^2 |3:40| ^1 ) |2:40| ^1 ) |1:40| ^1 ) |0:40| ^1 ) & 1 0.. 0.. 0.. 0.. : ( ( ( ( >2 |3:40| ^5 ) |2:40| ^5 ) |1:40| ^5 ) |0:40| ^5 ) & 1 0..39 0..39 0..39 0..39 : ( ^5 |2:7| ^6 ) | 3 1 2 => page 3 2 0.. 0.. 0.. 0.. : ^1; page 1 1 0.. 0.. 0.. 0.. : ( ( ( ( ( ^5 |2:7| ^6 ) |3:40| ^5 ) |2:40| ^5 ) |1:40| ^5 ) |0:40| ^5 ); page 2 free 0; file 1 3 3 2 2
+merged: 2 0.. 0.. 0.. 0.. : ( ( ( ( ^2 |3:40| ^1 ) |2:40| ^1 ) |1:40| >9 ) |0:40| ^1 ) & 1 0.. 0.. 0.. 0.. : ( ( ( ( >2 |3:40| ^5 ) |2:40| ^5 ) |1:40| ^5 ) |0:40| ^5 ) & 1 0..39 0..40 0..39 0..39 : ^6 | 3 1 2 => Unfit
 // pages that are read
 reads: put 3 5=a => 1 3
 reads: del 4 5 => 1 4
 reads: split 3 . 0R5 4 0 => 1 3
 reads: post 3 . 2 0..9 => 1 3
+reads: merge 3 1 2 => 3 3 1 2
 reads: grow 4 0 => 0
 // without the page that is read
 change: 6 | none | put 3 7=a => Unfit

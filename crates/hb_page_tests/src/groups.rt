@@ -73,6 +73,7 @@ groups: put => 1; put 1 5=a
 groups: del => 1; del 7 5
 groups: split => 1; split 1 R 0L40 2 9
 groups: post => 1; post 3 L 2 0..39
+groups: merge => 1; merge 3 1 2
 groups: grow => 1; grow 3 7
 // two groups in a row
 groups: put del => 2; put 1 5=a; del 7 5
@@ -90,8 +91,15 @@ groups: 0 4 0 0 0 3 0 0 0 0 2 7*0 5 7*0 5 => 1; post 3 . 2 5..5
 // one byte changed
 // tags that no operation has
 groups: put 1:0 => none at 0
-groups: put 1:5 => none at 0
 groups: put 1:7 => none at 0
+// a merge's tag: its three numbers leave the last two bytes, which are no group
+groups: put 1:5 => none at 14
+groups: put @14 1:5 => 1; merge 1 0 5
+// any three pages, but no number more or fewer
+groups: merge 13:1 => 1; merge 3 1 1
+groups: merge 10:255 => 1; merge 3 1 4278190082
+groups: merge @13 => none at 0
+groups: merge 0 => none at 14
 // a step of a path and a side of a cut: 0 and 1 alone
 groups: split 15:0 => 1; split 1 L 0L40 2 9
 groups: split 15:2 => none at 0
@@ -109,6 +117,7 @@ groups: post 19:40 => none at 0
 groups: 1 0 0 0 1 page 1 0 0 0 1 7*0 5 1 97 => 1; image 1 free 0, put 1 5=a
 groups: 2 0 0 0 1 page 0 0 0 2 page 6 0 0 0 3 0 0 0 7 => 1; image 1 free 0, image 2 free 0, grow 3 7
 groups: 3 0 0 0 3 page 0 0 0 1 page 0 0 0 2 page 2 0 0 0 7 7*0 5 => 1; image 3 free 0, image 1 free 0, image 2 free 0, del 7 5
+groups: 3 0 0 0 3 page 0 0 0 1 page 0 0 0 2 page 5 0 0 0 3 0 0 0 1 0 0 0 2 => 1; image 3 free 0, image 1 free 0, image 2 free 0, merge 3 1 2
 // two of one page, also with another one between them
 groups: 2 0 0 0 1 page 0 0 0 1 page 6 0 0 0 3 0 0 0 7 => none at 0
 groups: 3 0 0 0 1 page 0 0 0 2 page 0 0 0 1 page 6 0 0 0 3 0 0 0 7 => none at 0

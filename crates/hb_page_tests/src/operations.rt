@@ -1,8 +1,9 @@
 //! Operations over one attribute from text, and as text.
 //!
 //! An operation is `put PAGE VALUE=BODY`, `del PAGE VALUE`, `split SOURCE PATH CUTS FRESH FREE`,
-//! `post PARENT PATH INNER BOX` or `grow FRESH FREE`, where FREE is the free head afterwards. Cuts
-//! are `ATTRIBUTE SIDE VALUE` without blanks, as `0L30`, with `,` between them, or `-` for none.
+//! `post PARENT PATH INNER BOX`, `merge PARENT KEEP GONE` or `grow FRESH FREE`, where FREE is the
+//! free head afterwards. Cuts are `ATTRIBUTE SIDE VALUE` without blanks, as `0L30`, with `,` between
+//! them, or `-` for none.
 
 ghost use Rattle.std.specs.Prelude.{◌≡◌, IfOk, length};
 ghost use Rattle.hb_space.specs.Boxes.{IsArea};
@@ -116,6 +117,19 @@ fn post_of(alloc: Global, text: &str) -> Result<Op, Fail>
     })
 }
 
+/// `3 1 2`: the parent, the page to keep, and the page to go. A merge has no point and no box.
+pub(crate) fn merge_of(text: &str) -> Result<Op, Fail>
+    ensures one { IfOk result (λ op. OpHas 1 op) }
+    ensures four { IfOk result (λ op. OpHas 4 op) }
+{
+    let (parent, rest) = halves(text, " ", "no page to keep")?;
+    let (keep, gone) = halves(rest, " ", "no page to go")?;
+    let parent = parent.parse()?;
+    let keep = keep.parse()?;
+    let gone = gone.parse()?;
+    Ok(Op::Merge { parent, keep, gone })
+}
+
 fn grow_of(text: &str) -> Result<Op, Fail>
     ensures { IfOk result (λ op. OpHas 1 op) }
 {
@@ -132,6 +146,7 @@ pub(crate) fn op_of(alloc: Global, text: &str) -> Result<Op, Fail>
         "del" => del_of(rest),
         "split" => split_of(alloc, rest),
         "post" => post_of(alloc, rest),
+        "merge" => merge_of(rest),
         "grow" => grow_of(rest),
         _ => Err("no such operation".into()),
     }
@@ -215,6 +230,7 @@ pub(crate) fn push_op(text: &mut String, op: &Op) -> Result<(), NoMemory> {
             write!(text, "post {parent} ")?;
             push_posted(text, at, *inner, area)
         }
+        Op::Merge { parent, keep, gone } => write!(text, "merge {parent} {keep} {gone}"),
         Op::Grow { fresh, free_after } => write!(text, "grow {fresh} {free_after}"),
     }
 }

@@ -28,6 +28,7 @@ fn answer(alloc: Global, text: &str) -> Result<String, Fail> {
         "carve" => carving::carved(alloc, question),
         "normal" => carving::joined(alloc, question),
         "change" => changes::changed(alloc, question),
+        "merged" => changes::merged(alloc, question),
         "rule" => changes::rule(alloc, question),
         "reads" => changes::reads(alloc, question),
         "page" => pages::page(alloc, question),

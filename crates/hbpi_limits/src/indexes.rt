@@ -53,7 +53,7 @@ fn has(op: &Op, k: u8) -> bool
         Op::Put { rec, .. } => rec.key.attributes() == k,
         Op::Del { point, .. } => point.attributes() == k,
         Op::Post { area, .. } => area.lo().attributes() == k,
-        Op::Extract { .. } | Op::Grow { .. } => true,
+        Op::Extract { .. } | Op::Merge { .. } | Op::Grow { .. } => true,
     }
 }
 

@@ -11,6 +11,7 @@ mod attributes;
 mod audits;
 mod calls;
 mod fields;
+mod found;
 mod free_pages;
 mod heights;
 mod holes;
@@ -113,6 +114,11 @@ fn main(rt: HostRuntime) -> io::Result<()> {
         &rt,
         "1000000 lines, and 500000 records in one reply",
         searches::many_lines(alloc),
+    )?;
+    tell(
+        &rt,
+        "10000 records in a file, and in one reply",
+        found::many_found(alloc),
     )?;
     tell(
         &rt,

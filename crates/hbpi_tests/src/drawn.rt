@@ -1,10 +1,71 @@
 //! A hundred schedules drawn from seeds, of one to four sessions and the poster, over one or two attributes, with a reopening in
-//! the middle. What is printed and kept is compared with a plain list by the printed order.
+//! the middle; and a hundred in which points come, go and come again, with the consolidator, too. What is printed and kept is
+//! compared with a plain list by the printed order.
 
 use crate::ordered::{Commands, EMPTY, Plain, Told, Verb, holds, told_by};
 use crate::plain_list::drawn;
 use crate::runs::{drive_on, left_of};
 use std::alloc::Global;
+
+/// What commands are drawn of, and how many.
+struct Wave {
+    verbs: [Verb; 8],
+    /// The points have so many eights of places.
+    eights: u64,
+    commands: usize,
+    /// Who steps beside the sessions and the poster, after its letter.
+    beside: &'static str,
+}
+
+/// All verbs on 64 points.
+const MIXED: Wave = Wave {
+    verbs: [
+        Verb::Insert,
+        Verb::Insert,
+        Verb::Insert,
+        Verb::Insert,
+        Verb::Insert,
+        Verb::Delete,
+        Verb::Lookup,
+        Verb::Search,
+    ],
+    eights: 8,
+    commands: 20,
+    beside: "p",
+};
+
+/// Points that come, and points that go.
+const FILLING: Wave = Wave {
+    verbs: [
+        Verb::Insert,
+        Verb::Insert,
+        Verb::Insert,
+        Verb::Insert,
+        Verb::Insert,
+        Verb::Insert,
+        Verb::Lookup,
+        Verb::Search,
+    ],
+    eights: 3,
+    commands: 40,
+    beside: "c",
+};
+
+const DRAINING: Wave = Wave {
+    verbs: [
+        Verb::Delete,
+        Verb::Delete,
+        Verb::Delete,
+        Verb::Delete,
+        Verb::Delete,
+        Verb::Delete,
+        Verb::Delete,
+        Verb::Search,
+    ],
+    eights: 3,
+    commands: 40,
+    beside: "c",
+};
 
 /// What a case is drawn from.
 #[derive(Drop)]
@@ -33,39 +94,39 @@ impl Draw {
     }
 
     /// Adds a command of some session to the commands.
-    fn command(&mut self, commands: &mut Commands) -> Option<()> {
+    fn command(&mut self, commands: &mut Commands, wave: &Wave) -> Option<()> {
         let number = drawn(&mut self.seed) % 4;
         let session = self.session(number);
-        let place = drawn(&mut self.seed) % 8 * 8 + drawn(&mut self.seed) % 8;
-        let verb = match drawn(&mut self.seed) {
-            0 | 1 | 2 | 3 | 4 => Verb::Insert,
-            5 => Verb::Delete,
-            6 => Verb::Lookup,
-            _ => Verb::Search,
-        };
+        let place = drawn(&mut self.seed) % wave.eights * 8 + drawn(&mut self.seed) % 8;
+        let verb = *wave.verbs.get(drawn(&mut self.seed) as usize)?;
         commands.add(session, verb, place as usize)
     }
 
-    /// Up to eight steps of a session or of the poster.
-    fn steps(&mut self, text: &mut String) -> Option<()> {
+    /// Up to eight steps of a session, of the poster, or of who is beside it.
+    fn steps(&mut self, text: &mut String, beside: &str) -> Option<()> {
         let actor = drawn(&mut self.seed) % 6;
         let count = drawn(&mut self.seed) % 8 + 1;
-        if actor >= 4 {
+        if actor == 5 {
+            return write!(text, " {beside}x{count}").ok();
+        }
+        if actor == 4 {
             return write!(text, " px{count}").ok();
         }
         let session = self.session(actor);
         write!(text, " {session}x{count}").ok()
     }
 
-    /// Twenty commands, and thirty times some steps.
-    fn commands(&mut self, alloc: Global, from: usize) -> Option<Commands> {
+    /// The commands of a wave, and some steps half as often again.
+    fn commands(&mut self, alloc: Global, wave: &Wave, from: usize) -> Option<Commands> {
         let mut commands = Commands::new(alloc, self.k, from);
-        for _ in 0..20 {
-            self.command(&mut commands)?;
+        for _ in 0..wave.commands {
+            self.command(&mut commands, wave)?;
         }
-        commands.text.push_str("step").ok()?;
-        for _ in 0..30 {
-            self.steps(&mut commands.text)?;
+        for number in 0..wave.commands + wave.commands / 2 {
+            if number % 30 == 0 {
+                commands.text.push_str("\nstep").ok()?;
+            }
+            self.steps(&mut commands.text, wave.beside)?;
         }
         commands.text.push('\n').ok()?;
         Some(commands)
@@ -98,7 +159,7 @@ fn driven(
 /// Steps enough for what is left of the commands.
 fn finish(text: &mut String) -> Option<()> {
     for _ in 0..30 {
-        text.push_str("step 1x8 2x8 3x8 4x8 px8\n").ok()?;
+        text.push_str("step 1x8 2x8 3x8 4x8 px8 cx8\n").ok()?;
     }
     Some(())
 }
@@ -106,9 +167,9 @@ fn finish(text: &mut String) -> Option<()> {
 /// Whether a case is right. Its first run is cut off by its schedule: what isn't settled then is lost.
 fn is_right(alloc: Global, seed: u64) -> Option<bool> {
     let mut draw = Draw::new(seed);
-    let first = draw.commands(alloc, 0)?;
+    let first = draw.commands(alloc, &MIXED, 0)?;
     let (one, file) = driven(alloc, &first, EMPTY, &new_file(alloc, draw.k)?)?;
-    let mut second = draw.commands(alloc, 100)?;
+    let mut second = draw.commands(alloc, &MIXED, 100)?;
     finish(&mut second.text)?;
     let (two, file) = driven(alloc, &second, one.settled, file.as_slice())?;
     if !two.done {
@@ -145,4 +206,53 @@ fn later_schedules_as_a_plain_list(rt: HostRuntime) {
 #[test]
 fn last_schedules_as_a_plain_list(rt: HostRuntime) {
     assert!(rt; are_right(rt.alloc(), 75) == Some(true));
+}
+
+/// Whether a case is right whose points come, go and come again. Its last run is cut off by its schedule.
+fn comes_and_goes(alloc: Global, seed: u64) -> Option<bool> {
+    let mut draw = Draw::new(seed);
+    let (mut plain, mut file) = (EMPTY, new_file(alloc, draw.k)?);
+    for (from, wave) in [(0, &FILLING), (100, &DRAINING)] {
+        let mut commands = draw.commands(alloc, wave, from)?;
+        finish(&mut commands.text)?;
+        let (told, left) = driven(alloc, &commands, plain, file.as_slice())?;
+        if !told.done {
+            return Some(false);
+        }
+        (plain, file) = (told.whole, left);
+    }
+    let last = draw.commands(alloc, &FILLING, 200)?;
+    let (told, file) = driven(alloc, &last, plain, file.as_slice())?;
+    let plain = told.settled;
+    holds(alloc, file.as_slice(), draw.k, 24, plain, plain)
+}
+
+/// Whether the cases of 25 seeds from this one on are right.
+fn come_and_go(alloc: Global, first: u64) -> Option<bool> {
+    for more in 0..25 {
+        if !comes_and_goes(alloc, first.wrapping_add(more))? {
+            return Some(false);
+        }
+    }
+    Some(true)
+}
+
+#[test]
+fn points_come_and_go(rt: HostRuntime) {
+    assert!(rt; come_and_go(rt.alloc(), 100) == Some(true));
+}
+
+#[test]
+fn more_points_come_and_go(rt: HostRuntime) {
+    assert!(rt; come_and_go(rt.alloc(), 125) == Some(true));
+}
+
+#[test]
+fn later_points_come_and_go(rt: HostRuntime) {
+    assert!(rt; come_and_go(rt.alloc(), 150) == Some(true));
+}
+
+#[test]
+fn last_points_come_and_go(rt: HostRuntime) {
+    assert!(rt; come_and_go(rt.alloc(), 175) == Some(true));
 }

@@ -14,6 +14,10 @@ mod grown_stops;
 #[cfg(test)]
 mod maps;
 #[cfg(test)]
+mod merges;
+#[cfg(test)]
+mod merges_by_hand;
+#[cfg(test)]
 mod ordered;
 #[cfg(test)]
 mod plain_list;
@@ -23,6 +27,8 @@ mod postings;
 mod races;
 #[cfg(test)]
 mod runs;
+#[cfg(test)]
+mod searches;
 #[cfg(test)]
 mod sessions;
 #[cfg(test)]

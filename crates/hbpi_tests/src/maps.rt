@@ -9,13 +9,13 @@ use std::alloc::Global;
 const PAGES: usize = 139_264;
 
 /// Where the first four pages and the second place of the superblock stand.
-const PAGE_1: usize = PAGES;
+pub(crate) const PAGE_1: usize = PAGES;
 
-const PAGE_2: usize = PAGES + 4096;
+pub(crate) const PAGE_2: usize = PAGES + 4096;
 
-const PAGE_3: usize = PAGES + 8192;
+pub(crate) const PAGE_3: usize = PAGES + 8192;
 
-const PAGE_4: usize = PAGES + 12_288;
+pub(crate) const PAGE_4: usize = PAGES + 12_288;
 
 const TURN_1: usize = 4096;
 
@@ -187,7 +187,7 @@ const POSTED: [(&str, usize, &str); 5] = [
 ];
 
 /// A file by hand: what stands at these places of it, and zeros elsewhere.
-fn by_hand(alloc: Global, places: &[(usize, &str)]) -> Option<Vec<u8>> {
+pub(crate) fn by_hand(alloc: Global, places: &[(usize, &str)]) -> Option<Vec<u8>> {
     let mut file = vec![in alloc; 0; SIZE].ok()?;
     for &(at, text) in places {
         let bytes = spelled(alloc, text)?;

@@ -1,5 +1,5 @@
 -- A row of the consolidator that holds of what its decider was given holds of what the machine shows.
-use Rattle.std.proofs.Common.{◌≡◌, ◌⊎◌, inl, inr, ℕ, ◌+◌, ◌<◌, [], ◌∷◌, Option, Some, None, refl, ap, ◌∙◌, subst}
+use Rattle.std.proofs.Common.{◌≡◌, inl, inr, ℕ, ◌+◌, ◌<◌, ◌∷◌, Option, Some, None, refl, ap, ◌∙◌, subst}
 use Rattle.hb_frag.specs.declared.pages.LivePage.{LivePage}
 use Rattle.hb_frag.specs.Leaves.{first_named, siblings_of}
 use Rattle.hb_frag.specs.Rules.{capacity_of}
@@ -13,8 +13,7 @@ use Rattle.hb_terms.specs.Merging.{IsMergePlan}
 use Rattle.hb_activity.specs.declared.jobs.Job.{Job}
 use Rattle.hb_activity.specs.declared.activities.Activity.{Activity}
 use Rattle.hb_activity.specs.declared.activities.Activity.TheVariants as at
-use Rattle.hb_activity.specs.Deeds.{Deed, does, moves_to}
-use Rattle.hb_activity.specs.Passing.{posts_owed}
+use Rattle.hb_activity.specs.Deeds.{Deed, does}
 use Rattle.hb_activity.specs.Sights.{Sight}
 use Rattle.hb_consol.specs.ConsolidatorRows.{HasMergePlan, after_try, children_of, first_one, one_behind, pair_from, scans, tries}
 use Rattle.hb_consol.specs.MergeRows.{ConsolidatorRow, DoesMerge, after_keep, merges_above}

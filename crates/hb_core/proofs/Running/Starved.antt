@@ -92,7 +92,7 @@ module _ (d : DiskModel) (c : RunningCore) (m : Machine) (actor : ℕ) (free : O
   split_takes line held is (Some number) given splits =
       let asks = splits_may_be_asked m actor c.store line held free may keeps (brings d c m actor free may has) is (split_fits d c m actor free may has line held is) in
       let lacks = keeps.room_known.splits actor held line is in
-      let full = lacking_weighs m actor AnyPage c.store pages_kept keeps.room_known (brings d c m actor free may has) held lacks.0.key lacks.0.body asks.page lacks.2 asks.live in
+      let full = lacking_weighs m actor AnyPage c.store pages_kept keeps.room_known keeps.walk_in_space (brings d c m actor free may has) held lacks.0.key lacks.0.body asks.page lacks.2 asks.live in
       let lt : c.store.meta.live < c.store.meta.pages = subst (λ (a : Activity). Needs d c m actor free may has a (wanted_by m actor)) is (at_number d c m actor free may has number given).0 in
       let leaves = part_leaves held asks.page number asks.live full lt given in
       split_done line held asks.page is asks.live leaves

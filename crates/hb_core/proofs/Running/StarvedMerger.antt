@@ -1,5 +1,5 @@
 -- Where the consolidator's decider lacks memory, a row of the step takes some.
-use Rattle.std.proofs.Common.{◌≡◌, inl, inr, ℕ, [], ◌∷◌, Option, Some, None, refl, sym, ap, ◌∙◌, subst}
+use Rattle.std.proofs.Common.{◌≡◌, inl, ℕ, [], ◌∷◌, Option, Some, None, refl, sym, ap, ◌∙◌, subst}
 use Rattle.std.proofs.lemmas.Option.{same_Some}
 use Rattle.hb_disk.specs.Model.{DiskModel}
 use Rattle.hb_frag.specs.declared.pages.LivePage.{LivePage}
@@ -18,10 +18,9 @@ use Rattle.hb_activity.specs.Walks.{walk_held}
 use Rattle.hb_consol.specs.Asks.{AsksMemory, MergesTwo}
 use Rattle.hb_consol.specs.ConsolidatorRows.{HasMergePlan, after_try, children_of, first_one, pair_from, scans, tries}
 use Rattle.hb_consol.specs.MergeRows.{merges_above}
-use Rattle.hb_lemmas.proofs.Options.{at_value}
 use Rattle.hb_store.specs.States.{StoreState}
 use Rattle.hb_core.proofs.Running.Asked.{HasWanted, brings, has_wanted, merger_wants}
-use Rattle.hb_core.proofs.Running.Decided.{at_hand, merges, row_of_merger, stands}
+use Rattle.hb_core.proofs.Running.Decided.{at_hand, merges, stands}
 use Rattle.hb_core.proofs.Running.SomePlan.{HasSomePlan, some_plan}
 use Rattle.hb_core.proofs.Walks.AskedToMerge.{known_there}
 use Rattle.hb_core.specs.Acting.{TakesMemory}

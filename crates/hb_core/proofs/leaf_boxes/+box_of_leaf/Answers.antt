@@ -1,9 +1,8 @@
-use Rattle.std.proofs.Common.{◌≡◌, ◌∙◌, ◌+◌, ℕ, [], ◌∷◌, IfErr, length, refl, sym, ap, subst}
+use Rattle.std.proofs.Common.{◌≡◌, ◌∙◌, sym, ap, subst}
 use Rattle.std.proofs.lemmas.Result.{IfErr-weaker}
-use Rattle.hb_frag.specs.Leaves.{Placed, leaves_of}
+use Rattle.hb_frag.specs.Leaves.{leaves_of}
 use Rattle.hb_frag.specs.Nodes.{tree_of}
 use Rattle.hb_frag.specs.Trees.{Tree, Tip, Cut}
-use Rattle.hb_space.specs.Boxes.{Area}
 use Rattle.hb_core.proofs.Running.LeafBoxes.{both_sides, place_at_first}
 use Rattle.hb_core.specs.LookingToMerge.{IsBoxAt}
 use Rattle.hb_core.proofs.leaf_boxes.+box_of_leaf.Goals as goal

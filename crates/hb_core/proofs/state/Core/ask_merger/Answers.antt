@@ -3,7 +3,7 @@ use Rattle.std.specs.Option.{option_copied}
 use Rattle.hb_activity.specs.Deciding.{deed_of}
 use Rattle.hb_store.specs.Seen.{seen_as}
 use Rattle.hb_core.specs.Looking.{number_of_row}
-use Rattle.hb_core.proofs.Running.SeenRows.{merger_asked, merger_lacks, merger_layout, merger_made, merger_said}
+use Rattle.hb_core.proofs.Running.SeenRows.{merger_lacks, merger_said}
 use Rattle.hb_core.proofs.state.Core.ask_merger.Goals as goal
 
 pub returns-clause-row : goal.returns-clause-row
