@@ -30,23 +30,23 @@ pub record DecidesAt (meta : Meta) (job : Job) (parent keep : ℕ) (above kept :
   pub both : HoldsBoth meta parent keep above kept
 
 -- What the decider may be asked, by where the consolidator stands. Elsewhere it has no step at a page.
-abbrev pub MayBeAsked : Activity → Meta → LivePage → Option LivePage → Option LivePage → Type 0
-MayBeAsked (at.ConsolidatorWalk job held) meta page first second = WalksAbove job page
-MayBeAsked (at.ConsolidatorScan job parent child) meta page (Some above) second = Unit {0}
-MayBeAsked (at.ConsolidatorTry job parent keep gone leaf) meta page (Some above) (Some kept) = HoldsBoth meta parent keep above kept
-MayBeAsked (at.ConsolidatorPromote job parent keep gone) meta page first second = Unit {0}
-MayBeAsked (at.ConsolidatorKeep job parent keep gone) meta page first second = Unit {0}
-MayBeAsked (at.ConsolidatorDecide job parent keep gone) meta page (Some above) (Some kept) = DecidesAt meta job parent keep above kept
-MayBeAsked other meta page first second = ⊥
+abbrev pub MayAskToMerge : Activity → Meta → LivePage → Option LivePage → Option LivePage → Type 0
+MayAskToMerge (at.ConsolidatorWalk job held) meta page first second = WalksAbove job page
+MayAskToMerge (at.ConsolidatorScan job parent child) meta page (Some above) second = Unit {0}
+MayAskToMerge (at.ConsolidatorTry job parent keep gone leaf) meta page (Some above) (Some kept) = HoldsBoth meta parent keep above kept
+MayAskToMerge (at.ConsolidatorPromote job parent keep gone) meta page first second = Unit {0}
+MayAskToMerge (at.ConsolidatorKeep job parent keep gone) meta page first second = Unit {0}
+MayAskToMerge (at.ConsolidatorDecide job parent keep gone) meta page (Some above) (Some kept) = DecidesAt meta job parent keep above kept
+MayAskToMerge other meta page first second = ⊥
 
 -- the two become one
 abbrev pub MergesTwo : Meta → ℕ → LivePage → LivePage → LivePage → Type 0
 MergesTwo meta gone above kept page = (0 < meta.live) × MayMerge above kept gone page (capacity_of page.level meta.dcap meta.icap)
 
 -- Memory is asked for where the children of a parent are listed, and where two pages become one.
-abbrev pub AsksMemory : Activity → Meta → LivePage → Option LivePage → Option LivePage → Type 0
-AsksMemory (at.ConsolidatorWalk job held) meta page first second = (page.level ≡ job.level) × LeadsBelow page job
-AsksMemory (at.ConsolidatorScan job parent child) meta page first second = Unit {0}
-AsksMemory (at.ConsolidatorTry job parent keep gone leaf) meta page first second = Unit {0}
-AsksMemory (at.ConsolidatorDecide job parent keep gone) meta page (Some above) (Some kept) = MergesTwo meta gone above kept page
-AsksMemory other meta page first second = ⊥
+abbrev pub AsksMemoryToMerge : Activity → Meta → LivePage → Option LivePage → Option LivePage → Type 0
+AsksMemoryToMerge (at.ConsolidatorWalk job held) meta page first second = (page.level ≡ job.level) × LeadsBelow page job
+AsksMemoryToMerge (at.ConsolidatorScan job parent child) meta page first second = Unit {0}
+AsksMemoryToMerge (at.ConsolidatorTry job parent keep gone leaf) meta page first second = Unit {0}
+AsksMemoryToMerge (at.ConsolidatorDecide job parent keep gone) meta page (Some above) (Some kept) = MergesTwo meta gone above kept page
+AsksMemoryToMerge other meta page first second = ⊥

@@ -3,7 +3,7 @@ ghost use Rattle.std.specs.Option.{option_copied};
 ghost use Rattle.hb_layout.specs.Limits.{IsLayout};
 ghost use Rattle.hb_ops.specs.Sound.{FitsFile};
 ghost use Rattle.hb_activity.specs.Deciding.{deed_of, given_sight};
-ghost use Rattle.hb_consol.specs.Asks.{AsksMemory, MayBeAsked, pages_given};
+ghost use Rattle.hb_consol.specs.Asks.{AsksMemoryToMerge, MayAskToMerge, pages_given};
 ghost use Rattle.hb_consol.specs.MergeRows.{ConsolidatorRow};
 
 use crate::merging::{decide, take_keep, try_pair};
@@ -36,11 +36,11 @@ pub fn next(
 ) -> Result<Next, NoMemory>
     requires layout { IsLayout meta.now }
     requires made { FitsFile meta.now page.now }
-    requires asked { MayBeAsked state meta.now page.now (option_copied first) (option_copied second) }
+    requires asked { MayAskToMerge state meta.now page.now (option_copied first) (option_copied second) }
     ensures row { IfOk result (λ next. (free : Option (ℕ × ℕ)) → ConsolidatorRow state
         (given_sight meta.now (pages_given state id page.now (option_copied first.entry) (option_copied second.entry)) free) id page.now
         (deed_of state next)) }
-    ensures memory { OnErr result (AsksMemory state meta.now page.now (option_copied first.entry) (option_copied second.entry)) }
+    ensures memory { OnErr result (AsksMemoryToMerge state meta.now page.now (option_copied first.entry) (option_copied second.entry)) }
 {
     match state {
         Activity::ConsolidatorWalk { job, .. } => walk(alloc, job, id, page),

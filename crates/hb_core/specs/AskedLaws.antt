@@ -13,7 +13,7 @@ use Rattle.hb_activity.specs.declared.wanting.Wanted.{Wanted}
 use Rattle.hb_activity.specs.declared.activities.Activity.TheVariants as at
 use Rattle.hb_activity.specs.Deciding.{FitsFree}
 use Rattle.hb_activity.specs.Walks.{walk_point}
-use Rattle.hb_consol.specs.Asks.{MayBeAsked as MayAskToMerge}
+use Rattle.hb_consol.specs.Asks.{MayAskToMerge}
 use Rattle.hb_point.specs.Asks.{MayAsk}
 use Rattle.hb_point.specs.SessionRows.{WantsBoxes}
 use Rattle.hb_poster.specs.Asks.{MayBeAsked}

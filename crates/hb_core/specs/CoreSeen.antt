@@ -28,5 +28,5 @@ pub record Alters {D : Type 0} {g : Ghosts D} (so : RunningCore → RunningCore 
   pub disk : core_disk new ≡ core_disk old
 
 -- it becomes this
-abbrev pub Becomes : {D : Type 0} {g : Ghosts D} → (RunningCore → RunningCore) → Core D g → Core D g → Type 0
-Becomes then old new = Alters (λ c after. after ≡ then c) old new
+abbrev pub ChangesBy : {D : Type 0} {g : Ghosts D} → (RunningCore → RunningCore) → Core D g → Core D g → Type 0
+ChangesBy then old new = Alters (λ c after. after ≡ then c) old new

@@ -5,7 +5,7 @@ use Rattle.std.specs.Option.{option_and_then}
 use Rattle.hb_activity.specs.declared.activities.Activity.{Activity}
 use Rattle.hb_activity.specs.declared.activities.Activity.TheVariants as at
 use Rattle.hb_activity.specs.Deeds.{Deed}
-use Rattle.hb_consol.specs.Asks.{AsksMemory, MayBeAsked}
+use Rattle.hb_consol.specs.Asks.{AsksMemoryToMerge, MayAskToMerge}
 use Rattle.hb_consol.specs.MergeRows.{ConsolidatorRow}
 use Rattle.hb_frag.specs.declared.pages.LivePage.{LivePage}
 use Rattle.hb_frag.specs.Leaves.{Placed}
@@ -38,11 +38,11 @@ pub record AsksMerger (st : StoreState) (activity : Activity) (id : ℕ) : Type 
   pub page : LivePage
   pub live : live_here st id ≡ Some page
   pub made : FitsFile st.meta page
-  pub asked : MayBeAsked activity st.meta page (other_page st activity) (second_page st activity)
+  pub asked : MayAskToMerge activity st.meta page (other_page st activity) (second_page st activity)
 
 -- what its answer is: a row at the page of this number, or want of memory
 abbrev pub HasMergerRow : StoreState → Activity → ℕ → ℕ → Deed → Type 0
 HasMergerRow st activity id place deed = (page : LivePage) × (live_here st id ≡ Some page) × ConsolidatorRow activity (sight_in st place) id page deed
 
 abbrev pub LacksToMerge : StoreState → Activity → ℕ → Type 0
-LacksToMerge st activity id = (page : LivePage) × (live_here st id ≡ Some page) × AsksMemory activity st.meta page (other_page st activity) (second_page st activity)
+LacksToMerge st activity id = (page : LivePage) × (live_here st id ≡ Some page) × AsksMemoryToMerge activity st.meta page (other_page st activity) (second_page st activity)

@@ -57,23 +57,23 @@ abbrev pub NobodyWaitsInACircle : Type 0
 NobodyWaitsInACircle = (m : Machine) (files : Files) (actor : ℕ) (rest : List ℕ) → LatchesFit m → HasSoundFile m files → HasNobodyElse m → HasNoOtherLatches m → WalksInSpace m → WaitInSequence m actor rest actor → ⊥
 
 -- Where an actor is at work, not every actor at work is kept waiting.
-abbrev pub IsAtWork : Machine → ℕ → Type 0
-IsAtWork m actor = IsActor actor × (¬ (IsAtRest (m.activity actor)))
+abbrev pub HasWorkLeft : Machine → ℕ → Type 0
+HasWorkLeft m actor = IsActor actor × (¬ (IsAtRest (m.activity actor)))
 
 abbrev pub IsKeptWaiting : Machine → ℕ → Type 0
 IsKeptWaiting m actor = (by : ℕ) × IsInTheWay m actor by
 
 abbrev pub SomebodyGoesOn : Type 0
-SomebodyGoesOn = (m : Machine) (files : Files) (actor : ℕ) → LatchesFit m → HasSoundFile m files → HasNobodyElse m → HasNoOtherLatches m → WalksInSpace m → IsAtWork m actor →
-    ((other : ℕ) → IsAtWork m other → IsKeptWaiting m other) → ⊥
+SomebodyGoesOn = (m : Machine) (files : Files) (actor : ℕ) → LatchesFit m → HasSoundFile m files → HasNobodyElse m → HasNoOtherLatches m → WalksInSpace m → HasWorkLeft m actor →
+    ((other : ℕ) → HasWorkLeft m other → IsKeptWaiting m other) → ⊥
 
 -- Whom an idle session waits for to lock its box is at work. So where an actor is under way, with something in hand or with a line to
 -- take next, not every such actor is kept back, by a latch or by a box.
 abbrev pub LockHoldersWork : Type 0
-LockHoldersWork = (m : Machine) (actor other : ℕ) → HasNobodyElse m → AwaitsBox m actor other → IsAtWork m other
+LockHoldersWork = (m : Machine) (actor other : ℕ) → HasNobodyElse m → AwaitsBox m actor other → HasWorkLeft m other
 
 abbrev pub IsUnderWay : Machine → ℕ → Type 0
-IsUnderWay m actor = IsAtWork m actor ⊎ ((m.activity actor ≡ SessionIdle) × IsSome (next_line actor m.answered m.lines))
+IsUnderWay m actor = HasWorkLeft m actor ⊎ ((m.activity actor ≡ SessionIdle) × IsSome (next_line actor m.answered m.lines))
 
 abbrev pub IsKeptBack : Machine → ℕ → Type 0
 IsKeptBack m actor = IsKeptWaiting m actor ⊎ ((by : ℕ) × AwaitsBox m actor by)

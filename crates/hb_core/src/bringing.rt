@@ -9,7 +9,7 @@ ghost use Rattle.hb_point.specs.Asks.{SplitsNow};
 ghost use Rattle.hb_space.specs.Points.{IsPoint};
 ghost use Rattle.hb_core.specs.Acting.{NeedsNumber, TakesMemory};
 ghost use Rattle.hb_core.specs.Asking.{wanted_by};
-ghost use Rattle.hb_core.specs.CoreSeen.{core_seen, core_disk, Becomes};
+ghost use Rattle.hb_core.specs.CoreSeen.{core_seen, core_disk, ChangesBy};
 ghost use Rattle.hb_core.specs.KeptFits.{class_for};
 ghost use Rattle.hb_store.specs.declared.stops.StopWhy.TheVariants.{Damaged};
 ghost use Rattle.hb_store.specs.declared.stops.Why.{Why};
@@ -150,7 +150,7 @@ impl<D: Device> Core<D> {
             Row (m.activity actor) (wanted_by m actor) (with_memory (core_seen self.old) m) (placed (length m.order) (deed_of (m.activity actor) next))) }
         ensures memory { OnErr result ((m : Machine) → HasPages m actor free (D.model (core_disk self.old)) (core_seen self.old) →
             (deed : Deed) × Row (m.activity actor) (wanted_by m actor) (with_memory (core_seen self.old) m) deed × TakesMemory (m.activity actor) deed) }
-        ensures rest { Becomes (with_standing actor (idle_of (class_for actor))) self.old self.new }
+        ensures rest { ChangesBy (with_standing actor (idle_of (class_for actor))) self.old self.new }
     {
         let state = self.replace(actor, idle(actor));
         knows_point(&state);

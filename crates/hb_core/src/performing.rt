@@ -12,7 +12,7 @@ ghost use Rattle.hb_ops.specs.Given.{given as live_given};
 ghost use Rattle.hb_store.specs.States.{StoreState};
 ghost use Rattle.hb_core.specs.declared.halts.Halt.TheVariants as halts;
 ghost use Rattle.hb_activity.specs.declared.dropping.DropWhy.TheVariants as drops;
-ghost use Rattle.hb_core.specs.CoreSeen.{core_seen, core_disk, Alters, Becomes};
+ghost use Rattle.hb_core.specs.CoreSeen.{core_seen, core_disk, Alters, ChangesBy};
 ghost use Rattle.hb_core.specs.GivingUp.{gives_up, reply_for, runs_out};
 ghost use Rattle.hb_core.specs.KeptFits.{class_for};
 ghost use Rattle.hb_core.specs.Machines.{live_here};
@@ -78,7 +78,7 @@ impl<D: Device> Core<D> {
         ensures files { OnOk result (KeepsFilesBy op (D.model (core_disk self.old)) (core_seen self.old).store (D.model (core_disk self.new)) (core_seen self.new).store) }
         ensures same { OnErr result (core_seen self.new ≡ core_seen self.old) }
         ensures cause { IsErr result → IsSome op }
-        ensures rest { Becomes (with_store (core_seen self.new).store) self.old self.new }
+        ensures rest { ChangesBy (with_store (core_seen self.new).store) self.old self.new }
     {
         match op {
             Some(op) => self.store.commit(op, place),
@@ -108,7 +108,7 @@ impl<D: Device> Core<D> {
     /// The line of the number takes effect, where there is one.
     fn join(&mut self, line: Option<u32>)
         requires room { IsSome line → length (core_seen self.old).order < length (core_seen self.old).lines }
-        ensures { Becomes (with_order ((core_seen self.old).order ++ pushed line)) self.old self.new }
+        ensures { ChangesBy (with_order ((core_seen self.old).order ++ pushed line)) self.old self.new }
     {
         if let Some(line) = line {
             self.order.push(line).unwrap();
@@ -136,7 +136,7 @@ impl<D: Device> Core<D> {
     fn latch_all(&mut self, actor: Actor, latches: &[Latch])
         requires { MayHave actor (core_seen self.old).latches latches.now }
         ensures latches { Relatches actor latches.now (core_seen self.old).latches (core_seen self.new).latches }
-        ensures rest { Becomes (with_latches (core_seen self.new).latches) self.old self.new }
+        ensures rest { ChangesBy (with_latches (core_seen self.new).latches) self.old self.new }
     {
         each_call_changes_one_latch();
         each_latch_counts_once();

@@ -4,7 +4,7 @@ ghost use Rattle.std.specs.List.{position, slice_get, slice_set};
 ghost use Rattle.hb_space.specs.Actors.{IsActor};
 ghost use Rattle.hb_activity.specs.declared.activities.Activity.TheVariants as at;
 ghost use Rattle.hb_core.specs.declared.outcomes.Outcome.TheVariants as outcomes;
-ghost use Rattle.hb_core.specs.CoreSeen.{core_seen, core_disk, Alters, Becomes};
+ghost use Rattle.hb_core.specs.CoreSeen.{core_seen, core_disk, Alters, ChangesBy};
 ghost use Rattle.hb_core.specs.Machines.{Machine};
 ghost use Rattle.hb_point.specs.SessionRows.{WantsBoxes, boxes_ahead};
 ghost use Rattle.hb_poster.specs.PosterRows.{IsPostingOf};
@@ -101,7 +101,7 @@ impl<D: Device> Core<D> {
     fn go_behind(&mut self, actor: Actor, behind: usize)
         requires actor { IsActor actor }
         requires session { (before : ℕ) × (slice_get (core_seen self.old).behind (actor - 1) ≡ Some before) }
-        ensures { Becomes (λ c. record c { behind = slice_set c.behind (actor - 1) behind }) self.old self.new }
+        ensures { ChangesBy (λ c. record c { behind = slice_set c.behind (actor - 1) behind }) self.old self.new }
     {
         self.behind[usize::from(actor) - 1] = behind;
     }
@@ -180,7 +180,7 @@ impl<D: Device> Core<D> {
     /// The core is stopped from now on.
     pub(crate) fn stop_for(&mut self, why: StopWhy) -> Outcome
         ensures says { result ≡ outcomes.Stopped why }
-        ensures stops { Becomes (with_stop why) self.old self.new }
+        ensures stops { ChangesBy (with_stop why) self.old self.new }
     {
         let said = copy_of(&why);
         self.stop = Some(why);
@@ -191,7 +191,7 @@ impl<D: Device> Core<D> {
     pub(crate) fn replace(&mut self, actor: Actor, next: Activity) -> Activity
         requires actor { IsActor actor }
         ensures old { StandsAs (core_seen self.old) actor result }
-        ensures new { Becomes (with_standing actor next) self.old self.new }
+        ensures new { ChangesBy (with_standing actor next) self.old self.new }
     {
         mem::replace(
             &mut self.activities.as_mut_slice()[usize::from(actor) - 1],

@@ -19,7 +19,7 @@ use Rattle.hb_set.specs.declared.scripts.Line.{Line}
 use Rattle.hb_store.specs.Keeps.{StoreKeeps}
 use Rattle.hb_store.specs.States.{IsNew, IsStanding, StoreState}
 use Rattle.hb_core.proofs.Facts.BegunCores.{begins_over}
-use Rattle.hbpi.specs.Schedules.{HasBox, HasLineBox, IsScript}
+use Rattle.hbpi.specs.Schedules.{SearchesBox, HasLineBox, IsScript}
 
 -- Such a machine, of a core with this script over a store that was just opened.
 pub record IsBegunHere (d : DiskModel) (lines : List Line) (steps : List ℕ) (store : StoreState) (m : Machine) : Type 0 where
@@ -27,7 +27,7 @@ pub record IsBegunHere (d : DiskModel) (lines : List Line) (steps : List ℕ) (s
   pub begun : IsBegun m
   pub told : IfSome d.told (λ b. (s : FileState) × IsBegunOver m s × StoreKeeps d store s [])
 
-command_fits : (k : ℕ) (c : Command) → attributes c ≡ k → HasBox c → CommandFits k c
+command_fits : (k : ℕ) (c : Command) → attributes c ≡ k → SearchesBox c → CommandFits k c
 command_fits k (Insert rec) is box = is
 command_fits k (Delete point) is box = is
 command_fits k (Lookup point) is box = is

@@ -20,14 +20,14 @@ pub record IsScheduled (k : ℕ) (left rest : Option (List ℕ)) (lines : List L
   pub says : text_read true k text ≡ Ok (record { lines = lines; steps = steps })
 
 -- the box of a search is one
-abbrev pub HasBox : Command → Type 0
-HasBox (Insert rec) = Unit {0}
-HasBox (Delete point) = Unit {0}
-HasBox (Lookup point) = Unit {0}
-HasBox (Search area) = IsArea area
+abbrev pub SearchesBox : Command → Type 0
+SearchesBox (Insert rec) = Unit {0}
+SearchesBox (Delete point) = Unit {0}
+SearchesBox (Lookup point) = Unit {0}
+SearchesBox (Search area) = IsArea area
 
 abbrev pub HasLineBox : Line → Type 0
-HasLineBox line = HasBox line.command
+HasLineBox line = SearchesBox line.command
 
 -- a script that a core may take, of a text over k attributes
 pub record IsScript (k : ℕ) (lines : List Line) (steps : List ℕ) : Type 0 where

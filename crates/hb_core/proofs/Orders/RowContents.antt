@@ -36,14 +36,14 @@ use Rattle.hb_core.proofs.Table.EachRow.{OnlyReplies, each_row}
 use Rattle.hb_ops.proofs.Facts.PageNumberLaws.{live_so}
 
 -- what an operation does to the contents
-abbrev pub Becomes : RecordSet → RecordSet → Option Op → Type 0
-Becomes before after None = after ≡ before
-Becomes before after (Some (ops.Put id rec)) = (map.get before rec.key ≡ None) × (after ≡ map.insert before rec.key rec.body)
-Becomes before after (Some (ops.Del id point)) = ((body : List ℕ) × (map.get before point ≡ Some body)) × (after ≡ map.remove before point)
-Becomes before after (Some (ops.Extract source fresh path cuts free_after)) = after ≡ before
-Becomes before after (Some (ops.Post parent at inner area)) = after ≡ before
-Becomes before after (Some (ops.Merge parent keep gone)) = after ≡ before
-Becomes before after (Some (ops.Grow fresh free_after)) = after ≡ before
+abbrev pub ContentsBecomeBy : RecordSet → RecordSet → Option Op → Type 0
+ContentsBecomeBy before after None = after ≡ before
+ContentsBecomeBy before after (Some (ops.Put id rec)) = (map.get before rec.key ≡ None) × (after ≡ map.insert before rec.key rec.body)
+ContentsBecomeBy before after (Some (ops.Del id point)) = ((body : List ℕ) × (map.get before point ≡ Some body)) × (after ≡ map.remove before point)
+ContentsBecomeBy before after (Some (ops.Extract source fresh path cuts free_after)) = after ≡ before
+ContentsBecomeBy before after (Some (ops.Post parent at inner area)) = after ≡ before
+ContentsBecomeBy before after (Some (ops.Merge parent keep gone)) = after ≡ before
+ContentsBecomeBy before after (Some (ops.Grow fresh free_after)) = after ≡ before
 
 -- what a line that joins the order does to them
 abbrev pub JoinsWith : RecordSet → RecordSet → Activity → Option Entry → Type 0
@@ -57,8 +57,8 @@ module _ (before after : RecordSet) (activity : Activity) where
   pub joins_of : (deed other : Deed) → deed ≡ other → JoinsWith before after activity other.joins → JoinsWith before after activity deed.joins
   joins_of deed other is joins = subst (λ (d : Deed). JoinsWith before after activity d.joins) (sym is) joins
 
-  pub becomes_of : (deed other : Deed) → deed ≡ other → Becomes before after deed.op → Becomes before after other.op
-  becomes_of deed other is becomes = subst (λ (d : Deed). Becomes before after d.op) is becomes
+  pub becomes_of : (deed other : Deed) → deed ≡ other → ContentsBecomeBy before after deed.op → ContentsBecomeBy before after other.op
+  becomes_of deed other is becomes = subst (λ (d : Deed). ContentsBecomeBy before after d.op) is becomes
 
   -- a line of a command that isn't a search, by what the machine makes of it
   by_command : (line : Line) (command : Command) (reply : Reply) → line.command ≡ command → line_in_hand activity ≡ Some line → after ≡ set_after command before → reply ≡ reply_of command before → TakesEffectOn before after activity (entry_of line reply)
@@ -143,9 +143,9 @@ module _ (points : HeldArePoints) (standing : StandingIsContents) (lacking : Lac
 
   -- what is to be shown of a row
   abbrev Follows : Activity → Deed → Type 0
-  Follows activity deed = Becomes (contents_of s) after deed.op → Joins activity deed
+  Follows activity deed = ContentsBecomeBy (contents_of s) after deed.op → Joins activity deed
 
-  pub joins_row : (activity : Activity) (wanted : Option Wanted) (deed : Deed) → Becomes (contents_of s) after deed.op → Row activity wanted m' deed → Joins activity deed
+  pub joins_row : (activity : Activity) (wanted : Option Wanted) (deed : Deed) → ContentsBecomeBy (contents_of s) after deed.op → Row activity wanted m' deed → Joins activity deed
   joins_row activity wanted deed becomes row = each_row m' Follows activity wanted deed
       (record {
         full = λ line held none stays. stays;

@@ -16,7 +16,7 @@ use Rattle.hb_core.proofs.Files.FitOps.{HeldArePoints}
 use Rattle.hb_core.proofs.Memory.KeptPages.{KeepsPages, brought, keeps_pages}
 use Rattle.hb_core.proofs.Table.LineFates.{given_up_joins_nothing, ran_out_joins_nothing}
 use Rattle.hb_core.proofs.Memory.OwnPages.{gives_up_nothing, runs_out_nothing}
-use Rattle.hb_core.proofs.Orders.RowContents.{Becomes, JoinsWith, joins_row}
+use Rattle.hb_core.proofs.Orders.RowContents.{ContentsBecomeBy, JoinsWith, joins_row}
 use Rattle.hb_core.proofs.Files.RowTells.{Tells, tells_row}
 use Rattle.hb_core.proofs.Files.SoundFiles.{FilesHold, brought_shown, files_hold, sound_within_limits, may_be_done, shows_file}
 use Rattle.hb_core.proofs.Table.StepKinds.{each_step, FlushesMore, rest_kind}
@@ -45,7 +45,7 @@ use Rattle.hb_store.proofs.Facts.StoreLaws.{last_forced}
 
 -- ---- what an operation does
 
-becomes_so : (s : FileState) (op : Op) → ContentsBecome s op → Becomes (contents_of s) (contents_of (effect_of s op)) (Some op)
+becomes_so : (s : FileState) (op : Op) → ContentsBecome s op → ContentsBecomeBy (contents_of s) (contents_of (effect_of s op)) (Some op)
 becomes_so s (ops.Put id rec) becomes = becomes
 becomes_so s (ops.Del id point) becomes = becomes
 becomes_so s (ops.Extract source fresh path cuts free_after) becomes = becomes
@@ -79,7 +79,7 @@ module _ (makes : MakesGoodPages) (parts : HaveFittingParts) (points : HeldArePo
 
   -- what is done in memory makes this of the contents
   becomes : (fetched : StoreState) (op : Option Op) (mark : ℕ) → KeepsPages fetched → FilesHold fetched files → Tells fetched op → MayDo op mark fetched new.store → new.files ≡ files_after op m.files
-      → (after : Files) × (new.files ≡ Some after) × Becomes (contents_now files) (contents_now after) op
+      → (after : Files) × (new.files ≡ Some after) × ContentsBecomeBy (contents_now files) (contents_now after) op
   becomes fetched None mark keeps holds tells same is = (files, is ∙ told, refl)
   becomes fetched (Some op) mark keeps holds tells does is =
       let s = current_file files in
@@ -89,7 +89,7 @@ module _ (makes : MakesGoodPages) (parts : HaveFittingParts) (points : HeldArePo
       let last : last_of files.durable (files.later ++ effect_of s op ∷ []) ≡ effect_of s op = last_of-append files.durable files.later (effect_of s op) in (
         with_effect op files,
         is ∙ ap (files_after (Some op)) told,
-        subst (λ (f : FileState). Becomes (contents_of s) (contents_of f) (Some op)) (sym last) (becomes_so s op (keep_contents s op file.sound layout may.attributes may.allowed may.licensed)),
+        subst (λ (f : FileState). ContentsBecomeBy (contents_of s) (contents_of f) (Some op)) (sym last) (becomes_so s op (keep_contents s op file.sound layout may.attributes may.allowed may.licensed)),
       )
 
   joined : (after : Files) (joins : Option Entry) → new.order ≡ m.order ++ if_some joins → JoinsWith (contents_now files) (contents_now after) (m.activity actor) joins → ContentsStep m actor new (contents_now files) (contents_now after)

@@ -27,7 +27,7 @@ use Rattle.hb_activity.specs.Deciding.{FitsFree}
 use Rattle.hb_activity.specs.Passing.{LeadsBelow}
 use Rattle.hb_activity.specs.Walks.{goal_of, job_mode, session_mode, walk_held, walk_point}
 use Rattle.hb_activity.specs.Wanting.{child_of, in_mode, named_child, onward_at, walk_next, wanted_of, wanted_page}
-use Rattle.hb_consol.specs.Asks.{MayBeAsked as MayAskToMerge}
+use Rattle.hb_consol.specs.Asks.{MayAskToMerge}
 use Rattle.hb_point.specs.Asks.{MayAsk}
 use Rattle.hb_point.specs.SessionRows.{WantsBoxes}
 use Rattle.hb_poster.specs.Asks.{MakesPage, MayBeAsked}

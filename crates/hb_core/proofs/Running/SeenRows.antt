@@ -11,7 +11,7 @@ use Rattle.hb_activity.specs.declared.activities.Activity.{Activity}
 use Rattle.hb_activity.specs.declared.activities.Activity.TheVariants as at
 use Rattle.hb_activity.specs.Deciding.{FitsFree, given_pages, given_sight, page_among}
 use Rattle.hb_activity.specs.Deeds.{Deed}
-use Rattle.hb_consol.specs.Asks.{AsksMemory as LacksMemoryToMerge, MayBeAsked as MayAskToMerge, pages_given}
+use Rattle.hb_consol.specs.Asks.{AsksMemoryToMerge, MayAskToMerge, pages_given}
 use Rattle.hb_consol.specs.MergeRows.{ConsolidatorRow}
 use Rattle.hb_point.specs.Asks.{MayAsk}
 use Rattle.hb_point.specs.SessionRows.{PointRow}
@@ -181,10 +181,10 @@ module _ (st : StoreState) (activity : Activity) (n : ℕ) (id : ℕ) (page : Li
         (lifted_merger (given_sight meta (pages_given activity id page first second) None) (sight_in st place) (pair_shown place) activity id page deed (row None)),
   )
 
-  pub merger_lacks : LacksMemoryToMerge activity meta page first second → LacksToMerge st activity n
+  pub merger_lacks : AsksMemoryToMerge activity meta page first second → LacksToMerge st activity n
   merger_lacks asks = (
     page,
     its_page,
-    subst (λ (o : Option LivePage). LacksMemoryToMerge activity st.meta page (other_page st activity) o) kept
-        (subst (λ (o : Option LivePage). LacksMemoryToMerge activity st.meta page o second) other (subst (λ (m : Meta). LacksMemoryToMerge activity m page first second) is_meta asks)),
+    subst (λ (o : Option LivePage). AsksMemoryToMerge activity st.meta page (other_page st activity) o) kept
+        (subst (λ (o : Option LivePage). AsksMemoryToMerge activity st.meta page o second) other (subst (λ (m : Meta). AsksMemoryToMerge activity m page first second) is_meta asks)),
   )

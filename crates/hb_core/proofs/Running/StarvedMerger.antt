@@ -15,7 +15,7 @@ use Rattle.hb_activity.specs.declared.activities.Activity.TheVariants as at
 use Rattle.hb_activity.specs.Deeds.{Deed, does}
 use Rattle.hb_activity.specs.Passing.{LeadsBelow}
 use Rattle.hb_activity.specs.Walks.{walk_held}
-use Rattle.hb_consol.specs.Asks.{AsksMemory, MergesTwo}
+use Rattle.hb_consol.specs.Asks.{AsksMemoryToMerge, MergesTwo}
 use Rattle.hb_consol.specs.ConsolidatorRows.{HasMergePlan, after_try, children_of, first_one, pair_from, scans, tries}
 use Rattle.hb_consol.specs.MergeRows.{merges_above}
 use Rattle.hb_store.specs.States.{StoreState}
@@ -90,7 +90,7 @@ module _ (d : DiskModel) (c : RunningCore) (m : Machine) (actor : ℕ) (free : O
         refl,
       )
 
-  merger_takes : (activity : Activity) (its : Its) (first second : Option LivePage) → m.activity actor ≡ activity → other_page c.store activity ≡ first → second_page c.store activity ≡ second → AsksMemory activity c.store.meta its.page first second → Takes activity
+  merger_takes : (activity : Activity) (its : Its) (first second : Option LivePage) → m.activity actor ≡ activity → other_page c.store activity ≡ first → second_page c.store activity ≡ second → AsksMemoryToMerge activity c.store.meta its.page first second → Takes activity
   merger_takes (at.ConsolidatorWalk job held) its first second is live kept asks = arrives job held its is asks.0 asks.1
   merger_takes (at.ConsolidatorScan job parent child) its first second is live kept asks = scans_child job parent child its is
   merger_takes (at.ConsolidatorTry job parent keep gone leaf) its first second is live kept asks = tries_pair job parent keep gone leaf its is
@@ -102,7 +102,7 @@ module _ (d : DiskModel) (c : RunningCore) (m : Machine) (actor : ℕ) (free : O
       let its = has_wanted d c m actor free may has (merger_wants m actor may keeps activity is merging) in
       let here = subst (λ (w : Option Wanted). LacksToMerge c.store activity (number_of_row activity w)) its.wants lacks in
       let page : here.0 ≡ its.page = same_Some here.0 its.page (sym here.1 ∙ its.hand.live) in
-      merger_takes activity its (other_page c.store activity) (second_page c.store activity) is refl refl (subst (λ (q : LivePage). AsksMemory activity c.store.meta q (other_page c.store activity) (second_page c.store activity)) page here.2)
+      merger_takes activity its (other_page c.store activity) (second_page c.store activity) is refl refl (subst (λ (q : LivePage). AsksMemoryToMerge activity c.store.meta q (other_page c.store activity) (second_page c.store activity)) page here.2)
 
   pub merger_starved : (activity : Activity) (wanted : Option Wanted) (st : StoreState) → StandsAs c actor activity → wanted ≡ wanted_by m actor → st ≡ c.store → actor ≡ 18 → LacksToMerge st activity (number_of_row activity wanted) → Takes (m.activity actor)
   merger_starved activity wanted st stood wants same merger lacks =

@@ -9,11 +9,11 @@ use Rattle.hb_activity.specs.declared.activities.Activity.{Activity}
 use Rattle.hb_activity.specs.declared.activities.Activity.TheVariants as at
 use Rattle.hb_activity.specs.Classes.{job_in_work}
 use Rattle.hb_activity.specs.Walks.{walk_held, walk_point}
-use Rattle.hb_consol.specs.Asks.{HoldsBoth, MayBeAsked}
+use Rattle.hb_consol.specs.Asks.{HoldsBoth, MayAskToMerge}
 use Rattle.hb_lemmas.proofs.Options.{at_value}
 use Rattle.hb_store.specs.States.{StoreState}
 use Rattle.hb_core.proofs.Walks.AtHand.{own_there}
-use Rattle.hb_core.proofs.Walks.MayBeAsked.{pages_at_hand_fit, walks_stay_inside}
+use Rattle.hb_core.proofs.Walks.MayAskToMerge.{pages_at_hand_fit, walks_stay_inside}
 use Rattle.hb_core.proofs.Walks.MergesKept.{PlaceStays, names_still, place_latched}
 use Rattle.hb_core.proofs.Walks.WalkingWorkers.{walk_wants_above}
 use Rattle.hb_core.specs.AllowedLaws.{AnyPage}
@@ -34,7 +34,7 @@ merger_walks_may_be_asked m actor fetched job held wanted page may keeps brings 
     let above : job.level ≤ wanted.level = walk_wants_above m actor job held wanted (inr is) stands wants in
     let level = hand.level in
     let some = fits.level in
-    subst (λ (a : Activity). MayBeAsked a m.store.meta page None None) (sym is) (record { above = omega (arith, above, level, some); held = has })
+    subst (λ (a : Activity). MayAskToMerge a m.store.meta page None None) (sym is) (record { above = omega (arith, above, level, some); held = has })
 
 -- the page to keep is of another level than the parent, and so another page
 pub pair_apart : (st : StoreState) (job : Job) (parent : ℕ) (names : _) (pair : PairHeld) → NamesKnown st (record { job = job; parent = parent; known = names; pair = Some pair }) → parent ≢ pair.keep
@@ -69,24 +69,24 @@ module _ (m : Machine) (actor : ℕ) (fetched : StoreState) (may : IsActor actor
   }
 
   abbrev MayAsk : LivePage → Activity → Type 0
-  MayAsk page activity = MayBeAsked activity m.store.meta page (other_page fetched activity) (second_page fetched activity)
+  MayAsk page activity = MayAskToMerge activity m.store.meta page (other_page fetched activity) (second_page fetched activity)
 
   asked_at : (page : LivePage) (activity : Activity) → m.activity actor ≡ activity → IsSome (merging_at activity) → MayAsk page activity
   asked_at page (at.ConsolidatorScan job parent child) is some =
       let known = known_there _ (ap merging_at is) in
-      subst (λ (o : Option LivePage). MayBeAsked (at.ConsolidatorScan job parent child) m.store.meta page o None) (sym known.live) tt
+      subst (λ (o : Option LivePage). MayAskToMerge (at.ConsolidatorScan job parent child) m.store.meta page o None) (sym known.live) tt
   asked_at page (at.ConsolidatorTry job parent keep gone leaf) is some =
       let pair : PairHeld = record { keep = keep; gone = gone; leaf = Some leaf } in
       let known = known_there (record { job = job; parent = parent; known = keep ∷ gone ∷ []; pair = Some pair }) (ap merging_at is) in
-      subst (λ (o : Option LivePage). MayBeAsked (at.ConsolidatorTry job parent keep gone leaf) m.store.meta page o (live_here fetched keep)) (sym known.live)
-      (subst (λ (o : Option LivePage). MayBeAsked (at.ConsolidatorTry job parent keep gone leaf) m.store.meta page (Some known.page) o) (sym known.pair.live) (holds_both job parent (keep ∷ gone ∷ []) pair known))
+      subst (λ (o : Option LivePage). MayAskToMerge (at.ConsolidatorTry job parent keep gone leaf) m.store.meta page o (live_here fetched keep)) (sym known.live)
+      (subst (λ (o : Option LivePage). MayAskToMerge (at.ConsolidatorTry job parent keep gone leaf) m.store.meta page (Some known.page) o) (sym known.pair.live) (holds_both job parent (keep ∷ gone ∷ []) pair known))
   asked_at page (at.ConsolidatorPromote job parent keep gone) is some = tt
   asked_at page (at.ConsolidatorKeep job parent keep gone) is some = tt
   asked_at page (at.ConsolidatorDecide job parent keep gone) is some =
       let pair : PairHeld = record { keep = keep; gone = gone; leaf = None } in
       let known = known_there (record { job = job; parent = parent; known = keep ∷ gone ∷ []; pair = Some pair }) (ap merging_at is) in
-      subst (λ (o : Option LivePage). MayBeAsked (at.ConsolidatorDecide job parent keep gone) m.store.meta page o (live_here fetched keep)) (sym known.live)
-      (subst (λ (o : Option LivePage). MayBeAsked (at.ConsolidatorDecide job parent keep gone) m.store.meta page (Some known.page) o) (sym known.pair.live) (record { level = known.level; both = holds_both job parent (keep ∷ gone ∷ []) pair known }))
+      subst (λ (o : Option LivePage). MayAskToMerge (at.ConsolidatorDecide job parent keep gone) m.store.meta page o (live_here fetched keep)) (sym known.live)
+      (subst (λ (o : Option LivePage). MayAskToMerge (at.ConsolidatorDecide job parent keep gone) m.store.meta page (Some known.page) o) (sym known.pair.live) (record { level = known.level; both = holds_both job parent (keep ∷ gone ∷ []) pair known }))
   asked_at page activity is some = cc
 
 pub pairs_may_be_asked : PairsMayBeAsked

@@ -16,7 +16,7 @@ use Rattle.hb_boxlock.specs.Locking.{Excludes}
 use Rattle.hb_core.specs.Locking.{LocksOut}
 use Rattle.hb_core.specs.Machines.{Machine}
 use Rattle.hb_core.specs.SteppingLaws.{IsAtRest}
-use Rattle.hb_core.specs.WaitingLaws.{IsAtWork, IsKeptBack, IsKeptWaiting, IsUnderWay, LockHoldersWork, SomebodyUnderWayGoesOn}
+use Rattle.hb_core.specs.WaitingLaws.{HasWorkLeft, IsKeptBack, IsKeptWaiting, IsUnderWay, LockHoldersWork, SomebodyUnderWayGoesOn}
 
 locked_works : (activity : Activity) (lock : BoxLock) → IsSomeAnd (lock_of activity) (Excludes lock) → ¬ (IsAtRest activity)
 locked_works (at.SessionWalk line held rest found) lock out rests = rests
@@ -24,13 +24,13 @@ locked_works (at.SessionSplit line held) lock out rests = rests
 locked_works (at.SessionPut line source fresh) lock out rests = rests
 locked_works activity lock out rests = absurd out
 
-pub holder_works : (m : Machine) (actor other : ℕ) (lock : BoxLock) → HasNobodyElse m → LocksOut m actor lock other → IsAtWork m other
+pub holder_works : (m : Machine) (actor other : ℕ) (lock : BoxLock) → HasNobodyElse m → LocksOut m actor lock other → HasWorkLeft m other
 holder_works m actor other lock nobody out = elim (may_or_not other) [
   | inl may ↦ (may, locked_works (m.activity other) lock out.excluded)
   | inr none ↦ absurd (subst (λ (a : Activity). IsSomeAnd (lock_of a) (Excludes lock)) (nobody other none) out.excluded)
 ]
 
-awaits_holder : (m : Machine) (actor other : ℕ) (next : Option Line) → HasNobodyElse m → IsSomeAnd next (λ line. LocksOut m actor (lock_of_command line.command) other) → IsAtWork m other
+awaits_holder : (m : Machine) (actor other : ℕ) (next : Option Line) → HasNobodyElse m → IsSomeAnd next (λ line. LocksOut m actor (lock_of_command line.command) other) → HasWorkLeft m other
 awaits_holder m actor other None nobody none = absurd none
 awaits_holder m actor other (Some line) nobody out = holder_works m actor other (lock_of_command line.command) nobody out
 
@@ -42,14 +42,14 @@ idle_wants_none : (m : Machine) (actor by : ℕ) → m.activity actor ≡ at.Ses
 idle_wants_none m actor by idle way = subst (λ (a : Activity). IsSomeAnd (wanted_of a m.store.meta (looked_live m.store a)) (λ wanted. IsLeastInTheWay m.latches actor wanted.page wanted.mode by)) idle way
 
 -- one at work isn't kept back by a box
-works_by_latch : (m : Machine) (actor : ℕ) → IsAtWork m actor → IsKeptBack m actor → IsKeptWaiting m actor
+works_by_latch : (m : Machine) (actor : ℕ) → HasWorkLeft m actor → IsKeptBack m actor → IsKeptWaiting m actor
 works_by_latch m actor works (inl kept) = kept
 works_by_latch m actor works (inr (by, awaits)) = absurd (works.1 (subst IsAtRest (sym awaits.idle) tt))
 
 pub somebody_under_way_goes_on : SomebodyUnderWayGoesOn
 somebody_under_way_goes_on m files actor fit has nobody none_else walks under kept = by_kind under
   where
-    stuck : (other : ℕ) → IsAtWork m other → ⊥
+    stuck : (other : ℕ) → HasWorkLeft m other → ⊥
     stuck other works = somebody_goes_on m files other fit has nobody none_else walks works (λ one busy. works_by_latch m one busy (kept one (inl busy)))
 
     by_kept : m.activity actor ≡ at.SessionIdle → IsKeptBack m actor → ⊥

@@ -13,7 +13,7 @@ use Rattle.hb_core.specs.Keeps.{HasNoOtherLatches, HasNobodyElse, HasSoundFile, 
 use Rattle.hb_core.specs.Machines.{Files, Machine, current_file}
 use Rattle.hb_core.specs.Performing.{latches_held, mode_among}
 use Rattle.hb_core.specs.SteppingLaws.{IsAtRest}
-use Rattle.hb_core.specs.WaitingLaws.{ComesLater, IsAtWork, IsKeptWaiting, SomebodyGoesOn}
+use Rattle.hb_core.specs.WaitingLaws.{ComesLater, HasWorkLeft, IsKeptWaiting, SomebodyGoesOn}
 use Rattle.hb_latch.specs.Tables.{IsLeastInTheWay, mode_at}
 use Rattle.hb_ops.specs.Files.{live_page}
 use Rattle.hb_space.specs.Boxes.{volume}
@@ -28,9 +28,9 @@ rests_free st at.Flusher page mode rests holds = cc
 rests_free st activity page mode rests holds = absurd rests
 
 module _ (m : Machine) (files : Files) (fit : LatchesFit m) (has : HasSoundFile m files) (nobody : HasNobodyElse m) (none_else : HasNoOtherLatches m) (walks : WalksInSpace m)
-    (kept : (other : ℕ) → IsAtWork m other → IsKeptWaiting m other) where
+    (kept : (other : ℕ) → HasWorkLeft m other → IsKeptWaiting m other) where
   -- who is in the way is at work
-  holder_works : (actor page : ℕ) (mode : Mode) → mode_at m.latches actor page ≡ Some mode → IsAtWork m actor
+  holder_works : (actor page : ℕ) (mode : Mode) → mode_at m.latches actor page ≡ Some mode → HasWorkLeft m actor
   holder_works actor page mode holds = elim (may_or_not actor) [
     | inl may ↦ (may, λ rests. rests_free m.store (m.activity actor) page mode rests (sym (fit.exact actor page may) ∙ holds))
     | inr none ↦ let nothing : None ≡ Some mode = sym (none_else actor page none) ∙ holds in cc
@@ -39,7 +39,7 @@ module _ (m : Machine) (files : Files) (fit : LatchesFit m) (has : HasSoundFile 
   record IsKeptBy (actor : ℕ) : Type 0 where
     pub other : ℕ
     pub waits : AwaitsLatch m actor other
-    pub works : IsAtWork m other
+    pub works : HasWorkLeft m other
 
   kept_by : (actor by : ℕ) (wants : Option Wanted) → wanted_by m actor ≡ wants → IsSomeAnd wants (λ wanted. IsLeastInTheWay m.latches actor wanted.page wanted.mode by) → IsKeptBy actor
   kept_by actor by None is never = absurd never
@@ -47,7 +47,7 @@ module _ (m : Machine) (files : Files) (fit : LatchesFit m) (has : HasSoundFile 
       let held = held_there (mode_at m.latches by wanted.page) wanted.mode least.keeps.conflict in
       record { other = by; waits = record { wanted = wanted; wants_it = is; kept = least.keeps }; works = holder_works by wanted.page held.0 held.1 }
 
-  keeps_it : (actor : ℕ) → IsAtWork m actor → IsKeptBy actor
+  keeps_it : (actor : ℕ) → HasWorkLeft m actor → IsKeptBy actor
   keeps_it actor works = let one = kept actor works in kept_by actor one.0 (wanted_by m actor) refl one.1
 
   -- Two waits on, somebody at work wants a page that comes later.
@@ -55,10 +55,10 @@ module _ (m : Machine) (files : Files) (fit : LatchesFit m) (has : HasSoundFile 
     pub actor : ℕ
     pub its : Wanted
     pub wants : wanted_by m actor ≡ Some its
-    pub works : IsAtWork m actor
+    pub works : HasWorkLeft m actor
     pub later : ComesLater (current_file files) wanted.page its.page
 
-  two_on : (actor : ℕ) (wanted : Wanted) → wanted_by m actor ≡ Some wanted → IsAtWork m actor → GoesOn wanted
+  two_on : (actor : ℕ) (wanted : Wanted) → wanted_by m actor ≡ Some wanted → HasWorkLeft m actor → GoesOn wanted
   two_on actor wanted wants works =
       let first = keeps_it actor works in
       let second = keeps_it first.other first.works in
@@ -77,10 +77,10 @@ module _ (m : Machine) (files : Files) (fit : LatchesFit m) (has : HasSoundFile 
 
   -- nobody stands so at a page of a level below this one, and none of this level whose box holds fewer points
   abbrev StuckBelow : ℕ → Type 0
-  StuckBelow level = (actor : ℕ) (wanted : Wanted) (page : LivePage) → wanted_by m actor ≡ Some wanted → IsAtWork m actor → live_page (current_file files) wanted.page ≡ Some page → page.level < level → ⊥
+  StuckBelow level = (actor : ℕ) (wanted : Wanted) (page : LivePage) → wanted_by m actor ≡ Some wanted → HasWorkLeft m actor → live_page (current_file files) wanted.page ≡ Some page → page.level < level → ⊥
 
   abbrev StuckWithin : ℕ → ℕ → Type 0
-  StuckWithin level points = (actor : ℕ) (wanted : Wanted) (page : LivePage) → wanted_by m actor ≡ Some wanted → IsAtWork m actor → live_page (current_file files) wanted.page ≡ Some page → page.level ≡ level → volume page.area < points → ⊥
+  StuckWithin level points = (actor : ℕ) (wanted : Wanted) (page : LivePage) → wanted_by m actor ≡ Some wanted → HasWorkLeft m actor → live_page (current_file files) wanted.page ≡ Some page → page.level ≡ level → volume page.area < points → ⊥
 
   within : (level : ℕ) → StuckBelow level → (points : ℕ) → StuckWithin level points
   within level below zero actor wanted page wants works live on few = absurd (omega (arith, few))
@@ -99,7 +99,7 @@ module _ (m : Machine) (files : Files) (fit : LatchesFit m) (has : HasSoundFile 
   below_all (suc level) actor wanted page wants works live lt =
       within page.level (λ a w p x y z less. below_all level a w p x y z (omega (arith, less, lt))) (suc (volume page.area)) actor wanted page wants works live refl (omega arith)
 
-  nobody_stuck : (actor : ℕ) → IsAtWork m actor → ⊥
+  nobody_stuck : (actor : ℕ) → HasWorkLeft m actor → ⊥
   nobody_stuck actor works =
       let first = keeps_it actor works in
       let next = two_on actor first.waits.wanted first.waits.wants_it works in

@@ -43,7 +43,7 @@ use Rattle.hb_core.specs.Performing.{Performs, outcome_of}
 use Rattle.hb_core.specs.ProgressLaws.{GoesForward, GoesOnNow, HasSomethingLeft, SomebodyGoesOnNow}
 use Rattle.hb_core.specs.SteppingLaws.{IsAtRest}
 use Rattle.hb_core.specs.Steps.{AwaitsPlace, BeginsLine, StepsAs, StepsTo, TakesJobToMerge, TakesPosting, Works}
-use Rattle.hb_core.specs.WaitingLaws.{IsAtWork, IsKeptWaiting}
+use Rattle.hb_core.specs.WaitingLaws.{HasWorkLeft, IsKeptWaiting}
 
 -- ---- whether an actor rests, and whether it is kept waiting
 
@@ -113,10 +113,10 @@ module _ (m : Machine) (none_else : HasNoOtherLatches m) where
   -- ---- of the actors at work one isn't kept waiting, unless all are
 
   record IsFree (actor : ℕ) : Type 0 where
-    pub works : IsAtWork m actor
+    pub works : HasWorkLeft m actor
     pub free : HasWayFree m actor
 
-  works_or_not : (actor : ℕ) → IsAtWork m actor ⊎ (¬ (IsAtWork m actor))
+  works_or_not : (actor : ℕ) → HasWorkLeft m actor ⊎ (¬ (HasWorkLeft m actor))
   works_or_not actor = elim (may_or_not actor) [
     | inl may ↦ elim (rests_or_not (m.activity actor)) [
       | inl rests ↦ inr (λ works. works.1 rests)
@@ -125,7 +125,7 @@ module _ (m : Machine) (none_else : HasNoOtherLatches m) where
     | inr outside ↦ inr (λ works. outside works.0)
   ]
 
-  one_more : (n : ℕ) → IsFree n ⊎ (IsAtWork m n → IsKeptWaiting m n)
+  one_more : (n : ℕ) → IsFree n ⊎ (HasWorkLeft m n → IsKeptWaiting m n)
   one_more n = elim (free_or_kept n) [
     | inr kept ↦ inr (λ works. kept)
     | inl free ↦ elim (works_or_not n) [
@@ -134,7 +134,7 @@ module _ (m : Machine) (none_else : HasNoOtherLatches m) where
     ]
   ]
 
-  first_free : (n : ℕ) → ((actor : ℕ) × IsFree actor) ⊎ ((other : ℕ) → other < n → IsAtWork m other → IsKeptWaiting m other)
+  first_free : (n : ℕ) → ((actor : ℕ) × IsFree actor) ⊎ ((other : ℕ) → other < n → HasWorkLeft m other → IsKeptWaiting m other)
   first_free zero = inr (λ other lt works. absurd (omega (arith, lt)))
   first_free (suc n) = elim (first_free n) [
     | inl found ↦ inl found
@@ -142,7 +142,7 @@ module _ (m : Machine) (none_else : HasNoOtherLatches m) where
       | inl free ↦ inl (n, free)
       | inr waits ↦ inr (λ other lt works. elim (below_or_at other n lt) [
         | inl below ↦ kept other below works
-        | inr is ↦ subst (IsKeptWaiting m) (sym is) (waits (subst (IsAtWork m) is works))
+        | inr is ↦ subst (IsKeptWaiting m) (sym is) (waits (subst (HasWorkLeft m) is works))
       ])
     ]
   ]
@@ -260,7 +260,7 @@ module _ (n : RecordSet) (m : Machine) (files : Files) (keeps : CoreKeeps n m fi
   rests_as actor rests = idle_so (m.activity actor) rests ∙ ap idle_of (keeps.kept.classes actor)
 
   -- somebody at work goes on, or nobody is at work
-  works_or_none : Somebody ⊎ ((actor : ℕ) → ¬ (IsAtWork m actor))
+  works_or_none : Somebody ⊎ ((actor : ℕ) → ¬ (HasWorkLeft m actor))
   works_or_none = elim (first_free m keeps.kept.no_other_latches 20) [
     | inl (free, is) ↦ inl (
       free,
@@ -274,14 +274,14 @@ module _ (n : RecordSet) (m : Machine) (files : Files) (keeps : CoreKeeps n m fi
         (λ other busy. let last = busy.0.to_19 in kept other (omega (arith, last)) busy))
   ]
 
-  at_work : (actor : ℕ) → IsAtWork m actor → Somebody
+  at_work : (actor : ℕ) → HasWorkLeft m actor → Somebody
   at_work actor works = elim works_or_none [ inl somebody ↦ somebody | inr none ↦ absurd (none actor works) ]
 
   -- where nobody is at work, nobody has a box locked
-  all_free : ((actor : ℕ) → ¬ (IsAtWork m actor)) → (actor : ℕ) (lock : BoxLock) → HasBoxFree m actor lock
+  all_free : ((actor : ℕ) → ¬ (HasWorkLeft m actor)) → (actor : ℕ) (lock : BoxLock) → HasBoxFree m actor lock
   all_free none actor lock other out = none other (holder_works m actor other lock keeps.kept.nobody_else out)
 
-  idle_takes : (actor : ℕ) → IsActor actor → m.activity actor ≡ at.SessionIdle → IsSome (next_line actor m.answered m.lines) → ((other : ℕ) → ¬ (IsAtWork m other)) → Somebody
+  idle_takes : (actor : ℕ) → IsActor actor → m.activity actor ≡ at.SessionIdle → IsSome (next_line actor m.answered m.lines) → ((other : ℕ) → ¬ (HasWorkLeft m other)) → Somebody
   idle_takes actor may idle some none =
       (actor, record { may = may; to_do = inr (inl (idle, some)); forward = λ outcome new step. next_forward m actor outcome new (all_free none actor) _ some (as_idle actor at.SessionIdle idle outcome new step) })
 
