@@ -13,7 +13,7 @@ use Rattle.hb_consol.specs.Asks.{HoldsBoth, MayAskToMerge}
 use Rattle.hb_lemmas.proofs.Options.{at_value}
 use Rattle.hb_store.specs.States.{StoreState}
 use Rattle.hb_core.proofs.Walks.AtHand.{own_there}
-use Rattle.hb_core.proofs.Walks.MayAskToMerge.{pages_at_hand_fit, walks_stay_inside}
+use Rattle.hb_core.proofs.Walks.MayBeAsked.{pages_at_hand_fit, walks_stay_inside}
 use Rattle.hb_core.proofs.Walks.MergesKept.{PlaceStays, names_still, place_latched}
 use Rattle.hb_core.proofs.Walks.WalkingWorkers.{walk_wants_above}
 use Rattle.hb_core.specs.AllowedLaws.{AnyPage}
