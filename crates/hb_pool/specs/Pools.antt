@@ -1,0 +1,45 @@
+-- A pool is its frames in the order of use, the least recently used first.
+use Rattle.std.specs.Prelude.{ℕ, ◌-◌, ◌≤◌, Bool, nat_lt, cond, Option, List, [], ◌∷◌, ◌++◌, length, map, count_by, find}
+use Rattle.std.specs.List.{All}
+use Rattle.std.specs.Option.{option_to_list}
+use Rattle.std.specs.Set.{remove_key}
+use Rattle.hb_pool.specs.declared.pools.TheConstants.{FRAMES}
+use Rattle.hb_pool.specs.Frames.{Frame, has_id, must_stay, may_go, fresh}
+
+-- the page's frame, where it is in one
+abbrev pub frame_of : List Frame → ℕ → Option Frame
+frame_of pool id = find (has_id id) pool
+
+-- how many frames are empty, or clean and not pinned
+abbrev pub places : List Frame → ℕ
+places pool = FRAMES - count_by must_stay pool
+
+-- the page's frame is changed and stands last in the order; the others stay, in their order
+abbrev pub put_last : ℕ → (Frame → Frame) → List Frame → List Frame
+put_last id change pool = remove_key (has_id id) pool ++ map change (option_to_list (frame_of pool id))
+
+-- the first of a list that passes a test is changed; all else stays
+abbrev pub change_first : {X : Type 0} → (X → Bool) → (X → X) → List X → List X
+change_first test change [] = []
+change_first test change (x ∷ xs) = cond (test x) (change x ∷ xs) (x ∷ change_first test change xs)
+
+-- the page's frame is changed where it stands; all else stays
+abbrev pub in_place : ℕ → (Frame → Frame) → List Frame → List Frame
+in_place id change pool = change_first (has_id id) change pool
+
+-- the frames that stay where one is to be empty: all where one is, else all but the first one that is clean and not pinned
+abbrev pub with_room : List Frame → List Frame
+with_room pool = cond (nat_lt (length pool) FRAMES) pool (remove_key may_go pool)
+
+-- the page came in: its frame stands last in the order
+abbrev pub brought : ℕ → List ℕ → Bool → List Frame → List Frame
+brought id bytes dirty pool = with_room pool ++ fresh id bytes dirty ∷ []
+
+-- what is so of each pool
+pub record IsPool (pool : List Frame) : Type 0 where
+  -- it has at most 128 frames
+  pub few : length pool ≤ FRAMES
+  -- no two have one page
+  pub distinct : (id : ℕ) → count_by (has_id id) pool ≤ 1
+  -- each is pinned at most 255 times
+  pub pins : All (λ f. f.pins ≤ 255) pool
