@@ -138,3 +138,9 @@ module _ {X : Type 0} (p : X → Bool) where
 
   pub left_there : (xs seen : List X) (i : ℕ) → seen ≡ xs → i ≡ position_or_len p seen → remove xs i ≡ remove_key p xs
   left_there xs seen i same at = ap (remove xs) (at ∙ ap (position_or_len p) same) ∙ remove_first xs
+
+  pub changed_there : (change : X → X) (xs seen : List X) (i : ℕ) (x y : X) → seen ≡ xs → i ≡ position_or_len p seen → IsSome (find p xs) → x ≡ get_or xs i x → y ≡ change x → set xs i y ≡ change_first p change xs
+  changed_there change xs seen i x y same at there taken new =
+      let is = taken_there xs seen i x same at there taken in
+      let place : i ≡ position_or_len p xs = at ∙ ap (position_or_len p) same in
+      ap (set xs i) (new ∙ ap change taken) ∙ ap (λ n. set xs n (change (get_or xs n x))) place ∙ set_first change xs x (first_within xs x is)

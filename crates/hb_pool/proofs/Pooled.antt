@@ -1,34 +1,57 @@
 -- What a pool keeps is kept where a page's frame is put last, is changed in its place, or comes in.
-use Rattle.std.proofs.Common.{◌≡◌, ℕ, ◌+◌, ◌-◌, ◌<◌, ◌≤◌, ◌==◌, nat_lt, Bool, true, false, not, ◌||◌, cond, List, [], ◌∷◌, ◌++◌, length, All, map, Option, Some, None, IsSome, refl, sym, ap, subst, ◌∙◌, arith, length-append}
-use Rattle.std.specs.List.{find, count_by}
+use Rattle.std.proofs.Common.{◌≡◌, ℕ, ◌+◌, ◌-◌, ◌<◌, ◌≤◌, ◌==◌, nat_lt, Bool, true, false, not, ◌||◌, cond, List, [], ◌∷◌, ◌++◌, length, All, map, Option, Some, None, IsSome, refl, sym, ap, subst, ◌∙◌, arith, length-append, ne_eqb}
+use Rattle.std.specs.List.{find, count_by, position_or_len}
 use Rattle.std.specs.Option.{IsSomeAnd, option_to_list}
 use Rattle.std.specs.Set.{remove_key}
-use Rattle.std.proofs.lemmas.Bool.{cases_Bool, false≢true}
 use Rattle.std.proofs.lemmas.List.Elements.{All-append, All-nil}
-use Rattle.std.proofs.lemmas.List.Sums.{sum_by_push, count_by-le-length}
+use Rattle.std.proofs.lemmas.List.Sums.{sum_by_push}
 use Rattle.std.proofs.lemmas.Map.Views.{All-remove_key}
-use Rattle.hb_lemmas.proofs.Booleans.{if_below}
+use Rattle.hb_lemmas.proofs.Booleans.{if_below, if_same}
 use Rattle.hb_lemmas.proofs.Lists.{All-alone}
 use Rattle.hb_lemmas.proofs.Options.{some_value}
 use Rattle.hb_pool.specs.declared.pools.TheConstants.{FRAMES}
 use Rattle.hb_pool.specs.Frames.{Frame, has_id, must_stay, may_go, fresh}
-use Rattle.hb_pool.specs.Pools.{frame_of, put_last, in_place, with_room, brought, places, IsPool}
+use Rattle.hb_pool.specs.Pools.{frame_of, in_place, with_room, places, IsPool}
 use Rattle.hb_pool.specs.Kept.{PoolKeeps}
-use Rattle.hb_pool.proofs.Firsts.{first_passes, length_without, count_without, length_changed, count_changed, All-changed, some_fails, none_counted}
+use Rattle.hb_pool.proofs.Firsts.{first_passes, first_there, first_within, length_without, count_without, length_changed, count_changed, All-changed, some_fails, none_counted}
 
--- a value with what is said of it
-pub some_and : {X : Type 0} (o : Option X) (P : X → Type 0) → IsSomeAnd o P → (x : X) × (o ≡ Some x) × P x
-some_and None P h = absurd h
-some_and (Some x) P h = (x, refl, h)
+-- what is said of a value that is there
+pub some_of_and : {X : Type 0} (o : Option X) (P : X → Type 0) → IsSomeAnd o P → IsSome o
+some_of_and None P h = absurd h
+some_of_and (Some x) P h = refl
+
+pub at_some_and : {X : Type 0} (o : Option X) (P : X → Type 0) (x : X) → o ≡ Some x → IsSomeAnd o P → P x
+at_some_and {X = X} o P x is h = let Q : Option X → Type 0 = λ v. IsSomeAnd v P in subst Q is h
 
 -- one for a test that passes, and none for the other way round
-pub one_way : (b : Bool) → cond (not b) 1 0 + cond b 1 0 ≡ 1
+one_way : (b : Bool) → cond (not b) 1 0 + cond b 1 0 ≡ 1
 one_way true = refl
 one_way false = refl
 
--- a page's frame, and the list that is left where it is put last
-pub put_last_is : (pool : List Frame) (id : ℕ) (change : Frame → Frame) (f : Frame) → frame_of pool id ≡ Some f → put_last id change pool ≡ remove_key (has_id id) pool ++ change f ∷ []
-put_last_is pool id change f is = ap (λ o. remove_key (has_id id) pool ++ map change (option_to_list o)) is
+one_at_most : (b : Bool) → cond b 1 0 ≤ 1
+one_at_most true = omega arith
+one_at_most false = omega arith
+
+-- a frame that is pinned, or dirty, must stay
+pub pinned_stays : (f : Frame) → 0 < f.pins → must_stay f ≡ true
+pinned_stays f some =
+    let apart : f.pins ≡ 0 → ⊥ = λ e. omega arith in
+    elim f.dirty as (λ b. (b || not (f.pins == 0)) ≡ true) [
+      | true ↦ refl
+      | false ↦ ap not (ne_eqb f.pins 0 apart)
+    ]
+
+pub dirty_stays : (f : Frame) → f.dirty ≡ true → must_stay f ≡ true
+dirty_stays f is = ap (λ b. b || not (f.pins == 0)) is
+
+-- and one that may go needn't
+free_needs_none : (b : Bool) → not b ≡ true → b ≡ false
+free_needs_none true e = absurd cc
+free_needs_none false e = refl
+
+or_false : (b : Bool) → (b || not (0 == 0)) ≡ b
+or_false true = refl
+or_false false = refl
 
 count_push : (q : Frame → Bool) (xs : List Frame) (f : Frame) → count_by q (xs ++ f ∷ []) ≡ count_by q xs + cond (q f) 1 0
 count_push q xs f = sum_by_push (λ (y : Frame). cond (q y) 1 0) xs f
@@ -36,6 +59,8 @@ count_push q xs f = sum_by_push (λ (y : Frame). cond (q y) 1 0) xs f
 -- frames whose numbers are the same count the same
 same_ids : (k : ℕ) (f g : Frame) → f.id ≡ g.id → cond {A = ℕ} (has_id k f) 1 0 ≡ cond (has_id k g) 1 0
 same_ids k f g e = ap (λ (i : ℕ). cond {A = ℕ} (i == k) 1 0) e
+
+-- ---- pools
 
 pub empty_pool : IsPool []
 empty_pool = record { few = omega arith; distinct = λ id. omega arith; pins = All-nil (λ f. f.pins ≤ 255) }
@@ -59,34 +84,134 @@ in_place_pool pool id change f is same few_pins old = record {
   pins = All-changed (has_id id) (λ h. h.pins ≤ 255) change pool f is old.pins few_pins;
 }
 
--- one for a page that is put last, and so must stay
-pub kept_last : (pool : List Frame) (room spare held : ℕ) (id : ℕ) (f g : Frame) → frame_of pool id ≡ Some f → g.id ≡ f.id → g.pins ≤ 255 → must_stay g ≡ true → PoolKeeps pool room spare held → PoolKeeps (remove_key (has_id id) pool ++ g ∷ []) room spare (held + cond (not (must_stay f)) 1 0)
-kept_last pool room spare held id f g is same few_pins stays old =
+-- a page's frame is pinned as seldom as any
+pub frame_pins : (pool : List Frame) (id : ℕ) (f : Frame) → IsPool pool → frame_of pool id ≡ Some f → f.pins ≤ 255
+frame_pins pool id f old is = subst (λ (h : Frame). h.pins ≤ 255) (first_there (has_id id) pool f f is) (old.pins (position_or_len (has_id id) pool) f (first_within (has_id id) pool f is))
+
+-- ---- what is kept
+
+-- a page that is put last, and must stay there
+pub kept_last : (pool items : List Frame) (room taken spare held one : ℕ) (id : ℕ) (f g : Frame) → PoolKeeps pool room spare held → frame_of pool id ≡ Some f → items ≡ remove_key (has_id id) pool ++ g ∷ [] → taken ≡ room → one ≡ cond (not (must_stay f)) 1 0 → g.id ≡ f.id → g.pins ≤ 255 → must_stay g ≡ true → PoolKeeps items taken spare (held + one)
+kept_last pool items room taken spare held one id f g old is new same_room counts same few_pins stays =
     let rest = remove_key (has_id id) pool in
     let long = length_without (has_id id) pool f is in
-    let joined = length-append rest (g ∷ []) in
+    let joined : length items ≡ length rest + 1 = ap length new ∙ length-append rest (g ∷ []) in
     record {
-      pool = put_last_pool pool id f g is same few_pins old.pool;
+      pool = subst IsPool (sym new) (put_last_pool pool id f g is same few_pins old.pool);
       blocks = let all = old.blocks in omega (arith, long, joined, all);
-      taken = old.taken;
+      taken = same_room ∙ old.taken;
       counted =
           let counted = old.counted in
           let less = count_without (has_id id) must_stay pool f is in
-          let more : count_by must_stay (rest ++ g ∷ []) ≡ count_by must_stay rest + 1 = count_push must_stay rest g ∙ ap (λ b. count_by must_stay rest + cond b 1 0) stays in
-          let one = one_way (must_stay f) in
-          omega (arith, counted, less, more, one);
+          let more : count_by must_stay items ≡ count_by must_stay rest + 1 = ap (count_by must_stay) new ∙ count_push must_stay rest g ∙ ap (λ b. count_by must_stay rest + cond b 1 0) stays in
+          let other = one_way (must_stay f) in
+          omega (arith, counted, less, more, counts, other);
     }
 
--- a frame that had to stay, and is changed in its place so that it may go or not
-pub kept_changed : (pool : List Frame) (room spare held : ℕ) (id : ℕ) (change : Frame → Frame) (f : Frame) → frame_of pool id ≡ Some f → (change f).id ≡ f.id → (change f).pins ≤ 255 → must_stay f ≡ true → PoolKeeps pool room spare held → PoolKeeps (in_place id change pool) room spare (held - cond (not (must_stay (change f))) 1 0)
-kept_changed pool room spare held id change f is same few_pins stayed old = record {
-  pool = in_place_pool pool id change f is same few_pins old.pool;
-  blocks = let long = length_changed (has_id id) change pool f is in let all = old.blocks in omega (arith, long, all);
+-- its room, once it is taken out
+pub room_to_put : (pool rest : List Frame) (room spare held id : ℕ) (f : Frame) → PoolKeeps pool room spare held → frame_of pool id ≡ Some f → rest ≡ remove_key (has_id id) pool → length rest < room
+room_to_put pool rest room spare held id f old is left =
+    let long = length_without (has_id id) pool f is in
+    let same : length rest ≡ length (remove_key (has_id id) pool) = ap length left in
+    let few = old.pool.few in
+    let taken = old.taken in
+    omega (arith, long, same, few, taken)
+
+-- a frame that had to stay, changed in its place: it may go now, or not
+pub kept_changed : (pool items : List Frame) (room spare held one : ℕ) (id : ℕ) (change : Frame → Frame) (f : Frame) → PoolKeeps pool room spare held → frame_of pool id ≡ Some f → items ≡ in_place id change pool → one ≡ cond (not (must_stay (change f))) 1 0 → (change f).id ≡ f.id → (change f).pins ≤ 255 → must_stay f ≡ true → PoolKeeps items room spare (held - one)
+kept_changed pool items room spare held one id change f old is new counts same few_pins stayed = record {
+  pool = subst IsPool (sym new) (in_place_pool pool id change f is same few_pins old.pool);
+  blocks = let long : length items ≡ length pool = ap length new ∙ length_changed (has_id id) change pool f is in let all = old.blocks in omega (arith, long, all);
   taken = old.taken;
   counted =
       let counted = old.counted in
-      let moved = count_changed (has_id id) must_stay change pool f is in
+      let moved : count_by must_stay items + cond (must_stay f) 1 0 ≡ count_by must_stay pool + cond (must_stay (change f)) 1 0 = ap (λ xs. count_by must_stay xs + cond (must_stay f) 1 0) new ∙ count_changed (has_id id) must_stay change pool f is in
       let was : cond {A = ℕ} (must_stay f) 1 0 ≡ 1 = ap (λ b. cond {A = ℕ} b 1 0) stayed in
-      let one = one_way (must_stay (change f)) in
-      omega (arith, counted, moved, was, one);
+      let other = one_way (must_stay (change f)) in
+      omega (arith, counted, moved, was, counts, other);
 }
+
+-- such a frame is counted
+pub one_fits : (pool : List Frame) (room spare held one : ℕ) (id : ℕ) (f : Frame) (b : Bool) → PoolKeeps pool room spare held → frame_of pool id ≡ Some f → must_stay f ≡ true → one ≡ cond b 1 0 → one ≤ held
+one_fits pool room spare held one id f b old is stayed counts =
+    let counted = old.counted in
+    let less = count_without (has_id id) must_stay pool f is in
+    let was : cond {A = ℕ} (must_stay f) 1 0 ≡ 1 = ap (λ b. cond {A = ℕ} b 1 0) stayed in
+    let most = one_at_most b in
+    omega (arith, counted, less, was, counts, most)
+
+-- ---- a page that comes in
+
+-- one may go where there is a place, and no frame is empty
+pub room_there : (pool : List Frame) (room spare held : ℕ) → PoolKeeps pool room spare held → 0 < places pool → spare ≡ 0 → IsSome (find may_go pool)
+room_there pool room spare held old place none = let all = old.blocks in some_fails must_stay pool (omega arith)
+
+-- what is left for it
+record IsLeft (pool left : List Frame) (spare : ℕ) : Type 0 where
+  long : length left + 1 + (spare - 1) ≡ FRAMES
+  fewer : (q : Frame → Bool) → count_by q left ≤ count_by q pool
+  stays : count_by must_stay left ≡ count_by must_stay pool
+  pins : All (λ f. f.pins ≤ 255) left
+
+left_over : (pool : List Frame) (room spare held : ℕ) → PoolKeeps pool room spare held → 0 < places pool → IsLeft pool (cond (nat_lt 0 spare) pool (remove_key may_go pool)) spare
+left_over pool room spare held old place =
+    let all = old.blocks in
+    if_below 0 spare (λ b. IsLeft pool (cond b pool (remove_key may_go pool)) spare)
+    (λ some. record { long = omega arith; fewer = λ q. omega arith; stays = refl; pins = old.pool.pins })
+    (λ none.
+      let first = some_value (find may_go pool) (room_there pool room spare held old place (omega arith)) in
+      let long = length_without may_go pool first.0 first.1 in
+      let free = free_needs_none (must_stay first.0) (first_passes may_go pool first.0 first.1) in
+      let less = count_without may_go must_stay pool first.0 first.1 in
+      let gone : cond {A = ℕ} (must_stay first.0) 1 0 ≡ 0 = ap (λ b. cond {A = ℕ} b 1 0) free in
+      record {
+        long = omega (arith, long, all, none);
+        fewer = λ q. let counted = count_without may_go q pool first.0 first.1 in omega (arith, counted);
+        stays = omega (arith, less, gone);
+        pins = All-remove_key may_go (λ f. f.pins ≤ 255) pool old.pool.pins;
+      })
+
+-- a frame is empty exactly where there is a block to spare
+pub same_room : (pool : List Frame) (room spare held : ℕ) → PoolKeeps pool room spare held → cond (nat_lt 0 spare) pool (remove_key may_go pool) ≡ with_room pool
+same_room pool room spare held old =
+    let all = old.blocks in
+    if_below 0 spare (λ b. cond b pool (remove_key may_go pool) ≡ with_room pool)
+    (λ some. if_below (length pool) FRAMES (λ b. pool ≡ cond b pool (remove_key may_go pool)) (λ lt. refl) (λ le. absurd (omega arith)))
+    (λ none. if_below (length pool) FRAMES (λ b. remove_key may_go pool ≡ cond b pool (remove_key may_go pool)) (λ lt. absurd (omega arith)) (λ le. refl))
+
+pub room_to_bring : (pool left : List Frame) (room spare held : ℕ) → PoolKeeps pool room spare held → 0 < places pool → left ≡ cond (nat_lt 0 spare) pool (remove_key may_go pool) → length left < room
+room_to_bring pool left room spare held old place made =
+    let long = (left_over pool room spare held old place).long in
+    let same : length left ≡ length (cond (nat_lt 0 spare) pool (remove_key may_go pool)) = ap length made in
+    let taken = old.taken in
+    omega (arith, long, same, taken)
+
+pub kept_brought : (pool left items : List Frame) (room taken spare spared held one : ℕ) (id : ℕ) (bytes : List ℕ) (dirty : Bool) → PoolKeeps pool room spare held → frame_of pool id ≡ None → 0 < places pool → left ≡ cond (nat_lt 0 spare) pool (remove_key may_go pool) → items ≡ left ++ fresh id bytes dirty ∷ [] → taken ≡ room → spared ≡ spare - 1 → one ≡ cond dirty 1 0 → PoolKeeps items taken spared (held + one)
+kept_brought pool left items room taken spare spared held one id bytes dirty old absent place made new same_room spares counts =
+    let g : Frame = fresh id bytes dirty in
+    let P : Frame → Type 0 = λ h. h.pins ≤ 255 in
+    let rest : IsLeft pool left spare = subst (λ xs. IsLeft pool xs spare) (sym made) (left_over pool room spare held old place) in
+    let long = rest.long in
+    let joined : length items ≡ length left + 1 = ap length new ∙ length-append left (g ∷ []) in
+    let pushed : (q : Frame → Bool) → count_by q items ≡ count_by q left + cond (q g) 1 0 = λ q. ap (count_by q) new ∙ count_push q left g in
+    record {
+      pool = record {
+        few = omega (arith, long, joined);
+        distinct = λ k.
+          let more = pushed (has_id k) in
+          let less = rest.fewer (has_id k) in
+          let most = old.pool.distinct k in
+          let none : count_by (has_id id) pool ≡ 0 = none_counted (has_id id) pool absent in
+          if_same id k (λ b. cond b 1 0 ≡ cond {A = ℕ} (has_id k g) 1 0 → count_by (has_id k) items ≤ 1)
+          (λ same one. let nothing : count_by (has_id k) pool ≡ 0 = subst (λ n. count_by (has_id n) pool ≡ 0) same none in omega (arith, more, less, nothing, one))
+          (λ other one. omega (arith, more, less, most, one)) refl;
+        pins = subst (All P) (sym new) (All-append P left (g ∷ []) rest.pins (All-alone P g (omega arith)));
+      };
+      blocks = omega (arith, long, joined, spares);
+      taken = same_room ∙ old.taken;
+      counted =
+          let counted = old.counted in
+          let same = rest.stays in
+          let more : count_by must_stay items ≡ count_by must_stay left + cond dirty 1 0 = pushed must_stay ∙ ap (λ b. count_by must_stay left + cond b 1 0) (or_false dirty) in
+          omega (arith, counted, same, more, counts);
+    }
