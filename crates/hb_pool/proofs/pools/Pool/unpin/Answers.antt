@@ -1,4 +1,4 @@
-use Rattle.std.proofs.Common.{ℕ, ◌-◌, ◌<◌, ◌≤◌, not, cond, ap, ◌∙◌, arith}
+use Rattle.std.proofs.Common.{ℕ, ◌-◌, ◌<◌, ◌≤◌, not, cond, refl, ap, ◌∙◌, arith}
 use Rattle.hb_pool.specs.Frames.{Frame, has_id, must_stay, unpinned}
 use Rattle.hb_pool.specs.Pools.{frame_of}
 use Rattle.hb_pool.proofs.Firsts.{place_within, taken_there, changed_there}
@@ -24,7 +24,7 @@ overflow_sub-self c =
     let there = some_of_and (frame_of c.self.inside.used.items c.args.id) (λ f. 0 < f.pins) asked in
     let is = taken_there (has_id c.args.id) _ _ _ _ c.as_slice.ensures.value c.place_of-place.ensures there c.index_mut-slot.ensures.value in
     let pins = at_some_and (frame_of c.self.inside.used.items c.args.id) (λ f. 0 < f.pins) c.index_mut-slot.result.now is asked in
-    one_fits _ _ _ _ _ _ _ _ c.self.invariant is (pinned_stays _ pins) c.one_if.ensures
+    one_fits _ _ _ _ _ _ _ _ c.self.invariant is (pinned_stays c.index_mut-slot.result.now pins) c.one_if.ensures
 
 pub invariant_of-self : goal.invariant_of-self
 invariant_of-self c =
@@ -36,7 +36,7 @@ invariant_of-self c =
     kept_changed _ _ _ _ _ _ c.args.id unpinned c.index_mut-slot.result.now c.self.invariant is
     (changed_there (has_id c.args.id) unpinned _ _ _ _ _ c.as_slice.ensures.value c.place_of-place.ensures there c.index_mut-slot.ensures.value c.unpin.ensures)
     (c.one_if.ensures ∙ ap (λ b. cond (not b) 1 0) (c.must_stay.ensures ∙ ap must_stay c.unpin.ensures))
-    refl (omega (arith, few)) (pinned_stays _ pins)
+    refl (omega (arith, few)) (pinned_stays c.index_mut-slot.result.now pins)
 
 pub returns : goal.returns
 returns c =
