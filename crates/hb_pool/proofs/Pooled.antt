@@ -9,9 +9,11 @@ use Rattle.std.proofs.lemmas.Map.Views.{All-remove_key}
 use Rattle.hb_lemmas.proofs.Booleans.{if_below, if_same}
 use Rattle.hb_lemmas.proofs.Lists.{All-alone}
 use Rattle.hb_lemmas.proofs.Options.{some_value}
+use Rattle.hb_space.specs.declared.form.TheConstants.{PAGE}
 use Rattle.hb_pool.specs.declared.pools.TheConstants.{FRAMES}
 use Rattle.hb_pool.specs.Frames.{Frame, has_id, must_stay, may_go, fresh}
-use Rattle.hb_pool.specs.Pools.{frame_of, in_place, with_room, places, IsPool}
+use Rattle.hb_pool.specs.Pools.{frame_of, put_last, in_place, with_room, brought, places, IsPool}
+use Rattle.hb_pool.specs.Laws.{StaysPool, StaysPoolWithAnother}
 use Rattle.hb_pool.specs.Kept.{PoolKeeps}
 use Rattle.hb_pool.proofs.Firsts.{first_passes, first_there, first_within, length_without, count_without, length_changed, count_changed, All-changed, some_fails, none_counted}
 
@@ -63,41 +65,106 @@ same_ids k f g e = ap (λ (i : ℕ). cond {A = ℕ} (i == k) 1 0) e
 -- ---- pools
 
 pub empty_pool : IsPool []
-empty_pool = record { few = omega arith; distinct = λ id. omega arith; pins = All-nil (λ f. f.pins ≤ 255) }
+empty_pool = record { few = omega arith; distinct = λ id. omega arith; pins = All-nil (λ f. f.pins ≤ 255); pages = All-nil (λ f. length f.bytes ≡ PAGE) }
 
-pub put_last_pool : (pool : List Frame) (id : ℕ) (f g : Frame) → frame_of pool id ≡ Some f → g.id ≡ f.id → g.pins ≤ 255 → IsPool pool → IsPool (remove_key (has_id id) pool ++ g ∷ [])
-put_last_pool pool id f g is same few_pins old =
+last_pool : (pool : List Frame) (id : ℕ) (f g : Frame) → IsPool pool → frame_of pool id ≡ Some f → g.id ≡ f.id → g.pins ≤ 255 → length g.bytes ≡ PAGE → IsPool (remove_key (has_id id) pool ++ g ∷ [])
+last_pool pool id f g old is same few_pins whole =
     let rest = remove_key (has_id id) pool in
-    let P : Frame → Type 0 = λ h. h.pins ≤ 255 in
     let long = length_without (has_id id) pool f is in
     let joined = length-append rest (g ∷ []) in
+    let P : Frame → Type 0 = λ h. h.pins ≤ 255 in
+    let Q : Frame → Type 0 = λ h. length h.bytes ≡ PAGE in
     record {
       few = let few = old.few in omega (arith, long, joined, few);
       distinct = λ k. let counted = count_without (has_id id) (has_id k) pool f is in let pushed = count_push (has_id k) rest g in let one = same_ids k g f same in let most = old.distinct k in omega (arith, counted, pushed, one, most);
       pins = All-append P rest (g ∷ []) (All-remove_key (has_id id) P pool old.pins) (All-alone P g few_pins);
+      pages = All-append Q rest (g ∷ []) (All-remove_key (has_id id) Q pool old.pages) (All-alone Q g whole);
     }
 
-pub in_place_pool : (pool : List Frame) (id : ℕ) (change : Frame → Frame) (f : Frame) → frame_of pool id ≡ Some f → (change f).id ≡ f.id → (change f).pins ≤ 255 → IsPool pool → IsPool (in_place id change pool)
-in_place_pool pool id change f is same few_pins old = record {
+pub put_last_pool : StaysPool put_last
+put_last_pool pool id change f old is same few_pins whole =
+    subst (λ o. IsPool (remove_key (has_id id) pool ++ map change (option_to_list o))) (sym is) (last_pool pool id f (change f) old is same few_pins whole)
+
+pub in_place_pool : StaysPool in_place
+in_place_pool pool id change f old is same few_pins whole = record {
   few = let long = length_changed (has_id id) change pool f is in let few = old.few in omega (arith, long, few);
   distinct = λ k. let counted = count_changed (has_id id) (has_id k) change pool f is in let one = same_ids k (change f) f same in let most = old.distinct k in omega (arith, counted, one, most);
   pins = All-changed (has_id id) (λ h. h.pins ≤ 255) change pool f is old.pins few_pins;
+  pages = All-changed (has_id id) (λ h. length h.bytes ≡ PAGE) change pool f is old.pages whole;
 }
+
+-- one may go where there is a place, and no frame is empty
+free_there : (pool : List Frame) → 0 < places pool → FRAMES ≤ length pool → IsSome (find may_go pool)
+free_there pool place all = some_fails must_stay pool (omega arith)
+
+-- what is left where a frame is to be empty
+record IsLeft (pool left : List Frame) : Type 0 where
+  long : length left + 1 + (FRAMES - length pool - 1) ≡ FRAMES
+  fewer : (q : Frame → Bool) → count_by q left ≤ count_by q pool
+  stays : count_by must_stay left ≡ count_by must_stay pool
+  pins : All (λ f. f.pins ≤ 255) left
+  pages : All (λ f. length f.bytes ≡ PAGE) left
+
+left_over : (pool : List Frame) → IsPool pool → 0 < places pool → IsLeft pool (with_room pool)
+left_over pool old place =
+    let few = old.few in
+    if_below (length pool) FRAMES (λ b. IsLeft pool (cond b pool (remove_key may_go pool)))
+    (λ some. record { long = omega arith; fewer = λ q. omega arith; stays = refl; pins = old.pins; pages = old.pages })
+    (λ none.
+      let first = some_value (find may_go pool) (free_there pool place none) in
+      let long = length_without may_go pool first.0 first.1 in
+      let free = free_needs_none (must_stay first.0) (first_passes may_go pool first.0 first.1) in
+      let less = count_without may_go must_stay pool first.0 first.1 in
+      let gone : cond {A = ℕ} (must_stay first.0) 1 0 ≡ 0 = ap (λ b. cond {A = ℕ} b 1 0) free in
+      record {
+        long = omega (arith, long, none, few);
+        fewer = λ q. let counted = count_without may_go q pool first.0 first.1 in omega (arith, counted);
+        stays = omega (arith, less, gone);
+        pins = All-remove_key may_go (λ f. f.pins ≤ 255) pool old.pins;
+        pages = All-remove_key may_go (λ f. length f.bytes ≡ PAGE) pool old.pages;
+      })
+
+pub brought_pool : StaysPoolWithAnother
+brought_pool pool id bytes dirty old absent place whole =
+    let g : Frame = fresh id bytes dirty in
+    let P : Frame → Type 0 = λ h. h.pins ≤ 255 in
+    let Q : Frame → Type 0 = λ h. length h.bytes ≡ PAGE in
+    let left = with_room pool in
+    let rest = left_over pool old place in
+    let long = rest.long in
+    let joined : length (left ++ g ∷ []) ≡ length left + 1 = length-append left (g ∷ []) in
+    record {
+      few = omega (arith, long, joined);
+      distinct = λ k.
+        let more = count_push (has_id k) left g in
+        let less = rest.fewer (has_id k) in
+        let most = old.distinct k in
+        let none : count_by (has_id id) pool ≡ 0 = none_counted (has_id id) pool absent in
+        if_same id k (λ b. cond b 1 0 ≡ cond {A = ℕ} (has_id k g) 1 0 → count_by (has_id k) (left ++ g ∷ []) ≤ 1)
+        (λ same one. let nothing : count_by (has_id k) pool ≡ 0 = subst (λ n. count_by (has_id n) pool ≡ 0) same none in omega (arith, more, less, nothing, one))
+        (λ other one. omega (arith, more, less, most, one)) refl;
+      pins = All-append P left (g ∷ []) rest.pins (All-alone P g (omega arith));
+      pages = All-append Q left (g ∷ []) rest.pages (All-alone Q g whole);
+    }
 
 -- a page's frame is pinned as seldom as any
 pub frame_pins : (pool : List Frame) (id : ℕ) (f : Frame) → IsPool pool → frame_of pool id ≡ Some f → f.pins ≤ 255
 frame_pins pool id f old is = subst (λ (h : Frame). h.pins ≤ 255) (first_there (has_id id) pool f f is) (old.pins (position_or_len (has_id id) pool) f (first_within (has_id id) pool f is))
 
+-- and has the bytes of a page
+pub frame_page : (pool : List Frame) (id : ℕ) (f : Frame) → IsPool pool → frame_of pool id ≡ Some f → length f.bytes ≡ PAGE
+frame_page pool id f old is = subst (λ (h : Frame). length h.bytes ≡ PAGE) (first_there (has_id id) pool f f is) (old.pages (position_or_len (has_id id) pool) f (first_within (has_id id) pool f is))
+
 -- ---- what is kept
 
 -- a page that is put last, and must stay there
-pub kept_last : (pool items : List Frame) (room taken spare held one : ℕ) (id : ℕ) (f g : Frame) → PoolKeeps pool room spare held → frame_of pool id ≡ Some f → items ≡ remove_key (has_id id) pool ++ g ∷ [] → taken ≡ room → one ≡ cond (not (must_stay f)) 1 0 → g.id ≡ f.id → g.pins ≤ 255 → must_stay g ≡ true → PoolKeeps items taken spare (held + one)
-kept_last pool items room taken spare held one id f g old is new same_room counts same few_pins stays =
+pub kept_last : (pool items : List Frame) (room taken spare held one : ℕ) (id : ℕ) (f g : Frame) → PoolKeeps pool room spare held → frame_of pool id ≡ Some f → items ≡ remove_key (has_id id) pool ++ g ∷ [] → taken ≡ room → one ≡ cond (not (must_stay f)) 1 0 → g.id ≡ f.id → g.pins ≤ 255 → length g.bytes ≡ PAGE → must_stay g ≡ true → PoolKeeps items taken spare (held + one)
+kept_last pool items room taken spare held one id f g old is new same_room counts same few_pins whole stays =
     let rest = remove_key (has_id id) pool in
     let long = length_without (has_id id) pool f is in
     let joined : length items ≡ length rest + 1 = ap length new ∙ length-append rest (g ∷ []) in
     record {
-      pool = subst IsPool (sym new) (put_last_pool pool id f g is same few_pins old.pool);
+      pool = subst IsPool (sym new) (last_pool pool id f g old.pool is same few_pins whole);
       blocks = let all = old.blocks in omega (arith, long, joined, all);
       taken = same_room ∙ old.taken;
       counted =
@@ -118,9 +185,9 @@ room_to_put pool rest room spare held id f old is left =
     omega (arith, long, same, few, taken)
 
 -- a frame that had to stay, changed in its place: it may go now, or not
-pub kept_changed : (pool items : List Frame) (room spare held one : ℕ) (id : ℕ) (change : Frame → Frame) (f : Frame) → PoolKeeps pool room spare held → frame_of pool id ≡ Some f → items ≡ in_place id change pool → one ≡ cond (not (must_stay (change f))) 1 0 → (change f).id ≡ f.id → (change f).pins ≤ 255 → must_stay f ≡ true → PoolKeeps items room spare (held - one)
-kept_changed pool items room spare held one id change f old is new counts same few_pins stayed = record {
-  pool = subst IsPool (sym new) (in_place_pool pool id change f is same few_pins old.pool);
+pub kept_changed : (pool items : List Frame) (room spare held one : ℕ) (id : ℕ) (change : Frame → Frame) (f : Frame) → PoolKeeps pool room spare held → frame_of pool id ≡ Some f → items ≡ in_place id change pool → one ≡ cond (not (must_stay (change f))) 1 0 → (change f).id ≡ f.id → (change f).pins ≤ 255 → length (change f).bytes ≡ PAGE → must_stay f ≡ true → PoolKeeps items room spare (held - one)
+kept_changed pool items room spare held one id change f old is new counts same few_pins whole stayed = record {
+  pool = subst IsPool (sym new) (in_place_pool pool id change f old.pool is same few_pins whole);
   blocks = let long : length items ≡ length pool = ap length new ∙ length_changed (has_id id) change pool f is in let all = old.blocks in omega (arith, long, all);
   taken = old.taken;
   counted =
@@ -142,34 +209,8 @@ one_fits pool room spare held one id f b old is stayed counts =
 
 -- ---- a page that comes in
 
--- one may go where there is a place, and no frame is empty
 pub room_there : (pool : List Frame) (room spare held : ℕ) → PoolKeeps pool room spare held → 0 < places pool → spare ≡ 0 → IsSome (find may_go pool)
-room_there pool room spare held old place none = let all = old.blocks in some_fails must_stay pool (omega arith)
-
--- what is left for it
-record IsLeft (pool left : List Frame) (spare : ℕ) : Type 0 where
-  long : length left + 1 + (spare - 1) ≡ FRAMES
-  fewer : (q : Frame → Bool) → count_by q left ≤ count_by q pool
-  stays : count_by must_stay left ≡ count_by must_stay pool
-  pins : All (λ f. f.pins ≤ 255) left
-
-left_over : (pool : List Frame) (room spare held : ℕ) → PoolKeeps pool room spare held → 0 < places pool → IsLeft pool (cond (nat_lt 0 spare) pool (remove_key may_go pool)) spare
-left_over pool room spare held old place =
-    let all = old.blocks in
-    if_below 0 spare (λ b. IsLeft pool (cond b pool (remove_key may_go pool)) spare)
-    (λ some. record { long = omega arith; fewer = λ q. omega arith; stays = refl; pins = old.pool.pins })
-    (λ none.
-      let first = some_value (find may_go pool) (room_there pool room spare held old place (omega arith)) in
-      let long = length_without may_go pool first.0 first.1 in
-      let free = free_needs_none (must_stay first.0) (first_passes may_go pool first.0 first.1) in
-      let less = count_without may_go must_stay pool first.0 first.1 in
-      let gone : cond {A = ℕ} (must_stay first.0) 1 0 ≡ 0 = ap (λ b. cond {A = ℕ} b 1 0) free in
-      record {
-        long = omega (arith, long, all, none);
-        fewer = λ q. let counted = count_without may_go q pool first.0 first.1 in omega (arith, counted);
-        stays = omega (arith, less, gone);
-        pins = All-remove_key may_go (λ f. f.pins ≤ 255) pool old.pool.pins;
-      })
+room_there pool room spare held old place none = let all = old.blocks in free_there pool place (omega arith)
 
 -- a frame is empty exactly where there is a block to spare
 pub same_room : (pool : List Frame) (room spare held : ℕ) → PoolKeeps pool room spare held → cond (nat_lt 0 spare) pool (remove_key may_go pool) ≡ with_room pool
@@ -179,39 +220,29 @@ same_room pool room spare held old =
     (λ some. if_below (length pool) FRAMES (λ b. pool ≡ cond b pool (remove_key may_go pool)) (λ lt. refl) (λ le. absurd (omega arith)))
     (λ none. if_below (length pool) FRAMES (λ b. remove_key may_go pool ≡ cond b pool (remove_key may_go pool)) (λ lt. absurd (omega arith)) (λ le. refl))
 
-pub room_to_bring : (pool left : List Frame) (room spare held : ℕ) → PoolKeeps pool room spare held → 0 < places pool → left ≡ cond (nat_lt 0 spare) pool (remove_key may_go pool) → length left < room
+pub room_to_bring : (pool left : List Frame) (room spare held : ℕ) → PoolKeeps pool room spare held → 0 < places pool → left ≡ with_room pool → length left < room
 room_to_bring pool left room spare held old place made =
-    let long = (left_over pool room spare held old place).long in
-    let same : length left ≡ length (cond (nat_lt 0 spare) pool (remove_key may_go pool)) = ap length made in
+    let long = (left_over pool old.pool place).long in
+    let same : length left ≡ length (with_room pool) = ap length made in
     let taken = old.taken in
     omega (arith, long, same, taken)
 
-pub kept_brought : (pool left items : List Frame) (room taken spare spared held one : ℕ) (id : ℕ) (bytes : List ℕ) (dirty : Bool) → PoolKeeps pool room spare held → frame_of pool id ≡ None → 0 < places pool → left ≡ cond (nat_lt 0 spare) pool (remove_key may_go pool) → items ≡ left ++ fresh id bytes dirty ∷ [] → taken ≡ room → spared ≡ spare - 1 → one ≡ cond dirty 1 0 → PoolKeeps items taken spared (held + one)
-kept_brought pool left items room taken spare spared held one id bytes dirty old absent place made new same_room spares counts =
+pub kept_brought : (pool items : List Frame) (room taken spare spared held one : ℕ) (id : ℕ) (bytes : List ℕ) (dirty : Bool) → PoolKeeps pool room spare held → frame_of pool id ≡ None → 0 < places pool → length bytes ≡ PAGE → items ≡ brought id bytes dirty pool → taken ≡ room → spared ≡ spare - 1 → one ≡ cond dirty 1 0 → PoolKeeps items taken spared (held + one)
+kept_brought pool items room taken spare spared held one id bytes dirty old absent place whole new same_room spares counts =
     let g : Frame = fresh id bytes dirty in
-    let P : Frame → Type 0 = λ h. h.pins ≤ 255 in
-    let rest : IsLeft pool left spare = subst (λ xs. IsLeft pool xs spare) (sym made) (left_over pool room spare held old place) in
-    let long = rest.long in
-    let joined : length items ≡ length left + 1 = ap length new ∙ length-append left (g ∷ []) in
-    let pushed : (q : Frame → Bool) → count_by q items ≡ count_by q left + cond (q g) 1 0 = λ q. ap (count_by q) new ∙ count_push q left g in
+    let left = with_room pool in
+    let rest = left_over pool old.pool place in
     record {
-      pool = record {
-        few = omega (arith, long, joined);
-        distinct = λ k.
-          let more = pushed (has_id k) in
-          let less = rest.fewer (has_id k) in
-          let most = old.pool.distinct k in
-          let none : count_by (has_id id) pool ≡ 0 = none_counted (has_id id) pool absent in
-          if_same id k (λ b. cond b 1 0 ≡ cond {A = ℕ} (has_id k g) 1 0 → count_by (has_id k) items ≤ 1)
-          (λ same one. let nothing : count_by (has_id k) pool ≡ 0 = subst (λ n. count_by (has_id n) pool ≡ 0) same none in omega (arith, more, less, nothing, one))
-          (λ other one. omega (arith, more, less, most, one)) refl;
-        pins = subst (All P) (sym new) (All-append P left (g ∷ []) rest.pins (All-alone P g (omega arith)));
-      };
-      blocks = omega (arith, long, joined, spares);
+      pool = subst IsPool (sym new) (brought_pool pool id bytes dirty old.pool absent place whole);
+      blocks =
+          let long = rest.long in
+          let all = old.blocks in
+          let joined : length items ≡ length left + 1 = ap length new ∙ length-append left (g ∷ []) in
+          omega (arith, long, all, joined, spares);
       taken = same_room ∙ old.taken;
       counted =
           let counted = old.counted in
           let same = rest.stays in
-          let more : count_by must_stay items ≡ count_by must_stay left + cond dirty 1 0 = pushed must_stay ∙ ap (λ b. count_by must_stay left + cond b 1 0) (or_false dirty) in
+          let more : count_by must_stay items ≡ count_by must_stay left + cond dirty 1 0 = ap (count_by must_stay) new ∙ count_push must_stay left g ∙ ap (λ b. count_by must_stay left + cond b 1 0) (or_false dirty) in
           omega (arith, counted, same, more, counts);
     }

@@ -1,3 +1,4 @@
 pub mod Frames
 pub mod Pools
 pub mod Kept
+pub mod Laws

@@ -1,8 +1,9 @@
 -- A pool is its frames in the order of use, the least recently used first.
-use Rattle.std.specs.Prelude.{ℕ, ◌-◌, ◌≤◌, Bool, nat_lt, cond, Option, List, [], ◌∷◌, ◌++◌, length, map, count_by, find}
+use Rattle.std.specs.Prelude.{◌≡◌, ℕ, ◌-◌, ◌≤◌, Bool, nat_lt, cond, Option, List, [], ◌∷◌, ◌++◌, length, map, count_by, find}
 use Rattle.std.specs.List.{All}
 use Rattle.std.specs.Option.{option_to_list}
 use Rattle.std.specs.Set.{remove_key}
+use Rattle.hb_space.specs.declared.form.TheConstants.{PAGE}
 use Rattle.hb_pool.specs.declared.pools.TheConstants.{FRAMES}
 use Rattle.hb_pool.specs.Frames.{Frame, has_id, must_stay, may_go, fresh}
 
@@ -43,3 +44,5 @@ pub record IsPool (pool : List Frame) : Type 0 where
   pub distinct : (id : ℕ) → count_by (has_id id) pool ≤ 1
   -- each is pinned at most 255 times
   pub pins : All (λ f. f.pins ≤ 255) pool
+  -- each has the bytes of a whole page
+  pub pages : All (λ f. length f.bytes ≡ PAGE) pool

@@ -8,6 +8,7 @@
 //! times. All memory is taken when the pool is made, so no other call takes any.
 #![tactic(auto)]
 
+pub mod laws;
 mod pools;
 mod slots;
 mod threads;

@@ -1,4 +1,4 @@
-use Rattle.std.proofs.Common.{ℕ, ◌≤◌, not, cond, ◌++◌, ◌∷◌, [], List, ap, ◌∙◌, arith}
+use Rattle.std.proofs.Common.{ℕ, length, ◌≤◌, not, cond, ◌++◌, ◌∷◌, [], List, ap, ◌∙◌, arith}
 use Rattle.hb_pool.specs.Frames.{Frame, must_stay}
 use Rattle.hb_pool.proofs.Pooled.{kept_last, frame_pins, room_to_put}
 use Rattle.hb_pool.proofs.pools.Pool.change.Goals as goal
@@ -18,4 +18,5 @@ invariant_of-self c =
     (c.one_if.ensures ∙ ap (λ b. cond (not b) 1 0) c.must_stay.ensures)
     (ap (λ (f : Frame). f.id) c.fill.ensures)
     (omega (arith, few, same))
+    (ap (λ (f : Frame). length f.bytes) c.fill.ensures ∙ c.told-bytes)
     (ap must_stay c.fill.ensures)

@@ -1,7 +1,7 @@
-use Rattle.std.proofs.Common.{ℕ, ◌<◌, ◌≤◌, not, cond, ◌++◌, ◌∷◌, [], List, ap, ◌∙◌, arith}
+use Rattle.std.proofs.Common.{ℕ, length, ◌<◌, ◌≤◌, not, cond, ◌++◌, ◌∷◌, [], List, ap, ◌∙◌, arith}
 use Rattle.hb_pool.specs.Frames.{Frame, must_stay, pinned}
 use Rattle.hb_pool.specs.Pools.{frame_of}
-use Rattle.hb_pool.proofs.Pooled.{at_some_and, kept_last, pinned_stays, room_to_put}
+use Rattle.hb_pool.proofs.Pooled.{at_some_and, frame_page, kept_last, pinned_stays, room_to_put}
 use Rattle.hb_pool.proofs.pools.Pool.pin.Goals as goal
 
 pub pin-requires : goal.pin-requires
@@ -22,4 +22,5 @@ invariant_of-self c =
     (c.one_if.ensures ∙ ap (λ b. cond (not b) 1 0) c.must_stay.ensures)
     (ap (λ (f : Frame). f.id) c.pin.ensures)
     (omega (arith, few, more))
+    (ap (λ (f : Frame). length f.bytes) c.pin.ensures ∙ frame_page _ c.args.id c.take_out-slot.result c.self.invariant.pool c.take_out-slot.ensures.frame)
     (ap must_stay c.pin.ensures ∙ pinned_stays (pinned c.take_out-slot.result) (omega arith))

@@ -2,7 +2,7 @@ use Rattle.std.proofs.Common.{ℕ, ◌-◌, ◌<◌, ◌≤◌, not, cond, refl,
 use Rattle.hb_pool.specs.Frames.{Frame, has_id, must_stay, unpinned}
 use Rattle.hb_pool.specs.Pools.{frame_of}
 use Rattle.hb_pool.proofs.Firsts.{place_within, taken_there, changed_there}
-use Rattle.hb_pool.proofs.Pooled.{some_of_and, at_some_and, frame_pins, kept_changed, one_fits, pinned_stays}
+use Rattle.hb_pool.proofs.Pooled.{some_of_and, at_some_and, frame_page, frame_pins, kept_changed, one_fits, pinned_stays}
 use Rattle.hb_pool.proofs.pools.Pool.unpin.Goals as goal
 
 pub index_mut-slot-requires : goal.index_mut-slot-requires
@@ -36,7 +36,7 @@ invariant_of-self c =
     kept_changed _ _ _ _ _ _ c.args.id unpinned c.index_mut-slot.result.now c.self.invariant is
     (changed_there (has_id c.args.id) unpinned _ _ _ _ _ c.as_slice.ensures.value c.place_of-place.ensures there c.index_mut-slot.ensures.value c.unpin.ensures)
     (c.one_if.ensures ∙ ap (λ b. cond (not b) 1 0) (c.must_stay.ensures ∙ ap must_stay c.unpin.ensures))
-    refl (omega (arith, few)) (pinned_stays c.index_mut-slot.result.now pins)
+    refl (omega (arith, few)) (frame_page _ c.args.id c.index_mut-slot.result.now c.self.invariant.pool is) (pinned_stays c.index_mut-slot.result.now pins)
 
 pub returns : goal.returns
 returns c =

@@ -1,0 +1,14 @@
+use Rattle.hb_pool.proofs.Pooled.{empty_pool, put_last_pool, in_place_pool, brought_pool}
+use Rattle.hb_pool.proofs.laws.a_pool_stays_one.Goals as goal
+
+pub returns-clause-none : goal.returns-clause-none
+returns-clause-none c = empty_pool
+
+pub returns-clause-last : goal.returns-clause-last
+returns-clause-last c = put_last_pool
+
+pub returns-clause-place : goal.returns-clause-place
+returns-clause-place c = in_place_pool
+
+pub returns-clause-another : goal.returns-clause-another
+returns-clause-another c = brought_pool
