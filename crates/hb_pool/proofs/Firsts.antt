@@ -1,5 +1,5 @@
 -- The first of a list that passes a test: where it stands, the list without it, and the list in which it is changed.
-use Rattle.std.proofs.Common.{◌≡◌, ℕ, suc, ◌+◌, ◌<◌, ◌≤◌, nat_lt, Bool, true, false, not, cond, List, [], ◌∷◌, ◌++◌, length, get_or, All, Option, Some, None, IsSome, refl, sym, ap, subst, ◌∙◌, arith}
+use Rattle.std.proofs.Common.{◌≡◌, ℕ, suc, ◌+◌, ◌<◌, ◌≤◌, nat_lt, Bool, true, false, not, cond, List, [], ◌∷◌, length, get_or, All, Some, None, IsSome, refl, sym, ap, subst, ◌∙◌, arith}
 use Rattle.std.specs.List.{remove, find, slice_get, position, position_or_len, count_by, sum_by}
 use Rattle.std.specs.Option.{option_map, unwrap_or}
 use Rattle.std.specs.Set.{remove_key}
@@ -8,7 +8,7 @@ use Rattle.std.proofs.lemmas.List.Folds.{find_at}
 use Rattle.std.proofs.lemmas.List.Edits.{length-remove}
 use Rattle.std.proofs.lemmas.List.Elements.{All-set}
 use Rattle.std.proofs.lemmas.List.{length-set}
-use Rattle.std.proofs.lemmas.List.Sums.{sum_by-cons, sum_by-set, prefix_len-le-length}
+use Rattle.std.proofs.lemmas.List.Sums.{sum_by-cons, sum_by-set, get_or-le-sum_by, prefix_len-le-length}
 use Rattle.std.proofs.lemmas.Map.Made.{sum_by-remove_key}
 use Rattle.std.proofs.lemmas.Option.{slice_get_past, slice_get_read, slice_get_within, get_or_from_slice_get}
 use Rattle.hb_lemmas.proofs.Booleans.{if_below}
@@ -153,3 +153,26 @@ module _ {X : Type 0} (p : X → Bool) where
   pub first_past : (xs seen : List X) (i : ℕ) → seen ≡ xs → i ≡ position_or_len p seen → length xs ≤ i → find p xs ≡ None
   first_past xs seen i same at past =
       find_at p xs ∙ ap (slice_get xs) (sym (at ∙ ap (position_or_len p) same)) ∙ slice_get_past xs i past
+
+-- the first that passes one test is the first that passes another, if it passes that and no other does
+pub alone_first : {X : Type 0} (q p : X → Bool) (xs : List X) (x : X) → p x ≡ true → count_by p xs ≤ 1 → find q xs ≡ Some x → find p xs ≡ Some x
+alone_first {X = X} q p [] x passes few is = is
+alone_first {X = X} q p (y ∷ ys) x passes few is =
+    let counted = sum_by-cons (λ z. cond (p z) 1 0) y ys in
+    elim (q y) as (λ b. cond b (Some y) (find q ys) ≡ Some x → find p (y ∷ ys) ≡ Some x) [
+      | true ↦ λ here. let same : y ≡ x = cc in ap (λ b. cond b (Some y) (find p ys)) (ap p same ∙ passes) ∙ here
+      | false ↦ λ later. elim (p y) as (λ b. cond b 1 0 + count_by p ys ≤ 1 → cond b (Some y) (find p ys) ≡ Some x) [
+          | true ↦ λ most. absurd (let one = passing_counted p ys x passes (is_among q ys x later) in omega (arith, one))
+          | false ↦ λ most. alone_first q p ys x passes (omega arith) later
+        ] (subst (λ n. n ≤ 1) counted few)
+    ] is
+  where
+    is_among : (r : X → Bool) (zs : List X) (z : X) → find r zs ≡ Some z → (i : ℕ) × (i < length zs) × (get_or zs i z ≡ z)
+    is_among r zs z found = (position_or_len r zs, first_within r zs z found, first_there r zs z z found)
+
+    passing_counted : (r : X → Bool) (zs : List X) (z : X) → r z ≡ true → (i : ℕ) × (i < length zs) × (get_or zs i z ≡ z) → 1 ≤ count_by r zs
+    passing_counted r zs z on (i, lt, at) =
+        let f : X → ℕ = λ w. cond (r w) 1 0 in
+        let most = get_or-le-sum_by f zs i z lt in
+        let one : f (get_or zs i z) ≡ 1 = ap f at ∙ ap (λ b. cond {A = ℕ} b 1 0) on in
+        omega (arith, most, one)

@@ -1,15 +1,15 @@
 -- What a call leaves of a page's frame, and of the others.
-use Rattle.std.proofs.Common.{◌≡◌, ◌≢◌, ℕ, ◌+◌, ◌<◌, ◌≤◌, ◌==◌, nat_lt, Bool, true, false, not, cond, List, [], ◌∷◌, ◌++◌, length, map, Option, Some, None, refl, sym, ap, subst, ◌∙◌, arith, ne_eqb}
+use Rattle.std.proofs.Common.{◌≡◌, ◌≢◌, ℕ, ◌+◌, ◌≤◌, ◌==◌, nat_lt, Bool, true, false, not, cond, List, [], ◌∷◌, ◌++◌, length, map, Option, Some, None, refl, sym, ap, subst, ◌∙◌, arith, ne_eqb}
 use Rattle.std.specs.List.{find, count_by}
 use Rattle.std.specs.Option.{option_map, option_or, option_to_list}
 use Rattle.std.specs.Set.{remove_key}
-use Rattle.std.proofs.lemmas.Bool.{cond-true, false≢true, eqb-true, eq-eqb, lt-ltb}
+use Rattle.std.proofs.lemmas.Bool.{false≢true, eqb-true, eq-eqb, lt-ltb}
 use Rattle.std.proofs.lemmas.List.Folds.{find-append}
 use Rattle.std.proofs.lemmas.List.Sums.{sum_by-cons}
 use Rattle.hb_pool.specs.declared.pools.TheConstants.{FRAMES}
-use Rattle.hb_pool.specs.Frames.{Frame, has_id, must_stay, may_go, fresh}
-use Rattle.hb_pool.specs.Laws.{HeldPagesStay, NoneGoesBeforeAllAreUsed, WhatCameInIsThere, ComingInChangesNoOther, ChangesItsFrame, ChangesNoOther}
-use Rattle.hb_pool.specs.Pools.{change_first, frame_of, in_place, put_last, with_room, brought}
+use Rattle.hb_pool.specs.Frames.{Frame, has_id, may_go, fresh}
+use Rattle.hb_pool.specs.Laws.{MarkedPagesStay, NoneGoesBeforeAllAreUsed, WhatCameInIsThere, ComingInChangesNoOther, ChangesItsFrame, ChangesNoOther}
+use Rattle.hb_pool.specs.Pools.{change_first, frame_of, in_place, put_last, with_room}
 use Rattle.hb_pool.proofs.Firsts.{first_passes, count_without}
 
 module _ {X : Type 0} (p q : X → Bool) where
@@ -109,8 +109,8 @@ found_so id left g = find-append (has_id id) left (g ∷ [])
 first_kept : (left : List Frame) (g f : Frame) (other : ℕ) → frame_of left other ≡ Some f → frame_of (left ++ g ∷ []) other ≡ Some f
 first_kept left g f other is = found_so other left g ∙ ap (λ o. option_or o (cond (has_id other g) (Some g) None)) is
 
-pub held_pages_stay : HeldPagesStay
-held_pages_stay pool id other bytes dirty f is stays =
+pub marked_pages_stay : MarkedPagesStay
+marked_pages_stay pool id other bytes dirty f is stays =
     let off : may_go f ≡ false = ap not stays in
     let left : frame_of (with_room pool) other ≡ Some f =
       elim (nat_lt (length pool) FRAMES) as (λ b. frame_of (cond b pool (remove_key may_go pool)) other ≡ Some f) [

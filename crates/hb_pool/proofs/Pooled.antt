@@ -3,8 +3,9 @@ use Rattle.std.proofs.Common.{◌≡◌, ℕ, ◌+◌, ◌-◌, ◌<◌, ◌≤�
 use Rattle.std.specs.List.{find, count_by, position_or_len}
 use Rattle.std.specs.Option.{IsSomeAnd, option_to_list}
 use Rattle.std.specs.Set.{remove_key}
+use Rattle.std.proofs.lemmas.Bool.{eq-eqb}
 use Rattle.std.proofs.lemmas.List.Elements.{All-append, All-nil}
-use Rattle.std.proofs.lemmas.List.Sums.{sum_by_push}
+use Rattle.std.proofs.lemmas.List.Sums.{sum_by_push, count_by-le-length}
 use Rattle.std.proofs.lemmas.Map.Views.{All-remove_key}
 use Rattle.hb_lemmas.proofs.Booleans.{if_below, if_same}
 use Rattle.hb_lemmas.proofs.Lists.{All-alone}
@@ -13,9 +14,9 @@ use Rattle.hb_space.specs.declared.form.TheConstants.{PAGE}
 use Rattle.hb_pool.specs.declared.pools.TheConstants.{FRAMES}
 use Rattle.hb_pool.specs.Frames.{Frame, has_id, must_stay, may_go, fresh}
 use Rattle.hb_pool.specs.Pools.{frame_of, put_last, in_place, with_room, brought, places, IsPool}
-use Rattle.hb_pool.specs.Laws.{StaysPool, StaysPoolWithAnother}
+use Rattle.hb_pool.specs.Laws.{StaysPool, StaysPoolWithAnother, CountsPlaces, CountsPlacesWithAnother}
 use Rattle.hb_pool.specs.Kept.{PoolKeeps}
-use Rattle.hb_pool.proofs.Firsts.{first_passes, first_there, first_within, length_without, count_without, length_changed, count_changed, All-changed, some_fails, none_counted}
+use Rattle.hb_pool.proofs.Firsts.{first_passes, first_there, first_within, length_without, count_without, length_changed, count_changed, All-changed, some_fails, none_counted, alone_first}
 
 -- what is said of a value that is there
 pub some_of_and : {X : Type 0} (o : Option X) (P : X → Type 0) → IsSomeAnd o P → IsSome o
@@ -246,3 +247,39 @@ kept_brought pool items room taken spare spared held one id bytes dirty old abse
           let more : count_by must_stay items ≡ count_by must_stay left + cond dirty 1 0 = ap (count_by must_stay) new ∙ count_push must_stay left g ∙ ap (λ b. count_by must_stay left + cond b 1 0) (or_false dirty) in
           omega (arith, counted, same, more, counts);
     }
+
+-- ---- places
+
+pub last_counts : CountsPlaces put_last
+last_counts pool id change f old is =
+    let rest = remove_key (has_id id) pool in
+    let less = count_without (has_id id) must_stay pool f is in
+    let long = length_without (has_id id) pool f is in
+    let most = count_by-le-length must_stay rest in
+    let few = old.few in
+    let once = one_at_most (must_stay f) in
+    let fewer = one_at_most (must_stay (change f)) in
+    let more = count_push must_stay rest (change f) in
+    let counted : FRAMES - count_by must_stay (rest ++ change f ∷ []) + cond (must_stay (change f)) 1 0 ≡ FRAMES - count_by must_stay pool + cond (must_stay f) 1 0 = omega (arith, less, long, most, few, more, once, fewer) in
+    subst (λ o. FRAMES - count_by must_stay (rest ++ map change (option_to_list o)) + cond (must_stay (change f)) 1 0 ≡ FRAMES - count_by must_stay pool + cond (must_stay f) 1 0) (sym is) counted
+
+pub place_counts : CountsPlaces in_place
+place_counts pool id change f old is =
+    let moved = count_changed (has_id id) must_stay change pool f is in
+    let long = length_changed (has_id id) change pool f is in
+    let most = count_by-le-length must_stay (in_place id change pool) in
+    let before = count_by-le-length must_stay pool in
+    let few = old.few in
+    omega (arith, moved, long, most, before, few)
+
+pub brought_counts : CountsPlacesWithAnother
+brought_counts pool id bytes dirty old place =
+    let left = with_room pool in
+    let same = (left_over pool old place).stays in
+    let more : count_by must_stay (left ++ fresh id bytes dirty ∷ []) ≡ count_by must_stay left + cond dirty 1 0 = count_push must_stay left (fresh id bytes dirty) ∙ ap (λ b. count_by must_stay left + cond b 1 0) (or_false dirty) in
+    let fewer = one_at_most dirty in
+    omega (arith, same, more, fewer)
+
+-- the first dirty page is in its frame, where no two have one page
+pub dirty_there : (pool : List Frame) (f : Frame) → IsPool pool → find (λ g. g.dirty) pool ≡ Some f → frame_of pool f.id ≡ Some f
+dirty_there pool f old is = alone_first (λ g. g.dirty) (has_id f.id) pool f (eq-eqb f.id f.id refl) (old.distinct f.id) is

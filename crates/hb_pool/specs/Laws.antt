@@ -1,13 +1,13 @@
 -- What follows of pools from the definitions alone.
-use Rattle.std.specs.Prelude.{◌≡◌, ◌≢◌, ℕ, ◌<◌, ◌≤◌, Bool, IsTrue, Some, None, option_map, List, [], ◌∷◌, ◌++◌, length}
+use Rattle.std.specs.Prelude.{◌≡◌, ◌≢◌, ℕ, ◌+◌, ◌<◌, ◌≤◌, Bool, cond, IsTrue, Some, None, option_map, List, [], ◌∷◌, ◌++◌, length}
 use Rattle.hb_space.specs.declared.form.TheConstants.{PAGE}
 use Rattle.hb_pool.specs.declared.pools.TheConstants.{FRAMES}
 use Rattle.hb_pool.specs.Frames.{Frame, must_stay, fresh}
-use Rattle.hb_pool.specs.Pools.{IsPool, frame_of, places, put_last, in_place, brought}
+use Rattle.hb_pool.specs.Pools.{IsPool, frame_of, places, brought}
 
 -- a page that is dirty or pinned stays when another one comes in, whatever comes in
-abbrev pub HeldPagesStay : Type 0
-HeldPagesStay = (pool : List Frame) (id other : ℕ) (bytes : List ℕ) (dirty : Bool) (f : Frame) → frame_of pool other ≡ Some f → IsTrue (must_stay f) → frame_of (brought id bytes dirty pool) other ≡ Some f
+abbrev pub MarkedPagesStay : Type 0
+MarkedPagesStay = (pool : List Frame) (id other : ℕ) (bytes : List ℕ) (dirty : Bool) (f : Frame) → frame_of pool other ≡ Some f → IsTrue (must_stay f) → frame_of (brought id bytes dirty pool) other ≡ Some f
 
 -- while a frame is empty no page goes
 abbrev pub NoneGoesBeforeAllAreUsed : Type 0
@@ -33,3 +33,11 @@ StaysPool call = (pool : List Frame) (id : ℕ) (change : Frame → Frame) (f : 
 
 abbrev pub StaysPoolWithAnother : Type 0
 StaysPoolWithAnother = (pool : List Frame) (id : ℕ) (bytes : List ℕ) (dirty : Bool) → IsPool pool → frame_of pool id ≡ None → 0 < places pool → length bytes ≡ PAGE → IsPool (brought id bytes dirty pool)
+
+-- one place more or less by each frame that may go, and may not go then, or the other way
+abbrev pub CountsPlaces : (ℕ → (Frame → Frame) → List Frame → List Frame) → Type 0
+CountsPlaces call = (pool : List Frame) (id : ℕ) (change : Frame → Frame) (f : Frame) → IsPool pool → frame_of pool id ≡ Some f → places (call id change pool) + cond (must_stay (change f)) 1 0 ≡ places pool + cond (must_stay f) 1 0
+
+-- a clean page that comes in takes no place, a dirty one takes one
+abbrev pub CountsPlacesWithAnother : Type 0
+CountsPlacesWithAnother = (pool : List Frame) (id : ℕ) (bytes : List ℕ) (dirty : Bool) → IsPool pool → 0 < places pool → places (brought id bytes dirty pool) + cond dirty 1 0 ≡ places pool

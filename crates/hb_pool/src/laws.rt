@@ -3,12 +3,12 @@
 
 ghost use Rattle.std.specs.Prelude.{[]};
 ghost use Rattle.hb_pool.specs.Pools.{IsPool, put_last, in_place};
-ghost use Rattle.hb_pool.specs.Laws.{HeldPagesStay, NoneGoesBeforeAllAreUsed, WhatCameInIsThere, ComingInChangesNoOther, ChangesItsFrame, ChangesNoOther, StaysPool, StaysPoolWithAnother};
+ghost use Rattle.hb_pool.specs.Laws.{MarkedPagesStay, NoneGoesBeforeAllAreUsed, WhatCameInIsThere, ComingInChangesNoOther, ChangesItsFrame, ChangesNoOther, StaysPool, StaysPoolWithAnother, CountsPlaces, CountsPlacesWithAnother};
 
 /// A page that is dirty or pinned never goes, and none does while a frame is empty.
-#[tactic(auto, using(crate::proofs::Others::held_pages_stay, crate::proofs::Others::none_goes))]
+#[tactic(auto, using(crate::proofs::Others::marked_pages_stay, crate::proofs::Others::none_goes))]
 pub fn only_pages_that_may_go_do()
-    ensures held { HeldPagesStay }
+    ensures marked { MarkedPagesStay }
     ensures empty { NoneGoesBeforeAllAreUsed }
 {}
 
@@ -34,4 +34,11 @@ pub fn a_pool_stays_one()
     ensures last { StaysPool put_last }
     ensures place { StaysPool in_place }
     ensures another { StaysPoolWithAnother }
+{}
+
+/// How many places a call takes or gives back: one for a frame that had to stay and may go now, or the other way.
+pub fn each_call_counts_its_place()
+    ensures last { CountsPlaces put_last }
+    ensures place { CountsPlaces in_place }
+    ensures another { CountsPlacesWithAnother }
 {}

@@ -1,6 +1,6 @@
 //! The pool: frames in the order of use, and the blocks of those that are empty.
 
-ghost use Rattle.std.specs.Prelude.{◌≡◌, ◌-◌, ◌<◌, [], vec_len, vec_capacity, None, Some, IfOk, IsSome, IsTrue, if◌then◌else◌, nat_lt, option_copied, option_map, find};
+ghost use Rattle.std.specs.Prelude.{◌≡◌, ◌-◌, ◌<◌, [], vec_len, vec_capacity, None, Some, IfOk, IfSome, IsSome, IsTrue, if◌then◌else◌, nat_lt, option_copied, option_map, find};
 ghost use Rattle.std.specs.List.{position, position_or_len};
 ghost use Rattle.std.specs.Option.{IsSomeAnd};
 ghost use Rattle.std.specs.Set.{remove_key};
@@ -66,6 +66,18 @@ impl Pool {
         }
     }
 
+    /// How many times the page is pinned; `None` exactly where it is in no frame.
+    pub fn pins(&self, id: u32) -> Option<u8>
+        ensures { result ≡ option_map (λ f. f.pins) (frame_of self.now id) }
+    {
+        let place = place_of(self.used.as_slice(), id);
+        if place < self.used.len() {
+            Some(self.used[place].pins())
+        } else {
+            None
+        }
+    }
+
     /// One pin more for the page, which is last in the order now.
     pub fn pin(&mut self, id: u32)
         requires { IsSomeAnd (frame_of self.old id) (λ f. f.pins < 255) }
@@ -113,9 +125,10 @@ impl Pool {
 
     /// The first dirty page in the order; `None` exactly where none is dirty.
     pub fn oldest_dirty(&self) -> Option<u32>
-        ensures { result ≡ option_map (λ f. f.id) (find (λ f. f.dirty) self.now) }
+        ensures first { result ≡ option_map (λ f. f.id) (find (λ f. f.dirty) self.now) }
+        ensures dirty { IfSome result (λ id. IsSomeAnd (frame_of self.now id) (λ f. IsTrue f.dirty)) }
     {
-        match self.used.iter().find(|slot| slot.is_dirty()) {
+        match first_dirty(self.used.as_slice()) {
             Some(slot) => Some(slot.id()),
             None => None,
         }
@@ -218,6 +231,13 @@ fn search_free(used: &[Slot]) -> Option<usize>
     ensures { result ≡ position may_go used.now }
 {
     used.iter().position(|slot| !slot.must_stay())
+}
+
+// The first dirty frame.
+fn first_dirty(used: &[Slot]) -> Option<&Slot>
+    ensures { option_copied result ≡ find (λ f. f.dirty) used.now }
+{
+    used.iter().find(|slot| slot.is_dirty())
 }
 
 // One where the test passed, else none.

@@ -76,6 +76,13 @@ impl Slot {
         &self.block
     }
 
+    /// How many times it is pinned.
+    pub(crate) fn pins(&self) -> u8
+        ensures { result ≡ self.now.pins }
+    {
+        self.pins
+    }
+
     /// One pin more.
     pub(crate) fn pin(&mut self)
         requires { self.old.pins < 255 }

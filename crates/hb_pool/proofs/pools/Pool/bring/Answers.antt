@@ -1,4 +1,4 @@
-use Rattle.std.proofs.Common.{ℕ, ◌≡◌, ◌<◌, ◌++◌, ◌∷◌, [], List, ap, ◌∙◌, sym, arith}
+use Rattle.std.proofs.Common.{◌≡◌, ◌++◌, ◌∷◌, [], List, ap, ◌∙◌, arith}
 use Rattle.hb_pool.specs.Frames.{Frame, fresh}
 use Rattle.hb_pool.specs.Pools.{brought}
 use Rattle.hb_pool.proofs.Pooled.{kept_brought, room_there, room_to_bring, same_room}

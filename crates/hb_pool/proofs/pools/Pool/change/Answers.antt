@@ -1,4 +1,4 @@
-use Rattle.std.proofs.Common.{ℕ, length, ◌≤◌, not, cond, ◌++◌, ◌∷◌, [], List, ap, ◌∙◌, arith}
+use Rattle.std.proofs.Common.{length, not, cond, ◌++◌, ◌∷◌, [], List, ap, ◌∙◌, arith}
 use Rattle.hb_pool.specs.Frames.{Frame, must_stay}
 use Rattle.hb_pool.proofs.Pooled.{kept_last, frame_pins, room_to_put}
 use Rattle.hb_pool.proofs.pools.Pool.change.Goals as goal

@@ -1,5 +1,5 @@
-use Rattle.std.proofs.Common.{ℕ, ◌-◌, IsTrue, ◌≤◌, not, cond, refl, ap, ◌∙◌, arith}
-use Rattle.hb_pool.specs.Frames.{Frame, has_id, must_stay, clean}
+use Rattle.std.proofs.Common.{IsTrue, not, cond, refl, ap, ◌∙◌, arith}
+use Rattle.hb_pool.specs.Frames.{has_id, must_stay, clean}
 use Rattle.hb_pool.specs.Pools.{frame_of}
 use Rattle.hb_pool.proofs.Firsts.{place_within, taken_there, changed_there}
 use Rattle.hb_pool.proofs.Pooled.{some_of_and, at_some_and, frame_page, frame_pins, kept_changed, one_fits, dirty_stays}

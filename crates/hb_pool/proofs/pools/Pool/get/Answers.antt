@@ -1,6 +1,5 @@
-use Rattle.std.proofs.Common.{◌<◌, ◌≤◌, ◌≡◌, ℕ, List, length, Option, Some, None, option_map, ap, sym, ◌∙◌, arith}
+use Rattle.std.proofs.Common.{◌<◌, ◌≤◌, ℕ, List, length, Option, Some, option_map, ap, sym, ◌∙◌, arith}
 use Rattle.hb_pool.specs.Frames.{Frame, has_id}
-use Rattle.hb_pool.specs.Pools.{frame_of}
 use Rattle.hb_pool.proofs.Firsts.{first_at, first_past}
 use Rattle.hb_pool.proofs.pools.Pool.get.Goals as goal
 
