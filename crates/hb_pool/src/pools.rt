@@ -117,10 +117,10 @@ impl Pool {
         requires { IsSome (frame_of self.old id) }
         ensures { self.new ≡ put_last id (filled bytes.now) self.old }
     {
-        let mut slot = take_out(&mut self.used, id);
-        self.held += one_if(!slot.must_stay());
-        slot.fill(bytes);
-        self.used.push_reserved(slot);
+        let mut changed = take_out(&mut self.used, id);
+        self.held += one_if(!changed.must_stay());
+        changed.fill(bytes);
+        self.used.push_reserved(changed);
     }
 
     /// The first dirty page in the order; `None` exactly where none is dirty.
@@ -140,9 +140,9 @@ impl Pool {
         ensures { self.new ≡ in_place id clean self.old }
     {
         let place = place_of(self.used.as_slice(), id);
-        let slot = &mut self.used[place];
-        slot.clean();
-        self.held -= one_if(!slot.must_stay());
+        let written = &mut self.used[place];
+        written.clean();
+        self.held -= one_if(!written.must_stay());
     }
 
     /// How many frames are empty, or clean and not pinned.

@@ -5,16 +5,16 @@ use Rattle.hb_pool.proofs.pools.Pool.change.Goals as goal
 
 pub push_reserved-requires : goal.push_reserved-requires
 push_reserved-requires c =
-    let room = room_to_put _ _ _ _ _ _ _ c.self.invariant c.take_out-slot.ensures.frame c.take_out-slot.ensures.rest in
-    omega (arith, room, c.take_out-slot.ensures.room, c.take_out-slot.new.used.ok.0)
+    let room = room_to_put _ _ _ _ _ _ _ c.self.invariant c.take_out-changed.ensures.frame c.take_out-changed.ensures.rest in
+    omega (arith, room, c.take_out-changed.ensures.room, c.take_out-changed.new.used.ok.0)
 
 pub invariant_of-self : goal.invariant_of-self
 invariant_of-self c =
-    let few = frame_pins _ _ _ c.self.invariant.pool c.take_out-slot.ensures.frame in
+    let few = frame_pins _ _ _ c.self.invariant.pool c.take_out-changed.ensures.frame in
     let same = ap (λ (f : Frame). f.pins) c.fill.ensures in
-    kept_last _ _ _ _ _ _ _ c.args.id c.take_out-slot.result c.fill.new.self c.self.invariant c.take_out-slot.ensures.frame
-    (c.push_reserved.ensures.items ∙ ap (λ (xs : List Frame). xs ++ c.fill.new.self ∷ []) c.take_out-slot.ensures.rest)
-    (c.push_reserved.ensures.capacity ∙ c.take_out-slot.ensures.room)
+    kept_last _ _ _ _ _ _ _ c.args.id c.take_out-changed.result c.fill.new.self c.self.invariant c.take_out-changed.ensures.frame
+    (c.push_reserved.ensures.items ∙ ap (λ (xs : List Frame). xs ++ c.fill.new.self ∷ []) c.take_out-changed.ensures.rest)
+    (c.push_reserved.ensures.capacity ∙ c.take_out-changed.ensures.room)
     (c.one_if.ensures ∙ ap (λ b. cond (not b) 1 0) c.must_stay.ensures)
     (ap (λ (f : Frame). f.id) c.fill.ensures)
     (omega (arith, few, same))
