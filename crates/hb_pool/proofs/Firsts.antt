@@ -43,9 +43,9 @@ module _ {X : Type 0} (p : X → Bool) where
   set_first change (x ∷ xs) d lt = elim (p x) as (λ b. cond (not b) (1 + position_or_len p xs) 0 < suc (length xs) → set (x ∷ xs) (cond (not b) (1 + position_or_len p xs) 0) (change (get_or (x ∷ xs) (cond (not b) (1 + position_or_len p xs) 0) d)) ≡ cond b (change x ∷ xs) (x ∷ change_first p change xs)) [
     | true ↦ λ less. refl
     | false ↦ λ less.
-      set_later x _ xs (position_or_len p xs)
-      ∙ ap (λ (y : X). x ∷ set xs (position_or_len p xs) (change y)) (get_later x d xs (position_or_len p xs))
-      ∙ ap (λ ys. x ∷ ys) (set_first change xs d (omega arith))
+        set_later x _ xs (position_or_len p xs)
+        ∙ ap (λ (y : X). x ∷ set xs (position_or_len p xs) (change y)) (get_later x d xs (position_or_len p xs))
+        ∙ ap (λ ys. x ∷ ys) (set_first change xs d (omega arith))
   ] lt
 
   -- it passes
@@ -162,9 +162,9 @@ alone_first {X = X} q p (y ∷ ys) x passes few is =
     elim (q y) as (λ b. cond b (Some y) (find q ys) ≡ Some x → find p (y ∷ ys) ≡ Some x) [
       | true ↦ λ here. let same : y ≡ x = cc in ap (λ b. cond b (Some y) (find p ys)) (ap p same ∙ passes) ∙ here
       | false ↦ λ later. elim (p y) as (λ b. cond b 1 0 + count_by p ys ≤ 1 → cond b (Some y) (find p ys) ≡ Some x) [
-          | true ↦ λ most. absurd (let one = passing_counted p ys x passes (is_among q ys x later) in omega (arith, one))
-          | false ↦ λ most. alone_first q p ys x passes (omega arith) later
-        ] (subst (λ n. n ≤ 1) counted few)
+        | true ↦ λ most. absurd (let one = passing_counted p ys x passes (is_among q ys x later) in omega (arith, one))
+        | false ↦ λ most. alone_first q p ys x passes (omega arith) later
+      ] (subst (λ n. n ≤ 1) counted few)
     ] is
   where
     is_among : (r : X → Bool) (zs : List X) (z : X) → find r zs ≡ Some z → (i : ℕ) × (i < length zs) × (get_or zs i z ≡ z)

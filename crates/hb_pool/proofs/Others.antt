@@ -19,13 +19,13 @@ module _ {X : Type 0} (p q : X → Bool) where
   still_first (y ∷ ys) x is off =
       elim (q y) as (λ b. q y ≡ b → find p (cond b ys (y ∷ remove_key q ys)) ≡ Some x) [
         | true ↦ λ on. elim (p y) as (λ b. cond b (Some y) (find p ys) ≡ Some x → find p ys ≡ Some x) [
-            | true ↦ λ here. let same : y ≡ x = cc in absurd (false≢true (sym off ∙ sym (ap q same) ∙ on))
-            | false ↦ λ later. later
-          ] is
+          | true ↦ λ here. let same : y ≡ x = cc in absurd (false≢true (sym off ∙ sym (ap q same) ∙ on))
+          | false ↦ λ later. later
+        ] is
         | false ↦ λ _. elim (p y) as (λ b. cond b (Some y) (find p ys) ≡ Some x → cond b (Some y) (find p (remove_key q ys)) ≡ Some x) [
-            | true ↦ λ here. here
-            | false ↦ λ later. still_first ys x later off
-          ] is
+          | true ↦ λ here. here
+          | false ↦ λ later. still_first ys x later off
+        ] is
       ] refl
 
   -- what is first then was so before, where no two pass
@@ -35,13 +35,13 @@ module _ {X : Type 0} (p q : X → Bool) where
       let counted = sum_by-cons (λ (z : X). cond (p z) 1 0) y ys in
       elim (q y) as (λ b. find p (cond b ys (y ∷ remove_key q ys)) ≡ Some x → find p (y ∷ ys) ≡ Some x) [
         | true ↦ λ later. elim (p y) as (λ b. cond b 1 0 + count_by p ys ≤ 1 → cond b (Some y) (find p ys) ≡ Some x) [
-            | true ↦ λ most. absurd (let one = passing_counts ys x later in omega (arith, one))
-            | false ↦ λ _. later
-          ] (subst (λ n. n ≤ 1) counted few)
+          | true ↦ λ most. absurd (let one = passing_counts ys x later in omega (arith, one))
+          | false ↦ λ _. later
+        ] (subst (λ n. n ≤ 1) counted few)
         | false ↦ λ kept. elim (p y) as (λ b. cond b 1 0 + count_by p ys ≤ 1 → cond b (Some y) (find p (remove_key q ys)) ≡ Some x → cond b (Some y) (find p ys) ≡ Some x) [
-            | true ↦ λ _ here. here
-            | false ↦ λ most later. was_first ys x (omega arith) later
-          ] (subst (λ n. n ≤ 1) counted few) kept
+          | true ↦ λ _ here. here
+          | false ↦ λ most later. was_first ys x (omega arith) later
+        ] (subst (λ n. n ≤ 1) counted few) kept
       ] is
     where
       passing_counts : (zs : List X) (z : X) → find p zs ≡ Some z → 1 ≤ count_by p zs
@@ -113,10 +113,10 @@ pub marked_pages_stay : MarkedPagesStay
 marked_pages_stay pool id other bytes dirty f is stays =
     let off : may_go f ≡ false = ap not stays in
     let left : frame_of (with_room pool) other ≡ Some f =
-      elim (nat_lt (length pool) FRAMES) as (λ b. frame_of (cond b pool (remove_key may_go pool)) other ≡ Some f) [
-        | true ↦ is
-        | false ↦ still_first (has_id other) may_go pool f is off
-      ] in
+    elim (nat_lt (length pool) FRAMES) as (λ b. frame_of (cond b pool (remove_key may_go pool)) other ≡ Some f) [
+      | true ↦ is
+      | false ↦ still_first (has_id other) may_go pool f is off
+    ] in
     first_kept (with_room pool) (fresh id bytes dirty) f other left
 
 pub none_goes : NoneGoesBeforeAllAreUsed
@@ -130,18 +130,18 @@ absent_left p q (y ∷ ys) none =
     elim (p y) as (λ b. p y ≡ b → cond b (Some y) (find p ys) ≡ None → find p (cond (q y) ys (y ∷ remove_key q ys)) ≡ None) [
       | true ↦ λ _ here. absurd cc
       | false ↦ λ off later. elim (q y) as (λ b. find p (cond b ys (y ∷ remove_key q ys)) ≡ None) [
-          | true ↦ later
-          | false ↦ ap (λ b. cond b (Some y) (find p (remove_key q ys))) off ∙ absent_left p q ys later
-        ]
+        | true ↦ later
+        | false ↦ ap (λ b. cond b (Some y) (find p (remove_key q ys))) off ∙ absent_left p q ys later
+      ]
     ] refl none
 
 pub came_in : WhatCameInIsThere
 came_in pool id bytes dirty absent =
     let left : frame_of (with_room pool) id ≡ None =
-      elim (nat_lt (length pool) FRAMES) as (λ b. frame_of (cond b pool (remove_key may_go pool)) id ≡ None) [
-        | true ↦ absent
-        | false ↦ absent_left (has_id id) may_go pool absent
-      ] in
+    elim (nat_lt (length pool) FRAMES) as (λ b. frame_of (cond b pool (remove_key may_go pool)) id ≡ None) [
+      | true ↦ absent
+      | false ↦ absent_left (has_id id) may_go pool absent
+    ] in
     let g : Frame = fresh id bytes dirty in
     found_so id (with_room pool) g
     ∙ ap (λ o. option_or o (cond (has_id id g) (Some g) None)) left
@@ -152,9 +152,9 @@ no_other_came pool id other bytes dirty f old apart is =
     let g : Frame = fresh id bytes dirty in
     let off : has_id other g ≡ false = ne_eqb id other (λ e. apart (sym e)) in
     let left : frame_of (with_room pool) other ≡ Some f =
-      sym (or_none (frame_of (with_room pool) other))
-      ∙ sym (ap (λ b. option_or (frame_of (with_room pool) other) (cond b (Some g) None)) off)
-      ∙ sym (found_so other (with_room pool) g) ∙ is in
+    sym (or_none (frame_of (with_room pool) other))
+    ∙ sym (ap (λ b. option_or (frame_of (with_room pool) other) (cond b (Some g) None)) off)
+    ∙ sym (found_so other (with_room pool) g) ∙ is in
     elim (nat_lt (length pool) FRAMES) as (λ b. frame_of (cond b pool (remove_key may_go pool)) other ≡ Some f → frame_of pool other ≡ Some f) [
       | true ↦ λ here. here
       | false ↦ λ here. was_first (has_id other) may_go pool f (old.distinct other) here
@@ -176,16 +176,16 @@ last_changed pool id change old like =
     last_of id id change pool
     ∙ ap (λ o. option_or o (find (has_id id) (map change (option_to_list (frame_of pool id))))) (none_other (has_id id) pool (old.distinct id))
     ∙ elim (frame_of pool id) as (λ o. frame_of pool id ≡ o → find (has_id id) (map change (option_to_list o)) ≡ option_map change o) [
-        | None ↦ λ _. refl
-        | Some f ↦ λ is. ap (λ b. cond b (Some (change f)) None) (ap (λ (i : ℕ). i == id) (like f) ∙ first_passes (has_id id) pool f is)
-      ] refl
+      | None ↦ λ _. refl
+      | Some f ↦ λ is. ap (λ b. cond b (Some (change f)) None) (ap (λ (i : ℕ). i == id) (like f) ∙ first_passes (has_id id) pool f is)
+    ] refl
 
 pub last_no_other : ChangesNoOther put_last
 last_no_other pool id other change apart like =
     last_of id other change pool
     ∙ ap (option_or (find (has_id other) (remove_key (has_id id) pool))) (elim (frame_of pool id) as (λ o. frame_of pool id ≡ o → find (has_id other) (map change (option_to_list o)) ≡ None) [
-        | None ↦ λ _. refl
-        | Some f ↦ λ is. ap (λ b. cond b (Some (change f)) None) (ap (λ (i : ℕ). i == other) (like f) ∙ apart_ids id other apart f (first_passes (has_id id) pool f is))
-      ] refl)
+      | None ↦ λ _. refl
+      | Some f ↦ λ is. ap (λ b. cond b (Some (change f)) None) (ap (λ (i : ℕ). i == other) (like f) ∙ apart_ids id other apart f (first_passes (has_id id) pool f is))
+    ] refl)
     ∙ or_none (find (has_id other) (remove_key (has_id id) pool))
     ∙ unseen (has_id other) (has_id id) (apart_ids id other apart) pool

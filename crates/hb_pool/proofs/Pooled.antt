@@ -112,18 +112,18 @@ left_over pool old place =
     if_below (length pool) FRAMES (λ b. IsLeft pool (cond b pool (remove_key may_go pool)))
     (λ some. record { long = omega arith; fewer = λ q. omega arith; stays = refl; pins = old.pins; pages = old.pages })
     (λ none.
-      let first = some_value (find may_go pool) (free_there pool place none) in
-      let long = length_without may_go pool first.0 first.1 in
-      let free = free_needs_none (must_stay first.0) (first_passes may_go pool first.0 first.1) in
-      let less = count_without may_go must_stay pool first.0 first.1 in
-      let gone : cond {A = ℕ} (must_stay first.0) 1 0 ≡ 0 = ap (λ b. cond {A = ℕ} b 1 0) free in
-      record {
-        long = omega (arith, long, none, few);
-        fewer = λ q. let counted = count_without may_go q pool first.0 first.1 in omega (arith, counted);
-        stays = omega (arith, less, gone);
-        pins = All-remove_key may_go (λ f. f.pins ≤ 255) pool old.pins;
-        pages = All-remove_key may_go (λ f. length f.bytes ≡ PAGE) pool old.pages;
-      })
+    let first = some_value (find may_go pool) (free_there pool place none) in
+    let long = length_without may_go pool first.0 first.1 in
+    let free = free_needs_none (must_stay first.0) (first_passes may_go pool first.0 first.1) in
+    let less = count_without may_go must_stay pool first.0 first.1 in
+    let gone : cond {A = ℕ} (must_stay first.0) 1 0 ≡ 0 = ap (λ b. cond {A = ℕ} b 1 0) free in
+    record {
+      long = omega (arith, long, none, few);
+      fewer = λ q. let counted = count_without may_go q pool first.0 first.1 in omega (arith, counted);
+      stays = omega (arith, less, gone);
+      pins = All-remove_key may_go (λ f. f.pins ≤ 255) pool old.pins;
+      pages = All-remove_key may_go (λ f. length f.bytes ≡ PAGE) pool old.pages;
+    })
 
 pub brought_pool : StaysPoolWithAnother
 brought_pool pool id bytes dirty old absent place whole =
@@ -137,13 +137,13 @@ brought_pool pool id bytes dirty old absent place whole =
     record {
       few = omega (arith, long, joined);
       distinct = λ k.
-        let more = count_push (has_id k) left g in
-        let less = rest.fewer (has_id k) in
-        let most = old.distinct k in
-        let none : count_by (has_id id) pool ≡ 0 = none_counted (has_id id) pool absent in
-        if_same id k (λ b. cond b 1 0 ≡ cond {A = ℕ} (has_id k g) 1 0 → count_by (has_id k) (left ++ g ∷ []) ≤ 1)
-        (λ same one. let nothing : count_by (has_id k) pool ≡ 0 = subst (λ n. count_by (has_id n) pool ≡ 0) same none in omega (arith, more, less, nothing, one))
-        (λ other one. omega (arith, more, less, most, one)) refl;
+          let more = count_push (has_id k) left g in
+          let less = rest.fewer (has_id k) in
+          let most = old.distinct k in
+          let none : count_by (has_id id) pool ≡ 0 = none_counted (has_id id) pool absent in
+          if_same id k (λ b. cond b 1 0 ≡ cond {A = ℕ} (has_id k g) 1 0 → count_by (has_id k) (left ++ g ∷ []) ≤ 1)
+          (λ same one. let nothing : count_by (has_id k) pool ≡ 0 = subst (λ n. count_by (has_id n) pool ≡ 0) same none in omega (arith, more, less, nothing, one))
+          (λ other one. omega (arith, more, less, most, one)) refl;
       pins = All-append P left (g ∷ []) rest.pins (All-alone P g (omega arith));
       pages = All-append Q left (g ∷ []) rest.pages (All-alone Q g whole);
     }

@@ -58,11 +58,9 @@ impl Pool {
     pub fn get(&self, id: u32) -> Option<&[u8; PAGE]>
         ensures { option_copied result ≡ option_map (λ f. f.bytes) (frame_of self.now id) }
     {
-        let place = place_of(self.used.as_slice(), id);
-        if place < self.used.len() {
-            Some(self.used[place].bytes())
-        } else {
-            None
+        match slot_of(self.used.as_slice(), id) {
+            Some(slot) => Some(slot.bytes()),
+            None => None,
         }
     }
 
@@ -70,11 +68,9 @@ impl Pool {
     pub fn pins(&self, id: u32) -> Option<u8>
         ensures { result ≡ option_map (λ f. f.pins) (frame_of self.now id) }
     {
-        let place = place_of(self.used.as_slice(), id);
-        if place < self.used.len() {
-            Some(self.used[place].pins())
-        } else {
-            None
+        match slot_of(self.used.as_slice(), id) {
+            Some(slot) => Some(slot.pins()),
+            None => None,
         }
     }
 
@@ -163,6 +159,13 @@ fn blocks(alloc: Global) -> Result<Vec<Block>, NoMemory>
         blocks.push(Box::new(alloc, [0; PAGE])?)?;
     }
     Ok(blocks)
+}
+
+// The page's frame, where it has one.
+fn slot_of(used: &[Slot], id: u32) -> Option<&Slot>
+    ensures { option_copied result ≡ frame_of used.now id }
+{
+    used.iter().find(|slot| slot.has_id(id))
 }
 
 // Where the page's frame stands, or how many there are where it has none.

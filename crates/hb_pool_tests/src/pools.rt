@@ -99,7 +99,10 @@ fn go(rt: &impl Abort, pool: &mut Pool, rows: &[Row]) {
         let before = gone == 0 || has(pool, gone);
         let taken = take(pool, step, id);
         assert!(rt; before && taken, "{step} {id}");
-        assert!(rt; has(pool, id) && (gone == 0 || !has(pool, gone)), "{step} {id}");
+        assert!(rt;
+            has(pool, id) && (gone == 0 || !has(pool, gone)),
+            "{step} {id}"
+        );
         assert_eq!(rt; pool.places(), places, "{step} {id}");
         assert_eq!(rt; pool.oldest_dirty().unwrap_or(0), oldest, "{step} {id}");
         assert_eq!(rt; count(pool, 400), FRAMES, "{step} {id}");
