@@ -1,3 +1,4 @@
 pub mod Firsts
 pub mod Pooled
 pub mod Others
+pub mod Behind

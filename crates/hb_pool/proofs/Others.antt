@@ -1,5 +1,5 @@
 -- What a call leaves of a page's frame, and of the others.
-use Rattle.std.proofs.Common.{◌≡◌, ◌≢◌, ℕ, ◌+◌, ◌≤◌, ◌==◌, nat_lt, Bool, true, false, not, cond, List, [], ◌∷◌, ◌++◌, length, map, Option, Some, None, refl, sym, ap, subst, ◌∙◌, arith, ne_eqb}
+use Rattle.std.proofs.Common.{◌≡◌, ◌≢◌, ℕ, ◌+◌, ◌≤◌, ◌==◌, nat_lt, Bool, true, false, not, cond, List, [], ◌∷◌, ◌++◌, length, map, Some, None, refl, sym, ap, subst, ◌∙◌, arith, ne_eqb}
 use Rattle.std.specs.List.{find, count_by}
 use Rattle.std.specs.Option.{option_map, option_or, option_to_list}
 use Rattle.std.specs.Set.{remove_key}
@@ -11,6 +11,7 @@ use Rattle.hb_pool.specs.Frames.{Frame, has_id, may_go, fresh}
 use Rattle.hb_pool.specs.Laws.{MarkedPagesStay, NoneGoesBeforeAllAreUsed, WhatCameInIsThere, ComingInChangesNoOther, ChangesItsFrame, ChangesNoOther}
 use Rattle.hb_pool.specs.Pools.{change_first, frame_of, in_place, put_last, with_room}
 use Rattle.hb_pool.proofs.Firsts.{first_passes, count_without}
+use Rattle.hb_pool.proofs.Behind.{none_found, or_none}
 
 module _ {X : Type 0} (p q : X → Bool) where
   -- where the first that passes one test goes, the first that passes another stays, if it fails the first test
@@ -73,17 +74,9 @@ module _ {X : Type 0} (p : X → Bool) where
   none_other [] few = refl
   none_other (y ∷ ys) few =
       elim (p y) as (λ b. p y ≡ b → cond b 1 0 + count_by p ys ≤ 1 → find p (cond b ys (y ∷ remove_key p ys)) ≡ None) [
-        | true ↦ λ _ most. not_counted ys (omega arith)
+        | true ↦ λ _ most. none_found p ys (omega arith)
         | false ↦ λ off most. ap (λ b. cond b (Some y) (find p (remove_key p ys))) off ∙ none_other ys (omega arith)
       ] refl (subst (λ n. n ≤ 1) (sum_by-cons (λ (z : X). cond (p z) 1 0) y ys) few)
-    where
-      not_counted : (zs : List X) → count_by p zs ≤ 0 → find p zs ≡ None
-      not_counted [] none = refl
-      not_counted (z ∷ zs) none =
-          elim (p z) as (λ b. cond b 1 0 + count_by p zs ≤ 0 → cond b (Some z) (find p zs) ≡ None) [
-            | true ↦ λ most. absurd (omega arith)
-            | false ↦ λ most. not_counted zs (omega arith)
-          ] (subst (λ n. n ≤ 0) (sum_by-cons (λ (x : X). cond (p x) 1 0) z zs) none)
 
   -- the first is changed where the change leaves the test alone
   first_changed : (change : X → X) → ((x : X) → p (change x) ≡ p x) → (xs : List X) → find p (change_first p change xs) ≡ option_map change (find p xs)
@@ -99,10 +92,6 @@ apart_ids : (id other : ℕ) → other ≢ id → (f : Frame) → has_id id f �
 apart_ids id other apart f is = ne_eqb f.id other (λ e. apart (sym e ∙ eqb-true f.id id is))
 
 -- what stands behind is found where nothing before it is
-or_none : {X : Type 0} (o : Option X) → option_or o None ≡ o
-or_none None = refl
-or_none (Some x) = refl
-
 found_so : (id : ℕ) (left : List Frame) (g : Frame) → frame_of (left ++ g ∷ []) id ≡ option_or (frame_of left id) (cond (has_id id g) (Some g) None)
 found_so id left g = find-append (has_id id) left (g ∷ [])
 

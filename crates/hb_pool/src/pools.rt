@@ -1,6 +1,6 @@
 //! The pool: frames in the order of use, and the blocks of those that are empty.
 
-ghost use Rattle.std.specs.Prelude.{◌≡◌, ◌-◌, ◌<◌, [], vec_len, vec_capacity, None, Some, IfOk, IfSome, IsSome, IsTrue, if◌then◌else◌, nat_lt, option_copied, option_map, find};
+ghost use Rattle.std.specs.Prelude.{◌≡◌, ◌-◌, ◌<◌, ◌≤◌, [], vec_len, vec_capacity, None, Some, IfOk, IfSome, IsSome, IsTrue, if◌then◌else◌, nat_lt, option_copied, option_map, find, count_by, reverse};
 ghost use Rattle.std.specs.List.{position, position_or_len};
 ghost use Rattle.std.specs.Option.{IsSomeAnd};
 ghost use Rattle.std.specs.Set.{remove_key};
@@ -18,8 +18,8 @@ pub const FRAMES: usize = 128;
 
 /// Pages in memory, in the order of use.
 ///
-/// A look-up goes over the frames one by one. A frame that gets another place in the order is a few
-/// words that move; its page's bytes stay in their block.
+/// A look-up goes over the frames one by one, from the one that was used last. A frame that gets another
+/// place in the order is a few words that move; its page's bytes stay in their block.
 #[derive(Drop)]
 pub struct Pool {
     // the frames with a page, the least recently used first
@@ -161,33 +161,43 @@ fn blocks(alloc: Global) -> Result<Vec<Block>, NoMemory>
     Ok(blocks)
 }
 
-// The page's frame, where it has one.
+// The page's frame, where it has one. The search begins behind, where the pages stand that were used last.
 fn slot_of(used: &[Slot], id: u32) -> Option<&Slot>
+    requires { count_by (has_id id) used.now ≤ 1 }
     ensures { option_copied result ≡ frame_of used.now id }
 {
-    used.iter().find(|slot| slot.has_id(id))
+    last_of(used, id)
+}
+
+// The last frame with the page.
+fn last_of(used: &[Slot], id: u32) -> Option<&Slot>
+    ensures { option_copied result ≡ frame_of (reverse used.now) id }
+{
+    used.iter().rev().find(|slot| slot.has_id(id))
 }
 
 // Where the page's frame stands, or how many there are where it has none.
 fn place_of(used: &[Slot], id: u32) -> usize
+    requires { count_by (has_id id) used.now ≤ 1 }
     ensures { result ≡ position_or_len (has_id id) used.now }
 {
-    match search(used, id) {
-        Some(place) => place,
+    match behind(used, id) {
+        Some(later) => used.len() - 1 - later,
         None => used.len(),
     }
 }
 
-// The same, where it has one.
-fn search(used: &[Slot], id: u32) -> Option<usize>
-    ensures { result ≡ position (has_id id) used.now }
+// How many frames stand behind it.
+fn behind(used: &[Slot], id: u32) -> Option<usize>
+    ensures { result ≡ position (has_id id) (reverse used.now) }
 {
-    used.iter().position(|slot| slot.has_id(id))
+    used.iter().rev().position(|slot| slot.has_id(id))
 }
 
 // Takes the page's frame out of the order.
 fn take_out(used: &mut Vec<Slot>, id: u32) -> Slot
-    requires { IsSome (frame_of used.old.items id) }
+    requires there { IsSome (frame_of used.old.items id) }
+    requires once { count_by (has_id id) used.old.items ≤ 1 }
     ensures frame { frame_of used.old.items id ≡ Some result }
     ensures rest { used.new.items ≡ remove_key (has_id id) used.old.items }
     ensures room { vec_capacity used.new ≡ vec_capacity used.old }

@@ -5,11 +5,11 @@ use Rattle.hb_pool.proofs.pools.take_out.Goals as goal
 
 pub remove-requires : goal.remove-requires
 remove-requires c =
-    let within = place_within (has_id c.args.id) _ _ _ c.as_slice.ensures.value c.place_of-place.ensures c.requires in
+    let within = place_within (has_id c.args.id) _ _ _ c.as_slice.ensures.value c.place_of-place.ensures c.requires.there in
     omega (arith, within, c.as_slice.ensures.len)
 
 pub returns-clause-frame : goal.returns-clause-frame
-returns-clause-frame c = taken_there (has_id c.args.id) _ _ _ _ c.as_slice.ensures.value c.place_of-place.ensures c.requires c.remove.ensures.value
+returns-clause-frame c = taken_there (has_id c.args.id) _ _ _ _ c.as_slice.ensures.value c.place_of-place.ensures c.requires.there c.remove.ensures.value
 
 pub returns-clause-rest : goal.returns-clause-rest
 returns-clause-rest c = c.remove.ensures.items ∙ left_there (has_id c.args.id) _ _ _ c.as_slice.ensures.value c.place_of-place.ensures

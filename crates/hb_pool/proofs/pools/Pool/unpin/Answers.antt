@@ -5,6 +5,9 @@ use Rattle.hb_pool.proofs.Firsts.{place_within, taken_there, changed_there}
 use Rattle.hb_pool.proofs.Pooled.{some_of_and, at_some_and, frame_page, frame_pins, kept_changed, one_fits, pinned_stays}
 use Rattle.hb_pool.proofs.pools.Pool.unpin.Goals as goal
 
+pub place_of-place-requires : goal.place_of-place-requires
+place_of-place-requires c = rw c.as_slice.ensures.value (c.self.invariant.pool.distinct c.args.id)
+
 pub index_mut-slot-requires : goal.index_mut-slot-requires
 index_mut-slot-requires c =
     let there = some_of_and (frame_of c.self.inside.used.items c.args.id) (λ f. 0 < f.pins) (rw (← c.self.view_is) at c.requires) in
