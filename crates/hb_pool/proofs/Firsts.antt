@@ -1,6 +1,6 @@
 -- The first of a list that passes a test: where it stands, the list without it, and the list in which it is changed.
 use Rattle.std.proofs.Common.{◌≡◌, ℕ, suc, ◌+◌, ◌<◌, ◌≤◌, nat_lt, Bool, true, false, not, cond, List, [], ◌∷◌, length, get_or, All, Some, None, IsSome, refl, sym, ap, subst, ◌∙◌, arith}
-use Rattle.std.specs.List.{remove, find, slice_get, position, position_or_len, count_by, sum_by}
+use Rattle.std.specs.List.{remove, find, position, position_or_len, count_by, sum_by}
 use Rattle.std.specs.Option.{option_map, unwrap_or}
 use Rattle.std.specs.Set.{remove_key}
 use Rattle.std.proofs.Math.ListN.{set}
@@ -10,7 +10,7 @@ use Rattle.std.proofs.lemmas.List.Elements.{All-set}
 use Rattle.std.proofs.lemmas.List.{length-set}
 use Rattle.std.proofs.lemmas.List.Sums.{sum_by-cons, sum_by-set, get_or-le-sum_by, prefix_len-le-length}
 use Rattle.std.proofs.lemmas.Map.Made.{sum_by-remove_key}
-use Rattle.std.proofs.lemmas.Option.{slice_get_past, slice_get_read, slice_get_within, get_or_from_slice_get}
+use Rattle.std.proofs.lemmas.Option.{slice_get_within, get_or_from_slice_get}
 use Rattle.hb_lemmas.proofs.Booleans.{if_below}
 use Rattle.hb_lemmas.proofs.Options.{some_value}
 use Rattle.hb_pool.specs.Pools.{change_first}
@@ -144,15 +144,6 @@ module _ {X : Type 0} (p : X → Bool) where
       let is = taken_there xs seen i x same at there taken in
       let place : i ≡ position_or_len p xs = at ∙ ap (position_or_len p) same in
       ap (set xs i) (new ∙ ap change taken) ∙ ap (λ n. set xs n (change (get_or xs n x))) place ∙ set_first change xs x (first_within xs x is)
-
-  -- what stands at that place, and that none passes where it is past the end
-  pub first_at : (xs seen : List X) (i : ℕ) (x : X) → seen ≡ xs → i ≡ position_or_len p seen → i < length xs → x ≡ get_or xs i x → find p xs ≡ Some x
-  first_at xs seen i x same at within read =
-      find_at p xs ∙ ap (slice_get xs) (sym (at ∙ ap (position_or_len p) same)) ∙ slice_get_read xs (length xs) i x refl within read
-
-  pub first_past : (xs seen : List X) (i : ℕ) → seen ≡ xs → i ≡ position_or_len p seen → length xs ≤ i → find p xs ≡ None
-  first_past xs seen i same at past =
-      find_at p xs ∙ ap (slice_get xs) (sym (at ∙ ap (position_or_len p) same)) ∙ slice_get_past xs i past
 
 -- the first that passes one test is the first that passes another, if it passes that and no other does
 pub alone_first : {X : Type 0} (q p : X → Bool) (xs : List X) (x : X) → p x ≡ true → count_by p xs ≤ 1 → find q xs ≡ Some x → find p xs ≡ Some x
