@@ -8,6 +8,7 @@ use crate::stores::{EMPTY, FOUR, NEVER, POINTS, SPLIT, with_groups};
 use hb_disk::{Device, RotDisk};
 use hb_frag::{Leaf, Node, Page};
 use hb_ops::Meta;
+use hb_space::Record;
 use hb_store::{Flushed, Store, Touched, read_log};
 use std::alloc::Global;
 
@@ -227,15 +228,21 @@ fn a_tree_grows(rt: HostRuntime) {
     assert!(rt; replays(rt.alloc(), 4, [3, 2, 3, 3]) == Some(true));
 }
 
+/// Whether a record has the point of this value alone.
+fn is_of(record: &Record, value: u64) -> bool {
+    match record.key.values() {
+        [one] => *one == value,
+        _ => false,
+    }
+}
+
 /// Whether a page is one leaf of records with the points 1, 5 and 7.
 fn has_points(page: &Page) -> bool {
     match page {
         Page::Live(page) => match &page.frag.node {
             Node::Tip(Leaf::Records(records)) => match records.as_slice() {
                 [first, second, third] => {
-                    first.key.values() == [1]
-                        && second.key.values() == [5]
-                        && third.key.values() == [7]
+                    is_of(first, 1) && is_of(second, 5) && is_of(third, 7)
                 }
                 _ => false,
             },
