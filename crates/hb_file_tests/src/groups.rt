@@ -241,9 +241,7 @@ fn has_points(page: &Page) -> bool {
     match page {
         Page::Live(page) => match &page.frag.node {
             Node::Tip(Leaf::Records(records)) => match records.as_slice() {
-                [first, second, third] => {
-                    is_of(first, 1) && is_of(second, 5) && is_of(third, 7)
-                }
+                [first, second, third] => { is_of(first, 1) && is_of(second, 5) && is_of(third, 7) }
                 _ => false,
             },
             _ => false,

@@ -71,9 +71,7 @@ const LEFT: [(usize, &[u8]); 4] = [
 ];
 
 /// The frame of a merge behind the others: page 2 into page 1 under page 3.
-const MERGE: [u8; 19] = [
-    0xA5, 0, 0, 0, 14, 0, 5, 0, 0, 0, 3, 0, 0, 0, 1, 0, 0, 0, 2,
-];
+const MERGE: [u8; 19] = [0xA5, 0, 0, 0, 14, 0, 5, 0, 0, 0, 3, 0, 0, 0, 1, 0, 0, 0, 2];
 
 /// What an opening leaves then: the three points in one page, the free page, the page above, and the next superblock's root,
 /// highest page, pages in use and free head.
@@ -93,10 +91,7 @@ const MERGED: [(usize, &[u8]); 4] = [
             1, 0,
         ],
     ),
-    (
-        4121,
-        &[0, 0, 0, 3, 0, 0, 0, 3, 0, 0, 0, 2, 0, 0, 0, 2],
-    ),
+    (4121, &[0, 0, 0, 3, 0, 0, 0, 3, 0, 0, 0, 2, 0, 0, 0, 2]),
 ];
 
 /// What an opening answers: the root, the height, the highest page and the pages in use, with the number of records; or why not.

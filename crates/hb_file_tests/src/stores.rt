@@ -183,11 +183,8 @@ fn boxes_match(op: &Op, kept: Option<&LivePage>, going: Option<&LivePage>) -> bo
 {
     match op {
         Op::Merge { gone, .. } => has_box(*gone, kept, going),
-        Op::Put { .. }
-        | Op::Del { .. }
-        | Op::Post { .. }
-        | Op::Extract { .. }
-        | Op::Grow { .. } => true,
+        Op::Put { .. } | Op::Del { .. } | Op::Post { .. } | Op::Extract { .. } | Op::Grow { .. } =>
+            true,
     }
 }
 

@@ -127,11 +127,7 @@ pub(crate) fn changed(alloc: Global, question: &str) -> Result<String, Fail> {
     let meta = file_of(file)?;
     let pages = pages_of(alloc, page)?;
     let op = op_of(alloc, op)?;
-    Ok(outcome(
-        alloc,
-        &meta,
-        change_of(alloc, op, &meta, &pages),
-    )?)
+    Ok(outcome(alloc, &meta, change_of(alloc, op, &meta, &pages))?)
 }
 
 /// What a merge makes of pages of four attributes in a file of three levels, from `PARENT & KEEP & GONE | NUMBERS`.
@@ -145,11 +141,7 @@ pub(crate) fn merged(alloc: Global, question: &str) -> Result<String, Fail> {
     };
     let pages = pages_of(alloc, pages)?;
     let op = merge_of(numbers)?;
-    Ok(outcome(
-        alloc,
-        &meta,
-        change_of(alloc, op, &meta, &pages),
-    )?)
+    Ok(outcome(alloc, &meta, change_of(alloc, op, &meta, &pages))?)
 }
 
 /// The first rule that a page breaks by itself. 0 where it keeps them all.
