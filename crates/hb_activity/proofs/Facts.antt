@@ -5,3 +5,4 @@ pub mod LaterPages
 pub mod NoPlace
 pub mod OneLeaf
 pub mod OneRecord
+pub mod GivenPages

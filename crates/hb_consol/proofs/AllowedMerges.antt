@@ -4,7 +4,7 @@ use Rattle.hb_activity.proofs.Facts.AllowedDeeds.{Shows, none_shown, one_shown}
 use Rattle.hb_activity.specs.declared.jobs.Job.{Job}
 use Rattle.hb_activity.specs.Deeds.{Deed}
 use Rattle.hb_activity.specs.Sights.{Sight}
-use Rattle.hb_consol.proofs.ScannedPairs.{named_leaf}
+use Rattle.hb_ops.proofs.Facts.NamedChildren.{named_leaf}
 use Rattle.hb_consol.specs.Laws.{ArePagesToMerge, MergesAreAllowed}
 use Rattle.hb_consol.specs.MergeRows.{DoesMerge}
 use Rattle.hb_frag.specs.Leaves.{leaves}

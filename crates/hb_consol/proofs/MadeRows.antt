@@ -1,6 +1,7 @@
 -- The parts of the decider together are the row that was asked for.
 use Rattle.std.proofs.Common.{◌≡◌, ◌≢◌, ◌⊎◌, inl, inr, ℕ, ◌+◌, ◌<◌, ◌≤◌, ◌==◌, Bool, true, false, cond, List, [], ◌∷◌, length, map, sum, Option, Some, refl, ap, ◌∙◌, arith, eq-eqb, ne_eqb}
 use Rattle.std.proofs.lemmas.List.Sums.{sum_by-cons}
+use Rattle.hb_activity.proofs.Facts.GivenPages.{first_given, next_given}
 use Rattle.hb_activity.specs.Deciding.{given_sight, page_among}
 use Rattle.hb_activity.specs.Deeds.{Deed}
 use Rattle.hb_activity.specs.declared.jobs.Job.{Job}
@@ -57,12 +58,6 @@ other_plan job parent keep gone leaf above kept plans.Merge deed (inr (inl wrong
 other_plan job parent keep gone leaf above kept plans.Merge deed (inr (inr wrong)) is = absurd (let none : ⊥ = cc in none)
 
 -- ---- the pages that are given
-
-first_given : (id : ℕ) (page : LivePage) (rest : List (ℕ × LivePage)) → page_among ((id, page) ∷ rest) id ≡ Some page
-first_given id page rest = ap (λ (b : Bool). cond b (Some page) (page_among rest id)) (eq-eqb id id refl)
-
-next_given : (id other : ℕ) (page : LivePage) (rest : List (ℕ × LivePage)) → id ≢ other → page_among ((id, page) ∷ rest) other ≡ page_among rest other
-next_given id other page rest apart = ap (λ (b : Bool). cond b (Some page) (page_among rest other)) (ne_eqb id other apart)
 
 module _ (meta : Meta) (job : Job) (parent id : ℕ) (above page : LivePage) (free : Option (ℕ × ℕ)) where
   pub scans_there : (child : ℕ) (deed : Deed) → deed ≡ tries job parent above child (pair_from above page 0) → Scans (given_sight meta ((parent, above) ∷ (id, page) ∷ []) free) job parent child page deed

@@ -5,6 +5,7 @@ use Rattle.std.proofs.lemmas.Bool.{cases_Bool, eqb-true}
 use Rattle.std.proofs.lemmas.List.{length-append}
 use Rattle.hb_frag.specs.Leaves.{child_names, leaf_at, leaves, leaves_of}
 use Rattle.hb_frag.specs.Rules.{BelongsAt}
+use Rattle.hb_ops.proofs.Facts.NamedChildren.{named_leaf}
 use Rattle.hb_ops.proofs.Facts.Opened.{first_has}
 use Rattle.hb_ops.proofs.Facts.PlacedLaws.{placed, placed_is_leaf}
 use Rattle.hb_space.specs.Boxes.{Area}
@@ -112,19 +113,6 @@ other_leaf parent from (Child page) fails = (refl, refl)
 other_leaf parent from (Sibling page) fails = (ap (λ b. cond b (Some (page, 0)) None) (fails page refl), refl)
 
 -- ---- the pages that a parent names
-
-pub named_leaf : (name : ℕ) (ls : List Leaf) → IsTrue (list_any (λ x. x == name) (child_names ls)) → Contains ls (Child name)
-named_leaf name [] named = cc
-named_leaf name (Records records ∷ rest) named = let more = named_leaf name rest named in (suc more.0, omega (arith, more.1), more.2)
-named_leaf name (Sibling page ∷ rest) named = let more = named_leaf name rest named in (suc more.0, omega (arith, more.1), more.2)
-named_leaf name (Child page ∷ rest) named = by (named_leaf name rest) named
-  where
-    by : (IsTrue (list_any (λ x. x == name) (child_names rest)) → Contains rest (Child name)) → IsTrue ((page == name) || list_any (λ x. x == name) (child_names rest)) → Contains (Child page ∷ rest) (Child name)
-    by later here =
-        elim (page == name) as (λ t. (page == name) ≡ t → IsTrue (t || list_any (λ x. x == name) (child_names rest)) → Contains (Child page ∷ rest) (Child name)) [
-          | true ↦ λ same h. (0, omega arith, ap Child (eqb-true page name same))
-          | false ↦ λ other h. let more = later h in (suc more.0, omega (arith, more.1), more.2)
-        ] refl here
 
 true_before : (b c : Bool) → b ≡ true → b || c ≡ true
 true_before true c is = refl

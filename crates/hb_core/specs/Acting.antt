@@ -75,11 +75,14 @@ TakesMemory (at.ConsolidatorScan job parent child) deed = Unit {0}
 TakesMemory (at.ConsolidatorTry job parent keep gone leaf) deed = Unit {0}
 TakesMemory other deed = HasOp deed
 
+abbrev pub TakesSome : Option Wanted → Machine → Activity → Type 0
+TakesSome wanted m activity = (deed : Deed) × Row activity wanted m deed × TakesMemory activity deed
+
 -- Or it is given up: a page that it needs couldn't be read; or memory was refused, for such a page or for what the row takes.
 abbrev pub GivesUpFor : DropWhy → Machine → ℕ → StoreState → Type 0
 GivesUpFor drops.ReadFault m actor fetched = LacksNeeded m actor fetched
 GivesUpFor drops.NoMemory m actor fetched =
-    LacksNeeded m actor fetched ⊎ ((deed : Deed) × Row (m.activity actor) (wanted_by m actor) (with_disk fetched m.files m.clock m) deed × TakesMemory (m.activity actor) deed)
+    LacksNeeded m actor fetched ⊎ TakesSome (wanted_by m actor) (with_disk fetched m.files m.clock m) (m.activity actor)
 
 pub record Abandons (m : Machine) (actor : ℕ) (outcome : Outcome) (new : Machine) : Type 0 where
   pub why : DropWhy

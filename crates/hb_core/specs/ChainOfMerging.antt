@@ -16,6 +16,7 @@ use Rattle.hb_activity.specs.declared.activities.Activity.TheVariants.{Consolida
 use Rattle.hb_core.specs.declared.outcomes.Outcome.{Outcome}
 use Rattle.hb_core.specs.declared.outcomes.Outcome.TheVariants.{Moved, Idle}
 use Rattle.hb_core.specs.ChainOfPosting.{raised_meta}
+use Rattle.hb_poster.specs.Examples.{page_three as one_child}
 use Rattle.hb_sound.specs.LateFile.{late_record}
 use Rattle.hb_core.specs.Scenes.{Scene, StepsSaying, at_start, machine_of}
 use Rattle.hb_log_codec.specs.Groups.{group_bytes}
@@ -66,9 +67,6 @@ one_to_go = valued 45 ∷ []
 -- Page 1 has all of the records then, the parent names page 1 alone, and page 2 is the first of the free chain.
 abbrev pub joined_page : LivePage
 joined_page = record { level = 0; area = whole_area 1; frag = Tip (Records (valued 10 ∷ valued 45 ∷ valued 70 ∷ [])) }
-
-abbrev pub one_child : LivePage
-one_child = record { level = 1; area = whole_area 1; frag = Tip (Child 1) }
 
 abbrev pub joined_meta : Meta
 joined_meta = record { k = 1; pages = 64; log = 65536; dcap = 6; icap = 32; root = 3; height = 2; high = 3; live = 2; free = 2 }

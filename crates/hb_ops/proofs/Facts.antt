@@ -15,3 +15,5 @@ pub mod Contents
 pub mod Places
 pub mod AllowedOps
 pub mod FilePages
+pub mod KnownBoxes
+pub mod NamedChildren

@@ -20,9 +20,9 @@ use Rattle.hb_layout.specs.declared.meta.Meta.{Meta}
 use Rattle.hb_lemmas.proofs.Lists.{All-parts}
 use Rattle.hb_ops.specs.Merging.{FitsMerge, kept_page, parent_page, taken_over}
 use Rattle.hb_ops.specs.Sound.{FitsFile}
-use Rattle.hb_ops.proofs.Facts.PathLaws.{well_cut_again}
+use Rattle.hb_ops.proofs.Facts.PathLaws.{well_cut_again, with_own}
 use Rattle.hb_ops.proofs.Facts.StemLaws.{PartLaws}
-use Rattle.hb_ops.proofs.PostMade.{JoinLaws, normal_own, order_above, with_leaves, with_own}
+use Rattle.hb_ops.proofs.PostMade.{JoinLaws, normal_own, order_above, with_leaves}
 
 -- what holds of the placed leaves of a tree and of a part holds where the part stands in the tree
 with_places : PartLaws → (P : Placed → Type 0) (path : List Side) (t : Tree) (area : Area) (w : Tree × Area) (other : Tree) → part_at path t area ≡ Some w → All P (leaves_of t area) → All P (leaves_of other w.1) → All P (leaves_of (with_part path t other) area)

@@ -19,7 +19,7 @@ use Rattle.hb_ops.specs.Posting.{FitsPost, post_page}
 use Rattle.hb_ops.specs.Sound.{FitsFile}
 use Rattle.hb_ops.proofs.CarvedCuts.{carved_below, carved_own, carved_well_cut}
 use Rattle.hb_lemmas.proofs.Lists.{All-parts}
-use Rattle.hb_ops.proofs.Facts.PathLaws.{not_lone_again, well_cut_again}
+use Rattle.hb_ops.proofs.Facts.PathLaws.{with_own, well_cut_again}
 use Rattle.hb_ops.proofs.PostTests.{leaf_attributes, page_named, the_tree}
 use Rattle.hb_ops.proofs.Facts.PlacedLaws.{placed}
 
@@ -67,10 +67,6 @@ joined_own axis value (Cut a v l r) right lone = lone
 pub normal_own : (t : Tree) → IsSiblingTip (normal t) → IsSiblingTip t
 normal_own (Tip leaf) lone = lone
 normal_own (Cut axis value left right) lone = absurd (joined_own axis value (normal left) (normal right) lone)
-
-pub with_own : (path : List Side) (t : Tree) (area : Area) (w : Tree × Area) (other : Tree) → part_at path t area ≡ Some w → ¬ (IsSiblingTip other) → ¬ (IsSiblingTip (with_part path t other))
-with_own [] t area w other e own = own
-with_own (side ∷ path) t area w other e own = not_lone_again side path t area w other e
 
 pub post_made : JoinLaws → (meta : Meta) (page : LivePage) (at : List Side) (inner : ℕ) (area : Area) → length area.lo ≡ meta.k → FitsPost meta page at inner area → FitsFile meta (post_page at inner area page)
 post_made laws meta page at inner area attributes fits =

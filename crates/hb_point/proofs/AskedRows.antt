@@ -1,6 +1,7 @@
 -- The parts of the decider together are the row that was asked for.
 use Rattle.std.proofs.Common.{◌≡◌, ◌≢◌, ◌⊎◌, inl, inr, ℕ, ◌<◌, Bool, cond, List, [], ◌∷◌, Option, Some, refl, sym, ap, subst, ◌∙◌, eq-eqb, ne_eqb}
 use Rattle.std.specs.Prelude.{MatchOption}
+use Rattle.hb_activity.proofs.Facts.GivenPages.{first_given, next_given}
 use Rattle.hb_activity.specs.Deciding.{deed_of, given_pages, given_sight, page_among}
 use Rattle.hb_activity.specs.Passing.{PassesOn}
 use Rattle.hb_activity.specs.Walks.{goal_of}
@@ -50,14 +51,6 @@ asked_walk state meta free id page first next line held rest found is walks =
     subst (λ (a : Activity). PointRow a (given_sight meta (given_pages a id page first) free) id page (deed_of a next)) (sym is) (walks held ((id, page) ∷ []) free)
 
 -- ---- a split
-
--- a page that stands first is the one of its number
-first_given : (id : ℕ) (page : LivePage) (rest : List (ℕ × LivePage)) → page_among ((id, page) ∷ rest) id ≡ Some page
-first_given id page rest = ap (λ (b : Bool). cond b (Some page) (page_among rest id)) (eq-eqb id id refl)
-
--- and one of another number isn't
-next_given : (id other : ℕ) (page : LivePage) (rest : List (ℕ × LivePage)) → id ≢ other → page_among ((id, page) ∷ rest) other ≡ page_among rest other
-next_given id other page rest apart = ap (λ (b : Bool). cond b (Some page) (page_among rest other)) (ne_eqb id other apart)
 
 pub splits_off : (meta : Meta) (line : Line) (held fresh free_after : ℕ) (page : LivePage) (path : List Side) (cuts : List LeafCut) (part : Tree × Area) (next : Next) →
     meta.live < meta.pages → IsChosen page path cuts → part_at path page.frag page.area ≡ Some part →

@@ -12,6 +12,7 @@ use Rattle.hb_frag.specs.Leaves.{Placed, leaves_of}
 use Rattle.hb_frag.specs.Rules.{Fits}
 use Rattle.hb_frag.specs.Trees.{Tree, Tip, Cut}
 use Rattle.hb_layout.specs.declared.meta.Meta.{Meta}
+use Rattle.hb_ops.proofs.Facts.KnownBoxes.{known_within}
 use Rattle.hb_ops.specs.Files.{FileState, live_page}
 use Rattle.hb_ops.specs.Sound.{ChildrenMatch, SiblingsMatch}
 use Rattle.hb_sound.specs.declared.facts.Seen.{Seen}
@@ -50,19 +51,6 @@ known_area a b = elim (both (known_list a.lo b.lo) (known_list a.hi b.hi)) [
   | inl is ↦ inl (ap (λ (lo : List ℕ). box lo a.hi) is.0 ∙ ap (λ (hi : List ℕ). box b.lo hi) is.1)
   | inr fails ↦ inr (λ e. fails (ap (λ (x : Area). x.lo) e, ap (λ (x : Area). x.hi) e))
 ]
-
-known_up_to : (P : ℕ → Type 0) → ((i : ℕ) → Known (P i)) → (n : ℕ) → Known ((i : ℕ) → i < n → P i)
-known_up_to P know zero = inl (λ i lt. absurd (omega (arith, lt)))
-known_up_to P know (suc n) = elim (known_up_to P know n) [
-  | inr fails ↦ inr (λ every. fails (λ i lt. every i (omega (arith, lt))))
-  | inl all ↦ elim (know n) [
-    | inl here ↦ inl (λ i lt. elim (cases_eq i n) [ inl e ↦ subst P (sym e) here | inr other ↦ all i (omega (arith, lt, other)) ])
-    | inr fails ↦ inr (λ every. fails (every n (omega arith)))
-  ]
-]
-
-known_within : (a b : Area) → Known (Within a b)
-known_within a b = known_up_to _ (λ i. both (known_le _ _) (known_le _ _)) (length a.lo)
 
 known_same : (o : Option Seen) (level : ℕ) (area : Area) → Known ((seen : Seen) × (o ≡ Some seen) × (seen.level ≡ level) × (seen.area ≡ area))
 known_same None level area = inr (λ h. let never : None ≡ Some h.0 = h.1 in cc)

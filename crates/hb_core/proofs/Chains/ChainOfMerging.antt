@@ -17,7 +17,8 @@ use Rattle.hb_activity.specs.declared.jobs.JobKind.TheVariants.{Merge}
 use Rattle.hb_activity.specs.declared.activities.Activity.TheVariants as at
 use Rattle.hb_consol.specs.ConsolidatorRows.{ends_merging}
 use Rattle.hb_core.specs.Asking.{box_of_child, box_of_place, box_of_sibling}
-use Rattle.hb_core.specs.ChainOfMerging.{MergeIsGivenUp, PairBecomesOne, going_page, joined_page, keeping_page, merges_at, merging_before, one_child, one_to_go, three_to_go, two_children, valued}
+use Rattle.hb_core.specs.ChainOfMerging.{MergeIsGivenUp, PairBecomesOne, going_page, joined_page, keeping_page, merges_at, merging_before, one_to_go, three_to_go, two_children, valued}
+use Rattle.hb_poster.specs.Examples.{page_three as one_child}
 use Rattle.hb_core.specs.ChainOfPosting.{raised_meta}
 use Rattle.hb_core.specs.Performing.{ChangesQueue}
 use Rattle.hb_core.specs.Rows.{Row}

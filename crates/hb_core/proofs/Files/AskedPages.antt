@@ -17,6 +17,7 @@ use Rattle.hb_core.specs.Asking.{AskedBox, HasAskedBox, box_at, box_by_leaf, box
 use Rattle.hb_frag.proofs.Facts.Tiles.{leaves_placed}
 use Rattle.hb_frag.specs.Leaves.{Placed, child_names, first_at, first_named, leaf_at, leaves, leaves_of, siblings_of}
 use Rattle.hb_frag.specs.Trees.{Tree, Tip, Cut}
+use Rattle.hb_ops.proofs.Facts.NamedChildren.{named_leaf}
 use Rattle.hb_ops.specs.Files.{FileState, live_page}
 use Rattle.hb_ops.proofs.Facts.PlacedLaws.{leaf_is_sibling, placed}
 use Rattle.hb_ops.specs.Sound.{IsSound}
@@ -160,20 +161,6 @@ pub place_among : {A : Type 0} (xs : List A) (place : ℕ) (x : A) → slice_get
 place_among [] place x is = cc
 place_among (y ∷ xs) zero x is = (0, omega arith, let one : y ≡ x = cc in one)
 place_among (y ∷ xs) (suc place) x is = let more = place_among xs place x is in (suc more.0, omega (arith, more.1), more.2)
-
--- a child that a page names has a leaf
-pub named_leaf : (name : ℕ) (ls : List Leaf) → IsTrue (list_any (λ x. x == name) (child_names ls)) → Contains ls (Child name)
-named_leaf name [] named = cc
-named_leaf name (Records records ∷ rest) named = let more = named_leaf name rest named in (suc more.0, omega (arith, more.1), more.2)
-named_leaf name (Sibling page ∷ rest) named = let more = named_leaf name rest named in (suc more.0, omega (arith, more.1), more.2)
-named_leaf name (Child page ∷ rest) named = by (named_leaf name rest) named
-  where
-    by : (IsTrue (list_any (λ x. x == name) (child_names rest)) → Contains rest (Child name)) → IsTrue ((page == name) || list_any (λ x. x == name) (child_names rest)) → Contains (Child page ∷ rest) (Child name)
-    by later here =
-        elim (page == name) as (λ t. (page == name) ≡ t → IsTrue (t || list_any (λ x. x == name) (child_names rest)) → Contains (Child page ∷ rest) (Child name)) [
-          | true ↦ λ same h. (0, omega arith, ap Child (eqb-true page name same))
-          | false ↦ λ other h. let more = later h in (suc more.0, omega (arith, more.1), more.2)
-        ] refl here
 
 -- a leaf has a box
 pub leaf_with_box : (t : Tree) (area : Area) (leaf : Leaf) → Contains (leaves t) leaf → (b : Area) × Contains (leaves_of t area) (placed leaf b)

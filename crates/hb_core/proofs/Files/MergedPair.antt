@@ -15,7 +15,8 @@ use Rattle.hb_activity.specs.declared.activities.Activity.TheVariants as at
 use Rattle.hb_activity.specs.Waiting.{IsLater}
 use Rattle.hb_activity.specs.Wanting.{wanted_of, wanted_page}
 use Rattle.hb_consol.specs.ConsolidatorRows.{names_child}
-use Rattle.hb_core.proofs.Files.AskedPages.{first_sibling_among, named_leaf}
+use Rattle.hb_core.proofs.Files.AskedPages.{first_sibling_among}
+use Rattle.hb_ops.proofs.Facts.NamedChildren.{named_leaf}
 use Rattle.hb_core.proofs.Files.PairAtHand.{gone_box, gone_live}
 use Rattle.hb_core.proofs.Memory.BroughtPages.{both_there}
 use Rattle.hb_core.proofs.Memory.KeptPages.{KeepsPages}

@@ -45,12 +45,15 @@ given_there f (at.PosterChild job parent) id page (Some over) live is = (sym is,
 given_there f (at.PosterAgain job parent) id page (Some over) live is = (sym is, (live, tt))
 given_there f activity id page first live is = (live, tt)
 
+under_number : (st : StoreState) (id n : ℕ) (page : LivePage) → id ≡ n → live_here st id ≡ Some page → live_here st n ≡ Some page
+under_number st id n page is_id live = ap (live_here st) (sym is_id) ∙ live
+
 module _ (st : StoreState) (activity : Activity) (n : ℕ) (free : Option (ℕ × ℕ)) (id : ℕ) (page : LivePage) (first : Option LivePage) (meta : Meta) (is_id : id ≡ n) (live : live_here st id ≡ Some page) (other : first ≡ other_page st activity) (is_meta : meta ≡ st.meta) where
   shown : ((number : ℕ × ℕ) → free ≡ Some number → next_of st ≡ Some number) → (place : ℕ) → IsSeenIn (sight_in st place) (given_sight meta (given_pages activity id page first) free)
   shown next place = record { meta = is_meta; pages = among_there (live_here st) (given_pages activity id page first) (given_there (live_here st) activity id page first live other); next = next }
 
   live_there : live_here st n ≡ Some page
-  live_there = ap (live_here st) (sym is_id) ∙ live
+  live_there = under_number st id n page is_id live
 
   same_page : (asked : LivePage) → live_here st n ≡ Some asked → asked ≡ page
   same_page asked there = same_Some asked page (sym there ∙ live_there)
@@ -155,7 +158,7 @@ module _ (st : StoreState) (activity : Activity) (n : ℕ) (id : ℕ) (page : Li
   pair_shown place = record { meta = is_meta; pages = among_there (live_here st) (pages_given activity id page first second) (pair_there (live_here st) activity id page first second live other kept); next = no_number }
 
   its_page : live_here st n ≡ Some page
-  its_page = ap (live_here st) (sym is_id) ∙ live
+  its_page = under_number st id n page is_id live
 
   one_page : (asked : LivePage) → live_here st n ≡ Some asked → asked ≡ page
   one_page asked there = same_Some asked page (sym there ∙ its_page)

@@ -5,6 +5,7 @@ use Rattle.std.proofs.lemmas.List.Elements.{All-cons, All-head, All-nil, All-tai
 use Rattle.hb_frag.specs.declared.pages.LivePage.{LivePage}
 use Rattle.hb_frag.specs.Leaves.{DirectlyCovers, first_named, siblings_of}
 use Rattle.hb_lemmas.proofs.Decisions.{Known, both, known_le}
+use Rattle.hb_ops.proofs.Facts.KnownBoxes.{known_up_to, known_within}
 use Rattle.hb_ops.specs.Merging.{GaveTo, merged_weight}
 use Rattle.hb_space.specs.Boxes.{Area, Meets, Within}
 use Rattle.hb_terms.specs.declared.merging.MergePlan.{MergePlan}
@@ -12,19 +13,6 @@ use Rattle.hb_terms.specs.declared.merging.MergePlan.TheVariants as plans
 use Rattle.hb_terms.specs.Merging.{IsMergePlan}
 
 -- whether a page directly holds a box is decided
-
-known_up_to : (P : ℕ → Type 0) → ((i : ℕ) → Known (P i)) → (n : ℕ) → Known ((i : ℕ) → i < n → P i)
-known_up_to P know zero = inl (λ i lt. absurd (omega (arith, lt)))
-known_up_to P know (suc n) = elim (known_up_to P know n) [
-  | inr fails ↦ inr (λ every. fails (λ i lt. every i (omega (arith, lt))))
-  | inl all ↦ elim (know n) [
-    | inl here ↦ inl (λ i lt. elim (cases_eq i n) [ inl e ↦ subst P (sym e) here | inr other ↦ all i (omega (arith, lt, other)) ])
-    | inr fails ↦ inr (λ every. fails (every n (omega arith)))
-  ]
-]
-
-known_within : (a b : Area) → Known (Within a b)
-known_within a b = known_up_to _ (λ i. both (known_le _ _) (known_le _ _)) (length a.lo)
 
 known_meets : (a b : Area) → Known (Meets a b)
 known_meets a b = known_up_to _ (λ i. known_le _ _) (length a.lo)

@@ -42,7 +42,7 @@ use Rattle.hb_core.proofs.Searches.LeafRecords.{leaf_of}
 use Rattle.hb_core.proofs.Searches.PutInOrder.{in_order}
 use Rattle.hb_core.proofs.Walks.MayBeAsked.{splits_may_be_asked}
 use Rattle.hb_core.specs.AllowedLaws.{AnyPage}
-use Rattle.hb_core.specs.Acting.{TakesMemory}
+use Rattle.hb_core.specs.Acting.{TakesMemory, TakesSome}
 use Rattle.hb_core.specs.Asking.{wanted_by}
 use Rattle.hb_core.specs.KeptFits.{IsBoxOf, boxes_left}
 use Rattle.hb_core.specs.KeptMachine.{MachineKeeps}
@@ -61,7 +61,7 @@ module _ (d : DiskModel) (c : RunningCore) (m : Machine) (actor : ℕ) (free : O
   pages_kept = brought m AnyPage c.store (brings d c m actor free may has) (keeps_pages m keeps.meta_within_limits keeps.pages_of_file)
 
   abbrev Takes : Activity → Type 0
-  Takes activity = (deed : Deed) × Row activity (wanted_by m actor) (with_memory c m) deed × TakesMemory activity deed
+  Takes = TakesSome (wanted_by m actor) (with_memory c m)
 
   -- a page that weighs enough has a part that may leave it to the number that is given
   part_leaves : (id : ℕ) (page : LivePage) (number : ℕ × ℕ) → live_here c.store id ≡ Some page → 6 ≤ weight_of page.frag → c.store.meta.live < c.store.meta.pages → free ≡ Some number → PartLeavesTo (sight (with_memory c m)) (IsChosen page) page

@@ -23,7 +23,7 @@ use Rattle.hb_activity.specs.Walks.{walk_held}
 use Rattle.hb_activity.specs.Wanting.{wanted_of, wanted_page}
 use Rattle.hb_consol.specs.ConsolidatorRows.{after_try, children_of, first_one, names_child, one_behind, one_on, pair_among, pair_from, scans, tries}
 use Rattle.hb_consol.specs.MergeRows.{after_keep}
-use Rattle.hb_core.proofs.Files.AskedPages.{named_leaf}
+use Rattle.hb_ops.proofs.Facts.NamedChildren.{named_leaf}
 use Rattle.hb_core.proofs.Table.MergerMoves.{StaysMerger, decided, of_page}
 use Rattle.hb_core.proofs.Table.NextPlaces.{AsksFor, HoldsNothing, MergesOn, now}
 use Rattle.hb_core.specs.Asking.{looked_live}

@@ -62,3 +62,7 @@ not_lone_again Left path (Tip leaf) area w other e lone = absurd (cc)
 not_lone_again Right path (Tip leaf) area w other e lone = absurd (cc)
 not_lone_again Left path (Cut axis value left right) area w other e lone = lone
 not_lone_again Right path (Cut axis value left right) area w other e lone = lone
+
+pub with_own : (path : List Side) (t : Tree) (area : Area) (w : Tree × Area) (other : Tree) → part_at path t area ≡ Some w → ¬ (IsSiblingTip other) → ¬ (IsSiblingTip (with_part path t other))
+with_own [] t area w other e own = own
+with_own (side ∷ path) t area w other e own = not_lone_again side path t area w other e

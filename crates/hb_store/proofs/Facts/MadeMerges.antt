@@ -29,7 +29,7 @@ use Rattle.hb_ops.specs.declared.operations.Op.TheVariants.{Put, Del, Extract, P
 use Rattle.hb_ops.specs.Merging.{FitsMerge, kept_page, merged_weight, parent_page, taken_over}
 use Rattle.hb_ops.specs.Operations.{change_of}
 use Rattle.hb_ops.specs.Sound.{FitsFile}
-use Rattle.hb_ops.proofs.Facts.PathLaws.{not_lone_again}
+use Rattle.hb_ops.proofs.Facts.PathLaws.{with_own}
 use Rattle.hb_store.specs.Making.{MakesGoodPages, MakesWritablePages}
 use Rattle.hb_store.specs.Replaying.{HasLimits}
 use Rattle.hb_store.specs.States.{IsGoodPage}
@@ -155,10 +155,6 @@ module _ (same : (t : Tree) → SaysTheSame t (normal t)) (within : WithinCapaci
         light = omega (arith, lighter, made.filled.light);
         own = own_normal t (own_renamed gone keep above.frag made.filled.own);
       })
-
-  with_own : (path : List Side) (t : Tree) (area : Area) (w : Tree × Area) (other : Tree) → part_at path t area ≡ Some w → ¬ (IsSiblingTip other) → ¬ (IsSiblingTip (with_part path t other))
-  with_own [] t area w other e own = own
-  with_own (side ∷ path) t area w other e own = not_lone_again side path t area w other e
 
   -- the page to keep, with what the page to go has where its sibling leaf stood
   kept_spelled : (meta : Meta) (parent keep gone : ℕ) (above kept going : LivePage) → HasLimits meta → FitsMerge meta parent keep gone above kept going → HasSpelling (Live kept) → HasSpelling (Live going) → (way : Option (List Side)) → sibling_way gone kept.frag ≡ way
