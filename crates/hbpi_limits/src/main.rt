@@ -30,6 +30,7 @@ mod spaces;
 mod trees;
 
 use crate::missed::Missed;
+use std::alloc::Global;
 use std::io;
 
 /// Says whether the limit was reached.
@@ -40,114 +41,129 @@ fn tell(rt: &impl Print, limit: &str, reached: Result<(), Missed>) -> io::Result
     }
 }
 
-fn main(rt: HostRuntime) -> io::Result<()> {
-    let alloc = rt.alloc();
+/// Says of pages, of their parts and of what is made of them whether each limit was reached.
+fn tell_pages(rt: &impl Print, alloc: Global) -> io::Result<()> {
     tell(
-        &rt,
+        rt,
         "48 records of four attributes and 32 bytes, put, found and deleted",
         records::fill_a_page(alloc),
     )?;
-    tell(&rt, "a page of 256 children", pages::many_children(alloc))?;
-    tell(&rt, "a leaf of 48 records", pages::many_records(alloc))?;
+    tell(rt, "a page of 256 children", pages::many_children(alloc))?;
+    tell(rt, "a leaf of 48 records", pages::many_records(alloc))?;
     tell(
-        &rt,
+        rt,
         "a page of 313 cuts, each on a side of the one before",
         paths::all_lengths(alloc),
     )?;
     tell(
-        &rt,
+        rt,
         "pages of 6 to 256 children, split, posted in and joined",
         indexes::all_counts(alloc),
     )?;
-    tell(&rt, "files of 2 to 12 levels", indexes::all_levels(alloc))?;
+    tell(rt, "files of 2 to 12 levels", indexes::all_levels(alloc))?;
     tell(
-        &rt,
+        rt,
         "boxes with a hole, carved by 0 to 8 cuts",
         holes::all_holes(alloc),
     )?;
     tell(
-        &rt,
+        rt,
         "leaves of 0 to 48 records that become one",
         leaves::all_joined(alloc),
     )?;
     tell(
-        &rt,
+        rt,
         "records that come and go behind 0 to 47 cuts",
         leaves::all_places(alloc),
     )?;
     tell(
-        &rt,
+        rt,
         "parts that leave by 0 to 47 cuts",
         leaves::all_parts(alloc),
     )?;
     tell(
-        &rt,
+        rt,
         "parts of stars, cut on each attribute",
         leaves::all_stars(alloc),
-    )?;
+    )
+}
+
+/// Says of payloads, log areas, sets and texts.
+fn tell_texts(rt: &impl Print, alloc: Global) -> io::Result<()> {
     tell(
-        &rt,
+        rt,
         "payloads of 1 to 100 groups of each length",
         payloads::all_groups(alloc),
     )?;
     tell(
-        &rt,
+        rt,
         "log areas of 67108864 bytes, full of frames",
         payloads::all_frames(alloc),
     )?;
     tell(
-        &rt,
+        rt,
         "files of three levels that are posted, and sets, of one to four attributes",
         spaces::all_spaces(alloc),
     )?;
     tell(
-        &rt,
+        rt,
         "log areas of 67108864 bytes",
         logs::longest_areas(alloc),
     )?;
     tell(
-        &rt,
+        rt,
         "1000000 lines and 10000000 steps in one call, and 999999 frames in one replay",
         logs::many_frames(alloc),
     )?;
     tell(
-        &rt,
+        rt,
         "1000000 lines, and 500000 records in one reply",
         searches::many_lines(alloc),
     )?;
     tell(
-        &rt,
+        rt,
         "10000 records in a file, and in one reply",
         found::many_found(alloc),
-    )?;
+    )
+}
+
+/// Says of files, from a new one to a last look.
+fn tell_files(rt: &impl Print, alloc: Global) -> io::Result<()> {
     tell(
-        &rt,
+        rt,
         "one to four attributes, from a new file to a last look",
         attributes::one_to_four(alloc),
     )?;
     tell(
-        &rt,
+        rt,
         "one to twelve levels, and one more where there may be",
         heights::each_height(alloc),
     )?;
     tell(
-        &rt,
+        rt,
         "65, 1000 and 65536 pages, changed, replayed and found in their places",
         sizes::many_pages(alloc),
     )?;
     tell(
-        &rt,
+        rt,
         "300 splits, with 100 pages of a free chain and 200 new ones",
         free_pages::all_are_taken(alloc),
     )?;
     tell(
-        &rt,
+        rt,
         "each rule that the last of 1000 pages may break",
         audits::each_rule(alloc),
     )?;
     tell(
-        &rt,
+        rt,
         "the pages of a sound file, once or twice",
         asks::pages_are_asked(alloc),
     )
+}
+
+fn main(rt: HostRuntime) -> io::Result<()> {
+    let alloc = rt.alloc();
+    tell_pages(&rt, alloc)?;
+    tell_texts(&rt, alloc)?;
+    tell_files(&rt, alloc)
 }
