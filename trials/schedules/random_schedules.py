@@ -93,7 +93,8 @@ def a_schedule(rng, sessions, lines, poster, turn=60, merger=0):
         for _ in range((max(collections.Counter(line[1] for line in lines).values()) + 4) * (2 if merger else 1)):
             for actor in actors:
                 steps += [actor] * turn
-            steps += ["p"] * (6 if poster else 0) + ["c"] * (9 if merger else 0)
+            # who has begun goes on, since it may hold a page
+            steps += ["p"] * (6 if poster else 0) + ["c"] * (9 if "c" in steps else 0)
     return steps, finishes
 
 
@@ -515,6 +516,7 @@ def refuse(cases, most=None):
                         show(case, f"allocation {number}: {bad}", told, 0)
             if most is None or counts["cases"] % 50 == 0:
                 print(f"case {case.seed}, {all_of_them} allocations, {differ} differ", dict(counts), flush=True)
+    print(f"{differ} differ", dict(counts))
     sys.exit(differ > 0)
 
 
