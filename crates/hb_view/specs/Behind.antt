@@ -1,0 +1,46 @@
+-- Reading over what stands at the front of the bytes. Each definition gives the bytes behind it, and None where
+-- nothing of its kind stands there.
+use Rattle.std.specs.Prelude.{ℕ, zero, suc, List, [], ◌∷◌, Option, Some, None}
+use Rattle.hb_page_codec.specs.Reading.{◌>>=◌, number_at}
+use Rattle.hb_page_codec.specs.ReadingFields.{axis_at, body_at, count_at, point_at, records_at}
+use Rattle.hb_page_codec.specs.ReadingPages.{tree_at}
+
+-- the bytes behind what was read
+abbrev pub behind : {A : Type 0} → Option (A × List ℕ) → Option (List ℕ)
+behind (Some x) = Some x.1
+behind None = None
+
+-- a record of k attributes
+unfoldable pub record_behind : ℕ → List ℕ → Option (List ℕ)
+record_behind k bytes = do
+  rest ← behind (point_at k bytes)
+  behind (body_at rest)
+
+-- a leaf of records behind its tag
+unfoldable pub records_behind : ℕ → List ℕ → Option (List ℕ)
+records_behind k bytes = do
+  count ← count_at k bytes
+  behind (records_at k count.0 count.1)
+
+-- a cut behind its tag
+unfoldable pub cut_behind : ℕ → List ℕ → Option (List ℕ)
+cut_behind k bytes = do
+  axis ← axis_at k bytes
+  value ← number_at 8 axis.1
+  left ← behind (tree_at k value.1)
+  behind (tree_at k left)
+
+-- the name of a page
+unfoldable pub name_behind : List ℕ → Option (List ℕ)
+name_behind bytes = do
+  page ← number_at 4 bytes
+  Some page.1
+
+-- a tree by its root
+unfoldable pub node_behind : ℕ → List ℕ → Option (List ℕ)
+node_behind k [] = None
+node_behind k (zero ∷ rest) = cut_behind k rest
+node_behind k (suc zero ∷ rest) = records_behind k rest
+node_behind k (suc (suc zero) ∷ rest) = name_behind rest
+node_behind k (suc (suc (suc zero)) ∷ rest) = name_behind rest
+node_behind k (suc (suc (suc (suc b))) ∷ rest) = None

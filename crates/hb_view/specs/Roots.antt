@@ -1,0 +1,82 @@
+-- The tree at the front of bytes, seen by its root.
+use Rattle.std.specs.Prelude.{◌≡◌, ℕ, zero, suc, ◌<◌, List, [], ◌∷◌, length, Option, Some, None, IsSome}
+use Rattle.hb_space.specs.declared.records.Record.{Record}
+use Rattle.hb_frag.specs.declared.leaves.Leaf.TheVariants as leaves
+use Rattle.hb_frag.specs.Trees.{Tree, Tip, Cut}
+use Rattle.hb_page_codec.specs.Reading.{◌>>=◌, number_at}
+use Rattle.hb_page_codec.specs.ReadingFields.{axis_at, count_at, records_at}
+use Rattle.hb_page_codec.specs.ReadingPages.{tree_at}
+use Rattle.hb_view.specs.declared.roots.Root.{Root}
+use Rattle.hb_view.specs.declared.roots.Root.TheVariants as roots
+
+-- the tree at the front of the bytes, where one stands there
+abbrev pub tree_or : Option (Tree × List ℕ) → Tree
+tree_or (Some x) = x.0
+tree_or None = Tip (leaves.Child 0)
+
+abbrev pub tree_there : ℕ → List ℕ → Tree
+tree_there k bytes = tree_or (tree_at k bytes)
+
+-- and the bytes behind it
+abbrev pub rest_or : Option (Tree × List ℕ) → List ℕ
+rest_or (Some x) = x.1
+rest_or None = []
+
+abbrev pub rest_there : ℕ → List ℕ → List ℕ
+rest_there k bytes = rest_or (tree_at k bytes)
+
+-- what a root says by itself: a cut, with the bytes of its sides, or a leaf, with the bytes of its records
+pub data Sight : Type 0 where
+  Cuts : ℕ → ℕ → List ℕ → Sight
+  Lists : ℕ → List ℕ → Sight
+  Falls : ℕ → Sight
+  Gives : ℕ → Sight
+
+abbrev pub sight_of : Root → Sight
+sight_of (roots.Cut axis value left) = Cuts axis value left.now
+sight_of (roots.Records count first) = Lists count first.now
+sight_of (roots.Child page) = Falls page
+sight_of (roots.Sibling page) = Gives page
+
+unfoldable pub root_at : ℕ → List ℕ → Option Sight
+root_at k [] = None
+root_at k (zero ∷ rest) = do
+  axis ← axis_at k rest
+  value ← number_at 8 axis.1
+  Some (Cuts axis.0 value.0 value.1)
+root_at k (suc zero ∷ rest) = do
+  count ← count_at k rest
+  Some (Lists count.0 count.1)
+root_at k (suc (suc zero) ∷ rest) = do
+  page ← number_at 4 rest
+  Some (Falls page.0)
+root_at k (suc (suc (suc zero)) ∷ rest) = do
+  page ← number_at 4 rest
+  Some (Gives page.0)
+root_at k (suc (suc (suc (suc b))) ∷ rest) = None
+
+-- A tree stands at the front, and is this cut. Its left side begins at `left`, and its right side behind that.
+pub record IsCut (k : ℕ) (bytes : List ℕ) (axis value : ℕ) (left : List ℕ) : Type 0 where
+  pub left_there : IsSome (tree_at k left)
+  pub right_there : IsSome (tree_at k (rest_there k left))
+  pub tree : tree_there k bytes ≡ Cut axis value (tree_there k left) (tree_there k (rest_there k left))
+  pub rest : rest_there k bytes ≡ rest_there k (rest_there k left)
+  pub attribute : axis < k
+  pub left_shorter : length left < length bytes
+  pub right_shorter : length (rest_there k left) < length bytes
+
+-- It is a leaf with so many records, the first of which stands at `first`.
+pub record IsList (k : ℕ) (bytes : List ℕ) (count : ℕ) (first : List ℕ) : Type 0 where
+  pub records : List Record
+  pub read : records_at k count first ≡ Some (records, rest_there k bytes)
+  pub tree : tree_there k bytes ≡ Tip (leaves.Records records)
+
+abbrev pub IsSight : ℕ → List ℕ → Sight → Type 0
+IsSight k bytes (Cuts axis value left) = IsCut k bytes axis value left
+IsSight k bytes (Lists count first) = IsList k bytes count first
+IsSight k bytes (Falls page) = tree_there k bytes ≡ Tip (leaves.Child page)
+IsSight k bytes (Gives page) = tree_there k bytes ≡ Tip (leaves.Sibling page)
+
+-- the tree that stands at the front of the bytes has this root
+abbrev pub IsRoot : ℕ → List ℕ → Root → Type 0
+IsRoot k bytes root = IsSight k bytes (sight_of root)

@@ -1,0 +1,38 @@
+//! Fields of a page's inside, from the front of bytes.
+ghost use Rattle.std.specs.Prelude.{◌≡◌, ◌≤◌};
+ghost use Rattle.hb_page_codec.specs.Reading.{ReadsAs, number_at};
+ghost use Rattle.hb_page_codec.specs.ReadingFields.{axis_at, count_at};
+
+use hb_outside::take_u16;
+use hb_space::form::KMAX;
+
+/// A number of two bytes, and the bytes behind it.
+fn u16_of(bytes: &[u8]) -> Option<(u16, &[u8])>
+    ensures { ReadsAs (λ x. (x.0, x.1.now)) result (number_at 2 bytes.now) }
+{
+    let number = take_u16(bytes, 0)?;
+    Some((number, &bytes[2..]))
+}
+
+/// How many records follow, each with `k` attributes: no more than there is room for.
+#[tactic(auto, unfolding(hb_page_codec::specs::ReadingFields::count_at))]
+pub(crate) fn count_of(k: u8, bytes: &[u8]) -> Option<(u16, &[u8])>
+    requires { k ≤ KMAX }
+    ensures { ReadsAs (λ x. (x.0, x.1.now)) result (count_at k bytes.now) }
+{
+    let (count, rest) = u16_of(bytes)?;
+    let least = 8 * usize::from(k) + 1;
+    if rest.len() < usize::from(count) * least {
+        return None;
+    }
+    Some((count, rest))
+}
+
+/// An attribute below `k`.
+#[tactic(auto, unfolding(hb_page_codec::specs::ReadingFields::axis_at))]
+pub(crate) fn axis_of(k: u8, bytes: &[u8]) -> Option<(u8, &[u8])>
+    ensures { ReadsAs (λ x. (x.0, x.1.now)) result (axis_at k bytes.now) }
+{
+    let (axis, rest) = bytes.split_first()?;
+    if *axis < k { Some((*axis, rest)) } else { None }
+}

@@ -1,0 +1,66 @@
+//! The root of a tree, from the front of bytes.
+ghost use Rattle.std.specs.Prelude.{◌≤◌, IsSome};
+ghost use Rattle.hb_page_codec.specs.Reading.{ReadsAs};
+ghost use Rattle.hb_page_codec.specs.ReadingPages.{tree_at};
+ghost use Rattle.hb_view.specs.Roots.{sight_of, root_at, IsRoot};
+
+use crate::fields::{axis_of, count_of};
+use hb_page_codec::{u32_of, u64_of};
+use hb_space::form::KMAX;
+
+/// What stands at the root of a tree.
+#[derive(Clone, Copy, Debug)]
+pub(crate) enum Root<'a> {
+    /// A plane. The left side begins at `left`, and the right side behind it.
+    Cut {
+        axis: u8,
+        value: u64,
+        left: &'a [u8],
+    },
+    /// A leaf of so many records, the first of which stands at `first`.
+    Records { count: u16, first: &'a [u8] },
+    /// A leaf that names a page one level down.
+    Child(u32),
+    /// A leaf that names a page of the same level.
+    Sibling(u32),
+}
+
+/// The root at the front of the bytes. None where none stands there.
+#[tactic(auto, unfolding(crate::specs::Roots::root_at))]
+fn root_read(k: u8, bytes: &[u8]) -> Option<Root<'_>>
+    requires { k ≤ KMAX }
+    ensures { ReadsAs sight_of result (root_at k bytes.now) }
+{
+    match bytes {
+        [0, rest @ ..] => {
+            let (axis, rest) = axis_of(k, rest)?;
+            let (value, left) = u64_of(rest)?;
+            Some(Root::Cut { axis, value, left })
+        }
+        [1, rest @ ..] => {
+            let (count, first) = count_of(k, rest)?;
+            Some(Root::Records { count, first })
+        }
+        [2, rest @ ..] => {
+            let (page, _) = u32_of(rest)?;
+            Some(Root::Child(page))
+        }
+        [3, rest @ ..] => {
+            let (page, _) = u32_of(rest)?;
+            Some(Root::Sibling(page))
+        }
+        _ => None,
+    }
+}
+
+/// The root of the tree that stands at the front of the bytes.
+pub(crate) fn root_of(k: u8, bytes: &[u8]) -> Root<'_>
+    requires count { k ≤ KMAX }
+    requires there { IsSome (tree_at k bytes.now) }
+    ensures { IsRoot k bytes.now result }
+{
+    match root_read(k, bytes) {
+        Some(root) => root,
+        None => unreachable!(),
+    }
+}

@@ -1,0 +1,128 @@
+//! Reading over what stands at the front of bytes, without keeping it.
+ghost use Rattle.std.specs.Prelude.{◌≡◌, ◌≤◌, IsSome};
+ghost use Rattle.hb_space.specs.Points.{IsAttributeCount};
+ghost use Rattle.hb_page_codec.specs.Reading.{ReadsAs};
+ghost use Rattle.hb_page_codec.specs.ReadingFields.{point_at, body_at, record_at, records_at};
+ghost use Rattle.hb_page_codec.specs.ReadingPages.{tree_at};
+ghost use Rattle.hb_view.specs.Behind.{behind, record_behind, records_behind, cut_behind, name_behind, node_behind};
+ghost use Rattle.hb_view.specs.Roots.{rest_there};
+
+use crate::fields::{axis_of, count_of};
+use hb_page_codec::{u32_of, u64_of};
+use hb_space::form::{BMAX, KMAX};
+
+/// The bytes behind a point of `k` values.
+fn behind_point(k: u8, bytes: &[u8]) -> Option<&[u8]>
+    requires { k ≤ KMAX }
+    ensures { ReadsAs (λ x. x.now) result (behind (point_at k bytes.now)) }
+{
+    let length = 8 * usize::from(k);
+    if bytes.len() < length {
+        return None;
+    }
+    Some(&bytes[length..])
+}
+
+/// The bytes behind a body and its length.
+#[tactic(auto, unfolding(hb_page_codec::specs::ReadingFields::body_at))]
+fn behind_body(bytes: &[u8]) -> Option<&[u8]>
+    ensures { ReadsAs (λ x. x.now) result (behind (body_at bytes.now)) }
+{
+    let (count, rest) = bytes.split_first()?;
+    let count = usize::from(*count);
+    if count > BMAX || rest.len() < count {
+        return None;
+    }
+    Some(&rest[count..])
+}
+
+/// The bytes behind a record whose point has `k` values.
+#[tactic(auto, unfolding(crate::specs::Behind::record_behind))]
+fn behind_record(k: u8, bytes: &[u8]) -> Option<&[u8]>
+    requires { k ≤ KMAX }
+    ensures { ReadsAs (λ x. x.now) result (record_behind k bytes.now) }
+{
+    let rest = behind_point(k, bytes)?;
+    behind_body(rest)
+}
+
+/// The bytes behind so many records.
+fn behind_list(k: u8, count: u16, bytes: &[u8]) -> Option<&[u8]>
+    requires { k ≤ KMAX }
+    ensures { ReadsAs (λ x. x.now) result (behind (records_at k count bytes.now)) }
+{
+    let mut rest = bytes;
+    for _ in 0..count {
+        rest = behind_record(k, rest)?;
+    }
+    Some(rest)
+}
+
+/// The bytes behind a leaf of records, from behind its tag.
+#[tactic(auto, unfolding(crate::specs::Behind::records_behind))]
+fn behind_records(k: u8, bytes: &[u8]) -> Option<&[u8]>
+    requires { k ≤ KMAX }
+    ensures { ReadsAs (λ x. x.now) result (records_behind k bytes.now) }
+{
+    let (count, rest) = count_of(k, bytes)?;
+    behind_list(k, count, rest)
+}
+
+/// The bytes behind the name of a page.
+#[tactic(auto, unfolding(crate::specs::Behind::name_behind))]
+fn behind_name(bytes: &[u8]) -> Option<&[u8]>
+    ensures { ReadsAs (λ x. x.now) result (name_behind bytes.now) }
+{
+    let (_page, rest) = u32_of(bytes)?;
+    Some(rest)
+}
+
+/// The bytes behind a cut, from behind its tag.
+#[cycle(trees)]
+#[tactic(auto, unfolding(crate::specs::Behind::cut_behind))]
+fn behind_cut(k: u8, bytes: &[u8]) -> Option<&[u8]>
+    requires { k ≤ KMAX }
+    ensures { ReadsAs (λ x. x.now) result (cut_behind k bytes.now) }
+{
+    let (_axis, rest) = axis_of(k, bytes)?;
+    let (_value, rest) = u64_of(rest)?;
+    let rest = behind_tree(k, rest)?;
+    behind_tree(k, rest)
+}
+
+/// The bytes behind the root of a tree and what lies below it.
+#[cycle(trees)]
+#[tactic(auto, unfolding(crate::specs::Behind::node_behind))]
+fn behind_node(k: u8, bytes: &[u8]) -> Option<&[u8]>
+    requires { k ≤ KMAX }
+    ensures { ReadsAs (λ x. x.now) result (node_behind k bytes.now) }
+{
+    match bytes {
+        [0, rest @ ..] => behind_cut(k, rest),
+        [1, rest @ ..] => behind_records(k, rest),
+        [2, rest @ ..] => behind_name(rest),
+        [3, rest @ ..] => behind_name(rest),
+        _ => None,
+    }
+}
+
+/// The bytes behind a tree. None where no tree stands there.
+#[cycle(trees)]
+pub(crate) fn behind_tree(k: u8, bytes: &[u8]) -> Option<&[u8]>
+    requires { k ≤ KMAX }
+    ensures { ReadsAs (λ x. x.now) result (behind (tree_at k bytes.now)) }
+{
+    behind_node(k, bytes)
+}
+
+/// The bytes behind a tree that stands there.
+pub(crate) fn rest_of(k: u8, bytes: &[u8]) -> &[u8]
+    requires count { k ≤ KMAX }
+    requires there { IsSome (tree_at k bytes.now) }
+    ensures { result.now ≡ rest_there k bytes.now }
+{
+    match behind_tree(k, bytes) {
+        Some(rest) => rest,
+        None => unreachable!(),
+    }
+}
