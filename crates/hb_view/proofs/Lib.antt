@@ -1,2 +1,4 @@
 pub mod Skipped
 pub mod Rooted
+pub mod Walked
+pub mod Listed

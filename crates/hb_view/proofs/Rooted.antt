@@ -25,6 +25,10 @@ axis_below k bytes x e =
     let g = when_some (ltb a.0.0 k) (Some a.0) x a.2 in
     subst (λ (y : ℕ × List ℕ). y.0 < k) (same_Some a.0 x g.1) (ltb-true _ _ g.0)
 
+-- what is there is what was made
+is_made : {A : Type 0} {o made : Option A} {x : A} → o ≡ Some x → made ≡ Some x → o ≡ made
+is_made {o = o} {made = made} p q = p ∙ sym q
+
 cut_root : (k : ℕ) (rest : List ℕ) (a v : ℕ × List ℕ) (l r : Tree × List ℕ) → axis_at k rest ≡ Some a → number_at 8 a.1 ≡ Some v → tree_at k v.1 ≡ Some l → tree_at k l.1 ≡ Some r
     → tree_at k (zero ∷ rest) ≡ Some (Cut a.0 v.0 l.0 r.0, r.1) → IsSeen k (zero ∷ rest)
 unfolding root_at
@@ -50,7 +54,7 @@ cut_seen k rest x whole e =
     let v = bind_some (number_at 8 a.0.1) (λ value. tree_at k value.1 >>= λ left. tree_at k left.1 >>= λ right. Some (Cut a.0.0 value.0 left.0 right.0, right.1)) x a.2 in
     let l = bind_some (tree_at k v.0.1) (λ left. tree_at k left.1 >>= λ right. Some (Cut a.0.0 v.0.0 left.0 right.0, right.1)) x v.2 in
     let r = bind_some (tree_at k l.0.1) (λ right. Some (Cut a.0.0 v.0.0 l.0.0 right.0, right.1)) x l.2 in
-    cut_root k rest a.0 v.0 l.0 r.0 a.1 v.1 l.1 r.1 (whole ∙ sym r.2)
+    cut_root k rest a.0 v.0 l.0 r.0 a.1 v.1 l.1 r.1 (is_made whole r.2)
 
 records_root : (k : ℕ) (rest : List ℕ) (a : ℕ × List ℕ) (b : List Record × List ℕ) → count_at k rest ≡ Some a → records_at k a.0 a.1 ≡ Some b → tree_at k (suc zero ∷ rest) ≡ Some (Tip (leaves.Records b.0), b.1) → IsSeen k (suc zero ∷ rest)
 unfolding root_at
@@ -65,11 +69,11 @@ unfolding records_tip_at
 records_seen k rest x whole e =
     let a = bind_some (count_at k rest) (λ count. records_at k count.0 count.1 >>= λ records. Some (Tip (leaves.Records records.0), records.1)) x e in
     let b = bind_some (records_at k a.0.0 a.0.1) (λ records. Some (Tip (leaves.Records records.0), records.1)) x a.2 in
-    records_root k rest a.0 b.0 a.1 b.1 (whole ∙ sym b.2)
+    records_root k rest a.0 b.0 a.1 b.1 (is_made whole b.2)
 
 child_root : (k : ℕ) (rest : List ℕ) (a : ℕ × List ℕ) → number_at 4 rest ≡ Some a → tree_at k (suc (suc zero) ∷ rest) ≡ Some (Tip (leaves.Child a.0), a.1) → IsSeen k (suc (suc zero) ∷ rest)
 unfolding root_at
-child_root k rest a ea all = (Falls a.0, rw ea refl, ap tree_or all)
+child_root k rest a ea all = (Falls a.0 a.1, rw ea refl, record { tree = ap tree_or all; behind = ap rest_or all })
 
 child_seen : (k : ℕ) (rest : List ℕ) (x : Tree × List ℕ) → tree_at k (suc (suc zero) ∷ rest) ≡ Some x → (number_at 4 rest >>= λ page. Some (Tip (leaves.Child page.0), page.1)) ≡ Some x → IsSeen k (suc (suc zero) ∷ rest)
 child_seen k rest x whole e =
@@ -78,7 +82,7 @@ child_seen k rest x whole e =
 
 sibling_root : (k : ℕ) (rest : List ℕ) (a : ℕ × List ℕ) → number_at 4 rest ≡ Some a → tree_at k (suc (suc (suc zero)) ∷ rest) ≡ Some (Tip (leaves.Sibling a.0), a.1) → IsSeen k (suc (suc (suc zero)) ∷ rest)
 unfolding root_at
-sibling_root k rest a ea all = (Gives a.0, rw ea refl, ap tree_or all)
+sibling_root k rest a ea all = (Gives a.0 a.1, rw ea refl, record { tree = ap tree_or all; behind = ap rest_or all })
 
 sibling_seen : (k : ℕ) (rest : List ℕ) (x : Tree × List ℕ) → tree_at k (suc (suc (suc zero)) ∷ rest) ≡ Some x → (number_at 4 rest >>= λ page. Some (Tip (leaves.Sibling page.0), page.1)) ≡ Some x → IsSeen k (suc (suc (suc zero)) ∷ rest)
 sibling_seen k rest x whole e =

@@ -1,2 +1,5 @@
 pub mod Behind
 pub mod Roots
+pub mod Views
+pub mod Lists
+pub mod Spelled

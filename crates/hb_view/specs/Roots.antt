@@ -1,6 +1,7 @@
 -- The tree at the front of bytes, seen by its root.
 use Rattle.std.specs.Prelude.{◌≡◌, ℕ, zero, suc, ◌<◌, List, [], ◌∷◌, length, Option, Some, None, IsSome}
 use Rattle.hb_space.specs.declared.records.Record.{Record}
+use Rattle.hb_frag.specs.declared.leaves.Leaf.{Leaf}
 use Rattle.hb_frag.specs.declared.leaves.Leaf.TheVariants as leaves
 use Rattle.hb_frag.specs.Trees.{Tree, Tip, Cut}
 use Rattle.hb_page_codec.specs.Reading.{◌>>=◌, number_at}
@@ -25,18 +26,19 @@ rest_or None = []
 abbrev pub rest_there : ℕ → List ℕ → List ℕ
 rest_there k bytes = rest_or (tree_at k bytes)
 
--- what a root says by itself: a cut, with the bytes of its sides, or a leaf, with the bytes of its records
+-- What a root says by itself: a cut with the bytes of its sides, a leaf with the bytes of its records, or one that names
+-- a page, with the bytes behind it.
 pub data Sight : Type 0 where
   Cuts : ℕ → ℕ → List ℕ → Sight
   Lists : ℕ → List ℕ → Sight
-  Falls : ℕ → Sight
-  Gives : ℕ → Sight
+  Falls : ℕ → List ℕ → Sight
+  Gives : ℕ → List ℕ → Sight
 
 abbrev pub sight_of : Root → Sight
 sight_of (roots.Cut axis value left) = Cuts axis value left.now
 sight_of (roots.Records count first) = Lists count first.now
-sight_of (roots.Child page) = Falls page
-sight_of (roots.Sibling page) = Gives page
+sight_of (roots.Child page rest) = Falls page rest.now
+sight_of (roots.Sibling page rest) = Gives page rest.now
 
 unfoldable pub root_at : ℕ → List ℕ → Option Sight
 root_at k [] = None
@@ -49,10 +51,10 @@ root_at k (suc zero ∷ rest) = do
   Some (Lists count.0 count.1)
 root_at k (suc (suc zero) ∷ rest) = do
   page ← number_at 4 rest
-  Some (Falls page.0)
+  Some (Falls page.0 page.1)
 root_at k (suc (suc (suc zero)) ∷ rest) = do
   page ← number_at 4 rest
-  Some (Gives page.0)
+  Some (Gives page.0 page.1)
 root_at k (suc (suc (suc (suc b))) ∷ rest) = None
 
 -- A tree stands at the front, and is this cut. Its left side begins at `left`, and its right side behind that.
@@ -71,11 +73,16 @@ pub record IsList (k : ℕ) (bytes : List ℕ) (count : ℕ) (first : List ℕ) 
   pub read : records_at k count first ≡ Some (records, rest_there k bytes)
   pub tree : tree_there k bytes ≡ Tip (leaves.Records records)
 
+-- It is this leaf, which names a page, and these bytes are behind it.
+pub record IsName (k : ℕ) (bytes : List ℕ) (leaf : Leaf) (rest : List ℕ) : Type 0 where
+  pub tree : tree_there k bytes ≡ Tip leaf
+  pub behind : rest_there k bytes ≡ rest
+
 abbrev pub IsSight : ℕ → List ℕ → Sight → Type 0
 IsSight k bytes (Cuts axis value left) = IsCut k bytes axis value left
 IsSight k bytes (Lists count first) = IsList k bytes count first
-IsSight k bytes (Falls page) = tree_there k bytes ≡ Tip (leaves.Child page)
-IsSight k bytes (Gives page) = tree_there k bytes ≡ Tip (leaves.Sibling page)
+IsSight k bytes (Falls page rest) = IsName k bytes (leaves.Child page) rest
+IsSight k bytes (Gives page rest) = IsName k bytes (leaves.Sibling page) rest
 
 -- the tree that stands at the front of the bytes has this root
 abbrev pub IsRoot : ℕ → List ℕ → Root → Type 0

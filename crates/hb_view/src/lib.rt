@@ -2,5 +2,12 @@
 #![tactic(auto)]
 
 mod fields;
+mod leaves;
+mod lists;
 mod roots;
 mod skipping;
+mod views;
+mod walking;
+
+pub use leaves::LeafView;
+pub use views::PageView;

@@ -19,10 +19,10 @@ pub(crate) enum Root<'a> {
     },
     /// A leaf of so many records, the first of which stands at `first`.
     Records { count: u16, first: &'a [u8] },
-    /// A leaf that names a page one level down.
-    Child(u32),
-    /// A leaf that names a page of the same level.
-    Sibling(u32),
+    /// A leaf that names a page one level down, and the bytes behind it.
+    Child { page: u32, rest: &'a [u8] },
+    /// A leaf that names a page of the same level, and the bytes behind it.
+    Sibling { page: u32, rest: &'a [u8] },
 }
 
 /// The root at the front of the bytes. None where none stands there.
@@ -42,12 +42,12 @@ fn root_read(k: u8, bytes: &[u8]) -> Option<Root<'_>>
             Some(Root::Records { count, first })
         }
         [2, rest @ ..] => {
-            let (page, _) = u32_of(rest)?;
-            Some(Root::Child(page))
+            let (page, rest) = u32_of(rest)?;
+            Some(Root::Child { page, rest })
         }
         [3, rest @ ..] => {
-            let (page, _) = u32_of(rest)?;
-            Some(Root::Sibling(page))
+            let (page, rest) = u32_of(rest)?;
+            Some(Root::Sibling { page, rest })
         }
         _ => None,
     }

@@ -47,7 +47,7 @@ fn behind_record(k: u8, bytes: &[u8]) -> Option<&[u8]>
 }
 
 /// The bytes behind so many records.
-fn behind_list(k: u8, count: u16, bytes: &[u8]) -> Option<&[u8]>
+pub(crate) fn behind_list(k: u8, count: u16, bytes: &[u8]) -> Option<&[u8]>
     requires { k ≤ KMAX }
     ensures { ReadsAs (λ x. x.now) result (behind (records_at k count bytes.now)) }
 {

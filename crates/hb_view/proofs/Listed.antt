@@ -1,0 +1,77 @@
+-- Looking through the records at the front of bytes, one after the other.
+use Rattle.std.proofs.Common.{◌≡◌, ℕ, suc, ◌+◌, ◌-◌, ◌<◌, ◌≤◌, List, [], ◌∷◌, Option, Some, None, IsSome, inl, inr, refl, sym, ap, subst, ◌∙◌, arith}
+use Rattle.hb_space.specs.declared.records.Record.{Record}
+use Rattle.hb_page_codec.specs.Reading.{◌>>=◌, many_at}
+use Rattle.hb_page_codec.specs.ReadingFields.{record_at, records_at}
+use Rattle.hb_view.specs.Behind.{behind}
+use Rattle.hb_view.specs.Lists.{records_there, list_or, after_there, after_or}
+use Rattle.hb_view.specs.Views.{FindsAmong}
+use Rattle.std.proofs.lemmas.Option.{same_Some}
+
+-- the first of some records, and the others
+pub record IsFirst (k m : ℕ) (bytes : List ℕ) (r : Record) (after : List ℕ) : Type 0 where
+  pub others : IsSome (records_at k m after)
+  pub list : records_there k (suc m) bytes ≡ r ∷ records_there k m after
+
+is_first : (k m : ℕ) (bytes : List ℕ) (r : Record) (after : List ℕ) → IsSome (records_at k (suc m) bytes) → record_at k bytes ≡ Some (r, after) → IsFirst k m bytes r after
+unfolding many_at
+is_first k m bytes r after there e =
+    let next : records_at k (suc m) bytes ≡ (records_at k m after >>= with_first) = rw e refl in
+    let both = parted (records_at k m after) (subst (λ (o : Option (List Record × List ℕ)). IsSome o) next there) in
+    record { others = both.0; list = ap list_or next ∙ both.1 }
+  where
+    with_first : List Record × List ℕ → Option (List Record × List ℕ)
+    with_first others = Some (r ∷ others.0, others.1)
+    parted : (o : Option (List Record × List ℕ)) → IsSome (o >>= with_first) → IsSome o × (list_or (o >>= with_first) ≡ r ∷ list_or o)
+    parted None h = cc
+    parted (Some x) h = (refl, refl)
+
+one_left : (count i : ℕ) → i < count → count - i ≡ suc (count - (i + 1))
+one_left count i lt = omega arith
+
+-- what is found among those that are left is found among all
+abbrev pub FindsOn : List ℕ → List Record → List Record → Type 0
+FindsOn p left all = (body : Option (List ℕ)) → FindsAmong p left body → FindsAmong p all body
+
+left_first : (k count i : ℕ) (rest : List ℕ) (r : Record) (after : List ℕ) → i < count → IsSome (records_at k (count - i) rest) → record_at k rest ≡ Some (r, after) → IsFirst k (count - (i + 1)) rest r after
+left_first k count i rest r after lt there e = is_first k (count - (i + 1)) rest r after (subst (λ n. IsSome (records_at k n rest)) (one_left count i lt) there) e
+
+left_list : (k count i : ℕ) (rest : List ℕ) (r : Record) (after : List ℕ) → i < count → IsSome (records_at k (count - i) rest) → record_at k rest ≡ Some (r, after) → records_there k (count - i) rest ≡ r ∷ records_there k (count - (i + 1)) after
+left_list k count i rest r after lt there e = ap (λ n. records_there k n rest) (one_left count i lt) ∙ (left_first k count i rest r after lt there e).list
+
+pub is_found : (k count i : ℕ) (rest p : List ℕ) (all : List Record) (r : Record) (after : List ℕ) → i < count → IsSome (records_at k (count - i) rest) → FindsOn p (records_there k (count - i) rest) all → record_at k rest ≡ Some (r, after) → r.key ≡ p
+    → FindsAmong p all (Some r.body)
+is_found k count i rest p all r after lt there on e same =
+    on (Some r.body) (subst (λ (rs : List Record). FindsAmong p rs (Some r.body)) (sym (left_list k count i rest r after lt there e)) (inl (same, refl)))
+
+pub passes_on : (k count i : ℕ) (rest p : List ℕ) (all : List Record) (r : Record) (after : List ℕ) → i < count → IsSome (records_at k (count - i) rest) → FindsOn p (records_there k (count - i) rest) all → record_at k rest ≡ Some (r, after) → ¬ (r.key ≡ p)
+    → FindsOn p (records_there k (count - (i + 1)) after) all
+passes_on k count i rest p all r after lt there on e other body h =
+    on body (subst (λ (rs : List Record). FindsAmong p rs body) (sym (left_list k count i rest r after lt there e)) (inr (other, h)))
+
+pub others_there : (k count i : ℕ) (rest : List ℕ) (r : Record) (after : List ℕ) → i < count → IsSome (records_at k (count - i) rest) → record_at k rest ≡ Some (r, after) → IsSome (records_at k (count - (i + 1)) after)
+others_there k count i rest r after lt there e = (left_first k count i rest r after lt there e).others
+
+pub none_missing : (k count i : ℕ) (rest : List ℕ) → i < count → IsSome (records_at k (count - i) rest) → record_at k rest ≡ None → ⊥
+unfolding many_at
+none_missing k count i rest lt there none =
+    let next : records_at k (count - i) rest ≡ None = ap (λ n. records_at k n rest) (one_left count i lt) ∙ rw none refl in
+    never (records_at k (count - i) rest) there next
+  where
+    never : (o : Option (List Record × List ℕ)) → IsSome o → o ≡ None → ⊥
+    never None there none = cc
+    never (Some x) there none = cc
+
+pub none_left : (k count i : ℕ) (rest p : List ℕ) (all : List Record) → count ≤ i → FindsOn p (records_there k (count - i) rest) all → FindsAmong p all None
+unfolding many_at
+none_left k count i rest p all le on =
+    let e : count - i ≡ 0 = omega arith in
+    on None (subst (λ (rs : List Record). FindsAmong p rs None) (sym (ap (λ n. records_there k n rest) e)) refl)
+
+-- the bytes behind a list that stands there
+pub after_found : (k count : ℕ) (bytes rest : List ℕ) → behind (records_at k count bytes) ≡ Some rest → rest ≡ after_there k count bytes
+after_found k count bytes rest e = found (records_at k count bytes) e
+  where
+    found : (r : Option (List Record × List ℕ)) → behind r ≡ Some rest → rest ≡ after_or r
+    found None e = absurd cc
+    found (Some x) e = sym (same_Some x.1 rest e)

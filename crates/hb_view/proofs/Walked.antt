@@ -1,0 +1,106 @@
+-- What one step down a tree of bytes says of the whole tree.
+use Rattle.std.proofs.Common.{◌≡◌, ℕ, zero, suc, ◌+◌, ◌-◌, ◌<◌, ◌≤◌, max, List, [], ◌∷◌, length, get_or, slice_set, Option, Some, None, refl, sym, ap, subst, ◌∙◌, arith}
+use Rattle.std.proofs.lemmas.Option.{same_Some}
+use Rattle.hb_space.specs.Boxes.{Area, IsArea, Holds, Cuts, side_below, side_from}
+use Rattle.hb_space.specs.declared.records.Record.{Record}
+use Rattle.hb_space.proofs.Facts.Boxes.{Holds-side_below, Holds-side_from}
+use Rattle.hb_frag.specs.declared.leaves.Leaf.{Leaf}
+use Rattle.hb_frag.specs.declared.leaves.Leaf.TheVariants as leaves
+use Rattle.hb_frag.specs.Trees.{Tree, Tip, Cut}
+use Rattle.hb_frag.specs.Leaves.{Placed, IsWellCut, first_at, leaves_of, records_of, weight_of}
+use Rattle.hb_frag.proofs.Ways.{found_here, found_left, found_right}
+use Rattle.hb_frag.proofs.Facts.Sides.{IsArea-side_below, IsArea-side_from}
+use Rattle.hb_page_codec.specs.Reading.{◌>>=◌, many_at}
+use Rattle.hb_page_codec.proofs.Facts.Fields.{bind_some}
+use Rattle.hb_page_codec.specs.ReadingFields.{record_at}
+use Rattle.hb_view.specs.declared.leaves.LeafView.{LeafView}
+use Rattle.hb_view.specs.Lists.{records_there, list_or}
+use Rattle.hb_view.specs.Roots.{tree_there, rest_there, IsCut, IsList}
+use Rattle.hb_view.specs.Views.{leaf_view, Shows, Finds, FindsAmong}
+
+-- ---- the leaf at a point
+
+pub shows_tip : (t : Tree) (leaf : Leaf) (p : List ℕ) (area : Area) → t ≡ Tip leaf → IsArea area → Holds area p → Shows (first_at p (leaves_of t area)) (leaf_view leaf) area
+shows_tip t leaf p area e h held = record { placed = record { leaf = leaf; area = area }; found = found_here t leaf area p e h held; leaf = refl; area = refl }
+
+pub shows_left : (k : ℕ) (bytes left : List ℕ) (axis value at : ℕ) (p lo hi : List ℕ) (view : LeafView) (box : Area) → IsCut k bytes axis value left → at ≡ axis
+    → Shows (first_at p (leaves_of (tree_there k left) (record { lo = lo; hi = slice_set hi at (value - 1) }))) view box
+    → Shows (first_at p (leaves_of (tree_there k bytes) (record { lo = lo; hi = hi }))) view box
+shows_left k bytes left axis value at p lo hi view box cut e h =
+    let area : Area = record { lo = lo; hi = hi } in
+    let make : ℕ → Area = λ n. record { lo = lo; hi = slice_set hi n (value - 1) } in
+    record {
+      placed = h.placed;
+      found = found_left (tree_there k bytes) (tree_there k left) (tree_there k (rest_there k left)) (tree_there k left) axis value area (make at) p h.placed cut.tree refl (ap make e) h.found;
+      leaf = h.leaf;
+      area = h.area;
+    }
+
+pub shows_right : (k : ℕ) (bytes left rest : List ℕ) (axis value at : ℕ) (p lo hi : List ℕ) (view : LeafView) (box : Area) → IsCut k bytes axis value left → rest ≡ rest_there k left → at ≡ axis
+    → IsArea (record { lo = lo; hi = hi }) → IsWellCut (tree_there k bytes) (record { lo = lo; hi = hi }) → Holds (record { lo = lo; hi = hi }) p → value ≤ get_or p at 0
+    → Shows (first_at p (leaves_of (tree_there k rest) (record { lo = slice_set lo at value; hi = hi }))) view box
+    → Shows (first_at p (leaves_of (tree_there k bytes) (record { lo = lo; hi = hi }))) view box
+shows_right k bytes left rest axis value at p lo hi view box cut r e corners well_cut held above h =
+    let area : Area = record { lo = lo; hi = hi } in
+    let make : ℕ → Area = λ n. record { lo = slice_set lo n value; hi = hi } in
+    let here : value ≤ get_or p axis 0 = subst (λ (n : ℕ). value ≤ get_or p n 0) e above in
+    record {
+      placed = h.placed;
+      found = found_right (tree_there k bytes) (tree_there k left) (tree_there k (rest_there k left)) (tree_there k rest) axis value area (make at) p h.placed cut.tree (ap (tree_there k) r) (ap make e) corners well_cut held here h.found;
+      leaf = h.leaf;
+      area = h.area;
+    }
+
+-- ---- the record at a point
+
+-- what is found in a tree, whatever its box
+abbrev pub FindsWithin : Tree → List ℕ → Option (List ℕ) → Type 0
+FindsWithin t p body = (area : Area) → IsArea area → IsWellCut t area → Holds area p → Finds p (first_at p (leaves_of t area)) body
+
+pub finds_tip : (t : Tree) (leaf : Leaf) (p : List ℕ) (body : Option (List ℕ)) → t ≡ Tip leaf → FindsAmong p (records_of leaf) body → FindsWithin t p body
+finds_tip t leaf p body e among area h cut held = record { placed = record { leaf = leaf; area = area }; found = found_here t leaf area p e h held; among = among }
+
+pub finds_left : (k : ℕ) (bytes left : List ℕ) (axis value at : ℕ) (p : List ℕ) (body : Option (List ℕ)) → IsCut k bytes axis value left → at ≡ axis → get_or p at 0 < value
+    → FindsWithin (tree_there k left) p body → FindsWithin (tree_there k bytes) p body
+finds_left k bytes left axis value at p body cut e lt finds area h cuts held =
+    let parts : IsWellCut (Cut axis value (tree_there k left) (tree_there k (rest_there k left))) area = subst (λ (t : Tree). IsWellCut t area) cut.tree cuts in
+    let below : get_or p axis 0 < value = subst (λ (n : ℕ). get_or p n 0 < value) e lt in
+    let there = finds (side_below area axis value) (IsArea-side_below area axis value h parts.0) parts.1 ((Holds-side_below area axis value p h parts.0).1 (held, below)) in
+    record {
+      placed = there.placed;
+      found = found_left (tree_there k bytes) (tree_there k left) (tree_there k (rest_there k left)) (tree_there k left) axis value area (side_below area axis value) p there.placed cut.tree refl refl there.found;
+      among = there.among;
+    }
+
+pub finds_right : (k : ℕ) (bytes left rest : List ℕ) (axis value at : ℕ) (p : List ℕ) (body : Option (List ℕ)) → IsCut k bytes axis value left → rest ≡ rest_there k left → at ≡ axis → value ≤ get_or p at 0
+    → FindsWithin (tree_there k rest) p body → FindsWithin (tree_there k bytes) p body
+finds_right k bytes left rest axis value at p body cut r e le finds area h cuts held =
+    let parts : IsWellCut (Cut axis value (tree_there k left) (tree_there k (rest_there k left))) area = subst (λ (t : Tree). IsWellCut t area) cut.tree cuts in
+    let above : value ≤ get_or p axis 0 = subst (λ (n : ℕ). value ≤ get_or p n 0) e le in
+    let right : IsWellCut (tree_there k rest) (side_from area axis value) = subst (λ (b : List ℕ). IsWellCut (tree_there k b) (side_from area axis value)) (sym r) parts.2 in
+    let there = finds (side_from area axis value) (IsArea-side_from area axis value h parts.0) right ((Holds-side_from area axis value p parts.0).1 (held, above)) in
+    record {
+      placed = there.placed;
+      found = found_right (tree_there k bytes) (tree_there k left) (tree_there k (rest_there k left)) (tree_there k rest) axis value area (side_from area axis value) p there.placed cut.tree (ap (tree_there k) r) refl h cuts held above there.found;
+      among = there.among;
+    }
+
+-- a leaf of records finds what is found among them
+pub finds_list : (k : ℕ) (bytes first : List ℕ) (count : ℕ) (p : List ℕ) (body : Option (List ℕ)) → IsList k bytes count first → FindsAmong p (records_there k count first) body → FindsWithin (tree_there k bytes) p body
+finds_list k bytes first count p body list among =
+    finds_tip (tree_there k bytes) (leaves.Records list.records) p body list.tree (subst (λ (rs : List Record). FindsAmong p rs body) (ap list_or list.read) among)
+
+-- ---- the weight of a list
+
+many_counted : {A : Type 0} (read : List ℕ → Option (A × List ℕ)) (n : ℕ) (bytes : List ℕ) (x : List A × List ℕ) → many_at read n bytes ≡ Some x → length x.0 ≡ n
+unfolding many_at
+many_counted {A = A} read zero bytes x e = let same : ([], bytes) ≡ x = same_Some ([], bytes) x e in sym (ap (λ (y : List A × List ℕ). length y.0) same)
+many_counted {A = A} read (suc n) bytes x e =
+    let a = bind_some (read bytes) (λ first. many_at read n first.1 >>= λ others. Some (first.0 ∷ others.0, others.1)) x e in
+    let b = bind_some (many_at read n a.0.1) (λ others. Some (a.0.0 ∷ others.0, others.1)) x a.2 in
+    let made : List A × List ℕ = (a.0.0 ∷ b.0.0, b.0.1) in
+    let one = many_counted read n a.0.1 b.0 b.1 in
+    sym (ap (λ (y : List A × List ℕ). length y.0) (same_Some made x b.2)) ∙ ap suc one
+
+pub list_weighs : (k : ℕ) (bytes first : List ℕ) (count : ℕ) → IsList k bytes count first → max 1 count ≡ weight_of (tree_there k bytes)
+list_weighs k bytes first count list = rw list.tree (let n = many_counted (record_at k) count first (list.records, rest_there k bytes) list.read in omega (arith, n))

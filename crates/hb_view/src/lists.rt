@@ -1,0 +1,76 @@
+//! The records of a leaf, from the front of bytes.
+ghost use Rattle.std.specs.Prelude.{◌≡◌, ◌≤◌, ◌↔◌, IsSome, IsTrue, option_map};
+ghost use Rattle.hb_space.specs.Points.{IsAttributeCount};
+ghost use Rattle.hb_page_codec.specs.Reading.{ReadsAs};
+ghost use Rattle.hb_page_codec.specs.ReadingFields.{body_at, record_at, records_at};
+ghost use Rattle.hb_view.specs.Lists.{records_there, after_there};
+ghost use Rattle.hb_view.specs.Views.{FindsAmong};
+
+use crate::skipping::behind_list;
+use hb_page_codec::point_of;
+use hb_space::Point;
+use hb_space::form::{BMAX, KMAX};
+
+/// A body, from behind its length on, and the bytes behind it.
+#[tactic(auto, unfolding(hb_page_codec::specs::ReadingFields::body_at))]
+fn body_of(bytes: &[u8]) -> Option<(&[u8], &[u8])>
+    ensures { ReadsAs (λ x. (x.0.now, x.1.now)) result (body_at bytes.now) }
+{
+    let (count, rest) = bytes.split_first()?;
+    let count = usize::from(*count);
+    if count > BMAX || rest.len() < count {
+        return None;
+    }
+    Some(rest.split_at(count))
+}
+
+/// A record as its point and the bytes of its body, and the bytes behind it.
+#[tactic(auto, unfolding(hb_page_codec::specs::ReadingFields::record_at))]
+fn entry_of(k: u8, bytes: &[u8]) -> Option<(Point, &[u8], &[u8])>
+    requires { IsAttributeCount k }
+    ensures { ReadsAs (λ x. (record { key = x.0; body = x.1.now }, x.2.now)) result (record_at k bytes.now) }
+{
+    let (key, rest) = point_of(k, bytes)?;
+    let (body, rest) = body_of(rest)?;
+    Some((key, body, rest))
+}
+
+/// Whether the record's point has these values.
+fn is_at(key: &Point, p: &[u64]) -> bool
+    ensures { IsTrue result ↔ (key.now ≡ p.now) }
+{
+    key.values() == p
+}
+
+/// The body of the first of so many records that has the point. None where none has it.
+pub(crate) fn body_among<'a>(k: u8, count: u16, first: &'a [u8], p: &[u64]) -> Option<&'a [u8]>
+    requires attributes { IsAttributeCount k }
+    requires there { IsSome (records_at k count first.now) }
+    ensures { FindsAmong p.now (records_there k count first.now) (option_map (λ b. b.now) result) }
+{
+    let mut rest = first;
+    for _ in 0..count {
+        match entry_of(k, rest) {
+            Some((key, body, after)) => {
+                if is_at(&key, p) {
+                    return Some(body);
+                }
+                rest = after;
+            }
+            None => unreachable!(),
+        }
+    }
+    None
+}
+
+/// The bytes behind so many records that stand there.
+pub(crate) fn rest_behind_list(k: u8, count: u16, first: &[u8]) -> &[u8]
+    requires attributes { k ≤ KMAX }
+    requires there { IsSome (records_at k count first.now) }
+    ensures { result.now ≡ after_there k count first.now }
+{
+    match behind_list(k, count, first) {
+        Some(rest) => rest,
+        None => unreachable!(),
+    }
+}
