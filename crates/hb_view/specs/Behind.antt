@@ -2,8 +2,8 @@
 -- nothing of its kind stands there.
 use Rattle.std.specs.Prelude.{ℕ, zero, suc, List, [], ◌∷◌, Option, Some, None}
 use Rattle.hb_page_codec.specs.Reading.{◌>>=◌, number_at}
-use Rattle.hb_page_codec.specs.ReadingFields.{axis_at, body_at, count_at, point_at, records_at}
-use Rattle.hb_page_codec.specs.ReadingPages.{tree_at}
+use Rattle.hb_page_codec.specs.ReadingFields.{area_at, axis_at, body_at, count_at, point_at, records_at}
+use Rattle.hb_page_codec.specs.ReadingPages.{head_at, tree_at}
 
 -- the bytes behind what was read
 abbrev pub behind : {A : Type 0} → Option (A × List ℕ) → Option (List ℕ)
@@ -44,3 +44,18 @@ node_behind k (suc zero ∷ rest) = records_behind k rest
 node_behind k (suc (suc zero) ∷ rest) = name_behind rest
 node_behind k (suc (suc (suc zero)) ∷ rest) = name_behind rest
 node_behind k (suc (suc (suc (suc b))) ∷ rest) = None
+
+-- a live page behind its tag
+unfoldable pub live_behind : List ℕ → Option (List ℕ)
+live_behind bytes = do
+  head ← head_at bytes
+  area ← area_at head.1 head.2
+  behind (tree_at head.1 area.1)
+
+-- all fields of a page
+unfoldable pub fields_behind : List ℕ → Option (List ℕ)
+fields_behind [] = None
+fields_behind (zero ∷ rest) = None
+fields_behind (suc zero ∷ rest) = live_behind rest
+fields_behind (suc (suc zero) ∷ rest) = name_behind rest
+fields_behind (suc (suc (suc b)) ∷ rest) = None

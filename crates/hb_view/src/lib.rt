@@ -1,6 +1,8 @@
 //! Pages read from their bytes, without memory.
 #![tactic(auto)]
 
+mod boxes;
+mod checking;
 mod fields;
 mod leaves;
 mod lists;

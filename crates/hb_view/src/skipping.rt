@@ -70,7 +70,7 @@ fn behind_records(k: u8, bytes: &[u8]) -> Option<&[u8]>
 
 /// The bytes behind the name of a page.
 #[tactic(auto, unfolding(crate::specs::Behind::name_behind))]
-fn behind_name(bytes: &[u8]) -> Option<&[u8]>
+pub(crate) fn behind_name(bytes: &[u8]) -> Option<&[u8]>
     ensures { ReadsAs (λ x. x.now) result (name_behind bytes.now) }
 {
     let (_page, rest) = u32_of(bytes)?;

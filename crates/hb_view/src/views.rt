@@ -1,10 +1,18 @@
 //! A page seen from its bytes.
-ghost use Rattle.std.specs.Prelude.{◌≡◌, ◌↔◌, IsSome, IsTrue};
+ghost use Rattle.std.specs.Prelude.{◌≡◌, ◌↔◌, ◌+◌, ◌*◌, List, IfOk, IsSome, IsTrue, length, option_map};
+ghost use Rattle.hb_space.specs.Boxes.{Holds};
+ghost use Rattle.hb_frag.specs.Leaves.{leaf_at, weight_of, WellCut};
 ghost use Rattle.hb_page_codec.specs.Reading.{ReadsAs};
 ghost use Rattle.hb_page_codec.specs.ReadingPages.{page_of_bytes};
-ghost use Rattle.hb_view.specs.Spelled.{page_spelled};
-ghost use Rattle.hb_view.specs.Views.{IsLive, IsLiveAnd, IsFree};
+ghost use Rattle.hb_frag.specs.declared.pages.Page.TheVariants.{Free as FreePage};
+ghost use Rattle.hb_view.specs.Views.{IsLive, IsLiveAnd, IsFree, HasTree, Shows, Finds};
 
+use crate::LeafView;
+use crate::boxes::leaf_in;
+use crate::checking::spells;
+use crate::walking::{find_in, weigh};
+use hb_page_codec::{area_of, u32_of};
+use hb_space::{Area, Point};
 use std::marker::Model;
 
 /// A page as the bytes that spell it. It reads from them what it tells, and takes no memory.
@@ -18,8 +26,11 @@ impl<'a> Model for PageView<'a> {
     ghost use Rattle.hb_frag.specs.declared.pages.Page.{Page};
     ghost use Rattle.hb_page_codec.specs.ReadingPages.{page_of_bytes};
     ghost use Rattle.hb_view.specs.Spelled.{page_spelled};
+    ghost use Rattle.hb_frag.specs.contracts.pages.Page as pages;
 
     ghost Value = { Page };
+
+    ghost coded = { pages.the_row.coded };
 
     ghost view = { λ v. page_spelled v.bytes.now };
 
@@ -27,7 +38,18 @@ impl<'a> Model for PageView<'a> {
 }
 
 impl<'a> PageView<'a> {
-    /// The page that the bytes spell, for who knows that they spell one.
+    /// The page that the bytes spell. Any bytes may be given; `None` where they spell no page.
+    pub fn checked(bytes: &'a [u8]) -> Option<PageView<'a>>
+        ensures { ReadsAs (λ view. view) result (page_of_bytes bytes.now) }
+    {
+        if spells(bytes) {
+            Some(PageView { bytes })
+        } else {
+            None
+        }
+    }
+
+    /// The page that the bytes spell, for who knows that they spell one. It looks at none of them.
     pub fn of_spelled(bytes: &'a [u8]) -> PageView<'a>
         requires { IsSome (page_of_bytes bytes.now) }
         ensures { page_of_bytes bytes.now ≡ Some result }
@@ -55,5 +77,64 @@ impl<'a> PageView<'a> {
         ensures { IsLiveAnd self.now (λ page. result ≡ page.level) }
     {
         self.bytes[1]
+    }
+
+    /// The box of a page in use.
+    pub fn area(&self) -> Area
+        requires { IsLive self.now }
+        ensures { IsLiveAnd self.now (λ page. result ≡ page.area) }
+    {
+        match area_of(self.bytes[2], &self.bytes[4..]) {
+            Some((area, _)) => area,
+            None => unreachable!(),
+        }
+    }
+
+    /// The next page of the free chain. 0 ends the chain.
+    pub fn next(&self) -> u32
+        requires { IsFree self.now }
+        ensures { self.now ≡ FreePage result }
+    {
+        match u32_of(&self.bytes[1..]) {
+            Some((next, _)) => next,
+            None => unreachable!(),
+        }
+    }
+
+    /// The number of attributes of a page in use, and the bytes at which its tree begins.
+    fn tree(&self) -> (u8, &'a [u8])
+        requires { IsLive self.now }
+        ensures { IsLiveAnd self.now (λ page. HasTree page result.0 result.1.now) }
+    {
+        let k = self.bytes[2];
+        (k, &self.bytes[4 + 16 * usize::from(k)..])
+    }
+
+    /// What the leaves of a page in use weigh together.
+    pub fn weight(&self) -> u32
+        requires { IsLive self.now }
+        ensures { IsLiveAnd self.now (λ page. result ≡ weight_of page.frag) }
+    {
+        let (k, bytes) = self.tree();
+        weigh(k, bytes).0
+    }
+
+    /// The leaf whose box holds the point, and that box.
+    pub fn leaf_at(&self, p: &Point) -> (LeafView, Area)
+        requires { IsLiveAnd self.now (λ page. WellCut page × Holds page.area p.now) }
+        ensures { IsLiveAnd self.now (λ page. Shows (leaf_at page p.now) result.0 result.1) }
+    {
+        let (k, bytes) = self.tree();
+        leaf_in(k, bytes, &self.area(), p)
+    }
+
+    /// The body of the record of the point. `None` where the leaf whose box holds the point names a page, or has no record
+    /// of the point.
+    pub fn find(&self, p: &Point) -> Option<&'a [u8]>
+        requires { IsLiveAnd self.now (λ page. WellCut page × Holds page.area p.now) }
+        ensures { IsLiveAnd self.now (λ page. Finds p.now (leaf_at page p.now) (option_map (λ b. b.now) result)) }
+    {
+        let (k, bytes) = self.tree();
+        find_in(k, bytes, p.values())
     }
 }

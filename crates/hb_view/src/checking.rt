@@ -1,0 +1,63 @@
+//! Whether bytes spell a page.
+ghost use Rattle.std.specs.Prelude.{◌≡◌, ◌↔◌, IfSome, IsSome, IsTrue};
+ghost use Rattle.hb_space.specs.Points.{IsAttributeCount};
+ghost use Rattle.hb_page_codec.specs.Reading.{ReadsAs};
+ghost use Rattle.hb_page_codec.specs.ReadingPages.{head_at, page_of_bytes};
+ghost use Rattle.hb_view.specs.Behind.{live_behind, fields_behind};
+
+use crate::skipping::{behind_name, behind_tree};
+use hb_lemmas::is_zero;
+use hb_page_codec::area_of;
+use hb_space::form::{KMAX, PAGE};
+
+/// The level and the number of attributes, and the bytes behind the byte that is zero.
+#[tactic(auto, unfolding(hb_page_codec::specs::ReadingPages::head_at))]
+fn head_of(bytes: &[u8]) -> Option<(u8, u8, &[u8])>
+    ensures reads { ReadsAs (λ x. (x.0, x.1, x.2.now)) result (head_at bytes.now) }
+    ensures attributes { IfSome result (λ x. IsAttributeCount x.1) }
+{
+    match bytes {
+        [level, k, 0, rest @ ..] => {
+            if *k == 0 || usize::from(*k) > KMAX {
+                return None;
+            }
+            Some((*level, *k, rest))
+        }
+        _ => None,
+    }
+}
+
+/// The bytes behind a live page, from behind its tag.
+#[tactic(auto, unfolding(crate::specs::Behind::live_behind))]
+fn behind_live(bytes: &[u8]) -> Option<&[u8]>
+    ensures { ReadsAs (λ x. x.now) result (live_behind bytes.now) }
+{
+    let (_level, k, rest) = head_of(bytes)?;
+    let (_area, rest) = area_of(k, rest)?;
+    behind_tree(k, rest)
+}
+
+/// The bytes behind all fields of a page.
+#[tactic(auto, unfolding(crate::specs::Behind::fields_behind))]
+fn behind_fields(bytes: &[u8]) -> Option<&[u8]>
+    ensures { ReadsAs (λ x. x.now) result (fields_behind bytes.now) }
+{
+    match bytes {
+        [1, rest @ ..] => behind_live(rest),
+        [2, rest @ ..] => behind_name(rest),
+        _ => None,
+    }
+}
+
+/// Whether the bytes spell a page. It reads over them once.
+pub(crate) fn spells(bytes: &[u8]) -> bool
+    ensures { IsTrue result ↔ IsSome (page_of_bytes bytes.now) }
+{
+    if bytes.len() != PAGE {
+        return false;
+    }
+    match behind_fields(bytes) {
+        Some(rest) => is_zero(rest),
+        None => false,
+    }
+}
