@@ -2,3 +2,5 @@ pub mod Skipped
 pub mod Rooted
 pub mod Walked
 pub mod Listed
+pub mod Headed
+pub mod Checked

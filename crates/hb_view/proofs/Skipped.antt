@@ -68,7 +68,7 @@ unfolding many_at
 is_done k count i bytes total le so_far = let e : count - i ≡ 0 = omega arith in sym so_far ∙ ap (λ n. behind (many_at (record_at k) n bytes)) e
 
 -- a step of which nothing is kept
-steps : {A B : Type 0} (r : Option A) (f : A → Option (B × List ℕ)) (g : A → Option (List ℕ)) → ((x : A) → behind (f x) ≡ g x) → behind (r >>= f) ≡ (r >>= g)
+pub steps : {A B : Type 0} (r : Option A) (f : A → Option (B × List ℕ)) (g : A → Option (List ℕ)) → ((x : A) → behind (f x) ≡ g x) → behind (r >>= f) ≡ (r >>= g)
 steps None f g same = refl
 steps (Some x) f g same = same x
 
@@ -81,7 +81,7 @@ records_skipped : (k : ℕ) (bytes : List ℕ) → behind (records_tip_at k byte
 unfolding records_tip_at records_behind
 records_skipped k bytes = steps (count_at k bytes) _ _ (λ count. behind_made (records_at k count.0 count.1) _)
 
-name_skipped : {A : Type 0} (make : ℕ → A) (bytes : List ℕ) → behind (number_at 4 bytes >>= λ page. Some (make page.0, page.1)) ≡ name_behind bytes
+pub name_skipped : {A : Type 0} (make : ℕ → A) (bytes : List ℕ) → behind (number_at 4 bytes >>= λ page. Some (make page.0, page.1)) ≡ name_behind bytes
 unfolding name_behind
 name_skipped make bytes = named (number_at 4 bytes)
   where

@@ -4,6 +4,7 @@
 mod boxes;
 mod checking;
 mod fields;
+mod heads;
 mod leaves;
 mod lists;
 mod roots;

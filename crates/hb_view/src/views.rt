@@ -10,8 +10,8 @@ ghost use Rattle.hb_view.specs.Views.{IsLive, IsLiveAnd, IsFree, HasTree, Shows,
 use crate::LeafView;
 use crate::boxes::leaf_in;
 use crate::checking::spells;
+use crate::heads::{are_live, box_of, level_of, next_of, tree_of};
 use crate::walking::{find_in, weigh};
-use hb_page_codec::{area_of, u32_of};
 use hb_space::{Area, Point};
 use std::marker::Model;
 
@@ -68,7 +68,7 @@ impl<'a> PageView<'a> {
     pub fn is_live(&self) -> bool
         ensures { IsTrue result ↔ IsLive self.now }
     {
-        self.bytes[0] == 1
+        are_live(self.bytes)
     }
 
     /// The level of a page in use.
@@ -76,7 +76,7 @@ impl<'a> PageView<'a> {
         requires { IsLive self.now }
         ensures { IsLiveAnd self.now (λ page. result ≡ page.level) }
     {
-        self.bytes[1]
+        level_of(self.bytes)
     }
 
     /// The box of a page in use.
@@ -84,10 +84,7 @@ impl<'a> PageView<'a> {
         requires { IsLive self.now }
         ensures { IsLiveAnd self.now (λ page. result ≡ page.area) }
     {
-        match area_of(self.bytes[2], &self.bytes[4..]) {
-            Some((area, _)) => area,
-            None => unreachable!(),
-        }
+        box_of(self.bytes)
     }
 
     /// The next page of the free chain. 0 ends the chain.
@@ -95,10 +92,7 @@ impl<'a> PageView<'a> {
         requires { IsFree self.now }
         ensures { self.now ≡ FreePage result }
     {
-        match u32_of(&self.bytes[1..]) {
-            Some((next, _)) => next,
-            None => unreachable!(),
-        }
+        next_of(self.bytes)
     }
 
     /// The number of attributes of a page in use, and the bytes at which its tree begins.
@@ -106,8 +100,7 @@ impl<'a> PageView<'a> {
         requires { IsLive self.now }
         ensures { IsLiveAnd self.now (λ page. HasTree page result.0 result.1.now) }
     {
-        let k = self.bytes[2];
-        (k, &self.bytes[4 + 16 * usize::from(k)..])
+        tree_of(self.bytes)
     }
 
     /// What the leaves of a page in use weigh together.

@@ -1,0 +1,65 @@
+//! The fields of a page in front of its tree.
+ghost use Rattle.std.specs.Prelude.{◌≡◌, ◌≤◌, ◌↔◌, drop, length, IsSome, IsTrue};
+ghost use Rattle.hb_frag.specs.declared.pages.Page.TheVariants.{Free};
+ghost use Rattle.hb_page_codec.specs.ReadingPages.{page_of_bytes};
+ghost use Rattle.hb_view.specs.Spelled.{page_spelled};
+ghost use Rattle.hb_view.specs.Views.{IsLive, IsLiveAnd, IsFree, HasTree};
+
+use hb_page_codec::{area_of, u32_of};
+use hb_space::Area;
+
+/// The bytes from a place on.
+fn from_place(bytes: &[u8], place: usize) -> &[u8]
+    requires { place ≤ length bytes.now }
+    ensures { result.now ≡ drop place bytes.now }
+{
+    &bytes[place..]
+}
+
+/// Whether the bytes spell a page in use.
+pub(crate) fn are_live(bytes: &[u8]) -> bool
+    requires { IsSome (page_of_bytes bytes.now) }
+    ensures { IsTrue result ↔ IsLive (page_spelled bytes.now) }
+{
+    bytes[0] == 1
+}
+
+/// The level of the page in use that the bytes spell.
+pub(crate) fn level_of(bytes: &[u8]) -> u8
+    requires { IsLive (page_spelled bytes.now) }
+    ensures { IsLiveAnd (page_spelled bytes.now) (λ page. result ≡ page.level) }
+{
+    bytes[1]
+}
+
+/// The box of the page in use that the bytes spell.
+pub(crate) fn box_of(bytes: &[u8]) -> Area
+    requires { IsLive (page_spelled bytes.now) }
+    ensures { IsLiveAnd (page_spelled bytes.now) (λ page. result ≡ page.area) }
+{
+    match area_of(bytes[2], from_place(bytes, 4)) {
+        Some((area, _)) => area,
+        None => unreachable!(),
+    }
+}
+
+/// The number of attributes of the page in use that the bytes spell, and the bytes at which its tree begins.
+pub(crate) fn tree_of(bytes: &[u8]) -> (u8, &[u8])
+    requires { IsLive (page_spelled bytes.now) }
+    ensures { IsLiveAnd (page_spelled bytes.now) (λ page. HasTree page result.0 result.1.now) }
+{
+    let k = bytes[2];
+    (k, from_place(bytes, 4 + 16 * usize::from(k)))
+}
+
+/// The next page of the free chain, of the free page that the bytes spell.
+pub(crate) fn next_of(bytes: &[u8]) -> u32
+    requires spelled { IsSome (page_of_bytes bytes.now) }
+    requires free { IsFree (page_spelled bytes.now) }
+    ensures { page_spelled bytes.now ≡ Free result }
+{
+    match u32_of(from_place(bytes, 1)) {
+        Some((next, _)) => next,
+        None => unreachable!(),
+    }
+}
