@@ -4,3 +4,5 @@ pub mod Walked
 pub mod Listed
 pub mod Headed
 pub mod Checked
+pub mod Decoded
+pub mod Passing

@@ -3,3 +3,4 @@ pub mod Roots
 pub mod Views
 pub mod Lists
 pub mod Spelled
+pub mod Passing

@@ -1,12 +1,14 @@
 //! The fields of a page in front of its tree.
-ghost use Rattle.std.specs.Prelude.{◌≡◌, ◌≤◌, ◌↔◌, drop, length, IsSome, IsTrue};
+ghost use Rattle.std.specs.Prelude.{◌≡◌, ◌≤◌, ◌↔◌, drop, length, IfOk, IsSome, IsTrue};
 ghost use Rattle.hb_frag.specs.declared.pages.Page.TheVariants.{Free};
 ghost use Rattle.hb_page_codec.specs.ReadingPages.{page_of_bytes};
 ghost use Rattle.hb_view.specs.Spelled.{page_spelled};
 ghost use Rattle.hb_view.specs.Views.{IsLive, IsLiveAnd, IsFree, HasTree};
 
-use hb_page_codec::{area_of, u32_of};
-use hb_space::Area;
+use hb_frag::Page;
+use hb_page_codec::{PageError, area_of, decode, u32_of};
+use hb_space::{Area, NoMemory};
+use std::alloc::{AllocError, Global};
 
 /// The bytes from a place on.
 fn from_place(bytes: &[u8], place: usize) -> &[u8]
@@ -61,5 +63,17 @@ pub(crate) fn next_of(bytes: &[u8]) -> u32
     match u32_of(from_place(bytes, 1)) {
         Some((next, _)) => next,
         None => unreachable!(),
+    }
+}
+
+/// The page that the bytes spell, with memory of its own.
+pub(crate) fn page_of(alloc: Global, bytes: &[u8]) -> Result<Page, NoMemory>
+    requires { IsSome (page_of_bytes bytes.now) }
+    ensures { IfOk result (λ page. page ≡ page_spelled bytes.now) }
+{
+    match decode(alloc, bytes) {
+        Ok(page) => Ok(page),
+        Err(PageError::NoMemory) => Err(AllocError),
+        Err(PageError::BadPage) => unreachable!(),
     }
 }

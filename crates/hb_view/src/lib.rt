@@ -8,6 +8,7 @@ mod heads;
 mod leaves;
 mod lists;
 mod roots;
+mod rules;
 mod skipping;
 mod views;
 mod walking;

@@ -1,5 +1,5 @@
 //! A page seen from its bytes.
-ghost use Rattle.std.specs.Prelude.{◌≡◌, ◌↔◌, ◌+◌, ◌*◌, List, IfOk, IsSome, IsTrue, length, option_map};
+ghost use Rattle.std.specs.Prelude.{◌≡◌, ◌↔◌, IfOk, IsSome, IsTrue, option_map};
 ghost use Rattle.hb_space.specs.Boxes.{Holds};
 ghost use Rattle.hb_frag.specs.Leaves.{leaf_at, weight_of, WellCut};
 ghost use Rattle.hb_page_codec.specs.Reading.{ReadsAs};
@@ -10,9 +10,11 @@ ghost use Rattle.hb_view.specs.Views.{IsLive, IsLiveAnd, IsFree, HasTree, Shows,
 use crate::LeafView;
 use crate::boxes::leaf_in;
 use crate::checking::spells;
-use crate::heads::{are_live, box_of, level_of, next_of, tree_of};
+use crate::heads::{are_live, box_of, level_of, next_of, page_of, tree_of};
 use crate::walking::{find_in, weigh};
-use hb_space::{Area, Point};
+use hb_frag::Page;
+use hb_space::{Area, NoMemory, Point};
+use std::alloc::Global;
 use std::marker::Model;
 
 /// A page as the bytes that spell it. It reads from them what it tells, and takes no memory.
@@ -129,5 +131,12 @@ impl<'a> PageView<'a> {
     {
         let (k, bytes) = self.tree();
         find_in(k, bytes, p.values())
+    }
+
+    /// The page itself, with memory of its own.
+    pub fn page(&self, alloc: Global) -> Result<Page, NoMemory>
+        ensures { IfOk result (λ page. page ≡ self.now) }
+    {
+        page_of(alloc, self.bytes)
     }
 }
