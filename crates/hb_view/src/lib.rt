@@ -7,6 +7,7 @@ mod fields;
 mod heads;
 mod leaves;
 mod lists;
+mod order;
 mod roots;
 mod rules;
 mod skipping;

@@ -26,7 +26,7 @@ fn body_of(bytes: &[u8]) -> Option<(&[u8], &[u8])>
 
 /// A record as its point and the bytes of its body, and the bytes behind it.
 #[tactic(auto, unfolding(hb_page_codec::specs::ReadingFields::record_at))]
-fn entry_of(k: u8, bytes: &[u8]) -> Option<(Point, &[u8], &[u8])>
+pub(crate) fn entry_of(k: u8, bytes: &[u8]) -> Option<(Point, &[u8], &[u8])>
     requires { IsAttributeCount k }
     ensures { ReadsAs (λ x. (record { key = x.0; body = x.1.now }, x.2.now)) result (record_at k bytes.now) }
 {
