@@ -6,3 +6,4 @@ pub mod Headed
 pub mod Checked
 pub mod Decoded
 pub mod Passing
+pub mod Risen

@@ -12,19 +12,20 @@ use Rattle.std.proofs.lemmas.Option.{same_Some}
 pub record IsFirst (k m : ℕ) (bytes : List ℕ) (r : Record) (after : List ℕ) : Type 0 where
   pub others : IsSome (records_at k m after)
   pub list : records_there k (suc m) bytes ≡ r ∷ records_there k m after
+  pub behind_them : after_there k (suc m) bytes ≡ after_there k m after
 
 is_first : (k m : ℕ) (bytes : List ℕ) (r : Record) (after : List ℕ) → IsSome (records_at k (suc m) bytes) → record_at k bytes ≡ Some (r, after) → IsFirst k m bytes r after
 unfolding many_at
 is_first k m bytes r after there e =
     let next : records_at k (suc m) bytes ≡ (records_at k m after >>= with_first) = rw e refl in
     let both = parted (records_at k m after) (subst (λ (o : Option (List Record × List ℕ)). IsSome o) next there) in
-    record { others = both.0; list = ap list_or next ∙ both.1 }
+    record { others = both.0; list = ap list_or next ∙ both.1; behind_them = ap after_or next ∙ both.2 }
   where
     with_first : List Record × List ℕ → Option (List Record × List ℕ)
     with_first others = Some (r ∷ others.0, others.1)
-    parted : (o : Option (List Record × List ℕ)) → IsSome (o >>= with_first) → IsSome o × (list_or (o >>= with_first) ≡ r ∷ list_or o)
+    parted : (o : Option (List Record × List ℕ)) → IsSome (o >>= with_first) → IsSome o × (list_or (o >>= with_first) ≡ r ∷ list_or o) × (after_or (o >>= with_first) ≡ after_or o)
     parted None h = cc
-    parted (Some x) h = (refl, refl)
+    parted (Some x) h = (refl, refl, refl)
 
 one_left : (count i : ℕ) → i < count → count - i ≡ suc (count - (i + 1))
 one_left count i lt = omega arith
@@ -33,11 +34,14 @@ one_left count i lt = omega arith
 abbrev pub FindsOn : List ℕ → List Record → List Record → Type 0
 FindsOn p left all = (body : Option (List ℕ)) → FindsAmong p left body → FindsAmong p all body
 
-left_first : (k count i : ℕ) (rest : List ℕ) (r : Record) (after : List ℕ) → i < count → IsSome (records_at k (count - i) rest) → record_at k rest ≡ Some (r, after) → IsFirst k (count - (i + 1)) rest r after
+pub left_first : (k count i : ℕ) (rest : List ℕ) (r : Record) (after : List ℕ) → i < count → IsSome (records_at k (count - i) rest) → record_at k rest ≡ Some (r, after) → IsFirst k (count - (i + 1)) rest r after
 left_first k count i rest r after lt there e = is_first k (count - (i + 1)) rest r after (subst (λ n. IsSome (records_at k n rest)) (one_left count i lt) there) e
 
-left_list : (k count i : ℕ) (rest : List ℕ) (r : Record) (after : List ℕ) → i < count → IsSome (records_at k (count - i) rest) → record_at k rest ≡ Some (r, after) → records_there k (count - i) rest ≡ r ∷ records_there k (count - (i + 1)) after
+pub left_list : (k count i : ℕ) (rest : List ℕ) (r : Record) (after : List ℕ) → i < count → IsSome (records_at k (count - i) rest) → record_at k rest ≡ Some (r, after) → records_there k (count - i) rest ≡ r ∷ records_there k (count - (i + 1)) after
 left_list k count i rest r after lt there e = ap (λ n. records_there k n rest) (one_left count i lt) ∙ (left_first k count i rest r after lt there e).list
+
+pub left_behind : (k count i : ℕ) (rest : List ℕ) (r : Record) (after : List ℕ) → i < count → IsSome (records_at k (count - i) rest) → record_at k rest ≡ Some (r, after) → after_there k (count - (i + 1)) after ≡ after_there k (count - i) rest
+left_behind k count i rest r after lt there e = sym (ap (λ n. after_there k n rest) (one_left count i lt) ∙ (left_first k count i rest r after lt there e).behind_them)
 
 pub is_found : (k count i : ℕ) (rest p : List ℕ) (all : List Record) (r : Record) (after : List ℕ) → i < count → IsSome (records_at k (count - i) rest) → FindsOn p (records_there k (count - i) rest) all → record_at k rest ≡ Some (r, after) → r.key ≡ p
     → FindsAmong p all (Some r.body)

@@ -4,3 +4,4 @@ pub mod Views
 pub mod Lists
 pub mod Spelled
 pub mod Passing
+pub mod Limits

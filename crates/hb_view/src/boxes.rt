@@ -16,7 +16,7 @@ use hb_space::{Area, Point};
 type Corner = ArrayVec<u64, KMAX>;
 
 /// The corner at this point.
-fn corner_at(point: &Point) -> Corner
+pub(crate) fn corner_at(point: &Point) -> Corner
     ensures { result.items ≡ point.now }
 {
     let mut corner = ArrayVec::new();

@@ -2,6 +2,7 @@
 #![tactic(auto)]
 
 mod boxes;
+mod broken;
 mod checking;
 mod fields;
 mod heads;

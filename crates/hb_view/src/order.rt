@@ -41,6 +41,14 @@ fn follows(last: &Option<Point>, p: &Point) -> bool
     }
 }
 
+/// Whether the point lies in the box of these corners, and comes behind the last one.
+fn comes_next(lo: &[u64], hi: &[u64], last: &Option<Point>, p: &Point) -> bool
+    requires { length lo.now ≡ length hi.now }
+    ensures { IsTrue result ↔ (Holds (record { lo = lo.now; hi = hi.now }) p.now × Follows last.now p.now) }
+{
+    holds(lo, hi, p.values()) && follows(last, p)
+}
+
 /// Goes over so many records whose points lie in the box of these corners and rise.
 fn behind_rising<'a>(
     k: u8,
@@ -60,7 +68,7 @@ fn behind_rising<'a>(
     for _ in 0..count {
         match entry_of(k, rest) {
             Some((key, _, after)) => {
-                if !holds(lo, hi, key.values()) || !follows(&last, &key) {
+                if !comes_next(lo, hi, &last, &key) {
                     return None;
                 }
                 last = Some(key);

@@ -1,7 +1,9 @@
 //! A page seen from its bytes.
-ghost use Rattle.std.specs.Prelude.{◌≡◌, ◌↔◌, IfOk, IsSome, IsTrue, option_map};
+ghost use Rattle.std.specs.Prelude.{◌≡◌, ◌↔◌, IfOk, IfSome, IsNone, IsSome, IsTrue, option_map};
 ghost use Rattle.hb_space.specs.Boxes.{Holds};
 ghost use Rattle.hb_frag.specs.Leaves.{leaf_at, weight_of, WellCut};
+ghost use Rattle.hb_ops.specs.Sound.{FitsFile, BreaksFirst};
+ghost use Rattle.hb_view.specs.Limits.{meta_with};
 ghost use Rattle.hb_page_codec.specs.Reading.{ReadsAs};
 ghost use Rattle.hb_page_codec.specs.ReadingPages.{page_of_bytes};
 ghost use Rattle.hb_frag.specs.declared.pages.Page.TheVariants.{Free as FreePage};
@@ -9,6 +11,7 @@ ghost use Rattle.hb_view.specs.Views.{IsLive, IsLiveAnd, IsFree, HasTree, Shows,
 
 use crate::LeafView;
 use crate::boxes::leaf_in;
+use crate::broken::{Limits, first_broken};
 use crate::checking::spells;
 use crate::heads::{are_live, box_of, level_of, next_of, page_of, tree_of};
 use crate::walking::{find_in, weigh};
@@ -138,5 +141,22 @@ impl<'a> PageView<'a> {
         ensures { IfOk result (λ page. page ≡ self.now) }
     {
         page_of(alloc, self.bytes)
+    }
+
+    /// The least of the rules 3, 4, 5, 6 and 10 that the page in use breaks by itself, in a file that has `k` attributes and
+    /// so many levels, and whose pages may weigh so much at level 0 and above it. `None` where it keeps them all.
+    pub fn broken(&self, k: u8, height: u8, dcap: u16, icap: u16) -> Option<u8>
+        requires { IsLive self.now }
+        ensures none { IsLiveAnd self.now (λ page. IsNone result ↔ FitsFile (meta_with k height dcap icap) page) }
+        ensures first { IsLiveAnd self.now (λ page. IfSome result (λ r. BreaksFirst r page (meta_with k height dcap icap))) }
+    {
+        let (attributes, bytes) = self.tree();
+        let limits = Limits {
+            k,
+            height,
+            dcap,
+            icap,
+        };
+        first_broken(attributes, bytes, self.level(), &self.area(), limits)
     }
 }
