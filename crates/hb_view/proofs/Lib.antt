@@ -7,3 +7,4 @@ pub mod Checked
 pub mod Decoded
 pub mod Passing
 pub mod Risen
+pub mod Limited

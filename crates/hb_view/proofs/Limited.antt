@@ -1,0 +1,32 @@
+-- What is told of a page by its parts is told of the page.
+use Rattle.std.proofs.Common.{◌≡◌, ℕ, List, sym, subst, ap, ◌∙◌}
+use Rattle.hb_space.specs.Boxes.{Area}
+use Rattle.hb_frag.specs.declared.pages.LivePage.{LivePage}
+use Rattle.hb_frag.specs.declared.pages.Page.{Page}
+use Rattle.hb_frag.specs.declared.pages.Page.TheVariants.{Live, Free}
+use Rattle.hb_frag.specs.Trees.{Tree}
+use Rattle.hb_view.specs.Roots.{tree_there}
+use Rattle.hb_view.specs.Views.{IsLiveAnd, HasTree}
+
+-- a box whose corners were copied
+pub at_box : (W : Area → Type 0) (area : Area) (lo hi : List ℕ) → lo ≡ area.lo → hi ≡ area.hi → W (record { lo = lo; hi = hi }) → W area
+at_box W area lo hi el eh h =
+    let L : List ℕ → Type 0 = λ l. W (record { lo = l; hi = hi }) in
+    let H : List ℕ → Type 0 = λ l. W (record { lo = area.lo; hi = l }) in
+    subst H eh (subst L el h)
+
+pub from_box : (W : Area → Type 0) (area : Area) (lo hi : List ℕ) → lo ≡ area.lo → hi ≡ area.hi → W area → W (record { lo = lo; hi = hi })
+from_box W area lo hi el eh h =
+    let L : List ℕ → Type 0 = λ l. W (record { lo = l; hi = hi }) in
+    let H : List ℕ → Type 0 = λ l. W (record { lo = area.lo; hi = l }) in
+    subst L (sym el) (subst H (sym eh) h)
+
+-- a page in use, by its level, its box and its tree
+pub by_parts : (p : Page) (k : ℕ) (bytes : List ℕ) (level : ℕ) (area : Area) (P : LivePage → Type 0) → IsLiveAnd p (λ page. HasTree page k bytes) → IsLiveAnd p (λ page. level ≡ page.level) → IsLiveAnd p (λ page. area ≡ page.area)
+    → P (record { level = level; area = area; frag = tree_there k bytes }) → IsLiveAnd p P
+by_parts (Live page) k bytes level area P has el ea h =
+    let L : ℕ → Type 0 = λ l. P (record { level = l; area = area; frag = tree_there k bytes }) in
+    let A : Area → Type 0 = λ a. P (record { level = page.level; area = a; frag = tree_there k bytes }) in
+    let F : Tree → Type 0 = λ f. P (record { level = page.level; area = page.area; frag = f }) in
+    subst F has.tree (subst A ea (subst L el h))
+by_parts (Free next) k bytes level area P has el ea h = absurd has
