@@ -1,5 +1,5 @@
 -- What decoding the bytes of a view gives.
-use Rattle.std.proofs.Common.{◌≡◌, ℕ, List, Some, IsSome, Result, Ok, Err, ◌⊎◌, inl, inr, sym, ap, ◌∙◌}
+use Rattle.std.proofs.Common.{◌≡◌, ℕ, List, IsSome, Result, Ok, Err, ◌⊎◌, inl, inr, sym, ap}
 use Rattle.hb_lemmas.proofs.Options.{some_value}
 use Rattle.hb_frag.specs.declared.pages.Page.{Page}
 use Rattle.hb_frag.specs.Grammar.{SpellsPage}

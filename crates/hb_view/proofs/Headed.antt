@@ -80,7 +80,7 @@ live_parts rest h a t fits eh ea et =
     let k : length a.0.lo ≡ h.1 = takes.1 in
     let four : drop 4 (1 ∷ rest) ≡ h.2 = ap (λ (b : List ℕ). drop 3 b) head.parts in
     let far : drop (4 + 16 * length a.0.lo) (1 ∷ rest) ≡ a.1 =
-        ap (λ n. drop (4 + 16 * n) (1 ∷ rest)) k ∙ sym (drop-drop (16 * h.1) 4 (1 ∷ rest)) ∙ ap (λ (b : List ℕ). drop (16 * h.1) b) four ∙ sym (area_left h.1 h.2 a head.some head.few head.rest_fits ea) in
+    ap (λ n. drop (4 + 16 * n) (1 ∷ rest)) k ∙ sym (drop-drop (16 * h.1) 4 (1 ∷ rest)) ∙ ap (λ (b : List ℕ). drop (16 * h.1) b) four ∙ sym (area_left h.1 h.2 a head.some head.few head.rest_fits ea) in
     record {
       first = refl;
       level = ap (λ (b : List ℕ). get_or b 0 0) head.parts;
@@ -200,7 +200,7 @@ pub has_tree : (bytes : List ℕ) (s : LiveSpelled bytes) (n : ℕ) (from : List
 has_tree bytes s n from en ef =
     let k = s.fields.attributes in
     let read : tree_at (get_or bytes 2 0) from ≡ Some (s.page.frag, s.fields.rest) =
-        ap (λ m. tree_at m from) k ∙ ap (tree_at (length s.page.area.lo)) (ef ∙ ap (λ m. drop (4 + 16 * m) bytes) (en ∙ k)) ∙ s.fields.tree in
+    ap (λ m. tree_at m from) k ∙ ap (tree_at (length s.page.area.lo)) (ef ∙ ap (λ m. drop (4 + 16 * m) bytes) (en ∙ k)) ∙ s.fields.tree in
     record {
       attributes = k;
       is_area = s.fields.is_area;

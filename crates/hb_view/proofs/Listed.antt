@@ -1,5 +1,5 @@
 -- Looking through the records at the front of bytes, one after the other.
-use Rattle.std.proofs.Common.{◌≡◌, ℕ, suc, ◌+◌, ◌-◌, ◌<◌, ◌≤◌, List, [], ◌∷◌, Option, Some, None, IsSome, inl, inr, refl, sym, ap, subst, ◌∙◌, arith}
+use Rattle.std.proofs.Common.{◌≡◌, ℕ, suc, ◌+◌, ◌-◌, ◌<◌, ◌≤◌, List, ◌∷◌, Option, Some, None, IsSome, inl, inr, refl, sym, ap, subst, ◌∙◌, arith}
 use Rattle.hb_space.specs.declared.records.Record.{Record}
 use Rattle.hb_page_codec.specs.Reading.{◌>>=◌, many_at}
 use Rattle.hb_page_codec.specs.ReadingFields.{record_at, records_at}
@@ -23,6 +23,7 @@ is_first k m bytes r after there e =
   where
     with_first : List Record × List ℕ → Option (List Record × List ℕ)
     with_first others = Some (r ∷ others.0, others.1)
+
     parted : (o : Option (List Record × List ℕ)) → IsSome (o >>= with_first) → IsSome o × (list_or (o >>= with_first) ≡ r ∷ list_or o) × (after_or (o >>= with_first) ≡ after_or o)
     parted None h = cc
     parted (Some x) h = (refl, refl, refl)

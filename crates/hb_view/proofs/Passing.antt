@@ -1,5 +1,5 @@
 -- What walks over the two sides of a cut say of the whole.
-use Rattle.std.proofs.Common.{◌≡◌, ◌↔◌, ℕ, ◌-◌, List, All, Option, Some, None, slice_set, refl, sym, ap, subst, ◌∙◌}
+use Rattle.std.proofs.Common.{◌≡◌, ◌↔◌, ℕ, ◌-◌, List, All, Option, Some, None, slice_set, sym, ap, subst, ◌∙◌}
 use Rattle.hb_lemmas.proofs.Lists.{All-parts}
 use Rattle.hb_space.specs.Boxes.{Area, Cuts, side_below, side_from}
 use Rattle.hb_frag.specs.Leaves.{IsWellCut, leaves_of}

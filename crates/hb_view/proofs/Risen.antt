@@ -1,5 +1,5 @@
 -- Records that rise in a box, looked at one after the other.
-use Rattle.std.proofs.Common.{◌≡◌, ◌↔◌, ℕ, zero, suc, ◌+◌, ◌-◌, ◌<◌, ◌≤◌, List, [], ◌∷◌, length, get_or, All, AllPairs, Option, Some, None, refl, sym, ap, subst, ◌∙◌, arith}
+use Rattle.std.proofs.Common.{◌≡◌, ◌↔◌, ℕ, zero, suc, ◌-◌, ◌<◌, ◌≤◌, List, [], ◌∷◌, length, get_or, All, AllPairs, Option, Some, None, sym, ap, subst, ◌∙◌, arith}
 use Rattle.std.specs.List.{AllByRecursion}
 use Rattle.std.specs.declared.cmp.Ordering.TheVariants.{Less}
 use Rattle.std.proofs.lemmas.Cmp.{nat_list_cmp_total}
@@ -9,7 +9,7 @@ use Rattle.hb_space.specs.Points.{point_cmp}
 use Rattle.hb_space.specs.Boxes.{Area, Holds}
 use Rattle.hb_space.specs.declared.records.Record.{Record}
 use Rattle.hb_frag.specs.declared.leaves.Leaf.TheVariants as leaves
-use Rattle.hb_frag.specs.Leaves.{Placed, leaves_of}
+use Rattle.hb_frag.specs.Leaves.{leaves_of}
 use Rattle.hb_frag.specs.Rules.{IsInOrder, Precedes}
 use Rattle.hb_frag.specs.Trees.{Tree, Tip}
 use Rattle.hb_view.specs.Lists.{records_there, after_there, list_or, after_or}
@@ -90,8 +90,8 @@ pub list_in_order : (k : ℕ) (bytes first : List ℕ) (count : ℕ) (area : Are
 list_in_order k bytes first count area r list h =
     let rs = list.records in
     let said : RiseFrom area None rs ↔ All IsInOrder (leaves_of (Tip (leaves.Records rs)) area) =
-        (λ w. (All-one IsInOrder (record { leaf = leaves.Records rs; area = area })).1 ((rise_tells area rs).0 w), λ a. (rise_tells area rs).1 ((All-one IsInOrder (record { leaf = leaves.Records rs; area = area })).0 a)) in
+    (λ w. (All-one IsInOrder (record { leaf = leaves.Records rs; area = area })).1 ((rise_tells area rs).0 w), λ a. (rise_tells area rs).1 ((All-one IsInOrder (record { leaf = leaves.Records rs; area = area })).0 a)) in
     let there : RiseFrom area None (records_there k count first) ↔ All IsInOrder (leaves_of (Tip (leaves.Records rs)) area) =
-        subst (λ (l : List Record). RiseFrom area None l ↔ All IsInOrder (leaves_of (Tip (leaves.Records rs)) area)) (sym (ap list_or list.read)) said in
+    subst (λ (l : List Record). RiseFrom area None l ↔ All IsInOrder (leaves_of (Tip (leaves.Records rs)) area)) (sym (ap list_or list.read)) said in
     passes_same _ _ (after_there k count first) (rest_there k bytes) r
     (subst (λ (t : Tree). RiseFrom area None (records_there k count first) ↔ All IsInOrder (leaves_of t area)) (sym list.tree) there) (ap after_or list.read) h

@@ -1,5 +1,5 @@
 -- A tree that stands somewhere has the root that is seen there.
-use Rattle.std.proofs.Common.{◌≡◌, ℕ, zero, suc, ◌<◌, ◌≤◌, cond, ltb, List, [], ◌∷◌, length, Option, Some, None, IsSome, refl, sym, ap, subst, ◌∙◌, arith}
+use Rattle.std.proofs.Common.{◌≡◌, ℕ, zero, suc, ◌<◌, cond, ltb, List, [], ◌∷◌, length, Option, Some, None, IsSome, refl, sym, ap, subst, ◌∙◌, arith}
 use Rattle.std.proofs.lemmas.Bool.{ltb-true}
 use Rattle.std.proofs.lemmas.Option.{same_Some}
 use Rattle.hb_lemmas.proofs.Booleans.{when_some}
@@ -12,7 +12,7 @@ use Rattle.hb_page_codec.specs.ReadingFields.{axis_at, count_at, records_at}
 use Rattle.hb_page_codec.specs.ReadingPages.{cut_at, records_tip_at, node_at, tree_at}
 use Rattle.hb_page_codec.proofs.Depth.{tree_is, tree_shortens, number_shortens, axis_shortens, left_by}
 use Rattle.hb_page_codec.proofs.Facts.Fields.{bind_some}
-use Rattle.hb_view.specs.Roots.{tree_there, rest_there, tree_or, rest_or, Sight, Cuts, Lists, Falls, Gives, root_at, IsCut, IsList, IsSight}
+use Rattle.hb_view.specs.Roots.{rest_there, tree_or, rest_or, Sight, Cuts, Lists, Falls, Gives, root_at, IsSight}
 
 -- the root that is seen
 abbrev pub IsSeen : ℕ → List ℕ → Type 0
@@ -36,16 +36,19 @@ cut_root k rest a v l r ea ev el er all =
     let la = left_by (axis_at k rest) (length rest) a (axis_shortens k rest) ea in
     let lv = left_by (number_at 8 a.1) (length a.1) v (number_shortens 8 a.1) ev in
     let ll = left_by (tree_at k v.1) (length v.1) l (tree_shortens k v.1) el in
-    let behind : rest_there k v.1 ≡ l.1 = ap rest_or el in
-    (Cuts a.0 v.0 v.1, rw (ea, ev) refl, record {
-      left_there = has_value (tree_at k v.1) l el;
-      right_there = subst (λ (b : List ℕ). IsSome (tree_at k b)) (sym behind) (has_value (tree_at k l.1) r er);
-      tree = rw (all, el, er) refl;
-      rest = rw (all, el, er) refl;
-      attribute = axis_below k rest a ea;
-      left_shorter = omega (arith, la, lv);
-      right_shorter = omega (arith, la, lv, ll, ap (λ (b : List ℕ). length b) behind);
-    })
+    let behind : rest_there k v.1 ≡ l.1 = ap rest_or el in (
+      Cuts a.0 v.0 v.1,
+      rw (ea, ev) refl,
+      record {
+        left_there = has_value (tree_at k v.1) l el;
+        right_there = subst (λ (b : List ℕ). IsSome (tree_at k b)) (sym behind) (has_value (tree_at k l.1) r er);
+        tree = rw (all, el, er) refl;
+        rest = rw (all, el, er) refl;
+        attribute = axis_below k rest a ea;
+        left_shorter = omega (arith, la, lv);
+        right_shorter = omega (arith, la, lv, ll, ap (λ (b : List ℕ). length b) behind);
+      },
+    )
 
 cut_seen : (k : ℕ) (rest : List ℕ) (x : Tree × List ℕ) → tree_at k (zero ∷ rest) ≡ Some x → cut_at (tree_at k) k rest ≡ Some x → IsSeen k (zero ∷ rest)
 unfolding cut_at
@@ -58,11 +61,15 @@ cut_seen k rest x whole e =
 
 records_root : (k : ℕ) (rest : List ℕ) (a : ℕ × List ℕ) (b : List Record × List ℕ) → count_at k rest ≡ Some a → records_at k a.0 a.1 ≡ Some b → tree_at k (suc zero ∷ rest) ≡ Some (Tip (leaves.Records b.0), b.1) → IsSeen k (suc zero ∷ rest)
 unfolding root_at
-records_root k rest a b ea eb all = (Lists a.0 a.1, rw ea refl, record {
-  records = b.0;
-  read = rw all eb;
-  tree = ap tree_or all;
-})
+records_root k rest a b ea eb all = (
+  Lists a.0 a.1,
+  rw ea refl,
+  record {
+    records = b.0;
+    read = rw all eb;
+    tree = ap tree_or all;
+  },
+)
 
 records_seen : (k : ℕ) (rest : List ℕ) (x : Tree × List ℕ) → tree_at k (suc zero ∷ rest) ≡ Some x → records_tip_at k rest ≡ Some x → IsSeen k (suc zero ∷ rest)
 unfolding records_tip_at

@@ -17,7 +17,7 @@ use hb_space::Area;
 use hb_space::form::{KMAX, PAGE};
 
 /// What a file says of itself that a page by itself has to keep.
-#[derive(Clone, Copy)]
+#[derive(Clone, Copy, Debug)]
 pub(crate) struct Limits {
     /// The number of attributes.
     pub k: u8,
@@ -73,11 +73,7 @@ fn is_sibling(k: u8, bytes: &[u8]) -> bool
 fn capacity(level: u8, limits: Limits) -> u16
     ensures { result ≡ capacity_of level limits.dcap limits.icap }
 {
-    if level == 0 {
-        limits.dcap
-    } else {
-        limits.icap
-    }
+    if level == 0 { limits.dcap } else { limits.icap }
 }
 
 // Rule 5: leaves of the right kinds, a weight that the page may have, and no lone sibling leaf.

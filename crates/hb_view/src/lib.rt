@@ -1,4 +1,20 @@
 //! Pages read from their bytes, without memory.
+//!
+//! The one contract: a `PageView` answers as the page would that its bytes spell. Contracts see it as that page; what
+//! bytes spell which page is said by `page_of_bytes` of hb_page_codec, and `checked` gives a view exactly where they
+//! spell one. So a caller speaks of the page, and keeps its 4,096 bytes.
+//!
+//! A view goes down one path. At a cut the left side begins behind the cut's value; the right side begins behind the left
+//! one, which is read over. A box on the way is two corners of which one value is changed. Only `page` wants memory, since
+//! it decodes.
+//!
+//! Invariants: a view's bytes spell a page. A walk over bytes takes those from its place on, and where it goes on it hands
+//! back those behind what it looked at. So a side has fewer bytes than its tree, and walks end; and a tree is never deeper
+//! than its bytes allow. A cut takes ten of them, so a page has fewer than 410 cuts one below the other, which is what
+//! bounds the recursions.
+//!
+//! `checked` trusts no byte: it tests what `decode` tests, in one pass. The other calls know that the bytes spell a page,
+//! and read again only what they need.
 #![tactic(auto)]
 
 mod boxes;
@@ -12,6 +28,7 @@ mod order;
 mod roots;
 mod rules;
 mod skipping;
+mod threads;
 mod views;
 mod walking;
 

@@ -50,13 +50,7 @@ fn comes_next(lo: &[u64], hi: &[u64], last: &Option<Point>, p: &Point) -> bool
 }
 
 /// Goes over so many records whose points lie in the box of these corners and rise.
-fn behind_rising<'a>(
-    k: u8,
-    count: u16,
-    first: &'a [u8],
-    lo: &[u64],
-    hi: &[u64],
-) -> Option<&'a [u8]>
+fn behind_rising<'a>(k: u8, count: u16, first: &'a [u8], lo: &[u64], hi: &[u64]) -> Option<&'a [u8]>
     requires attributes { IsAttributeCount k }
     requires there { IsSome (records_at k count first.now) }
     requires same { length lo.now ≡ length hi.now }

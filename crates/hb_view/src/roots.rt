@@ -18,11 +18,20 @@ pub(crate) enum Root<'a> {
         left: &'a [u8],
     },
     /// A leaf of so many records, the first of which stands at `first`.
-    Records { count: u16, first: &'a [u8] },
+    Records {
+        count: u16,
+        first: &'a [u8],
+    },
     /// A leaf that names a page one level down, and the bytes behind it.
-    Child { page: u32, rest: &'a [u8] },
+    Child {
+        page: u32,
+        rest: &'a [u8],
+    },
     /// A leaf that names a page of the same level, and the bytes behind it.
-    Sibling { page: u32, rest: &'a [u8] },
+    Sibling {
+        page: u32,
+        rest: &'a [u8],
+    },
 }
 
 /// The root at the front of the bytes. None where none stands there.

@@ -119,7 +119,8 @@ impl<'a> PageView<'a> {
 
     /// The leaf whose box holds the point, and that box.
     pub fn leaf_at(&self, p: &Point) -> (LeafView, Area)
-        requires { IsLiveAnd self.now (λ page. WellCut page × Holds page.area p.now) }
+        requires well_cut { IsLiveAnd self.now WellCut }
+        requires held { IsLiveAnd self.now (λ page. Holds page.area p.now) }
         ensures { IsLiveAnd self.now (λ page. Shows (leaf_at page p.now) result.0 result.1) }
     {
         let (k, bytes) = self.tree();
@@ -129,7 +130,8 @@ impl<'a> PageView<'a> {
     /// The body of the record of the point. `None` where the leaf whose box holds the point names a page, or has no record
     /// of the point.
     pub fn find(&self, p: &Point) -> Option<&'a [u8]>
-        requires { IsLiveAnd self.now (λ page. WellCut page × Holds page.area p.now) }
+        requires well_cut { IsLiveAnd self.now WellCut }
+        requires held { IsLiveAnd self.now (λ page. Holds page.area p.now) }
         ensures { IsLiveAnd self.now (λ page. Finds p.now (leaf_at page p.now) (option_map (λ b. b.now) result)) }
     {
         let (k, bytes) = self.tree();

@@ -13,13 +13,7 @@ use crate::skipping::rest_of;
 use hb_space::form::{KMAX, PAGE};
 
 /// The leaf whose box holds the point, in a tree whose box has these corners. They become those of the leaf's box.
-pub(crate) fn descend(
-    k: u8,
-    bytes: &[u8],
-    lo: &mut [u64],
-    hi: &mut [u64],
-    p: &[u64],
-) -> LeafView
+pub(crate) fn descend(k: u8, bytes: &[u8], lo: &mut [u64], hi: &mut [u64], p: &[u64]) -> LeafView
     requires count { k ≤ KMAX }
     requires there { IsSome (tree_at k bytes.now) }
     requires corners { IsArea (record { lo = lo.old; hi = hi.old }) }

@@ -38,6 +38,7 @@ loop-preserved c =
 pub returns : goal.returns
 returns c =
     let area : Area = record { lo = c.args.lo.now; hi = c.args.hi.now } in
-    let all = RiseFrom area None (records_there c.args.k c.args.count c.args.first.now) in
-    (all_rose c.args.k c.args.count c.loop.counter c.loop.rest.now area c.loop.last all c.loop-test.false c.loop.invariant.same,
-    none_after c.args.k c.args.count c.loop.counter c.loop.rest.now c.loop-test.false ∙ c.loop.invariant.after)
+    let all = RiseFrom area None (records_there c.args.k c.args.count c.args.first.now) in (
+      all_rose c.args.k c.args.count c.loop.counter c.loop.rest.now area c.loop.last all c.loop-test.false c.loop.invariant.same,
+      none_after c.args.k c.args.count c.loop.counter c.loop.rest.now c.loop-test.false ∙ c.loop.invariant.after,
+    )

@@ -1,4 +1,3 @@
-use Rattle.std.proofs.Common.{refl}
 use Rattle.hb_page_codec.proofs.Facts.Refusals.{read_some}
 use Rattle.hb_view.specs.Roots.{sight_of, root_at}
 use Rattle.hb_view.proofs.Rooted.{has_root, is_root}

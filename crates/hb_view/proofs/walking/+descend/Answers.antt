@@ -1,4 +1,3 @@
-use Rattle.hb_space.specs.Boxes.{Area}
 use Rattle.hb_frag.specs.declared.leaves.Leaf.TheVariants as leaves
 use Rattle.hb_view.specs.Roots.{tree_there}
 use Rattle.hb_view.proofs.Walked.{shows_tip, shows_left, shows_right}
