@@ -9,12 +9,12 @@ use Rattle.hb_page_codec.specs.Reading.{◌>>=◌}
 use Rattle.hb_page_codec.specs.ReadingFields.{area_at}
 use Rattle.hb_page_codec.specs.ReadingPages.{tree_at, head_at, live_at, fields_at, page_of_bytes}
 use Rattle.hb_view.specs.Behind.{behind, live_behind, fields_behind}
-use Rattle.hb_view.proofs.Skipped.{steps, behind_made, name_skipped}
+use Rattle.hb_view.proofs.Skipped.{steps, behind_made, behind_then, name_skipped}
 use Rattle.hb_view.proofs.Headed.{spelled_long}
 
 live_skipped : (bytes : List ℕ) → behind (live_at bytes) ≡ live_behind bytes
 unfolding live_at live_behind
-live_skipped bytes = steps (head_at bytes) _ _ (λ head. steps (area_at head.1 head.2) _ _ (λ area. behind_made (tree_at head.1 area.1) _))
+live_skipped bytes = steps (head_at bytes) _ _ (λ head. behind_then (area_at head.1 head.2) _ (λ rest. behind (tree_at head.1 rest)) (λ area. behind_made (tree_at head.1 area.1) _))
 
 fields_skipped : (bytes : List ℕ) → behind (fields_at bytes) ≡ fields_behind bytes
 unfolding fields_at fields_behind

@@ -22,9 +22,10 @@ use Rattle.hb_page_codec.specs.ReadingPages.{tree_at, head_at, live_at, fields_a
 use Rattle.hb_page_codec.proofs.Facts.Fields.{AreBytes-rest, bind_some, area_takes, length_point}
 use Rattle.hb_page_codec.proofs.Facts.PageLaws.{head_takes, page_takes}
 use Rattle.hb_page_codec.proofs.Facts.Weights.{is_light}
+use Rattle.hb_view.proofs.Cornered.{has_corners}
 use Rattle.hb_view.specs.Spelled.{page_or, page_spelled}
 use Rattle.hb_view.specs.Roots.{tree_or}
-use Rattle.hb_view.specs.Views.{IsLive, IsLiveAnd, IsFree, HasTree}
+use Rattle.hb_view.specs.Views.{IsLive, IsLiveAnd, IsFree, HasInside}
 
 -- where the fields of a page in use stand
 pub record LiveBytes (bytes : List ℕ) (page : LivePage) : Type 0 where
@@ -196,14 +197,18 @@ has_box bytes s k from ek ef none =
     not_none (area_at k from) (s.page.area, s.fields.behind) same none
 
 -- the tree where it begins
-pub has_tree : (bytes : List ℕ) (s : LiveSpelled bytes) (n : ℕ) (from : List ℕ) → n ≡ get_or bytes 2 0 → from ≡ drop (4 + 16 * n) bytes → HasTree s.page (get_or bytes 2 0) from
-has_tree bytes s n from en ef =
+pub has_inside : (bytes : List ℕ) (s : LiveSpelled bytes) (n : ℕ) (corners from : List ℕ) → n ≡ get_or bytes 2 0 → corners ≡ drop 4 bytes → from ≡ drop (4 + 16 * n) bytes → HasInside s.page (get_or bytes 2 0) corners from
+has_inside bytes s n corners from en ec ef =
     let k = s.fields.attributes in
     let read : tree_at (get_or bytes 2 0) from ≡ Some (s.page.frag, s.fields.rest) =
     ap (λ m. tree_at m from) k ∙ ap (tree_at (length s.page.area.lo)) (ef ∙ ap (λ m. drop (4 + 16 * m) bytes) (en ∙ k)) ∙ s.fields.tree in
+    let box : area_at (get_or bytes 2 0) corners ≡ Some (s.page.area, s.fields.behind) = ap (λ m. area_at m corners) k ∙ ap (area_at (length s.page.area.lo)) ec ∙ s.fields.area in
+    let has = has_corners (get_or bytes 2 0) corners (s.page.area, s.fields.behind) box in
     record {
       attributes = k;
       is_area = s.fields.is_area;
+      room = has.room;
+      area = has.corners;
       there = has_value (tree_at (get_or bytes 2 0) from) (s.page.frag, s.fields.rest) read;
       tree = ap tree_or read;
       light = s.light;

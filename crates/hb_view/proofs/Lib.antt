@@ -8,3 +8,4 @@ pub mod Decoded
 pub mod Passing
 pub mod Risen
 pub mod Limited
+pub mod Cornered

@@ -92,7 +92,7 @@ finds_list k bytes first count p body list among =
 
 -- ---- the weight of a list
 
-many_counted : {A : Type 0} (read : List ℕ → Option (A × List ℕ)) (n : ℕ) (bytes : List ℕ) (x : List A × List ℕ) → many_at read n bytes ≡ Some x → length x.0 ≡ n
+pub many_counted : {A : Type 0} (read : List ℕ → Option (A × List ℕ)) (n : ℕ) (bytes : List ℕ) (x : List A × List ℕ) → many_at read n bytes ≡ Some x → length x.0 ≡ n
 unfolding many_at
 many_counted {A = A} read zero bytes x e = let same : ([], bytes) ≡ x = same_Some ([], bytes) x e in sym (ap (λ (y : List A × List ℕ). length y.0) same)
 many_counted {A = A} read (suc n) bytes x e =

@@ -49,8 +49,8 @@ node_behind k (suc (suc (suc (suc b))) ∷ rest) = None
 unfoldable pub live_behind : List ℕ → Option (List ℕ)
 live_behind bytes = do
   head ← head_at bytes
-  area ← area_at head.1 head.2
-  behind (tree_at head.1 area.1)
+  rest ← behind (area_at head.1 head.2)
+  behind (tree_at head.1 rest)
 
 -- all fields of a page
 unfoldable pub fields_behind : List ℕ → Option (List ℕ)

@@ -5,3 +5,4 @@ pub mod Lists
 pub mod Spelled
 pub mod Passing
 pub mod Limits
+pub mod Corners

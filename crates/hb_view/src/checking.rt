@@ -5,9 +5,9 @@ ghost use Rattle.hb_page_codec.specs.Reading.{ReadsAs};
 ghost use Rattle.hb_page_codec.specs.ReadingPages.{head_at, page_of_bytes};
 ghost use Rattle.hb_view.specs.Behind.{live_behind, fields_behind};
 
+use crate::corners::behind_box;
 use crate::skipping::{behind_name, behind_tree};
 use hb_lemmas::is_zero;
-use hb_page_codec::area_of;
 use hb_space::form::{KMAX, PAGE};
 
 /// The level and the number of attributes, and the bytes behind the byte that is zero.
@@ -33,7 +33,7 @@ fn behind_live(bytes: &[u8]) -> Option<&[u8]>
     ensures { ReadsAs (λ x. x.now) result (live_behind bytes.now) }
 {
     let (_level, k, rest) = head_of(bytes)?;
-    let (_area, rest) = area_of(k, rest)?;
+    let rest = behind_box(k, rest)?;
     behind_tree(k, rest)
 }
 

@@ -1,22 +1,15 @@
 //! The fields of a page in front of its tree.
-ghost use Rattle.std.specs.Prelude.{◌≡◌, ◌≤◌, ◌↔◌, drop, length, IfOk, IsSome, IsTrue};
+ghost use Rattle.std.specs.Prelude.{◌≡◌, ◌↔◌, IfOk, IsSome, IsTrue};
 ghost use Rattle.hb_frag.specs.declared.pages.Page.TheVariants.{Free};
 ghost use Rattle.hb_page_codec.specs.ReadingPages.{page_of_bytes};
 ghost use Rattle.hb_view.specs.Spelled.{page_spelled};
-ghost use Rattle.hb_view.specs.Views.{IsLive, IsLiveAnd, IsFree, HasTree};
+ghost use Rattle.hb_view.specs.Views.{IsLive, IsLiveAnd, IsFree, HasInside};
 
+use crate::corners::from_place;
 use hb_frag::Page;
 use hb_page_codec::{PageError, area_of, decode, u32_of};
 use hb_space::{Area, NoMemory};
 use std::alloc::{AllocError, Global};
-
-/// The bytes from a place on.
-fn from_place(bytes: &[u8], place: usize) -> &[u8]
-    requires { place ≤ length bytes.now }
-    ensures { result.now ≡ drop place bytes.now }
-{
-    &bytes[place..]
-}
 
 /// Whether the bytes spell a page in use.
 pub(crate) fn are_live(bytes: &[u8]) -> bool
@@ -45,13 +38,28 @@ pub(crate) fn box_of(bytes: &[u8]) -> Area
     }
 }
 
-/// The number of attributes of the page in use that the bytes spell, and the bytes at which its tree begins.
-pub(crate) fn tree_of(bytes: &[u8]) -> (u8, &[u8])
+/// Where the parts of a page in use stand.
+#[derive(Clone, Copy, Debug)]
+pub(crate) struct Inside<'a> {
+    /// The number of attributes.
+    pub k: u8,
+    /// The bytes from its box on.
+    pub corners: &'a [u8],
+    /// The bytes from its tree on.
+    pub tree: &'a [u8],
+}
+
+/// Where the parts of the page in use stand that the bytes spell.
+pub(crate) fn inside_of(bytes: &[u8]) -> Inside<'_>
     requires { IsLive (page_spelled bytes.now) }
-    ensures { IsLiveAnd (page_spelled bytes.now) (λ page. HasTree page result.0 result.1.now) }
+    ensures { IsLiveAnd (page_spelled bytes.now) (λ page. HasInside page result.k result.corners.now result.tree.now) }
 {
     let k = bytes[2];
-    (k, from_place(bytes, 4 + 16 * usize::from(k)))
+    Inside {
+        k,
+        corners: from_place(bytes, 4),
+        tree: from_place(bytes, 4 + 16 * usize::from(k)),
+    }
 }
 
 /// The next page of the free chain, of the free page that the bytes spell.

@@ -20,6 +20,7 @@
 mod boxes;
 mod broken;
 mod checking;
+mod corners;
 mod fields;
 mod heads;
 mod leaves;

@@ -1,11 +1,13 @@
 //! The records of a leaf, from the front of bytes.
-ghost use Rattle.std.specs.Prelude.{◌≡◌, ◌≤◌, ◌↔◌, IsSome, IsTrue, option_map};
+ghost use Rattle.std.specs.Prelude.{◌≡◌, ◌*◌, ◌≤◌, length, IfSome, IsSome, option_map};
 ghost use Rattle.hb_space.specs.Points.{IsAttributeCount};
 ghost use Rattle.hb_page_codec.specs.Reading.{ReadsAs};
 ghost use Rattle.hb_page_codec.specs.ReadingFields.{body_at, record_at, records_at};
+ghost use Rattle.hb_view.specs.Corners.{point_there};
 ghost use Rattle.hb_view.specs.Lists.{records_there, after_there};
 ghost use Rattle.hb_view.specs.Views.{FindsAmong};
 
+use crate::corners::{is_point, point_read};
 use crate::skipping::behind_list;
 use hb_page_codec::point_of;
 use hb_space::Point;
@@ -35,24 +37,30 @@ pub(crate) fn entry_of(k: u8, bytes: &[u8]) -> Option<(Point, &[u8], &[u8])>
     Some((key, body, rest))
 }
 
-/// Whether the record's point has these values.
-fn is_at(key: &Point, p: &[u64]) -> bool
-    ensures { IsTrue result ↔ (key.now ≡ p.now) }
+/// A record as the bytes of its point and those of its body, and the bytes behind it.
+#[tactic(auto, unfolding(hb_page_codec::specs::ReadingFields::record_at))]
+fn parts_of(k: u8, bytes: &[u8]) -> Option<(&[u8], &[u8], &[u8])>
+    requires { k ≤ KMAX }
+    ensures reads { ReadsAs (λ x. (record { key = point_there k x.0.now; body = x.1.now }, x.2.now)) result (record_at k bytes.now) }
+    ensures room { IfSome result (λ x. 8 * k ≤ length x.0.now) }
 {
-    key.values() == p
+    let (key, rest) = point_read(k, bytes)?;
+    let (body, rest) = body_of(rest)?;
+    Some((key, body, rest))
 }
 
 /// The body of the first of so many records that has the point. None where none has it.
 pub(crate) fn body_among<'a>(k: u8, count: u16, first: &'a [u8], p: &[u64]) -> Option<&'a [u8]>
-    requires attributes { IsAttributeCount k }
+    requires count { k ≤ KMAX }
+    requires attributes { length p.now ≡ k }
     requires there { IsSome (records_at k count first.now) }
     ensures { FindsAmong p.now (records_there k count first.now) (option_map (λ b. b.now) result) }
 {
     let mut rest = first;
     for _ in 0..count {
-        match entry_of(k, rest) {
+        match parts_of(k, rest) {
             Some((key, body, after)) => {
-                if is_at(&key, p) {
+                if is_point(k, key, p) {
                     return Some(body);
                 }
                 rest = after;

@@ -7,13 +7,13 @@ ghost use Rattle.hb_view.specs.Limits.{meta_with};
 ghost use Rattle.hb_page_codec.specs.Reading.{ReadsAs};
 ghost use Rattle.hb_page_codec.specs.ReadingPages.{page_of_bytes};
 ghost use Rattle.hb_frag.specs.declared.pages.Page.TheVariants.{Free as FreePage};
-ghost use Rattle.hb_view.specs.Views.{IsLive, IsLiveAnd, IsFree, HasTree, Shows, Finds};
+ghost use Rattle.hb_view.specs.Views.{IsLive, IsLiveAnd, IsFree, HasInside, Shows, Finds};
 
 use crate::LeafView;
 use crate::boxes::leaf_in;
 use crate::broken::{Limits, first_broken};
 use crate::checking::spells;
-use crate::heads::{are_live, box_of, level_of, next_of, page_of, tree_of};
+use crate::heads::{Inside, are_live, box_of, inside_of, level_of, next_of, page_of};
 use crate::walking::{find_in, weigh};
 use hb_frag::Page;
 use hb_space::{Area, NoMemory, Point};
@@ -100,12 +100,12 @@ impl<'a> PageView<'a> {
         next_of(self.bytes)
     }
 
-    /// The number of attributes of a page in use, and the bytes at which its tree begins.
-    fn tree(&self) -> (u8, &'a [u8])
+    /// Where the parts of a page in use stand.
+    fn inside(&self) -> Inside<'a>
         requires { IsLive self.now }
-        ensures { IsLiveAnd self.now (λ page. HasTree page result.0 result.1.now) }
+        ensures { IsLiveAnd self.now (λ page. HasInside page result.k result.corners.now result.tree.now) }
     {
-        tree_of(self.bytes)
+        inside_of(self.bytes)
     }
 
     /// What the leaves of a page in use weigh together.
@@ -113,8 +113,8 @@ impl<'a> PageView<'a> {
         requires { IsLive self.now }
         ensures { IsLiveAnd self.now (λ page. result ≡ weight_of page.frag) }
     {
-        let (k, bytes) = self.tree();
-        weigh(k, bytes).0
+        let inside = self.inside();
+        weigh(inside.k, inside.tree).0
     }
 
     /// The leaf whose box holds the point, and that box.
@@ -123,8 +123,8 @@ impl<'a> PageView<'a> {
         requires held { IsLiveAnd self.now (λ page. Holds page.area p.now) }
         ensures { IsLiveAnd self.now (λ page. Shows (leaf_at page p.now) result.0 result.1) }
     {
-        let (k, bytes) = self.tree();
-        leaf_in(k, bytes, &self.area(), p)
+        let inside = self.inside();
+        leaf_in(inside.k, inside.corners, inside.tree, p)
     }
 
     /// The body of the record of the point. `None` where the leaf whose box holds the point names a page, or has no record
@@ -134,8 +134,8 @@ impl<'a> PageView<'a> {
         requires held { IsLiveAnd self.now (λ page. Holds page.area p.now) }
         ensures { IsLiveAnd self.now (λ page. Finds p.now (leaf_at page p.now) (option_map (λ b. b.now) result)) }
     {
-        let (k, bytes) = self.tree();
-        find_in(k, bytes, p.values())
+        let inside = self.inside();
+        find_in(inside.k, inside.tree, p.values())
     }
 
     /// The page itself, with memory of its own.
@@ -152,13 +152,13 @@ impl<'a> PageView<'a> {
         ensures none { IsLiveAnd self.now (λ page. IsNone result ↔ FitsFile (meta_with k height dcap icap) page) }
         ensures first { IsLiveAnd self.now (λ page. IfSome result (λ r. BreaksFirst r page (meta_with k height dcap icap))) }
     {
-        let (attributes, bytes) = self.tree();
+        let inside = self.inside();
         let limits = Limits {
             k,
             height,
             dcap,
             icap,
         };
-        first_broken(attributes, bytes, self.level(), &self.area(), limits)
+        first_broken(inside.k, inside.corners, inside.tree, self.level(), limits)
     }
 }

@@ -43,7 +43,6 @@ pub(crate) fn descend(k: u8, bytes: &[u8], lo: &mut [u64], hi: &mut [u64], p: &[
 /// The body of the point's record in the leaf whose box holds the point. None where that leaf names a page, or lacks
 /// the point.
 pub(crate) fn find_in<'a>(k: u8, bytes: &'a [u8], p: &[u64]) -> Option<&'a [u8]>
-    requires some { 1 ≤ k }
     requires count { k ≤ KMAX }
     requires there { IsSome (tree_at k bytes.now) }
     requires attributes { length p.now ≡ k }

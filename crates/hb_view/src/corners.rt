@@ -1,0 +1,101 @@
+//! Points and boxes at the front of bytes, of which values are read where they stand.
+ghost use Rattle.std.specs.Prelude.{◌≡◌, ◌<◌, ◌≤◌, ◌*◌, ◌↔◌, drop, length, slice_index, IfSome, IsTrue};
+ghost use Rattle.hb_page_codec.specs.Reading.{ReadsAs};
+ghost use Rattle.hb_page_codec.specs.ReadingFields.{point_at, area_at, are_ordered};
+ghost use Rattle.hb_view.specs.Behind.{behind};
+ghost use Rattle.hb_view.specs.Corners.{point_there};
+
+use arrayvec::ArrayVec;
+use hb_page_codec::u64_of;
+use hb_space::form::KMAX;
+
+/// A corner of a box, of which each value may be changed.
+pub(crate) type Corner = ArrayVec<u64, KMAX>;
+
+/// The bytes from a place on.
+pub(crate) fn from_place(bytes: &[u8], place: usize) -> &[u8]
+    requires { place ≤ length bytes.now }
+    ensures { result.now ≡ drop place bytes.now }
+{
+    &bytes[place..]
+}
+
+/// A value of the point of `k` values that stands there.
+fn value_at(k: u8, bytes: &[u8], axis: usize) -> u64
+    requires room { 8 * k ≤ length bytes.now }
+    requires attribute { axis < k }
+    ensures { result ≡ slice_index (point_there k bytes.now) axis }
+{
+    match u64_of(from_place(bytes, 8 * axis)) {
+        Some((value, _)) => value,
+        None => unreachable!(),
+    }
+}
+
+/// The values of the point of `k` values that stands there.
+pub(crate) fn corner_at(k: u8, bytes: &[u8]) -> Corner
+    requires few { k ≤ KMAX }
+    requires room { 8 * k ≤ length bytes.now }
+    ensures { result.items ≡ point_there k bytes.now }
+{
+    let mut corner = ArrayVec::new();
+    for axis in 0..usize::from(k) {
+        corner.push(value_at(k, bytes, axis));
+    }
+    corner
+}
+
+/// Whether the point of `k` values that stands there has these.
+pub(crate) fn is_point(k: u8, bytes: &[u8], p: &[u64]) -> bool
+    requires room { 8 * k ≤ length bytes.now }
+    requires attributes { length p.now ≡ k }
+    ensures { IsTrue result ↔ (point_there k bytes.now ≡ p.now) }
+{
+    for axis in 0..p.len() {
+        if value_at(k, bytes, axis) != p[axis] {
+            return false;
+        }
+    }
+    true
+}
+
+/// Whether no value of the first of two points exceeds the second one's in the same attribute.
+fn is_ordered(k: u8, lo: &[u8], hi: &[u8]) -> bool
+    requires lo { 8 * k ≤ length lo.now }
+    requires hi { 8 * k ≤ length hi.now }
+    ensures { result ≡ are_ordered (point_there k lo.now) (point_there k hi.now) }
+{
+    for axis in 0..usize::from(k) {
+        if value_at(k, hi, axis) < value_at(k, lo, axis) {
+            return false;
+        }
+    }
+    true
+}
+
+/// The bytes of a point of `k` values, and those behind it.
+pub(crate) fn point_read(k: u8, bytes: &[u8]) -> Option<(&[u8], &[u8])>
+    requires { k ≤ KMAX }
+    ensures reads { ReadsAs (λ x. (point_there k x.0.now, x.1.now)) result (point_at k bytes.now) }
+    ensures room { IfSome result (λ x. 8 * k ≤ length x.0.now) }
+{
+    let length = 8 * usize::from(k);
+    if bytes.len() < length {
+        return None;
+    }
+    Some((bytes, from_place(bytes, length)))
+}
+
+/// The bytes behind a box of `k` attributes.
+pub(crate) fn behind_box(k: u8, bytes: &[u8]) -> Option<&[u8]>
+    requires { k ≤ KMAX }
+    ensures { ReadsAs (λ x. x.now) result (behind (area_at k bytes.now)) }
+{
+    let (lo, rest) = point_read(k, bytes)?;
+    let (hi, rest) = point_read(k, rest)?;
+    if is_ordered(k, lo, hi) {
+        Some(rest)
+    } else {
+        None
+    }
+}
