@@ -1,5 +1,5 @@
-//! The tests of hb_space, hb_layout, hb_frag, hb_ops, hb_page_codec, hb_log_codec, hb_split and
-//! hb_terms, and nothing else. They stand here since a crate with tests is proved twice, once without
+//! The tests of hb_space, hb_layout, hb_frag, hb_ops, hb_page_codec, hb_log_codec, hb_split,
+//! hb_terms and hb_view, and nothing else. They stand here since a crate with tests is proved twice, once without
 //! them: of this crate nothing is left then.
 //!
 //! A test is a table of rows, each `QUESTION => ANSWER`. The modules `boxes` to `plans` have the
@@ -37,3 +37,5 @@ mod rows;
 mod spelled;
 #[cfg(test)]
 mod splits;
+#[cfg(test)]
+mod views;

@@ -25,7 +25,7 @@ use Rattle.hb_page_codec.proofs.Facts.Weights.{is_light}
 use Rattle.hb_view.proofs.Cornered.{has_corners}
 use Rattle.hb_view.specs.Spelled.{page_or, page_spelled}
 use Rattle.hb_view.specs.Roots.{tree_or}
-use Rattle.hb_view.specs.Views.{IsLive, IsLiveAnd, IsFree, HasInside}
+use Rattle.hb_view.specs.Views.{IsLive, IsLiveAnd, HasInside}
 
 -- where the fields of a page in use stand
 pub record LiveBytes (bytes : List ℕ) (page : LivePage) : Type 0 where
@@ -115,7 +115,7 @@ fields_tell (suc (suc zero) ∷ rest) page zeros fits e =
     other a.0.0 a.0.1 a.2
   where
     other : (n : ℕ) (z : List ℕ) → ◌≡◌ {A = Option (Page × List ℕ)} (Some (Free n, z)) (Some (Live page, zeros)) → LiveBytes (2 ∷ rest) page
-    other n z e = absurd (subst IsFree (same_page (Free n) (Live page) z zeros e) tt)
+    other n z e = absurd (subst IsLive (sym (same_page (Free n) (Live page) z zeros e)) tt)
 fields_tell (suc (suc (suc b)) ∷ rest) page zeros fits e = absurd cc
 
 fields_name : (bytes : List ℕ) (next : ℕ) (zeros : List ℕ) → fields_at bytes ≡ Some (Free next, zeros) → FreeBytes bytes next
@@ -223,13 +223,13 @@ pub record FreeSpelled (bytes : List ℕ) : Type 0 where
   pub long : length bytes ≡ PAGE
   pub fields : FreeBytes bytes next
 
-pub free_spelled : (bytes : List ℕ) → IsSome (page_of_bytes bytes) → IsFree (page_spelled bytes) → FreeSpelled bytes
+pub free_spelled : (bytes : List ℕ) → IsSome (page_of_bytes bytes) → ¬ (IsLive (page_spelled bytes)) → FreeSpelled bytes
 free_spelled bytes some free =
     let w = some_value (page_of_bytes bytes) some in
-    cases w.0 w.1 (subst (λ (o : Option Page). IsFree (page_or o)) w.1 free)
+    cases w.0 w.1 (subst (λ (o : Option Page). ¬ (IsLive (page_or o))) w.1 free)
   where
-    cases : (page : Page) → page_of_bytes bytes ≡ Some page → IsFree page → FreeSpelled bytes
-    cases (Live page) e free = absurd free
+    cases : (page : Page) → page_of_bytes bytes ≡ Some page → ¬ (IsLive page) → FreeSpelled bytes
+    cases (Live page) e free = absurd (free tt)
     cases (Free next) e free = let f = fields_of bytes (Free next) e in record { next = next; is = ap page_or e; long = spelled_long bytes (Free next) e; fields = fields_name bytes next f.0 f.1 }
 
 pub is_next : (bytes from : List ℕ) (s : FreeSpelled bytes) (x : ℕ × List ℕ) → from ≡ drop 1 bytes → number_at 4 from ≡ Some x → page_spelled bytes ≡ Free x.0

@@ -15,14 +15,10 @@ use Rattle.hb_view.specs.Roots.{tree_there}
 use Rattle.hb_view.specs.declared.leaves.LeafView.{LeafView}
 use Rattle.hb_view.specs.declared.leaves.LeafView.TheVariants as views
 
--- the page is in use, or it is free
+-- the page is in use; a page that isn't is free
 abbrev pub IsLive : Page → Type 0
 IsLive (Live page) = Unit {0}
 IsLive (Free next) = ⊥
-
-abbrev pub IsFree : Page → Type 0
-IsFree (Live page) = ⊥
-IsFree (Free next) = Unit {0}
 
 -- it is in use, and this holds of it
 abbrev pub IsLiveAnd : Page → (LivePage → Type 0) → Type 0

@@ -1,9 +1,10 @@
 //! The fields of a page in front of its tree.
 ghost use Rattle.std.specs.Prelude.{◌≡◌, ◌↔◌, IfOk, IsSome, IsTrue};
+ghost use Rattle.hb_frag.specs.Grammar.{HasSpelling};
 ghost use Rattle.hb_frag.specs.declared.pages.Page.TheVariants.{Free};
 ghost use Rattle.hb_page_codec.specs.ReadingPages.{page_of_bytes};
 ghost use Rattle.hb_view.specs.Spelled.{page_spelled};
-ghost use Rattle.hb_view.specs.Views.{IsLive, IsLiveAnd, IsFree, HasInside};
+ghost use Rattle.hb_view.specs.Views.{IsLive, IsLiveAnd, HasInside};
 
 use crate::corners::from_place;
 use hb_frag::Page;
@@ -65,7 +66,7 @@ pub(crate) fn inside_of(bytes: &[u8]) -> Inside<'_>
 /// The next page of the free chain, of the free page that the bytes spell.
 pub(crate) fn next_of(bytes: &[u8]) -> u32
     requires spelled { IsSome (page_of_bytes bytes.now) }
-    requires free { IsFree (page_spelled bytes.now) }
+    requires free { ¬ (IsLive (page_spelled bytes.now)) }
     ensures { page_spelled bytes.now ≡ Free result }
 {
     match u32_of(from_place(bytes, 1)) {
@@ -77,7 +78,8 @@ pub(crate) fn next_of(bytes: &[u8]) -> u32
 /// The page that the bytes spell, with memory of its own.
 pub(crate) fn page_of(alloc: Global, bytes: &[u8]) -> Result<Page, NoMemory>
     requires { IsSome (page_of_bytes bytes.now) }
-    ensures { IfOk result (λ page. page ≡ page_spelled bytes.now) }
+    ensures value { IfOk result (λ page. page ≡ page_spelled bytes.now) }
+    ensures writable { IfOk result (λ page. HasSpelling page) }
 {
     match decode(alloc, bytes) {
         Ok(page) => Ok(page),

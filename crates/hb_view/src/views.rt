@@ -1,13 +1,14 @@
 //! A page seen from its bytes.
 ghost use Rattle.std.specs.Prelude.{◌≡◌, ◌↔◌, IfOk, IfSome, IsNone, IsSome, IsTrue, option_map};
 ghost use Rattle.hb_space.specs.Boxes.{Holds};
+ghost use Rattle.hb_frag.specs.Grammar.{HasSpelling};
 ghost use Rattle.hb_frag.specs.Leaves.{leaf_at, weight_of, WellCut};
 ghost use Rattle.hb_ops.specs.Sound.{FitsFile, BreaksFirst};
 ghost use Rattle.hb_view.specs.Limits.{meta_with};
 ghost use Rattle.hb_page_codec.specs.Reading.{ReadsAs};
 ghost use Rattle.hb_page_codec.specs.ReadingPages.{page_of_bytes};
 ghost use Rattle.hb_frag.specs.declared.pages.Page.TheVariants.{Free as FreePage};
-ghost use Rattle.hb_view.specs.Views.{IsLive, IsLiveAnd, IsFree, HasInside, Shows, Finds};
+ghost use Rattle.hb_view.specs.Views.{IsLive, IsLiveAnd, HasInside, Shows, Finds};
 
 use crate::LeafView;
 use crate::boxes::leaf_in;
@@ -94,7 +95,7 @@ impl<'a> PageView<'a> {
 
     /// The next page of the free chain. 0 ends the chain.
     pub fn next(&self) -> u32
-        requires { IsFree self.now }
+        requires { ¬ (IsLive self.now) }
         ensures { self.now ≡ FreePage result }
     {
         next_of(self.bytes)
@@ -140,7 +141,8 @@ impl<'a> PageView<'a> {
 
     /// The page itself, with memory of its own.
     pub fn page(&self, alloc: Global) -> Result<Page, NoMemory>
-        ensures { IfOk result (λ page. page ≡ self.now) }
+        ensures value { IfOk result (λ page. page ≡ self.now) }
+        ensures writable { IfOk result (λ page. HasSpelling page) }
     {
         page_of(alloc, self.bytes)
     }
