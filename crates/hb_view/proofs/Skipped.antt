@@ -1,7 +1,7 @@
 -- What was read over is what was read.
-use Rattle.std.proofs.Common.{◌≡◌, ℕ, zero, suc, ◌+◌, ◌-◌, ◌*◌, ◌<◌, ◌≤◌, List, [], ◌∷◌, length, take, drop, Option, Some, None, IsSome, inl, inr, refl, sym, ap, subst, ◌∙◌, arith}
+use Rattle.std.proofs.Common.{◌≡◌, ℕ, zero, suc, ◌+◌, ◌-◌, ◌*◌, ◌<◌, ◌≤◌, List, [], ◌∷◌, length, drop, Option, Some, None, IsSome, inl, inr, refl, sym, ap, subst, ◌∙◌, arith}
 use Rattle.std.proofs.lemmas.Bool.{cases_lt, le-ltb, lt-ltb}
-use Rattle.std.proofs.lemmas.List.{length-drop, drop-drop, take_all}
+use Rattle.std.proofs.lemmas.List.{length-drop, drop-drop}
 use Rattle.hb_frag.specs.Trees.{Tree}
 use Rattle.hb_page_codec.specs.Reading.{◌>>=◌, number_at, many_at}
 use Rattle.hb_page_codec.specs.ReadingFields.{axis_at, body_at, count_at, point_at, record_at, records_at}
@@ -99,17 +99,6 @@ node_skipped k (suc (suc (suc (suc b))) ∷ rest) = refl
 
 pub tree_skipped : (k : ℕ) (bytes : List ℕ) → behind (tree_at k bytes) ≡ node_behind k bytes
 tree_skipped k bytes = ap (λ (r : Option (Tree × List ℕ)). behind r) (tree_is k bytes) ∙ node_skipped k bytes
-
--- a point where there is room
-pub point_left : (k n : ℕ) (bytes : List ℕ) → n ≡ k → 8 * n ≤ length bytes → behind (point_at k bytes) ≡ Some (take (length bytes - 8 * n) (drop (8 * n) bytes))
-point_left k n bytes e room =
-    let whole : take (length bytes - 8 * n) (drop (8 * n) bytes) ≡ drop (8 * n) bytes = take_all (length bytes - 8 * n) (drop (8 * n) bytes) (omega (arith, length-drop (8 * n) bytes)) in
-    let all : drop (8 * k) bytes ≡ drop (8 * n) bytes = ap (λ m. drop (8 * m) bytes) (sym e) in
-    point_long k bytes (omega arith) ∙ ap (λ (rest : List ℕ). Some rest) (all ∙ sym whole)
-
--- and where there is none
-pub point_missing : (k n : ℕ) (bytes : List ℕ) → n ≡ k → length bytes < 8 * n → behind (point_at k bytes) ≡ None
-point_missing k n bytes e lt = ap (λ (r : Option (List ℕ × List ℕ)). behind r) (point_short k bytes (omega arith))
 
 -- what is behind a tree is no longer than the whole
 pub tree_shorter : (k : ℕ) (bytes rest : List ℕ) → behind (tree_at k bytes) ≡ Some rest → length rest ≤ length bytes

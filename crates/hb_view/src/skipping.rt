@@ -1,27 +1,15 @@
 //! Reading over what stands at the front of bytes, without keeping it.
 ghost use Rattle.std.specs.Prelude.{◌≡◌, ◌≤◌, IsSome};
-ghost use Rattle.hb_space.specs.Points.{IsAttributeCount};
 ghost use Rattle.hb_page_codec.specs.Reading.{ReadsAs};
-ghost use Rattle.hb_page_codec.specs.ReadingFields.{point_at, body_at, record_at, records_at};
+ghost use Rattle.hb_page_codec.specs.ReadingFields.{body_at, records_at};
 ghost use Rattle.hb_page_codec.specs.ReadingPages.{tree_at};
 ghost use Rattle.hb_view.specs.Behind.{behind, record_behind, records_behind, cut_behind, name_behind, node_behind};
 ghost use Rattle.hb_view.specs.Roots.{rest_there};
 
+use crate::corners::point_read;
 use crate::fields::{axis_of, count_of};
 use hb_page_codec::{u32_of, u64_of};
 use hb_space::form::{BMAX, KMAX};
-
-/// The bytes behind a point of `k` values.
-fn behind_point(k: u8, bytes: &[u8]) -> Option<&[u8]>
-    requires { k ≤ KMAX }
-    ensures { ReadsAs (λ x. x.now) result (behind (point_at k bytes.now)) }
-{
-    let length = 8 * usize::from(k);
-    if bytes.len() < length {
-        return None;
-    }
-    Some(&bytes[length..])
-}
 
 /// The bytes behind a body and its length.
 #[tactic(auto, unfolding(hb_page_codec::specs::ReadingFields::body_at))]
@@ -42,7 +30,7 @@ fn behind_record(k: u8, bytes: &[u8]) -> Option<&[u8]>
     requires { k ≤ KMAX }
     ensures { ReadsAs (λ x. x.now) result (record_behind k bytes.now) }
 {
-    let rest = behind_point(k, bytes)?;
+    let (_, rest) = point_read(k, bytes)?;
     behind_body(rest)
 }
 
