@@ -13,16 +13,16 @@ use Rattle.hb_frag.specs.Leaves.{leaves_of}
 use Rattle.hb_frag.specs.Rules.{IsInOrder, Precedes}
 use Rattle.hb_frag.specs.Trees.{Tree, Tip}
 use Rattle.hb_view.specs.Lists.{records_there, after_there, list_or, after_or}
-use Rattle.hb_view.specs.Passing.{Passes, Follows, RiseFrom}
-use Rattle.hb_view.specs.Roots.{tree_there, rest_there, IsList}
+use Rattle.hb_view.specs.Walks.{WalksOver, ComesBehind, RiseFrom}
+use Rattle.hb_view.specs.Roots.{tree_there, rest_there, IsListAt}
 use Rattle.hb_page_codec.specs.Reading.{many_at}
 
 -- ---- a step over the records
 
-pub step_stops : (area : Area) (last : Option (List ℕ)) (left others : List Record) (r : Record) (T : Type 0) → (RiseFrom area last left ↔ T) → left ≡ r ∷ others → ¬ (Holds area r.key × Follows last r.key) → ¬ T
+pub step_stops : (area : Area) (last : Option (List ℕ)) (left others : List Record) (r : Record) (T : Type 0) → (RiseFrom area last left ↔ T) → left ≡ r ∷ others → ¬ (Holds area r.key × ComesBehind last r.key) → ¬ T
 step_stops area last left others r T same e never = λ t. let w = subst (λ (rs : List Record). RiseFrom area last rs) e (same.1 t) in never (w.0, w.1)
 
-pub step_goes_on : (area : Area) (last : Option (List ℕ)) (left others : List Record) (r : Record) (T : Type 0) → (RiseFrom area last left ↔ T) → left ≡ r ∷ others → Holds area r.key × Follows last r.key → RiseFrom area (Some r.key) others ↔ T
+pub step_goes_on : (area : Area) (last : Option (List ℕ)) (left others : List Record) (r : Record) (T : Type 0) → (RiseFrom area last left ↔ T) → left ≡ r ∷ others → Holds area r.key × ComesBehind last r.key → RiseFrom area (Some r.key) others ↔ T
 step_goes_on area last left others r T same e next =
     (λ w. same.0 (subst (λ (rs : List Record). RiseFrom area last rs) (sym e) (next.0, next.1, w)), λ t. (subst (λ (rs : List Record). RiseFrom area last rs) e (same.1 t)).2)
 
@@ -58,7 +58,7 @@ rising area last (r ∷ rest) h (suc i) (suc j) d lt in_range = rising area (Som
 -- and back
 abbrev StartsBehind : Option (List ℕ) → List Record → Type 0
 StartsBehind last [] = Unit {0}
-StartsBehind last (r ∷ rest) = Follows last r.key
+StartsBehind last (r ∷ rest) = ComesBehind last r.key
 
 next_starts : (r : Record) (rest : List Record) → AllPairs Precedes (r ∷ rest) → StartsBehind (Some r.key) rest
 next_starts r [] pairs = tt
@@ -81,12 +81,12 @@ rise_tells area rs = (
 
 -- ---- a leaf of records
 
-pub passes_same : (P Q : Type 0) (rest rest' : List ℕ) (r : Option (List ℕ)) → (P ↔ Q) → rest ≡ rest' → Passes P rest r → Passes Q rest' r
+pub passes_same : (P Q : Type 0) (rest rest' : List ℕ) (r : Option (List ℕ)) → (P ↔ Q) → rest ≡ rest' → WalksOver P rest r → WalksOver Q rest' r
 passes_same P Q rest rest' (Some x) same e h = (same.0 h.0, h.1 ∙ e)
 passes_same P Q rest rest' None same e h = λ q. h (same.1 q)
 
-pub list_in_order : (k : ℕ) (bytes first : List ℕ) (count : ℕ) (area : Area) (r : Option (List ℕ)) → IsList k bytes count first → Passes (RiseFrom area None (records_there k count first)) (after_there k count first) r
-    → Passes (All IsInOrder (leaves_of (tree_there k bytes) area)) (rest_there k bytes) r
+pub list_in_order : (k : ℕ) (bytes first : List ℕ) (count : ℕ) (area : Area) (r : Option (List ℕ)) → IsListAt k bytes count first → WalksOver (RiseFrom area None (records_there k count first)) (after_there k count first) r
+    → WalksOver (All IsInOrder (leaves_of (tree_there k bytes) area)) (rest_there k bytes) r
 list_in_order k bytes first count area r list h =
     let rs = list.records in
     let said : RiseFrom area None rs ↔ All IsInOrder (leaves_of (Tip (leaves.Records rs)) area) =

@@ -12,11 +12,11 @@ use Rattle.hb_page_codec.specs.ReadingFields.{axis_at, count_at, records_at}
 use Rattle.hb_page_codec.specs.ReadingPages.{cut_at, records_tip_at, node_at, tree_at}
 use Rattle.hb_page_codec.proofs.Depth.{tree_is, tree_shortens, number_shortens, axis_shortens, left_by}
 use Rattle.hb_page_codec.proofs.Facts.Fields.{bind_some}
-use Rattle.hb_view.specs.Roots.{rest_there, tree_or, rest_or, Sight, Cuts, Lists, Falls, Gives, root_at, IsSight}
+use Rattle.hb_view.specs.Roots.{rest_there, tree_or, rest_or, RootSeen, SeenCut, SeenRecords, SeenChild, SeenSibling, root_at, IsSeenAt}
 
 -- the root that is seen
 abbrev pub IsSeen : ℕ → List ℕ → Type 0
-IsSeen k bytes = (sight : Sight) × (root_at k bytes ≡ Some sight) × IsSight k bytes sight
+IsSeen k bytes = (sight : RootSeen) × (root_at k bytes ≡ Some sight) × IsSeenAt k bytes sight
 
 axis_below : (k : ℕ) (bytes : List ℕ) (x : ℕ × List ℕ) → axis_at k bytes ≡ Some x → x.0 < k
 unfolding axis_at
@@ -37,7 +37,7 @@ cut_root k rest a v l r ea ev el er all =
     let lv = left_by (number_at 8 a.1) (length a.1) v (number_shortens 8 a.1) ev in
     let ll = left_by (tree_at k v.1) (length v.1) l (tree_shortens k v.1) el in
     let behind : rest_there k v.1 ≡ l.1 = ap rest_or el in (
-      Cuts a.0 v.0 v.1,
+      SeenCut a.0 v.0 v.1,
       rw (ea, ev) refl,
       record {
         left_there = has_value (tree_at k v.1) l el;
@@ -62,7 +62,7 @@ cut_seen k rest x whole e =
 records_root : (k : ℕ) (rest : List ℕ) (a : ℕ × List ℕ) (b : List Record × List ℕ) → count_at k rest ≡ Some a → records_at k a.0 a.1 ≡ Some b → tree_at k (suc zero ∷ rest) ≡ Some (Tip (leaves.Records b.0), b.1) → IsSeen k (suc zero ∷ rest)
 unfolding root_at
 records_root k rest a b ea eb all = (
-  Lists a.0 a.1,
+  SeenRecords a.0 a.1,
   rw ea refl,
   record {
     records = b.0;
@@ -80,7 +80,7 @@ records_seen k rest x whole e =
 
 child_root : (k : ℕ) (rest : List ℕ) (a : ℕ × List ℕ) → number_at 4 rest ≡ Some a → tree_at k (suc (suc zero) ∷ rest) ≡ Some (Tip (leaves.Child a.0), a.1) → IsSeen k (suc (suc zero) ∷ rest)
 unfolding root_at
-child_root k rest a ea all = (Falls a.0 a.1, rw ea refl, record { tree = ap tree_or all; behind = ap rest_or all })
+child_root k rest a ea all = (SeenChild a.0 a.1, rw ea refl, record { tree = ap tree_or all; behind = ap rest_or all })
 
 child_seen : (k : ℕ) (rest : List ℕ) (x : Tree × List ℕ) → tree_at k (suc (suc zero) ∷ rest) ≡ Some x → (number_at 4 rest >>= λ page. Some (Tip (leaves.Child page.0), page.1)) ≡ Some x → IsSeen k (suc (suc zero) ∷ rest)
 child_seen k rest x whole e =
@@ -89,7 +89,7 @@ child_seen k rest x whole e =
 
 sibling_root : (k : ℕ) (rest : List ℕ) (a : ℕ × List ℕ) → number_at 4 rest ≡ Some a → tree_at k (suc (suc (suc zero)) ∷ rest) ≡ Some (Tip (leaves.Sibling a.0), a.1) → IsSeen k (suc (suc (suc zero)) ∷ rest)
 unfolding root_at
-sibling_root k rest a ea all = (Gives a.0 a.1, rw ea refl, record { tree = ap tree_or all; behind = ap rest_or all })
+sibling_root k rest a ea all = (SeenSibling a.0 a.1, rw ea refl, record { tree = ap tree_or all; behind = ap rest_or all })
 
 sibling_seen : (k : ℕ) (rest : List ℕ) (x : Tree × List ℕ) → tree_at k (suc (suc (suc zero)) ∷ rest) ≡ Some x → (number_at 4 rest >>= λ page. Some (Tip (leaves.Sibling page.0), page.1)) ≡ Some x → IsSeen k (suc (suc (suc zero)) ∷ rest)
 sibling_seen k rest x whole e =
@@ -112,5 +112,5 @@ root_seen k bytes there = let x = some_value (tree_at k bytes) there in seen_by 
 pub has_root : (k : ℕ) (bytes : List ℕ) → IsSome (tree_at k bytes) → root_at k bytes ≡ None → ⊥
 has_root k bytes there none = let seen = root_seen k bytes there in let never : None ≡ Some seen.0 = sym none ∙ seen.1 in cc never
 
-pub is_root : (k : ℕ) (bytes : List ℕ) (sight : Sight) → IsSome (tree_at k bytes) → root_at k bytes ≡ Some sight → IsSight k bytes sight
-is_root k bytes sight there e = let seen = root_seen k bytes there in subst (λ (s : Sight). IsSight k bytes s) (same_Some seen.0 sight (sym seen.1 ∙ e)) seen.2
+pub is_root : (k : ℕ) (bytes : List ℕ) (sight : RootSeen) → IsSome (tree_at k bytes) → root_at k bytes ≡ Some sight → IsSeenAt k bytes sight
+is_root k bytes sight there e = let seen = root_seen k bytes there in subst (λ (s : RootSeen). IsSeenAt k bytes s) (same_Some seen.0 sight (sym seen.1 ∙ e)) seen.2

@@ -9,7 +9,7 @@ use Rattle.hb_page_codec.specs.ReadingPages.{cut_at, records_tip_at, node_at, tr
 use Rattle.hb_page_codec.proofs.Depth.{Leaves, tree_is, tree_shortens}
 use Rattle.std.proofs.lemmas.Option.{same_Some}
 use Rattle.hb_view.specs.Roots.{rest_there, rest_or}
-use Rattle.hb_view.specs.Behind.{behind, record_behind, records_behind, cut_behind, name_behind, node_behind}
+use Rattle.hb_view.specs.Behind.{behind, record_behind, list_behind, cut_behind, name_behind, node_behind}
 
 -- the bytes behind two things are those behind the second one
 pub behind_then : {A B : Type 0} (r : Option (A × List ℕ)) (f : A × List ℕ → Option (B × List ℕ)) (g : List ℕ → Option (List ℕ)) → ((x : A × List ℕ) → behind (f x) ≡ g x.1) → behind (r >>= f) ≡ (behind r >>= g)
@@ -76,8 +76,8 @@ cut_skipped : (k : ℕ) (bytes : List ℕ) → behind (cut_at (tree_at k) k byte
 unfolding cut_at cut_behind
 cut_skipped k bytes = steps (axis_at k bytes) _ _ (λ axis. steps (number_at 8 axis.1) _ _ (λ value. behind_then (tree_at k value.1) _ (λ rest. behind (tree_at k rest)) (λ left. behind_made (tree_at k left.1) _)))
 
-records_skipped : (k : ℕ) (bytes : List ℕ) → behind (records_tip_at k bytes) ≡ records_behind k bytes
-unfolding records_tip_at records_behind
+records_skipped : (k : ℕ) (bytes : List ℕ) → behind (records_tip_at k bytes) ≡ list_behind k bytes
+unfolding records_tip_at list_behind
 records_skipped k bytes = steps (count_at k bytes) _ _ (λ count. behind_made (records_at k count.0 count.1) _)
 
 pub name_skipped : {A : Type 0} (make : ℕ → A) (bytes : List ℕ) → behind (number_at 4 bytes >>= λ page. Some (make page.0, page.1)) ≡ name_behind bytes

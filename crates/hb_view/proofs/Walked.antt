@@ -15,17 +15,17 @@ use Rattle.hb_page_codec.proofs.Facts.Fields.{bind_some}
 use Rattle.hb_page_codec.specs.ReadingFields.{record_at}
 use Rattle.hb_view.specs.declared.leaves.LeafView.{LeafView}
 use Rattle.hb_view.specs.Lists.{records_there, list_or}
-use Rattle.hb_view.specs.Roots.{tree_there, rest_there, IsCut, IsList}
-use Rattle.hb_view.specs.Views.{leaf_view, Shows, Finds, FindsAmong}
+use Rattle.hb_view.specs.Roots.{tree_there, rest_there, IsCutAt, IsListAt}
+use Rattle.hb_view.specs.Views.{leaf_view, ShowsLeaf, TellsBody, FindsAmong}
 
 -- ---- the leaf at a point
 
-pub shows_tip : (t : Tree) (leaf : Leaf) (p : List ℕ) (area : Area) → t ≡ Tip leaf → IsArea area → Holds area p → Shows (first_at p (leaves_of t area)) (leaf_view leaf) area
+pub shows_tip : (t : Tree) (leaf : Leaf) (p : List ℕ) (area : Area) → t ≡ Tip leaf → IsArea area → Holds area p → ShowsLeaf (first_at p (leaves_of t area)) (leaf_view leaf) area
 shows_tip t leaf p area e h held = record { placed = record { leaf = leaf; area = area }; found = found_here t leaf area p e h held; leaf = refl; area = refl }
 
-pub shows_left : (k : ℕ) (bytes left : List ℕ) (axis value at : ℕ) (p lo hi : List ℕ) (view : LeafView) (box : Area) → IsCut k bytes axis value left → at ≡ axis
-    → Shows (first_at p (leaves_of (tree_there k left) (record { lo = lo; hi = slice_set hi at (value - 1) }))) view box
-    → Shows (first_at p (leaves_of (tree_there k bytes) (record { lo = lo; hi = hi }))) view box
+pub shows_left : (k : ℕ) (bytes left : List ℕ) (axis value at : ℕ) (p lo hi : List ℕ) (view : LeafView) (box : Area) → IsCutAt k bytes axis value left → at ≡ axis
+    → ShowsLeaf (first_at p (leaves_of (tree_there k left) (record { lo = lo; hi = slice_set hi at (value - 1) }))) view box
+    → ShowsLeaf (first_at p (leaves_of (tree_there k bytes) (record { lo = lo; hi = hi }))) view box
 shows_left k bytes left axis value at p lo hi view box cut e h =
     let area : Area = record { lo = lo; hi = hi } in
     let make : ℕ → Area = λ n. record { lo = lo; hi = slice_set hi n (value - 1) } in
@@ -36,10 +36,10 @@ shows_left k bytes left axis value at p lo hi view box cut e h =
       area = h.area;
     }
 
-pub shows_right : (k : ℕ) (bytes left rest : List ℕ) (axis value at : ℕ) (p lo hi : List ℕ) (view : LeafView) (box : Area) → IsCut k bytes axis value left → rest ≡ rest_there k left → at ≡ axis
+pub shows_right : (k : ℕ) (bytes left rest : List ℕ) (axis value at : ℕ) (p lo hi : List ℕ) (view : LeafView) (box : Area) → IsCutAt k bytes axis value left → rest ≡ rest_there k left → at ≡ axis
     → IsArea (record { lo = lo; hi = hi }) → IsWellCut (tree_there k bytes) (record { lo = lo; hi = hi }) → Holds (record { lo = lo; hi = hi }) p → value ≤ get_or p at 0
-    → Shows (first_at p (leaves_of (tree_there k rest) (record { lo = slice_set lo at value; hi = hi }))) view box
-    → Shows (first_at p (leaves_of (tree_there k bytes) (record { lo = lo; hi = hi }))) view box
+    → ShowsLeaf (first_at p (leaves_of (tree_there k rest) (record { lo = slice_set lo at value; hi = hi }))) view box
+    → ShowsLeaf (first_at p (leaves_of (tree_there k bytes) (record { lo = lo; hi = hi }))) view box
 shows_right k bytes left rest axis value at p lo hi view box cut r e corners well_cut held above h =
     let area : Area = record { lo = lo; hi = hi } in
     let make : ℕ → Area = λ n. record { lo = slice_set lo n value; hi = hi } in
@@ -55,12 +55,12 @@ shows_right k bytes left rest axis value at p lo hi view box cut r e corners wel
 
 -- what is found in a tree, whatever its box
 abbrev pub FindsWithin : Tree → List ℕ → Option (List ℕ) → Type 0
-FindsWithin t p body = (area : Area) → IsArea area → IsWellCut t area → Holds area p → Finds p (first_at p (leaves_of t area)) body
+FindsWithin t p body = (area : Area) → IsArea area → IsWellCut t area → Holds area p → TellsBody p (first_at p (leaves_of t area)) body
 
 pub finds_tip : (t : Tree) (leaf : Leaf) (p : List ℕ) (body : Option (List ℕ)) → t ≡ Tip leaf → FindsAmong p (records_of leaf) body → FindsWithin t p body
 finds_tip t leaf p body e among area h cut held = record { placed = record { leaf = leaf; area = area }; found = found_here t leaf area p e h held; among = among }
 
-pub finds_left : (k : ℕ) (bytes left : List ℕ) (axis value at : ℕ) (p : List ℕ) (body : Option (List ℕ)) → IsCut k bytes axis value left → at ≡ axis → get_or p at 0 < value
+pub finds_left : (k : ℕ) (bytes left : List ℕ) (axis value at : ℕ) (p : List ℕ) (body : Option (List ℕ)) → IsCutAt k bytes axis value left → at ≡ axis → get_or p at 0 < value
     → FindsWithin (tree_there k left) p body → FindsWithin (tree_there k bytes) p body
 finds_left k bytes left axis value at p body cut e lt finds area h cuts held =
     let parts : IsWellCut (Cut axis value (tree_there k left) (tree_there k (rest_there k left))) area = subst (λ (t : Tree). IsWellCut t area) cut.tree cuts in
@@ -72,7 +72,7 @@ finds_left k bytes left axis value at p body cut e lt finds area h cuts held =
       among = there.among;
     }
 
-pub finds_right : (k : ℕ) (bytes left rest : List ℕ) (axis value at : ℕ) (p : List ℕ) (body : Option (List ℕ)) → IsCut k bytes axis value left → rest ≡ rest_there k left → at ≡ axis → value ≤ get_or p at 0
+pub finds_right : (k : ℕ) (bytes left rest : List ℕ) (axis value at : ℕ) (p : List ℕ) (body : Option (List ℕ)) → IsCutAt k bytes axis value left → rest ≡ rest_there k left → at ≡ axis → value ≤ get_or p at 0
     → FindsWithin (tree_there k rest) p body → FindsWithin (tree_there k bytes) p body
 finds_right k bytes left rest axis value at p body cut r e le finds area h cuts held =
     let parts : IsWellCut (Cut axis value (tree_there k left) (tree_there k (rest_there k left))) area = subst (λ (t : Tree). IsWellCut t area) cut.tree cuts in
@@ -86,7 +86,7 @@ finds_right k bytes left rest axis value at p body cut r e le finds area h cuts 
     }
 
 -- a leaf of records finds what is found among them
-pub finds_list : (k : ℕ) (bytes first : List ℕ) (count : ℕ) (p : List ℕ) (body : Option (List ℕ)) → IsList k bytes count first → FindsAmong p (records_there k count first) body → FindsWithin (tree_there k bytes) p body
+pub finds_list : (k : ℕ) (bytes first : List ℕ) (count : ℕ) (p : List ℕ) (body : Option (List ℕ)) → IsListAt k bytes count first → FindsAmong p (records_there k count first) body → FindsWithin (tree_there k bytes) p body
 finds_list k bytes first count p body list among =
     finds_tip (tree_there k bytes) (leaves.Records list.records) p body list.tree (subst (λ (rs : List Record). FindsAmong p rs body) (ap list_or list.read) among)
 
@@ -102,5 +102,5 @@ many_counted {A = A} read (suc n) bytes x e =
     let one = many_counted read n a.0.1 b.0 b.1 in
     sym (ap (λ (y : List A × List ℕ). length y.0) (same_Some made x b.2)) ∙ ap suc one
 
-pub list_weighs : (k : ℕ) (bytes first : List ℕ) (count : ℕ) → IsList k bytes count first → max 1 count ≡ weight_of (tree_there k bytes)
+pub list_weighs : (k : ℕ) (bytes first : List ℕ) (count : ℕ) → IsListAt k bytes count first → max 1 count ≡ weight_of (tree_there k bytes)
 list_weighs k bytes first count list = rw list.tree (let n = many_counted (record_at k) count first (list.records, rest_there k bytes) list.read in omega (arith, n))

@@ -17,8 +17,8 @@ record_behind k bytes = do
   behind (body_at rest)
 
 -- a leaf of records behind its tag
-unfoldable pub records_behind : ℕ → List ℕ → Option (List ℕ)
-records_behind k bytes = do
+unfoldable pub list_behind : ℕ → List ℕ → Option (List ℕ)
+list_behind k bytes = do
   count ← count_at k bytes
   behind (records_at k count.0 count.1)
 
@@ -40,7 +40,7 @@ name_behind bytes = do
 unfoldable pub node_behind : ℕ → List ℕ → Option (List ℕ)
 node_behind k [] = None
 node_behind k (zero ∷ rest) = cut_behind k rest
-node_behind k (suc zero ∷ rest) = records_behind k rest
+node_behind k (suc zero ∷ rest) = list_behind k rest
 node_behind k (suc (suc zero) ∷ rest) = name_behind rest
 node_behind k (suc (suc (suc zero)) ∷ rest) = name_behind rest
 node_behind k (suc (suc (suc (suc b))) ∷ rest) = None

@@ -3,6 +3,6 @@ pub mod Roots
 pub mod Views
 pub mod Lists
 pub mod Spelled
-pub mod Passing
+pub mod Walks
 pub mod Limits
 pub mod Corners

@@ -28,37 +28,37 @@ rest_there k bytes = rest_or (tree_at k bytes)
 
 -- What a root says by itself: a cut with the bytes of its sides, a leaf with the bytes of its records, or one that names
 -- a page, with the bytes behind it.
-pub data Sight : Type 0 where
-  Cuts : ℕ → ℕ → List ℕ → Sight
-  Lists : ℕ → List ℕ → Sight
-  Falls : ℕ → List ℕ → Sight
-  Gives : ℕ → List ℕ → Sight
+pub data RootSeen : Type 0 where
+  SeenCut : ℕ → ℕ → List ℕ → RootSeen
+  SeenRecords : ℕ → List ℕ → RootSeen
+  SeenChild : ℕ → List ℕ → RootSeen
+  SeenSibling : ℕ → List ℕ → RootSeen
 
-abbrev pub sight_of : Root → Sight
-sight_of (roots.Cut axis value left) = Cuts axis value left.now
-sight_of (roots.Records count first) = Lists count first.now
-sight_of (roots.Child page rest) = Falls page rest.now
-sight_of (roots.Sibling page rest) = Gives page rest.now
+abbrev pub sight_of : Root → RootSeen
+sight_of (roots.Cut axis value left) = SeenCut axis value left.now
+sight_of (roots.Records count first) = SeenRecords count first.now
+sight_of (roots.Child page rest) = SeenChild page rest.now
+sight_of (roots.Sibling page rest) = SeenSibling page rest.now
 
-unfoldable pub root_at : ℕ → List ℕ → Option Sight
+unfoldable pub root_at : ℕ → List ℕ → Option RootSeen
 root_at k [] = None
 root_at k (zero ∷ rest) = do
   axis ← axis_at k rest
   value ← number_at 8 axis.1
-  Some (Cuts axis.0 value.0 value.1)
+  Some (SeenCut axis.0 value.0 value.1)
 root_at k (suc zero ∷ rest) = do
   count ← count_at k rest
-  Some (Lists count.0 count.1)
+  Some (SeenRecords count.0 count.1)
 root_at k (suc (suc zero) ∷ rest) = do
   page ← number_at 4 rest
-  Some (Falls page.0 page.1)
+  Some (SeenChild page.0 page.1)
 root_at k (suc (suc (suc zero)) ∷ rest) = do
   page ← number_at 4 rest
-  Some (Gives page.0 page.1)
+  Some (SeenSibling page.0 page.1)
 root_at k (suc (suc (suc (suc b))) ∷ rest) = None
 
 -- A tree stands at the front, and is this cut. Its left side begins at `left`, and its right side behind that.
-pub record IsCut (k : ℕ) (bytes : List ℕ) (axis value : ℕ) (left : List ℕ) : Type 0 where
+pub record IsCutAt (k : ℕ) (bytes : List ℕ) (axis value : ℕ) (left : List ℕ) : Type 0 where
   pub left_there : IsSome (tree_at k left)
   pub right_there : IsSome (tree_at k (rest_there k left))
   pub tree : tree_there k bytes ≡ Cut axis value (tree_there k left) (tree_there k (rest_there k left))
@@ -68,22 +68,22 @@ pub record IsCut (k : ℕ) (bytes : List ℕ) (axis value : ℕ) (left : List �
   pub right_shorter : length (rest_there k left) < length bytes
 
 -- It is a leaf with so many records, the first of which stands at `first`.
-pub record IsList (k : ℕ) (bytes : List ℕ) (count : ℕ) (first : List ℕ) : Type 0 where
+pub record IsListAt (k : ℕ) (bytes : List ℕ) (count : ℕ) (first : List ℕ) : Type 0 where
   pub records : List Record
   pub read : records_at k count first ≡ Some (records, rest_there k bytes)
   pub tree : tree_there k bytes ≡ Tip (leaves.Records records)
 
 -- It is this leaf, which names a page, and these bytes are behind it.
-pub record IsName (k : ℕ) (bytes : List ℕ) (leaf : Leaf) (rest : List ℕ) : Type 0 where
+pub record IsNameAt (k : ℕ) (bytes : List ℕ) (leaf : Leaf) (rest : List ℕ) : Type 0 where
   pub tree : tree_there k bytes ≡ Tip leaf
   pub behind : rest_there k bytes ≡ rest
 
-abbrev pub IsSight : ℕ → List ℕ → Sight → Type 0
-IsSight k bytes (Cuts axis value left) = IsCut k bytes axis value left
-IsSight k bytes (Lists count first) = IsList k bytes count first
-IsSight k bytes (Falls page rest) = IsName k bytes (leaves.Child page) rest
-IsSight k bytes (Gives page rest) = IsName k bytes (leaves.Sibling page) rest
+abbrev pub IsSeenAt : ℕ → List ℕ → RootSeen → Type 0
+IsSeenAt k bytes (SeenCut axis value left) = IsCutAt k bytes axis value left
+IsSeenAt k bytes (SeenRecords count first) = IsListAt k bytes count first
+IsSeenAt k bytes (SeenChild page rest) = IsNameAt k bytes (leaves.Child page) rest
+IsSeenAt k bytes (SeenSibling page rest) = IsNameAt k bytes (leaves.Sibling page) rest
 
 -- the tree that stands at the front of the bytes has this root
-abbrev pub IsRoot : ℕ → List ℕ → Root → Type 0
-IsRoot k bytes root = IsSight k bytes (sight_of root)
+abbrev pub IsRootAt : ℕ → List ℕ → Root → Type 0
+IsRootAt k bytes root = IsSeenAt k bytes (sight_of root)

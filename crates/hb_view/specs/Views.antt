@@ -42,7 +42,7 @@ leaf_view (leaves.Child page) = views.Child page
 leaf_view (leaves.Sibling page) = views.Sibling page
 
 -- A leaf was found, and this is what it is and its box.
-pub record Shows (at : Option Placed) (view : LeafView) (box : Area) : Type 0 where
+pub record ShowsLeaf (at : Option Placed) (view : LeafView) (box : Area) : Type 0 where
   pub placed : Placed
   pub found : at ≡ Some placed
   pub leaf : view ≡ leaf_view placed.leaf
@@ -54,7 +54,7 @@ FindsAmong p [] body = body ≡ None
 FindsAmong p (r ∷ rest) body = ((r.key ≡ p) × (body ≡ Some r.body)) ⊎ ((¬ (r.key ≡ p)) × FindsAmong p rest body)
 
 -- A leaf was found, and this is the body of its record of the point. One that names a page has no records.
-pub record Finds (p : List ℕ) (at : Option Placed) (body : Option (List ℕ)) : Type 0 where
+pub record TellsBody (p : List ℕ) (at : Option Placed) (body : Option (List ℕ)) : Type 0 where
   pub placed : Placed
   pub found : at ≡ Some placed
   pub among : FindsAmong p (records_of placed.leaf) body

@@ -5,7 +5,7 @@ ghost use Rattle.hb_frag.specs.Leaves.{IsWellCut, first_at, leaves_of};
 ghost use Rattle.hb_page_codec.specs.ReadingPages.{tree_at};
 ghost use Rattle.hb_view.specs.Corners.{corners_there};
 ghost use Rattle.hb_view.specs.Roots.{tree_there};
-ghost use Rattle.hb_view.specs.Views.{Shows};
+ghost use Rattle.hb_view.specs.Views.{ShowsLeaf};
 
 use crate::LeafView;
 use crate::corners::{Corner, corner_at, from_place};
@@ -32,7 +32,7 @@ pub(crate) fn leaf_in(k: u8, corners: &[u8], bytes: &[u8], p: &Point) -> (LeafVi
     requires area { IsArea (corners_there k corners.now) }
     requires well_cut { IsWellCut (tree_there k bytes.now) (corners_there k corners.now) }
     requires held { Holds (corners_there k corners.now) p.now }
-    ensures { Shows (first_at p.now (leaves_of (tree_there k bytes.now) (corners_there k corners.now))) result.0 result.1 }
+    ensures { ShowsLeaf (first_at p.now (leaves_of (tree_there k bytes.now) (corners_there k corners.now))) result.0 result.1 }
 {
     let mut lo = corner_at(k, corners);
     let mut hi = corner_at(k, from_place(corners, 8 * usize::from(k)));

@@ -7,7 +7,7 @@ ghost use Rattle.hb_frag.specs.Rules.{IsInOrder};
 ghost use Rattle.hb_page_codec.specs.ReadingFields.{records_at};
 ghost use Rattle.hb_page_codec.specs.ReadingPages.{tree_at};
 ghost use Rattle.hb_view.specs.Lists.{records_there, after_there};
-ghost use Rattle.hb_view.specs.Passing.{Passes, Follows, RiseFrom};
+ghost use Rattle.hb_view.specs.Walks.{WalksOver, ComesBehind, RiseFrom};
 ghost use Rattle.hb_view.specs.Roots.{tree_there, rest_there};
 
 use crate::lists::entry_of;
@@ -33,7 +33,7 @@ fn holds(lo: &[u64], hi: &[u64], p: &[u64]) -> bool
 
 /// Whether the point comes behind the last one, where there was one.
 fn follows(last: &Option<Point>, p: &Point) -> bool
-    ensures { IsTrue result ↔ Follows last.now p.now }
+    ensures { IsTrue result ↔ ComesBehind last.now p.now }
 {
     match last {
         Some(last) => last.cmp(p).is_lt(),
@@ -44,7 +44,7 @@ fn follows(last: &Option<Point>, p: &Point) -> bool
 /// Whether the point lies in the box of these corners, and comes behind the last one.
 fn comes_next(lo: &[u64], hi: &[u64], last: &Option<Point>, p: &Point) -> bool
     requires { length lo.now ≡ length hi.now }
-    ensures { IsTrue result ↔ (Holds (record { lo = lo.now; hi = hi.now }) p.now × Follows last.now p.now) }
+    ensures { IsTrue result ↔ (Holds (record { lo = lo.now; hi = hi.now }) p.now × ComesBehind last.now p.now) }
 {
     holds(lo, hi, p.values()) && follows(last, p)
 }
@@ -54,7 +54,7 @@ fn behind_rising<'a>(k: u8, count: u16, first: &'a [u8], lo: &[u64], hi: &[u64])
     requires attributes { IsAttributeCount k }
     requires there { IsSome (records_at k count first.now) }
     requires same { length lo.now ≡ length hi.now }
-    ensures { Passes (RiseFrom (record { lo = lo.now; hi = hi.now }) None (records_there k count first.now))
+    ensures { WalksOver (RiseFrom (record { lo = lo.now; hi = hi.now }) None (records_there k count first.now))
         (after_there k count first.now) (option_map (λ b. b.now) result) }
 {
     let mut rest = first;
@@ -86,7 +86,7 @@ pub(crate) fn behind_order<'a>(
     requires there { IsSome (tree_at k bytes.now) }
     requires same { length lo.old ≡ length hi.old }
     requires well_cut { IsWellCut (tree_there k bytes.now) (record { lo = lo.old; hi = hi.old }) }
-    ensures passes { Passes (All IsInOrder (leaves_of (tree_there k bytes.now) (record { lo = lo.old; hi = hi.old })))
+    ensures passes { WalksOver (All IsInOrder (leaves_of (tree_there k bytes.now) (record { lo = lo.old; hi = hi.old })))
         (rest_there k bytes.now) (option_map (λ b. b.now) result) }
     ensures lo { lo.new ≡ lo.old }
     ensures hi { hi.new ≡ hi.old }

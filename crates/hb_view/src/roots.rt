@@ -2,7 +2,7 @@
 ghost use Rattle.std.specs.Prelude.{◌≤◌, IsSome};
 ghost use Rattle.hb_page_codec.specs.Reading.{ReadsAs};
 ghost use Rattle.hb_page_codec.specs.ReadingPages.{tree_at};
-ghost use Rattle.hb_view.specs.Roots.{sight_of, root_at, IsRoot};
+ghost use Rattle.hb_view.specs.Roots.{sight_of, root_at, IsRootAt};
 
 use crate::fields::{axis_of, count_of};
 use hb_page_codec::{u32_of, u64_of};
@@ -66,7 +66,7 @@ fn root_read(k: u8, bytes: &[u8]) -> Option<Root<'_>>
 pub(crate) fn root_of(k: u8, bytes: &[u8]) -> Root<'_>
     requires count { k ≤ KMAX }
     requires there { IsSome (tree_at k bytes.now) }
-    ensures { IsRoot k bytes.now result }
+    ensures { IsRootAt k bytes.now result }
 {
     match root_read(k, bytes) {
         Some(root) => root,

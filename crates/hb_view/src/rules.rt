@@ -5,8 +5,8 @@ ghost use Rattle.hb_space.specs.Boxes.{Cuts};
 ghost use Rattle.hb_frag.specs.Leaves.{IsWellCut, leaves};
 ghost use Rattle.hb_frag.specs.Rules.{AreAlike, BelongsAt, IsNormal};
 ghost use Rattle.hb_page_codec.specs.ReadingPages.{tree_at};
-ghost use Rattle.hb_view.specs.Passing.{Passes};
-ghost use Rattle.hb_view.specs.Roots.{tree_there, rest_there, IsRoot};
+ghost use Rattle.hb_view.specs.Walks.{WalksOver};
+ghost use Rattle.hb_view.specs.Roots.{tree_there, rest_there, IsRootAt};
 
 use crate::lists::rest_behind_list;
 use crate::roots::{Root, root_of};
@@ -31,7 +31,7 @@ pub(crate) fn behind_cuts<'a>(
     requires count { k ≤ KMAX }
     requires there { IsSome (tree_at k bytes.now) }
     requires same { length lo.old ≡ length hi.old }
-    ensures passes { Passes (IsWellCut (tree_there k bytes.now) (record { lo = lo.old; hi = hi.old }))
+    ensures passes { WalksOver (IsWellCut (tree_there k bytes.now) (record { lo = lo.old; hi = hi.old }))
         (rest_there k bytes.now) (option_map (λ b. b.now) result) }
     ensures lo { lo.new ≡ lo.old }
     ensures hi { hi.new ≡ hi.old }
@@ -63,7 +63,7 @@ pub(crate) fn behind_cuts<'a>(
 pub(crate) fn behind_kinds(k: u8, bytes: &[u8], level: u8) -> Option<&[u8]>
     requires count { k ≤ KMAX }
     requires there { IsSome (tree_at k bytes.now) }
-    ensures { Passes (All (BelongsAt level) (leaves (tree_there k bytes.now)))
+    ensures { WalksOver (All (BelongsAt level) (leaves (tree_there k bytes.now)))
         (rest_there k bytes.now) (option_map (λ b. b.now) result) }
 {
     match root_of(k, bytes) {
@@ -105,7 +105,7 @@ fn are_alike(k: u8, left: &[u8], right: &[u8]) -> bool
 pub(crate) fn behind_normal(k: u8, bytes: &[u8]) -> Option<&[u8]>
     requires count { k ≤ KMAX }
     requires there { IsSome (tree_at k bytes.now) }
-    ensures { Passes (IsNormal (tree_there k bytes.now)) (rest_there k bytes.now) (option_map (λ b. b.now) result) }
+    ensures { WalksOver (IsNormal (tree_there k bytes.now)) (rest_there k bytes.now) (option_map (λ b. b.now) result) }
 {
     match root_of(k, bytes) {
         Root::Cut { left, .. } => {

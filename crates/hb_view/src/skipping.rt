@@ -3,7 +3,7 @@ ghost use Rattle.std.specs.Prelude.{◌≡◌, ◌≤◌, IsSome};
 ghost use Rattle.hb_page_codec.specs.Reading.{ReadsAs};
 ghost use Rattle.hb_page_codec.specs.ReadingFields.{body_at, records_at};
 ghost use Rattle.hb_page_codec.specs.ReadingPages.{tree_at};
-ghost use Rattle.hb_view.specs.Behind.{behind, record_behind, records_behind, cut_behind, name_behind, node_behind};
+ghost use Rattle.hb_view.specs.Behind.{behind, record_behind, list_behind, cut_behind, name_behind, node_behind};
 ghost use Rattle.hb_view.specs.Roots.{rest_there};
 
 use crate::corners::point_read;
@@ -47,10 +47,10 @@ pub(crate) fn behind_list(k: u8, count: u16, bytes: &[u8]) -> Option<&[u8]>
 }
 
 /// The bytes behind a leaf of records, from behind its tag.
-#[tactic(auto, unfolding(crate::specs::Behind::records_behind))]
+#[tactic(auto, unfolding(crate::specs::Behind::list_behind))]
 fn behind_records(k: u8, bytes: &[u8]) -> Option<&[u8]>
     requires { k ≤ KMAX }
-    ensures { ReadsAs (λ x. x.now) result (records_behind k bytes.now) }
+    ensures { ReadsAs (λ x. x.now) result (list_behind k bytes.now) }
 {
     let (count, rest) = count_of(k, bytes)?;
     behind_list(k, count, rest)

@@ -8,7 +8,7 @@ ghost use Rattle.hb_view.specs.Limits.{meta_with};
 ghost use Rattle.hb_page_codec.specs.Reading.{ReadsAs};
 ghost use Rattle.hb_page_codec.specs.ReadingPages.{page_of_bytes};
 ghost use Rattle.hb_frag.specs.declared.pages.Page.TheVariants.{Free as FreePage};
-ghost use Rattle.hb_view.specs.Views.{IsLive, IsLiveAnd, HasInside, Shows, Finds};
+ghost use Rattle.hb_view.specs.Views.{IsLive, IsLiveAnd, HasInside, ShowsLeaf, TellsBody};
 
 use crate::LeafView;
 use crate::boxes::leaf_in;
@@ -122,7 +122,7 @@ impl<'a> PageView<'a> {
     pub fn leaf_at(&self, p: &Point) -> (LeafView, Area)
         requires well_cut { IsLiveAnd self.now WellCut }
         requires held { IsLiveAnd self.now (λ page. Holds page.area p.now) }
-        ensures { IsLiveAnd self.now (λ page. Shows (leaf_at page p.now) result.0 result.1) }
+        ensures { IsLiveAnd self.now (λ page. ShowsLeaf (leaf_at page p.now) result.0 result.1) }
     {
         let inside = self.inside();
         leaf_in(inside.k, inside.corners, inside.tree, p)
@@ -133,7 +133,7 @@ impl<'a> PageView<'a> {
     pub fn find(&self, p: &Point) -> Option<&'a [u8]>
         requires well_cut { IsLiveAnd self.now WellCut }
         requires held { IsLiveAnd self.now (λ page. Holds page.area p.now) }
-        ensures { IsLiveAnd self.now (λ page. Finds p.now (leaf_at page p.now) (option_map (λ b. b.now) result)) }
+        ensures { IsLiveAnd self.now (λ page. TellsBody p.now (leaf_at page p.now) (option_map (λ b. b.now) result)) }
     {
         let inside = self.inside();
         find_in(inside.k, inside.tree, p.values())

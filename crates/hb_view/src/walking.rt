@@ -4,7 +4,7 @@ ghost use Rattle.hb_space.specs.Boxes.{Area as Extent, IsArea, Holds};
 ghost use Rattle.hb_frag.specs.Leaves.{IsWellCut, first_at, leaves_of, weight_of};
 ghost use Rattle.hb_page_codec.specs.ReadingPages.{tree_at};
 ghost use Rattle.hb_view.specs.Roots.{tree_there, rest_there};
-ghost use Rattle.hb_view.specs.Views.{Shows, Finds};
+ghost use Rattle.hb_view.specs.Views.{ShowsLeaf, TellsBody};
 
 use crate::LeafView;
 use crate::lists::{body_among, rest_behind_list};
@@ -19,7 +19,7 @@ pub(crate) fn descend(k: u8, bytes: &[u8], lo: &mut [u64], hi: &mut [u64], p: &[
     requires corners { IsArea (record { lo = lo.old; hi = hi.old }) }
     requires well_cut { IsWellCut (tree_there k bytes.now) (record { lo = lo.old; hi = hi.old }) }
     requires held { Holds (record { lo = lo.old; hi = hi.old }) p.now }
-    ensures leaf { Shows (first_at p.now (leaves_of (tree_there k bytes.now) (record { lo = lo.old; hi = hi.old })))
+    ensures leaf { ShowsLeaf (first_at p.now (leaves_of (tree_there k bytes.now) (record { lo = lo.old; hi = hi.old })))
         result (record { lo = lo.new; hi = hi.new }) }
     ensures area { IsArea (record { lo = lo.new; hi = hi.new }) }
 {
@@ -47,7 +47,7 @@ pub(crate) fn find_in<'a>(k: u8, bytes: &'a [u8], p: &[u64]) -> Option<&'a [u8]>
     requires there { IsSome (tree_at k bytes.now) }
     requires attributes { length p.now ≡ k }
     ensures { (area : Extent) → IsArea area → IsWellCut (tree_there k bytes.now) area → Holds area p.now →
-        Finds p.now (first_at p.now (leaves_of (tree_there k bytes.now) area)) (option_map (λ b. b.now) result) }
+        TellsBody p.now (first_at p.now (leaves_of (tree_there k bytes.now) area)) (option_map (λ b. b.now) result) }
 {
     match root_of(k, bytes) {
         Root::Cut { axis, value, left } => {

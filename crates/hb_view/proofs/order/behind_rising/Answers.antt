@@ -3,7 +3,7 @@ use Rattle.std.proofs.lemmas.Bool.{false≢true}
 use Rattle.hb_space.specs.Boxes.{Area}
 use Rattle.hb_space.specs.declared.records.Record.{Record}
 use Rattle.hb_view.specs.Lists.{records_there}
-use Rattle.hb_view.specs.Passing.{RiseFrom}
+use Rattle.hb_view.specs.Walks.{RiseFrom}
 use Rattle.hb_view.proofs.Listed.{left_list, left_behind, others_there, none_missing}
 use Rattle.hb_view.proofs.Risen.{step_stops, step_goes_on, all_rose, none_after}
 use Rattle.hb_view.proofs.order.behind_rising.Goals as goal

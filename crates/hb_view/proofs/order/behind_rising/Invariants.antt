@@ -1,7 +1,7 @@
 use Rattle.std.proofs.Common.{◌≡◌, ◌↔◌, ◌-◌, IsSome, None}
 use Rattle.hb_page_codec.specs.ReadingFields.{records_at}
 use Rattle.hb_view.specs.Lists.{records_there, after_there}
-use Rattle.hb_view.specs.Passing.{RiseFrom}
+use Rattle.hb_view.specs.Walks.{RiseFrom}
 use Rattle.hb_view.proofs.order.behind_rising.Given as goal
 
 -- the records that are left rise exactly where all do

@@ -5,17 +5,17 @@ use Rattle.hb_space.specs.Points.{point_cmp}
 use Rattle.hb_space.specs.Boxes.{Area, Holds}
 use Rattle.hb_space.specs.declared.records.Record.{Record}
 
--- Where this holds, the walk goes on at the bytes behind what it looked at. Where it doesn't, the walk stops.
-abbrev pub Passes : Type 0 → List ℕ → Option (List ℕ) → Type 0
-Passes P rest (Some r) = P × (r ≡ rest)
-Passes P rest None = ¬ P
+-- Where this holds, the walk hands on the bytes behind what it looked at. Where it doesn't, the walk stops.
+abbrev pub WalksOver : Type 0 → List ℕ → Option (List ℕ) → Type 0
+WalksOver P rest (Some r) = P × (r ≡ rest)
+WalksOver P rest None = ¬ P
 
 -- a point comes behind the last one, where there was one
-abbrev pub Follows : Option (List ℕ) → List ℕ → Type 0
-Follows None p = Unit {0}
-Follows (Some last) p = point_cmp last p ≡ Less
+abbrev pub ComesBehind : Option (List ℕ) → List ℕ → Type 0
+ComesBehind None p = Unit {0}
+ComesBehind (Some last) p = point_cmp last p ≡ Less
 
 -- records whose points lie in the box and rise, the first from behind the last one
 abbrev pub RiseFrom : Area → Option (List ℕ) → List Record → Type 0
 RiseFrom area last [] = Unit {0}
-RiseFrom area last (r ∷ rest) = Holds area r.key × Follows last r.key × RiseFrom area (Some r.key) rest
+RiseFrom area last (r ∷ rest) = Holds area r.key × ComesBehind last r.key × RiseFrom area (Some r.key) rest
