@@ -1,10 +1,10 @@
 //! Fields of a page's inside, from the front of bytes.
 ghost use Rattle.std.specs.Prelude.{◌≡◌, ◌≤◌};
 ghost use Rattle.hb_page_codec.specs.Reading.{ReadsAs, number_at};
-ghost use Rattle.hb_page_codec.specs.ReadingFields.{axis_at, count_at};
+ghost use Rattle.hb_page_codec.specs.ReadingFields.{axis_at, body_at, count_at};
 
 use hb_outside::take_u16;
-use hb_space::form::KMAX;
+use hb_space::form::{BMAX, KMAX};
 
 /// A number of two bytes, and the bytes behind it.
 fn u16_of(bytes: &[u8]) -> Option<(u16, &[u8])>
@@ -35,4 +35,17 @@ pub(crate) fn axis_of(k: u8, bytes: &[u8]) -> Option<(u8, &[u8])>
 {
     let (axis, rest) = bytes.split_first()?;
     if *axis < k { Some((*axis, rest)) } else { None }
+}
+
+/// A body, from behind its length on, and the bytes behind it.
+#[tactic(auto, unfolding(hb_page_codec::specs::ReadingFields::body_at))]
+pub(crate) fn body_of(bytes: &[u8]) -> Option<(&[u8], &[u8])>
+    ensures { ReadsAs (λ x. (x.0.now, x.1.now)) result (body_at bytes.now) }
+{
+    let (count, rest) = bytes.split_first()?;
+    let count = usize::from(*count);
+    if count > BMAX || rest.len() < count {
+        return None;
+    }
+    Some(rest.split_at(count))
 }

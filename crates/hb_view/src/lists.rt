@@ -2,29 +2,17 @@
 ghost use Rattle.std.specs.Prelude.{◌≡◌, ◌*◌, ◌≤◌, length, IfSome, IsSome, option_map};
 ghost use Rattle.hb_space.specs.Points.{IsAttributeCount};
 ghost use Rattle.hb_page_codec.specs.Reading.{ReadsAs};
-ghost use Rattle.hb_page_codec.specs.ReadingFields.{body_at, record_at, records_at};
+ghost use Rattle.hb_page_codec.specs.ReadingFields.{record_at, records_at};
 ghost use Rattle.hb_view.specs.Corners.{point_there};
 ghost use Rattle.hb_view.specs.Lists.{records_there, after_there};
 ghost use Rattle.hb_view.specs.Views.{FindsAmong};
 
 use crate::corners::{is_point, point_read};
+use crate::fields::body_of;
 use crate::skipping::behind_list;
 use hb_page_codec::point_of;
 use hb_space::Point;
-use hb_space::form::{BMAX, KMAX};
-
-/// A body, from behind its length on, and the bytes behind it.
-#[tactic(auto, unfolding(hb_page_codec::specs::ReadingFields::body_at))]
-fn body_of(bytes: &[u8]) -> Option<(&[u8], &[u8])>
-    ensures { ReadsAs (λ x. (x.0.now, x.1.now)) result (body_at bytes.now) }
-{
-    let (count, rest) = bytes.split_first()?;
-    let count = usize::from(*count);
-    if count > BMAX || rest.len() < count {
-        return None;
-    }
-    Some(rest.split_at(count))
-}
+use hb_space::form::KMAX;
 
 /// A record as its point and the bytes of its body, and the bytes behind it.
 #[tactic(auto, unfolding(hb_page_codec::specs::ReadingFields::record_at))]

@@ -1,28 +1,15 @@
 //! Reading over what stands at the front of bytes, without keeping it.
 ghost use Rattle.std.specs.Prelude.{◌≡◌, ◌≤◌, IsSome};
 ghost use Rattle.hb_page_codec.specs.Reading.{ReadsAs};
-ghost use Rattle.hb_page_codec.specs.ReadingFields.{body_at, records_at};
+ghost use Rattle.hb_page_codec.specs.ReadingFields.{records_at};
 ghost use Rattle.hb_page_codec.specs.ReadingPages.{tree_at};
 ghost use Rattle.hb_view.specs.Behind.{behind, record_behind, list_behind, cut_behind, name_behind, node_behind};
 ghost use Rattle.hb_view.specs.Roots.{rest_there};
 
 use crate::corners::point_read;
-use crate::fields::{axis_of, count_of};
+use crate::fields::{axis_of, body_of, count_of};
 use hb_page_codec::{u32_of, u64_of};
-use hb_space::form::{BMAX, KMAX};
-
-/// The bytes behind a body and its length.
-#[tactic(auto, unfolding(hb_page_codec::specs::ReadingFields::body_at))]
-fn behind_body(bytes: &[u8]) -> Option<&[u8]>
-    ensures { ReadsAs (λ x. x.now) result (behind (body_at bytes.now)) }
-{
-    let (count, rest) = bytes.split_first()?;
-    let count = usize::from(*count);
-    if count > BMAX || rest.len() < count {
-        return None;
-    }
-    Some(&rest[count..])
-}
+use hb_space::form::KMAX;
 
 /// The bytes behind a record whose point has `k` values.
 #[tactic(auto, unfolding(crate::specs::Behind::record_behind))]
@@ -31,7 +18,8 @@ fn behind_record(k: u8, bytes: &[u8]) -> Option<&[u8]>
     ensures { ReadsAs (λ x. x.now) result (record_behind k bytes.now) }
 {
     let (_, rest) = point_read(k, bytes)?;
-    behind_body(rest)
+    let (_, rest) = body_of(rest)?;
+    Some(rest)
 }
 
 /// The bytes behind so many records.
