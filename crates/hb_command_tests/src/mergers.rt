@@ -99,13 +99,7 @@ fn walk(alloc: Global, above: &LivePage, meta: &Meta) -> Option<Next>
     hb_consol::next(alloc, state, 3, above, None, None, None, meta).ok()
 }
 
-fn scan(
-    alloc: Global,
-    child: u32,
-    above: &LivePage,
-    page: &LivePage,
-    meta: &Meta,
-) -> Option<Next>
+fn scan(alloc: Global, child: u32, above: &LivePage, page: &LivePage, meta: &Meta) -> Option<Next>
     requires layout { IsLayout meta.now }
     requires page { FitsFile meta.now page.now }
 {

@@ -32,7 +32,7 @@ one_way true = refl
 one_way false = refl
 
 one_at_most : (b : Bool) → cond b 1 0 ≤ 1
-one_at_most b = elim b as (λ b. cond b 1 0 ≤ 1) [ | true ↦ omega arith | false ↦ omega arith ]
+one_at_most b = elim b as (λ b. cond b 1 0 ≤ 1) [ true ↦ omega arith | false ↦ omega arith ]
 
 -- a frame that is pinned, or dirty, must stay
 pub pinned_stays : (f : Frame) → 0 < f.pins → must_stay f ≡ true
