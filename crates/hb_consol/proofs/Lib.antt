@@ -5,3 +5,4 @@ pub mod TryExamples
 pub mod ScannedPairs
 pub mod MadeRows
 pub mod AllowedMerges
+pub mod ChildrenBehind

@@ -22,8 +22,8 @@ use std::alloc::Global;
 ///
 /// # Errors
 ///
-/// Memory was refused. It is wanted only where the children of a parent are listed, and where two pages
-/// become one.
+/// Memory was refused. It is wanted only where two pages become one. The clause allows it at the end of a
+/// walk and in a scan or a try too, which once listed the children of the parent.
 pub fn next(
     alloc: Global,
     state: Activity,
@@ -43,9 +43,9 @@ pub fn next(
     ensures memory { OnErr result (AsksMemoryToMerge state meta.now page.now (option_copied first.entry) (option_copied second.entry)) }
 {
     match state {
-        Activity::ConsolidatorWalk { job, .. } => walk(alloc, job, id, page),
+        Activity::ConsolidatorWalk { job, .. } => walk(job, id, page),
         Activity::ConsolidatorScan { job, parent, child } => match first {
-            Some(above) => tries(alloc, job, parent, child, above, page, 0),
+            Some(above) => tries(job, parent, child, above, page, 0),
             None => unreachable!(),
         },
         Activity::ConsolidatorTry {
@@ -56,7 +56,7 @@ pub fn next(
             leaf,
         } => match (first, second) {
             (Some(above), Some(kept)) => try_pair(
-                alloc, job, parent, keep, gone, leaf, above, kept, page, meta,
+                job, parent, keep, gone, leaf, above, kept, page, meta,
             ),
             _ => unreachable!(),
         },

@@ -7,6 +7,7 @@
 //! Source of the idea: Evangelidis, Lomet and Salzberg 1997.
 #![tactic(auto)]
 
+mod children;
 mod deciding;
 pub mod examples;
 pub mod laws;
@@ -14,5 +15,6 @@ mod merging;
 mod scanning;
 mod walking;
 
+pub use children::{Earlier, Sought};
 pub use deciding::next;
 pub use scanning::Scanned;

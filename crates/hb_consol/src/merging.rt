@@ -25,7 +25,6 @@ use std::alloc::Global;
 /// What a try comes to: where the two may become one, the parent is to be promoted. Else the sibling
 /// leaves behind this one are looked at.
 pub(crate) fn try_pair(
-    alloc: Global,
     job: Job,
     parent: u32,
     keep: u32,
@@ -49,7 +48,6 @@ pub(crate) fn try_pair(
             gone,
         })),
         MergePlan::NotContained | MergePlan::ManyParents | MergePlan::TooHeavy => tries(
-            alloc,
             job,
             parent,
             keep,

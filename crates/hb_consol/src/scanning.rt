@@ -1,16 +1,16 @@
-//! The search for a pair among the leaves of a page, and for the child behind another.
+//! The search for a pair among the leaves of a page.
 
 ghost use Rattle.std.specs.Prelude.{◌≡◌, ◌<◌, ◌^◌, [], ◌∷◌, length, IfOk};
 ghost use Rattle.hb_frag.specs.Leaves.{leaves};
 ghost use Rattle.hb_activity.specs.Deciding.{deed_of};
 ghost use Rattle.hb_activity.specs.declared.activities.Activity.{Activity as OneActivity};
-ghost use Rattle.hb_consol.specs.ConsolidatorRows.{first_one, names_child, one_behind, pair_from, scans, tries};
+ghost use Rattle.hb_consol.specs.ConsolidatorRows.{names_child, pair_from, scans, tries};
 ghost use Rattle.hb_consol.specs.Doing.{IsScanned, counts_behind, found_behind};
 
+use crate::children::child_behind;
 use hb_activity::{Activity, Job, Next};
 use hb_frag::{Frag, Leaf, LivePage, Node};
 use hb_space::NoMemory;
-use std::alloc::Global;
 
 /// What a scan of leaves found.
 #[derive(Clone, Copy, Debug, PartialEq, Eq)]
@@ -24,7 +24,6 @@ pub enum Scanned {
 /// The first pair of a page, `from` places on or later, is tried. Where there is none, the child behind the
 /// page is scanned, and after the last one the job ends.
 pub(crate) fn tries(
-    alloc: Global,
     job: Job,
     parent: u32,
     keep: u32,
@@ -43,10 +42,7 @@ pub(crate) fn tries(
             gone,
             leaf: place,
         })),
-        Scanned::Passed(_) => {
-            let children = above.children(alloc)?;
-            Ok(scans(job, parent, one_behind(keep, children.as_slice())))
-        }
+        Scanned::Passed(_) => Ok(scans(job, parent, child_behind(above, keep))),
     }
 }
 
@@ -57,32 +53,6 @@ pub(crate) fn scans(job: Job, parent: u32, child: Option<u32>) -> Next
     match child {
         None => Next::moves(Activity::ConsolidatorIdle),
         Some(child) => Next::moves(Activity::ConsolidatorScan { job, parent, child }),
-    }
-}
-
-/// The first one of a list.
-pub(crate) fn first_one(children: &[u32]) -> Option<u32>
-    ensures { result ≡ first_one children.now }
-{
-    match children {
-        [] => None,
-        [child, ..] => Some(*child),
-    }
-}
-
-// The one behind another of a list.
-fn one_behind(child: u32, children: &[u32]) -> Option<u32>
-    ensures { result ≡ one_behind child children.now }
-{
-    match children {
-        [] => None,
-        [first, rest @ ..] => {
-            if *first == child {
-                first_one(rest)
-            } else {
-                one_behind(child, rest)
-            }
-        }
     }
 }
 

@@ -10,17 +10,17 @@ ghost use Rattle.hb_activity.specs.Sights.{Sight};
 ghost use Rattle.hb_consol.specs.ConsolidatorRows.{children_of, first_one, scans};
 ghost use Rattle.hb_consol.specs.MergeRows.{ConsolidatorRow};
 
-use crate::scanning::{first_one, scans};
+use crate::children::first_child;
+use crate::scanning::scans;
 use hb_activity::{Activity, Job, JobKind, Next};
 use hb_frag::{Leaf, LivePage};
 use hb_space::NoMemory;
-use std::alloc::Global;
 
 /// What a walk comes to at a page: it is over at a page of the job's level whose leaf at the point is a
 /// child leaf, and the first of its children is scanned. Else it passes on to the page that the leaf
 /// names, and a sibling leaf shows that the parent owes a posting.
 #[tactic(auto, using(crate::proofs::ScannedPairs::no_records))]
-pub(crate) fn walk(alloc: Global, job: Job, id: u32, page: &LivePage) -> Result<Next, NoMemory>
+pub(crate) fn walk(job: Job, id: u32, page: &LivePage) -> Result<Next, NoMemory>
     requires well_cut { WellCut page.now }
     requires kinds { All (BelongsAt page.now.level) (leaves page.now.frag) }
     requires held { Holds page.now.area job.point }
@@ -33,7 +33,7 @@ pub(crate) fn walk(alloc: Global, job: Job, id: u32, page: &LivePage) -> Result<
     match page.leaf_at(&job.point) {
         (Leaf::Child(_), _) => {
             if page.level == job.level {
-                scan_first(alloc, job, id, page)
+                Ok(scan_first(job, id, page))
             } else {
                 Ok(Next::moves(onward(job, id)))
             }
@@ -51,11 +51,10 @@ pub(crate) fn walk(alloc: Global, job: Job, id: u32, page: &LivePage) -> Result<
 }
 
 // The first child of the parent is scanned.
-fn scan_first(alloc: Global, job: Job, id: u32, page: &LivePage) -> Result<Next, NoMemory>
-    ensures { IfOk result (λ next. (held : Option ℕ) → deed_of (Activity.ConsolidatorWalk job held) next ≡ scans job id (first_one (children_of page.now))) }
+fn scan_first(job: Job, id: u32, page: &LivePage) -> Next
+    ensures { (held : Option ℕ) → deed_of (Activity.ConsolidatorWalk job held) result ≡ scans job id (first_one (children_of page.now)) }
 {
-    let children = page.children(alloc)?;
-    Ok(scans(job, id, first_one(children.as_slice())))
+    scans(job, id, first_child(page))
 }
 
 // The walk goes on, and holds this page.
