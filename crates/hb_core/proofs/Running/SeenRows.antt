@@ -157,11 +157,8 @@ module _ (st : StoreState) (activity : Activity) (n : ℕ) (id : ℕ) (page : Li
   pair_shown : (place : ℕ) → IsSeenIn (sight_in st place) (given_sight meta (pages_given activity id page first second) None)
   pair_shown place = record { meta = is_meta; pages = among_there (live_here st) (pages_given activity id page first second) (pair_there (live_here st) activity id page first second live other kept); next = no_number }
 
-  its_page : live_here st n ≡ Some page
-  its_page = under_number st id n page is_id live
-
   one_page : (asked : LivePage) → live_here st n ≡ Some asked → asked ≡ page
-  one_page asked there = same_Some asked page (sym there ∙ its_page)
+  one_page asked there = same_Some asked page (sym there ∙ (under_number st id n page is_id live))
 
   pub merger_layout : AsksMerger st activity n → IsLayout meta
   merger_layout asks = subst IsLayout (sym is_meta) asks.layout
@@ -179,7 +176,7 @@ module _ (st : StoreState) (activity : Activity) (n : ℕ) (id : ℕ) (page : Li
   pub merger_said : (deed : Deed) → ((free : Option (ℕ × ℕ)) → ConsolidatorRow activity (given_sight meta (pages_given activity id page first second) free) id page deed) → (place : ℕ) → HasMergerRow st activity n place (placed place deed)
   merger_said deed row place = (
     page,
-    its_page,
+    (under_number st id n page is_id live),
     subst (λ (k : ℕ). ConsolidatorRow activity (sight_in st place) k page (placed place deed)) is_id
         (lifted_merger (given_sight meta (pages_given activity id page first second) None) (sight_in st place) (pair_shown place) activity id page deed (row None)),
   )
@@ -187,7 +184,7 @@ module _ (st : StoreState) (activity : Activity) (n : ℕ) (id : ℕ) (page : Li
   pub merger_lacks : AsksMemoryToMerge activity meta page first second → LacksToMerge st activity n
   merger_lacks asks = (
     page,
-    its_page,
+    (under_number st id n page is_id live),
     subst (λ (o : Option LivePage). AsksMemoryToMerge activity st.meta page (other_page st activity) o) kept
         (subst (λ (o : Option LivePage). AsksMemoryToMerge activity st.meta page o second) other (subst (λ (m : Meta). AsksMemoryToMerge activity m page first second) is_meta asks)),
   )
