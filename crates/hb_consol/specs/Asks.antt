@@ -43,7 +43,8 @@ MayAskToMerge other meta page first second = ⊥
 abbrev pub MergesTwo : Meta → ℕ → LivePage → LivePage → LivePage → Type 0
 MergesTwo meta gone above kept page = (0 < meta.live) × MayMerge above kept gone page (capacity_of page.level meta.dcap meta.icap)
 
--- Memory is asked for where the children of a parent are listed, and where two pages become one.
+-- Where memory may be asked for: at the end of a walk, in a scan, in a try, and where two pages become one. The code asks for it
+-- in the last case alone.
 abbrev pub AsksMemoryToMerge : Activity → Meta → LivePage → Option LivePage → Option LivePage → Type 0
 AsksMemoryToMerge (at.ConsolidatorWalk job held) meta page first second = (page.level ≡ job.level) × LeadsBelow page job
 AsksMemoryToMerge (at.ConsolidatorScan job parent child) meta page first second = Unit {0}

@@ -1,5 +1,5 @@
-//! The children of a parent, found by its child leaves from the left: the first one, and the one behind another.
-//! Nothing is listed, so no memory is asked for.
+//! The children of a parent, found by its child leaves from the left: the first one, and the one behind
+//! another. Nothing is listed, so no memory is asked for.
 
 ghost use Rattle.std.specs.Prelude.{◌≡◌, [], ◌∷◌};
 ghost use Rattle.hb_frag.specs.Leaves.{child_names, leaves};

@@ -22,8 +22,8 @@ use std::alloc::Global;
 ///
 /// # Errors
 ///
-/// Memory was refused. It is wanted only where two pages become one. The clause allows it at the end of a
-/// walk and in a scan or a try too, which once listed the children of the parent.
+/// Memory was refused. It is wanted only where two pages become one. The clause `memory` is wider: it allows
+/// the end of a walk, a scan and a try too.
 pub fn next(
     alloc: Global,
     state: Activity,

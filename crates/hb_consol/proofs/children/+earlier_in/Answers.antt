@@ -1,4 +1,4 @@
-use Rattle.std.proofs.Common.{◌≡◌, ap, ◌∙◌}
+use Rattle.std.proofs.Common.{ap, ◌∙◌}
 use Rattle.hb_frag.specs.Leaves.{child_names, leaves}
 use Rattle.hb_consol.specs.Doing.{earlier_of}
 use Rattle.hb_consol.proofs.ChildrenBehind.{earlier_in_both, or_else}

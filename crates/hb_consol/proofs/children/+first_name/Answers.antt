@@ -1,4 +1,4 @@
-use Rattle.std.proofs.Common.{◌≡◌, ◌∙◌}
+use Rattle.std.proofs.Common.{◌∙◌}
 use Rattle.hb_frag.specs.Leaves.{leaves}
 use Rattle.hb_consol.proofs.ChildrenBehind.{first_in_front, first_in_rest}
 use Rattle.hb_consol.proofs.children.+first_name.Goals as goal

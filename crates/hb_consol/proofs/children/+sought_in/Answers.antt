@@ -1,4 +1,4 @@
-use Rattle.std.proofs.Common.{◌≡◌, sym, ap, ◌∙◌}
+use Rattle.std.proofs.Common.{sym, ap, ◌∙◌}
 use Rattle.hb_frag.specs.Leaves.{child_names, leaves}
 use Rattle.hb_consol.specs.Doing.{sought}
 use Rattle.hb_consol.specs.declared.children.Sought.{Sought}

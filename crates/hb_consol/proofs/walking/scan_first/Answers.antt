@@ -1,4 +1,4 @@
-use Rattle.std.proofs.Common.{◌≡◌, ap, ◌∙◌}
+use Rattle.std.proofs.Common.{ap, ◌∙◌}
 use Rattle.hb_activity.specs.declared.activities.Activity.TheVariants.{ConsolidatorWalk}
 use Rattle.hb_consol.specs.ConsolidatorRows.{scans}
 use Rattle.hb_consol.proofs.walking.scan_first.Goals as goal
