@@ -16,7 +16,7 @@ use std::alloc::Global;
 /// then, the operation, and the jobs.
 ///
 /// Page 3 names 1, 2, 1 again and 4. Page 1 gave boxes to 9, 2 and 4, and weighs 5. Page 2 has no sibling leaf, and weighs 1.
-const ROWS: [(&str, u16, u16, &str); 9] = [
+const ROWS: [(&str, u16, u16, &str); 8] = [
     ("walk", 32, 32, "scan 1;"),
     ("scan 1", 32, 32, "try 2 2;"),
     ("scan 2", 32, 32, "scan 4;"),
@@ -24,8 +24,7 @@ const ROWS: [(&str, u16, u16, &str); 9] = [
     ("try", 6, 32, "try 4 4;"),
     ("keep", 32, 32, "decide;"),
     ("decide", 6, 32, "idle;"),
-    ("decide", 32, 16, "idle merge 3 1 2; M1.50 M2.50"),
-    ("decide", 32, 15, "idle merge 3 1 2; M1.50"),
+    ("decide", 32, 32, "idle merge 3 1 2; M1.50 M2.50"),
 ];
 
 fn tip(leaf: Leaf) -> Frag {
