@@ -42,7 +42,7 @@ use Rattle.hb_core.proofs.Searches.LeafRecords.{leaf_of}
 use Rattle.hb_core.proofs.Searches.PutInOrder.{in_order}
 use Rattle.hb_core.proofs.Walks.MayBeAsked.{splits_may_be_asked}
 use Rattle.hb_core.specs.AllowedLaws.{AnyPage}
-use Rattle.hb_core.specs.Acting.{TakesMemory, TakesSome}
+use Rattle.hb_core.specs.Acting.{TakesSome}
 use Rattle.hb_core.specs.Asking.{wanted_by}
 use Rattle.hb_core.specs.KeptFits.{IsBoxOf, boxes_left}
 use Rattle.hb_core.specs.KeptMachine.{MachineKeeps}

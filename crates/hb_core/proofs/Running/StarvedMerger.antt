@@ -23,7 +23,7 @@ use Rattle.hb_core.proofs.Running.Asked.{HasWanted, brings, has_wanted, merger_w
 use Rattle.hb_core.proofs.Running.Decided.{at_hand, merges, stands}
 use Rattle.hb_core.proofs.Running.SomePlan.{HasSomePlan, some_plan}
 use Rattle.hb_core.proofs.Walks.AskedToMerge.{known_there}
-use Rattle.hb_core.specs.Acting.{TakesMemory, TakesSome}
+use Rattle.hb_core.specs.Acting.{TakesSome}
 use Rattle.hb_core.specs.Asking.{wanted_by}
 use Rattle.hb_core.specs.KeptMachine.{MachineKeeps}
 use Rattle.hb_core.specs.KeptMerges.{AtParent, IsMerging, NamesKnown, PairHeld, merging_at}
@@ -105,4 +105,4 @@ module _ (d : DiskModel) (c : RunningCore) (m : Machine) (actor : ℕ) (free : O
   merger_starved activity wanted st stood wants same merger lacks =
       let is = stands d c m actor free may has activity stood in
       let here = subst (λ (w : Option Wanted). LacksToMerge c.store activity (number_of_row activity w)) wants (subst (λ (st : StoreState). LacksToMerge st activity (number_of_row activity wanted)) same lacks) in
-      subst TakesSome (wanted_by m actor) (with_memory c m) (sym is) (merger_by activity is (merges d c m actor free may has activity is merger) here)
+      subst (TakesSome (wanted_by m actor) (with_memory c m)) (sym is) (merger_by activity is (merges d c m actor free may has activity is merger) here)
