@@ -10,9 +10,11 @@ use std::alloc::Global;
 /// What commands are drawn of, and how many.
 struct Wave {
     verbs: [Verb; 8],
-    /// The points have so many eights of places.
-    eights: u64,
+    /// The points have 24 places, and else 64.
+    few: bool,
     commands: usize,
+    /// How often somebody steps.
+    turns: usize,
     /// Who steps beside the sessions and the poster, after its letter.
     beside: &'static str,
 }
@@ -29,8 +31,9 @@ const MIXED: Wave = Wave {
         Verb::Lookup,
         Verb::Search,
     ],
-    eights: 8,
+    few: false,
     commands: 20,
+    turns: 30,
     beside: "p",
 };
 
@@ -46,8 +49,9 @@ const FILLING: Wave = Wave {
         Verb::Lookup,
         Verb::Search,
     ],
-    eights: 3,
+    few: true,
     commands: 40,
+    turns: 60,
     beside: "c",
 };
 
@@ -62,8 +66,9 @@ const DRAINING: Wave = Wave {
         Verb::Delete,
         Verb::Search,
     ],
-    eights: 3,
+    few: true,
     commands: 40,
+    turns: 60,
     beside: "c",
 };
 
@@ -97,7 +102,12 @@ impl Draw {
     fn command(&mut self, commands: &mut Commands, wave: &Wave) -> Option<()> {
         let number = drawn(&mut self.seed) % 4;
         let session = self.session(number);
-        let place = drawn(&mut self.seed) % wave.eights * 8 + drawn(&mut self.seed) % 8;
+        let eight = if wave.few {
+            drawn(&mut self.seed) % 3
+        } else {
+            drawn(&mut self.seed) % 8
+        };
+        let place = eight * 8 + drawn(&mut self.seed) % 8;
         let verb = *wave.verbs.get(drawn(&mut self.seed) as usize)?;
         commands.add(session, verb, place as usize)
     }
@@ -116,13 +126,13 @@ impl Draw {
         write!(text, " {session}x{count}").ok()
     }
 
-    /// The commands of a wave, and some steps half as often again.
+    /// The commands of a wave, and its steps.
     fn commands(&mut self, alloc: Global, wave: &Wave, from: usize) -> Option<Commands> {
         let mut commands = Commands::new(alloc, self.k, from);
         for _ in 0..wave.commands {
             self.command(&mut commands, wave)?;
         }
-        for number in 0..wave.commands + wave.commands / 2 {
+        for number in 0..wave.turns {
             if number % 30 == 0 {
                 commands.text.push_str("\nstep").ok()?;
             }
@@ -208,21 +218,41 @@ fn last_schedules_as_a_plain_list(rt: HostRuntime) {
     assert!(rt; are_right(rt.alloc(), 75) == Some(true));
 }
 
+/// Drives a whole wave of commands over a file with these records.
+fn wave_over(
+    alloc: Global,
+    draw: &mut Draw,
+    wave: &Wave,
+    from: usize,
+    before: Plain,
+    file: &[u8],
+) -> Option<(Told, Vec<u8>)> {
+    let mut commands = draw.commands(alloc, wave, from)?;
+    finish(&mut commands.text)?;
+    driven(alloc, &commands, before, file)
+}
+
 /// Whether a case is right whose points come, go and come again. Its last run is cut off by its schedule.
 fn comes_and_goes(alloc: Global, seed: u64) -> Option<bool> {
     let mut draw = Draw::new(seed);
-    let (mut plain, mut file) = (EMPTY, new_file(alloc, draw.k)?);
-    for (from, wave) in [(0, &FILLING), (100, &DRAINING)] {
-        let mut commands = draw.commands(alloc, wave, from)?;
-        finish(&mut commands.text)?;
-        let (told, left) = driven(alloc, &commands, plain, file.as_slice())?;
-        if !told.done {
-            return Some(false);
-        }
-        (plain, file) = (told.whole, left);
+    let file = new_file(alloc, draw.k)?;
+    let (come, file) = wave_over(alloc, &mut draw, &FILLING, 0, EMPTY, file.as_slice())?;
+    if !come.done {
+        return Some(false);
+    }
+    let (gone, file) = wave_over(
+        alloc,
+        &mut draw,
+        &DRAINING,
+        100,
+        come.whole,
+        file.as_slice(),
+    )?;
+    if !gone.done {
+        return Some(false);
     }
     let last = draw.commands(alloc, &FILLING, 200)?;
-    let (told, file) = driven(alloc, &last, plain, file.as_slice())?;
+    let (told, file) = driven(alloc, &last, gone.whole, file.as_slice())?;
     let plain = told.settled;
     holds(alloc, file.as_slice(), draw.k, 24, plain, plain)
 }
