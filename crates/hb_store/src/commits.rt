@@ -7,8 +7,10 @@ ghost use Rattle.hb_ops.specs.Operations.{BoxesMatch, IsLicensed, OpHas, reads_o
 ghost use Rattle.hb_log_codec.specs.Groups.{FitsGroup, group_bytes};
 ghost use Rattle.hb_store.specs.Keeps.{StoreKeeps, last_of};
 ghost use Rattle.hb_store.specs.Making.{IsDoableHere, MakesWell, group_here};
-ghost use Rattle.hb_store.specs.Seen.{seen_as};
-ghost use Rattle.hb_store.specs.Calls.{Commits, IsAllowedHere, IsReady, change_here, read_here, with_op};
+ghost use Rattle.hb_store.specs.Seen.{seen_as, uses_of};
+ghost use Rattle.hb_store.specs.Calls.{Commits, HasPlaceFor, IsAllowedHere, IsReady, StaysHere, change_here, numbers_changed, read_here, use_changed, with_op};
+ghost use Rattle.hb_store.specs.Replay.{has_page};
+ghost use Rattle.hb_store.specs.States.{in_memory};
 
 use crate::group_writing::group_for;
 use crate::making::what_is_made_can_be_written;
@@ -23,20 +25,24 @@ use hb_space::NoMemory;
 use std::alloc::{AllocError, Global};
 
 impl<D: Device> Store<D> {
-    /// Does an operation in memory, and lets its group wait for a force. No device call. For want of memory nothing
-    /// changes.
+    /// Does an operation in memory, and lets its group wait for a force. No device call. The pages that it reads are pinned or
+    /// dirty. For want of memory nothing changes.
     pub fn commit(&mut self, op: Op, mark: u32) -> Result<(), NoMemory>
         requires running { (seen_as self.old).stopped ≡ false }
         requires ready { IsReady (seen_as self.old) }
         requires points { OpHas (seen_as self.old).meta.k op }
         requires allowed { IsAllowedHere (seen_as self.old) op }
         requires boxes { BoxesMatch op (read_here (seen_as self.old) op 0) (read_here (seen_as self.old) op 1) (read_here (seen_as self.old) op 2) }
+        requires place { HasPlaceFor op (seen_as self.old) (uses_of self.old) }
         requires licensed { (durable : FileState) (later : List FileState) → StoreKeeps (D.model self.old.disk) (seen_as self.old) durable later →
             IsLicensed (last_of durable later) op }
         requires marks { All (λ g. g.mark ≤ mark) (seen_as self.old).log.groups }
         ensures commits { OnOk result (Commits op mark (seen_as self.old) (seen_as self.new)) }
         ensures group { OnOk result ((seen_as self.new).log.groups ≡ (seen_as self.old).log.groups ++ record { bytes = group_bytes (group_here (seen_as self.old) op); mark = mark } ∷ []) }
-        ensures kept { OnErr result (seen_as self.new ≡ seen_as self.old) }
+        ensures uses { OnOk result (uses_of self.new ≡ use_changed (numbers_changed (seen_as self.old) op) (uses_of self.old)) }
+        // a page that is dirty or pinned, and isn't changed, is there as it was
+        ensures stays { OnOk result ((id : ℕ) → has_page id (change_here (seen_as self.old) op).pages ≡ false → StaysHere (uses_of self.old) id → in_memory (seen_as self.new) id ≡ in_memory (seen_as self.old) id) }
+        ensures kept { OnErr result ((seen_as self.new ≡ seen_as self.old) × (uses_of self.new ≡ uses_of self.old)) }
         ensures disk { self.new.disk ≡ self.old.disk }
         ensures keeps { (durable : FileState) (later : List FileState) → StoreKeeps (D.model self.old.disk) (seen_as self.old) durable later →
             OnOk result (StoreKeeps (D.model self.new.disk) (seen_as self.new) durable (with_op durable later op)) }

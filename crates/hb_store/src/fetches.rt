@@ -24,20 +24,25 @@ use hb_space::form::PAGE;
 use std::alloc::Global;
 
 impl<D: Device> Store<D> {
-    /// Brings the page of a number into memory, where it isn't there. At most one read.
+    /// Brings the page of a number into memory, where it isn't there. At most one read. It takes no memory.
     ///
     /// `Damaged` exactly where the number isn't 1 to the highest page, which is tested first and reads nothing, or the
-    /// page's bytes are no page or break one of the rules that `local_rule` tests.
+    /// page's bytes are no page or break one of the rules that `local_rule` tests. `Crowded` exactly where the page isn't in
+    /// memory and there is no place for it; nothing is read then.
     pub fn fetch(&mut self, id: u32) -> Result<(), FetchStop>
         ensures fetched { OnOk result (Fetched id (seen_as self.old) (seen_as self.new)) }
-        ensures kept { OnErr result (seen_as self.new ≡ seen_as self.old) }
+        ensures uses { OnOk result (uses_of self.new ≡ use_fetched id (uses_of self.old)) }
+        // a page that is dirty or pinned is there as it was
+        ensures stays { (q : ℕ) → StaysHere (uses_of self.old) q → in_memory (seen_as self.new) q ≡ in_memory (seen_as self.old) q }
+        ensures kept { OnErr result ((seen_as self.new ≡ seen_as self.old) × (uses_of self.new ≡ uses_of self.old)) }
         ensures looks { LooksUp (IsErrOf result ReadFault) (D.model self.old.disk) (D.model self.new.disk) (seen_as self.old) (seen_as self.new) }
         ensures why { IfErr result (FetchesNot (seen_as self.old).meta (D.model self.old.disk) id) }
-        ensures there { IsSome (in_memory (seen_as self.old) id) → IsOk result × (self.new.disk ≡ self.old.disk) × (seen_as self.new ≡ seen_as self.old) }
-        ensures unread { IsNoPage (seen_as self.old).meta id → self.new.disk ≡ self.old.disk }
+        ensures crowded { IsErrOf result Crowded ↔ IsCrowdedOut id (seen_as self.old) (uses_of self.old) }
+        ensures there { IsSome (in_memory (seen_as self.old) id) → IsOk result × (self.new.disk ≡ self.old.disk) × (seen_as self.new ≡ seen_as self.old) × (uses_of self.new ≡ uses_of self.old) }
+        ensures unread { IsNoPage (seen_as self.old).meta id ⊎ IsCrowdedOut id (seen_as self.old) (uses_of self.old) → self.new.disk ≡ self.old.disk }
         // in a sound file no page is damaged
         ensures sound { (durable : FileState) (later : List FileState) → StoreKeeps (D.model self.old.disk) (seen_as self.old) durable later →
-            IsSound (last_of durable later) → IfErr result (λ stop. (stop ≢ FetchStop.ReadFault) → (stop ≢ FetchStop.NoMemory) → IsNoPage (seen_as self.old).meta id) }
+            IsSound (last_of durable later) → IfErr result (λ stop. (stop ≢ FetchStop.ReadFault) → (stop ≢ FetchStop.Crowded) → IsNoPage (seen_as self.old).meta id) }
     {
         let high = self.memory.meta().high;
         if id == 0 || id > high {
@@ -46,10 +51,10 @@ impl<D: Device> Store<D> {
         if self.memory.get(id).is_some() {
             return Ok(());
         }
-        spelling_law();
-        let page = self.read_page(id)?;
-        self.memory.hold(id, page)?;
-        Ok(())
+        if self.memory.places() == 0 {
+            return Err(FetchStop::Crowded);
+        }
+        self.read_page(id)
     }
 
     /// The page of a number, from its place. One read.
