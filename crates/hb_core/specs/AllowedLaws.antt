@@ -57,8 +57,13 @@ HalfHasRoom m actor op = (line : Line) (source fresh half : ℕ) (rec : Record) 
 abbrev pub AnyPage : ℕ → Type 0
 AnyPage id = Unit {0}
 
+-- That the parent of a merge names both pages is known from where its consolidator stands, and needed for a merge alone.
+abbrev pub NamesItsPages : Machine → Op → Type 0
+NamesItsPages m (ops.Merge parent keep gone) = WalksInSpace m
+NamesItsPages m other = Unit {0}
+
 -- Where a row has an operation, that is allowed: nothing but the row's own condition keeps it from being done. So it is over
 -- every disk.
 abbrev pub RowsAreAllowed : Type 0
-RowsAreAllowed = (m : Machine) (actor : ℕ) (fetched : StoreState) (deed : Deed) (op : Op) → MetaWithinLimits m → HoldsPagesOfFile m → KnowsRoom m → WalksInSpace m → Brings m AnyPage fetched →
+RowsAreAllowed = (m : Machine) (actor : ℕ) (fetched : StoreState) (deed : Deed) (op : Op) → MetaWithinLimits m → HoldsPagesOfFile m → KnowsRoom m → NamesItsPages m op → Brings m AnyPage fetched →
     Row (m.activity actor) (wanted_by m actor) (with_disk fetched m.files m.clock m) deed → deed.op ≡ Some op → HalfHasRoom m actor op → IsAllowedHere fetched op

@@ -2,10 +2,10 @@
 use Rattle.std.specs.Prelude.{◌≡◌, ℕ, Some}
 use Rattle.hb_ops.specs.declared.operations.Op.{Op}
 use Rattle.hb_activity.specs.Deeds.{Deed}
-use Rattle.hb_core.specs.AllowedLaws.{AnyPage, HalfHasRoom}
+use Rattle.hb_core.specs.AllowedLaws.{AnyPage, HalfHasRoom, NamesItsPages}
 use Rattle.hb_core.specs.Asking.{wanted_by}
 use Rattle.hb_core.specs.Fetching.{Brings}
-use Rattle.hb_core.specs.Keeps.{HoldsPagesOfFile, KnowsRoom, WalksInSpace}
+use Rattle.hb_core.specs.Keeps.{HoldsPagesOfFile, KnowsRoom}
 use Rattle.hb_core.specs.KeptLines.{MetaWithinLimits}
 use Rattle.hb_core.specs.Machines.{Machine, with_disk}
 use Rattle.hb_core.specs.Rows.{Row}
@@ -19,5 +19,5 @@ PutsFindRoom = (m : Machine) (actor : ℕ) (fetched : StoreState) (deed : Deed) 
 
 -- So where a row has an operation, that is allowed, over every disk.
 abbrev pub RowsCanBeDone : Type 0
-RowsCanBeDone = (m : Machine) (actor : ℕ) (fetched : StoreState) (deed : Deed) (op : Op) → MetaWithinLimits m → HoldsPagesOfFile m → KnowsRoom m → WalksInSpace m → Brings m AnyPage fetched →
+RowsCanBeDone = (m : Machine) (actor : ℕ) (fetched : StoreState) (deed : Deed) (op : Op) → MetaWithinLimits m → HoldsPagesOfFile m → KnowsRoom m → NamesItsPages m op → Brings m AnyPage fetched →
     Row (m.activity actor) (wanted_by m actor) (with_disk fetched m.files m.clock m) deed → deed.op ≡ Some op → IsAllowedHere fetched op

@@ -2,6 +2,7 @@ pub mod Stages
 pub mod Machines
 pub mod Asking
 pub mod Fetching
+pub mod Using
 pub mod Performing
 pub mod Rows
 pub mod Forcing
@@ -18,6 +19,7 @@ pub mod KeptFits
 pub mod KeptPlaces
 pub mod KeptSearches
 pub mod KeptMachine
+pub mod KeptFrames
 pub mod Laws
 pub mod NeedLaws
 pub mod FileLaws

@@ -9,4 +9,3 @@ use Rattle.hb_core.specs.declared.halts.Halt.TheVariants.{GivesUp, Stops}
 abbrev pub halt_of : FetchStop → Halt
 halt_of (fetches.Damaged page why) = Stops (stops.Damaged page why)
 halt_of fetches.ReadFault = GivesUp drops.ReadFault
-halt_of fetches.NoMemory = GivesUp drops.NoMemory

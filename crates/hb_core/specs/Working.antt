@@ -13,7 +13,7 @@ use Rattle.hb_core.specs.Asking.{HasWayFree, asked_box, wanted_by}
 use Rattle.hb_core.specs.Fetching.{Brings, IsBadHead, IsFreeHead, IsWantedPage}
 use Rattle.hb_core.specs.KeptMachine.{MachineKeeps}
 use Rattle.hb_core.specs.Keeps.{HasSoundFile}
-use Rattle.hb_core.specs.Machines.{Machine, next_of, with_disk}
+use Rattle.hb_core.specs.Machines.{Machine, next_of, with_disk, with_uses}
 use Rattle.hb_core.specs.Moving.{with_standing}
 use Rattle.hb_core.specs.Rows.{IsAtHand}
 use Rattle.hb_core.specs.Showing.{RunningCore, ShowsMachine}
@@ -57,7 +57,7 @@ pub record MayWork (m : Machine) (actor : ℕ) : Type 0 where
 
 -- the machine with the pages that a core has in memory now
 abbrev pub with_memory : RunningCore → Machine → Machine
-with_memory c m = with_disk c.store m.files m.clock m
+with_memory c m = with_uses c.uses (with_disk c.store m.files m.clock m)
 
 -- The wanted page is at hand, where one is wanted. The head of the free chain, which may be needed next, didn't leave.
 pub record HasCome (m : Machine) (actor : ℕ) (d : DiskModel) (c : RunningCore) : Type 0 where
