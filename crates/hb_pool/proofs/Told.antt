@@ -1,5 +1,5 @@
 -- The order of use is told without the pages' bytes.
-use Rattle.std.proofs.Common.{◌≡◌, ℕ, ◌+◌, ◌-◌, ◌≤◌, nat_lt, Bool, true, false, cond, List, [], ◌∷◌, ◌++◌, length, map, All, Option, Some, None, refl, sym, ap, subst, ◌∙◌}
+use Rattle.std.proofs.Common.{◌≡◌, ◌+◌, ◌-◌, ◌≤◌, nat_lt, Bool, true, false, cond, List, [], ◌∷◌, ◌++◌, length, map, All, Option, Some, None, refl, sym, ap, subst, ◌∙◌}
 use Rattle.std.specs.List.{find, count_by}
 use Rattle.std.specs.Option.{option_map, option_to_list}
 use Rattle.std.specs.Set.{remove_key}
@@ -8,7 +8,7 @@ use Rattle.std.proofs.lemmas.List.Elements.{All-map}
 use Rattle.std.proofs.lemmas.List.Sums.{sum_by-cons}
 use Rattle.hb_pool.specs.declared.pools.TheConstants.{FRAMES}
 use Rattle.hb_pool.specs.Frames.{Frame, Use, use_of, has_id, must_stay, may_go, fresh}
-use Rattle.hb_pool.specs.Pools.{change_first, frame_of, in_place, put_last, places, with_room, IsPool}
+use Rattle.hb_pool.specs.Pools.{change_first, frame_of, in_place, put_last, with_room, IsPool}
 use Rattle.hb_pool.specs.Laws.{OrderOfBrought, OrderOfChanged, OrderTellsFrames}
 
 -- a list told by `h`, and a test of what is told

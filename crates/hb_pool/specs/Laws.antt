@@ -2,7 +2,7 @@
 use Rattle.std.specs.Prelude.{◌≡◌, ◌≢◌, ℕ, ◌+◌, ◌<◌, ◌≤◌, Bool, cond, IsTrue, Some, None, option_map, List, [], ◌∷◌, ◌++◌, length, map, find}
 use Rattle.hb_pool.specs.declared.pools.TheConstants.{FRAMES}
 use Rattle.hb_pool.specs.Frames.{Frame, Use, must_stay, fresh, use_of}
-use Rattle.hb_pool.specs.Pools.{IsPool, frame_of, places, brought, in_place, put_last}
+use Rattle.hb_pool.specs.Pools.{IsPool, frame_of, places, brought}
 
 -- a page that is dirty or pinned stays when another one comes in, whatever comes in
 abbrev pub MarkedPagesStay : Type 0 → Type 0
