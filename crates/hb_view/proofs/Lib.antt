@@ -9,3 +9,4 @@ pub mod Passing
 pub mod Risen
 pub mod Limited
 pub mod Cornered
+pub mod LookedFor
