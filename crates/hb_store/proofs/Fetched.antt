@@ -237,3 +237,15 @@ read_keeps once d e disk st new uses id bytes tied none at stays fetched there g
     keeps_fetched e st new durable later id fetched
     (λ page is. is_the_page once d st durable later id page disk k at.0 at.1 (clean_outside st uses id tied none) (spelled_there d.told bytes (place_bytes st.meta id) page (spells_value st.meta bytes page good (sym there ∙ is)) read))
     (keeps_read d e st durable later stays k)
+
+-- no page of a sound file that isn't in memory stops a fetch but for a fault, or want of a place
+pub sound_stops : {X : Type 0} (r : Result X FetchStop) → SpelledOnce → (d : DiskModel) (st : StoreState) (uses : List Use) (durable : FileState) (later : List FileState) (id : ℕ) → IsDisk d → StoreKeeps d st durable later → 1 ≤ id → id ≤ st.meta.high
+    → IsTied st uses → in_memory st id ≡ None → IfErr r (HoldsNot st.meta (option_map (place_bytes st.meta id) d.told) id) → IsSound (last_of durable later)
+    → IfErr r (λ stop. (stop ≢ fetches.ReadFault) → (stop ≢ fetches.Crowded) → IsNoPage st.meta id)
+sound_stops (Ok x) once d st uses durable later id disk k some high tied none why sound = tt
+sound_stops (Err stop) once d st uses durable later id disk k some high tied none why sound = λ fault crowded. absurd (sound_stop once d st durable later id stop disk k some high (clean_outside st uses id tied none) why sound fault crowded)
+
+-- where a look-up gave nothing the page isn't in memory
+pub none_so : {X : Type 0} (r m : Option X) → is_some r ≡ false → r ≡ m → m ≡ None
+none_so None m none is = sym is
+none_so (Some x) m none is = absurd cc

@@ -19,7 +19,6 @@ use crate::store::Store;
 use hb_disk::Device;
 use hb_layout::page_offset;
 use hb_ops::Meta;
-use hb_page_codec::laws::spelling_law;
 use hb_space::form::PAGE;
 use hb_view::PageView;
 
@@ -70,7 +69,6 @@ impl<D: Device> Store<D> {
         ensures placed { IsErrOf result Crowded → ⊥ }
         ensures looks { LooksUp (IsErrOf result ReadFault) (D.model self.old.disk) (D.model self.new.disk) (seen_as self.old) (seen_as self.new) }
     {
-        spelling_law();
         let mut bytes = [0; PAGE];
         let place = page_offset(self.memory.meta(), id);
         match self.disk.read(place, &mut bytes) {

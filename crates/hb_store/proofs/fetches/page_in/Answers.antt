@@ -4,7 +4,7 @@ use Rattle.hb_store.proofs.Checked.{breaks_holds, can_be_written, good_read, no_
 use Rattle.hb_store.proofs.fetches.page_in.Goals as goal
 
 pub good_page-requires : goal.good_page-requires
-good_page-requires c = can_be_written c.args.bytes.now c.in-Some.view (λ i. omega (arith, c.type_inv.bytes i)) c.in-Some.ensures
+good_page-requires c = record { spelled = can_be_written c.args.bytes.now c.in-Some.view (λ i. omega (arith, c.type_inv.bytes i)) c.in-Some.ensures }
 
 pub returns-in-Some-clause-good : goal.returns-in-Some-clause-good
 returns-in-Some-clause-good c = on_ok_weaker c.good_page.result _ _ (good_read c.args.meta.now c.args.bytes.now c.in-Some.view (λ i. omega (arith, c.type_inv.bytes i)) c.in-Some.ensures) c.good_page.ensures.good
