@@ -16,7 +16,7 @@ abbrev pub Use : Type 0
 Use = Frame (Unit {0})
 
 abbrev pub use_of : {B : Type 0} → Frame B → Use
-use_of f = record { id = f.id; bytes = unit; dirty = f.dirty; pins = f.pins }
+use_of f = record { id = f.id; bytes = tt {0}; dirty = f.dirty; pins = f.pins }
 
 -- it is the page of that number
 abbrev pub has_id : {B : Type 0} → ℕ → Frame B → Bool

@@ -47,7 +47,7 @@ CountsPlacesWithAnother B = (pool : List (Frame B)) (id : ℕ) (bytes : B) (dirt
 
 -- The order of use is told without the pages' bytes: each call does to it what it does to the frames.
 abbrev pub OrderOfBrought : Type 0 → Type 0
-OrderOfBrought B = (pool : List (Frame B)) (id : ℕ) (bytes : B) (dirty : Bool) → map use_of (brought id bytes dirty pool) ≡ brought id unit dirty (map use_of pool)
+OrderOfBrought B = (pool : List (Frame B)) (id : ℕ) (bytes : B) (dirty : Bool) → map use_of (brought id bytes dirty pool) ≡ brought id (tt {0}) dirty (map use_of pool)
 
 abbrev pub OrderOfChanged : {B : Type 0} → FrameCall B → FrameCall (Unit {0}) → Type 0
 OrderOfChanged {B} call told = (pool : List (Frame B)) (id : ℕ) (change : Frame B → Frame B) (same : Use → Use) → ((f : Frame B) → use_of (change f) ≡ same (use_of f)) → map use_of (call id change pool) ≡ told id same (map use_of pool)
