@@ -19,3 +19,5 @@ pub mod OneFile
 pub mod OneKept
 pub mod Replays
 pub mod Touches
+pub mod HomeWrites
+pub mod WrittenHome
