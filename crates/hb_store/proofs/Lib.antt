@@ -21,3 +21,4 @@ pub mod Replays
 pub mod Touches
 pub mod HomeWrites
 pub mod WrittenHome
+pub mod Flushes
