@@ -6,6 +6,14 @@ mod AfterForce
 mod Written
 mod Setting
 mod Held
+mod Framed
+mod Filled
+mod Room
+mod Remembered
+mod Called
+mod Holding
+mod Committing
+mod Checked
 mod Grouped
 mod InLog
 mod Committed

@@ -52,7 +52,7 @@ pub record Fetched (id : ℕ) (old new : StoreState) : Type 0 where
 
 -- The order of use then: a page that came is last, and where no frame was empty, the first one went that was clean and not pinned.
 abbrev pub use_fetched : ℕ → List Use → List Use
-use_fetched id uses = if is_some (frame_of uses id) then uses else brought id unit false uses
+use_fetched id uses = if is_some (frame_of uses id) then uses else brought id (tt {0}) false uses
 
 -- A commit: the changed pages are in memory, they and those that were read are in this turn's log, and one group
 -- more waits, with its mark.
@@ -80,7 +80,7 @@ pub record Commits (op : Op) (mark : ℕ) (old new : StoreState) : Type 0 where
 -- frame came as in a fetch.
 abbrev pub use_changed : List ℕ → List Use → List Use
 use_changed [] uses = uses
-use_changed (id ∷ rest) uses = use_changed rest (if is_some (frame_of uses id) then put_last id (filled unit) uses else brought id unit true uses)
+use_changed (id ∷ rest) uses = use_changed rest (if is_some (frame_of uses id) then put_last id (filled (tt {0})) uses else brought id (tt {0}) true uses)
 
 -- the numbers of the pages that an operation changes
 abbrev pub numbers_changed : StoreState → Op → List ℕ

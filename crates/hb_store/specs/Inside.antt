@@ -1,11 +1,15 @@
 -- How what a store has in memory is held: pages as bytes in frames, and the numbers of those in the log in a hash set.
-use Rattle.std.specs.Prelude.{ℕ, Bool, List, map, filter}
+use Rattle.std.specs.Prelude.{ℕ, Bool, List, Option, IfSome, map, filter}
 use Rattle.std.specs.FinMap as finite
 use Rattle.std.specs.FinSet as set
+use Rattle.std.specs.Option.{option_map}
 use Rattle.hb_frag.specs.declared.pages.Page.{Page}
+use Rattle.hb_frag.specs.Grammar.{SpellsPage}
 use Rattle.hb_pool.specs.Frames.{Frame, use_of}
+use Rattle.hb_pool.specs.Pools.{IsPool, frame_of}
 use Rattle.hb_view.specs.Spelled.{page_spelled}
 use Rattle.hb_store.specs.Held.{StoreHeld}
+use Rattle.hb_store.specs.States.{IsMemory}
 use Rattle.hb_store.specs.declared.memory.Memory.TheInside.{Inside}
 
 -- the pages that frames have, by their numbers, and the numbers of those that are dirty
@@ -28,3 +32,13 @@ memory_seen m = record {
   };
   uses = map use_of m.pool;
 }
+
+-- each frame's bytes spell a page
+abbrev pub AreSpelled : List (Frame (List ℕ)) → Type 0
+AreSpelled pool = (id : ℕ) → IfSome (frame_of pool id) (λ (f : Frame (List ℕ)). SpellsPage f.bytes (page_spelled f.bytes))
+
+-- what is so of each store in memory
+pub record KeepsMemory (m : Inside) : Type 0 where
+  pub memory : IsMemory (memory_seen m).state
+  pub pool : IsPool m.pool
+  pub spelled : AreSpelled m.pool

@@ -7,6 +7,7 @@ pub mod Parts
 pub mod Keeps
 pub mod Seen
 pub mod Calls
+pub mod Filling
 pub mod Forced
 pub mod WritingHome
 pub mod Making
