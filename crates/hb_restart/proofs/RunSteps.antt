@@ -1,5 +1,5 @@
 -- What follows of runs of calls: of their images, and once they succeeded.
-use Rattle.std.proofs.Common.{◌≡◌, List, Result, Ok, Err, OnOk, refl}
+use Rattle.std.proofs.Common.{◌≡◌, ℕ, List, Result, Ok, Err, OnOk, refl}
 use Rattle.hb_disk.specs.Model.{DiskModel, IsDisk}
 use Rattle.hb_disk.specs.Calls.{Leaves}
 

@@ -76,8 +76,7 @@ is_to_write d old id at meta is tied meta_is here room may idle oldest = record 
 pub oldest_number : (old : StoreHeld) (id : ℕ) → IsMemory old.state → IsTied old.state old.uses → oldest_dirty old.uses ≡ Some id → 1 ≤ id
 oldest_number old id is tied oldest = (is.in_file id (is.logged id (oldest_is_dirty old.state old.uses tied id oldest))).0
 
--- The bytes of the page.
-module _ (d : DiskModel) (old : StoreHeld) (id at : ℕ) (to_write : IsToWrite d old id at) (bytes : List ℕ) (page : Page) (spells : SpellsPage bytes page) where
+module _ (d : DiskModel) (old : StoreHeld) (id at : ℕ) (to_write : IsToWrite d old id at) where
   file_page : (1 ≤ id) × (id ≤ old.state.meta.high)
   file_page = to_write.memory.in_file id (to_write.memory.logged id to_write.dirty)
 
@@ -85,8 +84,8 @@ module _ (d : DiskModel) (old : StoreHeld) (id at : ℕ) (to_write : IsToWrite d
   most = omega (arith, file_page.1, to_write.memory.stands.high)
 
   -- the place lies within the disk
-  pub place_fits : at + length bytes ≤ d.size
-  place_fits = omega (arith, to_write.here, spells.long, file_page.0, most, to_write.room)
+  pub place_fits : (bytes : List ℕ) (page : Page) → SpellsPage bytes page → at + length bytes ≤ d.size
+  place_fits bytes page spells = omega (arith, to_write.here, spells.long, file_page.0, most, to_write.room)
 
 module _ (d e : DiskModel) (is_disk : IsDisk d) (is_new : IsDisk e) (old : StoreHeld) (id at : ℕ) (to_write : IsToWrite d old id at) (bytes : List ℕ) (page : Page)
     (has : in_memory old.state id ≡ Some page) (spells : SpellsPage bytes page) where
@@ -131,8 +130,8 @@ module _ (d e : DiskModel) (is_disk : IsDisk d) (is_new : IsDisk e) (old : Store
             let layout = keeps.memory.layout in
             keeps_home d e old.state to_write.memory to_write.going to_write.idle id to_write.dirty durable keeps run.became page has
             (page_written d e is_disk at bytes keeps.parts.said id page (to_write.here ∙ ap (λ (n : ℕ). 8192 + 2 * n + 4096 * (id - 1)) layout.log) spells
-            (omega (arith, to_write.room, layout.log, layout.pages)) (file_page d old id at to_write bytes page spells).0
-            (omega (arith, most d old id at to_write bytes page spells, layout.pages)) writes.silent writes.written));
+            (omega (arith, to_write.room, layout.log, layout.pages)) (file_page d old id at to_write).0
+            (omega (arith, most d old id at to_write, layout.pages)) writes.silent writes.written));
         moments = moments_home r writes;
         wrote = Rewrites-as r (Ok x) (Torn (page_offset old.state.meta id) PAGE) 1 1 d e (λ h. h) (λ h. h) (omega arith) run;
         clock = λ told. ok_tick r y d e refl is_disk told writes.ticks;
