@@ -1,21 +1,27 @@
 -- What an operation makes of a store, from what was put into frames and added to numbers.
-use Rattle.std.proofs.Common.{◌≡◌, ℕ, Bool, false, List, [], ◌∷◌, ◌++◌, map, Option, IsTrue, refl, sym, subst, ap, ◌∙◌}
+use Rattle.std.proofs.Common.{◌≡◌, ℕ, Bool, false, List, [], ◌∷◌, ◌++◌, get_or, map, All, Option, IsTrue, refl, sym, subst, ap, ◌∙◌}
 use Rattle.std.specs.Prelude.{◌||◌, nat_eq}
 use Rattle.std.specs.HashSet as bag
 use Rattle.hb_frag.specs.declared.pages.Page.{Page}
 use Rattle.hb_layout.specs.declared.meta.Meta.{Meta}
 use Rattle.hb_ops.specs.declared.operations.Op.{Op}
-use Rattle.hb_ops.specs.Operations.{Change, reads_of}
+use Rattle.hb_log_codec.specs.Groups.{FitsGroup}
+use Rattle.hb_ops.specs.Operations.{BoxesMatch, Change, reads_of}
 use Rattle.hb_pool.specs.Frames.{Frame, Use, use_of}
 use Rattle.hb_pool.specs.Pools.{IsPool, frame_of}
 use Rattle.hb_wal.specs.Log.{LogState}
-use Rattle.hb_store.specs.Calls.{Commits, NoneComes, StaysHere, change_here, numbers_changed, use_changed}
+use Rattle.hb_store.specs.Calls.{Commits, IsAllowedHere, NoneComes, StaysHere, read_here, change_here, numbers_changed, use_changed}
 use Rattle.hb_store.specs.Filling.{PutsAll}
 use Rattle.hb_store.specs.Held.{StoreHeld}
 use Rattle.hb_store.specs.Replay.{has_page, is_among}
-use Rattle.hb_store.specs.States.{StoreState, in_memory, is_dirty, is_in_log}
+use Rattle.hb_frag.specs.Grammar.{HasSpelling}
+use Rattle.hb_store.specs.Replaying.{IsPageOf}
+use Rattle.hb_store.specs.States.{IsGoodPage, IsMemory, StoreState, in_memory, is_dirty, is_in_log}
+use Rattle.hb_store.specs.Making.{MakesGoodPages, MakesWell, group_here}
 use Rattle.hb_store.proofs.Committed.{commits_here}
+use Rattle.hb_store.proofs.Facts.Changed.{changes_well}
 use Rattle.hb_store.proofs.Framed.{held_of, mark_seen, page_seen}
+use Rattle.hb_store.proofs.Grouped.{good_spelled}
 use Rattle.hb_store.proofs.Held.{set_seen}
 use Rattle.hb_store.proofs.Remembered.{none_comes, put_made, put_marks, seen, stays_same}
 
@@ -49,3 +55,11 @@ module _ {S : Type 0} (turn : ℕ) (meta : Meta) (log : LogState) (s : bag.HashS
       page_seen new_pool q
       ∙ stays_same pool new_pool q (puts.others q not_put) (subst (λ (h : StoreHeld). StaysHere h.uses q) (sym view) stays)
       ∙ sym (page_seen pool q) ∙ ap (λ (h : StoreHeld). in_memory h.state q) view
+
+-- good pages can be written
+pub spelled_pages : (meta : Meta) (pages : List (ℕ × Page)) → All (λ (c : ℕ × Page). IsPageOf meta c.0 × IsGoodPage meta c.1) pages → All (λ (c : ℕ × Page). HasSpelling c.1) pages
+spelled_pages meta pages good i d lt = good_spelled meta (get_or pages i d).1 (good i d lt).1
+
+-- what an operation makes is well made
+pub made_well : MakesGoodPages → (st : StoreState) → IsMemory st → (op : Op) → FitsGroup st.meta.k (group_here st op) → IsAllowedHere st op → BoxesMatch op (read_here st op 0) (read_here st op 1) (read_here st op 2) → MakesWell op st
+made_well makes st is op fits allowed boxes = record { memory = is; change = changes_well makes st is op fits.op allowed boxes; group = fits }

@@ -1,6 +1,6 @@
 -- A page that a fetch brings into memory is the file's.
 use Rattle.std.proofs.Common.{◌≡◌, ◌≢◌, inl, inr, ℕ, ◌+◌, ◌-◌, ◌*◌, ◌≤◌, ◌++◌, true, false, cond, eqb, List, length, take, drop, Option, Some, None, Result, Ok, Err, refl, sym, ap, subst, ◌∙◌, arith}
-use Rattle.std.specs.Prelude.{replicate, IfErr, IfSome, IsSome}
+use Rattle.std.specs.Prelude.{replicate, IfErr, IfSome, IsSome, IsSomeAnd}
 use Rattle.std.specs.Option.{is_some, option_map, option_map_or}
 use Rattle.std.proofs.lemmas.Bool.{cases_eq, eqb-true, eq-eqb, ne_eqb}
 use Rattle.hb_space.specs.declared.form.TheConstants.{PAGE}
@@ -18,8 +18,10 @@ use Rattle.hb_wal.specs.Frames.{frames, range}
 use Rattle.hb_page_codec.proofs.Facts.PageLaws.{SpelledOnce}
 use Rattle.hb_layout.specs.Offsets.{page_offset}
 use Rattle.hb_store.specs.Opening.{place_bytes}
-use Rattle.hb_store.specs.States.{IsMemory, StoreState, in_memory, is_dirty}
+use Rattle.hb_store.specs.States.{IsGoodPage, IsMemory, StoreState, in_memory, is_dirty}
 use Rattle.hb_store.specs.Held.{IsTied}
+use Rattle.hb_store.specs.Replaying.{IsPageOf}
+use Rattle.hb_page_codec.specs.ReadingPages.{page_of_bytes}
 use Rattle.hb_pool.specs.Frames.{Use}
 use Rattle.hb_pool.specs.Pools.{frame_of}
 use Rattle.hb_store.specs.Keeps.{StoreKeeps, last_of}
@@ -222,3 +224,16 @@ none_there st id is some none =
       | inl zero ↦ omega (arith, zero, range.0)
       | inr above ↦ omega (arith, above, range.1)
     ]
+
+-- ---- a page that was read and held is the file's
+
+spells_value : (meta : Meta) (bytes : List ℕ) (page : Page) → IsSomeAnd (page_of_bytes bytes) (λ page. SpellsPage bytes page × IsGoodPage meta page) → page_of_bytes bytes ≡ Some page → SpellsPage bytes page
+spells_value meta bytes page good read = let Q : Option Page → Type 0 = λ o. IsSomeAnd o (λ page. SpellsPage bytes page × IsGoodPage meta page) in (subst Q read good).0
+
+pub read_keeps : SpelledOnce → (d e : DiskModel) → IsDisk d → (st new : StoreState) (uses : List Use) (id : ℕ) (bytes : List ℕ) → IsTied st uses → in_memory st id ≡ None → IsPageOf st.meta id → Stays d e → Fetched id st new
+    → in_memory new id ≡ page_of_bytes bytes → IsSomeAnd (page_of_bytes bytes) (λ page. SpellsPage bytes page × IsGoodPage st.meta page) → IfSome d.told (λ b. bytes ≡ place_bytes st.meta id b)
+    → (durable : FileState) (later : List FileState) → StoreKeeps d st durable later → StoreKeeps e new durable later
+read_keeps once d e disk st new uses id bytes tied none at stays fetched there good read durable later k =
+    keeps_fetched e st new durable later id fetched
+    (λ page is. is_the_page once d st durable later id page disk k at.0 at.1 (clean_outside st uses id tied none) (spelled_there d.told bytes (place_bytes st.meta id) page (spells_value st.meta bytes page good (sym there ∙ is)) read))
+    (keeps_read d e st durable later stays k)

@@ -1,5 +1,5 @@
 -- What a page that comes in, or is put into its frame, leaves of the frames.
-use Rattle.std.proofs.Common.{◌≡◌, ◌≢◌, ◌⊎◌, inl, inr, ℕ, ◌+◌, ◌<◌, ◌≤◌, ◌==◌, nat_lt, Bool, true, false, cond, not, List, [], ◌∷◌, ◌++◌, map, All, Option, Some, None, IsTrue, IsSome, refl, sym, ap, subst, ◌∙◌, arith, ne_eqb}
+use Rattle.std.proofs.Common.{◌≡◌, ◌≢◌, ◌⊎◌, inl, inr, ℕ, ◌+◌, ◌<◌, ◌≤◌, ◌==◌, nat_lt, Bool, true, false, cond, not, List, [], ◌∷◌, ◌++◌, length, map, All, Option, Some, None, IsTrue, IsSome, refl, sym, ap, subst, ◌∙◌, arith, ne_eqb}
 use Rattle.std.specs.Prelude.{◌||◌, ◌&&◌, IfSome, IsSomeAnd, filter}
 use Rattle.std.specs.Option.{is_some, option_map}
 use Rattle.std.specs.Set.{remove_key}
@@ -140,7 +140,7 @@ module _ (pool : List (Frame (List ℕ))) (id : ℕ) (bytes : List ℕ) (page : 
 pub puts_none : (pool : List (Frame (List ℕ))) → IsPool pool → PutsAll [] pool pool
 puts_none pool is = record { made = λ q before on. cc on; others = λ q off. inl refl; uses = refl; pool = is }
 
-has_push : (q : ℕ) (done : List (ℕ × Page)) (one : ℕ × Page) → has_page q (done ++ one ∷ []) ≡ (has_page q done || (q == one.0))
+pub has_push : (q : ℕ) (done : List (ℕ × Page)) (one : ℕ × Page) → has_page q (done ++ one ∷ []) ≡ (has_page q done || (q == one.0))
 has_push q [] one = or-false (q == one.0)
 has_push q (x ∷ xs) one = ap (λ (b : Bool). (q == x.0) || b) (has_push q xs one) ∙ sym (or_assoc (q == x.0) (has_page q xs) (q == one.0))
 

@@ -13,6 +13,7 @@ mod Remembered
 mod Called
 mod Holding
 mod Committing
+mod Putting
 mod Checked
 mod Grouped
 mod InLog

@@ -15,14 +15,19 @@ use Rattle.hb_frag.specs.declared.paths.Side.{Side}
 use Rattle.hb_ops.specs.declared.leaf_cuts.LeafCut.{LeafCut}
 use Rattle.hb_frag.specs.Paths.{part_at}
 use Rattle.hb_frag.specs.Trees.{Tree}
-use Rattle.hb_ops.specs.Extracting.{split_pages}
+use Rattle.hb_frag.specs.declared.pages.Page.TheVariants.{Free, Live}
+use Rattle.hb_ops.specs.Allocating.{new_root}
+use Rattle.hb_ops.specs.Extracting.{fresh_page, source_page, split_pages}
+use Rattle.hb_ops.specs.Merging.{kept_page, parent_page}
+use Rattle.hb_ops.specs.Posting.{post_page}
+use Rattle.hb_ops.specs.Recording.{del_page, put_page}
 use Rattle.hb_ops.specs.Operations.{change_of, reads_of}
 use Rattle.hb_pool.specs.Frames.{Frame, Use, filled, fresh, must_stay, use_of}
 use Rattle.hb_pool.specs.Pools.{IsPool, brought, frame_of, places, put_last}
 use Rattle.hb_pool.proofs.Others.{came_in, last_changed, last_no_other, marked_pages_stay}
 use Rattle.hb_pool.proofs.Pooled.{last_counts}
 use Rattle.hb_pool.proofs.Told.{frames_told}
-use Rattle.hb_store.specs.Calls.{HasPlaceFor, StaysHere, change_here, use_changed}
+use Rattle.hb_store.specs.Calls.{HasPlaceFor, StaysHere, change_here, read_here, use_changed}
 use Rattle.hb_store.specs.Filling.{HasRoom, HaveRoom}
 use Rattle.hb_store.specs.Held.{IsTied}
 use Rattle.hb_store.specs.Replay.{has_page, is_among}
@@ -108,7 +113,7 @@ have_first pool one rest have none =
 
 -- ---- the pages that an operation changes: those that it reads, and one more
 
-fresh_of : Op → ℕ
+abbrev fresh_of : Op → ℕ
 fresh_of (Extract source fresh path cuts free_after) = fresh
 fresh_of (Grow fresh free_after) = fresh
 fresh_of (Put page rec) = 0
@@ -129,26 +134,31 @@ split_known : (source fresh : ℕ) (path : List Side) (cuts : List LeafCut) (fre
 split_known source fresh path cuts free_after page None = All-nil (IsKnown (Extract source fresh path cuts free_after))
 split_known source fresh path cuts free_after page (Some part) =
     let K = IsKnown (Extract source fresh path cuts free_after) in
-    All-cons K _ _ (inl (itself source [])) (All-cons K _ [] (inr refl) (All-nil K))
+    let first : ℕ × Page = (source, Live (source_page fresh path cuts page part)) in
+    let second : ℕ × Page = (fresh, Live (fresh_page cuts page part)) in
+    All-cons K first (second ∷ []) (inl (itself source [])) (All-cons K second [] (inr refl) (All-nil K))
 
-made_known : (op : Op) (meta : Meta) (first second third : Option LivePage) → All (IsKnown op) (change_of op meta first second third).pages
-made_known (Put id rec) meta None second third = All-nil (IsKnown (Put id rec))
-made_known (Put id rec) meta (Some page) second third = alone (Put id rec) _ (inl (itself id []))
-made_known (Del id point) meta None second third = All-nil (IsKnown (Del id point))
-made_known (Del id point) meta (Some page) second third = alone (Del id point) _ (inl (itself id []))
-made_known (Extract source fresh path cuts free_after) meta None second third = All-nil (IsKnown (Extract source fresh path cuts free_after))
-made_known (Extract source fresh path cuts free_after) meta (Some page) second third = split_known source fresh path cuts free_after page (part_at path page.frag page.area)
-made_known (Post parent at inner area) meta None second third = All-nil (IsKnown (Post parent at inner area))
-made_known (Post parent at inner area) meta (Some page) second third = alone (Post parent at inner area) _ (inl (itself parent []))
-made_known (Merge parent keep gone) meta None second third = All-nil (IsKnown (Merge parent keep gone))
-made_known (Merge parent keep gone) meta (Some above) None third = All-nil (IsKnown (Merge parent keep gone))
-made_known (Merge parent keep gone) meta (Some above) (Some kept) None = All-nil (IsKnown (Merge parent keep gone))
-made_known (Merge parent keep gone) meta (Some above) (Some kept) (Some going) =
+merge_known : (parent keep gone : ℕ) (a b c : Page) → All (IsKnown (Merge parent keep gone)) ((parent, a) ∷ (keep, b) ∷ (gone, c) ∷ [])
+merge_known parent keep gone a b c =
     let K = IsKnown (Merge parent keep gone) in
     let second : IsTrue (is_among keep (parent ∷ keep ∷ gone ∷ [])) = or_right (keep == parent) (is_among keep (keep ∷ gone ∷ [])) (itself keep (gone ∷ [])) in
     let third : IsTrue (is_among gone (parent ∷ keep ∷ gone ∷ [])) = or_right (gone == parent) (is_among gone (keep ∷ gone ∷ [])) (or_right (gone == keep) (is_among gone (gone ∷ [])) (itself gone [])) in
-    All-cons K _ _ (inl (itself parent (keep ∷ gone ∷ []))) (All-cons K _ _ (inl second) (All-cons K _ [] (inl third) (All-nil K)))
-made_known (Grow fresh free_after) meta first second third = alone (Grow fresh free_after) _ (inr refl)
+    All-cons K (parent, a) ((keep, b) ∷ (gone, c) ∷ []) (inl (itself parent (keep ∷ gone ∷ []))) (All-cons K (keep, b) ((gone, c) ∷ []) (inl second) (All-cons K (gone, c) [] (inl third) (All-nil K)))
+
+made_known : (op : Op) (meta : Meta) (first second third : Option LivePage) → All (IsKnown op) (change_of op meta first second third).pages
+made_known (Put id rec) meta None second third = All-nil (IsKnown (Put id rec))
+made_known (Put id rec) meta (Some page) second third = alone (Put id rec) (id, Live (put_page rec page)) (inl (itself id []))
+made_known (Del id point) meta None second third = All-nil (IsKnown (Del id point))
+made_known (Del id point) meta (Some page) second third = alone (Del id point) (id, Live (del_page point page)) (inl (itself id []))
+made_known (Extract source fresh path cuts free_after) meta None second third = All-nil (IsKnown (Extract source fresh path cuts free_after))
+made_known (Extract source fresh path cuts free_after) meta (Some page) second third = split_known source fresh path cuts free_after page (part_at path page.frag page.area)
+made_known (Post parent at inner area) meta None second third = All-nil (IsKnown (Post parent at inner area))
+made_known (Post parent at inner area) meta (Some page) second third = alone (Post parent at inner area) (parent, Live (post_page at inner area page)) (inl (itself parent []))
+made_known (Merge parent keep gone) meta None second third = All-nil (IsKnown (Merge parent keep gone))
+made_known (Merge parent keep gone) meta (Some above) None third = All-nil (IsKnown (Merge parent keep gone))
+made_known (Merge parent keep gone) meta (Some above) (Some kept) None = All-nil (IsKnown (Merge parent keep gone))
+made_known (Merge parent keep gone) meta (Some above) (Some kept) (Some going) = merge_known parent keep gone (Live (parent_page keep gone above)) (Live (kept_page gone kept going)) (Free meta.free)
+made_known (Grow fresh free_after) meta first second third = alone (Grow fresh free_after) (fresh, Live (new_root meta)) (inr refl)
 
 page_at : (pages : List (ℕ × Page)) (k : ℕ) (d : ℕ × Page) → k < length pages → IsTrue (has_page (get_or pages k d).0 pages)
 page_at [] k d lt = absurd (omega (arith, lt))
@@ -160,7 +170,7 @@ pub have_room : (op : Op) (st : StoreState) (uses : List Use) → IsTied st uses
 have_room op st uses tied place =
     (fresh_of op, λ k d lt.
     let c = get_or (change_here st op).pages k d in
-    by c (page_at (change_here st op).pages k d lt) (made_known op st.meta _ _ _ k d lt))
+    by c (page_at (change_here st op).pages k d lt) (made_known op st.meta (read_here st op 0) (read_here st op 1) (read_here st op 2) k d lt))
   where
     no_page : (o : Option Page) → is_some o ≡ false → o ≡ None
     no_page None e = refl

@@ -48,9 +48,9 @@ pub(crate) fn put_all(pool: &mut Pool, in_log: &mut HashSet<u32>, pages: &[(u32,
     ensures pages { PutsAll pages.now pool.old pool.new }
     ensures in_log { (q : ℕ) → contains nat_eq in_log.new q ≡ (has_page q pages.now || contains nat_eq in_log.old q) }
 {
-    for (id, page) in pages {
-        add(in_log, *id);
-        put(pool, *id, page);
+    for (number, page) in pages {
+        add(in_log, *number);
+        put(pool, *number, page);
     }
 }
 

@@ -7,10 +7,10 @@ use Rattle.hb_store.specs.Replay.{has_page}
 use Rattle.hb_store.proofs.pages.put_all.Given as goal
 
 -- the pages so far were put, and there is a place for each of the others
-abbrev pub invariant-loop-id : goal.invariant-loop-id
-invariant-loop-id l = record {
-  puts : PutsAll (take l.id-index l.pages) l.fn.pool l.pool;
-  room : HaveRoom (map use_of l.pool) (drop l.id-index l.pages);
-  numbers : length l.pages ≤ spare l.in_log + l.id-index;
-  added : (q : ℕ) → contains nat_eq l.in_log q ≡ (has_page q (take l.id-index l.pages) || contains nat_eq l.fn.in_log q);
+abbrev pub invariant-loop-number : goal.invariant-loop-number
+invariant-loop-number l = record {
+  puts : PutsAll (take l.number-index l.pages) l.fn.pool l.pool;
+  room : HaveRoom (map use_of l.pool) (drop l.number-index l.pages);
+  numbers : length l.pages ≤ spare l.in_log + l.number-index;
+  added : (q : ℕ) → contains nat_eq l.in_log q ≡ (has_page q (take l.number-index l.pages) || contains nat_eq l.fn.in_log q);
 }

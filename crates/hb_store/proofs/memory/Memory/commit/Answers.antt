@@ -1,0 +1,86 @@
+use Rattle.std.proofs.Common.{◌≡◌, ℕ, Bool, List, ◌∷◌, [], ◌++◌, All, refl, sym, subst, ap, ◌∙◌}
+use Rattle.std.specs.Prelude.{◌||◌, map, nat_eq}
+use Rattle.std.specs.HashSet.{contains}
+use Rattle.hb_frag.specs.declared.pages.Page.{Page}
+use Rattle.hb_frag.specs.Grammar.{HasSpelling}
+use Rattle.hb_ops.specs.Operations.{Change, reads_of}
+use Rattle.hb_pool.specs.Frames.{Use, use_of}
+use Rattle.hb_wal.specs.Log.{LogState}
+use Rattle.hb_store.specs.Calls.{Commits, change_here}
+use Rattle.hb_store.specs.Filling.{HaveRoom, PutsAll}
+use Rattle.hb_store.specs.Held.{IsTied, StoreHeld}
+use Rattle.hb_store.specs.Inside.{memory_seen}
+use Rattle.hb_store.specs.Making.{MakesWell}
+use Rattle.hb_store.specs.Replay.{has_page, is_among}
+use Rattle.hb_store.specs.States.{IsMemory}
+use Rattle.hb_store.proofs.Committed.{memory_after}
+use Rattle.hb_store.proofs.Committing.{commits_then, made_well, spelled_pages, stays_then}
+use Rattle.hb_store.proofs.Framed.{held_of, tied}
+use Rattle.hb_store.proofs.Remembered.{put_spelled, seen}
+use Rattle.hb_store.proofs.Room.{have_room}
+use Rattle.hb_store.proofs.memory.Memory.commit.Goals as goal
+
+-- the change, as the contracts see it
+abbrev change_made : (c : goal.After-array_drop-changed-2) → Change
+change_made c = record { meta = c.in_ok-changed.changed.meta; pages = c.in_ok-changed.changed.pages.items }
+
+well_made : (c : goal.After-array_drop-changed-2) → MakesWell c.args.op.now c.args.self.now.state
+well_made c =
+    made_well c.what_is_made_can_be_written.ensures.pages c.args.self.now.state (subst (λ (h : StoreHeld). IsMemory h.state) c.self.view_is c.self.invariant.memory) c.args.op.now c.in_ok-group.ensures.fits c.requires.allowed c.requires.boxes
+
+pages_are : (c : goal.After-deref-3) → c.deref-3.result.now ≡ (change_here c.args.self.now.state c.args.op.now).pages
+pages_are c = c.deref-3.ensures.0 ∙ ap (λ (x : Change). x.pages) c.in_ok-changed.ensures.effect
+
+pub put_all-requires-clause-spelled : goal.put_all-requires-clause-spelled
+put_all-requires-clause-spelled c =
+    subst (λ (l : List (ℕ × Page)). All (λ (p : ℕ × Page). HasSpelling p.1) l) (sym (pages_are c)) (spelled_pages (change_here c.args.self.now.state c.args.op.now).meta (change_here c.args.self.now.state c.args.op.now).pages (made_well c.what_is_made_can_be_written.ensures.pages c.args.self.now.state (subst (λ (h : StoreHeld). IsMemory h.state) c.self.view_is c.self.invariant.memory) c.args.op.now c.in_ok-group.ensures.fits c.requires.allowed c.requires.boxes).change.pages)
+
+pub put_all-requires-clause-room : goal.put_all-requires-clause-room
+put_all-requires-clause-room c =
+    let held = c.args.self.now in
+    let m = c.self.inside in
+    let is_tied : IsTied held.state held.uses = subst (λ (h : StoreHeld). IsTied h.state h.uses) c.self.view_is (tied m.pool (memory_seen m).state c.self.invariant.pool refl refl) in
+    let room = have_room c.args.op.now held.state held.uses is_tied c.requires.place in
+    subst (λ (l : List (ℕ × Page)). HaveRoom (map use_of m.pool) l) (sym (pages_are c)) (subst (λ (u : List Use). HaveRoom u (change_here held.state c.args.op.now).pages) (sym (ap (λ (h : StoreHeld). h.uses) c.self.view_is)) room)
+
+puts_here : (c : goal.After-array_drop-changed-2) → PutsAll (change_made c).pages c.self.inside.pool c.put_all.new.pool
+puts_here c = subst (λ (l : List (ℕ × Page)). PutsAll l c.self.inside.pool c.put_all.new.pool) c.deref-3.ensures.0 c.put_all.ensures.pages
+
+numbers_here : (c : goal.After-array_drop-changed-2) (q : ℕ) → contains nat_eq c.put_all.new.in_log q ≡ (has_page q (change_made c).pages || (is_among q (reads_of c.args.op.now) || contains nat_eq c.self.inside.in_log q))
+numbers_here c q =
+    c.put_all.ensures.in_log q
+    ∙ ap (λ (l : List (ℕ × Page)). has_page q l || contains nat_eq c.add_all.new.in_log q) c.deref-3.ensures.0
+    ∙ ap (λ (b : Bool). has_page q (change_made c).pages || b)
+    (c.add_all.ensures.added q
+    ∙ ap (λ (ids : List ℕ). is_among q ids || contains nat_eq c.reserve.new.self q) (c.deref-2.ensures.0 ∙ c.reads.ensures)
+    ∙ ap (λ (b : Bool). is_among q (reads_of c.args.op.now) || b) (c.reserve.ensures.keys.2 q))
+
+log_here : (c : goal.After-array_drop-changed-2) → ◌≡◌ {A = LogState} c.append.new.self (let l = c.args.self.now.state.log in record { area = l.area; len = l.len; written = l.written; groups = l.groups ++ record { bytes = c.deref.result.now; mark = c.args.mark } ∷ [] })
+log_here c = c.append.ensures ∙ ap (λ (h : StoreHeld). let l : LogState = record { area = h.state.log.area; len = h.state.log.len; written = h.state.log.written; groups = h.state.log.groups ++ record { bytes = c.deref.result.now; mark = c.args.mark } ∷ [] } in l) c.self.view_is
+
+made : (c : goal.After-array_drop-changed-2) → Commits c.args.op.now c.args.mark c.args.self.now.state (seen c.self.inside.turn c.in_ok-changed.changed.meta c.append.new.self c.put_all.new.in_log c.self.inside.stopped c.put_all.new.pool)
+made c =
+    let m = c.self.inside in
+    commits_then m.turn m.meta m.log m.in_log m.stopped m.pool c.in_ok-changed.changed.meta c.append.new.self c.put_all.new.in_log c.put_all.new.pool c.args.self.now c.self.view_is c.args.op.now c.args.mark (change_made c) c.deref.result.now
+    c.in_ok-changed.ensures.effect refl (puts_here c) c.self.invariant.pool (numbers_here c) (log_here c)
+
+pub invariant_of-self-2 : goal.invariant_of-self-2
+invariant_of-self-2 c =
+    let m = c.self.inside in
+    record {
+      memory = memory_after c.args.self.now.state (seen m.turn c.in_ok-changed.changed.meta c.append.new.self c.put_all.new.in_log m.stopped c.put_all.new.pool) c.args.op.now c.args.mark (well_made c) c.requires.allowed (made c);
+      pool = (puts_here c).pool;
+      spelled = put_spelled (change_made c).pages m.pool c.put_all.new.pool (puts_here c) c.self.invariant.pool c.self.invariant.spelled;
+    }
+
+pub returns-clause-commits : goal.returns-clause-commits
+returns-clause-commits c = made c
+
+pub returns-clause-stays : goal.returns-clause-stays
+returns-clause-stays c =
+    let m = c.self.inside in
+    stays_then m.turn m.meta m.log m.in_log m.stopped m.pool c.in_ok-changed.changed.meta c.append.new.self c.put_all.new.in_log c.put_all.new.pool c.args.self.now c.self.view_is c.args.op.now c.args.mark (change_made c) c.deref.result.now
+    c.in_ok-changed.ensures.effect refl (puts_here c) c.self.invariant.pool (numbers_here c) (log_here c)
+
+pub returns-clause-well : goal.returns-clause-well
+returns-clause-well c = well_made c
