@@ -66,7 +66,7 @@ image_frames d log payloads has b told c image = record {
 }
 
 -- the written frames are no longer than the area
-written_fits : (d : DiskModel) (log : LogState) (payloads : List (List ℕ)) → HasLog d log payloads → (b : List ℕ) → d.told ≡ Some b → log.written ≤ log.len
+pub written_fits : (d : DiskModel) (log : LogState) (payloads : List (List ℕ)) → HasLog d log payloads → (b : List ℕ) → d.told ≡ Some b → log.written ≤ log.len
 written_fits d log payloads has b told =
     let reads : range log.area log.len b ≡ frames payloads ++ replicate (log.len - log.written) 0
     = at_value d.told (λ b. range log.area log.len b ≡ frames payloads ++ replicate (log.len - log.written) 0) b told has.reads in

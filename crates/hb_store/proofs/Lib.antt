@@ -28,3 +28,6 @@ pub mod OneFile
 pub mod OneKept
 pub mod Replays
 pub mod Touches
+pub mod HomeWrites
+pub mod WrittenHome
+pub mod Flushes

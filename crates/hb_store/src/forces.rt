@@ -54,15 +54,16 @@ impl<D: Device> Store<D> {
         ensures says { IfOk result (λ flushed. flushed ≡ Flushed.Written id) }
         ensures writes { WritesHome result id (D.model self.old.disk) (D.model self.new.disk) (held_by self.old) (held_by self.new) }
     {
-        let place = page_offset(self.memory.meta(), id);
-        match self.memory.bytes(id) {
+        let memory = &mut self.memory;
+        let place = page_offset(memory.meta(), id);
+        match memory.bytes(id) {
             Some(bytes) => match self.disk.write(place, bytes) {
                 Ok(()) => {
-                    self.memory.cleaned(id);
+                    memory.cleaned(id);
                     Ok(Flushed::Written(id))
                 }
                 Err(_fault) => {
-                    self.memory.stopped = true;
+                    memory.stopped = true;
                     Err(WriteFault)
                 }
             },
