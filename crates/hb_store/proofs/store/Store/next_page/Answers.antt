@@ -5,8 +5,6 @@ use Rattle.hb_layout.specs.declared.meta.Meta.{Meta}
 use Rattle.hb_ops.specs.Allocating.{Allocates}
 use Rattle.hb_ops.specs.Files.{page_of}
 use Rattle.hb_store.specs.Keeps.{last_of}
-use Rattle.hb_pool.specs.Frames.{Use}
-use Rattle.hb_store.specs.Calls.{use_fetched}
 use Rattle.hb_store.specs.Fetching.{IsCrowdedOut, MayFetch, MayUse}
 use Rattle.hb_store.specs.States.{in_memory}
 use Rattle.hb_store.specs.Seen.{seen_as, uses_of}
