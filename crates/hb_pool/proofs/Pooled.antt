@@ -13,7 +13,7 @@ use Rattle.hb_lemmas.proofs.Options.{some_value}
 use Rattle.hb_space.specs.declared.form.TheConstants.{PAGE}
 use Rattle.hb_pool.specs.declared.pools.TheConstants.{FRAMES}
 use Rattle.hb_pool.specs.Frames.{Frame, has_id, must_stay, may_go, fresh}
-use Rattle.hb_pool.specs.Pools.{frame_of, put_last, in_place, with_room, brought, places, IsPool, HasPages}
+use Rattle.hb_pool.specs.Pools.{frame_of, put_last, in_place, with_room, brought, places, IsPool, HaveWholePages}
 use Rattle.hb_pool.specs.Laws.{StaysPool, StaysPoolWithAnother, CountsPlaces, CountsPlacesWithAnother}
 use Rattle.hb_pool.specs.Kept.{PoolKeeps}
 use Rattle.hb_pool.proofs.Firsts.{first_passes, first_there, first_within, length_without, count_without, length_changed, count_changed, All-changed, some_fails, none_counted, alone_first}
@@ -145,7 +145,7 @@ pub frame_pins : {B : Type 0} (pool : List (Frame B)) (id : ℕ) (f : Frame B) �
 frame_pins {B = B} pool id f old is = subst (λ (h : Frame B). h.pins ≤ 255) (first_there (has_id id) pool f f is) (old.pins (position_or_len (has_id id) pool) f (first_within (has_id id) pool f is))
 
 -- and has the bytes of a page
-pub frame_page : (pool : List (Frame (List ℕ))) (id : ℕ) (f : Frame (List ℕ)) → HasPages pool → frame_of pool id ≡ Some f → length f.bytes ≡ PAGE
+pub frame_page : (pool : List (Frame (List ℕ))) (id : ℕ) (f : Frame (List ℕ)) → HaveWholePages pool → frame_of pool id ≡ Some f → length f.bytes ≡ PAGE
 frame_page pool id f whole is = subst (λ (h : Frame (List ℕ)). length h.bytes ≡ PAGE) (first_there (has_id id) pool f f is) (whole (position_or_len (has_id id) pool) f (first_within (has_id id) pool f is))
 
 -- ---- what is kept
@@ -154,8 +154,8 @@ frame_page pool id f whole is = subst (λ (h : Frame (List ℕ)). length h.bytes
 abbrev IsWhole : Frame (List ℕ) → Type 0
 IsWhole f = length f.bytes ≡ PAGE
 
-left_whole : (pool : List (Frame (List ℕ))) → HasPages pool → HasPages (with_room pool)
-left_whole pool whole = elim (nat_lt (length pool) FRAMES) as (λ b. HasPages (cond b pool (remove_key may_go pool))) [
+left_whole : (pool : List (Frame (List ℕ))) → HaveWholePages pool → HaveWholePages (with_room pool)
+left_whole pool whole = elim (nat_lt (length pool) FRAMES) as (λ b. HaveWholePages (cond b pool (remove_key may_go pool))) [
   | true ↦ whole
   | false ↦ All-remove_key may_go IsWhole pool whole
 ]
@@ -168,7 +168,7 @@ kept_last pool items room taken spare held one id f g old is new same_room count
     let joined : length items ≡ length rest + 1 = ap length new ∙ length-append rest (g ∷ []) in
     record {
       pool = subst IsPool (sym new) (last_pool pool id f g old.pool is same few_pins);
-      pages = subst HasPages (sym new) (All-append IsWhole rest (g ∷ []) (All-remove_key (has_id id) IsWhole pool old.pages) (All-alone IsWhole g whole));
+      pages = subst HaveWholePages (sym new) (All-append IsWhole rest (g ∷ []) (All-remove_key (has_id id) IsWhole pool old.pages) (All-alone IsWhole g whole));
       blocks = let all = old.blocks in omega (arith, long, joined, all);
       taken = same_room ∙ old.taken;
       counted =
@@ -192,7 +192,7 @@ room_to_put pool rest room spare held id f old is left =
 pub kept_changed : (pool items : List (Frame (List ℕ))) (room spare held one : ℕ) (id : ℕ) (change : Frame (List ℕ) → Frame (List ℕ)) (f : Frame (List ℕ)) → PoolKeeps pool room spare held → frame_of pool id ≡ Some f → items ≡ in_place id change pool → one ≡ cond (not (must_stay (change f))) 1 0 → (change f).id ≡ f.id → (change f).pins ≤ 255 → length (change f).bytes ≡ PAGE → must_stay f ≡ true → PoolKeeps items room spare (held - one)
 kept_changed pool items room spare held one id change f old is new counts same few_pins whole stayed = record {
   pool = subst IsPool (sym new) (in_place_pool pool id change f old.pool is same few_pins);
-  pages = subst HasPages (sym new) (All-changed (has_id id) IsWhole change pool f is old.pages whole);
+  pages = subst HaveWholePages (sym new) (All-changed (has_id id) IsWhole change pool f is old.pages whole);
   blocks = let long : length items ≡ length pool = ap length new ∙ length_changed (has_id id) change pool f is in let all = old.blocks in omega (arith, long, all);
   taken = old.taken;
   counted =
@@ -239,7 +239,7 @@ kept_brought pool items room taken spare spared held one id bytes dirty old abse
     let rest = left_over pool old.pool place in
     record {
       pool = subst IsPool (sym new) (brought_pool pool id bytes dirty old.pool absent place);
-      pages = subst HasPages (sym new) (All-append IsWhole left (g ∷ []) (left_whole pool old.pages) (All-alone IsWhole g whole));
+      pages = subst HaveWholePages (sym new) (All-append IsWhole left (g ∷ []) (left_whole pool old.pages) (All-alone IsWhole g whole));
       blocks =
           let long = rest.long in
           let all = old.blocks in

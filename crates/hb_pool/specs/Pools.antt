@@ -46,5 +46,5 @@ pub record IsPool {B : Type 0} (pool : List (Frame B)) : Type 0 where
   pub pins : All (λ f. f.pins ≤ 255) pool
 
 -- each frame has the bytes of a whole page
-abbrev pub HasPages : List (Frame (List ℕ)) → Type 0
-HasPages pool = All (λ f. length f.bytes ≡ PAGE) pool
+abbrev pub HaveWholePages : List (Frame (List ℕ)) → Type 0
+HaveWholePages pool = All (λ f. length f.bytes ≡ PAGE) pool

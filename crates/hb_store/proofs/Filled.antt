@@ -18,14 +18,14 @@ use Rattle.hb_pool.proofs.Pooled.{brought_pool, frame_pins, put_last_pool}
 use Rattle.hb_pool.proofs.Told.{brought_told, frames_told, last_told}
 use Rattle.hb_view.specs.Spelled.{page_spelled}
 use Rattle.hb_store.specs.Calls.{use_changed}
-use Rattle.hb_store.specs.Filling.{HasNew, MayLeave, Puts, PutsAll, numbers_of}
+use Rattle.hb_store.specs.Filling.{HasNew, MayGoOut, PutsInto, PutsAll, numbers_of}
 use Rattle.hb_store.specs.Inside.{AreSpelled, dirty_in}
 use Rattle.hb_store.specs.Replay.{has_page, set_pages}
 use Rattle.hb_store.proofs.Setting.{or_assoc}
 
 -- ---- a frame stays, or leaves
 
-pub staying : (old new : Option (Frame (List ℕ))) (f : Frame (List ℕ)) → MayLeave old new → old ≡ Some f → IsTrue (must_stay f) → new ≡ Some f
+pub staying : (old new : Option (Frame (List ℕ))) (f : Frame (List ℕ)) → MayGoOut old new → old ≡ Some f → IsTrue (must_stay f) → new ≡ Some f
 staying old new f (inl same) is stays = same ∙ is
 staying old new f (inr left) is stays =
     let Q : Option (Frame (List ℕ)) → Type 0 = λ o. IsSomeAnd o (λ (g : Frame (List ℕ)). must_stay g ≡ false) in
@@ -33,7 +33,7 @@ staying old new f (inr left) is stays =
     let never : true ≡ false = sym stays ∙ off in
     cc never
 
-pub left_by_two : (old mid new : Option (Frame (List ℕ))) → MayLeave old mid → MayLeave mid new → MayLeave old new
+pub left_by_two : (old mid new : Option (Frame (List ℕ))) → MayGoOut old mid → MayGoOut mid new → MayGoOut old new
 left_by_two old mid new (inl same) (inl then) = inl (then ∙ same)
 left_by_two old mid new (inl same) (inr left) =
     let Q : Option (Frame (List ℕ)) → Type 0 = λ o. IsSomeAnd o (λ (g : Frame (List ℕ)). must_stay g ≡ false) in
@@ -53,10 +53,10 @@ module _ (pool : List (Frame (List ℕ))) (id : ℕ) (bytes : List ℕ) (dirty :
   pub here : frame_of after id ≡ Some (fresh id bytes dirty)
   here = came_in pool id bytes dirty absent
 
-  pub others : (q : ℕ) → q ≢ id → MayLeave (frame_of pool q) (frame_of after q)
+  pub others : (q : ℕ) → q ≢ id → MayGoOut (frame_of pool q) (frame_of after q)
   others q other = by (frame_of after q) (frame_of pool q) refl refl
     where
-      by : (new old : Option (Frame (List ℕ))) → frame_of after q ≡ new → frame_of pool q ≡ old → MayLeave old new
+      by : (new old : Option (Frame (List ℕ))) → frame_of after q ≡ new → frame_of pool q ≡ old → MayGoOut old new
       by (Some f) old now was = inl (sym (no_other_came pool id q bytes dirty f is other now) ∙ was)
       by None None now was = inl refl
       by None (Some f) now was = inr (
@@ -78,7 +78,7 @@ module _ (pool : List (Frame (List ℕ))) (id : ℕ) (bytes : List ℕ) (dirty :
     | inr other ↦ by q (frame_of pool q) (frame_of after q) (others q other) (each q)
   ]
     where
-      by : (q : ℕ) (old new : Option (Frame (List ℕ))) → MayLeave old new → IfSome old (λ f. SpellsPage f.bytes (page_spelled f.bytes)) → IfSome new (λ f. SpellsPage f.bytes (page_spelled f.bytes))
+      by : (q : ℕ) (old new : Option (Frame (List ℕ))) → MayGoOut old new → IfSome old (λ f. SpellsPage f.bytes (page_spelled f.bytes)) → IfSome new (λ f. SpellsPage f.bytes (page_spelled f.bytes))
       by q old new (inl same) h = let Q : Option (Frame (List ℕ)) → Type 0 = λ o. IfSome o (λ f. SpellsPage f.bytes (page_spelled f.bytes)) in subst Q (sym same) h
       by q old new (inr left) h = let Q : Option (Frame (List ℕ)) → Type 0 = λ o. IfSome o (λ f. SpellsPage f.bytes (page_spelled f.bytes)) in subst Q (sym left.0) tt
 
@@ -114,7 +114,7 @@ dirty_brought pool id bytes =
 
 -- bytes that are other ones keep number and pins
 module _ (pool : List (Frame (List ℕ))) (id : ℕ) (bytes : List ℕ) (page : Page) (is : IsPool pool) (spells : SpellsPage bytes page) where
-  pub puts_there : IsSome (frame_of pool id) → Puts id page pool (put_last id (filled bytes) pool)
+  pub puts_there : IsSome (frame_of pool id) → PutsInto id page pool (put_last id (filled bytes) pool)
   puts_there some =
       let f = some_value (frame_of pool id) some in
       let told : frame_of (map use_of pool) id ≡ Some (use_of f.0) = (frames_told pool).0 id ∙ ap (option_map use_of) f.1 in
@@ -127,7 +127,7 @@ module _ (pool : List (Frame (List ℕ))) (id : ℕ) (bytes : List ℕ) (page : 
         pool = put_last_pool pool id (filled bytes) f.0 is f.1 refl (frame_pins pool id f.0 is f.1);
       }
 
-  pub puts_new : frame_of pool id ≡ None → 0 < places pool → Puts id page pool (brought id bytes true pool)
+  pub puts_new : frame_of pool id ≡ None → 0 < places pool → PutsInto id page pool (brought id bytes true pool)
   puts_new absent place =
       let told : frame_of (map use_of pool) id ≡ None = (frames_told pool).0 id ∙ ap (option_map use_of) absent in
       let Q : Option (Frame (List ℕ)) → Type 0 = λ o. HasNew o page in
@@ -155,7 +155,7 @@ use_push : (ids : List ℕ) (id : ℕ) (uses : List Use) → use_changed (ids ++
 use_push [] id uses = refl
 use_push (x ∷ xs) id uses = use_push xs id (use_changed (x ∷ []) uses)
 
-pub puts_more : (done : List (ℕ × Page)) (one : ℕ × Page) (old mid new : List (Frame (List ℕ))) → PutsAll done old mid → Puts one.0 one.1 mid new → PutsAll (done ++ one ∷ []) old new
+pub puts_more : (done : List (ℕ × Page)) (one : ℕ × Page) (old mid new : List (Frame (List ℕ))) → PutsAll done old mid → PutsInto one.0 one.1 mid new → PutsAll (done ++ one ∷ []) old new
 puts_more done one old mid new all last = record {
   made = λ q before on. elim (cases_Bool (q == one.0)) [
     | inl same ↦
@@ -180,7 +180,7 @@ puts_more done one old mid new all last = record {
     unlike a b off same = let never : true ≡ false = sym (eq-eqb a b same) ∙ off in cc never
 
     -- a page that is dirty stays
-    new_stays : (q : ℕ) (page : Page) → MayLeave (frame_of mid q) (frame_of new q) → HasNew (frame_of mid q) page → HasNew (frame_of new q) page
+    new_stays : (q : ℕ) (page : Page) → MayGoOut (frame_of mid q) (frame_of new q) → HasNew (frame_of mid q) page → HasNew (frame_of new q) page
     new_stays q page leave has = by (frame_of mid q) refl has
       where
         by : (o : Option (Frame (List ℕ))) → frame_of mid q ≡ o → HasNew o page → HasNew (frame_of new q) page

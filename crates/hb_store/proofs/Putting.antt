@@ -6,7 +6,7 @@ use Rattle.hb_frag.specs.declared.pages.Page.{Page}
 use Rattle.hb_pool.specs.Frames.{Frame, Use, use_of}
 use Rattle.hb_pool.specs.Pools.{IsPool, frame_of, places}
 use Rattle.hb_pool.proofs.Told.{frames_told}
-use Rattle.hb_store.specs.Filling.{HaveRoom, Puts, PutsAll}
+use Rattle.hb_store.specs.Filling.{HaveRoom, PutsInto, PutsAll}
 use Rattle.hb_store.specs.Replay.{has_page}
 use Rattle.hb_store.proofs.Filled.{has_push, puts_more}
 use Rattle.hb_store.proofs.Room.{have_first, have_then}
@@ -19,10 +19,10 @@ module _ (pages : List (ℕ × Page)) (i : ℕ) (one d : ℕ × Page) (lt : i < 
   cut : drop i pages ≡ one ∷ drop (i + 1) pages
   cut = let first : drop i pages ≡ get_or pages i d ∷ drop (i + 1) pages = rw (add-one, drop-cons pages i d) refl in first ∙ ap (λ (o : ℕ × Page). o ∷ drop (i + 1) pages) (sym is_one)
 
-  pub puts_next : (old mid new : List (Frame (List ℕ))) → PutsAll (take i pages) old mid → Puts one.0 one.1 mid new → PutsAll (take (i + 1) pages) old new
+  pub puts_next : (old mid new : List (Frame (List ℕ))) → PutsAll (take i pages) old mid → PutsInto one.0 one.1 mid new → PutsAll (take (i + 1) pages) old new
   puts_next old mid new all last = subst (λ (l : List (ℕ × Page)). PutsAll l old new) (sym taken) (puts_more (take i pages) one old mid new all last)
 
-  pub room_next : (mid new : List (Frame (List ℕ))) → IsPool mid → HaveRoom (map use_of mid) (drop i pages) → Puts one.0 one.1 mid new → HaveRoom (map use_of new) (drop (i + 1) pages)
+  pub room_next : (mid new : List (Frame (List ℕ))) → IsPool mid → HaveRoom (map use_of mid) (drop i pages) → PutsInto one.0 one.1 mid new → HaveRoom (map use_of new) (drop (i + 1) pages)
   room_next mid new is room last =
       subst (λ (u : List Use). HaveRoom u (drop (i + 1) pages)) (sym last.uses)
       (have_then (map use_of mid) one (drop (i + 1) pages) ((frames_told mid).3 is) (subst (λ (l : List (ℕ × Page)). HaveRoom (map use_of mid) l) cut room))

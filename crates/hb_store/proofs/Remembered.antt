@@ -17,7 +17,7 @@ use Rattle.hb_pool.specs.Pools.{IsPool, brought, frame_of, places}
 use Rattle.hb_view.specs.Spelled.{page_or, page_spelled}
 use Rattle.hb_store.specs.Calls.{Fetched, NoneComes, StaysHere}
 use Rattle.hb_view.proofs.Decoded.{is_decoded}
-use Rattle.hb_store.specs.Filling.{HasNew, MayLeave, PutsAll, in_frame}
+use Rattle.hb_store.specs.Filling.{HasNew, MayGoOut, PutsAll, in_frame}
 use Rattle.hb_store.specs.Replay.{has_page, set_pages}
 use Rattle.hb_store.specs.Inside.{AreSpelled}
 use Rattle.hb_store.specs.Replaying.{IsPageOf}
@@ -136,23 +136,23 @@ unmarked_left : (o : Option (Frame (List ℕ))) → IsSomeAnd o (λ (f : Frame (
 unmarked_left None h = refl
 unmarked_left (Some f) h = (or_parts f.dirty (not (f.pins == 0)) h).0
 
-page_left : (o n : Option (Frame (List ℕ))) → MayLeave o n → (page_had n ≡ page_had o) ⊎ ((page_had n ≡ None) × (mark_of o ≡ false))
+page_left : (o n : Option (Frame (List ℕ))) → MayGoOut o n → (page_had n ≡ page_had o) ⊎ ((page_had n ≡ None) × (mark_of o ≡ false))
 page_left o n (inl same) = inl (ap page_had same)
 page_left o n (inr left) = inr (ap page_had left.0, unmarked_left o left.1)
 
 -- what may leave leaves the page that was there, or none
-page_after : (o n : Option (Frame (List ℕ))) (page : Page) → MayLeave o n → page_had n ≡ Some page → page_had o ≡ Some page
+page_after : (o n : Option (Frame (List ℕ))) (page : Page) → MayGoOut o n → page_had n ≡ Some page → page_had o ≡ Some page
 page_after o n page leave is = elim (page_left o n leave) [
   | inl same ↦ sym same ∙ is
   | inr left ↦ absurd (not_none (page_had n) page is left.0)
 ]
 
-mark_after : (o n : Option (Frame (List ℕ))) → MayLeave o n → mark_of n ≡ true → mark_of o ≡ true
+mark_after : (o n : Option (Frame (List ℕ))) → MayGoOut o n → mark_of n ≡ true → mark_of o ≡ true
 mark_after o n (inl same) on = ap mark_of (sym same) ∙ on
 mark_after o n (inr left) on = let never : false ≡ true = sym (ap mark_of left.0) ∙ on in cc never
 
 -- no page comes where a frame may leave alone
-pub none_comes : {T : Type 0} (turn : ℕ) (meta other_meta : Meta) (log other_log : LogState) (s t : bag.HashSet ℕ T) (stopped : Bool) (old new : List (Frame (List ℕ))) (q : ℕ) → IsPool old → MayLeave (frame_of old q) (frame_of new q)
+pub none_comes : {T : Type 0} (turn : ℕ) (meta other_meta : Meta) (log other_log : LogState) (s t : bag.HashSet ℕ T) (stopped : Bool) (old new : List (Frame (List ℕ))) (q : ℕ) → IsPool old → MayGoOut (frame_of old q) (frame_of new q)
     → NoneComes (seen turn meta log s stopped old) (seen turn other_meta other_log t stopped new) q
 none_comes turn meta other_meta log other_log s t stopped old new q was leave = elim (page_left (frame_of old q) (frame_of new q) leave) [
   | inl same ↦ inl (page_seen new q ∙ same ∙ sym (page_seen old q))
@@ -160,7 +160,7 @@ none_comes turn meta other_meta log other_log s t stopped old new q was leave = 
 ]
 
 -- and a page that stays is there as it was
-pub stays_same : (old new : List (Frame (List ℕ))) (q : ℕ) → MayLeave (frame_of old q) (frame_of new q) → StaysHere (map use_of old) q → in_frame new q ≡ in_frame old q
+pub stays_same : (old new : List (Frame (List ℕ))) (q : ℕ) → MayGoOut (frame_of old q) (frame_of new q) → StaysHere (map use_of old) q → in_frame new q ≡ in_frame old q
 stays_same old new q leave stays =
     let f = frame_and old q (λ (u : Use). IsTrue (must_stay u)) stays in
     ap page_had (staying (frame_of old q) (frame_of new q) f.0 leave f.1 f.2) ∙ ap page_had (sym f.1)
@@ -234,7 +234,7 @@ module _ (pages : List (ℕ × Page)) (old new : List (Frame (List ℕ))) (puts 
   spelled_new None page h = absurd h
   spelled_new (Some f) page h = subst (λ (p : Page). SpellsPage f.bytes p) (is_decoded f.bytes page h.0) h.0
 
-  spelled_left : (o n : Option (Frame (List ℕ))) → MayLeave o n → IfSome o Spells → IfSome n Spells
+  spelled_left : (o n : Option (Frame (List ℕ))) → MayGoOut o n → IfSome o Spells → IfSome n Spells
   spelled_left o n (inl same) h = let Q : Option (Frame (List ℕ)) → Type 0 = λ p. IfSome p Spells in subst Q (sym same) h
   spelled_left o n (inr left) h = let Q : Option (Frame (List ℕ)) → Type 0 = λ p. IfSome p Spells in subst Q (sym left.0) tt
 

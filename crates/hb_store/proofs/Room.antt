@@ -27,7 +27,7 @@ use Rattle.hb_pool.specs.Pools.{IsPool, brought, frame_of, places, put_last}
 use Rattle.hb_pool.proofs.Others.{came_in, last_changed, last_no_other, marked_pages_stay}
 use Rattle.hb_pool.proofs.Pooled.{last_counts}
 use Rattle.hb_pool.proofs.Told.{frames_told}
-use Rattle.hb_store.specs.Calls.{HasPlaceFor, StaysHere, change_here, read_here, use_changed}
+use Rattle.hb_store.specs.Calls.{HasFrameFor, StaysHere, change_here, read_here, use_changed}
 use Rattle.hb_store.specs.Filling.{HasRoom, HaveRoom}
 use Rattle.hb_store.specs.Held.{IsTied}
 use Rattle.hb_store.specs.Replay.{has_page, is_among}
@@ -166,7 +166,7 @@ page_at (one ∷ rest) zero d lt = or_left (one.0 == one.0) (has_page one.0 rest
 page_at (one ∷ rest) (suc k) d lt = or_right ((get_or rest k d).0 == one.0) (has_page (get_or rest k d).0 rest) (page_at rest k d (omega (arith, lt)))
 
 -- there is a place for each page that an operation changes
-pub have_room : (op : Op) (st : StoreState) (uses : List Use) → IsTied st uses → HasPlaceFor op st uses → HaveRoom uses (change_here st op).pages
+pub have_room : (op : Op) (st : StoreState) (uses : List Use) → IsTied st uses → HasFrameFor op st uses → HaveRoom uses (change_here st op).pages
 have_room op st uses tied place = (
   fresh_of op,
   λ k d lt.

@@ -87,7 +87,7 @@ abbrev pub numbers_changed : StoreState → Op → List ℕ
 numbers_changed st op = map (λ (c : ℕ × Page). c.0) (change_here st op).pages
 
 -- There is a place for a page that an operation makes and that is in no frame; and the pages that it reads stay.
-pub record HasPlaceFor (op : Op) (st : StoreState) (uses : List Use) : Type 0 where
+pub record HasFrameFor (op : Op) (st : StoreState) (uses : List Use) : Type 0 where
   pub reads : (id : ℕ) → IsTrue (is_among id (reads_of op)) → StaysHere uses id
   pub place : (id : ℕ) → IsTrue (has_page id (change_here st op).pages) → in_memory st id ≡ None → 0 < places uses
 

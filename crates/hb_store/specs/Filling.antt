@@ -14,17 +14,17 @@ abbrev pub in_frame : List (Frame (List ℕ)) → ℕ → Option Page
 in_frame pool id = option_map (λ (f : Frame (List ℕ)). page_spelled f.bytes) (frame_of pool id)
 
 -- a page's frame stays as it is, or leaves, where it may
-abbrev pub MayLeave : Option (Frame (List ℕ)) → Option (Frame (List ℕ)) → Type 0
-MayLeave old new = (new ≡ old) ⊎ ((new ≡ None) × IsSomeAnd old (λ (f : Frame (List ℕ)). must_stay f ≡ false))
+abbrev pub MayGoOut : Option (Frame (List ℕ)) → Option (Frame (List ℕ)) → Type 0
+MayGoOut old new = (new ≡ old) ⊎ ((new ≡ None) × IsSomeAnd old (λ (f : Frame (List ℕ)). must_stay f ≡ false))
 
 -- a frame has this page, and is dirty
 abbrev pub HasNew : Option (Frame (List ℕ)) → Page → Type 0
 HasNew frame page = IsSomeAnd frame (λ (f : Frame (List ℕ)). SpellsPage f.bytes page × (f.dirty ≡ true))
 
 -- A page was put under its number.
-pub record Puts (id : ℕ) (page : Page) (old new : List (Frame (List ℕ))) : Type 0 where
+pub record PutsInto (id : ℕ) (page : Page) (old new : List (Frame (List ℕ))) : Type 0 where
   pub there : HasNew (frame_of new id) page
-  pub others : (q : ℕ) → q ≢ id → MayLeave (frame_of old q) (frame_of new q)
+  pub others : (q : ℕ) → q ≢ id → MayGoOut (frame_of old q) (frame_of new q)
   pub uses : map use_of new ≡ use_changed (id ∷ []) (map use_of old)
   pub pool : IsPool new
 
@@ -34,7 +34,7 @@ numbers_of pages = map (λ (c : ℕ × Page). c.0) pages
 -- Pages were put under their numbers, one after the other; of each number the last one is there.
 pub record PutsAll (pages : List (ℕ × Page)) (old new : List (Frame (List ℕ))) : Type 0 where
   pub made : (q : ℕ) (before : ℕ → Option Page) → IsTrue (has_page q pages) → (page : Page) × (set_pages pages before q ≡ Some page) × HasNew (frame_of new q) page
-  pub others : (q : ℕ) → has_page q pages ≡ false → MayLeave (frame_of old q) (frame_of new q)
+  pub others : (q : ℕ) → has_page q pages ≡ false → MayGoOut (frame_of old q) (frame_of new q)
   pub uses : map use_of new ≡ use_changed (numbers_of pages) (map use_of old)
   pub pool : IsPool new
 

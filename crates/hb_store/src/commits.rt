@@ -8,7 +8,7 @@ ghost use Rattle.hb_log_codec.specs.Groups.{FitsGroup, group_bytes};
 ghost use Rattle.hb_store.specs.Keeps.{StoreKeeps, last_of};
 ghost use Rattle.hb_store.specs.Making.{IsDoableHere, MakesWell, group_here};
 ghost use Rattle.hb_store.specs.Seen.{seen_as, uses_of};
-ghost use Rattle.hb_store.specs.Calls.{Commits, HasPlaceFor, IsAllowedHere, IsReady, StaysHere, change_here, numbers_changed, read_here, use_changed, with_op};
+ghost use Rattle.hb_store.specs.Calls.{Commits, HasFrameFor, IsAllowedHere, IsReady, StaysHere, change_here, numbers_changed, read_here, use_changed, with_op};
 ghost use Rattle.hb_store.specs.Replay.{has_page};
 ghost use Rattle.hb_store.specs.States.{in_memory};
 
@@ -33,7 +33,7 @@ impl<D: Device> Store<D> {
         requires points { OpHas (seen_as self.old).meta.k op }
         requires allowed { IsAllowedHere (seen_as self.old) op }
         requires boxes { BoxesMatch op (read_here (seen_as self.old) op 0) (read_here (seen_as self.old) op 1) (read_here (seen_as self.old) op 2) }
-        requires place { HasPlaceFor op (seen_as self.old) (uses_of self.old) }
+        requires place { HasFrameFor op (seen_as self.old) (uses_of self.old) }
         requires licensed { (durable : FileState) (later : List FileState) → StoreKeeps (D.model self.old.disk) (seen_as self.old) durable later →
             IsLicensed (last_of durable later) op }
         requires marks { All (λ g. g.mark ≤ mark) (seen_as self.old).log.groups }
@@ -58,7 +58,7 @@ impl Memory {
         requires points { OpHas self.old.state.meta.k op.now }
         requires allowed { IsAllowedHere self.old.state op.now }
         requires boxes { BoxesMatch op.now (read_here self.old.state op.now 0) (read_here self.old.state op.now 1) (read_here self.old.state op.now 2) }
-        requires place { HasPlaceFor op.now self.old.state self.old.uses }
+        requires place { HasFrameFor op.now self.old.state self.old.uses }
         requires marks { All (λ g. g.mark ≤ mark) self.old.state.log.groups }
         ensures commits { OnOk result (Commits op.now mark self.old.state self.new.state) }
         ensures group { OnOk result (self.new.state.log.groups ≡ self.old.state.log.groups ++ record { bytes = group_bytes (group_here self.old.state op.now); mark = mark } ∷ []) }

@@ -4,7 +4,7 @@ ghost use Rattle.std.specs.HashSet.{contains, spare as spare_of};
 ghost use Rattle.hb_frag.specs.Grammar.{HasSpelling};
 ghost use Rattle.hb_pool.specs.Frames.{use_of};
 ghost use Rattle.hb_pool.specs.Pools.{IsPool, frame_of, places};
-ghost use Rattle.hb_store.specs.Filling.{HaveRoom, Puts, PutsAll};
+ghost use Rattle.hb_store.specs.Filling.{HaveRoom, PutsInto, PutsAll};
 ghost use Rattle.hb_store.specs.Replay.{has_page, is_among};
 
 use hb_frag::Page;
@@ -39,7 +39,7 @@ fn add(in_log: &mut HashSet<u32>, id: u32)
     }
 }
 
-/// Puts changed pages into frames under their numbers, in order, each dirty, and adds the numbers. It takes no memory.
+/// PutsInto changed pages into frames under their numbers, in order, each dirty, and adds the numbers. It takes no memory.
 pub(crate) fn put_all(pool: &mut Pool, in_log: &mut HashSet<u32>, pages: &[(u32, Page)])
     requires pool { IsPool pool.old }
     requires spelled { All (λ c. HasSpelling c.1) pages.now }
@@ -54,12 +54,12 @@ pub(crate) fn put_all(pool: &mut Pool, in_log: &mut HashSet<u32>, pages: &[(u32,
     }
 }
 
-/// Puts a page into its frame, or where it has none into a place that there is. It is dirty. It takes no memory.
+/// PutsInto a page into its frame, or where it has none into a place that there is. It is dirty. It takes no memory.
 fn put(pool: &mut Pool, id: u32, page: &Page)
     requires pool { IsPool pool.old }
     requires spelled { HasSpelling page.now }
     requires place { frame_of pool.old id ≡ None → 0 < places pool.old }
-    ensures { Puts id page.now pool.old pool.new }
+    ensures { PutsInto id page.now pool.old pool.new }
 {
     let mut bytes = [0; PAGE];
     encode(page, &mut bytes);
