@@ -37,11 +37,12 @@ HasAlone m actor id = (mode_at m.latches actor id ≡ Some Exclusive) ⊎ TakesA
 abbrev pub IsInUse : Machine → ℕ → LivePage → Type 0
 IsInUse m id page = in_memory m.store id ≡ Some (Live page)
 
--- A page that need not stay has left memory.
+-- A page that need not stay has left memory; or, over a disk that doesn't tell, it may have come again as another one.
 abbrev pub MayHaveLeft : Machine → ℕ → Machine → Type 0
-MayHaveLeft m id new = (¬ (MustStay m id)) × (in_memory new.store id ≡ None)
+MayHaveLeft m id new = (¬ (MustStay m id)) × ((in_memory new.store id ≡ None) ⊎ (m.files ≡ None))
 
--- A step changes no page in use, and makes none free, but those that its actor has for itself. The page that it makes was in no use.
+-- A step changes no page in use, and makes none free, but those that its actor has for itself. The page that it makes was in no use, or
+-- is one that had left.
 abbrev pub OwnPagesChange : Type 0
 OwnPagesChange = (m : Machine) (actor : ℕ) (outcome : Outcome) (new : Machine) → IsActor actor → LatchesFit m → HoldsPagesOfFile m → StepsTo m actor outcome new →
     (id : ℕ) (page : LivePage) → IsInUse m id page → IsInUse new id page ⊎ MayHaveLeft m id new ⊎ HasAlone m actor id

@@ -21,6 +21,7 @@ pub mod cause_laws;
 mod endings;
 pub mod examples;
 pub mod file_laws;
+pub mod frame_laws;
 mod halts;
 pub mod keeping_laws;
 pub mod laws;

@@ -1,7 +1,7 @@
 -- What a step tells of the log and of a stop: the log's area stays where it is, and as long; and a step that stops a machine says so.
 use Rattle.std.proofs.Common.{◌≡◌, ◌⊎◌, inl, inr, ℕ, List, [], ◌∷◌, Option, Some, None, refl, ap, ◌∙◌}
 use Rattle.hb_activity.specs.Deeds.{Deed}
-use Rattle.hb_core.proofs.Table.StepKinds.{FlushesMore, each_kind, rest_kind}
+use Rattle.hb_core.proofs.Table.StepKinds.{FlushesMore, each_kind, ready_kind}
 use Rattle.hb_core.specs.Acting.{MeetsBadPage}
 use Rattle.hb_core.specs.Forcing.{FailsToWrite, ForcesFirst, StaysSo}
 use Rattle.hb_core.specs.Machines.{Machine}
@@ -55,7 +55,11 @@ module _ (m : Machine) (actor : ℕ) (outcome : Outcome) (new : Machine) where
   forces said (inr badly) = fails badly.1
 
   more : FlushesMore m outcome new → StepTells m outcome new
-  more (none, left, rest) = absurd left
+  more (none, left, inl (due, plain, well)) = record {
+    log = record { area = ap (λ (x : Machine). x.store.log.area) well.leaves; len = ap (λ (x : Machine). x.store.log.len) well.leaves };
+    stop = inl (ap (λ (x : Machine). x.stop) well.leaves);
+  }
+  more (none, left, inr failed) = fails failed
 
   performed : (fetched : StoreState) (deed : Deed) → fetched.log ≡ m.store.log → Performs m fetched actor deed outcome new → StepTells m outcome new
   performed fetched deed log performs = record { log = place_by_op deed.op _ m.store fetched new.store log performs.store; stop = inl performs.stop }
@@ -69,7 +73,7 @@ module _ (m : Machine) (actor : ℕ) (outcome : Outcome) (new : Machine) where
   worked : Works m actor outcome new → StepTells m outcome new
   worked (inl (by, way, so)) = stays (outcomes.Blocked by) so
   worked (inr (inl (free, unready, inl (waits, force)))) = forces outcomes.Helped force
-  worked (inr (inl (free, unready, inr (none, rest)))) = rest_kind m outcomes.Helped outcome new _ (StepTells m outcome new) none tt more (performed m.store _ refl) rest
+  worked (inr (inl (free, unready, inr (none, rest)))) = ready_kind m actor outcome new (StepTells m outcome new) none more (performed m.store _ refl) rest
   worked (inr (inr (free, ready, inl acts))) = performed acts.fetched acts.deed acts.brings.rest.log acts.performs
   worked (inr (inr (free, ready, inr (inl gives)))) = performed gives.fetched _ gives.brings.rest.log gives.performs
   worked (inr (inr (free, ready, inr (inr bad)))) = meets bad
