@@ -1,5 +1,5 @@
 -- The frames fit a store that differs from the one before in nothing that they show, and one whose oldest dirty page was written home.
-use Rattle.std.proofs.Common.{◌≡◌, ℕ, ◌==◌, Bool, true, false, not, ◌&&◌, List, Option, Some, None, refl, sym, ap, subst, ◌∙◌}
+use Rattle.std.proofs.Common.{◌≡◌, ℕ, ◌==◌, false, not, ◌&&◌, List, Option, Some, None, refl, sym, ap, subst, ◌∙◌}
 use Rattle.std.specs.FinSet as set
 use Rattle.std.specs.List.{find}
 use Rattle.std.specs.Option.{is_some, option_map, option_map_or}

@@ -1,17 +1,15 @@
 -- Every step keeps that the frames are those of the pages in memory, and that a page is pinned as many times as actors have latched it.
-use Rattle.std.proofs.Common.{◌≡◌, ◌≢◌, inl, inr, ℕ, ◌+◌, ◌≤◌, List, [], ◌++◌, Option, Some, None, IfSome, IsSome, refl, sym, ap, subst, ◌∙◌, arith}
+use Rattle.std.proofs.Common.{◌≡◌, inl, inr, ℕ, ◌+◌, ◌≤◌, List, [], ◌++◌, Option, Some, None, IfSome, IsSome, refl, sym, ap, subst, ◌∙◌, arith}
 use Rattle.std.specs.List.{count_by}
 use Rattle.std.specs.Option.{is_some}
 use Rattle.hb_lemmas.proofs.Options.{has_value, some_value}
 use Rattle.hb_latch.specs.declared.modes.Mode.{Mode}
-use Rattle.hb_latch.specs.Tables.{mode_at}
 use Rattle.hb_activity.specs.declared.holding.Latch.{Latch}
 use Rattle.hb_activity.specs.declared.activities.Activity.{Activity}
 use Rattle.hb_activity.specs.Deeds.{Deed}
-use Rattle.hb_pool.specs.Frames.{Use, clean, has_id}
-use Rattle.hb_pool.specs.Pools.{frame_of, in_place}
+use Rattle.hb_pool.specs.Frames.{has_id}
+use Rattle.hb_pool.specs.Pools.{frame_of}
 use Rattle.hb_store.specs.Forced.{forced_state, stopped_state}
-use Rattle.hb_store.specs.Held.{IsTied}
 use Rattle.hb_store.specs.States.{StoreState, in_memory}
 use Rattle.hb_core.specs.declared.outcomes.Outcome.{Outcome}
 use Rattle.hb_core.specs.declared.outcomes.Outcome.TheVariants as outcomes
@@ -24,7 +22,7 @@ use Rattle.hb_core.specs.Machines.{Machine}
 use Rattle.hb_core.specs.Performing.{Performs, PerformsAsItIs, latches_held, mode_among}
 use Rattle.hb_core.specs.Steps.{StepsTo, Works}
 use Rattle.hb_core.specs.SteppingLaws.{IsBegun}
-use Rattle.hb_core.specs.Using.{FramesFit, actors, holders, page_wanted, pages_of, pins_of, use_done, use_held}
+use Rattle.hb_core.specs.Using.{FramesFit, page_wanted, pages_of, use_done, use_held}
 use Rattle.hb_core.proofs.Latches.MergerBacked.{every_row_backed}
 use Rattle.hb_core.proofs.Machines.FlushedFrames.{cleaned_tied, tied_again}
 use Rattle.hb_core.proofs.Machines.HoldersMoved.{IsLatched, holders_moved, none_holds}

@@ -1,5 +1,5 @@
 -- The latches of an activity are on different pages, so that a page is among theirs once where it is latched, and else not.
-use Rattle.std.proofs.Common.{◌≡◌, ◌≢◌, ◌⊎◌, inl, inr, ℕ, ◌+◌, ◌==◌, Bool, true, false, cond, List, [], ◌∷◌, Option, Some, None, IfSome, refl, sym, ap, subst, ◌∙◌, arith}
+use Rattle.std.proofs.Common.{◌≡◌, ◌⊎◌, inl, inr, ℕ, ◌+◌, ◌==◌, true, false, cond, List, [], ◌∷◌, Option, Some, None, IfSome, refl, sym, ap, subst, ◌∙◌, arith}
 use Rattle.std.specs.Option.{is_some}
 use Rattle.std.proofs.lemmas.Bool.{cases_Bool, eqb-false, eqb-true}
 use Rattle.std.proofs.lemmas.Option.{none-some, same_Some}
@@ -22,7 +22,7 @@ use Rattle.hb_activity.specs.Holding.{latch_on, walk_latch}
 use Rattle.hb_activity.specs.Walks.{walk_held}
 use Rattle.hb_core.specs.Fetching.{Brings}
 use Rattle.hb_core.specs.Keeps.{HasRoomFor, HoldsPagesOfFile, KnowsRoom, LatchesFit}
-use Rattle.hb_core.specs.KeptMerges.{AtParent, NamesKnown, PairHeld, merging_at}
+use Rattle.hb_core.specs.KeptMerges.{NamesKnown, PairHeld, merging_at}
 use Rattle.hb_core.specs.Machines.{Machine, live_here}
 use Rattle.hb_core.specs.Performing.{latches_held, mode_among}
 use Rattle.hb_core.specs.Using.{pages_of}
@@ -30,7 +30,7 @@ use Rattle.hb_core.proofs.Machines.PinCounts.{one_if}
 use Rattle.hb_core.proofs.Machines.PinsFollow.{times}
 use Rattle.hb_core.proofs.Memory.NextNumbers.{is_next_number}
 use Rattle.hb_core.proofs.Table.MergerMoves.{no_line}
-use Rattle.hb_core.proofs.Table.NextPlaces.{HasPlace, KeepsParent, PartsFull, now}
+use Rattle.hb_core.proofs.Table.NextPlaces.{HasPlace, PartsFull, now}
 use Rattle.hb_space.specs.Actors.{IsActor}
 use Rattle.hb_store.specs.States.{StoreState, in_memory}
 

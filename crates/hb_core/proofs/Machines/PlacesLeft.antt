@@ -1,5 +1,5 @@
 -- Where nothing is left to flush, a frame that must stay is latched, and 19 actors latch two pages each at most: the other frames are places.
-use Rattle.std.proofs.Common.{◌≡◌, inl, inr, ℕ, ◌+◌, ◌*◌, ◌≤◌, ◌==◌, Bool, true, false, not, ◌||◌, cond, List, [], ◌∷◌, length, Option, Some, None, IsSome, refl, sym, ap, subst, ◌∙◌, arith}
+use Rattle.std.proofs.Common.{◌≡◌, inl, inr, ℕ, ◌+◌, ◌*◌, ◌≤◌, ◌==◌, Bool, true, false, not, ◌||◌, cond, List, [], ◌∷◌, length, Option, Some, None, IsSome, refl, sym, ap, arith}
 use Rattle.std.specs.List.{find, count_by, sum_by}
 use Rattle.std.specs.Option.{is_some, option_map}
 use Rattle.std.proofs.lemmas.List.Sums.{sum_by-cons}
@@ -7,21 +7,18 @@ use Rattle.hb_lemmas.proofs.Booleans.{if_same}
 use Rattle.hb_activity.specs.declared.holding.Latch.{Latch}
 use Rattle.hb_activity.proofs.Facts.HeldLatches.{two_at_most}
 use Rattle.hb_latch.specs.declared.modes.Mode.{Mode}
-use Rattle.hb_latch.specs.Tables.{LatchTable, mode_at}
+use Rattle.hb_latch.specs.Tables.{mode_at}
 use Rattle.hb_pool.specs.Frames.{Use, has_id, must_stay}
 use Rattle.hb_pool.specs.Pools.{places}
-use Rattle.hb_store.specs.Calls.{IsReady}
 use Rattle.hb_store.specs.Held.{oldest_dirty}
 use Rattle.hb_core.specs.Forcing.{HasMoreToFlush}
 use Rattle.hb_core.specs.KeptFrames.{PlacesAreLeft, UnreadyForTheLog}
 use Rattle.hb_core.specs.KeptMachine.{MachineKeeps}
 use Rattle.hb_core.specs.Machines.{Machine}
 use Rattle.hb_core.specs.Performing.{latches_held, mode_among}
-use Rattle.hb_core.specs.Steps.{IsUnready}
-use Rattle.hb_core.specs.Using.{actors, holders, pins_of}
+use Rattle.hb_core.specs.Using.{actors, holders}
 use Rattle.hb_core.proofs.Machines.PinCounts.{IsSingle, one_if, pins_if, single_sum}
 use Rattle.hb_core.proofs.Memory.StillThere.{may_or_not}
-use Rattle.hb_space.specs.Actors.{IsActor}
 
 -- none is dirty
 none_dirty : (uses : List Use) → (IsSome (oldest_dirty uses) → ⊥) → find (λ (u : Use). u.dirty) uses ≡ None

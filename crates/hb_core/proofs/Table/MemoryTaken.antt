@@ -1,5 +1,5 @@
 -- Which lines are answered `no memory`: a search, and an insert or a delete in a step that may change the file. A lookup never is.
-use Rattle.std.proofs.Common.{◌≡◌, inl, inr, ℕ, ◌==◌, ◌&&◌, Bool, false, true, List, [], Option, Some, None, IsSome, IsSomeAnd, IsTrue, refl, sym, ap, ◌∙◌, subst}
+use Rattle.std.proofs.Common.{◌≡◌, inl, inr, ℕ, ◌==◌, ◌&&◌, false, true, List, Option, Some, None, IsSome, IsSomeAnd, IsTrue, refl, sym, ap, ◌∙◌, subst}
 use Rattle.std.specs.Option.{is_some, option_map_or}
 use Rattle.std.proofs.lemmas.Bool.{eq-eqb, false≢true}
 use Rattle.std.proofs.lemmas.Option.{none-some, same_Some}
@@ -16,7 +16,7 @@ use Rattle.hb_activity.specs.declared.dropping.DropWhy.TheVariants as drops
 use Rattle.hb_activity.specs.declared.wanting.Wanted.{Wanted}
 use Rattle.hb_activity.specs.declared.activities.Activity.{Activity}
 use Rattle.hb_activity.specs.declared.activities.Activity.TheVariants as at
-use Rattle.hb_activity.specs.Classes.{HasJob, hand_of, line_in_hand, line_of}
+use Rattle.hb_activity.specs.Classes.{line_in_hand}
 use Rattle.hb_activity.specs.Deeds.{Deed}
 use Rattle.hb_activity.specs.Walks.{may_change}
 use Rattle.hb_activity.specs.Wanting.{may_commit, wanted_of}
