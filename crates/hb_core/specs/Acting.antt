@@ -16,6 +16,7 @@ use Rattle.hb_activity.specs.declared.dropping.DropWhy.TheVariants as drops
 use Rattle.hb_core.specs.declared.outcomes.Outcome.{Outcome}
 use Rattle.hb_core.specs.declared.outcomes.Outcome.TheVariants as outcomes
 use Rattle.hb_activity.specs.Deeds.{Deed}
+pub use Rattle.hb_core.specs.Decoding.{Decodes, GathersThere}
 use Rattle.hb_core.specs.Asking.{AskedBox, asked_box, wanted_by}
 use Rattle.hb_core.specs.Fetching.{Brings, IsBadHead, IsDamaged, IsFreeHead, IsWantedPage}
 use Rattle.hb_core.specs.GivingUp.{gives_up}
@@ -24,9 +25,7 @@ use Rattle.hb_core.specs.Performing.{Performs, latches_held}
 use Rattle.hb_core.specs.Using.{CameFor, page_wanted, pages_of, use_number, use_wanted}
 use Rattle.hb_pool.specs.Frames.{Use}
 use Rattle.hb_store.specs.Held.{IsTied}
-use Rattle.hb_search.specs.Searching.{GathersNow}
 use Rattle.hb_core.specs.Rows.{IsAtHand, Row}
-use Rattle.hb_point.specs.SessionRows.{WantsBoxes}
 use Rattle.hb_poster.specs.PosterRows.{MayGrow}
 use Rattle.hb_store.specs.States.{StoreState, in_memory}
 use Rattle.hb_store.specs.Fetching.{IsNoPage}
@@ -75,23 +74,6 @@ HasOp deed = IsSome deed.op
 
 abbrev pub TakesSome : Option Wanted → Machine → Activity → Type 0
 TakesSome wanted m activity = (deed : Deed) × Row activity wanted m deed × HasOp deed
-
--- A step decodes pages, which takes memory: a search at a leaf of records, a split where a page is free, a put into one of the halves,
--- and what the workers do. A walk of an insert, a delete or a lookup reads its pages where they lie.
-abbrev pub GathersThere : Option Wanted → Machine → Activity → Type 0
-GathersThere None m activity = ⊥
-GathersThere (Some wanted) m activity = (page : LivePage) × IsAtHand m activity wanted page × GathersNow activity page
-
-abbrev pub Decodes : Option Wanted → Machine → Activity → Type 0
-Decodes wanted m (at.SessionWalk line held rest found) = WantsBoxes line.command × GathersThere wanted m (at.SessionWalk line held rest found)
-Decodes wanted m (at.SessionSplit line held) = m.store.meta.live < m.store.meta.pages
-Decodes wanted m (at.SessionPut line source fresh) = Unit {0}
-Decodes wanted m at.SessionIdle = ⊥
-Decodes wanted m (at.SessionAwait number reply place) = ⊥
-Decodes wanted m at.PosterIdle = ⊥
-Decodes wanted m at.ConsolidatorIdle = ⊥
-Decodes wanted m at.Flusher = ⊥
-Decodes wanted m worker = Unit {0}
 
 -- Or it is given up: a page that it needs couldn't be read; or memory was refused, for a page that is decoded or for what the row takes.
 abbrev pub GivesUpFor : DropWhy → Machine → ℕ → StoreState → Type 0

@@ -8,6 +8,7 @@ pub mod Rows
 pub mod Forcing
 pub mod GivingUp
 pub mod Locking
+pub mod Decoding
 pub mod Acting
 pub mod Steps
 pub mod KeptLines

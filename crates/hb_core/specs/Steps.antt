@@ -30,8 +30,7 @@ use Rattle.hb_store.specs.States.{in_memory}
 abbrev pub may_change_file : Machine → ℕ → Bool
 may_change_file m actor = may_commit (m.activity actor) m.store.meta (looked_live m.store (m.activity actor))
 
--- The step may change the file, and log and memory aren't ready for that; or it wants a page that isn't in memory, and there is no
--- place for it. Then it flushes in place of its row. Where nothing is left to flush, no flushing makes room.
+-- The step may change the file, and log and memory aren't ready; or it wants a page for which there is no place. Then it flushes.
 abbrev pub MayChange : Machine → Type 0
 MayChange m = IsReady m.store × HasPlaces m.uses
 
@@ -83,8 +82,7 @@ AwaitsPlace m actor number reply place outcome new =
     ((place < settled_count m) × PerformsAsItIs m actor (answers_now number reply) outcome new)
     ⊎ ((settled_count m ≤ place) × ForcesFirst m outcomes.Moved outcome new)
 
--- An idle session takes its next line, unless another actor's lock keeps it from the line's box: then the line stays where it is.
--- For a search that takes memory.
+-- An idle session takes its next line, unless another actor's lock keeps it from the line's box. For a search that takes memory.
 abbrev pub BeginsLine : Machine → ℕ → Line → Outcome → Machine → Type 0
 BeginsLine m actor line outcome new =
     ((by : ℕ) × IsBoxInTheWay m actor (lock_of_command line.command) by × StaysSo m (outcomes.Blocked by) outcome new)
