@@ -1,7 +1,7 @@
 -- What it is to write the least recently used dirty page to its place, where no group waits.
 use Rattle.std.specs.Prelude.{◌≡◌, ◌≢◌, ◌+◌, ℕ, [], Some, None, IsOk, IsSome, MatchOption, OnErr, OnOk, Result, List}
-use Rattle.hb_disk.specs.Model.{DiskModel, Stays, Torn}
-use Rattle.hb_disk.specs.Calls.{Leaves}
+use Rattle.hb_disk.specs.Model.{DiskModel, Torn}
+use Rattle.hb_disk.specs.Calls.{Leaves, ReadsOnly}
 use Rattle.hb_disk.specs.Runs.{Rewrites}
 use Rattle.hb_layout.specs.Offsets.{page_offset}
 use Rattle.hb_ops.specs.Files.{FileState}
@@ -31,7 +31,7 @@ pub record WritesHome {T : Type 0} (result : Result T WriteFault) (id : ℕ) (d 
 
 -- What a flush is to do where no group waits, by its result: the least recently used dirty page, or nothing where none is dirty.
 abbrev pub FlushesHome : {T : Type 0} → Result T WriteFault → DiskModel → DiskModel → StoreHeld → StoreHeld → Type 0
-FlushesHome result d e old new = MatchOption (oldest_dirty old.uses) (IsOk result × Stays d e × (new ≡ old)) (λ id. WritesHome result id d e old new)
+FlushesHome result d e old new = MatchOption (oldest_dirty old.uses) (IsOk result × ReadsOnly ⊥ d e × (new ≡ old)) (λ id. WritesHome result id d e old new)
 
 -- which of the three a flush does
 abbrev pub IsDue : StoreHeld → Flushed → Type 0
