@@ -1,9 +1,9 @@
 -- What every machine keeps, over any disk, of the pages in memory: their frames, and that the pins follow the latches.
-use Rattle.std.specs.Prelude.{◌≡◌, ◌≢◌, ℕ, ◌≤◌, [], None}
+use Rattle.std.specs.Prelude.{ℕ, ◌≤◌}
 use Rattle.hb_core.specs.Forcing.{HasMoreToFlush}
 use Rattle.hb_core.specs.KeptMachine.{MachineKeeps}
 use Rattle.hb_core.specs.Machines.{Machine}
-use Rattle.hb_core.specs.Steps.{IsUnready, MayChange}
+use Rattle.hb_core.specs.Steps.{IsUnready}
 use Rattle.hb_pool.specs.Pools.{places}
 use Rattle.hb_store.specs.Calls.{IsReady}
 

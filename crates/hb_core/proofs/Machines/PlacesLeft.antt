@@ -9,7 +9,6 @@ use Rattle.hb_activity.proofs.Facts.HeldLatches.{two_at_most}
 use Rattle.hb_latch.specs.declared.modes.Mode.{Mode}
 use Rattle.hb_latch.specs.Tables.{mode_at}
 use Rattle.hb_pool.specs.Frames.{Use, has_id, must_stay}
-use Rattle.hb_pool.specs.Pools.{places}
 use Rattle.hb_store.specs.Held.{oldest_dirty}
 use Rattle.hb_core.specs.Forcing.{HasMoreToFlush}
 use Rattle.hb_core.specs.KeptFrames.{PlacesAreLeft, UnreadyForTheLog}
