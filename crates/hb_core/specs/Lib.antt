@@ -40,10 +40,13 @@ pub mod JobLaws
 pub mod Showing
 pub mod CoreSeen
 pub mod CoreUpdates
+pub mod Pinning
+pub mod Committing
 pub mod Moving
 pub mod Taking
 pub mod Stopping
 pub mod Looking
+pub mod AskingDeciders
 pub mod LookingToMerge
 pub mod Working
 pub mod Relied

@@ -18,6 +18,7 @@ pub mod asked_laws;
 mod asking;
 mod bringing;
 pub mod cause_laws;
+mod deciding;
 mod endings;
 pub mod examples;
 pub mod file_laws;

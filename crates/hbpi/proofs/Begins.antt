@@ -1,5 +1,8 @@
 -- A core that has taken no step shows a machine that has taken none.
-use Rattle.std.proofs.Common.{◌≡◌, ℕ, List, [], ◌∷◌, IfSome}
+use Rattle.std.proofs.Common.{◌≡◌, ℕ, Bool, true, false, cond, List, [], ◌∷◌, Option, Some, IfSome, refl, sym, ap, ◌∙◌}
+use Rattle.std.specs.List.{find}
+use Rattle.std.specs.Option.{is_some}
+use Rattle.std.proofs.lemmas.Bool.{eq-eqb, false≢true}
 use Rattle.std.specs.List.{AllByRecursion}
 use Rattle.std.proofs.lemmas.List.Elements.{All-from_recursion, recursion_from_All}
 use Rattle.hb_core.specs.KeptFits.{CommandFits, LineFits}
@@ -16,14 +19,18 @@ use Rattle.hb_set.specs.Scripts.{IsLineFor}
 use Rattle.hb_set.specs.declared.commands.Command.{Command}
 use Rattle.hb_set.specs.declared.commands.Command.TheVariants.{Insert, Delete, Lookup, Search}
 use Rattle.hb_set.specs.declared.scripts.Line.{Line}
+use Rattle.hb_frag.specs.declared.pages.Page.{Page}
+use Rattle.hb_pool.specs.Frames.{Use, has_id}
+use Rattle.hb_pool.specs.Pools.{frame_of}
+use Rattle.hb_store.specs.Held.{IsTied}
 use Rattle.hb_store.specs.Keeps.{StoreKeeps}
-use Rattle.hb_store.specs.States.{IsNew, IsStanding, StoreState}
+use Rattle.hb_store.specs.States.{IsNew, IsStanding, StoreState, in_memory}
 use Rattle.hb_core.proofs.Facts.BegunCores.{begins_over}
 use Rattle.hbpi.specs.Schedules.{SearchesBox, HasLineBox, IsScript}
 
 -- Such a machine, of a core with this script over a store that was just opened.
 pub record IsBegunHere (d : DiskModel) (lines : List Line) (steps : List ℕ) (store : StoreState) (m : Machine) : Type 0 where
-  pub may : MayStep d (begun_core lines steps store) m
+  pub may : MayStep d (begun_core lines steps store []) m
   pub begun : IsBegun m
   pub told : IfSome d.told (λ b. (s : FileState) × IsBegunOver m s × StoreKeeps d store s [])
 
@@ -52,3 +59,12 @@ begins_script d lines steps store script new stands kept =
       fit = All-from_recursion (LineFits store.meta.k) lines (each_fits store.meta.k lines script.script.lines (recursion_from_All HasLineBox lines script.boxes));
     }) (λ tells. let b = some_value d.told tells in let from = at_value d.told _ b.0 b.1 kept in (from.0, record { kept = from.2; sound = from.1 })) in
     (begins.m, record { may = begins.may; begun = begins.begun; told = if_value d.told _ (λ b is. let from = begins.told (has_value d.told b is) in (from.0, from.2, from.1)) })
+
+-- a store that was just opened has no page in a frame
+pub no_frame : (store : StoreState) (uses : List Use) → IsNew store.turn store.meta store → IsTied store uses → uses ≡ []
+no_frame store [] new tied = refl
+no_frame store (u ∷ rest) new tied =
+    let itself : frame_of (u ∷ rest) u.id ≡ Some u = ap (λ (b : Bool). cond b (Some u) (find (has_id u.id) rest)) (eq-eqb u.id u.id refl) in
+    let there : is_some (in_memory store u.id) ≡ true = tied.there u.id ∙ ap (λ (o : Option Use). is_some o) itself in
+    let none : is_some (in_memory store u.id) ≡ false = ap (λ (o : Option Page). is_some o) (new.no_page u.id) in
+    absurd (false≢true (sym none ∙ there))
