@@ -1,18 +1,19 @@
 //! Stores that are driven over files of several pages, as `driven_trees` lists: each allocation's number, each group, and the
 //! bytes on the disk. A driving is stopped before each of its device calls, and each call fails once. What is left is opened, and opened
 //! again after a stop inside that opening: the file has the pages after so many of the groups.
-ghost use Rattle.std.specs.Prelude.{◌≡◌, ◌≤◌, Some, true, false, All, IfSome};
-ghost use Rattle.hb_store.specs.Seen.{seen_as};
+ghost use Rattle.std.specs.Prelude.{◌≡◌, Some, true, IfSome};
+ghost use Rattle.hb_store.specs.Seen.{seen_as, uses_of};
+ghost use Rattle.hb_file_tests.specs.Driven.{IsDriven};
 
 use crate::driven_trees::{SPLIT_AGAIN, TWO_PARENTS};
-use crate::stores::{NEVER, done};
+use crate::stores::{NEVER, done, held};
 use hb_disk::{MemDisk, Pick, RotDisk};
 use hb_ops::Meta;
 use hb_restart::recover;
 use hb_store::Store;
 use std::alloc::Global;
 
-/// A driving. The file has so many bytes: these pieces at their offsets, and zeros. It is opened and these pages are fetched.
+/// A driving. The file has so many bytes: these pieces at their offsets, and zeros. It is opened and these pages are pinned.
 #[derive(Clone, Copy)]
 pub(crate) struct Tree {
     pub(crate) size: usize,
@@ -57,8 +58,7 @@ fn file(alloc: Global, tree: &Tree) -> Option<Vec<u8>> {
 
 /// The store of a file, over a disk that tells nothing and fails at the call of this number.
 fn opened(alloc: Global, bytes: Vec<u8>, failing: u64) -> Option<Store<RotDisk>>
-    ensures running { IfSome result (λ store. (seen_as store).stopped ≡ false) }
-    ensures marks { IfSome result (λ store. All (λ g. g.mark ≤ 7) (seen_as store).log.groups) }
+    ensures { IfSome result (λ store. IsDriven (seen_as store) (uses_of store)) }
 {
     let calls = [failing].to_vec(alloc).ok()?;
     let disk = RotDisk {
@@ -68,42 +68,34 @@ fn opened(alloc: Global, bytes: Vec<u8>, failing: u64) -> Option<Store<RotDisk>>
         byte: 0,
     };
     match recover(alloc, disk) {
-        Ok((store, _)) => Some(store),
+        Ok((store, _)) => {
+            let _said = store.meta();
+            Some(store)
+        }
         Err(_) => None,
     }
 }
 
-/// Fetches a page.
-#[tactic(auto, using(crate::proofs::Untold::fetched_runs, crate::proofs::Untold::fetched_marks))]
-fn fetched(store: &mut Store<RotDisk>, id: u32) -> Option<()>
-    requires running { (seen_as store.old).stopped ≡ false }
-    requires marks { All (λ g. g.mark ≤ 7) (seen_as store.old).log.groups }
-    ensures running { (seen_as store.new).stopped ≡ false }
-    ensures marks { All (λ g. g.mark ≤ 7) (seen_as store.new).log.groups }
-{
-    store.fetch(id).ok()
-}
-
-/// The store of a tree's file, with its pages fetched.
+/// The store of a tree's file, with its pages pinned.
 fn begun(alloc: Global, tree: &Tree, failing: u64) -> Option<Store<RotDisk>>
-    ensures running { IfSome result (λ store. (seen_as store).stopped ≡ false) }
-    ensures marks { IfSome result (λ store. All (λ g. g.mark ≤ 7) (seen_as store).log.groups) }
+    ensures { IfSome result (λ store. IsDriven (seen_as store) (uses_of store)) }
 {
     let mut store = opened(alloc, file(alloc, tree)?, failing)?;
     for id in tree.fetched {
-        fetched(&mut store, *id)?;
+        held(&mut store, *id).ok()?;
     }
     Some(store)
 }
 
-/// The number that an allocation takes, 0 for none.
-#[tactic(auto, using(crate::proofs::Untold::next_runs, crate::proofs::Untold::next_marks))]
+/// The number that an allocation takes, 0 for none, where the free chain has no page.
+#[tactic(auto, using(crate::proofs::Untold::numbered))]
 fn number(store: &mut Store<RotDisk>) -> Option<u32>
-    requires running { (seen_as store.old).stopped ≡ false }
-    requires marks { All (λ g. g.mark ≤ 7) (seen_as store.old).log.groups }
-    ensures running { (seen_as store.new).stopped ≡ false }
-    ensures marks { All (λ g. g.mark ≤ 7) (seen_as store.new).log.groups }
+    requires { IsDriven (seen_as store.old) (uses_of store.old) }
+    ensures { IsDriven (seen_as store.new) (uses_of store.new) }
 {
+    if store.meta().free != 0 {
+        return None;
+    }
     match store.next_page().ok()? {
         Some((id, _)) => Some(id),
         None => Some(0),
@@ -111,12 +103,10 @@ fn number(store: &mut Store<RotDisk>) -> Option<u32>
 }
 
 /// Takes a step, and forces its group. `Some(false)` where the force failed; `None` where something else isn't as it is to be.
-#[tactic(auto, using(crate::proofs::Untold::forced_marks))]
+#[tactic(auto, using(crate::proofs::Untold::forced))]
 fn stepped(alloc: Global, store: &mut Store<RotDisk>, step: (u32, &[u8], u32)) -> Option<bool>
-    requires running { (seen_as store.old).stopped ≡ false }
-    requires marks { All (λ g. g.mark ≤ 7) (seen_as store.old).log.groups }
-    ensures running { result ≡ Some true → (seen_as store.new).stopped ≡ false }
-    ensures marks { result ≡ Some true → All (λ g. g.mark ≤ 7) (seen_as store.new).log.groups }
+    requires { IsDriven (seen_as store.old) (uses_of store.old) }
+    ensures { result ≡ Some true → IsDriven (seen_as store.new) (uses_of store.new) }
 {
     let (fresh, group, pending) = step;
     if number(store)? != fresh || !done(alloc, store, group)? || store.pending() != pending {

@@ -2,7 +2,6 @@
 
 use crate::stores::{EMPTY, MetaNumbers, NEVER, disk, opened};
 use hb_disk::RotDisk;
-use hb_frag::Page;
 use hb_store::{FetchStop, Store, Why};
 use std::alloc::Global;
 
@@ -29,15 +28,15 @@ fn told(stop: &FetchStop) -> Told {
         } => (*page, u32::from(*rule), 'r'),
         FetchStop::Damaged { page, .. } => (*page, 0, 'o'),
         FetchStop::ReadFault => (0, 0, 'd'),
-        FetchStop::NoMemory => (0, 0, 'm'),
+        FetchStop::Crowded => (0, 0, 'c'),
     }
 }
 
 /// Whether the page of a number is in memory, and in use.
 fn shown(store: &Store<RotDisk>, id: u32) -> char {
     match store.get(id) {
-        Some(Page::Live(_)) => 'l',
-        Some(Page::Free { .. }) => 'f',
+        Some(view) if view.is_live() => 'l',
+        Some(_) => 'f',
         None => 'n',
     }
 }

@@ -107,7 +107,8 @@ fn groups_wait(rt: HostRuntime) {
     }
 }
 
-/// Forces so many groups, and says what came of the last one: `f` is forced, `n` that none waited, `e` that it failed.
+/// Flushes so many times, and says what came of the last one: `f` is forced, `w` a page written home, `n` neither, `e` that it
+/// failed.
 fn flushed(store: &mut Store<RotDisk>, times: u8) -> char
     requires { (seen_as store.old).stopped ≡ false }
 {
@@ -115,6 +116,7 @@ fn flushed(store: &mut Store<RotDisk>, times: u8) -> char
     for _ in 0..times {
         match store.flush_step() {
             Ok(Flushed::Forced) => last = 'f',
+            Ok(Flushed::Written(_)) => last = 'w',
             Ok(Flushed::Nothing) => last = 'n',
             Err(_) => return 'e',
         }
@@ -122,16 +124,20 @@ fn flushed(store: &mut Store<RotDisk>, times: u8) -> char
     last
 }
 
-/// Where a call fails while two groups are forced so many times: what came of it, the bytes that wait then, the mark of the
-/// first one or else 9, and how many calls were made. Call 0 reads the page.
-const FORCES: [(u64, u8, char, u32, u32, u64); 7] = [
+/// Where a call fails while a store with two groups is flushed so many times: what came of it, the bytes that wait then, the mark
+/// of the first one or else 9, and how many calls were made. Call 0 reads the page, and call 9 writes it home.
+const FORCES: [(u64, u8, char, u32, u32, u64); 10] = [
     (NEVER, 1, 'f', 16, 7, 5),
     (NEVER, 2, 'f', 0, 9, 9),
-    (NEVER, 3, 'n', 0, 9, 9),
+    (NEVER, 3, 'w', 0, 9, 10),
+    (NEVER, 4, 'n', 0, 9, 10),
     (1, 1, 'e', 4131, 7, 2),
     (2, 1, 'e', 4131, 7, 3),
     (3, 2, 'e', 4131, 7, 4),
     (4, 3, 'e', 4131, 7, 5),
+    // the page that goes home fails to be written
+    (9, 2, 'f', 0, 9, 9),
+    (9, 3, 'e', 0, 9, 10),
 ];
 
 /// Whether this comes of it.

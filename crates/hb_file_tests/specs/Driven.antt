@@ -1,0 +1,19 @@
+-- What the tests keep of a store that they drive.
+use Rattle.std.specs.Prelude.{◌≡◌, ℕ, ◌≤◌, false, All, IfSome, IsTrue, List}
+use Rattle.hb_pool.specs.Frames.{Use, must_stay}
+use Rattle.hb_pool.specs.Pools.{frame_of}
+use Rattle.hb_store.specs.States.{StoreState}
+
+-- each page in memory is dirty or pinned
+abbrev pub AllStay : List Use → Type 0
+AllStay uses = (id : ℕ) → IfSome (frame_of uses id) (λ (u : Use). IsTrue (must_stay u))
+
+-- no page is pinned more than once
+abbrev pub FewPins : List Use → Type 0
+FewPins uses = (id : ℕ) → IfSome (frame_of uses id) (λ (u : Use). u.pins ≤ 1)
+
+-- The store runs, no group that waits has a later mark than 7, and each page in memory stays.
+pub record IsDriven (st : StoreState) (uses : List Use) : Type 0 where
+  pub running : st.stopped ≡ false
+  pub marks : All (λ g. g.mark ≤ 7) st.log.groups
+  pub stay : AllStay uses
