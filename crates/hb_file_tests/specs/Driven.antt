@@ -1,5 +1,5 @@
 -- What the tests keep of a store that they drive.
-use Rattle.std.specs.Prelude.{◌≡◌, ℕ, ◌≤◌, false, All, IfSome, IsTrue, List}
+use Rattle.std.specs.Prelude.{◌≡◌, ℕ, ◌<◌, ◌≤◌, false, All, IfSome, IsSomeAnd, IsTrue, List}
 use Rattle.hb_pool.specs.Frames.{Use, must_stay}
 use Rattle.hb_pool.specs.Pools.{frame_of}
 use Rattle.hb_store.specs.States.{StoreState}
@@ -11,6 +11,10 @@ AllStay uses = (id : ℕ) → IfSome (frame_of uses id) (λ (u : Use). IsTrue (m
 -- no page is pinned more than once
 abbrev pub FewPins : List Use → Type 0
 FewPins uses = (id : ℕ) → IfSome (frame_of uses id) (λ (u : Use). u.pins ≤ 1)
+
+-- the page is pinned
+abbrev pub IsPinned : List Use → ℕ → Type 0
+IsPinned uses id = IsSomeAnd (frame_of uses id) (λ (u : Use). 0 < u.pins)
 
 -- The store runs, no group that waits has a later mark than 7, and each page in memory stays.
 pub record IsDriven (st : StoreState) (uses : List Use) : Type 0 where

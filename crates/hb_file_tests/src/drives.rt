@@ -36,10 +36,10 @@ pub(crate) struct Tree {
 const TREES: [Tree; 2] = [SPLIT_AGAIN, TWO_PARENTS];
 
 /// The three kinds of images.
-const PICKS: [Pick; 3] = [Pick::Old, Pick::New, Pick::Noise(165)];
+pub(crate) const PICKS: [Pick; 3] = [Pick::Old, Pick::New, Pick::Noise(165)];
 
 /// Puts pieces at their offsets.
-fn put_all(bytes: &mut Vec<u8>, pieces: &[(usize, &[u8])]) {
+pub(crate) fn put_all(bytes: &mut Vec<u8>, pieces: &[(usize, &[u8])]) {
     for (at, piece) in pieces {
         for (place, byte) in bytes.iter_mut().skip(*at).zip(*piece) {
             *place = *byte;
@@ -48,7 +48,7 @@ fn put_all(bytes: &mut Vec<u8>, pieces: &[(usize, &[u8])]) {
 }
 
 /// The file of a tree.
-fn file(alloc: Global, tree: &Tree) -> Option<Vec<u8>> {
+pub(crate) fn file(alloc: Global, tree: &Tree) -> Option<Vec<u8>> {
     let Ok(mut bytes) = vec![in alloc; 0; tree.size] else {
         return None;
     };
@@ -77,7 +77,7 @@ fn opened(alloc: Global, bytes: Vec<u8>, failing: u64) -> Option<Store<RotDisk>>
 }
 
 /// The store of a tree's file, with its pages pinned.
-fn begun(alloc: Global, tree: &Tree, failing: u64) -> Option<Store<RotDisk>>
+pub(crate) fn begun(alloc: Global, tree: &Tree, failing: u64) -> Option<Store<RotDisk>>
     ensures { IfSome result (λ store. IsDriven (seen_as store) (uses_of store)) }
 {
     let mut store = opened(alloc, file(alloc, tree)?, failing)?;
@@ -104,7 +104,11 @@ fn number(store: &mut Store<RotDisk>) -> Option<u32>
 
 /// Takes a step, and forces its group. `Some(false)` where the force failed; `None` where something else isn't as it is to be.
 #[tactic(auto, using(crate::proofs::Untold::forced))]
-fn stepped(alloc: Global, store: &mut Store<RotDisk>, step: (u32, &[u8], u32)) -> Option<bool>
+pub(crate) fn stepped(
+    alloc: Global,
+    store: &mut Store<RotDisk>,
+    step: (u32, &[u8], u32),
+) -> Option<bool>
     requires { IsDriven (seen_as store.old) (uses_of store.old) }
     ensures { result ≡ Some true → IsDriven (seen_as store.new) (uses_of store.new) }
 {
@@ -155,7 +159,7 @@ fn a_driving_writes_these_bytes(rt: HostRuntime) {
 const ZEROS: [u8; 4096] = [0; 4096];
 
 /// Whether a page stands in its place: these fields, and zeros behind them.
-fn stands(bytes: &[u8], page: usize, fields: &[u8]) -> bool {
+pub(crate) fn stands(bytes: &[u8], page: usize, fields: &[u8]) -> bool {
     let from = page.saturating_mul(4096).saturating_add(135_168);
     let Some(place) = bytes.get(from..from.saturating_add(4096)) else {
         return false;
@@ -167,7 +171,7 @@ fn stands(bytes: &[u8], page: usize, fields: &[u8]) -> bool {
 }
 
 /// Whether the pages after so many steps stand in their places.
-fn stand(bytes: &[u8], tree: &Tree, count: usize) -> bool {
+pub(crate) fn stand(bytes: &[u8], tree: &Tree, count: usize) -> bool {
     for (from, until, page, fields) in tree.pages {
         if *from <= count && count < *until && !stands(bytes, *page, fields) {
             return false;
@@ -197,7 +201,7 @@ fn meta_numbers(meta: &Meta) -> [u32; 4] {
 }
 
 /// Whether what a crash before this call leaves opens to the file after so many steps. The disk behind that opening.
-fn image_opened(
+pub(crate) fn image_opened(
     alloc: Global,
     tree: &Tree,
     count: usize,

@@ -17,10 +17,10 @@ const RAISED: [u8; 23] = [
 /// Two numbers and a letter: the number of a page and the free head after it, and `p`, or `n` for none; a page in memory and
 /// `l` where it is in use, `f` where it is free; a page that is damaged and the rule that it breaks, and `r`; or `d` for a
 /// disk that failed.
-type Told = (u32, u32, char);
+pub(crate) type Told = (u32, u32, char);
 
 /// What a stop says.
-fn told(stop: &FetchStop) -> Told {
+pub(crate) fn told(stop: &FetchStop) -> Told {
     match stop {
         FetchStop::Damaged {
             page,
@@ -33,7 +33,7 @@ fn told(stop: &FetchStop) -> Told {
 }
 
 /// Whether the page of a number is in memory, and in use.
-fn shown(store: &Store<RotDisk>, id: u32) -> char {
+pub(crate) fn shown(store: &Store<RotDisk>, id: u32) -> char {
     match store.get(id) {
         Some(view) if view.is_live() => 'l',
         Some(_) => 'f',

@@ -64,7 +64,12 @@ const ROWS: [Row; 10] = [
 ];
 
 /// The store once so many of the operations were done.
-fn behind(alloc: Global, is_tree: bool, count: usize, failing: u64) -> Option<Store<RotDisk>>
+pub(crate) fn behind(
+    alloc: Global,
+    is_tree: bool,
+    count: usize,
+    failing: u64,
+) -> Option<Store<RotDisk>>
     ensures { IfSome result (λ store. (seen_as store).stopped ≡ false) }
 {
     if is_tree {
@@ -235,7 +240,7 @@ fn a_tree_grows(rt: HostRuntime) {
 }
 
 /// Whether a record has the point of this value alone.
-fn is_of(record: &Record, value: u64) -> bool {
+pub(crate) fn is_of(record: &Record, value: u64) -> bool {
     match record.key.values() {
         [one] => *one == value,
         _ => false,
