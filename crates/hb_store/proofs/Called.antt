@@ -1,8 +1,7 @@
 -- What a store has in memory, and what is seen of it, once a call changed its frames.
-use Rattle.std.proofs.Common.{◌≡◌, ◌≢◌, inl, inr, ℕ, ◌+◌, ◌-◌, ◌<◌, ◌≤◌, ◌==◌, Bool, true, false, cond, not, List, map, Option, Some, None, IsTrue, refl, sym, ap, subst, ◌∙◌, arith}
+use Rattle.std.proofs.Common.{◌≡◌, ◌≢◌, ℕ, ◌<◌, ◌==◌, Bool, true, false, not, List, map, Option, Some, None, IsTrue, refl, sym, ap, subst, ◌∙◌, arith}
 use Rattle.std.specs.Prelude.{◌&&◌, IfSome, IsSome, IsSomeAnd, MatchOption}
 use denote.Bor.{Bor}
-use Rattle.std.specs.List.{find}
 use Rattle.std.specs.Option.{is_some, option_copied, option_map}
 use Rattle.std.specs.HashSet as bag
 use Rattle.std.proofs.lemmas.Bool.{and_parts}
@@ -18,9 +17,9 @@ use Rattle.hb_pool.specs.Frames.{Frame, Use, clean, pinned, unpinned, use_of}
 use Rattle.hb_pool.specs.Pools.{IsPool, frame_of, in_place, put_last}
 use Rattle.hb_pool.proofs.Others.{last_changed, last_no_other, place_changed, place_no_other}
 use Rattle.hb_pool.proofs.Pooled.{frame_pins, in_place_pool, put_last_pool}
-use Rattle.hb_pool.proofs.Told.{frames_told, last_told, place_told}
+use Rattle.hb_pool.proofs.Told.{last_told, place_told}
 use Rattle.hb_store.specs.Filling.{in_frame}
-use Rattle.hb_store.specs.Held.{StoreHeld, cleaned_held, cleaned_state}
+use Rattle.hb_store.specs.Held.{cleaned_held, cleaned_state}
 use Rattle.hb_store.specs.Inside.{AreSpelled}
 use Rattle.hb_store.specs.States.{IsMemory, StoreState, is_dirty, is_in_log}
 use Rattle.hb_store.proofs.Framed.{frame_and, held_of, mark_of, mark_seen}

@@ -21,6 +21,7 @@ use Rattle.hb_store.specs.Replay.{MayFollow, Replayed, after_group, change_in, r
 use Rattle.hb_store.proofs.Facts.ReplayLaws.{Leads-append, last_of-append, replay-append}
 use Rattle.hb_store.specs.Opening.{IsPageIn, Shows}
 use Rattle.hb_store.specs.States.{IsGoodPage, IsMemory, IsSameLayout, IsStanding, StoreState, in_memory, is_dirty, is_in_log}
+use Rattle.hb_store.specs.Held.{StoreHeld}
 use Rattle.hb_store.specs.Keeps.{StoreKeeps, last_of}
 use Rattle.hb_store.specs.Parts.{ArePageImagesOf, IsDurable, IsInLog, IsInMemory, IsWaiting, Parts, all_pages, written_pages}
 use Rattle.hb_store.proofs.Facts.StoreLaws.{StoreKeeps-by}
@@ -290,6 +291,10 @@ module _ (st new : StoreState) (op : Op) (mark : ℕ) (well : MakesWell op st) (
     keeps_after = record { parts = grown; disk = stays_durable; waits = waits_more; in_log = in_log_more; memory = in_memory_then }
 
 -- ---- where the commit is Ok, and where it isn't
+
+pub kept_state : {X E : Type 0} (result : Result X E) (old new : StoreHeld) → OnErr result (new ≡ old) → OnErr result (new.state ≡ old.state)
+kept_state (Ok x) old new kept = tt
+kept_state (Err e) old new kept = ap (λ (h : StoreHeld). h.state) kept
 
 pub room_made : {E : Type 0} (result : Result (Unit {0}) E) (size : ℕ) (st new : StoreState) (op : Op) (mark : ℕ) → file_size st.meta ≤ size
     → OnOk result (Commits op mark st new) → OnOk result (MakesWell op st) → OnErr result (new ≡ st) → file_size new.meta ≤ size

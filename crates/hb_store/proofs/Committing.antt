@@ -1,5 +1,5 @@
 -- What an operation makes of a store, from what was put into frames and added to numbers.
-use Rattle.std.proofs.Common.{◌≡◌, ℕ, Bool, false, List, [], ◌∷◌, ◌++◌, get_or, map, All, Option, IsTrue, refl, sym, subst, ap, ◌∙◌}
+use Rattle.std.proofs.Common.{◌≡◌, ℕ, Bool, false, List, [], ◌∷◌, ◌++◌, get_or, map, All, sym, subst, ap, ◌∙◌}
 use Rattle.std.specs.Prelude.{◌||◌, nat_eq}
 use Rattle.std.specs.HashSet as bag
 use Rattle.hb_frag.specs.declared.pages.Page.{Page}
@@ -7,8 +7,8 @@ use Rattle.hb_layout.specs.declared.meta.Meta.{Meta}
 use Rattle.hb_ops.specs.declared.operations.Op.{Op}
 use Rattle.hb_log_codec.specs.Groups.{FitsGroup}
 use Rattle.hb_ops.specs.Operations.{BoxesMatch, Change, reads_of}
-use Rattle.hb_pool.specs.Frames.{Frame, Use, use_of}
-use Rattle.hb_pool.specs.Pools.{IsPool, frame_of}
+use Rattle.hb_pool.specs.Frames.{Frame, use_of}
+use Rattle.hb_pool.specs.Pools.{IsPool}
 use Rattle.hb_wal.specs.Log.{LogState}
 use Rattle.hb_store.specs.Calls.{Commits, IsAllowedHere, NoneComes, StaysHere, read_here, change_here, numbers_changed, use_changed}
 use Rattle.hb_store.specs.Filling.{PutsAll}

@@ -1,24 +1,24 @@
 -- What a page that comes in, or is put into its frame, leaves of the frames.
-use Rattle.std.proofs.Common.{◌≡◌, ◌≢◌, ◌⊎◌, inl, inr, ℕ, ◌+◌, ◌<◌, ◌≤◌, ◌==◌, nat_lt, Bool, true, false, cond, not, List, [], ◌∷◌, ◌++◌, length, map, All, Option, Some, None, IsTrue, IsSome, refl, sym, ap, subst, ◌∙◌, arith, ne_eqb}
-use Rattle.std.specs.Prelude.{◌||◌, ◌&&◌, IfSome, IsSomeAnd, filter}
+use Rattle.std.proofs.Common.{◌≡◌, ◌≢◌, inl, inr, ℕ, ◌<◌, ◌==◌, nat_lt, Bool, true, false, cond, not, List, [], ◌∷◌, ◌++◌, length, map, Option, Some, None, IsTrue, IsSome, refl, sym, ap, subst, ◌∙◌}
+use Rattle.std.specs.Prelude.{◌||◌, IfSome, IsSomeAnd, filter}
 use Rattle.std.specs.Option.{is_some, option_map}
 use Rattle.std.specs.Set.{remove_key}
-use Rattle.std.proofs.lemmas.Bool.{cases_Bool, cases_eq, eqb-true, or_cases, or_parts, or_right, eq-eqb}
+use Rattle.std.proofs.lemmas.Bool.{cases_Bool, cases_eq, eqb-true, or_cases, or_parts, eq-eqb}
 use Rattle.std.proofs.Math.Bool.{or-false}
 use Rattle.std.proofs.lemmas.List.{append-nil, map-append}
-use Rattle.std.proofs.lemmas.List.Elements.{All-head, All-tail, All-cons, All-nil, filter-append}
-use Rattle.hb_lemmas.proofs.Options.{some_value, not_none}
+use Rattle.std.proofs.lemmas.List.Elements.{filter-append}
+use Rattle.hb_lemmas.proofs.Options.{some_value}
 use Rattle.hb_frag.specs.declared.pages.Page.{Page}
 use Rattle.hb_frag.specs.Grammar.{SpellsPage}
 use Rattle.hb_pool.specs.declared.pools.TheConstants.{FRAMES}
-use Rattle.hb_pool.specs.Frames.{Frame, Use, clean, filled, fresh, has_id, may_go, must_stay, pinned, unpinned, use_of}
-use Rattle.hb_pool.specs.Pools.{IsPool, brought, frame_of, in_place, places, put_last, with_room}
-use Rattle.hb_pool.proofs.Others.{came_in, last_changed, last_no_other, marked_pages_stay, no_other_came, place_changed, place_no_other}
-use Rattle.hb_pool.proofs.Pooled.{brought_counts, brought_pool, frame_pins, in_place_pool, last_counts, put_last_pool}
+use Rattle.hb_pool.specs.Frames.{Frame, Use, filled, fresh, may_go, must_stay, use_of}
+use Rattle.hb_pool.specs.Pools.{IsPool, brought, frame_of, places, put_last, with_room}
+use Rattle.hb_pool.proofs.Others.{came_in, last_changed, last_no_other, marked_pages_stay, no_other_came}
+use Rattle.hb_pool.proofs.Pooled.{brought_pool, frame_pins, put_last_pool}
 use Rattle.hb_pool.proofs.Told.{brought_told, frames_told, last_told}
 use Rattle.hb_view.specs.Spelled.{page_spelled}
-use Rattle.hb_store.specs.Calls.{StaysHere, use_changed}
-use Rattle.hb_store.specs.Filling.{HasNew, HasRoom, HaveRoom, MayLeave, Puts, PutsAll, in_frame, numbers_of}
+use Rattle.hb_store.specs.Calls.{use_changed}
+use Rattle.hb_store.specs.Filling.{HasNew, MayLeave, Puts, PutsAll, numbers_of}
 use Rattle.hb_store.specs.Inside.{AreSpelled, dirty_in}
 use Rattle.hb_store.specs.Replay.{has_page, set_pages}
 use Rattle.hb_store.proofs.Setting.{or_assoc}
@@ -59,10 +59,13 @@ module _ (pool : List (Frame (List ℕ))) (id : ℕ) (bytes : List ℕ) (dirty :
       by : (new old : Option (Frame (List ℕ))) → frame_of after q ≡ new → frame_of pool q ≡ old → MayLeave old new
       by (Some f) old now was = inl (sym (no_other_came pool id q bytes dirty f is other now) ∙ was)
       by None None now was = inl refl
-      by None (Some f) now was = inr (refl, elim (must_stay f) as (λ b. must_stay f ≡ b → must_stay f ≡ false) [
-        | true ↦ λ stays. let never : None ≡ Some f = sym now ∙ marked_pages_stay pool id q bytes dirty f was stays in cc never
-        | false ↦ λ off. off
-      ] refl)
+      by None (Some f) now was = inr (
+        refl,
+        elim (must_stay f) as (λ b. must_stay f ≡ b → must_stay f ≡ false) [
+          | true ↦ λ stays. let never : None ≡ Some f = sym now ∙ marked_pages_stay pool id q bytes dirty f was stays in cc never
+          | false ↦ λ off. off
+        ] refl,
+      )
 
   pub is_pool : IsPool after
   is_pool = brought_pool pool id bytes dirty is absent place

@@ -1,22 +1,20 @@
 -- Frames, and the pages and marks that contracts see of them.
-use Rattle.std.proofs.Common.{◌≡◌, ◌≢◌, inl, inr, ℕ, ◌+◌, ◌<◌, ◌≤◌, ◌==◌, Bool, true, false, cond, eqb, not, List, [], ◌∷◌, map, Option, Some, None, IsTrue, IsSome, refl, sym, ap, subst, ◌∙◌, arith, ne_eqb}
-use Rattle.std.specs.Prelude.{nat_eq, ◌||◌, ◌&&◌, IfSome, IsSomeAnd, filter}
+use Rattle.std.proofs.Common.{◌≡◌, ℕ, ◌+◌, ◌≤◌, ◌==◌, Bool, true, false, cond, not, List, [], ◌∷◌, map, Option, Some, None, refl, sym, ap, subst, ◌∙◌, arith}
+use Rattle.std.specs.Prelude.{nat_eq, ◌||◌, ◌&&◌, IsSomeAnd, filter}
 use Rattle.std.specs.Option.{is_some, option_map, option_map_or}
-use Rattle.std.specs.List.{count_by, find, list_any}
+use Rattle.std.specs.List.{count_by, list_any}
 use Rattle.std.specs.Map.{lookup}
-use Rattle.std.specs.Ordering.{nat_cmp, eq_by_cmp}
+use Rattle.std.specs.Ordering.{nat_cmp}
 use Rattle.std.specs.Cmp.{nat_cmp_total, nat_eq_equiv, unsigned_tied}
 use Rattle.std.specs.FinMap as finite
 use Rattle.std.specs.FinSet as set
 use Rattle.std.specs.HashSet as bag
-use Rattle.std.proofs.lemmas.Bool.{cases_Bool, cases_eq, eq-eqb}
 use Rattle.std.proofs.lemmas.List.Sums.{sum_by-cons}
 use Rattle.hb_lemmas.proofs.Maps.{get-from_list}
-use Rattle.hb_lemmas.proofs.Options.{some_value}
 use Rattle.hb_frag.specs.declared.pages.Page.{Page}
 use Rattle.hb_layout.specs.declared.meta.Meta.{Meta}
 use Rattle.hb_wal.specs.Log.{LogState}
-use Rattle.hb_pool.specs.Frames.{Frame, Use, has_id, must_stay, use_of}
+use Rattle.hb_pool.specs.Frames.{Frame, Use, has_id, use_of}
 use Rattle.hb_pool.specs.Pools.{IsPool, frame_of}
 use Rattle.hb_pool.proofs.Behind.{none_found}
 use Rattle.hb_pool.proofs.Told.{frames_told}
@@ -24,7 +22,7 @@ use Rattle.hb_view.specs.Spelled.{page_spelled}
 use Rattle.hb_store.specs.Filling.{in_frame}
 use Rattle.hb_store.specs.Held.{IsTied, StoreHeld}
 use Rattle.hb_store.specs.Inside.{dirty_in, pages_in}
-use Rattle.hb_store.specs.States.{StoreState, in_memory, is_dirty}
+use Rattle.hb_store.specs.States.{StoreState}
 
 -- ---- the pages
 

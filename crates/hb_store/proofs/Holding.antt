@@ -1,5 +1,5 @@
 -- A page that a fetch holds, from what is known of the store before.
-use Rattle.std.proofs.Common.{◌≡◌, ℕ, ◌<◌, Bool, false, List, map, Option, Some, None, sym, subst, ap, ◌∙◌, refl}
+use Rattle.std.proofs.Common.{◌≡◌, ℕ, ◌<◌, Bool, false, List, Option, Some, None, sym, subst, ap, ◌∙◌, refl}
 use Rattle.std.specs.Prelude.{IsSomeAnd}
 use Rattle.std.specs.HashSet as bag
 use Rattle.hb_frag.specs.declared.pages.Page.{Page}
@@ -7,15 +7,15 @@ use Rattle.hb_frag.specs.Grammar.{SpellsPage}
 use Rattle.hb_layout.specs.declared.meta.Meta.{Meta}
 use Rattle.hb_wal.specs.Log.{LogState}
 use Rattle.hb_page_codec.specs.ReadingPages.{page_of_bytes}
-use Rattle.hb_pool.specs.Frames.{Frame, use_of}
+use Rattle.hb_pool.specs.Frames.{Frame}
 use Rattle.hb_pool.specs.Pools.{IsPool, brought, frame_of, places}
 use Rattle.hb_pool.proofs.Told.{brought_told, frames_told}
-use Rattle.hb_view.specs.Spelled.{page_or, page_spelled}
+use Rattle.hb_view.specs.Spelled.{page_or}
 use Rattle.hb_store.specs.Calls.{Fetched, StaysHere}
 use Rattle.hb_store.specs.Held.{StoreHeld}
 use Rattle.hb_store.specs.Inside.{AreSpelled}
 use Rattle.hb_store.specs.Replaying.{IsPageOf}
-use Rattle.hb_store.specs.States.{IsGoodPage, IsMemory, StoreState, in_memory}
+use Rattle.hb_store.specs.States.{IsGoodPage, IsMemory, in_memory}
 use Rattle.hb_store.proofs.Called.{IsKept}
 use Rattle.hb_store.proofs.Filled.{is_pool, spelled}
 use Rattle.hb_store.proofs.Framed.{held_of, none_framed, page_seen}

@@ -1,28 +1,27 @@
 -- What a store has in memory, once its frames changed.
-use Rattle.std.proofs.Common.{◌≡◌, ◌≢◌, ◌⊎◌, inl, inr, ℕ, ◌+◌, ◌-◌, ◌<◌, ◌≤◌, ◌==◌, Bool, true, false, cond, not, List, [], map, Option, Some, None, IsTrue, IsSome, refl, sym, ap, subst, ◌∙◌, arith, ne_eqb}
+use Rattle.std.proofs.Common.{◌≡◌, ◌≢◌, ◌⊎◌, inl, inr, ℕ, ◌<◌, ◌≤◌, ◌==◌, Bool, true, false, not, List, map, Option, Some, None, IsTrue, refl, sym, ap, subst, ◌∙◌, ne_eqb}
 use Rattle.std.specs.Prelude.{◌||◌, ◌&&◌, IfSome, IsSomeAnd}
 use Rattle.std.specs.Option.{is_some, option_map}
 use Rattle.std.specs.Ordering.{nat_cmp}
-use Rattle.std.specs.FinMap as finite
 use Rattle.std.specs.FinSet as set
 use Rattle.std.specs.HashSet as bag
 use Rattle.std.proofs.lemmas.Bool.{cases_eq, eq-eqb, or_parts}
-use Rattle.hb_lemmas.proofs.Options.{some_value, not_none}
+use Rattle.hb_lemmas.proofs.Options.{not_none}
 use Rattle.hb_frag.specs.declared.pages.Page.{Page}
 use Rattle.hb_frag.specs.Grammar.{SpellsPage}
 use Rattle.hb_layout.specs.declared.meta.Meta.{Meta}
 use Rattle.hb_wal.specs.Log.{LogState}
 use Rattle.hb_page_codec.specs.ReadingPages.{page_of_bytes}
-use Rattle.hb_pool.specs.Frames.{Frame, Use, clean, fresh, must_stay, pinned, unpinned, use_of}
-use Rattle.hb_pool.specs.Pools.{IsPool, brought, frame_of, in_place, places, put_last}
+use Rattle.hb_pool.specs.Frames.{Frame, Use, must_stay, use_of}
+use Rattle.hb_pool.specs.Pools.{IsPool, brought, frame_of, places}
 use Rattle.hb_view.specs.Spelled.{page_or, page_spelled}
 use Rattle.hb_store.specs.Calls.{Fetched, NoneComes, StaysHere}
 use Rattle.hb_view.proofs.Decoded.{is_decoded}
 use Rattle.hb_store.specs.Filling.{HasNew, MayLeave, PutsAll, in_frame}
 use Rattle.hb_store.specs.Replay.{has_page, set_pages}
-use Rattle.hb_store.specs.Inside.{AreSpelled, dirty_in, pages_in}
+use Rattle.hb_store.specs.Inside.{AreSpelled}
 use Rattle.hb_store.specs.Replaying.{IsPageOf}
-use Rattle.hb_store.specs.States.{IsGoodPage, IsMemory, StoreState, in_memory, is_dirty, is_in_log}
+use Rattle.hb_store.specs.States.{IsGoodPage, IsMemory, StoreState, in_memory}
 use Rattle.hb_store.proofs.Filled.{dirty_brought, here, is_pool, others, staying}
 use Rattle.hb_store.proofs.Framed.{frame_and, held_of, less_marks, mark_of, mark_seen, page_seen, same_marks, same_pages}
 
@@ -91,14 +90,26 @@ module _ {T : Type 0} (turn : ℕ) (meta : Meta) (log : LogState) (s : bag.HashS
   -- frames that answer alike
   pub seen_same : (old new : List (Frame (List ℕ))) → IsPool old → IsPool new → ((q : ℕ) → in_frame new q ≡ in_frame old q) → ((q : ℕ) → mark_of (frame_of new q) ≡ mark_of (frame_of old q)) → seen new ≡ seen old
   seen_same old new was is pages marks = λ i. record {
-    turn = turn; meta = meta; log = log; pages = same_pages old new pages i; in_log = set.from_list s.keys; dirty = same_marks old new was is marks i; stopped = stopped;
+    turn = turn;
+    meta = meta;
+    log = log;
+    pages = same_pages old new pages i;
+    in_log = set.from_list s.keys;
+    dirty = same_marks old new was is marks i;
+    stopped = stopped;
   }
 
   -- one that isn't dirty any more
   pub seen_cleaned : (old new : List (Frame (List ℕ))) (id : ℕ) → IsPool old → IsPool new → ((q : ℕ) → in_frame new q ≡ in_frame old q) → ((q : ℕ) → mark_of (frame_of new q) ≡ (not (q == id) && mark_of (frame_of old q)))
       → ◌≡◌ {A = StoreState} (seen new) (record { turn = turn; meta = meta; log = log; pages = (seen old).pages; in_log = (seen old).in_log; dirty = set.remove (seen old).dirty id; stopped = stopped })
   seen_cleaned old new id was is pages marks = λ i. record {
-    turn = turn; meta = meta; log = log; pages = same_pages old new pages i; in_log = set.from_list s.keys; dirty = less_marks old new id was is marks i; stopped = stopped;
+    turn = turn;
+    meta = meta;
+    log = log;
+    pages = same_pages old new pages i;
+    in_log = set.from_list s.keys;
+    dirty = less_marks old new id was is marks i;
+    stopped = stopped;
   }
 
   -- what frames say of a page

@@ -1,8 +1,8 @@
 -- There is a place for each page that an operation changes.
-use Rattle.std.proofs.Common.{◌≡◌, ◌≢◌, inl, inr, ℕ, zero, suc, ◌+◌, ◌<◌, ◌≤◌, ◌==◌, Bool, true, false, cond, not, List, [], ◌∷◌, length, get_or, map, All, Option, Some, None, IsTrue, IsSome, refl, sym, ap, subst, ◌∙◌, arith}
-use Rattle.std.specs.Prelude.{◌||◌, ◌⊎◌, IsSomeAnd}
+use Rattle.std.proofs.Common.{◌≡◌, inl, inr, ℕ, zero, suc, ◌<◌, ◌==◌, Bool, true, false, cond, List, [], ◌∷◌, length, get_or, map, All, Option, Some, None, IsTrue, refl, sym, ap, subst, ◌∙◌, arith}
+use Rattle.std.specs.Prelude.{◌⊎◌, IsSomeAnd}
 use Rattle.std.specs.Option.{is_some, option_map}
-use Rattle.std.proofs.lemmas.Bool.{cases_Bool, cases_eq, eq-eqb, or_left, or_right}
+use Rattle.std.proofs.lemmas.Bool.{cases_eq, eq-eqb, or_left, or_right}
 use Rattle.std.proofs.lemmas.List.Elements.{All-cons, All-head, All-nil, All-tail}
 use Rattle.hb_lemmas.proofs.Options.{some_value, not_none}
 use Rattle.hb_frag.specs.declared.pages.LivePage.{LivePage}
@@ -167,10 +167,12 @@ page_at (one ∷ rest) (suc k) d lt = or_right ((get_or rest k d).0 == one.0) (h
 
 -- there is a place for each page that an operation changes
 pub have_room : (op : Op) (st : StoreState) (uses : List Use) → IsTied st uses → HasPlaceFor op st uses → HaveRoom uses (change_here st op).pages
-have_room op st uses tied place =
-    (fresh_of op, λ k d lt.
-    let c = get_or (change_here st op).pages k d in
-    by c (page_at (change_here st op).pages k d lt) (made_known op st.meta (read_here st op 0) (read_here st op 1) (read_here st op 2) k d lt))
+have_room op st uses tied place = (
+  fresh_of op,
+  λ k d lt.
+      let c = get_or (change_here st op).pages k d in
+      by c (page_at (change_here st op).pages k d lt) (made_known op st.meta (read_here st op 0) (read_here st op 1) (read_here st op 2) k d lt),
+)
   where
     no_page : (o : Option Page) → is_some o ≡ false → o ≡ None
     no_page None e = refl

@@ -1,5 +1,5 @@
 -- What setting changed pages does to the frames, and that there is a place for each.
-use Rattle.std.specs.Prelude.{◌≡◌, ◌≢◌, ◌⊎◌, ℕ, ◌<◌, Bool, true, false, IsTrue, List, [], ◌∷◌, map, All, Option, Some, None, IsSomeAnd}
+use Rattle.std.specs.Prelude.{◌≡◌, ◌≢◌, ◌⊎◌, ℕ, ◌<◌, true, false, IsTrue, List, [], ◌∷◌, map, All, Option, Some, None, IsSomeAnd}
 use Rattle.std.specs.Option.{option_map}
 use Rattle.hb_frag.specs.declared.pages.Page.{Page}
 use Rattle.hb_frag.specs.Grammar.{SpellsPage}

@@ -1,5 +1,5 @@
 -- The pages in memory with their order of use, and which one is the next to be written to its place.
-use Rattle.std.specs.Prelude.{◌≡◌, ℕ, Bool, false, IsTrue, List, [], Option, is_some, find}
+use Rattle.std.specs.Prelude.{◌≡◌, ℕ, false, List, Option, is_some, find}
 use Rattle.std.specs.FinSet as set
 use Rattle.std.specs.Option.{option_map, option_map_or}
 use Rattle.hb_pool.specs.Frames.{Use, clean}

@@ -1,8 +1,7 @@
 -- How what a store has in memory is held: pages as bytes in frames, and the numbers of those in the log in a hash set.
-use Rattle.std.specs.Prelude.{ℕ, Bool, List, Option, IfSome, map, filter}
+use Rattle.std.specs.Prelude.{ℕ, List, IfSome, map, filter}
 use Rattle.std.specs.FinMap as finite
 use Rattle.std.specs.FinSet as set
-use Rattle.std.specs.Option.{option_map}
 use Rattle.hb_frag.specs.declared.pages.Page.{Page}
 use Rattle.hb_frag.specs.Grammar.{SpellsPage}
 use Rattle.hb_pool.specs.Frames.{Frame, use_of}

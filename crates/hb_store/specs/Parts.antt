@@ -1,5 +1,5 @@
 -- What a store keeps of the disk, in parts: what is durable, what waits, what is in the log and what is in memory.
-use Rattle.std.specs.Prelude.{◌≡◌, ◌⊎◌, ℕ, List, [], ◌∷◌, Some, IsSome, ◌*◌, Bool, false, ◌++◌, length, map, All, Option, None, IsTrue, is_some}
+use Rattle.std.specs.Prelude.{◌≡◌, ◌⊎◌, ℕ, List, [], ◌∷◌, Some, IsSome, ◌*◌, Bool, false, ◌++◌, length, map, All, Option, IsTrue, is_some}
 use Rattle.hb_disk.specs.Model.{DiskModel}
 use Rattle.hb_layout.specs.Offsets.{slot_offset}
 use Rattle.hb_layout.specs.declared.meta.Meta.{Meta}

@@ -6,7 +6,7 @@ ghost use Rattle.hb_ops.specs.Files.{FileState, page_of};
 ghost use Rattle.hb_ops.specs.Sound.{IsSound};
 ghost use Rattle.hb_store.specs.States.{IsMemory, in_memory};
 ghost use Rattle.hb_store.specs.Fetching.{IsCrowdedOut, LooksUp, IsDamage, IsNext, IsNoHead, MayFetch, MayUse, NeedsNoRead, use_numbered};
-ghost use Rattle.hb_store.specs.Calls.{StaysHere};
+ghost use Rattle.hb_store.specs.Calls.{StaysHere, use_fetched};
 ghost use Rattle.hb_store.specs.Keeps.{StoreKeeps, last_of};
 ghost use Rattle.hb_store.specs.Seen.{seen_as, uses_of};
 ghost use Rattle.hb_store.specs.declared.stops.FetchStop.TheVariants.{Crowded, Damaged, ReadFault};
@@ -67,7 +67,11 @@ impl<D: Device> Store<D> {
         ensures named { IfOk result (λ next. in_memory (seen_as self.new) head ≡ Some (Free next)) }
         ensures memory { OnOk result (IsMemory (seen_as self.new)) }
         ensures fetches { MayFetch head (seen_as self.old) (seen_as self.new) }
-        ensures unread { IsSome (in_memory (seen_as self.old) head) → (self.new.disk ≡ self.old.disk) × (seen_as self.new ≡ seen_as self.old) }
+        ensures uses { OnOk result (uses_of self.new ≡ use_fetched head (uses_of self.old)) }
+        ensures may_use { MayUse head (uses_of self.old) (uses_of self.new) }
+        ensures stays { (q : ℕ) → StaysHere (uses_of self.old) q → in_memory (seen_as self.new) q ≡ in_memory (seen_as self.old) q }
+        ensures crowded { IsErrOf result Crowded → IsCrowdedOut head (seen_as self.old) (uses_of self.old) }
+        ensures unread { IsSome (in_memory (seen_as self.old) head) → (self.new.disk ≡ self.old.disk) × (seen_as self.new ≡ seen_as self.old) × (uses_of self.new ≡ uses_of self.old) }
         ensures damage { IsSome (in_memory (seen_as self.old) head) → IfErr result IsDamage }
         ensures looks { LooksUp (IsErrOf result ReadFault) (D.model self.old.disk) (D.model self.new.disk) (seen_as self.old) (seen_as self.new) }
         ensures why { IfErr result (IsNoHead (seen_as self.old).meta (D.model self.old.disk) (seen_as self.new) head) }

@@ -54,7 +54,7 @@ impl Model for Memory {
     ghost Value = { StoreHeld };
 
     ghost coded = { code_by _ (coded× (coded× (coded× coded_ℕ said.the_row.coded) (coded× area.the_row.coded (coded× (map.code coded_ℕ page.the_row.coded) (coded× (set.code coded_ℕ) (coded× (set.code coded_ℕ) coded_bool)))))
-            (coded_list (code_by _ (coded× coded_ℕ (coded× coded_bool coded_ℕ)) (λ u. (u.id, (u.dirty, u.pins))) (λ p. record { id = p.0; bytes = tt {0}; dirty = p.1.0; pins = p.1.1 }) (λ _. refl))))
+        (coded_list (code_by _ (coded× coded_ℕ (coded× coded_bool coded_ℕ)) (λ u. (u.id, (u.dirty, u.pins))) (λ p. record { id = p.0; bytes = tt {0}; dirty = p.1.0; pins = p.1.1 }) (λ _. refl))))
         (λ h. (((h.state.turn, h.state.meta), (h.state.log, (h.state.pages, (h.state.in_log, (h.state.dirty, h.state.stopped))))), h.uses))
         (λ p. record { state = record { turn = p.0.0.0; meta = p.0.0.1; log = p.0.1.0; pages = p.0.1.1.0; in_log = p.0.1.1.1.0; dirty = p.0.1.1.1.1.0; stopped = p.0.1.1.1.1.1 }; uses = p.1 })
         (λ _. refl) };

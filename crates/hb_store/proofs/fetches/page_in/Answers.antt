@@ -1,4 +1,4 @@
-use Rattle.std.proofs.Common.{sym, arith}
+use Rattle.std.proofs.Common.{arith}
 use Rattle.hb_lemmas.proofs.Options.{on_ok_weaker}
 use Rattle.hb_store.proofs.Checked.{breaks_holds, can_be_written, good_read, no_page_holds}
 use Rattle.hb_store.proofs.fetches.page_in.Goals as goal

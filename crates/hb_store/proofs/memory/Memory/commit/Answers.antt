@@ -15,7 +15,7 @@ use Rattle.hb_store.specs.Replay.{has_page, is_among}
 use Rattle.hb_store.specs.States.{IsMemory}
 use Rattle.hb_store.proofs.Committed.{memory_after}
 use Rattle.hb_store.proofs.Committing.{commits_then, made_well, spelled_pages, stays_then}
-use Rattle.hb_store.proofs.Framed.{held_of, tied}
+use Rattle.hb_store.proofs.Framed.{tied}
 use Rattle.hb_store.proofs.Remembered.{put_spelled, seen}
 use Rattle.hb_store.proofs.Room.{have_room}
 use Rattle.hb_store.proofs.memory.Memory.commit.Goals as goal

@@ -1,4 +1,4 @@
-use Rattle.std.proofs.Common.{ℕ, ◌<◌, List, sym, subst, ap, ◌∙◌}
+use Rattle.std.proofs.Common.{◌<◌, sym, subst, ap, ◌∙◌}
 use Rattle.std.specs.Prelude.{IsSomeAnd}
 use Rattle.hb_pool.specs.Frames.{Use, pinned}
 use Rattle.hb_pool.specs.Pools.{frame_of, put_last}
