@@ -57,6 +57,7 @@ pub(crate) fn file(alloc: Global, tree: &Tree) -> Option<Vec<u8>> {
 }
 
 /// The store of a file, over a disk that tells nothing and fails at the call of this number.
+#[tactic(auto, using(crate::proofs::Untold::new_driven))]
 fn opened(alloc: Global, bytes: Vec<u8>, failing: u64) -> Option<Store<RotDisk>>
     ensures { IfSome result (λ store. IsDriven (seen_as store) (uses_of store)) }
 {
@@ -91,7 +92,7 @@ pub(crate) fn begun(alloc: Global, tree: &Tree, failing: u64) -> Option<Store<Ro
 #[tactic(auto, using(crate::proofs::Untold::numbered))]
 fn number(store: &mut Store<RotDisk>) -> Option<u32>
     requires { IsDriven (seen_as store.old) (uses_of store.old) }
-    ensures { IsDriven (seen_as store.new) (uses_of store.new) }
+    ensures { IfSome result (λ _. IsDriven (seen_as store.new) (uses_of store.new)) }
 {
     if store.meta().free != 0 {
         return None;

@@ -4,12 +4,13 @@
 ghost use Rattle.std.specs.Prelude.{◌≡◌, false, IfSome};
 ghost use Rattle.hb_store.specs.Seen.{seen_as};
 
+use crate::homes::flush;
 use crate::stores::{EMPTY, FOUR, NEVER, POINTS, SPLIT, with_groups};
 use hb_disk::{Device, RotDisk};
 use hb_frag::{Leaf, Node, Page};
 use hb_ops::Meta;
 use hb_space::Record;
-use hb_store::{Flushed, Store, Touched, read_log};
+use hb_store::{Store, Touched, read_log};
 use std::alloc::Global;
 
 /// The put of the point 1 with an empty body into page 1, as a group of the log has it. No page image.
@@ -112,18 +113,15 @@ fn groups_wait(rt: HostRuntime) {
     }
 }
 
-/// Flushes so many times, and says what came of the last one: `f` is forced, `w` a page written home, `n` neither, `e` that it
-/// failed.
+/// Flushes so many times, and says what came of the last one, as `flush` does, or `e` for one that failed.
 fn flushed(store: &mut Store<RotDisk>, times: u8) -> char
     requires { (seen_as store.old).stopped ≡ false }
 {
     let mut last = ' ';
     for _ in 0..times {
-        match store.flush_step() {
-            Ok(Flushed::Forced) => last = 'f',
-            Ok(Flushed::Written(_)) => last = 'w',
-            Ok(Flushed::Nothing) => last = 'n',
-            Err(_) => return 'e',
+        match flush(store) {
+            Some(did) => last = did,
+            None => return 'e',
         }
     }
     last
@@ -134,7 +132,7 @@ fn flushed(store: &mut Store<RotDisk>, times: u8) -> char
 const FORCES: [(u64, u8, char, u32, u32, u64); 10] = [
     (NEVER, 1, 'f', 16, 7, 5),
     (NEVER, 2, 'f', 0, 9, 9),
-    (NEVER, 3, 'w', 0, 9, 10),
+    (NEVER, 3, '1', 0, 9, 10),
     (NEVER, 4, 'n', 0, 9, 10),
     (1, 1, 'e', 4131, 7, 2),
     (2, 1, 'e', 4131, 7, 3),

@@ -14,6 +14,7 @@ use std::alloc::Global;
 
 /// What a flush did: `f` for a group that was forced, the number of a page that was written home, or `w` above 9, and `n` for
 /// neither. `None` where it failed.
+#[tactic(auto, using(crate::proofs::Untold::flushed_runs))]
 pub(crate) fn flush(store: &mut Store<RotDisk>) -> Option<char>
     requires { (seen_as store.old).stopped ≡ false }
     ensures { IfSome result (λ _. (seen_as store.new).stopped ≡ false) }

@@ -5,7 +5,6 @@ ghost use Rattle.hb_store.specs.Seen.{seen_as, uses_of};
 ghost use Rattle.hb_store.specs.States.{in_memory};
 ghost use Rattle.hb_file_tests.specs.Driven.{FewPins, IsDriven, IsPinned};
 
-use crate::drives::put_all;
 use crate::fetches::{Told, shown, told};
 use crate::groups::is_of;
 use crate::homes::flush;
@@ -42,6 +41,16 @@ type Rot = (u64, u64, u8);
 /// No byte does.
 const SOUND: Rot = (NEVER, u64::MAX, 0);
 
+/// Puts a piece at an offset, as far as there are bytes.
+fn put(bytes: &mut [u8], at: usize, piece: &[u8]) {
+    let Some(rest) = bytes.get_mut(at..) else {
+        return;
+    };
+    for (place, byte) in rest.iter_mut().zip(piece) {
+        *place = *byte;
+    }
+}
+
 /// The bytes of the file: each page that is taken has the point of its number.
 fn file(alloc: Global) -> Option<Vec<u8>> {
     let Ok(mut bytes) = vec![in alloc; 0; SIZE] else {
@@ -50,12 +59,13 @@ fn file(alloc: Global) -> Option<Vec<u8>> {
     for id in 1..131 {
         let mut page = POINT;
         page[30] = id;
-        put_all(&mut bytes, &[((id as usize) * 4096 + 135_168, &page)]);
+        put(&mut bytes, (id as usize) * 4096 + 135_168, &page);
     }
     Some(bytes)
 }
 
 /// The store of the file, without a page in memory.
+#[tactic(auto, using(crate::proofs::Untold::new_driven, crate::proofs::Untold::new_few))]
 fn wide(alloc: Global, rot: Rot) -> Option<Store<RotDisk>>
     ensures driven { IfSome result (λ store. IsDriven (seen_as store) (uses_of store)) }
     ensures few { IfSome result (λ store. FewPins (uses_of store)) }
@@ -100,38 +110,121 @@ fn is_there(alloc: Global, store: &Store<RotDisk>, id: u32) -> Option<bool> {
     Some(has_point(&page, u64::from(id)))
 }
 
+/// Fetches a page. `None` where it isn't in memory then.
+#[tactic(auto, using(crate::proofs::Untold::fetched_few, crate::proofs::Untold::fetched_pinned))]
+fn fetched(alloc: Global, store: &mut Store<RotDisk>, id: u32) -> Option<()>
+    ensures few { FewPins (uses_of store.old) → IfSome result (λ _. FewPins (uses_of store.new)) }
+    ensures pinned { (other : ℕ) → IsPinned (uses_of store.old) other → IfSome result (λ _. IsPinned (uses_of store.new) other) }
+{
+    store.fetch(id).ok()?;
+    if is_there(alloc, store, id)? {
+        Some(())
+    } else {
+        None
+    }
+}
+
+/// The number at a place of those from the one on up or down to the other.
+fn nth(first: u32, last: u32, place: u32) -> u32 {
+    if first <= last {
+        first.saturating_add(place)
+    } else {
+        first.saturating_sub(place)
+    }
+}
+
 /// Fetches the pages from the one number on up or down to the other. `None` where one isn't in memory then.
 fn all_fetched(alloc: Global, store: &mut Store<RotDisk>, first: u32, last: u32) -> Option<()>
-    ensures few { FewPins (uses_of store.old) → FewPins (uses_of store.new) }
-    ensures pinned { (id : ℕ) → IsPinned (uses_of store.old) id → IsPinned (uses_of store.new) id }
+    ensures few { FewPins (uses_of store.old) → IfSome result (λ _. FewPins (uses_of store.new)) }
+    ensures pinned { (other : ℕ) → IsPinned (uses_of store.old) other → IfSome result (λ _. IsPinned (uses_of store.new) other) }
 {
     for place in 0..first.abs_diff(last).saturating_add(1) {
-        let id = if first <= last {
-            first.saturating_add(place)
-        } else {
-            first.saturating_sub(place)
-        };
-        store.fetch(id).ok()?;
-        if !is_there(alloc, store, id)? {
-            return None;
-        }
+        fetched(alloc, store, nth(first, last, place))?;
     }
     Some(())
 }
 
-/// What is done with a store.
-#[derive(Clone, Copy, Debug)]
-enum Deed {
-    /// The pages from the one number on up or down to the other are fetched.
-    Fetch(u32, u32),
-    /// A page in memory is pinned and unpinned.
-    Touch(u32),
+/// The store of the file, whose page 1 is pinned where that is asked for.
+fn begun(alloc: Global, is_held: bool, rot: Rot) -> Option<Store<RotDisk>> {
+    let mut store = wide(alloc, rot)?;
+    if is_held {
+        held(&mut store, 1).ok()?;
+    }
+    Some(store)
+}
+
+/// How many calls the disk has had once the pages between these numbers were fetched, row by row.
+fn calls_behind(alloc: Global, is_held: bool, rows: &[(u32, u32, u64)]) -> Option<u64> {
+    let mut store = begun(alloc, is_held, SOUND)?;
+    for (first, last, _) in rows {
+        all_fetched(alloc, &mut store, *first, *last)?;
+    }
+    Some(store.into_disk().inner.calls())
+}
+
+/// The pages from the one number on up or down to the other are fetched; and how many calls the disk has had then.
+const ORDER: [(u32, u32, u64); 12] = [
+    (1, 128, 128),
+    // each frame has a page. One that is there isn't read, and its place in the order stays
+    (128, 1, 128),
+    // 1 and 2 go
+    (129, 130, 130),
+    (3, 130, 130),
+    // 3 goes, and then 4
+    (1, 1, 131),
+    (4, 130, 131),
+    (3, 3, 132),
+    // the one that goes is the next that is asked for; the last one that goes is 1
+    (4, 130, 259),
+    (130, 3, 259),
+    // 3 and 4 go
+    (1, 2, 261),
+    (130, 5, 261),
+    // 5 and 6 go
+    (4, 3, 263),
+];
+
+/// The same where page 1 was fetched and pinned before: the others come and go.
+const HELD: [(u32, u32, u64); 6] = [
+    // 2 and 3 go
+    (2, 130, 130),
+    (1, 1, 130),
+    // 4 and 5 go
+    (2, 3, 132),
+    (1, 1, 132),
+    // the page two numbers on goes, at the end 2 and 3
+    (4, 130, 259),
+    (1, 1, 259),
+];
+
+#[test]
+fn the_least_recently_used_page_goes(rt: HostRuntime) {
+    for (place, (_, _, calls)) in ORDER.iter().enumerate() {
+        let rows = ORDER.get(..=place).expect(&rt, "row");
+        assert_eq!(rt;
+            calls_behind(rt.alloc(), false, rows),
+            Some(*calls),
+            "{place}"
+        );
+    }
+}
+
+#[test]
+fn a_pinned_page_never_goes(rt: HostRuntime) {
+    for (place, (_, _, calls)) in HELD.iter().enumerate() {
+        let rows = HELD.get(..=place).expect(&rt, "row");
+        assert_eq!(rt;
+            calls_behind(rt.alloc(), true, rows),
+            Some(*calls),
+            "{place}"
+        );
+    }
 }
 
 /// Pins and unpins a page in memory. `None` where it isn't there.
+#[tactic(auto, using(crate::proofs::Untold::few_may_pin, crate::proofs::Untold::pinned_may_go))]
 fn touched(store: &mut Store<RotDisk>, id: u32) -> Option<()>
     requires { FewPins (uses_of store.old) }
-    ensures { FewPins (uses_of store.new) }
 {
     if store.get(id).is_none() {
         return None;
@@ -141,100 +234,21 @@ fn touched(store: &mut Store<RotDisk>, id: u32) -> Option<()>
     Some(())
 }
 
-/// Does one deed.
-fn performed(alloc: Global, store: &mut Store<RotDisk>, deed: Deed) -> Option<()>
-    requires { FewPins (uses_of store.old) }
-    ensures { FewPins (uses_of store.new) }
-{
-    match deed {
-        Deed::Fetch(first, last) => all_fetched(alloc, store, first, last),
-        Deed::Touch(id) => touched(store, id),
-    }
-}
-
-/// The store of the file, whose page 1 is pinned where that is asked for.
-fn begun(alloc: Global, is_held: bool, rot: Rot) -> Option<Store<RotDisk>>
-    ensures { IfSome result (λ store. FewPins (uses_of store)) }
-{
-    let mut store = wide(alloc, rot)?;
-    if is_held {
-        held(&mut store, 1).ok()?;
-    }
-    Some(store)
-}
-
-/// How many calls the disk has had once these deeds were done.
-fn calls_behind(alloc: Global, is_held: bool, deeds: &[(Deed, u64)]) -> Option<u64> {
-    let mut store = begun(alloc, is_held, SOUND)?;
-    for (deed, _) in deeds {
-        performed(alloc, &mut store, *deed)?;
-    }
-    Some(store.into_disk().inner.calls())
-}
-
-/// What is done, and how many calls the disk has had then. In the order of use a fetched page is behind the others.
-const ORDER: [(Deed, u64); 17] = [
-    (Deed::Fetch(1, 128), 128),
-    // all frames have a page. One that is there isn't read, and its place in the order stays
-    (Deed::Fetch(128, 1), 128),
-    // 1 and 2 go
-    (Deed::Fetch(129, 130), 130),
-    (Deed::Fetch(3, 130), 130),
-    // 3 goes, and then 4
-    (Deed::Fetch(1, 1), 131),
-    (Deed::Fetch(4, 130), 131),
-    (Deed::Fetch(3, 3), 132),
-    // each one that goes is the next that is asked for; the last one that goes is 1
-    (Deed::Fetch(4, 130), 259),
-    (Deed::Fetch(130, 3), 259),
-    // 3 and 4 go
-    (Deed::Fetch(1, 2), 261),
-    (Deed::Fetch(130, 5), 261),
-    // 5 and 6 go
-    (Deed::Fetch(4, 3), 263),
-    // 7 is used, so that 8 goes, and then 9
-    (Deed::Touch(7), 263),
-    (Deed::Fetch(6, 6), 264),
-    (Deed::Fetch(7, 7), 264),
-    (Deed::Fetch(9, 9), 264),
-    (Deed::Fetch(8, 8), 265),
-];
-
-/// The same where page 1 was fetched and pinned before: the others come and go.
-const HELD: [(Deed, u64); 6] = [
-    // 2 and 3 go
-    (Deed::Fetch(2, 130), 130),
-    (Deed::Fetch(1, 1), 130),
-    // 4 and 5 go
-    (Deed::Fetch(2, 3), 132),
-    (Deed::Fetch(1, 1), 132),
-    // the page two numbers on goes, at the end 2 and 3
-    (Deed::Fetch(4, 130), 259),
-    (Deed::Fetch(1, 1), 259),
-];
-
-#[test]
-fn the_least_recently_used_page_goes(rt: HostRuntime) {
-    for (place, (deed, calls)) in ORDER.iter().enumerate() {
-        let deeds = ORDER.get(..=place).expect(&rt, "row");
-        assert_eq!(rt;
-            calls_behind(rt.alloc(), false, deeds),
-            Some(*calls),
-            "{place} {deed:?}"
-        );
-    }
+/// Which of the pages 1 and 2 are in memory once all frames had a page, 1 was pinned and unpinned, and one more page came; and how many
+/// calls the disk has had once both were fetched again. So 1 is used, and 2 goes, and for it 3.
+fn used(alloc: Global) -> Option<(bool, bool, u64)> {
+    let mut store = wide(alloc, SOUND)?;
+    all_fetched(alloc, &mut store, 1, 128)?;
+    touched(&mut store, 1)?;
+    all_fetched(alloc, &mut store, 129, 129)?;
+    let (first, second) = (store.get(1).is_some(), store.get(2).is_some());
+    all_fetched(alloc, &mut store, 1, 2)?;
+    Some((first, second, store.into_disk().inner.calls()))
 }
 
 #[test]
-fn a_pinned_page_never_goes(rt: HostRuntime) {
-    for (place, (deed, calls)) in HELD.iter().enumerate() {
-        let deeds = HELD.get(..=place).expect(&rt, "row");
-        assert_eq!(rt;
-            calls_behind(rt.alloc(), true, deeds),
-            Some(*calls),
-            "{place} {deed:?}"
-        );
-    }
+fn a_page_that_was_used_goes_later(rt: HostRuntime) {
+    assert_eq!(rt; used(rt.alloc()), Some((true, false, 130)));
 }
 
 /// Whether page 1 is in memory once it was pinned, the others came, it was unpinned, and one more page came; and how many calls the

@@ -1,6 +1,6 @@
 //! Stores of small files of one attribute, by hand, over a disk that tells nothing. Where something is `None`, memory was
 //! refused, or a row of a test is wrong.
-ghost use Rattle.std.specs.Prelude.{◌≡◌, ◌<◌, ◌^◌, ℕ, true, false, get_or, IfSome, IsTrue, Option, Some};
+ghost use Rattle.std.specs.Prelude.{◌≡◌, ◌<◌, ◌^◌, ℕ, true, false, get_or, IfSome, IsTrue, None, OnOk, Option, Some};
 ghost use Rattle.hb_disk.specs.RotDisk.{hidden};
 ghost use Rattle.hb_frag.specs.declared.pages.Page.TheVariants.{Live};
 ghost use Rattle.hb_frag.specs.declared.pages.LivePage.{LivePage as OnePage};
@@ -12,7 +12,7 @@ ghost use Rattle.hb_ops.specs.Operations.{BoxesMatch, OpHas, reads_of};
 ghost use Rattle.hb_store.specs.Calls.{IsAllowedHere, read_here};
 ghost use Rattle.hb_store.specs.Seen.{seen_as, uses_of};
 ghost use Rattle.hb_store.specs.States.{in_memory};
-ghost use Rattle.hb_file_tests.specs.Driven.{IsDriven};
+ghost use Rattle.hb_file_tests.specs.Driven.{IsDriven, IsPinned};
 
 use hb_disk::{MemDisk, RotDisk};
 use hb_frag::{LivePage, Page};
@@ -81,6 +81,7 @@ pub(crate) fn disk(alloc: Global, log: &[u8], page: &[u8], failing: u64) -> Opti
 pub(crate) type MetaNumbers = (u32, u32, u32, u32);
 
 /// The store of a file that says so, over such a disk.
+#[tactic(auto, using(crate::proofs::Untold::new_driven))]
 pub(crate) fn opened(alloc: Global, numbers: MetaNumbers, disk: RotDisk) -> Option<Store<RotDisk>>
     requires { (hidden disk).size ≡ 155648 }
     ensures { IfSome result (λ store. IsDriven (seen_as store) (uses_of store)) }
@@ -242,11 +243,12 @@ pub(crate) fn done(alloc: Global, store: &mut Store<RotDisk>, group: &[u8]) -> O
     Some(allowed)
 }
 
-/// Fetches a page, and pins it where it wasn't there. So it stays.
-#[tactic(auto, using(crate::proofs::Untold::held_absent, crate::proofs::Untold::held_there))]
+/// Fetches a page, and pins it where it wasn't in memory. So it stays.
+#[tactic(auto, using(crate::proofs::Untold::new_may_pin, crate::proofs::Untold::held_driven, crate::proofs::Untold::held_pinned, crate::proofs::Untold::same_driven))]
 pub(crate) fn held(store: &mut Store<RotDisk>, id: u32) -> Result<(), FetchStop>
     requires { IsDriven (seen_as store.old) (uses_of store.old) }
-    ensures { IsDriven (seen_as store.new) (uses_of store.new) }
+    ensures driven { IsDriven (seen_as store.new) (uses_of store.new) }
+    ensures pinned { in_memory (seen_as store.old) id ≡ None → OnOk result (IsPinned (uses_of store.new) id) }
 {
     let absent = store.get(id).is_none();
     store.fetch(id)?;
