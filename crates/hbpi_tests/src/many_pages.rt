@@ -1,9 +1,11 @@
 //! Files of more pages than there are frames in memory: they grow in one run, with the poster, and are looked up, changed and
-//! searched; drawn schedules over them; and by hand, from which change on a page is written to its place for want of frames.
+//! searched; drawn schedules over them; and by hand, from which change on a page is written to its place for want of frames, and
+//! which pages are read again.
 
 use crate::drawn::{Draw, Rows, Wave, driven, finish};
 use crate::ordered::{Commands, EMPTY, Plain, Told, Verb, holds};
-use crate::runs::left_of;
+use crate::runs::{drive_on, left_of};
+use hb_disk::Disk;
 use std::alloc::Global;
 
 /// How many bytes such a file has: two superblocks, two log areas, 512 pages.
@@ -225,6 +227,50 @@ fn pages_are_written_for_frames(rt: HostRuntime) {
     let before = grown(rt.alloc(), 1, IN_ORDER).expect(&rt, "a file");
     for &(count, written) in &CROWDED {
         let right = are_enough(rt.alloc(), &before, count, written);
+        assert!(rt; right == Some(true), "{count}");
+    }
+}
+
+/// How many calls of the disk the lookups of so many points make that are six apart, each of them so many times, with an opening
+/// before them. `None` too where steps are missing.
+fn calls_of(alloc: Global, file: &[u8], count: usize, times: usize) -> Option<u64> {
+    let lines = count.wrapping_mul(times);
+    let mut commands = Commands::new(alloc, 1, 0);
+    for turn in 0..lines {
+        commands.add(1, Verb::Lookup, (turn % count.max(1)).wrapping_mul(6))?;
+    }
+    let steps = lines.wrapping_mul(5).wrapping_add(1);
+    write!(commands.text, "step 1x{steps}\n").ok()?;
+    let left = drive_on(alloc, commands.text.as_str(), file)?;
+    if left.said.as_str().contains("unfinished") {
+        return None;
+    }
+    Some(left.disk.calls())
+}
+
+/// Whether so many lookups, each on a page of its own, read what they have to where they are made twice. At first each page is
+/// read once. Then none is read again where all have frames. Else each page of records is, since 128 others or more were used
+/// behind it; the root isn't, and those between may still be there.
+fn are_read_again(alloc: Global, file: &[u8], count: usize) -> Option<bool> {
+    let none = calls_of(alloc, file, count, 0)?;
+    let once = calls_of(alloc, file, count, 1)?;
+    let first = once.saturating_sub(none);
+    let again = calls_of(alloc, file, count, 2)?.saturating_sub(once);
+    let right = if first <= 128 {
+        again == 0
+    } else {
+        count as u64 <= again && again < first
+    };
+    Some(right && first > count as u64)
+}
+
+// 90 pages of records have frames, with 27 pages above them at most: one of these names 11 others or more, and one of records has
+// two records. 130 have none.
+#[test]
+fn pages_that_were_used_leave_last(rt: HostRuntime) {
+    let (_, file) = grown(rt.alloc(), 1, IN_ORDER).expect(&rt, "a file");
+    for count in 90..131 {
+        let right = are_read_again(rt.alloc(), file.as_slice(), count);
         assert!(rt; right == Some(true), "{count}");
     }
 }
