@@ -11,8 +11,8 @@ use std::alloc::Global;
 /// How many bytes the file has: two superblocks, two log areas of 16 pages, 512 pages.
 const SIZE: usize = 8192 + 2 * 65_536 + 512 * 4096;
 
-/// A file of 800 records that were put in one behind the other, in five runs with the poster, and what the points have. It has
-/// three levels, as in `many_pages`.
+/// A file of 800 records that were put in one behind the other, in five runs with the poster, and what the points have. An opening
+/// has put each page into its place. There are three levels, as in `many_pages`.
 fn grown(alloc: Global) -> Option<(Plain, Vec<u8>)> {
     let mut plain = EMPTY;
     let mut file = left_of(alloc, "create 1 512 65536 6 32", &[], SIZE, 0)?;
@@ -31,7 +31,8 @@ fn grown(alloc: Global) -> Option<(Plain, Vec<u8>)> {
         plain = told.whole;
         file = left;
     }
-    Some((plain, file))
+    let opened = drive_on(alloc, "", file.as_slice())?;
+    Some((plain, opened.disk.bytes().to_vec(alloc).ok()?))
 }
 
 /// The points of 13 deletes: each has a page of its own, and none is beside the end of a run, where a posting may be lost.

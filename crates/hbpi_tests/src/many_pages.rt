@@ -68,7 +68,7 @@ fn grow(text: &mut String) -> Option<()> {
     text.push_str("step 1x800 px400 2x40\n").ok()
 }
 
-/// The file of these inserts, and what was told of them.
+/// The file of these inserts, in which an opening has put each page into its place, and what was told of them.
 fn grown(alloc: Global, k: u8, far: usize) -> Option<(Told, Vec<u8>)> {
     let mut commands = inserts(alloc, k, far)?;
     grow(&mut commands.text)?;
@@ -77,7 +77,8 @@ fn grown(alloc: Global, k: u8, far: usize) -> Option<(Told, Vec<u8>)> {
     if !told.done || changed(new.as_slice(), file.as_slice(), 256) < HOME {
         return None;
     }
-    Some((told, file))
+    let opened = drive_on(alloc, "", file.as_slice())?;
+    Some((told, opened.disk.bytes().to_vec(alloc).ok()?))
 }
 
 /// The inserts, and behind them in the same run 200 lines of three sessions all over the file, and a search of the whole space.
