@@ -213,7 +213,13 @@ impl<D: Device> Core<D> {
 
     /// What the actor has in hand is given up: a line is answered outside the order, and a job is dropped.
     /// Its pages, which are these, are pinned for it no more.
-    pub(crate) fn give_up(&mut self, actor: Actor, line: Option<u32>, why: DropWhy, pins: &[u32]) -> Outcome
+    pub(crate) fn give_up(
+        &mut self,
+        actor: Actor,
+        line: Option<u32>,
+        why: DropWhy,
+        pins: &[u32],
+    ) -> Outcome
         requires actor { IsActor actor }
         requires pins { CanUnpin pins.now (core_seen self.old).uses }
         requires tied { IsTied (core_seen self.old).store (core_seen self.old).uses }
@@ -322,12 +328,4 @@ fn pages_of(latches: &[Latch]) -> ArrayVec<u32, 2>
         _ => unreachable!(),
     }
     pages
-}
-
-/// Scratch.
-#[tactic(auto, using(crate::proofs::Running::Numbered::head_halts))]
-fn scratch() -> bool
-    ensures { result ≡ result }
-{
-    true
 }

@@ -61,7 +61,7 @@ impl<D: Device> Core<D> {
         requires { MayLookFor (core_seen self.now) actor }
         ensures { (activity : _) → StandsAs (core_seen self.now) actor activity →
             (IsTrue result ↔ ((IsTrue (may_commit activity (core_seen self.now).store.meta (looked_live (core_seen self.now).store activity))
-                × (¬ (IsReady (core_seen self.now).store × HasPlaces (core_seen self.now).uses)))
+            × (¬ (IsReady (core_seen self.now).store × HasPlaces (core_seen self.now).uses)))
             ⊎ ((places (core_seen self.now).uses ≡ 0) × IsSomeAnd wanted (λ w. in_memory (core_seen self.now).store w.page ≡ None)))) }
     {
         self.changes_unready(actor) || self.is_crowded(wanted)
@@ -72,7 +72,7 @@ impl<D: Device> Core<D> {
         requires { MayLookFor (core_seen self.now) actor }
         ensures { (activity : _) → StandsAs (core_seen self.now) actor activity →
             (IsTrue result ↔ (IsTrue (may_commit activity (core_seen self.now).store.meta (looked_live (core_seen self.now).store activity))
-                × (¬ (IsReady (core_seen self.now).store × HasPlaces (core_seen self.now).uses)))) }
+            × (¬ (IsReady (core_seen self.now).store × HasPlaces (core_seen self.now).uses)))) }
     {
         self.may_commit(actor) && !self.store.ready()
     }

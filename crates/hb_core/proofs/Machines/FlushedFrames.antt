@@ -1,5 +1,5 @@
 -- The frames fit a store that differs from the one before in nothing that they show, and one whose oldest dirty page was written home.
-use Rattle.std.proofs.Common.{◌≡◌, ℕ, ◌==◌, false, not, ◌&&◌, List, Option, Some, None, refl, sym, ap, subst, ◌∙◌}
+use Rattle.std.proofs.Common.{◌≡◌, ℕ, ◌==◌, Bool, true, false, not, ◌&&◌, List, Option, Some, None, refl, sym, ap, subst, ◌∙◌}
 use Rattle.std.specs.FinSet as set
 use Rattle.std.specs.List.{find}
 use Rattle.std.specs.Option.{is_some, option_map, option_map_or}
@@ -28,7 +28,7 @@ either page id P here there = if_same id page (λ _. P id) (λ same. subst P (sy
 
 module _ (st : StoreState) (uses : List Use) (tied : IsTied st uses) (page : ℕ) (oldest : oldest_dirty uses ≡ Some page) where
   -- its frame
-  dirty_frame : (u : Use) × (frame_of uses page ≡ Some u)
+  pub dirty_frame : (u : Use) × (frame_of uses page ≡ Some u)
   dirty_frame =
       let first = some_of_map (λ (u : Use). u.id) (find (λ (u : Use). u.dirty) uses) page oldest in
       let its : first.0.id ≡ page = same (first.0.id) (sym (ap (option_map (λ (u : Use). u.id)) first.1) ∙ oldest) in

@@ -59,7 +59,6 @@ module _ (m : Machine) (d e : DiskModel) (c : RunningCore) (failed : Type 0) (st
     tells = λ told. files_as (files_then (shows.tells (subst (λ (o : Option (List ℕ)). IsSome o) looks.only.stays.told told)));
     silent = λ none. shows.silent (sym looks.only.stays.told ∙ none);
   }
-
     where
       files_as : ShowsFiles e (with_disk st m.files m.clock m) → ShowsFiles e (with_uses uses (with_disk st m.files m.clock m))
       files_as s = record { files = s.files; told = s.told; kept = s.kept; clock = s.clock }

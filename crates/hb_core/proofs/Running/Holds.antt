@@ -37,7 +37,12 @@ use Rattle.hb_core.specs.Pinning.{CanHold, CanUnpin}
 use Rattle.hb_core.specs.Rows.{Row}
 use Rattle.hb_core.specs.Showing.{RunningCore}
 use Rattle.hb_core.specs.Using.{CameFor, holders, page_wanted, pages_of, pins_of, use_done}
-use Rattle.hb_core.specs.Working.{HasPages}
+use Rattle.hb_core.specs.Working.{HasCome, HasPages, with_memory}
+use Rattle.hb_core.specs.Asking.{looked_live}
+use Rattle.hb_core.proofs.Running.Looks.{looked_stays}
+use Rattle.hb_core.proofs.Running.StandsElsewhere.{stands_as}
+use Rattle.hb_activity.specs.Holding.{held_of}
+use Rattle.hb_activity.specs.declared.activities.Activity.TheVariants as at
 
 -- ---- how often a page is among those of latches
 
@@ -125,3 +130,42 @@ module _ (m : Machine) (d : DiskModel) (c : RunningCore) (actor : ℕ) (free : O
 
     pub can_go_over : CanHold (page_wanted (wanted_by m actor) ++ pages_of (latches_held m.store (m.activity actor))) (pages_of (latches_held st deed.next)) uses
     can_go_over = can_hold _ _ uses tied.pool enough there few
+
+-- ---- the pages of the latches are those that the core sees
+
+-- a page that a walk holds stays
+held_same : (activity : Activity) (st then : StoreState) → looked_live then activity ≡ looked_live st activity → latches_held then activity ≡ latches_held st activity
+held_same (at.SessionWalk line held rest found) st then same = ap (held_of (at.SessionWalk line held rest found)) same
+held_same (at.PosterWalk job held) st then same = ap (held_of (at.PosterWalk job held)) same
+held_same (at.ConsolidatorWalk job held) st then same = ap (held_of (at.ConsolidatorWalk job held)) same
+held_same at.SessionIdle st then same = refl
+held_same (at.SessionSplit line held) st then same = refl
+held_same (at.SessionPut line source fresh) st then same = refl
+held_same (at.SessionAwait number reply place) st then same = refl
+held_same at.PosterIdle st then same = refl
+held_same (at.PosterGrow job) st then same = refl
+held_same (at.PosterChild job parent) st then same = refl
+held_same (at.PosterPromote job parent) st then same = refl
+held_same (at.PosterAgain job parent) st then same = refl
+held_same at.ConsolidatorIdle st then same = refl
+held_same (at.ConsolidatorScan job parent child) st then same = refl
+held_same (at.ConsolidatorTry job parent keep gone leaf) st then same = refl
+held_same (at.ConsolidatorPromote job parent keep gone) st then same = refl
+held_same (at.ConsolidatorKeep job parent keep gone) st then same = refl
+held_same (at.ConsolidatorDecide job parent keep gone) st then same = refl
+held_same at.Flusher st then same = refl
+
+pub held_there : (d : DiskModel) (c : RunningCore) (m : Machine) (actor : ℕ) → IsActor actor → HasCome m actor d c → latches_held c.store (m.activity actor) ≡ latches_held m.store (m.activity actor)
+held_there d c m actor may come = held_same (m.activity actor) m.store c.store (looked_stays m actor may come.may.goes_on.kept _ c.store come.brings)
+
+pub holds_alike : (d : DiskModel) (c : RunningCore) (m n : Machine) (actor : ℕ) → IsActor actor → HasCome m actor d c → HasCome n actor d c
+    → pages_of (latches_held m.store (m.activity actor)) ≡ pages_of (latches_held n.store (n.activity actor))
+holds_alike d c m n actor may own come =
+    let same : m.activity actor ≡ n.activity actor = stands_as d c (with_memory c m) actor (n.activity actor) may own.shows (come.shows.activities actor may) in
+    ap pages_of (sym (held_there d c m actor may own)) ∙ ap (λ (a : Activity). pages_of (latches_held c.store a)) same ∙ ap pages_of (held_there d c n actor may come)
+
+pub few_held : (m : Machine) (actor : ℕ) (pins : List ℕ) → pins ≡ pages_of (latches_held m.store (m.activity actor)) → length pins ≤ 2
+few_held m actor pins is =
+    let long : length (pages_of (latches_held m.store (m.activity actor))) ≡ length (latches_held m.store (m.activity actor)) = length-map (latches_held m.store (m.activity actor)) (λ (latch : Latch). latch.page) in
+    let most : length (latches_held m.store (m.activity actor)) ≤ 2 = two_at_most (m.activity actor) _ in
+    subst (λ (l : List ℕ). length l ≤ 2) (sym is) (omega (arith, long, most))

@@ -22,6 +22,7 @@ use Rattle.hb_store.specs.Keeps.{StoreKeeps}
 use Rattle.hb_store.specs.States.{StoreState}
 use Rattle.hb_lemmas.proofs.Options.{if_value, some_value}
 use Rattle.hb_core.proofs.Running.Asked.{at_number, brings}
+use Rattle.hb_core.proofs.Running.Brought.{brings_wider}
 use Rattle.hb_core.proofs.Running.Commits.{made_ready, may_commit_row}
 use Rattle.hb_core.proofs.Running.OrderRoom.{joining_has_room}
 use Rattle.hb_core.proofs.Running.StandsThere.{may_stand}
@@ -118,14 +119,7 @@ module _ (d : DiskModel) (c : RunningCore) (m : Machine) (actor : ℕ) (free : O
 
   -- a number was given only where the row takes one
   pub brings_as_row : Brings m (λ id. IsWantedPage (wanted_by m actor) id ⊎ (IsTrue (takes_number next.op) × IsFreeHead m.store id)) c.store
-  brings_as_row = record {
-    rest = has.brings.rest;
-    stays = has.brings.stays;
-    others = has.brings.others;
-    only = λ id none some. by id (has.brings.only id none some);
-    good = has.brings.good;
-    told = has.brings.told;
-  }
+  brings_as_row = brings_wider m _ _ c.store by has.brings
     where
       by : (id : ℕ) → IsWantedPage (wanted_by m actor) id ⊎ (IsSome free × IsFreeHead m.store id) → IsWantedPage (wanted_by m actor) id ⊎ (IsTrue (takes_number next.op) × IsFreeHead m.store id)
       by id (inl wanted) = inl wanted

@@ -1,5 +1,5 @@
 -- The number of a page that a row makes, and the first page of the free chain, which comes for it.
-use Rattle.std.proofs.Common.{◌≡◌, ◌≢◌, ◌⊎◌, inl, inr, ℕ, ◌+◌, ◌<◌, ◌≤◌, ◌==◌, Bool, true, false, cond, nat_lt, ◌||◌, List, [], Option, Some, None, IfSome, IsSome, refl, sym, ap, ◌∙◌, subst, arith}
+use Rattle.std.proofs.Common.{◌≡◌, ◌≢◌, ◌⊎◌, inl, inr, ℕ, ◌+◌, ◌<◌, ◌≤◌, ◌==◌, Bool, true, false, cond, nat_lt, ◌||◌, List, [], Option, Some, None, IfSome, IsSome, IsTrue, refl, sym, ap, ◌∙◌, subst, arith}
 use Rattle.std.proofs.lemmas.Bool.{cases_Bool, eqb-true, eqb-false, false≢true, lt-ltb}
 use Rattle.hb_disk.specs.Model.{DiskModel}
 use Rattle.hb_frag.specs.declared.pages.LivePage.{LivePage}
@@ -19,7 +19,7 @@ use Rattle.hb_activity.specs.declared.wanting.Wanted.{Wanted}
 use Rattle.hb_activity.specs.declared.activities.Activity.{Activity}
 use Rattle.hb_activity.specs.declared.activities.Activity.TheVariants as at
 use Rattle.hb_poster.specs.PosterRows.{MayGrow}
-use Rattle.hb_store.specs.Fetching.{Breaks, FetchesNot, IsNoPage, LooksUp, IsNext, IsNoHead, MayFetch, MayUse, use_numbered}
+use Rattle.hb_store.specs.Fetching.{Breaks, FetchesNot, IsNoPage, LooksUp, IsNext, IsNoHead, IsCrowdedOut, MayFetch, MayUse, use_numbered}
 use Rattle.hb_store.specs.Keeps.{StoreKeeps, last_of}
 use Rattle.hb_store.specs.States.{IsMemory, StoreState, in_memory}
 use Rattle.hb_store.specs.declared.stops.FetchStop.{FetchStop}
@@ -33,6 +33,8 @@ use Rattle.hb_core.proofs.Machines.PinsFollow.{PinsMore, more_number, times}
 use Rattle.hb_core.proofs.Running.Brought.{brings_joined, brings_none, brings_numbered, brings_wider, fetch_brings, shows_store}
 use Rattle.hb_core.proofs.Running.Frames.{must_here, pinned_here}
 use Rattle.hb_core.proofs.Running.Pins.{times_first}
+use Rattle.hb_core.proofs.Running.PlacesFor.{after_wanted, is_ready}
+use Rattle.hb_activity.specs.Wanting.{may_commit}
 use Rattle.hb_core.proofs.Running.Coming.{sound_where_told, told_or_not}
 use Rattle.hb_core.proofs.Running.Looks.{looked_stays}
 use Rattle.hb_core.proofs.Running.StandsElsewhere.{shows_but}
@@ -137,6 +139,28 @@ none_given m d c actor come not = record {
   uses = come.uses;
   tied = come.tied;
 }
+
+-- either the chain has a page, or nothing was read for it
+pub came_by_chain : (meta : Meta) (before after : List Use) → (meta.free ≡ 0 → after ≡ before) → meta.free ≢ 0 ⊎ (after ≡ before)
+came_by_chain meta before after unread = elim (cases_Bool (meta.free == 0)) [
+  | inl none ↦ inr (unread (eqb-true meta.free 0 none))
+  | inr some ↦ inl (eqb-false meta.free 0 some)
+]
+
+-- and there is a place for it
+pub head_not_crowded : (m : Machine) (d : DiskModel) (c : RunningCore) (actor : ℕ) (come : HasCome m actor d c) → NeedsNumber (m.activity actor) (wanted_by m actor) (with_memory c m) → IsCrowdedOut c.store.meta.free c.store c.uses → ⊥
+head_not_crowded m d c actor come needs (some, absent, none) =
+    let ready = is_ready m actor (may_make (m.activity actor) refl needs) come.may.ready in
+    let left = after_wanted m come.may.goes_on.kept (wanted_by m actor) ready.1 in
+    let many = left.many in
+    let same : places c.uses ≡ places (use_wanted (wanted_by m actor) m.uses) = ap (λ (l : List Use). places l) come.uses in
+    omega (arith, many, same, none)
+  where
+    may_make : (activity : Activity) → m.activity actor ≡ activity → NeedsNumber activity (wanted_by m actor) (with_memory c m) → IsTrue (may_commit activity m.store.meta (looked_live m.store activity))
+    may_make (at.SessionSplit line held) is needs = refl
+    may_make (at.PosterGrow job) is needs = refl
+    may_make (at.PosterAgain job parent) is needs = refl
+    may_make activity is needs = absurd needs
 
 -- What stays while the head of the free chain comes: what somebody holds, what is dirty, and the wanted page.
 module _ (m : Machine) (d : DiskModel) (c : RunningCore) (actor : ℕ) (come : HasCome m actor d c) where

@@ -116,9 +116,11 @@ can_unpin (id ∷ rest) uses pool enough =
     let own = enough id in
     let first = times_first id rest in
     let here = pinned_frame uses id (omega (arith, own, first)) in
-    let u = at_frame (frame_of uses id) here in
-    (here, can_unpin rest (in_place id unpinned uses) (unpinned_pool uses id u.0 pool u.1)
-    (λ q. let less = unpinned_pins id q uses pool.distinct in let all = enough q in omega (arith, less, all)))
+    let u = at_frame (frame_of uses id) here in (
+      here,
+      can_unpin rest (in_place id unpinned uses) (unpinned_pool uses id u.0 pool u.1)
+          (λ q. let less = unpinned_pins id q uses pool.distinct in let all = enough q in omega (arith, less, all)),
+    )
 
 pub tied_unpinned : (st : StoreState) (pages : List ℕ) (uses : List Use) → IsTied st uses → CanUnpin pages uses → IsTied st (unpin_each pages uses)
 tied_unpinned st [] uses tied can = tied
@@ -153,10 +155,12 @@ can_pin (id ∷ rest) uses pool there few =
     let first = times_first id rest in
     let some : IsSome (frame_of uses id) = there id (omega (arith, first)) in
     let here = few_pins uses id some (omega (arith, own, first)) in
-    let u = at_frame (frame_of uses id) here in
-    (here, can_pin rest (put_last id pinned uses) (pinned_pool uses id u.0 pool u.1 u.2)
-    (λ q among. same_there uses (put_last id pinned uses) (pinned_marks uses id pool) q (there q (omega (arith, among))))
-    (λ q. let more = pins_pinned uses id pool some q in let all = few q in omega (arith, more, all)))
+    let u = at_frame (frame_of uses id) here in (
+      here,
+      can_pin rest (put_last id pinned uses) (pinned_pool uses id u.0 pool u.1 u.2)
+          (λ q among. same_there uses (put_last id pinned uses) (pinned_marks uses id pool) q (there q (omega (arith, among))))
+          (λ q. let more = pins_pinned uses id pool some q in let all = few q in omega (arith, more, all)),
+    )
 
 pub tied_pinned : (st : StoreState) (pages : List ℕ) (uses : List Use) → IsTied st uses → CanPin pages uses → IsTied st (pin_each pages uses)
 tied_pinned st [] uses tied can = tied
@@ -170,7 +174,9 @@ tied_held st before after uses tied (out, in_) = tied_pinned st after (unpin_eac
 
 pub can_hold : (before after : List ℕ) (uses : List Use) → IsPool uses → ((q : ℕ) → times q before ≤ pins_of uses q) → ((q : ℕ) → 0 < times q after → IsSome (frame_of uses q)) → ((q : ℕ) → pins_of uses q + times q after ≤ 255) → CanHold before after uses
 can_hold before after uses pool enough there few =
-    let out = can_unpin before uses pool enough in
-    (out, can_pin after (unpin_each before uses) (pool_unpinned before uses pool out)
-    (λ q among. same_there uses (unpin_each before uses) (marks_unpinned before uses pool out) q (there q among))
-    (λ q. let less = pins_unpinned before uses pool out q in let all = few q in omega (arith, less, all)))
+    let out = can_unpin before uses pool enough in (
+      out,
+      can_pin after (unpin_each before uses) (pool_unpinned before uses pool out)
+          (λ q among. same_there uses (unpin_each before uses) (marks_unpinned before uses pool out) q (there q among))
+          (λ q. let less = pins_unpinned before uses pool out q in let all = few q in omega (arith, less, all)),
+    )

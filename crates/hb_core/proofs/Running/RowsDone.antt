@@ -1,5 +1,5 @@
 -- A row for which a core has its pages is done, or memory is refused to it.
-use Rattle.std.proofs.Common.{◌≡◌, ◌⊎◌, inl, inr, ℕ, suc, zero, ◌-◌, ◌++◌, Bool, List, [], ◌∷◌, length, slice_set, Option, Some, None, IsSome, refl, sym, ap, ◌∙◌, subst}
+use Rattle.std.proofs.Common.{◌≡◌, ◌⊎◌, inl, inr, ℕ, suc, zero, ◌-◌, ◌+◌, ◌≤◌, ◌++◌, arith, true, false, Bool, List, [], ◌∷◌, length, slice_set, Option, Some, None, IsSome, refl, sym, ap, ◌∙◌, subst}
 use Rattle.std.specs.Option.{MatchOption, is_some}
 use Rattle.std.proofs.lemmas.Bool.{cases_Bool}
 use Rattle.std.proofs.lemmas.List.{length-map}
@@ -8,7 +8,7 @@ use Rattle.hb_activity.specs.declared.activities.Activity.{Activity}
 use Rattle.hb_activity.specs.declared.activities.Activity.TheVariants as at
 use Rattle.hb_activity.specs.declared.dropping.DropWhy.TheVariants as drops
 use Rattle.hb_activity.specs.declared.wanting.Wanted.{Wanted}
-use Rattle.hb_activity.specs.Classes.{idle_of}
+use Rattle.hb_activity.specs.Classes.{hand_of, idle_of}
 use Rattle.hb_activity.specs.declared.deciding.Next.{Next}
 use Rattle.hb_activity.specs.Deciding.{deed_of}
 use Rattle.hb_activity.specs.Deeds.{Deed}
@@ -25,7 +25,7 @@ use Rattle.hb_core.specs.Asking.{wanted_by}
 use Rattle.hb_core.specs.Fetching.{Brings, IsFreeHead, IsWantedPage}
 use Rattle.hb_core.specs.KeptFits.{class_for}
 use Rattle.hb_core.specs.Machines.{Machine, next_of, with_disk, with_uses}
-use Rattle.hb_core.specs.Moving.{DoesDeed, KeepsFilesBy, placed, with_order_of_use, with_standing}
+use Rattle.hb_core.specs.Moving.{DoesDeed, KeepsFilesBy, number_of, placed, with_order_of_use, with_standing}
 use Rattle.hb_core.specs.Performing.{latches_held}
 use Rattle.hb_core.specs.Pinning.{CanUnpin}
 use Rattle.hb_core.specs.Rows.{Row}
@@ -36,9 +36,11 @@ use Rattle.hb_core.proofs.Running.Brought.{brings_wider}
 use Rattle.hb_core.proofs.Running.MayPerform.{brings_as_row, row_there}
 use Rattle.hb_core.proofs.Running.DeedShows.{deed_shows}
 use Rattle.hb_core.proofs.Running.NumbersInHand.{row_number}
-use Rattle.hb_core.proofs.Running.Pins.{tied_unpinned}
+use Rattle.hb_core.proofs.Running.Pins.{can_unpin, tied_unpinned}
+use Rattle.hb_core.proofs.Machines.PinsFollow.{PinsMore, more_number}
+use Rattle.hb_core.specs.KeptMachine.{MachineKeeps}
 use Rattle.hb_core.proofs.Running.ReadsStay.{must_stays}
-use Rattle.hb_core.proofs.Running.StandsElsewhere.{shows_but}
+use Rattle.hb_core.proofs.Running.StandsElsewhere.{shows_but, stands_as}
 use Rattle.hb_core.proofs.Running.TakesNumbers.{needs_what_it_takes, takes_what_it_needs}
 
 set_twice : {X : Type 0} (xs : List X) (n : ℕ) (x y : X) → slice_set (slice_set xs n x) n y ≡ slice_set xs n y
@@ -74,10 +76,17 @@ needed : (N : Type 0) (given : ℕ × ℕ → Type 0) (free : Option (ℕ × ℕ
 needed N given (Some next) number some = number.0
 needed N given None number none = absurd cc
 
+-- a step needs a number, whatever the order of use
+needs_as : (m : Machine) (uses : List Use) (wanted : Option Wanted) (activity : Activity) → NeedsNumber activity wanted (with_uses uses m) → NeedsNumber activity wanted m
+needs_as m uses wanted (at.SessionSplit line held) needs = needs
+needs_as m uses (Some wanted) (at.PosterGrow job) (room, root, hand, may) = (room, root, record { live = hand.live; level = hand.level; box = hand.box }, may)
+needs_as m uses (Some wanted) (at.PosterAgain job parent) (room, child, hand, planned) = (room, child, record { live = hand.live; level = hand.level; box = hand.box }, planned)
+needs_as m uses wanted activity needs = absurd needs
+
 -- a step decodes its pages, whatever the order of use
 pub decodes_as : (m : Machine) (uses : List Use) (wanted : Option Wanted) (activity : Activity) → Decodes wanted (with_uses uses m) activity → Decodes wanted m activity
 decodes_as m uses None (at.SessionWalk line held rest found) decodes = decodes
-decodes_as m uses (Some wanted) (at.SessionWalk line held rest found) (boxes, page, hand, now) = (boxes, page, record { live = hand.live; level = hand.level; box = hand.box }, now)
+decodes_as m uses (Some wanted) (at.SessionWalk line held rest found) (boxes, (page, hand, now)) = (boxes, (page, record { live = hand.live; level = hand.level; box = hand.box }, now))
 decodes_as m uses wanted (at.SessionSplit line held) decodes = decodes
 decodes_as m uses wanted (at.SessionPut line source fresh) decodes = decodes
 decodes_as m uses wanted at.SessionIdle decodes = decodes
@@ -97,6 +106,10 @@ decodes_as m uses wanted (at.ConsolidatorKeep job parent keep gone) decodes = de
 decodes_as m uses wanted (at.ConsolidatorDecide job parent keep gone) decodes = decodes
 decodes_as m uses wanted at.Flusher decodes = decodes
 
+-- of two machines that a core shows an actor has the same line in hand
+pub lines_alike : (d : DiskModel) (c : RunningCore) (m n : Machine) (actor : ℕ) → IsActor actor → HasCome m actor d c → HasCome n actor d c → number_of (hand_of (m.activity actor)) ≡ number_of (hand_of (n.activity actor))
+lines_alike d c m n actor may own come = ap (λ (a : Activity). number_of (hand_of a)) (stands_as d c (with_memory c m) actor (n.activity actor) may own.shows (come.shows.activities actor may))
+
 -- memory is refused before a number is known to be needed
 pub number_refused : (d : DiskModel) (c : RunningCore) (m : Machine) (actor : ℕ) → IsActor actor → HasCome m actor d c → Decodes (wanted_by m actor) (with_memory c m) (m.activity actor) → HaltsPinned m actor (GivesUp drops.NoMemory) d c
 number_refused d c m actor may come decodes = record {
@@ -106,6 +119,15 @@ number_refused d c m actor may come decodes = record {
   used_is = inl come.uses;
   tied = come.tied;
 }
+
+-- the wanted page is pinned for the step still, so that it may be let go
+pub may_let_wanted_go : (m : Machine) (actor : ℕ) (d : DiskModel) (c : RunningCore) (wanted : Option Wanted) (halt : Halt) → MachineKeeps m → wanted ≡ wanted_by m actor → HaltsPinned m actor halt d c → CanUnpin (page_wanted wanted) c.uses
+may_let_wanted_go m actor d c wanted halt keeps wants halts = subst (λ (o : Option Wanted). CanUnpin (page_wanted o) c.uses) (sym wants)
+    (can_unpin (page_wanted (wanted_by m actor)) c.uses halts.tied.pool (λ q. let more = (by halts.used_is).pins q in omega (arith, more)))
+  where
+    by : (c.uses ≡ use_wanted (wanted_by m actor) m.uses) ⊎ (c.uses ≡ use_numbered m.store.meta (use_wanted (wanted_by m actor) m.uses)) → PinsMore (page_wanted (wanted_by m actor)) m.uses c.uses
+    by (inl same) = subst (λ (l : List Use). PinsMore (page_wanted (wanted_by m actor)) m.uses l) (sym same) (more_number false m.store.meta (wanted_by m actor) m.uses keeps.frames_fit.tied.pool.distinct)
+    by (inr same) = subst (λ (l : List Use). PinsMore (page_wanted (wanted_by m actor)) m.uses l) (sym same) (more_number true m.store.meta (wanted_by m actor) m.uses keeps.frames_fit.tied.pool.distinct)
 
 -- the wanted page is pinned for the step no more
 pub let_go : (m : Machine) (actor : ℕ) (d : DiskModel) (c : RunningCore) (uses : List Use) (wanted : Option Wanted) (halt : Halt) → wanted ≡ wanted_by m actor → HaltsPinned m actor halt d c → CanUnpin (page_wanted wanted) c.uses
@@ -151,7 +173,7 @@ module _ (d : DiskModel) (c : RunningCore) (m : Machine) (actor : ℕ) (free : O
     where
       wider : (id : ℕ) → IsWantedPage (wanted_by m actor) id ⊎ (IsSome free × IsFreeHead m.store id) → MayNeed m actor c.store id
       wider id (inl wanted) = inl wanted
-      wider id (inr (some, head)) = inr (needs some, head)
+      wider id (inr (some, head)) = inr (needs_as (with_disk c.store m.files m.clock m) c.uses (wanted_by m actor) (m.activity actor) (needs some), head)
 
   used_so : (c.uses ≡ use_wanted (wanted_by m actor) m.uses) ⊎ (c.uses ≡ use_numbered m.store.meta (use_wanted (wanted_by m actor) m.uses))
   used_so = by free pages.uses

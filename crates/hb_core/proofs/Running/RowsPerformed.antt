@@ -1,6 +1,7 @@
 -- What a core performs by its decider's answer is the row of the machine that it shows.
 use Rattle.std.proofs.Common.{◌≡◌, ℕ, ◌<◌, ◌^◌, ◌++◌, List, length, arith, Option, IsSome, IfSome, IfOk, Result, Ok, Err, sym, ap, ◌∙◌, subst}
 use Rattle.hb_activity.specs.declared.activities.Activity.{Activity}
+use Rattle.hb_activity.specs.declared.wanting.Wanted.{Wanted}
 use Rattle.hb_activity.specs.declared.deciding.Next.{Next}
 use Rattle.hb_activity.specs.declared.dropping.DropWhy.TheVariants as drops
 use Rattle.hb_activity.specs.Classes.{hand_of, idle_of}
@@ -35,6 +36,12 @@ use Rattle.hb_core.proofs.Running.RowsDone.{op_refused, row_done, row_refused, s
 pub ok_both : {A E : Type 0} (r : Result A E) (P Q R : A → Type 0) → ((x : A) → P x → Q x → R x) → IfOk r P → IfOk r Q → IfOk r R
 ok_both (Ok x) P Q R then p q = then x p q
 ok_both (Err e) P Q R then p q = tt
+
+-- the pages that are pinned for an actor: the wanted one, and those that it holds
+pub pins_joined : (m : Machine) (actor : ℕ) (wanted : Option Wanted) (pins items slice : List ℕ) → slice ≡ items → items ≡ page_wanted wanted ++ pins → wanted ≡ wanted_by m actor → pins ≡ pages_of (latches_held m.store (m.activity actor))
+    → slice ≡ page_wanted (wanted_by m actor) ++ pages_of (latches_held m.store (m.activity actor))
+pins_joined m actor wanted pins items slice value joined wants held =
+    value ∙ joined ∙ ap (λ (o : Option Wanted). page_wanted o ++ pins) wants ∙ ap (λ (l : List ℕ). page_wanted (wanted_by m actor) ++ l) held
 
 abbrev OneDurable : DiskModel → StoreState → Type 0
 OneDurable d st = (durable other : FileState) (later others : List FileState) → StoreKeeps d st durable later → StoreKeeps d st other others → durable ≡ other

@@ -1,6 +1,9 @@
 -- A core that works takes a step of the machine that it shows.
-use Rattle.std.proofs.Common.{◌≡◌, ◌⊎◌, inl, inr, ℕ, ◌-◌, ◌+◌, ◌↔◌, arith, Bool, true, false, List, slice_get, slice_set, Option, None, IfSome, IsTrue, refl, sym, ap, ◌∙◌, subst}
-use Rattle.std.specs.Option.{IsSomeAnd}
+use Rattle.std.proofs.Common.{◌≡◌, ◌⊎◌, inl, inr, ℕ, ◌-◌, ◌+◌, ◌↔◌, arith, Bool, true, false, List, slice_get, slice_set, Option, None, IfSome, IsSome, IsTrue, refl, sym, ap, ◌∙◌, subst}
+use Rattle.std.specs.Option.{IsSomeAnd, option_and_then}
+use Rattle.hb_activity.specs.Walks.{walk_held}
+use Rattle.hb_lemmas.proofs.Options.{has_value, some_value}
+use Rattle.hb_ops.specs.Files.{if_live}
 use Rattle.hb_activity.specs.declared.activities.Activity.{Activity}
 use Rattle.hb_activity.specs.declared.dropping.DropWhy.{DropWhy}
 use Rattle.hb_activity.specs.declared.wanting.Wanted.{Wanted}
@@ -28,7 +31,7 @@ use Rattle.hb_core.specs.Asking.{HasWayFree, looked_live, wanted_by}
 use Rattle.hb_core.specs.GivingUp.{gives_up, gives_up_hand}
 use Rattle.hb_core.specs.KeptFits.{class_for}
 use Rattle.hb_core.specs.Looking.{MayLook, wanted_in}
-use Rattle.hb_core.specs.Machines.{Machine, stopped_for}
+use Rattle.hb_core.specs.Machines.{Machine, live_here, stopped_for}
 use Rattle.hb_core.specs.Moving.{DoesDeed, StandsAs, number_of, with_stop}
 use Rattle.hb_core.specs.Showing.{RunningCore, ShowsMachine, number_in_hand}
 use Rattle.hb_core.specs.Steps.{IsUnready, Works}
@@ -55,6 +58,23 @@ module _ (d : DiskModel) (c : RunningCore) (m : Machine) (actor : ℕ) (may : Is
 
   pub holds_line : (line : Option ℕ) → IsWorking (m.activity actor) → ((activity : Activity) → StandsAs c actor activity → line ≡ number_in_hand activity) → line ≡ number_of (hand_of (m.activity actor))
   holds_line line works is = is (m.activity actor) stands ∙ number_of_hand (m.activity actor) (working_waits_not (m.activity actor) works)
+
+  -- the pages that it holds, and the one that its walk holds is there
+  pub holds_pages : (pins : List ℕ) → ((activity : Activity) → StandsAs c actor activity → pins ≡ pages_of (latches_held c.store activity)) → pins ≡ pages_of (latches_held m.store (m.activity actor))
+  holds_pages pins is = is (m.activity actor) stands ∙ ap (λ (st : StoreState). pages_of (latches_held st (m.activity actor))) (sym step.shows.store)
+
+  pub walks_here : (activity : Activity) → StandsAs c actor activity → IsSome (walk_held activity) → IsSome (option_and_then (live_here c.store) (walk_held activity))
+  walks_here activity so = subst Walks (stands_as d c m actor activity may step.shows so) own
+    where
+      abbrev Walks : Activity → Type 0
+      Walks a = IsSome (walk_held a) → IsSome (option_and_then (live_here c.store) (walk_held a))
+
+      own : Walks (m.activity actor)
+      own walks =
+          let held = some_value (walk_held (m.activity actor)) walks in
+          let there = step.goes_on.kept.latches_fit.walking actor held.0 may held.1 in
+          subst (λ (o : Option ℕ). IsSome (option_and_then (live_here c.store) o)) (sym held.1)
+          (subst (λ (st : StoreState). IsSome (live_here st held.0)) step.shows.store (has_value (live_here m.store held.0) there.0 (ap if_live there.1)))
 
   -- another actor is in the way, and the core stays so
   pub blocked : (wanted : Option Wanted) (by : ℕ) → wanted ≡ wanted_by m actor → IsSomeAnd wanted (λ w. IsLeastInTheWay c.latches actor w.page w.mode by) → (new : Machine) × Works m actor (outcomes.Blocked by) new × ShowsMachine d c new
@@ -84,10 +104,10 @@ module _ (d : DiskModel) (c : RunningCore) (m : Machine) (actor : ℕ) (may : Is
       ⊎ ((places c.uses ≡ 0) × IsSomeAnd o (λ w. in_memory c.store w.page ≡ None)))) is (says (m.activity actor) stands)))
 
   pub unready : (wanted : Option Wanted) (b : Bool) → wanted ≡ wanted_by m actor → SaysUnready wanted b → b ≡ true → IsUnready m actor
-  unready wanted b is says yes = (same_unready wanted b is says).0 yes
+  unready wanted b is says so = (same_unready wanted b is says).0 so
 
   pub ready : (wanted : Option Wanted) (b : Bool) → wanted ≡ wanted_by m actor → SaysUnready wanted b → b ≡ false → ¬ (IsUnready m actor)
-  ready wanted b is says no change = let yes : b ≡ true = (same_unready wanted b is says).1 change in let never : false ≡ true = sym no ∙ yes in cc
+  ready wanted b is says off change = let so : b ≡ true = (same_unready wanted b is says).1 change in let never : false ≡ true = sym off ∙ so in cc
 
   pub works_may : m.stop ≡ None → IsWorking (m.activity actor) → HasWayFree m actor → ¬ (IsUnready m actor) → MayWork m actor
   works_may runs works free is_ready = record { goes_on = step.goes_on; runs = runs; working = works; free = free; ready = is_ready }
