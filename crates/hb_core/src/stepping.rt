@@ -171,7 +171,8 @@ impl<D: Device> Core<D> {
             (D.model (core_disk self.old)) (core_seen self.old) result (D.model (core_disk self.new)) (core_seen self.new) }
     {
         match self.store.flush_step() {
-            Ok(Flushed::Forced | Flushed::Written(_)) => Outcome::Helped,
+            Ok(Flushed::Forced) => Outcome::Helped,
+            Ok(Flushed::Written(_)) => Outcome::Helped,
             Ok(Flushed::Nothing) => self.run_out(actor),
             Err(_fault) => self.stop_for(StopWhy::WriteFault),
         }

@@ -24,11 +24,11 @@ use Rattle.hb_core.specs.Working.{MayStep}
 
 -- ---- where a disk tells its bytes
 
-told_before : {X : Type 0} (before after : Option X) → (before ≡ None → after ≡ None) → IsSome after → IsSome before
+pub told_before : {X : Type 0} (before after : Option X) → (before ≡ None → after ≡ None) → IsSome after → IsSome before
 told_before {X = X} None after silent told = subst (λ (o : Option X). IsSome o) (silent refl) told
 told_before (Some x) after silent told = refl
 
-silent_before : {X : Type 0} (R : X → X → Type 0) (before after : Option X) → IfSome before (λ b. (c : X) × (after ≡ Some c) × R b c) → after ≡ None → before ≡ None
+pub silent_before : {X : Type 0} (R : X → X → Type 0) (before after : Option X) → IfSome before (λ b. (c : X) × (after ≡ Some c) × R b c) → after ≡ None → before ≡ None
 silent_before R None after tells none = refl
 silent_before R (Some x) after tells none = let never : None ≡ Some tells.0 = sym none ∙ tells.1 in cc
 

@@ -176,6 +176,7 @@ module _ (d : DiskModel) (c after : RunningCore) (m : Machine) (actor behind : â
     }
 
     performed : (outcome : Outcome) â†’ outcome â‰¡ outcomes.Moved â†’ PerformsAsItIs m actor (taking line) outcome (taken after m actor line)
+    unfolding takes_it
     performed outcome says = (takes_it outcome says, refl, holds_no_page)
 
     -- the actor's turn has the line in hand, and the others have what they had
@@ -251,6 +252,7 @@ module _ (d : DiskModel) (c after : RunningCore) (m : Machine) (actor behind : â
     }
 
     answers : PerformsAsItIs m actor (answers_now line.number replies.NoMemory) outcome refused
+    unfolding answers_it
     answers = (answers_it, refl, holds_no_page)
 
     refused_turn : HasTurn refused actor (behind + place + 1)

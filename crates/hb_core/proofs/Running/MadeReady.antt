@@ -52,7 +52,7 @@ module _ {D : Type 0} (model : D → DiskModel) (x y : D) (c : RunningCore) (m :
       let written = writes_well (model x) (model y) c st uses m step.shows id which.1 v outcomes.Helped (home_some (model x) (model y) (held_in c) now (Ok v) id which.1 flushes) in
       (written.0, inr (none_waits which.0, inl (has_more (model x) (model y) c st uses m step.shows id which.1, written.1)), written.2)
 
-  module _ {T : Type 0} (fault : WriteFault) (z : D) (after : RunningCore) (outcome : Outcome) (says : outcome ≡ outcomes.Stopped stops.WriteFault) (then : after ≡ with_stop stops.WriteFault (with_held st uses c)) (same : z ≡ y) where
+  module _ (z : D) (after : RunningCore) (outcome : Outcome) (says : outcome ≡ outcomes.Stopped stops.WriteFault) (then : after ≡ with_stop stops.WriteFault (with_held st uses c)) (same : z ≡ y) where
     so : (new : Machine) → GetsReady m actor (outcomes.Stopped stops.WriteFault) new → ShowsMachine (model y) (with_stop stops.WriteFault (with_held st uses c)) new → (new : Machine) × GetsReady m actor outcome new × ShowsMachine (model z) after new
     so new ready shows = (
       new,
@@ -60,9 +60,9 @@ module _ {D : Type 0} (model : D → DiskModel) (x y : D) (c : RunningCore) (m :
       subst (λ (k : D). ShowsMachine (model k) after new) (sym same) (subst (λ (s : RunningCore). ShowsMachine (model y) s new) (sym then) shows),
     )
 
-    pub ready_failed : (c.store.log.groups ≢ [] → WritesOldest {T = T} (Err fault) (model x) (model y) c.store st × (uses ≡ c.uses)) → (c.store.log.groups ≡ [] → FlushesHome {T = T} (Err fault) (model x) (model y) (held_in c) now)
+    pub ready_failed : {T : Type 0} (fault : WriteFault) → (c.store.log.groups ≢ [] → WritesOldest {T = T} (Err fault) (model x) (model y) c.store st × (uses ≡ c.uses)) → (c.store.log.groups ≡ [] → FlushesHome {T = T} (Err fault) (model x) (model y) (held_in c) now)
         → (new : Machine) × GetsReady m actor outcome new × ShowsMachine (model z) after new
-    ready_failed forced cleaned = elim (waits_or_not c.store.log.groups) [
+    ready_failed fault forced cleaned = elim (waits_or_not c.store.log.groups) [
       | inr some ↦
           let writes = forced some in
           let stopped = fails (model x) (model y) c st uses m step.shows fault writes.0 writes.1 in

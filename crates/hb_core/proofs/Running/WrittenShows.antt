@@ -129,10 +129,10 @@ module _ {T : Type 0} (d e : DiskModel) (old new : StoreHeld) where
   home_some result id is flushes = subst (Home result) is flushes
 
   pub home_none : (result : Result T WriteFault) → oldest_dirty old.uses ≡ None → FlushesHome result d e old new → ReadsOnly ⊥ d e × (new ≡ old)
-  home_none result is flushes = (subst (Home result) is flushes).1
+  home_none result is flushes = let home = subst (Home result) is flushes in (home.1, home.2)
 
   -- one that failed wrote
-  pub home_failed : (fault : WriteFault) → FlushesHome (Err fault) d e old new → (id : ℕ) × (oldest_dirty old.uses ≡ Some id) × WritesHome {T = T} (Err fault) id d e old new
+  pub home_failed : (fault : WriteFault) → FlushesHome {T = T} (Err fault) d e old new → (id : ℕ) × (oldest_dirty old.uses ≡ Some id) × WritesHome {T = T} (Err fault) id d e old new
   home_failed fault flushes = by (oldest_dirty old.uses) refl
     where
       never : IsOk {T = T} {E = WriteFault} (Err fault) → ⊥

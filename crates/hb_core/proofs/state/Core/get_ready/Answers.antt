@@ -76,8 +76,8 @@ pub returns-in-Err : goal.returns-in-Err
 returns-in-Err g c = record {
   steps = λ m step runs works.
       ready_failed g.D.Device.model (core_disk c.args.self.now) c.flush_step.new.self.disk (core_seen c.args.self.now) m c.args.actor (seen_as c.flush_step.new.self) (uses_of c.flush_step.new.self) step
-      c.in-Err._fault (core_disk c.stop_for.new.self) (core_seen c.stop_for.new.self) c.stop_for.result c.stop_for.ensures.says c.stop_for.ensures.stops.does c.stop_for.ensures.stops.disk
-      c.in-Err.ensures.forces c.in-Err.ensures.cleans;
+      (core_disk c.stop_for.new.self) (core_seen c.stop_for.new.self) c.stop_for.result c.stop_for.ensures.says c.stop_for.ensures.stops.does c.stop_for.ensures.stops.disk
+      c.in-Err._fault c.in-Err.ensures.forces c.in-Err.ensures.cleans;
   touches =
       flush_failed_then g.D.Device.model (core_disk c.args.self.now) c.flush_step.new.self.disk (core_seen c.args.self.now) (seen_as c.flush_step.new.self) (uses_of c.flush_step.new.self)
       (core_disk c.stop_for.new.self) (core_seen c.stop_for.new.self) c.stop_for.result
