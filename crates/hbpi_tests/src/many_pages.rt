@@ -118,7 +118,7 @@ fn a_large_file_is_driven(rt: HostRuntime) {
     }
 }
 
-/// Changes all over a file.
+/// Changes all over a file: of the points three quarters are there, so some 240 lines of such a wave change a page.
 const CHANGING: Wave = Wave {
     verbs: [
         Verb::Insert,
@@ -127,12 +127,12 @@ const CHANGING: Wave = Wave {
         Verb::Delete,
         Verb::Delete,
         Verb::Delete,
-        Verb::Lookup,
+        Verb::Delete,
         Verb::Search,
     ],
     rows: Rows::All,
     commands: 500,
-    turns: 900,
+    turns: 1100,
     beside: "c",
 };
 
@@ -149,10 +149,10 @@ fn is_right(alloc: Global, draw: &mut Draw, before: Plain, file: &[u8]) -> Optio
     holds(alloc, file.as_slice(), draw.k, 1024, two.whole, two.whole)
 }
 
-/// Whether the cases of twelve seeds from this one on are right, over a file of so many attributes.
+/// Whether the cases of six seeds from this one on are right, over a file of so many attributes.
 fn are_right(alloc: Global, k: u8, first: u64) -> Option<bool> {
     let (told, file) = grown(alloc, k, SPREAD)?;
-    for more in 0..12u64 {
+    for more in 0..6u64 {
         let mut draw = Draw {
             k,
             sessions: more % 4 + 1,
@@ -172,7 +172,7 @@ fn schedules_over_many_pages(rt: HostRuntime) {
 
 #[test]
 fn schedules_over_many_pages_of_two_attributes(rt: HostRuntime) {
-    assert!(rt; are_right(rt.alloc(), 2, 212) == Some(true));
+    assert!(rt; are_right(rt.alloc(), 2, 206) == Some(true));
 }
 
 /// How many records are taken out of a file that grew in order, each from a page of its own; and how many pages are written to
