@@ -6,9 +6,10 @@ use Rattle.std.proofs.lemmas.Bool.{eq-eqb, eqb-true, or_cases, or_right}
 use Rattle.std.proofs.lemmas.List.Elements.{All-append, All-head, All-nil, All-tail}
 use Rattle.hb_lemmas.proofs.Lists.{All-alone}
 use Rattle.hb_lemmas.proofs.Options.{not_none, some_value}
-use Rattle.hb_disk.specs.Model.{DiskModel}
+use Rattle.hb_disk.specs.Model.{DiskModel, Stays}
 use Rattle.hb_disk.specs.Untold.{untold_of}
 use Rattle.hb_frag.specs.declared.pages.Page.{Page}
+use Rattle.hb_layout.specs.declared.meta.Meta.{Meta}
 use Rattle.hb_wal.specs.Log.{LogState, Waiting, left_waiting}
 use Rattle.hb_ops.specs.declared.operations.Op.{Op}
 use Rattle.hb_ops.specs.Files.{FileState}
@@ -53,14 +54,14 @@ no_frames (u ∷ rest) none =
     let here : frame_of (u ∷ rest) u.id ≡ Some u = ap (λ (b : Bool). cond b (Some u) (frame_of rest u.id)) (eq-eqb u.id u.id refl) in
     absurd (not_none (frame_of (u ∷ rest) u.id) u here (none u.id))
 
-new_uses : (turn : ℕ) (st : StoreState) (uses : List Use) → IsNew turn st.meta st → IsTied st uses → uses ≡ []
-new_uses turn st uses new tied = no_frames uses (λ id. unframed st uses id tied (new.no_page id))
+new_uses : (turn : ℕ) (meta : Meta) (st : StoreState) (uses : List Use) → IsNew turn meta st → IsTied st uses → uses ≡ []
+new_uses turn meta st uses new tied = no_frames uses (λ id. unframed st uses id tied (new.no_page id))
 
-pub new_driven : (turn : ℕ) (st : StoreState) (uses : List Use) → IsNew turn st.meta st → IsTied st uses → IsDriven st uses
-new_driven turn st uses new tied = record {
+pub new_driven : (turn : ℕ) (meta : Meta) (st : StoreState) (uses : List Use) → IsNew turn meta st → IsTied st uses → IsDriven st uses
+new_driven turn meta st uses new tied = record {
   running = new.running;
   marks = subst (λ (log : LogState). All IsEarly log.groups) (sym new.log_is) (All-nil IsEarly);
-  stay = subst AllStay (sym (new_uses turn st uses new tied)) (All-nil (λ (u : Use). IsTrue (must_stay u)));
+  stay = subst AllStay (sym (new_uses turn meta st uses new tied)) (All-nil (λ (u : Use). IsTrue (must_stay u)));
 }
 
 pub new_few : (uses : List Use) → uses ≡ [] → FewPins uses
@@ -169,7 +170,7 @@ forced st new uses after same order driven =
 home_runs : {T : Type 0} (t : T) (d e : DiskModel) (old new : StoreHeld) → FlushesHome {T = T} (Ok t) d e old new → old.state.stopped ≡ false → new.state.stopped ≡ false
 home_runs t d e old new home runs = by (oldest_dirty old.uses) home
   where
-    by : (o : Option ℕ) → MatchOption o (IsOk (Ok {E = WriteFault} t) × _ × (new ≡ old)) (λ id. WritesHome (Ok t) id d e old new) → new.state.stopped ≡ false
+    by : (o : Option ℕ) → MatchOption o (IsOk (Ok {E = WriteFault} t) × Stays d e × (new ≡ old)) (λ id. WritesHome (Ok t) id d e old new) → new.state.stopped ≡ false
     by None done = ap (λ (h : StoreHeld). h.state.stopped) done.2 ∙ runs
     by (Some id) writes = ap (λ (h : StoreHeld). h.state.stopped) writes.cleaned ∙ runs
 
