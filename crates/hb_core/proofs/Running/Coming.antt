@@ -72,6 +72,10 @@ pub none_where : {T : Type 0} (o : Option T) → (IsSome o → ⊥) → o ≡ No
 none_where None never = refl
 none_where (Some x) never = absurd (never refl)
 
+-- what a call that reads did, it did still after one that changes no page and no disk
+pub looks_kept : {failed : Type 0} {d e f : DiskModel} {old middle st : StoreState} → f ≡ e → st ≡ middle → LooksUp failed d e old middle → LooksUp failed d f old st
+looks_kept {failed} {d} {e} {f} {old} {middle} {st} disk seen looks = subst (λ (x : DiskModel). LooksUp failed d x old st) (sym disk) (subst (λ (x : StoreState). LooksUp failed d e old x) (sym seen) looks)
+
 -- ---- the box that is asked for
 
 leaf_asks : (mode : ℕ → Mode) (level : ℕ) (leaf : Leaf) (area : Area) (wanted : Wanted) → in_mode mode (named_page level leaf) ≡ Some wanted → Asks (box_by_leaf (record { leaf = leaf; area = area }))
