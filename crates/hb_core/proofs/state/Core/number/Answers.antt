@@ -5,7 +5,6 @@ use Rattle.hb_core.specs.CoreSeen.{core_seen}
 use Rattle.hb_core.specs.Working.{HaltsPinned}
 use Rattle.hb_core.specs.declared.halts.Halt.{Halt}
 use Rattle.hb_core.proofs.Running.Numbered.{came_by_chain, head_halts, head_not_crowded, none_given, number_refused, number_then, reads_halted, reads_on}
-use Rattle.hb_core.proofs.Running.TakesNumbers.{takes_what_it_needs}
 use Rattle.hb_core.proofs.state.Core.number.Goals as goal
 
 pub returns-in-Ok-false-clause-numbered : goal.returns-in-Ok-false-clause-numbered
@@ -32,7 +31,7 @@ pub returns-in-Err-next-clause-halts : goal.returns-in-Err-next-clause-halts
 returns-in-Err-next-clause-halts g c m come =
     head_halts m (g.D.Device.model c.args.self.now.store.disk) (core_seen c.args.self.now) c.args.actor c.requires.actor come ((c.in-Ok-true.ensures.needs m come).0 c.in-Ok-true.field-0-test)
     (g.D.Device.model c.next_page-next.new.self.disk) _ (seen_as c.next_page-next.new.self) c.in-Err-next.ensures.looks c.meta.ensures.store.memory c.in-Err-next.ensures.fetches c.in-Err-next.ensures.stays
-    (uses_of c.next_page-next.new.self) c.in-Err-next.ensures.may_use (came_by_chain (core_seen c.args.self.now).store.meta (core_seen c.args.self.now).uses (uses_of c.next_page-next.new.self) (λ none. (c.in-Err-next.ensures.unread (inr (inl none))).2.2)) c.meta.ensures.tied
+    (uses_of c.next_page-next.new.self) c.in-Err-next.ensures.may_use (came_by_chain (core_seen c.args.self.now).store.meta (core_seen c.args.self.now).uses (uses_of c.next_page-next.new.self) (λ none. (c.in-Err-next.ensures.unread (inr (inl none))).2)) c.meta.ensures.tied
     c.in-Err-next.stop c.halt_of.result c.halt_of.ensures c.in-Err-next.ensures.why c.in-Err-next.ensures.sound
 
 pub returns-in-Ok-clause-reads : goal.returns-in-Ok-clause-reads
