@@ -1,5 +1,5 @@
 -- The number of a page that a row makes, and the first page of the free chain, which comes for it.
-use Rattle.std.proofs.Common.{◌≡◌, ◌≢◌, ◌⊎◌, inl, inr, ℕ, ◌+◌, ◌<◌, ◌≤◌, ◌==◌, Bool, true, false, cond, nat_lt, ◌||◌, List, [], Option, Some, None, Result, Ok, Err, IfSome, IsSome, IsTrue, refl, sym, ap, ◌∙◌, subst, arith}
+use Rattle.std.proofs.Common.{◌≡◌, ◌≢◌, ◌⊎◌, inl, inr, ℕ, ◌+◌, ◌<◌, ◌≤◌, ◌==◌, Bool, true, false, cond, nat_lt, ◌||◌, List, [], Option, Some, None, Ok, Err, IfSome, IsSome, IsTrue, refl, sym, ap, ◌∙◌, subst, arith}
 use Rattle.std.proofs.lemmas.Bool.{cases_Bool, eqb-true, eqb-false, false≢true, lt-ltb}
 use Rattle.std.specs.Result.{IsErrOf}
 use Rattle.hb_disk.proofs.Facts.FaultLaws.{ReadsOnly-both, ReadsOnly-neither}
@@ -13,7 +13,6 @@ use Rattle.hb_layout.specs.declared.meta.Meta.{Meta}
 use Rattle.hb_lemmas.proofs.Options.{at_value, if_value, some_value}
 use Rattle.std.specs.FinSet as set
 use Rattle.std.specs.Ordering.{nat_cmp}
-use Rattle.hb_ops.proofs.Facts.PageNumberLaws.{live_so}
 use Rattle.hb_ops.specs.Files.{FileState, if_live}
 use Rattle.hb_ops.specs.Sound.{IsSound}
 use Rattle.hb_ops.specs.Owing.{LacksRoom}
@@ -59,7 +58,6 @@ use Rattle.hb_pool.specs.Frames.{Use}
 use Rattle.hb_pool.specs.Pools.{places}
 use Rattle.hb_store.specs.Calls.{StaysHere, use_fetched}
 use Rattle.hb_store.specs.Held.{IsTied}
-use Rattle.hb_core.proofs.Files.SoundFiles.{files_hold}
 use Rattle.hb_core.specs.Keeps.{HasSoundFile}
 
 -- ---- the number that the store gives is the one of the machine
