@@ -1,5 +1,5 @@
 -- The wanted page comes and is the one that was asked for, or the step halts.
-use Rattle.std.proofs.Common.{◌≡◌, ◌≢◌, ◌⊎◌, inl, inr, ℕ, true, false, List, [], ◌∷◌, Option, Some, None, Result, Ok, Err, IfOk, IfSome, IsSome, IsTrue, refl, sym, ap, ◌∙◌, subst, arith, ◌<◌, ◌+◌}
+use Rattle.std.proofs.Common.{◌≡◌, ◌≢◌, ◌⊎◌, inl, inr, ℕ, true, false, List, [], ◌∷◌, Option, Some, None, Result, Ok, Err, IfOk, IfSome, IsSome, IsTrue, refl, sym, ap, ◌∙◌, subst, arith, ◌<◌}
 use Rattle.std.specs.Option.{IsSomeAnd, option_and_then, option_map, MatchOption}
 use Rattle.std.specs.Result.{OnOk}
 use Rattle.std.proofs.lemmas.List.Elements.{All-head}
@@ -52,7 +52,6 @@ use Rattle.hb_core.specs.Keeps.{HasSoundFile}
 use Rattle.hb_core.specs.KeptMerges.{NamesKnown, merging_at}
 use Rattle.hb_core.specs.Looking.{FailsTest, IsOfOtherLevel, MayLook, PassesTest, wanted_in}
 use Rattle.hb_core.specs.Moving.{StandsAs, with_order_of_use, with_store}
-use Rattle.hb_core.specs.Pinning.{CanUnpin}
 use Rattle.hb_core.specs.Using.{page_wanted, unpin_each, use_wanted}
 use Rattle.hb_pool.specs.Frames.{Use, pinned, unpinned}
 use Rattle.hb_pool.specs.Pools.{frame_of, in_place, places, put_last}
@@ -71,6 +70,10 @@ ok_then (Err e) P Q so known = known
 pub none_where : {T : Type 0} (o : Option T) → (IsSome o → ⊥) → o ≡ None
 none_where None never = refl
 none_where (Some x) never = absurd (never refl)
+
+-- what a call that reads did, it did still after one that changes no page and no disk
+pub looks_kept : {failed : Type 0} {d e f : DiskModel} {old middle st : StoreState} → f ≡ e → st ≡ middle → LooksUp failed d e old middle → LooksUp failed d f old st
+looks_kept {failed} {d} {e} {f} {old} {middle} {st} disk seen looks = subst (λ (x : DiskModel). LooksUp failed d x old st) (sym disk) (subst (λ (x : StoreState). LooksUp failed d e old x) (sym seen) looks)
 
 -- ---- the box that is asked for
 

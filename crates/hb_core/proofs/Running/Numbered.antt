@@ -1,6 +1,9 @@
 -- The number of a page that a row makes, and the first page of the free chain, which comes for it.
-use Rattle.std.proofs.Common.{◌≡◌, ◌≢◌, ◌⊎◌, inl, inr, ℕ, ◌+◌, ◌<◌, ◌≤◌, ◌==◌, Bool, true, false, cond, nat_lt, ◌||◌, List, [], Option, Some, None, IfSome, IsSome, IsTrue, refl, sym, ap, ◌∙◌, subst, arith}
+use Rattle.std.proofs.Common.{◌≡◌, ◌≢◌, ◌⊎◌, inl, inr, ℕ, ◌+◌, ◌<◌, ◌≤◌, ◌==◌, Bool, true, false, cond, nat_lt, ◌||◌, List, [], Option, Some, None, Ok, Err, IfSome, IsSome, IsTrue, refl, sym, ap, ◌∙◌, subst, arith}
 use Rattle.std.proofs.lemmas.Bool.{cases_Bool, eqb-true, eqb-false, false≢true, lt-ltb}
+use Rattle.std.specs.Result.{IsErrOf}
+use Rattle.hb_disk.proofs.Facts.FaultLaws.{ReadsOnly-both, ReadsOnly-neither}
+use Rattle.hb_disk.specs.Calls.{ReadsOnly}
 use Rattle.hb_disk.specs.Model.{DiskModel}
 use Rattle.hb_frag.specs.declared.pages.LivePage.{LivePage}
 use Rattle.hb_frag.specs.declared.pages.Page.TheVariants.{Live}
@@ -10,7 +13,6 @@ use Rattle.hb_layout.specs.declared.meta.Meta.{Meta}
 use Rattle.hb_lemmas.proofs.Options.{at_value, if_value, some_value}
 use Rattle.std.specs.FinSet as set
 use Rattle.std.specs.Ordering.{nat_cmp}
-use Rattle.hb_ops.proofs.Facts.PageNumberLaws.{live_so}
 use Rattle.hb_ops.specs.Files.{FileState, if_live}
 use Rattle.hb_ops.specs.Sound.{IsSound}
 use Rattle.hb_ops.specs.Owing.{LacksRoom}
@@ -28,7 +30,8 @@ use Rattle.hb_store.specs.declared.stops.StopWhy.TheVariants as stops
 use Rattle.hb_store.specs.declared.stops.Why.{Why}
 use Rattle.hb_store.specs.declared.stops.Why.TheVariants.{Rule, Level, Extent}
 use Rattle.hb_core.specs.Moving.{with_order_of_use, with_store}
-use Rattle.hb_core.specs.declared.halts.Halt.TheVariants.{Stops}
+use Rattle.hb_activity.specs.declared.dropping.DropWhy.TheVariants as drops
+use Rattle.hb_core.specs.declared.halts.Halt.TheVariants.{GivesUp, Stops}
 use Rattle.hb_core.proofs.Machines.PinsFollow.{PinsMore, more_number, times}
 use Rattle.hb_core.proofs.Running.Brought.{brings_joined, brings_none, brings_numbered, brings_wider, fetch_brings, shows_store}
 use Rattle.hb_core.proofs.Running.Frames.{must_here, pinned_here}
@@ -38,13 +41,14 @@ use Rattle.hb_activity.specs.Wanting.{may_commit}
 use Rattle.hb_core.proofs.Running.Coming.{sound_where_told, told_or_not}
 use Rattle.hb_core.proofs.Running.Looks.{looked_stays}
 use Rattle.hb_core.proofs.Running.StandsElsewhere.{shows_but}
-use Rattle.hb_core.specs.Acting.{LacksNeeded, MayNeed, NeedsNumber}
+use Rattle.hb_core.specs.Acting.{Decodes, LacksNeeded, MayNeed, NeedsNumber}
 use Rattle.hb_core.specs.Asking.{AskedBox, HasAskedBox, asked_box, box_at, looked_live, wanted_by, whole_box}
 use Rattle.hb_core.specs.Fetching.{Brings, IsBadHead, IsFreeHead, IsWantedPage, MustStay}
 use Rattle.hb_core.specs.Machines.{Files, Machine, current_file, live_here, next_of, next_of_chain, sight, with_disk, with_uses}
 use Rattle.hb_core.specs.Rows.{IsAtHand}
 use Rattle.hb_core.specs.Showing.{RunningCore, ShowsMachine}
 use Rattle.hb_core.specs.Stopping.{IsHaltOf}
+use Rattle.hb_core.specs.Touching.{IsReadHalt}
 use Rattle.hb_core.specs.Using.{page_wanted, pins_of, use_wanted}
 use Rattle.hb_core.specs.Working.{HasCome, HasPages, HaltsPinned, IsHalt, with_memory}
 use Rattle.hb_core.specs.declared.halts.Halt.{Halt}
@@ -54,7 +58,6 @@ use Rattle.hb_pool.specs.Frames.{Use}
 use Rattle.hb_pool.specs.Pools.{places}
 use Rattle.hb_store.specs.Calls.{StaysHere, use_fetched}
 use Rattle.hb_store.specs.Held.{IsTied}
-use Rattle.hb_core.proofs.Files.SoundFiles.{files_hold}
 use Rattle.hb_core.specs.Keeps.{HasSoundFile}
 
 -- ---- the number that the store gives is the one of the machine
@@ -139,6 +142,38 @@ none_given m d c actor come not = record {
   uses = come.uses;
   tied = come.tied;
 }
+
+-- a step decodes pages, whatever the order of use
+pub decodes_as : (m : Machine) (uses : List Use) (wanted : Option Wanted) (activity : Activity) → Decodes wanted (with_uses uses m) activity → Decodes wanted m activity
+decodes_as m uses None (at.SessionWalk line held rest found) decodes = decodes
+decodes_as m uses (Some wanted) (at.SessionWalk line held rest found) (boxes, (page, hand, now)) = (boxes, (page, record { live = hand.live; level = hand.level; box = hand.box }, now))
+decodes_as m uses wanted (at.SessionSplit line held) decodes = decodes
+decodes_as m uses wanted (at.SessionPut line source fresh) decodes = decodes
+decodes_as m uses wanted at.SessionIdle decodes = decodes
+decodes_as m uses wanted (at.SessionAwait number reply place) decodes = decodes
+decodes_as m uses wanted at.PosterIdle decodes = decodes
+decodes_as m uses wanted at.ConsolidatorIdle decodes = decodes
+decodes_as m uses wanted at.Flusher decodes = decodes
+decodes_as m uses wanted worker decodes = tt
+
+-- memory is refused before a number is known to be needed
+pub number_refused : (m : Machine) (d : DiskModel) (c : RunningCore) (actor : ℕ) → IsActor actor → HasCome m actor d c → Decodes (wanted_by m actor) (with_memory c m) (m.activity actor) → HaltsPinned m actor (GivesUp drops.NoMemory) d c
+number_refused m d c actor latches come decodes = record {
+  brings = brings_wider m (IsWantedPage (wanted_by m actor)) (MayNeed m actor c.store) c.store (λ id wants. inl wants) come.brings;
+  shows = shows_but d c (with_memory c m) actor latches come.shows;
+  cause = inl (decodes_as (with_disk c.store m.files m.clock m) c.uses (wanted_by m actor) (m.activity actor) decodes);
+  used_is = inl come.uses;
+  tied = come.tied;
+}
+
+-- a number that is given was read without a fault; a read that failed is one for which the step halts
+pub reads_on : {T : Type 0} (x : T) (d e : DiskModel) → ReadsOnly (IsErrOf (Ok x) fetches.ReadFault) d e → ReadsOnly ⊥ d e
+reads_on x d e only = ReadsOnly-neither d e (λ is. cc) (λ never. never) only
+
+pub reads_halted : {T : Type 0} (stop : FetchStop) (halt : Halt) (d e : DiskModel) → IsHaltOf stop halt → ReadsOnly (IsErrOf {T = T} (Err stop) fetches.ReadFault) d e → ReadsOnly (IsReadHalt halt) d e
+reads_halted fetches.ReadFault halt d e is only = ReadsOnly-both d e refl (subst IsReadHalt (sym is) refl) only
+reads_halted (fetches.Damaged page why) halt d e is only = ReadsOnly-neither d e (λ same. cc) (λ read. subst IsReadHalt is read) only
+reads_halted fetches.Crowded halt d e is only = absurd is
 
 -- either the chain has a page, or nothing was read for it
 pub came_by_chain : (meta : Meta) (before after : List Use) → (meta.free ≡ 0 → after ≡ before) → meta.free ≢ 0 ⊎ (after ≡ before)
