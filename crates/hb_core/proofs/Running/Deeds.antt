@@ -86,12 +86,24 @@ said_so (HasJob job) fates.GoesOn = refl
 said_so (HasJob job) fates.TakesEffect = refl
 said_so (HasJob job) (fates.Answers given) = refl
 
+-- the pins may go over once the operation is done, since they may in every store that it leads to
+pub can_then : (place : ℕ) (pins : List ℕ) (next : Next) (stands_as : Activity) (old done : RunningCore)
+    → ((st : StoreState) → MayDo next.op (length old.order) old.store st → IsTied st (use_done next.op old.store old.uses)
+    → CanHold pins (pages_of (latches_held st (placed_at (length old.order) next.then))) (use_done next.op old.store old.uses))
+    → place ≡ length old.order → stands_as ≡ placed_at place next.then → MayDo next.op place old.store done.store → done.uses ≡ use_done next.op old.store old.uses → IsTied done.store done.uses
+    → CanHold pins (pages_of (latches_held done.store stands_as)) done.uses
+can_then place pins next stands_as old done hold at_end is_next does used tied =
+    let after : stands_as ≡ placed_at (length old.order) next.then = is_next ∙ ap (λ (n : ℕ). placed_at n next.then) at_end in
+    subst (λ (a : Activity). CanHold pins (pages_of (latches_held done.store a)) done.uses) (sym after)
+    (subst (λ (l : List Use). CanHold pins (pages_of (latches_held done.store (placed_at (length old.order) next.then))) l) (sym used)
+    (hold done.store (subst (λ (n : ℕ). MayDo next.op n old.store done.store) at_end does) (subst (λ (l : List Use). IsTied done.store l) used tied)))
+
 -- what a decider said is performed: the operation, the jobs, the latches with the pins, and the order, one after the other
 pub performed : (actor place : ℕ) (pins : List ℕ) (line joins : Option ℕ) (next : Next) (stands_as : Activity) (outcome : Outcome) (old done queued stood new : RunningCore) (state : Activity)
     → line ≡ number_of (hand_of state) → place ≡ length old.order → stands_as ≡ placed_at place next.then → joins ≡ joins_order line next.then next.fate → outcome ≡ said line next.fate
     → MayDo next.op place old.store done.store → done.uses ≡ use_done next.op old.store old.uses → KeepsStaying next.op old done.store → IsTied done.store done.uses
     → done ≡ with_order_of_use done.uses (with_store done.store old) → AddsJobs next.jobs.items done.jobs queued.jobs → queued ≡ with_jobs queued.jobs done
-    → CanHold pins (pages_of (latches_held queued.store stands_as)) queued.uses
+    → CanHold pins (pages_of (latches_held done.store stands_as)) done.uses
     → StandsNow actor pins stands_as queued stood → new ≡ with_order (stood.order ++ pushed joins) stood
     → DoesDeed actor pins (placed (length old.order) (deed_of state next)) outcome old new
 performed actor place pins line joins next stands_as outcome old done queued stood new state hand at_end is_next is_joined is_said does used stay tied kept adds queued_so can stands joined =
@@ -105,7 +117,6 @@ performed actor place pins line joins next stands_as outcome old done queued sto
     let numbers : pushed joins ≡ numbers_joined deed.joins = ap pushed (is_joined ∙ ap (λ (l : Option ℕ). joins_order l next.then next.fate) hand) ∙ joined_so (hand_of state) next.then next.fate in
     let held : stood.uses ≡ use_held pins (pages_of (latches_held done.store stands_as)) done.uses =
     stands.uses ∙ ap (λ (c : RunningCore). use_held pins (pages_of (latches_held c.store stands_as)) c.uses) jobs_so in
-    let can_so : CanHold pins (pages_of (latches_held done.store stands_as)) done.uses = subst (λ (c : RunningCore). CanHold pins (pages_of (latches_held c.store stands_as)) c.uses) jobs_so can in
     does_deed actor pins deed outcome old new done.store stood.uses old.jobs queued.jobs stood.latches
     (is_said ∙ ap (λ (l : Option ℕ). said l next.fate) hand ∙ said_so (hand_of state) next.fate)
     refl
@@ -116,7 +127,7 @@ performed actor place pins line joins next stands_as outcome old done queued sto
     (held ∙ ap (λ (l : List Use). use_held pins (pages_of (latches_held done.store stands_as)) l) used
     ∙ ap (λ (a : Activity). use_held pins (pages_of (latches_held done.store a)) (use_done next.op old.store old.uses)) after)
     stay
-    (subst (λ (l : List Use). IsTied done.store l) (sym held) (tied_held done.store pins (pages_of (latches_held done.store stands_as)) done.uses tied can_so))
+    (subst (λ (l : List Use). IsTied done.store l) (sym held) (tied_held done.store pins (pages_of (latches_held done.store stands_as)) done.uses tied can))
     (all ∙ ap (λ (l : List ℕ). record (with_standing actor stands_as old) { store = done.store; uses = stood.uses; jobs = queued.jobs; latches = stood.latches; order = old.order ++ l }) numbers
     ∙ ap (λ (a : Activity). record (with_standing actor a old) { store = done.store; uses = stood.uses; jobs = queued.jobs; latches = stood.latches; order = old.order ++ numbers_joined deed.joins }) after)
 
