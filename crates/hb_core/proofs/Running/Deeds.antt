@@ -1,5 +1,5 @@
 -- What the calls of a core make of it, put together: a deed.
-use Rattle.std.proofs.Common.{◌≡◌, ℕ, List, [], ◌++◌, length, Option, Some, None, refl, sym, ap, subst, ◌∙◌, append-nil}
+use Rattle.std.proofs.Common.{◌≡◌, ℕ, ◌-◌, ◌<◌, List, [], ◌++◌, length, get_or, Option, Some, None, refl, sym, ap, subst, ◌∙◌, append-nil, arith}
 use Rattle.hb_latch.specs.Tables.{LatchTable}
 use Rattle.hb_set.specs.declared.commands.Reply.TheVariants as replies
 use Rattle.hb_activity.specs.declared.activities.Activity.{Activity}
@@ -23,7 +23,7 @@ use Rattle.hb_pool.specs.Frames.{Use}
 use Rattle.hb_set.specs.declared.commands.Reply.{Reply}
 use Rattle.hb_store.specs.Held.{IsTied}
 use Rattle.hb_core.proofs.Running.Pins.{tied_held}
-use Rattle.hb_core.specs.Moving.{DoesDeed, KeepsStaying, StandsFree, StandsNow, joins_order, number_of, numbers_joined, placed, placed_at, pushed, said, with_jobs, with_order, with_order_of_use, with_standing, with_store}
+use Rattle.hb_core.specs.Moving.{DoesDeed, KeepsStaying, StandsAs, StandsFree, StandsNow, joins_order, number_of, numbers_joined, placed, placed_at, pushed, said, with_jobs, with_order, with_order_of_use, with_standing, with_store}
 use Rattle.hb_core.specs.Pinning.{CanHold, CanUnpin}
 use Rattle.hb_core.specs.Using.{pages_of, use_done, use_held}
 use Rattle.hb_core.specs.Performing.{MayDo, Relatches, latches_held, outcome_of}
@@ -32,7 +32,8 @@ use Rattle.hb_core.specs.Working.{IsWorking}
 use Rattle.hb_core.specs.KeptFits.{class_for}
 use Rattle.hb_core.proofs.Table.DeedKinds.{line_is_sessions}
 use Rattle.hb_core.proofs.Table.GivenUp.{given_up_is, idle_latches, run_out_is}
-use Rattle.std.proofs.lemmas.Option.{same_Some}
+use Rattle.std.proofs.lemmas.Option.{same_Some, slice_get-get_or}
+use Rattle.hb_space.specs.Actors.{IsActor}
 
 -- a deed, by what became of the store, the order of use, the jobs and the latches
 pub does_deed : (actor : ℕ) (pins : List ℕ) (deed : Deed) (outcome : Outcome) (old new : RunningCore) (store : StoreState) (uses : List Use) (left jobs : List Job) (latches : LatchTable)
@@ -164,6 +165,18 @@ took_job actor job next old left new takes left_so none tied stands =
 -- who is idle pins nothing
 pub can_idle : (st : StoreState) (kind : Class) (pins : List ℕ) (uses : List Use) → CanUnpin pins uses → CanHold pins (pages_of (latches_held st (idle_of kind))) uses
 can_idle st kind pins uses can = subst (λ (l : List Latch). CanHold pins (pages_of l) uses) (sym (idle_latches kind st)) (can, tt)
+
+-- so whoever has these pages pinned may go idle, wherever it stands
+pub can_run_out : (actor : ℕ) (slice items : List ℕ) (idle : Activity) (c : RunningCore) → IsActor actor → length c.activities ≡ 19 → idle ≡ idle_of (class_for actor) → slice ≡ items
+    → ((state : Activity) → StandsAs c actor state → items ≡ pages_of (latches_held c.store state)) → ((state : Activity) → StandsAs c actor state → CanUnpin (pages_of (latches_held c.store state)) c.uses)
+    → CanHold slice (pages_of (latches_held c.store idle)) c.uses
+can_run_out actor slice items idle c may all idle_is value held can =
+    let low = may.from_1 in
+    let high = may.to_19 in
+    let state : Activity = get_or c.activities (actor - 1) at.SessionIdle in
+    let stands : StandsAs c actor state = slice_get-get_or c.activities (actor - 1) at.SessionIdle (omega (arith, low, high, all)) in
+    subst (λ (a : Activity). CanHold slice (pages_of (latches_held c.store a)) c.uses) (sym idle_is)
+    (can_idle c.store (class_for actor) slice c.uses (subst (λ (l : List ℕ). CanUnpin l c.uses) (sym (value ∙ held state stands)) (can state stands)))
 
 in_hand : (state : Activity) → IsWorking state → number_in_hand state ≡ number_of (hand_of state)
 in_hand (at.SessionWalk line held rest found) works = refl
