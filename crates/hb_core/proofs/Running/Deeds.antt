@@ -1,5 +1,5 @@
 -- What the calls of a core make of it, put together: a deed.
-use Rattle.std.proofs.Common.{◌≡◌, ℕ, List, [], ◌++◌, length, Option, Some, None, refl, sym, ap, subst, ◌∙◌, append-nil}
+use Rattle.std.proofs.Common.{◌≡◌, ℕ, ◌-◌, ◌<◌, List, [], ◌++◌, length, get_or, Option, Some, None, refl, sym, ap, subst, ◌∙◌, append-nil, arith}
 use Rattle.hb_latch.specs.Tables.{LatchTable}
 use Rattle.hb_set.specs.declared.commands.Reply.TheVariants as replies
 use Rattle.hb_activity.specs.declared.activities.Activity.{Activity}
@@ -23,7 +23,7 @@ use Rattle.hb_pool.specs.Frames.{Use}
 use Rattle.hb_set.specs.declared.commands.Reply.{Reply}
 use Rattle.hb_store.specs.Held.{IsTied}
 use Rattle.hb_core.proofs.Running.Pins.{tied_held}
-use Rattle.hb_core.specs.Moving.{DoesDeed, KeepsStaying, StandsFree, StandsNow, joins_order, number_of, numbers_joined, placed, placed_at, pushed, said, with_jobs, with_order, with_order_of_use, with_standing, with_store}
+use Rattle.hb_core.specs.Moving.{DoesDeed, KeepsStaying, StandsAs, StandsFree, StandsNow, joins_order, number_of, numbers_joined, placed, placed_at, pushed, said, with_jobs, with_order, with_order_of_use, with_standing, with_store}
 use Rattle.hb_core.specs.Pinning.{CanHold, CanUnpin}
 use Rattle.hb_core.specs.Using.{pages_of, use_done, use_held}
 use Rattle.hb_core.specs.Performing.{MayDo, Relatches, latches_held, outcome_of}
@@ -32,7 +32,8 @@ use Rattle.hb_core.specs.Working.{IsWorking}
 use Rattle.hb_core.specs.KeptFits.{class_for}
 use Rattle.hb_core.proofs.Table.DeedKinds.{line_is_sessions}
 use Rattle.hb_core.proofs.Table.GivenUp.{given_up_is, idle_latches, run_out_is}
-use Rattle.std.proofs.lemmas.Option.{same_Some}
+use Rattle.std.proofs.lemmas.Option.{same_Some, slice_get-get_or}
+use Rattle.hb_space.specs.Actors.{IsActor}
 
 -- a deed, by what became of the store, the order of use, the jobs and the latches
 pub does_deed : (actor : ℕ) (pins : List ℕ) (deed : Deed) (outcome : Outcome) (old new : RunningCore) (store : StoreState) (uses : List Use) (left jobs : List Job) (latches : LatchTable)
@@ -86,12 +87,24 @@ said_so (HasJob job) fates.GoesOn = refl
 said_so (HasJob job) fates.TakesEffect = refl
 said_so (HasJob job) (fates.Answers given) = refl
 
+-- the pins may go over once the operation is done, since they may in every store that it leads to
+pub can_then : (place : ℕ) (pins : List ℕ) (next : Next) (stands_as : Activity) (old done : RunningCore)
+    → ((st : StoreState) → MayDo next.op (length old.order) old.store st → IsTied st (use_done next.op old.store old.uses)
+    → CanHold pins (pages_of (latches_held st (placed_at (length old.order) next.then))) (use_done next.op old.store old.uses))
+    → place ≡ length old.order → stands_as ≡ placed_at place next.then → MayDo next.op place old.store done.store → done.uses ≡ use_done next.op old.store old.uses → IsTied done.store done.uses
+    → CanHold pins (pages_of (latches_held done.store stands_as)) done.uses
+can_then place pins next stands_as old done hold at_end is_next does used tied =
+    let after : stands_as ≡ placed_at (length old.order) next.then = is_next ∙ ap (λ (n : ℕ). placed_at n next.then) at_end in
+    subst (λ (a : Activity). CanHold pins (pages_of (latches_held done.store a)) done.uses) (sym after)
+    (subst (λ (l : List Use). CanHold pins (pages_of (latches_held done.store (placed_at (length old.order) next.then))) l) (sym used)
+    (hold done.store (subst (λ (n : ℕ). MayDo next.op n old.store done.store) at_end does) (subst (λ (l : List Use). IsTied done.store l) used tied)))
+
 -- what a decider said is performed: the operation, the jobs, the latches with the pins, and the order, one after the other
 pub performed : (actor place : ℕ) (pins : List ℕ) (line joins : Option ℕ) (next : Next) (stands_as : Activity) (outcome : Outcome) (old done queued stood new : RunningCore) (state : Activity)
     → line ≡ number_of (hand_of state) → place ≡ length old.order → stands_as ≡ placed_at place next.then → joins ≡ joins_order line next.then next.fate → outcome ≡ said line next.fate
     → MayDo next.op place old.store done.store → done.uses ≡ use_done next.op old.store old.uses → KeepsStaying next.op old done.store → IsTied done.store done.uses
     → done ≡ with_order_of_use done.uses (with_store done.store old) → AddsJobs next.jobs.items done.jobs queued.jobs → queued ≡ with_jobs queued.jobs done
-    → CanHold pins (pages_of (latches_held queued.store stands_as)) queued.uses
+    → CanHold pins (pages_of (latches_held done.store stands_as)) done.uses
     → StandsNow actor pins stands_as queued stood → new ≡ with_order (stood.order ++ pushed joins) stood
     → DoesDeed actor pins (placed (length old.order) (deed_of state next)) outcome old new
 performed actor place pins line joins next stands_as outcome old done queued stood new state hand at_end is_next is_joined is_said does used stay tied kept adds queued_so can stands joined =
@@ -105,7 +118,6 @@ performed actor place pins line joins next stands_as outcome old done queued sto
     let numbers : pushed joins ≡ numbers_joined deed.joins = ap pushed (is_joined ∙ ap (λ (l : Option ℕ). joins_order l next.then next.fate) hand) ∙ joined_so (hand_of state) next.then next.fate in
     let held : stood.uses ≡ use_held pins (pages_of (latches_held done.store stands_as)) done.uses =
     stands.uses ∙ ap (λ (c : RunningCore). use_held pins (pages_of (latches_held c.store stands_as)) c.uses) jobs_so in
-    let can_so : CanHold pins (pages_of (latches_held done.store stands_as)) done.uses = subst (λ (c : RunningCore). CanHold pins (pages_of (latches_held c.store stands_as)) c.uses) jobs_so can in
     does_deed actor pins deed outcome old new done.store stood.uses old.jobs queued.jobs stood.latches
     (is_said ∙ ap (λ (l : Option ℕ). said l next.fate) hand ∙ said_so (hand_of state) next.fate)
     refl
@@ -116,7 +128,7 @@ performed actor place pins line joins next stands_as outcome old done queued sto
     (held ∙ ap (λ (l : List Use). use_held pins (pages_of (latches_held done.store stands_as)) l) used
     ∙ ap (λ (a : Activity). use_held pins (pages_of (latches_held done.store a)) (use_done next.op old.store old.uses)) after)
     stay
-    (subst (λ (l : List Use). IsTied done.store l) (sym held) (tied_held done.store pins (pages_of (latches_held done.store stands_as)) done.uses tied can_so))
+    (subst (λ (l : List Use). IsTied done.store l) (sym held) (tied_held done.store pins (pages_of (latches_held done.store stands_as)) done.uses tied can))
     (all ∙ ap (λ (l : List ℕ). record (with_standing actor stands_as old) { store = done.store; uses = stood.uses; jobs = queued.jobs; latches = stood.latches; order = old.order ++ l }) numbers
     ∙ ap (λ (a : Activity). record (with_standing actor a old) { store = done.store; uses = stood.uses; jobs = queued.jobs; latches = stood.latches; order = old.order ++ numbers_joined deed.joins }) after)
 
@@ -153,6 +165,18 @@ took_job actor job next old left new takes left_so none tied stands =
 -- who is idle pins nothing
 pub can_idle : (st : StoreState) (kind : Class) (pins : List ℕ) (uses : List Use) → CanUnpin pins uses → CanHold pins (pages_of (latches_held st (idle_of kind))) uses
 can_idle st kind pins uses can = subst (λ (l : List Latch). CanHold pins (pages_of l) uses) (sym (idle_latches kind st)) (can, tt)
+
+-- so whoever has these pages pinned may go idle, wherever it stands
+pub can_run_out : (actor : ℕ) (slice items : List ℕ) (idle : Activity) (c : RunningCore) → IsActor actor → length c.activities ≡ 19 → idle ≡ idle_of (class_for actor) → slice ≡ items
+    → ((state : Activity) → StandsAs c actor state → items ≡ pages_of (latches_held c.store state)) → ((state : Activity) → StandsAs c actor state → CanUnpin (pages_of (latches_held c.store state)) c.uses)
+    → CanHold slice (pages_of (latches_held c.store idle)) c.uses
+can_run_out actor slice items idle c may all idle_is value held can =
+    let low = may.from_1 in
+    let high = may.to_19 in
+    let state : Activity = get_or c.activities (actor - 1) at.SessionIdle in
+    let stands : StandsAs c actor state = slice_get-get_or c.activities (actor - 1) at.SessionIdle (omega (arith, low, high, all)) in
+    subst (λ (a : Activity). CanHold slice (pages_of (latches_held c.store a)) c.uses) (sym idle_is)
+    (can_idle c.store (class_for actor) slice c.uses (subst (λ (l : List ℕ). CanUnpin l c.uses) (sym (value ∙ held state stands)) (can state stands)))
 
 in_hand : (state : Activity) → IsWorking state → number_in_hand state ≡ number_of (hand_of state)
 in_hand (at.SessionWalk line held rest found) works = refl

@@ -1,18 +1,16 @@
 -- Pages that are pinned and unpinned one after the other: which may be, what becomes of the pins, and that the frames stay those of the
 -- pages in memory.
-use Rattle.std.proofs.Common.{◌≡◌, ◌≢◌, inl, inr, ℕ, ◌+◌, ◌-◌, ◌<◌, ◌≤◌, ◌==◌, Bool, true, false, cond, List, [], ◌∷◌, ◌++◌, Option, Some, None, IsSome, refl, sym, ap, subst, ◌∙◌, arith}
-use Rattle.std.specs.List.{count_by}
+use Rattle.std.proofs.Common.{◌≡◌, ◌≢◌, inl, inr, ℕ, ◌+◌, ◌-◌, ◌<◌, ◌≤◌, ◌==◌, Bool, false, List, [], ◌∷◌, ◌++◌, Option, Some, None, IsSome, refl, sym, ap, subst, ◌∙◌, arith}
 use Rattle.std.specs.Option.{IsSomeAnd, is_some, option_map, option_map_or}
-use Rattle.std.specs.Set.{remove_key}
 use Rattle.std.proofs.lemmas.Bool.{cases_Bool, eq-eqb, eqb-true, eqb-false}
 use Rattle.std.proofs.lemmas.Option.{same_Some}
 use Rattle.hb_lemmas.proofs.Options.{some_value}
 use Rattle.hb_pool.proofs.Others.{last_changed, last_no_other, place_changed, place_no_other}
 use Rattle.hb_pool.proofs.Pooled.{frame_pins, in_place_pool, put_last_pool}
-use Rattle.hb_pool.specs.Frames.{Use, has_id, pinned, unpinned}
+use Rattle.hb_pool.specs.Frames.{Use, pinned, unpinned}
 use Rattle.hb_pool.specs.Pools.{IsPool, frame_of, in_place, put_last}
 use Rattle.hb_store.specs.Held.{IsTied}
-use Rattle.hb_store.specs.States.{StoreState, in_memory, is_dirty}
+use Rattle.hb_store.specs.States.{StoreState}
 use Rattle.hb_core.specs.Pinning.{CanHold, CanPin, CanUnpin}
 use Rattle.hb_core.specs.Using.{pin_each, pins_of, unpin_each, use_held}
 use Rattle.hb_core.proofs.Machines.PinCounts.{one_if, pinned_pins, unpinned_pins}
