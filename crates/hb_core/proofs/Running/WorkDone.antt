@@ -63,12 +63,12 @@ module _ (d : DiskModel) (c : RunningCore) (m : Machine) (actor : ℕ) (may : Is
   pub holds_pages : (pins : List ℕ) → ((activity : Activity) → StandsAs c actor activity → pins ≡ pages_of (latches_held c.store activity)) → pins ≡ pages_of (latches_held m.store (m.activity actor))
   holds_pages pins is = is (m.activity actor) stands ∙ ap (λ (st : StoreState). pages_of (latches_held st (m.activity actor))) (sym step.shows.store)
 
+  abbrev Walks : Activity → Type 0
+  Walks activity = IsSome (walk_held activity) → IsSome (option_and_then (live_here c.store) (walk_held activity))
+
   pub walks_here : (activity : Activity) → StandsAs c actor activity → IsSome (walk_held activity) → IsSome (option_and_then (live_here c.store) (walk_held activity))
   walks_here activity so = subst Walks (stands_as d c m actor activity may step.shows so) own
     where
-      abbrev Walks : Activity → Type 0
-      Walks a = IsSome (walk_held a) → IsSome (option_and_then (live_here c.store) (walk_held a))
-
       own : Walks (m.activity actor)
       own walks =
           let held = some_value (walk_held (m.activity actor)) walks in

@@ -45,3 +45,6 @@ returns-in-Err-clause-halts g c m may work =
     subst (λ (k : _). Halts m c.args.actor c.in-Err.halt (g.D.Device.model k) (core_seen c.let_go.new.self)) (sym c.let_go.ensures.disk)
     (subst (λ (s : RunningCore). Halts m c.args.actor c.in-Err.halt (g.D.Device.model (core_disk c.row_there.new.self)) s) (sym c.let_go.ensures.does)
     (let_go m c.args.actor (g.D.Device.model (core_disk c.row_there.new.self)) (core_seen c.row_there.new.self) _ c.args.wanted c.in-Err.halt (c.requires.row.wanted m may) halts can refl))
+
+pub returns-in-Ok-clause-done : goal.returns-in-Ok-clause-done
+returns-in-Ok-clause-done g c m may work = c.in-Ok.ensures.done m (c.in_ok-bring.ensures.comes m may work)

@@ -58,7 +58,7 @@ give_up-requires-clause-pins g c =
     let works = c.requires.may.3 in
     let work = may_work (g.D.Device.model (core_disk c.args.self.now)) (core_seen c.args.self.now) m c.args.actor c.requires.actor step c.wanted-wanted.result c.is_unready.result runs works c.wanted-wanted.ensures (c.in_the_way.ensures.free c.in_default.is) c.is_unready.ensures c.if-is_unready.false in
     let halts = c.in-Err-GivesUp.ensures.halts m step work in
-    subst (λ (l : List ℕ). CanUnpin l (core_seen c.do_row.new.self).uses) (sym (c.as_slice.ensures.value ∙ holds_pages (g.D.Device.model (core_disk c.args.self.now)) (core_seen c.args.self.now) m c.args.actor c.requires.actor step c.held_pages-pins.result.items c.held_pages-pins.ensures))
+    subst (λ (l : List ℕ). CanUnpin l (core_seen c.do_row.new.self).uses) (sym (c.as_slice-in-Err-GivesUp.ensures.value ∙ holds_pages (g.D.Device.model (core_disk c.args.self.now)) (core_seen c.args.self.now) m c.args.actor c.requires.actor step c.held_pages-pins.result.items c.held_pages-pins.ensures))
     (may_give_up m c.args.actor (core_seen c.do_row.new.self).store (core_seen c.do_row.new.self).uses c.requires.actor work.goes_on.kept halts.tied halts.used_is)
 
 pub give_up-requires-clause-tied : goal.give_up-requires-clause-tied
@@ -92,10 +92,10 @@ pub returns-in-Err-GivesUp-clause-works : goal.returns-in-Err-GivesUp-clause-wor
 returns-in-Err-GivesUp-clause-works g c m step runs works =
     let work = may_work (g.D.Device.model (core_disk c.args.self.now)) (core_seen c.args.self.now) m c.args.actor c.requires.actor step c.wanted-wanted.result c.is_unready.result runs works c.wanted-wanted.ensures (c.in_the_way.ensures.free c.in_default.is) c.is_unready.ensures c.if-is_unready.false in
     given_up g.D.Device.model (core_disk c.do_row.new.self) (core_disk c.give_up.new.self) (core_seen c.do_row.new.self) (core_seen c.give_up.new.self) m c.args.actor c.requires.actor work c.give_up.ensures.disk
-    c.in-Err-GivesUp.why c.line_in_hand-line.result c.as_slice.result.now c.give_up.result
+    c.in-Err-GivesUp.why c.line_in_hand-line.result c.as_slice-in-Err-GivesUp.result.now c.give_up.result
     (subst (λ (h : Halt). Halts m c.args.actor h (g.D.Device.model (core_disk c.do_row.new.self)) (core_seen c.do_row.new.self)) c.in-Err-GivesUp.field-0-is (c.in-Err-GivesUp.ensures.halts m step work))
     (holds_line (g.D.Device.model (core_disk c.args.self.now)) (core_seen c.args.self.now) m c.args.actor c.requires.actor step c.line_in_hand-line.result works c.line_in_hand-line.ensures)
-    (c.as_slice.ensures.value ∙ holds_pages (g.D.Device.model (core_disk c.args.self.now)) (core_seen c.args.self.now) m c.args.actor c.requires.actor step c.held_pages-pins.result.items c.held_pages-pins.ensures) c.give_up.ensures.does
+    (c.as_slice-in-Err-GivesUp.ensures.value ∙ holds_pages (g.D.Device.model (core_disk c.args.self.now)) (core_seen c.args.self.now) m c.args.actor c.requires.actor step c.held_pages-pins.result.items c.held_pages-pins.ensures) c.give_up.ensures.does
 
 pub returns-in-Err-GivesUp-clause-touches : goal.returns-in-Err-GivesUp-clause-touches
 returns-in-Err-GivesUp-clause-touches g c =
