@@ -1,10 +1,9 @@
 -- The pins of an actor can go over from the wanted page and those of its latches to those of its latches once a row is done.
-use Rattle.std.proofs.Common.{◌≡◌, inl, inr, ℕ, ◌+◌, ◌<◌, ◌≤◌, ◌==◌, Bool, true, false, cond, List, [], ◌∷◌, ◌++◌, length, map, Option, Some, None, IsSome, refl, sym, ap, ◌∙◌, subst, arith}
+use Rattle.std.proofs.Common.{◌≡◌, inl, inr, ℕ, ◌+◌, ◌<◌, ◌≤◌, ◌==◌, Bool, true, false, cond, List, [], ◌∷◌, ◌++◌, length, Option, Some, None, IsSome, refl, sym, ap, ◌∙◌, subst, arith}
 use Rattle.std.specs.Option.{is_some}
 use Rattle.std.proofs.lemmas.Bool.{cases_Bool}
 use Rattle.std.proofs.lemmas.List.{length-map}
 use Rattle.hb_disk.specs.Model.{DiskModel}
-use Rattle.hb_frag.specs.declared.pages.Page.{Page}
 use Rattle.hb_frag.specs.declared.pages.Page.TheVariants.{Live}
 use Rattle.hb_lemmas.proofs.Options.{has_value}
 use Rattle.hb_activity.proofs.Facts.HeldLatches.{two_at_most}
@@ -36,7 +35,7 @@ use Rattle.hb_core.specs.Performing.{MayDo, latches_held, mode_among}
 use Rattle.hb_core.specs.Pinning.{CanHold, CanUnpin}
 use Rattle.hb_core.specs.Rows.{Row}
 use Rattle.hb_core.specs.Showing.{RunningCore}
-use Rattle.hb_core.specs.Using.{CameFor, holders, page_wanted, pages_of, pins_of, use_done}
+use Rattle.hb_core.specs.Using.{CameFor, page_wanted, pages_of, pins_of, use_done}
 use Rattle.hb_core.specs.Working.{HasCome, HasPages, with_memory}
 use Rattle.hb_core.specs.Asking.{looked_live}
 use Rattle.hb_core.proofs.Running.Looks.{looked_stays}
