@@ -1,6 +1,6 @@
 -- What a decider said may be performed: its operation may be committed, its actor may stand as it says, a line that joins the order has room,
 -- and the pages that came are those that the row needs.
-use Rattle.std.proofs.Common.{◌≡◌, ◌⊎◌, inl, inr, ℕ, ◌<◌, List, length, Option, IsSome, IsTrue, IfSome, refl, sym, ap, ◌∙◌, subst, arith, ◌++◌, None, Some, ◌≤◌}
+use Rattle.std.proofs.Common.{◌≡◌, ◌⊎◌, inl, inr, ℕ, ◌<◌, List, length, Option, IsSome, IsTrue, IfSome, refl, sym, ap, ◌∙◌, subst, arith, ◌++◌, None, Some}
 use Rattle.std.proofs.lemmas.Bool.{false≢true}
 use Rattle.std.proofs.lemmas.List.{length-map}
 use Rattle.hb_disk.specs.Model.{DiskModel}

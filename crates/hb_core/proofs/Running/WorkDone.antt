@@ -1,5 +1,5 @@
 -- A core that works takes a step of the machine that it shows.
-use Rattle.std.proofs.Common.{◌≡◌, ◌⊎◌, inl, inr, ℕ, ◌-◌, ◌+◌, ◌↔◌, arith, Bool, true, false, List, slice_get, slice_set, Option, None, IfSome, IsSome, IsTrue, refl, sym, ap, ◌∙◌, subst}
+use Rattle.std.proofs.Common.{◌≡◌, ◌⊎◌, inl, inr, ℕ, ◌-◌, ◌↔◌, arith, Bool, true, false, List, slice_get, slice_set, Option, None, IfSome, IsSome, IsTrue, refl, sym, ap, ◌∙◌, subst}
 use Rattle.std.specs.Option.{IsSomeAnd, option_and_then}
 use Rattle.hb_activity.specs.Walks.{walk_held}
 use Rattle.hb_lemmas.proofs.Options.{has_value, some_value}
