@@ -46,7 +46,7 @@ def a_filled_case(rng, seed, count):
     case = Case(seed, k, rng.choice([count // 4, count // 3, count // 3]), 1048576, rng.choice([6, 6, 6, 7]), rng.choice([32, 32, 40]))
     points = some_points(rng, k, count)
     lines = some_lines(rng, "fill", points, len(points), k)
-    case.add(lines, steps_in_bursts(rng, 13 * len(lines), (0.15, rng.choice([0, 0, 0.05]))), rng.choice([0, 0, 6]))
+    case.add(lines, steps_in_bursts(rng, 13 * len(lines), (0.15, rng.choice([0, 0, 0.05]))), rng.choice([0, 0, 4]))
     return case, points
 
 
@@ -57,7 +57,7 @@ def a_framing_case(rng, seed):
         kind, size = rng.choice(["drain", "drain", "mix", "fill", "ask"]), rng.choice([150, 250, 400])
         lines = some_lines(rng, kind, points, size, case.k)
         steps = steps_in_bursts(rng, rng.choice([7, 10, 14]) * size, rng.choice([(0.05, 0), (0.15, 0.15), (0.05, 0.3)]))
-        case.add(lines, steps, 12, rng.random() < 0.01, rng.choice([0, 0, 1, 2]), rng.random() < 0.3)
+        case.add(lines, steps, 6, rng.random() < 0.01, rng.choice([0, 0, 1, 2]), rng.random() < 0.3)
     return case
 
 
@@ -65,9 +65,9 @@ def a_failing_frames_case(rng, seed):
     """A file of some 170 pages; many single calls of the runs behind the first one fail."""
     case, points = a_filled_case(rng, seed, 750)
     for _ in range(2):
-        kind, size = rng.choice(["drain", "mix", "ask"]), rng.choice([60, 200])
+        kind, size = rng.choice(["drain", "drain", "mix", "ask"]), rng.choice([60, 200, 350])
         lines = some_lines(rng, kind, points, size, case.k)
-        case.add(lines, steps_in_bursts(rng, 9 * size, (0.1, 0.15)), 4, 0, 12, rng.random() < 0.3)
+        case.add(lines, steps_in_bursts(rng, 9 * size, (0.1, 0.15)), 4, 0, 8, rng.random() < 0.3)
     return case
 
 
@@ -80,7 +80,7 @@ def a_crowded_case(rng, seed):
         lines = some_lines(rng, "fill" if turn % 2 else "drain", some, 300, case.k)
         lines += some_lines(rng, "ask", points, 150, case.k, 301)
         steps = steps_in_bursts(rng, 9 * len(lines), rng.choice([(0.05, 0), (0.1, 0.1)]))
-        case.add(lines, steps, 40, 0, 0, rng.random() < 0.5)
+        case.add(lines, steps, 12, 0, 0, rng.random() < 0.5)
     return case
 
 

@@ -52,14 +52,15 @@ class Sums:
 
     def shares(self, number, page):
         """A page's share of the sum of all records, how many it has, and its share of the sum of all pages."""
-        known = self.known.get(number)
-        if known is None or known[0] is not page:
+        known = self.known.get((number, id(page)))
+        if known is None:
             records = [r for leaf in leaves(page[2]) if leaf[0] == "records" for r in leaf[1]] if isinstance(page, tuple) and page[0] == 0 else []
             data = spelled(page)
             words = struct.unpack(f">{(len(data) + 7) // 8}Q", data.ljust((len(data) + 7) // 8 * 8, b"\0"))
             first = 1024 * (number - 1) + 1
             share = sum(map(operator.mul, words, range(first, first + 2 * len(words), 2)))
-            known = self.known[number] = page, (sum(sum_of(self.k, point, body) for point, body in records), len(records), share)
+            # the page is kept, so that no other one gets its id
+            known = self.known[number, id(page)] = page, (sum(sum_of(self.k, point, body) for point, body in records), len(records), share)
         return known[1]
 
     def word(self, file):
