@@ -94,10 +94,10 @@ killed() {
     { puts $(seq 1 149); echo "step 1x9000"; } >text
     call strace -o trace -e trace=pwrite64 -e inject=pwrite64:signal=KILL:when="$(place pwrite64 1)" "$HBPI" f drive <text
 }
-says "killed as leaf 1 is written" " (137)" "$(killed)"
+says "killed as leaf 1 is written" " (137)" "$(killed 2>/dev/null)"
 kept "the next opening"
 for kind in zeros free level box order heavy attributes body; do
-    killed >/dev/null
+    killed >/dev/null 2>&1
     python3 "$here/frames/laying.py" spoil f 1 $kind
     kept "the same, and in the place of leaf 1 stands: $kind"
 done
@@ -114,7 +114,7 @@ met() {
         sleep 0.05
     done
     python3 "$here/frames/laying.py" spoil f "$2" "$1"
-    kill -CONT "$(pgrep -P $tracer)"
+    for child in $(pgrep -P $tracer); do kill -CONT "$child"; done
     wait $tracer
     status=$?
     says "$1 in leaf $2 meanwhile" "$3" "$(replies out) ($status)"

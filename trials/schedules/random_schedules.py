@@ -150,7 +150,7 @@ def main():
     size = {"failing": 2, "searching-failing": 2, "merging-failing": 2, "high": 1, "deep": 1, "merging-deep": 1, "framing": 1, "framing-failing": 1, "crowding": 1}.get(kind, FILE)
     counts, differ = collections.Counter(), 0
     with Program() as program:
-        while batch := list(itertools.islice(made, size * BATCH)):
+        while batch := list(itertools.islice(made, size * (BATCH if size > 1 else 5))):
             parts = [batch[at:at + size] for at in range(0, len(batch), size)]
             said = program.run([b"".join(case.spelled() for case in part) for part in parts])
             for number, part in enumerate(parts):
