@@ -26,7 +26,7 @@ use Rattle.hb_store.specs.Held.{IsTied, StoreHeld, oldest_dirty}
 use Rattle.hb_store.specs.Replay.{is_among}
 use Rattle.hb_store.specs.WritingHome.{FlushesHome, WritesHome}
 use Rattle.hb_store.specs.declared.stops.WriteFault.{WriteFault}
-use Rattle.hb_file_tests.specs.Driven.{AllStay, FewPins, IsDriven, IsPinned}
+use Rattle.hb_file_tests.specs.Driven.{AllStay, FewPins, IsDrivenHere, IsPinned}
 use Rattle.hb_file_tests.proofs.Staying.{changed_stay, fetched_all, fetched_frame, found_all, pinned_last, pinned_on, pinned_stay, pinned_then}
 
 pub licensed : (size reads writes : ℕ) (st : StoreState) (op : Op) (durable : FileState) (later : List FileState) → StoreKeeps (untold_of size reads writes) st durable later → IsLicensed (last_of durable later) op
@@ -57,7 +57,7 @@ no_frames (u ∷ rest) none =
 new_uses : (turn : ℕ) (meta : Meta) (st : StoreState) (uses : List Use) → IsNew turn meta st → IsTied st uses → uses ≡ []
 new_uses turn meta st uses new tied = no_frames uses (λ id. unframed st uses id tied (new.no_page id))
 
-pub new_driven : (turn : ℕ) (meta : Meta) (st : StoreState) (uses : List Use) → IsNew turn meta st → IsTied st uses → IsDriven st uses
+pub new_driven : (turn : ℕ) (meta : Meta) (st : StoreState) (uses : List Use) → IsNew turn meta st → IsTied st uses → IsDrivenHere st uses
 new_driven turn meta st uses new tied = record {
   running = new.running;
   marks = subst (λ (log : LogState). All IsEarly log.groups) (sym new.log_is) (All-nil IsEarly);
@@ -69,13 +69,13 @@ new_few uses none = subst FewPins (sym none) (All-nil (λ (u : Use). u.pins ≤ 
 
 -- ---- fetches and pins
 
-pub same_driven : (st new : StoreState) (uses after : List Use) → new ≡ st → after ≡ uses → IsDriven st uses → IsDriven new after
-same_driven st new uses after same order driven = subst (λ (s : StoreState). IsDriven s after) (sym same) (subst (λ (l : List Use). IsDriven st l) (sym order) driven)
+pub same_driven : (st new : StoreState) (uses after : List Use) → new ≡ st → after ≡ uses → IsDrivenHere st uses → IsDrivenHere new after
+same_driven st new uses after same order driven = subst (λ (s : StoreState). IsDrivenHere s after) (sym same) (subst (λ (l : List Use). IsDrivenHere st l) (sym order) driven)
 
 pub fetched_runs : (id : ℕ) (old new : StoreState) → Fetched id old new → old.stopped ≡ false → new.stopped ≡ false
 fetched_runs id old new fetched runs = fetched.rest.stopped ∙ runs
 
-fetched_driven : (id : ℕ) (st new : StoreState) (uses after : List Use) → Fetched id st new → AllStay after → IsDriven st uses → IsDriven new after
+fetched_driven : (id : ℕ) (st new : StoreState) (uses after : List Use) → Fetched id st new → AllStay after → IsDrivenHere st uses → IsDrivenHere new after
 fetched_driven id st new uses after fetched stay driven = record {
   running = fetched.rest.stopped ∙ driven.running;
   marks = subst (λ (log : LogState). All IsEarly log.groups) (sym fetched.rest.log) driven.marks;
@@ -88,10 +88,10 @@ new_may_pin id st uses after tied none order =
     let Q : Option Use → Type 0 = λ o. IsSomeAnd o (λ (u : Use). u.pins < 255) in
     subst Q (sym (ap (λ (l : List Use). frame_of l id) order ∙ fetched_frame uses id (unframed st uses id tied none))) (omega arith)
 
-pub held_driven : (id : ℕ) (st mid new : StoreState) (uses after last : List Use) → IsTied st uses → in_memory st id ≡ None → Fetched id st mid → new ≡ mid → after ≡ use_fetched id uses → last ≡ put_last id pinned after → IsDriven st uses → IsDriven new last
+pub held_driven : (id : ℕ) (st mid new : StoreState) (uses after last : List Use) → IsTied st uses → in_memory st id ≡ None → Fetched id st mid → new ≡ mid → after ≡ use_fetched id uses → last ≡ put_last id pinned after → IsDrivenHere st uses → IsDrivenHere new last
 held_driven id st mid new uses after last tied none fetched same order then driven =
     let is : last ≡ put_last id pinned (use_fetched id uses) = then ∙ ap (λ (l : List Use). put_last id pinned l) order in
-    subst (λ (s : StoreState). IsDriven s last) (sym same) (fetched_driven id st mid uses last fetched (subst AllStay (sym is) (pinned_stay uses id (unframed st uses id tied none) driven.stay)) driven)
+    subst (λ (s : StoreState). IsDrivenHere s last) (sym same) (fetched_driven id st mid uses last fetched (subst AllStay (sym is) (pinned_stay uses id (unframed st uses id tied none) driven.stay)) driven)
 
 pub held_pinned : (id : ℕ) (st : StoreState) (uses after last : List Use) → IsTied st uses → in_memory st id ≡ None → after ≡ use_fetched id uses → last ≡ put_last id pinned after → IsPinned last id
 held_pinned id st uses after last tied none order then =
@@ -125,7 +125,7 @@ among_all Q (id ∷ rest) q all is = elim (or_cases (q == id) (is_among q rest) 
 ]
 
 -- the pages that it reads stay, and there is a place
-pub has_place : (op : Op) (st : StoreState) (uses : List Use) → IsTied st uses → IsDriven st uses → IsAllowedHere st op → HasPlaces uses → HasPlaceFor op st uses
+pub has_place : (op : Op) (st : StoreState) (uses : List Use) → IsTied st uses → IsDrivenHere st uses → IsAllowedHere st op → HasPlaces uses → HasPlaceFor op st uses
 has_place op st uses tied driven allowed places = record {
   reads = λ id among.
       let some = among_all (λ q. IsSome (in_memory st q)) (reads_of op) id (reads_some op st.meta (in_memory st) allowed) among in
@@ -135,7 +135,7 @@ has_place op st uses tied driven allowed places = record {
   place = λ id made none. omega (arith, places);
 }
 
-pub committed : (op : Op) (st new : StoreState) (uses after : List Use) → Commits op 7 st new → after ≡ use_changed (numbers_changed st op) uses → IsDriven st uses → IsDriven new after
+pub committed : (op : Op) (st new : StoreState) (uses after : List Use) → Commits op 7 st new → after ≡ use_changed (numbers_changed st op) uses → IsDrivenHere st uses → IsDrivenHere new after
 committed op st new uses after commits order driven = record {
   running = commits.stopped ∙ driven.running;
   marks = subst (All IsEarly) (sym commits.groups) (All-append IsEarly st.log.groups (record { bytes = commits.group; mark = 7 } ∷ []) driven.marks (All-alone IsEarly (record { bytes = commits.group; mark = 7 }) (omega arith)));
@@ -144,7 +144,7 @@ committed op st new uses after commits order driven = record {
 
 -- ---- the number of a page that is made, where the free chain has none
 
-pub numbered : (st new : StoreState) (uses after : List Use) → st.meta.free ≡ 0 → MayFetch st.meta.free st new → after ≡ use_numbered st.meta uses → IsDriven st uses → IsDriven new after
+pub numbered : (st new : StoreState) (uses after : List Use) → st.meta.free ≡ 0 → MayFetch st.meta.free st new → after ≡ use_numbered st.meta uses → IsDrivenHere st uses → IsDrivenHere new after
 numbered st new uses after none may order driven =
     let same : after ≡ uses = order ∙ ap (λ (b : Bool). cond b uses (use_fetched st.meta.free uses)) (or_right (st.meta.live == st.meta.pages) (st.meta.free == 0) (eq-eqb st.meta.free 0 none)) in
     elim may [
@@ -159,9 +159,9 @@ left_marks : (groups : List Waiting) → All IsEarly groups → All IsEarly (lef
 left_marks [] marks = marks
 left_marks (first ∷ rest) marks = All-tail IsEarly first rest marks
 
-pub forced : (st new : StoreState) (uses after : List Use) → new ≡ forced_state st → after ≡ uses → IsDriven st uses → IsDriven new after
+pub forced : (st new : StoreState) (uses after : List Use) → new ≡ forced_state st → after ≡ uses → IsDrivenHere st uses → IsDrivenHere new after
 forced st new uses after same order driven =
-    subst (λ (s : StoreState). IsDriven s after) (sym same) (subst (λ (l : List Use). IsDriven (forced_state st) l) (sym order) (record {
+    subst (λ (s : StoreState). IsDrivenHere s after) (sym same) (subst (λ (l : List Use). IsDrivenHere (forced_state st) l) (sym order) (record {
       running = driven.running;
       marks = left_marks st.log.groups driven.marks;
       stay = driven.stay;

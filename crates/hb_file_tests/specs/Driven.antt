@@ -17,7 +17,7 @@ abbrev pub IsPinned : List Use → ℕ → Type 0
 IsPinned uses id = IsSomeAnd (frame_of uses id) (λ (u : Use). 0 < u.pins)
 
 -- The store runs, no group that waits has a later mark than 7, and each page in memory stays.
-pub record IsDriven (st : StoreState) (uses : List Use) : Type 0 where
+pub record IsDrivenHere (st : StoreState) (uses : List Use) : Type 0 where
   pub running : st.stopped ≡ false
   pub marks : All (λ g. g.mark ≤ 7) st.log.groups
   pub stay : AllStay uses

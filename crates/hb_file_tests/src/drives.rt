@@ -3,7 +3,7 @@
 //! again after a stop inside that opening: the file has the pages after so many of the groups.
 ghost use Rattle.std.specs.Prelude.{◌≡◌, Some, true, IfSome};
 ghost use Rattle.hb_store.specs.Seen.{seen_as, uses_of};
-ghost use Rattle.hb_file_tests.specs.Driven.{IsDriven};
+ghost use Rattle.hb_file_tests.specs.Driven.{IsDrivenHere};
 
 use crate::driven_trees::{SPLIT_AGAIN, TWO_PARENTS};
 use crate::stores::{NEVER, done, held};
@@ -59,7 +59,7 @@ pub(crate) fn file(alloc: Global, tree: &Tree) -> Option<Vec<u8>> {
 /// The store of a file, over a disk that tells nothing and fails at the call of this number.
 #[tactic(auto, using(crate::proofs::Untold::new_driven))]
 fn opened(alloc: Global, bytes: Vec<u8>, failing: u64) -> Option<Store<RotDisk>>
-    ensures { IfSome result (λ store. IsDriven (seen_as store) (uses_of store)) }
+    ensures { IfSome result (λ store. IsDrivenHere (seen_as store) (uses_of store)) }
 {
     let calls = [failing].to_vec(alloc).ok()?;
     let disk = RotDisk {
@@ -79,7 +79,7 @@ fn opened(alloc: Global, bytes: Vec<u8>, failing: u64) -> Option<Store<RotDisk>>
 
 /// The store of a tree's file, with its pages pinned.
 pub(crate) fn begun(alloc: Global, tree: &Tree, failing: u64) -> Option<Store<RotDisk>>
-    ensures { IfSome result (λ store. IsDriven (seen_as store) (uses_of store)) }
+    ensures { IfSome result (λ store. IsDrivenHere (seen_as store) (uses_of store)) }
 {
     let mut store = opened(alloc, file(alloc, tree)?, failing)?;
     for id in tree.fetched {
@@ -91,8 +91,8 @@ pub(crate) fn begun(alloc: Global, tree: &Tree, failing: u64) -> Option<Store<Ro
 /// The number that an allocation takes, 0 for none, where the free chain has no page.
 #[tactic(auto, using(crate::proofs::Untold::numbered))]
 fn number(store: &mut Store<RotDisk>) -> Option<u32>
-    requires { IsDriven (seen_as store.old) (uses_of store.old) }
-    ensures { IfSome result (λ _. IsDriven (seen_as store.new) (uses_of store.new)) }
+    requires { IsDrivenHere (seen_as store.old) (uses_of store.old) }
+    ensures { IfSome result (λ _. IsDrivenHere (seen_as store.new) (uses_of store.new)) }
 {
     if store.meta().free != 0 {
         return None;
@@ -110,8 +110,8 @@ pub(crate) fn stepped(
     store: &mut Store<RotDisk>,
     step: (u32, &[u8], u32),
 ) -> Option<bool>
-    requires { IsDriven (seen_as store.old) (uses_of store.old) }
-    ensures { result ≡ Some true → IsDriven (seen_as store.new) (uses_of store.new) }
+    requires { IsDrivenHere (seen_as store.old) (uses_of store.old) }
+    ensures { result ≡ Some true → IsDrivenHere (seen_as store.new) (uses_of store.new) }
 {
     let (fresh, group, pending) = step;
     if number(store)? != fresh || !done(alloc, store, group)? || store.pending() != pending {

@@ -1,9 +1,9 @@
 //! A file of more pages than there are frames: which page makes room for another, how often the disk is read, and that a page that
 //! is dirty or pinned stays. The counts were worked out by hand from the order of use. The disk tells nothing.
-ghost use Rattle.std.specs.Prelude.{◌≡◌, ℕ, false, None, IfSome, OnOk};
+ghost use Rattle.std.specs.Prelude.{◌≡◌, ℕ, false, None, IfSome, IsTrue};
 ghost use Rattle.hb_store.specs.Seen.{seen_as, uses_of};
 ghost use Rattle.hb_store.specs.States.{in_memory};
-ghost use Rattle.hb_file_tests.specs.Driven.{FewPins, IsDriven, IsPinned};
+ghost use Rattle.hb_file_tests.specs.Driven.{FewPins, IsDrivenHere, IsPinned};
 
 use crate::fetches::{Told, shown, told};
 use crate::groups::is_of;
@@ -67,7 +67,7 @@ fn file(alloc: Global) -> Option<Vec<u8>> {
 /// The store of the file, without a page in memory.
 #[tactic(auto, using(crate::proofs::Untold::new_driven, crate::proofs::Untold::new_few))]
 fn wide(alloc: Global, rot: Rot) -> Option<Store<RotDisk>>
-    ensures driven { IfSome result (λ store. IsDriven (seen_as store) (uses_of store)) }
+    ensures driven { IfSome result (λ store. IsDrivenHere (seen_as store) (uses_of store)) }
     ensures few { IfSome result (λ store. FewPins (uses_of store)) }
     ensures none { IfSome result (λ store. (id : ℕ) → in_memory (seen_as store) id ≡ None) }
 {
@@ -315,7 +315,7 @@ const GROWTHS: [&[u8]; 3] = [
 
 /// The store once so many of them were done.
 fn grown(alloc: Global, count: usize) -> Option<Store<RotDisk>>
-    ensures { IfSome result (λ store. IsDriven (seen_as store) (uses_of store)) }
+    ensures { IfSome result (λ store. IsDrivenHere (seen_as store) (uses_of store)) }
 {
     let mut store = wide(alloc, SOUND)?;
     for group in GROWTHS.get(..count)? {
@@ -348,18 +348,29 @@ fn fetch(store: &mut Store<RotDisk>, id: u32) -> char
     }
 }
 
+/// Whether a fetch of page 130 and a flush behind it do this.
+fn takes_turn(store: &mut Store<RotDisk>, turn: (char, char)) -> bool
+    requires { (seen_as store.old).stopped ≡ false }
+    ensures { IsTrue result → (seen_as store.new).stopped ≡ false }
+{
+    let (fetched, flushed) = turn;
+    if fetch(store, 130) != fetched {
+        return false;
+    }
+    match flush(store) {
+        Some(did) => did == flushed,
+        None => false,
+    }
+}
+
 /// Whether fetches of page 130 and flushes by turns do this.
 fn takes_turns(store: &mut Store<RotDisk>, turns: &[(char, char)]) -> bool
     requires { (seen_as store.old).stopped ≡ false }
-    ensures { (seen_as store.new).stopped ≡ false }
+    ensures { IsTrue result → (seen_as store.new).stopped ≡ false }
 {
-    for (fetched, flushed) in turns {
-        if fetch(store, 130) != *fetched {
+    for turn in turns {
+        if !takes_turn(store, *turn) {
             return false;
-        }
-        match flush(store) {
-            Some(did) if did == *flushed => {}
-            _ => return false,
         }
     }
     true
@@ -398,7 +409,10 @@ const CROWDS: [Crowd; 5] = [
 fn crowds(alloc: Global, row: Crowd) -> Option<bool> {
     let (growths, pins, turns, last, calls) = row;
     let mut store = filled(alloc, growths, pins)?;
-    let right = takes_turns(&mut store, turns) && fetch(&mut store, 131) == last;
+    if !takes_turns(&mut store, turns) {
+        return Some(false);
+    }
+    let right = fetch(&mut store, 131) == last;
     Some(right && store.into_disk().inner.calls() == calls)
 }
 

@@ -12,7 +12,7 @@ ghost use Rattle.hb_ops.specs.Operations.{BoxesMatch, OpHas, reads_of};
 ghost use Rattle.hb_store.specs.Calls.{IsAllowedHere, read_here};
 ghost use Rattle.hb_store.specs.Seen.{seen_as, uses_of};
 ghost use Rattle.hb_store.specs.States.{in_memory};
-ghost use Rattle.hb_file_tests.specs.Driven.{IsDriven, IsPinned};
+ghost use Rattle.hb_file_tests.specs.Driven.{IsDrivenHere, IsPinned};
 
 use hb_disk::{MemDisk, RotDisk};
 use hb_frag::{LivePage, Page};
@@ -84,7 +84,7 @@ pub(crate) type MetaNumbers = (u32, u32, u32, u32);
 #[tactic(auto, using(crate::proofs::Untold::new_driven))]
 pub(crate) fn opened(alloc: Global, numbers: MetaNumbers, disk: RotDisk) -> Option<Store<RotDisk>>
     requires { (hidden disk).size ≡ 155648 }
-    ensures { IfSome result (λ store. IsDriven (seen_as store) (uses_of store)) }
+    ensures { IfSome result (λ store. IsDrivenHere (seen_as store) (uses_of store)) }
 {
     let (pages, high, live, free) = numbers;
     if pages == 0 || pages > 4 || high == 0 || high > pages || live > pages {
@@ -229,8 +229,8 @@ fn is_allowed(alloc: Global, store: &Store<RotDisk>, op: &Op) -> Option<bool>
 /// file, so that no licence is owed.
 #[tactic(auto, using(crate::proofs::Untold::licensed, crate::proofs::Untold::has_place, crate::proofs::Untold::committed))]
 pub(crate) fn done(alloc: Global, store: &mut Store<RotDisk>, group: &[u8]) -> Option<bool>
-    requires { IsDriven (seen_as store.old) (uses_of store.old) }
-    ensures { IsDriven (seen_as store.new) (uses_of store.new) }
+    requires { IsDrivenHere (seen_as store.old) (uses_of store.old) }
+    ensures { IsDrivenHere (seen_as store.new) (uses_of store.new) }
 {
     let op = op_in(alloc, group)?;
     if store.meta().k != 1 || !store.ready() {
@@ -246,8 +246,8 @@ pub(crate) fn done(alloc: Global, store: &mut Store<RotDisk>, group: &[u8]) -> O
 /// Fetches a page, and pins it where it wasn't in memory. So it stays.
 #[tactic(auto, using(crate::proofs::Untold::new_may_pin, crate::proofs::Untold::held_driven, crate::proofs::Untold::held_pinned, crate::proofs::Untold::same_driven))]
 pub(crate) fn held(store: &mut Store<RotDisk>, id: u32) -> Result<(), FetchStop>
-    requires { IsDriven (seen_as store.old) (uses_of store.old) }
-    ensures driven { IsDriven (seen_as store.new) (uses_of store.new) }
+    requires { IsDrivenHere (seen_as store.old) (uses_of store.old) }
+    ensures driven { IsDrivenHere (seen_as store.new) (uses_of store.new) }
     ensures pinned { in_memory (seen_as store.old) id ≡ None → OnOk result (IsPinned (uses_of store.new) id) }
 {
     let absent = store.get(id).is_none();

@@ -1,6 +1,6 @@
-use Rattle.hb_file_tests.specs.Driven.{IsDriven}
+use Rattle.hb_file_tests.specs.Driven.{IsDrivenHere}
 use Rattle.hb_file_tests.proofs.drives.driven.Given as goal
 
 -- the store stays driven
 abbrev pub invariant-loop-step : goal.invariant-loop-step
-invariant-loop-step l = IsDriven l.store.memory.state l.store.memory.uses
+invariant-loop-step l = IsDrivenHere l.store.memory.state l.store.memory.uses

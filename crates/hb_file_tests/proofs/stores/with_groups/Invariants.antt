@@ -1,6 +1,6 @@
-use Rattle.hb_file_tests.specs.Driven.{IsDriven}
+use Rattle.hb_file_tests.specs.Driven.{IsDrivenHere}
 use Rattle.hb_file_tests.proofs.stores.with_groups.Given as goal
 
 -- the store stays driven
 abbrev pub invariant-loop-group : goal.invariant-loop-group
-invariant-loop-group l = IsDriven l.store.memory.state l.store.memory.uses
+invariant-loop-group l = IsDrivenHere l.store.memory.state l.store.memory.uses
