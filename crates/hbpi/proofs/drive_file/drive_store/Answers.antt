@@ -4,7 +4,7 @@ use Rattle.hb_layout.specs.Offsets.{file_size}
 use Rattle.hb_layout.specs.declared.meta.Meta.{Meta}
 use Rattle.hb_restart.proofs.Facts.Beyond.{beyond_none}
 use Rattle.hb_restart.specs.Beyond.{KeepsBeyond}
-use Rattle.hb_store.specs.Seen.{disk_of, seen_as, uses_of}
+use Rattle.hb_store.specs.Seen.{disk_of, held_by, seen_as}
 use Rattle.hbpi.proofs.Begins.{no_frame}
 use Rattle.hbpi.proofs.StepsTaken.{store_ends}
 use Rattle.hbpi.specs.Outcome.{GetsLine, fault_line}
@@ -20,7 +20,7 @@ pub drive_script-requires-clause-stands : goal.drive_script-requires-clause-stan
 drive_script-requires-clause-stands g c = c.meta.ensures.store.memory.stands
 
 pub drive_script-requires-clause-uses : goal.drive_script-requires-clause-uses
-drive_script-requires-clause-uses g c = no_frame (seen_as c.args.store) (uses_of c.args.store) c.requires.new c.meta.ensures.tied
+drive_script-requires-clause-uses g c = no_frame (held_by c.args.store) c.requires.new c.meta.ensures.tied
 
 pub returns-in-Ok-clause-ends : goal.returns-in-Ok-clause-ends
 returns-in-Ok-clause-ends g c =
