@@ -1,6 +1,6 @@
 //! Stores that are driven over files of several pages, as `driven_trees` lists: each allocation's number, each group, and the
-//! bytes on the disk. A driving is stopped before each of its device calls, and each call fails once. What is left is opened, and opened
-//! again after a stop inside that opening: the file has the pages after so many of the groups.
+//! bytes on the disk. A driving is stopped before each of its device calls, and each call fails once. What is left is opened, and what the
+//! last call leaves is opened again after a stop inside that opening: the file has the pages after so many of the groups.
 ghost use Rattle.std.specs.Prelude.{◌≡◌, Some, true, IfSome};
 ghost use Rattle.hb_store.specs.Seen.{seen_as, uses_of};
 ghost use Rattle.hb_file_tests.specs.Driven.{IsDrivenHere};
@@ -213,27 +213,6 @@ pub(crate) fn image_opened(
     reopened(alloc, tree, count, disk.image(before, pick).ok()??)
 }
 
-/// An opening ends with this many device calls at most: a sync, a write for each of six pages, a sync, a zero, a sync, a read,
-/// two that clear what is hidden, and six of the superblock. In front of them it only reads.
-const LAST_CALLS: u64 = 19;
-
-/// The same, and also where that opening is stopped before each of its last calls in its turn. A stop before a read leaves what
-/// was opened.
-fn opens_twice(
-    alloc: Global,
-    tree: &Tree,
-    count: usize,
-    disk: &MemDisk,
-    before: u64,
-    pick: Pick,
-) -> Option<()> {
-    let again = image_opened(alloc, tree, count, disk, before, pick)?;
-    for call in again.calls().saturating_sub(LAST_CALLS)..again.calls().saturating_add(1) {
-        image_opened(alloc, tree, count, &again, call, pick)?;
-    }
-    Some(())
-}
-
 /// How many steps a crash leaves that comes before this call of the forces: a group's are a write, a sync, the write of its
 /// gate, and a sync. A gate that is written and not synced is closed in an old image, and open in the others.
 fn steps_left(call: u64, pick: Pick) -> usize {
@@ -251,7 +230,7 @@ fn first_lost(alloc: Global, tree: &Tree, pick: Pick) -> Option<u64> {
     };
     for call in 0..disk.calls().saturating_sub(first).saturating_add(1) {
         let count = steps_left(call, pick);
-        if opens_twice(alloc, tree, count, &disk, first.saturating_add(call), pick).is_none() {
+        if image_opened(alloc, tree, count, &disk, first.saturating_add(call), pick).is_none() {
             return Some(call);
         }
     }
@@ -268,6 +247,34 @@ fn a_driving_stops_before_each_call(rt: HostRuntime) {
                 "{} {pick:?}",
                 tree.size
             );
+        }
+    }
+}
+
+/// An opening ends with this many device calls at most: a sync, a write for each of six pages, a sync, a zero, a sync, a read,
+/// two that clear what is hidden, and six of the superblock. In front of them it only reads.
+const LAST_CALLS: u64 = 19;
+
+/// Whether what a crash leaves before the last call of a driving opens so, and again where that opening is stopped before each of its
+/// last calls in its turn. A stop before a read leaves what was opened.
+fn opens_twice(alloc: Global, tree: &Tree, pick: Pick) -> Option<()> {
+    let disk = driven(alloc, tree, NEVER)?;
+    let forces = (tree.steps.len() as u64).saturating_mul(4);
+    let count = steps_left(forces.saturating_sub(1), pick);
+    let before = disk.calls().saturating_sub(1);
+    let again = image_opened(alloc, tree, count, &disk, before, pick)?;
+    for call in again.calls().saturating_sub(LAST_CALLS)..again.calls().saturating_add(1) {
+        image_opened(alloc, tree, count, &again, call, pick)?;
+    }
+    Some(())
+}
+
+#[test]
+fn an_opening_behind_a_driving_stops(rt: HostRuntime) {
+    for tree in TREES {
+        for pick in PICKS {
+            let opened = opens_twice(rt.alloc(), &tree, pick);
+            assert_eq!(rt; opened, Some(()), "{} {pick:?}", tree.size);
         }
     }
 }

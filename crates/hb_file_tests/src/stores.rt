@@ -238,23 +238,27 @@ pub(crate) fn done(alloc: Global, store: &mut Store<RotDisk>, group: &[u8]) -> O
     }
     let allowed = is_allowed(alloc, store, &op)?;
     if allowed {
-        store.commit(op, 7).ok()?;
+        match store.commit(op, 7) {
+            Ok(()) => Some(true),
+            Err(_no_memory) => None,
+        }
+    } else {
+        Some(false)
     }
-    Some(allowed)
 }
 
-/// Fetches a page, and pins it where it wasn't in memory. So it stays.
-#[tactic(auto, using(crate::proofs::Untold::new_may_pin, crate::proofs::Untold::held_driven, crate::proofs::Untold::held_pinned, crate::proofs::Untold::same_driven))]
+/// Fetches a page and pins it, where it isn't in memory. So it stays.
+#[tactic(auto, using(crate::proofs::Untold::new_may_pin, crate::proofs::Untold::held_driven, crate::proofs::Untold::held_pinned))]
 pub(crate) fn held(store: &mut Store<RotDisk>, id: u32) -> Result<(), FetchStop>
     requires { IsDrivenHere (seen_as store.old) (uses_of store.old) }
     ensures driven { IsDrivenHere (seen_as store.new) (uses_of store.new) }
     ensures pinned { in_memory (seen_as store.old) id ≡ None → OnOk result (IsPinned (uses_of store.new) id) }
 {
-    let absent = store.get(id).is_none();
-    store.fetch(id)?;
-    if absent {
-        store.pin(id);
+    if store.get(id).is_some() {
+        return Ok(());
     }
+    store.fetch(id)?;
+    store.pin(id);
     Ok(())
 }
 
