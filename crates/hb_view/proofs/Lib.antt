@@ -10,3 +10,4 @@ pub mod Risen
 pub mod Limited
 pub mod Cornered
 pub mod LookedFor
+pub mod ReadOver
