@@ -1,246 +1,16 @@
-"""The step machine in plain Python, by docs/STEPS.md, FORMAT.md and TREE.md: what `drive` prints of a text, and the pages that it leaves.
-
-A page is a tuple of its level, its box and its inside; a free one is the number of the next. An inside is a tuple: `("records", list)`,
-`("child", page)`, `("sibling", page)`, or `("cut", axis, value, left, right)`. Nothing fails here, and nothing is out of memory.
+"""The step machine in plain Python, by docs/STEPS.md, FORMAT.md and TREE.md: what `drive` prints of a text, the calls that it makes of
+the disk, and the pages that it leaves. Pages are as trees.py has them. Calls of chosen numbers fail; nothing is out of memory.
 """
 import collections
 import os
 
-MOST = 2 ** 64 - 1
+from frames import PAGE, Frames
+from trees import has, leaf_at, meets, outside, part, split, way_to, weight, with_part
+from workers import MERGER, POSTER, Job, Workers
+
 # whether deletes add jobs to merge
 MERGES = os.environ.get("TRIAL_MERGES", "1") == "1"
 SHARED, UPDATE, ALONE = "S", "U", "X"
-POSTER, MERGER = 17, 18
-
-
-# ---- insides
-
-def weight(node):
-    if node[0] == "cut":
-        return weight(node[3]) + weight(node[4])
-    return max(1, len(node[1])) if node[0] == "records" else 1
-
-
-def leaves(node):
-    return leaves(node[3]) + leaves(node[4]) if node[0] == "cut" else [node]
-
-
-def side_box(box, axis, value, right):
-    low, high = box[axis]
-    return box[:axis] + (((value, high) if right else (low, value - 1)),) + box[axis + 1:]
-
-
-def leaf_boxes(box, node):
-    if node[0] != "cut":
-        return [(node, box)]
-    _, axis, value, left, right = node
-    return leaf_boxes(side_box(box, axis, value, False), left) + leaf_boxes(side_box(box, axis, value, True), right)
-
-
-def way_to(node, point):
-    """The way to the leaf at a point: False goes left."""
-    way = []
-    while node[0] == "cut":
-        way.append(point[node[1]] >= node[2])
-        node = node[4] if way[-1] else node[3]
-    return way
-
-
-def part(box, node, way):
-    for right in way:
-        box, node = side_box(box, node[1], node[2], right), node[4] if right else node[3]
-    return box, node
-
-
-def with_part(node, way, new):
-    if not way:
-        return new
-    _, axis, value, left, right = node
-    if way[0]:
-        return "cut", axis, value, left, with_part(right, way[1:], new)
-    return "cut", axis, value, with_part(left, way[1:], new), right
-
-
-def leaf_at(page, point):
-    box, leaf = part(page[1], page[2], way_to(page[2], point))
-    return leaf, box
-
-
-def normal(node):
-    if node[0] != "cut":
-        return node
-    _, axis, value, left, right = node
-    left, right = normal(left), normal(right)
-    if left[0] == right[0] == "records":
-        return "records", tuple(sorted(left[1] + right[1]))
-    if left[0] == right[0] == "child" and left[1] == right[1]:
-        return left
-    return "cut", axis, value, left, right
-
-
-def renamed(node, old, new):
-    if node[0] == "cut":
-        return "cut", node[1], node[2], renamed(node[3], old, new), renamed(node[4], old, new)
-    return ("child", new) if node == ("child", old) else node
-
-
-def way_to_sibling(node, page, way=()):
-    """The way to the first sibling leaf to this page."""
-    if node[0] == "cut":
-        found = way_to_sibling(node[3], page, way + (False,))
-        return way_to_sibling(node[4], page, way + (True,)) if found is None else found
-    return list(way) if node == ("sibling", page) else None
-
-
-def spelled(page):
-    """A page's bytes, without the zeros behind them."""
-    if not isinstance(page, tuple):
-        return b"\x02" + page.to_bytes(4, "big")
-    level, box, frag = page
-    ends = [low for low, _ in box] + [high for _, high in box]
-    return bytes([1, level, len(box), 0]) + b"".join(value.to_bytes(8, "big") for value in ends) + spelled_node(frag)
-
-
-def spelled_node(node):
-    if node[0] == "cut":
-        return bytes([0, node[1]]) + node[2].to_bytes(8, "big") + spelled_node(node[3]) + spelled_node(node[4])
-    if node[0] == "records":
-        return b"\x01" + len(node[1]).to_bytes(2, "big") + b"".join(
-            b"".join(value.to_bytes(8, "big") for value in point) + bytes([len(body)]) + body.encode() for point, body in node[1])
-    return (b"\x02" if node[0] == "child" else b"\x03") + node[1].to_bytes(4, "big")
-
-
-# ---- boxes
-
-def meets(one, other):
-    return all(low <= high2 and low2 <= high for (low, high), (low2, high2) in zip(one, other))
-
-
-def within(one, other):
-    return all(low2 <= low and high <= high2 for (low, high), (low2, high2) in zip(one, other))
-
-
-def has(box, point):
-    return all(low <= value <= high for value, (low, high) in zip(point, box))
-
-
-def common(one, other):
-    return tuple((max(low, low2), min(high, high2)) for (low, high), (low2, high2) in zip(one, other))
-
-
-def outside(box, other):
-    pieces, rest = [], box
-    for axis, (least, greatest) in enumerate(common(box, other)):
-        low, high = rest[axis]
-        if low < least:
-            pieces.append(rest[:axis] + ((low, least - 1),) + rest[axis + 1:])
-        if greatest < high:
-            pieces.append(rest[:axis] + ((greatest + 1, high),) + rest[axis + 1:])
-        rest = rest[:axis] + ((least, greatest),) + rest[axis + 1:]
-    return pieces
-
-
-def directly_covers(page, box):
-    return within(box, page[1]) and not any(leaf[0] == "sibling" and meets(area, box) for leaf, area in leaf_boxes(page[1], page[2]))
-
-
-def carved(leaf, area, outer, inner):
-    middle = common(leaf, area)
-
-    def go(axis):
-        if axis == len(leaf):
-            return "child", inner
-        (low, high), (least, greatest) = leaf[axis], middle[axis]
-        node = go(axis + 1)
-        if greatest < high:
-            node = "cut", axis, greatest + 1, node, ("child", outer)
-        if low < least:
-            node = "cut", axis, least, ("child", outer), node
-        return node
-    return go(0)
-
-
-# ---- the part that leaves a full page
-
-def best_cut(records, k):
-    choices = []
-    for axis in range(k):
-        values = sorted({point[axis] for point, _ in records})
-        for value in values[1:]:
-            below = sum(point[axis] < value for point, _ in records)
-            choices.append((max(below, len(records) - below), axis, value, below))
-    _, axis, value, below = min(choices)
-    return axis, value, len(records) - below > below
-
-
-def split(page, fresh):
-    """What stays of a page, and the page that is made of the part that leaves."""
-    level, box, frag = page
-    whole, way, node = weight(frag), [], frag
-    while node[0] == "cut" and 3 * weight(node) > 2 * whole:
-        right = weight(node[4]) > weight(node[3])
-        way.append(right)
-        node = node[4] if right else node[3]
-    box_of, node = part(box, frag, way)
-    cuts = []
-    while 3 * weight(node) > 2 * whole:
-        axis, value, right = best_cut(node[1], len(box))
-        below = ("records", tuple(r for r in node[1] if r[0][axis] < value))
-        above = ("records", tuple(r for r in node[1] if r[0][axis] >= value))
-        cuts.append((axis, value, right, above if not right else below))
-        box_of, node = side_box(box_of, axis, value, right), above if right else below
-    left = "sibling", fresh
-    for axis, value, right, other in reversed(cuts):
-        left = ("cut", axis, value, other, left) if right else ("cut", axis, value, left, other)
-    return (level, box, with_part(frag, way, left)), (level, box_of, node), (len(way), len(cuts))
-
-
-# ---- lines and the plain state
-
-class File:
-    """Pages and what the file says of itself."""
-
-    def __init__(self, k, pages, log, dcap, icap):
-        self.k, self.most, self.log, self.caps = k, pages, log, (dcap, icap)
-        self.whole = ((0, MOST),) * k
-        self.pages, self.root, self.height, self.high, self.live, self.free = {1: (0, self.whole, ("records", ()))}, 1, 1, 1, 1, 0
-
-    def copy(self):
-        new = File.__new__(File)
-        new.__dict__.update(self.__dict__)
-        new.pages = dict(self.pages)
-        return new
-
-    def capacity(self, level):
-        return self.caps[level > 0]
-
-    def chain(self):
-        found, at = [], self.free
-        while at:
-            found.append(at)
-            at = self.pages[at]
-        return found
-
-    def make(self, page):
-        """The number of a page that is made."""
-        if self.free:
-            number = self.free
-            self.free = self.pages[number]
-        else:
-            number = self.high = self.high + 1
-        self.pages[number] = page
-        self.live += 1
-        return number
-
-    def bytes(self):
-        """All pages, as they stand in a file."""
-        return b"".join(spelled(self.pages[number]).ljust(4096, b"\0") for number in range(1, self.high + 1))
-
-    def records(self):
-        return dict(r for page in self.pages.values() if isinstance(page, tuple) and page[0] == 0 for leaf in leaves(page[2]) if leaf[0] == "records" for r in leaf[1])
-
-
-Job = collections.namedtuple("Job", "kind level point")
 
 
 class Line:
@@ -250,11 +20,24 @@ class Line:
         self.asks = verb in ("lookup", "search")
 
 
-class Machine:
-    """A run over a file. `steps` takes its steps; `said` is the text then, and `durable` the file that an opening finds."""
+class ReadFault(Exception):
+    """A read failed."""
 
-    def __init__(self, file, lines):
+
+class WriteFault(Exception):
+    """A write or a sync failed."""
+
+
+class Machine(Workers):
+    """A run over a file. `step` takes its steps; `said` is the text then, and `durable` the file that an opening finds. `events` tells
+    which step read, left, wrote and forced what. The calls of the numbers `fails` fail, counted from the first one of the steps."""
+
+    def __init__(self, file, lines, turn=1, fails=(), frames=None):
         self.file, self.durable = file.copy(), file.copy()
+        self.area, self.fails, self.frames = 8192 + file.log * (turn % 2), fails, Frames(frames)
+        self.steps, self.events, self.calls, self.clock, self.stopped = 0, [], [], 0, False
+        # the file before each group, and between which values of the clock each group was forced; when the lines were answered
+        self.states, self.forces, self.answered = [self.durable], [], []
         self.lines = collections.defaultdict(collections.deque)
         for line in lines:
             self.lines[line[1]].append(Line(*line))
@@ -341,7 +124,14 @@ class Machine:
         return self.file.log - self.written - framed - 5 >= 16384 and sum(len_ for len_, _, _ in self.groups) <= 49152
 
     def force(self):
-        length, _, after = self.groups.pop(0)
+        length, _, after = self.groups[0]
+        at = self.area + self.written
+        self.tell("forced", at, length)
+        self.forces.append([self.clock, None])
+        for call in (("w", at + 1, 4 + length), ("s", 0, 0), ("w", at, 1), ("s", 0, 0)):
+            self.call(*call)
+        self.forces[-1][1] = self.clock
+        self.groups.pop(0)
         self.written += length + 5
         self.durable = after
 
@@ -349,7 +139,13 @@ class Machine:
         images = [page for page in reads if page not in self.logged]
         self.logged.update(reads)
         self.logged.update(made)
-        self.groups.append((1 + 4100 * len(images) + length, len(self.order), self.file.copy()))
+        self.states.append(self.file.copy())
+        self.groups.append((1 + 4100 * len(images) + length, len(self.order), self.states[-1]))
+        for page in (*reads, *made):
+            if self.frames.has(page):
+                self.frames.change(page)
+            else:
+                self.leave(self.frames.bring(page, True))
 
     def settled(self):
         return self.groups[0][1] if self.groups else len(self.order)
@@ -358,12 +154,53 @@ class Machine:
         if job not in self.jobs and len(self.jobs) < 256:
             self.jobs.append(job)
 
+    # -- pages in memory
+
+    def tell(self, *event):
+        self.events.append((self.steps, *event))
+
+    def call(self, kind, at, length):
+        number = len(self.calls)
+        self.calls.append((kind, at, length))
+        self.clock += kind != "r"
+        if number in self.fails:
+            raise ReadFault if kind == "r" else WriteFault
+
+    def place(self, page):
+        return 8192 + 2 * self.file.log + PAGE * (page - 1)
+
+    def leave(self, page):
+        if page is not None:
+            self.tell("left", page)
+            self.counts["pages that left"] += 1
+
+    def come(self, page):
+        """The page is read, unless it is in memory."""
+        if not self.frames.has(page):
+            self.tell("read", page)
+            self.call("r", self.place(page), PAGE)
+            self.counts["pages read"] += 1
+            self.leave(self.frames.bring(page, False))
+
+    def come_to_number(self):
+        """The head of the free chain comes, where a page is to be made and one is free."""
+        if self.file.free:
+            self.come(self.file.free)
+
     # -- steps
 
     def step(self, actor):
         if isinstance(actor, str):
             actor = {"p": POSTER, "c": MERGER, "f": 19}.get(actor) or int(actor)
-        at = self.at[actor]
+        self.steps += 1
+        if self.stopped:
+            return
+        try:
+            self.take_step(actor, self.at[actor])
+        except WriteFault:
+            self.stopped = True
+
+    def take_step(self, actor, at):
         if actor == 19:
             return
         if at[0] == "idle":
@@ -374,20 +211,59 @@ class Machine:
         if page is not None and self.is_blocked(actor, page, mode):
             self.counts["blocked"] += 1
             return
-        if may and not self.is_ready():
-            if self.groups:
-                self.counts["helped"] += 1
-                return self.force()
-            return self.give_up(actor)
-        getattr(self, "do_" + at[0].replace(" ", "_"))(actor, at, page)
+        if self.is_unready(page, may):
+            return self.flush(actor, at)
+        pins = list(self.held(actor))
+        try:
+            if page is not None:
+                self.come(page)
+                self.frames.pin(page)
+                pins.insert(0, page)
+            getattr(self, "do_" + at[0].replace(" ", "_"))(actor, at, page)
+        except ReadFault:
+            self.counts["read faults"] += 1
+            self.give_up(actor, at, "read fault")
+        self.hold(actor, pins)
 
-    def give_up(self, actor):
-        """The log isn't ready and nothing waits."""
-        line = self.at[actor][1]
+    def hold(self, actor, pins):
+        """The pins go over from these pages to those of the actor's latches."""
+        for page in pins:
+            self.frames.unpin(page)
+        for page in self.held(actor):
+            self.frames.pin(page)
+
+    def is_unready(self, page, may):
+        if may:
+            return not self.is_ready() or self.frames.places() < 3
+        crowded = page is not None and not self.frames.has(page) and self.frames.places() == 0
+        self.counts["crowded"] += crowded
+        return crowded
+
+    def flush(self, actor, at):
+        """A group is forced; or the least recently used page that is dirty is written to its place; or the line is full."""
+        self.counts["helped"] += 1
+        if self.groups:
+            return self.force()
+        page = self.frames.oldest_dirty()
+        if page is not None:
+            self.tell("written", page)
+            self.call("w", self.place(page), PAGE)
+            self.counts["pages written"] += 1
+            return self.frames.clean(page)
+        self.counts["full for the log"] += actor <= 16
+        pins = list(self.held(actor))
+        self.give_up(actor, at, "full")
+        self.hold(actor, pins)
+
+    def answer(self, number, reply):
+        self.replies.append((number, reply))
+        self.answered.append(self.clock)
+
+    def give_up(self, actor, at, reply):
+        """The line is answered so, outside the order; a worker's job is dropped."""
         self.at[actor] = ("idle",)
         if actor <= 16:
-            self.counts["full for the log"] += 1
-            self.replies.append((line.number, "full"))
+            self.answer(at[1].number, reply)
 
     def take_line(self, actor):
         if not self.lines[actor]:
@@ -414,7 +290,7 @@ class Machine:
 
     def wait(self, actor, number, reply, place):
         if place < self.settled():
-            self.replies.append((number, reply))
+            self.answer(number, reply)
             self.at[actor] = ("idle",)
         else:
             self.force()
@@ -490,15 +366,14 @@ class Machine:
     def do_split(self, actor, at, _):
         _, line, number = at
         if self.file.live >= self.file.most:
-            self.replies.append((line.number, "full"))
-            self.at[actor] = ("idle",)
-            return
+            return self.give_up(actor, at, "full")
         fresh = self.extract(number)
         self.add(Job("post", 1, tuple(low for low, _ in self.file.pages[fresh][1])))
         self.at[actor] = ("put", line, number, fresh)
 
     def extract(self, number):
         file = self.file
+        self.come_to_number()
         reused = bool(file.free)
         fresh = file.free or file.high + 1
         stays, made, (way, cuts) = split(file.pages[number], fresh)
@@ -513,143 +388,37 @@ class Machine:
         _, line, source, fresh = at
         self.put(actor, line, fresh if has(self.file.pages[fresh][1], line.point) else source)
 
-    # -- the poster
-
-    def do_grow(self, actor, at, _):
-        file, job = self.file, at[1]
-        self.at[actor] = ("idle",)
-        root = file.pages[file.root]
-        if not (file.height == job.level < 12 and any(leaf[0] == "sibling" for leaf in leaves(root[2])) and file.live < file.most):
-            return
-        self.counts["reused"] += bool(file.free)
-        file.root = file.make((file.height, file.whole, ("child", file.root)))
-        file.height += 1
-        self.counts["grown"] += 1
-        self.commit(9, (), (file.root,))
-        self.add(job)
-
-    def arrive(self, actor, job, number):
-        if actor == POSTER:
-            self.at[actor] = ("child", job, number)
-        else:
-            self.scan(actor, job, number, children(self.file.pages[number])[:1])
-
-    def owed(self, job, parent, child):
-        leaf, area = leaf_at(self.file.pages[parent], job.point)
-        below, given = leaf_at(self.file.pages[child], job.point)
-        if below[0] != "sibling" or below[1] == leaf[1]:
-            return None
-        return area, given, leaf[1], below[1]
-
-    def do_child(self, actor, at, child):
-        _, job, parent = at
-        self.at[actor] = ("promote", job, parent) if self.owed(job, parent, child) else ("idle",)
-
-    def do_promote(self, actor, at, _):
-        self.at[actor] = ("again",) + at[1:]
-
-    def do_again(self, actor, at, child):
-        _, job, parent = at
-        self.at[actor] = ("idle",)
-        owed = self.owed(job, parent, child)
-        if not owed:
-            return
-        page = self.file.pages[parent]
-        way = way_to(page[2], job.point)
-        frag = normal(with_part(page[2], way, carved(*owed)))
-        if weight(frag) <= self.file.capacity(page[0]):
-            self.put_page(parent, frag)
-            self.counts["posted"] += 1
-            self.commit(5 + 1 + len(way) + 4 + 16 * self.file.k, (parent,))
-            return self.add(job)
-        if self.file.live >= self.file.most:
-            return
-        fresh = self.extract(parent)
-        self.counts["parents split"] += 1
-        self.add(Job("post", job.level + 1, tuple(low for low, _ in self.file.pages[fresh][1])))
-        self.add(job)
-
-    # -- the consolidator
-
-    def scan(self, actor, job, parent, child):
-        self.at[actor] = ("scan", job, parent, child[0]) if child else ("idle",)
-
-    def try_from(self, actor, job, parent, keep, place):
-        """The first pair from this leaf of the page to keep on, or the next child."""
-        names = children(self.file.pages[parent])
-        for at, leaf in enumerate(leaves(self.file.pages[keep][2])):
-            if at >= place and leaf[0] == "sibling" and leaf[1] in names:
-                self.at[actor] = ("try", job, parent, keep, leaf[1], at)
-                return
-        self.scan(actor, job, parent, names[names.index(keep) + 1:][:1] if keep in names else [])
-
-    def plan(self, parent, keep, gone):
-        above, kept, going = (self.file.pages[page] for page in (parent, keep, gone))
-        if ("sibling", gone) not in leaves(kept[2]):
-            return "not contained"
-        if not directly_covers(above, going[1]):
-            return "many parents"
-        if 4 * (weight(kept[2]) - 1 + weight(going[2])) > 3 * self.file.capacity(going[0]):
-            return "too heavy"
-        return "merge"
-
-    def do_scan(self, actor, at, child):
-        self.try_from(actor, at[1], at[2], child, 0)
-
-    def do_try(self, actor, at, gone):
-        _, job, parent, keep, _, place = at
-        plan = self.plan(parent, keep, gone)
-        self.counts["tried: " + plan] += 1
-        if plan == "merge":
-            self.at[actor] = ("merge promote", job, parent, keep, gone)
-        else:
-            self.try_from(actor, job, parent, keep, place + 1)
-
-    def do_merge_promote(self, actor, at, _):
-        self.at[actor] = ("keep",) + at[1:]
-
-    def do_keep(self, actor, at, keep):
-        gone = at[4]
-        if ("sibling", gone) in leaves(self.file.pages[keep][2]):
-            self.at[actor] = ("decide",) + at[1:]
-        else:
-            self.counts["dropped at keep"] += 1
-            self.at[actor] = ("idle",)
-
-    def do_decide(self, actor, at, _):
-        _, job, parent, keep, gone = at
-        self.at[actor] = ("idle",)
-        plan = self.plan(parent, keep, gone)
-        if plan != "merge":
-            self.counts["decided: " + plan] += 1
-            return
-        file = self.file
-        above, kept, going = (file.pages[page] for page in (parent, keep, gone))
-        self.put_page(keep, normal(with_part(kept[2], way_to_sibling(kept[2], gone), going[2])))
-        self.put_page(parent, normal(renamed(above[2], gone, keep)))
-        file.pages[gone], file.free = file.free, gone
-        file.live -= 1
-        self.counts["merged"] += 1
-        self.counts[f"merged at level {going[0]}"] += 1
-        self.merges.append((parent, keep, gone))
-        self.commit(13, (parent, keep, gone))
-        self.add(job)
-        if 4 * weight(file.pages[parent][2]) <= file.caps[1]:
-            self.add(Job("merge", job.level + 1, job.point))
-
     # -- what is printed
 
     def said(self):
         text = "".join(f"{number} {reply}\n" for number, reply in self.replies)
         done = {number for number, _ in self.replies}
-        text += "".join(f"{number} unfinished\n" for number in self.all if number not in done)
+        left = "unanswered" if self.stopped else "unfinished"
+        text += "".join(f"{number} {left}\n" for number in self.all if number not in done)
         settled = self.settled()
         words = [str(number) for number in self.order]
         if settled < len(words):
             words.insert(settled, "|")
-        return text + " ".join(["order"] + words) + "\n"
+        return text + " ".join(["order"] + words) + "\n" + ("disk fault\n" if self.has_failed() else "")
 
+    def has_failed(self):
+        return self.stopped or any(reply == "read fault" for _, reply in self.replies)
 
-def children(page):
-    """The pages that a page names by child leaves, each once, from the left."""
-    return list(dict.fromkeys(leaf[1] for leaf in leaves(page[2]) if leaf[0] == "child"))
+    # -- what a crash may leave
+
+    def left_at(self, clock):
+        """The files that a crash may leave where the clock stands so."""
+        done = sum(end is not None and end <= clock for _, end in self.forces)
+        tried = any(begun + 3 <= clock and (end is None or clock < end) for begun, end in self.forces[done:done + 1])
+        return self.states[done:done + 1 + tried]
+
+    def is_writing_home(self, clock):
+        """Whether a page was written to its place, and not synced, where the clock stands so."""
+        at, opened = 0, False
+        for kind, _, length in self.calls:
+            if at == clock:
+                break
+            at += kind != "r"
+            if kind != "r":
+                opened = kind == "w" and (opened or length == PAGE)
+        return opened

@@ -1,8 +1,11 @@
 """What a run over a plain list may say, and what a crash may leave of it."""
 
+import functools
+
 OUTSIDE = {"full", "no memory", "read fault"}
 
 
+@functools.lru_cache(maxsize=1 << 18)
 def sum_of(k, point, body):
     """The sum of a record, as program.txt makes it of its bytes."""
     total = 14695981039346656037

@@ -1,5 +1,6 @@
 pub mod Queue
 pub mod Walks
+pub mod Seen
 pub mod Holding
 pub mod Wanting
 pub mod BoxLocks

@@ -45,3 +45,13 @@ walk_held (SessionWalk line held rest found) = held
 walk_held (PosterWalk job held) = held
 walk_held (ConsolidatorWalk job held) = held
 walk_held other = None
+
+-- a session on its way to its command's point
+abbrev pub IsSessionWalk : Activity → Type 0
+IsSessionWalk (SessionWalk line held rest found) = Unit {0}
+IsSessionWalk other = ⊥
+
+-- it holds the page of this number from now on
+abbrev pub walk_holding : ℕ → Activity → Activity
+walk_holding id (SessionWalk line held rest found) = SessionWalk line (Some id) rest found
+walk_holding id other = other

@@ -1,11 +1,14 @@
-ghost use Rattle.std.specs.Prelude.{◌≡◌, [], ◌∷◌, IsSome};
-ghost use Rattle.std.specs.Option.{option_copied};
+ghost use Rattle.std.specs.Prelude.{◌≡◌, ℕ, [], ◌∷◌, IfSome, IsSome, MatchOption};
+ghost use Rattle.hb_activity.specs.Holding.{latch_on, walk_latch};
+ghost use Rattle.hb_latch.specs.declared.modes.Mode.{Mode as HeldMode};
+ghost use Rattle.hb_ops.specs.Files.{if_live};
+ghost use Rattle.hb_view.specs.Views.{IsLive};
 
 use crate::Activity;
 use crate::walks::session_mode;
 use arrayvec::ArrayVec;
-use hb_frag::LivePage;
 use hb_latch::Mode;
+use hb_view::PageView;
 
 /// A latch on a page.
 #[derive(Clone, Copy, Debug, Default, PartialEq, Eq)]
@@ -20,19 +23,20 @@ impl Activity {
 
     /// The latches that the activity holds between two steps, two at most. A walk that holds a
     /// page is given that page; its level says in which mode it is held.
-    pub fn held(&self, page: Option<&LivePage>) -> ArrayVec<Latch, 2>
-        requires { IsSome (walk_held self.now) → IsSome page }
-        ensures { result.items ≡ held_of self.now (option_copied page.entry) }
+    pub fn held(&self, page: Option<PageView<'_>>) -> ArrayVec<Latch, 2>
+        requires live { IfSome page IsLive }
+        requires given { IsSome (walk_held self.now) → IsSome page }
+        ensures { result.items ≡ held_of self.now (if_live page.entry) }
     {
         match self {
-            Activity::SessionWalk { line, held, .. } => match (held, page) {
-                (Some(held), Some(page)) => one(*held, session_mode(&line.command, page.level)),
-                _ => ArrayVec::new(),
+            Activity::SessionWalk { line, held, .. } => match at_level(*held, page) {
+                Some((held, level)) => one(held, session_mode(&line.command, level)),
+                None => ArrayVec::new(),
             },
             Activity::PosterWalk { job, held } | Activity::ConsolidatorWalk { job, held } => {
-                match (held, page) {
-                    (Some(held), Some(page)) => one(*held, job.mode_at(page.level)),
-                    _ => ArrayVec::new(),
+                match at_level(*held, page) {
+                    Some((held, level)) => one(held, job.mode_at(level)),
+                    None => ArrayVec::new(),
                 }
             }
             Activity::SessionSplit { held, .. } => one(*held, Mode::Exclusive),
@@ -60,6 +64,18 @@ impl Activity {
             | Activity::Flusher => ArrayVec::new(),
         }
     }
+}
+
+// The page that a walk holds, and its level.
+fn at_level(held: Option<u32>, page: Option<PageView<'_>>) -> Option<(u32, u8)>
+    requires { IfSome page IsLive }
+    ensures { MatchOption result
+        ((mode : ℕ → HeldMode) → walk_latch held (if_live page.entry) mode ≡ [])
+        (λ r. (mode : ℕ → HeldMode) → walk_latch held (if_live page.entry) mode ≡ latch_on r.0 (mode r.1) ∷ []) }
+{
+    let held = held?;
+    let level = page?.level();
+    Some((held, level))
 }
 
 // One latch.

@@ -20,6 +20,7 @@ pub mod examples;
 mod holding;
 mod jobs;
 pub mod laws;
+mod passing;
 mod threads;
 mod waiting_jobs;
 mod walks;

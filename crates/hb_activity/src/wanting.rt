@@ -1,13 +1,16 @@
-ghost use Rattle.std.specs.Prelude.{◌≡◌, IsSome};
-ghost use Rattle.std.specs.Option.{option_copied};
+ghost use Rattle.std.specs.Prelude.{◌≡◌, ◌-◌, IfSome, IsSome, Some};
+ghost use Rattle.std.specs.Option.{option_and_then, option_copied, option_map};
+ghost use Rattle.hb_activity.specs.Seen.{IsAhead, child_by, named_by};
 ghost use Rattle.hb_activity.specs.Wanting.{wanted_page, onward_at, child_of, HasLeafAt};
+ghost use Rattle.hb_ops.specs.Files.{if_live};
+ghost use Rattle.hb_view.specs.Views.{IsLive, IsLiveAnd};
 
 use crate::Activity;
 use crate::walks::session_mode;
-use hb_frag::{Leaf, LivePage};
 use hb_latch::Mode;
 use hb_layout::Meta;
 use hb_space::Point;
+use hb_view::{LeafView, PageView};
 
 /// The latch that a step wants.
 #[derive(Clone, Copy, Debug, PartialEq, Eq)]
@@ -27,10 +30,11 @@ impl Activity {
     ///
     /// The page is the one that the step looks into: the one that a walk holds; for
     /// `ConsolidatorTry` the page `keep`; for all others that name a parent, the parent.
-    pub fn wanted(&self, meta: &Meta, page: Option<&LivePage>) -> Option<Wanted>
+    pub fn wanted(&self, meta: &Meta, page: Option<PageView<'_>>) -> Option<Wanted>
+        requires live { IfSome page IsLive }
         requires given { LooksIntoPage self.now → IsSome page }
-        requires readable { CanLook self.now (option_copied page) }
-        ensures { result ≡ wanted_of self.now meta.now (option_copied page.entry) }
+        requires readable { CanLook self.now (if_live page) }
+        ensures { result ≡ wanted_of self.now meta.now (if_live page.entry) }
     {
         match self {
             Activity::SessionWalk { line, .. } => {
@@ -46,26 +50,15 @@ impl Activity {
                 Some(latch_wanted(meta.root, level, Mode::Exclusive))
             }
             Activity::PosterChild { job, .. } | Activity::PosterAgain { job, .. } => {
-                let (child, level) = child_at(page?, &job.point)?;
+                let (child, level) = child_at(page, &job.point)?;
                 Some(latch_wanted(child, level, Mode::Shared))
             }
             Activity::PosterPromote { parent, .. } | Activity::ConsolidatorPromote { parent, .. } =>
-                {
-                    let level = page?.level;
-                    Some(latch_wanted(*parent, level, Mode::Exclusive))
-                }
-            Activity::ConsolidatorScan { child, .. } => {
-                Some(latch_wanted(*child, page?.level.saturating_sub(1), Mode::Shared))
-            }
-            Activity::ConsolidatorTry { gone, .. } => {
-                Some(latch_wanted(*gone, page?.level, Mode::Shared))
-            }
-            Activity::ConsolidatorKeep { keep, .. } => {
-                Some(latch_wanted(*keep, page?.level.saturating_sub(1), Mode::Exclusive))
-            }
-            Activity::ConsolidatorDecide { gone, .. } => {
-                Some(latch_wanted(*gone, page?.level.saturating_sub(1), Mode::Exclusive))
-            }
+                { on_level(page, *parent, Mode::Exclusive) }
+            Activity::ConsolidatorScan { child, .. } => below_level(page, *child, Mode::Shared),
+            Activity::ConsolidatorTry { gone, .. } => on_level(page, *gone, Mode::Shared),
+            Activity::ConsolidatorKeep { keep, .. } => below_level(page, *keep, Mode::Exclusive),
+            Activity::ConsolidatorDecide { gone, .. } => below_level(page, *gone, Mode::Exclusive),
             Activity::SessionIdle
             | Activity::SessionSplit { .. }
             | Activity::SessionPut { .. }
@@ -93,14 +86,14 @@ impl Activity {
     }
 
     // The next page of a walk, and its level.
-    fn next_page(&self, meta: &Meta, page: Option<&LivePage>) -> Option<(u32, u8)>
-        requires given { IsSome (walk_held self.now) → IsSome page }
-        requires readable { CanLook self.now (option_copied page) }
-        ensures { result ≡ walk_next (walk_point self.now) (walk_held self.now) meta.now (option_copied page.entry) }
+    fn next_page(&self, meta: &Meta, page: Option<PageView<'_>>) -> Option<(u32, u8)>
+        requires live { IfSome page IsLive }
+        requires readable { CanLook self.now (if_live page) }
+        ensures { result ≡ walk_next (walk_point self.now) (walk_held self.now) meta.now (if_live page.entry) }
     {
         let point = self.walk_point()?;
         match self.walk_held() {
-            Some(_) => next_at(page?, point),
+            Some(_) => next_at(page, point),
             None => Some((meta.root, meta.height.saturating_sub(1))),
         }
     }
@@ -113,26 +106,70 @@ fn latch_wanted(page: u32, level: u8, mode: Mode) -> Wanted
     Wanted { page, level, mode }
 }
 
+// The latch on a page of the level of the one that is looked into, where there is one.
+fn on_level(page: Option<PageView<'_>>, id: u32, mode: Mode) -> Option<Wanted>
+    requires { IfSome page IsLive }
+    ensures { result ≡ option_map (λ page. wanted_page id page.level mode) (if_live page.entry) }
+{
+    let level = page?.level();
+    Some(latch_wanted(id, level, mode))
+}
+
+// And on one a level below it.
+fn below_level(page: Option<PageView<'_>>, id: u32, mode: Mode) -> Option<Wanted>
+    requires { IfSome page IsLive }
+    ensures { result ≡ option_map (λ page. wanted_page id (page.level - 1) mode) (if_live page.entry) }
+{
+    let level = page?.level().saturating_sub(1);
+    Some(latch_wanted(id, level, mode))
+}
+
 // The page that the leaf at the point names, and its level: a child is one level down, a sibling
 // on the same one.
-fn next_at(page: &LivePage, point: &Point) -> Option<(u32, u8)>
-    requires { HasLeafAt page.now point.now }
-    ensures { result ≡ onward_at page.now point.now }
+fn next_at(page: Option<PageView<'_>>, point: &Point) -> Option<(u32, u8)>
+    requires live { IfSome page IsLive }
+    requires inside { IfSome (if_live page) (λ page. HasLeafAt page point.now) }
+    ensures { result ≡ option_and_then (λ page. onward_at page point.now) (if_live page.entry) }
 {
-    match page.leaf_at(point) {
-        (Leaf::Records(_), _) => None,
-        (Leaf::Child(child), _) => Some((*child, page.level.saturating_sub(1))),
-        (Leaf::Sibling(sibling), _) => Some((*sibling, page.level)),
-    }
+    let page = page?;
+    named_by(leaf_of(&page, point), page.level())
 }
 
 // The child that the leaf at the point names, and its level.
-fn child_at(page: &LivePage, point: &Point) -> Option<(u32, u8)>
-    requires { HasLeafAt page.now point.now }
-    ensures { result ≡ child_of page.now point.now }
+fn child_at(page: Option<PageView<'_>>, point: &Point) -> Option<(u32, u8)>
+    requires live { IfSome page IsLive }
+    requires inside { IfSome (if_live page) (λ page. HasLeafAt page point.now) }
+    ensures { result ≡ option_and_then (λ page. child_of page point.now) (if_live page.entry) }
 {
-    match page.leaf_at(point) {
-        (Leaf::Child(child), _) => Some((*child, page.level.saturating_sub(1))),
-        (Leaf::Records(_) | Leaf::Sibling(_), _) => None,
+    let page = page?;
+    child_by(leaf_of(&page, point), page.level())
+}
+
+// The leaf at the point.
+fn leaf_of(page: &PageView<'_>, point: &Point) -> LeafView
+    requires { IsLiveAnd page.now (λ live. HasLeafAt live point.now) }
+    ensures { IsAhead page.now (Some point.now) result }
+{
+    page.leaf_at(point).0
+}
+
+// What the leaf names in a page of the level.
+fn named_by(leaf: LeafView, level: u8) -> Option<(u32, u8)>
+    ensures { result ≡ named_by level leaf }
+{
+    match leaf {
+        LeafView::Records => None,
+        LeafView::Child(child) => Some((child, level.saturating_sub(1))),
+        LeafView::Sibling(sibling) => Some((sibling, level)),
+    }
+}
+
+// The child that it names there.
+fn child_by(leaf: LeafView, level: u8) -> Option<(u32, u8)>
+    ensures { result ≡ child_by level leaf }
+{
+    match leaf {
+        LeafView::Child(child) => Some((child, level.saturating_sub(1))),
+        LeafView::Records | LeafView::Sibling(_) => None,
     }
 }

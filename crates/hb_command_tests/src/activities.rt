@@ -2,14 +2,19 @@
 
 ghost use Rattle.std.specs.Prelude.{◌≡◌, Some, IsTrue, length};
 ghost use Rattle.hb_activity.specs.Wanting.{CanLook};
+ghost use Rattle.hb_frag.specs.Leaves.{WellCut};
+ghost use Rattle.hb_ops.specs.Files.{if_live};
+ghost use Rattle.hb_view.specs.Views.{IsLive, IsLiveAnd};
 
 use crate::jobs::job;
+use crate::spelled::{bytes_of, fits_file, has_point};
 use hb_activity::{Activity, JobKind};
 use hb_frag::{Frag, Leaf, LivePage};
 use hb_latch::Mode;
 use hb_layout::Meta;
 use hb_set::{Command, Line, Reply};
 use hb_space::{Area, Areas, Body, Point, Record, Records};
+use hb_view::PageView;
 use std::alloc::Global;
 
 /// An activity, the level of the page that its step looks into, the levels of the file, and what is told of it, as
@@ -307,16 +312,13 @@ fn activity_of(alloc: Global, text: &str) -> Option<Activity> {
 }
 
 // Whether the next step finds its leaf in the page.
-fn can_look(activity: &Activity, page: &LivePage) -> bool
-    ensures { IsTrue result → CanLook activity.now (Some page.now) }
+fn can_look(activity: &Activity, view: &PageView<'_>) -> bool
+    requires { IsLiveAnd view.now WellCut }
+    ensures { IsTrue result → CanLook activity.now (if_live (Some view.now)) }
 {
     match activity.looked_at() {
         None => true,
-        Some(point) => {
-            page.is_well_cut()
-                && point.attributes() == page.area.lo().attributes()
-                && page.area.holds(point)
-        }
+        Some(point) => has_point(view, point),
     }
 }
 
@@ -329,24 +331,30 @@ fn letter_of(mode: Mode) -> char {
 }
 
 // Adds the latches that it holds, as in `ROWS`.
-fn show_held(text: &mut String, activity: &Activity, page: &LivePage) -> Option<()>
-    requires { CanLook activity.now (Some page.now) }
+fn show_held(text: &mut String, activity: &Activity, view: &PageView<'_>) -> Option<()>
+    requires { IsLive view.now }
 {
-    for latch in activity.held(Some(page)).as_slice() {
+    for latch in activity.held(Some(view.copy())).as_slice() {
         write!(text, "{}{}", latch.page, letter_of(latch.mode)).ok()?;
     }
     text.push(';').ok()
 }
 
 // Adds the latch that it wants, and whether it may change the file.
-fn show_wanted(text: &mut String, activity: &Activity, meta: &Meta, page: &LivePage) -> Option<()>
-    requires { CanLook activity.now (Some page.now) }
+fn show_wanted(
+    text: &mut String,
+    activity: &Activity,
+    meta: &Meta,
+    view: &PageView<'_>,
+) -> Option<()>
+    requires live { IsLive view.now }
+    requires look { CanLook activity.now (if_live (Some view.now)) }
 {
-    if let Some(wanted) = activity.wanted(meta, Some(page)) {
+    if let Some(wanted) = activity.wanted(meta, Some(view.copy())) {
         let letter = letter_of(wanted.mode);
         write!(text, " {}.{}{letter}", wanted.page, wanted.level).ok()?;
     }
-    if activity.may_commit(meta, Some(page)) {
+    if activity.may_commit(meta, Some(view.copy())) {
         text.push('!').ok()?;
     }
     Some(())
@@ -364,21 +372,22 @@ fn show_lock(text: &mut String, activity: &Activity) -> Option<()> {
 }
 
 // Adds all that is told of the activity.
-fn show(text: &mut String, activity: &Activity, meta: &Meta, page: &LivePage) -> Option<()> {
-    if !can_look(activity, page) {
+fn show(text: &mut String, activity: &Activity, meta: &Meta, view: &PageView<'_>) -> Option<()> {
+    if !fits_file(view, meta) || !can_look(activity, view) {
         return None;
     }
-    show_held(text, activity, page)?;
-    show_wanted(text, activity, meta, page)?;
+    show_held(text, activity, view)?;
+    show_wanted(text, activity, meta, view)?;
     show_lock(text, activity)
 }
 
 // Whether this is told of the activity that the text spells.
 fn is_told(alloc: Global, spelled: &str, level: u8, height: u8, want: &str) -> Option<bool> {
     let activity = activity_of(alloc, spelled)?;
-    let page = page_of(alloc, level)?;
+    let bytes = bytes_of(alloc, &page_of(alloc, level)?)?;
+    let view = PageView::checked(&bytes)?;
     let mut text = String::new(alloc);
-    show(&mut text, &activity, &meta(height), &page)?;
+    show(&mut text, &activity, &meta(height), &view)?;
     Some(text.as_str() == want)
 }
 

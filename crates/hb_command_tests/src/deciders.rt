@@ -11,14 +11,17 @@ ghost use Rattle.hb_ops.specs.Standing.{StandsNot};
 ghost use Rattle.hb_point.specs.Asks.{WalksInside};
 ghost use Rattle.hb_poster.specs.Asks.{LooksAgainBelow};
 ghost use Rattle.hb_space.specs.Boxes.{Holds};
+ghost use Rattle.hb_view.specs.Views.{IsLive, IsLiveAnd};
 
 use crate::activities::point;
 use crate::jobs::{job, show};
+use crate::spelled::{bytes_of, fits_file, has_point};
 use hb_activity::{Activity, Fate, Job, JobKind, Next};
 use hb_frag::{Frag, Leaf, LivePage, Node, Path, Side};
 use hb_ops::{Cuts, Meta, Op, Standing, has_room, local_rule, look_at};
 use hb_set::{Command, Line, Reply};
 use hb_space::{Area, Areas, Body, Point, Record, Records};
+use hb_view::PageView;
 use std::alloc::Global;
 
 /// A step, the page that it is at, how many pages of 64 are live, a value, and what the step comes to: the operation, the jobs,
@@ -208,18 +211,34 @@ fn split(alloc: Global, page: &LivePage, rec: Record, meta: &Meta) -> Option<Nex
     hb_point::next(alloc, state, 5, page, None, None, free_of(meta), meta).ok()
 }
 
+// The step of a walk at the page, which is read from its bytes.
 fn walk(alloc: Global, page: &LivePage, command: Command, meta: &Meta) -> Option<Next>
     requires layout { IsLayout meta.now }
-    requires made { FitsFile meta.now page.now }
-    requires inside { WalksInside page.now command }
 {
+    let bytes = bytes_of(alloc, page)?;
+    let view = PageView::checked(&bytes)?;
+    if !fits_file(&view, meta) || !walks_inside(&view, &command) {
+        return None;
+    }
     let state = Activity::SessionWalk {
         line: line(command),
         held: Some(3),
         rest: Areas::new(Vec::new(alloc)),
         found: Records::new(Vec::new(alloc)),
     };
-    hb_point::next(alloc, state, 5, page, None, None, None, meta).ok()
+    Some(hb_point::descend(state, 5, view, meta))
+}
+
+// Whether the command has a point, and it lies in the box of the page in use.
+fn walks_inside(view: &PageView<'_>, command: &Command) -> bool
+    requires { IsLive view.now }
+    ensures { IsTrue result → IsLiveAnd view.now (λ page. WalksInside page command.now) }
+{
+    match command {
+        Command::Insert(rec) => has_point(view, &rec.key),
+        Command::Delete(point) | Command::Lookup(point) => has_point(view, point),
+        Command::Search(_) => false,
+    }
 }
 
 // Whether the page's leaf at the point names a child, and both pages have the point.

@@ -26,3 +26,5 @@ mod scripts;
 mod searches;
 #[cfg(test)]
 mod sets;
+#[cfg(test)]
+mod spelled;

@@ -1,6 +1,10 @@
 -- Chains of steps that are worked out by hand.
 pub mod WrittenTables
+pub mod OrderOfUse
 pub mod BuiltSteps
+pub mod TakenLines
+pub mod BroughtSteps
+pub mod FlushedSteps
 pub mod ChainOfInsert
 pub mod ChainOfTwoParts
 pub mod SplitRows

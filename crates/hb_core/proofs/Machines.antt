@@ -9,4 +9,11 @@ pub mod PieceBoxes
 pub mod AddedJobs
 pub mod BoxesAhead
 pub mod AttributesKept
+pub mod FramesKept
 pub mod GoingOn
+pub mod PinCounts
+pub mod PinsFollow
+pub mod HoldersMoved
+pub mod LatchesApart
+pub mod FlushedFrames
+pub mod PlacesLeft

@@ -1,4 +1,3 @@
--- What the steps of a core come to, as lemmas: a file for each part.
 pub mod NumbersInHand
 pub mod TurnsAfter
 pub mod StandsElsewhere
@@ -31,14 +30,21 @@ pub mod StepTaken
 pub mod LiftedRows
 pub mod LiftedMerges
 pub mod SeenRows
+pub mod SeenWalks
 pub mod Asked
 pub mod Decided
-pub mod SomePlan
-pub mod Starved
-pub mod StarvedMerger
+pub mod DecodedFor
 pub mod TakesNumbers
 pub mod OrderRoom
 pub mod StandsThere
 pub mod Commits
 pub mod MayPerform
 pub mod WorkTouches
+pub mod Pins
+pub mod Frames
+pub mod PlacesFor
+pub mod ReadsStay
+pub mod Holds
+pub mod WrittenShows
+pub mod OwnPins
+pub mod JobsBegun

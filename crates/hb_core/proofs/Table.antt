@@ -14,3 +14,4 @@ pub mod StepSays
 pub mod RowFates
 pub mod QueueMoves
 pub mod Causes
+pub mod MemoryTaken

@@ -1,5 +1,5 @@
 -- A step that may be done: it is done, given up, or meets a bad page.
-use Rattle.std.specs.Prelude.{◌≡◌, ◌⊎◌, ℕ, ◌<◌, true, false, Bool, IsTrue, IsSome, Option, Some, None}
+use Rattle.std.specs.Prelude.{◌≡◌, ◌⊎◌, ◌++◌, List, ℕ, ◌<◌, true, false, Bool, IsTrue, IsSome, Option, Some, None}
 use Rattle.hb_ops.specs.declared.operations.Op.{Op}
 use Rattle.hb_ops.specs.declared.operations.Op.TheVariants as ops
 use Rattle.hb_frag.specs.declared.pages.LivePage.{LivePage}
@@ -16,14 +16,16 @@ use Rattle.hb_activity.specs.declared.dropping.DropWhy.TheVariants as drops
 use Rattle.hb_core.specs.declared.outcomes.Outcome.{Outcome}
 use Rattle.hb_core.specs.declared.outcomes.Outcome.TheVariants as outcomes
 use Rattle.hb_activity.specs.Deeds.{Deed}
-use Rattle.hb_activity.specs.Walks.{walk_held}
+pub use Rattle.hb_core.specs.Decoding.{Decodes, GathersThere}
 use Rattle.hb_core.specs.Asking.{AskedBox, asked_box, wanted_by}
 use Rattle.hb_core.specs.Fetching.{Brings, IsBadHead, IsDamaged, IsFreeHead, IsWantedPage}
 use Rattle.hb_core.specs.GivingUp.{gives_up}
-use Rattle.hb_core.specs.Machines.{Files, Machine, live_here, stopped_for, with_disk, sight}
-use Rattle.hb_core.specs.Performing.{Performs}
+use Rattle.hb_core.specs.Machines.{Files, Machine, live_here, stopped_for, with_disk, with_uses, sight}
+use Rattle.hb_core.specs.Performing.{Performs, latches_held}
+use Rattle.hb_core.specs.Using.{CameFor, page_wanted, pages_of, use_number, use_wanted}
+use Rattle.hb_pool.specs.Frames.{Use}
+use Rattle.hb_store.specs.Held.{IsTied}
 use Rattle.hb_core.specs.Rows.{IsAtHand, Row}
-use Rattle.hb_point.specs.SessionRows.{WantsBoxes}
 use Rattle.hb_poster.specs.PosterRows.{MayGrow}
 use Rattle.hb_store.specs.States.{StoreState, in_memory}
 use Rattle.hb_store.specs.Fetching.{IsNoPage}
@@ -35,13 +37,17 @@ takes_number (Some (ops.Extract source fresh path cuts free_after)) = true
 takes_number (Some (ops.Grow fresh free_after)) = true
 takes_number other = false
 
--- A step that may be done. Its pages came into memory, the free head only where a number is taken, and its row is done.
+-- A step that may be done. Its pages came into memory, the free head only where a number is taken, and its row is done. The wanted page
+-- is pinned for the step from when it came.
 pub record DoesRow (m : Machine) (actor : ℕ) (outcome : Outcome) (new : Machine) : Type 0 where
   pub fetched : StoreState
   pub deed : Deed
   pub brings : Brings m (λ id. IsWantedPage (wanted_by m actor) id ⊎ (IsTrue (takes_number deed.op) × IsFreeHead m.store id)) fetched
   pub row : Row (m.activity actor) (wanted_by m actor) (with_disk fetched m.files m.clock m) deed
   pub performs : Performs m fetched actor deed outcome new
+  pub came : performs.came ≡ use_number (takes_number deed.op) m.store.meta (use_wanted (wanted_by m actor) m.uses)
+  pub pins : performs.pins ≡ page_wanted (wanted_by m actor) ++ pages_of (latches_held m.store (m.activity actor))
+  pub tied : IsTied fetched performs.came
 
 -- Whether a row takes a number for a page that it makes: a split, a growth, and a posting for which the parent has no room,
 -- each where a page is free.
@@ -62,27 +68,18 @@ MayNeed m actor fetched id = IsWantedPage (wanted_by m actor) id ⊎ (NeedsNumbe
 abbrev pub LacksNeeded : Machine → ℕ → StoreState → Type 0
 LacksNeeded m actor fetched = (id : ℕ) × MayNeed m actor fetched id × (¬ (IsNoPage m.store.meta id)) × (in_memory fetched id ≡ None)
 
--- A row takes memory: it does an operation; a search gathers records; a way to the leaf of a posting is made; or a consolidator
--- lists the children of a parent.
+-- A row takes memory where it does an operation.
 abbrev pub HasOp : Deed → Type 0
 HasOp deed = IsSome deed.op
 
-abbrev pub TakesMemory : Activity → Deed → Type 0
-TakesMemory (at.SessionWalk line held rest found) deed = HasOp deed ⊎ (WantsBoxes line.command × (walk_held deed.next ≡ None))
-TakesMemory (at.PosterChild job parent) deed = deed.next ≡ at.PosterPromote job parent
-TakesMemory (at.ConsolidatorWalk job held) deed = walk_held deed.next ≡ None
-TakesMemory (at.ConsolidatorScan job parent child) deed = Unit {0}
-TakesMemory (at.ConsolidatorTry job parent keep gone leaf) deed = Unit {0}
-TakesMemory other deed = HasOp deed
-
 abbrev pub TakesSome : Option Wanted → Machine → Activity → Type 0
-TakesSome wanted m activity = (deed : Deed) × Row activity wanted m deed × TakesMemory activity deed
+TakesSome wanted m activity = (deed : Deed) × Row activity wanted m deed × HasOp deed
 
--- Or it is given up: a page that it needs couldn't be read; or memory was refused, for such a page or for what the row takes.
+-- Or it is given up: a page that it needs couldn't be read; or memory was refused, for a page that is decoded or for what the row takes.
 abbrev pub GivesUpFor : DropWhy → Machine → ℕ → StoreState → Type 0
 GivesUpFor drops.ReadFault m actor fetched = LacksNeeded m actor fetched
 GivesUpFor drops.NoMemory m actor fetched =
-    LacksNeeded m actor fetched ⊎ TakesSome (wanted_by m actor) (with_disk fetched m.files m.clock m) (m.activity actor)
+    Decodes (wanted_by m actor) (with_disk fetched m.files m.clock m) (m.activity actor) ⊎ TakesSome (wanted_by m actor) (with_disk fetched m.files m.clock m) (m.activity actor)
 
 pub record Abandons (m : Machine) (actor : ℕ) (outcome : Outcome) (new : Machine) : Type 0 where
   pub why : DropWhy
@@ -90,6 +87,8 @@ pub record Abandons (m : Machine) (actor : ℕ) (outcome : Outcome) (new : Machi
   pub brings : Brings m (MayNeed m actor fetched) fetched
   pub cause : GivesUpFor why m actor fetched
   pub performs : Performs m fetched actor (gives_up why (m.activity actor)) outcome new
+  pub came : CameFor (wanted_by m actor) m.store.meta m.uses performs.came
+  pub pins : performs.pins ≡ pages_of (latches_held m.store (m.activity actor))
 
 -- Or a page was damaged: the machine is stopped.
 abbrev pub IsBadWanted : Option Files → StoreState → Option Wanted → Option AskedBox → ℕ → Why → Type 0
@@ -104,4 +103,7 @@ pub record MeetsBadPage (m : Machine) (actor : ℕ) (outcome : Outcome) (new : M
   pub why : Why
   pub bad : IsBadWanted m.files fetched (wanted_by m actor) (asked_box (m.activity actor) fetched) page why ⊎ (NeedsNumber (m.activity actor) (wanted_by m actor) (with_disk fetched m.files m.clock m) × IsBadHead m.files fetched page why)
   pub says : outcome ≡ outcomes.Stopped (Damaged page why)
-  pub stops : new ≡ stopped_for (Damaged page why) (with_disk fetched m.files m.clock m)
+  pub came : List Use
+  pub came_is : CameFor (wanted_by m actor) m.store.meta m.uses came
+  pub tied : IsTied fetched came
+  pub stops : new ≡ stopped_for (Damaged page why) (with_uses came (with_disk fetched m.files m.clock m))

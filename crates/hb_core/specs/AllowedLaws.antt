@@ -14,12 +14,13 @@ use Rattle.hb_activity.specs.declared.activities.Activity.TheVariants.{SessionPu
 use Rattle.hb_activity.specs.Deeds.{Deed}
 use Rattle.hb_core.specs.Asking.{wanted_by}
 use Rattle.hb_core.specs.Fetching.{Brings}
-use Rattle.hb_core.specs.Keeps.{HasRoomFor, HoldsPagesOfFile, KnowsRoom, WalksInSpace}
+use Rattle.hb_core.specs.Keeps.{HasRoomFor, HoldsPagesOfFile, KnowsRoom, LatchesFit, WalksInSpace}
 use Rattle.hb_core.specs.KeptLines.{MetaWithinLimits}
 use Rattle.hb_core.specs.Machines.{Machine, live_here, with_disk}
 use Rattle.hb_core.specs.Rows.{Row}
 use Rattle.hb_space.specs.Boxes.{Area}
 use Rattle.hb_space.specs.Points.{IsBody}
+use Rattle.hb_space.specs.Actors.{IsActor}
 use Rattle.hb_store.specs.Calls.{IsAllowedHere}
 use Rattle.hb_store.specs.Fetching.{IsNext}
 use Rattle.hb_store.specs.States.{StoreState, in_memory}
@@ -57,8 +58,13 @@ HalfHasRoom m actor op = (line : Line) (source fresh half : ℕ) (rec : Record) 
 abbrev pub AnyPage : ℕ → Type 0
 AnyPage id = Unit {0}
 
+-- That the parent of a merge names both pages is known from where its consolidator stands, and needed for a merge alone.
+abbrev pub NamesItsPages : Machine → Op → Type 0
+NamesItsPages m (ops.Merge parent keep gone) = WalksInSpace m
+NamesItsPages m other = Unit {0}
+
 -- Where a row has an operation, that is allowed: nothing but the row's own condition keeps it from being done. So it is over
--- every disk.
+-- every disk, since the pages that its actor has latched are as it left them.
 abbrev pub RowsAreAllowed : Type 0
-RowsAreAllowed = (m : Machine) (actor : ℕ) (fetched : StoreState) (deed : Deed) (op : Op) → MetaWithinLimits m → HoldsPagesOfFile m → KnowsRoom m → WalksInSpace m → Brings m AnyPage fetched →
+RowsAreAllowed = (m : Machine) (actor : ℕ) (fetched : StoreState) (deed : Deed) (op : Op) → IsActor actor → LatchesFit m → MetaWithinLimits m → HoldsPagesOfFile m → KnowsRoom m → NamesItsPages m op → Brings m AnyPage fetched →
     Row (m.activity actor) (wanted_by m actor) (with_disk fetched m.files m.clock m) deed → deed.op ≡ Some op → HalfHasRoom m actor op → IsAllowedHere fetched op

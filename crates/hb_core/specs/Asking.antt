@@ -1,5 +1,5 @@
 -- Which page a step asks for, and what it tests of that page before it latches it.
-use Rattle.std.specs.Prelude.{◌≡◌, ◌≢◌, ℕ, ◌==◌, if◌then◌else◌, Bool, true, false, List, [], ◌∷◌, slice_get, Option, Some, None, IfSome, IsSomeAnd}
+use Rattle.std.specs.Prelude.{◌≡◌, ◌≢◌, ℕ, Bool, true, false, List, slice_get, Option, Some, None, IfSome, IsSomeAnd}
 use Rattle.std.specs.Option.{option_and_then, option_map}
 use Rattle.hb_frag.specs.declared.leaves.Leaf.{Leaf}
 use Rattle.hb_frag.specs.declared.leaves.Leaf.TheVariants.{Records, Child, Sibling}
@@ -15,10 +15,13 @@ use Rattle.hb_activity.specs.Walks.{walk_point, walk_held}
 use Rattle.hb_activity.specs.Wanting.{wanted_of}
 use Rattle.hb_core.specs.Machines.{Machine, live_here}
 pub use Rattle.hb_core.specs.declared.asking.AskedBox.{AskedBox}
+pub use Rattle.hb_view.specs.Naming.{first_child_box}
 use Rattle.hb_frag.specs.Leaves.{Placed, leaf_at, leaves_of, siblings_of, first_named}
 use Rattle.hb_latch.specs.Tables.{IsGrantable, IsLeastInTheWay}
 use Rattle.hb_space.specs.Boxes.{Area, Within, whole_area}
 use Rattle.hb_store.specs.States.{StoreState}
+use Rattle.hb_view.specs.declared.leaves.LeafView.{LeafView}
+use Rattle.hb_view.specs.declared.leaves.LeafView.TheVariants as views
 
 -- The page into which the next step of an activity looks to tell which latch it wants: the one that a walk holds, the
 -- page to keep where a merge is tried, or the parent.
@@ -57,19 +60,15 @@ box_by_leaf placed = by placed.leaf placed.area
     by (Child page) area = Some (record { area = area; exact = false })
     by (Sibling page) area = Some (record { area = area; exact = true })
 
+-- so by a leaf that was seen without its records, and its box
+abbrev pub box_by_view : LeafView → Area → Option AskedBox
+box_by_view views.Records area = None
+box_by_view (views.Child page) area = Some (record { area = area; exact = false })
+box_by_view (views.Sibling page) area = Some (record { area = area; exact = true })
+
 -- the page that a page's leaf at a point names
 abbrev pub box_at : Option LivePage → Option (List ℕ) → Option AskedBox
 box_at page p = option_and_then (λ page. option_and_then (λ p. option_and_then box_by_leaf (leaf_at page p)) p) page
-
--- the box of the first child leaf from the left that names a page
-abbrev pub first_child_box : ℕ → List Placed → Option Area
-first_child_box name [] = None
-first_child_box name (placed ∷ rest) = if names placed.leaf then Some placed.area else first_child_box name rest
-  where
-    names : Leaf → Bool
-    names (Records records) = false
-    names (Child page) = page == name
-    names (Sibling page) = false
 
 -- the page that the leaf of a page at a place names
 abbrev pub box_of_place : Option LivePage → ℕ → Option AskedBox

@@ -1,9 +1,10 @@
 -- Why a line is refused, and which line a step answers, as laws.
-use Rattle.std.specs.Prelude.{◌≡◌, ◌⊎◌, ℕ, [], IsSomeAnd}
+use Rattle.std.specs.Prelude.{◌≡◌, ◌⊎◌, ℕ, IsTrue, [], IsSomeAnd}
 use Rattle.hb_space.specs.declared.records.Record.{Record}
 use Rattle.hb_set.specs.declared.commands.Reply.{Reply}
 use Rattle.hb_set.specs.declared.commands.Reply.TheVariants as replies
-use Rattle.hb_set.specs.declared.commands.Command.TheVariants.{Insert}
+use Rattle.hb_set.specs.declared.commands.Command.{Command}
+use Rattle.hb_set.specs.declared.commands.Command.TheVariants.{Insert, Delete, Lookup, Search}
 use Rattle.hb_set.specs.declared.scripts.Line.{Line}
 use Rattle.hb_activity.specs.declared.dropping.DropWhy.{DropWhy}
 use Rattle.hb_activity.specs.declared.dropping.DropWhy.TheVariants as drops
@@ -16,8 +17,8 @@ use Rattle.hb_core.specs.Fetching.{Brings}
 use Rattle.hb_core.specs.Keeps.{LacksRoomFor}
 use Rattle.hb_core.specs.KeptMachine.{MachineKeeps}
 use Rattle.hb_core.specs.Machines.{Machine}
-use Rattle.hb_core.specs.Stages.{HasMoreToFlush}
-use Rattle.hb_core.specs.Steps.{IsUnready, StepsTo}
+use Rattle.hb_core.specs.Forcing.{HasMoreToFlush}
+use Rattle.hb_core.specs.Steps.{IsUnready, StepsTo, may_change_file}
 
 -- A line is `full` where the page that is to be split lacks the point and room for its record, and no page is free; or where the
 -- step can't be made ready: no group waits, and nothing else is left to flush.
@@ -34,13 +35,13 @@ pub record SplitFindsNoPage (m : Machine) (actor number : ℕ) : Type 0 where
 pub record CannotBeReady (m : Machine) (actor : ℕ) : Type 0 where
   pub unready : IsUnready m actor
   pub no_group : m.store.log.groups ≡ []
-  pub nothing_left : ¬ (HasMoreToFlush m.store)
+  pub nothing_left : ¬ (HasMoreToFlush m)
 
 abbrev pub FullByCause : Type 0
 FullByCause = (m : Machine) (actor number : ℕ) (new : Machine) → MachineKeeps m → StepsTo m actor (outcomes.Answered number replies.Full) new → SplitFindsNoPage m actor number ⊎ CannotBeReady m actor
 
--- A line is `read fault` only where a page of the file that the step needs isn't in memory; `no memory` only for such a page, for
--- what its row takes, or for the boxes of a search that begins.
+-- A line is `read fault` only where a page of the file that the step needs isn't in memory; `no memory` only for a page that the step
+-- decodes, for what its row takes, or for the boxes of a search that begins.
 pub record GaveUpFor (why : DropWhy) (m : Machine) (actor : ℕ) : Type 0 where
   pub fetched : StoreState
   pub brings : Brings m (MayNeed m actor fetched) fetched
@@ -54,6 +55,20 @@ ReadFaultByCause = (m : Machine) (actor number : ℕ) (new : Machine) → Machin
 
 abbrev pub NoMemoryByCause : Type 0
 NoMemoryByCause = (m : Machine) (actor number : ℕ) (new : Machine) → MachineKeeps m → StepsTo m actor (outcomes.Answered number replies.NoMemory) new → GaveUpFor drops.NoMemory m actor ⊎ BeginsSearch m actor
+
+-- So a lookup is never answered `no memory`; and an insert or a delete only in a step whose row may give an operation.
+abbrev pub TakesItsOp : Machine → ℕ → Line → Type 0
+TakesItsOp m actor line = MatchCommand line.command
+  where
+    MatchCommand : Command → Type 0
+    MatchCommand (Lookup point) = ⊥
+    MatchCommand (Search area) = Unit {0}
+    MatchCommand (Insert rec) = IsTrue (may_change_file m actor)
+    MatchCommand (Delete point) = IsTrue (may_change_file m actor)
+
+abbrev pub LookupsTakeNoMemory : Type 0
+LookupsTakeNoMemory = (m : Machine) (actor number : ℕ) (new : Machine) → MachineKeeps m → StepsTo m actor (outcomes.Answered number replies.NoMemory) new →
+    IsSomeAnd (next_line actor m.answered m.lines) (λ line. (line.number ≡ number) × TakesItsOp m actor line)
 
 -- A line is answered by a step of its own session, and is that session's first line without an answer.
 abbrev pub AnswersFirstLine : Type 0

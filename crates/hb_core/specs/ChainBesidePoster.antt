@@ -44,8 +44,9 @@ beside_after = record {
   meta = raised_meta;
   written = 8251;
   groups = [];
-  pages = (1, Live split_page) ∷ (2, Live lower_two) ∷ (3, Live posted_root) ∷ [];
+  pages = (1, Live split_page) ∷ (3, Live posted_root) ∷ (2, Live lower_two) ∷ [];
   in_log = 2 ∷ 3 ∷ [];
+  dirty = 2 ∷ 3 ∷ [];
   durable = record { meta = raised_meta; pages = Live split_page ∷ Live lower_two ∷ Live posted_root ∷ [] };
   later = [];
   clock = 8;

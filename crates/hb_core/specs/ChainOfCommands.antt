@@ -33,7 +33,8 @@ three_found = lettered 30 99 ∷ lettered 40 100 ∷ lettered 50 101 ∷ []
 abbrev pub commands_before : Scene
 commands_before = at_start (inserts_fifty ∷ deletes_none ∷ searches ∷ []) [] ((1, Live split_page) ∷ (2, Live lower_half) ∷ []) (record { meta = line_meta 2; pages = halves })
 
--- All is as it was but for the answers, the order, and a job: the search passed by the leaf of page 1 that names page 2.
+-- All is as it was but for the answers, the order, a job, and that page 1 was used last: the search passed by the leaf of page 1 that
+-- names page 2, and came back.
 abbrev pub commands_after : Scene
 commands_after = record {
   lines = inserts_fifty ∷ deletes_none ∷ searches ∷ [];
@@ -45,8 +46,9 @@ commands_after = record {
   meta = line_meta 2;
   written = 0;
   groups = [];
-  pages = (1, Live split_page) ∷ (2, Live lower_half) ∷ [];
+  pages = (2, Live lower_half) ∷ (1, Live split_page) ∷ [];
   in_log = [];
+  dirty = [];
   durable = record { meta = line_meta 2; pages = halves };
   later = [];
   clock = 0;

@@ -17,7 +17,7 @@ tight_meta pages live free = record { k = 1; pages = pages; log = 65536; dcap = 
 abbrev pub free_before : Scene
 free_before = at_start (inserts_seventy ∷ []) [] ((1, Live full_page) ∷ []) (record { meta = tight_meta 2 1 2; pages = Live full_page ∷ Free 0 ∷ [] })
 
--- Page 2 has the lower half, and no page is free.
+-- Page 2 has the lower half, no page is free, and the put used page 1 last.
 abbrev pub free_after : Scene
 free_after = record {
   lines = inserts_seventy ∷ [];
@@ -29,8 +29,9 @@ free_after = record {
   meta = tight_meta 2 2 0;
   written = 4152;
   groups = [];
-  pages = (1, Live (upper_half (upper_three ++ lettered 70 103 ∷ []))) ∷ (2, Live lower_half) ∷ [];
+  pages = (2, Live lower_half) ∷ (1, Live (upper_half (upper_three ++ lettered 70 103 ∷ []))) ∷ [];
   in_log = 2 ∷ 1 ∷ [];
+  dirty = 1 ∷ 2 ∷ [];
   durable = record { meta = tight_meta 2 2 0; pages = Live (upper_half (upper_three ++ lettered 70 103 ∷ [])) ∷ Live lower_half ∷ [] };
   later = [];
   clock = 8;

@@ -49,9 +49,13 @@ merging_before records = at_start [] (merges_at 45 ∷ []) ((1, Live keeping_pag
 abbrev pub three_to_go : List Record
 three_to_go = valued 45 ∷ valued 46 ∷ valued 47 ∷ []
 
--- The job is gone, and nothing else changed.
+-- The job is gone, and nothing else changed but the order of use: page 2 was scanned last.
 abbrev pub heavy_after : Scene
-heavy_after = record (merging_before three_to_go) { at_work = (18, ConsolidatorIdle) ∷ []; jobs = [] }
+heavy_after = record (merging_before three_to_go) {
+  at_work = (18, ConsolidatorIdle) ∷ [];
+  jobs = [];
+  pages = (1, Live keeping_page) ∷ (3, Live two_children) ∷ (2, Live (going_page three_to_go)) ∷ [];
+}
 
 -- It takes the job, finds the parent, scans page 1 and tries the pair, scans page 2, and has no job left.
 abbrev pub steps_too_heavy : List (ℕ × Outcome)
@@ -71,7 +75,7 @@ joined_page = record { level = 0; area = whole_area 1; frag = Tip (Records (valu
 abbrev pub joined_meta : Meta
 joined_meta = record { k = 1; pages = 64; log = 65536; dcap = 6; icap = 32; root = 3; height = 2; high = 3; live = 2; free = 2 }
 
--- No job waits, and nobody holds a page. One group waits, with page images of all three pages.
+-- No job waits, and nobody holds a page. Page 1 was scanned last. One group waits, with page images of all three pages.
 abbrev pub joined_after : Scene
 joined_after = record {
   lines = [];
@@ -83,8 +87,9 @@ joined_after = record {
   meta = joined_meta;
   written = 0;
   groups = record { bytes = group_bytes (record { images = (3, Live two_children) ∷ (1, Live keeping_page) ∷ (2, Live (going_page one_to_go)) ∷ []; op = ops.Merge 3 1 2 }); mark = 0 } ∷ [];
-  pages = (1, Live joined_page) ∷ (2, Free 0) ∷ (3, Live one_child) ∷ [];
+  pages = (2, Free 0) ∷ (3, Live one_child) ∷ (1, Live joined_page) ∷ [];
   in_log = 3 ∷ 1 ∷ 2 ∷ [];
+  dirty = 3 ∷ 1 ∷ 2 ∷ [];
   durable = record { meta = raised_meta; pages = merging_pages one_to_go };
   later = record { meta = joined_meta; pages = Live joined_page ∷ Free 0 ∷ Live one_child ∷ [] } ∷ [];
   clock = 0;

@@ -39,7 +39,7 @@ posted_root = record { level = 1; area = whole_area 1; frag = Cut 0 40 (Tip (Chi
 abbrev pub posting_before : Scene
 posting_before = at_start [] (posts_at 10 ∷ []) ((1, Live split_page) ∷ (2, Live lower_half) ∷ []) (record { meta = line_meta 2; pages = halves })
 
--- No job waits, nobody holds a page, and the root names both pages. Two groups wait, without page images: page 3 was made in this turn.
+-- No job waits, nobody holds a page, and the root names both pages. The poster came to page 2 last, and before that to the root. Two groups wait, without page images: page 3 was made in this turn.
 abbrev pub posting_after : Scene
 posting_after = record {
   lines = [];
@@ -52,8 +52,9 @@ posting_after = record {
   written = 0;
   groups = record { bytes = group_bytes (record { images = []; op = ops.Grow 3 0 }); mark = 0 }
       ∷ record { bytes = group_bytes (record { images = []; op = ops.Post 3 [] 2 (side_below (whole_area 1) 0 40) }); mark = 0 } ∷ [];
-  pages = (1, Live split_page) ∷ (2, Live lower_half) ∷ (3, Live posted_root) ∷ [];
+  pages = (1, Live split_page) ∷ (3, Live posted_root) ∷ (2, Live lower_half) ∷ [];
   in_log = 3 ∷ [];
+  dirty = 3 ∷ [];
   durable = record { meta = line_meta 2; pages = halves };
   later = record { meta = raised_meta; pages = halves ++ Live bare_root ∷ [] } ∷ record { meta = raised_meta; pages = halves ++ Live posted_root ∷ [] } ∷ [];
   clock = 0;

@@ -71,8 +71,9 @@ three_after = record {
   meta = tight_meta 3 3 0;
   written = 4139;
   groups = [];
-  pages = (1, Live middle_page) ∷ (2, Live low_page) ∷ (3, Live (high_page other_high)) ∷ [];
+  pages = (2, Live low_page) ∷ (1, Live middle_page) ∷ (3, Live (high_page other_high)) ∷ [];
   in_log = 3 ∷ [];
+  dirty = 3 ∷ [];
   durable = record { meta = tight_meta 3 3 0; pages = three_pages other_high };
   later = [];
   clock = 8;

@@ -57,7 +57,7 @@ abbrev pub posts_at : ℕ → Job
 posts_at value = record { kind = Post; level = 1; point = value ∷ [] }
 
 -- Both are answered, and nobody holds a page. The page was split at 40, and both halves owe a posting: one from the split, and
--- one since session 2 passed by. Two groups are durable, in frames of 4,131 bytes (a page image and the split) and 21 (the put).
+-- one since session 2 passed by. Session 2 used page 2 last. Two groups are durable, in frames of 4,131 bytes (a page image and the split) and 21 (the put).
 abbrev pub two_after : Scene
 two_after = record {
   lines = inserts_seventy ∷ looks_twenty_up ∷ [];
@@ -71,6 +71,7 @@ two_after = record {
   groups = [];
   pages = (1, Live (upper_half (upper_three ++ lettered 70 103 ∷ []))) ∷ (2, Live lower_half) ∷ [];
   in_log = 2 ∷ 1 ∷ [];
+  dirty = 1 ∷ 2 ∷ [];
   durable = record { meta = line_meta 2; pages = Live (upper_half (upper_three ++ lettered 70 103 ∷ [])) ∷ Live lower_half ∷ [] };
   later = [];
   clock = 8;

@@ -3,7 +3,7 @@ use Rattle.std.specs.Prelude.{◌≡◌}
 use Rattle.hb_disk.specs.declared.traits.Device.{Ghosts}
 use Rattle.hb_core.specs.Showing.{RunningCore}
 use Rattle.hb_core.specs.declared.state.Core.{Core}
-use Rattle.hb_store.specs.Seen.{disk_of, seen_as}
+use Rattle.hb_store.specs.Seen.{disk_of, seen_as, uses_of}
 
 abbrev pub core_seen : {D : Type 0} {g : Ghosts D} → Core D g → RunningCore
 core_seen c = record {
@@ -16,6 +16,7 @@ core_seen c = record {
   order = c.order.items;
   stop = c.stop;
   store = seen_as c.store;
+  uses = uses_of c.store;
   taken = c.taken;
 }
 

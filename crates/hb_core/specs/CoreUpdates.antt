@@ -5,6 +5,7 @@ use Rattle.hb_activity.specs.declared.activities.Activity.{Activity}
 use Rattle.hb_activity.specs.declared.jobs.Job.{Job}
 use Rattle.hb_latch.specs.Tables.{LatchTable}
 use Rattle.hb_store.specs.declared.stops.StopWhy.{StopWhy}
+use Rattle.hb_pool.specs.Frames.{Use}
 use Rattle.hb_store.specs.States.{StoreState}
 use Rattle.hb_core.specs.Showing.{RunningCore}
 
@@ -31,3 +32,6 @@ with_latches latches c = record c { latches = latches }
 
 abbrev pub with_store : StoreState → RunningCore → RunningCore
 with_store store c = record c { store = store }
+
+abbrev pub with_order_of_use : List Use → RunningCore → RunningCore
+with_order_of_use uses c = record c { uses = uses }

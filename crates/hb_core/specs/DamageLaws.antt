@@ -7,7 +7,7 @@ use Rattle.hb_core.specs.Forcing.{FailsToWrite}
 use Rattle.hb_core.specs.Keeps.{HasSoundFile, LatchesFit, WalksInSpace}
 use Rattle.hb_core.specs.KeptMachine.{CoreKeeps}
 use Rattle.hb_core.specs.Machines.{Files, Machine}
-use Rattle.hb_core.specs.OutcomeLaws.{RefusesSearch, AreOneButMemory}
+use Rattle.hb_core.specs.OutcomeLaws.{RefusesSearch, AreOne}
 use Rattle.hb_core.specs.Steps.{StepsTo}
 use Rattle.hb_space.specs.Actors.{IsActor}
 use Rattle.hb_set.specs.Machine.{RecordSet}
@@ -28,10 +28,10 @@ StaysUndamaged = (m : Machine) (files : Files) (actor : ℕ) (outcome : Outcome)
 
 -- A step that want of memory or a fault of the device has turned aside.
 abbrev pub IsRefusedOrFails : Machine → ℕ → Outcome → Machine → Type 0
-IsRefusedOrFails m actor outcome new = RefusesSearch m actor outcome new ⊎ FailsToWrite m 9 outcome new ⊎ Abandons m actor outcome new
+IsRefusedOrFails m actor outcome new = RefusesSearch m actor outcome new ⊎ FailsToWrite m 4 outcome new ⊎ Abandons m actor outcome new
 
--- Of a machine that keeps all that it should, two steps of one actor say the same and lead to machines that are one but for the
--- pages in memory, unless one of them was turned aside so.
+-- Of a machine that keeps all that it should, two steps of one actor say the same and lead to machines that are one, unless one
+-- of them was turned aside so.
 abbrev pub KeptStepIsOne : Type 0
 KeptStepIsOne = (n : RecordSet) (m : Machine) (files : Files) (actor : ℕ) (outcome other : Outcome) (new next : Machine) → IsActor actor → CoreKeeps n m files → StepsTo m actor outcome new → StepsTo m actor other next →
-    IsRefusedOrFails m actor outcome new ⊎ IsRefusedOrFails m actor other next ⊎ ((outcome ≡ other) × AreOneButMemory new next)
+    IsRefusedOrFails m actor outcome new ⊎ IsRefusedOrFails m actor other next ⊎ ((outcome ≡ other) × AreOne new next)

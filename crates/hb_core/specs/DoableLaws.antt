@@ -2,22 +2,23 @@
 use Rattle.std.specs.Prelude.{◌≡◌, ℕ, Some}
 use Rattle.hb_ops.specs.declared.operations.Op.{Op}
 use Rattle.hb_activity.specs.Deeds.{Deed}
-use Rattle.hb_core.specs.AllowedLaws.{AnyPage, HalfHasRoom}
+use Rattle.hb_core.specs.AllowedLaws.{AnyPage, HalfHasRoom, NamesItsPages}
 use Rattle.hb_core.specs.Asking.{wanted_by}
 use Rattle.hb_core.specs.Fetching.{Brings}
-use Rattle.hb_core.specs.Keeps.{HoldsPagesOfFile, KnowsRoom, WalksInSpace}
+use Rattle.hb_core.specs.Keeps.{HoldsPagesOfFile, KnowsRoom, LatchesFit}
 use Rattle.hb_core.specs.KeptLines.{MetaWithinLimits}
 use Rattle.hb_core.specs.Machines.{Machine, with_disk}
 use Rattle.hb_core.specs.Rows.{Row}
+use Rattle.hb_space.specs.Actors.{IsActor}
 use Rattle.hb_store.specs.Calls.{IsAllowedHere}
 use Rattle.hb_store.specs.States.{StoreState}
 
 -- A session puts its record into the half of a split that has room: the one half that directly holds the point.
 abbrev pub PutsFindRoom : Type 0
-PutsFindRoom = (m : Machine) (actor : ℕ) (fetched : StoreState) (deed : Deed) (op : Op) → KnowsRoom m → Brings m AnyPage fetched →
+PutsFindRoom = (m : Machine) (actor : ℕ) (fetched : StoreState) (deed : Deed) (op : Op) → IsActor actor → LatchesFit m → KnowsRoom m → Brings m AnyPage fetched →
     Row (m.activity actor) (wanted_by m actor) (with_disk fetched m.files m.clock m) deed → deed.op ≡ Some op → HalfHasRoom m actor op
 
 -- So where a row has an operation, that is allowed, over every disk.
 abbrev pub RowsCanBeDone : Type 0
-RowsCanBeDone = (m : Machine) (actor : ℕ) (fetched : StoreState) (deed : Deed) (op : Op) → MetaWithinLimits m → HoldsPagesOfFile m → KnowsRoom m → WalksInSpace m → Brings m AnyPage fetched →
+RowsCanBeDone = (m : Machine) (actor : ℕ) (fetched : StoreState) (deed : Deed) (op : Op) → IsActor actor → LatchesFit m → MetaWithinLimits m → HoldsPagesOfFile m → KnowsRoom m → NamesItsPages m op → Brings m AnyPage fetched →
     Row (m.activity actor) (wanted_by m actor) (with_disk fetched m.files m.clock m) deed → deed.op ≡ Some op → IsAllowedHere fetched op

@@ -12,22 +12,22 @@ use Rattle.hb_core.specs.Machines.{Files, Machine, current_file}
 use Rattle.hb_latch.specs.Tables.{mode_at}
 use Rattle.hb_ops.specs.Files.{page_of}
 use Rattle.hb_store.specs.Calls.{KeepsAllButPages}
-use Rattle.hb_store.specs.States.{IsGoodPage, StoreState, in_memory, is_in_log}
+use Rattle.hb_store.specs.States.{IsGoodPage, StoreState, in_memory, is_dirty}
 use Rattle.hb_store.specs.Fetching.{IsNoPage}
 
--- The pages that stay in memory whatever comes: those that somebody holds, and those in this turn's log, which
--- read otherwise in their places than the file has them.
+-- The pages that stay in memory whatever comes: those that somebody holds, and those that are to be written to their places still.
 abbrev pub MustStay : Machine → ℕ → Type 0
-MustStay m id = ((actor : ℕ) × (mode : Mode) × (mode_at m.latches actor id ≡ Some mode)) ⊎ IsTrue (is_in_log m.store id)
+MustStay m id = ((actor : ℕ) × (mode : Mode) × (mode_at m.latches actor id ≡ Some mode)) ⊎ IsTrue (is_dirty m.store id)
 
 -- Pages came into memory, of these numbers at most, and pages left it that need not stay: else nothing changed. What came is of
--- the file and keeps the rules that speak of a page alone; where the disk tells, it is what the file has there.
+-- the file and keeps the rules that speak of a page alone; where the disk tells, it is what the file has there. Where it doesn't, a
+-- page may have left and come again as another one.
 pub record Brings (m : Machine) (may : ℕ → Type 0) (new : StoreState) : Type 0 where
   pub rest : KeepsAllButPages m.store new
   pub stays : (id : ℕ) → MustStay m id → IsSome (in_memory m.store id) → in_memory new id ≡ in_memory m.store id
-  pub others : (id : ℕ) → IsSome (in_memory m.store id) → (in_memory new id ≡ in_memory m.store id) ⊎ (in_memory new id ≡ None)
+  pub others : (id : ℕ) → IsSome (in_memory m.store id) → (in_memory new id ≡ in_memory m.store id) ⊎ (in_memory new id ≡ None) ⊎ ((m.files ≡ None) × may id × (¬ (MustStay m id)))
   pub only : (id : ℕ) → in_memory m.store id ≡ None → IsSome (in_memory new id) → may id
-  pub good : (id : ℕ) (page : Page) → in_memory m.store id ≡ None → in_memory new id ≡ Some page → (1 ≤ id) × (id ≤ m.store.meta.high) × IsGoodPage m.store.meta page
+  pub good : (id : ℕ) (page : Page) → in_memory new id ≡ Some page → (in_memory m.store id ≡ Some page) ⊎ ((1 ≤ id) × (id ≤ m.store.meta.high) × IsGoodPage m.store.meta page)
   pub told : (id : ℕ) (page : Page) → in_memory m.store id ≡ None → in_memory new id ≡ Some page → IfSome m.files (λ files. page_of (current_file files) id ≡ Some page)
 
 -- What a step may need: the page that it wants, and, where it takes a number for a page that it makes, the first page of

@@ -1,12 +1,14 @@
 -- What flushing makes of a machine: a force, what is flushed besides, and the step of the flusher.
-use Rattle.std.specs.Prelude.{◌≡◌, ◌≢◌, ◌⊎◌, ℕ, ◌+◌, ◌≤◌, [], option_map}
+use Rattle.std.specs.Prelude.{◌≡◌, ◌≢◌, ◌⊎◌, ℕ, ◌+◌, ◌≤◌, [], Some, IsSome, option_map}
 use Rattle.hb_store.specs.declared.stops.StopWhy.TheVariants.{WriteFault}
 use Rattle.hb_core.specs.declared.outcomes.Outcome.{Outcome}
 use Rattle.hb_core.specs.declared.outcomes.Outcome.TheVariants as outcomes
-use Rattle.hb_core.specs.Machines.{Files, Machine, stopped_for, with_disk}
-use Rattle.hb_core.specs.Stages.{FlusherSteps, HasMoreToFlush, IsFlushedTo}
+use Rattle.hb_core.specs.Machines.{Files, Machine, stopped_for, with_disk, with_uses}
+use Rattle.hb_core.specs.Stages.{FlusherSteps}
+use Rattle.hb_pool.specs.Frames.{clean}
+use Rattle.hb_pool.specs.Pools.{in_place}
+use Rattle.hb_store.specs.Held.{cleaned_state, oldest_dirty}
 use Rattle.hb_store.specs.Forced.{durable_after, forced_state, later_after, stopped_state}
-use Rattle.hb_store.specs.States.{StoreState, in_memory}
 use Rattle.hb_wal.specs.Forces.{calls_of_force}
 
 -- A device call failed: the machine is stopped, behind so many calls at most.
@@ -31,27 +33,24 @@ ForcesFirst m done outcome new =
 abbrev pub StaysSo : Machine → Outcome → Outcome → Machine → Type 0
 StaysSo m said outcome new = (outcome ≡ said) × (new ≡ m)
 
--- A page is written to its place, or the log begins again: in one call, or in nine. The file stays, no group waits, and what is in
--- memory stays there.
+-- Once no group waits there is something left to flush: a page in memory that is to be written to its place.
+abbrev pub HasMoreToFlush : Machine → Type 0
+HasMoreToFlush m = IsSome (oldest_dirty m.uses)
+
+-- The least recently used of these is written to its place, in one call. The file stays.
 pub record FlushesWell (m : Machine) (due outcome : Outcome) (new : Machine) : Type 0 where
-  pub store : StoreState
-  pub calls : ℕ
-  pub flushed : IsFlushedTo m.store calls store
-  pub few : calls ≤ 9
+  pub page : ℕ
+  pub oldest : oldest_dirty m.uses ≡ Some page
   pub says : outcome ≡ due
-  pub meta : store.meta ≡ m.store.meta
-  pub no_group : store.log.groups ≡ []
-  pub memory : (id : ℕ) → in_memory store id ≡ in_memory m.store id
-  pub stopped : store.stopped ≡ m.store.stopped
-  pub leaves : new ≡ with_disk store m.files (m.clock + calls) m
+  pub leaves : new ≡ with_uses (in_place page clean m.uses) (with_disk (cleaned_state page m.store) m.files (m.clock + 1) m)
 
 -- What flushing comes to once no group waits: that, or a write that fails, where something is left to flush; else nothing was to
 -- be done, and this happens.
 abbrev pub FlushesRest : Machine → Outcome → Type 0 → Outcome → Machine → Type 0
 FlushesRest m due nothing outcome new =
-    (HasMoreToFlush m.store × FlushesWell m due outcome new)
-    ⊎ (HasMoreToFlush m.store × FailsToWrite m 9 outcome new)
-    ⊎ ((¬ (HasMoreToFlush m.store)) × nothing)
+    (HasMoreToFlush m × FlushesWell m due outcome new)
+    ⊎ (HasMoreToFlush m × FailsToWrite m 1 outcome new)
+    ⊎ ((¬ (HasMoreToFlush m)) × nothing)
 
 -- A step flushes once, and says what is due then: a group that waits is forced; where none does, the rest is flushed.
 abbrev pub FlushesOnce : Machine → Outcome → Type 0 → Outcome → Machine → Type 0

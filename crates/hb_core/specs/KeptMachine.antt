@@ -10,6 +10,7 @@ use Rattle.hb_core.specs.KeptSearches.{SearchesAreExact, SearchesGather}
 use Rattle.hb_core.specs.KeptSequence.{LinesInSequence}
 use Rattle.hb_core.specs.Locking.{BoxLocksFit}
 use Rattle.hb_core.specs.Machines.{Files, Machine}
+use Rattle.hb_core.specs.Using.{FramesFit}
 
 pub record MachineKeeps (m : Machine) : Type 0 where
   -- what the file says of itself is within its limits
@@ -22,8 +23,9 @@ pub record MachineKeeps (m : Machine) : Type 0 where
   pub order_short : OrderIsShort m
   pub replies_stand : RepliesStand m
   pub answers_single : AnswersAreSingle m
-  -- pages in memory are of the file
+  -- pages in memory are of the file; their frames, and the pins
   pub pages_of_file : HoldsPagesOfFile m
+  pub frames_fit : FramesFit m.store m.uses m.latches
   -- who stands where, and holds what
   pub classes : HaveClasses m
   pub nobody_else : HasNobodyElse m

@@ -13,7 +13,7 @@ use Rattle.hb_core.specs.Fetching.{MustStay}
 use Rattle.hb_core.specs.Keeps.{HasSoundFile, HoldsPagesOfFile, LatchesFit}
 use Rattle.hb_core.specs.Machines.{Files, Machine, current_file, live_here}
 use Rattle.hb_core.specs.Performing.{given_by}
-use Rattle.hb_core.specs.Stages.{HasMoreToFlush}
+use Rattle.hb_core.specs.Forcing.{HasMoreToFlush}
 use Rattle.hb_core.specs.Steps.{StepsTo}
 use Rattle.hb_latch.specs.Tables.{mode_at}
 use Rattle.hb_space.specs.Actors.{IsActor}
@@ -37,11 +37,12 @@ HasAlone m actor id = (mode_at m.latches actor id ≡ Some Exclusive) ⊎ TakesA
 abbrev pub IsInUse : Machine → ℕ → LivePage → Type 0
 IsInUse m id page = in_memory m.store id ≡ Some (Live page)
 
--- A page that need not stay has left memory.
+-- A page that need not stay has left memory; or, over a disk that doesn't tell, it may have come again as another one.
 abbrev pub MayHaveLeft : Machine → ℕ → Machine → Type 0
-MayHaveLeft m id new = (¬ (MustStay m id)) × (in_memory new.store id ≡ None)
+MayHaveLeft m id new = (¬ (MustStay m id)) × ((in_memory new.store id ≡ None) ⊎ (m.files ≡ None))
 
--- A step changes no page in use, and makes none free, but those that its actor has for itself. The page that it makes was in no use.
+-- A step changes no page in use, and makes none free, but those that its actor has for itself. The page that it makes was in no use, or
+-- is one that had left.
 abbrev pub OwnPagesChange : Type 0
 OwnPagesChange = (m : Machine) (actor : ℕ) (outcome : Outcome) (new : Machine) → IsActor actor → LatchesFit m → HoldsPagesOfFile m → StepsTo m actor outcome new →
     (id : ℕ) (page : LivePage) → IsInUse m id page → IsInUse new id page ⊎ MayHaveLeft m id new ⊎ HasAlone m actor id
@@ -81,13 +82,13 @@ WalksGoFurther = (m : Machine) (files : Files) (actor held : ℕ) (page : LivePa
     walk_held (m.activity actor) ≡ Some held → walk_point (m.activity actor) ≡ Some p → live_here m.store held ≡ Some page → wanted_by m actor ≡ Some wanted →
     LeadsFurther (current_file files) p page wanted.page
 
--- A step that makes no device call leaves the clock. A force, which has a group that waits, moves it by four at most; what else is
--- flushed by nine.
+-- A step that makes no device call leaves the clock. A force, which has a group that waits, moves it by four at most; a page
+-- that is written to its place by one.
 abbrev pub ClockMoves : Type 0
 ClockMoves = (m : Machine) (actor : ℕ) (outcome : Outcome) (new : Machine) → StepsTo m actor outcome new →
     (new.clock ≡ m.clock)
     ⊎ ((m.store.log.groups ≢ []) × (m.clock ≤ new.clock) × (new.clock ≤ m.clock + 4))
-    ⊎ (HasMoreToFlush m.store × (m.clock ≤ new.clock) × (new.clock ≤ m.clock + 9))
+    ⊎ (HasMoreToFlush m × (m.clock ≤ new.clock) × (new.clock ≤ m.clock + 1))
 
 -- A line is answered by the step whose outcome says so, with the clock after it, and by no other.
 abbrev pub AnswersAreTimed : Type 0

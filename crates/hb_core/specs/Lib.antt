@@ -2,11 +2,13 @@ pub mod Stages
 pub mod Machines
 pub mod Asking
 pub mod Fetching
+pub mod Using
 pub mod Performing
 pub mod Rows
 pub mod Forcing
 pub mod GivingUp
 pub mod Locking
+pub mod Decoding
 pub mod Acting
 pub mod Steps
 pub mod KeptLines
@@ -18,6 +20,7 @@ pub mod KeptFits
 pub mod KeptPlaces
 pub mod KeptSearches
 pub mod KeptMachine
+pub mod KeptFrames
 pub mod Laws
 pub mod NeedLaws
 pub mod FileLaws
@@ -37,10 +40,13 @@ pub mod JobLaws
 pub mod Showing
 pub mod CoreSeen
 pub mod CoreUpdates
+pub mod Pinning
+pub mod Committing
 pub mod Moving
 pub mod Taking
 pub mod Stopping
 pub mod Looking
+pub mod AskingDeciders
 pub mod LookingToMerge
 pub mod Working
 pub mod Relied

@@ -1,26 +1,18 @@
 -- What a core looks at for a step of the consolidator, by what its store has in memory.
-use Rattle.std.specs.Prelude.{◌≡◌, ℕ, List, Option, Some, None}
-use Rattle.std.specs.List.{slice_get}
+use Rattle.std.specs.Prelude.{◌≡◌, ℕ, Option, Some, None}
 use Rattle.std.specs.Option.{option_and_then}
 use Rattle.hb_activity.specs.declared.activities.Activity.{Activity}
 use Rattle.hb_activity.specs.declared.activities.Activity.TheVariants as at
 use Rattle.hb_activity.specs.Deeds.{Deed}
-use Rattle.hb_consol.specs.Asks.{AsksMemoryToMerge, MayAskToMerge}
+use Rattle.hb_consol.specs.Asks.{MayAskToMerge}
 use Rattle.hb_consol.specs.MergeRows.{ConsolidatorRow}
 use Rattle.hb_frag.specs.declared.pages.LivePage.{LivePage}
-use Rattle.hb_frag.specs.Leaves.{Placed}
 use Rattle.hb_layout.specs.Limits.{IsLayout}
 use Rattle.hb_ops.specs.Sound.{FitsFile}
 use Rattle.hb_store.specs.States.{StoreState}
-use Rattle.hb_core.specs.Asking.{AskedBox, box_by_leaf}
-use Rattle.hb_core.specs.Looking.{other_page, sight_in}
+use Rattle.hb_core.specs.AskingDeciders.{sight_in}
+use Rattle.hb_core.specs.Looking.{other_page}
 use Rattle.hb_core.specs.Machines.{live_here}
-
--- what is asked for by the leaf at a place
-pub record IsBoxAt (leaves : List Placed) (place : ℕ) (asked : Option AskedBox) : Type 0 where
-  pub placed : Placed
-  pub there : slice_get leaves place ≡ Some placed
-  pub box : asked ≡ box_by_leaf placed
 
 -- the number of the page to keep, which a row reads besides, where a pair is tried or decided
 abbrev pub second_number : Activity → Option ℕ
@@ -40,9 +32,6 @@ pub record AsksMerger (st : StoreState) (activity : Activity) (id : ℕ) : Type 
   pub made : FitsFile st.meta page
   pub asked : MayAskToMerge activity st.meta page (other_page st activity) (second_page st activity)
 
--- what its answer is: a row at the page of this number, or want of memory
+-- what its answer is: a row at the page of this number
 abbrev pub HasMergerRow : StoreState → Activity → ℕ → ℕ → Deed → Type 0
 HasMergerRow st activity id place deed = (page : LivePage) × (live_here st id ≡ Some page) × ConsolidatorRow activity (sight_in st place) id page deed
-
-abbrev pub LacksToMerge : StoreState → Activity → ℕ → Type 0
-LacksToMerge st activity id = (page : LivePage) × (live_here st id ≡ Some page) × AsksMemoryToMerge activity st.meta page (other_page st activity) (second_page st activity)

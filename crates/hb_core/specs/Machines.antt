@@ -11,6 +11,7 @@ use Rattle.hb_store.specs.declared.stops.StopWhy.{StopWhy}
 use Rattle.hb_activity.specs.Sights.{Sight}
 use Rattle.hb_latch.specs.Tables.{LatchTable}
 use Rattle.hb_ops.specs.Files.{FileState, if_live}
+use Rattle.hb_pool.specs.Frames.{Use}
 use Rattle.hb_set.specs.Order.{Entry}
 use Rattle.hb_store.specs.Keeps.{last_of}
 use Rattle.hb_store.specs.States.{StoreState, in_memory}
@@ -43,6 +44,8 @@ pub record Machine : Type 0 where
   -- what the file says of itself; the log with its room and the groups that wait, each with its bytes and its mark; the
   -- pages in memory; those in this turn's log
   pub store : StoreState
+  -- of the pages in memory the order of use, the least recently used first, with their pins and dirty marks
+  pub uses : List Use
   -- the files, where the disk tells its bytes
   pub files : Option Files
   -- the disk's clock
@@ -82,30 +85,12 @@ if_some (Some x) = x ∷ []
 
 -- a machine with another store, files and value of the clock
 abbrev pub with_disk : StoreState → Option Files → ℕ → Machine → Machine
-with_disk store files clock m = record {
-  lines = m.lines;
-  answered = m.answered;
-  activity = m.activity;
-  latches = m.latches;
-  jobs = m.jobs;
-  order = m.order;
-  stop = m.stop;
-  store = store;
-  files = files;
-  clock = clock;
-}
+with_disk store files clock m = record m { store = store; files = files; clock = clock }
+
+-- and with another order of use
+abbrev pub with_uses : List Use → Machine → Machine
+with_uses uses m = record m { uses = uses }
 
 -- a machine that is stopped
 abbrev pub stopped_for : StopWhy → Machine → Machine
-stopped_for why m = record {
-  lines = m.lines;
-  answered = m.answered;
-  activity = m.activity;
-  latches = m.latches;
-  jobs = m.jobs;
-  order = m.order;
-  stop = Some why;
-  store = m.store;
-  files = m.files;
-  clock = m.clock;
-}
+stopped_for why m = record m { stop = Some why }

@@ -1,9 +1,8 @@
 -- What the private calls of a core make of it, said of what it holds.
 use Rattle.hb_activity.specs.declared.jobs.Job.{Job}
 use Rattle.hb_activity.specs.Queue.{AddsJobs}
-use Rattle.std.specs.Prelude.{◌≡◌, ◌≢◌, ℕ, ◌≤◌, All, AllPairs, List, [], ◌∷◌, ◌++◌, length, false, Option, Some, None, IsSome, option_map}
+use Rattle.std.specs.Prelude.{◌≡◌, ◌≢◌, ℕ, ◌≤◌, AllPairs, List, [], ◌∷◌, ◌++◌, length, false, Option, Some, None, IsSome, option_map}
 use Rattle.std.specs.Option.{option_and_then}
-use Rattle.hb_disk.specs.Model.{DiskModel}
 use Rattle.hb_latch.specs.declared.modes.Mode.{Mode}
 use Rattle.hb_activity.specs.declared.activities.Activity.{Activity}
 use Rattle.hb_activity.specs.declared.activities.Activity.TheVariants as at
@@ -15,17 +14,16 @@ use Rattle.hb_activity.specs.Deeds.{Deed}
 use Rattle.hb_activity.specs.Walks.{walk_held}
 use Rattle.hb_latch.specs.Tables.{IsGrantable, LatchTable}
 use Rattle.hb_space.specs.Actors.{IsActor}
-use Rattle.hb_ops.specs.Files.{FileState}
-use Rattle.hb_ops.specs.Operations.{BoxesMatch, IsLicensed, OpHas}
 use Rattle.hb_ops.specs.declared.operations.Op.{Op}
 use Rattle.hb_set.specs.Order.{Entry}
-use Rattle.hb_store.specs.Calls.{IsAllowedHere, IsReady, read_here, with_op}
-use Rattle.hb_store.specs.Keeps.{StoreKeeps, last_of}
-use Rattle.hb_store.specs.States.{StoreState}
-use Rattle.hb_wal.specs.Log.{Waiting}
+use Rattle.hb_store.specs.Calls.{StaysHere}
+use Rattle.hb_core.specs.Using.{is_changed, pages_of, use_done, use_held}
+use Rattle.hb_store.specs.Held.{IsTied}
+use Rattle.hb_store.specs.States.{StoreState, in_memory}
 use Rattle.hb_core.specs.declared.outcomes.Outcome.{Outcome}
 use Rattle.hb_core.specs.declared.outcomes.Outcome.TheVariants as outcomes
-pub use Rattle.hb_core.specs.CoreUpdates.{StandsAs, with_jobs, with_latches, with_order, with_standing, with_stop, with_store}
+pub use Rattle.hb_core.specs.Committing.{KeepsFilesBy, MayCommit, later_with}
+pub use Rattle.hb_core.specs.CoreUpdates.{StandsAs, with_jobs, with_latches, with_order, with_order_of_use, with_standing, with_stop, with_store}
 use Rattle.hb_core.specs.Machines.{live_here}
 use Rattle.hb_core.specs.Performing.{ChangesQueue, MayDo, Relatches, latches_held, mode_among, outcome_of}
 use Rattle.hb_core.specs.Showing.{RunningCore}
@@ -54,10 +52,21 @@ pub record Queues (jobs : List Job) (old new : RunningCore) : Type 0 where
   pub adds : AddsJobs jobs old.jobs new.jobs
   pub rest : new ≡ with_jobs new.jobs old
 
--- An actor stands elsewhere, and has the latches of that and no other. All else is as it was.
-pub record StandsNow (actor : ℕ) (next : Activity) (old new : RunningCore) : Type 0 where
+-- An actor stands elsewhere, and has the latches of that and no other; its pins go over from these pages to those of the latches. All
+-- else is as it was.
+pub record StandsNow (actor : ℕ) (pins : List ℕ) (next : Activity) (old new : RunningCore) : Type 0 where
   pub latches : Relatches actor (latches_held old.store next) old.latches new.latches
+  pub uses : new.uses ≡ use_held pins (pages_of (latches_held old.store next)) old.uses
+  pub rest : new ≡ record (with_standing actor next old) { latches = new.latches; uses = new.uses }
+
+-- It stands elsewhere, with no latch and no pin before and afterwards.
+pub record StandsFree (actor : ℕ) (next : Activity) (old new : RunningCore) : Type 0 where
+  pub latches : Relatches actor [] old.latches new.latches
   pub rest : new ≡ record (with_standing actor next old) { latches = new.latches }
+
+-- A page that is dirty or pinned, and isn't changed, is there as it was.
+abbrev pub KeepsStaying : Option Op → RunningCore → StoreState → Type 0
+KeepsStaying op old new = (id : ℕ) → StaysHere old.uses id → is_changed op old.store id ≡ false → in_memory new id ≡ in_memory old.store id
 
 abbrev pub numbers_joined : Option Entry → List ℕ
 numbers_joined None = []
@@ -88,29 +97,16 @@ abbrev pub said : Option ℕ → Fate → Outcome
 said (Some number) (fates.Answers reply) = outcomes.Answered number reply
 said line fate = outcomes.Moved
 
--- An operation may be committed for a line that joins the order at its end.
-pub record MayCommit (d : DiskModel) (c : RunningCore) (op : Op) : Type 0 where
-  pub running : c.store.stopped ≡ false
-  pub ready : IsReady c.store
-  pub points : OpHas c.store.meta.k op
-  pub allowed : IsAllowedHere c.store op
-  pub boxes : BoxesMatch op (read_here c.store op 0) (read_here c.store op 1) (read_here c.store op 2)
-  pub licensed : (durable : FileState) (later : List FileState) → StoreKeeps d c.store durable later → IsLicensed (last_of durable later) op
-  pub marks : All (λ (g : Waiting). g.mark ≤ length c.order) c.store.log.groups
-
--- A deed of an actor is done: its latches, the queue, the store and the order are as it says, and all else is as it was.
-pub record DoesDeed (actor : ℕ) (deed : Deed) (outcome : Outcome) (old new : RunningCore) : Type 0 where
+-- A deed of an actor is done: its latches, the queue, the store and the order are as it says, its pins go over from these pages to those
+-- of its latches, and all else is as it was.
+pub record DoesDeed (actor : ℕ) (pins : List ℕ) (deed : Deed) (outcome : Outcome) (old new : RunningCore) : Type 0 where
   pub says : outcome ≡ outcome_of deed.says
   pub latches : Relatches actor (latches_held new.store deed.next) old.latches new.latches
   pub jobs : ChangesQueue deed old.jobs new.jobs
   pub order : new.order ≡ old.order ++ numbers_joined deed.joins
   pub store : MayDo deed.op (length old.order) old.store new.store
-  pub rest : new ≡ record (with_standing actor deed.next old) { latches = new.latches; jobs = new.jobs; order = new.order; store = new.store }
-
--- what the disk holds of the file goes on with it
-abbrev pub later_with : Option Op → FileState → List FileState → List FileState
-later_with None durable later = later
-later_with (Some op) durable later = with_op durable later op
-
-abbrev pub KeepsFilesBy : Option Op → DiskModel → StoreState → DiskModel → StoreState → Type 0
-KeepsFilesBy op d old e new = (durable : FileState) (later : List FileState) → StoreKeeps d old durable later → StoreKeeps e new durable (later_with op durable later)
+  pub uses : new.uses ≡ use_held pins (pages_of (latches_held new.store deed.next)) (use_done deed.op old.store old.uses)
+  pub stays : KeepsStaying deed.op old new.store
+  -- the frames are those of the pages in memory
+  pub tied : IsTied new.store new.uses
+  pub rest : new ≡ record (with_standing actor deed.next old) { latches = new.latches; jobs = new.jobs; order = new.order; store = new.store; uses = new.uses }

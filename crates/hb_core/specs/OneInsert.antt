@@ -33,7 +33,7 @@ inserts_a = record { number = 1; session = 1; command = Insert letter_a }
 abbrev pub before_insert : Scene
 before_insert = at_start (inserts_a ∷ []) [] [] (record { meta = flat_meta; pages = Live (page_of_records []) ∷ [] })
 
--- The line is answered at 4, the record is durable, and the log has one frame: 5 bytes in front, the count of the page images,
+-- The line is answered at 4, the record is durable, its page isn't written to its place yet, and the log has one frame: 5 bytes in front, the count of the page images,
 -- the page image as it was, of 4 and 4,096 bytes, and the put, of 23.
 abbrev pub after_insert : Scene
 after_insert = record {
@@ -48,6 +48,7 @@ after_insert = record {
   groups = [];
   pages = (1, Live (page_of_records (letter_a ∷ []))) ∷ [];
   in_log = 1 ∷ [];
+  dirty = 1 ∷ [];
   durable = record { meta = flat_meta; pages = Live (page_of_records (letter_a ∷ [])) ∷ [] };
   later = [];
   clock = 4;

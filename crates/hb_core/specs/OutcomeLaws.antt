@@ -13,7 +13,7 @@ use Rattle.hb_core.specs.Fetching.{MustStay}
 use Rattle.hb_core.specs.Forcing.{FailsToWrite}
 use Rattle.hb_core.specs.Keeps.{HoldsPagesOfFile, KnowsRoom}
 use Rattle.hb_core.specs.Machines.{Files, Machine}
-use Rattle.hb_core.specs.Performing.{Performs}
+use Rattle.hb_core.specs.Performing.{PerformsAsItIs}
 use Rattle.hb_core.specs.Steps.{StepsTo}
 use Rattle.hb_latch.specs.Tables.{mode_at}
 use Rattle.hb_point.specs.SessionRows.{next_line, WantsBoxes}
@@ -26,12 +26,12 @@ pub record RefusesSearch (m : Machine) (actor : ℕ) (outcome : Outcome) (new : 
   pub line : Line
   pub next : next_line actor m.answered m.lines ≡ Some line
   pub boxes : WantsBoxes line.command
-  pub performs : Performs m m.store actor (answers_now line.number replies.NoMemory) outcome new
+  pub performs : PerformsAsItIs m actor (answers_now line.number replies.NoMemory) outcome new
 
 -- A step that want of memory or a fault of the device has turned aside: such a search; a write that failed; a line or a job
 -- that is given up; or a page that is damaged.
 abbrev pub IsTurnedAside : Machine → ℕ → Outcome → Machine → Type 0
-IsTurnedAside m actor outcome new = RefusesSearch m actor outcome new ⊎ FailsToWrite m 9 outcome new ⊎ Abandons m actor outcome new ⊎ MeetsBadPage m actor outcome new
+IsTurnedAside m actor outcome new = RefusesSearch m actor outcome new ⊎ FailsToWrite m 4 outcome new ⊎ Abandons m actor outcome new ⊎ MeetsBadPage m actor outcome new
 
 -- Two steps came to the same: they say the same, and left the lines, the answers, the stop and the clock the same.
 pub record ComesToSame (outcome other : Outcome) (new next : Machine) : Type 0 where
@@ -46,8 +46,8 @@ abbrev pub OutcomeIsOne : Type 0
 OutcomeIsOne = (m : Machine) (actor : ℕ) (outcome other : Outcome) (new next : Machine) → StepsTo m actor outcome new → StepsTo m actor other next →
     IsTurnedAside m actor outcome new ⊎ IsTurnedAside m actor other next ⊎ ComesToSame outcome other new next
 
--- Two machines are one but for the pages that are in memory: a page that need not stay may have left one of them.
-pub record AreOneButMemory (new next : Machine) : Type 0 where
+-- Two machines are one: the same pages are in memory, too, in the same order of use.
+pub record AreOne (new next : Machine) : Type 0 where
   pub lines : new.lines ≡ next.lines
   pub answered : new.answered ≡ next.answered
   pub activity : (actor : ℕ) → new.activity actor ≡ next.activity actor
@@ -58,13 +58,14 @@ pub record AreOneButMemory (new next : Machine) : Type 0 where
   pub files : new.files ≡ next.files
   pub clock : new.clock ≡ next.clock
   pub store : KeepsAllButPages new.store next.store
-  pub pages : (id : ℕ) (a b : Page) → in_memory new.store id ≡ Some a → in_memory next.store id ≡ Some b → a ≡ b
+  pub pages : (id : ℕ) → in_memory new.store id ≡ in_memory next.store id
+  pub uses : new.uses ≡ next.uses
 
 -- Over a disk that tells two steps lead to such machines, where pages in memory keep the rules that speak of a page alone and not
 -- both halves of a split hold the point of the insert.
 abbrev pub StateIsOne : Type 0
 StateIsOne = (m : Machine) (files : Files) (actor : ℕ) (outcome other : Outcome) (new next : Machine) → m.files ≡ Some files → HoldsPagesOfFile m → KnowsRoom m → StepsTo m actor outcome new → StepsTo m actor other next →
-    IsTurnedAside m actor outcome new ⊎ IsTurnedAside m actor other next ⊎ AreOneButMemory new next
+    IsTurnedAside m actor outcome new ⊎ IsTurnedAside m actor other next ⊎ AreOne new next
 
 -- the line for which an actor works: the one in its hand, or the next one of an idle session
 abbrev pub IsItsLine : Machine → ℕ → ℕ → Type 0
@@ -80,7 +81,7 @@ SaysAside m actor (outcomes.Stopped why) = Unit {0}
 SaysAside m actor other = ⊥
 
 -- It leaves the lines, the jobs that wait, the order and the files, what the file says of itself, the log, the pages in it,
--- and what has to stay in memory.
+-- those that are dirty, and what has to stay in memory.
 pub record ChangesNoFile (m : Machine) (actor : ℕ) (outcome : Outcome) (new : Machine) : Type 0 where
   pub says : SaysAside m actor outcome
   pub lines : new.lines ≡ m.lines
@@ -90,6 +91,7 @@ pub record ChangesNoFile (m : Machine) (actor : ℕ) (outcome : Outcome) (new : 
   pub meta : new.store.meta ≡ m.store.meta
   pub log : new.store.log ≡ m.store.log
   pub in_log : new.store.in_log ≡ m.store.in_log
+  pub dirty : new.store.dirty ≡ m.store.dirty
   pub memory : (id : ℕ) (page : Page) → MustStay m id → in_memory m.store id ≡ Some page → in_memory new.store id ≡ Some page
 
 abbrev pub AsideChangesNoFile : Type 0

@@ -1,5 +1,5 @@
 -- How a deed is done: what becomes of the latches, the file, the queue, the order and the answers.
-use Rattle.std.specs.Prelude.{◌≡◌, ◌≢◌, ℕ, ◌==◌, if◌then◌else◌, List, [], ◌∷◌, ◌++◌, length, Option, Some, None, option_map}
+use Rattle.std.specs.Prelude.{◌≡◌, ◌≢◌, ℕ, ◌==◌, if◌then◌else◌, false, List, [], ◌∷◌, ◌++◌, length, Option, Some, None, option_map}
 use Rattle.hb_ops.specs.declared.operations.Op.{Op}
 use Rattle.hb_set.specs.declared.scripts.Answered.{Answered}
 use Rattle.hb_latch.specs.declared.modes.Mode.{Mode}
@@ -18,7 +18,11 @@ use Rattle.hb_latch.specs.Tables.{LatchTable, mode_at}
 use Rattle.hb_log_codec.specs.Groups.{group_bytes}
 use Rattle.hb_store.specs.Calls.{Commits, IsAllowedHere, with_op}
 use Rattle.hb_store.specs.Making.{group_here}
-use Rattle.hb_store.specs.States.{StoreState}
+use Rattle.hb_store.specs.Held.{IsTied}
+use Rattle.hb_store.specs.States.{StoreState, in_memory}
+use Rattle.hb_core.specs.Fetching.{MustStay}
+use Rattle.hb_core.specs.Using.{is_changed, pages_of, use_done, use_held}
+use Rattle.hb_pool.specs.Frames.{Use}
 
 -- the latches of an activity, where the page that a walk holds tells the mode; and the mode in which these hold a page
 abbrev pub latches_held : StoreState → Activity → List Latch
@@ -74,7 +78,8 @@ pub record ChangesQueue (deed : Deed) (old new : List Job) : Type 0 where
   pub takes : LeavesBy deed.takes old left
   pub adds : AddsJobs deed.adds left new
 
--- A deed of an actor is done on a machine into whose memory the pages came that it needs.
+-- A deed of an actor is done on a machine into whose memory the pages came that it needs. `came` is the order of use with these,
+-- and `pins` are the pages that are pinned for the actor then.
 pub record Performs (m : Machine) (fetched : StoreState) (actor : ℕ) (deed : Deed) (outcome : Outcome) (new : Machine) : Type 0 where
   pub says : outcome ≡ outcome_of deed.says
   pub lines : new.lines ≡ m.lines
@@ -87,3 +92,14 @@ pub record Performs (m : Machine) (fetched : StoreState) (actor : ℕ) (deed : D
   pub store : MayDo deed.op (length m.order) fetched new.store
   pub files : new.files ≡ files_after deed.op m.files
   pub clock : new.clock ≡ m.clock
+  pub came : List Use
+  pub pins : List ℕ
+  pub uses : new.uses ≡ use_held pins (pages_of (latches_held new.store deed.next)) (use_done deed.op fetched came)
+  -- the pages in memory are those of the frames, so that it is known which page left
+  pub tied : IsTied new.store new.uses
+  -- a page that stays, and isn't changed, is there as it was
+  pub stays : (id : ℕ) → MustStay m id → is_changed deed.op fetched id ≡ false → in_memory new.store id ≡ in_memory fetched id
+
+-- A deed that needs no page to come.
+abbrev pub PerformsAsItIs : Machine → ℕ → Deed → Outcome → Machine → Type 0
+PerformsAsItIs m actor deed outcome new = (p : Performs m m.store actor deed outcome new) × (p.came ≡ m.uses) × (p.pins ≡ pages_of (latches_held m.store (m.activity actor)))

@@ -2,6 +2,7 @@
 use Rattle.std.specs.Prelude.{◌≡◌, ℕ, ◌+◌, ◌≤◌, Bool, not, All, Any, List, ◌++◌, count_by, filter, length, map, take, Option, Some, IsSome}
 use Rattle.hb_disk.specs.Calls.{Becomes, Leaves}
 use Rattle.hb_disk.specs.Model.{DiskModel, Torn}
+use Rattle.hb_layout.specs.Offsets.{file_size}
 use Rattle.hb_space.specs.Actors.{IsActor}
 use Rattle.hb_ops.specs.Files.{FileState, contents_of}
 use Rattle.hb_ops.specs.Sound.{IsSound}
@@ -16,6 +17,7 @@ use Rattle.hb_sound.specs.PointWalks.{IsPointOf}
 use Rattle.hb_store.specs.declared.stops.StopWhy.{StopWhy}
 use Rattle.hb_store.specs.declared.stops.StopWhy.TheVariants as stops
 use Rattle.hb_store.specs.Opening.{OpensTo}
+use Rattle.hb_store.specs.States.{StoreState}
 use Rattle.hb_core.specs.FileLaws.{FilesStaySound}
 use Rattle.hb_core.specs.KeepingLaws.{StepsKeepAll}
 use Rattle.hb_core.specs.KeptMachine.{CoreKeeps}
@@ -77,8 +79,12 @@ pub record CountsFaults (d e : DiskModel) (answers : List Answered) (before afte
   pub read : HasReadFault answers → Rose d.read_faults e.read_faults
   pub write : after ≡ Some stops.WriteFault → (before ≡ Some stops.WriteFault → ⊥) → Rose d.write_faults e.write_faults
 
+-- Nothing outside the file becomes other bytes, where the log's area is a part of it.
+abbrev pub ChangesFile : StoreState → List ℕ → List ℕ → Type 0
+ChangesFile st before after = st.log.area + st.log.len ≤ file_size st.meta → Torn 0 (file_size st.meta) before after
+
 -- Steps of these actors led from the machine to one that the core shows now, and these are the answers that came. What is known of a
--- machine of which a core takes steps stays known. Only bytes of the log's area may be other ones. Over a disk that tells, and from a
+-- machine of which a core takes steps stays known. Only bytes of the file may be other ones. Over a disk that tells, and from a
 -- machine that keeps all that it should there, crashes leave prefixes.
 pub record HasRun (d : DiskModel) (m : Machine) (actors : List ℕ) (answers : List Answered) (e : DiskModel) (c : RunningCore) : Type 0 where
   pub new : Machine
@@ -91,7 +97,7 @@ pub record HasRun (d : DiskModel) (m : Machine) (actors : List ℕ) (answers : L
   pub answers_are : AreAnswers d.told answers came
   pub left : length came + left_count new ≡ left_count m
   pub faults : CountsFaults d e answers m.stop new.stop
-  pub in_log : Becomes (Torn m.store.log.area m.store.log.len) d e
+  pub in_file : Becomes (ChangesFile m.store) d e
   pub crashes : (n : RecordSet) (files : Files) → CoreKeeps n m files → CrashesTo n d e new answers
 
 -- The laws of one step and of many by which a run goes on.

@@ -1,5 +1,5 @@
 -- Machines that are written down, and steps of theirs with what each comes to.
-use Rattle.std.specs.Prelude.{◌≡◌, ℕ, ◌==◌, nat_le, false, if◌then◌else◌, List, [], ◌∷◌, map, Some, None}
+use Rattle.std.specs.Prelude.{◌≡◌, ℕ, ◌==◌, nat_le, false, if◌then◌else◌, List, [], ◌∷◌, map, count_by, Some, None}
 use Rattle.std.specs.FinMap as finite
 use Rattle.std.specs.FinSet as set
 use Rattle.hb_frag.specs.declared.pages.Page.{Page}
@@ -16,6 +16,8 @@ use Rattle.hb_core.specs.Steps.{StepsInSequence, StepsTo}
 use Rattle.hb_layout.specs.Offsets.{log_start}
 use Rattle.hb_ops.specs.Files.{FileState}
 use Rattle.hb_set.specs.Order.{Entry}
+use Rattle.hb_pool.specs.Frames.{Use}
+use Rattle.hb_store.specs.Replay.{is_among}
 use Rattle.hb_store.specs.States.{StoreState}
 use Rattle.hb_wal.specs.Log.{Waiting}
 
@@ -34,9 +36,10 @@ pub record Scene : Type 0 where
   -- how much of the log is written, and the groups that wait
   pub written : ℕ
   pub groups : List Waiting
-  -- the pages in memory, and those in this turn's log
+  -- the pages in memory, the least recently used first; those in this turn's log, and those to be written to their places still
   pub pages : List (ℕ × Page)
   pub in_log : List ℕ
+  pub dirty : List ℕ
   -- the file that is durable, and those after each group that waits
   pub durable : FileState
   pub later : List FileState
@@ -56,6 +59,7 @@ at_start lines jobs pages file = record {
   groups = [];
   pages = pages;
   in_log = [];
+  dirty = [];
   durable = file;
   later = [];
   clock = 0;
@@ -78,8 +82,13 @@ store_of s = record {
   log = record { area = log_start 1 s.meta; len = s.meta.log; written = s.written; groups = s.groups };
   pages = finite.from_entries s.pages;
   in_log = set.from_list s.in_log;
+  dirty = set.from_list s.dirty;
   stopped = false;
 }
+
+-- its order of use: a page is pinned as many times as it is latched
+abbrev pub uses_in : Scene → List Use
+uses_in s = map (λ (one : ℕ × Page). record { id = one.0; bytes = tt {0}; dirty = is_among one.0 s.dirty; pins = count_by (λ (latch : (ℕ × ℕ) × Mode). latch.0.1 == one.0) s.latched }) s.pages
 
 -- the machine of a scene
 abbrev pub machine_of : Scene → Machine
@@ -92,6 +101,7 @@ machine_of s = record {
   order = s.order;
   stop = None;
   store = store_of s;
+  uses = uses_in s;
   files = Some (record { durable = s.durable; later = s.later });
   clock = s.clock;
 }

@@ -10,6 +10,7 @@ use Rattle.hb_activity.specs.declared.jobs.Job.{Job}
 use Rattle.hb_activity.specs.declared.activities.Activity.{Activity}
 use Rattle.hb_activity.specs.declared.activities.Activity.TheVariants as at
 use Rattle.hb_store.specs.Keeps.{StoreKeeps}
+use Rattle.hb_pool.specs.Frames.{Use}
 use Rattle.hb_store.specs.States.{StoreState}
 use Rattle.hb_store.specs.declared.stops.StopWhy.{StopWhy}
 use Rattle.hb_core.specs.Keeps.{HasNobodyElse}
@@ -33,6 +34,8 @@ pub record RunningCore : Type 0 where
   pub order : List ℕ
   pub stop : Option StopWhy
   pub store : StoreState
+  -- of the pages in memory the order of use, with their pins and marks
+  pub uses : List Use
   -- how many steps were taken
   pub taken : ℕ
 
@@ -77,6 +80,7 @@ pub record ShowsMachine (d : DiskModel) (c : RunningCore) (m : Machine) : Type 0
   pub order : map (λ e. e.line.number) m.order ≡ c.order
   pub stop : m.stop ≡ c.stop
   pub store : m.store ≡ c.store
+  pub uses : m.uses ≡ c.uses
   pub tells : IsSome d.told → ShowsFiles d m
   pub silent : d.told ≡ None → m.files ≡ None
 

@@ -18,7 +18,9 @@ use Rattle.hb_core.specs.KeptMachine.{CoreKeeps, MachineKeeps}
 use Rattle.hb_ops.specs.Files.{FileState, contents_of, page_of}
 use Rattle.hb_ops.specs.Sound.{IsSound}
 use Rattle.hb_set.specs.Order.{AreRising, Entry}
-use Rattle.hb_store.specs.States.{AreGood, IsStanding, StoreState, in_memory, is_in_log}
+use Rattle.hb_store.specs.States.{AreGood, IsStanding, StoreState, in_memory, is_dirty, is_in_log}
+use Rattle.hb_store.specs.Held.{IsTied}
+use Rattle.hb_core.specs.Using.{pins_of}
 
 -- an actor that has nothing in hand
 abbrev pub IsAtRest : Activity → Type 0
@@ -34,6 +36,7 @@ pub record IsBegunStore (st : StoreState) : Type 0 where
   pub stands : IsStanding st.turn st.meta
   pub log : st.log ≡ record { area = log_start st.turn st.meta; len = st.meta.log; written = 0; groups = [] }
   pub none_in_log : (id : ℕ) → is_in_log st id ≡ false
+  pub none_dirty : (id : ℕ) → is_dirty st id ≡ false
   pub runs : st.stopped ≡ false
   pub pages : AreGood st.meta (in_memory st)
 
@@ -50,6 +53,9 @@ pub record IsBegun (m : Machine) : Type 0 where
   pub no_order : m.order ≡ []
   pub runs : m.stop ≡ None
   pub store : IsBegunStore m.store
+  -- no page is pinned
+  pub tied : IsTied m.store m.uses
+  pub unpinned : (id : ℕ) → pins_of m.uses id ≡ 0
 
 -- So over a disk that tells, whose bytes open to this sound file.
 pub record IsBegunOver (m : Machine) (s : FileState) : Type 0 where

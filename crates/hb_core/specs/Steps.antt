@@ -19,27 +19,29 @@ use Rattle.hb_core.specs.Forcing.{Flushes, ForcesFirst, StaysSo, FlushesOnce}
 use Rattle.hb_core.specs.GivingUp.{runs_out}
 use Rattle.hb_core.specs.Locking.{HasBoxFree, IsBoxInTheWay}
 use Rattle.hb_core.specs.Machines.{Machine, settled_count}
-use Rattle.hb_core.specs.Performing.{Performs}
-use Rattle.hb_core.specs.Stages.{HasNoPlace}
+use Rattle.hb_core.specs.Performing.{PerformsAsItIs}
+use Rattle.hb_pool.specs.Pools.{places}
 use Rattle.hb_point.specs.SessionRows.{next_line, taking, WantsBoxes}
 use Rattle.hb_poster.specs.PosterRows.{IsPostingOf}
-use Rattle.hb_store.specs.Calls.{IsReady}
+use Rattle.hb_store.specs.Calls.{HasPlaces, IsReady}
 use Rattle.hb_store.specs.States.{in_memory}
 
 -- the step may change the file
 abbrev pub may_change_file : Machine → ℕ → Bool
 may_change_file m actor = may_commit (m.activity actor) m.store.meta (looked_live m.store (m.activity actor))
 
--- The step may change the file, and the log isn't ready for that; or it wants a page that isn't in memory, and there is no place
--- for it. Then it flushes in place of its row. Where nothing is left to flush, no flushing makes room.
+-- The step may change the file, and log and memory aren't ready; or it wants a page for which there is no place. Then it flushes.
+abbrev pub MayChange : Machine → Type 0
+MayChange m = IsReady m.store × HasPlaces m.uses
+
 abbrev pub IsCrowded : Machine → ℕ → Type 0
-IsCrowded m actor = HasNoPlace m.store × IsSomeAnd (wanted_by m actor) (λ wanted. in_memory m.store wanted.page ≡ None)
+IsCrowded m actor = (places m.uses ≡ 0) × IsSomeAnd (wanted_by m actor) (λ wanted. in_memory m.store wanted.page ≡ None)
 
 abbrev pub IsUnready : Machine → ℕ → Type 0
-IsUnready m actor = (IsTrue (may_change_file m actor) × (¬ (IsReady m.store))) ⊎ IsCrowded m actor
+IsUnready m actor = (IsTrue (may_change_file m actor) × (¬ (MayChange m))) ⊎ IsCrowded m actor
 
 abbrev pub GetsReady : Machine → ℕ → Outcome → Machine → Type 0
-GetsReady m actor outcome new = FlushesOnce m outcomes.Helped (Performs m m.store actor (runs_out (m.activity actor)) outcome new) outcome new
+GetsReady m actor outcome new = FlushesOnce m outcomes.Helped (PerformsAsItIs m actor (runs_out (m.activity actor)) outcome new) outcome new
 
 -- A step that wants a latch or changes the file: another actor is in the way; or the log isn't ready; or it may be done.
 abbrev pub Works : Machine → ℕ → Outcome → Machine → Type 0
@@ -59,7 +61,7 @@ pub record TakesJob (m : Machine) (deed : Deed) : Type 0 where
 abbrev pub TakesPosting : Machine → ℕ → Outcome → Machine → Type 0
 TakesPosting m actor outcome new =
     (All (λ job. job.kind ≢ Post) m.jobs × StaysSo m outcomes.Idle outcome new)
-    ⊎ ((deed : Deed) × TakesJob m deed × Performs m m.store actor deed outcome new)
+    ⊎ ((deed : Deed) × TakesJob m deed × PerformsAsItIs m actor deed outcome new)
 
 -- So does an idle consolidator.
 pub record TakesMerging (m : Machine) (deed : Deed) : Type 0 where
@@ -72,20 +74,19 @@ pub record TakesMerging (m : Machine) (deed : Deed) : Type 0 where
 abbrev pub TakesJobToMerge : Machine → ℕ → Outcome → Machine → Type 0
 TakesJobToMerge m actor outcome new =
     (All (λ job. job.kind ≢ Merge) m.jobs × StaysSo m outcomes.Idle outcome new)
-    ⊎ ((deed : Deed) × TakesMerging m deed × Performs m m.store actor deed outcome new)
+    ⊎ ((deed : Deed) × TakesMerging m deed × PerformsAsItIs m actor deed outcome new)
 
 -- A line that awaits its place is answered once that is settled. Till then the step forces.
 abbrev pub AwaitsPlace : Machine → ℕ → ℕ → Reply → ℕ → Outcome → Machine → Type 0
 AwaitsPlace m actor number reply place outcome new =
-    ((place < settled_count m) × Performs m m.store actor (answers_now number reply) outcome new)
+    ((place < settled_count m) × PerformsAsItIs m actor (answers_now number reply) outcome new)
     ⊎ ((settled_count m ≤ place) × ForcesFirst m outcomes.Moved outcome new)
 
--- An idle session takes its next line, unless another actor's lock keeps it from the line's box: then the line stays where it is.
--- For a search that takes memory.
+-- An idle session takes its next line, unless another actor's lock keeps it from the line's box. For a search that takes memory.
 abbrev pub BeginsLine : Machine → ℕ → Line → Outcome → Machine → Type 0
 BeginsLine m actor line outcome new =
     ((by : ℕ) × IsBoxInTheWay m actor (lock_of_command line.command) by × StaysSo m (outcomes.Blocked by) outcome new)
-    ⊎ (HasBoxFree m actor (lock_of_command line.command) × (Performs m m.store actor (taking line) outcome new ⊎ (WantsBoxes line.command × Performs m m.store actor (answers_now line.number replies.NoMemory) outcome new)))
+    ⊎ (HasBoxFree m actor (lock_of_command line.command) × (PerformsAsItIs m actor (taking line) outcome new ⊎ (WantsBoxes line.command × PerformsAsItIs m actor (answers_now line.number replies.NoMemory) outcome new)))
 
 -- One step of an activity. The flusher has no step before it takes any.
 abbrev pub StepsAs : Activity → Machine → ℕ → Outcome → Machine → Type 0

@@ -1,4 +1,5 @@
 -- What a page that isn't fetched makes of a step.
+use Rattle.std.specs.Prelude.{◌≡◌}
 use Rattle.hb_activity.specs.declared.dropping.DropWhy.TheVariants as drops
 use Rattle.hb_store.specs.declared.stops.FetchStop.{FetchStop}
 use Rattle.hb_store.specs.declared.stops.FetchStop.TheVariants as fetches
@@ -6,7 +7,8 @@ use Rattle.hb_store.specs.declared.stops.StopWhy.TheVariants as stops
 use Rattle.hb_core.specs.declared.halts.Halt.{Halt}
 use Rattle.hb_core.specs.declared.halts.Halt.TheVariants.{GivesUp, Stops}
 
-abbrev pub halt_of : FetchStop → Halt
-halt_of (fetches.Damaged page why) = Stops (stops.Damaged page why)
-halt_of fetches.ReadFault = GivesUp drops.ReadFault
-halt_of fetches.NoMemory = GivesUp drops.NoMemory
+-- A step for whose page there is no place is none that is done: it is made ready first.
+abbrev pub IsHaltOf : FetchStop → Halt → Type 0
+IsHaltOf (fetches.Damaged page why) halt = halt ≡ Stops (stops.Damaged page why)
+IsHaltOf fetches.ReadFault halt = halt ≡ GivesUp drops.ReadFault
+IsHaltOf fetches.Crowded halt = ⊥

@@ -16,6 +16,7 @@ use Rattle.hb_consol.specs.ConsolidatorRows.{IsMergingOf}
 use Rattle.hb_poster.specs.PosterRows.{IsPostingOf}
 use Rattle.hb_set.specs.declared.commands.Reply.TheVariants as replies
 use Rattle.hb_set.specs.declared.scripts.Line.{Line}
+use Rattle.hb_pool.specs.Frames.{Use}
 use Rattle.hb_store.specs.States.{StoreState}
 use Rattle.hb_core.specs.declared.outcomes.Outcome.{Outcome}
 use Rattle.hb_core.specs.declared.outcomes.Outcome.TheVariants as outcomes
@@ -74,13 +75,13 @@ TakesNextLine actor behind outcome old new =
 abbrev pub TakesNextPosting : ℕ → Outcome → RunningCore → RunningCore → Type 0
 TakesNextPosting actor outcome old new =
     ((outcome ≡ outcomes.Idle) × (new ≡ old) × All (λ (job : Job). job.kind ≢ Post) old.jobs)
-    ⊎ ((job : Job) × (next : Activity) × (job.kind ≡ Post) × IsPostingOf job old.store.meta.height next × DoesDeed actor (takes_job next job) outcome old new)
+    ⊎ ((job : Job) × (next : Activity) × (job.kind ≡ Post) × IsPostingOf job old.store.meta.height next × DoesDeed actor [] (takes_job next job) outcome old new)
 
 -- So does the consolidator.
 abbrev pub TakesNextMerging : ℕ → Outcome → RunningCore → RunningCore → Type 0
 TakesNextMerging actor outcome old new =
     ((outcome ≡ outcomes.Idle) × (new ≡ old) × All (λ (job : Job). job.kind ≢ Merge) old.jobs)
-    ⊎ ((job : Job) × (next : Activity) × (job.kind ≡ Merge) × IsMergingOf job old.store.meta.height next × DoesDeed actor (takes_job next job) outcome old new)
+    ⊎ ((job : Job) × (next : Activity) × (job.kind ≡ Merge) × IsMergingOf job old.store.meta.height next × DoesDeed actor [] (takes_job next job) outcome old new)
 
 -- who works off the jobs of a kind, and how many an actor has in work
 abbrev pub worker_for : JobKind → ℕ
@@ -94,8 +95,8 @@ jobs_in_work activity = if is_some (job_in_work activity) then 1 else 0
 abbrev pub all_idle : List Activity
 all_idle = replicate 16 at.SessionIdle ++ at.PosterIdle ∷ at.ConsolidatorIdle ∷ at.Flusher ∷ []
 
-abbrev pub begun_core : List Line → List ℕ → StoreState → RunningCore
-begun_core lines steps store = record {
+abbrev pub begun_core : List Line → List ℕ → StoreState → List Use → RunningCore
+begun_core lines steps store uses = record {
   lines = lines;
   steps = steps;
   behind = replicate 16 0;
@@ -105,6 +106,7 @@ begun_core lines steps store = record {
   order = [];
   stop = None;
   store = store;
+  uses = uses;
   taken = 0;
 }
 

@@ -1,11 +1,15 @@
 -- The stages of a step that wants a page or changes the file: what the core shows, and what of the machine is known.
-use Rattle.std.specs.Prelude.{◌≡◌, ◌⊎◌, ℕ, Option, Some, None, IsSome, IfSome, MatchOption}
+use Rattle.std.specs.Prelude.{◌≡◌, ◌⊎◌, ℕ, List, Option, Some, None, IsSome, is_some, IfSome, MatchOption}
 use Rattle.hb_disk.specs.Model.{DiskModel}
 use Rattle.hb_activity.specs.declared.activities.Activity.{Activity}
 use Rattle.hb_activity.specs.declared.activities.Activity.TheVariants as at
 use Rattle.hb_frag.specs.declared.pages.LivePage.{LivePage}
 use Rattle.hb_store.specs.declared.stops.StopWhy.TheVariants.{Damaged, WriteFault}
-use Rattle.hb_store.specs.States.{StoreState, in_memory}
+use Rattle.hb_core.specs.Using.{CameFor, use_number, use_wanted}
+use Rattle.hb_pool.specs.Frames.{Use}
+use Rattle.hb_store.specs.Fetching.{use_numbered}
+use Rattle.hb_store.specs.Held.{IsTied}
+use Rattle.hb_store.specs.States.{StoreState}
 use Rattle.hb_core.specs.declared.halts.Halt.{Halt}
 use Rattle.hb_core.specs.declared.halts.Halt.TheVariants.{GivesUp, Stops}
 use Rattle.hb_core.specs.Acting.{GivesUpFor, IsBadWanted, MayNeed, NeedsNumber}
@@ -13,7 +17,7 @@ use Rattle.hb_core.specs.Asking.{HasWayFree, asked_box, wanted_by}
 use Rattle.hb_core.specs.Fetching.{Brings, IsBadHead, IsFreeHead, IsWantedPage}
 use Rattle.hb_core.specs.KeptMachine.{MachineKeeps}
 use Rattle.hb_core.specs.Keeps.{HasSoundFile}
-use Rattle.hb_core.specs.Machines.{Machine, next_of, with_disk}
+use Rattle.hb_core.specs.Machines.{Machine, next_of, with_disk, with_uses}
 use Rattle.hb_core.specs.Moving.{with_standing}
 use Rattle.hb_core.specs.Rows.{IsAtHand}
 use Rattle.hb_core.specs.Showing.{RunningCore, ShowsMachine}
@@ -57,15 +61,17 @@ pub record MayWork (m : Machine) (actor : ℕ) : Type 0 where
 
 -- the machine with the pages that a core has in memory now
 abbrev pub with_memory : RunningCore → Machine → Machine
-with_memory c m = with_disk c.store m.files m.clock m
+with_memory c m = with_uses c.uses (with_disk c.store m.files m.clock m)
 
--- The wanted page is at hand, where one is wanted. The head of the free chain, which may be needed next, didn't leave.
+-- The wanted page is at hand, where one is wanted.
 pub record HasCome (m : Machine) (actor : ℕ) (d : DiskModel) (c : RunningCore) : Type 0 where
   pub may : MayWork m actor
   pub brings : Brings m (IsWantedPage (wanted_by m actor)) c.store
-  pub head : IsSome (in_memory m.store m.store.meta.free) → in_memory c.store m.store.meta.free ≡ in_memory m.store m.store.meta.free
   pub shows : ShowsMachine d c (with_memory c m)
   pub at_hand : IfSome (wanted_by m actor) (λ wanted. (page : LivePage) × IsAtHand (with_memory c m) (m.activity actor) wanted page)
+  -- it is pinned for the step
+  pub uses : c.uses ≡ use_wanted (wanted_by m actor) m.uses
+  pub tied : IsTied c.store c.uses
 
 -- And so is the number of a page, with the free head afterwards: given exactly where the row makes one.
 pub record HasPages (m : Machine) (actor : ℕ) (free : Option (ℕ × ℕ)) (d : DiskModel) (c : RunningCore) : Type 0 where
@@ -75,6 +81,8 @@ pub record HasPages (m : Machine) (actor : ℕ) (free : Option (ℕ × ℕ)) (d 
   pub at_hand : IfSome (wanted_by m actor) (λ wanted. (page : LivePage) × IsAtHand (with_memory c m) (m.activity actor) wanted page)
   pub number : MatchOption free (¬ (NeedsNumber (m.activity actor) (wanted_by m actor) (with_memory c m)))
       (λ next. NeedsNumber (m.activity actor) (wanted_by m actor) (with_memory c m) × (next_of c.store ≡ Some next))
+  pub uses : c.uses ≡ use_number (is_some free) m.store.meta (use_wanted (wanted_by m actor) m.uses)
+  pub tied : IsTied c.store c.uses
 
 -- A core shows a machine but for where this actor stands.
 abbrev pub ShowsBut : DiskModel → RunningCore → ℕ → Machine → Type 0
@@ -87,10 +95,20 @@ IsHalt m actor st (Stops WriteFault) = ⊥
 IsHalt m actor st (Stops (Damaged page why)) = IsBadWanted m.files st (wanted_by m actor) (asked_box (m.activity actor) st) page why
     ⊎ (NeedsNumber (m.activity actor) (wanted_by m actor) (with_disk st m.files m.clock m) × IsBadHead m.files st page why)
 
-pub record Halts (m : Machine) (actor : ℕ) (halt : Halt) (d : DiskModel) (c : RunningCore) : Type 0 where
+-- `used` is what is known of the order of use then.
+pub record HaltsWith (used : List Use → Type 0) (m : Machine) (actor : ℕ) (halt : Halt) (d : DiskModel) (c : RunningCore) : Type 0 where
   pub brings : Brings m (MayNeed m actor c.store) c.store
   pub shows : ShowsBut d c actor (with_memory c m)
   pub cause : IsHalt m actor c.store halt
+  pub used_is : used c.uses
+  pub tied : IsTied c.store c.uses
+
+-- The wanted page isn't pinned for the step any more; or it is so still.
+abbrev pub Halts : Machine → ℕ → Halt → DiskModel → RunningCore → Type 0
+Halts m actor halt d c = HaltsWith (CameFor (wanted_by m actor) m.store.meta m.uses) m actor halt d c
+
+abbrev pub HaltsPinned : Machine → ℕ → Halt → DiskModel → RunningCore → Type 0
+HaltsPinned m actor halt d c = HaltsWith (λ uses. (uses ≡ use_wanted (wanted_by m actor) m.uses) ⊎ (uses ≡ use_numbered m.store.meta (use_wanted (wanted_by m actor) m.uses))) m actor halt d c
 
 abbrev pub IsStop : Halt → Type 0
 IsStop (GivesUp why) = ⊥

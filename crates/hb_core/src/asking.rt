@@ -1,13 +1,13 @@
 //! Which page a step asks for, and what it tests of that page before it latches it.
-ghost use Rattle.std.specs.Prelude.{◌≡◌, ◌↔◌, ◌≢◌, length, IsTrue, Some, IfErr, IfSome, OnOk, MatchOption};
+ghost use Rattle.std.specs.Prelude.{◌≡◌, ◌↔◌, length, IsTrue, Some, IfErr, IfSome, OnOk, MatchOption};
 ghost use Rattle.hb_activity.specs.Wanting.{may_commit, HasLeafAt};
-ghost use Rattle.hb_frag.specs.declared.pages.Page.TheVariants.{Live};
 ghost use Rattle.hb_layout.specs.Limits.{IsLayout};
-ghost use Rattle.hb_ops.specs.Given.{given as live_given};
+ghost use Rattle.hb_ops.specs.Files.{if_live};
 ghost use Rattle.hb_store.specs.declared.stops.Why.TheVariants.{Extent};
+ghost use Rattle.hb_view.specs.Views.{IsLive, IsLiveAnd};
 ghost use Rattle.hb_core.specs.Asking.{HasAskedBox, IsNotAsked, asked_box, box_at, looked_live, looked_page, whole_box};
 ghost use Rattle.hb_core.specs.CoreSeen.{core_seen};
-ghost use Rattle.hb_core.specs.Looking.{FailsTest, MayLook, PassesTest, wanted_in};
+ghost use Rattle.hb_core.specs.Looking.{FailsTest, IsOfOtherLevel, MayLook, PassesTest, wanted_in};
 ghost use Rattle.hb_core.specs.Machines.{live_here};
 ghost use Rattle.hb_core.specs.Moving.{StandsAs};
 ghost use Rattle.hb_core.specs.Working.{IsWorking};
@@ -17,10 +17,10 @@ use crate::leaf_boxes::box_by_leaf;
 use crate::state::Core;
 use hb_activity::{Activity, Wanted};
 use hb_disk::Device;
-use hb_frag::{LivePage, Page};
 use hb_layout::Meta;
 use hb_space::{Actor, Area, Point};
 use hb_store::Why;
+use hb_view::PageView;
 
 /// The box of a page that is asked for: exactly this one, or one that has it within.
 #[derive(Debug, Drop)]
@@ -64,8 +64,9 @@ impl<D: Device> Core<D> {
     }
 
     /// The page into which the next step of the activity looks.
-    fn looked(&self, activity: &Activity) -> Option<&LivePage>
-        ensures { live_given result ≡ looked_live (core_seen self.now).store activity.now }
+    fn looked(&self, activity: &Activity) -> Option<PageView<'_>>
+        ensures live { IfSome result IsLive }
+        ensures page { if_live result ≡ looked_live (core_seen self.now).store activity.now }
     {
         self.live(looked_page(activity)?)
     }
@@ -78,8 +79,8 @@ impl<D: Device> Core<D> {
     {
         let asked = self.asked_box(self.activity(actor));
         match self.store.get(wanted.page) {
-            Some(Page::Live(page)) => test_page(page, wanted, asked),
-            _ => Err(Why::Rule(2)),
+            Some(view) => test_view(&view, wanted, asked),
+            None => unreachable!(),
         }
     }
 
@@ -110,7 +111,7 @@ impl<D: Device> Core<D> {
         requires { IfSome (live_here (core_seen self.now).store id) (λ page. HasLeafAt page point.now) }
         ensures { result ≡ box_at (live_here (core_seen self.now).store id) (Some point.now) }
     {
-        box_at(self.live(id)?, point)
+        box_at(&self.live(id)?, point)
     }
 }
 
@@ -143,43 +144,57 @@ fn whole_box(meta: &Meta) -> AskedBox
 }
 
 /// The box of the page that the leaf at the point names: a sibling has the leaf's, and a child has it within its own.
-fn box_at(page: &LivePage, point: &Point) -> Option<AskedBox>
-    requires { HasLeafAt page.now point.now }
-    ensures { result ≡ box_at (Some page.now) (Some point.now) }
+fn box_at(view: &PageView<'_>, point: &Point) -> Option<AskedBox>
+    requires { IsLiveAnd view.now (λ page. HasLeafAt page point.now) }
+    ensures { result ≡ box_at (if_live (Some view.now)) (Some point.now) }
 {
-    let (leaf, area) = page.leaf_at(point);
+    let (leaf, area) = view.leaf_at(point);
     box_by_leaf(leaf, area)
 }
 
-/// Tests a page in use.
-fn test_page(page: &LivePage, wanted: Wanted, asked: Option<AskedBox>) -> Result<(), Why>
-    requires many { IfSome asked (λ asked. length asked.area.lo ≡ length page.now.area.lo) }
-    ensures passes { OnOk result ((page.now.level ≡ wanted.level) × IfSome asked (λ asked. HasAskedBox asked page.now.area)) }
-    ensures fails { IfErr result (λ why. MatchOption asked (page.now.level ≢ wanted.level) (λ asked. IsNotAsked wanted asked (Live page.now) why)) }
+/// Tests a page: it is in use, and of the level and the box that are asked for.
+fn test_view(view: &PageView<'_>, wanted: Wanted, asked: Option<AskedBox>) -> Result<(), Why>
+    requires many { IfSome (if_live (Some view.now)) (λ page. IfSome asked (λ asked. length asked.area.lo ≡ length page.area.lo)) }
+    ensures passes { OnOk result (IsLiveAnd view.now (λ page. (page.level ≡ wanted.level) × IfSome asked (λ asked. HasAskedBox asked page.area))) }
+    ensures fails { IfErr result (λ why. MatchOption asked (IsOfOtherLevel wanted view.now) (λ asked. IsNotAsked wanted asked view.now why)) }
 {
-    if page.level != wanted.level {
+    if !view.is_live() {
+        return Err(Why::Rule(2));
+    }
+    test_page(view, wanted, asked)
+}
+
+/// Tests a page in use.
+fn test_page(view: &PageView<'_>, wanted: Wanted, asked: Option<AskedBox>) -> Result<(), Why>
+    requires live { IsLive view.now }
+    requires many { IfSome (if_live (Some view.now)) (λ page. IfSome asked (λ asked. length asked.area.lo ≡ length page.area.lo)) }
+    ensures passes { OnOk result (IsLiveAnd view.now (λ page. (page.level ≡ wanted.level) × IfSome asked (λ asked. HasAskedBox asked page.area))) }
+    ensures fails { IfErr result (λ why. MatchOption asked (IsOfOtherLevel wanted view.now) (λ asked. IsNotAsked wanted asked view.now why)) }
+{
+    let found = view.level();
+    if found != wanted.level {
         return Err(Why::Level {
             asked: wanted.level,
-            found: page.level,
+            found,
         });
     }
     match asked {
-        Some(asked) => test_box(page, asked),
+        Some(asked) => test_box(view.area(), asked),
         None => Ok(()),
     }
 }
 
 /// Tests the box of a page in use.
-fn test_box(page: &LivePage, asked: AskedBox) -> Result<(), Why>
-    requires { length asked.area.lo ≡ length page.now.area.lo }
-    ensures passes { OnOk result (HasAskedBox asked page.now.area) }
-    ensures fails { IfErr result (λ why. (HasAskedBox asked page.now.area → ⊥) × (why ≡ Extent asked.area page.now.area)) }
+fn test_box(area: Area, asked: AskedBox) -> Result<(), Why>
+    requires { length asked.area.lo ≡ length area.lo }
+    ensures passes { OnOk result (HasAskedBox asked area) }
+    ensures fails { IfErr result (λ why. (HasAskedBox asked area → ⊥) × (why ≡ Extent asked.area area)) }
 {
-    if asked.is_of(&page.area) {
+    if asked.is_of(&area) {
         return Ok(());
     }
     Err(Why::Extent {
         asked: asked.area,
-        found: page.area.copy(),
+        found: area,
     })
 }

@@ -21,7 +21,8 @@ pub fn lines_stay_fit()
 {}
 
 /// After a step every page in memory is one of the file and keeps the rules that speak of a page alone,
-/// and what the file says of itself is within its limits. So it is over every disk.
+/// and what the file says of itself is within its limits, where each actor holds the latches of its activity.
+/// So it is over every disk.
 pub fn pages_stay_pages_of_the_file()
     ensures pages { PagesStayOfFile }
     ensures within { MetaStaysWithinLimits }
@@ -102,22 +103,20 @@ pub fn the_order_stays_legal()
     searches_are_exact();
 }
 
-/// Where a row has an operation, that is allowed on the pages in memory: nothing but the row's own condition
-/// keeps it from being done.
+/// Where a row has an operation, that is allowed on the pages in memory, where its actor holds the latches of
+/// its activity: nothing but the row's own condition keeps it from being done.
 #[tactic(auto, using(crate::proofs::Files::AllowedRows::rows_are_allowed))]
 pub fn rows_are_allowed()
     ensures { RowsAreAllowed }
 {}
 
 /// A machine that has taken no step keeps what every machine keeps, over any disk.
-#[tactic(auto, using(crate::proofs::Machines::Beginnings::beginning_keeps))]
 pub fn a_beginning_keeps_what_a_machine_keeps()
     ensures { BeginningKeeps }
 {}
 
 /// A machine that has taken no step, over a disk that tells a sound file, keeps all that a machine keeps there,
 /// from the contents of the file.
-#[tactic(auto, using(crate::proofs::Machines::Beginnings::beginning_keeps_all))]
 pub fn a_beginning_keeps_all()
     ensures { BeginningKeepsAll }
 {}

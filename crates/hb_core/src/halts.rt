@@ -1,8 +1,9 @@
 //! Why a step comes to no row.
-ghost use Rattle.std.specs.Prelude.{◌≡◌};
+ghost use Rattle.std.specs.Prelude.{◌≡◌, ◌≢◌};
 ghost use Rattle.hb_core.specs.declared.halts.Halt.TheVariants as halts;
 ghost use Rattle.hb_activity.specs.declared.dropping.DropWhy.TheVariants as drops;
-ghost use Rattle.hb_core.specs.Stopping.{halt_of};
+ghost use Rattle.hb_store.specs.declared.stops.FetchStop.TheVariants as fetches;
+ghost use Rattle.hb_core.specs.Stopping.{IsHaltOf};
 
 use hb_activity::DropWhy;
 use hb_space::NoMemory;
@@ -17,23 +18,23 @@ pub(crate) enum Halt {
     Stops(StopWhy),
 }
 
-impl From<FetchStop> for Halt {
-    fn from(stop: FetchStop) -> Halt
-        ensures { result ≡ halt_of stop }
-    {
-        match stop {
-            FetchStop::Damaged { page, why } => Halt::Stops(StopWhy::Damaged { page, why }),
-            FetchStop::ReadFault => Halt::GivesUp(DropWhy::ReadFault),
-            FetchStop::NoMemory => Halt::GivesUp(DropWhy::NoMemory),
-        }
-    }
-}
-
 impl From<NoMemory> for Halt {
     fn from(_refused: NoMemory) -> Halt
         ensures { result ≡ halts.GivesUp drops.NoMemory }
     {
         Halt::GivesUp(DropWhy::NoMemory)
+    }
+}
+
+/// What a page that isn't fetched makes of a step that isn't crowded out.
+pub(crate) fn halt_of(stop: FetchStop) -> Halt
+    requires { stop ≢ fetches.Crowded }
+    ensures { IsHaltOf stop result }
+{
+    match stop {
+        FetchStop::Damaged { page, why } => Halt::Stops(StopWhy::Damaged { page, why }),
+        FetchStop::ReadFault => Halt::GivesUp(DropWhy::ReadFault),
+        FetchStop::Crowded => unreachable!(),
     }
 }
 

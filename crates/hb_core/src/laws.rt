@@ -10,7 +10,9 @@ use hb_sound::laws::{
 };
 
 /// A step changes no page in use but those that its actor has for itself: it holds them exclusively, or
-/// its step wants that latch and nobody is in the way. So what another actor holds stays as it was.
+/// its step wants that latch and nobody is in the way. A page that nobody holds and that isn't to be written to
+/// its place may leave, and over a disk that doesn't tell come again as another one. So what another actor holds
+/// stays as it was.
 pub fn a_step_changes_its_own_pages()
     ensures own { OwnPagesChange }
     ensures held { HeldPagesStay }

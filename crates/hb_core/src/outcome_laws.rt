@@ -6,8 +6,8 @@ ghost use Rattle.hb_core.specs.OutcomeLaws.{AsideChangesNoFile, OutcomeIsOne, St
 
 /// Two steps of one actor from one machine say the same, and leave the lines, the answers, the stop and the
 /// clock the same, unless memory was refused to one of them, its device failed or a page was damaged. So it
-/// is over every disk. Over a disk that tells they also lead to machines that are one but for the pages that
-/// are in memory.
+/// is over every disk. Over a disk that tells they also lead to machines that are one, with the same pages in
+/// memory in the same order of use.
 pub fn a_step_has_one_outcome()
     ensures outcome { OutcomeIsOne }
     ensures state { StateIsOne }
@@ -15,8 +15,8 @@ pub fn a_step_has_one_outcome()
 
 /// A step that want of memory, a fault of the device or a damaged page has turned aside answers its actor's
 /// line `no memory` or `read fault`, drops the job that its worker has in work, or stops the machine. It
-/// leaves the lines, the jobs that wait, the order, the files, the log and what must stay in memory as they
-/// were.
+/// leaves the lines, the jobs that wait, the order, the files, the log, the dirty pages and what must stay in
+/// memory as they were.
 pub fn a_step_aside_changes_no_file()
     ensures { AsideChangesNoFile }
 {}
@@ -30,8 +30,7 @@ pub fn no_page_is_damaged()
 {}
 
 /// Of a machine that keeps all that it should, two steps of one actor say the same and lead to machines that
-/// are one but for the pages that are in memory, unless memory was refused to one of them or its device
-/// failed.
+/// are one, unless memory was refused to one of them or its device failed.
 pub fn a_kept_step_is_one()
     ensures { KeptStepIsOne }
 {}

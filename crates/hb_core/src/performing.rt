@@ -1,5 +1,5 @@
 //! How a core does what its deciders say: latches, the queue, the order, and what becomes of the line in hand.
-ghost use Rattle.std.specs.Prelude.{◌≡◌, ℕ, ◌<◌, ◌≤◌, ◌^◌, ◌++◌, length, take, drop, Some, None, IsSome, IfSome, IfOk, IfErr, IsErr, OnOk, OnErr};
+ghost use Rattle.std.specs.Prelude.{◌≡◌, ℕ, ◌<◌, ◌≤◌, ◌^◌, ◌++◌, [], length, take, drop, Some, None, IsSome, IfSome, IfOk, IfErr, IsErr, OnOk, OnErr};
 ghost use Rattle.std.specs.FinMap as map;
 ghost use Rattle.hb_latch.specs.Tables.{IsGrantable, latches_of, mode_at};
 ghost use Rattle.hb_space.specs.Actors.{IsActor};
@@ -8,7 +8,9 @@ ghost use Rattle.hb_activity.specs.Deciding.{deed_of};
 ghost use Rattle.hb_activity.specs.Queue.{AddsJobs};
 ghost use Rattle.hb_activity.specs.Walks.{walk_held};
 ghost use Rattle.std.specs.Option.{option_and_then};
-ghost use Rattle.hb_ops.specs.Given.{given as live_given};
+ghost use Rattle.hb_ops.specs.Files.{if_live};
+ghost use Rattle.hb_store.specs.Held.{IsTied};
+ghost use Rattle.hb_view.specs.Views.{IsLive};
 ghost use Rattle.hb_store.specs.States.{StoreState};
 ghost use Rattle.hb_core.specs.declared.halts.Halt.TheVariants as halts;
 ghost use Rattle.hb_activity.specs.declared.dropping.DropWhy.TheVariants as drops;
@@ -16,8 +18,10 @@ ghost use Rattle.hb_core.specs.CoreSeen.{core_seen, core_disk, Alters, ChangesBy
 ghost use Rattle.hb_core.specs.GivingUp.{gives_up, reply_for, runs_out};
 ghost use Rattle.hb_core.specs.KeptFits.{class_for};
 ghost use Rattle.hb_core.specs.Machines.{live_here};
-ghost use Rattle.hb_core.specs.Moving.{AreApart, DoesDeed, KeepsFilesBy, MayCommit, MayHave, MayStand, Queues, StandsNow, StandsAs, joins_order, number_of, placed, placed_at, pushed, said, with_jobs, with_latches, with_order, with_store};
-ghost use Rattle.hb_core.specs.Performing.{MayDo, Relatches, mode_among};
+ghost use Rattle.hb_core.specs.Moving.{AreApart, DoesDeed, KeepsFilesBy, KeepsStaying, MayCommit, MayHave, MayStand, Queues, StandsFree, StandsNow, StandsAs, joins_order, number_of, placed, placed_at, pushed, said, with_jobs, with_latches, with_order, with_order_of_use, with_store};
+ghost use Rattle.hb_core.specs.Performing.{MayDo, Relatches, latches_held, mode_among};
+ghost use Rattle.hb_core.specs.Pinning.{CanHold, CanPin, CanUnpin};
+ghost use Rattle.hb_core.specs.Using.{pages_of, pin_each, unpin_each, use_done};
 ghost use Rattle.hb_core.specs.Working.{IsWorking};
 
 use crate::halts::Halt;
@@ -27,28 +31,33 @@ use crate::state::Core;
 use arrayvec::ArrayVec;
 use hb_activity::{Activity, DropWhy, Fate, Job, Latch, Next};
 use hb_disk::Device;
-use hb_frag::LivePage;
 use hb_latch::Latches;
 use hb_latch::laws::{each_call_changes_one_latch, each_latch_counts_once};
 use hb_ops::Op;
 use hb_set::Reply;
 use hb_space::{Actor, NoMemory};
+use hb_view::PageView;
 
 impl<D: Device> Core<D> {
-    /// Performs what the decider said, with the number of the line that was in hand. For want of memory nothing changes.
+    /// Performs what the decider said, with the number of the line that was in hand. `pins` are the pages that are pinned for the actor.
+    /// For want of memory nothing changes.
     pub(crate) fn perform(
         &mut self,
         actor: Actor,
         line: Option<u32>,
         next: Next,
+        pins: &[u32],
     ) -> Result<Outcome, Halt>
         requires commit { IfSome next.op (MayCommit (D.model (core_disk self.old)) (core_seen self.old)) }
         requires stand { (st : StoreState) → MayDo next.op (length (core_seen self.old).order) (core_seen self.old).store st →
             MayStand actor (core_seen self.old).latches st (placed_at (length (core_seen self.old).order) next.then) }
         requires room { IsSome (joins_order line next.then next.fate) → length (core_seen self.old).order < length (core_seen self.old).lines }
         requires few { length (core_seen self.old).order < 2 ^ 32 }
+        requires hold { (st : StoreState) → MayDo next.op (length (core_seen self.old).order) (core_seen self.old).store st →
+            IsTied st (use_done next.op (core_seen self.old).store (core_seen self.old).uses) →
+            CanHold pins.now (pages_of (latches_held st (placed_at (length (core_seen self.old).order) next.then))) (use_done next.op (core_seen self.old).store (core_seen self.old).uses) }
         ensures does { IfOk result (λ outcome. (state : _) → line ≡ number_of (hand_of state) →
-            DoesDeed actor (placed (length (core_seen self.old).order) (deed_of state next)) outcome (core_seen self.old) (core_seen self.new)) }
+            DoesDeed actor pins.now (placed (length (core_seen self.old).order) (deed_of state next)) outcome (core_seen self.old) (core_seen self.new)) }
         ensures files { IfOk result (λ outcome. KeepsFilesBy next.op (D.model (core_disk self.old)) (core_seen self.old).store (D.model (core_disk self.new)) (core_seen self.new).store) }
         ensures why { IfErr result (λ halt. (halt ≡ halts.GivesUp drops.NoMemory) × IsSome next.op × (core_seen self.new ≡ core_seen self.old)) }
         ensures disk { core_disk self.new ≡ core_disk self.old }
@@ -63,9 +72,10 @@ impl<D: Device> Core<D> {
         let Ok(()) = self.commit(op, place) else {
             return Err(Halt::GivesUp(DropWhy::NoMemory));
         };
+        let _ = self.store.meta();
         self.add_all(jobs);
         let joins = joins(line, &then, &fate);
-        self.stand(actor, at_place(then, place));
+        self.stand_with(actor, at_place(then, place), pins);
         self.join(joins);
         Ok(outcome_of(line, fate))
     }
@@ -75,10 +85,12 @@ impl<D: Device> Core<D> {
         requires may { IfSome op (MayCommit (D.model (core_disk self.old)) (core_seen self.old)) }
         requires place { place ≡ length (core_seen self.old).order }
         ensures done { OnOk result (MayDo op place (core_seen self.old).store (core_seen self.new).store) }
+        ensures uses { OnOk result ((core_seen self.new).uses ≡ use_done op (core_seen self.old).store (core_seen self.old).uses) }
+        ensures stays { OnOk result (KeepsStaying op (core_seen self.old) (core_seen self.new).store) }
         ensures files { OnOk result (KeepsFilesBy op (D.model (core_disk self.old)) (core_seen self.old).store (D.model (core_disk self.new)) (core_seen self.new).store) }
         ensures same { OnErr result (core_seen self.new ≡ core_seen self.old) }
         ensures cause { IsErr result → IsSome op }
-        ensures rest { ChangesBy (with_store (core_seen self.new).store) self.old self.new }
+        ensures rest { ChangesBy (λ c. with_order_of_use (core_seen self.new).uses (with_store (core_seen self.new).store c)) self.old self.new }
     {
         match op {
             Some(op) => self.store.commit(op, place),
@@ -115,19 +127,66 @@ impl<D: Device> Core<D> {
         }
     }
 
-    /// The actor stands so from now on, with the latches of that and no other.
+    /// The actor stands so from now on, and holds no page before and afterwards.
     pub(crate) fn stand(&mut self, actor: Actor, next: Activity)
-        requires { MayStand actor (core_seen self.old).latches (core_seen self.old).store next }
-        ensures { Alters (StandsNow actor next) self.old self.new }
+        requires actor { IsActor actor }
+        requires none { latches_held (core_seen self.old).store next ≡ [] }
+        ensures { Alters (StandsFree actor next) self.old self.new }
     {
-        let held = next.held(self.walked(&next));
-        self.latch_all(actor, held.as_slice());
+        self.latch_all(actor, &[]);
         let _ = self.replace(actor, next);
     }
 
+    /// The actor stands so from now on, with the latches of that and no other. Its pins go over from these pages to those.
+    pub(crate) fn stand_with(&mut self, actor: Actor, next: Activity, pins: &[u32])
+        requires stand { MayStand actor (core_seen self.old).latches (core_seen self.old).store next }
+        requires pins { CanHold pins.now (pages_of (latches_held (core_seen self.old).store next)) (core_seen self.old).uses }
+        ensures { Alters (StandsNow actor pins.now next) self.old self.new }
+    {
+        let held = next.held(self.walked(&next));
+        self.latch_all(actor, held.as_slice());
+        self.unpin_all(pins);
+        self.pin_all(held.as_slice());
+        let _ = self.replace(actor, next);
+    }
+
+    /// Each of the pages is pinned once less.
+    fn unpin_all(&mut self, pages: &[u32])
+        requires { CanUnpin pages.now (core_seen self.old).uses }
+        ensures { ChangesBy (λ c. with_order_of_use (unpin_each pages.now c.uses) c) self.old self.new }
+    {
+        if let [first, rest @ ..] = pages {
+            self.store.unpin(*first);
+            self.unpin_all(rest);
+        }
+    }
+
+    /// The page of each of the latches is pinned once more.
+    fn pin_all(&mut self, latches: &[Latch])
+        requires { CanPin (pages_of latches.now) (core_seen self.old).uses }
+        ensures { ChangesBy (λ c. with_order_of_use (pin_each (pages_of latches.now) c.uses) c) self.old self.new }
+    {
+        if let [first, rest @ ..] = latches {
+            self.store.pin(first.page);
+            self.pin_all(rest);
+        }
+    }
+
+    /// The pages of the latches that the actor holds.
+    pub(crate) fn held_pages(&self, actor: Actor) -> ArrayVec<u32, 2>
+        requires actor { IsActor actor }
+        requires walks { (activity : _) → StandsAs (core_seen self.now) actor activity → IsSome (walk_held activity) → IsSome (option_and_then (live_here (core_seen self.now).store) (walk_held activity)) }
+        ensures { (activity : _) → StandsAs (core_seen self.now) actor activity → result.items ≡ pages_of (latches_held (core_seen self.now).store activity) }
+    {
+        let activity = self.activity(actor);
+        let held = activity.held(self.walked(activity));
+        pages_of(held.as_slice())
+    }
+
     /// The page that a walk holds.
-    fn walked(&self, activity: &Activity) -> Option<&LivePage>
-        ensures { live_given result ≡ option_and_then (live_here (core_seen self.now).store) (walk_held activity.now) }
+    fn walked(&self, activity: &Activity) -> Option<PageView<'_>>
+        ensures live { IfSome result IsLive }
+        ensures page { if_live result ≡ option_and_then (live_here (core_seen self.now).store) (walk_held activity.now) }
     {
         self.live(activity.walk_held()?)
     }
@@ -153,12 +212,21 @@ impl<D: Device> Core<D> {
     }
 
     /// What the actor has in hand is given up: a line is answered outside the order, and a job is dropped.
-    pub(crate) fn give_up(&mut self, actor: Actor, line: Option<u32>, why: DropWhy) -> Outcome
+    /// Its pages, which are these, are pinned for it no more.
+    pub(crate) fn give_up(
+        &mut self,
+        actor: Actor,
+        line: Option<u32>,
+        why: DropWhy,
+        pins: &[u32],
+    ) -> Outcome
         requires actor { IsActor actor }
+        requires pins { CanUnpin pins.now (core_seen self.old).uses }
+        requires tied { IsTied (core_seen self.old).store (core_seen self.old).uses }
         ensures { Alters (λ c after. (state : _) → IsWorking state → class_of state ≡ class_for actor → line ≡ number_of (hand_of state) →
-            DoesDeed actor (gives_up why state) result c after) self.old self.new }
+            DoesDeed actor pins.now (gives_up why state) result c after) self.old self.new }
     {
-        self.stand(actor, idle(actor));
+        self.stand_with(actor, idle(actor), pins);
         match line {
             Some(line) => Outcome::Answered {
                 line,
@@ -171,11 +239,15 @@ impl<D: Device> Core<D> {
     /// The log has no room, and nothing is left to flush: the line is `full`, and a job is dropped.
     pub(crate) fn run_out(&mut self, actor: Actor) -> Outcome
         requires actor { IsActor actor }
+        requires walks { (activity : _) → StandsAs (core_seen self.old) actor activity → IsSome (walk_held activity) → IsSome (option_and_then (live_here (core_seen self.old).store) (walk_held activity)) }
+        requires pins { (activity : _) → StandsAs (core_seen self.old) actor activity → CanUnpin (pages_of (latches_held (core_seen self.old).store activity)) (core_seen self.old).uses }
+        requires tied { IsTied (core_seen self.old).store (core_seen self.old).uses }
         ensures { Alters (λ c after. (state : _) → StandsAs c actor state → IsWorking state → class_of state ≡ class_for actor →
-            DoesDeed actor (runs_out state) result c after) self.old self.new }
+            DoesDeed actor (pages_of (latches_held c.store state)) (runs_out state) result c after) self.old self.new }
     {
         let line = self.line_in_hand(actor);
-        self.stand(actor, idle(actor));
+        let pins = self.held_pages(actor);
+        self.stand_with(actor, idle(actor), pins.as_slice());
         match line {
             Some(line) => Outcome::Answered {
                 line,
@@ -238,4 +310,22 @@ fn reply_for(why: DropWhy) -> Reply
         DropWhy::NoMemory => Reply::NoMemory,
         DropWhy::ReadFault => Reply::ReadFault,
     }
+}
+
+/// The pages of the latches.
+fn pages_of(latches: &[Latch]) -> ArrayVec<u32, 2>
+    requires { length latches.now ≤ 2 }
+    ensures { result.items ≡ pages_of latches.now }
+{
+    let mut pages = ArrayVec::new();
+    match latches {
+        [] => {}
+        [one] => pages.push(one.page),
+        [one, other] => {
+            pages.push(one.page);
+            pages.push(other.page);
+        }
+        _ => unreachable!(),
+    }
+    pages
 }

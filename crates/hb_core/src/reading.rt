@@ -1,9 +1,10 @@
 //! A core that has taken no step, and what can be read of a core.
-ghost use Rattle.std.specs.Prelude.{◌≡◌, ◌↔◌, ◌<◌, ◌≤◌, ◌+◌, ◌^◌, ◌++◌, length, count_by, vec_capacity, IfOk, IfErr, IsSome, IsTrue, Some, None, [], ◌∷◌, replicate, if◌then◌else◌};
+ghost use Rattle.std.specs.Prelude.{◌≡◌, ◌↔◌, ◌<◌, ◌≤◌, ◌+◌, ◌^◌, ◌++◌, length, count_by, vec_capacity, IfOk, IfErr, IfSome, IsSome, IsTrue, Some, None, [], ◌∷◌, replicate, if◌then◌else◌};
 ghost use Rattle.std.specs.List.{slice_get};
 ghost use Rattle.hb_space.specs.Actors.{IsActor};
-ghost use Rattle.hb_store.specs.Seen.{seen_as, disk_of};
-ghost use Rattle.hb_ops.specs.Given.{given as live_given};
+ghost use Rattle.hb_store.specs.Seen.{seen_as, disk_of, uses_of};
+ghost use Rattle.hb_ops.specs.Files.{if_live};
+ghost use Rattle.hb_view.specs.Views.{IsLive};
 ghost use Rattle.hb_wal.specs.Log.{mark_of};
 ghost use Rattle.hb_core.specs.CoreSeen.{core_seen, core_disk};
 ghost use Rattle.hb_activity.specs.Classes.{idle_of};
@@ -23,11 +24,11 @@ use crate::state::{ACTORS, CONSOLIDATOR, Core, POSTER, SESSIONS};
 use arrayvec::ArrayVec;
 use hb_activity::{Activity, JOBS, JobKind, Jobs};
 use hb_disk::{Device, Disk};
-use hb_frag::{LivePage, Page};
 use hb_latch::Latches;
 use hb_set::{Line, Script};
 use hb_space::{Actor, NoMemory};
 use hb_store::{StopWhy, Store};
+use hb_view::PageView;
 use std::alloc::Global;
 
 impl<D: Device> Core<D> {
@@ -41,10 +42,10 @@ impl<D: Device> Core<D> {
         script: Script,
     ) -> Result<Core<D>, (NoMemory, Store<D>)>
         requires few { length script.lines < 2 ^ 32 }
-        ensures seen { IfOk result (λ c. core_seen c ≡ begun_core script.lines script.steps (seen_as store)) }
+        ensures seen { IfOk result (λ c. core_seen c ≡ begun_core script.lines script.steps (seen_as store) (uses_of store)) }
         ensures disk { IfOk result (λ c. core_disk c ≡ disk_of store) }
         ensures back { IfErr result (λ e. e.1 ≡ store) }
-        ensures shows { IfOk result (λ c. (m : Machine) → IsBegun m → m.lines ≡ script.lines → m.store ≡ seen_as store →
+        ensures shows { IfOk result (λ c. (m : Machine) → IsBegun m → m.lines ≡ script.lines → m.store ≡ seen_as store → m.uses ≡ uses_of store →
             (IsSome (D.model (disk_of store)).told → ShowsFiles (D.model (disk_of store)) m) → ((D.model (disk_of store)).told ≡ None → m.files ≡ None) →
             ShowsMachine (D.model (core_disk c)) (core_seen c) m) }
     {
@@ -58,7 +59,7 @@ impl<D: Device> Core<D> {
         script: Script,
     ) -> Result<Core<D>, (NoMemory, Store<D>)>
         requires { length script.lines < 2 ^ 32 }
-        ensures { IsMade core_seen core_disk (begun_core script.lines script.steps (seen_as store)) (disk_of store) store result }
+        ensures { IsMade core_seen core_disk (begun_core script.lines script.steps (seen_as store) (uses_of store)) (disk_of store) store result }
     {
         match rooms(alloc, script.lines.as_slice().len()) {
             Ok((jobs, order)) => Ok(Core {
@@ -221,13 +222,12 @@ impl<D: Device> Core<D> {
     }
 
     /// The page of the number, where it is in memory and in use.
-    pub(crate) fn live(&self, id: u32) -> Option<&LivePage>
-        ensures { live_given result ≡ live_here (core_seen self.now).store id }
+    pub(crate) fn live(&self, id: u32) -> Option<PageView<'_>>
+        ensures live { IfSome result IsLive }
+        ensures page { if_live result ≡ live_here (core_seen self.now).store id }
     {
-        match self.store.get(id) {
-            Some(Page::Live(page)) => Some(page),
-            _ => None,
-        }
+        let view = self.store.get(id)?;
+        if view.is_live() { Some(view) } else { None }
     }
 }
 

@@ -172,6 +172,7 @@ impl<D: Device> Core<D> {
     {
         match self.store.flush_step() {
             Ok(Flushed::Forced) => Outcome::Helped,
+            Ok(Flushed::Written(_)) => Outcome::Helped,
             Ok(Flushed::Nothing) => self.run_out(actor),
             Err(_fault) => self.stop_for(StopWhy::WriteFault),
         }

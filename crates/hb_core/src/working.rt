@@ -1,25 +1,31 @@
 //! A step that wants a latch or changes the file.
-ghost use Rattle.std.specs.Prelude.{◌≡◌, ◌↔◌, None, IsTrue, IfOk, IfErr, IsErrAnd, IfSome, IsSomeAnd};
+ghost use Rattle.std.specs.Prelude.{◌≡◌, ◌⊎◌, ◌↔◌, ◌≤◌, ◌++◌, length, None, IsTrue, IfOk, IfErr, IsErrAnd, IfSome, IsSomeAnd};
 ghost use Rattle.hb_latch.specs.Tables.{IsGrantable, IsLeastInTheWay};
 ghost use Rattle.hb_activity.specs.Classes.{hand_of};
 ghost use Rattle.hb_core.specs.Acting.{DoesRow};
 ghost use Rattle.hb_activity.specs.Wanting.{may_commit};
-ghost use Rattle.hb_store.specs.Calls.{IsReady};
+ghost use Rattle.hb_pool.specs.Pools.{places};
+ghost use Rattle.hb_store.specs.Calls.{HasPlaces, IsReady};
+ghost use Rattle.hb_store.specs.States.{in_memory};
 ghost use Rattle.hb_core.specs.Asking.{looked_live};
-ghost use Rattle.hb_core.specs.CoreSeen.{core_seen, core_disk};
+ghost use Rattle.hb_core.specs.CoreSeen.{core_seen, core_disk, ChangesBy};
 ghost use Rattle.hb_core.specs.Machines.{Machine};
-ghost use Rattle.hb_core.specs.Moving.{StandsAs, number_of};
+ghost use Rattle.hb_core.specs.Moving.{StandsAs, number_of, with_order_of_use};
+ghost use Rattle.hb_core.specs.Performing.{latches_held};
+ghost use Rattle.hb_core.specs.Pinning.{CanUnpin};
+ghost use Rattle.hb_core.specs.Using.{page_wanted, pages_of, unpin_each};
 ghost use Rattle.hb_core.specs.Showing.{ShowsMachine};
 ghost use Rattle.hb_core.specs.Steps.{Works};
 ghost use Rattle.hb_disk.specs.Calls.{ReadsOnly};
 ghost use Rattle.hb_core.specs.Touching.{IsReadHalt, Touches};
-ghost use Rattle.hb_core.specs.Working.{Halts, IsStop, IsWorking, MayStep, MayWork};
-ghost use Rattle.hb_core.specs.Relied.{IsAtWork, MayDoRow, MayLookFor};
+ghost use Rattle.hb_core.specs.Working.{Halts, HaltsPinned, HasCome, IsStop, IsWorking, MayStep, MayWork};
+ghost use Rattle.hb_core.specs.Relied.{IsAtWork, MayDoRow, MayLookFor, MayNumber};
 
 use crate::halts::Halt;
 use crate::machine_laws::rows_may_be_done;
 use crate::outcomes::Outcome;
 use crate::state::Core;
+use arrayvec::ArrayVec;
 use hb_activity::Wanted;
 use hb_disk::Device;
 use hb_space::Actor;
@@ -37,24 +43,48 @@ impl<D: Device> Core<D> {
         if let Some(by) = self.in_the_way(actor, wanted) {
             return Outcome::Blocked { by };
         }
-        if self.is_unready(actor) {
+        if self.is_unready(actor, wanted) {
             return self.get_ready(actor);
         }
         let line = self.line_in_hand(actor);
-        match self.do_row(actor, wanted, line) {
+        let pins = self.held_pages(actor);
+        match self.do_row(actor, wanted, line, pins.as_slice()) {
             Ok(outcome) => outcome,
-            Err(Halt::GivesUp(why)) => self.give_up(actor, line, why),
+            Err(Halt::GivesUp(why)) => self.give_up(actor, line, why, pins.as_slice()),
             Err(Halt::Stops(why)) => self.stop_for(why),
         }
     }
 
-    /// Whether the actor's next step may change the file, and the log isn't ready for a change.
-    fn is_unready(&self, actor: Actor) -> bool
+    /// Whether the actor's next step may change the file, and log and memory aren't ready for a change; or there is no place for the
+    /// page that it wants.
+    fn is_unready(&self, actor: Actor, wanted: Option<Wanted>) -> bool
         requires { MayLookFor (core_seen self.now) actor }
         ensures { (activity : _) → StandsAs (core_seen self.now) actor activity →
-            (IsTrue result ↔ (IsTrue (may_commit activity (core_seen self.now).store.meta (looked_live (core_seen self.now).store activity)) × (¬ (IsReady (core_seen self.now).store)))) }
+            (IsTrue result ↔ ((IsTrue (may_commit activity (core_seen self.now).store.meta (looked_live (core_seen self.now).store activity))
+            × (¬ (IsReady (core_seen self.now).store × HasPlaces (core_seen self.now).uses)))
+            ⊎ ((places (core_seen self.now).uses ≡ 0) × IsSomeAnd wanted (λ w. in_memory (core_seen self.now).store w.page ≡ None)))) }
+    {
+        self.changes_unready(actor) || self.is_crowded(wanted)
+    }
+
+    /// Whether the actor's next step may change the file, and log and memory aren't ready for a change.
+    fn changes_unready(&self, actor: Actor) -> bool
+        requires { MayLookFor (core_seen self.now) actor }
+        ensures { (activity : _) → StandsAs (core_seen self.now) actor activity →
+            (IsTrue result ↔ (IsTrue (may_commit activity (core_seen self.now).store.meta (looked_live (core_seen self.now).store activity))
+            × (¬ (IsReady (core_seen self.now).store × HasPlaces (core_seen self.now).uses)))) }
     {
         self.may_commit(actor) && !self.store.ready()
+    }
+
+    /// Whether a page is wanted that isn't in memory, and there is no place for it.
+    fn is_crowded(&self, wanted: Option<Wanted>) -> bool
+        ensures { IsTrue result ↔ ((places (core_seen self.now).uses ≡ 0) × IsSomeAnd wanted (λ w. in_memory (core_seen self.now).store w.page ≡ None)) }
+    {
+        match wanted {
+            Some(wanted) => self.store.places() == 0 && self.store.get(wanted.page).is_none(),
+            None => false,
+        }
     }
 
     /// The least other actor that is in the way of the latch.
@@ -66,15 +96,18 @@ impl<D: Device> Core<D> {
         self.latches.in_the_way(actor, wanted.page, wanted.mode)
     }
 
-    /// Does the row: brings what it needs, asks the decider, and performs what that says.
+    /// Does the row: brings the wanted page, which is pinned for the step, and does what is left of it. `pins` are the pages that
+    /// the actor holds.
     fn do_row(
         &mut self,
         actor: Actor,
         wanted: Option<Wanted>,
         line: Option<u32>,
+        pins: &[u32],
     ) -> Result<Outcome, Halt>
         requires row { MayDoRow (D.model (core_disk self.old)) (core_seen self.old) actor wanted }
         requires line { (m : Machine) → MayStep (D.model (core_disk self.old)) (core_seen self.old) m → line ≡ number_of (hand_of (m.activity actor)) }
+        requires pins { (m : Machine) → MayStep (D.model (core_disk self.old)) (core_seen self.old) m → pins.now ≡ pages_of (latches_held m.store (m.activity actor)) }
         ensures done { IfOk result (λ outcome. (m : Machine) → MayStep (D.model (core_disk self.old)) (core_seen self.old) m → MayWork m actor →
             (new : Machine) × DoesRow m actor outcome new × ShowsMachine (D.model (core_disk self.new)) (core_seen self.new) new) }
         ensures halts { IfErr result (λ halt. (m : Machine) → MayStep (D.model (core_disk self.old)) (core_seen self.old) m → MayWork m actor →
@@ -84,14 +117,73 @@ impl<D: Device> Core<D> {
         ensures intact { IfErr result (λ halt. IsStop halt → (core_seen self.new).activities ≡ (core_seen self.old).activities) }
     {
         self.bring(actor, wanted)?;
+        match self.row_there(actor, wanted, line, pins) {
+            Ok(outcome) => Ok(outcome),
+            Err(halt) => {
+                self.let_go(wanted);
+                Err(halt)
+            }
+        }
+    }
+
+    /// Does the row at the page that came: takes a number where it makes a page, asks the decider, and performs what that says.
+    fn row_there(
+        &mut self,
+        actor: Actor,
+        wanted: Option<Wanted>,
+        line: Option<u32>,
+        pins: &[u32],
+    ) -> Result<Outcome, Halt>
+        requires row { MayNumber (D.model (core_disk self.old)) (core_seen self.old) actor wanted }
+        requires line { (m : Machine) → HasCome m actor (D.model (core_disk self.old)) (core_seen self.old) → line ≡ number_of (hand_of (m.activity actor)) }
+        requires pins { (m : Machine) → HasCome m actor (D.model (core_disk self.old)) (core_seen self.old) → pins.now ≡ pages_of (latches_held m.store (m.activity actor)) }
+        ensures done { IfOk result (λ outcome. (m : Machine) → HasCome m actor (D.model (core_disk self.old)) (core_seen self.old) →
+            (new : Machine) × DoesRow m actor outcome new × ShowsMachine (D.model (core_disk self.new)) (core_seen self.new) new) }
+        ensures halts { IfErr result (λ halt. (m : Machine) → HasCome m actor (D.model (core_disk self.old)) (core_seen self.old) →
+            HaltsPinned m actor halt (D.model (core_disk self.new)) (core_seen self.new)) }
+        ensures reads { ReadsOnly (IsErrAnd result IsReadHalt) (D.model (core_disk self.old)) (D.model (core_disk self.new)) }
+        ensures intact { IfErr result (λ halt. IsStop halt → (core_seen self.new).activities ≡ (core_seen self.old).activities) }
+    {
         let free = self.number(actor, wanted)?;
         match self.decide(actor, wanted, free) {
             Ok(next) => {
                 rows_may_be_done();
                 a_store_keeps_one_file(&self.store);
-                self.perform(actor, line, next)
+                let pinned = with_wanted(wanted, pins);
+                self.perform(actor, line, next, pinned.as_slice())
             }
             Err(refused) => Err(Halt::from(refused)),
         }
     }
+
+    /// The wanted page isn't pinned for the step any more.
+    fn let_go(&mut self, wanted: Option<Wanted>)
+        requires { CanUnpin (page_wanted wanted) (core_seen self.old).uses }
+        ensures { ChangesBy (λ c. with_order_of_use (unpin_each (page_wanted wanted) c.uses) c) self.old self.new }
+    {
+        if let Some(wanted) = wanted {
+            self.store.unpin(wanted.page);
+        }
+    }
+}
+
+/// The wanted page, and the pages that the actor holds.
+fn with_wanted(wanted: Option<Wanted>, pins: &[u32]) -> ArrayVec<u32, 3>
+    requires { length pins.now ≤ 2 }
+    ensures { result.items ≡ page_wanted wanted ++ pins.now }
+{
+    let mut pinned = ArrayVec::new();
+    if let Some(wanted) = wanted {
+        pinned.push(wanted.page);
+    }
+    match pins {
+        [] => {}
+        [one] => pinned.push(*one),
+        [one, other] => {
+            pinned.push(*one);
+            pinned.push(*other);
+        }
+        _ => unreachable!(),
+    }
+    pinned
 }

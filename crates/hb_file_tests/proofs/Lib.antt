@@ -1,2 +1,3 @@
 pub mod LightPages
+pub mod Staying
 pub mod Untold

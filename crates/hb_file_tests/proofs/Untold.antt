@@ -1,38 +1,183 @@
--- What tests use of a store: over a disk that tells nothing no licence is owed, and reads leave the groups as they are.
-use Rattle.std.proofs.Common.{◌≡◌, inl, inr, ℕ, ◌≤◌, true, false, List, [], ◌∷◌, All, sym, ap, ◌∙◌, subst}
-use Rattle.std.proofs.lemmas.List.Elements.{All-tail}
+-- What tests use of a store: over a disk that tells nothing no licence is owed, and each call leaves a driven store driven.
+use Rattle.std.proofs.Common.{◌≡◌, ◌≢◌, inl, inr, ℕ, ◌<◌, ◌≤◌, ◌==◌, Bool, true, false, cond, List, [], ◌∷◌, ◌++◌, All, Option, Some, None, IsSome, IsTrue, Result, Ok, Err, OnOk, refl, sym, ap, ◌∙◌, subst, arith}
+use Rattle.std.specs.Prelude.{◌||◌, IsOk, IsSomeAnd, MatchOption}
+use Rattle.std.specs.Option.{is_some}
+use Rattle.std.proofs.lemmas.Bool.{eq-eqb, eqb-true, or_cases, or_right}
+use Rattle.std.proofs.lemmas.List.Elements.{All-append, All-head, All-nil, All-tail}
+use Rattle.hb_lemmas.proofs.Lists.{All-alone}
+use Rattle.hb_lemmas.proofs.Options.{not_none, some_value}
+use Rattle.hb_disk.specs.Model.{DiskModel, Stays}
 use Rattle.hb_disk.specs.Untold.{untold_of}
+use Rattle.hb_frag.specs.declared.pages.Page.{Page}
+use Rattle.hb_layout.specs.declared.meta.Meta.{Meta}
 use Rattle.hb_wal.specs.Log.{LogState, Waiting, left_waiting}
 use Rattle.hb_ops.specs.declared.operations.Op.{Op}
 use Rattle.hb_ops.specs.Files.{FileState}
-use Rattle.hb_ops.specs.Operations.{IsLicensed}
-use Rattle.hb_store.specs.Calls.{Fetched}
-use Rattle.hb_store.specs.States.{StoreState}
+use Rattle.hb_ops.specs.Operations.{IsLicensed, reads_of}
+use Rattle.hb_ops.proofs.Facts.AllowedOps.{reads_some}
+use Rattle.hb_pool.specs.Frames.{Use, has_id, must_stay, pinned}
+use Rattle.hb_pool.specs.Pools.{frame_of, put_last}
+use Rattle.hb_store.specs.Calls.{Commits, Fetched, HasPlaceFor, HasPlaces, IsAllowedHere, StaysHere, numbers_changed, use_changed, use_fetched}
+use Rattle.hb_store.specs.States.{IsNew, StoreState, in_memory}
 use Rattle.hb_store.specs.Keeps.{StoreKeeps, last_of}
-use Rattle.hb_store.specs.Fetching.{MayFetch}
-use Rattle.hb_store.specs.Forced.{forced_state}
+use Rattle.hb_store.specs.Fetching.{MayFetch, use_numbered}
+use Rattle.hb_store.specs.Forced.{WritesOldest, forced_state}
+use Rattle.hb_store.specs.Held.{IsTied, StoreHeld, oldest_dirty}
+use Rattle.hb_store.specs.Replay.{is_among}
+use Rattle.hb_store.specs.WritingHome.{FlushesHome, WritesHome}
+use Rattle.hb_store.specs.declared.stops.WriteFault.{WriteFault}
+use Rattle.hb_file_tests.specs.Driven.{AllStay, FewPins, IsDrivenHere, IsPinned}
+use Rattle.hb_file_tests.proofs.Staying.{changed_stay, fetched_all, fetched_frame, found_all, pinned_last, pinned_on, pinned_stay, pinned_then}
 
 pub licensed : (size reads writes : ℕ) (st : StoreState) (op : Op) (durable : FileState) (later : List FileState) → StoreKeeps (untold_of size reads writes) st durable later → IsLicensed (last_of durable later) op
 licensed size reads writes st op durable later keeps = let told : false ≡ true = keeps.disk.told in absurd cc
 
+abbrev IsEarly : Waiting → Type 0
+IsEarly g = g.mark ≤ 7
+
+-- ---- frames and pages
+
+framed : (st : StoreState) (uses : List Use) (id : ℕ) → IsTied st uses → IsSome (in_memory st id) → IsSome (frame_of uses id)
+framed st uses id tied some = sym (tied.there id) ∙ some
+
+unframed : (st : StoreState) (uses : List Use) (id : ℕ) → IsTied st uses → in_memory st id ≡ None → frame_of uses id ≡ None
+unframed st uses id tied none = by (frame_of uses id) (sym (tied.there id) ∙ ap (λ (o : Option Page). is_some o) none)
+  where
+    by : (o : Option Use) → is_some o ≡ false → o ≡ None
+    by None off = refl
+    by (Some u) off = absurd cc
+
+-- a store without pages
+no_frames : (uses : List Use) → ((id : ℕ) → frame_of uses id ≡ None) → uses ≡ []
+no_frames [] none = refl
+no_frames (u ∷ rest) none =
+    let here : frame_of (u ∷ rest) u.id ≡ Some u = ap (λ (b : Bool). cond b (Some u) (frame_of rest u.id)) (eq-eqb u.id u.id refl) in
+    absurd (not_none (frame_of (u ∷ rest) u.id) u here (none u.id))
+
+new_uses : (turn : ℕ) (meta : Meta) (st : StoreState) (uses : List Use) → IsNew turn meta st → IsTied st uses → uses ≡ []
+new_uses turn meta st uses new tied = no_frames uses (λ id. unframed st uses id tied (new.no_page id))
+
+pub new_driven : (turn : ℕ) (meta : Meta) (st : StoreState) (uses : List Use) → IsNew turn meta st → IsTied st uses → IsDrivenHere st uses
+new_driven turn meta st uses new tied = record {
+  running = new.running;
+  marks = subst (λ (log : LogState). All IsEarly log.groups) (sym new.log_is) (All-nil IsEarly);
+  stay = subst AllStay (sym (new_uses turn meta st uses new tied)) (All-nil (λ (u : Use). IsTrue (must_stay u)));
+}
+
+pub new_few : (uses : List Use) → uses ≡ [] → FewPins uses
+new_few uses none = subst FewPins (sym none) (All-nil (λ (u : Use). u.pins ≤ 1))
+
+-- ---- fetches and pins
+
+pub same_driven : (st new : StoreState) (uses after : List Use) → new ≡ st → after ≡ uses → IsDrivenHere st uses → IsDrivenHere new after
+same_driven st new uses after same order driven = subst (λ (s : StoreState). IsDrivenHere s after) (sym same) (subst (λ (l : List Use). IsDrivenHere st l) (sym order) driven)
+
 pub fetched_runs : (id : ℕ) (old new : StoreState) → Fetched id old new → old.stopped ≡ false → new.stopped ≡ false
 fetched_runs id old new fetched runs = fetched.rest.stopped ∙ runs
 
-pub fetched_marks : (id : ℕ) (old new : StoreState) → Fetched id old new → All (λ (g : Waiting). g.mark ≤ 7) old.log.groups → All (λ (g : Waiting). g.mark ≤ 7) new.log.groups
-fetched_marks id old new fetched marks = subst (λ (log : LogState). All (λ (g : Waiting). g.mark ≤ 7) log.groups) (sym fetched.rest.log) marks
+fetched_driven : (id : ℕ) (st new : StoreState) (uses after : List Use) → Fetched id st new → AllStay after → IsDrivenHere st uses → IsDrivenHere new after
+fetched_driven id st new uses after fetched stay driven = record {
+  running = fetched.rest.stopped ∙ driven.running;
+  marks = subst (λ (log : LogState). All IsEarly log.groups) (sym fetched.rest.log) driven.marks;
+  stay = stay;
+}
 
-pub next_runs : (id : ℕ) (old new : StoreState) → MayFetch id old new → old.stopped ≡ false → new.stopped ≡ false
-next_runs id old new (inl same) runs = ap (λ (st : StoreState). st.stopped) same ∙ runs
-next_runs id old new (inr fetched) runs = fetched_runs id old new fetched runs
+-- a page that wasn't there may be pinned once it is
+pub new_may_pin : (id : ℕ) (st : StoreState) (uses after : List Use) → IsTied st uses → in_memory st id ≡ None → after ≡ use_fetched id uses → IsSomeAnd (frame_of after id) (λ (u : Use). u.pins < 255)
+new_may_pin id st uses after tied none order =
+    let Q : Option Use → Type 0 = λ o. IsSomeAnd o (λ (u : Use). u.pins < 255) in
+    subst Q (sym (ap (λ (l : List Use). frame_of l id) order ∙ fetched_frame uses id (unframed st uses id tied none))) (omega arith)
 
-pub next_marks : (id : ℕ) (old new : StoreState) → MayFetch id old new → All (λ (g : Waiting). g.mark ≤ 7) old.log.groups → All (λ (g : Waiting). g.mark ≤ 7) new.log.groups
-next_marks id old new (inl same) marks = subst (λ (st : StoreState). All (λ (g : Waiting). g.mark ≤ 7) st.log.groups) (sym same) marks
-next_marks id old new (inr fetched) marks = fetched_marks id old new fetched marks
+pub held_driven : (id : ℕ) (st mid new : StoreState) (uses after last : List Use) → IsTied st uses → in_memory st id ≡ None → Fetched id st mid → new ≡ mid → after ≡ use_fetched id uses → last ≡ put_last id pinned after → IsDrivenHere st uses → IsDrivenHere new last
+held_driven id st mid new uses after last tied none fetched same order then driven =
+    let is : last ≡ put_last id pinned (use_fetched id uses) = then ∙ ap (λ (l : List Use). put_last id pinned l) order in
+    subst (λ (s : StoreState). IsDrivenHere s last) (sym same) (fetched_driven id st mid uses last fetched (subst AllStay (sym is) (pinned_stay uses id (unframed st uses id tied none) driven.stay)) driven)
+
+pub held_pinned : (id : ℕ) (st : StoreState) (uses after last : List Use) → IsTied st uses → in_memory st id ≡ None → after ≡ use_fetched id uses → last ≡ put_last id pinned after → IsPinned last id
+held_pinned id st uses after last tied none order then =
+    let is : last ≡ put_last id pinned (use_fetched id uses) = then ∙ ap (λ (l : List Use). put_last id pinned l) order in
+    subst (λ (l : List Use). IsPinned l id) (sym is) (pinned_then uses id (unframed st uses id tied none))
+
+pub fetched_few : (id : ℕ) (uses after : List Use) → after ≡ use_fetched id uses → FewPins uses → FewPins after
+fetched_few id uses after order few = subst FewPins (sym order) (fetched_all (λ (u : Use). u.pins ≤ 1) uses id few (omega arith))
+
+pub fetched_pinned : (id other : ℕ) (uses after : List Use) → after ≡ use_fetched id uses → IsPinned uses other → IsPinned after other
+fetched_pinned id other uses after order is = subst (λ (l : List Use). IsPinned l other) (sym order) (pinned_on uses id other is)
+
+-- a page in memory may be pinned, and unpinned then
+pub few_may_pin : (id : ℕ) (st : StoreState) (uses : List Use) → IsTied st uses → IsSome (in_memory st id) → FewPins uses → IsSomeAnd (frame_of uses id) (λ (u : Use). u.pins < 255)
+few_may_pin id st uses tied some few =
+    let f = some_value (frame_of uses id) (framed st uses id tied some) in
+    let Q : Option Use → Type 0 = λ o. IsSomeAnd o (λ (u : Use). u.pins < 255) in
+    let one : f.0.pins ≤ 1 = found_all (λ (u : Use). u.pins ≤ 1) (has_id id) uses f.0 few f.1 in
+    subst Q (sym f.1) (omega (arith, one))
+
+pub pinned_may_go : (id : ℕ) (st : StoreState) (uses after : List Use) → IsTied st uses → IsSome (in_memory st id) → after ≡ put_last id pinned uses → IsSomeAnd (frame_of after id) (λ (u : Use). 0 < u.pins)
+pinned_may_go id st uses after tied some order = subst (λ (l : List Use). IsPinned l id) (sym order) (pinned_last uses id tied.pool (framed st uses id tied some))
+
+-- ---- operations
+
+among_all : (Q : ℕ → Type 0) (ids : List ℕ) (q : ℕ) → All Q ids → IsTrue (is_among q ids) → Q q
+among_all Q [] q all is = cc is
+among_all Q (id ∷ rest) q all is = elim (or_cases (q == id) (is_among q rest) is) [
+  | inl here ↦ subst Q (sym (eqb-true q id here)) (All-head Q id rest all)
+  | inr later ↦ among_all Q rest q (All-tail Q id rest all) later
+]
+
+-- the pages that it reads stay, and there is a place
+pub has_place : (op : Op) (st : StoreState) (uses : List Use) → IsTied st uses → IsDrivenHere st uses → IsAllowedHere st op → HasPlaces uses → HasPlaceFor op st uses
+has_place op st uses tied driven allowed places = record {
+  reads = λ id among.
+      let some = among_all (λ q. IsSome (in_memory st q)) (reads_of op) id (reads_some op st.meta (in_memory st) allowed) among in
+      let f = some_value (frame_of uses id) (framed st uses id tied some) in
+      let Q : Option Use → Type 0 = λ o. IsSomeAnd o (λ (u : Use). IsTrue (must_stay u)) in
+      subst Q (sym f.1) (found_all (λ (u : Use). IsTrue (must_stay u)) (has_id id) uses f.0 driven.stay f.1);
+  place = λ id made none. omega (arith, places);
+}
+
+pub committed : (op : Op) (st new : StoreState) (uses after : List Use) → Commits op 7 st new → after ≡ use_changed (numbers_changed st op) uses → IsDrivenHere st uses → IsDrivenHere new after
+committed op st new uses after commits order driven = record {
+  running = commits.stopped ∙ driven.running;
+  marks = subst (All IsEarly) (sym commits.groups) (All-append IsEarly st.log.groups (record { bytes = commits.group; mark = 7 } ∷ []) driven.marks (All-alone IsEarly (record { bytes = commits.group; mark = 7 }) (omega arith)));
+  stay = subst AllStay (sym order) (changed_stay (numbers_changed st op) uses driven.stay);
+}
+
+-- ---- the number of a page that is made, where the free chain has none
+
+pub numbered : (st new : StoreState) (uses after : List Use) → st.meta.free ≡ 0 → MayFetch st.meta.free st new → after ≡ use_numbered st.meta uses → IsDrivenHere st uses → IsDrivenHere new after
+numbered st new uses after none may order driven =
+    let same : after ≡ uses = order ∙ ap (λ (b : Bool). cond b uses (use_fetched st.meta.free uses)) (or_right (st.meta.live == st.meta.pages) (st.meta.free == 0) (eq-eqb st.meta.free 0 none)) in
+    elim may [
+      | inl is ↦ same_driven st new uses after is same driven
+      | inr fetched ↦ fetched_driven st.meta.free st new uses after fetched (subst AllStay (sym same) driven.stay) driven
+    ]
+
+-- ---- forces and flushes
 
 -- a force leaves the groups behind the first one
-left_marks : (groups : List Waiting) → All (λ (g : Waiting). g.mark ≤ 7) groups → All (λ (g : Waiting). g.mark ≤ 7) (left_waiting groups)
+left_marks : (groups : List Waiting) → All IsEarly groups → All IsEarly (left_waiting groups)
 left_marks [] marks = marks
-left_marks (first ∷ rest) marks = All-tail (λ (g : Waiting). g.mark ≤ 7) first rest marks
+left_marks (first ∷ rest) marks = All-tail IsEarly first rest marks
 
-pub forced_marks : (old new : StoreState) → new ≡ forced_state old → All (λ (g : Waiting). g.mark ≤ 7) old.log.groups → All (λ (g : Waiting). g.mark ≤ 7) new.log.groups
-forced_marks old new same marks = subst (λ (st : StoreState). All (λ (g : Waiting). g.mark ≤ 7) st.log.groups) (sym same) (left_marks old.log.groups marks)
+pub forced : (st new : StoreState) (uses after : List Use) → new ≡ forced_state st → after ≡ uses → IsDrivenHere st uses → IsDrivenHere new after
+forced st new uses after same order driven =
+    subst (λ (s : StoreState). IsDrivenHere s after) (sym same) (subst (λ (l : List Use). IsDrivenHere (forced_state st) l) (sym order) (record {
+      running = driven.running;
+      marks = left_marks st.log.groups driven.marks;
+      stay = driven.stay;
+    }))
+
+home_runs : {T : Type 0} (t : T) (d e : DiskModel) (old new : StoreHeld) → FlushesHome {T = T} (Ok t) d e old new → old.state.stopped ≡ false → new.state.stopped ≡ false
+home_runs t d e old new home runs = by (oldest_dirty old.uses) home
+  where
+    by : (o : Option ℕ) → MatchOption o (IsOk (Ok {E = WriteFault} t) × Stays d e × (new ≡ old)) (λ id. WritesHome (Ok t) id d e old new) → new.state.stopped ≡ false
+    by None done = ap (λ (h : StoreHeld). h.state.stopped) done.2 ∙ runs
+    by (Some id) writes = ap (λ (h : StoreHeld). h.state.stopped) writes.cleaned ∙ runs
+
+pub flushed_runs : {T : Type 0} (t : T) (d e : DiskModel) (old new : StoreHeld) → (old.state.log.groups ≢ [] → WritesOldest {T = T} (Ok t) d e old.state new.state × (new.uses ≡ old.uses)) → (old.state.log.groups ≡ [] → FlushesHome {T = T} (Ok t) d e old new)
+    → old.state.stopped ≡ false → new.state.stopped ≡ false
+flushed_runs t d e old new forces cleans runs = by old.state.log.groups refl
+  where
+    by : (groups : List Waiting) → old.state.log.groups ≡ groups → new.state.stopped ≡ false
+    by [] none = home_runs t d e old new (cleans none) runs
+    by (g ∷ rest) some = ap (λ (s : StoreState). s.stopped) ((forces (λ none. let never : g ∷ rest ≡ [] = sym some ∙ none in cc never)).0.forced) ∙ runs

@@ -1,18 +1,19 @@
 //! Stores that are driven over files of several pages, as `driven_trees` lists: each allocation's number, each group, and the
-//! bytes on the disk. A driving is stopped before each of its device calls, and each call fails once. What is left is opened, and opened
-//! again after a stop inside that opening: the file has the pages after so many of the groups.
-ghost use Rattle.std.specs.Prelude.{◌≡◌, ◌≤◌, Some, true, false, All, IfSome};
-ghost use Rattle.hb_store.specs.Seen.{seen_as};
+//! bytes on the disk. A driving is stopped before each of its device calls, and each call fails once. What is left is opened, and what the
+//! last call leaves is opened again after a stop inside that opening: the file has the pages after so many of the groups.
+ghost use Rattle.std.specs.Prelude.{◌≡◌, Some, true, IfSome};
+ghost use Rattle.hb_store.specs.Seen.{seen_as, uses_of};
+ghost use Rattle.hb_file_tests.specs.Driven.{IsDrivenHere};
 
 use crate::driven_trees::{SPLIT_AGAIN, TWO_PARENTS};
-use crate::stores::{NEVER, done};
+use crate::stores::{NEVER, done, held};
 use hb_disk::{MemDisk, Pick, RotDisk};
 use hb_ops::Meta;
 use hb_restart::recover;
 use hb_store::Store;
 use std::alloc::Global;
 
-/// A driving. The file has so many bytes: these pieces at their offsets, and zeros. It is opened and these pages are fetched.
+/// A driving. The file has so many bytes: these pieces at their offsets, and zeros. It is opened and these pages are pinned.
 #[derive(Clone, Copy)]
 pub(crate) struct Tree {
     pub(crate) size: usize,
@@ -35,10 +36,10 @@ pub(crate) struct Tree {
 const TREES: [Tree; 2] = [SPLIT_AGAIN, TWO_PARENTS];
 
 /// The three kinds of images.
-const PICKS: [Pick; 3] = [Pick::Old, Pick::New, Pick::Noise(165)];
+pub(crate) const PICKS: [Pick; 3] = [Pick::Old, Pick::New, Pick::Noise(165)];
 
 /// Puts pieces at their offsets.
-fn put_all(bytes: &mut Vec<u8>, pieces: &[(usize, &[u8])]) {
+pub(crate) fn put_all(bytes: &mut Vec<u8>, pieces: &[(usize, &[u8])]) {
     for (at, piece) in pieces {
         for (place, byte) in bytes.iter_mut().skip(*at).zip(*piece) {
             *place = *byte;
@@ -47,7 +48,7 @@ fn put_all(bytes: &mut Vec<u8>, pieces: &[(usize, &[u8])]) {
 }
 
 /// The file of a tree.
-fn file(alloc: Global, tree: &Tree) -> Option<Vec<u8>> {
+pub(crate) fn file(alloc: Global, tree: &Tree) -> Option<Vec<u8>> {
     let Ok(mut bytes) = vec![in alloc; 0; tree.size] else {
         return None;
     };
@@ -56,9 +57,9 @@ fn file(alloc: Global, tree: &Tree) -> Option<Vec<u8>> {
 }
 
 /// The store of a file, over a disk that tells nothing and fails at the call of this number.
+#[tactic(auto, using(crate::proofs::Untold::new_driven))]
 fn opened(alloc: Global, bytes: Vec<u8>, failing: u64) -> Option<Store<RotDisk>>
-    ensures running { IfSome result (λ store. (seen_as store).stopped ≡ false) }
-    ensures marks { IfSome result (λ store. All (λ g. g.mark ≤ 7) (seen_as store).log.groups) }
+    ensures { IfSome result (λ store. IsDrivenHere (seen_as store) (uses_of store)) }
 {
     let calls = [failing].to_vec(alloc).ok()?;
     let disk = RotDisk {
@@ -68,42 +69,34 @@ fn opened(alloc: Global, bytes: Vec<u8>, failing: u64) -> Option<Store<RotDisk>>
         byte: 0,
     };
     match recover(alloc, disk) {
-        Ok((store, _)) => Some(store),
+        Ok((store, _)) => {
+            let _said = store.meta();
+            Some(store)
+        }
         Err(_) => None,
     }
 }
 
-/// Fetches a page.
-#[tactic(auto, using(crate::proofs::Untold::fetched_runs, crate::proofs::Untold::fetched_marks))]
-fn fetched(store: &mut Store<RotDisk>, id: u32) -> Option<()>
-    requires running { (seen_as store.old).stopped ≡ false }
-    requires marks { All (λ g. g.mark ≤ 7) (seen_as store.old).log.groups }
-    ensures running { (seen_as store.new).stopped ≡ false }
-    ensures marks { All (λ g. g.mark ≤ 7) (seen_as store.new).log.groups }
-{
-    store.fetch(id).ok()
-}
-
-/// The store of a tree's file, with its pages fetched.
-fn begun(alloc: Global, tree: &Tree, failing: u64) -> Option<Store<RotDisk>>
-    ensures running { IfSome result (λ store. (seen_as store).stopped ≡ false) }
-    ensures marks { IfSome result (λ store. All (λ g. g.mark ≤ 7) (seen_as store).log.groups) }
+/// The store of a tree's file, with its pages pinned.
+pub(crate) fn begun(alloc: Global, tree: &Tree, failing: u64) -> Option<Store<RotDisk>>
+    ensures { IfSome result (λ store. IsDrivenHere (seen_as store) (uses_of store)) }
 {
     let mut store = opened(alloc, file(alloc, tree)?, failing)?;
     for id in tree.fetched {
-        fetched(&mut store, *id)?;
+        held(&mut store, *id).ok()?;
     }
     Some(store)
 }
 
-/// The number that an allocation takes, 0 for none.
-#[tactic(auto, using(crate::proofs::Untold::next_runs, crate::proofs::Untold::next_marks))]
+/// The number that an allocation takes, 0 for none, where the free chain has no page.
+#[tactic(auto, using(crate::proofs::Untold::numbered))]
 fn number(store: &mut Store<RotDisk>) -> Option<u32>
-    requires running { (seen_as store.old).stopped ≡ false }
-    requires marks { All (λ g. g.mark ≤ 7) (seen_as store.old).log.groups }
-    ensures running { (seen_as store.new).stopped ≡ false }
-    ensures marks { All (λ g. g.mark ≤ 7) (seen_as store.new).log.groups }
+    requires { IsDrivenHere (seen_as store.old) (uses_of store.old) }
+    ensures { IfSome result (λ _. IsDrivenHere (seen_as store.new) (uses_of store.new)) }
 {
+    if store.meta().free != 0 {
+        return None;
+    }
     match store.next_page().ok()? {
         Some((id, _)) => Some(id),
         None => Some(0),
@@ -111,12 +104,14 @@ fn number(store: &mut Store<RotDisk>) -> Option<u32>
 }
 
 /// Takes a step, and forces its group. `Some(false)` where the force failed; `None` where something else isn't as it is to be.
-#[tactic(auto, using(crate::proofs::Untold::forced_marks))]
-fn stepped(alloc: Global, store: &mut Store<RotDisk>, step: (u32, &[u8], u32)) -> Option<bool>
-    requires running { (seen_as store.old).stopped ≡ false }
-    requires marks { All (λ g. g.mark ≤ 7) (seen_as store.old).log.groups }
-    ensures running { result ≡ Some true → (seen_as store.new).stopped ≡ false }
-    ensures marks { result ≡ Some true → All (λ g. g.mark ≤ 7) (seen_as store.new).log.groups }
+#[tactic(auto, using(crate::proofs::Untold::forced))]
+pub(crate) fn stepped(
+    alloc: Global,
+    store: &mut Store<RotDisk>,
+    step: (u32, &[u8], u32),
+) -> Option<bool>
+    requires { IsDrivenHere (seen_as store.old) (uses_of store.old) }
+    ensures { result ≡ Some true → IsDrivenHere (seen_as store.new) (uses_of store.new) }
 {
     let (fresh, group, pending) = step;
     if number(store)? != fresh || !done(alloc, store, group)? || store.pending() != pending {
@@ -165,7 +160,7 @@ fn a_driving_writes_these_bytes(rt: HostRuntime) {
 const ZEROS: [u8; 4096] = [0; 4096];
 
 /// Whether a page stands in its place: these fields, and zeros behind them.
-fn stands(bytes: &[u8], page: usize, fields: &[u8]) -> bool {
+pub(crate) fn stands(bytes: &[u8], page: usize, fields: &[u8]) -> bool {
     let from = page.saturating_mul(4096).saturating_add(135_168);
     let Some(place) = bytes.get(from..from.saturating_add(4096)) else {
         return false;
@@ -177,7 +172,7 @@ fn stands(bytes: &[u8], page: usize, fields: &[u8]) -> bool {
 }
 
 /// Whether the pages after so many steps stand in their places.
-fn stand(bytes: &[u8], tree: &Tree, count: usize) -> bool {
+pub(crate) fn stand(bytes: &[u8], tree: &Tree, count: usize) -> bool {
     for (from, until, page, fields) in tree.pages {
         if *from <= count && count < *until && !stands(bytes, *page, fields) {
             return false;
@@ -207,7 +202,7 @@ fn meta_numbers(meta: &Meta) -> [u32; 4] {
 }
 
 /// Whether what a crash before this call leaves opens to the file after so many steps. The disk behind that opening.
-fn image_opened(
+pub(crate) fn image_opened(
     alloc: Global,
     tree: &Tree,
     count: usize,
@@ -216,27 +211,6 @@ fn image_opened(
     pick: Pick,
 ) -> Option<MemDisk> {
     reopened(alloc, tree, count, disk.image(before, pick).ok()??)
-}
-
-/// An opening ends with this many device calls at most: a sync, a write for each of six pages, a sync, a zero, a sync, a read,
-/// two that clear what is hidden, and six of the superblock. In front of them it only reads.
-const LAST_CALLS: u64 = 19;
-
-/// The same, and also where that opening is stopped before each of its last calls in its turn. A stop before a read leaves what
-/// was opened.
-fn opens_twice(
-    alloc: Global,
-    tree: &Tree,
-    count: usize,
-    disk: &MemDisk,
-    before: u64,
-    pick: Pick,
-) -> Option<()> {
-    let again = image_opened(alloc, tree, count, disk, before, pick)?;
-    for call in again.calls().saturating_sub(LAST_CALLS)..again.calls().saturating_add(1) {
-        image_opened(alloc, tree, count, &again, call, pick)?;
-    }
-    Some(())
 }
 
 /// How many steps a crash leaves that comes before this call of the forces: a group's are a write, a sync, the write of its
@@ -256,7 +230,7 @@ fn first_lost(alloc: Global, tree: &Tree, pick: Pick) -> Option<u64> {
     };
     for call in 0..disk.calls().saturating_sub(first).saturating_add(1) {
         let count = steps_left(call, pick);
-        if opens_twice(alloc, tree, count, &disk, first.saturating_add(call), pick).is_none() {
+        if image_opened(alloc, tree, count, &disk, first.saturating_add(call), pick).is_none() {
             return Some(call);
         }
     }
@@ -273,6 +247,34 @@ fn a_driving_stops_before_each_call(rt: HostRuntime) {
                 "{} {pick:?}",
                 tree.size
             );
+        }
+    }
+}
+
+/// An opening ends with this many device calls at most: a sync, a write for each of six pages, a sync, a zero, a sync, a read,
+/// two that clear what is hidden, and six of the superblock. In front of them it only reads.
+const LAST_CALLS: u64 = 19;
+
+/// Whether what a crash leaves before the last call of a driving opens so, and again where that opening is stopped before each of its
+/// last calls in its turn. A stop before a read leaves what was opened.
+fn opens_twice(alloc: Global, tree: &Tree, pick: Pick) -> Option<()> {
+    let disk = driven(alloc, tree, NEVER)?;
+    let forces = (tree.steps.len() as u64).saturating_mul(4);
+    let count = steps_left(forces.saturating_sub(1), pick);
+    let before = disk.calls().saturating_sub(1);
+    let again = image_opened(alloc, tree, count, &disk, before, pick)?;
+    for call in again.calls().saturating_sub(LAST_CALLS)..again.calls().saturating_add(1) {
+        image_opened(alloc, tree, count, &again, call, pick)?;
+    }
+    Some(())
+}
+
+#[test]
+fn an_opening_behind_a_driving_stops(rt: HostRuntime) {
+    for tree in TREES {
+        for pick in PICKS {
+            let opened = opens_twice(rt.alloc(), &tree, pick);
+            assert_eq!(rt; opened, Some(()), "{} {pick:?}", tree.size);
         }
     }
 }

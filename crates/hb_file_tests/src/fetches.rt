@@ -2,7 +2,6 @@
 
 use crate::stores::{EMPTY, MetaNumbers, NEVER, disk, opened};
 use hb_disk::RotDisk;
-use hb_frag::Page;
 use hb_store::{FetchStop, Store, Why};
 use std::alloc::Global;
 
@@ -18,10 +17,10 @@ const RAISED: [u8; 23] = [
 /// Two numbers and a letter: the number of a page and the free head after it, and `p`, or `n` for none; a page in memory and
 /// `l` where it is in use, `f` where it is free; a page that is damaged and the rule that it breaks, and `r`; or `d` for a
 /// disk that failed.
-type Told = (u32, u32, char);
+pub(crate) type Told = (u32, u32, char);
 
 /// What a stop says.
-fn told(stop: &FetchStop) -> Told {
+pub(crate) fn told(stop: &FetchStop) -> Told {
     match stop {
         FetchStop::Damaged {
             page,
@@ -29,15 +28,15 @@ fn told(stop: &FetchStop) -> Told {
         } => (*page, u32::from(*rule), 'r'),
         FetchStop::Damaged { page, .. } => (*page, 0, 'o'),
         FetchStop::ReadFault => (0, 0, 'd'),
-        FetchStop::NoMemory => (0, 0, 'm'),
+        FetchStop::Crowded => (0, 0, 'c'),
     }
 }
 
 /// Whether the page of a number is in memory, and in use.
-fn shown(store: &Store<RotDisk>, id: u32) -> char {
+pub(crate) fn shown(store: &Store<RotDisk>, id: u32) -> char {
     match store.get(id) {
-        Some(Page::Live(_)) => 'l',
-        Some(Page::Free { .. }) => 'f',
+        Some(view) if view.is_live() => 'l',
+        Some(_) => 'f',
         None => 'n',
     }
 }

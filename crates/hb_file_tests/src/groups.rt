@@ -4,12 +4,13 @@
 ghost use Rattle.std.specs.Prelude.{◌≡◌, false, IfSome};
 ghost use Rattle.hb_store.specs.Seen.{seen_as};
 
+use crate::homes::flush;
 use crate::stores::{EMPTY, FOUR, NEVER, POINTS, SPLIT, with_groups};
 use hb_disk::{Device, RotDisk};
 use hb_frag::{Leaf, Node, Page};
 use hb_ops::Meta;
 use hb_space::Record;
-use hb_store::{Flushed, Store, Touched, read_log};
+use hb_store::{Store, Touched, read_log};
 use std::alloc::Global;
 
 /// The put of the point 1 with an empty body into page 1, as a group of the log has it. No page image.
@@ -64,7 +65,12 @@ const ROWS: [Row; 10] = [
 ];
 
 /// The store once so many of the operations were done.
-fn behind(alloc: Global, is_tree: bool, count: usize, failing: u64) -> Option<Store<RotDisk>>
+pub(crate) fn behind(
+    alloc: Global,
+    is_tree: bool,
+    count: usize,
+    failing: u64,
+) -> Option<Store<RotDisk>>
     ensures { IfSome result (λ store. (seen_as store).stopped ≡ false) }
 {
     if is_tree {
@@ -107,31 +113,34 @@ fn groups_wait(rt: HostRuntime) {
     }
 }
 
-/// Forces so many groups, and says what came of the last one: `f` is forced, `n` that none waited, `e` that it failed.
+/// Flushes so many times, and says what came of the last one, as `flush` does, or `e` for one that failed.
 fn flushed(store: &mut Store<RotDisk>, times: u8) -> char
     requires { (seen_as store.old).stopped ≡ false }
 {
     let mut last = ' ';
     for _ in 0..times {
-        match store.flush_step() {
-            Ok(Flushed::Forced) => last = 'f',
-            Ok(Flushed::Nothing) => last = 'n',
-            Err(_) => return 'e',
+        match flush(store) {
+            Some(did) => last = did,
+            None => return 'e',
         }
     }
     last
 }
 
-/// Where a call fails while two groups are forced so many times: what came of it, the bytes that wait then, the mark of the
-/// first one or else 9, and how many calls were made. Call 0 reads the page.
-const FORCES: [(u64, u8, char, u32, u32, u64); 7] = [
+/// Where a call fails while a store with two groups is flushed so many times: what came of it, the bytes that wait then, the mark
+/// of the first one or else 9, and how many calls were made. Call 0 reads the page, and call 9 writes it home.
+const FORCES: [(u64, u8, char, u32, u32, u64); 10] = [
     (NEVER, 1, 'f', 16, 7, 5),
     (NEVER, 2, 'f', 0, 9, 9),
-    (NEVER, 3, 'n', 0, 9, 9),
+    (NEVER, 3, '1', 0, 9, 10),
+    (NEVER, 4, 'n', 0, 9, 10),
     (1, 1, 'e', 4131, 7, 2),
     (2, 1, 'e', 4131, 7, 3),
     (3, 2, 'e', 4131, 7, 4),
     (4, 3, 'e', 4131, 7, 5),
+    // the page that goes home fails to be written
+    (9, 2, 'f', 0, 9, 9),
+    (9, 3, 'e', 0, 9, 10),
 ];
 
 /// Whether this comes of it.
@@ -229,7 +238,7 @@ fn a_tree_grows(rt: HostRuntime) {
 }
 
 /// Whether a record has the point of this value alone.
-fn is_of(record: &Record, value: u64) -> bool {
+pub(crate) fn is_of(record: &Record, value: u64) -> bool {
     match record.key.values() {
         [one] => *one == value,
         _ => false,

@@ -16,9 +16,13 @@ mod fetches;
 #[cfg(test)]
 mod groups;
 #[cfg(test)]
+mod homes;
+#[cfg(test)]
 mod logs;
 #[cfg(test)]
 mod openings;
+#[cfg(test)]
+mod orders;
 #[cfg(test)]
 mod sources;
 #[cfg(test)]

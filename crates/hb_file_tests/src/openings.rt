@@ -45,7 +45,7 @@ const NEXT: [u8; 41] = [
 
 /// Where the three pages that the log makes stand, and their fields: below 5 the point 1, else page 2; the points 5 and 7; and
 /// the page above. Then the superblock of the next turn.
-const LEFT: [(usize, &[u8]); 4] = [
+pub(crate) const LEFT: [(usize, &[u8]); 4] = [
     (
         139_264,
         &[
@@ -75,7 +75,7 @@ const MERGE: [u8; 19] = [0xA5, 0, 0, 0, 14, 0, 5, 0, 0, 0, 3, 0, 0, 0, 1, 0, 0, 
 
 /// What an opening leaves then: the three points in one page, the free page, the page above, and the next superblock's root,
 /// highest page, pages in use and free head.
-const MERGED: [(usize, &[u8]); 4] = [
+pub(crate) const MERGED: [(usize, &[u8]); 4] = [
     (
         139_264,
         &[

@@ -1,23 +1,25 @@
 //! Stores of small files of one attribute, by hand, over a disk that tells nothing. Where something is `None`, memory was
 //! refused, or a row of a test is wrong.
-ghost use Rattle.std.specs.Prelude.{◌≡◌, ◌<◌, ◌≤◌, ◌^◌, ℕ, true, false, get_or, All, IfSome, IsTrue, Option, Some};
+ghost use Rattle.std.specs.Prelude.{◌≡◌, ◌<◌, ◌^◌, ℕ, true, false, get_or, IfSome, IsTrue, None, OnOk, Option, Some};
 ghost use Rattle.hb_disk.specs.RotDisk.{hidden};
 ghost use Rattle.hb_frag.specs.declared.pages.Page.TheVariants.{Live};
 ghost use Rattle.hb_frag.specs.declared.pages.LivePage.{LivePage as OnePage};
 ghost use Rattle.hb_frag.specs.Leaves.{weight_of, first_named, siblings_of, WellCut};
 ghost use Rattle.hb_ops.specs.declared.operations.Op.TheVariants.{Merge as Merging};
+ghost use Rattle.hb_ops.specs.Files.{if_live};
 ghost use Rattle.hb_ops.specs.Given.{given as live_given};
 ghost use Rattle.hb_ops.specs.Operations.{BoxesMatch, OpHas, reads_of};
 ghost use Rattle.hb_store.specs.Calls.{IsAllowedHere, read_here};
-ghost use Rattle.hb_store.specs.Seen.{seen_as};
+ghost use Rattle.hb_store.specs.Seen.{seen_as, uses_of};
 ghost use Rattle.hb_store.specs.States.{in_memory};
+ghost use Rattle.hb_file_tests.specs.Driven.{IsDrivenHere, IsPinned};
 
 use hb_disk::{MemDisk, RotDisk};
 use hb_frag::{LivePage, Page};
 use hb_log_codec::{Group, decode_all};
 use hb_ops::{ChangeError, Meta, Op, change};
 use hb_space::Area;
-use hb_store::Store;
+use hb_store::{FetchStop, Store};
 use std::alloc::Global;
 
 /// What a file of one attribute and four pages says, of which one is taken.
@@ -79,10 +81,10 @@ pub(crate) fn disk(alloc: Global, log: &[u8], page: &[u8], failing: u64) -> Opti
 pub(crate) type MetaNumbers = (u32, u32, u32, u32);
 
 /// The store of a file that says so, over such a disk.
+#[tactic(auto, using(crate::proofs::Untold::new_driven))]
 pub(crate) fn opened(alloc: Global, numbers: MetaNumbers, disk: RotDisk) -> Option<Store<RotDisk>>
     requires { (hidden disk).size ≡ 155648 }
-    ensures running { IfSome result (λ store. (seen_as store).stopped ≡ false) }
-    ensures marks { IfSome result (λ store. All (λ g. g.mark ≤ 7) (seen_as store).log.groups) }
+    ensures { IfSome result (λ store. IsDrivenHere (seen_as store) (uses_of store)) }
 {
     let (pages, high, live, free) = numbers;
     if pages == 0 || pages > 4 || high == 0 || high > pages || live > pages {
@@ -96,7 +98,10 @@ pub(crate) fn opened(alloc: Global, numbers: MetaNumbers, disk: RotDisk) -> Opti
         ..FOUR
     };
     match Store::opened(alloc, disk, 0, meta) {
-        Ok(store) => Some(store),
+        Ok(store) => {
+            let _said = store.meta();
+            Some(store)
+        }
         Err(_no_memory) => None,
     }
 }
@@ -137,13 +142,23 @@ fn know_weight(store: &Store<RotDisk>, id: u32, page: &LivePage)
     let _ = store.meta();
 }
 
-/// The page in use that an operation reads at a place of its list, where it is in memory.
-fn page_read<'a>(store: &'a Store<RotDisk>, op: &Op, place: usize) -> Option<&'a LivePage>
-    ensures page { live_given result ≡ read_here (seen_as store.now) op.now place }
+/// The page of a number, where it is in memory. `None` for want of memory.
+fn page_of(alloc: Global, store: &Store<RotDisk>, id: u32) -> Option<Option<Page>>
+    ensures { IfSome result (λ page. page ≡ in_memory (seen_as store.now) id) }
+{
+    match store.get(id) {
+        Some(view) => Some(Some(view.page(alloc).ok()?)),
+        None => Some(None),
+    }
+}
+
+/// The page of a number, where it is in memory and in use.
+fn live_of<'a>(store: &Store<RotDisk>, id: u32, page: &'a Option<Page>) -> Option<&'a LivePage>
+    requires { page.now ≡ in_memory (seen_as store.now) id }
+    ensures page { live_given result ≡ if_live page.now }
     ensures light { IfSome result (λ page. weight_of page.now.frag < 2 ^ 32) }
 {
-    let id = read_at(op, place);
-    match store.get(id) {
+    match page {
         Some(Page::Live(page)) => {
             know_weight(store, id, page);
             Some(page)
@@ -194,9 +209,15 @@ fn is_allowed(alloc: Global, store: &Store<RotDisk>, op: &Op) -> Option<bool>
     ensures allowed { result ≡ Some true → IsAllowedHere (seen_as store.now) op.now }
     ensures boxes { result ≡ Some true → BoxesMatch op.now (read_here (seen_as store.now) op.now 0) (read_here (seen_as store.now) op.now 1) (read_here (seen_as store.now) op.now 2) }
 {
-    let first = page_read(store, op, 0);
-    let second = page_read(store, op, 1);
-    let third = page_read(store, op, 2);
+    let (parent, keep, gone) = (read_at(op, 0), read_at(op, 1), read_at(op, 2));
+    let (first, second, third) = (
+        page_of(alloc, store, parent)?,
+        page_of(alloc, store, keep)?,
+        page_of(alloc, store, gone)?,
+    );
+    let first = live_of(store, parent, &first);
+    let second = live_of(store, keep, &second);
+    let third = live_of(store, gone, &third);
     match change(alloc, op, store.meta(), first, second, third) {
         Ok(_) => Some(boxes_match(op, second, third)),
         Err(ChangeError::Unfit) => Some(false),
@@ -206,12 +227,10 @@ fn is_allowed(alloc: Global, store: &Store<RotDisk>, op: &Op) -> Option<bool>
 
 /// Does the operation of a group with mark 7 where it is allowed, and says whether it is. A disk that tells nothing keeps no
 /// file, so that no licence is owed.
-#[tactic(auto, using(crate::proofs::Untold::licensed))]
+#[tactic(auto, using(crate::proofs::Untold::licensed, crate::proofs::Untold::has_place, crate::proofs::Untold::committed))]
 pub(crate) fn done(alloc: Global, store: &mut Store<RotDisk>, group: &[u8]) -> Option<bool>
-    requires running { (seen_as store.old).stopped ≡ false }
-    requires marks { All (λ g. g.mark ≤ 7) (seen_as store.old).log.groups }
-    ensures running { (seen_as store.new).stopped ≡ false }
-    ensures marks { All (λ g. g.mark ≤ 7) (seen_as store.new).log.groups }
+    requires { IsDrivenHere (seen_as store.old) (uses_of store.old) }
+    ensures { IsDrivenHere (seen_as store.new) (uses_of store.new) }
 {
     let op = op_in(alloc, group)?;
     if store.meta().k != 1 || !store.ready() {
@@ -219,23 +238,31 @@ pub(crate) fn done(alloc: Global, store: &mut Store<RotDisk>, group: &[u8]) -> O
     }
     let allowed = is_allowed(alloc, store, &op)?;
     if allowed {
-        store.commit(op, 7).ok()?;
+        match store.commit(op, 7) {
+            Ok(()) => Some(true),
+            Err(_no_memory) => None,
+        }
+    } else {
+        Some(false)
     }
-    Some(allowed)
 }
 
-/// Fetches page 1.
-#[tactic(auto, using(crate::proofs::Untold::fetched_runs, crate::proofs::Untold::fetched_marks))]
-fn fetched(store: &mut Store<RotDisk>) -> Option<()>
-    requires running { (seen_as store.old).stopped ≡ false }
-    requires marks { All (λ g. g.mark ≤ 7) (seen_as store.old).log.groups }
-    ensures running { (seen_as store.new).stopped ≡ false }
-    ensures marks { All (λ g. g.mark ≤ 7) (seen_as store.new).log.groups }
+/// Fetches a page and pins it, where it isn't in memory. So it stays.
+#[tactic(auto, using(crate::proofs::Untold::new_may_pin, crate::proofs::Untold::held_driven, crate::proofs::Untold::held_pinned))]
+pub(crate) fn held(store: &mut Store<RotDisk>, id: u32) -> Result<(), FetchStop>
+    requires { IsDrivenHere (seen_as store.old) (uses_of store.old) }
+    ensures driven { IsDrivenHere (seen_as store.new) (uses_of store.new) }
+    ensures pinned { in_memory (seen_as store.old) id ≡ None → OnOk result (IsPinned (uses_of store.new) id) }
 {
-    store.fetch(1).ok()
+    if store.get(id).is_some() {
+        return Ok(());
+    }
+    store.fetch(id)?;
+    store.pin(id);
+    Ok(())
 }
 
-/// The store of a file whose page 1 is fetched and has these fields, once the operations of these groups were done where
+/// The store of a file whose page 1 is pinned and has these fields, once the operations of these groups were done where
 /// they are allowed. Its disk fails at the call of this number.
 pub(crate) fn with_groups(
     alloc: Global,
@@ -246,7 +273,7 @@ pub(crate) fn with_groups(
     ensures { IfSome result (λ store. (seen_as store).stopped ≡ false) }
 {
     let mut store = opened(alloc, (4, 1, 1, 0), disk(alloc, &[], page, failing)?)?;
-    fetched(&mut store)?;
+    held(&mut store, 1).ok()?;
     for group in groups {
         done(alloc, &mut store, group)?;
     }

@@ -1,10 +1,7 @@
 -- The parts of the decider together are the row that was asked for.
-use Rattle.std.proofs.Common.{◌≡◌, ◌≢◌, ◌⊎◌, inl, inr, ℕ, ◌<◌, Bool, cond, List, [], ◌∷◌, Option, Some, refl, sym, ap, subst, ◌∙◌, eq-eqb, ne_eqb}
-use Rattle.std.specs.Prelude.{MatchOption}
+use Rattle.std.proofs.Common.{◌≡◌, ◌⊎◌, inl, inr, ℕ, ◌<◌, List, [], ◌∷◌, Option, Some, refl, sym, ap, subst, ◌∙◌}
 use Rattle.hb_activity.proofs.Facts.GivenPages.{first_given, next_given}
 use Rattle.hb_activity.specs.Deciding.{deed_of, given_pages, given_sight, page_among}
-use Rattle.hb_activity.specs.Passing.{PassesOn}
-use Rattle.hb_activity.specs.Walks.{goal_of}
 use Rattle.hb_activity.specs.declared.activities.Activity.{Activity}
 use Rattle.hb_activity.specs.declared.activities.Activity.TheVariants as at
 use Rattle.hb_activity.specs.declared.deciding.Fate.TheVariants as fates
@@ -20,8 +17,8 @@ use Rattle.hb_ops.specs.Cutting.{reached}
 use Rattle.hb_ops.specs.declared.leaf_cuts.LeafCut.{LeafCut}
 use Rattle.hb_ops.specs.declared.operations.Op.TheVariants.{Extract, Put}
 use Rattle.hb_point.specs.Asks.{MayAsk, deed_for, line_with}
-use Rattle.hb_point.specs.Doing.{DoesBy, IsHalfFor, PutsBy, WalksBy}
-use Rattle.hb_point.specs.SessionRows.{PointRow, DoesThere}
+use Rattle.hb_point.specs.Doing.{IsHalfFor, PutsBy}
+use Rattle.hb_point.specs.SessionRows.{PointRow}
 use Rattle.hb_point.specs.SplitRows.{PutsInHalf, SplitsOrFull}
 use Rattle.hb_set.specs.declared.commands.Command.{Command}
 use Rattle.hb_set.specs.declared.commands.Command.TheVariants.{Insert}
@@ -33,22 +30,8 @@ use Rattle.hb_split.specs.Choosing.{IsChosen}
 
 -- ---- a line that was taken apart
 
-pub does_as : (meta : Meta) (line : Line) (command : Command) (id : ℕ) (page : LivePage) (next : Next) → line.command ≡ command → DoesBy meta (line_with line.number line.session command) id page next → DoesBy meta line id page next
-does_as meta line command id page next is does = subst (λ (c : Command). DoesBy meta (line_with line.number line.session c) id page next) (sym is) does
-
 pub puts_as : (line : Line) (command : Command) (source fresh : ℕ) (page : LivePage) (next : Next) → line.command ≡ command → PutsBy (line_with line.number line.session command) source fresh page next → PutsBy line source fresh page next
 puts_as line command source fresh page next is puts = subst (λ (c : Command). PutsBy (line_with line.number line.session c) source fresh page next) (sym is) puts
-
--- ---- a walk
-
-pub walk_does : (meta : Meta) (line : Line) (rest : List Area) (found : List Record) (id : ℕ) (page : LivePage) (next : Next) (p : List ℕ) → goal_of line.command rest ≡ Some p → DoesBy meta line id page next → WalksBy meta line rest found id page next
-walk_does meta line rest found id page next p goal does = λ held pages free.
-    subst (λ (o : Option (List ℕ)). MatchOption o ⊥ (λ q. PassesOn page q (at.SessionWalk line (Some id) rest found) (deed_for line next) ⊎ DoesThere (given_sight meta pages free) line line.command id page (deed_for line next))) (sym goal) (inr (does pages free))
-
-pub asked_walk : (state : Activity) (meta : Meta) (free : Option (ℕ × ℕ)) (id : ℕ) (page : LivePage) (first : Option LivePage) (next : Next) (line : Line) (held : Option ℕ) (rest : List Area) (found : List Record) → state ≡ at.SessionWalk line held rest found → WalksBy meta line rest found id page next →
-    PointRow state (given_sight meta (given_pages state id page first) free) id page (deed_of state next)
-asked_walk state meta free id page first next line held rest found is walks =
-    subst (λ (a : Activity). PointRow a (given_sight meta (given_pages a id page first) free) id page (deed_of a next)) (sym is) (walks held ((id, page) ∷ []) free)
 
 -- ---- a split
 

@@ -4,3 +4,5 @@ pub mod AllowedCommands
 pub mod SplitExamples
 pub mod AskedRows
 pub mod HeldPoints
+pub mod ViewedRows
+pub mod DescendedRows

@@ -16,8 +16,6 @@ use Rattle.hb_space.specs.declared.records.Record.{Record}
 use Rattle.hb_activity.specs.declared.deciding.Next.{Next}
 use Rattle.hb_activity.specs.Classes.{HasLine}
 use Rattle.hb_activity.specs.Deeds.{Deed}
-use Rattle.hb_layout.specs.Limits.{IsLayout}
-use Rattle.hb_ops.specs.Sound.{FitsFile}
 
 -- A walk is at a page whose box has the command's point. A search has no point.
 abbrev pub WalksInside : LivePage → Command → Type 0
@@ -25,12 +23,6 @@ WalksInside page (Insert rec) = Holds page.area rec.key
 WalksInside page (Delete point) = Holds page.area point
 WalksInside page (Lookup point) = Holds page.area point
 WalksInside page (Search area) = ⊥
-
--- a walk is at such a page, which keeps the rules of a page alone, over a file within its limits
-pub record WalksAt (meta : Meta) (page : LivePage) (command : Command) : Type 0 where
-  pub layout : IsLayout meta
-  pub made : FitsFile meta page
-  pub inside : WalksInside page command
 
 -- The page that is to be split is the one given, and it has no record at the point of the insert and no room for it.
 pub record MustSplit (meta : Meta) (free : Option (ℕ × ℕ)) (line : Line) (held id : ℕ) (page : LivePage) : Type 0 where

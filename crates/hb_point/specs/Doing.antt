@@ -1,17 +1,22 @@
 -- What the parts of the decider say to each other.
-use Rattle.std.specs.Prelude.{◌≡◌, ◌⊎◌, ℕ, length, Option, Some, List}
+use Rattle.std.specs.Prelude.{◌≡◌, ◌⊎◌, ℕ, length, Option, Some, None, List}
 use Rattle.hb_frag.specs.Leaves.{DirectlyHolds, WellCut, leaf_at}
 use Rattle.hb_frag.specs.declared.pages.LivePage.{LivePage}
+use Rattle.hb_frag.specs.declared.pages.Page.{Page}
 use Rattle.hb_layout.specs.declared.meta.Meta.{Meta}
-use Rattle.hb_set.specs.declared.commands.Command.TheVariants.{Insert}
+use Rattle.hb_set.specs.declared.commands.Command.{Command}
+use Rattle.hb_set.specs.declared.commands.Command.TheVariants.{Insert, Delete, Lookup, Search}
 use Rattle.hb_set.specs.declared.scripts.Line.{Line}
+use Rattle.hb_activity.specs.declared.activities.Activity.{Activity}
 use Rattle.hb_activity.specs.declared.activities.Activity.TheVariants as at
 use Rattle.hb_activity.specs.Deciding.{given_pages, given_sight}
 use Rattle.hb_space.specs.Boxes.{Holds, Area}
 use Rattle.hb_space.specs.declared.records.Record.{Record}
 use Rattle.hb_frag.specs.declared.leaves.Leaf.TheVariants.{Records}
 use Rattle.hb_activity.specs.declared.deciding.Next.{Next}
-use Rattle.hb_point.specs.SessionRows.{DoesThere, PointRow}
+use Rattle.hb_ops.specs.Standing.{StandsNot, StandsThere}
+use Rattle.hb_view.specs.Views.{IsLiveAnd}
+use Rattle.hb_point.specs.SessionRows.{DoesThere}
 use Rattle.hb_point.specs.SplitRows.{PutsInHalf}
 use Rattle.hb_layout.specs.Limits.{IsLayout}
 use Rattle.hb_ops.specs.Sound.{FitsFile}
@@ -23,12 +28,7 @@ pub record RecordsThere (page : LivePage) (p : List ℕ) : Type 0 where
   pub area : Area
   pub leaf : leaf_at page p ≡ Some (record { leaf = Records records; area = area })
 
--- An answer is the row of a walk at this page, whatever page the walk held before and whatever else was seen.
-abbrev pub WalksBy : Meta → Line → List Area → List Record → ℕ → LivePage → Next → Type 0
-WalksBy meta line rest found id page next = (held : Option ℕ) (pages : List (ℕ × LivePage)) (free : Option (ℕ × ℕ)) →
-    PointRow (at.SessionWalk line held rest found) (given_sight meta pages free) id page (deed_for line next)
-
--- It is a row at a leaf of records.
+-- An answer is a row at a leaf of records, whatever else was seen.
 abbrev pub DoesBy : Meta → Line → ℕ → LivePage → Next → Type 0
 DoesBy meta line id page next = (pages : List (ℕ × LivePage)) (free : Option (ℕ × ℕ)) →
     DoesThere (given_sight meta pages free) line line.command id page (deed_for line next)
@@ -49,6 +49,29 @@ pub record HasLeafOfRecords (meta : Meta) (page : LivePage) (p : List ℕ) : Typ
   pub made : FitsFile meta page
   pub inside : Holds page.area p
   pub records : RecordsThere page p
+
+-- such a page that is read from its bytes, and an answer that is a row at it
+abbrev pub HasRecordsIn : Meta → Page → List ℕ → Type 0
+HasRecordsIn meta page p = IsLiveAnd page (λ live. HasLeafOfRecords meta live p)
+
+abbrev pub DoesIn : Meta → Line → ℕ → Page → Next → Type 0
+DoesIn meta line id page next = IsLiveAnd page (λ live. DoesBy meta line id live next)
+
+-- The page is such a one at the command's point, and of a walk at its command's. A search has no point.
+abbrev pub IsAtCommand : Meta → Page → Command → Type 0
+IsAtCommand meta page (Insert rec) = HasRecordsIn meta page rec.key
+IsAtCommand meta page (Delete point) = HasRecordsIn meta page point
+IsAtCommand meta page (Lookup point) = HasRecordsIn meta page point
+IsAtCommand meta page (Search area) = ⊥
+
+abbrev pub IsAtRecords : Meta → Page → Activity → Type 0
+IsAtRecords meta page (at.SessionWalk line held rest found) = IsAtCommand meta page line.command
+IsAtRecords meta page other = ⊥
+
+-- This is the body of the record that stands at the point of a page; none does where there is none.
+abbrev pub StandsIn : LivePage → List ℕ → Option (List ℕ) → Type 0
+StandsIn page p None = StandsNot page p
+StandsIn page p (Some body) = (found : Record) × StandsThere page p found × (found.body ≡ body)
 
 -- a page to be split, over a file within its limits
 pub record PartsPage (meta : Meta) (free : Option (ℕ × ℕ)) (line : Line) (held : ℕ) (page : LivePage) : Type 0 where

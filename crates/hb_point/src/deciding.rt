@@ -3,24 +3,24 @@
 ghost use Rattle.std.specs.Prelude.{IfOk, OnErr};
 ghost use Rattle.std.specs.Option.{option_copied};
 ghost use Rattle.hb_activity.specs.Deciding.{deed_of, given_pages, given_sight};
+ghost use Rattle.hb_activity.specs.Walks.{IsSessionWalk};
 ghost use Rattle.hb_layout.specs.Limits.{IsLayout};
 ghost use Rattle.hb_ops.specs.Sound.{FitsFile};
 ghost use Rattle.hb_point.specs.Asks.{MayAsk, SplitsNow};
 ghost use Rattle.hb_point.specs.SessionRows.{PointRow};
 
 use crate::halving::{put, split};
-use crate::walking::walk;
 use hb_activity::{Activity, Next};
 use hb_frag::LivePage;
 use hb_ops::Meta;
 use hb_space::NoMemory;
 use std::alloc::Global;
 
-/// What the step of a session comes to that has an insert, a delete or a lookup in hand.
+/// What the step of a session comes to that splits a page, or puts its record into one of the halves. A walk's step is told
+/// by `descend`.
 ///
-/// `page`, of the number `id`, is the page that the step latched on a walk, or the one that the
-/// session holds and splits, or the half that stays of it. `first` is the half that left, where the
-/// record is put. `free` is the number that a page takes which is made, with the head of the free
+/// `page`, of the number `id`, is the one that the session holds and splits, or the half that stays of it. `first` is the
+/// half that left, where the record is put. `free` is the number that a page takes which is made, with the head of the free
 /// chain afterwards: `None` exactly where no page is free.
 ///
 /// # Errors
@@ -39,6 +39,7 @@ pub fn next(
 ) -> Result<Next, NoMemory>
     requires layout { IsLayout meta.now }
     requires made { FitsFile meta.now page.now }
+    requires halves { ¬ (IsSessionWalk state) }
     requires asked { MayAsk state meta.now free id page.now (option_copied first) }
     ensures row { IfOk result (λ next. PointRow state
         (given_sight meta.now (given_pages state id page.now (option_copied first.entry)) free)
@@ -46,12 +47,6 @@ pub fn next(
     ensures memory { OnErr result (SplitsNow state free) }
 {
     match state {
-        Activity::SessionWalk {
-            line,
-            rest,
-            found,
-            ..
-        } => Ok(walk(line, rest, found, id, page, meta)),
         Activity::SessionSplit { line, held } => split(alloc, line, held, page, free, meta),
         Activity::SessionPut {
             line,

@@ -6,14 +6,16 @@
 //! (`Sight` of hb_activity), each with its condition and the deed that it is:
 //! `specs/SessionRows.antt`. hb_core joins them with the rows of the other actors.
 //!
-//! `next` tells which row a step does, from the pages that the step holds, and touches nothing itself.
-//! What it may be asked is in `specs/Asks.antt`.
+//! `descend` tells which row a walk's step does, from the bytes of the page that it latched, and takes no memory. `next` tells
+//! which one a split or a put does, from the pages that the step holds. Both touch nothing themselves. What they may be
+//! asked is in `specs/Asks.antt`.
 #![tactic(auto)]
 
 mod deciding;
+mod descending;
 pub mod examples;
 mod halving;
 pub mod laws;
-mod walking;
 
 pub use deciding::next;
+pub use descending::descend;

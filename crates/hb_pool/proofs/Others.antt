@@ -88,17 +88,17 @@ module _ {X : Type 0} (p : X → Bool) where
       ] refl
 
 -- two numbers that differ are not those of one frame
-apart_ids : (id other : ℕ) → other ≢ id → (f : Frame) → has_id id f ≡ true → has_id other f ≡ false
+apart_ids : {B : Type 0} (id other : ℕ) → other ≢ id → (f : Frame B) → has_id id f ≡ true → has_id other f ≡ false
 apart_ids id other apart f is = ne_eqb f.id other (λ e. apart (sym e ∙ eqb-true f.id id is))
 
 -- what stands behind is found where nothing before it is
-found_so : (id : ℕ) (left : List Frame) (g : Frame) → frame_of (left ++ g ∷ []) id ≡ option_or (frame_of left id) (cond (has_id id g) (Some g) None)
+found_so : {B : Type 0} (id : ℕ) (left : List (Frame B)) (g : Frame B) → frame_of (left ++ g ∷ []) id ≡ option_or (frame_of left id) (cond (has_id id g) (Some g) None)
 found_so id left g = find-append (has_id id) left (g ∷ [])
 
-first_kept : (left : List Frame) (g f : Frame) (other : ℕ) → frame_of left other ≡ Some f → frame_of (left ++ g ∷ []) other ≡ Some f
+first_kept : {B : Type 0} (left : List (Frame B)) (g f : Frame B) (other : ℕ) → frame_of left other ≡ Some f → frame_of (left ++ g ∷ []) other ≡ Some f
 first_kept left g f other is = found_so other left g ∙ ap (λ o. option_or o (cond (has_id other g) (Some g) None)) is
 
-pub marked_pages_stay : MarkedPagesStay
+pub marked_pages_stay : {B : Type 0} → MarkedPagesStay B
 marked_pages_stay pool id other bytes dirty f is stays =
     let off : may_go f ≡ false = ap not stays in
     let left : frame_of (with_room pool) other ≡ Some f =
@@ -108,7 +108,7 @@ marked_pages_stay pool id other bytes dirty f is stays =
     ] in
     first_kept (with_room pool) (fresh id bytes dirty) f other left
 
-pub none_goes : NoneGoesBeforeAllAreUsed
+pub none_goes : {B : Type 0} → NoneGoesBeforeAllAreUsed B
 none_goes pool id bytes dirty lt =
     ap (λ b. cond b pool (remove_key may_go pool) ++ fresh id bytes dirty ∷ []) (lt-ltb (length pool) FRAMES lt)
 
@@ -124,21 +124,21 @@ absent_left p q (y ∷ ys) none =
       ]
     ] refl none
 
-pub came_in : WhatCameInIsThere
-came_in pool id bytes dirty absent =
+pub came_in : {B : Type 0} → WhatCameInIsThere B
+came_in {B = B} pool id bytes dirty absent =
     let left : frame_of (with_room pool) id ≡ None =
     elim (nat_lt (length pool) FRAMES) as (λ b. frame_of (cond b pool (remove_key may_go pool)) id ≡ None) [
       | true ↦ absent
       | false ↦ absent_left (has_id id) may_go pool absent
     ] in
-    let g : Frame = fresh id bytes dirty in
+    let g : Frame B = fresh id bytes dirty in
     found_so id (with_room pool) g
     ∙ ap (λ o. option_or o (cond (has_id id g) (Some g) None)) left
     ∙ ap (λ b. cond b (Some g) None) (eq-eqb id id refl)
 
-pub no_other_came : ComingInChangesNoOther
-no_other_came pool id other bytes dirty f old apart is =
-    let g : Frame = fresh id bytes dirty in
+pub no_other_came : {B : Type 0} → ComingInChangesNoOther B
+no_other_came {B = B} pool id other bytes dirty f old apart is =
+    let g : Frame B = fresh id bytes dirty in
     let off : has_id other g ≡ false = ne_eqb id other (λ e. apart (sym e)) in
     let left : frame_of (with_room pool) other ≡ Some f =
     sym (or_none (frame_of (with_room pool) other))
@@ -149,18 +149,18 @@ no_other_came pool id other bytes dirty f old apart is =
       | false ↦ λ here. was_first (has_id other) may_go pool f (old.distinct other) here
     ] left
 
-pub place_changed : ChangesItsFrame in_place
+pub place_changed : {B : Type 0} → ChangesItsFrame {B = B} in_place
 place_changed pool id change old like = first_changed (has_id id) change (λ f. ap (λ (i : ℕ). i == id) (like f)) pool
 
-pub place_no_other : ChangesNoOther in_place
+pub place_no_other : {B : Type 0} → ChangesNoOther {B = B} in_place
 place_no_other pool id other change apart like =
     unseen_change (has_id other) (has_id id) change (apart_ids id other apart) (λ f. ap (λ (i : ℕ). i == other) (like f)) pool
 
 -- the frame that was put last
-last_of : (id k : ℕ) (change : Frame → Frame) (pool : List Frame) → frame_of (put_last id change pool) k ≡ option_or (find (has_id k) (remove_key (has_id id) pool)) (find (has_id k) (map change (option_to_list (frame_of pool id))))
+last_of : {B : Type 0} (id k : ℕ) (change : Frame B → Frame B) (pool : List (Frame B)) → frame_of (put_last id change pool) k ≡ option_or (find (has_id k) (remove_key (has_id id) pool)) (find (has_id k) (map change (option_to_list (frame_of pool id))))
 last_of id k change pool = find-append (has_id k) (remove_key (has_id id) pool) (map change (option_to_list (frame_of pool id)))
 
-pub last_changed : ChangesItsFrame put_last
+pub last_changed : {B : Type 0} → ChangesItsFrame {B = B} put_last
 last_changed pool id change old like =
     last_of id id change pool
     ∙ ap (λ o. option_or o (find (has_id id) (map change (option_to_list (frame_of pool id))))) (none_other (has_id id) pool (old.distinct id))
@@ -169,7 +169,7 @@ last_changed pool id change old like =
       | Some f ↦ λ is. ap (λ b. cond b (Some (change f)) None) (ap (λ (i : ℕ). i == id) (like f) ∙ first_passes (has_id id) pool f is)
     ] refl
 
-pub last_no_other : ChangesNoOther put_last
+pub last_no_other : {B : Type 0} → ChangesNoOther {B = B} put_last
 last_no_other pool id other change apart like =
     last_of id other change pool
     ∙ ap (option_or (find (has_id other) (remove_key (has_id id) pool))) (elim (frame_of pool id) as (λ o. frame_of pool id ≡ o → find (has_id other) (map change (option_to_list o)) ≡ None) [

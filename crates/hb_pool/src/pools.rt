@@ -5,7 +5,7 @@ ghost use Rattle.std.specs.List.{position, position_or_len};
 ghost use Rattle.std.specs.Option.{IsSomeAnd};
 ghost use Rattle.std.specs.Set.{remove_key};
 ghost use Rattle.hb_pool.specs.Frames.{has_id, may_go, pinned, unpinned, filled, clean};
-ghost use Rattle.hb_pool.specs.Pools.{frame_of, places, put_last, in_place, brought, IsPool};
+ghost use Rattle.hb_pool.specs.Pools.{frame_of, places, put_last, in_place, brought, IsPool, HaveWholePages};
 
 use crate::slots::{Block, Slot};
 use hb_space::NoMemory;
@@ -31,11 +31,11 @@ pub struct Pool {
 }
 
 impl Model for Pool {
-    ghost use Rattle.std.specs.Prelude.{List, vec_len, vec_capacity};
+    ghost use Rattle.std.specs.Prelude.{ℕ, List, vec_len, vec_capacity};
     ghost use Rattle.hb_pool.specs.Frames.{Frame};
     ghost use Rattle.hb_pool.specs.Kept.{PoolKeeps};
 
-    ghost Value = { List Frame };
+    ghost Value = { List (Frame (List ℕ)) };
 
     ghost view = { λ p. p.used.items };
 
@@ -145,6 +145,7 @@ impl Pool {
     pub fn places(&self) -> u32
         ensures value { result ≡ places self.now }
         ensures pool { IsPool self.now }
+        ensures pages { HaveWholePages self.now }
     {
         (FRAMES - self.held) as u32
     }

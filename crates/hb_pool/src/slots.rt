@@ -18,9 +18,10 @@ pub(crate) struct Slot {
 }
 
 impl Model for Slot {
+    ghost use Rattle.std.specs.Prelude.{ℕ, List};
     ghost use Rattle.hb_pool.specs.Frames.{Frame};
 
-    ghost Value = { Frame };
+    ghost Value = { Frame (List ℕ) };
 
     ghost view = { λ s. record { id = s.id; bytes = s.block.value; dirty = s.dirty; pins = s.pins } };
 }

@@ -15,8 +15,7 @@ use Rattle.hb_layout.specs.declared.meta.Meta.{Meta}
 use Rattle.hb_layout.specs.Offsets.{page_offset}
 use Rattle.hb_store.specs.Opening.{place_bytes}
 use Rattle.hb_restart.specs.Renewing.{one_for, touched_to, WritesEachOnce, WritesAll, IsWrittenTo}
-use Rattle.hb_restart.proofs.Renewed.{other_place}
-use Rattle.hb_restart.proofs.RunSteps.{ok_tick, Tore, tore}
+use Rattle.hb_store.proofs.Facts.PlaceWrites.{Tore, ok_tick, other_place, tore}
 use Rattle.hb_disk.proofs.Facts.RewriteLaws.{Becomes-tells}
 
 -- the count doesn't fall

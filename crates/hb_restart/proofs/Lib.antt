@@ -5,7 +5,6 @@ pub mod NewFile
 pub mod Made
 pub mod RunSteps
 pub mod RunsThen
-pub mod PageWrites
 pub mod PlaceReads
 pub mod Told
 pub mod Audited

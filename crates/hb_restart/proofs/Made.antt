@@ -1,6 +1,6 @@
 -- What the bytes of a new file are.
 use Rattle.std.specs.Result.{is_err}
-use Rattle.std.proofs.Common.{true, false, ◌≡◌, ◌⊎◌, inl, inr, ℕ, ◌+◌, ◌*◌, ◌-◌, ◌<◌, ◌≤◌, List, [], ◌∷◌, ◌++◌, length, take, drop, replicate, get_or, Option, Some, None, IsSome, IfSome, Result, Ok, Err, OnOk, refl, sym, ap, ◌∙◌, subst, arith, length-take, length-drop}
+use Rattle.std.proofs.Common.{true, false, ◌≡◌, ◌⊎◌, inl, inr, ℕ, ◌+◌, ◌*◌, ◌-◌, ◌<◌, ◌≤◌, List, [], ◌∷◌, ◌++◌, length, take, drop, replicate, get_or, Some, IfSome, Result, Ok, Err, OnOk, refl, sym, ap, ◌∙◌, subst, arith, length-take, length-drop}
 use Rattle.std.proofs.lemmas.List.{get_or-take, get_or-drop, ext_get_or, length-replicate, get_or-replicate}
 use Rattle.hb_space.specs.declared.form.TheConstants.{PAGE}
 use Rattle.hb_lemmas.specs.Numbers.{big_endian}
@@ -59,11 +59,6 @@ zeroed_places b n some fits = record {
 pub frame_long : (meta : Meta) → length (open_gate ∷ body_bytes 0 meta) ≡ 41
 unfolding big_endian
 frame_long meta = refl
-
--- a disk that tells did so before
-pub told_before : {X : Type 0} (old new : Option X) → (old ≡ None → new ≡ None) → IsSome new → IsSome old
-told_before None new silent some = let none = silent refl in cc
-told_before (Some x) new silent some = refl
 
 pub on_ok_three : {T E : Type 0} (r : Result T E) (P Q R S : Type 0) → (P → Q → R → S) → OnOk r P → OnOk r Q → OnOk r R → OnOk r S
 on_ok_three (Ok v) P Q R S f p q h = f p q h

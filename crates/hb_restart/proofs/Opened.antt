@@ -20,7 +20,7 @@ use Rattle.hb_restart.specs.Beyond.{KeepsBeyond}
 use Rattle.hb_restart.specs.Found.{IsFoundIn}
 use Rattle.hb_restart.proofs.EachOnce.{also_all, also_each}
 use Rattle.hb_restart.proofs.Facts.Beyond.{beyond_found, beyond_looked}
-use Rattle.hb_restart.proofs.Made.{told_before}
+use Rattle.hb_store.proofs.Facts.PlaceWrites.{told_before}
 use Rattle.hb_restart.proofs.Recovered.{recovered_even, recovered_late, recovered_late_on, recovered_time}
 use Rattle.hb_restart.proofs.RunsThen.{faults_read, faults_then}
 use Rattle.hb_restart.proofs.SamePages.{each_way, reads_write_none}

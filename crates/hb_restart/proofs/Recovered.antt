@@ -13,7 +13,7 @@ use Rattle.hb_store.specs.Opening.{OpensTo, IsEven}
 use Rattle.hb_store.specs.Keeps.{IsFresh}
 use Rattle.hb_restart.specs.Found.{IsFoundIn}
 use Rattle.hb_restart.specs.Renewing.{WritesAll}
-use Rattle.hb_restart.proofs.Made.{told_before}
+use Rattle.hb_store.proofs.Facts.PlaceWrites.{told_before}
 use Rattle.hb_restart.proofs.SyncedRuns.{found_to}
 
 module _ (old mid new : DiskModel) (reads : OnlyReads old mid) (turn : ℕ) (meta : Meta) (touched : ℕ → Option Page) (count : ℕ)

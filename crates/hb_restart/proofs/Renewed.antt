@@ -1,6 +1,6 @@
 -- A file that was found goes on to open while its next turn is made ready, and stands whole once it begins.
 use Rattle.std.proofs.Common.{◌≡◌, ◌⊎◌, inl, inr, ℕ, zero, suc, ◌+◌, ◌*◌, ◌-◌, ◌%◌, ◌≤◌, List, [], ◌++◌, length, take, drop, replicate, Option, Some, None, IsSome, is_some, IfSome, Result, refl, sym, ap, ◌∙◌, subst, arith}
-use Rattle.std.proofs.lemmas.Bool.{cases_eq, cases_lt}
+use Rattle.std.proofs.lemmas.Bool.{cases_eq}
 use Rattle.std.proofs.lemmas.List.{length-replicate}
 use Rattle.hb_space.specs.declared.form.TheConstants.{PAGE}
 use Rattle.hb_disk.specs.Model.{DiskModel, IsDisk, overwritten, Torn}
@@ -27,7 +27,8 @@ use Rattle.hb_store.proofs.Facts.ReplayLaws.{opens_elsewhere, opens_fresh}
 use Rattle.hb_store.proofs.Facts.FreshLaws.{IsNewest-elsewhere, IsFresh-from}
 use Rattle.hb_restart.specs.Renewing.{StillOpens, IsHere, IsPlaced, IsPlacedTo, IsReadyFor}
 use Rattle.hb_restart.proofs.Numbered.{last_number, some_number}
-use Rattle.hb_restart.proofs.RunSteps.{now_has, Tore, tore}
+use Rattle.hb_store.proofs.Facts.PlaceWrites.{Tore, other_place, tore}
+use Rattle.hb_restart.proofs.RunSteps.{now_has}
 use Rattle.hb_disk.proofs.Facts.RewriteLaws.{Becomes-tells}
 
 -- where the log areas of a turn and of the next one lie
@@ -72,13 +73,6 @@ old_apart turn next small is = elim (parities turn small) [
 
 pub still_to : (turn : ℕ) (said meta : Meta) (touched : ℕ → Option Page) (s : FileState) (c : List ℕ) → StillOpens turn said meta touched s c → OpensTo c s
 still_to turn said meta touched s c opens = record { turn = turn; said = said; payloads = opens.payloads; groups = opens.groups; by = opens.by }
-
--- places of two pages don't meet
-pub other_place : (meta : Meta) (id at : ℕ) → 1 ≤ id → 1 ≤ at → (id ≡ at → ⊥) → Apart (page_offset meta id) PAGE (page_offset meta at) PAGE
-other_place meta id at some first other = elim (cases_lt id at) [
-  | inl less ↦ inl (omega (arith, less, some, first))
-  | inr most ↦ inr (omega (arith, most, other, some, first))
-]
 
 -- as many pages as the file says, and their numbers
 count_of : (turn : ℕ) (said meta : Meta) (touched : ℕ → Option Page) (s : FileState) (b : List ℕ) → StillOpens turn said meta touched s b → length s.pages ≡ meta.high

@@ -14,7 +14,7 @@ use Rattle.hb_store.specs.Keeps.{IsFresh}
 use Rattle.hb_restart.specs.Found.{IsFoundIn}
 use Rattle.hb_restart.specs.Renewing.{StillOpens, IsHere}
 use Rattle.hb_restart.proofs.Renewed.{still_to}
-use Rattle.hb_restart.proofs.RunSteps.{ok_tick}
+use Rattle.hb_store.proofs.Facts.PlaceWrites.{ok_tick}
 
 -- bytes in which a file was found open to it
 found_opens : (b : List ℕ) (turn : ℕ) (meta : Meta) (touched : ℕ → Option Page) (count : ℕ) (found : IsFoundIn b turn meta touched count) → StillOpens turn found.said meta touched found.file b

@@ -66,7 +66,7 @@ image_frames d log payloads has b told c image = record {
 }
 
 -- the written frames are no longer than the area
-written_fits : (d : DiskModel) (log : LogState) (payloads : List (List ℕ)) → HasLog d log payloads → (b : List ℕ) → d.told ≡ Some b → log.written ≤ log.len
+pub written_fits : (d : DiskModel) (log : LogState) (payloads : List (List ℕ)) → HasLog d log payloads → (b : List ℕ) → d.told ≡ Some b → log.written ≤ log.len
 written_fits d log payloads has b told =
     let reads : range log.area log.len b ≡ frames payloads ++ replicate (log.len - log.written) 0
     = at_value d.told (λ b. range log.area log.len b ≡ frames payloads ++ replicate (log.len - log.written) 0) b told has.reads in
@@ -90,11 +90,11 @@ front_of_both area len written payloads more c fits count (inr framed) = front_o
 
 -- a log of the same area leaves the rest as it is
 pub memory_logged : (st : StoreState) (log : LogState) → IsMemory st → log.area ≡ st.log.area → log.len ≡ st.log.len → IsMemory (with_log log st)
-memory_logged st log is area len = record { stands = is.stands; area = area ∙ is.area; len = len ∙ is.len; good = is.good; in_file = is.in_file }
+memory_logged st log is area len = record { stands = is.stands; area = area ∙ is.area; len = len ∙ is.len; good = is.good; in_file = is.in_file; logged = is.logged }
 
 -- and so does a fault
 pub memory_stopped : (st : StoreState) → IsMemory st → IsMemory (stopped_state st)
-memory_stopped st is = record { stands = is.stands; area = is.area; len = is.len; good = is.good; in_file = is.in_file }
+memory_stopped st is = record { stands = is.stands; area = is.area; len = is.len; good = is.good; in_file = is.in_file; logged = is.logged }
 
 module _ (d : DiskModel) (is_disk : IsDisk d) (st : StoreState) (is : IsMemory st) (going : st.stopped ≡ false) (durable : FileState) (later : List FileState) (keeps : StoreKeeps d st durable later) where
   abbrev p : Parts

@@ -2,7 +2,7 @@
 use Rattle.std.proofs.Common.{◌≡◌, inl, inr, ℕ, ◌+◌, ◌*◌, ◌%◌, ◌≤◌, Bool, false, List, [], ◌∷◌, ◌++◌, length, get_or, map, All, Option, Some, None, IsSome, IsTrue, Result, Ok, Err, refl, sym, ap, ◌∙◌, subst, arith}
 use Rattle.std.specs.Prelude.{◌||◌, OnErr, OnOk}
 use Rattle.std.specs.Option.{is_some}
-use Rattle.std.proofs.lemmas.Bool.{or_parts, cases_Bool, cases_lt, or_cases}
+use Rattle.std.proofs.lemmas.Bool.{or_parts, cases_Bool, cases_lt, or_cases, or_left, or_right}
 use Rattle.std.proofs.lemmas.List.{get_or_past, map-append}
 use Rattle.std.proofs.lemmas.List.Elements.{All-append, All-cons, All-nil}
 use Rattle.hb_disk.specs.Model.{DiskModel, IsDisk}
@@ -20,20 +20,21 @@ use Rattle.hb_log_codec.specs.Groups.{FitsGroup, Logged, group_bytes}
 use Rattle.hb_store.specs.Replay.{MayFollow, Replayed, after_group, change_in, replay, set_pages, touched_read, untouched, with_page_images, has_page, is_among}
 use Rattle.hb_store.proofs.Facts.ReplayLaws.{Leads-append, last_of-append, replay-append}
 use Rattle.hb_store.specs.Opening.{IsPageIn, Shows}
-use Rattle.hb_store.specs.States.{IsGoodPage, IsMemory, IsSameLayout, IsStanding, StoreState, in_memory, is_in_log}
+use Rattle.hb_store.specs.States.{IsGoodPage, IsMemory, IsSameLayout, IsStanding, StoreState, in_memory, is_dirty, is_in_log}
+use Rattle.hb_store.specs.Held.{StoreHeld}
 use Rattle.hb_store.specs.Keeps.{StoreKeeps, last_of}
 use Rattle.hb_store.specs.Parts.{ArePageImagesOf, IsDurable, IsInLog, IsInMemory, IsWaiting, Parts, all_pages, written_pages}
 use Rattle.hb_store.proofs.Facts.StoreLaws.{StoreKeeps-by}
-use Rattle.hb_store.specs.Calls.{Commits, IsAllowedHere, change_here, read_here, with_op}
+use Rattle.hb_store.specs.Calls.{Commits, IsAllowedHere, NoneComes, change_here, read_here, with_op}
 use Rattle.hb_store.specs.Making.{MakesWell, group_here}
 use Rattle.hb_store.proofs.Facts.ReplayLists.{set_not, all_set, set_both}
-use Rattle.hb_store.proofs.Facts.StayingLaws.{Commits-there, reads_in_place}
+use Rattle.hb_store.proofs.Facts.StayingLaws.{Commits-there}
 use Rattle.hb_store.proofs.Facts.Changed.{reads_numbered, same_size}
 use Rattle.hb_store.proofs.Facts.FilePages.{Reaches, pages_set}
 use Rattle.hb_ops.proofs.Facts.AllowedOps.{reads_some, same_change, same_allowed}
 use Rattle.hb_store.proofs.Shown.{Shows-leads}
 use Rattle.hb_store.proofs.Grouped.{all_needed}
-use Rattle.hb_store.proofs.Setting.{among_all, has_all, none_set, set_some}
+use Rattle.hb_store.proofs.Setting.{among_all, has_all, set_some}
 use Rattle.hb_store.proofs.InLog.{in_log_all, none_of, read_page}
 use Rattle.hb_ops.proofs.Facts.FilePages.{in_file_at}
 use Rattle.hb_ops.proofs.Facts.PageNumberLaws.{page_at-zero}
@@ -49,29 +50,28 @@ same_log d old new payloads area len written has =
 
 -- ---- the store after a commit
 
--- what was changed, set and let wait is what a commit makes
+-- what was changed, put into frames and let wait is what a commit makes
 pub commits_here : (op : Op) (mark : ℕ) (st new : StoreState) (change : Change) (bytes : List ℕ) → change ≡ change_here st op → new.turn ≡ st.turn → new.stopped ≡ st.stopped → new.meta ≡ change.meta
-    → ((id : ℕ) → in_memory new id ≡ set_pages change.pages (in_memory st) id)
+    → ((id : ℕ) → IsTrue (has_page id change.pages) → in_memory new id ≡ set_pages change.pages (in_memory st) id)
+    → ((id : ℕ) → has_page id change.pages ≡ false → NoneComes st new id)
     → ((id : ℕ) → is_in_log new id ≡ (has_page id change.pages || (is_among id (reads_of op) || is_in_log st id)))
+    → ((id : ℕ) → is_dirty new id ≡ (has_page id change.pages || is_dirty st id))
     → new.log ≡ record { area = st.log.area; len = st.log.len; written = st.log.written; groups = st.log.groups ++ record { bytes = bytes; mark = mark } ∷ [] }
     → Commits op mark st new
-commits_here op mark st new change bytes is turn stopped meta pages in_log log = record {
+commits_here op mark st new change bytes is turn stopped meta made others in_log dirty log = record {
   turn = turn;
   stopped = stopped;
   meta = meta ∙ ap (λ (c : Change). c.meta) is;
-  made = λ id made. set_all id;
-  kept = λ id off stays. set_all id ∙ set_not (change_here st op).pages (in_memory st) id off;
-  others = λ id off. inl (set_all id ∙ set_not (change_here st op).pages (in_memory st) id off);
+  made = λ id on. made id (ap (λ (c : Change). has_page id c.pages) is ∙ on) ∙ ap (λ (c : Change). set_pages c.pages (in_memory st) id) is;
+  others = λ id off. others id (ap (λ (c : Change). has_page id c.pages) is ∙ off);
   in_log = λ id. in_log id ∙ ap (λ (c : Change). has_page id c.pages || (is_among id (reads_of op) || is_in_log st id)) is;
+  dirty = λ id. dirty id ∙ ap (λ (c : Change). has_page id c.pages || is_dirty st id) is;
   area = ap (λ (l : LogState). l.area) log;
   len = ap (λ (l : LogState). l.len) log;
   written = ap (λ (l : LogState). l.written) log;
   group = bytes;
   groups = ap (λ (l : LogState). l.groups) log;
 }
-  where
-    set_all : (id : ℕ) → in_memory new id ≡ set_pages (change_here st op).pages (in_memory st) id
-    set_all id = pages id ∙ ap (λ (c : Change). set_pages c.pages (in_memory st) id) is
 
 module _ (st new : StoreState) (op : Op) (mark : ℕ) (well : MakesWell op st) (allowed : IsAllowedHere st op) (commits : Commits op mark st new) where
   abbrev change : Change
@@ -96,6 +96,15 @@ module _ (st new : StoreState) (op : Op) (mark : ℕ) (well : MakesWell op st) (
         ]
       ]
 
+  -- and one that is dirty then is in the log
+  logged_after : (id : ℕ) → IsTrue (is_dirty new id) → IsTrue (is_in_log new id)
+  logged_after id on = elim (or_cases (has_page id change.pages) (is_dirty st id) (sym (commits.dirty id) ∙ on)) [
+    | inl made ↦ commits.in_log id ∙ or_left (has_page id change.pages) (is_among id (reads_of op) || is_in_log st id) made
+    | inr before ↦
+        commits.in_log id
+        ∙ or_right (has_page id change.pages) (is_among id (reads_of op) || is_in_log st id) (or_right (is_among id (reads_of op)) (is_in_log st id) (well.memory.logged id before))
+  ]
+
   pub memory_after : IsMemory new
   memory_after = record {
     stands = subst (λ (n : ℕ). IsStanding n new.meta) (sym commits.turn) (subst (λ (m : Meta). IsStanding st.turn m) (sym commits.meta) (well.change.stands well.memory.stands));
@@ -109,6 +118,7 @@ module _ (st new : StoreState) (op : Op) (mark : ℕ) (well : MakesWell op st) (
         (λ n p is. let old = well.memory.good n p is in (old.0, omega (arith, old.1, well.change.high), well.change.others p old.2))
         id page (Commits-there op mark st new commits id page e));
     in_file = in_file_after;
+    logged = logged_after;
   }
 
   -- ---- what it keeps of the disk
@@ -263,14 +273,7 @@ module _ (st new : StoreState) (op : Op) (mark : ℕ) (well : MakesWell op st) (
           keeps.in_log.synced id page (or_parts (is_among id (reads_of op)) (is_in_log st id) off.1).1 (sym (set_not change.pages (page_of s) id off.0) ∙ sym (page_after id) ∙ e) c image;
     }
 
-    -- a page that isn't in memory then was none of those that were made
-    not_made : (id : ℕ) → in_memory new id ≡ None → has_page id change.pages ≡ false
-    not_made id none = elim (cases_Bool (has_page id change.pages)) [
-      | inl made ↦ (none_set change.pages (in_memory st) id (sym (commits.made id made) ∙ none)).1
-      | inr off ↦ off
-    ]
-
-    in_memory_then : IsInMemory d new.meta (in_memory new) grown (last_of durable (with_op durable later op))
+    in_memory_then : IsInMemory d new.meta (in_memory new) (is_dirty new) grown (last_of durable (with_op durable later op))
     in_memory_then = record {
       layout =
           let was = keeps.memory.layout in
@@ -279,15 +282,19 @@ module _ (st new : StoreState) (op : Op) (mark : ℕ) (well : MakesWell op st) (
           (record { k = is.k ∙ was.k; pages = is.pages ∙ was.pages; log = is.log ∙ was.log; dcap = is.dcap ∙ was.dcap; icap = is.icap ∙ was.icap });
       meta_is = ap (λ (f : FileState). f.meta) last ∙ ap (λ (c : Change). c.meta) (sym change_file) ∙ sym commits.meta;
       cached = λ id page e. page_after id ∙ set_both change.pages (in_memory st) (page_of s) keeps.memory.cached id page (Commits-there op mark st new commits id page e);
-      placed = λ id page b none e is_told.
-          let off = not_made id none in
-          reads_in_place d disk st new durable later keeps id (commits.others id off) none page (sym (set_not change.pages (page_of s) id off) ∙ sym (page_after id) ∙ e) b is_told;
+      placed = λ id page b no e is_told.
+          let off = or_parts (has_page id change.pages) (is_dirty st id) (sym (commits.dirty id) ∙ no) in
+          keeps.memory.placed id page b off.1 (sym (set_not change.pages (page_of s) id off.0) ∙ sym (page_after id) ∙ e) is_told;
     }
 
     pub keeps_after : StoreKeeps d new durable (with_op durable later op)
     keeps_after = record { parts = grown; disk = stays_durable; waits = waits_more; in_log = in_log_more; memory = in_memory_then }
 
 -- ---- where the commit is Ok, and where it isn't
+
+pub kept_state : {X E : Type 0} (result : Result X E) (old new : StoreHeld) → OnErr result (new ≡ old) → OnErr result (new.state ≡ old.state)
+kept_state (Ok x) old new kept = tt
+kept_state (Err e) old new kept = ap (λ (h : StoreHeld). h.state) kept
 
 pub room_made : {E : Type 0} (result : Result (Unit {0}) E) (size : ℕ) (st new : StoreState) (op : Op) (mark : ℕ) → file_size st.meta ≤ size
     → OnOk result (Commits op mark st new) → OnOk result (MakesWell op st) → OnErr result (new ≡ st) → file_size new.meta ≤ size

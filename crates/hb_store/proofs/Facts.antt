@@ -13,3 +13,4 @@ pub mod Changed
 pub mod LookLaws
 pub mod BadGroups
 pub mod OtherAnswers
+pub mod PlaceWrites

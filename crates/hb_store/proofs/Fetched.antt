@@ -1,9 +1,8 @@
 -- A page that a fetch brings into memory is the file's.
-use Rattle.std.proofs.Common.{◌≡◌, ◌≢◌, inl, inr, ℕ, ◌+◌, ◌-◌, ◌*◌, ◌≤◌, ◌++◌, true, false, cond, eqb, List, length, take, drop, Option, Some, None, Result, Ok, Err, refl, sym, ap, subst, ◌∙◌, arith}
-use Rattle.std.specs.Prelude.{replicate, IfOk, IfErr, IfSome, IsSome, MatchOption}
-use Rattle.std.specs.Option.{is_some, option_map}
-use denote.Bor.{Bor}
-use Rattle.std.proofs.lemmas.Bool.{cases_eq, eqb-true, eq-eqb, ne_eqb}
+use Rattle.std.proofs.Common.{◌≡◌, ◌≢◌, inl, inr, ℕ, ◌+◌, ◌-◌, ◌*◌, ◌≤◌, ◌++◌, false, List, length, take, drop, Option, Some, None, Result, Ok, Err, refl, sym, ap, subst, ◌∙◌, arith}
+use Rattle.std.specs.Prelude.{replicate, IfErr, IfSome, IsSome, IsSomeAnd}
+use Rattle.std.specs.Option.{is_some, option_map, option_map_or}
+use Rattle.std.proofs.lemmas.Bool.{cases_eq}
 use Rattle.hb_space.specs.declared.form.TheConstants.{PAGE}
 use Rattle.hb_disk.specs.Model.{DiskModel, IsDisk, Stays}
 use Rattle.hb_disk.specs.Calls.{IsSynced}
@@ -19,17 +18,21 @@ use Rattle.hb_wal.specs.Frames.{frames, range}
 use Rattle.hb_page_codec.proofs.Facts.PageLaws.{SpelledOnce}
 use Rattle.hb_layout.specs.Offsets.{page_offset}
 use Rattle.hb_store.specs.Opening.{place_bytes}
-use Rattle.hb_store.specs.States.{IsGoodPage, IsMemory, StoreState, in_memory}
+use Rattle.hb_store.specs.States.{IsGoodPage, IsMemory, StoreState, in_memory, is_dirty}
+use Rattle.hb_store.specs.Held.{IsTied}
+use Rattle.hb_store.specs.Replaying.{IsPageOf}
+use Rattle.hb_page_codec.specs.ReadingPages.{page_of_bytes}
+use Rattle.hb_pool.specs.Frames.{Use}
+use Rattle.hb_pool.specs.Pools.{frame_of}
 use Rattle.hb_store.specs.Keeps.{StoreKeeps, last_of}
 use Rattle.hb_store.specs.Calls.{Fetched}
-use Rattle.hb_store.proofs.Facts.StayingLaws.{was_there, reads_in_place}
-use Rattle.hb_store.specs.Fetching.{FetchesNot, HoldsNot, with_held, IsDamagedBy, IsNoPage}
+use Rattle.hb_store.proofs.Facts.StayingLaws.{was_there}
+use Rattle.hb_store.specs.Fetching.{FetchesNot, HoldsNot, IsDamagedBy, IsNoPage}
 use Rattle.hb_store.specs.declared.stops.FetchStop.{FetchStop}
 use Rattle.hb_store.specs.declared.stops.FetchStop.TheVariants as fetches
 use Rattle.hb_store.specs.declared.stops.Why.TheVariants.{Rule, Level, Extent}
 use Rattle.hb_store.proofs.Counted.{store_count}
 use Rattle.hb_ops.proofs.Facts.FilePages.{page_there}
-use Rattle.hb_lemmas.proofs.Maps.{get-put}
 
 -- ---- what was read
 
@@ -37,15 +40,21 @@ pub placed_read : (d : DiskModel) (at : ℕ) (into : List ℕ) (meta : Meta) (id
 placed_read d at into meta id reads long place =
     subst (λ n. IfSome d.told (λ b. into ≡ take n (drop (page_offset meta id) b))) long (subst (λ p. IfSome d.told (λ b. into ≡ take (length into) (drop p b))) place reads)
 
-pub no_page_in : (o : Option (Bor Page)) (page : Option Page) → MatchOption o (page ≡ None) (λ p. page ≡ Some p.now) → is_some o ≡ false → page ≡ None
-no_page_in None page e none = e
-no_page_in (Some p) page e none = absurd cc
+-- the page that was read, where the disk tells
+pub spelled_there : (told : Option (List ℕ)) (bytes : List ℕ) (place : List ℕ → List ℕ) (page : Page) → SpellsPage bytes page → IfSome told (λ b. bytes ≡ place b) → IfSome told (λ b. SpellsPage (place b) page)
+spelled_there None bytes place page spells read = tt
+spelled_there (Some b) bytes place page spells read = subst (λ l. SpellsPage l page) read spells
 
-pub read_there : {E : Type 0} (result : Result Page E) (told : Option (List ℕ)) (bytes : List ℕ) (place : List ℕ → List ℕ) → IfOk result (λ page. SpellsPage bytes page) → IfSome told (λ b. bytes ≡ place b)
-    → IfOk result (λ page. IfSome told (λ b. SpellsPage (place b) page))
-read_there (Ok page) None bytes place there read = tt
-read_there (Ok page) (Some b) bytes place there read = subst (λ l. SpellsPage l page) read there
-read_there (Err stop) told bytes place there read = tt
+-- a page that isn't in memory has no frame, and isn't dirty
+pub no_frame : (st : StoreState) (uses : List Use) (id : ℕ) → IsTied st uses → in_memory st id ≡ None → frame_of uses id ≡ None
+no_frame st uses id tied none = by (frame_of uses id) (sym (tied.there id) ∙ ap (λ (o : Option Page). is_some o) none)
+  where
+    by : (o : Option Use) → is_some o ≡ false → o ≡ None
+    by None e = refl
+    by (Some f) e = cc e
+
+pub clean_outside : (st : StoreState) (uses : List Use) (id : ℕ) → IsTied st uses → in_memory st id ≡ None → is_dirty st id ≡ false
+clean_outside st uses id tied none = tied.marks id ∙ ap (λ (o : Option Use). option_map_or (λ (u : Use). u.dirty) o false) (no_frame st uses id tied none)
 
 -- what is said of bytes that are known holds where they aren't
 forgotten : (meta : Meta) (b : List ℕ) (id : ℕ) (stop : FetchStop) → HoldsNot meta (Some b) id stop → HoldsNot meta None id stop
@@ -53,7 +62,7 @@ forgotten meta b id (fetches.Damaged at (Rule rule)) holds = (holds.0, holds.1, 
 forgotten meta b id (fetches.Damaged at (Level asked found)) holds = holds
 forgotten meta b id (fetches.Damaged at (Extent asked found)) holds = holds
 forgotten meta b id fetches.ReadFault holds = tt
-forgotten meta b id fetches.NoMemory holds = tt
+forgotten meta b id fetches.Crowded holds = tt
 
 pub read_not : {X : Type 0} (result : Result X FetchStop) (told : Option (List ℕ)) (bytes : List ℕ) (place : List ℕ → List ℕ) (meta : Meta) (id : ℕ) → IfErr result (HoldsNot meta (Some bytes) id) → IfSome told (λ b. bytes ≡ place b)
     → IfErr result (HoldsNot meta (option_map place told) id)
@@ -71,25 +80,7 @@ fetches_not meta d id (fetches.Damaged at (Rule rule)) page holds = (holds.0, in
 fetches_not meta d id (fetches.Damaged at (Level asked found)) page holds = holds
 fetches_not meta d id (fetches.Damaged at (Extent asked found)) page holds = holds
 fetches_not meta d id fetches.ReadFault page holds = page
-fetches_not meta d id fetches.NoMemory page holds = page
-
--- ---- a page brought into memory
-
-pub memory_with : (st : StoreState) (id : ℕ) (page : Page) → IsMemory st → 1 ≤ id → id ≤ st.meta.high → IsGoodPage st.meta page → IsMemory (with_held id page st)
-memory_with st id page is some high good = record {
-  stands = is.stands;
-  area = is.area;
-  len = is.len;
-  good = λ q p e.
-      elim (eqb q id) as (λ b. eqb q id ≡ b → cond b (Some page) (in_memory st q) ≡ Some p → (1 ≤ q) × (q ≤ st.meta.high) × IsGoodPage st.meta p) [
-        | true ↦ λ here found. subst (λ n. (1 ≤ n) × (n ≤ st.meta.high) × IsGoodPage st.meta p) (sym (eqb-true q id here)) (some, high, subst (IsGoodPage st.meta) (some_is found) good)
-        | false ↦ λ _ found. is.good q p found
-      ] refl (sym (get-put id q page st.pages) ∙ e);
-  in_file = is.in_file;
-}
-  where
-    some_is : {x y : Page} → Some x ≡ Some y → x ≡ y
-    some_is h = cc
+fetches_not meta d id fetches.Crowded page holds = page
 
 -- ---- what a store keeps
 
@@ -126,13 +117,9 @@ keeps_read d e st durable later stays k = record {
   };
 }
 
-some_none : (o : Option Page) → IsSome o → o ≡ None → ⊥
-some_none None some none = absurd cc
-some_none (Some page) some none = absurd cc
-
-pub keeps_fetched : (d : DiskModel) → IsDisk d → (old new : StoreState) (durable : FileState) (later : List FileState) (id : ℕ) → Fetched id old new
+pub keeps_fetched : (d : DiskModel) (old new : StoreState) (durable : FileState) (later : List FileState) (id : ℕ) → Fetched id old new
     → ((page : Page) → in_memory new id ≡ Some page → page_of (last_of durable later) id ≡ Some page) → StoreKeeps d old durable later → StoreKeeps d new durable later
-keeps_fetched d disk old new durable later id fetched there k =
+keeps_fetched d old new durable later id fetched there k =
     let K : StoreState → Type 0 = λ st. StoreKeeps d st durable later in
     subst K same (record {
       parts = k.parts;
@@ -148,21 +135,19 @@ keeps_fetched d disk old new durable later id fetched there k =
               ap (page_of (last_of durable later)) here ∙ there page (subst I here is)
           | inr other ↦ k.memory.cached q page (was_there old new q (fetched.others q other) page is)
         ];
-        placed = λ q page b none is told. elim (cases_eq q id) [
-          | inl here ↦ absurd (some_none (in_memory new id) fetched.there (ap (in_memory new) (sym here) ∙ none))
-          | inr other ↦ reads_in_place d disk old new durable later k q (fetched.others q other) none page is b told
-        ];
+        placed = k.memory.placed;
       };
     })
   where
     -- the old store with the new one's pages is the new one
-    same : ◌≡◌ {A = StoreState} (record { turn = old.turn; meta = old.meta; log = old.log; pages = new.pages; in_log = old.in_log; stopped = old.stopped }) new
+    same : ◌≡◌ {A = StoreState} (record { turn = old.turn; meta = old.meta; log = old.log; pages = new.pages; in_log = old.in_log; dirty = old.dirty; stopped = old.stopped }) new
     same = λ i. record {
       turn = sym fetched.rest.turn i;
       meta = sym fetched.rest.meta i;
       log = sym fetched.rest.log i;
       pages = new.pages;
       in_log = sym fetched.rest.in_log i;
+      dirty = sym fetched.rest.dirty i;
       stopped = sym fetched.rest.stopped i;
     }
 
@@ -175,38 +160,19 @@ file_page d st durable later id disk k some high =
 abbrev PageThere : DiskModel → StoreState → FileState → List FileState → ℕ → List ℕ → Type 0
 PageThere d st durable later id b = (p : Page) × (page_of (last_of durable later) id ≡ Some p) × SpellsPage (place_bytes st.meta id b) p
 
-pub there_in_place : (d : DiskModel) (st : StoreState) (durable : FileState) (later : List FileState) (id : ℕ) (b : List ℕ) → IsDisk d → StoreKeeps d st durable later → 1 ≤ id → id ≤ st.meta.high → in_memory st id ≡ None → d.told ≡ Some b
+pub there_in_place : (d : DiskModel) (st : StoreState) (durable : FileState) (later : List FileState) (id : ℕ) (b : List ℕ) → IsDisk d → StoreKeeps d st durable later → 1 ≤ id → id ≤ st.meta.high → is_dirty st id ≡ false → d.told ≡ Some b
     → PageThere d st durable later id b
 there_in_place d st durable later id b disk k some high none told =
     let p = file_page d st durable later id disk k some high in
     (p.0, p.1, subst (λ log. SpellsPage (take PAGE (drop (8192 + 2 * log + PAGE * (id - 1)) b)) p.0) (sym k.memory.layout.log) (k.memory.placed id p.0 b none p.1 told))
 
-pub is_the_page : SpelledOnce → (d : DiskModel) (st : StoreState) (durable : FileState) (later : List FileState) (id : ℕ) (page : Page) → IsDisk d → StoreKeeps d st durable later → 1 ≤ id → id ≤ st.meta.high → in_memory st id ≡ None
+pub is_the_page : SpelledOnce → (d : DiskModel) (st : StoreState) (durable : FileState) (later : List FileState) (id : ℕ) (page : Page) → IsDisk d → StoreKeeps d st durable later → 1 ≤ id → id ≤ st.meta.high → is_dirty st id ≡ false
     → IfSome d.told (λ b. SpellsPage (place_bytes st.meta id b) page) → page_of (last_of durable later) id ≡ Some page
 is_the_page once d st durable later id page disk k some high none there =
     let b = some_value d.told k.disk.told in
     let p = there_in_place d st durable later id b.0 disk k some high none b.1 in
     let spelled : SpellsPage (place_bytes st.meta id b.0) page = subst (λ (t : Option (List ℕ)). IfSome t (λ l. SpellsPage (place_bytes st.meta id l) page)) b.1 there in
     p.1 ∙ ap Some (once (place_bytes st.meta id b.0) p.0 page p.2 spelled)
-
--- the page that was put under its number is there
-pub held_there : (st : StoreState) (id : ℕ) (page : Page) → in_memory (with_held id page st) id ≡ Some page
-held_there st id page = get-put id id page st.pages ∙ ap (λ b. cond b (Some page) (in_memory st id)) (eq-eqb id id refl)
-
-pub fetched_with : (st : StoreState) (id : ℕ) (page : Page) → in_memory st id ≡ None → Fetched id st (with_held id page st)
-fetched_with st id page none = record {
-  rest = record { turn = refl; meta = refl; log = refl; in_log = refl; stopped = refl };
-  there = subst (λ (o : Option Page). IsSome o) (sym (held_there st id page)) refl;
-  same = λ some. absurd (some_none (in_memory st id) some none);
-  kept = λ q some. elim (cases_eq q id) [
-    | inl here ↦ absurd (some_none (in_memory st q) some (ap (in_memory st) here ∙ none))
-    | inr other ↦ put_other q other
-  ];
-  others = λ q other. inl (put_other q other);
-}
-  where
-    put_other : (q : ℕ) → q ≢ id → in_memory (with_held id page st) q ≡ in_memory st q
-    put_other q other = get-put id q page st.pages ∙ ap (λ b. cond b (Some page) (in_memory st q)) (ne_eqb q id other)
 
 -- ---- no page of a sound file is damaged
 
@@ -233,21 +199,21 @@ not_damaged once s id rule p bytes sound there spelled damaged = elim damaged [
       fits_all rule one.1 s.meta (sound.well_made id one.1 (ap if_live same)) one.3
 ]
 
-pub sound_stop : SpelledOnce → (d : DiskModel) (st : StoreState) (durable : FileState) (later : List FileState) (id : ℕ) (stop : FetchStop) → IsDisk d → StoreKeeps d st durable later → 1 ≤ id → id ≤ st.meta.high → in_memory st id ≡ None
-    → HoldsNot st.meta (option_map (place_bytes st.meta id) d.told) id stop → IsSound (last_of durable later) → stop ≢ fetches.ReadFault → stop ≢ fetches.NoMemory → ⊥
+pub sound_stop : SpelledOnce → (d : DiskModel) (st : StoreState) (durable : FileState) (later : List FileState) (id : ℕ) (stop : FetchStop) → IsDisk d → StoreKeeps d st durable later → 1 ≤ id → id ≤ st.meta.high → is_dirty st id ≡ false
+    → HoldsNot st.meta (option_map (place_bytes st.meta id) d.told) id stop → IsSound (last_of durable later) → stop ≢ fetches.ReadFault → stop ≢ fetches.Crowded → ⊥
 sound_stop once d st durable later id stop disk k some high none why sound fault memory =
     let b = some_value d.told k.disk.told in
     let p = there_in_place d st durable later id b.0 disk k some high none b.1 in
     let holds : HoldsNot st.meta (Some (place_bytes st.meta id b.0)) id stop = subst (λ (t : Option (List ℕ)). HoldsNot st.meta (option_map (place_bytes st.meta id) t) id stop) b.1 why in
     by_stop stop holds fault memory p
   where
-    by_stop : (stop : FetchStop) → HoldsNot st.meta (Some (place_bytes st.meta id (some_value d.told k.disk.told).0)) id stop → stop ≢ fetches.ReadFault → stop ≢ fetches.NoMemory → PageThere d st durable later id (some_value d.told k.disk.told).0 → ⊥
+    by_stop : (stop : FetchStop) → HoldsNot st.meta (Some (place_bytes st.meta id (some_value d.told k.disk.told).0)) id stop → stop ≢ fetches.ReadFault → stop ≢ fetches.Crowded → PageThere d st durable later id (some_value d.told k.disk.told).0 → ⊥
     by_stop (fetches.Damaged at (Rule rule)) holds fault memory p =
         not_damaged once (last_of durable later) id rule p.0 _ sound p.1 p.2 (subst (λ m. IsDamagedBy m (place_bytes st.meta id (some_value d.told k.disk.told).0) rule) (sym k.memory.meta_is) holds.2)
     by_stop (fetches.Damaged at (Level asked found)) holds fault memory p = holds
     by_stop (fetches.Damaged at (Extent asked found)) holds fault memory p = holds
     by_stop fetches.ReadFault holds fault memory p = fault refl
-    by_stop fetches.NoMemory holds fault memory p = memory refl
+    by_stop fetches.Crowded holds fault memory p = memory refl
 
 -- a number that is no page's has no page in memory
 pub none_there : (st : StoreState) (id : ℕ) → IsMemory st → IsSome (in_memory st id) → IsNoPage st.meta id → ⊥
@@ -258,3 +224,28 @@ none_there st id is some none =
       | inl zero ↦ omega (arith, zero, range.0)
       | inr above ↦ omega (arith, above, range.1)
     ]
+
+-- ---- a page that was read and held is the file's
+
+spells_value : (meta : Meta) (bytes : List ℕ) (page : Page) → IsSomeAnd (page_of_bytes bytes) (λ page. SpellsPage bytes page × IsGoodPage meta page) → page_of_bytes bytes ≡ Some page → SpellsPage bytes page
+spells_value meta bytes page good read = let Q : Option Page → Type 0 = λ o. IsSomeAnd o (λ page. SpellsPage bytes page × IsGoodPage meta page) in (subst Q read good).0
+
+pub read_keeps : SpelledOnce → (d e : DiskModel) → IsDisk d → (st new : StoreState) (uses : List Use) (id : ℕ) (bytes : List ℕ) → IsTied st uses → in_memory st id ≡ None → IsPageOf st.meta id → Stays d e → Fetched id st new
+    → in_memory new id ≡ page_of_bytes bytes → IsSomeAnd (page_of_bytes bytes) (λ page. SpellsPage bytes page × IsGoodPage st.meta page) → IfSome d.told (λ b. bytes ≡ place_bytes st.meta id b)
+    → (durable : FileState) (later : List FileState) → StoreKeeps d st durable later → StoreKeeps e new durable later
+read_keeps once d e disk st new uses id bytes tied none at stays fetched there good read durable later k =
+    keeps_fetched e st new durable later id fetched
+    (λ page is. is_the_page once d st durable later id page disk k at.0 at.1 (clean_outside st uses id tied none) (spelled_there d.told bytes (place_bytes st.meta id) page (spells_value st.meta bytes page good (sym there ∙ is)) read))
+    (keeps_read d e st durable later stays k)
+
+-- no page of a sound file that isn't in memory stops a fetch but for a fault, or want of a place
+pub sound_stops : {X : Type 0} (r : Result X FetchStop) → SpelledOnce → (d : DiskModel) (st : StoreState) (uses : List Use) (durable : FileState) (later : List FileState) (id : ℕ) → IsDisk d → StoreKeeps d st durable later → 1 ≤ id → id ≤ st.meta.high
+    → IsTied st uses → in_memory st id ≡ None → IfErr r (HoldsNot st.meta (option_map (place_bytes st.meta id) d.told) id) → IsSound (last_of durable later)
+    → IfErr r (λ stop. (stop ≢ fetches.ReadFault) → (stop ≢ fetches.Crowded) → IsNoPage st.meta id)
+sound_stops (Ok x) once d st uses durable later id disk k some high tied none why sound = tt
+sound_stops (Err stop) once d st uses durable later id disk k some high tied none why sound = λ fault crowded. absurd (sound_stop once d st durable later id stop disk k some high (clean_outside st uses id tied none) why sound fault crowded)
+
+-- where a look-up gave nothing the page isn't in memory
+pub none_so : {X : Type 0} (r m : Option X) → is_some r ≡ false → r ≡ m → m ≡ None
+none_so None m none is = sym is
+none_so (Some x) m none is = absurd cc

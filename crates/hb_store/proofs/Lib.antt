@@ -6,6 +6,15 @@ mod AfterForce
 mod Written
 mod Setting
 mod Held
+mod Framed
+mod Filled
+mod Room
+mod Remembered
+mod Called
+mod Holding
+mod Committing
+mod Putting
+mod Checked
 mod Grouped
 mod InLog
 mod Committed
@@ -19,3 +28,6 @@ pub mod OneFile
 pub mod OneKept
 pub mod Replays
 pub mod Touches
+pub mod HomeWrites
+pub mod WrittenHome
+pub mod Flushes

@@ -17,12 +17,12 @@ use Rattle.hb_store.specs.States.{IsMemory, IsNew, IsStanding, new_state}
 use Rattle.hb_store.specs.Keeps.{StoreKeeps, IsFresh}
 use Rattle.hb_store.proofs.Facts.ReplayLaws.{opens_fresh}
 
--- no page is in memory, and none is in the log
+-- no page is in memory, none is in the log, and none is dirty
 none_in_log : (id : ℕ) → set.contains (set.empty {R = nat_cmp}) id ≡ false
 none_in_log id = set.contains-empty nat_cmp id
 
 pub is_new : (turn : ℕ) (meta : Meta) → IsNew turn meta (new_state turn meta)
-is_new turn meta = record { turn_is = refl; meta_is = refl; log_is = refl; no_page = λ id. map.get-empty nat_cmp id; none_in_log = none_in_log; running = refl }
+is_new turn meta = record { turn_is = refl; meta_is = refl; log_is = refl; no_page = λ id. map.get-empty nat_cmp id; none_in_log = none_in_log; none_dirty = none_in_log; running = refl }
 
 pub new_memory : (turn : ℕ) (meta : Meta) → IsStanding turn meta → IsMemory (new_state turn meta)
 new_memory turn meta stands = record {
@@ -31,6 +31,7 @@ new_memory turn meta stands = record {
   len = refl;
   good = λ id page is. let never : None ≡ Some page = sym (map.get-empty nat_cmp id) ∙ is in cc never;
   in_file = λ id on. let never : false ≡ true = sym (none_in_log id) ∙ on in cc never;
+  logged = λ id on. on;
 }
 
 module _ (d : DiskModel) (is_disk : IsDisk d) (turn : ℕ) (meta : Meta) (s : FileState) (fresh : IsFresh d turn meta s) (room : file_size meta ≤ d.size) where

@@ -1,15 +1,13 @@
 -- Pages that were set, one after the other.
-use Rattle.std.proofs.Common.{◌≡◌, inl, inr, ℕ, suc, ◌<◌, ◌==◌, Bool, true, false, cond, List, [], ◌∷◌, length, get_or, All, Option, Some, None, IsTrue, refl, sym, ap, ◌∙◌, subst, arith}
+use Rattle.std.proofs.Common.{◌≡◌, inl, inr, ℕ, ◌==◌, Bool, true, false, cond, List, [], ◌∷◌, All, Option, Some, IsTrue, refl, sym, ap, ◌∙◌, subst}
 use Rattle.std.specs.Prelude.{◌||◌, nat_eq}
 use Rattle.std.specs.Option.{is_some}
-use Rattle.std.specs.List.{remove}
-use Rattle.std.proofs.lemmas.Bool.{or_parts, eqb-true, or_right, or_cases}
+use Rattle.std.proofs.lemmas.Bool.{eqb-true, or_right, or_cases}
 use Rattle.std.proofs.lemmas.List.Elements.{All-head, All-tail}
 use Rattle.hb_frag.specs.declared.pages.Page.{Page}
 use Rattle.hb_store.specs.Replay.{set_pages, has_page, is_among}
-use Rattle.hb_store.proofs.Facts.ReplayLists.{set_not, set_pages-same}
 
-or_swap : (a b c : Bool) → (a || (b || c)) ≡ (b || (a || c))
+pub or_swap : (a b c : Bool) → (a || (b || c)) ≡ (b || (a || c))
 or_swap true true c = refl
 or_swap true false c = refl
 or_swap false b c = refl
@@ -44,12 +42,6 @@ among_all Q (id ∷ rest) q all is = elim (or_cases (q == id) (is_among q rest) 
   | inr later ↦ among_all Q rest q (All-tail Q id rest all) later
 ]
 
--- where no page is, none was set and none was before
-pub none_set : (pages : List (ℕ × Page)) (f : ℕ → Option Page) (q : ℕ) → set_pages pages f q ≡ None → (f q ≡ None) × (has_page q pages ≡ false)
-none_set pages f q none =
-    let off = or_parts (has_page q pages) (is_some (f q)) (sym (set_some pages f q) ∙ ap (λ (o : Option Page). is_some o) none) in
-    (sym (set_not pages f q off.0) ∙ none, off.0)
-
 pub or_cond : (a b : Bool) → cond a true b ≡ (a || b)
 or_cond true b = refl
 or_cond false b = refl
@@ -58,30 +50,3 @@ or_cond false b = refl
 pub add_next : (q id : ℕ) (rest : List ℕ) (before after : Bool) → after ≡ (nat_eq q id || before) → (is_among q rest || after) ≡ (is_among q (id ∷ rest) || before)
 add_next q id rest before after is =
     ap (λ (b : Bool). is_among q rest || b) is ∙ or_swap (is_among q rest) (q == id) before ∙ sym (or_assoc (q == id) (is_among q rest) before)
-
--- ---- one page set, of those that are left
-
-pub one_less : (items rest : List (ℕ × Page)) → 0 < length items → rest ≡ remove items 0 → length items ≡ suc (length rest)
-one_less [] rest lt is = absurd (omega (arith, lt))
-one_less (x ∷ xs) rest lt is = ap (λ (l : List (ℕ × Page)). suc (length l)) (sym is)
-
-pub record SetsOne (items rest whole : List (ℕ × Page)) (new start : ℕ → Option Page) (added before : ℕ → Bool) : Type 0 where
-  pub set : (q : ℕ) → set_pages rest new q ≡ set_pages whole start q
-  pub numbers : (q : ℕ) → (has_page q rest || added q) ≡ (has_page q whole || before q)
-
-pub set_one : (items rest whole : List (ℕ × Page)) (one : ℕ × Page) (new f start : ℕ → Option Page) (added m before : ℕ → Bool) → 0 < length items → one ≡ get_or items 0 one → rest ≡ remove items 0
-    → ((q : ℕ) → new q ≡ set_pages (one ∷ []) f q) → ((q : ℕ) → added q ≡ (nat_eq q one.0 || m q))
-    → ((q : ℕ) → set_pages items f q ≡ set_pages whole start q) → ((q : ℕ) → (has_page q items || m q) ≡ (has_page q whole || before q))
-    → SetsOne items rest whole new start added before
-set_one [] rest whole one new f start added m before lt is left e numbers set all = absurd (omega (arith, lt))
-set_one (x ∷ xs) rest whole one new f start added m before lt is left e numbers set all = record {
-  set = λ q.
-      ap (λ (l : List (ℕ × Page)). set_pages l new q) left
-      ∙ set_pages-same xs new (λ r. cond (r == one.0) (Some one.1) (f r)) e q
-      ∙ ap (λ (p : ℕ × Page). set_pages xs (λ r. cond (r == p.0) (Some p.1) (f r)) q) is
-      ∙ set q;
-  numbers = λ q.
-      ap (λ (l : List (ℕ × Page)). has_page q l || added q) left
-      ∙ ap (λ (b : Bool). has_page q xs || b) (numbers q ∙ ap (λ (p : ℕ × Page). (q == p.0) || m q) is)
-      ∙ or_swap (has_page q xs) (q == x.0) (m q) ∙ sym (or_assoc (q == x.0) (has_page q xs) (m q)) ∙ all q;
-}

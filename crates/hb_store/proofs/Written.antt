@@ -1,12 +1,10 @@
 -- What it is to write the oldest group, from what the log's force did.
-use Rattle.std.proofs.Common.{zero, suc, ◌*◌, ◌%◌, ◌<◌, ◌≤◌, ◌≡◌, ℕ, ◌+◌, ◌++◌, List, [], ◌∷◌, Ok, Err, IsSome, false, refl, sym, subst, ap, arith}
+use Rattle.std.proofs.Common.{zero, suc, ◌*◌, ◌%◌, ◌<◌, ◌≤◌, ◌≡◌, ℕ, ◌+◌, ◌++◌, List, [], Ok, Err, IsSome, false, refl, sym, subst, ap, arith}
 use Rattle.hb_lemmas.proofs.Options.{some_value}
 use Rattle.hb_disk.specs.Model.{DiskModel, IsDisk, Stays, Torn}
 use Rattle.hb_disk.specs.Calls.{Leaves}
 use Rattle.hb_disk.specs.Runs.{Rewrites}
-use Rattle.hb_disk.proofs.Facts.FaultLaws.{Stays-same}
-use Rattle.hb_disk.proofs.Facts.RunLaws.{Leaves-start}
-use Rattle.hb_wal.specs.Log.{LogState, Waiting, after_force, forced}
+use Rattle.hb_wal.specs.Log.{LogState, after_force, forced}
 use Rattle.hb_wal.specs.Forces.{ForceLeaves, HasLog, calls_of_force}
 use Rattle.hb_layout.specs.Offsets.{file_size}
 use Rattle.hb_ops.specs.Files.{FileState}
@@ -15,7 +13,6 @@ use Rattle.hb_store.specs.Keeps.{OpensToFirst, StoreKeeps}
 use Rattle.hb_store.specs.Forced.{WritesOldest, durable_after, later_after, stopped_state, with_log}
 use Rattle.hb_store.specs.declared.stops.WriteFault.{WriteFault}
 use Rattle.hb_store.proofs.AfterForce.{keeps_forced, keeps_stopped, moments_open}
-use Rattle.hb_store.proofs.Facts.StoreLaws.{StoreKeeps-alone, StoreKeeps-opens}
 
 -- the log lies within a disk that the file fits
 half_fits : (half log : ℕ) → half < 2 → half * log ≤ log
@@ -69,26 +66,3 @@ module _ (d e : DiskModel) (is_disk : IsDisk d) (is_new : IsDisk e) (st : StoreS
     wrote = record { became = wrote.became; later = wrote.later; few = wrote.few; faults = wrote.faults };
     clock = λ told. tt;
   }
-
--- where no group waits nothing is done
-log_idle : (log : LogState) (groups : List Waiting) → groups ≡ [] → ◌≡◌ {A = LogState} (record { area = log.area; len = log.len; written = log.written; groups = groups }) (after_force (record { area = log.area; len = log.len; written = log.written; groups = groups }))
-log_idle log [] none =
-    let more : log.written ≡ log.written + 0 = omega arith in
-    λ i. record { area = log.area; len = log.len; written = more i; groups = [] }
-log_idle log (first ∷ rest) none = cc none
-
-pub nothing_written : {T : Type 0} (x : T) (d : DiskModel) (st : StoreState) → IsDisk d → st.log.groups ≡ [] → Rewrites {T = T} {E = WriteFault} (Torn st.log.area st.log.len) 4 (Ok x) d d → WritesOldest (Ok x) d d st st
-nothing_written x d st is_disk none wrote = record {
-  nothing = λ _. (refl, Stays-same d);
-  forced = ap (λ (l : LogState). with_log l st) (log_idle st.log st.log.groups none);
-  stopped = tt;
-  keeps_forced = λ durable later keeps.
-      let alone : later ≡ [] = StoreKeeps-alone d st durable later keeps none in
-      let Before : List FileState → Type 0 = λ l. StoreKeeps d st durable l in
-      let K : List FileState → Type 0 = λ l. StoreKeeps d st (durable_after durable l) (later_after l) in
-      subst K (sym alone) (subst Before alone keeps);
-  keeps_stopped = λ durable later keeps. tt;
-  moments = λ durable later keeps. Leaves-start d (OpensToFirst durable later) is_disk (StoreKeeps-opens d st durable later keeps);
-  wrote = wrote;
-  clock = λ told. omega (arith, ap calls_of_force none);
-}

@@ -1,13 +1,16 @@
 -- What a fetch and a commit do to what a store is seen as.
-use Rattle.std.specs.Prelude.{◌≡◌, ◌≢◌, ℕ, ◌-◌, ◌≤◌, ◌||◌, false, IsTrue, List, [], ◌∷◌, ◌++◌, get_or, Option, IsSome, ◌⊎◌, None}
+use Rattle.std.specs.Prelude.{◌≡◌, ◌≢◌, ℕ, ◌-◌, ◌<◌, ◌≤◌, ◌||◌, false, true, IsTrue, List, [], ◌∷◌, ◌++◌, get_or, map, Option, IsSome, is_some, IsSomeAnd, ◌⊎◌, None, if◌then◌else◌}
 use Rattle.hb_space.specs.declared.form.TheConstants.{GROUP, PENDING}
 use Rattle.hb_frag.specs.declared.pages.LivePage.{LivePage}
+use Rattle.hb_frag.specs.declared.pages.Page.{Page}
 use Rattle.hb_ops.specs.declared.operations.Op.{Op}
 use Rattle.hb_ops.specs.Files.{FileState, if_live}
 use Rattle.hb_ops.specs.Operations.{Change, IsAllowedOn, change_of, effect_of, reads_of}
+use Rattle.hb_pool.specs.Frames.{Use, filled, must_stay}
+use Rattle.hb_pool.specs.Pools.{brought, frame_of, places, put_last}
 use Rattle.hb_wal.specs.Log.{pending_bytes, room_of}
 use Rattle.hb_store.specs.Replay.{set_pages, has_page, is_among}
-use Rattle.hb_store.specs.States.{StoreState, in_memory, is_in_log}
+use Rattle.hb_store.specs.States.{StoreState, in_memory, is_dirty, is_in_log}
 use Rattle.hb_store.specs.Keeps.{last_of}
 
 -- the page in use that an operation reads at a place of its list, among those in memory
@@ -21,15 +24,13 @@ IsAllowedHere st op = IsAllowedOn op st.meta (read_here st op 0) (read_here st o
 abbrev pub change_here : StoreState → Op → Change
 change_here st op = change_of op st.meta (read_here st op 0) (read_here st op 1) (read_here st op 2)
 
--- The page of this number stays in memory. Today each page does that is there. With a bounded memory it will be those that
--- somebody holds, and those that read otherwise in their places than the file has them.
-abbrev pub StaysHere : StoreState → ℕ → Type 0
-StaysHere st id = IsSome (in_memory st id)
+-- The page of this number is in memory and stays there, whatever comes: it is dirty or pinned.
+abbrev pub StaysHere : List Use → ℕ → Type 0
+StaysHere uses id = IsSomeAnd (frame_of uses id) (λ (u : Use). IsTrue (must_stay u))
 
--- No page comes under this number: what was there is there as it was, or it left. Then it didn't have to stay, and the log
--- of this turn has no page image of it and didn't make it: so it reads in its place as the file has it.
+-- No page comes under this number: what was there is there as it was, or it left, and reads in its place as the file has it.
 abbrev pub NoneComes : StoreState → StoreState → ℕ → Type 0
-NoneComes old new id = (in_memory new id ≡ in_memory old id) ⊎ ((in_memory new id ≡ None) × (¬ (StaysHere old id)) × (is_in_log old id ≡ false))
+NoneComes old new id = (in_memory new id ≡ in_memory old id) ⊎ ((in_memory new id ≡ None) × (is_dirty old id ≡ false))
 
 -- all but the pages in memory is the same
 pub record KeepsAllButPages (old new : StoreState) : Type 0 where
@@ -37,6 +38,7 @@ pub record KeepsAllButPages (old new : StoreState) : Type 0 where
   pub meta : new.meta ≡ old.meta
   pub log : new.log ≡ old.log
   pub in_log : new.in_log ≡ old.in_log
+  pub dirty : new.dirty ≡ old.dirty
   pub stopped : new.stopped ≡ old.stopped
 
 -- A fetch: the page of the number is in memory now, and no other page came.
@@ -45,10 +47,12 @@ pub record Fetched (id : ℕ) (old new : StoreState) : Type 0 where
   pub there : IsSome (in_memory new id)
   -- where it was there before, it is the same
   pub same : IsSome (in_memory old id) → in_memory new id ≡ in_memory old id
-  -- a page that stays is there as it was
-  pub kept : (q : ℕ) → StaysHere old q → in_memory new q ≡ in_memory old q
   -- no other page came
   pub others : (q : ℕ) → q ≢ id → NoneComes old new q
+
+-- The order of use then: a page that came is last, and where no frame was empty, the first one went that was clean and not pinned.
+abbrev pub use_fetched : ℕ → List Use → List Use
+use_fetched id uses = if is_some (frame_of uses id) then uses else brought id (tt {0}) false uses
 
 -- A commit: the changed pages are in memory, they and those that were read are in this turn's log, and one group
 -- more waits, with its mark.
@@ -59,12 +63,12 @@ pub record Commits (op : Op) (mark : ℕ) (old new : StoreState) : Type 0 where
   pub meta : new.meta ≡ (change_here old op).meta
   -- the pages that it makes are in memory, of each number the last one
   pub made : (id : ℕ) → IsTrue (has_page id (change_here old op).pages) → in_memory new id ≡ set_pages (change_here old op).pages (in_memory old) id
-  -- a page that stays, and isn't one of these, is there as it was
-  pub kept : (id : ℕ) → has_page id (change_here old op).pages ≡ false → StaysHere old id → in_memory new id ≡ in_memory old id
   -- no other page came
   pub others : (id : ℕ) → has_page id (change_here old op).pages ≡ false → NoneComes old new id
   -- these and the pages that it reads are in this turn's log
   pub in_log : (id : ℕ) → is_in_log new id ≡ (has_page id (change_here old op).pages || (is_among id (reads_of op) || is_in_log old id))
+  -- and the changed ones are to be written to their places
+  pub dirty : (id : ℕ) → is_dirty new id ≡ (has_page id (change_here old op).pages || is_dirty old id)
   pub area : new.log.area ≡ old.log.area
   pub len : new.log.len ≡ old.log.len
   pub written : new.log.written ≡ old.log.written
@@ -72,9 +76,28 @@ pub record Commits (op : Op) (mark : ℕ) (old new : StoreState) : Type 0 where
   -- it waits behind the others, with its mark
   pub groups : new.log.groups ≡ old.log.groups ++ record { bytes = group; mark = mark } ∷ []
 
+-- The order of use once pages of these numbers were changed, one after the other: each is dirty and last; one that was in no
+-- frame came as in a fetch.
+abbrev pub use_changed : List ℕ → List Use → List Use
+use_changed [] uses = uses
+use_changed (id ∷ rest) uses = use_changed rest (if is_some (frame_of uses id) then put_last id (filled (tt {0})) uses else brought id (tt {0}) true uses)
+
+-- the numbers of the pages that an operation changes
+abbrev pub numbers_changed : StoreState → Op → List ℕ
+numbers_changed st op = map (λ (c : ℕ × Page). c.0) (change_here st op).pages
+
+-- There is a place for a page that an operation makes and that is in no frame; and the pages that it reads stay.
+pub record HasFrameFor (op : Op) (st : StoreState) (uses : List Use) : Type 0 where
+  pub reads : (id : ℕ) → IsTrue (is_among id (reads_of op)) → StaysHere uses id
+  pub place : (id : ℕ) → IsTrue (has_page id (change_here st op).pages) → in_memory st id ≡ None → 0 < places uses
+
 -- The store may take an operation: room for the longest group, few pending bytes.
 abbrev pub IsReady : StoreState → Type 0
 IsReady st = (GROUP ≤ room_of st.log) × (pending_bytes st.log.groups ≤ PENDING - GROUP)
+
+-- besides there are places for the wanted page, the head of the free chain, and the page that is made
+abbrev pub HasPlaces : List Use → Type 0
+HasPlaces uses = 3 ≤ places uses
 
 -- the files after a commit
 abbrev pub with_op : FileState → List FileState → Op → List FileState

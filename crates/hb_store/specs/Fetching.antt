@@ -1,5 +1,5 @@
 -- What a fetch reads and makes of a store, why it brings no page, and the number that an allocation takes.
-use Rattle.std.specs.Prelude.{◌≡◌, ◌≢◌, ◌⊎◌, ℕ, ◌<◌, List, Option, IfSome, ◌+◌, Some, None, IsSome}
+use Rattle.std.specs.Prelude.{◌≡◌, ◌≢◌, ◌==◌, ◌||◌, ◌⊎◌, ℕ, ◌<◌, List, Option, IfSome, ◌+◌, Some, None, IsSome, if◌then◌else◌}
 use Rattle.hb_disk.specs.Model.{DiskModel}
 use Rattle.hb_frag.specs.declared.pages.Page.{Page}
 use Rattle.hb_frag.specs.declared.pages.Page.TheVariants.{Live, Free}
@@ -11,12 +11,13 @@ use Rattle.hb_store.specs.Opening.{place_bytes}
 use Rattle.hb_store.specs.declared.stops.Why.TheVariants.{Rule}
 use Rattle.hb_store.specs.declared.stops.FetchStop.{FetchStop}
 use Rattle.hb_store.specs.declared.stops.FetchStop.TheVariants as fetches
-use Rattle.std.specs.FinMap as map
 use Rattle.hb_store.specs.States.{StoreState, in_memory}
 use Rattle.hb_disk.specs.Calls.{ReadsOnly}
 use Rattle.hb_ops.specs.Files.{FileState}
 use Rattle.hb_store.specs.Keeps.{StoreKeeps}
-use Rattle.hb_store.specs.Calls.{Fetched}
+use Rattle.hb_pool.specs.Frames.{Use}
+use Rattle.hb_pool.specs.Pools.{places}
+use Rattle.hb_store.specs.Calls.{Fetched, use_fetched}
 use Rattle.hb_store.specs.declared.stops.FetchStop.TheVariants.{Damaged}
 
 -- the number is of no page of the file
@@ -28,10 +29,6 @@ abbrev pub IsDamagedBy : Meta → List ℕ → ℕ → Type 0
 IsDamagedBy meta bytes rule =
     ((rule ≡ 0) × ((page : Page) → SpellsPage bytes page → ⊥))
     ⊎ ((rule ≢ 0) × (page : LivePage) × SpellsPage bytes (Live page) × BreaksFirst rule page meta)
-
--- a store with a page in memory, under its number
-abbrev pub with_held : ℕ → Page → StoreState → StoreState
-with_held id page st = record { turn = st.turn; meta = st.meta; log = st.log; pages = map.insert st.pages id page; in_log = st.in_log; stopped = st.stopped }
 
 -- What a call that may read a page did to a disk and its store, where `failed` says that a fault of the disk ended it.
 pub record LooksUp (failed : Type 0) (d e : DiskModel) (old new : StoreState) : Type 0 where
@@ -57,7 +54,7 @@ BreaksHere meta id page (fetches.Damaged at (Rule rule)) = (at ≡ id) × (rule 
 BreaksHere meta id page other = ⊥
 
 -- Why the place of a page gave none: it holds no good page, by its bytes where they are known, and the stop says why. A
--- fault and want of memory say nothing of it.
+-- fault and want of a place say nothing of it.
 abbrev pub HoldsNot : Meta → Option (List ℕ) → ℕ → FetchStop → Type 0
 HoldsNot meta bytes id (fetches.Damaged at (Rule rule)) = (at ≡ id) × (rule ≢ 1) × IfSome bytes (λ b. IsDamagedBy meta b rule)
 HoldsNot meta bytes id (fetches.Damaged at other) = ⊥
@@ -66,6 +63,18 @@ HoldsNot meta bytes id other = Unit {0}
 -- a page was fetched, or nothing changed
 abbrev pub MayFetch : ℕ → StoreState → StoreState → Type 0
 MayFetch id old new = (new ≡ old) ⊎ Fetched id old new
+
+-- the same, said of the order of use
+abbrev pub MayUse : ℕ → List Use → List Use → Type 0
+MayUse id uses after = (after ≡ uses) ⊎ (after ≡ use_fetched id uses)
+
+-- the page isn't in memory, and there is no place for it
+abbrev pub IsCrowdedOut : ℕ → StoreState → List Use → Type 0
+IsCrowdedOut id st uses = (¬ (IsNoPage st.meta id)) × (in_memory st id ≡ None) × (places uses ≡ 0)
+
+-- the order of use once the number for a page that is made was asked for: the head of the free chain is needed, where there is one
+abbrev pub use_numbered : Meta → List Use → List Use
+use_numbered meta uses = if (meta.live == meta.pages) || (meta.free == 0) then uses else use_fetched meta.free uses
 
 -- The number that is taken, and the free head after it: the first of the free chain and what it names, or where the
 -- chain has none the number behind the highest page, and none.

@@ -12,14 +12,14 @@ use Rattle.hb_store.specs.declared.stops.WriteFault.{WriteFault}
 
 -- a store after a force: the first group that waited doesn't any more
 abbrev pub with_log : LogState → StoreState → StoreState
-with_log log st = record { turn = st.turn; meta = st.meta; log = log; pages = st.pages; in_log = st.in_log; stopped = st.stopped }
+with_log log st = record st { log = log }
 
 abbrev pub forced_state : StoreState → StoreState
 forced_state st = with_log (after_force st.log) st
 
 -- a store that a fault has stopped
 abbrev pub stopped_state : StoreState → StoreState
-stopped_state st = record { turn = st.turn; meta = st.meta; log = st.log; pages = st.pages; in_log = st.in_log; stopped = true }
+stopped_state st = record st { stopped = true }
 
 -- The files after a force: the next one is durable, where a group waited.
 abbrev pub durable_after : FileState → List FileState → FileState

@@ -8,7 +8,7 @@ use Rattle.hb_frag.specs.declared.pages.Page.{Page}
 use Rattle.hb_frag.specs.Grammar.{SpellsPage}
 use Rattle.hb_ops.specs.Files.{FileState, page_of}
 use Rattle.hb_store.specs.Opening.{OpensTo, place_bytes}
-use Rattle.hb_store.specs.States.{StoreState, in_memory, is_in_log}
+use Rattle.hb_store.specs.States.{StoreState, in_memory, is_dirty, is_in_log}
 use Rattle.hb_store.specs.Parts.{Parts, IsRunning, IsDurable, IsWaiting, IsInLog, IsInMemory}
 
 -- the last of the files behind the first one
@@ -28,7 +28,7 @@ pub record StoreKeeps (d : DiskModel) (st : StoreState) (durable : FileState) (l
   -- what is in the log
   pub in_log : IsInLog d (is_in_log st) parts (last_of durable later)
   -- what is in memory
-  pub memory : IsInMemory d st.meta (in_memory st) parts (last_of durable later)
+  pub memory : IsInMemory d st.meta (in_memory st) (is_dirty st) parts (last_of durable later)
 
 -- A disk from which a store may start: every image opens to this file, both superblock places and the log area of this
 -- turn are synced, the place of the next turn has no body of that turn, the area reads as zeros, and every page stands

@@ -1,12 +1,15 @@
 pub mod Replay
 pub mod Opening
 pub mod States
+pub mod Held
 pub mod Inside
 pub mod Parts
 pub mod Keeps
 pub mod Seen
 pub mod Calls
+pub mod Filling
 pub mod Forced
+pub mod WritingHome
 pub mod Making
 pub mod Fetching
 pub mod Replaying

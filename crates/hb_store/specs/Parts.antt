@@ -1,5 +1,5 @@
 -- What a store keeps of the disk, in parts: what is durable, what waits, what is in the log and what is in memory.
-use Rattle.std.specs.Prelude.{◌≡◌, ◌⊎◌, ℕ, List, [], ◌∷◌, Some, IsSome, ◌*◌, Bool, false, ◌++◌, length, map, All, Option, None, IsTrue, is_some}
+use Rattle.std.specs.Prelude.{◌≡◌, ◌⊎◌, ℕ, List, [], ◌∷◌, Some, IsSome, ◌*◌, Bool, false, ◌++◌, length, map, All, Option, IsTrue, is_some}
 use Rattle.hb_disk.specs.Model.{DiskModel}
 use Rattle.hb_layout.specs.Offsets.{slot_offset}
 use Rattle.hb_layout.specs.declared.meta.Meta.{Meta}
@@ -96,13 +96,14 @@ pub record IsInLog (d : DiskModel) (in_log : ℕ → Bool) (p : Parts) (file : F
   -- what is not stands in its place in each image
   pub synced : (id : ℕ) (page : Page) → in_log id ≡ false → page_of file id ≡ Some page → (c : List ℕ) → d.Image c → SpellsPage (place_bytes p.said id c) page
 
--- Memory has what the file says of itself, and pages of it; a page that isn't in memory reads in its place.
-pub record IsInMemory (d : DiskModel) (meta : Meta) (page_in : ℕ → Option Page) (p : Parts) (file : FileState) : Type 0 where
+-- Memory has what the file says of itself, and pages of it; a page reads in its place as the file has it, but for one that is in memory
+-- and is to be written there still.
+pub record IsInMemory (d : DiskModel) (meta : Meta) (page_in : ℕ → Option Page) (dirty : ℕ → Bool) (p : Parts) (file : FileState) : Type 0 where
   -- the file was laid down as the superblock says
   pub layout : IsSameLayout p.said meta
   -- the file says of itself what the store says
   pub meta_is : file.meta ≡ meta
   -- a page in memory is the page of the file
   pub cached : (id : ℕ) (page : Page) → page_in id ≡ Some page → page_of file id ≡ Some page
-  -- one that is not is read from its place
-  pub placed : (id : ℕ) (page : Page) (b : List ℕ) → page_in id ≡ None → page_of file id ≡ Some page → d.told ≡ Some b → SpellsPage (place_bytes p.said id b) page
+  -- one that is in none, or in a clean one, is read from its place
+  pub placed : (id : ℕ) (page : Page) (b : List ℕ) → dirty id ≡ false → page_of file id ≡ Some page → d.told ≡ Some b → SpellsPage (place_bytes p.said id b) page

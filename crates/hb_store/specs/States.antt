@@ -24,6 +24,8 @@ pub record StoreState : Type 0 where
   pub pages : map.FinMap nat_cmp Page
   -- the numbers of the pages of which this turn's log has a page image, or which it made, in memory or not
   pub in_log : set.FinSet nat_cmp
+  -- the numbers of the pages in memory that are to be written to their places still
+  pub dirty : set.FinSet nat_cmp
   -- whether a write, zero or sync failed
   pub stopped : Bool
 
@@ -34,6 +36,10 @@ in_memory st id = map.get st.pages id
 -- whether this turn's log has a page image of the page of a number, or made it
 abbrev pub is_in_log : StoreState → ℕ → Bool
 is_in_log st id = set.contains st.in_log id
+
+-- whether the page of a number is to be written to its place still
+abbrev pub is_dirty : StoreState → ℕ → Bool
+is_dirty st id = set.contains st.dirty id
 
 -- what a store may say of its turn and its file, over any disk
 pub record IsStanding (turn : ℕ) (meta : Meta) : Type 0 where
@@ -66,6 +72,8 @@ pub record IsMemory (st : StoreState) : Type 0 where
   pub good : AreGood st.meta (in_memory st)
   -- only pages of the file are in the log
   pub in_file : (id : ℕ) → IsTrue (is_in_log st id) → (1 ≤ id) × (id ≤ st.meta.high)
+  -- a page that is to be written to its place is in the log
+  pub logged : (id : ℕ) → IsTrue (is_dirty st id) → IsTrue (is_in_log st id)
 
 -- What every store is, over every disk.
 pub record IsStore (size : ℕ) (st : StoreState) : Type 0 where
@@ -82,6 +90,7 @@ new_state turn meta = record {
   log = record { area = log_start turn meta; len = meta.log; written = 0; groups = [] };
   pages = map.empty;
   in_log = set.empty;
+  dirty = set.empty;
   stopped = false;
 }
 
@@ -91,6 +100,7 @@ pub record IsNew (turn : ℕ) (meta : Meta) (st : StoreState) : Type 0 where
   pub log_is : st.log ≡ record { area = log_start turn meta; len = meta.log; written = 0; groups = [] }
   pub no_page : (id : ℕ) → in_memory st id ≡ None
   pub none_in_log : (id : ℕ) → is_in_log st id ≡ false
+  pub none_dirty : (id : ℕ) → is_dirty st id ≡ false
   pub running : st.stopped ≡ false
 
 -- The parts of a file that no operation changes.

@@ -5,10 +5,11 @@ ghost use Rattle.hb_ops.specs.Allocating.{Allocates, NamesNext};
 ghost use Rattle.hb_ops.specs.Files.{FileState, page_of};
 ghost use Rattle.hb_ops.specs.Sound.{IsSound};
 ghost use Rattle.hb_store.specs.States.{IsMemory, in_memory};
-ghost use Rattle.hb_store.specs.Fetching.{LooksUp, IsDamage, IsNext, IsNoHead, MayFetch, NeedsNoRead};
+ghost use Rattle.hb_store.specs.Fetching.{IsCrowdedOut, LooksUp, IsDamage, IsNext, IsNoHead, MayFetch, MayUse, NeedsNoRead, use_numbered};
+ghost use Rattle.hb_store.specs.Calls.{StaysHere, use_fetched};
 ghost use Rattle.hb_store.specs.Keeps.{StoreKeeps, last_of};
-ghost use Rattle.hb_store.specs.Seen.{seen_as};
-ghost use Rattle.hb_store.specs.declared.stops.FetchStop.TheVariants.{Damaged, ReadFault};
+ghost use Rattle.hb_store.specs.Seen.{seen_as, uses_of};
+ghost use Rattle.hb_store.specs.declared.stops.FetchStop.TheVariants.{Crowded, Damaged, ReadFault};
 ghost use Rattle.hb_store.specs.declared.stops.Why.TheVariants.{Rule};
 
 use crate::fetches::damaged;
@@ -24,15 +25,20 @@ impl<D: Device> Store<D> {
     /// `Damaged` where the head of the chain isn't one of its free pages: for the rule by which `fetch` refuses it, or
     /// for rule 2 where it is in use. So too, of page 0, where the chain has none and no number is left.
     pub fn next_page(&mut self) -> Result<Option<(u32, u32)>, FetchStop>
-        ensures full { (seen_as self.old).meta.live ≡ (seen_as self.old).meta.pages → IfOk result (λ page. page ≡ None) × IsOk result × (seen_as self.new ≡ seen_as self.old) }
+        ensures full { (seen_as self.old).meta.live ≡ (seen_as self.old).meta.pages → IfOk result (λ page. page ≡ None) × IsOk result × (seen_as self.new ≡ seen_as self.old) × (uses_of self.new ≡ uses_of self.old) }
         ensures room { (seen_as self.old).meta.live ≢ (seen_as self.old).meta.pages → IfOk result (λ page. IsSome page) }
         ensures next { IfOk result (λ page. IfSome page (λ p. IsNext (seen_as self.new) p.0 p.1)) }
         ensures allocates { IfOk result (λ page. IfSome page (λ p. Allocates (seen_as self.new).meta p.0 p.1)) }
         ensures names { (durable : FileState) (later : List FileState) → StoreKeeps (D.model self.old.disk) (seen_as self.old) durable later →
             IfOk result (λ page. IfSome page (λ p. NamesNext (last_of durable later) p.0 p.1)) }
         ensures fetches { MayFetch (seen_as self.old).meta.free (seen_as self.old) (seen_as self.new) }
+        ensures uses { OnOk result (uses_of self.new ≡ use_numbered (seen_as self.old).meta (uses_of self.old)) }
+        ensures may_use { MayUse (seen_as self.old).meta.free (uses_of self.old) (uses_of self.new) }
+        // a page that is dirty or pinned is there as it was
+        ensures stays { (q : ℕ) → StaysHere (uses_of self.old) q → in_memory (seen_as self.new) q ≡ in_memory (seen_as self.old) q }
+        ensures crowded { IsErrOf result Crowded → ((seen_as self.old).meta.free ≢ 0) × IsCrowdedOut (seen_as self.old).meta.free (seen_as self.old) (uses_of self.old) }
         // without a read nothing changes, and only damage stops it
-        ensures unread { NeedsNoRead (seen_as self.old) → (self.new.disk ≡ self.old.disk) × (seen_as self.new ≡ seen_as self.old) }
+        ensures unread { NeedsNoRead (seen_as self.old) → (self.new.disk ≡ self.old.disk) × (seen_as self.new ≡ seen_as self.old) × (uses_of self.new ≡ uses_of self.old) }
         ensures damage { NeedsNoRead (seen_as self.old) → IfErr result IsDamage }
         ensures looks { LooksUp (IsErrOf result ReadFault) (D.model self.old.disk) (D.model self.new.disk) (seen_as self.old) (seen_as self.new) }
         // the head of the chain is none that is free, or the chain has none and no number is left behind the highest page
@@ -40,7 +46,7 @@ impl<D: Device> Store<D> {
             ⊎ (((seen_as self.old).meta.free ≡ 0) × ((seen_as self.old).meta.high ≡ (seen_as self.old).meta.pages) × (stop ≡ Damaged 0 (Rule 2)))) }
         // in a sound file nothing is damaged
         ensures sound { (durable : FileState) (later : List FileState) → StoreKeeps (D.model self.old.disk) (seen_as self.old) durable later →
-            IsSound (last_of durable later) → IfErr result (λ stop. (stop ≢ FetchStop.ReadFault) → (stop ≢ FetchStop.NoMemory) → ⊥) }
+            IsSound (last_of durable later) → IfErr result (λ stop. (stop ≢ FetchStop.ReadFault) → (stop ≢ FetchStop.Crowded) → ⊥) }
     {
         let meta = *self.memory.meta();
         if meta.live == meta.pages {
@@ -61,18 +67,22 @@ impl<D: Device> Store<D> {
         ensures named { IfOk result (λ next. in_memory (seen_as self.new) head ≡ Some (Free next)) }
         ensures memory { OnOk result (IsMemory (seen_as self.new)) }
         ensures fetches { MayFetch head (seen_as self.old) (seen_as self.new) }
-        ensures unread { IsSome (in_memory (seen_as self.old) head) → (self.new.disk ≡ self.old.disk) × (seen_as self.new ≡ seen_as self.old) }
+        ensures uses { OnOk result (uses_of self.new ≡ use_fetched head (uses_of self.old)) }
+        ensures may_use { MayUse head (uses_of self.old) (uses_of self.new) }
+        ensures stays { (q : ℕ) → StaysHere (uses_of self.old) q → in_memory (seen_as self.new) q ≡ in_memory (seen_as self.old) q }
+        ensures crowded { IsErrOf result Crowded → IsCrowdedOut head (seen_as self.old) (uses_of self.old) }
+        ensures unread { IsSome (in_memory (seen_as self.old) head) → (self.new.disk ≡ self.old.disk) × (seen_as self.new ≡ seen_as self.old) × (uses_of self.new ≡ uses_of self.old) }
         ensures damage { IsSome (in_memory (seen_as self.old) head) → IfErr result IsDamage }
         ensures looks { LooksUp (IsErrOf result ReadFault) (D.model self.old.disk) (D.model self.new.disk) (seen_as self.old) (seen_as self.new) }
         ensures why { IfErr result (IsNoHead (seen_as self.old).meta (D.model self.old.disk) (seen_as self.new) head) }
         // a page that is free in a sound file isn't damaged
         ensures sound { (durable : FileState) (later : List FileState) → StoreKeeps (D.model self.old.disk) (seen_as self.old) durable later →
             IsSound (last_of durable later) → (next : ℕ) → page_of (last_of durable later) head ≡ Some (Free next) →
-            IfErr result (λ stop. (stop ≢ FetchStop.ReadFault) → (stop ≢ FetchStop.NoMemory) → ⊥) }
+            IfErr result (λ stop. (stop ≢ FetchStop.ReadFault) → (stop ≢ FetchStop.Crowded) → ⊥) }
     {
         self.fetch(head)?;
         match self.get(head) {
-            Some(Page::Free { next }) => Ok(*next),
+            Some(view) if !view.is_live() => Ok(view.next()),
             _ => Err(damaged(head, 2)),
         }
     }

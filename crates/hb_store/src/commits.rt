@@ -1,5 +1,5 @@
 //! Operations in memory, and the groups that wait for them.
-ghost use Rattle.std.specs.Prelude.{◌≡◌, ◌<◌, ◌≤◌, ◌∷◌, ◌++◌, [], false, get_or, List, All, length, IfOk, OnOk, OnErr, Some};
+ghost use Rattle.std.specs.Prelude.{◌≡◌, ℕ, ◌<◌, ◌≤◌, ◌∷◌, ◌++◌, [], false, get_or, List, All, length, IfOk, OnOk, OnErr};
 ghost use Rattle.hb_space.specs.declared.form.TheConstants.{GROUP};
 ghost use Rattle.hb_ops.specs.Given.{given as live_given};
 ghost use Rattle.hb_ops.specs.Files.{FileState, if_live};
@@ -7,13 +7,15 @@ ghost use Rattle.hb_ops.specs.Operations.{BoxesMatch, IsLicensed, OpHas, reads_o
 ghost use Rattle.hb_log_codec.specs.Groups.{FitsGroup, group_bytes};
 ghost use Rattle.hb_store.specs.Keeps.{StoreKeeps, last_of};
 ghost use Rattle.hb_store.specs.Making.{IsDoableHere, MakesWell, group_here};
-ghost use Rattle.hb_store.specs.Seen.{seen_as};
-ghost use Rattle.hb_store.specs.Calls.{Commits, IsAllowedHere, IsReady, change_here, read_here, with_op};
+ghost use Rattle.hb_store.specs.Seen.{seen_as, uses_of};
+ghost use Rattle.hb_store.specs.Calls.{Commits, HasFrameFor, IsAllowedHere, IsReady, StaysHere, change_here, numbers_changed, read_here, use_changed, with_op};
+ghost use Rattle.hb_store.specs.Replay.{has_page};
+ghost use Rattle.hb_store.specs.States.{in_memory};
 
 use crate::group_writing::group_for;
 use crate::making::what_is_made_can_be_written;
 use crate::memory::Memory;
-use crate::pages::{add_all, reserve, set_changed};
+use crate::pages::{NUMBERS, add_all, put_all};
 use crate::store::Store;
 use hb_disk::Device;
 use hb_frag::{LivePage, Page};
@@ -23,20 +25,24 @@ use hb_space::NoMemory;
 use std::alloc::{AllocError, Global};
 
 impl<D: Device> Store<D> {
-    /// Does an operation in memory, and lets its group wait for a force. No device call. For want of memory nothing
-    /// changes.
+    /// Does an operation in memory, and lets its group wait for a force. No device call. The pages that it reads are pinned or
+    /// dirty. For want of memory nothing changes.
     pub fn commit(&mut self, op: Op, mark: u32) -> Result<(), NoMemory>
         requires running { (seen_as self.old).stopped ≡ false }
         requires ready { IsReady (seen_as self.old) }
         requires points { OpHas (seen_as self.old).meta.k op }
         requires allowed { IsAllowedHere (seen_as self.old) op }
         requires boxes { BoxesMatch op (read_here (seen_as self.old) op 0) (read_here (seen_as self.old) op 1) (read_here (seen_as self.old) op 2) }
+        requires place { HasFrameFor op (seen_as self.old) (uses_of self.old) }
         requires licensed { (durable : FileState) (later : List FileState) → StoreKeeps (D.model self.old.disk) (seen_as self.old) durable later →
             IsLicensed (last_of durable later) op }
         requires marks { All (λ g. g.mark ≤ mark) (seen_as self.old).log.groups }
         ensures commits { OnOk result (Commits op mark (seen_as self.old) (seen_as self.new)) }
         ensures group { OnOk result ((seen_as self.new).log.groups ≡ (seen_as self.old).log.groups ++ record { bytes = group_bytes (group_here (seen_as self.old) op); mark = mark } ∷ []) }
-        ensures kept { OnErr result (seen_as self.new ≡ seen_as self.old) }
+        ensures uses { OnOk result (uses_of self.new ≡ use_changed (numbers_changed (seen_as self.old) op) (uses_of self.old)) }
+        // a page that is dirty or pinned, and isn't changed, is there as it was
+        ensures stays { OnOk result ((id : ℕ) → has_page id (change_here (seen_as self.old) op).pages ≡ false → StaysHere (uses_of self.old) id → in_memory (seen_as self.new) id ≡ in_memory (seen_as self.old) id) }
+        ensures kept { OnErr result ((seen_as self.new ≡ seen_as self.old) × (uses_of self.new ≡ uses_of self.old)) }
         ensures disk { self.new.disk ≡ self.old.disk }
         ensures keeps { (durable : FileState) (later : List FileState) → StoreKeeps (D.model self.old.disk) (seen_as self.old) durable later →
             OnOk result (StoreKeeps (D.model self.new.disk) (seen_as self.new) durable (with_op durable later op)) }
@@ -48,64 +54,74 @@ impl<D: Device> Store<D> {
 impl Memory {
     /// Does an operation on the pages in memory, and lets its group wait. For want of memory nothing changes.
     pub(crate) fn commit(&mut self, alloc: Global, op: &Op, mark: u32) -> Result<(), NoMemory>
-        requires ready { IsReady self.old }
-        requires points { OpHas self.old.meta.k op.now }
-        requires allowed { IsAllowedHere self.old op.now }
-        requires boxes { BoxesMatch op.now (read_here self.old op.now 0) (read_here self.old op.now 1) (read_here self.old op.now 2) }
-        requires marks { All (λ g. g.mark ≤ mark) self.old.log.groups }
-        ensures commits { OnOk result (Commits op.now mark self.old self.new) }
-        ensures group { OnOk result (self.new.log.groups ≡ self.old.log.groups ++ record { bytes = group_bytes (group_here self.old op.now); mark = mark } ∷ []) }
-        ensures well { OnOk result (MakesWell op.now self.old) }
+        requires ready { IsReady self.old.state }
+        requires points { OpHas self.old.state.meta.k op.now }
+        requires allowed { IsAllowedHere self.old.state op.now }
+        requires boxes { BoxesMatch op.now (read_here self.old.state op.now 0) (read_here self.old.state op.now 1) (read_here self.old.state op.now 2) }
+        requires place { HasFrameFor op.now self.old.state self.old.uses }
+        requires marks { All (λ g. g.mark ≤ mark) self.old.state.log.groups }
+        ensures commits { OnOk result (Commits op.now mark self.old.state self.new.state) }
+        ensures group { OnOk result (self.new.state.log.groups ≡ self.old.state.log.groups ++ record { bytes = group_bytes (group_here self.old.state op.now); mark = mark } ∷ []) }
+        ensures uses { OnOk result (self.new.uses ≡ use_changed (numbers_changed self.old.state op.now) self.old.uses) }
+        ensures stays { OnOk result ((id : ℕ) → has_page id (change_here self.old.state op.now).pages ≡ false → StaysHere self.old.uses id → in_memory self.new.state id ≡ in_memory self.old.state id) }
+        ensures well { OnOk result (MakesWell op.now self.old.state) }
         ensures kept { OnErr result (self.new ≡ self.old) }
     {
         what_is_made_can_be_written();
         let changed = self.changed(alloc, op)?;
         let group = self.group(alloc, op)?;
-        reserve(&mut self.pages, &mut self.in_log)?;
+        self.in_log.reserve(NUMBERS)?;
         self.log.append(&group, mark);
         add_all(&mut self.in_log, &op.reads());
         self.meta = changed.meta;
-        set_changed(&mut self.pages, &mut self.in_log, changed);
+        put_all(&mut self.pool, &mut self.in_log, &changed.pages);
         Ok(())
     }
 
     /// What an operation makes of the pages in memory.
     fn changed(&self, alloc: Global, op: &Op) -> Result<Changed, NoMemory>
-        requires { IsDoableHere op.now self.now }
-        ensures effect { IfOk result (λ c. record { meta = c.meta; pages = c.pages.items } ≡ change_here self.now op.now) }
+        requires { IsDoableHere op.now self.now.state }
+        ensures effect { IfOk result (λ c. record { meta = c.meta; pages = c.pages.items } ≡ change_here self.now.state op.now) }
         ensures few { IfOk result (λ c. length c.pages.items ≤ 3) }
     {
-        let first = self.read(op, 0);
-        let second = self.read(op, 1);
-        let third = self.read(op, 2);
-        match change(alloc, op, &self.meta, first, second, third) {
+        let first = self.read(alloc, op, 0)?;
+        let second = self.read(alloc, op, 1)?;
+        let third = self.read(alloc, op, 2)?;
+        match change(
+            alloc,
+            op,
+            &self.meta,
+            live_of(&first),
+            live_of(&second),
+            live_of(&third),
+        ) {
             Ok(changed) => Ok(changed),
             Err(ChangeError::NoMemory) => Err(AllocError),
             Err(ChangeError::Unfit) => unreachable!(),
         }
     }
 
-    /// The page in use that an operation reads at a place of its list, where it is in memory.
-    pub(crate) fn read(&self, op: &Op, place: usize) -> Option<&LivePage>
-        ensures { live_given result ≡ read_here self.now op.now place }
+    /// The page that an operation reads at a place of its list, where it is in memory.
+    fn read(&self, alloc: Global, op: &Op, place: usize) -> Result<Option<Page>, NoMemory>
+        ensures { IfOk result (λ page. page ≡ in_memory self.now.state (get_or (reads_of op.now) place 0)) }
     {
         match self.get(read_at(op, place)) {
-            Some(page) => live_of(page),
-            None => None,
+            Some(view) => Ok(Some(view.page(alloc)?)),
+            None => Ok(None),
         }
     }
 
     /// The bytes of an operation's group. It fits the log wherever the store is ready.
     fn group(&self, alloc: Global, op: &Op) -> Result<Vec<u8>, NoMemory>
-        requires { IsDoableHere op.now self.now }
-        ensures bytes { IfOk result (λ group. group.items ≡ group_bytes (group_here self.now op.now)) }
-        ensures fits { OnOk result (FitsGroup self.now.meta.k (group_here self.now op.now)) }
+        requires { IsDoableHere op.now self.now.state }
+        ensures bytes { IfOk result (λ group. group.items ≡ group_bytes (group_here self.now.state op.now)) }
+        ensures fits { OnOk result (FitsGroup self.now.state.meta.k (group_here self.now.state op.now)) }
         ensures some { IfOk result (λ group. 0 < length group.items) }
         ensures short { IfOk result (λ group. length group.items ≤ GROUP) }
     {
         what_is_made_can_be_written();
         groups_are_short();
-        group_for(alloc, &self.pages, &self.in_log, op)
+        group_for(alloc, &self.pool, &self.in_log, op)
     }
 }
 
@@ -116,12 +132,12 @@ pub(crate) fn read_at(op: &Op, place: usize) -> u32
     op.reads().get(place).copied().unwrap_or(0)
 }
 
-/// The page, where it is in use.
-fn live_of(page: &Page) -> Option<&LivePage>
-    ensures { live_given result ≡ if_live (Some page.now) }
+/// The page, where there is one that is in use.
+fn live_of(page: &Option<Page>) -> Option<&LivePage>
+    ensures { live_given result ≡ if_live page.now }
 {
     match page {
-        Page::Live(page) => Some(page),
-        Page::Free { .. } => None,
+        Some(Page::Live(page)) => Some(page),
+        _ => None,
     }
 }

@@ -1,17 +1,21 @@
-ghost use Rattle.std.specs.Prelude.{◌≡◌, ◌↔◌, [], IfOk, IsTrue};
+ghost use Rattle.std.specs.Prelude.{◌≡◌, ◌≢◌, ◌↔◌, [], IfOk, IsTrue, Some};
 ghost use Rattle.hb_store.specs.Forced.{MayWriteOldest, WritesOldest};
-ghost use Rattle.hb_store.specs.Seen.{seen_as};
+ghost use Rattle.hb_store.specs.Held.{oldest_dirty};
+ghost use Rattle.hb_store.specs.WritingHome.{FlushesHome, IsDue, WritesHome};
+ghost use Rattle.hb_store.specs.Seen.{held_by, seen_as, uses_of};
 
 use crate::stops::{Flushed, WriteFault};
 use crate::store::Store;
 use hb_disk::Device;
+use hb_layout::page_offset;
 
 impl<D: Device> Store<D> {
     /// Writes the oldest group that waits to the log. Four device calls, at most four where it fails, and none where no
     /// group waits. A fault stops the store.
     pub fn force(&mut self) -> Result<(), WriteFault>
         requires { MayWriteOldest (D.model self.old.disk) (seen_as self.old) }
-        ensures { WritesOldest result (D.model self.old.disk) (D.model self.new.disk) (seen_as self.old) (seen_as self.new) }
+        ensures writes { WritesOldest result (D.model self.old.disk) (D.model self.new.disk) (seen_as self.old) (seen_as self.new) }
+        ensures uses { uses_of self.new ≡ uses_of self.old }
     {
         let memory = &mut self.memory;
         match memory.log.force(&mut self.disk) {
@@ -23,17 +27,48 @@ impl<D: Device> Store<D> {
         }
     }
 
-    /// Forces the oldest group that waits: `Forced`; or `Nothing` where none does. It takes no memory.
+    /// Where groups wait, the oldest is forced: `Forced`. Else the least recently used page that is to be written to its place is
+    /// written there, in one call: `Written`; its log stands already, since no group waits. Else `Nothing`. It takes no memory.
+    /// A fault stops the store.
     pub fn flush_step(&mut self) -> Result<Flushed, WriteFault>
         requires { MayWriteOldest (D.model self.old.disk) (seen_as self.old) }
-        ensures which { IfOk result (λ flushed. (flushed ≡ Flushed.Nothing) ↔ ((seen_as self.old).log.groups ≡ [])) }
-        ensures writes { WritesOldest result (D.model self.old.disk) (D.model self.new.disk) (seen_as self.old) (seen_as self.new) }
+        ensures which { IfOk result (IsDue (held_by self.old)) }
+        ensures forces { (seen_as self.old).log.groups ≢ [] → WritesOldest result (D.model self.old.disk) (D.model self.new.disk) (seen_as self.old) (seen_as self.new) × (uses_of self.new ≡ uses_of self.old) }
+        ensures cleans { (seen_as self.old).log.groups ≡ [] → FlushesHome result (D.model self.old.disk) (D.model self.new.disk) (held_by self.old) (held_by self.new) }
     {
-        if self.is_idle() {
-            return Ok(Flushed::Nothing);
+        if !self.is_idle() {
+            self.force()?;
+            return Ok(Flushed::Forced);
         }
-        self.force()?;
-        Ok(Flushed::Forced)
+        match self.memory.oldest_dirty() {
+            Some(id) => self.write_home(id),
+            None => Ok(Flushed::Nothing),
+        }
+    }
+
+    /// Writes the page of this number to its place.
+    fn write_home(&mut self, id: u32) -> Result<Flushed, WriteFault>
+        requires running { MayWriteOldest (D.model self.old.disk) (seen_as self.old) }
+        requires waits { (seen_as self.old).log.groups ≡ [] }
+        requires oldest { oldest_dirty (uses_of self.old) ≡ Some id }
+        ensures says { IfOk result (λ flushed. flushed ≡ Flushed.Written id) }
+        ensures writes { WritesHome result id (D.model self.old.disk) (D.model self.new.disk) (held_by self.old) (held_by self.new) }
+    {
+        let memory = &mut self.memory;
+        let place = page_offset(memory.meta(), id);
+        match memory.bytes(id) {
+            Some(bytes) => match self.disk.write(place, bytes) {
+                Ok(()) => {
+                    memory.cleaned(id);
+                    Ok(Flushed::Written(id))
+                }
+                Err(_fault) => {
+                    memory.stopped = true;
+                    Err(WriteFault)
+                }
+            },
+            None => unreachable!(),
+        }
     }
 
     /// Whether no group waits: then any time is settled, and else only the oldest group's mark is.

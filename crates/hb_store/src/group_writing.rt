@@ -1,36 +1,40 @@
 //! Groups of the log to bytes.
-ghost use Rattle.std.specs.Prelude.{◌≡◌, ℕ, ◌≤◌, ◌++◌, length, flat_map, option_map, IfOk, IfSome, OnOk, nat_eq};
-ghost use Rattle.std.specs.HashMap.{get};
+ghost use Rattle.std.specs.Prelude.{◌≡◌, ℕ, ◌≤◌, ◌++◌, length, flat_map, option_map, option_copied, IfOk, IfSome, OnOk, nat_eq};
 ghost use Rattle.std.specs.HashSet.{contains};
-ghost use Rattle.hb_frag.specs.Grammar.{HasSpelling};
+ghost use Rattle.hb_frag.specs.Grammar.{SpellsPage};
 ghost use Rattle.hb_ops.specs.Operations.{OpHas, reads_of};
 ghost use Rattle.hb_log_codec.specs.Groups.{FitsOp, group_bytes, page_image_bytes};
+ghost use Rattle.hb_view.specs.Spelled.{page_spelled};
+ghost use Rattle.hb_store.specs.Filling.{in_frame};
+ghost use Rattle.hb_store.specs.Inside.{AreSpelled};
 ghost use Rattle.hb_store.specs.Making.{HasFittingParts, page_image_needed, page_images_needed};
 
-use hb_frag::Page;
-use hb_log_codec::{encode_op, encode_page_image};
+use hb_log_codec::encode_op;
 use hb_ops::Op;
+use hb_outside::give_u32;
+use hb_pool::Pool;
 use hb_space::NoMemory;
+use hb_space::form::PAGE;
 use std::alloc::Global;
-use std::collections::{HashMap, HashSet};
+use std::collections::HashSet;
 
 /// The bytes of the group of an operation: the page images that its reads need, in their order, and the
 /// operation.
 pub(crate) fn group_for(
     alloc: Global,
-    pages: &HashMap<u32, Page>,
+    pool: &Pool,
     in_log: &HashSet<u32>,
     op: &Op,
 ) -> Result<Vec<u8>, NoMemory>
-    requires spelled { (id : ℕ) → IfSome (get nat_eq pages.now id) HasSpelling }
+    requires spelled { AreSpelled pool.now }
     requires parts { HasFittingParts op.now }
-    ensures bytes { IfOk result (λ group. group.items ≡ group_bytes (record { images = page_images_needed (get nat_eq pages.now) (contains nat_eq in_log.now) (reads_of op.now); op = op.now })) }
+    ensures bytes { IfOk result (λ group. group.items ≡ group_bytes (record { images = page_images_needed (in_frame pool.now) (contains nat_eq in_log.now) (reads_of op.now); op = op.now })) }
     ensures op { OnOk result ((k : ℕ) → OpHas k op.now → FitsOp k op.now) }
 {
     op_fits(op);
     let mut group = Vec::new(alloc);
     group.push(0)?;
-    group[0] = append_page_images(&mut group, pages, in_log, &op.reads())?;
+    group[0] = append_page_images(&mut group, pool, in_log, &op.reads())?;
     encode_op(op, &mut group)?;
     Ok(group)
 }
@@ -73,39 +77,50 @@ fn op_fits(op: &Op)
 /// Adds the page images that pages of these numbers need, in their order, and counts them.
 fn append_page_images(
     into: &mut Vec<u8>,
-    pages: &HashMap<u32, Page>,
+    pool: &Pool,
     in_log: &HashSet<u32>,
     ids: &[u32],
 ) -> Result<u8, NoMemory>
     requires few { length ids.now ≤ 3 }
-    requires spelled { (id : ℕ) → IfSome (get nat_eq pages.now id) HasSpelling }
-    ensures count { IfOk result (λ count. count ≡ length (page_images_needed (get nat_eq pages.now) (contains nat_eq in_log.now) ids.now)) }
-    ensures bytes { OnOk result (into.new.items ≡ into.old.items ++ flat_map page_image_bytes (page_images_needed (get nat_eq pages.now) (contains nat_eq in_log.now) ids.now)) }
+    requires spelled { AreSpelled pool.now }
+    ensures count { IfOk result (λ count. count ≡ length (page_images_needed (in_frame pool.now) (contains nat_eq in_log.now) ids.now)) }
+    ensures bytes { OnOk result (into.new.items ≡ into.old.items ++ flat_map page_image_bytes (page_images_needed (in_frame pool.now) (contains nat_eq in_log.now) ids.now)) }
 {
     let mut count = 0;
     for id in ids {
-        count += append_due(into, *id, pages.get(id), in_log.contains(id))?;
+        count += append_due(into, *id, pool.get(*id), in_log.contains(id))?;
     }
     Ok(count)
 }
 
-/// Adds the page image of a page, unless this turn's log has it, and gives how many that is: 0 or 1.
+/// Adds the page image of the page that these bytes spell, unless this turn's log has it, and gives how many that is: 0 or 1.
 fn append_due(
     into: &mut Vec<u8>,
     id: u32,
-    page: Option<&Page>,
+    bytes: Option<&[u8; PAGE]>,
     in_log: bool,
 ) -> Result<u8, NoMemory>
-    requires { IfSome page (λ page. HasSpelling page.now) }
-    ensures count { IfOk result (λ count. count ≡ length (page_image_needed id (option_map (λ p. p.now) page.entry) in_log)) }
+    requires { IfSome bytes (λ b. SpellsPage b.now (page_spelled b.now)) }
+    ensures count { IfOk result (λ count. count ≡ length (page_image_needed id (option_map page_spelled (option_copied bytes.entry)) in_log)) }
     ensures one { IfOk result (λ count. count ≤ 1) }
-    ensures bytes { OnOk result (into.new.items ≡ into.old.items ++ flat_map page_image_bytes (page_image_needed id (option_map (λ p. p.now) page.entry) in_log)) }
+    ensures bytes { OnOk result (into.new.items ≡ into.old.items ++ flat_map page_image_bytes (page_image_needed id (option_map page_spelled (option_copied bytes.entry)) in_log)) }
 {
-    match page {
-        Some(page) if !in_log => {
-            encode_page_image(id, page, into)?;
+    match bytes {
+        Some(bytes) if !in_log => {
+            append_page_image(into, id, bytes)?;
             Ok(1)
         }
         _ => Ok(0),
     }
+}
+
+/// Adds the page image of the page that these bytes spell.
+fn append_page_image(into: &mut Vec<u8>, id: u32, bytes: &[u8; PAGE]) -> Result<(), NoMemory>
+    requires { SpellsPage bytes.now (page_spelled bytes.now) }
+    ensures { OnOk result (into.new.items ≡ into.old.items ++ page_image_bytes (id, page_spelled bytes.now)) }
+{
+    let mut number = [0; 4];
+    give_u32(&mut number, 0, id);
+    into.extend_from_slice(&number)?;
+    into.extend_from_slice(bytes)
 }

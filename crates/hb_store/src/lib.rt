@@ -13,17 +13,22 @@
 //! that they don't touch the one in its place. The functions of `laws` and `image_laws` say that an
 //! image opens to one file at most, and that an image of a store opens.
 //!
-//! A `Store` is a thin shell: it owns the disk, and reads it. All else stands in `Memory`, which
+//! A `Store` is a thin shell: it owns the disk, and reads and writes it. All else stands in `Memory`, which
 //! knows of no disk: its contracts say what a call does to the value that it is seen as, and its
 //! invariant holds over every disk. Its turn and what the file says of itself are within their limits, the
 //! log is that of its turn, every page in memory is one of the file, has a spelling, and keeps the
 //! rules that speak of it alone, and only pages of the file are in the log.
 //!
+//! Pages are in memory as their bytes, in the 128 frames of hb_pool, and are read from them by the views of
+//! hb_view. The order of use is part of what a store is seen as (`uses`). A page that an operation changed
+//! is dirty until it is written to its place; every other one reads in its place as the file has it. So
+//! where a page comes and no frame is empty, the least recently used page goes that is clean and not
+//! pinned. A dirty or pinned page stays, and so a caller pins what it is to find again.
+//!
 //! A page is brought into the log as a page image before an operation of this turn first reads it. So
 //! a replay needs no page from its place. A page that an operation makes needs no page image: the log of
 //! the turn makes it again. Which pages the log has or made is a set of its own, and no flag on a
-//! page, so that it doesn't depend on which pages are in memory. Today these stay there once they
-//! are fetched.
+//! page, so that it doesn't depend on which pages are in memory.
 #![tactic(auto)]
 
 mod allocating;

@@ -3,7 +3,7 @@ ghost use Rattle.hb_layout.specs.Offsets.{file_size};
 ghost use Rattle.hb_ops.specs.Files.{FileState};
 ghost use Rattle.hb_store.specs.States.{IsNew, IsStanding};
 ghost use Rattle.hb_store.specs.Keeps.{IsFresh, StoreKeeps};
-ghost use Rattle.hb_store.specs.Seen.{seen_as};
+ghost use Rattle.hb_store.specs.Seen.{seen_as, uses_of};
 
 use crate::memory::Memory;
 use crate::store::Store;
@@ -20,6 +20,7 @@ impl<D: Device> Store<D> {
         requires room { file_size meta ≤ (D.model disk).size }
         requires fresh { IsSome (D.model disk).told → (s : FileState) × IsFresh (D.model disk) turn meta s }
         ensures new { IfOk result (λ st. IsNew turn meta (seen_as st)) }
+        ensures uses { IfOk result (λ st. uses_of st ≡ []) }
         ensures disk { IfOk result (λ st. st.disk ≡ disk) }
         ensures keeps { IfOk result (λ st. (s : FileState) → IsFresh (D.model disk) turn meta s →
             StoreKeeps (D.model st.disk) (seen_as st) s []) }

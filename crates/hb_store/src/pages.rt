@@ -1,32 +1,20 @@
-//! Pages in memory, and the numbers of those that the log has.
-ghost use Rattle.std.specs.Prelude.{◌≡◌, ℕ, ◌+◌, ◌<◌, ◌≤◌, ◌∷◌, ◌||◌, [], length, OnOk, nat_eq};
-ghost use Rattle.std.specs.HashMap.{get, spare};
+//! Changed pages put into their frames, and the numbers of those that the log has.
+ghost use Rattle.std.specs.Prelude.{◌≡◌, ℕ, ◌+◌, ◌<◌, ◌≤◌, ◌||◌, All, None, length, map, nat_eq};
 ghost use Rattle.std.specs.HashSet.{contains, spare as spare_of};
-ghost use Rattle.hb_store.specs.Replay.{set_pages, has_page, is_among};
+ghost use Rattle.hb_frag.specs.Grammar.{HasSpelling};
+ghost use Rattle.hb_pool.specs.Frames.{use_of};
+ghost use Rattle.hb_pool.specs.Pools.{IsPool, frame_of, places};
+ghost use Rattle.hb_store.specs.Filling.{HaveRoom, PutsInto, PutsAll};
+ghost use Rattle.hb_store.specs.Replay.{has_page, is_among};
 
-use arrayvec::ArrayVec;
 use hb_frag::Page;
-use hb_ops::Changed;
-use hb_space::NoMemory;
-use std::collections::{HashMap, HashSet};
+use hb_page_codec::encode;
+use hb_pool::Pool;
+use hb_space::form::PAGE;
+use std::collections::HashSet;
 
-/// How many pages an operation reads or changes at most.
-const PAGES: usize = 3;
-
-/// Makes room for the pages that an operation changes, and for their numbers and those of the pages that it reads.
-/// Nothing else changes.
-pub(crate) fn reserve(
-    pages: &mut HashMap<u32, Page>,
-    in_log: &mut HashSet<u32>,
-) -> Result<(), NoMemory>
-    ensures pages { (q : ℕ) → get nat_eq pages.new q ≡ get nat_eq pages.old q }
-    ensures in_log { (q : ℕ) → contains nat_eq in_log.new q ≡ contains nat_eq in_log.old q }
-    ensures room { OnOk result (3 ≤ spare pages.new) }
-    ensures numbers { OnOk result (6 ≤ spare_of in_log.new) }
-{
-    pages.reserve(PAGES)?;
-    in_log.reserve(2 * PAGES)
-}
+/// How many numbers a commit adds at most: of three pages that it reads and three that it changes.
+pub(crate) const NUMBERS: usize = 6;
 
 /// Adds numbers. It takes no memory.
 pub(crate) fn add_all(in_log: &mut HashSet<u32>, ids: &[u32])
@@ -51,46 +39,33 @@ fn add(in_log: &mut HashSet<u32>, id: u32)
     }
 }
 
-/// Sets the pages that an operation changes under their numbers, in order. It takes no memory.
-pub(crate) fn set_changed(
-    pages: &mut HashMap<u32, Page>,
-    in_log: &mut HashSet<u32>,
-    changed: Changed,
-)
-    requires room { length changed.pages.items ≤ spare pages.old }
-    requires numbers { length changed.pages.items ≤ spare_of in_log.old }
-    ensures pages { (q : ℕ) → get nat_eq pages.new q ≡ set_pages changed.pages.items (get nat_eq pages.old) q }
-    ensures in_log { (q : ℕ) → contains nat_eq in_log.new q ≡ (has_page q changed.pages.items || contains nat_eq in_log.old q) }
+/// PutsInto changed pages into frames under their numbers, in order, each dirty, and adds the numbers. It takes no memory.
+pub(crate) fn put_all(pool: &mut Pool, in_log: &mut HashSet<u32>, pages: &[(u32, Page)])
+    requires pool { IsPool pool.old }
+    requires spelled { All (λ c. HasSpelling c.1) pages.now }
+    requires room { HaveRoom (map use_of pool.old) pages.now }
+    requires numbers { length pages.now ≤ spare_of in_log.old }
+    ensures pages { PutsAll pages.now pool.old pool.new }
+    ensures in_log { (q : ℕ) → contains nat_eq in_log.new q ≡ (has_page q pages.now || contains nat_eq in_log.old q) }
 {
-    set_all(pages, in_log, changed.pages);
-}
-
-/// Sets pages under their numbers, in order. It takes no memory.
-fn set_all(
-    pages: &mut HashMap<u32, Page>,
-    in_log: &mut HashSet<u32>,
-    mut changed: ArrayVec<(u32, Page), PAGES>,
-)
-    requires room { length changed.items ≤ spare pages.old }
-    requires numbers { length changed.items ≤ spare_of in_log.old }
-    ensures pages { (q : ℕ) → get nat_eq pages.new q ≡ set_pages changed.items (get nat_eq pages.old) q }
-    ensures in_log { (q : ℕ) → contains nat_eq in_log.new q ≡ (has_page q changed.items || contains nat_eq in_log.old q) }
-{
-    while !changed.is_empty() {
-        let (id, page) = changed.remove(0);
-        add(in_log, id);
-        set(pages, id, page);
+    for (number, page) in pages {
+        add(in_log, *number);
+        put(pool, *number, page);
     }
 }
 
-/// Sets a page under its number. It takes no memory.
-fn set(pages: &mut HashMap<u32, Page>, id: u32, page: Page)
-    requires { 0 < spare pages.old }
-    ensures set { (q : ℕ) → get nat_eq pages.new q ≡ set_pages ((id, page) ∷ []) (get nat_eq pages.old) q }
-    ensures room { spare pages.old ≤ spare pages.new + 1 }
+/// PutsInto a page into its frame, or where it has none into a place that there is. It is dirty. It takes no memory.
+fn put(pool: &mut Pool, id: u32, page: &Page)
+    requires pool { IsPool pool.old }
+    requires spelled { HasSpelling page.now }
+    requires place { frame_of pool.old id ≡ None → 0 < places pool.old }
+    ensures { PutsInto id page.now pool.old pool.new }
 {
-    match pages.insert(id, page) {
-        Ok(_) => {}
-        Err(_) => unreachable!(),
+    let mut bytes = [0; PAGE];
+    encode(page, &mut bytes);
+    if pool.get(id).is_some() {
+        pool.change(id, &bytes);
+    } else {
+        pool.bring(id, &bytes, true);
     }
 }

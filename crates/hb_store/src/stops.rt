@@ -1,5 +1,5 @@
 //! Why a call of the store stops.
-use hb_space::{Area, NoMemory};
+use hb_space::Area;
 
 /// Why a page isn't the one that was asked for.
 #[derive(Debug, Drop)]
@@ -20,8 +20,8 @@ pub enum FetchStop {
     Damaged { page: u32, why: Why },
     /// The disk failed to read.
     ReadFault,
-    /// Memory was refused.
-    NoMemory,
+    /// The page isn't in memory, and there is no place for it: each place has a page that is dirty or pinned.
+    Crowded,
 }
 
 /// Why nothing more is done with a file.
@@ -33,17 +33,6 @@ pub enum StopWhy {
     Damaged { page: u32, why: Why },
 }
 
-impl From<NoMemory> for FetchStop {
-    ghost use Rattle.std.specs.Prelude.{◌≡◌};
-    ghost use Rattle.hb_store.specs.declared.stops.FetchStop.TheVariants.{NoMemory as Refused};
-
-    ghost from_gives = { λ _ e. e ≡ Refused };
-
-    fn from(_refused: NoMemory) -> FetchStop {
-        FetchStop::NoMemory
-    }
-}
-
 /// A write, zero or sync of the disk failed. The store is stopped then.
 #[derive(Clone, Copy, Debug, PartialEq, Eq)]
 pub struct WriteFault;
@@ -53,6 +42,8 @@ pub struct WriteFault;
 pub enum Flushed {
     /// A group that waited was forced.
     Forced,
-    /// Nothing waited.
+    /// The page of this number was written to its place.
+    Written(u32),
+    /// Nothing waited, and no page was to be written.
     Nothing,
 }

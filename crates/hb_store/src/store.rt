@@ -11,5 +11,5 @@ pub struct Store<D: Device> {
     pub(crate) alloc: Global,
     pub(crate) disk: D,
     pub(crate) memory: Memory,
-    ghost room: { file_size memory.meta ≤ (D.model disk).size },
+    ghost room: { file_size memory.state.meta ≤ (D.model disk).size },
 }

@@ -9,3 +9,5 @@ pub mod Passing
 pub mod Risen
 pub mod Limited
 pub mod Cornered
+pub mod LookedFor
+pub mod ReadOver

@@ -38,10 +38,10 @@ cut_stops k bytes left axis value W P cut says never = λ w. never (says (subst 
 
 -- ---- the sides of a box whose corners are changed in place
 
-below_box : (lo hi : List ℕ) (axis at value : ℕ) → at ≡ axis → ◌≡◌ {A = Area} (record { lo = lo; hi = slice_set hi at (value - 1) }) (side_below (record { lo = lo; hi = hi }) axis value)
+pub below_box : (lo hi : List ℕ) (axis at value : ℕ) → at ≡ axis → ◌≡◌ {A = Area} (record { lo = lo; hi = slice_set hi at (value - 1) }) (side_below (record { lo = lo; hi = hi }) axis value)
 below_box lo hi axis at value e = let make : ℕ → Area = λ n. record { lo = lo; hi = slice_set hi n (value - 1) } in ap make e
 
-from_box : (lo hi lo' hi' : List ℕ) (axis at value : ℕ) → at ≡ axis → lo' ≡ lo → hi' ≡ hi → ◌≡◌ {A = Area} (record { lo = slice_set lo' at value; hi = hi' }) (side_from (record { lo = lo; hi = hi }) axis value)
+pub from_box : (lo hi lo' hi' : List ℕ) (axis at value : ℕ) → at ≡ axis → lo' ≡ lo → hi' ≡ hi → ◌≡◌ {A = Area} (record { lo = slice_set lo' at value; hi = hi' }) (side_from (record { lo = lo; hi = hi }) axis value)
 from_box lo hi lo' hi' axis at value e el eh =
     let first : ℕ → Area = λ n. record { lo = slice_set lo' n value; hi = hi' } in
     let second : List ℕ → Area = λ l. record { lo = slice_set l axis value; hi = hi' } in

@@ -1,5 +1,5 @@
 -- What was read over is what was read.
-use Rattle.std.proofs.Common.{◌≡◌, ℕ, zero, suc, ◌+◌, ◌-◌, ◌*◌, ◌<◌, ◌≤◌, List, [], ◌∷◌, length, drop, Option, Some, None, IsSome, inl, inr, refl, sym, ap, subst, ◌∙◌, arith}
+use Rattle.std.proofs.Common.{◌≡◌, ℕ, zero, suc, ◌+◌, ◌-◌, ◌*◌, ◌<◌, ◌≤◌, List, [], ◌∷◌, length, drop, Option, Some, None, inl, inr, refl, sym, ap, subst, ◌∙◌, arith}
 use Rattle.std.proofs.lemmas.Bool.{cases_lt, le-ltb, lt-ltb}
 use Rattle.std.proofs.lemmas.List.{length-drop, drop-drop}
 use Rattle.hb_frag.specs.Trees.{Tree}
@@ -8,7 +8,6 @@ use Rattle.hb_page_codec.specs.ReadingFields.{axis_at, body_at, count_at, point_
 use Rattle.hb_page_codec.specs.ReadingPages.{cut_at, records_tip_at, node_at, tree_at}
 use Rattle.hb_page_codec.proofs.Depth.{Leaves, tree_is, tree_shortens}
 use Rattle.std.proofs.lemmas.Option.{same_Some}
-use Rattle.hb_view.specs.Roots.{rest_there, rest_or}
 use Rattle.hb_view.specs.Behind.{behind, record_behind, list_behind, cut_behind, name_behind, node_behind}
 
 -- the bytes behind two things are those behind the second one
@@ -107,18 +106,3 @@ tree_shorter k bytes rest e = shorter (tree_at k bytes) (tree_shortens k bytes) 
     shorter : (r : Option (Tree × List ℕ)) → Leaves r (length bytes) → behind r ≡ Some rest → length rest ≤ length bytes
     shorter None h e = absurd cc
     shorter (Some x) h e = let same : x.1 ≡ rest = same_Some x.1 rest e in subst (λ (b : List ℕ). length b ≤ length bytes) same h
-
--- the bytes behind a tree that stands there
-pub rest_found : (k : ℕ) (bytes rest : List ℕ) → behind (tree_at k bytes) ≡ Some rest → rest ≡ rest_there k bytes
-rest_found k bytes rest e = found (tree_at k bytes) e
-  where
-    found : (r : Option (Tree × List ℕ)) → behind r ≡ Some rest → rest ≡ rest_or r
-    found None e = absurd cc
-    found (Some x) e = sym (same_Some x.1 rest e)
-
-pub rest_missing : (k : ℕ) (bytes : List ℕ) → IsSome (tree_at k bytes) → behind (tree_at k bytes) ≡ None → ⊥
-rest_missing k bytes there none = missing (tree_at k bytes) there none
-  where
-    missing : (r : Option (Tree × List ℕ)) → IsSome r → behind r ≡ None → ⊥
-    missing None there none = cc
-    missing (Some x) there none = cc

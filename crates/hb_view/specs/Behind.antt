@@ -45,6 +45,13 @@ node_behind k (suc (suc zero) ∷ rest) = name_behind rest
 node_behind k (suc (suc (suc zero)) ∷ rest) = name_behind rest
 node_behind k (suc (suc (suc (suc b))) ∷ rest) = None
 
+-- so many trees, one behind the other
+unfoldable pub rest_after : ℕ → ℕ → List ℕ → Option (List ℕ)
+rest_after zero k bytes = Some bytes
+rest_after (suc n) k bytes = do
+  rest ← behind (tree_at k bytes)
+  rest_after n k rest
+
 -- a live page behind its tag
 unfoldable pub live_behind : List ℕ → Option (List ℕ)
 live_behind bytes = do

@@ -6,3 +6,4 @@ pub mod Spelled
 pub mod Walks
 pub mod Limits
 pub mod Corners
+pub mod Naming

@@ -14,7 +14,7 @@ use hb_space::form::KMAX;
 use hb_space::{Area, Point};
 
 /// The box between two corners of one.
-fn box_between(lo: &Corner, hi: &Corner) -> Area
+pub(crate) fn box_between(lo: &Corner, hi: &Corner) -> Area
     requires { IsArea (record { lo = lo.now.items; hi = hi.now.items }) }
     ensures { result ≡ record { lo = lo.now.items; hi = hi.now.items } }
 {

@@ -1,5 +1,5 @@
 //! Fields of a page's inside, from the front of bytes.
-ghost use Rattle.std.specs.Prelude.{◌≡◌, ◌≤◌};
+ghost use Rattle.std.specs.Prelude.{◌≡◌, ◌≤◌, length, IfSome};
 ghost use Rattle.hb_page_codec.specs.Reading.{ReadsAs, number_at};
 ghost use Rattle.hb_page_codec.specs.ReadingFields.{axis_at, body_at, count_at};
 
@@ -40,7 +40,8 @@ pub(crate) fn axis_of(k: u8, bytes: &[u8]) -> Option<(u8, &[u8])>
 /// A body, from behind its length on, and the bytes behind it.
 #[tactic(auto, unfolding(hb_page_codec::specs::ReadingFields::body_at))]
 pub(crate) fn body_of(bytes: &[u8]) -> Option<(&[u8], &[u8])>
-    ensures { ReadsAs (λ x. (x.0.now, x.1.now)) result (body_at bytes.now) }
+    ensures reads { ReadsAs (λ x. (x.0.now, x.1.now)) result (body_at bytes.now) }
+    ensures short { IfSome result (λ x. length x.0.now ≤ BMAX) }
 {
     let (count, rest) = bytes.split_first()?;
     let count = usize::from(*count);

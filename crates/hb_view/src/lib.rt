@@ -25,6 +25,7 @@ mod fields;
 mod heads;
 mod leaves;
 mod lists;
+mod naming;
 mod order;
 mod roots;
 mod rules;

@@ -12,7 +12,7 @@ use crate::fields::body_of;
 use crate::skipping::behind_list;
 use hb_page_codec::point_of;
 use hb_space::Point;
-use hb_space::form::KMAX;
+use hb_space::form::{BMAX, KMAX};
 
 /// A record as its point and the bytes of its body, and the bytes behind it.
 #[tactic(auto, unfolding(hb_page_codec::specs::ReadingFields::record_at))]
@@ -31,6 +31,7 @@ fn parts_of(k: u8, bytes: &[u8]) -> Option<(&[u8], &[u8], &[u8])>
     requires { k ≤ KMAX }
     ensures reads { ReadsAs (λ x. (record { key = point_there k x.0.now; body = x.1.now }, x.2.now)) result (record_at k bytes.now) }
     ensures room { IfSome result (λ x. 8 * k ≤ length x.0.now) }
+    ensures short { IfSome result (λ x. length x.1.now ≤ BMAX) }
 {
     let (key, rest) = point_read(k, bytes)?;
     let (body, rest) = body_of(rest)?;
@@ -42,7 +43,8 @@ pub(crate) fn body_among<'a>(k: u8, count: u16, first: &'a [u8], p: &[u64]) -> O
     requires count { k ≤ KMAX }
     requires attributes { length p.now ≡ k }
     requires there { IsSome (records_at k count first.now) }
-    ensures { FindsAmong p.now (records_there k count first.now) (option_map (λ b. b.now) result) }
+    ensures found { FindsAmong p.now (records_there k count first.now) (option_map (λ b. b.now) result) }
+    ensures short { IfSome result (λ b. length b.now ≤ BMAX) }
 {
     let mut rest = first;
     for _ in 0..count {

@@ -1,12 +1,12 @@
 //! Reading over what stands at the front of bytes, without keeping it.
-ghost use Rattle.std.specs.Prelude.{◌≡◌, ◌≤◌, IsSome};
+ghost use Rattle.std.specs.Prelude.{◌≡◌, ◌+◌, ◌^◌, ◌<◌, ◌≤◌, length, Some, IsSome};
 ghost use Rattle.hb_page_codec.specs.Reading.{ReadsAs};
 ghost use Rattle.hb_page_codec.specs.ReadingFields.{records_at};
 ghost use Rattle.hb_page_codec.specs.ReadingPages.{tree_at};
-ghost use Rattle.hb_view.specs.Behind.{behind, record_behind, list_behind, cut_behind, name_behind, node_behind};
+ghost use Rattle.hb_view.specs.Behind.{behind, record_behind, list_behind, cut_behind, name_behind, node_behind, rest_after};
 ghost use Rattle.hb_view.specs.Roots.{rest_there};
 
-use crate::corners::point_read;
+use crate::corners::{from_place, point_read};
 use crate::fields::{axis_of, body_of, count_of};
 use hb_page_codec::{u32_of, u64_of};
 use hb_space::form::KMAX;
@@ -91,14 +91,48 @@ pub(crate) fn behind_tree(k: u8, bytes: &[u8]) -> Option<&[u8]>
     behind_node(k, bytes)
 }
 
-/// The bytes behind a tree that stands there.
+/// The bytes behind a leaf of records that stands there, from behind its tag.
+fn rest_behind_records(k: u8, bytes: &[u8]) -> &[u8]
+    requires count { k ≤ KMAX }
+    requires there { IsSome (list_behind k bytes.now) }
+    ensures { list_behind k bytes.now ≡ Some result.now }
+{
+    match behind_records(k, bytes) {
+        Some(rest) => rest,
+        None => unreachable!(),
+    }
+}
+
+/// Where so many trees stand one behind the other: how many stand behind the first node, and their bytes. A cut has two
+/// trees in place of one.
+fn past_node(k: u8, trees: usize, bytes: &[u8]) -> (usize, &[u8])
+    requires count { k ≤ KMAX }
+    requires some { 0 < trees }
+    requires few { trees + length bytes.now ≤ 2 ^ 63 }
+    requires there { IsSome (rest_after trees k bytes.now) }
+    ensures same { rest_after result.0 k result.1.now ≡ rest_after trees k bytes.now }
+    ensures fewer { result.0 + length result.1.now < trees + length bytes.now }
+{
+    let tag = bytes[0];
+    if tag == 0 {
+        (trees + 1, from_place(bytes, 10))
+    } else if tag == 1 {
+        (trees - 1, rest_behind_records(k, from_place(bytes, 1)))
+    } else {
+        (trees - 1, from_place(bytes, 5))
+    }
+}
+
+/// The bytes behind a tree that stands there. Of a node the tag alone says how far it goes, but for a leaf of records.
 pub(crate) fn rest_of(k: u8, bytes: &[u8]) -> &[u8]
     requires count { k ≤ KMAX }
     requires there { IsSome (tree_at k bytes.now) }
     ensures { result.now ≡ rest_there k bytes.now }
 {
-    match behind_tree(k, bytes) {
-        Some(rest) => rest,
-        None => unreachable!(),
+    let mut trees: usize = 1;
+    let mut rest = bytes;
+    while trees > 0 {
+        (trees, rest) = past_node(k, trees, rest);
     }
+    rest
 }

@@ -1,13 +1,15 @@
 //! A page seen from its bytes.
-ghost use Rattle.std.specs.Prelude.{◌≡◌, ◌↔◌, IfOk, IfSome, IsNone, IsSome, IsTrue, option_map};
+ghost use Rattle.std.specs.Prelude.{◌≡◌, ◌≤◌, ◌↔◌, length, IfOk, IfSome, IsNone, IsSome, IsTrue, MatchOption, None, option_map};
+ghost use Rattle.std.specs.List.{slice_get};
 ghost use Rattle.hb_space.specs.Boxes.{Holds};
 ghost use Rattle.hb_frag.specs.Grammar.{HasSpelling};
-ghost use Rattle.hb_frag.specs.Leaves.{leaf_at, weight_of, WellCut};
+ghost use Rattle.hb_frag.specs.Leaves.{first_named, leaf_at, leaves_of, siblings_of, weight_of, WellCut};
 ghost use Rattle.hb_ops.specs.Sound.{FitsFile, BreaksFirst};
 ghost use Rattle.hb_view.specs.Limits.{meta_with};
 ghost use Rattle.hb_page_codec.specs.Reading.{ReadsAs};
 ghost use Rattle.hb_page_codec.specs.ReadingPages.{page_of_bytes};
 ghost use Rattle.hb_frag.specs.declared.pages.Page.TheVariants.{Free as FreePage};
+ghost use Rattle.hb_view.specs.Naming.{CountsLeaf, first_child_box};
 ghost use Rattle.hb_view.specs.Views.{IsLive, IsLiveAnd, HasInside, ShowsLeaf, TellsBody};
 
 use crate::LeafView;
@@ -15,8 +17,10 @@ use crate::boxes::leaf_in;
 use crate::broken::{Limits, first_broken};
 use crate::checking::spells;
 use crate::heads::{Inside, are_live, box_of, inside_of, level_of, next_of, page_of};
-use crate::walking::{find_in, weigh};
+use crate::naming::{leaf_of_place, named_in};
+use crate::walking::{count_in, find_in, weigh};
 use hb_frag::Page;
+use hb_space::form::BMAX;
 use hb_space::{Area, NoMemory, Point};
 use std::alloc::Global;
 use std::marker::Model;
@@ -133,10 +137,50 @@ impl<'a> PageView<'a> {
     pub fn find(&self, p: &Point) -> Option<&'a [u8]>
         requires well_cut { IsLiveAnd self.now WellCut }
         requires held { IsLiveAnd self.now (λ page. Holds page.area p.now) }
-        ensures { IsLiveAnd self.now (λ page. TellsBody p.now (leaf_at page p.now) (option_map (λ b. b.now) result)) }
+        ensures found { IsLiveAnd self.now (λ page. TellsBody p.now (leaf_at page p.now) (option_map (λ b. b.now) result)) }
+        ensures short { IfSome result (λ b. length b.now ≤ BMAX) }
     {
         let inside = self.inside();
         find_in(inside.k, inside.tree, p.values())
+    }
+
+    /// How many records the leaf has whose box holds the point; none where it names a page.
+    pub fn count_at(&self, p: &Point) -> u16
+        requires well_cut { IsLiveAnd self.now WellCut }
+        requires held { IsLiveAnd self.now (λ page. Holds page.area p.now) }
+        ensures { IsLiveAnd self.now (λ page. CountsLeaf (leaf_at page p.now) result) }
+    {
+        let inside = self.inside();
+        count_in(inside.k, inside.tree, p.values())
+    }
+
+    /// The box of the first sibling leaf from the left that names the page. `None` where no sibling leaf does.
+    pub fn sibling_area(&self, id: u32) -> Option<Area>
+        requires { IsLiveAnd self.now WellCut }
+        ensures { IsLiveAnd self.now (λ page. result ≡ first_named id (siblings_of page)) }
+    {
+        let inside = self.inside();
+        named_in(inside.k, inside.corners, inside.tree, LeafView::Sibling(id))
+    }
+
+    /// The box of the first child leaf from the left that names the page. `None` where no child leaf does.
+    pub fn child_area(&self, id: u32) -> Option<Area>
+        requires { IsLiveAnd self.now WellCut }
+        ensures { IsLiveAnd self.now (λ page. result ≡ first_child_box id (leaves_of page.frag page.area)) }
+    {
+        let inside = self.inside();
+        named_in(inside.k, inside.corners, inside.tree, LeafView::Child(id))
+    }
+
+    /// The leaf at this place, from the left and counted from 0, and its box. `None` where the page has no more leaves than
+    /// that.
+    pub fn leaf(&self, place: u32) -> Option<(LeafView, Area)>
+        requires { IsLiveAnd self.now WellCut }
+        ensures { IsLiveAnd self.now (λ page. MatchOption result (slice_get (leaves_of page.frag page.area) place ≡ None)
+            (λ r. ShowsLeaf (slice_get (leaves_of page.frag page.area) place) r.0 r.1)) }
+    {
+        let inside = self.inside();
+        leaf_of_place(inside.k, inside.corners, inside.tree, place)
     }
 
     /// The page itself, with memory of its own.

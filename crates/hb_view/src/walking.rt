@@ -1,8 +1,9 @@
 //! Going down a tree that stands at the front of bytes.
-ghost use Rattle.std.specs.Prelude.{◌≡◌, ◌≤◌, length, IsSome, option_map};
+ghost use Rattle.std.specs.Prelude.{◌≡◌, ◌≤◌, length, IfSome, IsSome, option_map};
 ghost use Rattle.hb_space.specs.Boxes.{Area as Extent, IsArea, Holds};
 ghost use Rattle.hb_frag.specs.Leaves.{IsWellCut, first_at, leaves_of, weight_of};
 ghost use Rattle.hb_page_codec.specs.ReadingPages.{tree_at};
+ghost use Rattle.hb_view.specs.Naming.{CountsLeaf};
 ghost use Rattle.hb_view.specs.Roots.{tree_there, rest_there};
 ghost use Rattle.hb_view.specs.Views.{ShowsLeaf, TellsBody};
 
@@ -10,7 +11,7 @@ use crate::LeafView;
 use crate::lists::{body_among, rest_behind_list};
 use crate::roots::{Root, root_of};
 use crate::skipping::rest_of;
-use hb_space::form::{KMAX, PAGE};
+use hb_space::form::{BMAX, KMAX, PAGE};
 
 /// The leaf whose box holds the point, in a tree whose box has these corners. They become those of the leaf's box.
 pub(crate) fn descend(k: u8, bytes: &[u8], lo: &mut [u64], hi: &mut [u64], p: &[u64]) -> LeafView
@@ -46,8 +47,9 @@ pub(crate) fn find_in<'a>(k: u8, bytes: &'a [u8], p: &[u64]) -> Option<&'a [u8]>
     requires count { k ≤ KMAX }
     requires there { IsSome (tree_at k bytes.now) }
     requires attributes { length p.now ≡ k }
-    ensures { (area : Extent) → IsArea area → IsWellCut (tree_there k bytes.now) area → Holds area p.now →
+    ensures found { (area : Extent) → IsArea area → IsWellCut (tree_there k bytes.now) area → Holds area p.now →
         TellsBody p.now (first_at p.now (leaves_of (tree_there k bytes.now) area)) (option_map (λ b. b.now) result) }
+    ensures short { IfSome result (λ b. length b.now ≤ BMAX) }
 {
     match root_of(k, bytes) {
         Root::Cut { axis, value, left } => {
@@ -60,6 +62,28 @@ pub(crate) fn find_in<'a>(k: u8, bytes: &'a [u8], p: &[u64]) -> Option<&'a [u8]>
         Root::Records { count, first } => body_among(k, count, first, p),
         Root::Child { .. } => None,
         Root::Sibling { .. } => None,
+    }
+}
+
+/// How many records the leaf has whose box holds the point; none where it names a page.
+pub(crate) fn count_in(k: u8, bytes: &[u8], p: &[u64]) -> u16
+    requires count { k ≤ KMAX }
+    requires there { IsSome (tree_at k bytes.now) }
+    requires attributes { length p.now ≡ k }
+    ensures { (area : Extent) → IsArea area → IsWellCut (tree_there k bytes.now) area → Holds area p.now →
+        CountsLeaf (first_at p.now (leaves_of (tree_there k bytes.now) area)) result }
+{
+    match root_of(k, bytes) {
+        Root::Cut { axis, value, left } => {
+            if p[usize::from(axis)] < value {
+                count_in(k, left, p)
+            } else {
+                count_in(k, rest_of(k, left), p)
+            }
+        }
+        Root::Records { count, .. } => count,
+        Root::Child { .. } => 0,
+        Root::Sibling { .. } => 0,
     }
 }
 

@@ -1,19 +1,17 @@
 -- Runs that leave alone what lies behind the first bytes of a disk.
-use Rattle.std.proofs.Common.{◌≡◌, ℕ, IfSome, sym, subst, arith}
-use Rattle.hb_disk.specs.Model.{DiskModel, Torn}
-use Rattle.hb_disk.specs.Calls.{Becomes}
+use Rattle.std.proofs.Common.{◌≡◌, ℕ, ◌+◌, ◌≤◌, IfSome, sym, subst, arith}
+use Rattle.hb_disk.specs.Model.{DiskModel}
 use Rattle.hb_lemmas.proofs.Options.{at_value}
 use Rattle.hb_super.specs.Superblocks.{IsNewest}
 use Rattle.hb_layout.specs.declared.meta.Meta.{Meta}
 use Rattle.hb_layout.specs.Offsets.{file_size, log_start}
 use Rattle.hb_store.specs.States.{IsSameLayout}
 use Rattle.hb_restart.specs.Beyond.{KeepsBeyond, KeepsBeyondFile}
-use Rattle.hb_restart.proofs.Facts.Beyond.{beyond_then, beyond_wider, front_within, log_within, same_size}
+use Rattle.hb_restart.proofs.Facts.Beyond.{beyond_then, front_within, log_within, same_size}
 
 -- a log area is a part of its file
-pub beyond_log : (turn at : ℕ) (meta : Meta) (old new : DiskModel) → at ≡ log_start turn meta → Becomes (Torn at meta.log) old new → KeepsBeyond (file_size meta) old new
-beyond_log turn at meta old new is run =
-    beyond_wider at meta.log (file_size meta) old new (omega (arith, is, log_within turn meta, front_within meta)) run
+pub log_inside : (turn at : ℕ) (meta : Meta) → at ≡ log_start turn meta → at + meta.log ≤ file_size meta
+log_inside turn at meta is = let low = log_within turn meta in let front = front_within meta in omega (arith, is, low, front)
 
 -- a run over the file that was opened, seen from before the opening
 pub beyond_driven : (d m e : DiskModel) (meta : Meta) → IfSome d.told (λ b. (turn : ℕ) (said : Meta) → IsNewest b turn said → IsSameLayout said meta) → KeepsBeyondFile d m → KeepsBeyond (file_size meta) m e → KeepsBeyondFile d e

@@ -1,14 +1,15 @@
 -- What a run of a core over a store that was just opened comes to, as the command `drive` says it.
-use Rattle.std.proofs.Common.{◌≡◌, ◌≢◌, ◌⊎◌, inl, inr, ℕ, ◌≤◌, List, [], ◌++◌, All, Option, None, IsSome, refl, sym, ap, subst, ◌∙◌, arith}
+use Rattle.std.proofs.Common.{◌≡◌, ◌≢◌, ◌⊎◌, inl, inr, ℕ, ◌+◌, ◌≤◌, List, [], ◌++◌, All, Option, None, IsSome, refl, sym, ap, subst, ◌∙◌, arith}
 use Rattle.hb_core.specs.KeepingLaws.{BegunKeepsAll, HasKeptAll}
 use Rattle.hb_core.specs.Machines.{Files, Machine, settled_count}
-use Rattle.hb_core.specs.Runs.{AreAnswers, CountsFaults, HasRun, IsPrefixImage}
+use Rattle.hb_core.specs.Runs.{AreAnswers, ChangesFile, CountsFaults, HasRun, IsPrefixImage}
 use Rattle.hb_core.specs.Showing.{RunningCore, ShowsFiles}
 use Rattle.hb_core.specs.SteppingLaws.{BeginningKeepsAll, IsBegunOver}
 use Rattle.hb_core.specs.Taking.{begun_core}
 use Rattle.hb_core.specs.Working.{MayStep}
 use Rattle.hb_core.specs.declared.endings.End.{End}
 use Rattle.hb_core.specs.declared.endings.End.TheVariants as ends
+use Rattle.hb_disk.proofs.Facts.BecomesLaws.{Becomes-weaker}
 use Rattle.hb_disk.proofs.Facts.RewriteLaws.{Becomes-tells}
 use Rattle.hb_disk.specs.Calls.{Becomes}
 use Rattle.hb_disk.specs.Model.{DiskModel, IsDisk, Torn}
@@ -35,7 +36,7 @@ use Rattle.hb_wal.specs.Log.{LogState}
 use Rattle.std.specs.Prelude.{take}
 use Rattle.std.proofs.lemmas.List.Elements.{All-weaker}
 use Rattle.hbpi.proofs.Begins.{IsBegunHere}
-use Rattle.hbpi.proofs.Beyond.{beyond_log}
+use Rattle.hbpi.proofs.Beyond.{log_inside}
 use Rattle.hbpi.proofs.Opened.{even_store, since_start}
 use Rattle.hbpi.specs.Codes.{status_after}
 use Rattle.hbpi.specs.Driven.{Drove, RanEnds}
@@ -63,7 +64,7 @@ leaves_prefixes : (d e : DiskModel) (m : Machine) (steps : List ℕ) (answered :
 leaves_prefixes d e m steps answered c s keeps all tells actors over run =
     let crashes = run.crashes (contents_of s) (record { durable = s; later = [] }) (keeps m s over) in
     let kept = all s steps m run.new over actors run.steps in
-    let shown = run.shows.tells (Becomes-tells (Torn m.store.log.area m.store.log.len) d e run.in_log tells) in
+    let shown = run.shows.tells (Becomes-tells (ChangesFile m.store) d e run.in_file tells) in
     record {
       since = crashes.since;
       even = λ was. crashes.each;
@@ -92,15 +93,15 @@ takes_steps d e lines steps store c answered m keeps all disk new actors here ru
           let from = at_value d.told _ b is here.told in
           let even = even_store d store from.0 [] from.2 new.running in
           (from.0, even.images b (disk.as_read b is), from.1.sound, from.1, leaves_prefixes d e m steps answered c from.0 keeps all (has_value d.told b is) actors from.1 run, starts (has_value d.told b is)));
-      silent = λ none. (here.may.shows.silent none, run.in_log.silent none);
+      silent = λ none. (here.may.shows.silent none, run.in_file.silent none);
     }
 
 -- the steps of a store that was just opened leave alone what lies behind its file
-pub run_beyond : (d e : DiskModel) (st : StoreState) (m : Machine) → IsNew st.turn st.meta st → m.store ≡ st → Becomes (Torn m.store.log.area m.store.log.len) d e → KeepsBeyond (file_size st.meta) d e
-run_beyond d e st m is_new stored in_log =
-    let log : m.store.log ≡ record { area = log_start st.turn st.meta; len = st.meta.log; written = 0; groups = [] } = ap (λ (x : StoreState). x.log) stored ∙ is_new.log_is in
-    let L : ℕ → Type 0 = λ n. Becomes (Torn m.store.log.area n) d e in
-    beyond_log st.turn m.store.log.area st.meta d e (ap (λ (l : LogState). l.area) log) (subst L (ap (λ (l : LogState). l.len) log) in_log)
+pub run_beyond : (d e : DiskModel) (st : StoreState) (m : Machine) → IsNew st.turn st.meta st → m.store ≡ st → Becomes (ChangesFile m.store) d e → KeepsBeyond (file_size st.meta) d e
+run_beyond d e st m is_new stored in_file =
+    let log = is_new.log_is in
+    let inside : st.log.area + st.log.len ≤ file_size st.meta = subst (λ (l : LogState). l.area + l.len ≤ file_size st.meta) (sym log) (log_inside st.turn (log_start st.turn st.meta) st.meta refl) in
+    Becomes-weaker (ChangesFile st) (Torn 0 (file_size st.meta)) d e (λ b c changes. changes inside) (subst (λ (x : StoreState). Becomes (ChangesFile x) d e) stored in_file)
 
 -- how the run ended, and the fault line behind its text
 pub ran_ends : (end : End) (before mid after : SinkModel) (answered : List Answered) (m : Machine) → EndsWith end before mid (run_text answered m) answered m.stop → GetsLine mid after (fault_line (status_after end))
@@ -135,7 +136,7 @@ is_unbegun (ends.Stopped why) = inr (λ is. cc (is))
 -- What is known of the calls over a core with a script: its store's disk and the sink, what the run left of both, and what the
 -- fault line left.
 pub record RanScript {X Y : Type 0} (M : X → DiskModel) (S : Y → SinkModel) (lines : List Line) (steps : List ℕ) (store : StoreState) (first start over last : X) (sink mid after : Y) (core ran : RunningCore) (end : End) (given answered : List Answered) (order : List ℕ) (status : Status) : Type 0 where
-  pub seen : core ≡ begun_core lines steps store
+  pub seen : core ≡ begun_core lines steps store []
   pub disk : start ≡ first
   pub unbegun : end ≡ ends.NoMemory → (ran ≡ core) × (over ≡ start) × (mid ≡ sink) × (given ≡ [])
   pub drives : end ≢ ends.NoMemory → (m : Machine) → MayStep (M start) core m → DrivesTo m core.steps given (M start) (M over) ran end (S sink) (S mid)
@@ -202,7 +203,7 @@ module _ {X Y : Type 0} (M : X → DiskModel) (S : Y → SinkModel) (lines : Lis
     | inl none ↦ subst (λ (x : X). KeepsBeyond (file_size store.meta) (M first) (M x)) (sym (facts.disk_is ∙ (facts.unbegun none).1 ∙ facts.disk)) (beyond_none (file_size store.meta) (M first) disk)
     | inr some ↦
         let drove = run_here begun.0 begun.1 some in
-        subst (λ (x : X). KeepsBeyond (file_size store.meta) (M first) (M x)) (sym facts.disk_is) (run_beyond (M first) (M over) store begun.0 new begun.1.may.shows.store drove.run.in_log)
+        subst (λ (x : X). KeepsBeyond (file_size store.meta) (M first) (M x)) (sym facts.disk_is) (run_beyond (M first) (M over) store begun.0 new begun.1.may.shows.store drove.run.in_file)
   ]
 
 -- How a run over a store that was just opened ends, by its text.

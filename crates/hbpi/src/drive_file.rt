@@ -9,7 +9,7 @@ ghost use Rattle.hb_ops.specs.Files.{FileState};
 ghost use Rattle.hb_ops.specs.Sound.{IsSound};
 ghost use Rattle.hb_restart.specs.Beyond.{KeepsBeyond, KeepsBeyondFile};
 ghost use Rattle.hb_store.specs.Keeps.{StoreKeeps};
-ghost use Rattle.hb_store.specs.Seen.{seen_as, disk_of};
+ghost use Rattle.hb_store.specs.Seen.{seen_as, disk_of, uses_of};
 ghost use Rattle.hb_store.specs.States.{IsNew, IsStanding};
 ghost use Rattle.hbpi.specs.Codes.{status_after, stop_status};
 ghost use Rattle.hbpi.specs.Driven.{DriveEnds, Drove, RanEnds};
@@ -150,6 +150,7 @@ fn drive_script<K: Sink, D: Disk>(
     requires script { IsScript (seen_as store).meta.k script.lines script.steps }
     requires new { IsNew (seen_as store).turn (seen_as store).meta (seen_as store) }
     requires stands { IsStanding (seen_as store).turn (seen_as store).meta }
+    requires uses { uses_of store ≡ [] }
     requires kept { IfSome (D.model (disk_of store)).told (λ b. (s : FileState) × IsSound s × StoreKeeps (D.model (disk_of store)) (seen_as store) s []) }
     ensures ends { ((result.disk ≡ disk_of store) × (result.status ≡ Status.NoMemory) × GetsLine (K.model sink) (K.model result.sink) (fault_line Status.NoMemory) × (result.answered.items ≡ []) × (result.order.items ≡ []))
         ⊎ ((after : Machine) × TakesSteps (D.model (disk_of store)) (D.model result.disk) (seen_as store).meta.k script.lines script.steps result.answered.items result.order.items after

@@ -20,14 +20,21 @@ const TREE: Tree = Tree {
 /// How many pages are free or behind the highest one: so many pages of records can be split.
 const SPLITS: u32 = 300;
 
+/// How many steps write an older page to its place.
+///
+/// Memory has 128 frames. A change begins where three of them may go, and the page above is pinned then: so it finds 124 dirty
+/// pages at most. Each page that is split makes two dirty, its own and the new one, and the last one is made dirty, too. In the
+/// end 124 of these 601 are dirty, and the others were written.
+const WRITES: u32 = 601 - 124;
+
 /// The first value of the record that is inserted at a turn: five a page.
 fn first_of(turn: u32) -> u64 {
     part_of(turn / 5).wrapping_add(u64::from(turn % 5 + 1))
 }
 
 /// Splits as many pages as can be, and then one more is to be split. A page has one record and a sibling leaf, and may weigh
-/// 6: so the fifth insert splits it. An insert takes 4 steps, two more for the pages above,
-/// and three more where it splits. The last one takes 3 and those two.
+/// 6: so the fifth insert splits it. An insert takes 4 steps, two more for the pages above, and three more where it splits. The
+/// last one takes 3 and those two. The writes to places come besides.
 fn inserts(alloc: Global) -> Result<Script, Missed> {
     let mut script = Script::new(alloc)?;
     for turn in 0..5 * SPLITS + 4 {
@@ -36,7 +43,7 @@ fn inserts(alloc: Global) -> Result<Script, Missed> {
     let (first, line) = (first_of(5 * SPLITS + 4), 5 * SPLITS + 5);
     write!(script.text, "1 insert {first} 7 =x\n")?;
     write!(script.output, "{line} full\n")?;
-    let steps = SPLITS * 33 + 29;
+    let steps = SPLITS * 33 + 29 + WRITES;
     write!(script.text, "step 1x{steps}\n")?;
     script.end("")?;
     Ok(script)

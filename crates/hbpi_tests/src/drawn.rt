@@ -7,16 +7,23 @@ use crate::plain_list::drawn;
 use crate::runs::{drive_on, left_of};
 use std::alloc::Global;
 
+/// How many points commands are drawn on: 24, 64, or 1,024.
+#[derive(Clone, Copy)]
+pub(crate) enum Rows {
+    Three,
+    Eight,
+    All,
+}
+
 /// What commands are drawn of, and how many.
-struct Wave {
-    verbs: [Verb; 8],
-    /// The points have 24 places, and else 64.
-    few: bool,
-    commands: usize,
+pub(crate) struct Wave {
+    pub(crate) verbs: [Verb; 8],
+    pub(crate) rows: Rows,
+    pub(crate) commands: usize,
     /// How often somebody steps.
-    turns: usize,
+    pub(crate) turns: usize,
     /// Who steps beside the sessions and the poster, after its letter.
-    beside: &'static str,
+    pub(crate) beside: &'static str,
 }
 
 /// All verbs on 64 points.
@@ -31,7 +38,7 @@ const MIXED: Wave = Wave {
         Verb::Lookup,
         Verb::Search,
     ],
-    few: false,
+    rows: Rows::Eight,
     commands: 20,
     turns: 30,
     beside: "p",
@@ -49,7 +56,7 @@ const FILLING: Wave = Wave {
         Verb::Lookup,
         Verb::Search,
     ],
-    few: true,
+    rows: Rows::Three,
     commands: 40,
     turns: 60,
     beside: "c",
@@ -66,7 +73,7 @@ const DRAINING: Wave = Wave {
         Verb::Delete,
         Verb::Search,
     ],
-    few: true,
+    rows: Rows::Three,
     commands: 40,
     turns: 60,
     beside: "c",
@@ -74,10 +81,10 @@ const DRAINING: Wave = Wave {
 
 /// What a case is drawn from.
 #[derive(Drop)]
-struct Draw {
-    k: u8,
-    sessions: u64,
-    seed: u64,
+pub(crate) struct Draw {
+    pub(crate) k: u8,
+    pub(crate) sessions: u64,
+    pub(crate) seed: u64,
 }
 
 impl Draw {
@@ -98,16 +105,25 @@ impl Draw {
         }
     }
 
+    /// A row of eight points.
+    fn row(&mut self, rows: Rows) -> u64 {
+        let one = drawn(&mut self.seed) % 8;
+        match rows {
+            Rows::Three => one % 3,
+            Rows::Eight => one,
+            Rows::All => {
+                let two = drawn(&mut self.seed) % 8;
+                one * 16 + two * 2 + drawn(&mut self.seed) % 2
+            }
+        }
+    }
+
     /// Adds a command of some session to the commands.
     fn command(&mut self, commands: &mut Commands, wave: &Wave) -> Option<()> {
         let number = drawn(&mut self.seed) % 4;
         let session = self.session(number);
-        let eight = if wave.few {
-            drawn(&mut self.seed) % 3
-        } else {
-            drawn(&mut self.seed) % 8
-        };
-        let place = eight * 8 + drawn(&mut self.seed) % 8;
+        let row = self.row(wave.rows);
+        let place = row.wrapping_mul(8).wrapping_add(drawn(&mut self.seed) % 8);
         let verb = *wave.verbs.get(drawn(&mut self.seed) as usize)?;
         commands.add(session, verb, place as usize)
     }
@@ -127,7 +143,7 @@ impl Draw {
     }
 
     /// The commands of a wave, and its steps.
-    fn commands(&mut self, alloc: Global, wave: &Wave, from: usize) -> Option<Commands> {
+    pub(crate) fn commands(&mut self, alloc: Global, wave: &Wave, from: usize) -> Option<Commands> {
         let mut commands = Commands::new(alloc, self.k, from);
         for _ in 0..wave.commands {
             self.command(&mut commands, wave)?;
@@ -154,7 +170,7 @@ fn new_file(alloc: Global, k: u8) -> Option<Vec<u8>> {
 }
 
 /// Drives the commands over a file with these records. What comes of it is told, with the file that is left.
-fn driven(
+pub(crate) fn driven(
     alloc: Global,
     commands: &Commands,
     before: Plain,
@@ -166,9 +182,9 @@ fn driven(
     Some((told, bytes))
 }
 
-/// Steps enough for what is left of the commands.
-fn finish(text: &mut String) -> Option<()> {
-    for _ in 0..30 {
+/// Steps enough for what is left of commands, in so many rounds.
+pub(crate) fn finish(text: &mut String, rounds: usize) -> Option<()> {
+    for _ in 0..rounds {
         text.push_str("step 1x8 2x8 3x8 4x8 px8 cx8\n").ok()?;
     }
     Some(())
@@ -180,7 +196,7 @@ fn is_right(alloc: Global, seed: u64) -> Option<bool> {
     let first = draw.commands(alloc, &MIXED, 0)?;
     let (one, file) = driven(alloc, &first, EMPTY, &new_file(alloc, draw.k)?)?;
     let mut second = draw.commands(alloc, &MIXED, 100)?;
-    finish(&mut second.text)?;
+    finish(&mut second.text, 30)?;
     let (two, file) = driven(alloc, &second, one.settled, file.as_slice())?;
     if !two.done {
         return Some(false);
@@ -228,7 +244,7 @@ fn wave_over(
     file: &[u8],
 ) -> Option<(Told, Vec<u8>)> {
     let mut commands = draw.commands(alloc, wave, from)?;
-    finish(&mut commands.text)?;
+    finish(&mut commands.text, 30)?;
     driven(alloc, &commands, before, file)
 }
 

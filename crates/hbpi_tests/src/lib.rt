@@ -10,7 +10,11 @@ mod drawn;
 #[cfg(test)]
 mod files;
 #[cfg(test)]
+mod full_logs;
+#[cfg(test)]
 mod grown_stops;
+#[cfg(test)]
+mod many_pages;
 #[cfg(test)]
 mod maps;
 #[cfg(test)]

@@ -1,14 +1,17 @@
-//! Commands on up to 64 points, and whether what `drive` printed of them is what a plain list of records says over the printed
+//! Commands on up to 1,024 points, and whether what `drive` printed of them is what a plain list of records says over the printed
 //! order. Where something is `None`, memory was refused, or the output is none that such a run may have.
 
 use crate::runs::drive_on;
 use std::alloc::Global;
 
-/// The body that each of 64 points has, which is a number; 0 where it has no record.
-pub(crate) type Plain = [usize; 64];
+/// How many points there may be, and how many lines in a text.
+const MOST: usize = 1024;
+
+/// The body that each point has, which is a number; 0 where it has no record.
+pub(crate) type Plain = [usize; MOST];
 
 /// Points without a record.
-pub(crate) const EMPTY: Plain = [0; 64];
+pub(crate) const EMPTY: Plain = [0; MOST];
 
 #[derive(Clone, Copy)]
 pub(crate) enum Verb {
@@ -17,6 +20,8 @@ pub(crate) enum Verb {
     Lookup,
     /// Of the box whose lower corner the point is: eight values long, of two attributes three.
     Search,
+    /// A search of the whole space.
+    Whole,
 }
 
 /// A command of a session on the point of a place.
@@ -63,20 +68,21 @@ fn is_from(first: usize, count: usize, value: usize) -> bool {
     value >= first && value.wrapping_sub(first) < count
 }
 
-/// Whether the place lies in the box of a search at a place.
-fn is_within(k: u8, corner: usize, place: usize) -> bool {
-    if k == 2 {
-        is_from(corner / 8, 3, place / 8) && is_from(corner % 8, 3, place % 8)
-    } else {
-        is_from(corner, 8, place)
+/// Whether the place lies in the box of a search.
+fn is_within(k: u8, search: &Command, place: usize) -> bool {
+    let corner = search.place;
+    match (search.verb, k) {
+        (Verb::Whole, _) => true,
+        (_, 2) => is_from(corner / 8, 3, place / 8) && is_from(corner % 8, 3, place % 8),
+        _ => is_from(corner, 8, place),
     }
 }
 
 /// The records in the box of a search.
-fn found_in(plain: &Plain, k: u8, corner: usize) -> Digest {
+fn found_in(plain: &Plain, k: u8, search: &Command) -> Digest {
     let mut digest = NOTHING;
     for (place, &body) in plain.iter().enumerate() {
-        if body != 0 && is_within(k, corner, place) {
+        if body != 0 && is_within(k, search, place) {
             digest = digest.with(place, body);
         }
     }
@@ -100,8 +106,8 @@ fn says(words: &str, reply: Reply) -> bool {
 
 /// What a command replies over so many attributes, and what the points have then.
 fn effect(plain: &mut Plain, k: u8, command: &Command, body: usize) -> Option<Reply> {
-    if let Verb::Search = command.verb {
-        return Some(Reply::Within(found_in(plain, k, command.place)));
+    if let Verb::Search | Verb::Whole = command.verb {
+        return Some(Reply::Within(found_in(plain, k, command)));
     }
     let held = plain.get_mut(command.place)?;
     let old = *held;
@@ -111,7 +117,7 @@ fn effect(plain: &mut Plain, k: u8, command: &Command, body: usize) -> Option<Re
         Verb::Delete if old == 0 => ("absent", 0),
         Verb::Delete => ("ok", 0),
         Verb::Lookup if old == 0 => ("none", 0),
-        Verb::Lookup | Verb::Search => return Some(Reply::Found(old)),
+        Verb::Lookup | Verb::Search | Verb::Whole => return Some(Reply::Found(old)),
     };
     *held = new;
     Some(Reply::Word(word))
@@ -143,28 +149,35 @@ impl Commands {
         self.from.wrapping_add(place).wrapping_add(1)
     }
 
+    /// Adds the values of a point, or those of a search's box.
+    fn add_values(&mut self, verb: Verb, place: usize) -> Option<()> {
+        let (row, column, most) = (place / 8, place % 8, u64::MAX);
+        match (verb, self.k) {
+            (Verb::Whole, 2) => write!(self.text, " 0 {most} 0 {most}").ok(),
+            (Verb::Whole, _) => write!(self.text, " 0 {most}").ok(),
+            (Verb::Search, 2) => {
+                let (below, beside) = (row.wrapping_add(2), column.wrapping_add(2));
+                write!(self.text, " {row} {below} {column} {beside}").ok()
+            }
+            (Verb::Search, _) => {
+                let last = place.wrapping_add(7);
+                write!(self.text, " {place} {last}").ok()
+            }
+            (_, 2) => write!(self.text, " {row} {column}").ok(),
+            _ => write!(self.text, " {place}").ok(),
+        }
+    }
+
     /// Adds a command.
     pub(crate) fn add(&mut self, session: u8, verb: Verb, place: usize) -> Option<()> {
         let word = match verb {
             Verb::Insert => "insert",
             Verb::Delete => "delete",
             Verb::Lookup => "lookup",
-            Verb::Search => "search",
+            Verb::Search | Verb::Whole => "search",
         };
         write!(self.text, "{session} {word}").ok()?;
-        let (row, column) = (place / 8, place % 8);
-        match (verb, self.k) {
-            (Verb::Search, 2) => {
-                let (below, beside) = (row.wrapping_add(2), column.wrapping_add(2));
-                write!(self.text, " {row} {below} {column} {beside}").ok()?;
-            }
-            (Verb::Search, _) => {
-                let last = place.wrapping_add(7);
-                write!(self.text, " {place} {last}").ok()?;
-            }
-            (_, 2) => write!(self.text, " {row} {column}").ok()?,
-            _ => write!(self.text, " {place}").ok()?,
-        }
+        self.add_values(verb, place)?;
         if let Verb::Insert = verb {
             let body = self.body(self.list.len());
             write!(self.text, " ={body}").ok()?;
@@ -199,9 +212,9 @@ pub(crate) struct Told {
     /// Whether each line was answered, and all of the order is settled.
     pub(crate) done: bool,
     /// What each line in the order has to reply.
-    replies: [Option<Reply>; 64],
+    replies: [Option<Reply>; MOST],
     /// The lines that were printed.
-    printed: [bool; 64],
+    printed: [bool; MOST],
     count: usize,
     /// The last line of each session in the order.
     last: [usize; 17],
@@ -216,8 +229,8 @@ impl Told {
             settled: before,
             whole: before,
             done: true,
-            replies: [None; 64],
-            printed: [false; 64],
+            replies: [None; MOST],
+            printed: [false; MOST],
             count: 0,
             last: [0; 17],
             wanted: NOTHING,
@@ -343,7 +356,8 @@ fn lookups(alloc: Global, k: u8, places: usize) -> Option<Commands> {
     for place in 0..places {
         commands.add(1, Verb::Lookup, place)?;
     }
-    commands.text.push_str("step 1x600\n").ok()?;
+    let steps = places.wrapping_mul(16);
+    write!(commands.text, "step 1x{steps}\n").ok()?;
     Some(commands)
 }
 

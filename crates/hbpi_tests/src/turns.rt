@@ -1,6 +1,8 @@
 //! A log that fills, and files over many runs.
 
+use crate::maps::{PAGE_1, stands};
 use crate::runs::{Left, drive_on, expect_said, file_of};
+use hb_disk::Disk;
 use std::alloc::Global;
 
 /// A text, what `drive` says to it, and the line of the order as far as the lines go.
@@ -32,7 +34,7 @@ impl Filling {
         write!(self.order, " {line}").ok()
     }
 
-    /// Changes that fill a log area of 65,536 bytes: an insert and a delete of the point 1 in turn, so many, and a lookup.
+    /// Changes that fill a log area of 65,536 bytes: an insert and a delete of the point 1 in turn, so many.
     ///
     /// The first frame has the image and 4,120 bytes, each later delete 19 and each later insert 20. A change is begun where
     /// the log has at most 49,147 bytes, so that a group of 16,384 fits. Behind the 2,310th change it has 4,120 + 1,154 * 39
@@ -46,16 +48,37 @@ impl Filling {
             };
             self.change(line, verb)?;
         }
-        self.text
-            .push_str("1 delete 1\n1 lookup 1\nstep 1x9249\n")
-            .ok()?;
-        write!(self.want, "2312 full\n2313 found =\n{} 2313\n", self.order).ok()
+        Some(())
+    }
+
+    /// That line and a lookup, these steps, what is said to both, and where the lookup is in the order.
+    fn end(&mut self, steps: u32, said: &str, place: &str) -> Option<()> {
+        write!(self.text, "1 delete 1\n1 lookup 1\nstep 1x{steps}\n").ok()?;
+        write!(self.want, "{said}{}{place}\n", self.order).ok()
     }
 }
 
-/// What `drive` leaves of those changes, and whether it says so.
-fn filled(alloc: Global) -> Option<(bool, Left)> {
-    let filling = Filling::new(alloc)?;
+/// How many steps there are; what is said to the last two lines, and where the lookup is in the order; and how often the disk was
+/// called. The opening and the read of page 1 take 16 calls, and each change four.
+///
+/// The changes take 9,244 steps. In the second one of the line that finds the log full page 1 is written to its place, which
+/// was changed; then nothing is left to flush, and the third one answers the line. The lookup takes three.
+const FULL: [(u32, &str, &str, u64); 6] = [
+    (9245, "2312 unfinished\n2313 unfinished\n", "", 9260),
+    (9246, "2312 unfinished\n2313 unfinished\n", "", 9261),
+    (9247, "2312 full\n2313 unfinished\n", "", 9261),
+    (9248, "2312 full\n2313 unfinished\n", "", 9261),
+    (9249, "2312 full\n2313 unfinished\n", " 2313", 9261),
+    (9250, "2312 full\n2313 found =\n", " 2313", 9261),
+];
+
+/// Page 1 as the last change left it.
+const CHANGED: &str = "01000100 0000000000000000 ffffffffffffffff 01 0001 0000000000000001 00";
+
+/// What `drive` leaves of those changes and the two lines with so many steps, and whether it says this.
+fn filled(alloc: Global, steps: u32, said: &str, place: &str) -> Option<(bool, Left)> {
+    let mut filling = Filling::new(alloc)?;
+    filling.end(steps, said, place)?;
     let file = file_of(alloc, &[])?;
     let left = drive_on(alloc, filling.text.as_str(), file.as_slice())?;
     Some((left.said == filling.want, left))
@@ -63,12 +86,16 @@ fn filled(alloc: Global) -> Option<(bool, Left)> {
 
 #[test]
 fn a_log_fills(rt: HostRuntime) {
-    let (right, left) = filled(rt.alloc()).expect(&rt, "memory");
-    assert!(rt; right);
-    // in the next run the log is empty again
-    let text = "1 lookup 1\n1 delete 1\n1 lookup 1\nstep 1x10\n";
-    let next = drive_on(rt.alloc(), text, left.disk.bytes());
-    expect_said(&rt, next, "0 1 found =\n2 ok\n3 none\norder 1 2 3\n", text);
+    for &(steps, said, place, calls) in &FULL {
+        let (right, left) = filled(rt.alloc(), steps, said, place).expect(&rt, "memory");
+        assert!(rt; right && left.disk.calls() == calls, "{steps}");
+        let is_home = stands(rt.alloc(), left.disk.bytes(), PAGE_1, CHANGED);
+        assert!(rt; is_home == Some(calls > 9260), "{steps}");
+        // in the next run the log is empty again
+        let text = "1 lookup 1\n1 delete 1\n1 lookup 1\nstep 1x10\n";
+        let next = drive_on(rt.alloc(), text, left.disk.bytes());
+        expect_said(&rt, next, "0 1 found =\n2 ok\n3 none\norder 1 2 3\n", text);
+    }
 }
 
 /// How many texts were driven, each of which inserts its own number with the body `a`, and what `drive` says of the points 0,

@@ -1,12 +1,11 @@
 -- A step is built: the machine after a deed, and that the deed is done so.
-use Rattle.std.proofs.Common.{◌≡◌, ◌≢◌, ◌⊎◌, inl, inr, ℕ, ◌==◌, nat_le, Bool, true, cond, ◌<◌, ◌≤◌, ◌++◌, false, List, [], ◌∷◌, Contains, length, get_or, Option, Some, None, IfSome, IsSome, IsSomeAnd, IsTrue, refl, sym, ap, ◌∙◌, subst, arith}
+use Rattle.std.proofs.Common.{◌≡◌, ◌≢◌, inl, inr, ℕ, nat_le, ◌<◌, ◌≤◌, ◌++◌, false, List, [], ◌∷◌, Contains, length, get_or, Option, Some, None, IfSome, IsSome, IsSomeAnd, IsTrue, refl, sym, ap, ◌∙◌, subst, arith, map}
 use mathlib.Core.Path.{fun_ext}
-use Rattle.std.proofs.lemmas.Bool.{eqb-true}
+use Rattle.std.proofs.lemmas.Bool.{leb-true}
 use Rattle.std.specs.Prelude.{◌||◌, ◌+◌, ◌*◌, ◌%◌}
-use Rattle.std.specs.FinMap as map
+use Rattle.std.specs.FinMap as finite
 use Rattle.hb_space.specs.declared.form.TheConstants.{PAGE}
 use Rattle.std.specs.Option.{option_and_then}
-use Rattle.std.specs.List.{AllByRecursion}
 use Rattle.hb_frag.specs.declared.pages.LivePage.{LivePage}
 use Rattle.hb_frag.specs.declared.pages.Page.{Page}
 use Rattle.hb_ops.specs.declared.operations.Op.{Op}
@@ -16,47 +15,37 @@ use Rattle.hb_activity.specs.declared.jobs.Job.{Job}
 use Rattle.hb_activity.specs.declared.waiting_jobs.TheConstants.{JOBS}
 use Rattle.hb_activity.specs.declared.wanting.Wanted.{Wanted}
 use Rattle.hb_activity.specs.declared.activities.Activity.{Activity}
-use Rattle.hb_activity.specs.declared.activities.Activity.TheVariants.{SessionIdle, PosterIdle, ConsolidatorIdle, Flusher}
-use Rattle.hb_core.specs.declared.outcomes.Outcome.{Outcome}
 use Rattle.hb_core.specs.declared.outcomes.Outcome.TheVariants as outcomes
 use Rattle.hb_activity.specs.Deeds.{Deed}
 use Rattle.hb_activity.specs.Holding.{held_of}
 use Rattle.hb_activity.specs.Queue.{AddsJobs, LeavesBy}
 use Rattle.hb_activity.specs.Walks.{walk_held}
 use Rattle.hb_activity.specs.Wanting.{wanted_of}
-use Rattle.hb_core.proofs.Chains.WrittenTables.{add_numbers, add_pages, among_in_log, entry_append, entry_at, entry_has, grants, hinders, is_another, is_clear, is_earlier, map_has, mode_in, or_else, or_stays, pages_set, relatched, relatches, set_all, set_entry, set_has, standing_set}
+use Rattle.hb_core.proofs.Chains.WrittenTables.{add_numbers, add_pages, among_in_log, entry_at, grants, hinders, is_another, is_clear, is_earlier, map_has, mode_in, pages_set, relatched, relatches, set_all, set_entry, set_has, standing_set, among_pages}
 use Rattle.hb_core.specs.Acting.{takes_number}
 use Rattle.hb_core.specs.Asking.{AskedBox, HasAskedBox, HasWayFree, asked_box, looked_page, wanted_by}
-use Rattle.hb_core.specs.Fetching.{Brings, IsFreeHead, IsWantedPage}
-use Rattle.hb_core.specs.Forcing.{ForcesFirst}
-use Rattle.hb_core.specs.GivingUp.{runs_out}
+use Rattle.hb_core.specs.Fetching.{Brings}
 use Rattle.hb_core.specs.Machines.{Files, if_some, live_here, Machine}
-use Rattle.hb_core.specs.Performing.{DoesOp, MayDo, Performs, Relatches, files_after, given_by, ChangesQueue, outcome_of}
+use Rattle.hb_core.specs.Performing.{DoesOp, MayDo, Performs, Relatches, files_after, given_by, ChangesQueue, outcome_of, PerformsAsItIs, latches_held}
 use Rattle.hb_core.specs.Rows.{IsAtHand, Row}
-use Rattle.hb_core.specs.Scenes.{Scene, at_rest, machine_of, standing, store_of}
-use Rattle.hb_boxlock.specs.Locking.{Excludes}
-use Rattle.hb_core.specs.Locking.{HasBoxFree}
-use Rattle.hb_core.specs.Steps.{BeginsLine, IsUnready, Works, may_change_file}
-use Rattle.hb_activity.specs.BoxLocks.{lock_of, lock_of_command}
-use Rattle.hb_boxlock.specs.declared.locks.BoxLock.{BoxLock}
-use Rattle.hb_point.specs.SessionRows.{taking}
-use Rattle.hb_space.specs.Boxes.{point_area}
-use Rattle.hb_set.specs.declared.scripts.Line.{Line}
+use Rattle.hb_core.specs.Scenes.{Scene, machine_of, standing, store_of, uses_in}
+use Rattle.hb_core.specs.Steps.{IsUnready, Works, may_change_file, IsCrowded}
 use Rattle.hb_latch.specs.Modes.{goes_beside}
 use Rattle.hb_latch.specs.Tables.{IsGrantable, IsLeastInTheWay}
 use Rattle.hb_log_codec.specs.Groups.{Logged, group_bytes}
-use Rattle.hb_ops.specs.Files.{if_live, page_of}
+use Rattle.hb_ops.specs.Files.{if_live}
 use Rattle.hb_ops.specs.Operations.{Change, IsAllowedOn, change_of, reads_of}
-use Rattle.hb_store.specs.Calls.{IsReady, change_here, with_op}
-use Rattle.hb_store.specs.Forced.{durable_after, later_after}
-use Rattle.hb_store.specs.Keeps.{last_of}
+use Rattle.hb_store.specs.Calls.{IsReady, change_here, with_op, use_changed}
 use Rattle.hb_store.specs.Making.{group_here, page_images_needed}
 use Rattle.hb_store.specs.Replay.{set_pages, has_page, is_among}
 use Rattle.hb_store.proofs.Facts.ReplayLists.{set_not}
-use Rattle.hb_store.specs.States.{IsGoodPage, StoreState, in_memory, is_in_log}
-use Rattle.hb_wal.specs.Forces.{calls_of_force}
-use Rattle.hb_wal.specs.Frames.{frames}
-use Rattle.hb_wal.specs.Log.{forced, left_waiting}
+use Rattle.hb_store.specs.States.{StoreState, in_memory, is_in_log}
+use Rattle.std.specs.Ordering.{nat_cmp}
+use Rattle.hb_core.proofs.Chains.OrderOfUse.{is_tied, same_pages, tied, used_each}
+use Rattle.hb_core.specs.Using.{is_changed, page_wanted, pages_of, use_done, use_held, use_number, use_wanted}
+use Rattle.hb_pool.specs.Frames.{Use}
+use Rattle.hb_pool.specs.Pools.{places}
+use Rattle.hb_store.specs.Held.{IsTied}
 
 -- ---- what a scene's store answers
 
@@ -108,6 +97,7 @@ with_done op s = record s {
   groups = s.groups ++ record { bytes = group_bytes (group_in s op); mark = length s.order } ∷ [];
   pages = set_all (change_in s op).pages s.pages;
   in_log = add_pages (change_in s op).pages (add_numbers (reads_of op) s.in_log);
+  dirty = add_pages (change_in s op).pages s.dirty;
   later = with_op s.durable s.later op;
 }
 
@@ -130,10 +120,10 @@ does_op s op may = record {
     stopped = refl;
     meta = ap (λ (c : Change). c.meta) (sym (change_is s op));
     made = λ id made. pages_are s op id;
-    kept = λ id off stays. pages_stay s op id off;
     others = λ id off. inl (pages_stay s op id off);
     in_log = λ id. in_log_is (with_done op s) id ∙ among_in_log id (change_in s op).pages (reads_of op) s.in_log
         ∙ sym (λ i. has_page id (change_is s op i).pages || (is_among id (reads_of op) || in_log_is s id i));
+    dirty = λ id. set_has (with_done op s).dirty id ∙ among_pages id (change_in s op).pages s.dirty ∙ sym (λ i. has_page id (change_is s op i).pages || set_has s.dirty id i);
     area = ap (λ (n : ℕ). 2 * PAGE + (1 % 2) * n) may.log;
     len = may.log;
     written = refl;
@@ -148,31 +138,38 @@ does_op s op may = record {
 abbrev pub held_in : Scene → Activity → List Latch
 held_in s next = held_of next (option_and_then (live_in s) (walk_held next))
 
--- the scene after a deed of an actor, with the jobs that wait then
-abbrev pub after : ℕ → Deed → List Job → Scene → Scene
-after actor deed jobs s = let t = with_maybe_done deed.op s in record s {
+-- the numbers of the pages that are changed
+abbrev pub changed_in : Option Op → Scene → List ℕ
+changed_in None s = []
+changed_in (Some op) s = map (λ (one : ℕ × Page). one.0) (change_in s op).pages
+
+-- the scene after an operation or none, but for who did it
+abbrev pub once_done : Option Op → Scene → Scene
+once_done op s = let t = with_maybe_done op s in record s {
+  meta = t.meta;
+  groups = t.groups;
+  pages = t.pages;
+  in_log = t.in_log;
+  dirty = t.dirty;
+  later = t.later;
+}
+
+-- The scene after a deed of an actor, with the pages in their order of use and the jobs that wait then.
+abbrev pub after : List (ℕ × Page) → ℕ → Deed → List Job → Scene → Scene
+after pages actor deed jobs s = let t = once_done deed.op s in record t {
   answered = s.answered ++ given_by (outcome_of deed.says) s.clock;
   at_work = set_entry actor deed.next s.at_work;
   latched = relatched actor (held_in t deed.next) s.latched;
   jobs = jobs;
   order = s.order ++ if_some deed.joins;
-  meta = t.meta;
-  groups = t.groups;
-  pages = t.pages;
-  in_log = t.in_log;
-  later = t.later;
+  pages = pages;
 }
 
-abbrev pub disk_after : Option Op → Scene → StoreState
-disk_after op s = let t = with_maybe_done op s in store_of (record s {
-  meta = t.meta;
-  groups = t.groups;
-  pages = t.pages;
-  in_log = t.in_log;
-  later = t.later;
-})
+-- where no page is used for it
+abbrev pub after_as_it_is : ℕ → Deed → List Job → Scene → Scene
+after_as_it_is actor deed jobs s = after s.pages actor deed jobs s
 
-may_do : (s : Scene) (op : Option Op) → MayBeIn s op → MayDo op (length s.order) (store_of s) (disk_after op s)
+may_do : (s : Scene) (op : Option Op) → MayBeIn s op → MayDo op (length s.order) (store_of s) (store_of (once_done op s))
 may_do s None may = refl
 may_do s (Some op) may = does_op s op may
 
@@ -180,61 +177,83 @@ files_are : (s : Scene) (op : Option Op) → ◌≡◌ {A = Option Files} (Some 
 files_are s None = refl
 files_are s (Some op) = refl
 
+-- what isn't changed stays
+stays_there : (s : Scene) (op : Option Op) (id : ℕ) → is_changed op (store_of s) id ≡ false → in_memory (store_of (once_done op s)) id ≡ in_memory (store_of s) id
+stays_there s None id off = refl
+stays_there s (Some op) id off = pages_stay s op id off
+
+-- the order of use with the changed pages
+abbrev pub done_in : Scene → Option Op → List Use → List Use
+done_in s op uses = use_changed (changed_in op s) uses
+
+done_is : (s : Scene) (op : Option Op) (uses : List Use) → done_in s op uses ≡ use_done op (store_of s) uses
+done_is s None uses = refl
+done_is s (Some op) uses = ap (λ (c : Change). use_changed (map (λ (one : ℕ × Page). one.0) c.pages) uses) (sym (change_is s op))
+
 -- no job leaves the queue, and these join it
 pub queued : {deed : Deed} {old new : List Job} → LeavesBy deed.takes old old → AddsJobs deed.adds old new → ChangesQueue deed old new
 queued stays adds = record { left = _; takes = stays; adds = adds }
 
-pub performed : (s : Scene) (actor : ℕ) (deed : Deed) (jobs : List Job) → ChangesQueue deed s.jobs jobs → MayBeIn s deed.op
-    → Performs (machine_of s) (store_of s) actor deed (outcome_of deed.says) (machine_of (after actor deed jobs s))
-performed s actor deed jobs queue may = record {
-  says = refl;
-  lines = refl;
-  answered = refl;
-  activity = standing_set actor deed.next s.at_work;
-  latches = subst (λ (held : List Latch). Relatches actor held (map.from_entries s.latched) (map.from_entries (relatched actor (held_in (with_maybe_done deed.op s) deed.next) s.latched))) (sym (ap (held_of deed.next) (looks_is (after actor deed jobs s) (walk_held deed.next))))
-      (relatches actor (held_in (with_maybe_done deed.op s) deed.next) s.latched);
-  jobs = queue;
-  order = refl;
-  stop = refl;
-  store = may_do s deed.op may;
-  files = files_are s deed.op;
-  clock = refl;
-}
+-- The pages then: those of these numbers were used for it, then the changed ones, and then those of the actor's latches. So the order of
+-- use follows from what came and was pinned; and it goes with the pages.
+abbrev pub IsUsedSo : List ℕ → List Use → List ℕ → List (ℕ × Page) → ℕ → Deed → List Job → Scene → Type 0
+IsUsedSo ids came pins pages actor deed jobs s =
+    (used_each (ids ++ (changed_in deed.op s ++ pages_of (held_in (once_done deed.op s) deed.next))) (once_done deed.op s).pages ≡ pages)
+    × (uses_in (after pages actor deed jobs s) ≡ use_held pins (pages_of (held_in (once_done deed.op s) deed.next)) (done_in s deed.op came))
+    × IsTrue (is_tied (after pages actor deed jobs s) (uses_in (after pages actor deed jobs s)))
 
--- ---- a line that is taken
+-- but for the order of use there is the store of the scene after the operation
+module _ (ids : List ℕ) (came : List Use) (pins : List ℕ) (pages : List (ℕ × Page)) (s : Scene) (actor : ℕ) (deed : Deed) (jobs : List Job) (used : IsUsedSo ids came pins pages actor deed jobs s) where
+  store_after : store_of (after pages actor deed jobs s) ≡ store_of (once_done deed.op s)
+  store_after =
+      let t = once_done deed.op s in
+      ap (λ (all : finite.FinMap nat_cmp Page). record (store_of t) { pages = all })
+      (ap (λ (all : List (ℕ × Page)). finite.from_entries {R = nat_cmp} all) (sym used.0) ∙ same_pages (ids ++ (changed_in deed.op s ++ pages_of (held_in t deed.next))) t.pages)
 
--- nobody at work has a lock that keeps an actor from this one
-abbrev pub NoneLocksOut : ℕ → BoxLock → List (ℕ × Activity) → Type 0
-NoneLocksOut actor lock [] = Unit {0}
-NoneLocksOut actor lock (one ∷ rest) = ((one.0 ≡ actor) ⊎ ¬ (IsSomeAnd (lock_of one.1) (Excludes lock))) × NoneLocksOut actor lock rest
+  held_then : latches_held (store_of (after pages actor deed jobs s)) deed.next ≡ held_in (once_done deed.op s) deed.next
+  held_then = ap (λ (st : StoreState). latches_held st deed.next) store_after ∙ ap (held_of deed.next) (looks_is (once_done deed.op s) (walk_held deed.next))
 
--- who rests has none
-rests_open : (actor : ℕ) (lock : BoxLock) → IsSomeAnd (lock_of (at_rest actor)) (Excludes lock) → ⊥
-rests_open actor lock out = elim (nat_le actor 16) as (λ b. IsSomeAnd (lock_of (cond b SessionIdle (cond (actor == 17) PosterIdle (cond (actor == 18) ConsolidatorIdle Flusher)))) (Excludes lock) → ⊥) [
-  | true ↦ λ none. none
-  | false ↦ elim (actor == 17) as (λ b. IsSomeAnd (lock_of (cond b PosterIdle (cond (actor == 18) ConsolidatorIdle Flusher))) (Excludes lock) → ⊥) [
-    | true ↦ λ none. none
-    | false ↦ elim (actor == 18) as (λ b. IsSomeAnd (lock_of (cond b ConsolidatorIdle Flusher)) (Excludes lock) → ⊥) [ true ↦ λ none. none | false ↦ λ none. none ]
-  ]
-] out
+  pub performed_using : ChangesQueue deed s.jobs jobs → MayBeIn s deed.op
+      → (p : Performs (machine_of s) (store_of s) actor deed (outcome_of deed.says) (machine_of (after pages actor deed jobs s))) × (p.came ≡ came) × (p.pins ≡ pins)
+  performed_using queue may = (
+    record {
+      says = refl;
+      lines = refl;
+      answered = refl;
+      activity = standing_set actor deed.next s.at_work;
+      latches = subst (λ (held : List Latch). Relatches actor held (finite.from_entries s.latched) (finite.from_entries (relatched actor (held_in (once_done deed.op s) deed.next) s.latched))) (sym held_then)
+          (relatches actor (held_in (once_done deed.op s) deed.next) s.latched);
+      jobs = queue;
+      order = refl;
+      stop = refl;
+      store = subst (λ (st : StoreState). MayDo deed.op (length s.order) (store_of s) st) (sym store_after) (may_do s deed.op may);
+      files = files_are s deed.op;
+      clock = refl;
+      came = came;
+      pins = pins;
+      uses = used.1 ∙ (λ i. use_held pins (pages_of (sym held_then i)) (done_is s deed.op came i));
+      tied = tied (after pages actor deed jobs s) (uses_in (after pages actor deed jobs s)) used.2;
+      stays = λ id must off. ap (λ (st : StoreState). in_memory st id) store_after ∙ stays_there s deed.op id off;
+    },
+    refl,
+    refl,
+  )
 
-none_out : (actor : ℕ) (lock : BoxLock) (all : List (ℕ × Activity)) → NoneLocksOut actor lock all → (other : ℕ) → other ≢ actor → IsSomeAnd (lock_of (standing all other)) (Excludes lock) → ⊥
-none_out actor lock [] none other another out = rests_open other lock out
-none_out actor lock (one ∷ rest) none other another out = elim (other == one.0) as (λ b. (other == one.0) ≡ b → IsSomeAnd (lock_of (cond b one.1 (standing rest other))) (Excludes lock) → ⊥) [
-  | true ↦ λ here its. elim none.0 [ inl same ↦ another (eqb-true other one.0 here ∙ same) | inr open_to ↦ open_to its ]
-  | false ↦ λ off its. none_out actor lock rest none.1 other another its
-] refl out
+-- the pages of the latches that an actor has
+abbrev pub pages_held : Scene → ℕ → List ℕ
+pages_held s actor = pages_of (held_in s (standing s.at_work actor))
 
-pub box_free : (s : Scene) (actor : ℕ) (lock : BoxLock) → NoneLocksOut actor lock s.at_work → HasBoxFree (machine_of s) actor lock
-box_free s actor lock none other out = none_out actor lock s.at_work none other out.another out.excluded
+pub pages_held_are : (s : Scene) (actor : ℕ) → pages_held s actor ≡ pages_of (latches_held (store_of s) (standing s.at_work actor))
+pages_held_are s actor = ap (λ (o : Option LivePage). pages_of (held_of (standing s.at_work actor) o)) (sym (looks_is s (walk_held (standing s.at_work actor))))
 
--- locks on two points don't
-pub points_apart : (a b : ℕ) (one other : Bool) → a ≢ b → Excludes (record { area = point_area (a ∷ []); shared = one }) (record { area = point_area (b ∷ []); shared = other }) → ⊥
-points_apart a b one other apart out = let meets = out.meets 0 (omega arith) in apart (omega (arith, meets))
+-- a deed for which no page has to come
+abbrev pub IsUsedAsItIs : ℕ → Deed → List Job → Scene → Type 0
+IsUsedAsItIs actor deed jobs s = IsUsedSo [] (uses_in s) (pages_held s actor) s.pages actor deed jobs s
 
-pub takes_line : (s : Scene) (actor : ℕ) (line : Line) (jobs : List Job) → ChangesQueue (taking line) s.jobs jobs → NoneLocksOut actor (lock_of_command line.command) s.at_work
-    → BeginsLine (machine_of s) actor line outcomes.Moved (machine_of (after actor (taking line) jobs s))
-takes_line s actor line jobs queue none = inr (box_free s actor (lock_of_command line.command) none, inl (performed s actor (taking line) jobs queue tt))
+pub performed : (s : Scene) (actor : ℕ) (deed : Deed) (jobs : List Job) → ChangesQueue deed s.jobs jobs → MayBeIn s deed.op → IsUsedAsItIs actor deed jobs s
+    → PerformsAsItIs (machine_of s) actor deed (outcome_of deed.says) (machine_of (after_as_it_is actor deed jobs s))
+performed s actor deed jobs queue may used =
+    let done = performed_using [] (uses_in s) (pages_held s actor) s.pages s actor deed jobs used queue may in (done.0, done.1, done.2 ∙ pages_held_are s actor)
 
 -- ---- a step that works
 
@@ -248,42 +267,64 @@ wanted_is s actor = ap (wanted_of (standing s.at_work actor) s.meta) (looks_is s
 abbrev pub IsClearIn : Scene → ℕ → Type 0
 IsClearIn s actor = IfSome (wanted_in s actor) (λ w. IsTrue (is_clear (is_another actor) w.page w.mode s.latched))
 
-granted : (s : Scene) (actor : ℕ) (o : Option Wanted) → IfSome o (λ w. IsTrue (is_clear (is_another actor) w.page w.mode s.latched)) → IfSome o (λ w. IsGrantable (map.from_entries s.latched) actor w.page w.mode)
+granted : (s : Scene) (actor : ℕ) (o : Option Wanted) → IfSome o (λ w. IsTrue (is_clear (is_another actor) w.page w.mode s.latched)) → IfSome o (λ w. IsGrantable (finite.from_entries s.latched) actor w.page w.mode)
 granted s actor None clear = tt
 granted s actor (Some w) clear = grants actor w.page w.mode s.latched clear
 
 pub way_free : (s : Scene) (actor : ℕ) → IsClearIn s actor → HasWayFree (machine_of s) actor
-way_free s actor clear = subst (λ (o : Option Wanted). IfSome o (λ w. IsGrantable (map.from_entries s.latched) actor w.page w.mode)) (sym (wanted_is s actor)) (granted s actor (wanted_in s actor) clear)
+way_free s actor clear = subst (λ (o : Option Wanted). IfSome o (λ w. IsGrantable (finite.from_entries s.latched) actor w.page w.mode)) (sym (wanted_is s actor)) (granted s actor (wanted_in s actor) clear)
 
-is_none_not : IsSome {T = Page} None → ⊥
+pub is_none_not : IsSome {T = Page} None → ⊥
 is_none_not some = cc
 
 -- no page has to come
 pub nothing_comes : (m : Machine) (may : ℕ → Type 0) → Brings m may m.store
 nothing_comes m may = record {
-  rest = record { turn = refl; meta = refl; log = refl; in_log = refl; stopped = refl };
+  rest = record { turn = refl; meta = refl; log = refl; in_log = refl; dirty = refl; stopped = refl };
   stays = λ id must there. refl;
   others = λ id there. inl refl;
   only = λ id none there. absurd (is_none_not (subst (λ (o : Option Page). IsSome o) none there));
-  good = λ id page none there. absurd (let no : ⊥ = cc in no);
+  good = λ id page there. inl there;
   told = λ id page none there. absurd (let no : ⊥ = cc in no);
 }
 
+-- what came and is pinned then
+abbrev pub came_in : Scene → ℕ → Option Op → List Use
+came_in s actor op = use_number (takes_number op) s.meta (use_wanted (wanted_in s actor) (uses_in s))
+
+abbrev pub pins_in : Scene → ℕ → List ℕ
+pins_in s actor = page_wanted (wanted_in s actor) ++ pages_held s actor
+
+pub came_is : (s : Scene) (actor : ℕ) (op : Option Op) → came_in s actor op ≡ use_number (takes_number op) s.meta (use_wanted (wanted_by (machine_of s) actor) (uses_in s))
+came_is s actor op = ap (λ (o : Option Wanted). use_number (takes_number op) s.meta (use_wanted o (uses_in s))) (sym (wanted_is s actor))
+
+pub pins_are : (s : Scene) (actor : ℕ) → pins_in s actor ≡ page_wanted (wanted_by (machine_of s) actor) ++ pages_of (latches_held (store_of s) (standing s.at_work actor))
+pins_are s actor = λ i. page_wanted (sym (wanted_is s actor) i) ++ pages_held_are s actor i
+
 -- its row is done
-pub works : (s : Scene) (actor : ℕ) (deed : Deed) (jobs : List Job) → IsClearIn s actor → ¬ (IsUnready (machine_of s) actor)
+abbrev pub IsUsedToWork : List (ℕ × Page) → ℕ → Deed → List Job → Scene → Type 0
+IsUsedToWork pages actor deed jobs s = IsUsedSo (page_wanted (wanted_in s actor)) (came_in s actor deed.op) (pins_in s actor) pages actor deed jobs s
+
+pub works : (s : Scene) (pages : List (ℕ × Page)) (actor : ℕ) (deed : Deed) (jobs : List Job) → IsClearIn s actor → ¬ (IsUnready (machine_of s) actor)
     → Row (standing s.at_work actor) (wanted_in s actor) (machine_of s) deed → ChangesQueue deed s.jobs jobs → MayBeIn s deed.op
-    → Works (machine_of s) actor (outcome_of deed.says) (machine_of (after actor deed jobs s))
-works s actor deed jobs clear ready row queue may = inr (inr (
-  way_free s actor clear,
-  ready,
-  inl (record {
-    fetched = store_of s;
-    deed = deed;
-    brings = nothing_comes _ _;
-    row = subst (λ (o : Option Wanted). Row (standing s.at_work actor) o (machine_of s) deed) (sym (wanted_is s actor)) row;
-    performs = performed s actor deed jobs queue may;
-  }),
-))
+    → IsUsedToWork pages actor deed jobs s → IsTrue (is_tied s (came_in s actor deed.op))
+    → Works (machine_of s) actor (outcome_of deed.says) (machine_of (after pages actor deed jobs s))
+works s pages actor deed jobs clear ready row queue may used came =
+    let done = performed_using (page_wanted (wanted_in s actor)) (came_in s actor deed.op) (pins_in s actor) pages s actor deed jobs used queue may in
+    inr (inr (
+      way_free s actor clear,
+      ready,
+      inl (record {
+        fetched = store_of s;
+        deed = deed;
+        brings = nothing_comes _ _;
+        row = subst (λ (o : Option Wanted). Row (standing s.at_work actor) o (machine_of s) deed) (sym (wanted_is s actor)) row;
+        performs = done.0;
+        came = done.1 ∙ came_is s actor deed.op;
+        pins = done.2 ∙ pins_are s actor;
+        tied = subst (λ (uses : List Use). IsTied (store_of s) uses) (sym done.1) (tied s (came_in s actor deed.op) came);
+      }),
+    ))
 
 -- the page of a row
 pub at_hand : (s : Scene) (activity : Activity) (wanted : Wanted) (page : LivePage) (asked : Option AskedBox) → live_in s wanted.page ≡ Some page → page.level ≡ wanted.level
@@ -296,23 +337,29 @@ at_hand s activity wanted page asked live level asks box = record {
 
 -- another actor is in the way
 hindered : (s : Scene) (actor by : ℕ) (held : Mode) (o : Option Wanted) (w : Wanted) → o ≡ Some w → by ≢ actor → mode_in by w.page s.latched ≡ Some held → goes_beside w.mode held ≡ false
-    → IsTrue (is_clear (is_earlier by actor) w.page w.mode s.latched) → IsSomeAnd o (λ wanted. IsLeastInTheWay (map.from_entries s.latched) actor wanted.page wanted.mode by)
+    → IsTrue (is_clear (is_earlier by actor) w.page w.mode s.latched) → IsSomeAnd o (λ wanted. IsLeastInTheWay (finite.from_entries s.latched) actor wanted.page wanted.mode by)
 hindered s actor by held o w is another has conflict clear =
-    subst (λ (x : Option Wanted). IsSomeAnd x (λ wanted. IsLeastInTheWay (map.from_entries s.latched) actor wanted.page wanted.mode by)) (sym is)
+    subst (λ (x : Option Wanted). IsSomeAnd x (λ wanted. IsLeastInTheWay (finite.from_entries s.latched) actor wanted.page wanted.mode by)) (sym is)
     (hinders actor w.page w.mode held by s.latched another has conflict clear)
 
 pub blocked : (s : Scene) (actor by : ℕ) (held : Mode) (w : Wanted) → wanted_in s actor ≡ Some w → by ≢ actor → mode_in by w.page s.latched ≡ Some held → goes_beside w.mode held ≡ false
     → IsTrue (is_clear (is_earlier by actor) w.page w.mode s.latched) → Works (machine_of s) actor (outcomes.Blocked by) (machine_of s)
 blocked s actor by held w is another has conflict clear = inl (by, hindered s actor by held (wanted_by (machine_of s) actor) w (wanted_is s actor ∙ is) another has conflict clear, (refl, refl))
 
--- why the log is ready: the step doesn't change the file, or there is room
-pub only_looks : (s : Scene) (actor : ℕ) → may_change_file (machine_of s) actor ≡ false → ¬ (IsUnready (machine_of s) actor)
-only_looks s actor looks (inl unready) = let on = unready.0 in let none : ⊥ = cc in none
-only_looks s actor looks (inr crowded) = crowded.0
+-- why log and memory are ready: the step doesn't change the file, or there is room; and there are places
+no_crowd : (s : Scene) (actor : ℕ) → IsTrue (nat_le 3 (places (uses_in s))) → ¬ (IsCrowded (machine_of s) actor)
+no_crowd s actor some crowded = let three = leb-true 3 (places (uses_in s)) some in let none = crowded.0 in none_left (places (uses_in s)) three none
+  where
+    none_left : (n : ℕ) → 3 ≤ n → n ≡ 0 → ⊥
+    none_left n three none = omega (arith, three, none)
 
-pub has_room : (s : Scene) (actor : ℕ) → IsReady (store_of s) → ¬ (IsUnready (machine_of s) actor)
-has_room s actor ready (inl unready) = unready.1 ready
-has_room s actor ready (inr crowded) = crowded.0
+pub only_looks : (s : Scene) (actor : ℕ) → may_change_file (machine_of s) actor ≡ false → IsTrue (nat_le 3 (places (uses_in s))) → ¬ (IsUnready (machine_of s) actor)
+only_looks s actor looks some (inl unready) = let on = unready.0 in let none : ⊥ = cc in none
+only_looks s actor looks some (inr crowded) = no_crowd s actor some crowded
+
+pub has_room : (s : Scene) (actor : ℕ) → IsReady (store_of s) → IsTrue (nat_le 3 (places (uses_in s))) → ¬ (IsUnready (machine_of s) actor)
+has_room s actor ready some (inl unready) = unready.1 (ready, leb-true 3 (places (uses_in s)) some)
+has_room s actor ready some (inr crowded) = no_crowd s actor some crowded
 
 -- a job joins the queue, which doesn't have it yet
 pub none_waits : (one : Job) → ¬ (Contains [] one)
@@ -320,110 +367,3 @@ none_waits one (k, less, is) = absurd (omega (arith, less))
 
 pub one_joins : (job : Job) (old : List Job) → ¬ (Contains old job) → length old < JOBS → AddsJobs (job ∷ []) old (old ++ job ∷ [])
 one_joins job old new few = (old ++ job ∷ [], inr (inl (new, few, refl)), refl)
-
--- ---- pages that come into memory first
-
-abbrev pub bringing : List (ℕ × Page) → Scene → Scene
-bringing more s = record s { pages = s.pages ++ more }
-
--- each of them is of the file, good, and one that the step may need
-pub record MayCome (s : Scene) (may : ℕ → Type 0) (one : ℕ × Page) : Type 0 where
-  pub needed : may one.0
-  pub from_1 : 1 ≤ one.0
-  pub to_high : one.0 ≤ s.meta.high
-  pub good : IsGoodPage s.meta one.1
-  pub told : page_of (last_of s.durable s.later) one.0 ≡ Some one.1
-
-module _ (s : Scene) (may : ℕ → Type 0) (more : List (ℕ × Page)) (each : AllByRecursion (MayCome s may) more) where
-  here : (id : ℕ) → in_memory (store_of (bringing more s)) id ≡ or_else (entry_at id s.pages) (entry_at id more)
-  here id = memory_is (bringing more s) id ∙ entry_append s.pages more id
-
-  lacks : (id : ℕ) → in_memory (store_of s) id ≡ None → in_memory (store_of (bringing more s)) id ≡ entry_at id more
-  lacks id none = here id ∙ ap (λ (o : Option Page). or_else o (entry_at id more)) (sym (memory_is s id) ∙ none)
-
-  came : (id : ℕ) (page : Page) → in_memory (store_of s) id ≡ None → in_memory (store_of (bringing more s)) id ≡ Some page → MayCome s may (id, page)
-  came id page none there = entry_has (MayCome s may) more each id page (sym (lacks id none) ∙ there)
-
-  only : (id : ℕ) (o : Option Page) → in_memory (store_of s) id ≡ None → in_memory (store_of (bringing more s)) id ≡ o → IsSome o → may id
-  only id None none is some = absurd (is_none_not some)
-  only id (Some page) none is some = (came id page none is).needed
-
-  stays_here : (id : ℕ) → IsSome (in_memory (store_of s) id) → in_memory (store_of (bringing more s)) id ≡ in_memory (store_of s) id
-  stays_here id there = here id ∙ or_stays (entry_at id s.pages) (entry_at id more) (subst (λ (o : Option Page). IsSome o) (memory_is s id) there) ∙ sym (memory_is s id)
-
-  pub come : Brings (machine_of s) may (store_of (bringing more s))
-  come = record {
-    rest = record { turn = refl; meta = refl; log = refl; in_log = refl; stopped = refl };
-    stays = λ id must there. stays_here id there;
-    others = λ id there. inl (stays_here id there);
-    only = λ id none there. only id (in_memory (store_of (bringing more s)) id) none refl there;
-    good = λ id page none there. let one = came id page none there in (one.from_1, one.to_high, one.good);
-    told = λ id page none there. (came id page none there).told;
-  }
-
--- what a step may need that does an operation or none: the page that it wants, and the free head where it takes a number
-abbrev pub MayNeedIn : Scene → ℕ → Option Op → ℕ → Type 0
-MayNeedIn s actor op id = IsWantedPage (wanted_in s actor) id ⊎ (IsTrue (takes_number op) × IsFreeHead (store_of s) id)
-
-each_needed : (s : Scene) (actor : ℕ) (op : Option Op) (more : List (ℕ × Page)) → AllByRecursion (MayCome s (MayNeedIn s actor op)) more
-    → AllByRecursion (MayCome s (λ id. IsWantedPage (wanted_by (machine_of s) actor) id ⊎ (IsTrue (takes_number op) × IsFreeHead (store_of s) id))) more
-each_needed s actor op more each =
-    subst (λ (o : Option Wanted). AllByRecursion (MayCome s (λ id. IsWantedPage o id ⊎ (IsTrue (takes_number op) × IsFreeHead (store_of s) id))) more) (sym (wanted_is s actor)) each
-
--- its row is done once they came
-pub works_bringing : (more : List (ℕ × Page)) (s : Scene) (actor : ℕ) (deed : Deed) (jobs : List Job) → AllByRecursion (MayCome s (MayNeedIn s actor deed.op)) more
-    → IsClearIn s actor → ¬ (IsUnready (machine_of s) actor)
-    → Row (standing s.at_work actor) (wanted_in s actor) (machine_of (bringing more s)) deed → ChangesQueue deed s.jobs jobs → MayBeIn (bringing more s) deed.op
-    → Works (machine_of s) actor (outcome_of deed.says) (machine_of (after actor deed jobs (bringing more s)))
-works_bringing more s actor deed jobs each clear ready row queue may =
-    let done = performed (bringing more s) actor deed jobs queue may in
-    inr (inr (
-      way_free s actor clear,
-      ready,
-      inl (record {
-        fetched = store_of (bringing more s);
-        deed = deed;
-        brings = come s _ more (each_needed s actor deed.op more each);
-        row = subst (λ (o : Option Wanted). Row (standing s.at_work actor) o (machine_of (bringing more s)) deed) (sym (wanted_is s actor)) row;
-        performs = record {
-          says = done.says;
-          lines = done.lines;
-          answered = done.answered;
-          activity = done.activity;
-          latches = done.latches;
-          jobs = done.jobs;
-          order = done.order;
-          stop = done.stop;
-          store = done.store;
-          files = done.files;
-          clock = done.clock;
-        };
-      }),
-    ))
-
--- ---- a force
-
-abbrev pub forced_scene : Scene → Scene
-forced_scene s = record s {
-  written = s.written + length (frames (forced s.groups));
-  groups = left_waiting s.groups;
-  durable = durable_after s.durable s.later;
-  later = later_after s.later;
-  clock = s.clock + calls_of_force s.groups;
-}
-
-pub forces : (s : Scene) (done : Outcome) → ForcesFirst (machine_of s) done done (machine_of (forced_scene s))
-forces s done = inl (refl, refl)
-
--- ---- a log that isn't ready
-
--- a group that waits is forced instead
-pub helps : (s : Scene) (actor : ℕ) → IsClearIn s actor → IsUnready (machine_of s) actor → s.groups ≢ [] → Works (machine_of s) actor outcomes.Helped (machine_of (forced_scene s))
-helps s actor clear unready waits = inr (inl (way_free s actor clear, unready, inl (waits, forces s outcomes.Helped)))
-
--- none waits, so that nothing makes room
-pub gives_out : (s : Scene) (actor : ℕ) (jobs : List Job) → IsClearIn s actor → IsUnready (machine_of s) actor → s.groups ≡ []
-    → ChangesQueue (runs_out (standing s.at_work actor)) s.jobs jobs → MayBeIn s (runs_out (standing s.at_work actor)).op
-    → Works (machine_of s) actor (outcome_of (runs_out (standing s.at_work actor)).says) (machine_of (after actor (runs_out (standing s.at_work actor)) jobs s))
-gives_out s actor jobs clear unready none queue may =
-    inr (inl (way_free s actor clear, unready, inr (none, inr (inr (λ more. more, performed s actor (runs_out (standing s.at_work actor)) jobs queue may)))))

@@ -1,5 +1,5 @@
 -- The poster and two sessions: each step of the chain.
-use Rattle.std.proofs.Common.{◌≡◌, inl, inr, List, [], ◌∷◌, slice_index, Contains, Option, Some, None, refl, ap, arith, true, false}
+use Rattle.std.proofs.Common.{◌≡◌, inl, inr, List, [], ◌∷◌, slice_index, Contains, Option, Some, None, refl, ap, arith, true, false, ℕ}
 use Rattle.hb_frag.specs.declared.pages.LivePage.{LivePage}
 use Rattle.hb_ops.specs.declared.operations.Op.TheVariants as ops
 use Rattle.hb_latch.specs.declared.modes.Mode.TheVariants.{Exclusive, Shared}
@@ -8,7 +8,9 @@ use Rattle.hb_activity.specs.declared.jobs.Job.{Job}
 use Rattle.hb_activity.specs.declared.activities.Activity.TheVariants as at
 use Rattle.hb_core.specs.declared.outcomes.Outcome.TheVariants.{Moved}
 use Rattle.hb_activity.specs.Deeds.{Deed, answers_now, moves_to, takes_effect}
-use Rattle.hb_core.proofs.Chains.BuiltSteps.{after, at_hand, blocked, forced_scene, forces, has_room, live_is, none_waits, one_joins, only_looks, performed, wanted_in, works, queued, points_apart, takes_line}
+use Rattle.hb_core.proofs.Chains.BuiltSteps.{after_as_it_is, after, at_hand, blocked, has_room, live_is, none_waits, one_joins, only_looks, performed, wanted_in, works, queued}
+use Rattle.hb_core.proofs.Chains.TakenLines.{points_apart, takes_line}
+use Rattle.hb_core.proofs.Chains.FlushedSteps.{forced_scene, forces}
 use Rattle.hb_core.proofs.Chains.ChainOfPosting.{again_row, arrive_row, arrives, it_leaves, job, look_row, looks, post_fits, posts, promote_row, promotes, takes}
 use Rattle.hb_core.specs.Asking.{box_at}
 use Rattle.hb_core.specs.ChainBesidePoster.{SessionsBesidePoster, beside_before, deletes_thirty, lower_two, seeks_twenty}
@@ -27,62 +29,81 @@ use Rattle.hb_sound.proofs.ExampleParts.{in_order}
 use Rattle.hb_space.proofs.Facts.Intervals.{held, interval, top, within}
 use Rattle.std.proofs.lemmas.List.Elements.{All-from_recursion}
 use Rattle.hb_lemmas.proofs.Lists.{only_one}
+use Rattle.hb_frag.specs.declared.pages.Page.{Page}
+use Rattle.hb_frag.specs.declared.pages.Page.TheVariants.{Live}
+
+-- ---- the pages
+
+abbrev page_1 : ℕ × Page
+page_1 = (1, Live split_page)
+
+abbrev page_2 : ℕ × Page
+page_2 = (2, Live lower_half)
+
+abbrev page_3 : ℕ × Page
+page_3 = (3, Live bare_root)
+
+abbrev root_posted : ℕ × Page
+root_posted = (3, Live posted_root)
+
+abbrev page_2_later : ℕ × Page
+page_2_later = (2, Live lower_two)
 
 -- ---- the scenes, one after the other
 
 abbrev job_taken : Scene
-job_taken = after 17 (takes (at.PosterWalk job None)) [] beside_before
+job_taken = after_as_it_is 17 (takes (at.PosterWalk job None)) [] beside_before
 
 abbrev at_root : Scene
-at_root = after 17 arrives [] job_taken
+at_root = after (page_1 ∷ page_2 ∷ page_3 ∷ []) 17 arrives [] job_taken
 
 abbrev line_taken : Scene
-line_taken = after 1 (taking seeks_twenty) [] at_root
+line_taken = after_as_it_is 1 (taking seeks_twenty) [] at_root
 
 abbrev to_promote : Scene
-to_promote = after 17 looks [] line_taken
+to_promote = after (page_2 ∷ page_1 ∷ page_3 ∷ []) 17 looks [] line_taken
 
 abbrev shares : Deed
 shares = moves_to (at.SessionWalk seeks_twenty (Some 3) [] []) []
 
 abbrev both_at_root : Scene
-both_at_root = after 1 shares [] to_promote
+both_at_root = after (page_2 ∷ page_1 ∷ page_3 ∷ []) 1 shares [] to_promote
 
 abbrev steps_down : Deed
 steps_down = moves_to (at.SessionWalk seeks_twenty (Some 1) [] []) (posts_at 20 ∷ [])
 
 abbrev is_below : Scene
-is_below = after 1 steps_down (posts_at 20 ∷ []) both_at_root
+is_below = after (page_2 ∷ page_3 ∷ page_1 ∷ []) 1 steps_down (posts_at 20 ∷ []) both_at_root
 
 abbrev is_promoted : Scene
-is_promoted = after 17 promotes (posts_at 20 ∷ []) is_below
+is_promoted = after (page_2 ∷ page_1 ∷ page_3 ∷ []) 17 promotes (posts_at 20 ∷ []) is_below
 
 abbrev other_taken : Scene
-other_taken = after 2 (taking deletes_thirty) (posts_at 20 ∷ []) is_promoted
+other_taken = after_as_it_is 2 (taking deletes_thirty) (posts_at 20 ∷ []) is_promoted
 
 abbrev two_jobs : List Job
 two_jobs = posts_at 20 ∷ posts_at 10 ∷ []
 
 abbrev is_posted : Scene
-is_posted = after 17 posts two_jobs other_taken
+is_posted = after (page_2 ∷ page_1 ∷ root_posted ∷ []) 17 posts two_jobs other_taken
 
 abbrev passes_root : Deed
 passes_root = moves_to (at.SessionWalk deletes_thirty (Some 3) [] []) []
 
 abbrev root_passed : Scene
-root_passed = after 2 passes_root two_jobs is_posted
+root_passed = after (page_2 ∷ page_1 ∷ root_posted ∷ []) 2 passes_root two_jobs is_posted
 
 abbrev deletes : Deed
 deletes = takes_effect 0 deletes_thirty replies.Done (Some (ops.Del 2 (30 ∷ []))) []
 
 abbrev is_deleted : Scene
-is_deleted = after 2 deletes two_jobs root_passed
+is_deleted = after (page_1 ∷ root_posted ∷ page_2_later ∷ []) 2 deletes two_jobs root_passed
 
 abbrev finds : Deed
 finds = takes_effect 1 seeks_twenty (replies.Found (98 ∷ [])) None []
 
 abbrev is_found : Scene
-is_found = after 1 finds two_jobs is_deleted
+is_found = after (page_1 ∷ root_posted ∷ page_2_later ∷ []) 1 finds two_jobs is_deleted
 
 abbrev once_forced : Scene
 once_forced = forced_scene is_found
@@ -91,10 +112,10 @@ abbrev twice_forced : Scene
 twice_forced = forced_scene once_forced
 
 abbrev one_answered : Scene
-one_answered = after 2 (answers_now 2 replies.Done) two_jobs twice_forced
+one_answered = after_as_it_is 2 (answers_now 2 replies.Done) two_jobs twice_forced
 
 abbrev both_answered : Scene
-both_answered = after 1 (answers_now 1 (replies.Found (98 ∷ []))) two_jobs one_answered
+both_answered = after_as_it_is 1 (answers_now 1 (replies.Found (98 ∷ []))) two_jobs one_answered
 
 -- ---- what the delete asks for
 
@@ -158,46 +179,46 @@ pub sessions_beside_poster : SessionsBesidePoster
 unfolding big_endian
 sessions_beside_poster = (
   machine_of job_taken,
-  inr (takes (at.PosterWalk job None), takes_to_walk, performed beside_before 17 (takes (at.PosterWalk job None)) [] (it_leaves _) tt),
+  inr (takes (at.PosterWalk job None), takes_to_walk, performed beside_before 17 (takes (at.PosterWalk job None)) [] (it_leaves _) tt (refl, refl, refl)),
   (
     machine_of at_root,
-    works job_taken 17 arrives [] refl (only_looks job_taken 17 refl) (arrive_row job_taken refl refl) (queued refl refl) tt,
+    works job_taken at_root.pages 17 arrives [] refl (only_looks job_taken 17 refl refl) (arrive_row job_taken refl refl) (queued refl refl) tt (refl, refl, refl) refl,
     (
       machine_of line_taken,
-      takes_line at_root 1 seeks_twenty [] (queued refl refl) (inr (λ none. none), tt),
+      takes_line at_root 1 seeks_twenty [] (queued refl refl) (inr (λ none. none), tt) (refl, refl, refl),
       (
         machine_of to_promote,
-        works line_taken 17 looks [] refl (only_looks line_taken 17 refl) (look_row line_taken refl refl refl) (queued refl refl) tt,
+        works line_taken to_promote.pages 17 looks [] refl (only_looks line_taken 17 refl refl) (look_row line_taken refl refl refl) (queued refl refl) tt (refl, refl, refl) refl,
         (
           machine_of both_at_root,
-          works to_promote 1 shares [] refl (only_looks to_promote 1 refl) share_row (queued refl refl) tt,
+          works to_promote both_at_root.pages 1 shares [] refl (only_looks to_promote 1 refl refl) share_row (queued refl refl) tt (refl, refl, refl) refl,
           (
             machine_of both_at_root,
             blocked both_at_root 17 1 Shared _ refl (omega arith) refl refl refl,
             (
               machine_of is_below,
-              works both_at_root 1 steps_down (posts_at 20 ∷ []) refl (only_looks both_at_root 1 refl) down_row (queued refl (one_joins (posts_at 20) [] (none_waits (posts_at 20)) (omega arith))) tt,
+              works both_at_root is_below.pages 1 steps_down (posts_at 20 ∷ []) refl (only_looks both_at_root 1 refl refl) down_row (queued refl (one_joins (posts_at 20) [] (none_waits (posts_at 20)) (omega arith))) tt (refl, refl, refl) refl,
               (
                 machine_of is_promoted,
-                works is_below 17 promotes (posts_at 20 ∷ []) refl (only_looks is_below 17 refl) (promote_row is_below refl refl) (queued refl refl) tt,
+                works is_below is_promoted.pages 17 promotes (posts_at 20 ∷ []) refl (only_looks is_below 17 refl refl) (promote_row is_below refl refl) (queued refl refl) tt (refl, refl, refl) refl,
                 (
                   machine_of other_taken,
-                  takes_line is_promoted 2 deletes_thirty (posts_at 20 ∷ []) (queued refl refl) (inr (λ none. none), (inr (points_apart 30 20 false true (λ same. omega (arith, same))), tt)),
+                  takes_line is_promoted 2 deletes_thirty (posts_at 20 ∷ []) (queued refl refl) (inr (λ none. none), (inr (points_apart 30 20 false true (λ same. omega (arith, same))), tt)) (refl, refl, refl),
                   (
                     machine_of other_taken,
                     blocked other_taken 2 17 Exclusive _ refl (omega arith) refl refl refl,
                     (
                       machine_of is_posted,
-                      works other_taken 17 posts two_jobs refl (has_room other_taken 17 (omega arith, omega arith)) (again_row other_taken refl refl refl) (queued refl (one_joins (posts_at 10) (posts_at 20 ∷ []) other_waits (omega arith))) (record { allowed = post_fits; log = refl }),
+                      works other_taken is_posted.pages 17 posts two_jobs refl (has_room other_taken 17 (omega arith, omega arith) refl) (again_row other_taken refl refl refl) (queued refl (one_joins (posts_at 10) (posts_at 20 ∷ []) other_waits (omega arith))) (record { allowed = post_fits; log = refl }) (refl, refl, refl) refl,
                       (
                         machine_of root_passed,
-                        works is_posted 2 passes_root two_jobs refl (has_room is_posted 2 (omega arith, omega arith)) root_row (queued refl refl) tt,
+                        works is_posted root_passed.pages 2 passes_root two_jobs refl (has_room is_posted 2 (omega arith, omega arith) refl) root_row (queued refl refl) tt (refl, refl, refl) refl,
                         (
                           machine_of is_deleted,
-                          works root_passed 2 deletes two_jobs refl (has_room root_passed 2 (omega arith, omega arith)) delete_row (queued refl refl) (record { allowed = del_fits; log = refl }),
+                          works root_passed is_deleted.pages 2 deletes two_jobs refl (has_room root_passed 2 (omega arith, omega arith) refl) delete_row (queued refl refl) (record { allowed = del_fits; log = refl }) (refl, refl, refl) refl,
                           (
                             machine_of is_found,
-                            works is_deleted 1 finds two_jobs refl (only_looks is_deleted 1 refl) find_row (queued refl refl) tt,
+                            works is_deleted is_found.pages 1 finds two_jobs refl (only_looks is_deleted 1 refl refl) find_row (queued refl refl) tt (refl, refl, refl) refl,
                             (
                               machine_of once_forced,
                               inr (omega arith, forces is_found Moved),
@@ -206,10 +227,10 @@ sessions_beside_poster = (
                                 inr (omega arith, forces once_forced Moved),
                                 (
                                   machine_of one_answered,
-                                  inl (omega arith, performed twice_forced 2 (answers_now 2 replies.Done) two_jobs (queued refl refl) tt),
+                                  inl (omega arith, performed twice_forced 2 (answers_now 2 replies.Done) two_jobs (queued refl refl) tt (refl, refl, refl)),
                                   (
                                     machine_of both_answered,
-                                    inl (omega arith, performed one_answered 1 (answers_now 1 (replies.Found (98 ∷ []))) two_jobs (queued refl refl) tt),
+                                    inl (omega arith, performed one_answered 1 (answers_now 1 (replies.Found (98 ∷ []))) two_jobs (queued refl refl) tt (refl, refl, refl)),
                                     refl,
                                   ),
                                 ),

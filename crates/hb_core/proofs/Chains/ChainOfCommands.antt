@@ -1,12 +1,13 @@
 -- Commands that change nothing: each step of the chain.
-use Rattle.std.proofs.Common.{◌≢◌, inl, inr, List, [], ◌∷◌, Option, Some, None, AllPairs, refl, ap, arith}
+use Rattle.std.proofs.Common.{◌≢◌, inl, inr, List, [], ◌∷◌, Option, Some, None, AllPairs, refl, ap, arith, ℕ}
 use Rattle.std.proofs.lemmas.List.Sorted.{IsPermutation-refl}
 use Rattle.hb_space.specs.declared.records.Record.{Record}
 use Rattle.hb_frag.specs.declared.pages.LivePage.{LivePage}
 use Rattle.hb_set.specs.declared.commands.Reply.TheVariants as replies
 use Rattle.hb_activity.specs.declared.activities.Activity.TheVariants.{SessionWalk}
 use Rattle.hb_activity.specs.Deeds.{Deed, answers_now, moves_to, takes_effect}
-use Rattle.hb_core.proofs.Chains.BuiltSteps.{after, at_hand, has_room, live_is, none_waits, one_joins, only_looks, performed, queued, takes_line, wanted_in, works}
+use Rattle.hb_core.proofs.Chains.BuiltSteps.{after_as_it_is, after, at_hand, has_room, live_is, none_waits, one_joins, only_looks, performed, queued, wanted_in, works}
+use Rattle.hb_core.proofs.Chains.TakenLines.{takes_line}
 use Rattle.hb_core.proofs.Chains.ChainOfTwoParts.{differ}
 use Rattle.hb_core.specs.Asking.{box_at}
 use Rattle.hb_core.specs.ChainOfCommands.{CommandsOfOne, asked_area, commands_before, deletes_none, inserts_fifty, searches, three_found}
@@ -20,41 +21,51 @@ use Rattle.hb_point.specs.SessionRows.{taking}
 use Rattle.hb_frag.proofs.Facts.RisingRecords.{rising}
 use Rattle.hb_space.specs.Boxes.{Area}
 use Rattle.std.proofs.lemmas.List.Elements.{All-from_recursion}
+use Rattle.hb_frag.specs.declared.pages.Page.{Page}
+use Rattle.hb_frag.specs.declared.pages.Page.TheVariants.{Live}
+
+-- ---- the pages
+
+abbrev page_1 : ℕ × Page
+page_1 = (1, Live split_page)
+
+abbrev page_2 : ℕ × Page
+page_2 = (2, Live lower_half)
 
 -- ---- the scenes, one after the other
 
 abbrev first_taken : Scene
-first_taken = after 1 (taking inserts_fifty) [] commands_before
+first_taken = after_as_it_is 1 (taking inserts_fifty) [] commands_before
 
 abbrev finds_twin : Deed
 finds_twin = takes_effect 0 inserts_fifty replies.Duplicate None []
 
 abbrev first_done : Scene
-first_done = after 1 finds_twin [] first_taken
+first_done = after (page_2 ∷ page_1 ∷ []) 1 finds_twin [] first_taken
 
 abbrev first_answered : Scene
-first_answered = after 1 (answers_now 1 replies.Duplicate) [] first_done
+first_answered = after_as_it_is 1 (answers_now 1 replies.Duplicate) [] first_done
 
 abbrev second_taken : Scene
-second_taken = after 1 (taking deletes_none) [] first_answered
+second_taken = after_as_it_is 1 (taking deletes_none) [] first_answered
 
 abbrev finds_nothing : Deed
 finds_nothing = takes_effect 1 deletes_none replies.Absent None []
 
 abbrev second_done : Scene
-second_done = after 1 finds_nothing [] second_taken
+second_done = after (page_2 ∷ page_1 ∷ []) 1 finds_nothing [] second_taken
 
 abbrev second_answered : Scene
-second_answered = after 1 (answers_now 2 replies.Absent) [] second_done
+second_answered = after_as_it_is 1 (answers_now 2 replies.Absent) [] second_done
 
 abbrev third_taken : Scene
-third_taken = after 1 (taking searches) [] second_answered
+third_taken = after_as_it_is 1 (taking searches) [] second_answered
 
 abbrev passes : Deed
 passes = moves_to (SessionWalk searches (Some 1) (asked_area ∷ []) []) (posts_at 25 ∷ [])
 
 abbrev is_passed : Scene
-is_passed = after 1 passes (posts_at 25 ∷ []) third_taken
+is_passed = after (page_2 ∷ page_1 ∷ []) 1 passes (posts_at 25 ∷ []) third_taken
 
 -- what lies behind page 2's box
 abbrev rest_area : Area
@@ -64,16 +75,16 @@ abbrev gathers : Deed
 gathers = moves_to (SessionWalk searches None (rest_area ∷ []) (lettered 30 99 ∷ [])) []
 
 abbrev half_gathered : Scene
-half_gathered = after 1 gathers (posts_at 25 ∷ []) is_passed
+half_gathered = after (page_1 ∷ page_2 ∷ []) 1 gathers (posts_at 25 ∷ []) is_passed
 
 abbrev gathers_all : Deed
 gathers_all = takes_effect 2 searches (replies.Within three_found) None []
 
 abbrev all_gathered : Scene
-all_gathered = after 1 gathers_all (posts_at 25 ∷ []) half_gathered
+all_gathered = after (page_2 ∷ page_1 ∷ []) 1 gathers_all (posts_at 25 ∷ []) half_gathered
 
 abbrev all_answered : Scene
-all_answered = after 1 (answers_now 3 (replies.Within three_found)) (posts_at 25 ∷ []) all_gathered
+all_answered = after_as_it_is 1 (answers_now 3 (replies.Within three_found)) (posts_at 25 ∷ []) all_gathered
 
 -- ---- the rows
 
@@ -123,37 +134,37 @@ gather_all_row = (
 pub commands_of_one : CommandsOfOne
 commands_of_one = (
   machine_of first_taken,
-  takes_line commands_before 1 inserts_fifty [] (queued refl refl) tt,
+  takes_line commands_before 1 inserts_fifty [] (queued refl refl) tt (refl, refl, refl),
   (
     machine_of first_done,
-    works first_taken 1 finds_twin [] refl (has_room first_taken 1 (omega arith, omega arith)) twin_row (queued refl refl) tt,
+    works first_taken first_done.pages 1 finds_twin [] refl (has_room first_taken 1 (omega arith, omega arith) refl) twin_row (queued refl refl) tt (refl, refl, refl) refl,
     (
       machine_of first_answered,
-      inl (omega arith, performed first_done 1 (answers_now 1 replies.Duplicate) [] (queued refl refl) tt),
+      inl (omega arith, performed first_done 1 (answers_now 1 replies.Duplicate) [] (queued refl refl) tt (refl, refl, refl)),
       (
         machine_of second_taken,
-        takes_line first_answered 1 deletes_none [] (queued refl refl) (inl refl, tt),
+        takes_line first_answered 1 deletes_none [] (queued refl refl) (inl refl, tt) (refl, refl, refl),
         (
           machine_of second_done,
-          works second_taken 1 finds_nothing [] refl (has_room second_taken 1 (omega arith, omega arith)) nothing_row (queued refl refl) tt,
+          works second_taken second_done.pages 1 finds_nothing [] refl (has_room second_taken 1 (omega arith, omega arith) refl) nothing_row (queued refl refl) tt (refl, refl, refl) refl,
           (
             machine_of second_answered,
-            inl (omega arith, performed second_done 1 (answers_now 2 replies.Absent) [] (queued refl refl) tt),
+            inl (omega arith, performed second_done 1 (answers_now 2 replies.Absent) [] (queued refl refl) tt (refl, refl, refl)),
             (
               machine_of third_taken,
-              takes_line second_answered 1 searches [] (queued refl refl) (inl refl, tt),
+              takes_line second_answered 1 searches [] (queued refl refl) (inl refl, tt) (refl, refl, refl),
               (
                 machine_of is_passed,
-                works third_taken 1 passes (posts_at 25 ∷ []) refl (only_looks third_taken 1 refl) pass_row (queued refl (one_joins (posts_at 25) [] (none_waits (posts_at 25)) (omega arith))) tt,
+                works third_taken is_passed.pages 1 passes (posts_at 25 ∷ []) refl (only_looks third_taken 1 refl refl) pass_row (queued refl (one_joins (posts_at 25) [] (none_waits (posts_at 25)) (omega arith))) tt (refl, refl, refl) refl,
                 (
                   machine_of half_gathered,
-                  works is_passed 1 gathers (posts_at 25 ∷ []) refl (only_looks is_passed 1 refl) gather_row (queued refl refl) tt,
+                  works is_passed half_gathered.pages 1 gathers (posts_at 25 ∷ []) refl (only_looks is_passed 1 refl refl) gather_row (queued refl refl) tt (refl, refl, refl) refl,
                   (
                     machine_of all_gathered,
-                    works half_gathered 1 gathers_all (posts_at 25 ∷ []) refl (only_looks half_gathered 1 refl) gather_all_row (queued refl refl) tt,
+                    works half_gathered all_gathered.pages 1 gathers_all (posts_at 25 ∷ []) refl (only_looks half_gathered 1 refl refl) gather_all_row (queued refl refl) tt (refl, refl, refl) refl,
                     (
                       machine_of all_answered,
-                      inl (omega arith, performed all_gathered 1 (answers_now 3 (replies.Within three_found)) (posts_at 25 ∷ []) (queued refl refl) tt),
+                      inl (omega arith, performed all_gathered 1 (answers_now 3 (replies.Within three_found)) (posts_at 25 ∷ []) (queued refl refl) tt (refl, refl, refl)),
                       (
                         machine_of all_answered,
                         (refl, refl),

@@ -1,15 +1,18 @@
 -- A split that takes the number of a free page, and one for which none is left: each step of the chains.
 use Rattle.hb_point.specs.Examples.{at_forty}
-use Rattle.std.proofs.Common.{inl, inr, ℕ, List, [], ◌∷◌, refl, ap, arith}
+use Rattle.std.proofs.Common.{inl, inr, ℕ, List, [], ◌∷◌, refl, ap, arith, ◌++◌}
 use Rattle.hb_frag.specs.declared.pages.Page.{Page}
-use Rattle.hb_frag.specs.declared.pages.Page.TheVariants.{Free}
+use Rattle.hb_frag.specs.declared.pages.Page.TheVariants.{Free, Live}
 use Rattle.hb_set.specs.declared.commands.Reply.TheVariants as replies
 use Rattle.hb_core.specs.declared.outcomes.Outcome.TheVariants.{Moved}
 use Rattle.hb_activity.specs.Deeds.{Deed, answers_now}
-use Rattle.hb_core.proofs.Chains.BuiltSteps.{MayCome, MayNeedIn, after, bringing, forced_scene, forces, has_room, memory_is, none_waits, one_joins, performed, wanted_in, works, works_bringing, queued, takes_line}
+use Rattle.hb_core.proofs.Chains.BroughtSteps.{MayCome, MayNeedIn, bringing, works_bringing}
+use Rattle.hb_core.proofs.Chains.BuiltSteps.{after_as_it_is, after, has_room, memory_is, none_waits, one_joins, performed, wanted_in, works, queued}
+use Rattle.hb_core.proofs.Chains.TakenLines.{takes_line}
+use Rattle.hb_core.proofs.Chains.FlushedSteps.{forced_scene, forces}
 use Rattle.hb_core.proofs.Chains.ChainOfTwoParts.{full_fits, put_fits, six}
 use Rattle.hb_core.specs.ChainOfFreePage.{FreePageIsTaken, NoPageIsFree, free_before, none_free_before, tight_meta}
-use Rattle.hb_core.specs.ChainOfTwo.{full_page, inserts_seventy, lettered, posts_at, upper_half, upper_three}
+use Rattle.hb_core.specs.ChainOfTwo.{full_page, inserts_seventy, lettered, posts_at, upper_half, upper_three, lower_half}
 use Rattle.hb_core.specs.Machines.{next_of_chain}
 use Rattle.hb_core.specs.Rows.{Row}
 use Rattle.hb_core.specs.Scenes.{Scene, machine_of, standing}
@@ -21,13 +24,27 @@ use Rattle.hb_point.specs.SessionRows.{taking}
 use Rattle.hb_space.proofs.Facts.Intervals.{cuts, top}
 use Rattle.hb_core.proofs.Chains.SplitRows.{finds_no_room, no_room_row, put_row, puts, split_row, splits}
 
+-- ---- the pages
+
+abbrev whole_1 : ℕ × Page
+whole_1 = (1, Live full_page)
+
+abbrev upper_1 : ℕ × Page
+upper_1 = (1, Live (upper_half upper_three))
+
+abbrev lower_2 : ℕ × Page
+lower_2 = (2, Live lower_half)
+
+abbrev put_1 : ℕ × Page
+put_1 = (1, Live (upper_half (upper_three ++ lettered 70 103 ∷ [])))
+
 -- ---- the scenes, one after the other
 
 abbrev is_taken : Scene
-is_taken = after 1 (taking inserts_seventy) [] free_before
+is_taken = after_as_it_is 1 (taking inserts_seventy) [] free_before
 
 abbrev to_split : Scene
-to_split = after 1 finds_no_room [] is_taken
+to_split = after (whole_1 ∷ []) 1 finds_no_room [] is_taken
 
 -- the free page comes from the disk
 abbrev page_2 : List (ℕ × Page)
@@ -37,10 +54,10 @@ abbrev with_free : Scene
 with_free = bringing page_2 to_split
 
 abbrev is_split : Scene
-is_split = after 1 splits (posts_at 0 ∷ []) with_free
+is_split = after (upper_1 ∷ lower_2 ∷ []) 1 splits (posts_at 0 ∷ []) (bringing page_2 to_split)
 
 abbrev is_put : Scene
-is_put = after 1 puts (posts_at 0 ∷ []) is_split
+is_put = after (lower_2 ∷ put_1 ∷ []) 1 puts (posts_at 0 ∷ []) is_split
 
 abbrev once_forced : Scene
 once_forced = forced_scene is_put
@@ -49,7 +66,7 @@ abbrev twice_forced : Scene
 twice_forced = forced_scene once_forced
 
 abbrev is_answered : Scene
-is_answered = after 1 (answers_now 1 replies.Done) (posts_at 0 ∷ []) twice_forced
+is_answered = after_as_it_is 1 (answers_now 1 replies.Done) (posts_at 0 ∷ []) twice_forced
 
 -- ---- the rows
 
@@ -82,17 +99,17 @@ pub free_page_is_taken : FreePageIsTaken
 unfolding big_endian
 free_page_is_taken = (
   machine_of is_taken,
-  takes_line free_before 1 inserts_seventy [] (queued refl refl) tt,
+  takes_line free_before 1 inserts_seventy [] (queued refl refl) tt (refl, refl, refl),
   (
     machine_of to_split,
-    works is_taken 1 finds_no_room [] refl (has_room is_taken 1 (omega arith, omega arith)) (no_room_row is_taken refl refl refl) (queued refl refl) tt,
+    works is_taken to_split.pages 1 finds_no_room [] refl (has_room is_taken 1 (omega arith, omega arith) refl) (no_room_row is_taken refl refl refl) (queued refl refl) tt (refl, refl, refl) refl,
     (
       machine_of is_split,
-      works_bringing page_2 to_split 1 splits (posts_at 0 ∷ []) (free_comes, tt) tt (has_room to_split 1 (omega arith, omega arith)) (split_row with_free refl (omega arith) (ap (next_of_chain 2) (memory_is with_free 2)))
-          (queued refl (one_joins (posts_at 0) [] (none_waits (posts_at 0)) (omega arith))) (record { allowed = split_fits; log = refl }),
+      works_bringing page_2 to_split is_split.pages 1 splits (posts_at 0 ∷ []) (free_comes, tt) tt (has_room to_split 1 (omega arith, omega arith) refl) (split_row with_free refl (omega arith) (ap (next_of_chain 2) (memory_is with_free 2)))
+          (queued refl (one_joins (posts_at 0) [] (none_waits (posts_at 0)) (omega arith))) (record { allowed = split_fits; log = refl }) (refl, refl, refl) refl,
       (
         machine_of is_put,
-        works is_split 1 puts (posts_at 0 ∷ []) tt (has_room is_split 1 (omega arith, omega arith)) (put_row is_split refl refl) (queued refl refl) (record { allowed = put_fits_here; log = refl }),
+        works is_split is_put.pages 1 puts (posts_at 0 ∷ []) tt (has_room is_split 1 (omega arith, omega arith) refl) (put_row is_split refl refl) (queued refl refl) (record { allowed = put_fits_here; log = refl }) (refl, refl, refl) refl,
         (
           machine_of once_forced,
           inr (omega arith, forces is_put Moved),
@@ -101,7 +118,7 @@ free_page_is_taken = (
             inr (omega arith, forces once_forced Moved),
             (
               machine_of is_answered,
-              inl (omega arith, performed twice_forced 1 (answers_now 1 replies.Done) (posts_at 0 ∷ []) (queued refl refl) tt),
+              inl (omega arith, performed twice_forced 1 (answers_now 1 replies.Done) (posts_at 0 ∷ []) (queued refl refl) tt (refl, refl, refl)),
               refl,
             ),
           ),
@@ -114,16 +131,16 @@ free_page_is_taken = (
 -- ---- none is left
 
 abbrev none_taken : Scene
-none_taken = after 1 (taking inserts_seventy) [] none_free_before
+none_taken = after_as_it_is 1 (taking inserts_seventy) [] none_free_before
 
 abbrev none_to_split : Scene
-none_to_split = after 1 finds_no_room [] none_taken
+none_to_split = after (whole_1 ∷ []) 1 finds_no_room [] none_taken
 
 abbrev gives_up : Deed
 gives_up = answers_now 1 replies.Full
 
 abbrev none_answered : Scene
-none_answered = after 1 gives_up [] none_to_split
+none_answered = after (whole_1 ∷ []) 1 gives_up [] none_to_split
 
 none_row : Row (standing none_to_split.at_work 1) (wanted_in none_to_split 1) (machine_of none_to_split) gives_up
 none_row = inl (record { none_free = refl; deed_is = refl })
@@ -131,13 +148,13 @@ none_row = inl (record { none_free = refl; deed_is = refl })
 pub no_page_is_free : NoPageIsFree
 no_page_is_free = (
   machine_of none_taken,
-  takes_line none_free_before 1 inserts_seventy [] (queued refl refl) tt,
+  takes_line none_free_before 1 inserts_seventy [] (queued refl refl) tt (refl, refl, refl),
   (
     machine_of none_to_split,
-    works none_taken 1 finds_no_room [] refl (has_room none_taken 1 (omega arith, omega arith)) (no_room_row none_taken refl refl refl) (queued refl refl) tt,
+    works none_taken none_to_split.pages 1 finds_no_room [] refl (has_room none_taken 1 (omega arith, omega arith) refl) (no_room_row none_taken refl refl refl) (queued refl refl) tt (refl, refl, refl) refl,
     (
       machine_of none_answered,
-      works none_to_split 1 gives_up [] tt (has_room none_to_split 1 (omega arith, omega arith)) none_row (queued refl refl) tt,
+      works none_to_split none_answered.pages 1 gives_up [] tt (has_room none_to_split 1 (omega arith, omega arith) refl) none_row (queued refl refl) tt (refl, refl, refl) refl,
       refl,
     ),
   ),

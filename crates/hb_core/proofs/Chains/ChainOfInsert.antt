@@ -7,7 +7,10 @@ use Rattle.hb_ops.specs.declared.operations.Op.TheVariants.{Put}
 use Rattle.hb_set.specs.declared.commands.Reply.TheVariants as replies
 use Rattle.hb_core.specs.declared.outcomes.Outcome.TheVariants.{Moved}
 use Rattle.hb_activity.specs.Deeds.{Deed, answers_now, takes_effect}
-use Rattle.hb_core.proofs.Chains.BuiltSteps.{MayCome, MayNeedIn, after, at_hand, bringing, forced_scene, forces, has_room, performed, queued, takes_line, wanted_in, works_bringing}
+use Rattle.hb_core.proofs.Chains.BroughtSteps.{MayCome, MayNeedIn, at_hand_met, bringing, met, works_bringing}
+use Rattle.hb_core.proofs.Chains.BuiltSteps.{after_as_it_is, after, has_room, performed, queued, wanted_in}
+use Rattle.hb_core.proofs.Chains.TakenLines.{takes_line}
+use Rattle.hb_core.proofs.Chains.FlushedSteps.{forced_scene, forces}
 use Rattle.hb_core.specs.OneInsert.{OneInsert, before_insert, flat_meta, inserts_a, letter_a, page_of_records}
 use Rattle.hb_core.specs.Rows.{Row}
 use Rattle.hb_core.specs.Scenes.{Scene, machine_of, standing}
@@ -34,14 +37,11 @@ empty_fits = record {
 }
 
 abbrev taken : Scene
-taken = after 1 (taking inserts_a) [] before_insert
+taken = after_as_it_is 1 (taking inserts_a) [] before_insert
 
 -- the page comes from the disk
 abbrev page_1 : List (ℕ × Page)
 page_1 = (1, Live (page_of_records [])) ∷ []
-
-abbrev with_page : Scene
-with_page = bringing page_1 taken
 
 two_fits : (v w : ℕ) → v < 2 ^ 64 → w < 2 ^ 64 → IsPoint (v ∷ w ∷ [])
 two_fits v w first second = record { some = omega arith; few = omega arith; fits = All-from_recursion (λ (x : ℕ). x < 2 ^ 64) (v ∷ w ∷ []) (first, (second, tt)) }
@@ -69,21 +69,21 @@ abbrev puts : Deed
 puts = takes_effect 0 inserts_a replies.Done (Some (Put 1 letter_a)) []
 
 abbrev put : Scene
-put = after 1 puts [] with_page
+put = after ((1, Live (page_of_records (letter_a ∷ []))) ∷ []) 1 puts [] (bringing page_1 taken)
 
 abbrev is_forced : Scene
 is_forced = forced_scene put
 
 abbrev answered : Scene
-answered = after 1 (answers_now 1 replies.Done) [] is_forced
+answered = after_as_it_is 1 (answers_now 1 replies.Done) [] is_forced
 
 put_fits : FitsPut flat_meta (page_of_records []) letter_a
 put_fits = record { made = empty_fits; level = refl; absent = record { records = []; area = _; leaf = refl; keeps = All-from_recursion (λ (r : Record). r.key ≢ letter_a.key) [] tt }; room = omega arith }
 
-put_row : Row (standing taken.at_work 1) (wanted_in taken 1) (machine_of with_page) puts
+put_row : Row (standing taken.at_work 1) (wanted_in taken 1) (met page_1 taken) puts
 put_row = (
   page_of_records [],
-  at_hand with_page (standing taken.at_work 1) _ (page_of_records []) _ refl refl refl refl,
+  at_hand_met page_1 taken (standing taken.at_work 1) _ (page_of_records []) _ refl refl refl refl,
   inr (inr (inl (record {
     absent = record { records = []; area = _; leaf = refl; lack = All-from_recursion (λ (r : Record). r.key ≢ letter_a.key) [] tt };
     room = omega arith;
@@ -95,16 +95,16 @@ pub one_insert : OneInsert
 unfolding big_endian
 one_insert = (
   machine_of taken,
-  takes_line before_insert 1 inserts_a [] (queued refl refl) tt,
+  takes_line before_insert 1 inserts_a [] (queued refl refl) tt (refl, refl, refl),
   (
     machine_of put,
-    works_bringing page_1 taken 1 puts [] (page_comes, tt) refl (has_room taken 1 (omega arith, omega arith)) put_row (queued refl refl) (record { allowed = put_fits; log = refl }),
+    works_bringing page_1 taken put.pages 1 puts [] (page_comes, tt) refl (has_room taken 1 (omega arith, omega arith) refl) put_row (queued refl refl) (record { allowed = put_fits; log = refl }) (refl, refl, refl) refl,
     (
       machine_of is_forced,
       inr (omega arith, forces put Moved),
       (
         machine_of answered,
-        inl (omega arith, performed is_forced 1 (answers_now 1 replies.Done) [] (queued refl refl) tt),
+        inl (omega arith, performed is_forced 1 (answers_now 1 replies.Done) [] (queued refl refl) tt (refl, refl, refl)),
         (machine_of answered, (refl, refl), refl),
       ),
     ),

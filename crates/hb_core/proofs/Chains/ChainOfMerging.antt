@@ -1,5 +1,5 @@
 -- The consolidator at a parent of two pages: each step of the chains.
-use Rattle.std.proofs.Common.{◌≢◌, inl, inr, zero, suc, List, [], ◌∷◌, Contains, Option, None, refl, ap, arith}
+use Rattle.std.proofs.Common.{◌≢◌, inl, inr, zero, suc, List, [], ◌∷◌, Contains, Option, None, refl, ap, arith, ℕ}
 use Rattle.hb_space.specs.Boxes.{Meets}
 use Rattle.hb_space.specs.declared.records.Record.{Record}
 use Rattle.hb_frag.specs.declared.pages.LivePage.{LivePage}
@@ -24,11 +24,33 @@ use Rattle.hb_core.specs.Performing.{ChangesQueue}
 use Rattle.hb_core.specs.Rows.{Row}
 use Rattle.hb_core.specs.Scenes.{Scene, machine_of, standing}
 use Rattle.hb_core.specs.Steps.{TakesMerging}
-use Rattle.hb_core.proofs.Chains.BuiltSteps.{after, at_hand, has_room, live_is, none_waits, one_joins, only_looks, performed, queued, wanted_in, works}
+use Rattle.hb_core.proofs.Chains.BuiltSteps.{after_as_it_is, after, at_hand, has_room, live_is, none_waits, one_joins, only_looks, performed, queued, wanted_in, works}
 use Rattle.hb_lemmas.specs.Numbers.{big_endian}
 use Rattle.hb_sound.proofs.ExampleParts.{in_order, no_records, none_given}
 use Rattle.hb_space.proofs.Facts.Intervals.{cuts, held, interval, top, within}
 use Rattle.std.proofs.lemmas.List.Elements.{All-from_recursion}
+use Rattle.hb_frag.specs.declared.pages.Page.{Page}
+use Rattle.hb_frag.specs.declared.pages.Page.TheVariants.{Live, Free}
+
+-- ---- the pages
+
+abbrev page_1 : ℕ × Page
+page_1 = (1, Live keeping_page)
+
+abbrev page_2 : List Record → ℕ × Page
+page_2 records = (2, Live (going_page records))
+
+abbrev page_3 : ℕ × Page
+page_3 = (3, Live two_children)
+
+abbrev joined_1 : ℕ × Page
+joined_1 = (1, Live joined_page)
+
+abbrev free_2 : ℕ × Page
+free_2 = (2, Free 0)
+
+abbrev only_3 : ℕ × Page
+only_3 = (3, Live one_child)
 
 abbrev job : Job
 job = merges_at 45
@@ -39,19 +61,19 @@ abbrev takes : Deed
 takes = takes_job (at.ConsolidatorWalk job None) job
 
 abbrev is_taken : List Record → Scene
-is_taken records = after 18 takes [] (merging_before records)
+is_taken records = after_as_it_is 18 takes [] (merging_before records)
 
 abbrev arrives : Deed
 arrives = moves_to (at.ConsolidatorScan job 3 1) []
 
 abbrev at_first : List Record → Scene
-at_first records = after 18 arrives [] (is_taken records)
+at_first records = after (page_1 ∷ page_2 records ∷ page_3 ∷ []) 18 arrives [] (is_taken records)
 
 abbrev finds_pair : Deed
 finds_pair = moves_to (at.ConsolidatorTry job 3 1 2 1) []
 
 abbrev at_pair : List Record → Scene
-at_pair records = after 18 finds_pair [] (at_first records)
+at_pair records = after (page_2 records ∷ page_3 ∷ page_1 ∷ []) 18 finds_pair [] (at_first records)
 
 -- ---- the pair is too heavy
 
@@ -59,10 +81,10 @@ abbrev goes_on : Deed
 goes_on = moves_to (at.ConsolidatorScan job 3 2) []
 
 abbrev at_second : Scene
-at_second = after 18 goes_on [] (at_pair three_to_go)
+at_second = after (page_1 ∷ page_2 three_to_go ∷ page_3 ∷ []) 18 goes_on [] (at_pair three_to_go)
 
 abbrev is_ended : Scene
-is_ended = after 18 ends_merging [] at_second
+is_ended = after (page_1 ∷ page_3 ∷ page_2 three_to_go ∷ []) 18 ends_merging [] at_second
 
 -- ---- the two may become one
 
@@ -70,19 +92,19 @@ abbrev may_merge : Deed
 may_merge = moves_to (at.ConsolidatorPromote job 3 1 2) []
 
 abbrev to_promote : Scene
-to_promote = after 18 may_merge [] (at_pair one_to_go)
+to_promote = after (page_1 ∷ page_2 one_to_go ∷ page_3 ∷ []) 18 may_merge [] (at_pair one_to_go)
 
 abbrev promotes : Deed
 promotes = moves_to (at.ConsolidatorKeep job 3 1 2) []
 
 abbrev is_promoted : Scene
-is_promoted = after 18 promotes [] to_promote
+is_promoted = after (page_1 ∷ page_2 one_to_go ∷ page_3 ∷ []) 18 promotes [] to_promote
 
 abbrev keeps : Deed
 keeps = moves_to (at.ConsolidatorDecide job 3 1 2) []
 
 abbrev to_decide : Scene
-to_decide = after 18 keeps [] is_promoted
+to_decide = after (page_2 one_to_go ∷ page_3 ∷ page_1 ∷ []) 18 keeps [] is_promoted
 
 -- ---- they do
 
@@ -94,22 +116,22 @@ abbrev merges : Deed
 merges = does at.ConsolidatorIdle (ops.Merge 3 1 2) (job ∷ higher ∷ [])
 
 abbrev is_merged : Scene
-is_merged = after 18 merges (job ∷ higher ∷ []) to_decide
+is_merged = after (only_3 ∷ joined_1 ∷ free_2 ∷ []) 18 merges (job ∷ higher ∷ []) to_decide
 
 abbrev taken_again : Scene
-taken_again = after 18 takes (higher ∷ []) is_merged
+taken_again = after_as_it_is 18 takes (higher ∷ []) is_merged
 
 abbrev at_only : Scene
-at_only = after 18 arrives (higher ∷ []) taken_again
+at_only = after (joined_1 ∷ free_2 ∷ only_3 ∷ []) 18 arrives (higher ∷ []) taken_again
 
 abbrev none_left : Scene
-none_left = after 18 ends_merging (higher ∷ []) at_only
+none_left = after (free_2 ∷ only_3 ∷ joined_1 ∷ []) 18 ends_merging (higher ∷ []) at_only
 
 abbrev drops : Deed
 drops = takes_job at.ConsolidatorIdle higher
 
 abbrev is_dropped : Scene
-is_dropped = after 18 drops [] none_left
+is_dropped = after_as_it_is 18 drops [] none_left
 
 -- ---- the rows
 
@@ -281,19 +303,19 @@ takes_to_drop = record { job = higher; kind = refl; next = at.ConsolidatorIdle; 
 pub merge_is_given_up : MergeIsGivenUp
 merge_is_given_up = (
   machine_of (is_taken three_to_go),
-  inr (takes, takes_to_walk three_to_go, performed (merging_before three_to_go) 18 takes [] it_leaves tt),
+  inr (takes, takes_to_walk three_to_go, performed (merging_before three_to_go) 18 takes [] it_leaves tt (refl, refl, refl)),
   (
     machine_of (at_first three_to_go),
-    works (is_taken three_to_go) 18 arrives [] refl (only_looks (is_taken three_to_go) 18 refl) (arrive_row three_to_go) (queued refl refl) tt,
+    works (is_taken three_to_go) (at_first three_to_go).pages 18 arrives [] refl (only_looks (is_taken three_to_go) 18 refl refl) (arrive_row three_to_go) (queued refl refl) tt (refl, refl, refl) refl,
     (
       machine_of (at_pair three_to_go),
-      works (at_first three_to_go) 18 finds_pair [] refl (only_looks (at_first three_to_go) 18 refl) (scan_row three_to_go) (queued refl refl) tt,
+      works (at_first three_to_go) (at_pair three_to_go).pages 18 finds_pair [] refl (only_looks (at_first three_to_go) 18 refl refl) (scan_row three_to_go) (queued refl refl) tt (refl, refl, refl) refl,
       (
         machine_of at_second,
-        works (at_pair three_to_go) 18 goes_on [] refl (only_looks (at_pair three_to_go) 18 refl) try_row (queued refl refl) tt,
+        works (at_pair three_to_go) at_second.pages 18 goes_on [] refl (only_looks (at_pair three_to_go) 18 refl refl) try_row (queued refl refl) tt (refl, refl, refl) refl,
         (
           machine_of is_ended,
-          works at_second 18 ends_merging [] refl (only_looks at_second 18 refl) end_row (queued refl refl) tt,
+          works at_second is_ended.pages 18 ends_merging [] refl (only_looks at_second 18 refl refl) end_row (queued refl refl) tt (refl, refl, refl) refl,
           (machine_of is_ended, inl (All-from_recursion (λ (one : Job). one.kind ≢ Merge) [] tt, (refl, refl)), refl),
         ),
       ),
@@ -305,37 +327,37 @@ pub pair_becomes_one : PairBecomesOne
 unfolding big_endian
 pair_becomes_one = (
   machine_of (is_taken one_to_go),
-  inr (takes, takes_to_walk one_to_go, performed (merging_before one_to_go) 18 takes [] it_leaves tt),
+  inr (takes, takes_to_walk one_to_go, performed (merging_before one_to_go) 18 takes [] it_leaves tt (refl, refl, refl)),
   (
     machine_of (at_first one_to_go),
-    works (is_taken one_to_go) 18 arrives [] refl (only_looks (is_taken one_to_go) 18 refl) (arrive_row one_to_go) (queued refl refl) tt,
+    works (is_taken one_to_go) (at_first one_to_go).pages 18 arrives [] refl (only_looks (is_taken one_to_go) 18 refl refl) (arrive_row one_to_go) (queued refl refl) tt (refl, refl, refl) refl,
     (
       machine_of (at_pair one_to_go),
-      works (at_first one_to_go) 18 finds_pair [] refl (only_looks (at_first one_to_go) 18 refl) (scan_row one_to_go) (queued refl refl) tt,
+      works (at_first one_to_go) (at_pair one_to_go).pages 18 finds_pair [] refl (only_looks (at_first one_to_go) 18 refl refl) (scan_row one_to_go) (queued refl refl) tt (refl, refl, refl) refl,
       (
         machine_of to_promote,
-        works (at_pair one_to_go) 18 may_merge [] refl (only_looks (at_pair one_to_go) 18 refl) light_row (queued refl refl) tt,
+        works (at_pair one_to_go) to_promote.pages 18 may_merge [] refl (only_looks (at_pair one_to_go) 18 refl refl) light_row (queued refl refl) tt (refl, refl, refl) refl,
         (
           machine_of is_promoted,
-          works to_promote 18 promotes [] refl (only_looks to_promote 18 refl) promote_row (queued refl refl) tt,
+          works to_promote is_promoted.pages 18 promotes [] refl (only_looks to_promote 18 refl refl) promote_row (queued refl refl) tt (refl, refl, refl) refl,
           (
             machine_of to_decide,
-            works is_promoted 18 keeps [] refl (only_looks is_promoted 18 refl) keep_row (queued refl refl) tt,
+            works is_promoted to_decide.pages 18 keeps [] refl (only_looks is_promoted 18 refl refl) keep_row (queued refl refl) tt (refl, refl, refl) refl,
             (
               machine_of is_merged,
-              works to_decide 18 merges (job ∷ higher ∷ []) refl (has_room to_decide 18 (omega arith, omega arith)) decide_row (queued refl two_join) (record { allowed = merge_fits; log = refl }),
+              works to_decide is_merged.pages 18 merges (job ∷ higher ∷ []) refl (has_room to_decide 18 (omega arith, omega arith) refl) decide_row (queued refl two_join) (record { allowed = merge_fits; log = refl }) (refl, refl, refl) refl,
               (
                 machine_of taken_again,
-                inr (takes, takes_again, performed is_merged 18 takes (higher ∷ []) again_leaves tt),
+                inr (takes, takes_again, performed is_merged 18 takes (higher ∷ []) again_leaves tt (refl, refl, refl)),
                 (
                   machine_of at_only,
-                  works taken_again 18 arrives (higher ∷ []) refl (only_looks taken_again 18 refl) arrive_again (queued refl refl) tt,
+                  works taken_again at_only.pages 18 arrives (higher ∷ []) refl (only_looks taken_again 18 refl refl) arrive_again (queued refl refl) tt (refl, refl, refl) refl,
                   (
                     machine_of none_left,
-                    works at_only 18 ends_merging (higher ∷ []) refl (only_looks at_only 18 refl) scan_again (queued refl refl) tt,
+                    works at_only none_left.pages 18 ends_merging (higher ∷ []) refl (only_looks at_only 18 refl refl) scan_again (queued refl refl) tt (refl, refl, refl) refl,
                     (
                       machine_of is_dropped,
-                      inr (drops, takes_to_drop, performed none_left 18 drops [] last_leaves tt),
+                      inr (drops, takes_to_drop, performed none_left 18 drops [] last_leaves tt (refl, refl, refl)),
                       (machine_of is_dropped, inl (All-from_recursion (λ (one : Job). one.kind ≢ Merge) [] tt, (refl, refl)), refl),
                     ),
                   ),

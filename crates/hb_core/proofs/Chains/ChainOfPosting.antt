@@ -4,7 +4,7 @@ use Rattle.hb_latch.specs.declared.modes.Mode.TheVariants.{Exclusive, Shared, Up
 use Rattle.hb_activity.specs.Wanting.{wanted_page}
 use Rattle.hb_terms.specs.declared.plans.PostPlan.{PostPlan}
 use Rattle.hb_core.specs.Machines.{live_here}
-use Rattle.std.proofs.Common.{◌≡◌, ◌≢◌, ◌∙◌, inl, inr, zero, suc, [], ◌∷◌, Option, Some, None, IsSomeAnd, refl, sym, ap, subst, arith}
+use Rattle.std.proofs.Common.{◌≡◌, ◌≢◌, ◌∙◌, inl, inr, zero, suc, [], ◌∷◌, Option, Some, None, IsSomeAnd, refl, sym, ap, subst, arith, ℕ}
 use Rattle.hb_frag.specs.declared.pages.LivePage.{LivePage}
 use Rattle.hb_frag.specs.declared.leaves.Leaf.{Leaf}
 use Rattle.hb_frag.specs.declared.leaves.Leaf.TheVariants.{Records, Child, Sibling}
@@ -16,7 +16,7 @@ use Rattle.hb_activity.specs.declared.activities.Activity.{Activity}
 use Rattle.hb_activity.specs.declared.activities.Activity.TheVariants as at
 use Rattle.hb_activity.specs.Deeds.{Deed, does, moves_to, takes_job}
 use Rattle.hb_activity.specs.Queue.{LeavesFirst}
-use Rattle.hb_core.proofs.Chains.BuiltSteps.{after, at_hand, has_room, live_in, live_is, none_waits, one_joins, only_looks, performed, wanted_in, works, queued}
+use Rattle.hb_core.proofs.Chains.BuiltSteps.{after_as_it_is, after, at_hand, has_room, live_in, live_is, none_waits, one_joins, only_looks, performed, wanted_in, works, queued}
 use Rattle.hb_core.specs.Asking.{asked_box, box_at}
 use Rattle.hb_core.specs.ChainOfPosting.{OnePosting, bare_root, posted_root, posting_before, raised_meta, split_page}
 use Rattle.hb_core.specs.ChainOfTwo.{lower_half, posts_at}
@@ -36,6 +36,22 @@ use Rattle.hb_space.proofs.Facts.Intervals.{interval, top, within}
 use Rattle.hb_space.specs.Boxes.{Meets, side_below, whole_area}
 use Rattle.hb_terms.specs.Plans.{IsPlan}
 use Rattle.std.proofs.lemmas.List.Elements.{All-from_recursion}
+use Rattle.hb_frag.specs.declared.pages.Page.{Page}
+use Rattle.hb_frag.specs.declared.pages.Page.TheVariants.{Live}
+
+-- ---- the pages
+
+abbrev page_1 : ℕ × Page
+page_1 = (1, Live split_page)
+
+abbrev page_2 : ℕ × Page
+page_2 = (2, Live lower_half)
+
+abbrev page_3 : ℕ × Page
+page_3 = (3, Live bare_root)
+
+abbrev root_posted : ℕ × Page
+root_posted = (3, Live posted_root)
 
 abbrev pub job : Job
 job = posts_at 10
@@ -46,49 +62,49 @@ abbrev pub takes : Activity → Deed
 takes next = takes_job next job
 
 abbrev is_taken : Scene
-is_taken = after 17 (takes (at.PosterGrow job)) [] posting_before
+is_taken = after_as_it_is 17 (takes (at.PosterGrow job)) [] posting_before
 
 abbrev grows : Deed
 grows = does at.PosterIdle (ops.Grow 3 0) (job ∷ [])
 
 abbrev is_grown : Scene
-is_grown = after 17 grows (job ∷ []) is_taken
+is_grown = after (page_2 ∷ page_1 ∷ page_3 ∷ []) 17 grows (job ∷ []) is_taken
 
 abbrev taken_again : Scene
-taken_again = after 17 (takes (at.PosterWalk job None)) [] is_grown
+taken_again = after_as_it_is 17 (takes (at.PosterWalk job None)) [] is_grown
 
 abbrev pub arrives : Deed
 arrives = moves_to (at.PosterChild job 3) []
 
 abbrev at_child : Scene
-at_child = after 17 arrives [] taken_again
+at_child = after (page_2 ∷ page_1 ∷ page_3 ∷ []) 17 arrives [] taken_again
 
 abbrev pub looks : Deed
 looks = moves_to (at.PosterPromote job 3) []
 
 abbrev to_promote : Scene
-to_promote = after 17 looks [] at_child
+to_promote = after (page_2 ∷ page_1 ∷ page_3 ∷ []) 17 looks [] at_child
 
 abbrev pub promotes : Deed
 promotes = moves_to (at.PosterAgain job 3) []
 
 abbrev is_promoted : Scene
-is_promoted = after 17 promotes [] to_promote
+is_promoted = after (page_2 ∷ page_1 ∷ page_3 ∷ []) 17 promotes [] to_promote
 
 abbrev pub posts : Deed
 posts = does at.PosterIdle (ops.Post 3 [] 2 (side_below (whole_area 1) 0 40)) (job ∷ [])
 
 abbrev is_posted : Scene
-is_posted = after 17 posts (job ∷ []) is_promoted
+is_posted = after (page_2 ∷ page_1 ∷ root_posted ∷ []) 17 posts (job ∷ []) is_promoted
 
 abbrev taken_last : Scene
-taken_last = after 17 (takes (at.PosterWalk job None)) [] is_posted
+taken_last = after_as_it_is 17 (takes (at.PosterWalk job None)) [] is_posted
 
 abbrev at_last : Scene
-at_last = after 17 arrives [] taken_last
+at_last = after (page_2 ∷ page_1 ∷ root_posted ∷ []) 17 arrives [] taken_last
 
 abbrev is_ended : Scene
-is_ended = after 17 ends_job [] at_last
+is_ended = after (page_1 ∷ root_posted ∷ page_2 ∷ []) 17 ends_job [] at_last
 
 -- ---- what the operations ask for
 
@@ -200,34 +216,34 @@ pub one_posting : OnePosting
 unfolding big_endian
 one_posting = (
   machine_of is_taken,
-  inr (takes (at.PosterGrow job), takes_to_grow, performed posting_before 17 (takes (at.PosterGrow job)) [] (it_leaves _) tt),
+  inr (takes (at.PosterGrow job), takes_to_grow, performed posting_before 17 (takes (at.PosterGrow job)) [] (it_leaves _) tt (refl, refl, refl)),
   (
     machine_of is_grown,
-    works is_taken 17 grows (job ∷ []) refl (has_room is_taken 17 (omega arith, omega arith)) grow_row (queued refl (one_joins job [] (none_waits job) (omega arith))) (record { allowed = grow_fits; log = refl }),
+    works is_taken is_grown.pages 17 grows (job ∷ []) refl (has_room is_taken 17 (omega arith, omega arith) refl) grow_row (queued refl (one_joins job [] (none_waits job) (omega arith))) (record { allowed = grow_fits; log = refl }) (refl, refl, refl) refl,
     (
       machine_of taken_again,
-      inr (takes (at.PosterWalk job None), takes_to_walk, performed is_grown 17 (takes (at.PosterWalk job None)) [] (it_leaves _) tt),
+      inr (takes (at.PosterWalk job None), takes_to_walk, performed is_grown 17 (takes (at.PosterWalk job None)) [] (it_leaves _) tt (refl, refl, refl)),
       (
         machine_of at_child,
-        works taken_again 17 arrives [] refl (only_looks taken_again 17 refl) (arrive_row taken_again refl refl) (queued refl refl) tt,
+        works taken_again at_child.pages 17 arrives [] refl (only_looks taken_again 17 refl refl) (arrive_row taken_again refl refl) (queued refl refl) tt (refl, refl, refl) refl,
         (
           machine_of to_promote,
-          works at_child 17 looks [] refl (only_looks at_child 17 refl) (look_row at_child refl refl refl) (queued refl refl) tt,
+          works at_child to_promote.pages 17 looks [] refl (only_looks at_child 17 refl refl) (look_row at_child refl refl refl) (queued refl refl) tt (refl, refl, refl) refl,
           (
             machine_of is_promoted,
-            works to_promote 17 promotes [] refl (only_looks to_promote 17 refl) (promote_row to_promote refl refl) (queued refl refl) tt,
+            works to_promote is_promoted.pages 17 promotes [] refl (only_looks to_promote 17 refl refl) (promote_row to_promote refl refl) (queued refl refl) tt (refl, refl, refl) refl,
             (
               machine_of is_posted,
-              works is_promoted 17 posts (job ∷ []) refl (has_room is_promoted 17 (omega arith, omega arith)) (again_row is_promoted refl refl refl) (queued refl (one_joins job [] (none_waits job) (omega arith))) (record { allowed = post_fits; log = refl }),
+              works is_promoted is_posted.pages 17 posts (job ∷ []) refl (has_room is_promoted 17 (omega arith, omega arith) refl) (again_row is_promoted refl refl refl) (queued refl (one_joins job [] (none_waits job) (omega arith))) (record { allowed = post_fits; log = refl }) (refl, refl, refl) refl,
               (
                 machine_of taken_last,
-                inr (takes (at.PosterWalk job None), takes_to_walk_last, performed is_posted 17 (takes (at.PosterWalk job None)) [] (it_leaves _) tt),
+                inr (takes (at.PosterWalk job None), takes_to_walk_last, performed is_posted 17 (takes (at.PosterWalk job None)) [] (it_leaves _) tt (refl, refl, refl)),
                 (
                   machine_of at_last,
-                  works taken_last 17 arrives [] refl (only_looks taken_last 17 refl) arrive_last_row (queued refl refl) tt,
+                  works taken_last at_last.pages 17 arrives [] refl (only_looks taken_last 17 refl refl) arrive_last_row (queued refl refl) tt (refl, refl, refl) refl,
                   (
                     machine_of is_ended,
-                    works at_last 17 ends_job [] refl (only_looks at_last 17 refl) end_row (queued refl refl) tt,
+                    works at_last is_ended.pages 17 ends_job [] refl (only_looks at_last 17 refl refl) end_row (queued refl refl) tt (refl, refl, refl) refl,
                     (machine_of is_ended, inl (All-from_recursion (λ (one : Job). one.kind ≢ Post) [] tt, (refl, refl)), refl),
                   ),
                 ),

@@ -10,7 +10,7 @@ use Rattle.hb_core.specs.ChainOfReadFault.{RootIsNotRead, unread_before}
 use Rattle.hb_core.specs.GivingUp.{gives_up}
 use Rattle.hb_core.specs.Scenes.{Scene, standing, untold_scene}
 use Rattle.hb_core.specs.Steps.{TakesJob}
-use Rattle.hb_core.proofs.Chains.BuiltSteps.{after, only_looks, queued}
+use Rattle.hb_core.proofs.Chains.BuiltSteps.{after_as_it_is, only_looks, queued}
 use Rattle.hb_core.proofs.Chains.ChainOfPosting.{it_leaves, job, takes}
 use Rattle.hb_core.proofs.Chains.UntoldSteps.{performed_untold, reads_not, takes_line_untold}
 use Rattle.hb_point.specs.SessionRows.{taking}
@@ -18,16 +18,16 @@ use Rattle.hb_store.specs.Fetching.{IsNoPage}
 use Rattle.std.proofs.lemmas.List.Elements.{All-from_recursion}
 
 abbrev line_taken : Scene
-line_taken = after 1 (taking seeks_twenty) (job ∷ []) unread_before
+line_taken = after_as_it_is 1 (taking seeks_twenty) (job ∷ []) unread_before
 
 abbrev both_taken : Scene
-both_taken = after 17 (takes (at.PosterWalk job None)) [] line_taken
+both_taken = after_as_it_is 17 (takes (at.PosterWalk job None)) [] line_taken
 
 abbrev line_given_up : Scene
-line_given_up = after 1 (gives_up drops.ReadFault (standing both_taken.at_work 1)) [] both_taken
+line_given_up = after_as_it_is 1 (gives_up drops.ReadFault (standing both_taken.at_work 1)) [] both_taken
 
 abbrev both_given_up : Scene
-both_given_up = after 17 (gives_up drops.ReadFault (standing line_given_up.at_work 17)) [] line_given_up
+both_given_up = after_as_it_is 17 (gives_up drops.ReadFault (standing line_given_up.at_work 17)) [] line_given_up
 
 takes_to_walk : TakesJob (untold_scene line_taken) (takes (at.PosterWalk job None))
 takes_to_walk = record { job = job; kind = refl; next = at.PosterWalk job None; posting = inr (inr (omega arith, refl)); deed_is = refl }
@@ -40,16 +40,16 @@ is_page (inr more) = absurd (omega (arith, more))
 pub root_is_not_read : RootIsNotRead
 root_is_not_read = (
   untold_scene line_taken,
-  takes_line_untold unread_before 1 seeks_twenty (job ∷ []) (queued refl refl) tt,
+  takes_line_untold unread_before 1 seeks_twenty (job ∷ []) (queued refl refl) tt (refl, refl, refl),
   (
     untold_scene both_taken,
-    inr (takes (at.PosterWalk job None), takes_to_walk, performed_untold line_taken 17 (takes (at.PosterWalk job None)) [] (it_leaves _) tt),
+    inr (takes (at.PosterWalk job None), takes_to_walk, performed_untold line_taken 17 (takes (at.PosterWalk job None)) [] (it_leaves _) tt (refl, refl, refl)),
     (
       untold_scene line_given_up,
-      reads_not both_taken 1 3 [] refl (only_looks both_taken 1 refl) refl is_page refl (queued refl refl) tt,
+      reads_not both_taken 1 3 [] refl (only_looks both_taken 1 refl refl) refl is_page refl (queued refl refl) tt (refl, refl, refl),
       (
         untold_scene both_given_up,
-        reads_not line_given_up 17 3 [] refl (only_looks line_given_up 17 refl) refl is_page refl (queued refl refl) tt,
+        reads_not line_given_up 17 3 [] refl (only_looks line_given_up 17 refl refl) refl is_page refl (queued refl refl) tt (refl, refl, refl),
         (
           untold_scene both_given_up,
           (refl, refl),

@@ -19,17 +19,32 @@ use Rattle.hb_activity.specs.declared.jobs.Job.{Job}
 use Rattle.hb_core.specs.Asking.{box_at}
 use Rattle.hb_core.specs.ChainOfFreePage.{tight_meta}
 use Rattle.hb_core.specs.ChainOfMerging.{valued}
-use Rattle.hb_core.specs.ChainOfThreePages.{FullGoesOn, deletes_110, five_high, full_high, high_page, inserts_120, middle_page, postings_owed, three_before}
+use Rattle.hb_core.specs.ChainOfThreePages.{FullGoesOn, deletes_110, five_high, full_high, high_page, inserts_120, middle_page, postings_owed, three_before, low_page, other_high}
 use Rattle.hb_core.specs.ChainOfTwo.{posts_at}
 use Rattle.hb_core.specs.Rows.{Row}
 use Rattle.hb_core.specs.Scenes.{Scene, machine_of, standing}
 use Rattle.hb_core.specs.declared.outcomes.Outcome.TheVariants.{Moved}
-use Rattle.hb_core.proofs.Chains.BuiltSteps.{after, at_hand, forced_scene, forces, has_room, live_is, one_joins, performed, queued, takes_line, wanted_in, works}
+use Rattle.hb_core.proofs.Chains.BuiltSteps.{after_as_it_is, after, at_hand, has_room, live_is, one_joins, performed, queued, wanted_in, works}
+use Rattle.hb_core.proofs.Chains.TakenLines.{takes_line}
+use Rattle.hb_core.proofs.Chains.FlushedSteps.{forced_scene, forces}
 use Rattle.hb_core.proofs.Chains.ChainOfTwoParts.{differ}
 use Rattle.hb_point.specs.SessionRows.{taking}
 use Rattle.hb_sound.proofs.ExampleParts.{each_has, in_order}
 use Rattle.hb_space.proofs.Facts.Intervals.{held, interval, top}
 use Rattle.std.proofs.lemmas.List.Elements.{All-from_recursion}
+use Rattle.hb_frag.specs.declared.pages.Page.{Page}
+use Rattle.hb_frag.specs.declared.pages.Page.TheVariants.{Live}
+
+-- ---- the pages
+
+abbrev page_1 : ℕ × Page
+page_1 = (1, Live middle_page)
+
+abbrev page_2 : ℕ × Page
+page_2 = (2, Live low_page)
+
+abbrev page_3 : List Record → ℕ × Page
+page_3 records = (3, Live (high_page records))
 
 abbrev all_jobs : List Job
 all_jobs = postings_owed ++ posts_at 120 ∷ []
@@ -37,58 +52,58 @@ all_jobs = postings_owed ++ posts_at 120 ∷ []
 -- ---- the scenes, one after the other
 
 abbrev first_taken : Scene
-first_taken = after 1 (taking (inserts_120 12)) postings_owed three_before
+first_taken = after_as_it_is 1 (taking (inserts_120 12)) postings_owed three_before
 
 abbrev passes : Line → ℕ → Deed
 passes line value = moves_to (SessionWalk line (Some 1) [] []) (posts_at value ∷ [])
 
 abbrev first_passed : Scene
-first_passed = after 1 (passes (inserts_120 12) 120) all_jobs first_taken
+first_passed = after (page_2 ∷ page_3 full_high ∷ page_1 ∷ []) 1 (passes (inserts_120 12) 120) all_jobs first_taken
 
 abbrev finds_no_room : Deed
 finds_no_room = moves_to (SessionSplit (inserts_120 12) 3) []
 
 abbrev to_split : Scene
-to_split = after 1 finds_no_room all_jobs first_passed
+to_split = after (page_2 ∷ page_1 ∷ page_3 full_high ∷ []) 1 finds_no_room all_jobs first_passed
 
 abbrev first_answered : Scene
-first_answered = after 1 (answers_now 12 replies.Full) all_jobs to_split
+first_answered = after (page_2 ∷ page_1 ∷ page_3 full_high ∷ []) 1 (answers_now 12 replies.Full) all_jobs to_split
 
 abbrev second_taken : Scene
-second_taken = after 1 (taking deletes_110) all_jobs first_answered
+second_taken = after_as_it_is 1 (taking deletes_110) all_jobs first_answered
 
 abbrev second_passed : Scene
-second_passed = after 1 (passes deletes_110 110) all_jobs second_taken
+second_passed = after (page_2 ∷ page_3 full_high ∷ page_1 ∷ []) 1 (passes deletes_110 110) all_jobs second_taken
 
 abbrev deletes : Deed
 deletes = takes_effect 0 deletes_110 replies.Done (Some (Del 3 (110 ∷ []))) []
 
 abbrev is_deleted : Scene
-is_deleted = after 1 deletes all_jobs second_passed
+is_deleted = after (page_2 ∷ page_1 ∷ page_3 five_high ∷ []) 1 deletes all_jobs second_passed
 
 abbrev once_forced : Scene
 once_forced = forced_scene is_deleted
 
 abbrev second_answered : Scene
-second_answered = after 1 (answers_now 13 replies.Done) all_jobs once_forced
+second_answered = after_as_it_is 1 (answers_now 13 replies.Done) all_jobs once_forced
 
 abbrev third_taken : Scene
-third_taken = after 1 (taking (inserts_120 14)) all_jobs second_answered
+third_taken = after_as_it_is 1 (taking (inserts_120 14)) all_jobs second_answered
 
 abbrev third_passed : Scene
-third_passed = after 1 (passes (inserts_120 14) 120) all_jobs third_taken
+third_passed = after (page_2 ∷ page_3 five_high ∷ page_1 ∷ []) 1 (passes (inserts_120 14) 120) all_jobs third_taken
 
 abbrev puts : Deed
 puts = takes_effect 1 (inserts_120 14) replies.Done (Some (Put 3 (valued 120))) []
 
 abbrev is_put : Scene
-is_put = after 1 puts all_jobs third_passed
+is_put = after (page_2 ∷ page_1 ∷ page_3 other_high ∷ []) 1 puts all_jobs third_passed
 
 abbrev twice_forced : Scene
 twice_forced = forced_scene is_put
 
 abbrev third_answered : Scene
-third_answered = after 1 (answers_now 14 replies.Done) all_jobs twice_forced
+third_answered = after_as_it_is 1 (answers_now 14 replies.Done) all_jobs twice_forced
 
 -- ---- page 3
 
@@ -204,46 +219,46 @@ pub full_goes_on : FullGoesOn
 unfolding big_endian
 full_goes_on = (
   machine_of first_taken,
-  takes_line three_before 1 (inserts_120 12) postings_owed (queued refl refl) tt,
+  takes_line three_before 1 (inserts_120 12) postings_owed (queued refl refl) tt (refl, refl, refl),
   (
     machine_of first_passed,
-    works first_taken 1 (passes (inserts_120 12) 120) all_jobs refl (has_room first_taken 1 (omega arith, omega arith)) first_pass_row (queued refl (one_joins (posts_at 120) postings_owed none_at_120 (omega arith))) tt,
+    works first_taken first_passed.pages 1 (passes (inserts_120 12) 120) all_jobs refl (has_room first_taken 1 (omega arith, omega arith) refl) first_pass_row (queued refl (one_joins (posts_at 120) postings_owed none_at_120 (omega arith))) tt (refl, refl, refl) refl,
     (
       machine_of to_split,
-      works first_passed 1 finds_no_room all_jobs refl (has_room first_passed 1 (omega arith, omega arith)) no_room_row (queued refl refl) tt,
+      works first_passed to_split.pages 1 finds_no_room all_jobs refl (has_room first_passed 1 (omega arith, omega arith) refl) no_room_row (queued refl refl) tt (refl, refl, refl) refl,
       (
         machine_of first_answered,
-        works to_split 1 (answers_now 12 replies.Full) all_jobs tt (has_room to_split 1 (omega arith, omega arith)) full_row (queued refl refl) tt,
+        works to_split first_answered.pages 1 (answers_now 12 replies.Full) all_jobs tt (has_room to_split 1 (omega arith, omega arith) refl) full_row (queued refl refl) tt (refl, refl, refl) refl,
         (
           machine_of second_taken,
-          takes_line first_answered 1 deletes_110 all_jobs (queued refl refl) (inl refl, tt),
+          takes_line first_answered 1 deletes_110 all_jobs (queued refl refl) (inl refl, tt) (refl, refl, refl),
           (
             machine_of second_passed,
-            works second_taken 1 (passes deletes_110 110) all_jobs refl (has_room second_taken 1 (omega arith, omega arith)) second_pass_row (queued refl (waits_already (posts_at 110) (3, omega arith, refl))) tt,
+            works second_taken second_passed.pages 1 (passes deletes_110 110) all_jobs refl (has_room second_taken 1 (omega arith, omega arith) refl) second_pass_row (queued refl (waits_already (posts_at 110) (3, omega arith, refl))) tt (refl, refl, refl) refl,
             (
               machine_of is_deleted,
-              works second_passed 1 deletes all_jobs refl (has_room second_passed 1 (omega arith, omega arith)) delete_row (queued refl refl) (record { allowed = del_fits; log = refl }),
+              works second_passed is_deleted.pages 1 deletes all_jobs refl (has_room second_passed 1 (omega arith, omega arith) refl) delete_row (queued refl refl) (record { allowed = del_fits; log = refl }) (refl, refl, refl) refl,
               (
                 machine_of once_forced,
                 inr (omega arith, forces is_deleted Moved),
                 (
                   machine_of second_answered,
-                  inl (omega arith, performed once_forced 1 (answers_now 13 replies.Done) all_jobs (queued refl refl) tt),
+                  inl (omega arith, performed once_forced 1 (answers_now 13 replies.Done) all_jobs (queued refl refl) tt (refl, refl, refl)),
                   (
                     machine_of third_taken,
-                    takes_line second_answered 1 (inserts_120 14) all_jobs (queued refl refl) (inl refl, tt),
+                    takes_line second_answered 1 (inserts_120 14) all_jobs (queued refl refl) (inl refl, tt) (refl, refl, refl),
                     (
                       machine_of third_passed,
-                      works third_taken 1 (passes (inserts_120 14) 120) all_jobs refl (has_room third_taken 1 (omega arith, omega arith)) third_pass_row (queued refl (waits_already (posts_at 120) (4, omega arith, refl))) tt,
+                      works third_taken third_passed.pages 1 (passes (inserts_120 14) 120) all_jobs refl (has_room third_taken 1 (omega arith, omega arith) refl) third_pass_row (queued refl (waits_already (posts_at 120) (4, omega arith, refl))) tt (refl, refl, refl) refl,
                       (
                         machine_of is_put,
-                        works third_passed 1 puts all_jobs refl (has_room third_passed 1 (omega arith, omega arith)) put_row (queued refl refl) (record { allowed = put_fits; log = refl }),
+                        works third_passed is_put.pages 1 puts all_jobs refl (has_room third_passed 1 (omega arith, omega arith) refl) put_row (queued refl refl) (record { allowed = put_fits; log = refl }) (refl, refl, refl) refl,
                         (
                           machine_of twice_forced,
                           inr (omega arith, forces is_put Moved),
                           (
                             machine_of third_answered,
-                            inl (omega arith, performed twice_forced 1 (answers_now 14 replies.Done) all_jobs (queued refl refl) tt),
+                            inl (omega arith, performed twice_forced 1 (answers_now 14 replies.Done) all_jobs (queued refl refl) tt (refl, refl, refl)),
                             (machine_of third_answered, (refl, refl), refl),
                           ),
                         ),

@@ -1,6 +1,6 @@
 -- Two sessions on one page: each step of the chain.
 use Rattle.hb_core.proofs.Chains.SplitRows.{finds_no_room, no_room_row, put_row, puts, split_row, splits}
-use Rattle.std.proofs.Common.{◌≡◌, inl, inr, [], ◌∷◌, slice_index, Contains, Option, Some, None, refl, ap, arith, true, false}
+use Rattle.std.proofs.Common.{◌≡◌, inl, inr, [], ◌∷◌, slice_index, Contains, Option, Some, None, refl, ap, arith, true, false, ℕ, ◌++◌}
 use Rattle.hb_frag.specs.declared.pages.LivePage.{LivePage}
 use Rattle.hb_latch.specs.declared.modes.Mode.TheVariants.{Exclusive}
 use Rattle.hb_set.specs.declared.commands.Reply.TheVariants as replies
@@ -8,44 +8,62 @@ use Rattle.hb_activity.specs.declared.jobs.Job.{Job}
 use Rattle.hb_activity.specs.declared.activities.Activity.TheVariants.{SessionWalk}
 use Rattle.hb_core.specs.declared.outcomes.Outcome.TheVariants.{Moved}
 use Rattle.hb_activity.specs.Deeds.{Deed, answers_now, moves_to, takes_effect}
-use Rattle.hb_core.proofs.Chains.BuiltSteps.{after, at_hand, blocked, forced_scene, forces, has_room, live_is, none_waits, one_joins, only_looks, performed, wanted_in, works, queued, points_apart, takes_line}
+use Rattle.hb_core.proofs.Chains.BuiltSteps.{after_as_it_is, after, at_hand, blocked, has_room, live_is, none_waits, one_joins, only_looks, performed, wanted_in, works, queued}
+use Rattle.hb_core.proofs.Chains.TakenLines.{points_apart, takes_line}
+use Rattle.hb_core.proofs.Chains.FlushedSteps.{forced_scene, forces}
 use Rattle.hb_core.proofs.Chains.ChainOfTwoParts.{extract_fits, put_fits, twenty_there}
 use Rattle.hb_core.specs.Asking.{box_at}
-use Rattle.hb_core.specs.ChainOfTwo.{TwoOnOnePage, inserts_seventy, lettered, looks_twenty_up, lower_half, posts_at, two_before, upper_half}
+use Rattle.hb_core.specs.ChainOfTwo.{TwoOnOnePage, inserts_seventy, lettered, looks_twenty_up, lower_half, posts_at, two_before, upper_half, full_page, upper_three}
 use Rattle.hb_core.specs.Rows.{Row}
 use Rattle.hb_core.specs.Scenes.{Scene, machine_of, standing}
 use Rattle.hb_lemmas.specs.Numbers.{big_endian}
 use Rattle.hb_point.specs.SessionRows.{taking}
 use Rattle.hb_lemmas.proofs.Lists.{only_one}
+use Rattle.hb_frag.specs.declared.pages.Page.{Page}
+use Rattle.hb_frag.specs.declared.pages.Page.TheVariants.{Live}
+
+-- ---- the pages
+
+abbrev whole_1 : ℕ × Page
+whole_1 = (1, Live full_page)
+
+abbrev upper_1 : ℕ × Page
+upper_1 = (1, Live (upper_half upper_three))
+
+abbrev lower_2 : ℕ × Page
+lower_2 = (2, Live lower_half)
+
+abbrev put_1 : ℕ × Page
+put_1 = (1, Live (upper_half (upper_three ++ lettered 70 103 ∷ [])))
 
 -- ---- the scenes, one after the other
 
 abbrev first_taken : Scene
-first_taken = after 1 (taking inserts_seventy) [] two_before
+first_taken = after_as_it_is 1 (taking inserts_seventy) [] two_before
 
 abbrev both_taken : Scene
-both_taken = after 2 (taking looks_twenty_up) [] first_taken
+both_taken = after_as_it_is 2 (taking looks_twenty_up) [] first_taken
 
 abbrev to_split : Scene
-to_split = after 1 finds_no_room [] both_taken
+to_split = after (whole_1 ∷ []) 1 finds_no_room [] both_taken
 
 abbrev is_split : Scene
-is_split = after 1 splits (posts_at 0 ∷ []) to_split
+is_split = after (upper_1 ∷ lower_2 ∷ []) 1 splits (posts_at 0 ∷ []) to_split
 
 abbrev is_put : Scene
-is_put = after 1 puts (posts_at 0 ∷ []) is_split
+is_put = after (lower_2 ∷ put_1 ∷ []) 1 puts (posts_at 0 ∷ []) is_split
 
 abbrev passes : Deed
 passes = moves_to (SessionWalk looks_twenty_up (Some 1) [] []) (posts_at 20 ∷ [])
 
 abbrev on_its_way : Scene
-on_its_way = after 2 passes (posts_at 0 ∷ posts_at 20 ∷ []) is_put
+on_its_way = after (lower_2 ∷ put_1 ∷ []) 2 passes (posts_at 0 ∷ posts_at 20 ∷ []) is_put
 
 abbrev finds : Deed
 finds = takes_effect 1 looks_twenty_up (replies.Found (98 ∷ [])) None []
 
 abbrev is_found : Scene
-is_found = after 2 finds (posts_at 0 ∷ posts_at 20 ∷ []) on_its_way
+is_found = after (put_1 ∷ lower_2 ∷ []) 2 finds (posts_at 0 ∷ posts_at 20 ∷ []) on_its_way
 
 abbrev once_forced : Scene
 once_forced = forced_scene is_found
@@ -54,10 +72,10 @@ abbrev twice_forced : Scene
 twice_forced = forced_scene once_forced
 
 abbrev one_answered : Scene
-one_answered = after 1 (answers_now 1 replies.Done) (posts_at 0 ∷ posts_at 20 ∷ []) twice_forced
+one_answered = after_as_it_is 1 (answers_now 1 replies.Done) (posts_at 0 ∷ posts_at 20 ∷ []) twice_forced
 
 abbrev both_answered : Scene
-both_answered = after 2 (answers_now 2 (replies.Found (98 ∷ []))) (posts_at 0 ∷ posts_at 20 ∷ []) one_answered
+both_answered = after_as_it_is 2 (answers_now 2 (replies.Found (98 ∷ []))) (posts_at 0 ∷ posts_at 20 ∷ []) one_answered
 
 -- ---- the rows
 
@@ -87,33 +105,33 @@ pub two_on_one_page : TwoOnOnePage
 unfolding big_endian
 two_on_one_page = (
   machine_of first_taken,
-  takes_line two_before 1 inserts_seventy [] (queued refl refl) tt,
+  takes_line two_before 1 inserts_seventy [] (queued refl refl) tt (refl, refl, refl),
   (
     machine_of both_taken,
-    takes_line first_taken 2 looks_twenty_up [] (queued refl refl) (inr (points_apart 20 70 true false (λ same. omega (arith, same))), tt),
+    takes_line first_taken 2 looks_twenty_up [] (queued refl refl) (inr (points_apart 20 70 true false (λ same. omega (arith, same))), tt) (refl, refl, refl),
     (
       machine_of to_split,
-      works both_taken 1 finds_no_room [] refl (has_room both_taken 1 (omega arith, omega arith)) (no_room_row both_taken refl refl refl) (queued refl refl) tt,
+      works both_taken to_split.pages 1 finds_no_room [] refl (has_room both_taken 1 (omega arith, omega arith) refl) (no_room_row both_taken refl refl refl) (queued refl refl) tt (refl, refl, refl) refl,
       (
         machine_of to_split,
         blocked to_split 2 1 Exclusive _ refl (omega arith) refl refl refl,
         (
           machine_of is_split,
-          works to_split 1 splits (posts_at 0 ∷ []) tt (has_room to_split 1 (omega arith, omega arith)) (split_row to_split refl (omega arith) refl)
-              (queued refl (one_joins (posts_at 0) [] (none_waits (posts_at 0)) (omega arith))) (record { allowed = extract_fits; log = refl }),
+          works to_split is_split.pages 1 splits (posts_at 0 ∷ []) tt (has_room to_split 1 (omega arith, omega arith) refl) (split_row to_split refl (omega arith) refl)
+              (queued refl (one_joins (posts_at 0) [] (none_waits (posts_at 0)) (omega arith))) (record { allowed = extract_fits; log = refl }) (refl, refl, refl) refl,
           (
             machine_of is_split,
             blocked is_split 2 1 Exclusive _ refl (omega arith) refl refl refl,
             (
               machine_of is_put,
-              works is_split 1 puts (posts_at 0 ∷ []) tt (has_room is_split 1 (omega arith, omega arith)) (put_row is_split refl refl) (queued refl refl) (record { allowed = put_fits; log = refl }),
+              works is_split is_put.pages 1 puts (posts_at 0 ∷ []) tt (has_room is_split 1 (omega arith, omega arith) refl) (put_row is_split refl refl) (queued refl refl) (record { allowed = put_fits; log = refl }) (refl, refl, refl) refl,
               (
                 machine_of on_its_way,
-                works is_put 2 passes (posts_at 0 ∷ posts_at 20 ∷ []) refl (only_looks is_put 2 refl) pass_row
-                    (queued refl (one_joins (posts_at 20) (posts_at 0 ∷ []) other_waits (omega arith))) tt,
+                works is_put on_its_way.pages 2 passes (posts_at 0 ∷ posts_at 20 ∷ []) refl (only_looks is_put 2 refl refl) pass_row
+                    (queued refl (one_joins (posts_at 20) (posts_at 0 ∷ []) other_waits (omega arith))) tt (refl, refl, refl) refl,
                 (
                   machine_of is_found,
-                  works on_its_way 2 finds (posts_at 0 ∷ posts_at 20 ∷ []) refl (only_looks on_its_way 2 refl) find_row (queued refl refl) tt,
+                  works on_its_way is_found.pages 2 finds (posts_at 0 ∷ posts_at 20 ∷ []) refl (only_looks on_its_way 2 refl refl) find_row (queued refl refl) tt (refl, refl, refl) refl,
                   (
                     machine_of once_forced,
                     inr (omega arith, forces is_found Moved),
@@ -122,10 +140,10 @@ two_on_one_page = (
                       inr (omega arith, forces once_forced Moved),
                       (
                         machine_of one_answered,
-                        inl (omega arith, performed twice_forced 1 (answers_now 1 replies.Done) (posts_at 0 ∷ posts_at 20 ∷ []) (queued refl refl) tt),
+                        inl (omega arith, performed twice_forced 1 (answers_now 1 replies.Done) (posts_at 0 ∷ posts_at 20 ∷ []) (queued refl refl) tt (refl, refl, refl)),
                         (
                           machine_of both_answered,
-                          inl (omega arith, performed one_answered 2 (answers_now 2 (replies.Found (98 ∷ []))) (posts_at 0 ∷ posts_at 20 ∷ []) (queued refl refl) tt),
+                          inl (omega arith, performed one_answered 2 (answers_now 2 (replies.Found (98 ∷ []))) (posts_at 0 ∷ posts_at 20 ∷ []) (queued refl refl) tt (refl, refl, refl)),
                           (machine_of both_answered, (refl, refl), refl),
                         ),
                       ),

@@ -42,18 +42,18 @@ found (e ∷ es) q = λ i. cond (unsigned_tied q e.0 i) (Some e.1) (found es q i
 pub map_has : {X : Type 0} (es : List (ℕ × X)) (q : ℕ) → map.get (map.from_entries {R = nat_cmp} es) q ≡ entry_at q es
 map_has es q = map.get-from_entries nat_cmp_total es q ∙ found es q
 
-shadowed : {A : Type 0} (b : Bool) (x y z : A) → cond b x z ≡ cond b x (cond b y z)
+pub shadowed : {A : Type 0} (b : Bool) (x y z : A) → cond b x z ≡ cond b x (cond b y z)
 shadowed true x y z = refl
 shadowed false x y z = refl
 
-swapped : {A : Type 0} (a b : Bool) (x y z : A) → (a ≡ true → b ≡ true → ⊥) → cond a x (cond b y z) ≡ cond b y (cond a x z)
+pub swapped : {A : Type 0} (a b : Bool) (x y z : A) → (a ≡ true → b ≡ true → ⊥) → cond a x (cond b y z) ≡ cond b y (cond a x z)
 swapped true true x y z apart = absurd (apart refl refl)
 swapped true false x y z apart = refl
 swapped false true x y z apart = refl
 swapped false false x y z apart = refl
 
 -- two numbers that differ aren't both this one
-not_both : (q a b : ℕ) → (a == b) ≡ false → (q == a) ≡ true → (q == b) ≡ true → ⊥
+pub not_both : (q a b : ℕ) → (a == b) ≡ false → (q == a) ≡ true → (q == b) ≡ true → ⊥
 not_both q a b off one two = eqb-false a b off (sym (eqb-true q a one) ∙ eqb-true q b two)
 
 module _ {X Y : Type 0} (f : X → Y) (none : Y) where
@@ -169,7 +169,7 @@ among_numbers : (q : ℕ) (ns old : List ℕ) → is_among q (add_numbers ns old
 among_numbers q [] old = refl
 among_numbers q (n ∷ ns) old = among_added q n (add_numbers ns old) ∙ ap (λ (b : Bool). (q == n) || b) (among_numbers q ns old) ∙ or_assoc (q == n) (is_among q ns) (is_among q old)
 
-among_pages : (q : ℕ) (changed : List (ℕ × Page)) (old : List ℕ) → is_among q (add_pages changed old) ≡ (has_page q changed || is_among q old)
+pub among_pages : (q : ℕ) (changed : List (ℕ × Page)) (old : List ℕ) → is_among q (add_pages changed old) ≡ (has_page q changed || is_among q old)
 among_pages q [] old = refl
 among_pages q (one ∷ rest) old = among_added q one.0 (add_pages rest old) ∙ ap (λ (b : Bool). (q == one.0) || b) (among_pages q rest old) ∙ or_assoc (q == one.0) (has_page q rest) (is_among q old)
 
@@ -219,7 +219,7 @@ none_left actor page (e ∷ es) = elim (cases_Bool (actor == e.0.0)) [
       ∙ none_left actor page es
 ]
 
-turned : (a b : ℕ) → (a == b) ≡ (b == a)
+pub turned : (a b : ℕ) → (a == b) ≡ (b == a)
 turned a b = elim (cases_Bool (a == b)) [
   | inl same ↦ same ∙ sym (eq-eqb b a (sym (eqb-true a b same)))
   | inr off ↦ off ∙ sym (ne_eqb b a (λ e. eqb-false a b off (sym e)))
@@ -263,11 +263,11 @@ abbrev pub is_clear : (ℕ → Bool) → ℕ → Mode → LatchList → Bool
 is_clear asked page mode [] = true
 is_clear asked page mode (one ∷ rest) = (not (asked one.0.0) || (not (page == one.0.1) || goes_beside mode one.1)) && is_clear asked page mode rest
 
-and_first : (a b : Bool) → IsTrue (a && b) → IsTrue a
+pub and_first : (a b : Bool) → IsTrue (a && b) → IsTrue a
 and_first true b e = refl
 and_first false b e = e
 
-and_second : (a b : Bool) → IsTrue (a && b) → IsTrue b
+pub and_second : (a b : Bool) → IsTrue (a && b) → IsTrue b
 and_second true b e = e
 and_second false b e = absurd (let no : ⊥ = cc in no)
 

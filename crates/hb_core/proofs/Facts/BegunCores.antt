@@ -1,6 +1,7 @@
 -- A core that has taken no step shows a machine that has taken none.
 use Rattle.hb_core.proofs.Running.Begun.{begun_shows}
-use Rattle.std.proofs.Common.{◌≡◌, ℕ, List, [], All, Option, Some, None, IfSome, IsSome, refl, subst}
+use Rattle.std.proofs.Common.{◌≡◌, ℕ, ◌≤◌, List, [], All, Option, Some, None, IfSome, IsSome, is_some, refl, ap, subst, arith}
+use Rattle.std.proofs.lemmas.List.Elements.{All-nil}
 use Rattle.std.specs.FinMap as map
 use Rattle.hb_activity.specs.Classes.{idle_of}
 use Rattle.hb_core.proofs.Machines.Beginnings.{beginning_keeps, beginning_keeps_all}
@@ -17,6 +18,8 @@ use Rattle.hb_frag.specs.declared.pages.Page.{Page}
 use Rattle.hb_latch.specs.Tables.{latch_cmp}
 use Rattle.hb_lemmas.proofs.Options.{has_value, not_none}
 use Rattle.hb_ops.specs.Files.{FileState}
+use Rattle.hb_pool.specs.Frames.{Use}
+use Rattle.hb_pool.specs.Pools.{IsPool}
 use Rattle.hb_ops.specs.Sound.{IsSound}
 use Rattle.hb_set.specs.Order.{AreRising}
 use Rattle.hb_set.specs.declared.scripts.Line.{Line}
@@ -35,6 +38,7 @@ begun_machine lines store files clock = record {
   order = [];
   stop = None;
   store = store;
+  uses = [];
   files = files;
   clock = clock;
 }
@@ -56,6 +60,10 @@ pub record KeepsSound (d : DiskModel) (store : StoreState) (s : FileState) : Typ
   pub kept : StoreKeeps d store s []
   pub sound : IsSound s
 
+-- no frame is used
+pool_of_none : IsPool {B = Unit {0}} []
+pool_of_none = record { few = omega arith; distinct = λ id. omega arith; pins = All-nil (λ (u : Use). u.pins ≤ 255) }
+
 module _ (lines : List Line) (store : StoreState) (may : MayBegin lines store) (files : Option Files) (clock : ℕ) where
   abbrev m : Machine
   m = begun_machine lines store files clock
@@ -74,13 +82,15 @@ module _ (lines : List Line) (store : StoreState) (may : MayBegin lines store) (
     no_job = refl;
     no_order = refl;
     runs = refl;
-    store = record { stands = may.stands; log = may.new.log_is; none_in_log = may.new.none_in_log; runs = may.new.running; pages = λ id page is. absurd (no_page id page is) };
+    store = record { stands = may.stands; log = may.new.log_is; none_in_log = may.new.none_in_log; none_dirty = may.new.none_dirty; runs = may.new.running; pages = λ id page is. absurd (no_page id page is) };
+    tied = record { pool = pool_of_none; there = λ id. ap is_some (may.new.no_page id); marks = may.new.none_dirty };
+    unpinned = λ id. refl;
   }
 
-  pub shows_begun : (d : DiskModel) (steps : List ℕ) → (IsSome d.told → ShowsFiles d (begun_machine lines store files clock)) → (d.told ≡ None → files ≡ None) → ShowsMachine d (begun_core lines steps store) (begun_machine lines store files clock)
-  shows_begun d steps tells silent = begun_shows d m lines steps store is_begun refl refl tells silent
+  pub shows_begun : (d : DiskModel) (steps : List ℕ) → (IsSome d.told → ShowsFiles d (begun_machine lines store files clock)) → (d.told ≡ None → files ≡ None) → ShowsMachine d (begun_core lines steps store []) (begun_machine lines store files clock)
+  shows_begun d steps tells silent = begun_shows d m lines steps store [] is_begun refl refl refl tells silent
 
-  pub may_step_begun : (d : DiskModel) (steps : List ℕ) → ShowsMachine d (begun_core lines steps store) (begun_machine lines store files clock) → IfSome files (HasSoundFile (begun_machine lines store files clock)) → MayStep d (begun_core lines steps store) (begun_machine lines store files clock)
+  pub may_step_begun : (d : DiskModel) (steps : List ℕ) → ShowsMachine d (begun_core lines steps store []) (begun_machine lines store files clock) → IfSome files (HasSoundFile (begun_machine lines store files clock)) → MayStep d (begun_core lines steps store []) (begun_machine lines store files clock)
   may_step_begun d steps shows sound = record {
     shows = shows;
     goes_on = record { kept = beginning_keeps m is_begun; sound = sound };
@@ -89,7 +99,7 @@ module _ (lines : List Line) (store : StoreState) (may : MayBegin lines store) (
 -- A machine from which a core goes on that has taken no step; over a disk that tells, with a sound file that the store keeps.
 pub record BeginsWith (d : DiskModel) (lines : List Line) (steps : List ℕ) (store : StoreState) : Type 0 where
   pub m : Machine
-  pub may : MayStep d (begun_core lines steps store) m
+  pub may : MayStep d (begun_core lines steps store []) m
   pub begun : IsBegun m
   pub told : IsSome d.told → (s : FileState) × StoreKeeps d store s [] × IsBegunOver m s
 

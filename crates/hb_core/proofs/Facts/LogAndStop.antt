@@ -1,7 +1,7 @@
 -- What a step tells of the log and of a stop: the log's area stays where it is, and as long; and a step that stops a machine says so.
 use Rattle.std.proofs.Common.{◌≡◌, ◌⊎◌, inl, inr, ℕ, List, [], ◌∷◌, Option, Some, None, refl, ap, ◌∙◌}
 use Rattle.hb_activity.specs.Deeds.{Deed}
-use Rattle.hb_core.proofs.Table.StepKinds.{FlushesMore, each_kind, rest_kind}
+use Rattle.hb_core.proofs.Table.StepKinds.{FlushesMore, each_kind, ready_kind}
 use Rattle.hb_core.specs.Acting.{MeetsBadPage}
 use Rattle.hb_core.specs.Forcing.{FailsToWrite, ForcesFirst, StaysSo}
 use Rattle.hb_core.specs.Machines.{Machine}
@@ -9,7 +9,13 @@ use Rattle.hb_core.specs.Performing.{MayDo, Performs}
 use Rattle.hb_core.specs.Steps.{StepsInSequence, StepsTo, Works}
 use Rattle.hb_core.specs.declared.outcomes.Outcome.{Outcome}
 use Rattle.hb_core.specs.declared.outcomes.Outcome.TheVariants as outcomes
+use Rattle.hb_frag.specs.declared.pages.LivePage.{LivePage}
+use Rattle.hb_layout.specs.Offsets.{file_size}
+use Rattle.hb_layout.specs.declared.meta.Meta.{Meta}
+use Rattle.hb_ops.specs.Operations.{IsAllowedOn, change_of}
 use Rattle.hb_ops.specs.declared.operations.Op.{Op}
+use Rattle.hb_ops.specs.declared.operations.Op.TheVariants.{Del, Extract, Grow, Merge, Post, Put}
+use Rattle.hb_store.specs.Calls.{read_here}
 use Rattle.hb_store.specs.States.{StoreState}
 use Rattle.hb_store.specs.declared.stops.StopWhy.{StopWhy}
 use Rattle.hb_wal.specs.Log.{LogState}
@@ -25,6 +31,8 @@ SaysStop m outcome new = (new.stop ≡ m.stop) ⊎ ((why : StopWhy) × (new.stop
 
 pub record StepTells (m : Machine) (outcome : Outcome) (new : Machine) : Type 0 where
   pub log : KeepsLogPlace m.store.log new.store.log
+  -- the file is as long as it was
+  pub size : file_size new.store.meta ≡ file_size m.store.meta
   pub stop : SaysStop m outcome new
 
 same_place : (old new : LogState) → new ≡ old → KeepsLogPlace old new
@@ -37,41 +45,69 @@ place_by_op (Some op) mark old fetched new log does = record {
   len = does.commits.len ∙ ap (λ (l : LogState). l.len) log;
 }
 
+size_of_change : (op : Op) (meta : Meta) (first second third : Option LivePage) → IsAllowedOn op meta first second third → file_size (change_of op meta first second third).meta ≡ file_size meta
+size_of_change (Put id rec) meta None second third allowed = absurd allowed
+size_of_change (Put id rec) meta (Some page) second third allowed = refl
+size_of_change (Del id point) meta None second third allowed = absurd allowed
+size_of_change (Del id point) meta (Some page) second third allowed = refl
+size_of_change (Extract source fresh path cuts free_after) meta None second third allowed = absurd allowed
+size_of_change (Extract source fresh path cuts free_after) meta (Some page) second third allowed = refl
+size_of_change (Post parent at inner area) meta None second third allowed = absurd allowed
+size_of_change (Post parent at inner area) meta (Some page) second third allowed = refl
+size_of_change (Merge parent keep gone) meta None second third allowed = absurd allowed
+size_of_change (Merge parent keep gone) meta (Some above) None third allowed = absurd allowed
+size_of_change (Merge parent keep gone) meta (Some above) (Some kept) None allowed = absurd allowed
+size_of_change (Merge parent keep gone) meta (Some above) (Some kept) (Some going) allowed = refl
+size_of_change (Grow fresh free_after) meta first second third allowed = refl
+
+size_by_op : (op : Option Op) (mark : ℕ) (old fetched new : StoreState) → fetched.meta ≡ old.meta → MayDo op mark fetched new → file_size new.meta ≡ file_size old.meta
+size_by_op None mark old fetched new meta does = ap (λ (st : StoreState). file_size st.meta) does ∙ ap file_size meta
+size_by_op (Some op) mark old fetched new meta does =
+    ap file_size does.commits.meta ∙ size_of_change op fetched.meta (read_here fetched op 0) (read_here fetched op 1) (read_here fetched op 2) does.allowed ∙ ap file_size meta
+
 module _ (m : Machine) (actor : ℕ) (outcome : Outcome) (new : Machine) where
   stays : (said : Outcome) → StaysSo m said outcome new → StepTells m outcome new
-  stays said so = record { log = same_place m.store.log new.store.log (ap (λ (x : Machine). x.store.log) so.1); stop = inl (ap (λ (x : Machine). x.stop) so.1) }
+  stays said so = record { log = same_place m.store.log new.store.log (ap (λ (x : Machine). x.store.log) so.1); size = ap (λ (x : Machine). file_size x.store.meta) so.1; stop = inl (ap (λ (x : Machine). x.stop) so.1) }
 
   fails : {most : ℕ} → FailsToWrite m most outcome new → StepTells m outcome new
   fails failed = record {
     log = same_place m.store.log new.store.log (ap (λ (x : Machine). x.store.log) failed.stops);
+    size = ap (λ (x : Machine). file_size x.store.meta) failed.stops;
     stop = inr (_, ap (λ (x : Machine). x.stop) failed.stops, failed.says);
   }
 
   forces : (said : Outcome) → ForcesFirst m said outcome new → StepTells m outcome new
   forces said (inl (says, is)) = record {
     log = record { area = ap (λ (x : Machine). x.store.log.area) is; len = ap (λ (x : Machine). x.store.log.len) is };
+    size = ap (λ (x : Machine). file_size x.store.meta) is;
     stop = inl (ap (λ (x : Machine). x.stop) is);
   }
   forces said (inr badly) = fails badly.1
 
   more : FlushesMore m outcome new → StepTells m outcome new
-  more (none, left, rest) = absurd left
+  more (none, left, inl (due, plain, well)) = record {
+    log = record { area = ap (λ (x : Machine). x.store.log.area) well.leaves; len = ap (λ (x : Machine). x.store.log.len) well.leaves };
+    size = ap (λ (x : Machine). file_size x.store.meta) well.leaves;
+    stop = inl (ap (λ (x : Machine). x.stop) well.leaves);
+  }
+  more (none, left, inr failed) = fails failed
 
-  performed : (fetched : StoreState) (deed : Deed) → fetched.log ≡ m.store.log → Performs m fetched actor deed outcome new → StepTells m outcome new
-  performed fetched deed log performs = record { log = place_by_op deed.op _ m.store fetched new.store log performs.store; stop = inl performs.stop }
+  performed : (fetched : StoreState) (deed : Deed) → fetched.log ≡ m.store.log → fetched.meta ≡ m.store.meta → Performs m fetched actor deed outcome new → StepTells m outcome new
+  performed fetched deed log meta performs = record { log = place_by_op deed.op _ m.store fetched new.store log performs.store; size = size_by_op deed.op _ m.store fetched new.store meta performs.store; stop = inl performs.stop }
 
   meets : MeetsBadPage m actor outcome new → StepTells m outcome new
   meets bad = record {
     log = same_place m.store.log new.store.log (ap (λ (x : Machine). x.store.log) bad.stops ∙ bad.brings.rest.log);
+    size = ap (λ (x : Machine). file_size x.store.meta) bad.stops ∙ ap file_size bad.brings.rest.meta;
     stop = inr (_, ap (λ (x : Machine). x.stop) bad.stops, bad.says);
   }
 
   worked : Works m actor outcome new → StepTells m outcome new
   worked (inl (by, way, so)) = stays (outcomes.Blocked by) so
   worked (inr (inl (free, unready, inl (waits, force)))) = forces outcomes.Helped force
-  worked (inr (inl (free, unready, inr (none, rest)))) = rest_kind m outcomes.Helped outcome new _ (StepTells m outcome new) none tt more (performed m.store _ refl) rest
-  worked (inr (inr (free, ready, inl acts))) = performed acts.fetched acts.deed acts.brings.rest.log acts.performs
-  worked (inr (inr (free, ready, inr (inl gives)))) = performed gives.fetched _ gives.brings.rest.log gives.performs
+  worked (inr (inl (free, unready, inr (none, rest)))) = ready_kind m actor outcome new (StepTells m outcome new) none more (performed m.store _ refl refl) rest
+  worked (inr (inr (free, ready, inl acts))) = performed acts.fetched acts.deed acts.brings.rest.log acts.brings.rest.meta acts.performs
+  worked (inr (inr (free, ready, inr (inl gives)))) = performed gives.fetched _ gives.brings.rest.log gives.brings.rest.meta gives.performs
   worked (inr (inr (free, ready, inr (inr bad)))) = meets bad
 
 pub step_tells : (m : Machine) (actor : ℕ) (outcome : Outcome) (new : Machine) → StepsTo m actor outcome new → StepTells m outcome new
@@ -80,13 +116,18 @@ step_tells m actor outcome new step =
     (λ said quiet so. stays m actor outcome new said so)
     (λ said quiet force. forces m actor outcome new said force)
     (more m actor outcome new)
-    (λ deed outright performs. performed m actor outcome new m.store deed refl performs)
+    (λ deed outright performs. performed m actor outcome new m.store deed refl refl performs)
     (worked m actor outcome new)
     step
 
-pub log_stays : (actors : List ℕ) (m new : Machine) → StepsInSequence actors m new → KeepsLogPlace m.store.log new.store.log
-log_stays [] m new is = same_place m.store.log new.store.log (ap (λ (x : Machine). x.store.log) is)
-log_stays (actor ∷ rest) m new (outcome, next, step, steps) =
-    let first = (step_tells m actor outcome next step).log in
-    let further = log_stays rest next new steps in
-    record { area = further.area ∙ first.area; len = further.len ∙ first.len }
+-- so over many steps
+pub record FileStands (m new : Machine) : Type 0 where
+  pub log : KeepsLogPlace m.store.log new.store.log
+  pub size : file_size new.store.meta ≡ file_size m.store.meta
+
+pub file_stands : (actors : List ℕ) (m new : Machine) → StepsInSequence actors m new → FileStands m new
+file_stands [] m new is = record { log = same_place m.store.log new.store.log (ap (λ (x : Machine). x.store.log) is); size = ap (λ (x : Machine). file_size x.store.meta) is }
+file_stands (actor ∷ rest) m new (outcome, next, step, steps) =
+    let first = step_tells m actor outcome next step in
+    let further = file_stands rest next new steps in
+    record { log = record { area = further.log.area ∙ first.log.area; len = further.log.len ∙ first.log.len }; size = further.size ∙ first.size }

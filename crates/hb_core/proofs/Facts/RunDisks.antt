@@ -1,35 +1,98 @@
--- What a step leaves of the disk: only the log's area may read otherwise, and at each of its moments a crash leaves the durable file
+-- What a step leaves of the disk: only the file may read otherwise, and at each of its moments a crash leaves the durable file
 -- or the next one.
-use Rattle.std.proofs.Common.{◌≡◌, inl, inr, ℕ, List, Option, Some, None, IsSome, refl, sym, ◌∙◌, subst}
+use Rattle.std.proofs.Common.{◌≡◌, inl, inr, ℕ, ◌+◌, ◌≤◌, true, List, [], ◌∷◌, map, Option, Some, None, IsSome, refl, sym, ap, ◌∙◌, subst, arith}
+use Rattle.std.specs.Option.{is_some}
+use Rattle.hb_core.proofs.Facts.LogAndStop.{FileStands}
+use Rattle.hb_core.proofs.Machines.FlushedFrames.{dirty_frame}
+use Rattle.hb_core.specs.KeptMachine.{MachineKeeps}
 use Rattle.hb_core.specs.Machines.{Files, Machine}
+use Rattle.hb_core.specs.Runs.{ChangesFile}
 use Rattle.hb_core.specs.Showing.{RunningCore, ShowsMachine}
 use Rattle.hb_core.specs.Touching.{Touches}
 use Rattle.hb_core.specs.declared.outcomes.Outcome.{Outcome}
-use Rattle.hb_disk.proofs.Facts.BecomesLaws.{Becomes-read, Becomes-torn}
+use Rattle.hb_disk.proofs.Facts.BecomesLaws.{Becomes-read, Becomes-then, Becomes-weaker}
 use Rattle.hb_disk.proofs.Facts.RunLaws.{Leaves-read, Leaves-start}
-use Rattle.hb_disk.proofs.Facts.TornLaws.{Torn-itself}
-use Rattle.hb_disk.specs.Calls.{Becomes, Leaves}
+use Rattle.hb_disk.proofs.Facts.TornLaws.{Torn-itself, Torn-twice, Torn-wider}
+use Rattle.hb_disk.specs.Calls.{Becomes, Leaves, Then}
 use Rattle.hb_disk.specs.Model.{DiskModel, IsDisk, Torn}
 use Rattle.hb_lemmas.proofs.Options.{has_value, not_none, some_value}
+use Rattle.hb_layout.specs.Offsets.{file_size, page_offset}
+use Rattle.hb_layout.specs.declared.meta.Meta.{Meta}
+use Rattle.hb_log_codec.specs.Groups.{Logged, group_bytes}
 use Rattle.hb_ops.specs.Files.{FileState}
+use Rattle.hb_pool.specs.Frames.{Use}
+use Rattle.hb_space.specs.declared.form.TheConstants.{PAGE}
+use Rattle.hb_store.specs.Held.{oldest_dirty}
+use Rattle.hb_store.specs.Parts.{Leads, written_pages}
+use Rattle.hb_store.specs.Replay.{Replayed}
+use Rattle.hb_store.specs.States.{StoreState, in_memory}
+use Rattle.hb_wal.specs.Log.{Waiting}
 use Rattle.hb_store.proofs.Facts.StoreLaws.{StoreKeeps-opens}
 use Rattle.hb_store.specs.Keeps.{OpensToFirst, StoreKeeps}
 use Rattle.std.proofs.lemmas.Option.{same_Some}
 
--- only bytes of the log's area are other ones
-pub log_touched : (e f : DiskModel) (old new : RunningCore) (outcome : Outcome) (area len : ℕ) → IsDisk e → old.store.log.area ≡ area → old.store.log.len ≡ len → Touches e old outcome f new → Becomes (Torn area len) e f
-log_touched e f old new outcome area len disk at long (inl reads) = Becomes-read (Torn area len) e f disk (Torn-itself area len) reads.only.stays
-log_touched e f old new outcome area len disk at long (inr force) =
-    subst (λ (n : ℕ). Becomes (Torn area n) e f) long (subst (λ (a : ℕ). Becomes (Torn a old.store.log.len) e f) at force.writes.wrote.became)
+-- ---- only bytes of the file are other ones
 
-pub log_more : (d e f : DiskModel) (area len : ℕ) → Becomes (Torn area len) d e → Becomes (Torn area len) e f → Becomes (Torn area len) d f
-log_more d e f area len first next = Becomes-torn area len d e f first next
+-- the page that is written is one of the file
+written_there : (m : Machine) (id : ℕ) → MachineKeeps m → oldest_dirty m.uses ≡ Some id → (1 ≤ id) × (id ≤ m.store.meta.pages)
+written_there m id keeps oldest =
+    let u = dirty_frame m.store m.uses keeps.frames_fit.tied id oldest in
+    let framed : is_some (in_memory m.store id) ≡ true = keeps.frames_fit.tied.there id ∙ ap (λ (o : Option Use). is_some o) u.1 in
+    let page = some_value (in_memory m.store id) framed in
+    let at = keeps.pages_of_file id page.0 page.1 in
+    let low = at.0 in
+    let high = at.1 in
+    let most = keeps.meta_within_limits.high in
+    (low, omega (arith, high, most))
+
+page_inside : (meta : Meta) (id : ℕ) → 1 ≤ id → id ≤ meta.pages → page_offset meta id + PAGE ≤ 0 + file_size meta
+page_inside meta id some most = omega (arith, some, most)
+
+pub file_touched : (e f : DiskModel) (old new : RunningCore) (outcome : Outcome) (m : Machine) → IsDisk e → MachineKeeps m → m.store ≡ old.store → m.uses ≡ old.uses → Touches e old outcome f new → Becomes (ChangesFile m.store) e f
+file_touched e f old new outcome m disk keeps store used (inl reads) = Becomes-read (ChangesFile m.store) e f disk (λ b bytes within. Torn-itself 0 (file_size m.store.meta) b bytes) reads.only.stays
+file_touched e f old new outcome m disk keeps store used (inr (inl force)) =
+    Becomes-weaker (Torn m.store.log.area m.store.log.len) (ChangesFile m.store) e f
+    (λ b c torn within. Torn-wider m.store.log.area m.store.log.len 0 (file_size m.store.meta) b c (omega arith) (omega (arith, within)) torn)
+    (subst (λ (st : StoreState). Becomes (Torn st.log.area st.log.len) e f) (sym store) force.writes.wrote.became)
+file_touched e f old new outcome m disk keeps store used (inr (inr home)) =
+    let there = written_there m home.page keeps (ap oldest_dirty used ∙ home.oldest) in
+    Becomes-weaker (Torn (page_offset m.store.meta home.page) PAGE) (ChangesFile m.store) e f
+    (λ b c torn within. Torn-wider (page_offset m.store.meta home.page) PAGE 0 (file_size m.store.meta) b c (omega arith) (page_inside m.store.meta home.page there.0 there.1) torn)
+    (subst (λ (st : StoreState). Becomes (Torn (page_offset st.meta home.page) PAGE) e f) (sym store) home.writes.wrote.became)
+
+-- and after more steps, of a machine whose file stands where it did
+within_too : (area len size area_then len_then size_then : ℕ) → area_then ≡ area → len_then ≡ len → size_then ≡ size → area + len ≤ size → area_then + len_then ≤ size_then
+within_too area len size area_then len_then size_then at long is within = omega (arith, at, long, is, within)
+
+pub file_more : (d e f : DiskModel) (m mid : Machine) → FileStands m mid → Becomes (ChangesFile m.store) d e → Becomes (ChangesFile mid.store) e f → Becomes (ChangesFile m.store) d f
+file_more d e f m mid stands first next =
+    Becomes-weaker (Then (ChangesFile m.store) (ChangesFile mid.store)) (ChangesFile m.store) d f
+    (λ b c both within.
+    let later = within_too m.store.log.area m.store.log.len (file_size m.store.meta) mid.store.log.area mid.store.log.len (file_size mid.store.meta) stands.log.area stands.log.len stands.size within in
+    Torn-twice 0 (file_size m.store.meta) b both.0 c (both.1 within) (subst (λ (n : ℕ). Torn 0 n both.0 c) stands.size (both.2 later)))
+    (Becomes-then (ChangesFile m.store) (ChangesFile mid.store) d e f first next)
+
+-- ---- where no group waits no file is to come
+
+leads_nowhere : (t : Replayed) (s : FileState) (waiting : List Logged) (later : List FileState) → waiting ≡ [] → Leads t s waiting later → later ≡ []
+leads_nowhere t s [] later none leads = leads
+leads_nowhere t s (g ∷ rest) later none leads = absurd cc
+
+none_spelled : (groups : List Waiting) (waiting : List Logged) → groups ≡ [] → map (λ (w : Waiting). w.bytes) groups ≡ map group_bytes waiting → waiting ≡ []
+none_spelled groups [] none is = refl
+none_spelled groups (g ∷ rest) none is = let never : [] ≡ group_bytes g ∷ map group_bytes rest = ap (λ (l : List Waiting). map (λ (w : Waiting). w.bytes) l) (sym none) ∙ is in absurd cc
+
+none_later : (d : DiskModel) (st : StoreState) (durable : FileState) (later : List FileState) → st.log.groups ≡ [] → StoreKeeps d st durable later → later ≡ []
+none_later d st durable later none keeps = leads_nowhere (written_pages keeps.parts) durable keeps.parts.waiting later (none_spelled st.log.groups keeps.parts.waiting none keeps.waits.spelled) keeps.waits.leads
 
 -- what crashes leave while the step is taken
 pub moments_touched : (e f : DiskModel) (old new : RunningCore) (outcome : Outcome) (durable : FileState) (later : List FileState) → IsDisk e → StoreKeeps e old.store durable later → Touches e old outcome f new → Leaves e f (OpensToFirst durable later)
 moments_touched e f old new outcome durable later disk keeps (inl reads) =
     Leaves-read e e f (OpensToFirst durable later) (Leaves-start e (OpensToFirst durable later) disk (StoreKeeps-opens e old.store durable later keeps)) reads.only.stays
-moments_touched e f old new outcome durable later disk keeps (inr force) = force.writes.moments durable later keeps
+moments_touched e f old new outcome durable later disk keeps (inr (inl force)) = force.writes.moments durable later keeps
+moments_touched e f old new outcome durable later disk keeps (inr (inr home)) =
+    let none = none_later e old.store durable later home.no_group keeps in
+    subst (λ (l : List FileState). Leaves e f (OpensToFirst durable l)) (sym none) (home.writes.moments durable (subst (λ (l : List FileState). StoreKeeps e old.store durable l) none keeps))
 
 -- ---- whether a disk tells
 

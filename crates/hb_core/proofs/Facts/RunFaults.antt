@@ -1,5 +1,5 @@
 -- The counts of faults over a run, one step more.
-use Rattle.std.proofs.Common.{◌≡◌, ◌⊎◌, inl, inr, ℕ, zero, suc, ◌≤◌, List, [], ◌∷◌, ◌++◌, map, Some, sym, ap, ◌∙◌, subst, arith}
+use Rattle.std.proofs.Common.{◌≡◌, ◌⊎◌, ◌↔◌, inl, inr, ℕ, zero, suc, ◌≤◌, List, [], ◌∷◌, ◌++◌, map, Some, Result, IsErr, sym, ap, ◌∙◌, subst, arith}
 use Rattle.std.proofs.Math.Nat.{eq-or-lt_of_le}
 use Rattle.std.proofs.lemmas.Option.{same_Some}
 use Rattle.hb_core.proofs.Facts.LogAndStop.{SaysStop}
@@ -7,9 +7,10 @@ use Rattle.hb_core.specs.Machines.{Machine}
 use Rattle.hb_core.specs.Performing.{given_by}
 use Rattle.hb_core.specs.Runs.{CountsFaults, HasReadFault, without_clock}
 use Rattle.hb_core.specs.Showing.{RunningCore}
-use Rattle.hb_core.specs.Touching.{EndsByRead, Forces, ReadsAtMost, Touches}
+use Rattle.hb_core.specs.Touching.{EndsByRead, ReadsAtMost, Touches}
 use Rattle.hb_core.specs.declared.outcomes.Outcome.{Outcome}
 use Rattle.hb_core.specs.declared.outcomes.Outcome.TheVariants as outcomes
+use Rattle.hb_disk.specs.Calls.{WriteFaults}
 use Rattle.hb_disk.specs.Model.{DiskModel}
 use Rattle.hb_outside.proofs.Facts.CountLaws.{Rose-later}
 use Rattle.hb_outside.specs.Streams.{Rose}
@@ -89,22 +90,24 @@ module _ (d e f : DiskModel) (old new : RunningCore) (m mid next : Machine) (out
       write begun (inl stop) = rose stop begun
       write begun (inr said) = rose (shown ∙ reads.no_write said) begun
 
-  after_force : Forces e old outcome f new → CountsFaults d f (answers ++ given) m.stop next.stop
-  after_force force =
+  -- it wrote, to the log or to a page's place
+  after_write : {T E : Type 0} (result : Result T E) → WriteFaults (IsErr result) e f → (IsErr result ↔ (outcome ≡ outcomes.Stopped stops.WriteFault)) → ¬ (EndsByRead outcome) → CountsFaults d f (answers ++ given) m.stop next.stop
+  after_write result faults says no_read =
       let first = run.reads in
-      let same = force.writes.wrote.faults.reads in
+      let same = faults.reads in
       let low = run.writes in
-      let later = force.writes.wrote.faults.writes.later in
+      let later = faults.writes.later in
       record { reads = omega (arith, first, same); writes = omega (arith, low, later); read = λ has. read (fault_in answers given has); write = λ stop begun. write begun (stopped_when stop) }
     where
       read : HasReadFault answers ⊎ HasReadFault given → Rose d.read_faults f.read_faults
-      read (inl before) = subst (λ (n : ℕ). Rose d.read_faults n) (sym force.writes.wrote.faults.reads) (run.read before)
-      read (inr now) = absurd (force.no_read (ends_by_read outcome clock given alike now))
+      read (inl before) = subst (λ (n : ℕ). Rose d.read_faults n) (sym faults.reads) (run.read before)
+      read (inr now) = absurd (no_read (ends_by_read outcome clock given alike now))
 
       write : (m.stop ≡ Some stops.WriteFault → ⊥) → (mid.stop ≡ Some stops.WriteFault) ⊎ (outcome ≡ outcomes.Stopped stops.WriteFault) → Rose d.write_faults f.write_faults
-      write begun (inl stop) = rose_longer d.write_faults e.write_faults f.write_faults run.writes force.writes.wrote.faults.writes.later (run.write stop begun)
-      write begun (inr said) = Rose-later d.write_faults e.write_faults f.write_faults run.writes (force.writes.wrote.faults.writes.cause (force.says.1 said))
+      write begun (inl stop) = rose_longer d.write_faults e.write_faults f.write_faults run.writes faults.writes.later (run.write stop begun)
+      write begun (inr said) = Rose-later d.write_faults e.write_faults f.write_faults run.writes (faults.writes.cause (says.1 said))
 
   pub faults_more : Touches e old outcome f new → CountsFaults d f (answers ++ given) m.stop next.stop
   faults_more (inl reads) = after_reads reads
-  faults_more (inr force) = after_force force
+  faults_more (inr (inl force)) = after_write force.result force.writes.wrote.faults force.says force.no_read
+  faults_more (inr (inr home)) = after_write home.result home.writes.wrote.faults home.says home.no_read

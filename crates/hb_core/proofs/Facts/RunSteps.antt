@@ -4,10 +4,10 @@ use Rattle.std.proofs.lemmas.List.{append_cancel_left}
 use Rattle.std.proofs.lemmas.List.Elements.{All-append, All-nil, All-weaker}
 use Rattle.hb_core.proofs.Facts.AnswersGiven.{answers_more, given_at, given_now}
 use Rattle.hb_core.proofs.Facts.LinesLeft.{left_after, left_more}
-use Rattle.hb_core.proofs.Facts.LogAndStop.{log_stays, step_tells}
+use Rattle.hb_core.proofs.Facts.LogAndStop.{file_stands, step_tells}
 use Rattle.hb_core.proofs.Facts.PrefixImages.{prefix_less, settled_prefix}
 use Rattle.hb_core.proofs.Facts.RunCrashes.{crashes_more}
-use Rattle.hb_core.proofs.Facts.RunDisks.{log_more, log_touched, moments_touched, shows_them, told_before}
+use Rattle.hb_core.proofs.Facts.RunDisks.{file_more, file_touched, moments_touched, shows_them, told_before}
 use Rattle.hb_core.proofs.Facts.RunFaults.{faults_more}
 use Rattle.hb_core.proofs.Machines.GoingOn.{steps_go_on}
 use Rattle.hb_core.proofs.Memory.Moments.{answers_are_timed}
@@ -18,7 +18,7 @@ use Rattle.hb_core.specs.KeptMachine.{CoreKeeps}
 use Rattle.hb_core.specs.Machines.{Files, Machine, settled_count}
 use Rattle.hb_core.specs.MomentLaws.{ImagesHavePrefixes}
 use Rattle.hb_core.specs.Performing.{given_by}
-use Rattle.hb_core.specs.Runs.{AreAnswers, CountsFaults, CrashesTo, HasReadFault, HasRun, HoldsSince, IsPrefixImage, RunningLaws, left_count}
+use Rattle.hb_core.specs.Runs.{AreAnswers, ChangesFile, CountsFaults, CrashesTo, HasReadFault, HasRun, HoldsSince, IsPrefixImage, RunningLaws, left_count}
 use Rattle.hb_core.specs.Showing.{RunningCore, ShowsMachine}
 use Rattle.hb_core.specs.Steps.{StepsInSequence, StepsTo}
 use Rattle.hb_core.specs.SteppingLaws.{IsBetween}
@@ -31,7 +31,8 @@ use Rattle.hb_disk.proofs.Facts.RewriteLaws.{Becomes-tells}
 use Rattle.hb_disk.proofs.Facts.RunLaws.{Leaves-start}
 use Rattle.hb_disk.proofs.Facts.TornLaws.{Torn-itself}
 use Rattle.hb_disk.specs.Calls.{Becomes}
-use Rattle.hb_disk.specs.Model.{DiskModel, IsDisk, Torn}
+use Rattle.hb_disk.specs.Model.{DiskModel, IsDisk}
+use Rattle.hb_layout.specs.Offsets.{file_size}
 use Rattle.hb_space.specs.Actors.{IsActor}
 use Rattle.hb_lemmas.proofs.Lists.{All-alone}
 use Rattle.hb_lemmas.proofs.Options.{has_value}
@@ -72,7 +73,7 @@ run_begins laws d m c disk may = record {
   answers_are = record { alike = refl; same = λ tells. refl };
   left = begun_left (left_count m);
   faults = no_fault_yet d m;
-  in_log = Becomes-read (Torn m.store.log.area m.store.log.len) d d disk (Torn-itself m.store.log.area m.store.log.len) (Stays-same d);
+  in_file = Becomes-read (ChangesFile m.store) d d disk (λ b bytes within. Torn-itself 0 (file_size m.store.meta) b bytes) (Stays-same d);
   crashes = crashes_begin laws.images d m c disk may.shows;
 }
 
@@ -83,7 +84,7 @@ one_more_step [] m mid next actor outcome is step = (outcome, next, subst (λ (x
 one_more_step (first ∷ rest) m mid next actor outcome (said, one, step, steps) last = (said, one, step, one_more_step rest one mid next actor outcome steps last)
 
 module _ (laws : RunningLaws) (e f : DiskModel) (old new : RunningCore) (actor : ℕ) (outcome : Outcome) (mid next : Machine) (may : IsActor actor) (step : StepsTo mid actor outcome next) (shows : ShowsMachine e old mid) (shows_next : ShowsMachine f new next)
-    (goes_on : MayGoOn mid) (became : Becomes (Torn mid.store.log.area mid.store.log.len) e f) where
+    (goes_on : MayGoOn mid) (became : Becomes (ChangesFile mid.store) e f) where
   -- files are told of exactly where they were, and are sound
   sound_next : IfSome next.files (HasSoundFile next)
   sound_next = by e.told refl
@@ -127,24 +128,21 @@ module _ (laws : RunningLaws) (d : DiskModel) (m : Machine) (actors : List ℕ) 
   all_steps : StepsInSequence (actors ++ actor ∷ []) m next
   all_steps = one_more_step actors m mid next actor outcome run.steps went.step
 
-  -- the core's log lies where that of the first machine does
+  -- the core has the machine's store
   same_store : mid.store ≡ old.store
   same_store = run.shows.store
 
-  became : Becomes (Torn mid.store.log.area mid.store.log.len) e f
-  became = log_touched e f old new outcome mid.store.log.area mid.store.log.len disk (ap (λ (st : StoreState). st.log.area) (sym same_store)) (ap (λ (st : StoreState). st.log.len) (sym same_store)) went.touches
+  became : Becomes (ChangesFile mid.store) e f
+  became = file_touched e f old new outcome mid disk run.goes_on.kept same_store run.shows.uses went.touches
 
-  in_log : Becomes (Torn m.store.log.area m.store.log.len) d f
-  in_log =
-      let place = log_stays actors m mid run.steps in
-      log_more d e f m.store.log.area m.store.log.len run.in_log
-      (subst (λ (n : ℕ). Becomes (Torn m.store.log.area n) e f) place.len (subst (λ (a : ℕ). Becomes (Torn a mid.store.log.len) e f) place.area became))
+  in_file : Becomes (ChangesFile m.store) d f
+  in_file = file_more d e f m mid (file_stands actors m mid run.steps) run.in_file became
 
   tells_first : IsSome f.told → IsSome d.told
-  tells_first tells = told_before (Torn m.store.log.area m.store.log.len) d f in_log tells
+  tells_first tells = told_before (ChangesFile m.store) d f in_file tells
 
   tells_last : IsSome d.told → IsSome f.told
-  tells_last tells = Becomes-tells (Torn m.store.log.area m.store.log.len) d f in_log tells
+  tells_last tells = Becomes-tells (ChangesFile m.store) d f in_file tells
 
   same_clock : IsSome d.told → next.clock ≡ f.clock
   same_clock tells = (went.shows.tells (tells_last tells)).clock
@@ -205,7 +203,7 @@ module _ (laws : RunningLaws) (d : DiskModel) (m : Machine) (actors : List ℕ) 
     answers_are = answers_more d.told f.told answers run.came given outcome f.clock next.clock run.answers_are went.given_is tells_last same_clock;
     left = left_more run.came (given_by outcome next.clock) (left_count next) (left_count mid) (left_count m) run.left (left_after mid actor outcome next run.goes_on.kept.lines_in_sequence went.step);
     faults = faults_more d e f old new m mid next outcome answers given f.clock run.faults (step_tells mid actor outcome next went.step).stop run.shows.stop went.given_is.alike went.touches;
-    in_log = in_log;
+    in_file = in_file;
     crashes = crashes;
   }
 

@@ -1,5 +1,5 @@
 -- The operation that a row says is allowed on the pages in memory.
-use Rattle.std.proofs.Common.{◌≡◌, inl, inr, ℕ, ◌<◌, ◌≤◌, Bool, cond, List, length, Option, Some, IsSome, refl, sym, ap, ◌∙◌, subst, arith, ne_eqb, IfSome}
+use Rattle.std.proofs.Common.{◌≡◌, inl, inr, ℕ, ◌<◌, ◌≤◌, Bool, cond, List, length, Option, Some, IsSome, refl, sym, ap, ◌∙◌, subst, arith, ne_eqb, IfSome, ◌⊎◌, ◌==◌, None}
 use Rattle.std.proofs.lemmas.Bool.{cases_lt}
 use Rattle.std.proofs.lemmas.List.Elements.{All-contains}
 use Rattle.hb_space.specs.declared.records.Record.{Record}
@@ -19,14 +19,14 @@ use Rattle.hb_activity.specs.Deeds.{Deed}
 use Rattle.hb_activity.specs.Passing.{PartLeavesTo}
 use Rattle.hb_activity.specs.Sights.{Sight}
 use Rattle.hb_core.proofs.Files.MergedPair.{merge_allowed}
-use Rattle.hb_core.proofs.Memory.BroughtPages.{both_there}
+use Rattle.hb_core.proofs.Memory.BroughtPages.{both_there, must_hold}
 use Rattle.hb_core.proofs.Memory.KeptPages.{KeepsPages, brought, keeps_pages}
 use Rattle.hb_core.proofs.Memory.NextNumbers.{is_next_number}
 use Rattle.hb_point.proofs.Facts.RecordLeaves.{put_weighs, any_at}
-use Rattle.hb_core.specs.AllowedLaws.{AnyPage, HalfHasRoom, RowsAreAllowed}
+use Rattle.hb_core.specs.AllowedLaws.{AnyPage, HalfHasRoom, NamesItsPages, RowsAreAllowed}
 use Rattle.hb_core.specs.Asking.{wanted_by}
-use Rattle.hb_core.specs.Fetching.{Brings}
-use Rattle.hb_core.specs.Keeps.{KnowsRoom, LacksRoomFor, WalksInSpace}
+use Rattle.hb_core.specs.Fetching.{Brings, MustStay}
+use Rattle.hb_core.specs.Keeps.{KnowsRoom, LacksRoomFor, LatchesFit}
 use Rattle.hb_core.specs.Machines.{Machine, with_disk, sight}
 use Rattle.hb_core.specs.Rows.{Row}
 use Rattle.hb_frag.proofs.Facts.CarvedKinds.{carved_light}
@@ -53,6 +53,10 @@ use Rattle.hb_ops.specs.Owing.{LacksRoom}
 use Rattle.hb_core.proofs.Table.EachRow.{each_op, each_row}
 use Rattle.hb_ops.proofs.Facts.PageNumberLaws.{live_so}
 use Rattle.hb_activity.proofs.Facts.AllowedDeeds.{kind_at}
+use Rattle.hb_space.specs.Actors.{IsActor}
+use Rattle.hb_lemmas.proofs.Booleans.{at_itself}
+use Rattle.hb_core.proofs.Memory.OwnedOps.{second_mode}
+use Rattle.hb_latch.specs.declared.modes.Mode.TheVariants.{Exclusive}
 
 -- ---- each operation
 
@@ -146,25 +150,31 @@ module _ (st : StoreState) (keeps : KeepsPages st) where
 
 -- ---- the rows
 
-module _ (m : Machine) (actor : ℕ) (may : ℕ → Type 0) (fetched : StoreState) (keeps : KeepsPages fetched) (room : KnowsRoom m) (walks : WalksInSpace m) (brings : Brings m may fetched) where
+-- the halves of a split are latched
+pub half_held : (m : Machine) (actor : ℕ) → IsActor actor → LatchesFit m → (line : Line) (source fresh half : ℕ) → m.activity actor ≡ at.SessionPut line source fresh → (half ≡ source) ⊎ (half ≡ fresh) → MustStay m half
+half_held m actor one fit line source fresh half is (inl first) =
+    subst (MustStay m) (sym first) (must_hold m actor source (at.SessionPut line source fresh) Exclusive one fit is (at_itself source (Some Exclusive) (cond (fresh == source) (Some Exclusive) None)))
+half_held m actor one fit line source fresh half is (inr second) = subst (MustStay m) (sym second) (must_hold m actor fresh (at.SessionPut line source fresh) Exclusive one fit is (second_mode source fresh))
+
+module _ (m : Machine) (actor : ℕ) (may : ℕ → Type 0) (fetched : StoreState) (keeps : KeepsPages fetched) (one : IsActor actor) (fit : LatchesFit m) (room : KnowsRoom m) (brings : Brings m may fetched) where
   abbrev pub m' : Machine
   m' = with_disk fetched m.files m.clock m
 
   -- what is to be shown of an operation
   abbrev Shown : Activity → Option Op → Type 0
-  Shown activity op = m.activity actor ≡ activity → IfSome op (λ op. HalfHasRoom m actor op → IsAllowedHere fetched op)
+  Shown activity op = m.activity actor ≡ activity → IfSome op (λ op. NamesItsPages m op → HalfHasRoom m actor op → IsAllowedHere fetched op)
 
-  stays_live : (id : ℕ) (page now : LivePage) → if_live (in_memory m.store id) ≡ Some page → if_live (in_memory fetched id) ≡ Some now → if_live (in_memory fetched id) ≡ Some page
-  stays_live id page now live here = both_there m _ fetched brings id page now live here
+  stays_live : (id : ℕ) (page now : LivePage) → MustStay m id → if_live (in_memory m.store id) ≡ Some page → if_live (in_memory fetched id) ≡ Some now → if_live (in_memory fetched id) ≡ Some page
+  stays_live id page now must live here = both_there m _ fetched brings id page now (inr must) live here
 
   dcap_same : m.store.meta.dcap ≡ fetched.meta.dcap
   dcap_same = sym (ap (λ (m : Meta). m.dcap) brings.rest.meta)
 
   -- a page that lacks room for a record weighs enough to be split
-  pub lacking_weighs : (held : ℕ) (p body : List ℕ) (page : LivePage) → LacksRoomFor m held p body → if_live (in_memory fetched held) ≡ Some page → 6 ≤ weight_of page.frag
-  lacking_weighs held p body page lacks live =
+  pub lacking_weighs : (held : ℕ) (p body : List ℕ) (page : LivePage) → MustStay m held → LacksRoomFor m held p body → if_live (in_memory fetched held) ≡ Some page → 6 ≤ weight_of page.frag
+  lacking_weighs held p body page must lacks live =
       let rec : Record = record { key = p; body = body } in
-      let now = stays_live held lacks.page page lacks.live live in
+      let now = stays_live held lacks.page page must lacks.live live in
       let same : lacks.page ≡ page = same_page lacks.page page (sym now ∙ live) in
       let weighs = put_weighs lacks.page rec lacks.absent.records lacks.absent.area (good_live fetched keeps held lacks.page now).1.well_cut lacks.absent.leaf in
       let full : 6 ≤ weight_of lacks.page.frag = omega (arith, weighs, lacks.full, dcap_same, keeps.limits.layout.dcap_least) in
@@ -173,34 +183,34 @@ module _ (m : Machine) (actor : ℕ) (may : ℕ → Type 0) (fetched : StoreStat
       same_page : (a b : LivePage) → Some a ≡ Some b → a ≡ b
       same_page a b is = cc
 
-  shown_put : (line : Line) (source fresh half : ℕ) (rec : Record) (put_into : LivePage) → if_live (in_memory fetched half) ≡ Some put_into → m.activity actor ≡ at.SessionPut line source fresh → HalfHasRoom m actor (ops.Put half rec) → IsAllowedHere fetched (ops.Put half rec)
-  shown_put line source fresh half rec put_into put_live is has =
+  shown_put : (line : Line) (source fresh half : ℕ) (rec : Record) (put_into : LivePage) → (half ≡ source) ⊎ (half ≡ fresh) → if_live (in_memory fetched half) ≡ Some put_into → m.activity actor ≡ at.SessionPut line source fresh → HalfHasRoom m actor (ops.Put half rec) → IsAllowedHere fetched (ops.Put half rec)
+  shown_put line source fresh half rec put_into either put_live is has =
       let here = has line source fresh half rec is refl in
-      put_allowed fetched keeps half rec here.page (stays_live half here.page put_into here.live put_live) here.absent (subst (λ (n : ℕ). weight_of (put_page rec here.page).frag ≤ n) dcap_same here.room)
+      put_allowed fetched keeps half rec here.page (stays_live half here.page put_into (half_held m actor one fit line source fresh half is either) here.live put_live) here.absent (subst (λ (n : ℕ). weight_of (put_page rec here.page).frag ≤ n) dcap_same here.room)
 
   -- a page may be parted that weighs enough
   part_allowed : (id : ℕ) (page : LivePage) (leaves : PartLeavesTo (sight m') (IsChosen page) page) → if_live (in_memory fetched id) ≡ Some page → 6 ≤ weight_of page.frag → IsAllowedHere fetched (ops.Extract id leaves.fresh leaves.path leaves.cuts leaves.free_after)
   part_allowed id page leaves live full = split_allowed fetched keeps id page (sight m') leaves refl (is_next_number fetched leaves.fresh leaves.free_after leaves.next) live full
 
-  shown_row : (wanted : Option Wanted) (deed : Deed) → wanted_by m actor ≡ wanted → Row (m.activity actor) wanted m' deed → IfSome deed.op (λ op. HalfHasRoom m actor op → IsAllowedHere fetched op)
+  shown_row : (wanted : Option Wanted) (deed : Deed) → wanted_by m actor ≡ wanted → Row (m.activity actor) wanted m' deed → IfSome deed.op (λ op. NamesItsPages m op → HalfHasRoom m actor op → IsAllowedHere fetched op)
   shown_row wanted deed asks row = each_row m' (λ activity deed. Shown activity deed.op) (m.activity actor) wanted deed
       (record {
         full = λ line held none is. tt;
-        splits = λ line held page live leaves is half. let lacks = room.splits actor held line is in part_allowed held page leaves live (lacking_weighs held lacks.0.key lacks.0.body page lacks.2 live);
-        puts = λ line source fresh rec command half either page live is has. shown_put line source fresh half rec page live is has;
+        splits = λ line held page live leaves is names half. let lacks = room.splits actor held line is in part_allowed held page leaves live (lacking_weighs held lacks.0.key lacks.0.body page (must_hold m actor held (at.SessionSplit line held) Exclusive one fit is (at_itself held (Some Exclusive) None)) lacks.2 live);
+        puts = λ line source fresh rec command half either page live is names has. shown_put line source fresh half rec page either live is has;
       })
       (λ its page wants hand. each_op (sight m') its.page page Shown (record {
         none = λ activity is. tt;
-        inserts = λ line held rest found rec command absent room is half. put_allowed fetched keeps its.page rec page hand.live absent room;
-        deletes = λ line held rest found p there command stands is half. del_allowed fetched keeps its.page p page there hand.live stands;
-        grows = λ job fresh free_after may free next is half. grow_allowed fetched keeps fresh free_after free (is_next_number fetched fresh free_after next) may.below;
-        posts = λ job parent above path inner area live plan is half. post_allowed fetched keeps parent path inner area above page its.page job.point live hand.live plan;
-        parts = λ job parent above live plan leaves is half. part_allowed parent above leaves live (heavy_parent fetched keeps parent above page job.point live plan);
-        merges = λ job parent keep gone pair is half. merge_allowed m actor may fetched keeps walks brings job parent keep gone its page pair is (asks ∙ wants) hand;
+        inserts = λ line held rest found rec command absent room is names half. put_allowed fetched keeps its.page rec page hand.live absent room;
+        deletes = λ line held rest found p there command stands is names half. del_allowed fetched keeps its.page p page there hand.live stands;
+        grows = λ job fresh free_after may free next is names half. grow_allowed fetched keeps fresh free_after free (is_next_number fetched fresh free_after next) may.below;
+        posts = λ job parent above path inner area live plan is names half. post_allowed fetched keeps parent path inner area above page its.page job.point live hand.live plan;
+        parts = λ job parent above live plan leaves is names half. part_allowed parent above leaves live (heavy_parent fetched keeps parent above page job.point live plan);
+        merges = λ job parent keep gone pair is names half. merge_allowed m actor may fetched keeps one fit names brings job parent keep gone its page pair is (asks ∙ wants) hand;
       }))
       row refl
 
 pub rows_are_allowed : RowsAreAllowed
-rows_are_allowed m actor fetched deed op within inside room walks brings row is half =
-    let shown = shown_row m actor AnyPage fetched (brought m AnyPage fetched brings (keeps_pages m within inside)) room walks brings (wanted_by m actor) deed refl row in
-    subst (λ (o : Option Op). IfSome o (λ op. HalfHasRoom m actor op → IsAllowedHere fetched op)) is shown half
+rows_are_allowed m actor fetched deed op one fit within inside room names brings row is half =
+    let shown = shown_row m actor AnyPage fetched (brought m AnyPage fetched brings (keeps_pages m within inside)) one fit room brings (wanted_by m actor) deed refl row in
+    subst (λ (o : Option Op). IfSome o (λ op. NamesItsPages m op → HalfHasRoom m actor op → IsAllowedHere fetched op)) is shown names half

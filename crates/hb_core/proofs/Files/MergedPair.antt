@@ -1,6 +1,6 @@
 -- A pair on which a consolidator decides may become one in memory, where its plan says so: what is kept of the parent and of the
 -- page to keep, and the test of the page to go, tell the rest.
-use Rattle.std.proofs.Common.{◌≡◌, ◌≢◌, ℕ, ◌+◌, ◌-◌, ◌<◌, [], ◌∷◌, Option, Some, None, IfSome, IsTrue, refl, sym, ap, ◌∙◌, subst, arith}
+use Rattle.std.proofs.Common.{◌≡◌, ◌≢◌, ℕ, ◌+◌, ◌-◌, ◌<◌, [], ◌∷◌, Option, Some, None, IfSome, IsTrue, refl, sym, ap, ◌∙◌, subst, arith, ◌==◌, cond, inr}
 use Rattle.std.specs.Option.{option_map}
 use Rattle.std.proofs.lemmas.Option.{same_Some}
 use Rattle.std.proofs.lemmas.List.Elements.{All-head, All-tail}
@@ -18,14 +18,14 @@ use Rattle.hb_consol.specs.ConsolidatorRows.{names_child}
 use Rattle.hb_core.proofs.Files.AskedPages.{first_sibling_among}
 use Rattle.hb_ops.proofs.Facts.NamedChildren.{named_leaf}
 use Rattle.hb_core.proofs.Files.PairAtHand.{gone_box, gone_live}
-use Rattle.hb_core.proofs.Memory.BroughtPages.{both_there}
+use Rattle.hb_core.proofs.Memory.BroughtPages.{both_there, must_hold}
 use Rattle.hb_core.proofs.Memory.KeptPages.{KeepsPages}
 use Rattle.hb_core.proofs.Table.MergerMoves.{MergesPair}
 use Rattle.hb_core.proofs.Walks.AtHand.{never_later, sibling_found}
 use Rattle.hb_core.proofs.Walks.MergesKept.{above_records}
 use Rattle.hb_core.specs.Asking.{looked_live, wanted_by}
-use Rattle.hb_core.specs.Fetching.{Brings}
-use Rattle.hb_core.specs.Keeps.{WalksInSpace}
+use Rattle.hb_core.specs.Fetching.{Brings, MustStay}
+use Rattle.hb_core.specs.Keeps.{WalksInSpace, LatchesFit}
 use Rattle.hb_core.specs.KeptMerges.{AtParent, NamesKnown, merging_at}
 use Rattle.hb_core.specs.Machines.{Machine, live_here, with_disk, sight}
 use Rattle.hb_core.specs.Rows.{IsAtHand}
@@ -36,8 +36,12 @@ use Rattle.hb_ops.specs.Operations.{IsAllowedOn}
 use Rattle.hb_store.specs.Calls.{IsAllowedHere}
 use Rattle.hb_store.specs.States.{IsGoodPage, StoreState, in_memory}
 use Rattle.hb_ops.proofs.Facts.PageNumberLaws.{live_so}
+use Rattle.hb_space.specs.Actors.{IsActor}
+use Rattle.hb_lemmas.proofs.Booleans.{at_itself}
+use Rattle.hb_core.proofs.Memory.OwnedOps.{second_mode}
+use Rattle.hb_core.specs.Performing.{latches_held, mode_among}
 
-module _ (m : Machine) (actor : ℕ) (may : ℕ → Type 0) (fetched : StoreState) (keeps : KeepsPages fetched) (walks : WalksInSpace m) (brings : Brings m may fetched) (job : Job) (parent keep gone : ℕ) (wanted : Wanted) (page : LivePage)
+module _ (m : Machine) (actor : ℕ) (may : ℕ → Type 0) (fetched : StoreState) (keeps : KeepsPages fetched) (one : IsActor actor) (fit : LatchesFit m) (walks : WalksInSpace m) (brings : Brings m may fetched) (job : Job) (parent keep gone : ℕ) (wanted : Wanted) (page : LivePage)
     (pair : MergesPair (sight (with_disk fetched m.files m.clock m)) parent keep gone page) (is : m.activity actor ≡ at.ConsolidatorDecide job parent keep gone) (wants : wanted_by m actor ≡ Some wanted) (hand : IsAtHand (with_disk fetched m.files m.clock m) (m.activity actor) wanted page) where
   abbrev place : AtParent
   place = record { job = job; parent = parent; known = keep ∷ gone ∷ []; pair = Some (record { keep = keep; gone = gone; leaf = None }) }
@@ -49,14 +53,18 @@ module _ (m : Machine) (actor : ℕ) (may : ℕ → Type 0) (fetched : StoreStat
   known : NamesKnown m.store place
   known = subst (λ (o : Option AtParent). IfSome o (NamesKnown m.store)) (ap merging_at is) (walks.merging actor)
 
-  same_page : (id : ℕ) (old now : LivePage) → live_here m.store id ≡ Some old → live_here fetched id ≡ Some now → old ≡ now
-  same_page id old now was live = same_Some old now (sym (both_there m may fetched brings id old now was live) ∙ live)
+  -- both are latched
+  held : (id : ℕ) → mode_among id (latches_held m.store (at.ConsolidatorDecide job parent keep gone)) ≡ Some Exclusive → MustStay m id
+  held id among = must_hold m actor id (at.ConsolidatorDecide job parent keep gone) Exclusive one fit is among
+
+  same_page : (id : ℕ) (old now : LivePage) → MustStay m id → live_here m.store id ≡ Some old → live_here fetched id ≡ Some now → old ≡ now
+  same_page id old now must was live = same_Some old now (sym (both_there m may fetched brings id old now (inr must) was live) ∙ live)
 
   above_is : known.page ≡ pair.above
-  above_is = same_page parent known.page pair.above known.live pair.above_live
+  above_is = same_page parent known.page pair.above (held parent (at_itself parent (Some Exclusive) (cond (keep == parent) (Some Exclusive) None))) known.live pair.above_live
 
   kept_is : known.pair.page ≡ pair.kept
-  kept_is = same_page keep known.pair.page pair.kept known.pair.live pair.kept_live
+  kept_is = same_page keep known.pair.page pair.kept (held keep (second_mode parent keep)) known.pair.live pair.kept_live
 
   names : (id : ℕ) → IsTrue (names_child known.page id) → IsTrue (names_child pair.above id)
   names id named = subst (λ (q : LivePage). IsTrue (names_child q id)) above_is named

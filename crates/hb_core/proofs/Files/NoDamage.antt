@@ -22,10 +22,10 @@ use Rattle.hb_activity.specs.Walks.{goal_of, job_mode, session_mode, walk_held}
 use Rattle.hb_activity.specs.Wanting.{child_of, in_mode, walk_next, wanted_of, wanted_page}
 use Rattle.hb_consol.specs.ConsolidatorRows.{names_child}
 use Rattle.hb_core.proofs.Files.AskedPages.{IsThere, begun_there, given_there, held_there, named_child_there, named_there, named_with_box, placed_sibling_there, root_there}
-use Rattle.hb_core.proofs.Memory.BroughtPages.{both_there}
+use Rattle.hb_core.proofs.Memory.BroughtPages.{both_there, told_files}
 use Rattle.hb_core.proofs.TwoSteps.OneOutcome.{outcome_is_one, state_is_one}
 use Rattle.hb_core.proofs.Files.SoundFiles.{FilesHold, brought_shown, current_sound, files_hold}
-use Rattle.hb_core.proofs.Table.StepKinds.{each_kind, FlushesMore, rest_kind}
+use Rattle.hb_core.proofs.Table.StepKinds.{each_kind, FlushesMore, ready_kind}
 use Rattle.hb_core.specs.Acting.{IsBadWanted, MeetsBadPage, NeedsNumber}
 use Rattle.hb_core.specs.Asking.{AskedBox, HasAskedBox, IsNotAsked, asked_box, box_at, box_of_child, looked_live, wanted_by}
 use Rattle.hb_core.specs.DamageLaws.{IsRefusedOrFails, IsUndamaged, KeptStepIsOne, NoPageIsDamaged, StaysUndamaged}
@@ -34,7 +34,7 @@ use Rattle.hb_core.specs.Forcing.{ForcesFirst, StaysSo}
 use Rattle.hb_core.specs.Keeps.{HasSoundFile, LatchesFit, WalksInSpace}
 use Rattle.hb_core.specs.KeptMerges.{AtParent, KeepsPair, NamesKnown, merging_at}
 use Rattle.hb_core.specs.Machines.{Files, Machine, current_file, live_here, with_disk}
-use Rattle.hb_core.specs.OutcomeLaws.{AreOneButMemory, ComesToSame, IsTurnedAside}
+use Rattle.hb_core.specs.OutcomeLaws.{AreOne, ComesToSame, IsTurnedAside}
 use Rattle.hb_core.specs.Performing.{Performs}
 use Rattle.hb_core.specs.Steps.{StepsTo, Works}
 use Rattle.hb_space.specs.Actors.{IsActor}
@@ -114,7 +114,7 @@ module _ (files : Files) (st : StoreState) (holds : FilesHold st files) where
           omega (arith, full, live, pages, room)
 
 module _ (m : Machine) (files : Files) (actor : ℕ) (may : IsActor actor) (fit : LatchesFit m) (has : HasSoundFile m files) (walks : WalksInSpace m)
-    (needs : ℕ → Type 0) (fetched : StoreState) (brings : Brings m needs fetched) where
+    (told : m.files ≡ Some files) (needs : ℕ → Type 0) (fetched : StoreState) (brings : Brings m needs fetched) where
   meta : (current_file files).meta ≡ m.store.meta
   meta = has.meta
 
@@ -129,7 +129,7 @@ module _ (m : Machine) (files : Files) (actor : ℕ) (may : IsActor actor) (fit 
 
   -- the page into which the step looks is there as it was
   still_asked : (id : ℕ) (page : LivePage) → live_here m.store id ≡ Some page → (now : LivePage) × (live_here fetched id ≡ Some now) → live_here fetched id ≡ Some page
-  still_asked id page live (now, is) = both_there m needs fetched brings id page now live is
+  still_asked id page live (now, is) = both_there m needs fetched brings id page now (inl (told_files m files told)) live is
 
   asked_then : {A B C : Type 0} (g : B → C) (f : A → Option B) (o : Option A) (asked : C) → option_map g (option_and_then f o) ≡ Some asked → (a : A) × (o ≡ Some a)
   asked_then g f o asked is = let inner = some_of_map g (option_and_then f o) asked is in some_of_then f o inner.0 inner.1
@@ -224,7 +224,7 @@ no_page_is_damaged m files actor outcome new may told fit has walks bad = by bad
     by_wanted (Some w) None wants asks never = never
     by_wanted (Some w) (Some a) wants asks (is, damaged) =
         not_damaged files bad.fetched holds w a bad.why
-        (there m files actor may fit has walks _ bad.fetched bad.brings (m.activity actor) w a refl wants asks)
+        (there m files actor may fit has walks told _ bad.fetched bad.brings (m.activity actor) w a refl wants asks)
         (subst (λ (o : Option Files). IsDamaged o bad.fetched w a bad.why) told damaged)
 
     by : IsBadWanted m.files bad.fetched (wanted_by m actor) (asked_box (m.activity actor) bad.fetched) bad.page bad.why
@@ -258,7 +258,7 @@ module _ (m : Machine) (files : Files) (actor : ℕ) (outcome : Outcome) (new : 
   works : Works m actor outcome new → IsUndamaged m → IsUndamaged new
   works (inl (by, way, so)) = stays (outcomes.Blocked by) so
   works (inr (inl (free, unready, inl (waits, force)))) = forces outcomes.Helped force
-  works (inr (inl (free, unready, inr (empty, rest)))) = rest_kind m outcomes.Helped outcome new _ (IsUndamaged m → IsUndamaged new) empty tt more (performed m.store _) rest
+  works (inr (inl (free, unready, inr (empty, rest)))) = ready_kind m actor outcome new (IsUndamaged m → IsUndamaged new) empty more (performed m.store _) rest
   works (inr (inr (free, ready, inl row))) = performed row.fetched row.deed row.performs
   works (inr (inr (free, ready, inr (inl gives)))) = performed gives.fetched _ gives.performs
   works (inr (inr (free, ready, inr (inr bad)))) = absurd (none bad)
@@ -271,7 +271,7 @@ module _ (m : Machine) (files : Files) (actor : ℕ) (outcome : Outcome) (new : 
 pub stays_undamaged : StaysUndamaged
 stays_undamaged m files actor outcome new may told fit has walks step = undamaged_after m files actor outcome new (no_page_is_damaged m files actor outcome new may told fit has walks) step
 
--- ---- and of a machine that keeps all two steps lead to machines that are one but for the pages in memory
+-- ---- and of a machine that keeps all two steps lead to machines that are one
 
 pub kept_step_is_one : KeptStepIsOne
 kept_step_is_one n m files actor outcome other new next may keeps first second =
@@ -283,8 +283,8 @@ kept_step_is_one n m files actor outcome other new next may keeps first second =
     refused said after (inr (inr (inl gives))) = inr (inr gives)
     refused said after (inr (inr (inr bad))) = absurd (no_page_is_damaged m files actor said after may keeps.told keeps.kept.latches_fit keeps.sound_file keeps.kept.walk_in_space bad)
 
-    by : IsTurnedAside m actor outcome new ⊎ IsTurnedAside m actor other next ⊎ ComesToSame outcome other new next → IsTurnedAside m actor outcome new ⊎ IsTurnedAside m actor other next ⊎ AreOneButMemory new next
-        → IsRefusedOrFails m actor outcome new ⊎ IsRefusedOrFails m actor other next ⊎ ((outcome ≡ other) × AreOneButMemory new next)
+    by : IsTurnedAside m actor outcome new ⊎ IsTurnedAside m actor other next ⊎ ComesToSame outcome other new next → IsTurnedAside m actor outcome new ⊎ IsTurnedAside m actor other next ⊎ AreOne new next
+        → IsRefusedOrFails m actor outcome new ⊎ IsRefusedOrFails m actor other next ⊎ ((outcome ≡ other) × AreOne new next)
     by (inl aside) said = inl (refused outcome new aside)
     by (inr (inl aside)) said = inr (inl (refused other next aside))
     by (inr (inr same)) (inl aside) = inl (refused outcome new aside)

@@ -1,12 +1,12 @@
 -- What a row tells of the operation that it does, beyond what the pages that this reads tell.
-use Rattle.std.proofs.Common.{◌≡◌, ℕ, ◌-◌, List, Option, Some, None, IfSome, refl, sym, ap, ◌∙◌, subst}
+use Rattle.std.proofs.Common.{◌≡◌, ℕ, ◌-◌, List, Option, Some, None, IfSome, refl, sym, ap, ◌∙◌, subst, ◌≢◌, ◌⊎◌, inl, inr}
 use Rattle.std.specs.Option.{option_and_then}
 use Rattle.hb_space.specs.declared.records.Record.{Record}
 use Rattle.hb_frag.specs.declared.leaves.Leaf.{Leaf}
 use Rattle.hb_frag.specs.declared.leaves.Leaf.TheVariants.{Records, Child, Sibling}
 use Rattle.hb_frag.specs.declared.pages.LivePage.{LivePage}
 use Rattle.hb_frag.specs.declared.paths.Side.{Side}
-use Rattle.hb_latch.specs.declared.modes.Mode.TheVariants.{Shared}
+use Rattle.hb_latch.specs.declared.modes.Mode.TheVariants.{Shared, Exclusive}
 use Rattle.hb_ops.specs.declared.operations.Op.{Op}
 use Rattle.hb_ops.specs.declared.operations.Op.TheVariants as ops
 use Rattle.hb_set.specs.declared.commands.Command.{Command}
@@ -19,7 +19,7 @@ use Rattle.hb_activity.specs.Classes.{line_in_hand}
 use Rattle.hb_activity.specs.Deeds.{Deed}
 use Rattle.hb_activity.specs.Wanting.{in_mode, named_child, wanted_of, wanted_page}
 use Rattle.hb_core.proofs.Files.PairAtHand.{pair_boxes}
-use Rattle.hb_core.proofs.Memory.BroughtPages.{both_there}
+use Rattle.hb_core.proofs.Memory.BroughtPages.{both_there, IsSure, must_hold}
 use Rattle.hb_core.proofs.Memory.NextNumbers.{is_next_number}
 use Rattle.hb_core.specs.AllowedLaws.{IsLicensedHere, IsPlanned}
 use Rattle.hb_core.specs.Asking.{looked_live, wanted_by}
@@ -37,6 +37,9 @@ use Rattle.hb_store.specs.States.{StoreState, in_memory}
 use Rattle.hb_ops.specs.Owing.{Posts}
 use Rattle.hb_core.proofs.Table.EachRow.{each_op, each_row}
 use Rattle.hb_ops.proofs.Facts.PageNumberLaws.{live_so}
+use Rattle.hb_core.specs.Keeps.{LatchesFit}
+use Rattle.hb_space.specs.Actors.{IsActor}
+use Rattle.hb_lemmas.proofs.Booleans.{at_itself}
 
 abbrev pub Tells : StoreState → Option Op → Type 0
 Tells st None = Unit {0}
@@ -73,18 +76,26 @@ wants_child p level (Some placed) wanted is = by placed.leaf refl is
         let same : wanted_page page (level - 1) Shared ≡ wanted = cc in
         (placed.area, ap (λ (l : Leaf). Some (record { leaf = l; area = placed.area })) (leaf_is ∙ ap (λ (w : Wanted). Child w.page) same))
 
-module _ (m : Machine) (actor : ℕ) (may : ℕ → Type 0) (fetched : StoreState) (brings : Brings m may fetched) where
+-- What tells that a page that the actor has latched is there as it was: the disk does, or that latches fit.
+abbrev pub KeepsLatched : Machine → ℕ → Type 0
+KeepsLatched m actor = (m.files ≢ None) ⊎ (IsActor actor × LatchesFit m)
+
+module _ (m : Machine) (actor : ℕ) (may : ℕ → Type 0) (fetched : StoreState) (brings : Brings m may fetched) (keeps : KeepsLatched m actor) where
   abbrev pub m' : Machine
   m' = with_disk fetched m.files m.clock m
 
   -- the page that the step looked into is the one that the row has
-  looked_page_stays : (id : ℕ) (page now : LivePage) → if_live (in_memory m.store id) ≡ Some page → if_live (in_memory fetched id) ≡ Some now → if_live (in_memory fetched id) ≡ Some page
-  looked_page_stays id page now live here = both_there m may fetched brings id page now live here
+  looked_page_stays : (job : Job) (parent : ℕ) (page now : LivePage) → m.activity actor ≡ at.PosterAgain job parent → if_live (in_memory m.store parent) ≡ Some page → if_live (in_memory fetched parent) ≡ Some now → if_live (in_memory fetched parent) ≡ Some page
+  looked_page_stays job parent page now stands live here = both_there m may fetched brings parent page now (by keeps) live here
+    where
+      by : KeepsLatched m actor → IsSure m parent
+      by (inl told) = inl told
+      by (inr (one, fit)) = inr (must_hold m actor parent (at.PosterAgain job parent) Exclusive one fit stands (at_itself parent (Some Exclusive) None))
 
   -- a posting, by the child that was latched
-  planned : (job : Job) (parent : ℕ) (wanted : Wanted) (child page : LivePage) (path : List Side) (inner : ℕ) (area : Area) → wanted_of (at.PosterAgain job parent) m.store.meta (if_live (in_memory m.store parent)) ≡ Some wanted
+  planned : (job : Job) (parent : ℕ) (wanted : Wanted) (child page : LivePage) (path : List Side) (inner : ℕ) (area : Area) → m.activity actor ≡ at.PosterAgain job parent → wanted_of (at.PosterAgain job parent) m.store.meta (if_live (in_memory m.store parent)) ≡ Some wanted
       → if_live (in_memory fetched wanted.page) ≡ Some child → if_live (in_memory fetched parent) ≡ Some page → Posts page child job.point fetched.meta.icap path inner area → IsPlanned fetched parent path inner area
-  planned job parent wanted child page path inner area wants child_live live posts = by (if_live (in_memory m.store parent)) refl wants
+  planned job parent wanted child page path inner area stands wants child_live live posts = by (if_live (in_memory m.store parent)) refl wants
     where
       nothing : (w : Wanted) → None ≡ Some w → ⊥
       nothing w is = cc
@@ -96,7 +107,7 @@ module _ (m : Machine) (actor : ℕ) (may : ℕ → Type 0) (fetched : StoreStat
       by None is none = absurd (nothing wanted none)
       by (Some old) is some =
           let named = wants_child job.point old.level (leaf_at old job.point) wanted some in
-          let same : old ≡ page = same_page old page (sym (looked_page_stays parent old page is live) ∙ live) in
+          let same : old ≡ page = same_page old page (sym (looked_page_stays job parent old page stands is live) ∙ live) in
           record {
             page = page;
             live = live_so (in_memory fetched parent) page live;
@@ -128,7 +139,7 @@ module _ (m : Machine) (actor : ℕ) (may : ℕ → Type 0) (fetched : StoreStat
         inserts = λ line held rest found rec command absent room stands wants body. put_body line.command rec command body;
         deletes = λ line held rest found p there command there_now stands wants body. tt;
         grows = λ job fresh free_after may free next stands wants body. is_next_number fetched fresh free_after next;
-        posts = λ job parent above path inner area live plan stands wants body. planned job parent its page above path inner area (wants ∙ is) hand.live live plan;
+        posts = λ job parent above path inner area live plan stands wants body. planned job parent its page above path inner area stands (wants ∙ is) hand.live live plan;
         parts = λ job parent above live plan leaves stands wants body. is_next_number fetched leaves.fresh leaves.free_after leaves.next;
         merges = λ job parent keep gone pair stands asks body. pair_boxes m actor fetched job parent keep gone its page pair stands (wants ∙ is) hand;
       }))

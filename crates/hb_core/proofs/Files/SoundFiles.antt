@@ -1,5 +1,5 @@
 -- The operation of a row is allowed and licensed in the file, and every file stays sound.
-use Rattle.hb_core.proofs.Memory.CommitPages.{commit_pages}
+use Rattle.hb_core.proofs.Memory.CommitPages.{commit_there}
 use Rattle.std.proofs.Common.{◌≡◌, inl, inr, ℕ, ◌+◌, List, [], ◌∷◌, ◌++◌, length, All, Option, Some, None, IfSome, option_map, refl, sym, ap, ◌∙◌, subst, arith, length-append}
 use Rattle.std.proofs.lemmas.List.Elements.{All-append, All-cons, All-head, All-nil, All-tail}
 use Rattle.hb_frag.specs.declared.pages.Page.{Page}
@@ -8,7 +8,7 @@ use Rattle.hb_ops.specs.declared.operations.Op.{Op}
 use Rattle.hb_core.specs.declared.outcomes.Outcome.{Outcome}
 use Rattle.hb_core.specs.declared.outcomes.Outcome.TheVariants as outcomes
 use Rattle.hb_activity.specs.Deeds.{Deed, does}
-use Rattle.hb_core.proofs.Memory.BroughtPages.{same_there}
+use Rattle.hb_core.proofs.Memory.BroughtPages.{same_there, told_files}
 use Rattle.hb_core.proofs.Files.FileOps.{ShowsFile, allowed_in_file, has_in_file, licensed_in_file, meta_after, shown_after}
 use Rattle.hb_core.proofs.Files.FitOps.{HeldArePoints, fits_op}
 use Rattle.hb_core.proofs.Memory.KeptPages.{KeepsPages, brought, change_is_well, keeps_pages}
@@ -16,7 +16,7 @@ use Rattle.hb_core.proofs.Walks.LaterPages.{last_sound}
 use Rattle.hb_core.proofs.Memory.OwnPages.{gives_up_nothing, runs_out_nothing}
 use Rattle.hb_core.proofs.Files.RowTells.{Tells, tells_row, tells_none}
 use Rattle.hb_core.specs.AllowedLaws.{IsLicensedHere}
-use Rattle.hb_core.proofs.Table.StepKinds.{each_kind, rest_kind, FlushesMore}
+use Rattle.hb_core.proofs.Table.StepKinds.{each_kind, ready_kind, FlushesMore}
 use Rattle.hb_core.specs.Acting.{MeetsBadPage}
 use Rattle.hb_core.specs.Asking.{wanted_by}
 use Rattle.hb_core.specs.Fetching.{Brings}
@@ -92,7 +92,7 @@ brought_shown m files may fetched told brings holds = record {
   where
     by : (id : ℕ) (page : Page) → (in_memory fetched) id ≡ Some page → (o : Option Page) → (in_memory m.store) id ≡ o → page_of (current_file files) id ≡ Some page
     by id page there None none = subst (λ (o : Option Files). IfSome o (λ files. page_of (current_file files) id ≡ Some page)) told (brings.told id page none there)
-    by id page there (Some old) some = holds.shown id page (sym (same_there m may fetched brings id old page some there) ∙ there)
+    by id page there (Some old) some = holds.shown id page (sym (same_there m may fetched brings id old page (inl (told_files m files told)) some there) ∙ there)
 
 module _ (makes : MakesGoodPages) (parts : HaveFittingParts) (points : HeldArePoints) where
   -- what is told of an operation makes it one that may be done in the file
@@ -117,7 +117,7 @@ module _ (makes : MakesGoodPages) (parts : HaveFittingParts) (points : HeldArePo
       may_be_done does.fetched files op
       (brought m _ does.fetched does.brings keeps)
       (brought_shown m files _ does.fetched told does.brings (files_hold m files has))
-      (tells_some does.fetched does.deed.op op is (tells_row m actor _ does.fetched does.brings (wanted_by m actor) does.deed refl (fit.in_hand actor) does.row))
+      (tells_some does.fetched does.deed.op op is (tells_row m actor _ does.fetched does.brings (inl (told_files m files told)) (wanted_by m actor) does.deed refl (fit.in_hand actor) does.row))
       (allowed_some does.deed.op op _ does.fetched new.store is does.performs.store)
 
   module _ (keep_sound : OperationsKeepSound) where
@@ -141,7 +141,7 @@ module _ (makes : MakesGoodPages) (parts : HaveFittingParts) (points : HeldArePo
           each = omega (arith, groups, more, holds.each);
           layout = subst IsLayout (sym does.commits.meta) well.after.limits.layout;
           meta = ap (λ (f : FileState). f.meta) last ∙ meta;
-          shown = λ id page there. ap (λ (f : FileState). page_of f id) last ∙ shown_after st s keeps file op does.allowed well id page (sym (commit_pages _ _ _ _ does.commits id) ∙ there);
+          shown = λ id page there. ap (λ (f : FileState). page_of f id) last ∙ shown_after st s keeps file op does.allowed well id page (commit_there _ _ _ _ does.commits id page there);
         }
 
     -- What is to be shown of a step: there are files afterwards, and they hold.
@@ -210,10 +210,10 @@ module _ (makes : MakesGoodPages) (parts : HaveFittingParts) (points : HeldArePo
         subst (λ (n : Machine). FilesHold n.store files) (sym well.leaves) (record {
           durable = holds.durable;
           later = holds.later;
-          each = holds.each ∙ ap (λ (l : List Waiting). length l) (none ∙ sym well.no_group);
-          layout = subst IsLayout (sym well.meta) holds.layout;
-          meta = holds.meta ∙ sym well.meta;
-          shown = λ id page there. holds.shown id page (sym (well.memory id) ∙ there);
+          each = holds.each;
+          layout = holds.layout;
+          meta = holds.meta;
+          shown = λ id page there. holds.shown id page there;
         }),
       )
       flushed_more (none, left, inr fails) = failed fails
@@ -222,10 +222,10 @@ module _ (makes : MakesGoodPages) (parts : HaveFittingParts) (points : HeldArePo
       worked (inl (by, way, so)) = stays (outcomes.Blocked by) so
       worked (inr (inl (free, unready, inl (waits, force)))) = forces outcomes.Helped force
       worked (inr (inl (free, unready, inr (none, rest)))) =
-          rest_kind m outcomes.Helped outcome new _ (HoldAfter new) none tt flushed_more (λ performs. performed m.store _ keeps holds (tells_none m.store _ (runs_out_nothing (m.activity actor))) performs) rest
+          ready_kind m actor outcome new (HoldAfter new) none flushed_more (λ performs. performed m.store _ keeps holds (tells_none m.store _ (runs_out_nothing (m.activity actor))) performs) rest
       worked (inr (inr (free, ready, inl acts))) =
           performed acts.fetched acts.deed (brought m _ acts.fetched acts.brings keeps) (brought_shown m files _ acts.fetched told acts.brings holds)
-          (tells_row m actor _ acts.fetched acts.brings (wanted_by m actor) acts.deed refl (fit.in_hand actor) acts.row) acts.performs
+          (tells_row m actor _ acts.fetched acts.brings (inl (told_files m files told)) (wanted_by m actor) acts.deed refl (fit.in_hand actor) acts.row) acts.performs
       worked (inr (inr (free, ready, inr (inl gives)))) =
           performed gives.fetched _ (brought m _ gives.fetched gives.brings keeps) (brought_shown m files _ gives.fetched told gives.brings holds) (tells_none gives.fetched _ (gives_up_nothing gives.why (m.activity actor))) gives.performs
       worked (inr (inr (free, ready, inr (inr bad)))) = meets bad

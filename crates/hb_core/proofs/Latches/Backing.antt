@@ -1,7 +1,7 @@
 -- Where the latches of an activity come from: each was held before, or is the one that the step wanted, or is on a page that
 -- was in no use. And each is on a page in use.
-use Rattle.hb_core.proofs.Memory.CommitPages.{commit_pages}
-use Rattle.std.proofs.Common.{◌≡◌, ◌⊎◌, inl, inr, ℕ, ◌==◌, Bool, cond, List, [], ◌∷◌, length, Option, Some, None, IsSome, refl, sym, ap, ◌∙◌, subst}
+use Rattle.hb_core.proofs.Memory.CommitPages.{has_first, has_second, made_pages}
+use Rattle.std.proofs.Common.{◌≡◌, ◌⊎◌, inl, inr, ℕ, ◌==◌, Bool, cond, List, [], ◌∷◌, length, Option, Some, None, IsSome, IsTrue, refl, sym, ap, ◌∙◌, subst}
 use Rattle.std.proofs.lemmas.Bool.{cases_Bool, eq-eqb, eqb-true}
 use Rattle.hb_space.specs.declared.records.Record.{Record}
 use Rattle.hb_frag.specs.declared.pages.LivePage.{LivePage}
@@ -25,12 +25,11 @@ use Rattle.hb_activity.specs.Walks.{goal_of, job_mode, session_mode, walk_held}
 use Rattle.hb_activity.specs.Wanting.{walk_next, wanted_of}
 use Rattle.hb_core.proofs.Memory.NextNumbers.{is_next_number}
 use Rattle.hb_activity.proofs.Facts.HeldLatches.{in_its_mode}
-use Rattle.hb_core.proofs.Memory.OwnedOps.{made_was_free}
+use Rattle.hb_core.proofs.Memory.OwnedOps.{IsAnew, made_was_free}
 use Rattle.hb_core.specs.Asking.{HasWayFree, looked_live, wanted_by}
 use Rattle.hb_core.specs.Fetching.{Brings}
 use Rattle.hb_core.specs.Keeps.{HoldsPagesOfFile, LatchesFit}
 use Rattle.hb_core.specs.KeptMerges.{IsMerging}
-use Rattle.hb_core.specs.Laws.{IsInUse}
 use Rattle.hb_core.specs.Machines.{Machine, with_disk, sight}
 use Rattle.hb_core.specs.Performing.{DoesOp, MayDo, latches_held, mode_among}
 use Rattle.hb_core.specs.Rows.{Row, RowAt}
@@ -43,7 +42,7 @@ use Rattle.hb_ops.specs.Operations.{change_of}
 use Rattle.hb_point.specs.SplitRows.{Splits}
 use Rattle.hb_space.specs.Boxes.{Area}
 use Rattle.hb_store.specs.Calls.{change_here, read_here}
-use Rattle.hb_store.specs.Replay.{set_pages}
+use Rattle.hb_store.specs.Replay.{set_pages, has_page}
 use Rattle.hb_store.specs.States.{StoreState, in_memory}
 use Rattle.hb_core.proofs.Table.MergerMoves.{of_page}
 use Rattle.hb_core.proofs.Table.EachRow.{each_row}
@@ -58,7 +57,7 @@ pub record IsWantedFreely (m : Machine) (actor page : ℕ) (mode : Mode) : Type 
   pub free : HasWayFree m actor
 
 abbrev pub ComesFrom : Machine → ℕ → ℕ → Mode → Type 0
-ComesFrom m actor page mode = (mode_at m.latches actor page ≡ Some mode) ⊎ IsWantedFreely m actor page mode ⊎ ((live : LivePage) → IsInUse m page live → ⊥)
+ComesFrom m actor page mode = (mode_at m.latches actor page ≡ Some mode) ⊎ IsWantedFreely m actor page mode ⊎ IsAnew m page
 
 pub record IsBacked (m : Machine) (actor : ℕ) (st : StoreState) (page : ℕ) (mode : Mode) : Type 0 where
   pub from : ComesFrom m actor page mode
@@ -229,23 +228,29 @@ module _ (m : Machine) (actor : ℕ) (may : ℕ → Type 0) (fetched : StoreStat
     does : DoesOp split (length m.order) fetched new
     does = subst (λ (d : Deed). MayDo d.op (length m.order) fetched new) row.deed_is done
 
+    abbrev source : LivePage
+    source = source_page row.leaves.fresh row.leaves.path row.leaves.cuts row.page row.leaves.part
+
+    abbrev made : LivePage
+    made = fresh_page row.leaves.cuts row.page row.leaves.part
+
     abbrev changed : List (ℕ × Page)
-    changed = (held, Live (source_page row.leaves.fresh row.leaves.path row.leaves.cuts row.page row.leaves.part)) ∷ (row.leaves.fresh, Live (fresh_page row.leaves.cuts row.page row.leaves.part)) ∷ []
+    changed = (held, Live source) ∷ (row.leaves.fresh, Live made) ∷ []
 
     changed_are : (change_here fetched split).pages ≡ changed
     changed_are =
         ap (λ (o : Option LivePage). (change_of split fetched.meta o (read_here fetched split 1) (read_here fetched split 2)).pages) row.live
         ∙ ap (λ (o : Option (Tree × Area)). split_pages held row.leaves.fresh row.leaves.path row.leaves.cuts row.page o) row.leaves.there
 
-    pages_are : (id : ℕ) → in_memory new id ≡ set_pages changed (in_memory fetched) id
-    pages_are id = commit_pages _ _ _ _ does.commits id ∙ ap (λ (pages : List (ℕ × Page)). set_pages pages (in_memory fetched) id) changed_are
+    pages_are : (id : ℕ) → IsTrue (has_page id changed) → in_memory new id ≡ set_pages changed (in_memory fetched) id
+    pages_are = made_pages _ _ _ _ changed does.commits changed_are
 
     backed_split : Backed deed
     backed_split =
-        let used = split_in_use held row.leaves.fresh (source_page row.leaves.fresh row.leaves.path row.leaves.cuts row.page row.leaves.part) (fresh_page row.leaves.cuts row.page row.leaves.part) (in_memory fetched) in
+        let used = split_in_use held row.leaves.fresh source made (in_memory fetched) in
         backed_deed deed _ row.deed_is (stands m actor new _ refl (two_backed m actor new held row.leaves.fresh
-        (record { from = inl (own_mode (at.SessionSplit line held) held Exclusive is (same_first held Exclusive)); live = used.0.0; there = pages_are held ∙ used.0.1 })
-        (record { from = inr (inr (made_was_free m may fetched row.leaves.fresh row.leaves.free_after inside brings (is_next_number fetched row.leaves.fresh row.leaves.free_after row.leaves.next))); live = used.1.0; there = pages_are row.leaves.fresh ∙ used.1.1 })))
+        (record { from = inl (own_mode (at.SessionSplit line held) held Exclusive is (same_first held Exclusive)); live = used.0.0; there = pages_are held (has_first held (Live source) ((row.leaves.fresh, Live made) ∷ [])) ∙ used.0.1 })
+        (record { from = inr (inr (made_was_free m may fetched row.leaves.fresh row.leaves.free_after inside brings (is_next_number fetched row.leaves.fresh row.leaves.free_after row.leaves.next))); live = used.1.0; there = pages_are row.leaves.fresh (has_second held row.leaves.fresh (Live source) (Live made) []) ∙ used.1.1 })))
 
   -- ---- every row
 

@@ -18,4 +18,4 @@ module _ (m : Machine) (actor : ℕ) (fit : LatchesFit m) where
       let grants : IsGrantable m.latches actor freely.wanted.page freely.wanted.mode = subst (λ (o : Option Wanted). IfSome o (λ wanted. IsGrantable m.latches actor wanted.page wanted.mode)) freely.wants freely.free in
       let here : IfSome (mode_at m.latches other page) (λ held. IsTrue (goes_beside freely.wanted.mode held)) = subst (λ (n : ℕ). IfSome (mode_at m.latches other n) (λ held. IsTrue (goes_beside freely.wanted.mode held))) freely.page_is (grants other another) in
       subst (λ (own : Mode). IsTrue (goes_beside own held)) freely.mode_is (at_value (mode_at m.latches other page) (λ (held : Mode). IsTrue (goes_beside freely.wanted.mode held)) held holds here)
-  beside_from other page mode held another (inr (inr never)) holds = let used = fit.used other page held holds in absurd (never used.0 used.1)
+  beside_from other page mode held another (inr (inr anew)) holds = let used = fit.used other page held holds in absurd ((anew used.0 used.1).0 (inl (other, held, holds)))

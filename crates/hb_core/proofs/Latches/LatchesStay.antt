@@ -19,7 +19,7 @@ use Rattle.hb_core.proofs.Latches.Backing.{BackedIn, rests}
 use Rattle.hb_core.proofs.Table.GivenUp.{idle_latches, idle_walks, given_up_is, run_out_is}
 use Rattle.hb_core.proofs.Latches.MergerBacked.{every_row_backed}
 use Rattle.hb_core.proofs.Memory.OwnPages.{held_pages_stay}
-use Rattle.hb_core.proofs.Table.StepKinds.{each_kind, rest_kind}
+use Rattle.hb_core.proofs.Table.StepKinds.{each_kind, ready_kind}
 use Rattle.hb_core.proofs.Table.Ways.{KeepsAllButDisk, forces_so, meets_so, stays_so, more_so}
 use Rattle.hb_core.specs.Asking.{wanted_by}
 use Rattle.hb_core.specs.GivingUp.{gives_up, runs_out}
@@ -198,7 +198,7 @@ module _ (mutual_modes : (mode other : Mode) → goes_beside mode other ≡ goes
   worked (inl (by, way, so)) = kept (stays_so m actor outcome new (outcomes.Blocked by) so)
   worked (inr (inl (free, unready, inl (waits, force)))) = kept (forces_so m actor outcome new outcomes.Helped force)
   worked (inr (inl (free, unready, inr (none, rest)))) =
-      rest_kind m outcomes.Helped outcome new _ (LatchesFit new) none tt (λ more. kept (more_so m actor outcome new more)) (λ performs. fits m.store _ performs (ran_out m actor new.store (m.activity actor))) rest
+      ready_kind m actor outcome new (LatchesFit new) none (λ more. kept (more_so m actor outcome new more)) (λ performs. fits m.store _ performs (ran_out m actor new.store (m.activity actor))) rest
   worked (inr (inr (free, ready, inl acts))) =
       fits acts.fetched acts.deed acts.performs
       (every_row_backed m actor _ acts.fetched new.store latches fit inside free acts.brings (wanted_by m actor) acts.deed refl acts.performs.store acts.row)

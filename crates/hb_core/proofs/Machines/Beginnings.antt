@@ -1,5 +1,5 @@
 -- A machine that has taken no step keeps what every machine keeps; and there is one over each sound file.
-use Rattle.std.proofs.Common.{◌≡◌, ◌≢◌, ◌⊎◌, inl, inr, ℕ, ◌<◌, ◌≤◌, ◌==◌, Bool, false, cond, List, [], length, All, AllPairs, Option, Some, None, IfSome, IsTrue, refl, sym, ap, ◌∙◌, subst, arith}
+use Rattle.std.proofs.Common.{◌≡◌, ◌≢◌, ◌⊎◌, inl, inr, ℕ, ◌<◌, ◌≤◌, ◌==◌, Bool, false, cond, List, [], length, All, AllPairs, Option, Some, None, is_some, IfSome, IsTrue, refl, sym, ap, ◌∙◌, subst, arith}
 use Rattle.std.specs.Prelude.{IsSomeAnd}
 use Rattle.std.specs.FinMap as map
 use Rattle.std.specs.FinSet as set
@@ -37,9 +37,11 @@ use Rattle.hb_layout.specs.Limits.{IsLayout}
 use Rattle.hb_ops.specs.Files.{FileState, contents_of}
 use Rattle.hb_ops.specs.Sound.{IsSound}
 use Rattle.hb_point.specs.SessionRows.{is_answered, next_line}
+use Rattle.hb_pool.specs.Frames.{Use}
 use Rattle.hb_set.specs.Order.{Entry, IsLegalOrder, result_of}
 use Rattle.hb_store.specs.States.{IsStanding, new_state}
 use Rattle.hb_wal.specs.Log.{LogState, Waiting}
+use Rattle.hb_core.proofs.Machines.FramesKept.{frames_begun}
 use Rattle.hb_core.proofs.Table.DeedKinds.{idle_kind}
 use Rattle.hb_core.proofs.Orders.ShortOrder.{AreOfTwo}
 use Rattle.hb_core.proofs.Orders.SingleAnswers.{AreToTwo}
@@ -230,6 +232,7 @@ module _ (m : Machine) (begun : IsBegun m) where
     replies_stand = replies_begin;
     answers_single = answers_begin;
     pages_of_file = begun.store.pages;
+    frames_fit = frames_begun m begun;
     classes = λ actor. ap class_of (begun.idle actor) ∙ idle_kind (class_for actor);
     nobody_else = λ actor none. begun.idle actor ∙ ap idle_of (nobodys_kind actor none);
     latches_fit = latches_begin;
@@ -296,6 +299,7 @@ fresh_machine s turn lines clock = record {
   order = [];
   stop = None;
   store = new_state turn s.meta;
+  uses = [];
   files = Some (record { durable = s; later = [] });
   clock = clock;
 }
@@ -336,9 +340,16 @@ beginning_exists s turn lines clock sound layout few rising bodies fit = (
           stands = stands_within s turn sound layout few;
           log = refl;
           none_in_log = λ id. set.contains-empty nat_cmp id;
+          none_dirty = λ id. set.contains-empty nat_cmp id;
           runs = refl;
           pages = λ id page is. absurd (no_page_there id page is);
         };
+        tied = record {
+          pool = record { few = omega arith; distinct = λ id. omega arith; pins = All-nil (λ (u : Use). u.pins ≤ 255) };
+          there = λ id. ap is_some (map.get-empty nat_cmp id);
+          marks = λ id. set.contains-empty nat_cmp id;
+        };
+        unpinned = λ id. refl;
       };
       told = refl;
       meta = refl;

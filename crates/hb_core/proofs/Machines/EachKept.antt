@@ -3,6 +3,7 @@ use Rattle.std.proofs.Common.{[], ◌∷◌, sym, subst}
 use Rattle.std.proofs.lemmas.List.Elements.{All-head, All-tail}
 use Rattle.hb_core.proofs.Machines.AttributesKept.{attributes_fit_still}
 use Rattle.hb_core.proofs.Machines.ClassesKept.{classes_stay}
+use Rattle.hb_core.proofs.Machines.FramesKept.{frames_kept}
 use Rattle.hb_core.proofs.Machines.LocksKept.{box_locks_stay_fit}
 use Rattle.hb_core.proofs.Orders.LinesFit.{lines_stay_fit}
 use Rattle.hb_core.proofs.Orders.MarksKept.{marks_rise_still}
@@ -31,14 +32,15 @@ pub record PartLaws : Type 0 where
 
 pub machine_stays_kept : PartLaws → MachineStaysKept
 machine_stays_kept laws m actor outcome new may keeps step = record {
-  meta_within_limits = laws.within m actor outcome new keeps.lines_fit keeps.meta_within_limits keeps.pages_of_file step;
+  meta_within_limits = laws.within m actor outcome new may keeps.latches_fit keeps.lines_fit keeps.meta_within_limits keeps.pages_of_file step;
   lines_fit = lines_stay_fit m actor outcome new keeps.lines_fit step;
   attributes_fit = attributes_fit_still m actor outcome new may keeps step;
   lines_in_sequence = sequence_stays m actor outcome new keeps.lines_in_sequence step;
   order_short = order_stays_short m actor outcome new may keeps step;
   replies_stand = replies_stand m actor outcome new may keeps step;
   answers_single = answers_stay_single m actor outcome new may keeps step;
-  pages_of_file = laws.pages m actor outcome new keeps.lines_fit keeps.meta_within_limits keeps.pages_of_file step;
+  pages_of_file = laws.pages m actor outcome new may keeps.latches_fit keeps.lines_fit keeps.meta_within_limits keeps.pages_of_file step;
+  frames_fit = frames_kept m actor outcome new may keeps step;
   classes = classes_stay m actor outcome new may keeps step;
   nobody_else = nobody_else_comes m actor outcome new may keeps.nobody_else step;
   latches_fit = laws.latches m actor outcome new may keeps.latches_fit keeps.pages_of_file step;

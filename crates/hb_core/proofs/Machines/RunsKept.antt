@@ -5,7 +5,7 @@ use Rattle.hb_store.specs.declared.stops.StopWhy.{StopWhy}
 use Rattle.hb_core.specs.declared.outcomes.Outcome.{Outcome}
 use Rattle.hb_core.specs.declared.outcomes.Outcome.TheVariants as outcomes
 use Rattle.hb_activity.specs.Deeds.{Deed}
-use Rattle.hb_core.proofs.Table.StepKinds.{FlushesMore, each_kind, rest_kind}
+use Rattle.hb_core.proofs.Table.StepKinds.{FlushesMore, each_kind, ready_kind}
 use Rattle.hb_core.specs.Forcing.{FailsToWrite, ForcesFirst, StaysSo}
 use Rattle.hb_core.specs.KeptFits.{RunsWithStore}
 use Rattle.hb_core.specs.KeptMachine.{MachineKeeps}
@@ -43,7 +43,7 @@ module _ (m : Machine) (actor : ℕ) (outcome : Outcome) (new : Machine) (runs :
   forces said (inr badly) = fails badly.1
 
   more : FlushesMore m outcome new → RunsWithStore new
-  more (none, left, inl (due, quiet, well)) = same (ap (λ (n : Machine). n.stop) well.leaves) (ap (λ (n : Machine). n.store.stopped) well.leaves ∙ well.stopped)
+  more (none, left, inl (due, quiet, well)) = same (ap (λ (n : Machine). n.stop) well.leaves) (ap (λ (n : Machine). n.store.stopped) well.leaves)
   more (none, left, inr failed) = fails failed
 
   performed : (fetched : StoreState) (deed : Deed) → fetched.stopped ≡ m.store.stopped → Performs m fetched actor deed outcome new → RunsWithStore new
@@ -52,7 +52,7 @@ module _ (m : Machine) (actor : ℕ) (outcome : Outcome) (new : Machine) (runs :
   worked : Works m actor outcome new → RunsWithStore new
   worked (inl (by, way, so)) = stays (outcomes.Blocked by) so
   worked (inr (inl (free, unready, inl (waits, force)))) = forces outcomes.Helped force
-  worked (inr (inl (free, unready, inr (none, rest)))) = rest_kind m outcomes.Helped outcome new _ (RunsWithStore new) none tt more (performed m.store _ refl) rest
+  worked (inr (inl (free, unready, inr (none, rest)))) = ready_kind m actor outcome new (RunsWithStore new) none more (performed m.store _ refl) rest
   worked (inr (inr (free, ready, inl acts))) = performed acts.fetched acts.deed acts.brings.rest.stopped acts.performs
   worked (inr (inr (free, ready, inr (inl gives)))) = performed gives.fetched _ gives.brings.rest.stopped gives.performs
   worked (inr (inr (free, ready, inr (inr meets)))) = ended _ (ap (λ (n : Machine). n.stop) meets.stops)

@@ -1,6 +1,6 @@
--- The pages in memory after an operation: each is as the operation made it, or as it was.
-use Rattle.std.proofs.Common.{◌≡◌, inl, inr, ℕ, Option, Some, None, IsSome, refl, sym, ◌∙◌}
-use Rattle.std.proofs.lemmas.Bool.{cases_Bool}
+-- The pages in memory after an operation: each is as the operation made it, or as it was; or it was none of these and left.
+use Rattle.std.proofs.Common.{◌≡◌, ◌⊎◌, inl, inr, ℕ, ◌==◌, ◌||◌, false, Bool, IsTrue, List, ◌∷◌, Option, Some, None, IsSome, refl, sym, ap, ◌∙◌, subst}
+use Rattle.std.proofs.lemmas.Bool.{cases_Bool, eq-eqb}
 use Rattle.hb_frag.specs.declared.pages.Page.{Page}
 use Rattle.hb_ops.specs.declared.operations.Op.{Op}
 use Rattle.hb_store.specs.Calls.{Commits, change_here, NoneComes}
@@ -8,17 +8,48 @@ use Rattle.hb_store.specs.Replay.{set_pages, has_page}
 use Rattle.hb_store.proofs.Facts.ReplayLists.{set_not}
 use Rattle.hb_store.specs.States.{StoreState, in_memory}
 
--- Whatever was in memory stays there today in a commit, so what left wasn't there.
-same_still : (old new : StoreState) (id : ℕ) → NoneComes old new id → in_memory new id ≡ in_memory old id
-same_still old new id (inl same) = same
-same_still old new id (inr left) = left.0 ∙ sym (nothing (in_memory old id) left.1)
-  where
-    nothing : (o : Option Page) → (IsSome o → ⊥) → o ≡ None
-    nothing None none = refl
-    nothing (Some page) none = absurd (none refl)
+-- the memory is as the pages were set
+abbrev pub IsSetBy : Op → StoreState → StoreState → ℕ → Type 0
+IsSetBy op old new id = in_memory new id ≡ set_pages (change_here old op).pages (in_memory old) id
 
-pub commit_pages : (op : Op) (mark : ℕ) (old new : StoreState) → Commits op mark old new → (id : ℕ) → in_memory new id ≡ set_pages (change_here old op).pages (in_memory old) id
+-- a page that the operation doesn't change left
+abbrev pub HasLeft : Op → StoreState → StoreState → ℕ → Type 0
+HasLeft op old new id = (has_page id (change_here old op).pages ≡ false) × (in_memory new id ≡ None)
+
+pub commit_pages : (op : Op) (mark : ℕ) (old new : StoreState) → Commits op mark old new → (id : ℕ) → IsSetBy op old new id ⊎ HasLeft op old new id
 commit_pages op mark old new commits id = elim (cases_Bool (has_page id (change_here old op).pages)) [
-  | inl made ↦ commits.made id made
-  | inr off ↦ same_still old new id (commits.others id off) ∙ sym (set_not (change_here old op).pages (in_memory old) id off)
+  | inl made ↦ inl (commits.made id made)
+  | inr off ↦ by off (commits.others id off)
+]
+  where
+    by : has_page id (change_here old op).pages ≡ false → NoneComes old new id → IsSetBy op old new id ⊎ HasLeft op old new id
+    by off (inl same) = inl (same ∙ sym (set_not (change_here old op).pages (in_memory old) id off))
+    by off (inr (gone, clean)) = inr (off, gone)
+
+-- so a page that is there is as the pages were set
+pub commit_here : (op : Op) (mark : ℕ) (old new : StoreState) → Commits op mark old new → (id : ℕ) → IsSome (in_memory new id) → IsSetBy op old new id
+commit_here op mark old new commits id there = elim (commit_pages op mark old new commits id) [
+  | inl set ↦ set
+  | inr (off, gone) ↦ absurd (nothing (in_memory new id) there gone)
+]
+  where
+    nothing : (o : Option Page) → IsSome o → o ≡ None → ⊥
+    nothing None some gone = cc
+    nothing (Some page) some gone = cc
+
+pub commit_there : (op : Op) (mark : ℕ) (old new : StoreState) → Commits op mark old new → (id : ℕ) (page : Page) → in_memory new id ≡ Some page → set_pages (change_here old op).pages (in_memory old) id ≡ Some page
+commit_there op mark old new commits id page there = sym (commit_here op mark old new commits id (subst (λ (o : Option Page). IsSome o) (sym there) refl)) ∙ there
+
+-- and so are the pages that were changed
+pub made_pages : (op : Op) (mark : ℕ) (old new : StoreState) (changed : List (ℕ × Page)) → Commits op mark old new → (change_here old op).pages ≡ changed → (id : ℕ) → IsTrue (has_page id changed) → in_memory new id ≡ set_pages changed (in_memory old) id
+made_pages op mark old new changed commits are id among =
+    commits.made id (subst (λ (pages : List (ℕ × Page)). IsTrue (has_page id pages)) (sym are) among) ∙ ap (λ (pages : List (ℕ × Page)). set_pages pages (in_memory old) id) are
+
+pub has_first : (id : ℕ) (page : Page) (rest : List (ℕ × Page)) → IsTrue (has_page id ((id, page) ∷ rest))
+has_first id page rest = ap (λ (b : Bool). b || has_page id rest) (eq-eqb id id refl)
+
+pub has_second : (first id : ℕ) (a b : Page) (rest : List (ℕ × Page)) → IsTrue (has_page id ((first, a) ∷ (id, b) ∷ rest))
+has_second first id a b rest = elim (cases_Bool (id == first)) [
+  | inl here ↦ ap (λ (c : Bool). c || has_page id ((id, b) ∷ rest)) here
+  | inr off ↦ ap (λ (c : Bool). c || has_page id ((id, b) ∷ rest)) off ∙ has_first id b rest
 ]

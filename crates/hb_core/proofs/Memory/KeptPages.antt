@@ -1,25 +1,24 @@
 -- After a step every page in memory is one of the file and good, and what the file says of itself is within its limits.
-use Rattle.hb_core.proofs.Memory.CommitPages.{commit_pages}
-use Rattle.std.proofs.Common.{◌≡◌, inl, inr, ℕ, ◌<◌, ◌≤◌, ◌^◌, Option, Some, None, refl, sym, ap, ◌∙◌, subst, arith}
+use Rattle.hb_core.proofs.Memory.CommitPages.{commit_there}
+use Rattle.std.proofs.Common.{◌≡◌, ◌⊎◌, inl, inr, ℕ, ◌<◌, ◌≤◌, ◌^◌, Option, Some, None, refl, sym, ap, subst, arith}
 use Rattle.hb_frag.specs.declared.pages.Page.{Page}
 use Rattle.hb_layout.specs.declared.meta.Meta.{Meta}
 use Rattle.hb_ops.specs.declared.operations.Op.{Op}
 use Rattle.hb_core.specs.declared.outcomes.Outcome.{Outcome}
 use Rattle.hb_core.specs.declared.outcomes.Outcome.TheVariants as outcomes
 use Rattle.hb_activity.specs.Deeds.{Deed, does}
-use Rattle.hb_core.proofs.Memory.BroughtPages.{same_there}
 use Rattle.hb_core.proofs.Files.FitOps.{HeldArePoints, fits_op}
 use Rattle.hb_core.proofs.Files.GoodChanges.{IsGoodChange, good_change}
 use Rattle.hb_core.proofs.Memory.OwnPages.{gives_up_nothing, runs_out_nothing}
 use Rattle.hb_core.proofs.Files.RowTells.{Tells, boxes_told, tells_row, tells_none}
 use Rattle.hb_core.specs.AllowedLaws.{IsLicensedHere}
-use Rattle.hb_core.proofs.Table.StepKinds.{each_kind, FlushesMore, rest_kind}
+use Rattle.hb_core.proofs.Table.StepKinds.{each_kind, FlushesMore, ready_kind}
 use Rattle.hb_core.specs.Acting.{MeetsBadPage}
 use Rattle.hb_core.specs.Asking.{wanted_by}
 use Rattle.hb_core.specs.Fetching.{Brings}
 use Rattle.hb_core.specs.FileLaws.{MetaStaysWithinLimits, PagesStayOfFile}
 use Rattle.hb_core.specs.Forcing.{ForcesFirst, StaysSo, FailsToWrite, FlushesWell}
-use Rattle.hb_core.specs.Keeps.{HoldsPagesOfFile}
+use Rattle.hb_core.specs.Keeps.{HoldsPagesOfFile, LatchesFit}
 use Rattle.hb_core.specs.KeptLines.{LinesFit, MetaWithinLimits}
 use Rattle.hb_core.specs.Machines.{Machine}
 use Rattle.hb_core.specs.Performing.{MayDo, Performs}
@@ -29,6 +28,7 @@ use Rattle.hb_store.specs.Making.{HaveFittingParts, MakesGoodPages}
 use Rattle.hb_store.specs.Replaying.{HasLimits}
 use Rattle.hb_store.specs.States.{AreGood, IsGoodPage, StoreState, in_memory}
 use Rattle.hb_store.proofs.Facts.ReplayLists.{all_set}
+use Rattle.hb_space.specs.Actors.{IsActor}
 
 -- What a store keeps of its pages and of what its file says of itself.
 pub record KeepsPages (st : StoreState) : Type 0 where
@@ -56,22 +56,12 @@ brought m may fetched brings keeps =
       high = subst (λ (meta : Meta). meta.high ≤ meta.pages) meta keeps.high;
       live = subst (λ (meta : Meta). meta.live ≤ meta.pages) meta keeps.live;
       free = subst (λ (meta : Meta). meta.free < 2 ^ 32) meta keeps.free;
-      framed = λ id page there. subst (λ (meta : Meta). (1 ≤ id) × (id ≤ meta.high) × IsGoodPage meta page) meta (by id page there (in_memory m.store id) refl);
+      framed = λ id page there. subst (λ (meta : Meta). (1 ≤ id) × (id ≤ meta.high) × IsGoodPage meta page) meta (by id page (brings.good id page there));
     }
   where
-    by : (id : ℕ) (page : Page) → (in_memory fetched) id ≡ Some page → (o : Option Page) → (in_memory m.store) id ≡ o → (1 ≤ id) × (id ≤ m.store.meta.high) × IsGoodPage m.store.meta page
-    by id page there None none = brings.good id page none there
-    by id page there (Some old) some = keeps.framed id page (sym (same_there m may fetched brings id old page some there) ∙ there)
-
--- and so does another store with the same file and the same pages in memory
-pub same_pages : (old new : StoreState) → new.meta ≡ old.meta → ((id : ℕ) → in_memory new id ≡ in_memory old id) → KeepsPages old → KeepsPages new
-same_pages old new meta memory keeps = record {
-  limits = subst HasLimits (sym meta) keeps.limits;
-  high = subst (λ (meta : Meta). meta.high ≤ meta.pages) (sym meta) keeps.high;
-  live = subst (λ (meta : Meta). meta.live ≤ meta.pages) (sym meta) keeps.live;
-  free = subst (λ (meta : Meta). meta.free < 2 ^ 32) (sym meta) keeps.free;
-  framed = λ id page there. subst (λ (meta : Meta). (1 ≤ id) × (id ≤ meta.high) × IsGoodPage meta page) (sym meta) (keeps.framed id page (sym (memory id) ∙ there));
-}
+    by : (id : ℕ) (page : Page) → (in_memory m.store id ≡ Some page) ⊎ ((1 ≤ id) × (id ≤ m.store.meta.high) × IsGoodPage m.store.meta page) → (1 ≤ id) × (id ≤ m.store.meta.high) × IsGoodPage m.store.meta page
+    by id page (inl was) = keeps.framed id page was
+    by id page (inr good) = good
 
 -- so what an operation makes, where it may be done
 module _ (makes : MakesGoodPages) (parts : HaveFittingParts) (points : HeldArePoints) where
@@ -95,19 +85,19 @@ module _ (makes : MakesGoodPages) (parts : HaveFittingParts) (points : HeldArePo
             (all_set (λ n p. (1 ≤ n) × (n ≤ change.meta.high) × IsGoodPage change.meta p) change.pages (in_memory old)
             (λ k d lt. let c = well.pages k d lt in (c.0.0, c.0.1, c.1))
             (λ n p is. let was = keeps.framed n p is in (was.0, omega (arith, was.1, after.rises), well.others p was.2))
-            id page (sym (commit_pages _ _ _ _ does.commits id) ∙ there));
+            id page (commit_there _ _ _ _ does.commits id page there));
       }
 
-  module _ (m : Machine) (actor : ℕ) (outcome : Outcome) (new : Machine) (fit : LinesFit m) (keeps : KeepsPages m.store) where
+  module _ (m : Machine) (actor : ℕ) (outcome : Outcome) (new : Machine) (may : IsActor actor) (latches : LatchesFit m) (fit : LinesFit m) (keeps : KeepsPages m.store) where
     same_store : new.store ≡ m.store → KeepsPages new.store
     same_store is = subst KeepsPages (sym is) keeps
 
     stays : (said : Outcome) → StaysSo m said outcome new → KeepsPages new.store
     stays said (says, is) = same_store (ap (λ (n : Machine). n.store) is)
 
-    -- so does what changes the log and what the file says of itself alone, and a write that fails
+    -- so does a page that is written to its place, and a write that fails
     flushes : {due : Outcome} → FlushesWell m due outcome new → KeepsPages new.store
-    flushes well = subst (λ (n : Machine). KeepsPages n.store) (sym well.leaves) (same_pages m.store well.store well.meta well.memory keeps)
+    flushes well = subst (λ (n : Machine). KeepsPages n.store) (sym well.leaves) (record { limits = keeps.limits; high = keeps.high; live = keeps.live; free = keeps.free; framed = keeps.framed })
 
     fails_so : {most : ℕ} → FailsToWrite m most outcome new → KeepsPages new.store
     fails_so fails = subst (λ (n : Machine). KeepsPages n.store) (sym fails.stops) (record { limits = keeps.limits; high = keeps.high; live = keeps.live; free = keeps.free; framed = keeps.framed })
@@ -131,24 +121,24 @@ module _ (makes : MakesGoodPages) (parts : HaveFittingParts) (points : HeldArePo
     worked (inl (by, way, so)) = stays (outcomes.Blocked by) so
     worked (inr (inl (free, unready, inl (waits, force)))) = forces outcomes.Helped force
     worked (inr (inl (free, unready, inr (none, rest)))) =
-        rest_kind m outcomes.Helped outcome new _ (KeepsPages new.store) none tt flushed_more (λ performs. performed m.store _ keeps (tells_none m.store _ (runs_out_nothing (m.activity actor))) performs) rest
+        ready_kind m actor outcome new (KeepsPages new.store) none flushed_more (λ performs. performed m.store _ keeps (tells_none m.store _ (runs_out_nothing (m.activity actor))) performs) rest
     worked (inr (inr (free, ready, inl acts))) =
-        performed acts.fetched acts.deed (brought m _ acts.fetched acts.brings keeps) (tells_row m actor _ acts.fetched acts.brings (wanted_by m actor) acts.deed refl (fit.in_hand actor) acts.row) acts.performs
+        performed acts.fetched acts.deed (brought m _ acts.fetched acts.brings keeps) (tells_row m actor _ acts.fetched acts.brings (inr (may, latches)) (wanted_by m actor) acts.deed refl (fit.in_hand actor) acts.row) acts.performs
     worked (inr (inr (free, ready, inr (inl gives)))) = performed gives.fetched _ (brought m _ gives.fetched gives.brings keeps) (tells_none gives.fetched _ (gives_up_nothing gives.why (m.activity actor))) gives.performs
     worked (inr (inr (free, ready, inr (inr bad)))) = meets bad
 
-  pub pages_stay : (m : Machine) (actor : ℕ) (outcome : Outcome) (new : Machine) → LinesFit m → KeepsPages m.store → StepsTo m actor outcome new → KeepsPages new.store
-  pages_stay m actor outcome new fit keeps step =
+  pub pages_stay : (m : Machine) (actor : ℕ) (outcome : Outcome) (new : Machine) → IsActor actor → LatchesFit m → LinesFit m → KeepsPages m.store → StepsTo m actor outcome new → KeepsPages new.store
+  pages_stay m actor outcome new may latches fit keeps step =
       each_kind m actor outcome new (KeepsPages new.store)
-      (λ said quiet so. stays m actor outcome new fit keeps said so)
-      (λ said quiet force. forces m actor outcome new fit keeps said force)
-      (flushed_more m actor outcome new fit keeps)
-      (λ deed rests performs. performed m actor outcome new fit keeps m.store deed keeps (tells_none m.store deed.op rests.op) performs)
-      (worked m actor outcome new fit keeps)
+      (λ said quiet so. stays m actor outcome new may latches fit keeps said so)
+      (λ said quiet force. forces m actor outcome new may latches fit keeps said force)
+      (flushed_more m actor outcome new may latches fit keeps)
+      (λ deed rests performs. performed m actor outcome new may latches fit keeps m.store deed keeps (tells_none m.store deed.op rests.op) performs)
+      (worked m actor outcome new may latches fit keeps)
       step
 
   pub pages_stay_of_file : PagesStayOfFile
-  pages_stay_of_file m actor outcome new fit within inside step = pages_kept new (pages_stay m actor outcome new fit (keeps_pages m within inside) step)
+  pages_stay_of_file m actor outcome new may latches fit within inside step = pages_kept new (pages_stay m actor outcome new may latches fit (keeps_pages m within inside) step)
 
   pub meta_stays_within_limits : MetaStaysWithinLimits
-  meta_stays_within_limits m actor outcome new fit within inside step = meta_kept new (pages_stay m actor outcome new fit (keeps_pages m within inside) step)
+  meta_stays_within_limits m actor outcome new may latches fit within inside step = meta_kept new (pages_stay m actor outcome new may latches fit (keeps_pages m within inside) step)

@@ -4,13 +4,12 @@ use Rattle.hb_set.specs.declared.scripts.Answered.{Answered}
 use Rattle.hb_core.specs.declared.outcomes.Outcome.{Outcome}
 use Rattle.hb_core.specs.declared.outcomes.Outcome.TheVariants as outcomes
 use Rattle.hb_activity.specs.Deeds.{Deed}
-use Rattle.hb_core.proofs.Table.StepKinds.{each_kind, FlushesMore, rest_kind, plain_is_quiet}
+use Rattle.hb_core.proofs.Table.StepKinds.{each_kind, FlushesMore, ready_kind, plain_is_quiet}
 use Rattle.hb_core.specs.Acting.{MeetsBadPage}
-use Rattle.hb_core.specs.Forcing.{ForcesFirst, StaysSo}
+use Rattle.hb_core.specs.Forcing.{ForcesFirst, StaysSo, HasMoreToFlush}
 use Rattle.hb_core.specs.Laws.{AnswersAreTimed, ClockMoves}
 use Rattle.hb_core.specs.Machines.{Machine}
 use Rattle.hb_core.specs.Performing.{Performs, given_by}
-use Rattle.hb_core.specs.Stages.{HasMoreToFlush}
 use Rattle.hb_core.specs.Steps.{StepsTo, Works}
 use Rattle.hb_store.specs.States.{StoreState}
 use Rattle.hb_wal.specs.Forces.{calls_of_force}
@@ -18,7 +17,7 @@ use Rattle.hb_wal.specs.Log.{Waiting}
 
 -- what a step does to both
 pub record Times (m : Machine) (outcome : Outcome) (new : Machine) : Type 0 where
-  pub clock : (new.clock ≡ m.clock) ⊎ ((m.store.log.groups ≢ []) × (m.clock ≤ new.clock) × (new.clock ≤ m.clock + 4)) ⊎ (HasMoreToFlush m.store × (m.clock ≤ new.clock) × (new.clock ≤ m.clock + 9))
+  pub clock : (new.clock ≡ m.clock) ⊎ ((m.store.log.groups ≢ []) × (m.clock ≤ new.clock) × (new.clock ≤ m.clock + 4)) ⊎ (HasMoreToFlush m × (m.clock ≤ new.clock) × (new.clock ≤ m.clock + 1))
   pub answered : new.answered ≡ m.answered ++ given_by outcome new.clock
 
 nothing_given : (m new : Machine) (outcome said : Outcome) → outcome ≡ said → given_by said new.clock ≡ [] → new.answered ≡ m.answered → new.answered ≡ m.answered ++ given_by outcome new.clock
@@ -38,7 +37,7 @@ module _ (m : Machine) (actor : ℕ) (outcome : Outcome) (new : Machine) where
         ∙ ap (λ (n : ℕ). m.answered ++ given_by outcome n) (sym performs.clock);
   }
 
-  forces_well : (groups : List Waiting) → m.store.log.groups ≡ groups → new.clock ≡ m.clock + calls_of_force groups → (new.clock ≡ m.clock) ⊎ ((m.store.log.groups ≢ []) × (m.clock ≤ new.clock) × (new.clock ≤ m.clock + 4)) ⊎ (HasMoreToFlush m.store × (m.clock ≤ new.clock) × (new.clock ≤ m.clock + 9))
+  forces_well : (groups : List Waiting) → m.store.log.groups ≡ groups → new.clock ≡ m.clock + calls_of_force groups → (new.clock ≡ m.clock) ⊎ ((m.store.log.groups ≢ []) × (m.clock ≤ new.clock) × (new.clock ≤ m.clock + 4)) ⊎ (HasMoreToFlush m × (m.clock ≤ new.clock) × (new.clock ≤ m.clock + 1))
   forces_well [] none clock = inl (omega (arith, clock))
   forces_well (first ∷ rest) some clock = inr (inl (λ empty. waits first rest (sym some ∙ empty), omega (arith, clock), omega (arith, clock)))
     where
@@ -59,9 +58,9 @@ module _ (m : Machine) (actor : ℕ) (outcome : Outcome) (new : Machine) where
 
   more_times : FlushesMore m outcome new → Times m outcome new
   more_times (none, left, inl (due, quiet, well)) =
-      let clock : new.clock ≡ m.clock + well.calls = ap (λ (n : Machine). n.clock) well.leaves in
+      let clock : new.clock ≡ m.clock + 1 = ap (λ (n : Machine). n.clock) well.leaves in
       record {
-        clock = inr (inr (left, omega (arith, clock), omega (arith, clock, well.few)));
+        clock = inr (inr (left, omega (arith, clock), omega (arith, clock)));
         answered = nothing_given m new outcome due well.says (plain_is_quiet due quiet new.clock) (ap (λ (n : Machine). n.answered) well.leaves);
       }
   more_times (none, left, inr fails) =
@@ -77,7 +76,7 @@ module _ (m : Machine) (actor : ℕ) (outcome : Outcome) (new : Machine) where
   worked : Works m actor outcome new → Times m outcome new
   worked (inl (by, way, so)) = same (outcomes.Blocked by) refl so
   worked (inr (inl (free, unready, inl (waits, force)))) = forced outcomes.Helped refl force
-  worked (inr (inl (free, unready, inr (none, rest)))) = rest_kind m outcomes.Helped outcome new _ (Times m outcome new) none tt more_times (performed m.store _) rest
+  worked (inr (inl (free, unready, inr (none, rest)))) = ready_kind m actor outcome new (Times m outcome new) none more_times (performed m.store _) rest
   worked (inr (inr (free, ready, inl acts))) = performed acts.fetched acts.deed acts.performs
   worked (inr (inr (free, ready, inr (inl gives)))) = performed gives.fetched _ gives.performs
   worked (inr (inr (free, ready, inr (inr meets)))) = met meets

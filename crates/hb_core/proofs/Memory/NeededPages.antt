@@ -12,10 +12,10 @@ use Rattle.hb_activity.specs.declared.activities.Activity.TheVariants as at
 use Rattle.hb_core.specs.declared.outcomes.Outcome.{Outcome}
 use Rattle.hb_core.specs.declared.outcomes.Outcome.TheVariants as outcomes
 use Rattle.hb_activity.specs.Deeds.{Deed}
-use Rattle.hb_core.proofs.Memory.CommitPages.{commit_pages}
+use Rattle.hb_core.proofs.Memory.CommitPages.{commit_here}
 use Rattle.hb_core.proofs.Memory.NextNumbers.{is_next_number}
 use Rattle.hb_core.proofs.Memory.OwnPages.{gives_up_nothing, runs_out_nothing}
-use Rattle.hb_core.proofs.Table.StepKinds.{each_kind, FlushesMore, rest_kind}
+use Rattle.hb_core.proofs.Table.StepKinds.{each_kind, FlushesMore, ready_kind}
 use Rattle.hb_core.proofs.Table.Targets.{IsNumber, numbers_are_targets, set_elsewhere}
 use Rattle.hb_core.specs.Acting.{MayNeed, NeedsNumber, takes_number}
 use Rattle.hb_core.specs.Asking.{wanted_by}
@@ -218,7 +218,7 @@ module _ (m : Machine) (actor : ℕ) (new : Machine) (id : ℕ) (was : in_memory
           changed (inr there) = brought there
 
           by : (set_pages (change_here fetched op).pages (in_memory fetched) id ≡ in_memory fetched id) ⊎ IsNumber id (change_here fetched op).pages → Needed
-          by (inl same) = brought (came_as (commit_pages _ _ _ _ does.commits id ∙ same))
+          by (inl same) = brought (came_as (commit_here _ _ _ _ does.commits id comes ∙ same))
           by (inr number) = changed (made_or_read op fetched id number)
 
   -- what a row may bring, and what a step may that is given up or meets a bad page
@@ -242,7 +242,7 @@ module _ (m : Machine) (actor : ℕ) (new : Machine) (id : ℕ) (was : in_memory
   failed fails = came_not (ap (λ (n : Machine). in_memory n.store id) fails.stops)
 
   flushed_more : {A : Type 0} (outcome : Outcome) → FlushesMore m outcome new → A
-  flushed_more outcome (none, left, inl (due, quiet, well)) = came_not (ap (λ (n : Machine). in_memory n.store id) well.leaves ∙ well.memory id)
+  flushed_more outcome (none, left, inl (due, quiet, well)) = came_not (ap (λ (n : Machine). in_memory n.store id) well.leaves)
   flushed_more outcome (none, left, inr fails) = failed fails
 
   forced : {A : Type 0} (said outcome : Outcome) → ForcesFirst m said outcome new → A
@@ -255,7 +255,7 @@ module _ (m : Machine) (actor : ℕ) (new : Machine) (id : ℕ) (was : in_memory
   made_ready : (outcome : Outcome) → GetsReady m actor outcome new → NeedsPage m actor id
   made_ready outcome (inl (waits, force)) = forced outcomes.Helped outcome force
   made_ready outcome (inr (none, rest)) =
-      rest_kind m outcomes.Helped outcome new _ (NeedsPage m actor id) none tt (flushed_more outcome) (λ performs. nothing_done _ _ (runs_out_nothing (m.activity actor)) performs.store) rest
+      ready_kind m actor outcome new (NeedsPage m actor id) none (flushed_more outcome) (λ performs. nothing_done _ _ (runs_out_nothing (m.activity actor)) performs.store) rest
 
   worked : (outcome : Outcome) → Works m actor outcome new → NeedsPage m actor id
   worked outcome (inl (by, way, so)) = stays (outcomes.Blocked by) outcome so

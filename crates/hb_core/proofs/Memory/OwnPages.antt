@@ -1,6 +1,6 @@
 -- A step changes no page in use but those that its actor has for itself.
-use Rattle.hb_core.proofs.Memory.CommitPages.{commit_pages}
-use Rattle.std.proofs.Common.{◌≡◌, ◌≢◌, ◌⊎◌, inl, inr, ℕ, true, Option, Some, None, IfSome, IsTrue, refl, sym, ap, ◌∙◌, subst}
+use Rattle.hb_core.proofs.Memory.CommitPages.{HasLeft, commit_pages}
+use Rattle.std.proofs.Common.{◌≡◌, ◌≢◌, ◌⊎◌, inl, inr, ℕ, false, true, Option, Some, None, IfSome, IsTrue, refl, sym, ap, ◌∙◌, subst}
 use Rattle.std.proofs.lemmas.Bool.{false≢true}
 use Rattle.hb_frag.specs.declared.pages.LivePage.{LivePage}
 use Rattle.hb_frag.specs.declared.pages.Page.TheVariants.{Live}
@@ -16,7 +16,7 @@ use Rattle.hb_activity.specs.Deeds.{Deed, does}
 use Rattle.hb_core.proofs.Memory.BroughtPages.{stays_or_left}
 use Rattle.hb_core.proofs.Table.GivenUp.{given_up_is, run_out_is}
 use Rattle.hb_core.proofs.Memory.OwnedOps.{IsFreeFor, OwnsTargets, allowed_by, owned_row}
-use Rattle.hb_core.proofs.Table.StepKinds.{IsOutright, each_kind, FlushesMore, rest_kind}
+use Rattle.hb_core.proofs.Table.StepKinds.{IsOutright, each_kind, FlushesMore, ready_kind}
 use Rattle.hb_core.proofs.Table.Targets.{IsNumber, numbers_are_targets, set_elsewhere}
 use Rattle.hb_core.specs.Asking.{wanted_by}
 use Rattle.hb_core.specs.Fetching.{Brings, MustStay}
@@ -27,6 +27,7 @@ use Rattle.hb_core.specs.Laws.{HasAlone, HeldPagesStay, IsInUse, OwnPagesChange,
 use Rattle.hb_core.specs.Machines.{Machine}
 use Rattle.hb_core.specs.Performing.{MayDo, Performs}
 use Rattle.hb_core.specs.Steps.{GetsReady, Works}
+use Rattle.hb_core.specs.Using.{is_changed}
 use Rattle.hb_latch.specs.Modes.{goes_beside}
 use Rattle.hb_latch.specs.Tables.{IsGrantable, mode_at}
 use Rattle.hb_space.specs.Actors.{IsActor}
@@ -51,40 +52,59 @@ module _ (m : Machine) (actor : ℕ) (latches : IsActor actor) (fit : LatchesFit
 
   -- what was fetched leaves it, or it has left
   abbrev Remains : StoreState → Type 0
-  Remains fetched = (in_memory fetched id ≡ Some (Live page)) ⊎ ((¬ (MustStay m id)) × (in_memory fetched id ≡ None))
+  Remains fetched = (in_memory fetched id ≡ Some (Live page)) ⊎ ((¬ (MustStay m id)) × ((in_memory fetched id ≡ None) ⊎ (m.files ≡ None)))
 
   -- and so does what is done on other pages
   carried : (st : StoreState) → in_memory new.store id ≡ in_memory st id → Remains st → Goal
   carried st same (inl there) = inl (same ∙ there)
-  carried st same (inr (may, gone)) = inr (inl (may, same ∙ gone))
+  carried st same (inr (may, inl gone)) = inr (inl (may, inl (same ∙ gone)))
+  carried st same (inr (may, inr untold)) = inr (inl (may, inr untold))
 
-  done : (op : Option Op) (mark : ℕ) (fetched : StoreState) → Remains fetched → OwnsTargets m actor op → MayDo op mark fetched new.store → Goal
-  done None mark fetched there owned does = carried fetched (ap (λ (st : StoreState). in_memory st id) does) there
-  done (Some op) mark fetched there owned does = by (set_elsewhere (change_here fetched op).pages (in_memory fetched) id)
+  -- a page that must stay, and isn't changed, stays
+  abbrev Stays : Option Op → StoreState → Type 0
+  Stays op fetched = (q : ℕ) → MustStay m q → is_changed op fetched q ≡ false → in_memory new.store q ≡ in_memory fetched q
+
+  -- so what left memory in a commit need not stay
+  left : (op : Op) (fetched : StoreState) → Stays (Some op) fetched → Remains fetched → HasLeft op fetched new.store id → Goal
+  left op fetched stay there (off, gone) = inr (inl (λ must. by must there, inl gone))
+    where
+      nothing : None ≡ Some (Live page) → ⊥
+      nothing is = cc
+
+      by : MustStay m id → Remains fetched → ⊥
+      by must (inl is) = nothing (sym gone ∙ stay id must off ∙ is)
+      by must (inr (may, why)) = may must
+
+  done : (op : Option Op) (mark : ℕ) (fetched : StoreState) → Remains fetched → OwnsTargets m actor op → Stays op fetched → MayDo op mark fetched new.store → Goal
+  done None mark fetched there owned stay does = carried fetched (ap (λ (st : StoreState). in_memory st id) does) there
+  done (Some op) mark fetched there owned stay does = by (set_elsewhere (change_here fetched op).pages (in_memory fetched) id)
     where
       by : (set_pages (change_here fetched op).pages (in_memory fetched) id ≡ in_memory fetched id) ⊎ IsNumber id (change_here fetched op).pages → Goal
-      by (inl same) = carried fetched (commit_pages _ _ _ _ does.commits id ∙ same) there
+      by (inl same) = elim (commit_pages _ _ _ _ does.commits id) [
+        | inl set ↦ carried fetched (set ∙ same) there
+        | inr gone ↦ left op fetched stay there gone
+      ]
       by (inr number) = free (owned id (numbers_are_targets op fetched.meta (read_here fetched op 0) (read_here fetched op 1) (read_here fetched op 2) id number))
         where
           free : IsFreeFor m actor id → Goal
           free (inl alone) = inr (inr alone)
-          free (inr never) = absurd (never page used)
+          free (inr anew) = let one = anew page used in inr (inl (one.0, inr one.1))
 
   performed : (may : ℕ → Type 0) (fetched : StoreState) (deed : Deed) (outcome : Outcome) → Brings m may fetched → OwnsTargets m actor deed.op → Performs m fetched actor deed outcome new → Goal
-  performed may fetched deed outcome brings owned performs = done deed.op _ fetched (stays_or_left m may fetched brings id (Live page) used) owned performs.store
+  performed may fetched deed outcome brings owned performs = done deed.op _ fetched (stays_or_left m may fetched brings id (Live page) used) owned performs.stays performs.store
 
   -- with no operation
   owns_nothing : (op : Option Op) → op ≡ None → OwnsTargets m actor op
   owns_nothing op is = subst (OwnsTargets m actor) (sym is) tt
 
   only_moved : (deed : Deed) (outcome : Outcome) → deed.op ≡ None → Performs m m.store actor deed outcome new → Goal
-  only_moved deed outcome none performs = done deed.op _ m.store (inl used) (owns_nothing deed.op none) performs.store
+  only_moved deed outcome none performs = done deed.op _ m.store (inl used) (owns_nothing deed.op none) performs.stays performs.store
 
   failed : {most : ℕ} {outcome : Outcome} → FailsToWrite m most outcome new → Goal
   failed fails = inl (ap (λ (n : Machine). in_memory n.store id) fails.stops ∙ used)
 
   flushes : {due outcome : Outcome} → FlushesWell m due outcome new → Goal
-  flushes well = inl (ap (λ (n : Machine). in_memory n.store id) well.leaves ∙ well.memory id ∙ used)
+  flushes well = inl (ap (λ (n : Machine). in_memory n.store id) well.leaves ∙ used)
 
   flushed_more : (outcome : Outcome) → FlushesMore m outcome new → Goal
   flushed_more outcome (none, left, inl (due, quiet, well)) = flushes well
@@ -100,7 +120,7 @@ module _ (m : Machine) (actor : ℕ) (latches : IsActor actor) (fit : LatchesFit
   made_ready : (outcome : Outcome) → GetsReady m actor outcome new → Goal
   made_ready outcome (inl (waits, force)) = forced outcomes.Helped outcome force
   made_ready outcome (inr (none, rest)) =
-      rest_kind m outcomes.Helped outcome new _ Goal none tt (flushed_more outcome) (only_moved (runs_out (m.activity actor)) outcome (runs_out_nothing (m.activity actor))) rest
+      ready_kind m actor outcome new Goal none (flushed_more outcome) (only_moved (runs_out (m.activity actor)) outcome (runs_out_nothing (m.activity actor))) rest
 
   worked : (outcome : Outcome) → Works m actor outcome new → Goal
   worked outcome (inl (by, way, so)) = stays (outcomes.Blocked by) outcome so

@@ -22,7 +22,7 @@ use Rattle.hb_core.proofs.Files.PairAtHand.{decides_page}
 use Rattle.hb_core.proofs.Memory.NextNumbers.{is_next_number}
 use Rattle.hb_core.proofs.Table.Targets.{IsTarget}
 use Rattle.hb_core.specs.Asking.{HasWayFree, looked_live, wanted_by}
-use Rattle.hb_core.specs.Fetching.{Brings}
+use Rattle.hb_core.specs.Fetching.{Brings, MustStay}
 use Rattle.hb_core.specs.Keeps.{HoldsPagesOfFile, LatchesFit}
 use Rattle.hb_core.specs.Laws.{HasAlone, IsInUse}
 use Rattle.hb_core.specs.Machines.{Machine, with_disk, sight}
@@ -40,8 +40,12 @@ use Rattle.hb_activity.proofs.Facts.HeldLatches.{in_its_mode}
 use Rattle.hb_lemmas.proofs.Booleans.{at_itself}
 
 -- Each page that an operation changes the actor has for itself, or it was in no use.
+-- Over a disk that doesn't tell, a page that was in use and need not stay may have come again as a free one.
+abbrev pub IsAnew : Machine → ℕ → Type 0
+IsAnew m id = (page : LivePage) → IsInUse m id page → (¬ (MustStay m id)) × (m.files ≡ None)
+
 abbrev pub IsFreeFor : Machine → ℕ → ℕ → Type 0
-IsFreeFor m actor id = HasAlone m actor id ⊎ ((page : LivePage) → IsInUse m id page → ⊥)
+IsFreeFor m actor id = HasAlone m actor id ⊎ IsAnew m id
 
 abbrev pub OwnsTargets : Machine → ℕ → Option Op → Type 0
 OwnsTargets m actor None = Unit {0}
@@ -52,19 +56,20 @@ like : (m : Machine) (actor id other : ℕ) → id ≡ other → IsFreeFor m act
 like m actor id other is free = subst (IsFreeFor m actor) (sym is) free
 
 -- the page that is made was in no use
-pub made_was_free : (m : Machine) (may : ℕ → Type 0) (fetched : StoreState) (fresh free_after : ℕ) → HoldsPagesOfFile m → Brings m may fetched → IsNext fetched fresh free_after → (page : LivePage) → IsInUse m fresh page → ⊥
+pub made_was_free : (m : Machine) (may : ℕ → Type 0) (fetched : StoreState) (fresh free_after : ℕ) → HoldsPagesOfFile m → Brings m may fetched → IsNext fetched fresh free_after → IsAnew m fresh
 made_was_free m may fetched fresh free_after inside brings next = elim (cases_Bool (fetched.meta.free == 0)) [
   | inl none ↦ λ page used.
       let behind = next.from_behind (eqb-true fetched.meta.free 0 none) in
       let within = inside fresh (Live page) used in
       let meta : fetched.meta.high ≡ m.store.meta.high = ap (λ (meta : Meta). meta.high) brings.rest.meta in
-      omega (arith, behind.0, within.1, meta)
+      absurd (omega (arith, behind.0, within.1, meta))
   | inr some ↦ λ page used.
       let head = next.from_chain (eqb-false fetched.meta.free 0 some) in
       let there : IsSome (in_memory m.store fresh) = subst (λ (o : Option Page). IsSome o) (sym used) refl in
       elim (brings.others fresh there) [
-        | inl same ↦ free_is_not_live free_after page (sym head.1 ∙ same ∙ used)
-        | inr gone ↦ free_is_not_none free_after (sym head.1 ∙ gone)
+        | inl same ↦ absurd (free_is_not_live free_after page (sym head.1 ∙ same ∙ used))
+        | inr (inl gone) ↦ absurd (free_is_not_none free_after (sym head.1 ∙ gone))
+        | inr (inr (untold, asked, free)) ↦ (free, untold)
       ]
 ]
   where

@@ -10,7 +10,6 @@ use Rattle.hb_activity.specs.declared.activities.Activity.{Activity}
 use Rattle.hb_core.specs.declared.outcomes.Outcome.{Outcome}
 use Rattle.hb_activity.specs.Deeds.{Deed}
 use Rattle.hb_activity.specs.Walks.{walk_held}
-use Rattle.hb_core.proofs.Memory.BroughtPages.{same_there}
 use Rattle.hb_core.proofs.Latches.LatchesStay.{walk_latched}
 use Rattle.hb_core.proofs.Memory.OwnPages.{held_pages_stay}
 use Rattle.hb_core.proofs.Table.Ways.{others_stay}
@@ -56,15 +55,12 @@ pub nothing_done : (op : Option Op) (mark : ℕ) (fetched new : StoreState) → 
 nothing_done op mark fetched new none done = subst (λ (o : Option Op). MayDo o mark fetched new) none done
 
 module _ (m : Machine) (may : ℕ → Type 0) (fetched : StoreState) (inside : HoldsPagesOfFile m) (brings : Brings m may fetched) where
-  by_frame : (id : ℕ) (page : Page) (o : Option Page) → (in_memory m.store) id ≡ o → (in_memory fetched) id ≡ Some page → IsGoodPage m.store.meta page
-  by_frame id page None none there = (brings.good id page none there).2
-  by_frame id page (Some old) some there =
-      let same : (in_memory m.store) id ≡ Some page = sym (same_there m may fetched brings id old page some there) ∙ there in
-      (inside id page same).2
-
   -- what is in memory after a fetch keeps the rules that speak of a page alone
   pub fetched_good : (id : ℕ) (page : LivePage) → live_here fetched id ≡ Some page → IsGoodPage m.store.meta (Live page)
-  fetched_good id page live = by_frame id (Live page) (in_memory m.store id) refl (live_so (in_memory fetched id) page live)
+  fetched_good id page live = elim (brings.good id (Live page) (live_so (in_memory fetched id) page live)) [
+    | inl was ↦ (inside id (Live page) was).2
+    | inr good ↦ good.2
+  ]
 
 module _ (m : Machine) (actor : ℕ) (fetched : StoreState) (deed : Deed) (outcome : Outcome) (new : Machine) (performs : Performs m fetched actor deed outcome new) where
   pub own_next : new.activity actor ≡ deed.next

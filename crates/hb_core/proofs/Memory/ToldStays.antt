@@ -3,7 +3,7 @@ use Rattle.std.proofs.Common.{◌≡◌, inl, inr, ℕ, Option, Some, None, opti
 use Rattle.hb_ops.specs.declared.operations.Op.{Op}
 use Rattle.hb_core.specs.declared.outcomes.Outcome.{Outcome}
 use Rattle.hb_core.specs.declared.outcomes.Outcome.TheVariants as outcomes
-use Rattle.hb_core.proofs.Table.StepKinds.{each_kind, FlushesMore, rest_kind}
+use Rattle.hb_core.proofs.Table.StepKinds.{each_kind, FlushesMore, ready_kind}
 use Rattle.hb_core.specs.Forcing.{ForcesFirst, StaysSo, forced_files}
 use Rattle.hb_core.specs.Machines.{Files, Machine}
 use Rattle.hb_core.specs.Performing.{files_after, with_effect}
@@ -31,7 +31,7 @@ module _ (m : Machine) (files : Files) (told : m.files ≡ Some files) (actor : 
   told_works : Works m actor outcome new → IsTold new
   told_works (inl (by, way, so)) = told_stays (outcomes.Blocked by) so
   told_works (inr (inl (free, unready, inl (waits, force)))) = told_forced outcomes.Helped force
-  told_works (inr (inl (free, unready, inr (none, rest)))) = rest_kind m outcomes.Helped outcome new _ (IsTold new) none tt told_more (λ performs. told_after _ performs.files) rest
+  told_works (inr (inl (free, unready, inr (none, rest)))) = ready_kind m actor outcome new (IsTold new) none told_more (λ performs. told_after _ performs.files) rest
   told_works (inr (inr (free, ready, inl acts))) = told_after _ acts.performs.files
   told_works (inr (inr (free, ready, inr (inl gives)))) = told_after _ gives.performs.files
   told_works (inr (inr (free, ready, inr (inr meets)))) = (files, ap (λ (x : Machine). x.files) meets.stops ∙ told)

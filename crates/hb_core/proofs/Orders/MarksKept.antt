@@ -7,7 +7,7 @@ use Rattle.hb_core.specs.declared.outcomes.Outcome.{Outcome}
 use Rattle.hb_core.specs.declared.outcomes.Outcome.TheVariants as outcomes
 use Rattle.hb_activity.specs.Deeds.{Deed}
 use Rattle.hb_core.proofs.Orders.PendingKept.{IsBelow, rising_one_more, rising_rest}
-use Rattle.hb_core.proofs.Table.StepKinds.{FlushesMore, each_kind, rest_kind}
+use Rattle.hb_core.proofs.Table.StepKinds.{FlushesMore, each_kind, ready_kind}
 use Rattle.hb_core.specs.Forcing.{FailsToWrite, ForcesFirst, StaysSo}
 use Rattle.hb_core.specs.KeptMachine.{MachineKeeps}
 use Rattle.hb_core.specs.KeptPlaces.{MarksRise}
@@ -68,7 +68,7 @@ module _ (m : Machine) (actor : ℕ) (outcome : Outcome) (new : Machine) (marks 
   forces said (inr badly) = fails badly.1
 
   more_flushed : FlushesMore m outcome new → MarksRise new
-  more_flushed (none, left, inl (due, quiet, well)) = same (ap (λ (n : Machine). n.order) well.leaves) (ap (λ (n : Machine). n.store.log.groups) well.leaves ∙ well.no_group ∙ sym none)
+  more_flushed (none, left, inl (due, quiet, well)) = same (ap (λ (n : Machine). n.order) well.leaves) (ap (λ (n : Machine). n.store.log.groups) well.leaves)
   more_flushed (none, left, inr failed) = fails failed
 
   done : (op : Option Op) (fetched : StoreState) (more : List Entry) → fetched.log ≡ m.store.log → new.order ≡ m.order ++ more → MayDo op (length m.order) fetched new.store → MarksRise new
@@ -83,7 +83,7 @@ module _ (m : Machine) (actor : ℕ) (outcome : Outcome) (new : Machine) (marks 
   worked : Works m actor outcome new → MarksRise new
   worked (inl (by, way, so)) = stays (outcomes.Blocked by) so
   worked (inr (inl (free, unready, inl (waits, force)))) = forces outcomes.Helped force
-  worked (inr (inl (free, unready, inr (none, rest)))) = rest_kind m outcomes.Helped outcome new _ (MarksRise new) none tt more_flushed (performed m.store _ refl) rest
+  worked (inr (inl (free, unready, inr (none, rest)))) = ready_kind m actor outcome new (MarksRise new) none more_flushed (performed m.store _ refl) rest
   worked (inr (inr (free, ready, inl acts))) = performed acts.fetched acts.deed acts.brings.rest.log acts.performs
   worked (inr (inr (free, ready, inr (inl gives)))) = performed gives.fetched _ gives.brings.rest.log gives.performs
   worked (inr (inr (free, ready, inr (inr meets)))) = same (ap (λ (n : Machine). n.order) meets.stops) (ap (λ (n : Machine). n.store.log.groups) meets.stops ∙ ap (λ (log : LogState). log.groups) meets.brings.rest.log)

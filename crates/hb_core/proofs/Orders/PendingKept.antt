@@ -14,7 +14,7 @@ use Rattle.hb_activity.specs.Deeds.{Deed, does}
 use Rattle.hb_core.proofs.Orders.AnswersInPlace.{answers_are_in_place}
 use Rattle.hb_core.proofs.Memory.Moments.{answers_are_timed}
 use Rattle.hb_core.proofs.TwoSteps.SinglePlaces.{no_place, one_place, stands_longer}
-use Rattle.hb_core.proofs.Table.StepKinds.{each_kind, FlushesMore, rest_kind}
+use Rattle.hb_core.proofs.Table.StepKinds.{each_kind, FlushesMore, ready_kind}
 use Rattle.hb_core.proofs.Memory.ToldStays.{still_told}
 use Rattle.hb_core.proofs.Table.Ways.{order_grows}
 use Rattle.hb_core.specs.Acting.{MeetsBadPage}
@@ -177,14 +177,14 @@ module _ (n : RecordSet) (m : Machine) (files : Files) (new : Machine) (files' :
     performed fetched deed log performs = done deed.op fetched (if_some deed.joins) log performs.order performs.files performs.store
 
     flushed_more : FlushesMore m outcome new → KeepsMarks n m new files'
-    flushed_more (none, left, inl (due, quiet, well)) = same (ap (λ (x : Machine). x.order) well.leaves) (ap (λ (x : Machine). x.store.log.groups) well.leaves ∙ well.no_group ∙ sym none) (ap (λ (x : Machine). x.files) well.leaves)
+    flushed_more (none, left, inl (due, quiet, well)) = same (ap (λ (x : Machine). x.order) well.leaves) (ap (λ (x : Machine). x.store.log.groups) well.leaves) (ap (λ (x : Machine). x.files) well.leaves)
     flushed_more (none, left, inr fails) = same (ap (λ (x : Machine). x.order) fails.stops) (ap (λ (x : Machine). x.store.log.groups) fails.stops) (ap (λ (x : Machine). x.files) fails.stops)
 
     worked : Works m actor outcome new → KeepsMarks n m new files'
     worked (inl (by, way, so)) = stayed (outcomes.Blocked by) so
     worked (inr (inl (free, unready, inl (waits, force)))) = forced_first outcomes.Helped force
     worked (inr (inl (free, unready, inr (none, rest)))) =
-        rest_kind m outcomes.Helped outcome new _ (KeepsMarks n m new files') none tt flushed_more (performed m.store _ refl) rest
+        ready_kind m actor outcome new (KeepsMarks n m new files') none flushed_more (performed m.store _ refl) rest
     worked (inr (inr (free, ready, inl acts))) = performed acts.fetched acts.deed acts.brings.rest.log acts.performs
     worked (inr (inr (free, ready, inr (inl gives)))) = performed gives.fetched _ gives.brings.rest.log gives.performs
     worked (inr (inr (free, ready, inr (inr meets)))) = met meets

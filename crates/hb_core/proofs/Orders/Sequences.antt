@@ -18,7 +18,7 @@ use Rattle.hb_core.proofs.Table.LineFates.{LineFate, fate_given_up, fate_ran_out
 use Rattle.hb_core.proofs.Orders.LinesFit.{took_job, took_merging}
 use Rattle.hb_core.proofs.Table.MergerMoves.{Waits}
 use Rattle.hb_core.proofs.Orders.NextLines.{IsNextOf, answered_before, earlier_answered, next_is, next_stays, now_answered, same_line, still_answered}
-use Rattle.hb_core.proofs.Table.StepKinds.{each_step, rest_kind}
+use Rattle.hb_core.proofs.Table.StepKinds.{each_step, ready_kind}
 use Rattle.hb_core.proofs.Table.Ways.{KeepsAllButDisk, same_answers, same_order, forces_so, meets_so, stays_so, more_so}
 use Rattle.hb_core.specs.KeptSequence.{LinesInSequence, awaited_number}
 use Rattle.hb_core.specs.Machines.{Machine, if_some, with_activity}
@@ -227,7 +227,7 @@ module _ (m : Machine) (actor : ℕ) (outcome : Outcome) (new : Machine) (sequen
   worked idle (inl (by, way, so)) = stays (stays_so m actor outcome new (outcomes.Blocked by) so)
   worked idle (inr (inl (free, unready, inl (waits, force)))) = stays (forces_so m actor outcome new outcomes.Helped force)
   worked idle (inr (inl (free, unready, inr (none, rest)))) =
-      rest_kind m outcomes.Helped outcome new _ (LinesInSequence new) none tt (λ more. stays (more_so m actor outcome new more)) (fated m.store _ idle (fate_ran_out m (m.activity actor))) rest
+      ready_kind m actor outcome new (LinesInSequence new) none (λ more. stays (more_so m actor outcome new more)) (fated m.store _ idle (fate_ran_out m (m.activity actor))) rest
   worked idle (inr (inr (free, ready, inl acts))) = fated acts.fetched acts.deed idle (fate_row m acts.fetched (m.activity actor) _ acts.deed acts.row) acts.performs
   worked idle (inr (inr (free, ready, inr (inl gives)))) = fated gives.fetched _ idle (fate_given_up m gives.why (m.activity actor)) gives.performs
   worked idle (inr (inr (free, ready, inr (inr meets)))) = stays (meets_so m actor outcome new meets)

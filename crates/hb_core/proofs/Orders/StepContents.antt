@@ -19,7 +19,7 @@ use Rattle.hb_core.proofs.Memory.OwnPages.{gives_up_nothing, runs_out_nothing}
 use Rattle.hb_core.proofs.Orders.RowContents.{ContentsBecomeBy, JoinsWith, joins_row}
 use Rattle.hb_core.proofs.Files.RowTells.{Tells, tells_row}
 use Rattle.hb_core.proofs.Files.SoundFiles.{FilesHold, brought_shown, files_hold, sound_within_limits, may_be_done, shows_file}
-use Rattle.hb_core.proofs.Table.StepKinds.{each_step, FlushesMore, rest_kind}
+use Rattle.hb_core.proofs.Table.StepKinds.{each_step, FlushesMore, ready_kind}
 use Rattle.hb_core.specs.Acting.{MeetsBadPage}
 use Rattle.hb_core.specs.Asking.{wanted_by}
 use Rattle.hb_core.specs.ContentsLaws.{ChangesAt, ContentsFollowOrder, ContentsStep, PointsStay, contents_now}
@@ -42,6 +42,7 @@ use Rattle.hb_store.proofs.Facts.ReplayLaws.{last_of-append}
 use Rattle.hb_store.specs.States.{StoreState}
 use Rattle.hb_space.proofs.Facts.PointOrder.{same_point}
 use Rattle.hb_store.proofs.Facts.StoreLaws.{last_forced}
+use Rattle.hb_core.proofs.Memory.BroughtPages.{told_files}
 
 -- ---- what an operation does
 
@@ -104,11 +105,11 @@ module _ (makes : MakesGoodPages) (parts : HaveFittingParts) (points : HeldArePo
   worked (inl (by, way, so)) = stays (outcomes.Blocked by) so
   worked (inr (inl (free, unready, inl (waits, force)))) = forces outcomes.Helped force
   worked (inr (inl (free, unready, inr (none, rest)))) =
-      rest_kind m outcomes.Helped outcome new _ Follows none tt flushed_more (quiet m.store _ (runs_out_nothing (m.activity actor)) (ran_out_joins_nothing (m.activity actor))) rest
+      ready_kind m actor outcome new Follows none flushed_more (quiet m.store _ (runs_out_nothing (m.activity actor)) (ran_out_joins_nothing (m.activity actor))) rest
   worked (inr (inr (free, ready, inl acts))) =
       let here = brought m _ acts.fetched acts.brings keeps in
       let hold = brought_shown m files _ acts.fetched told acts.brings holds in
-      let tells = tells_row m actor _ acts.fetched acts.brings (wanted_by m actor) acts.deed refl (fit.in_hand actor) acts.row in
+      let tells = tells_row m actor _ acts.fetched acts.brings (inl (told_files m files told)) (wanted_by m actor) acts.deed refl (fit.in_hand actor) acts.row in
       let done = becomes acts.fetched acts.deed.op _ here hold tells acts.performs.store acts.performs.files in (
         done.0,
         done.1,

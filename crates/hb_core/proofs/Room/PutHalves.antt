@@ -1,5 +1,5 @@
 -- A session puts its record into the half of a split that has room.
-use Rattle.std.proofs.Common.{◌≡◌, ◌⊎◌, inl, inr, ℕ, Some, sym, ap, ◌∙◌, subst}
+use Rattle.std.proofs.Common.{◌≡◌, ◌⊎◌, inl, inr, ℕ, Some, sym, ap, ◌∙◌, subst, refl}
 use Rattle.std.proofs.lemmas.Option.{same_Some}
 use Rattle.hb_space.specs.declared.records.Record.{Record}
 use Rattle.hb_frag.specs.declared.pages.LivePage.{LivePage}
@@ -14,13 +14,14 @@ use Rattle.hb_core.proofs.Memory.BroughtPages.{both_there}
 use Rattle.hb_core.specs.AllowedLaws.{AnyPage, RowsAreAllowed}
 use Rattle.hb_core.specs.Asking.{looked_live}
 use Rattle.hb_core.specs.DoableLaws.{PutsFindRoom, RowsCanBeDone}
-use Rattle.hb_core.specs.Fetching.{Brings}
+use Rattle.hb_core.specs.Fetching.{Brings, MustStay}
 use Rattle.hb_core.specs.Keeps.{HasRoomFor, OneHasRoom}
 use Rattle.hb_core.specs.Machines.{Machine, live_here, with_disk, sight}
 use Rattle.hb_core.specs.Rows.{Row}
 use Rattle.hb_frag.specs.Leaves.{DirectlyHolds}
 use Rattle.hb_point.specs.SplitRows.{PutsInHalf}
 use Rattle.hb_store.specs.States.{StoreState}
+use Rattle.hb_core.proofs.Files.AllowedRows.{half_held}
 
 -- the operation of a put tells its half and its record
 pub record IsPutOf (half other : ℕ) (rec same : Record) : Type 0 where
@@ -33,11 +34,11 @@ put_of half other rec same is = record { where_it_goes = cc; what_goes = cc }
 pub insert_of : (rec same : Record) → Insert rec ≡ Insert same → rec ≡ same
 insert_of rec same is = cc
 
-module _ (m : Machine) (fetched : StoreState) (brings : Brings m AnyPage fetched) (line : Line) (source fresh : ℕ) (deed : Deed) (row : PutsInHalf (sight (with_disk fetched m.files m.clock m)) line source fresh deed) where
+module _ (m : Machine) (fetched : StoreState) (brings : Brings m AnyPage fetched) (line : Line) (source fresh : ℕ) (deed : Deed) (row : PutsInHalf (sight (with_disk fetched m.files m.clock m)) line source fresh deed) (held : (half : ℕ) → (half ≡ source) ⊎ (half ≡ fresh) → MustStay m half) where
   -- the page that holds the point is the one that the machine knows
-  the_half : (id : ℕ) (page : LivePage) → live_here m.store id ≡ Some page → row.half ≡ id → DirectlyHolds page row.rec.key
-  the_half id page live is =
-      let same : row.page ≡ page = same_Some row.page page (sym row.live ∙ ap (live_here fetched) is ∙ both_there m AnyPage fetched brings id page row.page live (ap (live_here fetched) (sym is) ∙ row.live)) in
+  the_half : (id : ℕ) (page : LivePage) → live_here m.store id ≡ Some page → row.half ≡ id → (id ≡ source) ⊎ (id ≡ fresh) → DirectlyHolds page row.rec.key
+  the_half id page live is either =
+      let same : row.page ≡ page = same_Some row.page page (sym row.live ∙ ap (live_here fetched) is ∙ both_there m AnyPage fetched brings id page row.page (inr (held id either)) live (ap (live_here fetched) (sym is) ∙ row.live)) in
       subst (λ (q : LivePage). DirectlyHolds q row.rec.key) same row.holds
 
   room_of : OneHasRoom m source fresh row.rec.key row.rec.body → HasRoomFor m row.half row.rec.key row.rec.body
@@ -51,10 +52,10 @@ module _ (m : Machine) (fetched : StoreState) (brings : Brings m AnyPage fetched
       by (inr has) (inr is) = at_half fresh is has
       by (inl has) (inr is) =
           let first = subst (λ (q : LivePage). DirectlyHolds q row.rec.key) (same_Some has.page one.first (sym has.live ∙ one.first_live)) has.direct in
-          absurd (one.not_both first (the_half fresh one.second one.second_live is))
+          absurd (one.not_both first (the_half fresh one.second one.second_live is (inr refl)))
       by (inr has) (inl is) =
           let second = subst (λ (q : LivePage). DirectlyHolds q row.rec.key) (same_Some has.page one.second (sym has.live ∙ one.second_live)) has.direct in
-          absurd (one.not_both (the_half source one.first one.first_live is) second)
+          absurd (one.not_both (the_half source one.first one.first_live is (inl refl)) second)
 
   put_finds : (half : ℕ) (rec : Record) → deed.op ≡ Some (Put half rec) → (same : Record) → line.command ≡ Insert same → OneHasRoom m source fresh same.key same.body → HasRoomFor m half rec.key rec.body
   put_finds half rec does same command one =
@@ -64,15 +65,15 @@ module _ (m : Machine) (fetched : StoreState) (brings : Brings m AnyPage fetched
       subst (λ (r : Record). HasRoomFor m half r.key r.body) told.what_goes (subst (λ (n : ℕ). HasRoomFor m n row.rec.key row.rec.body) told.where_it_goes has)
 
 pub puts_find_room : PutsFindRoom
-puts_find_room m actor fetched deed op knows brings row does line source fresh half rec is put =
+puts_find_room m actor fetched deed op may fit knows brings row does line source fresh half rec is put =
     by (knows.puts actor source fresh line is)
   where
     puts : PutsInHalf (sight (with_disk fetched m.files m.clock m)) line source fresh deed
     puts = subst (λ (a : Activity). Row a (wanted_of a m.store.meta (looked_live m.store a)) (with_disk fetched m.files m.clock m) deed) is row
 
     by : (same : Record) × (line.command ≡ Insert same) × OneHasRoom m source fresh same.key same.body → HasRoomFor m half rec.key rec.body
-    by (same, command, one) = put_finds m fetched brings line source fresh deed puts half rec (does ∙ ap (λ (o : Op). Some o) put) same command one
+    by (same, command, one) = put_finds m fetched brings line source fresh deed puts (λ half either. half_held m actor may fit line source fresh half is either) half rec (does ∙ ap (λ (o : Op). Some o) put) same command one
 
 pub rows_can_be_done : RowsAreAllowed → RowsCanBeDone
-rows_can_be_done allowed m actor fetched deed op within inside knows walks brings row does =
-    allowed m actor fetched deed op within inside knows walks brings row does (puts_find_room m actor fetched deed op knows brings row does)
+rows_can_be_done allowed m actor fetched deed op may fit within inside knows names brings row does =
+    allowed m actor fetched deed op may fit within inside knows names brings row does (puts_find_room m actor fetched deed op may fit knows brings row does)

@@ -25,11 +25,11 @@ use Rattle.hb_activity.specs.Walks.{walk_held}
 use Rattle.hb_core.proofs.Table.NextPlaces.{HasPlace, HoldsNothing, KeepsParent, PartsFull, TakesFull, nothing_given_up, nothing_run_out, now, place_after}
 use Rattle.hb_core.proofs.Room.SplitHalves.{one_has_room, takes_full}
 use Rattle.hb_core.proofs.Room.SplitHome.{RoomLaws}
-use Rattle.hb_core.proofs.Table.StepKinds.{each_kind, FlushesMore, rest_kind}
+use Rattle.hb_core.proofs.Table.StepKinds.{each_kind, FlushesMore, ready_kind}
 use Rattle.hb_core.proofs.Memory.StillThere.{may_or_not, other_holds, own_next}
 use Rattle.hb_core.proofs.Table.Ways.{KeepsAllButDisk, forces_so, meets_so, stays_so, more_so}
 use Rattle.hb_core.specs.Acting.{MeetsBadPage}
-use Rattle.hb_core.specs.Fetching.{Brings}
+use Rattle.hb_core.specs.Fetching.{Brings, MustStay}
 use Rattle.hb_core.specs.Forcing.{ForcesFirst, StaysSo}
 use Rattle.hb_core.specs.KeepingLaws.{RoomStaysKnown}
 use Rattle.hb_core.specs.KeptLines.{MetaWithinLimits}
@@ -48,6 +48,7 @@ use Rattle.hb_core.proofs.Table.MergerMoves.{no_line}
 use Rattle.hb_ops.proofs.Facts.PageNumberLaws.{live_so}
 use Rattle.hb_lemmas.proofs.Booleans.{at_itself}
 use Rattle.hb_core.proofs.Memory.OwnedOps.{second_mode}
+use Rattle.hb_core.proofs.Memory.BroughtPages.{must_hold}
 
 -- ---- the capacity stays
 
@@ -91,13 +92,13 @@ module _ (m : Machine) (actor : ℕ) (outcome : Outcome) (new : Machine) where
   by_bad_page meets = ap (λ (x : Machine). x.store.meta.dcap) meets.stops ∙ ap (λ (x : Meta). x.dcap) meets.brings.rest.meta
 
   by_more : FlushesMore m outcome new → SameCapacity m new
-  by_more (none, left, inl (due, quiet, well)) = ap (λ (x : Machine). x.store.meta.dcap) well.leaves ∙ ap (λ (x : Meta). x.dcap) well.meta
+  by_more (none, left, inl (due, quiet, well)) = ap (λ (x : Machine). x.store.meta.dcap) well.leaves
   by_more (none, left, inr fails) = ap (λ (x : Machine). x.store.meta.dcap) fails.stops
 
   by_work : Works m actor outcome new → SameCapacity m new
   by_work (inl (by, way, so)) = by_rest (outcomes.Blocked by) so
   by_work (inr (inl (free, unready, inl (waits, force)))) = by_force outcomes.Helped force
-  by_work (inr (inl (free, unready, inr (none, rest)))) = rest_kind m outcomes.Helped outcome new _ (SameCapacity m new) none tt by_more (by_deed m.store _ refl) rest
+  by_work (inr (inl (free, unready, inr (none, rest)))) = ready_kind m actor outcome new (SameCapacity m new) none by_more (by_deed m.store _ refl) rest
   by_work (inr (inr (free, ready, inl acts))) = by_deed acts.fetched acts.deed acts.brings.rest.meta acts.performs
   by_work (inr (inr (free, ready, inr (inl gives)))) = by_deed gives.fetched _ gives.brings.rest.meta gives.performs
   by_work (inr (inr (free, ready, inr (inr meets)))) = by_bad_page meets
@@ -251,13 +252,13 @@ knows_as m activity other is knows = subst (KnowsOf m) (sym is) knows
 
 -- ---- the actor that steps
 
-module _ (laws : RoomLaws) (least : DCAP_MIN ≡ 6) (m : Machine) (actor : ℕ) (may : ℕ → Type 0) (fetched : StoreState) (inside : HoldsPagesOfFile m) (within : MetaWithinLimits m) (knows : KnowsRoom m)
+module _ (laws : RoomLaws) (least : DCAP_MIN ≡ 6) (m : Machine) (actor : ℕ) (may : ℕ → Type 0) (fetched : StoreState) (one : IsActor actor) (fit : LatchesFit m) (inside : HoldsPagesOfFile m) (within : MetaWithinLimits m) (knows : KnowsRoom m)
     (brings : Brings m may fetched) (deed : Deed) (new : Machine) (capacity : SameCapacity m new) (does : MayDo deed.op (length m.order) fetched new.store) where
   full_known : (full : TakesFull (now m actor fetched) deed) → LacksRoom new full.line full.id
   full_known full = (full.rec, full.command, takes_full m actor may fetched inside brings deed new does laws full)
 
-  parted_known : (parts : PartsFull m actor (now m actor fetched) deed) → LacksRoom m parts.line parts.held → HasRoom new parts.line parts.held parts.row.leaves.fresh
-  parted_known parts (rec, command, lacks) = (rec, command, one_has_room m actor may fetched inside within brings laws least new capacity parts.line parts.held deed parts.row does rec lacks)
+  parted_known : (parts : PartsFull m actor (now m actor fetched) deed) → MustStay m parts.held → LacksRoom m parts.line parts.held → HasRoom new parts.line parts.held parts.row.leaves.fresh
+  parted_known parts must (rec, command, lacks) = (rec, command, one_has_room m actor may fetched inside within brings laws least new capacity parts.line parts.held deed parts.row does rec must lacks)
 
   kept_parent_knows : KeepsParent m actor deed → KnowsOf new deed.next
   kept_parent_knows keeps = by keeps.after
@@ -274,7 +275,7 @@ module _ (laws : RoomLaws) (least : DCAP_MIN ≡ 6) (m : Machine) (actor : ℕ) 
   knows_there (inr (inr (inr (inr (inl keeps))))) = kept_parent_knows keeps
   knows_there (inr (inr (inr (inr (inr (inr merges)))))) = handless_knows new deed.next (ap (λ (d : Deed). line_in_hand d.next) merges.stays.is ∙ no_line merges.stays.next merges.stays.job merges.stays.after)
   knows_there (inr (inr (inr (inr (inr (inl parts)))))) =
-      knows_as new deed.next _ (ap (λ (d : Deed). d.next) parts.row.deed_is) (put_knows new parts.line parts.held parts.row.leaves.fresh (parted_known parts (knows.splits actor parts.held parts.line parts.before)))
+      knows_as new deed.next _ (ap (λ (d : Deed). d.next) parts.row.deed_is) (put_knows new parts.line parts.held parts.row.leaves.fresh (parted_known parts (must_hold m actor parts.held (at.SessionSplit parts.line parts.held) Exclusive one fit parts.before (at_itself parts.held (Some Exclusive) None)) (knows.splits actor parts.held parts.line parts.before)))
 
 -- ---- each step
 
@@ -334,10 +335,10 @@ module _ (laws : RoomLaws) (least : DCAP_MIN ≡ 6) (m : Machine) (actor : ℕ) 
   worked (inl (by, way, so)) = same_but_disk (stays_so m actor outcome new (outcomes.Blocked by) so)
   worked (inr (inl (free, unready, inl (waits, force)))) = same_but_disk (forces_so m actor outcome new outcomes.Helped force)
   worked (inr (inl (free, unready, inr (none, rest)))) =
-      rest_kind m outcomes.Helped outcome new _ (KnowsRoom new) none tt (λ more. same_but_disk (more_so m actor outcome new more)) (λ performs. freed m.store _ performs (nothing_run_out (m.activity actor))) rest
+      ready_kind m actor outcome new (KnowsRoom new) none (λ more. same_but_disk (more_so m actor outcome new more)) (λ performs. freed m.store _ performs (nothing_run_out (m.activity actor))) rest
   worked (inr (inr (free, ready, inl acts))) =
       did acts.fetched acts.deed acts.performs
-      (knows_there laws least m actor _ acts.fetched inside within knows acts.brings acts.deed new capacity acts.performs.store (place_after m actor acts.fetched _ acts.deed refl acts.row))
+      (knows_there laws least m actor _ acts.fetched latches fit inside within knows acts.brings acts.deed new capacity acts.performs.store (place_after m actor acts.fetched _ acts.deed refl acts.row))
   worked (inr (inr (free, ready, inr (inl gives)))) = freed gives.fetched _ gives.performs (nothing_given_up gives.why (m.activity actor))
   worked (inr (inr (free, ready, inr (inr meets)))) = same_but_disk (meets_so m actor outcome new meets)
 

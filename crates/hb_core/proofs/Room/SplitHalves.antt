@@ -1,7 +1,7 @@
 -- A page that is to be split lacks room for its insert, and of its two halves one has room.
-use Rattle.hb_core.proofs.Memory.CommitPages.{commit_pages}
+use Rattle.hb_core.proofs.Memory.CommitPages.{has_first, has_second, made_pages}
 use Rattle.hb_core.proofs.Memory.NextNumbers.{is_next_number}
-use Rattle.std.proofs.Common.{◌≡◌, ◌≢◌, ◌⊎◌, inl, inr, ℕ, ◌==◌, ◌*◌, ◌<◌, ◌≤◌, ◌+◌, Bool, cond, List, [], ◌∷◌, length, Option, Some, refl, sym, ap, ◌∙◌, subst, arith}
+use Rattle.std.proofs.Common.{◌≡◌, ◌≢◌, ◌⊎◌, inl, inr, ℕ, ◌==◌, ◌*◌, ◌<◌, ◌≤◌, ◌+◌, Bool, cond, List, [], ◌∷◌, length, Option, Some, IsTrue, refl, sym, ap, ◌∙◌, subst, arith}
 use Rattle.std.proofs.lemmas.Bool.{eq-eqb, ne_eqb}
 use Rattle.std.proofs.lemmas.Option.{same_Some}
 use Rattle.hb_space.specs.declared.records.Record.{Record}
@@ -22,7 +22,7 @@ use Rattle.hb_core.proofs.Room.SplitHome.{IsHome, RoomLaws, holds_directly, neve
 use Rattle.hb_core.proofs.Room.SplitWeights.{both_have_room, parted_weighs}
 use Rattle.hb_point.proofs.Facts.RecordLeaves.{put_weighs}
 use Rattle.hb_core.proofs.Memory.StillThere.{fetched_good, nothing_done}
-use Rattle.hb_core.specs.Fetching.{Brings}
+use Rattle.hb_core.specs.Fetching.{Brings, MustStay}
 use Rattle.hb_core.specs.KeptLines.{MetaWithinLimits}
 use Rattle.hb_core.specs.Keeps.{HasRoomFor, HoldsPagesOfFile, LacksRoomFor, OneHasRoom}
 use Rattle.hb_core.specs.Machines.{Machine, live_here, sight}
@@ -42,7 +42,7 @@ use Rattle.hb_space.specs.Boxes.{Area, IsArea}
 use Rattle.hb_split.proofs.Facts.Ends.{is_thirds}
 use Rattle.hb_split.specs.Choosing.{IsThirds}
 use Rattle.hb_store.specs.Calls.{change_here, read_here}
-use Rattle.hb_store.specs.Replay.{set_pages}
+use Rattle.hb_store.specs.Replay.{set_pages, has_page}
 use Rattle.hb_store.specs.States.{IsGoodPage, StoreState, in_memory}
 use Rattle.hb_ops.proofs.Facts.PageNumberLaws.{live_so}
 
@@ -72,7 +72,7 @@ module _ (m : Machine) (actor : ℕ) (may : ℕ → Type 0) (fetched : StoreStat
 -- ---- a page that is split
 
 module _ (m : Machine) (actor : ℕ) (may : ℕ → Type 0) (fetched : StoreState) (inside : HoldsPagesOfFile m) (within : MetaWithinLimits m) (brings : Brings m may fetched) (laws : RoomLaws) (least : DCAP_MIN ≡ 6)
-    (new : Machine) (capacity : new.store.meta.dcap ≡ m.store.meta.dcap) (line : Line) (held : ℕ) (deed : Deed) (row : Splits (sight (now m actor fetched)) line held deed) (done : MayDo deed.op (length m.order) fetched new.store) (rec : Record) (lacks : LacksRoomFor m held rec.key rec.body) where
+    (new : Machine) (capacity : new.store.meta.dcap ≡ m.store.meta.dcap) (line : Line) (held : ℕ) (deed : Deed) (row : Splits (sight (now m actor fetched)) line held deed) (done : MayDo deed.op (length m.order) fetched new.store) (rec : Record) (must : MustStay m held) (lacks : LacksRoomFor m held rec.key rec.body) where
   abbrev split : Op
   split = ops.Extract held row.leaves.fresh row.leaves.path row.leaves.cuts row.leaves.free_after
 
@@ -84,7 +84,7 @@ module _ (m : Machine) (actor : ℕ) (may : ℕ → Type 0) (fetched : StoreStat
 
   -- the page that lacked room
   same_page : lacks.page ≡ page
-  same_page = same_Some lacks.page page (sym (both_there m may fetched brings held lacks.page page lacks.live row.live) ∙ row.live)
+  same_page = same_Some lacks.page page (sym (both_there m may fetched brings held lacks.page page (inr must) lacks.live row.live) ∙ row.live)
 
   abbrev p : List ℕ
   p = rec.key
@@ -139,21 +139,21 @@ module _ (m : Machine) (actor : ℕ) (may : ℕ → Type 0) (fetched : StoreStat
       ap (λ (o : Option LivePage). (change_of split fetched.meta o (read_here fetched split 1) (read_here fetched split 2)).pages) row.live
       ∙ ap (λ (o : Option (Tree × Area)). split_pages held row.leaves.fresh row.leaves.path row.leaves.cuts page o) row.leaves.there
 
-  frame_is : (id : ℕ) → (in_memory new.store) id ≡ set_pages changed (in_memory fetched) id
-  frame_is id = commit_pages _ _ _ _ does.commits id ∙ ap (λ (pages : List (ℕ × Page)). set_pages pages (in_memory fetched) id) changed_are
+  frame_is : (id : ℕ) → IsTrue (has_page id changed) → (in_memory new.store) id ≡ set_pages changed (in_memory fetched) id
+  frame_is = made_pages _ _ _ _ changed does.commits changed_are
 
   apart : held ≢ row.leaves.fresh
-  apart same = made_was_free m may fetched row.leaves.fresh row.leaves.free_after inside brings (is_next_number fetched row.leaves.fresh row.leaves.free_after row.leaves.next) page (subst (λ (n : ℕ). (in_memory m.store) n ≡ Some (Live page)) same (live_so (in_memory m.store held) page live_before))
+  apart same = (made_was_free m may fetched row.leaves.fresh row.leaves.free_after inside brings (is_next_number fetched row.leaves.fresh row.leaves.free_after row.leaves.next) page (subst (λ (n : ℕ). (in_memory m.store) n ≡ Some (Live page)) same (live_so (in_memory m.store held) page live_before))).0 (subst (MustStay m) same must)
 
   source_there : live_here new.store held ≡ Some source
   source_there =
-      ap if_live (frame_is held)
+      ap if_live (frame_is held (has_first held (Live source) ((row.leaves.fresh, Live made) ∷ [])))
       ∙ ap (λ (b : Bool). if_live (cond b (Some (Live made)) (cond (held == held) (Some (Live source)) (in_memory fetched held)))) (ne_eqb held row.leaves.fresh apart)
       ∙ ap (λ (b : Bool). if_live (cond b (Some (Live source)) (in_memory fetched held))) (eq-eqb held held refl)
 
   made_there : live_here new.store row.leaves.fresh ≡ Some made
   made_there =
-      ap if_live (frame_is row.leaves.fresh)
+      ap if_live (frame_is row.leaves.fresh (has_second held row.leaves.fresh (Live source) (Live made) []))
       ∙ ap (λ (b : Bool). if_live (cond b (Some (Live made)) (cond (row.leaves.fresh == held) (Some (Live source)) (in_memory fetched row.leaves.fresh)))) (eq-eqb row.leaves.fresh row.leaves.fresh refl)
 
   -- what they weigh

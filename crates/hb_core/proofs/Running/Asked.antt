@@ -35,6 +35,7 @@ use Rattle.hb_search.specs.Searching.{MaySearch}
 use Rattle.hb_store.specs.States.{StoreState}
 use Rattle.hb_lemmas.proofs.Options.{at_value, has_value, some_value}
 use Rattle.hb_core.proofs.Machines.BoxesAhead.{corner_ahead, has_last}
+use Rattle.hb_core.proofs.Running.Brought.{brings_wider}
 use Rattle.hb_core.proofs.Walks.AskedToMerge.{merger_walks_may_be_asked, pairs_may_be_asked}
 use Rattle.hb_core.proofs.Walks.MayBeAsked.{children_may_be_asked, pages_at_hand_fit, points_may_be_asked, poster_walks_may_be_asked, puts_may_be_asked, searches_may_be_asked, splits_may_be_asked}
 use Rattle.hb_core.specs.AllowedLaws.{AnyPage}
@@ -43,16 +44,17 @@ use Rattle.hb_core.specs.Asking.{looked_live, wanted_by}
 use Rattle.hb_core.specs.Fetching.{Brings}
 use Rattle.hb_core.specs.KeptMachine.{MachineKeeps}
 use Rattle.hb_core.specs.KeptMerges.{AtParent, IsMerging, NamesKnown, PairHeld, knows, merging_at}
-use Rattle.hb_core.specs.Looking.{AsksPoint, AsksPoster, AsksSearcher, WalksToSearch, number_of_row, other_page}
+use Rattle.hb_core.specs.AskingDeciders.{AsksPoint, AsksPoster, AsksSearcher, WalksToSearch}
+use Rattle.hb_core.specs.Looking.{number_of_row, other_page}
 use Rattle.hb_core.specs.LookingToMerge.{AsksMerger, second_page}
-use Rattle.hb_core.specs.Machines.{Machine, live_here, next_of}
+use Rattle.hb_core.specs.Machines.{Machine, live_here, next_of, with_disk}
 use Rattle.hb_core.specs.Rows.{IsAtHand}
 use Rattle.hb_core.specs.Showing.{RunningCore}
 use Rattle.hb_core.specs.Working.{HasPages, IsWorking, with_memory}
 
 -- pages that came, of whatever numbers
 pub any_brings : (m : Machine) (may : ℕ → Type 0) (fetched : StoreState) → Brings m may fetched → Brings m AnyPage fetched
-any_brings m may fetched brings = record { rest = brings.rest; stays = brings.stays; others = brings.others; only = λ id none some. tt; good = brings.good; told = brings.told }
+any_brings m may fetched brings = brings_wider m may AnyPage fetched (λ id is. tt) brings
 
 -- a command that is no search has a point to which it walks
 pub has_goal : (command : Command) (rest : List Area) → (WantsBoxes command → ⊥) → (p : List ℕ) × (goal_of command rest ≡ Some p)
@@ -182,6 +184,10 @@ module _ (d : DiskModel) (c : RunningCore) (m : Machine) (actor : ℕ) (free : O
       let hand = at_value (wanted_by m actor) (λ (wanted : Wanted). (page : LivePage) × IsAtHand (with_memory c m) (m.activity actor) wanted page) one.0 one.1 has.at_hand in
       record { wanted = one.0; wants = one.1; page = hand.0; hand = hand.1 }
 
+  -- which doesn't hang on the order of use
+  at_disk : (its : HasWanted) → IsAtHand (with_disk c.store m.files m.clock m) (m.activity actor) its.wanted its.page
+  at_disk its = record { live = its.hand.live; level = its.hand.level; box = its.hand.box }
+
   abbrev pub Needs : Activity → Option Wanted → Type 0
   Needs activity wanted = NeedsNumber activity wanted (with_memory c m)
 
@@ -225,7 +231,7 @@ module _ (d : DiskModel) (c : RunningCore) (m : Machine) (actor : ℕ) (free : O
       let goal = has_goal line.command rest none in
       let at_goal = ap walk_point is ∙ goal.1 in
       let its = has_wanted (session_wants m actor may keeps line held rest found goal.0 is goal.1) in
-      let asked = points_may_be_asked m actor c.store line held rest found its.wanted its.page free goal.0 may keeps brings is none at_goal (at_value (walk_point (m.activity actor)) IsPoint goal.0 at_goal points) its.wants its.hand in
+      let asked = points_may_be_asked m actor c.store line held rest found its.wanted its.page free goal.0 may keeps brings is none at_goal (at_value (walk_point (m.activity actor)) IsPoint goal.0 at_goal points) its.wants (at_disk its) in
       at_wanted (at.SessionWalk line held rest found) (Some its.wanted) its.wants
       (asks_point (at.SessionWalk line held rest found) its.wanted.page its.page its.hand.live (subst (λ (a : Activity). MayAsk a m.store.meta free its.wanted.page its.page None) is asked))
 
@@ -262,7 +268,7 @@ module _ (d : DiskModel) (c : RunningCore) (m : Machine) (actor : ℕ) (free : O
   -- ---- searches
 
   abbrev AsksAsSearcher : Activity → Type 0
-  AsksAsSearcher activity = AsksSearcher c.store activity (number_of_row activity (wanted_by m actor)) free
+  AsksAsSearcher activity = AsksSearcher c.store activity (number_of_row activity (wanted_by m actor))
 
   search_walk_asks : (line : Line) (held : Option ℕ) (rest : List Area) (found : List Record) → m.activity actor ≡ at.SessionWalk line held rest found → WantsBoxes line.command → IfSome (walk_point (m.activity actor)) IsPoint → AsksAsSearcher (at.SessionWalk line held rest found)
   search_walk_asks line held rest found is wants points =
@@ -270,13 +276,12 @@ module _ (d : DiskModel) (c : RunningCore) (m : Machine) (actor : ℕ) (free : O
       let goal = corner_ahead line.command rest ends wants in
       let at_goal = ap walk_point is ∙ goal in
       let its = has_wanted (session_wants m actor may keeps line held rest found ends.last.lo is goal) in
-      let asked = searches_may_be_asked m actor c.store line held rest found its.wanted its.page ends.last.lo may keeps brings is wants at_goal (at_value (walk_point (m.activity actor)) IsPoint ends.last.lo at_goal points) its.wants its.hand in
-      subst (λ (w : Option Wanted). AsksSearcher c.store (at.SessionWalk line held rest found) (number_of_row (at.SessionWalk line held rest found) w) free) (sym its.wants) (record {
+      let asked = searches_may_be_asked m actor c.store line held rest found its.wanted its.page ends.last.lo may keeps brings is wants at_goal (at_value (walk_point (m.activity actor)) IsPoint ends.last.lo at_goal points) its.wants (at_disk its) in
+      subst (λ (w : Option Wanted). AsksSearcher c.store (at.SessionWalk line held rest found) (number_of_row (at.SessionWalk line held rest found) w)) (sym its.wants) (record {
         layout = layout;
         page = its.page;
         live = its.hand.live;
         made = made its.wanted.page its.page its.hand.live;
-        next = next_is_given;
         asked = subst (λ (a : Activity). MaySearch a its.page) is asked;
       })
 
@@ -316,15 +321,15 @@ module _ (d : DiskModel) (c : RunningCore) (m : Machine) (actor : ℕ) (free : O
   asks_at (at.PosterGrow job) its is working class points =
       asks_poster (at.PosterGrow job) its tt (grow_fits job its is)
   asks_at (at.PosterWalk job held) its is working class point =
-      let asked = poster_walks_may_be_asked m actor c.store job held its.wanted its.page may keeps brings is point its.wants its.hand in
+      let asked = poster_walks_may_be_asked m actor c.store job held its.wanted its.page may keeps brings is point its.wants (at_disk its) in
       asks_poster (at.PosterWalk job held) its (subst (λ (a : Activity). MayBeAsked a m.store.meta its.page None) is asked) (λ none. absurd none)
   asks_at (at.PosterChild job parent) its is working class points =
-      let asks = children_may_be_asked m actor c.store job parent its.wanted its.page may keeps brings (inl is) its.wants its.hand in
+      let asks = children_may_be_asked m actor c.store job parent its.wanted its.page may keeps brings (inl is) its.wants (at_disk its) in
       let asked = subst (λ (a : Activity). MayBeAsked a m.store.meta its.page (Some asks.over)) is asks.may in
       asks_poster (at.PosterChild job parent) its (subst (λ (o : Option LivePage). MayBeAsked (at.PosterChild job parent) m.store.meta its.page o) (sym asks.live) asked) (λ none. absurd none)
   asks_at (at.PosterPromote job parent) its is working class points = asks_poster (at.PosterPromote job parent) its tt (λ none. absurd none)
   asks_at (at.PosterAgain job parent) its is working class points =
-      let asks = children_may_be_asked m actor c.store job parent its.wanted its.page may keeps brings (inr is) its.wants its.hand in
+      let asks = children_may_be_asked m actor c.store job parent its.wanted its.page may keeps brings (inr is) its.wants (at_disk its) in
       let asked = subst (λ (a : Activity). MayBeAsked a m.store.meta its.page (Some asks.over)) is asks.may in
       asks_poster (at.PosterAgain job parent) its (subst (λ (o : Option LivePage). MayBeAsked (at.PosterAgain job parent) m.store.meta its.page o) (sym asks.live) asked)
       (λ makes. again_fits job parent its asks.over is asks.live (subst (λ (o : Option LivePage). MakesPage (at.PosterAgain job parent) c.store.meta its.page o) asks.live makes))
@@ -363,7 +368,7 @@ module _ (d : DiskModel) (c : RunningCore) (m : Machine) (actor : ℕ) (free : O
 
   asks_to_merge : (activity : Activity) (its : HasWanted) → m.activity actor ≡ activity → IsMerging activity → IfSome (walk_point activity) IsPoint → AsksAsMerger activity
   asks_to_merge (at.ConsolidatorWalk job held) its is works point =
-      let asked = merger_walks_may_be_asked m actor c.store job held its.wanted its.page may keeps brings is point its.wants its.hand in
+      let asked = merger_walks_may_be_asked m actor c.store job held its.wanted its.page may keeps brings is point its.wants (at_disk its) in
       asks_merger (at.ConsolidatorWalk job held) its (subst (λ (a : Activity). MayAskToMerge a m.store.meta its.page None None) is asked)
   asks_to_merge (at.ConsolidatorScan job parent child) its is works point = asks_at_parent (at.ConsolidatorScan job parent child) its is refl
   asks_to_merge (at.ConsolidatorTry job parent keep gone leaf) its is works point = asks_at_parent (at.ConsolidatorTry job parent keep gone leaf) its is refl

@@ -14,6 +14,7 @@ use Rattle.hb_set.specs.Order.{Entry}
 use Rattle.hb_activity.specs.declared.activities.Activity.TheVariants.{SessionIdle, PosterIdle, ConsolidatorIdle, Flusher}
 use Rattle.hb_activity.specs.Classes.{Class, Sessions, Posters, Consolidators, Flushers, idle_of}
 use Rattle.hb_point.specs.SessionRows.{is_answered}
+use Rattle.hb_pool.specs.Frames.{Use}
 use Rattle.hb_store.specs.States.{StoreState}
 use Rattle.hb_core.specs.KeptFits.{class_for}
 use Rattle.hb_core.specs.KeptSequence.{HasAnswer}
@@ -87,9 +88,9 @@ turn_so m session behind begun there =
     zero_so : 0 ≡ behind
     zero_so = sym (get_or-replicate 16 (session - 1) 0 0 (slice_get_within (replicate 16 0) (session - 1) behind there)) ∙ get_or_from_slice_get (replicate 16 0) (session - 1) behind 0 there
 
-pub begun_shows : (d : DiskModel) (m : Machine) (lines : List Line) (steps : List ℕ) (store : StoreState) → IsBegun m → m.lines ≡ lines → m.store ≡ store
-    → (IsSome d.told → ShowsFiles d m) → (d.told ≡ None → m.files ≡ None) → ShowsMachine d (begun_core lines steps store) m
-begun_shows d m lines steps store begun lines_so store_so tells silent = record {
+pub begun_shows : (d : DiskModel) (m : Machine) (lines : List Line) (steps : List ℕ) (store : StoreState) (uses : List Use) → IsBegun m → m.lines ≡ lines → m.store ≡ store → m.uses ≡ uses
+    → (IsSome d.told → ShowsFiles d m) → (d.told ≡ None → m.files ≡ None) → ShowsMachine d (begun_core lines steps store uses) m
+begun_shows d m lines steps store uses begun lines_so store_so uses_so tells silent = record {
   lines = lines_so;
   sessions = refl;
   turns = λ session behind low high there. turn_so m session behind begun there;
@@ -101,15 +102,16 @@ begun_shows d m lines steps store begun lines_so store_so tells silent = record 
   order = ap (λ (es : List Entry). map (λ (e : Entry). e.line.number) es) begun.no_order;
   stop = begun.runs;
   store = store_so;
+  uses = uses_so;
   tells = tells;
   silent = silent;
 }
 
 -- so of a core that was made, if it was
-pub over_shows : {C E D : Type 0} (result : Result C E) (seen : C → RunningCore) (disk : C → D) (model : D → DiskModel) (d : D) (lines : List Line) (steps : List ℕ) (store : StoreState)
-    → IfOk result (λ c. seen c ≡ begun_core lines steps store) → IfOk result (λ c. disk c ≡ d)
-    → IfOk result (λ c. (m : Machine) → IsBegun m → m.lines ≡ lines → m.store ≡ store → (IsSome (model d).told → ShowsFiles (model d) m) → ((model d).told ≡ None → m.files ≡ None) → ShowsMachine (model (disk c)) (seen c) m)
-over_shows (Ok c) seen disk model d lines steps store seen_so disk_so = λ m begun lines_so store_so tells silent.
+pub over_shows : {C E D : Type 0} (result : Result C E) (seen : C → RunningCore) (disk : C → D) (model : D → DiskModel) (d : D) (lines : List Line) (steps : List ℕ) (store : StoreState) (uses : List Use)
+    → IfOk result (λ c. seen c ≡ begun_core lines steps store uses) → IfOk result (λ c. disk c ≡ d)
+    → IfOk result (λ c. (m : Machine) → IsBegun m → m.lines ≡ lines → m.store ≡ store → m.uses ≡ uses → (IsSome (model d).told → ShowsFiles (model d) m) → ((model d).told ≡ None → m.files ≡ None) → ShowsMachine (model (disk c)) (seen c) m)
+over_shows (Ok c) seen disk model d lines steps store uses seen_so disk_so = λ m begun lines_so store_so uses_so tells silent.
     subst (λ (r : RunningCore). ShowsMachine (model (disk c)) r m) (sym seen_so)
-    (subst (λ e. ShowsMachine (model e) (begun_core lines steps store) m) (sym disk_so) (begun_shows (model d) m lines steps store begun lines_so store_so tells silent))
-over_shows (Err e) seen disk model d lines steps store seen_so disk_so = tt
+    (subst (λ e. ShowsMachine (model e) (begun_core lines steps store uses) m) (sym disk_so) (begun_shows (model d) m lines steps store uses begun lines_so store_so uses_so tells silent))
+over_shows (Err e) seen disk model d lines steps store uses seen_so disk_so = tt

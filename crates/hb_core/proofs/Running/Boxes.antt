@@ -6,9 +6,12 @@ use Rattle.hb_frag.proofs.Facts.Tiles.{first_tells}
 use Rattle.hb_frag.specs.declared.leaves.Leaf.{Leaf}
 use Rattle.hb_frag.specs.declared.leaves.Leaf.TheVariants.{Records, Child, Sibling}
 use Rattle.hb_frag.specs.declared.pages.LivePage.{LivePage}
-use Rattle.hb_frag.specs.declared.pages.Page.TheVariants.{Live}
-use Rattle.hb_frag.specs.Leaves.{Placed, leaf_at}
+use Rattle.hb_frag.specs.declared.pages.Page.{Page}
+use Rattle.hb_frag.specs.declared.pages.Page.TheVariants.{Live, Free}
+use Rattle.hb_frag.specs.Leaves.{Placed, WellCut, leaf_at}
 use Rattle.hb_ops.proofs.Facts.PageNumberLaws.{live_so}
+use Rattle.hb_ops.specs.Files.{if_live}
+use Rattle.hb_view.specs.Views.{IsLive, IsLiveAnd}
 use Rattle.hb_space.specs.Boxes.{Area, Holds}
 use Rattle.hb_activity.specs.declared.activities.Activity.{Activity}
 use Rattle.hb_activity.specs.declared.activities.Activity.TheVariants as at
@@ -76,8 +79,19 @@ module _ (st : StoreState) (memory : IsMemory st) where
   as_many_by page many (Some asked) has = has ∙ sym many
 
   -- and as the page that is tested
-  pub as_many_as : (activity : Activity) (id : ℕ) (page : LivePage) (o : Option AskedBox) → IsWorking activity → MayLook st activity → in_memory st id ≡ Some (Live page) → o ≡ asked_box activity st
+  as_many_as : (activity : Activity) (id : ℕ) (page : LivePage) (o : Option AskedBox) → IsWorking activity → MayLook st activity → in_memory st id ≡ Some (Live page) → o ≡ asked_box activity st
       → IfSome o (λ asked. length asked.area.lo ≡ length page.area.lo)
   as_many_as activity id page o working look there is =
       let good : IsGoodPage st.meta (Live page) = (memory.good id (Live page) there).2 in
       as_many_by page good.1.fits.attributes o (subst (HasMany st.meta.k) (sym is) (asks_many activity working look))
+
+  -- which is told from its bytes
+  pub as_many_in : (activity : Activity) (id : ℕ) (v : Page) (o : Option AskedBox) → IsWorking activity → MayLook st activity → Some v ≡ in_memory st id → o ≡ asked_box activity st
+      → IfSome (if_live (Some v)) (λ page. IfSome o (λ asked. length asked.area.lo ≡ length page.area.lo))
+  as_many_in activity id (Live page) o working look there is = as_many_as activity id page o working look (sym there) is
+  as_many_in activity id (Free next) o working look there is = tt
+
+  -- Every cut of a page in use cuts its box.
+  pub cut_well : (id : ℕ) (v : Page) → Some v ≡ in_memory st id → IsLive v → IsLiveAnd v WellCut
+  cut_well id (Live page) there live = (memory.good id (Live page) (sym there)).2.1.well_cut
+  cut_well id (Free next) there live = absurd live

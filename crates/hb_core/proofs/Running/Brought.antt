@@ -6,25 +6,28 @@ use Rattle.std.proofs.lemmas.Bool.{cases_Bool, eqb-true, eqb-false}
 use Rattle.hb_disk.specs.Model.{DiskModel}
 use Rattle.hb_frag.specs.declared.pages.Page.{Page}
 use Rattle.hb_layout.specs.declared.meta.Meta.{Meta}
-use Rattle.hb_lemmas.proofs.Options.{has_value, not_none, of_value, some_value}
+use Rattle.hb_lemmas.proofs.Options.{at_value, has_value, not_none, of_value, some_value}
 use Rattle.hb_ops.specs.Files.{FileState, page_of}
-use Rattle.hb_store.specs.Calls.{Fetched, KeepsAllButPages}
+use Rattle.hb_pool.specs.Frames.{Use}
+use Rattle.hb_store.specs.Calls.{Fetched, KeepsAllButPages, NoneComes}
 use Rattle.hb_store.specs.Fetching.{LooksUp}
 use Rattle.hb_store.specs.Keeps.{StoreKeeps}
 use Rattle.hb_store.specs.States.{IsGoodPage, IsMemory, StoreState, in_memory}
-use Rattle.hb_core.proofs.Chains.BuiltSteps.{nothing_comes}
 use Rattle.hb_core.specs.Fetching.{Brings, MustStay}
-use Rattle.hb_core.specs.Machines.{Files, Machine, current_file, with_disk}
-use Rattle.hb_core.specs.Moving.{with_store}
+use Rattle.hb_core.specs.Machines.{Files, Machine, current_file, with_disk, with_uses}
+use Rattle.hb_core.specs.Moving.{with_order_of_use, with_store}
 use Rattle.hb_core.specs.Showing.{RunningCore, ShowsFiles, ShowsMachine}
-
--- what was there is there as it was
-abbrev pub KeepsThere : StoreState → StoreState → Type 0
-KeepsThere old new = (id : ℕ) → IsSome (in_memory old id) → in_memory new id ≡ in_memory old id
 
 -- nothing came
 pub brings_none : (m : Machine) (may : ℕ → Type 0) (st : StoreState) → m.store ≡ st → Brings m may st
-brings_none m may st same = subst (Brings m may) same (nothing_comes m may)
+brings_none m may st same = subst (Brings m may) same (record {
+  rest = record { turn = refl; meta = refl; log = refl; in_log = refl; dirty = refl; stopped = refl };
+  stays = λ id must there. refl;
+  others = λ id there. inl refl;
+  only = λ id none there. let page = some_value (in_memory m.store id) there in absurd (not_none (in_memory m.store id) page.0 page.1 none);
+  good = λ id page there. inl there;
+  told = λ id page none there. absurd (not_none (in_memory m.store id) page there none);
+})
 
 module _ (m : Machine) (d e : DiskModel) (c : RunningCore) (failed : Type 0) (st : StoreState) (shows : ShowsMachine d c m) (looks : LooksUp failed d e c.store st) where
   keeps_files : (durable : FileState) (later : List FileState) → StoreKeeps d m.store durable later → StoreKeeps e st durable later
@@ -38,9 +41,9 @@ module _ (m : Machine) (d e : DiskModel) (c : RunningCore) (failed : Type 0) (st
     clock = s.clock ∙ sym looks.only.stays.clock;
   }
 
-  -- the core shows the machine with the pages that it has now
-  pub shows_store : ShowsMachine e (with_store st c) (with_disk st m.files m.clock m)
-  shows_store = record {
+  -- the core shows the machine with the pages that it has now, in their order of use
+  pub shows_store : (uses : List Use) → ShowsMachine e (with_order_of_use uses (with_store st c)) (with_uses uses (with_disk st m.files m.clock m))
+  shows_store uses = record {
     lines = shows.lines;
     sessions = shows.sessions;
     turns = λ session behind from to at. let turn = shows.turns session behind from to at in record { few = turn.few; front = turn.front; back = turn.back };
@@ -52,11 +55,15 @@ module _ (m : Machine) (d e : DiskModel) (c : RunningCore) (failed : Type 0) (st
     order = shows.order;
     stop = shows.stop;
     store = refl;
-    tells = λ told. files_then (shows.tells (subst (λ (o : Option (List ℕ)). IsSome o) looks.only.stays.told told));
+    uses = refl;
+    tells = λ told. files_as (files_then (shows.tells (subst (λ (o : Option (List ℕ)). IsSome o) looks.only.stays.told told)));
     silent = λ none. shows.silent (sym looks.only.stays.told ∙ none);
   }
+    where
+      files_as : ShowsFiles e (with_disk st m.files m.clock m) → ShowsFiles e (with_uses uses (with_disk st m.files m.clock m))
+      files_as s = record { files = s.files; told = s.told; kept = s.kept; clock = s.clock }
 
-  module _ (id : ℕ) (memory : IsMemory st) (fetched : Fetched id c.store st) where
+  module _ (id : ℕ) (memory : IsMemory st) (fetched : Fetched id c.store st) (stay : (q : ℕ) → MustStay m q → in_memory st q ≡ in_memory m.store q) where
     came : Fetched id m.store st
     came = subst (λ (x : StoreState). Fetched id x st) (sym shows.store) fetched
 
@@ -86,76 +93,112 @@ module _ (m : Machine) (d e : DiskModel) (c : RunningCore) (failed : Type 0) (st
         let s = shows.tells (has_value d.told bytes told) in
         of_value m.files (IsOfFile q page) s.files s.told ((keeps_files s.files.durable s.files.later s.kept).memory.cached q page there)
 
+    others_by : (q : ℕ) → IsSome (in_memory m.store q) → (in_memory st q ≡ in_memory m.store q) ⊎ (in_memory st q ≡ None) ⊎ ((m.files ≡ None) × (q ≡ id) × (¬ (MustStay m q)))
+    others_by q there = elim (cases_Bool (q == id)) [
+      | inl same ↦ inl (subst (λ (n : ℕ). IsSome (in_memory m.store n) → in_memory st n ≡ in_memory m.store n) (sym (eqb-true q id same)) came.same there)
+      | inr other ↦ by (came.others q (eqb-false q id other))
+    ]
+      where
+        by : NoneComes m.store st q → (in_memory st q ≡ in_memory m.store q) ⊎ (in_memory st q ≡ None) ⊎ ((m.files ≡ None) × (q ≡ id) × (¬ (MustStay m q)))
+        by (inl same) = inl same
+        by (inr gone) = inr (inl gone.0)
+
     pub fetch_brings : Brings m (λ q. q ≡ id) st
     fetch_brings = record {
       rest = came.rest;
-      stays = λ q must there. came.kept q there;
-      others = λ q there. inl (came.kept q there);
+      stays = λ q must there. stay q must;
+      others = others_by;
       only = only_this;
-      good = λ q page none there. good_by q page there;
+      good = λ q page there. inr (good_by q page there);
       told = λ q page none there. told_by q page there d.told refl;
     }
 
-    pub fetch_keeps : KeepsThere m.store st
-    fetch_keeps q there = came.kept q there
+-- Two brings in a row make one. Over a disk that tells a page that left and came again is the file's, as it was before.
+module _ (m : Machine) (may might : ℕ → Type 0) (st then : StoreState) (uses : List Use) (first : Brings m may st) (second : Brings (with_uses uses (with_disk st m.files m.clock m)) might then)
+    (shown : (files : Files) → m.files ≡ Some files → (id : ℕ) (page : Page) → in_memory m.store id ≡ Some page → page_of (current_file files) id ≡ Some page) where
+  abbrev middle : Machine
+  middle = with_uses uses (with_disk st m.files m.clock m)
 
--- Two brings in a row make one, where what the second one brings wasn't there at first, or didn't leave.
-module _ (m : Machine) (may might : ℕ → Type 0) (st then : StoreState) (first : Brings m may st) (second : Brings (with_disk st m.files m.clock m) might then)
-    (back : (id : ℕ) → might id → IsSome (in_memory m.store id) → in_memory st id ≡ in_memory m.store id) where
   rest_joined : KeepsAllButPages m.store then
   rest_joined = record {
     turn = second.rest.turn ∙ first.rest.turn;
     meta = second.rest.meta ∙ first.rest.meta;
     log = second.rest.log ∙ first.rest.log;
     in_log = second.rest.in_log ∙ first.rest.in_log;
+    dirty = second.rest.dirty ∙ first.rest.dirty;
     stopped = second.rest.stopped ∙ first.rest.stopped;
   }
 
-  still_must : (id : ℕ) → MustStay m id → MustStay (with_disk st m.files m.clock m) id
+  still_must : (id : ℕ) → MustStay m id → MustStay middle id
   still_must id (inl held) = inl held
-  still_must id (inr in_log) = inr (ap (λ (s : set.FinSet nat_cmp). set.contains s id) first.rest.in_log ∙ in_log)
+  still_must id (inr dirty) = inr (ap (λ (s : set.FinSet nat_cmp). set.contains s id) first.rest.dirty ∙ dirty)
+
+  must_not : (id : ℕ) → (MustStay middle id → ⊥) → MustStay m id → ⊥
+  must_not id never must = never (still_must id must)
 
   some_then : (id : ℕ) → in_memory st id ≡ in_memory m.store id → IsSome (in_memory m.store id) → IsSome (in_memory st id)
   some_then id same there = subst (λ (o : Option Page). IsSome o) (sym same) there
 
-  came_back : (id : ℕ) → IsSome (in_memory m.store id) → in_memory st id ≡ None → (o : Option Page) → in_memory then id ≡ o → (in_memory then id ≡ in_memory m.store id) ⊎ (in_memory then id ≡ None)
-  came_back id there gone None is = inr is
-  came_back id there gone (Some page) is =
-      let old = some_value (in_memory m.store id) there in
-      let same = back id (second.only id gone (has_value (in_memory then id) page is)) there in
-      absurd (not_none (in_memory st id) old.0 (same ∙ old.1) gone)
+  abbrev AsOne : ℕ → Type 0
+  AsOne id = (in_memory then id ≡ in_memory m.store id) ⊎ (in_memory then id ≡ None) ⊎ ((m.files ≡ None) × (may id ⊎ might id) × (¬ (MustStay m id)))
 
-  others_by : (id : ℕ) → IsSome (in_memory m.store id) → (in_memory st id ≡ in_memory m.store id) ⊎ (in_memory st id ≡ None) → (in_memory then id ≡ in_memory m.store id) ⊎ (in_memory then id ≡ None)
-  others_by id there (inl same) = elim (second.others id (some_then id same there)) [
+  -- it left, so that it need not stay
+  left_may : (id : ℕ) → IsSome (in_memory m.store id) → in_memory st id ≡ None → MustStay m id → ⊥
+  left_may id there gone must = let old = some_value (in_memory m.store id) there in not_none (in_memory st id) old.0 (first.stays id must there ∙ old.1) gone
+
+  same_page : (files : Files) (id : ℕ) (old page : Page) → m.files ≡ Some files → in_memory m.store id ≡ Some old → in_memory st id ≡ None → in_memory then id ≡ Some page → in_memory then id ≡ in_memory m.store id
+  same_page files id old page told was gone is =
+      let file : page_of (current_file files) id ≡ Some page = at_value m.files (λ (f : Files). page_of (current_file f) id ≡ Some page) files told (second.told id page gone is) in
+      is ∙ sym file ∙ shown files told id old was ∙ sym was
+
+  came_back : (id : ℕ) → IsSome (in_memory m.store id) → in_memory st id ≡ None → (o : Option Page) → in_memory then id ≡ o → (f : Option Files) → m.files ≡ f → AsOne id
+  came_back id there gone None is f told = inr (inl is)
+  came_back id there gone (Some page) is None told = inr (inr (told, inr (second.only id gone (has_value (in_memory then id) page is)), left_may id there gone))
+  came_back id there gone (Some page) is (Some files) told = let old = some_value (in_memory m.store id) there in inl (same_page files id old.0 page told old.1 gone is)
+
+  others_joined : (id : ℕ) → IsSome (in_memory m.store id) → (in_memory st id ≡ in_memory m.store id) ⊎ (in_memory st id ≡ None) ⊎ ((m.files ≡ None) × may id × (¬ (MustStay m id))) → AsOne id
+  others_joined id there (inl same) = elim (second.others id (some_then id same there)) [
     | inl still ↦ inl (still ∙ same)
-    | inr gone ↦ inr gone
+    | inr (inl gone) ↦ inr (inl gone)
+    | inr (inr (silent, comes, never)) ↦ inr (inr (silent, inr comes, must_not id never))
   ]
-  others_by id there (inr gone) = came_back id there gone (in_memory then id) refl
+  others_joined id there (inr (inl gone)) = came_back id there gone (in_memory then id) refl m.files refl
+  others_joined id there (inr (inr (silent, comes, never))) = inr (inr (silent, inl comes, never))
 
   abbrev Comes : (id : ℕ) (page : Page) → Type 0
   Comes id page = (1 ≤ id) × (id ≤ m.store.meta.high) × IsGoodPage m.store.meta page
 
-  -- a page that is there afterwards came by one of them
-  by_one : (id : ℕ) (page : Page) (P : Type 0) → in_memory then id ≡ Some page → (in_memory st id ≡ Some page → P) → (in_memory st id ≡ None → P) → P
-  by_one id page P there was new = by (in_memory st id) refl
-    where
-      by : (o : Option Page) → in_memory st id ≡ o → P
-      by None is = new is
-      by (Some old) is = elim (second.others id (has_value (in_memory st id) old is)) [
-        | inl same ↦ was (sym same ∙ there)
-        | inr gone ↦ absurd (not_none (in_memory then id) page there gone)
-      ]
+  good_joined : (id : ℕ) (page : Page) → (in_memory st id ≡ Some page) ⊎ ((1 ≤ id) × (id ≤ st.meta.high) × IsGoodPage st.meta page) → (in_memory m.store id ≡ Some page) ⊎ Comes id page
+  good_joined id page (inl was) = first.good id page was
+  good_joined id page (inr good) = inr (subst (λ (meta : Meta). (1 ≤ id) × (id ≤ meta.high) × IsGoodPage meta page) first.rest.meta good)
+
+  abbrev Told : ℕ → Page → Type 0
+  Told id page = IfSome m.files (λ files. page_of (current_file files) id ≡ Some page)
+
+  -- a page that is there afterwards, and wasn't at first, came by one of them
+  only_joined : (id : ℕ) → in_memory m.store id ≡ None → IsSome (in_memory then id) → (o : Option Page) → in_memory st id ≡ o → may id ⊎ might id
+  only_joined id none there None is = inr (second.only id is there)
+  only_joined id none there (Some page) is = inl (first.only id none (has_value (in_memory st id) page is))
+
+  told_nothing : (id : ℕ) (page : Page) → m.files ≡ None → Told id page
+  told_nothing id page silent = subst (λ (o : Option Files). IfSome o (λ files. page_of (current_file files) id ≡ Some page)) (sym silent) tt
+
+  told_joined : (id : ℕ) (page : Page) → in_memory m.store id ≡ None → in_memory then id ≡ Some page → (o : Option Page) → in_memory st id ≡ o → Told id page
+  told_joined id page none there None is = second.told id page is there
+  told_joined id page none there (Some old) is = elim (second.others id (has_value (in_memory st id) old is)) [
+    | inl same ↦ first.told id page none (sym same ∙ there)
+    | inr (inl gone) ↦ absurd (not_none (in_memory then id) page there gone)
+    | inr (inr (silent, comes, never)) ↦ told_nothing id page silent
+  ]
 
   pub brings_joined : Brings m (λ id. may id ⊎ might id) then
   brings_joined = record {
     rest = rest_joined;
     stays = λ id must there. let same = first.stays id must there in second.stays id (still_must id must) (some_then id same there) ∙ same;
-    others = λ id there. others_by id there (first.others id there);
-    only = λ id none there. let page = some_value (in_memory then id) there in
-        by_one id page.0 (may id ⊎ might id) page.1 (λ was. inl (first.only id none (has_value (in_memory st id) page.0 was))) (λ new. inr (second.only id new there));
-    good = λ id page none there. by_one id page (Comes id page) there (λ was. first.good id page none was)
-        (λ new. subst (λ (meta : Meta). (1 ≤ id) × (id ≤ meta.high) × IsGoodPage meta page) first.rest.meta (second.good id page new there));
-    told = λ id page none there. by_one id page (IfSome m.files (λ files. page_of (current_file files) id ≡ Some page)) there (λ was. first.told id page none was) (λ new. second.told id page new there);
+    others = λ id there. others_joined id there (first.others id there);
+    only = λ id none there. only_joined id none there (in_memory st id) refl;
+    good = λ id page there. good_joined id page (second.good id page there);
+    told = λ id page none there. told_joined id page none there (in_memory st id) refl;
   }
 
 -- what may come may be said more widely
@@ -163,25 +206,39 @@ pub brings_wider : (m : Machine) (may might : ℕ → Type 0) (st : StoreState) 
 brings_wider m may might st wider brings = record {
   rest = brings.rest;
   stays = brings.stays;
-  others = brings.others;
+  others = λ id there. by id (brings.others id there);
   only = λ id none there. wider id (brings.only id none there);
   good = brings.good;
   told = brings.told;
 }
+  where
+    by : (id : ℕ) → (in_memory st id ≡ in_memory m.store id) ⊎ (in_memory st id ≡ None) ⊎ ((m.files ≡ None) × may id × (¬ (MustStay m id))) → (in_memory st id ≡ in_memory m.store id) ⊎ (in_memory st id ≡ None) ⊎ ((m.files ≡ None) × might id × (¬ (MustStay m id)))
+    by id (inl same) = inl same
+    by id (inr (inl gone)) = inr (inl gone)
+    by id (inr (inr (silent, comes, never))) = inr (inr (silent, wider id comes, never))
 
--- what came has a number
-pub brings_numbered : (m : Machine) (may : ℕ → Type 0) (st : StoreState) → Brings m may st → Brings m (λ id. may id × (1 ≤ id)) st
-brings_numbered m may st brings = record {
+-- what came has a number, where what was there has
+pub brings_numbered : (m : Machine) (may : ℕ → Type 0) (st : StoreState) → ((id : ℕ) → IsSome (in_memory m.store id) → 1 ≤ id) → Brings m may st → Brings m (λ id. may id × (1 ≤ id)) st
+brings_numbered m may st numbered brings = record {
   rest = brings.rest;
   stays = brings.stays;
-  others = brings.others;
-  only = λ id none there. let page = some_value (in_memory st id) there in (brings.only id none there, (brings.good id page.0 none page.1).0);
+  others = λ id there. by id there (brings.others id there);
+  only = λ id none there. let page = some_value (in_memory st id) there in (brings.only id none there, from_1 id page.0 none (brings.good id page.0 page.1));
   good = brings.good;
   told = brings.told;
 }
+  where
+    by : (id : ℕ) → IsSome (in_memory m.store id) → (in_memory st id ≡ in_memory m.store id) ⊎ (in_memory st id ≡ None) ⊎ ((m.files ≡ None) × may id × (¬ (MustStay m id))) → (in_memory st id ≡ in_memory m.store id) ⊎ (in_memory st id ≡ None) ⊎ ((m.files ≡ None) × (may id × (1 ≤ id)) × (¬ (MustStay m id)))
+    by id there (inl same) = inl same
+    by id there (inr (inl gone)) = inr (inl gone)
+    by id there (inr (inr (silent, comes, never))) = inr (inr (silent, (comes, numbered id there), never))
 
-files_again : (d : DiskModel) (m : Machine) (st : StoreState) → m.store ≡ st → ShowsFiles d m → ShowsFiles d (with_disk st m.files m.clock m)
-files_again d m st same s = record {
+    from_1 : (id : ℕ) (page : Page) → in_memory m.store id ≡ None → (in_memory m.store id ≡ Some page) ⊎ ((1 ≤ id) × (id ≤ m.store.meta.high) × IsGoodPage m.store.meta page) → 1 ≤ id
+    from_1 id page none (inl was) = absurd (not_none (in_memory m.store id) page was none)
+    from_1 id page none (inr good) = good.0
+
+files_again : (d : DiskModel) (m : Machine) (st : StoreState) (uses : List Use) → m.store ≡ st → ShowsFiles d m → ShowsFiles d (with_uses uses (with_disk st m.files m.clock m))
+files_again d m st uses same s = record {
   files = s.files;
   told = s.told;
   kept = subst (λ (x : StoreState). StoreKeeps d x s.files.durable s.files.later) same s.kept;
@@ -189,7 +246,7 @@ files_again d m st same s = record {
 }
 
 -- the core shows the machine with the pages that it has
-pub shows_again : (d : DiskModel) (c : RunningCore) (m : Machine) → ShowsMachine d c m → ShowsMachine d c (with_disk c.store m.files m.clock m)
+pub shows_again : (d : DiskModel) (c : RunningCore) (m : Machine) → ShowsMachine d c m → ShowsMachine d c (with_uses c.uses (with_disk c.store m.files m.clock m))
 shows_again d c m shows = record {
   lines = shows.lines;
   sessions = shows.sessions;
@@ -202,6 +259,7 @@ shows_again d c m shows = record {
   order = shows.order;
   stop = shows.stop;
   store = refl;
-  tells = λ told. files_again d m c.store shows.store (shows.tells told);
+  uses = refl;
+  tells = λ told. files_again d m c.store c.uses shows.store (shows.tells told);
   silent = shows.silent;
 }

@@ -1,6 +1,6 @@
 -- The wanted page comes and is the one that was asked for, or the step halts.
-use Rattle.std.proofs.Common.{◌≡◌, ◌≢◌, ◌⊎◌, inl, inr, ℕ, true, false, List, [], ◌∷◌, Option, Some, None, Result, Ok, Err, IfOk, IfSome, IsSome, IsTrue, refl, sym, ap, ◌∙◌, subst, arith}
-use Rattle.std.specs.Option.{option_and_then, option_map, MatchOption}
+use Rattle.std.proofs.Common.{◌≡◌, ◌≢◌, ◌⊎◌, inl, inr, ℕ, true, false, List, [], ◌∷◌, Option, Some, None, Result, Ok, Err, IfOk, IfSome, IsSome, IsTrue, refl, sym, ap, ◌∙◌, subst, arith, ◌<◌}
+use Rattle.std.specs.Option.{IsSomeAnd, option_and_then, option_map, MatchOption}
 use Rattle.std.specs.Result.{OnOk}
 use Rattle.std.proofs.lemmas.List.Elements.{All-head}
 use Rattle.std.proofs.lemmas.Option.{same_Some}
@@ -26,8 +26,8 @@ use Rattle.hb_activity.specs.declared.activities.Activity.TheVariants as at
 use Rattle.hb_activity.specs.Walks.{goal_of, job_mode, session_mode}
 use Rattle.hb_activity.specs.Wanting.{child_of, in_mode, named_child, named_page, walk_next, wanted_page}
 use Rattle.hb_consol.specs.ConsolidatorRows.{names_child}
-use Rattle.hb_store.specs.Calls.{Fetched}
-use Rattle.hb_store.specs.Fetching.{Breaks, FetchesNot, IsNoPage, LooksUp}
+use Rattle.hb_store.specs.Calls.{Fetched, StaysHere, use_fetched}
+use Rattle.hb_store.specs.Fetching.{Breaks, FetchesNot, IsCrowdedOut, IsNoPage, LooksUp}
 use Rattle.hb_store.specs.Keeps.{StoreKeeps, last_of}
 use Rattle.hb_store.specs.States.{IsMemory, StoreState, in_memory}
 use Rattle.hb_store.specs.declared.stops.FetchStop.{FetchStop}
@@ -35,23 +35,31 @@ use Rattle.hb_store.specs.declared.stops.FetchStop.TheVariants as fetches
 use Rattle.hb_store.specs.declared.stops.StopWhy.TheVariants as stops
 use Rattle.hb_store.specs.declared.stops.Why.{Why}
 use Rattle.hb_store.specs.declared.stops.Why.TheVariants.{Rule, Level, Extent}
+use Rattle.hb_core.specs.declared.halts.Halt.{Halt}
 use Rattle.hb_core.specs.declared.halts.Halt.TheVariants.{Stops}
 use Rattle.hb_core.proofs.Files.SoundFiles.{current_sound, files_hold}
-use Rattle.hb_core.proofs.Running.Brought.{brings_none, brings_wider, fetch_brings, fetch_keeps, shows_again, shows_store}
+use Rattle.hb_core.proofs.Machines.PinsFollow.{more_number}
+use Rattle.hb_core.proofs.Running.Brought.{brings_none, brings_wider, fetch_brings, shows_again, shows_store}
+use Rattle.hb_core.proofs.Running.Frames.{may_pin, must_here}
+use Rattle.hb_core.proofs.Running.Pins.{one_itself, pinned_frame, tied_unpinned}
 use Rattle.hb_core.proofs.Running.LeafBoxes.{Asks, child_asks_there, place_asks_there, sibling_asks_there}
 use Rattle.hb_core.proofs.Running.Looks.{may_look, names_stay, wants_same}
 use Rattle.hb_core.proofs.Running.StandsElsewhere.{shows_but, stands_as}
 use Rattle.hb_core.specs.Acting.{IsBadWanted, LacksNeeded, MayNeed}
 use Rattle.hb_core.specs.Asking.{AskedBox, IsNotAsked, asked_box, box_at, box_by_leaf, box_of_child, box_of_place, box_of_sibling, wanted_by, whole_box}
-use Rattle.hb_core.specs.Fetching.{Brings, IsDamaged, IsWantedPage}
+use Rattle.hb_core.specs.Fetching.{Brings, IsDamaged, IsWantedPage, MustStay}
 use Rattle.hb_core.specs.Keeps.{HasSoundFile}
 use Rattle.hb_core.specs.KeptMerges.{NamesKnown, merging_at}
 use Rattle.hb_core.specs.Looking.{FailsTest, IsOfOtherLevel, MayLook, PassesTest, wanted_in}
-use Rattle.hb_core.specs.Moving.{StandsAs, with_store}
-use Rattle.hb_core.specs.Machines.{Files, Machine, current_file, live_here, with_disk}
+use Rattle.hb_core.specs.Moving.{StandsAs, with_order_of_use, with_store}
+use Rattle.hb_core.specs.Using.{page_wanted, unpin_each, use_wanted}
+use Rattle.hb_pool.specs.Frames.{Use, pinned, unpinned}
+use Rattle.hb_pool.specs.Pools.{frame_of, in_place, places, put_last}
+use Rattle.hb_store.specs.Held.{IsTied}
+use Rattle.hb_core.specs.Machines.{Files, Machine, current_file, live_here, with_disk, with_uses}
 use Rattle.hb_core.specs.Rows.{IsAtHand}
 use Rattle.hb_core.specs.Showing.{RunningCore, ShowsMachine}
-use Rattle.hb_core.specs.Stopping.{halt_of}
+use Rattle.hb_core.specs.Stopping.{IsHaltOf}
 use Rattle.hb_core.specs.Working.{HasCome, Halts, IsHalt, IsWorking, MayStep, MayWork, with_memory}
 
 -- what is known where a call went well is known of its value
@@ -62,6 +70,10 @@ ok_then (Err e) P Q so known = known
 pub none_where : {T : Type 0} (o : Option T) → (IsSome o → ⊥) → o ≡ None
 none_where None never = refl
 none_where (Some x) never = absurd (never refl)
+
+-- what a call that reads did, it did still after one that changes no page and no disk
+pub looks_kept : {failed : Type 0} {d e f : DiskModel} {old middle st : StoreState} → f ≡ e → st ≡ middle → LooksUp failed d e old middle → LooksUp failed d f old st
+looks_kept {failed} {d} {e} {f} {old} {middle} {st} disk seen looks = subst (λ (x : DiskModel). LooksUp failed d x old st) (sym disk) (subst (λ (x : StoreState). LooksUp failed d e old x) (sym seen) looks)
 
 -- ---- the box that is asked for
 
@@ -166,14 +178,22 @@ module _ (m : Machine) (d : DiskModel) (c : RunningCore) (actor : ℕ) (latches 
   abbrev activity : Activity
   activity = m.activity actor
 
+  tied_now : IsTied c.store c.uses
+  tied_now = subst (λ (l : List Use). IsTied c.store l) step.shows.uses (subst (λ (st : StoreState). IsTied st m.uses) step.shows.store work.goes_on.kept.frames_fit.tied)
+
+  -- a page that somebody holds, or that is dirty, stays
+  must_now : (id : ℕ) → MustStay m id → StaysHere c.uses id
+  must_now id must = subst (λ (l : List Use). StaysHere l id) step.shows.uses (must_here m m.store m.uses work.goes_on.kept refl work.goes_on.kept.frames_fit.tied (λ q. omega arith) id must)
+
   -- no page is wanted
   pub none_wanted : wanted_by m actor ≡ None → HasCome m actor d c
   none_wanted none = record {
     may = work;
     brings = brings_none m (IsWantedPage (wanted_by m actor)) c.store step.shows.store;
-    head = λ there. ap (λ (st : StoreState). in_memory st m.store.meta.free) (sym step.shows.store);
     shows = shows_again d c m step.shows;
     at_hand = subst (λ (o : Option Wanted). IfSome o (λ wanted. (page : LivePage) × IsAtHand (with_memory c m) (m.activity actor) wanted page)) (sym none) tt;
+    uses = sym step.shows.uses ∙ ap (λ (o : Option Wanted). use_wanted o m.uses) (sym none);
+    tied = tied_now;
   }
 
   module _ (wanted : Wanted) (wants : wanted_by m actor ≡ Some wanted) where
@@ -204,41 +224,57 @@ module _ (m : Machine) (d : DiskModel) (c : RunningCore) (actor : ℕ) (latches 
       lacks some = (wanted.page, needs_it m.store wanted.page refl, some, absent)
 
       abbrev IsRefusedWell : FetchStop → Type 0
-      IsRefusedWell stop = (stop ≢ fetches.ReadFault) → (stop ≢ fetches.NoMemory) → m.files ≡ None ⊎ IsNoPage m.store.meta wanted.page
+      IsRefusedWell stop = (stop ≢ fetches.ReadFault) → (stop ≢ fetches.Crowded) → m.files ≡ None ⊎ IsNoPage m.store.meta wanted.page
 
-      refused_by : (stop : FetchStop) → FetchesNot m.store.meta d wanted.page stop → IsRefusedWell stop → IsHalt m actor m.store (halt_of stop)
-      refused_by (fetches.Damaged page (Rule rule)) (same, breaks_it) sound = bad_page page (Rule rule) same (breaks rule (sound (λ is. cc) (λ is. cc)) breaks_it)
-      refused_by (fetches.Damaged page (Level asked found)) why sound = absurd why
-      refused_by (fetches.Damaged page (Extent asked found)) why sound = absurd why
-      refused_by fetches.ReadFault some sound = lacks some
-      refused_by fetches.NoMemory some sound = inl (lacks some)
+      refused_by : (stop : FetchStop) (halt : Halt) → IsHaltOf stop halt → FetchesNot m.store.meta d wanted.page stop → IsRefusedWell stop → IsHalt m actor m.store halt
+      refused_by (fetches.Damaged page (Rule rule)) halt is (same, breaks_it) sound =
+          subst (λ (h : Halt). IsHalt m actor m.store h) (sym is) (bad_page page (Rule rule) same (breaks rule (sound (λ is. cc) (λ is. cc)) breaks_it))
+      refused_by (fetches.Damaged page (Level asked found)) halt is why sound = absurd why
+      refused_by (fetches.Damaged page (Extent asked found)) halt is why sound = absurd why
+      refused_by fetches.ReadFault halt is some sound = subst (λ (h : Halt). IsHalt m actor m.store h) (sym is) (lacks some)
+      refused_by fetches.Crowded halt is some sound = absurd is
 
     -- a file that is told is sound, so that the stop is of a number that no page has
     abbrev IsSoundly : FetchStop → Type 0
     IsSoundly stop = (durable : FileState) (later : List FileState) → StoreKeeps d c.store durable later → IsSound (last_of durable later)
-        → (stop ≢ fetches.ReadFault) → (stop ≢ fetches.NoMemory) → IsNoPage c.store.meta wanted.page
+        → (stop ≢ fetches.ReadFault) → (stop ≢ fetches.Crowded) → IsNoPage c.store.meta wanted.page
 
-    sound_or_untold : (stop : FetchStop) → IsSoundly stop → (stop ≢ fetches.ReadFault) → (stop ≢ fetches.NoMemory) → (m.files ≡ None) ⊎ IsNoPage m.store.meta wanted.page
+    sound_or_untold : (stop : FetchStop) → IsSoundly stop → (stop ≢ fetches.ReadFault) → (stop ≢ fetches.Crowded) → (m.files ≡ None) ⊎ IsNoPage m.store.meta wanted.page
     sound_or_untold stop sound fault memory = told_or_not d c m (IsNoPage m.store.meta wanted.page) step.shows (sound_where_told m work.goes_on.sound)
         (λ durable later kept is. subst (λ (x : StoreState). IsNoPage x.meta wanted.page) (sym step.shows.store) (sound durable later kept is fault memory))
 
-    pub refused : (e : DiskModel) (failed : Type 0) (st : StoreState) (stop : FetchStop) → LooksUp failed d e c.store st → st ≡ c.store → in_memory c.store wanted.page ≡ None → FetchesNot c.store.meta d wanted.page stop
-        → IsSoundly stop → Halts m actor (halt_of stop) e (with_store st c)
-    refused e failed st stop looks kept absent why sound =
-        let same : m.store ≡ st = step.shows.store ∙ sym kept in
+    -- there is a place for it
+    pub not_crowded : IsCrowdedOut wanted.page c.store c.uses → ⊥
+    not_crowded (some, absent, none) = work.ready (inr (
+      subst (λ (l : List Use). places l ≡ 0) (sym step.shows.uses) none,
+      subst (λ (o : Option Wanted). IsSomeAnd o (λ wanted. in_memory m.store wanted.page ≡ None)) (sym wants) (ap (λ (x : StoreState). in_memory x wanted.page) step.shows.store ∙ absent),
+    ))
+
+    pub refused : (e : DiskModel) (failed : Type 0) (st : StoreState) (uses : List Use) (stop : FetchStop) (halt : Halt) → IsHaltOf stop halt → LooksUp failed d e c.store st → (st ≡ c.store) × (uses ≡ c.uses)
+        → in_memory c.store wanted.page ≡ None → FetchesNot c.store.meta d wanted.page stop → IsSoundly stop → Halts m actor halt e (with_order_of_use uses (with_store st c))
+    refused e failed st uses stop halt is looks kept absent why sound =
+        let same : m.store ≡ st = step.shows.store ∙ sym kept.0 in
         let none : in_memory m.store wanted.page ≡ None = ap (λ (x : StoreState). in_memory x wanted.page) step.shows.store ∙ absent in
         let not_there : FetchesNot m.store.meta d wanted.page stop = subst (λ (x : StoreState). FetchesNot x.meta d wanted.page stop) (sym step.shows.store) why in
         record {
           brings = brings_none m (MayNeed m actor st) st same;
-          shows = shows_but e (with_store st c) (with_disk st m.files m.clock m) actor latches (shows_store m d e c failed st step.shows looks);
-          cause = subst (λ (x : StoreState). IsHalt m actor x (halt_of stop)) same (refused_by none stop not_there (sound_or_untold stop sound));
+          shows = shows_but e (with_order_of_use uses (with_store st c)) (with_uses uses (with_disk st m.files m.clock m)) actor latches (shows_store m d e c failed st step.shows looks uses);
+          cause = subst (λ (x : StoreState). IsHalt m actor x halt) same (refused_by none stop halt is not_there (sound_or_untold stop sound));
+          used_is = inl (kept.1 ∙ sym step.shows.uses);
+          tied = subst (λ (l : List Use). IsTied st l) (sym kept.1) (subst (λ (x : StoreState). IsTied x c.uses) (sym kept.0) tied_now);
         }
+
+    -- ---- it is fetched, and pinned
+
+    pub may_be_pinned : (uses : List Use) → uses ≡ use_fetched wanted.page c.uses → IsSomeAnd (frame_of uses wanted.page) (λ (u : Use). u.pins < 255)
+    may_be_pinned uses is = may_pin m work.goes_on.kept wanted.page uses (is ∙ ap (use_fetched wanted.page) (sym step.shows.uses))
 
     -- ---- it is fetched, and tested
 
-    module _ (e : DiskModel) (failed : Type 0) (st : StoreState) (looks : LooksUp failed d e c.store st) (memory : IsMemory st) (fetched : Fetched wanted.page c.store st) where
+    module _ (e : DiskModel) (failed : Type 0) (st : StoreState) (looks : LooksUp failed d e c.store st) (memory : IsMemory st) (fetched : Fetched wanted.page c.store st)
+        (stays : (id : ℕ) → StaysHere c.uses id → in_memory st id ≡ in_memory c.store id) where
       brings_it : Brings m (λ id. id ≡ wanted.page) st
-      brings_it = fetch_brings m d e c failed st step.shows looks wanted.page memory fetched
+      brings_it = fetch_brings m d e c failed st step.shows looks wanted.page memory fetched (λ id must. stays id (must_now id must) ∙ ap (λ (x : StoreState). in_memory x id) (sym step.shows.store))
 
       -- so that the core may look for the box
       pub looks_as : (stands : Activity) → StandsAs c actor stands → MayLook st stands
@@ -250,15 +286,30 @@ module _ (m : Machine) (d : DiskModel) (c : RunningCore) (actor : ℕ) (latches 
       known_then : IfSome (merging_at activity) (NamesKnown st)
       known_then = names_stay m actor latches work.goes_on.kept (λ id. id ≡ wanted.page) st brings_it
 
-      pub passed : PassesTest st activity wanted → HasCome m actor e (with_store st c)
-      passed passes = record {
-        may = work;
-        brings = brings_wider m (λ id. id ≡ wanted.page) (IsWantedPage (wanted_by m actor)) st (λ id same. subst (λ (o : Option Wanted). IsWantedPage o id) (sym wants) same) brings_it;
-        head = fetch_keeps m d e c failed st step.shows looks wanted.page memory fetched m.store.meta.free;
-        shows = shows_store m d e c failed st step.shows looks;
-        at_hand = subst (λ (o : Option Wanted). IfSome o (λ wanted. (page : LivePage) × IsAtHand (with_disk st m.files m.clock m) (m.activity actor) wanted page)) (sym wants)
-            (passes.page, record { live = passes.live; level = passes.level; box = passes.box });
-      }
+      module _ (uses : List Use) (used : uses ≡ put_last wanted.page pinned (use_fetched wanted.page c.uses)) (tied : IsTied st uses) where
+        used_so : uses ≡ use_wanted (Some wanted) m.uses
+        used_so = used ∙ ap (λ (l : List Use). put_last wanted.page pinned (use_fetched wanted.page l)) (sym step.shows.uses)
+
+        pub passed : PassesTest st activity wanted → HasCome m actor e (with_order_of_use uses (with_store st c))
+        passed passes = record {
+          may = work;
+          brings = brings_wider m (λ id. id ≡ wanted.page) (IsWantedPage (wanted_by m actor)) st (λ id same. subst (λ (o : Option Wanted). IsWantedPage o id) (sym wants) same) brings_it;
+          shows = shows_store m d e c failed st step.shows looks uses;
+          at_hand = subst (λ (o : Option Wanted). IfSome o (λ wanted. (page : LivePage) × IsAtHand (with_uses uses (with_disk st m.files m.clock m)) (m.activity actor) wanted page)) (sym wants)
+              (passes.page, record { live = passes.live; level = passes.level; box = passes.box });
+          uses = used_so ∙ ap (λ (o : Option Wanted). use_wanted o m.uses) (sym wants);
+          tied = tied;
+        }
+
+        -- it may be let go
+        pub may_let_go : IsSomeAnd (frame_of uses wanted.page) (λ (u : Use). 0 < u.pins)
+        may_let_go = subst (λ (l : List Use). IsSomeAnd (frame_of l wanted.page) (λ (u : Use). 0 < u.pins)) (sym used_so)
+            (let more = (more_number false m.store.meta (Some wanted) m.uses work.goes_on.kept.frames_fit.tied.pool.distinct).pins wanted.page in
+            let one = one_itself wanted.page in
+            pinned_frame (use_wanted (Some wanted) m.uses) wanted.page (omega (arith, more, one)))
+
+        left_tied : IsTied st (in_place wanted.page unpinned uses)
+        left_tied = tied_unpinned st (wanted.page ∷ []) uses tied (may_let_go, tt)
 
       has_number : (page : Page) → in_memory st wanted.page ≡ Some page → ¬ (IsNoPage st.meta wanted.page)
       has_number page there lacks =
@@ -281,9 +332,12 @@ module _ (m : Machine) (d : DiskModel) (c : RunningCore) (actor : ℕ) (latches 
         | inr held ↦ absurd (of_other_level page held.page (same_Some page (Live held.page) (sym there ∙ live_so (in_memory st wanted.page) held.page held.live)) held.level (subst (Mismatches page why) held.none other))
       ]
 
-      pub failed_test : (why : Why) → FailsTest st activity wanted why → Halts m actor (Stops (stops.Damaged wanted.page why)) e (with_store st c)
-      failed_test why (page, there, other) = record {
+      pub failed_test : (uses left : List Use) (used : uses ≡ put_last wanted.page pinned (use_fetched wanted.page c.uses)) (tied : IsTied st uses) → left ≡ in_place wanted.page unpinned uses
+          → (why : Why) → FailsTest st activity wanted why → Halts m actor (Stops (stops.Damaged wanted.page why)) e (with_order_of_use left (with_store st c))
+      failed_test uses left used tied let_go why (page, there, other) = record {
         brings = brings_wider m (λ id. id ≡ wanted.page) (MayNeed m actor st) st (needs_it st) brings_it;
-        shows = shows_but e (with_store st c) (with_disk st m.files m.clock m) actor latches (shows_store m d e c failed st step.shows looks);
+        shows = shows_but e (with_order_of_use left (with_store st c)) (with_uses left (with_disk st m.files m.clock m)) actor latches (shows_store m d e c failed st step.shows looks left);
+        used_is = inr (inl (let_go ∙ ap (in_place wanted.page unpinned) (used_so uses used tied) ∙ ap (λ (o : Option Wanted). unpin_each (page_wanted o) (use_wanted o m.uses)) (sym wants)));
+        tied = subst (λ (l : List Use). IsTied st l) (sym let_go) (left_tied uses used tied);
         cause = inl (subst (λ (o : Option Wanted). IsBadWanted m.files st o (asked_box activity st) wanted.page why) (sym wants) (is_bad why page there other));
       }

@@ -1,8 +1,8 @@
 -- The operation of a row may be committed: over each disk with which the core shows the machine.
-use Rattle.std.proofs.Common.{◌≡◌, inl, inr, ℕ, ◌≤◌, ◌-◌, ◌==◌, ◌&&◌, Bool, false, List, length, Option, Some, IsTrue, IfSome, refl, sym, ap, ◌∙◌, subst, arith}
+use Rattle.std.proofs.Common.{◌≡◌, ℕ, ◌≤◌, ◌-◌, ◌==◌, ◌&&◌, Bool, false, List, length, Option, Some, IsTrue, IfSome, refl, sym, ap, ◌∙◌, subst}
 use Rattle.std.specs.List.{All}
 use Rattle.std.specs.Option.{option_map_or}
-use Rattle.std.proofs.lemmas.Bool.{cases_lt, eq-eqb}
+use Rattle.std.proofs.lemmas.Bool.{eq-eqb}
 use Rattle.std.proofs.lemmas.List.{length-map}
 use Rattle.hb_disk.specs.Model.{DiskModel}
 use Rattle.hb_frag.specs.declared.leaves.Leaf.TheVariants.{Records}
@@ -25,7 +25,7 @@ use Rattle.hb_activity.specs.Deeds.{Deed}
 use Rattle.hb_activity.specs.Walks.{may_change}
 use Rattle.hb_activity.proofs.Facts.AllowedDeeds.{kind_at}
 use Rattle.hb_lemmas.proofs.Options.{at_value}
-use Rattle.hb_store.specs.Calls.{IsReady}
+use Rattle.hb_store.specs.Calls.{HasFrameFor, HasPlaces, IsReady}
 use Rattle.hb_store.specs.Keeps.{StoreKeeps, last_of}
 use Rattle.hb_store.specs.States.{StoreState}
 use Rattle.hb_space.specs.declared.form.TheConstants.{GROUP, PENDING}
@@ -46,17 +46,8 @@ use Rattle.hb_core.specs.Moving.{MayCommit}
 use Rattle.hb_core.specs.Rows.{IsAtHand, Row}
 use Rattle.hb_core.specs.Showing.{RunningCore, ShowsFiles, ShowsMachine}
 use Rattle.hb_core.specs.Steps.{may_change_file}
+use Rattle.hb_core.proofs.Running.PlacesFor.{is_ready}
 use Rattle.hb_core.specs.Working.{MayWork, with_memory}
-
--- what can't be denied of two numbers and two others holds
-not_denied : (a b c d : ℕ) → (¬ (¬ ((a ≤ b) × (c ≤ d)))) → (a ≤ b) × (c ≤ d)
-not_denied a b c d never = elim (cases_lt b a) [
-  | inl low ↦ absurd (never (λ both. let le = both.0 in absurd (omega (arith, le, low))))
-  | inr first ↦ elim (cases_lt d c) [
-    | inl low ↦ absurd (never (λ both. let le = both.1 in absurd (omega (arith, le, low))))
-    | inr second ↦ (first, second)
-  ]
-]
 
 module _ (m : Machine) (actor : ℕ) (fetched : StoreState) (keeps : MachineKeeps m) (brings : Brings m AnyPage fetched) where
   -- ---- a row that does an operation is of a step that may change the file
@@ -96,15 +87,15 @@ module _ (m : Machine) (actor : ℕ) (fetched : StoreState) (keeps : MachineKeep
           }))
           row
 
-module _ (d : DiskModel) (c : RunningCore) (m : Machine) (actor : ℕ) (may : IsActor actor) (work : MayWork m actor) (brings : Brings m AnyPage c.store) (shows : ShowsMachine d c (with_memory c m)) (deed : Deed) (row : Row (m.activity actor) (wanted_by m actor) (with_memory c m) deed) (op : Op) (is : deed.op ≡ Some op) where
+module _ (d : DiskModel) (c : RunningCore) (m : Machine) (actor : ℕ) (may : IsActor actor) (work : MayWork m actor) (brings : Brings m AnyPage c.store) (shows : ShowsMachine d c (with_memory c m)) (deed : Deed) (row : Row (m.activity actor) (wanted_by m actor) (with_disk c.store m.files m.clock m) deed) (op : Op) (is : deed.op ≡ Some op) where
   keeps : MachineKeeps m
   keeps = work.goes_on.kept
 
+  pub made_ready : IsReady m.store × HasPlaces m.uses
+  made_ready = is_ready m actor (changes_file m actor c.store keeps brings op deed row is) work.ready
+
   ready_there : IsReady c.store
-  ready_there =
-      let changes = changes_file m actor c.store keeps brings op deed row is in
-      let there : IsReady m.store = not_denied GROUP (room_of m.store.log) (pending_bytes m.store.log.groups) (PENDING - GROUP) (λ never. work.ready (inl (changes, never))) in
-      subst (λ (log : LogState). (GROUP ≤ room_of log) × (pending_bytes log.groups ≤ PENDING - GROUP)) (sym brings.rest.log) there
+  ready_there = subst (λ (log : LogState). (GROUP ≤ room_of log) × (pending_bytes log.groups ≤ PENDING - GROUP)) (sym brings.rest.log) made_ready.0
 
   marks_there : All (λ (g : Waiting). g.mark ≤ length c.order) c.store.log.groups
   marks_there =
@@ -126,13 +117,14 @@ module _ (d : DiskModel) (c : RunningCore) (m : Machine) (actor : ℕ) (may : Is
         subst (λ (file : FileState). IsLicensed (last_of file later) op) (one_durable its.files.durable durable its.files.later later its.kept kept)
         (subst (λ (files : List FileState). IsLicensed (last_of its.files.durable files) op) (one_later its.files.durable durable its.files.later later its.kept kept) licensed)
 
-    pub may_commit_row : MayCommit d c op
-    may_commit_row = record {
+    pub may_commit_row : HasFrameFor op c.store c.uses → MayCommit d c op
+    may_commit_row place = record {
       running = brings.rest.stopped ∙ keeps.runs work.runs;
       ready = ready_there;
       points = here.attributes;
       allowed = here.allowed;
       boxes = here.boxes;
+      place = place;
       licensed = licensed_there;
       marks = marks_there;
     }

@@ -27,7 +27,8 @@ use Rattle.hb_core.specs.Asking.{wanted_by}
 use Rattle.hb_core.specs.KeptFits.{class_for}
 use Rattle.hb_core.specs.KeptMachine.{MachineKeeps}
 use Rattle.hb_core.specs.KeptMerges.{IsMerging}
-use Rattle.hb_core.specs.Looking.{AsksPoint, AsksPoster, AsksSearcher, HasPointRow, HasPosterRow, HasSearchRow, WalksToSearch, number_of_row, sight_in}
+use Rattle.hb_core.specs.AskingDeciders.{AsksPoint, AsksPoster, AsksSearcher, HasPointRow, HasPosterRow, HasSearchRow, WalksToSearch, sight_in}
+use Rattle.hb_core.specs.Looking.{number_of_row}
 use Rattle.hb_core.specs.LookingToMerge.{AsksMerger, HasMergerRow}
 use Rattle.hb_core.specs.Machines.{Machine, sight}
 use Rattle.hb_core.specs.Moving.{StandsAs}
@@ -153,10 +154,10 @@ module _ (d : DiskModel) (c : RunningCore) (m : Machine) (actor : ℕ) (free : O
       (subst (λ (w : Option Wanted). AsksPoint c.store activity (number_of_row activity w) free) (sym wants)
       (session_asks d c m actor free may has activity is (is_session activity is off other) (works activity is) none points))
 
-  pub may_ask_searcher : (activity : Activity) (wanted : Option Wanted) (st : StoreState) → StandsAs c actor activity → wanted ≡ wanted_by m actor → st ≡ c.store → WalksToSearch activity → IfSome (walk_point activity) IsPoint → AsksSearcher st activity (number_of_row activity wanted) free
+  pub may_ask_searcher : (activity : Activity) (wanted : Option Wanted) (st : StoreState) → StandsAs c actor activity → wanted ≡ wanted_by m actor → st ≡ c.store → WalksToSearch activity → IfSome (walk_point activity) IsPoint → AsksSearcher st activity (number_of_row activity wanted)
   may_ask_searcher activity wanted st stood wants same searches points =
-      subst (λ (st : StoreState). AsksSearcher st activity (number_of_row activity wanted) free) (sym same)
-      (subst (λ (w : Option Wanted). AsksSearcher c.store activity (number_of_row activity w) free) (sym wants)
+      subst (λ (st : StoreState). AsksSearcher st activity (number_of_row activity wanted)) (sym same)
+      (subst (λ (w : Option Wanted). AsksSearcher c.store activity (number_of_row activity w)) (sym wants)
       (searcher_asks d c m actor free may has activity (stands activity stood) searches points))
 
   pub may_ask_poster : (activity : Activity) (wanted : Option Wanted) (st : StoreState) → StandsAs c actor activity → wanted ≡ wanted_by m actor → st ≡ c.store → actor ≡ 17 → IfSome (walk_point activity) IsPoint → AsksPoster st activity (number_of_row activity wanted) free

@@ -13,6 +13,8 @@ use Rattle.hb_ops.specs.declared.operations.Op.{Op}
 use Rattle.hb_set.specs.Order.{Entry}
 use Rattle.hb_core.specs.declared.outcomes.Outcome.{Outcome}
 use Rattle.hb_core.specs.KeptSequence.{LinesInSequence}
+use Rattle.hb_core.specs.Fetching.{MustStay}
+use Rattle.hb_store.specs.Calls.{StaysHere}
 use Rattle.hb_core.specs.Machines.{Files, Machine, if_some, with_activity}
 use Rattle.hb_core.specs.Moving.{DoesDeed, KeepsFilesBy, later_with, numbers_joined, with_standing}
 use Rattle.hb_core.specs.Performing.{ChangesQueue, MayDo, Performs, Relatches, files_after, given_by, latches_held, outcome_of}
@@ -33,6 +35,7 @@ after_deed c m actor deed = record {
   order = m.order ++ if_some deed.joins;
   stop = m.stop;
   store = c.store;
+  uses = c.uses;
   files = files_after deed.op m.files;
   clock = m.clock;
 }
@@ -50,11 +53,12 @@ files_untold : (op : Option Op) → files_after op None ≡ None
 files_untold None = refl
 files_untold (Some op) = refl
 
-module _ (d : DiskModel) (c after : RunningCore) (m : Machine) (actor : ℕ) (deed : Deed) (outcome : Outcome) (may : IsActor actor) (shows : ShowsBut d c actor (with_memory c m)) (does : DoesDeed actor deed outcome c after) where
+module _ (d : DiskModel) (c after : RunningCore) (m : Machine) (actor : ℕ) (deed : Deed) (outcome : Outcome) (may : IsActor actor) (shows : ShowsBut d c actor (with_memory c m)) (pins : List ℕ) (does : DoesDeed actor pins deed outcome c after)
+    (stay : (id : ℕ) → MustStay m id → StaysHere c.uses id) where
   abbrev new : Machine
   new = after_deed after m actor deed
 
-  performed : Performs m c.store actor deed outcome new
+  abbrev performed : Performs m c.store actor deed outcome new
   performed = record {
     says = does.says;
     lines = refl;
@@ -67,9 +71,14 @@ module _ (d : DiskModel) (c after : RunningCore) (m : Machine) (actor : ℕ) (de
     store = subst (λ (n : ℕ). MayDo deed.op n c.store after.store) (sym (ap (λ (l : List ℕ). length l) shows.order) ∙ length-map m.order (λ (e : Entry). e.line.number)) does.store;
     files = refl;
     clock = refl;
+    came = c.uses;
+    pins = pins;
+    uses = does.uses;
+    tied = does.tied;
+    stays = λ id must same. does.stays id (stay id must) same;
   }
 
-  of_core : {X : Type 0} (f : RunningCore → X) → f after ≡ f (record (with_standing actor deed.next c) { latches = after.latches; jobs = after.jobs; order = after.order; store = after.store })
+  of_core : {X : Type 0} (f : RunningCore → X) → f after ≡ f (record (with_standing actor deed.next c) { latches = after.latches; jobs = after.jobs; order = after.order; store = after.store; uses = after.uses })
   of_core f = ap f does.rest
 
   files_shown : KeepsFilesBy deed.op d c.store d after.store → IsSome d.told → ShowsFiles d new
@@ -85,10 +94,10 @@ module _ (d : DiskModel) (c after : RunningCore) (m : Machine) (actor : ℕ) (de
   nobody_new : (other : ℕ) → ¬ (IsActor other) → with_activity actor deed.next m.activity other ≡ at.SessionIdle
   nobody_new other none = at_other other actor deed.next (m.activity other) (λ same. none (subst IsActor (sym same) may)) ∙ shows.nobody_else other none
 
-  pub deed_shows : LinesInSequence m → NumberFate (m.activity actor) deed → KeepsFilesBy deed.op d c.store d after.store → (new : Machine) × Performs m c.store actor deed outcome new × ShowsMachine d after new
+  pub deed_shows : LinesInSequence m → NumberFate (m.activity actor) deed → KeepsFilesBy deed.op d c.store d after.store → (new : Machine) × ((p : Performs m c.store actor deed outcome new) × (p.came ≡ c.uses) × (p.pins ≡ pins)) × ShowsMachine d after new
   deed_shows turn fate keeps = (
     new,
-    performed,
+    (performed, refl, refl),
     record {
       lines = shows.lines ∙ sym (of_core (λ s. s.lines));
       sessions = ap (λ (l : List ℕ). length l) (of_core (λ s. s.behind)) ∙ shows.sessions;
@@ -106,6 +115,7 @@ module _ (d : DiskModel) (c after : RunningCore) (m : Machine) (actor : ℕ) (de
           ∙ ap (λ (l : List ℕ). c.order ++ l) (joined_numbers deed.joins) ∙ sym does.order;
       stop = shows.stop ∙ sym (of_core (λ s. s.stop));
       store = refl;
+      uses = refl;
       tells = files_shown keeps;
       silent = λ none. ap (files_after deed.op) (shows.silent none) ∙ files_untold deed.op;
     },

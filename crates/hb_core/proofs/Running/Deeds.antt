@@ -1,5 +1,5 @@
 -- What the calls of a core make of it, put together: a deed.
-use Rattle.std.proofs.Common.{◌≡◌, ℕ, List, [], ◌++◌, length, Option, Some, None, refl, sym, ap, subst, ◌∙◌, append-nil}
+use Rattle.std.proofs.Common.{◌≡◌, ℕ, ◌-◌, List, [], ◌++◌, length, get_or, Option, Some, None, refl, sym, ap, subst, ◌∙◌, append-nil, arith}
 use Rattle.hb_latch.specs.Tables.{LatchTable}
 use Rattle.hb_set.specs.declared.commands.Reply.TheVariants as replies
 use Rattle.hb_activity.specs.declared.activities.Activity.{Activity}
@@ -8,36 +8,50 @@ use Rattle.hb_activity.specs.declared.deciding.Fate.{Fate}
 use Rattle.hb_activity.specs.declared.deciding.Fate.TheVariants as fates
 use Rattle.hb_activity.specs.declared.deciding.Next.{Next}
 use Rattle.hb_activity.specs.declared.jobs.Job.{Job}
-use Rattle.hb_activity.specs.Classes.{Hand, Empty, HasLine, HasJob, class_of, hand_of, idle_of}
+use Rattle.hb_activity.specs.Classes.{Class, Hand, Empty, HasLine, HasJob, class_of, hand_of, idle_of}
 use Rattle.hb_activity.specs.Deciding.{deed_of, joined_by, said_by}
 use Rattle.hb_activity.specs.Deeds.{Deed, answers_now, moves_to, takes_job}
 use Rattle.hb_activity.specs.Queue.{AddsJobs, LeavesBy, LeavesFirst}
 use Rattle.hb_store.specs.States.{StoreState}
 use Rattle.hb_core.specs.declared.outcomes.Outcome.{Outcome}
 use Rattle.hb_core.specs.declared.outcomes.Outcome.TheVariants as outcomes
-use Rattle.hb_core.specs.GivingUp.{runs_out}
-use Rattle.hb_core.specs.Moving.{DoesDeed, StandsNow, joins_order, number_of, numbers_joined, placed, placed_at, pushed, said, with_jobs, with_order, with_standing}
+use Rattle.hb_core.specs.GivingUp.{drops_job, gives_up, reply_for, runs_out}
+use Rattle.hb_activity.specs.declared.dropping.DropWhy.{DropWhy}
+use Rattle.hb_activity.specs.declared.holding.Latch.{Latch}
+use Rattle.hb_ops.specs.declared.operations.Op.{Op}
+use Rattle.hb_pool.specs.Frames.{Use}
+use Rattle.hb_set.specs.declared.commands.Reply.{Reply}
+use Rattle.hb_store.specs.Held.{IsTied}
+use Rattle.hb_core.proofs.Running.Pins.{tied_held}
+use Rattle.hb_core.specs.Moving.{DoesDeed, KeepsStaying, StandsAs, StandsFree, StandsNow, joins_order, number_of, numbers_joined, placed, placed_at, pushed, said, with_jobs, with_order, with_order_of_use, with_standing, with_store}
+use Rattle.hb_core.specs.Pinning.{CanHold, CanUnpin}
+use Rattle.hb_core.specs.Using.{pages_of, use_done, use_held}
 use Rattle.hb_core.specs.Performing.{MayDo, Relatches, latches_held, outcome_of}
 use Rattle.hb_core.specs.Showing.{RunningCore, number_in_hand}
 use Rattle.hb_core.specs.Working.{IsWorking}
 use Rattle.hb_core.specs.KeptFits.{class_for}
 use Rattle.hb_core.proofs.Table.DeedKinds.{line_is_sessions}
-use Rattle.hb_core.proofs.Table.GivenUp.{run_out_is}
-use Rattle.std.proofs.lemmas.Option.{same_Some}
+use Rattle.hb_core.proofs.Table.GivenUp.{given_up_is, idle_latches, run_out_is}
+use Rattle.std.proofs.lemmas.Option.{same_Some, slice_get-get_or}
+use Rattle.hb_space.specs.Actors.{IsActor}
 
--- a deed, by what became of the store, the jobs and the latches
-pub does_deed : (actor : ℕ) (deed : Deed) (outcome : Outcome) (old new : RunningCore) (store : StoreState) (left jobs : List Job) (latches : LatchTable)
+-- a deed, by what became of the store, the order of use, the jobs and the latches
+pub does_deed : (actor : ℕ) (pins : List ℕ) (deed : Deed) (outcome : Outcome) (old new : RunningCore) (store : StoreState) (uses : List Use) (left jobs : List Job) (latches : LatchTable)
     → outcome ≡ outcome_of deed.says → LeavesBy deed.takes old.jobs left → AddsJobs deed.adds left jobs → MayDo deed.op (length old.order) old.store store
     → Relatches actor (latches_held store deed.next) old.latches latches
-    → new ≡ record (with_standing actor deed.next old) { latches = latches; jobs = jobs; order = old.order ++ numbers_joined deed.joins; store = store }
-    → DoesDeed actor deed outcome old new
-does_deed actor deed outcome old new store left jobs latches says takes adds done relatched is =
-    subst (λ (c : RunningCore). DoesDeed actor deed outcome old c) (sym is) (record {
+    → uses ≡ use_held pins (pages_of (latches_held store deed.next)) (use_done deed.op old.store old.uses) → KeepsStaying deed.op old store → IsTied store uses
+    → new ≡ record (with_standing actor deed.next old) { latches = latches; jobs = jobs; order = old.order ++ numbers_joined deed.joins; store = store; uses = uses }
+    → DoesDeed actor pins deed outcome old new
+does_deed actor pins deed outcome old new store uses left jobs latches says takes adds done relatched used stays tied is =
+    subst (λ (c : RunningCore). DoesDeed actor pins deed outcome old c) (sym is) (record {
       says = says;
       latches = relatched;
       jobs = record { left = left; takes = takes; adds = adds };
       order = refl;
       store = done;
+      uses = used;
+      stays = stays;
+      tied = tied;
       rest = refl;
     })
 
@@ -73,48 +87,96 @@ said_so (HasJob job) fates.GoesOn = refl
 said_so (HasJob job) fates.TakesEffect = refl
 said_so (HasJob job) (fates.Answers given) = refl
 
--- what a decider said is performed: the operation, the jobs, the latches and the order, one after the other
-pub performed : (actor place : ℕ) (line joins : Option ℕ) (next : Next) (stands_as : Activity) (outcome : Outcome) (old done queued stood new : RunningCore) (state : Activity)
+-- the pins may go over once the operation is done, since they may in every store that it leads to
+pub can_then : (place : ℕ) (pins : List ℕ) (next : Next) (stands_as : Activity) (old done : RunningCore)
+    → ((st : StoreState) → MayDo next.op (length old.order) old.store st → IsTied st (use_done next.op old.store old.uses)
+    → CanHold pins (pages_of (latches_held st (placed_at (length old.order) next.then))) (use_done next.op old.store old.uses))
+    → place ≡ length old.order → stands_as ≡ placed_at place next.then → MayDo next.op place old.store done.store → done.uses ≡ use_done next.op old.store old.uses → IsTied done.store done.uses
+    → CanHold pins (pages_of (latches_held done.store stands_as)) done.uses
+can_then place pins next stands_as old done hold at_end is_next does used tied =
+    let after : stands_as ≡ placed_at (length old.order) next.then = is_next ∙ ap (λ (n : ℕ). placed_at n next.then) at_end in
+    subst (λ (a : Activity). CanHold pins (pages_of (latches_held done.store a)) done.uses) (sym after)
+    (subst (λ (l : List Use). CanHold pins (pages_of (latches_held done.store (placed_at (length old.order) next.then))) l) (sym used)
+    (hold done.store (subst (λ (n : ℕ). MayDo next.op n old.store done.store) at_end does) (subst (λ (l : List Use). IsTied done.store l) used tied)))
+
+-- what a decider said is performed: the operation, the jobs, the latches with the pins, and the order, one after the other
+pub performed : (actor place : ℕ) (pins : List ℕ) (line joins : Option ℕ) (next : Next) (stands_as : Activity) (outcome : Outcome) (old done queued stood new : RunningCore) (state : Activity)
     → line ≡ number_of (hand_of state) → place ≡ length old.order → stands_as ≡ placed_at place next.then → joins ≡ joins_order line next.then next.fate → outcome ≡ said line next.fate
-    → MayDo next.op place old.store done.store → done ≡ record old { store = done.store } → AddsJobs next.jobs.items done.jobs queued.jobs → queued ≡ with_jobs queued.jobs done
-    → StandsNow actor stands_as queued stood → new ≡ with_order (stood.order ++ pushed joins) stood
-    → DoesDeed actor (placed (length old.order) (deed_of state next)) outcome old new
-performed actor place line joins next stands_as outcome old done queued stood new state hand at_end is_next is_joined is_said does kept adds queued_so stands joined =
+    → MayDo next.op place old.store done.store → done.uses ≡ use_done next.op old.store old.uses → KeepsStaying next.op old done.store → IsTied done.store done.uses
+    → done ≡ with_order_of_use done.uses (with_store done.store old) → AddsJobs next.jobs.items done.jobs queued.jobs → queued ≡ with_jobs queued.jobs done
+    → CanHold pins (pages_of (latches_held done.store stands_as)) done.uses
+    → StandsNow actor pins stands_as queued stood → new ≡ with_order (stood.order ++ pushed joins) stood
+    → DoesDeed actor pins (placed (length old.order) (deed_of state next)) outcome old new
+performed actor place pins line joins next stands_as outcome old done queued stood new state hand at_end is_next is_joined is_said does used stay tied kept adds queued_so can stands joined =
     let deed : Deed = placed (length old.order) (deed_of state next) in
     let after : stands_as ≡ deed.next = is_next ∙ ap (λ (n : ℕ). placed_at n next.then) at_end in
-    let jobs_so : queued ≡ record old { store = done.store; jobs = queued.jobs } = queued_so ∙ ap (with_jobs queued.jobs) kept in
-    let stood_so : stood ≡ record (with_standing actor stands_as old) { store = done.store; jobs = queued.jobs; latches = stood.latches } =
-    stands.rest ∙ ap (λ (c : RunningCore). record (with_standing actor stands_as c) { latches = stood.latches }) jobs_so in
-    let all : new ≡ record (with_standing actor stands_as old) { store = done.store; jobs = queued.jobs; latches = stood.latches; order = old.order ++ pushed joins } =
+    let jobs_so : queued ≡ record old { store = done.store; uses = done.uses; jobs = queued.jobs } = queued_so ∙ ap (with_jobs queued.jobs) kept in
+    let stood_so : stood ≡ record (with_standing actor stands_as old) { store = done.store; uses = stood.uses; jobs = queued.jobs; latches = stood.latches } =
+    stands.rest ∙ ap (λ (c : RunningCore). record (with_standing actor stands_as c) { latches = stood.latches; uses = stood.uses }) jobs_so in
+    let all : new ≡ record (with_standing actor stands_as old) { store = done.store; uses = stood.uses; jobs = queued.jobs; latches = stood.latches; order = old.order ++ pushed joins } =
     joined ∙ ap (λ (c : RunningCore). with_order (c.order ++ pushed joins) c) stood_so in
     let numbers : pushed joins ≡ numbers_joined deed.joins = ap pushed (is_joined ∙ ap (λ (l : Option ℕ). joins_order l next.then next.fate) hand) ∙ joined_so (hand_of state) next.then next.fate in
-    does_deed actor deed outcome old new done.store old.jobs queued.jobs stood.latches
+    let held : stood.uses ≡ use_held pins (pages_of (latches_held done.store stands_as)) done.uses =
+    stands.uses ∙ ap (λ (c : RunningCore). use_held pins (pages_of (latches_held c.store stands_as)) c.uses) jobs_so in
+    does_deed actor pins deed outcome old new done.store stood.uses old.jobs queued.jobs stood.latches
     (is_said ∙ ap (λ (l : Option ℕ). said l next.fate) hand ∙ said_so (hand_of state) next.fate)
     refl
     (subst (λ (c : RunningCore). AddsJobs next.jobs.items c.jobs queued.jobs) kept adds)
     (subst (λ (n : ℕ). MayDo next.op n old.store done.store) at_end does)
     (subst (λ (a : Activity). Relatches actor (latches_held done.store a) old.latches stood.latches) after
     (subst (λ (c : RunningCore). Relatches actor (latches_held c.store stands_as) c.latches stood.latches) jobs_so stands.latches))
-    (all ∙ ap (λ (l : List ℕ). record (with_standing actor stands_as old) { store = done.store; jobs = queued.jobs; latches = stood.latches; order = old.order ++ l }) numbers
-    ∙ ap (λ (a : Activity). record (with_standing actor a old) { store = done.store; jobs = queued.jobs; latches = stood.latches; order = old.order ++ numbers_joined deed.joins }) after)
+    (held ∙ ap (λ (l : List Use). use_held pins (pages_of (latches_held done.store stands_as)) l) used
+    ∙ ap (λ (a : Activity). use_held pins (pages_of (latches_held done.store a)) (use_done next.op old.store old.uses)) after)
+    stay
+    (subst (λ (l : List Use). IsTied done.store l) (sym held) (tied_held done.store pins (pages_of (latches_held done.store stands_as)) done.uses tied can))
+    (all ∙ ap (λ (l : List ℕ). record (with_standing actor stands_as old) { store = done.store; uses = stood.uses; jobs = queued.jobs; latches = stood.latches; order = old.order ++ l }) numbers
+    ∙ ap (λ (a : Activity). record (with_standing actor a old) { store = done.store; uses = stood.uses; jobs = queued.jobs; latches = stood.latches; order = old.order ++ numbers_joined deed.joins }) after)
+
+-- nothing is done to the file
+nothing_done : (op : Option Op) (st : StoreState) (uses : List Use) → op ≡ None → use_done op st uses ≡ uses
+nothing_done op st uses none = ap (λ (o : Option Op). use_done o st uses) none
 
 -- an actor that stands elsewhere, and does nothing else
-pub just_stands : (actor : ℕ) (deed : Deed) (outcome : Outcome) (old new : RunningCore) → outcome ≡ outcome_of deed.says → LeavesBy deed.takes old.jobs old.jobs → AddsJobs deed.adds old.jobs old.jobs
-    → MayDo deed.op (length old.order) old.store old.store → [] ≡ numbers_joined deed.joins → StandsNow actor deed.next old new → DoesDeed actor deed outcome old new
-just_stands actor deed outcome old new says takes adds does joins stands =
+pub just_stands : (actor : ℕ) (pins : List ℕ) (deed : Deed) (outcome : Outcome) (old new : RunningCore) → outcome ≡ outcome_of deed.says → LeavesBy deed.takes old.jobs old.jobs → AddsJobs deed.adds old.jobs old.jobs
+    → MayDo deed.op (length old.order) old.store old.store → deed.op ≡ None → [] ≡ numbers_joined deed.joins → IsTied old.store old.uses → CanHold pins (pages_of (latches_held old.store deed.next)) old.uses
+    → StandsNow actor pins deed.next old new → DoesDeed actor pins deed outcome old new
+just_stands actor pins deed outcome old new says takes adds does none joins tied can stands =
     let order : old.order ≡ old.order ++ numbers_joined deed.joins = sym (append-nil old.order) ∙ ap (λ (l : List ℕ). old.order ++ l) joins in
-    does_deed actor deed outcome old new old.store old.jobs old.jobs new.latches says takes adds does stands.latches
-    (stands.rest ∙ ap (λ (l : List ℕ). record (with_standing actor deed.next old) { latches = new.latches; order = l }) order)
+    does_deed actor pins deed outcome old new old.store new.uses old.jobs old.jobs new.latches says takes adds does stands.latches
+    (stands.uses ∙ ap (λ (l : List Use). use_held pins (pages_of (latches_held old.store deed.next)) l) (sym (nothing_done deed.op old.store old.uses none)))
+    (λ id stays same. refl)
+    (subst (λ (l : List Use). IsTied old.store l) (sym stands.uses) (tied_held old.store pins (pages_of (latches_held old.store deed.next)) old.uses tied can))
+    (stands.rest ∙ ap (λ (l : List ℕ). record (with_standing actor deed.next old) { latches = new.latches; uses = new.uses; order = l }) order)
 
--- the oldest job is taken
-pub took_job : (actor : ℕ) (job : Job) (next : Activity) (old left new : RunningCore) → LeavesFirst job.kind old.jobs job left.jobs → left ≡ with_jobs left.jobs old → StandsNow actor next left new
-    → DoesDeed actor (takes_job next job) outcomes.Moved old new
-took_job actor job next old left new takes left_so stands =
+-- the oldest job is taken, and no page is held before and afterwards
+pub took_job : (actor : ℕ) (job : Job) (next : Activity) (old left new : RunningCore) → LeavesFirst job.kind old.jobs job left.jobs → left ≡ with_jobs left.jobs old → latches_held old.store next ≡ [] → IsTied old.store old.uses
+    → StandsFree actor next left new → DoesDeed actor [] (takes_job next job) outcomes.Moved old new
+took_job actor job next old left new takes left_so none tied stands =
     let rest : new ≡ record (with_standing actor next old) { latches = new.latches; jobs = left.jobs } =
     stands.rest ∙ ap (λ (c : RunningCore). record (with_standing actor next c) { latches = new.latches }) left_so in
-    does_deed actor (takes_job next job) outcomes.Moved old new old.store left.jobs left.jobs new.latches refl takes refl refl
-    (subst (λ (c : RunningCore). Relatches actor (latches_held c.store next) c.latches new.latches) left_so stands.latches)
+    does_deed actor [] (takes_job next job) outcomes.Moved old new old.store old.uses left.jobs left.jobs new.latches refl takes refl refl
+    (subst (λ (l : List Latch). Relatches actor l old.latches new.latches) (sym none)
+    (subst (λ (c : RunningCore). Relatches actor [] c.latches new.latches) left_so stands.latches))
+    (ap (λ (l : List Latch). use_held [] (pages_of l) old.uses) (sym none))
+    (λ id stays same. refl)
+    tied
     (rest ∙ ap (λ (l : List ℕ). record (with_standing actor next old) { latches = new.latches; jobs = left.jobs; order = l }) (sym (append-nil old.order)))
+
+-- who is idle pins nothing
+pub can_idle : (st : StoreState) (kind : Class) (pins : List ℕ) (uses : List Use) → CanUnpin pins uses → CanHold pins (pages_of (latches_held st (idle_of kind))) uses
+can_idle st kind pins uses can = subst (λ (l : List Latch). CanHold pins (pages_of l) uses) (sym (idle_latches kind st)) (can, tt)
+
+-- so whoever has these pages pinned may go idle, wherever it stands
+pub can_run_out : (actor : ℕ) (slice items : List ℕ) (idle : Activity) (c : RunningCore) → IsActor actor → length c.activities ≡ 19 → idle ≡ idle_of (class_for actor) → slice ≡ items
+    → ((state : Activity) → StandsAs c actor state → items ≡ pages_of (latches_held c.store state)) → ((state : Activity) → StandsAs c actor state → CanUnpin (pages_of (latches_held c.store state)) c.uses)
+    → CanHold slice (pages_of (latches_held c.store idle)) c.uses
+can_run_out actor slice items idle c may all idle_is value held can =
+    let low = may.from_1 in
+    let high = may.to_19 in
+    let state : Activity = get_or c.activities (actor - 1) at.SessionIdle in
+    let stands : StandsAs c actor state = slice_get-get_or c.activities (actor - 1) at.SessionIdle (omega (arith, low, high, all)) in
+    subst (λ (a : Activity). CanHold slice (pages_of (latches_held c.store a)) c.uses) (sym idle_is)
+    (can_idle c.store (class_for actor) slice c.uses (subst (λ (l : List ℕ). CanUnpin l c.uses) (sym (value ∙ held state stands)) (can state stands)))
 
 in_hand : (state : Activity) → IsWorking state → number_in_hand state ≡ number_of (hand_of state)
 in_hand (at.SessionWalk line held rest found) works = refl
@@ -134,25 +196,25 @@ in_hand (at.ConsolidatorDecide job parent keep gone) works = refl
 in_hand other works = absurd works
 
 -- the log has no room for a line, or for a job
-pub line_ran_out : (actor : ℕ) (state idle : Activity) (number : ℕ) (old new : RunningCore) → IsWorking state → class_of state ≡ class_for actor → Some number ≡ number_in_hand state → idle ≡ idle_of (class_for actor)
-    → StandsNow actor idle old new → DoesDeed actor (runs_out state) (outcomes.Answered number replies.Full) old new
-line_ran_out actor state idle number old new works class is idle_is stands =
-    run_out_is (λ (deed : Deed). DoesDeed actor deed (outcomes.Answered number replies.Full) old new) state
+pub line_ran_out : (actor : ℕ) (pins : List ℕ) (state idle : Activity) (number : ℕ) (old new : RunningCore) → IsWorking state → class_of state ≡ class_for actor → Some number ≡ number_in_hand state → idle ≡ idle_of (class_for actor)
+    → IsTied old.store old.uses → CanUnpin pins old.uses → StandsNow actor pins idle old new → DoesDeed actor pins (runs_out state) (outcomes.Answered number replies.Full) old new
+line_ran_out actor pins state idle number old new works class is idle_is tied can stands =
+    run_out_is (λ (deed : Deed). DoesDeed actor pins deed (outcomes.Answered number replies.Full) old new) state
     (λ line hand.
     let same : number ≡ line.number = same_Some number line.number (is ∙ in_hand state works ∙ ap number_of hand) in
     let stood : idle ≡ at.SessionIdle = idle_is ∙ ap idle_of (sym class ∙ line_is_sessions state line hand) in
-    just_stands actor (answers_now line.number replies.Full) (outcomes.Answered number replies.Full) old new (ap (λ (n : ℕ). outcomes.Answered n replies.Full) same) refl refl refl refl
-    (subst (λ (a : Activity). StandsNow actor a old new) stood stands))
+    just_stands actor pins (answers_now line.number replies.Full) (outcomes.Answered number replies.Full) old new (ap (λ (n : ℕ). outcomes.Answered n replies.Full) same) refl refl refl refl refl tied (can, tt)
+    (subst (λ (a : Activity). StandsNow actor pins a old new) stood stands))
     (λ job hand. absurd (none_there number (is ∙ in_hand state works ∙ ap number_of hand)))
     (λ hand. absurd (none_there number (is ∙ in_hand state works ∙ ap number_of hand)))
   where
     none_there : (n : ℕ) → Some n ≡ None → ⊥
     none_there n e = cc
 
-pub job_ran_out : (actor : ℕ) (state idle : Activity) (old new : RunningCore) → IsWorking state → class_of state ≡ class_for actor → None ≡ number_in_hand state → idle ≡ idle_of (class_for actor)
-    → StandsNow actor idle old new → DoesDeed actor (runs_out state) outcomes.Moved old new
-job_ran_out actor state idle old new works class is idle_is stands =
-    run_out_is (λ (deed : Deed). DoesDeed actor deed outcomes.Moved old new) state
+pub job_ran_out : (actor : ℕ) (pins : List ℕ) (state idle : Activity) (old new : RunningCore) → IsWorking state → class_of state ≡ class_for actor → None ≡ number_in_hand state → idle ≡ idle_of (class_for actor)
+    → IsTied old.store old.uses → CanUnpin pins old.uses → StandsNow actor pins idle old new → DoesDeed actor pins (runs_out state) outcomes.Moved old new
+job_ran_out actor pins state idle old new works class is idle_is tied can stands =
+    run_out_is (λ (deed : Deed). DoesDeed actor pins deed outcomes.Moved old new) state
     (λ line hand. absurd (none_there line.number (is ∙ in_hand state works ∙ ap number_of hand)))
     (λ job hand. stood)
     (λ hand. stood)
@@ -160,6 +222,54 @@ job_ran_out actor state idle old new works class is idle_is stands =
     none_there : (n : ℕ) → None ≡ Some n → ⊥
     none_there n e = cc
 
-    stood : DoesDeed actor (moves_to (idle_of (class_of state)) []) outcomes.Moved old new
-    stood = just_stands actor (moves_to (idle_of (class_of state)) []) outcomes.Moved old new refl refl refl refl refl
-        (subst (λ (a : Activity). StandsNow actor a old new) (idle_is ∙ ap idle_of (sym class)) stands)
+    stood : DoesDeed actor pins (moves_to (idle_of (class_of state)) []) outcomes.Moved old new
+    stood = just_stands actor pins (moves_to (idle_of (class_of state)) []) outcomes.Moved old new refl refl refl refl refl refl tied (can_idle old.store (class_of state) pins old.uses can)
+        (subst (λ (a : Activity). StandsNow actor pins a old new) (idle_is ∙ ap idle_of (sym class)) stands)
+
+-- what is in hand is given up
+pub line_given_up : (actor : ℕ) (pins : List ℕ) (why : DropWhy) (state idle : Activity) (number : ℕ) (reply : Reply) (old new : RunningCore) → IsWorking state → class_of state ≡ class_for actor → Some number ≡ number_of (hand_of state)
+    → reply ≡ reply_for why → idle ≡ idle_of (class_for actor) → IsTied old.store old.uses → CanUnpin pins old.uses → StandsNow actor pins idle old new → DoesDeed actor pins (gives_up why state) (outcomes.Answered number reply) old new
+line_given_up actor pins why state idle number reply old new works class is reply_is idle_is tied can stands =
+    given_up_is (λ (deed : Deed). DoesDeed actor pins deed (outcomes.Answered number reply) old new) why state
+    (λ line hand.
+    let same : number ≡ line.number = same_Some number line.number (is ∙ ap number_of hand) in
+    let stood : idle ≡ at.SessionIdle = idle_is ∙ ap idle_of (sym class ∙ line_is_sessions state line hand) in
+    just_stands actor pins (answers_now line.number (reply_for why)) (outcomes.Answered number reply) old new
+    (ap (λ (n : ℕ). outcomes.Answered n reply) same ∙ ap (outcomes.Answered line.number) reply_is) refl refl refl refl refl tied (can, tt)
+    (subst (λ (a : Activity). StandsNow actor pins a old new) stood stands))
+    (λ job hand. absurd (none_there number (is ∙ ap number_of hand)))
+    (λ hand. absurd (none_there number (is ∙ ap number_of hand)))
+  where
+    none_there : (n : ℕ) → Some n ≡ None → ⊥
+    none_there n e = cc
+
+pub job_given_up : (actor : ℕ) (pins : List ℕ) (why : DropWhy) (state idle : Activity) (old new : RunningCore) → IsWorking state → class_of state ≡ class_for actor → None ≡ number_of (hand_of state) → idle ≡ idle_of (class_for actor)
+    → IsTied old.store old.uses → CanUnpin pins old.uses → StandsNow actor pins idle old new → DoesDeed actor pins (gives_up why state) (outcomes.Dropped why) old new
+job_given_up actor pins why state idle old new works class is idle_is tied can stands =
+    given_up_is (λ (deed : Deed). DoesDeed actor pins deed (outcomes.Dropped why) old new) why state
+    (λ line hand. absurd (none_there line.number (is ∙ ap number_of hand)))
+    (λ job hand. just_stands actor pins (drops_job why (idle_of (class_of state))) (outcomes.Dropped why) old new refl refl refl refl refl refl tied (can_idle old.store (class_of state) pins old.uses can) stood)
+    (λ hand. absurd (never state works hand))
+  where
+    none_there : (n : ℕ) → None ≡ Some n → ⊥
+    none_there n e = cc
+
+    stood : StandsNow actor pins (idle_of (class_of state)) old new
+    stood = subst (λ (a : Activity). StandsNow actor pins a old new) (idle_is ∙ ap idle_of (sym class)) stands
+
+    never : (state : Activity) → IsWorking state → hand_of state ≡ Empty → ⊥
+    never (at.SessionWalk line held rest found) works empty = cc
+    never (at.SessionSplit line held) works empty = cc
+    never (at.SessionPut line source fresh) works empty = cc
+    never (at.PosterGrow job) works empty = cc
+    never (at.PosterWalk job held) works empty = cc
+    never (at.PosterChild job parent) works empty = cc
+    never (at.PosterPromote job parent) works empty = cc
+    never (at.PosterAgain job parent) works empty = cc
+    never (at.ConsolidatorWalk job held) works empty = cc
+    never (at.ConsolidatorScan job parent child) works empty = cc
+    never (at.ConsolidatorTry job parent keep gone leaf) works empty = cc
+    never (at.ConsolidatorPromote job parent keep gone) works empty = cc
+    never (at.ConsolidatorKeep job parent keep gone) works empty = cc
+    never (at.ConsolidatorDecide job parent keep gone) works empty = cc
+    never other works empty = absurd works

@@ -23,22 +23,27 @@ use Rattle.hb_set.specs.Order.{AreRising}
 use Rattle.hb_set.specs.declared.commands.Reply.TheVariants as replies
 use Rattle.hb_set.specs.declared.scripts.Answered.{Answered}
 use Rattle.hb_set.specs.declared.scripts.Line.{Line}
+use Rattle.hb_pool.specs.Frames.{Use}
+use Rattle.hb_store.specs.Calls.{StaysHere}
 use Rattle.hb_store.specs.Keeps.{StoreKeeps}
 use Rattle.hb_store.specs.States.{StoreState}
 use Rattle.hb_core.specs.declared.outcomes.Outcome.{Outcome}
 use Rattle.hb_core.specs.declared.outcomes.Outcome.TheVariants as outcomes
 use Rattle.hb_core.specs.Forcing.{StaysSo}
 use Rattle.hb_core.specs.KeptFits.{class_for}
-use Rattle.hb_core.specs.Machines.{Machine, with_activity, with_disk}
+use Rattle.hb_core.specs.Fetching.{MustStay}
+use Rattle.hb_core.specs.Machines.{Machine, with_activity, with_disk, with_uses}
 use Rattle.hb_core.specs.Moving.{DoesDeed, KeepsFilesBy, with_standing}
-use Rattle.hb_core.specs.Performing.{MayDo, Performs, Relatches, latches_held, mode_among}
+use Rattle.hb_core.specs.Performing.{MayDo, Performs, PerformsAsItIs, Relatches, latches_held, mode_among}
 use Rattle.hb_core.specs.Showing.{HasTurn, RunningCore, ShowsMachine, number_in_hand}
 use Rattle.hb_core.specs.Steps.{BeginsLine, StepsAs, TakesJobToMerge, TakesPosting}
 use Rattle.hb_core.specs.Taking.{IsNextLine, RefusesLine, TakesLine, TakesNextLine, TakesNextMerging, TakesNextPosting}
+use Rattle.hb_core.specs.Using.{pages_of}
 use Rattle.hb_core.specs.Working.{MayStep, with_memory}
 use Rattle.hb_core.proofs.Orders.NextLines.{next_is}
 use Rattle.hb_core.proofs.Running.AgainstPlaces.{box_in_the_way, has_box_free}
 use Rattle.hb_core.proofs.Running.DeedShows.{deed_shows}
+use Rattle.hb_core.proofs.Running.Frames.{must_here}
 use Rattle.hb_core.proofs.Running.LinesAhead.{next_ahead, none_ahead, turn_at_end, turn_with}
 use Rattle.hb_core.proofs.Running.NumbersInHand.{NumberFate, job_number, merging_job_number}
 use Rattle.hb_core.proofs.Running.StandsElsewhere.{apart, at_set, beside_set, shows_but, stand_then}
@@ -71,6 +76,7 @@ taken c m actor line = record {
   order = m.order;
   stop = m.stop;
   store = m.store;
+  uses = m.uses;
   files = m.files;
   clock = m.clock;
 }
@@ -78,6 +84,10 @@ taken c m actor line = record {
 module _ (d : DiskModel) (c after : RunningCore) (m : Machine) (actor behind : ℕ) (may : IsActor actor) (step : MayStep d c m) (idle : m.activity actor ≡ at.SessionIdle) (there : slice_get c.behind (actor - 1) ≡ Some behind) where
   session : actor ≤ 16
   session = is_session actor may (sym (step.goes_on.kept.classes actor) ∙ ap class_of idle)
+
+  -- who is idle has no page
+  holds_no_page : [] ≡ pages_of (latches_held m.store (m.activity actor))
+  holds_no_page = sym (ap (λ (a : Activity). pages_of (latches_held m.store a)) idle)
 
   turn : TurnAt m.lines m.answered None actor behind
   turn = subst (λ (o : Option ℕ). TurnAt m.lines m.answered o actor behind) (ap number_in_hand idle) (turn_at m actor behind (step.shows.turns actor behind may.from_1 session there))
@@ -123,6 +133,7 @@ module _ (d : DiskModel) (c after : RunningCore) (m : Machine) (actor behind : �
       order = step.shows.order;
       stop = step.shows.stop;
       store = step.shows.store;
+      uses = step.shows.uses;
       tells = step.shows.tells;
       silent = step.shows.silent;
     }
@@ -144,8 +155,8 @@ module _ (d : DiskModel) (c after : RunningCore) (m : Machine) (actor behind : �
     of_core : {X : Type 0} (f : RunningCore → X) → f after ≡ f (record (with_standing actor walk c) { latches = after.latches; behind = slice_set c.behind (actor - 1) (behind + place + 1) })
     of_core f = ap f takes.rest
 
-    performed : (outcome : Outcome) → outcome ≡ outcomes.Moved → Performs m m.store actor (taking line) outcome (taken after m actor line)
-    performed outcome says = record {
+    takes_it : (outcome : Outcome) → outcome ≡ outcomes.Moved → Performs m m.store actor (taking line) outcome (taken after m actor line)
+    takes_it outcome says = record {
       says = says;
       lines = refl;
       answered = sym (append-nil m.answered);
@@ -157,7 +168,16 @@ module _ (d : DiskModel) (c after : RunningCore) (m : Machine) (actor behind : �
       store = refl;
       files = refl;
       clock = refl;
+      came = m.uses;
+      pins = [];
+      uses = refl;
+      tied = step.goes_on.kept.frames_fit.tied;
+      stays = λ id must same. refl;
     }
+
+    performed : (outcome : Outcome) → outcome ≡ outcomes.Moved → PerformsAsItIs m actor (taking line) outcome (taken after m actor line)
+    unfolding takes_it
+    performed outcome says = (takes_it outcome says, refl, holds_no_page)
 
     -- the actor's turn has the line in hand, and the others have what they had
     own_turn : HasTurn (taken after m actor line) actor (behind + place + 1)
@@ -189,6 +209,7 @@ module _ (d : DiskModel) (c after : RunningCore) (m : Machine) (actor behind : �
       order = step.shows.order ∙ sym (of_core (λ s. s.order));
       stop = step.shows.stop ∙ sym (of_core (λ s. s.stop));
       store = step.shows.store ∙ sym (of_core (λ s. s.store));
+      uses = step.shows.uses ∙ sym (of_core (λ s. s.uses));
       tells = λ told. let had = step.shows.tells told in record { files = had.files; told = had.told; kept = had.kept; clock = had.clock };
       silent = step.shows.silent;
     }
@@ -210,8 +231,8 @@ module _ (d : DiskModel) (c after : RunningCore) (m : Machine) (actor behind : �
     still_idle : (other : ℕ) → m.activity other ≡ with_activity actor at.SessionIdle m.activity other
     still_idle other = if_same other actor (λ b. m.activity other ≡ cond b at.SessionIdle (m.activity other)) (λ same. ap m.activity same ∙ idle) (λ off. refl)
 
-    answers : Performs m m.store actor (answers_now line.number replies.NoMemory) outcome refused
-    answers = record {
+    answers_it : Performs m m.store actor (answers_now line.number replies.NoMemory) outcome refused
+    answers_it = record {
       says = refuses.says;
       lines = refl;
       answered = refl;
@@ -223,7 +244,16 @@ module _ (d : DiskModel) (c after : RunningCore) (m : Machine) (actor behind : �
       store = refl;
       files = refl;
       clock = refl;
+      came = m.uses;
+      pins = [];
+      uses = refl;
+      tied = step.goes_on.kept.frames_fit.tied;
+      stays = λ id must same. refl;
     }
+
+    answers : PerformsAsItIs m actor (answers_now line.number replies.NoMemory) outcome refused
+    unfolding answers_it
+    answers = (answers_it, refl, holds_no_page)
 
     refused_turn : HasTurn refused actor (behind + place + 1)
     refused_turn = has_turn refused actor (behind + place + 1)
@@ -249,6 +279,7 @@ module _ (d : DiskModel) (c after : RunningCore) (m : Machine) (actor behind : �
       order = step.shows.order;
       stop = step.shows.stop;
       store = step.shows.store;
+      uses = step.shows.uses;
       tells = λ told. let had = step.shows.tells told in record { files = had.files; told = had.told; kept = had.kept; clock = had.clock };
       silent = step.shows.silent;
     }
@@ -284,12 +315,12 @@ module _ (d : DiskModel) (c after : RunningCore) (m : Machine) (actor behind : �
 
 -- ---- a worker
 
--- a machine with its own store
-pub own_store : (m : Machine) (st : StoreState) → m.store ≡ st → with_disk st m.files m.clock m ≡ m
-own_store m st same = ap (λ (s : StoreState). with_disk s m.files m.clock m) (sym same)
+-- a machine with its own store and order of use
+pub own_memory : (c : RunningCore) (m : Machine) → m.store ≡ c.store → m.uses ≡ c.uses → with_memory c m ≡ m
+own_memory c m store used = sym (ap (λ (s : StoreState). with_uses c.uses (with_disk s m.files m.clock m)) store) ∙ sym (ap (λ (l : List Use). with_uses l m) used)
 
 pub shows_pages : (d : DiskModel) (c : RunningCore) (m : Machine) (actor : ℕ) → IsActor actor → ShowsMachine d c m → ShowsMachine d (with_standing actor (m.activity actor) c) (with_memory c m)
-shows_pages d c m actor may shows = subst (λ (n : Machine). ShowsMachine d (with_standing actor (m.activity actor) c) n) (sym (own_store m c.store shows.store)) (shows_but d c m actor may shows)
+shows_pages d c m actor may shows = subst (λ (n : Machine). ShowsMachine d (with_standing actor (m.activity actor) c) n) (sym (own_memory c m shows.store shows.uses)) (shows_but d c m actor may shows)
 
 -- what does nothing to the file keeps its files
 pub keeps_none : (d : DiskModel) (old new : StoreState) (mark : ℕ) (op : Option Op) → op ≡ None → MayDo op mark old new → KeepsFilesBy op d old d new
@@ -297,19 +328,28 @@ keeps_none d old new mark None none same = λ durable later keeps. subst (λ (s 
 keeps_none d old new mark (Some op) none same = absurd cc
 
 module _ (d : DiskModel) (c after : RunningCore) (m : Machine) (actor : ℕ) (may : IsActor actor) (step : MayStep d c m) where
+  own_stays : (id : ℕ) → MustStay m id → StaysHere c.uses id
+  own_stays id must = subst (λ (l : List Use). StaysHere l id) step.shows.uses (must_here m m.store m.uses step.goes_on.kept refl step.goes_on.kept.frames_fit.tied (λ q. omega arith) id must)
+
   -- a deed of a machine as it is shown, that does nothing to the file
-  pub deed_done : (deed : Deed) (outcome : Outcome) → deed.op ≡ None → NumberFate (m.activity actor) deed → DoesDeed actor deed outcome c after → (new : Machine) × Performs m m.store actor deed outcome new × ShowsMachine d after new
-  deed_done deed outcome none fate does =
-      subst (λ (s : StoreState). (new : Machine) × Performs m s actor deed outcome new × ShowsMachine d after new) (sym step.shows.store)
-      (deed_shows d c after m actor deed outcome may (shows_pages d c m actor may step.shows) does step.goes_on.kept.lines_in_sequence fate
-      (keeps_none d c.store after.store (length c.order) deed.op none does.store))
+  pub deed_done : (deed : Deed) (outcome : Outcome) (pins : List ℕ) → pins ≡ pages_of (latches_held m.store (m.activity actor)) → deed.op ≡ None → NumberFate (m.activity actor) deed → DoesDeed actor pins deed outcome c after
+      → (new : Machine) × PerformsAsItIs m actor deed outcome new × ShowsMachine d after new
+  deed_done deed outcome pins held none fate does =
+      subst (λ (s : StoreState). (new : Machine) × ((p : Performs m s actor deed outcome new) × (p.came ≡ m.uses) × (p.pins ≡ pages_of (latches_held m.store (m.activity actor)))) × ShowsMachine d after new) (sym step.shows.store)
+      (let done = deed_shows d c after m actor deed outcome may (shows_pages d c m actor may step.shows) pins does own_stays step.goes_on.kept.lines_in_sequence fate
+      (keeps_none d c.store after.store (length c.order) deed.op none does.store) in
+      (done.0, (done.1.0, done.1.1 ∙ sym step.shows.uses, done.1.2 ∙ held), done.2))
+
+  -- who is idle has no page
+  no_page : (activity : Activity) → m.activity actor ≡ activity → latches_held m.store activity ≡ [] → [] ≡ pages_of (latches_held m.store (m.activity actor))
+  no_page activity is none = sym (ap (λ (a : Activity). pages_of (latches_held m.store a)) is ∙ ap pages_of none)
 
   pub posting_taken : (outcome : Outcome) → m.activity actor ≡ at.PosterIdle → TakesNextPosting actor outcome c after → (new : Machine) × TakesPosting m actor outcome new × ShowsMachine d after new
   posting_taken outcome idle (inl none) =
       (m, inl (subst (λ (l : List Job). All (λ (job : Job). job.kind ≢ Post) l) (sym step.shows.jobs) none.2, (none.0, refl)), subst (λ (s : RunningCore). ShowsMachine d s m) (sym none.1) step.shows)
   posting_taken outcome idle (inr (job, next, kind, posting, does)) =
       let its : IsPostingOf job m.store.meta.height next = subst (λ (s : StoreState). IsPostingOf job s.meta.height next) (sym step.shows.store) posting in
-      let done = deed_done (takes_job next job) outcome refl (job_number (m.activity actor) job m.store.meta.height next idle its) does in
+      let done = deed_done (takes_job next job) outcome [] (no_page at.PosterIdle idle refl) refl (job_number (m.activity actor) job m.store.meta.height next idle its) does in
       (done.0, inr (takes_job next job, record { job = job; kind = kind; next = next; posting = its; deed_is = refl }, done.1), done.2)
 
   pub merging_taken : (outcome : Outcome) → m.activity actor ≡ at.ConsolidatorIdle → TakesNextMerging actor outcome c after → (new : Machine) × TakesJobToMerge m actor outcome new × ShowsMachine d after new
@@ -317,5 +357,5 @@ module _ (d : DiskModel) (c after : RunningCore) (m : Machine) (actor : ℕ) (ma
       (m, inl (subst (λ (l : List Job). All (λ (job : Job). job.kind ≢ Merge) l) (sym step.shows.jobs) none.2, (none.0, refl)), subst (λ (s : RunningCore). ShowsMachine d s m) (sym none.1) step.shows)
   merging_taken outcome idle (inr (job, next, kind, merging, does)) =
       let its : IsMergingOf job m.store.meta.height next = subst (λ (s : StoreState). IsMergingOf job s.meta.height next) (sym step.shows.store) merging in
-      let done = deed_done (takes_job next job) outcome refl (merging_job_number (m.activity actor) job m.store.meta.height next idle its) does in
+      let done = deed_done (takes_job next job) outcome [] (no_page at.ConsolidatorIdle idle refl) refl (merging_job_number (m.activity actor) job m.store.meta.height next idle its) does in
       (done.0, inr (takes_job next job, record { job = job; kind = kind; next = next; merging = its; deed_is = refl }, done.1), done.2)

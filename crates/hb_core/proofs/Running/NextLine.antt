@@ -12,7 +12,7 @@ use Rattle.hb_space.specs.declared.records.Record.{Record}
 use Rattle.hb_set.specs.declared.scripts.Line.{Line}
 use Rattle.hb_activity.specs.declared.activities.Activity.{Activity}
 use Rattle.hb_activity.specs.declared.activities.Activity.TheVariants as at
-use Rattle.hb_core.specs.Moving.{StandsNow, with_standing}
+use Rattle.hb_core.specs.Moving.{StandsFree, with_standing}
 use Rattle.hb_core.specs.Performing.{Relatches}
 use Rattle.hb_core.specs.Showing.{RunningCore}
 use Rattle.hb_core.specs.Taking.{HaveBoxes, IsNextLine, NoneAgainst, RefusesLine, TakesLine}
@@ -97,7 +97,7 @@ next_is actor session behind place line d shown again core same there is is_agai
 -- the session takes it, and walks from the root
 pub takes_line : (actor session behind place : ℕ) (line : Line) (rest : List Area) (found : List Record) (old middle new : RunningCore) → session ≡ actor → slice_get old.behind (actor - 1) ≡ Some behind → IsNextLine actor behind place line old
     → NoneAgainst old.activities actor (lock_of_command line.command) → rest ≡ boxes_ahead line.command → found ≡ [] → middle ≡ record old { behind = slice_set old.behind (actor - 1) (slice_index_or old.behind (session - 1) 0 + place + 1) }
-    → StandsNow actor (at.SessionWalk line None rest found) middle new → TakesLine actor behind place line old new
+    → StandsFree actor (at.SessionWalk line None rest found) middle new → TakesLine actor behind place line old new
 takes_line actor session behind place line rest found old middle new same there next free boxes no_record middle_is stands =
     let from = behind_is actor session behind old.behind same there in
     let gone : middle ≡ record old { behind = slice_set old.behind (actor - 1) (behind + place + 1) } = middle_is ∙ ap (λ (n : ℕ). record old { behind = slice_set old.behind (actor - 1) (n + place + 1) }) from in

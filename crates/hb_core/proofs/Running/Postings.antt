@@ -1,7 +1,6 @@
 -- What the decider of the poster says of the number of a page is what the machine's row needs.
 use Rattle.std.proofs.Common.{◌≡◌, ◌⊎◌, ◌↔◌, inl, inr, ℕ, ◌<◌, Bool, [], Option, Some, None, IsSome, IsTrue, refl, sym, ap, ◌∙◌, subst}
-use Rattle.std.specs.Option.{option_and_then}
-use Rattle.std.proofs.lemmas.Bool.{false≢true}
+use Rattle.std.specs.Option.{IsSomeAnd, option_and_then}
 use Rattle.std.proofs.lemmas.Option.{same_Some}
 use Rattle.hb_disk.specs.Model.{DiskModel}
 use Rattle.hb_frag.specs.declared.pages.LivePage.{LivePage}
@@ -27,13 +26,14 @@ use Rattle.hb_core.proofs.Memory.StillThere.{fetched_good}
 use Rattle.hb_core.proofs.Running.Brought.{brings_wider}
 use Rattle.hb_core.proofs.Running.StandsElsewhere.{stands_as}
 use Rattle.hb_core.proofs.Walks.MayBeAsked.{children_may_be_asked}
-use Rattle.hb_core.specs.Acting.{NeedsNumber}
+use Rattle.hb_core.specs.Acting.{Decodes, NeedsNumber}
+use Rattle.hb_core.specs.AskingDeciders.{AsksNumber, MakesPageAt}
 use Rattle.hb_core.specs.AllowedLaws.{AnyPage}
 use Rattle.hb_core.specs.AskedLaws.{AsksWithParent}
 use Rattle.hb_core.specs.Asking.{looked_live, wanted_by}
 use Rattle.hb_core.specs.Fetching.{Brings, IsWantedPage}
 use Rattle.hb_core.specs.Looking.{number_of_row, other_page}
-use Rattle.hb_core.specs.Machines.{Machine, live_here, sight}
+use Rattle.hb_core.specs.Machines.{Machine, live_here, sight, with_disk}
 use Rattle.hb_core.specs.Moving.{StandsAs}
 use Rattle.hb_core.specs.Rows.{IsAtHand}
 use Rattle.hb_core.specs.Showing.{RunningCore}
@@ -95,8 +95,11 @@ module _ (m : Machine) (d : DiskModel) (c : RunningCore) (actor : ℕ) (latches 
       hand_at : IsAtHand now activity wants.0 page
       hand_at = subst (λ (a : Activity). IsAtHand now a wants.0 page) is (subst (IsAtHand now (m.activity actor) wants.0) hand_is hand.1)
 
+      hand_held : IsAtHand (with_disk c.store m.files m.clock m) (m.activity actor) wants.0 page
+      hand_held = let at_actor = subst (IsAtHand now (m.activity actor) wants.0) hand_is hand.1 in record { live = at_actor.live; level = at_actor.level; box = at_actor.box }
+
       with_parent : (job : Job) (parent : ℕ) → activity ≡ at.PosterAgain job parent → AsksWithParent m actor c.store parent page
-      with_parent job parent again = children_may_be_asked m actor c.store job parent wants.0 page latches come.may.goes_on.kept any (inr (is ∙ again)) wants.1 (subst (λ (a : Activity). IsAtHand now a wants.0 page) (sym is) hand_at)
+      with_parent job parent again = children_may_be_asked m actor c.store job parent wants.0 page latches come.may.goes_on.kept any (inr (is ∙ again)) wants.1 hand_held
 
       asked_at : MayBeAsked activity c.store.meta page (other_page c.store activity)
       asked_at = by activity refl may
@@ -164,19 +167,28 @@ module _ (m : Machine) (d : DiskModel) (c : RunningCore) (actor : ℕ) (latches 
   same_page : live_here c.store (number_of_row activity (wanted_by m actor)) ≡ live_here c.store id
   same_page = ap (λ (o : Option Wanted). live_here c.store (number_of_row activity o)) (sym wants) ∙ ap (live_here c.store) (sym number)
 
-  pub not_missing : None ≡ live_here c.store id → ⊥
-  not_missing none = false≢true (subst (λ (o : Option LivePage). IsSome o) (same_page ∙ sym none) (page_there m d c actor latches come activity stands_so may))
+  its_page : (page : LivePage) × (live_here c.store id ≡ Some page)
+  its_page = some_value (live_here c.store id) (subst (λ (o : Option LivePage). IsSome o) same_page (page_there m d c actor latches come activity stands_so may))
 
-  module _ (page : LivePage) (live : Some page ≡ live_here c.store id) (meta : Meta) (meta_is : meta ≡ c.store.meta) (other : Option LivePage) (other_is : other ≡ other_page c.store activity) where
-    pub fits_here : FitsFile meta page
-    fits_here = subst (λ (x : Meta). FitsFile x page) (sym meta_is) (fits_page m d c actor latches come id page (sym live))
+  -- what the poster's decider is asked
+  pub asks_number : AsksNumber c.store activity id
+  asks_number = record {
+    page = its_page.0;
+    live = its_page.1;
+    made = fits_page m d c actor latches come id its_page.0 its_page.1;
+    asked = asked_at m d c actor latches come activity stands_so may its_page.0 (same_page ∙ its_page.1);
+  }
 
-    pub asked_here : MayBeAsked activity meta page other
-    asked_here =
-        subst (λ (x : Meta). MayBeAsked activity x page other) (sym meta_is)
-        (subst (λ (o : Option LivePage). MayBeAsked activity c.store.meta page o) (sym other_is) (asked_at m d c actor latches come activity stands_so may page (same_page ∙ sym live)))
+  -- and what it says
+  pub number_said : (b : Bool) → IsTrue b ↔ MakesPageAt c.store activity id → IsTrue b ↔ NeedsNumber (m.activity actor) (wanted_by m actor) (with_memory c m)
+  number_said b says = number_needed m d c actor latches come activity stands_so may its_page.0 (same_page ∙ its_page.1) b
+      (subst (λ (o : Option LivePage). IsTrue b ↔ ((c.store.meta.live < c.store.meta.pages) × IsSomeAnd o (λ page. MakesPage activity c.store.meta page (other_page c.store activity)))) its_page.1 says)
 
-    pub needed_here : (b : Bool) → IsTrue b ↔ ((meta.live < meta.pages) × MakesPage activity meta page other) → IsTrue b ↔ NeedsNumber (m.activity actor) (wanted_by m actor) (with_memory c m)
-    needed_here b says = number_needed m d c actor latches come activity stands_so may page (same_page ∙ sym live) b
-        (subst (λ (o : Option LivePage). IsTrue b ↔ ((c.store.meta.live < c.store.meta.pages) × MakesPage activity c.store.meta page o)) other_is
-        (subst (λ (x : Meta). IsTrue b ↔ ((x.live < x.pages) × MakesPage activity x page other)) meta_is says))
+  -- which takes memory
+  pub number_decodes : Decodes (wanted_by m actor) (with_memory c m) (m.activity actor)
+  number_decodes = subst (Decodes (wanted_by m actor) (with_memory c m)) (sym stands_so) (by activity may)
+    where
+      by : (a : Activity) → MayMakeToPost a → Decodes (wanted_by m actor) (with_memory c m) a
+      by (at.PosterGrow job) makes = tt
+      by (at.PosterAgain job parent) makes = tt
+      by a makes = absurd makes

@@ -1,86 +1,151 @@
 -- A row for which a core has its pages is done, or memory is refused to it.
-use Rattle.std.proofs.Common.{◌≡◌, ◌⊎◌, inl, inr, ℕ, suc, zero, ◌-◌, List, [], ◌∷◌, length, slice_set, Option, Some, None, IsSome, refl, sym, ap, ◌∙◌, subst}
-use Rattle.std.specs.Option.{MatchOption}
+use Rattle.std.proofs.Common.{◌≡◌, ◌⊎◌, inl, inr, ℕ, suc, zero, ◌-◌, ◌+◌, ◌++◌, arith, true, false, Bool, List, [], ◌∷◌, length, slice_set, Option, Some, None, IsSome, refl, sym, ap, ◌∙◌, subst}
+use Rattle.std.specs.Option.{MatchOption, is_some}
+use Rattle.std.proofs.lemmas.Bool.{cases_Bool}
+use Rattle.std.proofs.lemmas.List.{length-map}
+use Rattle.hb_set.specs.Order.{Entry}
 use Rattle.hb_activity.specs.declared.activities.Activity.{Activity}
 use Rattle.hb_activity.specs.declared.activities.Activity.TheVariants as at
 use Rattle.hb_activity.specs.declared.dropping.DropWhy.TheVariants as drops
-use Rattle.hb_activity.specs.declared.jobs.Job.{Job}
 use Rattle.hb_activity.specs.declared.wanting.Wanted.{Wanted}
-use Rattle.hb_activity.specs.Classes.{idle_of}
+use Rattle.hb_activity.specs.Classes.{hand_of, idle_of}
 use Rattle.hb_activity.specs.declared.deciding.Next.{Next}
 use Rattle.hb_activity.specs.Deciding.{deed_of}
 use Rattle.hb_activity.specs.Deeds.{Deed}
 use Rattle.hb_disk.specs.Model.{DiskModel}
 use Rattle.hb_space.specs.Actors.{IsActor}
-use Rattle.hb_ops.specs.declared.operations.Op.{Op}
-use Rattle.hb_consol.specs.ConsolidatorRows.{children_of, first_one, scans}
-use Rattle.hb_poster.specs.PosterRows.{after_look}
-use Rattle.hb_terms.specs.declared.plans.PostPlan.{PostPlan}
-use Rattle.hb_terms.specs.declared.plans.PostPlan.TheVariants as plans
+use Rattle.hb_pool.specs.Frames.{Use}
+use Rattle.hb_store.specs.Fetching.{use_numbered}
+use Rattle.hb_store.specs.Held.{IsTied}
+use Rattle.hb_core.specs.declared.halts.Halt.{Halt}
 use Rattle.hb_core.specs.declared.halts.Halt.TheVariants.{GivesUp}
 use Rattle.hb_core.specs.declared.outcomes.Outcome.{Outcome}
-use Rattle.hb_core.specs.Acting.{DoesRow, HasOp, MayNeed, NeedsNumber, TakesMemory}
+use Rattle.hb_core.specs.Acting.{Decodes, DoesRow, GivesUpFor, MayNeed, NeedsNumber, takes_number}
 use Rattle.hb_core.specs.Asking.{wanted_by}
 use Rattle.hb_core.specs.Fetching.{Brings, IsFreeHead, IsWantedPage}
 use Rattle.hb_core.specs.KeptFits.{class_for}
-use Rattle.hb_core.specs.Machines.{Machine, next_of}
-use Rattle.hb_core.specs.Moving.{DoesDeed, KeepsFilesBy, placed, with_standing}
+use Rattle.hb_core.specs.Machines.{Machine, next_of, with_disk, with_uses}
+use Rattle.hb_core.specs.Moving.{DoesDeed, KeepsFilesBy, number_of, placed, with_order_of_use, with_standing}
+use Rattle.hb_core.specs.Performing.{latches_held}
+use Rattle.hb_core.specs.Pinning.{CanUnpin}
 use Rattle.hb_core.specs.Rows.{Row}
 use Rattle.hb_core.specs.Showing.{RunningCore, ShowsMachine}
-use Rattle.hb_core.specs.Working.{Halts, HasPages, IsWorking, ShowsBut, with_memory}
+use Rattle.hb_core.specs.Using.{CameFor, page_wanted, pages_of, unpin_each, use_number, use_wanted}
+use Rattle.hb_core.specs.Working.{Halts, HaltsPinned, HasCome, HasPages, ShowsBut, with_memory}
 use Rattle.hb_core.proofs.Running.Brought.{brings_wider}
-use Rattle.hb_core.proofs.Running.MayPerform.{brings_as_row}
+use Rattle.hb_core.proofs.Running.MayPerform.{brings_as_row, row_there}
 use Rattle.hb_core.proofs.Running.DeedShows.{deed_shows}
 use Rattle.hb_core.proofs.Running.NumbersInHand.{row_number}
-use Rattle.hb_core.proofs.Running.PlacesAwaited.{same_length as shown_length}
-use Rattle.hb_core.proofs.Running.StandsElsewhere.{shows_but}
+use Rattle.hb_core.proofs.Running.Pins.{can_unpin, tied_unpinned}
+use Rattle.hb_core.proofs.Machines.PinsFollow.{PinsMore, more_number}
+use Rattle.hb_core.specs.KeptMachine.{MachineKeeps}
+use Rattle.hb_core.proofs.Running.ReadsStay.{must_stays}
+use Rattle.hb_core.proofs.Running.StandsElsewhere.{shows_but, stands_as}
+use Rattle.hb_core.proofs.Running.TakesNumbers.{needs_what_it_takes, takes_what_it_needs}
 
 set_twice : {X : Type 0} (xs : List X) (n : ℕ) (x y : X) → slice_set (slice_set xs n x) n y ≡ slice_set xs n y
 set_twice [] n x y = refl
 set_twice (z ∷ xs) zero x y = refl
 set_twice (z ∷ xs) (suc n) x y = ap (λ (l : List _). z ∷ l) (set_twice xs n x y)
 
+-- the order is as long
+shown_length : (d : DiskModel) (c : RunningCore) (m : Machine) → ShowsMachine d c m → length m.order ≡ length c.order
+shown_length d c m shows = sym (length-map m.order (λ (e : Entry). e.line.number)) ∙ ap (λ (l : List ℕ). length l) shows.order
+
+-- a core shows a machine with another order of use, where it has that
+pub shows_with : (d : DiskModel) (c : RunningCore) (uses : List Use) (n : Machine) → ShowsMachine d c n → ShowsMachine d (with_order_of_use uses c) (with_uses uses n)
+shows_with d c uses n shows = record {
+  lines = shows.lines;
+  sessions = shows.sessions;
+  turns = λ session behind from to at. let turn = shows.turns session behind from to at in record { few = turn.few; front = turn.front; back = turn.back };
+  all_actors = shows.all_actors;
+  activities = shows.activities;
+  nobody_else = shows.nobody_else;
+  latches = shows.latches;
+  jobs = shows.jobs;
+  order = shows.order;
+  stop = shows.stop;
+  store = shows.store;
+  uses = refl;
+  tells = λ told. let s = shows.tells told in record { files = s.files; told = s.told; kept = s.kept; clock = s.clock };
+  silent = shows.silent;
+}
+
 -- a number that is given is one that the row needs
 needed : (N : Type 0) (given : ℕ × ℕ → Type 0) (free : Option (ℕ × ℕ)) → MatchOption free (¬ N) (λ next. N × given next) → IsSome free → N
 needed N given (Some next) number some = number.0
 needed N given None number none = absurd cc
 
-no_op : (job : Job) (parent : ℕ) (plan : PostPlan) → (after_look job parent plan).op ≡ None
-no_op job parent plans.Nothing = refl
-no_op job parent (plans.Post at inner area) = refl
-no_op job parent plans.SplitFirst = refl
+-- a step needs a number, whatever the order of use
+needs_as : (m : Machine) (uses : List Use) (wanted : Option Wanted) (activity : Activity) → NeedsNumber activity wanted (with_uses uses m) → NeedsNumber activity wanted m
+needs_as m uses wanted (at.SessionSplit line held) needs = needs
+needs_as m uses (Some wanted) (at.PosterGrow job) (room, root, hand, may) = (room, root, record { live = hand.live; level = hand.level; box = hand.box }, may)
+needs_as m uses (Some wanted) (at.PosterAgain job parent) (room, child, hand, planned) = (room, child, record { live = hand.live; level = hand.level; box = hand.box }, planned)
+needs_as m uses wanted activity needs = absurd needs
 
-scans_none : (job : Job) (parent : ℕ) (child : Option ℕ) → (scans job parent child).op ≡ None
-scans_none job parent None = refl
-scans_none job parent (Some child) = refl
+-- a step decodes its pages, whatever the order of use
+pub decodes_as : (m : Machine) (uses : List Use) (wanted : Option Wanted) (activity : Activity) → Decodes wanted (with_uses uses m) activity → Decodes wanted m activity
+decodes_as m uses None (at.SessionWalk line held rest found) decodes = decodes
+decodes_as m uses (Some wanted) (at.SessionWalk line held rest found) (boxes, (page, hand, now)) = (boxes, (page, record { live = hand.live; level = hand.level; box = hand.box }, now))
+decodes_as m uses wanted (at.SessionSplit line held) decodes = decodes
+decodes_as m uses wanted (at.SessionPut line source fresh) decodes = decodes
+decodes_as m uses wanted at.SessionIdle decodes = decodes
+decodes_as m uses wanted (at.SessionAwait number reply place) decodes = decodes
+decodes_as m uses wanted at.PosterIdle decodes = decodes
+decodes_as m uses wanted (at.PosterGrow job) decodes = decodes
+decodes_as m uses wanted (at.PosterWalk job held) decodes = decodes
+decodes_as m uses wanted (at.PosterChild job parent) decodes = decodes
+decodes_as m uses wanted (at.PosterPromote job parent) decodes = decodes
+decodes_as m uses wanted (at.PosterAgain job parent) decodes = decodes
+decodes_as m uses wanted at.ConsolidatorIdle decodes = decodes
+decodes_as m uses wanted (at.ConsolidatorWalk job held) decodes = decodes
+decodes_as m uses wanted (at.ConsolidatorScan job parent child) decodes = decodes
+decodes_as m uses wanted (at.ConsolidatorTry job parent keep gone leaf) decodes = decodes
+decodes_as m uses wanted (at.ConsolidatorPromote job parent keep gone) decodes = decodes
+decodes_as m uses wanted (at.ConsolidatorKeep job parent keep gone) decodes = decodes
+decodes_as m uses wanted (at.ConsolidatorDecide job parent keep gone) decodes = decodes
+decodes_as m uses wanted at.Flusher decodes = decodes
 
-not_both : (o : Option Op) → o ≡ None → IsSome o → ⊥
-not_both None is some = cc
-not_both (Some op) is some = cc
+-- of two machines that a core shows an actor has the same line in hand
+pub lines_alike : (d : DiskModel) (c : RunningCore) (m n : Machine) (actor : ℕ) → IsActor actor → HasCome m actor d c → HasCome n actor d c → number_of (hand_of (m.activity actor)) ≡ number_of (hand_of (n.activity actor))
+lines_alike d c m n actor may own come = ap (λ (a : Activity). number_of (hand_of a)) (stands_as d c (with_memory c m) actor (n.activity actor) may own.shows (come.shows.activities actor may))
 
--- a row that does an operation takes memory
-takes_memory : (m : Machine) (activity : Activity) (wanted : Option Wanted) (deed : Deed) → IsWorking activity → Row activity wanted m deed → HasOp deed → TakesMemory activity deed
-takes_memory m (at.SessionWalk line held rest found) wanted deed works row has = inl has
-takes_memory m (at.SessionSplit line held) wanted deed works row has = has
-takes_memory m (at.SessionPut line source fresh) wanted deed works row has = has
-takes_memory m (at.PosterGrow job) wanted deed works row has = has
-takes_memory m (at.PosterWalk job held) wanted deed works row has = has
-takes_memory m (at.PosterChild job parent) None deed works row has = absurd row
-takes_memory m (at.PosterChild job parent) (Some wanted) deed works row has =
-    let looks = row.2 in
-    let none : deed.op ≡ None = ap (λ (x : Deed). x.op) looks.deed_is ∙ no_op job parent looks.plan in
-    absurd (not_both deed.op none has)
-takes_memory m (at.PosterPromote job parent) wanted deed works row has = has
-takes_memory m (at.PosterAgain job parent) wanted deed works row has = has
-takes_memory m (at.ConsolidatorWalk job held) None deed works row has = absurd row
-takes_memory m (at.ConsolidatorWalk job held) (Some wanted) deed works (page, hand, inl row) has = absurd (not_both deed.op (ap (λ (x : Deed). x.op) row.deed_is ∙ scans_none job wanted.page (first_one (children_of page))) has)
-takes_memory m (at.ConsolidatorWalk job held) (Some wanted) deed works (page, hand, inr row) has = absurd (not_both deed.op (ap (λ (x : Deed). x.op) row.passes.deed_is) has)
-takes_memory m (at.ConsolidatorScan job parent child) wanted deed works row has = tt
-takes_memory m (at.ConsolidatorTry job parent keep gone leaf) wanted deed works row has = tt
-takes_memory m (at.ConsolidatorPromote job parent keep gone) wanted deed works row has = has
-takes_memory m (at.ConsolidatorKeep job parent keep gone) wanted deed works row has = has
-takes_memory m (at.ConsolidatorDecide job parent keep gone) wanted deed works row has = has
-takes_memory m activity wanted deed works row has = absurd works
+-- memory is refused before a number is known to be needed
+pub number_refused : (d : DiskModel) (c : RunningCore) (m : Machine) (actor : ℕ) → IsActor actor → HasCome m actor d c → Decodes (wanted_by m actor) (with_memory c m) (m.activity actor) → HaltsPinned m actor (GivesUp drops.NoMemory) d c
+number_refused d c m actor may come decodes = record {
+  brings = brings_wider m (IsWantedPage (wanted_by m actor)) (MayNeed m actor c.store) c.store (λ id wants. inl wants) come.brings;
+  shows = shows_but d c (with_memory c m) actor may come.shows;
+  cause = inl (decodes_as (with_disk c.store m.files m.clock m) c.uses (wanted_by m actor) (m.activity actor) decodes);
+  used_is = inl come.uses;
+  tied = come.tied;
+}
+
+-- the wanted page is pinned for the step still, so that it may be let go
+pub may_let_wanted_go : (m : Machine) (actor : ℕ) (d : DiskModel) (c : RunningCore) (wanted : Option Wanted) (halt : Halt) → MachineKeeps m → wanted ≡ wanted_by m actor → HaltsPinned m actor halt d c → CanUnpin (page_wanted wanted) c.uses
+may_let_wanted_go m actor d c wanted halt keeps wants halts = subst (λ (o : Option Wanted). CanUnpin (page_wanted o) c.uses) (sym wants)
+    (can_unpin (page_wanted (wanted_by m actor)) c.uses halts.tied.pool (λ q. let more = (by halts.used_is).pins q in omega (arith, more)))
+  where
+    by : (c.uses ≡ use_wanted (wanted_by m actor) m.uses) ⊎ (c.uses ≡ use_numbered m.store.meta (use_wanted (wanted_by m actor) m.uses)) → PinsMore (page_wanted (wanted_by m actor)) m.uses c.uses
+    by (inl same) = subst (λ (l : List Use). PinsMore (page_wanted (wanted_by m actor)) m.uses l) (sym same) (more_number false m.store.meta (wanted_by m actor) m.uses keeps.frames_fit.tied.pool.distinct)
+    by (inr same) = subst (λ (l : List Use). PinsMore (page_wanted (wanted_by m actor)) m.uses l) (sym same) (more_number true m.store.meta (wanted_by m actor) m.uses keeps.frames_fit.tied.pool.distinct)
+
+-- the wanted page is pinned for the step no more
+pub let_go : (m : Machine) (actor : ℕ) (d : DiskModel) (c : RunningCore) (uses : List Use) (wanted : Option Wanted) (halt : Halt) → wanted ≡ wanted_by m actor → HaltsPinned m actor halt d c → CanUnpin (page_wanted wanted) c.uses
+    → uses ≡ unpin_each (page_wanted wanted) c.uses → Halts m actor halt d (with_order_of_use uses c)
+let_go m actor d c uses wanted halt wants halts can is = record {
+  brings = halts.brings;
+  shows = shows_with d (with_standing actor (m.activity actor) c) uses (with_memory c m) halts.shows;
+  cause = halts.cause;
+  used_is = by halts.used_is;
+  tied = subst (λ (l : List Use). IsTied c.store l) (sym is) (tied_unpinned c.store (page_wanted wanted) c.uses halts.tied can);
+}
+  where
+    so : uses ≡ unpin_each (page_wanted (wanted_by m actor)) c.uses
+    so = is ∙ ap (λ (o : Option Wanted). unpin_each (page_wanted o) c.uses) wants
+
+    by : (c.uses ≡ use_wanted (wanted_by m actor) m.uses) ⊎ (c.uses ≡ use_numbered m.store.meta (use_wanted (wanted_by m actor) m.uses)) → CameFor (wanted_by m actor) m.store.meta m.uses uses
+    by (inl same) = inr (inl (so ∙ ap (unpin_each (page_wanted (wanted_by m actor))) same))
+    by (inr same) = inr (inr (so ∙ ap (unpin_each (page_wanted (wanted_by m actor))) same))
 
 module _ (d : DiskModel) (c : RunningCore) (m : Machine) (actor : ℕ) (free : Option (ℕ × ℕ)) (may : IsActor actor) (pages : HasPages m actor free d c) where
   -- the core while its decider is asked: the actor has nothing in hand
@@ -108,24 +173,58 @@ module _ (d : DiskModel) (c : RunningCore) (m : Machine) (actor : ℕ) (free : O
     where
       wider : (id : ℕ) → IsWantedPage (wanted_by m actor) id ⊎ (IsSome free × IsFreeHead m.store id) → MayNeed m actor c.store id
       wider id (inl wanted) = inl wanted
-      wider id (inr (some, head)) = inr (needs some, head)
+      wider id (inr (some, head)) = inr (needs_as (with_disk c.store m.files m.clock m) c.uses (wanted_by m actor) (m.activity actor) (needs some), head)
 
-  -- memory is refused, for what the decider makes
-  pub row_refused : (deed : Deed) × IsRow deed × TakesMemory (m.activity actor) deed → Halts m actor (GivesUp drops.NoMemory) d idled
-  row_refused takes = record { brings = brings_needed; shows = shows_idled; cause = inr takes }
+  used_so : (c.uses ≡ use_wanted (wanted_by m actor) m.uses) ⊎ (c.uses ≡ use_numbered m.store.meta (use_wanted (wanted_by m actor) m.uses))
+  used_so = by free pages.uses
+    where
+      by : (o : Option (ℕ × ℕ)) → c.uses ≡ use_number (is_some o) m.store.meta (use_wanted (wanted_by m actor) m.uses) → (c.uses ≡ use_wanted (wanted_by m actor) m.uses) ⊎ (c.uses ≡ use_numbered m.store.meta (use_wanted (wanted_by m actor) m.uses))
+      by None is = inl is
+      by (Some number) is = inr is
+
+  refused_for : GivesUpFor drops.NoMemory m actor c.store → HaltsPinned m actor (GivesUp drops.NoMemory) d idled
+  refused_for cause = record { brings = brings_needed; shows = shows_idled; cause = cause; used_is = used_so; tied = pages.tied }
+
+  -- memory is refused, for a page that is decoded
+  pub row_refused : Decodes (wanted_by m actor) (with_memory c m) (m.activity actor) → HaltsPinned m actor (GivesUp drops.NoMemory) d idled
+  row_refused decodes = refused_for (inl (decodes_as (with_disk c.store m.files m.clock m) c.uses (wanted_by m actor) (m.activity actor) decodes))
 
   -- what the decider said
   module _ (next : Next) (row : IsRow (placed (length m.order) (deed_of (m.activity actor) next))) where
     abbrev deed : Deed
     deed = placed (length m.order) (deed_of (m.activity actor) next)
 
+    -- a number is taken just where one is given
+    takes_it : is_some free ≡ takes_number deed.op
+    takes_it = by free pages.number
+      where
+        by : (o : Option (ℕ × ℕ)) → MatchOption o (¬ Needs) (λ next. Needs × (next_of c.store ≡ Some next)) → is_some o ≡ takes_number deed.op
+        by (Some number) given = sym (takes_what_it_needs (with_memory c m) (m.activity actor) (wanted_by m actor) deed given.0 row)
+        by None none = elim (cases_Bool (takes_number deed.op)) [
+          | inl takes ↦ absurd (none (needs_what_it_takes (with_memory c m) (m.activity actor) (wanted_by m actor) deed row takes))
+          | inr off ↦ sym off
+        ]
+
     -- its deed is done
-    pub row_done : (outcome : Outcome) (after : RunningCore) → DoesDeed actor deed outcome idled after → KeepsFilesBy next.op d c.store d after.store → (new : Machine) × DoesRow m actor outcome new × ShowsMachine d after new
-    row_done outcome after does keeps =
-        let done = deed_shows d idled after m actor deed outcome may shows_idled does pages.may.goes_on.kept.lines_in_sequence
-        (row_number m c.store (m.activity actor) (wanted_by m actor) deed pages.may.working row) keeps in
-        (done.0, record { fetched = c.store; deed = deed; brings = brings_as_row d c m actor free may pages next row; row = row; performs = done.1 }, done.2)
+    pub row_done : (pins : List ℕ) (outcome : Outcome) (after : RunningCore) → pins ≡ page_wanted (wanted_by m actor) ++ pages_of (latches_held m.store (m.activity actor)) → DoesDeed actor pins deed outcome idled after
+        → KeepsFilesBy next.op d c.store d after.store → (new : Machine) × DoesRow m actor outcome new × ShowsMachine d after new
+    row_done pins outcome after pinned does keeps =
+        let done = deed_shows d idled after m actor deed outcome may shows_idled pins does (must_stays m d c actor free may pages) pages.may.goes_on.kept.lines_in_sequence
+        (row_number m c.store (m.activity actor) (wanted_by m actor) deed pages.may.working (row_there d c m actor free may pages next row)) keeps in (
+          done.0,
+          record {
+            fetched = c.store;
+            deed = deed;
+            brings = brings_as_row d c m actor free may pages next row;
+            row = row_there d c m actor free may pages next row;
+            performs = done.1.0;
+            came = done.1.1 ∙ pages.uses ∙ ap (λ (b : Bool). use_number b m.store.meta (use_wanted (wanted_by m actor) m.uses)) takes_it;
+            pins = done.1.2 ∙ pinned;
+            tied = subst (λ (l : List Use). IsTied c.store l) (sym done.1.1) pages.tied;
+          },
+          done.2,
+        )
 
     -- or memory is refused to its operation
-    pub op_refused : IsSome next.op → Halts m actor (GivesUp drops.NoMemory) d idled
-    op_refused some = row_refused (deed, row, takes_memory (with_memory c m) (m.activity actor) (wanted_by m actor) deed pages.may.working row some)
+    pub op_refused : IsSome next.op → HaltsPinned m actor (GivesUp drops.NoMemory) d idled
+    op_refused some = refused_for (inr (deed, row_there d c m actor free may pages next row, some))

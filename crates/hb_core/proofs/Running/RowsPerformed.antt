@@ -1,11 +1,11 @@
 -- What a core performs by its decider's answer is the row of the machine that it shows.
-use Rattle.std.proofs.Common.{◌≡◌, ℕ, ◌<◌, ◌^◌, List, length, arith, Option, IsSome, IfSome, IfOk, Result, Ok, Err, sym, ap, ◌∙◌, subst}
+use Rattle.std.proofs.Common.{◌≡◌, ℕ, ◌<◌, ◌^◌, ◌++◌, List, length, arith, Option, IsSome, IfSome, IfOk, Result, Ok, Err, sym, ap, ◌∙◌, subst}
 use Rattle.hb_activity.specs.declared.activities.Activity.{Activity}
+use Rattle.hb_activity.specs.declared.wanting.Wanted.{Wanted}
 use Rattle.hb_activity.specs.declared.deciding.Next.{Next}
 use Rattle.hb_activity.specs.declared.dropping.DropWhy.TheVariants as drops
 use Rattle.hb_activity.specs.Classes.{hand_of, idle_of}
 use Rattle.hb_activity.specs.Deciding.{deed_of}
-use Rattle.hb_activity.specs.Deeds.{Deed}
 use Rattle.hb_disk.specs.Model.{DiskModel}
 use Rattle.hb_space.specs.Actors.{IsActor}
 use Rattle.hb_ops.specs.Files.{FileState}
@@ -15,7 +15,11 @@ use Rattle.hb_store.specs.States.{StoreState}
 use Rattle.hb_core.specs.declared.halts.Halt.{Halt}
 use Rattle.hb_core.specs.declared.halts.Halt.TheVariants.{GivesUp}
 use Rattle.hb_core.specs.declared.outcomes.Outcome.{Outcome}
-use Rattle.hb_core.specs.Acting.{DoesRow, TakesMemory}
+use Rattle.hb_core.specs.Acting.{Decodes, DoesRow}
+use Rattle.hb_core.specs.Performing.{latches_held}
+use Rattle.hb_core.specs.Pinning.{CanHold}
+use Rattle.hb_core.specs.Using.{page_wanted, pages_of, use_done}
+use Rattle.hb_store.specs.Held.{IsTied}
 use Rattle.hb_core.specs.Asking.{wanted_by}
 use Rattle.hb_core.specs.KeptFits.{class_for}
 use Rattle.hb_core.specs.MachineLaws.{RowsMayBeDone}
@@ -24,14 +28,20 @@ use Rattle.hb_core.specs.Moving.{DoesDeed, KeepsFilesBy, MayCommit, MayStand, jo
 use Rattle.hb_core.specs.Performing.{MayDo}
 use Rattle.hb_core.specs.Rows.{Row}
 use Rattle.hb_core.specs.Showing.{RunningCore, ShowsMachine}
-use Rattle.hb_core.specs.Working.{Halts, HasPages, with_memory}
-use Rattle.hb_core.proofs.Running.MayPerform.{has_room, may_commit_then, stands_after}
-use Rattle.hb_core.proofs.Running.RowsDone.{IsRow, op_refused, row_done, row_refused, same_length}
+use Rattle.hb_core.specs.Working.{HaltsPinned, HasPages, with_memory}
+use Rattle.hb_core.proofs.Running.MayPerform.{has_room, hold_after, may_commit_then, stands_after}
+use Rattle.hb_core.proofs.Running.RowsDone.{op_refused, row_done, row_refused, same_length}
 
 -- two facts of what a call gave
 pub ok_both : {A E : Type 0} (r : Result A E) (P Q R : A → Type 0) → ((x : A) → P x → Q x → R x) → IfOk r P → IfOk r Q → IfOk r R
 ok_both (Ok x) P Q R then p q = then x p q
 ok_both (Err e) P Q R then p q = tt
+
+-- the pages that are pinned for an actor: the wanted one, and those that it holds
+pub pins_joined : (m : Machine) (actor : ℕ) (wanted : Option Wanted) (pins items slice : List ℕ) → slice ≡ items → items ≡ page_wanted wanted ++ pins → wanted ≡ wanted_by m actor → pins ≡ pages_of (latches_held m.store (m.activity actor))
+    → slice ≡ page_wanted (wanted_by m actor) ++ pages_of (latches_held m.store (m.activity actor))
+pins_joined m actor wanted pins items slice value joined wants held =
+    value ∙ joined ∙ ap (λ (o : Option Wanted). page_wanted o ++ pins) wants ∙ ap (λ (l : List ℕ). page_wanted (wanted_by m actor) ++ l) held
 
 abbrev OneDurable : DiskModel → StoreState → Type 0
 OneDurable d st = (durable other : FileState) (later others : List FileState) → StoreKeeps d st durable later → StoreKeeps d st other others → durable ≡ other
@@ -41,9 +51,9 @@ OneLater d st = (durable other : FileState) (later others : List FileState) → 
 
 module _ {D : Type 0} (model : D → DiskModel) (x y : D) (c between : RunningCore) (m : Machine) (actor : ℕ) (free : Option (ℕ × ℕ)) (may : IsActor actor)
     (rest : between ≡ with_standing actor (idle_of (class_for actor)) c) (same : y ≡ x) (pages : HasPages m actor free (model x) c) where
-  pub refused_halts : (halt : Halt) → halt ≡ GivesUp drops.NoMemory → (deed : Deed) × IsRow (model x) c m actor free may pages deed × TakesMemory (m.activity actor) deed → Halts m actor halt (model y) between
-  refused_halts halt is takes = subst (λ (h : Halt). Halts m actor h (model y) between) (sym is) (subst (λ (k : D). Halts m actor (GivesUp drops.NoMemory) (model k) between) (sym same)
-      (subst (λ (s : RunningCore). Halts m actor (GivesUp drops.NoMemory) (model x) s) (sym rest) (row_refused (model x) c m actor free may pages takes)))
+  pub refused_halts : (halt : Halt) → halt ≡ GivesUp drops.NoMemory → Decodes (wanted_by m actor) (with_memory c m) (m.activity actor) → HaltsPinned m actor halt (model y) between
+  refused_halts halt is decodes = subst (λ (h : Halt). HaltsPinned m actor h (model y) between) (sym is) (subst (λ (k : D). HaltsPinned m actor (GivesUp drops.NoMemory) (model k) between) (sym same)
+      (subst (λ (s : RunningCore). HaltsPinned m actor (GivesUp drops.NoMemory) (model x) s) (sym rest) (row_refused (model x) c m actor free may pages decodes)))
 
   pub order_few : length between.lines < 2 ^ 32 → length between.order < 2 ^ 32
   order_few few =
@@ -64,26 +74,35 @@ module _ {D : Type 0} (model : D → DiskModel) (x y : D) (c between : RunningCo
     row_may_stand = subst (λ (s : RunningCore). (st : StoreState) → MayDo next.op (length s.order) s.store st → MayStand actor s.latches st (placed_at (length s.order) next.then)) (sym rest)
         (stands_after (model x) c m actor free may pages next row)
 
+    -- its pins can go over
+    pub row_may_hold : (pins : List ℕ) → pins ≡ page_wanted (wanted_by m actor) ++ pages_of (latches_held m.store (m.activity actor)) → (st : StoreState) → MayDo next.op (length between.order) between.store st → IsTied st (use_done next.op between.store between.uses)
+        → CanHold pins (pages_of (latches_held st (placed_at (length between.order) next.then))) (use_done next.op between.store between.uses)
+    row_may_hold pins is = subst (λ (l : List ℕ). (st : StoreState) → MayDo next.op (length between.order) between.store st → IsTied st (use_done next.op between.store between.uses)
+        → CanHold l (pages_of (latches_held st (placed_at (length between.order) next.then))) (use_done next.op between.store between.uses)) (sym is)
+        (subst (λ (s : RunningCore). (st : StoreState) → MayDo next.op (length s.order) s.store st → IsTied st (use_done next.op s.store s.uses)
+        → CanHold (page_wanted (wanted_by m actor) ++ pages_of (latches_held m.store (m.activity actor))) (pages_of (latches_held st (placed_at (length s.order) next.then))) (use_done next.op s.store s.uses)) (sym rest)
+        (hold_after (model x) c m actor free may pages next row))
+
     pub row_may_join : (line : Option ℕ) → line ≡ number_of (hand_of (m.activity actor)) → IsSome (joins_order line next.then next.fate) → length between.order < length between.lines
     row_may_join line is joins = subst (λ (s : RunningCore). length s.order < length s.lines) (sym rest) (has_room (model x) c m actor free may pages next row line is joins)
 
     module _ (z : D) (after : RunningCore) (then : z ≡ y) where
-      pub performed_halts : (halt : Halt) → (halt ≡ GivesUp drops.NoMemory) × IsSome next.op × (after ≡ between) → Halts m actor halt (model z) after
-      performed_halts halt why = subst (λ (k : D). Halts m actor halt (model k) after) (sym then) (subst (λ (s : RunningCore). Halts m actor halt (model y) s) (sym why.2)
-          (subst (λ (h : Halt). Halts m actor h (model y) between) (sym why.0) (subst (λ (k : D). Halts m actor (GivesUp drops.NoMemory) (model k) between) (sym same)
-          (subst (λ (s : RunningCore). Halts m actor (GivesUp drops.NoMemory) (model x) s) (sym rest) (op_refused (model x) c m actor free may pages next row why.1)))))
+      pub performed_halts : (halt : Halt) → (halt ≡ GivesUp drops.NoMemory) × IsSome next.op × (after ≡ between) → HaltsPinned m actor halt (model z) after
+      performed_halts halt why = subst (λ (k : D). HaltsPinned m actor halt (model k) after) (sym then) (subst (λ (s : RunningCore). HaltsPinned m actor halt (model y) s) (sym why.2)
+          (subst (λ (h : Halt). HaltsPinned m actor h (model y) between) (sym why.0) (subst (λ (k : D). HaltsPinned m actor (GivesUp drops.NoMemory) (model k) between) (sym same)
+          (subst (λ (s : RunningCore). HaltsPinned m actor (GivesUp drops.NoMemory) (model x) s) (sym rest) (op_refused (model x) c m actor free may pages next row why.1)))))
 
-      pub performed_row : (line : Option ℕ) (outcome : Outcome) → line ≡ number_of (hand_of (m.activity actor))
-          → ((state : Activity) → line ≡ number_of (hand_of state) → DoesDeed actor (placed (length between.order) (deed_of state next)) outcome between after)
+      pub performed_row : (pins : List ℕ) → pins ≡ page_wanted (wanted_by m actor) ++ pages_of (latches_held m.store (m.activity actor)) → (line : Option ℕ) (outcome : Outcome) → line ≡ number_of (hand_of (m.activity actor))
+          → ((state : Activity) → line ≡ number_of (hand_of state) → DoesDeed actor pins (placed (length between.order) (deed_of state next)) outcome between after)
           → KeepsFilesBy next.op (model y) between.store (model z) after.store → (new : Machine) × DoesRow m actor outcome new × ShowsMachine (model z) after new
-      performed_row line outcome is does keeps =
+      performed_row pins pinned line outcome is does keeps =
           let core : RunningCore = with_standing actor (idle_of (class_for actor)) c in
-          let of_idled : DoesDeed actor (placed (length c.order) (deed_of (m.activity actor) next)) outcome core after =
-          subst (λ (s : RunningCore). DoesDeed actor (placed (length s.order) (deed_of (m.activity actor) next)) outcome s after) rest (does (m.activity actor) is) in
+          let of_idled : DoesDeed actor pins (placed (length c.order) (deed_of (m.activity actor) next)) outcome core after =
+          subst (λ (s : RunningCore). DoesDeed actor pins (placed (length s.order) (deed_of (m.activity actor) next)) outcome s after) rest (does (m.activity actor) is) in
           let long : length c.order ≡ length m.order = same_length (model x) c m actor free may pages in
           let kept : KeepsFilesBy next.op (model x) c.store (model x) after.store =
           subst (λ (k : D). KeepsFilesBy next.op (model x) c.store (model k) after.store) (then ∙ same)
           (subst (λ (k : D). KeepsFilesBy next.op (model k) c.store (model z) after.store) same
           (subst (λ (s : RunningCore). KeepsFilesBy next.op (model y) s.store (model z) after.store) rest keeps)) in
-          let done = row_done (model x) c m actor free may pages next row outcome after (subst (λ (n : ℕ). DoesDeed actor (placed n (deed_of (m.activity actor) next)) outcome core after) long of_idled) kept in
+          let done = row_done (model x) c m actor free may pages next row pins outcome after pinned (subst (λ (n : ℕ). DoesDeed actor pins (placed n (deed_of (m.activity actor) next)) outcome core after) long of_idled) kept in
           (done.0, done.1, subst (λ (k : D). ShowsMachine (model k) after done.0) (sym (then ∙ same)) done.2)

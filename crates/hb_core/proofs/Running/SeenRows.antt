@@ -11,19 +11,20 @@ use Rattle.hb_activity.specs.declared.activities.Activity.{Activity}
 use Rattle.hb_activity.specs.declared.activities.Activity.TheVariants as at
 use Rattle.hb_activity.specs.Deciding.{FitsFree, given_pages, given_sight, page_among}
 use Rattle.hb_activity.specs.Deeds.{Deed}
-use Rattle.hb_consol.specs.Asks.{AsksMemoryToMerge, MayAskToMerge, pages_given}
+use Rattle.hb_consol.specs.Asks.{MayAskToMerge, pages_given}
 use Rattle.hb_consol.specs.MergeRows.{ConsolidatorRow}
 use Rattle.hb_point.specs.Asks.{MayAsk}
 use Rattle.hb_point.specs.SessionRows.{PointRow}
-use Rattle.hb_poster.specs.Asks.{AsksMemory, MakesPage, MayBeAsked}
+use Rattle.hb_poster.specs.Asks.{MakesPage, MayBeAsked}
 use Rattle.hb_poster.specs.PosterRows.{PosterRow}
-use Rattle.hb_search.specs.Searching.{GathersNow, MaySearch, SearchRow}
+use Rattle.hb_search.specs.Searching.{SearchRow}
 use Rattle.hb_store.specs.States.{StoreState}
 use Rattle.std.proofs.lemmas.Option.{same_Some}
 use Rattle.hb_core.proofs.Running.LiftedMerges.{lifted_merger}
 use Rattle.hb_core.proofs.Running.LiftedRows.{IsSeenIn, lifted_point, lifted_poster, lifted_search}
-use Rattle.hb_core.specs.Looking.{AsksPoint, AsksPoster, AsksSearcher, GathersAt, HasPointRow, HasPosterRow, HasSearchRow, IsStarved, other_number, other_page, sight_in}
-use Rattle.hb_core.specs.LookingToMerge.{AsksMerger, HasMergerRow, LacksToMerge, second_number, second_page}
+use Rattle.hb_core.specs.AskingDeciders.{AsksPoint, AsksPoster, HasPointRow, HasPosterRow, HasSearchRow, sight_in}
+use Rattle.hb_core.specs.Looking.{other_number, other_page}
+use Rattle.hb_core.specs.LookingToMerge.{AsksMerger, HasMergerRow, second_number, second_page}
 use Rattle.hb_core.specs.Machines.{live_here, next_of}
 use Rattle.hb_core.specs.Moving.{placed}
 
@@ -86,25 +87,13 @@ module _ (st : StoreState) (activity : Activity) (n : ℕ) (free : Option (ℕ �
         (lifted_point (given_sight meta (given_pages activity id page first) free) (sight_in st place) (shown asks.next place) activity id page deed row),
   )
 
-  pub search_layout : AsksSearcher st activity n free → IsLayout meta
-  search_layout asks = given_layout asks.layout
-
-  pub search_made : AsksSearcher st activity n free → FitsFile meta page
-  search_made asks = given_made asks.page asks.live asks.made
-
-  pub search_asked : AsksSearcher st activity n free → MaySearch activity page
-  search_asked asks = subst (MaySearch activity) (same_page asks.page asks.live) asks.asked
-
-  pub search_said : AsksSearcher st activity n free → (deed : Deed) → SearchRow activity (given_sight meta (given_pages activity id page first) free) id page deed → (place : ℕ) → HasSearchRow st activity n place (placed place deed)
-  search_said asks deed row place = (
+  pub search_said : ((number : ℕ × ℕ) → free ≡ Some number → next_of st ≡ Some number) → (deed : Deed) → SearchRow activity (given_sight meta (given_pages activity id page first) free) id page deed → (place : ℕ) → HasSearchRow st activity n place (placed place deed)
+  search_said next deed row place = (
     page,
     live_there,
     subst (λ (k : ℕ). SearchRow activity (sight_in st place) k page (placed place deed)) is_id
-        (lifted_search (given_sight meta (given_pages activity id page first) free) (sight_in st place) (shown asks.next place) activity id page deed row),
+        (lifted_search (given_sight meta (given_pages activity id page first) free) (sight_in st place) (shown next place) activity id page deed row),
   )
-
-  pub search_gathers : GathersNow activity page → GathersAt st activity n
-  search_gathers gathers = (page, live_there, gathers)
 
   pub poster_layout : AsksPoster st activity n free → IsLayout meta
   poster_layout asks = given_layout asks.layout
@@ -132,10 +121,6 @@ module _ (st : StoreState) (activity : Activity) (n : ℕ) (free : Option (ℕ �
     subst (λ (k : ℕ). PosterRow activity (sight_in st place) k page (placed place deed)) is_id
         (lifted_poster (given_sight meta (given_pages activity id page first) free) (sight_in st place) (shown asks.next place) activity id page deed row),
   )
-
-  pub poster_wants_memory : AsksMemory activity meta page first free → IsStarved st activity n free
-  poster_wants_memory asks =
-      (page, live_there, subst (λ (o : Option LivePage). AsksMemory activity st.meta page o free) other (subst (λ (m : Meta). AsksMemory activity m page first free) is_meta asks))
 
 -- ---- what the consolidator's decider was given
 
@@ -179,12 +164,4 @@ module _ (st : StoreState) (activity : Activity) (n : ℕ) (id : ℕ) (page : Li
     (under_number st id n page is_id live),
     subst (λ (k : ℕ). ConsolidatorRow activity (sight_in st place) k page (placed place deed)) is_id
         (lifted_merger (given_sight meta (pages_given activity id page first second) None) (sight_in st place) (pair_shown place) activity id page deed (row None)),
-  )
-
-  pub merger_lacks : AsksMemoryToMerge activity meta page first second → LacksToMerge st activity n
-  merger_lacks asks = (
-    page,
-    (under_number st id n page is_id live),
-    subst (λ (o : Option LivePage). AsksMemoryToMerge activity st.meta page (other_page st activity) o) kept
-        (subst (λ (o : Option LivePage). AsksMemoryToMerge activity st.meta page o second) other (subst (λ (m : Meta). AsksMemoryToMerge activity m page first second) is_meta asks)),
   )

@@ -104,7 +104,8 @@ module _ (m : Machine) (actor : ℕ) (fetched st : StoreState) (deed : Deed) (la
       let among : mode_among parts.held (latches_held m.store (at.SessionSplit parts.line parts.held)) ≡ Some Exclusive = ap (λ (b : Bool). cond b (Some Exclusive) None) (eq-eqb parts.held parts.held refl) in
       let holds = keeps.latches_fit.exact actor parts.held latches ∙ ap (λ (a : Activity). mode_among parts.held (latches_held m.store a)) parts.before ∙ among in
       let used = keeps.latches_fit.used actor parts.held Exclusive holds in
-      made_was_free m AnyPage fetched leaves.fresh leaves.free_after keeps.pages_of_file brings (is_next_number fetched leaves.fresh leaves.free_after leaves.next) used.0 (ap (in_memory m.store) (sym one) ∙ used.1)
+      (made_was_free m AnyPage fetched leaves.fresh leaves.free_after keeps.pages_of_file brings (is_next_number fetched leaves.fresh leaves.free_after leaves.next) used.0 (ap (in_memory m.store) (sym one) ∙ used.1)).0
+      (inl (actor, Exclusive, ap (mode_at m.latches actor) (sym one) ∙ holds))
     where
       both : (line other : Line) (a b source fresh : ℕ) → at.SessionPut line a b ≡ at.SessionPut other source fresh → source ≡ fresh → a ≡ b
       both line other a b source fresh is same = cc

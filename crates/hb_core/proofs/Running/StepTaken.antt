@@ -40,6 +40,7 @@ counted taken d c m step = record {
     order = step.shows.order;
     stop = step.shows.stop;
     store = step.shows.store;
+    uses = step.shows.uses;
     tells = step.shows.tells;
     silent = step.shows.silent;
   };

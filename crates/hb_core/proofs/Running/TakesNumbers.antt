@@ -1,4 +1,4 @@
--- A row that needs a number takes it.
+-- A row that needs a number takes it, and one that takes it needs it.
 use Rattle.std.proofs.Common.{◌≡◌, ◌⊎◌, inl, inr, ℕ, ◌<◌, true, Option, Some, None, refl, sym, ap, ◌∙◌, subst, arith}
 use Rattle.std.proofs.lemmas.Option.{same_Some}
 use Rattle.hb_frag.specs.declared.pages.LivePage.{LivePage}
@@ -14,7 +14,10 @@ use Rattle.hb_poster.specs.PosterRows.{DoesPlan, GrowsFile, GrowsNot, MayGrow}
 use Rattle.hb_terms.proofs.Facts.Owing.{one_plan}
 use Rattle.hb_core.specs.Acting.{NeedsNumber, takes_number}
 use Rattle.hb_core.specs.Machines.{Machine, sight}
-use Rattle.hb_core.specs.Rows.{Row}
+use Rattle.hb_core.specs.Rows.{IsAtHand, Row}
+use Rattle.hb_core.proofs.Table.EachRow.{each_op, each_row}
+use Rattle.hb_ops.specs.declared.operations.Op.{Op}
+use Rattle.std.proofs.lemmas.Bool.{false≢true}
 
 module _ (m : Machine) where
   taken : (deed other : Deed) → deed ≡ other → takes_number other.op ≡ true → takes_number deed.op ≡ true
@@ -49,3 +52,30 @@ module _ (m : Machine) where
       planned job parent row.page row.plan deed lt (one_plan row.page page job.point m.store.meta.icap row.plan plans.SplitFirst row.planned lacks_here) row.does_it
   takes_what_it_needs (at.SessionSplit line held) (Some wanted) deed needs (page, here, row) = absurd row
   takes_what_it_needs activity wanted deed needs row = absurd needs
+
+-- and what takes a number needs it
+module _ (m : Machine) (at_work : Activity) (wanted : Option Wanted) where
+  abbrev Shown : Activity → Option Op → Type 0
+  Shown activity op = at_work ≡ activity → takes_number op ≡ true → NeedsNumber activity wanted m
+
+  here : (activity : Activity) (its : Wanted) (page : LivePage) → at_work ≡ activity → IsAtHand m at_work its page → IsAtHand m activity its page
+  here activity its page is hand = subst (λ (a : Activity). IsAtHand m a its page) is hand
+
+  pub needs_what_it_takes : (deed : Deed) → Row at_work wanted m deed → takes_number deed.op ≡ true → NeedsNumber at_work wanted m
+  needs_what_it_takes deed row = each_row m (λ activity deed. Shown activity deed.op) at_work wanted deed
+      (record {
+        full = λ line held none is takes. absurd (false≢true takes);
+        splits = λ line held page live leaves is takes. leaves.free;
+        puts = λ line source fresh rec command half either page live is takes. absurd (false≢true takes);
+      })
+      (λ its page wants hand. each_op (sight m) its.page page Shown (record {
+        none = λ activity is takes. absurd (false≢true takes);
+        inserts = λ line held rest found rec command absent room is takes. absurd (false≢true takes);
+        deletes = λ line held rest found p there command stands is takes. absurd (false≢true takes);
+        grows = λ job fresh free_after may free next is takes. subst (λ (o : Option Wanted). NeedsNumber (at.PosterGrow job) o m) (sym wants) (free, page, here (at.PosterGrow job) its page is hand, may);
+        posts = λ job parent above path inner area live plan is takes. absurd (false≢true takes);
+        parts = λ job parent above live plan leaves is takes. subst (λ (o : Option Wanted). NeedsNumber (at.PosterAgain job parent) o m) (sym wants)
+            (leaves.free, page, here (at.PosterAgain job parent) its page is hand, (above, live, plan));
+        merges = λ job parent keep gone pair is takes. absurd (false≢true takes);
+      }))
+      row refl

@@ -1,15 +1,18 @@
--- What a step does to the disk: nothing, or a force.
-use Rattle.std.proofs.Common.{◌≡◌, inl, inr, ℕ, arith, Option, Some, None, IsOk, Ok, Err, refl, sym, ap, ◌∙◌, subst}
+-- What a step does to the disk: nothing, a force, or a page that is written to its place.
+use Rattle.std.proofs.Common.{◌≡◌, ◌≢◌, inl, inr, ℕ, arith, List, [], Some, IsOk, Ok, Err, refl, sym, ap, ◌∙◌, subst}
 use Rattle.hb_activity.specs.declared.activities.Activity.{Activity}
 use Rattle.hb_activity.specs.declared.activities.Activity.TheVariants as at
 use Rattle.hb_activity.specs.Deeds.{Deed}
+use Rattle.hb_disk.specs.Calls.{ReadsOnly}
 use Rattle.hb_disk.specs.Model.{DiskModel, Torn}
-use Rattle.hb_disk.proofs.Facts.FaultLaws.{ReadsOnly-none}
+use Rattle.hb_disk.proofs.Facts.FaultLaws.{ReadsOnly-neither, ReadsOnly-none}
 use Rattle.hb_disk.proofs.Facts.RewriteLaws.{Rewrites-as}
-use Rattle.hb_ops.specs.declared.operations.Op.{Op}
 use Rattle.hb_set.specs.declared.commands.Reply.{Reply}
 use Rattle.hb_set.specs.declared.commands.Reply.TheVariants as replies
+use Rattle.hb_pool.specs.Frames.{Use}
 use Rattle.hb_store.specs.Forced.{WritesOldest}
+use Rattle.hb_store.specs.Held.{StoreHeld, oldest_dirty}
+use Rattle.hb_store.specs.WritingHome.{FlushesHome, WritesHome}
 use Rattle.hb_store.specs.States.{StoreState}
 use Rattle.hb_store.specs.declared.stops.StopWhy.{StopWhy}
 use Rattle.hb_store.specs.declared.stops.StopWhy.TheVariants as stops
@@ -19,13 +22,14 @@ use Rattle.hb_core.specs.declared.outcomes.Outcome.TheVariants as outcomes
 use Rattle.hb_core.specs.GivingUp.{runs_out}
 use Rattle.hb_core.specs.KeptOrder.{StandsOutside}
 use Rattle.hb_core.specs.Machines.{Machine}
-use Rattle.hb_core.specs.Moving.{DoesDeed, with_stop, with_store}
-use Rattle.hb_core.specs.Performing.{MayDo, outcome_of}
+use Rattle.hb_core.specs.Moving.{DoesDeed, with_stop}
+use Rattle.hb_core.specs.Performing.{outcome_of}
 use Rattle.hb_core.specs.Showing.{RunningCore}
 use Rattle.hb_core.specs.Taking.{TakesNextLine, TakesNextMerging, TakesNextPosting}
-use Rattle.hb_core.specs.Touching.{EndsByRead, Touches}
+use Rattle.hb_core.specs.Touching.{EndsByRead, Touches, held_in}
 use Rattle.hb_core.specs.Working.{MayStep}
-use Rattle.hb_core.proofs.Memory.OwnPages.{runs_out_nothing}
+use Rattle.hb_core.proofs.Running.ForcedShows.{waits_or_not, with_held}
+use Rattle.hb_core.proofs.Running.WrittenShows.{home_failed}
 use Rattle.hb_core.proofs.Table.GivenUp.{run_out_is}
 
 -- an outcome for which no read and no write failed
@@ -107,6 +111,26 @@ as_failed {T = T} fault d e old new writes = record {
     never : IsOk {T = T} {E = WriteFault} (Err fault) → ⊥
     never is = cc
 
+home_as_unit : {T : Type 0} (v : T) (id : ℕ) (d e : DiskModel) (old new : StoreHeld) → WritesHome (Ok v) id d e old new → WritesHome {T = Unit {0}} (Ok tt) id d e old new
+home_as_unit v id d e old new writes = record {
+  cleaned = writes.cleaned;
+  stopped = tt;
+  keeps = writes.keeps;
+  moments = writes.moments;
+  wrote = Rewrites-as (Ok v) (Ok tt) _ 1 1 d e (λ failed. cc) (λ failed. cc) (omega arith) writes.wrote;
+  clock = writes.clock;
+}
+
+home_as_failed : {T : Type 0} (fault : WriteFault) (id : ℕ) (d e : DiskModel) (old new : StoreHeld) → WritesHome {T = T} (Err fault) id d e old new → WritesHome {T = Unit {0}} (Err fault) id d e old new
+home_as_failed {T = T} fault id d e old new writes = record {
+  cleaned = tt;
+  stopped = writes.stopped;
+  keeps = writes.keeps;
+  moments = writes.moments;
+  wrote = Rewrites-as {T = T} (Err fault) (Err fault) _ 1 1 d e (λ failed. refl) (λ failed. refl) (omega arith) writes.wrote;
+  clock = writes.clock;
+}
+
 module _ {D : Type 0} (model : D → DiskModel) (x y : D) (c after : RunningCore) (outcome : Outcome) where
   -- the disk as it was
   pub untouched : IsWell outcome → y ≡ x → Touches (model x) c outcome (model y) after
@@ -123,45 +147,82 @@ module _ {D : Type 0} (model : D → DiskModel) (x y : D) (c after : RunningCore
       same_stop a b equal = cc
 
   pub touched_forced : {T : Type 0} (v : T) → IsWell outcome → WritesOldest (Ok v) (model x) (model y) c.store after.store → Touches (model x) c outcome (model y) after
-  touched_forced v well writes = inr (record {
+  touched_forced v well writes = inr (inl (record {
     result = Ok tt;
     writes = as_unit v (model x) (model y) c.store after.store writes;
     says = (λ failed. cc, λ fault. absurd (well.no_write fault));
     no_read = well.no_read;
-  })
+  }))
 
   pub touched_failed : {T : Type 0} (fault : WriteFault) → outcome ≡ outcomes.Stopped stops.WriteFault → WritesOldest {T = T} (Err fault) (model x) (model y) c.store after.store → Touches (model x) c outcome (model y) after
-  touched_failed fault says writes = inr (record {
+  touched_failed fault says writes = inr (inl (record {
     result = Err fault;
     writes = as_failed fault (model x) (model y) c.store after.store writes;
     says = (λ failed. says, λ is. refl);
     no_read = λ ends. subst EndsByRead says ends;
-  })
+  }))
 
--- what does nothing to the file leaves the store
-same_store : (op : Option Op) (mark : ℕ) (old new : StoreState) → op ≡ None → MayDo op mark old new → new ≡ old
-same_store None mark old new none does = does
-same_store (Some op) mark old new none does = absurd cc
+  pub touched_home : {T : Type 0} (v : T) (id : ℕ) → IsWell outcome → (c.store.log.groups ≡ []) × (oldest_dirty c.uses ≡ Some id) → WritesHome (Ok v) id (model x) (model y) (held_in c) (held_in after) → Touches (model x) c outcome (model y) after
+  touched_home v id well which writes = inr (inr (record {
+    result = Ok tt;
+    no_group = which.0;
+    page = id;
+    oldest = which.1;
+    writes = home_as_unit v id (model x) (model y) (held_in c) (held_in after) writes;
+    says = (λ failed. cc, λ fault. absurd (well.no_write fault));
+    no_read = well.no_read;
+  }))
 
-pub ran_out_store : (actor : ℕ) (activity : Activity) (outcome : Outcome) (old new : RunningCore) → DoesDeed actor (runs_out activity) outcome old new → new.store ≡ old.store
-ran_out_store actor activity outcome old new does = same_store (runs_out activity).op _ old.store new.store (runs_out_nothing activity) does.store
+  pub touched_home_failed : {T : Type 0} (fault : WriteFault) (id : ℕ) → outcome ≡ outcomes.Stopped stops.WriteFault → (c.store.log.groups ≡ []) × (oldest_dirty c.uses ≡ Some id)
+      → WritesHome {T = T} (Err fault) id (model x) (model y) (held_in c) (held_in after) → Touches (model x) c outcome (model y) after
+  touched_home_failed fault id says which writes = inr (inr (record {
+    result = Err fault;
+    no_group = which.0;
+    page = id;
+    oldest = which.1;
+    writes = home_as_failed fault id (model x) (model y) (held_in c) (held_in after) writes;
+    says = (λ failed. says, λ is. refl);
+    no_read = λ ends. subst EndsByRead says ends;
+  }))
 
--- a force that failed, and a core that is stopped then
-pub failed_then : {D : Type 0} (model : D → DiskModel) (x y z : D) (c after : RunningCore) (st : StoreState) (outcome : Outcome) {T : Type 0} (fault : WriteFault) → WritesOldest {T = T} (Err fault) (model x) (model y) c.store st
-    → outcome ≡ outcomes.Stopped stops.WriteFault → after ≡ with_stop stops.WriteFault (with_store st c) → z ≡ y → Touches (model x) c outcome (model z) after
-failed_then {D = D} model x y z c after st outcome {T = T} fault writes says then same =
-    subst (λ (k : D). Touches (model x) c outcome (model k) after) (sym same)
-    (touched_failed model x y c after outcome fault says (subst (λ (s : StoreState). WritesOldest {T = T} (Err fault) (model x) (model y) c.store s) (sym (ap (λ (s : RunningCore). s.store) then)) writes))
+-- ---- a flush of a core, whose caller stops it where that failed
 
--- a flush that found nothing, and what ran out of room then
-pub nothing_then : {D : Type 0} (model : D → DiskModel) (x y z : D) (c after : RunningCore) (st : StoreState) (actor : ℕ) (activity : Activity) (outcome : Outcome) {T : Type 0} (v : T) → WritesOldest (Ok v) (model x) (model y) c.store st
-    → DoesDeed actor (runs_out activity) outcome (with_store st c) after → z ≡ y → Touches (model x) c outcome (model z) after
-nothing_then {D = D} model x y z c after st actor activity outcome {T = T} v writes does same =
-    subst (λ (k : D). Touches (model x) c outcome (model k) after) (sym same)
-    (touched_forced model x y c after outcome v (well_as outcome (outcome_of (runs_out activity).says) does.says (ran_out_well activity))
-    (subst (λ (s : StoreState). WritesOldest {T = T} (Ok v) (model x) (model y) c.store s) (sym (ran_out_store actor activity outcome (with_store st c) after does)) writes))
+module _ {D : Type 0} (model : D → DiskModel) (x y : D) (c : RunningCore) (st : StoreState) (uses : List Use) where
+  abbrev now : StoreHeld
+  now = record { state = st; uses = uses }
+
+  -- a force that failed, and a core that is stopped then
+  pub failed_then : (z : D) (after : RunningCore) (outcome : Outcome) {T : Type 0} (fault : WriteFault) → WritesOldest {T = T} (Err fault) (model x) (model y) c.store st
+      → outcome ≡ outcomes.Stopped stops.WriteFault → after ≡ with_stop stops.WriteFault (with_held st uses c) → z ≡ y → Touches (model x) c outcome (model z) after
+  failed_then z after outcome {T = T} fault writes says then same =
+      subst (λ (k : D). Touches (model x) c outcome (model k) after) (sym same)
+      (touched_failed model x y c after outcome fault says (subst (λ (s : StoreState). WritesOldest {T = T} (Err fault) (model x) (model y) c.store s) (sym (ap (λ (s : RunningCore). s.store) then)) writes))
+
+  home_failed_then : (z : D) (after : RunningCore) (outcome : Outcome) {T : Type 0} (fault : WriteFault) (id : ℕ) → (c.store.log.groups ≡ []) × (oldest_dirty c.uses ≡ Some id) → WritesHome {T = T} (Err fault) id (model x) (model y) (held_in c) now
+      → outcome ≡ outcomes.Stopped stops.WriteFault → after ≡ with_stop stops.WriteFault (with_held st uses c) → z ≡ y → Touches (model x) c outcome (model z) after
+  home_failed_then z after outcome {T = T} fault id which writes says then same =
+      subst (λ (k : D). Touches (model x) c outcome (model k) after) (sym same)
+      (touched_home_failed model x y c after outcome fault id says which (subst (λ (h : StoreHeld). WritesHome {T = T} (Err fault) id (model x) (model y) (held_in c) h) (sym (ap held_in then)) writes))
+
+  -- whichever of the two failed
+  pub flush_failed_then : (z : D) (after : RunningCore) (outcome : Outcome) {T : Type 0} (fault : WriteFault) → (c.store.log.groups ≢ [] → WritesOldest {T = T} (Err fault) (model x) (model y) c.store st × (uses ≡ c.uses))
+      → (c.store.log.groups ≡ [] → FlushesHome {T = T} (Err fault) (model x) (model y) (held_in c) now)
+      → outcome ≡ outcomes.Stopped stops.WriteFault → after ≡ with_stop stops.WriteFault (with_held st uses c) → z ≡ y → Touches (model x) c outcome (model z) after
+  flush_failed_then z after outcome fault forced cleaned says then same = elim (waits_or_not c.store.log.groups) [
+    | inr some ↦ failed_then z after outcome fault (forced some).0 says then same
+    | inl none ↦ let writes = home_failed (model x) (model y) (held_in c) now fault (cleaned none) in home_failed_then z after outcome fault writes.0 (none, writes.1) writes.2 says then same
+  ]
+
+  -- one that found nothing, and what ran out of room then
+  pub nothing_then : (z : D) (after : RunningCore) (actor : ℕ) (pins : List ℕ) (activity : Activity) (outcome : Outcome) → ReadsOnly ⊥ (model x) (model y) → DoesDeed actor pins (runs_out activity) outcome (with_held st uses c) after → z ≡ y
+      → Touches (model x) c outcome (model z) after
+  nothing_then z after actor pins activity outcome reads does same =
+      let well = well_as outcome (outcome_of (runs_out activity).says) does.says (ran_out_well activity) in
+      subst (λ (k : D). Touches (model x) c outcome (model k) after) (sym same)
+      (inl (record { only = ReadsOnly-neither (model x) (model y) (λ never. never) well.no_read reads; no_write = λ never. absurd (well.no_write never) }))
 
 -- a core that counted its step is the same to a disk
 pub as_before_count : {D : Type 0} (model : D → DiskModel) (x y : D) (taken : ℕ) (c after : RunningCore) (outcome : Outcome) → Touches (model x) (record c { taken = taken }) outcome (model y) after → Touches (model x) c outcome (model y) after
 as_before_count model x y taken c after outcome (inl reads) = inl (record { only = reads.only; no_write = reads.no_write })
-as_before_count model x y taken c after outcome (inr forces) = inr (record { result = forces.result; writes = forces.writes; says = forces.says; no_read = forces.no_read })
+as_before_count model x y taken c after outcome (inr (inl forces)) = inr (inl (record { result = forces.result; writes = forces.writes; says = forces.says; no_read = forces.no_read }))
+as_before_count model x y taken c after outcome (inr (inr home)) = inr (inr (record { result = home.result; no_group = home.no_group; page = home.page; oldest = home.oldest; writes = home.writes; says = home.says; no_read = home.no_read }))

@@ -1,6 +1,9 @@
 -- A core that works takes a step of the machine that it shows.
-use Rattle.std.proofs.Common.{◌≡◌, inl, inr, ℕ, ◌-◌, ◌↔◌, Bool, true, false, List, slice_get, slice_set, Option, None, IfSome, IsTrue, refl, sym, ap, ◌∙◌, subst}
-use Rattle.std.specs.Option.{IsSomeAnd}
+use Rattle.std.proofs.Common.{◌≡◌, ◌⊎◌, inl, inr, ℕ, ◌-◌, ◌↔◌, arith, Bool, true, false, List, slice_get, slice_set, Option, None, IfSome, IsSome, IsTrue, refl, sym, ap, ◌∙◌, subst}
+use Rattle.std.specs.Option.{IsSomeAnd, option_and_then}
+use Rattle.hb_activity.specs.Walks.{walk_held}
+use Rattle.hb_lemmas.proofs.Options.{has_value, some_value}
+use Rattle.hb_ops.specs.Files.{if_live}
 use Rattle.hb_activity.specs.declared.activities.Activity.{Activity}
 use Rattle.hb_activity.specs.declared.dropping.DropWhy.{DropWhy}
 use Rattle.hb_activity.specs.declared.wanting.Wanted.{Wanted}
@@ -12,8 +15,15 @@ use Rattle.hb_latch.specs.Tables.{IsGrantable, IsLeastInTheWay, LatchTable}
 use Rattle.hb_space.specs.Actors.{IsActor}
 use Rattle.hb_store.specs.declared.stops.StopWhy.{StopWhy}
 use Rattle.hb_store.specs.declared.stops.StopWhy.TheVariants.{Damaged, WriteFault}
-use Rattle.hb_store.specs.Calls.{IsReady}
-use Rattle.hb_store.specs.States.{StoreState}
+use Rattle.hb_pool.specs.Frames.{Use}
+use Rattle.hb_pool.specs.Pools.{places}
+use Rattle.hb_store.specs.Calls.{HasPlaces, IsReady, StaysHere}
+use Rattle.hb_store.specs.States.{StoreState, in_memory}
+use Rattle.hb_core.specs.Fetching.{MustStay}
+use Rattle.hb_core.specs.Performing.{latches_held}
+use Rattle.hb_core.specs.Using.{CameFor, pages_of}
+use Rattle.hb_core.proofs.Machines.PinsFollow.{came_stays}
+use Rattle.hb_core.proofs.Running.Frames.{must_here}
 use Rattle.hb_core.specs.declared.halts.Halt.TheVariants.{GivesUp, Stops}
 use Rattle.hb_core.specs.declared.outcomes.Outcome.{Outcome}
 use Rattle.hb_core.specs.declared.outcomes.Outcome.TheVariants as outcomes
@@ -21,7 +31,7 @@ use Rattle.hb_core.specs.Asking.{HasWayFree, looked_live, wanted_by}
 use Rattle.hb_core.specs.GivingUp.{gives_up, gives_up_hand}
 use Rattle.hb_core.specs.KeptFits.{class_for}
 use Rattle.hb_core.specs.Looking.{MayLook, wanted_in}
-use Rattle.hb_core.specs.Machines.{Machine, stopped_for}
+use Rattle.hb_core.specs.Machines.{Machine, live_here, stopped_for}
 use Rattle.hb_core.specs.Moving.{DoesDeed, StandsAs, number_of, with_stop}
 use Rattle.hb_core.specs.Showing.{RunningCore, ShowsMachine, number_in_hand}
 use Rattle.hb_core.specs.Steps.{IsUnready, Works}
@@ -49,6 +59,23 @@ module _ (d : DiskModel) (c : RunningCore) (m : Machine) (actor : ℕ) (may : Is
   pub holds_line : (line : Option ℕ) → IsWorking (m.activity actor) → ((activity : Activity) → StandsAs c actor activity → line ≡ number_in_hand activity) → line ≡ number_of (hand_of (m.activity actor))
   holds_line line works is = is (m.activity actor) stands ∙ number_of_hand (m.activity actor) (working_waits_not (m.activity actor) works)
 
+  -- the pages that it holds, and the one that its walk holds is there
+  pub holds_pages : (pins : List ℕ) → ((activity : Activity) → StandsAs c actor activity → pins ≡ pages_of (latches_held c.store activity)) → pins ≡ pages_of (latches_held m.store (m.activity actor))
+  holds_pages pins is = is (m.activity actor) stands ∙ ap (λ (st : StoreState). pages_of (latches_held st (m.activity actor))) (sym step.shows.store)
+
+  abbrev Walks : Activity → Type 0
+  Walks activity = IsSome (walk_held activity) → IsSome (option_and_then (live_here c.store) (walk_held activity))
+
+  pub walks_here : (activity : Activity) → StandsAs c actor activity → IsSome (walk_held activity) → IsSome (option_and_then (live_here c.store) (walk_held activity))
+  walks_here activity so = subst Walks (stands_as d c m actor activity may step.shows so) own
+    where
+      own : Walks (m.activity actor)
+      own walks =
+          let held = some_value (walk_held (m.activity actor)) walks in
+          let there = step.goes_on.kept.latches_fit.walking actor held.0 may held.1 in
+          subst (λ (o : Option ℕ). IsSome (option_and_then (live_here c.store) o)) (sym held.1)
+          (subst (λ (st : StoreState). IsSome (live_here st held.0)) step.shows.store (has_value (live_here m.store held.0) there.0 (ap if_live there.1)))
+
   -- another actor is in the way, and the core stays so
   pub blocked : (wanted : Option Wanted) (by : ℕ) → wanted ≡ wanted_by m actor → IsSomeAnd wanted (λ w. IsLeastInTheWay c.latches actor w.page w.mode by) → (new : Machine) × Works m actor (outcomes.Blocked by) new × ShowsMachine d c new
   blocked wanted by is least =
@@ -60,28 +87,36 @@ module _ (d : DiskModel) (c : RunningCore) (m : Machine) (actor : ℕ) (may : Is
       subst (λ (t : LatchTable). IfSome (wanted_by m actor) (λ w. IsGrantable t actor w.page w.mode)) (sym step.shows.latches)
       (subst (λ (o : Option Wanted). IfSome o (λ w. IsGrantable c.latches actor w.page w.mode)) is free)
 
-  -- what says whether the log is ready
-  abbrev pub SaysUnready : Bool → Type 0
-  SaysUnready b = (activity : Activity) → StandsAs c actor activity → (IsTrue b ↔ (IsTrue (may_commit activity c.store.meta (looked_live c.store activity)) × (¬ (IsReady c.store))))
+  -- what says whether log and memory are ready
+  abbrev pub SaysUnready : Option Wanted → Bool → Type 0
+  SaysUnready wanted b = (activity : Activity) → StandsAs c actor activity → (IsTrue b ↔ ((IsTrue (may_commit activity c.store.meta (looked_live c.store activity)) × (¬ (IsReady c.store × HasPlaces c.uses)))
+      ⊎ ((places c.uses ≡ 0) × IsSomeAnd wanted (λ w. in_memory c.store w.page ≡ None))))
 
-  abbrev MayChangeUnready : StoreState → Type 0
-  MayChangeUnready st = IsTrue (may_commit (m.activity actor) st.meta (looked_live st (m.activity actor))) × (¬ (IsReady st))
+  abbrev Unready : StoreState → List Use → Type 0
+  Unready st uses = (IsTrue (may_commit (m.activity actor) st.meta (looked_live st (m.activity actor))) × (¬ (IsReady st × HasPlaces uses)))
+      ⊎ ((places uses ≡ 0) × IsSomeAnd (wanted_by m actor) (λ w. in_memory st w.page ≡ None))
 
-  pub unready : (b : Bool) → SaysUnready b → b ≡ true → IsUnready m actor
-  unready b says is = inl (subst MayChangeUnready (sym step.shows.store) ((says (m.activity actor) stands).0 is))
+  same_unready : (wanted : Option Wanted) (b : Bool) → wanted ≡ wanted_by m actor → SaysUnready wanted b → IsTrue b ↔ Unready m.store m.uses
+  same_unready wanted b is says =
+      subst (λ (st : StoreState). IsTrue b ↔ Unready st m.uses) (sym step.shows.store)
+      (subst (λ (l : List Use). IsTrue b ↔ Unready c.store l) (sym step.shows.uses)
+      (subst (λ (o : Option Wanted). IsTrue b ↔ ((IsTrue (may_commit (m.activity actor) c.store.meta (looked_live c.store (m.activity actor))) × (¬ (IsReady c.store × HasPlaces c.uses)))
+      ⊎ ((places c.uses ≡ 0) × IsSomeAnd o (λ w. in_memory c.store w.page ≡ None)))) is (says (m.activity actor) stands)))
 
-  pub ready : (b : Bool) → SaysUnready b → b ≡ false → ¬ (IsUnready m actor)
-  ready b says is (inl change) = let yes : b ≡ true = (says (m.activity actor) stands).1 (subst MayChangeUnready step.shows.store change) in let never : false ≡ true = sym is ∙ yes in cc
-  ready b says is (inr crowded) = crowded.0
+  pub unready : (wanted : Option Wanted) (b : Bool) → wanted ≡ wanted_by m actor → SaysUnready wanted b → b ≡ true → IsUnready m actor
+  unready wanted b is says so = (same_unready wanted b is says).0 so
+
+  pub ready : (wanted : Option Wanted) (b : Bool) → wanted ≡ wanted_by m actor → SaysUnready wanted b → b ≡ false → ¬ (IsUnready m actor)
+  ready wanted b is says off change = let so : b ≡ true = (same_unready wanted b is says).1 change in let never : false ≡ true = sym off ∙ so in cc
 
   pub works_may : m.stop ≡ None → IsWorking (m.activity actor) → HasWayFree m actor → ¬ (IsUnready m actor) → MayWork m actor
   works_may runs works free is_ready = record { goes_on = step.goes_on; runs = runs; working = works; free = free; ready = is_ready }
 
 -- so it may work, by what the calls said
 pub may_work : (d : DiskModel) (c : RunningCore) (m : Machine) (actor : ℕ) (may : IsActor actor) (step : MayStep d c m) (wanted : Option Wanted) (b : Bool) → m.stop ≡ None → IsWorking (m.activity actor)
-    → ((activity : Activity) → StandsAs c actor activity → wanted ≡ wanted_in c.store activity) → IfSome wanted (λ w. IsGrantable c.latches actor w.page w.mode) → SaysUnready d c m actor may step b → b ≡ false → MayWork m actor
+    → ((activity : Activity) → StandsAs c actor activity → wanted ≡ wanted_in c.store activity) → IfSome wanted (λ w. IsGrantable c.latches actor w.page w.mode) → SaysUnready d c m actor may step wanted b → b ≡ false → MayWork m actor
 may_work d c m actor may step wanted b runs works wants_so free says is =
-    works_may d c m actor may step runs works (way_free d c m actor may step wanted (wants d c m actor may step wanted wants_so) free) (ready d c m actor may step b says is)
+    works_may d c m actor may step runs works (way_free d c m actor may step wanted (wants d c m actor may step wanted wants_so) free) (ready d c m actor may step wanted b (wants d c m actor may step wanted wants_so) says is)
 
 -- each machine that is shown works where one does
 pub works_too : (d : DiskModel) (c : RunningCore) (m n : Machine) (actor : ℕ) → IsActor actor → MayStep d c m → MayStep d c n → IsWorking (n.activity actor) → IsWorking (m.activity actor)
@@ -95,17 +130,19 @@ no_operation why idle (HasLine line) = refl
 no_operation why idle (HasJob job) = refl
 
 module _ {D : Type 0} (model : D → DiskModel) (x y : D) (c after : RunningCore) (m : Machine) (actor : ℕ) (may : IsActor actor) (work : MayWork m actor) (same : y ≡ x) where
-  pub given_up : (why : DropWhy) (line : Option ℕ) (outcome : Outcome) → Halts m actor (GivesUp why) (model x) c → line ≡ number_of (hand_of (m.activity actor))
-      → ((state : Activity) → IsWorking state → class_of state ≡ class_for actor → line ≡ number_of (hand_of state) → DoesDeed actor (gives_up why state) outcome c after)
+  pub given_up : (why : DropWhy) (line : Option ℕ) (pins : List ℕ) (outcome : Outcome) → Halts m actor (GivesUp why) (model x) c → line ≡ number_of (hand_of (m.activity actor)) → pins ≡ pages_of (latches_held m.store (m.activity actor))
+      → ((state : Activity) → IsWorking state → class_of state ≡ class_for actor → line ≡ number_of (hand_of state) → DoesDeed actor pins (gives_up why state) outcome c after)
       → (new : Machine) × Works m actor outcome new × ShowsMachine (model y) after new
-  given_up why line outcome halts is does =
+  given_up why line pins outcome halts is pinned does =
       let deed : Deed = gives_up why (m.activity actor) in
-      let done : DoesDeed actor deed outcome c after = does (m.activity actor) work.working (work.goes_on.kept.classes actor) is in
+      let done : DoesDeed actor pins deed outcome c after = does (m.activity actor) work.working (work.goes_on.kept.classes actor) is in
+      let same_pins = came_stays (wanted_by m actor) m.store.meta m.uses c.uses work.goes_on.kept.frames_fit.tied.pool.distinct halts.used_is in
+      let stay : (id : ℕ) → MustStay m id → StaysHere c.uses id = must_here m c.store c.uses work.goes_on.kept halts.brings.rest.dirty halts.tied (λ q. let pins = same_pins.pins q in omega (arith, pins)) in
       let none : deed.op ≡ None = no_operation why (idle_of (class_of (m.activity actor))) (hand_of (m.activity actor)) in
-      let shown = deed_shows (model x) c after m actor deed outcome may halts.shows done work.goes_on.kept.lines_in_sequence (given_up_number m why (m.activity actor) work.working)
+      let shown = deed_shows (model x) c after m actor deed outcome may halts.shows pins done stay work.goes_on.kept.lines_in_sequence (given_up_number m why (m.activity actor) work.working)
       (keeps_none (model x) c.store after.store _ deed.op none done.store) in (
         shown.0,
-        inr (inr (work.free, work.ready, inr (inl (record { why = why; fetched = c.store; brings = halts.brings; cause = halts.cause; performs = shown.1 })))),
+        inr (inr (work.free, work.ready, inr (inl (record { why = why; fetched = c.store; brings = halts.brings; cause = halts.cause; performs = shown.1.0; came = subst (CameFor (wanted_by m actor) m.store.meta m.uses) (sym shown.1.1) halts.used_is; pins = shown.1.2 ∙ pinned })))),
         subst (λ (k : D). ShowsMachine (model k) after shown.0) (sym same) shown.2,
       )
 
@@ -118,6 +155,6 @@ module _ {D : Type 0} (model : D → DiskModel) (x y : D) (c after : RunningCore
       let shows : ShowsMachine (model x) c (with_memory c m) = subst (λ (l : List Activity). ShowsMachine (model x) (record c { activities = l }) (with_memory c m)) so halts.shows in
       let new : Machine = stopped_for (Damaged page why) (with_memory c m) in (
         new,
-        inr (inr (work.free, work.ready, inr (inr (record { fetched = c.store; brings = halts.brings; page = page; why = why; bad = halts.cause; says = says; stops = refl })))),
+        inr (inr (work.free, work.ready, inr (inr (record { fetched = c.store; brings = halts.brings; page = page; why = why; bad = halts.cause; says = says; came = c.uses; came_is = halts.used_is; tied = halts.tied; stops = refl })))),
         subst (λ (k : D). ShowsMachine (model k) after new) (sym same) (subst (λ (s : RunningCore). ShowsMachine (model x) s new) (sym stops) (shown_stopped (Damaged page why) (model x) c (with_memory c m) shows)),
       )

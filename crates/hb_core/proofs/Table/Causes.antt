@@ -55,7 +55,7 @@ not_dropped number reply why is = cc
 -- ---- a line that is answered
 
 -- Where a line is answered: by which of the cases, and with which reply.
-record Answering (m : Machine) (actor number : ℕ) (reply : Reply) (new : Machine) (G : Type 0) : Type 0 where
+pub record Answering (m : Machine) (actor number : ℕ) (reply : Reply) (new : Machine) (G : Type 0) : Type 0 where
   pub refuses : (line : Line) → m.activity actor ≡ at.SessionIdle → next_line actor m.answered m.lines ≡ Some line → BeginsSearch m actor → number ≡ line.number → reply ≡ replies.NoMemory → G
   pub settles : (place : ℕ) → m.activity actor ≡ at.SessionAwait number reply place → G
   pub runs : (line : Line) → line_in_hand (m.activity actor) ≡ Some line → number ≡ line.number → CannotBeReady m actor → reply ≡ replies.Full → G
@@ -95,7 +95,7 @@ module _ (m : Machine) (actor number : ℕ) (reply : Reply) (new : Machine) (G :
       let parts = answered_with number row.line.number reply replies.Full (is ∙ ap (λ (d : Deed). outcome_of d.says) row.deed_is) in
       shows.full row.line row.held row.stands parts.0 (sym (ap (λ meta. meta.live) meta) ∙ row.none_free ∙ ap (λ meta. meta.pages) meta) parts.1
 
-  answering : StepsTo m actor said new → G
+  pub answering : StepsTo m actor said new → G
   answering step = each_saying m actor said new G (record {
     plain = λ plain keeps. absurd plain;
     takes = λ line idle next performs. moved performs.says;
@@ -129,14 +129,14 @@ answers_first_line m actor number reply new keeps step = answering m actor numbe
 -- ---- why it is refused
 
 -- a reply that is kept for a line stands in the order
-kept_inside : (m : Machine) (actor number place : ℕ) (reply : Reply) → MachineKeeps m → StandsOutside reply → m.activity actor ≡ at.SessionAwait number reply place → ⊥
+pub kept_inside : (m : Machine) (actor number place : ℕ) (reply : Reply) → MachineKeeps m → StandsOutside reply → m.activity actor ≡ at.SessionAwait number reply place → ⊥
 kept_inside m actor number place reply keeps outside is = keeps.replies_stand.inside actor number place reply is outside
 
 fault_why : (why : DropWhy) → replies.ReadFault ≡ reply_for why → why ≡ drops.ReadFault
 fault_why drops.ReadFault is = refl
 fault_why drops.NoMemory is = let never : replies.ReadFault ≡ replies.NoMemory = is in cc
 
-memory_why : (why : DropWhy) → replies.NoMemory ≡ reply_for why → why ≡ drops.NoMemory
+pub memory_why : (why : DropWhy) → replies.NoMemory ≡ reply_for why → why ≡ drops.NoMemory
 memory_why drops.NoMemory is = refl
 memory_why drops.ReadFault is = let never : replies.NoMemory ≡ replies.ReadFault = is in cc
 
@@ -150,7 +150,7 @@ fault_memory is = cc
 fault_full : replies.ReadFault ≡ replies.Full → ⊥
 fault_full is = cc
 
-memory_full : replies.NoMemory ≡ replies.Full → ⊥
+pub memory_full : replies.NoMemory ≡ replies.Full → ⊥
 memory_full is = cc
 
 full_memory : replies.Full ≡ replies.NoMemory → ⊥

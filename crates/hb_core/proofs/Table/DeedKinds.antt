@@ -11,7 +11,7 @@ use Rattle.hb_core.specs.declared.outcomes.Outcome.TheVariants as outcomes
 use Rattle.hb_activity.specs.Classes.{Class, Sessions, Posters, Consolidators, Flushers, Empty, HasLine, class_of, hand_of, idle_of}
 use Rattle.hb_activity.specs.Deeds.{Deed, answers_now}
 use Rattle.hb_core.proofs.Table.GivenUp.{given_up_is, idle_hand, run_out_is}
-use Rattle.hb_core.proofs.Table.StepKinds.{each_step, FlushesMore, rest_kind}
+use Rattle.hb_core.proofs.Table.StepKinds.{each_step, FlushesMore, ready_kind}
 use Rattle.hb_core.proofs.Table.Ways.{KeepsAllButDisk, forces_so, meets_so, more_so, stays_so}
 use Rattle.hb_core.specs.Acting.{DoesRow}
 use Rattle.hb_core.specs.Forcing.{ForcesFirst, StaysSo}
@@ -78,7 +78,7 @@ module _ (m : Machine) (actor : ℕ) (outcome : Outcome) (new : Machine) (G : Ty
   forced_meta said (inr badly) = ap (λ (n : Machine). n.store.meta) badly.1.stops
 
   more_meta : FlushesMore m outcome new → new.store.meta ≡ m.store.meta
-  more_meta (none, left, inl (due, quiet, well)) = ap (λ (n : Machine). n.store.meta) well.leaves ∙ well.meta
+  more_meta (none, left, inl (due, quiet, well)) = ap (λ (n : Machine). n.store.meta) well.leaves
   more_meta (none, left, inr fails) = ap (λ (n : Machine). n.store.meta) fails.stops
 
   forces : (said : Outcome) → ForcesFirst m said outcome new → G
@@ -90,7 +90,7 @@ module _ (m : Machine) (actor : ℕ) (outcome : Outcome) (new : Machine) (G : Ty
   worked : Works m actor outcome new → G
   worked (inl (by, way, so)) = stays (outcomes.Blocked by) so
   worked (inr (inl (free, unready, inl (waits, force)))) = forces outcomes.Helped force
-  worked (inr (inl (free, unready, inr (none, rest)))) = rest_kind m outcomes.Helped outcome new _ G none tt more (shows.ends m.store _ refl (runs (m.activity actor))) rest
+  worked (inr (inl (free, unready, inr (none, rest)))) = ready_kind m actor outcome new G none more (shows.ends m.store _ refl (runs (m.activity actor))) rest
   worked (inr (inr (free, ready, inl acts))) = shows.acts acts
   worked (inr (inr (free, ready, inr (inl abandons)))) = shows.ends abandons.fetched _ abandons.brings.rest.meta (gives abandons.why (m.activity actor)) abandons.performs
   worked (inr (inr (free, ready, inr (inr meets)))) = shows.keeps (meets_so m actor outcome new meets) (ap (λ (n : Machine). n.store.meta) meets.stops ∙ meets.brings.rest.meta)

@@ -14,11 +14,11 @@ use Rattle.hb_core.specs.declared.outcomes.Outcome.TheVariants as outcomes
 use Rattle.hb_activity.specs.Deeds.{Deed, answers_now}
 use Rattle.hb_activity.specs.Walks.{walk_held}
 use Rattle.hb_consol.specs.ConsolidatorRows.{IsMergingOf}
-use Rattle.hb_core.specs.Forcing.{Flushes, ForcesFirst, StaysSo, FailsToWrite, FlushesRest, FlushesWell}
+use Rattle.hb_core.specs.Forcing.{Flushes, ForcesFirst, StaysSo, FailsToWrite, FlushesRest, FlushesWell, HasMoreToFlush}
+use Rattle.hb_core.specs.GivingUp.{runs_out}
 use Rattle.hb_core.specs.KeptMerges.{merging_at}
 use Rattle.hb_core.specs.Machines.{Machine, settled_count}
-use Rattle.hb_core.specs.Performing.{Performs, given_by, latches_held}
-use Rattle.hb_core.specs.Stages.{HasMoreToFlush}
+use Rattle.hb_core.specs.Performing.{Performs, PerformsAsItIs, given_by, latches_held}
 use Rattle.hb_core.specs.Steps.{AwaitsPlace, BeginsLine, StepsAs, StepsTo, TakesJobToMerge, TakesPosting, Works, TakesJob, TakesMerging}
 use Rattle.hb_point.specs.SessionRows.{next_line, taking, WantsBoxes}
 use Rattle.hb_poster.specs.PosterRows.{IsPostingOf}
@@ -50,13 +50,18 @@ plain_is_quiet outcomes.Moved plain at = refl
 
 -- Once no group waits, more is flushed, or a write fails.
 abbrev pub FlushesMore : Machine → Outcome → Machine → Type 0
-FlushesMore m outcome new = (m.store.log.groups ≡ []) × HasMoreToFlush m.store × (((due : Outcome) × IsPlain due × FlushesWell m due outcome new) ⊎ FailsToWrite m 9 outcome new)
+FlushesMore m outcome new = (m.store.log.groups ≡ []) × HasMoreToFlush m × (((due : Outcome) × IsPlain due × FlushesWell m due outcome new) ⊎ FailsToWrite m 1 outcome new)
 
 -- So all that flushing comes to where no group waits.
 pub rest_kind : (m : Machine) (due outcome : Outcome) (new : Machine) (nothing G : Type 0) → m.store.log.groups ≡ [] → IsPlain due → (FlushesMore m outcome new → G) → (nothing → G) → FlushesRest m due nothing outcome new → G
 rest_kind m due outcome new nothing G none plain more done (inl (left, well)) = more (none, left, inl (due, plain, well))
 rest_kind m due outcome new nothing G none plain more done (inr (inl (left, fails))) = more (none, left, inr fails)
 rest_kind m due outcome new nothing G none plain more done (inr (inr (nothing_left, so))) = done so
+
+-- And where a step gets ready, with the deed of what can't go on.
+pub ready_kind : (m : Machine) (actor : ℕ) (outcome : Outcome) (new : Machine) (G : Type 0) → m.store.log.groups ≡ [] → (FlushesMore m outcome new → G) → (Performs m m.store actor (runs_out (m.activity actor)) outcome new → G)
+    → FlushesRest m outcomes.Helped (PerformsAsItIs m actor (runs_out (m.activity actor)) outcome new) outcome new → G
+ready_kind m actor outcome new G none more done rest = rest_kind m outcomes.Helped outcome new _ G none tt more (λ p. done p.0) rest
 
 -- A deed that is done outright: it does nothing to the file, and its actor holds nothing afterwards.
 pub record IsOutright (deed : Deed) : Type 0 where
@@ -83,19 +88,20 @@ merging_takes_nothing : (deed : Deed) (job : Job) (height : ℕ) → deed.op ≡
 merging_takes_nothing deed job height none (inl (above, is)) = rests deed none at.ConsolidatorIdle is refl (λ st. refl) refl
 merging_takes_nothing deed job height none (inr (below, is)) = rests deed none (at.ConsolidatorWalk job None) is refl (λ st. refl) refl
 
--- What is to be shown of each case of a step, with the activity of its actor and what it took.
-pub record ShowsEach (m : Machine) (actor : ℕ) (outcome : Outcome) (new : Machine) (G : Type 0) : Type 0 where
+-- What is to be shown of each case of a step, with the activity of its actor and what it took. What is done outright needs no page to
+-- come.
+pub record ShowsEachSo (m : Machine) (actor : ℕ) (outcome : Outcome) (new : Machine) (G : Type 0) : Type 0 where
   pub stays : (said : Outcome) → IsPlain said → StaysSo m said outcome new → G
   pub forces : (said : Outcome) → IsPlain said → ForcesFirst m said outcome new → G
   pub more : FlushesMore m outcome new → G
-  pub takes : (line : Line) → m.activity actor ≡ at.SessionIdle → next_line actor m.answered m.lines ≡ Some line → Performs m m.store actor (taking line) outcome new → G
-  pub refuses : (line : Line) → m.activity actor ≡ at.SessionIdle → next_line actor m.answered m.lines ≡ Some line → WantsBoxes line.command → Performs m m.store actor (answers_now line.number replies.NoMemory) outcome new → G
-  pub posts : (deed : Deed) → m.activity actor ≡ at.PosterIdle → TakesJob m deed → Performs m m.store actor deed outcome new → G
-  pub merges : (deed : Deed) → m.activity actor ≡ at.ConsolidatorIdle → TakesMerging m deed → Performs m m.store actor deed outcome new → G
-  pub settles : (number place : ℕ) (reply : Reply) → m.activity actor ≡ at.SessionAwait number reply place → place < settled_count m → Performs m m.store actor (answers_now number reply) outcome new → G
+  pub takes : (line : Line) → m.activity actor ≡ at.SessionIdle → next_line actor m.answered m.lines ≡ Some line → PerformsAsItIs m actor (taking line) outcome new → G
+  pub refuses : (line : Line) → m.activity actor ≡ at.SessionIdle → next_line actor m.answered m.lines ≡ Some line → WantsBoxes line.command → PerformsAsItIs m actor (answers_now line.number replies.NoMemory) outcome new → G
+  pub posts : (deed : Deed) → m.activity actor ≡ at.PosterIdle → TakesJob m deed → PerformsAsItIs m actor deed outcome new → G
+  pub merges : (deed : Deed) → m.activity actor ≡ at.ConsolidatorIdle → TakesMerging m deed → PerformsAsItIs m actor deed outcome new → G
+  pub settles : (number place : ℕ) (reply : Reply) → m.activity actor ≡ at.SessionAwait number reply place → place < settled_count m → PerformsAsItIs m actor (answers_now number reply) outcome new → G
   pub works : (Waits (m.activity actor) → ⊥) → Works m actor outcome new → G
 
-module _ (m : Machine) (actor : ℕ) (outcome : Outcome) (new : Machine) (G : Type 0) (shows : ShowsEach m actor outcome new G) where
+module _ (m : Machine) (actor : ℕ) (outcome : Outcome) (new : Machine) (G : Type 0) (shows : ShowsEachSo m actor outcome new G) where
   took_line : (line : Option Line) → m.activity actor ≡ at.SessionIdle → next_line actor m.answered m.lines ≡ line
       → MatchOption line (StaysSo m outcomes.Idle outcome new) (λ line. BeginsLine m actor line outcome new) → G
   took_line None idle next so = shows.stays outcomes.Idle tt so
@@ -135,14 +141,39 @@ module _ (m : Machine) (actor : ℕ) (outcome : Outcome) (new : Machine) (G : Ty
   ran None one = stepped (m.activity actor) refl one
   ran (Some why) so = shows.stays (outcomes.Stopped why) tt so
 
-  pub each_step : StepsTo m actor outcome new → G
-  each_step step = ran m.stop step
+  pub each_step_so : StepsTo m actor outcome new → G
+  each_step_so step = ran m.stop step
+
+-- The same where it is no matter that no page came.
+pub record ShowsEach (m : Machine) (actor : ℕ) (outcome : Outcome) (new : Machine) (G : Type 0) : Type 0 where
+  pub stays : (said : Outcome) → IsPlain said → StaysSo m said outcome new → G
+  pub forces : (said : Outcome) → IsPlain said → ForcesFirst m said outcome new → G
+  pub more : FlushesMore m outcome new → G
+  pub takes : (line : Line) → m.activity actor ≡ at.SessionIdle → next_line actor m.answered m.lines ≡ Some line → Performs m m.store actor (taking line) outcome new → G
+  pub refuses : (line : Line) → m.activity actor ≡ at.SessionIdle → next_line actor m.answered m.lines ≡ Some line → WantsBoxes line.command → Performs m m.store actor (answers_now line.number replies.NoMemory) outcome new → G
+  pub posts : (deed : Deed) → m.activity actor ≡ at.PosterIdle → TakesJob m deed → Performs m m.store actor deed outcome new → G
+  pub merges : (deed : Deed) → m.activity actor ≡ at.ConsolidatorIdle → TakesMerging m deed → Performs m m.store actor deed outcome new → G
+  pub settles : (number place : ℕ) (reply : Reply) → m.activity actor ≡ at.SessionAwait number reply place → place < settled_count m → Performs m m.store actor (answers_now number reply) outcome new → G
+  pub works : (Waits (m.activity actor) → ⊥) → Works m actor outcome new → G
+
+pub each_step : (m : Machine) (actor : ℕ) (outcome : Outcome) (new : Machine) (G : Type 0) → ShowsEach m actor outcome new G → StepsTo m actor outcome new → G
+each_step m actor outcome new G shows step = each_step_so m actor outcome new G (record {
+  stays = shows.stays;
+  forces = shows.forces;
+  more = shows.more;
+  takes = λ line idle next p. shows.takes line idle next p.0;
+  refuses = λ line idle next boxes p. shows.refuses line idle next boxes p.0;
+  posts = λ deed idle takes p. shows.posts deed idle takes p.0;
+  merges = λ deed idle takes p. shows.merges deed idle takes p.0;
+  settles = λ number place reply is settled p. shows.settles number place reply is settled p.0;
+  works = shows.works;
+}) step
 
 -- The same by kinds: nothing happens, a group is forced, a deed is done outright, or the step works.
 module _ (m : Machine) (actor : ℕ) (outcome : Outcome) (new : Machine) (G : Type 0) (stays : (said : Outcome) → IsQuiet said → StaysSo m said outcome new → G) (forces : (said : Outcome) → IsQuiet said → ForcesFirst m said outcome new → G)
-    (more : FlushesMore m outcome new → G) (outright : (deed : Deed) → IsOutright deed → Performs m m.store actor deed outcome new → G) (works : Works m actor outcome new → G) where
-  pub each_kind : StepsTo m actor outcome new → G
-  each_kind step = each_step m actor outcome new G (record {
+    (more : FlushesMore m outcome new → G) (outright : (deed : Deed) → IsOutright deed → PerformsAsItIs m actor deed outcome new → G) (works : Works m actor outcome new → G) where
+  pub each_kind_so : StepsTo m actor outcome new → G
+  each_kind_so step = each_step_so m actor outcome new G (record {
     stays = λ said plain so. stays said (plain_is_quiet said plain) so;
     forces = λ said plain force. forces said (plain_is_quiet said plain) force;
     more = more;
@@ -155,3 +186,8 @@ module _ (m : Machine) (actor : ℕ) (outcome : Outcome) (new : Machine) (G : Ty
     settles = λ number place reply is settled performs. outright _ (record { op = refl; walk = refl; latches = λ st. refl; merging = refl }) performs;
     works = λ none one. works one;
   }) step
+
+module _ (m : Machine) (actor : ℕ) (outcome : Outcome) (new : Machine) (G : Type 0) (stays : (said : Outcome) → IsQuiet said → StaysSo m said outcome new → G) (forces : (said : Outcome) → IsQuiet said → ForcesFirst m said outcome new → G)
+    (more : FlushesMore m outcome new → G) (outright : (deed : Deed) → IsOutright deed → Performs m m.store actor deed outcome new → G) (works : Works m actor outcome new → G) where
+  pub each_kind : StepsTo m actor outcome new → G
+  each_kind step = each_kind_so m actor outcome new G stays forces more (λ deed rests p. outright deed rests p.0) works step

@@ -13,7 +13,7 @@ use Rattle.hb_activity.specs.Classes.{line_in_hand}
 use Rattle.hb_activity.specs.Deeds.{Answers, Deed, Says}
 use Rattle.hb_core.proofs.Table.LineFates.{LineFate, fate_given_up, fate_ran_out, fate_row, idle_never, merge_waits_never, post_waits_never}
 use Rattle.hb_core.proofs.Table.MergerMoves.{Waits}
-use Rattle.hb_core.proofs.Table.StepKinds.{each_step, rest_kind}
+use Rattle.hb_core.proofs.Table.StepKinds.{each_step, ready_kind}
 use Rattle.hb_core.proofs.Orders.Sequences.{waits_none}
 use Rattle.hb_core.proofs.Table.Ways.{KeepsAllButDisk, same_answers, same_order, forces_so, meets_so, more_so, stays_so}
 use Rattle.hb_core.specs.KeptOrder.{StandsOutside}
@@ -132,7 +132,7 @@ module _ (m : Machine) (actor : ℕ) (outcome : Outcome) (new : Machine) (sequen
   worked none (inl (by, way, so)) = stays (stays_so m actor outcome new (outcomes.Blocked by) so)
   worked none (inr (inl (free, unready, inl (waits, force)))) = stays (forces_so m actor outcome new outcomes.Helped force)
   worked none (inr (inl (free, unready, inr (no_group, rest)))) =
-      rest_kind m outcomes.Helped outcome new _ (LinesAfter m actor new) no_group tt (λ more. stays (more_so m actor outcome new more)) (fated m.store _ none (fate_ran_out m (m.activity actor))) rest
+      ready_kind m actor outcome new (LinesAfter m actor new) no_group (λ more. stays (more_so m actor outcome new more)) (fated m.store _ none (fate_ran_out m (m.activity actor))) rest
   worked none (inr (inr (free, ready, inl acts))) = fated acts.fetched acts.deed none (fate_row m acts.fetched (m.activity actor) _ acts.deed acts.row) acts.performs
   worked none (inr (inr (free, ready, inr (inl gives)))) = fated gives.fetched _ none (fate_given_up m gives.why (m.activity actor)) gives.performs
   worked none (inr (inr (free, ready, inr (inr meets)))) = stays (meets_so m actor outcome new meets)

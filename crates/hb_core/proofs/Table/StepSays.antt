@@ -9,11 +9,10 @@ use Rattle.hb_core.specs.declared.outcomes.Outcome.TheVariants as outcomes
 use Rattle.hb_activity.specs.Deeds.{Deed, answers_now}
 use Rattle.hb_core.proofs.Table.Ways.{KeepsAllButDisk, fails_so, flushes_so, forces_so, meets_so, stays_so}
 use Rattle.hb_core.specs.Acting.{Abandons, DoesRow}
-use Rattle.hb_core.specs.Forcing.{FlushesOnce, ForcesFirst, StaysSo}
+use Rattle.hb_core.specs.Forcing.{FlushesOnce, ForcesFirst, StaysSo, HasMoreToFlush}
 use Rattle.hb_core.specs.GivingUp.{runs_out}
 use Rattle.hb_core.specs.Machines.{Machine, settled_count}
-use Rattle.hb_core.specs.Performing.{Performs}
-use Rattle.hb_core.specs.Stages.{HasMoreToFlush}
+use Rattle.hb_core.specs.Performing.{Performs, PerformsAsItIs}
 use Rattle.hb_core.specs.Steps.{IsUnready, StepsTo, TakesJob, TakesMerging, Works}
 use Rattle.hb_point.specs.SessionRows.{WantsBoxes, next_line, taking}
 use Rattle.hb_core.proofs.Table.StepKinds.{FlushesMore, IsPlain, each_step}
@@ -22,7 +21,7 @@ use Rattle.hb_core.proofs.Table.StepKinds.{FlushesMore, IsPlain, each_step}
 pub record RunsOut (m : Machine) (actor : ℕ) (outcome : Outcome) (new : Machine) : Type 0 where
   pub unready : IsUnready m actor
   pub no_group : m.store.log.groups ≡ []
-  pub nothing_left : ¬ (HasMoreToFlush m.store)
+  pub nothing_left : ¬ (HasMoreToFlush m)
   pub performs : Performs m m.store actor (runs_out (m.activity actor)) outcome new
 
 -- What is to be shown of each case.
@@ -53,7 +52,7 @@ module _ (m : Machine) (actor : ℕ) (outcome : Outcome) (new : Machine) (G : Ty
   more (none, left, inr fails) = said _ tt fails.says (fails_so m actor outcome new fails)
 
   -- flushing before a step; `nothing` is what happens where there is nothing to flush
-  flushes : (due : Outcome) (nothing : Type 0) → IsPlain due → (m.store.log.groups ≡ [] → ¬ (HasMoreToFlush m.store) → nothing → G) → FlushesOnce m due nothing outcome new → G
+  flushes : (due : Outcome) (nothing : Type 0) → IsPlain due → (m.store.log.groups ≡ [] → ¬ (HasMoreToFlush m) → nothing → G) → FlushesOnce m due nothing outcome new → G
   flushes due nothing plain done (inl (waits, force)) = forces due plain force
   flushes due nothing plain done (inr (none, inl (left, well))) = more (none, left, inl (due, plain, well))
   flushes due nothing plain done (inr (none, inr (inl (left, fails)))) = more (none, left, inr fails)
@@ -62,8 +61,8 @@ module _ (m : Machine) (actor : ℕ) (outcome : Outcome) (new : Machine) (G : Ty
   worked : Works m actor outcome new → G
   worked (inl (by, way, so)) = stays (outcomes.Blocked by) tt so
   worked (inr (inl (free, unready, once))) =
-      flushes outcomes.Helped (Performs m m.store actor (runs_out (m.activity actor)) outcome new) tt
-      (λ none nothing_left performs. shows.runs (record { unready = unready; no_group = none; nothing_left = nothing_left; performs = performs })) once
+      flushes outcomes.Helped (PerformsAsItIs m actor (runs_out (m.activity actor)) outcome new) tt
+      (λ none nothing_left performs. shows.runs (record { unready = unready; no_group = none; nothing_left = nothing_left; performs = performs.0 })) once
   worked (inr (inr (free, ready, inl acts))) = shows.does acts
   worked (inr (inr (free, ready, inr (inl gives)))) = shows.gives gives
   worked (inr (inr (free, ready, inr (inr meets)))) = said _ tt meets.says (meets_so m actor outcome new meets)

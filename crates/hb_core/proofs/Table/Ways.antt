@@ -5,7 +5,7 @@ use Rattle.hb_activity.specs.declared.activities.Activity.{Activity}
 use Rattle.hb_core.specs.declared.outcomes.Outcome.{Outcome}
 use Rattle.hb_core.specs.declared.outcomes.Outcome.TheVariants as outcomes
 use Rattle.hb_activity.specs.Deeds.{Deed}
-use Rattle.hb_core.proofs.Table.StepKinds.{each_kind, FlushesMore, rest_kind}
+use Rattle.hb_core.proofs.Table.StepKinds.{each_kind, FlushesMore, ready_kind}
 use Rattle.hb_core.specs.Acting.{MeetsBadPage}
 use Rattle.hb_core.specs.Fetching.{MustStay}
 use Rattle.hb_core.specs.Forcing.{ForcesFirst, StaysSo, FailsToWrite, FlushesWell}
@@ -49,7 +49,7 @@ module _ (m : Machine) (actor : ℕ) (outcome : Outcome) (new : Machine) where
   fails_so fails = keeps_by m _ new fails.stops (record { lines = refl; answered = refl; activity = refl; latches = refl; jobs = refl; order = refl; memory = λ id page must there. there })
 
   pub flushes_so : {due : Outcome} → FlushesWell m due outcome new → KeepsAllButDisk m new
-  flushes_so well = keeps_by m _ new well.leaves (record { lines = refl; answered = refl; activity = refl; latches = refl; jobs = refl; order = refl; memory = λ id page must there. well.memory id ∙ there })
+  flushes_so well = keeps_by m _ new well.leaves (record { lines = refl; answered = refl; activity = refl; latches = refl; jobs = refl; order = refl; memory = λ id page must there. there })
 
   pub more_so : FlushesMore m outcome new → KeepsAllButDisk m new
   more_so (none, left, inl (due, quiet, well)) = flushes_so well
@@ -71,7 +71,7 @@ module _ (m : Machine) (actor : ℕ) (outcome : Outcome) (new : Machine) where
   worked : Works m actor outcome new → HasWay m actor outcome new
   worked (inl (by, way, so)) = same (outcomes.Blocked by) so
   worked (inr (inl (free, unready, inl (waits, force)))) = forced outcomes.Helped force
-  worked (inr (inl (free, unready, inr (none, rest)))) = rest_kind m outcomes.Helped outcome new _ (HasWay m actor outcome new) none tt (λ more. inl (more_so more)) (λ performs. inr (m.store, _, performs)) rest
+  worked (inr (inl (free, unready, inr (none, rest)))) = ready_kind m actor outcome new (HasWay m actor outcome new) none (λ more. inl (more_so more)) (λ performs. inr (m.store, _, performs)) rest
   worked (inr (inr (free, ready, inl acts))) = inr (acts.fetched, acts.deed, acts.performs)
   worked (inr (inr (free, ready, inr (inl gives)))) = inr (gives.fetched, _, gives.performs)
   worked (inr (inr (free, ready, inr (inr meets)))) = inl (meets_so meets)

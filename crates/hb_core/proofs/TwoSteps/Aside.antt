@@ -15,7 +15,7 @@ use Rattle.hb_activity.specs.Classes.{Empty, Hand, HasJob, HasLine, class_of, ha
 use Rattle.hb_activity.specs.Deeds.{Deed, answers_now}
 use Rattle.hb_activity.specs.Queue.{AddsJobs, LeavesBy}
 use Rattle.hb_activity.specs.Wanting.{wanted_of}
-use Rattle.hb_core.specs.Acting.{Abandons, GivesUpFor, LacksNeeded, MeetsBadPage, NeedsNumber}
+use Rattle.hb_core.specs.Acting.{Abandons, Decodes, GivesUpFor, LacksNeeded, MeetsBadPage, NeedsNumber}
 use Rattle.hb_core.specs.Asking.{looked_live, wanted_by}
 use Rattle.hb_core.specs.Fetching.{Brings, IsWantedPage, MustStay}
 use Rattle.hb_core.specs.Forcing.{FailsToWrite}
@@ -67,6 +67,7 @@ module _ (m : Machine) (actor : ℕ) (fetched : StoreState) where
   record NeedsNothing (activity : Activity) : Type 0 where
     pub wants : wanted_of activity m.store.meta (looked_live m.store activity) ≡ None
     pub numbers : (wanted : Option Wanted) → NeedsNumber activity wanted now → ⊥
+    pub decodes : (wanted : Option Wanted) → Decodes wanted now activity → ⊥
     pub rows : (deed : Deed) → RowAlone activity (sight now) deed → ⊥
 
   no_line : (line : Line) → HasLine line ≡ Empty → ⊥
@@ -90,7 +91,7 @@ module _ (m : Machine) (actor : ℕ) (fetched : StoreState) where
   needs_nothing (at.ConsolidatorPromote job parent keep gone) empty = absurd (no_job job empty)
   needs_nothing (at.ConsolidatorKeep job parent keep gone) empty = absurd (no_job job empty)
   needs_nothing (at.ConsolidatorDecide job parent keep gone) empty = absurd (no_job job empty)
-  needs_nothing activity empty = record { wants = refl; numbers = λ wanted never. never; rows = λ deed never. never }
+  needs_nothing activity empty = record { wants = refl; numbers = λ wanted never. never; decodes = λ wanted never. never; rows = λ deed never. never }
 
   -- so it lacks no page and has no row that takes memory
   lacks_nothing : NeedsNothing (m.activity actor) → LacksNeeded m actor fetched → ⊥
@@ -99,7 +100,7 @@ module _ (m : Machine) (actor : ℕ) (fetched : StoreState) where
 
   no_cause : (why : DropWhy) → NeedsNothing (m.activity actor) → GivesUpFor why m actor fetched → ⊥
   no_cause drops.ReadFault nothing lacks = lacks_nothing nothing lacks
-  no_cause drops.NoMemory nothing (inl lacks) = lacks_nothing nothing lacks
+  no_cause drops.NoMemory nothing (inl decodes) = nothing.decodes (wanted_by m actor) decodes
   no_cause drops.NoMemory nothing (inr (deed, row, takes)) = nothing.rows deed (subst (λ (o : Option Wanted). Row (m.activity actor) o now deed) nothing.wants row)
 
   pub has_something : (why : DropWhy) → GivesUpFor why m actor fetched → hand_of (m.activity actor) ≡ Empty → ⊥
@@ -111,6 +112,7 @@ module _ (m : Machine) (actor : ℕ) (outcome : Outcome) (new : Machine) where
     pub meta : fetched.meta ≡ m.store.meta
     pub log : fetched.log ≡ m.store.log
     pub in_log : fetched.in_log ≡ m.store.in_log
+    pub dirty : fetched.dirty ≡ m.store.dirty
     pub memory : (id : ℕ) (page : Page) → MustStay m id → in_memory m.store id ≡ Some page → in_memory fetched id ≡ Some page
 
   brought : (may : ℕ → Type 0) (fetched : StoreState) → Brings m may fetched → KeepsStore fetched
@@ -118,6 +120,7 @@ module _ (m : Machine) (actor : ℕ) (outcome : Outcome) (new : Machine) where
     meta = brings.rest.meta;
     log = brings.rest.log;
     in_log = brings.rest.in_log;
+    dirty = brings.rest.dirty;
     memory = λ id page must there. brings.stays id must (subst (λ (o : Option Page). IsSome o) (sym there) refl) ∙ there;
   }
 
@@ -137,13 +140,14 @@ module _ (m : Machine) (actor : ℕ) (outcome : Outcome) (new : Machine) where
         meta = ap (λ (st : StoreState). st.meta) store ∙ keeps.meta;
         log = ap (λ (st : StoreState). st.log) store ∙ keeps.log;
         in_log = ap (λ (st : StoreState). st.in_log) store ∙ keeps.in_log;
+        dirty = ap (λ (st : StoreState). st.dirty) store ∙ keeps.dirty;
         memory = λ id page must there. ap (λ (st : StoreState). in_memory st id) store ∙ keeps.memory id page must there;
       }
 
   refused : RefusesSearch m actor outcome new → ChangesNoFile m actor outcome new
   refused one =
       aside_by m.store _ (record { op = refl; takes = refl; adds = refl; joins = refl; says = (inr (one.idle, subst (λ (o : Option Line). IsSomeAnd o (λ l. l.number ≡ one.line.number)) (sym one.next) refl), inl refl) })
-      (record { meta = refl; log = refl; in_log = refl; memory = λ id page must there. there }) one.performs
+      (record { meta = refl; log = refl; in_log = refl; dirty = refl; memory = λ id page must there. there }) one.performs.0
 
   abandoned : Abandons m actor outcome new → ChangesNoFile m actor outcome new
   abandoned one =
@@ -153,13 +157,13 @@ module _ (m : Machine) (actor : ℕ) (outcome : Outcome) (new : Machine) where
   carried : (other : Machine) (said : Outcome) → outcome ≡ said → new ≡ other → ChangesNoFile m actor said other → ChangesNoFile m actor outcome new
   carried other said says is keeps = subst (λ (n : Machine). ChangesNoFile m actor outcome n) (sym is) (subst (λ (o : Outcome). ChangesNoFile m actor o other) (sym says) keeps)
 
-  failed : FailsToWrite m 9 outcome new → ChangesNoFile m actor outcome new
-  failed one = carried _ _ one.says one.stops (record { says = tt; lines = refl; jobs = refl; order = refl; files = refl; meta = refl; log = refl; in_log = refl; memory = λ id page must there. there })
+  failed : FailsToWrite m 4 outcome new → ChangesNoFile m actor outcome new
+  failed one = carried _ _ one.says one.stops (record { says = tt; lines = refl; jobs = refl; order = refl; files = refl; meta = refl; log = refl; in_log = refl; dirty = refl; memory = λ id page must there. there })
 
   damaged : MeetsBadPage m actor outcome new → ChangesNoFile m actor outcome new
   damaged one =
       let keeps = brought _ one.fetched one.brings in
-      carried _ _ one.says one.stops (record { says = tt; lines = refl; jobs = refl; order = refl; files = refl; meta = keeps.meta; log = keeps.log; in_log = keeps.in_log; memory = keeps.memory })
+      carried _ _ one.says one.stops (record { says = tt; lines = refl; jobs = refl; order = refl; files = refl; meta = keeps.meta; log = keeps.log; in_log = keeps.in_log; dirty = keeps.dirty; memory = keeps.memory })
 
 pub aside_changes_no_file : AsideChangesNoFile
 aside_changes_no_file m actor outcome new (inl one) = refused m actor outcome new one

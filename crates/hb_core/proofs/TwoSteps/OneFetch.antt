@@ -6,7 +6,7 @@ use Rattle.hb_frag.specs.declared.pages.Page.{Page}
 use Rattle.hb_activity.specs.declared.activities.Activity.TheVariants as at
 use Rattle.hb_activity.specs.Deeds.{Deed}
 use Rattle.hb_activity.specs.Walks.{walk_held}
-use Rattle.hb_core.proofs.Memory.BroughtPages.{both_there, same_there}
+use Rattle.hb_core.proofs.Memory.BroughtPages.{both_there, same_there, told_files}
 use Rattle.hb_core.specs.Fetching.{Brings}
 use Rattle.hb_core.specs.Keeps.{HoldsPagesOfFile}
 use Rattle.hb_core.specs.Machines.{Files, Machine, current_file, live_here}
@@ -46,23 +46,20 @@ walks_here m actor fetched deed (inr (inr (inr (inr (inr (inr merges)))))) = wal
 
 -- ---- two fetches from one machine agree, over a disk that tells
 
-module _ (m : Machine) (may : ℕ → Type 0) (fetched : StoreState) (brings : Brings m may fetched) where
+module _ (m : Machine) (files : Files) (tells : m.files ≡ Some files) (may : ℕ → Type 0) (fetched : StoreState) (brings : Brings m may fetched) where
   -- what was in memory and is there is what was there
   is_as_it_was : (id : ℕ) (page now : Page) → in_memory m.store id ≡ Some page → in_memory fetched id ≡ Some now → now ≡ page
-  is_as_it_was id page now was is = same_Some now page (sym is ∙ same_there m may fetched brings id page now was is ∙ was)
+  is_as_it_was id page now was is = same_Some now page (sym is ∙ same_there m may fetched brings id page now (inl (told_files m files tells)) was is ∙ was)
 
   pub live_as_it_was : (id : ℕ) (page now : LivePage) → live_here m.store id ≡ Some page → live_here fetched id ≡ Some now → now ≡ page
-  live_as_it_was id page now was is = same_Some now page (sym is ∙ both_there m may fetched brings id page now was is)
-
-  good_by : (id : ℕ) (page : Page) (old : Option Page) → HoldsPagesOfFile m → in_memory m.store id ≡ old → in_memory fetched id ≡ Some page → (1 ≤ id) × IsGoodPage m.store.meta page
-  good_by id page None inside none is = let good = brings.good id page none is in (good.0, good.2)
-  good_by id page (Some old) inside was is =
-      let good = inside id old was in
-      (good.0, subst (IsGoodPage m.store.meta) (sym (is_as_it_was id old page was is)) good.2)
+  live_as_it_was id page now was is = same_Some now page (sym is ∙ both_there m may fetched brings id page now (inl (told_files m files tells)) was is)
 
   -- it has pages with numbers of the file only, and they keep the rules that speak of a page alone
   pub good_there : (id : ℕ) (page : Page) → HoldsPagesOfFile m → in_memory fetched id ≡ Some page → (1 ≤ id) × IsGoodPage m.store.meta page
-  good_there id page inside is = good_by id page (in_memory m.store id) inside refl is
+  good_there id page inside is = elim (brings.good id page is) [
+    | inl was ↦ let good = inside id page was in (good.0, good.2)
+    | inr good ↦ (good.0, good.2)
+  ]
 
 -- two stores have the same pages where both have one
 abbrev pub Agree : StoreState → StoreState → Type 0
@@ -74,7 +71,7 @@ module _ (m : Machine) (files : Files) (tells : m.files ≡ Some files) (may mig
 
   agree_by : (id : ℕ) (a b : Page) (old : Option Page) → in_memory m.store id ≡ old → in_memory f id ≡ Some a → in_memory g id ≡ Some b → a ≡ b
   agree_by id a b None none one two = same_Some a b (sym (told_of a id (first.told id a none one)) ∙ told_of b id (second.told id b none two))
-  agree_by id a b (Some page) was one two = is_as_it_was m may f first id page a was one ∙ sym (is_as_it_was m might g second id page b was two)
+  agree_by id a b (Some page) was one two = is_as_it_was m files tells may f first id page a was one ∙ sym (is_as_it_was m files tells might g second id page b was two)
 
   pub fetches_agree : Agree f g
   fetches_agree id a b one two = agree_by id a b (in_memory m.store id) refl one two

@@ -16,13 +16,14 @@ use Rattle.hb_core.proofs.TwoSteps.OnePair.{both_steps}
 use Rattle.hb_core.proofs.TwoSteps.OneRow.{one_row}
 use Rattle.hb_core.proofs.TwoSteps.OneStore.{one_of_same, one_performed}
 use Rattle.hb_core.proofs.TwoSteps.RowSays.{rows_say_the_same}
-use Rattle.hb_core.specs.Acting.{DoesRow}
+use Rattle.hb_core.specs.Acting.{DoesRow, takes_number}
 use Rattle.hb_core.specs.Asking.{wanted_by}
 use Rattle.hb_core.specs.Fetching.{Brings}
 use Rattle.hb_core.specs.Keeps.{HoldsPagesOfFile, KnowsRoom, OneHasRoom}
 use Rattle.hb_core.specs.Machines.{Files, Machine, live_here, sight, with_disk}
-use Rattle.hb_core.specs.OutcomeLaws.{AreOneButMemory, ComesToSame, IsTurnedAside, OutcomeIsOne, StateIsOne}
-use Rattle.hb_core.specs.Performing.{Performs, given_by, outcome_of}
+use Rattle.hb_core.specs.OutcomeLaws.{AreOne, ComesToSame, IsTurnedAside, OutcomeIsOne, StateIsOne}
+use Rattle.hb_core.specs.Performing.{Performs, PerformsAsItIs, given_by, latches_held, outcome_of}
+use Rattle.hb_core.specs.Using.{page_wanted, pages_of, use_number, use_wanted}
 use Rattle.hb_core.specs.Rows.{Row}
 use Rattle.hb_frag.specs.Leaves.{DirectlyHolds}
 use Rattle.hb_frag.specs.Rules.{AreInOrder}
@@ -67,7 +68,7 @@ outcome_is_one m actor outcome other new next first second =
       first_aside = λ aside. inl aside;
       second_aside = λ aside. inr (inl aside);
       same = λ says is. inr (inr (said_so m actor outcome other new next says is));
-      deeds = λ d e is walk a b. inr (inr (said_both m actor outcome other new next m.store m.store d e (ap (λ (d : Deed). d.says) is) a b));
+      deeds = λ d e is walk a b. inr (inr (said_both m actor outcome other new next m.store m.store d e (ap (λ (d : Deed). d.says) is) a.0 b.0));
       rows = λ a b. inr (inr (said_rows m actor outcome other new next a b));
     }) first second
 
@@ -84,7 +85,7 @@ module _ (m : Machine) (files : Files) (tells : m.files ≡ Some files) (may mig
   agree = fetches_agree m files tells may might f g first second
 
   in_order : HoldsPagesOfFile m → (id : ℕ) (page : LivePage) → live_here f id ≡ Some page → AreInOrder page
-  in_order inside id page live = (good_there m may f first id (Live page) inside (live_so (in_memory f id) page live)).1.1.in_order
+  in_order inside id page live = (good_there m files tells may f first id (Live page) inside (live_so (in_memory f id) page live)).1.1.in_order
 
   -- a record goes into one of the halves
   module _ (line : Line) (source fresh : ℕ) (d e : Deed) (a : PutsInHalf (sight m1) line source fresh d) (b : PutsInHalf (sight m2) line source fresh e) (rec : Record) (command : line.command ≡ Insert rec) (one : OneHasRoom m source fresh rec.key rec.body) where
@@ -96,12 +97,12 @@ module _ (m : Machine) (files : Files) (tells : m.files ≡ Some files) (may mig
 
     at_a : (id : ℕ) (page : LivePage) → live_here m.store id ≡ Some page → a.half ≡ id → DirectlyHolds page rec.key
     at_a id page live is =
-        let same : a.page ≡ page = live_as_it_was m may f first id page a.page live (ap (live_here f) (sym is) ∙ a.live) in
+        let same : a.page ≡ page = live_as_it_was m files tells may f first id page a.page live (ap (live_here f) (sym is) ∙ a.live) in
         subst (λ (r : Record). DirectlyHolds page r.key) rec_a (subst (λ (q : LivePage). DirectlyHolds q a.rec.key) same a.holds)
 
     at_b : (id : ℕ) (page : LivePage) → live_here m.store id ≡ Some page → b.half ≡ id → DirectlyHolds page rec.key
     at_b id page live is =
-        let same : b.page ≡ page = live_as_it_was m might g second id page b.page live (ap (live_here g) (sym is) ∙ b.live) in
+        let same : b.page ≡ page = live_as_it_was m files tells might g second id page b.page live (ap (live_here g) (sym is) ∙ b.live) in
         subst (λ (r : Record). DirectlyHolds page r.key) rec_b (subst (λ (q : LivePage). DirectlyHolds q b.rec.key) same b.holds)
 
     one_half : (a.half ≡ source) ⊎ (a.half ≡ fresh) → (b.half ≡ source) ⊎ (b.half ≡ fresh) → a.half ≡ b.half
@@ -128,6 +129,7 @@ module _ (m : Machine) (files : Files) (tells : m.files ≡ Some files) (may mig
     meta = second.rest.meta ∙ sym first.rest.meta;
     log = second.rest.log ∙ sym first.rest.log;
     in_log = second.rest.in_log ∙ sym first.rest.in_log;
+    dirty = second.rest.dirty ∙ sym first.rest.dirty;
     stopped = second.rest.stopped ∙ sym first.rest.stopped;
   }
 
@@ -141,33 +143,40 @@ module _ (m : Machine) (files : Files) (tells : m.files ≡ Some files) (may mig
   )
 
   one_by_row : (actor : ℕ) (deed : Deed) (outcome other : Outcome) (new next : Machine) → Row (m.activity actor) (wanted_by m actor) m1 deed → Row (m.activity actor) (wanted_by m actor) m2 deed
-      → Performs m f actor deed outcome new → Performs m g actor deed other next → AreOneButMemory new next
-  one_by_row actor deed outcome other new next row again one two =
+      → (one : Performs m f actor deed outcome new) → (two : Performs m g actor deed other next) → one.came ≡ two.came → one.pins ≡ two.pins → AreOne new next
+  one_by_row actor deed outcome other new next row again one two came pins =
       one_performed f g alike agree m actor deed outcome other new next
-      (same_here deed (walk_held deed.next) (walks_here m actor f deed (place_after m actor f (wanted_by m actor) deed refl row)) (walks_here m actor g deed (place_after m actor g (wanted_by m actor) deed refl again))) one two
+      (same_here deed (walk_held deed.next) (walks_here m actor f deed (place_after m actor f (wanted_by m actor) deed refl row)) (walks_here m actor g deed (place_after m actor g (wanted_by m actor) deed refl again))) one two came pins
 
--- ---- they lead to machines that are one but for the pages in memory
+-- ---- they lead to machines that are one
 
 module _ (m : Machine) (actor : ℕ) (outcome other : Outcome) (new next : Machine) where
   nowhere : (deed : Deed) (held : Option ℕ) → held ≡ None → IfSome held (λ id. (deed.op ≡ None) × (live_here m.store id ≡ live_here m.store id))
   nowhere deed None none = tt
   nowhere deed (Some id) none = absurd (let never : Some id ≡ None = none in cc)
 
-  one_by_deed : (d e : Deed) → d ≡ e → walk_held d.next ≡ None → Performs m m.store actor d outcome new → Performs m m.store actor e other next → AreOneButMemory new next
+  one_by_deed : (d e : Deed) → d ≡ e → walk_held d.next ≡ None → PerformsAsItIs m actor d outcome new → PerformsAsItIs m actor e other next → AreOne new next
   one_by_deed d e same walk first second =
-      one_performed m.store m.store (record { turn = refl; meta = refl; log = refl; in_log = refl; stopped = refl }) (λ id a b one two. same_Some a b (sym one ∙ two)) m actor d outcome other new next
-      (nowhere d (walk_held d.next) walk) first (subst (λ (x : Deed). Performs m m.store actor x other next) (sym same) second)
+      let again : PerformsAsItIs m actor d other next = subst (λ (x : Deed). PerformsAsItIs m actor x other next) (sym same) second in
+      one_performed m.store m.store (record { turn = refl; meta = refl; log = refl; in_log = refl; dirty = refl; stopped = refl }) (λ id a b one two. same_Some a b (sym one ∙ two)) m actor d outcome other new next
+      (nowhere d (walk_held d.next) walk) first.0 again.0 (first.1 ∙ sym again.1) (first.2 ∙ sym again.2)
 
-  one_by_rows : (files : Files) → m.files ≡ Some files → HoldsPagesOfFile m → KnowsRoom m → DoesRow m actor outcome new → DoesRow m actor other next → AreOneButMemory new next
+  -- a row's deed, with what came and was pinned for it
+  abbrev RowDone : StoreState → Outcome → Machine → Deed → Type 0
+  RowDone fetched said after d =
+      (p : Performs m fetched actor d said after) × (p.came ≡ use_number (takes_number d.op) m.store.meta (use_wanted (wanted_by m actor) m.uses)) × (p.pins ≡ page_wanted (wanted_by m actor) ++ pages_of (latches_held m.store (m.activity actor)))
+
+  one_by_rows : (files : Files) → m.files ≡ Some files → HoldsPagesOfFile m → KnowsRoom m → DoesRow m actor outcome new → DoesRow m actor other next → AreOne new next
   one_by_rows files tells inside knows a b =
       let same = one_deed m files tells _ _ a.fetched b.fetched a.brings b.brings actor a.deed b.deed inside knows a.row b.row in
+      let again : RowDone b.fetched other next a.deed = subst (RowDone b.fetched other next) (sym same) (b.performs, b.came, b.pins) in
       one_by_row m files tells _ _ a.fetched b.fetched a.brings b.brings actor a.deed outcome other new next a.row
       (subst (Row (m.activity actor) (wanted_by m actor) (with_disk b.fetched m.files m.clock m)) (sym same) b.row) a.performs
-      (subst (λ (d : Deed). Performs m b.fetched actor d other next) (sym same) b.performs)
+      again.0 (a.came ∙ sym again.1) (a.pins ∙ sym again.2)
 
 pub state_is_one : StateIsOne
 state_is_one m files actor outcome other new next tells inside knows first second =
-    both_steps m actor outcome other new next (IsTurnedAside m actor outcome new ⊎ IsTurnedAside m actor other next ⊎ AreOneButMemory new next) (record {
+    both_steps m actor outcome other new next (IsTurnedAside m actor outcome new ⊎ IsTurnedAside m actor other next ⊎ AreOne new next) (record {
       first_aside = λ aside. inl aside;
       second_aside = λ aside. inr (inl aside);
       same = λ says is. inr (inr (one_of_same new next is));

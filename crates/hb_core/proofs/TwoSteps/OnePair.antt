@@ -1,8 +1,9 @@
 -- Two steps of one actor from one machine go the same way, unless one was turned aside.
-use Rattle.std.proofs.Common.{ap, ◌≡◌, ◌≢◌, ◌⊎◌, inl, inr, ℕ, ◌++◌, List, ◌∷◌, All, Option, Some, None, IfSome, IsSomeAnd, IsTrue, refl, sym, ◌∙◌, subst, arith}
+use Rattle.std.proofs.Common.{ap, ◌≡◌, ◌≢◌, ◌⊎◌, inl, inr, ℕ, ◌+◌, ◌++◌, List, ◌∷◌, All, Option, Some, None, IfSome, IsSomeAnd, IsTrue, refl, sym, ◌∙◌, subst, arith}
 use Rattle.std.specs.Prelude.{MatchOption}
 use Rattle.std.specs.List.{Contains}
 use Rattle.std.proofs.lemmas.Bool.{cases_lt}
+use Rattle.std.proofs.lemmas.Option.{same_Some}
 use Rattle.std.proofs.lemmas.List.Elements.{All-contains, Contains-append_right, Contains-get_or}
 use Rattle.hb_latch.specs.declared.modes.Mode.{Mode}
 use Rattle.hb_set.specs.declared.commands.Reply.{Reply}
@@ -26,16 +27,19 @@ use Rattle.hb_core.proofs.Table.NextPlaces.{nothing_run_out}
 use Rattle.hb_core.proofs.TwoSteps.OnePiece.{one_job, one_merging, taken}
 use Rattle.hb_core.specs.Acting.{Abandons, DoesRow, MeetsBadPage}
 use Rattle.hb_core.specs.Asking.{wanted_by}
-use Rattle.hb_core.specs.Forcing.{FailsToWrite, Flushes, FlushesOnce, FlushesRest, ForcesFirst, StaysSo}
+use Rattle.hb_core.specs.Forcing.{FailsToWrite, Flushes, FlushesOnce, FlushesRest, FlushesWell, ForcesFirst, StaysSo}
 use Rattle.hb_core.specs.GivingUp.{runs_out}
 use Rattle.hb_core.specs.Locking.{IsBoxInTheWay}
-use Rattle.hb_core.specs.Machines.{Machine}
+use Rattle.hb_core.specs.Machines.{Machine, with_disk, with_uses}
 use Rattle.hb_core.specs.OutcomeLaws.{IsTurnedAside}
-use Rattle.hb_core.specs.Performing.{ChangesQueue, Performs}
+use Rattle.hb_core.specs.Performing.{ChangesQueue, PerformsAsItIs}
 use Rattle.hb_core.specs.Steps.{BeginsLine, TakesJob, TakesMerging, AwaitsPlace, GetsReady, StepsAs, StepsTo, TakesJobToMerge, TakesPosting, Works}
 use Rattle.hb_latch.specs.Modes.{goes_beside}
 use Rattle.hb_latch.specs.Tables.{IsGrantable, IsLeastInTheWay, LatchTable, mode_at}
 use Rattle.hb_point.specs.SessionRows.{next_line, taking}
+use Rattle.hb_pool.specs.Frames.{clean}
+use Rattle.hb_pool.specs.Pools.{in_place}
+use Rattle.hb_store.specs.Held.{cleaned_state, oldest_dirty}
 use Rattle.hb_poster.specs.PosterRows.{IsPostingOf}
 
 -- ---- the least actor in the way is one, and where one is the way isn't free
@@ -78,16 +82,20 @@ merging_holds_nothing : (job : Job) (height : ℕ) (next : Activity) → IsMergi
 merging_holds_nothing job height next (inl (above, is)) = ap walk_held is
 merging_holds_nothing job height next (inr (below, is)) = ap walk_held is
 
--- a write that fails within four calls fails within nine
-pub in_nine : (m : Machine) (outcome : Outcome) (new : Machine) → FailsToWrite m 4 outcome new → FailsToWrite m 9 outcome new
-in_nine m outcome new fails = record { clock = fails.clock; from = fails.from; few = omega (arith, fails.few); says = fails.says; stops = fails.stops }
+-- a write that fails within one call fails within four
+in_four : (m : Machine) (outcome : Outcome) (new : Machine) → FailsToWrite m 1 outcome new → FailsToWrite m 4 outcome new
+in_four m outcome new fails = record { clock = fails.clock; from = fails.from; few = omega (arith, fails.few); says = fails.says; stops = fails.stops }
+
+-- the oldest dirty page is one
+one_page : (o : Option ℕ) (page other : ℕ) → o ≡ Some page → o ≡ Some other → page ≡ other
+one_page o page other first second = same_Some page other (sym first ∙ second)
 
 -- What is to be shown of two steps.
 pub record ShowsBoth (m : Machine) (actor : ℕ) (outcome other : Outcome) (new next : Machine) (G : Type 0) : Type 0 where
   pub first_aside : IsTurnedAside m actor outcome new → G
   pub second_aside : IsTurnedAside m actor other next → G
   pub same : outcome ≡ other → new ≡ next → G
-  pub deeds : (d e : Deed) → d ≡ e → walk_held d.next ≡ None → Performs m m.store actor d outcome new → Performs m m.store actor e other next → G
+  pub deeds : (d e : Deed) → d ≡ e → walk_held d.next ≡ None → PerformsAsItIs m actor d outcome new → PerformsAsItIs m actor e other next → G
   pub rows : DoesRow m actor outcome new → DoesRow m actor other next → G
 
 module _ (m : Machine) (actor : ℕ) (outcome other : Outcome) (new next : Machine) (G : Type 0) (shows : ShowsBoth m actor outcome other new next G) where
@@ -95,18 +103,23 @@ module _ (m : Machine) (actor : ℕ) (outcome other : Outcome) (new next : Machi
   both_stay said (a, b) (c, d) = shows.same (a ∙ sym c) (b ∙ sym d)
 
   both_force : (said : Outcome) → ForcesFirst m said outcome new → ForcesFirst m said other next → G
-  both_force said (inr (waits, fails)) second = shows.first_aside (inr (inl (in_nine m outcome new fails)))
-  both_force said (inl well) (inr (waits, fails)) = shows.second_aside (inr (inl (in_nine m other next fails)))
+  both_force said (inr (waits, fails)) second = shows.first_aside (inr (inl fails))
+  both_force said (inl well) (inr (waits, fails)) = shows.second_aside (inr (inl fails))
   both_force said (inl (a, b)) (inl (c, d)) = shows.same (a ∙ sym c) (b ∙ sym d)
 
-  -- while nothing is flushed besides, no two steps flush well
+  both_flush_well : (due : Outcome) → FlushesWell m due outcome new → FlushesWell m due other next → G
+  both_flush_well due first second =
+      let same = one_page (oldest_dirty m.uses) first.page second.page first.oldest second.oldest in
+      shows.same (first.says ∙ sym second.says)
+      (first.leaves ∙ ap (λ (page : ℕ). with_uses (in_place page clean m.uses) (with_disk (cleaned_state page m.store) m.files (m.clock + 1) m)) same ∙ sym second.leaves)
+
   both_rest : (due : Outcome) (first_does second_does : Type 0) → (first_does → second_does → G) → FlushesRest m due first_does outcome new → FlushesRest m due second_does other next → G
-  both_rest due A B both (inl (more, well)) (inl (again, also)) = absurd well.flushed
-  both_rest due A B both (inl (more, well)) (inr (inl (again, fails))) = shows.second_aside (inr (inl fails))
+  both_rest due A B both (inl (more, well)) (inl (again, also)) = both_flush_well due well also
+  both_rest due A B both (inl (more, well)) (inr (inl (again, fails))) = shows.second_aside (inr (inl (in_four m other next fails)))
   both_rest due A B both (inl (more, well)) (inr (inr (none, second))) = absurd (none more)
-  both_rest due A B both (inr (inl (more, fails))) second = shows.first_aside (inr (inl fails))
+  both_rest due A B both (inr (inl (more, fails))) second = shows.first_aside (inr (inl (in_four m outcome new fails)))
   both_rest due A B both (inr (inr (none, first))) (inl (more, well)) = absurd (none more)
-  both_rest due A B both (inr (inr (none, first))) (inr (inl (more, fails))) = shows.second_aside (inr (inl fails))
+  both_rest due A B both (inr (inr (none, first))) (inr (inl (more, fails))) = absurd (none more)
   both_rest due A B both (inr (inr (none, first))) (inr (inr (again, second))) = both first second
 
   both_flush_once : (due : Outcome) (first_does second_does : Type 0) → (first_does → second_does → G) → FlushesOnce m due first_does outcome new → FlushesOnce m due second_does other next → G
@@ -119,7 +132,7 @@ module _ (m : Machine) (actor : ℕ) (outcome other : Outcome) (new next : Machi
 
   both_get_ready : GetsReady m actor outcome new → GetsReady m actor other next → G
   both_get_ready first second =
-      both_flush_once outcomes.Helped (Performs m m.store actor (runs_out (m.activity actor)) outcome new) (Performs m m.store actor (runs_out (m.activity actor)) other next)
+      both_flush_once outcomes.Helped (PerformsAsItIs m actor (runs_out (m.activity actor)) outcome new) (PerformsAsItIs m actor (runs_out (m.activity actor)) other next)
       (λ a b. shows.deeds (runs_out (m.activity actor)) (runs_out (m.activity actor)) refl (nothing_run_out (m.activity actor)).walk a b) first second
 
   both_act : DoesRow m actor outcome new ⊎ Abandons m actor outcome new ⊎ MeetsBadPage m actor outcome new → DoesRow m actor other next ⊎ Abandons m actor other next ⊎ MeetsBadPage m actor other next → G
@@ -171,20 +184,20 @@ module _ (m : Machine) (actor : ℕ) (outcome other : Outcome) (new next : Machi
 
   both_post : TakesPosting m actor outcome new → TakesPosting m actor other next → G
   both_post (inl (none, first)) (inl (none', second)) = both_stay outcomes.Idle first second
-  both_post (inl (none, first)) (inr (deed, takes, second)) = absurd (no_posting deed next.jobs none takes second.jobs)
-  both_post (inr (deed, takes, first)) (inl (none, second)) = absurd (no_posting deed new.jobs none takes first.jobs)
+  both_post (inl (none, first)) (inr (deed, takes, second)) = absurd (no_posting deed next.jobs none takes second.0.jobs)
+  both_post (inr (deed, takes, first)) (inl (none, second)) = absurd (no_posting deed new.jobs none takes first.0.jobs)
   both_post (inr (d, takes, first)) (inr (e, again, second)) =
-      shows.deeds d e (one_job m d e new.jobs next.jobs first.jobs second.jobs takes again) (ap (λ (x : Deed). walk_held x.next) takes.deed_is ∙ posting_holds_nothing takes.job m.store.meta.height takes.next takes.posting) first second
+      shows.deeds d e (one_job m d e new.jobs next.jobs first.0.jobs second.0.jobs takes again) (ap (λ (x : Deed). walk_held x.next) takes.deed_is ∙ posting_holds_nothing takes.job m.store.meta.height takes.next takes.posting) first second
 
   no_merging : (deed : Deed) (queue : List Job) → All (λ (job : Job). job.kind ≢ Merge) m.jobs → TakesMerging m deed → ChangesQueue deed m.jobs queue → ⊥
   no_merging deed queue none takes changes = was_waiting Merge takes.job m.jobs changes.left (taken Merge deed takes.job takes.next m.jobs queue takes.kind takes.deed_is changes) none
 
   both_merge : TakesJobToMerge m actor outcome new → TakesJobToMerge m actor other next → G
   both_merge (inl (none, first)) (inl (none', second)) = both_stay outcomes.Idle first second
-  both_merge (inl (none, first)) (inr (deed, takes, second)) = absurd (no_merging deed next.jobs none takes second.jobs)
-  both_merge (inr (deed, takes, first)) (inl (none, second)) = absurd (no_merging deed new.jobs none takes first.jobs)
+  both_merge (inl (none, first)) (inr (deed, takes, second)) = absurd (no_merging deed next.jobs none takes second.0.jobs)
+  both_merge (inr (deed, takes, first)) (inl (none, second)) = absurd (no_merging deed new.jobs none takes first.0.jobs)
   both_merge (inr (d, takes, first)) (inr (e, again, second)) =
-      shows.deeds d e (one_merging m d e new.jobs next.jobs first.jobs second.jobs takes again) (ap (λ (x : Deed). walk_held x.next) takes.deed_is ∙ merging_holds_nothing takes.job m.store.meta.height takes.next takes.merging) first second
+      shows.deeds d e (one_merging m d e new.jobs next.jobs first.0.jobs second.0.jobs takes again) (ap (λ (x : Deed). walk_held x.next) takes.deed_is ∙ merging_holds_nothing takes.job m.store.meta.height takes.next takes.merging) first second
 
   both_flush : Flushes m outcome new → Flushes m other next → G
   both_flush (inr (off, first)) (inr (off', second)) = both_stay outcomes.Idle first second

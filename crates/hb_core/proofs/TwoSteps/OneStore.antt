@@ -1,10 +1,10 @@
--- A deed that is done over two fetches from one machine leads to machines that are one but for the pages in memory.
+-- A deed that is done over two fetches from one machine leads to machines that are one.
 use Rattle.hb_store.proofs.Facts.StayingLaws.{Commits-there}
-use Rattle.std.proofs.Common.{◌≡◌, ◌⊎◌, inl, inr, ℕ, ◌==◌, Bool, true, false, cond, ◌||◌, ◌++◌, List, [], ◌∷◌, length, Option, Some, None, IfSome, refl, sym, ap, ◌∙◌, subst}
-use Rattle.std.proofs.lemmas.Bool.{cases_eq}
+use Rattle.std.proofs.Common.{◌≡◌, ◌⊎◌, inl, inr, ℕ, ◌==◌, Bool, true, false, cond, ◌||◌, ◌++◌, List, [], ◌∷◌, length, map, Option, Some, None, IfSome, refl, sym, ap, ◌∙◌, subst}
+use Rattle.std.proofs.lemmas.Bool.{cases_eq, false≢true}
 use Rattle.std.proofs.lemmas.Cmp.{nat_cmp_total}
 use Rattle.std.proofs.lemmas.Option.{same_Some}
-use Rattle.std.specs.Option.{option_and_then}
+use Rattle.std.specs.Option.{is_some, option_and_then}
 use Rattle.std.specs.Ordering.{nat_cmp}
 use Rattle.std.specs.FinSet as set
 use Rattle.hb_frag.specs.declared.pages.LivePage.{LivePage}
@@ -21,23 +21,26 @@ use Rattle.hb_activity.specs.Walks.{walk_held}
 use Rattle.hb_core.proofs.TwoSteps.OneFetch.{Agree}
 use Rattle.hb_core.proofs.TwoSteps.OnePiece.{one_queue}
 use Rattle.hb_core.specs.Machines.{Machine, live_here}
-use Rattle.hb_core.specs.OutcomeLaws.{AreOneButMemory}
+use Rattle.hb_core.specs.OutcomeLaws.{AreOne}
 use Rattle.hb_core.specs.Performing.{DoesOp, MayDo, Performs, latches_held, mode_among}
+use Rattle.hb_core.specs.Using.{pages_of, use_done, use_held}
 use Rattle.hb_latch.specs.Tables.{mode_at}
 use Rattle.hb_log_codec.specs.Groups.{Logged, group_bytes}
 use Rattle.hb_ops.specs.Files.{if_live}
 use Rattle.hb_ops.specs.Operations.{Change, IsAllowedOn, change_of, reads_of}
-use Rattle.hb_store.specs.Calls.{IsAllowedHere, KeepsAllButPages, change_here, read_here}
+use Rattle.hb_pool.specs.Frames.{Use}
+use Rattle.hb_pool.specs.Pools.{frame_of}
+use Rattle.hb_store.specs.Calls.{IsAllowedHere, KeepsAllButPages, change_here, read_here, use_changed}
 use Rattle.hb_store.specs.Making.{group_here, page_image_needed, page_images_needed}
 use Rattle.hb_store.specs.Replay.{set_pages, has_page, is_among}
-use Rattle.hb_store.specs.States.{StoreState, in_memory, is_in_log}
+use Rattle.hb_store.specs.States.{StoreState, in_memory, is_dirty, is_in_log}
 use Rattle.hb_wal.specs.Log.{LogState, Waiting}
 use Rattle.hb_ops.proofs.Facts.PageNumberLaws.{live_so}
 
 -- ---- machines that are the same
 
-pub one_of_same : (new next : Machine) → new ≡ next → AreOneButMemory new next
-one_of_same new next is = subst (AreOneButMemory new) is (record {
+pub one_of_same : (new next : Machine) → new ≡ next → AreOne new next
+one_of_same new next is = subst (AreOne new) is (record {
   lines = refl;
   answered = refl;
   activity = λ actor. refl;
@@ -47,8 +50,9 @@ one_of_same new next is = subst (AreOneButMemory new) is (record {
   stop = refl;
   files = refl;
   clock = refl;
-  store = record { turn = refl; meta = refl; log = refl; in_log = refl; stopped = refl };
-  pages = λ id a b one two. same_Some a b (sym one ∙ two);
+  store = record { turn = refl; meta = refl; log = refl; in_log = refl; dirty = refl; stopped = refl };
+  pages = λ id. refl;
+  uses = refl;
 })
 
 -- ---- an operation over two stores that agree
@@ -106,6 +110,13 @@ agree_set (one ∷ rest) F G agree = agree_set rest _ _ (λ id a b x y. by (id =
 same_log : (a b : LogState) → a.area ≡ b.area → a.len ≡ b.len → a.written ≡ b.written → a.groups ≡ b.groups → a ≡ b
 same_log a b area len written groups = λ i. record { area = area i; len = len i; written = written i; groups = groups i }
 
+-- what is in both or in none is the same, where what both have is
+both_there : (a b : Option Page) → is_some a ≡ is_some b → ((x y : Page) → a ≡ Some x → b ≡ Some y → x ≡ y) → a ≡ b
+both_there None None there same = refl
+both_there None (Some y) there same = absurd (false≢true there)
+both_there (Some x) None there same = absurd (false≢true (sym there))
+both_there (Some x) (Some y) there same = ap Some (same x y refl refl)
+
 -- stores that are one but for the pages in memory
 record AreAlike (new next : StoreState) : Type 0 where
   pub rest : KeepsAllButPages new next
@@ -117,6 +128,9 @@ module _ (f g : StoreState) (alike : KeepsAllButPages f g) (agree : Agree f g) w
 
   same_in_log : (id : ℕ) → is_in_log f id ≡ is_in_log g id
   same_in_log id = ap (λ (s : set.FinSet nat_cmp). set.contains s id) (sym alike.in_log)
+
+  same_dirty : (id : ℕ) → is_dirty f id ≡ is_dirty g id
+  same_dirty id = ap (λ (s : set.FinSet nat_cmp). set.contains s id) (sym alike.dirty)
 
   -- a page that both have in use is the same
   same_there : (id : ℕ) (a b : LivePage) → live_here f id ≡ Some a → live_here g id ≡ Some b → in_memory f id ≡ in_memory g id
@@ -190,6 +204,8 @@ module _ (f g : StoreState) (alike : KeepsAllButPages f g) (agree : Agree f g) w
       let in_log : (id : ℕ) → is_in_log new id ≡ is_in_log next id =
       λ id. one.in_log id ∙ ap (λ (c : Change). (has_page id c.pages || (is_among id (reads_of op) || is_in_log f id))) change
       ∙ ap (λ (b : Bool). (has_page id (change_here g op).pages || (is_among id (reads_of op) || b))) (same_in_log id) ∙ sym (two.in_log id) in
+      let dirty : (id : ℕ) → is_dirty new id ≡ is_dirty next id =
+      λ id. one.dirty id ∙ ap (λ (c : Change). (has_page id c.pages || is_dirty f id)) change ∙ ap (λ (b : Bool). (has_page id (change_here g op).pages || b)) (same_dirty id) ∙ sym (two.dirty id) in
       record {
         rest = record {
           turn = two.turn ∙ alike.turn ∙ sym one.turn;
@@ -197,6 +213,7 @@ module _ (f g : StoreState) (alike : KeepsAllButPages f g) (agree : Agree f g) w
           log = sym (same_log new.log next.log (one.area ∙ ap (λ (l : LogState). l.area) (sym alike.log) ∙ sym two.area) (one.len ∙ ap (λ (l : LogState). l.len) (sym alike.log) ∙ sym two.len)
               (one.written ∙ ap (λ (l : LogState). l.written) (sym alike.log) ∙ sym two.written) groups);
           in_log = sym (set.same_set nat_cmp_total set.nat_cmp-IsAntisymmetric new.in_log next.in_log in_log);
+          dirty = sym (set.same_set nat_cmp_total set.nat_cmp-IsAntisymmetric new.dirty next.dirty dirty);
           stopped = two.stopped ∙ alike.stopped ∙ sym one.stopped;
         };
         pages = λ id a b x y.
@@ -224,11 +241,25 @@ module _ (f g : StoreState) (alike : KeepsAllButPages f g) (agree : Agree f g) w
       looked (Some id) (none, here) =
           ap (λ (st : StoreState). live_here st id) (left f new none first) ∙ here ∙ sym (ap (λ (st : StoreState). live_here st id) (left g next none second))
 
-  -- A deed that is done on a machine over two such stores makes machines of it that are one but for the pages in memory.
-  pub one_performed : (m : Machine) (actor : ℕ) (deed : Deed) (outcome other : Outcome) (new next : Machine) → SameHere deed → Performs m f actor deed outcome new → Performs m g actor deed other next → AreOneButMemory new next
-  one_performed m actor deed outcome other new next same first second =
+  -- an operation changes the same pages, and so the order of use in the same way
+  one_use : (op : Option Op) (mark : ℕ) (new next : StoreState) (came : List Use) → MayDo op mark f new → MayDo op mark g next → use_done op f came ≡ use_done op g came
+  one_use None mark new next came first second = refl
+  one_use (Some op) mark new next came first second = ap (λ (c : Change). use_changed (map (λ (page : ℕ × Page). page.0) c.pages) came) (same_change op (reads_alike op first.allowed second.allowed))
+
+  -- A deed that is done on a machine over two such stores makes machines of it that are one, where the same pages came and were pinned:
+  -- the order of use tells which pages are in memory.
+  pub one_performed : (m : Machine) (actor : ℕ) (deed : Deed) (outcome other : Outcome) (new next : Machine) → SameHere deed → (first : Performs m f actor deed outcome new) → (second : Performs m g actor deed other next)
+      → first.came ≡ second.came → first.pins ≡ second.pins → AreOne new next
+  one_performed m actor deed outcome other new next same first second came pins =
       let stores = one_done deed.op (length m.order) new.store next.store first.store second.store in
       let latches = same_latches deed (length m.order) new.store next.store same first.store second.store in
+      let uses : new.uses ≡ next.uses =
+      first.uses ∙ ap (λ (ids : List ℕ). use_held ids (pages_of (latches_held new.store deed.next)) (use_done deed.op f first.came)) pins
+      ∙ ap (λ (l : List Latch). use_held second.pins (pages_of l) (use_done deed.op f first.came)) latches
+      ∙ ap (λ (uses : List Use). use_held second.pins (pages_of (latches_held next.store deed.next)) (use_done deed.op f uses)) came
+      ∙ ap (λ (uses : List Use). use_held second.pins (pages_of (latches_held next.store deed.next)) uses) (one_use deed.op (length m.order) new.store next.store second.came first.store second.store) ∙ sym second.uses in
+      let there : (id : ℕ) → is_some (in_memory new.store id) ≡ is_some (in_memory next.store id) =
+      λ id. first.tied.there id ∙ ap (λ (u : List Use). is_some (frame_of u id)) uses ∙ sym (second.tied.there id) in
       record {
         lines = first.lines ∙ sym second.lines;
         answered = first.answered ∙ sym second.answered;
@@ -244,5 +275,6 @@ module _ (f g : StoreState) (alike : KeepsAllButPages f g) (agree : Agree f g) w
         files = first.files ∙ sym second.files;
         clock = first.clock ∙ sym second.clock;
         store = stores.rest;
-        pages = stores.pages;
+        pages = λ id. both_there (in_memory new.store id) (in_memory next.store id) (there id) (stores.pages id);
+        uses = uses;
       }

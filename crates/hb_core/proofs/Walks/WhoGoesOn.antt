@@ -39,7 +39,7 @@ use Rattle.hb_core.specs.KeptFits.{LineFits, class_for}
 use Rattle.hb_core.specs.Locking.{HasBoxFree}
 use Rattle.hb_core.specs.KeptMachine.{CoreKeeps}
 use Rattle.hb_core.specs.Machines.{Files, Machine}
-use Rattle.hb_core.specs.Performing.{Performs, outcome_of}
+use Rattle.hb_core.specs.Performing.{Performs, outcome_of, PerformsAsItIs}
 use Rattle.hb_core.specs.ProgressLaws.{GoesForward, GoesOnNow, HasSomethingLeft, SomebodyGoesOnNow}
 use Rattle.hb_core.specs.SteppingLaws.{IsAtRest}
 use Rattle.hb_core.specs.Steps.{AwaitsPlace, BeginsLine, StepsAs, StepsTo, TakesJobToMerge, TakesPosting, Works}
@@ -178,13 +178,13 @@ module _ (m : Machine) (actor : ℕ) (outcome : Outcome) (new : Machine) where
 
   worked : HasWayFree m actor → Works m actor outcome new → GoesForward outcome
   worked free (inl (by, way, so)) = absurd (not_kept (wanted_by m actor) by free way)
-  worked free (inr (inl (way, unready, once))) = flushed outcomes.Helped (Performs m m.store actor (runs_out (m.activity actor)) outcome new) tt (λ performs. performed m.store _ performs) once
+  worked free (inr (inl (way, unready, once))) = flushed outcomes.Helped (PerformsAsItIs m actor (runs_out (m.activity actor)) outcome new) tt (λ performs. performed m.store _ performs.0) once
   worked free (inr (inr (way, ready, inl acts))) = performed acts.fetched acts.deed acts.performs
   worked free (inr (inr (way, ready, inr (inl gives)))) = performed gives.fetched _ gives.performs
   worked free (inr (inr (way, ready, inr (inr meets)))) = forward_as _ tt meets.says
 
   awaited : (number place : ℕ) (reply : Reply) → AwaitsPlace m actor number reply place outcome new → GoesForward outcome
-  awaited number place reply (inl (settled, performs)) = performed m.store _ performs
+  awaited number place reply (inl (settled, performs)) = performed m.store _ performs.0
   awaited number place reply (inr (waits, force)) = forced outcomes.Moved tt force
 
   stepped : (activity : Activity) → (¬ (IsAtRest activity)) → HasWayFree m actor → StepsAs activity m actor outcome new → GoesForward outcome
@@ -199,16 +199,16 @@ module _ (m : Machine) (actor : ℕ) (outcome : Outcome) (new : Machine) where
   next_forward : ((lock : BoxLock) → HasBoxFree m actor lock) → (line : Option Line) → IsSome line → MatchOption line (StaysSo m outcomes.Idle outcome new) (λ line. BeginsLine m actor line outcome new) → GoesForward outcome
   next_forward free None some one = absurd (false≢true some)
   next_forward free (Some line) some (inl (by, way, so)) = absurd (free _ by way.keeps)
-  next_forward free (Some line) some (inr (way, inl performs)) = performed m.store _ performs
-  next_forward free (Some line) some (inr (way, inr (boxes, performs))) = performed m.store _ performs
+  next_forward free (Some line) some (inr (way, inl performs)) = performed m.store _ performs.0
+  next_forward free (Some line) some (inr (way, inr (boxes, performs))) = performed m.store _ performs.0
 
   post_forward : (job : Job) → Contains m.jobs job → job.kind ≡ Post → TakesPosting m actor outcome new → GoesForward outcome
   post_forward job waits kind (inl (none, so)) = absurd (All-contains (λ (job : Job). job.kind ≢ Post) m.jobs job none waits kind)
-  post_forward job waits kind (inr (deed, takes, performs)) = performed m.store deed performs
+  post_forward job waits kind (inr (deed, takes, performs)) = performed m.store deed performs.0
 
   merge_forward : (job : Job) → Contains m.jobs job → job.kind ≡ Merge → TakesJobToMerge m actor outcome new → GoesForward outcome
   merge_forward job waits kind (inl (none, so)) = absurd (All-contains (λ (job : Job). job.kind ≢ Merge) m.jobs job none waits kind)
-  merge_forward job waits kind (inr (deed, takes, performs)) = performed m.store deed performs
+  merge_forward job waits kind (inr (deed, takes, performs)) = performed m.store deed performs.0
 
 -- ---- a line without an answer gives its session a next line
 

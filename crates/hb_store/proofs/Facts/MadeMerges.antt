@@ -3,7 +3,6 @@ use Rattle.std.proofs.Common.{◌≡◌, ℕ, ◌*◌, ◌<◌, ◌≤◌, ◌^�
 use Rattle.std.specs.List.{sum_by}
 use Rattle.std.proofs.lemmas.List.Sums.{sum-map}
 use Rattle.std.proofs.lemmas.List.Elements.{All-append, All-cons, All-head, All-nil}
-use Rattle.hb_space.specs.Boxes.{Area}
 use Rattle.hb_frag.specs.declared.leaves.Leaf.{Leaf}
 use Rattle.hb_frag.specs.declared.leaves.Leaf.TheVariants.{Records, Child, Sibling}
 use Rattle.hb_frag.specs.declared.pages.LivePage.{LivePage}
@@ -16,7 +15,7 @@ use Rattle.hb_frag.specs.Trees.{Tree, Tip, Cut}
 use Rattle.hb_frag.specs.Leaves.{leaf_weight, leaves, weight_of}
 use Rattle.hb_frag.specs.Normal.{normal, one_leaf_or_cut}
 use Rattle.hb_frag.specs.NormalLaws.{SaysTheSame}
-use Rattle.hb_frag.specs.Paths.{part_at, sibling_way, with_part}
+use Rattle.hb_frag.specs.Paths.{sibling_way, with_part}
 use Rattle.hb_frag.specs.Renaming.{renamed, renamed_leaf}
 use Rattle.hb_frag.specs.Rules.{BelongsAt, IsFilledRight, IsSiblingTip, capacity_of}
 use Rattle.hb_frag.specs.Grammar.{FitsLeaf, FitsTree, HasSpelling}

@@ -11,7 +11,8 @@ use Rattle.hb_restart.specs.Creation.{IsLaidOut}
 use Rattle.hb_restart.specs.NewFiles.{lone}
 use Rattle.hb_disk.proofs.Facts.RewriteLaws.{Rewrites-as, Rewrites-torn, Rewrites-weaker}
 use Rattle.hb_disk.proofs.Facts.TornLaws.{Torn-wider}
-use Rattle.hb_restart.proofs.Made.{told_before, frame_long, on_ok_three, made_fresh}
+use Rattle.hb_store.proofs.Facts.PlaceWrites.{told_before}
+use Rattle.hb_restart.proofs.Made.{frame_long, on_ok_three, made_fresh}
 use Rattle.hb_restart.proofs.creation.write_file.Goals as goal
 
 pub lay_out-requires : goal.lay_out-requires

@@ -4,7 +4,7 @@ use Rattle.hb_lemmas.proofs.Options.{on_ok_weaker}
 use Rattle.hb_disk.proofs.Facts.BecomesLaws.{Becomes-write}
 use Rattle.hb_frag.specs.Grammar.{SpellsPage}
 use Rattle.hb_store.specs.Opening.{place_bytes}
-use Rattle.hb_restart.proofs.PageWrites.{page_written, becomes_there}
+use Rattle.hb_store.proofs.Facts.PlaceWrites.{page_written, becomes_there}
 use Rattle.hb_restart.proofs.renewal.write_page.Goals as goal
 
 pub returns-clause-there : goal.returns-clause-there

@@ -6,8 +6,8 @@ use Rattle.hb_view.specs.Lists.{records_there}
 use Rattle.hb_view.proofs.Listed.{is_found, passes_on, others_there, none_missing, none_left}
 use Rattle.hb_view.proofs.lists.body_among.Goals as goal
 
-pub returns-then-is_point : goal.returns-then-is_point
-returns-then-is_point c =
+pub returns-then-is_point-clause-found : goal.returns-then-is_point-clause-found
+returns-then-is_point-clause-found c =
     let r : Record = record { key = point_there c.args.k c.in-Some.key.now; body = c.in-Some.body.now } in
     is_found c.args.k c.args.count c.loop.counter c.loop.rest.now c.args.p.now (records_there c.args.k c.args.count c.args.first.now) r c.in-Some.after.now c.loop-test.true c.loop.invariant.there c.loop.invariant.same c.in-Some.ensures.reads (c.is_point.ensures.0 c.if-is_point.true)
 
@@ -23,5 +23,5 @@ loop-preserved c =
           (λ same. false≢true (sym c.if-is_point.false ∙ c.is_point.ensures.1 same));
     }
 
-pub returns : goal.returns
-returns c = none_left c.args.k c.args.count c.loop.counter c.loop.rest.now c.args.p.now (records_there c.args.k c.args.count c.args.first.now) c.loop-test.false c.loop.invariant.same
+pub returns-clause-found : goal.returns-clause-found
+returns-clause-found c = none_left c.args.k c.args.count c.loop.counter c.loop.rest.now c.args.p.now (records_there c.args.k c.args.count c.args.first.now) c.loop-test.false c.loop.invariant.same

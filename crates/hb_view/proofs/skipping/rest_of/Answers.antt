@@ -1,8 +1,13 @@
-use Rattle.hb_view.proofs.Skipped.{rest_found, rest_missing}
+use Rattle.std.proofs.Common.{◌≡◌, ℕ, Some, subst, arith}
+use Rattle.hb_view.specs.Behind.{rest_after}
+use Rattle.hb_view.specs.Roots.{rest_there}
+use Rattle.hb_view.proofs.ReadOver.{one_tree, no_tree}
 use Rattle.hb_view.proofs.skipping.rest_of.Goals as goal
 
-pub unreachable-requires : goal.unreachable-requires
-unreachable-requires c = rest_missing c.args.k c.args.bytes.now c.requires.there c.in-None.ensures
+pub loop-trees-init : goal.loop-trees-init
+loop-trees-init c = record { same = one_tree c.args.k c.args.bytes.now c.requires.there; few = omega arith }
 
 pub returns : goal.returns
-returns c = rest_found c.args.k c.args.bytes.now c.in-Some.rest.now c.in-Some.ensures
+returns c =
+    let none : c.loop-trees.trees ≡ 0 = omega arith in
+    no_tree c.args.k c.loop-trees.rest.now (rest_there c.args.k c.args.bytes.now) (subst (λ (n : ℕ). rest_after n c.args.k c.loop-trees.rest.now ≡ Some (rest_there c.args.k c.args.bytes.now)) none c.loop-trees.invariant.same)

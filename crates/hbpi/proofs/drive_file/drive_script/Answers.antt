@@ -1,6 +1,7 @@
 use Rattle.std.proofs.Common.{◌≡◌, ℕ, List, ◌∙◌, sym, ap, subst, arith, inl}
 use Rattle.hb_core.specs.CoreSeen.{core_disk, core_seen}
 use Rattle.hb_core.specs.Showing.{RunningCore}
+use Rattle.hb_core.specs.Taking.{begun_core}
 use Rattle.hb_core.specs.Working.{MayStep}
 use Rattle.hb_disk.specs.Model.{DiskModel}
 use Rattle.hb_space.specs.Actors.{IsActor}
@@ -25,7 +26,7 @@ drive-requires-clause-may g c =
     let begun = begins_script (M (disk_of c.args.store)) c.args.script.lines c.args.script.steps store c.requires.script c.requires.new c.requires.stands c.requires.kept in (
       begun.0,
       subst (λ (x : g.row.D.Denot). MayStep (M x) (core_seen c.in-Ok.core) begun.0) (sym c.in-Ok.ensures.disk)
-          (subst (λ (r : RunningCore). MayStep (M (disk_of c.args.store)) r begun.0) (sym c.in-Ok.ensures.seen) begun.1.may),
+          (subst (λ (r : RunningCore). MayStep (M (disk_of c.args.store)) r begun.0) (sym (c.in-Ok.ensures.seen ∙ ap (begun_core c.args.script.lines c.args.script.steps store) c.requires.uses)) begun.1.may),
     )
 
 pub drive-requires-clause-actors : goal.drive-requires-clause-actors
@@ -40,7 +41,7 @@ returns-in-Ok-clause-ends g c =
     let begun = begins_script (M (disk_of c.args.store)) c.args.script.lines c.args.script.steps store c.requires.script c.requires.new c.requires.stands c.requires.kept in
     let facts : RanScript M S c.args.script.lines c.args.script.steps store (disk_of c.args.store) (core_disk c.in-Ok.core) (core_disk c.drive.result.core) c.finish.result.disk c.args.sink c.drive.result.sink c.finish.result.sink (core_seen c.in-Ok.core) (core_seen c.drive.result.core)
     c.drive.result.end c.drive.result.answered.items c.finish.result.answered.items c.finish.result.order.items c.finish.result.status = record {
-      seen = c.in-Ok.ensures.seen;
+      seen = c.in-Ok.ensures.seen ∙ ap (begun_core c.args.script.lines c.args.script.steps store) c.requires.uses;
       disk = c.in-Ok.ensures.disk;
       unbegun = c.drive.ensures.unbegun;
       drives = c.drive.ensures.drives;
@@ -62,7 +63,7 @@ returns-in-Ok-clause-beyond g c =
     let begun = begins_script (M (disk_of c.args.store)) c.args.script.lines c.args.script.steps store c.requires.script c.requires.new c.requires.stands c.requires.kept in
     let facts : RanScript M S c.args.script.lines c.args.script.steps store (disk_of c.args.store) (core_disk c.in-Ok.core) (core_disk c.drive.result.core) c.finish.result.disk c.args.sink c.drive.result.sink c.finish.result.sink (core_seen c.in-Ok.core) (core_seen c.drive.result.core)
     c.drive.result.end c.drive.result.answered.items c.finish.result.answered.items c.finish.result.order.items c.finish.result.status = record {
-      seen = c.in-Ok.ensures.seen;
+      seen = c.in-Ok.ensures.seen ∙ ap (begun_core c.args.script.lines c.args.script.steps store) c.requires.uses;
       disk = c.in-Ok.ensures.disk;
       unbegun = c.drive.ensures.unbegun;
       drives = c.drive.ensures.drives;

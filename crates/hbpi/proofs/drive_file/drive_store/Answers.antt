@@ -4,7 +4,8 @@ use Rattle.hb_layout.specs.Offsets.{file_size}
 use Rattle.hb_layout.specs.declared.meta.Meta.{Meta}
 use Rattle.hb_restart.proofs.Facts.Beyond.{beyond_none}
 use Rattle.hb_restart.specs.Beyond.{KeepsBeyond}
-use Rattle.hb_store.specs.Seen.{disk_of, seen_as}
+use Rattle.hb_store.specs.Seen.{disk_of, held_by, seen_as}
+use Rattle.hbpi.proofs.Begins.{no_frame}
 use Rattle.hbpi.proofs.StepsTaken.{store_ends}
 use Rattle.hbpi.specs.Outcome.{GetsLine, fault_line}
 use Rattle.hbpi.specs.Schedules.{IsScheduled, IsScript, NotScheduled}
@@ -17,6 +18,9 @@ drive_script-requires-clause-script g c =
 
 pub drive_script-requires-clause-stands : goal.drive_script-requires-clause-stands
 drive_script-requires-clause-stands g c = c.meta.ensures.store.memory.stands
+
+pub drive_script-requires-clause-uses : goal.drive_script-requires-clause-uses
+drive_script-requires-clause-uses g c = no_frame (held_by c.args.store) c.requires.new c.meta.ensures.tied
 
 pub returns-in-Ok-clause-ends : goal.returns-in-Ok-clause-ends
 returns-in-Ok-clause-ends g c =

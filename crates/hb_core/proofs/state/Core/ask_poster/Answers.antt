@@ -1,24 +1,18 @@
-use Rattle.std.proofs.lemmas.Result.{IfOk-weaker, on_err_weaker}
-use Rattle.std.specs.Option.{option_copied}
+use Rattle.std.proofs.Common.{◌∙◌}
+use Rattle.std.proofs.lemmas.Result.{IfOk-weaker}
 use Rattle.hb_activity.specs.Deciding.{deed_of}
 use Rattle.hb_store.specs.Seen.{seen_as}
 use Rattle.hb_core.specs.Looking.{number_of_row}
-use Rattle.hb_core.proofs.Running.SeenRows.{poster_free, poster_said, poster_wants_memory}
+use Rattle.hb_core.proofs.Running.SeenRows.{poster_free, poster_said}
 use Rattle.hb_core.proofs.state.Core.ask_poster.Goals as goal
 
 pub next-requires-clause-free : goal.next-requires-clause-free
 next-requires-clause-free g c =
-    poster_free (seen_as c.args.self.now.store) c.args.state (number_of_row c.args.state c.args.wanted) c.args.free c.page_of-id.result c.live_page-page.result.now (option_copied c.other-other.result) c.meta.result.now
-    c.page_of-id.ensures c.live_page-page.ensures c.other-other.ensures c.meta.ensures.meta c.requires
+    poster_free (seen_as c.args.self.now.store) c.args.state (number_of_row c.args.state c.args.wanted) c.args.free c.page_of-id.result _ _ c.meta-meta.result.now
+    c.page_of-id.ensures c.in_ok-page.ensures (c.as_ref.ensures.value ∙ c.in_ok-other.ensures) c.meta-meta.ensures.meta c.requires
 
-pub returns-clause-row : goal.returns-clause-row
-returns-clause-row g c =
-    IfOk-weaker c.next.result _ _ (λ next row place.
-    poster_said (seen_as c.args.self.now.store) c.args.state (number_of_row c.args.state c.args.wanted) c.args.free c.page_of-id.result c.live_page-page.result.now (option_copied c.other-other.result) c.meta.result.now
-    c.page_of-id.ensures c.live_page-page.ensures c.other-other.ensures c.meta.ensures.meta c.requires (deed_of c.args.state next) row place) c.next.ensures.row
-
-pub returns-clause-memory : goal.returns-clause-memory
-returns-clause-memory g c =
-    on_err_weaker c.next.result
-    (poster_wants_memory (seen_as c.args.self.now.store) c.args.state (number_of_row c.args.state c.args.wanted) c.args.free c.page_of-id.result c.live_page-page.result.now (option_copied c.other-other.result) c.meta.result.now
-    c.page_of-id.ensures c.live_page-page.ensures c.other-other.ensures c.meta.ensures.meta) c.next.ensures.memory
+pub returns : goal.returns
+returns g c =
+    IfOk-weaker c.next.result _ _ (λ next row.
+    poster_said (seen_as c.args.self.now.store) c.args.state (number_of_row c.args.state c.args.wanted) c.args.free c.page_of-id.result _ _ c.meta-meta.result.now
+    c.page_of-id.ensures c.in_ok-page.ensures (c.as_ref.ensures.value ∙ c.in_ok-other.ensures) c.meta-meta.ensures.meta c.requires (deed_of c.args.state next) row) c.next.ensures.row

@@ -1,19 +1,15 @@
-use Rattle.std.proofs.lemmas.Result.{IfOk-weaker, on_err_weaker}
-use Rattle.std.specs.Option.{option_copied}
-use Rattle.hb_activity.specs.Deciding.{deed_of}
+use Rattle.std.proofs.Common.{refl}
+use Rattle.std.proofs.lemmas.Result.{IfOk-weaker}
 use Rattle.hb_store.specs.Seen.{seen_as}
 use Rattle.hb_core.specs.Looking.{number_of_row}
-use Rattle.hb_core.proofs.Running.SeenRows.{search_gathers, search_said}
+use Rattle.hb_core.proofs.Running.SeenWalks.{search_back}
 use Rattle.hb_core.proofs.state.Core.ask_searcher.Goals as goal
 
-pub returns-clause-row : goal.returns-clause-row
-returns-clause-row g c =
-    IfOk-weaker c.next.result _ _ (λ next row place.
-    search_said (seen_as c.args.self.now.store) c.args.state (number_of_row c.args.state c.args.wanted) c.args.free c.page_of-id.result c.live_page-page.result.now (option_copied c.other-other.result) c.meta.result.now
-    c.page_of-id.ensures c.live_page-page.ensures c.other-other.ensures c.meta.ensures.meta c.requires (deed_of c.args.state next) row place) c.next.ensures.row
+pub returns-in-Ok-clause-row : goal.returns-in-Ok-clause-row
+returns-in-Ok-clause-row g c =
+    search_back (seen_as c.args.self.now.store) c.args.state c.args.state (number_of_row c.args.state c.args.wanted) c.page_of-id.result c.page_of-id.ensures refl c.in-Ok.next c.in-Ok.ensures.passes
 
-pub returns-clause-memory : goal.returns-clause-memory
-returns-clause-memory g c =
-    on_err_weaker c.next.result
-    (search_gathers (seen_as c.args.self.now.store) c.args.state (number_of_row c.args.state c.args.wanted) c.args.free c.page_of-id.result c.live_page-page.result.now (option_copied c.other-other.result) c.meta.result.now
-    c.page_of-id.ensures c.live_page-page.ensures c.other-other.ensures c.meta.ensures.meta) c.next.ensures.memory
+pub returns-in-Err-clause-row : goal.returns-in-Err-clause-row
+returns-in-Err-clause-row g c =
+    IfOk-weaker c.gather.result _ _
+    (search_back (seen_as c.args.self.now.store) c.args.state c.in-Err.state (number_of_row c.args.state c.args.wanted) c.page_of-id.result c.page_of-id.ensures c.in-Err.ensures.same) c.gather.ensures

@@ -1,13 +1,15 @@
 use Rattle.std.proofs.lemmas.Result.{IfOk-weaker}
-use Rattle.std.specs.Option.{option_copied}
 use Rattle.hb_activity.specs.Deciding.{deed_of}
 use Rattle.hb_store.specs.Seen.{seen_as}
 use Rattle.hb_core.specs.Looking.{number_of_row}
-use Rattle.hb_core.proofs.Running.SeenRows.{point_said}
+use Rattle.hb_core.proofs.Running.SeenWalks.{point_back}
 use Rattle.hb_core.proofs.state.Core.ask_session.Goals as goal
+
+pub returns-then-is_walk-clause-row : goal.returns-then-is_walk-clause-row
+returns-then-is_walk-clause-row g c =
+    point_back (seen_as c.args.self.now.store) c.args.state (number_of_row c.args.state c.args.wanted) c.page_of-id.result c.page_of-id.ensures (deed_of c.args.state c.walk_to_point.result) c.walk_to_point.ensures
 
 pub returns-clause-row : goal.returns-clause-row
 returns-clause-row g c =
-    IfOk-weaker c.next.result _ _ (λ next row place.
-    point_said (seen_as c.args.self.now.store) c.args.state (number_of_row c.args.state c.args.wanted) c.args.free c.page_of-id.result c.live_page-page.result.now (option_copied c.other-other.result) c.meta.result.now
-    c.page_of-id.ensures c.live_page-page.ensures c.other-other.ensures c.meta.ensures.meta c.requires (deed_of c.args.state next) row place) c.next.ensures.row
+    IfOk-weaker c.part_or_put.result _ _ (λ next.
+    point_back (seen_as c.args.self.now.store) c.args.state (number_of_row c.args.state c.args.wanted) c.page_of-id.result c.page_of-id.ensures (deed_of c.args.state next)) c.part_or_put.ensures

@@ -4,7 +4,7 @@ use Rattle.hb_core.specs.declared.outcomes.Outcome.TheVariants as outcomes
 use Rattle.hb_core.proofs.Running.PlacesAwaited.{await_answered, await_failed, await_forced, awaits_as}
 use Rattle.hb_core.proofs.Running.Touched.{failed_then, kept_well, moved_well, touched_forced, untouched, well_as}
 use Rattle.hb_core.specs.CoreSeen.{core_disk, core_seen}
-use Rattle.hb_store.specs.Seen.{seen_as}
+use Rattle.hb_store.specs.Seen.{seen_as, uses_of}
 
 pub answer_kept-requires : goal.answer_kept-requires
 answer_kept-requires g c =
@@ -31,17 +31,17 @@ pub returns-in-Ok : goal.returns-in-Ok
 returns-in-Ok g c = record {
   steps = λ m step number reply runs is.
       await_forced g.D.Device.model (core_disk c.args.self.now) c.force.new.self.disk (core_seen c.args.self.now) m c.args.actor number c.args.place c.settled.result reply step c.settled.ensures
-      c.in-Ok.field-0 (seen_as c.force.new.self) c.if-place-settled.false c.in-Ok.ensures;
-  touches = touched_forced g.D.Device.model (core_disk c.args.self.now) c.force.new.self.disk (core_seen c.args.self.now) _ outcomes.Moved c.in-Ok.field-0 moved_well c.in-Ok.ensures;
+      c.in-Ok.field-0 (seen_as c.force.new.self) (uses_of c.force.new.self) c.if-place-settled.false c.in-Ok.ensures.writes c.in-Ok.ensures.uses;
+  touches = touched_forced g.D.Device.model (core_disk c.args.self.now) c.force.new.self.disk (core_seen c.args.self.now) _ outcomes.Moved c.in-Ok.field-0 moved_well c.in-Ok.ensures.writes;
 }
 
 pub returns-in-Err : goal.returns-in-Err
 returns-in-Err g c = record {
   steps = λ m step number reply runs is.
       await_failed g.D.Device.model (core_disk c.args.self.now) c.force.new.self.disk (core_seen c.args.self.now) m c.args.actor number c.args.place c.settled.result reply step c.settled.ensures
-      c.in-Err._fault (seen_as c.force.new.self) (core_disk c.stop_for.new.self) (core_seen c.stop_for.new.self) c.stop_for.result c.if-place-settled.false c.in-Err.ensures
+      c.in-Err._fault (seen_as c.force.new.self) (uses_of c.force.new.self) (core_disk c.stop_for.new.self) (core_seen c.stop_for.new.self) c.stop_for.result c.if-place-settled.false c.in-Err.ensures.writes c.in-Err.ensures.uses
       c.stop_for.ensures.says c.stop_for.ensures.stops.does c.stop_for.ensures.stops.disk;
   touches =
-      failed_then g.D.Device.model (core_disk c.args.self.now) c.force.new.self.disk (core_disk c.stop_for.new.self) (core_seen c.args.self.now) (core_seen c.stop_for.new.self) (seen_as c.force.new.self) c.stop_for.result
-      c.in-Err._fault c.in-Err.ensures c.stop_for.ensures.says c.stop_for.ensures.stops.does c.stop_for.ensures.stops.disk;
+      failed_then g.D.Device.model (core_disk c.args.self.now) c.force.new.self.disk (core_seen c.args.self.now) (seen_as c.force.new.self) (uses_of c.force.new.self) (core_disk c.stop_for.new.self) (core_seen c.stop_for.new.self) c.stop_for.result
+      c.in-Err._fault c.in-Err.ensures.writes c.stop_for.ensures.says c.stop_for.ensures.stops.does c.stop_for.ensures.stops.disk;
 }

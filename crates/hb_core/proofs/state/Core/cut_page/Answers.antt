@@ -1,6 +1,6 @@
-use Rattle.std.proofs.Common.{Some, ap, ◌∙◌}
-use Rattle.hb_frag.specs.declared.pages.Page.TheVariants.{Live}
+use Rattle.hb_store.specs.Seen.{seen_as}
+use Rattle.hb_core.proofs.Running.Boxes.{cut_well}
 use Rattle.hb_core.proofs.state.Core.cut_page.Goals as goal
 
-pub returns-in-Some-Live-clause-cut : goal.returns-in-Some-Live-clause-cut
-returns-in-Some-Live-clause-cut g c = (c.get.ensures.store.memory.good c.args.id (Live c.in-Some-Live.page) (c.in-Some-Live.ensures.page ∙ ap Some c.in-Some-Live.field-0-is)).2.1.well_cut
+pub returns-then-is_live-clause-cut : goal.returns-then-is_live-clause-cut
+returns-then-is_live-clause-cut g c = cut_well (seen_as c.args.self.now.store) c.in_ok-view.ensures.store.memory c.args.id c.in_ok-view.view c.in_ok-view.ensures.page (c.is_live.ensures.0 c.if-is_live.true)

@@ -4,8 +4,8 @@ use Rattle.std.proofs.lemmas.Result.{IfOk-weaker, on_err_weaker}
 use Rattle.hb_activity.specs.declared.activities.Activity.{Activity}
 use Rattle.hb_activity.specs.Deciding.{deed_of}
 use Rattle.hb_core.proofs.Running.Decided.{decided_merger, decided_poster, decided_search, decided_session, may_ask_merger, may_ask_poster, may_ask_searcher, may_ask_session}
-use Rattle.hb_core.proofs.Running.Starved.{poster_starved, search_starved, session_starved}
-use Rattle.hb_core.proofs.Running.StarvedMerger.{merger_starved}
+use Rattle.hb_core.proofs.Running.DecodedFor.{merger_decodes, poster_decodes, search_decodes, session_decodes}
+use Rattle.hb_terms.proofs.Facts.Owing.{on_err_anyway}
 use Rattle.hb_core.specs.CoreSeen.{core_disk, core_seen}
 use Rattle.hb_core.specs.Moving.{placed}
 use Rattle.hb_core.specs.Showing.{RunningCore}
@@ -40,7 +40,7 @@ returns-then-walks_to_search-clause-row g c =
 pub returns-then-walks_to_search-clause-memory : goal.returns-then-walks_to_search-clause-memory
 returns-then-walks_to_search-clause-memory g c =
     on_err_weaker c.ask_searcher.result (λ gathers m has.
-    search_starved (g.D.Device.model (core_disk c.args.self.now)) (core_seen c.args.self.now) m c.args.actor c.args.free c.requires.actor has c.replace-state.result c.args.wanted (core_seen c.replace-state.new.self).store
+    search_decodes (g.D.Device.model (core_disk c.args.self.now)) (core_seen c.args.self.now) m c.args.actor c.args.free c.requires.actor has c.replace-state.result c.args.wanted (core_seen c.replace-state.new.self).store
     c.replace-state.ensures.old (c.requires.wanted m has) (ap (λ (core : RunningCore). core.store) c.replace-state.ensures.new.does) (c.walks_to_search.ensures.0 c.if-walks_to_search.true) gathers) c.ask_searcher.ensures.memory
 
 pub returns-then-actor-eq-POSTER-clause-row : goal.returns-then-actor-eq-POSTER-clause-row
@@ -48,13 +48,12 @@ returns-then-actor-eq-POSTER-clause-row g c =
     IfOk-weaker c.ask_poster.result _ _ (λ next row m has.
     decided_poster (g.D.Device.model (core_disk c.args.self.now)) (core_seen c.args.self.now) m c.args.actor c.args.free c.requires.actor has c.replace-state.result c.args.wanted (core_seen c.replace-state.new.self).store
     (λ (activity : Activity). placed (length m.order) (deed_of activity next)) c.replace-state.ensures.old (c.requires.wanted m has) (ap (λ (core : RunningCore). core.store) c.replace-state.ensures.new.does)
-    c.if-actor-eq-POSTER.true (row (length m.order))) c.ask_poster.ensures.row
+    c.if-actor-eq-POSTER.true (row (length m.order))) c.ask_poster.ensures
 
 pub returns-then-actor-eq-POSTER-clause-memory : goal.returns-then-actor-eq-POSTER-clause-memory
 returns-then-actor-eq-POSTER-clause-memory g c =
-    on_err_weaker c.ask_poster.result (λ asks m has.
-    poster_starved (g.D.Device.model (core_disk c.args.self.now)) (core_seen c.args.self.now) m c.args.actor c.args.free c.requires.actor has c.replace-state.result c.args.wanted (core_seen c.replace-state.new.self).store
-    c.replace-state.ensures.old (c.requires.wanted m has) (ap (λ (core : RunningCore). core.store) c.replace-state.ensures.new.does) c.if-actor-eq-POSTER.true asks) c.ask_poster.ensures.memory
+    on_err_anyway c.ask_poster.result (λ m has.
+    poster_decodes (g.D.Device.model (core_disk c.args.self.now)) (core_seen c.args.self.now) m c.args.actor c.args.free c.requires.actor has c.replace-state.result c.replace-state.ensures.old c.if-actor-eq-POSTER.true)
 
 pub returns-else-actor-eq-CONSOLIDATOR-clause-row : goal.returns-else-actor-eq-CONSOLIDATOR-clause-row
 returns-else-actor-eq-CONSOLIDATOR-clause-row g c =
@@ -66,7 +65,7 @@ returns-else-actor-eq-CONSOLIDATOR-clause-row g c =
 pub returns-else-actor-eq-CONSOLIDATOR-clause-memory : goal.returns-else-actor-eq-CONSOLIDATOR-clause-memory
 returns-else-actor-eq-CONSOLIDATOR-clause-memory g c =
     on_err_weaker c.ask_session.result (λ splits m has.
-    session_starved (g.D.Device.model (core_disk c.args.self.now)) (core_seen c.args.self.now) m c.args.actor c.args.free c.requires.actor has c.replace-state.result c.replace-state.ensures.old splits) c.ask_session.ensures.memory
+    session_decodes (g.D.Device.model (core_disk c.args.self.now)) (core_seen c.args.self.now) m c.args.actor c.args.free c.requires.actor has c.replace-state.result c.replace-state.ensures.old splits) c.ask_session.ensures.memory
 
 pub ask_merger-requires : goal.ask_merger-requires
 ask_merger-requires g c =
@@ -79,10 +78,9 @@ returns-then-actor-eq-CONSOLIDATOR-clause-row g c =
     IfOk-weaker c.ask_merger.result _ _ (λ next row m has.
     decided_merger (g.D.Device.model (core_disk c.args.self.now)) (core_seen c.args.self.now) m c.args.actor c.args.free c.requires.actor has c.replace-state.result c.args.wanted (core_seen c.replace-state.new.self).store
     (λ (activity : Activity). placed (length m.order) (deed_of activity next)) c.replace-state.ensures.old (c.requires.wanted m has) (ap (λ (core : RunningCore). core.store) c.replace-state.ensures.new.does)
-    c.if-actor-eq-CONSOLIDATOR.true (row (length m.order))) c.ask_merger.ensures.row
+    c.if-actor-eq-CONSOLIDATOR.true (row (length m.order))) c.ask_merger.ensures
 
 pub returns-then-actor-eq-CONSOLIDATOR-clause-memory : goal.returns-then-actor-eq-CONSOLIDATOR-clause-memory
 returns-then-actor-eq-CONSOLIDATOR-clause-memory g c =
-    on_err_weaker c.ask_merger.result (λ lacks m has.
-    merger_starved (g.D.Device.model (core_disk c.args.self.now)) (core_seen c.args.self.now) m c.args.actor c.args.free c.requires.actor has c.replace-state.result c.args.wanted (core_seen c.replace-state.new.self).store
-    c.replace-state.ensures.old (c.requires.wanted m has) (ap (λ (core : RunningCore). core.store) c.replace-state.ensures.new.does) c.if-actor-eq-CONSOLIDATOR.true lacks) c.ask_merger.ensures.memory
+    on_err_anyway c.ask_merger.result (λ m has.
+    merger_decodes (g.D.Device.model (core_disk c.args.self.now)) (core_seen c.args.self.now) m c.args.actor c.args.free c.requires.actor has c.replace-state.result c.replace-state.ensures.old c.if-actor-eq-CONSOLIDATOR.true)

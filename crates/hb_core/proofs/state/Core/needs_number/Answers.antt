@@ -1,31 +1,23 @@
-use Rattle.std.specs.Option.{option_copied}
-use Rattle.hb_core.specs.CoreSeen.{core_seen}
+use Rattle.std.proofs.lemmas.Result.{IfOk-weaker}
+use Rattle.hb_terms.proofs.Facts.Owing.{on_err_anyway}
+use Rattle.hb_core.specs.CoreSeen.{core_disk, core_seen}
+use Rattle.hb_core.proofs.Running.Postings.{asks_number, makes_to_post, number_decodes, number_said}
 use Rattle.hb_core.proofs.state.Core.needs_number.Goals as goal
-use Rattle.hb_core.proofs.Running.Postings.{asked_here, fits_here, makes_to_post, needed_here, not_missing}
 
-pub needs_number-requires-clause-made : goal.needs_number-requires-clause-made
-needs_number-requires-clause-made g c =
+pub makes_page-requires : goal.makes_page-requires
+makes_page-requires g c =
     let m = c.requires.come.0 in
-    fits_here m (g.D.Device.model c.args.self.now.store.disk) (core_seen c.args.self.now) c.args.actor c.requires.actor c.requires.come.1 c.activity-activity.result.now c.activity-activity.ensures
+    asks_number m (g.D.Device.model (core_disk c.args.self.now)) (core_seen c.args.self.now) c.args.actor c.requires.actor c.requires.come.1 c.activity-activity.result.now c.activity-activity.ensures
     (makes_to_post c.activity-activity.result.now c.in-PosterGrow.is) c.args.wanted (c.requires.wanted m c.requires.come.1) c.page_of.result c.page_of.ensures
-    c.in-Some.page.now c.in-Some.ensures c.meta.result.now c.meta.ensures.meta (option_copied c.other.result) c.other.ensures
 
-pub needs_number-requires-clause-asked : goal.needs_number-requires-clause-asked
-needs_number-requires-clause-asked g c =
-    let m = c.requires.come.0 in
-    asked_here m (g.D.Device.model c.args.self.now.store.disk) (core_seen c.args.self.now) c.args.actor c.requires.actor c.requires.come.1 c.activity-activity.result.now c.activity-activity.ensures
-    (makes_to_post c.activity-activity.result.now c.in-PosterGrow.is) c.args.wanted (c.requires.wanted m c.requires.come.1) c.page_of.result c.page_of.ensures
-    c.in-Some.page.now c.in-Some.ensures c.meta.result.now c.meta.ensures.meta (option_copied c.other.result) c.other.ensures
+pub returns-in-PosterGrow-clause-needs : goal.returns-in-PosterGrow-clause-needs
+returns-in-PosterGrow-clause-needs g c =
+    IfOk-weaker c.makes_page.result _ _ (λ makes says m come.
+    number_said m (g.D.Device.model (core_disk c.args.self.now)) (core_seen c.args.self.now) c.args.actor c.requires.actor come c.activity-activity.result.now c.activity-activity.ensures
+    (makes_to_post c.activity-activity.result.now c.in-PosterGrow.is) c.args.wanted (c.requires.wanted m come) c.page_of.result c.page_of.ensures makes says) c.makes_page.ensures
 
-pub unreachable-requires : goal.unreachable-requires
-unreachable-requires g c =
-    let m = c.requires.come.0 in
-    not_missing m (g.D.Device.model c.args.self.now.store.disk) (core_seen c.args.self.now) c.args.actor c.requires.actor c.requires.come.1 c.activity-activity.result.now c.activity-activity.ensures
-    (makes_to_post c.activity-activity.result.now c.in-PosterGrow.is) c.args.wanted (c.requires.wanted m c.requires.come.1) c.page_of.result c.page_of.ensures
-    c.in-None.ensures
-
-pub returns-in-Some : goal.returns-in-Some
-returns-in-Some g c m come =
-    needed_here m (g.D.Device.model c.args.self.now.store.disk) (core_seen c.args.self.now) c.args.actor c.requires.actor come c.activity-activity.result.now c.activity-activity.ensures
-    (makes_to_post c.activity-activity.result.now c.in-PosterGrow.is) c.args.wanted (c.requires.wanted m come) c.page_of.result c.page_of.ensures
-    c.in-Some.page.now c.in-Some.ensures c.meta.result.now c.meta.ensures.meta (option_copied c.other.result) c.other.ensures c.needs_number.result c.needs_number.ensures
+pub returns-in-PosterGrow-clause-memory : goal.returns-in-PosterGrow-clause-memory
+returns-in-PosterGrow-clause-memory g c =
+    on_err_anyway c.makes_page.result (λ m come.
+    number_decodes m (g.D.Device.model (core_disk c.args.self.now)) (core_seen c.args.self.now) c.args.actor c.requires.actor come c.activity-activity.result.now c.activity-activity.ensures
+    (makes_to_post c.activity-activity.result.now c.in-PosterGrow.is) c.args.wanted (c.requires.wanted m come) c.page_of.result c.page_of.ensures)

@@ -1,21 +1,42 @@
-use Rattle.std.proofs.Common.{refl, sym, subst}
-use Rattle.hb_store.specs.Seen.{seen_as}
-use Rattle.hb_core.specs.Moving.{with_store}
-use Rattle.hb_core.specs.declared.halts.Halt.{Halt}
+use Rattle.std.proofs.Common.{Err, ap, inl, inr, subst, sym, ◌∙◌}
+use Rattle.std.proofs.lemmas.Bool.{false≢true}
+use Rattle.hb_store.specs.Seen.{seen_as, uses_of}
 use Rattle.hb_core.specs.CoreSeen.{core_seen}
-use Rattle.hb_core.specs.Working.{Halts}
+use Rattle.hb_core.specs.Working.{HaltsPinned}
+use Rattle.hb_core.specs.declared.halts.Halt.{Halt}
+use Rattle.hb_core.proofs.Running.Numbered.{came_by_chain, head_halts, head_not_crowded, none_given, number_refused, number_then, reads_halted, reads_on}
 use Rattle.hb_core.proofs.state.Core.number.Goals as goal
-use Rattle.hb_core.proofs.Running.Numbered.{head_halts, number_then}
 
-pub returns-in-Ok-clause-numbered : goal.returns-in-Ok-clause-numbered
-returns-in-Ok-clause-numbered g c m come =
-    number_then m (g.D.Device.model c.args.self.now.store.disk) (core_seen c.args.self.now) c.args.actor c.requires.actor come ((c.if-not-needs_number.ensures m come).0 refl)
-    (g.D.Device.model c.next_page-next.new.self.disk) _ (seen_as c.next_page-next.new.self) c.in-Ok.ensures.looks c.meta.ensures.store.memory c.in-Ok.ensures.fetches
-    c.in-Ok.next c.in-Ok.ensures.next c.in-Ok.ensures.room
+pub returns-in-Ok-false-clause-numbered : goal.returns-in-Ok-false-clause-numbered
+returns-in-Ok-false-clause-numbered g c m come =
+    none_given m (g.D.Device.model c.args.self.now.store.disk) (core_seen c.args.self.now) c.args.actor come (λ needs. false≢true (sym c.in-Ok-false.field-0-test ∙ (c.in-Ok-false.ensures.needs m come).1 needs))
 
 pub returns-in-Err-clause-halts : goal.returns-in-Err-clause-halts
 returns-in-Err-clause-halts g c m come =
-    subst (λ (h : Halt). Halts m c.args.actor h (g.D.Device.model c.next_page-next.new.self.disk) (with_store (seen_as c.next_page-next.new.self) (core_seen c.args.self.now))) (sym c.from.ensures)
-    (head_halts m (g.D.Device.model c.args.self.now.store.disk) (core_seen c.args.self.now) c.args.actor c.requires.actor come ((c.if-not-needs_number.ensures m come).0 refl)
-    (g.D.Device.model c.next_page-next.new.self.disk) _ (seen_as c.next_page-next.new.self) c.in-Err.ensures.looks c.meta.ensures.store.memory c.in-Err.ensures.fetches
-    c.in-Err.stop c.in-Err.ensures.why c.in-Err.ensures.sound)
+    subst (λ (h : Halt). HaltsPinned m c.args.actor h (g.D.Device.model c.args.self.now.store.disk) (core_seen c.args.self.now)) (sym c.from.ensures)
+    (number_refused m (g.D.Device.model c.args.self.now.store.disk) (core_seen c.args.self.now) c.args.actor c.requires.actor come (c.in-Err.ensures.memory m come))
+
+pub halt_of-requires : goal.halt_of-requires
+halt_of-requires g c is =
+    head_not_crowded c.requires.come.0 (g.D.Device.model c.args.self.now.store.disk) (core_seen c.args.self.now) c.args.actor c.requires.come.1 ((c.in-Ok-true.ensures.needs c.requires.come.0 c.requires.come.1).0 c.in-Ok-true.field-0-test)
+    (c.in-Err-next.ensures.crowded (ap Err is)).1
+
+pub returns-in-Ok-clause-numbered : goal.returns-in-Ok-clause-numbered
+returns-in-Ok-clause-numbered g c m come =
+    number_then m (g.D.Device.model c.args.self.now.store.disk) (core_seen c.args.self.now) c.args.actor c.requires.actor come ((c.in-Ok-true.ensures.needs m come).0 c.in-Ok-true.field-0-test)
+    (g.D.Device.model c.next_page-next.new.self.disk) _ (seen_as c.next_page-next.new.self) c.in-Ok.ensures.looks c.meta.ensures.store.memory c.in-Ok.ensures.fetches c.in-Ok.ensures.stays
+    (uses_of c.next_page-next.new.self) c.in-Ok.ensures.uses c.meta.ensures.tied c.in-Ok.next c.in-Ok.ensures.next c.in-Ok.ensures.room
+
+pub returns-in-Err-next-clause-halts : goal.returns-in-Err-next-clause-halts
+returns-in-Err-next-clause-halts g c m come =
+    head_halts m (g.D.Device.model c.args.self.now.store.disk) (core_seen c.args.self.now) c.args.actor c.requires.actor come ((c.in-Ok-true.ensures.needs m come).0 c.in-Ok-true.field-0-test)
+    (g.D.Device.model c.next_page-next.new.self.disk) _ (seen_as c.next_page-next.new.self) c.in-Err-next.ensures.looks c.meta.ensures.store.memory c.in-Err-next.ensures.fetches c.in-Err-next.ensures.stays
+    (uses_of c.next_page-next.new.self) c.in-Err-next.ensures.may_use (came_by_chain (core_seen c.args.self.now).store.meta (core_seen c.args.self.now).uses (uses_of c.next_page-next.new.self) (λ none. (c.in-Err-next.ensures.unread (inr (inl none))).2)) c.meta.ensures.tied
+    c.in-Err-next.stop c.halt_of.result c.halt_of.ensures c.in-Err-next.ensures.why c.in-Err-next.ensures.sound
+
+pub returns-in-Ok-clause-reads : goal.returns-in-Ok-clause-reads
+returns-in-Ok-clause-reads g c = reads_on c.in-Ok.next (g.D.Device.model c.args.self.now.store.disk) (g.D.Device.model c.next_page-next.new.self.disk) c.in-Ok.ensures.looks.only
+
+pub returns-in-Err-next-clause-reads : goal.returns-in-Err-next-clause-reads
+returns-in-Err-next-clause-reads g c =
+    reads_halted c.in-Err-next.stop c.halt_of.result (g.D.Device.model c.args.self.now.store.disk) (g.D.Device.model c.next_page-next.new.self.disk) c.halt_of.ensures c.in-Err-next.ensures.looks.only

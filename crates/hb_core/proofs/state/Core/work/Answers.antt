@@ -1,10 +1,12 @@
-use Rattle.std.proofs.Common.{inl, inr, sym, subst}
+use Rattle.std.proofs.Common.{ℕ, List, inl, inr, sym, subst, ◌∙◌}
+use Rattle.hb_core.specs.Pinning.{CanUnpin}
+use Rattle.hb_core.proofs.Running.Holds.{may_give_up}
 use Rattle.hb_disk.specs.Calls.{ReadsOnly}
 use Rattle.hb_core.specs.declared.halts.Halt.{Halt}
 use Rattle.hb_core.specs.CoreSeen.{core_seen, core_disk}
 use Rattle.hb_core.specs.Touching.{IsReadHalt, Touches}
 use Rattle.hb_core.specs.Working.{Halts, IsStop}
-use Rattle.hb_core.proofs.Running.WorkDone.{blocked, given_up, holds_line, looks_now, may_work, stopped, unready, wants, way_free, works_too}
+use Rattle.hb_core.proofs.Running.WorkDone.{blocked, given_up, holds_line, holds_pages, looks_now, may_work, stopped, unready, walks_here, wants, way_free, works_too}
 use Rattle.hb_core.proofs.Running.WorkTouches.{done_touches, given_up_touches, row_well, stopped_touches}
 use Rattle.hb_core.proofs.state.Core.work.Goals as goal
 
@@ -24,7 +26,7 @@ returns-then-is_unready-clause-works g c m step runs works =
       done.0,
       inr (inl (
         way_free (g.D.Device.model (core_disk c.args.self.now)) (core_seen c.args.self.now) m c.args.actor c.requires.actor step c.wanted-wanted.result (wants (g.D.Device.model (core_disk c.args.self.now)) (core_seen c.args.self.now) m c.args.actor c.requires.actor step c.wanted-wanted.result c.wanted-wanted.ensures) (c.in_the_way.ensures.free c.in_default.is),
-        unready (g.D.Device.model (core_disk c.args.self.now)) (core_seen c.args.self.now) m c.args.actor c.requires.actor step c.is_unready.result c.is_unready.ensures c.if-is_unready.true,
+        unready (g.D.Device.model (core_disk c.args.self.now)) (core_seen c.args.self.now) m c.args.actor c.requires.actor step c.wanted-wanted.result c.is_unready.result (wants (g.D.Device.model (core_disk c.args.self.now)) (core_seen c.args.self.now) m c.args.actor c.requires.actor step c.wanted-wanted.result c.wanted-wanted.ensures) c.is_unready.ensures c.if-is_unready.true,
         done.1,
       )),
       done.2,
@@ -41,6 +43,31 @@ do_row-requires-clause-row g c =
       may = (m, step, may_work (g.D.Device.model (core_disk c.args.self.now)) (core_seen c.args.self.now) m c.args.actor c.requires.actor step c.wanted-wanted.result c.is_unready.result runs works c.wanted-wanted.ensures (c.in_the_way.ensures.free c.in_default.is) c.is_unready.ensures c.if-is_unready.false);
       wanted = λ n its. wants (g.D.Device.model (core_disk c.args.self.now)) (core_seen c.args.self.now) n c.args.actor c.requires.actor its c.wanted-wanted.result c.wanted-wanted.ensures;
     }
+
+pub held_pages-pins-requires-clause-walks : goal.held_pages-pins-requires-clause-walks
+held_pages-pins-requires-clause-walks g c = walks_here (g.D.Device.model (core_disk c.args.self.now)) (core_seen c.args.self.now) c.requires.may.0 c.args.actor c.requires.actor c.requires.may.1
+
+pub do_row-requires-clause-pins : goal.do_row-requires-clause-pins
+do_row-requires-clause-pins g c m step = c.as_slice.ensures.value ∙ holds_pages (g.D.Device.model (core_disk c.args.self.now)) (core_seen c.args.self.now) m c.args.actor c.requires.actor step c.held_pages-pins.result.items c.held_pages-pins.ensures
+
+pub give_up-requires-clause-pins : goal.give_up-requires-clause-pins
+give_up-requires-clause-pins g c =
+    let m = c.requires.may.0 in
+    let step = c.requires.may.1 in
+    let runs = c.requires.may.2 in
+    let works = c.requires.may.3 in
+    let work = may_work (g.D.Device.model (core_disk c.args.self.now)) (core_seen c.args.self.now) m c.args.actor c.requires.actor step c.wanted-wanted.result c.is_unready.result runs works c.wanted-wanted.ensures (c.in_the_way.ensures.free c.in_default.is) c.is_unready.ensures c.if-is_unready.false in
+    let halts = c.in-Err-GivesUp.ensures.halts m step work in
+    subst (λ (l : List ℕ). CanUnpin l (core_seen c.do_row.new.self).uses) (sym (c.as_slice-in-Err-GivesUp.ensures.value ∙ holds_pages (g.D.Device.model (core_disk c.args.self.now)) (core_seen c.args.self.now) m c.args.actor c.requires.actor step c.held_pages-pins.result.items c.held_pages-pins.ensures))
+    (may_give_up m c.args.actor (core_seen c.do_row.new.self).store (core_seen c.do_row.new.self).uses c.requires.actor work.goes_on.kept halts.tied halts.used_is)
+
+pub give_up-requires-clause-tied : goal.give_up-requires-clause-tied
+give_up-requires-clause-tied g c =
+    let m = c.requires.may.0 in
+    let step = c.requires.may.1 in
+    let runs = c.requires.may.2 in
+    let works = c.requires.may.3 in
+    (c.in-Err-GivesUp.ensures.halts m step (may_work (g.D.Device.model (core_disk c.args.self.now)) (core_seen c.args.self.now) m c.args.actor c.requires.actor step c.wanted-wanted.result c.is_unready.result runs works c.wanted-wanted.ensures (c.in_the_way.ensures.free c.in_default.is) c.is_unready.ensures c.if-is_unready.false)).tied
 
 pub do_row-requires-clause-line : goal.do_row-requires-clause-line
 do_row-requires-clause-line g c m step =
@@ -65,9 +92,10 @@ pub returns-in-Err-GivesUp-clause-works : goal.returns-in-Err-GivesUp-clause-wor
 returns-in-Err-GivesUp-clause-works g c m step runs works =
     let work = may_work (g.D.Device.model (core_disk c.args.self.now)) (core_seen c.args.self.now) m c.args.actor c.requires.actor step c.wanted-wanted.result c.is_unready.result runs works c.wanted-wanted.ensures (c.in_the_way.ensures.free c.in_default.is) c.is_unready.ensures c.if-is_unready.false in
     given_up g.D.Device.model (core_disk c.do_row.new.self) (core_disk c.give_up.new.self) (core_seen c.do_row.new.self) (core_seen c.give_up.new.self) m c.args.actor c.requires.actor work c.give_up.ensures.disk
-    c.in-Err-GivesUp.why c.line_in_hand-line.result c.give_up.result
+    c.in-Err-GivesUp.why c.line_in_hand-line.result c.as_slice-in-Err-GivesUp.result.now c.give_up.result
     (subst (λ (h : Halt). Halts m c.args.actor h (g.D.Device.model (core_disk c.do_row.new.self)) (core_seen c.do_row.new.self)) c.in-Err-GivesUp.field-0-is (c.in-Err-GivesUp.ensures.halts m step work))
-    (holds_line (g.D.Device.model (core_disk c.args.self.now)) (core_seen c.args.self.now) m c.args.actor c.requires.actor step c.line_in_hand-line.result works c.line_in_hand-line.ensures) c.give_up.ensures.does
+    (holds_line (g.D.Device.model (core_disk c.args.self.now)) (core_seen c.args.self.now) m c.args.actor c.requires.actor step c.line_in_hand-line.result works c.line_in_hand-line.ensures)
+    (c.as_slice-in-Err-GivesUp.ensures.value ∙ holds_pages (g.D.Device.model (core_disk c.args.self.now)) (core_seen c.args.self.now) m c.args.actor c.requires.actor step c.held_pages-pins.result.items c.held_pages-pins.ensures) c.give_up.ensures.does
 
 pub returns-in-Err-GivesUp-clause-touches : goal.returns-in-Err-GivesUp-clause-touches
 returns-in-Err-GivesUp-clause-touches g c =

@@ -1,4 +1,4 @@
-use Rattle.std.proofs.Common.{◌≡◌, ◌++◌, ◌∷◌, [], List, ap, ◌∙◌, arith}
+use Rattle.std.proofs.Common.{ℕ, ◌≡◌, ◌++◌, ◌∷◌, [], List, ap, ◌∙◌, arith}
 use Rattle.hb_pool.specs.Frames.{Frame, fresh}
 use Rattle.hb_pool.specs.Pools.{brought}
 use Rattle.hb_pool.proofs.Pooled.{kept_brought, room_there, room_to_bring, same_room}
@@ -17,8 +17,8 @@ push_reserved-requires c =
 came : (c : goal.After-push_reserved) → c.push_reserved.new.self.items ≡ brought c.args.id c.args.bytes.now c.args.dirty c.self.inside.used.items
 came c =
     c.push_reserved.ensures.items
-    ∙ ap (λ (f : Frame). c.make_room-block.new.used.items ++ f ∷ []) c.new.ensures
-    ∙ ap (λ (xs : List Frame). xs ++ fresh c.args.id c.args.bytes.now c.args.dirty ∷ []) (c.make_room-block.ensures.left ∙ same_room _ _ _ _ c.self.invariant)
+    ∙ ap (λ (f : Frame (List ℕ)). c.make_room-block.new.used.items ++ f ∷ []) c.new.ensures
+    ∙ ap (λ (xs : List (Frame (List ℕ))). xs ++ fresh c.args.id c.args.bytes.now c.args.dirty ∷ []) (c.make_room-block.ensures.left ∙ same_room _ _ _ _ c.self.invariant)
 
 pub invariant_of-self : goal.invariant_of-self
 invariant_of-self c =

@@ -32,7 +32,7 @@ invariant_of-self c =
     kept_changed _ _ _ _ _ _ c.args.id clean c.index_mut-written.result.now c.self.invariant is
     (changed_there (has_id c.args.id) clean _ _ _ _ _ c.as_slice.ensures.value c.place_of-place.ensures there c.index_mut-written.ensures.value c.clean.ensures)
     (c.one_if.ensures ∙ ap (λ b. cond (not b) 1 0) (c.must_stay.ensures ∙ ap must_stay c.clean.ensures))
-    refl (omega (arith, few)) (frame_page _ c.args.id c.index_mut-written.result.now c.self.invariant.pool is) (dirty_stays c.index_mut-written.result.now dirty)
+    refl (omega (arith, few)) (frame_page _ c.args.id c.index_mut-written.result.now c.self.invariant.pages is) (dirty_stays c.index_mut-written.result.now dirty)
 
 pub returns : goal.returns
 returns c =

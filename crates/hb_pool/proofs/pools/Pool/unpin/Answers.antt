@@ -39,7 +39,7 @@ invariant_of-self c =
     kept_changed _ _ _ _ _ _ c.args.id unpinned c.index_mut-slot.result.now c.self.invariant is
     (changed_there (has_id c.args.id) unpinned _ _ _ _ _ c.as_slice.ensures.value c.place_of-place.ensures there c.index_mut-slot.ensures.value c.unpin.ensures)
     (c.one_if.ensures ∙ ap (λ b. cond (not b) 1 0) (c.must_stay.ensures ∙ ap must_stay c.unpin.ensures))
-    refl (omega (arith, few)) (frame_page _ c.args.id c.index_mut-slot.result.now c.self.invariant.pool is) (pinned_stays c.index_mut-slot.result.now pins)
+    refl (omega (arith, few)) (frame_page _ c.args.id c.index_mut-slot.result.now c.self.invariant.pages is) (pinned_stays c.index_mut-slot.result.now pins)
 
 pub returns : goal.returns
 returns c =

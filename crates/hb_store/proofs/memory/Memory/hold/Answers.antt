@@ -1,21 +1,47 @@
-use Rattle.std.proofs.Common.{◌≡◌, sym, subst, ap, ◌∙◌}
-use Rattle.hb_store.specs.Fetching.{with_held}
-use Rattle.hb_store.specs.Inside.{memory_seen}
-use Rattle.hb_store.specs.States.{IsMemory}
-use Rattle.hb_store.proofs.Fetched.{memory_with}
-use Rattle.hb_store.proofs.Held.{state_of, state_put}
+use Rattle.std.proofs.Common.{false, refl}
+use Rattle.hb_pool.specs.Pools.{brought}
+use Rattle.hb_store.proofs.Holding.{absent_frame, hold_keeps, holds, place_there}
 use Rattle.hb_store.proofs.memory.Memory.hold.Goals as goal
 
-put_here : (c : goal.Joined-branch-2) → state_of c.self.inside.turn c.self.inside.meta c.self.inside.log c.insert.new.self c.self.inside.in_log c.self.inside.stopped ≡ with_held c.args.id c.args.page (memory_seen c.self.inside)
-put_here c =
-    let held = c.self.inside in
-    state_put held.turn held.meta held.log held.pages c.insert.new.self held.in_log held.stopped c.args.id c.args.page c.in_ok-insert.ensures.updates.0
+pub bring-requires-clause-absent : goal.bring-requires-clause-absent
+bring-requires-clause-absent c =
+    let m = c.self.inside in
+    let is = c.self.invariant in
+    absent_frame m.turn m.meta m.log m.in_log m.stopped m.pool (brought c.args.id c.args.bytes.now false m.pool) c.args.self.now c.args.id c.args.bytes.now c.self.view_is is.memory is.pool is.spelled refl c.requires.absent c.requires.place c.requires.page c.requires.good
 
-pub invariant_of-self-2 : goal.invariant_of-self-2
-invariant_of-self-2 c =
-    let st = c.args.self.now in
-    let is : IsMemory st = subst IsMemory c.self.view_is c.self.invariant in
-    subst IsMemory (sym (put_here c ∙ ap (with_held c.args.id c.args.page) c.self.view_is)) (memory_with st c.args.id c.args.page is c.requires.page.0 c.requires.page.1 c.requires.good)
+pub bring-requires-clause-place : goal.bring-requires-clause-place
+bring-requires-clause-place c =
+    let m = c.self.inside in
+    let is = c.self.invariant in
+    place_there m.turn m.meta m.log m.in_log m.stopped m.pool (brought c.args.id c.args.bytes.now false m.pool) c.args.self.now c.args.id c.args.bytes.now c.self.view_is is.memory is.pool is.spelled refl c.requires.absent c.requires.place c.requires.page c.requires.good
 
-pub returns-clause-held : goal.returns-clause-held
-returns-clause-held c = put_here c ∙ ap (with_held c.args.id c.args.page) c.self.view_is
+pub invariant_of-self : goal.invariant_of-self
+invariant_of-self c =
+    let m = c.self.inside in
+    let is = c.self.invariant in
+    let k = hold_keeps m.turn m.meta m.log m.in_log m.stopped m.pool c.bring.new.self c.args.self.now c.args.id c.args.bytes.now c.self.view_is is.memory is.pool is.spelled c.bring.ensures c.requires.absent c.requires.place c.requires.page c.requires.good in
+    record { memory = k.memory; pool = k.framed; spelled = k.spelled }
+
+pub returns-clause-fetched : goal.returns-clause-fetched
+returns-clause-fetched c =
+    let m = c.self.inside in
+    let is = c.self.invariant in
+    (holds m.turn m.meta m.log m.in_log m.stopped m.pool c.bring.new.self c.args.self.now c.args.id c.args.bytes.now c.self.view_is is.memory is.pool is.spelled c.bring.ensures c.requires.absent c.requires.place c.requires.page c.requires.good).fetched
+
+pub returns-clause-there : goal.returns-clause-there
+returns-clause-there c =
+    let m = c.self.inside in
+    let is = c.self.invariant in
+    (holds m.turn m.meta m.log m.in_log m.stopped m.pool c.bring.new.self c.args.self.now c.args.id c.args.bytes.now c.self.view_is is.memory is.pool is.spelled c.bring.ensures c.requires.absent c.requires.place c.requires.page c.requires.good).there
+
+pub returns-clause-stays : goal.returns-clause-stays
+returns-clause-stays c =
+    let m = c.self.inside in
+    let is = c.self.invariant in
+    (holds m.turn m.meta m.log m.in_log m.stopped m.pool c.bring.new.self c.args.self.now c.args.id c.args.bytes.now c.self.view_is is.memory is.pool is.spelled c.bring.ensures c.requires.absent c.requires.place c.requires.page c.requires.good).stays
+
+pub returns-clause-uses : goal.returns-clause-uses
+returns-clause-uses c =
+    let m = c.self.inside in
+    let is = c.self.invariant in
+    (holds m.turn m.meta m.log m.in_log m.stopped m.pool c.bring.new.self c.args.self.now c.args.id c.args.bytes.now c.self.view_is is.memory is.pool is.spelled c.bring.ensures c.requires.absent c.requires.place c.requires.page c.requires.good).uses

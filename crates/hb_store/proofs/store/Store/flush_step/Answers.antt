@@ -1,21 +1,59 @@
-use Rattle.std.proofs.Common.{rules, ◌≡◌, []}
+use Rattle.std.proofs.Common.{◌∙◌, sym}
+use Rattle.std.proofs.lemmas.Bool.{false≢true}
 use Rattle.std.proofs.lemmas.Result.{err_from_is_err_and}
-use Rattle.hb_store.specs.Seen.{seen_as}
+use Rattle.hb_store.specs.Seen.{held_by, seen_as}
 use Rattle.hb_store.proofs.Facts.OtherAnswers.{WritesOldest-err, WritesOldest-ok}
-use Rattle.hb_store.proofs.Written.{nothing_written}
+use Rattle.hb_store.proofs.Flushes.{due_home, flushes_none, flushes_oldest}
 use Rattle.hb_store.proofs.store.Store.flush_step.Goals as goal
 
-pub returns-then-is_idle-clause-writes : goal.returns-then-is_idle-clause-writes
-returns-then-is_idle-clause-writes g c =
-    let self = c.args.self.now in
-    let none : self.memory.log.groups ≡ [] = search rules in
-    nothing_written _ (g.D.Device.model self.disk) (seen_as self) (g.met.D.Device.is_disk self.disk) none (search rules)
+-- groups wait
+pub returns-then-not-is_idle-clause-which : goal.returns-then-not-is_idle-clause-which
+returns-then-not-is_idle-clause-which g c = λ none. false≢true (sym c.if-not-is_idle.true ∙ c.is_idle.ensures.1 none)
 
-pub returns-in_err-force-clause-writes : goal.returns-in_err-force-clause-writes
-returns-in_err-force-clause-writes g c =
+pub returns-then-not-is_idle-clause-forces : goal.returns-then-not-is_idle-clause-forces
+returns-then-not-is_idle-clause-forces g c = λ some. (
+  WritesOldest-ok (g.D.Device.model c.args.self.now.disk) (g.D.Device.model c.force.new.self.disk) (seen_as c.args.self.now) (seen_as c.force.new.self) _ _ c.in_ok-force.ensures.writes,
+  c.in_ok-force.ensures.uses,
+)
+
+pub returns-then-not-is_idle-clause-cleans : goal.returns-then-not-is_idle-clause-cleans
+returns-then-not-is_idle-clause-cleans g c = λ none. absurd (false≢true (sym c.if-not-is_idle.true ∙ c.is_idle.ensures.1 none))
+
+pub returns-in_err-force-clause-which : goal.returns-in_err-force-clause-which
+returns-in_err-force-clause-which g c =
     let p = err_from_is_err_and c.from_residual.result c.from_residual.ensures.1 in
-    rw (p.1, p.2) (WritesOldest-err (g.D.Device.model c.args.self.now.disk) (g.D.Device.model c.force.new.self.disk) (seen_as c.args.self.now) (seen_as c.force.new.self) _ c.in_err-force.ensures)
+    rw (p.1) tt
 
-pub returns-clause-writes : goal.returns-clause-writes
-returns-clause-writes g c =
-    WritesOldest-ok (g.D.Device.model c.args.self.now.disk) (g.D.Device.model c.force.new.self.disk) (seen_as c.args.self.now) (seen_as c.force.new.self) _ _ c.in_ok-force.ensures
+pub returns-in_err-force-clause-forces : goal.returns-in_err-force-clause-forces
+returns-in_err-force-clause-forces g c =
+    let p = err_from_is_err_and c.from_residual.result c.from_residual.ensures.1 in
+    λ some. (
+      rw (p.1, p.2) (WritesOldest-err (g.D.Device.model c.args.self.now.disk) (g.D.Device.model c.force.new.self.disk) (seen_as c.args.self.now) (seen_as c.force.new.self) _ c.in_err-force.ensures.writes),
+      c.in_err-force.ensures.uses,
+    )
+
+pub returns-in_err-force-clause-cleans : goal.returns-in_err-force-clause-cleans
+returns-in_err-force-clause-cleans g c = λ none. absurd (false≢true (sym c.if-not-is_idle.true ∙ c.is_idle.ensures.1 none))
+
+-- a page is dirty
+pub returns-in-Some-clause-which : goal.returns-in-Some-clause-which
+returns-in-Some-clause-which g c =
+    due_home c.write_home.result (held_by c.args.self.now) c.in-Some.id (c.is_idle.ensures.0 c.if-not-is_idle.false) (sym c.in-Some.ensures.oldest) c.write_home.ensures.says
+
+pub returns-in-Some-clause-forces : goal.returns-in-Some-clause-forces
+returns-in-Some-clause-forces g c = λ some. absurd (some (c.is_idle.ensures.0 c.if-not-is_idle.false))
+
+pub returns-in-Some-clause-cleans : goal.returns-in-Some-clause-cleans
+returns-in-Some-clause-cleans g c = λ none.
+    flushes_oldest c.write_home.result (g.D.Device.model c.args.self.now.disk) (g.D.Device.model c.write_home.new.self.disk) (held_by c.args.self.now) (held_by c.write_home.new.self) c.in-Some.id
+    (sym c.in-Some.ensures.oldest) c.write_home.ensures.writes
+
+-- none is
+pub returns-in-None-clause-which : goal.returns-in-None-clause-which
+returns-in-None-clause-which g c = (c.is_idle.ensures.0 c.if-not-is_idle.false, sym c.in-None.ensures.oldest)
+
+pub returns-in-None-clause-forces : goal.returns-in-None-clause-forces
+returns-in-None-clause-forces g c = λ some. absurd (some (c.is_idle.ensures.0 c.if-not-is_idle.false))
+
+pub returns-in-None-clause-cleans : goal.returns-in-None-clause-cleans
+returns-in-None-clause-cleans g c = λ none. flushes_none _ (g.D.Device.model c.args.self.now.disk) (held_by c.args.self.now) (sym c.in-None.ensures.oldest)

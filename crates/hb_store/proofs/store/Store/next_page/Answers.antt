@@ -5,9 +5,9 @@ use Rattle.hb_layout.specs.declared.meta.Meta.{Meta}
 use Rattle.hb_ops.specs.Allocating.{Allocates}
 use Rattle.hb_ops.specs.Files.{page_of}
 use Rattle.hb_store.specs.Keeps.{last_of}
-use Rattle.hb_store.specs.Fetching.{MayFetch}
+use Rattle.hb_store.specs.Fetching.{IsCrowdedOut, MayFetch, MayUse}
 use Rattle.hb_store.specs.States.{in_memory}
-use Rattle.hb_store.specs.Seen.{seen_as}
+use Rattle.hb_store.specs.Seen.{seen_as, uses_of}
 use Rattle.hb_store.proofs.Facts.LookLaws.{LooksUp-none, LooksUp-as, LooksUp-stop}
 use Rattle.hb_store.proofs.Heads.{head_allocates, head_free, room_behind}
 use Rattle.hb_store.proofs.store.Store.next_page.Goals as goal
@@ -15,8 +15,8 @@ use Rattle.hb_store.proofs.store.Store.next_page.Goals as goal
 pub returns-in_err-next-clause-sound : goal.returns-in_err-next-clause-sound
 returns-in_err-next-clause-sound g c =
     let self = c.args.self.now in
-    let head_is : c.meta-meta.result.now.free ≡ self.memory.meta.free = ap (λ (m : Meta). m.free) c.meta-meta.ensures.meta in
-    let some : self.memory.meta.free ≢ 0 = omega (arith, c.if-meta-ne0.true, head_is) in
+    let head_is : c.meta-meta.result.now.free ≡ self.memory.state.meta.free = ap (λ (m : Meta). m.free) c.meta-meta.ensures.meta in
+    let some : self.memory.state.meta.free ≢ 0 = omega (arith, c.if-meta-ne0.true, head_is) in
     let p = err_from_is_err_and c.from_residual.result c.from_residual.ensures.1 in
     λ durable later keeps sound. rw (p.1, p.2) (λ fault memory.
     let free = head_free (g.D.Device.model self.disk) (seen_as self) durable later keeps sound some in
@@ -27,11 +27,11 @@ returns-then-meta-ne0-clause-allocates g c =
     let self = c.args.self.now in
     let new = c.free_head.new.self in
     let same = c.meta-meta.ensures.meta in
-    let head_is : c.meta-meta.result.now.free ≡ self.memory.meta.free = ap (λ (m : Meta). m.free) same in
-    let some : self.memory.meta.free ≢ 0 = omega (arith, c.if-meta-ne0.true, head_is) in
-    let few : self.memory.meta.live ≢ self.memory.meta.pages = omega (arith, c.if-meta.false, ap (λ (m : Meta). m.live) same, ap (λ (m : Meta). m.pages) same) in
-    let fetches : MayFetch self.memory.meta.free (seen_as self) (seen_as new) = subst (λ (id : ℕ). MayFetch id (seen_as self) (seen_as new)) head_is c.free_head.ensures.fetches in
-    subst (λ (id : ℕ). Allocates new.memory.meta id c.in_ok-next.next) (sym head_is)
+    let head_is : c.meta-meta.result.now.free ≡ self.memory.state.meta.free = ap (λ (m : Meta). m.free) same in
+    let some : self.memory.state.meta.free ≢ 0 = omega (arith, c.if-meta-ne0.true, head_is) in
+    let few : self.memory.state.meta.live ≢ self.memory.state.meta.pages = omega (arith, c.if-meta.false, ap (λ (m : Meta). m.live) same, ap (λ (m : Meta). m.pages) same) in
+    let fetches : MayFetch self.memory.state.meta.free (seen_as self) (seen_as new) = subst (λ (id : ℕ). MayFetch id (seen_as self) (seen_as new)) head_is c.free_head.ensures.fetches in
+    subst (λ (id : ℕ). Allocates new.memory.state.meta id c.in_ok-next.next) (sym head_is)
     (head_allocates (seen_as self) (seen_as new) c.in_ok-next.next c.in_ok-next.ensures.memory fetches few some (ap (in_memory (seen_as new)) (sym head_is) ∙ c.in_ok-next.ensures.named))
 
 pub returns-then-meta-ne0-clause-names : goal.returns-then-meta-ne0-clause-names
@@ -43,8 +43,8 @@ returns-then-meta-2-clause-sound g c =
     let self = c.args.self.now in
     let same = c.meta-meta.ensures.meta in
     λ durable later keeps sound fault memory.
-    let none : self.memory.meta.free ≡ 0 = omega (arith, c.if-meta-ne0.false, ap (λ (m : Meta). m.free) same) in
-    let high : self.memory.meta.high ≡ self.memory.meta.pages = omega (arith, c.if-meta-2.true, ap (λ (m : Meta). m.high) same, ap (λ (m : Meta). m.pages) same) in
+    let none : self.memory.state.meta.free ≡ 0 = omega (arith, c.if-meta-ne0.false, ap (λ (m : Meta). m.free) same) in
+    let high : self.memory.state.meta.high ≡ self.memory.state.meta.pages = omega (arith, c.if-meta-2.true, ap (λ (m : Meta). m.high) same, ap (λ (m : Meta). m.pages) same) in
     let full = room_behind (g.D.Device.model self.disk) (seen_as self) durable later keeps sound none high in
     absurd (omega (arith, c.if-meta.false, full, ap (λ (m : Meta). m.live) same, ap (λ (m : Meta). m.pages) same))
 
@@ -59,3 +59,25 @@ returns-then-meta-ne0-clause-looks g c =
 
 pub returns-then-meta-2-clause-looks : goal.returns-then-meta-2-clause-looks
 returns-then-meta-2-clause-looks g c = LooksUp-none (g.D.Device.model c.args.self.now.disk) (seen_as c.args.self.now) (λ is. cc (is, c.damaged.ensures))
+
+pub returns-in_err-next-clause-may_use : goal.returns-in_err-next-clause-may_use
+returns-in_err-next-clause-may_use g c =
+    subst (λ (id : ℕ). MayUse id (uses_of c.args.self.now) (uses_of c.free_head.new.self)) (ap (λ (m : Meta). m.free) c.meta-meta.ensures.meta) c.free_head.ensures.may_use
+
+pub returns-in_err-next-clause-stays : goal.returns-in_err-next-clause-stays
+returns-in_err-next-clause-stays g c = c.free_head.ensures.stays
+
+pub returns-in_err-next-clause-crowded : goal.returns-in_err-next-clause-crowded
+returns-in_err-next-clause-crowded g c =
+    let self = c.args.self.now in
+    let head_is : c.meta-meta.result.now.free ≡ self.memory.state.meta.free = ap (λ (m : Meta). m.free) c.meta-meta.ensures.meta in
+    let some : self.memory.state.meta.free ≢ 0 = omega (arith, c.if-meta-ne0.true, head_is) in
+    let p = err_from_is_err_and c.from_residual.result c.from_residual.ensures.1 in
+    λ is. (some, subst (λ (id : ℕ). IsCrowdedOut id (seen_as self) (uses_of self)) head_is (c.in_err-next.ensures.crowded (cc (is, p.1, p.2))))
+
+pub returns-then-meta-ne0-clause-may_use : goal.returns-then-meta-ne0-clause-may_use
+returns-then-meta-ne0-clause-may_use g c =
+    subst (λ (id : ℕ). MayUse id (uses_of c.args.self.now) (uses_of c.free_head.new.self)) (ap (λ (m : Meta). m.free) c.meta-meta.ensures.meta) c.free_head.ensures.may_use
+
+pub returns-then-meta-ne0-clause-stays : goal.returns-then-meta-ne0-clause-stays
+returns-then-meta-ne0-clause-stays g c = c.free_head.ensures.stays

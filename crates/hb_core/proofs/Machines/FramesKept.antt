@@ -1,0 +1,168 @@
+-- Every step keeps that the frames are those of the pages in memory, and that a page is pinned as many times as actors have latched it.
+use Rattle.std.proofs.Common.{◌≡◌, inl, inr, ℕ, ◌≤◌, List, [], ◌++◌, Option, Some, None, IfSome, IsSome, refl, sym, ap, subst, ◌∙◌, arith}
+use Rattle.std.specs.List.{count_by}
+use Rattle.std.specs.Option.{is_some}
+use Rattle.hb_lemmas.proofs.Options.{has_value, some_value}
+use Rattle.hb_latch.specs.declared.modes.Mode.{Mode}
+use Rattle.hb_activity.specs.declared.holding.Latch.{Latch}
+use Rattle.hb_activity.specs.declared.activities.Activity.{Activity}
+use Rattle.hb_activity.specs.Deeds.{Deed}
+use Rattle.hb_pool.specs.Frames.{has_id}
+use Rattle.hb_pool.specs.Pools.{frame_of}
+use Rattle.hb_store.specs.Forced.{forced_state, stopped_state}
+use Rattle.hb_store.specs.States.{StoreState, in_memory}
+use Rattle.hb_core.specs.declared.outcomes.Outcome.{Outcome}
+use Rattle.hb_core.specs.declared.outcomes.Outcome.TheVariants as outcomes
+use Rattle.hb_core.specs.Acting.{Abandons, DoesRow, MeetsBadPage}
+use Rattle.hb_core.specs.Asking.{HasWayFree, wanted_by}
+use Rattle.hb_core.specs.Forcing.{FailsToWrite, FlushesWell, ForcesFirst, StaysSo}
+use Rattle.hb_core.specs.KeptMachine.{MachineKeeps}
+use Rattle.hb_core.specs.KeptMerges.{NamesKnown, merging_at}
+use Rattle.hb_core.specs.Machines.{Machine}
+use Rattle.hb_core.specs.Performing.{Performs, PerformsAsItIs, latches_held, mode_among}
+use Rattle.hb_core.specs.Steps.{StepsTo, Works}
+use Rattle.hb_core.specs.SteppingLaws.{IsBegun}
+use Rattle.hb_core.specs.Using.{FramesFit, page_wanted, pages_of, use_done, use_held}
+use Rattle.hb_core.proofs.Latches.MergerBacked.{every_row_backed}
+use Rattle.hb_core.proofs.Machines.FlushedFrames.{cleaned_tied, tied_again}
+use Rattle.hb_core.proofs.Machines.HoldersMoved.{IsLatched, holders_moved, none_holds}
+use Rattle.hb_core.proofs.Machines.LatchesApart.{AreOnce, known_apart, latches_once, none_once, puts_apart}
+use Rattle.hb_core.proofs.Machines.PinCounts.{IsSingle, cleaned_pins, one_if}
+use Rattle.hb_core.proofs.Machines.PinsFollow.{AreThere, PinsMore, came_stays, deed_pins, found_counted, more_number, none_more, times}
+use Rattle.hb_core.proofs.Memory.StillThere.{own_next}
+use Rattle.hb_core.proofs.Table.NextPlaces.{nothing_given_up, nothing_run_out, place_after}
+use Rattle.hb_core.proofs.Table.StepKinds.{FlushesMore, each_kind_so, rest_kind}
+use Rattle.hb_core.proofs.Walks.WalksKept.{walks_stay_in_space}
+use Rattle.hb_space.specs.Actors.{IsActor}
+
+abbrev FitsNow : Machine → Type 0
+FitsNow m = FramesFit m.store m.uses m.latches
+
+module _ (m : Machine) (actor : ℕ) (outcome : Outcome) (new : Machine) (may : IsActor actor) (keeps : MachineKeeps m) where
+  fit : FramesFit m.store m.uses m.latches
+  fit = keeps.frames_fit
+
+  single : IsSingle m.uses
+  single = fit.tied.pool.distinct
+
+  -- the latches that the actor has before the step
+  abbrev held : List Latch
+  held = latches_held m.store (m.activity actor)
+
+  held_once : (q : ℕ) → times q (pages_of held) ≡ one_if (IsLatched m.latches actor q)
+  held_once q =
+      latches_once m.store (m.activity actor) (keeps.walk_in_space.merging actor) (known_apart m keeps.room_known actor) q
+      ∙ ap (λ (o : Option Mode). one_if (is_some o)) (sym (keeps.latches_fit.exact actor q may))
+
+  -- ---- what leaves pins and latches
+
+  as_before : (other : Machine) → new ≡ other → FitsNow other → FitsNow new
+  as_before other is fits = subst FitsNow (sym is) fits
+
+  stays_so : (said : Outcome) → StaysSo m said outcome new → FitsNow new
+  stays_so said so = as_before m so.1 fit
+
+  fails_so : {most : ℕ} → FailsToWrite m most outcome new → FitsNow new
+  fails_so fails = as_before _ fails.stops (record { tied = tied_again m.store (stopped_state m.store) m.uses (λ id. refl) (λ id. refl) fit.tied; pins = fit.pins })
+
+  forces_so : (said : Outcome) → ForcesFirst m said outcome new → FitsNow new
+  forces_so said (inl (says, is)) = as_before _ is (record { tied = tied_again m.store (forced_state m.store) m.uses (λ id. refl) (λ id. refl) fit.tied; pins = fit.pins })
+  forces_so said (inr badly) = fails_so badly.1
+
+  flushes_so : {due : Outcome} → FlushesWell m due outcome new → FitsNow new
+  flushes_so well = as_before _ well.leaves (record {
+    tied = cleaned_tied m.store m.uses fit.tied well.page well.oldest;
+    pins = λ q. cleaned_pins well.page q m.uses single ∙ fit.pins q;
+  })
+
+  more_so : FlushesMore m outcome new → FitsNow new
+  more_so (none, left, inl (due, plain, well)) = flushes_so well
+  more_so (none, left, inr fails) = fails_so fails
+
+  meets_so : MeetsBadPage m actor outcome new → FitsNow new
+  meets_so meets = as_before _ meets.stops (record {
+    tied = meets.tied;
+    pins = λ q. (came_stays (wanted_by m actor) m.store.meta m.uses meets.came single meets.came_is).pins q ∙ fit.pins q;
+  })
+
+  -- ---- a deed
+
+  module _ (fetched : StoreState) (deed : Deed) (performs : Performs m fetched actor deed outcome new) where
+    abbrev after : List Latch
+    after = latches_held new.store deed.next
+
+    -- The pages of its latches afterwards are in memory, and so in frames.
+    are_there : AreOnce after → ((page : ℕ) (mode : Mode) → mode_among page after ≡ Some mode → IsSome (in_memory new.store page)) → AreThere (pages_of after) new.uses
+    are_there once live id some =
+        elim (mode_among id after) as (λ o. mode_among id after ≡ o → times id (pages_of after) ≡ one_if (is_some o) → 1 ≤ count_by (has_id id) new.uses) [
+          | None ↦ λ _ none. absurd (omega (arith, some, none))
+          | Some mode ↦ λ is _.
+              let framed : IsSome (frame_of new.uses id) = sym (performs.tied.there id) ∙ live id mode is in
+              let frame = some_value (frame_of new.uses id) framed in
+              found_counted id new.uses frame.0 frame.1
+        ] refl (once id)
+
+    deed_so : (extra : List ℕ) → performs.pins ≡ extra ++ pages_of held → PinsMore extra m.uses performs.came → AreOnce after → ((page : ℕ) (mode : Mode) → mode_among page after ≡ Some mode → IsSome (in_memory new.store page)) → FitsNow new
+    deed_so extra pins more once live = record {
+      tied = performs.tied;
+      pins = λ q.
+          let is : new.uses ≡ use_held (extra ++ pages_of held) (pages_of after) (use_done deed.op fetched performs.came) = performs.uses ∙ ap (λ (ids : List ℕ). use_held ids (pages_of after) (use_done deed.op fetched performs.came)) pins in
+          let moved = deed_pins deed.op fetched extra (pages_of held) (pages_of after) m.uses performs.came new.uses more is (are_there once live) q in
+          let was = fit.pins q in
+          let before = held_once q in
+          let now : times q (pages_of after) ≡ one_if (IsLatched new.latches actor q) = once q ∙ ap (λ (o : Option Mode). one_if (is_some o)) (sym (performs.latches.own q)) in
+          let holding = holders_moved actor m.latches new.latches may (λ other page apart. performs.latches.others other page apart) q in
+          let changes = holding.0 in
+          let least = holding.1 in
+          omega (arith, moved, was, before, now, changes, least);
+    }
+
+    -- one after which the actor holds nothing
+    leaves_all : (latches_held new.store deed.next ≡ []) → performs.pins ≡ pages_of held → PinsMore [] m.uses performs.came → FitsNow new
+    leaves_all none pins more = deed_so [] pins more (none_once after none) (λ page mode is. absurd (nothing page mode (sym (ap (mode_among page) none) ∙ is)))
+      where
+        nothing : (page : ℕ) (mode : Mode) → mode_among page [] ≡ Some mode → ⊥
+        nothing page mode is = cc
+
+  as_it_is : (deed : Deed) → ((st : StoreState) → latches_held st deed.next ≡ []) → PerformsAsItIs m actor deed outcome new → FitsNow new
+  as_it_is deed none (performs, came, pins) = leaves_all m.store deed performs (none new.store) pins (subst (PinsMore [] m.uses) (sym came) (none_more m.uses single))
+
+  gives_so : Abandons m actor outcome new → FitsNow new
+  gives_so gives =
+      let stay = came_stays (wanted_by m actor) m.store.meta m.uses gives.performs.came single gives.came in
+      leaves_all gives.fetched _ gives.performs ((nothing_given_up gives.why (m.activity actor)).latches new.store) gives.pins (record { single = stay.single; pins = λ q. let same = stay.pins q in omega (arith, same) })
+
+  module _ (step : StepsTo m actor outcome new) where
+    does_so : HasWayFree m actor → DoesRow m actor outcome new → FitsNow new
+    does_so free acts =
+        let deed = acts.deed in
+        let place = place_after m actor acts.fetched (wanted_by m actor) deed refl acts.row in
+        let walks = walks_stay_in_space m actor outcome new may keeps.latches_fit keeps.pages_of_file keeps.nobody_else keeps.walk_in_space step in
+        let merging : IfSome (merging_at deed.next) (NamesKnown new.store) = subst (λ (a : Activity). IfSome (merging_at a) (NamesKnown new.store)) (own_next m actor acts.fetched deed outcome new acts.performs) (walks.merging actor) in
+        let backed = every_row_backed m actor _ acts.fetched new.store may keeps.latches_fit keeps.pages_of_file free acts.brings (wanted_by m actor) deed refl acts.performs.store acts.row in
+        deed_so acts.fetched deed acts.performs (page_wanted (wanted_by m actor)) acts.pins
+        (subst (PinsMore (page_wanted (wanted_by m actor)) m.uses) (sym acts.came) (more_number _ m.store.meta (wanted_by m actor) m.uses single))
+        (latches_once new.store deed.next merging (puts_apart m actor _ acts.fetched may keeps.latches_fit keeps.pages_of_file acts.brings deed place))
+        (λ page mode is. let its = backed.latches page mode is in has_value (in_memory new.store page) _ its.there)
+
+    worked : Works m actor outcome new → FitsNow new
+    worked (inl (by, way, so)) = stays_so (outcomes.Blocked by) so
+    worked (inr (inl (free, unready, inl (waits, force)))) = forces_so outcomes.Helped force
+    worked (inr (inl (free, unready, inr (none, rest)))) = rest_kind m outcomes.Helped outcome new _ (FitsNow new) none tt more_so (as_it_is _ (nothing_run_out (m.activity actor)).latches) rest
+    worked (inr (inr (free, ready, inl acts))) = does_so free acts
+    worked (inr (inr (free, ready, inr (inl gives)))) = gives_so gives
+    worked (inr (inr (free, ready, inr (inr meets)))) = meets_so meets
+
+pub frames_kept : (m : Machine) (actor : ℕ) (outcome : Outcome) (new : Machine) → IsActor actor → MachineKeeps m → StepsTo m actor outcome new → FramesFit new.store new.uses new.latches
+frames_kept m actor outcome new may keeps step =
+    each_kind_so m actor outcome new (FitsNow new)
+    (λ said quiet so. stays_so m actor outcome new may keeps said so)
+    (λ said quiet force. forces_so m actor outcome new may keeps said force)
+    (more_so m actor outcome new may keeps)
+    (λ deed outright performs. as_it_is m actor outcome new may keeps deed outright.latches performs)
+    (worked m actor outcome new may keeps step)
+    step
+
+-- and where no step was taken
+pub frames_begun : (m : Machine) → IsBegun m → FramesFit m.store m.uses m.latches
+frames_begun m begun = record { tied = begun.tied; pins = λ id. begun.unpinned id ∙ sym (none_holds m.latches id (λ actor. begun.unlatched actor id)) }

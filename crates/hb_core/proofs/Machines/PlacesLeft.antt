@@ -1,0 +1,147 @@
+-- Where nothing is left to flush, a frame that must stay is latched, and 19 actors latch two pages each at most: the other frames are places.
+use Rattle.std.proofs.Common.{◌≡◌, inl, inr, ℕ, ◌+◌, ◌*◌, ◌≤◌, ◌==◌, Bool, true, false, not, ◌||◌, cond, List, [], ◌∷◌, length, Option, Some, None, IsSome, refl, sym, ap, arith}
+use Rattle.std.specs.List.{find, count_by, sum_by}
+use Rattle.std.specs.Option.{is_some, option_map}
+use Rattle.std.proofs.lemmas.List.Sums.{sum_by-cons}
+use Rattle.hb_lemmas.proofs.Booleans.{if_same}
+use Rattle.hb_activity.specs.declared.holding.Latch.{Latch}
+use Rattle.hb_activity.proofs.Facts.HeldLatches.{two_at_most}
+use Rattle.hb_latch.specs.declared.modes.Mode.{Mode}
+use Rattle.hb_latch.specs.Tables.{mode_at}
+use Rattle.hb_pool.specs.Frames.{Use, has_id, must_stay}
+use Rattle.hb_store.specs.Held.{oldest_dirty}
+use Rattle.hb_core.specs.Forcing.{HasMoreToFlush}
+use Rattle.hb_core.specs.KeptFrames.{PlacesAreLeft, UnreadyForTheLog}
+use Rattle.hb_core.specs.KeptMachine.{MachineKeeps}
+use Rattle.hb_core.specs.Machines.{Machine}
+use Rattle.hb_core.specs.Performing.{latches_held, mode_among}
+use Rattle.hb_core.specs.Using.{actors, holders}
+use Rattle.hb_core.proofs.Machines.PinCounts.{IsSingle, one_if, pins_if, single_sum}
+use Rattle.hb_core.proofs.Memory.StillThere.{may_or_not}
+
+-- none is dirty
+none_dirty : (uses : List Use) → (IsSome (oldest_dirty uses) → ⊥) → find (λ (u : Use). u.dirty) uses ≡ None
+none_dirty uses clean = elim (find (λ (u : Use). u.dirty) uses) as (λ o. (IsSome (option_map (λ (u : Use). u.id) o) → ⊥) → o ≡ None) [
+  | None ↦ λ _. refl
+  | Some u ↦ λ never. absurd (never refl)
+] clean
+
+-- so a frame that must stay is pinned
+stays_pinned : (u : Use) → u.dirty ≡ false → one_if (must_stay u) ≤ u.pins
+stays_pinned u off =
+    let same : one_if (must_stay u) ≡ one_if (not (u.pins == 0)) = ap (λ d. one_if (d || not (u.pins == 0))) off in
+    let few : one_if (not (u.pins == 0)) ≤ u.pins = if_same u.pins 0 (λ b. one_if (not b) ≤ u.pins) (λ is. omega arith) (λ some. omega arith) in
+    omega (arith, same, few)
+
+-- Of a number for each page, which is at least as large as its pins: the sum over all frames is as large as the frames that must stay.
+stays_counted : (h : ℕ → ℕ) (uses : List Use) → find (λ (u : Use). u.dirty) uses ≡ None → ((q : ℕ) → sum_by (pins_if q) uses ≤ h q) → count_by must_stay uses ≤ sum_by (λ u. h u.id) uses
+stays_counted h [] none most = omega arith
+stays_counted h (u ∷ us) none most =
+    let counted : count_by must_stay (u ∷ us) ≡ one_if (must_stay u) + count_by must_stay us = sum_by-cons (λ (v : Use). one_if (must_stay v)) u us in
+    let summed : sum_by (λ v. h v.id) (u ∷ us) ≡ h u.id + sum_by (λ v. h v.id) us = sum_by-cons (λ (v : Use). h v.id) u us in
+    elim (u.dirty) as (λ b. u.dirty ≡ b → cond b (Some u) (find (λ (v : Use). v.dirty) us) ≡ None → count_by must_stay (u ∷ us) ≤ sum_by (λ v. h v.id) (u ∷ us)) [
+      | true ↦ λ _ some. cc
+      | false ↦ λ off rest.
+          let own : sum_by (pins_if u.id) (u ∷ us) ≡ cond {A = ℕ} (u.id == u.id) u.pins 0 + sum_by (pins_if u.id) us = sum_by-cons (pins_if u.id) u us in
+          let its : cond {A = ℕ} (u.id == u.id) u.pins 0 ≡ u.pins = if_same u.id u.id (λ b. cond {A = ℕ} b u.pins 0 ≡ u.pins) (λ _. refl) (λ never. absurd (never refl)) in
+          let here = most u.id in
+          let first = stays_pinned u off in
+          let later = stays_counted h us rest (λ q. let more : sum_by (pins_if q) (u ∷ us) ≡ pins_if q u + sum_by (pins_if q) us = sum_by-cons (pins_if q) u us in let all = most q in omega (arith, more, all)) in
+          omega (arith, counted, summed, own, its, here, first, later)
+    ] refl none
+
+-- ---- counting by actors in place of frames
+
+nothing_added : (uses : List Use) → sum_by (λ (u : Use). 0) uses ≡ 0
+nothing_added [] = refl
+nothing_added (u ∷ us) = let one : sum_by (λ (v : Use). 0) (u ∷ us) ≡ 0 + sum_by (λ (v : Use). 0) us = sum_by-cons (λ (v : Use). 0) u us in let rest = nothing_added us in omega (arith, one, rest)
+
+-- how many of these have it, by a page's number
+abbrev having : (ℕ → ℕ → Bool) → List ℕ → Use → ℕ
+having p all u = count_by (λ a. p a u.id) all
+
+one_more : (p : ℕ → ℕ → Bool) (a : ℕ) (all : List ℕ) (uses : List Use) → sum_by (having p (a ∷ all)) uses ≡ count_by (λ (u : Use). p a u.id) uses + sum_by (having p all) uses
+one_more p a all [] = refl
+one_more p a all (u ∷ us) =
+    let whole : sum_by (having p (a ∷ all)) (u ∷ us) ≡ having p (a ∷ all) u + sum_by (having p (a ∷ all)) us = sum_by-cons (having p (a ∷ all)) u us in
+    let both : having p (a ∷ all) u ≡ one_if (p a u.id) + having p all u = sum_by-cons (λ b. one_if (p b u.id)) a all in
+    let first : count_by (λ (v : Use). p a v.id) (u ∷ us) ≡ one_if (p a u.id) + count_by (λ (v : Use). p a v.id) us = sum_by-cons (λ (v : Use). one_if (p a v.id)) u us in
+    let others : sum_by (having p all) (u ∷ us) ≡ having p all u + sum_by (having p all) us = sum_by-cons (having p all) u us in
+    let rest = one_more p a all us in
+    omega (arith, whole, both, first, others, rest)
+
+by_actors : (p : ℕ → ℕ → Bool) (uses : List Use) → ((a : ℕ) → count_by (λ (u : Use). p a u.id) uses ≤ 2) → (all : List ℕ) → sum_by (having p all) uses ≤ 2 * length all
+by_actors p uses few [] = let none : sum_by (having p []) uses ≡ 0 = nothing_added uses in omega (arith, none)
+by_actors p uses few (a ∷ all) = let more = one_more p a all uses in let first = few a in let rest = by_actors p uses few all in omega (arith, more, first, rest)
+
+-- ---- an actor has latched as many frames as it has latches at most
+
+alike : {X : Type 0} (p q : X → Bool) (xs : List X) → ((x : X) → p x ≡ q x) → count_by p xs ≡ count_by q xs
+alike p q [] same = refl
+alike p q (x ∷ xs) same =
+    let first : count_by p (x ∷ xs) ≡ one_if (p x) + count_by p xs = sum_by-cons (λ y. one_if (p y)) x xs in
+    let second : count_by q (x ∷ xs) ≡ one_if (q x) + count_by q xs = sum_by-cons (λ y. one_if (q y)) x xs in
+    let here : one_if (p x) ≡ one_if (q x) = ap one_if (same x) in
+    let rest = alike p q xs same in
+    omega (arith, first, second, here, rest)
+
+-- the frames of one page, and those that pass besides
+either_counted : (page : ℕ) (p q : Use → Bool) (uses : List Use) → ((u : Use) → one_if (p u) ≤ one_if (has_id page u) + one_if (q u)) → count_by p uses ≤ count_by (has_id page) uses + count_by q uses
+either_counted page p q [] each = omega arith
+either_counted page p q (u ∷ us) each =
+    let whole : count_by p (u ∷ us) ≡ one_if (p u) + count_by p us = sum_by-cons (λ (v : Use). one_if (p v)) u us in
+    let first : count_by (has_id page) (u ∷ us) ≡ one_if (has_id page u) + count_by (has_id page) us = sum_by-cons (λ (v : Use). one_if (has_id page v)) u us in
+    let second : count_by q (u ∷ us) ≡ one_if (q u) + count_by q us = sum_by-cons (λ (v : Use). one_if (q v)) u us in
+    let here = each u in
+    let rest = either_counted page p q us each in
+    omega (arith, whole, first, second, here, rest)
+
+none_among : (uses : List Use) → count_by (λ (u : Use). false) uses ≡ 0
+none_among uses = nothing_added uses
+
+abbrev among : List Latch → Use → Bool
+among latches u = is_some (mode_among u.id latches)
+
+latched_frames : (uses : List Use) → IsSingle uses → (latches : List Latch) → count_by (among latches) uses ≤ length latches
+latched_frames uses single [] = let none : count_by (among []) uses ≡ 0 = none_among uses in omega (arith, none)
+latched_frames uses single (latch ∷ rest) =
+    let all = either_counted latch.page (among (latch ∷ rest)) (among rest) uses (λ u. one u) in
+    let first = single latch.page in
+    let later = latched_frames uses single rest in
+    omega (arith, all, first, later)
+  where
+    one : (u : Use) → one_if (among (latch ∷ rest) u) ≤ one_if (has_id latch.page u) + one_if (among rest u)
+    one u = if_same latch.page u.id (λ b. one_if (is_some (cond b (Some latch.mode) (mode_among u.id rest))) ≤ one_if (has_id latch.page u) + one_if (among rest u))
+        (λ same. let its : one_if (u.id == latch.page) ≡ 1 = if_same u.id latch.page (λ b. one_if b ≡ 1) (λ _. refl) (λ never. absurd (never (sym same))) in omega (arith, its))
+        (λ apart. omega arith)
+
+module _ (m : Machine) (keeps : MachineKeeps m) where
+  single : IsSingle m.uses
+  single = keeps.frames_fit.tied.pool.distinct
+
+  actor_holds : (actor : ℕ) → count_by (λ (u : Use). is_some (mode_at m.latches actor u.id)) m.uses ≤ 2
+  actor_holds actor = elim (may_or_not actor) [
+    | inl may ↦
+        let latches = latches_held m.store (m.activity actor) in
+        let same = alike (λ (u : Use). is_some (mode_at m.latches actor u.id)) (among latches) m.uses (λ u. ap (λ (o : Option Mode). is_some o) (keeps.latches_fit.exact actor u.id may)) in
+        let most = latched_frames m.uses single latches in
+        let two : length latches ≤ 2 = two_at_most (m.activity actor) _ in
+        omega (arith, same, most, two)
+    | inr none ↦
+        let same = alike (λ (u : Use). is_some (mode_at m.latches actor u.id)) (λ u. false) m.uses (λ u. ap (λ (o : Option Mode). is_some o) (keeps.no_other_latches actor u.id none)) in
+        let nothing = none_among m.uses in
+        omega (arith, same, nothing)
+  ]
+
+  few_stay : (HasMoreToFlush m → ⊥) → count_by must_stay m.uses ≤ 38
+  few_stay clean =
+      let stay = stays_counted (holders m.latches) m.uses (none_dirty m.uses clean) (λ q. let pins = keeps.frames_fit.pins q in let all = single_sum q m.uses (single q) in omega (arith, pins, all)) in
+      let most : sum_by (λ u. holders m.latches u.id) m.uses ≤ 2 * length actors = by_actors (λ actor q. is_some (mode_at m.latches actor q)) m.uses actor_holds actors in
+      omega (arith, stay, most)
+
+pub places_are_left : PlacesAreLeft
+places_are_left m keeps clean = let few = few_stay m keeps clean in omega (arith, few)
+
+pub unready_for_the_log : UnreadyForTheLog
+unready_for_the_log m actor keeps clean (inl (may, unready)) ready = let places = places_are_left m keeps clean in unready (ready, omega (arith, places))
+unready_for_the_log m actor keeps clean (inr (none, there)) ready = let places = places_are_left m keeps clean in absurd (omega (arith, places, none))

@@ -1,0 +1,101 @@
+-- Where a decider lacks memory, the step decodes pages.
+use Rattle.std.proofs.Common.{◌≡◌, ℕ, Option, Some, None, sym, ◌∙◌, subst}
+use Rattle.std.proofs.lemmas.Option.{same_Some}
+use Rattle.hb_disk.specs.Model.{DiskModel}
+use Rattle.hb_space.specs.Actors.{IsActor}
+use Rattle.hb_activity.specs.declared.wanting.Wanted.{Wanted}
+use Rattle.hb_activity.specs.declared.activities.Activity.{Activity}
+use Rattle.hb_activity.specs.declared.activities.Activity.TheVariants as at
+use Rattle.hb_activity.specs.Classes.{Posters, class_of}
+use Rattle.hb_search.specs.Searching.{GathersNow}
+use Rattle.hb_store.specs.States.{StoreState}
+use Rattle.hb_core.proofs.Machines.BoxesAhead.{corner_ahead, has_last}
+use Rattle.hb_core.proofs.Running.Asked.{Needs, at_number, has_wanted, session_wants}
+use Rattle.hb_core.proofs.Running.Decided.{merges, posts, stands, works}
+use Rattle.hb_core.specs.Acting.{Decodes}
+use Rattle.hb_core.specs.Asking.{wanted_by}
+use Rattle.hb_core.specs.AskingDeciders.{DecodesNow, GathersAt, WalksToSearch}
+use Rattle.hb_core.specs.KeptMachine.{MachineKeeps}
+use Rattle.hb_core.specs.KeptMerges.{IsMerging}
+use Rattle.hb_core.specs.Looking.{number_of_row}
+use Rattle.hb_core.specs.Machines.{Machine}
+use Rattle.hb_core.specs.Moving.{StandsAs}
+use Rattle.hb_core.specs.Rows.{IsAtHand}
+use Rattle.hb_core.specs.Showing.{RunningCore}
+use Rattle.hb_core.specs.Working.{HasPages, IsWorking, with_memory}
+
+-- a worker at work decodes whatever it reads
+poster_by : (wanted : Option Wanted) (m : Machine) (activity : Activity) → class_of activity ≡ Posters → IsWorking activity → Decodes wanted m activity
+poster_by wanted m (at.PosterGrow job) class working = tt
+poster_by wanted m (at.PosterWalk job held) class working = tt
+poster_by wanted m (at.PosterChild job parent) class working = tt
+poster_by wanted m (at.PosterPromote job parent) class working = tt
+poster_by wanted m (at.PosterAgain job parent) class working = tt
+poster_by wanted m (at.SessionWalk line held rest found) class working = cc
+poster_by wanted m (at.SessionSplit line held) class working = cc
+poster_by wanted m (at.SessionPut line source fresh) class working = cc
+poster_by wanted m (at.ConsolidatorWalk job held) class working = cc
+poster_by wanted m (at.ConsolidatorScan job parent child) class working = cc
+poster_by wanted m (at.ConsolidatorTry job parent keep gone leaf) class working = cc
+poster_by wanted m (at.ConsolidatorPromote job parent keep gone) class working = cc
+poster_by wanted m (at.ConsolidatorKeep job parent keep gone) class working = cc
+poster_by wanted m (at.ConsolidatorDecide job parent keep gone) class working = cc
+poster_by wanted m activity class working = absurd working
+
+merger_by : (wanted : Option Wanted) (m : Machine) (activity : Activity) → IsMerging activity → Decodes wanted m activity
+merger_by wanted m (at.ConsolidatorWalk job held) merging = tt
+merger_by wanted m (at.ConsolidatorScan job parent child) merging = tt
+merger_by wanted m (at.ConsolidatorTry job parent keep gone leaf) merging = tt
+merger_by wanted m (at.ConsolidatorPromote job parent keep gone) merging = tt
+merger_by wanted m (at.ConsolidatorKeep job parent keep gone) merging = tt
+merger_by wanted m (at.ConsolidatorDecide job parent keep gone) merging = tt
+merger_by wanted m activity merging = absurd merging
+
+module _ (d : DiskModel) (c : RunningCore) (m : Machine) (actor : ℕ) (free : Option (ℕ × ℕ)) (may : IsActor actor) (has : HasPages m actor free d c) where
+  keeps : MachineKeeps m
+  keeps = has.may.goes_on.kept
+
+  abbrev Has : Activity → Type 0
+  Has = Decodes (wanted_by m actor) (with_memory c m)
+
+  as_here : (activity : Activity) → StandsAs c actor activity → (m.activity actor ≡ activity → Has activity) → Has (m.activity actor)
+  as_here activity stood here = let is = stands d c m actor free may has activity stood in subst Has (sym is) (here is)
+
+  -- ---- sessions
+
+  session_by : (activity : Activity) (o : Option (ℕ × ℕ)) → free ≡ o → m.activity actor ≡ activity → DecodesNow activity o → Has activity
+  session_by (at.SessionSplit line held) None given is splits = absurd splits
+  session_by (at.SessionSplit line held) (Some number) given is splits =
+      subst (λ (a : Activity). Needs d c m actor free may has a (wanted_by m actor)) is (at_number d c m actor free may has number given).0
+  session_by (at.SessionPut line source fresh) o given is puts = tt
+  session_by activity o given is none = absurd none
+
+  pub session_decodes : (activity : Activity) → StandsAs c actor activity → DecodesNow activity free → Has (m.activity actor)
+  session_decodes activity stood now = as_here activity stood (λ is. session_by activity free refl_free is now)
+    where
+      refl_free : free ≡ free
+      refl_free = λ i. free
+
+  search_by : (activity : Activity) → m.activity actor ≡ activity → WalksToSearch activity → GathersAt c.store activity (number_of_row activity (wanted_by m actor)) → Has activity
+  search_by (at.SessionWalk line held rest found) is wants gathers =
+      let ends = has_last rest (keeps.attributes_fit.box_left actor line held rest found is wants) in
+      let its = has_wanted d c m actor free may has (session_wants m actor may keeps line held rest found ends.last.lo is (corner_ahead line.command rest ends wants)) in
+      let here = subst (λ (w : Option Wanted). GathersAt c.store (at.SessionWalk line held rest found) (number_of_row (at.SessionWalk line held rest found) w)) its.wants gathers in
+      let page : here.0 ≡ its.page = same_Some here.0 its.page (sym here.1 ∙ its.hand.live) in
+      subst (λ (w : Option Wanted). Decodes w (with_memory c m) (at.SessionWalk line held rest found)) (sym its.wants) (
+        wants,
+        (its.page, subst (λ (a : Activity). IsAtHand (with_memory c m) a its.wanted its.page) is its.hand, subst (GathersNow (at.SessionWalk line held rest found)) page here.2),
+      )
+  search_by activity is none gathers = absurd none
+
+  pub search_decodes : (activity : Activity) (wanted : Option Wanted) (st : StoreState) → StandsAs c actor activity → wanted ≡ wanted_by m actor → st ≡ c.store → WalksToSearch activity → GathersAt st activity (number_of_row activity wanted) → Has (m.activity actor)
+  search_decodes activity wanted st stood wants same searches gathers = as_here activity stood (λ is. search_by activity is searches
+      (subst (λ (w : Option Wanted). GathersAt c.store activity (number_of_row activity w)) wants (subst (λ (st : StoreState). GathersAt st activity (number_of_row activity wanted)) same gathers)))
+
+  -- ---- workers
+
+  pub poster_decodes : (activity : Activity) → StandsAs c actor activity → actor ≡ 17 → Has (m.activity actor)
+  poster_decodes activity stood poster = as_here activity stood (λ is. poster_by (wanted_by m actor) (with_memory c m) activity (posts d c m actor free may has activity is poster) (works d c m actor free may has activity is))
+
+  pub merger_decodes : (activity : Activity) → StandsAs c actor activity → actor ≡ 18 → Has (m.activity actor)
+  merger_decodes activity stood merger = as_here activity stood (λ is. merger_by (wanted_by m actor) (with_memory c m) activity (merges d c m actor free may has activity is merger))

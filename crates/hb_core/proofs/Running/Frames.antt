@@ -1,0 +1,92 @@
+-- What the frames of a machine tell of the pages that a step needs: which stay, how few pins they have, and what a page that comes makes
+-- of that.
+use Rattle.std.proofs.Common.{◌≡◌, ◌⊎◌, inl, inr, ℕ, ◌+◌, ◌<◌, ◌≤◌, ◌==◌, Bool, true, false, List, [], ◌∷◌, cond, length, Option, Some, None, IsSome, IsTrue, refl, sym, ap, subst, ◌∙◌, arith}
+use Rattle.std.specs.FinSet as set
+use Rattle.std.specs.Ordering.{nat_cmp}
+use Rattle.std.specs.List.{count_by}
+use Rattle.std.specs.Option.{IsSomeAnd, is_some, option_map_or}
+use Rattle.std.proofs.lemmas.Bool.{false≢true}
+use Rattle.std.proofs.lemmas.List.Sums.{count_by-le-length}
+use Rattle.hb_lemmas.proofs.Options.{has_value, not_none}
+use Rattle.hb_activity.specs.declared.wanting.Wanted.{Wanted}
+use Rattle.hb_latch.specs.declared.modes.Mode.{Mode}
+use Rattle.hb_latch.specs.Tables.{LatchTable, mode_at}
+use Rattle.hb_layout.specs.declared.meta.Meta.{Meta}
+use Rattle.hb_pool.proofs.Others.{came_in}
+use Rattle.hb_pool.proofs.Pooled.{dirty_stays, pinned_stays}
+use Rattle.hb_pool.specs.Frames.{Use, fresh, must_stay}
+use Rattle.hb_pool.specs.Pools.{IsPool, brought, frame_of}
+use Rattle.hb_store.specs.Calls.{StaysHere, use_fetched}
+use Rattle.hb_store.specs.Held.{IsTied}
+use Rattle.hb_store.specs.States.{StoreState, in_memory, is_dirty}
+use Rattle.hb_core.proofs.Machines.HoldersMoved.{holders_moved}
+use Rattle.hb_core.proofs.Machines.PinCounts.{IsSingle, brought_pins, one_if}
+use Rattle.hb_core.proofs.Memory.StillThere.{may_or_not}
+use Rattle.hb_core.proofs.Running.Pins.{few_pins, pins_there}
+use Rattle.hb_core.specs.Fetching.{MustStay}
+use Rattle.hb_core.specs.KeptMachine.{MachineKeeps}
+use Rattle.hb_core.specs.Machines.{Machine}
+use Rattle.hb_core.specs.Using.{actors, holders, pins_of}
+
+-- ---- which pages stay
+
+pub dirty_here : (st : StoreState) (uses : List Use) (id : ℕ) → IsTied st uses → IsTrue (is_dirty st id) → StaysHere uses id
+dirty_here st uses id tied dirty = by (frame_of uses id) (sym (tied.marks id) ∙ dirty)
+  where
+    by : (o : Option Use) → option_map_or (λ (u : Use). u.dirty) o false ≡ true → IsSomeAnd o (λ (u : Use). IsTrue (must_stay u))
+    by None is = absurd (false≢true is)
+    by (Some u) is = dirty_stays u is
+
+pub pinned_here : (uses : List Use) (id : ℕ) → 0 < pins_of uses id → StaysHere uses id
+pinned_here uses id some = by (frame_of uses id) some
+  where
+    by : (o : Option Use) → 0 < option_map_or (λ (u : Use). u.pins) o 0 → IsSomeAnd o (λ (u : Use). IsTrue (must_stay u))
+    by None some = absurd (omega (arith, some))
+    by (Some u) some = pinned_stays u some
+
+-- who has latched a page counts
+pub latched_counts : (m : Machine) (keeps : MachineKeeps m) (actor id : ℕ) (mode : Mode) → mode_at m.latches actor id ≡ Some mode → 0 < holders m.latches id
+latched_counts m keeps actor id mode holds = elim (may_or_not actor) [
+  | inl may ↦
+      let own : one_if (is_some (mode_at m.latches actor id)) ≡ 1 = ap (λ (o : Option Mode). one_if (is_some o)) holds in
+      let least = (holders_moved actor m.latches m.latches may (λ other page apart. refl) id).1 in
+      omega (arith, own, least)
+  | inr none ↦ absurd (not_none (mode_at m.latches actor id) mode holds (keeps.no_other_latches actor id none))
+]
+
+pub must_here : (m : Machine) (st : StoreState) (uses : List Use) → MachineKeeps m → st.dirty ≡ m.store.dirty → IsTied st uses → ((q : ℕ) → pins_of m.uses q ≤ pins_of uses q) → (id : ℕ) → MustStay m id → StaysHere uses id
+must_here m st uses keeps same tied more id (inl (actor, mode, holds)) =
+    let counts = latched_counts m keeps actor id mode holds in
+    let pins = keeps.frames_fit.pins id in
+    let least = more id in
+    pinned_here uses id (omega (arith, counts, pins, least))
+must_here m st uses keeps same tied more id (inr dirty) = dirty_here st uses id tied (ap (λ (s : set.FinSet nat_cmp). set.contains s id) same ∙ dirty)
+
+-- ---- few pins
+
+pub few_hold : (table : LatchTable) (id : ℕ) → holders table id ≤ 19
+few_hold table id = count_by-le-length (λ (actor : ℕ). is_some (mode_at table actor id)) actors
+
+-- ---- a page that comes
+
+pub fetched_there : (id : ℕ) (uses : List Use) → IsSome (frame_of (use_fetched id uses) id)
+fetched_there id uses = by (frame_of uses id) refl
+  where
+    by : (o : Option Use) → frame_of uses id ≡ o → IsSome (frame_of (cond (is_some o) uses (brought id (tt {0}) false uses)) id)
+    by None is = has_value (frame_of (brought id (tt {0}) false uses) id) (fresh id (tt {0}) false) (came_in uses id (tt {0}) false is)
+    by (Some u) is = has_value (frame_of uses id) u is
+
+pub fetched_pins : (id : ℕ) (uses : List Use) → IsSingle uses → (q : ℕ) → pins_of (use_fetched id uses) q ≡ pins_of uses q
+fetched_pins id uses single q = by (frame_of uses id) refl
+  where
+    by : (o : Option Use) → frame_of uses id ≡ o → pins_of (cond (is_some o) uses (brought id (tt {0}) false uses)) q ≡ pins_of uses q
+    by None is = brought_pins id q false uses single is
+    by (Some u) is = refl
+
+-- so it may be pinned
+pub may_pin : (m : Machine) (keeps : MachineKeeps m) (id : ℕ) (uses : List Use) → uses ≡ use_fetched id m.uses → IsSomeAnd (frame_of uses id) (λ (u : Use). u.pins < 255)
+may_pin m keeps id uses is = subst (λ (l : List Use). IsSomeAnd (frame_of l id) (λ (u : Use). u.pins < 255)) (sym is)
+    (let same = fetched_pins id m.uses keeps.frames_fit.tied.pool.distinct id in
+    let pins = keeps.frames_fit.pins id in
+    let few = few_hold m.latches id in
+    few_pins (use_fetched id m.uses) id (fetched_there id m.uses) (omega (arith, same, pins, few)))

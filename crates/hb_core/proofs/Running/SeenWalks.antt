@@ -1,0 +1,92 @@
+-- What is said of a session's walk at a page that is read where its bytes lie is a row of it.
+use Rattle.std.proofs.Common.{◌≡◌, ◌⊎◌, inl, ℕ, List, Option, Some, None, MatchOption, refl, sym, subst}
+use Rattle.hb_frag.specs.declared.pages.LivePage.{LivePage}
+use Rattle.hb_frag.specs.declared.pages.Page.{Page}
+use Rattle.hb_frag.specs.declared.pages.Page.TheVariants.{Live, Free}
+use Rattle.hb_layout.specs.declared.meta.Meta.{Meta}
+use Rattle.hb_ops.specs.Files.{if_live}
+use Rattle.hb_view.specs.Views.{IsLiveAnd}
+use Rattle.hb_activity.specs.declared.activities.Activity.{Activity}
+use Rattle.hb_activity.specs.declared.activities.Activity.TheVariants as at
+use Rattle.hb_activity.specs.declared.deciding.Next.{Next}
+use Rattle.hb_activity.specs.Deciding.{deed_of, given_pages, given_sight}
+use Rattle.hb_activity.specs.Deeds.{Deed}
+use Rattle.hb_activity.specs.Passing.{PassesOn}
+use Rattle.hb_activity.specs.Walks.{IsSessionWalk, goal_of, walk_holding, walk_point}
+use Rattle.hb_point.specs.SessionRows.{PointRow}
+use Rattle.hb_search.specs.SearchRows.{Gathers}
+use Rattle.hb_search.specs.Searching.{SearchRow}
+use Rattle.hb_store.specs.States.{StoreState}
+use Rattle.hb_core.proofs.Running.SeenRows.{point_said, search_said}
+use Rattle.hb_core.specs.AskingDeciders.{AsksPoint, AsksSearcher, HasPointRow, HasSearchRow}
+use Rattle.hb_core.specs.Looking.{other_page}
+use Rattle.hb_core.specs.Machines.{live_here, next_of}
+use Rattle.hb_core.specs.Moving.{placed}
+
+-- no number is given where none is
+pub no_number : (st : StoreState) (number : ℕ × ℕ) → None ≡ Some number → next_of st ≡ Some number
+no_number st number is = absurd (nothing is)
+  where
+    nothing : None ≡ Some number → ⊥
+    nothing is = cc
+
+-- ---- a search
+
+module _ (st : StoreState) (activity : Activity) (id : ℕ) (asks : AsksSearcher st activity id) where
+  pub search_walks : IsSessionWalk activity
+  search_walks = by activity asks
+    where
+      by : (a : Activity) → AsksSearcher st a id → IsSessionWalk a
+      by (at.SessionWalk line held rest found) asks = tt
+      by a asks = absurd asks.asked
+
+  -- it reads no other page
+  pub search_alone : None ≡ other_page st activity
+  search_alone = by activity asks
+    where
+      by : (a : Activity) → AsksSearcher st a id → None ≡ other_page st a
+      by (at.SessionWalk line held rest found) asks = refl
+      by a asks = absurd asks.asked
+
+  module _ (v : Page) (view : if_live (Some v) ≡ live_here st id) where
+    pub search_passed : (deed : Deed) → IsLiveAnd v (λ live. MatchOption (walk_point activity) ⊥ (λ p. PassesOn live p (walk_holding id activity) deed)) → (place : ℕ) → HasSearchRow st activity id place (placed place deed)
+    search_passed deed passes = by v view passes
+      where
+        row_by : (a : Activity) → IsSessionWalk a → (page : LivePage) → MatchOption (walk_point a) ⊥ (λ p. PassesOn page p (walk_holding id a) deed) → SearchRow a (given_sight st.meta (given_pages a id page None) None) id page deed
+        row_by (at.SessionWalk line held rest found) walks page passes = goal_by (goal_of line.command rest) passes
+          where
+            goal_by : (goal : Option (List ℕ)) → MatchOption goal ⊥ (λ p. PassesOn page p (at.SessionWalk line (Some id) rest found) deed)
+                → MatchOption goal ⊥ (λ p. PassesOn page p (at.SessionWalk line (Some id) rest found) deed ⊎ Gathers (given_sight st.meta (given_pages (at.SessionWalk line held rest found) id page None) None) line rest found page p deed)
+            goal_by None none = none
+            goal_by (Some p) passes = inl passes
+        row_by a walks page passes = absurd walks
+
+        by : (v : Page) → if_live (Some v) ≡ live_here st id → IsLiveAnd v (λ live. MatchOption (walk_point activity) ⊥ (λ p. PassesOn live p (walk_holding id activity) deed)) → (place : ℕ) → HasSearchRow st activity id place (placed place deed)
+        by (Live page) is passes place = search_said st activity id None id page None st.meta refl (sym is) search_alone refl (no_number st) deed (row_by activity search_walks page passes) place
+        by (Free next) is passes place = absurd passes
+
+  -- what the decider says of the page that was decoded
+  pub search_gathered : (page : LivePage) (meta : Meta) → live_here st id ≡ Some page → meta ≡ st.meta → (deed : Deed) → SearchRow activity (given_sight meta (given_pages activity id page None) None) id page deed → (place : ℕ) → HasSearchRow st activity id place (placed place deed)
+  search_gathered page meta live is_meta deed row place = search_said st activity id None id page None meta refl live search_alone is_meta (no_number st) deed row place
+
+-- of an activity and a number that are these
+pub search_back : (st : StoreState) (activity left : Activity) (n id : ℕ) → id ≡ n → left ≡ activity → (next : Next) → ((place : ℕ) → HasSearchRow st left id place (placed place (deed_of left next))) → (place : ℕ) → HasSearchRow st activity n place (placed place (deed_of activity next))
+search_back st activity left n id is same next row place =
+    subst (λ (a : Activity). HasSearchRow st a n place (placed place (deed_of a next))) same (subst (λ (k : ℕ). HasSearchRow st left k place (placed place (deed_of left next))) is (row place))
+
+-- ---- an insert, a delete or a lookup
+
+module _ (st : StoreState) (activity : Activity) (id : ℕ) (walks : IsSessionWalk activity) (asks : AsksPoint st activity id None) (v : Page) (view : if_live (Some v) ≡ live_here st id) (meta : Meta) (is_meta : meta ≡ st.meta) where
+  alone_by : (a : Activity) → IsSessionWalk a → None ≡ other_page st a
+  alone_by (at.SessionWalk line held rest found) walks = refl
+  alone_by a walks = absurd walks
+
+  pub walk_said : (deed : Deed) → IsLiveAnd v (λ page. PointRow activity (given_sight meta (given_pages activity id page None) None) id page deed) → (place : ℕ) → HasPointRow st activity id place (placed place deed)
+  walk_said deed row place = by v view row
+    where
+      by : (v : Page) → if_live (Some v) ≡ live_here st id → IsLiveAnd v (λ page. PointRow activity (given_sight meta (given_pages activity id page None) None) id page deed) → HasPointRow st activity id place (placed place deed)
+      by (Live page) is row = point_said st activity id None id page None meta refl (sym is) (alone_by activity walks) is_meta asks deed row place
+      by (Free next) is row = absurd row
+
+pub point_back : (st : StoreState) (activity : Activity) (n id : ℕ) → id ≡ n → (deed : Deed) → ((place : ℕ) → HasPointRow st activity id place (placed place deed)) → (place : ℕ) → HasPointRow st activity n place (placed place deed)
+point_back st activity n id is deed row place = subst (λ (k : ℕ). HasPointRow st activity k place (placed place deed)) is (row place)

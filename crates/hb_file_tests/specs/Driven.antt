@@ -1,0 +1,23 @@
+-- What the tests keep of a store that they drive.
+use Rattle.std.specs.Prelude.{◌≡◌, ℕ, ◌<◌, ◌≤◌, false, All, IsSomeAnd, IsTrue, List}
+use Rattle.hb_pool.specs.Frames.{Use, must_stay}
+use Rattle.hb_pool.specs.Pools.{frame_of}
+use Rattle.hb_store.specs.States.{StoreState}
+
+-- each page in memory is dirty or pinned
+abbrev pub AllStay : List Use → Type 0
+AllStay uses = All (λ (u : Use). IsTrue (must_stay u)) uses
+
+-- no page is pinned more than once
+abbrev pub FewPins : List Use → Type 0
+FewPins uses = All (λ (u : Use). u.pins ≤ 1) uses
+
+-- the page is pinned
+abbrev pub IsPinned : List Use → ℕ → Type 0
+IsPinned uses id = IsSomeAnd (frame_of uses id) (λ (u : Use). 0 < u.pins)
+
+-- The store runs, no group that waits has a later mark than 7, and each page in memory stays.
+pub record IsDrivenHere (st : StoreState) (uses : List Use) : Type 0 where
+  pub running : st.stopped ≡ false
+  pub marks : All (λ g. g.mark ≤ 7) st.log.groups
+  pub stay : AllStay uses

@@ -1,0 +1,237 @@
+//! Pages that go home: which one a flush writes next, when, and what stands in its place then; and what is left of a file where a
+//! crash or a fault comes on the way. The disk tells nothing.
+ghost use Rattle.std.specs.Prelude.{◌≡◌, false, IfSome};
+ghost use Rattle.hb_store.specs.Seen.{seen_as};
+
+use crate::driven_trees::{SPLIT_AGAIN, TWO_PARENTS};
+use crate::drives::{PICKS, Tree, begun, file, image_opened, put_all, stand, stands, stepped};
+use crate::groups::behind;
+use crate::openings::{LEFT, MERGED};
+use crate::stores::{NEVER, POINTS};
+use hb_disk::{MemDisk, RotDisk};
+use hb_store::{Flushed, Store};
+use std::alloc::Global;
+
+/// What a flush did: `f` for a group that was forced, the number of a page that was written home, or `w` above 9, and `n` for
+/// neither. `None` where it failed.
+#[tactic(auto, using(crate::proofs::Untold::flushed_runs))]
+pub(crate) fn flush(store: &mut Store<RotDisk>) -> Option<char>
+    requires { (seen_as store.old).stopped ≡ false }
+    ensures { IfSome result (λ _. (seen_as store.new).stopped ≡ false) }
+{
+    match store.flush_step() {
+        Ok(Flushed::Forced) => Some('f'),
+        Ok(Flushed::Written(id)) => Some(char::from_digit(id, 10).unwrap_or('w')),
+        Ok(Flushed::Nothing) => Some('n'),
+        Err(_fault) => None,
+    }
+}
+
+/// Whether flushes do this, one after the other. `e` is a flush that failed, and stopped the store; none comes behind it.
+fn flushes(store: &mut Store<RotDisk>, want: &str) -> bool
+    requires { (seen_as store.old).stopped ≡ false }
+{
+    for letter in want.chars() {
+        match flush(store) {
+            Some(did) if did == letter => {}
+            Some(_) => return false,
+            None => return letter == 'e' && store.stopped(),
+        }
+    }
+    true
+}
+
+/// Whether the operations are those of the tree, how many of them were done, what flushes do then, and how many calls the disk has
+/// had: one read, four a group, and one a page. The order is that in which the pages were last changed.
+const FLUSHES: [(bool, usize, &str, u64); 9] = [
+    // a page that is fetched alone stays as it is
+    (false, 0, "n", 1),
+    (false, 1, "f1n", 6),
+    (false, 2, "ff1n", 10),
+    (false, 3, "ff1n", 10),
+    (true, 1, "f12n", 7),
+    (true, 2, "ff12n", 11),
+    (true, 3, "fff123n", 16),
+    (true, 4, "ffff123n", 20),
+    // the merge changes the page above, the page that stays and the one that goes
+    (true, 5, "fffff312n", 24),
+];
+
+/// The disk behind these flushes.
+fn flushed(alloc: Global, is_tree: bool, count: usize, want: &str) -> Option<MemDisk> {
+    let mut store = behind(alloc, is_tree, count, NEVER)?;
+    if flushes(&mut store, want) {
+        Some(store.into_disk().inner)
+    } else {
+        None
+    }
+}
+
+#[test]
+fn groups_come_before_pages(rt: HostRuntime) {
+    for &(is_tree, count, want, calls) in &FLUSHES {
+        let disk = flushed(rt.alloc(), is_tree, count, want);
+        assert_eq!(rt; disk.map(|d| d.calls()), Some(calls), "{is_tree} {want}");
+    }
+}
+
+/// What flushes do behind the operations of the tree, and which of the pages 1, 2 and 3 are home then.
+const STEPS: [(&str, [bool; 3]); 6] = [
+    ("", [false, false, false]),
+    ("f", [false, false, false]),
+    ("fffff", [false, false, false]),
+    ("fffff3", [false, false, true]),
+    ("fffff31", [true, false, true]),
+    ("fffff312", [true, true, true]),
+];
+
+/// What stands in the places of these pages before.
+const BEFORE: [&[u8]; 3] = [&POINTS, &[], &[]];
+
+/// Whether this stands in the place of each page.
+fn are_there(bytes: &[u8], home: [bool; 3]) -> bool {
+    for (place, is_home) in home.iter().enumerate() {
+        let (Some(before), Some((_, after))) = (BEFORE.get(place), MERGED.get(place)) else {
+            return false;
+        };
+        let fields = if *is_home { *after } else { *before };
+        if !stands(bytes, place.saturating_add(1), fields) {
+            return false;
+        }
+    }
+    true
+}
+
+#[test]
+fn pages_go_home_one_by_one(rt: HostRuntime) {
+    for &(want, home) in &STEPS {
+        let disk = flushed(rt.alloc(), true, 5, want).expect(&rt, "row");
+        assert!(rt; are_there(disk.bytes(), home), "{want}");
+    }
+}
+
+#[test]
+fn a_tree_goes_home(rt: HostRuntime) {
+    let disk = flushed(rt.alloc(), true, 4, "ffff123n").expect(&rt, "row");
+    for (place, (_, fields)) in LEFT.iter().take(3).enumerate() {
+        assert!(rt;
+            stands(disk.bytes(), place.saturating_add(1), fields),
+            "{place}"
+        );
+    }
+}
+
+/// A tree that is driven, and the pages that go home then, in their order.
+const HOMEWARD: [(Tree, &str); 2] = [(SPLIT_AGAIN, "243"), (TWO_PARENTS, "251634")];
+
+/// The store behind all steps of a driving, each of them forced.
+fn all_stepped(alloc: Global, tree: &Tree, failing: u64) -> Option<Store<RotDisk>>
+    ensures { IfSome result (λ store. (seen_as store).stopped ≡ false) }
+{
+    let mut store = begun(alloc, tree, failing)?;
+    for step in tree.steps {
+        if !stepped(alloc, &mut store, *step)? {
+            return None;
+        }
+    }
+    Some(store)
+}
+
+/// The disk then, once flushes did this.
+fn home(alloc: Global, tree: &Tree, failing: u64, want: &str) -> Option<MemDisk> {
+    let mut store = all_stepped(alloc, tree, failing)?;
+    if flushes(&mut store, want) {
+        Some(store.into_disk().inner)
+    } else {
+        None
+    }
+}
+
+/// Whether the pages stand in their places then, and nothing else changed.
+fn stands_home(alloc: Global, tree: &Tree, pages: &str) -> Option<bool> {
+    let mut want = file(alloc, tree)?;
+    put_all(&mut want, tree.written);
+    let disk = home(alloc, tree, NEVER, pages)?;
+    let front = disk.bytes().get(..139_264)? == want.get(..139_264)?;
+    Some(front && stand(disk.bytes(), tree, tree.steps.len()))
+}
+
+#[test]
+fn a_driving_goes_home(rt: HostRuntime) {
+    for (tree, pages) in &HOMEWARD {
+        assert!(rt;
+            stands_home(rt.alloc(), tree, pages) == Some(true),
+            "{pages}"
+        );
+    }
+}
+
+/// Whether each image before this call opens to the file after all steps.
+fn is_kept(alloc: Global, tree: &Tree, disk: &MemDisk, before: u64) -> bool {
+    for pick in PICKS {
+        if image_opened(alloc, tree, tree.steps.len(), disk, before, pick).is_none() {
+            return false;
+        }
+    }
+    true
+}
+
+/// The first call on the way home before which a crash loses the file. `None` where there is none, and else 9,999 where the pages
+/// don't go home.
+fn first_lost(alloc: Global, tree: &Tree, pages: &str) -> Option<u64> {
+    let Some(disk) = home(alloc, tree, NEVER, pages) else {
+        return Some(9999);
+    };
+    let last = disk.calls();
+    for back in 0..(pages.len() as u64).saturating_add(1) {
+        if !is_kept(alloc, tree, &disk, last.saturating_sub(back)) {
+            return Some(back);
+        }
+    }
+    None
+}
+
+#[test]
+fn a_crash_on_the_way_home_loses_nothing(rt: HostRuntime) {
+    for (tree, pages) in &HOMEWARD {
+        assert_eq!(rt; first_lost(rt.alloc(), tree, pages), None, "{pages}");
+    }
+}
+
+/// Whether the write of the page at this place of those that go home stops the store where it fails, and each image behind it opens
+/// to the file after all steps.
+fn survives(alloc: Global, tree: &Tree, pages: &str, place: usize) -> Option<bool> {
+    let failing = all_stepped(alloc, tree, NEVER)?
+        .into_disk()
+        .inner
+        .calls()
+        .saturating_add(place as u64);
+    let mut store = all_stepped(alloc, tree, failing)?;
+    if !flushes(&mut store, pages.get(..place)?) || flush(&mut store).is_some() {
+        return Some(false);
+    }
+    let stopped = store.stopped();
+    let disk = store.into_disk().inner;
+    Some(
+        stopped
+            && disk.calls() == failing.saturating_add(1)
+            && is_kept(alloc, tree, &disk, disk.calls()),
+    )
+}
+
+/// The place of the first page of which this isn't so.
+fn first_fault_lost(alloc: Global, tree: &Tree, pages: &str) -> Option<usize> {
+    for place in 0..pages.len() {
+        if survives(alloc, tree, pages, place) != Some(true) {
+            return Some(place);
+        }
+    }
+    None
+}
+
+#[test]
+fn a_failing_write_home_loses_nothing(rt: HostRuntime) {
+    for (tree, pages) in &HOMEWARD {
+        assert_eq!(rt; first_fault_lost(rt.alloc(), tree, pages), None, "{pages}");
+    }
+}

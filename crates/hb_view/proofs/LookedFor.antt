@@ -1,0 +1,183 @@
+-- What a walk over a tree of bytes says of its leaves: which of them names a page first, which stands at a place, and how
+-- many records the one at a point has.
+use Rattle.std.proofs.Common.{◌≡◌, ℕ, suc, ◌+◌, ◌-◌, ◌<◌, ◌≤◌, ◌==◌, true, false, cond, List, [], ◌∷◌, ◌++◌, length, get_or, slice_get, slice_set, Option, Some, None, refl, sym, ap, subst, ◌∙◌, length-append, arith}
+use Rattle.hb_space.specs.Boxes.{Area, IsArea, Holds, side_below, side_from}
+use Rattle.hb_space.proofs.Facts.Boxes.{Holds-side_below, Holds-side_from}
+use Rattle.hb_frag.specs.declared.leaves.Leaf.{Leaf}
+use Rattle.hb_frag.specs.declared.leaves.Leaf.TheVariants.{Records, Child, Sibling}
+use Rattle.hb_frag.specs.Leaves.{Placed, IsWellCut, first_at, first_named, leaves_of, records_of, siblings}
+use Rattle.hb_frag.specs.Trees.{Tree, Tip, Cut}
+use Rattle.hb_frag.proofs.Facts.NamesListed.{named_behind, named_in_front, siblings-append}
+use Rattle.hb_frag.proofs.Facts.Sides.{IsArea-side_below, IsArea-side_from}
+use Rattle.hb_frag.proofs.Ways.{found_here, found_left, found_right}
+use Rattle.hb_page_codec.specs.ReadingFields.{record_at}
+use Rattle.hb_view.specs.declared.leaves.LeafView.{LeafView}
+use Rattle.hb_view.specs.declared.leaves.LeafView.TheVariants as views
+use Rattle.hb_view.specs.Naming.{CountsLeaf, StopsAt, first_child_box, named_box}
+use Rattle.hb_view.specs.Roots.{tree_there, rest_there, IsCutAt, IsListAt}
+use Rattle.hb_view.specs.Views.{ShowsLeaf}
+use Rattle.hb_view.proofs.Passing.{below_box, from_box}
+use Rattle.hb_view.proofs.Walked.{many_counted}
+
+abbrev pub placed : Leaf → Area → Placed
+placed leaf area = record { leaf = leaf; area = area }
+
+-- ---- the leaves of both sides
+
+-- of a cut whose box is changed in place
+pub both_sides : (k : ℕ) (bytes left right : List ℕ) (axis value at : ℕ) (lo hi low high : List ℕ) → IsCutAt k bytes axis value left → right ≡ rest_there k left → at ≡ axis → low ≡ lo → high ≡ hi
+    → leaves_of (tree_there k bytes) (record { lo = lo; hi = hi }) ≡ leaves_of (tree_there k left) (record { lo = lo; hi = slice_set hi at (value - 1) }) ++ leaves_of (tree_there k right) (record { lo = slice_set low at value; hi = high })
+both_sides k bytes left right axis value at lo hi low high cut r e el eh =
+    let area : Area = record { lo = lo; hi = hi } in
+    let l = tree_there k left in
+    ap (λ (t : Tree). leaves_of t area) cut.tree
+    ∙ ap (λ (b : List ℕ). leaves_of l (side_below area axis value) ++ leaves_of (tree_there k b) (side_from area axis value)) (sym r)
+    ∙ ap (λ (a : Area). leaves_of l a ++ leaves_of (tree_there k right) (side_from area axis value)) (sym (below_box lo hi axis at value e))
+    ∙ ap (λ (a : Area). leaves_of l (record { lo = lo; hi = slice_set hi at (value - 1) }) ++ leaves_of (tree_there k right) a) (sym (from_box lo hi low high axis at value e el eh))
+
+-- ---- the first that names a page
+
+-- a test of the first leaf decides alike in front of two lists
+child_step : (name : ℕ) (leaf : Leaf) (area : Area) (rest other : List Placed) (found : Area) → (first_child_box name rest ≡ Some found → first_child_box name other ≡ Some found)
+    → first_child_box name (placed leaf area ∷ rest) ≡ Some found → first_child_box name (placed leaf area ∷ other) ≡ Some found
+child_step name (Records records) area rest other found later is = later is
+child_step name (Sibling page) area rest other found later is = later is
+child_step name (Child page) area rest other found later is =
+    elim (page == name) as (λ b. cond b (Some area) (first_child_box name rest) ≡ Some found → cond b (Some area) (first_child_box name other) ≡ Some found) [ true ↦ λ here. here | false ↦ λ there. later there ] is
+
+child_in_front : (name : ℕ) (xs ys : List Placed) (found : Area) → first_child_box name xs ≡ Some found → first_child_box name (xs ++ ys) ≡ Some found
+child_in_front name [] ys found is = cc
+child_in_front name (x ∷ xs) ys found is = child_step name x.leaf x.area xs (xs ++ ys) found (child_in_front name xs ys found) is
+
+none_step : (name : ℕ) (leaf : Leaf) (area : Area) (rest front back : List Placed) → (first_child_box name rest ≡ None → first_child_box name front ≡ first_child_box name back)
+    → first_child_box name (placed leaf area ∷ rest) ≡ None → first_child_box name (placed leaf area ∷ front) ≡ first_child_box name back
+none_step name (Records records) area rest front back later is = later is
+none_step name (Sibling page) area rest front back later is = later is
+none_step name (Child page) area rest front back later is =
+    elim (page == name) as (λ b. cond b (Some area) (first_child_box name rest) ≡ None → cond b (Some area) (first_child_box name front) ≡ first_child_box name back) [ true ↦ λ here. absurd (something here) | false ↦ λ there. later there ] is
+  where
+    something : Some area ≡ None → ⊥
+    something is = cc
+
+child_behind : (name : ℕ) (xs ys : List Placed) → first_child_box name xs ≡ None → first_child_box name (xs ++ ys) ≡ first_child_box name ys
+child_behind name [] ys is = refl
+child_behind name (x ∷ xs) ys is = none_step name x.leaf x.area xs (xs ++ ys) ys (child_behind name xs ys) is
+
+in_front : (sought : LeafView) (xs ys : List Placed) (found : Area) → named_box sought xs ≡ Some found → named_box sought (xs ++ ys) ≡ Some found
+in_front views.Records xs ys found is = cc
+in_front (views.Child page) xs ys found is = child_in_front page xs ys found is
+in_front (views.Sibling page) xs ys found is = ap (first_named page) (siblings-append xs ys) ∙ named_in_front page (siblings xs) (siblings ys) found is
+
+behind_all : (sought : LeafView) (xs ys : List Placed) → named_box sought xs ≡ None → named_box sought (xs ++ ys) ≡ named_box sought ys
+behind_all views.Records xs ys is = refl
+behind_all (views.Child page) xs ys is = child_behind page xs ys is
+behind_all (views.Sibling page) xs ys is = ap (first_named page) (siblings-append xs ys) ∙ named_behind page (siblings xs) (siblings ys) is
+
+-- at a cut: in the left side, and behind it
+pub stops_left : (k : ℕ) (bytes left : List ℕ) (axis value at : ℕ) (lo hi : List ℕ) (sought : LeafView) (box : Area) → IsCutAt k bytes axis value left → at ≡ axis
+    → named_box sought (leaves_of (tree_there k left) (record { lo = lo; hi = slice_set hi at (value - 1) })) ≡ Some box → named_box sought (leaves_of (tree_there k bytes) (record { lo = lo; hi = hi })) ≡ Some box
+stops_left k bytes left axis value at lo hi sought box cut e found =
+    let all = both_sides k bytes left (rest_there k left) axis value at lo hi lo hi cut refl e refl refl in
+    ap (named_box sought) all ∙ in_front sought (leaves_of (tree_there k left) (record { lo = lo; hi = slice_set hi at (value - 1) })) _ box found
+
+pub stops_right : (k : ℕ) (bytes left right : List ℕ) (axis value at : ℕ) (lo hi low high : List ℕ) (sought : LeafView) (box : Area) (r : Option (List ℕ)) → IsCutAt k bytes axis value left → at ≡ axis → low ≡ lo → high ≡ hi
+    → (named_box sought (leaves_of (tree_there k left) (record { lo = lo; hi = slice_set hi at (value - 1) })) ≡ None) × (right ≡ rest_there k left)
+    → StopsAt (named_box sought (leaves_of (tree_there k right) (record { lo = slice_set low at value; hi = high }))) box (rest_there k right) r
+    → StopsAt (named_box sought (leaves_of (tree_there k bytes) (record { lo = lo; hi = hi }))) box (rest_there k bytes) r
+stops_right k bytes left right axis value at lo hi low high sought box r cut e el eh none there =
+    let same : named_box sought (leaves_of (tree_there k bytes) (record { lo = lo; hi = hi })) ≡ named_box sought (leaves_of (tree_there k right) (record { lo = slice_set low at value; hi = high })) =
+    ap (named_box sought) (both_sides k bytes left right axis value at lo hi low high cut none.1 e el eh) ∙ behind_all sought (leaves_of (tree_there k left) (record { lo = lo; hi = slice_set hi at (value - 1) })) _ none.0 in
+    let rest : rest_there k bytes ≡ rest_there k right = cut.rest ∙ sym (ap (rest_there k) none.1) in
+    let R : List ℕ → Type 0 = λ b. StopsAt (named_box sought (leaves_of (tree_there k bytes) (record { lo = lo; hi = hi }))) box b r in
+    let F : Option Area → Type 0 = λ o. StopsAt o box (rest_there k right) r in
+    subst R (sym rest) (subst F (sym same) there)
+
+-- ---- the one at a place
+
+none_more : (n : ℕ) → 0 + n ≡ n
+none_more n = omega arith
+
+one_more : (n m : ℕ) → suc n + m ≡ suc (n + m)
+one_more n m = omega arith
+
+get_behind : (xs ys : List Placed) (rest : ℕ) → slice_get (xs ++ ys) (length xs + rest) ≡ slice_get ys rest
+get_behind [] ys rest = ap (slice_get ys) (none_more rest)
+get_behind (x ∷ xs) ys rest = ap (slice_get (x ∷ xs ++ ys)) (one_more (length xs) rest) ∙ get_behind xs ys rest
+
+pub place_right : (k : ℕ) (bytes left right : List ℕ) (axis value at : ℕ) (lo hi low high : List ℕ) (place behind : ℕ) (view : LeafView) (box : Area) → IsCutAt k bytes axis value left → right ≡ rest_there k left → at ≡ axis → low ≡ lo → high ≡ hi
+    → place ≡ length (leaves_of (tree_there k left) (record { lo = lo; hi = slice_set hi at (value - 1) })) + behind
+    → ShowsLeaf (slice_get (leaves_of (tree_there k right) (record { lo = slice_set low at value; hi = high })) behind) view box
+    → ShowsLeaf (slice_get (leaves_of (tree_there k bytes) (record { lo = lo; hi = hi })) place) view box
+place_right k bytes left right axis value at lo hi low high place behind view box cut r e el eh past shows =
+    let xs = leaves_of (tree_there k left) (record { lo = lo; hi = slice_set hi at (value - 1) }) in
+    let ys = leaves_of (tree_there k right) (record { lo = slice_set low at value; hi = high }) in
+    let all = both_sides k bytes left right axis value at lo hi low high cut r e el eh in
+    record {
+      placed = shows.placed;
+      found = ap (λ (l : List Placed). slice_get l place) all ∙ ap (slice_get (xs ++ ys)) past ∙ get_behind xs ys behind ∙ shows.found;
+      leaf = shows.leaf;
+      area = shows.area;
+    }
+
+pub place_past : (k : ℕ) (bytes left right : List ℕ) (axis value at : ℕ) (lo hi low high : List ℕ) (place behind last : ℕ) → IsCutAt k bytes axis value left → right ≡ rest_there k left → at ≡ axis → low ≡ lo → high ≡ hi
+    → place ≡ length (leaves_of (tree_there k left) (record { lo = lo; hi = slice_set hi at (value - 1) })) + behind
+    → behind ≡ length (leaves_of (tree_there k right) (record { lo = slice_set low at value; hi = high })) + last
+    → place ≡ length (leaves_of (tree_there k bytes) (record { lo = lo; hi = hi })) + last
+place_past k bytes left right axis value at lo hi low high place behind last cut r e el eh past more =
+    let all = both_sides k bytes left right axis value at lo hi low high cut r e el eh in
+    sums (leaves_of (tree_there k left) (record { lo = lo; hi = slice_set hi at (value - 1) })) (leaves_of (tree_there k right) (record { lo = slice_set low at value; hi = high })) past more
+    ∙ ap (λ (l : List Placed). length l + last) (sym all)
+  where
+    sums : (xs ys : List Placed) → place ≡ length xs + behind → behind ≡ length ys + last → place ≡ length (xs ++ ys) + last
+    sums xs ys first second = omega (arith, first, second, length-append xs ys)
+
+-- ---- how many records the one at a point has
+
+-- what is counted in a tree, whatever its box
+abbrev pub CountsWithin : Tree → List ℕ → ℕ → Type 0
+CountsWithin t p count = (area : Area) → IsArea area → IsWellCut t area → Holds area p → CountsLeaf (first_at p (leaves_of t area)) count
+
+pub counts_tip : (t : Tree) (leaf : Leaf) (p : List ℕ) (count : ℕ) → t ≡ Tip leaf → count ≡ length (records_of leaf) → CountsWithin t p count
+counts_tip t leaf p count e counted area h cut held = record { placed = placed leaf area; found = found_here t leaf area p e h held; counted = counted }
+
+pub counts_list : (k : ℕ) (bytes first : List ℕ) (count : ℕ) (p : List ℕ) → IsListAt k bytes count first → CountsWithin (tree_there k bytes) p count
+counts_list k bytes first count p list = counts_tip (tree_there k bytes) (Records list.records) p count list.tree (sym (many_counted (record_at k) count first (list.records, rest_there k bytes) list.read))
+
+pub counts_left : (k : ℕ) (bytes left : List ℕ) (axis value at : ℕ) (p : List ℕ) (count : ℕ) → IsCutAt k bytes axis value left → at ≡ axis → get_or p at 0 < value → CountsWithin (tree_there k left) p count → CountsWithin (tree_there k bytes) p count
+counts_left k bytes left axis value at p count cut e lt counts area h cuts held =
+    let parts : IsWellCut (Cut axis value (tree_there k left) (tree_there k (rest_there k left))) area = subst (λ (t : Tree). IsWellCut t area) cut.tree cuts in
+    let below : get_or p axis 0 < value = subst (λ (n : ℕ). get_or p n 0 < value) e lt in
+    let there = counts (side_below area axis value) (IsArea-side_below area axis value h parts.0) parts.1 ((Holds-side_below area axis value p h parts.0).1 (held, below)) in
+    record {
+      placed = there.placed;
+      found = found_left (tree_there k bytes) (tree_there k left) (tree_there k (rest_there k left)) (tree_there k left) axis value area (side_below area axis value) p there.placed cut.tree refl refl there.found;
+      counted = there.counted;
+    }
+
+pub counts_right : (k : ℕ) (bytes left rest : List ℕ) (axis value at : ℕ) (p : List ℕ) (count : ℕ) → IsCutAt k bytes axis value left → rest ≡ rest_there k left → at ≡ axis → value ≤ get_or p at 0
+    → CountsWithin (tree_there k rest) p count → CountsWithin (tree_there k bytes) p count
+counts_right k bytes left rest axis value at p count cut r e le counts area h cuts held =
+    let parts : IsWellCut (Cut axis value (tree_there k left) (tree_there k (rest_there k left))) area = subst (λ (t : Tree). IsWellCut t area) cut.tree cuts in
+    let above : value ≤ get_or p axis 0 = subst (λ (n : ℕ). value ≤ get_or p n 0) e le in
+    let right : IsWellCut (tree_there k rest) (side_from area axis value) = subst (λ (b : List ℕ). IsWellCut (tree_there k b) (side_from area axis value)) (sym r) parts.2 in
+    let there = counts (side_from area axis value) (IsArea-side_from area axis value h parts.0) right ((Holds-side_from area axis value p parts.0).1 (held, above)) in
+    record {
+      placed = there.placed;
+      found = found_right (tree_there k bytes) (tree_there k left) (tree_there k (rest_there k left)) (tree_there k rest) axis value area (side_from area axis value) p there.placed cut.tree (ap (tree_there k) r) refl h cuts held above there.found;
+      counted = there.counted;
+    }
+
+-- ---- the box of the right side, of a cut whose box is changed in place
+
+pub right_area : (k : ℕ) (bytes left : List ℕ) (axis value at : ℕ) (lo hi low high : List ℕ) → IsCutAt k bytes axis value left → at ≡ axis → low ≡ lo → high ≡ hi → IsArea (record { lo = lo; hi = hi }) → IsWellCut (tree_there k bytes) (record { lo = lo; hi = hi }) → IsArea (record { lo = slice_set low at value; hi = high })
+right_area k bytes left axis value at lo hi low high cut e el eh h cuts =
+    let area : Area = record { lo = lo; hi = hi } in
+    let parts : IsWellCut (Cut axis value (tree_there k left) (tree_there k (rest_there k left))) area = subst (λ (t : Tree). IsWellCut t area) cut.tree cuts in
+    subst IsArea (sym (from_box lo hi low high axis at value e el eh)) (IsArea-side_from area axis value h parts.0)
+
+pub right_cut : (k : ℕ) (bytes left right : List ℕ) (axis value at : ℕ) (lo hi low high : List ℕ) → IsCutAt k bytes axis value left → right ≡ rest_there k left → at ≡ axis → low ≡ lo → high ≡ hi → IsWellCut (tree_there k bytes) (record { lo = lo; hi = hi })
+    → IsWellCut (tree_there k right) (record { lo = slice_set low at value; hi = high })
+right_cut k bytes left right axis value at lo hi low high cut r e el eh cuts =
+    let area : Area = record { lo = lo; hi = hi } in
+    let parts : IsWellCut (Cut axis value (tree_there k left) (tree_there k (rest_there k left))) area = subst (λ (t : Tree). IsWellCut t area) cut.tree cuts in
+    subst (IsWellCut (tree_there k right)) (sym (from_box lo hi low high axis at value e el eh)) (subst (λ (b : List ℕ). IsWellCut (tree_there k b) (side_from area axis value)) (sym r) parts.2)
