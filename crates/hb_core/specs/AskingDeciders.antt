@@ -47,9 +47,9 @@ abbrev pub MakesPageAt : StoreState → Activity → ℕ → Type 0
 MakesPageAt st activity id = (st.meta.live < st.meta.pages) × IsSomeAnd (live_here st id) (λ page. MakesPage activity st.meta page (other_page st activity))
 
 -- A session that splits has no page for the part that leaves.
-abbrev pub LacksPage : Activity → Option (ℕ × ℕ) → Type 0
-LacksPage (at.SessionSplit line held) None = Unit {0}
-LacksPage activity free = ⊥
+abbrev pub SplitLacksPage : Activity → Option (ℕ × ℕ) → Type 0
+SplitLacksPage (at.SessionSplit line held) None = Unit {0}
+SplitLacksPage activity free = ⊥
 
 -- A session's step decodes pages: a split where a page is free, and a put into one of the halves.
 abbrev pub DecodesNow : Activity → Option (ℕ × ℕ) → Type 0

@@ -14,5 +14,5 @@ CanPin [] uses = Unit {0}
 CanPin (id ∷ rest) uses = IsSomeAnd (frame_of uses id) (λ (u : Use). u.pins < 255) × CanPin rest (put_last id pinned uses)
 
 -- So the pins of an actor can go over from pages to others.
-abbrev pub CanHold : List ℕ → List ℕ → List Use → Type 0
-CanHold before after uses = CanUnpin before uses × CanPin after (unpin_each before uses)
+abbrev pub CanMovePins : List ℕ → List ℕ → List Use → Type 0
+CanMovePins before after uses = CanUnpin before uses × CanPin after (unpin_each before uses)

@@ -7,7 +7,7 @@ ghost use Rattle.hb_ops.specs.Files.{if_live};
 ghost use Rattle.hb_space.specs.Points.{IsPoint};
 ghost use Rattle.hb_core.specs.Acting.{Decodes, NeedsNumber};
 ghost use Rattle.hb_core.specs.Asking.{wanted_by};
-ghost use Rattle.hb_core.specs.AskingDeciders.{AsksNumber, AsksPoint, AsksPoster, AsksSearcher, DecodesNow, GathersAt, HasPointRow, HasPosterRow, HasSearchRow, LacksPage, MakesPageAt, WalksToSearch};
+ghost use Rattle.hb_core.specs.AskingDeciders.{AsksNumber, AsksPoint, AsksPoster, AsksSearcher, DecodesNow, GathersAt, HasPointRow, HasPosterRow, HasSearchRow, SplitLacksPage, MakesPageAt, WalksToSearch};
 ghost use Rattle.hb_core.specs.CoreSeen.{core_seen, core_disk, ChangesBy};
 ghost use Rattle.hb_core.specs.KeptFits.{class_for};
 ghost use Rattle.hb_core.specs.Looking.{number_of_row, other_number, other_page};
@@ -294,7 +294,7 @@ fn is_walk(activity: &Activity) -> bool
 
 /// Whether a session splits, and there is no page for the part that leaves.
 fn lacks_page(activity: &Activity, free: Option<(u32, u32)>) -> bool
-    ensures { IsTrue result ↔ LacksPage activity.now free }
+    ensures { IsTrue result ↔ SplitLacksPage activity.now free }
 {
     match activity {
         Activity::SessionSplit { .. } => free.is_none(),

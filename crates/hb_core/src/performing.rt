@@ -20,7 +20,7 @@ ghost use Rattle.hb_core.specs.KeptFits.{class_for};
 ghost use Rattle.hb_core.specs.Machines.{live_here};
 ghost use Rattle.hb_core.specs.Moving.{AreApart, DoesDeed, KeepsFilesBy, KeepsStaying, MayCommit, MayHave, MayStand, Queues, StandsFree, StandsNow, StandsAs, joins_order, number_of, placed, placed_at, pushed, said, with_jobs, with_latches, with_order, with_order_of_use, with_store};
 ghost use Rattle.hb_core.specs.Performing.{MayDo, Relatches, latches_held, mode_among};
-ghost use Rattle.hb_core.specs.Pinning.{CanHold, CanPin, CanUnpin};
+ghost use Rattle.hb_core.specs.Pinning.{CanMovePins, CanPin, CanUnpin};
 ghost use Rattle.hb_core.specs.Using.{pages_of, pin_each, unpin_each, use_done};
 ghost use Rattle.hb_core.specs.Working.{IsWorking};
 
@@ -55,7 +55,7 @@ impl<D: Device> Core<D> {
         requires few { length (core_seen self.old).order < 2 ^ 32 }
         requires hold { (st : StoreState) → MayDo next.op (length (core_seen self.old).order) (core_seen self.old).store st →
             IsTied st (use_done next.op (core_seen self.old).store (core_seen self.old).uses) →
-            CanHold pins.now (pages_of (latches_held st (placed_at (length (core_seen self.old).order) next.then))) (use_done next.op (core_seen self.old).store (core_seen self.old).uses) }
+            CanMovePins pins.now (pages_of (latches_held st (placed_at (length (core_seen self.old).order) next.then))) (use_done next.op (core_seen self.old).store (core_seen self.old).uses) }
         ensures does { IfOk result (λ outcome. (state : _) → line ≡ number_of (hand_of state) →
             DoesDeed actor pins.now (placed (length (core_seen self.old).order) (deed_of state next)) outcome (core_seen self.old) (core_seen self.new)) }
         ensures files { IfOk result (λ outcome. KeepsFilesBy next.op (D.model (core_disk self.old)) (core_seen self.old).store (D.model (core_disk self.new)) (core_seen self.new).store) }
@@ -140,7 +140,7 @@ impl<D: Device> Core<D> {
     /// The actor stands so from now on, with the latches of that and no other. Its pins go over from these pages to those.
     pub(crate) fn stand_with(&mut self, actor: Actor, next: Activity, pins: &[u32])
         requires stand { MayStand actor (core_seen self.old).latches (core_seen self.old).store next }
-        requires pins { CanHold pins.now (pages_of (latches_held (core_seen self.old).store next)) (core_seen self.old).uses }
+        requires pins { CanMovePins pins.now (pages_of (latches_held (core_seen self.old).store next)) (core_seen self.old).uses }
         ensures { Alters (StandsNow actor pins.now next) self.old self.new }
     {
         let held = next.held(self.walked(&next));

@@ -13,7 +13,7 @@ use Rattle.hb_frag.proofs.Ways.{found_here, found_left, found_right}
 use Rattle.hb_page_codec.specs.ReadingFields.{record_at}
 use Rattle.hb_view.specs.declared.leaves.LeafView.{LeafView}
 use Rattle.hb_view.specs.declared.leaves.LeafView.TheVariants as views
-use Rattle.hb_view.specs.Naming.{CountsLeaf, StopsAt, first_child_box, named_box}
+use Rattle.hb_view.specs.Naming.{CountsLeaf, StopsAtLeaf, first_child_box, named_box}
 use Rattle.hb_view.specs.Roots.{tree_there, rest_there, IsCutAt, IsListAt}
 use Rattle.hb_view.specs.Views.{ShowsLeaf}
 use Rattle.hb_view.proofs.Passing.{below_box, from_box}
@@ -82,14 +82,14 @@ stops_left k bytes left axis value at lo hi sought box cut e found =
 
 pub stops_right : (k : ℕ) (bytes left right : List ℕ) (axis value at : ℕ) (lo hi low high : List ℕ) (sought : LeafView) (box : Area) (r : Option (List ℕ)) → IsCutAt k bytes axis value left → at ≡ axis → low ≡ lo → high ≡ hi
     → (named_box sought (leaves_of (tree_there k left) (record { lo = lo; hi = slice_set hi at (value - 1) })) ≡ None) × (right ≡ rest_there k left)
-    → StopsAt (named_box sought (leaves_of (tree_there k right) (record { lo = slice_set low at value; hi = high }))) box (rest_there k right) r
-    → StopsAt (named_box sought (leaves_of (tree_there k bytes) (record { lo = lo; hi = hi }))) box (rest_there k bytes) r
+    → StopsAtLeaf (named_box sought (leaves_of (tree_there k right) (record { lo = slice_set low at value; hi = high }))) box (rest_there k right) r
+    → StopsAtLeaf (named_box sought (leaves_of (tree_there k bytes) (record { lo = lo; hi = hi }))) box (rest_there k bytes) r
 stops_right k bytes left right axis value at lo hi low high sought box r cut e el eh none there =
     let same : named_box sought (leaves_of (tree_there k bytes) (record { lo = lo; hi = hi })) ≡ named_box sought (leaves_of (tree_there k right) (record { lo = slice_set low at value; hi = high })) =
     ap (named_box sought) (both_sides k bytes left right axis value at lo hi low high cut none.1 e el eh) ∙ behind_all sought (leaves_of (tree_there k left) (record { lo = lo; hi = slice_set hi at (value - 1) })) _ none.0 in
     let rest : rest_there k bytes ≡ rest_there k right = cut.rest ∙ sym (ap (rest_there k) none.1) in
-    let R : List ℕ → Type 0 = λ b. StopsAt (named_box sought (leaves_of (tree_there k bytes) (record { lo = lo; hi = hi }))) box b r in
-    let F : Option Area → Type 0 = λ o. StopsAt o box (rest_there k right) r in
+    let R : List ℕ → Type 0 = λ b. StopsAtLeaf (named_box sought (leaves_of (tree_there k bytes) (record { lo = lo; hi = hi }))) box b r in
+    let F : Option Area → Type 0 = λ o. StopsAtLeaf o box (rest_there k right) r in
     subst R (sym rest) (subst F (sym same) there)
 
 -- ---- the one at a place

@@ -25,9 +25,9 @@ named_box (views.Sibling page) leaves = first_named page (siblings leaves)
 
 -- A walk to the first of some leaves. At one it stops, with the corners of its box. Past all of them it hands on the
 -- bytes behind.
-abbrev pub StopsAt : Option Area → Area → List ℕ → Option (List ℕ) → Type 0
-StopsAt found box rest None = found ≡ Some box
-StopsAt found box rest (Some r) = (found ≡ None) × (r ≡ rest)
+abbrev pub StopsAtLeaf : Option Area → Area → List ℕ → Option (List ℕ) → Type 0
+StopsAtLeaf found box rest None = found ≡ Some box
+StopsAtLeaf found box rest (Some r) = (found ≡ None) × (r ≡ rest)
 
 -- A leaf was found, and it has so many records. One that names a page has none.
 pub record CountsLeaf (at : Option Placed) (count : ℕ) : Type 0 where

@@ -5,7 +5,7 @@ ghost use Rattle.hb_space.specs.Boxes.{IsArea};
 ghost use Rattle.hb_frag.specs.Leaves.{IsWellCut, leaves_of};
 ghost use Rattle.hb_page_codec.specs.ReadingPages.{tree_at};
 ghost use Rattle.hb_view.specs.Corners.{corners_there};
-ghost use Rattle.hb_view.specs.Naming.{named_box, StopsAt};
+ghost use Rattle.hb_view.specs.Naming.{named_box, StopsAtLeaf};
 ghost use Rattle.hb_view.specs.Roots.{tree_there, rest_there};
 ghost use Rattle.hb_view.specs.Views.{ShowsLeaf};
 
@@ -30,7 +30,7 @@ fn past_named<'a>(
     requires there { IsSome (tree_at k bytes.now) }
     requires corners { IsArea (record { lo = lo.old; hi = hi.old }) }
     requires well_cut { IsWellCut (tree_there k bytes.now) (record { lo = lo.old; hi = hi.old }) }
-    ensures stops { StopsAt (named_box sought (leaves_of (tree_there k bytes.now) (record { lo = lo.old; hi = hi.old })))
+    ensures stops { StopsAtLeaf (named_box sought (leaves_of (tree_there k bytes.now) (record { lo = lo.old; hi = hi.old })))
         (record { lo = lo.new; hi = hi.new }) (rest_there k bytes.now) (option_map (λ b. b.now) result) }
     ensures lo { IfSome result (λ b. lo.new ≡ lo.old) }
     ensures hi { IfSome result (λ b. hi.new ≡ hi.old) }

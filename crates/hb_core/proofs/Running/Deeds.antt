@@ -24,7 +24,7 @@ use Rattle.hb_set.specs.declared.commands.Reply.{Reply}
 use Rattle.hb_store.specs.Held.{IsTied}
 use Rattle.hb_core.proofs.Running.Pins.{tied_held}
 use Rattle.hb_core.specs.Moving.{DoesDeed, KeepsStaying, StandsAs, StandsFree, StandsNow, joins_order, number_of, numbers_joined, placed, placed_at, pushed, said, with_jobs, with_order, with_order_of_use, with_standing, with_store}
-use Rattle.hb_core.specs.Pinning.{CanHold, CanUnpin}
+use Rattle.hb_core.specs.Pinning.{CanMovePins, CanUnpin}
 use Rattle.hb_core.specs.Using.{pages_of, use_done, use_held}
 use Rattle.hb_core.specs.Performing.{MayDo, Relatches, latches_held, outcome_of}
 use Rattle.hb_core.specs.Showing.{RunningCore, number_in_hand}
@@ -90,13 +90,13 @@ said_so (HasJob job) (fates.Answers given) = refl
 -- the pins may go over once the operation is done, since they may in every store that it leads to
 pub can_then : (place : ℕ) (pins : List ℕ) (next : Next) (stands_as : Activity) (old done : RunningCore)
     → ((st : StoreState) → MayDo next.op (length old.order) old.store st → IsTied st (use_done next.op old.store old.uses)
-    → CanHold pins (pages_of (latches_held st (placed_at (length old.order) next.then))) (use_done next.op old.store old.uses))
+    → CanMovePins pins (pages_of (latches_held st (placed_at (length old.order) next.then))) (use_done next.op old.store old.uses))
     → place ≡ length old.order → stands_as ≡ placed_at place next.then → MayDo next.op place old.store done.store → done.uses ≡ use_done next.op old.store old.uses → IsTied done.store done.uses
-    → CanHold pins (pages_of (latches_held done.store stands_as)) done.uses
+    → CanMovePins pins (pages_of (latches_held done.store stands_as)) done.uses
 can_then place pins next stands_as old done hold at_end is_next does used tied =
     let after : stands_as ≡ placed_at (length old.order) next.then = is_next ∙ ap (λ (n : ℕ). placed_at n next.then) at_end in
-    subst (λ (a : Activity). CanHold pins (pages_of (latches_held done.store a)) done.uses) (sym after)
-    (subst (λ (l : List Use). CanHold pins (pages_of (latches_held done.store (placed_at (length old.order) next.then))) l) (sym used)
+    subst (λ (a : Activity). CanMovePins pins (pages_of (latches_held done.store a)) done.uses) (sym after)
+    (subst (λ (l : List Use). CanMovePins pins (pages_of (latches_held done.store (placed_at (length old.order) next.then))) l) (sym used)
     (hold done.store (subst (λ (n : ℕ). MayDo next.op n old.store done.store) at_end does) (subst (λ (l : List Use). IsTied done.store l) used tied)))
 
 -- what a decider said is performed: the operation, the jobs, the latches with the pins, and the order, one after the other
@@ -104,7 +104,7 @@ pub performed : (actor place : ℕ) (pins : List ℕ) (line joins : Option ℕ) 
     → line ≡ number_of (hand_of state) → place ≡ length old.order → stands_as ≡ placed_at place next.then → joins ≡ joins_order line next.then next.fate → outcome ≡ said line next.fate
     → MayDo next.op place old.store done.store → done.uses ≡ use_done next.op old.store old.uses → KeepsStaying next.op old done.store → IsTied done.store done.uses
     → done ≡ with_order_of_use done.uses (with_store done.store old) → AddsJobs next.jobs.items done.jobs queued.jobs → queued ≡ with_jobs queued.jobs done
-    → CanHold pins (pages_of (latches_held done.store stands_as)) done.uses
+    → CanMovePins pins (pages_of (latches_held done.store stands_as)) done.uses
     → StandsNow actor pins stands_as queued stood → new ≡ with_order (stood.order ++ pushed joins) stood
     → DoesDeed actor pins (placed (length old.order) (deed_of state next)) outcome old new
 performed actor place pins line joins next stands_as outcome old done queued stood new state hand at_end is_next is_joined is_said does used stay tied kept adds queued_so can stands joined =
@@ -138,7 +138,7 @@ nothing_done op st uses none = ap (λ (o : Option Op). use_done o st uses) none
 
 -- an actor that stands elsewhere, and does nothing else
 pub just_stands : (actor : ℕ) (pins : List ℕ) (deed : Deed) (outcome : Outcome) (old new : RunningCore) → outcome ≡ outcome_of deed.says → LeavesBy deed.takes old.jobs old.jobs → AddsJobs deed.adds old.jobs old.jobs
-    → MayDo deed.op (length old.order) old.store old.store → deed.op ≡ None → [] ≡ numbers_joined deed.joins → IsTied old.store old.uses → CanHold pins (pages_of (latches_held old.store deed.next)) old.uses
+    → MayDo deed.op (length old.order) old.store old.store → deed.op ≡ None → [] ≡ numbers_joined deed.joins → IsTied old.store old.uses → CanMovePins pins (pages_of (latches_held old.store deed.next)) old.uses
     → StandsNow actor pins deed.next old new → DoesDeed actor pins deed outcome old new
 just_stands actor pins deed outcome old new says takes adds does none joins tied can stands =
     let order : old.order ≡ old.order ++ numbers_joined deed.joins = sym (append-nil old.order) ∙ ap (λ (l : List ℕ). old.order ++ l) joins in
@@ -163,19 +163,19 @@ took_job actor job next old left new takes left_so none tied stands =
     (rest ∙ ap (λ (l : List ℕ). record (with_standing actor next old) { latches = new.latches; jobs = left.jobs; order = l }) (sym (append-nil old.order)))
 
 -- who is idle pins nothing
-pub can_idle : (st : StoreState) (kind : Class) (pins : List ℕ) (uses : List Use) → CanUnpin pins uses → CanHold pins (pages_of (latches_held st (idle_of kind))) uses
-can_idle st kind pins uses can = subst (λ (l : List Latch). CanHold pins (pages_of l) uses) (sym (idle_latches kind st)) (can, tt)
+pub can_idle : (st : StoreState) (kind : Class) (pins : List ℕ) (uses : List Use) → CanUnpin pins uses → CanMovePins pins (pages_of (latches_held st (idle_of kind))) uses
+can_idle st kind pins uses can = subst (λ (l : List Latch). CanMovePins pins (pages_of l) uses) (sym (idle_latches kind st)) (can, tt)
 
 -- so whoever has these pages pinned may go idle, wherever it stands
 pub can_run_out : (actor : ℕ) (slice items : List ℕ) (idle : Activity) (c : RunningCore) → IsActor actor → length c.activities ≡ 19 → idle ≡ idle_of (class_for actor) → slice ≡ items
     → ((state : Activity) → StandsAs c actor state → items ≡ pages_of (latches_held c.store state)) → ((state : Activity) → StandsAs c actor state → CanUnpin (pages_of (latches_held c.store state)) c.uses)
-    → CanHold slice (pages_of (latches_held c.store idle)) c.uses
+    → CanMovePins slice (pages_of (latches_held c.store idle)) c.uses
 can_run_out actor slice items idle c may all idle_is value held can =
     let low = may.from_1 in
     let high = may.to_19 in
     let state : Activity = get_or c.activities (actor - 1) at.SessionIdle in
     let stands : StandsAs c actor state = slice_get-get_or c.activities (actor - 1) at.SessionIdle (omega (arith, low, high, all)) in
-    subst (λ (a : Activity). CanHold slice (pages_of (latches_held c.store a)) c.uses) (sym idle_is)
+    subst (λ (a : Activity). CanMovePins slice (pages_of (latches_held c.store a)) c.uses) (sym idle_is)
     (can_idle c.store (class_for actor) slice c.uses (subst (λ (l : List ℕ). CanUnpin l c.uses) (sym (value ∙ held state stands)) (can state stands)))
 
 in_hand : (state : Activity) → IsWorking state → number_in_hand state ≡ number_of (hand_of state)

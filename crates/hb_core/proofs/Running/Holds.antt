@@ -32,7 +32,7 @@ use Rattle.hb_core.specs.Fetching.{Brings}
 use Rattle.hb_core.specs.KeptMachine.{MachineKeeps}
 use Rattle.hb_core.specs.Machines.{Machine, with_disk}
 use Rattle.hb_core.specs.Performing.{MayDo, latches_held, mode_among}
-use Rattle.hb_core.specs.Pinning.{CanHold, CanUnpin}
+use Rattle.hb_core.specs.Pinning.{CanMovePins, CanUnpin}
 use Rattle.hb_core.specs.Rows.{Row}
 use Rattle.hb_core.specs.Showing.{RunningCore}
 use Rattle.hb_core.specs.Using.{CameFor, page_wanted, pages_of, pins_of, use_done}
@@ -127,7 +127,7 @@ module _ (m : Machine) (d : DiskModel) (c : RunningCore) (actor : ℕ) (free : O
         by None = omega arith
         by (Some wanted) = omega arith
 
-    pub can_go_over : CanHold (page_wanted (wanted_by m actor) ++ pages_of (latches_held m.store (m.activity actor))) (pages_of (latches_held st deed.next)) uses
+    pub can_go_over : CanMovePins (page_wanted (wanted_by m actor) ++ pages_of (latches_held m.store (m.activity actor))) (pages_of (latches_held st deed.next)) uses
     can_go_over = can_hold _ _ uses tied.pool enough there few
 
 -- ---- the pages of the latches are those that the core sees

@@ -33,7 +33,7 @@ use Rattle.hb_core.specs.Asking.{wanted_by}
 use Rattle.hb_core.specs.Fetching.{Brings, IsFreeHead, IsWantedPage}
 use Rattle.hb_core.specs.MachineLaws.{RowsMayBeDone}
 use Rattle.hb_core.specs.Machines.{Machine, with_disk, with_uses}
-use Rattle.hb_core.specs.Pinning.{CanHold}
+use Rattle.hb_core.specs.Pinning.{CanMovePins}
 use Rattle.hb_core.specs.Using.{page_wanted, pages_of, use_done, use_number, use_wanted}
 use Rattle.hb_core.specs.Performing.{latches_held}
 use Rattle.hb_activity.specs.declared.wanting.Wanted.{Wanted}
@@ -101,9 +101,9 @@ module _ (d : DiskModel) (c : RunningCore) (m : Machine) (actor : ℕ) (free : O
       }
 
   pub hold_after : (st : StoreState) → MayDo next.op (length c.order) c.store st → IsTied st (use_done next.op c.store c.uses)
-      → CanHold (page_wanted (wanted_by m actor) ++ pages_of (latches_held m.store (m.activity actor))) (pages_of (latches_held st (placed_at (length c.order) next.then))) (use_done next.op c.store c.uses)
+      → CanMovePins (page_wanted (wanted_by m actor) ++ pages_of (latches_held m.store (m.activity actor))) (pages_of (latches_held st (placed_at (length c.order) next.then))) (use_done next.op c.store c.uses)
   hold_after st done tied =
-      subst (λ (n : ℕ). CanHold (page_wanted (wanted_by m actor) ++ pages_of (latches_held m.store (m.activity actor))) (pages_of (latches_held st (placed_at n next.then))) (use_done next.op c.store c.uses)) as_long
+      subst (λ (n : ℕ). CanMovePins (page_wanted (wanted_by m actor) ++ pages_of (latches_held m.store (m.activity actor))) (pages_of (latches_held st (placed_at n next.then))) (use_done next.op c.store c.uses)) as_long
       (can_go_over m d c actor free may has deed row_there st (subst (λ (n : ℕ). MayDo next.op n c.store st) (sym as_long) done) (use_done next.op c.store c.uses) refl tied)
 
   pub may_commit_then : (idle : Activity) → RowsMayBeDone → ((durable other : FileState) (later others : List FileState) → StoreKeeps d c.store durable later → StoreKeeps d c.store other others → durable ≡ other)

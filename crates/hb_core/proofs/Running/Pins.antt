@@ -11,7 +11,7 @@ use Rattle.hb_pool.specs.Frames.{Use, pinned, unpinned}
 use Rattle.hb_pool.specs.Pools.{IsPool, frame_of, in_place, put_last}
 use Rattle.hb_store.specs.Held.{IsTied}
 use Rattle.hb_store.specs.States.{StoreState}
-use Rattle.hb_core.specs.Pinning.{CanHold, CanPin, CanUnpin}
+use Rattle.hb_core.specs.Pinning.{CanMovePins, CanPin, CanUnpin}
 use Rattle.hb_core.specs.Using.{pin_each, pins_of, unpin_each, use_held}
 use Rattle.hb_core.proofs.Machines.PinCounts.{one_if, pinned_pins, unpinned_pins}
 use Rattle.hb_core.proofs.Machines.PinsFollow.{found_counted, times}
@@ -167,10 +167,10 @@ tied_pinned st (id ∷ rest) uses tied (here, can) =
     tied_pinned st rest (put_last id pinned uses) (tied_alike st uses (put_last id pinned uses) tied (pinned_pool uses id u.0 tied.pool u.1 u.2) (pinned_marks uses id tied.pool)) can
 
 -- so the frames stay those of the pages in memory
-pub tied_held : (st : StoreState) (before after : List ℕ) (uses : List Use) → IsTied st uses → CanHold before after uses → IsTied st (use_held before after uses)
+pub tied_held : (st : StoreState) (before after : List ℕ) (uses : List Use) → IsTied st uses → CanMovePins before after uses → IsTied st (use_held before after uses)
 tied_held st before after uses tied (out, in_) = tied_pinned st after (unpin_each before uses) (tied_unpinned st before uses tied out) in_
 
-pub can_hold : (before after : List ℕ) (uses : List Use) → IsPool uses → ((q : ℕ) → times q before ≤ pins_of uses q) → ((q : ℕ) → 0 < times q after → IsSome (frame_of uses q)) → ((q : ℕ) → pins_of uses q + times q after ≤ 255) → CanHold before after uses
+pub can_hold : (before after : List ℕ) (uses : List Use) → IsPool uses → ((q : ℕ) → times q before ≤ pins_of uses q) → ((q : ℕ) → 0 < times q after → IsSome (frame_of uses q)) → ((q : ℕ) → pins_of uses q + times q after ≤ 255) → CanMovePins before after uses
 can_hold before after uses pool enough there few =
     let out = can_unpin before uses pool enough in (
       out,

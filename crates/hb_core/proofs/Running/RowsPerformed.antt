@@ -17,7 +17,7 @@ use Rattle.hb_core.specs.declared.halts.Halt.TheVariants.{GivesUp}
 use Rattle.hb_core.specs.declared.outcomes.Outcome.{Outcome}
 use Rattle.hb_core.specs.Acting.{Decodes, DoesRow}
 use Rattle.hb_core.specs.Performing.{latches_held}
-use Rattle.hb_core.specs.Pinning.{CanHold}
+use Rattle.hb_core.specs.Pinning.{CanMovePins}
 use Rattle.hb_core.specs.Using.{page_wanted, pages_of, use_done}
 use Rattle.hb_store.specs.Held.{IsTied}
 use Rattle.hb_core.specs.Asking.{wanted_by}
@@ -76,11 +76,11 @@ module _ {D : Type 0} (model : D → DiskModel) (x y : D) (c between : RunningCo
 
     -- its pins can go over
     pub row_may_hold : (pins : List ℕ) → pins ≡ page_wanted (wanted_by m actor) ++ pages_of (latches_held m.store (m.activity actor)) → (st : StoreState) → MayDo next.op (length between.order) between.store st → IsTied st (use_done next.op between.store between.uses)
-        → CanHold pins (pages_of (latches_held st (placed_at (length between.order) next.then))) (use_done next.op between.store between.uses)
+        → CanMovePins pins (pages_of (latches_held st (placed_at (length between.order) next.then))) (use_done next.op between.store between.uses)
     row_may_hold pins is = subst (λ (l : List ℕ). (st : StoreState) → MayDo next.op (length between.order) between.store st → IsTied st (use_done next.op between.store between.uses)
-        → CanHold l (pages_of (latches_held st (placed_at (length between.order) next.then))) (use_done next.op between.store between.uses)) (sym is)
+        → CanMovePins l (pages_of (latches_held st (placed_at (length between.order) next.then))) (use_done next.op between.store between.uses)) (sym is)
         (subst (λ (s : RunningCore). (st : StoreState) → MayDo next.op (length s.order) s.store st → IsTied st (use_done next.op s.store s.uses)
-        → CanHold (page_wanted (wanted_by m actor) ++ pages_of (latches_held m.store (m.activity actor))) (pages_of (latches_held st (placed_at (length s.order) next.then))) (use_done next.op s.store s.uses)) (sym rest)
+        → CanMovePins (page_wanted (wanted_by m actor) ++ pages_of (latches_held m.store (m.activity actor))) (pages_of (latches_held st (placed_at (length s.order) next.then))) (use_done next.op s.store s.uses)) (sym rest)
         (hold_after (model x) c m actor free may pages next row))
 
     pub row_may_join : (line : Option ℕ) → line ≡ number_of (hand_of (m.activity actor)) → IsSome (joins_order line next.then next.fate) → length between.order < length between.lines
