@@ -9,18 +9,18 @@ use hb_disk::{Disk, Pick};
 use std::alloc::Global;
 
 /// The file, and how many pages and bytes it may have: two superblocks, two log areas of 16 pages, and these pages.
-const WORDS: &str = "create 1 256 65536 6 32";
+const WORDS: &str = "create 1 192 65536 6 32";
 
-const PAGES: usize = 256;
+const PAGES: usize = 192;
 
 const SIZE: usize = 8192 + 2 * 65_536 + PAGES * 4096;
 
 /// How many records are put in.
-const COUNT: usize = 480;
+const COUNT: usize = 340;
 
 /// A file of records that were put in one behind the other, with the poster, and what the points have. An opening has put each
-/// page into its place, and these are more than there are frames. There are three levels, as in `many_pages`: 80 pages of
-/// records or more, 240 or less, and 21 above these or less.
+/// page into its place, and these are more than there are frames. There are three levels, as in `many_pages`: 57 pages of
+/// records or more, 170 or less, and 15 above these and the root or less.
 fn grown(alloc: Global) -> Option<(Plain, Vec<u8>)> {
     let mut commands = Commands::new(alloc, 1, 0);
     for place in 0..COUNT {
@@ -44,7 +44,7 @@ fn grown(alloc: Global) -> Option<(Plain, Vec<u8>)> {
 ///
 /// The frame of a delete has 5 bytes, 1 for the count of images, an image of 4,100, and 13 of the operation. A change is begun
 /// where the log has at most 49,147 bytes. Behind eleven it has 45,309, and behind twelve 49,428. So the last one is `full`.
-const POINTS: [usize; 13] = [30, 60, 90, 120, 150, 180, 210, 240, 270, 300, 330, 360, 390];
+const POINTS: [usize; 13] = [24, 48, 72, 96, 120, 144, 168, 192, 216, 240, 264, 288, 312];
 
 /// How many steps there are; what is said to the last delete and to a lookup of its point, and where the lookup is in the order;
 /// and how many pages are in their places.
@@ -60,7 +60,7 @@ const ROWS: [(u32, &str, &str, usize); 9] = [
     (88, "13 full\n14 unfinished\n", "", 12),
     (91, "13 full\n14 unfinished\n", "", 12),
     (92, "13 full\n14 unfinished\n", " 14", 12),
-    (93, "13 full\n14 found =391\n", " 14", 12),
+    (93, "13 full\n14 found =313\n", " 14", 12),
 ];
 
 /// The deletes, the lookup, and so many steps.
@@ -69,7 +69,7 @@ fn text_of(alloc: Global, steps: u32) -> Option<String> {
     for point in &POINTS {
         write!(text, "1 delete {point}\n").ok()?;
     }
-    write!(text, "1 lookup 390\nstep 1x{steps}\n").ok()?;
+    write!(text, "1 lookup 312\nstep 1x{steps}\n").ok()?;
     Some(text)
 }
 
