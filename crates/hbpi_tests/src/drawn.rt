@@ -178,7 +178,7 @@ pub(crate) fn driven(
 ) -> Option<(Told, Vec<u8>)> {
     let left = drive_on(alloc, commands.text.as_str(), file)?;
     let told = told_by(commands, before, left.said.as_str())?;
-    let bytes = left.disk.bytes().to_vec(alloc).ok()?;
+    let bytes = Vec::from_slice(alloc, left.disk.bytes()).ok()?;
     Some((told, bytes))
 }
 

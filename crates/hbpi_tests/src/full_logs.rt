@@ -3,45 +3,48 @@
 
 use crate::drawn::driven;
 use crate::many_pages::changed;
-use crate::ordered::{Commands, EMPTY, Plain, Verb, holds};
+use crate::ordered::{Commands, EMPTY, Plain, Verb, told_by};
 use crate::runs::{Left, drive_on, left_of, run_failing};
 use hb_disk::{Disk, Pick};
 use std::alloc::Global;
 
-/// How many bytes the file has: two superblocks, two log areas of 16 pages, 512 pages.
-const SIZE: usize = 8192 + 2 * 65_536 + 512 * 4096;
+/// The file, and how many pages and bytes it may have: two superblocks, two log areas of 16 pages, and these pages.
+const WORDS: &str = "create 1 192 65536 6 32";
 
-/// A file of 800 records that were put in one behind the other, in five runs with the poster, and what the points have. An opening
-/// has put each page into its place. There are three levels, as in `many_pages`.
+const PAGES: usize = 192;
+
+const SIZE: usize = 8192 + 2 * 65_536 + PAGES * 4096;
+
+/// How many records are put in.
+const COUNT: usize = 340;
+
+/// A file of records that were put in one behind the other, with the poster, and what the points have. An opening has put each
+/// page into its place, and these are more than there are frames. There are three levels, as in `many_pages`: 57 pages of
+/// records or more, 170 or less, and 15 above these and the root or less.
 fn grown(alloc: Global) -> Option<(Plain, Vec<u8>)> {
-    let mut plain = EMPTY;
-    let mut file = left_of(alloc, "create 1 512 65536 6 32", &[], SIZE, 0)?;
-    for run in 0..5usize {
-        let first = run.wrapping_mul(160);
-        let mut commands = Commands::new(alloc, 1, first);
-        for more in 0..160usize {
-            commands.add(1, Verb::Insert, first.wrapping_add(more))?;
-            commands.text.push_str("step 1x9 px12\n").ok()?;
-        }
-        commands.text.push_str("step 1x400\n").ok()?;
-        let (told, left) = driven(alloc, &commands, plain, file.as_slice())?;
-        if !told.done {
-            return None;
-        }
-        plain = told.whole;
-        file = left;
+    let mut commands = Commands::new(alloc, 1, 0);
+    for place in 0..COUNT {
+        commands.add(1, Verb::Insert, place)?;
     }
-    let opened = drive_on(alloc, "", file.as_slice())?;
-    Some((plain, opened.disk.bytes().to_vec(alloc).ok()?))
+    // steps enough: a step line is a line too, so all of them stand behind the commands
+    for _ in 0..COUNT {
+        commands.text.push_str("step 1x9 px12\n").ok()?;
+    }
+    let new = left_of(alloc, WORDS, &[], SIZE, 0)?;
+    let (told, left) = driven(alloc, &commands, EMPTY, new.as_slice())?;
+    let opened = drive_on(alloc, "", left.as_slice())?;
+    let file = Vec::from_slice(alloc, opened.disk.bytes()).ok()?;
+    if !told.done || changed(new.as_slice(), file.as_slice(), 16, PAGES) <= 128 {
+        return None;
+    }
+    Some((told.whole, file))
 }
 
-/// The points of 13 deletes: each has a page of its own, and none is beside the end of a run, where a posting may be lost.
+/// The points of 13 deletes: each has a page of its own, and none is beside the end, where a posting may be lost.
 ///
 /// The frame of a delete has 5 bytes, 1 for the count of images, an image of 4,100, and 13 of the operation. A change is begun
 /// where the log has at most 49,147 bytes. Behind eleven it has 45,309, and behind twelve 49,428. So the last one is `full`.
-const POINTS: [usize; 13] = [
-    40, 80, 120, 200, 240, 280, 360, 400, 440, 520, 560, 600, 680,
-];
+const POINTS: [usize; 13] = [24, 48, 72, 96, 120, 144, 168, 192, 216, 240, 264, 288, 312];
 
 /// How many steps there are; what is said to the last delete and to a lookup of its point, and where the lookup is in the order;
 /// and how many pages are in their places.
@@ -57,7 +60,7 @@ const ROWS: [(u32, &str, &str, usize); 9] = [
     (88, "13 full\n14 unfinished\n", "", 12),
     (91, "13 full\n14 unfinished\n", "", 12),
     (92, "13 full\n14 unfinished\n", " 14", 12),
-    (93, "13 full\n14 found =681\n", " 14", 12),
+    (93, "13 full\n14 found =313\n", " 14", 12),
 ];
 
 /// The deletes, the lookup, and so many steps.
@@ -66,7 +69,7 @@ fn text_of(alloc: Global, steps: u32) -> Option<String> {
     for point in &POINTS {
         write!(text, "1 delete {point}\n").ok()?;
     }
-    write!(text, "1 lookup 680\nstep 1x{steps}\n").ok()?;
+    write!(text, "1 lookup 312\nstep 1x{steps}\n").ok()?;
     Some(text)
 }
 
@@ -90,9 +93,12 @@ fn left_by(alloc: Global, file: &[u8], row: &(u32, &str, &str, usize)) -> Option
         return None;
     }
     let next = drive_on(alloc, "", left.disk.bytes())?;
-    let all = changed(file, next.disk.bytes(), 16);
-    let rest = changed(left.disk.bytes(), next.disk.bytes(), 16);
-    if changed(file, left.disk.bytes(), 16) != home || all != 12 || home.wrapping_add(rest) != 12 {
+    let all = changed(file, next.disk.bytes(), 16, PAGES);
+    let rest = changed(left.disk.bytes(), next.disk.bytes(), 16, PAGES);
+    if changed(file, left.disk.bytes(), 16, PAGES) != home
+        || all != 12
+        || home.wrapping_add(rest) != 12
+    {
         return None;
     }
     Some(left)
@@ -118,11 +124,23 @@ fn behind(plain: Plain) -> Plain {
     plain
 }
 
+/// Whether a file opens with these records, by a search of the whole space.
+fn has_all(alloc: Global, file: &[u8], plain: Plain) -> Option<bool> {
+    let mut commands = Commands::new(alloc, 1, 0);
+    commands.add(1, Verb::Whole, 0)?;
+    commands.text.push_str("step 1x2000\n").ok()?;
+    let left = drive_on(alloc, commands.text.as_str(), file)?;
+    match told_by(&commands, plain, left.said.as_str()) {
+        Some(told) => Some(told.done),
+        None => Some(false),
+    }
+}
+
 /// Whether what a crash before this call may have left has these records, for each of three images.
 fn all_hold(alloc: Global, left: &Left, before: u64, plain: Plain) -> Option<bool> {
     for &pick in &[Pick::Old, Pick::New, Pick::Noise(165)] {
         let image = left.disk.image(before, pick).ok()??;
-        if !holds(alloc, image.as_slice(), 1, 1024, plain, plain)? {
+        if !has_all(alloc, image.as_slice(), plain)? {
             return Some(false);
         }
     }

@@ -8,8 +8,10 @@ use crate::runs::{drive_on, left_of};
 use hb_disk::Disk;
 use std::alloc::Global;
 
-/// How many bytes such a file has: two superblocks, two log areas, 512 pages.
-const SIZE: usize = 8192 + 2 * 1_048_576 + 512 * 4096;
+/// How many pages such a file may have, and how many bytes it has: two superblocks, two log areas, and these pages.
+const PAGES: usize = 384;
+
+const SIZE: usize = 8192 + 2 * 1_048_576 + PAGES * 4096;
 
 /// How many records are put in.
 const COUNT: usize = 800;
@@ -26,17 +28,17 @@ const SPREAD: usize = 387;
 /// A new file of so many attributes.
 fn new_file(alloc: Global, k: u8) -> Option<Vec<u8>> {
     let words = if k == 1 {
-        "create 1 512 1048576 6 32"
+        "create 1 384 1048576 6 32"
     } else {
-        "create 2 512 1048576 6 32"
+        "create 2 384 1048576 6 32"
     };
     left_of(alloc, words, &[], SIZE, 0)
 }
 
-/// How many pages have other bytes in their places. Both files have log areas of so many pages.
-pub(crate) fn changed(one: &[u8], other: &[u8], area: usize) -> usize {
+/// How many of so many pages have other bytes in their places. Both files have log areas of so many pages.
+pub(crate) fn changed(one: &[u8], other: &[u8], area: usize, pages: usize) -> usize {
     let mut count = 0usize;
-    for page in 0..512usize {
+    for page in 0..pages {
         let at = page
             .wrapping_add(2)
             .wrapping_add(area)
@@ -74,11 +76,11 @@ fn grown(alloc: Global, k: u8, far: usize) -> Option<(Told, Vec<u8>)> {
     grow(&mut commands.text)?;
     let new = new_file(alloc, k)?;
     let (told, file) = driven(alloc, &commands, EMPTY, new.as_slice())?;
-    if !told.done || changed(new.as_slice(), file.as_slice(), 256) < HOME {
+    if !told.done || changed(new.as_slice(), file.as_slice(), 256, PAGES) < HOME {
         return None;
     }
     let opened = drive_on(alloc, "", file.as_slice())?;
-    Some((told, opened.disk.bytes().to_vec(alloc).ok()?))
+    Some((told, Vec::from_slice(alloc, opened.disk.bytes()).ok()?))
 }
 
 /// The inserts, and behind them in the same run 200 lines of three sessions all over the file, and a search of the whole space.
@@ -105,7 +107,7 @@ fn is_driven(alloc: Global, k: u8) -> Option<bool> {
     let commands = story(alloc, k)?;
     let new = new_file(alloc, k)?;
     let (told, file) = driven(alloc, &commands, EMPTY, new.as_slice())?;
-    if !told.done || changed(new.as_slice(), file.as_slice(), 256) < HOME {
+    if !told.done || changed(new.as_slice(), file.as_slice(), 256, PAGES) < HOME {
         return Some(false);
     }
     holds(alloc, file.as_slice(), k, 1024, told.whole, told.whole)
@@ -136,26 +138,30 @@ const CHANGING: Wave = Wave {
     beside: "c",
 };
 
-/// Whether a case is right over a file that has grown. Its first run is cut off by its schedule.
+/// Whether a case is right over a file that has grown. Its first run is cut off by its schedule; pages that it changed had to
+/// leave memory, so some are in their places.
 fn is_right(alloc: Global, draw: &mut Draw, before: Plain, file: &[u8]) -> Option<bool> {
     let first = draw.commands(alloc, &CHANGING, 1000)?;
-    let (one, file) = driven(alloc, &first, before, file)?;
+    let (one, after) = driven(alloc, &first, before, file)?;
+    if changed(file, after.as_slice(), 256, PAGES) == 0 {
+        return Some(false);
+    }
     let mut second = draw.commands(alloc, &CHANGING, 2000)?;
     finish(&mut second.text, 200)?;
-    let (two, file) = driven(alloc, &second, one.settled, file.as_slice())?;
+    let (two, file) = driven(alloc, &second, one.settled, after.as_slice())?;
     if !two.done {
         return Some(false);
     }
     holds(alloc, file.as_slice(), draw.k, 1024, two.whole, two.whole)
 }
 
-/// Whether the cases of six seeds from this one on are right, over a file of so many attributes.
+/// Whether the cases of two seeds from this one on are right, over a file of so many attributes.
 fn are_right(alloc: Global, k: u8, first: u64) -> Option<bool> {
     let (told, file) = grown(alloc, k, SPREAD)?;
-    for more in 0..6u64 {
+    for more in 0..2u64 {
         let mut draw = Draw {
             k,
-            sessions: more % 4 + 1,
+            sessions: more * 2 + u64::from(k),
             seed: first.wrapping_add(more),
         };
         if !is_right(alloc, &mut draw, told.whole, file.as_slice())? {
@@ -203,7 +209,7 @@ fn ends(
 ) -> Option<bool> {
     let file = before.1.as_slice();
     let (told, left) = driven(alloc, commands, before.0.whole, file)?;
-    if changed(file, left.as_slice(), 256) != written {
+    if changed(file, left.as_slice(), 256, PAGES) != written {
         return None;
     }
     Some(told.done)
@@ -251,9 +257,8 @@ fn calls_of(alloc: Global, file: &[u8], count: usize, times: usize) -> Option<u6
 
 /// Whether so many lookups, each on a page of its own, read what they have to where they are made twice. At first each page is
 /// read once. Then none is read again where all have frames. Else each page of records is, since 128 others or more were used
-/// behind it; the root isn't, and those between may still be there.
-fn are_read_again(alloc: Global, file: &[u8], count: usize) -> Option<bool> {
-    let none = calls_of(alloc, file, count, 0)?;
+/// behind it; the root isn't, and those between may still be there. An opening alone makes so many calls.
+fn are_read_again(alloc: Global, file: &[u8], count: usize, none: u64) -> Option<bool> {
     let once = calls_of(alloc, file, count, 1)?;
     let first = once.saturating_sub(none);
     let again = calls_of(alloc, file, count, 2)?.saturating_sub(once);
@@ -265,13 +270,16 @@ fn are_read_again(alloc: Global, file: &[u8], count: usize) -> Option<bool> {
     Some(right && first > count as u64)
 }
 
-// 90 pages of records have frames, with 27 pages above them at most: one of these names 11 others or more, and one of records has
-// two records. 130 have none.
+/// How many points. 90 pages of records have frames, with 27 pages above them at most: one of these names 11 others or more, and
+/// one of records has two records. 130 have none.
+const READ_AGAIN: [usize; 9] = [90, 95, 100, 105, 110, 115, 120, 125, 130];
+
 #[test]
 fn pages_that_were_used_leave_last(rt: HostRuntime) {
     let (_, file) = grown(rt.alloc(), 1, IN_ORDER).expect(&rt, "a file");
-    for count in 90..131 {
-        let right = are_read_again(rt.alloc(), file.as_slice(), count);
+    let none = calls_of(rt.alloc(), file.as_slice(), 0, 0).expect(&rt, "an opening");
+    for &count in &READ_AGAIN {
+        let right = are_read_again(rt.alloc(), file.as_slice(), count, none);
         assert!(rt; right == Some(true), "{count}");
     }
 }

@@ -162,7 +162,7 @@ pub(crate) fn left_by(alloc: Global, row: &Row) -> Option<Left> {
     };
     for text in row.1 {
         let left = drive_on(alloc, text, file.as_slice())?;
-        file = left.disk.bytes().to_vec(alloc).ok()?;
+        file = Vec::from_slice(alloc, left.disk.bytes()).ok()?;
     }
     drive_on(alloc, row.2, file.as_slice())
 }

@@ -106,7 +106,7 @@ pub(crate) fn run_failing(
     call: u64,
 ) -> Option<Left> {
     let calls = Vec::from_slice(alloc, &[call]).ok()?;
-    let bytes = bytes.to_vec(alloc).ok()?;
+    let bytes = Vec::from_slice(alloc, bytes).ok()?;
     let disk = MemDisk::failing(alloc, bytes, calls);
     run_over(alloc, words, text, NEVER, NEVER, disk)
 }
@@ -121,6 +121,17 @@ pub(crate) fn drive_on(alloc: Global, text: &str, bytes: &[u8]) -> Option<Left> 
     run_on(alloc, "drive", text, bytes)
 }
 
+/// So many bytes of one kind, a page at a time.
+fn filled(alloc: Global, byte: u8, size: usize) -> Option<Vec<u8>> {
+    let page = [byte; 4096];
+    let mut all = Vec::new(alloc);
+    for _ in 0..size / 4096 {
+        all.extend_from_slice(&page).ok()?;
+    }
+    all.extend_from_slice(page.get(..size % 4096)?).ok()?;
+    Some(all)
+}
+
 /// The bytes that the words leave of a disk of so many bytes of one kind, and then these texts with `drive`, one after the
 /// other.
 pub(crate) fn left_of(
@@ -130,12 +141,12 @@ pub(crate) fn left_of(
     size: usize,
     byte: u8,
 ) -> Option<Vec<u8>> {
-    let all = vec![in alloc; byte; size].ok()?;
+    let all = filled(alloc, byte, size)?;
     let mut left = run_on(alloc, words, "", all.as_slice())?;
     for text in texts {
         left = drive_on(alloc, text, left.disk.bytes())?;
     }
-    left.disk.bytes().to_vec(alloc).ok()
+    Vec::from_slice(alloc, left.disk.bytes()).ok()
 }
 
 /// The bytes that these texts leave of a new file of one attribute.
