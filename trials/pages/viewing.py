@@ -110,7 +110,8 @@ def changed(rng, page):
     level, (lo, hi), tree = page
     if rng.random() < 0.2 and len(model.page_bytes(page)) < PAGE:
         return filled(rng, page)
-    for _ in range(rng.randint(1, 2)):
+    tree = break_tree(rng, tree, (lo, hi))
+    if well_cut(tree, (lo, hi)) and rng.random() < 0.5:
         tree = break_tree(rng, tree, (lo, hi))
     if rng.random() < 0.1:
         axis = rng.randrange(len(lo))
