@@ -9,7 +9,7 @@ import struct
 from reading import OPEN, PAGE, Bad, body_bytes, log_at, page_at, size_of, whole_page
 from replaying import change
 from model import leaf_at, leaves, page_bytes, post_plan, whole
-from random_pages import parts_of, point_in
+from making import parts_of, point_in
 
 
 class File:

@@ -2,7 +2,7 @@
 from reading import OPEN, log_at, whole_page
 from files import OPS, fresh_page, group_bytes, live, more_page_images, near, noise, some_cuts, spelled_or_none
 from model import TOP, normal, whole
-from random_pages import a_box, break_page, data_page, parts_of, point_in, tree_of, value
+from making import a_box, break_page, data_page, parts_of, point_in, tree_of, value
 
 
 # ---- frames

@@ -2,7 +2,7 @@
 from reading import PAGE, page_at, size_of, whole_page
 from files import live, noise, spelled_or_none
 from model import TOP, leaves, whole, with_part, within
-from random_pages import a_cut, break_page, parts_of
+from making import a_cut, break_page, parts_of
 
 
 def touched(file):

@@ -1,7 +1,7 @@
 """Superblocks spoiled: fields, bytes, places, and what they say of the file."""
 from reading import LIMITS, OPEN, PAGE, body_bytes, whole_page
 from files import fresh_page, live, near, noise, some_cuts
-from random_pages import parts_of, point_in
+from making import parts_of, point_in
 
 # where each field stands, and how many bytes it has
 SPOTS = dict(

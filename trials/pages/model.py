@@ -270,23 +270,29 @@ def post_plan(parent, child, p, icap):
 
 # ---- bytes
 
-def tree_bytes(tree):
+def tree_fields(tree):
+    """The fields of a fragment, one after the other."""
     if tree[0] == "cut":
         _, axis, value, left, right = tree
-        return struct.pack(">BBQ", 0, axis, value) + tree_bytes(left) + tree_bytes(right)
+        return [b"\0", struct.pack(">B", axis), struct.pack(">Q", value)] + tree_fields(left) + tree_fields(right)
     if tree[0] == "records":
-        text = struct.pack(">BH", 1, len(tree[1]))
+        fields = [b"\1", struct.pack(">H", len(tree[1]))]
         for point, body in tree[1]:
-            text += b"".join(struct.pack(">Q", x) for x in point) + bytes([len(body)]) + body
-        return text
-    return struct.pack(">BI", {"child": 2, "sibling": 3}[tree[0]], tree[1])
+            fields += [struct.pack(">Q", x) for x in point] + [bytes([len(body)]), body]
+        return fields
+    return [bytes([{"child": 2, "sibling": 3}[tree[0]]]), struct.pack(">I", tree[1])]
+
+
+def page_fields(page):
+    """The fields of a page, without the zeros behind them."""
+    if page is None:
+        return [b"\x09"]
+    if page[0] == "free":
+        return [b"\2", struct.pack(">I", page[1])]
+    level, (lo, hi), tree = page
+    head = [b"\1", bytes([level]), bytes([len(lo)]), b"\0"]
+    return head + [struct.pack(">Q", x) for x in lo + hi] + tree_fields(tree)
 
 
 def page_bytes(page):
-    """The fields of a page, without the zeros behind them."""
-    if page is None:
-        return b"\x09"
-    if page[0] == "free":
-        return struct.pack(">BI", 2, page[1])
-    level, (lo, hi), tree = page
-    return bytes([1, level, len(lo), 0]) + b"".join(struct.pack(">Q", x) for x in lo + hi) + tree_bytes(tree)
+    return b"".join(page_fields(page))

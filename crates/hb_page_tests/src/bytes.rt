@@ -2,6 +2,10 @@
 //!
 //! A word is a byte, `COUNT*BYTE,BYTE` for some bytes many times, `@LENGTH` to cut the bytes off
 //! there or fill them up with zeros, `PLACE:BYTE` to put another byte at a place, or a name.
+//!
+//! Of a tree it may be `ATTRIBUTE<COUNT`, cuts at COUNT, COUNT - 1 down to 1, each the left side of the one before;
+//! `ATTRIBUTE>COUNT`, cuts at 1, 2 up to COUNT, each the right side of the one before, with an empty leaf of records as
+//! their left sides; or `PAGE^COUNT`, as many child leaves, to PAGE, PAGE + 1 and on.
 
 use std::alloc::Global;
 use std::test::Fail;
@@ -13,6 +17,17 @@ fn named(word: &str) -> &str {
         "first" => "1 0 1 0 8*0 8*255 1 0 0",
         // the same with 452 records of point 0 with an empty body: 5 bytes are left behind them
         "full" => "1 0 1 0 8*0 8*255 1 1 196",
+        // the deepest page: all its 4,096 bytes are taken. Of its 313 cuts each is the left side of the one before. The
+        // deepest leaf is sibling 7, the last one from the left sibling 9, and 312 empty leaves of records are between
+        "deep" => "1 0 1 0 8*0 8*255 0<313 3 0 0 0 7 312*1,0,0 3 0 0 0 9",
+        // 312 such cuts, and 0 with the body `a` in the deepest leaf
+        "pit" => "1 0 1 0 8*0 8*255 0<312 1 0 1 8*0 1 97 312*1,0,0",
+        // of 313 cuts each is the right side of the one before, and the deepest leaf is sibling 9
+        "slope" => "1 0 1 0 8*0 8*255 0>313 3 0 0 0 9",
+        // children 1 to 256: sixteen rows of sixteen, cut at 1 to 15 in both attributes
+        "grid" => {
+            "1 1 2 0 16*0 16*255 0<15 1<15 1^16 1<15 17^16 1<15 33^16 1<15 49^16 1<15 65^16 1<15 81^16 1<15 97^16 1<15 113^16 1<15 129^16 1<15 145^16 1<15 161^16 1<15 177^16 1<15 193^16 1<15 209^16 1<15 225^16 1<15 241^16"
+        }
         // the free page that ends its chain
         "page" => "2 4095*0",
         // the put of the point 5 with the body `a` into page 1, and no page image
@@ -49,6 +64,48 @@ fn put_byte(bytes: &mut [u8], at: usize, byte: u8) -> Result<(), Fail> {
     Ok(())
 }
 
+fn push_cut(bytes: &mut Vec<u8>, axis: u8, value: u64) -> Result<(), Fail> {
+    bytes.extend_from_slice(&[0, axis])?;
+    Ok(bytes.extend_from_slice(&value.to_be_bytes())?)
+}
+
+fn push_lefts(bytes: &mut Vec<u8>, axis: u8, count: u64) -> Result<(), Fail> {
+    for value in (1..=count).rev() {
+        push_cut(bytes, axis, value)?;
+    }
+    Ok(())
+}
+
+fn push_rights(bytes: &mut Vec<u8>, axis: u8, count: u64) -> Result<(), Fail> {
+    for value in 1..=count {
+        push_cut(bytes, axis, value)?;
+        bytes.extend_from_slice(&[1, 0, 0])?;
+    }
+    Ok(())
+}
+
+fn push_children(bytes: &mut Vec<u8>, first: u32, count: u32) -> Result<(), Fail> {
+    for place in 0..count {
+        let page = first.checked_add(place).ok_or("no such page")?;
+        bytes.push(2)?;
+        bytes.extend_from_slice(&page.to_be_bytes())?;
+    }
+    Ok(())
+}
+
+fn push_nodes(bytes: &mut Vec<u8>, word: &str) -> Result<(), Fail> {
+    if let Some((axis, count)) = word.split_once('<') {
+        return push_lefts(bytes, axis.parse()?, count.parse()?);
+    }
+    if let Some((axis, count)) = word.split_once('>') {
+        return push_rights(bytes, axis.parse()?, count.parse()?);
+    }
+    match word.split_once('^') {
+        Some((first, count)) => push_children(bytes, first.parse()?, count.parse()?),
+        None => Ok(bytes.push(word.parse()?)?),
+    }
+}
+
 fn push_word(bytes: &mut Vec<u8>, word: &str) -> Result<(), Fail> {
     if let Some(length) = word.strip_prefix('@') {
         return Ok(bytes.resize(length.parse()?, 0)?);
@@ -58,7 +115,7 @@ fn push_word(bytes: &mut Vec<u8>, word: &str) -> Result<(), Fail> {
     }
     match word.split_once('*') {
         Some((count, items)) => push_many(bytes, count.parse()?, items),
-        None => Ok(bytes.push(word.parse()?)?),
+        None => push_nodes(bytes, word),
     }
 }
 

@@ -20,6 +20,8 @@ mod changes;
 #[cfg(test)]
 mod drawn;
 #[cfg(test)]
+mod great_pages;
+#[cfg(test)]
 mod groups;
 #[cfg(test)]
 mod layouts;

@@ -1,7 +1,9 @@
 //! Tables of rows. A row is `KIND: QUESTION => ANSWER`; a line that begins with `//` is a comment.
 
 use crate::spelled::halves;
-use crate::{boxes, carving, changes, groups, layouts, pages, places, plans, splits, views};
+use crate::{
+    boxes, carving, changes, great_pages, groups, layouts, pages, places, plans, splits, views,
+};
 use std::alloc::Global;
 use std::process::Abort;
 use std::test::Fail;
@@ -35,6 +37,7 @@ fn answer(alloc: Global, text: &str) -> Result<String, Fail> {
         "bytes" => pages::bytes(alloc, question),
         "long" => pages::long(alloc, question),
         "view" => views::view(alloc, question),
+        "asked" => great_pages::asked(alloc, question),
         "groups" => groups::groups(alloc, question),
         "points" => splits::points(alloc, question),
         "steps" => splits::steps(alloc, question),

@@ -17,7 +17,7 @@ use hb_view::{LeafView, PageView};
 use std::alloc::Global;
 use std::test::Fail;
 
-fn push_leaf(text: &mut String, leaf: LeafView) -> Result<(), NoMemory> {
+pub(crate) fn push_leaf(text: &mut String, leaf: LeafView) -> Result<(), NoMemory> {
     match leaf {
         LeafView::Records => text.push_str("records"),
         LeafView::Child(page) => write!(text, "^{page}"),
@@ -51,7 +51,11 @@ fn push_head(text: &mut String, view: &PageView<'_>) -> Result<(), NoMemory>
 }
 
 // The leaf at the point, its box, and the body of the point's record.
-fn push_found(text: &mut String, view: &PageView<'_>, point: &Point) -> Result<(), NoMemory>
+pub(crate) fn push_found(
+    text: &mut String,
+    view: &PageView<'_>,
+    point: &Point,
+) -> Result<(), NoMemory>
     requires cut { IsLiveAnd view.now WellCut }
     requires held { IsLiveAnd view.now (λ page. Holds page.area point.now) }
 {
@@ -63,7 +67,7 @@ fn push_found(text: &mut String, view: &PageView<'_>, point: &Point) -> Result<(
 }
 
 // Whether the page is well cut and the point lies in its box.
-fn reaches(page: &LivePage, point: &Point) -> bool
+pub(crate) fn reaches(page: &LivePage, point: &Point) -> bool
     ensures cut { IsTrue result → WellCut page.now }
     ensures held { IsTrue result → Holds page.now.area point.now }
 {

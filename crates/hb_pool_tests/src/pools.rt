@@ -189,6 +189,41 @@ fn pinned_pages_stay(rt: HostRuntime) {
     assert_eq!(rt; count(&pool, 125), 124);
 }
 
+// Nineteen actors with three pages each: the first has 2, 4 and 6, the last 110, 112 and 114.
+fn pin_threes(pool: &mut Pool) -> bool {
+    (1..=19).all(|actor| {
+        pin(pool, 6 * actor - 4) && pin(pool, 6 * actor - 2) && pin(pool, 6 * actor)
+    })
+}
+
+// Once 71 pages came, 201 to 271. The last actor lets page 114 go then, which was used before 202.
+const HELD: [Row; 4] = [
+    ('b', 272, 201, 71, 0),
+    ('u', 114, 0, 72, 0),
+    ('b', 273, 114, 72, 0),
+    ('b', 274, 202, 72, 0),
+];
+
+#[test]
+fn fifty_seven_pages_stay(rt: HostRuntime) {
+    let mut pool = Pool::new(rt.alloc()).expect(&rt, "memory");
+    let filled = fill(&mut pool, 1, 128);
+    let pinned = pin_threes(&mut pool);
+    assert!(rt; filled && pinned);
+    assert_eq!(rt; pool.places(), 71);
+    // nobody holds 1, 3 .. 113, which are 57, and 115 to 128, which are 14
+    for n in 1..=57 {
+        go(&rt, &mut pool, &[('b', 200 + n, 2 * n - 1, 71, 0)]);
+    }
+    for n in 58..=71 {
+        go(&rt, &mut pool, &[('b', 200 + n, 57 + n, 71, 0)]);
+    }
+    let stay = (1..=57).all(|n| has(&pool, 2 * n));
+    assert!(rt; stay && count(&pool, 128) == 57);
+    go(&rt, &mut pool, &HELD);
+    assert_eq!(rt; count(&pool, 200), 56);
+}
+
 #[test]
 fn pages_go_in_the_order_in_which_they_came(rt: HostRuntime) {
     let mut pool = Pool::new(rt.alloc()).expect(&rt, "memory");

@@ -1,0 +1,201 @@
+//! Views of pages that have as many cuts one below the other, or as many children, as a page may have.
+//!
+//! A question is the bytes of a page in use, ` ? `, and what is asked: `rule DCAP ICAP` for its level, its weight and the first
+//! rule that it breaks in a file of two levels with these capacities; `at POINT` for the leaf there, its box, the body of the
+//! point's record and how many records the leaf has; `named PAGE` for the boxes of the first sibling leaf and of the first child
+//! leaf that name the page; `place PLACE` for the leaf at a place from the left and its box.
+
+ghost use Rattle.std.specs.Prelude.{◌≡◌};
+ghost use Rattle.hb_frag.specs.Leaves.{WellCut};
+ghost use Rattle.hb_frag.specs.declared.pages.Page.TheVariants.{Live};
+ghost use Rattle.hb_view.specs.Views.{IsLiveAnd};
+
+use crate::bytes::bytes_of;
+use crate::drawn::push_area;
+use crate::rows::expect_all;
+use crate::spelled::{halves, point_from};
+use crate::views::{push_found, push_leaf, reaches};
+use hb_frag::{LivePage, Page};
+use hb_space::form::PAGE;
+use hb_space::{Area, NoMemory, Point};
+use hb_view::PageView;
+use std::alloc::Global;
+use std::test::Fail;
+
+fn push_first(text: &mut String, area: Option<Area>) -> Result<(), NoMemory> {
+    match area {
+        Some(area) => push_area(text, &area),
+        None => text.push_str(" none"),
+    }
+}
+
+fn push_named(text: &mut String, view: &PageView<'_>, id: u32) -> Result<(), NoMemory>
+    requires { IsLiveAnd view.now WellCut }
+{
+    text.push_str("sibling")?;
+    push_first(text, view.sibling_area(id))?;
+    text.push_str(", child")?;
+    push_first(text, view.child_area(id))
+}
+
+fn push_place(text: &mut String, view: &PageView<'_>, place: u32) -> Result<(), NoMemory>
+    requires { IsLiveAnd view.now WellCut }
+{
+    match view.leaf(place) {
+        Some((leaf, area)) => {
+            push_leaf(text, leaf)?;
+            push_area(text, &area)
+        }
+        None => text.push_str("none"),
+    }
+}
+
+fn push_leaves(
+    text: &mut String,
+    view: &PageView<'_>,
+    word: &str,
+    number: u32,
+) -> Result<(), NoMemory>
+    requires { IsLiveAnd view.now WellCut }
+{
+    if word == "named" {
+        push_named(text, view, number)
+    } else {
+        push_place(text, view, number)
+    }
+}
+
+fn push_rule(
+    text: &mut String,
+    view: &PageView<'_>,
+    page: &LivePage,
+    capacities: (u16, u16),
+) -> Result<(), NoMemory>
+    requires { view.now ≡ Live page.now }
+{
+    write!(text, "{} {}", view.level(), view.weight())?;
+    let (dcap, icap) = capacities;
+    match view.broken(page.area.lo().attributes(), 2, dcap, icap) {
+        None => text.push_str(" ok"),
+        Some(rule) => write!(text, " {rule}"),
+    }
+}
+
+fn push_point(
+    text: &mut String,
+    view: &PageView<'_>,
+    page: &LivePage,
+    point: &Point,
+) -> Result<(), Fail>
+    requires { view.now ≡ Live page.now }
+{
+    if !reaches(page, point) {
+        return Err("not in the page's box".into());
+    }
+    push_found(text, view, point)?;
+    Ok(write!(text, " {}", view.count_at(point))?)
+}
+
+fn push_asked(
+    text: &mut String,
+    view: &PageView<'_>,
+    page: &LivePage,
+    asked: &str,
+) -> Result<(), Fail>
+    requires { view.now ≡ Live page.now }
+{
+    let (word, rest) = halves(asked, " ", "no word")?;
+    if word == "at" {
+        return push_point(text, view, page, &point_from(rest)?);
+    }
+    if word == "rule" {
+        let (dcap, icap) = halves(rest, " ", "one capacity")?;
+        return Ok(push_rule(text, view, page, (dcap.parse()?, icap.parse()?))?);
+    }
+    if !page.is_well_cut() {
+        return Err("badly cut".into());
+    }
+    Ok(push_leaves(text, view, word, rest.parse()?)?)
+}
+
+fn live_text(alloc: Global, view: &PageView<'_>, asked: &str) -> Result<String, Fail> {
+    match view.page(alloc)? {
+        Page::Free { .. } => Err("a free page".into()),
+        Page::Live(page) => {
+            let mut text = String::new(alloc);
+            push_asked(&mut text, view, &page, asked)?;
+            Ok(text)
+        }
+    }
+}
+
+/// What a view tells of some bytes, with zeros behind them up to the length of a page.
+pub(crate) fn asked(alloc: Global, question: &str) -> Result<String, Fail> {
+    let (bytes, asked) = halves(question, " ? ", "nothing asked")?;
+    let mut bytes = bytes_of(alloc, bytes)?;
+    bytes.resize(PAGE, 0)?;
+    match PageView::checked(&bytes) {
+        Some(view) => live_text(alloc, &view, asked),
+        None => Err("no page".into()),
+    }
+}
+
+#[test]
+fn views_of_great_pages(rt: HostRuntime) -> Result<(), Fail> {
+    expect_all(&rt, rt.alloc(), ROWS)
+}
+
+const ROWS: &str = "
+// leaf 0 from the left is below all cuts and has 0 alone, leaf 1 has 1 alone, and the last one all from 313 on
+asked: deep ? rule 314 32 => 0 314 ok
+asked: deep ? rule 313 32 => 0 314 5
+asked: deep ? at 0 => : >7 0..0 none 0
+asked: deep ? at 1 => : records 1..1 none 0
+asked: deep ? at 312 => : records 312..312 none 0
+asked: deep ? at 313 => : >9 313.. none 0
+asked: deep ? named 7 => sibling 0..0, child none
+asked: deep ? named 9 => sibling 313.., child none
+asked: deep ? named 8 => sibling none, child none
+asked: deep ? place 0 => >7 0..0
+asked: deep ? place 1 => records 1..1
+asked: deep ? place 312 => records 312..312
+asked: deep ? place 313 => >9 313..
+asked: deep ? place 314 => none
+// its last byte is the last one of sibling 9
+asked: deep 4095:1 ? at 313 => : >1 313.. none 0
+// the deepest leaf has the point 0 with the body a; it and the leaf beside it should be one
+asked: pit ? rule 313 32 => 0 313 10
+asked: pit ? rule 312 32 => 0 313 5
+asked: pit ? at 0 => : records 0..0 a 1
+asked: pit ? at 1 => : records 1..1 none 0
+asked: pit ? at 312 => : records 312.. none 0
+asked: pit ? place 312 => records 312..
+asked: pit ? place 313 => none
+// the deepest leaf is the last one
+asked: slope ? rule 314 32 => 0 314 ok
+asked: slope ? rule 313 32 => 0 314 5
+asked: slope ? at 0 => : records 0..0 none 0
+asked: slope ? at 312 => : records 312..312 none 0
+asked: slope ? at 313 => : >9 313.. none 0
+asked: slope ? named 9 => sibling 313.., child none
+asked: slope ? place 312 => records 312..312
+asked: slope ? place 313 => >9 313..
+asked: slope ? place 314 => none
+// child 16 A + B + 1 has the points whose attributes are A and B; those from 15 on are one
+asked: grid ? rule 48 256 => 1 256 ok
+asked: grid ? rule 48 255 => 1 256 5
+asked: grid ? at 0 0 => : ^1 0..0 0..0 none 0
+asked: grid ? at 3 7 => : ^56 3..3 7..7 none 0
+asked: grid ? at 14 15 => : ^240 14..14 15.. none 0
+asked: grid ? at 15 0 => : ^241 15.. 0..0 none 0
+asked: grid ? at 1000 2 => : ^243 15.. 2..2 none 0
+asked: grid ? at 15 15 => : ^256 15.. 15.. none 0
+asked: grid ? named 1 => sibling none, child 0..0 0..0
+asked: grid ? named 56 => sibling none, child 3..3 7..7
+asked: grid ? named 256 => sibling none, child 15.. 15..
+asked: grid ? named 257 => sibling none, child none
+asked: grid ? place 0 => ^1 0..0 0..0
+asked: grid ? place 55 => ^56 3..3 7..7
+asked: grid ? place 255 => ^256 15.. 15..
+asked: grid ? place 256 => none
+";
