@@ -2,6 +2,7 @@
 //! opened again after a stop before each device call, also where that opening is stopped in its turn, and after each failing
 //! one. Then the same file with a byte or two that are other ones. Offsets and bytes are worked out from `docs/FORMAT.md`.
 
+use crate::drives::is_same;
 use hb_disk::{Disk, MemDisk, Pick};
 use hb_ops::Meta;
 use hb_restart::{Layout, OpenFault, create, recover};
@@ -203,7 +204,7 @@ fn is_kept(alloc: Global, disk: &MemDisk, before: u64, pick: Pick) -> bool {
 /// The first call before which a crash doesn't. `None` where there is none.
 fn first_lost(alloc: Global, disk: &MemDisk, pick: Pick) -> Option<u64> {
     for before in 0..disk.calls().saturating_add(1) {
-        if !is_kept(alloc, disk, before, pick) {
+        if !is_same(disk, before, pick) && !is_kept(alloc, disk, before, pick) {
             return Some(before);
         }
     }
@@ -221,7 +222,7 @@ fn is_kept_twice(alloc: Global, disk: &MemDisk, before: u64, pick: Pick) -> bool
 /// The first call before which a crash leaves bytes of which this isn't so.
 fn first_lost_again(alloc: Global, disk: &MemDisk, pick: Pick) -> Option<u64> {
     for before in 0..disk.calls().saturating_add(1) {
-        if !is_kept_twice(alloc, disk, before, pick) {
+        if !is_same(disk, before, pick) && !is_kept_twice(alloc, disk, before, pick) {
             return Some(before);
         }
     }
