@@ -214,7 +214,7 @@ pub(crate) fn image_opened(
 }
 
 /// Whether a crash before this call leaves the same bytes as one before the call in front of it, so that one trial does for both.
-pub(crate) fn is_same(disk: &MemDisk, before: u64, pick: Pick) -> bool {
+fn is_same(disk: &MemDisk, before: u64, pick: Pick) -> bool {
     if before == 0 {
         return false;
     }
