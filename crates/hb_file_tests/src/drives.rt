@@ -57,7 +57,6 @@ pub(crate) fn file(alloc: Global, tree: &Tree) -> Option<Vec<u8>> {
 }
 
 /// The store of a file, over a disk that tells nothing and fails at the call of this number.
-#[tactic(auto, using(crate::proofs::Untold::new_driven))]
 fn opened(alloc: Global, bytes: Vec<u8>, failing: u64) -> Option<Store<RotDisk>>
     ensures { IfSome result (λ store. IsDrivenHere (seen_as store) (uses_of store)) }
 {
@@ -104,7 +103,6 @@ fn number(store: &mut Store<RotDisk>) -> Option<u32>
 }
 
 /// Takes a step, and forces its group. `Some(false)` where the force failed; `None` where something else isn't as it is to be.
-#[tactic(auto, using(crate::proofs::Untold::forced))]
 pub(crate) fn stepped(
     alloc: Global,
     store: &mut Store<RotDisk>,
