@@ -1,6 +1,6 @@
 -- What tests use of a store: over a disk that tells nothing no licence is owed, and each call leaves a driven store driven.
-use Rattle.std.proofs.Common.{◌≡◌, ◌≢◌, inl, inr, ℕ, ◌<◌, ◌≤◌, ◌==◌, Bool, true, false, cond, List, [], ◌∷◌, ◌++◌, All, Option, Some, None, IsSome, IsTrue, Result, Ok, Err, OnOk, refl, sym, ap, ◌∙◌, subst, arith}
-use Rattle.std.specs.Prelude.{◌||◌, IsOk, IsSomeAnd, MatchOption}
+use Rattle.std.proofs.Common.{◌≡◌, ◌≢◌, inl, inr, ℕ, ◌<◌, ◌≤◌, ◌==◌, Bool, true, false, cond, List, [], ◌∷◌, All, Option, Some, None, IsSome, IsTrue, Result, Ok, refl, sym, ap, ◌∙◌, subst, arith}
+use Rattle.std.specs.Prelude.{IsOk, IsSomeAnd, MatchOption}
 use Rattle.std.specs.Option.{is_some}
 use Rattle.std.proofs.lemmas.Bool.{eq-eqb, eqb-true, or_cases, or_right}
 use Rattle.std.proofs.lemmas.List.Elements.{All-append, All-head, All-nil, All-tail}
@@ -18,7 +18,7 @@ use Rattle.hb_ops.specs.Operations.{IsLicensed, reads_of}
 use Rattle.hb_ops.proofs.Facts.AllowedOps.{reads_some}
 use Rattle.hb_pool.specs.Frames.{Use, has_id, must_stay, pinned}
 use Rattle.hb_pool.specs.Pools.{frame_of, put_last}
-use Rattle.hb_store.specs.Calls.{Commits, Fetched, HasFrameFor, HasPlaces, IsAllowedHere, StaysHere, numbers_changed, use_changed, use_fetched}
+use Rattle.hb_store.specs.Calls.{Commits, Fetched, HasFrameFor, HasPlaces, IsAllowedHere, numbers_changed, use_changed, use_fetched}
 use Rattle.hb_store.specs.States.{IsNew, StoreState, in_memory}
 use Rattle.hb_store.specs.Keeps.{StoreKeeps, last_of}
 use Rattle.hb_store.specs.Fetching.{MayFetch, use_numbered}
