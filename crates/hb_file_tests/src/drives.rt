@@ -211,17 +211,6 @@ pub(crate) fn image_opened(
     reopened(alloc, tree, count, disk.image(before, pick).ok()??)
 }
 
-/// Whether a crash before this call leaves the same bytes as one before the call in front of it, so that one trial does for both.
-fn is_same(disk: &MemDisk, before: u64, pick: Pick) -> bool {
-    if before == 0 {
-        return false;
-    }
-    match (disk.image(before - 1, pick), disk.image(before, pick)) {
-        (Ok(Some(earlier)), Ok(Some(later))) => earlier == later,
-        _ => false,
-    }
-}
-
 /// How many steps a crash leaves that comes before this call of the forces: a group's are a write, a sync, the write of its
 /// gate, and a sync. A gate that is written and not synced is closed in an old image, and open in the others.
 fn steps_left(call: u64, pick: Pick) -> usize {
@@ -264,53 +253,49 @@ fn a_driving_stops_before_each_call(rt: HostRuntime) {
 /// two that clear what is hidden, and six of the superblock. In front of them it only reads.
 const LAST_CALLS: u64 = 19;
 
-/// Whether what a crash before this call leaves opens so, and again where that opening is stopped before each of its last calls in
-/// its turn. A stop before a read leaves what was opened.
-fn opens_twice(
-    alloc: Global,
-    tree: &Tree,
-    count: usize,
-    disk: &MemDisk,
-    before: u64,
-    pick: Pick,
-) -> Option<()> {
-    let again = image_opened(alloc, tree, count, disk, before, pick)?;
-    let from = again.calls().saturating_sub(LAST_CALLS);
-    for call in from..again.calls().saturating_add(1) {
-        if call == from || !is_same(&again, call, pick) {
-            image_opened(alloc, tree, count, &again, call, pick)?;
+/// Whether these bytes open so, and again where that opening is stopped before each of its last calls in its turn. A stop before a
+/// read leaves what was opened, and what a stop one call earlier left too was tried with that one.
+fn opens_twice(alloc: Global, tree: &Tree, count: usize, bytes: Vec<u8>, pick: Pick) -> Option<()> {
+    let again = reopened(alloc, tree, count, bytes)?;
+    let mut tried = Vec::new(alloc);
+    for call in again.calls().saturating_sub(LAST_CALLS)..again.calls().saturating_add(1) {
+        let image = again.image(call, pick).ok()??;
+        if image != tried {
+            reopened(alloc, tree, count, image.to_vec(alloc).ok()?)?;
+            tried = image;
         }
     }
     Some(())
 }
 
-/// The first call of the forces before which a crash leaves anything else, from this many before the end on.
-fn first_lost_again(alloc: Global, tree: &Tree, pick: Pick, last: u64) -> Option<u64> {
-    let (Some(first), Some(disk)) = (calls_before(alloc, tree), driven(alloc, tree, NEVER)) else {
-        return Some(9999);
-    };
+/// Whether it is so of what a crash leaves before each of so many last calls of a driving, and behind it. What a stop one call earlier
+/// left too was tried with that one.
+fn ends_twice(alloc: Global, tree: &Tree, pick: Pick, last: u64) -> Option<()> {
+    let first = calls_before(alloc, tree)?;
+    let disk = driven(alloc, tree, NEVER)?;
     let calls = disk.calls().saturating_sub(first);
-    let from = calls.saturating_sub(last);
-    for call in from..calls.saturating_add(1) {
-        let (count, before) = (steps_left(call, pick), first.saturating_add(call));
-        let is_new = call == from || !is_same(&disk, before, pick);
-        if is_new && opens_twice(alloc, tree, count, &disk, before, pick).is_none() {
-            return Some(call);
+    let mut tried = Vec::new(alloc);
+    for call in calls.saturating_sub(last)..calls.saturating_add(1) {
+        let image = disk.image(first.saturating_add(call), pick).ok()??;
+        if image != tried {
+            let bytes = image.to_vec(alloc).ok()?;
+            opens_twice(alloc, tree, steps_left(call, pick), bytes, pick)?;
+            tried = image;
         }
     }
-    None
+    Some(())
 }
 
-/// Of old images the stops before each call, each of which leaves a number of groups. Of the others those in the last force, which
-/// leave a frame that is torn, or a gate that is open and not synced.
+/// How many last calls of a driving. Of old images all, each of which leaves a number of groups. Of the others those of the last force,
+/// which leave a frame that is torn, or a gate that is open and not synced.
 const STOPS: [(Pick, u64); 3] = [(Pick::Old, NEVER), (Pick::New, 3), (Pick::Noise(165), 3)];
 
 #[test]
 fn an_opening_behind_a_driving_stops(rt: HostRuntime) {
     for tree in TREES {
         for (pick, last) in STOPS {
-            let lost = first_lost_again(rt.alloc(), &tree, pick, last);
-            assert_eq!(rt; lost, None, "{} {pick:?}", tree.size);
+            let opened = ends_twice(rt.alloc(), &tree, pick, last);
+            assert_eq!(rt; opened, Some(()), "{} {pick:?}", tree.size);
         }
     }
 }
