@@ -1,22 +1,22 @@
 -- What stays in memory, and how often it is pinned, once a page was fetched, pinned or changed.
-use Rattle.std.proofs.Common.{◌≡◌, inl, inr, ℕ, ◌+◌, ◌<◌, ◌≤◌, ◌==◌, nat_lt, Bool, true, false, cond, List, [], ◌∷◌, ◌++◌, length, map, All, Option, Some, None, IsTrue, IsSome, refl, sym, ap, subst, ◌∙◌, arith}
+use Rattle.std.proofs.Common.{◌≡◌, ℕ, ◌<◌, ◌≤◌, ◌==◌, nat_lt, Bool, true, false, cond, List, [], ◌∷◌, ◌++◌, length, map, All, Option, Some, None, IsTrue, IsSome, refl, sym, ap, subst, ◌∙◌, arith}
 use Rattle.std.specs.Prelude.{IsSomeAnd}
 use Rattle.std.specs.List.{find}
 use Rattle.std.specs.Option.{is_some, option_map, option_or, option_to_list}
 use Rattle.std.specs.Set.{remove_key}
-use Rattle.std.proofs.lemmas.Bool.{cases_Bool, eq-eqb}
-use Rattle.std.proofs.lemmas.List.Elements.{All-append, All-cons, All-head, All-nil, All-tail}
+use Rattle.std.proofs.lemmas.Bool.{eq-eqb}
+use Rattle.std.proofs.lemmas.List.Elements.{All-append, All-head, All-nil, All-tail}
 use Rattle.std.proofs.lemmas.List.Folds.{find-append}
 use Rattle.std.proofs.lemmas.Map.Views.{All-remove_key}
 use Rattle.hb_lemmas.proofs.Lists.{All-alone}
-use Rattle.hb_lemmas.proofs.Options.{not_none, some_value}
+use Rattle.hb_lemmas.proofs.Options.{some_value}
 use Rattle.hb_pool.specs.declared.pools.TheConstants.{FRAMES}
 use Rattle.hb_pool.specs.Frames.{Use, filled, fresh, has_id, may_go, must_stay, pinned}
 use Rattle.hb_pool.specs.Pools.{IsPool, brought, frame_of, put_last, with_room}
 use Rattle.hb_pool.proofs.Others.{came_in, last_changed, marked_pages_stay}
 use Rattle.hb_pool.proofs.Pooled.{at_some_and, dirty_stays, pinned_stays, some_of_and}
 use Rattle.hb_store.specs.Calls.{use_changed, use_fetched}
-use Rattle.hb_file_tests.specs.Driven.{AllStay, FewPins, IsPinned}
+use Rattle.hb_file_tests.specs.Driven.{AllStay, IsPinned}
 
 abbrev Stays : Use → Type 0
 Stays u = IsTrue (must_stay u)

@@ -1,12 +1,13 @@
 -- What tests use of a store: over a disk that tells nothing no licence is owed, and each call leaves a driven store driven.
-use Rattle.std.proofs.Common.{◌≡◌, ◌≢◌, inl, inr, ℕ, ◌<◌, ◌≤◌, ◌==◌, Bool, true, false, cond, List, [], ◌∷◌, ◌++◌, All, Option, Some, None, IsSome, IsTrue, Result, Ok, Err, OnOk, refl, sym, ap, ◌∙◌, subst, arith}
-use Rattle.std.specs.Prelude.{◌||◌, IsOk, IsSomeAnd, MatchOption}
+use Rattle.std.proofs.Common.{◌≡◌, ◌≢◌, inl, inr, ℕ, ◌<◌, ◌≤◌, ◌==◌, Bool, true, false, cond, List, [], ◌∷◌, All, Option, Some, None, IsSome, IsTrue, Result, Ok, refl, sym, ap, ◌∙◌, subst, arith}
+use Rattle.std.specs.Prelude.{IsOk, IsSomeAnd, MatchOption}
 use Rattle.std.specs.Option.{is_some}
 use Rattle.std.proofs.lemmas.Bool.{eq-eqb, eqb-true, or_cases, or_right}
 use Rattle.std.proofs.lemmas.List.Elements.{All-append, All-head, All-nil, All-tail}
 use Rattle.hb_lemmas.proofs.Lists.{All-alone}
 use Rattle.hb_lemmas.proofs.Options.{not_none, some_value}
-use Rattle.hb_disk.specs.Model.{DiskModel, Stays}
+use Rattle.hb_disk.specs.Calls.{ReadsOnly}
+use Rattle.hb_disk.specs.Model.{DiskModel}
 use Rattle.hb_disk.specs.Untold.{untold_of}
 use Rattle.hb_frag.specs.declared.pages.Page.{Page}
 use Rattle.hb_layout.specs.declared.meta.Meta.{Meta}
@@ -17,7 +18,7 @@ use Rattle.hb_ops.specs.Operations.{IsLicensed, reads_of}
 use Rattle.hb_ops.proofs.Facts.AllowedOps.{reads_some}
 use Rattle.hb_pool.specs.Frames.{Use, has_id, must_stay, pinned}
 use Rattle.hb_pool.specs.Pools.{frame_of, put_last}
-use Rattle.hb_store.specs.Calls.{Commits, Fetched, HasPlaceFor, HasPlaces, IsAllowedHere, StaysHere, numbers_changed, use_changed, use_fetched}
+use Rattle.hb_store.specs.Calls.{Commits, Fetched, HasFrameFor, HasPlaces, IsAllowedHere, numbers_changed, use_changed, use_fetched}
 use Rattle.hb_store.specs.States.{IsNew, StoreState, in_memory}
 use Rattle.hb_store.specs.Keeps.{StoreKeeps, last_of}
 use Rattle.hb_store.specs.Fetching.{MayFetch, use_numbered}
@@ -125,7 +126,7 @@ among_all Q (id ∷ rest) q all is = elim (or_cases (q == id) (is_among q rest) 
 ]
 
 -- the pages that it reads stay, and there is a place
-pub has_place : (op : Op) (st : StoreState) (uses : List Use) → IsTied st uses → IsDrivenHere st uses → IsAllowedHere st op → HasPlaces uses → HasPlaceFor op st uses
+pub has_place : (op : Op) (st : StoreState) (uses : List Use) → IsTied st uses → IsDrivenHere st uses → IsAllowedHere st op → HasPlaces uses → HasFrameFor op st uses
 has_place op st uses tied driven allowed places = record {
   reads = λ id among.
       let some = among_all (λ q. IsSome (in_memory st q)) (reads_of op) id (reads_some op st.meta (in_memory st) allowed) among in
@@ -167,14 +168,18 @@ forced st new uses after same order driven =
       stay = driven.stay;
     }))
 
-home_runs : {T : Type 0} (t : T) (d e : DiskModel) (old new : StoreHeld) → FlushesHome {T = T} (Ok t) d e old new → old.state.stopped ≡ false → new.state.stopped ≡ false
+-- what a call gave that was done
+abbrev done_with : {T : Type 0} → T → Result T WriteFault
+done_with t = Ok t
+
+home_runs : {T : Type 0} (t : T) (d e : DiskModel) (old new : StoreHeld) → FlushesHome (done_with t) d e old new → old.state.stopped ≡ false → new.state.stopped ≡ false
 home_runs t d e old new home runs = by (oldest_dirty old.uses) home
   where
-    by : (o : Option ℕ) → MatchOption o (IsOk (Ok {E = WriteFault} t) × Stays d e × (new ≡ old)) (λ id. WritesHome (Ok t) id d e old new) → new.state.stopped ≡ false
+    by : (o : Option ℕ) → MatchOption o (IsOk (done_with t) × ReadsOnly ⊥ d e × (new ≡ old)) (λ id. WritesHome (done_with t) id d e old new) → new.state.stopped ≡ false
     by None done = ap (λ (h : StoreHeld). h.state.stopped) done.2 ∙ runs
     by (Some id) writes = ap (λ (h : StoreHeld). h.state.stopped) writes.cleaned ∙ runs
 
-pub flushed_runs : {T : Type 0} (t : T) (d e : DiskModel) (old new : StoreHeld) → (old.state.log.groups ≢ [] → WritesOldest {T = T} (Ok t) d e old.state new.state × (new.uses ≡ old.uses)) → (old.state.log.groups ≡ [] → FlushesHome {T = T} (Ok t) d e old new)
+pub flushed_runs : {T : Type 0} (t : T) (d e : DiskModel) (old new : StoreHeld) → (old.state.log.groups ≢ [] → WritesOldest (done_with t) d e old.state new.state × (new.uses ≡ old.uses)) → (old.state.log.groups ≡ [] → FlushesHome (done_with t) d e old new)
     → old.state.stopped ≡ false → new.state.stopped ≡ false
 flushed_runs t d e old new forces cleans runs = by old.state.log.groups refl
   where

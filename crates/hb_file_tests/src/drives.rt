@@ -1,6 +1,6 @@
 //! Stores that are driven over files of several pages, as `driven_trees` lists: each allocation's number, each group, and the
-//! bytes on the disk. A driving is stopped before each of its device calls, and each call fails once. What is left is opened, and what the
-//! last call leaves is opened again after a stop inside that opening: the file has the pages after so many of the groups.
+//! bytes on the disk. A driving is stopped before each of its device calls, and each call fails once. What is left is opened, and what some
+//! of the stops leave is opened again after a stop inside that opening: the file has the pages after so many of the groups.
 ghost use Rattle.std.specs.Prelude.{◌≡◌, Some, true, IfSome};
 ghost use Rattle.hb_store.specs.Seen.{seen_as, uses_of};
 ghost use Rattle.hb_file_tests.specs.Driven.{IsDrivenHere};
@@ -57,7 +57,6 @@ pub(crate) fn file(alloc: Global, tree: &Tree) -> Option<Vec<u8>> {
 }
 
 /// The store of a file, over a disk that tells nothing and fails at the call of this number.
-#[tactic(auto, using(crate::proofs::Untold::new_driven))]
 fn opened(alloc: Global, bytes: Vec<u8>, failing: u64) -> Option<Store<RotDisk>>
     ensures { IfSome result (λ store. IsDrivenHere (seen_as store) (uses_of store)) }
 {
@@ -104,7 +103,6 @@ fn number(store: &mut Store<RotDisk>) -> Option<u32>
 }
 
 /// Takes a step, and forces its group. `Some(false)` where the force failed; `None` where something else isn't as it is to be.
-#[tactic(auto, using(crate::proofs::Untold::forced))]
 pub(crate) fn stepped(
     alloc: Global,
     store: &mut Store<RotDisk>,
@@ -255,25 +253,48 @@ fn a_driving_stops_before_each_call(rt: HostRuntime) {
 /// two that clear what is hidden, and six of the superblock. In front of them it only reads.
 const LAST_CALLS: u64 = 19;
 
-/// Whether what a crash leaves before the last call of a driving opens so, and again where that opening is stopped before each of its
-/// last calls in its turn. A stop before a read leaves what was opened.
-fn opens_twice(alloc: Global, tree: &Tree, pick: Pick) -> Option<()> {
-    let disk = driven(alloc, tree, NEVER)?;
-    let forces = (tree.steps.len() as u64).saturating_mul(4);
-    let count = steps_left(forces.saturating_sub(1), pick);
-    let before = disk.calls().saturating_sub(1);
-    let again = image_opened(alloc, tree, count, &disk, before, pick)?;
+/// Whether these bytes open so, and again where that opening is stopped before each of its last calls in its turn. A stop before a
+/// read leaves what was opened, and what a stop one call earlier left too was tried with that one.
+fn opens_twice(alloc: Global, tree: &Tree, count: usize, bytes: Vec<u8>, pick: Pick) -> Option<()> {
+    let again = reopened(alloc, tree, count, bytes)?;
+    let mut tried = Vec::new(alloc);
     for call in again.calls().saturating_sub(LAST_CALLS)..again.calls().saturating_add(1) {
-        image_opened(alloc, tree, count, &again, call, pick)?;
+        let image = again.image(call, pick).ok()??;
+        if image != tried {
+            reopened(alloc, tree, count, image.to_vec(alloc).ok()?)?;
+            tried = image;
+        }
     }
     Some(())
 }
 
+/// Whether it is so of what a crash leaves before each of so many last calls of a driving, and behind it. What a stop one call earlier
+/// left too was tried with that one.
+fn ends_twice(alloc: Global, tree: &Tree, pick: Pick, last: u64) -> Option<()> {
+    let first = calls_before(alloc, tree)?;
+    let disk = driven(alloc, tree, NEVER)?;
+    let calls = disk.calls().saturating_sub(first);
+    let mut tried = Vec::new(alloc);
+    for call in calls.saturating_sub(last)..calls.saturating_add(1) {
+        let image = disk.image(first.saturating_add(call), pick).ok()??;
+        if image != tried {
+            let bytes = image.to_vec(alloc).ok()?;
+            opens_twice(alloc, tree, steps_left(call, pick), bytes, pick)?;
+            tried = image;
+        }
+    }
+    Some(())
+}
+
+/// How many last calls of a driving. Of old images all, each of which leaves a number of groups. Of the others those of the last force,
+/// which leave a frame that is torn, or a gate that is open and not synced.
+const STOPS: [(Pick, u64); 3] = [(Pick::Old, NEVER), (Pick::New, 3), (Pick::Noise(165), 3)];
+
 #[test]
 fn an_opening_behind_a_driving_stops(rt: HostRuntime) {
     for tree in TREES {
-        for pick in PICKS {
-            let opened = opens_twice(rt.alloc(), &tree, pick);
+        for (pick, last) in STOPS {
+            let opened = ends_twice(rt.alloc(), &tree, pick, last);
             assert_eq!(rt; opened, Some(()), "{} {pick:?}", tree.size);
         }
     }

@@ -207,7 +207,7 @@ fn survives(alloc: Global, tree: &Tree, pages: &str, place: usize) -> Option<boo
         .calls()
         .saturating_add(place as u64);
     let mut store = all_stepped(alloc, tree, failing)?;
-    if !flushes(&mut store, pages.get(..place)?) || flush(&mut store).is_some() {
+    if !flushes(&mut store, pages.get(..place)?) || store.stopped() || flush(&mut store).is_some() {
         return Some(false);
     }
     let stopped = store.stopped();

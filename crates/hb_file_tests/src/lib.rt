@@ -8,6 +8,8 @@ mod audits;
 #[cfg(test)]
 mod boxes;
 #[cfg(test)]
+mod crowds;
+#[cfg(test)]
 mod driven_trees;
 #[cfg(test)]
 mod drives;

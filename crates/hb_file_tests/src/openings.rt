@@ -153,9 +153,9 @@ fn stands(bytes: &[u8], at: usize, want: &[u8]) -> bool {
     }
 }
 
-/// Whether a disk as it reads opens to the file.
-fn opens_again(alloc: Global, disk: &MemDisk) -> bool {
-    match disk.bytes().to_vec(alloc) {
+/// Whether bytes open to the file.
+fn opens_again(alloc: Global, bytes: &[u8]) -> bool {
+    match bytes.to_vec(alloc) {
         Ok(bytes) => answer_of(alloc, bytes) == GOOD,
         Err(_) => false,
     }
@@ -165,7 +165,7 @@ fn opens_again(alloc: Global, disk: &MemDisk) -> bool {
 fn a_file_of_two_levels_opens(rt: HostRuntime) {
     let (said, disk) = opened(rt.alloc(), NEVER).expect(&rt, "memory");
     assert_eq!(rt; said, GOOD);
-    assert!(rt; opens_again(rt.alloc(), &disk));
+    assert!(rt; opens_again(rt.alloc(), disk.bytes()));
     for &(at, want) in &LEFT {
         assert!(rt; stands(disk.bytes(), at, want), "{at}");
     }
@@ -181,48 +181,52 @@ fn a_file_with_a_merge_opens(rt: HostRuntime) {
     }
 }
 
-/// What an opening of what a crash before this call might have left answers, and what it leaves.
-fn opened_image(
-    alloc: Global,
-    disk: &MemDisk,
-    before: u64,
-    pick: Pick,
-) -> Option<(Answer, MemDisk)> {
-    let image = disk.image(before, pick).ok()??;
-    Some(open(alloc, MemDisk::new(alloc, image)))
+/// What a crash before this call might have left.
+fn image_of(disk: &MemDisk, before: u64, pick: Pick) -> Option<Vec<u8>> {
+    disk.image(before, pick).ok()?
 }
 
-/// Whether a crash before this call leaves bytes that open to the same file.
-fn is_kept(alloc: Global, disk: &MemDisk, before: u64, pick: Pick) -> bool {
-    match opened_image(alloc, disk, before, pick) {
-        Some((answer, _)) => answer == GOOD,
-        None => false,
-    }
-}
-
-/// The first call before which a crash doesn't. `None` where there is none.
+/// The first call before which a crash leaves bytes that don't open to the file. `None` where there is none. What a stop one call
+/// earlier left too was tried with that one.
 fn first_lost(alloc: Global, disk: &MemDisk, pick: Pick) -> Option<u64> {
+    let mut tried = Vec::new(alloc);
     for before in 0..disk.calls().saturating_add(1) {
-        if !is_kept(alloc, disk, before, pick) {
+        let Some(image) = image_of(disk, before, pick) else {
             return Some(before);
+        };
+        if image != tried {
+            if !opens_again(alloc, &image) {
+                return Some(before);
+            }
+            tried = image;
         }
     }
     None
 }
 
-/// Whether an opening of what a crash before this call leaves, stopped in its turn, keeps the file.
-fn is_kept_twice(alloc: Global, disk: &MemDisk, before: u64, pick: Pick) -> bool {
-    match opened_image(alloc, disk, before, pick) {
-        Some((_, again)) => first_lost(alloc, &again, pick).is_none(),
-        None => false,
+/// Whether an opening of these bytes, stopped in its turn, keeps the file.
+fn is_kept_twice(alloc: Global, image: &[u8], pick: Pick) -> bool {
+    match image.to_vec(alloc) {
+        Ok(bytes) => {
+            let (_, again) = open(alloc, MemDisk::new(alloc, bytes));
+            first_lost(alloc, &again, pick).is_none()
+        }
+        Err(_) => false,
     }
 }
 
 /// The first call before which a crash leaves bytes of which this isn't so.
 fn first_lost_again(alloc: Global, disk: &MemDisk, pick: Pick) -> Option<u64> {
+    let mut tried = Vec::new(alloc);
     for before in 0..disk.calls().saturating_add(1) {
-        if !is_kept_twice(alloc, disk, before, pick) {
+        let Some(image) = image_of(disk, before, pick) else {
             return Some(before);
+        };
+        if image != tried {
+            if !is_kept_twice(alloc, &image, pick) {
+                return Some(before);
+            }
+            tried = image;
         }
     }
     None
@@ -247,7 +251,7 @@ fn a_failing_call_stops_an_opening(rt: HostRuntime) {
         let (said, disk) = opened(rt.alloc(), call).expect(&rt, "memory");
         assert_eq!(rt; said, Err(OpenFault::DiskFault), "{call}");
         assert_eq!(rt; disk.calls(), call.saturating_add(1));
-        assert!(rt; opens_again(rt.alloc(), &disk), "{call}");
+        assert!(rt; opens_again(rt.alloc(), disk.bytes()), "{call}");
     }
 }
 

@@ -1,14 +1,13 @@
 //! A file of more pages than there are frames: which page makes room for another, how often the disk is read, and that a page that
 //! is dirty or pinned stays. The counts were worked out by hand from the order of use. The disk tells nothing.
-ghost use Rattle.std.specs.Prelude.{◌≡◌, ℕ, false, None, IfSome, IsTrue};
+ghost use Rattle.std.specs.Prelude.{◌≡◌, ℕ, None, IfSome};
 ghost use Rattle.hb_store.specs.Seen.{seen_as, uses_of};
 ghost use Rattle.hb_store.specs.States.{in_memory};
 ghost use Rattle.hb_file_tests.specs.Driven.{FewPins, IsDrivenHere, IsPinned};
 
 use crate::fetches::{Told, shown, told};
 use crate::groups::is_of;
-use crate::homes::flush;
-use crate::stores::{FOUR, NEVER, done, held};
+use crate::stores::{FOUR, NEVER, held};
 use hb_disk::{Device, MemDisk, RotDisk};
 use hb_frag::{Leaf, Node, Page};
 use hb_ops::Meta;
@@ -36,10 +35,10 @@ const POINT: [u8; 32] = [
 const FIRST: u64 = 139_264;
 
 /// A byte that goes bad: before which call, where, and what it is then.
-type Rot = (u64, u64, u8);
+pub(crate) type Rot = (u64, u64, u8);
 
 /// No byte does.
-const SOUND: Rot = (NEVER, u64::MAX, 0);
+pub(crate) const SOUND: Rot = (NEVER, u64::MAX, 0);
 
 /// Puts a piece at an offset, as far as there are bytes.
 fn put(bytes: &mut [u8], at: usize, piece: &[u8]) {
@@ -66,7 +65,7 @@ fn file(alloc: Global) -> Option<Vec<u8>> {
 
 /// The store of the file, without a page in memory.
 #[tactic(auto, using(crate::proofs::Untold::new_driven, crate::proofs::Untold::new_few))]
-fn wide(alloc: Global, rot: Rot) -> Option<Store<RotDisk>>
+pub(crate) fn wide(alloc: Global, rot: Rot) -> Option<Store<RotDisk>>
     ensures driven { IfSome result (λ store. IsDrivenHere (seen_as store) (uses_of store)) }
     ensures few { IfSome result (λ store. FewPins (uses_of store)) }
     ensures none { IfSome result (λ store. (id : ℕ) → in_memory (seen_as store) id ≡ None) }
@@ -302,128 +301,6 @@ fn a_page_that_left_is_tested_again(rt: HostRuntime) {
             met_again(rt.alloc(), is_held, at, byte),
             Some(want),
             "{is_held} {at}"
-        );
-    }
-}
-
-/// Three growths, by the pages 131, 132 and 133. They read no page, and each makes one that is dirty and not pinned.
-const GROWTHS: [&[u8]; 3] = [
-    &[0, 6, 0, 0, 0, 131, 0, 0, 0, 0],
-    &[0, 6, 0, 0, 0, 132, 0, 0, 0, 0],
-    &[0, 6, 0, 0, 0, 133, 0, 0, 0, 0],
-];
-
-/// The store once so many of them were done.
-fn grown(alloc: Global, count: usize) -> Option<Store<RotDisk>>
-    ensures { IfSome result (λ store. IsDrivenHere (seen_as store) (uses_of store)) }
-{
-    let mut store = wide(alloc, SOUND)?;
-    for group in GROWTHS.get(..count)? {
-        if !done(alloc, &mut store, group)? {
-            return None;
-        }
-    }
-    Some(store)
-}
-
-/// The store once so many pages were pinned behind them.
-fn filled(alloc: Global, growths: usize, pins: u32) -> Option<Store<RotDisk>>
-    ensures { IfSome result (λ store. (seen_as store).stopped ≡ false) }
-{
-    let mut store = grown(alloc, growths)?;
-    for id in 1..pins.saturating_add(1) {
-        held(&mut store, id).ok()?;
-    }
-    Some(store)
-}
-
-/// What the fetch of a page gives: `o`, `c` where there is no place for it, `r` where it is damaged, `d` where the disk failed.
-fn fetch(store: &mut Store<RotDisk>, id: u32) -> char
-    requires { (seen_as store.old).stopped ≡ false }
-    ensures { (seen_as store.new).stopped ≡ false }
-{
-    match store.fetch(id) {
-        Ok(()) => 'o',
-        Err(stop) => told(&stop).2,
-    }
-}
-
-/// Whether a fetch of page 130 and a flush behind it do this.
-fn takes_turn(store: &mut Store<RotDisk>, turn: (char, char)) -> bool
-    requires { (seen_as store.old).stopped ≡ false }
-    ensures { IsTrue result → (seen_as store.new).stopped ≡ false }
-{
-    let (fetched, flushed) = turn;
-    if fetch(store, 130) != fetched {
-        return false;
-    }
-    match flush(store) {
-        Some(did) => did == flushed,
-        None => false,
-    }
-}
-
-/// Whether fetches of page 130 and flushes by turns do this.
-fn takes_turns(store: &mut Store<RotDisk>, turns: &[(char, char)]) -> bool
-    requires { (seen_as store.old).stopped ≡ false }
-    ensures { IsTrue result → (seen_as store.new).stopped ≡ false }
-{
-    for turn in turns {
-        if !takes_turn(store, *turn) {
-            return false;
-        }
-    }
-    true
-}
-
-/// How many growths were done and pages pinned; what fetches of page 130 and flushes do by turns; what the fetch of page 131 gives
-/// then; and how many calls the disk has had.
-type Crowd = (usize, u32, &'static [(char, char)], char, u64);
-
-const CROWDS: [Crowd; 5] = [
-    // each frame has a page that is dirty or pinned, until one went home; it left, and is read again
-    (1, 127, &[('c', 'f'), ('c', 'w'), ('o', 'n')], 'o', 134),
-    (
-        3,
-        125,
-        &[
-            ('c', 'f'),
-            ('c', 'f'),
-            ('c', 'f'),
-            ('c', 'w'),
-            ('o', 'w'),
-            ('o', 'w'),
-            ('o', 'n'),
-        ],
-        'o',
-        142,
-    ),
-    // a frame is left
-    (1, 126, &[('o', 'f'), ('o', 'w'), ('o', 'n')], 'o', 132),
-    // pinned pages alone, of all frames, and of all but one
-    (0, 128, &[('c', 'n'), ('c', 'n')], 'r', 128),
-    (0, 127, &[('o', 'n'), ('o', 'n')], 'r', 128),
-];
-
-/// Whether this comes of it.
-fn crowds(alloc: Global, row: Crowd) -> Option<bool> {
-    let (growths, pins, turns, last, calls) = row;
-    let mut store = filled(alloc, growths, pins)?;
-    if !takes_turns(&mut store, turns) {
-        return Some(false);
-    }
-    let right = fetch(&mut store, 131) == last;
-    Some(right && store.into_disk().inner.calls() == calls)
-}
-
-#[test]
-fn a_place_is_wanted_until_a_page_went_home(rt: HostRuntime) {
-    for &row in &CROWDS {
-        assert!(rt;
-            crowds(rt.alloc(), row) == Some(true),
-            "{} {}",
-            row.0,
-            row.1
         );
     }
 }

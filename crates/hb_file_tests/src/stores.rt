@@ -227,7 +227,7 @@ fn is_allowed(alloc: Global, store: &Store<RotDisk>, op: &Op) -> Option<bool>
 
 /// Does the operation of a group with mark 7 where it is allowed, and says whether it is. A disk that tells nothing keeps no
 /// file, so that no licence is owed.
-#[tactic(auto, using(crate::proofs::Untold::licensed, crate::proofs::Untold::has_place, crate::proofs::Untold::committed))]
+#[tactic(auto, using(crate::proofs::Untold::licensed, crate::proofs::Untold::has_place))]
 pub(crate) fn done(alloc: Global, store: &mut Store<RotDisk>, group: &[u8]) -> Option<bool>
     requires { IsDrivenHere (seen_as store.old) (uses_of store.old) }
     ensures { IsDrivenHere (seen_as store.new) (uses_of store.new) }
@@ -248,7 +248,7 @@ pub(crate) fn done(alloc: Global, store: &mut Store<RotDisk>, group: &[u8]) -> O
 }
 
 /// Fetches a page and pins it, where it isn't in memory. So it stays.
-#[tactic(auto, using(crate::proofs::Untold::new_may_pin, crate::proofs::Untold::held_driven, crate::proofs::Untold::held_pinned))]
+#[tactic(auto, using(crate::proofs::Untold::new_may_pin, crate::proofs::Untold::held_pinned))]
 pub(crate) fn held(store: &mut Store<RotDisk>, id: u32) -> Result<(), FetchStop>
     requires { IsDrivenHere (seen_as store.old) (uses_of store.old) }
     ensures driven { IsDrivenHere (seen_as store.new) (uses_of store.new) }

@@ -1,5 +1,5 @@
 use Rattle.std.proofs.Common.{◌≡◌, false}
-use Rattle.hb_file_tests.proofs.orders.takes_turns.Given as goal
+use Rattle.hb_file_tests.proofs.crowds.takes_turns.Given as goal
 
 -- the store isn't stopped
 abbrev pub invariant-loop-turn : goal.invariant-loop-turn
