@@ -7,7 +7,7 @@ use Rattle.hb_text.specs.declared.rules.BadLine.{BadLine}
 use Rattle.hb_text.specs.Grammar.{Reading, text_read}
 use Rattle.hb_text.proofs.Facts.TextLength.{text_is_short}
 use Rattle.hbpi.specs.declared.forms.Form.{Form}
-use Rattle.hbpi.specs.declared.forms.Form.TheVariants.{Create, Drive, Dry}
+use Rattle.hbpi.specs.declared.forms.Form.TheVariants.{Check, Create, Drive, Dry}
 use Rattle.hbpi.specs.declared.statuses.Status.{Status}
 use Rattle.hbpi.specs.declared.statuses.Status.TheVariants.{Done, Usage, BadText, SourceFault, SinkFault, DiskFault, Damaged, NoMemory, BadLayout, Small, NotBuilt}
 use Rattle.hb_outside.specs.Streams.{Rose}
@@ -22,7 +22,9 @@ use Rattle.hbpi.specs.declared.statuses.Damage.TheVariants as damages
 use Rattle.hbpi.specs.Runs.{RunEnds}
 use Rattle.hbpi.specs.Ends.{DryEnds, IsAnswered, IsComplete, RefusesBadText, NamesBadLine, UnbuiltEnds, UsageEnds}
 use Rattle.hbpi.specs.SeenRuns.{Run, Seen}
+use Rattle.hbpi.specs.Checked.{CheckEnds, sound_text}
 use Rattle.hbpi.specs.Driven.{DriveEnds, RanEnds}
+use Rattle.hbpi.specs.Saying.{IsSaid}
 use Rattle.hbpi.specs.Forms.{IsUnbuilt}
 use Rattle.hbpi.specs.Schedules.{NotScheduled}
 use Rattle.hb_outside.specs.Calls.{SourceModel}
@@ -212,6 +214,9 @@ drive_source run status ends other = elim ends [
   ]
 ]
 
+check_source : (run : Run) (status : Status) → CheckEnds run status → run.seen.source_after.faults ≡ run.seen.source_before.faults
+check_source run status ends = elim ends [ inl shut ↦ shut.2.unread.faults | inr checked ↦ checked.2.unread.faults ]
+
 usage_source : (seen : Seen) (status : Status) → UsageEnds seen status → seen.source_after.faults ≡ seen.source_before.faults
 usage_source seen Usage ends = ends.1.faults
 usage_source seen other ends = absurd ends
@@ -226,16 +231,26 @@ ends_source None run status ends other = usage_source run.seen status ends
 ends_source (Some (Dry k)) run status ends other = dry_source k run.seen status ends other
 ends_source (Some (Create k pages log dcap icap)) run status ends other = create_source (first_fault k pages log dcap icap) (size_of pages log) run status ends
 ends_source (Some Drive) run status ends other = drive_source run status ends other
+ends_source (Some Check) run status ends other = check_source run status ends
 ends_source (Some form) run status ends other = unbuilt_source run.seen status ends
+
+never_usage : (fault : OpenFault) → status_of fault ≡ Usage → ⊥
+never_usage fault = of_closed fault (λ x. x ≡ Usage → ⊥) (λ needed found no. cc (no)) (λ damage no. cc (no)) (λ no. cc (no)) (λ no. cc (no))
 
 -- The words alone decide whether they are no form.
 drive_never_usage : (run : Run) (status : Status) → DriveEnds run status → status ≡ Usage → ⊥
 drive_never_usage run status ends is = elim ends [
-  | inl shut ↦ of_closed shut.0 (λ x. x ≡ Usage → ⊥) (λ needed found no. cc (no)) (λ damage no. cc (no)) (λ no. cc (no)) (λ no. cc (no)) (sym shut.1 ∙ is)
+  | inl shut ↦ never_usage shut.0 (sym shut.1 ∙ is)
   | inr opened ↦ elim opened [
     | inl away ↦ subst (λ (x : Status). NotScheduled away.k run.seen.source_before run.seen.source_after x) is away.why
     | inr ran ↦ subst (λ (x : Status). RanEnds x run.seen.sink_before run.seen.sink_after run.seen.answered ran.0) is ran.2
   ]
+]
+
+check_never_usage : (run : Run) (status : Status) → CheckEnds run status → status ≡ Usage → ⊥
+check_never_usage run status ends is = elim ends [
+  | inl shut ↦ never_usage shut.0 (sym shut.1 ∙ is)
+  | inr checked ↦ subst (λ (x : Status). IsSaid (sound_text checked.0.meta checked.1) run.seen.sink_before run.seen.sink_after x) is checked.3
 ]
 
 is_usage : (seen : Seen) (status : Status) → UsageEnds seen status → status ≡ Usage
@@ -252,6 +267,7 @@ ends_usage (Some (Dry k)) run status ends = (λ is. absurd (subst (λ (x : Statu
 ends_usage (Some (Create k pages log dcap icap)) run status ends =
     (λ is. absurd (subst (λ (x : Status). CreateEnds (first_fault k pages log dcap icap) (size_of pages log) run x) is ends), λ none. cc (none))
 ends_usage (Some Drive) run status ends = (λ is. absurd (drive_never_usage run status ends is), λ none. cc (none))
+ends_usage (Some Check) run status ends = (λ is. absurd (check_never_usage run status ends is), λ none. cc (none))
 ends_usage (Some form) run status ends = (λ is. cc (is, is_unbuilt run.seen status ends), λ none. cc (none))
 
 -- A form that isn't built gives `not built`.
@@ -260,4 +276,5 @@ ends_unbuilt None run status unbuilt ends = absurd unbuilt
 ends_unbuilt (Some (Dry k)) run status unbuilt ends = absurd unbuilt
 ends_unbuilt (Some (Create k pages log dcap icap)) run status unbuilt ends = absurd unbuilt
 ends_unbuilt (Some Drive) run status unbuilt ends = absurd unbuilt
+ends_unbuilt (Some Check) run status unbuilt ends = absurd unbuilt
 ends_unbuilt (Some form) run status unbuilt ends = is_unbuilt run.seen status ends

@@ -13,4 +13,5 @@ pub mod DriveNames
 pub mod DriveGiven
 pub mod FileRefused
 pub mod Promises
+pub mod CheckPromises
 pub mod Causes

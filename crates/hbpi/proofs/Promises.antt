@@ -43,7 +43,7 @@ pub record PromiseLaws : Type 0 where
   pub walks : RootHasWalks
   pub alone : NoPointIsHeldTwice
 
-not_done : (fault : OpenFault) → status_of fault ≡ Done → ⊥
+pub not_done : (fault : OpenFault) → status_of fault ≡ Done → ⊥
 not_done fault = of_closed fault (λ x. x ≡ Done → ⊥) (λ needed found is. cc (is)) (λ damage is. cc (is)) (λ is. cc (is)) (λ is. cc (is))
 
 -- where no command was done

@@ -1,19 +1,11 @@
 -- What the parts of making a file say.
-use Rattle.std.specs.Prelude.{◌≡◌, ℕ, ◌<◌, ◌≤◌, codes, Option, Some, None}
-use Rattle.hb_outside.specs.Calls.{SinkModel}
-use Rattle.hb_outside.specs.Streams.{Rose, Appends, AppendsFront}
+use Rattle.std.specs.Prelude.{◌≡◌, ℕ, ◌<◌, ◌≤◌, Option, Some, None}
+use Rattle.hb_outside.specs.Streams.{Rose}
 use Rattle.hb_restart.specs.declared.faults.BadField.{BadField}
 use Rattle.hb_restart.specs.declared.faults.CreateFault.{CreateFault}
 use Rattle.hb_restart.specs.declared.faults.CreateFault.TheVariants.{BadLayout, Small, DiskFault, NoMemory}
 use Rattle.hbpi.specs.declared.statuses.Status.{Status}
 use Rattle.hbpi.specs.declared.statuses.Status.TheVariants as statuses
-use Rattle.hbpi.specs.declared.statuses.Status.TheVariants.{Done, SinkFault}
-
--- it was said that the file is made, or a front of it
-abbrev pub IsMadeOn : SinkModel → SinkModel → Status → Type 0
-IsMadeOn before after Done = Appends before.written after.written (codes "created\n") × (after.faults ≡ before.faults)
-IsMadeOn before after SinkFault = AppendsFront before.written after.written (codes "created\n") × Rose before.faults after.faults
-IsMadeOn before after _ = ⊥
 
 -- why a file was not made whose layout has this bad field and wants so many bytes, on a disk of this size with these
 -- counts of failed writes

@@ -88,4 +88,5 @@ IsUnbuilt None = ⊥
 IsUnbuilt (Some (Dry k)) = ⊥
 IsUnbuilt (Some (Create k pages log dcap icap)) = ⊥
 IsUnbuilt (Some Drive) = ⊥
+IsUnbuilt (Some Check) = ⊥
 IsUnbuilt (Some form) = Unit {0}

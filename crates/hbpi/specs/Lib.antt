@@ -3,6 +3,7 @@ pub mod Codes
 pub mod Taking
 pub mod Outcome
 pub mod SeenRuns
+pub mod Saying
 pub mod Created
 pub mod Ends
 pub mod MadeEnds
@@ -10,5 +11,6 @@ pub mod DryParts
 pub mod Schedules
 pub mod Drives
 pub mod Driven
+pub mod Checked
 pub mod Runs
 pub mod Promises

@@ -4,12 +4,13 @@ use Rattle.hb_restart.specs.Beyond.{KeepsBeyond, KeepsBeyondFile}
 use Rattle.hb_restart.specs.Layouts.{first_fault, size_of}
 use Rattle.hb_restart.specs.NewFiles.{new_file}
 use Rattle.hb_store.specs.Opening.{IsEven}
+use Rattle.hbpi.specs.Checked.{CheckEnds}
 use Rattle.hbpi.specs.Driven.{DriveEnds}
 use Rattle.hbpi.specs.Ends.{DryEnds, UsageEnds, UnbuiltEnds}
 use Rattle.hbpi.specs.MadeEnds.{CreateEnds, HasMade}
 use Rattle.hbpi.specs.SeenRuns.{Run}
 use Rattle.hbpi.specs.declared.forms.Form.{Form}
-use Rattle.hbpi.specs.declared.forms.Form.TheVariants.{Create, Dry, Drive}
+use Rattle.hbpi.specs.declared.forms.Form.TheVariants.{Check, Create, Dry, Drive}
 use Rattle.hbpi.specs.declared.statuses.Status.{Status}
 use Rattle.hbpi.specs.declared.statuses.Status.TheVariants.{SourceFault}
 
@@ -19,6 +20,7 @@ RunEnds None run status = UsageEnds run.seen status
 RunEnds (Some (Dry k)) run status = DryEnds k run.seen status
 RunEnds (Some (Create k pages log dcap icap)) run status = CreateEnds (first_fault k pages log dcap icap) (size_of pages log) run status
 RunEnds (Some Drive) run status = DriveEnds run status
+RunEnds (Some Check) run status = CheckEnds run status
 RunEnds (Some form) run status = UnbuiltEnds run.seen status
 
 -- Where a file was made, every image of the disk opens to it: it has no record.
@@ -32,6 +34,7 @@ LeavesFile _ run status = Unit {0}
 abbrev pub LeavesBeyond : Option Form → Run → Type 0
 LeavesBeyond (Some (Create k pages log dcap icap)) run = KeepsBeyond (size_of pages log) run.before run.after
 LeavesBeyond (Some Drive) run = KeepsBeyondFile run.before run.after
+LeavesBeyond (Some Check) run = KeepsBeyondFile run.before run.after
 LeavesBeyond _ run = Unit {0}
 
 -- No count of faults falls, and that of the source is as it was unless the status says that the source failed.

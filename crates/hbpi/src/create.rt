@@ -7,11 +7,12 @@ ghost use Rattle.hbpi.specs.MadeEnds.{CreateEnds, HasMade};
 ghost use Rattle.hb_restart.specs.Layouts.{first_fault, size_of};
 ghost use Rattle.hb_restart.specs.NewFiles.{new_file};
 ghost use Rattle.hb_restart.specs.Beyond.{KeepsBeyond};
-ghost use Rattle.hbpi.specs.Created.{IsMadeOn, IsUnmade, NotMadeOn};
+ghost use Rattle.hbpi.specs.Created.{IsUnmade, NotMadeOn};
 ghost use Rattle.hb_restart.specs.declared.faults.CreateFault.TheVariants.{DiskFault, NoMemory};
 
 use crate::dry::refused;
 use crate::finished::Finished;
+use crate::saying::say;
 use crate::statuses::Status;
 use hb_disk::Device;
 use hb_outside::Sink;
@@ -52,17 +53,6 @@ fn make<D: Device>(
     }
 }
 
-/// Says that the file was made.
-fn put_created<K: Sink>(sink: &mut K) -> Status
-    ensures done { IsMadeOn (K.model sink.old) (K.model sink.new) result }
-    ensures later { (K.model sink.old).faults ≤ (K.model sink.new).faults }
-{
-    match sink.put(b"created\n") {
-        Ok(()) => Status::Done,
-        Err(_) => Status::SinkFault,
-    }
-}
-
 /// The command `create`: makes a new file of this layout on the disk.
 pub(crate) fn create_file<K: Sink, D: Device>(
     alloc: Global,
@@ -86,7 +76,7 @@ pub(crate) fn create_file<K: Sink, D: Device>(
 {
     match make(alloc, disk, k, pages, log, dcap, icap) {
         Ok(disk) => {
-            let status = put_created(&mut sink);
+            let status = say(&mut sink, b"created\n");
             Finished {
                 status,
                 sink,

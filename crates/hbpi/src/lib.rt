@@ -15,6 +15,7 @@
 
 mod answers;
 mod calls;
+mod check_file;
 mod create;
 mod drive_file;
 mod dry;
@@ -24,6 +25,7 @@ mod files;
 mod finished;
 mod forms;
 mod new_files;
+mod saying;
 mod statuses;
 mod texts;
 pub mod top;

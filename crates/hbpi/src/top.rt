@@ -5,6 +5,7 @@ ghost use Rattle.hbpi.specs.Forms.{form_of};
 ghost use Rattle.hbpi.specs.Runs.{IsRunOf, LeavesBeyond, LeavesFile, RunEnds};
 ghost use Rattle.hbpi.specs.SeenRuns.{run_of, seen_by};
 
+use crate::check_file::check_file;
 use crate::create::create_file;
 use crate::drive_file::drive_file;
 use crate::dry::{dry, refused};
@@ -45,6 +46,7 @@ fn run_words<S: Source, K: Sink, D: Disk>(
             },
         ) => create_file(alloc, k, pages, log, dcap, icap, sink, disk),
         Some(Form::Drive) => drive_file(alloc, source, sink, disk),
+        Some(Form::Check) => check_file(alloc, sink, disk),
         Some(_) => refused(alloc, Status::NotBuilt, sink, disk),
     }
 }
@@ -60,7 +62,7 @@ pub fn top<S: Source, K: Sink, D: Disk>(
     // Which row of the table this run is of: the cause of its status, what was read and written, what was answered, and what
     // is on the disk.
     ensures ends { IsRunOf (form_of (map string_bytes words.now)) (run_of (seen_by (S.model source.old) (S.model source.new) (K.model sink) (K.model result.sink) result.answered.items result.order.items) (D.model disk) (D.model result.disk)) result.status }
-    // But for `drive`, and for `create` where it makes a file or fails in it, the disk is given back as it was.
+    // But for `drive` and `check`, and for `create` where it makes a file or fails in it, the disk is given back as it was.
     ensures untouched { LeavesDisk (form_of (map string_bytes words.now)) result.status → result.disk ≡ disk }
 {
     run_words(alloc, words, source, sink, disk)

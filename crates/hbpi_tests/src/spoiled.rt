@@ -23,21 +23,21 @@ const TWO_LEAVES: [u8; 36] = [
 ];
 
 /// A page with the records of 6 and of 5, in this order.
-const UNORDERED: [u8; 41] = [
+pub(crate) const UNORDERED: [u8; 41] = [
     1, 0, 1, 0, 0, 0, 0, 0, 0, 0, 0, 0, 255, 255, 255, 255, 255, 255, 255, 255, 1, 0, 2, 0, 0, 0,
     0, 0, 0, 0, 6, 0, 0, 0, 0, 0, 0, 0, 0, 5, 0,
 ];
 
 /// A frame with one group, of no page image: page 2 becomes the root of a file of one page, whose free chain is empty.
-const GROWTH: [u8; 15] = [0xA5, 0, 0, 0, 10, 0, 6, 0, 0, 0, 2, 0, 0, 0, 0];
+pub(crate) const GROWTH: [u8; 15] = [0xA5, 0, 0, 0, 10, 0, 6, 0, 0, 0, 2, 0, 0, 0, 0];
 
 /// Where page 1 stands.
-const PAGE_1: usize = 139_264;
+pub(crate) const PAGE_1: usize = 139_264;
 
 /// The texts with which a new file was driven: none, or one that put two lines into the log area 1.
-const NEW: &[&str] = &[];
+pub(crate) const NEW: &[&str] = &[];
 
-const LOGGED: &[&str] = &["1 insert 5 =a\n1 insert 6 =b\nstep 1x8\n"];
+pub(crate) const LOGGED: &[&str] = &["1 insert 5 =a\n1 insert 6 =b\nstep 1x8\n"];
 
 /// A file by these texts; two offsets with the bytes that are put there; and what `drive` of an insert says.
 ///
@@ -150,7 +150,7 @@ const ROWS: [(&[&str], usize, &[u8], usize, &[u8], &str); 54] = [
 ];
 
 /// Puts bytes at an offset, as far as there are bytes.
-fn put_at(bytes: &mut Vec<u8>, at: usize, piece: &[u8]) {
+pub(crate) fn put_at(bytes: &mut Vec<u8>, at: usize, piece: &[u8]) {
     for (place, byte) in bytes.iter_mut().skip(at).zip(piece) {
         *place = *byte;
     }

@@ -68,7 +68,7 @@ fn answers_texts(rt: HostRuntime) {
 }
 
 /// The words, and what the program says where its text is `x`.
-const WORDS: [(&str, &str); 73] = [
+const WORDS: [(&str, &str); 74] = [
     ("", "2 usage\n"),
     ("dry", "2 usage\n"),
     ("dry 0", "2 usage\n"),
@@ -114,8 +114,9 @@ const WORDS: [(&str, &str); 73] = [
     ("work 1 01", "2 usage\n"),
     ("work 18446744073709551616 1", "2 usage\n"),
     ("work", "2 usage\n"),
+    ("check check", "2 usage\n"),
     ("run", "11 not built\n"),
-    ("check", "11 not built\n"),
+    ("check", "9 small 8192 0\n"),
     ("map", "11 not built\n"),
     ("tidy", "11 not built\n"),
     ("gen 18446744073709551615 1000000 4", "11 not built\n"),
