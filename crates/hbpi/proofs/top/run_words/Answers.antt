@@ -32,3 +32,6 @@ returns-in-Some-Drive-clause-reads g c = drive_reads (run_of _ (g.D.Device.model
 
 pub returns-in-Some-Drive-clause-writes : goal.returns-in-Some-Drive-clause-writes
 returns-in-Some-Drive-clause-writes g c = drive_writes (run_of _ (g.D.Device.model c.args.disk) (g.D.Device.model c.drive_file.result.disk)) c.drive_file.result.status c.drive_file.ensures.ends
+
+pub returns-in-Some-Check-clause-ends : goal.returns-in-Some-Check-clause-ends
+returns-in-Some-Check-clause-ends g c = c.check_file.ensures.ends (g.S.Source.model c.args.source.now)
