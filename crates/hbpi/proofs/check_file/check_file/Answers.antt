@@ -1,17 +1,18 @@
-use Rattle.std.proofs.Common.{◌≡◌, ℕ, List, inl, inr, refl, sym, subst, ap, ◌∙◌}
+use Rattle.std.proofs.Common.{ℕ, List, inl, inr, refl, sym, subst, ap, ◌∙◌}
 use Rattle.hb_layout.specs.declared.meta.Meta.{Meta}
 use Rattle.hb_restart.specs.Beyond.{KeepsBeyondFile}
 use Rattle.hb_store.specs.Seen.{seen_as}
 use Rattle.hbpi.proofs.ShutOut.{shut_out}
-use Rattle.hbpi.specs.Checked.{sound_text}
+use Rattle.hbpi.specs.Checked.{CheckEnds, sound_text}
 use Rattle.hbpi.specs.Saying.{IsSaid}
-use Rattle.hbpi.specs.SeenRuns.{Seen, seen_by}
+use Rattle.hbpi.specs.SeenRuns.{Seen, run_of, seen_by}
 use Rattle.hbpi.proofs.check_file.check_file.Goals as goal
 
 pub returns-in-Ok-clause-ends : goal.returns-in-Ok-clause-ends
 returns-in-Ok-clause-ends g c source =
-    let said = c.as_slice.ensures.value ∙ c.sound_line.ensures ∙ ap (λ (m : Meta). sound_text m c.in-Ok.records) c.meta.ensures in
-    inr (
+    let said = c.as_slice.ensures.value ∙ c.sound_line.ensures ∙ ap (λ (m : Meta). sound_text m c.in-Ok.records) c.meta.ensures.meta in
+    let seen : Seen = seen_by source source (g.K.Sink.model c.args.sink) (g.K.Sink.model c.say-status.new.sink) c.new.result.items c.new-in-Ok.result.items in
+    subst (λ (x : g.row.D.Denot). CheckEnds (run_of seen (g.D.Device.model c.args.disk) (g.D.Device.model x)) c.say-status.result) (sym c.into_disk.ensures) (inr (
       seen_as c.in-Ok.store,
       c.in-Ok.records,
       record {
@@ -19,14 +20,14 @@ returns-in-Ok-clause-ends g c source =
         through = c.in-Ok.ensures.through;
         leaves = c.in-Ok.ensures.leaves;
         unread = record { rest = refl; faults = refl };
-        none_answered = refl;
-        none_ordered = refl;
+        none_answered = c.new.ensures.items;
+        none_ordered = c.new-in-Ok.ensures.items;
       },
-      subst (λ (line : List ℕ). IsSaid line (g.K.Sink.model c.args.sink) (g.K.Sink.model c.say.new.sink) c.say.result) said c.say.ensures.said,
-    )
+      subst (λ (line : List ℕ). IsSaid line (g.K.Sink.model c.args.sink) (g.K.Sink.model c.say-status.new.sink) c.say-status.result) said c.say-status.ensures.said,
+    ))
 
 pub returns-in-Ok-clause-beyond : goal.returns-in-Ok-clause-beyond
-returns-in-Ok-clause-beyond g c = c.in-Ok.ensures.leaves.beyond
+returns-in-Ok-clause-beyond g c = subst (λ (x : g.row.D.Denot). KeepsBeyondFile (g.D.Device.model c.args.disk) (g.D.Device.model x)) (sym c.into_disk.ensures) c.in-Ok.ensures.leaves.beyond
 
 pub returns-in-Err-clause-beyond : goal.returns-in-Err-clause-beyond
 returns-in-Err-clause-beyond g c = subst (λ (x : g.row.D.Denot). KeepsBeyondFile (g.D.Device.model c.args.disk) (g.D.Device.model x)) (sym c.refused.ensures.disk) c.in-Err.ensures.leaves.beyond
