@@ -6,6 +6,7 @@ pub mod EndLaws
 pub mod Beyond
 pub mod Begins
 pub mod Opened
+pub mod ShutOut
 pub mod StepsTaken
 pub mod Reopened
 pub mod DriveLaws

@@ -1,32 +1,40 @@
-use Rattle.std.proofs.Common.{◌≡◌, inl, inr, refl, sym, subst, ◌∙◌}
-use Rattle.hb_disk.specs.Model.{DiskModel}
+use Rattle.std.proofs.Common.{ℕ, List, inl, inr, refl, sym, subst, ap, ◌∙◌}
+use Rattle.hb_layout.specs.declared.meta.Meta.{Meta}
 use Rattle.hb_restart.specs.Beyond.{KeepsBeyondFile}
-use Rattle.hb_store.specs.Seen.{disk_of, seen_as}
-use Rattle.hbpi.specs.Checked.{CheckEnds}
-use Rattle.hbpi.specs.Codes.{status_of}
-use Rattle.hbpi.specs.Driven.{IsShutOut}
-use Rattle.hbpi.specs.Outcome.{GetsLine, fault_line}
+use Rattle.hb_store.specs.Seen.{seen_as}
+use Rattle.hbpi.proofs.ShutOut.{shut_out}
+use Rattle.hbpi.specs.Checked.{CheckEnds, sound_text}
+use Rattle.hbpi.specs.Saying.{IsSaid}
 use Rattle.hbpi.specs.SeenRuns.{Seen, run_of, seen_by}
-use Rattle.hbpi.specs.declared.statuses.Status.{Status}
 use Rattle.hbpi.proofs.check_file.check_file.Goals as goal
+
+pub returns-in-Ok-clause-ends : goal.returns-in-Ok-clause-ends
+returns-in-Ok-clause-ends g c source =
+    let said = c.as_slice.ensures.value ∙ c.sound_line.ensures ∙ ap (λ (m : Meta). sound_text m c.in-Ok.records) c.meta.ensures.meta in
+    let seen : Seen = seen_by source source (g.K.Sink.model c.args.sink) (g.K.Sink.model c.say-status.new.sink) c.new.result.items c.new-in-Ok.result.items in
+    subst (λ (x : g.row.D.Denot). CheckEnds (run_of seen (g.D.Device.model c.args.disk) (g.D.Device.model x)) c.say-status.result) (sym c.into_disk.ensures) (inr (
+      seen_as c.in-Ok.store,
+      c.in-Ok.records,
+      record {
+        opens = c.in-Ok.ensures.opened;
+        through = c.in-Ok.ensures.through;
+        leaves = c.in-Ok.ensures.leaves;
+        unread = record { rest = refl; faults = refl };
+        none_answered = c.new.ensures.items;
+        none_ordered = c.new-in-Ok.ensures.items;
+      },
+      subst (λ (line : List ℕ). IsSaid line (g.K.Sink.model c.args.sink) (g.K.Sink.model c.say-status.new.sink) c.say-status.result) said c.say-status.ensures.said,
+    ))
+
+pub returns-in-Ok-clause-beyond : goal.returns-in-Ok-clause-beyond
+returns-in-Ok-clause-beyond g c = subst (λ (x : g.row.D.Denot). KeepsBeyondFile (g.D.Device.model c.args.disk) (g.D.Device.model x)) (sym c.into_disk.ensures) c.in-Ok.ensures.leaves.beyond
+
+pub returns-in-Err-clause-beyond : goal.returns-in-Err-clause-beyond
+returns-in-Err-clause-beyond g c = subst (λ (x : g.row.D.Denot). KeepsBeyondFile (g.D.Device.model c.args.disk) (g.D.Device.model x)) (sym c.refused.ensures.disk) c.in-Err.ensures.leaves.beyond
 
 pub returns-in-Err-clause-ends : goal.returns-in-Err-clause-ends
 returns-in-Err-clause-ends g c source =
-    let M : g.row.D.Denot → DiskModel = g.D.Device.model in
-    let d : DiskModel = M c.args.disk in
     let facts = c.in-Err.ensures in
-    let fault = c.in-Err.fault in
     let seen : Seen = seen_by source source (g.K.Sink.model c.args.sink) (g.K.Sink.model c.refused.result.sink) c.refused.result.answered.items c.refused.result.order.items in
-    let status : c.refused.result.status ≡ status_of fault = c.refused.ensures.status ∙ c.from.ensures in
-    let out : IsShutOut (run_of seen d (M c.in-Err.disk)) fault = record {
-      refused = record {
-        line = subst (λ (x : Status). GetsLine seen.sink_before seen.sink_after (fault_line x)) c.from.ensures c.refused.ensures.line;
-        none_answered = c.refused.ensures.answered;
-        none_ordered = c.refused.ensures.order;
-      };
-      unread = record { rest = refl; faults = refl };
-      why = facts.refused;
-      unwritten = facts.unwritten;
-      leaves = facts.leaves;
-    } in
-    subst (λ (x : g.row.D.Denot). CheckEnds (run_of seen d (M x)) c.refused.result.status) (sym c.refused.ensures.disk) (inl (fault, status, out))
+    inl (shut_out g.D.Device.model c.args.disk c.in-Err.disk c.refused.result.disk seen c.in-Err.fault c.from.result c.refused.result.status c.refused.ensures.disk c.refused.ensures.status c.from.ensures
+    c.refused.ensures.line c.refused.ensures.answered c.refused.ensures.order (record { rest = refl; faults = refl }) facts.refused facts.unwritten facts.leaves)

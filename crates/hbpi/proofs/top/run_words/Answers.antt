@@ -32,3 +32,9 @@ returns-in-Some-Drive-clause-reads g c = drive_reads (run_of _ (g.D.Device.model
 
 pub returns-in-Some-Drive-clause-writes : goal.returns-in-Some-Drive-clause-writes
 returns-in-Some-Drive-clause-writes g c = drive_writes (run_of _ (g.D.Device.model c.args.disk) (g.D.Device.model c.drive_file.result.disk)) c.drive_file.result.status c.drive_file.ensures.ends
+
+pub returns-in-Some-Check-clause-ends : goal.returns-in-Some-Check-clause-ends
+returns-in-Some-Check-clause-ends g c =
+    let seen = seen_by (g.S.Source.model c.args.source.now) (g.S.Source.model c.args.source.now) (g.K.Sink.model c.args.sink) (g.K.Sink.model c.check_file.result.sink) c.check_file.result.answered.items c.check_file.result.order.items in
+    subst (λ (form : Option Form). RunEnds form (run_of seen (g.D.Device.model c.args.disk) (g.D.Device.model c.check_file.result.disk)) c.check_file.result.status) (sym (ap Some c.in-Some-Check.field-0-is) ∙ c.in-Some-Check.ensures.form)
+    (c.check_file.ensures.ends (g.S.Source.model c.args.source.now))
