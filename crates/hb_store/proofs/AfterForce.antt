@@ -27,8 +27,8 @@ use Rattle.hb_log_codec.specs.Groups.{Logged, FitsGroup, group_bytes}
 use Rattle.hb_store.specs.Replay.{Replayed, untouched, replay}
 use Rattle.hb_store.specs.Opening.{OpensBy, log_bytes, place_bytes}
 use Rattle.hb_store.specs.States.{IsMemory, StoreState}
-use Rattle.hb_store.specs.Keeps.{StoreKeeps, OpensToFirst, last_of}
-use Rattle.hb_store.specs.Parts.{Parts, Leads, OpensNext, written_pages}
+use Rattle.hb_store.specs.Keeps.{StoreKeeps, OpensToEither}
+use Rattle.hb_store.specs.Parts.{Parts, Leads, OpensNext, written_pages, last_of}
 use Rattle.hb_store.specs.Forced.{stopped_state, forced_state, with_log, durable_after, later_after}
 use Rattle.hb_store.proofs.Facts.ReplayLaws.{replay-append}
 use Rattle.hb_wal.proofs.Facts.AreaBytes.{end_zeros}
@@ -127,8 +127,8 @@ module _ (d : DiskModel) (is_disk : IsDisk d) (st : StoreState) (is : IsMemory s
         | inr more ↦ inr (frames_there c (p.payloads ++ forced st.log.groups) more)
       ])
 
-  pub moments_open : (new : DiskModel) → Leaves d new (ForceLeaves d st.log p.payloads) → Leaves d new (OpensToFirst durable later)
-  moments_open new run = Leaves-weaker d new (ForceLeaves d st.log p.payloads) (OpensToFirst durable later)
+  pub moments_open : (new : DiskModel) → Leaves d new (ForceLeaves d st.log p.payloads) → Leaves d new (OpensToEither durable later)
+  moments_open new run = Leaves-weaker d new (ForceLeaves d st.log p.payloads) (OpensToEither durable later)
       (λ c leaves. opens_first c st.turn p.said p.payloads p.written p.waiting durable later (inside_opens c leaves)) run
 
   module _ (new : DiskModel) (is_new : IsDisk new) (place : Becomes (Torn st.log.area st.log.len) d new) (b : List ℕ) (told : d.told ≡ Some b) where

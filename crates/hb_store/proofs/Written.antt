@@ -9,8 +9,8 @@ use Rattle.hb_wal.specs.Forces.{ForceLeaves, HasLog, calls_of_force}
 use Rattle.hb_layout.specs.Offsets.{file_size}
 use Rattle.hb_ops.specs.Files.{FileState}
 use Rattle.hb_store.specs.States.{IsMemory, StoreState}
-use Rattle.hb_store.specs.Keeps.{OpensToFirst, StoreKeeps}
-use Rattle.hb_store.specs.Forced.{WritesOldest, durable_after, later_after, stopped_state, with_log}
+use Rattle.hb_store.specs.Keeps.{OpensToEither, StoreKeeps}
+use Rattle.hb_store.specs.Forced.{WritesGroups, durable_after, later_after, stopped_state, with_log}
 use Rattle.hb_store.specs.declared.stops.WriteFault.{WriteFault}
 use Rattle.hb_store.proofs.AfterForce.{keeps_forced, keeps_stopped, moments_open}
 
@@ -25,14 +25,14 @@ log_fits st size is room = omega (arith, is.area, is.len, half_fits (st.turn % 2
 
 module _ (d e : DiskModel) (is_disk : IsDisk d) (is_new : IsDisk e) (st : StoreState) (is : IsMemory st) (going : st.stopped ≡ false) (log : LogState)
     (inside : IsSome d.told → (payloads : List (List ℕ)) → HasLog d st.log payloads → Leaves d e (ForceLeaves d st.log payloads)) where
-  moments : (durable : FileState) (later : List FileState) → StoreKeeps d st durable later → Leaves d e (OpensToFirst durable later)
+  moments : (durable : FileState) (later : List FileState) → StoreKeeps d st durable later → Leaves d e (OpensToEither durable later)
   moments durable later keeps = moments_open d is_disk st is going durable later keeps e (inside keeps.disk.told keeps.parts.payloads (keeps.disk.running going).logged)
 
   -- it was written
   pub written_so : {T X E : Type 0} (x : T) (y : X) → (st.log.groups ≡ [] → Stays d e) → log ≡ after_force st.log
       → ((payloads : List (List ℕ)) → HasLog d st.log payloads → HasLog e log (payloads ++ forced st.log.groups))
       → (IsSome d.told → e.clock ≡ d.clock + calls_of_force st.log.groups) → Rewrites {T = X} {E = E} (Torn st.log.area st.log.len) 4 (Ok y) d e
-      → WritesOldest (Ok x) d e st (with_log log st)
+      → WritesGroups (Ok x) d e st (with_log log st)
   written_so x y nothing is_forced has clock wrote = record {
     nothing = λ none. (refl, nothing none);
     forced = ap (λ (l : LogState). with_log l st) is_forced;
@@ -51,7 +51,7 @@ module _ (d e : DiskModel) (is_disk : IsDisk d) (is_new : IsDisk e) (st : StoreS
 
   -- a fault stopped the store
   pub written_not : {T X E : Type 0} (fault : WriteFault) (y : E) → (st.log.groups ≡ [] → ⊥) → log ≡ st.log → Rewrites {T = X} {E = E} (Torn st.log.area st.log.len) 4 (Err y) d e
-      → WritesOldest {T = T} (Err fault) d e st (stopped_state (with_log log st))
+      → WritesGroups {T = T} (Err fault) d e st (stopped_state (with_log log st))
   written_not fault y some kept wrote = record {
     nothing = λ none. absurd (some none);
     forced = tt;

@@ -8,8 +8,8 @@ use Rattle.hb_log_codec.specs.Groups.{Logged, group_bytes}
 use Rattle.hb_store.specs.Replay.{Replayed}
 use Rattle.hb_store.specs.Opening.{OpensBy, OpensTo}
 use Rattle.hb_store.specs.States.{StoreState}
-use Rattle.hb_store.specs.Keeps.{StoreKeeps, OpensToFirst, last_of}
-use Rattle.hb_store.specs.Parts.{Parts, Leads, OpensNext}
+use Rattle.hb_store.specs.Keeps.{StoreKeeps, OpensToEither}
+use Rattle.hb_store.specs.Parts.{Parts, Leads, OpensNext, last_of}
 use Rattle.hb_store.specs.Forced.{durable_after, later_after}
 
 -- By the durable file's groups, or by those and the first that waits. `OpensHere` and `OpensOn` say so of a store's parts.
@@ -20,7 +20,7 @@ abbrev pub OpensOn : List ℕ → ℕ → Parts → List FileState → Type 0
 OpensOn c turn p later = OpensNext c turn p.said p.payloads p.written p.waiting later
 
 pub opens_first : (c : List ℕ) (turn : ℕ) (said : Meta) (payloads : List (List ℕ)) (written waiting : List Logged) (durable : FileState) (later : List FileState)
-    → OpensBy c turn said payloads written durable ⊎ OpensNext c turn said payloads written waiting later → OpensToFirst durable later c
+    → OpensBy c turn said payloads written durable ⊎ OpensNext c turn said payloads written waiting later → OpensToEither durable later c
 opens_first c turn said payloads written waiting durable [] (inl by) = record { turn = turn; said = said; payloads = payloads; groups = written; by = by }
 opens_first c turn said payloads written waiting durable (next ∷ later) (inl by) = inl (record { turn = turn; said = said; payloads = payloads; groups = written; by = by })
 opens_first c turn said payloads written [] durable later (inr never) = absurd never
@@ -38,7 +38,7 @@ as_waits A B C (inr (b, c)) = inr c
 
 -- Each image opens to the durable file, or to the next one.
 pub StoreKeeps-opens : (d : DiskModel) (st : StoreState) (durable : FileState) (later : List FileState) → StoreKeeps d st durable later
-    → (c : List ℕ) → d.Image c → OpensToFirst durable later c
+    → (c : List ℕ) → d.Image c → OpensToEither durable later c
 StoreKeeps-opens d st durable later keeps c image =
     let p = keeps.parts in
     opens_first c st.turn p.said p.payloads p.written p.waiting durable later
