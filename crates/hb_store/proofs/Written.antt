@@ -1,4 +1,4 @@
--- What it is to write the oldest group, from what the log's force did.
+-- What it is to write the groups that wait, from what the log's force did.
 use Rattle.std.proofs.Common.{zero, suc, ◌*◌, ◌%◌, ◌<◌, ◌≤◌, ◌≡◌, ℕ, ◌+◌, ◌++◌, List, [], Ok, Err, IsSome, false, refl, sym, subst, ap, arith}
 use Rattle.hb_lemmas.proofs.Options.{some_value}
 use Rattle.hb_disk.specs.Model.{DiskModel, IsDisk, Stays, Torn}
@@ -10,7 +10,8 @@ use Rattle.hb_layout.specs.Offsets.{file_size}
 use Rattle.hb_ops.specs.Files.{FileState}
 use Rattle.hb_store.specs.States.{IsMemory, StoreState}
 use Rattle.hb_store.specs.Keeps.{OpensToEither, StoreKeeps}
-use Rattle.hb_store.specs.Forced.{WritesGroups, durable_after, later_after, stopped_state, with_log}
+use Rattle.hb_store.specs.Parts.{last_of}
+use Rattle.hb_store.specs.Forced.{WritesGroups, stopped_state, with_log}
 use Rattle.hb_store.specs.declared.stops.WriteFault.{WriteFault}
 use Rattle.hb_store.proofs.AfterForce.{keeps_forced, keeps_stopped, moments_open}
 
@@ -40,7 +41,7 @@ module _ (d e : DiskModel) (is_disk : IsDisk d) (is_new : IsDisk e) (st : StoreS
     keeps_forced = λ durable later keeps.
         let told = some_value d.told keeps.disk.told in
         let L : LogState → Type 0 = λ l. HasLog e l (keeps.parts.payloads ++ forced st.log.groups) in
-        let K : LogState → Type 0 = λ l. StoreKeeps e (with_log l st) (durable_after durable later) (later_after later) in
+        let K : LogState → Type 0 = λ l. StoreKeeps e (with_log l st) (last_of durable later) [] in
         subst K (sym is_forced)
         (keeps_forced d is_disk st is going durable later keeps e is_new wrote.became told.0 told.1 (subst L is_forced (has keeps.parts.payloads (keeps.disk.running going).logged)));
     keeps_stopped = λ durable later keeps. tt;

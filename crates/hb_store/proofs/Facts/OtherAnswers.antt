@@ -1,4 +1,4 @@
--- What it is to write the oldest group, in another answer.
+-- What it is to write the groups that wait, in another answer.
 use Rattle.std.proofs.Common.{Ok, Err}
 use Rattle.std.proofs.lemmas.Bool.{false≢true}
 use Rattle.hb_disk.specs.Model.{DiskModel}
