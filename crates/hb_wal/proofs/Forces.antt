@@ -15,8 +15,8 @@ use Rattle.hb_disk.proofs.Facts.RewriteLaws.{Rewrites-weaker}
 use Rattle.hb_wal.specs.Frames.{frames, frame_bytes, frame_body, IsPayload, IsEnd, HasFrames, range}
 use Rattle.hb_wal.specs.Log.{Waiting, LogState, IsLog, joined, forced, after_force}
 use Rattle.hb_wal.specs.Forces.{HasLog, ForceLeaves}
-use Rattle.hb_wal.proofs.Waiting.{count-pending, count-some, forced-some, framed-pending, length-joined}
-use Rattle.hb_wal.proofs.Kept.{length-frame}
+use Rattle.hb_wal.proofs.Waiting.{count-pending, count-some, forced-some, length-joined}
+use Rattle.hb_wal.proofs.Kept.{frame_fits, length-frame}
 use Rattle.hb_wal.proofs.Facts.AreaBytes.{get_or-range, length-range, range-overwritten, overwritten-zeros, frames-push, end_zeros}
 
 -- groups wait where a log has a body for them
@@ -28,8 +28,8 @@ module _ (log : LogState) (is_log : IsLog log) (waits : log.groups ≢ []) where
   abbrev payload : List ℕ
   payload = joined log.groups
 
-  pub frame_fits : log.written + (5 + length payload) ≤ log.len
-  frame_fits = omega (arith, is_log.fits, length-joined log.groups, framed-pending log.groups, count-some log.groups waits)
+  pub payload_room : log.written + (5 + length payload) ≤ log.len
+  payload_room = omega (arith, frame_fits log waits is_log, length-joined log.groups)
 
   pub body_long : 1 + length (frame_body payload) ≡ 5 + length payload
   body_long = omega (arith, length-frame payload, length-append (frame_bytes payload) [])
@@ -58,7 +58,7 @@ module _ (log : LogState) (is_log : IsLog log) (waits : log.groups ≢ []) where
 
     pub gate_closed : (c : List ℕ) → d.Image c → get_or c gate 0 ≢ open_gate
     gate_closed c image is_open =
-        let here : log.written < log.len = omega (arith, frame_fits) in
+        let here : log.written < log.len = omega (arith, payload_room) in
         let zero_there : get_or c gate 0 ≡ 0 =
         sym (get_or-range log.area log.len log.written c here) ∙ ap (λ (l : List ℕ). get_or l log.written 0) (image_area c image)
         ∙ get_or-append_right (frames payloads) zeros log.written log.written 0 has.count (omega arith) ∙ get_or-replicate (log.len - log.written) (log.written - log.written) 0 0 (omega (arith, here)) in
@@ -68,7 +68,7 @@ module _ (log : LogState) (is_log : IsLog log) (waits : log.groups ≢ []) where
     written_area : (c : List ℕ) → d.Image c → range log.area log.len (overwritten c gate (frame_bytes payload)) ≡ frames (payloads ++ payload ∷ []) ++ replicate (log.len - log.written - (5 + length payload)) 0
     written_area c image =
         let count : length (frame_bytes payload) ≡ 5 + length payload = omega (arith, body_long) in
-        range-overwritten log.area log.len log.written c (frame_bytes payload) (long c image) (omega (arith, count, frame_fits))
+        range-overwritten log.area log.len log.written c (frame_bytes payload) (long c image) (omega (arith, count, payload_room))
         ∙ ap (λ (l : List ℕ). overwritten l log.written (frame_bytes payload)) (image_area c image)
         ∙ ap (λ (k : ℕ). overwritten (frames payloads ++ zeros) k (frame_bytes payload)) (sym has.count)
         ∙ overwritten-zeros (frames payloads) (frame_bytes payload) (log.len - log.written)
@@ -85,9 +85,9 @@ module _ (log : LogState) (is_log : IsLog log) (waits : log.groups ≢ []) where
 
       front : take log.written here ≡ frames payloads
       front =
-          take-take log.written log.len (drop log.area c) (omega (arith, frame_fits))
+          take-take log.written log.len (drop log.area c) (omega (arith, payload_room))
           ∙ Torn-elsewhere gate (1 + length (frame_body payload)) log.area log.written a c (inl (omega arith)) torn
-          ∙ sym (take-take log.written log.len (drop log.area a) (omega (arith, frame_fits)))
+          ∙ sym (take-take log.written log.len (drop log.area a) (omega (arith, payload_room)))
           ∙ ap (λ (l : List ℕ). take log.written l) (image_area a image) ∙ take_at (frames payloads) zeros log.written has.count
 
       pub closed_bytes : here ≡ frames payloads ++ drop log.written here
@@ -96,7 +96,7 @@ module _ (log : LogState) (is_log : IsLog log) (waits : log.groups ≢ []) where
       pub closed_end : eqb (get_or c gate 0) open_gate ≡ false → IsEnd (drop log.written here)
       closed_end closed =
           let count : length here ≡ log.len = length-range log.area log.len c (omega (arith, torn.as_long, long a image)) in
-          let in_range : log.written < log.len = omega (arith, frame_fits) in
+          let in_range : log.written < log.len = omega (arith, payload_room) in
           subst IsEnd (sym (drop_more here log.written 0 (omega (arith, count, in_range))))
           (inr (λ e. eqb-false (get_or c gate 0) open_gate closed (sym (get_or-range log.area log.len log.written c in_range) ∙ e)))
 
@@ -105,7 +105,7 @@ module _ (log : LogState) (is_log : IsLog log) (waits : log.groups ≢ []) where
     framed c (a, image, frame) = record {
       before = a;
       image = image;
-      elsewhere = Torn-wider gate (1 + length (frame_body payload)) log.area log.len a c (omega arith) (omega (arith, body_long, frame_fits)) frame.elsewhere;
+      elsewhere = Torn-wider gate (1 + length (frame_body payload)) log.area log.len a c (omega arith) (omega (arith, body_long, payload_room)) frame.elsewhere;
       frames_of = elim (cases_Bool (eqb (get_or c gate 0) open_gate)) [
         | inl is_open ↦ inr (subst (λ (l : List (List ℕ)). HasFrames (range log.area log.len c) (payloads ++ l)) (sym forced_is) (record {
           payloads_fit = fits_more;
@@ -162,11 +162,11 @@ module _ (log : LogState) (is_log : IsLog log) (body : List ℕ) (waits : log.gr
   body_count = omega (arith, ap (λ (l : List ℕ). length l) begins, body_long log is_log waits)
 
   pub body_inside : at + 1 + length body ≤ d.size
-  body_inside = omega (arith, at_is, inside, body_count, frame_fits log is_log waits)
+  body_inside = omega (arith, at_is, inside, body_count, payload_room log is_log waits)
 
   pub wrote_within : {T E : Type 0} (r : Result T E) (new : DiskModel) → Rewrites (Torn at (1 + length body)) 4 r d new → Rewrites (Torn log.area log.len) 4 r d new
   wrote_within r new run = Rewrites-weaker r (Torn at (1 + length body)) (Torn log.area log.len) 4 d new
-      (λ a c torn. Torn-wider at (1 + length body) log.area log.len a c (omega (arith, at_is)) (omega (arith, at_is, body_count, frame_fits log is_log waits)) torn) run
+      (λ a c torn. Torn-wider at (1 + length body) log.area log.len a c (omega (arith, at_is)) (omega (arith, at_is, body_count, payload_room log is_log waits)) torn) run
 
   module _ (payloads : List (List ℕ)) (has : HasLog d log payloads) (b : List ℕ) (told : d.told ≡ Some b) where
     pub at_closed : (c : List ℕ) → d.Image c → get_or c at 0 ≢ open_gate

@@ -1,7 +1,9 @@
 -- What a log keeps, in numbers, when a group joins, and when all are written.
-use Rattle.std.proofs.Common.{◌≡◌, ◌≢◌, ℕ, ◌+◌, ◌*◌, ◌<◌, ◌≤◌, List, [], ◌∷◌, ◌++◌, length, take, drop, sym, ap, ◌∙◌, arith, append_assoc, length-append, length-drop}
+use Rattle.std.proofs.Common.{◌≡◌, ◌≢◌, ℕ, ◌+◌, ◌*◌, ◌<◌, ◌≤◌, false, List, [], ◌∷◌, ◌++◌, length, take, drop, sym, ap, ◌∙◌, arith, append_assoc, length-append, length-drop}
 use Rattle.std.specs.List.{All}
-use Rattle.std.proofs.lemmas.List.{take_at, drop_at, take-append-drop}
+use Rattle.std.proofs.Math.Dec.{eqb}
+use Rattle.std.proofs.lemmas.Bool.{eqb-false}
+use Rattle.std.proofs.lemmas.List.{take_at, drop_at, take-append-drop, nil_from_length}
 use Rattle.std.proofs.lemmas.List.Elements.{All-nil, All-push}
 use Rattle.std.proofs.lemmas.List.Quantifiers.{all_pairs_push}
 use Rattle.byteorder.specs.Numbers.{length-bytes_high_first}
@@ -33,6 +35,10 @@ module _ (w : Inside) (keeps : Keeps w) where
   pub framed-seen : framed_bytes (log_seen w).groups ≡ total_of w.groups.items + 5 * length w.groups.items
   framed-seen = omega (arith, framed-pending (log_seen w).groups, pending-seen, count-seen)
 
+  -- no group waits where the log has none
+  pub none-seen : (log_seen w).groups ≡ [] → w.groups.items ≡ []
+  none-seen none = nil_from_length w.groups.items (omega (arith, count-seen, ap (λ (l : List Waiting). length l) none))
+
   -- the groups when one more joins
   pub seen-push : (bytes group : List ℕ) (g : Group) → drop 4 bytes ≡ drop 4 w.bytes.items ++ group → length group ≡ g.len
       → waiting_of (drop 4 bytes) (w.groups.items ++ g ∷ []) ≡ (log_seen w).groups ++ record { bytes = group; mark = g.mark } ∷ []
@@ -61,6 +67,10 @@ module _ (w : Inside) (keeps : Keeps w) (group : List ℕ) (g : Group) (long : l
   pub joined_length : length bytes ≡ 4 + total_of (w.groups.items ++ g ∷ [])
   joined_length = omega (arith, ap (λ (l : List ℕ). length l) regrouped, length-append (big_endian 4 len) (drop 4 w.bytes.items ++ group), length-append (drop 4 w.bytes.items) group, four_bytes len, rest w keeps, long, total-push w.groups.items g)
 
+-- whether a group waits, by their count
+pub some_groups : (n : ℕ) (groups : List Group) → n ≡ length groups → eqb n 0 ≡ false → groups ≢ []
+some_groups n groups count e none = eqb-false n 0 e (count ∙ ap (λ (l : List Group). length l) none)
+
 -- the bytes are the body of the frame of all groups that wait
 pub body_is : (w : Inside) → Keeps w → w.groups.items ≢ [] → w.bytes.items ≡ frame_body (joined (log_seen w).groups)
 body_is w keeps waits =
@@ -72,13 +82,17 @@ body_is w keeps waits =
 pub length-frame : (payload : List ℕ) → length (frames (payload ∷ [])) ≡ 5 + length payload
 length-frame payload = omega (arith, length-append (frame_bytes payload) [], length-append (big_endian 4 (length payload)) payload, four_bytes (length payload))
 
+-- a frame of them all fits the area
+pub frame_fits : (log : LogState) → log.groups ≢ [] → IsLog log → log.written + (5 + pending_bytes log.groups) ≤ log.len
+frame_fits log waits is = omega (arith, is.fits, framed-pending log.groups, count-some log.groups waits)
+
 -- a log whose groups were written as one frame is one
 pub length-forced : (groups : List Waiting) → groups ≢ [] → length (frames (forced groups)) ≡ 5 + pending_bytes groups
 length-forced groups waits = ap (λ (l : List (List ℕ)). length (frames l)) (forced-some groups waits) ∙ omega (arith, length-frame (joined groups), length-joined groups)
 
 pub log-forced : (log : LogState) → log.groups ≢ [] → IsLog log → IsLog (after_force log)
 log-forced log waits is = record {
-  fits = omega (arith, is.fits, length-forced log.groups waits, framed-pending log.groups, count-some log.groups waits);
+  fits = omega (arith, frame_fits log waits is, length-forced log.groups waits);
   groups = All-nil (λ (g : Waiting). 0 < length g.bytes);
   reserved = omega arith;
   marks = λ i j d low high. absurd (omega (arith, high));

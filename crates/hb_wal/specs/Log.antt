@@ -1,5 +1,5 @@
 -- The log in memory: where its area is, how much of it is written, and the groups that wait.
-use Rattle.std.specs.Prelude.{◌≡◌, ℕ, ◌+◌, ◌-◌, ◌<◌, ◌≤◌, List, [], ◌∷◌, length, flat_map, All, AllPairs}
+use Rattle.std.specs.Prelude.{ℕ, ◌+◌, ◌-◌, ◌<◌, ◌≤◌, List, [], ◌∷◌, length, flat_map, All, AllPairs}
 use Rattle.hb_space.specs.declared.form.TheConstants.{PENDING}
 use Rattle.hb_wal.specs.Frames.{frames}
 
