@@ -1,5 +1,5 @@
 -- What a store and its files are once the groups that wait were written to the log, and what it is to write them.
-use Rattle.std.specs.Prelude.{◌≡◌, ◌+◌, false, true, List, [], ◌∷◌, IsOk, IsSome, OnErr, OnOk, Result}
+use Rattle.std.specs.Prelude.{◌≡◌, ◌+◌, false, true, List, [], IsOk, IsSome, OnErr, OnOk, Result}
 use Rattle.hb_disk.specs.Model.{DiskModel, Stays, Torn}
 use Rattle.hb_disk.specs.Calls.{Leaves}
 use Rattle.hb_disk.specs.Runs.{Rewrites}

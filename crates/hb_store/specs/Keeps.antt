@@ -1,5 +1,5 @@
 -- What a store keeps of the disk: four records with a name each, joined; and a disk from which it may start.
-use Rattle.std.specs.Prelude.{◌≡◌, ◌⊎◌, ℕ, List, [], ◌∷◌, Some, IsSome}
+use Rattle.std.specs.Prelude.{◌≡◌, ◌⊎◌, ℕ, List, [], Some, IsSome}
 use Rattle.hb_disk.specs.Model.{DiskModel}
 use Rattle.hb_layout.specs.Offsets.{log_start}
 use Rattle.hb_layout.specs.declared.meta.Meta.{Meta}
