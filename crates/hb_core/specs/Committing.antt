@@ -5,7 +5,8 @@ use Rattle.hb_ops.specs.Files.{FileState}
 use Rattle.hb_ops.specs.Operations.{BoxesMatch, IsLicensed, OpHas}
 use Rattle.hb_ops.specs.declared.operations.Op.{Op}
 use Rattle.hb_store.specs.Calls.{HasFrameFor, IsAllowedHere, IsReady, read_here, with_op}
-use Rattle.hb_store.specs.Keeps.{StoreKeeps, last_of}
+use Rattle.hb_store.specs.Keeps.{StoreKeeps}
+use Rattle.hb_store.specs.Parts.{last_of}
 use Rattle.hb_store.specs.States.{StoreState}
 use Rattle.hb_wal.specs.Log.{Waiting}
 use Rattle.hb_core.specs.Showing.{RunningCore}

@@ -8,7 +8,8 @@ use Rattle.hb_core.specs.Stages.{FlusherSteps}
 use Rattle.hb_pool.specs.Frames.{clean}
 use Rattle.hb_pool.specs.Pools.{in_place}
 use Rattle.hb_store.specs.Held.{cleaned_state, oldest_dirty}
-use Rattle.hb_store.specs.Forced.{durable_after, forced_state, later_after, stopped_state}
+use Rattle.hb_store.specs.Forced.{forced_state, stopped_state}
+use Rattle.hb_store.specs.Parts.{last_of}
 use Rattle.hb_wal.specs.Forces.{calls_of_force}
 
 -- A device call failed: the machine is stopped, behind so many calls at most.
@@ -19,13 +20,13 @@ pub record FailsToWrite (m : Machine) (most : ℕ) (outcome : Outcome) (new : Ma
   pub says : outcome ≡ outcomes.Stopped WriteFault
   pub stops : new ≡ stopped_for WriteFault (with_disk (stopped_state m.store) m.files clock m)
 
--- A force: the first group that waits is durable, or the write failed. Where a group waited, a force that is done takes four device
--- calls; where none did, it takes none.
+-- A force: the file after all groups that wait is durable, or the write failed. Where a group waited, a force that is done takes four
+-- device calls; where none did, it takes none.
 abbrev pub forced_files : Files → Files
-forced_files files = record { durable = durable_after files.durable files.later; later = later_after files.later }
+forced_files files = record { durable = last_of files.durable files.later; later = [] }
 
-abbrev pub ForcesFirst : Machine → Outcome → Outcome → Machine → Type 0
-ForcesFirst m done outcome new =
+abbrev pub ForcesAll : Machine → Outcome → Outcome → Machine → Type 0
+ForcesAll m done outcome new =
     ((outcome ≡ done) × (new ≡ with_disk (forced_state m.store) (option_map forced_files m.files) (m.clock + calls_of_force m.store.log.groups) m))
     ⊎ ((m.store.log.groups ≢ []) × FailsToWrite m 4 outcome new)
 
@@ -52,9 +53,9 @@ FlushesRest m due nothing outcome new =
     ⊎ (HasMoreToFlush m × FailsToWrite m 1 outcome new)
     ⊎ ((¬ (HasMoreToFlush m)) × nothing)
 
--- A step flushes once, and says what is due then: a group that waits is forced; where none does, the rest is flushed.
+-- A step flushes once, and says what is due then: the groups that wait are forced; where none does, the rest is flushed.
 abbrev pub FlushesOnce : Machine → Outcome → Type 0 → Outcome → Machine → Type 0
-FlushesOnce m due nothing outcome new = ((m.store.log.groups ≢ []) × ForcesFirst m due outcome new) ⊎ ((m.store.log.groups ≡ []) × FlushesRest m due nothing outcome new)
+FlushesOnce m due nothing outcome new = ((m.store.log.groups ≢ []) × ForcesAll m due outcome new) ⊎ ((m.store.log.groups ≡ []) × FlushesRest m due nothing outcome new)
 
 -- A step of the flusher, where it takes any.
 abbrev pub Flushes : Machine → Outcome → Machine → Type 0

@@ -13,7 +13,7 @@ use Rattle.hb_latch.specs.Tables.{LatchTable}
 use Rattle.hb_ops.specs.Files.{FileState, if_live}
 use Rattle.hb_pool.specs.Frames.{Use}
 use Rattle.hb_set.specs.Order.{Entry}
-use Rattle.hb_store.specs.Keeps.{last_of}
+use Rattle.hb_store.specs.Parts.{last_of}
 use Rattle.hb_store.specs.States.{StoreState, in_memory}
 use Rattle.hb_wal.specs.Log.{mark_of}
 

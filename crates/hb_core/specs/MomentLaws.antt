@@ -4,7 +4,7 @@ use Rattle.hb_ops.specs.Files.{FileState}
 use Rattle.hb_ops.specs.Sound.{IsSound}
 use Rattle.hb_set.specs.Machine.{RecordSet}
 use Rattle.hb_sound.specs.PointWalks.{IsPointOf}
-use Rattle.hb_store.specs.Keeps.{OpensToFirst}
+use Rattle.hb_store.specs.Keeps.{OpensToEither}
 use Rattle.hb_store.specs.Opening.{OpensTo}
 use Rattle.hb_core.specs.KeepingLaws.{HasSetAfter}
 use Rattle.hb_core.specs.Laws.{HasOnePage}
@@ -22,7 +22,7 @@ pub record ImageHasPrefix (n : RecordSet) (m : Machine) (bytes : List ℕ) : Typ
   pub enough : settled_count m ≤ count
   pub after : HasSetAfter n m s count
 
--- Bytes that open to the durable file of a machine, or to the file after its first group that waits, do. What the store says of a
+-- Bytes that open to the durable file of a machine, or to the file after all its groups that wait, do. What the store says of a
 -- force is that at each of its moments every image is one of these.
 abbrev pub ImagesHavePrefixes : Type 0
-ImagesHavePrefixes = (n : RecordSet) (m : Machine) (files : Files) (bytes : List ℕ) → CoreKeeps n m files → OpensToFirst files.durable files.later bytes → ImageHasPrefix n m bytes
+ImagesHavePrefixes = (n : RecordSet) (m : Machine) (files : Files) (bytes : List ℕ) → CoreKeeps n m files → OpensToEither files.durable files.later bytes → ImageHasPrefix n m bytes

@@ -15,7 +15,7 @@ use Rattle.hb_activity.specs.Deeds.{Deed, answers_now, takes_job}
 use Rattle.hb_consol.specs.ConsolidatorRows.{IsMergingOf}
 use Rattle.hb_core.specs.Acting.{DoesRow, Abandons, MeetsBadPage}
 use Rattle.hb_core.specs.Asking.{HasWayFree, IsInTheWay, looked_live, wanted_by}
-use Rattle.hb_core.specs.Forcing.{Flushes, ForcesFirst, StaysSo, FlushesOnce}
+use Rattle.hb_core.specs.Forcing.{Flushes, ForcesAll, StaysSo, FlushesOnce}
 use Rattle.hb_core.specs.GivingUp.{runs_out}
 use Rattle.hb_core.specs.Locking.{HasBoxFree, IsBoxInTheWay}
 use Rattle.hb_core.specs.Machines.{Machine, settled_count}
@@ -80,7 +80,7 @@ TakesJobToMerge m actor outcome new =
 abbrev pub AwaitsPlace : Machine → ℕ → ℕ → Reply → ℕ → Outcome → Machine → Type 0
 AwaitsPlace m actor number reply place outcome new =
     ((place < settled_count m) × PerformsAsItIs m actor (answers_now number reply) outcome new)
-    ⊎ ((settled_count m ≤ place) × ForcesFirst m outcomes.Moved outcome new)
+    ⊎ ((settled_count m ≤ place) × ForcesAll m outcomes.Moved outcome new)
 
 -- An idle session takes its next line, unless another actor's lock keeps it from the line's box. For a search that takes memory.
 abbrev pub BeginsLine : Machine → ℕ → Line → Outcome → Machine → Type 0

@@ -8,7 +8,7 @@ use Rattle.hb_set.specs.declared.commands.Reply.TheVariants as replies
 use Rattle.hb_activity.specs.declared.dropping.DropWhy.TheVariants as drops
 use Rattle.hb_store.specs.declared.stops.WriteFault.{WriteFault}
 use Rattle.hb_store.specs.declared.stops.StopWhy.TheVariants as stops
-use Rattle.hb_store.specs.Forced.{WritesOldest}
+use Rattle.hb_store.specs.Forced.{WritesGroups}
 use Rattle.hb_store.specs.Held.{StoreHeld, oldest_dirty}
 use Rattle.hb_store.specs.WritingHome.{WritesHome}
 use Rattle.hb_core.specs.declared.halts.Halt.{Halt}
@@ -32,10 +32,10 @@ abbrev pub IsReadHalt : Halt → Type 0
 IsReadHalt (GivesUp why) = why ≡ drops.ReadFault
 IsReadHalt (Stops why) = ⊥
 
--- It wrote the oldest group that waits to the log, and is stopped where that failed. It ended for no read.
+-- It wrote the groups that wait to the log, and is stopped where that failed. It ended for no read.
 pub record Forces (d : DiskModel) (old : RunningCore) (outcome : Outcome) (e : DiskModel) (new : RunningCore) : Type 0 where
   pub result : Result (Unit {0}) WriteFault
-  pub writes : WritesOldest result d e old.store new.store
+  pub writes : WritesGroups result d e old.store new.store
   pub says : IsErr result ↔ (outcome ≡ outcomes.Stopped stops.WriteFault)
   pub no_read : ¬ (EndsByRead outcome)
 

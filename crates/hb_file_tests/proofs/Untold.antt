@@ -20,9 +20,10 @@ use Rattle.hb_pool.specs.Frames.{Use, has_id, must_stay, pinned}
 use Rattle.hb_pool.specs.Pools.{frame_of, put_last}
 use Rattle.hb_store.specs.Calls.{Commits, Fetched, HasFrameFor, HasPlaces, IsAllowedHere, numbers_changed, use_changed, use_fetched}
 use Rattle.hb_store.specs.States.{IsNew, StoreState, in_memory}
-use Rattle.hb_store.specs.Keeps.{StoreKeeps, last_of}
+use Rattle.hb_store.specs.Keeps.{StoreKeeps}
+use Rattle.hb_store.specs.Parts.{last_of}
 use Rattle.hb_store.specs.Fetching.{MayFetch, use_numbered}
-use Rattle.hb_store.specs.Forced.{WritesOldest, forced_state}
+use Rattle.hb_store.specs.Forced.{WritesGroups, forced_state}
 use Rattle.hb_store.specs.Held.{IsTied, StoreHeld, oldest_dirty}
 use Rattle.hb_store.specs.Replay.{is_among}
 use Rattle.hb_store.specs.WritingHome.{FlushesHome, WritesHome}
@@ -179,7 +180,7 @@ home_runs t d e old new home runs = by (oldest_dirty old.uses) home
     by None done = ap (λ (h : StoreHeld). h.state.stopped) done.2 ∙ runs
     by (Some id) writes = ap (λ (h : StoreHeld). h.state.stopped) writes.cleaned ∙ runs
 
-pub flushed_runs : {T : Type 0} (t : T) (d e : DiskModel) (old new : StoreHeld) → (old.state.log.groups ≢ [] → WritesOldest (done_with t) d e old.state new.state × (new.uses ≡ old.uses)) → (old.state.log.groups ≡ [] → FlushesHome (done_with t) d e old new)
+pub flushed_runs : {T : Type 0} (t : T) (d e : DiskModel) (old new : StoreHeld) → (old.state.log.groups ≢ [] → WritesGroups (done_with t) d e old.state new.state × (new.uses ≡ old.uses)) → (old.state.log.groups ≡ [] → FlushesHome (done_with t) d e old new)
     → old.state.stopped ≡ false → new.state.stopped ≡ false
 flushed_runs t d e old new forces cleans runs = by old.state.log.groups refl
   where

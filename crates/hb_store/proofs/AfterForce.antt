@@ -1,10 +1,10 @@
 -- What a force leaves of a running store: inside, after a fault, and once the frame is written.
-use Rattle.std.proofs.Common.{◌≡◌, ◌⊎◌, inl, inr, ℕ, ◌+◌, ◌*◌, ◌-◌, ◌%◌, ◌≤◌, true, false, IsTrue, List, [], ◌∷◌, ◌++◌, length, map, take, drop, replicate, Some, IsSome, refl, sym, ap, ◌∙◌, subst, arith, append_assoc, length-take, length-append}
+use Rattle.std.proofs.Common.{◌≡◌, ◌⊎◌, inl, inr, ℕ, ◌+◌, ◌*◌, ◌-◌, ◌%◌, ◌≤◌, true, false, IsTrue, List, [], ◌∷◌, ◌++◌, length, map, flat_map, take, drop, replicate, Some, IsSome, refl, sym, ap, ◌∙◌, subst, arith, append_assoc, length-take, length-append}
 use Rattle.std.specs.List.{All}
 use Rattle.std.specs.Option.{is_some}
 use Rattle.std.proofs.lemmas.Grind.{flat_map-append}
 use Rattle.std.proofs.lemmas.List.{append-nil, take_at, take-take}
-use Rattle.std.proofs.lemmas.List.Elements.{All-head, All-tail}
+use Rattle.std.proofs.lemmas.List.Elements.{All-nil}
 use Rattle.hb_space.specs.declared.form.TheConstants.{PAGE}
 use Rattle.hb_disk.specs.Model.{DiskModel, IsDisk, Torn}
 use Rattle.hb_disk.specs.Calls.{Leaves, Becomes, IsSynced}
@@ -13,7 +13,7 @@ use Rattle.hb_lemmas.proofs.Options.{at_value, has_value}
 use Rattle.std.proofs.lemmas.Option.{same_Some}
 use Rattle.hb_disk.proofs.Facts.SyncedLaws.{IsSynced-part, IsSynced-elsewhere}
 use Rattle.hb_wal.specs.Frames.{frames, frame_bytes, range, HasFrames}
-use Rattle.hb_wal.specs.Log.{Waiting, LogState, forced, left_waiting, after_force}
+use Rattle.hb_wal.specs.Log.{Waiting, LogState, joined, forced, after_force}
 use Rattle.hb_wal.specs.Forces.{HasLog, ForceLeaves}
 use Rattle.hb_layout.specs.Offsets.{slot_offset, log_start}
 use Rattle.hb_super.specs.Superblocks.{next_turn}
@@ -24,36 +24,41 @@ use Rattle.hb_frag.specs.Grammar.{SpellsPage}
 use Rattle.hb_layout.specs.declared.meta.Meta.{Meta}
 use Rattle.hb_ops.specs.Files.{FileState, page_of}
 use Rattle.hb_log_codec.specs.Groups.{Logged, FitsGroup, group_bytes}
-use Rattle.hb_store.specs.Replay.{Replayed, untouched, replay}
+use Rattle.hb_store.specs.Replay.{untouched, replay}
 use Rattle.hb_store.specs.Opening.{OpensBy, log_bytes, place_bytes}
 use Rattle.hb_store.specs.States.{IsMemory, StoreState}
-use Rattle.hb_store.specs.Keeps.{StoreKeeps, OpensToFirst, last_of}
-use Rattle.hb_store.specs.Parts.{Parts, Leads, OpensNext, written_pages}
-use Rattle.hb_store.specs.Forced.{stopped_state, forced_state, with_log, durable_after, later_after}
-use Rattle.hb_store.proofs.Facts.ReplayLaws.{replay-append}
+use Rattle.hb_store.specs.Keeps.{StoreKeeps, OpensToEither}
+use Rattle.hb_store.specs.Parts.{Parts, Leads, OpensNext, written_pages, last_of}
+use Rattle.hb_store.specs.Forced.{stopped_state, forced_state, with_log}
 use Rattle.hb_wal.proofs.Facts.AreaBytes.{end_zeros}
-use Rattle.hb_store.proofs.Facts.StoreLaws.{OpensHere, OpensOn, opens_first, StoreKeeps-by}
+use Rattle.hb_store.proofs.Facts.StoreLaws.{OpensHere, OpensOn, opens_either, StoreKeeps-by}
 use Rattle.hb_store.proofs.AreaTorn.{places_kept, spelled_kept, shows_kept, opens_same, opens_more}
 
--- The bytes open to the durable file, or to the next one where the first group's frame is there.
+-- the bytes of the groups that wait, one after the other, are those that spell them
+joined_spells : (groups : List Waiting) (waiting : List Logged) → map (λ w. w.bytes) groups ≡ map group_bytes waiting → joined groups ≡ flat_map group_bytes waiting
+joined_spells [] [] same = refl
+joined_spells [] (g ∷ waiting) same = cc same
+joined_spells (w ∷ groups) [] same = cc same
+joined_spells (w ∷ groups) (g ∷ waiting) same =
+    let bytes_are : w.bytes ≡ group_bytes g = cc in
+    let rest : map (λ (w : Waiting). w.bytes) groups ≡ map group_bytes waiting = cc in
+    let more = joined_spells groups waiting rest in
+    λ i. bytes_are i ++ more i
+
+-- The bytes open to the durable file, or to the one after all groups that wait where their frame is there.
 inside_by : (turn : ℕ) (said : Meta) (b c : List ℕ) → Torn (log_start turn said) said.log b c → (payloads : List (List ℕ)) (written : List Logged) (durable : FileState)
     → OpensBy b turn said payloads written durable → (groups : List Waiting) (waiting : List Logged) (later : List FileState)
     → map (λ w. w.bytes) groups ≡ map group_bytes waiting → All (FitsGroup said.k) waiting → Leads (replay (untouched said) written) durable waiting later
     → HasFrames (log_bytes turn said c) payloads ⊎ HasFrames (log_bytes turn said c) (payloads ++ forced groups)
-    → OpensBy c turn said payloads written durable ⊎ OpensNext c turn said payloads written waiting later
+    → OpensBy c turn said payloads written durable ⊎ OpensNext c turn said payloads written waiting (last_of durable later)
 inside_by turn said b c torn payloads written durable opens groups waiting later same fits leads (inl framed) =
     inl (opens_same turn said b c torn payloads written durable opens framed)
 inside_by turn said b c torn payloads written durable opens [] waiting later same fits leads (inr framed) =
     let Q : List (List ℕ) → Type 0 = λ ps. HasFrames (log_bytes turn said c) ps in
     inl (opens_same turn said b c torn payloads written durable opens (subst Q (append-nil payloads) framed))
-inside_by turn said b c torn payloads written durable opens (w ∷ groups) [] later same fits leads (inr framed) = cc same
-inside_by turn said b c torn payloads written durable opens (w ∷ groups) (g ∷ waiting) [] same fits leads (inr framed) = absurd leads
-inside_by turn said b c torn payloads written durable opens (w ∷ groups) (g ∷ waiting) (next ∷ later) same fits leads (inr framed) =
-    let bytes_are : w.bytes ≡ group_bytes g = cc in
+inside_by turn said b c torn payloads written durable opens (w ∷ groups) waiting later same fits leads (inr framed) =
     let Q : List ℕ → Type 0 = λ l. HasFrames (log_bytes turn said c) (payloads ++ l ∷ []) in
-    let N : FileState → Type 0 = λ s. OpensBy c turn said (payloads ++ group_bytes g ∷ []) (written ++ g ∷ []) s in
-    inr (subst N (sym leads.4)
-    (opens_more turn said b c torn payloads written durable opens g (subst Q bytes_are framed) (All-head (FitsGroup said.k) g waiting fits) leads.0 leads.1 leads.2))
+    inr (opens_more turn said b c torn payloads written durable opens waiting later (subst Q (joined_spells (w ∷ groups) waiting same) framed) fits leads)
 
 -- a log that stands on the disk: each image has its frames
 image_frames : (d : DiskModel) (log : LogState) (payloads : List (List ℕ)) → HasLog d log payloads → (b : List ℕ) → d.told ≡ Some b → (c : List ℕ) → d.Image c
@@ -118,7 +123,7 @@ module _ (d : DiskModel) (is_disk : IsDisk d) (st : StoreState) (is : IsMemory s
 
   -- inside
   pub inside_opens : (c : List ℕ) → ForceLeaves d st.log p.payloads c
-      → OpensBy c st.turn p.said p.payloads p.written durable ⊎ OpensNext c st.turn p.said p.payloads p.written p.waiting later
+      → OpensBy c st.turn p.said p.payloads p.written durable ⊎ OpensNext c st.turn p.said p.payloads p.written p.waiting (last_of durable later)
   inside_opens c leaves =
       inside_by st.turn p.said leaves.before c (torn_there leaves.before c leaves.elsewhere) p.payloads p.written durable
       (StoreKeeps-by d st durable later keeps going leaves.before leaves.image) st.log.groups p.waiting later keeps.waits.spelled keeps.waits.fits keeps.waits.leads
@@ -127,9 +132,9 @@ module _ (d : DiskModel) (is_disk : IsDisk d) (st : StoreState) (is : IsMemory s
         | inr more ↦ inr (frames_there c (p.payloads ++ forced st.log.groups) more)
       ])
 
-  pub moments_open : (new : DiskModel) → Leaves d new (ForceLeaves d st.log p.payloads) → Leaves d new (OpensToFirst durable later)
-  moments_open new run = Leaves-weaker d new (ForceLeaves d st.log p.payloads) (OpensToFirst durable later)
-      (λ c leaves. opens_first c st.turn p.said p.payloads p.written p.waiting durable later (inside_opens c leaves)) run
+  pub moments_open : (new : DiskModel) → Leaves d new (ForceLeaves d st.log p.payloads) → Leaves d new (OpensToEither durable later)
+  moments_open new run = Leaves-weaker d new (ForceLeaves d st.log p.payloads) (OpensToEither durable later)
+      (λ c leaves. opens_either c st.turn p.said p.payloads p.written p.waiting durable later (inside_opens c leaves)) run
 
   module _ (new : DiskModel) (is_new : IsDisk new) (place : Becomes (Torn st.log.area st.log.len) d new) (b : List ℕ) (told : d.told ≡ Some b) where
     abbrev after : (c : List ℕ) × (new.told ≡ Some c) × Torn st.log.area st.log.len b c
@@ -184,7 +189,7 @@ module _ (d : DiskModel) (is_disk : IsDisk d) (st : StoreState) (is : IsMemory s
         disk = record {
           told = still_told;
           count = keeps.disk.count;
-          images = λ c image. stopped_images (OpensHere c st.turn p durable) (OpensOn c st.turn p later) (inside_opens c (image_inside c image));
+          images = λ c image. stopped_images (OpensHere c st.turn p durable) (OpensOn c st.turn p (last_of durable later)) (inside_opens c (image_inside c image));
           shows = λ c image.
               let old = place.crash c image in
               shows_kept st.turn p.said old.0 c (torn_there old.0 c old.2) (written_pages p) durable (keeps.disk.shows old.0 old.1);
@@ -204,21 +209,20 @@ module _ (d : DiskModel) (is_disk : IsDisk d) (st : StoreState) (is : IsMemory s
         };
       }
 
-    -- once the frame is written, or where none was: a log of this area with these groups left
-    module _ (n : ℕ) (groups : List Waiting) where
+    -- once the frame is written, or where none was: a log of this area where no group waits
+    module _ (n : ℕ) where
       abbrev moved : LogState
-      moved = record { area = st.log.area; len = st.log.len; written = n; groups = groups }
+      moved = record { area = st.log.area; len = st.log.len; written = n; groups = [] }
 
       framed_image : (payloads : List (List ℕ)) → HasLog new moved payloads → (c : List ℕ) → new.Image c → HasFrames (log_bytes st.turn p.said c) payloads
       framed_image payloads has c image = frames_there c payloads (image_frames new moved payloads has after.0 after.1 c image)
 
-      -- a store whose durable file goes on, and whose file is the same
-      forced_with : (payloads : List (List ℕ)) (written waiting : List Logged) (s : FileState) (files : List FileState) → HasLog new moved payloads
+      -- a store whose durable file is its file, which is the same
+      forced_with : (payloads : List (List ℕ)) (written : List Logged) (s : FileState) → HasLog new moved payloads
           → ((c : List ℕ) → new.Image c → OpensBy c st.turn p.said payloads written s)
-          → map (λ w. w.bytes) groups ≡ map group_bytes waiting → All (FitsGroup p.said.k) waiting → Leads (replay (untouched p.said) written) s waiting files
-          → p.written ++ p.waiting ≡ written ++ waiting → last_of s files ≡ last_of durable later → StoreKeeps new (with_log moved st) s files
-      forced_with payloads written waiting s files has opens spelled fits leads all last = record {
-        parts = record { said = p.said; payloads = payloads; written = written; waiting = waiting };
+          → p.written ++ p.waiting ≡ written ++ [] → s ≡ last_of durable later → StoreKeeps new (with_log moved st) s []
+      forced_with payloads written s has opens all last = record {
+        parts = record { said = p.said; payloads = payloads; written = written; waiting = [] };
         disk = record {
           told = still_told;
           count = has.count;
@@ -230,7 +234,7 @@ module _ (d : DiskModel) (is_disk : IsDisk d) (st : StoreState) (is : IsMemory s
             IsSynced-part new st.log.area st.log.len st.log.area n (omega arith) (let fits : n ≤ st.log.len = written_fits new moved payloads has after.0 after.1 in omega (arith, fits)) has.synced,
           );
         };
-        waits = record { spelled = spelled; fits = fits; leads = leads };
+        waits = record { spelled = refl; fits = All-nil (FitsGroup p.said.k); leads = refl };
         in_log = record {
           touched = λ id. keeps.in_log.touched id ∙ ap (λ (gs : List Logged). is_some ((replay (untouched p.said) gs).page id)) all;
           synced = λ id page off is c image. page_synced id page (keeps.in_log.synced id page off (ap (λ (f : FileState). page_of f id) (sym last) ∙ is)) c image;
@@ -244,41 +248,31 @@ module _ (d : DiskModel) (is_disk : IsDisk d) (st : StoreState) (is : IsMemory s
         };
       }
 
-    forced_by : (n : ℕ) (groups : List Waiting) (waiting : List Logged) (files : List FileState) → map (λ w. w.bytes) groups ≡ map group_bytes waiting
-        → All (FitsGroup p.said.k) waiting → Leads (replay (untouched p.said) p.written) durable waiting files
-        → HasLog new (moved n (left_waiting groups)) (p.payloads ++ forced groups)
-        → p.written ++ p.waiting ≡ p.written ++ waiting → last_of durable files ≡ last_of durable later
-        → StoreKeeps new (with_log (moved n (left_waiting groups)) st) (durable_after durable files) (later_after files)
-    forced_by n [] [] [] same fits leads has all last =
-        let L : List (List ℕ) → Type 0 = λ ps. HasLog new (moved n []) ps in
-        let log : HasLog new (moved n []) p.payloads = subst L (append-nil p.payloads) has in
-        forced_with n [] p.payloads p.written [] durable [] log
-        (λ c image.
-        let old = place.crash c image in
-        opens_same st.turn p.said old.0 c (torn_there old.0 c old.2) p.payloads p.written durable
-        (StoreKeeps-by d st durable later keeps going old.0 old.1) (framed_image n [] p.payloads log c image))
-        refl fits refl all last
-    forced_by n [] [] (next ∷ files) same fits leads has all last = cc leads
-    forced_by n [] (g ∷ waiting) files same fits leads has all last = cc same
-    forced_by n (w ∷ groups) [] files same fits leads has all last = cc same
-    forced_by n (w ∷ groups) (g ∷ waiting) [] same fits leads has all last = absurd leads
-    forced_by n (w ∷ groups) (g ∷ waiting) (next ∷ files) same fits leads has all last =
-        let bytes_are : w.bytes ≡ group_bytes g = cc in
-        let rest : map (λ (w : Waiting). w.bytes) groups ≡ map group_bytes waiting = cc in
-        let payloads : List (List ℕ) = p.payloads ++ group_bytes g ∷ [] in
-        let L : List ℕ → Type 0 = λ l. HasLog new (moved n groups) (p.payloads ++ l ∷ []) in
-        let log : HasLog new (moved n groups) payloads = subst L bytes_are has in
-        let N : FileState → Type 0 = λ s. (c : List ℕ) → new.Image c → OpensBy c st.turn p.said payloads (p.written ++ g ∷ []) s in
-        let T : Replayed → Type 0 = λ t. Leads t next waiting files in
-        forced_with n groups payloads (p.written ++ g ∷ []) waiting next files log
-        (subst N (sym leads.4) (λ c image.
-        let old = place.crash c image in
-        opens_more st.turn p.said old.0 c (torn_there old.0 c old.2) p.payloads p.written durable
-        (StoreKeeps-by d st durable later keeps going old.0 old.1) g (framed_image n groups payloads log c image)
-        (All-head (FitsGroup p.said.k) g waiting fits) leads.0 leads.1 leads.2))
-        rest (All-tail (FitsGroup p.said.k) g waiting fits)
-        (subst T (sym (replay-append (untouched p.said) p.written (g ∷ []))) leads.5)
-        (all ∙ sym (append_assoc p.written (g ∷ []) waiting)) last
+      forced_by : (groups : List Waiting) (waiting : List Logged) (files : List FileState) → map (λ w. w.bytes) groups ≡ map group_bytes waiting
+          → All (FitsGroup p.said.k) waiting → Leads (replay (untouched p.said) p.written) durable waiting files
+          → HasLog new moved (p.payloads ++ forced groups) → p.written ++ p.waiting ≡ p.written ++ waiting → last_of durable files ≡ last_of durable later
+          → StoreKeeps new (with_log moved st) (last_of durable files) []
+      forced_by [] [] [] same fits leads has all last =
+          let L : List (List ℕ) → Type 0 = λ ps. HasLog new moved ps in
+          let log : HasLog new moved p.payloads = subst L (append-nil p.payloads) has in
+          forced_with p.payloads p.written durable log
+          (λ c image.
+          let old = place.crash c image in
+          opens_same st.turn p.said old.0 c (torn_there old.0 c old.2) p.payloads p.written durable
+          (StoreKeeps-by d st durable later keeps going old.0 old.1) (framed_image p.payloads log c image))
+          all last
+      forced_by [] [] (next ∷ files) same fits leads has all last = cc leads
+      forced_by [] (g ∷ waiting) files same fits leads has all last = cc same
+      forced_by (w ∷ groups) waiting files same fits leads has all last =
+          let payloads : List (List ℕ) = p.payloads ++ flat_map group_bytes waiting ∷ [] in
+          let L : List ℕ → Type 0 = λ l. HasLog new moved (p.payloads ++ l ∷ []) in
+          let log : HasLog new moved payloads = subst L (joined_spells (w ∷ groups) waiting same) has in
+          forced_with payloads (p.written ++ waiting) (last_of durable files) log
+          (λ c image.
+          let old = place.crash c image in
+          opens_more st.turn p.said old.0 c (torn_there old.0 c old.2) p.payloads p.written durable
+          (StoreKeeps-by d st durable later keeps going old.0 old.1) waiting files (framed_image payloads log c image) fits leads)
+          (all ∙ sym (append-nil (p.written ++ waiting))) last
 
-    pub keeps_forced : HasLog new (after_force st.log) (p.payloads ++ forced st.log.groups) → StoreKeeps new (forced_state st) (durable_after durable later) (later_after later)
+    pub keeps_forced : HasLog new (after_force st.log) (p.payloads ++ forced st.log.groups) → StoreKeeps new (forced_state st) (last_of durable later) []
     keeps_forced has = forced_by (after_force st.log).written st.log.groups p.waiting later keeps.waits.spelled keeps.waits.fits keeps.waits.leads has refl refl

@@ -1,8 +1,7 @@
 -- A log area that was torn: what stands outside it, and what the bytes open to by the frames that it has then.
-use Rattle.std.proofs.Common.{◌≡◌, inl, inr, ℕ, ◌+◌, ◌*◌, ◌%◌, ◌≤◌, List, [], ◌∷◌, ◌++◌, take, drop, Option, Some, None, refl, sym, subst, arith}
+use Rattle.std.proofs.Common.{◌≡◌, inl, inr, ℕ, ◌+◌, ◌*◌, ◌%◌, ◌≤◌, List, [], ◌∷◌, ◌++◌, flat_map, take, drop, All, Option, Some, None, refl, sym, subst, arith}
 use Rattle.std.proofs.Math.Nat.{mul-le-mul_right}
 use Rattle.std.proofs.lemmas.List.{append-nil}
-use Rattle.std.proofs.lemmas.List.Elements.{All-cons, All-nil}
 use Rattle.hb_space.specs.declared.form.TheConstants.{PAGE}
 use Rattle.hb_disk.specs.Model.{Torn}
 use Rattle.hb_disk.proofs.Facts.TornLaws.{Torn-elsewhere}
@@ -11,14 +10,13 @@ use Rattle.hb_frag.specs.declared.pages.Page.{Page}
 use Rattle.hb_frag.specs.Grammar.{SpellsPage}
 use Rattle.hb_layout.specs.declared.meta.Meta.{Meta}
 use Rattle.hb_ops.specs.Files.{FileState}
-use Rattle.hb_ops.specs.Operations.{IsAllowed, effect_of}
 use Rattle.hb_log_codec.specs.Groups.{Logged, FitsGroup, group_bytes}
-use Rattle.hb_store.specs.Replay.{Replayed, untouched, replay, MayFollow}
+use Rattle.hb_store.specs.Replay.{Replayed, untouched, replay}
 use Rattle.hb_layout.specs.Offsets.{log_start, page_offset}
 use Rattle.hb_store.specs.Opening.{OpensBy, Shows, IsPageIn, log_bytes, place_bytes, SpellAll}
-use Rattle.hb_store.specs.Parts.{ArePageImagesOf}
-use Rattle.hb_store.proofs.Facts.ReplayLaws.{replay-append, MayReplay-append, SpellAll-append}
-use Rattle.hb_store.proofs.Shown.{Shows-after}
+use Rattle.hb_store.specs.Parts.{Leads, OpensNext, last_of}
+use Rattle.hb_store.proofs.Facts.ReplayLaws.{replay-append, Leads-replayed, MayReplay-append, SpellAll-append}
+use Rattle.hb_store.proofs.Shown.{Shows-leads}
 use Rattle.hb_store.proofs.Facts.FreshLaws.{IsNewest-elsewhere}
 
 -- the area of a turn ends in front of the pages
@@ -27,9 +25,9 @@ area_end turn said =
     let one : turn % 2 ≤ 1 = omega arith in
     omega (arith, mul-le-mul_right said.log one)
 
--- one group is spelled by its own bytes
-one_spelled : (k : ℕ) (g : Logged) → FitsGroup k g → SpellAll k (group_bytes g ∷ []) (g ∷ [])
-one_spelled k g fits = (g ∷ [], [], refl, record { fits = All-cons (FitsGroup k) g [] fits (All-nil (FitsGroup k)); bytes_are = sym (append-nil (group_bytes g)) }, refl)
+-- groups are spelled by one payload, their bytes
+all_spelled : (k : ℕ) (gs : List Logged) → All (FitsGroup k) gs → SpellAll k (flat_map group_bytes gs ∷ []) gs
+all_spelled k gs fits = (gs, [], sym (append-nil gs), record { fits = fits; bytes_are = refl }, refl)
 
 module _ (turn : ℕ) (said : Meta) (b c : List ℕ) (torn : Torn (log_start turn said) said.log b c) where
   pub places_kept : take 8192 (drop 0 c) ≡ take 8192 (drop 0 b)
@@ -64,17 +62,17 @@ module _ (turn : ℕ) (said : Meta) (b c : List ℕ) (torn : Torn (log_start tur
       shows = shows_kept (replay (untouched said) groups) s opens.shows;
     }
 
-    -- with a frame more to the file after its group
-    pub opens_more : (g : Logged) → HasFrames (log_bytes turn said c) (payloads ++ group_bytes g ∷ []) → FitsGroup said.k g → MayFollow (replay (untouched said) groups) g
-        → ArePageImagesOf s g.images → IsAllowed s g.op → OpensBy c turn said (payloads ++ group_bytes g ∷ []) (groups ++ g ∷ []) (effect_of s g.op)
-    opens_more g framed fits may are allowed = record {
+    -- with a frame more to the file after its groups
+    pub opens_more : (gs : List Logged) (later : List FileState) → HasFrames (log_bytes turn said c) (payloads ++ flat_map group_bytes gs ∷ []) → All (FitsGroup said.k) gs
+        → Leads (replay (untouched said) groups) s gs later → OpensNext c turn said payloads groups gs (last_of s later)
+    opens_more gs later framed fits leads = record {
       newest = IsNewest-elsewhere b c places_kept turn said opens.newest;
       fits = omega (arith, opens.fits, torn.as_long);
       framed = framed;
-      spelled = SpellAll-append said.k payloads (group_bytes g ∷ []) groups (g ∷ []) opens.spelled (one_spelled said.k g fits);
-      replayed = MayReplay-append (untouched said) groups (g ∷ []) opens.replayed (may, tt);
+      spelled = SpellAll-append said.k payloads (flat_map group_bytes gs ∷ []) groups gs opens.spelled (all_spelled said.k gs fits);
+      replayed = MayReplay-append (untouched said) groups gs opens.replayed (Leads-replayed (replay (untouched said) groups) s gs later leads);
       shows =
-          let Q : Replayed → Type 0 = λ t. Shows c said t (effect_of s g.op) in
-          subst Q (sym (replay-append (untouched said) groups (g ∷ [])))
-          (Shows-after c said (replay (untouched said) groups) s g (shows_kept (replay (untouched said) groups) s opens.shows) may are allowed);
+          let Q : Replayed → Type 0 = λ t. Shows c said t (last_of s later) in
+          subst Q (sym (replay-append (untouched said) groups gs))
+          (Shows-leads c said (replay (untouched said) groups) s gs later (shows_kept (replay (untouched said) groups) s opens.shows) leads);
     }

@@ -22,8 +22,8 @@ use Rattle.hb_store.proofs.Facts.ReplayLaws.{Leads-append, last_of-append, repla
 use Rattle.hb_store.specs.Opening.{IsPageIn, Shows}
 use Rattle.hb_store.specs.States.{IsGoodPage, IsMemory, IsSameLayout, IsStanding, StoreState, in_memory, is_dirty, is_in_log}
 use Rattle.hb_store.specs.Held.{StoreHeld}
-use Rattle.hb_store.specs.Keeps.{StoreKeeps, last_of}
-use Rattle.hb_store.specs.Parts.{ArePageImagesOf, IsDurable, IsInLog, IsInMemory, IsWaiting, Parts, all_pages, written_pages}
+use Rattle.hb_store.specs.Keeps.{StoreKeeps}
+use Rattle.hb_store.specs.Parts.{ArePageImagesOf, IsDurable, IsInLog, IsInMemory, IsWaiting, Parts, all_pages, written_pages, last_of}
 use Rattle.hb_store.proofs.Facts.StoreLaws.{StoreKeeps-by}
 use Rattle.hb_store.specs.Calls.{Commits, IsAllowedHere, NoneComes, change_here, read_here, with_op}
 use Rattle.hb_store.specs.Making.{MakesWell, group_here}

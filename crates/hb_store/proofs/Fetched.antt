@@ -24,7 +24,8 @@ use Rattle.hb_store.specs.Replaying.{IsPageOf}
 use Rattle.hb_page_codec.specs.ReadingPages.{page_of_bytes}
 use Rattle.hb_pool.specs.Frames.{Use}
 use Rattle.hb_pool.specs.Pools.{frame_of}
-use Rattle.hb_store.specs.Keeps.{StoreKeeps, last_of}
+use Rattle.hb_store.specs.Keeps.{StoreKeeps}
+use Rattle.hb_store.specs.Parts.{last_of}
 use Rattle.hb_store.specs.Calls.{Fetched}
 use Rattle.hb_store.proofs.Facts.StayingLaws.{was_there}
 use Rattle.hb_store.specs.Fetching.{FetchesNot, HoldsNot, IsDamagedBy, IsNoPage}

@@ -7,7 +7,8 @@ use Rattle.hb_disk.specs.Model.{DiskModel, IsDisk}
 use Rattle.hb_layout.specs.declared.meta.Meta.{Meta}
 use Rattle.hb_ops.specs.Allocating.{Allocates}
 use Rattle.hb_store.specs.States.{IsMemory, StoreState, in_memory}
-use Rattle.hb_store.specs.Keeps.{StoreKeeps, last_of}
+use Rattle.hb_store.specs.Keeps.{StoreKeeps}
+use Rattle.hb_store.specs.Parts.{last_of}
 use Rattle.hb_store.specs.Fetching.{MayFetch, IsNoPage}
 use Rattle.hb_store.proofs.Counted.{store_count}
 use Rattle.hb_ops.proofs.Facts.FilePages.{page_in_range, sound_head, sound_room}

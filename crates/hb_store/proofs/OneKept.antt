@@ -1,6 +1,7 @@
 -- What a store keeps is determined by the store and its disk.
-use Rattle.std.proofs.Common.{◌≡◌, ◌⊎◌, inl, inr, ℕ, IsTrue, Some, ◌+◌, List, [], ◌∷◌, ◌++◌, length, map, All, refl, sym, ap, ◌∙◌, subst, arith, length-append}
+use Rattle.std.proofs.Common.{◌≡◌, ◌⊎◌, inl, inr, ℕ, IsTrue, Some, ◌+◌, List, [], ◌∷◌, ◌++◌, length, map, flat_map, take, All, refl, sym, ap, ◌∙◌, subst, arith, length-append}
 use Rattle.std.proofs.lemmas.Grind.{flat_map-append}
+use Rattle.std.proofs.lemmas.List.{take_at}
 use Rattle.std.proofs.lemmas.List.Elements.{All-head, All-tail}
 use Rattle.hb_disk.specs.Model.{DiskModel, IsDisk}
 use Rattle.hb_lemmas.proofs.Options.{some_value}
@@ -16,22 +17,17 @@ use Rattle.hb_store.specs.Replay.{Replayed, untouched, replay, after_group}
 use Rattle.hb_store.specs.Opening.{OpensBy, Shows, log_bytes, SpellAll}
 use Rattle.hb_store.specs.States.{StoreState}
 use Rattle.hb_store.specs.Keeps.{StoreKeeps}
-use Rattle.hb_store.specs.Parts.{Leads, OpensNext}
+use Rattle.hb_store.specs.Parts.{Leads, OpensNext, last_of}
 use Rattle.hb_store.proofs.Facts.StoreLaws.{as_waits}
 use Rattle.hb_store.proofs.OneFile.{OneTurn, OneMeta, same_shown}
 
 -- ---- lists
 
--- lists that are the same with one more behind each
-same_but_last : {A : Type 0} (xs ys : List A) (x y : A) → xs ++ x ∷ [] ≡ ys ++ y ∷ [] → xs ≡ ys
-same_but_last [] [] x y e = refl
-same_but_last [] (b ∷ ys) x y e = absurd (omega (arith, ap (λ l. length l) e, length-append ys (y ∷ [])))
-same_but_last (a ∷ xs) [] x y e = absurd (omega (arith, ap (λ l. length l) e, length-append xs (x ∷ [])))
-same_but_last (a ∷ xs) (b ∷ ys) x y e =
-    let first : a ≡ b = cc in
-    let rest : xs ++ x ∷ [] ≡ ys ++ y ∷ [] = cc in
-    let more = same_but_last xs ys x y rest in
-    λ i. first i ∷ more i
+-- lists that are the same with as many behind each
+same_fronts : {A : Type 0} (xs ys more others : List A) → length more ≡ length others → xs ++ more ≡ ys ++ others → xs ≡ ys
+same_fronts xs ys more others count e =
+    let long : length xs ≡ length ys = omega (arith, count, ap (λ l. length l) e, length-append xs more, length-append ys others) in
+    sym (take_at xs more (length xs) refl) ∙ ap (λ l. take (length xs) l) e ∙ take_at ys others (length xs) (sym long)
 
 -- no list of payloads has as many bytes of frames as that list with one payload more
 longer : (p q : List (List ℕ)) (x : List ℕ) → length (frames p) ≡ length (frames q) → p ≡ q ++ x ∷ [] → ⊥
@@ -54,7 +50,7 @@ later_same t s (g ∷ rest) (x ∷ xs) (y ∷ ys) here there =
 -- What a disk's told bytes say of a store that keeps these files.
 pub record Tells (b : List ℕ) (turn written_bytes : ℕ) (waits : List Waiting) (said : Meta) (payloads : List (List ℕ)) (written waiting : List Logged) (durable : FileState) (later : List FileState) : Type 0 where
   pub count : length (frames payloads) ≡ written_bytes
-  pub opens : OpensBy b turn said payloads written durable ⊎ OpensNext b turn said payloads written waiting later
+  pub opens : OpensBy b turn said payloads written durable ⊎ OpensNext b turn said payloads written waiting (last_of durable later)
   pub shows : Shows b said (replay (untouched said) written) durable
   pub spelled : map (λ w. w.bytes) waits ≡ map group_bytes waiting
   pub fits : All (FitsGroup said.k) waiting
@@ -73,19 +69,10 @@ module _ (once : SpelledOnce) (one : OneList) (group : OneGroup) (turns : OneTur
       λ i. first i ∷ more i
 
   module _ (b : List ℕ) (turn : ℕ) where
-    -- by the frame of a group more
-    abbrev OpensMore : Meta → List (List ℕ) → List Logged → Type 0
-    OpensMore said payloads written = (g : Logged) × (n : FileState) × OpensBy b turn said (payloads ++ group_bytes g ∷ []) (written ++ g ∷ []) n
-
-    as_more : (said : Meta) (payloads : List (List ℕ)) (written waiting : List Logged) (later : List FileState) → OpensNext b turn said payloads written waiting later → OpensMore said payloads written
-    as_more said payloads written [] later never = absurd never
-    as_more said payloads written (g ∷ waiting) [] never = absurd never
-    as_more said payloads written (g ∷ waiting) (n ∷ later) by = (g, n, by)
-
-    newest : (said : Meta) (payloads : List (List ℕ)) (written waiting : List Logged) (s : FileState) (later : List FileState)
-        → OpensBy b turn said payloads written s ⊎ OpensNext b turn said payloads written waiting later → IsNewest b turn said
-    newest said payloads written waiting s later (inl by) = by.newest
-    newest said payloads written waiting s later (inr next) = (as_more said payloads written waiting later next).2.newest
+    newest : (said : Meta) (payloads : List (List ℕ)) (written waiting : List Logged) (s next : FileState)
+        → OpensBy b turn said payloads written s ⊎ OpensNext b turn said payloads written waiting next → IsNewest b turn said
+    newest said payloads written waiting s next (inl by) = by.newest
+    newest said payloads written waiting s next (inr by) = by.newest
 
     module _ (said : Meta) where
       payloads_same : (p q : List (List ℕ)) (xs ys : List Logged) (s u : FileState) → OpensBy b turn said p xs s → OpensBy b turn said q ys u → p ≡ q
@@ -95,31 +82,27 @@ module _ (once : SpelledOnce) (one : OneList) (group : OneGroup) (turns : OneTur
       groups_same p q xs ys s u here there =
           same_spelled one said.k q xs ys (subst (λ l. SpellAll said.k l xs) (payloads_same p q xs ys s u here there) here.spelled) there.spelled
 
-      written_same : (p q : List (List ℕ)) (xs ys : List Logged) (s u : FileState) → length (frames p) ≡ length (frames q)
-          → OpensBy b turn said p xs s ⊎ OpensMore said p xs → OpensBy b turn said q ys u ⊎ OpensMore said q ys → xs ≡ ys
-      written_same p q xs ys s u long (inl here) (inl there) = groups_same p q xs ys s u here there
-      written_same p q xs ys s u long (inl here) (inr (g, n, there)) =
-          absurd (longer p q (group_bytes g) long (payloads_same p (q ++ group_bytes g ∷ []) xs (ys ++ g ∷ []) s n here there))
-      written_same p q xs ys s u long (inr (g, n, here)) (inl there) =
-          absurd (longer q p (group_bytes g) (sym long) (sym (payloads_same (p ++ group_bytes g ∷ []) q (xs ++ g ∷ []) ys n u here there)))
-      written_same p q xs ys s u long (inr (g, n, here)) (inr (h, m, there)) =
-          same_but_last xs ys g h (groups_same (p ++ group_bytes g ∷ []) (q ++ group_bytes h ∷ []) (xs ++ g ∷ []) (ys ++ h ∷ []) n m here there)
-
-    opened : (said : Meta) (p : List (List ℕ)) (xs gs : List Logged) (s : FileState) (later : List FileState)
-        → OpensBy b turn said p xs s ⊎ OpensNext b turn said p xs gs later → OpensBy b turn said p xs s ⊎ OpensMore said p xs
-    opened said p xs gs s later (inl by) = inl by
-    opened said p xs gs s later (inr next) = inr (as_more said p xs gs later next)
+      -- whether the frame of the groups that wait is there or not
+      written_same : (p q : List (List ℕ)) (xs ys gs hs : List Logged) (s u m n : FileState) → length (frames p) ≡ length (frames q) → length gs ≡ length hs
+          → OpensBy b turn said p xs s ⊎ OpensNext b turn said p xs gs m → OpensBy b turn said q ys u ⊎ OpensNext b turn said q ys hs n → xs ≡ ys
+      written_same p q xs ys gs hs s u m n long count (inl here) (inl there) = groups_same p q xs ys s u here there
+      written_same p q xs ys gs hs s u m n long count (inl here) (inr there) =
+          absurd (longer p q (flat_map group_bytes hs) long (payloads_same p (q ++ flat_map group_bytes hs ∷ []) xs (ys ++ hs) s n here there))
+      written_same p q xs ys gs hs s u m n long count (inr here) (inl there) =
+          absurd (longer q p (flat_map group_bytes gs) (sym long) (sym (payloads_same (p ++ flat_map group_bytes gs ∷ []) q (xs ++ gs) ys m u here there)))
+      written_same p q xs ys gs hs s u m n long count (inr here) (inr there) =
+          same_fronts xs ys gs hs count (groups_same (p ++ flat_map group_bytes gs ∷ []) (q ++ flat_map group_bytes hs ∷ []) (xs ++ gs) (ys ++ hs) m n here there)
 
     module _ (n : ℕ) (waits : List Waiting) (said : Meta) (p q : List (List ℕ)) (xs ys gs hs : List Logged) (s u : FileState) (later others : List FileState)
         (here : Tells b turn n waits said p xs gs s later) (there : Tells b turn n waits said q ys hs u others) where
+      waiting_is : gs ≡ hs
+      waiting_is = waiting_same said.k gs hs here.fits there.fits (sym here.spelled ∙ there.spelled)
+
       written_is : xs ≡ ys
-      written_is = written_same said p q xs ys s u (here.count ∙ sym there.count) (opened said p xs gs s later here.opens) (opened said q ys hs u others there.opens)
+      written_is = written_same said p q xs ys gs hs s u (last_of s later) (last_of u others) (here.count ∙ sym there.count) (ap (λ (l : List Logged). length l) waiting_is) here.opens there.opens
 
       durable_is : s ≡ u
       durable_is = same_shown once one b said (replay (untouched said) ys) s u (subst (λ l. Shows b said (replay (untouched said) l) s) written_is here.shows) there.shows
-
-      waiting_is : gs ≡ hs
-      waiting_is = waiting_same said.k gs hs here.fits there.fits (sym here.spelled ∙ there.spelled)
 
       later_is : later ≡ others
       later_is = later_same (replay (untouched said) ys) u hs later others
@@ -132,7 +115,7 @@ module _ (once : SpelledOnce) (one : OneList) (group : OneGroup) (turns : OneTur
         → Tells b st.turn st.log.written st.log.groups keeps.parts.said keeps.parts.payloads keeps.parts.written keeps.parts.waiting durable later
     tells durable later keeps = record {
       count = keeps.disk.count;
-      opens = as_waits (OpensBy b st.turn keeps.parts.said keeps.parts.payloads keeps.parts.written durable) (IsTrue st.stopped) (OpensNext b st.turn keeps.parts.said keeps.parts.payloads keeps.parts.written keeps.parts.waiting later)
+      opens = as_waits (OpensBy b st.turn keeps.parts.said keeps.parts.payloads keeps.parts.written durable) (IsTrue st.stopped) (OpensNext b st.turn keeps.parts.said keeps.parts.payloads keeps.parts.written keeps.parts.waiting (last_of durable later))
           (keeps.disk.images b (is_disk.as_read b told));
       shows = keeps.disk.shows b (is_disk.as_read b told);
       spelled = keeps.waits.spelled;
@@ -143,8 +126,8 @@ module _ (once : SpelledOnce) (one : OneList) (group : OneGroup) (turns : OneTur
     module _ (durable other : FileState) (later others : List FileState) (here : StoreKeeps d st durable later) (there : StoreKeeps d st other others) where
       said_is : there.parts.said ≡ here.parts.said
       said_is = metas b st.turn st.turn there.parts.said here.parts.said
-          (newest b st.turn there.parts.said there.parts.payloads there.parts.written there.parts.waiting other others (tells other others there).opens)
-          (newest b st.turn here.parts.said here.parts.payloads here.parts.written here.parts.waiting durable later (tells durable later here).opens)
+          (newest b st.turn there.parts.said there.parts.payloads there.parts.written there.parts.waiting other (last_of other others) (tells other others there).opens)
+          (newest b st.turn here.parts.said here.parts.payloads here.parts.written here.parts.waiting durable (last_of durable later) (tells durable later here).opens)
 
       there_tells : Tells b st.turn st.log.written st.log.groups here.parts.said there.parts.payloads there.parts.written there.parts.waiting other others
       there_tells = subst (λ m. Tells b st.turn st.log.written st.log.groups m there.parts.payloads there.parts.written there.parts.waiting other others) said_is (tells other others there)

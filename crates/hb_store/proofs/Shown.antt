@@ -13,8 +13,7 @@ use Rattle.hb_log_codec.specs.Groups.{Logged}
 use Rattle.hb_store.specs.Replay.{IsAllowedIn, MayFollow, Replayed, after_group, after_op, change_in, replay, set_pages, touched_read, with_page_images}
 use Rattle.hb_store.proofs.Facts.ReplayLists.{set_one-same, set_one-other}
 use Rattle.hb_store.specs.Opening.{IsPageIn, Shows}
-use Rattle.hb_store.specs.Keeps.{last_of}
-use Rattle.hb_store.specs.Parts.{ArePageImagesOf, Leads}
+use Rattle.hb_store.specs.Parts.{ArePageImagesOf, Leads, last_of}
 use Rattle.hb_store.proofs.Counting.{HasCount, effect_count, effect_reaches}
 use Rattle.hb_store.proofs.Facts.FilePages.{pages_set}
 use Rattle.hb_ops.proofs.Facts.AllowedOps.{reads_some, same_change}

@@ -19,7 +19,7 @@ use Rattle.hb_pool.specs.Frames.{Use}
 use Rattle.hb_pool.specs.Pools.{IsPool, frame_of}
 use Rattle.hb_pool.proofs.Firsts.{first_passes}
 use Rattle.hb_pool.proofs.Pooled.{dirty_there}
-use Rattle.hb_store.specs.Forced.{MayWriteOldest, stopped_state}
+use Rattle.hb_store.specs.Forced.{MayWriteGroups, stopped_state}
 use Rattle.hb_store.specs.Held.{IsTied, StoreHeld, cleaned_held, oldest_dirty}
 use Rattle.hb_store.specs.Keeps.{StoreKeeps}
 use Rattle.hb_store.specs.Opening.{OpensTo}
@@ -62,7 +62,7 @@ pub record IsToWrite (d : DiskModel) (old : StoreHeld) (id at : ℕ) : Type 0 wh
 
 -- from what a store knows before
 pub is_to_write : (d : DiskModel) (old : StoreHeld) (id at : ℕ) (meta : Meta) → IsMemory old.state → IsTied old.state old.uses → meta ≡ old.state.meta → at ≡ page_offset meta id
-    → file_size old.state.meta ≤ d.size → MayWriteOldest d old.state → old.state.log.groups ≡ [] → oldest_dirty old.uses ≡ Some id → IsToWrite d old id at
+    → file_size old.state.meta ≤ d.size → MayWriteGroups d old.state → old.state.log.groups ≡ [] → oldest_dirty old.uses ≡ Some id → IsToWrite d old id at
 is_to_write d old id at meta is tied meta_is here room may idle oldest = record {
   memory = is;
   room = room;

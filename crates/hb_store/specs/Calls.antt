@@ -11,7 +11,7 @@ use Rattle.hb_pool.specs.Pools.{brought, frame_of, places, put_last}
 use Rattle.hb_wal.specs.Log.{pending_bytes, room_of}
 use Rattle.hb_store.specs.Replay.{set_pages, has_page, is_among}
 use Rattle.hb_store.specs.States.{StoreState, in_memory, is_dirty, is_in_log}
-use Rattle.hb_store.specs.Keeps.{last_of}
+use Rattle.hb_store.specs.Parts.{last_of}
 
 -- the page in use that an operation reads at a place of its list, among those in memory
 abbrev pub read_here : StoreState → Op → ℕ → Option LivePage

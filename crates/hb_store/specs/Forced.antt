@@ -1,16 +1,17 @@
--- What a store and its files are once the oldest group was written to the log, and what it is to write it.
-use Rattle.std.specs.Prelude.{◌≡◌, ◌+◌, false, true, List, [], ◌∷◌, IsOk, IsSome, OnErr, OnOk, Result}
+-- What a store and its files are once the groups that wait were written to the log, and what it is to write them.
+use Rattle.std.specs.Prelude.{◌≡◌, ◌+◌, false, true, List, [], IsOk, IsSome, OnErr, OnOk, Result}
 use Rattle.hb_disk.specs.Model.{DiskModel, Stays, Torn}
 use Rattle.hb_disk.specs.Calls.{Leaves}
 use Rattle.hb_disk.specs.Runs.{Rewrites}
 use Rattle.hb_wal.specs.Forces.{calls_of_force}
 use Rattle.hb_wal.specs.Log.{LogState, after_force}
 use Rattle.hb_ops.specs.Files.{FileState}
-use Rattle.hb_store.specs.Keeps.{OpensToFirst, StoreKeeps}
+use Rattle.hb_store.specs.Keeps.{OpensToEither, StoreKeeps}
+use Rattle.hb_store.specs.Parts.{last_of}
 use Rattle.hb_store.specs.States.{StoreState}
 use Rattle.hb_store.specs.declared.stops.WriteFault.{WriteFault}
 
--- a store after a force: the first group that waited doesn't any more
+-- a store after a force: no group waits any more
 abbrev pub with_log : LogState → StoreState → StoreState
 with_log log st = record st { log = log }
 
@@ -21,34 +22,25 @@ forced_state st = with_log (after_force st.log) st
 abbrev pub stopped_state : StoreState → StoreState
 stopped_state st = record st { stopped = true }
 
--- The files after a force: the next one is durable, where a group waited.
-abbrev pub durable_after : FileState → List FileState → FileState
-durable_after durable [] = durable
-durable_after durable (next ∷ later) = next
-
-abbrev pub later_after : List FileState → List FileState
-later_after [] = []
-later_after (next ∷ later) = later
-
--- A store that may write the oldest group: it was not stopped, and over a disk that tells it keeps some files.
-pub record MayWriteOldest (d : DiskModel) (st : StoreState) : Type 0 where
+-- A store that may write its groups: it was not stopped, and over a disk that tells it keeps some files.
+pub record MayWriteGroups (d : DiskModel) (st : StoreState) : Type 0 where
   pub running : st.stopped ≡ false
   pub kept : IsSome d.told → (durable : FileState) × (later : List FileState) × StoreKeeps d st durable later
 
--- What it is to write the oldest group that waits to the log, by its result.
-pub record WritesOldest {T : Type 0} (result : Result T WriteFault) (d e : DiskModel) (old new : StoreState) : Type 0 where
+-- What it is to write the groups that wait to the log, by its result.
+pub record WritesGroups {T : Type 0} (result : Result T WriteFault) (d e : DiskModel) (old new : StoreState) : Type 0 where
   -- where none waits it is done, and the disk stays
   pub nothing : old.log.groups ≡ [] → IsOk result × Stays d e
-  -- once it is written it doesn't wait any more
+  -- once they are written none waits
   pub forced : OnOk result (new ≡ forced_state old)
   -- a fault stops the store
   pub stopped : OnErr result (new ≡ stopped_state old)
-  -- the file after it is durable then
-  pub keeps_forced : (durable : FileState) (later : List FileState) → StoreKeeps d old durable later → OnOk result (StoreKeeps e new (durable_after durable later) (later_after later))
-  -- and after a fault the one before it is
+  -- the file after the last one is durable then
+  pub keeps_forced : (durable : FileState) (later : List FileState) → StoreKeeps d old durable later → OnOk result (StoreKeeps e new (last_of durable later) [])
+  -- and after a fault the one before the first is
   pub keeps_stopped : (durable : FileState) (later : List FileState) → StoreKeeps d old durable later → OnErr result (StoreKeeps e new durable later)
   -- a crash inside leaves the one or the other
-  pub moments : (durable : FileState) (later : List FileState) → StoreKeeps d old durable later → Leaves d e (OpensToFirst durable later)
+  pub moments : (durable : FileState) (later : List FileState) → StoreKeeps d old durable later → Leaves d e (OpensToEither durable later)
   -- only the log area changes, in four calls at most, and a fault is the disk's
   pub wrote : Rewrites (Torn old.log.area old.log.len) 4 result d e
   -- four calls, and none where no group waits

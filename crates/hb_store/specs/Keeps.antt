@@ -1,5 +1,5 @@
 -- What a store keeps of the disk: four records with a name each, joined; and a disk from which it may start.
-use Rattle.std.specs.Prelude.{◌≡◌, ◌⊎◌, ℕ, List, [], ◌∷◌, Some, IsSome}
+use Rattle.std.specs.Prelude.{◌≡◌, ◌⊎◌, ℕ, List, [], Some, IsSome}
 use Rattle.hb_disk.specs.Model.{DiskModel}
 use Rattle.hb_layout.specs.Offsets.{log_start}
 use Rattle.hb_layout.specs.declared.meta.Meta.{Meta}
@@ -9,12 +9,7 @@ use Rattle.hb_frag.specs.Grammar.{SpellsPage}
 use Rattle.hb_ops.specs.Files.{FileState, page_of}
 use Rattle.hb_store.specs.Opening.{OpensTo, place_bytes}
 use Rattle.hb_store.specs.States.{StoreState, in_memory, is_dirty, is_in_log}
-use Rattle.hb_store.specs.Parts.{Parts, IsRunning, IsDurable, IsWaiting, IsInLog, IsInMemory}
-
--- the last of the files behind the first one
-abbrev pub last_of : FileState → List FileState → FileState
-last_of s [] = s
-last_of s (next ∷ later) = last_of next later
+use Rattle.hb_store.specs.Parts.{Parts, IsRunning, IsDurable, IsWaiting, IsInLog, IsInMemory, last_of}
 
 -- What a store keeps over a disk that tells. `durable` is the durable file; `later` are the files after each group that
 -- waits. The last one is the store's file.
@@ -47,7 +42,6 @@ pub record IsFresh (d : DiskModel) (turn : ℕ) (meta : Meta) (s : FileState) : 
   -- each page stands in its place in each image
   pub pages : (id : ℕ) (page : Page) → page_of s id ≡ Some page → (c : List ℕ) → d.Image c → SpellsPage (place_bytes meta id c) page
 
--- An image opens to the durable file, or to the next one where a group waits.
-abbrev pub OpensToFirst : FileState → List FileState → List ℕ → Type 0
-OpensToFirst durable [] c = OpensTo c durable
-OpensToFirst durable (next ∷ later) c = OpensTo c durable ⊎ OpensTo c next
+-- An image opens to the durable file, or to the one after all groups that wait.
+abbrev pub OpensToEither : FileState → List FileState → List ℕ → Type 0
+OpensToEither durable later c = OpensTo c durable ⊎ OpensTo c (last_of durable later)

@@ -1,5 +1,5 @@
 -- What a store keeps of the disk, in parts: what is durable, what waits, what is in the log and what is in memory.
-use Rattle.std.specs.Prelude.{◌≡◌, ◌⊎◌, ℕ, List, [], ◌∷◌, Some, IsSome, ◌*◌, Bool, false, ◌++◌, length, map, All, Option, IsTrue, is_some}
+use Rattle.std.specs.Prelude.{◌≡◌, ◌⊎◌, ℕ, List, [], ◌∷◌, Some, IsSome, ◌*◌, Bool, false, ◌++◌, length, map, flat_map, All, Option, IsTrue, is_some}
 use Rattle.hb_disk.specs.Model.{DiskModel}
 use Rattle.hb_layout.specs.Offsets.{slot_offset}
 use Rattle.hb_layout.specs.declared.meta.Meta.{Meta}
@@ -48,11 +48,14 @@ written_pages p = replay (untouched p.said) p.written
 abbrev pub all_pages : Parts → Replayed
 all_pages p = replay (untouched p.said) (p.written ++ p.waiting)
 
--- an image that has the frame of the first group that waits
-abbrev pub OpensNext : List ℕ → ℕ → Meta → List (List ℕ) → List Logged → List Logged → List FileState → Type 0
-OpensNext c turn said payloads written [] later = ⊥
-OpensNext c turn said payloads written (g ∷ rest) [] = ⊥
-OpensNext c turn said payloads written (g ∷ rest) (next ∷ later) = OpensBy c turn said (payloads ++ group_bytes g ∷ []) (written ++ g ∷ []) next
+-- an image that has the frame of all groups that wait
+abbrev pub OpensNext : List ℕ → ℕ → Meta → List (List ℕ) → List Logged → List Logged → FileState → Type 0
+OpensNext c turn said payloads written waiting next = OpensBy c turn said (payloads ++ flat_map group_bytes waiting ∷ []) (written ++ waiting) next
+
+-- the last of the files behind the first one
+abbrev pub last_of : FileState → List FileState → FileState
+last_of s [] = s
+last_of s (next ∷ later) = last_of next later
 
 -- Both superblock places and the area are synced, and the area reads as the written frames and zeros. The place of the
 -- next turn has no body of that turn.
@@ -70,9 +73,9 @@ pub record IsDurable (d : DiskModel) (turn : ℕ) (log : LogState) (stopped : Bo
   pub told : IsSome d.told
   -- the log counts the bytes of the written frames
   pub count : length (frames p.payloads) ≡ log.written
-  -- every image opens to it; after a failed force perhaps to the next one
+  -- every image opens to it; after a failed force perhaps to the one after all groups that wait
   pub images : (c : List ℕ) → d.Image c → OpensBy c turn p.said p.payloads p.written durable
-      ⊎ (IsTrue stopped × OpensNext c turn p.said p.payloads p.written p.waiting later)
+      ⊎ (IsTrue stopped × OpensNext c turn p.said p.payloads p.written p.waiting (last_of durable later))
   -- whatever stands behind the written frames, these groups and the places make it
   pub shows : (c : List ℕ) → d.Image c → Shows c p.said (written_pages p) durable
   -- in a store that was not stopped all is synced

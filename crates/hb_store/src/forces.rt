@@ -1,5 +1,5 @@
 ghost use Rattle.std.specs.Prelude.{◌≡◌, ◌≢◌, ◌↔◌, [], IfOk, IsTrue, Some};
-ghost use Rattle.hb_store.specs.Forced.{MayWriteOldest, WritesOldest};
+ghost use Rattle.hb_store.specs.Forced.{MayWriteGroups, WritesGroups};
 ghost use Rattle.hb_store.specs.Held.{oldest_dirty};
 ghost use Rattle.hb_store.specs.WritingHome.{FlushesHome, IsDue, WritesHome};
 ghost use Rattle.hb_store.specs.Seen.{held_by, seen_as, uses_of};
@@ -10,11 +10,11 @@ use hb_disk::Device;
 use hb_layout::page_offset;
 
 impl<D: Device> Store<D> {
-    /// Writes the oldest group that waits to the log. Four device calls, at most four where it fails, and none where no
+    /// Writes the groups that wait to the log as one frame. Four device calls, at most four where it fails, and none where no
     /// group waits. A fault stops the store.
     pub fn force(&mut self) -> Result<(), WriteFault>
-        requires { MayWriteOldest (D.model self.old.disk) (seen_as self.old) }
-        ensures writes { WritesOldest result (D.model self.old.disk) (D.model self.new.disk) (seen_as self.old) (seen_as self.new) }
+        requires { MayWriteGroups (D.model self.old.disk) (seen_as self.old) }
+        ensures writes { WritesGroups result (D.model self.old.disk) (D.model self.new.disk) (seen_as self.old) (seen_as self.new) }
         ensures uses { uses_of self.new ≡ uses_of self.old }
     {
         let memory = &mut self.memory;
@@ -27,13 +27,13 @@ impl<D: Device> Store<D> {
         }
     }
 
-    /// Where groups wait, the oldest is forced: `Forced`. Else the least recently used page that is to be written to its place is
+    /// Where groups wait, they are forced: `Forced`. Else the least recently used page that is to be written to its place is
     /// written there, in one call: `Written`; its log stands already, since no group waits. Else `Nothing`. It takes no memory.
     /// A fault stops the store.
     pub fn flush_step(&mut self) -> Result<Flushed, WriteFault>
-        requires { MayWriteOldest (D.model self.old.disk) (seen_as self.old) }
+        requires { MayWriteGroups (D.model self.old.disk) (seen_as self.old) }
         ensures which { IfOk result (IsDue (held_by self.old)) }
-        ensures forces { (seen_as self.old).log.groups ≢ [] → WritesOldest result (D.model self.old.disk) (D.model self.new.disk) (seen_as self.old) (seen_as self.new) × (uses_of self.new ≡ uses_of self.old) }
+        ensures forces { (seen_as self.old).log.groups ≢ [] → WritesGroups result (D.model self.old.disk) (D.model self.new.disk) (seen_as self.old) (seen_as self.new) × (uses_of self.new ≡ uses_of self.old) }
         ensures cleans { (seen_as self.old).log.groups ≡ [] → FlushesHome result (D.model self.old.disk) (D.model self.new.disk) (held_by self.old) (held_by self.new) }
     {
         if !self.is_idle() {
@@ -48,7 +48,7 @@ impl<D: Device> Store<D> {
 
     /// Writes the page of this number to its place.
     fn write_home(&mut self, id: u32) -> Result<Flushed, WriteFault>
-        requires running { MayWriteOldest (D.model self.old.disk) (seen_as self.old) }
+        requires running { MayWriteGroups (D.model self.old.disk) (seen_as self.old) }
         requires waits { (seen_as self.old).log.groups ≡ [] }
         requires oldest { oldest_dirty (uses_of self.old) ≡ Some id }
         ensures says { IfOk result (λ flushed. flushed ≡ Flushed.Written id) }

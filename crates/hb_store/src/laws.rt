@@ -1,7 +1,7 @@
 ghost use Rattle.std.specs.Prelude.{◌≡◌, ℕ, false, List, length};
 ghost use Rattle.hb_ops.specs.Files.{FileState};
 ghost use Rattle.hb_store.specs.Opening.{OpensTo};
-ghost use Rattle.hb_store.specs.Keeps.{StoreKeeps, OpensToFirst};
+ghost use Rattle.hb_store.specs.Keeps.{StoreKeeps, OpensToEither};
 ghost use Rattle.hb_store.specs.Seen.{seen_as};
 
 use crate::store::Store;
@@ -11,11 +11,11 @@ use hb_page_codec::laws::spelling_law;
 use hb_super::laws::one_superblock_is_newest;
 use hb_wal::laws::an_area_is_read_in_one_way;
 
-/// What a crash now leaves of a store's disk opens to the durable file, or to the one after the first group that waits;
+/// What a crash now leaves of a store's disk opens to the durable file, or to the one after all groups that wait;
 /// while the store runs, to the durable file alone. For each group that waits there is one file to come.
 pub fn an_image_of_a_store_opens<D: Device>(store: &Store<D>)
-    ensures first { (durable : FileState) (later : List FileState) → StoreKeeps (D.model store.now.disk) (seen_as store.now) durable later →
-        (c : List ℕ) → (D.model store.now.disk).Image c → OpensToFirst durable later c }
+    ensures either { (durable : FileState) (later : List FileState) → StoreKeeps (D.model store.now.disk) (seen_as store.now) durable later →
+        (c : List ℕ) → (D.model store.now.disk).Image c → OpensToEither durable later c }
     ensures running { (seen_as store.now).stopped ≡ false →
         (durable : FileState) (later : List FileState) → StoreKeeps (D.model store.now.disk) (seen_as store.now) durable later →
         (c : List ℕ) → (D.model store.now.disk).Image c → OpensTo c durable }

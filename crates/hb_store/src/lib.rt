@@ -1,12 +1,12 @@
 //! Log, pages in memory and superblock together: a file that changes by whole operations.
 //!
 //! The one contract: what a crash leaves of a store is the file before the groups that wait, and
-//! while a force runs perhaps the file after the first of them. `StoreKeeps` says so of a disk that
+//! while a force runs perhaps the file after all of them. `StoreKeeps` says so of a disk that
 //! tells, and each call keeps it, also where it fails and the store is stopped: `opened` begins it,
 //! `fetch` brings a page of the file into memory, `next_page` names the page that an operation
 //! would make next, or says why there is none, `commit` does an operation there and lets its group
-//! wait, `force` makes the first group that waits last. `read_log` reads what a log makes of the
-//! pages that it touches, or names its first bad frame.
+//! wait, `force` makes all groups that wait last. `read_log` reads what a log makes of the pages
+//! that it touches, or names its first bad frame.
 //!
 //! What a list of bytes opens to is defined in `specs/Opening.antt`: the newest superblock, the
 //! frames of its log area, the groups that they spell and the replay of these, and for every page

@@ -1,10 +1,10 @@
--- The groups that wait, as they are kept: how many bytes they have, and how one joins and one goes.
-use Rattle.std.proofs.Common.{◌≡◌, ℕ, ◌+◌, ◌*◌, ◌<◌, ◌≤◌, List, [], ◌∷◌, ◌++◌, length, take, drop, refl, ap, ◌∙◌, arith, length-take, length-drop}
+-- The groups that wait, as they are kept: how many bytes they have, how one joins, and all of them as one payload.
+use Rattle.std.proofs.Common.{◌≡◌, ◌≢◌, ℕ, ◌+◌, ◌*◌, ◌<◌, ◌≤◌, List, [], ◌∷◌, ◌++◌, length, take, drop, refl, sym, ap, ◌∙◌, arith, length-append, length-take, length-drop}
 use Rattle.std.specs.List.{All}
-use Rattle.std.proofs.lemmas.List.{take_all, take-append-le, drop-append-le}
+use Rattle.std.proofs.lemmas.List.{take_all, take-append-drop, take-append-le, drop-append-le, nil_from_length}
 use Rattle.std.proofs.lemmas.List.Elements.{All-head, All-tail}
 use Rattle.hb_wal.specs.declared.groups.Group.{Group}
-use Rattle.hb_wal.specs.Log.{Waiting, pending_bytes, framed_bytes}
+use Rattle.hb_wal.specs.Log.{Waiting, pending_bytes, framed_bytes, joined, forced}
 use Rattle.hb_wal.specs.Kept.{waiting_of, total_of}
 
 pub length-waiting_of : (bytes : List ℕ) (groups : List Group) → length (waiting_of bytes groups) ≡ length groups
@@ -42,15 +42,30 @@ framed-push (h ∷ rest) g = omega (arith, framed-push rest g)
 pub waiting-push : (bytes more : List ℕ) (groups : List Group) (g : Group) → length bytes ≡ total_of groups → length more ≡ g.len
     → waiting_of (bytes ++ more) (groups ++ g ∷ []) ≡ waiting_of bytes groups ++ record { bytes = more; mark = g.mark } ∷ []
 waiting-push bytes more [] g long fits =
-    let none : bytes ≡ [] = no_bytes bytes long in
+    let none : bytes ≡ [] = nil_from_length bytes long in
     let whole : take g.len (bytes ++ more) ≡ more = ap (λ (l : List ℕ). take g.len (l ++ more)) none ∙ take_all g.len more (omega (arith, fits)) in
     ap (λ (l : List ℕ). record { bytes = l; mark = g.mark } ∷ []) whole
-  where
-    no_bytes : (l : List ℕ) → length l ≡ 0 → l ≡ []
-    no_bytes [] e = refl
-    no_bytes (x ∷ l) e = absurd (omega (arith, e))
 waiting-push bytes more (h ∷ rest) g long fits =
     let front : take h.len (bytes ++ more) ≡ take h.len bytes = take-append-le h.len bytes more (omega (arith, long)) in
     let back : drop h.len (bytes ++ more) ≡ drop h.len bytes ++ more = drop-append-le h.len bytes more (omega (arith, long)) in
     let later = waiting-push (drop h.len bytes) more rest g (omega (arith, length-drop h.len bytes, long)) fits in
     λ i. record { bytes = front i; mark = h.mark } ∷ (ap (λ (l : List ℕ). waiting_of l (rest ++ g ∷ [])) back ∙ later) i
+
+-- ---- all of them
+
+pub length-joined : (groups : List Waiting) → length (joined groups) ≡ pending_bytes groups
+length-joined [] = refl
+length-joined (g ∷ rest) = omega (arith, length-append g.bytes (joined rest), length-joined rest)
+
+pub joined-waiting_of : (bytes : List ℕ) (groups : List Group) → length bytes ≡ total_of groups → joined (waiting_of bytes groups) ≡ bytes
+joined-waiting_of bytes [] long = sym (nil_from_length bytes long)
+joined-waiting_of bytes (g ∷ rest) long =
+    ap (λ (l : List ℕ). take g.len bytes ++ l) (joined-waiting_of (drop g.len bytes) rest (omega (arith, length-drop g.len bytes, long))) ∙ take-append-drop g.len bytes
+
+pub count-some : (groups : List Waiting) → groups ≢ [] → 0 < length groups
+count-some [] waits = absurd (waits refl)
+count-some (g ∷ rest) waits = omega arith
+
+pub forced-some : (groups : List Waiting) → groups ≢ [] → forced groups ≡ joined groups ∷ []
+forced-some [] waits = absurd (waits refl)
+forced-some (g ∷ rest) waits = refl

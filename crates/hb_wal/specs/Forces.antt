@@ -24,7 +24,7 @@ calls_of_force [] = 0
 calls_of_force (first ∷ rest) = 4
 
 -- What a crash may leave inside a force: a list of bytes that a crash could leave before, where the area has the
--- frames that it had, or those and one more.
+-- frames that it had, or those and one more, of all groups that wait.
 pub record ForceLeaves (d : DiskModel) (log : LogState) (payloads : List (List ℕ)) (c : List ℕ) : Type 0 where
   pub before : List ℕ
   pub image : d.Image before

@@ -1,7 +1,7 @@
 -- The log in memory: where its area is, how much of it is written, and the groups that wait.
-use Rattle.std.specs.Prelude.{◌≡◌, ℕ, ◌+◌, ◌-◌, ◌<◌, ◌≤◌, List, [], ◌∷◌, length, All, AllPairs}
+use Rattle.std.specs.Prelude.{ℕ, ◌+◌, ◌-◌, ◌<◌, ◌≤◌, List, [], ◌∷◌, length, flat_map, All, AllPairs}
 use Rattle.hb_space.specs.declared.form.TheConstants.{PENDING}
-use Rattle.hb_wal.specs.Frames.{frames, frame_body}
+use Rattle.hb_wal.specs.Frames.{frames}
 
 -- a group that waits: its bytes, and its mark
 pub record Waiting : Type 0 where
@@ -20,7 +20,8 @@ abbrev pub pending_bytes : List Waiting → ℕ
 pending_bytes [] = 0
 pending_bytes (first ∷ rest) = length first.bytes + pending_bytes rest
 
--- what they take as a frame each
+-- What they take of the area at most: a frame each. A force writes all that wait as one frame, which is less, and so whoever
+-- appends need not know which groups go together.
 abbrev pub framed_bytes : List Waiting → ℕ
 framed_bytes [] = 0
 framed_bytes (first ∷ rest) = length first.bytes + 5 + framed_bytes rest
@@ -42,20 +43,15 @@ abbrev pub mark_of : List Waiting → ℕ → ℕ
 mark_of [] now = now
 mark_of (first ∷ rest) now = first.mark
 
--- The payloads that the next force writes, a frame each.
+-- The bytes of groups, one after the other.
+abbrev pub joined : List Waiting → List ℕ
+joined groups = flat_map (λ (g : Waiting). g.bytes) groups
+
+-- The payloads that a force writes, a frame each: the groups that wait are one frame.
 abbrev pub forced : List Waiting → List (List ℕ)
 forced [] = []
-forced (first ∷ rest) = first.bytes ∷ []
+forced (first ∷ rest) = joined (first ∷ rest) ∷ []
 
-abbrev pub left_waiting : List Waiting → List Waiting
-left_waiting [] = []
-left_waiting (first ∷ rest) = rest
-
--- The log after a force.
+-- The log after a force: no group waits.
 abbrev pub after_force : LogState → LogState
-after_force log = record { area = log.area; len = log.len; written = log.written + length (frames (forced log.groups)); groups = left_waiting log.groups }
-
--- a frame's body of the first group that waits
-abbrev pub BeginsWith : List Waiting → List ℕ → Type 0
-BeginsWith [] body = ⊥
-BeginsWith (first ∷ rest) body = body ≡ frame_body first.bytes
+after_force log = record { area = log.area; len = log.len; written = log.written + length (frames (forced log.groups)); groups = [] }

@@ -10,8 +10,8 @@ use crate::Wal;
 use hb_disk::{Device, DiskFault, write_behind_gate};
 
 impl Wal {
-    /// Writes the oldest group that waits as a frame behind the others. Four device calls, and none where no group
-    /// waits; at most four where it fails. After a fault the group still waits, and the disk may have the frame or not.
+    /// Writes the groups that wait as one frame behind the others. Four device calls, and none where no group
+    /// waits; at most four where it fails. After a fault the groups still wait, and the disk may have the frame or not.
     pub fn force<D: Device>(&mut self, disk: &mut D) -> Result<(), DiskFault>
         requires { MayForce (D.model disk.old) self.old }
         ensures nothing { self.old.groups ≡ [] → IsOk result × Stays (D.model disk.old) (D.model disk.new) }
@@ -27,11 +27,11 @@ impl Wal {
         ensures wrote { Rewrites (Torn self.old.area self.old.len) 4 result (D.model disk.old) (D.model disk.new) }
     {
         let gate = self.frame_gate();
-        let Some(body) = self.oldest_body() else {
+        let Some(body) = self.body() else {
             return Ok(());
         };
         write_behind_gate(disk, gate, body)?;
-        self.forget_oldest();
+        self.forget();
         Ok(())
     }
 }

@@ -1,8 +1,7 @@
-ghost use Rattle.std.specs.Prelude.{◌≡◌, ◌↔◌, ◌<◌, ◌≤◌, ◌+◌, ◌*◌, ◌^◌, [], ◌∷◌, ◌++◌, List, length, take, drop, if◌then◌else◌, All, IfOk, IsNone, IfSome, vec_capacity};
-ghost use Rattle.hb_wal.specs.declared.groups.Group.{Group};
-ghost use Rattle.hb_lemmas.specs.Numbers.{big_endian};
+ghost use Rattle.std.specs.Prelude.{◌≡◌, ◌≢◌, ◌↔◌, ◌<◌, ◌≤◌, ◌+◌, ◌^◌, [], ◌∷◌, ◌++◌, length, All, IfOk, IsNone, IfSome};
+ghost use Rattle.hb_wal.specs.Frames.{frame_body};
 ghost use Rattle.hb_space.specs.declared.form.TheConstants.{PENDING};
-ghost use Rattle.hb_wal.specs.Log.{LogState, IsLog, BeginsWith, after_force, room_of, pending_bytes, mark_of};
+ghost use Rattle.hb_wal.specs.Log.{LogState, IsLog, joined, after_force, room_of, pending_bytes, mark_of};
 
 use crate::groups::Group;
 use hb_outside::give_u32;
@@ -23,7 +22,7 @@ pub struct Wal {
     area: u64,
     len: u32,
     written: u32,
-    /// Room for a frame's length, and behind it the bytes of the groups that wait.
+    /// The body of the next frame: the length of the groups that wait, where any does, and behind it their bytes.
     bytes: Vec<u8>,
     groups: Vec<Group>,
 }
@@ -109,7 +108,8 @@ impl Wal {
             len: group.len() as u32,
             mark,
         };
-        set_first_length(&mut self.bytes, self.groups.is_empty(), added.len);
+        let len = self.pending() + added.len;
+        give_u32(&mut self.bytes, 0, len);
         self.bytes.extend_from_slice(group).unwrap();
         self.groups.push(added).unwrap();
     }
@@ -123,26 +123,26 @@ impl Wal {
         self.area + u64::from(self.written)
     }
 
-    /// The body of the frame that the oldest group that waits will be: its length and its bytes.
-    pub(crate) fn oldest_body(&self) -> Option<&[u8]>
+    /// The body of the frame that the groups that wait will be: the length of their bytes, and these.
+    pub(crate) fn body(&self) -> Option<&[u8]>
         ensures none { IsNone result ↔ (self.now.groups ≡ []) }
-        ensures some { IfSome result (λ body. BeginsWith self.now.groups body.now) }
+        ensures some { IfSome result (λ body. body.now ≡ frame_body (joined self.now.groups)) }
     {
-        match self.groups.first() {
-            Some(oldest) => Some(&self.bytes[..LENGTH + oldest.len as usize]),
-            None => None,
+        if self.groups.is_empty() {
+            None
+        } else {
+            Some(&self.bytes)
         }
     }
 
-    /// The oldest group that waits is written: it is forgotten.
-    pub(crate) fn forget_oldest(&mut self)
-        requires { 0 < length self.old.groups }
+    /// The groups that wait are written as one frame: they are forgotten.
+    pub(crate) fn forget(&mut self)
+        requires { self.old.groups ≢ [] }
         ensures { self.new ≡ after_force self.old }
     {
-        let oldest = self.groups.remove(0);
-        remove_part(&mut self.bytes, LENGTH, oldest.len as usize);
-        set_next_length(&mut self.bytes, &self.groups);
-        self.written += FRAME + oldest.len;
+        self.written += FRAME + self.pending();
+        self.groups.clear();
+        self.bytes.truncate(LENGTH);
     }
 
     /// Moves the log to another area of the same length, where it has no frame.
@@ -153,39 +153,4 @@ impl Wal {
         self.area = area;
         self.written = 0;
     }
-}
-
-/// Writes the length at the front, where the group is the first that waits.
-fn set_first_length(bytes: &mut Vec<u8>, first: bool, len: u32)
-    requires { 4 ≤ length bytes.old.items }
-    ensures items { bytes.new.items ≡ (if first then big_endian 4 len else take 4 bytes.old.items) ++ drop 4 bytes.old.items }
-    ensures capacity { vec_capacity bytes.new ≡ vec_capacity bytes.old }
-{
-    if first {
-        give_u32(bytes, 0, len);
-    }
-}
-
-/// Writes the length of the first group at the front, where there is one.
-fn set_next_length(bytes: &mut Vec<u8>, groups: &[Group])
-    requires { 4 ≤ length bytes.old.items }
-    ensures len { length bytes.new.items ≡ length bytes.old.items }
-    ensures rest { drop 4 bytes.new.items ≡ drop 4 bytes.old.items }
-    ensures front { (g : Group) (rest : List Group) → groups.now ≡ g ∷ rest → take 4 bytes.new.items ≡ big_endian 4 g.len }
-    ensures capacity { vec_capacity bytes.new ≡ vec_capacity bytes.old }
-{
-    if let Some(next) = groups.first() {
-        give_u32(bytes, 0, next.len);
-    }
-}
-
-/// Takes a part of the bytes away.
-fn remove_part(bytes: &mut Vec<u8>, at: usize, count: usize)
-    requires { at + count ≤ length bytes.old.items }
-    ensures items { bytes.new.items ≡ take at bytes.old.items ++ drop (at + count) bytes.old.items }
-    ensures capacity { vec_capacity bytes.new ≡ vec_capacity bytes.old }
-{
-    let left = bytes.len() - count;
-    bytes.copy_within(at + count.., at);
-    bytes.truncate(left);
 }

@@ -24,7 +24,7 @@ use Rattle.hb_core.specs.Using.{page_wanted}
 use Rattle.hb_ops.specs.Files.{page_of}
 use Rattle.hb_pool.specs.Frames.{Use}
 use Rattle.hb_store.specs.Held.{IsTied}
-use Rattle.hb_store.specs.Keeps.{last_of}
+use Rattle.hb_store.specs.Parts.{last_of}
 use Rattle.hb_store.specs.States.{IsGoodPage, in_memory}
 
 abbrev pub bringing : List (ℕ × Page) → Scene → Scene

@@ -6,7 +6,7 @@ use Rattle.hb_core.proofs.Chains.BuiltSteps.{IsClearIn, IsUsedAsItIs, MayBeIn, a
 use Rattle.hb_core.proofs.Chains.OrderOfUse.{cleaned_set, without}
 use Rattle.hb_core.specs.declared.outcomes.Outcome.{Outcome}
 use Rattle.hb_core.specs.declared.outcomes.Outcome.TheVariants as outcomes
-use Rattle.hb_core.specs.Forcing.{ForcesFirst}
+use Rattle.hb_core.specs.Forcing.{ForcesAll}
 use Rattle.hb_core.specs.GivingUp.{runs_out}
 use Rattle.hb_core.specs.Machines.{with_disk, with_uses}
 use Rattle.hb_core.specs.Performing.{ChangesQueue, outcome_of}
@@ -29,7 +29,7 @@ forced_scene s = record s {
   clock = s.clock + calls_of_force s.groups;
 }
 
-pub forces : (s : Scene) (done : Outcome) → ForcesFirst (machine_of s) done done (machine_of (forced_scene s))
+pub forces : (s : Scene) (done : Outcome) → ForcesAll (machine_of s) done done (machine_of (forced_scene s))
 forces s done = inl (refl, refl)
 
 -- ---- a log that isn't ready

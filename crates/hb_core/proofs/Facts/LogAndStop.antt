@@ -3,7 +3,7 @@ use Rattle.std.proofs.Common.{◌≡◌, ◌⊎◌, inl, inr, ℕ, List, [], ◌
 use Rattle.hb_activity.specs.Deeds.{Deed}
 use Rattle.hb_core.proofs.Table.StepKinds.{FlushesMore, each_kind, ready_kind}
 use Rattle.hb_core.specs.Acting.{MeetsBadPage}
-use Rattle.hb_core.specs.Forcing.{FailsToWrite, ForcesFirst, StaysSo}
+use Rattle.hb_core.specs.Forcing.{FailsToWrite, ForcesAll, StaysSo}
 use Rattle.hb_core.specs.Machines.{Machine}
 use Rattle.hb_core.specs.Performing.{MayDo, Performs}
 use Rattle.hb_core.specs.Steps.{StepsInSequence, StepsTo, Works}
@@ -76,7 +76,7 @@ module _ (m : Machine) (actor : ℕ) (outcome : Outcome) (new : Machine) where
     stop = inr (_, ap (λ (x : Machine). x.stop) failed.stops, failed.says);
   }
 
-  forces : (said : Outcome) → ForcesFirst m said outcome new → StepTells m outcome new
+  forces : (said : Outcome) → ForcesAll m said outcome new → StepTells m outcome new
   forces said (inl (says, is)) = record {
     log = record { area = ap (λ (x : Machine). x.store.log.area) is; len = ap (λ (x : Machine). x.store.log.len) is };
     size = ap (λ (x : Machine). file_size x.store.meta) is;

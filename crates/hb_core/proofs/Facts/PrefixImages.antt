@@ -7,7 +7,7 @@ use Rattle.hb_core.specs.MomentLaws.{ImagesHavePrefixes}
 use Rattle.hb_core.specs.Runs.{IsPrefixImage}
 use Rattle.hb_set.specs.Machine.{RecordSet}
 use Rattle.hb_set.specs.Order.{Entry, result_of}
-use Rattle.hb_store.specs.Keeps.{OpensToFirst}
+use Rattle.hb_store.specs.Keeps.{OpensToEither}
 
 -- fewer entries are asked for
 pub prefix_less : (n : RecordSet) (order : List Entry) (least more : ℕ) (bytes : List ℕ) → least ≤ more → IsPrefixImage n order more bytes → IsPrefixImage n order least bytes
@@ -32,7 +32,7 @@ prefix_longer n order more least bytes image =
     }
 
 -- What a machine keeps of an image that opens to one of its files: a prefix with all that is settled.
-pub settled_prefix : ImagesHavePrefixes → (n : RecordSet) (m : Machine) (files : Files) (bytes : List ℕ) → CoreKeeps n m files → OpensToFirst files.durable files.later bytes → IsPrefixImage n m.order (settled_count m) bytes
+pub settled_prefix : ImagesHavePrefixes → (n : RecordSet) (m : Machine) (files : Files) (bytes : List ℕ) → CoreKeeps n m files → OpensToEither files.durable files.later bytes → IsPrefixImage n m.order (settled_count m) bytes
 settled_prefix images n m files bytes keeps opens =
     let image = images n m files bytes keeps opens in
     record { s = image.s; opens = image.opens; sound = image.sound; pages = image.pages; count = image.count; enough = image.enough; inside = image.after.inside; contents = image.after.contents }

@@ -18,7 +18,7 @@ use Rattle.hb_set.specs.Machine.{RecordSet}
 use Rattle.hb_set.specs.Order.{Entry}
 use Rattle.hb_set.specs.declared.scripts.Answered.{Answered}
 use Rattle.hb_store.proofs.Facts.StoreLaws.{StoreKeeps-opens}
-use Rattle.hb_store.specs.Keeps.{OpensToFirst, StoreKeeps}
+use Rattle.hb_store.specs.Keeps.{OpensToEither, StoreKeeps}
 
 -- The machine at the end of a run, and the one after a step more: both keep all that they should over a disk that tells.
 pub record StepKeepsAll (n : RecordSet) (e f : DiskModel) (mid next : Machine) (answers given : List Answered) : Type 0 where
@@ -26,7 +26,7 @@ pub record StepKeepsAll (n : RecordSet) (e f : DiskModel) (mid next : Machine) (
   pub files_then : Files
   pub keeps : CoreKeeps n mid files
   pub keeps_then : CoreKeeps n next files_then
-  pub moments : Leaves e f (OpensToFirst files.durable files.later)
+  pub moments : Leaves e f (OpensToEither files.durable files.later)
   pub kept_then : StoreKeeps f next.store files_then.durable files_then.later
   pub more : List Entry
   pub order : next.order ≡ mid.order ++ more
@@ -41,13 +41,13 @@ module _ (images : ImagesHavePrefixes) (n : RecordSet) (d e f : DiskModel) (mid 
   longer : (least : ℕ) (c : List ℕ) → IsPrefixImage n mid.order least c → IsPrefixImage n next.order least c
   longer least c image = subst (λ (es : List Entry). IsPrefixImage n es least c) (sym step.order) (prefix_longer n mid.order step.more least c image)
 
-  opened : (least : ℕ) (c : List ℕ) → least ≤ settled_count mid → OpensToFirst step.files.durable step.files.later c → IsPrefixImage n next.order least c
+  opened : (least : ℕ) (c : List ℕ) → least ≤ settled_count mid → OpensToEither step.files.durable step.files.later c → IsPrefixImage n next.order least c
   opened least c few opens = longer least c (prefix_less n mid.order least (settled_count mid) c few (settled_prefix images n mid step.files c step.keeps opens))
 
   each_more : Leaves d f (IsPrefixImage n next.order 0)
   each_more =
       Leaves-then d e f (IsPrefixImage n next.order 0) (Leaves-weaker d e (IsPrefixImage n mid.order 0) (IsPrefixImage n next.order 0) (longer 0) run.each)
-      (Leaves-weaker e f (OpensToFirst step.files.durable step.files.later) (IsPrefixImage n next.order 0) (λ c opens. opened 0 c (omega arith) opens) step.moments)
+      (Leaves-weaker e f (OpensToEither step.files.durable step.files.later) (IsPrefixImage n next.order 0) (λ c opens. opened 0 c (omega arith) opens) step.moments)
 
   -- an answer of before: what it stands for it stood for then
   stood : (a : Answered) (place : ℕ) → StandsSomewhere mid a → StandsInOrder next a.line a.reply place → StandsInOrder mid a.line a.reply place
@@ -62,7 +62,7 @@ module _ (images : ImagesHavePrefixes) (n : RecordSet) (d e f : DiskModel) (mid 
       was : StandsInOrder mid a.line a.reply place
       was = stood a place stands now
 
-      by : e.ImageSince a.at c ⊎ OpensToFirst step.files.durable step.files.later c → IsPrefixImage n next.order (place + 1) c
+      by : e.ImageSince a.at c ⊎ OpensToEither step.files.durable step.files.later c → IsPrefixImage n next.order (place + 1) c
       by (inl before) = longer (place + 1) c (since place was c before)
       by (inr opens) = let less = settled place was in opened (place + 1) c (omega (arith, less)) opens
 

@@ -28,7 +28,7 @@ use Rattle.hb_store.specs.Replay.{Replayed}
 use Rattle.hb_store.specs.States.{StoreState, in_memory}
 use Rattle.hb_wal.specs.Log.{Waiting}
 use Rattle.hb_store.proofs.Facts.StoreLaws.{StoreKeeps-opens}
-use Rattle.hb_store.specs.Keeps.{OpensToFirst, StoreKeeps}
+use Rattle.hb_store.specs.Keeps.{OpensToEither, StoreKeeps}
 use Rattle.std.proofs.lemmas.Option.{same_Some}
 
 -- ---- only bytes of the file are other ones
@@ -86,13 +86,13 @@ none_later : (d : DiskModel) (st : StoreState) (durable : FileState) (later : Li
 none_later d st durable later none keeps = leads_nowhere (written_pages keeps.parts) durable keeps.parts.waiting later (none_spelled st.log.groups keeps.parts.waiting none keeps.waits.spelled) keeps.waits.leads
 
 -- what crashes leave while the step is taken
-pub moments_touched : (e f : DiskModel) (old new : RunningCore) (outcome : Outcome) (durable : FileState) (later : List FileState) → IsDisk e → StoreKeeps e old.store durable later → Touches e old outcome f new → Leaves e f (OpensToFirst durable later)
+pub moments_touched : (e f : DiskModel) (old new : RunningCore) (outcome : Outcome) (durable : FileState) (later : List FileState) → IsDisk e → StoreKeeps e old.store durable later → Touches e old outcome f new → Leaves e f (OpensToEither durable later)
 moments_touched e f old new outcome durable later disk keeps (inl reads) =
-    Leaves-read e e f (OpensToFirst durable later) (Leaves-start e (OpensToFirst durable later) disk (StoreKeeps-opens e old.store durable later keeps)) reads.only.stays
+    Leaves-read e e f (OpensToEither durable later) (Leaves-start e (OpensToEither durable later) disk (StoreKeeps-opens e old.store durable later keeps)) reads.only.stays
 moments_touched e f old new outcome durable later disk keeps (inr (inl force)) = force.writes.moments durable later keeps
 moments_touched e f old new outcome durable later disk keeps (inr (inr home)) =
     let none = none_later e old.store durable later home.no_group keeps in
-    subst (λ (l : List FileState). Leaves e f (OpensToFirst durable l)) (sym none) (home.writes.moments durable (subst (λ (l : List FileState). StoreKeeps e old.store durable l) none keeps))
+    subst (λ (l : List FileState). Leaves e f (OpensToEither durable l)) (sym none) (home.writes.moments durable (subst (λ (l : List FileState). StoreKeeps e old.store durable l) none keeps))
 
 -- ---- whether a disk tells
 

@@ -30,7 +30,7 @@ use Rattle.hb_core.specs.Acting.{IsBadWanted, MeetsBadPage, NeedsNumber}
 use Rattle.hb_core.specs.Asking.{AskedBox, HasAskedBox, IsNotAsked, asked_box, box_at, box_of_child, looked_live, wanted_by}
 use Rattle.hb_core.specs.DamageLaws.{IsRefusedOrFails, IsUndamaged, KeptStepIsOne, NoPageIsDamaged, StaysUndamaged}
 use Rattle.hb_core.specs.Fetching.{Brings, IsBadHead, IsBadRead, IsDamaged}
-use Rattle.hb_core.specs.Forcing.{ForcesFirst, StaysSo}
+use Rattle.hb_core.specs.Forcing.{ForcesAll, StaysSo}
 use Rattle.hb_core.specs.Keeps.{HasSoundFile, LatchesFit, WalksInSpace}
 use Rattle.hb_core.specs.KeptMerges.{AtParent, KeepsPair, NamesKnown, merging_at}
 use Rattle.hb_core.specs.Machines.{Files, Machine, current_file, live_here, with_disk}
@@ -244,7 +244,7 @@ module _ (m : Machine) (files : Files) (actor : ℕ) (outcome : Outcome) (new : 
   stays : (said : Outcome) → StaysSo m said outcome new → IsUndamaged m → IsUndamaged new
   stays said (says, is) = same_stop (ap (λ (x : Machine). x.stop) is)
 
-  forces : (said : Outcome) → ForcesFirst m said outcome new → IsUndamaged m → IsUndamaged new
+  forces : (said : Outcome) → ForcesAll m said outcome new → IsUndamaged m → IsUndamaged new
   forces said (inl (says, is)) = same_stop (ap (λ (x : Machine). x.stop) is)
   forces said (inr badly) = λ well. inr (ap (λ (x : Machine). x.stop) badly.1.stops)
 

@@ -21,7 +21,7 @@ use Rattle.hb_core.specs.Acting.{MeetsBadPage}
 use Rattle.hb_core.specs.Asking.{wanted_by}
 use Rattle.hb_core.specs.Fetching.{Brings}
 use Rattle.hb_core.specs.FileLaws.{FilesStaySound, MayBeDoneIn, RowsAreLicensed}
-use Rattle.hb_core.specs.Forcing.{ForcesFirst, StaysSo, forced_files, FailsToWrite}
+use Rattle.hb_core.specs.Forcing.{ForcesAll, StaysSo, forced_files, FailsToWrite}
 use Rattle.hb_core.specs.Keeps.{HasSoundFile}
 use Rattle.hb_core.specs.KeptLines.{LinesFit, MetaWithinLimits}
 use Rattle.hb_core.specs.Machines.{Files, Machine, current_file}
@@ -33,7 +33,7 @@ use Rattle.hb_ops.specs.Operations.{effect_of}
 use Rattle.hb_ops.specs.Sound.{IsSound}
 use Rattle.hb_sound.specs.LawsOfOperations.{OperationsKeepSound}
 use Rattle.hb_store.specs.Calls.{IsAllowedHere}
-use Rattle.hb_store.specs.Keeps.{last_of}
+use Rattle.hb_store.specs.Parts.{last_of}
 use Rattle.hb_store.specs.Making.{HaveFittingParts, MakesGoodPages}
 use Rattle.hb_store.proofs.Facts.ReplayLaws.{last_of-append}
 use Rattle.hb_store.specs.States.{StoreState, in_memory}
@@ -187,7 +187,7 @@ module _ (makes : MakesGoodPages) (parts : HaveFittingParts) (points : HeldArePo
         }),
       )
 
-      forces : (said : Outcome) → ForcesFirst m said outcome new → HoldAfter new
+      forces : (said : Outcome) → ForcesAll m said outcome new → HoldAfter new
       forces said (inl (says, is)) =
           let both = force_holds files.durable files.later m.store.log.groups holds.durable holds.later holds.each in (
             forced_files files,

@@ -15,7 +15,7 @@ use Rattle.hb_core.specs.declared.outcomes.Outcome.{Outcome}
 use Rattle.hb_core.specs.declared.outcomes.Outcome.TheVariants as outcomes
 use Rattle.hb_core.specs.Acting.{Abandons, DoesRow, MeetsBadPage}
 use Rattle.hb_core.specs.Asking.{HasWayFree, wanted_by}
-use Rattle.hb_core.specs.Forcing.{FailsToWrite, FlushesWell, ForcesFirst, StaysSo}
+use Rattle.hb_core.specs.Forcing.{FailsToWrite, FlushesWell, ForcesAll, StaysSo}
 use Rattle.hb_core.specs.KeptMachine.{MachineKeeps}
 use Rattle.hb_core.specs.KeptMerges.{NamesKnown, merging_at}
 use Rattle.hb_core.specs.Machines.{Machine}
@@ -65,7 +65,7 @@ module _ (m : Machine) (actor : ℕ) (outcome : Outcome) (new : Machine) (may : 
   fails_so : {most : ℕ} → FailsToWrite m most outcome new → FitsNow new
   fails_so fails = as_before _ fails.stops (record { tied = tied_again m.store (stopped_state m.store) m.uses (λ id. refl) (λ id. refl) fit.tied; pins = fit.pins })
 
-  forces_so : (said : Outcome) → ForcesFirst m said outcome new → FitsNow new
+  forces_so : (said : Outcome) → ForcesAll m said outcome new → FitsNow new
   forces_so said (inl (says, is)) = as_before _ is (record { tied = tied_again m.store (forced_state m.store) m.uses (λ id. refl) (λ id. refl) fit.tied; pins = fit.pins })
   forces_so said (inr badly) = fails_so badly.1
 

@@ -6,7 +6,7 @@ use Rattle.hb_core.specs.declared.outcomes.Outcome.{Outcome}
 use Rattle.hb_core.specs.declared.outcomes.Outcome.TheVariants as outcomes
 use Rattle.hb_activity.specs.Deeds.{Deed}
 use Rattle.hb_core.proofs.Table.StepKinds.{FlushesMore, each_kind, ready_kind}
-use Rattle.hb_core.specs.Forcing.{FailsToWrite, ForcesFirst, StaysSo}
+use Rattle.hb_core.specs.Forcing.{FailsToWrite, ForcesAll, StaysSo}
 use Rattle.hb_core.specs.KeptFits.{RunsWithStore}
 use Rattle.hb_core.specs.KeptMachine.{MachineKeeps}
 use Rattle.hb_core.specs.Machines.{Machine}
@@ -38,7 +38,7 @@ module _ (m : Machine) (actor : ℕ) (outcome : Outcome) (new : Machine) (runs :
   fails : {most : ℕ} → FailsToWrite m most outcome new → RunsWithStore new
   fails failed = ended _ (ap (λ (n : Machine). n.stop) failed.stops)
 
-  forces : (said : Outcome) → ForcesFirst m said outcome new → RunsWithStore new
+  forces : (said : Outcome) → ForcesAll m said outcome new → RunsWithStore new
   forces said (inl (says, is)) = same (ap (λ (n : Machine). n.stop) is) (ap (λ (n : Machine). n.store.stopped) is)
   forces said (inr badly) = fails badly.1
 

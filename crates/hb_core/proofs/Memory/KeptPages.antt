@@ -17,7 +17,7 @@ use Rattle.hb_core.specs.Acting.{MeetsBadPage}
 use Rattle.hb_core.specs.Asking.{wanted_by}
 use Rattle.hb_core.specs.Fetching.{Brings}
 use Rattle.hb_core.specs.FileLaws.{MetaStaysWithinLimits, PagesStayOfFile}
-use Rattle.hb_core.specs.Forcing.{ForcesFirst, StaysSo, FailsToWrite, FlushesWell}
+use Rattle.hb_core.specs.Forcing.{ForcesAll, StaysSo, FailsToWrite, FlushesWell}
 use Rattle.hb_core.specs.Keeps.{HoldsPagesOfFile, LatchesFit}
 use Rattle.hb_core.specs.KeptLines.{LinesFit, MetaWithinLimits}
 use Rattle.hb_core.specs.Machines.{Machine}
@@ -107,7 +107,7 @@ module _ (makes : MakesGoodPages) (parts : HaveFittingParts) (points : HeldArePo
     flushed_more (none, left, inr fails) = fails_so fails
 
     -- a force changes the log alone
-    forces : (said : Outcome) → ForcesFirst m said outcome new → KeepsPages new.store
+    forces : (said : Outcome) → ForcesAll m said outcome new → KeepsPages new.store
     forces said (inl (says, is)) = subst (λ (n : Machine). KeepsPages n.store) (sym is) (record { limits = keeps.limits; high = keeps.high; live = keeps.live; free = keeps.free; framed = keeps.framed })
     forces said (inr badly) = fails_so badly.1
 

@@ -6,7 +6,7 @@ use Rattle.hb_core.specs.declared.outcomes.Outcome.TheVariants as outcomes
 use Rattle.hb_activity.specs.Deeds.{Deed}
 use Rattle.hb_core.proofs.Table.StepKinds.{each_kind, FlushesMore, ready_kind, plain_is_quiet}
 use Rattle.hb_core.specs.Acting.{MeetsBadPage}
-use Rattle.hb_core.specs.Forcing.{ForcesFirst, StaysSo, HasMoreToFlush}
+use Rattle.hb_core.specs.Forcing.{ForcesAll, StaysSo, HasMoreToFlush}
 use Rattle.hb_core.specs.Laws.{AnswersAreTimed, ClockMoves}
 use Rattle.hb_core.specs.Machines.{Machine}
 use Rattle.hb_core.specs.Performing.{Performs, given_by}
@@ -44,7 +44,7 @@ module _ (m : Machine) (actor : ℕ) (outcome : Outcome) (new : Machine) where
       waits : (first : Waiting) (rest : List Waiting) → first ∷ rest ≡ [] → ⊥
       waits first rest is = cc
 
-  forced : (said : Outcome) → given_by said new.clock ≡ [] → ForcesFirst m said outcome new → Times m outcome new
+  forced : (said : Outcome) → given_by said new.clock ≡ [] → ForcesAll m said outcome new → Times m outcome new
   forced said none (inl well) = record {
     clock = forces_well m.store.log.groups refl (ap (λ (n : Machine). n.clock) well.1);
     answered = nothing_given m new outcome said well.0 none (ap (λ (n : Machine). n.answered) well.1);

@@ -20,7 +20,7 @@ use Rattle.hb_core.proofs.Table.Targets.{IsNumber, numbers_are_targets, set_else
 use Rattle.hb_core.specs.Acting.{MayNeed, NeedsNumber, takes_number}
 use Rattle.hb_core.specs.Asking.{wanted_by}
 use Rattle.hb_core.specs.Fetching.{Brings, IsFreeHead, IsWantedPage}
-use Rattle.hb_core.specs.Forcing.{ForcesFirst, StaysSo, FailsToWrite}
+use Rattle.hb_core.specs.Forcing.{ForcesAll, StaysSo, FailsToWrite}
 use Rattle.hb_core.specs.Machines.{Machine, sight, with_disk}
 use Rattle.hb_core.specs.NeedLaws.{IsNextNumber, IsToBeMade, MayMakePage, NeedsPage, PagesComeByNeed}
 use Rattle.hb_core.specs.Performing.{MayDo}
@@ -245,7 +245,7 @@ module _ (m : Machine) (actor : ℕ) (new : Machine) (id : ℕ) (was : in_memory
   flushed_more outcome (none, left, inl (due, quiet, well)) = came_not (ap (λ (n : Machine). in_memory n.store id) well.leaves)
   flushed_more outcome (none, left, inr fails) = failed fails
 
-  forced : {A : Type 0} (said outcome : Outcome) → ForcesFirst m said outcome new → A
+  forced : {A : Type 0} (said outcome : Outcome) → ForcesAll m said outcome new → A
   forced said outcome (inl (says, is)) = came_not (ap (λ (n : Machine). in_memory n.store id) is)
   forced said outcome (inr badly) = failed badly.1
 

@@ -20,7 +20,7 @@ use Rattle.hb_core.proofs.Table.StepKinds.{IsOutright, each_kind, FlushesMore, r
 use Rattle.hb_core.proofs.Table.Targets.{IsNumber, numbers_are_targets, set_elsewhere}
 use Rattle.hb_core.specs.Asking.{wanted_by}
 use Rattle.hb_core.specs.Fetching.{Brings, MustStay}
-use Rattle.hb_core.specs.Forcing.{ForcesFirst, StaysSo, FailsToWrite, FlushesWell}
+use Rattle.hb_core.specs.Forcing.{ForcesAll, StaysSo, FailsToWrite, FlushesWell}
 use Rattle.hb_core.specs.GivingUp.{gives_up, runs_out}
 use Rattle.hb_core.specs.Keeps.{HoldsPagesOfFile, LatchesFit}
 use Rattle.hb_core.specs.Laws.{HasAlone, HeldPagesStay, IsInUse, OwnPagesChange, TakesAlone, MayHaveLeft}
@@ -110,7 +110,7 @@ module _ (m : Machine) (actor : ℕ) (latches : IsActor actor) (fit : LatchesFit
   flushed_more outcome (none, left, inl (due, quiet, well)) = flushes well
   flushed_more outcome (none, left, inr fails) = failed fails
 
-  forced : (said outcome : Outcome) → ForcesFirst m said outcome new → Goal
+  forced : (said outcome : Outcome) → ForcesAll m said outcome new → Goal
   forced said outcome (inl (says, is)) = inl (ap (λ (n : Machine). in_memory n.store id) is ∙ used)
   forced said outcome (inr badly) = failed badly.1
 

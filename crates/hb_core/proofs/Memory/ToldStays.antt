@@ -4,7 +4,7 @@ use Rattle.hb_ops.specs.declared.operations.Op.{Op}
 use Rattle.hb_core.specs.declared.outcomes.Outcome.{Outcome}
 use Rattle.hb_core.specs.declared.outcomes.Outcome.TheVariants as outcomes
 use Rattle.hb_core.proofs.Table.StepKinds.{each_kind, FlushesMore, ready_kind}
-use Rattle.hb_core.specs.Forcing.{ForcesFirst, StaysSo, forced_files}
+use Rattle.hb_core.specs.Forcing.{ForcesAll, StaysSo, forced_files}
 use Rattle.hb_core.specs.Machines.{Files, Machine}
 use Rattle.hb_core.specs.Performing.{files_after, with_effect}
 use Rattle.hb_core.specs.Steps.{StepsTo, Works}
@@ -20,7 +20,7 @@ module _ (m : Machine) (files : Files) (told : m.files ≡ Some files) (actor : 
   told_stays : (said : Outcome) → StaysSo m said outcome new → IsTold new
   told_stays said so = (files, ap (λ (x : Machine). x.files) so.1 ∙ told)
 
-  told_forced : (said : Outcome) → ForcesFirst m said outcome new → IsTold new
+  told_forced : (said : Outcome) → ForcesAll m said outcome new → IsTold new
   told_forced said (inl well) = (forced_files files, ap (λ (x : Machine). x.files) well.1 ∙ ap (option_map forced_files) told)
   told_forced said (inr badly) = (files, ap (λ (x : Machine). x.files) badly.1.stops ∙ told)
 

@@ -11,7 +11,7 @@ use Rattle.hb_ops.specs.Files.{FileState}
 use Rattle.hb_ops.specs.Sound.{IsSound}
 use Rattle.hb_set.specs.Machine.{RecordSet}
 use Rattle.hb_sound.specs.PointWalks.{IsPointOf}
-use Rattle.hb_store.specs.Keeps.{OpensToFirst}
+use Rattle.hb_store.specs.Keeps.{OpensToEither}
 use Rattle.hb_store.specs.Opening.{OpensTo}
 
 module _ (n : RecordSet) (m : Machine) (bytes : List ℕ) where
@@ -20,7 +20,7 @@ module _ (n : RecordSet) (m : Machine) (bytes : List ℕ) where
   opens_to s opens sound pages (count, enough, after) = record { s = s; opens = opens; sound = sound; pages = pages; count = count; enough = enough; after = after }
 
   opens_to_first : (durable : FileState) (later : List FileState) → ((s : FileState) → Contains (durable ∷ later) s → (p : List ℕ) → IsPointOf s p → HasOnePage s p) → IsSound durable → All IsSound later
-      → IsAfterLonger n m durable → All (IsAfterLonger n m) later → OpensToFirst durable later bytes → ImageHasPrefix n m bytes
+      → IsAfterLonger n m durable → All (IsAfterLonger n m) later → OpensToEither durable later bytes → ImageHasPrefix n m bytes
   opens_to_first durable [] pages sound sounds after afters opens = opens_to durable opens sound (pages durable (zero, omega arith, refl)) after
   opens_to_first durable (next ∷ later) pages sound sounds after afters (inl opens) = opens_to durable opens sound (pages durable (zero, omega arith, refl)) after
   opens_to_first durable (next ∷ later) pages sound sounds after afters (inr opens) =

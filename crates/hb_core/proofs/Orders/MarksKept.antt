@@ -8,7 +8,7 @@ use Rattle.hb_core.specs.declared.outcomes.Outcome.TheVariants as outcomes
 use Rattle.hb_activity.specs.Deeds.{Deed}
 use Rattle.hb_core.proofs.Orders.PendingKept.{IsBelow, rising_one_more, rising_rest}
 use Rattle.hb_core.proofs.Table.StepKinds.{FlushesMore, each_kind, ready_kind}
-use Rattle.hb_core.specs.Forcing.{FailsToWrite, ForcesFirst, StaysSo}
+use Rattle.hb_core.specs.Forcing.{FailsToWrite, ForcesAll, StaysSo}
 use Rattle.hb_core.specs.KeptMachine.{MachineKeeps}
 use Rattle.hb_core.specs.KeptPlaces.{MarksRise}
 use Rattle.hb_core.specs.Machines.{Machine, if_some}
@@ -62,7 +62,7 @@ module _ (m : Machine) (actor : ℕ) (outcome : Outcome) (new : Machine) (marks 
   fails : {most : ℕ} → FailsToWrite m most outcome new → MarksRise new
   fails failed = same (ap (λ (n : Machine). n.order) failed.stops) (ap (λ (n : Machine). n.store.log.groups) failed.stops)
 
-  forces : (said : Outcome) → ForcesFirst m said outcome new → MarksRise new
+  forces : (said : Outcome) → ForcesAll m said outcome new → MarksRise new
   forces said (inl (says, is)) =
       rise_as m.order (left_waiting m.store.log.groups) (ap (λ (n : Machine). n.order) is) (ap (λ (n : Machine). n.store.log.groups) is) (rising_rest m.store.log.groups marks.rising) (inside_rest (length m.order) m.store.log.groups marks.inside)
   forces said (inr badly) = fails badly.1

@@ -18,7 +18,7 @@ use Rattle.hb_core.proofs.Table.StepKinds.{each_kind, FlushesMore, ready_kind}
 use Rattle.hb_core.proofs.Memory.ToldStays.{still_told}
 use Rattle.hb_core.proofs.Table.Ways.{order_grows}
 use Rattle.hb_core.specs.Acting.{MeetsBadPage}
-use Rattle.hb_core.specs.Forcing.{ForcesFirst, StaysSo, forced_files}
+use Rattle.hb_core.specs.Forcing.{ForcesAll, StaysSo, forced_files}
 use Rattle.hb_core.specs.KeepingLaws.{IsAnsweredInPlace, PrefixStaysPending, SettledStaysSettled}
 use Rattle.hb_core.specs.Keeps.{HasSoundFile}
 use Rattle.hb_core.specs.KeptOrder.{FollowMarks, HasLegalOrder, HasPendingPrefix, StandsInOrder}
@@ -31,7 +31,7 @@ use Rattle.hb_set.specs.Machine.{RecordSet}
 use Rattle.hb_set.specs.Order.{Entry, IsLegalOrder, result_of}
 use Rattle.hb_store.specs.Forced.{durable_after, later_after}
 use Rattle.hb_store.specs.Making.{group_here}
-use Rattle.hb_store.specs.Keeps.{last_of}
+use Rattle.hb_store.specs.Parts.{last_of}
 use Rattle.hb_store.specs.States.{StoreState}
 use Rattle.hb_wal.specs.Log.{LogState, Waiting, left_waiting, mark_of}
 
@@ -160,7 +160,7 @@ module _ (n : RecordSet) (m : Machine) (files : Files) (new : Machine) (files' :
     stayed : (said : Outcome) → StaysSo m said outcome new → KeepsMarks n m new files'
     stayed said so = same (ap (λ (x : Machine). x.order) so.1) (ap (λ (x : Machine). x.store.log.groups) so.1) (ap (λ (x : Machine). x.files) so.1)
 
-    forced_first : (said : Outcome) → ForcesFirst m said outcome new → KeepsMarks n m new files'
+    forced_first : (said : Outcome) → ForcesAll m said outcome new → KeepsMarks n m new files'
     forced_first said (inl well) = forced (ap (λ (x : Machine). x.order) well.1) (ap (λ (x : Machine). x.store.log.groups) well.1) (ap (λ (x : Machine). x.files) well.1)
     forced_first said (inr badly) = same (ap (λ (x : Machine). x.order) badly.1.stops) (ap (λ (x : Machine). x.store.log.groups) badly.1.stops) (ap (λ (x : Machine). x.files) badly.1.stops)
 

@@ -10,7 +10,7 @@ use Rattle.hb_core.specs.Machines.{settled_count}
 use Rattle.hb_ops.specs.Files.{FileState, contents_of}
 use Rattle.hb_set.specs.Machine.{RecordSet}
 use Rattle.hb_set.specs.Order.{Entry, result_of}
-use Rattle.hb_store.specs.Keeps.{last_of}
+use Rattle.hb_store.specs.Parts.{last_of}
 use Rattle.hb_wal.specs.Log.{Waiting, mark_of}
 
 -- a file has the set after so many entries

@@ -23,7 +23,7 @@ use Rattle.hb_core.proofs.Table.StepKinds.{each_step, FlushesMore, ready_kind}
 use Rattle.hb_core.specs.Acting.{MeetsBadPage}
 use Rattle.hb_core.specs.Asking.{wanted_by}
 use Rattle.hb_core.specs.ContentsLaws.{ChangesAt, ContentsFollowOrder, ContentsStep, PointsStay, contents_now}
-use Rattle.hb_core.specs.Forcing.{ForcesFirst, StaysSo, forced_files}
+use Rattle.hb_core.specs.Forcing.{ForcesAll, StaysSo, forced_files}
 use Rattle.hb_core.specs.KeptLines.{LinesFit}
 use Rattle.hb_core.specs.Machines.{Files, Machine, current_file, if_some}
 use Rattle.hb_core.specs.Performing.{MayDo, Performs, files_after, with_effect}
@@ -36,7 +36,7 @@ use Rattle.hb_set.specs.Order.{Entry}
 use Rattle.hb_sound.specs.Laws.{LackIsContents, StandingIsContents}
 use Rattle.hb_sound.specs.LawsOfOperations.{ContentsBecome, OperationsKeepContents}
 use Rattle.hb_space.specs.Points.{point_cmp}
-use Rattle.hb_store.specs.Keeps.{last_of}
+use Rattle.hb_store.specs.Parts.{last_of}
 use Rattle.hb_store.specs.Making.{HaveFittingParts, MakesGoodPages}
 use Rattle.hb_store.proofs.Facts.ReplayLaws.{last_of-append}
 use Rattle.hb_store.specs.States.{StoreState}
@@ -66,7 +66,7 @@ module _ (makes : MakesGoodPages) (parts : HaveFittingParts) (points : HeldArePo
   stays : (said : Outcome) → StaysSo m said outcome new → Follows
   stays said (says, is) = unmoved files (ap (λ (n : Machine). n.files) is ∙ told) (ap (λ (n : Machine). n.order) is) refl
 
-  forces : (said : Outcome) → ForcesFirst m said outcome new → Follows
+  forces : (said : Outcome) → ForcesAll m said outcome new → Follows
   forces said (inl (says, is)) = unmoved (forced_files files) (ap (λ (n : Machine). n.files) is ∙ ap (option_map forced_files) told) (ap (λ (n : Machine). n.order) is) (last_forced files.durable files.later)
   forces said (inr badly) = unmoved files (ap (λ (n : Machine). n.files) badly.1.stops ∙ told) (ap (λ (n : Machine). n.order) badly.1.stops) refl
 

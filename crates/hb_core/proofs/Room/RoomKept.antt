@@ -30,7 +30,7 @@ use Rattle.hb_core.proofs.Memory.StillThere.{may_or_not, other_holds, own_next}
 use Rattle.hb_core.proofs.Table.Ways.{KeepsAllButDisk, forces_so, meets_so, stays_so, more_so}
 use Rattle.hb_core.specs.Acting.{MeetsBadPage}
 use Rattle.hb_core.specs.Fetching.{Brings, MustStay}
-use Rattle.hb_core.specs.Forcing.{ForcesFirst, StaysSo}
+use Rattle.hb_core.specs.Forcing.{ForcesAll, StaysSo}
 use Rattle.hb_core.specs.KeepingLaws.{RoomStaysKnown}
 use Rattle.hb_core.specs.KeptLines.{MetaWithinLimits}
 use Rattle.hb_core.specs.Keeps.{HasNobodyElse, HasRoomFor, HoldsPagesOfFile, KnowsRoom, LacksRoomFor, LatchesFit, OneHasRoom}
@@ -84,7 +84,7 @@ module _ (m : Machine) (actor : ℕ) (outcome : Outcome) (new : Machine) where
   by_rest : (said : Outcome) → StaysSo m said outcome new → SameCapacity m new
   by_rest said so = ap (λ (x : Machine). x.store.meta.dcap) so.1
 
-  by_force : (said : Outcome) → ForcesFirst m said outcome new → SameCapacity m new
+  by_force : (said : Outcome) → ForcesAll m said outcome new → SameCapacity m new
   by_force said (inl well) = ap (λ (x : Machine). x.store.meta.dcap) well.1
   by_force said (inr badly) = ap (λ (x : Machine). x.store.meta.dcap) badly.1.stops
 

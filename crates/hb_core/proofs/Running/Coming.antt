@@ -28,7 +28,8 @@ use Rattle.hb_activity.specs.Wanting.{child_of, in_mode, named_child, named_page
 use Rattle.hb_consol.specs.ConsolidatorRows.{names_child}
 use Rattle.hb_store.specs.Calls.{Fetched, StaysHere, use_fetched}
 use Rattle.hb_store.specs.Fetching.{Breaks, FetchesNot, IsCrowdedOut, IsNoPage, LooksUp}
-use Rattle.hb_store.specs.Keeps.{StoreKeeps, last_of}
+use Rattle.hb_store.specs.Keeps.{StoreKeeps}
+use Rattle.hb_store.specs.Parts.{last_of}
 use Rattle.hb_store.specs.States.{IsMemory, StoreState, in_memory}
 use Rattle.hb_store.specs.declared.stops.FetchStop.{FetchStop}
 use Rattle.hb_store.specs.declared.stops.FetchStop.TheVariants as fetches

@@ -26,7 +26,8 @@ use Rattle.hb_activity.specs.Walks.{may_change}
 use Rattle.hb_activity.proofs.Facts.AllowedDeeds.{kind_at}
 use Rattle.hb_lemmas.proofs.Options.{at_value}
 use Rattle.hb_store.specs.Calls.{HasFrameFor, HasPlaces, IsReady}
-use Rattle.hb_store.specs.Keeps.{StoreKeeps, last_of}
+use Rattle.hb_store.specs.Keeps.{StoreKeeps}
+use Rattle.hb_store.specs.Parts.{last_of}
 use Rattle.hb_store.specs.States.{StoreState}
 use Rattle.hb_space.specs.declared.form.TheConstants.{GROUP, PENDING}
 use Rattle.hb_wal.specs.Log.{LogState, Waiting, pending_bytes, room_of}

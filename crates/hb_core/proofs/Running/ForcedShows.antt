@@ -4,7 +4,7 @@ use Rattle.std.specs.Option.{option_map}
 use Rattle.hb_disk.specs.Model.{DiskModel}
 use Rattle.hb_lemmas.proofs.Options.{not_none, some_value}
 use Rattle.hb_ops.specs.Files.{FileState}
-use Rattle.hb_store.specs.Forced.{MayWriteOldest, WritesOldest, durable_after, forced_state, later_after, stopped_state}
+use Rattle.hb_store.specs.Forced.{MayWriteGroups, WritesGroups, durable_after, forced_state, later_after, stopped_state}
 use Rattle.hb_store.specs.Keeps.{StoreKeeps}
 use Rattle.hb_store.specs.States.{StoreState}
 use Rattle.hb_store.specs.declared.stops.StopWhy.{StopWhy}
@@ -14,7 +14,7 @@ use Rattle.hb_wal.specs.Forces.{calls_of_force}
 use Rattle.hb_wal.specs.Log.{Waiting}
 use Rattle.hb_core.specs.declared.outcomes.Outcome.{Outcome}
 use Rattle.hb_core.specs.declared.outcomes.Outcome.TheVariants as outcomes
-use Rattle.hb_core.specs.Forcing.{FailsToWrite, ForcesFirst, forced_files}
+use Rattle.hb_core.specs.Forcing.{FailsToWrite, ForcesAll, forced_files}
 use Rattle.hb_core.specs.Machines.{Files, Machine, stopped_for, with_disk, with_uses}
 use Rattle.hb_core.specs.Moving.{with_order_of_use, with_stop, with_store}
 use Rattle.hb_disk.specs.Calls.{Becomes}
@@ -47,7 +47,7 @@ waits_or_not (first ∷ rest) = inr (λ never. cc)
 
 -- ---- the store may write
 
-pub may_write : (d : DiskModel) (c : RunningCore) (m : Machine) → MayStep d c m → m.stop ≡ None → MayWriteOldest d c.store
+pub may_write : (d : DiskModel) (c : RunningCore) (m : Machine) → MayStep d c m → m.stop ≡ None → MayWriteGroups d c.store
 may_write d c m may runs = record {
   running = subst (λ (s : StoreState). s.stopped ≡ false) may.shows.store (may.goes_on.kept.runs runs);
   kept = λ told. let had = may.shows.tells told in (had.files.durable, had.files.later, subst (λ (s : StoreState). StoreKeeps d s had.files.durable had.files.later) may.shows.store had.kept);
@@ -115,7 +115,7 @@ module _ (d e : DiskModel) (c : RunningCore) (st : StoreState) (uses : List Use)
 
   -- ---- a force that is done, which leaves the order of use
 
-  module _ {T : Type 0} (v : T) (writes : WritesOldest (Ok v) d e c.store st) (same_use : uses ≡ c.uses) where
+  module _ {T : Type 0} (v : T) (writes : WritesGroups (Ok v) d e c.store st) (same_use : uses ≡ c.uses) where
     was_told : IsSome e.told → IsSome d.told
     was_told told = told_before d.told e.told writes.wrote.became.silent told
 
@@ -136,7 +136,7 @@ module _ (d e : DiskModel) (c : RunningCore) (st : StoreState) (uses : List Use)
     forced_shown = shown_with d e c st uses m shows (forced_state m.store) m.uses (option_map forced_files m.files) (m.clock + calls_of_force m.store.log.groups) same (shows.uses ∙ sym same_use) tells_then
         (λ none. ap (option_map forced_files) (shows.silent (silent_before _ d.told e.told writes.wrote.became.told none)))
 
-    pub forces : (done : Outcome) → (new : Machine) × ForcesFirst m done done new × ShowsMachine e (with_held st uses c) new
+    pub forces : (done : Outcome) → (new : Machine) × ForcesAll m done done new × ShowsMachine e (with_held st uses c) new
     forces done = (forced m, inl (refl, refl), forced_shown)
 
   -- ---- a call that failed
@@ -170,7 +170,7 @@ module _ (d e : DiskModel) (c : RunningCore) (st : StoreState) (uses : List Use)
     ]
 
   -- so a force that failed
-  module _ {T : Type 0} (fault : WriteFault) (writes : WritesOldest {T = T} (Err fault) d e c.store st) (same_use : uses ≡ c.uses) where
+  module _ {T : Type 0} (fault : WriteFault) (writes : WritesGroups {T = T} (Err fault) d e c.store st) (same_use : uses ≡ c.uses) where
     pub group_waits : m.store.log.groups ≢ []
     group_waits none = no_ok (writes.nothing (sym (ap (λ (s : StoreState). s.log.groups) shows.store) ∙ none)).0
       where

@@ -8,7 +8,7 @@ use Rattle.hb_disk.specs.Model.{DiskModel}
 use Rattle.hb_lemmas.proofs.Options.{not_none, some_value}
 use Rattle.hb_pool.specs.Frames.{Use}
 use Rattle.hb_space.specs.Actors.{IsActor}
-use Rattle.hb_store.specs.Forced.{WritesOldest}
+use Rattle.hb_store.specs.Forced.{WritesGroups}
 use Rattle.hb_store.specs.Held.{StoreHeld, oldest_dirty}
 use Rattle.hb_store.specs.States.{StoreState}
 use Rattle.hb_store.specs.WritingHome.{FlushesHome}
@@ -42,7 +42,7 @@ module _ {D : Type 0} (model : D → DiskModel) (x y : D) (c : RunningCore) (m :
   none_waits : c.store.log.groups ≡ [] → m.store.log.groups ≡ []
   none_waits none = ap (λ (s : StoreState). s.log.groups) step.shows.store ∙ none
 
-  pub ready_forced : {T : Type 0} (v : T) → c.store.log.groups ≢ [] → WritesOldest (Ok v) (model x) (model y) c.store st × (uses ≡ c.uses) → (new : Machine) × GetsReady m actor outcomes.Helped new × ShowsMachine (model y) (with_held st uses c) new
+  pub ready_forced : {T : Type 0} (v : T) → c.store.log.groups ≢ [] → WritesGroups (Ok v) (model x) (model y) c.store st × (uses ≡ c.uses) → (new : Machine) × GetsReady m actor outcomes.Helped new × ShowsMachine (model y) (with_held st uses c) new
   ready_forced v some writes =
       let forced = forces (model x) (model y) c st uses m step.shows v writes.0 writes.1 outcomes.Helped in
       (forced.0, inl (some_waits some, forced.1), forced.2)
@@ -60,7 +60,7 @@ module _ {D : Type 0} (model : D → DiskModel) (x y : D) (c : RunningCore) (m :
       subst (λ (k : D). ShowsMachine (model k) after new) (sym same) (subst (λ (s : RunningCore). ShowsMachine (model y) s new) (sym then) shows),
     )
 
-    pub ready_failed : {T : Type 0} (fault : WriteFault) → (c.store.log.groups ≢ [] → WritesOldest {T = T} (Err fault) (model x) (model y) c.store st × (uses ≡ c.uses)) → (c.store.log.groups ≡ [] → FlushesHome {T = T} (Err fault) (model x) (model y) (held_in c) now)
+    pub ready_failed : {T : Type 0} (fault : WriteFault) → (c.store.log.groups ≢ [] → WritesGroups {T = T} (Err fault) (model x) (model y) c.store st × (uses ≡ c.uses)) → (c.store.log.groups ≡ [] → FlushesHome {T = T} (Err fault) (model x) (model y) (held_in c) now)
         → (new : Machine) × GetsReady m actor outcome new × ShowsMachine (model z) after new
     ready_failed fault forced cleaned = elim (waits_or_not c.store.log.groups) [
       | inr some ↦

@@ -10,7 +10,7 @@ use Rattle.hb_disk.proofs.Facts.RewriteLaws.{Rewrites-as}
 use Rattle.hb_set.specs.declared.commands.Reply.{Reply}
 use Rattle.hb_set.specs.declared.commands.Reply.TheVariants as replies
 use Rattle.hb_pool.specs.Frames.{Use}
-use Rattle.hb_store.specs.Forced.{WritesOldest}
+use Rattle.hb_store.specs.Forced.{WritesGroups}
 use Rattle.hb_store.specs.Held.{StoreHeld, oldest_dirty}
 use Rattle.hb_store.specs.WritingHome.{FlushesHome, WritesHome}
 use Rattle.hb_store.specs.States.{StoreState}
@@ -84,7 +84,7 @@ kept_well d c m actor number place reply step is =
     answered_well number reply (λ (fault : reply ≡ replies.ReadFault). step.goes_on.kept.replies_stand.inside actor number place reply is (subst StandsOutside (sym fault) tt))
 
 -- the same force, of which something else came
-as_unit : {T : Type 0} (v : T) (d e : DiskModel) (old new : StoreState) → WritesOldest (Ok v) d e old new → WritesOldest {T = Unit {0}} (Ok tt) d e old new
+as_unit : {T : Type 0} (v : T) (d e : DiskModel) (old new : StoreState) → WritesGroups (Ok v) d e old new → WritesGroups {T = Unit {0}} (Ok tt) d e old new
 as_unit v d e old new writes = record {
   nothing = λ none. (refl, (writes.nothing none).1);
   forced = writes.forced;
@@ -96,7 +96,7 @@ as_unit v d e old new writes = record {
   clock = writes.clock;
 }
 
-as_failed : {T : Type 0} (fault : WriteFault) (d e : DiskModel) (old new : StoreState) → WritesOldest {T = T} (Err fault) d e old new → WritesOldest {T = Unit {0}} (Err fault) d e old new
+as_failed : {T : Type 0} (fault : WriteFault) (d e : DiskModel) (old new : StoreState) → WritesGroups {T = T} (Err fault) d e old new → WritesGroups {T = Unit {0}} (Err fault) d e old new
 as_failed {T = T} fault d e old new writes = record {
   nothing = λ none. (absurd (never (writes.nothing none).0), (writes.nothing none).1);
   forced = tt;
@@ -146,7 +146,7 @@ module _ {D : Type 0} (model : D → DiskModel) (x y : D) (c after : RunningCore
       same_stop : (a b : StopWhy) → outcomes.Stopped a ≡ outcomes.Stopped b → a ≡ b
       same_stop a b equal = cc
 
-  pub touched_forced : {T : Type 0} (v : T) → IsWell outcome → WritesOldest (Ok v) (model x) (model y) c.store after.store → Touches (model x) c outcome (model y) after
+  pub touched_forced : {T : Type 0} (v : T) → IsWell outcome → WritesGroups (Ok v) (model x) (model y) c.store after.store → Touches (model x) c outcome (model y) after
   touched_forced v well writes = inr (inl (record {
     result = Ok tt;
     writes = as_unit v (model x) (model y) c.store after.store writes;
@@ -154,7 +154,7 @@ module _ {D : Type 0} (model : D → DiskModel) (x y : D) (c after : RunningCore
     no_read = well.no_read;
   }))
 
-  pub touched_failed : {T : Type 0} (fault : WriteFault) → outcome ≡ outcomes.Stopped stops.WriteFault → WritesOldest {T = T} (Err fault) (model x) (model y) c.store after.store → Touches (model x) c outcome (model y) after
+  pub touched_failed : {T : Type 0} (fault : WriteFault) → outcome ≡ outcomes.Stopped stops.WriteFault → WritesGroups {T = T} (Err fault) (model x) (model y) c.store after.store → Touches (model x) c outcome (model y) after
   touched_failed fault says writes = inr (inl (record {
     result = Err fault;
     writes = as_failed fault (model x) (model y) c.store after.store writes;
@@ -192,11 +192,11 @@ module _ {D : Type 0} (model : D → DiskModel) (x y : D) (c : RunningCore) (st 
   now = record { state = st; uses = uses }
 
   -- a force that failed, and a core that is stopped then
-  pub failed_then : (z : D) (after : RunningCore) (outcome : Outcome) {T : Type 0} (fault : WriteFault) → WritesOldest {T = T} (Err fault) (model x) (model y) c.store st
+  pub failed_then : (z : D) (after : RunningCore) (outcome : Outcome) {T : Type 0} (fault : WriteFault) → WritesGroups {T = T} (Err fault) (model x) (model y) c.store st
       → outcome ≡ outcomes.Stopped stops.WriteFault → after ≡ with_stop stops.WriteFault (with_held st uses c) → z ≡ y → Touches (model x) c outcome (model z) after
   failed_then z after outcome {T = T} fault writes says then same =
       subst (λ (k : D). Touches (model x) c outcome (model k) after) (sym same)
-      (touched_failed model x y c after outcome fault says (subst (λ (s : StoreState). WritesOldest {T = T} (Err fault) (model x) (model y) c.store s) (sym (ap (λ (s : RunningCore). s.store) then)) writes))
+      (touched_failed model x y c after outcome fault says (subst (λ (s : StoreState). WritesGroups {T = T} (Err fault) (model x) (model y) c.store s) (sym (ap (λ (s : RunningCore). s.store) then)) writes))
 
   home_failed_then : (z : D) (after : RunningCore) (outcome : Outcome) {T : Type 0} (fault : WriteFault) (id : ℕ) → (c.store.log.groups ≡ []) × (oldest_dirty c.uses ≡ Some id) → WritesHome {T = T} (Err fault) id (model x) (model y) (held_in c) now
       → outcome ≡ outcomes.Stopped stops.WriteFault → after ≡ with_stop stops.WriteFault (with_held st uses c) → z ≡ y → Touches (model x) c outcome (model z) after
@@ -205,7 +205,7 @@ module _ {D : Type 0} (model : D → DiskModel) (x y : D) (c : RunningCore) (st 
       (touched_home_failed model x y c after outcome fault id says which (subst (λ (h : StoreHeld). WritesHome {T = T} (Err fault) id (model x) (model y) (held_in c) h) (sym (ap held_in then)) writes))
 
   -- whichever of the two failed
-  pub flush_failed_then : (z : D) (after : RunningCore) (outcome : Outcome) {T : Type 0} (fault : WriteFault) → (c.store.log.groups ≢ [] → WritesOldest {T = T} (Err fault) (model x) (model y) c.store st × (uses ≡ c.uses))
+  pub flush_failed_then : (z : D) (after : RunningCore) (outcome : Outcome) {T : Type 0} (fault : WriteFault) → (c.store.log.groups ≢ [] → WritesGroups {T = T} (Err fault) (model x) (model y) c.store st × (uses ≡ c.uses))
       → (c.store.log.groups ≡ [] → FlushesHome {T = T} (Err fault) (model x) (model y) (held_in c) now)
       → outcome ≡ outcomes.Stopped stops.WriteFault → after ≡ with_stop stops.WriteFault (with_held st uses c) → z ≡ y → Touches (model x) c outcome (model z) after
   flush_failed_then z after outcome fault forced cleaned says then same = elim (waits_or_not c.store.log.groups) [

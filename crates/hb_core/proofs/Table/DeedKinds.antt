@@ -14,7 +14,7 @@ use Rattle.hb_core.proofs.Table.GivenUp.{given_up_is, idle_hand, run_out_is}
 use Rattle.hb_core.proofs.Table.StepKinds.{each_step, FlushesMore, ready_kind}
 use Rattle.hb_core.proofs.Table.Ways.{KeepsAllButDisk, forces_so, meets_so, more_so, stays_so}
 use Rattle.hb_core.specs.Acting.{DoesRow}
-use Rattle.hb_core.specs.Forcing.{ForcesFirst, StaysSo}
+use Rattle.hb_core.specs.Forcing.{ForcesAll, StaysSo}
 use Rattle.hb_core.specs.GivingUp.{gives_up, runs_out}
 use Rattle.hb_core.specs.Machines.{Machine, with_activity}
 use Rattle.hb_core.specs.Performing.{Performs}
@@ -73,7 +73,7 @@ module _ (m : Machine) (actor : ℕ) (outcome : Outcome) (new : Machine) (G : Ty
   stays : (said : Outcome) → StaysSo m said outcome new → G
   stays said so = shows.keeps (stays_so m actor outcome new said so) (ap (λ (n : Machine). n.store.meta) so.1)
 
-  forced_meta : (said : Outcome) → ForcesFirst m said outcome new → new.store.meta ≡ m.store.meta
+  forced_meta : (said : Outcome) → ForcesAll m said outcome new → new.store.meta ≡ m.store.meta
   forced_meta said (inl (says, is)) = ap (λ (n : Machine). n.store.meta) is
   forced_meta said (inr badly) = ap (λ (n : Machine). n.store.meta) badly.1.stops
 
@@ -81,7 +81,7 @@ module _ (m : Machine) (actor : ℕ) (outcome : Outcome) (new : Machine) (G : Ty
   more_meta (none, left, inl (due, quiet, well)) = ap (λ (n : Machine). n.store.meta) well.leaves
   more_meta (none, left, inr fails) = ap (λ (n : Machine). n.store.meta) fails.stops
 
-  forces : (said : Outcome) → ForcesFirst m said outcome new → G
+  forces : (said : Outcome) → ForcesAll m said outcome new → G
   forces said force = shows.keeps (forces_so m actor outcome new said force) (forced_meta said force)
 
   more : FlushesMore m outcome new → G

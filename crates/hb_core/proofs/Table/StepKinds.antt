@@ -14,7 +14,7 @@ use Rattle.hb_core.specs.declared.outcomes.Outcome.TheVariants as outcomes
 use Rattle.hb_activity.specs.Deeds.{Deed, answers_now}
 use Rattle.hb_activity.specs.Walks.{walk_held}
 use Rattle.hb_consol.specs.ConsolidatorRows.{IsMergingOf}
-use Rattle.hb_core.specs.Forcing.{Flushes, ForcesFirst, StaysSo, FailsToWrite, FlushesRest, FlushesWell, HasMoreToFlush}
+use Rattle.hb_core.specs.Forcing.{Flushes, ForcesAll, StaysSo, FailsToWrite, FlushesRest, FlushesWell, HasMoreToFlush}
 use Rattle.hb_core.specs.GivingUp.{runs_out}
 use Rattle.hb_core.specs.KeptMerges.{merging_at}
 use Rattle.hb_core.specs.Machines.{Machine, settled_count}
@@ -92,7 +92,7 @@ merging_takes_nothing deed job height none (inr (below, is)) = rests deed none (
 -- come.
 pub record ShowsEachSo (m : Machine) (actor : ℕ) (outcome : Outcome) (new : Machine) (G : Type 0) : Type 0 where
   pub stays : (said : Outcome) → IsPlain said → StaysSo m said outcome new → G
-  pub forces : (said : Outcome) → IsPlain said → ForcesFirst m said outcome new → G
+  pub forces : (said : Outcome) → IsPlain said → ForcesAll m said outcome new → G
   pub more : FlushesMore m outcome new → G
   pub takes : (line : Line) → m.activity actor ≡ at.SessionIdle → next_line actor m.answered m.lines ≡ Some line → PerformsAsItIs m actor (taking line) outcome new → G
   pub refuses : (line : Line) → m.activity actor ≡ at.SessionIdle → next_line actor m.answered m.lines ≡ Some line → WantsBoxes line.command → PerformsAsItIs m actor (answers_now line.number replies.NoMemory) outcome new → G
@@ -147,7 +147,7 @@ module _ (m : Machine) (actor : ℕ) (outcome : Outcome) (new : Machine) (G : Ty
 -- The same where it is no matter that no page came.
 pub record ShowsEach (m : Machine) (actor : ℕ) (outcome : Outcome) (new : Machine) (G : Type 0) : Type 0 where
   pub stays : (said : Outcome) → IsPlain said → StaysSo m said outcome new → G
-  pub forces : (said : Outcome) → IsPlain said → ForcesFirst m said outcome new → G
+  pub forces : (said : Outcome) → IsPlain said → ForcesAll m said outcome new → G
   pub more : FlushesMore m outcome new → G
   pub takes : (line : Line) → m.activity actor ≡ at.SessionIdle → next_line actor m.answered m.lines ≡ Some line → Performs m m.store actor (taking line) outcome new → G
   pub refuses : (line : Line) → m.activity actor ≡ at.SessionIdle → next_line actor m.answered m.lines ≡ Some line → WantsBoxes line.command → Performs m m.store actor (answers_now line.number replies.NoMemory) outcome new → G
@@ -170,7 +170,7 @@ each_step m actor outcome new G shows step = each_step_so m actor outcome new G 
 }) step
 
 -- The same by kinds: nothing happens, a group is forced, a deed is done outright, or the step works.
-module _ (m : Machine) (actor : ℕ) (outcome : Outcome) (new : Machine) (G : Type 0) (stays : (said : Outcome) → IsQuiet said → StaysSo m said outcome new → G) (forces : (said : Outcome) → IsQuiet said → ForcesFirst m said outcome new → G)
+module _ (m : Machine) (actor : ℕ) (outcome : Outcome) (new : Machine) (G : Type 0) (stays : (said : Outcome) → IsQuiet said → StaysSo m said outcome new → G) (forces : (said : Outcome) → IsQuiet said → ForcesAll m said outcome new → G)
     (more : FlushesMore m outcome new → G) (outright : (deed : Deed) → IsOutright deed → PerformsAsItIs m actor deed outcome new → G) (works : Works m actor outcome new → G) where
   pub each_kind_so : StepsTo m actor outcome new → G
   each_kind_so step = each_step_so m actor outcome new G (record {
@@ -187,7 +187,7 @@ module _ (m : Machine) (actor : ℕ) (outcome : Outcome) (new : Machine) (G : Ty
     works = λ none one. works one;
   }) step
 
-module _ (m : Machine) (actor : ℕ) (outcome : Outcome) (new : Machine) (G : Type 0) (stays : (said : Outcome) → IsQuiet said → StaysSo m said outcome new → G) (forces : (said : Outcome) → IsQuiet said → ForcesFirst m said outcome new → G)
+module _ (m : Machine) (actor : ℕ) (outcome : Outcome) (new : Machine) (G : Type 0) (stays : (said : Outcome) → IsQuiet said → StaysSo m said outcome new → G) (forces : (said : Outcome) → IsQuiet said → ForcesAll m said outcome new → G)
     (more : FlushesMore m outcome new → G) (outright : (deed : Deed) → IsOutright deed → Performs m m.store actor deed outcome new → G) (works : Works m actor outcome new → G) where
   pub each_kind : StepsTo m actor outcome new → G
   each_kind step = each_kind_so m actor outcome new G stays forces more (λ deed rests p. outright deed rests p.0) works step

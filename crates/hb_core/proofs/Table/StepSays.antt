@@ -9,7 +9,7 @@ use Rattle.hb_core.specs.declared.outcomes.Outcome.TheVariants as outcomes
 use Rattle.hb_activity.specs.Deeds.{Deed, answers_now}
 use Rattle.hb_core.proofs.Table.Ways.{KeepsAllButDisk, fails_so, flushes_so, forces_so, meets_so, stays_so}
 use Rattle.hb_core.specs.Acting.{Abandons, DoesRow}
-use Rattle.hb_core.specs.Forcing.{FlushesOnce, ForcesFirst, StaysSo, HasMoreToFlush}
+use Rattle.hb_core.specs.Forcing.{FlushesOnce, ForcesAll, StaysSo, HasMoreToFlush}
 use Rattle.hb_core.specs.GivingUp.{runs_out}
 use Rattle.hb_core.specs.Machines.{Machine, settled_count}
 use Rattle.hb_core.specs.Performing.{Performs, PerformsAsItIs}
@@ -43,7 +43,7 @@ module _ (m : Machine) (actor : ℕ) (outcome : Outcome) (new : Machine) (G : Ty
   stays : (due : Outcome) → IsPlain due → StaysSo m due outcome new → G
   stays due plain so = said due plain so.0 (stays_so m actor outcome new due so)
 
-  forces : (due : Outcome) → IsPlain due → ForcesFirst m due outcome new → G
+  forces : (due : Outcome) → IsPlain due → ForcesAll m due outcome new → G
   forces due plain (inl well) = said due plain well.0 (forces_so m actor outcome new due (inl well))
   forces due plain (inr badly) = said _ tt badly.1.says (fails_so m actor outcome new badly.1)
 

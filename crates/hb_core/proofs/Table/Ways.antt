@@ -8,7 +8,7 @@ use Rattle.hb_activity.specs.Deeds.{Deed}
 use Rattle.hb_core.proofs.Table.StepKinds.{each_kind, FlushesMore, ready_kind}
 use Rattle.hb_core.specs.Acting.{MeetsBadPage}
 use Rattle.hb_core.specs.Fetching.{MustStay}
-use Rattle.hb_core.specs.Forcing.{ForcesFirst, StaysSo, FailsToWrite, FlushesWell}
+use Rattle.hb_core.specs.Forcing.{ForcesAll, StaysSo, FailsToWrite, FlushesWell}
 use Rattle.hb_core.specs.Laws.{OrderGrows, OthersStay}
 use Rattle.hb_core.specs.Machines.{Machine, if_some}
 use Rattle.hb_core.specs.Performing.{Performs, given_by, outcome_of}
@@ -55,7 +55,7 @@ module _ (m : Machine) (actor : ℕ) (outcome : Outcome) (new : Machine) where
   more_so (none, left, inl (due, quiet, well)) = flushes_so well
   more_so (none, left, inr fails) = fails_so fails
 
-  pub forces_so : (said : Outcome) → ForcesFirst m said outcome new → KeepsAllButDisk m new
+  pub forces_so : (said : Outcome) → ForcesAll m said outcome new → KeepsAllButDisk m new
   forces_so said (inl (says, is)) = keeps_by m _ new is (record { lines = refl; answered = refl; activity = refl; latches = refl; jobs = refl; order = refl; memory = λ id page must there. there })
   forces_so said (inr badly) = fails_so badly.1
 
@@ -65,7 +65,7 @@ module _ (m : Machine) (actor : ℕ) (outcome : Outcome) (new : Machine) where
   same : (said : Outcome) → StaysSo m said outcome new → HasWay m actor outcome new
   same said so = inl (stays_so said so)
 
-  forced : (said : Outcome) → ForcesFirst m said outcome new → HasWay m actor outcome new
+  forced : (said : Outcome) → ForcesAll m said outcome new → HasWay m actor outcome new
   forced said force = inl (forces_so said force)
 
   worked : Works m actor outcome new → HasWay m actor outcome new

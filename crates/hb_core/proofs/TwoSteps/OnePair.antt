@@ -27,7 +27,7 @@ use Rattle.hb_core.proofs.Table.NextPlaces.{nothing_run_out}
 use Rattle.hb_core.proofs.TwoSteps.OnePiece.{one_job, one_merging, taken}
 use Rattle.hb_core.specs.Acting.{Abandons, DoesRow, MeetsBadPage}
 use Rattle.hb_core.specs.Asking.{wanted_by}
-use Rattle.hb_core.specs.Forcing.{FailsToWrite, Flushes, FlushesOnce, FlushesRest, FlushesWell, ForcesFirst, StaysSo}
+use Rattle.hb_core.specs.Forcing.{FailsToWrite, Flushes, FlushesOnce, FlushesRest, FlushesWell, ForcesAll, StaysSo}
 use Rattle.hb_core.specs.GivingUp.{runs_out}
 use Rattle.hb_core.specs.Locking.{IsBoxInTheWay}
 use Rattle.hb_core.specs.Machines.{Machine, with_disk, with_uses}
@@ -102,7 +102,7 @@ module _ (m : Machine) (actor : ℕ) (outcome other : Outcome) (new next : Machi
   both_stay : (said : Outcome) → StaysSo m said outcome new → StaysSo m said other next → G
   both_stay said (a, b) (c, d) = shows.same (a ∙ sym c) (b ∙ sym d)
 
-  both_force : (said : Outcome) → ForcesFirst m said outcome new → ForcesFirst m said other next → G
+  both_force : (said : Outcome) → ForcesAll m said outcome new → ForcesAll m said other next → G
   both_force said (inr (waits, fails)) second = shows.first_aside (inr (inl fails))
   both_force said (inl well) (inr (waits, fails)) = shows.second_aside (inr (inl fails))
   both_force said (inl (a, b)) (inl (c, d)) = shows.same (a ∙ sym c) (b ∙ sym d)

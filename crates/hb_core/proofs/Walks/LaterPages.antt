@@ -22,7 +22,7 @@ use Rattle.hb_ops.specs.Files.{FileState, if_live, live_page}
 use Rattle.hb_ops.specs.Sound.{IsSound}
 use Rattle.hb_sound.specs.Laws.{StepsLeadFurther}
 use Rattle.hb_sound.specs.PointWalks.{LeadsOn}
-use Rattle.hb_store.specs.Keeps.{last_of}
+use Rattle.hb_store.specs.Parts.{last_of}
 use Rattle.hb_store.specs.States.{in_memory}
 use Rattle.hb_ops.proofs.Facts.PageNumberLaws.{live_so}
 

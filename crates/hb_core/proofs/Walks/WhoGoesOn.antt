@@ -32,7 +32,7 @@ use Rattle.hb_core.proofs.Walks.LockHolders.{holder_works}
 use Rattle.hb_core.proofs.Walks.SomebodyFree.{somebody_goes_on}
 use Rattle.hb_core.proofs.Memory.StillThere.{may_or_not}
 use Rattle.hb_core.specs.Asking.{HasWayFree, wanted_by}
-use Rattle.hb_core.specs.Forcing.{FlushesOnce, ForcesFirst, StaysSo}
+use Rattle.hb_core.specs.Forcing.{FlushesOnce, ForcesAll, StaysSo}
 use Rattle.hb_core.specs.GivingUp.{runs_out}
 use Rattle.hb_core.specs.Keeps.{HasNoOtherLatches}
 use Rattle.hb_core.specs.KeptFits.{LineFits, class_for}
@@ -161,7 +161,7 @@ module _ (m : Machine) (actor : ℕ) (outcome : Outcome) (new : Machine) where
   performed : (fetched : StoreState) (deed : Deed) → Performs m fetched actor deed outcome new → GoesForward outcome
   performed fetched deed performs = forward_as _ (said_forward deed.says) performs.says
 
-  forced : (due : Outcome) → GoesForward due → ForcesFirst m due outcome new → GoesForward outcome
+  forced : (due : Outcome) → GoesForward due → ForcesAll m due outcome new → GoesForward outcome
   forced due forward (inl well) = forward_as due forward well.0
   forced due forward (inr badly) = forward_as _ tt badly.1.says
 

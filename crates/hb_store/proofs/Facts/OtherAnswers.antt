@@ -1,14 +1,14 @@
--- What it is to write the oldest group, in another answer.
+-- What it is to write the groups that wait, in another answer.
 use Rattle.std.proofs.Common.{Ok, Err}
 use Rattle.std.proofs.lemmas.Bool.{false≢true}
 use Rattle.hb_disk.specs.Model.{DiskModel}
-use Rattle.hb_store.specs.Forced.{WritesOldest}
+use Rattle.hb_store.specs.Forced.{WritesGroups}
 use Rattle.hb_store.specs.States.{StoreState}
 use Rattle.hb_store.specs.declared.stops.WriteFault.{WriteFault}
 
 module _ {T X : Type 0} (d e : DiskModel) (old new : StoreState) where
-  pub WritesOldest-ok : (x : T) (y : X) → WritesOldest (Ok x) d e old new → WritesOldest (Ok y) d e old new
-  WritesOldest-ok x y w = record {
+  pub WritesGroups-ok : (x : T) (y : X) → WritesGroups (Ok x) d e old new → WritesGroups (Ok y) d e old new
+  WritesGroups-ok x y w = record {
     nothing = w.nothing;
     forced = w.forced;
     stopped = w.stopped;
@@ -19,8 +19,8 @@ module _ {T X : Type 0} (d e : DiskModel) (old new : StoreState) where
     clock = w.clock;
   }
 
-  pub WritesOldest-err : (fault : WriteFault) → WritesOldest {T = T} (Err fault) d e old new → WritesOldest {T = X} (Err fault) d e old new
-  WritesOldest-err fault w = record {
+  pub WritesGroups-err : (fault : WriteFault) → WritesGroups {T = T} (Err fault) d e old new → WritesGroups {T = X} (Err fault) d e old new
+  WritesGroups-err fault w = record {
     nothing = λ none. let never = (w.nothing none).0 in absurd (false≢true never);
     forced = w.forced;
     stopped = w.stopped;

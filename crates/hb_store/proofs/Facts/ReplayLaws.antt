@@ -13,8 +13,7 @@ use Rattle.hb_log_codec.specs.Groups.{Logged}
 use Rattle.hb_store.specs.Replay.{Replayed, untouched, after_group, MayFollow, replay, MayReplay}
 use Rattle.hb_layout.specs.Offsets.{file_size}
 use Rattle.hb_store.specs.Opening.{IsPageIn, OpensBy, log_bytes, place_bytes, SpellAll}
-use Rattle.hb_store.specs.Keeps.{last_of}
-use Rattle.hb_store.specs.Parts.{ArePageImagesOf, Leads}
+use Rattle.hb_store.specs.Parts.{ArePageImagesOf, Leads, last_of}
 
 -- groups after groups
 pub replay-append : (t : Replayed) (xs ys : List Logged) → replay t (xs ++ ys) ≡ replay (replay t xs) ys

@@ -1,5 +1,5 @@
 -- What follows of what a store keeps: what its disk opens to, and how many files are to come.
-use Rattle.std.proofs.Common.{◌≡◌, ◌⊎◌, inl, inr, ℕ, Bool, false, IsTrue, List, [], ◌∷◌, ◌++◌, length, map, refl, ap, ◌∙◌, arith}
+use Rattle.std.proofs.Common.{◌≡◌, ◌⊎◌, inl, inr, ℕ, Bool, false, IsTrue, List, [], ◌∷◌, ◌++◌, length, map, flat_map, refl, ap, ◌∙◌, arith}
 use Rattle.hb_disk.specs.Model.{DiskModel}
 use Rattle.hb_wal.specs.Log.{Waiting}
 use Rattle.hb_layout.specs.declared.meta.Meta.{Meta}
@@ -8,25 +8,21 @@ use Rattle.hb_log_codec.specs.Groups.{Logged, group_bytes}
 use Rattle.hb_store.specs.Replay.{Replayed}
 use Rattle.hb_store.specs.Opening.{OpensBy, OpensTo}
 use Rattle.hb_store.specs.States.{StoreState}
-use Rattle.hb_store.specs.Keeps.{StoreKeeps, OpensToFirst, last_of}
-use Rattle.hb_store.specs.Parts.{Parts, Leads, OpensNext}
-use Rattle.hb_store.specs.Forced.{durable_after, later_after}
+use Rattle.hb_store.specs.Keeps.{StoreKeeps, OpensToEither}
+use Rattle.hb_store.specs.Parts.{Parts, Leads, OpensNext, last_of}
 
--- By the durable file's groups, or by those and the first that waits. `OpensHere` and `OpensOn` say so of a store's parts.
+-- By the durable file's groups, or by those and all that wait. `OpensHere` and `OpensOn` say so of a store's parts.
 abbrev pub OpensHere : List ℕ → ℕ → Parts → FileState → Type 0
 OpensHere c turn p durable = OpensBy c turn p.said p.payloads p.written durable
 
-abbrev pub OpensOn : List ℕ → ℕ → Parts → List FileState → Type 0
-OpensOn c turn p later = OpensNext c turn p.said p.payloads p.written p.waiting later
+abbrev pub OpensOn : List ℕ → ℕ → Parts → FileState → Type 0
+OpensOn c turn p next = OpensNext c turn p.said p.payloads p.written p.waiting next
 
-pub opens_first : (c : List ℕ) (turn : ℕ) (said : Meta) (payloads : List (List ℕ)) (written waiting : List Logged) (durable : FileState) (later : List FileState)
-    → OpensBy c turn said payloads written durable ⊎ OpensNext c turn said payloads written waiting later → OpensToFirst durable later c
-opens_first c turn said payloads written waiting durable [] (inl by) = record { turn = turn; said = said; payloads = payloads; groups = written; by = by }
-opens_first c turn said payloads written waiting durable (next ∷ later) (inl by) = inl (record { turn = turn; said = said; payloads = payloads; groups = written; by = by })
-opens_first c turn said payloads written [] durable later (inr never) = absurd never
-opens_first c turn said payloads written (g ∷ waiting) durable [] (inr never) = absurd never
-opens_first c turn said payloads written (g ∷ waiting) durable (next ∷ later) (inr by) =
-    inr (record { turn = turn; said = said; payloads = payloads ++ group_bytes g ∷ []; groups = written ++ g ∷ []; by = by })
+pub opens_either : (c : List ℕ) (turn : ℕ) (said : Meta) (payloads : List (List ℕ)) (written waiting : List Logged) (durable : FileState) (later : List FileState)
+    → OpensBy c turn said payloads written durable ⊎ OpensNext c turn said payloads written waiting (last_of durable later) → OpensToEither durable later c
+opens_either c turn said payloads written waiting durable later (inl by) = inl (record { turn = turn; said = said; payloads = payloads; groups = written; by = by })
+opens_either c turn said payloads written waiting durable later (inr by) =
+    inr (record { turn = turn; said = said; payloads = payloads ++ flat_map group_bytes waiting ∷ []; groups = written ++ waiting; by = by })
 
 running_only : (b : Bool) (A B : Type 0) → b ≡ false → A ⊎ (IsTrue b × B) → A
 running_only b A B going (inl a) = a
@@ -36,19 +32,19 @@ pub as_waits : (A B C : Type 0) → A ⊎ (B × C) → A ⊎ C
 as_waits A B C (inl a) = inl a
 as_waits A B C (inr (b, c)) = inr c
 
--- Each image opens to the durable file, or to the next one.
+-- Each image opens to the durable file, or to the one after all groups that wait.
 pub StoreKeeps-opens : (d : DiskModel) (st : StoreState) (durable : FileState) (later : List FileState) → StoreKeeps d st durable later
-    → (c : List ℕ) → d.Image c → OpensToFirst durable later c
+    → (c : List ℕ) → d.Image c → OpensToEither durable later c
 StoreKeeps-opens d st durable later keeps c image =
     let p = keeps.parts in
-    opens_first c st.turn p.said p.payloads p.written p.waiting durable later
-    (as_waits (OpensHere c st.turn p durable) (IsTrue st.stopped) (OpensOn c st.turn p later) (keeps.disk.images c image))
+    opens_either c st.turn p.said p.payloads p.written p.waiting durable later
+    (as_waits (OpensHere c st.turn p durable) (IsTrue st.stopped) (OpensOn c st.turn p (last_of durable later)) (keeps.disk.images c image))
 
 -- While the store runs, each image opens to the durable file: by the written groups, and so at all.
 pub StoreKeeps-by : (d : DiskModel) (st : StoreState) (durable : FileState) (later : List FileState) → (keeps : StoreKeeps d st durable later) → st.stopped ≡ false
     → (c : List ℕ) → d.Image c → OpensHere c st.turn keeps.parts durable
 StoreKeeps-by d st durable later keeps going c image =
-    running_only st.stopped (OpensHere c st.turn keeps.parts durable) (OpensOn c st.turn keeps.parts later) going (keeps.disk.images c image)
+    running_only st.stopped (OpensHere c st.turn keeps.parts durable) (OpensOn c st.turn keeps.parts (last_of durable later)) going (keeps.disk.images c image)
 
 pub StoreKeeps-running : (d : DiskModel) (st : StoreState) (durable : FileState) (later : List FileState) → StoreKeeps d st durable later → st.stopped ≡ false
     → (c : List ℕ) → d.Image c → OpensTo c durable
@@ -78,8 +74,3 @@ none_left (next ∷ later) count = absurd (omega (arith, count))
 pub StoreKeeps-alone : (d : DiskModel) (st : StoreState) (durable : FileState) (later : List FileState) → StoreKeeps d st durable later → st.log.groups ≡ [] → later ≡ []
 StoreKeeps-alone d st durable later keeps none =
     none_left later (StoreKeeps-one d st durable later keeps ∙ ap (λ (l : List Waiting). length l) none)
-
--- a force leaves the file as the steps see it
-pub last_forced : (durable : FileState) (later : List FileState) → last_of (durable_after durable later) (later_after later) ≡ last_of durable later
-last_forced durable [] = refl
-last_forced durable (next ∷ later) = refl

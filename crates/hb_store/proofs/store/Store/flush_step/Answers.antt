@@ -2,7 +2,7 @@ use Rattle.std.proofs.Common.{◌∙◌, sym}
 use Rattle.std.proofs.lemmas.Bool.{false≢true}
 use Rattle.std.proofs.lemmas.Result.{err_from_is_err_and}
 use Rattle.hb_store.specs.Seen.{held_by, seen_as}
-use Rattle.hb_store.proofs.Facts.OtherAnswers.{WritesOldest-err, WritesOldest-ok}
+use Rattle.hb_store.proofs.Facts.OtherAnswers.{WritesGroups-err, WritesGroups-ok}
 use Rattle.hb_store.proofs.Flushes.{due_home, flushes_none, flushes_oldest}
 use Rattle.hb_store.proofs.store.Store.flush_step.Goals as goal
 
@@ -12,7 +12,7 @@ returns-then-not-is_idle-clause-which g c = λ none. false≢true (sym c.if-not-
 
 pub returns-then-not-is_idle-clause-forces : goal.returns-then-not-is_idle-clause-forces
 returns-then-not-is_idle-clause-forces g c = λ some. (
-  WritesOldest-ok (g.D.Device.model c.args.self.now.disk) (g.D.Device.model c.force.new.self.disk) (seen_as c.args.self.now) (seen_as c.force.new.self) _ _ c.in_ok-force.ensures.writes,
+  WritesGroups-ok (g.D.Device.model c.args.self.now.disk) (g.D.Device.model c.force.new.self.disk) (seen_as c.args.self.now) (seen_as c.force.new.self) _ _ c.in_ok-force.ensures.writes,
   c.in_ok-force.ensures.uses,
 )
 
@@ -28,7 +28,7 @@ pub returns-in_err-force-clause-forces : goal.returns-in_err-force-clause-forces
 returns-in_err-force-clause-forces g c =
     let p = err_from_is_err_and c.from_residual.result c.from_residual.ensures.1 in
     λ some. (
-      rw (p.1, p.2) (WritesOldest-err (g.D.Device.model c.args.self.now.disk) (g.D.Device.model c.force.new.self.disk) (seen_as c.args.self.now) (seen_as c.force.new.self) _ c.in_err-force.ensures.writes),
+      rw (p.1, p.2) (WritesGroups-err (g.D.Device.model c.args.self.now.disk) (g.D.Device.model c.force.new.self.disk) (seen_as c.args.self.now) (seen_as c.force.new.self) _ c.in_err-force.ensures.writes),
       c.in_err-force.ensures.uses,
     )
 

@@ -6,7 +6,7 @@ use Rattle.hb_store.specs.States.{IsMemory}
 use Rattle.hb_store.specs.Held.{StoreHeld}
 use Rattle.hb_store.specs.Seen.{seen_as}
 use Rattle.hb_store.specs.Inside.{memory_seen}
-use Rattle.hb_store.specs.Forced.{WritesOldest, stopped_state, with_log}
+use Rattle.hb_store.specs.Forced.{WritesGroups, stopped_state, with_log}
 use Rattle.hb_store.proofs.AfterForce.{memory_logged, memory_stopped}
 use Rattle.hb_store.proofs.Written.{log_fits, written_not, written_so}
 use Rattle.hb_store.proofs.store.Store.force.Goals as goal
@@ -44,7 +44,7 @@ returns-in-Ok-clause-writes g c =
     let log : LogState = c.force.new.self in
     let seen = (memory_seen c.memory.inside).state in
     let going : seen.stopped ≡ false = ap (λ (h : StoreHeld). h.state.stopped) c.memory.view_is ∙ c.requires.running in
-    subst (λ (h : StoreHeld). WritesOldest (Ok tt) d new h.state (with_log log seen)) c.memory.view_is
+    subst (λ (h : StoreHeld). WritesGroups (Ok tt) d new h.state (with_log log seen)) c.memory.view_is
     (written_so d new (g.met.D.Device.is_disk c.args.self.now.disk) (g.met.D.Device.is_disk c.force.new.disk) seen c.memory.invariant.memory going log c.force.ensures.moments tt _
     (λ none. (c.in-Ok.ensures.nothing none).1) c.in-Ok.ensures.forced c.in-Ok.ensures.log c.in-Ok.ensures.clock c.in-Ok.ensures.wrote)
 
@@ -55,7 +55,7 @@ returns-in-Err-clause-writes g c =
     let log : LogState = c.force.new.self in
     let seen = (memory_seen c.memory.inside).state in
     let going : seen.stopped ≡ false = ap (λ (h : StoreHeld). h.state.stopped) c.memory.view_is ∙ c.requires.running in
-    subst (λ (h : StoreHeld). WritesOldest (Err _) d new h.state (stopped_state (with_log log seen))) c.memory.view_is
+    subst (λ (h : StoreHeld). WritesGroups (Err _) d new h.state (stopped_state (with_log log seen))) c.memory.view_is
     (written_not d new (g.met.D.Device.is_disk c.args.self.now.disk) (g.met.D.Device.is_disk c.force.new.disk) seen c.memory.invariant.memory going log c.force.ensures.moments _ _
     (λ none. let never = (c.in-Err.ensures.nothing none).0 in absurd (false≢true never)) c.in-Err.ensures.kept c.in-Err.ensures.wrote)
 
