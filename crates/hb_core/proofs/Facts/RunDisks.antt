@@ -1,5 +1,5 @@
 -- What a step leaves of the disk: only the file may read otherwise, and at each of its moments a crash leaves the durable file
--- or the next one.
+-- or the last one.
 use Rattle.std.proofs.Common.{◌≡◌, inl, inr, ℕ, ◌+◌, ◌≤◌, true, List, [], ◌∷◌, map, Option, Some, None, IsSome, refl, sym, ap, ◌∙◌, subst, arith}
 use Rattle.std.specs.Option.{is_some}
 use Rattle.hb_core.proofs.Facts.LogAndStop.{FileStands}
