@@ -31,35 +31,35 @@ abbrev pub beside_before : Scene
 beside_before = at_start (seeks_twenty ∷ deletes_thirty ∷ []) (posts_at 10 ∷ []) ((1, Live split_page) ∷ (2, Live lower_half) ∷ (3, Live bare_root) ∷ []) (record { meta = raised_meta; pages = Live split_page ∷ Live lower_half ∷ Live bare_root ∷ [] })
 
 -- The root names both, and the record is deleted. Session 2 took effect before session 1, which finds its record. Two jobs wait: the
--- posting that session 1 owed when it passed by, and that of the poster. The frames have 4,132 bytes (a page image and the posting) and
--- 4,119 (a page image and the delete).
+-- posting that session 1 owed when it passed by, and that of the poster. The frame has 5 bytes in front, 4,127 of the first group (a page
+-- image and the posting) and 4,114 of the second one (a page image and the delete).
 abbrev pub beside_after : Scene
 beside_after = record {
   lines = seeks_twenty ∷ deletes_thirty ∷ [];
-  answered = record { line = 2; reply = replies.Done; at = 8 } ∷ record { line = 1; reply = replies.Found (98 ∷ []); at = 8 } ∷ [];
+  answered = record { line = 2; reply = replies.Done; at = 4 } ∷ record { line = 1; reply = replies.Found (98 ∷ []); at = 4 } ∷ [];
   at_work = (17, PosterIdle) ∷ (1, SessionIdle) ∷ (2, SessionIdle) ∷ [];
   latched = [];
   jobs = posts_at 20 ∷ posts_at 10 ∷ [];
   order = record { line = deletes_thirty; reply = replies.Done } ∷ record { line = seeks_twenty; reply = replies.Found (98 ∷ []) } ∷ [];
   meta = raised_meta;
-  written = 8251;
+  written = 8246;
   groups = [];
   pages = (1, Live split_page) ∷ (3, Live posted_root) ∷ (2, Live lower_two) ∷ [];
   in_log = 2 ∷ 3 ∷ [];
   dirty = 2 ∷ 3 ∷ [];
   durable = record { meta = raised_meta; pages = Live split_page ∷ Live lower_two ∷ Live posted_root ∷ [] };
   later = [];
-  clock = 8;
+  clock = 4;
 }
 
 -- The poster holds the root for update and looks at the child. Session 1 shares the root with it, so that the poster can't have the
 -- root for itself before session 1 is on page 1. Session 2 is blocked at the root by the poster, until that has posted; then it walks
--- straight to page 2 and deletes. Session 1 comes to page 2 from page 1.
+-- straight to page 2 and deletes. Session 1 comes to page 2 from page 1. Session 2 forces both groups, so that both places are settled.
 abbrev pub steps_beside : List (ℕ × Outcome)
 steps_beside =
     (17, Moved) ∷ (17, Moved) ∷ (1, Moved) ∷ (17, Moved) ∷ (1, Moved) ∷ (17, Blocked 1) ∷ (1, Moved) ∷ (17, Moved)
     ∷ (2, Moved) ∷ (2, Blocked 17) ∷ (17, Moved) ∷ (2, Moved) ∷ (2, Moved) ∷ (1, Moved)
-    ∷ (2, Moved) ∷ (1, Moved) ∷ (2, Answered 2 replies.Done) ∷ (1, Answered 1 (replies.Found (98 ∷ []))) ∷ []
+    ∷ (2, Moved) ∷ (2, Answered 2 replies.Done) ∷ (1, Answered 1 (replies.Found (98 ∷ []))) ∷ []
 
 abbrev pub SessionsBesidePoster : Type 0
 SessionsBesidePoster = StepsSaying steps_beside (machine_of beside_before) (machine_of beside_after)

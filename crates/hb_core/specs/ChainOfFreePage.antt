@@ -17,28 +17,28 @@ tight_meta pages live free = record { k = 1; pages = pages; log = 65536; dcap = 
 abbrev pub free_before : Scene
 free_before = at_start (inserts_seventy ∷ []) [] ((1, Live full_page) ∷ []) (record { meta = tight_meta 2 1 2; pages = Live full_page ∷ Free 0 ∷ [] })
 
--- Page 2 has the lower half, no page is free, and the put used page 1 last.
+-- Page 2 has the lower half, no page is free, and the put used page 1 last. The split and the put are durable, in one frame of 4,147 bytes.
 abbrev pub free_after : Scene
 free_after = record {
   lines = inserts_seventy ∷ [];
-  answered = record { line = 1; reply = replies.Done; at = 8 } ∷ [];
+  answered = record { line = 1; reply = replies.Done; at = 4 } ∷ [];
   at_work = (1, SessionIdle) ∷ [];
   latched = [];
   jobs = posts_at 0 ∷ [];
   order = record { line = inserts_seventy; reply = replies.Done } ∷ [];
   meta = tight_meta 2 2 0;
-  written = 4152;
+  written = 4147;
   groups = [];
   pages = (2, Live lower_half) ∷ (1, Live (upper_half (upper_three ++ lettered 70 103 ∷ []))) ∷ [];
   in_log = 2 ∷ 1 ∷ [];
   dirty = 1 ∷ 2 ∷ [];
   durable = record { meta = tight_meta 2 2 0; pages = Live (upper_half (upper_three ++ lettered 70 103 ∷ [])) ∷ Live lower_half ∷ [] };
   later = [];
-  clock = 8;
+  clock = 4;
 }
 
 abbrev pub steps_of_free_page : List (ℕ × Outcome)
-steps_of_free_page = (1, Moved) ∷ (1, Moved) ∷ (1, Moved) ∷ (1, Moved) ∷ (1, Moved) ∷ (1, Moved) ∷ (1, Answered 1 replies.Done) ∷ []
+steps_of_free_page = (1, Moved) ∷ (1, Moved) ∷ (1, Moved) ∷ (1, Moved) ∷ (1, Moved) ∷ (1, Answered 1 replies.Done) ∷ []
 
 abbrev pub FreePageIsTaken : Type 0
 FreePageIsTaken = StepsSaying steps_of_free_page (machine_of free_before) (machine_of free_after)

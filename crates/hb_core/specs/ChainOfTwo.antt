@@ -57,32 +57,33 @@ abbrev pub posts_at : ℕ → Job
 posts_at value = record { kind = Post; level = 1; point = value ∷ [] }
 
 -- Both are answered, and nobody holds a page. The page was split at 40, and both halves owe a posting: one from the split, and
--- one since session 2 passed by. Session 2 used page 2 last. Two groups are durable, in frames of 4,131 bytes (a page image and the split) and 21 (the put).
+-- one since session 2 passed by. Session 2 used page 2 last. Two groups are durable, in one frame: 5 bytes in
+-- front, 4,126 of the first group (a page image and the split) and 16 of the second one (the put).
 abbrev pub two_after : Scene
 two_after = record {
   lines = inserts_seventy ∷ looks_twenty_up ∷ [];
-  answered = record { line = 1; reply = replies.Done; at = 8 } ∷ record { line = 2; reply = replies.Found (98 ∷ []); at = 8 } ∷ [];
+  answered = record { line = 1; reply = replies.Done; at = 4 } ∷ record { line = 2; reply = replies.Found (98 ∷ []); at = 4 } ∷ [];
   at_work = (1, SessionIdle) ∷ (2, SessionIdle) ∷ [];
   latched = [];
   jobs = posts_at 0 ∷ posts_at 20 ∷ [];
   order = record { line = inserts_seventy; reply = replies.Done } ∷ record { line = looks_twenty_up; reply = replies.Found (98 ∷ []) } ∷ [];
   meta = line_meta 2;
-  written = 4152;
+  written = 4147;
   groups = [];
   pages = (1, Live (upper_half (upper_three ++ lettered 70 103 ∷ []))) ∷ (2, Live lower_half) ∷ [];
   in_log = 2 ∷ 1 ∷ [];
   dirty = 1 ∷ 2 ∷ [];
   durable = record { meta = line_meta 2; pages = Live (upper_half (upper_three ++ lettered 70 103 ∷ [])) ∷ Live lower_half ∷ [] };
   later = [];
-  clock = 8;
+  clock = 4;
 }
 
 -- Both take their lines. Session 1 finds no room, splits, and puts; session 2 is blocked before and between. Then it passes on
--- from page 1 to page 2 and finds its record. It forces the first group, and session 1 the second one.
+-- from page 1 to page 2 and finds its record. It forces both groups, and then the place of session 1 is settled too.
 abbrev pub steps_of_two : List (ℕ × Outcome)
 steps_of_two =
     (1, Moved) ∷ (2, Moved) ∷ (1, Moved) ∷ (2, Blocked 1) ∷ (1, Moved) ∷ (2, Blocked 1) ∷ (1, Moved)
-    ∷ (2, Moved) ∷ (2, Moved) ∷ (2, Moved) ∷ (1, Moved)
+    ∷ (2, Moved) ∷ (2, Moved) ∷ (2, Moved)
     ∷ (1, Answered 1 replies.Done) ∷ (2, Answered 2 (replies.Found (98 ∷ []))) ∷ (2, Idle) ∷ []
 
 abbrev pub TwoOnOnePage : Type 0

@@ -14,7 +14,7 @@ pub enum Outcome {
     Idle,
     /// The latch that the step wants conflicts with one of this actor, the least one of which that is so.
     Blocked { by: Actor },
-    /// The file wasn't ready for a change, and a group that waited was forced instead.
+    /// The file wasn't ready for a change, and the groups that waited were forced instead.
     Helped,
     /// The line of this number was answered.
     Answered { line: u32, reply: Reply },

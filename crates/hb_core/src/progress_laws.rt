@@ -6,7 +6,7 @@ ghost use Rattle.hb_core.specs.ProgressLaws.{SomebodyGoesOnNow};
 
 use hb_sound::laws::{a_level_parts_the_space, a_walk_ends_at_the_responsible_page};
 
-/// Bytes that open to the durable file, or to the file after the first group that waits, open to a sound
+/// Bytes that open to the durable file, or to the file after all groups that wait, open to a sound
 /// file that has the set after a prefix of the order, with each line answered by then; and each point has
 /// exactly one responsible page in it.
 pub fn images_have_prefixes()

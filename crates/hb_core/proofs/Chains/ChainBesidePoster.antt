@@ -105,14 +105,11 @@ finds = takes_effect 1 seeks_twenty (replies.Found (98 ∷ [])) None []
 abbrev is_found : Scene
 is_found = after (page_1 ∷ root_posted ∷ page_2_later ∷ []) 1 finds two_jobs is_deleted
 
-abbrev once_forced : Scene
-once_forced = forced_scene is_found
-
-abbrev twice_forced : Scene
-twice_forced = forced_scene once_forced
+abbrev is_forced : Scene
+is_forced = forced_scene is_found
 
 abbrev one_answered : Scene
-one_answered = after_as_it_is 2 (answers_now 2 replies.Done) two_jobs twice_forced
+one_answered = after_as_it_is 2 (answers_now 2 replies.Done) two_jobs is_forced
 
 abbrev both_answered : Scene
 both_answered = after_as_it_is 1 (answers_now 1 (replies.Found (98 ∷ []))) two_jobs one_answered
@@ -220,19 +217,15 @@ sessions_beside_poster = (
                             machine_of is_found,
                             works is_deleted is_found.pages 1 finds two_jobs refl (only_looks is_deleted 1 refl refl) find_row (queued refl refl) tt (refl, refl, refl) refl,
                             (
-                              machine_of once_forced,
+                              machine_of is_forced,
                               inr (omega arith, forces is_found Moved),
                               (
-                                machine_of twice_forced,
-                                inr (omega arith, forces once_forced Moved),
+                                machine_of one_answered,
+                                inl (omega arith, performed is_forced 2 (answers_now 2 replies.Done) two_jobs (queued refl refl) tt (refl, refl, refl)),
                                 (
-                                  machine_of one_answered,
-                                  inl (omega arith, performed twice_forced 2 (answers_now 2 replies.Done) two_jobs (queued refl refl) tt (refl, refl, refl)),
-                                  (
-                                    machine_of both_answered,
-                                    inl (omega arith, performed one_answered 1 (answers_now 1 (replies.Found (98 ∷ []))) two_jobs (queued refl refl) tt (refl, refl, refl)),
-                                    refl,
-                                  ),
+                                  machine_of both_answered,
+                                  inl (omega arith, performed one_answered 1 (answers_now 1 (replies.Found (98 ∷ []))) two_jobs (queued refl refl) tt (refl, refl, refl)),
+                                  refl,
                                 ),
                               ),
                             ),

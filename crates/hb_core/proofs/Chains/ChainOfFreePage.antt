@@ -59,14 +59,11 @@ is_split = after (upper_1 ∷ lower_2 ∷ []) 1 splits (posts_at 0 ∷ []) (brin
 abbrev is_put : Scene
 is_put = after (lower_2 ∷ put_1 ∷ []) 1 puts (posts_at 0 ∷ []) is_split
 
-abbrev once_forced : Scene
-once_forced = forced_scene is_put
-
-abbrev twice_forced : Scene
-twice_forced = forced_scene once_forced
+abbrev is_forced : Scene
+is_forced = forced_scene is_put
 
 abbrev is_answered : Scene
-is_answered = after_as_it_is 1 (answers_now 1 replies.Done) (posts_at 0 ∷ []) twice_forced
+is_answered = after_as_it_is 1 (answers_now 1 replies.Done) (posts_at 0 ∷ []) is_forced
 
 -- ---- the rows
 
@@ -111,16 +108,12 @@ free_page_is_taken = (
         machine_of is_put,
         works is_split is_put.pages 1 puts (posts_at 0 ∷ []) tt (has_room is_split 1 (omega arith, omega arith) refl) (put_row is_split refl refl) (queued refl refl) (record { allowed = put_fits_here; log = refl }) (refl, refl, refl) refl,
         (
-          machine_of once_forced,
+          machine_of is_forced,
           inr (omega arith, forces is_put Moved),
           (
-            machine_of twice_forced,
-            inr (omega arith, forces once_forced Moved),
-            (
-              machine_of is_answered,
-              inl (omega arith, performed twice_forced 1 (answers_now 1 replies.Done) (posts_at 0 ∷ []) (queued refl refl) tt (refl, refl, refl)),
-              refl,
-            ),
+            machine_of is_answered,
+            inl (omega arith, performed is_forced 1 (answers_now 1 replies.Done) (posts_at 0 ∷ []) (queued refl refl) tt (refl, refl, refl)),
+            refl,
           ),
         ),
       ),

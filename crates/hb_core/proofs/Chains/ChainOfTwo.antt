@@ -65,14 +65,11 @@ finds = takes_effect 1 looks_twenty_up (replies.Found (98 ∷ [])) None []
 abbrev is_found : Scene
 is_found = after (put_1 ∷ lower_2 ∷ []) 2 finds (posts_at 0 ∷ posts_at 20 ∷ []) on_its_way
 
-abbrev once_forced : Scene
-once_forced = forced_scene is_found
-
-abbrev twice_forced : Scene
-twice_forced = forced_scene once_forced
+abbrev is_forced : Scene
+is_forced = forced_scene is_found
 
 abbrev one_answered : Scene
-one_answered = after_as_it_is 1 (answers_now 1 replies.Done) (posts_at 0 ∷ posts_at 20 ∷ []) twice_forced
+one_answered = after_as_it_is 1 (answers_now 1 replies.Done) (posts_at 0 ∷ posts_at 20 ∷ []) is_forced
 
 abbrev both_answered : Scene
 both_answered = after_as_it_is 2 (answers_now 2 (replies.Found (98 ∷ []))) (posts_at 0 ∷ posts_at 20 ∷ []) one_answered
@@ -133,19 +130,15 @@ two_on_one_page = (
                   machine_of is_found,
                   works on_its_way is_found.pages 2 finds (posts_at 0 ∷ posts_at 20 ∷ []) refl (only_looks on_its_way 2 refl refl) find_row (queued refl refl) tt (refl, refl, refl) refl,
                   (
-                    machine_of once_forced,
+                    machine_of is_forced,
                     inr (omega arith, forces is_found Moved),
                     (
-                      machine_of twice_forced,
-                      inr (omega arith, forces once_forced Moved),
+                      machine_of one_answered,
+                      inl (omega arith, performed is_forced 1 (answers_now 1 replies.Done) (posts_at 0 ∷ posts_at 20 ∷ []) (queued refl refl) tt (refl, refl, refl)),
                       (
-                        machine_of one_answered,
-                        inl (omega arith, performed twice_forced 1 (answers_now 1 replies.Done) (posts_at 0 ∷ posts_at 20 ∷ []) (queued refl refl) tt (refl, refl, refl)),
-                        (
-                          machine_of both_answered,
-                          inl (omega arith, performed one_answered 2 (answers_now 2 (replies.Found (98 ∷ []))) (posts_at 0 ∷ posts_at 20 ∷ []) (queued refl refl) tt (refl, refl, refl)),
-                          (machine_of both_answered, (refl, refl), refl),
-                        ),
+                        machine_of both_answered,
+                        inl (omega arith, performed one_answered 2 (answers_now 2 (replies.Found (98 ∷ []))) (posts_at 0 ∷ posts_at 20 ∷ []) (queued refl refl) tt (refl, refl, refl)),
+                        (machine_of both_answered, (refl, refl), refl),
                       ),
                     ),
                   ),

@@ -14,18 +14,18 @@ use Rattle.hb_core.specs.Scenes.{Scene, machine_of, standing, store_of, uses_in}
 use Rattle.hb_core.specs.Steps.{IsUnready, Works}
 use Rattle.hb_pool.specs.Frames.{clean}
 use Rattle.hb_pool.specs.Pools.{in_place}
-use Rattle.hb_store.specs.Forced.{durable_after, later_after}
 use Rattle.hb_store.specs.Held.{oldest_dirty}
+use Rattle.hb_store.specs.Parts.{last_of}
 use Rattle.hb_wal.specs.Forces.{calls_of_force}
 use Rattle.hb_wal.specs.Frames.{frames}
-use Rattle.hb_wal.specs.Log.{forced, left_waiting}
+use Rattle.hb_wal.specs.Log.{forced}
 
 abbrev pub forced_scene : Scene → Scene
 forced_scene s = record s {
   written = s.written + length (frames (forced s.groups));
-  groups = left_waiting s.groups;
-  durable = durable_after s.durable s.later;
-  later = later_after s.later;
+  groups = [];
+  durable = last_of s.durable s.later;
+  later = [];
   clock = s.clock + calls_of_force s.groups;
 }
 
@@ -34,7 +34,7 @@ forces s done = inl (refl, refl)
 
 -- ---- a log that isn't ready
 
--- a group that waits is forced instead
+-- the groups that wait are forced instead
 pub helps : (s : Scene) (actor : ℕ) → IsClearIn s actor → IsUnready (machine_of s) actor → s.groups ≢ [] → Works (machine_of s) actor outcomes.Helped (machine_of (forced_scene s))
 helps s actor clear unready waits = inr (inl (way_free s actor clear, unready, inl (waits, forces s outcomes.Helped)))
 

@@ -1,5 +1,5 @@
 -- What a step leaves of the disk: only the file may read otherwise, and at each of its moments a crash leaves the durable file
--- or the next one.
+-- or the last one.
 use Rattle.std.proofs.Common.{◌≡◌, inl, inr, ℕ, ◌+◌, ◌≤◌, true, List, [], ◌∷◌, map, Option, Some, None, IsSome, refl, sym, ap, ◌∙◌, subst, arith}
 use Rattle.std.specs.Option.{is_some}
 use Rattle.hb_core.proofs.Facts.LogAndStop.{FileStands}
@@ -11,7 +11,7 @@ use Rattle.hb_core.specs.Showing.{RunningCore, ShowsMachine}
 use Rattle.hb_core.specs.Touching.{Touches}
 use Rattle.hb_core.specs.declared.outcomes.Outcome.{Outcome}
 use Rattle.hb_disk.proofs.Facts.BecomesLaws.{Becomes-read, Becomes-then, Becomes-weaker}
-use Rattle.hb_disk.proofs.Facts.RunLaws.{Leaves-read, Leaves-start}
+use Rattle.hb_disk.proofs.Facts.RunLaws.{Leaves-read, Leaves-start, Leaves-weaker}
 use Rattle.hb_disk.proofs.Facts.TornLaws.{Torn-itself, Torn-twice, Torn-wider}
 use Rattle.hb_disk.specs.Calls.{Becomes, Leaves, Then}
 use Rattle.hb_disk.specs.Model.{DiskModel, IsDisk, Torn}
@@ -23,6 +23,7 @@ use Rattle.hb_ops.specs.Files.{FileState}
 use Rattle.hb_pool.specs.Frames.{Use}
 use Rattle.hb_space.specs.declared.form.TheConstants.{PAGE}
 use Rattle.hb_store.specs.Held.{oldest_dirty}
+use Rattle.hb_store.specs.Opening.{OpensTo}
 use Rattle.hb_store.specs.Parts.{Leads, written_pages}
 use Rattle.hb_store.specs.Replay.{Replayed}
 use Rattle.hb_store.specs.States.{StoreState, in_memory}
@@ -92,7 +93,8 @@ moments_touched e f old new outcome durable later disk keeps (inl reads) =
 moments_touched e f old new outcome durable later disk keeps (inr (inl force)) = force.writes.moments durable later keeps
 moments_touched e f old new outcome durable later disk keeps (inr (inr home)) =
     let none = none_later e old.store durable later home.no_group keeps in
-    subst (λ (l : List FileState). Leaves e f (OpensToEither durable l)) (sym none) (home.writes.moments durable (subst (λ (l : List FileState). StoreKeeps e old.store durable l) none keeps))
+    let same : Leaves e f (λ c. OpensTo c durable) = home.writes.moments durable (subst (λ (l : List FileState). StoreKeeps e old.store durable l) none keeps) in
+    subst (λ (l : List FileState). Leaves e f (OpensToEither durable l)) (sym none) (Leaves-weaker e f (λ c. OpensTo c durable) (OpensToEither durable []) (λ c opens. inl opens) same)
 
 -- ---- whether a disk tells
 

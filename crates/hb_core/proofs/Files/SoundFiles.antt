@@ -1,7 +1,7 @@
 -- The operation of a row is allowed and licensed in the file, and every file stays sound.
 use Rattle.hb_core.proofs.Memory.CommitPages.{commit_there}
 use Rattle.std.proofs.Common.{◌≡◌, inl, inr, ℕ, ◌+◌, List, [], ◌∷◌, ◌++◌, length, All, Option, Some, None, IfSome, option_map, refl, sym, ap, ◌∙◌, subst, arith, length-append}
-use Rattle.std.proofs.lemmas.List.Elements.{All-append, All-cons, All-head, All-nil, All-tail}
+use Rattle.std.proofs.lemmas.List.Elements.{All-append, All-cons, All-nil}
 use Rattle.hb_frag.specs.declared.pages.Page.{Page}
 use Rattle.hb_layout.specs.declared.meta.Meta.{Meta}
 use Rattle.hb_ops.specs.declared.operations.Op.{Op}
@@ -37,8 +37,7 @@ use Rattle.hb_store.specs.Parts.{last_of}
 use Rattle.hb_store.specs.Making.{HaveFittingParts, MakesGoodPages}
 use Rattle.hb_store.proofs.Facts.ReplayLaws.{last_of-append}
 use Rattle.hb_store.specs.States.{StoreState, in_memory}
-use Rattle.hb_wal.specs.Log.{Waiting, left_waiting}
-use Rattle.hb_store.specs.Forced.{durable_after, later_after}
+use Rattle.hb_wal.specs.Log.{Waiting}
 
 -- What a store and the files over its disk have in common.
 pub record FilesHold (st : StoreState) (files : Files) : Type 0 where
@@ -165,14 +164,6 @@ module _ (makes : MakesGoodPages) (parts : HaveFittingParts) (points : HeldArePo
       performed : (fetched : StoreState) (deed : Deed) → KeepsPages fetched → FilesHold fetched files → Tells fetched deed.op → Performs m fetched actor deed outcome new → HoldAfter new
       performed fetched deed keeps holds tells performs = done deed.op _ fetched keeps holds tells performs.store performs.files
 
-      -- a force makes the first of the later files durable
-      force_holds : (durable : FileState) (later : List FileState) (groups : List Waiting) → IsSound durable → All IsSound later → length later ≡ length groups
-          → IsSound (durable_after durable later) × All IsSound (later_after later) × (length (later_after later) ≡ length (left_waiting groups)) × (last_of (durable_after durable later) (later_after later) ≡ last_of durable later)
-      force_holds durable [] [] sound all each = (sound, all, refl, refl)
-      force_holds durable [] (group ∷ groups) sound all each = absurd (omega (arith, each))
-      force_holds durable (next ∷ later) [] sound all each = absurd (omega (arith, each))
-      force_holds durable (next ∷ later) (group ∷ groups) sound all each = (All-head IsSound next later all, All-tail IsSound next later all, omega (arith, each), refl)
-
       failed : {most : ℕ} → FailsToWrite m most outcome new → HoldAfter new
       failed fails = (
         files,
@@ -188,19 +179,18 @@ module _ (makes : MakesGoodPages) (parts : HaveFittingParts) (points : HeldArePo
       )
 
       forces : (said : Outcome) → ForcesAll m said outcome new → HoldAfter new
-      forces said (inl (says, is)) =
-          let both = force_holds files.durable files.later m.store.log.groups holds.durable holds.later holds.each in (
-            forced_files files,
-            ap (λ (n : Machine). n.files) is ∙ ap (option_map forced_files) told,
-            subst (λ (n : Machine). FilesHold n.store (forced_files files)) (sym is) (record {
-              durable = both.0;
-              later = both.1;
-              each = both.2;
-              layout = holds.layout;
-              meta = ap (λ (f : FileState). f.meta) both.3 ∙ holds.meta;
-              shown = λ id page there. ap (λ (f : FileState). page_of f id) both.3 ∙ holds.shown id page there;
-            }),
-          )
+      forces said (inl (says, is)) = (
+        forced_files files,
+        ap (λ (n : Machine). n.files) is ∙ ap (option_map forced_files) told,
+        subst (λ (n : Machine). FilesHold n.store (forced_files files)) (sym is) (record {
+          durable = current_sound m.store files holds;
+          later = All-nil IsSound;
+          each = refl;
+          layout = holds.layout;
+          meta = holds.meta;
+          shown = holds.shown;
+        }),
+      )
       forces said (inr badly) = failed badly.1
 
       flushed_more : FlushesMore m outcome new → HoldAfter new

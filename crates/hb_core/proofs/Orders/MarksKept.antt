@@ -1,12 +1,12 @@
 -- After a step the marks of the groups that wait don't fall, and none is behind the order's end.
 use Rattle.std.proofs.Common.{◌≡◌, inl, inr, ℕ, ◌≤◌, List, [], ◌∷◌, ◌++◌, length, All, AllPairs, Option, Some, None, refl, sym, ap, ◌∙◌, subst, arith}
 use Rattle.std.proofs.lemmas.List.{length-append}
-use Rattle.std.proofs.lemmas.List.Elements.{All-push, All-tail, All-weaker}
+use Rattle.std.proofs.lemmas.List.Elements.{All-nil, All-push, All-weaker}
 use Rattle.hb_ops.specs.declared.operations.Op.{Op}
 use Rattle.hb_core.specs.declared.outcomes.Outcome.{Outcome}
 use Rattle.hb_core.specs.declared.outcomes.Outcome.TheVariants as outcomes
 use Rattle.hb_activity.specs.Deeds.{Deed}
-use Rattle.hb_core.proofs.Orders.PendingKept.{IsBelow, rising_one_more, rising_rest}
+use Rattle.hb_core.proofs.Orders.PendingKept.{IsBelow, none_rising, rising_one_more}
 use Rattle.hb_core.proofs.Table.StepKinds.{FlushesMore, each_kind, ready_kind}
 use Rattle.hb_core.specs.Forcing.{FailsToWrite, ForcesAll, StaysSo}
 use Rattle.hb_core.specs.KeptMachine.{MachineKeeps}
@@ -19,14 +19,10 @@ use Rattle.hb_log_codec.specs.Groups.{group_bytes}
 use Rattle.hb_set.specs.Order.{Entry}
 use Rattle.hb_store.specs.Making.{group_here}
 use Rattle.hb_store.specs.States.{StoreState}
-use Rattle.hb_wal.specs.Log.{LogState, Waiting, left_waiting}
+use Rattle.hb_wal.specs.Log.{LogState, Waiting}
 
 abbrev pub IsInside : ℕ → Waiting → Type 0
 IsInside most g = g.mark ≤ most
-
-inside_rest : (most : ℕ) (groups : List Waiting) → All (IsInside most) groups → All (IsInside most) (left_waiting groups)
-inside_rest most [] inside = inside
-inside_rest most (first ∷ rest) inside = All-tail (IsInside most) first rest inside
 
 module _ (m : Machine) (actor : ℕ) (outcome : Outcome) (new : Machine) (marks : MarksRise m) where
   -- no mark is behind the end of a longer order
@@ -64,7 +60,7 @@ module _ (m : Machine) (actor : ℕ) (outcome : Outcome) (new : Machine) (marks 
 
   forces : (said : Outcome) → ForcesAll m said outcome new → MarksRise new
   forces said (inl (says, is)) =
-      rise_as m.order (left_waiting m.store.log.groups) (ap (λ (n : Machine). n.order) is) (ap (λ (n : Machine). n.store.log.groups) is) (rising_rest m.store.log.groups marks.rising) (inside_rest (length m.order) m.store.log.groups marks.inside)
+      rise_as m.order [] (ap (λ (n : Machine). n.order) is) (ap (λ (n : Machine). n.store.log.groups) is) none_rising (All-nil (IsInside (length m.order)))
   forces said (inr badly) = fails badly.1
 
   more_flushed : FlushesMore m outcome new → MarksRise new

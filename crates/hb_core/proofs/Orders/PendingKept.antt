@@ -29,11 +29,10 @@ use Rattle.hb_log_codec.specs.Groups.{group_bytes}
 use Rattle.hb_ops.specs.Files.{FileState, contents_of}
 use Rattle.hb_set.specs.Machine.{RecordSet}
 use Rattle.hb_set.specs.Order.{Entry, IsLegalOrder, result_of}
-use Rattle.hb_store.specs.Forced.{durable_after, later_after}
 use Rattle.hb_store.specs.Making.{group_here}
 use Rattle.hb_store.specs.Parts.{last_of}
 use Rattle.hb_store.specs.States.{StoreState}
-use Rattle.hb_wal.specs.Log.{LogState, Waiting, left_waiting, mark_of}
+use Rattle.hb_wal.specs.Log.{LogState, Waiting, mark_of}
 
 -- ---- groups and the files before them
 
@@ -57,11 +56,6 @@ follows_one_more n order before (first ∷ rest) (x ∷ later) group next same l
   follows_one_more n order x rest later group next (omega (arith, same)) low has follows,
 )
 
-follows_rest : (n : RecordSet) (order : List Entry) (before : FileState) (groups : List Waiting) (later : List FileState) → FollowMarks n order before groups later → FollowMarks n order (durable_after before later) (left_waiting groups) (later_after later)
-follows_rest n order before [] later follows = tt
-follows_rest n order before (group ∷ rest) [] follows = absurd follows
-follows_rest n order before (group ∷ rest) (next ∷ later) (low, has, follows) = follows
-
 -- ---- their marks
 
 pub marks_inside : (n : RecordSet) (order : List Entry) (before : FileState) (groups : List Waiting) (later : List FileState) → FollowMarks n order before groups later → All (λ (g : Waiting). g.mark ≤ length order) groups
@@ -72,15 +66,17 @@ marks_inside n order before (group ∷ rest) (next ∷ later) (low, has, follows
 abbrev pub IsBelow : Waiting → Waiting → Type 0
 IsBelow g h = g.mark ≤ h.mark
 
-pub rising_rest : (groups : List Waiting) → AllPairs IsBelow groups → AllPairs IsBelow (left_waiting groups)
-rising_rest [] rising = rising
-rising_rest (first ∷ rest) rising = λ i j d less inside. rising (suc i) (suc j) d (omega (arith, less)) (omega (arith, inside))
+pub none_rising : AllPairs IsBelow []
+none_rising = λ i j d less inside. absurd (omega (arith, inside))
+
+pub rising_rest : (first : Waiting) (rest : List Waiting) → AllPairs IsBelow (first ∷ rest) → AllPairs IsBelow rest
+rising_rest first rest rising = λ i j d less inside. rising (suc i) (suc j) d (omega (arith, less)) (omega (arith, inside))
 
 pub rising_one_more : (groups : List Waiting) (last : Waiting) → All (λ (g : Waiting). g.mark ≤ last.mark) groups → AllPairs IsBelow groups → AllPairs IsBelow (groups ++ last ∷ [])
 rising_one_more [] last low rising = AllPairs-cons IsBelow last [] (All-nil (IsBelow last)) rising
 rising_one_more (first ∷ rest) last low rising =
     let firsts : All (IsBelow first) rest = λ k d lt. rising 0 (suc k) d (omega arith) (omega (arith, lt)) in
-    let behind = rising_one_more rest last (λ k d lt. low (suc k) d (omega (arith, lt))) (rising_rest (first ∷ rest) rising) in
+    let behind = rising_one_more rest last (λ k d lt. low (suc k) d (omega (arith, lt))) (rising_rest first rest rising) in
     AllPairs-cons IsBelow first (rest ++ last ∷ []) (All-push (IsBelow first) rest last firsts (low 0 first (omega arith))) behind
 
 -- the oldest mark never falls
@@ -88,10 +84,14 @@ later_mark : (groups : List Waiting) (now then : ℕ) → now ≤ then → mark_
 later_mark [] now then le = le
 later_mark (first ∷ rest) now then le = omega arith
 
-pub next_mark : (groups : List Waiting) (now : ℕ) → All (λ (g : Waiting). g.mark ≤ now) groups → AllPairs IsBelow groups → mark_of groups now ≤ mark_of (left_waiting groups) now
-next_mark [] now low rising = omega arith
-next_mark (first ∷ []) now low rising = low 0 first (omega arith)
-next_mark (first ∷ second ∷ rest) now low rising = rising 0 1 first (omega arith) (omega arith)
+pub next_mark : (first : Waiting) (rest : List Waiting) (now : ℕ) → All (λ (g : Waiting). g.mark ≤ now) (first ∷ rest) → AllPairs IsBelow (first ∷ rest) → first.mark ≤ mark_of rest now
+next_mark first [] now low rising = low 0 first (omega arith)
+next_mark first (second ∷ rest) now low rising = rising 0 1 first (omega arith) (omega arith)
+
+-- and is none that is to come
+mark_inside : (groups : List Waiting) (now : ℕ) → All (λ (g : Waiting). g.mark ≤ now) groups → mark_of groups now ≤ now
+mark_inside [] now low = omega arith
+mark_inside (first ∷ rest) now low = low 0 first (omega arith)
 
 joined_mark : (groups : List Waiting) (group : Waiting) (now then : ℕ) → group.mark ≡ now → mark_of groups now ≤ mark_of (groups ++ group ∷ []) then
 joined_mark [] group now then is = omega (arith, is)
@@ -136,11 +136,10 @@ module _ (n : RecordSet) (m : Machine) (files : Files) (new : Machine) (files' :
   same : new.order ≡ m.order → new.store.log.groups ≡ m.store.log.groups → new.files ≡ m.files → KeepsMarks n m new files'
   same order_is groups_are files_are = grown [] (order_is ∙ sym (append-nil m.order)) groups_are files_are
 
-  -- a group is forced
-  forced : new.order ≡ m.order → new.store.log.groups ≡ left_waiting m.store.log.groups → new.files ≡ option_map forced_files m.files → KeepsMarks n m new files'
+  -- the groups are forced, and none waits
+  forced : new.order ≡ m.order → new.store.log.groups ≡ [] → new.files ≡ option_map forced_files m.files → KeepsMarks n m new files'
   forced order_is groups_are files_are =
-      kept_as m.order (left_waiting m.store.log.groups) (forced_files files) order_is groups_are (files_are ∙ ap (option_map forced_files) told) (follows_rest n m.order files.durable m.store.log.groups files.later pending.marks)
-      (rising_rest m.store.log.groups pending.rising) (next_mark m.store.log.groups (length m.order) low pending.rising)
+      kept_as m.order [] (forced_files files) order_is groups_are (files_are ∙ ap (option_map forced_files) told) tt none_rising (mark_inside m.store.log.groups (length m.order) low)
 
   -- a group joins those that wait
   joined : (more : List Entry) (group : Waiting) (op : Op) → group.mark ≡ length m.order → new.order ≡ m.order ++ more → new.store.log.groups ≡ m.store.log.groups ++ group ∷ [] → new.files ≡ option_map (with_effect op) m.files → KeepsMarks n m new files'
@@ -160,9 +159,9 @@ module _ (n : RecordSet) (m : Machine) (files : Files) (new : Machine) (files' :
     stayed : (said : Outcome) → StaysSo m said outcome new → KeepsMarks n m new files'
     stayed said so = same (ap (λ (x : Machine). x.order) so.1) (ap (λ (x : Machine). x.store.log.groups) so.1) (ap (λ (x : Machine). x.files) so.1)
 
-    forced_first : (said : Outcome) → ForcesAll m said outcome new → KeepsMarks n m new files'
-    forced_first said (inl well) = forced (ap (λ (x : Machine). x.order) well.1) (ap (λ (x : Machine). x.store.log.groups) well.1) (ap (λ (x : Machine). x.files) well.1)
-    forced_first said (inr badly) = same (ap (λ (x : Machine). x.order) badly.1.stops) (ap (λ (x : Machine). x.store.log.groups) badly.1.stops) (ap (λ (x : Machine). x.files) badly.1.stops)
+    forced_all : (said : Outcome) → ForcesAll m said outcome new → KeepsMarks n m new files'
+    forced_all said (inl well) = forced (ap (λ (x : Machine). x.order) well.1) (ap (λ (x : Machine). x.store.log.groups) well.1) (ap (λ (x : Machine). x.files) well.1)
+    forced_all said (inr badly) = same (ap (λ (x : Machine). x.order) badly.1.stops) (ap (λ (x : Machine). x.store.log.groups) badly.1.stops) (ap (λ (x : Machine). x.files) badly.1.stops)
 
     met : MeetsBadPage m actor outcome new → KeepsMarks n m new files'
     met meets = same (ap (λ (x : Machine). x.order) meets.stops) (ap (λ (x : Machine). x.store.log.groups) meets.stops ∙ ap (λ (log : LogState). log.groups) meets.brings.rest.log) (ap (λ (x : Machine). x.files) meets.stops)
@@ -182,7 +181,7 @@ module _ (n : RecordSet) (m : Machine) (files : Files) (new : Machine) (files' :
 
     worked : Works m actor outcome new → KeepsMarks n m new files'
     worked (inl (by, way, so)) = stayed (outcomes.Blocked by) so
-    worked (inr (inl (free, unready, inl (waits, force)))) = forced_first outcomes.Helped force
+    worked (inr (inl (free, unready, inl (waits, force)))) = forced_all outcomes.Helped force
     worked (inr (inl (free, unready, inr (none, rest)))) =
         ready_kind m actor outcome new (KeepsMarks n m new files') none flushed_more (performed m.store _ refl) rest
     worked (inr (inr (free, ready, inl acts))) = performed acts.fetched acts.deed acts.brings.rest.log acts.performs
@@ -193,7 +192,7 @@ module _ (n : RecordSet) (m : Machine) (files : Files) (new : Machine) (files' :
     keeps_marks step =
         each_kind m actor outcome new (KeepsMarks n m new files')
         (λ said quiet so. stayed said so)
-        (λ said quiet force. forced_first said force)
+        (λ said quiet force. forced_all said force)
         flushed_more
         (λ deed outright performs. performed m.store deed refl performs)
         worked

@@ -38,11 +38,11 @@ later_files n order low before [] (x ∷ later) follows rising same result above
 later_files n order low before (group ∷ rest) [] follows rising same result above = absurd follows
 later_files n order low before (group ∷ rest) (next ∷ later) (inside, has, follows) rising same result above =
     let marks = marks_inside n order before (group ∷ rest) (next ∷ later) (inside, has, follows) in
-    let rises = next_mark (group ∷ rest) (length order) marks rising in
+    let rises = next_mark group rest (length order) marks rising in
     let further : low ≤ mark_of rest (length order) = omega (arith, above, rises) in
     let shorter : length later ≡ length rest = omega (arith, same) in
     All-cons (HasSome n order low) next later (mark_of rest (length order), first_file n order low next rest later follows shorter result further)
-    (later_files n order low next rest later follows (rising_rest (group ∷ rest) rising) shorter result further)
+    (later_files n order low next rest later follows (rising_rest group rest rising) shorter result further)
 
 pub files_have_prefixes : FilesHavePrefixes
 files_have_prefixes n m files sound legal pending =

@@ -41,7 +41,6 @@ use Rattle.hb_store.specs.Making.{HaveFittingParts, MakesGoodPages}
 use Rattle.hb_store.proofs.Facts.ReplayLaws.{last_of-append}
 use Rattle.hb_store.specs.States.{StoreState}
 use Rattle.hb_space.proofs.Facts.PointOrder.{same_point}
-use Rattle.hb_store.proofs.Facts.StoreLaws.{last_forced}
 use Rattle.hb_core.proofs.Memory.BroughtPages.{told_files}
 
 -- ---- what an operation does
@@ -67,7 +66,7 @@ module _ (makes : MakesGoodPages) (parts : HaveFittingParts) (points : HeldArePo
   stays said (says, is) = unmoved files (ap (λ (n : Machine). n.files) is ∙ told) (ap (λ (n : Machine). n.order) is) refl
 
   forces : (said : Outcome) → ForcesAll m said outcome new → Follows
-  forces said (inl (says, is)) = unmoved (forced_files files) (ap (λ (n : Machine). n.files) is ∙ ap (option_map forced_files) told) (ap (λ (n : Machine). n.order) is) (last_forced files.durable files.later)
+  forces said (inl (says, is)) = unmoved (forced_files files) (ap (λ (n : Machine). n.files) is ∙ ap (option_map forced_files) told) (ap (λ (n : Machine). n.order) is) refl
   forces said (inr badly) = unmoved files (ap (λ (n : Machine). n.files) badly.1.stops ∙ told) (ap (λ (n : Machine). n.order) badly.1.stops) refl
 
   meets : MeetsBadPage m actor outcome new → Follows

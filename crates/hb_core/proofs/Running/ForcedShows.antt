@@ -4,8 +4,9 @@ use Rattle.std.specs.Option.{option_map}
 use Rattle.hb_disk.specs.Model.{DiskModel}
 use Rattle.hb_lemmas.proofs.Options.{not_none, some_value}
 use Rattle.hb_ops.specs.Files.{FileState}
-use Rattle.hb_store.specs.Forced.{MayWriteGroups, WritesGroups, durable_after, forced_state, later_after, stopped_state}
+use Rattle.hb_store.specs.Forced.{MayWriteGroups, WritesGroups, forced_state, stopped_state}
 use Rattle.hb_store.specs.Keeps.{StoreKeeps}
+use Rattle.hb_store.specs.Parts.{last_of}
 use Rattle.hb_store.specs.States.{StoreState}
 use Rattle.hb_store.specs.declared.stops.StopWhy.{StopWhy}
 use Rattle.hb_store.specs.declared.stops.StopWhy.TheVariants as stops
@@ -101,7 +102,7 @@ shown_stopped why d c m shows = record {
 
 -- ---- a force
 
--- the machine once the oldest group is durable
+-- the machine once no group waits
 abbrev pub forced : Machine → Machine
 forced m = with_disk (forced_state m.store) (option_map forced_files m.files) (m.clock + calls_of_force m.store.log.groups) m
 
@@ -128,7 +129,7 @@ module _ (d e : DiskModel) (c : RunningCore) (st : StoreState) (uses : List Use)
         record {
           files = forced_files had.files;
           told = ap (option_map forced_files) had.told;
-          kept = subst (λ (s : StoreState). StoreKeeps e s (durable_after had.files.durable had.files.later) (later_after had.files.later)) (sym same) (writes.keeps_forced had.files.durable had.files.later (kept_before had));
+          kept = subst (λ (s : StoreState). StoreKeeps e s (last_of had.files.durable had.files.later) []) (sym same) (writes.keeps_forced had.files.durable had.files.later (kept_before had));
           clock = ap (λ (n : ℕ). n + calls_of_force m.store.log.groups) had.clock ∙ ap (λ (s : StoreState). d.clock + calls_of_force s.log.groups) shows.store ∙ sym (writes.clock (was_told told));
         }
 
