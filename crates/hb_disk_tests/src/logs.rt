@@ -1,7 +1,8 @@
 //! A log's life over a disk in memory, what crashes and faults leave, and areas that are good, cut short or
 //! bad.
 
-ghost use Rattle.std.specs.Prelude.{◌≤◌, IfOk, IsTrue};
+ghost use Rattle.std.specs.Prelude.{◌≡◌, ◌≤◌, [], IfOk, IsTrue};
+ghost use Rattle.hb_disk.specs.Model.{DiskModel};
 ghost use Rattle.hb_wal.specs.Forces.{MayForce};
 
 use crate::letters::{PICKS, bytes_of, disk_of, push_bytes};
@@ -78,8 +79,30 @@ area: #___1x | 1 => disk fault
 // 30 bytes of which none is zero.
 const NOISE: &str = "nnnnnnnnnnnnnnnnnnnnnnnnnnnnnn";
 
-// A log of 24 bytes behind the first two, with two groups that wait.
-fn begun<D: Device>(alloc: Global, disk: &mut D) -> Result<Wal, Fail>
+// Lets so many groups wait in a log of 24 bytes, three at most: `ab`, `c` and `d`. A fourth one has no room.
+fn wait(log: &mut Wal, groups: u8)
+    requires { log.old ≡ record { area = 2; len = 24; written = 0; groups = [] } }
+    ensures area { log.new.area ≡ 2 }
+    ensures len { log.new.len ≡ 24 }
+    ensures written { log.new.written ≡ 0 }
+{
+    match groups {
+        0 => {}
+        1 => log.append(b"ab", 3),
+        2 => {
+            log.append(b"ab", 3);
+            log.append(b"c", 5);
+        }
+        _ => {
+            log.append(b"ab", 3);
+            log.append(b"c", 5);
+            log.append(b"d", 5);
+        }
+    }
+}
+
+// A log of 24 bytes behind the first two, with so many groups that wait.
+fn begun<D: Device>(alloc: Global, disk: &mut D, groups: u8) -> Result<Wal, Fail>
     requires { 26 ≤ (D.model disk.old).size }
     ensures ready { IfOk result (λ log. MayForce (D.model disk.new) log) }
 {
@@ -87,9 +110,19 @@ fn begun<D: Device>(alloc: Global, disk: &mut D) -> Result<Wal, Fail>
         return Err("the area wasn't zeroed".into());
     };
     let mut log = Wal::new(alloc, 2, 24)?;
-    log.append(b"ab", 3);
-    log.append(b"c", 5);
+    wait(&mut log, groups);
     Ok(log)
+}
+
+// Lets one more group wait, `e`, where none does and it has room.
+fn wait_again(log: &mut Wal) -> bool
+    ensures { (d : DiskModel) → MayForce d log.old → MayForce d log.new }
+{
+    if log.pending() != 0 || log.room() == 0 {
+        return false;
+    }
+    log.append(b"e", 7);
+    true
 }
 
 // Whether a force succeeds.
@@ -109,13 +142,41 @@ fn force_often<D: Device>(disk: &mut D, log: &mut Wal, forces: u8)
     }
 }
 
-// The log after so many forces, or up to the first that fails.
-fn forced_often<D: Device>(alloc: Global, disk: &mut D, forces: u8) -> Result<Wal, Fail> {
+// Forces once, lets one more group wait, and forces so often, or up to the first that fails.
+fn force_again<D: Device>(disk: &mut D, log: &mut Wal, forces: u8)
+    requires { MayForce (D.model disk.old) log.old }
+{
+    if forced(disk, log) && wait_again(log) {
+        force_often(disk, log, forces);
+    }
+}
+
+// How many groups wait at first, and whether they are forced before one more waits: from `GROUPS` or `GROUPS+1`.
+fn groups_of(text: &str) -> Result<(u8, bool), Fail> {
+    match text.split_once('+') {
+        Some((groups, "1")) => Ok((groups.parse()?, true)),
+        Some(_) => Err("more than one group more".into()),
+        None => Ok((text.parse()?, false)),
+    }
+}
+
+// The log of such groups after so many forces of the last ones, or up to the first that fails.
+fn forced_often<D: Device>(
+    alloc: Global,
+    disk: &mut D,
+    groups: &str,
+    forces: u8,
+) -> Result<Wal, Fail> {
     if disk.size() < 26 {
         return Err("a small disk".into());
     }
-    let mut log = begun(alloc, disk)?;
-    force_often(disk, &mut log, forces);
+    let (groups, is_again) = groups_of(groups)?;
+    let mut log = begun(alloc, disk, groups)?;
+    if is_again {
+        force_again(disk, &mut log, forces);
+    } else {
+        force_often(disk, &mut log, forces);
+    }
     Ok(log)
 }
 
@@ -130,27 +191,27 @@ fn push_log(text: &mut String, log: &Wal) -> Result<(), NoMemory> {
     )
 }
 
-fn push_life(alloc: Global, text: &mut String, disk: &mut MemDisk, forces: u8) -> Result<(), Fail> {
-    let log = forced_often(alloc, disk, forces)?;
+fn push_life(
+    alloc: Global,
+    text: &mut String,
+    disk: &mut MemDisk,
+    groups: &str,
+    forces: u8,
+) -> Result<(), Fail> {
+    let log = forced_often(alloc, disk, groups, forces)?;
     push_log(text, &log)?;
     write!(text, " {} {} ", log.room(), disk.calls())?;
     Ok(push_bytes(text, disk.bytes())?)
 }
 
-/// The log, its room, the calls of the disk and its bytes, after so many forces.
+/// The log, its room, the calls of the disk and its bytes: from `GROUPS FORCES`.
 pub(crate) fn life(alloc: Global, question: &str) -> Result<String, Fail> {
-    let forces = question.parse()?;
+    let (groups, forces) = question.split_once(' ').ok_or("no forces")?;
+    let forces = forces.parse()?;
     let mut text = String::new(alloc);
-    push_life(alloc, &mut text, &mut disk_of(alloc, NOISE, "")?, forces)?;
+    let mut disk = disk_of(alloc, NOISE, "")?;
+    push_life(alloc, &mut text, &mut disk, groups, forces)?;
     Ok(text)
-}
-
-// How many frames bytes have. 99 where they are no area.
-fn count_of(alloc: Global, bytes: Vec<u8>) -> usize {
-    match whole_area(alloc, &mut MemDisk::new(alloc, bytes)) {
-        Ok(payloads) => payloads.len(),
-        Err(_) => 99,
-    }
 }
 
 // The log's area in an image of the disk.
@@ -160,10 +221,11 @@ fn area_in(alloc: Global, disk: &MemDisk, before: u64, pick: Pick) -> Result<Vec
     Ok(area.to_vec(alloc)?)
 }
 
-fn push_counts(alloc: Global, text: &mut String, disk: &MemDisk, before: u64) -> Result<(), Fail> {
+fn push_areas(alloc: Global, text: &mut String, disk: &MemDisk, before: u64) -> Result<(), Fail> {
     for pick in PICKS {
         let area = area_in(alloc, disk, before, pick)?;
-        write!(text, " {}", count_of(alloc, area))?;
+        text.push_str(", ")?;
+        push_read(text, whole_area(alloc, &mut MemDisk::new(alloc, area)))?;
     }
     Ok(())
 }
@@ -172,23 +234,21 @@ fn push_force(
     alloc: Global,
     text: &mut String,
     disk: &mut MemDisk,
+    groups: &str,
     before: u64,
 ) -> Result<(), Fail> {
-    push_log(text, &forced_often(alloc, disk, 1)?)?;
-    push_counts(alloc, text, disk, before)
+    push_log(text, &forced_often(alloc, disk, groups, 1)?)?;
+    push_areas(alloc, text, disk, before)
 }
 
-/// The log after a force, and how many frames the images of a moment have: from `FAILING | MOMENT`.
+/// The log after a force of the last groups, and what is read of the images of a moment: from `GROUPS | FAILING | MOMENT`.
 pub(crate) fn force(alloc: Global, question: &str) -> Result<String, Fail> {
-    let (failing, before) = question.split_once(" | ").ok_or("no moment")?;
+    let (groups, rest) = question.split_once(" | ").ok_or("no groups")?;
+    let (failing, before) = rest.split_once(" | ").ok_or("no moment")?;
     let before = before.parse()?;
     let mut text = String::new(alloc);
-    push_force(
-        alloc,
-        &mut text,
-        &mut disk_of(alloc, NOISE, failing)?,
-        before,
-    )?;
+    let mut disk = disk_of(alloc, NOISE, failing)?;
+    push_force(alloc, &mut text, &mut disk, groups, before)?;
     Ok(text)
 }
 
@@ -197,22 +257,83 @@ fn a_log_lives(rt: HostRuntime) -> Result<(), Fail> {
     expect_all(&rt, rt.alloc(), LIFE)
 }
 
+// The area takes two calls, and a force of whatever waits four. Room is counted as if each group that waits were a frame.
 const LIFE: &str = "
-life: 0 => 3 0 3 6 2 nn________________________nnnn
-life: 1 => 1 7 5 6 6 nn#___2ab_________________nnnn
-life: 2 => 0 13 9 6 10 nn#___2ab#___1c___________nnnn
-life: 3 => 0 13 9 6 10 nn#___2ab#___1c___________nnnn
-// a force is stopped
-force:  | 2 => 1 7 5 0 0 0
-force:  | 3 => 1 7 5 0 0 0
-force:  | 4 => 1 7 5 0 0 0
-force:  | 5 => 1 7 5 0 1 1
-force:  | 6 => 1 7 5 1 1 1
-// each call of a force fails
-force: 2 | 3 => 3 0 3 0 0 0
-force: 3 | 4 => 3 0 3 0 0 0
-force: 4 | 5 => 3 0 3 0 0 1
-force: 5 | 6 => 3 0 3 0 1 1
+life: 0 0 => 0 0 9 19 2 nn________________________nnnn
+life: 0 1 => 0 0 9 19 2 nn________________________nnnn
+life: 1 0 => 2 0 3 12 2 nn________________________nnnn
+life: 1 1 => 0 7 9 12 6 nn#___2ab_________________nnnn
+life: 1 2 => 0 7 9 12 6 nn#___2ab_________________nnnn
+life: 2 0 => 3 0 3 6 2 nn________________________nnnn
+life: 2 1 => 0 8 9 11 6 nn#___3abc________________nnnn
+life: 2 2 => 0 8 9 11 6 nn#___3abc________________nnnn
+life: 2 3 => 0 8 9 11 6 nn#___3abc________________nnnn
+life: 3 0 => 4 0 3 0 2 nn________________________nnnn
+life: 3 1 => 0 9 9 10 6 nn#___4abcd_______________nnnn
+life: 3 2 => 0 9 9 10 6 nn#___4abcd_______________nnnn
+// one more group behind them is a frame of its own
+life: 0+1 0 => 1 0 7 13 2 nn________________________nnnn
+life: 0+1 1 => 0 6 9 13 6 nn#___1e__________________nnnn
+life: 1+1 0 => 1 7 7 6 6 nn#___2ab_________________nnnn
+life: 1+1 1 => 0 13 9 6 10 nn#___2ab#___1e___________nnnn
+life: 1+1 2 => 0 13 9 6 10 nn#___2ab#___1e___________nnnn
+life: 2+1 0 => 1 8 7 5 6 nn#___3abc________________nnnn
+life: 2+1 1 => 0 14 9 5 10 nn#___3abc#___1e__________nnnn
+life: 3+1 0 => 1 9 7 4 6 nn#___4abcd_______________nnnn
+life: 3+1 1 => 0 15 9 4 10 nn#___4abcd#___1e_________nnnn
+";
+
+#[test]
+fn a_force_stops(rt: HostRuntime) -> Result<(), Fail> {
+    expect_all(&rt, rt.alloc(), FORCES)
+}
+
+// Of the groups that are forced together all are there or none.
+const FORCES: &str = "
+// a force is stopped, of one group
+force: 1 |  | 2 => 0 7 9, end, end, end
+force: 1 |  | 3 => 0 7 9, end, end, end
+force: 1 |  | 4 => 0 7 9, end, end, end
+force: 1 |  | 5 => 0 7 9, end, ab end, ab end
+force: 1 |  | 6 => 0 7 9, ab end, ab end, ab end
+// of two
+force: 2 |  | 2 => 0 8 9, end, end, end
+force: 2 |  | 3 => 0 8 9, end, end, end
+force: 2 |  | 4 => 0 8 9, end, end, end
+force: 2 |  | 5 => 0 8 9, end, abc end, abc end
+force: 2 |  | 6 => 0 8 9, abc end, abc end, abc end
+// of three
+force: 3 |  | 2 => 0 9 9, end, end, end
+force: 3 |  | 3 => 0 9 9, end, end, end
+force: 3 |  | 4 => 0 9 9, end, end, end
+force: 3 |  | 5 => 0 9 9, end, abcd end, abcd end
+force: 3 |  | 6 => 0 9 9, abcd end, abcd end, abcd end
+// of one behind the frame of three
+force: 3+1 |  | 6 => 0 15 9, abcd end, abcd end, abcd end
+force: 3+1 |  | 7 => 0 15 9, abcd end, abcd end, abcd end
+force: 3+1 |  | 8 => 0 15 9, abcd end, abcd end, abcd end
+force: 3+1 |  | 9 => 0 15 9, abcd end, abcd e end, abcd e end
+force: 3+1 |  | 10 => 0 15 9, abcd e end, abcd e end, abcd e end
+// each call of a force fails, and all groups wait still: of one group
+force: 1 | 2 | 3 => 2 0 3, end, end, end
+force: 1 | 3 | 4 => 2 0 3, end, end, end
+force: 1 | 4 | 5 => 2 0 3, end, end, ab end
+force: 1 | 5 | 6 => 2 0 3, end, ab end, ab end
+// of two
+force: 2 | 2 | 3 => 3 0 3, end, end, end
+force: 2 | 3 | 4 => 3 0 3, end, end, end
+force: 2 | 4 | 5 => 3 0 3, end, end, abc end
+force: 2 | 5 | 6 => 3 0 3, end, abc end, abc end
+// of three
+force: 3 | 2 | 3 => 4 0 3, end, end, end
+force: 3 | 3 | 4 => 4 0 3, end, end, end
+force: 3 | 4 | 5 => 4 0 3, end, end, abcd end
+force: 3 | 5 | 6 => 4 0 3, end, abcd end, abcd end
+// of one behind the frame of three
+force: 3+1 | 6 | 7 => 1 9 7, abcd end, abcd end, abcd end
+force: 3+1 | 7 | 8 => 1 9 7, abcd end, abcd end, abcd end
+force: 3+1 | 8 | 9 => 1 9 7, abcd end, abcd end, abcd e end
+force: 3+1 | 9 | 10 => 1 9 7, abcd end, abcd e end, abcd e end
 ";
 
 // The put of the point 5 with the body `a` into page 1, as a group of the log has it.

@@ -11,7 +11,7 @@ use Rattle.hb_disk.specs.Model.{DiskModel}
 use Rattle.hb_disk.specs.Untold.{untold_of}
 use Rattle.hb_frag.specs.declared.pages.Page.{Page}
 use Rattle.hb_layout.specs.declared.meta.Meta.{Meta}
-use Rattle.hb_wal.specs.Log.{LogState, Waiting, left_waiting}
+use Rattle.hb_wal.specs.Log.{LogState, Waiting}
 use Rattle.hb_ops.specs.declared.operations.Op.{Op}
 use Rattle.hb_ops.specs.Files.{FileState}
 use Rattle.hb_ops.specs.Operations.{IsLicensed, reads_of}
@@ -156,16 +156,12 @@ numbered st new uses after none may order driven =
 
 -- ---- forces and flushes
 
--- a force leaves the groups behind the first one
-left_marks : (groups : List Waiting) → All IsEarly groups → All IsEarly (left_waiting groups)
-left_marks [] marks = marks
-left_marks (first ∷ rest) marks = All-tail IsEarly first rest marks
-
+-- behind a force no group waits
 pub forced : (st new : StoreState) (uses after : List Use) → new ≡ forced_state st → after ≡ uses → IsDrivenHere st uses → IsDrivenHere new after
 forced st new uses after same order driven =
     subst (λ (s : StoreState). IsDrivenHere s after) (sym same) (subst (λ (l : List Use). IsDrivenHere (forced_state st) l) (sym order) (record {
       running = driven.running;
-      marks = left_marks st.log.groups driven.marks;
+      marks = All-nil IsEarly;
       stay = driven.stay;
     }))
 

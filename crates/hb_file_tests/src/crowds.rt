@@ -86,23 +86,22 @@ fn takes_turns(store: &mut Store<RotDisk>, turns: &[(char, char)]) -> bool
 /// then; and how many calls the disk has had.
 type Crowd = (usize, u32, &'static [(char, char)], char, u64);
 
-const CROWDS: [Crowd; 5] = [
-    // each frame has a page that is dirty or pinned, until one went home; it left, and is read again
+const CROWDS: [Crowd; 6] = [
+    // each frame has a page that is dirty or pinned, until one went home; it left, and is read again. One force takes all groups
     (1, 127, &[('c', 'f'), ('c', 'w'), ('o', 'n')], 'o', 134),
     (
         3,
         125,
-        &[
-            ('c', 'f'),
-            ('c', 'f'),
-            ('c', 'f'),
-            ('c', 'w'),
-            ('o', 'w'),
-            ('o', 'w'),
-            ('o', 'n'),
-        ],
+        &[('c', 'f'), ('c', 'w'), ('o', 'w'), ('o', 'w'), ('o', 'n')],
         'o',
-        142,
+        134,
+    ),
+    (
+        2,
+        126,
+        &[('c', 'f'), ('c', 'w'), ('o', 'w'), ('o', 'n')],
+        'o',
+        134,
     ),
     // a frame is left
     (1, 126, &[('o', 'f'), ('o', 'w'), ('o', 'n')], 'o', 132),

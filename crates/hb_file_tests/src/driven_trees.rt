@@ -1,6 +1,6 @@
 //! Two trees that grow, as tables. In the first one a page is split that came of a split before, and both are posted. In the
 //! second one a page above others is split, so that one page has two parents; that page is split, and the new one is posted in
-//! both. The operations were chosen by hand. A small assembler that isn't the program put their bytes together, after
+//! both. Each stands here twice: with a force behind each step, and with forces of several groups. The operations were chosen by hand. A small assembler that isn't the program put their bytes together, after
 //! `docs/FORMAT.md`.
 
 use crate::drives::Tree;
@@ -69,6 +69,7 @@ pub(crate) const SPLIT_AGAIN: Tree = Tree {
     ],
     fetched: &[2, 3],
     steps: &[(4, SPLIT_2, 4126), (5, POST_2, 4127), (5, POST_4, 28)],
+    ends: &[1, 2, 3],
     // the turn's superblock; then the frames in the second log area. The first two have a page image of the page that they read
     written: &[
         (4096, TAKEN_NEXT),
@@ -92,6 +93,22 @@ pub(crate) const SPLIT_AGAIN: Tree = Tree {
         (3, 4, 3, ABOVE_THREE),
         (1, 4, 4, FROM_9),
     ],
+};
+
+/// The same where all three groups are forced together, as one frame of 8,281 bytes.
+pub(crate) const SPLIT_TOGETHER: Tree = Tree {
+    ends: &[3],
+    written: &[
+        (4096, TAKEN_NEXT),
+        (73_728, b"\xa5\0\0\x20\x59\x01\0\0\0\x02"),
+        (73_738, FROM_5),
+        (77_834, SPLIT_2_BEHIND),
+        (77_859, b"\x01\0\0\0\x03"),
+        (77_864, ABOVE),
+        (81_960, POST_2_BEHIND),
+        (81_986, POST_4),
+    ],
+    ..SPLIT_AGAIN
 };
 
 /// In the second tree: what the file says, of six pages, of which one is taken.
@@ -204,6 +221,7 @@ pub(crate) const TWO_PARENTS: Tree = Tree {
         (0, POST_BELOW, 28),
         (0, POST_ABOVE, 28),
     ],
+    ends: &[1, 2, 3, 4, 5, 6, 7, 8, 9],
     // only the first group has a page image
     written: &[
         (4096, ONE_NEXT),
@@ -255,4 +273,26 @@ pub(crate) const TWO_PARENTS: Tree = Tree {
         (6, 10, 5, ROOT_POSTED),
         (7, 10, 6, BOTH),
     ],
+};
+
+/// The same where the first group is forced alone, the next two together, and then the last six.
+pub(crate) const PARENTS_TOGETHER: Tree = Tree {
+    ends: &[1, 3, 9],
+    written: &[
+        (4096, ONE_NEXT),
+        (73_728, b"\xa5\0\0\x10\x32\x01\0\0\0\x01"),
+        (73_738, POINTS),
+        (77_834, SPLIT_1_BEHIND),
+        (77_879, b"\xa5\0\0\0\x25"),
+        (77_884, GROW_3),
+        (77_894, POST_HOLE),
+        (77_921, b"\xa5\0\0\0\x7f"),
+        (77_926, SPLIT_3),
+        (77_943, GROW_5),
+        (77_953, POST_OTHER),
+        (77_980, SPLIT_1_AGAIN),
+        (77_997, POST_BELOW),
+        (78_025, POST_ABOVE),
+    ],
+    ..TWO_PARENTS
 };

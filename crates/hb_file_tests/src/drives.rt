@@ -5,8 +5,8 @@ ghost use Rattle.std.specs.Prelude.{◌≡◌, Some, true, IfSome};
 ghost use Rattle.hb_store.specs.Seen.{seen_as, uses_of};
 ghost use Rattle.hb_file_tests.specs.Driven.{IsDrivenHere};
 
-use crate::driven_trees::{SPLIT_AGAIN, TWO_PARENTS};
-use crate::stores::{NEVER, done, held};
+use crate::driven_trees::{PARENTS_TOGETHER, SPLIT_AGAIN, SPLIT_TOGETHER, TWO_PARENTS};
+use crate::stores::{NEVER, done, forced, held};
 use hb_disk::{MemDisk, Pick, RotDisk};
 use hb_ops::Meta;
 use hb_restart::recover;
@@ -22,6 +22,8 @@ pub(crate) struct Tree {
     /// For each step the number that an allocation takes, 0 for none; the operation, as a group without page images has it; and
     /// how many bytes its group has.
     pub(crate) steps: &'static [(u32, &'static [u8], u32)],
+    /// Behind which numbers of steps all groups that wait are forced. The last one is the number of all steps.
+    pub(crate) ends: &'static [usize],
     /// What the opening and the driving write: pieces at their offsets.
     pub(crate) written: &'static [(usize, &'static [u8])],
     /// After each number of steps: the root, the height, the highest page and the pages in use.
@@ -33,7 +35,7 @@ pub(crate) struct Tree {
 }
 
 /// The trees.
-const TREES: [Tree; 2] = [SPLIT_AGAIN, TWO_PARENTS];
+const TREES: [Tree; 4] = [SPLIT_AGAIN, SPLIT_TOGETHER, TWO_PARENTS, PARENTS_TOGETHER];
 
 /// The three kinds of images.
 pub(crate) const PICKS: [Pick; 3] = [Pick::Old, Pick::New, Pick::Noise(165)];
@@ -102,30 +104,36 @@ fn number(store: &mut Store<RotDisk>) -> Option<u32>
     }
 }
 
-/// Takes a step, and forces its group. `Some(false)` where the force failed; `None` where something else isn't as it is to be.
+/// Takes a step, and where that is asked for forces all groups that wait. `Some(false)` where the force failed; `None` where something
+/// else isn't as it is to be.
 pub(crate) fn stepped(
     alloc: Global,
     store: &mut Store<RotDisk>,
     step: (u32, &[u8], u32),
+    is_forced: bool,
 ) -> Option<bool>
     requires { IsDrivenHere (seen_as store.old) (uses_of store.old) }
     ensures { result ≡ Some true → IsDrivenHere (seen_as store.new) (uses_of store.new) }
 {
-    let (fresh, group, pending) = step;
+    let (fresh, group, more) = step;
+    let pending = store.pending().saturating_add(more);
     if number(store)? != fresh || !done(alloc, store, group)? || store.pending() != pending {
         return None;
     }
-    match store.force() {
-        Ok(()) => Some(true),
-        Err(_) => Some(false),
+    if is_forced {
+        Some(forced(store))
+    } else {
+        Some(true)
     }
 }
 
 /// The disk behind a driving, up to the force that failed.
 fn driven(alloc: Global, tree: &Tree, failing: u64) -> Option<MemDisk> {
     let mut store = begun(alloc, tree, failing)?;
+    let mut count = 0;
     for step in tree.steps {
-        match stepped(alloc, &mut store, *step) {
+        count = usize::saturating_add(count, 1);
+        match stepped(alloc, &mut store, *step, tree.ends.contains(&count)) {
             Some(true) => {}
             Some(false) => return Some(store.into_disk().inner),
             None => return None,
@@ -150,7 +158,12 @@ fn writes(alloc: Global, tree: &Tree) -> Option<bool> {
 #[test]
 fn a_driving_writes_these_bytes(rt: HostRuntime) {
     for tree in TREES {
-        assert!(rt; writes(rt.alloc(), &tree) == Some(true), "{}", tree.size);
+        assert!(rt;
+            writes(rt.alloc(), &tree) == Some(true),
+            "{} {:?}",
+            tree.size,
+            tree.ends
+        );
     }
 }
 
@@ -211,12 +224,20 @@ pub(crate) fn image_opened(
     reopened(alloc, tree, count, disk.image(before, pick).ok()??)
 }
 
-/// How many steps a crash leaves that comes before this call of the forces: a group's are a write, a sync, the write of its
-/// gate, and a sync. A gate that is written and not synced is closed in an old image, and open in the others.
-fn steps_left(call: u64, pick: Pick) -> usize {
+/// How many steps so many forces make last.
+fn lasting(tree: &Tree, forces: u64) -> usize {
+    match (forces as usize).checked_sub(1) {
+        Some(place) => tree.ends.get(place).copied().unwrap_or(usize::MAX),
+        None => 0,
+    }
+}
+
+/// How many steps a crash leaves that comes before this call of the forces: each is a write, a sync, the write of the gate, and a
+/// sync. A gate that is written and not synced is closed in an old image, and open in the others.
+fn steps_left(tree: &Tree, call: u64, pick: Pick) -> usize {
     match pick {
-        Pick::Old => (call / 4) as usize,
-        Pick::New | Pick::Noise(_) => (call.saturating_add(1) / 4) as usize,
+        Pick::Old => lasting(tree, call / 4),
+        Pick::New | Pick::Noise(_) => lasting(tree, call.saturating_add(1) / 4),
     }
 }
 
@@ -227,7 +248,7 @@ fn first_lost(alloc: Global, tree: &Tree, pick: Pick) -> Option<u64> {
         return Some(9999);
     };
     for call in 0..disk.calls().saturating_sub(first).saturating_add(1) {
-        let count = steps_left(call, pick);
+        let count = steps_left(tree, call, pick);
         if image_opened(alloc, tree, count, &disk, first.saturating_add(call), pick).is_none() {
             return Some(call);
         }
@@ -242,8 +263,9 @@ fn a_driving_stops_before_each_call(rt: HostRuntime) {
             assert_eq!(rt;
                 first_lost(rt.alloc(), &tree, pick),
                 None,
-                "{} {pick:?}",
-                tree.size
+                "{} {:?} {pick:?}",
+                tree.size,
+                tree.ends
             );
         }
     }
@@ -279,7 +301,7 @@ fn ends_twice(alloc: Global, tree: &Tree, pick: Pick, last: u64) -> Option<()> {
         let image = disk.image(first.saturating_add(call), pick).ok()??;
         if image != tried {
             let bytes = image.to_vec(alloc).ok()?;
-            opens_twice(alloc, tree, steps_left(call, pick), bytes, pick)?;
+            opens_twice(alloc, tree, steps_left(tree, call, pick), bytes, pick)?;
             tried = image;
         }
     }
@@ -295,14 +317,14 @@ fn an_opening_behind_a_driving_stops(rt: HostRuntime) {
     for tree in TREES {
         for (pick, last) in STOPS {
             let opened = ends_twice(rt.alloc(), &tree, pick, last);
-            assert_eq!(rt; opened, Some(()), "{} {pick:?}", tree.size);
+            assert_eq!(rt; opened, Some(()), "{} {:?} {pick:?}", tree.size, tree.ends);
         }
     }
 }
 
-/// How many steps more than are settled a fault leaves: at a group's payload, its sync, its gate, and the gate's sync; as an
+/// How many forces more than were done a fault leaves: at the frame's body, its sync, its gate, and the gate's sync; as an
 /// old image has them, as the disk reads, and in noise.
-const FAULTS: [[usize; 3]; 4] = [[0, 0, 0], [0, 0, 0], [0, 0, 1], [0, 1, 1]];
+const FAULTS: [[u64; 3]; 4] = [[0, 0, 0], [0, 0, 0], [0, 0, 1], [0, 1, 1]];
 
 /// Whether each image behind a fault at this call of the forces opens so.
 fn survives(alloc: Global, tree: &Tree, first: u64, call: u64) -> Option<()> {
@@ -312,7 +334,7 @@ fn survives(alloc: Global, tree: &Tree, first: u64, call: u64) -> Option<()> {
     }
     let more = FAULTS.get((call % 4) as usize)?;
     for (pick, more) in PICKS.iter().zip(more) {
-        let count = more.saturating_add((call / 4) as usize);
+        let count = lasting(tree, more.saturating_add(call / 4));
         image_opened(alloc, tree, count, &disk, disk.calls(), *pick)?;
     }
     Some(())
@@ -323,7 +345,7 @@ fn first_fault_lost(alloc: Global, tree: &Tree) -> Option<u64> {
     let Some(first) = calls_before(alloc, tree) else {
         return Some(9999);
     };
-    for call in 0..(tree.steps.len() as u64).saturating_mul(4) {
+    for call in 0..(tree.ends.len() as u64).saturating_mul(4) {
         if survives(alloc, tree, first, call).is_none() {
             return Some(call);
         }
@@ -334,6 +356,12 @@ fn first_fault_lost(alloc: Global, tree: &Tree) -> Option<u64> {
 #[test]
 fn each_call_of_a_driving_fails(rt: HostRuntime) {
     for tree in TREES {
-        assert_eq!(rt; first_fault_lost(rt.alloc(), &tree), None, "{}", tree.size);
+        assert_eq!(rt;
+            first_fault_lost(rt.alloc(), &tree),
+            None,
+            "{} {:?}",
+            tree.size,
+            tree.ends
+        );
     }
 }

@@ -64,7 +64,24 @@ const ROWS: [Row; 10] = [
     (true, 5, 4193, [3, 2, 3, 2], 3, 2),
 ];
 
-/// The store once so many of the operations were done.
+/// The store once so many of the operations were done, and a force came behind each of these numbers of them.
+pub(crate) fn turned(
+    alloc: Global,
+    is_tree: bool,
+    count: usize,
+    forces: &[usize],
+    failing: u64,
+) -> Option<Store<RotDisk>>
+    ensures { IfSome result (λ store. (seen_as store).stopped ≡ false) }
+{
+    if is_tree {
+        with_groups(alloc, &POINTS, TREE.get(..count)?, forces, failing)
+    } else {
+        with_groups(alloc, &EMPTY, CHANGES.get(..count)?, forces, failing)
+    }
+}
+
+/// The store once so many of the operations were done, and none was forced.
 pub(crate) fn behind(
     alloc: Global,
     is_tree: bool,
@@ -73,11 +90,7 @@ pub(crate) fn behind(
 ) -> Option<Store<RotDisk>>
     ensures { IfSome result (λ store. (seen_as store).stopped ≡ false) }
 {
-    if is_tree {
-        with_groups(alloc, &POINTS, TREE.get(..count)?, failing)
-    } else {
-        with_groups(alloc, &EMPTY, CHANGES.get(..count)?, failing)
-    }
+    turned(alloc, is_tree, count, &[], failing)
 }
 
 /// What changes of what a file says: the root, the height, the highest page and the pages in use.
@@ -114,7 +127,7 @@ fn groups_wait(rt: HostRuntime) {
 }
 
 /// Flushes so many times, and says what came of the last one, as `flush` does, or `e` for one that failed.
-fn flushed(store: &mut Store<RotDisk>, times: u8) -> char
+pub(crate) fn flushed(store: &mut Store<RotDisk>, times: u8) -> char
     requires { (seen_as store.old).stopped ≡ false }
 {
     let mut last = ' ';
@@ -127,99 +140,112 @@ fn flushed(store: &mut Store<RotDisk>, times: u8) -> char
     last
 }
 
-/// Where a call fails while a store with two groups is flushed so many times: what came of it, the bytes that wait then, the mark
-/// of the first one or else 9, and how many calls were made. Call 0 reads the page, and call 9 writes it home.
-const FORCES: [(u64, u8, char, u32, u32, u64); 10] = [
-    (NEVER, 1, 'f', 16, 7, 5),
-    (NEVER, 2, 'f', 0, 9, 9),
-    (NEVER, 3, '1', 0, 9, 10),
-    (NEVER, 4, 'n', 0, 9, 10),
-    (1, 1, 'e', 4131, 7, 2),
-    (2, 1, 'e', 4131, 7, 3),
-    (3, 2, 'e', 4131, 7, 4),
-    (4, 3, 'e', 4131, 7, 5),
-    // the page that goes home fails to be written
-    (9, 2, 'f', 0, 9, 9),
-    (9, 3, 'e', 0, 9, 10),
-];
+/// A force behind each operation.
+const APART: &[usize] = &[1, 2, 3, 4, 5];
 
-/// Whether this comes of it.
-fn forces(alloc: Global, failing: u64, times: u8, want: (char, u32, u32, u64)) -> Option<bool> {
-    let mut store = behind(alloc, false, 2, failing)?;
-    let last = flushed(&mut store, times);
-    let (pending, settled) = (store.pending(), store.settled(9));
-    let stopped = store.stopped() == (last == 'e');
-    let calls = store.into_disk().inner.calls();
-    Some(stopped && (last, pending, settled, calls) == want)
-}
-
-#[test]
-fn groups_are_forced(rt: HostRuntime) {
-    for &(failing, times, last, pending, settled, calls) in &FORCES {
-        let right = forces(rt.alloc(), failing, times, (last, pending, settled, calls));
-        assert!(rt; right == Some(true), "{failing} {times}");
-    }
-}
-
-/// Whether the operations are those of the tree, an offset of the disk once all groups were forced, and the bytes there.
-const FRAMES: [(bool, usize, &[u8]); 16] = [
+/// Whether the operations are those of the tree, behind which numbers of them a force came, an offset of the disk once all groups
+/// were forced, and the bytes there.
+const FRAMES: [(bool, &[usize], usize, &[u8]); 36] = [
     // the gate and the length, the count of page images, and the number of the one; its page, and the put
-    (false, 8192, &[0xA5, 0, 0, 16, 19, 1, 0, 0, 0, 1]),
-    (false, 8202, &EMPTY),
-    (false, 12_298, b"\x01\0\0\0\x01\0\0\0\0\0\0\0\x01\0"),
+    (false, APART, 8192, &[0xA5, 0, 0, 16, 19, 1, 0, 0, 0, 1]),
+    (false, APART, 8202, &EMPTY),
+    (false, APART, 12_298, b"\x01\0\0\0\x01\0\0\0\0\0\0\0\x01\0"),
     // the groups of the put and the delete, which have no page image
-    (false, 12_312, &[0xA5, 0, 0, 0, 16]),
-    (false, 12_317, &PUT_5),
-    (false, 12_333, &[0xA5, 0, 0, 0, 14]),
-    (false, 12_338, &DELETE_1),
+    (false, APART, 12_312, &[0xA5, 0, 0, 0, 16]),
+    (false, APART, 12_317, &PUT_5),
+    (false, APART, 12_333, &[0xA5, 0, 0, 0, 14]),
+    (false, APART, 12_338, &DELETE_1),
+    (false, APART, 12_352, &[0]),
+    // the same as one frame, with the length of all of them
+    (false, &[], 8192, &[0xA5, 0, 0, 0x10, 0x31, 1, 0, 0, 0, 1]),
+    (false, &[], 8202, &EMPTY),
+    (false, &[], 12_298, b"\x01\0\0\0\x01\0\0\0\0\0\0\0\x01\0"),
+    (false, &[], 12_312, &PUT_5),
+    (false, &[], 12_328, &DELETE_1),
+    (false, &[], 12_342, &[0, 0, 0, 0, 0]),
     // the split with its page image, and four groups without one
-    (true, 8192, &[0xA5, 0, 0, 0x10, 0x1E, 1, 0, 0, 0, 1]),
-    (true, 8202, &POINTS),
+    (true, APART, 8192, &[0xA5, 0, 0, 0x10, 0x1E, 1, 0, 0, 0, 1]),
+    (true, APART, 8202, &POINTS),
     (
         true,
+        APART,
         12_298,
         b"\x03\0\0\0\x01\0\0\0\x02\0\0\0\0\0\x01\0\0\0\0\0\0\0\0\x05\x01\xA5\0\0\0\x10",
     ),
-    (true, 12_328, &PUT_7),
+    (true, APART, 12_328, &PUT_7),
     (
         true,
+        APART,
         12_344,
         b"\xA5\0\0\0\x0A\0\x06\0\0\0\x03\0\0\0\0\xA5\0\0\0\x1B",
     ),
-    (true, 12_364, &POST),
-    (true, 12_391, &[0xA5, 0, 0, 0, 14]),
-    (true, 12_396, &MERGE),
+    (true, APART, 12_364, &POST),
+    (true, APART, 12_391, &[0xA5, 0, 0, 0, 14]),
+    (true, APART, 12_396, &MERGE),
     // a closed gate behind them
-    (true, 12_410, &[0]),
+    (true, APART, 12_410, &[0]),
+    // the same as one frame
+    (true, &[], 8192, &[0xA5, 0, 0, 0x10, 0x61, 1, 0, 0, 0, 1]),
+    (true, &[], 8202, &POINTS),
+    (
+        true,
+        &[],
+        12_298,
+        b"\x03\0\0\0\x01\0\0\0\x02\0\0\0\0\0\x01\0\0\0\0\0\0\0\0\x05\x01",
+    ),
+    (true, &[], 12_323, &PUT_7),
+    (true, &[], 12_339, &GROW),
+    (true, &[], 12_349, &POST),
+    (true, &[], 12_376, &MERGE),
+    (true, &[], 12_390, &[0, 0, 0, 0, 0]),
+    // the first two as one frame, the next one alone, and the last two as one frame
+    (
+        true,
+        &[2, 3],
+        8192,
+        &[0xA5, 0, 0, 0x10, 0x2E, 1, 0, 0, 0, 1],
+    ),
+    (true, &[2, 3], 12_323, &PUT_7),
+    (
+        true,
+        &[2, 3],
+        12_339,
+        b"\xA5\0\0\0\x0A\0\x06\0\0\0\x03\0\0\0\0\xA5\0\0\0\x29\0\x04",
+    ),
+    (true, &[2, 3], 12_359, &POST),
+    (true, &[2, 3], 12_386, &MERGE),
 ];
 
-/// The disk once the groups of so many of the operations were forced.
-fn forced(alloc: Global, is_tree: bool, count: usize) -> Option<RotDisk> {
-    let mut store = behind(alloc, is_tree, count, NEVER)?;
-    flushed(&mut store, 6);
+/// The disk once the groups of so many of the operations were forced: behind these numbers of them, and those that are left at the end,
+/// by one flush.
+fn forced(alloc: Global, is_tree: bool, count: usize, forces: &[usize]) -> Option<RotDisk> {
+    let mut store = turned(alloc, is_tree, count, forces, NEVER)?;
+    if store.pending() > 0 && flushed(&mut store, 1) != 'f' {
+        return None;
+    }
     Some(store.into_disk())
 }
 
 /// Whether these bytes stand at an offset of it.
-fn stands(alloc: Global, is_tree: bool, at: usize, want: &[u8]) -> Option<bool> {
+fn stands(alloc: Global, is_tree: bool, forces: &[usize], at: usize, want: &[u8]) -> Option<bool> {
     let count = if is_tree { TREE.len() } else { CHANGES.len() };
-    let disk = forced(alloc, is_tree, count)?;
+    let disk = forced(alloc, is_tree, count, forces)?;
     Some(disk.inner.bytes().get(at..)?.starts_with(want))
 }
 
 #[test]
 fn groups_have_these_bytes(rt: HostRuntime) {
-    for &(is_tree, at, want) in &FRAMES {
+    for &(is_tree, forces, at, want) in &FRAMES {
         assert!(rt;
-            stands(rt.alloc(), is_tree, at, want) == Some(true),
-            "{is_tree} {at}"
+            stands(rt.alloc(), is_tree, forces, at, want) == Some(true),
+            "{is_tree} {forces:?} {at}"
         );
     }
 }
 
-/// What the log of the tree makes, once so many of the operations were done.
-fn replayed(alloc: Global, count: usize) -> Option<Touched> {
-    let mut disk = forced(alloc, true, count)?;
+/// What the log of the tree makes, once so many of the operations were done, and forces came behind these numbers of them.
+fn replayed(alloc: Global, count: usize, forces: &[usize]) -> Option<Touched> {
+    let mut disk = forced(alloc, true, count, forces)?;
     if disk.size() < 155_648 {
         return None;
     }
@@ -227,14 +253,20 @@ fn replayed(alloc: Global, count: usize) -> Option<Touched> {
 }
 
 /// Whether it makes three pages, and of what the file says this.
-fn replays(alloc: Global, count: usize, said: [u32; 4]) -> Option<bool> {
-    let touched = replayed(alloc, count)?;
+fn replays(alloc: Global, count: usize, forces: &[usize], said: [u32; 4]) -> Option<bool> {
+    let touched = replayed(alloc, count, forces)?;
     Some(meta_numbers(&touched.meta) == said && touched.pages.len() == 3)
 }
 
+/// Each group as a frame, all as one, and some together.
+const WAYS: [&[usize]; 4] = [APART, &[], &[2, 3], &[1]];
+
 #[test]
 fn a_tree_grows(rt: HostRuntime) {
-    assert!(rt; replays(rt.alloc(), 4, [3, 2, 3, 3]) == Some(true));
+    for forces in WAYS {
+        let grows = replays(rt.alloc(), 4, forces, [3, 2, 3, 3]);
+        assert!(rt; grows == Some(true), "{forces:?}");
+    }
 }
 
 /// Whether a record has the point of this value alone.
@@ -271,8 +303,8 @@ fn names_1(page: &Page) -> bool {
 }
 
 /// Whether the merge makes one page of records, one above it, and a free page that ends the chain.
-fn merges(alloc: Global) -> Option<bool> {
-    let touched = replayed(alloc, 5)?;
+fn merges(alloc: Global, forces: &[usize]) -> Option<bool> {
+    let touched = replayed(alloc, 5, forces)?;
     let last = match touched.pages.get(&2)? {
         Page::Free { next } => *next == 0 && touched.meta.free == 2,
         Page::Live(_) => false,
@@ -282,6 +314,9 @@ fn merges(alloc: Global) -> Option<bool> {
 
 #[test]
 fn a_tree_shrinks(rt: HostRuntime) {
-    assert!(rt; replays(rt.alloc(), 5, [3, 2, 3, 2]) == Some(true));
-    assert!(rt; merges(rt.alloc()) == Some(true));
+    for forces in WAYS {
+        let shrinks = replays(rt.alloc(), 5, forces, [3, 2, 3, 2]);
+        assert!(rt; shrinks == Some(true), "{forces:?}");
+        assert!(rt; merges(rt.alloc(), forces) == Some(true), "{forces:?}");
+    }
 }

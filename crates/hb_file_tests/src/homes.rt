@@ -3,7 +3,7 @@
 ghost use Rattle.std.specs.Prelude.{◌≡◌, false, IfSome};
 ghost use Rattle.hb_store.specs.Seen.{seen_as};
 
-use crate::driven_trees::{SPLIT_AGAIN, TWO_PARENTS};
+use crate::driven_trees::{PARENTS_TOGETHER, SPLIT_AGAIN, SPLIT_TOGETHER, TWO_PARENTS};
 use crate::drives::{PICKS, Tree, begun, file, image_opened, put_all, stand, stands, stepped};
 use crate::groups::behind;
 use crate::openings::{LEFT, MERGED};
@@ -42,19 +42,19 @@ fn flushes(store: &mut Store<RotDisk>, want: &str) -> bool
 }
 
 /// Whether the operations are those of the tree, how many of them were done, what flushes do then, and how many calls the disk has
-/// had: one read, four a group, and one a page. The order is that in which the pages were last changed.
+/// had: one read, four for the groups, however many they are, and one a page. The order is that in which the pages were last changed.
 const FLUSHES: [(bool, usize, &str, u64); 9] = [
     // a page that is fetched alone stays as it is
     (false, 0, "n", 1),
     (false, 1, "f1n", 6),
-    (false, 2, "ff1n", 10),
-    (false, 3, "ff1n", 10),
+    (false, 2, "f1n", 6),
+    (false, 3, "f1n", 6),
     (true, 1, "f12n", 7),
-    (true, 2, "ff12n", 11),
-    (true, 3, "fff123n", 16),
-    (true, 4, "ffff123n", 20),
+    (true, 2, "f12n", 7),
+    (true, 3, "f123n", 8),
+    (true, 4, "f123n", 8),
     // the merge changes the page above, the page that stays and the one that goes
-    (true, 5, "fffff312n", 24),
+    (true, 5, "f312n", 8),
 ];
 
 /// The disk behind these flushes.
@@ -79,10 +79,10 @@ fn groups_come_before_pages(rt: HostRuntime) {
 const STEPS: [(&str, [bool; 3]); 6] = [
     ("", [false, false, false]),
     ("f", [false, false, false]),
-    ("fffff", [false, false, false]),
-    ("fffff3", [false, false, true]),
-    ("fffff31", [true, false, true]),
-    ("fffff312", [true, true, true]),
+    ("f3", [false, false, true]),
+    ("f31", [true, false, true]),
+    ("f312", [true, true, true]),
+    ("f312n", [true, true, true]),
 ];
 
 /// What stands in the places of these pages before.
@@ -112,7 +112,7 @@ fn pages_go_home_one_by_one(rt: HostRuntime) {
 
 #[test]
 fn a_tree_goes_home(rt: HostRuntime) {
-    let disk = flushed(rt.alloc(), true, 4, "ffff123n").expect(&rt, "row");
+    let disk = flushed(rt.alloc(), true, 4, "f123n").expect(&rt, "row");
     for (place, (_, fields)) in LEFT.iter().take(3).enumerate() {
         assert!(rt;
             stands(disk.bytes(), place.saturating_add(1), fields),
@@ -122,15 +122,22 @@ fn a_tree_goes_home(rt: HostRuntime) {
 }
 
 /// A tree that is driven, and the pages that go home then, in their order.
-const HOMEWARD: [(Tree, &str); 2] = [(SPLIT_AGAIN, "243"), (TWO_PARENTS, "251634")];
+const HOMEWARD: [(Tree, &str); 4] = [
+    (SPLIT_AGAIN, "243"),
+    (SPLIT_TOGETHER, "243"),
+    (TWO_PARENTS, "251634"),
+    (PARENTS_TOGETHER, "251634"),
+];
 
-/// The store behind all steps of a driving, each of them forced.
+/// The store behind all steps of a driving, and their forces.
 fn all_stepped(alloc: Global, tree: &Tree, failing: u64) -> Option<Store<RotDisk>>
     ensures { IfSome result (λ store. (seen_as store).stopped ≡ false) }
 {
     let mut store = begun(alloc, tree, failing)?;
+    let mut count = 0;
     for step in tree.steps {
-        if !stepped(alloc, &mut store, *step)? {
+        count = usize::saturating_add(count, 1);
+        if !stepped(alloc, &mut store, *step, tree.ends.contains(&count))? {
             return None;
         }
     }

@@ -16,9 +16,13 @@ mod drives;
 #[cfg(test)]
 mod fetches;
 #[cfg(test)]
+mod forces;
+#[cfg(test)]
 mod groups;
 #[cfg(test)]
 mod homes;
+#[cfg(test)]
+mod joined;
 #[cfg(test)]
 mod logs;
 #[cfg(test)]

@@ -80,7 +80,7 @@ fn told(alloc: Global, is_two: bool, front: Front, behind: &[u8]) -> Option<(usi
 }
 
 /// Whether the file has two pages, its log, and what is read of it.
-const ROWS: [(bool, Front, &[u8], (usize, char)); 17] = [
+const ROWS: [(bool, Front, &[u8], (usize, char)); 25] = [
     (false, Front::None, &[], (0, 't')),
     // a frame with a bad length
     (false, Front::None, b"\xA5\0\0\0\0", (0, 'b')),
@@ -128,6 +128,57 @@ const ROWS: [(bool, Front, &[u8], (usize, char)); 17] = [
         true,
         Front::None,
         b"\xA5\0\0\0\x0A\0\x06\0\0\0\x02\0\0\0\0\xA5\0\0\0\x0A\0\x06\0\0\0\x03\0\0\0\0",
+        (1, 'b'),
+    ),
+    // two groups in one frame: the second growth is bad, and so the frame is; then the same behind a good frame
+    (
+        true,
+        Front::None,
+        b"\xA5\0\0\0\x14\0\x06\0\0\0\x02\0\0\0\0\0\x06\0\0\0\x03\0\0\0\0",
+        (0, 'b'),
+    ),
+    (
+        true,
+        Front::None,
+        b"\xA5\0\0\0\x0A\0\x06\0\0\0\x02\0\0\0\0\xA5\0\0\0\x14\0\x06\0\0\0\x03\0\0\0\0\0\x06\0\0\0\x04\0\0\0\0",
+        (1, 'b'),
+    ),
+    // a put and its delete; two puts of one point; a put into a page that wasn't touched, in front of a good one and behind one
+    (
+        false,
+        Front::Put(1),
+        b"\xA5\0\0\0\x1D\0\x01\0\0\0\x01\0\0\0\0\0\0\0\x01\0\0\x02\0\0\0\x01\0\0\0\0\0\0\0\x01",
+        (1, 't'),
+    ),
+    (
+        false,
+        Front::Put(1),
+        b"\xA5\0\0\0\x1E\0\x01\0\0\0\x01\0\0\0\0\0\0\0\x01\0\0\x01\0\0\0\x01\0\0\0\0\0\0\0\x01\0",
+        (1, 'b'),
+    ),
+    (
+        true,
+        Front::Put(1),
+        b"\xA5\0\0\0\x1E\0\x01\0\0\0\x02\0\0\0\0\0\0\0\x01\0\0\x01\0\0\0\x01\0\0\0\0\0\0\0\x01\0",
+        (1, 'b'),
+    ),
+    (
+        true,
+        Front::Put(1),
+        b"\xA5\0\0\0\x1E\0\x01\0\0\0\x01\0\0\0\0\0\0\0\x01\0\0\x01\0\0\0\x02\0\0\0\0\0\0\0\x01\0",
+        (1, 'b'),
+    ),
+    // a byte too many behind a group, and a group that is cut short
+    (
+        false,
+        Front::Put(1),
+        b"\xA5\0\0\0\x10\0\x01\0\0\0\x01\0\0\0\0\0\0\0\x01\0\0",
+        (1, 'b'),
+    ),
+    (
+        false,
+        Front::Put(1),
+        b"\xA5\0\0\0\x1C\0\x01\0\0\0\x01\0\0\0\0\0\0\0\x01\0\0\x02\0\0\0\x01\0\0\0\0\0\0\0\x01",
         (1, 'b'),
     ),
     // splits: a cut at 1 or at 6 leaves a side without a record

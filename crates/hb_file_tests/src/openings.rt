@@ -11,7 +11,7 @@ use std::alloc::Global;
 const NEVER: u64 = u64::MAX;
 
 /// Bytes of a file of four pages.
-const SIZE: usize = 155_648;
+pub(crate) const SIZE: usize = 155_648;
 
 /// What a file of one attribute and four pages says, of which one is taken, behind the gate.
 const SUPER: [u8; 41] = [
@@ -95,24 +95,24 @@ pub(crate) const MERGED: [(usize, &[u8]); 4] = [
 ];
 
 /// What an opening answers: the root, the height, the highest page and the pages in use, with the number of records; or why not.
-type Answer = Result<([u32; 4], u64), OpenFault>;
+pub(crate) type Answer = Result<([u32; 4], u64), OpenFault>;
 
 /// What the file of two levels answers.
-const GOOD: Answer = Ok(([3, 2, 3, 3], 3));
+pub(crate) const GOOD: Answer = Ok(([3, 2, 3, 3], 3));
 
 fn meta_numbers(meta: &Meta) -> [u32; 4] {
     [meta.root, u32::from(meta.height), meta.high, meta.live]
 }
 
 /// Puts bytes at an offset.
-fn put(bytes: &mut Vec<u8>, at: usize, piece: &[u8]) {
+pub(crate) fn put(bytes: &mut Vec<u8>, at: usize, piece: &[u8]) {
     for (place, byte) in bytes.iter_mut().skip(at).zip(piece) {
         *place = *byte;
     }
 }
 
 /// The file, of so many bytes at most, with these bytes at an offset.
-fn file(alloc: Global, size: usize, at: usize, piece: &[u8]) -> Option<Vec<u8>> {
+pub(crate) fn file(alloc: Global, size: usize, at: usize, piece: &[u8]) -> Option<Vec<u8>> {
     let mut bytes = vec![in alloc; 0; SIZE].ok()?;
     put(&mut bytes, 0, &SUPER);
     put(&mut bytes, 8192, &SPLIT);
@@ -123,7 +123,7 @@ fn file(alloc: Global, size: usize, at: usize, piece: &[u8]) -> Option<Vec<u8>> 
 }
 
 /// What an opening of a disk answers, and what it leaves.
-fn open(alloc: Global, disk: MemDisk) -> (Answer, MemDisk) {
+pub(crate) fn open(alloc: Global, disk: MemDisk) -> (Answer, MemDisk) {
     match recover(alloc, disk) {
         Ok((store, count)) => {
             let said = meta_numbers(store.meta());
@@ -146,7 +146,7 @@ fn opened(alloc: Global, failing: u64) -> Option<(Answer, MemDisk)> {
 }
 
 /// Whether these bytes stand at an offset.
-fn stands(bytes: &[u8], at: usize, want: &[u8]) -> bool {
+pub(crate) fn stands(bytes: &[u8], at: usize, want: &[u8]) -> bool {
     match bytes.get(at..) {
         Some(rest) => rest.starts_with(want),
         None => false,
@@ -154,7 +154,7 @@ fn stands(bytes: &[u8], at: usize, want: &[u8]) -> bool {
 }
 
 /// Whether bytes open to the file.
-fn opens_again(alloc: Global, bytes: &[u8]) -> bool {
+pub(crate) fn opens_again(alloc: Global, bytes: &[u8]) -> bool {
     match bytes.to_vec(alloc) {
         Ok(bytes) => answer_of(alloc, bytes) == GOOD,
         Err(_) => false,

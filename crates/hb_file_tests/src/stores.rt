@@ -262,20 +262,48 @@ pub(crate) fn held(store: &mut Store<RotDisk>, id: u32) -> Result<(), FetchStop>
     Ok(())
 }
 
+/// Forces all groups that wait, and says whether that was done.
+pub(crate) fn forced(store: &mut Store<RotDisk>) -> bool
+    requires { IsDrivenHere (seen_as store.old) (uses_of store.old) }
+    ensures { IsTrue result → IsDrivenHere (seen_as store.new) (uses_of store.new) }
+{
+    match store.force() {
+        Ok(()) => true,
+        Err(_fault) => false,
+    }
+}
+
+/// Does the operation of a group where it is allowed, and where that is asked for forces all groups that wait. `None` where
+/// that failed.
+fn taken(alloc: Global, store: &mut Store<RotDisk>, group: &[u8], is_forced: bool) -> Option<()>
+    requires { IsDrivenHere (seen_as store.old) (uses_of store.old) }
+    ensures { IfSome result (λ _. IsDrivenHere (seen_as store.new) (uses_of store.new)) }
+{
+    done(alloc, store, group)?;
+    if is_forced {
+        if forced(store) { Some(()) } else { None }
+    } else {
+        Some(())
+    }
+}
+
 /// The store of a file whose page 1 is pinned and has these fields, once the operations of these groups were done where
-/// they are allowed. Its disk fails at the call of this number.
+/// they are allowed, and a force came behind each of these numbers of them. Its disk fails at the call of this number.
 pub(crate) fn with_groups(
     alloc: Global,
     page: &[u8],
     groups: &[&[u8]],
+    forces: &[usize],
     failing: u64,
 ) -> Option<Store<RotDisk>>
     ensures { IfSome result (λ store. (seen_as store).stopped ≡ false) }
 {
     let mut store = opened(alloc, (4, 1, 1, 0), disk(alloc, &[], page, failing)?)?;
     held(&mut store, 1).ok()?;
+    let mut count = 0;
     for group in groups {
-        done(alloc, &mut store, group)?;
+        count = usize::saturating_add(count, 1);
+        taken(alloc, &mut store, group, forces.contains(&count))?;
     }
     Some(store)
 }
