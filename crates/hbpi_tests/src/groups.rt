@@ -82,7 +82,7 @@ fn lasts_together(alloc: Global, row: &Waiting) -> Option<bool> {
     let &(text, said, states, faults) = row;
     let left = waiting(alloc, text, NEVER)?;
     let calls = BEFORE_FORCES.wrapping_add((faults.len() as u64).wrapping_mul(4));
-    if left.said != said || left.disk.calls() != calls {
+    if left.said.as_str() != said || left.disk.calls() != calls {
         return Some(false);
     }
     for before in 0..calls.wrapping_add(1) {
