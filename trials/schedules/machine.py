@@ -36,7 +36,7 @@ class Machine(Workers):
         self.file, self.durable = file.copy(), file.copy()
         self.area, self.fails, self.frames = 8192 + file.log * (turn % 2), fails, Frames(frames)
         self.steps, self.events, self.calls, self.clock, self.stopped = 0, [], [], 0, False
-        # the file before each group, and between which values of the clock each group was forced; when the lines were answered
+        # the file at first and behind each force, and between which values of the clock each force was; when the lines were answered
         self.states, self.forces, self.answered = [self.durable], [], []
         self.lines = collections.defaultdict(collections.deque)
         for line in lines:
@@ -124,23 +124,25 @@ class Machine(Workers):
         return self.file.log - self.written - framed - 5 >= 16384 and sum(len_ for len_, _, _ in self.groups) <= 49152
 
     def force(self):
-        length, _, after = self.groups[0]
+        """All groups that wait are written as one frame. They last together, or none of them does."""
+        length = sum(group[0] for group in self.groups)
         at = self.area + self.written
         self.tell("forced", at, length)
+        self.counts["several groups forced as one"] += len(self.groups) > 1
+        self.states.append(self.groups[-1][2])
         self.forces.append([self.clock, None])
         for call in (("w", at + 1, 4 + length), ("s", 0, 0), ("w", at, 1), ("s", 0, 0)):
             self.call(*call)
         self.forces[-1][1] = self.clock
-        self.groups.pop(0)
+        self.durable = self.states[-1]
+        self.groups.clear()
         self.written += length + 5
-        self.durable = after
 
     def commit(self, length, reads, made=()):
         images = [page for page in reads if page not in self.logged]
         self.logged.update(reads)
         self.logged.update(made)
-        self.states.append(self.file.copy())
-        self.groups.append((1 + 4100 * len(images) + length, len(self.order), self.states[-1]))
+        self.groups.append((1 + 4100 * len(images) + length, len(self.order), self.file.copy()))
         for page in (*reads, *made):
             if self.frames.has(page):
                 self.frames.change(page)
@@ -240,7 +242,7 @@ class Machine(Workers):
         return crowded
 
     def flush(self, actor, at):
-        """A group is forced; or the least recently used page that is dirty is written to its place; or the line is full."""
+        """The groups that wait are forced; or the least recently used page that is dirty is written to its place; or the line is full."""
         self.counts["helped"] += 1
         if self.groups:
             return self.force()

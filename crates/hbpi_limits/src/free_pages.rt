@@ -33,8 +33,8 @@ fn first_of(turn: u32) -> u64 {
 }
 
 /// Splits as many pages as can be, and then one more is to be split. A page has one record and a sibling leaf, and may weigh
-/// 6: so the fifth insert splits it. An insert takes 4 steps, two more for the pages above, and three more where it splits. The
-/// last one takes 3 and those two. The writes to places come besides.
+/// 6: so the fifth insert splits it. An insert takes 4 steps, two more for the pages above, and two more where it splits. The
+/// last one takes 3 and those two. The writes to places come besides, where no group waits.
 fn inserts(alloc: Global) -> Result<Script, Missed> {
     let mut script = Script::new(alloc)?;
     for turn in 0..5 * SPLITS + 4 {
@@ -43,7 +43,7 @@ fn inserts(alloc: Global) -> Result<Script, Missed> {
     let (first, line) = (first_of(5 * SPLITS + 4), 5 * SPLITS + 5);
     write!(script.text, "1 insert {first} 7 =x\n")?;
     write!(script.output, "{line} full\n")?;
-    let steps = SPLITS * 33 + 29 + WRITES;
+    let steps = SPLITS * 32 + 29 + WRITES;
     write!(script.text, "step 1x{steps}\n")?;
     script.end("")?;
     Ok(script)

@@ -76,13 +76,13 @@ fn file_of(alloc: Global, meta: &Meta) -> Result<Vec<u8>, AllocError> {
 
 /// A lookup goes by the root's sibling leaf and over one page a level, 3 steps and one for each level. So the poster gives
 /// the file a level, and posts the sibling there. An insert goes over one page a level again, now with the new root, and
-/// forces both and what it did.
+/// forces both and what it did at once: a step more than a lookup takes.
 fn growth(alloc: Global, meta: &Meta) -> Result<Script, Missed> {
     let mut script = Script::new(alloc)?;
     let levels = u32::from(meta.height);
     find(&mut script, meta.k, SECOND)?;
     insert(&mut script, meta.k, SECOND + 1)?;
-    write!(script.text, "step 1x{} px40 1x{}\n", levels + 3, levels + 6)?;
+    write!(script.text, "step 1x{} px40 1x{}\n", levels + 3, levels + 4)?;
     script.end("")?;
     Ok(script)
 }

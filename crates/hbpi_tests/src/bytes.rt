@@ -1,6 +1,7 @@
 //! The bytes of files that were made and driven. Places and bytes are worked out from `docs/FORMAT.md`.
 
 use crate::runs::{CREATE, SIZE, left_of};
+use crate::taller::SEVEN;
 use std::alloc::Global;
 
 /// Where the log area 1 of such a file begins.
@@ -46,6 +47,33 @@ const FRAMES: [u8; 41] = [
     0, 0, 0, 1, 0, 0, 0, 0, 0, 0, 0, 5, 0,
 ];
 
+/// The front of a first frame of three groups, of 4115, 15 and 15 bytes.
+const JOINED_HEAD: [u8; 10] = [0xA5, 0, 0, 0x10, 0x31, 1, 0, 0, 0, 1];
+
+/// Its puts of 1, 2 and 3 without a body into page 1, the others behind the count of their images, which is 0; and the closed gate.
+const JOINED: [u8; 45] = [
+    1, 0, 0, 0, 1, 0, 0, 0, 0, 0, 0, 0, 1, 0, 0, 1, 0, 0, 0, 1, 0, 0, 0, 0, 0, 0, 0, 2, 0, 0, 1, 0,
+    0, 0, 1, 0, 0, 0, 0, 0, 0, 0, 3, 0, 0,
+];
+
+/// A page with the records of 1, 2 and 3.
+const ALL_THREE: [u8; 50] = [
+    1, 0, 1, 0, 0, 0, 0, 0, 0, 0, 0, 0, 255, 255, 255, 255, 255, 255, 255, 255, 1, 0, 3, 0, 0, 0,
+    0, 0, 0, 0, 1, 0, 0, 0, 0, 0, 0, 0, 0, 2, 0, 0, 0, 0, 0, 0, 0, 0, 3, 0,
+];
+
+/// Behind the first frame a put of 6 and `b` and a delete of 5 as one frame of 16 and 14 bytes, and the closed gate.
+const PAIRED: [u8; 36] = [
+    0xA5, 0, 0, 0, 30, 0, 1, 0, 0, 0, 1, 0, 0, 0, 0, 0, 0, 0, 6, 1, 0x62, 0, 2, 0, 0, 0, 1, 0, 0,
+    0, 0, 0, 0, 0, 5, 0,
+];
+
+/// A split of page 1 at 40 and the put of 70 behind it, as one frame of 26 and 15 bytes. What lies below leaves for page 2.
+const PARTED: [u8; 46] = [
+    0xA5, 0, 0, 0, 41, 0, 3, 0, 0, 0, 1, 0, 0, 0, 2, 0, 0, 0, 0, 0, 1, 0, 0, 0, 0, 0, 0, 0, 0, 40,
+    0, 0, 1, 0, 0, 0, 1, 0, 0, 0, 0, 0, 0, 0, 70, 0,
+];
+
 /// A page with the record of 6.
 const SIX: [u8; 33] = [
     1, 0, 1, 0, 0, 0, 0, 0, 0, 0, 0, 0, 255, 255, 255, 255, 255, 255, 255, 255, 1, 0, 1, 0, 0, 0,
@@ -60,9 +88,15 @@ const ONE: &str = "1 insert 5 =a\nstep 1x4\n";
 
 const THREE: &str = "1 insert 5 =a\n1 insert 6 =b\n1 delete 5\nstep 1x12\n";
 
+/// Three sessions whose changes wait together, and are forced by the first one.
+const TOGETHER: &str = "1 insert 1 =\n2 insert 2 =\n3 insert 3 =\nstep 1x2 2x2 3x2 1x2 2 3\n";
+
+/// One change with a frame of its own, and two that wait together.
+const TWO: &str = "1 insert 5 =a\n1 insert 6 =b\n2 delete 5\nstep 1x6 2x2 1x2 2\n";
+
 /// The words by which a file is made, and the texts that it is driven with. Then an offset, the first bytes there, and up to
 /// how many bytes zeros follow these.
-const ROWS: [(&str, &[&str], usize, &[u8], usize); 16] = [
+const ROWS: [(&str, &[&str], usize, &[u8], usize); 23] = [
     // a new file
     (CREATE, &[], 0, &SUPER, PAGE_1),
     (CREATE, &[], PAGE_1, &EMPTY, SIZE - PAGE_1),
@@ -84,6 +118,15 @@ const ROWS: [(&str, &[&str], usize, &[u8], usize); 16] = [
     (CREATE, &[THREE, ""], 8192, &[], 65_536),
     (CREATE, &[THREE, ""], AREA_1 + 4121, &FRAMES, 41),
     (CREATE, &[THREE, ""], 10, &[2], 1),
+    // groups that wait together have one frame, and behind it the area has zeros alone
+    (CREATE, &[TOGETHER], AREA_1, &JOINED_HEAD, 10),
+    (CREATE, &[TOGETHER], AREA_1 + 10, &EMPTY, 4096),
+    (CREATE, &[TOGETHER], AREA_1 + 4106, &JOINED, 61_430),
+    (CREATE, &[TOGETHER, ""], PAGE_1, &ALL_THREE, 4096),
+    (CREATE, &[TWO], AREA_1 + 4121, &PAIRED, 61_415),
+    (CREATE, &[TWO, ""], PAGE_1, &SIX, 4096),
+    // a split is in the frame of the record for which it was made, behind a frame of 4120 bytes and five of 20
+    (CREATE, &[SEVEN], AREA_1 + 4220, &PARTED, 61_316),
 ];
 
 /// Whether these bytes stand at the offset, and behind them zeros up to so many.

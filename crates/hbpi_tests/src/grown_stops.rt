@@ -49,7 +49,7 @@ fn lines(alloc: Global) -> Option<Commands> {
     }
     commands
         .text
-        .push_str("step 1x50 px40 1x20 px9 1x60 px40 1x60\n")
+        .push_str("step 1x48 px40 1x17 px9 1x60 px40 1x60\n")
         .ok()?;
     Some(commands)
 }
@@ -101,9 +101,9 @@ fn stops_well(alloc: Global, commands: &Commands, left: &Left, before: u64) -> O
     all_hold(alloc, &left.disk, before, one, other)
 }
 
-/// The device calls of the run. A new file's recovery and the read of page 1 take 16. 21 changes, two splits, the growth and
-/// two postings are forced by four each.
-const CALLS: u64 = 16 + 4 * 26;
+/// The device calls of the run. A new file's recovery and the read of page 1 take 16. Each of 21 changes is forced by four: two of
+/// them with their splits, and the first one behind the poster with the growth and both postings.
+const CALLS: u64 = 16 + 4 * 21;
 
 #[test]
 fn a_growing_file_is_stopped(rt: HostRuntime) {

@@ -14,6 +14,8 @@ mod files;
 #[cfg(test)]
 mod full_logs;
 #[cfg(test)]
+mod groups;
+#[cfg(test)]
 mod grown_stops;
 #[cfg(test)]
 mod many_pages;

@@ -146,13 +146,13 @@ const OWED: [(usize, &str); 4] = [
 ];
 
 /// While the poster looks at page 1 for page 3, session 2 splits page 1 at 30. So page 4 is posted, and page 3 stays owed. The
-/// posting is forced by an insert behind it.
+/// split, the record and the posting wait together, and session 2 forces them as one frame.
 const OVERTAKEN: &str =
-    "1 lookup 75\n2 insert 45 =b\n1 insert 15 =c\nstep 1x4 px3 1 2x2 p 2 px2 2 p 2 p 2x3 px3 1x12\n";
+    "1 lookup 75\n2 insert 45 =b\n1 insert 15 =c\nstep 1x4 px3 1 2x2 p 2 px2 2 p 2 p 2x2 px3 1x12\n";
 
-/// The same with steps of the poster for the job that was given back, which posts page 3.
+/// The same with steps of the poster for the job that was given back, which posts page 3. The insert behind it forces that.
 const TWICE: &str =
-    "1 lookup 75\n2 insert 45 =b\n1 insert 15 =c\nstep 1x4 px3 1 2x2 p 2 px2 2 p 2 p 2x3 px3 px20 1x12\n";
+    "1 lookup 75\n2 insert 45 =b\n1 insert 15 =c\nstep 1x4 px3 1 2x2 p 2 px2 2 p 2 p 2x2 px3 px20 1x12\n";
 
 /// What both say.
 const OVERTAKEN_SAID: &str = "0 1 none\n2 ok\n3 ok\norder 1 2 3\n";

@@ -83,7 +83,7 @@ const ROWS: [Row; 6] = [
     (
         &[],
         &[SEVEN],
-        "1 delete 40\n1 delete 50\n1 delete 10\n1 delete 20\n1 delete 30\n1 insert 99 =\nstep 1x18 cx3 px20 1x6 cx8 1x8\n",
+        "1 delete 40\n1 delete 50\n1 delete 10\n1 delete 20\n1 delete 30\n1 insert 99 =\nstep 1x18 cx3 px20 1x4 cx8 1x6\n",
         "0 1 ok\n2 ok\n3 ok\n4 ok\n5 ok\n6 ok\norder 1 2 3 4 5 6\n",
         &[
             (
@@ -105,7 +105,7 @@ const ROWS: [Row; 6] = [
     (
         &[],
         &[SEVEN, POSTING],
-        "1 delete 50\n1 delete 60\n1 delete 10\n1 delete 20\n2 insert 71 =\n2 insert 72 =\n2 insert 50 =\nstep 1x20 cx5 2x18 cx12\n",
+        "1 delete 50\n1 delete 60\n1 delete 10\n1 delete 20\n2 insert 71 =\n2 insert 72 =\n2 insert 50 =\nstep 1x20 cx5 2x17 cx12\n",
         "0 1 ok\n2 ok\n3 ok\n4 ok\n5 ok\n6 ok\n7 ok\norder 1 2 3 4 5 6 7\n",
         &[
             (
@@ -130,7 +130,7 @@ const ROWS: [Row; 6] = [
     (
         &[],
         &[SEVEN, POSTING],
-        "1 delete 50\n1 delete 60\n1 delete 10\n1 delete 20\n2 insert 71 =\n2 insert 72 =\n2 insert 50 =\nstep 1x20 cx8 2x19\n",
+        "1 delete 50\n1 delete 60\n1 delete 10\n1 delete 20\n2 insert 71 =\n2 insert 72 =\n2 insert 50 =\nstep 1x20 cx8 2x17\n",
         "0 1 ok\n2 ok\n3 ok\n4 ok\n5 ok\n6 ok\n7 ok\norder 1 2 3 4 5 6 7\n",
         &[
             (

@@ -144,7 +144,7 @@ const ROWS: [Row; 10] = [
     (
         &PASSED_ON,
         &[],
-        "1 delete 70\n2 insert 20 =\n2 insert 50 =\n2 insert 60 =\n2 insert 45 =\nstep 1x5 cx4 2x23 cx9\n",
+        "1 delete 70\n2 insert 20 =\n2 insert 50 =\n2 insert 60 =\n2 insert 45 =\nstep 1x5 cx4 2x22 cx9\n",
         "0 1 ok\n2 ok\n3 ok\n4 ok\n5 ok\norder 1 2 3 4 5\n",
         &[
             (
@@ -169,7 +169,7 @@ const ROWS: [Row; 10] = [
     (
         &PASSED_ON,
         &[],
-        "1 delete 70\n1 insert 99 =\nstep 1x5 cx7 1x6\n",
+        "1 delete 70\n1 insert 99 =\nstep 1x5 cx7 1x5\n",
         "0 1 ok\n2 ok\norder 1 2\n",
         &[
             (
@@ -188,7 +188,7 @@ const ROWS: [Row; 10] = [
     (
         &STANDING,
         &[],
-        "1 delete 1\n2 lookup 2\n1 insert 99 =\nstep 1x6 2x3 cx10 2 c 2 1x6\n",
+        "1 delete 1\n2 lookup 2\n1 insert 99 =\nstep 1x6 2x3 cx10 2 c 2 1x5\n",
         "0 1 ok\n2 found =\n3 ok\norder 1 2 3\n",
         &[
             (
@@ -214,7 +214,7 @@ const ROWS: [Row; 10] = [
     (
         &STANDING,
         &[],
-        "1 delete 1\n2 lookup 2\n1 insert 99 =\nstep 1x6 2x3 cx10 2x2 1x6\n",
+        "1 delete 1\n2 lookup 2\n1 insert 99 =\nstep 1x6 2x3 cx10 2x2 1x5\n",
         "0 1 ok\n2 found =\n3 unfinished\norder 1 2\n",
         &[
             (
@@ -240,7 +240,7 @@ const ROWS: [Row; 10] = [
     (
         &TWO_PARTS,
         &[],
-        "1 delete 60\n1 insert 99 =\nstep 1x5 cx9 1x6\n",
+        "1 delete 60\n1 insert 99 =\nstep 1x5 cx9 1x5\n",
         "0 1 ok\n2 ok\norder 1 2\n",
         &[
             (
@@ -345,7 +345,7 @@ const ROWS: [Row; 10] = [
     (
         &TWO_PARENTS,
         &[TWO_LEVELS, ONE_PARENT],
-        "1 insert 100 =\n1 insert 110 =\n1 insert 120 =\n1 insert 130 =\n1 insert 140 =\n1 insert 150 =\n1 insert 160 =\n1 insert 170 =\n1 insert 180 =\n1 insert 190 =\n1 insert 200 =\n1 insert 210 =\nstep 1x85 px100 1x40\n",
+        "1 insert 100 =\n1 insert 110 =\n1 insert 120 =\n1 insert 130 =\n1 insert 140 =\n1 insert 150 =\n1 insert 160 =\n1 insert 170 =\n1 insert 180 =\n1 insert 190 =\n1 insert 200 =\n1 insert 210 =\nstep 1x82 px100 1x40\n",
         "0 1 ok\n2 ok\n3 ok\n4 ok\n5 ok\n6 ok\n7 ok\n8 ok\n9 ok\n10 ok\n11 ok\n12 ok\norder 1 2 3 4 5 6 7 8 9 10 11 12\n",
         &[
             (
@@ -382,7 +382,7 @@ const ROWS: [Row; 10] = [
     (
         &CORNER,
         &[],
-        "1 delete 1 1 1 1\n1 insert 9 9 9 9 =z\nstep 1x5 cx8 1x6\n",
+        "1 delete 1 1 1 1\n1 insert 9 9 9 9 =z\nstep 1x5 cx8 1x5\n",
         "0 1 ok\n2 ok\norder 1 2\n",
         &[
             (

@@ -103,6 +103,36 @@ fn lost_postings_change_no_answer(rt: HostRuntime) {
     }
 }
 
+/// How many steps a third lookup has once page 3 and then page 2 were posted, and the root behind a recovery. In the fourth one it
+/// forces the growth and both postings.
+const FORCING: [(u32, &str); 2] = [
+    (3, ""),
+    (
+        4,
+        "01010100 0000000000000000 ffffffffffffffff 0000 0000000000001770 0000 0000000000000fa0 02 00000002 02 00000001 02 00000003",
+    ),
+];
+
+/// Whether the root is this one behind so many steps of that lookup.
+fn forces_all(alloc: Global, steps: u32, root: &str) -> Option<bool> {
+    let mut text = String::new(alloc);
+    text.push_str("1 lookup 1000\n1 lookup 9000\n1 lookup 2000\n")
+        .ok()?;
+    write!(text, "step 1x8 px40 1x{steps}\n").ok()?;
+    let file = file_of(alloc, &[NINE, text.as_str(), ""])?;
+    stands(alloc, file.as_slice(), PAGE_4, root)
+}
+
+#[test]
+fn a_lookup_forces_all_postings(rt: HostRuntime) {
+    for &(steps, root) in &FORCING {
+        assert!(rt;
+            forces_all(rt.alloc(), steps, root) == Some(true),
+            "{steps}"
+        );
+    }
+}
+
 /// A text of a command on each point from 1 up to this one, and what it says.
 fn each_point(
     alloc: Global,

@@ -12,8 +12,8 @@ const BOTH: &str = "1 insert 30 =b\n2 insert 30 =c\n1 lookup 30\n2 delete 10\n";
 
 /// The steps, and what `drive` says of both sessions over the two records.
 ///
-/// A command is taken, takes effect, and awaits its place: it forces the oldest group, until its place is settled, and then it
-/// is answered. Until one insert has taken effect, the other one isn't taken: its session is blocked. What comes second is a
+/// A command is taken, takes effect, and awaits its place: unless that is settled it forces the groups that wait, and then it is
+/// answered. Until one insert has taken effect, the other one isn't taken: its session is blocked. What comes second is a
 /// duplicate, and has no group of its own.
 const ROWS: [(&str, &str); 12] = [
     (

@@ -14,14 +14,40 @@ const SEVEN: &str =
 /// A change that waits, and a lookup that has seen it.
 const WAITING: &str = "1 insert 10 =a\n2 lookup 10\nstep 1x2 2x2\n";
 
+/// Three changes that wait, and those that are forced as one frame, though nobody is answered.
+const THREE: &str = "1 insert 1 =\n2 insert 2 =\n3 insert 3 =\nstep 1x2 2x2 3x2\n";
+
+const FORCED: &str = "1 insert 1 =\n2 insert 2 =\n3 insert 3 =\nstep 1x2 2x2 3x2 3\n";
+
+/// Lookups of these points.
+const ASK: &str = "4 lookup 1\n4 lookup 2\n4 lookup 3\nstep 4x9\n";
+
 /// Texts that were driven before, and then a text and what `drive` says to it.
-const ROWS: [(&[&str], &str, &str); 13] = [
+const ROWS: [(&[&str], &str, &str); 26] = [
     // Session 1 has the point locked while it splits the page, and session 2 waits for that. The split and the record wait in a group
-    // each, so that session 2 forces twice.
+    // each, and session 2 forces both at once.
     (
         &[SIX],
-        "1 insert 70 =g\n2 lookup 70\nstep 1x2 2x3 1x2 2x5 1\n",
+        "1 insert 70 =g\n2 lookup 70\nstep 1x2 2x3 1x2 2x4 1\n",
         "0 2 found =g\n1 ok\norder 1 2\n",
+    ),
+    // With a step less of session 2 session 1 alone is answered, and with two less session 1 forces.
+    (
+        &[SIX],
+        "1 insert 70 =g\n2 lookup 70\nstep 1x2 2x3 1x2 2x3 1\n",
+        "0 1 ok\n2 unfinished\norder 1 2\n",
+    ),
+    (
+        &[SIX],
+        "1 insert 70 =g\n2 lookup 70\nstep 1x2 2x3 1x2 2x2 1x2 2\n",
+        "0 1 ok\n2 found =g\norder 1 2\n",
+    ),
+    // Alone such an insert takes six steps.
+    (&[SIX], "1 insert 70 =g\nstep 1x6\n", "0 1 ok\norder 1\n"),
+    (
+        &[SIX],
+        "1 insert 70 =g\nstep 1x5\n",
+        "0 1 unfinished\norder 1\n",
     ),
     // With a step less of session 1 before it, session 2 waits in vain.
     (
@@ -60,7 +86,7 @@ const ROWS: [(&[&str], &str, &str); 13] = [
     // Page 1 is split while the search stands between the pages: it finds the rest of its box on both parts.
     (
         &[SEVEN],
-        "2 insert 200 =\n1 search 0 60\n2 insert 201 =\nstep 2x4 1x3 2x7 1x10\n",
+        "2 insert 200 =\n1 search 0 60\n2 insert 201 =\nstep 2x4 1x3 2x6 1x10\n",
         "0 1 ok\n3 ok\n2 box 6\n+ 10 =\n+ 20 =\n+ 30 =\n+ 40 =\n+ 50 =\n+ 60 =\norder 1 3 2\n",
     ),
     // Searches that meet share their boxes, and a change waits for both.
@@ -87,6 +113,50 @@ const ROWS: [(&[&str], &str, &str); 13] = [
         &[WAITING],
         "16 lookup 10\nstep 16x3\n",
         "0 1 none\norder 1\n",
+    ),
+    // The force of one session settles all places, and each of the others is answered in one step.
+    (
+        &[],
+        "1 insert 1 =\n2 insert 2 =\n3 insert 3 =\nstep 1x2 2x2 3x2 1x2 2 3\n",
+        "0 1 ok\n2 ok\n3 ok\norder 1 2 3\n",
+    ),
+    (
+        &[],
+        "1 insert 1 =\n2 insert 2 =\n3 insert 3 =\nstep 1x2 2x2 3x2 2x2 3 1\n",
+        "0 2 ok\n3 ok\n1 ok\norder 1 2 3\n",
+    ),
+    (
+        &[],
+        "1 insert 1 =\n2 insert 2 =\n3 lookup 2\nstep 1x2 2x2 3x2 1 3 2 1\n",
+        "0 3 found =\n2 ok\n1 ok\norder 1 2 3\n",
+    ),
+    // What takes effect behind a force isn't in it.
+    (
+        &[],
+        "1 insert 1 =\n2 insert 2 =\nstep 1x2 2 1 2 1 2\n",
+        "0 1 ok\n2 unfinished\norder 1 2\n",
+    ),
+    (
+        &[],
+        "1 insert 1 =\n2 insert 2 =\nstep 1x2 2 1 2 1\n",
+        "0 1 ok\n2 unfinished\norder 1 | 2\n",
+    ),
+    // Without a force all three are gone in the next run, and behind one step that forces all three are there.
+    (
+        &[],
+        THREE,
+        "0 1 unfinished\n2 unfinished\n3 unfinished\norder | 1 2 3\n",
+    ),
+    (
+        &[],
+        FORCED,
+        "0 1 unfinished\n2 unfinished\n3 unfinished\norder 1 2 3\n",
+    ),
+    (&[THREE], ASK, "0 1 none\n2 none\n3 none\norder 1 2 3\n"),
+    (
+        &[FORCED],
+        ASK,
+        "0 1 found =\n2 found =\n3 found =\norder 1 2 3\n",
     ),
 ];
 

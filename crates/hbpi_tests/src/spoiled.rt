@@ -39,12 +39,16 @@ pub(crate) const NEW: &[&str] = &[];
 
 pub(crate) const LOGGED: &[&str] = &["1 insert 5 =a\n1 insert 6 =b\nstep 1x8\n"];
 
+/// One that put three groups into one frame there.
+const JOINED: &[&str] = &["1 insert 1 =\n2 insert 2 =\n3 insert 3 =\nstep 1x2 2x2 3x2 1x2 2 3\n"];
+
 /// A file by these texts; two offsets with the bytes that are put there; and what `drive` of an insert says.
 ///
 /// Of a new file the log area of its turn begins at 8192. Of the other one the first frame stands at 73728 and is 4121 bytes
 /// long. Its payload stands at 73733: one image, of page 1, whose bytes stand at 73738, then at 77834 the put. The second
-/// frame stands at 77849, and its put at 77855.
-const ROWS: [(&[&str], usize, &[u8], usize, &[u8], &str); 54] = [
+/// frame stands at 77849, and its put at 77855. Of three groups in one frame the first put stands at 77834, too, the second group
+/// at 77848 and the third one at 77863, each with its put behind one byte; and the closed gate stands at 77878.
+const ROWS: [(&[&str], usize, &[u8], usize, &[u8], &str); 64] = [
     // a new file
     (NEW, 0, b"", 0, b"", "0 1 ok\norder 1\n"),
     // the gate, the name, the version, the turn's parity, and limits of the superblock
@@ -147,6 +151,20 @@ const ROWS: [(&[&str], usize, &[u8], usize, &[u8], &str); 54] = [
     (LOGGED, 77_870, b"\xA5\0\0\0\0", 0, b"", "7 bad group 2\n"),
     // the superblock of the old turn has no group and the page without a record
     (LOGGED, 4096, b"\0", 0, b"", "0 1 ok\norder 1\n"),
+    // a frame of three groups counts as a whole, or its gate is closed
+    (JOINED, 0, b"", 0, b"", "0 1 duplicate\norder 1\n"),
+    (JOINED, 73_728, b"\0", 0, b"", "0 1 ok\norder 1\n"),
+    // where a group of it is bad, the frame is: an image of a second group, no operation of this tag, a put of 2 once more, and a
+    // body that is longer than the frame; then too short a frame, and a bad one behind it
+    (JOINED, 77_848, b"\x01", 0, b"", "7 bad group 0\n"),
+    (JOINED, 77_849, b"\x07", 0, b"", "7 bad group 0\n"),
+    (JOINED, 77_864, b"\x07", 0, b"", "7 bad group 0\n"),
+    (JOINED, 77_876, b"\x02", 0, b"", "7 bad group 0\n"),
+    (JOINED, 77_877, b"\x01", 0, b"", "7 bad group 0\n"),
+    (JOINED, 73_732, b"\x30", 0, b"", "7 bad group 0\n"),
+    (JOINED, 77_878, b"\xA5\0\0\0\0", 0, b"", "7 bad group 1\n"),
+    // without its third group
+    (JOINED, 73_732, b"\x22", 0, b"", "0 1 duplicate\norder 1\n"),
 ];
 
 /// Puts bytes at an offset, as far as there are bytes.

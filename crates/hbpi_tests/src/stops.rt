@@ -20,7 +20,13 @@ fn one_says(
 }
 
 /// Whether it does over each of three such images: the old bytes, the new ones, and noise of 165, which is an open gate.
-fn all_say(alloc: Global, disk: &MemDisk, before: u64, text: &str, wants: [&str; 2]) -> bool {
+pub(crate) fn all_say(
+    alloc: Global,
+    disk: &MemDisk,
+    before: u64,
+    text: &str,
+    wants: [&str; 2],
+) -> bool {
     for &pick in &[Pick::Old, Pick::New, Pick::Noise(165)] {
         if one_says(alloc, disk, before, pick, text, wants) != Some(true) {
             return false;
@@ -47,7 +53,7 @@ fn always_say(
 }
 
 /// Whether a run ended at its call of number `calls` - 1, said this, and answered so many lines.
-fn has_stopped(left: &Left, calls: u64, want: &str, answered: usize) -> bool {
+pub(crate) fn has_stopped(left: &Left, calls: u64, want: &str, answered: usize) -> bool {
     left.said.as_str() == want && left.disk.calls() == calls && left.answered.len() == answered
 }
 
@@ -104,7 +110,7 @@ const SIX: &str =
 const SIX_SAID: &str = "0 1 ok\n2 ok\n3 ok\n4 ok\n5 found =b\n6 ok\norder 1 2 3 4 5 6\n";
 
 /// A text that asks for all records.
-const ALL: &str = "1 lookup 1\n1 lookup 2\n1 lookup 3\n1 lookup 4\nstep 1x12\n";
+pub(crate) const ALL: &str = "1 lookup 1\n1 lookup 2\n1 lookup 3\n1 lookup 4\nstep 1x12\n";
 
 /// What it says behind all six.
 const KEPT: &str = "0 1 none\n2 found =b\n3 found =c\n4 found =d\norder 1 2 3 4\n";
@@ -145,7 +151,7 @@ fn behind(answered: usize) -> [&'static str; 2] {
 
 /// The device calls of a new file's recovery, whose audit reads page 1, and behind them the read of page 1 once more, before
 /// the first force.
-const BEFORE_FORCES: u64 = 16;
+pub(crate) const BEFORE_FORCES: u64 = 16;
 
 /// The device calls of the six commands: those and four for each of five changes.
 const CALLS: u64 = 36;

@@ -14,8 +14,8 @@ struct Filling {
 }
 
 impl Filling {
-    /// The changes that fill a log, and what is said to them.
-    fn new(alloc: Global) -> Option<Filling> {
+    /// No change.
+    fn empty(alloc: Global) -> Option<Filling> {
         let mut new = Filling {
             text: String::new(alloc),
             want: String::new(alloc),
@@ -23,13 +23,19 @@ impl Filling {
         };
         new.want.push_str("0 ").ok()?;
         new.order.push_str("order").ok()?;
+        Some(new)
+    }
+
+    /// The changes that fill a log, and what is said to them.
+    fn new(alloc: Global) -> Option<Filling> {
+        let mut new = Filling::empty(alloc)?;
         new.fill()?;
         Some(new)
     }
 
-    /// A change of the point 1 that is answered.
-    fn change(&mut self, line: u32, verb: &str) -> Option<()> {
-        write!(self.text, "1 {verb}\n").ok()?;
+    /// A change of a session that is answered.
+    fn change(&mut self, line: u32, session: u32, verb: &str) -> Option<()> {
+        write!(self.text, "{session} {verb}\n").ok()?;
         write!(self.want, "{line} ok\n").ok()?;
         write!(self.order, " {line}").ok()
     }
@@ -46,7 +52,7 @@ impl Filling {
             } else {
                 "delete 1"
             };
-            self.change(line, verb)?;
+            self.change(line, 1, verb)?;
         }
         Some(())
     }
@@ -96,6 +102,64 @@ fn a_log_fills(rt: HostRuntime) {
         let next = drive_on(rt.alloc(), text, left.disk.bytes());
         expect_said(&rt, next, "0 1 found =\n2 ok\n3 none\norder 1 2 3\n", text);
     }
+}
+
+/// How many pairs of changes fill a log area of 65,536 bytes, where each pair is one frame.
+///
+/// The first frame has the image and 4,135 bytes: groups of 4,115 and 15. Each later pair of deletes has 33, and each later pair of
+/// inserts 35. A change is begun where the log has at most 49,147 bytes, and a group that waits counts there with 5 more. Behind 1,323
+/// pairs it has 4,135 + 661 * 68 = 49,083, and behind 1,324 pairs 49,116. With the group of an insert, which waits, that is 49,136,
+/// so the other insert is begun, too. Behind it the log has 49,151 bytes, and no change is begun any more.
+const PAIRS: u32 = 1325;
+
+/// Where the last frame of these begins, and where the next one would, in log area 1.
+const LAST: usize = 73_728 + 49_116;
+
+const NEXT: usize = 73_728 + 49_151;
+
+/// What `drive` leaves of those pairs, and of a delete and a lookup of each session behind them; and whether it says what it has to.
+/// The second step of the first delete writes page 1 to its place.
+fn filled_by_pairs(alloc: Global) -> Option<(bool, Left)> {
+    let mut filling = Filling::empty(alloc)?;
+    for pair in 0..PAIRS {
+        let line = pair.wrapping_mul(2).wrapping_add(1);
+        let (one, other) = if pair % 2 == 0 {
+            ("insert 1 =", "insert 2 =")
+        } else {
+            ("delete 1", "delete 2")
+        };
+        filling.change(line, 1, one)?;
+        filling.change(line.wrapping_add(1), 2, other)?;
+    }
+    let text = &mut filling.text;
+    text.push_str("1 delete 1\n2 delete 2\n1 lookup 1\n2 lookup 2\n")
+        .ok()?;
+    for _ in 0..PAIRS {
+        text.push_str("step 1x2 2x2 1x2 2\n").ok()?;
+    }
+    text.push_str("step 1x3 2x2 1x3 2x3\n").ok()?;
+    let said = "2651 full\n2652 full\n2653 found =\n2654 found =\n";
+    write!(filling.want, "{said}{} 2653 2654\n", filling.order).ok()?;
+    let file = file_of(alloc, &[])?;
+    let left = drive_on(alloc, filling.text.as_str(), file.as_slice())?;
+    Some((left.said == filling.want, left))
+}
+
+// The opening and the read of page 1 take 16 calls, each pair four, and the write of page 1 one.
+#[test]
+fn a_log_fills_by_pairs(rt: HostRuntime) {
+    let (right, left) = filled_by_pairs(rt.alloc()).expect(&rt, "memory");
+    assert!(rt; right && left.disk.calls() == 16 + 4 * 1325 + 1);
+    let bytes = left.disk.bytes();
+    assert!(rt; bytes.get(LAST) == Some(&0xA5) && bytes.get(NEXT) == Some(&0));
+    let text = "1 lookup 1\n1 delete 1\n1 lookup 2\nstep 1x10\n";
+    let next = drive_on(rt.alloc(), text, bytes);
+    expect_said(
+        &rt,
+        next,
+        "0 1 found =\n2 ok\n3 found =\norder 1 2 3\n",
+        text,
+    );
 }
 
 /// How many texts were driven, each of which inserts its own number with the body `a`, and what `drive` says of the points 0,
