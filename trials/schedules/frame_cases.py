@@ -57,7 +57,7 @@ def a_framing_case(rng, seed):
         kind, size = rng.choice(["drain", "drain", "mix", "fill", "ask"]), rng.choice([150, 250, 400])
         lines = some_lines(rng, kind, points, size, case.k)
         steps = steps_in_bursts(rng, rng.choice([7, 10, 14]) * size, rng.choice([(0.05, 0), (0.15, 0.15), (0.05, 0.3)]))
-        case.add(lines, steps, 6, rng.random() < 0.002, rng.choice([0, 0, 1, 2]), rng.random() < 0.3)
+        case.add(lines, steps, 6, 30 * (rng.random() < 0.1), rng.choice([0, 0, 1, 2]), rng.random() < 0.3)
     return case
 
 

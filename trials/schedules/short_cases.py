@@ -1,5 +1,5 @@
 """Many short schedules, each over a copy of one file of more pages than there are frames."""
-from frame_cases import SESSIONS, a_filled_case
+from frame_cases import a_filled_case
 from machine import Machine
 from plain_file import MOST, File
 from trees import leaf_boxes
@@ -7,8 +7,13 @@ from trees import leaf_boxes
 SCHEDULES = 40
 
 
+def records_of(page):
+    """The boxes of a page's leaves of records, and their points."""
+    return [(area, [point for point, _ in leaf[1]]) for leaf, area in leaf_boxes(page[1], page[2]) if leaf[0] == "records"]
+
+
 def a_filled_file(rng, seed):
-    """A file of more than 132 pages, and of each page of records the boxes of its leaves of records and their points."""
+    """A file of more than 132 pages, and the leaves of records of each page, in the order of their boxes."""
     while True:
         case, _ = a_filled_case(rng, seed, rng.choice([640, 680, 720]), rng.choice([655360, 786432]))
         lines, steps = case.runs[0][:2]
@@ -17,7 +22,7 @@ def a_filled_file(rng, seed):
             made.step(actor)
         pages = [page for page in made.durable.pages.values() if isinstance(page, tuple)]
         if len(pages) > 132:
-            leaves = [[(area, [point for point, _ in leaf[1]]) for leaf, area in leaf_boxes(page[1], page[2]) if leaf[0] == "records"] for page in pages if page[0] == 0]
+            leaves = [records_of(page) for page in pages if page[0] == 0]
             return case, sorted(leaf for leaf in leaves if leaf)
 
 
@@ -40,16 +45,19 @@ def over_pages(rng, pages, verbs, most):
 
 
 def crowding_lines(rng, pages, capacity):
-    """A line that changes each page, and splits it where it is full; and then others of a few pages side by side, which empty or fill them."""
+    """A line that changes each page, and mostly splits it where it is full; and then others of a few pages side by side, which empty or fill them, or are of any."""
+    splits = rng.random() < 0.6
     def change(page):
         full = sum(max(1, len(points)) for _, points in page) >= capacity
-        return on_page(rng, "insert" if full else rng.choice(["insert", "delete"]), page)
+        return on_page(rng, "insert" if full and splits else rng.choice(["insert", "delete"]) if splits else "delete", page)
     first = rng.randrange(len(pages))
     some = pages[first:first + rng.choice([0, 4, 12])]
     lines = [change(page) for page in rng.sample(pages, len(pages))]
-    if rng.random() < 0.5:
+    if rng.random() < 0.3:
         return lines + [("delete", point, None) for page in some for _, points in page for point in points]
-    return lines + [on_page(rng, verb, page) for page in some for verb in ("insert", "lookup", "insert", "insert")]
+    if rng.random() < 0.5:
+        return lines + [on_page(rng, verb, page) for page in some for verb in ("insert", "lookup", "insert", "insert")]
+    return lines + over_pages(rng, pages, ["lookup"] * 4 + ["delete"], rng.choice([30, 60]))
 
 
 def a_wide_search(rng, k):
@@ -58,7 +66,7 @@ def a_wide_search(rng, k):
     return "search", tuple(low for low, _ in sides), tuple(high for _, high in sides)
 
 
-def short_lines(rng, case, pages, kind):
+def short_lines(rng, case, pages, kind, sessions):
     """`crowd` changes nearly all pages, `turn` changes some and then asks for all, and `ask` has wide searches and few changes."""
     change, ask = ["insert", "delete", "delete"], ["lookup"]
     if kind == "ask":
@@ -68,19 +76,19 @@ def short_lines(rng, case, pages, kind):
         said = over_pages(rng, pages, change, rng.randint(30, 90)) + over_pages(rng, pages, ask * 12 + change, 200)
     else:
         said = crowding_lines(rng, pages, case.dcap)
-    return [(at + 1, rng.randint(1, SESSIONS), *line) for at, line in enumerate(said)]
+    return [(at + 1, rng.randint(1, sessions), *line) for at, line in enumerate(said)]
 
 
-def short_steps(rng, lines, pages, workers):
+def short_steps(rng, lines, pages, workers, sessions):
     """Steps in bursts or one by one: about as many of each session as its lines take."""
-    need = [1] * SESSIONS
+    need = [1] * sessions
     for line in lines:
-        need[line[1] - 1] += 3 * pages if line[2] == "search" else 5 if line[2] == "lookup" else 9
+        need[line[1] - 1] += 3 * pages if line[2] == "search" else 6 if line[2] == "lookup" else 11
     poster, merger = workers
     count, burst, steps = sum(need) * rng.choice([9, 10, 12]) // 10, rng.choice([1, 2, 4, 9]), []
     while len(steps) < count:
         drawn = rng.random()
-        actor = "p" if drawn < poster else "c" if drawn < poster + merger else str(rng.choices(range(1, SESSIONS + 1), need)[0])
+        actor = "p" if drawn < poster else "c" if drawn < poster + merger else str(rng.choices(range(1, sessions + 1), need)[0])
         steps += [actor] * rng.randint(1, burst)
     return steps
 
@@ -89,7 +97,8 @@ def a_short_case(rng, seed):
     case, pages = a_filled_file(rng, seed)
     for _ in range(SCHEDULES):
         for left in range(rng.choice([1, 1, 2]) - 1, -1, -1):
-            lines = short_lines(rng, case, pages, rng.choice(["crowd", "crowd", "turn", "ask"]))
-            steps = short_steps(rng, lines, len(pages), rng.choice([(0.05, 0), (0.1, 0.1), (0.03, 0.3)]))
-            case.add(lines, steps, rng.choice([0, 0, 1]), 0, rng.random() < 0.1, rng.random() < 0.5, back=left == 0)
+            sessions = rng.choice([4, 8, 16])
+            lines = short_lines(rng, case, pages, rng.choice(["crowd", "crowd", "crowd", "turn", "ask"]), sessions)
+            steps = short_steps(rng, lines, len(pages), rng.choice([(0.05, 0), (0.1, 0.1), (0.03, 0.3)]), sessions)
+            case.add(lines, steps, rng.choice([0, 0, 1]), 30 * (rng.random() < 0.01), rng.random() < 0.1, rng.random() < 0.5, back=left == 0)
     return case
