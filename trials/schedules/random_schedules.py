@@ -9,7 +9,7 @@ first six steps), `high` (3,000 inserts with the poster), `refused` (each alloca
 alone), `searching-refused` (some allocations of schedules with searches), `merging` (waves of inserts and deletes with searches,
 the poster and the consolidator), `merging-deep` (the same over files of three levels), `merging-failing` or `merging-refused`;
 over files of more pages than there are frames `framing` (waves of all kinds), `crowding` (each run changes all pages),
-`framing-failing`, `framing-refused` or `framing-short` (forty short schedules over copies of each file).
+`framing-failing`, `framing-refused` or `framing-short` (a hundred short schedules over copies of each file).
 Each run that starts with a known file is also taken step by step by a machine in Python (machine.py), also where a call fails. It
 has to print the same, to make the same calls of the disk, and to leave the same pages; each image of a moment has to open to the
 one or two files that the machine says. Of merges and of frames its counts tell. It copies the repository's sources into a
@@ -151,7 +151,7 @@ def main():
     size = {"failing": 2, "searching-failing": 2, "merging-failing": 2, "high": 1, "deep": 1, "merging-deep": 1, "framing": 1, "framing-failing": 1, "framing-short": 1, "crowding": 1}.get(kind, FILE)
     counts, differ = collections.Counter(), 0
     with Program() as program:
-        while batch := list(itertools.islice(made, size * (BATCH if size > 1 else 5))):
+        while batch := list(itertools.islice(made, size * BATCH if size > 1 else 1)):
             parts = [batch[at:at + size] for at in range(0, len(batch), size)]
             said = program.run([b"".join(case.spelled() for case in part) for part in parts])
             for number, part in enumerate(parts):

@@ -1,10 +1,13 @@
 """Many short schedules, each over a copy of one file of more pages than there are frames."""
+import bisect
+import itertools
+
 from frame_cases import a_filled_case
 from machine import Machine
 from plain_file import MOST, File
 from trees import leaf_boxes
 
-SCHEDULES = 40
+SCHEDULES = 100
 
 
 def records_of(page):
@@ -85,10 +88,11 @@ def short_steps(rng, lines, pages, workers, sessions):
     for line in lines:
         need[line[1] - 1] += 3 * pages if line[2] == "search" else 6 if line[2] == "lookup" else 11
     poster, merger = workers
+    sums = list(itertools.accumulate(need))
     count, burst, steps = sum(need) * rng.choice([9, 10, 12]) // 10, rng.choice([1, 2, 4, 9]), []
     while len(steps) < count:
         drawn = rng.random()
-        actor = "p" if drawn < poster else "c" if drawn < poster + merger else str(rng.choices(range(1, sessions + 1), need)[0])
+        actor = "p" if drawn < poster else "c" if drawn < poster + merger else str(bisect.bisect(sums, rng.random() * sums[-1]) + 1)
         steps += [actor] * rng.randint(1, burst)
     return steps
 
