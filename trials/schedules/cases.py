@@ -12,8 +12,9 @@ class Case:
         self.seed, self.k, self.pages, self.log, self.dcap, self.icap = seed, k, pages, log, dcap, icap
         self.runs, self.wanted, self.file = [], None, None
 
-    def add(self, lines, steps, moments=20, stopped=0, failing=0, crashes=False, finishes=False):
-        self.runs.append((lines, steps, moments, stopped, failing, crashes, finishes))
+    def add(self, lines, steps, moments=20, stopped=0, failing=0, crashes=False, finishes=False, back=False):
+        """Behind a run that goes `back` the next one begins with the file that the first one left."""
+        self.runs.append((lines, steps, moments, stopped, failing, crashes, finishes, back))
 
     def text(self, number):
         lines, steps = self.runs[number][:2]
@@ -32,9 +33,9 @@ class Case:
         create = self.create().encode()
         size = 8192 + 2 * self.log + 4096 * self.pages
         made = struct.pack(">IIII", self.seed, self.log, size, len(create)) + create + bytes([len(self.runs)])
-        for number, (_, _, moments, stopped, failing, crashes, _) in enumerate(self.runs):
+        for number, (_, _, moments, stopped, failing, crashes, _, back) in enumerate(self.runs):
             text = self.text(number).encode()
-            made += struct.pack(">HBHBI", moments, stopped, failing, crashes, len(text)) + text
+            made += struct.pack(">HBHBI", moments, stopped, failing, crashes + 2 * back, len(text)) + text
         return made
 
 

@@ -165,7 +165,7 @@ def step_machine(case, number, run, counts):
 
 def compare_run(told, case, number, records, counts, refused=False):
     """One run and all that was tried of it. It gives the records of the next one."""
-    lines, _, _, _, _, crashes, finishes = case.runs[number]
+    lines, _, _, _, _, crashes, finishes, _ = case.runs[number]
     if refused and told.line(peek=True)[1] == "5":
         raise Untold
     run = told.run(case, records, lines)
@@ -217,13 +217,17 @@ def compare(case, told, counts, refused=False):
         return
     if made != "0":
         raise Bad("the file wasn't made")
-    records, number = {}, 0
+    records, number, kept = {}, 0, None
     case.file = None if refused or case.wanted else File(case.k, case.pages, case.log, case.dcap, case.icap)
     # the file was made with the turn 0
     case.turn, case.sums = 1, Sums(case.k)
     try:
         for number in range(len(case.runs)):
             records = compare_run(told, case, number, records, counts, refused)
+            kept = kept or (records, case.file, case.turn)
+            if case.runs[number][7]:
+                records, case.file, case.turn = kept
+                counts["short schedules"] += 1
     except Untold:
         counts["memory was refused to the sink or behind the run"] += 1
     except (Bad, ValueError, KeyError, IndexError, AssertionError) as bad:

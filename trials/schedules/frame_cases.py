@@ -40,10 +40,10 @@ def some_lines(rng, kind, points, size, k, first=1):
     return lines
 
 
-def a_filled_case(rng, seed, count):
+def a_filled_case(rng, seed, count, log=1048576):
     """A file into which so many points are put, with the poster; it tells how many lines that are."""
     k = rng.randint(1, 4)
-    case = Case(seed, k, rng.choice([count // 4, count // 3, count // 3]), 1048576, rng.choice([6, 6, 6, 7]), rng.choice([32, 32, 40]))
+    case = Case(seed, k, rng.choice([count // 4, count // 3, count // 3]), log, rng.choice([6, 6, 6, 7]), rng.choice([32, 32, 40]))
     points = some_points(rng, k, count)
     lines = some_lines(rng, "fill", points, len(points), k)
     case.add(lines, steps_in_bursts(rng, 13 * len(lines), (0.15, rng.choice([0, 0, 0.05]))), rng.choice([0, 0, 4]))
@@ -57,7 +57,7 @@ def a_framing_case(rng, seed):
         kind, size = rng.choice(["drain", "drain", "mix", "fill", "ask"]), rng.choice([150, 250, 400])
         lines = some_lines(rng, kind, points, size, case.k)
         steps = steps_in_bursts(rng, rng.choice([7, 10, 14]) * size, rng.choice([(0.05, 0), (0.15, 0.15), (0.05, 0.3)]))
-        case.add(lines, steps, 6, rng.random() < 0.002, rng.choice([0, 0, 1, 2]), rng.random() < 0.3)
+        case.add(lines, steps, 6, 30 * (rng.random() < 0.1), rng.choice([0, 0, 1, 2]), rng.random() < 0.3)
     return case
 
 

@@ -16,7 +16,7 @@ class Frames:
 
     def places(self):
         """How many frames are empty, or clean and not pinned."""
-        return self.most - sum(dirty or pins > 0 for dirty, pins in self.order.values())
+        return self.most - len([1 for dirty, pins in self.order.values() if dirty or pins])
 
     def bring(self, page, dirty):
         """A page that is in no frame comes, and is last. It gives the one that goes for it, or None."""

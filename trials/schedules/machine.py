@@ -110,8 +110,9 @@ class Machine(Workers):
         return None, None, False
 
     def is_blocked(self, actor, page, mode):
-        for other, _ in list(self.at.items()):
-            if other != actor:
+        for other, at in self.at.items():
+            # what an actor holds stands in its place
+            if other != actor and page in at:
                 theirs = self.held(other).get(page)
                 if theirs and (ALONE in (mode, theirs) or mode == theirs == UPDATE):
                     return True

@@ -9,7 +9,7 @@ first six steps), `high` (3,000 inserts with the poster), `refused` (each alloca
 alone), `searching-refused` (some allocations of schedules with searches), `merging` (waves of inserts and deletes with searches,
 the poster and the consolidator), `merging-deep` (the same over files of three levels), `merging-failing` or `merging-refused`;
 over files of more pages than there are frames `framing` (waves of all kinds), `crowding` (each run changes all pages),
-`framing-failing` or `framing-refused`.
+`framing-failing`, `framing-refused` or `framing-short` (a hundred short schedules over copies of each file).
 Each run that starts with a known file is also taken step by step by a machine in Python (machine.py), also where a call fails. It
 has to print the same, to make the same calls of the disk, and to leave the same pages; each image of a moment has to open to the
 one or two files that the machine says. Of merges and of frames its counts tell. It copies the repository's sources into a
@@ -31,6 +31,7 @@ from cases import deep_cases, high_cases, merging_cases, merging_deep_cases, mer
 from comparing import Told, compare
 from frame_cases import a_crowded_case, a_failing_frames_case, a_framing_case, frame_cases, frames_refused_cases
 from plain_list import Bad
+from short_cases import a_short_case
 
 HERE = os.path.dirname(os.path.abspath(__file__))
 ROOT = os.path.dirname(os.path.dirname(HERE))
@@ -145,12 +146,12 @@ def main():
             "searching": lambda: random_cases(count, seed, False, True), "searching-failing": lambda: random_cases(count, seed, True, True),
             "merging": lambda: merging_cases(count, seed), "merging-failing": lambda: merging_cases(count, seed, True), "merging-deep": lambda: merging_deep_cases(count, seed),
             "framing": lambda: frame_cases(count, seed, a_framing_case), "framing-failing": lambda: frame_cases(count, seed, a_failing_frames_case),
-            "crowding": lambda: frame_cases(count, seed, a_crowded_case),
+            "crowding": lambda: frame_cases(count, seed, a_crowded_case), "framing-short": lambda: frame_cases(count, seed, a_short_case),
             "racing": lambda: itertools.islice(racing_cases(), count), "deep": lambda: deep_cases(count, seed), "high": lambda: high_cases(count, seed)}[kind]()
-    size = {"failing": 2, "searching-failing": 2, "merging-failing": 2, "high": 1, "deep": 1, "merging-deep": 1, "framing": 1, "framing-failing": 1, "crowding": 1}.get(kind, FILE)
+    size = {"failing": 2, "searching-failing": 2, "merging-failing": 2, "high": 1, "deep": 1, "merging-deep": 1, "framing": 1, "framing-failing": 1, "framing-short": 1, "crowding": 1}.get(kind, FILE)
     counts, differ = collections.Counter(), 0
     with Program() as program:
-        while batch := list(itertools.islice(made, size * (BATCH if size > 1 else 5))):
+        while batch := list(itertools.islice(made, size * BATCH if size > 1 else 1)):
             parts = [batch[at:at + size] for at in range(0, len(batch), size)]
             said = program.run([b"".join(case.spelled() for case in part) for part in parts])
             for number, part in enumerate(parts):
