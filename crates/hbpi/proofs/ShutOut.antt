@@ -16,15 +16,18 @@ pub shut_out : {X : Type 0} (M : X → DiskModel) (old found last : X) (seen : S
     → GetsLine seen.sink_before seen.sink_after (fault_line asked) → seen.answered ≡ [] → seen.order ≡ [] → IsUnread seen
     → IsRefusal (M old) fault → (IsUnwritten fault → OnlyReads (M old) (M found)) → LeavesOpening (fault ≡ DiskFault) (M old) (M found)
     → (fault : OpenFault) × (status ≡ status_of fault) × IsShutOut (run_of seen (M old) (M last)) fault
-shut_out {X = X} M old found last seen fault asked status same is of line none_answered none_ordered unread why unwritten leaves =
-    (fault, is ∙ of, subst (λ (x : X). IsShutOut (run_of seen (M old) (M x)) fault) (sym same) (record {
-      refused = record {
-        line = subst (λ (x : Status). GetsLine seen.sink_before seen.sink_after (fault_line x)) of line;
-        none_answered = none_answered;
-        none_ordered = none_ordered;
-      };
-      unread = unread;
-      why = why;
-      unwritten = unwritten;
-      leaves = leaves;
-    }))
+shut_out {X = X} M old found last seen fault asked status same is of line none_answered none_ordered unread why unwritten leaves = (
+  fault,
+  is ∙ of,
+  subst (λ (x : X). IsShutOut (run_of seen (M old) (M x)) fault) (sym same) (record {
+    refused = record {
+      line = subst (λ (x : Status). GetsLine seen.sink_before seen.sink_after (fault_line x)) of line;
+      none_answered = none_answered;
+      none_ordered = none_ordered;
+    };
+    unread = unread;
+    why = why;
+    unwritten = unwritten;
+    leaves = leaves;
+  }),
+)
