@@ -73,14 +73,20 @@ fn height_of(disk: &MemDisk) -> u64 {
 
 /// Fills a file, with steps enough for the poster to post each split, and looks all records up. As six records at most have
 /// room in a page and 256 children in one above, there are three levels. Where all is posted a walk passes one page of each
-/// level, so a lookup takes two steps and one for each level.
+/// level, so a lookup takes two steps and one for each level. In the first run another session looks a record up at the end, which
+/// forces what was posted last: its place is behind that.
 fn grows(alloc: Global, k: u8) -> Result<(), Missed> {
     let disk = call(alloc, words(k), "", "created\n", zeros(alloc, SIZE)?)?;
     let mut script = inserts(alloc, k)?;
+    let line = script.next_line()?;
+    write!(script.text, "2 lookup")?;
+    put_point(&mut script.text, k, 0)?;
+    write!(script.text, "\n")?;
+    write!(script.output, "{line} found =0\n")?;
     for _ in 0..COUNT {
         write!(script.text, "step 1x8 px40\n")?;
     }
-    script.end("step 1x8000\n")?;
+    script.end("step 1x8000 2x8\n")?;
     let disk = drive(alloc, &script, disk)?;
     let disk = call(alloc, "drive", "", "order\n", disk)?;
     if height_of(&disk) < 3 {
