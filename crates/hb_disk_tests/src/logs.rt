@@ -2,7 +2,6 @@
 //! bad.
 
 ghost use Rattle.std.specs.Prelude.{◌≡◌, ◌≤◌, [], IfOk, IsTrue};
-ghost use Rattle.hb_disk.specs.Model.{DiskModel};
 ghost use Rattle.hb_wal.specs.Forces.{MayForce};
 
 use crate::letters::{PICKS, bytes_of, disk_of, push_bytes};
@@ -116,7 +115,9 @@ fn begun<D: Device>(alloc: Global, disk: &mut D, groups: u8) -> Result<Wal, Fail
 
 // Lets one more group wait, `e`, where none does and it has room.
 fn wait_again(log: &mut Wal) -> bool
-    ensures { (d : DiskModel) → MayForce d log.old → MayForce d log.new }
+    ensures area { log.new.area ≡ log.old.area }
+    ensures len { log.new.len ≡ log.old.len }
+    ensures written { log.new.written ≡ log.old.written }
 {
     if log.pending() != 0 || log.room() == 0 {
         return false;
@@ -143,6 +144,7 @@ fn force_often<D: Device>(disk: &mut D, log: &mut Wal, forces: u8)
 }
 
 // Forces once, lets one more group wait, and forces so often, or up to the first that fails.
+#[tactic(auto, using(crate::proofs::Waiting::still_may_force))]
 fn force_again<D: Device>(disk: &mut D, log: &mut Wal, forces: u8)
     requires { MayForce (D.model disk.old) log.old }
 {
