@@ -65,16 +65,18 @@ fn waiting(alloc: Global, text: &str, call: u64) -> Option<Left> {
     run_failing(alloc, "drive", text, file_of(alloc, &[])?.as_slice(), call)
 }
 
-/// What all records may be where the run is stopped before this call. Before the last sync of a force all its groups may last, or
-/// none; before its other calls none does.
-fn lasting(states: &[&'static str], call: u64) -> Option<[&'static str; 2]> {
-    let behind = call.saturating_sub(BEFORE_FORCES);
+/// Whether a stop before this call leaves what it may. Before the last sync of a force all its groups may last, or none; before its
+/// other calls none does.
+fn last_at(alloc: Global, left: &Left, states: &[&'static str], before: u64) -> Option<bool> {
+    let behind = before.saturating_sub(BEFORE_FORCES);
     let force = (behind / 4) as usize;
     let old = *states.get(force)?;
-    if behind % 4 == 3 {
-        return Some([old, *states.get(force.wrapping_add(1))?]);
-    }
-    Some([old, old])
+    let new = if behind % 4 == 3 {
+        *states.get(force.wrapping_add(1))?
+    } else {
+        old
+    };
+    Some(all_say(alloc, &left.disk, before, ALL, [old, new]))
 }
 
 /// Whether a run of such a text is right where nothing fails, and wherever it is stopped.
@@ -86,7 +88,7 @@ fn lasts_together(alloc: Global, row: &Waiting) -> Option<bool> {
         return Some(false);
     }
     for before in 0..calls.wrapping_add(1) {
-        if !all_say(alloc, &left.disk, before, ALL, lasting(states, before)?) {
+        if !last_at(alloc, &left, states, before)? {
             return Some(false);
         }
     }
