@@ -16,7 +16,8 @@ awk 'BEGIN { for (i = 1; i <= 2000; i++) print (i % 16) + 1, "lookup", i * 7919 
 # The file is made anew, and the run is killed after so many seconds. What is left is compared with what it wrote.
 try() {
     rm -f f
-    # a process that is killed at once may not have emptied it
+    # a process that is killed at once hasn't emptied this itself
+    : >out
     "$HBPI" f create 1 1200 8388608 6 32 >/dev/null
     "$HBPI" f drive <long >out 2>/dev/null &
     sleep "$1"
