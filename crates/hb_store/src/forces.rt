@@ -28,8 +28,8 @@ impl<D: Device> Store<D> {
     }
 
     /// Where groups wait, they are forced: `Forced`. Else the least recently used page that is to be written to its place is
-    /// written there, in one call: `Written`; its log stands already, since no group waits. Else `Nothing`. It takes no memory.
-    /// A fault stops the store.
+    /// written there, in one call: `Written`; its log stands already, since no group waits. Else the next turn begins where the log
+    /// has a frame, in nine calls: `Switched`. Else `Nothing`. It takes no memory. A fault stops the store.
     pub fn flush_step(&mut self) -> Result<Flushed, WriteFault>
         requires { MayWriteGroups (D.model self.old.disk) (seen_as self.old) }
         ensures which { IfOk result (IsDue (held_by self.old)) }
@@ -42,6 +42,7 @@ impl<D: Device> Store<D> {
         }
         match self.memory.oldest_dirty() {
             Some(id) => self.write_home(id),
+            None if self.memory.written() > 0 => self.switch(),
             None => Ok(Flushed::Nothing),
         }
     }
@@ -71,10 +72,43 @@ impl<D: Device> Store<D> {
         }
     }
 
+    /// Begins the next turn: syncs, so that each page stands in its place whatever a crash leaves, zeroes the other log area, and
+    /// writes the superblock of the next turn. Nine device calls.
+    fn switch(&mut self) -> Result<Flushed, WriteFault>
+        requires running { MayWriteGroups (D.model self.old.disk) (seen_as self.old) }
+        requires waits { (seen_as self.old).log.groups ≡ [] }
+        requires clean { oldest_dirty (uses_of self.old) ≡ None }
+        ensures says { IfOk result (λ flushed. flushed ≡ Flushed.Switched) }
+        ensures switches { SwitchesTurn result (D.model self.old.disk) (D.model self.new.disk) (held_by self.old) (held_by self.new) }
+    {
+        let memory = &mut self.memory;
+        match begin_turn(&mut self.disk, memory.next_turn(), memory.meta()) {
+            Ok(()) => {
+                memory.switched();
+                Ok(Flushed::Switched)
+            }
+            Err(_fault) => {
+                memory.stopped = true;
+                Err(WriteFault)
+            }
+        }
+    }
+
     /// Whether no group waits: then any time is settled, and else only the oldest group's mark is.
     fn is_idle(&self) -> bool
         ensures { IsTrue result ↔ ((seen_as self.now).log.groups ≡ []) }
     {
         self.settled(0) != self.settled(1)
     }
+}
+
+/// Begins a turn over a disk whose pages stand in their places. Nine device calls.
+///
+/// Not stated yet: over `IsPlaced` of hb_restart's `specs/Renewing.antt` (which wants to stand here, with `StillOpens`, `IsHere`
+/// and `IsReadyFor`) every image of a moment opens to the same file, and after Ok the disk is `IsFresh` of this turn. hb_restart's
+/// `switch` is then `clear_hidden` and this call.
+fn begin_turn<D: Device>(disk: &mut D, turn: u8, meta: &Meta) -> Result<(), DiskFault> {
+    disk.sync()?;
+    zero_area(disk, log_start(turn, meta), meta.log)?;
+    write_super(disk, turn, meta)
 }
