@@ -1,13 +1,17 @@
-ghost use Rattle.std.specs.Prelude.{◌≡◌, ◌≢◌, ◌↔◌, [], IfOk, IsTrue, Some};
+ghost use Rattle.std.specs.Prelude.{◌≡◌, ◌≢◌, ◌↔◌, [], IfOk, IsTrue, None, Some};
 ghost use Rattle.hb_store.specs.Forced.{MayWriteGroups, WritesGroups};
 ghost use Rattle.hb_store.specs.Held.{oldest_dirty};
+ghost use Rattle.hb_store.specs.Switching.{SwitchesTurn};
 ghost use Rattle.hb_store.specs.WritingHome.{FlushesHome, IsDue, WritesHome};
 ghost use Rattle.hb_store.specs.Seen.{held_by, seen_as, uses_of};
 
 use crate::stops::{Flushed, WriteFault};
 use crate::store::Store;
-use hb_disk::Device;
-use hb_layout::page_offset;
+use hb_disk::{Device, DiskFault};
+use hb_layout::{log_start, page_offset};
+use hb_ops::Meta;
+use hb_super::write_super;
+use hb_wal::zero_area;
 
 impl<D: Device> Store<D> {
     /// Writes the groups that wait to the log as one frame. Four device calls, at most four where it fails, and none where no
