@@ -1,7 +1,6 @@
 -- Which of the four a flush does, and what it is to do it.
-use Rattle.std.proofs.Common.{◌≡◌, ◌⊎◌, inl, inr, ℕ, ◌<◌, [], Option, Some, None, Result, Ok, Err, IsOk, refl, sym, subst}
+use Rattle.std.proofs.Common.{◌≡◌, inl, inr, ℕ, ◌<◌, [], Option, Some, None, Result, Ok, Err, refl, sym, subst}
 use Rattle.std.specs.Prelude.{IfOk, MatchOption}
-use Rattle.hb_disk.specs.Calls.{ReadsOnly}
 use Rattle.hb_disk.specs.Model.{DiskModel}
 use Rattle.hb_disk.proofs.Facts.FaultLaws.{ReadsOnly-none}
 use Rattle.hb_store.specs.Held.{StoreHeld, oldest_dirty}

@@ -7,7 +7,6 @@ use Rattle.hb_disk.specs.Model.{DiskModel, IsDisk}
 use Rattle.hb_lemmas.proofs.Options.{some_value}
 use Rattle.hb_super.specs.Superblocks.{IsNewest, next_turn}
 use Rattle.hb_wal.specs.Frames.{frames, frame_bytes, ReadsOneWay}
-use Rattle.hb_wal.specs.Log.{Waiting}
 use Rattle.hb_layout.specs.declared.meta.Meta.{Meta}
 use Rattle.hb_ops.specs.Files.{FileState}
 use Rattle.hb_log_codec.specs.Groups.{Logged, FitsGroup, group_bytes}
