@@ -30,4 +30,6 @@ pub mod Replays
 pub mod Touches
 pub mod HomeWrites
 pub mod WrittenHome
+pub mod Turned
+mod Turns
 pub mod Flushes
