@@ -32,4 +32,5 @@ pub mod HomeWrites
 pub mod WrittenHome
 pub mod Turned
 mod Turns
+mod Switched
 pub mod Flushes

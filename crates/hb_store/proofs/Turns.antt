@@ -47,7 +47,7 @@ module _ (before next : ℕ) (meta : Meta) (is : next ≡ next_turn before) (are
   pub switch_failed : {T E U F : Type 0} (r : Result T E) (q : Result U F) (k : ℕ) (old new : DiskModel) → k ≤ 9 → IsErr r → IsErr q → Rewrites (Torn area meta.log) k r old new → Rewrites (TornSwitch before meta) 9 q old new
   switch_failed r q k old new few r_failed q_failed run =
       Rewrites-as r q (TornSwitch before meta) k 9 old new (λ f. q_failed) (λ f. r_failed) few
-      (Rewrites-weaker r (Torn area meta.log) (TornSwitch before meta) k old new (λ b c torn. as_switch b c c torn (Torn-itself (slot_offset next) 41 c)) run)
+      (Rewrites-weaker r (Torn area meta.log) (TornSwitch before meta) k old new (λ b c torn. as_switch b c c torn (Torn-itself (slot_offset next) 41 c torn.bytes)) run)
 
   -- the sync, and the zeroed area
   pub area_zeroed : {T E U F : Type 0} (q : Result T E) (r : Result U F) (old mid new : DiskModel) (v : T) → q ≡ Ok v → IsDisk old → Syncs q old mid → Rewrites (Torn area meta.log) 2 r mid new → Rewrites (Torn area meta.log) 3 r old new

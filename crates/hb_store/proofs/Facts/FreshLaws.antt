@@ -36,7 +36,7 @@ module _ (b c : List ℕ) (same : take 8192 (drop 0 c) ≡ take 8192 (drop 0 b))
 -- and hide no other body behind a closed gate
 pub HidesNoOther-elsewhere : (b c : List ℕ) → take 8192 (drop 0 c) ≡ take 8192 (drop 0 b) → (turn : ℕ) (meta : Meta) → HidesNoOther b turn meta → HidesNoOther c turn meta
 HidesNoOther-elsewhere b c same turn meta hides closed said legal body =
-    hides (λ open. closed (gate_same b c same turn ∙ open)) said legal (sym (body_same b c same turn) ∙ body)
+    hides (λ opened. closed (gate_same b c same turn ∙ opened)) said legal (sym (body_same b c same turn) ∙ body)
 
 pub IsNewest-elsewhere : (b c : List ℕ) → take 8192 (drop 0 c) ≡ take 8192 (drop 0 b) → (turn : ℕ) (meta : Meta) → IsNewest b turn meta → IsNewest c turn meta
 IsNewest-elsewhere b c same turn meta newest = record {
