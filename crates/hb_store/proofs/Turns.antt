@@ -16,7 +16,7 @@ use Rattle.hb_lemmas.proofs.Options.{some_value}
 use Rattle.hb_store.specs.Switching.{TornSwitch}
 use Rattle.hb_store.specs.Turning.{MayTurn, OpensByEither, StillOpens}
 
--- a fact for each of four values where there was a success
+-- what follows of two facts of a success, and what a success gives for each two values, or under a condition
 pub on_ok_both : {T E : Type 0} (r : Result T E) (P Q S : Type 0) → (P → Q → S) → OnOk r P → OnOk r Q → OnOk r S
 on_ok_both (Ok v) P Q S f p q = f p q
 on_ok_both (Err e) P Q S f p q = tt
@@ -24,6 +24,10 @@ on_ok_both (Err e) P Q S f p q = tt
 pub on_ok_each : {T E X Y : Type 0} (r : Result T E) (P : X → Y → Type 0) → ((x : X) (y : Y) → OnOk r (P x y)) → OnOk r ((x : X) (y : Y) → P x y)
 on_ok_each (Ok v) P f = f
 on_ok_each (Err e) P f = tt
+
+pub on_ok_if : {T E : Type 0} (r : Result T E) (P Q : Type 0) → (P → OnOk r Q) → OnOk r (P → Q)
+on_ok_if (Ok v) P Q f = f
+on_ok_if (Err e) P Q f = tt
 
 -- the turn before is one too
 pub turn_before : (d : DiskModel) → IsDisk d → (turn : ℕ) (said meta : Meta) (touched : ℕ → Option Page) (s : FileState) → MayTurn d turn said meta touched s → turn ≤ 3

@@ -8,7 +8,7 @@ use Rattle.hb_super.specs.Superblocks.{IsNewest, next_turn}
 use Rattle.hb_store.specs.Keeps.{IsFresh}
 use Rattle.hb_store.specs.Turning.{MayTurn, OpensByEither}
 use Rattle.hb_store.proofs.Turned.{sync_moments, super_fresh, super_moments, zeroed_moments, zeroed_ready}
-use Rattle.hb_store.proofs.Turns.{area_zeroed, on_ok_both, on_ok_each, still_either, switch_failed, switch_wrote, turn_before}
+use Rattle.hb_store.proofs.Turns.{area_zeroed, on_ok_both, on_ok_each, on_ok_if, still_either, switch_failed, switch_wrote, turn_before}
 use Rattle.hb_store.proofs.switching.begin_turn.Goals as goal
 
 pub returns-in_err-sync-clause-moments : goal.returns-in_err-sync-clause-moments
@@ -76,7 +76,7 @@ returns-clause-fresh g c =
     (g.met.D.Device.is_disk c.write_super.new.disk) c.write_super.ensures.wrote.run.became durable (newest before said is))
     c.write_super.ensures.wrote.lasts
     (on_ok_each c.write_super.result (λ (before : ℕ) (said : Meta). next ≡ next_turn before → IfSome two.told (λ b. IsNewest b before said → IfSome new.told (λ x. IsNewest x next meta)))
-    (λ before said. c.write_super.ensures.newest before said))
+    (λ before said. on_ok_if c.write_super.result (next ≡ next_turn before) (IfSome two.told (λ b. IsNewest b before said → IfSome new.told (λ x. IsNewest x next meta))) (c.write_super.ensures.newest before said)))
 
 pub returns-in_err-sync-clause-wrote : goal.returns-in_err-sync-clause-wrote
 returns-in_err-sync-clause-wrote g c = λ before is.
