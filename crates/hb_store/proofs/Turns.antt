@@ -1,9 +1,9 @@
 -- What the calls that begin a turn leave of a disk.
-use Rattle.std.proofs.Common.{◌≡◌, ℕ, ◌+◌, ◌≤◌, List, Option, Result, Ok, Err, IsErr, OnOk, inl, sym, subst, arith}
+use Rattle.std.proofs.Common.{◌≡◌, ℕ, ◌+◌, ◌≤◌, List, Option, Result, Ok, Err, IsErr, IsSome, OnOk, is_some, inl, sym, subst, ap, ◌∙◌, arith}
 use Rattle.hb_disk.specs.Model.{DiskModel, IsDisk, Torn}
 use Rattle.hb_disk.specs.Calls.{Syncs, Then}
 use Rattle.hb_disk.specs.Runs.{Rewrites}
-use Rattle.hb_disk.proofs.Facts.RewriteLaws.{Rewrites-as, Rewrites-sync, Rewrites-then, Rewrites-torn, Rewrites-weaker}
+use Rattle.hb_disk.proofs.Facts.RewriteLaws.{Becomes-tells, Rewrites-as, Rewrites-sync, Rewrites-then, Rewrites-torn, Rewrites-weaker}
 use Rattle.hb_disk.proofs.Facts.TornLaws.{Torn-itself}
 use Rattle.hb_disk.specs.Calls.{Leaves}
 use Rattle.hb_disk.proofs.Facts.RunLaws.{Leaves-weaker}
@@ -13,6 +13,7 @@ use Rattle.hb_layout.specs.declared.meta.Meta.{Meta}
 use Rattle.hb_ops.specs.Files.{FileState}
 use Rattle.hb_super.specs.Superblocks.{IsLegal, next_turn}
 use Rattle.hb_lemmas.proofs.Options.{some_value}
+use Rattle.hb_store.proofs.Facts.PlaceWrites.{ok_tick}
 use Rattle.hb_store.specs.Switching.{TornSwitch}
 use Rattle.hb_store.specs.Turning.{MayTurn, OpensByEither, StillOpens}
 
@@ -38,6 +39,24 @@ turn_before d is_disk turn said meta touched s may =
 -- what opens still opens by one of the two
 pub still_either : (d e : DiskModel) (turn : ℕ) (said meta : Meta) (touched : ℕ → Option Page) (s : FileState) → Leaves d e (StillOpens turn said meta touched s) → Leaves d e (OpensByEither turn said meta touched s)
 still_either d e turn said meta touched s left = Leaves-weaker d e (StillOpens turn said meta touched s) (OpensByEither turn said meta touched s) (λ c opens. inl opens) left
+
+ok_of : {T E : Type 0} (r : Result T E) (v : T) (P : Type 0) → r ≡ Ok v → OnOk r P → P
+ok_of (Ok w) v P ok p = p
+ok_of (Err e) v P ok p = cc ok
+
+ok_then : {T E : Type 0} (r : Result T E) (P Q : Type 0) → (P → Q) → OnOk r P → OnOk r Q
+ok_then (Ok v) P Q f p = f p
+ok_then (Err e) P Q f p = tt
+
+-- nine ticks: one of the sync, two of the area and six of the superblock
+pub nine_ticks : {T E U F V W : Type 0} (q : Result T E) (r : Result U F) (s : Result V W) (v : T) (w : U) (old mid late new : DiskModel) → q ≡ Ok v → r ≡ Ok w → IsDisk old → Syncs q old mid
+    → (area len : ℕ) → Rewrites (Torn area len) 2 r mid late → (IsSome mid.told → OnOk r (late.clock ≡ mid.clock + 2)) → (IsSome late.told → OnOk s (new.clock ≡ late.clock + 6))
+    → IsSome old.told → OnOk s (new.clock ≡ old.clock + 9)
+nine_ticks q r s v w old mid late new is_ok are_ok is_old syncs area len run second third tells =
+    let here : IsSome mid.told = ap is_some syncs.same ∙ tells in
+    let one = ok_tick q v old mid is_ok is_old tells syncs.ticks in
+    let two = ok_of r w (late.clock ≡ mid.clock + 2) are_ok (second here) in
+    ok_then s (new.clock ≡ late.clock + 6) (new.clock ≡ old.clock + 9) (λ six. omega (arith, one, two, six)) (third (Becomes-tells (Torn area len) mid late run.became here))
 
 module _ (before next : ℕ) (meta : Meta) (is : next ≡ next_turn before) (area : ℕ) (area_is : area ≡ log_start next meta) where
   as_switch : (b c e : List ℕ) → Torn area meta.log b c → Torn (slot_offset next) 41 c e → TornSwitch before meta b e

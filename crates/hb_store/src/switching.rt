@@ -2,7 +2,7 @@
 //!
 //! Every page stands in its place before its superblock is written, and its log area reads as zeros. So it doesn't matter
 //! which of the two superblocks a crash leaves as the newest.
-ghost use Rattle.std.specs.Prelude.{◌≡◌, ◌≤◌, ℕ, Option, OnOk};
+ghost use Rattle.std.specs.Prelude.{◌≡◌, ◌≤◌, ◌+◌, ℕ, IsSome, Option, OnOk};
 ghost use Rattle.hb_disk.specs.Calls.{Leaves};
 ghost use Rattle.hb_disk.specs.Runs.{Rewrites};
 ghost use Rattle.hb_frag.specs.declared.pages.Page.{Page as Content};
@@ -21,7 +21,8 @@ use hb_super::write_super;
 use hb_wal::zero_area;
 
 /// Begins a turn over a disk whose pages stand in their places: syncs, so that they stand there whatever a crash leaves, zeroes
-/// the log area, and writes the superblock. At most nine device calls.
+/// the log area, and writes the superblock. Nine device calls, and at most nine where it
+/// fails.
 pub fn begin_turn<D: Device>(disk: &mut D, turn: u8, meta: &Meta) -> Result<(), DiskFault>
     requires legal { IsLegal turn meta.now }
     requires room { file_size meta.now ≤ (D.model disk.old).size }
@@ -34,6 +35,7 @@ pub fn begin_turn<D: Device>(disk: &mut D, turn: u8, meta: &Meta) -> Result<(), 
     // only the log area and the superblock's place change
     ensures wrote { (before : ℕ) → turn ≡ next_turn before →
         Rewrites (TornSwitch before meta.now) 9 result (D.model disk.old) (D.model disk.new) }
+    ensures clock { IsSome (D.model disk.old).told → OnOk result ((D.model disk.new).clock ≡ (D.model disk.old).clock + 9) }
 {
     disk.sync()?;
     zero_area(disk, log_start(turn, meta), meta.log)?;

@@ -8,7 +8,7 @@ use Rattle.hb_super.specs.Superblocks.{IsNewest, next_turn}
 use Rattle.hb_store.specs.Keeps.{IsFresh}
 use Rattle.hb_store.specs.Turning.{MayTurn, OpensByEither}
 use Rattle.hb_store.proofs.Turned.{sync_moments, super_fresh, super_moments, zeroed_moments, zeroed_ready}
-use Rattle.hb_store.proofs.Turns.{area_zeroed, on_ok_both, on_ok_each, on_ok_if, still_either, switch_failed, switch_wrote, turn_before}
+use Rattle.hb_store.proofs.Turns.{area_zeroed, nine_ticks, on_ok_both, on_ok_each, on_ok_if, still_either, switch_failed, switch_wrote, turn_before}
 use Rattle.hb_store.proofs.switching.begin_turn.Goals as goal
 
 pub returns-in_err-sync-clause-moments : goal.returns-in_err-sync-clause-moments
@@ -102,3 +102,12 @@ returns-clause-wrote g c = λ before is.
     switch_wrote before c.args.turn c.args.meta.now is c.log_start.result c.log_start.ensures c.zero_area.result c.write_super.result d two new c.in_ok-zero_area.field-0 c.in_ok-zero_area.was
     (area_zeroed before c.args.turn c.args.meta.now is c.log_start.result c.log_start.ensures c.sync.result c.zero_area.result d one two c.in_ok-sync.field-0 c.in_ok-sync.was (g.met.D.Device.is_disk c.args.disk.now) c.sync.ensures c.zero_area.ensures.wrote.run)
     c.write_super.ensures.wrote.run
+
+pub returns-clause-clock : goal.returns-clause-clock
+returns-clause-clock g c =
+    let d = g.D.Device.model c.args.disk.now in
+    let one = g.D.Device.model c.sync.new.self in
+    let two = g.D.Device.model c.zero_area.new.disk in
+    let new = g.D.Device.model c.write_super.new.disk in
+    nine_ticks c.sync.result c.zero_area.result c.write_super.result c.in_ok-sync.field-0 c.in_ok-zero_area.field-0 d one two new c.in_ok-sync.was c.in_ok-zero_area.was (g.met.D.Device.is_disk c.args.disk.now) c.sync.ensures
+    c.log_start.result c.args.meta.now.log c.zero_area.ensures.wrote.run c.zero_area.ensures.clock c.write_super.ensures.clock
