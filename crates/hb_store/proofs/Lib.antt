@@ -33,4 +33,5 @@ pub mod WrittenHome
 pub mod Turned
 mod Turns
 mod Switched
+mod SwitchKept
 pub mod Flushes
