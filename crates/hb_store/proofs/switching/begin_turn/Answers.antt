@@ -42,8 +42,8 @@ returns-clause-moments g c = λ before said touched s is may.
     let next = c.args.turn in
     let small = turn_before d is_d before said meta touched s may in
     let zeroed = zeroed_ready before next said meta small is touched s c.sync.result c.zero_area.result d one two is_d is_one is_two
-        may c.sync.ensures c.sync.ensures.ticks c.log_start.result c.log_start.ensures c.zero_area.ensures.moments c.zero_area.ensures.wrote.run.became
-        (omega (arith, c.requires.room, c.sync.ensures.ticks.size, c.zero_area.ensures.wrote.run.became.size)) c.in_ok-zero_area.ensures.wrote.lasts c.in_ok-zero_area.ensures.wrote.written in
+    may c.sync.ensures c.sync.ensures.ticks c.log_start.result c.log_start.ensures c.zero_area.ensures.moments c.zero_area.ensures.wrote.run.became
+    (omega (arith, c.requires.room, c.sync.ensures.ticks.size, c.zero_area.ensures.wrote.run.became.size)) c.in_ok-zero_area.ensures.wrote.lasts c.in_ok-zero_area.ensures.wrote.written in
     Leaves-then d two new (OpensByEither before said meta touched s)
     (still_either d two before said meta touched s
     (zeroed_moments before next said meta small is touched s c.sync.result c.zero_area.result d one two is_d is_one is_two
@@ -69,8 +69,8 @@ returns-clause-fresh g c =
     (λ durable newest before said touched s is may.
     let small = turn_before d is_d before said meta touched s may in
     let zeroed = zeroed_ready before next said meta small is touched s c.sync.result c.zero_area.result d one two is_d is_one is_two
-        may c.sync.ensures c.sync.ensures.ticks c.log_start.result c.log_start.ensures c.zero_area.ensures.moments c.zero_area.ensures.wrote.run.became
-        (omega (arith, c.requires.room, c.sync.ensures.ticks.size, c.zero_area.ensures.wrote.run.became.size)) c.in_ok-zero_area.ensures.wrote.lasts c.in_ok-zero_area.ensures.wrote.written in
+    may c.sync.ensures c.sync.ensures.ticks c.log_start.result c.log_start.ensures c.zero_area.ensures.moments c.zero_area.ensures.wrote.run.became
+    (omega (arith, c.requires.room, c.sync.ensures.ticks.size, c.zero_area.ensures.wrote.run.became.size)) c.in_ok-zero_area.ensures.wrote.lasts c.in_ok-zero_area.ensures.wrote.written in
     super_fresh before next said meta small is touched s two new is_two zeroed
     (omega (arith, c.requires.room, c.sync.ensures.ticks.size, c.zero_area.ensures.wrote.run.became.size))
     (g.met.D.Device.is_disk c.write_super.new.disk) c.write_super.ensures.wrote.run.became durable (newest before said is))
