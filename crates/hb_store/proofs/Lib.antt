@@ -34,4 +34,5 @@ pub mod Turned
 mod Turns
 mod Switched
 mod SwitchKept
+mod SwitchStopped
 pub mod Flushes

@@ -67,7 +67,7 @@ areas turn next meta small is =
     subst N (sym is) (areas_of turn (next_turn turn) meta (parities turn small))
 
 -- the body of a turn stands apart from the place of the next one
-old_apart : (turn next : ℕ) → turn ≤ 3 → next ≡ next_turn turn → Apart (slot_offset turn + 1) 40 (slot_offset next) 41
+pub old_apart : (turn next : ℕ) → turn ≤ 3 → next ≡ next_turn turn → Apart (slot_offset turn + 1) 40 (slot_offset next) 41
 old_apart turn next small is = elim (parities turn small) [
   | inl even ↦ inl (omega (arith, is, even.0, even.1))
   | inr odd ↦ inr (omega (arith, is, odd.0, odd.1))
