@@ -24,6 +24,12 @@ first_only b A B C going (inl a) = a
 first_only b A B C going (inr (inl (stopped, h))) = cc (going, stopped)
 first_only b A B C going (inr (inr (stopped, h))) = cc (going, stopped)
 
+-- each image opens by the written groups
+pub by_turn : (d : DiskModel) (st : StoreState) → IsMemory st → st.stopped ≡ false → (durable : FileState) → (keeps : StoreKeeps d st durable []) → (c : List ℕ) → d.Image c
+    → OpensBy c st.turn keeps.parts.said keeps.parts.payloads keeps.parts.written durable
+by_turn d st is going durable keeps c image =
+    first_only st.stopped (OpensBy c st.turn keeps.parts.said keeps.parts.payloads keeps.parts.written durable) _ _ going (keeps.disk.images c image)
+
 module _ (d : DiskModel) (st : StoreState) (is : IsMemory st) (going : st.stopped ≡ false) (clean : (id : ℕ) → is_dirty st id ≡ false) (durable : FileState) (keeps : StoreKeeps d st durable []) where
   -- where no page is dirty the next turn may begin
   pub may_turn : MayTurn d st.turn keeps.parts.said st.meta (written_pages keeps.parts).page durable

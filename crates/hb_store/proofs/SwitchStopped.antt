@@ -8,7 +8,20 @@ use Rattle.hb_disk.proofs.Facts.TornLaws.{Torn-elsewhere}
 use Rattle.hb_layout.specs.Offsets.{log_start, slot_offset}
 use Rattle.hb_layout.specs.declared.meta.Meta.{Meta}
 use Rattle.hb_super.specs.Superblocks.{next_turn}
+use Rattle.hb_disk.proofs.Facts.RewriteLaws.{Becomes-tells}
+use Rattle.hb_frag.specs.declared.pages.Page.{Page}
+use Rattle.hb_frag.specs.Grammar.{SpellsPage}
+use Rattle.hb_ops.specs.Files.{FileState, page_of}
+use Rattle.hb_store.specs.Forced.{stopped_state}
+use Rattle.hb_store.specs.Keeps.{StoreKeeps}
+use Rattle.hb_store.specs.Opening.{IsPageIn, OpensBy, Shows, log_bytes, place_bytes}
+use Rattle.hb_store.specs.Parts.{Parts, written_pages}
+use Rattle.hb_store.specs.States.{IsMemory, StoreState}
 use Rattle.hb_store.specs.Switching.{TornSwitch}
+use Rattle.hb_store.specs.Turning.{OpensByEither}
+use Rattle.hb_store.proofs.Facts.ReplayLaws.{opens_elsewhere}
+use Rattle.hb_store.proofs.SwitchKept.{by_turn}
+use Rattle.hb_store.proofs.Turned.{Areas, areas}
 
 -- a part that neither the area nor the place meets reads as it did
 pub switch_elsewhere : (turn : ℕ) (meta : Meta) (b c : List ℕ) → TornSwitch turn meta b c → (from m : ℕ) → Apart from m (log_start (next_turn turn) meta) meta.log → Apart from m (slot_offset (next_turn turn)) 41
@@ -29,3 +42,35 @@ switch_synced turn meta d e run b told from m area place synced = record {
       ∙ sym (switch_elsewhere turn meta b after.0 after.2 from m area place)
       ∙ ap (λ (l : List ℕ). take m (drop from l)) (same_Some after.0 x (sym after.1 ∙ is));
 }
+
+module _ (d e : DiskModel) (st : StoreState) (is : IsMemory st) (going : st.stopped ≡ false) (durable : FileState) (keeps : StoreKeeps d st durable []) (run : Becomes (TornSwitch st.turn st.meta) d e) where
+  abbrev p : Parts
+  p = keeps.parts
+
+  lies : Areas st.turn (next_turn st.turn) st.meta
+  lies = areas st.turn (next_turn st.turn) st.meta is.stands.turn_fits refl
+
+  place_kept : (b c : List ℕ) → TornSwitch st.turn st.meta b c → (id : ℕ) → place_bytes p.said id c ≡ place_bytes p.said id b
+  place_kept b c torn id =
+      let h = lies.next_high in
+      let l = lies.place in
+      let log = keeps.memory.layout.log in
+      switch_elsewhere st.turn st.meta b c torn (8192 + 2 * p.said.log + 4096 * (id - 1)) 4096 (inr (omega (arith, h, log))) (inr (omega (arith, l)))
+
+  log_kept : (b c : List ℕ) → TornSwitch st.turn st.meta b c → log_bytes st.turn p.said c ≡ log_bytes st.turn p.said b
+  log_kept b c torn =
+      let l = lies.place in
+      let w = lies.low in
+      let L : ℕ → Type 0 = λ n. take n (drop (8192 + (st.turn % 2) * n) c) ≡ take n (drop (8192 + (st.turn % 2) * n) b) in
+      subst L keeps.memory.layout.log (switch_elsewhere st.turn st.meta b c torn (log_start st.turn st.meta) st.meta.log lies.apart (inr (omega (arith, l, w))))
+
+  -- each image opens as it did, or by the next turn's superblock
+  pub images_then : ((c : List ℕ) → e.Image c → OpensByEither st.turn p.said st.meta (written_pages p).page durable c) → (c : List ℕ) → e.Image c
+      → OpensBy c st.turn p.said p.payloads p.written durable ⊎ OpensBy c (next_turn st.turn) durable.meta [] [] durable
+  images_then left c image =
+      let was = run.crash c image in
+      elim (left c image) [
+        | inl still ↦ inl (opens_elsewhere was.0 c st.turn p.said p.payloads p.written durable (by_turn d st is going durable keeps was.0 was.1) still.by.newest (was.2.place.as_long ∙ was.2.area.as_long)
+            (log_kept was.0 c was.2) (λ id page has none. place_kept was.0 c was.2 id))
+        | inr next ↦ let M : Meta → Type 0 = λ m. OpensBy c (next_turn st.turn) m [] [] durable in inr (subst M (sym keeps.memory.meta_is) next)
+      ]
