@@ -21,7 +21,8 @@ use Rattle.hb_store.specs.Switching.{TornSwitch}
 use Rattle.hb_store.specs.Turning.{OpensByEither}
 use Rattle.hb_store.proofs.Facts.ReplayLaws.{opens_elsewhere}
 use Rattle.hb_store.proofs.SwitchKept.{by_turn}
-use Rattle.hb_store.proofs.Turned.{Areas, areas}
+use Rattle.hb_space.specs.declared.form.TheConstants.{PAGE}
+use Rattle.hb_store.proofs.Turned.{Areas, areas, parities}
 
 -- a part that neither the area nor the place meets reads as it did
 pub switch_elsewhere : (turn : ℕ) (meta : Meta) (b c : List ℕ) → TornSwitch turn meta b c → (from m : ℕ) → Apart from m (log_start (next_turn turn) meta) meta.log → Apart from m (slot_offset (next_turn turn)) 41
@@ -74,3 +75,61 @@ module _ (d e : DiskModel) (st : StoreState) (is : IsMemory st) (going : st.stop
             (log_kept was.0 c was.2) (λ id page has none. place_kept was.0 c was.2 id))
         | inr next ↦ let M : Meta → Type 0 = λ m. OpensBy c (next_turn st.turn) m [] [] durable in inr (subst M (sym keeps.memory.meta_is) next)
       ]
+
+  same_place : (b c : List ℕ) → TornSwitch st.turn st.meta b c → (id : ℕ) (page : Page) (o : Option Page) → IsPageIn b p.said id o page → IsPageIn c p.said id o page
+  same_place b c torn id page None there = let S : List ℕ → Type 0 = λ l. SpellsPage l page in subst S (sym (place_kept b c torn id)) there
+  same_place b c torn id page (Some touched) there = there
+
+  shows_then : (c : List ℕ) → e.Image c → Shows c p.said (written_pages p) durable
+  shows_then c image =
+      let was = run.crash c image in
+      let shown = keeps.disk.shows was.0 was.1 in
+      record { meta = shown.meta; count = shown.count; each = λ id page has. same_place was.0 c was.2 id page ((written_pages p).page id) (shown.each id page has) }
+
+  slot_apart : Apart (slot_offset st.turn) PAGE (slot_offset (next_turn st.turn)) 41
+  slot_apart = elim (parities st.turn is.stands.turn_fits) [
+    | inl even ↦ inl (omega (arith, even.0, even.1))
+    | inr odd ↦ inr (omega (arith, odd.0, odd.1))
+  ]
+
+  -- the store is stopped, and keeps its file
+  pub keeps_not_switched : ((c : List ℕ) → e.Image c → OpensByEither st.turn p.said st.meta (written_pages p).page durable c) → st.log.written ≤ st.log.len → StoreKeeps e (stopped_state st) durable []
+  keeps_not_switched left fits =
+      let b = some_value d.told keeps.disk.told in
+      let after = at_value d.told (λ b. (c : List ℕ) × (e.told ≡ Some c) × TornSwitch st.turn st.meta b c) b.0 b.1 run.told in
+      let w = lies.low in
+      let l = lies.place in
+      let n = lies.next_low in
+      record {
+        parts = p;
+        disk = record {
+          told = Becomes-tells (TornSwitch st.turn st.meta) d e run keeps.disk.told;
+          count = keeps.disk.count;
+          images = λ c image. elim (images_then left c image) [ | inl still ↦ inl still | inr next ↦ inr (inr (refl, next)) ];
+          shows = shows_then;
+          running = λ runs. absurd (let never : true ≡ false = runs in cc);
+          kept = (
+            switch_synced st.turn st.meta d e run b.0 b.1 (slot_offset st.turn) PAGE (inl (omega (arith, n))) slot_apart keeps.disk.kept.0,
+            switch_synced st.turn st.meta d e run b.0 b.1 st.log.area st.log.written
+                (elim lies.apart [ | inl one ↦ inl (let a = is.area in let k = is.len in omega (arith, one, a, k, fits)) | inr two ↦ inr (let a = is.area in omega (arith, two, a)) ])
+                (inr (let a = is.area in omega (arith, l, w, a))) keeps.disk.kept.1,
+          );
+        };
+        waits = keeps.waits;
+        in_log = record {
+          touched = keeps.in_log.touched;
+          synced = λ id page out has c image.
+              let was = run.crash c image in
+              let S : List ℕ → Type 0 = λ l. SpellsPage l page in
+              subst S (sym (place_kept was.0 c was.2 id)) (keeps.in_log.synced id page out has was.0 was.1);
+        };
+        memory = record {
+          layout = keeps.memory.layout;
+          meta_is = keeps.memory.meta_is;
+          cached = keeps.memory.cached;
+          placed = λ id page c off has told.
+              let S : List ℕ → Type 0 = λ l. SpellsPage l page in
+              let Q : List ℕ → Type 0 = λ l. SpellsPage (place_bytes p.said id l) page in
+              subst Q (same_Some after.0 c (sym after.1 ∙ told)) (subst S (sym (place_kept b.0 after.0 after.2 id)) (keeps.memory.placed id page b.0 off has b.1));
+        };
+      }

@@ -54,7 +54,7 @@ areas_of turn next meta (inr (one, two)) =
     let place : slot_offset next ≡ 0 = ap (λ (n : ℕ). 4096 * n) two in
     record { low = omega (arith, here); high = omega (arith, here); next_low = omega (arith, there); next_high = omega (arith, there); apart = inr (omega (arith, here, there)); place = omega (arith, place) }
 
-parities : (turn : ℕ) → turn ≤ 3 → ((turn % 2 ≡ 0) × (next_turn turn % 2 ≡ 1)) ⊎ ((turn % 2 ≡ 1) × (next_turn turn % 2 ≡ 0))
+pub parities : (turn : ℕ) → turn ≤ 3 → ((turn % 2 ≡ 0) × (next_turn turn % 2 ≡ 1)) ⊎ ((turn % 2 ≡ 1) × (next_turn turn % 2 ≡ 0))
 parities zero le = inl (refl, refl)
 parities (suc zero) le = inr (refl, refl)
 parities (suc (suc zero)) le = inl (refl, refl)
@@ -67,7 +67,7 @@ areas turn next meta small is =
     subst N (sym is) (areas_of turn (next_turn turn) meta (parities turn small))
 
 -- the body of a turn stands apart from the place of the next one
-pub old_apart : (turn next : ℕ) → turn ≤ 3 → next ≡ next_turn turn → Apart (slot_offset turn + 1) 40 (slot_offset next) 41
+old_apart : (turn next : ℕ) → turn ≤ 3 → next ≡ next_turn turn → Apart (slot_offset turn + 1) 40 (slot_offset next) 41
 old_apart turn next small is = elim (parities turn small) [
   | inl even ↦ inl (omega (arith, is, even.0, even.1))
   | inr odd ↦ inr (omega (arith, is, odd.0, odd.1))
