@@ -105,13 +105,13 @@ module _ (d e : DiskModel) (st : StoreState) (is : IsMemory st) (going : st.stop
         disk = record {
           told = Becomes-tells (TornSwitch st.turn st.meta) d e run keeps.disk.told;
           count = keeps.disk.count;
-          images = λ c image. elim (images_then left c image) [ | inl still ↦ inl still | inr next ↦ inr (inr (refl, next)) ];
+          images = λ c image. elim (images_then left c image) [ inl still ↦ inl still | inr next ↦ inr (inr (refl, next)) ];
           shows = shows_then;
           running = λ runs. absurd (let never : true ≡ false = runs in cc);
           kept = (
             switch_synced st.turn st.meta d e run b.0 b.1 (slot_offset st.turn) PAGE (inl (omega (arith, n))) slot_apart keeps.disk.kept.0,
             switch_synced st.turn st.meta d e run b.0 b.1 st.log.area st.log.written
-                (elim lies.apart [ | inl one ↦ inl (let a = is.area in let k = is.len in omega (arith, one, a, k, fits)) | inr two ↦ inr (let a = is.area in omega (arith, two, a)) ])
+                (elim lies.apart [ inl one ↦ inl (let a = is.area in let k = is.len in omega (arith, one, a, k, fits)) | inr two ↦ inr (let a = is.area in omega (arith, two, a)) ])
                 (inr (let a = is.area in omega (arith, l, w, a))) keeps.disk.kept.1,
           );
         };
