@@ -30,4 +30,9 @@ pub mod Replays
 pub mod Touches
 pub mod HomeWrites
 pub mod WrittenHome
+pub mod Turned
+mod Turns
+mod Switched
+mod SwitchKept
+mod SwitchStopped
 pub mod Flushes

@@ -10,6 +10,7 @@ pub mod Calls
 pub mod Filling
 pub mod Forced
 pub mod Switching
+pub mod Turning
 pub mod WritingHome
 pub mod Making
 pub mod Fetching

@@ -7,11 +7,9 @@ ghost use Rattle.hb_store.specs.Seen.{held_by, seen_as, uses_of};
 
 use crate::stops::{Flushed, WriteFault};
 use crate::store::Store;
-use hb_disk::{Device, DiskFault};
-use hb_layout::{log_start, page_offset};
-use hb_ops::Meta;
-use hb_super::write_super;
-use hb_wal::zero_area;
+use crate::switching::begin_turn;
+use hb_disk::Device;
+use hb_layout::page_offset;
 
 impl<D: Device> Store<D> {
     /// Writes the groups that wait to the log as one frame. Four device calls, at most four where it fails, and none where no
@@ -104,15 +102,4 @@ impl<D: Device> Store<D> {
     {
         self.settled(0) != self.settled(1)
     }
-}
-
-/// Begins a turn over a disk whose pages stand in their places. Nine device calls.
-///
-/// Not stated yet: over `IsPlaced` of hb_restart's `specs/Renewing.antt` (which wants to stand here, with `StillOpens`, `IsHere`
-/// and `IsReadyFor`) every image of a moment opens to the same file, and after Ok the disk is `IsFresh` of this turn. hb_restart's
-/// `switch` is then `clear_hidden` and this call.
-fn begin_turn<D: Device>(disk: &mut D, turn: u8, meta: &Meta) -> Result<(), DiskFault> {
-    disk.sync()?;
-    zero_area(disk, log_start(turn, meta), meta.log)?;
-    write_super(disk, turn, meta)
 }
