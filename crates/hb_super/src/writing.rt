@@ -26,6 +26,7 @@ pub fn write_super<D: Device>(disk: &mut D, turn: u8, meta: &Meta) -> Result<(),
     requires legal { IsLegal turn meta.now }
     ensures wrote { WritesThrough (λ b. overwritten b (slot_offset turn) (open_gate ∷ body_bytes turn meta.now))
         (Torn (slot_offset turn) 41) 6 result (D.model disk.old) (D.model disk.new) }
+    ensures clock { IsSome (D.model disk.old).told → OnOk result ((D.model disk.new).clock ≡ (D.model disk.old).clock + 6) }
     ensures newest { (old : ℕ) (said : Said) → turn ≡ next_turn old → OnOk result (IfSome (D.model disk.old).told (λ b.
         IsNewest b old said → IfSome (D.model disk.new).told (λ c. IsNewest c turn meta.now))) }
     ensures moments { (old : ℕ) (said : Said) → turn ≡ next_turn old → IsSynced (D.model disk.old) 0 (2 * PAGE) →

@@ -13,9 +13,9 @@ use Rattle.hb_disk.proofs.Facts.RunLaws.{Leaves-start, Leaves-weaker}
 use Rattle.hb_lemmas.proofs.Options.{at_value, of_value, if_value}
 use Rattle.hb_disk.proofs.Facts.RewriteLaws.{Rewrites-weaker}
 use Rattle.hb_wal.specs.Frames.{frames, frame_bytes, frame_body, IsPayload, IsEnd, HasFrames, range}
-use Rattle.hb_wal.specs.Log.{Waiting, LogState, IsLog, joined, forced, after_force}
+use Rattle.hb_wal.specs.Log.{Waiting, LogState, IsLog, waiting_bytes, forced, after_force}
 use Rattle.hb_wal.specs.Forces.{HasLog, ForceLeaves}
-use Rattle.hb_wal.proofs.Waiting.{count-pending, count-some, forced-some, length-joined}
+use Rattle.hb_wal.proofs.Waiting.{count-pending, count-some, forced-some, length-waiting_bytes}
 use Rattle.hb_wal.proofs.Kept.{frame_fits, length-frame}
 use Rattle.hb_wal.proofs.Facts.AreaBytes.{get_or-range, length-range, range-overwritten, overwritten-zeros, frames-push, end_zeros}
 
@@ -26,18 +26,18 @@ some_wait groups has none = false≢true (sym (has none))
 -- The groups that wait are one payload.
 module _ (log : LogState) (is_log : IsLog log) (waits : log.groups ≢ []) where
   abbrev payload : List ℕ
-  payload = joined log.groups
+  payload = waiting_bytes log.groups
 
   pub payload_room : log.written + (5 + length payload) ≤ log.len
-  payload_room = omega (arith, frame_fits log waits is_log, length-joined log.groups)
+  payload_room = omega (arith, frame_fits log waits is_log, length-waiting_bytes log.groups)
 
   pub body_long : 1 + length (frame_body payload) ≡ 5 + length payload
   body_long = omega (arith, length-frame payload, length-append (frame_bytes payload) [])
 
   pub payload_fits : IsPayload payload
   payload_fits = record {
-    some = omega (arith, length-joined log.groups, count-some log.groups waits, count-pending log.groups is_log.groups);
-    short = omega (arith, length-joined log.groups, is_log.reserved);
+    some = omega (arith, length-waiting_bytes log.groups, count-some log.groups waits, count-pending log.groups is_log.groups);
+    short = omega (arith, length-waiting_bytes log.groups, is_log.reserved);
   }
 
   pub forced_is : forced log.groups ≡ payload ∷ []
@@ -154,9 +154,9 @@ module _ (log : LogState) (none : log.groups ≡ []) (d : DiskModel) (is_disk : 
   nothing_left = Leaves-start d (ForceLeaves d log payloads) is_disk nothing_framed
 
 -- What the calls behind the gate of the next frame say of the log.
-module _ (log : LogState) (is_log : IsLog log) (body : List ℕ) (waits : log.groups ≢ []) (begins : body ≡ frame_body (joined log.groups)) (at : ℕ) (at_is : at ≡ log.area + log.written) (d : DiskModel) (is_disk : IsDisk d) (inside : log.area + log.len ≤ d.size) where
+module _ (log : LogState) (is_log : IsLog log) (body : List ℕ) (waits : log.groups ≢ []) (begins : body ≡ frame_body (waiting_bytes log.groups)) (at : ℕ) (at_is : at ≡ log.area + log.written) (d : DiskModel) (is_disk : IsDisk d) (inside : log.area + log.len ≤ d.size) where
   abbrev whole : List ℕ
-  whole = joined log.groups
+  whole = waiting_bytes log.groups
 
   body_count : 1 + length body ≡ 5 + length whole
   body_count = omega (arith, ap (λ (l : List ℕ). length l) begins, body_long log is_log waits)

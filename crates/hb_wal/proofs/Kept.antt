@@ -12,9 +12,9 @@ use Rattle.hb_space.specs.declared.form.TheConstants.{PENDING}
 use Rattle.hb_wal.specs.Frames.{frames, frame_bytes, frame_body}
 use Rattle.hb_wal.specs.declared.groups.Group.{Group}
 use Rattle.hb_wal.specs.declared.log.Wal.TheInside.{Inside}
-use Rattle.hb_wal.specs.Log.{Waiting, LogState, IsLog, joined, forced, after_force, pending_bytes, framed_bytes, room_of}
+use Rattle.hb_wal.specs.Log.{Waiting, LogState, IsLog, waiting_bytes, forced, after_force, pending_bytes, framed_bytes, room_of}
 use Rattle.hb_wal.specs.Kept.{waiting_of, total_of, log_seen, Keeps}
-use Rattle.hb_wal.proofs.Waiting.{length-waiting_of, pending-waiting_of, framed-pending, count-pending, total-push, pending-push, framed-push, waiting-push, length-joined, joined-waiting_of, count-some, forced-some}
+use Rattle.hb_wal.proofs.Waiting.{length-waiting_of, pending-waiting_of, framed-pending, count-pending, total-push, pending-push, framed-push, waiting-push, length-waiting_bytes, waiting_bytes-waiting_of, count-some, forced-some}
 
 module _ (w : Inside) (keeps : Keeps w) where
   rest : length (drop 4 w.bytes.items) ≡ total_of w.groups.items
@@ -72,10 +72,10 @@ pub some_groups : (n : ℕ) (groups : List Group) → n ≡ length groups → eq
 some_groups n groups count e none = eqb-false n 0 e (count ∙ ap (λ (l : List Group). length l) none)
 
 -- the bytes are the body of the frame of all groups that wait
-pub body_is : (w : Inside) → Keeps w → w.groups.items ≢ [] → w.bytes.items ≡ frame_body (joined (log_seen w).groups)
+pub body_is : (w : Inside) → Keeps w → w.groups.items ≢ [] → w.bytes.items ≡ frame_body (waiting_bytes (log_seen w).groups)
 body_is w keeps waits =
-    let whole : joined (log_seen w).groups ≡ drop 4 w.bytes.items = joined-waiting_of (drop 4 w.bytes.items) w.groups.items (rest w keeps) in
-    let front : take 4 w.bytes.items ≡ big_endian 4 (length (joined (log_seen w).groups)) = keeps.front waits ∙ ap (big_endian 4) (sym (ap (λ (l : List ℕ). length l) whole ∙ rest w keeps)) in
+    let whole : waiting_bytes (log_seen w).groups ≡ drop 4 w.bytes.items = waiting_bytes-waiting_of (drop 4 w.bytes.items) w.groups.items (rest w keeps) in
+    let front : take 4 w.bytes.items ≡ big_endian 4 (length (waiting_bytes (log_seen w).groups)) = keeps.front waits ∙ ap (big_endian 4) (sym (ap (λ (l : List ℕ). length l) whole ∙ rest w keeps)) in
     sym (take-append-drop 4 w.bytes.items) ∙ (λ i. front i ++ sym whole i)
 
 -- a frame has five bytes more than its payload
@@ -88,7 +88,7 @@ frame_fits log waits is = omega (arith, is.fits, framed-pending log.groups, coun
 
 -- a log whose groups were written as one frame is one
 pub length-forced : (groups : List Waiting) → groups ≢ [] → length (frames (forced groups)) ≡ 5 + pending_bytes groups
-length-forced groups waits = ap (λ (l : List (List ℕ)). length (frames l)) (forced-some groups waits) ∙ omega (arith, length-frame (joined groups), length-joined groups)
+length-forced groups waits = ap (λ (l : List (List ℕ)). length (frames l)) (forced-some groups waits) ∙ omega (arith, length-frame (waiting_bytes groups), length-waiting_bytes groups)
 
 pub log-forced : (log : LogState) → log.groups ≢ [] → IsLog log → IsLog (after_force log)
 log-forced log waits is = record {

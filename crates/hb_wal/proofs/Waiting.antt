@@ -4,7 +4,7 @@ use Rattle.std.specs.List.{All}
 use Rattle.std.proofs.lemmas.List.{take_all, take-append-drop, take-append-le, drop-append-le, nil_from_length}
 use Rattle.std.proofs.lemmas.List.Elements.{All-head, All-tail}
 use Rattle.hb_wal.specs.declared.groups.Group.{Group}
-use Rattle.hb_wal.specs.Log.{Waiting, pending_bytes, framed_bytes, joined, forced}
+use Rattle.hb_wal.specs.Log.{Waiting, pending_bytes, framed_bytes, waiting_bytes, forced}
 use Rattle.hb_wal.specs.Kept.{waiting_of, total_of}
 
 pub length-waiting_of : (bytes : List ℕ) (groups : List Group) → length (waiting_of bytes groups) ≡ length groups
@@ -53,19 +53,19 @@ waiting-push bytes more (h ∷ rest) g long fits =
 
 -- ---- all of them
 
-pub length-joined : (groups : List Waiting) → length (joined groups) ≡ pending_bytes groups
-length-joined [] = refl
-length-joined (g ∷ rest) = omega (arith, length-append g.bytes (joined rest), length-joined rest)
+pub length-waiting_bytes : (groups : List Waiting) → length (waiting_bytes groups) ≡ pending_bytes groups
+length-waiting_bytes [] = refl
+length-waiting_bytes (g ∷ rest) = omega (arith, length-append g.bytes (waiting_bytes rest), length-waiting_bytes rest)
 
-pub joined-waiting_of : (bytes : List ℕ) (groups : List Group) → length bytes ≡ total_of groups → joined (waiting_of bytes groups) ≡ bytes
-joined-waiting_of bytes [] long = sym (nil_from_length bytes long)
-joined-waiting_of bytes (g ∷ rest) long =
-    ap (λ (l : List ℕ). take g.len bytes ++ l) (joined-waiting_of (drop g.len bytes) rest (omega (arith, length-drop g.len bytes, long))) ∙ take-append-drop g.len bytes
+pub waiting_bytes-waiting_of : (bytes : List ℕ) (groups : List Group) → length bytes ≡ total_of groups → waiting_bytes (waiting_of bytes groups) ≡ bytes
+waiting_bytes-waiting_of bytes [] long = sym (nil_from_length bytes long)
+waiting_bytes-waiting_of bytes (g ∷ rest) long =
+    ap (λ (l : List ℕ). take g.len bytes ++ l) (waiting_bytes-waiting_of (drop g.len bytes) rest (omega (arith, length-drop g.len bytes, long))) ∙ take-append-drop g.len bytes
 
 pub count-some : (groups : List Waiting) → groups ≢ [] → 0 < length groups
 count-some [] waits = absurd (waits refl)
 count-some (g ∷ rest) waits = omega arith
 
-pub forced-some : (groups : List Waiting) → groups ≢ [] → forced groups ≡ joined groups ∷ []
+pub forced-some : (groups : List Waiting) → groups ≢ [] → forced groups ≡ waiting_bytes groups ∷ []
 forced-some [] waits = absurd (waits refl)
 forced-some (g ∷ rest) waits = refl

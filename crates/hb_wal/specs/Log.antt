@@ -44,13 +44,13 @@ mark_of [] now = now
 mark_of (first ∷ rest) now = first.mark
 
 -- The bytes of groups, one after the other.
-abbrev pub joined : List Waiting → List ℕ
-joined groups = flat_map (λ (g : Waiting). g.bytes) groups
+abbrev pub waiting_bytes : List Waiting → List ℕ
+waiting_bytes groups = flat_map (λ (g : Waiting). g.bytes) groups
 
 -- The payloads that a force writes, a frame each: the groups that wait are one frame.
 abbrev pub forced : List Waiting → List (List ℕ)
 forced [] = []
-forced (first ∷ rest) = joined (first ∷ rest) ∷ []
+forced (first ∷ rest) = waiting_bytes (first ∷ rest) ∷ []
 
 -- The log after a force: no group waits.
 abbrev pub after_force : LogState → LogState

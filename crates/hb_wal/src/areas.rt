@@ -11,6 +11,7 @@ pub fn zero_area<D: Device>(disk: &mut D, area: u64, len: u32) -> Result<(), Dis
     requires inside { area + len ≤ (D.model disk.old).size }
     ensures wrote { WritesThrough (λ b. overwritten b area (replicate len 0)) (Torn area len) 2
         result (D.model disk.old) (D.model disk.new) }
+    ensures clock { IsSome (D.model disk.old).told → OnOk result ((D.model disk.new).clock ≡ (D.model disk.old).clock + 2) }
     ensures log { OnOk result (HasLog (D.model disk.new)
         (record { area = area; len = len; written = 0; groups = [] }) []) }
     ensures moments { IsSome (D.model disk.old).told → Leaves (D.model disk.old) (D.model disk.new)

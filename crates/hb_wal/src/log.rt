@@ -1,7 +1,7 @@
 ghost use Rattle.std.specs.Prelude.{◌≡◌, ◌≢◌, ◌↔◌, ◌<◌, ◌≤◌, ◌+◌, ◌^◌, [], ◌∷◌, ◌++◌, length, All, IfOk, IsNone, IfSome};
 ghost use Rattle.hb_wal.specs.Frames.{frame_body};
 ghost use Rattle.hb_space.specs.declared.form.TheConstants.{PENDING};
-ghost use Rattle.hb_wal.specs.Log.{LogState, IsLog, joined, after_force, room_of, pending_bytes, mark_of};
+ghost use Rattle.hb_wal.specs.Log.{LogState, IsLog, waiting_bytes, after_force, room_of, pending_bytes, mark_of};
 
 use crate::groups::Group;
 use hb_outside::give_u32;
@@ -126,7 +126,7 @@ impl Wal {
     /// The body of the frame that the groups that wait will be: the length of their bytes, and these.
     pub(crate) fn body(&self) -> Option<&[u8]>
         ensures none { IsNone result ↔ (self.now.groups ≡ []) }
-        ensures some { IfSome result (λ body. body.now ≡ frame_body (joined self.now.groups)) }
+        ensures some { IfSome result (λ body. body.now ≡ frame_body (waiting_bytes self.now.groups)) }
     {
         if self.groups.is_empty() {
             None

@@ -1,7 +1,7 @@
 use Rattle.std.proofs.Common.{◌≡◌, sym, ap, ◌∙◌, []}
 use Rattle.std.proofs.lemmas.Bool.{false≢true}
 use Rattle.hb_wal.specs.Frames.{frame_body}
-use Rattle.hb_wal.specs.Log.{LogState, joined}
+use Rattle.hb_wal.specs.Log.{LogState, waiting_bytes}
 use Rattle.hb_wal.proofs.Kept.{body_is, none-seen, some_groups}
 use Rattle.hb_wal.proofs.log.Wal.body.Goals as goal
 
@@ -16,4 +16,4 @@ returns-else-is_empty-clause-none c = (
 )
 
 pub returns-else-is_empty-clause-some : goal.returns-else-is_empty-clause-some
-returns-else-is_empty-clause-some c = c.deref.ensures.value ∙ body_is c.self.inside c.self.invariant (waits c) ∙ ap (λ (s : LogState). frame_body (joined s.groups)) c.self.view_is
+returns-else-is_empty-clause-some c = c.deref.ensures.value ∙ body_is c.self.inside c.self.invariant (waits c) ∙ ap (λ (s : LogState). frame_body (waiting_bytes s.groups)) c.self.view_is
