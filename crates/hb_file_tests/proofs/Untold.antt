@@ -26,7 +26,7 @@ use Rattle.hb_store.specs.Fetching.{MayFetch, use_numbered}
 use Rattle.hb_store.specs.Forced.{WritesGroups, forced_state}
 use Rattle.hb_store.specs.Held.{IsTied, StoreHeld, oldest_dirty}
 use Rattle.hb_store.specs.Replay.{is_among}
-use Rattle.hb_store.specs.WritingHome.{FlushesHome, WritesHome}
+use Rattle.hb_store.specs.WritingHome.{FlushesClean, FlushesHome, WritesHome}
 use Rattle.hb_store.specs.declared.stops.WriteFault.{WriteFault}
 use Rattle.hb_file_tests.specs.Driven.{AllStay, FewPins, IsDrivenHere, IsPinned}
 use Rattle.hb_file_tests.proofs.Staying.{changed_stay, fetched_all, fetched_frame, found_all, pinned_last, pinned_on, pinned_stay, pinned_then}
@@ -172,8 +172,9 @@ done_with t = Ok t
 home_runs : {T : Type 0} (t : T) (d e : DiskModel) (old new : StoreHeld) → FlushesHome (done_with t) d e old new → old.state.stopped ≡ false → new.state.stopped ≡ false
 home_runs t d e old new home runs = by (oldest_dirty old.uses) home
   where
-    by : (o : Option ℕ) → MatchOption o (IsOk (done_with t) × ReadsOnly ⊥ d e × (new ≡ old)) (λ id. WritesHome (done_with t) id d e old new) → new.state.stopped ≡ false
-    by None done = ap (λ (h : StoreHeld). h.state.stopped) done.2 ∙ runs
+    by : (o : Option ℕ) → MatchOption o (FlushesClean (done_with t) d e old new) (λ id. WritesHome (done_with t) id d e old new) → new.state.stopped ≡ false
+    by None (inl (some, switches)) = ap (λ (h : StoreHeld). h.state.stopped) switches.switched ∙ runs
+    by None (inr (empty, ok, reads, same)) = ap (λ (h : StoreHeld). h.state.stopped) same ∙ runs
     by (Some id) writes = ap (λ (h : StoreHeld). h.state.stopped) writes.cleaned ∙ runs
 
 pub flushed_runs : {T : Type 0} (t : T) (d e : DiskModel) (old new : StoreHeld) → (old.state.log.groups ≢ [] → WritesGroups (done_with t) d e old.state new.state × (new.uses ≡ old.uses)) → (old.state.log.groups ≡ [] → FlushesHome (done_with t) d e old new)

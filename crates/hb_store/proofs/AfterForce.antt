@@ -13,7 +13,7 @@ use Rattle.hb_lemmas.proofs.Options.{at_value, has_value}
 use Rattle.std.proofs.lemmas.Option.{same_Some}
 use Rattle.hb_disk.proofs.Facts.SyncedLaws.{IsSynced-part, IsSynced-elsewhere}
 use Rattle.hb_wal.specs.Frames.{frames, frame_bytes, range, HasFrames}
-use Rattle.hb_wal.specs.Log.{Waiting, LogState, joined, forced, after_force}
+use Rattle.hb_wal.specs.Log.{Waiting, LogState, waiting_bytes, forced, after_force}
 use Rattle.hb_wal.specs.Forces.{HasLog, ForceLeaves}
 use Rattle.hb_layout.specs.Offsets.{slot_offset, log_start}
 use Rattle.hb_super.specs.Superblocks.{next_turn}
@@ -31,11 +31,11 @@ use Rattle.hb_store.specs.Keeps.{StoreKeeps, OpensToEither}
 use Rattle.hb_store.specs.Parts.{Parts, Leads, OpensNext, written_pages, last_of}
 use Rattle.hb_store.specs.Forced.{stopped_state, forced_state, with_log}
 use Rattle.hb_wal.proofs.Facts.AreaBytes.{end_zeros}
-use Rattle.hb_store.proofs.Facts.StoreLaws.{OpensHere, OpensOn, opens_either, StoreKeeps-by}
+use Rattle.hb_store.proofs.Facts.StoreLaws.{OpensAfter, OpensHere, OpensOn, opens_either, StoreKeeps-by}
 use Rattle.hb_store.proofs.AreaTorn.{places_kept, spelled_kept, shows_kept, opens_same, opens_more}
 
 -- the bytes of the groups that wait, one after the other, are those that spell them
-joined_spells : (groups : List Waiting) (waiting : List Logged) → map (λ w. w.bytes) groups ≡ map group_bytes waiting → joined groups ≡ flat_map group_bytes waiting
+joined_spells : (groups : List Waiting) (waiting : List Logged) → map (λ w. w.bytes) groups ≡ map group_bytes waiting → waiting_bytes groups ≡ flat_map group_bytes waiting
 joined_spells [] [] same = refl
 joined_spells [] (g ∷ waiting) same = cc same
 joined_spells (w ∷ groups) [] same = cc same
@@ -179,9 +179,9 @@ module _ (d : DiskModel) (is_disk : IsDisk d) (st : StoreState) (is : IsMemory s
       front_there c image = front_of_both st.log.area st.log.len st.log.written p.payloads (forced st.log.groups) c
           (written_fits d st.log p.payloads logged b told) keeps.disk.count (image_inside c image).frames_of
 
-      stopped_images : (A B : Type 0) → A ⊎ B → A ⊎ (IsTrue true × B)
-      stopped_images A B (inl a) = inl a
-      stopped_images A B (inr b) = inr (refl, b)
+      stopped_images : (A B C : Type 0) → A ⊎ B → A ⊎ (IsTrue true × B) ⊎ (IsTrue true × C)
+      stopped_images A B C (inl a) = inl a
+      stopped_images A B C (inr b) = inr (inl (refl, b))
 
       pub keeps_stopped : StoreKeeps new (stopped_state st) durable later
       keeps_stopped = record {
@@ -189,7 +189,7 @@ module _ (d : DiskModel) (is_disk : IsDisk d) (st : StoreState) (is : IsMemory s
         disk = record {
           told = still_told;
           count = keeps.disk.count;
-          images = λ c image. stopped_images (OpensHere c st.turn p durable) (OpensOn c st.turn p (last_of durable later)) (inside_opens c (image_inside c image));
+          images = λ c image. stopped_images (OpensHere c st.turn p durable) (OpensOn c st.turn p (last_of durable later)) (OpensAfter c st.turn durable) (inside_opens c (image_inside c image));
           shows = λ c image.
               let old = place.crash c image in
               shows_kept st.turn p.said old.0 c (torn_there old.0 c old.2) (written_pages p) durable (keeps.disk.shows old.0 old.1);

@@ -30,4 +30,10 @@ pub mod Replays
 pub mod Touches
 pub mod HomeWrites
 pub mod WrittenHome
+pub mod Turned
+mod Turns
+mod Switched
+mod SwitchKept
+mod SwitchStopped
+mod SwitchDone
 pub mod Flushes

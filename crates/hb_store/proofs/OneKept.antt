@@ -5,21 +5,20 @@ use Rattle.std.proofs.lemmas.List.{take_at}
 use Rattle.std.proofs.lemmas.List.Elements.{All-head, All-tail}
 use Rattle.hb_disk.specs.Model.{DiskModel, IsDisk}
 use Rattle.hb_lemmas.proofs.Options.{some_value}
-use Rattle.hb_super.specs.Superblocks.{IsNewest}
+use Rattle.hb_super.specs.Superblocks.{IsNewest, next_turn}
 use Rattle.hb_wal.specs.Frames.{frames, frame_bytes, ReadsOneWay}
-use Rattle.hb_wal.specs.Log.{Waiting}
 use Rattle.hb_layout.specs.declared.meta.Meta.{Meta}
 use Rattle.hb_ops.specs.Files.{FileState}
 use Rattle.hb_log_codec.specs.Groups.{Logged, FitsGroup, group_bytes}
 use Rattle.hb_page_codec.proofs.Facts.PageLaws.{SpelledOnce}
 use Rattle.hb_store.proofs.Facts.Spellings.{OneGroup, OneList, same_spelled}
 use Rattle.hb_store.specs.Replay.{Replayed, untouched, replay, after_group}
-use Rattle.hb_store.specs.Opening.{OpensBy, Shows, log_bytes, SpellAll}
+use Rattle.hb_store.specs.Opening.{OpensBy, OpensTo, Shows, log_bytes, SpellAll}
 use Rattle.hb_store.specs.States.{StoreState}
 use Rattle.hb_store.specs.Keeps.{StoreKeeps}
-use Rattle.hb_store.specs.Parts.{Leads, OpensNext, last_of}
-use Rattle.hb_store.proofs.Facts.StoreLaws.{as_waits}
-use Rattle.hb_store.proofs.OneFile.{OneTurn, OneMeta, same_shown}
+use Rattle.hb_store.specs.Parts.{Leads, OpensNext, Parts, last_of, written_pages}
+use Rattle.hb_store.proofs.Facts.StoreLaws.{OpensAfter, OpensHere, OpensOn, by_turn}
+use Rattle.hb_store.proofs.OneFile.{OneTurn, OneMeta, one_file, same_shown}
 
 -- ---- lists
 
@@ -38,23 +37,25 @@ longer p q x long e =
 
 -- ---- the files to come
 
-pub later_same : (t : Replayed) (s : FileState) (groups : List Logged) (later others : List FileState) → Leads t s groups later → Leads t s groups others → later ≡ others
-later_same t s [] later others here there = here ∙ sym there
-later_same t s (g ∷ rest) [] others here there = absurd here
-later_same t s (g ∷ rest) (x ∷ xs) [] here there = absurd there
-later_same t s (g ∷ rest) (x ∷ xs) (y ∷ ys) here there =
+-- the groups that wait lead from a file to the same ones, whatever the touched pages are
+later_same : (t u : Replayed) (s : FileState) (groups : List Logged) (later others : List FileState) → Leads t s groups later → Leads u s groups others → later ≡ others
+later_same t u s [] later others here there = here ∙ sym there
+later_same t u s (g ∷ rest) [] others here there = absurd here
+later_same t u s (g ∷ rest) (x ∷ xs) [] here there = absurd there
+later_same t u s (g ∷ rest) (x ∷ xs) (y ∷ ys) here there =
     let first : x ≡ y = here.4 ∙ sym there.4 in
-    let more = later_same (after_group t g) x rest xs ys here.5 (subst (λ n. Leads (after_group t g) n rest ys) (sym first) there.5) in
+    let more = later_same (after_group t g) (after_group u g) x rest xs ys here.5 (subst (λ n. Leads (after_group u g) n rest ys) (sym first) there.5) in
     λ i. first i ∷ more i
 
--- What a disk's told bytes say of a store that keeps these files.
-pub record Tells (b : List ℕ) (turn written_bytes : ℕ) (waits : List Waiting) (said : Meta) (payloads : List (List ℕ)) (written waiting : List Logged) (durable : FileState) (later : List FileState) : Type 0 where
+-- What a disk's told bytes that open by the superblock of the store's turn say of a store that keeps these files.
+pub record Tells (b : List ℕ) (turn written_bytes : ℕ) (said : Meta) (payloads : List (List ℕ)) (written waiting : List Logged) (durable next : FileState) : Type 0 where
   pub count : length (frames payloads) ≡ written_bytes
-  pub opens : OpensBy b turn said payloads written durable ⊎ OpensNext b turn said payloads written waiting (last_of durable later)
+  pub opens : OpensBy b turn said payloads written durable ⊎ OpensNext b turn said payloads written waiting next
   pub shows : Shows b said (replay (untouched said) written) durable
-  pub spelled : map (λ w. w.bytes) waits ≡ map group_bytes waiting
-  pub fits : All (FitsGroup said.k) waiting
-  pub leads : Leads (replay (untouched said) written) durable waiting later
+
+-- no turn is the one after itself
+other_turn : (turn : ℕ) → turn ≡ next_turn turn → ⊥
+other_turn turn same = absurd (omega (arith, same))
 
 module _ (once : SpelledOnce) (one : OneList) (group : OneGroup) (turns : OneTurn) (metas : OneMeta) (way : ReadsOneWay) where
   waiting_same : (k : ℕ) (xs ys : List Logged) → All (FitsGroup k) xs → All (FitsGroup k) ys → map group_bytes xs ≡ map group_bytes ys → xs ≡ ys
@@ -93,52 +94,69 @@ module _ (once : SpelledOnce) (one : OneList) (group : OneGroup) (turns : OneTur
       written_same p q xs ys gs hs s u m n long count (inr here) (inr there) =
           same_fronts xs ys gs hs count (groups_same (p ++ flat_map group_bytes gs ∷ []) (q ++ flat_map group_bytes hs ∷ []) (xs ++ gs) (ys ++ hs) m n here there)
 
-    module _ (n : ℕ) (waits : List Waiting) (said : Meta) (p q : List (List ℕ)) (xs ys gs hs : List Logged) (s u : FileState) (later others : List FileState)
-        (here : Tells b turn n waits said p xs gs s later) (there : Tells b turn n waits said q ys hs u others) where
-      waiting_is : gs ≡ hs
-      waiting_is = waiting_same said.k gs hs here.fits there.fits (sym here.spelled ∙ there.spelled)
-
+    module _ (n : ℕ) (said : Meta) (p q : List (List ℕ)) (xs ys gs hs : List Logged) (s u next other : FileState) (waiting_is : gs ≡ hs)
+        (here : Tells b turn n said p xs gs s next) (there : Tells b turn n said q ys hs u other) where
       written_is : xs ≡ ys
-      written_is = written_same said p q xs ys gs hs s u (last_of s later) (last_of u others) (here.count ∙ sym there.count) (ap (λ (l : List Logged). length l) waiting_is) here.opens there.opens
+      written_is = written_same said p q xs ys gs hs s u next other (here.count ∙ sym there.count) (ap (λ (l : List Logged). length l) waiting_is) here.opens there.opens
 
       durable_is : s ≡ u
       durable_is = same_shown once one b said (replay (untouched said) ys) s u (subst (λ l. Shows b said (replay (untouched said) l) s) written_is here.shows) there.shows
 
-      later_is : later ≡ others
-      later_is = later_same (replay (untouched said) ys) u hs later others
-          (subst (λ l. Leads (replay (untouched said) l) u hs later) written_is
-          (subst (λ f. Leads (replay (untouched said) xs) f hs later) durable_is
-          (subst (λ l. Leads (replay (untouched said) xs) s l later) waiting_is here.leads))) there.leads
+    -- by the next turn's superblock, over a log without a frame
+    by_next : (s : FileState) → OpensAfter b turn s → OpensTo b s
+    by_next s by = record { turn = next_turn turn; said = s.meta; payloads = []; groups = []; by = by }
 
   module _ (d : DiskModel) (is_disk : IsDisk d) (st : StoreState) (b : List ℕ) (told : d.told ≡ Some b) where
-    tells : (durable : FileState) (later : List FileState) → (keeps : StoreKeeps d st durable later)
-        → Tells b st.turn st.log.written st.log.groups keeps.parts.said keeps.parts.payloads keeps.parts.written keeps.parts.waiting durable later
-    tells durable later keeps = record {
-      count = keeps.disk.count;
-      opens = as_waits (OpensBy b st.turn keeps.parts.said keeps.parts.payloads keeps.parts.written durable) (IsTrue st.stopped) (OpensNext b st.turn keeps.parts.said keeps.parts.payloads keeps.parts.written keeps.parts.waiting (last_of durable later))
-          (keeps.disk.images b (is_disk.as_read b told));
-      shows = keeps.disk.shows b (is_disk.as_read b told);
-      spelled = keeps.waits.spelled;
-      fits = keeps.waits.fits;
-      leads = keeps.waits.leads;
-    }
+    -- by the superblock of the store's turn
+    abbrev Here : Parts → FileState → List FileState → Type 0
+    Here p durable later = OpensHere b st.turn p durable ⊎ OpensOn b st.turn p (last_of durable later)
+
+    tells : (durable : FileState) (later : List FileState) → (keeps : StoreKeeps d st durable later) → Here keeps.parts durable later
+        → Tells b st.turn st.log.written keeps.parts.said keeps.parts.payloads keeps.parts.written keeps.parts.waiting durable (last_of durable later)
+    tells durable later keeps opens = record { count = keeps.disk.count; opens = opens; shows = keeps.disk.shows b (is_disk.as_read b told) }
+
+    newest_here : (p : Parts) (durable : FileState) (later : List FileState) → Here p durable later → IsNewest b st.turn p.said
+    newest_here p durable later opens = newest b st.turn p.said p.payloads p.written p.waiting durable (last_of durable later) opens
+
+    opened : (durable : FileState) (later : List FileState) → (keeps : StoreKeeps d st durable later) → Here keeps.parts durable later ⊎ OpensAfter b st.turn durable
+    opened durable later keeps =
+        let p = keeps.parts in
+        by_turn (OpensHere b st.turn p durable) (OpensOn b st.turn p (last_of durable later)) (OpensAfter b st.turn durable) (IsTrue st.stopped) (keeps.disk.images b (is_disk.as_read b told))
+
+    -- the superblock of the store's turn and that of the next one aren't both the newest
+    not_after : (p : Parts) (s durable : FileState) (later : List FileState) → Here p durable later → OpensAfter b st.turn s → ⊥
+    not_after p s durable later here there = other_turn st.turn (turns b st.turn (next_turn st.turn) p.said s.meta (newest_here p durable later here) there.newest)
+
+    -- the groups that wait fit the layout that the store has
+    fits_store : (durable : FileState) (later : List FileState) → (keeps : StoreKeeps d st durable later) → All (FitsGroup st.meta.k) keeps.parts.waiting
+    fits_store durable later keeps = subst (λ (k : ℕ). All (FitsGroup k) keeps.parts.waiting) (sym keeps.memory.layout.k) keeps.waits.fits
 
     module _ (durable other : FileState) (later others : List FileState) (here : StoreKeeps d st durable later) (there : StoreKeeps d st other others) where
-      said_is : there.parts.said ≡ here.parts.said
-      said_is = metas b st.turn st.turn there.parts.said here.parts.said
-          (newest b st.turn there.parts.said there.parts.payloads there.parts.written there.parts.waiting other (last_of other others) (tells other others there).opens)
-          (newest b st.turn here.parts.said here.parts.payloads here.parts.written here.parts.waiting durable (last_of durable later) (tells durable later here).opens)
+      waiting_is : here.parts.waiting ≡ there.parts.waiting
+      waiting_is = waiting_same st.meta.k here.parts.waiting there.parts.waiting (fits_store durable later here) (fits_store other others there) (sym here.waits.spelled ∙ there.waits.spelled)
 
-      there_tells : Tells b st.turn st.log.written st.log.groups here.parts.said there.parts.payloads there.parts.written there.parts.waiting other others
-      there_tells = subst (λ m. Tells b st.turn st.log.written st.log.groups m there.parts.payloads there.parts.written there.parts.waiting other others) said_is (tells other others there)
+      durable_here : Here here.parts durable later → Here there.parts other others → durable ≡ other
+      durable_here x y =
+          let p = here.parts in
+          let q = there.parts in
+          let said_is : q.said ≡ p.said = metas b st.turn st.turn q.said p.said (newest_here q other others y) (newest_here p durable later x) in
+          durable_is b st.turn st.log.written p.said p.payloads q.payloads p.written q.written p.waiting q.waiting durable other (last_of durable later) (last_of other others) waiting_is
+          (tells durable later here x)
+          (subst (λ m. Tells b st.turn st.log.written m q.payloads q.written q.waiting other (last_of other others)) said_is (tells other others there y))
+
+      durable_by : Here here.parts durable later ⊎ OpensAfter b st.turn durable → Here there.parts other others ⊎ OpensAfter b st.turn other → durable ≡ other
+      durable_by (inl x) (inl y) = durable_here x y
+      durable_by (inl x) (inr y) = absurd (not_after here.parts other durable later x y)
+      durable_by (inr x) (inl y) = absurd (not_after there.parts durable other others y x)
+      durable_by (inr x) (inr y) = one_file once one turns metas way b durable other (by_next b st.turn durable x) (by_next b st.turn other y)
 
       durable_same : durable ≡ other
-      durable_same = durable_is b st.turn st.log.written st.log.groups here.parts.said here.parts.payloads there.parts.payloads here.parts.written there.parts.written here.parts.waiting there.parts.waiting durable other later others
-          (tells durable later here) there_tells
+      durable_same = durable_by (opened durable later here) (opened other others there)
 
       later_kept : later ≡ others
-      later_kept = later_is b st.turn st.log.written st.log.groups here.parts.said here.parts.payloads there.parts.payloads here.parts.written there.parts.written here.parts.waiting there.parts.waiting durable other later others
-          (tells durable later here) there_tells
+      later_kept = later_same (written_pages here.parts) (written_pages there.parts) other there.parts.waiting later others
+          (subst (λ f. Leads (written_pages here.parts) f there.parts.waiting later) durable_same
+          (subst (λ l. Leads (written_pages here.parts) durable l later) waiting_is here.waits.leads)) there.waits.leads
 
   -- a store keeps one file, and the same ones to come
   pub one_durable : (d : DiskModel) → IsDisk d → (st : StoreState) (durable other : FileState) (later others : List FileState)

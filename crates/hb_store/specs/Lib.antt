@@ -9,6 +9,8 @@ pub mod Seen
 pub mod Calls
 pub mod Filling
 pub mod Forced
+pub mod Switching
+pub mod Turning
 pub mod WritingHome
 pub mod Making
 pub mod Fetching

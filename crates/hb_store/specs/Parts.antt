@@ -73,9 +73,11 @@ pub record IsDurable (d : DiskModel) (turn : ℕ) (log : LogState) (stopped : Bo
   pub told : IsSome d.told
   -- the log counts the bytes of the written frames
   pub count : length (frames p.payloads) ≡ log.written
-  -- every image opens to it; after a failed force perhaps to the one after all groups that wait
+  -- every image opens to it; after a failed force perhaps to the one after all groups that wait; after a failed switch, in which none
+  -- waits, perhaps to it by the next turn's superblock, over a log without a frame
   pub images : (c : List ℕ) → d.Image c → OpensBy c turn p.said p.payloads p.written durable
       ⊎ (IsTrue stopped × OpensNext c turn p.said p.payloads p.written p.waiting (last_of durable later))
+      ⊎ (IsTrue stopped × OpensBy c (next_turn turn) durable.meta [] [] durable)
   -- whatever stands behind the written frames, these groups and the places make it
   pub shows : (c : List ℕ) → d.Image c → Shows c p.said (written_pages p) durable
   -- in a store that was not stopped all is synced

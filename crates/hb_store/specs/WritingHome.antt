@@ -1,5 +1,5 @@
 -- What it is to write the least recently used dirty page to its place, where no group waits.
-use Rattle.std.specs.Prelude.{◌≡◌, ◌≢◌, ◌+◌, ℕ, [], Some, None, IsOk, IsSome, MatchOption, OnErr, OnOk, Result, List}
+use Rattle.std.specs.Prelude.{◌≡◌, ◌≢◌, ◌⊎◌, ◌+◌, ◌<◌, ℕ, [], Some, None, IsOk, IsSome, MatchOption, OnErr, OnOk, Result, List}
 use Rattle.hb_disk.specs.Model.{DiskModel, Torn}
 use Rattle.hb_disk.specs.Calls.{Leaves, ReadsOnly}
 use Rattle.hb_disk.specs.Runs.{Rewrites}
@@ -10,8 +10,9 @@ use Rattle.hb_store.specs.Forced.{stopped_state}
 use Rattle.hb_store.specs.Held.{StoreHeld, cleaned_held, oldest_dirty}
 use Rattle.hb_store.specs.Keeps.{StoreKeeps}
 use Rattle.hb_store.specs.Opening.{OpensTo}
+use Rattle.hb_store.specs.Switching.{SwitchesTurn}
 use Rattle.hb_store.specs.declared.stops.Flushed.{Flushed}
-use Rattle.hb_store.specs.declared.stops.Flushed.TheVariants.{Forced, Written, Nothing}
+use Rattle.hb_store.specs.declared.stops.Flushed.TheVariants.{Forced, Written, Switched, Nothing}
 use Rattle.hb_store.specs.declared.stops.WriteFault.{WriteFault}
 
 -- The page of this number is written to its place, by its result.
@@ -29,12 +30,17 @@ pub record WritesHome {T : Type 0} (result : Result T WriteFault) (id : ℕ) (d 
   -- one call, where it is done
   pub clock : IsSome d.told → OnOk result (e.clock ≡ d.clock + 1)
 
--- What a flush is to do where no group waits, by its result: the least recently used dirty page, or nothing where none is dirty.
-abbrev pub FlushesHome : {T : Type 0} → Result T WriteFault → DiskModel → DiskModel → StoreHeld → StoreHeld → Type 0
-FlushesHome result d e old new = MatchOption (oldest_dirty old.uses) (IsOk result × ReadsOnly ⊥ d e × (new ≡ old)) (λ id. WritesHome result id d e old new)
+-- What a flush is to do where no group waits, by its result: the least recently used dirty page; where none is dirty the next turn
+-- begins if the log has a frame, and else nothing is to be done.
+abbrev pub FlushesClean : {T : Type 0} → Result T WriteFault → DiskModel → DiskModel → StoreHeld → StoreHeld → Type 0
+FlushesClean result d e old new = ((0 < old.state.log.written) × SwitchesTurn result d e old new) ⊎ ((old.state.log.written ≡ 0) × IsOk result × ReadsOnly ⊥ d e × (new ≡ old))
 
--- which of the three a flush does
+abbrev pub FlushesHome : {T : Type 0} → Result T WriteFault → DiskModel → DiskModel → StoreHeld → StoreHeld → Type 0
+FlushesHome result d e old new = MatchOption (oldest_dirty old.uses) (FlushesClean result d e old new) (λ id. WritesHome result id d e old new)
+
+-- which of the four a flush does
 abbrev pub IsDue : StoreHeld → Flushed → Type 0
 IsDue held Forced = held.state.log.groups ≢ []
 IsDue held (Written id) = (held.state.log.groups ≡ []) × (oldest_dirty held.uses ≡ Some id)
-IsDue held Nothing = (held.state.log.groups ≡ []) × (oldest_dirty held.uses ≡ None)
+IsDue held Switched = (held.state.log.groups ≡ []) × (oldest_dirty held.uses ≡ None) × (0 < held.state.log.written)
+IsDue held Nothing = (held.state.log.groups ≡ []) × (oldest_dirty held.uses ≡ None) × (held.state.log.written ≡ 0)

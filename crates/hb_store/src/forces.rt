@@ -1,11 +1,13 @@
-ghost use Rattle.std.specs.Prelude.{◌≡◌, ◌≢◌, ◌↔◌, [], IfOk, IsTrue, Some};
+ghost use Rattle.std.specs.Prelude.{◌≡◌, ◌≢◌, ◌↔◌, [], IfOk, IsTrue, None, Some};
 ghost use Rattle.hb_store.specs.Forced.{MayWriteGroups, WritesGroups};
 ghost use Rattle.hb_store.specs.Held.{oldest_dirty};
+ghost use Rattle.hb_store.specs.Switching.{SwitchesTurn};
 ghost use Rattle.hb_store.specs.WritingHome.{FlushesHome, IsDue, WritesHome};
 ghost use Rattle.hb_store.specs.Seen.{held_by, seen_as, uses_of};
 
 use crate::stops::{Flushed, WriteFault};
 use crate::store::Store;
+use crate::switching::begin_turn;
 use hb_disk::Device;
 use hb_layout::page_offset;
 
@@ -28,8 +30,8 @@ impl<D: Device> Store<D> {
     }
 
     /// Where groups wait, they are forced: `Forced`. Else the least recently used page that is to be written to its place is
-    /// written there, in one call: `Written`; its log stands already, since no group waits. Else `Nothing`. It takes no memory.
-    /// A fault stops the store.
+    /// written there, in one call: `Written`; its log stands already, since no group waits. Else the next turn begins where the log
+    /// has a frame, in nine calls: `Switched`. Else `Nothing`. It takes no memory. A fault stops the store.
     pub fn flush_step(&mut self) -> Result<Flushed, WriteFault>
         requires { MayWriteGroups (D.model self.old.disk) (seen_as self.old) }
         ensures which { IfOk result (IsDue (held_by self.old)) }
@@ -42,6 +44,7 @@ impl<D: Device> Store<D> {
         }
         match self.memory.oldest_dirty() {
             Some(id) => self.write_home(id),
+            None if self.memory.written() > 0 => self.switch(),
             None => Ok(Flushed::Nothing),
         }
     }
@@ -68,6 +71,28 @@ impl<D: Device> Store<D> {
                 }
             },
             None => unreachable!(),
+        }
+    }
+
+    /// Begins the next turn: syncs, so that each page stands in its place whatever a crash leaves, zeroes the other log area, and
+    /// writes the superblock of the next turn. Nine device calls.
+    fn switch(&mut self) -> Result<Flushed, WriteFault>
+        requires running { MayWriteGroups (D.model self.old.disk) (seen_as self.old) }
+        requires waits { (seen_as self.old).log.groups ≡ [] }
+        requires clean { oldest_dirty (uses_of self.old) ≡ None }
+        ensures says { IfOk result (λ flushed. flushed ≡ Flushed.Switched) }
+        ensures switches { SwitchesTurn result (D.model self.old.disk) (D.model self.new.disk) (held_by self.old) (held_by self.new) }
+    {
+        let memory = &mut self.memory;
+        match begin_turn(&mut self.disk, memory.next_turn(), memory.meta()) {
+            Ok(()) => {
+                memory.switched();
+                Ok(Flushed::Switched)
+            }
+            Err(_fault) => {
+                memory.stopped = true;
+                Err(WriteFault)
+            }
         }
     }
 

@@ -46,6 +46,7 @@ mod pages;
 mod reading;
 mod stops;
 mod store;
+mod switching;
 mod threads;
 mod touched;
 
@@ -54,4 +55,5 @@ pub use laws::{a_store_keeps_one_file, an_image_of_a_store_opens};
 pub use reading::read_log;
 pub use stops::{FetchStop, Flushed, StopWhy, Why, WriteFault};
 pub use store::Store;
+pub use switching::begin_turn;
 pub use touched::{LogStop, Touched};

@@ -9,6 +9,8 @@ ghost use Rattle.hb_wal.specs.Log.{IsLog, room_of, pending_bytes, mark_of};
 ghost use Rattle.hb_store.specs.States.{IsGoodPage, IsMemory, IsStanding, in_memory, is_dirty, is_in_log, new_state};
 ghost use Rattle.hb_store.specs.Held.{IsTied, cleaned_held, oldest_dirty};
 ghost use Rattle.hb_store.specs.Replaying.{IsPageOf};
+ghost use Rattle.hb_store.specs.Switching.{switched_state};
+ghost use Rattle.hb_super.specs.Superblocks.{next_turn};
 ghost use Rattle.hb_store.specs.Calls.{Fetched, HasPlaces, IsReady, StaysHere};
 
 use hb_layout::log_start;
@@ -163,6 +165,31 @@ impl Memory {
         ensures { self.new ≡ cleaned_held id self.old }
     {
         self.pool.cleaned(id);
+    }
+
+    /// The bytes of the written frames. 0 exactly where the log has none.
+    pub(crate) fn written(&self) -> u32
+        ensures { result ≡ self.now.state.log.written }
+    {
+        self.log.written()
+    }
+
+    /// The turn after this one.
+    pub(crate) fn next_turn(&self) -> u8
+        ensures { result ≡ next_turn self.now.state.turn }
+    {
+        (self.turn + 1) % 4
+    }
+
+    /// The next turn has begun: its log has no frame, and no page is in it. So no page may be to be written to its place.
+    pub(crate) fn switched(&mut self)
+        requires waits { self.old.state.log.groups ≡ [] }
+        requires clean { oldest_dirty self.old.uses ≡ None }
+        ensures { self.new ≡ record { state = switched_state self.old.state; uses = self.old.uses } }
+    {
+        self.turn = self.next_turn();
+        self.log.move_to(log_start(self.turn, &self.meta));
+        self.in_log.clear();
     }
 
     /// The bytes of the longest group that fits the log now.

@@ -40,10 +40,12 @@ pub struct WriteFault;
 /// What a flush did.
 #[derive(Clone, Copy, Debug, PartialEq, Eq)]
 pub enum Flushed {
-    /// A group that waited was forced.
+    /// All groups that waited were forced, as one frame.
     Forced,
     /// The page of this number was written to its place.
     Written(u32),
-    /// Nothing waited, and no page was to be written.
+    /// The next turn began: the log has no frame.
+    Switched,
+    /// Nothing waited, no page was to be written, and the log had no frame.
     Nothing,
 }

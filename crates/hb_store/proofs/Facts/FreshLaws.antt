@@ -9,7 +9,7 @@ use Rattle.hb_wal.specs.Frames.{range}
 use Rattle.hb_wal.specs.Forces.{HasLog}
 use Rattle.hb_layout.specs.Offsets.{slot_offset, log_start, file_size}
 use Rattle.hb_super.specs.Superblocks.{HasSuper, IsNewest, next_turn}
-use Rattle.hb_super.specs.Moments.{HasNoBody}
+use Rattle.hb_super.specs.Moments.{HasNoBody, HidesNoOther}
 use Rattle.hb_layout.specs.declared.meta.Meta.{Meta}
 use Rattle.hb_ops.specs.Files.{FileState, page_of}
 use Rattle.hb_frag.specs.declared.pages.Page.{Page}
@@ -32,6 +32,11 @@ module _ (b c : List ℕ) (same : take 8192 (drop 0 c) ≡ take 8192 (drop 0 b))
 
   pub HasSuper-elsewhere : (turn : ℕ) (meta : Meta) → HasSuper b turn meta → HasSuper c turn meta
   HasSuper-elsewhere turn meta has = record { legal = has.legal; gate = gate_same turn ∙ has.gate; body = body_same turn ∙ has.body }
+
+-- and hide no other body behind a closed gate
+pub HidesNoOther-elsewhere : (b c : List ℕ) → take 8192 (drop 0 c) ≡ take 8192 (drop 0 b) → (turn : ℕ) (meta : Meta) → HidesNoOther b turn meta → HidesNoOther c turn meta
+HidesNoOther-elsewhere b c same turn meta hides closed said legal body =
+    hides (λ opened. closed (gate_same b c same turn ∙ opened)) said legal (sym (body_same b c same turn) ∙ body)
 
 pub IsNewest-elsewhere : (b c : List ℕ) → take 8192 (drop 0 c) ≡ take 8192 (drop 0 b) → (turn : ℕ) (meta : Meta) → IsNewest b turn meta → IsNewest c turn meta
 IsNewest-elsewhere b c same turn meta newest = record {

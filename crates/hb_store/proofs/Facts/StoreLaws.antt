@@ -3,6 +3,7 @@ use Rattle.std.proofs.Common.{◌≡◌, ◌⊎◌, inl, inr, ℕ, Bool, false, 
 use Rattle.hb_disk.specs.Model.{DiskModel}
 use Rattle.hb_wal.specs.Log.{Waiting}
 use Rattle.hb_layout.specs.declared.meta.Meta.{Meta}
+use Rattle.hb_super.specs.Superblocks.{next_turn}
 use Rattle.hb_ops.specs.Files.{FileState}
 use Rattle.hb_log_codec.specs.Groups.{Logged, group_bytes}
 use Rattle.hb_store.specs.Replay.{Replayed}
@@ -24,27 +25,39 @@ opens_either c turn said payloads written waiting durable later (inl by) = inl (
 opens_either c turn said payloads written waiting durable later (inr by) =
     inr (record { turn = turn; said = said; payloads = payloads ++ flat_map group_bytes waiting ∷ []; groups = written ++ waiting; by = by })
 
-running_only : (b : Bool) (A B : Type 0) → b ≡ false → A ⊎ (IsTrue b × B) → A
-running_only b A B going (inl a) = a
-running_only b A B going (inr (stopped, h)) = cc (going, stopped)
+-- By the next turn's superblock, over a log without a frame, as a failed switch may leave it.
+abbrev pub OpensAfter : List ℕ → ℕ → FileState → Type 0
+OpensAfter c turn durable = OpensBy c (next_turn turn) durable.meta [] [] durable
 
-pub as_waits : (A B C : Type 0) → A ⊎ (B × C) → A ⊎ C
-as_waits A B C (inl a) = inl a
-as_waits A B C (inr (b, c)) = inr c
+running_only : (b : Bool) (A B C : Type 0) → b ≡ false → A ⊎ (IsTrue b × B) ⊎ (IsTrue b × C) → A
+running_only b A B C going (inl a) = a
+running_only b A B C going (inr (inl (stopped, h))) = cc (going, stopped)
+running_only b A B C going (inr (inr (stopped, h))) = cc (going, stopped)
+
+-- by this turn's superblock, or by the next one's
+pub by_turn : (A B C S : Type 0) → A ⊎ (S × B) ⊎ (S × C) → (A ⊎ B) ⊎ C
+by_turn A B C S (inl a) = inl (inl a)
+by_turn A B C S (inr (inl (s, b))) = inl (inr b)
+by_turn A B C S (inr (inr (s, c))) = inr c
+
+opens_turn : (c : List ℕ) (turn : ℕ) (said : Meta) (payloads : List (List ℕ)) (written waiting : List Logged) (durable : FileState) (later : List FileState)
+    → (OpensBy c turn said payloads written durable ⊎ OpensNext c turn said payloads written waiting (last_of durable later)) ⊎ OpensAfter c turn durable → OpensToEither durable later c
+opens_turn c turn said payloads written waiting durable later (inl by) = opens_either c turn said payloads written waiting durable later by
+opens_turn c turn said payloads written waiting durable later (inr by) = inl (record { turn = next_turn turn; said = durable.meta; payloads = []; groups = []; by = by })
 
 -- Each image opens to the durable file, or to the one after all groups that wait.
 pub StoreKeeps-opens : (d : DiskModel) (st : StoreState) (durable : FileState) (later : List FileState) → StoreKeeps d st durable later
     → (c : List ℕ) → d.Image c → OpensToEither durable later c
 StoreKeeps-opens d st durable later keeps c image =
     let p = keeps.parts in
-    opens_either c st.turn p.said p.payloads p.written p.waiting durable later
-    (as_waits (OpensHere c st.turn p durable) (IsTrue st.stopped) (OpensOn c st.turn p (last_of durable later)) (keeps.disk.images c image))
+    opens_turn c st.turn p.said p.payloads p.written p.waiting durable later
+    (by_turn (OpensHere c st.turn p durable) (OpensOn c st.turn p (last_of durable later)) (OpensAfter c st.turn durable) (IsTrue st.stopped) (keeps.disk.images c image))
 
 -- While the store runs, each image opens to the durable file: by the written groups, and so at all.
 pub StoreKeeps-by : (d : DiskModel) (st : StoreState) (durable : FileState) (later : List FileState) → (keeps : StoreKeeps d st durable later) → st.stopped ≡ false
     → (c : List ℕ) → d.Image c → OpensHere c st.turn keeps.parts durable
 StoreKeeps-by d st durable later keeps going c image =
-    running_only st.stopped (OpensHere c st.turn keeps.parts durable) (OpensOn c st.turn keeps.parts (last_of durable later)) going (keeps.disk.images c image)
+    running_only st.stopped (OpensHere c st.turn keeps.parts durable) (OpensOn c st.turn keeps.parts (last_of durable later)) (OpensAfter c st.turn durable) going (keeps.disk.images c image)
 
 pub StoreKeeps-running : (d : DiskModel) (st : StoreState) (durable : FileState) (later : List FileState) → StoreKeeps d st durable later → st.stopped ≡ false
     → (c : List ℕ) → d.Image c → OpensTo c durable
