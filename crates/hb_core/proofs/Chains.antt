@@ -12,7 +12,7 @@ pub mod ChainOfTwo
 pub mod ChainOfPosting
 pub mod SaidSteps
 pub mod ChainBesidePoster
-pub mod ChainOfFullLog
+pub mod ChainOfNewTurn
 pub mod ChainOfCommands
 pub mod ChainOfFreePage
 pub mod ChainOfMerging

@@ -5,6 +5,7 @@ pub mod LocksKept
 pub mod EachKept
 pub mod ClassesKept
 pub mod RunsKept
+pub mod LogKept
 pub mod PieceBoxes
 pub mod AddedJobs
 pub mod BoxesAhead

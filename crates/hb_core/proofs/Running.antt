@@ -7,7 +7,7 @@ pub mod LinesAhead
 pub mod AgainstPlaces
 pub mod LineTaken
 pub mod PlacesAwaited
-pub mod MadeReady
+pub mod FlushTaken
 pub mod Looks
 pub mod LeafBoxes
 pub mod Boxes

@@ -1,5 +1,5 @@
 -- Why a line is refused, and which line a step answers, as laws.
-use Rattle.std.specs.Prelude.{◌≡◌, ◌⊎◌, ℕ, IsTrue, [], IsSomeAnd}
+use Rattle.std.specs.Prelude.{◌≡◌, ◌⊎◌, ℕ, IsTrue, IsSomeAnd}
 use Rattle.hb_space.specs.declared.records.Record.{Record}
 use Rattle.hb_set.specs.declared.commands.Reply.{Reply}
 use Rattle.hb_set.specs.declared.commands.Reply.TheVariants as replies
@@ -17,11 +17,9 @@ use Rattle.hb_core.specs.Fetching.{Brings}
 use Rattle.hb_core.specs.Keeps.{LacksRoomFor}
 use Rattle.hb_core.specs.KeptMachine.{MachineKeeps}
 use Rattle.hb_core.specs.Machines.{Machine}
-use Rattle.hb_core.specs.Forcing.{HasMoreToFlush}
-use Rattle.hb_core.specs.Steps.{IsUnready, StepsTo, may_change_file}
+use Rattle.hb_core.specs.Steps.{StepsTo, may_change_file}
 
--- A line is `full` where the page that is to be split lacks the point and room for its record, and no page is free; or where the
--- step can't be made ready: no group waits, and nothing else is left to flush.
+-- A line is `full` where the page that is to be split lacks the point and room for its record, and no page is free.
 pub record SplitFindsNoPage (m : Machine) (actor number : ℕ) : Type 0 where
   pub line : Line
   pub held : ℕ
@@ -32,13 +30,8 @@ pub record SplitFindsNoPage (m : Machine) (actor number : ℕ) : Type 0 where
   pub lacks : LacksRoomFor m held rec.key rec.body
   pub none_free : m.store.meta.live ≡ m.store.meta.pages
 
-pub record CannotBeReady (m : Machine) (actor : ℕ) : Type 0 where
-  pub unready : IsUnready m actor
-  pub no_group : m.store.log.groups ≡ []
-  pub nothing_left : ¬ (HasMoreToFlush m)
-
 abbrev pub FullByCause : Type 0
-FullByCause = (m : Machine) (actor number : ℕ) (new : Machine) → MachineKeeps m → StepsTo m actor (outcomes.Answered number replies.Full) new → SplitFindsNoPage m actor number ⊎ CannotBeReady m actor
+FullByCause = (m : Machine) (actor number : ℕ) (new : Machine) → MachineKeeps m → StepsTo m actor (outcomes.Answered number replies.Full) new → SplitFindsNoPage m actor number
 
 -- A line is `read fault` only where a page of the file that the step needs isn't in memory; `no memory` only for a page that the step
 -- decodes, for what its row takes, or for the boxes of a search that begins.

@@ -42,6 +42,7 @@ beside_after = record {
   jobs = posts_at 20 ∷ posts_at 10 ∷ [];
   order = record { line = deletes_thirty; reply = replies.Done } ∷ record { line = seeks_twenty; reply = replies.Found (98 ∷ []) } ∷ [];
   meta = raised_meta;
+  turn = 1;
   written = 8246;
   groups = [];
   pages = (1, Live split_page) ∷ (3, Live posted_root) ∷ (2, Live lower_two) ∷ [];

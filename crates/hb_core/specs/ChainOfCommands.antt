@@ -44,6 +44,7 @@ commands_after = record {
   jobs = posts_at 25 ∷ [];
   order = record { line = inserts_fifty; reply = replies.Duplicate } ∷ record { line = deletes_none; reply = replies.Absent } ∷ record { line = searches; reply = replies.Within three_found } ∷ [];
   meta = line_meta 2;
+  turn = 1;
   written = 0;
   groups = [];
   pages = (2, Live lower_half) ∷ (1, Live split_page) ∷ [];

@@ -27,6 +27,7 @@ free_after = record {
   jobs = posts_at 0 ∷ [];
   order = record { line = inserts_seventy; reply = replies.Done } ∷ [];
   meta = tight_meta 2 2 0;
+  turn = 1;
   written = 4147;
   groups = [];
   pages = (2, Live lower_half) ∷ (1, Live (upper_half (upper_three ++ lettered 70 103 ∷ []))) ∷ [];

@@ -85,6 +85,7 @@ joined_after = record {
   jobs = [];
   order = [];
   meta = joined_meta;
+  turn = 1;
   written = 0;
   groups = record { bytes = group_bytes (record { images = (3, Live two_children) ∷ (1, Live keeping_page) ∷ (2, Live (going_page one_to_go)) ∷ []; op = ops.Merge 3 1 2 }); mark = 0 } ∷ [];
   pages = (2, Free 0) ∷ (3, Live one_child) ∷ (1, Live joined_page) ∷ [];

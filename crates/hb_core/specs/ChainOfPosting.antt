@@ -49,6 +49,7 @@ posting_after = record {
   jobs = [];
   order = [];
   meta = raised_meta;
+  turn = 1;
   written = 0;
   groups = record { bytes = group_bytes (record { images = []; op = ops.Grow 3 0 }); mark = 0 }
       ∷ record { bytes = group_bytes (record { images = []; op = ops.Post 3 [] 2 (side_below (whole_area 1) 0 40) }); mark = 0 } ∷ [];

@@ -69,6 +69,7 @@ three_after = record {
   jobs = postings_owed ++ posts_at 120 ∷ [];
   order = record { line = deletes_110; reply = replies.Done } ∷ record { line = inserts_120 14; reply = replies.Done } ∷ [];
   meta = tight_meta 3 3 0;
+  turn = 1;
   written = 4139;
   groups = [];
   pages = (2, Live low_page) ∷ (1, Live middle_page) ∷ (3, Live (high_page other_high)) ∷ [];

@@ -68,6 +68,7 @@ two_after = record {
   jobs = posts_at 0 ∷ posts_at 20 ∷ [];
   order = record { line = inserts_seventy; reply = replies.Done } ∷ record { line = looks_twenty_up; reply = replies.Found (98 ∷ []) } ∷ [];
   meta = line_meta 2;
+  turn = 1;
   written = 4147;
   groups = [];
   pages = (1, Live (upper_half (upper_three ++ lettered 70 103 ∷ []))) ∷ (2, Live lower_half) ∷ [];

@@ -28,7 +28,7 @@ StaysUndamaged = (m : Machine) (files : Files) (actor : ℕ) (outcome : Outcome)
 
 -- A step that want of memory or a fault of the device has turned aside.
 abbrev pub IsRefusedOrFails : Machine → ℕ → Outcome → Machine → Type 0
-IsRefusedOrFails m actor outcome new = RefusesSearch m actor outcome new ⊎ FailsToWrite m 4 outcome new ⊎ Abandons m actor outcome new
+IsRefusedOrFails m actor outcome new = RefusesSearch m actor outcome new ⊎ FailsToWrite m 9 outcome new ⊎ Abandons m actor outcome new
 
 -- Of a machine that keeps all that it should, two steps of one actor say the same and lead to machines that are one, unless one
 -- of them was turned aside so.

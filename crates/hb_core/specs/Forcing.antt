@@ -1,15 +1,15 @@
--- What flushing makes of a machine: a force, what is flushed besides, and the step of the flusher.
-use Rattle.std.specs.Prelude.{◌≡◌, ◌≢◌, ◌⊎◌, ℕ, ◌+◌, ◌≤◌, [], Some, IsSome, option_map}
+-- What flushing makes of a machine: a force, a page that is written to its place, or the log's next turn.
+use Rattle.std.specs.Prelude.{◌≡◌, ◌≢◌, ◌⊎◌, ℕ, ◌+◌, ◌<◌, ◌≤◌, [], None, Some, option_map}
 use Rattle.hb_store.specs.declared.stops.StopWhy.TheVariants.{WriteFault}
 use Rattle.hb_core.specs.declared.outcomes.Outcome.{Outcome}
 use Rattle.hb_core.specs.declared.outcomes.Outcome.TheVariants as outcomes
 use Rattle.hb_core.specs.Machines.{Files, Machine, stopped_for, with_disk, with_uses}
-use Rattle.hb_core.specs.Stages.{FlusherSteps}
 use Rattle.hb_pool.specs.Frames.{clean}
 use Rattle.hb_pool.specs.Pools.{in_place}
 use Rattle.hb_store.specs.Held.{cleaned_state, oldest_dirty}
 use Rattle.hb_store.specs.Forced.{forced_state, stopped_state}
 use Rattle.hb_store.specs.Parts.{last_of}
+use Rattle.hb_store.specs.Switching.{switched_state}
 use Rattle.hb_wal.specs.Forces.{calls_of_force}
 
 -- A device call failed: the machine is stopped, behind so many calls at most.
@@ -34,31 +34,42 @@ ForcesAll m done outcome new =
 abbrev pub StaysSo : Machine → Outcome → Outcome → Machine → Type 0
 StaysSo m said outcome new = (outcome ≡ said) × (new ≡ m)
 
--- Once no group waits there is something left to flush: a page in memory that is to be written to its place.
-abbrev pub HasMoreToFlush : Machine → Type 0
-HasMoreToFlush m = IsSome (oldest_dirty m.uses)
+-- what a step says that flushed, unless that failed
+abbrev pub SaysItFlushed : Outcome → Type 0
+SaysItFlushed said = (said ≡ outcomes.Moved) ⊎ (said ≡ outcomes.Helped)
 
--- The least recently used of these is written to its place, in one call. The file stays.
-pub record FlushesWell (m : Machine) (due outcome : Outcome) (new : Machine) : Type 0 where
-  pub page : ℕ
-  pub oldest : oldest_dirty m.uses ≡ Some page
+-- The least recently used dirty page is written to its place, in one call. The file stays.
+pub record WritesOldest (m : Machine) (page : ℕ) (due outcome : Outcome) (new : Machine) : Type 0 where
   pub says : outcome ≡ due
   pub leaves : new ≡ with_uses (in_place page clean m.uses) (with_disk (cleaned_state page m.store) m.files (m.clock + 1) m)
 
--- What flushing comes to once no group waits: that, or a write that fails, where something is left to flush; else nothing was to
--- be done, and this happens.
+-- The next turn begins, in nine calls: the log has no frame then. The file stays.
+pub record BeginsTurn (m : Machine) (due outcome : Outcome) (new : Machine) : Type 0 where
+  pub says : outcome ≡ due
+  pub leaves : new ≡ with_disk (switched_state m.store) m.files (m.clock + 9) m
+
+-- What is left to flush once no group waits: a page in memory that is to be written to its place; and where there is none, the frames
+-- of the log, which is begun again.
+abbrev pub HasDirtyPage : Machine → ℕ → Type 0
+HasDirtyPage m page = oldest_dirty m.uses ≡ Some page
+
+abbrev pub HasOldTurn : Machine → Type 0
+HasOldTurn m = (oldest_dirty m.uses ≡ None) × (0 < m.store.log.written)
+
+abbrev pub IsFlushed : Machine → Type 0
+IsFlushed m = (oldest_dirty m.uses ≡ None) × (m.store.log.written ≡ 0)
+
+-- What flushing comes to then: that is done, or fails; or nothing was to be done, and this happens.
 abbrev pub FlushesRest : Machine → Outcome → Type 0 → Outcome → Machine → Type 0
 FlushesRest m due nothing outcome new =
-    (HasMoreToFlush m × FlushesWell m due outcome new)
-    ⊎ (HasMoreToFlush m × FailsToWrite m 1 outcome new)
-    ⊎ ((¬ (HasMoreToFlush m)) × nothing)
+    ((page : ℕ) × HasDirtyPage m page × (WritesOldest m page due outcome new ⊎ FailsToWrite m 1 outcome new))
+    ⊎ (HasOldTurn m × (BeginsTurn m due outcome new ⊎ FailsToWrite m 9 outcome new))
+    ⊎ (IsFlushed m × nothing)
 
 -- A step flushes once, and says what is due then: the groups that wait are forced; where none does, the rest is flushed.
 abbrev pub FlushesOnce : Machine → Outcome → Type 0 → Outcome → Machine → Type 0
 FlushesOnce m due nothing outcome new = ((m.store.log.groups ≢ []) × ForcesAll m due outcome new) ⊎ ((m.store.log.groups ≡ []) × FlushesRest m due nothing outcome new)
 
--- A step of the flusher, where it takes any.
+-- A step of the flusher.
 abbrev pub Flushes : Machine → Outcome → Machine → Type 0
-Flushes m outcome new =
-    (FlusherSteps × FlushesOnce m outcomes.Moved (StaysSo m outcomes.Idle outcome new) outcome new)
-    ⊎ ((¬ FlusherSteps) × StaysSo m outcomes.Idle outcome new)
+Flushes m outcome new = FlushesOnce m outcomes.Moved (StaysSo m outcomes.Idle outcome new) outcome new

@@ -25,12 +25,3 @@ gives_up_hand why idle (HasJob job) = drops_job why idle
 
 abbrev pub gives_up : DropWhy → Activity → Deed
 gives_up why activity = gives_up_hand why (idle_of (class_of activity)) (hand_of activity)
-
--- The log has no room and nothing is left to flush, so that no flushing makes any: the line is `full`, and a job is dropped.
-abbrev pub runs_out_hand : Activity → Hand → Deed
-runs_out_hand idle Empty = moves_to idle []
-runs_out_hand idle (HasLine line) = answers_now line.number replies.Full
-runs_out_hand idle (HasJob job) = moves_to idle []
-
-abbrev pub runs_out : Activity → Deed
-runs_out activity = runs_out_hand (idle_of (class_of activity)) (hand_of activity)

@@ -20,7 +20,7 @@ use Rattle.hb_core.specs.Acting.{DoesRow, HasPlanned}
 use Rattle.hb_core.specs.Asking.{wanted_by}
 use Rattle.hb_core.specs.Machines.{Machine, live_here, sight, with_disk}
 use Rattle.hb_core.specs.Steps.{StepsTo}
-use Rattle.hb_core.specs.CauseLaws.{CannotBeReady, GaveUpFor}
+use Rattle.hb_core.specs.CauseLaws.{GaveUpFor}
 
 -- A job is dropped for the same causes.
 abbrev pub DropsByCause : Type 0
@@ -74,11 +74,10 @@ pub record EndsByRow (m : Machine) (actor : ℕ) (job : Job) (outcome : Outcome)
   pub live : live_here does.fetched wanted.page ≡ Some page
   pub cause : EndsAt (m.activity actor) (with_disk does.fetched m.files m.clock m) page ⊎ (Contains does.deed.adds job × FindsNoPlace job new.jobs)
 
--- A job in work stays in work of its worker, or waits, or is dropped; or it ends by a row, or since its step can't be made ready.
+-- A job in work stays in work of its worker, or waits, or is dropped; or it ends by a row.
 abbrev pub JobsEndByCause : Type 0
 JobsEndByCause = (m : Machine) (actor : ℕ) (job : Job) (outcome : Outcome) (new : Machine) → StepsTo m actor outcome new → job_in_work (m.activity actor) ≡ Some job →
     (job_in_work (new.activity actor) ≡ Some job)
     ⊎ Contains new.jobs job
     ⊎ ((why : DropWhy) × (outcome ≡ outcomes.Dropped why))
     ⊎ EndsByRow m actor job outcome new
-    ⊎ CannotBeReady m actor

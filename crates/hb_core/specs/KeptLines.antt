@@ -1,11 +1,12 @@
--- What every machine keeps of its script's lines, and of what its file says of itself.
-use Rattle.std.specs.Prelude.{◌<◌, ◌≤◌, ◌^◌, ℕ, All, IfSome}
+-- What every machine keeps of its script's lines, of what its file says of itself, and of the log's area.
+use Rattle.std.specs.Prelude.{◌≡◌, ◌<◌, ◌≤◌, ◌^◌, ℕ, All, IfSome}
 use Rattle.hb_set.specs.declared.commands.Command.{Command}
 use Rattle.hb_set.specs.declared.commands.Command.TheVariants.{Insert, Delete, Lookup, Search}
 use Rattle.hb_set.specs.declared.scripts.Line.{Line}
 use Rattle.hb_activity.specs.Classes.{line_in_hand}
 use Rattle.hb_core.specs.Machines.{Machine}
 use Rattle.hb_layout.specs.Limits.{IsLayout}
+use Rattle.hb_layout.specs.Offsets.{log_start}
 use Rattle.hb_space.specs.Points.{IsBody}
 
 -- what a command would store can be stored
@@ -30,3 +31,8 @@ pub record MetaWithinLimits (m : Machine) : Type 0 where
   pub live : m.store.meta.live ≤ m.store.meta.pages
   pub root : m.store.meta.root < 2 ^ 32
   pub free : m.store.meta.free < 2 ^ 32
+
+-- The log is the area of the store's turn.
+pub record LogInPlace (m : Machine) : Type 0 where
+  pub area : m.store.log.area ≡ log_start m.store.turn m.store.meta
+  pub len : m.store.log.len ≡ m.store.meta.log

@@ -4,7 +4,7 @@ use Rattle.hb_set.specs.Machine.{RecordSet}
 use Rattle.hb_core.specs.KeptOrder.{HasLegalOrder, HasPendingPrefix}
 use Rattle.hb_core.specs.Keeps.{HasNoOtherLatches, HasNobodyElse, HasSoundFile, HoldsPagesOfFile, KnowsRoom, LatchesFit, WalksInSpace}
 use Rattle.hb_core.specs.KeptFits.{AttributesFit, HaveClasses, RunsWithStore, WorkersStand}
-use Rattle.hb_core.specs.KeptLines.{LinesFit, MetaWithinLimits}
+use Rattle.hb_core.specs.KeptLines.{LinesFit, LogInPlace, MetaWithinLimits}
 use Rattle.hb_core.specs.KeptPlaces.{AnswersAreSingle, MarksRise, OrderIsShort, RepliesStand}
 use Rattle.hb_core.specs.KeptSearches.{SearchesAreExact, SearchesGather}
 use Rattle.hb_core.specs.KeptSequence.{LinesInSequence}
@@ -15,6 +15,8 @@ use Rattle.hb_core.specs.Using.{FramesFit}
 pub record MachineKeeps (m : Machine) : Type 0 where
   -- what the file says of itself is within its limits
   pub meta_within_limits : MetaWithinLimits m
+  -- the log is the area of its turn
+  pub log_in_place : LogInPlace m
   -- what the lines would store can be stored, and all points and boxes have the file's number of attributes
   pub lines_fit : LinesFit m
   pub attributes_fit : AttributesFit m

@@ -1,5 +1,5 @@
 -- What a step leaves alone, as laws.
-use Rattle.std.specs.Prelude.{◌≡◌, ◌≢◌, ◌⊎◌, ℕ, ◌+◌, ◌≤◌, List, [], ◌∷◌, ◌++◌, Some, None}
+use Rattle.std.specs.Prelude.{◌≡◌, ◌≢◌, ◌⊎◌, ℕ, ◌+◌, ◌≤◌, List, [], ◌∷◌, ◌++◌, Some, None, IsSome}
 use Rattle.std.specs.List.{Contains}
 use Rattle.hb_frag.specs.declared.pages.LivePage.{LivePage}
 use Rattle.hb_frag.specs.declared.pages.Page.TheVariants.{Live}
@@ -13,13 +13,14 @@ use Rattle.hb_core.specs.Fetching.{MustStay}
 use Rattle.hb_core.specs.Keeps.{HasSoundFile, HoldsPagesOfFile, LatchesFit}
 use Rattle.hb_core.specs.Machines.{Files, Machine, current_file, live_here}
 use Rattle.hb_core.specs.Performing.{given_by}
-use Rattle.hb_core.specs.Forcing.{HasMoreToFlush}
+use Rattle.hb_core.specs.Forcing.{HasOldTurn}
 use Rattle.hb_core.specs.Steps.{StepsTo}
 use Rattle.hb_latch.specs.Tables.{mode_at}
 use Rattle.hb_space.specs.Actors.{IsActor}
 use Rattle.hb_ops.specs.Files.{FileState}
 use Rattle.hb_set.specs.Order.{Entry}
 use Rattle.hb_sound.specs.PointWalks.{HasWalk, IsPointOf, IsResponsible, LeadsFurther}
+use Rattle.hb_store.specs.Held.{oldest_dirty}
 use Rattle.hb_store.specs.States.{in_memory}
 
 -- An actor has a page for itself: it holds it so; or its step wants it so, and nobody is in the way.
@@ -82,13 +83,20 @@ WalksGoFurther = (m : Machine) (files : Files) (actor held : ℕ) (page : LivePa
     walk_held (m.activity actor) ≡ Some held → walk_point (m.activity actor) ≡ Some p → live_here m.store held ≡ Some page → wanted_by m actor ≡ Some wanted →
     LeadsFurther (current_file files) p page wanted.page
 
--- A step that makes no device call leaves the clock. A force, which has a group that waits, moves it by four at most; a page
--- that is written to its place by one.
-abbrev pub ClockMoves : Type 0
-ClockMoves = (m : Machine) (actor : ℕ) (outcome : Outcome) (new : Machine) → StepsTo m actor outcome new →
+-- A step that makes no device call leaves the clock. A force, which has a group that waits, moves it by four at most, a page that is
+-- written to its place by one, and the beginning of a turn by nine.
+abbrev pub ClockMovesBy : ℕ → Machine → Machine → Type 0
+ClockMovesBy most m new = (m.clock ≤ new.clock) × (new.clock ≤ m.clock + most)
+
+abbrev pub MovesClock : Machine → Machine → Type 0
+MovesClock m new =
     (new.clock ≡ m.clock)
-    ⊎ ((m.store.log.groups ≢ []) × (m.clock ≤ new.clock) × (new.clock ≤ m.clock + 4))
-    ⊎ (HasMoreToFlush m × (m.clock ≤ new.clock) × (new.clock ≤ m.clock + 1))
+    ⊎ ((m.store.log.groups ≢ []) × ClockMovesBy 4 m new)
+    ⊎ ((m.store.log.groups ≡ []) × IsSome (oldest_dirty m.uses) × ClockMovesBy 1 m new)
+    ⊎ ((m.store.log.groups ≡ []) × HasOldTurn m × ClockMovesBy 9 m new)
+
+abbrev pub ClockMoves : Type 0
+ClockMoves = (m : Machine) (actor : ℕ) (outcome : Outcome) (new : Machine) → StepsTo m actor outcome new → MovesClock m new
 
 -- A line is answered by the step whose outcome says so, with the clock after it, and by no other.
 abbrev pub AnswersAreTimed : Type 0

@@ -1,4 +1,3 @@
-pub mod Stages
 pub mod Machines
 pub mod Asking
 pub mod Fetching
@@ -60,7 +59,7 @@ pub mod OneInsert
 pub mod ChainOfTwo
 pub mod ChainOfPosting
 pub mod ChainBesidePoster
-pub mod ChainOfFullLog
+pub mod ChainOfNewTurn
 pub mod ChainOfCommands
 pub mod ChainOfFreePage
 pub mod ChainOfMerging

@@ -44,6 +44,7 @@ after_insert = record {
   jobs = [];
   order = record { line = inserts_a; reply = replies.Done } ∷ [];
   meta = flat_meta;
+  turn = 1;
   written = 4129;
   groups = [];
   pages = (1, Live (page_of_records (letter_a ∷ []))) ∷ [];

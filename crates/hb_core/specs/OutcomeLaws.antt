@@ -31,7 +31,7 @@ pub record RefusesSearch (m : Machine) (actor : ℕ) (outcome : Outcome) (new : 
 -- A step that want of memory or a fault of the device has turned aside: such a search; a write that failed; a line or a job
 -- that is given up; or a page that is damaged.
 abbrev pub IsTurnedAside : Machine → ℕ → Outcome → Machine → Type 0
-IsTurnedAside m actor outcome new = RefusesSearch m actor outcome new ⊎ FailsToWrite m 4 outcome new ⊎ Abandons m actor outcome new ⊎ MeetsBadPage m actor outcome new
+IsTurnedAside m actor outcome new = RefusesSearch m actor outcome new ⊎ FailsToWrite m 9 outcome new ⊎ Abandons m actor outcome new ⊎ MeetsBadPage m actor outcome new
 
 -- Two steps came to the same: they say the same, and left the lines, the answers, the stop and the clock the same.
 pub record ComesToSame (outcome other : Outcome) (new next : Machine) : Type 0 where

@@ -36,6 +36,10 @@ pub record MayAwait (d : DiskModel) (c : RunningCore) (who place : ℕ) : Type 0
   pub may : (m : Machine) × MayStep d c m × (m.stop ≡ None)
   pub awaits : (number : ℕ) × (reply : Reply) × StandsAs c who (at.SessionAwait number reply place)
 
+-- the machine runs: it may flush
+abbrev pub MayFlush : DiskModel → RunningCore → Type 0
+MayFlush d c = (m : Machine) × MayStep d c m × (m.stop ≡ None)
+
 -- ---- a step that wants a latch or changes the file
 
 -- the actor is at work, in a machine that runs

@@ -79,9 +79,9 @@ pub record CountsFaults (d e : DiskModel) (answers : List Answered) (before afte
   pub read : HasReadFault answers → Rose d.read_faults e.read_faults
   pub write : after ≡ Some stops.WriteFault → (before ≡ Some stops.WriteFault → ⊥) → Rose d.write_faults e.write_faults
 
--- Nothing outside the file becomes other bytes, where the log's area is a part of it.
+-- Nothing outside the file becomes other bytes.
 abbrev pub ChangesFile : StoreState → List ℕ → List ℕ → Type 0
-ChangesFile st before after = st.log.area + st.log.len ≤ file_size st.meta → Torn 0 (file_size st.meta) before after
+ChangesFile st before after = Torn 0 (file_size st.meta) before after
 
 -- Steps of these actors led from the machine to one that the core shows now, and these are the answers that came. What is known of a
 -- machine of which a core takes steps stays known. Only bytes of the file may be other ones. Over a disk that tells, and from a

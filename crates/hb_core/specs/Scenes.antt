@@ -25,15 +25,14 @@ use Rattle.hb_wal.specs.Log.{Waiting}
 pub record Scene : Type 0 where
   pub lines : List Line
   pub answered : List Answered
-  -- who is at work, and at what
   pub at_work : List (ℕ × Activity)
   -- each latch, by its actor and its page
   pub latched : List ((ℕ × ℕ) × Mode)
   pub jobs : List Job
   pub order : List Entry
-  -- what the file says of itself
+  -- what the file says of itself; the log's turn, how much of the log is written, and the groups that wait
   pub meta : Meta
-  -- how much of the log is written, and the groups that wait
+  pub turn : ℕ
   pub written : ℕ
   pub groups : List Waiting
   -- the pages in memory, the least recently used first; those in this turn's log, and those to be written to their places still
@@ -45,7 +44,7 @@ pub record Scene : Type 0 where
   pub later : List FileState
   pub clock : ℕ
 
--- at the start: these lines and jobs wait, these pages are in memory, and all else is this file alone
+-- at the start: these lines and jobs wait, these pages are in memory, and all else is this file alone, in its second turn
 abbrev pub at_start : List Line → List Job → List (ℕ × Page) → FileState → Scene
 at_start lines jobs pages file = record {
   lines = lines;
@@ -55,6 +54,7 @@ at_start lines jobs pages file = record {
   jobs = jobs;
   order = [];
   meta = file.meta;
+  turn = 1;
   written = 0;
   groups = [];
   pages = pages;
@@ -74,12 +74,12 @@ abbrev pub standing : List (ℕ × Activity) → ℕ → Activity
 standing [] actor = at_rest actor
 standing (one ∷ rest) actor = if actor == one.0 then one.1 else standing rest actor
 
--- the store of a scene: a disk of the second turn
+-- the store of a scene
 abbrev pub store_of : Scene → StoreState
 store_of s = record {
-  turn = 1;
+  turn = s.turn;
   meta = s.meta;
-  log = record { area = log_start 1 s.meta; len = s.meta.log; written = s.written; groups = s.groups };
+  log = record { area = log_start s.turn s.meta; len = s.meta.log; written = s.written; groups = s.groups };
   pages = finite.from_entries s.pages;
   in_log = set.from_list s.in_log;
   dirty = set.from_list s.dirty;

@@ -15,8 +15,7 @@ use Rattle.hb_activity.specs.Deeds.{Deed, answers_now, takes_job}
 use Rattle.hb_consol.specs.ConsolidatorRows.{IsMergingOf}
 use Rattle.hb_core.specs.Acting.{DoesRow, Abandons, MeetsBadPage}
 use Rattle.hb_core.specs.Asking.{HasWayFree, IsInTheWay, looked_live, wanted_by}
-use Rattle.hb_core.specs.Forcing.{Flushes, ForcesAll, StaysSo, FlushesOnce}
-use Rattle.hb_core.specs.GivingUp.{runs_out}
+use Rattle.hb_core.specs.Forcing.{Flushes, FlushesOnce, ForcesAll, StaysSo}
 use Rattle.hb_core.specs.Locking.{HasBoxFree, IsBoxInTheWay}
 use Rattle.hb_core.specs.Machines.{Machine, settled_count}
 use Rattle.hb_core.specs.Performing.{PerformsAsItIs}
@@ -40,14 +39,15 @@ IsCrowded m actor = (places m.uses ≡ 0) × IsSomeAnd (wanted_by m actor) (λ w
 abbrev pub IsUnready : Machine → ℕ → Type 0
 IsUnready m actor = (IsTrue (may_change_file m actor) × (¬ (MayChange m))) ⊎ IsCrowded m actor
 
-abbrev pub GetsReady : Machine → ℕ → Outcome → Machine → Type 0
-GetsReady m actor outcome new = FlushesOnce m outcomes.Helped (PerformsAsItIs m actor (runs_out (m.activity actor)) outcome new) outcome new
+-- It flushes once: something is left to flush then, always.
+abbrev pub GetsReady : Machine → Outcome → Machine → Type 0
+GetsReady m outcome new = FlushesOnce m outcomes.Helped ⊥ outcome new
 
--- A step that wants a latch or changes the file: another actor is in the way; or the log isn't ready; or it may be done.
+-- A step that wants a latch or changes the file: another actor is in the way; or log and memory aren't ready; or it may be done.
 abbrev pub Works : Machine → ℕ → Outcome → Machine → Type 0
 Works m actor outcome new =
     ((by : ℕ) × IsInTheWay m actor by × StaysSo m (outcomes.Blocked by) outcome new)
-    ⊎ (HasWayFree m actor × IsUnready m actor × GetsReady m actor outcome new)
+    ⊎ (HasWayFree m actor × IsUnready m actor × GetsReady m outcome new)
     ⊎ (HasWayFree m actor × (¬ (IsUnready m actor)) × (DoesRow m actor outcome new ⊎ Abandons m actor outcome new ⊎ MeetsBadPage m actor outcome new))
 
 -- An idle poster takes its oldest job.
@@ -88,7 +88,7 @@ BeginsLine m actor line outcome new =
     ((by : ℕ) × IsBoxInTheWay m actor (lock_of_command line.command) by × StaysSo m (outcomes.Blocked by) outcome new)
     ⊎ (HasBoxFree m actor (lock_of_command line.command) × (PerformsAsItIs m actor (taking line) outcome new ⊎ (WantsBoxes line.command × PerformsAsItIs m actor (answers_now line.number replies.NoMemory) outcome new)))
 
--- One step of an activity. The flusher has no step before it takes any.
+-- One step of an activity.
 abbrev pub StepsAs : Activity → Machine → ℕ → Outcome → Machine → Type 0
 StepsAs at.SessionIdle m actor outcome new = MatchOption (next_line actor m.answered m.lines) (StaysSo m outcomes.Idle outcome new) (λ line. BeginsLine m actor line outcome new)
 StepsAs (at.SessionAwait number reply place) m actor outcome new = AwaitsPlace m actor number reply place outcome new

@@ -1,7 +1,7 @@
 -- What a step does to the disk.
 use Rattle.hb_core.specs.Machines.{Machine}
 use Rattle.hb_core.specs.Working.{MayStep}
-use Rattle.std.specs.Prelude.{◌≡◌, ◌⊎◌, ◌↔◌, ℕ, [], Some, Result, IsErr}
+use Rattle.std.specs.Prelude.{◌≡◌, ◌⊎◌, ◌↔◌, ◌<◌, ℕ, [], None, Some, Result, IsErr}
 use Rattle.hb_disk.specs.Calls.{ReadsOnly}
 use Rattle.hb_disk.specs.Model.{DiskModel}
 use Rattle.hb_set.specs.declared.commands.Reply.TheVariants as replies
@@ -10,6 +10,7 @@ use Rattle.hb_store.specs.declared.stops.WriteFault.{WriteFault}
 use Rattle.hb_store.specs.declared.stops.StopWhy.TheVariants as stops
 use Rattle.hb_store.specs.Forced.{WritesGroups}
 use Rattle.hb_store.specs.Held.{StoreHeld, oldest_dirty}
+use Rattle.hb_store.specs.Switching.{SwitchesTurn}
 use Rattle.hb_store.specs.WritingHome.{WritesHome}
 use Rattle.hb_core.specs.declared.halts.Halt.{Halt}
 use Rattle.hb_core.specs.declared.halts.Halt.TheVariants.{GivesUp, Stops}
@@ -52,9 +53,19 @@ pub record WritesPage (d : DiskModel) (old : RunningCore) (outcome : Outcome) (e
   pub says : IsErr result ↔ (outcome ≡ outcomes.Stopped stops.WriteFault)
   pub no_read : ¬ (EndsByRead outcome)
 
--- A step reads at most, or it forces, or it writes a page to its place.
+-- No group waited and no page was dirty, and it began the next turn of a log that has a frame; and is stopped where that failed.
+pub record BeginsNextTurn (d : DiskModel) (old : RunningCore) (outcome : Outcome) (e : DiskModel) (new : RunningCore) : Type 0 where
+  pub result : Result (Unit {0}) WriteFault
+  pub no_group : old.store.log.groups ≡ []
+  pub clean : oldest_dirty old.uses ≡ None
+  pub some : 0 < old.store.log.written
+  pub switches : SwitchesTurn result d e (held_in old) (held_in new)
+  pub says : IsErr result ↔ (outcome ≡ outcomes.Stopped stops.WriteFault)
+  pub no_read : ¬ (EndsByRead outcome)
+
+-- A step reads at most, or it forces, or it writes a page to its place, or it begins the log's next turn.
 abbrev pub Touches : DiskModel → RunningCore → Outcome → DiskModel → RunningCore → Type 0
-Touches d old outcome e new = ReadsAtMost d old outcome e ⊎ Forces d old outcome e new ⊎ WritesPage d old outcome e new
+Touches d old outcome e new = ReadsAtMost d old outcome e ⊎ Forces d old outcome e new ⊎ WritesPage d old outcome e new ⊎ BeginsNextTurn d old outcome e new
 
 -- A part of a step: what it makes of each machine that the core shows, and what it does to the disk.
 pub record StepsSo (so : Machine → Type 0) (d : DiskModel) (old : RunningCore) (outcome : Outcome) (e : DiskModel) (new : RunningCore) : Type 0 where

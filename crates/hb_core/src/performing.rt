@@ -15,7 +15,7 @@ ghost use Rattle.hb_store.specs.States.{StoreState};
 ghost use Rattle.hb_core.specs.declared.halts.Halt.TheVariants as halts;
 ghost use Rattle.hb_activity.specs.declared.dropping.DropWhy.TheVariants as drops;
 ghost use Rattle.hb_core.specs.CoreSeen.{core_seen, core_disk, Alters, ChangesBy};
-ghost use Rattle.hb_core.specs.GivingUp.{gives_up, reply_for, runs_out};
+ghost use Rattle.hb_core.specs.GivingUp.{gives_up, reply_for};
 ghost use Rattle.hb_core.specs.KeptFits.{class_for};
 ghost use Rattle.hb_core.specs.Machines.{live_here};
 ghost use Rattle.hb_core.specs.Moving.{AreApart, DoesDeed, KeepsFilesBy, KeepsStaying, MayCommit, MayHave, MayStand, Queues, StandsFree, StandsNow, StandsAs, joins_order, number_of, placed, placed_at, pushed, said, with_jobs, with_latches, with_order, with_order_of_use, with_store};
@@ -233,27 +233,6 @@ impl<D: Device> Core<D> {
                 reply: reply_for(why),
             },
             None => Outcome::Dropped(why),
-        }
-    }
-
-    /// The log has no room, and nothing is left to flush: the line is `full`, and a job is dropped.
-    pub(crate) fn run_out(&mut self, actor: Actor) -> Outcome
-        requires actor { IsActor actor }
-        requires walks { (activity : _) → StandsAs (core_seen self.old) actor activity → IsSome (walk_held activity) → IsSome (option_and_then (live_here (core_seen self.old).store) (walk_held activity)) }
-        requires pins { (activity : _) → StandsAs (core_seen self.old) actor activity → CanUnpin (pages_of (latches_held (core_seen self.old).store activity)) (core_seen self.old).uses }
-        requires tied { IsTied (core_seen self.old).store (core_seen self.old).uses }
-        ensures { Alters (λ c after. (state : _) → StandsAs c actor state → IsWorking state → class_of state ≡ class_for actor →
-            DoesDeed actor (pages_of (latches_held c.store state)) (runs_out state) result c after) self.old self.new }
-    {
-        let line = self.line_in_hand(actor);
-        let pins = self.held_pages(actor);
-        self.stand_with(actor, idle(actor), pins.as_slice());
-        match line {
-            Some(line) => Outcome::Answered {
-                line,
-                reply: Reply::Full,
-            },
-            None => Outcome::Moved,
         }
     }
 }

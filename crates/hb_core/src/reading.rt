@@ -1,11 +1,11 @@
 //! A core that has taken no step, and what can be read of a core.
-ghost use Rattle.std.specs.Prelude.{◌≡◌, ◌↔◌, ◌<◌, ◌≤◌, ◌+◌, ◌^◌, ◌++◌, length, count_by, vec_capacity, IfOk, IfErr, IfSome, IsSome, IsTrue, Some, None, [], ◌∷◌, replicate, if◌then◌else◌};
+ghost use Rattle.std.specs.Prelude.{◌≡◌, ◌↔◌, ◌<◌, ◌≤◌, ◌+◌, ◌*◌, ◌^◌, ◌++◌, length, count_by, vec_capacity, IfOk, IfErr, IfSome, IsSome, IsTrue, Some, None, [], ◌∷◌, replicate, if◌then◌else◌};
 ghost use Rattle.std.specs.List.{slice_get};
 ghost use Rattle.hb_space.specs.Actors.{IsActor};
 ghost use Rattle.hb_store.specs.Seen.{seen_as, disk_of, uses_of};
 ghost use Rattle.hb_ops.specs.Files.{if_live};
 ghost use Rattle.hb_view.specs.Views.{IsLive};
-ghost use Rattle.hb_wal.specs.Log.{mark_of};
+ghost use Rattle.hb_wal.specs.Log.{mark_of, room_of};
 ghost use Rattle.hb_core.specs.CoreSeen.{core_seen, core_disk};
 ghost use Rattle.hb_activity.specs.Classes.{idle_of};
 ghost use Rattle.hb_core.specs.KeptFits.{IsOfSession, class_for};
@@ -99,6 +99,13 @@ impl<D: Device> Core<D> {
         ensures { result ≡ mark_of (core_seen self.now).store.log.groups (length (core_seen self.now).order) }
     {
         self.store.settled(self.order.len() as u32)
+    }
+
+    /// Whether it is time to flush: twice the room that the log has is less than its area.
+    pub fn flush_due(&self) -> bool
+        ensures { IsTrue result ↔ (2 * room_of (core_seen self.now).store.log < (core_seen self.now).store.meta.log) }
+    {
+        2 * u64::from(self.store.room()) < u64::from(self.store.meta().log)
     }
 
     /// Why nothing more is done. `None` where the core isn't stopped.

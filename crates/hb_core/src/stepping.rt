@@ -11,11 +11,12 @@ ghost use Rattle.hb_poster.specs.PosterRows.{IsPostingOf};
 ghost use Rattle.hb_consol.specs.ConsolidatorRows.{IsMergingOf};
 ghost use Rattle.hb_core.specs.Moving.{StandsAs, with_standing, with_stop};
 ghost use Rattle.hb_core.specs.Showing.{ShowsMachine};
-ghost use Rattle.hb_core.specs.Steps.{AwaitsPlace, GetsReady, StepsTo};
+ghost use Rattle.hb_core.specs.Forcing.{FlushesOnce, SaysItFlushed, StaysSo};
+ghost use Rattle.hb_core.specs.Steps.{AwaitsPlace, StepsTo};
 ghost use Rattle.hb_core.specs.Touching.{StepsSo, Touches};
 ghost use Rattle.hb_core.specs.Taking.{TakesNextLine, TakesNextMerging, TakesNextPosting};
-ghost use Rattle.hb_core.specs.Working.{IsWorking, MayStep};
-ghost use Rattle.hb_core.specs.Relied.{AwaitsSomePlace, MayTakeLine, IsAtWork, MayAwait};
+ghost use Rattle.hb_core.specs.Working.{MayStep};
+ghost use Rattle.hb_core.specs.Relied.{AwaitsSomePlace, MayAwait, MayFlush, MayTakeLine};
 
 use crate::halts::copy_of;
 use crate::locking::first_against;
@@ -54,7 +55,7 @@ impl<D: Device> Core<D> {
             }
             Activity::PosterIdle => self.take_posting(actor),
             Activity::ConsolidatorIdle => self.take_merging(actor),
-            Activity::Flusher => Outcome::Idle,
+            Activity::Flusher => self.flush(Outcome::Moved),
             _ => self.work(actor),
         }
     }
@@ -162,18 +163,19 @@ impl<D: Device> Core<D> {
         }
     }
 
-    /// Flushes once, where a change isn't ready. Where nothing is left to flush, the line is answered `full`, or the job is
-    /// dropped.
-    pub(crate) fn get_ready(&mut self, actor: Actor) -> Outcome
-        requires { IsAtWork (D.model (core_disk self.old)) (core_seen self.old) actor }
-        ensures { StepsSo (λ m. m.stop ≡ None → IsWorking (m.activity actor) →
-            (new : Machine) × GetsReady m actor result new × ShowsMachine (D.model (core_disk self.new)) (core_seen self.new) new)
+    /// Flushes once, and says what is due then; `Idle` where nothing is left to flush.
+    pub(crate) fn flush(&mut self, due: Outcome) -> Outcome
+        requires may { MayFlush (D.model (core_disk self.old)) (core_seen self.old) }
+        requires due { SaysItFlushed due }
+        ensures { StepsSo (λ m. m.stop ≡ None →
+            (new : Machine) × FlushesOnce m due (StaysSo m outcomes.Idle result new) result new × ShowsMachine (D.model (core_disk self.new)) (core_seen self.new) new)
             (D.model (core_disk self.old)) (core_seen self.old) result (D.model (core_disk self.new)) (core_seen self.new) }
     {
         match self.store.flush_step() {
-            Ok(Flushed::Forced) => Outcome::Helped,
-            Ok(Flushed::Written(_)) => Outcome::Helped,
-            Ok(Flushed::Nothing) => self.run_out(actor),
+            Ok(Flushed::Nothing) => Outcome::Idle,
+            Ok(Flushed::Forced) => due,
+            Ok(Flushed::Written(_)) => due,
+            Ok(Flushed::Switched) => due,
             Err(_fault) => self.stop_for(StopWhy::WriteFault),
         }
     }

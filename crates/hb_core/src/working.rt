@@ -32,7 +32,8 @@ use hb_space::Actor;
 use hb_store::a_store_keeps_one_file;
 
 impl<D: Device> Core<D> {
-    /// Does the row of the actor's activity, unless another actor is in the way, or the log isn't ready for a change.
+    /// Does the row of the actor's activity, unless another actor is in the way. Flushes once instead, where log and
+    /// memory aren't ready for it.
     pub(crate) fn work(&mut self, actor: Actor) -> Outcome
         requires { IsAtWork (D.model (core_disk self.old)) (core_seen self.old) actor }
         ensures works { (m : Machine) → MayStep (D.model (core_disk self.old)) (core_seen self.old) m → m.stop ≡ None → IsWorking (m.activity actor) →
@@ -44,7 +45,7 @@ impl<D: Device> Core<D> {
             return Outcome::Blocked { by };
         }
         if self.is_unready(actor, wanted) {
-            return self.get_ready(actor);
+            return self.flush(Outcome::Helped);
         }
         let line = self.line_in_hand(actor);
         let pins = self.held_pages(actor);

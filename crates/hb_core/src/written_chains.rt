@@ -4,8 +4,8 @@
 ghost use Rattle.hb_core.specs.ChainBesidePoster.{SessionsBesidePoster};
 ghost use Rattle.hb_core.specs.ChainOfCommands.{CommandsOfOne};
 ghost use Rattle.hb_core.specs.ChainOfFreePage.{FreePageIsTaken, NoPageIsFree};
-ghost use Rattle.hb_core.specs.ChainOfFullLog.{LogHasNoRoom};
 ghost use Rattle.hb_core.specs.ChainOfMerging.{MergeIsGivenUp, PairBecomesOne};
+ghost use Rattle.hb_core.specs.ChainOfNewTurn.{FlusherFlushesAll, LogBeginsAgain};
 ghost use Rattle.hb_core.specs.ChainOfPosting.{OnePosting};
 ghost use Rattle.hb_core.specs.ChainOfReadFault.{RootIsNotRead};
 ghost use Rattle.hb_core.specs.ChainOfThreePages.{FullGoesOn};
@@ -53,10 +53,12 @@ pub fn one_session_changes_nothing()
     ensures { CommandsOfOne }
 {}
 
-/// Where the log has no room, a session forces the group that waits, and once none does its line is `full`.
-#[tactic(auto, using(crate::proofs::Chains::ChainOfFullLog::log_has_no_room))]
-pub fn a_line_finds_the_log_full()
-    ensures { LogHasNoRoom }
+/// Where the log has no room, a session forces the group that waits, writes the pages to their places and
+/// begins the log's next turn; then its record is put. The flusher flushes all of this by itself.
+#[tactic(auto, using(crate::proofs::Chains::ChainOfNewTurn::log_begins_again, crate::proofs::Chains::ChainOfNewTurn::flusher_flushes_all))]
+pub fn the_log_begins_again()
+    ensures session { LogBeginsAgain }
+    ensures flusher { FlusherFlushesAll }
 {}
 
 /// A split takes the number of the page that is free, which comes into memory first; where none is free and

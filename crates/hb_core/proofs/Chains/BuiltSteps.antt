@@ -124,7 +124,7 @@ does_op s op may = record {
     in_log = λ id. in_log_is (with_done op s) id ∙ among_in_log id (change_in s op).pages (reads_of op) s.in_log
         ∙ sym (λ i. has_page id (change_is s op i).pages || (is_among id (reads_of op) || in_log_is s id i));
     dirty = λ id. set_has (with_done op s).dirty id ∙ among_pages id (change_in s op).pages s.dirty ∙ sym (λ i. has_page id (change_is s op i).pages || set_has s.dirty id i);
-    area = ap (λ (n : ℕ). 2 * PAGE + (1 % 2) * n) may.log;
+    area = ap (λ (n : ℕ). 2 * PAGE + (s.turn % 2) * n) may.log;
     len = may.log;
     written = refl;
     group = group_bytes (group_in s op);

@@ -1,21 +1,18 @@
--- A step is built that flushes: a force, a page that is written to its place, and a line that is given up where neither makes room.
-use Rattle.std.proofs.Common.{◌≡◌, ◌≢◌, inl, inr, ℕ, ◌+◌, List, [], length, Option, Some, None, IsSome, refl, ap}
-use Rattle.std.specs.Option.{is_some}
-use Rattle.hb_activity.specs.declared.jobs.Job.{Job}
-use Rattle.hb_core.proofs.Chains.BuiltSteps.{IsClearIn, IsUsedAsItIs, MayBeIn, after_as_it_is, performed, way_free}
+-- A step is built that flushes: a force, a page that is written to its place, and the log's next turn.
+use Rattle.std.proofs.Common.{◌≡◌, ◌≢◌, inl, inr, ℕ, ◌+◌, ◌<◌, [], length, Some, None, refl}
+use Rattle.hb_core.proofs.Chains.BuiltSteps.{IsClearIn, way_free}
 use Rattle.hb_core.proofs.Chains.OrderOfUse.{cleaned_set, without}
 use Rattle.hb_core.specs.declared.outcomes.Outcome.{Outcome}
 use Rattle.hb_core.specs.declared.outcomes.Outcome.TheVariants as outcomes
-use Rattle.hb_core.specs.Forcing.{ForcesAll}
-use Rattle.hb_core.specs.GivingUp.{runs_out}
-use Rattle.hb_core.specs.Machines.{with_disk, with_uses}
-use Rattle.hb_core.specs.Performing.{ChangesQueue, outcome_of}
-use Rattle.hb_core.specs.Scenes.{Scene, machine_of, standing, store_of, uses_in}
+use Rattle.hb_core.specs.Forcing.{Flushes, FlushesOnce, ForcesAll}
+use Rattle.hb_core.specs.Machines.{Machine, with_disk, with_uses}
+use Rattle.hb_core.specs.Scenes.{Scene, machine_of, store_of, uses_in}
 use Rattle.hb_core.specs.Steps.{IsUnready, Works}
 use Rattle.hb_pool.specs.Frames.{clean}
 use Rattle.hb_pool.specs.Pools.{in_place}
 use Rattle.hb_store.specs.Held.{oldest_dirty}
 use Rattle.hb_store.specs.Parts.{last_of}
+use Rattle.hb_store.specs.Switching.{switched_state}
 use Rattle.hb_wal.specs.Forces.{calls_of_force}
 use Rattle.hb_wal.specs.Frames.{frames}
 use Rattle.hb_wal.specs.Log.{forced}
@@ -32,45 +29,44 @@ forced_scene s = record s {
 pub forces : (s : Scene) (done : Outcome) → ForcesAll (machine_of s) done done (machine_of (forced_scene s))
 forces s done = inl (refl, refl)
 
--- ---- a log that isn't ready
-
--- the groups that wait are forced instead
-pub helps : (s : Scene) (actor : ℕ) → IsClearIn s actor → IsUnready (machine_of s) actor → s.groups ≢ [] → Works (machine_of s) actor outcomes.Helped (machine_of (forced_scene s))
-helps s actor clear unready waits = inr (inl (way_free s actor clear, unready, inl (waits, forces s outcomes.Helped)))
-
--- none waits, and the least recently used page that is to be written to its place is written there
 abbrev pub cleaned_scene : ℕ → Scene → Scene
 cleaned_scene id s = record s { dirty = without id s.dirty; clock = s.clock + 1 }
 
-pub cleans : (s : Scene) (actor id : ℕ) → IsClearIn s actor → IsUnready (machine_of s) actor → s.groups ≡ [] → oldest_dirty (uses_in s) ≡ Some id → uses_in (cleaned_scene id s) ≡ in_place id clean (uses_in s)
-    → Works (machine_of s) actor outcomes.Helped (machine_of (cleaned_scene id s))
-cleans s actor id clear unready none oldest used = inr (inl (
-  way_free s actor clear,
-  unready,
-  inr (
+abbrev pub begun_scene : Scene → Scene
+begun_scene s = record s { turn = (switched_state (store_of s)).turn; written = 0; groups = []; in_log = []; clock = s.clock + 9 }
+
+-- ---- what a step flushes, and says then
+
+module _ (s : Scene) (due : Outcome) (nothing : Type 0) where
+  -- the groups that wait are forced
+  pub flushes_groups : s.groups ≢ [] → FlushesOnce (machine_of s) due nothing due (machine_of (forced_scene s))
+  flushes_groups waits = inl (waits, forces s due)
+
+  -- none waits, and the least recently used page that is to be written to its place is written there
+  pub cleans : (id : ℕ) → s.groups ≡ [] → oldest_dirty (uses_in s) ≡ Some id → uses_in (cleaned_scene id s) ≡ in_place id clean (uses_in s)
+      → FlushesOnce (machine_of s) due nothing due (machine_of (cleaned_scene id s))
+  cleans id none oldest used = inr (
     none,
     inl (
-      ap (λ (o : Option ℕ). is_some o) oldest,
-      record {
-        page = id;
-        oldest = oldest;
+      id,
+      oldest,
+      inl (record {
         says = refl;
         leaves = λ i. with_uses (used i) (with_disk (record (store_of s) { dirty = cleaned_set id s.dirty i }) (Some (record { durable = s.durable; later = s.later })) (s.clock + 1) (machine_of s));
-      },
+      }),
     ),
-  ),
-))
+  )
 
--- none waits and none is to be written, so that nothing makes room
-pub gives_out : (s : Scene) (actor : ℕ) (jobs : List Job) → IsClearIn s actor → IsUnready (machine_of s) actor → s.groups ≡ [] → oldest_dirty (uses_in s) ≡ None
-    → ChangesQueue (runs_out (standing s.at_work actor)) s.jobs jobs → MayBeIn s (runs_out (standing s.at_work actor)).op → IsUsedAsItIs actor (runs_out (standing s.at_work actor)) jobs s
-    → Works (machine_of s) actor (outcome_of (runs_out (standing s.at_work actor)).says) (machine_of (after_as_it_is actor (runs_out (standing s.at_work actor)) jobs s))
-gives_out s actor jobs clear unready none clean_all queue may used = inr (inl (
-  way_free s actor clear,
-  unready,
-  inr (none, inr (inr (none_dirty (oldest_dirty (uses_in s)) clean_all, performed s actor (runs_out (standing s.at_work actor)) jobs queue may used))),
-))
-  where
-    none_dirty : (o : Option ℕ) → o ≡ None → ¬ (IsSome o)
-    none_dirty None is some = let no : ⊥ = cc in no
-    none_dirty (Some id) is some = let no : ⊥ = cc in no
+  -- none waits and none is to be written, and the next turn begins
+  pub begins_turn : s.groups ≡ [] → oldest_dirty (uses_in s) ≡ None → 0 < s.written → FlushesOnce (machine_of s) due nothing due (machine_of (begun_scene s))
+  begins_turn none clean_all some = inr (none, inr (inl ((clean_all, some), inl (record { says = refl; leaves = refl }))))
+
+-- ---- who flushes
+
+-- an actor that can't go on before
+pub helps : (s : Scene) (actor : ℕ) (new : Machine) → IsClearIn s actor → IsUnready (machine_of s) actor → FlushesOnce (machine_of s) outcomes.Helped ⊥ outcomes.Helped new → Works (machine_of s) actor outcomes.Helped new
+helps s actor new clear unready flushes = inr (inl (way_free s actor clear, unready, flushes))
+
+-- the flusher, which has nothing left
+pub rests : (s : Scene) → s.groups ≡ [] → oldest_dirty (uses_in s) ≡ None → s.written ≡ 0 → Flushes (machine_of s) outcomes.Idle (machine_of s)
+rests s none clean_all no_frame = inr (none, inr (inr ((clean_all, no_frame), (refl, refl))))

@@ -1,4 +1,4 @@
--- What a step tells of the log and of a stop: the log's area stays where it is, and as long; and a step that stops a machine says so.
+-- What a step tells of the file's length, which stays, and of a stop: a step that stops a machine says so.
 use Rattle.std.proofs.Common.{◌≡◌, ◌⊎◌, inl, inr, ℕ, List, [], ◌∷◌, Option, Some, None, refl, ap, ◌∙◌}
 use Rattle.hb_activity.specs.Deeds.{Deed}
 use Rattle.hb_core.proofs.Table.StepKinds.{FlushesMore, each_kind, ready_kind}
@@ -20,30 +20,13 @@ use Rattle.hb_store.specs.States.{StoreState}
 use Rattle.hb_store.specs.declared.stops.StopWhy.{StopWhy}
 use Rattle.hb_wal.specs.Log.{LogState}
 
--- the log's area is where it was
-pub record KeepsLogPlace (old new : LogState) : Type 0 where
-  pub area : new.area ≡ old.area
-  pub len : new.len ≡ old.len
-
 -- nothing but what the step says has stopped the machine
 abbrev pub SaysStop : Machine → Outcome → Machine → Type 0
 SaysStop m outcome new = (new.stop ≡ m.stop) ⊎ ((why : StopWhy) × (new.stop ≡ Some why) × (outcome ≡ outcomes.Stopped why))
 
 pub record StepTells (m : Machine) (outcome : Outcome) (new : Machine) : Type 0 where
-  pub log : KeepsLogPlace m.store.log new.store.log
-  -- the file is as long as it was
   pub size : file_size new.store.meta ≡ file_size m.store.meta
   pub stop : SaysStop m outcome new
-
-same_place : (old new : LogState) → new ≡ old → KeepsLogPlace old new
-same_place old new is = record { area = ap (λ (l : LogState). l.area) is; len = ap (λ (l : LogState). l.len) is }
-
-place_by_op : (op : Option Op) (mark : ℕ) (old fetched new : StoreState) → fetched.log ≡ old.log → MayDo op mark fetched new → KeepsLogPlace old.log new.log
-place_by_op None mark old fetched new log does = same_place old.log new.log (ap (λ (st : StoreState). st.log) does ∙ log)
-place_by_op (Some op) mark old fetched new log does = record {
-  area = does.commits.area ∙ ap (λ (l : LogState). l.area) log;
-  len = does.commits.len ∙ ap (λ (l : LogState). l.len) log;
-}
 
 size_of_change : (op : Op) (meta : Meta) (first second third : Option LivePage) → IsAllowedOn op meta first second third → file_size (change_of op meta first second third).meta ≡ file_size meta
 size_of_change (Put id rec) meta None second third allowed = absurd allowed
@@ -67,37 +50,37 @@ size_by_op (Some op) mark old fetched new meta does =
 
 module _ (m : Machine) (actor : ℕ) (outcome : Outcome) (new : Machine) where
   stays : (said : Outcome) → StaysSo m said outcome new → StepTells m outcome new
-  stays said so = record { log = same_place m.store.log new.store.log (ap (λ (x : Machine). x.store.log) so.1); size = ap (λ (x : Machine). file_size x.store.meta) so.1; stop = inl (ap (λ (x : Machine). x.stop) so.1) }
+  stays said so = record { size = ap (λ (x : Machine). file_size x.store.meta) so.1; stop = inl (ap (λ (x : Machine). x.stop) so.1) }
 
   fails : {most : ℕ} → FailsToWrite m most outcome new → StepTells m outcome new
   fails failed = record {
-    log = same_place m.store.log new.store.log (ap (λ (x : Machine). x.store.log) failed.stops);
     size = ap (λ (x : Machine). file_size x.store.meta) failed.stops;
     stop = inr (_, ap (λ (x : Machine). x.stop) failed.stops, failed.says);
   }
 
   forces : (said : Outcome) → ForcesAll m said outcome new → StepTells m outcome new
   forces said (inl (says, is)) = record {
-    log = record { area = ap (λ (x : Machine). x.store.log.area) is; len = ap (λ (x : Machine). x.store.log.len) is };
     size = ap (λ (x : Machine). file_size x.store.meta) is;
     stop = inl (ap (λ (x : Machine). x.stop) is);
   }
   forces said (inr badly) = fails badly.1
 
   more : FlushesMore m outcome new → StepTells m outcome new
-  more (none, left, inl (due, plain, well)) = record {
-    log = record { area = ap (λ (x : Machine). x.store.log.area) well.leaves; len = ap (λ (x : Machine). x.store.log.len) well.leaves };
+  more (none, inl (page, oldest, due, plain, well)) = record {
     size = ap (λ (x : Machine). file_size x.store.meta) well.leaves;
     stop = inl (ap (λ (x : Machine). x.stop) well.leaves);
   }
-  more (none, left, inr failed) = fails failed
+  more (none, inr (inl (old, due, plain, turns))) = record {
+    size = ap (λ (x : Machine). file_size x.store.meta) turns.leaves;
+    stop = inl (ap (λ (x : Machine). x.stop) turns.leaves);
+  }
+  more (none, inr (inr (calls, left, failed))) = fails failed
 
-  performed : (fetched : StoreState) (deed : Deed) → fetched.log ≡ m.store.log → fetched.meta ≡ m.store.meta → Performs m fetched actor deed outcome new → StepTells m outcome new
-  performed fetched deed log meta performs = record { log = place_by_op deed.op _ m.store fetched new.store log performs.store; size = size_by_op deed.op _ m.store fetched new.store meta performs.store; stop = inl performs.stop }
+  performed : (fetched : StoreState) (deed : Deed) → fetched.meta ≡ m.store.meta → Performs m fetched actor deed outcome new → StepTells m outcome new
+  performed fetched deed meta performs = record { size = size_by_op deed.op _ m.store fetched new.store meta performs.store; stop = inl performs.stop }
 
   meets : MeetsBadPage m actor outcome new → StepTells m outcome new
   meets bad = record {
-    log = same_place m.store.log new.store.log (ap (λ (x : Machine). x.store.log) bad.stops ∙ bad.brings.rest.log);
     size = ap (λ (x : Machine). file_size x.store.meta) bad.stops ∙ ap file_size bad.brings.rest.meta;
     stop = inr (_, ap (λ (x : Machine). x.stop) bad.stops, bad.says);
   }
@@ -105,9 +88,9 @@ module _ (m : Machine) (actor : ℕ) (outcome : Outcome) (new : Machine) where
   worked : Works m actor outcome new → StepTells m outcome new
   worked (inl (by, way, so)) = stays (outcomes.Blocked by) so
   worked (inr (inl (free, unready, inl (waits, force)))) = forces outcomes.Helped force
-  worked (inr (inl (free, unready, inr (none, rest)))) = ready_kind m actor outcome new (StepTells m outcome new) none more (performed m.store _ refl refl) rest
-  worked (inr (inr (free, ready, inl acts))) = performed acts.fetched acts.deed acts.brings.rest.log acts.brings.rest.meta acts.performs
-  worked (inr (inr (free, ready, inr (inl gives)))) = performed gives.fetched _ gives.brings.rest.log gives.brings.rest.meta gives.performs
+  worked (inr (inl (free, unready, inr (none, rest)))) = ready_kind m outcome new (StepTells m outcome new) none more rest
+  worked (inr (inr (free, ready, inl acts))) = performed acts.fetched acts.deed acts.brings.rest.meta acts.performs
+  worked (inr (inr (free, ready, inr (inl gives)))) = performed gives.fetched _ gives.brings.rest.meta gives.performs
   worked (inr (inr (free, ready, inr (inr bad)))) = meets bad
 
 pub step_tells : (m : Machine) (actor : ℕ) (outcome : Outcome) (new : Machine) → StepsTo m actor outcome new → StepTells m outcome new
@@ -116,18 +99,11 @@ step_tells m actor outcome new step =
     (λ said quiet so. stays m actor outcome new said so)
     (λ said quiet force. forces m actor outcome new said force)
     (more m actor outcome new)
-    (λ deed outright performs. performed m actor outcome new m.store deed refl refl performs)
+    (λ deed outright performs. performed m actor outcome new m.store deed refl performs)
     (worked m actor outcome new)
     step
 
 -- so over many steps
-pub record FileStands (m new : Machine) : Type 0 where
-  pub log : KeepsLogPlace m.store.log new.store.log
-  pub size : file_size new.store.meta ≡ file_size m.store.meta
-
-pub file_stands : (actors : List ℕ) (m new : Machine) → StepsInSequence actors m new → FileStands m new
-file_stands [] m new is = record { log = same_place m.store.log new.store.log (ap (λ (x : Machine). x.store.log) is); size = ap (λ (x : Machine). file_size x.store.meta) is }
-file_stands (actor ∷ rest) m new (outcome, next, step, steps) =
-    let first = step_tells m actor outcome next step in
-    let further = file_stands rest next new steps in
-    record { log = record { area = further.log.area ∙ first.log.area; len = further.log.len ∙ first.log.len }; size = further.size ∙ first.size }
+pub size_stands : (actors : List ℕ) (m new : Machine) → StepsInSequence actors m new → file_size new.store.meta ≡ file_size m.store.meta
+size_stands [] m new is = ap (λ (x : Machine). file_size x.store.meta) is
+size_stands (actor ∷ rest) m new (outcome, next, step, steps) = size_stands rest next new steps ∙ (step_tells m actor outcome next step).size

@@ -1,8 +1,7 @@
 -- What a step leaves of the disk: only the file may read otherwise, and at each of its moments a crash leaves the durable file
 -- or the last one.
-use Rattle.std.proofs.Common.{◌≡◌, inl, inr, ℕ, ◌+◌, ◌≤◌, true, List, [], ◌∷◌, map, Option, Some, None, IsSome, refl, sym, ap, ◌∙◌, subst, arith}
+use Rattle.std.proofs.Common.{◌≡◌, inl, inr, ℕ, zero, suc, ◌+◌, ◌*◌, ◌%◌, ◌≤◌, true, List, [], ◌∷◌, map, Option, Some, None, IsSome, refl, sym, ap, ◌∙◌, subst, arith}
 use Rattle.std.specs.Option.{is_some}
-use Rattle.hb_core.proofs.Facts.LogAndStop.{FileStands}
 use Rattle.hb_core.proofs.Machines.FlushedFrames.{dirty_frame}
 use Rattle.hb_core.specs.KeptMachine.{MachineKeeps}
 use Rattle.hb_core.specs.Machines.{Files, Machine}
@@ -16,7 +15,7 @@ use Rattle.hb_disk.proofs.Facts.TornLaws.{Torn-itself, Torn-twice, Torn-wider}
 use Rattle.hb_disk.specs.Calls.{Becomes, Leaves, Then}
 use Rattle.hb_disk.specs.Model.{DiskModel, IsDisk, Torn}
 use Rattle.hb_lemmas.proofs.Options.{has_value, not_none, some_value}
-use Rattle.hb_layout.specs.Offsets.{file_size, page_offset}
+use Rattle.hb_layout.specs.Offsets.{file_size, log_start, page_offset, slot_offset}
 use Rattle.hb_layout.specs.declared.meta.Meta.{Meta}
 use Rattle.hb_log_codec.specs.Groups.{Logged, group_bytes}
 use Rattle.hb_ops.specs.Files.{FileState}
@@ -27,6 +26,7 @@ use Rattle.hb_store.specs.Opening.{OpensTo}
 use Rattle.hb_store.specs.Parts.{Leads, written_pages}
 use Rattle.hb_store.specs.Replay.{Replayed}
 use Rattle.hb_store.specs.States.{StoreState, in_memory}
+use Rattle.hb_store.specs.Switching.{TornSwitch}
 use Rattle.hb_wal.specs.Log.{Waiting}
 use Rattle.hb_store.proofs.Facts.StoreLaws.{StoreKeeps-opens}
 use Rattle.hb_store.specs.Keeps.{OpensToEither, StoreKeeps}
@@ -49,28 +49,50 @@ written_there m id keeps oldest =
 page_inside : (meta : Meta) (id : ℕ) → 1 ≤ id → id ≤ meta.pages → page_offset meta id + PAGE ≤ 0 + file_size meta
 page_inside meta id some most = omega (arith, some, most)
 
+log_inside : (turn : ℕ) (meta : Meta) → log_start turn meta + meta.log ≤ 0 + file_size meta
+log_inside turn meta = by (turn % 2) (omega arith)
+  where
+    by : (n : ℕ) → n ≤ 1 → 8192 + n * meta.log + meta.log ≤ 0 + file_size meta
+    by zero few = omega arith
+    by (suc zero) few = omega arith
+    by (suc (suc n)) few = absurd (omega (arith, few))
+
+place_inside : (turn : ℕ) (meta : Meta) → slot_offset turn + 41 ≤ 0 + file_size meta
+place_inside turn meta = by (turn % 2) (omega arith)
+  where
+    by : (n : ℕ) → n ≤ 1 → 4096 * n + 41 ≤ 0 + file_size meta
+    by n few = omega (arith, few)
+
+-- the other log area and the other superblock's place lie in the file
+turn_inside : (turn : ℕ) (meta : Meta) (b c : List ℕ) → TornSwitch turn meta b c → Torn 0 (file_size meta) b c
+turn_inside turn meta b c torn =
+    Torn-twice 0 (file_size meta) b torn.between c
+    (Torn-wider _ meta.log 0 (file_size meta) b torn.between (omega arith) (log_inside _ meta) torn.area)
+    (Torn-wider _ 41 0 (file_size meta) torn.between c (omega arith) (place_inside _ meta) torn.place)
+
 pub file_touched : (e f : DiskModel) (old new : RunningCore) (outcome : Outcome) (m : Machine) → IsDisk e → MachineKeeps m → m.store ≡ old.store → m.uses ≡ old.uses → Touches e old outcome f new → Becomes (ChangesFile m.store) e f
-file_touched e f old new outcome m disk keeps store used (inl reads) = Becomes-read (ChangesFile m.store) e f disk (λ b bytes within. Torn-itself 0 (file_size m.store.meta) b bytes) reads.only.stays
+file_touched e f old new outcome m disk keeps store used (inl reads) = Becomes-read (ChangesFile m.store) e f disk (λ b bytes. Torn-itself 0 (file_size m.store.meta) b bytes) reads.only.stays
 file_touched e f old new outcome m disk keeps store used (inr (inl force)) =
+    let area = keeps.log_in_place.area in
+    let len = keeps.log_in_place.len in
+    let inside = log_inside m.store.turn m.store.meta in
     Becomes-weaker (Torn m.store.log.area m.store.log.len) (ChangesFile m.store) e f
-    (λ b c torn within. Torn-wider m.store.log.area m.store.log.len 0 (file_size m.store.meta) b c (omega arith) (omega (arith, within)) torn)
+    (λ b c torn. Torn-wider m.store.log.area m.store.log.len 0 (file_size m.store.meta) b c (omega arith) (omega (arith, area, len, inside)) torn)
     (subst (λ (st : StoreState). Becomes (Torn st.log.area st.log.len) e f) (sym store) force.writes.wrote.became)
-file_touched e f old new outcome m disk keeps store used (inr (inr home)) =
+file_touched e f old new outcome m disk keeps store used (inr (inr (inl home))) =
     let there = written_there m home.page keeps (ap oldest_dirty used ∙ home.oldest) in
     Becomes-weaker (Torn (page_offset m.store.meta home.page) PAGE) (ChangesFile m.store) e f
-    (λ b c torn within. Torn-wider (page_offset m.store.meta home.page) PAGE 0 (file_size m.store.meta) b c (omega arith) (page_inside m.store.meta home.page there.0 there.1) torn)
+    (λ b c torn. Torn-wider (page_offset m.store.meta home.page) PAGE 0 (file_size m.store.meta) b c (omega arith) (page_inside m.store.meta home.page there.0 there.1) torn)
     (subst (λ (st : StoreState). Becomes (Torn (page_offset st.meta home.page) PAGE) e f) (sym store) home.writes.wrote.became)
+file_touched e f old new outcome m disk keeps store used (inr (inr (inr turns))) =
+    Becomes-weaker (TornSwitch m.store.turn m.store.meta) (ChangesFile m.store) e f (turn_inside m.store.turn m.store.meta)
+    (subst (λ (st : StoreState). Becomes (TornSwitch st.turn st.meta) e f) (sym store) turns.switches.wrote.became)
 
--- and after more steps, of a machine whose file stands where it did
-within_too : (area len size area_then len_then size_then : ℕ) → area_then ≡ area → len_then ≡ len → size_then ≡ size → area + len ≤ size → area_then + len_then ≤ size_then
-within_too area len size area_then len_then size_then at long is within = omega (arith, at, long, is, within)
-
-pub file_more : (d e f : DiskModel) (m mid : Machine) → FileStands m mid → Becomes (ChangesFile m.store) d e → Becomes (ChangesFile mid.store) e f → Becomes (ChangesFile m.store) d f
-file_more d e f m mid stands first next =
+-- and after more steps, of a machine whose file is as long
+pub file_more : (d e f : DiskModel) (m mid : Machine) → file_size mid.store.meta ≡ file_size m.store.meta → Becomes (ChangesFile m.store) d e → Becomes (ChangesFile mid.store) e f → Becomes (ChangesFile m.store) d f
+file_more d e f m mid size first next =
     Becomes-weaker (Then (ChangesFile m.store) (ChangesFile mid.store)) (ChangesFile m.store) d f
-    (λ b c both within.
-    let later = within_too m.store.log.area m.store.log.len (file_size m.store.meta) mid.store.log.area mid.store.log.len (file_size mid.store.meta) stands.log.area stands.log.len stands.size within in
-    Torn-twice 0 (file_size m.store.meta) b both.0 c (both.1 within) (subst (λ (n : ℕ). Torn 0 n both.0 c) stands.size (both.2 later)))
+    (λ b c both. Torn-twice 0 (file_size m.store.meta) b both.0 c both.1 (subst (λ (n : ℕ). Torn 0 n both.0 c) size both.2))
     (Becomes-then (ChangesFile m.store) (ChangesFile mid.store) d e f first next)
 
 -- ---- where no group waits no file is to come
@@ -83,18 +105,24 @@ none_spelled : (groups : List Waiting) (waiting : List Logged) → groups ≡ []
 none_spelled groups [] none is = refl
 none_spelled groups (g ∷ rest) none is = let never : [] ≡ group_bytes g ∷ map group_bytes rest = ap (λ (l : List Waiting). map (λ (w : Waiting). w.bytes) l) (sym none) ∙ is in absurd cc
 
-none_later : (d : DiskModel) (st : StoreState) (durable : FileState) (later : List FileState) → st.log.groups ≡ [] → StoreKeeps d st durable later → later ≡ []
+pub none_later : (d : DiskModel) (st : StoreState) (durable : FileState) (later : List FileState) → st.log.groups ≡ [] → StoreKeeps d st durable later → later ≡ []
 none_later d st durable later none keeps = leads_nowhere (written_pages keeps.parts) durable keeps.parts.waiting later (none_spelled st.log.groups keeps.parts.waiting none keeps.waits.spelled) keeps.waits.leads
+
+same_file : (e f : DiskModel) (durable : FileState) (later : List FileState) → later ≡ [] → Leaves e f (λ c. OpensTo c durable) → Leaves e f (OpensToEither durable later)
+same_file e f durable later none same =
+    subst (λ (l : List FileState). Leaves e f (OpensToEither durable l)) (sym none) (Leaves-weaker e f (λ c. OpensTo c durable) (OpensToEither durable []) (λ c opens. inl opens) same)
 
 -- what crashes leave while the step is taken
 pub moments_touched : (e f : DiskModel) (old new : RunningCore) (outcome : Outcome) (durable : FileState) (later : List FileState) → IsDisk e → StoreKeeps e old.store durable later → Touches e old outcome f new → Leaves e f (OpensToEither durable later)
 moments_touched e f old new outcome durable later disk keeps (inl reads) =
     Leaves-read e e f (OpensToEither durable later) (Leaves-start e (OpensToEither durable later) disk (StoreKeeps-opens e old.store durable later keeps)) reads.only.stays
 moments_touched e f old new outcome durable later disk keeps (inr (inl force)) = force.writes.moments durable later keeps
-moments_touched e f old new outcome durable later disk keeps (inr (inr home)) =
+moments_touched e f old new outcome durable later disk keeps (inr (inr (inl home))) =
     let none = none_later e old.store durable later home.no_group keeps in
-    let same : Leaves e f (λ c. OpensTo c durable) = home.writes.moments durable (subst (λ (l : List FileState). StoreKeeps e old.store durable l) none keeps) in
-    subst (λ (l : List FileState). Leaves e f (OpensToEither durable l)) (sym none) (Leaves-weaker e f (λ c. OpensTo c durable) (OpensToEither durable []) (λ c opens. inl opens) same)
+    same_file e f durable later none (home.writes.moments durable (subst (λ (l : List FileState). StoreKeeps e old.store durable l) none keeps))
+moments_touched e f old new outcome durable later disk keeps (inr (inr (inr turns))) =
+    let none = none_later e old.store durable later turns.no_group keeps in
+    same_file e f durable later none (turns.switches.moments durable (subst (λ (l : List FileState). StoreKeeps e old.store durable l) none keeps))
 
 -- ---- whether a disk tells
 

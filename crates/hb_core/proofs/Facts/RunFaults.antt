@@ -110,4 +110,5 @@ module _ (d e f : DiskModel) (old new : RunningCore) (m mid next : Machine) (out
   pub faults_more : Touches e old outcome f new → CountsFaults d f (answers ++ given) m.stop next.stop
   faults_more (inl reads) = after_reads reads
   faults_more (inr (inl force)) = after_write force.result force.writes.wrote.faults force.says force.no_read
-  faults_more (inr (inr home)) = after_write home.result home.writes.wrote.faults home.says home.no_read
+  faults_more (inr (inr (inl home))) = after_write home.result home.writes.wrote.faults home.says home.no_read
+  faults_more (inr (inr (inr turn))) = after_write turn.result turn.switches.wrote.faults turn.says turn.no_read

@@ -4,7 +4,7 @@ use Rattle.std.proofs.lemmas.List.{append_cancel_left}
 use Rattle.std.proofs.lemmas.List.Elements.{All-append, All-nil, All-weaker}
 use Rattle.hb_core.proofs.Facts.AnswersGiven.{answers_more, given_at, given_now}
 use Rattle.hb_core.proofs.Facts.LinesLeft.{left_after, left_more}
-use Rattle.hb_core.proofs.Facts.LogAndStop.{file_stands, step_tells}
+use Rattle.hb_core.proofs.Facts.LogAndStop.{size_stands, step_tells}
 use Rattle.hb_core.proofs.Facts.PrefixImages.{prefix_less, settled_prefix}
 use Rattle.hb_core.proofs.Facts.RunCrashes.{crashes_more}
 use Rattle.hb_core.proofs.Facts.RunDisks.{file_more, file_touched, moments_touched, shows_them, told_before}
@@ -73,7 +73,7 @@ run_begins laws d m c disk may = record {
   answers_are = record { alike = refl; same = λ tells. refl };
   left = begun_left (left_count m);
   faults = no_fault_yet d m;
-  in_file = Becomes-read (ChangesFile m.store) d d disk (λ b bytes within. Torn-itself 0 (file_size m.store.meta) b bytes) (Stays-same d);
+  in_file = Becomes-read (ChangesFile m.store) d d disk (λ b bytes. Torn-itself 0 (file_size m.store.meta) b bytes) (Stays-same d);
   crashes = crashes_begin laws.images d m c disk may.shows;
 }
 
@@ -136,7 +136,7 @@ module _ (laws : RunningLaws) (d : DiskModel) (m : Machine) (actors : List ℕ) 
   became = file_touched e f old new outcome mid disk run.goes_on.kept same_store run.shows.uses went.touches
 
   in_file : Becomes (ChangesFile m.store) d f
-  in_file = file_more d e f m mid (file_stands actors m mid run.steps) run.in_file became
+  in_file = file_more d e f m mid (size_stands actors m mid run.steps) run.in_file became
 
   tells_first : IsSome f.told → IsSome d.told
   tells_first tells = told_before (ChangesFile m.store) d f in_file tells

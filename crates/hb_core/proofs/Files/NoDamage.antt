@@ -252,13 +252,14 @@ module _ (m : Machine) (files : Files) (actor : ℕ) (outcome : Outcome) (new : 
   performed fetched deed performs = same_stop performs.stop
 
   more : FlushesMore m outcome new → IsUndamaged m → IsUndamaged new
-  more (empty, left, inl (due, quiet, well)) = same_stop (ap (λ (x : Machine). x.stop) well.leaves)
-  more (empty, left, inr fails) = λ well. inr (ap (λ (x : Machine). x.stop) fails.stops)
+  more (empty, inl (page, oldest, due, quiet, well)) = same_stop (ap (λ (x : Machine). x.stop) well.leaves)
+  more (empty, inr (inl (old, due, quiet, turns))) = same_stop (ap (λ (x : Machine). x.stop) turns.leaves)
+  more (empty, inr (inr (calls, left, fails))) = λ well. inr (ap (λ (x : Machine). x.stop) fails.stops)
 
   works : Works m actor outcome new → IsUndamaged m → IsUndamaged new
   works (inl (by, way, so)) = stays (outcomes.Blocked by) so
   works (inr (inl (free, unready, inl (waits, force)))) = forces outcomes.Helped force
-  works (inr (inl (free, unready, inr (empty, rest)))) = ready_kind m actor outcome new (IsUndamaged m → IsUndamaged new) empty more (performed m.store _) rest
+  works (inr (inl (free, unready, inr (empty, rest)))) = ready_kind m outcome new (IsUndamaged m → IsUndamaged new) empty more rest
   works (inr (inr (free, ready, inl row))) = performed row.fetched row.deed row.performs
   works (inr (inr (free, ready, inr (inl gives)))) = performed gives.fetched _ gives.performs
   works (inr (inr (free, ready, inr (inr bad)))) = absurd (none bad)

@@ -13,7 +13,7 @@ use Rattle.hb_core.proofs.Files.FileOps.{ShowsFile, allowed_in_file, has_in_file
 use Rattle.hb_core.proofs.Files.FitOps.{HeldArePoints, fits_op}
 use Rattle.hb_core.proofs.Memory.KeptPages.{KeepsPages, brought, change_is_well, keeps_pages}
 use Rattle.hb_core.proofs.Walks.LaterPages.{last_sound}
-use Rattle.hb_core.proofs.Memory.OwnPages.{gives_up_nothing, runs_out_nothing}
+use Rattle.hb_core.proofs.Memory.OwnPages.{gives_up_nothing}
 use Rattle.hb_core.proofs.Files.RowTells.{Tells, tells_row, tells_none}
 use Rattle.hb_core.specs.AllowedLaws.{IsLicensedHere}
 use Rattle.hb_core.proofs.Table.StepKinds.{each_kind, ready_kind, FlushesMore}
@@ -194,7 +194,7 @@ module _ (makes : MakesGoodPages) (parts : HaveFittingParts) (points : HeldArePo
       forces said (inr badly) = failed badly.1
 
       flushed_more : FlushesMore m outcome new → HoldAfter new
-      flushed_more (none, left, inl (due, quiet, well)) = (
+      flushed_more (none, inl (page, oldest, due, quiet, well)) = (
         files,
         ap (λ (n : Machine). n.files) well.leaves ∙ told,
         subst (λ (n : Machine). FilesHold n.store files) (sym well.leaves) (record {
@@ -206,13 +206,25 @@ module _ (makes : MakesGoodPages) (parts : HaveFittingParts) (points : HeldArePo
           shown = λ id page there. holds.shown id page there;
         }),
       )
-      flushed_more (none, left, inr fails) = failed fails
+      flushed_more (none, inr (inl (old, due, quiet, turns))) = (
+        files,
+        ap (λ (n : Machine). n.files) turns.leaves ∙ told,
+        subst (λ (n : Machine). FilesHold n.store files) (sym turns.leaves) (record {
+          durable = holds.durable;
+          later = holds.later;
+          each = holds.each ∙ ap (λ (l : List Waiting). length l) none;
+          layout = holds.layout;
+          meta = holds.meta;
+          shown = λ id page there. holds.shown id page there;
+        }),
+      )
+      flushed_more (none, inr (inr (calls, left, fails))) = failed fails
 
       worked : Works m actor outcome new → HoldAfter new
       worked (inl (by, way, so)) = stays (outcomes.Blocked by) so
       worked (inr (inl (free, unready, inl (waits, force)))) = forces outcomes.Helped force
       worked (inr (inl (free, unready, inr (none, rest)))) =
-          ready_kind m actor outcome new (HoldAfter new) none flushed_more (λ performs. performed m.store _ keeps holds (tells_none m.store _ (runs_out_nothing (m.activity actor))) performs) rest
+          ready_kind m outcome new (HoldAfter new) none flushed_more rest
       worked (inr (inr (free, ready, inl acts))) =
           performed acts.fetched acts.deed (brought m _ acts.fetched acts.brings keeps) (brought_shown m files _ acts.fetched told acts.brings holds)
           (tells_row m actor _ acts.fetched acts.brings (inl (told_files m files told)) (wanted_by m actor) acts.deed refl (fit.in_hand actor) acts.row) acts.performs

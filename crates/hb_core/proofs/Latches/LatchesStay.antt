@@ -16,13 +16,13 @@ use Rattle.hb_activity.specs.Holding.{walk_latch}
 use Rattle.hb_activity.specs.Walks.{job_mode, session_mode, walk_held}
 use Rattle.hb_core.proofs.Latches.Beside.{beside_from}
 use Rattle.hb_core.proofs.Latches.Backing.{BackedIn, rests}
-use Rattle.hb_core.proofs.Table.GivenUp.{idle_latches, idle_walks, given_up_is, run_out_is}
+use Rattle.hb_core.proofs.Table.GivenUp.{idle_latches, idle_walks, given_up_is}
 use Rattle.hb_core.proofs.Latches.MergerBacked.{every_row_backed}
 use Rattle.hb_core.proofs.Memory.OwnPages.{held_pages_stay}
 use Rattle.hb_core.proofs.Table.StepKinds.{each_kind, ready_kind}
 use Rattle.hb_core.proofs.Table.Ways.{KeepsAllButDisk, forces_so, meets_so, stays_so, more_so}
 use Rattle.hb_core.specs.Asking.{wanted_by}
-use Rattle.hb_core.specs.GivingUp.{gives_up, runs_out}
+use Rattle.hb_core.specs.GivingUp.{gives_up}
 use Rattle.hb_core.specs.Keeps.{HoldsPagesOfFile, LatchesFit}
 use Rattle.hb_core.specs.Laws.{LatchesStayFit}
 use Rattle.hb_core.specs.Machines.{Machine, live_here, with_activity}
@@ -177,11 +177,6 @@ given_up m actor st why activity =
     let idle : BackedIn m actor st (idle_of (class_of activity)) = rests m actor st _ (idle_walks (class_of activity)) (idle_latches (class_of activity) st) in
     given_up_is (λ deed. BackedIn m actor st deed.next) why activity (λ line is. rests m actor st _ refl refl) (λ job is. idle) (λ is. idle)
 
-ran_out : (m : Machine) (actor : ℕ) (st : StoreState) (activity : Activity) → BackedIn m actor st (runs_out activity).next
-ran_out m actor st activity =
-    let idle : BackedIn m actor st (idle_of (class_of activity)) = rests m actor st _ (idle_walks (class_of activity)) (idle_latches (class_of activity) st) in
-    run_out_is (λ deed. BackedIn m actor st deed.next) activity (λ line is. rests m actor st _ refl refl) (λ job is. idle) (λ is. idle)
-
 -- ---- each step
 
 module _ (mutual_modes : (mode other : Mode) → goes_beside mode other ≡ goes_beside other mode) (m : Machine) (actor : ℕ) (outcome : Outcome) (new : Machine) (latches : IsActor actor) (fit : LatchesFit m) (inside : HoldsPagesOfFile m) (step : StepsTo m actor outcome new) where
@@ -198,7 +193,7 @@ module _ (mutual_modes : (mode other : Mode) → goes_beside mode other ≡ goes
   worked (inl (by, way, so)) = kept (stays_so m actor outcome new (outcomes.Blocked by) so)
   worked (inr (inl (free, unready, inl (waits, force)))) = kept (forces_so m actor outcome new outcomes.Helped force)
   worked (inr (inl (free, unready, inr (none, rest)))) =
-      ready_kind m actor outcome new (LatchesFit new) none (λ more. kept (more_so m actor outcome new more)) (λ performs. fits m.store _ performs (ran_out m actor new.store (m.activity actor))) rest
+      ready_kind m outcome new (LatchesFit new) none (λ more. kept (more_so m actor outcome new more)) rest
   worked (inr (inr (free, ready, inl acts))) =
       fits acts.fetched acts.deed acts.performs
       (every_row_backed m actor _ acts.fetched new.store latches fit inside free acts.brings (wanted_by m actor) acts.deed refl acts.performs.store acts.row)

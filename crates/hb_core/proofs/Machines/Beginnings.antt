@@ -225,6 +225,7 @@ module _ (m : Machine) (begun : IsBegun m) where
   pub begins : MachineKeeps m
   begins = record {
     meta_within_limits = meta_begins;
+    log_in_place = record { area = ap (λ (l : LogState). l.area) begun.store.log; len = ap (λ (l : LogState). l.len) begun.store.log };
     lines_fit = record { script = begun.bodies; in_hand = of_each (λ a. IfSome (line_in_hand a) HasLineBody) (record { session = tt; poster = tt; consolidator = tt; flusher = tt }) };
     attributes_fit = attributes_begin;
     lines_in_sequence = sequence_begins;

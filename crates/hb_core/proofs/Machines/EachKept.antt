@@ -4,6 +4,7 @@ use Rattle.std.proofs.lemmas.List.Elements.{All-head, All-tail}
 use Rattle.hb_core.proofs.Machines.AttributesKept.{attributes_fit_still}
 use Rattle.hb_core.proofs.Machines.ClassesKept.{classes_stay}
 use Rattle.hb_core.proofs.Machines.FramesKept.{frames_kept}
+use Rattle.hb_core.proofs.Machines.LogKept.{log_stays_in_place}
 use Rattle.hb_core.proofs.Machines.LocksKept.{box_locks_stay_fit}
 use Rattle.hb_core.proofs.Orders.LinesFit.{lines_stay_fit}
 use Rattle.hb_core.proofs.Orders.MarksKept.{marks_rise_still}
@@ -33,6 +34,7 @@ pub record PartLaws : Type 0 where
 pub machine_stays_kept : PartLaws → MachineStaysKept
 machine_stays_kept laws m actor outcome new may keeps step = record {
   meta_within_limits = laws.within m actor outcome new may keeps.latches_fit keeps.lines_fit keeps.meta_within_limits keeps.pages_of_file step;
+  log_in_place = log_stays_in_place m actor outcome new keeps step;
   lines_fit = lines_stay_fit m actor outcome new keeps.lines_fit step;
   attributes_fit = attributes_fit_still m actor outcome new may keeps step;
   lines_in_sequence = sequence_stays m actor outcome new keeps.lines_in_sequence step;

@@ -11,11 +11,12 @@ use Rattle.hb_pool.specs.Frames.{has_id}
 use Rattle.hb_pool.specs.Pools.{frame_of}
 use Rattle.hb_store.specs.Forced.{forced_state, stopped_state}
 use Rattle.hb_store.specs.States.{StoreState, in_memory}
+use Rattle.hb_store.specs.Switching.{switched_state}
 use Rattle.hb_core.specs.declared.outcomes.Outcome.{Outcome}
 use Rattle.hb_core.specs.declared.outcomes.Outcome.TheVariants as outcomes
 use Rattle.hb_core.specs.Acting.{Abandons, DoesRow, MeetsBadPage}
 use Rattle.hb_core.specs.Asking.{HasWayFree, wanted_by}
-use Rattle.hb_core.specs.Forcing.{FailsToWrite, FlushesWell, ForcesAll, StaysSo}
+use Rattle.hb_core.specs.Forcing.{BeginsTurn, FailsToWrite, ForcesAll, HasDirtyPage, HasOldTurn, StaysSo, WritesOldest}
 use Rattle.hb_core.specs.KeptMachine.{MachineKeeps}
 use Rattle.hb_core.specs.KeptMerges.{NamesKnown, merging_at}
 use Rattle.hb_core.specs.Machines.{Machine}
@@ -30,8 +31,8 @@ use Rattle.hb_core.proofs.Machines.LatchesApart.{AreOnce, known_apart, latches_o
 use Rattle.hb_core.proofs.Machines.PinCounts.{IsSingle, cleaned_pins, one_if}
 use Rattle.hb_core.proofs.Machines.PinsFollow.{AreThere, PinsMore, came_stays, deed_pins, found_counted, more_number, none_more, times}
 use Rattle.hb_core.proofs.Memory.StillThere.{own_next}
-use Rattle.hb_core.proofs.Table.NextPlaces.{nothing_given_up, nothing_run_out, place_after}
-use Rattle.hb_core.proofs.Table.StepKinds.{FlushesMore, each_kind_so, rest_kind}
+use Rattle.hb_core.proofs.Table.NextPlaces.{nothing_given_up, place_after}
+use Rattle.hb_core.proofs.Table.StepKinds.{FlushesMore, each_kind_so, ready_kind}
 use Rattle.hb_core.proofs.Walks.WalksKept.{walks_stay_in_space}
 use Rattle.hb_space.specs.Actors.{IsActor}
 
@@ -69,15 +70,22 @@ module _ (m : Machine) (actor : ℕ) (outcome : Outcome) (new : Machine) (may : 
   forces_so said (inl (says, is)) = as_before _ is (record { tied = tied_again m.store (forced_state m.store) m.uses (λ id. refl) (λ id. refl) fit.tied; pins = fit.pins })
   forces_so said (inr badly) = fails_so badly.1
 
-  flushes_so : {due : Outcome} → FlushesWell m due outcome new → FitsNow new
-  flushes_so well = as_before _ well.leaves (record {
-    tied = cleaned_tied m.store m.uses fit.tied well.page well.oldest;
-    pins = λ q. cleaned_pins well.page q m.uses single ∙ fit.pins q;
+  flushes_so : (page : ℕ) {due : Outcome} → HasDirtyPage m page → WritesOldest m page due outcome new → FitsNow new
+  flushes_so page oldest well = as_before _ well.leaves (record {
+    tied = cleaned_tied m.store m.uses fit.tied page oldest;
+    pins = λ q. cleaned_pins page q m.uses single ∙ fit.pins q;
+  })
+
+  turns_so : {due : Outcome} → HasOldTurn m → BeginsTurn m due outcome new → FitsNow new
+  turns_so old turns = as_before _ turns.leaves (record {
+    tied = tied_again m.store (switched_state m.store) m.uses (λ id. refl) (λ id. refl) fit.tied;
+    pins = fit.pins;
   })
 
   more_so : FlushesMore m outcome new → FitsNow new
-  more_so (none, left, inl (due, plain, well)) = flushes_so well
-  more_so (none, left, inr fails) = fails_so fails
+  more_so (none, inl (page, oldest, due, plain, well)) = flushes_so page oldest well
+  more_so (none, inr (inl (old, due, plain, turns))) = turns_so old turns
+  more_so (none, inr (inr (calls, left, fails))) = fails_so fails
 
   meets_so : MeetsBadPage m actor outcome new → FitsNow new
   meets_so meets = as_before _ meets.stops (record {
@@ -148,7 +156,7 @@ module _ (m : Machine) (actor : ℕ) (outcome : Outcome) (new : Machine) (may : 
     worked : Works m actor outcome new → FitsNow new
     worked (inl (by, way, so)) = stays_so (outcomes.Blocked by) so
     worked (inr (inl (free, unready, inl (waits, force)))) = forces_so outcomes.Helped force
-    worked (inr (inl (free, unready, inr (none, rest)))) = rest_kind m outcomes.Helped outcome new _ (FitsNow new) none tt more_so (as_it_is _ (nothing_run_out (m.activity actor)).latches) rest
+    worked (inr (inl (free, unready, inr (none, rest)))) = ready_kind m outcome new (FitsNow new) none more_so rest
     worked (inr (inr (free, ready, inl acts))) = does_so free acts
     worked (inr (inr (free, ready, inr (inl gives)))) = gives_so gives
     worked (inr (inr (free, ready, inr (inr meets)))) = meets_so meets

@@ -9,9 +9,10 @@ use Rattle.hb_core.specs.declared.outcomes.Outcome.TheVariants as outcomes
 use Rattle.hb_core.proofs.Memory.Moments.{answers_are_timed, clock_moves}
 use Rattle.hb_core.proofs.Orders.PendingKept.{grown_by}
 use Rattle.hb_core.proofs.Table.Ways.{order_grows}
-use Rattle.hb_core.specs.Forcing.{StaysSo, HasMoreToFlush}
+use Rattle.hb_core.specs.Forcing.{StaysSo}
 use Rattle.hb_core.specs.Machines.{Machine}
 use Rattle.hb_core.specs.Performing.{given_by}
+use Rattle.hb_core.specs.Laws.{MovesClock}
 use Rattle.hb_core.specs.SteppingLaws.{HasGoneOn, IsBetween, StepsGoOn, StoppedStays}
 use Rattle.hb_core.specs.Steps.{StepsAs, StepsTo}
 use Rattle.hb_set.specs.Order.{Entry}
@@ -30,10 +31,11 @@ given_between outcomes.Moved first last le = All-nil (IsBetween first last)
 never_back : (m : Machine) (actor : ℕ) (outcome : Outcome) (new : Machine) → StepsTo m actor outcome new → m.clock ≤ new.clock
 never_back m actor outcome new step = by (clock_moves m actor outcome new step)
   where
-    by : (new.clock ≡ m.clock) ⊎ ((m.store.log.groups ≢ []) × (m.clock ≤ new.clock) × (new.clock ≤ m.clock + 4)) ⊎ (HasMoreToFlush m × (m.clock ≤ new.clock) × (new.clock ≤ m.clock + 1)) → m.clock ≤ new.clock
+    by : MovesClock m new → m.clock ≤ new.clock
     by (inl same) = omega (arith, same)
-    by (inr (inl (waits, le, few))) = le
-    by (inr (inr (left, le, few))) = le
+    by (inr (inl (waits, (le, few)))) = le
+    by (inr (inr (inl (empty, dirty, (le, few))))) = le
+    by (inr (inr (inr (empty, old, (le, few))))) = le
 
 one_step : (m : Machine) (actor : ℕ) (outcome : Outcome) (new : Machine) → StepsTo m actor outcome new → HasGoneOn m new
 one_step m actor outcome new step =

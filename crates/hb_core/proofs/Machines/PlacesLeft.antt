@@ -1,4 +1,5 @@
--- Where nothing is left to flush, a frame that must stay is latched, and 19 actors latch two pages each at most: the other frames are places.
+-- Where no page is dirty, a frame that must stay is latched, and 19 actors latch two pages each at most: the other frames are places.
+-- An empty log has room. So where nothing is left to flush, a step is ready.
 use Rattle.std.proofs.Common.{◌≡◌, inl, inr, ℕ, ◌+◌, ◌*◌, ◌≤◌, ◌==◌, Bool, true, false, not, ◌||◌, cond, List, [], ◌∷◌, length, Option, Some, None, IsSome, refl, sym, ap, arith}
 use Rattle.std.specs.List.{find, count_by, sum_by}
 use Rattle.std.specs.Option.{is_some, option_map}
@@ -9,21 +10,26 @@ use Rattle.hb_activity.proofs.Facts.HeldLatches.{two_at_most}
 use Rattle.hb_latch.specs.declared.modes.Mode.{Mode}
 use Rattle.hb_latch.specs.Tables.{mode_at}
 use Rattle.hb_pool.specs.Frames.{Use, has_id, must_stay}
+use Rattle.hb_store.specs.Calls.{IsReady}
 use Rattle.hb_store.specs.Held.{oldest_dirty}
-use Rattle.hb_core.specs.Forcing.{HasMoreToFlush}
-use Rattle.hb_core.specs.KeptFrames.{PlacesAreLeft, UnreadyForTheLog}
+use Rattle.hb_wal.specs.Log.{LogState, framed_bytes, pending_bytes}
+use Rattle.hb_core.specs.Forcing.{FlushesOnce, StaysSo}
+use Rattle.hb_core.specs.KeptFrames.{FlushingMakesReady, PlacesAreLeft}
 use Rattle.hb_core.specs.KeptMachine.{MachineKeeps}
 use Rattle.hb_core.specs.Machines.{Machine}
 use Rattle.hb_core.specs.Performing.{latches_held, mode_among}
+use Rattle.hb_core.specs.Steps.{GetsReady, IsUnready}
 use Rattle.hb_core.specs.Using.{actors, holders}
+use Rattle.hb_core.specs.declared.outcomes.Outcome.{Outcome}
+use Rattle.hb_core.specs.declared.outcomes.Outcome.TheVariants as outcomes
 use Rattle.hb_core.proofs.Machines.PinCounts.{IsSingle, one_if, pins_if, single_sum}
 use Rattle.hb_core.proofs.Memory.StillThere.{may_or_not}
 
 -- none is dirty
-none_dirty : (uses : List Use) → (IsSome (oldest_dirty uses) → ⊥) → find (λ (u : Use). u.dirty) uses ≡ None
-none_dirty uses clean = elim (find (λ (u : Use). u.dirty) uses) as (λ o. (IsSome (option_map (λ (u : Use). u.id) o) → ⊥) → o ≡ None) [
+none_dirty : (uses : List Use) → oldest_dirty uses ≡ None → find (λ (u : Use). u.dirty) uses ≡ None
+none_dirty uses clean = elim (find (λ (u : Use). u.dirty) uses) as (λ o. option_map (λ (u : Use). u.id) o ≡ None → o ≡ None) [
   | None ↦ λ _. refl
-  | Some u ↦ λ never. absurd (never refl)
+  | Some u ↦ λ never. cc
 ] clean
 
 -- so a frame that must stay is pinned
@@ -133,7 +139,7 @@ module _ (m : Machine) (keeps : MachineKeeps m) where
         omega (arith, same, nothing)
   ]
 
-  few_stay : (HasMoreToFlush m → ⊥) → count_by must_stay m.uses ≤ 38
+  few_stay : oldest_dirty m.uses ≡ None → count_by must_stay m.uses ≤ 38
   few_stay clean =
       let stay = stays_counted (holders m.latches) m.uses (none_dirty m.uses clean) (λ q. let pins = keeps.frames_fit.pins q in let all = single_sum q m.uses (single q) in omega (arith, pins, all)) in
       let most : sum_by (λ u. holders m.latches u.id) m.uses ≤ 2 * length actors = by_actors (λ actor q. is_some (mode_at m.latches actor q)) m.uses actor_holds actors in
@@ -142,6 +148,27 @@ module _ (m : Machine) (keeps : MachineKeeps m) where
 pub places_are_left : PlacesAreLeft
 places_are_left m keeps clean = let few = few_stay m keeps clean in omega (arith, few)
 
-pub unready_for_the_log : UnreadyForTheLog
-unready_for_the_log m actor keeps clean (inl (may, unready)) ready = let places = places_are_left m keeps clean in unready (ready, omega (arith, places))
-unready_for_the_log m actor keeps clean (inr (none, there)) ready = let places = places_are_left m keeps clean in absurd (omega (arith, places, none))
+-- ---- an empty log has room
+
+none_waits : (log : LogState) → log.groups ≡ [] → (framed_bytes log.groups ≡ 0) × (pending_bytes log.groups ≡ 0)
+none_waits log none = (ap framed_bytes none, ap pending_bytes none)
+
+is_ready : (m : Machine) → MachineKeeps m → m.store.log.groups ≡ [] → m.store.log.written ≡ 0 → IsReady m.store
+is_ready m keeps none empty =
+    let nothing = none_waits m.store.log none in
+    let framed = nothing.0 in
+    let pending = nothing.1 in
+    let len = keeps.log_in_place.len in
+    let least : 65536 ≤ m.store.meta.log = keeps.meta_within_limits.layout.log_room in
+    (omega (arith, framed, empty, len, least), omega (arith, pending))
+
+pub flushing_makes_ready : FlushingMakesReady
+flushing_makes_ready m actor keeps none (clean, empty) (inl (may, unready)) = let places = places_are_left m keeps clean in unready (is_ready m keeps none empty, omega (arith, places))
+flushing_makes_ready m actor keeps none (clean, empty) (inr (full, there)) = let places = places_are_left m keeps clean in absurd (omega (arith, places, full))
+
+-- So a step that isn't ready has flushed something.
+pub always_flushes : (m : Machine) (actor : ℕ) (outcome : Outcome) (new : Machine) → MachineKeeps m → IsUnready m actor → FlushesOnce m outcomes.Helped (StaysSo m outcomes.Idle outcome new) outcome new → GetsReady m outcome new
+always_flushes m actor outcome new keeps unready (inl forced) = inl forced
+always_flushes m actor outcome new keeps unready (inr (none, inl written)) = inr (none, inl written)
+always_flushes m actor outcome new keeps unready (inr (none, inr (inl turned))) = inr (none, inr (inl turned))
+always_flushes m actor outcome new keeps unready (inr (none, inr (inr (flushed, idle)))) = absurd (flushing_makes_ready m actor keeps none flushed unready)

@@ -43,8 +43,9 @@ module _ (m : Machine) (actor : ℕ) (outcome : Outcome) (new : Machine) (runs :
   forces said (inr badly) = fails badly.1
 
   more : FlushesMore m outcome new → RunsWithStore new
-  more (none, left, inl (due, quiet, well)) = same (ap (λ (n : Machine). n.stop) well.leaves) (ap (λ (n : Machine). n.store.stopped) well.leaves)
-  more (none, left, inr failed) = fails failed
+  more (none, inl (page, oldest, due, quiet, well)) = same (ap (λ (n : Machine). n.stop) well.leaves) (ap (λ (n : Machine). n.store.stopped) well.leaves)
+  more (none, inr (inl (old, due, quiet, turns))) = same (ap (λ (n : Machine). n.stop) turns.leaves) (ap (λ (n : Machine). n.store.stopped) turns.leaves)
+  more (none, inr (inr (calls, left, failed))) = fails failed
 
   performed : (fetched : StoreState) (deed : Deed) → fetched.stopped ≡ m.store.stopped → Performs m fetched actor deed outcome new → RunsWithStore new
   performed fetched deed stopped performs = same performs.stop (same_stopped deed.op _ fetched new.store performs.store ∙ stopped)
@@ -52,7 +53,7 @@ module _ (m : Machine) (actor : ℕ) (outcome : Outcome) (new : Machine) (runs :
   worked : Works m actor outcome new → RunsWithStore new
   worked (inl (by, way, so)) = stays (outcomes.Blocked by) so
   worked (inr (inl (free, unready, inl (waits, force)))) = forces outcomes.Helped force
-  worked (inr (inl (free, unready, inr (none, rest)))) = ready_kind m actor outcome new (RunsWithStore new) none more (performed m.store _ refl) rest
+  worked (inr (inl (free, unready, inr (none, rest)))) = ready_kind m outcome new (RunsWithStore new) none more rest
   worked (inr (inr (free, ready, inl acts))) = performed acts.fetched acts.deed acts.brings.rest.stopped acts.performs
   worked (inr (inr (free, ready, inr (inl gives)))) = performed gives.fetched _ gives.brings.rest.stopped gives.performs
   worked (inr (inr (free, ready, inr (inr meets)))) = ended _ (ap (λ (n : Machine). n.stop) meets.stops)

@@ -9,7 +9,7 @@ use Rattle.hb_core.specs.declared.outcomes.Outcome.TheVariants as outcomes
 use Rattle.hb_activity.specs.Deeds.{Deed, does}
 use Rattle.hb_core.proofs.Files.FitOps.{HeldArePoints, fits_op}
 use Rattle.hb_core.proofs.Files.GoodChanges.{IsGoodChange, good_change}
-use Rattle.hb_core.proofs.Memory.OwnPages.{gives_up_nothing, runs_out_nothing}
+use Rattle.hb_core.proofs.Memory.OwnPages.{gives_up_nothing}
 use Rattle.hb_core.proofs.Files.RowTells.{Tells, boxes_told, tells_row, tells_none}
 use Rattle.hb_core.specs.AllowedLaws.{IsLicensedHere}
 use Rattle.hb_core.proofs.Table.StepKinds.{each_kind, FlushesMore, ready_kind}
@@ -17,7 +17,7 @@ use Rattle.hb_core.specs.Acting.{MeetsBadPage}
 use Rattle.hb_core.specs.Asking.{wanted_by}
 use Rattle.hb_core.specs.Fetching.{Brings}
 use Rattle.hb_core.specs.FileLaws.{MetaStaysWithinLimits, PagesStayOfFile}
-use Rattle.hb_core.specs.Forcing.{ForcesAll, StaysSo, FailsToWrite, FlushesWell}
+use Rattle.hb_core.specs.Forcing.{BeginsTurn, FailsToWrite, ForcesAll, StaysSo, WritesOldest}
 use Rattle.hb_core.specs.Keeps.{HoldsPagesOfFile, LatchesFit}
 use Rattle.hb_core.specs.KeptLines.{LinesFit, MetaWithinLimits}
 use Rattle.hb_core.specs.Machines.{Machine}
@@ -95,16 +95,20 @@ module _ (makes : MakesGoodPages) (parts : HaveFittingParts) (points : HeldArePo
     stays : (said : Outcome) → StaysSo m said outcome new → KeepsPages new.store
     stays said (says, is) = same_store (ap (λ (n : Machine). n.store) is)
 
-    -- so does a page that is written to its place, and a write that fails
-    flushes : {due : Outcome} → FlushesWell m due outcome new → KeepsPages new.store
+    -- so does a page that is written to its place, the next turn, and a write that fails
+    flushes : {page : ℕ} {due : Outcome} → WritesOldest m page due outcome new → KeepsPages new.store
     flushes well = subst (λ (n : Machine). KeepsPages n.store) (sym well.leaves) (record { limits = keeps.limits; high = keeps.high; live = keeps.live; free = keeps.free; framed = keeps.framed })
+
+    turned : {due : Outcome} → BeginsTurn m due outcome new → KeepsPages new.store
+    turned turns = subst (λ (n : Machine). KeepsPages n.store) (sym turns.leaves) (record { limits = keeps.limits; high = keeps.high; live = keeps.live; free = keeps.free; framed = keeps.framed })
 
     fails_so : {most : ℕ} → FailsToWrite m most outcome new → KeepsPages new.store
     fails_so fails = subst (λ (n : Machine). KeepsPages n.store) (sym fails.stops) (record { limits = keeps.limits; high = keeps.high; live = keeps.live; free = keeps.free; framed = keeps.framed })
 
     flushed_more : FlushesMore m outcome new → KeepsPages new.store
-    flushed_more (none, left, inl (due, quiet, well)) = flushes well
-    flushed_more (none, left, inr fails) = fails_so fails
+    flushed_more (none, inl (page, oldest, due, quiet, well)) = flushes well
+    flushed_more (none, inr (inl (old, due, quiet, turns))) = turned turns
+    flushed_more (none, inr (inr (calls, left, fails))) = fails_so fails
 
     -- a force changes the log alone
     forces : (said : Outcome) → ForcesAll m said outcome new → KeepsPages new.store
@@ -121,7 +125,7 @@ module _ (makes : MakesGoodPages) (parts : HaveFittingParts) (points : HeldArePo
     worked (inl (by, way, so)) = stays (outcomes.Blocked by) so
     worked (inr (inl (free, unready, inl (waits, force)))) = forces outcomes.Helped force
     worked (inr (inl (free, unready, inr (none, rest)))) =
-        ready_kind m actor outcome new (KeepsPages new.store) none flushed_more (λ performs. performed m.store _ keeps (tells_none m.store _ (runs_out_nothing (m.activity actor))) performs) rest
+        ready_kind m outcome new (KeepsPages new.store) none flushed_more rest
     worked (inr (inr (free, ready, inl acts))) =
         performed acts.fetched acts.deed (brought m _ acts.fetched acts.brings keeps) (tells_row m actor _ acts.fetched acts.brings (inr (may, latches)) (wanted_by m actor) acts.deed refl (fit.in_hand actor) acts.row) acts.performs
     worked (inr (inr (free, ready, inr (inl gives)))) = performed gives.fetched _ (brought m _ gives.fetched gives.brings keeps) (tells_none gives.fetched _ (gives_up_nothing gives.why (m.activity actor))) gives.performs

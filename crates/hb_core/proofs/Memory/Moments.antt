@@ -4,20 +4,22 @@ use Rattle.hb_set.specs.declared.scripts.Answered.{Answered}
 use Rattle.hb_core.specs.declared.outcomes.Outcome.{Outcome}
 use Rattle.hb_core.specs.declared.outcomes.Outcome.TheVariants as outcomes
 use Rattle.hb_activity.specs.Deeds.{Deed}
-use Rattle.hb_core.proofs.Table.StepKinds.{each_kind, FlushesMore, ready_kind, plain_is_quiet}
+use Rattle.hb_core.proofs.Table.StepKinds.{FlushesMore, MoreToFlush, each_kind, plain_is_quiet, ready_kind}
 use Rattle.hb_core.specs.Acting.{MeetsBadPage}
-use Rattle.hb_core.specs.Forcing.{ForcesAll, StaysSo, HasMoreToFlush}
-use Rattle.hb_core.specs.Laws.{AnswersAreTimed, ClockMoves}
+use Rattle.hb_core.specs.Forcing.{ForcesAll, StaysSo}
+use Rattle.hb_core.specs.Laws.{AnswersAreTimed, ClockMoves, MovesClock}
 use Rattle.hb_core.specs.Machines.{Machine}
 use Rattle.hb_core.specs.Performing.{Performs, given_by}
 use Rattle.hb_core.specs.Steps.{StepsTo, Works}
+use Rattle.hb_lemmas.proofs.Options.{has_value}
+use Rattle.hb_store.specs.Held.{oldest_dirty}
 use Rattle.hb_store.specs.States.{StoreState}
 use Rattle.hb_wal.specs.Forces.{calls_of_force}
 use Rattle.hb_wal.specs.Log.{Waiting}
 
 -- what a step does to both
 pub record Times (m : Machine) (outcome : Outcome) (new : Machine) : Type 0 where
-  pub clock : (new.clock ≡ m.clock) ⊎ ((m.store.log.groups ≢ []) × (m.clock ≤ new.clock) × (new.clock ≤ m.clock + 4)) ⊎ (HasMoreToFlush m × (m.clock ≤ new.clock) × (new.clock ≤ m.clock + 1))
+  pub clock : MovesClock m new
   pub answered : new.answered ≡ m.answered ++ given_by outcome new.clock
 
 nothing_given : (m new : Machine) (outcome said : Outcome) → outcome ≡ said → given_by said new.clock ≡ [] → new.answered ≡ m.answered → new.answered ≡ m.answered ++ given_by outcome new.clock
@@ -37,9 +39,9 @@ module _ (m : Machine) (actor : ℕ) (outcome : Outcome) (new : Machine) where
         ∙ ap (λ (n : ℕ). m.answered ++ given_by outcome n) (sym performs.clock);
   }
 
-  forces_well : (groups : List Waiting) → m.store.log.groups ≡ groups → new.clock ≡ m.clock + calls_of_force groups → (new.clock ≡ m.clock) ⊎ ((m.store.log.groups ≢ []) × (m.clock ≤ new.clock) × (new.clock ≤ m.clock + 4)) ⊎ (HasMoreToFlush m × (m.clock ≤ new.clock) × (new.clock ≤ m.clock + 1))
+  forces_well : (groups : List Waiting) → m.store.log.groups ≡ groups → new.clock ≡ m.clock + calls_of_force groups → MovesClock m new
   forces_well [] none clock = inl (omega (arith, clock))
-  forces_well (first ∷ rest) some clock = inr (inl (λ empty. waits first rest (sym some ∙ empty), omega (arith, clock), omega (arith, clock)))
+  forces_well (first ∷ rest) some clock = inr (inl (λ empty. waits first rest (sym some ∙ empty), (omega (arith, clock), omega (arith, clock))))
     where
       waits : (first : Waiting) (rest : List Waiting) → first ∷ rest ≡ [] → ⊥
       waits first rest is = cc
@@ -52,21 +54,31 @@ module _ (m : Machine) (actor : ℕ) (outcome : Outcome) (new : Machine) where
   forced said none (inr badly) =
       let clock : new.clock ≡ badly.1.clock = ap (λ (n : Machine). n.clock) badly.1.stops in
       record {
-        clock = inr (inl (badly.0, omega (arith, clock, badly.1.from), omega (arith, clock, badly.1.few)));
+        clock = inr (inl (badly.0, (omega (arith, clock, badly.1.from), omega (arith, clock, badly.1.few))));
         answered = nothing_given m new outcome _ badly.1.says refl (ap (λ (n : Machine). n.answered) badly.1.stops);
       }
 
+  failed_within : (calls : ℕ) → m.store.log.groups ≡ [] → MoreToFlush m calls → m.clock ≤ new.clock → new.clock ≤ m.clock + calls → MovesClock m new
+  failed_within calls none (inl (page, oldest, one)) from few = inr (inr (inl (none, has_value (oldest_dirty m.uses) page oldest, (from, omega (arith, few, one)))))
+  failed_within calls none (inr (old, nine)) from few = inr (inr (inr (none, old, (from, omega (arith, few, nine)))))
+
   more_times : FlushesMore m outcome new → Times m outcome new
-  more_times (none, left, inl (due, quiet, well)) =
+  more_times (none, inl (page, oldest, due, quiet, well)) =
       let clock : new.clock ≡ m.clock + 1 = ap (λ (n : Machine). n.clock) well.leaves in
       record {
-        clock = inr (inr (left, omega (arith, clock), omega (arith, clock)));
+        clock = inr (inr (inl (none, has_value (oldest_dirty m.uses) page oldest, (omega (arith, clock), omega (arith, clock)))));
         answered = nothing_given m new outcome due well.says (plain_is_quiet due quiet new.clock) (ap (λ (n : Machine). n.answered) well.leaves);
       }
-  more_times (none, left, inr fails) =
+  more_times (none, inr (inl (old, due, quiet, turns))) =
+      let clock : new.clock ≡ m.clock + 9 = ap (λ (n : Machine). n.clock) turns.leaves in
+      record {
+        clock = inr (inr (inr (none, old, (omega (arith, clock), omega (arith, clock)))));
+        answered = nothing_given m new outcome due turns.says (plain_is_quiet due quiet new.clock) (ap (λ (n : Machine). n.answered) turns.leaves);
+      }
+  more_times (none, inr (inr (calls, left, fails))) =
       let clock : new.clock ≡ fails.clock = ap (λ (n : Machine). n.clock) fails.stops in
       record {
-        clock = inr (inr (left, omega (arith, clock, fails.from), omega (arith, clock, fails.few)));
+        clock = failed_within calls none left (omega (arith, clock, fails.from)) (omega (arith, clock, fails.few));
         answered = nothing_given m new outcome _ fails.says refl (ap (λ (n : Machine). n.answered) fails.stops);
       }
 
@@ -76,7 +88,7 @@ module _ (m : Machine) (actor : ℕ) (outcome : Outcome) (new : Machine) where
   worked : Works m actor outcome new → Times m outcome new
   worked (inl (by, way, so)) = same (outcomes.Blocked by) refl so
   worked (inr (inl (free, unready, inl (waits, force)))) = forced outcomes.Helped refl force
-  worked (inr (inl (free, unready, inr (none, rest)))) = ready_kind m actor outcome new (Times m outcome new) none more_times (performed m.store _) rest
+  worked (inr (inl (free, unready, inr (none, rest)))) = ready_kind m outcome new (Times m outcome new) none more_times rest
   worked (inr (inr (free, ready, inl acts))) = performed acts.fetched acts.deed acts.performs
   worked (inr (inr (free, ready, inr (inl gives)))) = performed gives.fetched _ gives.performs
   worked (inr (inr (free, ready, inr (inr meets)))) = met meets

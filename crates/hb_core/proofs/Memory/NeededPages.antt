@@ -14,7 +14,7 @@ use Rattle.hb_core.specs.declared.outcomes.Outcome.TheVariants as outcomes
 use Rattle.hb_activity.specs.Deeds.{Deed}
 use Rattle.hb_core.proofs.Memory.CommitPages.{commit_here}
 use Rattle.hb_core.proofs.Memory.NextNumbers.{is_next_number}
-use Rattle.hb_core.proofs.Memory.OwnPages.{gives_up_nothing, runs_out_nothing}
+use Rattle.hb_core.proofs.Memory.OwnPages.{gives_up_nothing}
 use Rattle.hb_core.proofs.Table.StepKinds.{each_kind, FlushesMore, ready_kind}
 use Rattle.hb_core.proofs.Table.Targets.{IsNumber, numbers_are_targets, set_elsewhere}
 use Rattle.hb_core.specs.Acting.{MayNeed, NeedsNumber, takes_number}
@@ -242,8 +242,9 @@ module _ (m : Machine) (actor : ℕ) (new : Machine) (id : ℕ) (was : in_memory
   failed fails = came_not (ap (λ (n : Machine). in_memory n.store id) fails.stops)
 
   flushed_more : {A : Type 0} (outcome : Outcome) → FlushesMore m outcome new → A
-  flushed_more outcome (none, left, inl (due, quiet, well)) = came_not (ap (λ (n : Machine). in_memory n.store id) well.leaves)
-  flushed_more outcome (none, left, inr fails) = failed fails
+  flushed_more outcome (none, inl (page, oldest, due, quiet, well)) = came_not (ap (λ (n : Machine). in_memory n.store id) well.leaves)
+  flushed_more outcome (none, inr (inl (old, due, quiet, turns))) = came_not (ap (λ (n : Machine). in_memory n.store id) turns.leaves)
+  flushed_more outcome (none, inr (inr (calls, left, fails))) = failed fails
 
   forced : {A : Type 0} (said outcome : Outcome) → ForcesAll m said outcome new → A
   forced said outcome (inl (says, is)) = came_not (ap (λ (n : Machine). in_memory n.store id) is)
@@ -252,10 +253,10 @@ module _ (m : Machine) (actor : ℕ) (new : Machine) (id : ℕ) (was : in_memory
   stays : {A : Type 0} (said outcome : Outcome) → StaysSo m said outcome new → A
   stays said outcome (says, is) = same_machine is
 
-  made_ready : (outcome : Outcome) → GetsReady m actor outcome new → NeedsPage m actor id
+  made_ready : (outcome : Outcome) → GetsReady m outcome new → NeedsPage m actor id
   made_ready outcome (inl (waits, force)) = forced outcomes.Helped outcome force
   made_ready outcome (inr (none, rest)) =
-      ready_kind m actor outcome new (NeedsPage m actor id) none (flushed_more outcome) (λ performs. nothing_done _ _ (runs_out_nothing (m.activity actor)) performs.store) rest
+      ready_kind m outcome new (NeedsPage m actor id) none (flushed_more outcome) rest
 
   worked : (outcome : Outcome) → Works m actor outcome new → NeedsPage m actor id
   worked outcome (inl (by, way, so)) = stays (outcomes.Blocked by) outcome so

@@ -14,14 +14,14 @@ use Rattle.hb_core.specs.declared.outcomes.Outcome.{Outcome}
 use Rattle.hb_core.specs.declared.outcomes.Outcome.TheVariants as outcomes
 use Rattle.hb_activity.specs.Deeds.{Deed, does}
 use Rattle.hb_core.proofs.Memory.BroughtPages.{stays_or_left}
-use Rattle.hb_core.proofs.Table.GivenUp.{given_up_is, run_out_is}
+use Rattle.hb_core.proofs.Table.GivenUp.{given_up_is}
 use Rattle.hb_core.proofs.Memory.OwnedOps.{IsFreeFor, OwnsTargets, allowed_by, owned_row}
 use Rattle.hb_core.proofs.Table.StepKinds.{IsOutright, each_kind, FlushesMore, ready_kind}
 use Rattle.hb_core.proofs.Table.Targets.{IsNumber, numbers_are_targets, set_elsewhere}
 use Rattle.hb_core.specs.Asking.{wanted_by}
 use Rattle.hb_core.specs.Fetching.{Brings, MustStay}
-use Rattle.hb_core.specs.Forcing.{ForcesAll, StaysSo, FailsToWrite, FlushesWell}
-use Rattle.hb_core.specs.GivingUp.{gives_up, runs_out}
+use Rattle.hb_core.specs.Forcing.{BeginsTurn, FailsToWrite, ForcesAll, StaysSo, WritesOldest}
+use Rattle.hb_core.specs.GivingUp.{gives_up}
 use Rattle.hb_core.specs.Keeps.{HoldsPagesOfFile, LatchesFit}
 use Rattle.hb_core.specs.Laws.{HasAlone, HeldPagesStay, IsInUse, OwnPagesChange, TakesAlone, MayHaveLeft}
 use Rattle.hb_core.specs.Machines.{Machine}
@@ -38,9 +38,6 @@ use Rattle.hb_store.specs.States.{StoreState, in_memory}
 -- what a line or a job that can't go on does to the file
 pub gives_up_nothing : (why : DropWhy) (activity : Activity) → (gives_up why activity).op ≡ None
 gives_up_nothing why activity = given_up_is (λ deed. deed.op ≡ None) why activity (λ line is. refl) (λ job is. refl) (λ is. refl)
-
-pub runs_out_nothing : (activity : Activity) → (runs_out activity).op ≡ None
-runs_out_nothing activity = run_out_is (λ deed. deed.op ≡ None) activity (λ line is. refl) (λ job is. refl) (λ is. refl)
 
 module _ (m : Machine) (actor : ℕ) (latches : IsActor actor) (fit : LatchesFit m) (inside : HoldsPagesOfFile m) (new : Machine) (id : ℕ) (page : LivePage) (used : IsInUse m id page) where
   abbrev pub Goal : Type 0
@@ -103,12 +100,16 @@ module _ (m : Machine) (actor : ℕ) (latches : IsActor actor) (fit : LatchesFit
   failed : {most : ℕ} {outcome : Outcome} → FailsToWrite m most outcome new → Goal
   failed fails = inl (ap (λ (n : Machine). in_memory n.store id) fails.stops ∙ used)
 
-  flushes : {due outcome : Outcome} → FlushesWell m due outcome new → Goal
+  flushes : {page : ℕ} {due outcome : Outcome} → WritesOldest m page due outcome new → Goal
   flushes well = inl (ap (λ (n : Machine). in_memory n.store id) well.leaves ∙ used)
 
+  turned : {due outcome : Outcome} → BeginsTurn m due outcome new → Goal
+  turned turns = inl (ap (λ (n : Machine). in_memory n.store id) turns.leaves ∙ used)
+
   flushed_more : (outcome : Outcome) → FlushesMore m outcome new → Goal
-  flushed_more outcome (none, left, inl (due, quiet, well)) = flushes well
-  flushed_more outcome (none, left, inr fails) = failed fails
+  flushed_more outcome (none, inl (page, oldest, due, quiet, well)) = flushes well
+  flushed_more outcome (none, inr (inl (old, due, quiet, turns))) = turned turns
+  flushed_more outcome (none, inr (inr (calls, left, fails))) = failed fails
 
   forced : (said outcome : Outcome) → ForcesAll m said outcome new → Goal
   forced said outcome (inl (says, is)) = inl (ap (λ (n : Machine). in_memory n.store id) is ∙ used)
@@ -117,10 +118,10 @@ module _ (m : Machine) (actor : ℕ) (latches : IsActor actor) (fit : LatchesFit
   stays : (said outcome : Outcome) → StaysSo m said outcome new → Goal
   stays said outcome (says, is) = inl (ap (λ (n : Machine). in_memory n.store id) is ∙ used)
 
-  made_ready : (outcome : Outcome) → GetsReady m actor outcome new → Goal
+  made_ready : (outcome : Outcome) → GetsReady m outcome new → Goal
   made_ready outcome (inl (waits, force)) = forced outcomes.Helped outcome force
   made_ready outcome (inr (none, rest)) =
-      ready_kind m actor outcome new Goal none (flushed_more outcome) (only_moved (runs_out (m.activity actor)) outcome (runs_out_nothing (m.activity actor))) rest
+      ready_kind m outcome new Goal none (flushed_more outcome) rest
 
   worked : (outcome : Outcome) → Works m actor outcome new → Goal
   worked outcome (inl (by, way, so)) = stays (outcomes.Blocked by) outcome so

@@ -25,13 +25,14 @@ module _ (m : Machine) (files : Files) (told : m.files ≡ Some files) (actor : 
   told_forced said (inr badly) = (files, ap (λ (x : Machine). x.files) badly.1.stops ∙ told)
 
   told_more : FlushesMore m outcome new → IsTold new
-  told_more (none, left, inl (due, quiet, well)) = (files, ap (λ (x : Machine). x.files) well.leaves ∙ told)
-  told_more (none, left, inr fails) = (files, ap (λ (x : Machine). x.files) fails.stops ∙ told)
+  told_more (none, inl (page, oldest, due, quiet, well)) = (files, ap (λ (x : Machine). x.files) well.leaves ∙ told)
+  told_more (none, inr (inl (old, due, quiet, turns))) = (files, ap (λ (x : Machine). x.files) turns.leaves ∙ told)
+  told_more (none, inr (inr (calls, left, fails))) = (files, ap (λ (x : Machine). x.files) fails.stops ∙ told)
 
   told_works : Works m actor outcome new → IsTold new
   told_works (inl (by, way, so)) = told_stays (outcomes.Blocked by) so
   told_works (inr (inl (free, unready, inl (waits, force)))) = told_forced outcomes.Helped force
-  told_works (inr (inl (free, unready, inr (none, rest)))) = ready_kind m actor outcome new (IsTold new) none told_more (λ performs. told_after _ performs.files) rest
+  told_works (inr (inl (free, unready, inr (none, rest)))) = ready_kind m outcome new (IsTold new) none told_more rest
   told_works (inr (inr (free, ready, inl acts))) = told_after _ acts.performs.files
   told_works (inr (inr (free, ready, inr (inl gives)))) = told_after _ gives.performs.files
   told_works (inr (inr (free, ready, inr (inr meets)))) = (files, ap (λ (x : Machine). x.files) meets.stops ∙ told)

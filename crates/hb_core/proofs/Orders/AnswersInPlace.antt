@@ -5,8 +5,8 @@ use Rattle.hb_activity.specs.declared.dropping.DropWhy.{DropWhy}
 use Rattle.hb_core.specs.declared.outcomes.Outcome.{Outcome}
 use Rattle.hb_core.specs.declared.outcomes.Outcome.TheVariants as outcomes
 use Rattle.hb_activity.specs.Deeds.{Deed, Says}
-use Rattle.hb_core.proofs.Table.GivenUp.{given_up_is, run_out_is}
-use Rattle.hb_core.specs.GivingUp.{gives_up, runs_out}
+use Rattle.hb_core.proofs.Table.GivenUp.{given_up_is}
+use Rattle.hb_core.specs.GivingUp.{gives_up}
 use Rattle.hb_core.specs.KeepingLaws.{AnswersAreInPlace, IsAnsweredInPlace}
 use Rattle.hb_core.specs.Machines.{Machine, with_disk}
 use Rattle.hb_core.specs.Performing.{outcome_of}
@@ -33,9 +33,6 @@ module _ (m : Machine) (actor : ℕ) where
   given_up : (why : DropWhy) (activity : Activity) → SaysInPlace (gives_up why activity)
   given_up why activity = given_up_is SaysInPlace why activity (λ line is. inl (outside_for why)) (λ job is. tt) (λ is. tt)
 
-  ran_out : (activity : Activity) → SaysInPlace (runs_out activity)
-  ran_out activity = run_out_is SaysInPlace activity (λ line is. inl tt) (λ job is. tt) (λ is. tt)
-
   -- ---- each step
 
   plainly : (said : Outcome) → IsPlain said → InPlace said
@@ -55,7 +52,6 @@ answers_are_in_place m actor outcome new step = each_saying m actor outcome new 
   posts = λ deed idle takes performs. said performs.says (subst (SaysInPlace m actor) (sym takes.deed_is) tt);
   merges = λ deed idle takes performs. said performs.says (subst (SaysInPlace m actor) (sym takes.deed_is) tt);
   settles = λ number place reply is settled performs. said performs.says (inr (place, is, settled));
-  runs = λ runs. said runs.performs.says (ran_out m actor (m.activity actor));
   does = λ acts. said acts.performs.says (by_row m actor _ acts.deed (saying_of (with_disk acts.fetched m.files m.clock m) (m.activity actor) (wanted_by m actor) acts.deed acts.row));
   gives = λ gives. said gives.performs.says (given_up m actor gives.why (m.activity actor));
 }) step

@@ -10,7 +10,7 @@ use Rattle.hb_core.specs.declared.outcomes.Outcome.TheVariants as outcomes
 use Rattle.hb_activity.specs.Classes.{line_in_hand}
 use Rattle.hb_activity.specs.Deeds.{Deed}
 use Rattle.hb_consol.specs.ConsolidatorRows.{IsMergingOf}
-use Rattle.hb_core.proofs.Table.LineFates.{LineFate, fate_given_up, fate_ran_out, fate_row}
+use Rattle.hb_core.proofs.Table.LineFates.{LineFate, fate_given_up, fate_row}
 use Rattle.hb_core.proofs.Table.StepKinds.{each_step, ready_kind}
 use Rattle.hb_core.proofs.Table.Ways.{KeepsAllButDisk, forces_so, meets_so, stays_so, more_so}
 use Rattle.hb_core.specs.FileLaws.{LinesStayFit}
@@ -61,7 +61,7 @@ module _ (m : Machine) (actor : ℕ) (outcome : Outcome) (new : Machine) (fit : 
   worked (inl (by, way, so)) = stays (stays_so m actor outcome new (outcomes.Blocked by) so)
   worked (inr (inl (free, unready, inl (waits, force)))) = stays (forces_so m actor outcome new outcomes.Helped force)
   worked (inr (inl (free, unready, inr (none, rest)))) =
-      ready_kind m actor outcome new (LinesFit new) none (λ more. stays (more_so m actor outcome new more)) (λ performs. performed m.store _ performs (own_line _ (fate_ran_out m (m.activity actor)))) rest
+      ready_kind m outcome new (LinesFit new) none (λ more. stays (more_so m actor outcome new more)) rest
   worked (inr (inr (free, ready, inl acts))) = performed acts.fetched acts.deed acts.performs (own_line acts.deed (fate_row m acts.fetched (m.activity actor) _ acts.deed acts.row))
   worked (inr (inr (free, ready, inr (inl gives)))) = performed gives.fetched _ gives.performs (own_line _ (fate_given_up m gives.why (m.activity actor)))
   worked (inr (inr (free, ready, inr (inr meets)))) = stays (meets_so m actor outcome new meets)

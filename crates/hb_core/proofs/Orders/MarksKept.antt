@@ -64,8 +64,9 @@ module _ (m : Machine) (actor : ℕ) (outcome : Outcome) (new : Machine) (marks 
   forces said (inr badly) = fails badly.1
 
   more_flushed : FlushesMore m outcome new → MarksRise new
-  more_flushed (none, left, inl (due, quiet, well)) = same (ap (λ (n : Machine). n.order) well.leaves) (ap (λ (n : Machine). n.store.log.groups) well.leaves)
-  more_flushed (none, left, inr failed) = fails failed
+  more_flushed (none, inl (page, oldest, due, quiet, well)) = same (ap (λ (n : Machine). n.order) well.leaves) (ap (λ (n : Machine). n.store.log.groups) well.leaves)
+  more_flushed (none, inr (inl (old, due, quiet, turns))) = same (ap (λ (n : Machine). n.order) turns.leaves) (ap (λ (n : Machine). n.store.log.groups) turns.leaves ∙ sym none)
+  more_flushed (none, inr (inr (calls, left, failed))) = fails failed
 
   done : (op : Option Op) (fetched : StoreState) (more : List Entry) → fetched.log ≡ m.store.log → new.order ≡ m.order ++ more → MayDo op (length m.order) fetched new.store → MarksRise new
   done None fetched more log order_is does = grown more order_is (ap (λ (st : StoreState). st.log.groups) does ∙ ap (λ (log : LogState). log.groups) log)
@@ -79,7 +80,7 @@ module _ (m : Machine) (actor : ℕ) (outcome : Outcome) (new : Machine) (marks 
   worked : Works m actor outcome new → MarksRise new
   worked (inl (by, way, so)) = stays (outcomes.Blocked by) so
   worked (inr (inl (free, unready, inl (waits, force)))) = forces outcomes.Helped force
-  worked (inr (inl (free, unready, inr (none, rest)))) = ready_kind m actor outcome new (MarksRise new) none more_flushed (performed m.store _ refl) rest
+  worked (inr (inl (free, unready, inr (none, rest)))) = ready_kind m outcome new (MarksRise new) none more_flushed rest
   worked (inr (inr (free, ready, inl acts))) = performed acts.fetched acts.deed acts.brings.rest.log acts.performs
   worked (inr (inr (free, ready, inr (inl gives)))) = performed gives.fetched _ gives.brings.rest.log gives.performs
   worked (inr (inr (free, ready, inr (inr meets)))) = same (ap (λ (n : Machine). n.order) meets.stops) (ap (λ (n : Machine). n.store.log.groups) meets.stops ∙ ap (λ (log : LogState). log.groups) meets.brings.rest.log)

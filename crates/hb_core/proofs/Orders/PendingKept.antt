@@ -176,14 +176,15 @@ module _ (n : RecordSet) (m : Machine) (files : Files) (new : Machine) (files' :
     performed fetched deed log performs = done deed.op fetched (if_some deed.joins) log performs.order performs.files performs.store
 
     flushed_more : FlushesMore m outcome new → KeepsMarks n m new files'
-    flushed_more (none, left, inl (due, quiet, well)) = same (ap (λ (x : Machine). x.order) well.leaves) (ap (λ (x : Machine). x.store.log.groups) well.leaves) (ap (λ (x : Machine). x.files) well.leaves)
-    flushed_more (none, left, inr fails) = same (ap (λ (x : Machine). x.order) fails.stops) (ap (λ (x : Machine). x.store.log.groups) fails.stops) (ap (λ (x : Machine). x.files) fails.stops)
+    flushed_more (none, inl (page, oldest, due, quiet, well)) = same (ap (λ (x : Machine). x.order) well.leaves) (ap (λ (x : Machine). x.store.log.groups) well.leaves) (ap (λ (x : Machine). x.files) well.leaves)
+    flushed_more (none, inr (inl (old, due, quiet, turns))) = same (ap (λ (x : Machine). x.order) turns.leaves) (ap (λ (x : Machine). x.store.log.groups) turns.leaves ∙ sym none) (ap (λ (x : Machine). x.files) turns.leaves)
+    flushed_more (none, inr (inr (calls, left, fails))) = same (ap (λ (x : Machine). x.order) fails.stops) (ap (λ (x : Machine). x.store.log.groups) fails.stops) (ap (λ (x : Machine). x.files) fails.stops)
 
     worked : Works m actor outcome new → KeepsMarks n m new files'
     worked (inl (by, way, so)) = stayed (outcomes.Blocked by) so
     worked (inr (inl (free, unready, inl (waits, force)))) = forced_all outcomes.Helped force
     worked (inr (inl (free, unready, inr (none, rest)))) =
-        ready_kind m actor outcome new (KeepsMarks n m new files') none flushed_more (performed m.store _ refl) rest
+        ready_kind m outcome new (KeepsMarks n m new files') none flushed_more rest
     worked (inr (inr (free, ready, inl acts))) = performed acts.fetched acts.deed acts.brings.rest.log acts.performs
     worked (inr (inr (free, ready, inr (inl gives)))) = performed gives.fetched _ gives.brings.rest.log gives.performs
     worked (inr (inr (free, ready, inr (inr meets)))) = met meets

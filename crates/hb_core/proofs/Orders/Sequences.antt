@@ -14,7 +14,7 @@ use Rattle.hb_core.specs.declared.outcomes.Outcome.TheVariants as outcomes
 use Rattle.hb_activity.specs.Classes.{line_in_hand}
 use Rattle.hb_activity.specs.Deeds.{Deed, Answers, Says}
 use Rattle.hb_consol.specs.ConsolidatorRows.{IsMergingOf}
-use Rattle.hb_core.proofs.Table.LineFates.{LineFate, fate_given_up, fate_ran_out, fate_row}
+use Rattle.hb_core.proofs.Table.LineFates.{LineFate, fate_given_up, fate_row}
 use Rattle.hb_core.proofs.Orders.LinesFit.{took_job, took_merging}
 use Rattle.hb_core.proofs.Table.MergerMoves.{Waits}
 use Rattle.hb_core.proofs.Orders.NextLines.{IsNextOf, answered_before, earlier_answered, next_is, next_stays, now_answered, same_line, still_answered}
@@ -227,7 +227,7 @@ module _ (m : Machine) (actor : ℕ) (outcome : Outcome) (new : Machine) (sequen
   worked idle (inl (by, way, so)) = stays (stays_so m actor outcome new (outcomes.Blocked by) so)
   worked idle (inr (inl (free, unready, inl (waits, force)))) = stays (forces_so m actor outcome new outcomes.Helped force)
   worked idle (inr (inl (free, unready, inr (none, rest)))) =
-      ready_kind m actor outcome new (LinesInSequence new) none (λ more. stays (more_so m actor outcome new more)) (fated m.store _ idle (fate_ran_out m (m.activity actor))) rest
+      ready_kind m outcome new (LinesInSequence new) none (λ more. stays (more_so m actor outcome new more)) rest
   worked idle (inr (inr (free, ready, inl acts))) = fated acts.fetched acts.deed idle (fate_row m acts.fetched (m.activity actor) _ acts.deed acts.row) acts.performs
   worked idle (inr (inr (free, ready, inr (inl gives)))) = fated gives.fetched _ idle (fate_given_up m gives.why (m.activity actor)) gives.performs
   worked idle (inr (inr (free, ready, inr (inr meets)))) = stays (meets_so m actor outcome new meets)

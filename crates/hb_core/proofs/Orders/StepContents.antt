@@ -14,8 +14,8 @@ use Rattle.hb_activity.specs.Classes.{line_in_hand}
 use Rattle.hb_activity.specs.Deeds.{Deed, does}
 use Rattle.hb_core.proofs.Files.FitOps.{HeldArePoints}
 use Rattle.hb_core.proofs.Memory.KeptPages.{KeepsPages, brought, keeps_pages}
-use Rattle.hb_core.proofs.Table.LineFates.{given_up_joins_nothing, ran_out_joins_nothing}
-use Rattle.hb_core.proofs.Memory.OwnPages.{gives_up_nothing, runs_out_nothing}
+use Rattle.hb_core.proofs.Table.LineFates.{given_up_joins_nothing}
+use Rattle.hb_core.proofs.Memory.OwnPages.{gives_up_nothing}
 use Rattle.hb_core.proofs.Orders.RowContents.{ContentsBecomeBy, JoinsWith, joins_row}
 use Rattle.hb_core.proofs.Files.RowTells.{Tells, tells_row}
 use Rattle.hb_core.proofs.Files.SoundFiles.{FilesHold, brought_shown, files_hold, sound_within_limits, may_be_done, shows_file}
@@ -97,14 +97,15 @@ module _ (makes : MakesGoodPages) (parts : HaveFittingParts) (points : HeldArePo
   joined after (Some entry) order takes = inr (entry, order, takes)
 
   flushed_more : FlushesMore m outcome new → Follows
-  flushed_more (none, left, inl (due, quiet, well)) = unmoved files (ap (λ (n : Machine). n.files) well.leaves ∙ told) (ap (λ (n : Machine). n.order) well.leaves) refl
-  flushed_more (none, left, inr fails) = unmoved files (ap (λ (n : Machine). n.files) fails.stops ∙ told) (ap (λ (n : Machine). n.order) fails.stops) refl
+  flushed_more (none, inl (page, oldest, due, quiet, well)) = unmoved files (ap (λ (n : Machine). n.files) well.leaves ∙ told) (ap (λ (n : Machine). n.order) well.leaves) refl
+  flushed_more (none, inr (inl (old, due, quiet, turns))) = unmoved files (ap (λ (n : Machine). n.files) turns.leaves ∙ told) (ap (λ (n : Machine). n.order) turns.leaves) refl
+  flushed_more (none, inr (inr (calls, left, fails))) = unmoved files (ap (λ (n : Machine). n.files) fails.stops ∙ told) (ap (λ (n : Machine). n.order) fails.stops) refl
 
   worked : Works m actor outcome new → Follows
   worked (inl (by, way, so)) = stays (outcomes.Blocked by) so
   worked (inr (inl (free, unready, inl (waits, force)))) = forces outcomes.Helped force
   worked (inr (inl (free, unready, inr (none, rest)))) =
-      ready_kind m actor outcome new Follows none flushed_more (quiet m.store _ (runs_out_nothing (m.activity actor)) (ran_out_joins_nothing (m.activity actor))) rest
+      ready_kind m outcome new Follows none flushed_more rest
   worked (inr (inr (free, ready, inl acts))) =
       let here = brought m _ acts.fetched acts.brings keeps in
       let hold = brought_shown m files _ acts.fetched told acts.brings holds in

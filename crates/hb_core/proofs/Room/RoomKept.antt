@@ -22,7 +22,7 @@ use Rattle.hb_activity.specs.Classes.{line_in_hand}
 use Rattle.hb_activity.specs.Deeds.{Deed, does}
 use Rattle.hb_activity.specs.Holding.{latch_on}
 use Rattle.hb_activity.specs.Walks.{walk_held}
-use Rattle.hb_core.proofs.Table.NextPlaces.{HasPlace, HoldsNothing, KeepsParent, PartsFull, TakesFull, nothing_given_up, nothing_run_out, now, place_after}
+use Rattle.hb_core.proofs.Table.NextPlaces.{HasPlace, HoldsNothing, KeepsParent, PartsFull, TakesFull, nothing_given_up, now, place_after}
 use Rattle.hb_core.proofs.Room.SplitHalves.{one_has_room, takes_full}
 use Rattle.hb_core.proofs.Room.SplitHome.{RoomLaws}
 use Rattle.hb_core.proofs.Table.StepKinds.{each_kind, FlushesMore, ready_kind}
@@ -92,13 +92,14 @@ module _ (m : Machine) (actor : ℕ) (outcome : Outcome) (new : Machine) where
   by_bad_page meets = ap (λ (x : Machine). x.store.meta.dcap) meets.stops ∙ ap (λ (x : Meta). x.dcap) meets.brings.rest.meta
 
   by_more : FlushesMore m outcome new → SameCapacity m new
-  by_more (none, left, inl (due, quiet, well)) = ap (λ (x : Machine). x.store.meta.dcap) well.leaves
-  by_more (none, left, inr fails) = ap (λ (x : Machine). x.store.meta.dcap) fails.stops
+  by_more (none, inl (page, oldest, due, quiet, well)) = ap (λ (x : Machine). x.store.meta.dcap) well.leaves
+  by_more (none, inr (inl (old, due, quiet, turns))) = ap (λ (x : Machine). x.store.meta.dcap) turns.leaves
+  by_more (none, inr (inr (calls, left, fails))) = ap (λ (x : Machine). x.store.meta.dcap) fails.stops
 
   by_work : Works m actor outcome new → SameCapacity m new
   by_work (inl (by, way, so)) = by_rest (outcomes.Blocked by) so
   by_work (inr (inl (free, unready, inl (waits, force)))) = by_force outcomes.Helped force
-  by_work (inr (inl (free, unready, inr (none, rest)))) = ready_kind m actor outcome new (SameCapacity m new) none by_more (by_deed m.store _ refl) rest
+  by_work (inr (inl (free, unready, inr (none, rest)))) = ready_kind m outcome new (SameCapacity m new) none by_more rest
   by_work (inr (inr (free, ready, inl acts))) = by_deed acts.fetched acts.deed acts.brings.rest.meta acts.performs
   by_work (inr (inr (free, ready, inr (inl gives)))) = by_deed gives.fetched _ gives.brings.rest.meta gives.performs
   by_work (inr (inr (free, ready, inr (inr meets)))) = by_bad_page meets
@@ -335,7 +336,7 @@ module _ (laws : RoomLaws) (least : DCAP_MIN ≡ 6) (m : Machine) (actor : ℕ) 
   worked (inl (by, way, so)) = same_but_disk (stays_so m actor outcome new (outcomes.Blocked by) so)
   worked (inr (inl (free, unready, inl (waits, force)))) = same_but_disk (forces_so m actor outcome new outcomes.Helped force)
   worked (inr (inl (free, unready, inr (none, rest)))) =
-      ready_kind m actor outcome new (KnowsRoom new) none (λ more. same_but_disk (more_so m actor outcome new more)) (λ performs. freed m.store _ performs (nothing_run_out (m.activity actor))) rest
+      ready_kind m outcome new (KnowsRoom new) none (λ more. same_but_disk (more_so m actor outcome new more)) rest
   worked (inr (inr (free, ready, inl acts))) =
       did acts.fetched acts.deed acts.performs
       (knows_there laws least m actor _ acts.fetched latches fit inside within knows acts.brings acts.deed new capacity acts.performs.store (place_after m actor acts.fetched _ acts.deed refl acts.row))

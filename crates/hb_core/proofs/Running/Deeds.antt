@@ -15,7 +15,7 @@ use Rattle.hb_activity.specs.Queue.{AddsJobs, LeavesBy, LeavesFirst}
 use Rattle.hb_store.specs.States.{StoreState}
 use Rattle.hb_core.specs.declared.outcomes.Outcome.{Outcome}
 use Rattle.hb_core.specs.declared.outcomes.Outcome.TheVariants as outcomes
-use Rattle.hb_core.specs.GivingUp.{drops_job, gives_up, reply_for, runs_out}
+use Rattle.hb_core.specs.GivingUp.{drops_job, gives_up, reply_for}
 use Rattle.hb_activity.specs.declared.dropping.DropWhy.{DropWhy}
 use Rattle.hb_activity.specs.declared.holding.Latch.{Latch}
 use Rattle.hb_ops.specs.declared.operations.Op.{Op}
@@ -31,7 +31,7 @@ use Rattle.hb_core.specs.Showing.{RunningCore, number_in_hand}
 use Rattle.hb_core.specs.Working.{IsWorking}
 use Rattle.hb_core.specs.KeptFits.{class_for}
 use Rattle.hb_core.proofs.Table.DeedKinds.{line_is_sessions}
-use Rattle.hb_core.proofs.Table.GivenUp.{given_up_is, idle_latches, run_out_is}
+use Rattle.hb_core.proofs.Table.GivenUp.{given_up_is, idle_latches}
 use Rattle.std.proofs.lemmas.Option.{same_Some, slice_get-get_or}
 use Rattle.hb_space.specs.Actors.{IsActor}
 
@@ -165,66 +165,6 @@ took_job actor job next old left new takes left_so none tied stands =
 -- who is idle pins nothing
 pub can_idle : (st : StoreState) (kind : Class) (pins : List ℕ) (uses : List Use) → CanUnpin pins uses → CanMovePins pins (pages_of (latches_held st (idle_of kind))) uses
 can_idle st kind pins uses can = subst (λ (l : List Latch). CanMovePins pins (pages_of l) uses) (sym (idle_latches kind st)) (can, tt)
-
--- so whoever has these pages pinned may go idle, wherever it stands
-pub can_run_out : (actor : ℕ) (slice items : List ℕ) (idle : Activity) (c : RunningCore) → IsActor actor → length c.activities ≡ 19 → idle ≡ idle_of (class_for actor) → slice ≡ items
-    → ((state : Activity) → StandsAs c actor state → items ≡ pages_of (latches_held c.store state)) → ((state : Activity) → StandsAs c actor state → CanUnpin (pages_of (latches_held c.store state)) c.uses)
-    → CanMovePins slice (pages_of (latches_held c.store idle)) c.uses
-can_run_out actor slice items idle c may all idle_is value held can =
-    let low = may.from_1 in
-    let high = may.to_19 in
-    let state : Activity = get_or c.activities (actor - 1) at.SessionIdle in
-    let stands : StandsAs c actor state = slice_get-get_or c.activities (actor - 1) at.SessionIdle (omega (arith, low, high, all)) in
-    subst (λ (a : Activity). CanMovePins slice (pages_of (latches_held c.store a)) c.uses) (sym idle_is)
-    (can_idle c.store (class_for actor) slice c.uses (subst (λ (l : List ℕ). CanUnpin l c.uses) (sym (value ∙ held state stands)) (can state stands)))
-
-in_hand : (state : Activity) → IsWorking state → number_in_hand state ≡ number_of (hand_of state)
-in_hand (at.SessionWalk line held rest found) works = refl
-in_hand (at.SessionSplit line held) works = refl
-in_hand (at.SessionPut line source fresh) works = refl
-in_hand (at.PosterGrow job) works = refl
-in_hand (at.PosterWalk job held) works = refl
-in_hand (at.PosterChild job parent) works = refl
-in_hand (at.PosterPromote job parent) works = refl
-in_hand (at.PosterAgain job parent) works = refl
-in_hand (at.ConsolidatorWalk job held) works = refl
-in_hand (at.ConsolidatorScan job parent child) works = refl
-in_hand (at.ConsolidatorTry job parent keep gone leaf) works = refl
-in_hand (at.ConsolidatorPromote job parent keep gone) works = refl
-in_hand (at.ConsolidatorKeep job parent keep gone) works = refl
-in_hand (at.ConsolidatorDecide job parent keep gone) works = refl
-in_hand other works = absurd works
-
--- the log has no room for a line, or for a job
-pub line_ran_out : (actor : ℕ) (pins : List ℕ) (state idle : Activity) (number : ℕ) (old new : RunningCore) → IsWorking state → class_of state ≡ class_for actor → Some number ≡ number_in_hand state → idle ≡ idle_of (class_for actor)
-    → IsTied old.store old.uses → CanUnpin pins old.uses → StandsNow actor pins idle old new → DoesDeed actor pins (runs_out state) (outcomes.Answered number replies.Full) old new
-line_ran_out actor pins state idle number old new works class is idle_is tied can stands =
-    run_out_is (λ (deed : Deed). DoesDeed actor pins deed (outcomes.Answered number replies.Full) old new) state
-    (λ line hand.
-    let same : number ≡ line.number = same_Some number line.number (is ∙ in_hand state works ∙ ap number_of hand) in
-    let stood : idle ≡ at.SessionIdle = idle_is ∙ ap idle_of (sym class ∙ line_is_sessions state line hand) in
-    just_stands actor pins (answers_now line.number replies.Full) (outcomes.Answered number replies.Full) old new (ap (λ (n : ℕ). outcomes.Answered n replies.Full) same) refl refl refl refl refl tied (can, tt)
-    (subst (λ (a : Activity). StandsNow actor pins a old new) stood stands))
-    (λ job hand. absurd (none_there number (is ∙ in_hand state works ∙ ap number_of hand)))
-    (λ hand. absurd (none_there number (is ∙ in_hand state works ∙ ap number_of hand)))
-  where
-    none_there : (n : ℕ) → Some n ≡ None → ⊥
-    none_there n e = cc
-
-pub job_ran_out : (actor : ℕ) (pins : List ℕ) (state idle : Activity) (old new : RunningCore) → IsWorking state → class_of state ≡ class_for actor → None ≡ number_in_hand state → idle ≡ idle_of (class_for actor)
-    → IsTied old.store old.uses → CanUnpin pins old.uses → StandsNow actor pins idle old new → DoesDeed actor pins (runs_out state) outcomes.Moved old new
-job_ran_out actor pins state idle old new works class is idle_is tied can stands =
-    run_out_is (λ (deed : Deed). DoesDeed actor pins deed outcomes.Moved old new) state
-    (λ line hand. absurd (none_there line.number (is ∙ in_hand state works ∙ ap number_of hand)))
-    (λ job hand. stood)
-    (λ hand. stood)
-  where
-    none_there : (n : ℕ) → None ≡ Some n → ⊥
-    none_there n e = cc
-
-    stood : DoesDeed actor pins (moves_to (idle_of (class_of state)) []) outcomes.Moved old new
-    stood = just_stands actor pins (moves_to (idle_of (class_of state)) []) outcomes.Moved old new refl refl refl refl refl refl tied (can_idle old.store (class_of state) pins old.uses can)
-        (subst (λ (a : Activity). StandsNow actor pins a old new) (idle_is ∙ ap idle_of (sym class)) stands)
 
 -- what is in hand is given up
 pub line_given_up : (actor : ℕ) (pins : List ℕ) (why : DropWhy) (state idle : Activity) (number : ℕ) (reply : Reply) (old new : RunningCore) → IsWorking state → class_of state ≡ class_for actor → Some number ≡ number_of (hand_of state)

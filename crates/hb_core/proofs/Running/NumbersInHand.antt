@@ -15,9 +15,9 @@ use Rattle.hb_activity.specs.Classes.{line_in_hand}
 use Rattle.hb_activity.specs.Deeds.{Answers, Deed, answers_now, takes_job}
 use Rattle.hb_core.proofs.Orders.NextLines.{next_is}
 use Rattle.hb_core.proofs.Orders.Sequences.{some_such}
-use Rattle.hb_core.proofs.Table.LineFates.{LineFate, Waits, fate_given_up, fate_ran_out, fate_row}
+use Rattle.hb_core.proofs.Table.LineFates.{LineFate, Waits, fate_given_up, fate_row}
 use Rattle.hb_core.proofs.Table.StepKinds.{IsQuiet}
-use Rattle.hb_core.specs.GivingUp.{gives_up, runs_out}
+use Rattle.hb_core.specs.GivingUp.{gives_up}
 use Rattle.hb_core.specs.KeptSequence.{LinesInSequence, awaited_number}
 use Rattle.hb_core.specs.Machines.{Machine, with_disk}
 use Rattle.hb_core.specs.Performing.{outcome_of}
@@ -68,9 +68,6 @@ number_fate m activity deed none (inr (inr gives)) = inr (record {
 
 pub given_up_number : (m : Machine) (why : DropWhy) (activity : Activity) → IsWorking activity → NumberFate activity (gives_up why activity)
 given_up_number m why activity works = number_fate m activity (gives_up why activity) (working_waits_not activity works) (fate_given_up m why activity)
-
-pub ran_out_number : (m : Machine) (activity : Activity) → IsWorking activity → NumberFate activity (runs_out activity)
-ran_out_number m activity works = number_fate m activity (runs_out activity) (working_waits_not activity works) (fate_ran_out m activity)
 
 pub row_number : (m : Machine) (fetched : StoreState) (activity : Activity) (wanted : Option Wanted) (deed : Deed) → IsWorking activity → Row activity wanted (with_disk fetched m.files m.clock m) deed → NumberFate activity deed
 row_number m fetched activity wanted deed works row = number_fate m activity deed (working_waits_not activity works) (fate_row m fetched activity wanted deed row)

@@ -12,7 +12,7 @@ use Rattle.hb_set.specs.declared.scripts.Line.{Line}
 use Rattle.hb_store.specs.declared.stops.StopWhy.{StopWhy}
 use Rattle.hb_core.specs.declared.outcomes.Outcome.{Outcome}
 use Rattle.hb_core.specs.declared.outcomes.Outcome.TheVariants as outcomes
-use Rattle.hb_core.specs.Forcing.{StaysSo}
+use Rattle.hb_core.specs.Forcing.{Flushes, StaysSo}
 use Rattle.hb_core.specs.Machines.{Machine}
 use Rattle.hb_core.specs.Moving.{StandsAs}
 use Rattle.hb_core.specs.Showing.{RunningCore, ShowsMachine}
@@ -106,10 +106,6 @@ module _ (d : DiskModel) (c : RunningCore) (m : Machine) (actor : ℕ) (activity
   pub stands_so : m.activity actor ≡ activity
   stands_so = stands_as d c m actor activity may step.shows stands
 
-  -- the flusher has nothing to do
-  pub idle_stays : activity ≡ at.Flusher → (new : Machine) × StepsTo m actor outcomes.Idle new × ShowsMachine d c new
-  idle_stays is = (m, steps_by m actor outcomes.Idle m at.Flusher runs_so (stands_so ∙ is) (inr (λ never. never, (refl, refl))), step.shows)
-
   -- how many lines lie behind an idle session
   pub lies_behind : activity ≡ at.SessionIdle → (behind : ℕ) × (slice_get c.behind (actor - 1) ≡ Some behind) × (behind ≤ length c.lines)
   lies_behind is =
@@ -130,6 +126,9 @@ module _ {D : Type 0} (model : D → DiskModel) (x y : D) (c after : RunningCore
 
   its_activity : m.activity actor ≡ activity
   its_activity = stands_so (model x) c m actor activity may step runs stands
+
+  pub flusher_step : activity ≡ at.Flusher → ((new : Machine) × Flushes m outcome new × ShowsMachine (model y) after new) → Steps
+  flusher_step is done = (done.0, steps_by m actor outcome done.0 at.Flusher its_stop (its_activity ∙ is) done.1, done.2)
 
   pub line_step : activity ≡ at.SessionIdle → y ≡ x → ((behind : ℕ) → slice_get c.behind (actor - 1) ≡ Some behind → TakesNextLine actor behind outcome c after) → Steps
   line_step is same takes =

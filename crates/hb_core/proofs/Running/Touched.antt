@@ -1,5 +1,5 @@
--- What a step does to the disk: nothing, a force, or a page that is written to its place.
-use Rattle.std.proofs.Common.{◌≡◌, ◌≢◌, inl, inr, ℕ, arith, List, [], Some, IsOk, Ok, Err, refl, sym, ap, ◌∙◌, subst}
+-- What a step does to the disk: nothing, a force, a page that is written to its place, or the beginning of the log's next turn.
+use Rattle.std.proofs.Common.{◌≡◌, ◌≢◌, inl, inr, ℕ, ◌<◌, arith, List, [], None, Some, IsOk, Ok, Err, refl, sym, ap, ◌∙◌, subst}
 use Rattle.hb_activity.specs.declared.activities.Activity.{Activity}
 use Rattle.hb_activity.specs.declared.activities.Activity.TheVariants as at
 use Rattle.hb_activity.specs.Deeds.{Deed}
@@ -12,6 +12,7 @@ use Rattle.hb_set.specs.declared.commands.Reply.TheVariants as replies
 use Rattle.hb_pool.specs.Frames.{Use}
 use Rattle.hb_store.specs.Forced.{WritesGroups}
 use Rattle.hb_store.specs.Held.{StoreHeld, oldest_dirty}
+use Rattle.hb_store.specs.Switching.{SwitchesTurn}
 use Rattle.hb_store.specs.WritingHome.{FlushesHome, WritesHome}
 use Rattle.hb_store.specs.States.{StoreState}
 use Rattle.hb_store.specs.declared.stops.StopWhy.{StopWhy}
@@ -19,7 +20,6 @@ use Rattle.hb_store.specs.declared.stops.StopWhy.TheVariants as stops
 use Rattle.hb_store.specs.declared.stops.WriteFault.{WriteFault}
 use Rattle.hb_core.specs.declared.outcomes.Outcome.{Outcome}
 use Rattle.hb_core.specs.declared.outcomes.Outcome.TheVariants as outcomes
-use Rattle.hb_core.specs.GivingUp.{runs_out}
 use Rattle.hb_core.specs.KeptOrder.{StandsOutside}
 use Rattle.hb_core.specs.Machines.{Machine}
 use Rattle.hb_core.specs.Moving.{DoesDeed, with_stop}
@@ -30,7 +30,6 @@ use Rattle.hb_core.specs.Touching.{EndsByRead, Touches, held_in}
 use Rattle.hb_core.specs.Working.{MayStep}
 use Rattle.hb_core.proofs.Running.ForcedShows.{waits_or_not, with_held}
 use Rattle.hb_core.proofs.Running.WrittenShows.{home_failed}
-use Rattle.hb_core.proofs.Table.GivenUp.{run_out_is}
 
 -- an outcome for which no read and no write failed
 pub record IsWell (outcome : Outcome) : Type 0 where
@@ -60,9 +59,6 @@ memory_reply never = cc
 
 pub full_reply : replies.Full ≡ replies.ReadFault → ⊥
 full_reply never = cc
-
-pub ran_out_well : (activity : Activity) → IsWell (outcome_of (runs_out activity).says)
-ran_out_well activity = run_out_is (λ (deed : Deed). IsWell (outcome_of deed.says)) activity (λ line is. answered_well line.number replies.Full full_reply) (λ job is. moved_well) (λ is. moved_well)
 
 pub line_well : (actor behind : ℕ) (outcome : Outcome) (old new : RunningCore) → TakesNextLine actor behind outcome old new → IsWell outcome
 line_well actor behind outcome old new (inl none) = well_as outcome outcomes.Idle none.0 idle_well
@@ -131,6 +127,26 @@ home_as_failed {T = T} fault id d e old new writes = record {
   clock = writes.clock;
 }
 
+turn_as_unit : {T : Type 0} (v : T) (d e : DiskModel) (old new : StoreHeld) → SwitchesTurn (Ok v) d e old new → SwitchesTurn {T = Unit {0}} (Ok tt) d e old new
+turn_as_unit v d e old new switches = record {
+  switched = switches.switched;
+  stopped = tt;
+  keeps = switches.keeps;
+  moments = switches.moments;
+  wrote = Rewrites-as (Ok v) (Ok tt) _ 9 9 d e (λ failed. cc) (λ failed. cc) (omega arith) switches.wrote;
+  clock = switches.clock;
+}
+
+turn_as_failed : {T : Type 0} (fault : WriteFault) (d e : DiskModel) (old new : StoreHeld) → SwitchesTurn {T = T} (Err fault) d e old new → SwitchesTurn {T = Unit {0}} (Err fault) d e old new
+turn_as_failed {T = T} fault d e old new switches = record {
+  switched = tt;
+  stopped = switches.stopped;
+  keeps = switches.keeps;
+  moments = switches.moments;
+  wrote = Rewrites-as {T = T} (Err fault) (Err fault) _ 9 9 d e (λ failed. refl) (λ failed. refl) (omega arith) switches.wrote;
+  clock = switches.clock;
+}
+
 module _ {D : Type 0} (model : D → DiskModel) (x y : D) (c after : RunningCore) (outcome : Outcome) where
   -- the disk as it was
   pub untouched : IsWell outcome → y ≡ x → Touches (model x) c outcome (model y) after
@@ -163,7 +179,7 @@ module _ {D : Type 0} (model : D → DiskModel) (x y : D) (c after : RunningCore
   }))
 
   pub touched_home : {T : Type 0} (v : T) (id : ℕ) → IsWell outcome → (c.store.log.groups ≡ []) × (oldest_dirty c.uses ≡ Some id) → WritesHome (Ok v) id (model x) (model y) (held_in c) (held_in after) → Touches (model x) c outcome (model y) after
-  touched_home v id well which writes = inr (inr (record {
+  touched_home v id well which writes = inr (inr (inl (record {
     result = Ok tt;
     no_group = which.0;
     page = id;
@@ -171,11 +187,11 @@ module _ {D : Type 0} (model : D → DiskModel) (x y : D) (c after : RunningCore
     writes = home_as_unit v id (model x) (model y) (held_in c) (held_in after) writes;
     says = (λ failed. cc, λ fault. absurd (well.no_write fault));
     no_read = well.no_read;
-  }))
+  })))
 
   pub touched_home_failed : {T : Type 0} (fault : WriteFault) (id : ℕ) → outcome ≡ outcomes.Stopped stops.WriteFault → (c.store.log.groups ≡ []) × (oldest_dirty c.uses ≡ Some id)
       → WritesHome {T = T} (Err fault) id (model x) (model y) (held_in c) (held_in after) → Touches (model x) c outcome (model y) after
-  touched_home_failed fault id says which writes = inr (inr (record {
+  touched_home_failed fault id says which writes = inr (inr (inl (record {
     result = Err fault;
     no_group = which.0;
     page = id;
@@ -183,7 +199,32 @@ module _ {D : Type 0} (model : D → DiskModel) (x y : D) (c after : RunningCore
     writes = home_as_failed fault id (model x) (model y) (held_in c) (held_in after) writes;
     says = (λ failed. says, λ is. refl);
     no_read = λ ends. subst EndsByRead says ends;
-  }))
+  })))
+
+  abbrev BeganTurn : Type 0
+  BeganTurn = (c.store.log.groups ≡ []) × (oldest_dirty c.uses ≡ None) × (0 < c.store.log.written)
+
+  pub touched_turn : {T : Type 0} (v : T) → IsWell outcome → BeganTurn → SwitchesTurn (Ok v) (model x) (model y) (held_in c) (held_in after) → Touches (model x) c outcome (model y) after
+  touched_turn v well which switches = inr (inr (inr (record {
+    result = Ok tt;
+    no_group = which.0;
+    clean = which.1;
+    some = which.2;
+    switches = turn_as_unit v (model x) (model y) (held_in c) (held_in after) switches;
+    says = (λ failed. cc, λ fault. absurd (well.no_write fault));
+    no_read = well.no_read;
+  })))
+
+  pub touched_turn_failed : {T : Type 0} (fault : WriteFault) → outcome ≡ outcomes.Stopped stops.WriteFault → BeganTurn → SwitchesTurn {T = T} (Err fault) (model x) (model y) (held_in c) (held_in after) → Touches (model x) c outcome (model y) after
+  touched_turn_failed fault says which switches = inr (inr (inr (record {
+    result = Err fault;
+    no_group = which.0;
+    clean = which.1;
+    some = which.2;
+    switches = turn_as_failed fault (model x) (model y) (held_in c) (held_in after) switches;
+    says = (λ failed. says, λ is. refl);
+    no_read = λ ends. subst EndsByRead says ends;
+  })))
 
 -- ---- a flush of a core, whose caller stops it where that failed
 
@@ -204,25 +245,31 @@ module _ {D : Type 0} (model : D → DiskModel) (x y : D) (c : RunningCore) (st 
       subst (λ (k : D). Touches (model x) c outcome (model k) after) (sym same)
       (touched_home_failed model x y c after outcome fault id says which (subst (λ (h : StoreHeld). WritesHome {T = T} (Err fault) id (model x) (model y) (held_in c) h) (sym (ap held_in then)) writes))
 
-  -- whichever of the two failed
+  turn_failed_then : (z : D) (after : RunningCore) (outcome : Outcome) {T : Type 0} (fault : WriteFault) → (c.store.log.groups ≡ []) × (oldest_dirty c.uses ≡ None) × (0 < c.store.log.written) → SwitchesTurn {T = T} (Err fault) (model x) (model y) (held_in c) now
+      → outcome ≡ outcomes.Stopped stops.WriteFault → after ≡ with_stop stops.WriteFault (with_held st uses c) → z ≡ y → Touches (model x) c outcome (model z) after
+  turn_failed_then z after outcome {T = T} fault which switches says then same =
+      subst (λ (k : D). Touches (model x) c outcome (model k) after) (sym same)
+      (touched_turn_failed model x y c after outcome fault says which (subst (λ (h : StoreHeld). SwitchesTurn {T = T} (Err fault) (model x) (model y) (held_in c) h) (sym (ap held_in then)) switches))
+
+  -- whichever of them failed
   pub flush_failed_then : (z : D) (after : RunningCore) (outcome : Outcome) {T : Type 0} (fault : WriteFault) → (c.store.log.groups ≢ [] → WritesGroups {T = T} (Err fault) (model x) (model y) c.store st × (uses ≡ c.uses))
       → (c.store.log.groups ≡ [] → FlushesHome {T = T} (Err fault) (model x) (model y) (held_in c) now)
       → outcome ≡ outcomes.Stopped stops.WriteFault → after ≡ with_stop stops.WriteFault (with_held st uses c) → z ≡ y → Touches (model x) c outcome (model z) after
   flush_failed_then z after outcome fault forced cleaned says then same = elim (waits_or_not c.store.log.groups) [
     | inr some ↦ failed_then z after outcome fault (forced some).0 says then same
-    | inl none ↦ let writes = home_failed (model x) (model y) (held_in c) now fault (cleaned none) in home_failed_then z after outcome fault writes.0 (none, writes.1) writes.2 says then same
+    | inl none ↦ elim (home_failed (model x) (model y) (held_in c) now fault (cleaned none)) [
+      | inl (id, oldest, writes) ↦ home_failed_then z after outcome fault id (none, oldest) writes says then same
+      | inr (clean, some, switches) ↦ turn_failed_then z after outcome fault (none, clean, some) switches says then same
+    ]
   ]
 
-  -- one that found nothing, and what ran out of room then
-  pub nothing_then : (z : D) (after : RunningCore) (actor : ℕ) (pins : List ℕ) (activity : Activity) (outcome : Outcome) → ReadsOnly ⊥ (model x) (model y) → DoesDeed actor pins (runs_out activity) outcome (with_held st uses c) after → z ≡ y
-      → Touches (model x) c outcome (model z) after
-  nothing_then z after actor pins activity outcome reads does same =
-      let well = well_as outcome (outcome_of (runs_out activity).says) does.says (ran_out_well activity) in
-      subst (λ (k : D). Touches (model x) c outcome (model k) after) (sym same)
-      (inl (record { only = ReadsOnly-neither (model x) (model y) (λ never. never) well.no_read reads; no_write = λ never. absurd (well.no_write never) }))
+  -- one that found nothing
+  pub flush_idled_then : ReadsOnly ⊥ (model x) (model y) → Touches (model x) c outcomes.Idle (model y) (with_held st uses c)
+  flush_idled_then reads = inl (record { only = ReadsOnly-neither (model x) (model y) (λ never. never) idle_well.no_read reads; no_write = λ never. absurd (idle_well.no_write never) })
 
 -- a core that counted its step is the same to a disk
 pub as_before_count : {D : Type 0} (model : D → DiskModel) (x y : D) (taken : ℕ) (c after : RunningCore) (outcome : Outcome) → Touches (model x) (record c { taken = taken }) outcome (model y) after → Touches (model x) c outcome (model y) after
 as_before_count model x y taken c after outcome (inl reads) = inl (record { only = reads.only; no_write = reads.no_write })
 as_before_count model x y taken c after outcome (inr (inl forces)) = inr (inl (record { result = forces.result; writes = forces.writes; says = forces.says; no_read = forces.no_read }))
-as_before_count model x y taken c after outcome (inr (inr home)) = inr (inr (record { result = home.result; no_group = home.no_group; page = home.page; oldest = home.oldest; writes = home.writes; says = home.says; no_read = home.no_read }))
+as_before_count model x y taken c after outcome (inr (inr (inl home))) = inr (inr (inl (record { result = home.result; no_group = home.no_group; page = home.page; oldest = home.oldest; writes = home.writes; says = home.says; no_read = home.no_read })))
+as_before_count model x y taken c after outcome (inr (inr (inr turn))) = inr (inr (inr (record { result = turn.result; no_group = turn.no_group; clean = turn.clean; some = turn.some; switches = turn.switches; says = turn.says; no_read = turn.no_read })))

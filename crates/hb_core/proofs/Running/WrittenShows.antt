@@ -1,5 +1,5 @@
 -- A core that writes the least recently used dirty page to its place, or finds nothing to write, shows what this makes of the machine.
-use Rattle.std.proofs.Common.{◌≡◌, ℕ, ◌+◌, ◌-◌, ◌++◌, List, Option, Some, None, IsOk, IsSome, IfSome, Ok, Err, Result, refl, sym, ap, ◌∙◌, subst}
+use Rattle.std.proofs.Common.{◌≡◌, ℕ, ◌+◌, ◌-◌, ◌++◌, List, Option, Some, None, IsOk, IsSome, IfSome, Ok, Err, Result, refl, sym, ap, ◌∙◌, subst, ◌⊎◌, ◌<◌, inl, inr, [], arith}
 use Rattle.std.specs.Prelude.{MatchOption, replicate}
 use Rattle.hb_disk.specs.Calls.{IsSynced, ReadsOnly}
 use Rattle.hb_disk.specs.Model.{DiskModel, Stays}
@@ -10,17 +10,19 @@ use Rattle.hb_space.specs.declared.form.TheConstants.{PAGE}
 use Rattle.hb_store.specs.Held.{StoreHeld, cleaned_state, oldest_dirty}
 use Rattle.hb_store.specs.Keeps.{StoreKeeps}
 use Rattle.hb_store.specs.States.{StoreState}
-use Rattle.hb_store.specs.WritingHome.{FlushesHome, WritesHome}
+use Rattle.hb_store.specs.Switching.{SwitchesTurn, switched_state}
+use Rattle.hb_store.specs.WritingHome.{FlushesClean, FlushesHome, WritesHome}
 use Rattle.hb_store.specs.declared.stops.StopWhy.TheVariants as stops
 use Rattle.hb_store.specs.declared.stops.WriteFault.{WriteFault}
 use Rattle.hb_wal.specs.Frames.{frames, range}
 use Rattle.hb_core.specs.declared.outcomes.Outcome.{Outcome}
 use Rattle.hb_core.specs.declared.outcomes.Outcome.TheVariants as outcomes
-use Rattle.hb_core.specs.Forcing.{FailsToWrite, FlushesWell, HasMoreToFlush}
+use Rattle.hb_core.specs.Forcing.{BeginsTurn, FailsToWrite, HasDirtyPage, HasOldTurn, WritesOldest}
 use Rattle.hb_core.specs.Machines.{Machine, with_disk, with_uses}
 use Rattle.hb_core.specs.Moving.{with_stop}
 use Rattle.hb_core.specs.Showing.{RunningCore, ShowsMachine}
 use Rattle.hb_core.specs.Touching.{held_in}
+use Rattle.hb_core.proofs.Facts.RunDisks.{none_later}
 use Rattle.hb_core.proofs.Running.ForcedShows.{fails_by, kept_before, shown_with, silent_before, told_before, with_held}
 
 -- ---- a disk that stays
@@ -83,19 +85,16 @@ module _ (d e : DiskModel) (c : RunningCore) (st : StoreState) (uses : List Use)
   -- ---- a page was written to its place
 
   module _ (id : ℕ) (oldest : oldest_dirty c.uses ≡ Some id) where
-    oldest_now : oldest_dirty m.uses ≡ Some id
+    pub oldest_now : HasDirtyPage m id
     oldest_now = ap oldest_dirty shows.uses ∙ oldest
-
-    pub has_more : HasMoreToFlush m
-    has_more = subst (λ (o : Option ℕ). IsSome o) (sym oldest_now) refl
 
     abbrev written : Machine
     written = with_uses (in_place id clean m.uses) (with_disk (cleaned_state id m.store) m.files (m.clock + 1) m)
 
-    pub writes_well : {T : Type 0} (v : T) (due : Outcome) → WritesHome (Ok v) id d e (held_in c) now → (new : Machine) × FlushesWell m due due new × ShowsMachine e (with_held st uses c) new
+    pub writes_well : {T : Type 0} (v : T) (due : Outcome) → WritesHome (Ok v) id d e (held_in c) now → (new : Machine) × WritesOldest m id due due new × ShowsMachine e (with_held st uses c) new
     writes_well v due writes = (
       written,
-      record { page = id; oldest = oldest_now; says = refl; leaves = refl },
+      record { says = refl; leaves = refl },
       shown_with d e c st uses m shows (cleaned_state id m.store) (in_place id clean m.uses) m.files (m.clock + 1) store used
           (λ told.
           let was = told_before d.told e.told writes.wrote.became.silent told in
@@ -119,25 +118,89 @@ module _ (d e : DiskModel) (c : RunningCore) (st : StoreState) (uses : List Use)
         → (new : Machine) × FailsToWrite m 1 (outcomes.Stopped stops.WriteFault) new × ShowsMachine e (with_stop stops.WriteFault (with_held st uses c)) new
     fails_home fault writes = fails_by d e c st uses m shows _ 1 writes.wrote.became writes.wrote.later writes.wrote.few writes.stopped.0 writes.stopped.1 writes.keeps
 
--- ---- which of the two it was
+  -- ---- the next turn began
+
+  module _ (none : c.store.log.groups ≡ []) (old : (oldest_dirty c.uses ≡ None) × (0 < c.store.log.written)) where
+    pub old_now : HasOldTurn m
+    old_now = (ap oldest_dirty shows.uses ∙ old.0, subst (λ (s : StoreState). 0 < s.log.written) (sym shows.store) old.1)
+
+    -- what holds where no file is to come holds of each list of those that are to come
+    keeps_then : ((durable : FileState) → StoreKeeps d c.store durable [] → StoreKeeps e st durable []) → (durable : FileState) (later : List FileState) → StoreKeeps d c.store durable later → StoreKeeps e st durable later
+    keeps_then keeps durable later kept =
+        let empty = none_later d c.store durable later none kept in
+        subst (λ (l : List FileState). StoreKeeps e st durable l) (sym empty) (keeps durable (subst (λ (l : List FileState). StoreKeeps d c.store durable l) empty kept))
+
+    abbrev turned : Machine
+    turned = with_disk (switched_state m.store) m.files (m.clock + 9) m
+
+    pub turns_well : {T : Type 0} (v : T) (due : Outcome) → SwitchesTurn (Ok v) d e (held_in c) now → (new : Machine) × BeginsTurn m due due new × ShowsMachine e (with_held st uses c) new
+    turns_well v due switches = (
+      turned,
+      record { says = refl; leaves = refl },
+      shown_with d e c st uses m shows (switched_state m.store) m.uses m.files (m.clock + 9) store used
+          (λ told.
+          let was = told_before d.told e.told switches.wrote.became.silent told in
+          let had = shows.tells was in
+          record {
+            files = had.files;
+            told = had.told;
+            kept = subst (λ (s : StoreState). StoreKeeps e s had.files.durable had.files.later) (sym store) (keeps_then switches.keeps had.files.durable had.files.later (kept_before d e c st uses m shows had));
+            clock = ap (λ (n : ℕ). n + 9) had.clock ∙ sym (switches.clock was);
+          })
+          (λ untold. shows.silent (silent_before _ d.told e.told switches.wrote.became.told untold)),
+    )
+      where
+        store : switched_state m.store ≡ st
+        store = ap switched_state shows.store ∙ ap (λ (h : StoreHeld). h.state) (sym switches.switched)
+
+        used : m.uses ≡ uses
+        used = shows.uses ∙ ap (λ (h : StoreHeld). h.uses) (sym switches.switched)
+
+    pub fails_turn : {T : Type 0} (fault : WriteFault) → SwitchesTurn {T = T} (Err fault) d e (held_in c) now
+        → (new : Machine) × FailsToWrite m 9 (outcomes.Stopped stops.WriteFault) new × ShowsMachine e (with_stop stops.WriteFault (with_held st uses c)) new
+    fails_turn fault switches = fails_by d e c st uses m shows _ 9 switches.wrote.became switches.wrote.later switches.wrote.few switches.stopped.0 switches.stopped.1 (keeps_then switches.keeps)
+
+-- ---- which of them it was
+
+no_ok : (T : Type 0) (fault : WriteFault) → IsOk {T = T} {E = WriteFault} (Err fault) → ⊥
+no_ok T fault is = cc
 
 module _ {T : Type 0} (d e : DiskModel) (old new : StoreHeld) where
   abbrev Home : Result T WriteFault → Option ℕ → Type 0
-  Home result oldest = MatchOption oldest (IsOk result × ReadsOnly ⊥ d e × (new ≡ old)) (λ id. WritesHome result id d e old new)
+  Home result oldest = MatchOption oldest (FlushesClean result d e old new) (λ id. WritesHome result id d e old new)
 
   pub home_some : (result : Result T WriteFault) (id : ℕ) → oldest_dirty old.uses ≡ Some id → FlushesHome result d e old new → WritesHome result id d e old new
   home_some result id is flushes = subst (Home result) is flushes
 
-  pub home_none : (result : Result T WriteFault) → oldest_dirty old.uses ≡ None → FlushesHome result d e old new → ReadsOnly ⊥ d e × (new ≡ old)
-  home_none result is flushes = let home = subst (Home result) is flushes in (home.1, home.2)
+  flushes_clean : (result : Result T WriteFault) → oldest_dirty old.uses ≡ None → FlushesHome result d e old new → FlushesClean result d e old new
+  flushes_clean result is flushes = subst (Home result) is flushes
 
-  -- one that failed wrote
-  pub home_failed : (fault : WriteFault) → FlushesHome {T = T} (Err fault) d e old new → (id : ℕ) × (oldest_dirty old.uses ≡ Some id) × WritesHome {T = T} (Err fault) id d e old new
+  pub home_turn : (result : Result T WriteFault) → (oldest_dirty old.uses ≡ None) × (0 < old.state.log.written) → FlushesHome result d e old new → SwitchesTurn result d e old new
+  home_turn result (is, some) flushes = by (flushes_clean result is flushes)
+    where
+      by : FlushesClean result d e old new → SwitchesTurn result d e old new
+      by (inl (_, switches)) = switches
+      by (inr (none, ok, reads, same)) = absurd (omega (arith, some, none))
+
+  pub home_none : (result : Result T WriteFault) → (oldest_dirty old.uses ≡ None) × (old.state.log.written ≡ 0) → FlushesHome result d e old new → ReadsOnly ⊥ d e × (new ≡ old)
+  home_none result (is, none) flushes = by (flushes_clean result is flushes)
+    where
+      by : FlushesClean result d e old new → ReadsOnly ⊥ d e × (new ≡ old)
+      by (inl (some, _)) = absurd (omega (arith, some, none))
+      by (inr (_, ok, reads, same)) = (reads, same)
+
+  -- one that failed wrote a page, or began a turn
+  pub home_failed : (fault : WriteFault) → FlushesHome {T = T} (Err fault) d e old new
+      → ((id : ℕ) × (oldest_dirty old.uses ≡ Some id) × WritesHome {T = T} (Err fault) id d e old new)
+      ⊎ ((oldest_dirty old.uses ≡ None) × (0 < old.state.log.written) × SwitchesTurn {T = T} (Err fault) d e old new)
   home_failed fault flushes = by (oldest_dirty old.uses) refl
     where
-      never : IsOk {T = T} {E = WriteFault} (Err fault) → ⊥
-      never is = cc
+      turned : oldest_dirty old.uses ≡ None → FlushesClean {T = T} (Err fault) d e old new → (oldest_dirty old.uses ≡ None) × (0 < old.state.log.written) × SwitchesTurn {T = T} (Err fault) d e old new
+      turned is (inl (some, switches)) = (is, some, switches)
+      turned is (inr (none, ok, reads, same)) = absurd (no_ok T fault ok)
 
-      by : (o : Option ℕ) → oldest_dirty old.uses ≡ o → (id : ℕ) × (oldest_dirty old.uses ≡ Some id) × WritesHome {T = T} (Err fault) id d e old new
-      by None is = absurd (never (subst (Home (Err fault)) is flushes).0)
-      by (Some id) is = (id, is, subst (Home (Err fault)) is flushes)
+      by : (o : Option ℕ) → oldest_dirty old.uses ≡ o
+          → ((id : ℕ) × (oldest_dirty old.uses ≡ Some id) × WritesHome {T = T} (Err fault) id d e old new)
+          ⊎ ((oldest_dirty old.uses ≡ None) × (0 < old.state.log.written) × SwitchesTurn {T = T} (Err fault) d e old new)
+      by None is = inr (turned is (flushes_clean (Err fault) is flushes))
+      by (Some id) is = inl (id, is, subst (Home (Err fault)) is flushes)

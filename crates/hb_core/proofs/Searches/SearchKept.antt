@@ -38,7 +38,7 @@ use Rattle.hb_core.proofs.Searches.LeafRecords.{leaf_of, records_of_leaf}
 use Rattle.hb_core.proofs.Searches.SearchRow.{joined_before, walk_row, walked_before}
 use Rattle.hb_core.proofs.Searches.SortedRecords.{reply_is}
 use Rattle.hb_core.proofs.Table.DeedKinds.{each_deed}
-use Rattle.hb_core.proofs.Table.LineFates.{given_up_joins_nothing, ran_out_joins_nothing}
+use Rattle.hb_core.proofs.Table.LineFates.{given_up_joins_nothing}
 use Rattle.hb_core.proofs.Table.StepSays.{each_saying}
 use Rattle.hb_core.proofs.Table.Ways.{KeepsAllButDisk, others_stay}
 use Rattle.hb_core.specs.Acting.{DoesRow}
@@ -261,7 +261,6 @@ module _ (points : HeldArePoints) (standing : StandingIsContents) (lacking : Lac
       posts = λ deed idle taken performs. joins_not deed performs (ap (λ (d : Deed). d.joins) taken.deed_is);
       merges = λ deed idle taken performs. joins_not deed performs (ap (λ (d : Deed). d.joins) taken.deed_is);
       settles = λ number place reply is settled performs. joins_not _ performs refl;
-      runs = λ runs. joins_not _ runs.performs (ran_out_joins_nothing (m.activity actor));
       does = acts;
       gives = λ gives. joins_not _ gives.performs (given_up_joins_nothing gives.why (m.activity actor));
     }) step

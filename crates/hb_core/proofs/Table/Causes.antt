@@ -16,15 +16,15 @@ use Rattle.hb_core.specs.declared.outcomes.Outcome.TheVariants as outcomes
 use Rattle.hb_activity.specs.Classes.{Empty, Hand, HasJob, HasLine, hand_of, job_in_work, job_of, line_in_hand, line_of}
 use Rattle.hb_activity.specs.Deeds.{Deed, GoesOn}
 use Rattle.hb_consol.specs.ConsolidatorRows.{IsMergingOf}
-use Rattle.hb_core.proofs.Table.GivenUp.{given_up_is, run_out_is}
+use Rattle.hb_core.proofs.Table.GivenUp.{given_up_is}
 use Rattle.hb_core.proofs.Table.QueueMoves.{joins_or_full, left_or_taken, still_waits}
 use Rattle.hb_core.proofs.Table.RowFates.{HasFate, JobFate, RowSaying, fate_of_job, saying_of}
 use Rattle.hb_core.proofs.Table.StepSays.{each_saying}
 use Rattle.hb_core.specs.Acting.{DoesRow}
 use Rattle.hb_core.specs.Asking.{wanted_by}
-use Rattle.hb_core.specs.CauseLaws.{AnswersFirstLine, BeginsSearch, CannotBeReady, FullByCause, GaveUpFor, SplitFindsNoPage, NoMemoryByCause, ReadFaultByCause}
+use Rattle.hb_core.specs.CauseLaws.{AnswersFirstLine, BeginsSearch, FullByCause, GaveUpFor, SplitFindsNoPage, NoMemoryByCause, ReadFaultByCause}
 use Rattle.hb_core.specs.JobLaws.{DropsByCause, EndsByRow, FindsNoPlace, JobsEndByCause, JobsLeaveToWorkers, IsTakenFrom, IsWorkerOf}
-use Rattle.hb_core.specs.GivingUp.{gives_up, reply_for, runs_out}
+use Rattle.hb_core.specs.GivingUp.{gives_up, reply_for}
 use Rattle.hb_core.specs.KeptMachine.{MachineKeeps}
 use Rattle.hb_core.specs.KeptOrder.{StandsOutside}
 use Rattle.hb_core.specs.KeptSequence.{awaited_number}
@@ -58,7 +58,6 @@ not_dropped number reply why is = cc
 pub record Answering (m : Machine) (actor number : ℕ) (reply : Reply) (new : Machine) (G : Type 0) : Type 0 where
   pub refuses : (line : Line) → m.activity actor ≡ at.SessionIdle → next_line actor m.answered m.lines ≡ Some line → BeginsSearch m actor → number ≡ line.number → reply ≡ replies.NoMemory → G
   pub settles : (place : ℕ) → m.activity actor ≡ at.SessionAwait number reply place → G
-  pub runs : (line : Line) → line_in_hand (m.activity actor) ≡ Some line → number ≡ line.number → CannotBeReady m actor → reply ≡ replies.Full → G
   pub full : (line : Line) (held : ℕ) → m.activity actor ≡ at.SessionSplit line held → number ≡ line.number → m.store.meta.live ≡ m.store.meta.pages → reply ≡ replies.Full → G
   pub gives : (line : Line) (why : DropWhy) → line_in_hand (m.activity actor) ≡ Some line → number ≡ line.number → GaveUpFor why m actor → reply ≡ reply_for why → G
 
@@ -79,11 +78,6 @@ module _ (m : Machine) (actor number : ℕ) (reply : Reply) (new : Machine) (G :
   settled other place given is (number_is, reply_is) =
       shows.settles place (is ∙ ap (λ (n : ℕ). at.SessionAwait n given place) (sym number_is) ∙ ap (λ (r : Reply). at.SessionAwait number r place) (sym reply_is))
 
-  ran_out : CannotBeReady m actor → said ≡ outcome_of (runs_out (m.activity actor)).says → G
-  ran_out cause = run_out_is (λ deed. said ≡ outcome_of deed.says → G) (m.activity actor)
-      (λ line hand is. let parts = answered_with number line.number reply replies.Full is in shows.runs line (ap line_of hand) parts.0 cause parts.1)
-      (λ job hand is. moved is) (λ hand is. moved is)
-
   gave_up : (why : DropWhy) → GaveUpFor why m actor → said ≡ outcome_of (gives_up why (m.activity actor)).says → G
   gave_up why cause = given_up_is (λ deed. said ≡ outcome_of deed.says → G) why (m.activity actor)
       (λ line hand is. let parts = answered_with number line.number reply (reply_for why) is in shows.gives line why (ap line_of hand) parts.0 cause parts.1)
@@ -103,7 +97,6 @@ module _ (m : Machine) (actor number : ℕ) (reply : Reply) (new : Machine) (G :
     posts = λ deed idle takes performs. quiet deed (ap (λ (d : Deed). d.says) takes.deed_is) performs.says;
     merges = λ deed idle takes performs. quiet deed (ap (λ (d : Deed). d.says) takes.deed_is) performs.says;
     settles = λ other place given is less performs. settled other place given is (answered_with number other reply given performs.says);
-    runs = λ runs. ran_out (record { unready = runs.unready; no_group = runs.no_group; nothing_left = runs.nothing_left }) runs.performs.says;
     does = λ acts. row_said (with_disk acts.fetched m.files m.clock m) acts.deed acts.brings.rest.meta (saying_of (with_disk acts.fetched m.files m.clock m) (m.activity actor) (wanted_by m actor) acts.deed acts.row) acts.performs.says;
     gives = λ gives. gave_up gives.why (record { fetched = gives.fetched; brings = gives.brings; cause = gives.cause }) gives.performs.says;
   }) step
@@ -115,7 +108,6 @@ pub answers_first_line : AnswersFirstLine
 answers_first_line m actor number reply new keeps step = answering m actor number reply new (IsFirst m actor number) (record {
   refuses = λ line idle next begins number_is reply_is. first line next number_is;
   settles = λ place is. at_value (awaited_number (m.activity actor)) (λ number. IsSomeAnd (next_line actor m.answered m.lines) (λ line. line.number ≡ number)) number (ap awaited_number is) (keeps.lines_in_sequence.awaited actor);
-  runs = λ line hand number_is cause reply_is. in_hand line hand number_is;
   full = λ line held is number_is none_free reply_is. in_hand line (ap line_in_hand is) number_is;
   gives = λ line why hand number_is cause reply_is. in_hand line hand number_is;
 }) step
@@ -160,7 +152,6 @@ pub read_fault_by_cause : ReadFaultByCause
 read_fault_by_cause m actor number new keeps step = answering m actor number replies.ReadFault new (GaveUpFor drops.ReadFault m actor) (record {
   refuses = λ line idle next begins number_is reply_is. absurd (fault_memory reply_is);
   settles = λ place is. absurd (kept_inside m actor number place replies.ReadFault keeps tt is);
-  runs = λ line hand number_is cause reply_is. absurd (fault_full reply_is);
   full = λ line held is number_is none_free reply_is. absurd (fault_full reply_is);
   gives = λ line why hand number_is cause reply_is. subst (λ (why : DropWhy). GaveUpFor why m actor) (fault_why why reply_is) cause;
 }) step
@@ -169,18 +160,16 @@ pub no_memory_by_cause : NoMemoryByCause
 no_memory_by_cause m actor number new keeps step = answering m actor number replies.NoMemory new (GaveUpFor drops.NoMemory m actor ⊎ BeginsSearch m actor) (record {
   refuses = λ line idle next begins number_is reply_is. inr begins;
   settles = λ place is. absurd (kept_inside m actor number place replies.NoMemory keeps tt is);
-  runs = λ line hand number_is cause reply_is. absurd (memory_full reply_is);
   full = λ line held is number_is none_free reply_is. absurd (memory_full reply_is);
   gives = λ line why hand number_is cause reply_is. inl (subst (λ (why : DropWhy). GaveUpFor why m actor) (memory_why why reply_is) cause);
 }) step
 
 pub full_by_cause : FullByCause
-full_by_cause m actor number new keeps step = answering m actor number replies.Full new (SplitFindsNoPage m actor number ⊎ CannotBeReady m actor) (record {
+full_by_cause m actor number new keeps step = answering m actor number replies.Full new (SplitFindsNoPage m actor number) (record {
   refuses = λ line idle next begins number_is reply_is. absurd (full_memory reply_is);
   settles = λ place is. absurd (kept_inside m actor number place replies.Full keeps tt is);
-  runs = λ line hand number_is cause reply_is. inr cause;
-  full = λ line held is number_is none_free reply_is. inl (let has = keeps.room_known.splits actor held line is in
-      record { line = line; held = held; stands = is; number_is = sym number_is; rec = has.0; command = has.1; lacks = has.2; none_free = none_free });
+  full = λ line held is number_is none_free reply_is. let has = keeps.room_known.splits actor held line is in
+      record { line = line; held = held; stands = is; number_is = sym number_is; rec = has.0; command = has.1; lacks = has.2; none_free = none_free };
   gives = λ line why hand number_is cause reply_is. absurd (full_why why reply_is);
 }) step
 
@@ -203,9 +192,6 @@ module _ (m : Machine) (actor : ℕ) (why : DropWhy) (new : Machine) where
   none_row n deed (inl goes) is = none_quiet deed goes.says is
   none_row n deed (inr row) is = none_answered row.line.number replies.Full (is ∙ ap (λ (d : Deed). outcome_of d.says) row.deed_is)
 
-  none_ran_out : dropped ≡ outcome_of (runs_out (m.activity actor)).says → GaveUpFor why m actor
-  none_ran_out = run_out_is (λ deed. dropped ≡ outcome_of deed.says → GaveUpFor why m actor) (m.activity actor) (λ line hand is. none_answered line.number replies.Full is) (λ job hand is. none_moved is) (λ hand is. none_moved is)
-
   gave_up_job : (other : DropWhy) → GaveUpFor other m actor → dropped ≡ outcome_of (gives_up other (m.activity actor)).says → GaveUpFor why m actor
   gave_up_job other cause = given_up_is (λ deed. dropped ≡ outcome_of deed.says → GaveUpFor why m actor) other (m.activity actor)
       (λ line hand is. none_answered line.number (reply_for other) is)
@@ -220,7 +206,6 @@ drops_by_cause m actor why new step = each_saying m actor (outcomes.Dropped why)
   posts = λ deed idle takes performs. none_quiet m actor why new deed (ap (λ (d : Deed). d.says) takes.deed_is) performs.says;
   merges = λ deed idle takes performs. none_quiet m actor why new deed (ap (λ (d : Deed). d.says) takes.deed_is) performs.says;
   settles = λ number place reply is less performs. none_answered m actor why new number reply performs.says;
-  runs = λ runs. none_ran_out m actor why new runs.performs.says;
   does = λ acts. none_row m actor why new (with_disk acts.fetched m.files m.clock m) acts.deed (saying_of (with_disk acts.fetched m.files m.clock m) (m.activity actor) (wanted_by m actor) acts.deed acts.row) acts.performs.says;
   gives = λ gives. gave_up_job m actor why new gives.why (record { fetched = gives.fetched; brings = gives.brings; cause = gives.cause }) gives.performs.says;
 }) step
@@ -234,9 +219,6 @@ own_place m fetched actor deed outcome new performs = performs.activity actor �
 row_takes_nothing : (m : Machine) (activity : Activity) (deed : Deed) → RowSaying m activity deed → deed.takes ≡ None
 row_takes_nothing m activity deed (inl goes) = goes.takes
 row_takes_nothing m activity deed (inr row) = ap (λ (d : Deed). d.takes) row.deed_is
-
-runs_out_takes_nothing : (activity : Activity) → (runs_out activity).takes ≡ None
-runs_out_takes_nothing activity = run_out_is (λ deed. deed.takes ≡ None) activity (λ line is. refl) (λ job is. refl) (λ is. refl)
 
 given_up_takes_nothing : (why : DropWhy) (activity : Activity) → (gives_up why activity).takes ≡ None
 given_up_takes_nothing why activity = given_up_is (λ deed. deed.takes ≡ None) why activity (λ line is. refl) (λ job is. refl) (λ is. refl)
@@ -305,7 +287,6 @@ jobs_leave_to_workers m actor outcome new job step waits = each_saying m actor o
   posts = λ deed idle takes performs. posts m actor outcome new job waits deed idle takes performs;
   merges = λ deed idle takes performs. merges m actor outcome new job waits deed idle takes performs;
   settles = λ number place reply is less performs. takes_none m actor outcome new job waits m.store _ performs refl;
-  runs = λ runs. takes_none m actor outcome new job waits m.store _ runs.performs (runs_out_takes_nothing (m.activity actor));
   does = λ acts. takes_none m actor outcome new job waits acts.fetched acts.deed acts.performs
       (row_takes_nothing (with_disk acts.fetched m.files m.clock m) (m.activity actor) acts.deed (saying_of (with_disk acts.fetched m.files m.clock m) (m.activity actor) (wanted_by m actor) acts.deed acts.row));
   gives = λ gives. takes_none m actor outcome new job waits gives.fetched _ gives.performs (given_up_takes_nothing gives.why (m.activity actor));
@@ -320,7 +301,6 @@ module _ (m : Machine) (actor : ℕ) (job : Job) (outcome : Outcome) (new : Mach
       ⊎ Contains new.jobs job
       ⊎ ((why : DropWhy) × (outcome ≡ outcomes.Dropped why))
       ⊎ EndsByRow m actor job outcome new
-      ⊎ CannotBeReady m actor
 
   -- who has a job in work isn't idle, and has no line in hand
   works_not : (activity : Activity) → m.activity actor ≡ activity → job_in_work activity ≡ None → Ended
@@ -348,12 +328,12 @@ module _ (m : Machine) (actor : ℕ) (job : Job) (outcome : Outcome) (new : Mach
     where
       back : Contains new.jobs job ⊎ FindsNoPlace job new.jobs → Contains does.deed.adds job → Ended
       back (inl waits) adds = inr (inl waits)
-      back (inr full) adds = inr (inr (inr (inl (record { does = does; wanted = has.its; wants = has.wants; page = has.page; live = has.live; cause = inr (adds, full) }))))
+      back (inr full) adds = inr (inr (inr (record { does = does; wanted = has.its; wants = has.wants; page = has.page; live = has.live; cause = inr (adds, full) })))
 
       by : JobFate (with_disk does.fetched m.files m.clock m) (m.activity actor) job has.page does.deed → Ended
       by (inl stays) = inl (ap job_in_work (own_place m does.fetched actor does.deed outcome new does.performs) ∙ stays)
       by (inr (inl adds)) = back (joins_or_full does.deed.adds job does.performs.jobs.left new.jobs does.performs.jobs.adds adds) adds
-      by (inr (inr ends)) = inr (inr (inr (inl (record { does = does; wanted = has.its; wants = has.wants; page = has.page; live = has.live; cause = inl ends }))))
+      by (inr (inr ends)) = inr (inr (inr (record { does = does; wanted = has.its; wants = has.wants; page = has.page; live = has.live; cause = inl ends })))
 
 pub jobs_end_by_cause : JobsEndByCause
 jobs_end_by_cause m actor job outcome new step work = each_saying m actor outcome new (Ended m actor job outcome new work) (record {
@@ -363,7 +343,6 @@ jobs_end_by_cause m actor job outcome new step work = each_saying m actor outcom
   posts = λ deed idle takes performs. works_not m actor job outcome new work at.PosterIdle idle refl;
   merges = λ deed idle takes performs. works_not m actor job outcome new work at.ConsolidatorIdle idle refl;
   settles = λ number place reply is less performs. works_not m actor job outcome new work (at.SessionAwait number reply place) is refl;
-  runs = λ runs. inr (inr (inr (inr (record { unready = runs.unready; no_group = runs.no_group; nothing_left = runs.nothing_left }))));
   does = λ acts. row_ended m actor job outcome new work acts (fate_of_job (with_disk acts.fetched m.files m.clock m) (m.activity actor) (wanted_by m actor) job acts.deed work acts.row);
   gives = λ gives. given m actor job outcome new work gives.why gives.performs.says;
 }) step

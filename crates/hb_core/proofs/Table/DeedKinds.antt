@@ -10,12 +10,12 @@ use Rattle.hb_core.specs.declared.outcomes.Outcome.{Outcome}
 use Rattle.hb_core.specs.declared.outcomes.Outcome.TheVariants as outcomes
 use Rattle.hb_activity.specs.Classes.{Class, Sessions, Posters, Consolidators, Flushers, Empty, HasLine, class_of, hand_of, idle_of}
 use Rattle.hb_activity.specs.Deeds.{Deed, answers_now}
-use Rattle.hb_core.proofs.Table.GivenUp.{given_up_is, idle_hand, run_out_is}
+use Rattle.hb_core.proofs.Table.GivenUp.{given_up_is, idle_hand}
 use Rattle.hb_core.proofs.Table.StepKinds.{each_step, FlushesMore, ready_kind}
 use Rattle.hb_core.proofs.Table.Ways.{KeepsAllButDisk, forces_so, meets_so, more_so, stays_so}
 use Rattle.hb_core.specs.Acting.{DoesRow}
 use Rattle.hb_core.specs.Forcing.{ForcesAll, StaysSo}
-use Rattle.hb_core.specs.GivingUp.{gives_up, runs_out}
+use Rattle.hb_core.specs.GivingUp.{gives_up}
 use Rattle.hb_core.specs.Machines.{Machine, with_activity}
 use Rattle.hb_core.specs.Performing.{Performs}
 use Rattle.hb_core.specs.Steps.{StepsTo, TakesJob, TakesMerging, Works}
@@ -54,12 +54,6 @@ gives why activity = given_up_is (EndsHand activity) why activity
     (λ job is. record { kind = idle_kind (class_of activity); hand = idle_hand (class_of activity); op = refl; takes = refl; adds = refl })
     (λ is. record { kind = idle_kind (class_of activity); hand = idle_hand (class_of activity); op = refl; takes = refl; adds = refl })
 
-runs : (activity : Activity) → EndsHand activity (runs_out activity)
-runs activity = run_out_is (EndsHand activity) activity
-    (λ line is. answers activity line.number _ (line_is_sessions activity line is))
-    (λ job is. record { kind = idle_kind (class_of activity); hand = idle_hand (class_of activity); op = refl; takes = refl; adds = refl })
-    (λ is. record { kind = idle_kind (class_of activity); hand = idle_hand (class_of activity); op = refl; takes = refl; adds = refl })
-
 -- What is to be shown of each deed.
 pub record ShowsDeeds (m : Machine) (actor : ℕ) (outcome : Outcome) (new : Machine) (G : Type 0) : Type 0 where
   pub keeps : KeepsAllButDisk m new → new.store.meta ≡ m.store.meta → G
@@ -78,8 +72,9 @@ module _ (m : Machine) (actor : ℕ) (outcome : Outcome) (new : Machine) (G : Ty
   forced_meta said (inr badly) = ap (λ (n : Machine). n.store.meta) badly.1.stops
 
   more_meta : FlushesMore m outcome new → new.store.meta ≡ m.store.meta
-  more_meta (none, left, inl (due, quiet, well)) = ap (λ (n : Machine). n.store.meta) well.leaves
-  more_meta (none, left, inr fails) = ap (λ (n : Machine). n.store.meta) fails.stops
+  more_meta (none, inl (page, oldest, due, quiet, well)) = ap (λ (n : Machine). n.store.meta) well.leaves
+  more_meta (none, inr (inl (old, due, quiet, turns))) = ap (λ (n : Machine). n.store.meta) turns.leaves
+  more_meta (none, inr (inr (calls, left, fails))) = ap (λ (n : Machine). n.store.meta) fails.stops
 
   forces : (said : Outcome) → ForcesAll m said outcome new → G
   forces said force = shows.keeps (forces_so m actor outcome new said force) (forced_meta said force)
@@ -90,7 +85,7 @@ module _ (m : Machine) (actor : ℕ) (outcome : Outcome) (new : Machine) (G : Ty
   worked : Works m actor outcome new → G
   worked (inl (by, way, so)) = stays (outcomes.Blocked by) so
   worked (inr (inl (free, unready, inl (waits, force)))) = forces outcomes.Helped force
-  worked (inr (inl (free, unready, inr (none, rest)))) = ready_kind m actor outcome new G none more (shows.ends m.store _ refl (runs (m.activity actor))) rest
+  worked (inr (inl (free, unready, inr (none, rest)))) = ready_kind m outcome new G none more rest
   worked (inr (inr (free, ready, inl acts))) = shows.acts acts
   worked (inr (inr (free, ready, inr (inl abandons)))) = shows.ends abandons.fetched _ abandons.brings.rest.meta (gives abandons.why (m.activity actor)) abandons.performs
   worked (inr (inr (free, ready, inr (inr meets)))) = shows.keeps (meets_so m actor outcome new meets) (ap (λ (n : Machine). n.store.meta) meets.stops ∙ meets.brings.rest.meta)

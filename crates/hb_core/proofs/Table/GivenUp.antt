@@ -8,7 +8,7 @@ use Rattle.hb_activity.specs.declared.activities.Activity.{Activity}
 use Rattle.hb_activity.specs.Classes.{Class, Sessions, Posters, Consolidators, Flushers, Hand, Empty, HasLine, HasJob, class_of, hand_of, idle_of}
 use Rattle.hb_activity.specs.Deeds.{Deed, answers_now, moves_to}
 use Rattle.hb_activity.specs.Walks.{walk_held}
-use Rattle.hb_core.specs.GivingUp.{drops_job, gives_up, gives_up_hand, reply_for, runs_out, runs_out_hand}
+use Rattle.hb_core.specs.GivingUp.{drops_job, gives_up, gives_up_hand, reply_for}
 use Rattle.hb_core.specs.KeptMerges.{merging_at}
 use Rattle.hb_core.specs.Performing.{latches_held}
 use Rattle.hb_store.specs.States.{StoreState}
@@ -44,16 +44,6 @@ pub given_up_is : (P : Deed → Type 0) (why : DropWhy) (activity : Activity) �
 given_up_is P why activity answers drops nothing = by (hand_of activity) refl
   where
     by : (hand : Hand) → hand_of activity ≡ hand → P (gives_up_hand why (idle_of (class_of activity)) hand)
-    by Empty is = nothing is
-    by (HasLine line) is = answers line is
-    by (HasJob job) is = drops job is
-
--- and what no room is for
-pub run_out_is : (P : Deed → Type 0) (activity : Activity) → ((line : Line) → hand_of activity ≡ HasLine line → P (answers_now line.number replies.Full))
-    → ((job : Job) → hand_of activity ≡ HasJob job → P (moves_to (idle_of (class_of activity)) [])) → (hand_of activity ≡ Empty → P (moves_to (idle_of (class_of activity)) [])) → P (runs_out activity)
-run_out_is P activity answers drops nothing = by (hand_of activity) refl
-  where
-    by : (hand : Hand) → hand_of activity ≡ hand → P (runs_out_hand (idle_of (class_of activity)) hand)
     by Empty is = nothing is
     by (HasLine line) is = answers line is
     by (HasJob job) is = drops job is

@@ -13,9 +13,9 @@ use Rattle.hb_activity.specs.declared.dropping.DropWhy.{DropWhy}
 use Rattle.hb_activity.specs.declared.dropping.DropWhy.TheVariants as drops
 use Rattle.hb_activity.specs.Classes.{line_in_hand, Class, Consolidators, Flushers, Posters, Sessions, class_of, idle_of, line_of}
 use Rattle.hb_activity.specs.Deeds.{Deed, answers_now, Answers}
-use Rattle.hb_core.proofs.Table.GivenUp.{idle_hand, given_up_is, run_out_is}
+use Rattle.hb_core.proofs.Table.GivenUp.{idle_hand, given_up_is}
 use Rattle.hb_core.proofs.Table.StepKinds.{IsQuiet}
-use Rattle.hb_core.specs.GivingUp.{gives_up, reply_for, runs_out}
+use Rattle.hb_core.specs.GivingUp.{gives_up, reply_for}
 use Rattle.hb_core.specs.KeptOrder.{StandsOutside}
 use Rattle.hb_core.specs.Machines.{Machine, with_disk}
 use Rattle.hb_core.specs.Performing.{outcome_of}
@@ -94,19 +94,9 @@ fate_given_up m why activity =
     (λ job is. goes m activity _ refl (λ at. refl) (idle_line activity ∙ sym (ap line_of is)) (idle_awaits (class_of activity)))
     (λ is. goes m activity _ refl (λ at. refl) (idle_line activity ∙ sym (ap line_of is)) (idle_awaits (class_of activity)))
 
-pub fate_ran_out : (m : Machine) (activity : Activity) → LineFate m activity (runs_out activity)
-fate_ran_out m activity =
-    run_out_is (LineFate m activity) activity
-    (λ line is. given m activity line replies.Full (ap line_of is) tt)
-    (λ job is. goes m activity _ refl (λ at. refl) (idle_line activity ∙ sym (ap line_of is)) (idle_awaits (class_of activity)))
-    (λ is. goes m activity _ refl (λ at. refl) (idle_line activity ∙ sym (ap line_of is)) (idle_awaits (class_of activity)))
-
 -- so it joins no order
 pub given_up_joins_nothing : (why : DropWhy) (activity : Activity) → (gives_up why activity).joins ≡ None
 given_up_joins_nothing why activity = given_up_is (λ deed. deed.joins ≡ None) why activity (λ line is. refl) (λ job is. refl) (λ is. refl)
-
-pub ran_out_joins_nothing : (activity : Activity) → (runs_out activity).joins ≡ None
-ran_out_joins_nothing activity = run_out_is (λ deed. deed.joins ≡ None) activity (λ line is. refl) (λ job is. refl) (λ is. refl)
 
 -- ---- the rows
 

@@ -144,7 +144,6 @@ pub lookups_take_no_memory : LookupsTakeNoMemory
 lookups_take_no_memory m actor number new keeps step = answering m actor number replies.NoMemory new (HasTaken m actor number) (record {
   refuses = λ line idle next begins number_is reply_is. taken m actor number line next number_is (boxes_take m actor line (subst (λ (o : Option Line). IsSomeAnd o (λ l. WantsBoxes l.command)) next begins.1));
   settles = λ place is. absurd (kept_inside m actor number place replies.NoMemory keeps tt is);
-  runs = λ line hand number_is cause reply_is. absurd (memory_full reply_is);
   full = λ line held is number_is none_free reply_is. absurd (memory_full reply_is);
   gives = λ line why hand number_is cause reply_is.
       let next = at_value (line_in_hand (m.activity actor)) (λ line. next_line actor m.answered m.lines ≡ Some line) line hand (keeps.lines_in_sequence.in_hand actor) in

@@ -13,9 +13,9 @@ use Rattle.hb_activity.specs.Classes.{Class, class_of, idle_of}
 use Rattle.hb_activity.specs.Deeds.{Deed, moves_to}
 use Rattle.hb_activity.specs.Passing.{posts_owed}
 use Rattle.hb_activity.specs.Walks.{walk_held, walk_point}
-use Rattle.hb_core.proofs.Table.GivenUp.{given_up_is, idle_latches, idle_merging, idle_walks, run_out_is}
+use Rattle.hb_core.proofs.Table.GivenUp.{given_up_is, idle_latches, idle_merging, idle_walks}
 use Rattle.hb_core.specs.Asking.{wanted_by}
-use Rattle.hb_core.specs.GivingUp.{gives_up, runs_out}
+use Rattle.hb_core.specs.GivingUp.{gives_up}
 use Rattle.hb_core.specs.KeptMerges.{IsMerging, merging_at}
 use Rattle.hb_core.specs.Machines.{Machine, live_here, with_disk, sight}
 use Rattle.hb_core.specs.Performing.{latches_held}
@@ -185,6 +185,3 @@ idle_holds kind = record { walk = idle_walks kind; latches = idle_latches kind; 
 
 pub nothing_given_up : (why : DropWhy) (activity : Activity) → HoldsNothing (gives_up why activity).next
 nothing_given_up why activity = given_up_is (λ deed. HoldsNothing deed.next) why activity (λ line is. record { walk = refl; latches = λ st. refl; merging = refl }) (λ job is. idle_holds (class_of activity)) (λ is. idle_holds (class_of activity))
-
-pub nothing_run_out : (activity : Activity) → HoldsNothing (runs_out activity).next
-nothing_run_out activity = run_out_is (λ deed. HoldsNothing deed.next) activity (λ line is. record { walk = refl; latches = λ st. refl; merging = refl }) (λ job is. idle_holds (class_of activity)) (λ is. idle_holds (class_of activity))

@@ -14,8 +14,7 @@ use Rattle.hb_core.specs.declared.outcomes.Outcome.TheVariants as outcomes
 use Rattle.hb_activity.specs.Deeds.{Deed, answers_now}
 use Rattle.hb_activity.specs.Walks.{walk_held}
 use Rattle.hb_consol.specs.ConsolidatorRows.{IsMergingOf}
-use Rattle.hb_core.specs.Forcing.{Flushes, ForcesAll, StaysSo, FailsToWrite, FlushesRest, FlushesWell, HasMoreToFlush}
-use Rattle.hb_core.specs.GivingUp.{runs_out}
+use Rattle.hb_core.specs.Forcing.{BeginsTurn, FailsToWrite, Flushes, FlushesRest, ForcesAll, HasDirtyPage, HasOldTurn, StaysSo, WritesOldest}
 use Rattle.hb_core.specs.KeptMerges.{merging_at}
 use Rattle.hb_core.specs.Machines.{Machine, settled_count}
 use Rattle.hb_core.specs.Performing.{Performs, PerformsAsItIs, given_by, latches_held}
@@ -48,20 +47,28 @@ plain_is_quiet (outcomes.Answered number reply) plain at = absurd plain
 plain_is_quiet (outcomes.Dropped why) plain at = absurd plain
 plain_is_quiet outcomes.Moved plain at = refl
 
--- Once no group waits, more is flushed, or a write fails.
+-- What is left to flush once no group waits, with the calls that it takes.
+abbrev pub MoreToFlush : Machine → ℕ → Type 0
+MoreToFlush m calls = ((page : ℕ) × HasDirtyPage m page × (calls ≡ 1)) ⊎ (HasOldTurn m × (calls ≡ 9))
+
+-- Once no group waits, a page is written to its place, or the next turn begins, or a write fails.
 abbrev pub FlushesMore : Machine → Outcome → Machine → Type 0
-FlushesMore m outcome new = (m.store.log.groups ≡ []) × HasMoreToFlush m × (((due : Outcome) × IsPlain due × FlushesWell m due outcome new) ⊎ FailsToWrite m 1 outcome new)
+FlushesMore m outcome new = (m.store.log.groups ≡ []) × (
+    ((page : ℕ) × HasDirtyPage m page × (due : Outcome) × IsPlain due × WritesOldest m page due outcome new)
+    ⊎ (HasOldTurn m × (due : Outcome) × IsPlain due × BeginsTurn m due outcome new)
+    ⊎ ((calls : ℕ) × MoreToFlush m calls × FailsToWrite m calls outcome new))
 
 -- So all that flushing comes to where no group waits.
 pub rest_kind : (m : Machine) (due outcome : Outcome) (new : Machine) (nothing G : Type 0) → m.store.log.groups ≡ [] → IsPlain due → (FlushesMore m outcome new → G) → (nothing → G) → FlushesRest m due nothing outcome new → G
-rest_kind m due outcome new nothing G none plain more done (inl (left, well)) = more (none, left, inl (due, plain, well))
-rest_kind m due outcome new nothing G none plain more done (inr (inl (left, fails))) = more (none, left, inr fails)
-rest_kind m due outcome new nothing G none plain more done (inr (inr (nothing_left, so))) = done so
+rest_kind m due outcome new nothing G none plain more done (inl (page, oldest, inl well)) = more (none, inl (page, oldest, due, plain, well))
+rest_kind m due outcome new nothing G none plain more done (inl (page, oldest, inr fails)) = more (none, inr (inr (1, inl (page, oldest, refl), fails)))
+rest_kind m due outcome new nothing G none plain more done (inr (inl (old, inl turns))) = more (none, inr (inl (old, due, plain, turns)))
+rest_kind m due outcome new nothing G none plain more done (inr (inl (old, inr fails))) = more (none, inr (inr (9, inr (old, refl), fails)))
+rest_kind m due outcome new nothing G none plain more done (inr (inr (flushed, so))) = done so
 
--- And where a step gets ready, with the deed of what can't go on.
-pub ready_kind : (m : Machine) (actor : ℕ) (outcome : Outcome) (new : Machine) (G : Type 0) → m.store.log.groups ≡ [] → (FlushesMore m outcome new → G) → (Performs m m.store actor (runs_out (m.activity actor)) outcome new → G)
-    → FlushesRest m outcomes.Helped (PerformsAsItIs m actor (runs_out (m.activity actor)) outcome new) outcome new → G
-ready_kind m actor outcome new G none more done rest = rest_kind m outcomes.Helped outcome new _ G none tt more (λ p. done p.0) rest
+-- And where a step gets ready: something is flushed.
+pub ready_kind : (m : Machine) (outcome : Outcome) (new : Machine) (G : Type 0) → m.store.log.groups ≡ [] → (FlushesMore m outcome new → G) → FlushesRest m outcomes.Helped ⊥ outcome new → G
+ready_kind m outcome new G none more rest = rest_kind m outcomes.Helped outcome new ⊥ G none tt more (λ never. absurd never) rest
 
 -- A deed that is done outright: it does nothing to the file, and its actor holds nothing afterwards.
 pub record IsOutright (deed : Deed) : Type 0 where
@@ -118,9 +125,8 @@ module _ (m : Machine) (actor : ℕ) (outcome : Outcome) (new : Machine) (G : Ty
   took_merging idle (inr (deed, takes, performs)) = shows.merges deed idle takes performs
 
   flushed : Flushes m outcome new → G
-  flushed (inr (off, so)) = shows.stays outcomes.Idle tt so
-  flushed (inl (on, inl (waits, force))) = shows.forces outcomes.Moved tt force
-  flushed (inl (on, inr (none, rest))) = rest_kind m outcomes.Moved outcome new (StaysSo m outcomes.Idle outcome new) G none tt shows.more (shows.stays outcomes.Idle tt) rest
+  flushed (inl (waits, force)) = shows.forces outcomes.Moved tt force
+  flushed (inr (none, rest)) = rest_kind m outcomes.Moved outcome new (StaysSo m outcomes.Idle outcome new) G none tt shows.more (shows.stays outcomes.Idle tt) rest
 
   awaited : (number place : ℕ) (reply : Reply) → m.activity actor ≡ at.SessionAwait number reply place → AwaitsPlace m actor number reply place outcome new → G
   awaited number place reply is (inl (settled, performs)) = shows.settles number place reply is settled performs

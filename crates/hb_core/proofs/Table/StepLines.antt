@@ -11,7 +11,7 @@ use Rattle.hb_core.specs.declared.outcomes.Outcome.{Outcome}
 use Rattle.hb_core.specs.declared.outcomes.Outcome.TheVariants as outcomes
 use Rattle.hb_activity.specs.Classes.{line_in_hand}
 use Rattle.hb_activity.specs.Deeds.{Answers, Deed, Says}
-use Rattle.hb_core.proofs.Table.LineFates.{LineFate, fate_given_up, fate_ran_out, fate_row, idle_never, merge_waits_never, post_waits_never}
+use Rattle.hb_core.proofs.Table.LineFates.{LineFate, fate_given_up, fate_row, idle_never, merge_waits_never, post_waits_never}
 use Rattle.hb_core.proofs.Table.MergerMoves.{Waits}
 use Rattle.hb_core.proofs.Table.StepKinds.{each_step, ready_kind}
 use Rattle.hb_core.proofs.Orders.Sequences.{waits_none}
@@ -132,7 +132,7 @@ module _ (m : Machine) (actor : ℕ) (outcome : Outcome) (new : Machine) (sequen
   worked none (inl (by, way, so)) = stays (stays_so m actor outcome new (outcomes.Blocked by) so)
   worked none (inr (inl (free, unready, inl (waits, force)))) = stays (forces_so m actor outcome new outcomes.Helped force)
   worked none (inr (inl (free, unready, inr (no_group, rest)))) =
-      ready_kind m actor outcome new (LinesAfter m actor new) no_group (λ more. stays (more_so m actor outcome new more)) (fated m.store _ none (fate_ran_out m (m.activity actor))) rest
+      ready_kind m outcome new (LinesAfter m actor new) no_group (λ more. stays (more_so m actor outcome new more)) rest
   worked none (inr (inr (free, ready, inl acts))) = fated acts.fetched acts.deed none (fate_row m acts.fetched (m.activity actor) _ acts.deed acts.row) acts.performs
   worked none (inr (inr (free, ready, inr (inl gives)))) = fated gives.fetched _ none (fate_given_up m gives.why (m.activity actor)) gives.performs
   worked none (inr (inr (free, ready, inr (inr meets)))) = stays (meets_so m actor outcome new meets)

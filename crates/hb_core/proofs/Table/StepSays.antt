@@ -7,22 +7,14 @@ use Rattle.hb_activity.specs.declared.activities.Activity.TheVariants as at
 use Rattle.hb_core.specs.declared.outcomes.Outcome.{Outcome}
 use Rattle.hb_core.specs.declared.outcomes.Outcome.TheVariants as outcomes
 use Rattle.hb_activity.specs.Deeds.{Deed, answers_now}
-use Rattle.hb_core.proofs.Table.Ways.{KeepsAllButDisk, fails_so, flushes_so, forces_so, meets_so, stays_so}
+use Rattle.hb_core.proofs.Table.Ways.{KeepsAllButDisk, fails_so, flushes_so, forces_so, meets_so, stays_so, turns_so}
 use Rattle.hb_core.specs.Acting.{Abandons, DoesRow}
-use Rattle.hb_core.specs.Forcing.{FlushesOnce, ForcesAll, StaysSo, HasMoreToFlush}
-use Rattle.hb_core.specs.GivingUp.{runs_out}
+use Rattle.hb_core.specs.Forcing.{FlushesOnce, ForcesAll, StaysSo}
 use Rattle.hb_core.specs.Machines.{Machine, settled_count}
 use Rattle.hb_core.specs.Performing.{Performs, PerformsAsItIs}
 use Rattle.hb_core.specs.Steps.{IsUnready, StepsTo, TakesJob, TakesMerging, Works}
 use Rattle.hb_point.specs.SessionRows.{WantsBoxes, next_line, taking}
-use Rattle.hb_core.proofs.Table.StepKinds.{FlushesMore, IsPlain, each_step}
-
--- The step can't be made ready, and nothing is left to flush.
-pub record RunsOut (m : Machine) (actor : ℕ) (outcome : Outcome) (new : Machine) : Type 0 where
-  pub unready : IsUnready m actor
-  pub no_group : m.store.log.groups ≡ []
-  pub nothing_left : ¬ (HasMoreToFlush m)
-  pub performs : Performs m m.store actor (runs_out (m.activity actor)) outcome new
+use Rattle.hb_core.proofs.Table.StepKinds.{FlushesMore, IsPlain, each_step, ready_kind}
 
 -- What is to be shown of each case.
 pub record ShowsSaid (m : Machine) (actor : ℕ) (outcome : Outcome) (new : Machine) (G : Type 0) : Type 0 where
@@ -32,7 +24,6 @@ pub record ShowsSaid (m : Machine) (actor : ℕ) (outcome : Outcome) (new : Mach
   pub posts : (deed : Deed) → m.activity actor ≡ at.PosterIdle → TakesJob m deed → Performs m m.store actor deed outcome new → G
   pub merges : (deed : Deed) → m.activity actor ≡ at.ConsolidatorIdle → TakesMerging m deed → Performs m m.store actor deed outcome new → G
   pub settles : (number place : ℕ) (reply : Reply) → m.activity actor ≡ at.SessionAwait number reply place → place < settled_count m → Performs m m.store actor (answers_now number reply) outcome new → G
-  pub runs : RunsOut m actor outcome new → G
   pub does : DoesRow m actor outcome new → G
   pub gives : Abandons m actor outcome new → G
 
@@ -48,21 +39,14 @@ module _ (m : Machine) (actor : ℕ) (outcome : Outcome) (new : Machine) (G : Ty
   forces due plain (inr badly) = said _ tt badly.1.says (fails_so m actor outcome new badly.1)
 
   more : FlushesMore m outcome new → G
-  more (none, left, inl (due, plain, well)) = said due plain well.says (flushes_so m actor outcome new well)
-  more (none, left, inr fails) = said _ tt fails.says (fails_so m actor outcome new fails)
-
-  -- flushing before a step; `nothing` is what happens where there is nothing to flush
-  flushes : (due : Outcome) (nothing : Type 0) → IsPlain due → (m.store.log.groups ≡ [] → ¬ (HasMoreToFlush m) → nothing → G) → FlushesOnce m due nothing outcome new → G
-  flushes due nothing plain done (inl (waits, force)) = forces due plain force
-  flushes due nothing plain done (inr (none, inl (left, well))) = more (none, left, inl (due, plain, well))
-  flushes due nothing plain done (inr (none, inr (inl (left, fails)))) = more (none, left, inr fails)
-  flushes due nothing plain done (inr (none, inr (inr (nothing_left, so)))) = done none nothing_left so
+  more (none, inl (page, oldest, due, plain, well)) = said due plain well.says (flushes_so m actor outcome new well)
+  more (none, inr (inl (old, due, plain, turns))) = said due plain turns.says (turns_so m actor outcome new turns)
+  more (none, inr (inr (calls, left, fails))) = said _ tt fails.says (fails_so m actor outcome new fails)
 
   worked : Works m actor outcome new → G
   worked (inl (by, way, so)) = stays (outcomes.Blocked by) tt so
-  worked (inr (inl (free, unready, once))) =
-      flushes outcomes.Helped (PerformsAsItIs m actor (runs_out (m.activity actor)) outcome new) tt
-      (λ none nothing_left performs. shows.runs (record { unready = unready; no_group = none; nothing_left = nothing_left; performs = performs.0 })) once
+  worked (inr (inl (free, unready, inl (waits, force)))) = forces outcomes.Helped tt force
+  worked (inr (inl (free, unready, inr (none, rest)))) = ready_kind m outcome new G none more rest
   worked (inr (inr (free, ready, inl acts))) = shows.does acts
   worked (inr (inr (free, ready, inr (inl gives)))) = shows.gives gives
   worked (inr (inr (free, ready, inr (inr meets)))) = said _ tt meets.says (meets_so m actor outcome new meets)

@@ -8,7 +8,7 @@ use Rattle.hb_activity.specs.Deeds.{Deed}
 use Rattle.hb_core.proofs.Table.StepKinds.{each_kind, FlushesMore, ready_kind}
 use Rattle.hb_core.specs.Acting.{MeetsBadPage}
 use Rattle.hb_core.specs.Fetching.{MustStay}
-use Rattle.hb_core.specs.Forcing.{ForcesAll, StaysSo, FailsToWrite, FlushesWell}
+use Rattle.hb_core.specs.Forcing.{BeginsTurn, FailsToWrite, ForcesAll, StaysSo, WritesOldest}
 use Rattle.hb_core.specs.Laws.{OrderGrows, OthersStay}
 use Rattle.hb_core.specs.Machines.{Machine, if_some}
 use Rattle.hb_core.specs.Performing.{Performs, given_by, outcome_of}
@@ -48,12 +48,16 @@ module _ (m : Machine) (actor : ℕ) (outcome : Outcome) (new : Machine) where
   pub fails_so : {most : ℕ} → FailsToWrite m most outcome new → KeepsAllButDisk m new
   fails_so fails = keeps_by m _ new fails.stops (record { lines = refl; answered = refl; activity = refl; latches = refl; jobs = refl; order = refl; memory = λ id page must there. there })
 
-  pub flushes_so : {due : Outcome} → FlushesWell m due outcome new → KeepsAllButDisk m new
+  pub flushes_so : {page : ℕ} {due : Outcome} → WritesOldest m page due outcome new → KeepsAllButDisk m new
   flushes_so well = keeps_by m _ new well.leaves (record { lines = refl; answered = refl; activity = refl; latches = refl; jobs = refl; order = refl; memory = λ id page must there. there })
 
+  pub turns_so : {due : Outcome} → BeginsTurn m due outcome new → KeepsAllButDisk m new
+  turns_so turns = keeps_by m _ new turns.leaves (record { lines = refl; answered = refl; activity = refl; latches = refl; jobs = refl; order = refl; memory = λ id page must there. there })
+
   pub more_so : FlushesMore m outcome new → KeepsAllButDisk m new
-  more_so (none, left, inl (due, quiet, well)) = flushes_so well
-  more_so (none, left, inr fails) = fails_so fails
+  more_so (none, inl (page, oldest, due, quiet, well)) = flushes_so well
+  more_so (none, inr (inl (old, due, quiet, turns))) = turns_so turns
+  more_so (none, inr (inr (calls, left, fails))) = fails_so fails
 
   pub forces_so : (said : Outcome) → ForcesAll m said outcome new → KeepsAllButDisk m new
   forces_so said (inl (says, is)) = keeps_by m _ new is (record { lines = refl; answered = refl; activity = refl; latches = refl; jobs = refl; order = refl; memory = λ id page must there. there })
@@ -71,7 +75,7 @@ module _ (m : Machine) (actor : ℕ) (outcome : Outcome) (new : Machine) where
   worked : Works m actor outcome new → HasWay m actor outcome new
   worked (inl (by, way, so)) = same (outcomes.Blocked by) so
   worked (inr (inl (free, unready, inl (waits, force)))) = forced outcomes.Helped force
-  worked (inr (inl (free, unready, inr (none, rest)))) = ready_kind m actor outcome new (HasWay m actor outcome new) none (λ more. inl (more_so more)) (λ performs. inr (m.store, _, performs)) rest
+  worked (inr (inl (free, unready, inr (none, rest)))) = ready_kind m outcome new (HasWay m actor outcome new) none (λ more. inl (more_so more)) rest
   worked (inr (inr (free, ready, inl acts))) = inr (acts.fetched, acts.deed, acts.performs)
   worked (inr (inr (free, ready, inr (inl gives)))) = inr (gives.fetched, _, gives.performs)
   worked (inr (inr (free, ready, inr (inr meets)))) = inl (meets_so meets)

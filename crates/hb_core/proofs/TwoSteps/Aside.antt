@@ -157,7 +157,7 @@ module _ (m : Machine) (actor : ℕ) (outcome : Outcome) (new : Machine) where
   carried : (other : Machine) (said : Outcome) → outcome ≡ said → new ≡ other → ChangesNoFile m actor said other → ChangesNoFile m actor outcome new
   carried other said says is keeps = subst (λ (n : Machine). ChangesNoFile m actor outcome n) (sym is) (subst (λ (o : Outcome). ChangesNoFile m actor o other) (sym says) keeps)
 
-  failed : FailsToWrite m 4 outcome new → ChangesNoFile m actor outcome new
+  failed : FailsToWrite m 9 outcome new → ChangesNoFile m actor outcome new
   failed one = carried _ _ one.says one.stops (record { says = tt; lines = refl; jobs = refl; order = refl; files = refl; meta = refl; log = refl; in_log = refl; dirty = refl; memory = λ id page must there. there })
 
   damaged : MeetsBadPage m actor outcome new → ChangesNoFile m actor outcome new

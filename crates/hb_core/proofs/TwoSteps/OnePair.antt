@@ -1,5 +1,5 @@
 -- Two steps of one actor from one machine go the same way, unless one was turned aside.
-use Rattle.std.proofs.Common.{ap, ◌≡◌, ◌≢◌, ◌⊎◌, inl, inr, ℕ, ◌+◌, ◌++◌, List, ◌∷◌, All, Option, Some, None, IfSome, IsSomeAnd, IsTrue, refl, sym, ◌∙◌, subst, arith}
+use Rattle.std.proofs.Common.{ap, ◌≡◌, ◌≢◌, ◌⊎◌, inl, inr, ℕ, ◌≤◌, ◌+◌, ◌++◌, List, ◌∷◌, All, Option, Some, None, IfSome, IsSomeAnd, IsTrue, refl, sym, ◌∙◌, subst, arith}
 use Rattle.std.specs.Prelude.{MatchOption}
 use Rattle.std.specs.List.{Contains}
 use Rattle.std.proofs.lemmas.Bool.{cases_lt}
@@ -23,12 +23,10 @@ use Rattle.hb_activity.specs.Deeds.{Deed, answers_now}
 use Rattle.hb_activity.specs.Queue.{LeavesFirst}
 use Rattle.hb_activity.specs.Walks.{walk_held}
 use Rattle.hb_consol.specs.ConsolidatorRows.{IsMergingOf}
-use Rattle.hb_core.proofs.Table.NextPlaces.{nothing_run_out}
 use Rattle.hb_core.proofs.TwoSteps.OnePiece.{one_job, one_merging, taken}
 use Rattle.hb_core.specs.Acting.{Abandons, DoesRow, MeetsBadPage}
 use Rattle.hb_core.specs.Asking.{wanted_by}
-use Rattle.hb_core.specs.Forcing.{FailsToWrite, Flushes, FlushesOnce, FlushesRest, FlushesWell, ForcesAll, StaysSo}
-use Rattle.hb_core.specs.GivingUp.{runs_out}
+use Rattle.hb_core.specs.Forcing.{BeginsTurn, FailsToWrite, Flushes, FlushesOnce, FlushesRest, ForcesAll, HasDirtyPage, StaysSo, WritesOldest}
 use Rattle.hb_core.specs.Locking.{IsBoxInTheWay}
 use Rattle.hb_core.specs.Machines.{Machine, with_disk, with_uses}
 use Rattle.hb_core.specs.OutcomeLaws.{IsTurnedAside}
@@ -82,13 +80,16 @@ merging_holds_nothing : (job : Job) (height : ℕ) (next : Activity) → IsMergi
 merging_holds_nothing job height next (inl (above, is)) = ap walk_held is
 merging_holds_nothing job height next (inr (below, is)) = ap walk_held is
 
--- a write that fails within one call fails within four
-in_four : (m : Machine) (outcome : Outcome) (new : Machine) → FailsToWrite m 1 outcome new → FailsToWrite m 4 outcome new
-in_four m outcome new fails = record { clock = fails.clock; from = fails.from; few = omega (arith, fails.few); says = fails.says; stops = fails.stops }
+-- a write that fails within fewer calls fails within nine
+in_nine : (m : Machine) (most : ℕ) (outcome : Outcome) (new : Machine) → most ≤ 9 → FailsToWrite m most outcome new → FailsToWrite m 9 outcome new
+in_nine m most outcome new less fails = record { clock = fails.clock; from = fails.from; few = omega (arith, fails.few, less); says = fails.says; stops = fails.stops }
 
--- the oldest dirty page is one
+-- the oldest dirty page is one, or there is none
 one_page : (o : Option ℕ) (page other : ℕ) → o ≡ Some page → o ≡ Some other → page ≡ other
 one_page o page other first second = same_Some page other (sym first ∙ second)
+
+no_page : (o : Option ℕ) (page : ℕ) → o ≡ Some page → o ≡ None → ⊥
+no_page o page some none = let never : Some page ≡ None = sym some ∙ none in cc
 
 -- What is to be shown of two steps.
 pub record ShowsBoth (m : Machine) (actor : ℕ) (outcome other : Outcome) (new next : Machine) (G : Type 0) : Type 0 where
@@ -103,24 +104,40 @@ module _ (m : Machine) (actor : ℕ) (outcome other : Outcome) (new next : Machi
   both_stay said (a, b) (c, d) = shows.same (a ∙ sym c) (b ∙ sym d)
 
   both_force : (said : Outcome) → ForcesAll m said outcome new → ForcesAll m said other next → G
-  both_force said (inr (waits, fails)) second = shows.first_aside (inr (inl fails))
-  both_force said (inl well) (inr (waits, fails)) = shows.second_aside (inr (inl fails))
+  both_force said (inr (waits, fails)) second = shows.first_aside (inr (inl (in_nine m 4 outcome new (omega arith) fails)))
+  both_force said (inl well) (inr (waits, fails)) = shows.second_aside (inr (inl (in_nine m 4 other next (omega arith) fails)))
   both_force said (inl (a, b)) (inl (c, d)) = shows.same (a ∙ sym c) (b ∙ sym d)
 
-  both_flush_well : (due : Outcome) → FlushesWell m due outcome new → FlushesWell m due other next → G
-  both_flush_well due first second =
-      let same = one_page (oldest_dirty m.uses) first.page second.page first.oldest second.oldest in
+  -- two that write the oldest dirty page, or begin the next turn
+  both_write : (due : Outcome) (page again : ℕ) → HasDirtyPage m page → HasDirtyPage m again → WritesOldest m page due outcome new → WritesOldest m again due other next → G
+  both_write due page again oldest oldest_too first second =
+      let same = one_page (oldest_dirty m.uses) page again oldest oldest_too in
       shows.same (first.says ∙ sym second.says)
       (first.leaves ∙ ap (λ (page : ℕ). with_uses (in_place page clean m.uses) (with_disk (cleaned_state page m.store) m.files (m.clock + 1) m)) same ∙ sym second.leaves)
 
+  both_turn : (due : Outcome) → BeginsTurn m due outcome new → BeginsTurn m due other next → G
+  both_turn due first second = shows.same (first.says ∙ sym second.says) (first.leaves ∙ sym second.leaves)
+
+  first_failed : (most : ℕ) → most ≤ 9 → FailsToWrite m most outcome new → G
+  first_failed most less fails = shows.first_aside (inr (inl (in_nine m most outcome new less fails)))
+
+  second_failed : (most : ℕ) → most ≤ 9 → FailsToWrite m most other next → G
+  second_failed most less fails = shows.second_aside (inr (inl (in_nine m most other next less fails)))
+
   both_rest : (due : Outcome) (first_does second_does : Type 0) → (first_does → second_does → G) → FlushesRest m due first_does outcome new → FlushesRest m due second_does other next → G
-  both_rest due A B both (inl (more, well)) (inl (again, also)) = both_flush_well due well also
-  both_rest due A B both (inl (more, well)) (inr (inl (again, fails))) = shows.second_aside (inr (inl (in_four m other next fails)))
-  both_rest due A B both (inl (more, well)) (inr (inr (none, second))) = absurd (none more)
-  both_rest due A B both (inr (inl (more, fails))) second = shows.first_aside (inr (inl (in_four m outcome new fails)))
-  both_rest due A B both (inr (inr (none, first))) (inl (more, well)) = absurd (none more)
-  both_rest due A B both (inr (inr (none, first))) (inr (inl (more, fails))) = absurd (none more)
-  both_rest due A B both (inr (inr (none, first))) (inr (inr (again, second))) = both first second
+  both_rest due A B both (inl (page, oldest, inr fails)) second = first_failed 1 (omega arith) fails
+  both_rest due A B both (inr (inl (old, inr fails))) second = first_failed 9 (omega arith) fails
+  both_rest due A B both first (inl (page, oldest, inr fails)) = second_failed 1 (omega arith) fails
+  both_rest due A B both first (inr (inl (old, inr fails))) = second_failed 9 (omega arith) fails
+  both_rest due A B both (inl (page, oldest, inl first)) (inl (again, oldest_too, inl second)) = both_write due page again oldest oldest_too first second
+  both_rest due A B both (inl (page, oldest, inl first)) (inr (inl (old, inl second))) = absurd (no_page (oldest_dirty m.uses) page oldest old.0)
+  both_rest due A B both (inl (page, oldest, inl first)) (inr (inr (flushed, second))) = absurd (no_page (oldest_dirty m.uses) page oldest flushed.0)
+  both_rest due A B both (inr (inl (old, inl first))) (inl (page, oldest, inl second)) = absurd (no_page (oldest_dirty m.uses) page oldest old.0)
+  both_rest due A B both (inr (inl (old, inl first))) (inr (inl (old_too, inl second))) = both_turn due first second
+  both_rest due A B both (inr (inl (old, inl first))) (inr (inr (flushed, second))) = absurd (let some = old.1 in let none = flushed.1 in omega (arith, some, none))
+  both_rest due A B both (inr (inr (flushed, first))) (inl (page, oldest, inl second)) = absurd (no_page (oldest_dirty m.uses) page oldest flushed.0)
+  both_rest due A B both (inr (inr (flushed, first))) (inr (inl (old, inl second))) = absurd (let some = old.1 in let none = flushed.1 in omega (arith, some, none))
+  both_rest due A B both (inr (inr (flushed, first))) (inr (inr (flushed_too, second))) = both first second
 
   both_flush_once : (due : Outcome) (first_does second_does : Type 0) → (first_does → second_does → G) → FlushesOnce m due first_does outcome new → FlushesOnce m due second_does other next → G
   both_flush_once due A B both (inl (waits, first)) (inl (again, second)) = both_force due first second
@@ -130,10 +147,8 @@ module _ (m : Machine) (actor : ℕ) (outcome other : Outcome) (new next : Machi
 
   -- ---- what works
 
-  both_get_ready : GetsReady m actor outcome new → GetsReady m actor other next → G
-  both_get_ready first second =
-      both_flush_once outcomes.Helped (PerformsAsItIs m actor (runs_out (m.activity actor)) outcome new) (PerformsAsItIs m actor (runs_out (m.activity actor)) other next)
-      (λ a b. shows.deeds (runs_out (m.activity actor)) (runs_out (m.activity actor)) refl (nothing_run_out (m.activity actor)).walk a b) first second
+  both_get_ready : GetsReady m outcome new → GetsReady m other next → G
+  both_get_ready first second = both_flush_once outcomes.Helped ⊥ ⊥ (λ a b. absurd a) first second
 
   both_act : DoesRow m actor outcome new ⊎ Abandons m actor outcome new ⊎ MeetsBadPage m actor outcome new → DoesRow m actor other next ⊎ Abandons m actor other next ⊎ MeetsBadPage m actor other next → G
   both_act (inr (inl gives)) second = shows.first_aside (inr (inr (inl gives)))
@@ -200,10 +215,7 @@ module _ (m : Machine) (actor : ℕ) (outcome other : Outcome) (new next : Machi
       shows.deeds d e (one_merging m d e new.jobs next.jobs first.0.jobs second.0.jobs takes again) (ap (λ (x : Deed). walk_held x.next) takes.deed_is ∙ merging_holds_nothing takes.job m.store.meta.height takes.next takes.merging) first second
 
   both_flush : Flushes m outcome new → Flushes m other next → G
-  both_flush (inr (off, first)) (inr (off', second)) = both_stay outcomes.Idle first second
-  both_flush (inl (on, first)) (inr (off, second)) = absurd (off on)
-  both_flush (inr (off, first)) (inl (on, second)) = absurd (off on)
-  both_flush (inl (on, first)) (inl (on', second)) = both_flush_once outcomes.Moved (StaysSo m outcomes.Idle outcome new) (StaysSo m outcomes.Idle other next) (λ a b. both_stay outcomes.Idle a b) first second
+  both_flush first second = both_flush_once outcomes.Moved (StaysSo m outcomes.Idle outcome new) (StaysSo m outcomes.Idle other next) (λ a b. both_stay outcomes.Idle a b) first second
 
   both_await : (number : ℕ) (reply : Reply) (place : ℕ) → AwaitsPlace m actor number reply place outcome new → AwaitsPlace m actor number reply place other next → G
   both_await number reply place (inl (lt, first)) (inl (lt', second)) = shows.deeds (answers_now number reply) (answers_now number reply) refl refl first second

@@ -33,7 +33,6 @@ use Rattle.hb_core.proofs.Walks.SomebodyFree.{somebody_goes_on}
 use Rattle.hb_core.proofs.Memory.StillThere.{may_or_not}
 use Rattle.hb_core.specs.Asking.{HasWayFree, wanted_by}
 use Rattle.hb_core.specs.Forcing.{FlushesOnce, ForcesAll, StaysSo}
-use Rattle.hb_core.specs.GivingUp.{runs_out}
 use Rattle.hb_core.specs.Keeps.{HasNoOtherLatches}
 use Rattle.hb_core.specs.KeptFits.{LineFits, class_for}
 use Rattle.hb_core.specs.Locking.{HasBoxFree}
@@ -167,8 +166,10 @@ module _ (m : Machine) (actor : ℕ) (outcome : Outcome) (new : Machine) where
 
   flushed : (due : Outcome) (nothing : Type 0) → GoesForward due → (nothing → GoesForward outcome) → FlushesOnce m due nothing outcome new → GoesForward outcome
   flushed due nothing forward done (inl (waits, force)) = forced due forward force
-  flushed due nothing forward done (inr (none, inl (left, well))) = forward_as due forward well.says
-  flushed due nothing forward done (inr (none, inr (inl (left, fails)))) = forward_as _ tt fails.says
+  flushed due nothing forward done (inr (none, inl (page, oldest, inl well))) = forward_as due forward well.says
+  flushed due nothing forward done (inr (none, inl (page, oldest, inr fails))) = forward_as _ tt fails.says
+  flushed due nothing forward done (inr (none, inr (inl (old, inl turns)))) = forward_as due forward turns.says
+  flushed due nothing forward done (inr (none, inr (inl (old, inr fails)))) = forward_as _ tt fails.says
   flushed due nothing forward done (inr (none, inr (inr (nothing_left, so)))) = done so
 
   -- nobody is in a way that is free
@@ -178,7 +179,7 @@ module _ (m : Machine) (actor : ℕ) (outcome : Outcome) (new : Machine) where
 
   worked : HasWayFree m actor → Works m actor outcome new → GoesForward outcome
   worked free (inl (by, way, so)) = absurd (not_kept (wanted_by m actor) by free way)
-  worked free (inr (inl (way, unready, once))) = flushed outcomes.Helped (PerformsAsItIs m actor (runs_out (m.activity actor)) outcome new) tt (λ performs. performed m.store _ performs.0) once
+  worked free (inr (inl (way, unready, once))) = flushed outcomes.Helped ⊥ tt (λ never. absurd never) once
   worked free (inr (inr (way, ready, inl acts))) = performed acts.fetched acts.deed acts.performs
   worked free (inr (inr (way, ready, inr (inl gives)))) = performed gives.fetched _ gives.performs
   worked free (inr (inr (way, ready, inr (inr meets)))) = forward_as _ tt meets.says

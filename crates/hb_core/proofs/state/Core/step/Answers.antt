@@ -2,8 +2,8 @@ use Rattle.hb_core.proofs.state.Core.step.Goals as goal
 use Rattle.std.proofs.Common.{Some, refl, ap, ◌∙◌}
 use Rattle.hb_core.specs.declared.outcomes.Outcome.TheVariants as outcomes
 use Rattle.hb_core.proofs.Running.AgainstPlaces.{lines_have_boxes, locks_have_boxes}
-use Rattle.hb_core.proofs.Running.Touched.{as_before_count, idle_well, line_well, merging_well, posting_well, untouched, untouched_stopped}
-use Rattle.hb_core.proofs.Running.StepTaken.{await_step, counted, idle_stays, lies_behind, line_step, merging_step, posting_step, stopped_stays, with_taken, work_step, works_then}
+use Rattle.hb_core.proofs.Running.Touched.{as_before_count, line_well, merging_well, posting_well, untouched, untouched_stopped}
+use Rattle.hb_core.proofs.Running.StepTaken.{await_step, counted, flusher_step, lies_behind, line_step, merging_step, posting_step, stopped_stays, with_taken, work_step, works_then}
 use Rattle.hb_core.specs.CoreSeen.{core_disk, core_seen}
 
 pub returns-in-Some : goal.returns-in-Some
@@ -31,6 +31,11 @@ await_place-requires g c =
       may = (c.requires.may.0, step, step.shows.stop ∙ c.in_default.is);
       awaits = (c.in-SessionAwait.line, c.in-SessionAwait.reply, c.activity.ensures ∙ ap Some c.in-SessionAwait.is);
     }
+
+pub flush-requires-clause-may : goal.flush-requires-clause-may
+flush-requires-clause-may g c =
+    let step = counted c.saturating_add-self.result (g.D.Device.model (core_disk c.args.self.now)) (core_seen c.args.self.now) c.requires.may.0 c.requires.may.1 in
+    (c.requires.may.0, step, step.shows.stop ∙ c.in_default.is)
 
 pub work-requires : goal.work-requires
 work-requires g c =
@@ -104,7 +109,7 @@ pub returns-in-Flusher : goal.returns-in-Flusher
 returns-in-Flusher g c = record {
   steps = λ m step.
       let mine = counted c.saturating_add-self.result (g.D.Device.model (core_disk c.args.self.now)) (core_seen c.args.self.now) m step in
-      idle_stays (g.D.Device.model (core_disk c.args.self.now)) (with_taken c.saturating_add-self.result (core_seen c.args.self.now)) m c.args.actor c.activity.result.now
-      c.requires.actor mine c.in_default.is c.activity.ensures c.in-Flusher.is;
-  touches = untouched g.D.Device.model (core_disk c.args.self.now) (core_disk c.args.self.now) (core_seen c.args.self.now) _ outcomes.Idle idle_well refl;
+      flusher_step g.D.Device.model (core_disk c.args.self.now) (core_disk c.flush.new.self) (with_taken c.saturating_add-self.result (core_seen c.args.self.now)) (core_seen c.flush.new.self) m c.args.actor c.activity.result.now c.flush.result
+      c.requires.actor mine c.in_default.is c.activity.ensures c.in-Flusher.is (c.flush.ensures.steps m mine (mine.shows.stop ∙ c.in_default.is));
+  touches = as_before_count g.D.Device.model (core_disk c.args.self.now) (core_disk c.flush.new.self) c.saturating_add-self.result (core_seen c.args.self.now) (core_seen c.flush.new.self) c.flush.result c.flush.ensures.touches;
 }

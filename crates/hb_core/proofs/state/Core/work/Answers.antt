@@ -6,6 +6,7 @@ use Rattle.hb_core.specs.declared.halts.Halt.{Halt}
 use Rattle.hb_core.specs.CoreSeen.{core_seen, core_disk}
 use Rattle.hb_core.specs.Touching.{IsReadHalt, Touches}
 use Rattle.hb_core.specs.Working.{Halts, IsStop}
+use Rattle.hb_core.proofs.Machines.PlacesLeft.{always_flushes}
 use Rattle.hb_core.proofs.Running.WorkDone.{blocked, given_up, holds_line, holds_pages, looks_now, may_work, stopped, unready, walks_here, wants, way_free, works_too}
 use Rattle.hb_core.proofs.Running.WorkTouches.{done_touches, given_up_touches, row_well, stopped_touches}
 use Rattle.hb_core.proofs.state.Core.work.Goals as goal
@@ -20,14 +21,18 @@ pub returns-in-Some-clause-works : goal.returns-in-Some-clause-works
 returns-in-Some-clause-works g c m step runs works =
     blocked (g.D.Device.model (core_disk c.args.self.now)) (core_seen c.args.self.now) m c.args.actor c.requires.actor step c.wanted-wanted.result c.in-Some.by (wants (g.D.Device.model (core_disk c.args.self.now)) (core_seen c.args.self.now) m c.args.actor c.requires.actor step c.wanted-wanted.result c.wanted-wanted.ensures) c.in-Some.ensures.least
 
+pub flush-requires-clause-may : goal.flush-requires-clause-may
+flush-requires-clause-may g c = (c.requires.may.0, c.requires.may.1, c.requires.may.2)
+
 pub returns-then-is_unready-clause-works : goal.returns-then-is_unready-clause-works
 returns-then-is_unready-clause-works g c m step runs works =
-    let done = c.get_ready.ensures.steps m step runs works in (
+    let done = c.flush.ensures.steps m step runs in
+    let is_unready = unready (g.D.Device.model (core_disk c.args.self.now)) (core_seen c.args.self.now) m c.args.actor c.requires.actor step c.wanted-wanted.result c.is_unready.result (wants (g.D.Device.model (core_disk c.args.self.now)) (core_seen c.args.self.now) m c.args.actor c.requires.actor step c.wanted-wanted.result c.wanted-wanted.ensures) c.is_unready.ensures c.if-is_unready.true in (
       done.0,
       inr (inl (
         way_free (g.D.Device.model (core_disk c.args.self.now)) (core_seen c.args.self.now) m c.args.actor c.requires.actor step c.wanted-wanted.result (wants (g.D.Device.model (core_disk c.args.self.now)) (core_seen c.args.self.now) m c.args.actor c.requires.actor step c.wanted-wanted.result c.wanted-wanted.ensures) (c.in_the_way.ensures.free c.in_default.is),
-        unready (g.D.Device.model (core_disk c.args.self.now)) (core_seen c.args.self.now) m c.args.actor c.requires.actor step c.wanted-wanted.result c.is_unready.result (wants (g.D.Device.model (core_disk c.args.self.now)) (core_seen c.args.self.now) m c.args.actor c.requires.actor step c.wanted-wanted.result c.wanted-wanted.ensures) c.is_unready.ensures c.if-is_unready.true,
-        done.1,
+        is_unready,
+        always_flushes m c.args.actor c.flush.result done.0 step.goes_on.kept is_unready done.1,
       )),
       done.2,
     )
