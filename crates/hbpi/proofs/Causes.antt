@@ -1,8 +1,7 @@
--- A line is `full` by its cause: at a machine on the way its page lacks the point and room, and no page is free; or nothing makes the
--- log ready.
-use Rattle.std.proofs.Common.{◌≡◌, ◌⊎◌, ℕ, List, [], ◌∷◌, ◌++◌, All, refl, sym, ap, subst, ◌∙◌, append-nil, append_assoc}
+-- A line is `full` by its cause: at a machine on the way its page lacks the point and room, and no page is free.
+use Rattle.std.proofs.Common.{◌≡◌, ℕ, List, [], ◌∷◌, ◌++◌, All, refl, sym, ap, subst, ◌∙◌, append-nil, append_assoc}
 use Rattle.std.proofs.lemmas.List.Elements.{All-head, All-nil, All-tail, All-weaker}
-use Rattle.hb_core.specs.CauseLaws.{CannotBeReady, FullByCause, SplitFindsNoPage}
+use Rattle.hb_core.specs.CauseLaws.{FullByCause, SplitFindsNoPage}
 use Rattle.hb_core.specs.KeptMachine.{MachineKeeps}
 use Rattle.hb_core.specs.Laws.{AnswersAreTimed}
 use Rattle.hb_core.specs.MachineLaws.{MachineStaysKept}
@@ -20,7 +19,7 @@ use Rattle.hb_set.specs.declared.scripts.Answered.{Answered}
 use Rattle.hbpi.specs.Driven.{Drove}
 use Rattle.hbpi.specs.SeenRuns.{Run}
 
--- These steps have a front that leads to a machine at which the next one finds no page, or no room in the log.
+-- These steps have a front that leads to a machine at which the next one finds no page.
 pub record FullOnWay (m : Machine) (actors : List ℕ) (number : ℕ) : Type 0 where
   pub front : List ℕ
   pub actor : ℕ
@@ -28,7 +27,7 @@ pub record FullOnWay (m : Machine) (actors : List ℕ) (number : ℕ) : Type 0 w
   pub parts : actors ≡ front ++ actor ∷ rest
   pub here : Machine
   pub reached : StepsInSequence front m here
-  pub cause : SplitFindsNoPage here actor number ⊎ CannotBeReady here actor
+  pub cause : SplitFindsNoPage here actor number
 
 abbrev pub IsFullByCause : Machine → List ℕ → Answered → Type 0
 IsFullByCause m actors a = a.reply ≡ replies.Full → FullOnWay m actors a.line

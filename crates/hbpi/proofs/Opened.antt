@@ -18,7 +18,8 @@ even_store d st durable later keeps running = record {
   told = keeps.disk.told;
   images = λ c image. elim (keeps.disk.images c image) [
     | inl by ↦ record { turn = st.turn; said = keeps.parts.said; payloads = keeps.parts.payloads; groups = keeps.parts.written; by = by }
-    | inr stopped ↦ cc (stopped.0, running)
+    | inr (inl stopped) ↦ cc (stopped.0, running)
+    | inr (inr stopped) ↦ cc (stopped.0, running)
   ];
 }
 

@@ -97,11 +97,8 @@ takes_steps d e lines steps store c answered m keeps all disk new actors here ru
     }
 
 -- the steps of a store that was just opened leave alone what lies behind its file
-pub run_beyond : (d e : DiskModel) (st : StoreState) (m : Machine) → IsNew st.turn st.meta st → m.store ≡ st → Becomes (ChangesFile m.store) d e → KeepsBeyond (file_size st.meta) d e
-run_beyond d e st m is_new stored in_file =
-    let log = is_new.log_is in
-    let inside : st.log.area + st.log.len ≤ file_size st.meta = subst (λ (l : LogState). l.area + l.len ≤ file_size st.meta) (sym log) (log_inside st.turn (log_start st.turn st.meta) st.meta refl) in
-    Becomes-weaker (ChangesFile st) (Torn 0 (file_size st.meta)) d e (λ b c changes. changes inside) (subst (λ (x : StoreState). Becomes (ChangesFile x) d e) stored in_file)
+pub run_beyond : (d e : DiskModel) (st : StoreState) (m : Machine) → m.store ≡ st → Becomes (ChangesFile m.store) d e → KeepsBeyond (file_size st.meta) d e
+run_beyond d e st m stored in_file = subst (λ (x : StoreState). Becomes (ChangesFile x) d e) stored in_file
 
 -- how the run ended, and the fault line behind its text
 pub ran_ends : (end : End) (before mid after : SinkModel) (answered : List Answered) (m : Machine) → EndsWith end before mid (run_text answered m) answered m.stop → GetsLine mid after (fault_line (status_after end))
@@ -203,7 +200,7 @@ module _ {X Y : Type 0} (M : X → DiskModel) (S : Y → SinkModel) (lines : Lis
     | inl none ↦ subst (λ (x : X). KeepsBeyond (file_size store.meta) (M first) (M x)) (sym (facts.disk_is ∙ (facts.unbegun none).1 ∙ facts.disk)) (beyond_none (file_size store.meta) (M first) disk)
     | inr some ↦
         let drove = run_here begun.0 begun.1 some in
-        subst (λ (x : X). KeepsBeyond (file_size store.meta) (M first) (M x)) (sym facts.disk_is) (run_beyond (M first) (M over) store begun.0 new begun.1.may.shows.store drove.run.in_file)
+        subst (λ (x : X). KeepsBeyond (file_size store.meta) (M first) (M x)) (sym facts.disk_is) (run_beyond (M first) (M over) store begun.0 begun.1.may.shows.store drove.run.in_file)
   ]
 
 -- How a run over a store that was just opened ends, by its text.
