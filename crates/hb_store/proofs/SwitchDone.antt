@@ -1,5 +1,5 @@
 -- What a store's switch is, once its calls are done, and where one of them failed.
-use Rattle.std.proofs.Common.{◌≡◌, ℕ, ◌+◌, ◌≤◌, Bool, false, List, [], Option, None, Result, Ok, Err, IsSome, refl, subst, arith}
+use Rattle.std.proofs.Common.{◌≡◌, ℕ, ◌+◌, ◌≤◌, false, [], Option, None, Result, Ok, Err, IsSome, refl, subst, arith}
 use Rattle.hb_disk.specs.Model.{DiskModel, IsDisk}
 use Rattle.hb_disk.specs.Calls.{Leaves}
 use Rattle.hb_disk.specs.Runs.{Rewrites}

@@ -1,10 +1,9 @@
 -- A store begins its next turn: from what it keeps of the disk before, and to what it keeps then.
-use Rattle.std.proofs.Common.{◌≡◌, ◌⊎◌, inl, inr, ℕ, ◌+◌, ◌*◌, ◌-◌, ◌≤◌, take, drop, Bool, false, IsTrue, List, [], Option, Some, refl, sym, ap, subst, ◌∙◌}
+use Rattle.std.proofs.Common.{◌≡◌, ◌⊎◌, inl, inr, ℕ, ◌+◌, ◌*◌, ◌-◌, ◌≤◌, take, drop, Bool, false, IsTrue, List, [], refl, sym, subst}
 use Rattle.std.specs.Ordering.{nat_cmp}
 use Rattle.std.specs.FinSet as set
 use Rattle.hb_disk.specs.Model.{DiskModel, IsDisk}
 use Rattle.hb_lemmas.proofs.Options.{some_value}
-use Rattle.hb_frag.specs.declared.pages.Page.{Page}
 use Rattle.hb_frag.specs.Grammar.{SpellsPage}
 use Rattle.hb_layout.specs.Offsets.{file_size, log_start}
 use Rattle.hb_ops.specs.Files.{FileState}
@@ -13,7 +12,7 @@ use Rattle.hb_super.proofs.Facts.BodyLaws.{HasNoBody-hides}
 use Rattle.hb_store.specs.Keeps.{IsFresh, StoreKeeps}
 use Rattle.hb_store.specs.Opening.{OpensBy}
 use Rattle.hb_store.specs.Parts.{IsDurable, written_pages}
-use Rattle.hb_store.specs.States.{IsMemory, StoreState, is_dirty, new_state}
+use Rattle.hb_store.specs.States.{IsMemory, StoreState, is_dirty}
 use Rattle.hb_store.specs.Switching.{switched_state}
 use Rattle.hb_store.specs.Turning.{MayTurn}
 use Rattle.hb_store.proofs.Openings.{fresh_keeps}

@@ -2,7 +2,7 @@
 use Rattle.std.proofs.Common.{◌≡◌, ◌⊎◌, inl, inr, ℕ, ◌+◌, ◌*◌, ◌-◌, ◌%◌, ◌≤◌, take, drop, true, false, List, [], Option, Some, None, refl, sym, ap, subst, ◌∙◌, arith}
 use Rattle.std.proofs.lemmas.Option.{same_Some}
 use Rattle.hb_lemmas.proofs.Options.{at_value, some_value}
-use Rattle.hb_disk.specs.Model.{DiskModel, IsDisk, Torn}
+use Rattle.hb_disk.specs.Model.{DiskModel}
 use Rattle.hb_disk.specs.Calls.{Apart, Becomes, IsSynced}
 use Rattle.hb_disk.proofs.Facts.TornLaws.{Torn-elsewhere}
 use Rattle.hb_layout.specs.Offsets.{log_start, slot_offset}
@@ -11,7 +11,7 @@ use Rattle.hb_super.specs.Superblocks.{next_turn}
 use Rattle.hb_disk.proofs.Facts.RewriteLaws.{Becomes-tells}
 use Rattle.hb_frag.specs.declared.pages.Page.{Page}
 use Rattle.hb_frag.specs.Grammar.{SpellsPage}
-use Rattle.hb_ops.specs.Files.{FileState, page_of}
+use Rattle.hb_ops.specs.Files.{FileState}
 use Rattle.hb_store.specs.Forced.{stopped_state}
 use Rattle.hb_store.specs.Keeps.{StoreKeeps}
 use Rattle.hb_store.specs.Opening.{IsPageIn, OpensBy, Shows, log_bytes, place_bytes}

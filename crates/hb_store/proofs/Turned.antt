@@ -1,9 +1,9 @@
 -- A file goes on to open while its next turn is made ready, and stands whole once it begins.
-use Rattle.std.proofs.Common.{◌≡◌, ◌⊎◌, inl, inr, ℕ, zero, suc, ◌+◌, ◌*◌, ◌-◌, ◌%◌, ◌≤◌, List, [], ◌++◌, length, take, drop, get_or, replicate, Option, Some, None, IsSome, is_some, IfSome, Result, refl, sym, ap, ◌∙◌, subst, arith}
+use Rattle.std.proofs.Common.{◌≡◌, ◌⊎◌, inl, inr, ℕ, zero, suc, ◌+◌, ◌*◌, ◌-◌, ◌%◌, ◌≤◌, List, [], ◌++◌, length, take, drop, replicate, Option, Some, None, IsSome, is_some, IfSome, Result, refl, sym, ap, ◌∙◌, subst, arith}
 use Rattle.std.proofs.lemmas.List.{length-replicate}
 use Rattle.hb_space.specs.declared.form.TheConstants.{PAGE}
 use Rattle.hb_disk.specs.Model.{DiskModel, IsDisk, overwritten, Torn}
-use Rattle.hb_disk.specs.Calls.{Ticks, Syncs, Leaves, Becomes, Apart, IsSynced}
+use Rattle.hb_disk.specs.Calls.{Ticks, Syncs, Leaves, Becomes, Apart}
 use Rattle.hb_disk.proofs.Facts.RunLaws.{Leaves-start, Leaves-call, Leaves-then, Leaves-weaker}
 use Rattle.hb_lemmas.proofs.Options.{at_value, of_value, has_value, some_value}
 use Rattle.std.proofs.lemmas.Option.{same_Some}

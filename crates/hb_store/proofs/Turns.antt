@@ -1,5 +1,5 @@
 -- What the calls that begin a turn leave of a disk.
-use Rattle.std.proofs.Common.{◌≡◌, ℕ, ◌+◌, ◌≤◌, List, Option, Result, Ok, Err, IsErr, IsSome, OnOk, is_some, inl, sym, subst, ap, ◌∙◌, arith}
+use Rattle.std.proofs.Common.{◌≡◌, ℕ, ◌+◌, ◌≤◌, List, Option, Result, Ok, Err, IsErr, IsSome, OnOk, is_some, inl, subst, ap, ◌∙◌, arith}
 use Rattle.hb_disk.specs.Model.{DiskModel, IsDisk, Torn}
 use Rattle.hb_disk.specs.Calls.{Syncs, Then}
 use Rattle.hb_disk.specs.Runs.{Rewrites}
@@ -11,7 +11,7 @@ use Rattle.hb_frag.specs.declared.pages.Page.{Page}
 use Rattle.hb_layout.specs.Offsets.{log_start, slot_offset}
 use Rattle.hb_layout.specs.declared.meta.Meta.{Meta}
 use Rattle.hb_ops.specs.Files.{FileState}
-use Rattle.hb_super.specs.Superblocks.{IsLegal, next_turn}
+use Rattle.hb_super.specs.Superblocks.{next_turn}
 use Rattle.hb_lemmas.proofs.Options.{some_value}
 use Rattle.hb_store.proofs.Facts.PlaceWrites.{ok_tick}
 use Rattle.hb_store.specs.Switching.{TornSwitch}

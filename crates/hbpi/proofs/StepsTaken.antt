@@ -9,13 +9,12 @@ use Rattle.hb_core.specs.Taking.{begun_core}
 use Rattle.hb_core.specs.Working.{MayStep}
 use Rattle.hb_core.specs.declared.endings.End.{End}
 use Rattle.hb_core.specs.declared.endings.End.TheVariants as ends
-use Rattle.hb_disk.proofs.Facts.BecomesLaws.{Becomes-weaker}
 use Rattle.hb_disk.proofs.Facts.RewriteLaws.{Becomes-tells}
 use Rattle.hb_disk.specs.Calls.{Becomes}
-use Rattle.hb_disk.specs.Model.{DiskModel, IsDisk, Torn}
+use Rattle.hb_disk.specs.Model.{DiskModel, IsDisk}
 use Rattle.hb_drive.specs.Driving.{DrivesTo, EndsWith, run_text}
 use Rattle.hb_space.specs.Actors.{IsActor}
-use Rattle.hb_layout.specs.Offsets.{file_size, log_start}
+use Rattle.hb_layout.specs.Offsets.{file_size}
 use Rattle.hb_lemmas.proofs.Options.{at_value, if_value, has_value}
 use Rattle.hb_ops.specs.Files.{FileState, contents_of}
 use Rattle.hb_ops.specs.Sound.{IsSound}
@@ -32,11 +31,9 @@ use Rattle.hb_store.specs.Opening.{IsEven}
 use Rattle.hb_store.specs.States.{IsNew, StoreState}
 use Rattle.hb_store.specs.declared.stops.StopWhy.{StopWhy}
 use Rattle.hb_store.specs.declared.stops.StopWhy.TheVariants as stops
-use Rattle.hb_wal.specs.Log.{LogState}
 use Rattle.std.specs.Prelude.{take}
 use Rattle.std.proofs.lemmas.List.Elements.{All-weaker}
 use Rattle.hbpi.proofs.Begins.{IsBegunHere}
-use Rattle.hbpi.proofs.Beyond.{log_inside}
 use Rattle.hbpi.proofs.Opened.{even_store, since_start}
 use Rattle.hbpi.specs.Codes.{status_after}
 use Rattle.hbpi.specs.Driven.{Drove, RanEnds}

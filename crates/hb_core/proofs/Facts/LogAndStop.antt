@@ -18,7 +18,6 @@ use Rattle.hb_ops.specs.declared.operations.Op.TheVariants.{Del, Extract, Grow, 
 use Rattle.hb_store.specs.Calls.{read_here}
 use Rattle.hb_store.specs.States.{StoreState}
 use Rattle.hb_store.specs.declared.stops.StopWhy.{StopWhy}
-use Rattle.hb_wal.specs.Log.{LogState}
 
 -- nothing but what the step says has stopped the machine
 abbrev pub SaysStop : Machine → Outcome → Machine → Type 0

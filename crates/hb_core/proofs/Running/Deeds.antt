@@ -1,7 +1,6 @@
 -- What the calls of a core make of it, put together: a deed.
-use Rattle.std.proofs.Common.{◌≡◌, ℕ, ◌-◌, List, [], ◌++◌, length, get_or, Option, Some, None, refl, sym, ap, subst, ◌∙◌, append-nil, arith}
+use Rattle.std.proofs.Common.{◌≡◌, ℕ, ◌-◌, List, [], ◌++◌, length, Option, Some, None, refl, sym, ap, subst, ◌∙◌, append-nil}
 use Rattle.hb_latch.specs.Tables.{LatchTable}
-use Rattle.hb_set.specs.declared.commands.Reply.TheVariants as replies
 use Rattle.hb_activity.specs.declared.activities.Activity.{Activity}
 use Rattle.hb_activity.specs.declared.activities.Activity.TheVariants as at
 use Rattle.hb_activity.specs.declared.deciding.Fate.{Fate}
@@ -10,7 +9,7 @@ use Rattle.hb_activity.specs.declared.deciding.Next.{Next}
 use Rattle.hb_activity.specs.declared.jobs.Job.{Job}
 use Rattle.hb_activity.specs.Classes.{Class, Hand, Empty, HasLine, HasJob, class_of, hand_of, idle_of}
 use Rattle.hb_activity.specs.Deciding.{deed_of, joined_by, said_by}
-use Rattle.hb_activity.specs.Deeds.{Deed, answers_now, moves_to, takes_job}
+use Rattle.hb_activity.specs.Deeds.{Deed, answers_now, takes_job}
 use Rattle.hb_activity.specs.Queue.{AddsJobs, LeavesBy, LeavesFirst}
 use Rattle.hb_store.specs.States.{StoreState}
 use Rattle.hb_core.specs.declared.outcomes.Outcome.{Outcome}
@@ -23,17 +22,16 @@ use Rattle.hb_pool.specs.Frames.{Use}
 use Rattle.hb_set.specs.declared.commands.Reply.{Reply}
 use Rattle.hb_store.specs.Held.{IsTied}
 use Rattle.hb_core.proofs.Running.Pins.{tied_held}
-use Rattle.hb_core.specs.Moving.{DoesDeed, KeepsStaying, StandsAs, StandsFree, StandsNow, joins_order, number_of, numbers_joined, placed, placed_at, pushed, said, with_jobs, with_order, with_order_of_use, with_standing, with_store}
+use Rattle.hb_core.specs.Moving.{DoesDeed, KeepsStaying, StandsFree, StandsNow, joins_order, number_of, numbers_joined, placed, placed_at, pushed, said, with_jobs, with_order, with_order_of_use, with_standing, with_store}
 use Rattle.hb_core.specs.Pinning.{CanMovePins, CanUnpin}
 use Rattle.hb_core.specs.Using.{pages_of, use_done, use_held}
 use Rattle.hb_core.specs.Performing.{MayDo, Relatches, latches_held, outcome_of}
-use Rattle.hb_core.specs.Showing.{RunningCore, number_in_hand}
+use Rattle.hb_core.specs.Showing.{RunningCore}
 use Rattle.hb_core.specs.Working.{IsWorking}
 use Rattle.hb_core.specs.KeptFits.{class_for}
 use Rattle.hb_core.proofs.Table.DeedKinds.{line_is_sessions}
 use Rattle.hb_core.proofs.Table.GivenUp.{given_up_is, idle_latches}
-use Rattle.std.proofs.lemmas.Option.{same_Some, slice_get-get_or}
-use Rattle.hb_space.specs.Actors.{IsActor}
+use Rattle.std.proofs.lemmas.Option.{same_Some}
 
 -- a deed, by what became of the store, the order of use, the jobs and the latches
 pub does_deed : (actor : ℕ) (pins : List ℕ) (deed : Deed) (outcome : Outcome) (old new : RunningCore) (store : StoreState) (uses : List Use) (left jobs : List Job) (latches : LatchTable)

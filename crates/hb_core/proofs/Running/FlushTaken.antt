@@ -55,8 +55,7 @@ module _ {D : Type 0} (model : D → DiskModel) (x y : D) (c : RunningCore) (m :
   pub flush_idled : {T : Type 0} (v : T) → (c.store.log.groups ≡ []) × (oldest_dirty c.uses ≡ None) × (c.store.log.written ≡ 0) → FlushesHome (Ok v) (model x) (model y) (held_in c) now → Shown outcomes.Idle
   flush_idled v which flushes =
       let nothing = home_none (model x) (model y) (held_in c) now (Ok v) (which.1, which.2) flushes in
-      let empty : m.store.log.written ≡ 0 = ap (λ (s : StoreState). s.log.written) step.shows.store ∙ which.2 in
-      (
+      let empty : m.store.log.written ≡ 0 = ap (λ (s : StoreState). s.log.written) step.shows.store ∙ which.2 in (
         m,
         inr (none_waits which.0, inr (inr ((ap oldest_dirty step.shows.uses ∙ which.1, empty), (refl, refl)))),
         stayed_shown (model x) (model y) c st uses m step.shows nothing.0.stays nothing.1,

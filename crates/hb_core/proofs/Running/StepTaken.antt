@@ -1,5 +1,5 @@
 -- What a call of a core's step does by where the actor stands is a step of the machine that is shown.
-use Rattle.std.proofs.Common.{◌≡◌, inr, ℕ, ◌<◌, ◌≤◌, ◌-◌, List, length, slice_get, Option, Some, None, refl, sym, ap, ◌∙◌, subst, arith}
+use Rattle.std.proofs.Common.{◌≡◌, ℕ, ◌<◌, ◌≤◌, ◌-◌, List, length, slice_get, Option, Some, None, refl, sym, ap, ◌∙◌, subst, arith}
 use Rattle.std.specs.Prelude.{MatchOption}
 use Rattle.hb_activity.specs.Classes.{class_of}
 use Rattle.hb_activity.specs.declared.activities.Activity.{Activity}

@@ -1,8 +1,6 @@
 -- What a step does to the disk: nothing, a force, a page that is written to its place, or the beginning of the log's next turn.
 use Rattle.std.proofs.Common.{◌≡◌, ◌≢◌, inl, inr, ℕ, ◌<◌, arith, List, [], None, Some, IsOk, Ok, Err, refl, sym, ap, ◌∙◌, subst}
-use Rattle.hb_activity.specs.declared.activities.Activity.{Activity}
 use Rattle.hb_activity.specs.declared.activities.Activity.TheVariants as at
-use Rattle.hb_activity.specs.Deeds.{Deed}
 use Rattle.hb_disk.specs.Calls.{ReadsOnly}
 use Rattle.hb_disk.specs.Model.{DiskModel, Torn}
 use Rattle.hb_disk.proofs.Facts.FaultLaws.{ReadsOnly-neither, ReadsOnly-none}
@@ -22,8 +20,7 @@ use Rattle.hb_core.specs.declared.outcomes.Outcome.{Outcome}
 use Rattle.hb_core.specs.declared.outcomes.Outcome.TheVariants as outcomes
 use Rattle.hb_core.specs.KeptOrder.{StandsOutside}
 use Rattle.hb_core.specs.Machines.{Machine}
-use Rattle.hb_core.specs.Moving.{DoesDeed, with_stop}
-use Rattle.hb_core.specs.Performing.{outcome_of}
+use Rattle.hb_core.specs.Moving.{with_stop}
 use Rattle.hb_core.specs.Showing.{RunningCore}
 use Rattle.hb_core.specs.Taking.{TakesNextLine, TakesNextMerging, TakesNextPosting}
 use Rattle.hb_core.specs.Touching.{EndsByRead, Touches, held_in}

@@ -1,6 +1,5 @@
 -- What a line or a job that can't go on comes to, by what the actor has in hand; and how an actor stands with nothing in hand.
 use Rattle.std.proofs.Common.{◌≡◌, [], None, refl}
-use Rattle.hb_set.specs.declared.commands.Reply.TheVariants as replies
 use Rattle.hb_set.specs.declared.scripts.Line.{Line}
 use Rattle.hb_activity.specs.declared.dropping.DropWhy.{DropWhy}
 use Rattle.hb_activity.specs.declared.jobs.Job.{Job}

@@ -1,5 +1,5 @@
 -- What a step says, by its cases: it neither answers a line nor drops a job; or it does a deed, that of a row or another one.
-use Rattle.std.proofs.Common.{◌≡◌, inl, inr, ℕ, ◌<◌, Some, sym, subst, []}
+use Rattle.std.proofs.Common.{◌≡◌, inl, inr, ℕ, ◌<◌, Some, sym, subst}
 use Rattle.hb_set.specs.declared.commands.Reply.{Reply}
 use Rattle.hb_set.specs.declared.commands.Reply.TheVariants as replies
 use Rattle.hb_set.specs.declared.scripts.Line.{Line}
@@ -9,10 +9,10 @@ use Rattle.hb_core.specs.declared.outcomes.Outcome.TheVariants as outcomes
 use Rattle.hb_activity.specs.Deeds.{Deed, answers_now}
 use Rattle.hb_core.proofs.Table.Ways.{KeepsAllButDisk, fails_so, flushes_so, forces_so, meets_so, stays_so, turns_so}
 use Rattle.hb_core.specs.Acting.{Abandons, DoesRow}
-use Rattle.hb_core.specs.Forcing.{FlushesOnce, ForcesAll, StaysSo}
+use Rattle.hb_core.specs.Forcing.{ForcesAll, StaysSo}
 use Rattle.hb_core.specs.Machines.{Machine, settled_count}
-use Rattle.hb_core.specs.Performing.{Performs, PerformsAsItIs}
-use Rattle.hb_core.specs.Steps.{IsUnready, StepsTo, TakesJob, TakesMerging, Works}
+use Rattle.hb_core.specs.Performing.{Performs}
+use Rattle.hb_core.specs.Steps.{StepsTo, TakesJob, TakesMerging, Works}
 use Rattle.hb_point.specs.SessionRows.{WantsBoxes, next_line, taking}
 use Rattle.hb_core.proofs.Table.StepKinds.{FlushesMore, IsPlain, each_step, ready_kind}
 

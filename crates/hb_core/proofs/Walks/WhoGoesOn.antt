@@ -38,7 +38,7 @@ use Rattle.hb_core.specs.KeptFits.{LineFits, class_for}
 use Rattle.hb_core.specs.Locking.{HasBoxFree}
 use Rattle.hb_core.specs.KeptMachine.{CoreKeeps}
 use Rattle.hb_core.specs.Machines.{Files, Machine}
-use Rattle.hb_core.specs.Performing.{Performs, outcome_of, PerformsAsItIs}
+use Rattle.hb_core.specs.Performing.{Performs, outcome_of}
 use Rattle.hb_core.specs.ProgressLaws.{GoesForward, GoesOnNow, HasSomethingLeft, SomebodyGoesOnNow}
 use Rattle.hb_core.specs.SteppingLaws.{IsAtRest}
 use Rattle.hb_core.specs.Steps.{AwaitsPlace, BeginsLine, StepsAs, StepsTo, TakesJobToMerge, TakesPosting, Works}
