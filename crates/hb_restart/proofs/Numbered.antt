@@ -1,5 +1,5 @@
 -- The numbers of the pages of a file.
-use Rattle.std.proofs.Common.{◌≡◌, ℕ, zero, suc, ◌+◌, ◌≤◌, List, [], ◌∷◌, length, slice_get, Some, None, refl, sym, ◌∙◌, arith}
+use Rattle.std.proofs.Common.{◌≡◌, ℕ, zero, suc, ◌+◌, ◌≤◌, List, [], ◌∷◌, length, slice_get, Some, None, refl, ◌∙◌, arith}
 use Rattle.hb_frag.specs.declared.pages.Page.{Page}
 use Rattle.hb_ops.specs.Files.{page_at}
 use Rattle.hb_ops.proofs.Facts.PageNumberLaws.{page_at-suc}
@@ -20,10 +20,6 @@ pub some_number : (pages : List Page) (id : ℕ) (page : Page) → page_at pages
 some_number [] zero page e = absurd (let never : None ≡ Some page = e in cc)
 some_number (first ∷ rest) zero page e = absurd (let never : None ≡ Some page = e in cc)
 some_number pages (suc n) page e = omega arith
-
-pub last_number : (pages : List Page) (id : ℕ) (page : Page) → page_at pages id ≡ Some page → id ≤ length pages
-last_number pages zero page e = omega arith
-last_number pages (suc n) page e = let most = within pages n page (sym (page_at-suc pages n) ∙ e) in omega (arith, most)
 
 pub page_there_is : (pages : List Page) (id : ℕ) → 1 ≤ id → id ≤ length pages → (page : Page) × (page_at pages id ≡ Some page)
 page_there_is pages zero some most = absurd (omega (arith, some))

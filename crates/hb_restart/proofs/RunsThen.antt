@@ -2,14 +2,16 @@
 use Rattle.std.proofs.Common.{◌≡◌, ◌⊎◌, inl, inr, ℕ, ◌+◌, ◌≤◌, IsErr, Result, Ok, Err, refl, ◌∙◌, subst, arith}
 use Rattle.hb_outside.specs.Streams.{Rose}
 use Rattle.hb_disk.specs.Model.{DiskModel, IsDisk, Torn}
-use Rattle.hb_disk.specs.Calls.{IsSynced, OnlyReads, ReadsOnly, Syncs, WriteFaults}
-use Rattle.hb_disk.specs.Runs.{Lasts, Rewrites}
-use Rattle.hb_disk.proofs.Facts.RewriteLaws.{Becomes-tells, Rewrites-sync}
-use Rattle.hb_layout.specs.Offsets.{slot_offset}
+use Rattle.hb_disk.specs.Calls.{IsSynced, ReadsOnly, Syncs, WriteFaults}
+use Rattle.hb_disk.specs.Runs.{Rewrites}
+use Rattle.hb_disk.proofs.Facts.RewriteLaws.{Becomes-tells, Rewrites-sync, Rewrites-weaker}
+use Rattle.hb_layout.specs.Offsets.{page_offset, slot_offset}
+use Rattle.hb_layout.specs.declared.meta.Meta.{Meta}
 use Rattle.hb_super.specs.Moments.{Clears}
-use Rattle.hb_super.proofs.Facts.ClearLaws.{cleared_cause, cleared_faults_later, cleared_few, cleared_lasts, cleared_no_fault, cleared_place, cleared_synced}
+use Rattle.hb_super.proofs.Facts.ClearLaws.{cleared_cause, cleared_faults_later, cleared_few, cleared_no_fault, cleared_place, cleared_synced}
+use Rattle.hb_store.specs.Switching.{TornSwitch}
 use Rattle.hb_restart.specs.Renewing.{DiskFaults, Runs}
-use Rattle.hb_restart.proofs.Facts.Beyond.{beyond_none, beyond_then, beyond_wider}
+use Rattle.hb_restart.proofs.Facts.Beyond.{beyond_none, beyond_then, beyond_wider, switch_within}
 
 -- no call failed
 pub faults_none : {F : Type 0} (d : DiskModel) → (F → ⊥) → DiskFaults F d d
@@ -106,7 +108,13 @@ runs_clear r turn within old new is_old fits did = record {
   };
 }
 
--- what a clearing leaves once it is done
-pub cleared_ok : {T E : Type 0} (r : Result T E) (v : T) (turn at n : ℕ) (old new : DiskModel) → r ≡ Ok v → Clears turn r old new → IsSynced old at n → (OnlyReads old new ⊎ Lasts new) × IsSynced new at n
-cleared_ok (Ok v) w turn at n old new ok did was = (cleared_lasts turn old new v did, cleared_synced turn old new v at n did was)
-cleared_ok (Err e) w turn at n old new ok did was = absurd (let never : ⊥ = cc ok in never)
+-- what it leaves synced once it is done
+pub clear_synced : {T E : Type 0} (r : Result T E) (v : T) (turn at n : ℕ) (old new : DiskModel) → r ≡ Ok v → Clears turn r old new → IsSynced old at n → IsSynced new at n
+clear_synced (Ok v) w turn at n old new ok did was = cleared_synced turn old new v at n did was
+clear_synced (Err e) w turn at n old new ok did was = absurd (let never : ⊥ = cc ok in never)
+
+-- the next turn begun
+pub runs_switch : {T E : Type 0} (r : Result T E) (turn : ℕ) (meta : Meta) (old new : DiskModel) → Rewrites (TornSwitch turn meta) 9 r old new → Runs 9 (page_offset meta 1) (IsErr r) old new
+runs_switch r turn meta old new run =
+    let n = page_offset meta 1 in
+    runs_rewrite r 0 n 9 n old new (omega arith) (Rewrites-weaker r (TornSwitch turn meta) (Torn 0 n) 9 old new (switch_within turn meta) run)

@@ -12,8 +12,9 @@ use Rattle.hb_wal.specs.Frames.{ReadsOneWay, HasFrames}
 use Rattle.hb_store.proofs.Facts.Spellings.{OneList, same_spelled}
 use Rattle.hb_store.specs.Opening.{log_bytes, SpellAll}
 use Rattle.hb_store.specs.Replay.{Replayed, untouched, replay}
+use Rattle.hb_store.specs.Turning.{StillOpens}
 use Rattle.hb_restart.specs.Found.{IsFoundIn}
-use Rattle.hb_restart.specs.Renewing.{StillOpens, WritesEachOnce}
+use Rattle.hb_restart.specs.Renewing.{WritesEachOnce}
 use Rattle.hb_restart.proofs.EachOnce.{none_written}
 
 module _ (once : OneList) (turns : (bytes : List ℕ) (t s : ℕ) (m n : Meta) → IsNewest bytes t m → IsNewest bytes s n → t ≡ s) (saids : (bytes : List ℕ) (t s : ℕ) (m n : Meta) → IsNewest bytes t m → IsNewest bytes s n → m ≡ n)

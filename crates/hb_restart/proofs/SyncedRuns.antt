@@ -11,9 +11,9 @@ use Rattle.hb_layout.specs.declared.meta.Meta.{Meta}
 use Rattle.hb_ops.specs.Files.{FileState}
 use Rattle.hb_store.specs.Opening.{OpensTo, IsEven, OpensToOne}
 use Rattle.hb_store.specs.Keeps.{IsFresh}
+use Rattle.hb_store.specs.Turning.{StillOpens, IsHere}
+use Rattle.hb_store.proofs.Turned.{still_to}
 use Rattle.hb_restart.specs.Found.{IsFoundIn}
-use Rattle.hb_restart.specs.Renewing.{StillOpens, IsHere}
-use Rattle.hb_restart.proofs.Renewed.{still_to}
 use Rattle.hb_store.proofs.Facts.PlaceWrites.{ok_tick}
 
 -- bytes in which a file was found open to it

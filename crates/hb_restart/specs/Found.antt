@@ -17,10 +17,10 @@ use Rattle.hb_sound.specs.Told.{HasBoundedMeta}
 use Rattle.hb_sound.specs.declared.pages.AuditStop.{AuditStop}
 use Rattle.hb_sound.specs.declared.pages.AuditStop.TheVariants as stops
 use Rattle.hb_store.specs.LogReading.{ReadsLog, IsTouched}
+use Rattle.hb_store.specs.Turning.{StillOpens}
 use Rattle.hb_store.specs.declared.touched.LogStop.{LogStop}
 use Rattle.hb_store.specs.declared.touched.LogStop.TheVariants as logs
 use Rattle.hb_store.specs.declared.touched.Touched.{Touched}
-use Rattle.hb_restart.specs.Renewing.{StillOpens}
 use Rattle.hb_restart.specs.declared.looking.Found.{Found}
 use Rattle.hb_restart.specs.declared.reading.LogRead.{LogRead}
 use Rattle.hb_restart.specs.Refusals.{HasLayout}

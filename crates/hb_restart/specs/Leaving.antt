@@ -12,8 +12,9 @@ use Rattle.hb_sound.specs.Told.{HasBoundedMeta}
 use Rattle.hb_store.specs.Keeps.{StoreKeeps}
 use Rattle.hb_store.specs.Opening.{OpensTo, IsEven}
 use Rattle.hb_store.specs.States.{IsNew, IsSameLayout, StoreState}
+use Rattle.hb_store.specs.Turning.{StillOpens}
 use Rattle.hb_restart.specs.Beyond.{KeepsBeyondFile}
-use Rattle.hb_restart.specs.Renewing.{WritesEachOnce, WritesAll, StillOpens, DiskFaults}
+use Rattle.hb_restart.specs.Renewing.{WritesEachOnce, WritesAll, DiskFaults}
 
 -- the disk that a call hands on: in what it made, or beside the fault
 abbrev pub disk_left : {A F D : Type 0} → Result A (F × D) → (A → D) → D

@@ -1,20 +1,12 @@
 -- What opening a file makes of its disk, once it is found: the touched pages are written to their places, and the next
 -- turn begins.
-use Rattle.std.specs.Prelude.{◌≡◌, ℕ, ◌+◌, ◌≤◌, List, Option, IsSome, ◌⊎◌, ◌*◌, replicate, Some, zero, suc, ◌<◌, None}
+use Rattle.std.specs.Prelude.{◌≡◌, ℕ, ◌+◌, ◌≤◌, List, Option, IsSome, ◌⊎◌, Some, zero, suc, ◌<◌, None}
 use Rattle.hb_disk.specs.Model.{DiskModel}
-use Rattle.hb_disk.specs.Calls.{IsSynced}
 use Rattle.hb_frag.specs.declared.pages.Page.{Page}
 use Rattle.hb_layout.specs.declared.meta.Meta.{Meta}
-use Rattle.hb_ops.specs.Files.{FileState, page_of}
-use Rattle.hb_super.specs.Superblocks.{next_turn}
-use Rattle.hb_store.specs.Opening.{OpensBy, log_bytes, place_bytes}
-use Rattle.hb_store.specs.States.{IsSameLayout}
-use Rattle.hb_space.specs.declared.form.TheConstants.{PAGE}
+use Rattle.hb_store.specs.Opening.{place_bytes}
 use Rattle.hb_outside.specs.Streams.{Rose}
-use Rattle.hb_super.specs.Moments.{HidesNoOther}
 use Rattle.hb_frag.specs.Grammar.{SpellsPage}
-use Rattle.hb_log_codec.specs.Groups.{Logged}
-use Rattle.hb_store.specs.Replay.{untouched, replay}
 use Rattle.hb_restart.specs.Beyond.{KeepsBeyond}
 
 -- one for a page, and nothing where there is none
@@ -51,39 +43,6 @@ pub record IsWrittenTo (last from : ℕ) (bytes : List ℕ) (meta : Meta) (touch
   pub written : (id : ℕ) (page : Page) → 1 ≤ id → id ≤ last → touched id ≡ Some page → (c : List ℕ) → d.told ≡ Some c → SpellsPage (place_bytes meta id c) page
   pub waits : (id : ℕ) → last < id → (c : List ℕ) → d.told ≡ Some c → place_bytes meta id c ≡ place_bytes meta id bytes
   pub others : (id : ℕ) → 1 ≤ id → touched id ≡ None → (c : List ℕ) → d.told ≡ Some c → place_bytes meta id c ≡ place_bytes meta id bytes
-
--- Bytes open to this file, which says this of itself, by the superblock of this turn, which says that; and these are the
--- pages that their log touches.
-pub record StillOpens (turn : ℕ) (said meta : Meta) (touched : ℕ → Option Page) (s : FileState) (bytes : List ℕ) : Type 0 where
-  pub layout : IsSameLayout said meta
-  pub meta_is : s.meta ≡ meta
-  pub payloads : List (List ℕ)
-  pub groups : List Logged
-  pub by : OpensBy bytes turn said payloads groups s
-  pub touched_is : (id : ℕ) → (replay (untouched said) groups).page id ≡ touched id
-
--- a disk that tells, whose images all do so, and whose superblock places are synced
-pub record IsHere (d : DiskModel) (turn : ℕ) (said meta : Meta) (touched : ℕ → Option Page) (s : FileState) : Type 0 where
-  pub told : IsSome d.told
-  pub images : (c : List ℕ) → d.Image c → StillOpens turn said meta touched s c
-  pub places : IsSynced d 0 (2 * PAGE)
-
--- each page up to this number also reads in its place
-pub record IsPlacedTo (last : ℕ) (d : DiskModel) (turn : ℕ) (said meta : Meta) (touched : ℕ → Option Page) (s : FileState) : Type 0 where
-  pub here : IsHere d turn said meta touched s
-  pub there : (id : ℕ) (page : Page) → id ≤ last → page_of s id ≡ Some page → (b : List ℕ) → d.told ≡ Some b → SpellsPage (place_bytes meta id b) page
-
--- every page does
-abbrev pub IsPlaced : DiskModel → ℕ → Meta → Meta → (ℕ → Option Page) → FileState → Type 0
-IsPlaced d turn said meta touched s = IsPlacedTo meta.high d turn said meta touched s
-
--- The log area of the next turn is zeroed too, a crash leaves what a read gives, and the place of the next turn hides
--- no other body of that turn.
-pub record IsReadyFor (d : DiskModel) (turn : ℕ) (said meta : Meta) (touched : ℕ → Option Page) (s : FileState) : Type 0 where
-  pub placed : IsPlaced d turn said meta touched s
-  pub alone : (b c : List ℕ) → d.told ≡ Some b → d.Image c → c ≡ b
-  pub zeroed : (b : List ℕ) → d.told ≡ Some b → log_bytes (next_turn turn) meta b ≡ replicate meta.log 0
-  pub hides : (b : List ℕ) → d.told ≡ Some b → HidesNoOther b (next_turn turn) meta
 
 -- Calls of a disk, reads and others: where they failed so, a count of failed ones rose, elsewhere none did, and none falls.
 pub record DiskFaults (failed : Type 0) (old new : DiskModel) : Type 0 where

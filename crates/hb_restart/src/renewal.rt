@@ -16,21 +16,21 @@ ghost use Rattle.hb_layout.specs.Offsets as offsets;
 ghost use Rattle.hb_layout.specs.Offsets.{file_size};
 ghost use Rattle.hb_store.specs.Opening.{OpensTo, IsEven, place_bytes};
 ghost use Rattle.hb_store.specs.Keeps.{IsFresh};
+ghost use Rattle.hb_store.specs.Turning.{StillOpens, IsHere, IsPlaced, IsPlacedTo};
 ghost use Rattle.hb_restart.specs.Found.{IsFoundIn, IsRenewable, LiesOn};
-ghost use Rattle.hb_restart.specs.Renewing.{StillOpens, IsHere, IsPlaced, IsPlacedTo, IsReadyFor, Runs, IsWrittenTo, WritesAll, WritesEachOnce};
+ghost use Rattle.hb_restart.specs.Renewing.{Runs, IsWrittenTo, WritesAll, WritesEachOnce};
 ghost use Rattle.hb_restart.specs.Source.{HasPlaceFor};
 
 use crate::looking::Found;
 use hb_disk::{Device, DiskFault};
 use hb_frag::Page;
-use hb_layout::{log_start, page_offset};
+use hb_layout::page_offset;
 use hb_ops::Meta;
 use hb_outside::Failed;
 use hb_page_codec::encode;
 use hb_space::form::PAGE;
-use hb_store::{Touched, an_image_opens_to_one_file};
-use hb_super::{clear_hidden, write_super};
-use hb_wal::zero_area;
+use hb_store::{Touched, an_image_opens_to_one_file, begin_turn};
+use hb_super::clear_hidden;
 
 /// The turn after another.
 pub(crate) fn turn_after(turn: u8) -> u8
@@ -96,22 +96,8 @@ fn place_pages<D: Device>(disk: &mut D, found: &Found) -> Result<(), Failed>
     Ok(())
 }
 
-/// Makes the log area and the place of the next turn ready. At most five device calls.
-fn make_room<D: Device>(disk: &mut D, turn: u8, meta: &Meta) -> Result<(), DiskFault>
-    requires { LiesOn (D.model disk.old).size turn meta.now }
-    ensures run { Runs 5 (offsets.page_offset meta.now 1) (IsErr result) (D.model disk.old) (D.model disk.new) }
-    ensures moments { (said : Said) (touched : ℕ → Option Content) (s : FileState) → IsPlaced (D.model disk.old) turn said meta.now touched s →
-        Leaves (D.model disk.old) (D.model disk.new) (StillOpens turn said meta.now touched s) }
-    ensures ready { OnOk result ((said : Said) (touched : ℕ → Option Content) (s : FileState) → IsPlaced (D.model disk.old) turn said meta.now touched s →
-        IsReadyFor (D.model disk.new) turn said meta.now touched s) }
-{
-    let next = turn_after(turn);
-    disk.sync()?;
-    zero_area(disk, log_start(next, meta), meta.log)?;
-    clear_hidden(disk, next, meta)
-}
-
-/// Begins the next turn, by its superblock. At most eleven device calls.
+/// Begins the next turn over a disk whose pages stand in their places, also where its superblock's place hides another body. At most
+/// eleven device calls.
 fn switch<D: Device>(disk: &mut D, turn: u8, meta: &Meta) -> Result<(), DiskFault>
     requires { LiesOn (D.model disk.old).size turn meta.now }
     ensures run { Runs 11 (offsets.page_offset meta.now 1) (IsErr result) (D.model disk.old) (D.model disk.new) }
@@ -120,8 +106,9 @@ fn switch<D: Device>(disk: &mut D, turn: u8, meta: &Meta) -> Result<(), DiskFaul
     ensures fresh { OnOk result ((said : Said) (touched : ℕ → Option Content) (s : FileState) → IsPlaced (D.model disk.old) turn said meta.now touched s →
         IsFresh (D.model disk.new) (next_turn turn) meta.now s) }
 {
-    make_room(disk, turn, meta)?;
-    write_super(disk, turn_after(turn), meta)
+    let next = turn_after(turn);
+    clear_hidden(disk, next, meta)?;
+    begin_turn(disk, next, meta)
 }
 
 /// Writes the touched pages to their places and begins the next turn, on a disk that was just synced. At most eleven device

@@ -5,12 +5,13 @@ use Rattle.hb_disk.specs.Calls.{Becomes, OnlyReads}
 use Rattle.hb_disk.proofs.Facts.RunLaws.{OnlyReads-none}
 use Rattle.hb_lemmas.proofs.Options.{at_value}
 use Rattle.hb_disk.proofs.Facts.BecomesLaws.{Becomes-read, Becomes-torn, Becomes-weaker}
-use Rattle.hb_disk.proofs.Facts.TornLaws.{Torn-itself, Torn-wider}
+use Rattle.hb_disk.proofs.Facts.TornLaws.{Torn-itself, Torn-twice, Torn-wider}
 use Rattle.hb_frag.specs.declared.pages.Page.{Page}
 use Rattle.hb_layout.specs.Offsets.{slot_offset, file_size, log_start, page_offset}
-use Rattle.hb_super.specs.Superblocks.{IsNewest}
+use Rattle.hb_super.specs.Superblocks.{IsNewest, next_turn}
 use Rattle.hb_layout.specs.declared.meta.Meta.{Meta}
 use Rattle.hb_store.specs.States.{IsSameLayout}
+use Rattle.hb_store.specs.Switching.{TornSwitch}
 use Rattle.hb_restart.specs.Beyond.{KeepsBeyond, KeepsBeyondFile}
 use Rattle.hb_restart.specs.Found.{IsFoundIn}
 
@@ -44,6 +45,16 @@ super_within turn meta = let low : turn % 2 ≤ 1 = omega arith in omega (arith,
 
 pub body_within : (turn : ℕ) (meta : Meta) → slot_offset turn + 1 + 40 ≤ page_offset meta 1
 body_within turn meta = let low : turn % 2 ≤ 1 = omega arith in omega (arith, low)
+
+-- so what changes as the next turn begins
+pub switch_within : (turn : ℕ) (meta : Meta) (b c : List ℕ) → TornSwitch turn meta b c → Torn 0 (page_offset meta 1) b c
+switch_within turn meta b c torn =
+    let n = page_offset meta 1 in
+    let area = log_within (next_turn turn) meta in
+    let place = super_within (next_turn turn) meta in
+    Torn-twice 0 n b torn.between c
+    (Torn-wider (log_start (next_turn turn) meta) meta.log 0 n b torn.between (omega arith) (omega (arith, area)) torn.area)
+    (Torn-wider (slot_offset (next_turn turn)) 41 0 n torn.between c (omega arith) (omega (arith, place)) torn.place)
 
 pub front_within : (meta : Meta) → page_offset meta 1 ≤ file_size meta
 front_within meta = omega arith

@@ -8,7 +8,8 @@ use Rattle.hb_layout.specs.Offsets.{file_size, page_offset}
 use Rattle.hb_frag.specs.Grammar.{SpellsPage}
 use Rattle.hb_ops.specs.Files.{FileState}
 use Rattle.hb_store.specs.Opening.{place_bytes}
-use Rattle.hb_restart.specs.Renewing.{IsPlacedTo, IsWrittenTo}
+use Rattle.hb_store.specs.Turning.{IsPlacedTo}
+use Rattle.hb_restart.specs.Renewing.{IsWrittenTo}
 use Rattle.hb_restart.proofs.Renewed.{placed_moments, placed_there, placed_untouched}
 use Rattle.hb_restart.proofs.Facts.Beyond.{beyond_wider, page_within}
 use Rattle.hb_restart.proofs.RunsThen.{faults_write, runs_none}

@@ -4,7 +4,8 @@ use Rattle.std.specs.BTreeMap.{get}
 use Rattle.hb_disk.proofs.Facts.RunLaws.{Leaves-start, Leaves-then}
 use Rattle.hb_layout.specs.Offsets.{file_size}
 use Rattle.hb_super.specs.Superblocks.{next_turn}
-use Rattle.hb_restart.specs.Renewing.{IsPlacedTo, StillOpens, IsWrittenTo}
+use Rattle.hb_store.specs.Turning.{IsPlacedTo, StillOpens}
+use Rattle.hb_restart.specs.Renewing.{IsWrittenTo}
 use Rattle.hb_disk.proofs.Facts.FaultLaws.{not_failed}
 use Rattle.hb_restart.proofs.RunsThen.{runs_as, runs_none, runs_then}
 use Rattle.hb_restart.proofs.Renewed.{placed_none}

@@ -5,7 +5,8 @@ use Rattle.hb_disk.specs.Calls.{Leaves}
 use Rattle.hb_layout.specs.Offsets.{file_size}
 use Rattle.hb_layout.specs.declared.meta.Meta.{Meta}
 use Rattle.hb_ops.specs.Files.{FileState}
-use Rattle.hb_restart.specs.Renewing.{StillOpens, IsHere, IsPlacedTo, Runs, IsWrittenTo}
+use Rattle.hb_store.specs.Turning.{StillOpens, IsHere, IsPlacedTo}
+use Rattle.hb_restart.specs.Renewing.{Runs, IsWrittenTo}
 use Rattle.hb_restart.proofs.renewal.place_pages.Given as goal
 
 -- the pages up to this one stand in their places, and no call failed

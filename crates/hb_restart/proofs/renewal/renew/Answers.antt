@@ -7,8 +7,9 @@ use Rattle.hb_layout.specs.declared.meta.Meta.{Meta}
 use Rattle.hb_ops.specs.Files.{FileState}
 use Rattle.hb_store.specs.Opening.{OpensTo}
 use Rattle.hb_store.specs.Keeps.{IsFresh}
+use Rattle.hb_store.specs.Turning.{IsHere}
 use Rattle.hb_restart.specs.Found.{IsFoundIn}
-use Rattle.hb_restart.specs.Renewing.{IsHere, WritesAll, WritesEachOnce}
+use Rattle.hb_restart.specs.Renewing.{WritesAll, WritesEachOnce}
 use Rattle.hb_restart.proofs.SyncedRuns.{synced_counted, synced_even, synced_late, synced_renewed}
 use Rattle.hb_layout.specs.Offsets.{file_size}
 use Rattle.hb_disk.proofs.Facts.FaultLaws.{not_failed}
