@@ -87,24 +87,25 @@ fn takes_turns(store: &mut Store<RotDisk>, turns: &[(char, char)]) -> bool
 type Crowd = (usize, u32, &'static [(char, char)], char, u64);
 
 const CROWDS: [Crowd; 6] = [
-    // each frame has a page that is dirty or pinned, until one went home; it left, and is read again. One force takes all groups
-    (1, 127, &[('c', 'f'), ('c', 'w'), ('o', 'n')], 'o', 134),
+    // each frame has a page that is dirty or pinned, until one went home; it left, and is read again. One force takes all groups, and
+    // once no page is dirty the next turn begins, by nine calls
+    (1, 127, &[('c', 'f'), ('c', 'w'), ('o', 's')], 'o', 143),
     (
         3,
         125,
-        &[('c', 'f'), ('c', 'w'), ('o', 'w'), ('o', 'w'), ('o', 'n')],
+        &[('c', 'f'), ('c', 'w'), ('o', 'w'), ('o', 'w'), ('o', 's')],
         'o',
-        134,
+        143,
     ),
     (
         2,
         126,
-        &[('c', 'f'), ('c', 'w'), ('o', 'w'), ('o', 'n')],
+        &[('c', 'f'), ('c', 'w'), ('o', 'w'), ('o', 's'), ('o', 'n')],
         'o',
-        134,
+        143,
     ),
     // a frame is left
-    (1, 126, &[('o', 'f'), ('o', 'w'), ('o', 'n')], 'o', 132),
+    (1, 126, &[('o', 'f'), ('o', 'w'), ('o', 's')], 'o', 141),
     // pinned pages alone, of all frames, and of all but one
     (0, 128, &[('c', 'n'), ('c', 'n')], 'r', 128),
     (0, 127, &[('o', 'n'), ('o', 'n')], 'r', 128),

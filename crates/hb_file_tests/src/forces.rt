@@ -10,7 +10,7 @@ type Outcome = (char, u32, u32, u64);
 
 /// Whether the operations are those of the tree, how many of them were done, where a call fails while the store is flushed so many
 /// times, and what comes of it. Call 0 reads the page, and the next four force all groups that wait.
-const FORCES: [(bool, usize, u64, u8, Outcome); 22] = [
+const FORCES: [(bool, usize, u64, u8, Outcome); 24] = [
     // one group
     (false, 1, NEVER, 0, (' ', 4115, 7, 1)),
     (false, 1, NEVER, 1, ('f', 0, 9, 5)),
@@ -20,8 +20,8 @@ const FORCES: [(bool, usize, u64, u8, Outcome); 22] = [
     (false, 2, NEVER, 0, (' ', 4131, 7, 1)),
     (false, 2, NEVER, 1, ('f', 0, 9, 5)),
     (false, 2, NEVER, 2, ('1', 0, 9, 6)),
-    (false, 2, NEVER, 3, ('n', 0, 9, 6)),
-    (false, 2, NEVER, 4, ('n', 0, 9, 6)),
+    (false, 2, NEVER, 3, ('s', 0, 9, 15)),
+    (false, 2, NEVER, 4, ('n', 0, 9, 15)),
     (false, 2, 1, 1, ('e', 4131, 7, 2)),
     (false, 2, 2, 1, ('e', 4131, 7, 3)),
     (false, 2, 3, 2, ('e', 4131, 7, 4)),
@@ -29,6 +29,9 @@ const FORCES: [(bool, usize, u64, u8, Outcome); 22] = [
     // the page that goes home fails to be written
     (false, 2, 5, 1, ('f', 0, 9, 5)),
     (false, 2, 5, 2, ('e', 0, 9, 6)),
+    // the first and the last call fail by which the next turn begins
+    (false, 2, 6, 3, ('e', 0, 9, 7)),
+    (false, 2, 14, 3, ('e', 0, 9, 15)),
     // five
     (true, 5, NEVER, 0, (' ', 4193, 7, 1)),
     (true, 5, NEVER, 1, ('f', 0, 9, 5)),

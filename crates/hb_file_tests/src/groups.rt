@@ -14,15 +14,15 @@ use hb_store::{Store, Touched, read_log};
 use std::alloc::Global;
 
 /// The put of the point 1 with an empty body into page 1, as a group of the log has it. No page image.
-const PUT_1: [u8; 15] = [0, 1, 0, 0, 0, 1, 0, 0, 0, 0, 0, 0, 0, 1, 0];
+pub(crate) const PUT_1: [u8; 15] = [0, 1, 0, 0, 0, 1, 0, 0, 0, 0, 0, 0, 0, 1, 0];
 
 /// The put of the point 5 with the body `a` into page 1, and with `b`.
-const PUT_5: [u8; 16] = [0, 1, 0, 0, 0, 1, 0, 0, 0, 0, 0, 0, 0, 5, 1, 0x61];
+pub(crate) const PUT_5: [u8; 16] = [0, 1, 0, 0, 0, 1, 0, 0, 0, 0, 0, 0, 0, 5, 1, 0x61];
 
 const PUT_5_B: [u8; 16] = [0, 1, 0, 0, 0, 1, 0, 0, 0, 0, 0, 0, 0, 5, 1, 0x62];
 
 /// The delete of the point 1 from page 1.
-const DELETE_1: [u8; 14] = [0, 2, 0, 0, 0, 1, 0, 0, 0, 0, 0, 0, 0, 1];
+pub(crate) const DELETE_1: [u8; 14] = [0, 2, 0, 0, 0, 1, 0, 0, 0, 0, 0, 0, 0, 1];
 
 /// The put of the point 7 with the body `a` into page 2.
 const PUT_7: [u8; 16] = [0, 1, 0, 0, 0, 2, 0, 0, 0, 0, 0, 0, 0, 7, 1, 0x61];

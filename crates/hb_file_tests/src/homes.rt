@@ -1,7 +1,8 @@
 //! Pages that go home: which one a flush writes next, when, and what stands in its place then; and what is left of a file where a
 //! crash or a fault comes on the way. The disk tells nothing.
-ghost use Rattle.std.specs.Prelude.{◌≡◌, false, IfSome};
-ghost use Rattle.hb_store.specs.Seen.{seen_as};
+ghost use Rattle.std.specs.Prelude.{◌≡◌, ℕ, false, IfSome};
+ghost use Rattle.hb_store.specs.Seen.{seen_as, uses_of};
+ghost use Rattle.hb_file_tests.specs.Driven.{HoldsPage};
 
 use crate::driven_trees::{PARENTS_TOGETHER, SPLIT_AGAIN, SPLIT_TOGETHER, TWO_PARENTS};
 use crate::drives::{PICKS, Tree, begun, file, image_opened, put_all, stand, stands, stepped};
@@ -12,16 +13,18 @@ use hb_disk::{MemDisk, RotDisk};
 use hb_store::{Flushed, Store};
 use std::alloc::Global;
 
-/// What a flush did: `f` for a group that was forced, the number of a page that was written home, or `w` above 9, and `n` for
-/// neither. `None` where it failed.
-#[tactic(auto, using(crate::proofs::Untold::flushed_runs))]
+/// What a flush did: `f` for groups that were forced, the number of a page that was written home, or `w` above 9, `s` for a turn
+/// that began, and `n` for none of these. `None` where it failed.
+#[tactic(auto, using(crate::proofs::Untold::flushed_runs, crate::proofs::Untold::flushed_holds))]
 pub(crate) fn flush(store: &mut Store<RotDisk>) -> Option<char>
     requires { (seen_as store.old).stopped ≡ false }
-    ensures { IfSome result (λ _. (seen_as store.new).stopped ≡ false) }
+    ensures runs { IfSome result (λ _. (seen_as store.new).stopped ≡ false) }
+    ensures held { (id : ℕ) → HoldsPage id (seen_as store.old) (uses_of store.old) → IfSome result (λ _. HoldsPage id (seen_as store.new) (uses_of store.new)) }
 {
     match store.flush_step() {
         Ok(Flushed::Forced) => Some('f'),
         Ok(Flushed::Written(id)) => Some(char::from_digit(id, 10).unwrap_or('w')),
+        Ok(Flushed::Switched) => Some('s'),
         Ok(Flushed::Nothing) => Some('n'),
         Err(_fault) => None,
     }
@@ -42,19 +45,20 @@ fn flushes(store: &mut Store<RotDisk>, want: &str) -> bool
 }
 
 /// Whether the operations are those of the tree, how many of them were done, what flushes do then, and how many calls the disk has
-/// had: one read, four for the groups, however many they are, and one a page. The order is that in which the pages were last changed.
+/// had: one read, four for the groups, however many they are, one a page, and nine for the turn. The order is that in which the pages
+/// were last changed.
 const FLUSHES: [(bool, usize, &str, u64); 9] = [
     // a page that is fetched alone stays as it is
     (false, 0, "n", 1),
-    (false, 1, "f1n", 6),
-    (false, 2, "f1n", 6),
-    (false, 3, "f1n", 6),
-    (true, 1, "f12n", 7),
-    (true, 2, "f12n", 7),
-    (true, 3, "f123n", 8),
-    (true, 4, "f123n", 8),
+    (false, 1, "f1sn", 15),
+    (false, 2, "f1sn", 15),
+    (false, 3, "f1snn", 15),
+    (true, 1, "f12sn", 16),
+    (true, 2, "f12sn", 16),
+    (true, 3, "f123sn", 17),
+    (true, 4, "f123sn", 17),
     // the merge changes the page above, the page that stays and the one that goes
-    (true, 5, "f312n", 8),
+    (true, 5, "f312sn", 17),
 ];
 
 /// The disk behind these flushes.
@@ -76,13 +80,14 @@ fn groups_come_before_pages(rt: HostRuntime) {
 }
 
 /// What flushes do behind the operations of the tree, and which of the pages 1, 2 and 3 are home then.
-const STEPS: [(&str, [bool; 3]); 6] = [
+const STEPS: [(&str, [bool; 3]); 7] = [
     ("", [false, false, false]),
     ("f", [false, false, false]),
     ("f3", [false, false, true]),
     ("f31", [true, false, true]),
     ("f312", [true, true, true]),
-    ("f312n", [true, true, true]),
+    ("f312s", [true, true, true]),
+    ("f312sn", [true, true, true]),
 ];
 
 /// What stands in the places of these pages before.
@@ -112,7 +117,7 @@ fn pages_go_home_one_by_one(rt: HostRuntime) {
 
 #[test]
 fn a_tree_goes_home(rt: HostRuntime) {
-    let disk = flushed(rt.alloc(), true, 4, "f123n").expect(&rt, "row");
+    let disk = flushed(rt.alloc(), true, 4, "f123sn").expect(&rt, "row");
     for (place, (_, fields)) in LEFT.iter().take(3).enumerate() {
         assert!(rt;
             stands(disk.bytes(), place.saturating_add(1), fields),
@@ -145,7 +150,7 @@ fn all_stepped(alloc: Global, tree: &Tree, failing: u64) -> Option<Store<RotDisk
 }
 
 /// The disk then, once flushes did this.
-fn home(alloc: Global, tree: &Tree, failing: u64, want: &str) -> Option<MemDisk> {
+pub(crate) fn home(alloc: Global, tree: &Tree, failing: u64, want: &str) -> Option<MemDisk> {
     let mut store = all_stepped(alloc, tree, failing)?;
     if flushes(&mut store, want) {
         Some(store.into_disk().inner)
@@ -205,16 +210,17 @@ fn a_crash_on_the_way_home_loses_nothing(rt: HostRuntime) {
     }
 }
 
-/// Whether the write of the page at this place of those that go home stops the store where it fails, and each image behind it opens
+/// Whether the flush behind those of these pages stops the store where its call of this number fails, and each image behind that opens
 /// to the file after all steps.
-fn survives(alloc: Global, tree: &Tree, pages: &str, place: usize) -> Option<bool> {
+pub(crate) fn fails_behind(alloc: Global, tree: &Tree, pages: &str, call: u64) -> Option<bool> {
     let failing = all_stepped(alloc, tree, NEVER)?
         .into_disk()
         .inner
         .calls()
-        .saturating_add(place as u64);
+        .saturating_add(pages.len() as u64)
+        .saturating_add(call);
     let mut store = all_stepped(alloc, tree, failing)?;
-    if !flushes(&mut store, pages.get(..place)?) || store.stopped() || flush(&mut store).is_some() {
+    if !flushes(&mut store, pages) || store.stopped() || flush(&mut store).is_some() {
         return Some(false);
     }
     let stopped = store.stopped();
@@ -226,10 +232,11 @@ fn survives(alloc: Global, tree: &Tree, pages: &str, place: usize) -> Option<boo
     )
 }
 
-/// The place of the first page of which this isn't so.
+/// The place of the first page whose write loses the file where it fails.
 fn first_fault_lost(alloc: Global, tree: &Tree, pages: &str) -> Option<usize> {
     for place in 0..pages.len() {
-        if survives(alloc, tree, pages, place) != Some(true) {
+        let before = pages.get(..place).unwrap_or("");
+        if fails_behind(alloc, tree, before, 0) != Some(true) {
             return Some(place);
         }
     }

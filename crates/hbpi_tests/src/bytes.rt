@@ -29,6 +29,13 @@ const SUPER_1: [u8; 41] = [
     0x01, 0x00, 0x00, 0x00, 0x01, 0x00, 0x00, 0x00, 0x00,
 ];
 
+/// And that of turn 2.
+const SUPER_2: [u8; 41] = [
+    0xA5, 0x48, 0x42, 0x50, 0x49, 0x54, 0x52, 0x45, 0x45, 0x01, 0x02, 0x01, 0x01, 0x00, 0x00, 0x00,
+    0x40, 0x00, 0x01, 0x00, 0x00, 0x00, 0x06, 0x00, 0x20, 0x00, 0x00, 0x00, 0x01, 0x00, 0x00, 0x00,
+    0x01, 0x00, 0x00, 0x00, 0x01, 0x00, 0x00, 0x00, 0x00,
+];
+
 /// That of turn 0 of a file of two attributes with the other limits of `OTHER`.
 const OTHER_SUPER: [u8; 41] = [
     0xA5, 0x48, 0x42, 0x50, 0x49, 0x54, 0x52, 0x45, 0x45, 1, 0, 2, 1, 0, 0, 0, 63, 0, 1, 0, 0, 0,
@@ -40,6 +47,9 @@ const HEAD: [u8; 10] = [0xA5, 0, 0, 0x10, 0x14, 1, 0, 0, 0, 1];
 
 /// A put of 5 with the body `a` into page 1, and the closed gate behind it.
 const PUT: [u8; 16] = [1, 0, 0, 0, 1, 0, 0, 0, 0, 0, 0, 0, 5, 1, 0x61, 0];
+
+/// A put of 6 with the body `b`, and the closed gate behind it.
+const PUT_6: [u8; 16] = [1, 0, 0, 0, 1, 0, 0, 0, 0, 0, 0, 0, 6, 1, 0x62, 0];
 
 /// Behind the first frame of 5 + 4116 bytes: a put of 6 and `b`, then a delete of 5, and the closed gate.
 const FRAMES: [u8; 41] = [
@@ -80,6 +90,12 @@ const SIX: [u8; 33] = [
     0, 0, 0, 0, 6, 1, 0x62,
 ];
 
+/// A page with the record of 5.
+const FIVE: [u8; 33] = [
+    1, 0, 1, 0, 0, 0, 0, 0, 0, 0, 0, 0, 255, 255, 255, 255, 255, 255, 255, 255, 1, 0, 1, 0, 0, 0,
+    0, 0, 0, 0, 5, 1, 0x61,
+];
+
 /// Another file.
 const OTHER: &str = "create 2 63 65536 48 256";
 
@@ -87,6 +103,11 @@ const OTHER: &str = "create 2 63 65536 48 256";
 const ONE: &str = "1 insert 5 =a\nstep 1x4\n";
 
 const THREE: &str = "1 insert 5 =a\n1 insert 6 =b\n1 delete 5\nstep 1x12\n";
+
+/// A change behind which the page goes home and the next turn begins, and one more behind that.
+const TURN: &str = "1 insert 5 =a\nstep 1x4 fx2\n";
+
+const BEHIND: &str = "1 insert 5 =a\n1 insert 6 =b\nstep 1x4 fx2 1x4\n";
 
 /// Three sessions whose changes wait together, and are forced by the first one.
 const TOGETHER: &str = "1 insert 1 =\n2 insert 2 =\n3 insert 3 =\nstep 1x2 2x2 3x2 1x2 2 3\n";
@@ -96,7 +117,7 @@ const TWO: &str = "1 insert 5 =a\n1 insert 6 =b\n2 delete 5\nstep 1x6 2x2 1x2 2\
 
 /// The words by which a file is made, and the texts that it is driven with. Then an offset, the first bytes there, and up to
 /// how many bytes zeros follow these.
-const ROWS: [(&str, &[&str], usize, &[u8], usize); 23] = [
+const ROWS: [(&str, &[&str], usize, &[u8], usize); 30] = [
     // a new file
     (CREATE, &[], 0, &SUPER, PAGE_1),
     (CREATE, &[], PAGE_1, &EMPTY, SIZE - PAGE_1),
@@ -125,6 +146,15 @@ const ROWS: [(&str, &[&str], usize, &[u8], usize); 23] = [
     (CREATE, &[TOGETHER, ""], PAGE_1, &ALL_THREE, 4096),
     (CREATE, &[TWO], AREA_1 + 4121, &PAIRED, 61_415),
     (CREATE, &[TWO, ""], PAGE_1, &SIX, 4096),
+    // a turn that begins in a run: its superblock, an empty log area, and the page in its place; the log before it stays
+    (CREATE, &[TURN], 0, &SUPER_2, 4096),
+    (CREATE, &[TURN], 8192, &[], 65_536),
+    (CREATE, &[TURN], PAGE_1, &FIVE, 4096),
+    (CREATE, &[TURN], AREA_1, &HEAD, 10),
+    // the next change has the page's image again
+    (CREATE, &[BEHIND], 8192, &HEAD, 10),
+    (CREATE, &[BEHIND], 8202, &FIVE, 4096),
+    (CREATE, &[BEHIND], 12_298, &PUT_6, 61_430),
     // a split is in the frame of the record for which it was made, behind a frame of 4120 bytes and five of 20
     (CREATE, &[SEVEN], AREA_1 + 4220, &PARTED, 61_316),
 ];

@@ -1,5 +1,5 @@
-//! A hundred schedules drawn from seeds, of one to four sessions and the poster, over one or two attributes, with a reopening in
-//! the middle; and a hundred in which points come, go and come again, with the consolidator, too. What is printed and kept is
+//! A hundred schedules drawn from seeds, of one to four sessions, the poster and the flusher, over one or two attributes, with a
+//! reopening in the middle; and a hundred in which points come, go and come again, with the consolidator, too. What is printed and kept is
 //! compared with a plain list by the printed order.
 
 use crate::ordered::{Commands, EMPTY, Plain, Told, Verb, holds, told_by};
@@ -41,7 +41,7 @@ const MIXED: Wave = Wave {
     rows: Rows::Eight,
     commands: 20,
     turns: 30,
-    beside: "p",
+    beside: "f",
 };
 
 /// Points that come, and points that go.

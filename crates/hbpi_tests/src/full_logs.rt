@@ -1,5 +1,5 @@
-//! A small log that runs full over a file of more pages than there are frames, by hand: which step writes a page to its place, the
-//! line that is `full`, and a crash before each of these calls, or a failure of it.
+//! A small log that runs full over a file of more pages than there are frames, by hand: which step writes a page to its place, in
+//! which one the next turn begins, and a crash before each of these calls, or a failure of it.
 
 use crate::drawn::driven;
 use crate::many_pages::changed;
@@ -43,24 +43,29 @@ fn grown(alloc: Global) -> Option<(Plain, Vec<u8>)> {
 /// The points of 13 deletes: each has a page of its own, and none is beside the end, where a posting may be lost.
 ///
 /// The frame of a delete has 5 bytes, 1 for the count of images, an image of 4,100, and 13 of the operation. A change is begun
-/// where the log has at most 49,147 bytes. Behind eleven it has 45,309, and behind twelve 49,428. So the last one is `full`.
+/// where the log has at most 49,147 bytes. Behind eleven it has 45,309, and behind twelve 49,428. So the next turn begins in front of the
+/// last one.
 const POINTS: [usize; 13] = [24, 48, 72, 96, 120, 144, 168, 192, 216, 240, 264, 288, 312];
 
-/// How many steps there are; what is said to the last delete and to a lookup of its point, and where the lookup is in the order;
-/// and how many pages are in their places.
-///
-/// A delete takes 6 steps. From the fourth of the last one on the twelve pages that were changed are written one by one, and
-/// then the line is answered. The lookup takes five.
-const ROWS: [(u32, &str, &str, usize); 9] = [
-    (72, "13 unfinished\n14 unfinished\n", "", 0),
-    (75, "13 unfinished\n14 unfinished\n", "", 0),
-    (76, "13 unfinished\n14 unfinished\n", "", 1),
-    (81, "13 unfinished\n14 unfinished\n", "", 6),
-    (87, "13 unfinished\n14 unfinished\n", "", 12),
-    (88, "13 full\n14 unfinished\n", "", 12),
-    (91, "13 full\n14 unfinished\n", "", 12),
-    (92, "13 full\n14 unfinished\n", " 14", 12),
-    (93, "13 full\n14 found =313\n", " 14", 12),
+/// How many steps there are; what is said to the last delete and to a lookup of its point, and where they are in the order; how many
+/// pages are in their places; and how many deletes last.
+type Row = (u32, &'static str, &'static str, usize, usize);
+
+/// A delete takes 6 steps. From the fourth of the last one on the twelve pages that were changed are written one by one, a step more
+/// begins the next turn, and then it takes effect, is forced and answered. The lookup takes five.
+const ROWS: [Row; 12] = [
+    (72, "13 unfinished\n14 unfinished\n", "", 0, 12),
+    (75, "13 unfinished\n14 unfinished\n", "", 0, 12),
+    (76, "13 unfinished\n14 unfinished\n", "", 1, 12),
+    (81, "13 unfinished\n14 unfinished\n", "", 6, 12),
+    (87, "13 unfinished\n14 unfinished\n", "", 12, 12),
+    (88, "13 unfinished\n14 unfinished\n", "", 12, 12),
+    (89, "13 unfinished\n14 unfinished\n", " | 13", 12, 12),
+    (90, "13 unfinished\n14 unfinished\n", " 13", 12, 13),
+    (91, "13 ok\n14 unfinished\n", " 13", 12, 13),
+    (94, "13 ok\n14 unfinished\n", " 13", 12, 13),
+    (95, "13 ok\n14 unfinished\n", " 13 14", 12, 13),
+    (96, "13 ok\n14 none\n", " 13 14", 12, 13),
 ];
 
 /// The deletes, the lookup, and so many steps.
@@ -86,8 +91,8 @@ fn want_of(alloc: Global, status: &str, said: &str, place: &str, fault: &str) ->
 }
 
 /// What a run of so many steps leaves, if it says this, has so many pages in their places, and the next opening has the others.
-fn left_by(alloc: Global, file: &[u8], row: &(u32, &str, &str, usize)) -> Option<Left> {
-    let &(steps, said, place, home) = row;
+fn left_by(alloc: Global, file: &[u8], row: &Row) -> Option<Left> {
+    let &(steps, said, place, home, last) = row;
     let left = drive_on(alloc, text_of(alloc, steps)?.as_str(), file)?;
     if left.said != want_of(alloc, "0 ", said, place, "")? {
         return None;
@@ -96,8 +101,8 @@ fn left_by(alloc: Global, file: &[u8], row: &(u32, &str, &str, usize)) -> Option
     let all = changed(file, next.disk.bytes(), 16, PAGES);
     let rest = changed(left.disk.bytes(), next.disk.bytes(), 16, PAGES);
     if changed(file, left.disk.bytes(), 16, PAGES) != home
-        || all != 12
-        || home.wrapping_add(rest) != 12
+        || all != last
+        || home.wrapping_add(rest) != last
     {
         return None;
     }
@@ -113,10 +118,10 @@ fn a_small_log_runs_full(rt: HostRuntime) {
     }
 }
 
-/// What the points have behind the twelve deletes.
-fn behind(plain: Plain) -> Plain {
+/// What the points have behind so many deletes.
+fn behind(plain: Plain, count: usize) -> Plain {
     let mut plain = plain;
-    for &point in POINTS.iter().take(12) {
+    for &point in POINTS.iter().take(count) {
         if let Some(body) = plain.get_mut(point) {
             *body = 0;
         }
@@ -136,44 +141,73 @@ fn has_all(alloc: Global, file: &[u8], plain: Plain) -> Option<bool> {
     }
 }
 
-/// Whether what a crash before this call may have left has these records, for each of three images.
-fn all_hold(alloc: Global, left: &Left, before: u64, plain: Plain) -> Option<bool> {
+/// Whether what a crash before this call may have left has the records of either, for each of three images.
+fn all_hold(alloc: Global, left: &Left, before: u64, one: Plain, other: Plain) -> Option<bool> {
     for &pick in &[Pick::Old, Pick::New, Pick::Noise(165)] {
         let image = left.disk.image(before, pick).ok()??;
-        if !has_all(alloc, image.as_slice(), plain)? {
+        if !has_all(alloc, image.as_slice(), one)? && !has_all(alloc, image.as_slice(), other)? {
             return Some(false);
         }
     }
     Some(true)
 }
 
-/// Whether the run ends well where the call of this number fails: the machine is stopped, and nothing is lost.
-fn fails_well(alloc: Global, file: &[u8], call: u64, plain: Plain) -> Option<bool> {
-    let text = text_of(alloc, 93)?;
+/// Whether the run ends well where the call of this number fails: the machine is stopped, and nothing is lost. The last delete may be
+/// in the order then.
+fn fails_well(
+    alloc: Global,
+    file: &[u8],
+    call: u64,
+    place: &str,
+    one: Plain,
+    other: Plain,
+) -> Option<bool> {
+    let text = text_of(alloc, 96)?;
     let left = run_failing(alloc, "drive", text.as_str(), file, call)?;
     let said = "13 unanswered\n14 unanswered\n";
-    let want = want_of(alloc, "6 ", said, "", "disk fault\n")?;
+    let want = want_of(alloc, "6 ", said, place, "disk fault\n")?;
     if left.said != want || left.disk.calls() != call.wrapping_add(1) {
         return Some(false);
     }
-    all_hold(alloc, &left, left.disk.calls(), plain)
+    all_hold(alloc, &left, left.disk.calls(), one, other)
 }
 
-// At the end the run writes twelve pages, and reads one for the lookup.
+/// At the end the run writes twelve pages, begins the next turn by nine calls, reads the page of the last delete, and forces that by four.
+/// So many calls there are.
+const CALLS: u64 = 12 + 9 + 1 + 4;
+
 #[test]
 fn writing_pages_is_stopped(rt: HostRuntime) {
     let (plain, file) = grown(rt.alloc()).expect(&rt, "a file");
-    let plain = behind(plain);
-    let left = left_by(rt.alloc(), file.as_slice(), &ROWS[8]).expect(&rt, "a run");
+    let (old, new) = (behind(plain, 12), behind(plain, 13));
+    let left = left_by(rt.alloc(), file.as_slice(), &ROWS[11]).expect(&rt, "a run");
     let calls = left.disk.calls();
-    for more in 0..14 {
+    for more in 0..CALLS.wrapping_add(1) {
         let before = calls.saturating_sub(more);
-        let right = all_hold(rt.alloc(), &left, before, plain);
+        // before the last sync the gate is written
+        let one = if more == 0 { new } else { old };
+        let other = if more < 2 { new } else { old };
+        let right = all_hold(rt.alloc(), &left, before, one, other);
         assert!(rt; right == Some(true), "before {more}");
     }
-    for more in 2..14 {
-        let call = calls.saturating_sub(more);
-        let right = fails_well(rt.alloc(), file.as_slice(), call, plain);
-        assert!(rt; right == Some(true), "failing {more}");
+}
+
+/// From which of them on, and up to which, counted from the end, a call fails; and where the last delete is in the order then. Behind a
+/// failing gate or its sync the delete may last. The read is none of these.
+const FAULTS: [(u64, u64, &str); 3] = [(1, 3, " | 13"), (3, 5, " | 13"), (6, CALLS + 1, "")];
+
+#[test]
+fn writing_pages_fails(rt: HostRuntime) {
+    let (plain, file) = grown(rt.alloc()).expect(&rt, "a file");
+    let (old, new) = (behind(plain, 12), behind(plain, 13));
+    let left = left_by(rt.alloc(), file.as_slice(), &ROWS[11]).expect(&rt, "a run");
+    let calls = left.disk.calls();
+    for &(first, end, place) in &FAULTS {
+        let other = if first == 1 { new } else { old };
+        for more in first..end {
+            let call = calls.saturating_sub(more);
+            let right = fails_well(rt.alloc(), file.as_slice(), call, place, old, other);
+            assert!(rt; right == Some(true), "failing {more}");
+        }
     }
 }

@@ -12,6 +12,8 @@ mod drawn;
 #[cfg(test)]
 mod files;
 #[cfg(test)]
+mod flushes;
+#[cfg(test)]
 mod full_logs;
 #[cfg(test)]
 mod groups;

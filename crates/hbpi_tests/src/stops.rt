@@ -36,7 +36,7 @@ pub(crate) fn all_say(
 }
 
 /// Whether it does before each of these calls, from the first number up to the second one.
-fn always_say(
+pub(crate) fn always_say(
     alloc: Global,
     disk: &MemDisk,
     first: u64,
