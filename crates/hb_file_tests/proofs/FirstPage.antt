@@ -4,11 +4,10 @@ use Rattle.std.specs.Prelude.{IsSomeAnd, MatchOption}
 use Rattle.std.specs.List.{find}
 use Rattle.std.specs.Option.{is_some, option_or, option_to_list}
 use Rattle.std.specs.Set.{remove_key}
-use Rattle.std.proofs.lemmas.Bool.{eq-eqb, eqb-true, or_cases}
-use Rattle.std.proofs.lemmas.List.Elements.{All-append, All-head, All-nil, All-tail}
+use Rattle.std.proofs.lemmas.Bool.{cases_Bool, eq-eqb, eqb-true, or_cases}
+use Rattle.std.proofs.lemmas.List.Elements.{All-append, All-cons, All-head, All-nil, All-tail}
 use Rattle.std.proofs.lemmas.List.Folds.{find-append}
 use Rattle.std.proofs.lemmas.Map.Views.{All-remove_key}
-use Rattle.hb_lemmas.proofs.Decisions.{cases_Bool}
 use Rattle.hb_lemmas.proofs.Lists.{All-alone}
 use Rattle.hb_lemmas.proofs.Options.{some_value}
 use Rattle.hb_disk.specs.Model.{DiskModel}
@@ -22,7 +21,7 @@ use Rattle.hb_pool.proofs.Others.{last_no_other, marked_pages_stay}
 use Rattle.hb_pool.proofs.Pooled.{pinned_stays}
 use Rattle.hb_store.specs.Calls.{Commits, Fetched, HasFrameFor, HasPlaces, StaysHere, numbers_changed, use_changed, use_fetched}
 use Rattle.hb_store.specs.States.{StoreState}
-use Rattle.hb_store.specs.Forced.{WritesGroups}
+use Rattle.hb_store.specs.Forced.{WritesGroups, forced_state}
 use Rattle.hb_store.specs.Held.{StoreHeld, oldest_dirty}
 use Rattle.hb_store.specs.Replay.{is_among}
 use Rattle.hb_store.specs.WritingHome.{FlushesClean, FlushesHome, WritesHome}
@@ -148,8 +147,8 @@ clean_there id (u ∷ rest) = elim (u.id == id) as (λ b. is_some (frame_of (con
 clean_fast : (id : ℕ) (uses : List Use) → All IsFast uses → All IsFast (in_place id clean uses)
 clean_fast id [] all = all
 clean_fast id (u ∷ rest) all = elim (u.id == id) as (λ b. All IsFast (cond b (clean u ∷ rest) (u ∷ in_place id clean rest))) [
-  | true ↦ (All-head IsFast u rest all, All-tail IsFast u rest all)
-  | false ↦ (All-head IsFast u rest all, clean_fast id rest (All-tail IsFast u rest all))
+  | true ↦ All-cons IsFast (clean u) rest (All-head IsFast u rest all) (All-tail IsFast u rest all)
+  | false ↦ All-cons IsFast u (in_place id clean rest) (All-head IsFast u rest all) (clean_fast id rest (All-tail IsFast u rest all))
 ]
 
 clean_first : (id : ℕ) (uses : List Use) → HoldsFirst uses → HoldsFirst (in_place id clean uses)
@@ -167,10 +166,8 @@ module _ {T : Type 0} (t : T) (d e : DiskModel) (old new : StoreHeld) (driven : 
   home_first none home = by (oldest_dirty old.uses) home
     where
       by : (o : Option ℕ) → MatchOption o (FlushesClean (done_with t) d e old new) (λ id. WritesHome (done_with t) id d e old new) → IsOn new
-      by None clean = elim clean [
-        | inl turn ↦ subst IsOn (sym turn.1.switched) (record { running = driven.running; marks = All-nil IsEarly; first = driven.first })
-        | inr nothing ↦ subst IsOn (sym nothing.2.2.2) driven
-      ]
+      by None (inl (some, switches)) = subst IsOn (sym switches.switched) (record { running = driven.running; marks = All-nil IsEarly; first = driven.first })
+      by None (inr (empty, ok, reads, same)) = subst IsOn (sym same) driven
       by (Some id) writes = subst IsOn (sym writes.cleaned) (record { running = driven.running; marks = driven.marks; first = clean_first id old.uses driven.first })
 
   pub first_flushed : (old.state.log.groups ≢ [] → WritesGroups (done_with t) d e old.state new.state × (new.uses ≡ old.uses)) → (old.state.log.groups ≡ [] → FlushesHome (done_with t) d e old new) → IsDrivenOnFirst new.state new.uses
@@ -180,4 +177,4 @@ module _ {T : Type 0} (t : T) (d e : DiskModel) (old new : StoreHeld) (driven : 
       by [] none = home_first none (cleans none)
       by (g ∷ rest) some =
           let did = forces (λ none. let never : g ∷ rest ≡ [] = sym some ∙ none in cc never) in
-          subst (λ (s : StoreState). IsDrivenOnFirst s new.uses) (sym did.0.forced) (subst (λ (l : List Use). IsDrivenOnFirst _ l) (sym did.1) (record { running = driven.running; marks = All-nil IsEarly; first = driven.first }))
+          subst (λ (s : StoreState). IsDrivenOnFirst s new.uses) (sym did.0.forced) (subst (λ (l : List Use). IsDrivenOnFirst (forced_state old.state) l) (sym did.1) (record { running = driven.running; marks = All-nil IsEarly; first = driven.first }))

@@ -259,7 +259,7 @@ fn reads_first(op: &Op) -> bool
 }
 
 /// Does the operation of a group with mark 7, where it reads page 1 alone and is allowed. That page is pinned, dirty or not.
-#[tactic(auto, using(crate::proofs::Untold::licensed, crate::proofs::FirstPage::first_has_place, crate::proofs::FirstPage::first_changed))]
+#[tactic(auto, using(crate::proofs::Untold::licensed))]
 pub(crate) fn changed(alloc: Global, store: &mut Store<RotDisk>, group: &[u8]) -> Option<()>
     requires { IsDrivenOnFirst (seen_as store.old) (uses_of store.old) }
     ensures { IfSome result (λ _. IsDrivenOnFirst (seen_as store.new) (uses_of store.new)) }
