@@ -99,8 +99,8 @@ module _ (uses : List Use) (held : HoldsFirst uses) where
   brought_first id absent =
       let f = some_value (frame_of uses 1) held.there in
       let apart : (same : id ≡ 1) → ⊥ = λ same.
-          let there : is_some (frame_of uses id) ≡ true = ap (λ (n : ℕ). is_some (frame_of uses n)) same ∙ held.there in
-          let never : true ≡ false = sym there ∙ absent in cc never in
+      let there : is_some (frame_of uses id) ≡ true = ap (λ (n : ℕ). is_some (frame_of uses n)) same ∙ held.there in
+      let never : true ≡ false = sym there ∙ absent in cc never in
       record {
         there = ap (λ (o : Option Use). is_some o) (marked_pages_stay uses id 1 (tt {0}) true f.0 f.1 (pinned_stays f.0 (first_pinned f.0 f.1)));
         pinned = All-append IsFast (with_room uses) (fresh id (tt {0}) true ∷ []) (room_all IsFast uses id held.pinned) (All-alone IsFast (fresh id (tt {0}) true) (λ same. absurd (apart same)));
@@ -140,8 +140,8 @@ first_changed op st new uses after commits order driven = record {
 clean_there : (id : ℕ) (uses : List Use) → is_some (frame_of (in_place id clean uses) 1) ≡ is_some (frame_of uses 1)
 clean_there id [] = refl
 clean_there id (u ∷ rest) = elim (u.id == id) as (λ b. is_some (frame_of (cond b (clean u ∷ rest) (u ∷ in_place id clean rest)) 1) ≡ is_some (frame_of (u ∷ rest) 1)) [
-  | true ↦ elim (u.id == 1) as (λ b. is_some (cond b (Some (clean u)) (frame_of rest 1)) ≡ is_some (cond b (Some u) (frame_of rest 1))) [ | true ↦ refl | false ↦ refl ]
-  | false ↦ elim (u.id == 1) as (λ b. is_some (cond b (Some u) (frame_of (in_place id clean rest) 1)) ≡ is_some (cond b (Some u) (frame_of rest 1))) [ | true ↦ refl | false ↦ clean_there id rest ]
+  | true ↦ elim (u.id == 1) as (λ b. is_some (cond b (Some (clean u)) (frame_of rest 1)) ≡ is_some (cond b (Some u) (frame_of rest 1))) [ true ↦ refl | false ↦ refl ]
+  | false ↦ elim (u.id == 1) as (λ b. is_some (cond b (Some u) (frame_of (in_place id clean rest) 1)) ≡ is_some (cond b (Some u) (frame_of rest 1))) [ true ↦ refl | false ↦ clean_there id rest ]
 ]
 
 clean_fast : (id : ℕ) (uses : List Use) → All IsFast uses → All IsFast (in_place id clean uses)
