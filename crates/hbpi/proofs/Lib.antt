@@ -3,12 +3,16 @@ pub mod TextPieces
 pub mod PutTexts
 pub mod RunLines
 pub mod EndLaws
+pub mod RunsOf
 pub mod Beyond
 pub mod Begins
 pub mod Opened
 pub mod ShutOut
 pub mod StepsTaken
 pub mod Reopened
+pub mod CoreEnds
+pub mod Turned
+pub mod WorkedOff
 pub mod DriveLaws
 pub mod DriveNames
 pub mod DriveGiven
