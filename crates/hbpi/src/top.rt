@@ -92,6 +92,22 @@ fn do_threads<
     }
 }
 
+/// The program without threads, for words that no threads work off.
+pub fn run_without_threads<S: Source, K: Sink, D: Disk>(
+    alloc: Global,
+    words: &[String],
+    source: &mut S,
+    sink: K,
+    disk: D,
+) -> Finished<K, D>
+    requires quiet { is_threaded (form_of (map string_bytes words.now)) ≡ false }
+    // As `top` says.
+    ensures ends { IsRunOf (form_of (map string_bytes words.now)) (run_of (seen_by (S.model source.old) (S.model source.new) (K.model sink) (K.model result.sink) result.answered.items result.order.items) (D.model disk) (D.model result.disk)) result.status }
+    ensures untouched { LeavesDisk (form_of (map string_bytes words.now)) result.status → result.disk ≡ disk }
+{
+    do_words(alloc, words, source, sink, disk)
+}
+
 /// The program for words that no threads work off: it waits for nobody.
 pub fn quiet<R: Threads + Sync, S: Source, K: Sink, D: Disk>(
     _rt: &R,
@@ -106,7 +122,7 @@ pub fn quiet<R: Threads + Sync, S: Source, K: Sink, D: Disk>(
     ensures ends { IsRunOf (form_of (map string_bytes words.now)) (run_of (seen_by (S.model source.old) (S.model source.new) (K.model sink) (K.model result.sink) result.answered.items result.order.items) (D.model disk) (D.model result.disk)) result.status }
     ensures untouched { LeavesDisk (form_of (map string_bytes words.now)) result.status → result.disk ≡ disk }
 {
-    do_words(alloc, words, source, sink, disk)
+    run_without_threads(alloc, words, source, sink, disk)
 }
 
 /// The program over any source, sink and disk: does what the words ask for. Only for words that threads work off it may wait for

@@ -3,7 +3,7 @@ use Rattle.std.specs.Prelude.{string_bytes}
 use Rattle.hbpi.proofs.RunsOf.{is_run_of}
 use Rattle.hbpi.specs.Forms.{form_of}
 use Rattle.hbpi.specs.SeenRuns.{Run, run_of, seen_by}
-use Rattle.hbpi.proofs.top.quiet.Goals as goal
+use Rattle.hbpi.proofs.top.run_without_threads.Goals as goal
 
 pub returns-clause-ends : goal.returns-clause-ends
 returns-clause-ends g c =
