@@ -6,7 +6,7 @@ use Rattle.hb_core.specs.Taking.{begun_core}
 use Rattle.hb_core.specs.Working.{MayStep}
 use Rattle.hb_core.specs.declared.endings.End.{End}
 use Rattle.hb_core.specs.declared.endings.End.TheVariants as ends
-use Rattle.hb_disk.specs.Model.{DiskModel, IsDisk}
+use Rattle.hb_disk.specs.Model.{DiskModel}
 use Rattle.hb_drive.specs.Driving.{DrivesTo}
 use Rattle.hb_layout.specs.Offsets.{file_size}
 use Rattle.hb_outside.specs.Calls.{SinkModel, SourceModel}
@@ -46,29 +46,32 @@ begins_here step_lines before after d e core started =
     let made = started.made in
     begins_script e made.lines made.steps started.store made.script started.opens.is_new made.stands (kept_of d e started.store started.count started.opens started.through)
 
+pub may_core : (step_lines : _) (before after : SourceModel) (d e : DiskModel) (core : RunningCore) (m : Machine) → (started : IsStarted step_lines before after d e core) → IsBegunHere e started.made.lines started.made.steps started.store m → MayStep e core m
+may_core step_lines before after d e core m started here = subst (λ (c : RunningCore). MayStep e c m) (sym started.made.core_is) here.may
+
 pub may_begin : (step_lines : _) (before after : SourceModel) (d e : DiskModel) (core : RunningCore) → IsStarted step_lines before after d e core → (m : Machine) × MayStep e core m
 may_begin step_lines before after d e core started =
-    let begun = begins_here step_lines before after d e core started in
-    (begun.0, subst (λ (c : RunningCore). MayStep e c begun.0) (sym started.made.core_is) begun.1.may)
+    let here = begins_here step_lines before after d e core started in
+    (here.0, may_core step_lines before after d e core here.0 started here.1)
 
 module _ {X Y : Type 0} (M : X → DiskModel) (S : Y → SinkModel) (by : Manner) (first over last : X) (sink mid put : Y) (core ran : RunningCore) (end : End) (given answered : List Answered) (order : List ℕ) (status : Status)
-    (facts : RanCore M S by first over last sink mid put core ran end given answered order status) (laws : StartLaws) (disk : IsDisk (M first)) (d : DiskModel) (before after : SourceModel) (started : IsStarted by.step_lines before after d (M first) core) where
+    (facts : RanCore M S by first over last sink mid put core ran end given answered order status) (laws : StartLaws) (d : DiskModel) (before after : SourceModel) (started : IsStarted by.step_lines before after d (M first) core) where
   ran_here : end ≢ ends.NoMemory → StepsEnd by (run_of (seen_by before after (S sink) (S put) answered order) d (M last)) status
   ran_here some =
       let made = started.made in
       let store = started.store in
       let here = begins_here by.step_lines before after d (M first) core started in
-      let may = may_begin by.step_lines before after d (M first) core started in
-      let drove = facts.drives some here.0 may.1 in
+      let may = may_core by.step_lines before after d (M first) core here.0 started here.1 in
+      let drove = facts.drives some here.0 may in
       let actors = drove.0 in
       let run = drove.1.run in
       let new = run.new in
       let takes : TakesSteps (M first) (M over) store.meta.k made.lines actors given ran.order new =
-          takes_steps (M first) (M over) made.lines made.steps actors store ran given here.0 laws.beginning laws.begun disk started.opens.is_new here.1 run in
+          takes_steps (M first) (M over) made.lines made.steps actors store ran given here.0 laws.beginning laws.begun started.disk started.opens.is_new here.1 run in
       let on_disk = subst (λ (x : X). TakesSteps (M first) (M x) store.meta.k made.lines actors given ran.order new) (sym facts.disk_is) takes in
       let with_order = subst (λ (o : List ℕ). TakesSteps (M first) (M last) store.meta.k made.lines actors given o new) (sym facts.order_is) on_disk in
       let with_answers = subst (λ (a : List Answered). TakesSteps (M first) (M last) store.meta.k made.lines actors a order new) (sym facts.answered_is) with_order in
-      let opening = is_opening d (M first) store started.count disk started.opens started.through started.leaves in
+      let opening = is_opening d (M first) store started.count started.disk started.opens started.through started.leaves in
       let line = subst (λ (x : Status). GetsLine (S mid) (S put) (fault_line x)) facts.status_is facts.line in
       let ended = ran_ends end (S sink) (S mid) (S put) given new drove.1.text line (λ is. ap S (facts.silent is)) (λ is. ap S (facts.silent_done is)) in
       let ended_so = subst (λ (x : Status). RanEnds x (S sink) (S put) given new) (sym facts.status_is) ended in
@@ -110,11 +113,11 @@ module _ {X Y : Type 0} (M : X → DiskModel) (S : Y → SinkModel) (by : Manner
   -- what lies behind the file is as it was
   run_keeps : KeepsBeyond (file_size started.store.meta) (M first) (M last)
   run_keeps = elim (is_unbegun end) [
-    | inl none ↦ subst (λ (x : X). KeepsBeyond (file_size started.store.meta) (M first) (M x)) (sym (facts.disk_is ∙ (facts.unbegun none).1)) (beyond_none (file_size started.store.meta) (M first) disk)
+    | inl none ↦ subst (λ (x : X). KeepsBeyond (file_size started.store.meta) (M first) (M x)) (sym (facts.disk_is ∙ (facts.unbegun none).1)) (beyond_none (file_size started.store.meta) (M first) started.disk)
     | inr some ↦
         let here = begins_here by.step_lines before after d (M first) core started in
-        let may = may_begin by.step_lines before after d (M first) core started in
-        let run = (facts.drives some here.0 may.1).1.run in
+        let may = may_core by.step_lines before after d (M first) core here.0 started here.1 in
+        let run = (facts.drives some here.0 may).1.run in
         subst (λ (x : X). KeepsBeyond (file_size started.store.meta) (M first) (M x)) (sym facts.disk_is) (run_beyond (M first) (M over) started.store here.0 here.1.may.shows.store run.in_file)
   ]
 

@@ -4,7 +4,7 @@ use Rattle.hb_core.specs.KeepingLaws.{BegunKeepsAll}
 use Rattle.hb_core.specs.Showing.{RunningCore}
 use Rattle.hb_core.specs.SteppingLaws.{BeginningKeepsAll}
 use Rattle.hb_core.specs.Taking.{begun_core}
-use Rattle.hb_disk.specs.Model.{DiskModel}
+use Rattle.hb_disk.specs.Model.{DiskModel, IsDisk}
 use Rattle.hb_outside.specs.Calls.{SinkModel, SourceModel}
 use Rattle.hb_restart.specs.declared.faults.OpenFault.{OpenFault}
 use Rattle.hb_restart.specs.Leaving.{LeavesOpening, OpensStore, RunsThrough}
@@ -33,6 +33,7 @@ pub record IsMadeCore (step_lines : Bool) (store : StoreState) (before after : S
 pub record IsStarted (step_lines : Bool) (before after : SourceModel) (d e : DiskModel) (core : RunningCore) : Type 0 where
   pub store : StoreState
   pub count : ℕ
+  pub disk : IsDisk e
   pub opens : OpensStore d e store count
   pub through : RunsThrough store.meta.high d e
   pub leaves : LeavesOpening ⊥ d e

@@ -37,7 +37,7 @@ returns-in-Ok-clause-ends g c =
       silent_done = c.finish.ensures.silent_done;
       line = c.finish.ensures.line;
     } in
-    core_ends _ _ _ _ _ _ _ _ _ _ _ _ _ _ _ _ facts c.knows_laws.ensures (g.met.D.Device.is_disk (core_disk c.in-Ok.core)) _ _ _ c.in-Ok.ensures.started
+    core_ends _ _ _ _ _ _ _ _ _ _ _ _ _ _ _ _ facts c.knows_laws.ensures _ _ _ c.in-Ok.ensures.started
 
 pub returns-in-Ok-clause-beyond : goal.returns-in-Ok-clause-beyond
 returns-in-Ok-clause-beyond g c =
@@ -55,7 +55,7 @@ returns-in-Ok-clause-beyond g c =
       silent_done = c.finish.ensures.silent_done;
       line = c.finish.ensures.line;
     } in
-    core_beyond _ _ _ _ _ _ _ _ _ _ _ _ _ _ _ _ facts c.knows_laws.ensures (g.met.D.Device.is_disk (core_disk c.in-Ok.core)) _ _ _ c.in-Ok.ensures.started
+    core_beyond _ _ _ _ _ _ _ _ _ _ _ _ _ _ _ _ facts c.knows_laws.ensures _ _ _ c.in-Ok.ensures.started
 
 pub returns-in-Err-clause-ends : goal.returns-in-Err-clause-ends
 returns-in-Err-clause-ends g c =

@@ -26,6 +26,7 @@ returns-in-Ok-clause-started g c =
     (λ core made. record {
       store = store;
       count = c.in-Ok.field-0-1;
+      disk = g.met.D.Device.is_disk (core_disk core);
       opens = subst (λ (x : g.row.D.Denot). OpensStore (M c.args.disk) (M x) store c.in-Ok.field-0-1) (sym made.0) facts.opened;
       through = subst (λ (x : g.row.D.Denot). RunsThrough store.meta.high (M c.args.disk) (M x)) (sym made.0) facts.through;
       leaves = subst (λ (x : g.row.D.Denot). LeavesOpening ⊥ (M c.args.disk) (M x)) (sym made.0) facts.leaves;
