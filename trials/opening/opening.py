@@ -13,10 +13,9 @@ from model import audit
 Answer = collections.namedtuple("Answer", "told name fine calls")
 
 
-def superblock_calls(turn, body, hides):
+def superblock_calls(turn, body):
     at, sync = PAGE * (turn % 2), ("sync",)
-    hidden = [("zero", at + 1, 40), sync] if hides else []
-    return hidden + [("write", at, b"\0"), sync, ("write", at + 1, body), sync, ("write", at, bytes([OPEN])), sync]
+    return [("write", at, b"\0"), sync, ("write", at + 1, body), sync, ("write", at, bytes([OPEN])), sync]
 
 
 def renewal(disk, turn, meta, touched):
@@ -26,8 +25,9 @@ def renewal(disk, turn, meta, touched):
     there = superblock(disk[at + 1:at + 41], next_turn % 2)
     hides = disk[at] != OPEN and there is not None and there[0] == next_turn and there[1] != meta
     pages = [("write", page_at(number, meta), whole_page(page)) for number, page in sorted(touched.items())]
+    hidden = [("zero", at + 1, 40), ("sync",)] if hides else []
     area = [("sync",), ("zero", log_at(next_turn, meta), meta["log"]), ("sync",)]
-    return [("sync",)] + pages + area + superblock_calls(next_turn, body_bytes(next_turn, meta), hides)
+    return [("sync",)] + pages + hidden + area + superblock_calls(next_turn, body_bytes(next_turn, meta))
 
 
 def left_by(calls, disk):

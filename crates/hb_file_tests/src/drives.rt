@@ -271,8 +271,8 @@ fn a_driving_stops_before_each_call(rt: HostRuntime) {
     }
 }
 
-/// An opening ends with this many device calls at most: a sync, a write for each of six pages, a sync, a zero, a sync, a read,
-/// two that clear what is hidden, and six of the superblock. In front of them it only reads.
+/// An opening ends with this many device calls at most: a sync, a write for each of six pages, a read, two that clear what is
+/// hidden, a sync, a zero, a sync, and six of the superblock. In front of them it only reads.
 const LAST_CALLS: u64 = 19;
 
 /// Whether these bytes open so, and again where that opening is stopped before each of its last calls in its turn. A stop before a

@@ -46,7 +46,7 @@ fn a_frame_of_four_groups_opens(rt: HostRuntime) {
 }
 
 /// The device calls of an opening: two superblocks, two pieces of the frame and the closed gate behind it; then come a sync, a write
-/// for each of the three pages, a sync, a zero, a sync, a read, and the six calls of the superblock.
+/// for each of the three pages, a read, a sync, a zero, a sync, and the six calls of the superblock.
 const CALLS: u64 = 19;
 
 #[test]

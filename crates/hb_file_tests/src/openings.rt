@@ -242,7 +242,7 @@ fn an_opening_stops_twice(rt: HostRuntime) {
 }
 
 /// The device calls of an opening: two superblocks, two pieces of each of the four frames and the closed gate behind them;
-/// then come a sync, a write for each of the three pages, a sync, a zero, a sync, a read, and the six calls of the superblock.
+/// then come a sync, a write for each of the three pages, a read, a sync, a zero, a sync, and the six calls of the superblock.
 const CALLS: u64 = 25;
 
 #[test]

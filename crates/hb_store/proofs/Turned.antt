@@ -118,7 +118,7 @@ module _ (turn next : ℕ) (said meta : Meta) (small : turn ≤ 3) (is : next �
       places id q is none =
           Torn-elsewhere from m (page_offset said id) PAGE b c (off_said id (page_in_range s.pages id q is).0 (sym (opens.touched_is id) ∙ none)) torn
 
-  still_torn : (b c : List ℕ) (from m : ℕ) → 8192 ≤ from → StillOpens turn said meta touched s b → Torn from m b c → Apart (log_start turn meta) meta.log from m
+  pub still_torn : (b c : List ℕ) (from m : ℕ) → 8192 ≤ from → StillOpens turn said meta touched s b → Torn from m b c → Apart (log_start turn meta) meta.log from m
       → ((id : ℕ) → 1 ≤ id → touched id ≡ None → Apart (page_offset meta id) PAGE from m) → StillOpens turn said meta touched s c
   still_torn b c from m low opens torn =
       still_by b c from m opens torn (IsNewest-elsewhere b c (Torn-elsewhere from m 0 8192 b c (inl low) torn) turn said opens.by.newest)
@@ -129,7 +129,7 @@ module _ (turn next : ℕ) (said meta : Meta) (small : turn ≤ 3) (is : next �
       still_torn b c (log_start next meta) meta.log lies.next_low opens torn lies.apart (λ id some none. inr (let h = lies.next_high in omega (arith, h)))
 
   -- with the place of the next turn torn, and the old superblock the newest
-  still_place : (b c : List ℕ) (from m : ℕ) → from + m ≤ 8192 → StillOpens turn said meta touched s b → Torn from m b c → IsNewest c turn said → StillOpens turn said meta touched s c
+  pub still_place : (b c : List ℕ) (from m : ℕ) → from + m ≤ 8192 → StillOpens turn said meta touched s b → Torn from m b c → IsNewest c turn said → StillOpens turn said meta touched s c
   still_place b c from m high opens torn newest =
       still_by b c from m opens torn newest (inr (let h = lies.low in omega (arith, h, high))) (λ id some none. inr (omega (arith, high)))
 

@@ -105,7 +105,7 @@ fn a_check_of_what_was_made(rt: HostRuntime) {
 }
 
 /// The device calls of a check over the log of two frames: it reads two superblocks, two pieces of each frame and the closed
-/// gate behind them; then come a sync, the write of the page, a sync, a zero, a sync, a read, and the six calls of the superblock.
+/// gate behind them; then come a sync, the write of the page, a read, a sync, a zero, a sync, and the six calls of the superblock.
 const CALLS: u64 = 19;
 
 const TWO: &str = "0 sound height 1 pages 1 records 2\n";

@@ -242,7 +242,7 @@ fn a_call_of_drive_fails(rt: HostRuntime) {
 }
 
 /// The device calls of a recovery over the log of five frames. It reads two superblocks, two pieces of each frame and the
-/// closed gate behind them; then come a sync, the write of the page, a sync, a zero, a sync, a read, and the six calls of
+/// closed gate behind them; then come a sync, the write of the page, a read, a sync, a zero, a sync, and the six calls of
 /// the superblock.
 const WITH_LOG: u64 = 25;
 
