@@ -10,14 +10,13 @@ ghost use Rattle.hb_run.specs.Running.{RunsTo};
 
 mod gates;
 
+pub use gates::{FreeGate, Gate, HoldGate, Place};
 use hb_core::{Core, Ran};
 use hb_disk::Disk;
 use hb_outside::Sink;
 use std::alloc::Global;
 use std::sync::Wait;
 use std::thread::Threads;
-
-pub use gates::{FreeGate, Gate, HoldGate, Place};
 
 /// Runs the sessions of the core's script in threads.
 pub fn run<R: Threads + Wait + Sync, D: Disk + Send, K: Sink + Send, G: Gate + Sync>(

@@ -67,7 +67,7 @@ module _ {X Y : Type 0} (M : X → DiskModel) (S : Y → SinkModel) (by : Manner
       let run = drove.1.run in
       let new = run.new in
       let takes : TakesSteps (M first) (M over) store.meta.k made.lines actors given ran.order new =
-          takes_steps (M first) (M over) made.lines made.steps actors store ran given here.0 laws.beginning laws.begun started.disk started.opens.is_new here.1 run in
+      takes_steps (M first) (M over) made.lines made.steps actors store ran given here.0 laws.beginning laws.begun started.disk started.opens.is_new here.1 run in
       let on_disk = subst (λ (x : X). TakesSteps (M first) (M x) store.meta.k made.lines actors given ran.order new) (sym facts.disk_is) takes in
       let with_order = subst (λ (o : List ℕ). TakesSteps (M first) (M last) store.meta.k made.lines actors given o new) (sym facts.order_is) on_disk in
       let with_answers = subst (λ (a : List Answered). TakesSteps (M first) (M last) store.meta.k made.lines actors a order new) (sym facts.answered_is) with_order in

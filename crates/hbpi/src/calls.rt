@@ -187,7 +187,15 @@ fn run_new<R: Threads + Wait + Sync, I: Read + Drop, O: Write + Drop + Send>(
         sink: held,
         disk,
         ..
-    } = top(threads, rt.alloc(), words, &mut source, held, disk, &FreeGate);
+    } = top(
+        threads,
+        rt.alloc(),
+        words,
+        &mut source,
+        held,
+        disk,
+        &FreeGate,
+    );
     match status {
         Status::Done => {
             if let Err(trouble) = file.name(rt, call.name()) {

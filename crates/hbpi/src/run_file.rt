@@ -23,14 +23,7 @@ pub(crate) fn run_file<
     K: Sink + Send,
     D: Disk + Send,
     G: Gate + Sync,
->(
-    rt: &R,
-    alloc: Global,
-    source: &mut S,
-    sink: K,
-    disk: D,
-    gate: &G,
-) -> Finished<K, D>
+>(rt: &R, alloc: Global, source: &mut S, sink: K, disk: D, gate: &G) -> Finished<K, D>
     ensures ends { StepsEnd by_threads (run_of (seen_by (S.model source.old) (S.model source.new) (K.model sink) (K.model result.sink) result.answered.items result.order.items) (D.model disk) (D.model result.disk)) result.status }
     ensures beyond { KeepsBeyondFile (D.model disk) (D.model result.disk) }
     ensures source_later { (S.model source.old).faults ≤ (S.model source.new).faults }

@@ -60,13 +60,7 @@ fn do_words<S: Source, K: Sink, D: Disk>(
 }
 
 /// A form that threads work off, clause by clause.
-fn do_threads<
-    R: Threads + Wait + Sync,
-    S: Source,
-    K: Sink + Send,
-    D: Disk + Send,
-    G: Gate + Sync,
->(
+fn do_threads<R: Threads + Wait + Sync, S: Source, K: Sink + Send, D: Disk + Send, G: Gate + Sync>(
     rt: &R,
     alloc: Global,
     form: Option<Form>,
@@ -127,13 +121,7 @@ pub fn quiet<R: Threads + Sync, S: Source, K: Sink, D: Disk>(
 
 /// The program over any source, sink and disk: does what the words ask for. Only for words that threads work off it may wait for
 /// these, which call the gate between their turns.
-pub fn top<
-    R: Threads + Wait + Sync,
-    S: Source,
-    K: Sink + Send,
-    D: Disk + Send,
-    G: Gate + Sync,
->(
+pub fn top<R: Threads + Wait + Sync, S: Source, K: Sink + Send, D: Disk + Send, G: Gate + Sync>(
     rt: &R,
     alloc: Global,
     words: &[String],

@@ -38,7 +38,8 @@ pub(crate) fn call_of(alloc: Global, name: &str, words: &str) -> io::Result<Call
 
 /// The call over the file itself, by the functions of the program, and what is told on the standard error.
 fn on_file<R: Threads + Wait + Sync, I: Read + Drop>(
-    rt: &HostRuntime, threads: &R,
+    rt: &HostRuntime,
+    threads: &R,
     call: &Call,
     input: I,
 ) -> io::Result<(Outcome, Option<Told>)> {
@@ -53,7 +54,8 @@ fn on_file<R: Threads + Wait + Sync, I: Read + Drop>(
 
 /// Makes a call over the file of this name alone, and prints what came of it.
 pub(crate) fn call_alone<R: Threads + Wait + Sync, I: Read + Drop>(
-    rt: &HostRuntime, threads: &R,
+    rt: &HostRuntime,
+    threads: &R,
     name: &str,
     words: &str,
     input: I,
@@ -114,7 +116,13 @@ impl Pair {
     }
 
     /// Makes a call over both, prints what came of it, and compares the two.
-    pub(crate) fn call<R: Threads + Wait + Sync>(self, rt: &HostRuntime, threads: &R, words: &str, text: &str) -> io::Result<Pair> {
+    pub(crate) fn call<R: Threads + Wait + Sync>(
+        self,
+        rt: &HostRuntime,
+        threads: &R,
+        words: &str,
+        text: &str,
+    ) -> io::Result<Pair> {
         println!(rt; "> {words}")?;
         let Pair { name, disk } = self;
         let call = call_of(rt.alloc(), name, words)?;
@@ -132,7 +140,8 @@ impl Pair {
     /// Makes a call over the file alone, which is to leave it as it was, and compares the two.
     pub(crate) fn call_that_changes_nothing<R: Threads + Wait + Sync>(
         &self,
-        rt: &HostRuntime, threads: &R,
+        rt: &HostRuntime,
+        threads: &R,
         words: &str,
         text: &str,
     ) -> io::Result<()> {
@@ -144,7 +153,8 @@ impl Pair {
     /// compares the two.
     pub(crate) fn call_into<R: Threads + Wait + Sync, W: Write + Drop + Send>(
         self,
-        rt: &HostRuntime, threads: &R,
+        rt: &HostRuntime,
+        threads: &R,
         words: &str,
         text: &str,
         output: W,
@@ -152,7 +162,9 @@ impl Pair {
         println!(rt; "> {words}")?;
         let Pair { name, disk } = self;
         let call = call_of(rt.alloc(), name, words)?;
-        let status = run(rt, threads, &call, text.as_bytes(), output)?.status.code();
+        let status = run(rt, threads, &call, text.as_bytes(), output)?
+            .status
+            .code();
         println!(rt; "status {status}")?;
         let (_, disk) = on_disk(threads, rt.alloc(), &call, text, disk)?;
         let pair = Pair { name, disk };

@@ -5,9 +5,9 @@ use hb_disk::Device;
 use hbpi::{FileDisk, Told, disk_of};
 use std::fs::File;
 use std::io::Read;
-use std::{fs, io};
 use std::sync::Wait;
 use std::thread::Threads;
+use std::{fs, io};
 
 const NAME: &str = "./hbpi_files.failing";
 
@@ -88,7 +88,11 @@ fn cut_a_disk(rt: &HostRuntime) -> io::Result<()> {
 }
 
 /// A drive of a file that is cut behind its opening, and then of the file as it was.
-fn cut_a_drive<R: Threads + Wait + Sync>(rt: &HostRuntime, threads: &R, size: u64) -> io::Result<()> {
+fn cut_a_drive<R: Threads + Wait + Sync>(
+    rt: &HostRuntime,
+    threads: &R,
+    size: u64,
+) -> io::Result<()> {
     println!(rt; "cut to {size} bytes behind the opening")?;
     let cuts = Cuts {
         file: File::options().write(true).open(rt, NAME)?,

@@ -2,9 +2,9 @@
 
 use crate::beside::call_alone;
 use hbpi::{Attempt, NewFile, Trouble};
-use std::{fs, io, process};
 use std::sync::Wait;
 use std::thread::Threads;
+use std::{fs, io, process};
 
 const NAME: &str = "./hbpi_files.making";
 

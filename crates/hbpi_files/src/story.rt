@@ -7,9 +7,9 @@ use hbpi::{NewFile, open_file};
 use std::alloc::Global;
 use std::fs::File;
 use std::io::{Seek, SeekFrom, Write};
-use std::{fs, io};
 use std::sync::Wait;
 use std::thread::Threads;
+use std::{fs, io};
 
 /// The file, and another one, which is cut short later.
 const NAME: &str = "hbpi_files.records";
@@ -145,7 +145,11 @@ fn hold_a_new_file<R: Threads + Wait + Sync>(rt: &HostRuntime, threads: &R) -> i
 }
 
 /// Two changes whose replies are lost: they are made all the same.
-fn lose_the_output<R: Threads + Wait + Sync>(rt: &HostRuntime, threads: &R, pair: Pair) -> io::Result<Pair> {
+fn lose_the_output<R: Threads + Wait + Sync>(
+    rt: &HostRuntime,
+    threads: &R,
+    pair: Pair,
+) -> io::Result<Pair> {
     println!(rt; "the output can't be flushed")?;
     let pair = pair.call_into(rt, threads, "drive", DELETE, FailsToFlush)?;
     let pair = pair.call(rt, threads, "drive", LOOKUP)?;
@@ -158,7 +162,12 @@ fn lose_the_output<R: Threads + Wait + Sync>(rt: &HostRuntime, threads: &R, pair
 }
 
 /// A copy of the file that was cut to so many bytes.
-fn cut_to<R: Threads + Wait + Sync>(rt: &HostRuntime, threads: &R, pair: &Pair, count: usize) -> io::Result<()> {
+fn cut_to<R: Threads + Wait + Sync>(
+    rt: &HostRuntime,
+    threads: &R,
+    pair: &Pair,
+    count: usize,
+) -> io::Result<()> {
     println!(rt; "cut to {count} bytes")?;
     fs::copy(rt, pair.name, SHORT)?;
     let file = File::options().write(true).open(rt, SHORT)?;

@@ -8,8 +8,8 @@ use crate::stops::BEFORE_FORCES;
 use hb_disk::{Disk, MemDisk, Pick, RotDisk};
 use hb_outside::MemSink;
 use hb_run::{FreeGate, Gate, HoldGate};
-use hbpi::{Finished, Form};
 use hbpi::top::{quiet, top};
+use hbpi::{Finished, Form};
 use std::alloc::Global;
 use std::sync::Wait;
 use std::thread::Threads;
@@ -92,7 +92,15 @@ fn with_faults<R: Threads + Wait + Sync>(
     let disk = MemDisk::new(alloc, file_of(alloc, &[])?);
     left_by(
         alloc,
-        run_words(rt, alloc, words, "1 insert 5 =a\n", failing, disk, &FreeGate)?,
+        run_words(
+            rt,
+            alloc,
+            words,
+            "1 insert 5 =a\n",
+            failing,
+            disk,
+            &FreeGate,
+        )?,
     )
 }
 
