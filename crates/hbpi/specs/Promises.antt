@@ -1,5 +1,5 @@
 -- What follows of how a run of `drive` or `run` ends: the statements of lemmas.
-use Rattle.std.specs.Prelude.{◌≡◌, ◌⊎◌, ℕ, ◌+◌, ◌≤◌, Bool, List, [], map, take, All, Some, Result, Ok, Err}
+use Rattle.std.specs.Prelude.{◌≡◌, ◌⊎◌, ℕ, ◌+◌, ◌≤◌, Bool, false, IsTrue, List, [], map, take, All, Some, Result, Ok, Err}
 use Rattle.std.specs.List.{Contains, slice_get}
 use Rattle.hb_core.specs.KeptOrder.{StandsOutside}
 use Rattle.hb_core.specs.Runs.{IsPrefixImage}
@@ -8,6 +8,7 @@ use Rattle.hb_disk.specs.Model.{DiskModel}
 use Rattle.hb_ops.specs.Files.{FileState, contents_of}
 use Rattle.hb_ops.specs.Sound.{IsSound}
 use Rattle.hb_outside.specs.Streams.{Rose}
+use Rattle.hb_point.specs.SessionRows.{is_answered}
 use Rattle.hb_restart.specs.Refusals.{IsUnwritten, RefusesBytes}
 use Rattle.hb_restart.specs.declared.faults.OpenFault.{OpenFault}
 use Rattle.hb_set.specs.Machine.{RecordSet}
@@ -75,6 +76,14 @@ GivesFor seen status (Err bad) = (status ≡ BadText bad) ⊎ (status ≡ NoMemo
 
 abbrev pub IsDriven : Bool → Run → Status → Type 0
 IsDriven step_lines run status = (s : FileState) (left : List ℕ) → IsCalm s left run → GivesFor run.seen status (text_read step_lines s.meta.k left)
+
+-- Each line of a text without step lines, which was read whole, has an answer.
+pub record AnswersAll (run : Run) : Type 0 where
+  pub k : ℕ
+  pub lines : List Line
+  pub steps : List ℕ
+  pub scheduled : IsScheduled false k run.seen.source_before.left run.seen.source_after.left lines steps
+  pub each : All (λ (l : Line). IsTrue (is_answered l.number run.seen.answered)) lines
 
 -- The line and the rule that are named are the first bad line of all that the source had left, by the attributes of
 -- the file that the disk opens to, and its first rule.
