@@ -46,7 +46,7 @@ const LOOKUPS: &str = "1 lookup 5 7\n1 lookup 6 7\nstep 1x20\n";
 const BOTH: &str = "1 insert 1 1 =\n2 insert 2 2 =\n";
 
 /// Runs the program over a disk, with a gate. The source fails at the first of these calls, and the sink at the second.
-fn run_words<R: Threads + Wait + Sync, D: Disk + Send, G: Gate + Sync>(
+fn run_words<R: Threads + Wait + Sync, D: Disk + Drop + Send, G: Gate + Sync>(
     rt: &R,
     alloc: Global,
     words: &str,
@@ -167,6 +167,7 @@ fn rotten<R: Threads + Wait + Sync>(rt: &R, alloc: Global) -> Option<String> {
 #[test]
 fn a_bad_page_stops_a_run(rt: HostRuntime) {
     let said = rotten(&rt, rt.alloc()).expect(&rt, "memory");
+    let said = said.as_str();
     assert!(&rt; said == "7 1 unanswered\norder\ndamaged 1 S0\n", "{said}");
 }
 
