@@ -2,7 +2,7 @@ use Rattle.std.proofs.Common.{arith}
 use Rattle.hb_core.specs.KeptLines.{HasLineBody}
 use Rattle.hbpi.specs.Schedules.{HasLineBox}
 use Rattle.hbpi.proofs.RunLines.{each_line, each_more}
-use Rattle.hbpi.proofs.drive_file.knows_lines.Goals as goal
+use Rattle.hbpi.proofs.starting.knows_lines.Goals as goal
 
 pub loop-line-preserved : goal.loop-line-preserved
 loop-line-preserved c = record {

@@ -1,5 +1,5 @@
 use Rattle.hbpi.proofs.TextPieces.{short_is_whole}
-use Rattle.hbpi.proofs.drive_file.read_schedule.Goals as goal
+use Rattle.hbpi.proofs.starting.read_script.Goals as goal
 
 pub returns-in-Ok-read_commands-clause-read : goal.returns-in-Ok-read_commands-clause-read
 returns-in-Ok-read_commands-clause-read g c =

@@ -1,7 +1,7 @@
 use Rattle.std.proofs.Common.{take, All}
 use Rattle.hb_core.specs.KeptLines.{HasLineBody}
 use Rattle.hbpi.specs.Schedules.{HasLineBox}
-use Rattle.hbpi.proofs.drive_file.knows_lines.Given as goal
+use Rattle.hbpi.proofs.starting.knows_lines.Given as goal
 
 abbrev pub invariant-loop-line : goal.invariant-loop-line
 invariant-loop-line l = record {

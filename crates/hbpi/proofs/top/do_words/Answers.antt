@@ -1,10 +1,11 @@
 use Rattle.std.proofs.Common.{◌∙◌, Option, Some, sym, ap, subst}
 use Rattle.hbpi.specs.declared.forms.Form.{Form}
+use Rattle.hbpi.specs.Driven.{by_schedule}
 use Rattle.hbpi.specs.Ends.{LeavesDisk}
 use Rattle.hbpi.specs.Runs.{LeavesBeyond, LeavesFile, RunEnds}
 use Rattle.hbpi.specs.SeenRuns.{run_of, seen_by}
-use Rattle.hbpi.proofs.DriveLaws.{drive_reads, drive_writes}
-use Rattle.hbpi.proofs.top.run_words.Goals as goal
+use Rattle.hbpi.proofs.DriveLaws.{steps_reads, steps_writes}
+use Rattle.hbpi.proofs.top.do_words.Goals as goal
 
 pub returns-in-Some-Create-clause-ends : goal.returns-in-Some-Create-clause-ends
 returns-in-Some-Create-clause-ends g c =
@@ -28,10 +29,10 @@ returns-in-Some-Create-clause-untouched g c leaves =
     c.create_file.ensures.unmade (subst (λ (form : Option Form). LeavesDisk form c.create_file.result.status) (sym (sym (ap Some c.in-Some-Create.field-0-is) ∙ c.in-Some-Create.ensures.form)) leaves)
 
 pub returns-in-Some-Drive-clause-reads : goal.returns-in-Some-Drive-clause-reads
-returns-in-Some-Drive-clause-reads g c = drive_reads (run_of _ (g.D.Device.model c.args.disk) (g.D.Device.model c.drive_file.result.disk)) c.drive_file.result.status c.drive_file.ensures.ends
+returns-in-Some-Drive-clause-reads g c = steps_reads by_schedule (run_of _ (g.D.Device.model c.args.disk) (g.D.Device.model c.drive_file.result.disk)) c.drive_file.result.status c.drive_file.ensures.ends
 
 pub returns-in-Some-Drive-clause-writes : goal.returns-in-Some-Drive-clause-writes
-returns-in-Some-Drive-clause-writes g c = drive_writes (run_of _ (g.D.Device.model c.args.disk) (g.D.Device.model c.drive_file.result.disk)) c.drive_file.result.status c.drive_file.ensures.ends
+returns-in-Some-Drive-clause-writes g c = steps_writes by_schedule (run_of _ (g.D.Device.model c.args.disk) (g.D.Device.model c.drive_file.result.disk)) c.drive_file.result.status c.drive_file.ensures.ends
 
 pub returns-in-Some-Check-clause-ends : goal.returns-in-Some-Check-clause-ends
 returns-in-Some-Check-clause-ends g c =
