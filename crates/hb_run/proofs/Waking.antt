@@ -51,9 +51,9 @@ module _ (mover : ℕ) (moved : Bool) (before after : List ℕ) (old new : Cours
   pub wakes_all : WakesAll news before old after new
   wakes_all (pauses.Behind place count) was gone =
       rung news.stopped (news.moved && (news.place == place)) (λ runs.
-          ap (λ (b : Bool). b && (news.place == place)) tells.moved_is
-          ∙ ap (λ (n : ℕ). moved && (n == place)) tells.place_is
-          ∙ moved_on place count (second (not (is_some old.core.stop)) (is_so count (slice_get before place)) was) (come (is_some new.core.stop) (is_so count (slice_get after place)) gone (sym tells.stopped ∙ runs)))
+      ap (λ (b : Bool). b && (news.place == place)) tells.moved_is
+      ∙ ap (λ (n : ℕ). moved && (n == place)) tells.place_is
+      ∙ moved_on place count (second (not (is_some old.core.stop)) (is_so count (slice_get before place)) was) (come (is_some new.core.stop) (is_so count (slice_get after place)) gone (sym tells.stopped ∙ runs)))
   wakes_all (pauses.NoJob Post) was gone =
       rung news.stopped news.posts (λ runs. tells.posts ∙ job_came (jobs_left Post new.core == 0) (is_done new) (come (is_some new.core.stop) ((jobs_left Post new.core == 0) && not (is_done new)) gone (sym tells.stopped ∙ runs)))
   wakes_all (pauses.NoJob Merge) was gone =

@@ -31,6 +31,7 @@ impl Gate for FreeGate {
 
 /// Who is held, and for whom.
 const HELD: Actor = 1;
+
 const AWAITED: Actor = 2;
 
 /// After so many tries to go on it gives up.

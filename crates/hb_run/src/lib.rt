@@ -28,6 +28,7 @@ use begun::Begun;
 use bells::Bells;
 use courses::{ACTORS, Course};
 use ending::finish;
+pub use gates::{FreeGate, Gate, HoldGate, Place};
 use hb_core::run_laws::runs_go_on;
 use hb_core::{Core, End, Ran};
 use hb_disk::Disk;
@@ -40,8 +41,6 @@ use std::marker::Brand;
 use std::sync::Wait;
 use std::thread::Threads;
 use threads::take_turns;
-
-pub use gates::{FreeGate, Gate, HoldGate, Place};
 
 /// Runs the sessions of the core's script in threads, and who posts, who merges and who flushes beside them. Each reply is written in the
 /// turn that gives it; then the lines that have no answer, and the order. After a fault of the sink nothing more is written, and the

@@ -128,14 +128,13 @@ fn work_sessions<
     D: Disk + Send,
     K: Sink + Send,
     G: Gate + Sync,
->(
-    rt: &R,
-    hall: &Hall<'_, R, N, D, K, G>,
-    sessions: &mut [Seat],
-) {
-    thread::for_each_mut(rt, sessions, usize::from(SESSIONS), &|_, seat| {
-        hall.work(seat)
-    });
+>(rt: &R, hall: &Hall<'_, R, N, D, K, G>, sessions: &mut [Seat]) {
+    thread::for_each_mut(
+        rt,
+        sessions,
+        usize::from(SESSIONS),
+        &|_, seat| { hall.work(seat) },
+    );
 }
 
 /// All turns of the sessions and of the three workers. It returns once all have ended.
@@ -145,11 +144,7 @@ fn work_all<
     D: Disk + Send,
     K: Sink + Send,
     G: Gate + Sync,
->(
-    rt: &R,
-    hall: &Hall<'_, R, N, D, K, G>,
-    sessions: &mut [Seat],
-) {
+>(rt: &R, hall: &Hall<'_, R, N, D, K, G>, sessions: &mut [Seat]) {
     thread::scope(thread::scope_env(), rt, |scope| {
         let poster = scope.spawn(move || hall.work(&Seat::of(POSTER)));
         let consolidator = scope.spawn(move || hall.work(&Seat::of(CONSOLIDATOR)));
@@ -195,13 +190,7 @@ pub(crate) fn take_turns<
     D: Disk + Send,
     K: Sink + Send,
     G: Gate + Sync,
->(
-    rt: &R,
-    course: Course<D, K>,
-    gate: &G,
-    bells: &Bells,
-    sessions: &mut [Seat],
-) -> Course<D, K>
+>(rt: &R, course: Course<D, K>, gate: &G, bells: &Bells, sessions: &mut [Seat]) -> Course<D, K>
     requires { KeepsRun N.beginning (course_seen D.model K.model course) }
     ensures keeps { KeepsRun N.beginning (course_seen D.model K.model result) }
     ensures whole { is_some (core_seen result.core).stop ≡ false → is_done (course_seen D.model K.model result) ≡ true }

@@ -38,7 +38,7 @@ all_answered run after further drove ends =
     let left = drove.goes ends.2 in
     let lines : after.lines ≡ drove.lines = (further drove.actors takes.before after takes.reached).lines ∙ takes.lines_are in
     let same : (number : ℕ) → is_answered number after.answered ≡ is_answered number run.seen.answered =
-        λ number. sym (clocks_apart number after.answered) ∙ ap (is_answered number) (sym takes.came.alike) ∙ clocks_apart number run.seen.answered in
+    λ number. sym (clocks_apart number after.answered) ∙ ap (is_answered number) (sym takes.came.alike) ∙ clocks_apart number run.seen.answered in
     let each = All-from_recursion (λ (l : Line). IsTrue (is_answered l.number after.answered)) after.lines (each_answered after.answered after.lines left.answered) in
     record {
       k = drove.k;

@@ -49,17 +49,17 @@ returns-clause-runs g c = λ m may.
     let A : List Answered → Type 0 = λ l. IsEndOf end failed c.stop-stop.result l in
     let S : Option StopWhy → Type 0 = λ o. IsEndOf end failed o answers in
     let drives = drives_to d e m c.requires.keeps.actors answers core run g.N.Begun.beginning.sink (g.K.Sink.model c.args.course.sink) (g.K.Sink.model c.put_rest-last.new.sink) c.args.course.put c.put_rest-last.result c.as_slice.result.now failed end c.requires.keeps.text left
-        (record {
-          stopped = c.is_some.result;
-          order = c.order.result.now;
-          settled = c.settled.result;
-          stop_is = c.is_some.ensures ∙ ap (λ (o : Option StopWhy). is_some o) c.stop-stop.ensures;
-          order_is = c.order.ensures;
-          settled_is = c.settled.ensures;
-          put = c.put_rest-last.ensures;
-          fails = c.is_err-failed.ensures.value;
-          ended = subst S c.stop-stop.ensures (subst A c.as_slice-2.ensures.value c.end_of-end.ensures);
-        }) in
+    (record {
+      stopped = c.is_some.result;
+      order = c.order.result.now;
+      settled = c.settled.result;
+      stop_is = c.is_some.ensures ∙ ap (λ (o : Option StopWhy). is_some o) c.stop-stop.ensures;
+      order_is = c.order.ensures;
+      settled_is = c.settled.ensures;
+      put = c.put_rest-last.ensures;
+      fails = c.is_err-failed.ensures.value;
+      ended = subst S c.stop-stop.ensures (subst A c.as_slice-2.ensures.value c.end_of-end.ensures);
+    }) in
     record {
       actors = c.requires.keeps.actors;
       drives = drives;
