@@ -3,12 +3,6 @@ use Rattle.hb_core.specs.CoreSeen.{core_seen, core_disk}
 use Rattle.hb_run.proofs.Going.{begins}
 use Rattle.hb_run.proofs.begin.Goals as goal
 
-pub runs_go_on-requires : goal.runs_go_on-requires
-runs_go_on-requires g c = ?
-
-pub left-left-requires-clause-stub : goal.left-left-requires-clause-stub
-left-left-requires-clause-stub g c = ?
-
 pub returns-clause-keeps : goal.returns-clause-keeps
 returns-clause-keeps g c =
     begins c.runs_go_on.ensures

@@ -13,9 +13,6 @@ use Rattle.hb_run.proofs.Going.{may_turn}
 use Rattle.hb_run.proofs.WorkedOff.{runs_on, worked_off}
 use Rattle.hb_run.proofs.ending.finish.Goals as goal
 
-pub unanswered-requires-clause-stub : goal.unanswered-requires-clause-stub
-unanswered-requires-clause-stub g c = ?
-
 pub unanswered-requires-clause-shows : goal.unanswered-requires-clause-shows
 unanswered-requires-clause-shows g c =
     let may = may_turn _ (course_seen g.D.Device.model g.K.Sink.model c.args.course) c.requires.keeps in

@@ -7,12 +7,6 @@ use Rattle.hb_run.specs.Courses.{TakesTurn}
 use Rattle.hb_run.proofs.Going.{goes_on, may_turn, room_for_given}
 use Rattle.hb_run.proofs.courses.Course.take_step.Goals as goal
 
-pub runs_go_on-requires : goal.runs_go_on-requires
-runs_go_on-requires g c = ?
-
-pub step-outcome-requires-clause-stub : goal.step-outcome-requires-clause-stub
-step-outcome-requires-clause-stub g c = ?
-
 pub step-outcome-requires-clause-may : goal.step-outcome-requires-clause-may
 step-outcome-requires-clause-may g c = may_turn _ (course_seen g.D.Device.model g.K.Sink.model c.args.self.now) c.requires.keeps
 
