@@ -2,7 +2,6 @@
 use Rattle.std.proofs.Common.{◌≡◌, ◌≢◌, inl, inr, ℕ, List, [], refl, sym, ap, subst, ◌∙◌}
 use Rattle.hb_core.specs.Machines.{Machine}
 use Rattle.hb_core.specs.Showing.{RunningCore}
-use Rattle.hb_core.specs.Taking.{begun_core}
 use Rattle.hb_core.specs.Working.{MayStep}
 use Rattle.hb_core.specs.declared.endings.End.{End}
 use Rattle.hb_core.specs.declared.endings.End.TheVariants as ends
@@ -19,7 +18,7 @@ use Rattle.hbpi.proofs.Opened.{is_opening}
 use Rattle.hbpi.proofs.Reopened.{kept_of, takes_before}
 use Rattle.hbpi.proofs.StepsTaken.{is_unbegun, ran_ends, run_beyond, takes_steps}
 use Rattle.hbpi.specs.Codes.{status_after}
-use Rattle.hbpi.specs.Driven.{Drove, IsOpened, Manner, RanEnds, StepsEnd}
+use Rattle.hbpi.specs.Driven.{IsOpened, Manner, RanEnds, StepsEnd}
 use Rattle.hbpi.specs.Drives.{TakesSteps}
 use Rattle.hbpi.specs.Outcome.{GetsLine, fault_line}
 use Rattle.hbpi.specs.Schedules.{NotScheduled}

@@ -1,16 +1,16 @@
 -- What is said of the steps of a store that was just opened, seen from before the opening.
-use Rattle.std.proofs.Common.{inl, inr, ℕ, ◌+◌, ◌≤◌, List, [], Option, None, IsSome, IfSome, refl, sym, subst, arith}
+use Rattle.std.proofs.Common.{ℕ, ◌+◌, ◌≤◌, List, [], Option, None, IsSome, IfSome, refl, subst, arith}
 use Rattle.hb_core.specs.Laws.{HasOnePage}
 use Rattle.hb_core.specs.Machines.{Machine}
 use Rattle.hb_core.specs.Runs.{CountsFaults, IsPrefixImage}
 use Rattle.hb_core.specs.SteppingLaws.{IsBegunOver}
 use Rattle.hb_disk.proofs.Facts.RunLaws.{Leaves-then, Leaves-weaker}
-use Rattle.hb_disk.specs.Model.{DiskModel, IsDisk}
+use Rattle.hb_disk.specs.Model.{DiskModel}
 use Rattle.hb_lemmas.proofs.Options.{at_value, has_value, if_value, some_value}
 use Rattle.hb_ops.specs.Files.{FileState, contents_of}
 use Rattle.hb_ops.specs.Sound.{IsSound}
 use Rattle.hb_outside.specs.Streams.{Rose}
-use Rattle.hb_restart.specs.Leaving.{LeavesOpening, OpensStore, RunsThrough}
+use Rattle.hb_restart.specs.Leaving.{OpensStore, RunsThrough}
 use Rattle.hb_set.specs.Order.{Entry}
 use Rattle.hb_set.specs.declared.scripts.Answered.{Answered}
 use Rattle.hb_set.specs.declared.scripts.Line.{Line}
@@ -20,7 +20,7 @@ use Rattle.hb_store.specs.Opening.{IsEven, OpensTo, OpensToOne}
 use Rattle.hb_store.specs.Keeps.{StoreKeeps}
 use Rattle.hb_store.specs.States.{StoreState}
 use Rattle.hb_store.specs.declared.stops.StopWhy.{StopWhy}
-use Rattle.hbpi.proofs.Opened.{IsOpening, from_before, is_opening, late_before, silent_behind, tells_behind}
+use Rattle.hbpi.proofs.Opened.{IsOpening, from_before, late_before, silent_behind, tells_behind}
 use Rattle.hbpi.specs.Drives.{LeavesPrefixes, TakesSteps}
 
 -- in a sound file each point has one page

@@ -1,26 +1,23 @@
 -- What a run of a core over a store that was just opened comes to, as the program says it.
-use Rattle.std.proofs.Common.{◌≡◌, ◌≢◌, ◌⊎◌, inl, inr, ℕ, ◌+◌, ◌≤◌, List, [], ◌++◌, All, Option, None, IsSome, refl, sym, ap, subst, ◌∙◌, arith}
+use Rattle.std.proofs.Common.{◌≡◌, ◌≢◌, ◌⊎◌, inl, inr, ℕ, ◌≤◌, List, [], ◌++◌, All, Option, None, IsSome, refl, sym, ap, subst, ◌∙◌, arith}
 use Rattle.hb_core.specs.KeepingLaws.{BegunKeepsAll, HasKeptAll}
 use Rattle.hb_core.specs.Machines.{Files, Machine, settled_count}
 use Rattle.hb_core.specs.Runs.{AreAnswers, ChangesFile, CountsFaults, HasRun, IsPrefixImage}
 use Rattle.hb_core.specs.Showing.{RunningCore, ShowsFiles}
 use Rattle.hb_core.specs.SteppingLaws.{BeginningKeepsAll, IsBegunOver}
-use Rattle.hb_core.specs.Taking.{begun_core}
-use Rattle.hb_core.specs.Working.{MayStep}
 use Rattle.hb_core.specs.declared.endings.End.{End}
 use Rattle.hb_core.specs.declared.endings.End.TheVariants as ends
 use Rattle.hb_disk.proofs.Facts.RewriteLaws.{Becomes-tells}
 use Rattle.hb_disk.specs.Calls.{Becomes}
 use Rattle.hb_disk.specs.Model.{DiskModel, IsDisk}
-use Rattle.hb_drive.specs.Driving.{DrivesTo, EndsWith, run_text}
+use Rattle.hb_drive.specs.Driving.{EndsWith, run_text}
 use Rattle.hb_space.specs.Actors.{IsActor}
 use Rattle.hb_layout.specs.Offsets.{file_size}
 use Rattle.hb_lemmas.proofs.Options.{at_value, if_value, has_value}
 use Rattle.hb_ops.specs.Files.{FileState, contents_of}
 use Rattle.hb_ops.specs.Sound.{IsSound}
-use Rattle.hb_outside.specs.Calls.{SinkModel, SourceModel}
+use Rattle.hb_outside.specs.Calls.{SinkModel}
 use Rattle.hb_outside.specs.Streams.{Appends, AppendsFront, Rose}
-use Rattle.hb_restart.proofs.Facts.Beyond.{beyond_none}
 use Rattle.hb_restart.specs.Beyond.{KeepsBeyond}
 use Rattle.hb_set.specs.Machine.{RecordSet}
 use Rattle.hb_set.specs.Order.{result_of}
@@ -36,13 +33,9 @@ use Rattle.std.proofs.lemmas.List.Elements.{All-weaker}
 use Rattle.hbpi.proofs.Begins.{IsBegunHere}
 use Rattle.hbpi.proofs.Opened.{even_store, since_start}
 use Rattle.hbpi.specs.Codes.{status_after}
-use Rattle.hbpi.specs.Driven.{Drove, RanEnds}
+use Rattle.hbpi.specs.Driven.{RanEnds}
 use Rattle.hbpi.specs.Drives.{LeavesPrefixes, TakesSteps}
 use Rattle.hbpi.specs.Outcome.{GetsLine, fault_line}
-use Rattle.hbpi.specs.Schedules.{IsScheduled, NotScheduled}
-use Rattle.hbpi.specs.SeenRuns.{IsRefused, Seen, run_of, seen_by}
-use Rattle.hbpi.specs.declared.statuses.Status.{Status}
-use Rattle.hbpi.specs.declared.statuses.Status.TheVariants.{NoMemory}
 
 pub are_actors : (steps : List ℕ) → All (λ actor. (1 ≤ actor) × (actor ≤ 19)) steps → All IsActor steps
 are_actors steps all = All-weaker (λ actor. (1 ≤ actor) × (actor ≤ 19)) IsActor (λ actor is. record { from_1 = is.0; to_19 = is.1 }) steps all

@@ -17,7 +17,6 @@ use Rattle.hb_outside.specs.Calls.{SinkModel}
 use Rattle.hb_set.specs.declared.scripts.Answered.{Answered}
 use Rattle.hb_run.specs.Running.{IsWorkedOff, RunsTo}
 use Rattle.hb_run.specs.Turning.{in_work, jobs_left}
-use Rattle.hb_space.specs.Actors.{IsActor}
 use Rattle.hbpi.specs.Driven.{HasNothingLeft, jobs_of}
 
 jobs_shown : (kind : JobKind) (d : DiskModel) (c : RunningCore) (m : Machine) → ShowsMachine d c m → slice_get c.activities (worker_for kind - 1) ≡ Some (m.activity (worker_for kind)) → jobs_of kind m ≡ jobs_left kind c

@@ -62,7 +62,7 @@ pub(crate) fn call_alone<R: Threads + Wait + Sync, I: Read + Drop>(
 ) -> io::Result<()> {
     println!(rt; "> {words}")?;
     let call = call_of(rt.alloc(), name, words)?;
-    let (outcome, told) = on_file(rt, threads, threads, &call, input)?;
+    let (outcome, told) = on_file(rt, threads, &call, input)?;
     tell(rt, &outcome, told)
 }
 
@@ -126,7 +126,7 @@ impl Pair {
         println!(rt; "> {words}")?;
         let Pair { name, disk } = self;
         let call = call_of(rt.alloc(), name, words)?;
-        let (outcome, told) = on_file(rt, threads, threads, &call, text.as_bytes())?;
+        let (outcome, told) = on_file(rt, threads, &call, text.as_bytes())?;
         tell(rt, &outcome, told)?;
         let (wanted, disk) = on_disk(threads, rt.alloc(), &call, text, disk)?;
         if outcome != wanted {
@@ -145,7 +145,7 @@ impl Pair {
         words: &str,
         text: &str,
     ) -> io::Result<()> {
-        call_alone(rt, threads, threads, self.name, words, text.as_bytes())?;
+        call_alone(rt, threads, self.name, words, text.as_bytes())?;
         self.compare(rt)
     }
 
