@@ -1,4 +1,3 @@
-pub mod FirstPage
 pub mod LightPages
 pub mod Staying
 pub mod Untold

@@ -12,7 +12,7 @@ ghost use Rattle.hb_ops.specs.Operations.{BoxesMatch, OpHas, reads_of};
 ghost use Rattle.hb_store.specs.Calls.{IsAllowedHere, read_here};
 ghost use Rattle.hb_store.specs.Seen.{seen_as, uses_of};
 ghost use Rattle.hb_store.specs.States.{in_memory};
-ghost use Rattle.hb_file_tests.specs.Driven.{IsDrivenHere, IsDrivenOnFirst, IsPinned};
+ghost use Rattle.hb_file_tests.specs.Driven.{HoldsPage, IsDrivenHere, IsPinned};
 
 use hb_disk::{MemDisk, RotDisk};
 use hb_frag::{LivePage, Page};
@@ -84,8 +84,7 @@ pub(crate) type MetaNumbers = (u32, u32, u32, u32);
 #[tactic(auto, using(crate::proofs::Untold::new_driven))]
 pub(crate) fn opened(alloc: Global, numbers: MetaNumbers, disk: RotDisk) -> Option<Store<RotDisk>>
     requires { (hidden disk).size ≡ 155648 }
-    ensures driven { IfSome result (λ store. IsDrivenHere (seen_as store) (uses_of store)) }
-    ensures empty { IfSome result (λ store. uses_of store ≡ []) }
+    ensures { IfSome result (λ store. IsDrivenHere (seen_as store) (uses_of store)) }
 {
     let (pages, high, live, free) = numbers;
     if pages == 0 || pages > 4 || high == 0 || high > pages || live > pages {
@@ -259,10 +258,10 @@ fn reads_first(op: &Op) -> bool
 }
 
 /// Does the operation of a group with mark 7, where it reads page 1 alone and is allowed. That page is pinned, dirty or not.
-#[tactic(auto, using(crate::proofs::Untold::licensed, crate::proofs::FirstPage::first_has_place, crate::proofs::FirstPage::first_changed))]
+#[tactic(auto, using(crate::proofs::Untold::licensed, crate::proofs::Untold::first_has_place))]
 pub(crate) fn changed(alloc: Global, store: &mut Store<RotDisk>, group: &[u8]) -> Option<()>
-    requires { IsDrivenOnFirst (seen_as store.old) (uses_of store.old) }
-    ensures { IfSome result (λ _. IsDrivenOnFirst (seen_as store.new) (uses_of store.new)) }
+    requires { HoldsPage 1 (seen_as store.old) (uses_of store.old) }
+    ensures { IfSome result (λ _. HoldsPage 1 (seen_as store.new) (uses_of store.new)) }
 {
     let op = op_in(alloc, group)?;
     if store.meta().k != 1 || !store.ready() || !reads_first(&op) {

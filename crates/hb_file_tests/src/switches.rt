@@ -2,14 +2,14 @@
 //! behind the other, with changes in each. The disk tells nothing.
 ghost use Rattle.std.specs.Prelude.{IfSome};
 ghost use Rattle.hb_store.specs.Seen.{seen_as, uses_of};
-ghost use Rattle.hb_file_tests.specs.Driven.{IsDrivenOnFirst};
+ghost use Rattle.hb_file_tests.specs.Driven.{HoldsPage};
 
 use crate::driven_trees::{PARENTS_TOGETHER, SPLIT_AGAIN, SPLIT_TOGETHER, TWO_PARENTS};
 use crate::drives::{Tree, file, image_opened, put_all, stand};
 use crate::groups::{DELETE_1, PUT_1, PUT_5};
 use crate::homes::{fails_behind, flush, home};
 use crate::openings::{Answer, SUPER, open};
-use crate::stores::{EMPTY, NEVER, changed, disk, opened};
+use crate::stores::{EMPTY, NEVER, changed, disk, held, opened};
 use hb_disk::{MemDisk, Pick, RotDisk};
 use hb_store::Store;
 use std::alloc::Global;
@@ -171,8 +171,8 @@ const TURNS: [Turn; 5] = [
 
 /// Forces what waits, writes page 1 to its place, and begins the next turn.
 fn flush_all(store: &mut Store<RotDisk>) -> Option<()>
-    requires { IsDrivenOnFirst (seen_as store.old) (uses_of store.old) }
-    ensures { IfSome result (λ _. IsDrivenOnFirst (seen_as store.new) (uses_of store.new)) }
+    requires { HoldsPage 1 (seen_as store.old) (uses_of store.old) }
+    ensures { IfSome result (λ _. HoldsPage 1 (seen_as store.new) (uses_of store.new)) }
 {
     for letter in "f1s".chars() {
         if flush(store)? != letter {
@@ -184,8 +184,8 @@ fn flush_all(store: &mut Store<RotDisk>) -> Option<()>
 
 /// Does the changes of a turn, and begins the next one.
 fn turn(alloc: Global, store: &mut Store<RotDisk>, groups: &[&[u8]], pending: u32) -> Option<()>
-    requires { IsDrivenOnFirst (seen_as store.old) (uses_of store.old) }
-    ensures { IfSome result (λ _. IsDrivenOnFirst (seen_as store.new) (uses_of store.new)) }
+    requires { HoldsPage 1 (seen_as store.old) (uses_of store.old) }
+    ensures { IfSome result (λ _. HoldsPage 1 (seen_as store.new) (uses_of store.new)) }
 {
     for group in groups {
         changed(alloc, store, group)?;
@@ -197,18 +197,15 @@ fn turn(alloc: Global, store: &mut Store<RotDisk>, groups: &[&[u8]], pending: u3
 }
 
 /// The store of a file whose page 1 is pinned, and has no record.
-#[tactic(auto, using(crate::proofs::FirstPage::first_may_pin, crate::proofs::FirstPage::first_held))]
 fn begun(alloc: Global) -> Option<Store<RotDisk>>
-    ensures { IfSome result (λ store. IsDrivenOnFirst (seen_as store) (uses_of store)) }
+    ensures { IfSome result (λ store. HoldsPage 1 (seen_as store) (uses_of store)) }
 {
     let mut store = opened(alloc, (4, 1, 1, 0), disk(alloc, &[], &EMPTY, NEVER)?)?;
-    match store.fetch(1) {
-        Ok(()) => {
-            store.pin(1);
-            Some(store)
-        }
-        Err(_) => None,
+    if store.get(1).is_some() {
+        return None;
     }
+    held(&mut store, 1).ok()?;
+    Some(store)
 }
 
 /// The disk behind so many turns.

@@ -51,13 +51,6 @@ const SECOND: &str = "1 lookup 5 7
 step 1x32
 ";
 
-/// A record goes and comes again, and between the two the flusher writes its page to its place, and begins the next turn: the log area
-/// that the run before had is zeroed.
-const THIRD: &str = "1 delete 5 7
-1 insert 5 7 =a
-step 1x5 fx3 1x5
-";
-
 /// These have as many steps as they take on a page that another one names.
 const LOOKUP: &str = "1 lookup 5 7
 step 1x4
@@ -99,7 +92,7 @@ fn zeros(alloc: Global) -> io::Result<MemDisk> {
     Ok(MemDisk::new(alloc, vec![in alloc; 0; SIZE]?))
 }
 
-/// Makes the file, and drives it with three texts.
+/// Makes the file, and drives it with two texts.
 fn make_and_drive(rt: &HostRuntime) -> io::Result<Pair> {
     let pair = Pair {
         name: NAME,
@@ -108,8 +101,7 @@ fn make_and_drive(rt: &HostRuntime) -> io::Result<Pair> {
     let pair = pair.call(rt, CREATE, "")?;
     let pair = fill_area(rt, pair)?;
     let pair = pair.call(rt, "drive", FIRST)?;
-    let pair = pair.call(rt, "drive", SECOND)?;
-    pair.call(rt, "drive", THIRD)
+    pair.call(rt, "drive", SECOND)
 }
 
 /// `create` on the file that is there, and `drive` while another has it open.
