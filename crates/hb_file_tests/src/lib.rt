@@ -35,5 +35,3 @@ mod sources;
 mod spelled_files;
 #[cfg(test)]
 mod stores;
-#[cfg(test)]
-mod switches;
