@@ -55,7 +55,7 @@ class LongMachine(Machine):
 
     def watch(self, first, every, left):
         self.first, self.every, self.left, self.count, self.sum = first, every, left, 0, 0
-        self.sums, self.wanted = Sums(self.file.k), {}
+        self.sums, self.expected = Sums(self.file.k), {}
 
     def call(self, kind, at, length):
         number = self.first + self.count
@@ -72,7 +72,7 @@ class LongMachine(Machine):
         if len(self.sums.known) > 20000:
             self.sums = Sums(self.file.k)
         words = {self.sums.word(file) for file in ([self.durable, self.states[-1]] if tried else [self.durable])}
-        self.wanted[number] = words, self.clock, self.is_in_switch()
+        self.expected[number] = words, self.clock, self.is_in_switch()
         del self.states[:-2], self.forces[:-1], self.switches[:-1]
 
     def is_in_switch(self):
@@ -101,13 +101,13 @@ def compare_images(told, made, words, behind, answered):
     images, inside, places = 0, 0, {word: place for place, word in enumerate(words)}
     while told.line(peek=True)[0] == "image":
         _, number, clock, _, answer = told.line()
-        wanted, at, is_inside = made.wanted.pop(int(number))
+        wanted, at, is_inside = made.expected.pop(int(number))
         assert at + behind == int(clock), (number, clock, at)
         assert answer in wanted, f"the image before call {number} opens to {answer}, and not to {wanted}"
         # a plain list may have had these records before, but the last time is late enough
         assert places[records_of(answer)] >= answered(int(clock)), f"the image before call {number} has lost a line"
         images, inside = images + 1, inside + is_inside
-    assert not made.wanted, "some moments weren't looked at"
+    assert not made.expected, "some moments weren't looked at"
     return images, inside
 
 
