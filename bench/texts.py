@@ -15,21 +15,21 @@ def words(values):
     return " ".join(map(str, values))
 
 
-def mixed(state, count, attributes):
-    """Of ten lines six are inserts, one is a delete, two are lookups and one is a search. A point's values
-    are below 1,000, the first one is its session's alone; a box begins below 1,000 and is up to 50 wide."""
+def mixed(state, count, attributes, sessions=8):
+    """Of ten lines six are inserts, one is a delete, two are lookups and one is a search, each by one of so many sessions. A point's
+    values are below 1,000, the first one is its session's alone; a box begins below 1,000 and is up to 50 wide."""
     drawn = numbers(state)
 
     def below(limit):
         return next(drawn) % limit
 
     for number in range(1, count + 1):
-        session, kind = below(8) + 1, below(10)
+        session, kind = below(sessions) + 1, below(10)
         if kind == 9:
             corners = [(low, low + below(50)) for low in (below(1000) for _ in range(attributes))]
             yield f"{session} search {words(value for pair in corners for value in pair)}"
             continue
-        point = words([below(125) * 8 + session - 1] + [below(1000) for _ in range(attributes - 1)])
+        point = words([below(1000 // sessions) * sessions + session - 1] + [below(1000) for _ in range(attributes - 1)])
         if kind < 6:
             yield f"{session} insert {point} ={number}"
         else:
@@ -102,3 +102,10 @@ def schedule(steps, sessions, poster):
     for first in range(0, steps, 20):
         turns = ["1x20"] if sessions == 1 else [str((first + at) % sessions + 1) for at in range(20)]
         yield f"step {words(turns)}{' p' if poster else ''}"
+
+
+def rounds(steps, sessions, each):
+    """Step lines of at least so many steps of sessions that take so many each in turn, with four of the poster behind each session."""
+    line = f"step {' '.join(f'{session}x{each} px4' for session in range(1, sessions + 1))}"
+    for _ in range(0, steps, sessions * each):
+        yield line

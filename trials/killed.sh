@@ -1,24 +1,25 @@
 #!/bin/sh
-# A process that is killed while it drives 2,000 inserts from four sessions, with the poster, at 200 moments of its time
-# (or as many as the first word says). Each line whose reply was written has to be in the file with its body, of each
-# session's lines those in front have to be there, and no file may be refused. (A killed process loses nothing that the
-# system has taken. This is no power cut, so the file stands in memory, where it is quick.)
+# A process that is killed while it drives 4,000 inserts from four sessions, with the poster, the flusher and the smallest
+# log, whose turn ends 333 times, at 200 moments of its time (or as many as the first word says). Each line whose reply was
+# written has to be in the file with its body, of each session's lines those in front have to be there, and no file may be
+# refused. (A killed process loses nothing that the system has taken. This is no power cut, so the file stands in memory,
+# where it is quick.)
 [ -d /dev/shm ] && export TMPDIR=/dev/shm
 . "$(dirname "$(readlink -f "$0")")/lib.sh"
 
 moments=${1:-200}
 # line N inserts a point of its own with the body N, and the lookup of line N asks for it
-awk 'BEGIN { for (i = 1; i <= 2000; i++) print (i % 4) + 1, "insert", i * 7919 % 10007, "=" i
-    for (i = 1; i <= 4000; i++) print "step 1x2 2x2 p 3x2 4 p 1 2x3 3 4x2 p" }' >long
-awk 'BEGIN { for (i = 1; i <= 2000; i++) print (i % 16) + 1, "lookup", i * 7919 % 10007
-    for (i = 1; i <= 16; i++) print "step " i "x2000" }' >ask
+awk 'BEGIN { for (i = 1; i <= 4000; i++) print (i % 4) + 1, "insert", i * 7919 % 10007, "=" i
+    for (i = 1; i <= 10000; i++) print "step 1x2 2x2 p 3x2 4 p 1 2x3 3 4x2 p" (i % 8 ? "" : " f") }' >long
+awk 'BEGIN { for (i = 1; i <= 4000; i++) print (i % 16) + 1, "lookup", i * 7919 % 10007
+    for (i = 1; i <= 16; i++) print "step " i "x2500" }' >ask
 
 # The file is made anew, and the run is killed after so many seconds. What is left is compared with what it wrote.
 try() {
     rm -f f
     # a process that is killed at once hasn't emptied this itself
     : >out
-    "$HBPI" f create 1 1200 8388608 6 32 >/dev/null
+    "$HBPI" f create 1 2400 65536 6 32 >/dev/null
     "$HBPI" f drive <long >out 2>/dev/null &
     sleep "$1"
     # only a process that was waited for has let go of the file's lock
@@ -38,7 +39,7 @@ try() {
 }
 
 begun=$(date +%s%N)
-"$HBPI" f create 1 1200 8388608 6 32 >/dev/null
+"$HBPI" f create 1 2400 65536 6 32 >/dev/null
 "$HBPI" f drive <long >out
 taken=$((($(date +%s%N) - begun) / 1000000))
 : >told

@@ -10,7 +10,10 @@ class Case:
 
     def __init__(self, seed, k, pages, log, dcap, icap):
         self.seed, self.k, self.pages, self.log, self.dcap, self.icap = seed, k, pages, log, dcap, icap
-        self.runs, self.wanted, self.file = [], None, None
+        # where it aims at them, moments and failing calls are drawn among those of the switches, too
+        self.runs, self.wanted, self.file, self.aims = [], None, None, False
+        # of a long run an image is opened before each call whose number is the second one modulo the first
+        self.watched = 0, 0
 
     def add(self, lines, steps, moments=20, stopped=0, failing=0, crashes=False, finishes=False, back=False):
         """Behind a run that goes `back` the next one begins with the file that the first one left."""
@@ -35,7 +38,7 @@ class Case:
         made = struct.pack(">IIII", self.seed, self.log, size, len(create)) + create + bytes([len(self.runs)])
         for number, (_, _, moments, stopped, failing, crashes, _, back) in enumerate(self.runs):
             text = self.text(number).encode()
-            made += struct.pack(">HBHBI", moments, stopped, failing, crashes + 2 * back, len(text)) + text
+            made += struct.pack(">HBHBHHI", moments, stopped, failing, crashes + 2 * back + 4 * self.aims, *self.watched, len(text)) + text
         return made
 
 

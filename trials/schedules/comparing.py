@@ -1,5 +1,6 @@
 """What the program wrote of a case, compared with a plain list and with the machine in Python."""
 import collections
+import itertools
 
 import machine
 from frames import behind_opening
@@ -50,9 +51,9 @@ class Stepped:
         self.clock = sum(kind != "r" for kind, _, _ in run.calls[:self.first])
         fails = () if fails is None else range(fails.start - self.first, fails.stop - self.first)
         self.made = machine.Machine(case.file, lines, turn, fails)
-        for actor in steps if fails == () or fails.start >= 0 else []:
-            self.made.step(actor)
-        self.next_turn = (turn + 1) % 2
+        for actor, some in itertools.groupby(steps if fails == () or fails.start >= 0 else []):
+            self.made.step(actor, len(list(some)))
+        self.next_turn = (self.made.turn + 1) % 2
 
     def check(self, run):
         """The program said and did the same."""
@@ -78,6 +79,7 @@ class Stepped:
         files = self.made.left_at(behind) if behind > 0 else self.made.states[:1]
         wanted = {self.sums.word(file) for file in files}
         counts["images within a page's writing"] += len(answers) * self.made.is_writing_home(max(behind, 0))
+        counts["images within a switch"] += len(answers) * self.made.is_switching(behind)
         for answer in answers:
             if answer not in wanted:
                 raise Bad(f"an image of clock {clock} opens to {answer}, and not to {wanted}")
@@ -90,13 +92,11 @@ class Stepped:
         raise Bad(f"the machine has no such file: {word}")
 
 
-def check_full(case, run, live, counts):
-    """A line is `full` only where no page may have been free, or the log may not have been ready. A page comes into the
-    log once at most, and no operation has more than 200 bytes beside."""
+def check_full(case, run, live, merged, counts):
+    """A line is `full` only where no page may have been free."""
     full = sum(reply == "full" for _, reply in run.said.replies)
     counts["full"] += full
-    written = live * 4120 + (len(run.lines) + 6 * live) * 200
-    if full and written <= case.log - 16384 and live + 2 * 17 < case.pages:
+    if full and live + merged + 2 * 17 < case.pages:
         raise Bad(f"{full} lines are full with {live} of {case.pages} pages in use")
 
 
@@ -136,9 +136,20 @@ def compare_failed(told, case, number, records, run, counts):
             stepped.check(failed)
             counts["failed by the machine"] += 1
             counts["machine: read faults"] += stepped.made.counts["read faults"]
+            counts["failed in a switch"] += any(end is None for _, end in stepped.made.switches)
         elif failed.status != 6:
             raise Bad(f"call {call} fails in the opening, and the status is {failed.status}")
     compare_images(told, failed, stepped, False, counts)
+    compare_recoveries(told, counts)
+
+
+def compare_recoveries(told, counts):
+    """Recoveries that were stopped, or in which calls failed."""
+    while told.line(peek=True)[0] in ("failed", "stopped"):
+        name, tried, bad = told.line()
+        counts[f"{name} in recoveries"] += int(tried)
+        if bad != "0":
+            raise Bad(f"{bad} of {tried} recoveries that were {name} open otherwise")
 
 
 def count_run(run, finishes, counts):
@@ -177,11 +188,7 @@ def compare_run(told, case, number, records, counts, refused=False):
     count_run(run, finishes, counts)
     stepped = step_machine(case, number, run, counts) if case.file else None
     compare_images(told, run, stepped, True, counts, refused)
-    while told.line(peek=True)[0] in ("failed", "stopped"):
-        name, tried, bad = told.line()
-        counts[f"{name} in recoveries"] += int(tried)
-        if bad != "0":
-            raise Bad(f"{bad} of {tried} recoveries that were {name} open otherwise")
+    compare_recoveries(told, counts)
     while told.line(peek=True)[0] == "fails":
         compare_failed(told, case, number, records, run, counts)
     words = told.line()
@@ -189,14 +196,15 @@ def compare_run(told, case, number, records, counts, refused=False):
         raise Untold
     if words[0] != "next":
         raise Bad(f"next: {words}")
-    return compare_next(case, run, stepped, words[1], crashes, counts)
+    return compare_next(case, number, run, stepped, words[1], counts)
 
 
-def compare_next(case, run, stepped, word, crashes, counts):
+def compare_next(case, number, run, stepped, word, counts):
     """What the next opening finds."""
-    parts = word.split("/")
+    parts, crashes = word.split("/"), case.runs[number][5]
     # what a crash left may have fewer pages than the run had, and merged pages were in use once
-    check_full(case, run, case.pages if crashes or len(parts) < 5 else int(parts[3]), counts)
+    merged = stepped.made.counts["merged"] if stepped else case.runs[number][1].count("c")
+    check_full(case, run, case.pages if crashes or len(parts) < 5 else int(parts[3]), merged, counts)
     case.file = stepped.next_file(word, crashes) if stepped else None
     case.turn = stepped.next_turn if stepped and not crashes else None
     if len(parts) > 4:

@@ -52,7 +52,7 @@ def a_filled_case(rng, seed, count, log=1048576):
 
 def a_framing_case(rng, seed):
     """Waves of all kinds over a file of some 300 pages, in which most runs change more pages than there are frames."""
-    case, points = a_filled_case(rng, seed, rng.choice([1200, 1500, 1500]))
+    case, points = a_filled_case(rng, seed, rng.choice([1200, 1500, 1500]), rng.choice([65536, 262144, 1048576]))
     for _ in range(rng.randint(2, 4)):
         kind, size = rng.choice(["drain", "drain", "mix", "fill", "ask"]), rng.choice([150, 250, 400])
         lines = some_lines(rng, kind, points, size, case.k)
@@ -74,7 +74,7 @@ def a_failing_frames_case(rng, seed):
 def a_crowded_case(rng, seed):
     """A file of some 200 pages, all of which are changed in each run, so that pages are written to their places all the time; and then
     lookups come, which have too few places."""
-    case, points = a_filled_case(rng, seed, 900)
+    case, points = a_filled_case(rng, seed, 900, rng.choice([65536, 1048576, 1048576]))
     some = rng.sample(points, 320)
     for turn in range(rng.randint(2, 3)):
         lines = some_lines(rng, "fill" if turn % 2 else "drain", some, 300, case.k)

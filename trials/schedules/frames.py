@@ -47,7 +47,7 @@ class Frames:
 
 
 def behind_opening(calls):
-    """The number of the first call of the steps, and the turn's parity: the opening's last write opens a superblock's gate, and a sync
-    stands behind it. No step writes there."""
+    """The number of the first call of the steps, and the turn's parity: the opening writes a superblock's gate twice, before any step
+    does, and behind the second time stands a sync."""
     gates = [number for number, (kind, at, _) in enumerate(calls) if kind == "w" and at in (0, PAGE)]
-    return gates[-1] + 2, calls[gates[-1]][1] // PAGE
+    return gates[1] + 2, calls[gates[1]][1] // PAGE

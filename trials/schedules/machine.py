@@ -4,6 +4,7 @@ the disk, and the pages that it leaves. Pages are as trees.py has them. Calls of
 import collections
 import os
 
+from flushing import Flushing, WriteFault
 from frames import PAGE, Frames
 from trees import has, leaf_at, meets, outside, part, split, way_to, weight, with_part
 from workers import MERGER, POSTER, Job, Workers
@@ -24,27 +25,25 @@ class ReadFault(Exception):
     """A read failed."""
 
 
-class WriteFault(Exception):
-    """A write or a sync failed."""
-
-
-class Machine(Workers):
+class Machine(Flushing, Workers):
     """A run over a file. `step` takes its steps; `said` is the text then, and `durable` the file that an opening finds. `events` tells
     which step read, left, wrote and forced what. The calls of the numbers `fails` fail, counted from the first one of the steps."""
 
     def __init__(self, file, lines, turn=1, fails=(), frames=None):
         self.file, self.durable = file.copy(), file.copy()
-        self.area, self.fails, self.frames = 8192 + file.log * (turn % 2), fails, Frames(frames)
+        self.turn, self.area, self.fails, self.frames = turn % 2, self.log_at(turn), fails, Frames(frames)
         self.steps, self.events, self.calls, self.clock, self.stopped = 0, [], [], 0, False
-        # the file at first and behind each force, and between which values of the clock each force was; when the lines were answered
-        self.states, self.forces, self.answered = [self.durable], [], []
+        # the file at first and behind each force, and between which values of the clock each force and each switch was; when the
+        # lines were answered
+        self.states, self.forces, self.switches, self.answered = [self.durable], [], [], []
         self.lines = collections.defaultdict(collections.deque)
         for line in lines:
             self.lines[line[1]].append(Line(*line))
         self.all = sorted(line[0] for line in lines)
         self.at = collections.defaultdict(lambda: ("idle",))
         self.jobs, self.order, self.groups, self.replies = [], [], [], []
-        self.written, self.logged = 0, set()
+        # the bytes of the frames of this turn, the pages that its log has, and those that the log of an earlier one had
+        self.written, self.logged, self.logged_before = 0, set(), set()
         self.counts, self.merges = collections.Counter(), []
 
     # -- what an actor holds and wants
@@ -118,41 +117,6 @@ class Machine(Workers):
                     return True
         return False
 
-    # -- the log
-
-    def is_ready(self):
-        framed = sum(len_ + 5 for len_, _, _ in self.groups)
-        return self.file.log - self.written - framed - 5 >= 16384 and sum(len_ for len_, _, _ in self.groups) <= 49152
-
-    def force(self):
-        """All groups that wait are written as one frame. They last together, or none of them does."""
-        length = sum(group[0] for group in self.groups)
-        at = self.area + self.written
-        self.tell("forced", at, length)
-        self.counts["several groups forced as one"] += len(self.groups) > 1
-        self.states.append(self.groups[-1][2])
-        self.forces.append([self.clock, None])
-        for call in (("w", at + 1, 4 + length), ("s", 0, 0), ("w", at, 1), ("s", 0, 0)):
-            self.call(*call)
-        self.forces[-1][1] = self.clock
-        self.durable = self.states[-1]
-        self.groups.clear()
-        self.written += length + 5
-
-    def commit(self, length, reads, made=()):
-        images = [page for page in reads if page not in self.logged]
-        self.logged.update(reads)
-        self.logged.update(made)
-        self.groups.append((1 + 4100 * len(images) + length, len(self.order), self.file.copy()))
-        for page in (*reads, *made):
-            if self.frames.has(page):
-                self.frames.change(page)
-            else:
-                self.leave(self.frames.bring(page, True))
-
-    def settled(self):
-        return self.groups[0][1] if self.groups else len(self.order)
-
     def add(self, job):
         if job not in self.jobs and len(self.jobs) < 256:
             self.jobs.append(job)
@@ -192,19 +156,24 @@ class Machine(Workers):
 
     # -- steps
 
-    def step(self, actor):
+    def step(self, actor, count=1):
+        """So many steps of one actor. Where one changes nothing, those behind it don't, either."""
         if isinstance(actor, str):
             actor = {"p": POSTER, "c": MERGER, "f": 19}.get(actor) or int(actor)
-        self.steps += 1
-        if self.stopped:
-            return
-        try:
-            self.take_step(actor, self.at[actor])
-        except WriteFault:
-            self.stopped = True
+        last, self.in_vain = self.steps + count, False
+        while self.steps < last and not self.in_vain and not self.stopped:
+            self.steps += 1
+            try:
+                self.take_step(actor, self.at[actor])
+            except WriteFault:
+                self.stopped = True
+        self.steps = last
 
     def take_step(self, actor, at):
         if actor == 19:
+            done = self.flush()
+            self.in_vain = done is None
+            self.counts[f"f: {done}"] += 1
             return
         if at[0] == "idle":
             return self.take_job(actor) if actor > 16 else self.take_line(actor)
@@ -213,9 +182,10 @@ class Machine(Workers):
         page, mode, may = self.wanted(actor)
         if page is not None and self.is_blocked(actor, page, mode):
             self.counts["blocked"] += 1
+            self.in_vain = True
             return
         if self.is_unready(page, may):
-            return self.flush(actor, at)
+            return self.help()
         pins = list(self.held(actor))
         try:
             if page is not None:
@@ -242,21 +212,13 @@ class Machine(Workers):
         self.counts["crowded"] += crowded
         return crowded
 
-    def flush(self, actor, at):
-        """The groups that wait are forced; or the least recently used page that is dirty is written to its place; or the line is full."""
+    def help(self):
+        """One flush in place of the step. Something is left always: where no page is dirty there are places, and where the log has no
+        frame it has room."""
         self.counts["helped"] += 1
-        if self.groups:
-            return self.force()
-        page = self.frames.oldest_dirty()
-        if page is not None:
-            self.tell("written", page)
-            self.call("w", self.place(page), PAGE)
-            self.counts["pages written"] += 1
-            return self.frames.clean(page)
-        self.counts["full for the log"] += actor <= 16
-        pins = list(self.held(actor))
-        self.give_up(actor, at, "full")
-        self.hold(actor, pins)
+        done = self.flush()
+        assert done is not None
+        self.counts[f"helped: {done}"] += 1
 
     def answer(self, number, reply):
         self.replies.append((number, reply))
@@ -270,12 +232,14 @@ class Machine(Workers):
 
     def take_line(self, actor):
         if not self.lines[actor]:
+            self.in_vain = True
             return
         line = self.lines[actor][0]
         for other in range(1, 17):
             at = self.at[other] if other in self.at else ("idle",)
             if other != actor and at[0] in ("walk", "split", "put") and meets(at[1].box, line.box) and not (at[1].asks and line.asks):
                 self.counts["blocked by a box"] += 1
+                self.in_vain = True
                 return
         self.lines[actor].popleft()
         self.at[actor] = ("walk", line, None, [line.box], [])
@@ -284,6 +248,7 @@ class Machine(Workers):
         kind = "post" if actor == POSTER else "merge"
         job = next((job for job in self.jobs if job.kind == kind), None)
         if job is None:
+            self.in_vain = True
             return
         self.jobs.remove(job)
         if kind == "post" and job.level == self.file.height:
@@ -406,22 +371,3 @@ class Machine(Workers):
 
     def has_failed(self):
         return self.stopped or any(reply == "read fault" for _, reply in self.replies)
-
-    # -- what a crash may leave
-
-    def left_at(self, clock):
-        """The files that a crash may leave where the clock stands so."""
-        done = sum(end is not None and end <= clock for _, end in self.forces)
-        tried = any(begun + 3 <= clock and (end is None or clock < end) for begun, end in self.forces[done:done + 1])
-        return self.states[done:done + 1 + tried]
-
-    def is_writing_home(self, clock):
-        """Whether a page was written to its place, and not synced, where the clock stands so."""
-        at, opened = 0, False
-        for kind, _, length in self.calls:
-            if at == clock:
-                break
-            at += kind != "r"
-            if kind != "r":
-                opened = kind == "w" and (opened or length == PAGE)
-        return opened

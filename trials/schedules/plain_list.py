@@ -100,8 +100,8 @@ class Run:
                 raise Bad(f"line {line} in the order")
             if line in places and places[line] >= said.settled:
                 raise Bad(f"line {line} was answered before its place was settled")
-            if reply == "full" and self.lines[line][2] in ("lookup", "search"):
-                raise Bad("a lookup or a search is full")
+            if reply == "full" and self.lines[line][2] != "insert":
+                raise Bad("only an insert may be full")
         self.check_sessions(places)
 
     def check_sessions(self, places):

@@ -9,7 +9,8 @@ first six steps), `high` (3,000 inserts with the poster), `refused` (each alloca
 alone), `searching-refused` (some allocations of schedules with searches), `merging` (waves of inserts and deletes with searches,
 the poster and the consolidator), `merging-deep` (the same over files of three levels), `merging-failing` or `merging-refused`;
 over files of more pages than there are frames `framing` (waves of all kinds), `crowding` (each run changes all pages),
-`framing-failing`, `framing-refused` or `framing-short` (a hundred short schedules over copies of each file).
+`framing-failing`, `framing-refused` or `framing-short` (a hundred short schedules over copies of each file); over files with the
+smallest log, whose turn ends several times in a run, `switching`, `switching-failing` or `switching-deep` (recoveries inside switches).
 Each run that starts with a known file is also taken step by step by a machine in Python (machine.py), also where a call fails. It
 has to print the same, to make the same calls of the disk, and to leave the same pages; each image of a moment has to open to the
 one or two files that the machine says. Of merges and of frames its counts tell. It copies the repository's sources into a
@@ -32,6 +33,7 @@ from comparing import Told, compare
 from frame_cases import a_crowded_case, a_failing_frames_case, a_framing_case, frame_cases, frames_refused_cases
 from plain_list import Bad
 from short_cases import a_short_case
+from switching_cases import switching_cases, switching_deep_cases
 
 HERE = os.path.dirname(os.path.abspath(__file__))
 ROOT = os.path.dirname(os.path.dirname(HERE))
@@ -58,7 +60,8 @@ class Program:
             f.write(lines + f"schedule_trial: {USES}\n")
         place = os.path.join(top, "crates", "schedule_trial", "src")
         os.makedirs(place)
-        shutil.copy(os.path.join(HERE, "program.txt"), os.path.join(place, "main.rt"))
+        for name, module in (("program.txt", "main.rt"), ("watched.txt", "watched.rt")):
+            shutil.copy(os.path.join(HERE, name), os.path.join(place, module))
         self.place = os.path.dirname(place)
         return self
 
@@ -147,8 +150,10 @@ def main():
             "merging": lambda: merging_cases(count, seed), "merging-failing": lambda: merging_cases(count, seed, True), "merging-deep": lambda: merging_deep_cases(count, seed),
             "framing": lambda: frame_cases(count, seed, a_framing_case), "framing-failing": lambda: frame_cases(count, seed, a_failing_frames_case),
             "crowding": lambda: frame_cases(count, seed, a_crowded_case), "framing-short": lambda: frame_cases(count, seed, a_short_case),
+            "switching": lambda: switching_cases(count, seed), "switching-failing": lambda: switching_cases(count, seed, True),
+            "switching-deep": lambda: switching_deep_cases(count, seed),
             "racing": lambda: itertools.islice(racing_cases(), count), "deep": lambda: deep_cases(count, seed), "high": lambda: high_cases(count, seed)}[kind]()
-    size = {"failing": 2, "searching-failing": 2, "merging-failing": 2, "high": 1, "deep": 1, "merging-deep": 1, "framing": 1, "framing-failing": 1, "framing-short": 1, "crowding": 1}.get(kind, FILE)
+    size = {"failing": 2, "searching-failing": 2, "merging-failing": 2, "switching-failing": 1, "switching-deep": 1, "switching": 4, "high": 1, "deep": 1, "merging-deep": 1, "framing": 1, "framing-failing": 1, "framing-short": 1, "crowding": 1}.get(kind, FILE)
     counts, differ = collections.Counter(), 0
     with Program() as program:
         while batch := list(itertools.islice(made, size * BATCH if size > 1 else 1)):
@@ -168,9 +173,10 @@ def main():
                         at = re.compile(r"^case ", re.M).search(told.text, told.at)
                         told.at = at.start() if at else len(told.text)
             print(counts["schedules"], "schedules,", differ, "differ", dict(counts), flush=True)
-    if kind.startswith("merging") and not counts["machine: merged"]:
-        print("NO MERGE happened")
-        differ += 1
+    for front, name in (("merging", "merged"), ("switching", "f: switched")):
+        if kind.startswith(front) and not counts["machine: " + name]:
+            print("It never happened:", name)
+            differ += 1
     sys.exit(differ > 0)
 
 

@@ -18,7 +18,7 @@ def records_of(page):
 def a_filled_file(rng, seed):
     """A file of more than 132 pages, and the leaves of records of each page, in the order of their boxes."""
     while True:
-        case, _ = a_filled_case(rng, seed, rng.choice([640, 680, 720]), rng.choice([655360, 786432]))
+        case, _ = a_filled_case(rng, seed, rng.choice([640, 680, 720]), rng.choice([65536, 655360, 786432]))
         lines, steps = case.runs[0][:2]
         made = Machine(File(case.k, case.pages, case.log, case.dcap, case.icap), lines)
         for actor in steps:
