@@ -8,7 +8,7 @@ use hb_set::{Answered, Reply};
 use hb_store::StopWhy;
 
 /// How a run ended: a fault of the sink comes first, then a stop, then a reply `read fault`.
-pub(crate) fn end_of(failed: bool, stop: Option<StopWhy>, answered: &[Answered]) -> End
+pub fn end_of(failed: bool, stop: Option<StopWhy>, answered: &[Answered]) -> End
     ensures { IsEndOf result failed stop answered.now }
 {
     if failed {

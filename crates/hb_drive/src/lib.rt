@@ -19,7 +19,7 @@ mod ending;
 mod taking;
 mod writing;
 
-use ending::end_of;
+pub use ending::end_of;
 use hb_core::{Core, End, Ran};
 use hb_disk::Disk;
 use hb_outside::Sink;
@@ -27,7 +27,7 @@ use hb_set::{Answered, Script};
 use hb_space::{Actor, NoMemory};
 use std::alloc::Global;
 use taking::take_steps;
-use writing::put_rest;
+pub use writing::{put_answer, put_rest};
 
 /// Takes exactly the script's steps, and writes the output: the reply of each line as it is answered, then the lines that
 /// have no answer, then the order. After a fault of the sink nothing more is written, and the steps go on.

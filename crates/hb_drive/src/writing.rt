@@ -10,7 +10,7 @@ use hb_text::{put_left, put_order, put_reply};
 
 /// Puts a reply, unless the sink failed before.
 #[tactic(auto, using(crate::proofs::PutTexts::puts_on, crate::proofs::PutTexts::puts_off))]
-pub(crate) fn put_answer<K: Sink>(
+pub fn put_answer<K: Sink>(
     sink: &mut K,
     so_far: Result<(), Failed>,
     line: u32,
@@ -26,7 +26,7 @@ pub(crate) fn put_answer<K: Sink>(
 
 /// Puts what follows the replies: the lines that have no answer, and the order, so much of it settled.
 #[tactic(auto, using(crate::proofs::PutTexts::puts_then))]
-pub(crate) fn put_rest<K: Sink>(
+pub fn put_rest<K: Sink>(
     sink: &mut K,
     so_far: Result<(), Failed>,
     left: &[u32],

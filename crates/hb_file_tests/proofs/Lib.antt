@@ -1,3 +1,4 @@
+pub mod FirstPage
 pub mod LightPages
 pub mod Staying
 pub mod Untold

@@ -62,7 +62,7 @@ without_last {X = X} p (y ∷ ys) x none on =
     ] none
 
 module _ (P : Use → Type 0) (uses : List Use) (id : ℕ) (all : All P uses) where
-  room_all : All P (with_room uses)
+  pub room_all : All P (with_room uses)
   room_all = elim (nat_lt (length uses) FRAMES) as (λ b. All P (cond b uses (remove_key may_go uses))) [
     | true ↦ all
     | false ↦ All-remove_key may_go P uses all

@@ -1,5 +1,5 @@
 -- What the tests keep of a store that they drive.
-use Rattle.std.specs.Prelude.{◌≡◌, ℕ, ◌<◌, ◌≤◌, false, All, IsSomeAnd, IsTrue, List}
+use Rattle.std.specs.Prelude.{◌≡◌, ℕ, ◌<◌, ◌≤◌, false, All, IsSome, IsSomeAnd, IsTrue, List}
 use Rattle.hb_pool.specs.Frames.{Use, must_stay}
 use Rattle.hb_pool.specs.Pools.{frame_of}
 use Rattle.hb_store.specs.States.{StoreState}
@@ -21,3 +21,14 @@ pub record IsDrivenHere (st : StoreState) (uses : List Use) : Type 0 where
   pub running : st.stopped ≡ false
   pub marks : All (λ g. g.mark ≤ 7) st.log.groups
   pub stay : AllStay uses
+
+-- Page 1 is in memory, and pinned.
+pub record HoldsFirst (uses : List Use) : Type 0 where
+  pub there : IsSome (frame_of uses 1)
+  pub pinned : All (λ (u : Use). u.id ≡ 1 → 0 < u.pins) uses
+
+-- The store runs, no group that waits has a later mark than 7, and page 1 stays, dirty or not.
+pub record IsDrivenOnFirst (st : StoreState) (uses : List Use) : Type 0 where
+  pub running : st.stopped ≡ false
+  pub marks : All (λ g. g.mark ≤ 7) st.log.groups
+  pub first : HoldsFirst uses

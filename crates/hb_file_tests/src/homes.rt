@@ -1,7 +1,8 @@
 //! Pages that go home: which one a flush writes next, when, and what stands in its place then; and what is left of a file where a
 //! crash or a fault comes on the way. The disk tells nothing.
 ghost use Rattle.std.specs.Prelude.{◌≡◌, false, IfSome};
-ghost use Rattle.hb_store.specs.Seen.{seen_as};
+ghost use Rattle.hb_store.specs.Seen.{seen_as, uses_of};
+ghost use Rattle.hb_file_tests.specs.Driven.{IsDrivenOnFirst};
 
 use crate::driven_trees::{PARENTS_TOGETHER, SPLIT_AGAIN, SPLIT_TOGETHER, TWO_PARENTS};
 use crate::drives::{PICKS, Tree, begun, file, image_opened, put_all, stand, stands, stepped};
@@ -14,10 +15,11 @@ use std::alloc::Global;
 
 /// What a flush did: `f` for groups that were forced, the number of a page that was written home, or `w` above 9, `s` for a turn
 /// that began, and `n` for none of these. `None` where it failed.
-#[tactic(auto, using(crate::proofs::Untold::flushed_runs))]
+#[tactic(auto, using(crate::proofs::Untold::flushed_runs, crate::proofs::FirstPage::first_flushed))]
 pub(crate) fn flush(store: &mut Store<RotDisk>) -> Option<char>
     requires { (seen_as store.old).stopped ≡ false }
-    ensures { IfSome result (λ _. (seen_as store.new).stopped ≡ false) }
+    ensures runs { IfSome result (λ _. (seen_as store.new).stopped ≡ false) }
+    ensures first { IsDrivenOnFirst (seen_as store.old) (uses_of store.old) → IfSome result (λ _. IsDrivenOnFirst (seen_as store.new) (uses_of store.new)) }
 {
     match store.flush_step() {
         Ok(Flushed::Forced) => Some('f'),

@@ -35,3 +35,5 @@ mod sources;
 mod spelled_files;
 #[cfg(test)]
 mod stores;
+#[cfg(test)]
+mod switches;

@@ -1,6 +1,6 @@
 //! Stores of small files of one attribute, by hand, over a disk that tells nothing. Where something is `None`, memory was
 //! refused, or a row of a test is wrong.
-ghost use Rattle.std.specs.Prelude.{◌≡◌, ◌<◌, ◌^◌, ℕ, true, false, get_or, IfSome, IsTrue, None, OnOk, Option, Some};
+ghost use Rattle.std.specs.Prelude.{◌≡◌, ◌<◌, ◌^◌, ℕ, true, false, get_or, IfSome, IsTrue, None, OnOk, Option, Some, [], ◌∷◌};
 ghost use Rattle.hb_disk.specs.RotDisk.{hidden};
 ghost use Rattle.hb_frag.specs.declared.pages.Page.TheVariants.{Live};
 ghost use Rattle.hb_frag.specs.declared.pages.LivePage.{LivePage as OnePage};
@@ -12,7 +12,7 @@ ghost use Rattle.hb_ops.specs.Operations.{BoxesMatch, OpHas, reads_of};
 ghost use Rattle.hb_store.specs.Calls.{IsAllowedHere, read_here};
 ghost use Rattle.hb_store.specs.Seen.{seen_as, uses_of};
 ghost use Rattle.hb_store.specs.States.{in_memory};
-ghost use Rattle.hb_file_tests.specs.Driven.{IsDrivenHere, IsPinned};
+ghost use Rattle.hb_file_tests.specs.Driven.{IsDrivenHere, IsDrivenOnFirst, IsPinned};
 
 use hb_disk::{MemDisk, RotDisk};
 use hb_frag::{LivePage, Page};
@@ -84,7 +84,8 @@ pub(crate) type MetaNumbers = (u32, u32, u32, u32);
 #[tactic(auto, using(crate::proofs::Untold::new_driven))]
 pub(crate) fn opened(alloc: Global, numbers: MetaNumbers, disk: RotDisk) -> Option<Store<RotDisk>>
     requires { (hidden disk).size ≡ 155648 }
-    ensures { IfSome result (λ store. IsDrivenHere (seen_as store) (uses_of store)) }
+    ensures driven { IfSome result (λ store. IsDrivenHere (seen_as store) (uses_of store)) }
+    ensures empty { IfSome result (λ store. uses_of store ≡ []) }
 {
     let (pages, high, live, free) = numbers;
     if pages == 0 || pages > 4 || high == 0 || high > pages || live > pages {
@@ -244,6 +245,35 @@ pub(crate) fn done(alloc: Global, store: &mut Store<RotDisk>, group: &[u8]) -> O
         }
     } else {
         Some(false)
+    }
+}
+
+/// Whether an operation reads page 1 alone.
+fn reads_first(op: &Op) -> bool
+    ensures { IsTrue result → reads_of op.now ≡ 1 ∷ [] }
+{
+    match op.reads().as_slice() {
+        [one] => *one == 1,
+        _ => false,
+    }
+}
+
+/// Does the operation of a group with mark 7, where it reads page 1 alone and is allowed. That page is pinned, dirty or not.
+#[tactic(auto, using(crate::proofs::Untold::licensed))]
+pub(crate) fn changed(alloc: Global, store: &mut Store<RotDisk>, group: &[u8]) -> Option<()>
+    requires { IsDrivenOnFirst (seen_as store.old) (uses_of store.old) }
+    ensures { IfSome result (λ _. IsDrivenOnFirst (seen_as store.new) (uses_of store.new)) }
+{
+    let op = op_in(alloc, group)?;
+    if store.meta().k != 1 || !store.ready() || !reads_first(&op) {
+        return None;
+    }
+    if !is_allowed(alloc, store, &op)? {
+        return None;
+    }
+    match store.commit(op, 7) {
+        Ok(()) => Some(()),
+        Err(_no_memory) => None,
     }
 }
 

@@ -16,7 +16,7 @@ use Rattle.hb_lemmas.proofs.Lists.{All-alone, All-parts}
 use Rattle.hb_set.specs.declared.commands.Reply.{Reply}
 use Rattle.hb_set.specs.declared.commands.Reply.TheVariants as replies
 use Rattle.hb_set.specs.declared.scripts.Answered.{Answered}
-use Rattle.hbpi.specs.Driven.{Drove}
+use Rattle.hbpi.specs.Driven.{Drove, Manner}
 use Rattle.hbpi.specs.SeenRuns.{Run}
 
 -- These steps have a front that leads to a machine at which the next one finds no page.
@@ -87,9 +87,9 @@ came_by_cause laws (actor ∷ rest) m new keeps may (outcome, next, step, more) 
     }
 
 -- so of a run, whatever its disk tells
-pub drove_by_cause : (laws : CauseLaws) (run : Run) (after : Machine) → BeginningKeeps → (drove : Drove run after) → All (IsFullByCause drove.takes.before drove.steps) after.answered
-drove_by_cause laws run after begins drove =
+pub drove_by_cause : (laws : CauseLaws) (by : Manner) (run : Run) (after : Machine) → BeginningKeeps → (drove : Drove by run after) → All (IsFullByCause drove.takes.before drove.actors) after.answered
+drove_by_cause laws by run after begins drove =
     let takes = drove.takes in
-    let came = came_by_cause laws drove.steps takes.before after (begins takes.before takes.begun) takes.actors takes.reached in
+    let came = came_by_cause laws drove.actors takes.before after (begins takes.before takes.begun) takes.actors takes.reached in
     let same : after.answered ≡ came.came = came.answered ∙ ap (λ (a : List Answered). a ++ came.came) takes.begun.unanswered in
-    subst (λ (a : List Answered). All (IsFullByCause takes.before drove.steps) a) (sym same) came.causes
+    subst (λ (a : List Answered). All (IsFullByCause takes.before drove.actors) a) (sym same) came.causes

@@ -1,5 +1,5 @@
--- What `drive` answers where nothing failed.
-use Rattle.std.proofs.Common.{◌≡◌, ◌⊎◌, inl, inr, ℕ, true, List, Option, Some, Result, Ok, Err, refl, sym, ap, subst, ◌∙◌}
+-- What `drive` and `run` answer where nothing failed.
+use Rattle.std.proofs.Common.{◌≡◌, ◌⊎◌, inl, inr, ℕ, Bool, List, Option, Some, Result, Ok, Err, refl, sym, ap, subst, ◌∙◌}
 use Rattle.hb_core.specs.DamageLaws.{IsUndamaged}
 use Rattle.hb_core.specs.KeepingLaws.{BegunKeepsAll}
 use Rattle.hb_core.specs.Machines.{Machine}
@@ -17,7 +17,7 @@ use Rattle.hb_text.specs.Grammar.{Reading, text_read}
 use Rattle.hb_text.specs.declared.rules.BadLine.{BadLine}
 use Rattle.hbpi.proofs.DriveNames.{opened_k, reads_left}
 use Rattle.hbpi.specs.Codes.{status_of}
-use Rattle.hbpi.specs.Driven.{DriveEnds, Drove, IsShutOut, RanEnds}
+use Rattle.hbpi.specs.Driven.{Drove, IsShutOut, Manner, RanEnds, StepsEnd}
 use Rattle.hbpi.specs.Outcome.{IsWholeText}
 use Rattle.hbpi.specs.Promises.{GivesFor, IsCalm, IsDriven}
 use Rattle.hbpi.specs.Schedules.{IsScheduled, NotScheduled}
@@ -31,17 +31,17 @@ no_memory seen status (Ok reading) is = λ sink. inr is
 no_memory seen status (Err bad) is = inr is
 
 -- a script that is read of the whole text is what the text says
-scheduled_reads : (k n : ℕ) (left : List ℕ) (seen : Seen) (lines : List Line) (steps : List ℕ) → n ≡ k → seen.source_before.left ≡ Some left → IsScheduled n seen.source_before.left seen.source_after.left lines steps → text_read true k left ≡ Ok (record { lines = lines; steps = steps })
-scheduled_reads k n left seen lines steps same text scheduled =
+scheduled_reads : (step_lines : Bool) (k n : ℕ) (left : List ℕ) (seen : Seen) (lines : List Line) (steps : List ℕ) → n ≡ k → seen.source_before.left ≡ Some left → IsScheduled step_lines n seen.source_before.left seen.source_after.left lines steps → text_read step_lines k left ≡ Ok (record { lines = lines; steps = steps })
+scheduled_reads step_lines k n left seen lines steps same text scheduled =
     let whole = subst (λ (o : Option (List ℕ)). IsWholeText o seen.source_after.left scheduled.text) text scheduled.whole in
-    ap (λ (m : ℕ). text_read true m left) (sym same) ∙ ap (text_read true n) (sym whole.0) ∙ scheduled.says
+    ap (λ (m : ℕ). text_read step_lines m left) (sym same) ∙ ap (text_read step_lines n) (sym whole.0) ∙ scheduled.says
 
 -- a machine that a beginning over a sound file comes to is met damaged nowhere
-pub undamaged : (run : Run) (after : Machine) (b : List ℕ) → BegunKeepsAll → run.before.told ≡ Some b → Drove run after → IsUndamaged after
-undamaged run after b all told drove =
+pub undamaged : (by : Manner) (run : Run) (after : Machine) (b : List ℕ) → BegunKeepsAll → run.before.told ≡ Some b → Drove by run after → IsUndamaged after
+undamaged by run after b all told drove =
     let takes = drove.takes in
     let here = at_value run.before.told _ b told takes.told in
-    (all here.0 drove.steps takes.before after here.3 takes.actors takes.reached).1.undamaged (inl takes.begun.runs)
+    (all here.0 drove.actors takes.before after here.3 takes.actors takes.reached).1.undamaged (inl takes.begun.runs)
 
 no_damage : (after : Machine) (page : ℕ) (why : Why) → IsUndamaged after → after.stop ≡ Some (stops.Damaged page why) → ⊥
 no_damage after page why fine is = elim fine [
@@ -49,20 +49,20 @@ no_damage after page why fine is = elim fine [
   | inr fault ↦ cc (fault, is)
 ]
 
-module _ (s : FileState) (left : List ℕ) (run : Run) (calm : IsCalm s left run) where
-  shut_gives : (status : Status) (fault : OpenFault) → GoodIsNotRefused → status ≡ status_of fault → IsShutOut run fault → GivesFor run.seen status (text_read true s.meta.k left)
+module _ (by : Manner) (s : FileState) (left : List ℕ) (run : Run) (calm : IsCalm s left run) where
+  shut_gives : (status : Status) (fault : OpenFault) → GoodIsNotRefused → status ≡ status_of fault → IsShutOut run fault → GivesFor run.seen status (text_read by.step_lines s.meta.k left)
   shut_gives status fault good is out =
       elim (good fault calm.bytes s calm.opens calm.sound (at_value run.before.told _ calm.bytes calm.told out.why.why)) [
         | inl failed ↦ absurd (calm.disk (out.leaves.faults.cause failed))
-        | inr none ↦ no_memory run.seen status (text_read true s.meta.k left) (is ∙ ap status_of none)
+        | inr none ↦ no_memory run.seen status (text_read by.step_lines s.meta.k left) (is ∙ ap status_of none)
       ]
 
-  away_gives : (k : ℕ) (status : Status) → k ≡ s.meta.k → NotScheduled k run.seen.source_before run.seen.source_after status → GivesFor run.seen status (text_read true s.meta.k left)
+  away_gives : (k : ℕ) (status : Status) → k ≡ s.meta.k → NotScheduled by.step_lines k run.seen.source_before run.seen.source_after status → GivesFor run.seen status (text_read by.step_lines s.meta.k left)
   away_gives k (BadText bad) same why =
-      let says = reads_left s.meta.k k left why.0 run.seen.source_before.left run.seen.source_after.left same calm.text why.1 ∙ why.2 in
+      let says = reads_left by.step_lines s.meta.k k left why.0 run.seen.source_before.left run.seen.source_after.left same calm.text why.1 ∙ why.2 in
       subst (λ (r : Result Reading BadLine). GivesFor run.seen (BadText bad) r) (sym says) (inl refl)
   away_gives k SourceFault same why = absurd (calm.source why)
-  away_gives k NoMemory same why = no_memory run.seen NoMemory (text_read true s.meta.k left) refl
+  away_gives k NoMemory same why = no_memory run.seen NoMemory (text_read by.step_lines s.meta.k left) refl
   away_gives k Done same why = absurd why
   away_gives k SinkFault same why = absurd why
   away_gives k DiskFault same why = absurd why
@@ -72,14 +72,14 @@ module _ (s : FileState) (left : List ℕ) (run : Run) (calm : IsCalm s left run
   away_gives k (BadLayout field value) same why = absurd why
   away_gives k NotBuilt same why = absurd why
 
-  drove_k : (after : Machine) (drove : Drove run after) → OpensToOne → drove.k ≡ s.meta.k
+  drove_k : (after : Machine) (drove : Drove by run after) → OpensToOne → drove.k ≡ s.meta.k
   drove_k after drove one =
       let here = at_value run.before.told _ calm.bytes calm.told drove.takes.told in
       let same : here.0 ≡ s = one calm.bytes here.0 s here.1 calm.opens in
       sym (ap (λ (f : FileState). f.meta.k) (sym same) ∙ ap (λ (m : Meta). m.k) here.3.meta ∙ drove.takes.attributes)
 
   -- the steps were taken: the run is done, unless the sink failed
-  ran_done : (status : Status) (after : Machine) → Drove run after → IsUndamaged after → RanEnds status run.seen.sink_before run.seen.sink_after run.seen.answered after → ¬ (Rose run.seen.sink_before.faults run.seen.sink_after.faults) → (status ≡ Done) ⊎ (status ≡ NoMemory)
+  ran_done : (status : Status) (after : Machine) → Drove by run after → IsUndamaged after → RanEnds status run.seen.sink_before run.seen.sink_after run.seen.answered after → ¬ (Rose run.seen.sink_before.faults run.seen.sink_after.faults) → (status ≡ Done) ⊎ (status ≡ NoMemory)
   ran_done Done after drove fine ends sink = inl refl
   ran_done SinkFault after drove fine ends sink = absurd (sink ends.1)
   ran_done DiskFault after drove fine ends sink = elim ends.1 [
@@ -95,17 +95,17 @@ module _ (s : FileState) (left : List ℕ) (run : Run) (calm : IsCalm s left run
   ran_done (Small needed found) after drove fine ends sink = absurd ends
   ran_done NotBuilt after drove fine ends sink = absurd ends
 
-  ran_gives : (status : Status) (after : Machine) → OpensToOne → BegunKeepsAll → Drove run after → RanEnds status run.seen.sink_before run.seen.sink_after run.seen.answered after → GivesFor run.seen status (text_read true s.meta.k left)
+  ran_gives : (status : Status) (after : Machine) → OpensToOne → BegunKeepsAll → Drove by run after → RanEnds status run.seen.sink_before run.seen.sink_after run.seen.answered after → GivesFor run.seen status (text_read by.step_lines s.meta.k left)
   ran_gives status after one all drove ends =
-      subst (λ (r : Result Reading BadLine). GivesFor run.seen status r) (sym (scheduled_reads s.meta.k drove.k left run.seen drove.lines drove.steps (drove_k after drove one) calm.text drove.scheduled))
-      (λ sink. ran_done status after drove (undamaged run after calm.bytes all calm.told drove) ends sink)
+      subst (λ (r : Result Reading BadLine). GivesFor run.seen status r) (sym (scheduled_reads by.step_lines s.meta.k drove.k left run.seen drove.lines drove.steps (drove_k after drove one) calm.text drove.scheduled))
+      (λ sink. ran_done status after drove (undamaged by run after calm.bytes all calm.told drove) ends sink)
 
--- Where nothing fails, a good file is driven by a good text, and a bad text is refused.
-pub is_driven : (run : Run) (status : Status) → OpensToOne → GoodIsNotRefused → BegunKeepsAll → DriveEnds run status → IsDriven run status
-is_driven run status one good all ends s left calm = elim ends [
-  | inl shut ↦ shut_gives s left run calm status shut.0 good shut.1 shut.2
+-- Where nothing fails, a good text is worked off over a good file, and a bad text is refused.
+pub is_driven : (by : Manner) (run : Run) (status : Status) → OpensToOne → GoodIsNotRefused → BegunKeepsAll → StepsEnd by run status → IsDriven by.step_lines run status
+is_driven by run status one good all ends s left calm = elim ends [
+  | inl shut ↦ shut_gives by s left run calm status shut.0 good shut.1 shut.2
   | inr opened ↦ elim opened [
-    | inl away ↦ away_gives s left run calm away.k status (opened_k away.k run.before run.after calm.bytes s away.opened calm.told calm.opens) away.why
-    | inr ran ↦ ran_gives s left run calm status ran.0 one all ran.1 ran.2
+    | inl away ↦ away_gives by s left run calm away.k status (opened_k away.k run.before run.after calm.bytes s away.opened calm.told calm.opens) away.why
+    | inr ran ↦ ran_gives by s left run calm status ran.0 one all ran.1 ran.2
   ]
 ]

@@ -1,5 +1,5 @@
--- The bad line that `drive` names.
-use Rattle.std.proofs.Common.{◌≡◌, inl, inr, ℕ, true, List, Option, Some, sym, ap, subst, ◌∙◌}
+-- The bad line that a run over a file names.
+use Rattle.std.proofs.Common.{◌≡◌, inl, inr, ℕ, Bool, List, Option, Some, sym, ap, subst, ◌∙◌}
 use Rattle.hb_lemmas.proofs.Options.{at_value}
 use Rattle.hb_disk.specs.Model.{DiskModel}
 use Rattle.hb_layout.specs.declared.meta.Meta.{Meta}
@@ -10,7 +10,7 @@ use Rattle.hb_text.specs.Grammar.{text_read}
 use Rattle.hb_text.specs.declared.rules.BadLine.{BadLine}
 use Rattle.hbpi.proofs.EndLaws.{front_reads, of_closed}
 use Rattle.hbpi.specs.Codes.{status_of}
-use Rattle.hbpi.specs.Driven.{DriveEnds, IsOpened, RanEnds}
+use Rattle.hbpi.specs.Driven.{IsOpened, Manner, RanEnds, StepsEnd}
 use Rattle.hbpi.specs.Outcome.{IsTextOf}
 use Rattle.hbpi.specs.Promises.{NamesScheduleLine}
 use Rattle.hbpi.specs.Schedules.{NotScheduled}
@@ -28,18 +28,18 @@ opened_k k d e b s opened told opens =
     sym (ap (λ (m : Meta). m.k) (at_value d.told _ b told opened.opens.meta s opens) ∙ opened.attributes)
 
 -- the text that was read says what is left
-pub reads_left : (k n : ℕ) (left text : List ℕ) (before : Option (List ℕ)) (after : Option (List ℕ)) → n ≡ k → before ≡ Some left → IsTextOf before after text → text_read true k left ≡ text_read true n text
-reads_left k n left text before after same told read =
+pub reads_left : (step_lines : Bool) (k n : ℕ) (left text : List ℕ) (before : Option (List ℕ)) (after : Option (List ℕ)) → n ≡ k → before ≡ Some left → IsTextOf before after text → text_read step_lines k left ≡ text_read step_lines n text
+reads_left step_lines k n left text before after same told read =
     let here = subst (λ (o : Option (List ℕ)). IsTextOf o after text) told read in
-    ap (λ (m : ℕ). text_read true m left) (sym same) ∙ sym (front_reads true n left) ∙ ap (text_read true n) (sym here.0)
+    ap (λ (m : ℕ). text_read step_lines m left) (sym same) ∙ sym (front_reads step_lines n left) ∙ ap (text_read step_lines n) (sym here.0)
 
-pub names_line : (run : Run) (status : Status) → DriveEnds run status → NamesScheduleLine run status
-names_line run status ends b s left bad told opens text is = elim ends [
+pub names_line : (by : Manner) (run : Run) (status : Status) → StepsEnd by run status → NamesScheduleLine by.step_lines run status
+names_line by run status ends b s left bad told opens text is = elim ends [
   | inl shut ↦ absurd (no_line shut.0 bad (sym shut.1 ∙ is))
   | inr opened ↦ elim opened [
     | inl away ↦
-        let why = subst (λ (x : Status). NotScheduled away.k run.seen.source_before run.seen.source_after x) is away.why in
-        reads_left s.meta.k away.k left why.0 run.seen.source_before.left run.seen.source_after.left (opened_k away.k run.before run.after b s away.opened told opens) text why.1 ∙ why.2
+        let why = subst (λ (x : Status). NotScheduled by.step_lines away.k run.seen.source_before run.seen.source_after x) is away.why in
+        reads_left by.step_lines s.meta.k away.k left why.0 run.seen.source_before.left run.seen.source_after.left (opened_k away.k run.before run.after b s away.opened told opens) text why.1 ∙ why.2
     | inr ran ↦ absurd (subst (λ (x : Status). RanEnds x run.seen.sink_before run.seen.sink_after run.seen.answered ran.0) is ran.2)
   ]
 ]

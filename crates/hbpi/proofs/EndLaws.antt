@@ -8,6 +8,7 @@ use Rattle.hb_text.specs.Grammar.{Reading, text_read}
 use Rattle.hb_text.proofs.Facts.TextLength.{text_is_short}
 use Rattle.hbpi.specs.declared.forms.Form.{Form}
 use Rattle.hbpi.specs.declared.forms.Form.TheVariants.{Check, Create, Drive, Dry}
+use Rattle.hbpi.specs.declared.forms.Form.TheVariants as forms
 use Rattle.hbpi.specs.declared.statuses.Status.{Status}
 use Rattle.hbpi.specs.declared.statuses.Status.TheVariants.{Done, Usage, BadText, SourceFault, SinkFault, DiskFault, Damaged, NoMemory, BadLayout, Small, NotBuilt}
 use Rattle.hb_outside.specs.Streams.{Rose}
@@ -23,7 +24,7 @@ use Rattle.hbpi.specs.Runs.{RunEnds}
 use Rattle.hbpi.specs.Ends.{DryEnds, IsAnswered, IsComplete, RefusesBadText, NamesBadLine, UnbuiltEnds, UsageEnds}
 use Rattle.hbpi.specs.SeenRuns.{Run, Seen}
 use Rattle.hbpi.specs.Checked.{CheckEnds, sound_text}
-use Rattle.hbpi.specs.Driven.{DriveEnds, RanEnds}
+use Rattle.hbpi.specs.Driven.{Manner, RanEnds, StepsEnd, by_schedule, by_threads}
 use Rattle.hbpi.specs.Saying.{IsSaid}
 use Rattle.hbpi.specs.Forms.{IsUnbuilt}
 use Rattle.hbpi.specs.Schedules.{NotScheduled}
@@ -165,19 +166,19 @@ of_closed (faults.Unsound page rule) P small damaged disk memory = damaged (dama
 of_closed faults.DiskFault P small damaged disk memory = disk
 of_closed faults.NoMemory P small damaged disk memory = memory
 
--- where no schedule was read, the source failed by its status alone
-pub source_kept : (status : Status) (k : ℕ) (before after : SourceModel) → NotScheduled k before after status → ¬ (status ≡ SourceFault) → after.faults ≡ before.faults
-source_kept (BadText bad) k before after why other = why.3
-source_kept SourceFault k before after why other = absurd (other refl)
-source_kept NotBuilt k before after why other = absurd why
-source_kept NoMemory k before after why other = why
-source_kept Done k before after why other = absurd why
-source_kept SinkFault k before after why other = absurd why
-source_kept DiskFault k before after why other = absurd why
-source_kept Usage k before after why other = absurd why
-source_kept (Damaged damage) k before after why other = absurd why
-source_kept (Small needed found) k before after why other = absurd why
-source_kept (BadLayout field value) k before after why other = absurd why
+-- where no script was read, the source failed by its status alone
+pub source_kept : (step_lines : Bool) (status : Status) (k : ℕ) (before after : SourceModel) → NotScheduled step_lines k before after status → ¬ (status ≡ SourceFault) → after.faults ≡ before.faults
+source_kept step_lines (BadText bad) k before after why other = why.3
+source_kept step_lines SourceFault k before after why other = absurd (other refl)
+source_kept step_lines NotBuilt k before after why other = absurd why
+source_kept step_lines NoMemory k before after why other = why
+source_kept step_lines Done k before after why other = absurd why
+source_kept step_lines SinkFault k before after why other = absurd why
+source_kept step_lines DiskFault k before after why other = absurd why
+source_kept step_lines Usage k before after why other = absurd why
+source_kept step_lines (Damaged damage) k before after why other = absurd why
+source_kept step_lines (Small needed found) k before after why other = absurd why
+source_kept step_lines (BadLayout field value) k before after why other = absurd why
 
 dry_source : (k : ℕ) (seen : Seen) (status : Status) → DryEnds k seen status → ¬ (status ≡ SourceFault) → seen.source_after.faults ≡ seen.source_before.faults
 dry_source k seen Done ends other = ends.1.faults
@@ -205,11 +206,11 @@ create_source fault needed run SourceFault ends = absurd ends
 create_source fault needed run (Damaged damage) ends = absurd ends
 create_source fault needed run NotBuilt ends = absurd ends
 
-drive_source : (run : Run) (status : Status) → DriveEnds run status → ¬ (status ≡ SourceFault) → run.seen.source_after.faults ≡ run.seen.source_before.faults
-drive_source run status ends other = elim ends [
+steps_source : (by : Manner) (run : Run) (status : Status) → StepsEnd by run status → ¬ (status ≡ SourceFault) → run.seen.source_after.faults ≡ run.seen.source_before.faults
+steps_source by run status ends other = elim ends [
   | inl shut ↦ shut.2.unread.faults
   | inr opened ↦ elim opened [
-    | inl away ↦ source_kept status away.k run.seen.source_before run.seen.source_after away.why other
+    | inl away ↦ source_kept by.step_lines status away.k run.seen.source_before run.seen.source_after away.why other
     | inr ran ↦ ran.1.source
   ]
 ]
@@ -230,7 +231,8 @@ pub ends_source : (form : Option Form) (run : Run) (status : Status) → RunEnds
 ends_source None run status ends other = usage_source run.seen status ends
 ends_source (Some (Dry k)) run status ends other = dry_source k run.seen status ends other
 ends_source (Some (Create k pages log dcap icap)) run status ends other = create_source (first_fault k pages log dcap icap) (size_of pages log) run status ends
-ends_source (Some Drive) run status ends other = drive_source run status ends other
+ends_source (Some forms.Run) run status ends other = steps_source by_threads run status ends other
+ends_source (Some Drive) run status ends other = steps_source by_schedule run status ends other
 ends_source (Some Check) run status ends other = check_source run status ends
 ends_source (Some form) run status ends other = unbuilt_source run.seen status ends
 
@@ -238,11 +240,11 @@ never_usage : (fault : OpenFault) → status_of fault ≡ Usage → ⊥
 never_usage fault = of_closed fault (λ x. x ≡ Usage → ⊥) (λ needed found no. cc (no)) (λ damage no. cc (no)) (λ no. cc (no)) (λ no. cc (no))
 
 -- The words alone decide whether they are no form.
-drive_never_usage : (run : Run) (status : Status) → DriveEnds run status → status ≡ Usage → ⊥
-drive_never_usage run status ends is = elim ends [
+steps_never_usage : (by : Manner) (run : Run) (status : Status) → StepsEnd by run status → status ≡ Usage → ⊥
+steps_never_usage by run status ends is = elim ends [
   | inl shut ↦ never_usage shut.0 (sym shut.1 ∙ is)
   | inr opened ↦ elim opened [
-    | inl away ↦ subst (λ (x : Status). NotScheduled away.k run.seen.source_before run.seen.source_after x) is away.why
+    | inl away ↦ subst (λ (x : Status). NotScheduled by.step_lines away.k run.seen.source_before run.seen.source_after x) is away.why
     | inr ran ↦ subst (λ (x : Status). RanEnds x run.seen.sink_before run.seen.sink_after run.seen.answered ran.0) is ran.2
   ]
 ]
@@ -266,7 +268,8 @@ ends_usage None run status ends = (λ is. refl, λ none. is_usage run.seen statu
 ends_usage (Some (Dry k)) run status ends = (λ is. absurd (subst (λ (x : Status). DryEnds k run.seen x) is ends), λ none. cc (none))
 ends_usage (Some (Create k pages log dcap icap)) run status ends =
     (λ is. absurd (subst (λ (x : Status). CreateEnds (first_fault k pages log dcap icap) (size_of pages log) run x) is ends), λ none. cc (none))
-ends_usage (Some Drive) run status ends = (λ is. absurd (drive_never_usage run status ends is), λ none. cc (none))
+ends_usage (Some forms.Run) run status ends = (λ is. absurd (steps_never_usage by_threads run status ends is), λ none. cc (none))
+ends_usage (Some Drive) run status ends = (λ is. absurd (steps_never_usage by_schedule run status ends is), λ none. cc (none))
 ends_usage (Some Check) run status ends = (λ is. absurd (check_never_usage run status ends is), λ none. cc (none))
 ends_usage (Some form) run status ends = (λ is. cc (is, is_unbuilt run.seen status ends), λ none. cc (none))
 
@@ -275,6 +278,7 @@ pub ends_unbuilt : (form : Option Form) (run : Run) (status : Status) → IsUnbu
 ends_unbuilt None run status unbuilt ends = absurd unbuilt
 ends_unbuilt (Some (Dry k)) run status unbuilt ends = absurd unbuilt
 ends_unbuilt (Some (Create k pages log dcap icap)) run status unbuilt ends = absurd unbuilt
+ends_unbuilt (Some forms.Run) run status unbuilt ends = absurd unbuilt
 ends_unbuilt (Some Drive) run status unbuilt ends = absurd unbuilt
 ends_unbuilt (Some Check) run status unbuilt ends = absurd unbuilt
 ends_unbuilt (Some form) run status unbuilt ends = is_unbuilt run.seen status ends

@@ -8,7 +8,7 @@ use Rattle.hb_restart.specs.declared.faults.OpenFault.{OpenFault}
 use Rattle.hb_restart.specs.declared.faults.OpenFault.TheVariants as faults
 use Rattle.hb_store.specs.Opening.{OpensTo}
 use Rattle.hbpi.specs.Codes.{status_of}
-use Rattle.hbpi.specs.Driven.{DriveEnds}
+use Rattle.hbpi.specs.Driven.{Manner, StepsEnd}
 use Rattle.hbpi.specs.Promises.{RefusesFile}
 use Rattle.hbpi.specs.SeenRuns.{Run}
 use Rattle.hbpi.specs.declared.statuses.Status.{Status}
@@ -53,8 +53,8 @@ opened_sound bytes status good opens = (
   λ fault that unwritten. absurd (never fault unwritten (good fault bytes opens.0 opens.1 opens.2 that)),
 )
 
-pub refuses_file : (run : Run) (status : Status) → GoodIsNotRefused → IsRefusedOnce → DriveEnds run status → RefusesFile run status
-refuses_file run status good once ends bytes told calm = elim ends [
+pub refuses_file : (by : Manner) (run : Run) (status : Status) → GoodIsNotRefused → IsRefusedOnce → StepsEnd by run status → RefusesFile run status
+refuses_file by run status good once ends bytes told calm = elim ends [
   | inl shut ↦
       let why = at_value run.before.told _ bytes told shut.2.why.why in
       let held : shut.0 ≡ faults.DiskFault → ⊥ = λ is. calm (shut.2.leaves.faults.cause is) in

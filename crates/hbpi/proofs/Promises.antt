@@ -1,5 +1,5 @@
--- The promise of `drive`, from how its run ends.
-use Rattle.std.proofs.Common.{◌≡◌, ◌⊎◌, inl, inr, ℕ, ◌+◌, ◌≤◌, List, [], ◌∷◌, All, Some, None, refl, sym, ap, subst, ◌∙◌, arith}
+-- The promise of `drive` and `run`, from how a run ends.
+use Rattle.std.proofs.Common.{◌≡◌, ◌⊎◌, inl, inr, Bool, ℕ, ◌+◌, ◌≤◌, List, [], ◌∷◌, All, Some, None, refl, sym, ap, subst, ◌∙◌, arith}
 use Rattle.std.proofs.lemmas.List.Elements.{All-nil, All-weaker}
 use Rattle.std.specs.List.{Contains}
 use Rattle.hb_core.specs.KeepingLaws.{BegunKeepsAll}
@@ -27,7 +27,7 @@ use Rattle.hb_store.specs.Opening.{IsEven, OpensTo, OpensToOne}
 use Rattle.hbpi.proofs.EndLaws.{of_closed}
 use Rattle.hbpi.proofs.Reopened.{no_line_yet, pages_of}
 use Rattle.hbpi.specs.Codes.{status_of}
-use Rattle.hbpi.specs.Driven.{DriveEnds, Drove, IsOpened, RanEnds}
+use Rattle.hbpi.specs.Driven.{Drove, IsOpened, Manner, RanEnds, StepsEnd}
 use Rattle.hbpi.specs.Drives.{LeavesLate, LeavesPrefixes}
 use Rattle.hbpi.specs.Promises.{AreOfText, IsHeld, KeepsPromise, StandsAt}
 use Rattle.hbpi.specs.Schedules.{IsScheduled, NotScheduled}
@@ -47,9 +47,9 @@ pub not_done : (fault : OpenFault) → status_of fault ≡ Done → ⊥
 not_done fault = of_closed fault (λ x. x ≡ Done → ⊥) (λ needed found is. cc (is)) (λ damage is. cc (is)) (λ is. cc (is)) (λ is. cc (is))
 
 -- where no command was done
-nothing_done : (s : FileState) (run : Run) (status : Status) → IsSound s → ((p : List ℕ) → IsPointOf s p → HasOnePage s p) → run.seen.answered ≡ [] → run.seen.order ≡ []
-    → (IsEven run.before s → Leaves run.before run.after (λ c. OpensTo c s)) → (run.before.clock + 2 ≤ run.after.clock → LeavesLate run.before run.after (λ c. OpensTo c s)) → (status ≡ Done → ⊥) → KeepsPromise s run status
-nothing_done s run status sound pages none_answered none_ordered leaves late undone =
+nothing_done : (step_lines : Bool) (s : FileState) (run : Run) (status : Status) → IsSound s → ((p : List ℕ) → IsPointOf s p → HasOnePage s p) → run.seen.answered ≡ [] → run.seen.order ≡ []
+    → (IsEven run.before s → Leaves run.before run.after (λ c. OpensTo c s)) → (run.before.clock + 2 ≤ run.after.clock → LeavesLate run.before run.after (λ c. OpensTo c s)) → (status ≡ Done → ⊥) → KeepsPromise step_lines s run status
+nothing_done step_lines s run status sound pages none_answered none_ordered leaves late undone =
     let P : List ℕ → Type 0 = IsPrefixImage (contents_of s) [] 0 in
     let weaker : (c : List ℕ) → OpensTo c s → P c = λ c opens. no_line_yet s [] c sound pages opens in
     record {
@@ -72,24 +72,24 @@ stands_here : (m : Machine) (a : Answered) (place : ℕ) → StandsAt m.order a 
 stands_here m a place stands = record { entry = stands.entry; there = stands.there; number_is = stands.number; reply_is = stands.reply }
 
 -- where the steps were taken, from this file on
-module _ (laws : PromiseLaws) (b : List ℕ) (run : Run) (status : Status) (after : Machine) (told : run.before.told ≡ Some b) (drove : Drove run after) (going : status ≡ Done → after.stop ≡ None) where
-  of_text : (s : FileState) → IsBegunOver drove.takes.before s → All (IsInSequence after) after.order → AreOfText s.meta.k run.seen after.order
+module _ (laws : PromiseLaws) (b : List ℕ) (by : Manner) (run : Run) (status : Status) (after : Machine) (told : run.before.told ≡ Some b) (drove : Drove by run after) (going : status ≡ Done → after.stop ≡ None) where
+  of_text : (s : FileState) → IsBegunOver drove.takes.before s → All (IsInSequence after) after.order → AreOfText by.step_lines s.meta.k run.seen after.order
   of_text s over placed =
       let takes = drove.takes in
       let k : drove.k ≡ s.meta.k = sym (ap (λ (m : Meta). m.k) over.meta ∙ takes.attributes) in
-      let lines : after.lines ≡ drove.lines = (laws.further drove.steps takes.before after takes.reached).lines ∙ takes.lines_are in
+      let lines : after.lines ≡ drove.lines = (laws.further drove.actors takes.before after takes.reached).lines ∙ takes.lines_are in
       record {
         lines = drove.lines;
         steps = drove.steps;
-        scheduled = subst (λ (n : ℕ). IsScheduled n run.seen.source_before.left run.seen.source_after.left drove.lines drove.steps) k drove.scheduled;
+        scheduled = subst (λ (n : ℕ). IsScheduled by.step_lines n run.seen.source_before.left run.seen.source_after.left drove.lines drove.steps) k drove.scheduled;
         among = All-weaker (IsInSequence after) (λ e. Contains drove.lines e.line) (λ e placed. subst (λ (ls : List Line). Contains ls e.line) lines placed.among) after.order placed;
       }
 
-  ran_promise : (s : FileState) → IsBegunOver drove.takes.before s → LeavesPrefixes s run.before run.after run.seen.answered after → KeepsPromise s run status
+  ran_promise : (s : FileState) → IsBegunOver drove.takes.before s → LeavesPrefixes s run.before run.after run.seen.answered after → KeepsPromise by.step_lines s run status
   ran_promise s over prefixes =
       let takes = drove.takes in
       let n = contents_of s in
-      let keeps = (laws.begun s drove.steps takes.before after over takes.actors takes.reached).1.keeps in
+      let keeps = (laws.begun s drove.actors takes.before after over takes.actors takes.reached).1.keeps in
       let came : run.seen.answered ≡ after.answered = takes.came.same (has_value run.before.told b told) in
       let R : Answered → Type 0 = λ a. StandsOutside a.reply ⊎ ((place : ℕ) × StandsAt after.order a place) in
       record {
@@ -106,11 +106,11 @@ module _ (laws : PromiseLaws) (b : List ℕ) (run : Run) (status : Status) (afte
         even = λ is. let even = prefixes.settled (going is) in (even.0, settled_count after, even.1, even.2, even.3);
       }
 
-  drove_promise : (s : FileState) → OpensTo b s → KeepsPromise s run status
+  drove_promise : (s : FileState) → OpensTo b s → KeepsPromise by.step_lines s run status
   drove_promise s opens =
       let here = at_value run.before.told _ b told drove.takes.told in
       let same : here.0 ≡ s = laws.one b here.0 s here.1 opens in
-      subst (λ (f : FileState). KeepsPromise f run status) same (ran_promise here.0 here.3 here.4)
+      subst (λ (f : FileState). KeepsPromise by.step_lines f run status) same (ran_promise here.0 here.3 here.4)
 
 -- over a file that was opened each image since the first sync opens to it
 opened_late : (k : ℕ) (d e : DiskModel) (b : List ℕ) (s : FileState) → IsOpened k d e → d.told ≡ Some b → OpensTo b s → LeavesLate d e (λ c. OpensTo c s)
@@ -120,24 +120,24 @@ shut_late : (d e : DiskModel) (b : List ℕ) (s : FileState) → d.told ≡ Some
     → ((b : List ℕ) → d.told ≡ Some b → (s : FileState) → OpensTo b s → d.clock + 2 ≤ e.clock → (c : List ℕ) → e.ImageSince (d.clock + 1) c → OpensTo c s) → d.clock + 2 ≤ e.clock → LeavesLate d e (λ c. OpensTo c s)
 shut_late d e b s told opens late later = record { since = d.clock + 1; soon = omega arith; each = late b told s opens later }
 
-pub keeps_promise : (laws : PromiseLaws) (run : Run) (status : Status) (b : List ℕ) (s : FileState) → run.before.told ≡ Some b → OpensTo b s → IsSound s → DriveEnds run status → KeepsPromise s run status
-keeps_promise laws run status b s told opens sound ends = elim ends [
+pub keeps_promise : (laws : PromiseLaws) (by : Manner) (run : Run) (status : Status) (b : List ℕ) (s : FileState) → run.before.told ≡ Some b → OpensTo b s → IsSound s → StepsEnd by run status → KeepsPromise by.step_lines s run status
+keeps_promise laws by run status b s told opens sound ends = elim ends [
   | inl shut ↦
       let out = shut.2 in
-      nothing_done s run status sound (pages_of laws.walks laws.alone s sound) out.refused.none_answered out.refused.none_ordered (out.leaves.even s)
+      nothing_done by.step_lines s run status sound (pages_of laws.walks laws.alone s sound) out.refused.none_answered out.refused.none_ordered (out.leaves.even s)
       (shut_late run.before run.after b s told opens (λ c is. at_value run.before.told _ c is out.leaves.late)) (λ is. not_done shut.0 (sym shut.1 ∙ is))
   | inr opened ↦ elim opened [
-    | inl away ↦ nothing_done s run status sound (pages_of laws.walks laws.alone s sound) away.refused.none_answered away.refused.none_ordered (away.opened.leaves.even s)
-        (λ later. opened_late away.k run.before run.after b s away.opened told opens) (λ is. subst (λ (x : Status). NotScheduled away.k run.seen.source_before run.seen.source_after x) is away.why)
-    | inr ran ↦ drove_promise laws b run status ran.0 told ran.1
+    | inl away ↦ nothing_done by.step_lines s run status sound (pages_of laws.walks laws.alone s sound) away.refused.none_answered away.refused.none_ordered (away.opened.leaves.even s)
+        (λ later. opened_late away.k run.before run.after b s away.opened told opens) (λ is. subst (λ (x : Status). NotScheduled by.step_lines away.k run.seen.source_before run.seen.source_after x) is away.why)
+    | inr ran ↦ drove_promise laws b by run status ran.0 told ran.1
         (λ is. (subst (λ (x : Status). RanEnds x run.seen.sink_before run.seen.sink_after run.seen.answered ran.0) is ran.2).2) s opens
   ]
 ]
 
 -- In the file after each step on the way, and in those that a crash may leave of it, each point has one page.
-pub files_have_one_page : (laws : PromiseLaws) (pages : PointsHaveOnePage) (run : Run) (after : Machine) (b : List ℕ) → run.before.told ≡ Some b → (drove : Drove run after) (front : List ℕ) (here : Machine) → All IsActor front → StepsInSequence front drove.takes.before here
+pub files_have_one_page : (laws : PromiseLaws) (pages : PointsHaveOnePage) (by : Manner) (run : Run) (after : Machine) (b : List ℕ) → run.before.told ≡ Some b → (drove : Drove by run after) (front : List ℕ) (here : Machine) → All IsActor front → StepsInSequence front drove.takes.before here
     → (files : Files) × (here.files ≡ Some files) × ((s : FileState) (p : List ℕ) → Contains (files.durable ∷ files.later) s → IsPointOf s p → HasOnePage s p)
-files_have_one_page laws pages run after b told drove front here may reached =
+files_have_one_page laws pages by run after b told drove front here may reached =
     let takes = drove.takes in
     let opened = at_value run.before.told _ b told takes.told in
     let kept = laws.begun opened.0 front takes.before here opened.3 may reached in

@@ -1,16 +1,16 @@
 -- What is said of the steps of a store that was just opened, seen from before the opening.
-use Rattle.std.proofs.Common.{inl, inr, ℕ, ◌+◌, ◌≤◌, List, [], Option, None, IsSome, IfSome, refl, sym, subst, arith}
+use Rattle.std.proofs.Common.{ℕ, ◌+◌, ◌≤◌, List, [], Option, None, IsSome, IfSome, refl, subst, arith}
 use Rattle.hb_core.specs.Laws.{HasOnePage}
 use Rattle.hb_core.specs.Machines.{Machine}
 use Rattle.hb_core.specs.Runs.{CountsFaults, IsPrefixImage}
 use Rattle.hb_core.specs.SteppingLaws.{IsBegunOver}
 use Rattle.hb_disk.proofs.Facts.RunLaws.{Leaves-then, Leaves-weaker}
-use Rattle.hb_disk.specs.Model.{DiskModel, IsDisk}
+use Rattle.hb_disk.specs.Model.{DiskModel}
 use Rattle.hb_lemmas.proofs.Options.{at_value, has_value, if_value, some_value}
 use Rattle.hb_ops.specs.Files.{FileState, contents_of}
 use Rattle.hb_ops.specs.Sound.{IsSound}
 use Rattle.hb_outside.specs.Streams.{Rose}
-use Rattle.hb_restart.specs.Leaving.{LeavesOpening, OpensStore, RunsThrough}
+use Rattle.hb_restart.specs.Leaving.{OpensStore, RunsThrough}
 use Rattle.hb_set.specs.Order.{Entry}
 use Rattle.hb_set.specs.declared.scripts.Answered.{Answered}
 use Rattle.hb_set.specs.declared.scripts.Line.{Line}
@@ -20,12 +20,8 @@ use Rattle.hb_store.specs.Opening.{IsEven, OpensTo, OpensToOne}
 use Rattle.hb_store.specs.Keeps.{StoreKeeps}
 use Rattle.hb_store.specs.States.{StoreState}
 use Rattle.hb_store.specs.declared.stops.StopWhy.{StopWhy}
-use Rattle.hbpi.proofs.Opened.{IsOpening, from_before, is_opening, late_before, silent_behind, tells_behind}
-use Rattle.hbpi.proofs.StepsTaken.{StoreEnds}
-use Rattle.hbpi.specs.Driven.{DriveEnds, Drove, IsOpened}
+use Rattle.hbpi.proofs.Opened.{IsOpening, from_before, late_before, silent_behind, tells_behind}
 use Rattle.hbpi.specs.Drives.{LeavesPrefixes, TakesSteps}
-use Rattle.hbpi.specs.SeenRuns.{Seen, run_of}
-use Rattle.hbpi.specs.declared.statuses.Status.{Status}
 
 -- in a sound file each point has one page
 pub pages_of : RootHasWalks → NoPointIsHeldTwice → (s : FileState) → IsSound s → (p : List ℕ) → IsPointOf s p → HasOnePage s p
@@ -82,31 +78,9 @@ takes_before d m e k lines steps answered order after walks alone one opening ta
   silent = λ none. takes.silent (silent_behind d m opening none);
 }
 
-pub drove_before : (d m e : DiskModel) (seen : Seen) (after : Machine) → RootHasWalks → NoPointIsHeldTwice → OpensToOne → IsOpening d m → Drove (run_of seen m e) after → Drove (run_of seen d e) after
-drove_before d m e seen after walks alone one opening drove = record {
-  k = drove.k;
-  lines = drove.lines;
-  steps = drove.steps;
-  scheduled = drove.scheduled;
-  source = drove.source;
-  takes = takes_before d m e drove.k drove.lines drove.steps seen.answered seen.order after walks alone one opening drove.takes;
-}
-
 -- what the store keeps that was opened
 pub kept_of : (d m : DiskModel) (store : StoreState) (count : ℕ) → OpensStore d m store count → RunsThrough store.meta.high d m → IfSome m.told (λ b. (s : FileState) × IsSound s × StoreKeeps m store s [])
 kept_of d m store count opens through = if_value m.told _ (λ b is.
     let from = some_value d.told (through.silent (has_value m.told b is)) in
     let found = at_value d.told _ from.0 from.1 opens.file in
     (found.0, found.2, found.4))
-
-pub ends_before : {X : Type 0} (M : X → DiskModel) (d : DiskModel) (first last : X) (store : StoreState) (count : ℕ) (seen : Seen) (status : Status) → RootHasWalks → NoPointIsHeldTwice → OpensToOne → IsDisk (M first)
-    → OpensStore d (M first) store count → RunsThrough store.meta.high d (M first) → LeavesOpening ⊥ d (M first) → StoreEnds M first last store.meta.k seen status → DriveEnds (run_of seen d (M last)) status
-ends_before {X = X} M d first last store count seen status walks alone one disk opens through leaves ends = elim ends [
-  | inl away ↦ inr (inl (record {
-    k = store.meta.k;
-    opened = subst (λ (x : X). IsOpened store.meta.k d (M x)) (sym away.0) (record { store = store; count = count; attributes = refl; opens = opens; through = through; leaves = leaves });
-    refused = away.1;
-    why = away.2;
-  }))
-  | inr ran ↦ inr (inr (ran.0, drove_before d (M first) (M last) seen ran.0 walks alone one (is_opening d (M first) store count disk opens through leaves) ran.1, ran.2))
-]

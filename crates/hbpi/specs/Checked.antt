@@ -13,7 +13,6 @@ use Rattle.hbpi.specs.Driven.{IsShutOut}
 use Rattle.hbpi.specs.Saying.{IsSaid}
 use Rattle.hbpi.specs.SeenRuns.{IsUnread, Run}
 use Rattle.hbpi.specs.declared.statuses.Status.{Status}
-use Rattle.hbpi.specs.declared.statuses.Status.TheVariants.{Done}
 
 -- the line of a sound file: its height, its pages in use, and its records
 abbrev pub sound_text : Meta → ℕ → List ℕ

@@ -1,7 +1,11 @@
--- What a run of `drive` leaves, by its status.
-use Rattle.std.specs.Prelude.{◌≡◌, ◌⊎◌, ℕ, List, None, Some}
+-- What a run of `drive` or `run` leaves, by its status.
+use Rattle.std.specs.Prelude.{◌≡◌, ◌⊎◌, ℕ, ◌+◌, Bool, true, false, List, None, Some, count_by}
+use Rattle.hb_activity.specs.Queue.{is_of}
+use Rattle.hb_activity.specs.declared.jobs.JobKind.{JobKind}
+use Rattle.hb_activity.specs.declared.jobs.JobKind.TheVariants.{Post, Merge}
 use Rattle.hb_core.specs.Machines.{Machine}
-use Rattle.hb_core.specs.Runs.{HasReadFault}
+use Rattle.hb_core.specs.Runs.{HasReadFault, left_count}
+use Rattle.hb_core.specs.Taking.{jobs_in_work, worker_for}
 use Rattle.hb_disk.specs.Calls.{OnlyReads}
 use Rattle.hb_disk.specs.Model.{DiskModel}
 use Rattle.hb_drive.specs.Driving.{run_text}
@@ -41,21 +45,47 @@ pub record IsOpened (k : ℕ) (old new : DiskModel) : Type 0 where
   pub through : RunsThrough store.meta.high old new
   pub leaves : LeavesOpening ⊥ old new
 
--- The file was opened, and no command was done: no schedule was read of the text, or memory was refused.
-pub record IsTurnedAway (run : Run) (status : Status) : Type 0 where
+-- how many jobs of a kind wait or are in work
+abbrev pub jobs_of : JobKind → Machine → ℕ
+jobs_of kind m = count_by (is_of kind) m.jobs + jobs_in_work (m.activity (worker_for kind))
+
+-- Nothing is left to do: each line has an answer, and no job of either kind waits or is in work.
+pub record HasNothingLeft (m : Machine) : Type 0 where
+  pub answered : left_count m ≡ 0
+  pub posted : jobs_of Post m ≡ 0
+  pub merged : jobs_of Merge m ≡ 0
+
+-- How a run takes its steps: whether its text may have step lines, and what ties these to the actors whose steps were taken and to the
+-- machine that was come to.
+pub record Manner : Type 1 where
+  pub step_lines : Bool
+  pub goes : List ℕ → List ℕ → Machine → Type 0
+
+-- by exactly the steps of the text
+abbrev pub by_schedule : Manner
+by_schedule = record { step_lines = true; goes = λ steps actors after. actors ≡ steps }
+
+-- by threads, in whichever sequence, until nothing is left unless they were stopped
+abbrev pub by_threads : Manner
+by_threads = record { step_lines = false; goes = λ steps actors after. after.stop ≡ None → HasNothingLeft after }
+
+-- The file was opened, and no command was done: no script was read of the text, or memory was refused.
+pub record IsTurnedAway (step_lines : Bool) (run : Run) (status : Status) : Type 0 where
   pub k : ℕ
   pub opened : IsOpened k run.before run.after
   pub refused : IsRefused run.seen status
-  pub why : NotScheduled k run.seen.source_before run.seen.source_after status
+  pub why : NotScheduled step_lines k run.seen.source_before run.seen.source_after status
 
--- the steps of the text were taken, which was read whole
-pub record Drove (run : Run) (after : Machine) : Type 0 where
+-- the text was read whole, and steps were taken in this manner
+pub record Drove (by : Manner) (run : Run) (after : Machine) : Type 0 where
   pub k : ℕ
   pub lines : List Line
   pub steps : List ℕ
-  pub scheduled : IsScheduled k run.seen.source_before.left run.seen.source_after.left lines steps
+  pub scheduled : IsScheduled by.step_lines k run.seen.source_before.left run.seen.source_after.left lines steps
   pub source : run.seen.source_after.faults ≡ run.seen.source_before.faults
-  pub takes : TakesSteps run.before run.after k lines steps run.seen.answered run.seen.order after
+  pub actors : List ℕ
+  pub takes : TakesSteps run.before run.after k lines actors run.seen.answered run.seen.order after
+  pub goes : by.goes steps actors after
 
 -- the whole text of the run, and behind it the fault line of the status, or a front of that
 pub record GetsOutput (before after : SinkModel) (text : List ℕ) (status : Status) : Type 0 where
@@ -79,9 +109,9 @@ RanEnds (BadLayout field value) before after answered m = ⊥
 RanEnds (Small needed found) before after answered m = ⊥
 RanEnds NotBuilt before after answered m = ⊥
 
--- How a run of `drive` ends: its file wasn't opened; or the text wasn't taken; or its steps were.
-abbrev pub DriveEnds : Run → Status → Type 0
-DriveEnds run status =
+-- How a run of `drive` or `run` ends: its file wasn't opened; or the text wasn't taken; or steps were.
+abbrev pub StepsEnd : Manner → Run → Status → Type 0
+StepsEnd by run status =
     ((fault : OpenFault) × (status ≡ status_of fault) × IsShutOut run fault)
-    ⊎ IsTurnedAway run status
-    ⊎ ((after : Machine) × Drove run after × RanEnds status run.seen.sink_before run.seen.sink_after run.seen.answered after)
+    ⊎ IsTurnedAway by.step_lines run status
+    ⊎ ((after : Machine) × Drove by run after × RanEnds status run.seen.sink_before run.seen.sink_after run.seen.answered after)

@@ -1,4 +1,4 @@
--- What the steps of a run of `drive` come to.
+-- What the steps of a run over a file come to.
 use Rattle.std.specs.Prelude.{◌≡◌, ℕ, ◌+◌, ◌≤◌, List, map, take, All, None, IfSome}
 use Rattle.hb_core.specs.Machines.{Machine, settled_count}
 use Rattle.hb_core.specs.Runs.{AreAnswers, CountsFaults, HoldsSince, IsPrefixImage}

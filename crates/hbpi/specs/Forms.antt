@@ -1,5 +1,5 @@
 -- The words of the program.
-use Rattle.std.specs.Prelude.{ℕ, ◌&&◌, nat_le, if◌then◌else◌, List, [], ◌∷◌, codes, Option, Some, None}
+use Rattle.std.specs.Prelude.{ℕ, Bool, true, false, ◌&&◌, nat_le, if◌then◌else◌, List, [], ◌∷◌, codes, Option, Some, None}
 use Rattle.std.specs.Str.{bytes_eq}
 use Rattle.std.specs.Result.{result_ok}
 use Rattle.hb_space.specs.declared.form.TheConstants.{KMAX}
@@ -82,11 +82,19 @@ unfoldable pub form_of : List (List ℕ) → Option Form
 form_of [] = None
 form_of (first ∷ words) = form_from first words
 
+-- a form that threads work off, so that whoever calls may wait for them
+abbrev pub is_threaded : Option Form → Bool
+is_threaded None = false
+is_threaded (Some Run) = true
+is_threaded (Some (Work x n)) = true
+is_threaded (Some form) = false
+
 -- a form whose command isn't built yet
 abbrev pub IsUnbuilt : Option Form → Type 0
 IsUnbuilt None = ⊥
 IsUnbuilt (Some (Dry k)) = ⊥
 IsUnbuilt (Some (Create k pages log dcap icap)) = ⊥
+IsUnbuilt (Some Run) = ⊥
 IsUnbuilt (Some Drive) = ⊥
 IsUnbuilt (Some Check) = ⊥
 IsUnbuilt (Some form) = Unit {0}

@@ -11,6 +11,7 @@ pub mod DryParts
 pub mod Schedules
 pub mod Drives
 pub mod Driven
+pub mod Starts
 pub mod Checked
 pub mod Runs
 pub mod Promises

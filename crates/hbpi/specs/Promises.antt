@@ -1,5 +1,5 @@
--- What follows of how a run of `drive` ends: the statements of lemmas.
-use Rattle.std.specs.Prelude.{◌≡◌, ◌⊎◌, ℕ, ◌+◌, ◌≤◌, true, List, [], map, take, All, Some, Result, Ok, Err}
+-- What follows of how a run of `drive` or `run` ends: the statements of lemmas.
+use Rattle.std.specs.Prelude.{◌≡◌, ◌⊎◌, ℕ, ◌+◌, ◌≤◌, Bool, false, IsTrue, List, [], map, take, All, Some, Result, Ok, Err}
 use Rattle.std.specs.List.{Contains, slice_get}
 use Rattle.hb_core.specs.KeptOrder.{StandsOutside}
 use Rattle.hb_core.specs.Runs.{IsPrefixImage}
@@ -8,6 +8,7 @@ use Rattle.hb_disk.specs.Model.{DiskModel}
 use Rattle.hb_ops.specs.Files.{FileState, contents_of}
 use Rattle.hb_ops.specs.Sound.{IsSound}
 use Rattle.hb_outside.specs.Streams.{Rose}
+use Rattle.hb_point.specs.SessionRows.{is_answered}
 use Rattle.hb_restart.specs.Refusals.{IsUnwritten, RefusesBytes}
 use Rattle.hb_restart.specs.declared.faults.OpenFault.{OpenFault}
 use Rattle.hb_set.specs.Machine.{RecordSet}
@@ -36,10 +37,10 @@ abbrev pub IsHeld : DiskModel → RecordSet → List Entry → Answered → Type
 IsHeld e n order a = (place : ℕ) → StandsAt order a place → (c : List ℕ) → e.ImageSince a.at c → IsPrefixImage n order (place + 1) c
 
 -- some lines of the text, which was read whole
-pub record AreOfText (k : ℕ) (seen : Seen) (order : List Entry) : Type 0 where
+pub record AreOfText (step_lines : Bool) (k : ℕ) (seen : Seen) (order : List Entry) : Type 0 where
   pub lines : List Line
   pub steps : List ℕ
-  pub scheduled : IsScheduled k seen.source_before.left seen.source_after.left lines steps
+  pub scheduled : IsScheduled step_lines k seen.source_before.left seen.source_after.left lines steps
   pub among : All (λ e. Contains lines e.line) order
 
 -- The promise over a disk that tells and opens to a sound file. There is one order of lines of the text that took effect: its numbers
@@ -47,10 +48,10 @@ pub record AreOfText (k : ℕ) (seen : Seen) (order : List Entry) : Type 0 where
 -- stands in it with its reply, or outside of it. Every image since an answer has a prefix that holds it; every image since the run
 -- began has a prefix, where every image opened to the file then; and over any other disk every image since the first sync succeeded:
 -- a second tick of the clock comes only after that. When the run is done every image opens to one file, which has a prefix.
-pub record KeepsPromise (s : FileState) (run : Run) (status : Status) : Type 0 where
+pub record KeepsPromise (step_lines : Bool) (s : FileState) (run : Run) (status : Status) : Type 0 where
   pub order : List Entry
   pub numbers : run.seen.order ≡ map (λ e. e.line.number) order
-  pub said : (order ≡ []) ⊎ AreOfText s.meta.k run.seen order
+  pub said : (order ≡ []) ⊎ AreOfText step_lines s.meta.k run.seen order
   pub legal : IsLegalOrder (contents_of s) order
   pub replied : All (λ a. StandsOutside a.reply ⊎ ((place : ℕ) × StandsAt order a place)) run.seen.answered
   pub held : All (IsHeld run.after (contents_of s) order) run.seen.answered
@@ -68,18 +69,26 @@ pub record IsCalm (s : FileState) (left : List ℕ) (run : Run) : Type 0 where
   pub source : ¬ (Rose run.seen.source_before.faults run.seen.source_after.faults)
   pub disk : ¬ (HasFailed run)
 
--- what `drive` answers to a text, but for want of memory: that it is done, unless the sink failed, or why not
+-- what is answered to a text, but for want of memory: that it is done, unless the sink failed, or why not
 abbrev pub GivesFor : Seen → Status → Result Reading BadLine → Type 0
 GivesFor seen status (Ok reading) = ¬ (Rose seen.sink_before.faults seen.sink_after.faults) → (status ≡ Done) ⊎ (status ≡ NoMemory)
 GivesFor seen status (Err bad) = (status ≡ BadText bad) ⊎ (status ≡ NoMemory)
 
-abbrev pub IsDriven : Run → Status → Type 0
-IsDriven run status = (s : FileState) (left : List ℕ) → IsCalm s left run → GivesFor run.seen status (text_read true s.meta.k left)
+abbrev pub IsDriven : Bool → Run → Status → Type 0
+IsDriven step_lines run status = (s : FileState) (left : List ℕ) → IsCalm s left run → GivesFor run.seen status (text_read step_lines s.meta.k left)
 
--- The line and the rule that `drive` names are the first bad line of all that the source had left, by the attributes of
+-- Each line of a text without step lines, which was read whole, has an answer.
+pub record AnswersAll (run : Run) : Type 0 where
+  pub k : ℕ
+  pub lines : List Line
+  pub steps : List ℕ
+  pub scheduled : IsScheduled false k run.seen.source_before.left run.seen.source_after.left lines steps
+  pub each : All (λ (l : Line). IsTrue (is_answered l.number run.seen.answered)) lines
+
+-- The line and the rule that are named are the first bad line of all that the source had left, by the attributes of
 -- the file that the disk opens to, and its first rule.
-abbrev pub NamesScheduleLine : Run → Status → Type 0
-NamesScheduleLine run status = (bytes : List ℕ) (s : FileState) (left : List ℕ) (bad : BadLine) → run.before.told ≡ Some bytes → OpensTo bytes s → run.seen.source_before.left ≡ Some left → status ≡ BadText bad → text_read true s.meta.k left ≡ Err bad
+abbrev pub NamesScheduleLine : Bool → Run → Status → Type 0
+NamesScheduleLine step_lines run status = (bytes : List ℕ) (s : FileState) (left : List ℕ) (bad : BadLine) → run.before.told ≡ Some bytes → OpensTo bytes s → run.seen.source_before.left ≡ Some left → status ≡ BadText bad → text_read step_lines s.meta.k left ≡ Err bad
 
 -- Where no call of a disk that tells failed: bytes that open to no sound file are refused, by a refusal that is true of
 -- them; and a refusal that is true of them is the one that is answered. Memory may be refused in their place.

@@ -5,12 +5,13 @@ use Rattle.hb_restart.specs.Layouts.{first_fault, size_of}
 use Rattle.hb_restart.specs.NewFiles.{new_file}
 use Rattle.hb_store.specs.Opening.{IsEven}
 use Rattle.hbpi.specs.Checked.{CheckEnds}
-use Rattle.hbpi.specs.Driven.{DriveEnds}
+use Rattle.hbpi.specs.Driven.{StepsEnd, by_schedule, by_threads}
 use Rattle.hbpi.specs.Ends.{DryEnds, UsageEnds, UnbuiltEnds}
 use Rattle.hbpi.specs.MadeEnds.{CreateEnds, HasMade}
 use Rattle.hbpi.specs.SeenRuns.{Run}
 use Rattle.hbpi.specs.declared.forms.Form.{Form}
 use Rattle.hbpi.specs.declared.forms.Form.TheVariants.{Check, Create, Dry, Drive}
+use Rattle.hbpi.specs.declared.forms.Form.TheVariants as forms
 use Rattle.hbpi.specs.declared.statuses.Status.{Status}
 use Rattle.hbpi.specs.declared.statuses.Status.TheVariants.{SourceFault}
 
@@ -19,7 +20,8 @@ abbrev pub RunEnds : Option Form → Run → Status → Type 0
 RunEnds None run status = UsageEnds run.seen status
 RunEnds (Some (Dry k)) run status = DryEnds k run.seen status
 RunEnds (Some (Create k pages log dcap icap)) run status = CreateEnds (first_fault k pages log dcap icap) (size_of pages log) run status
-RunEnds (Some Drive) run status = DriveEnds run status
+RunEnds (Some forms.Run) run status = StepsEnd by_threads run status
+RunEnds (Some Drive) run status = StepsEnd by_schedule run status
 RunEnds (Some Check) run status = CheckEnds run status
 RunEnds (Some form) run status = UnbuiltEnds run.seen status
 
@@ -33,6 +35,7 @@ LeavesFile _ run status = Unit {0}
 -- leave the whole disk as it was.)
 abbrev pub LeavesBeyond : Option Form → Run → Type 0
 LeavesBeyond (Some (Create k pages log dcap icap)) run = KeepsBeyond (size_of pages log) run.before run.after
+LeavesBeyond (Some forms.Run) run = KeepsBeyondFile run.before run.after
 LeavesBeyond (Some Drive) run = KeepsBeyondFile run.before run.after
 LeavesBeyond (Some Check) run = KeepsBeyondFile run.before run.after
 LeavesBeyond _ run = Unit {0}

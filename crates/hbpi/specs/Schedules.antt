@@ -1,5 +1,5 @@
--- Which texts are a schedule.
-use Rattle.std.specs.Prelude.{◌≡◌, ℕ, ◌≤◌, true, List, All, Option, Ok, Err}
+-- Which texts are a script, with step lines or without.
+use Rattle.std.specs.Prelude.{◌≡◌, ℕ, ◌≤◌, Bool, List, All, Option, Ok, Err}
 use Rattle.hb_core.specs.KeptLines.{HasLineBody}
 use Rattle.hb_outside.specs.Calls.{SourceModel}
 use Rattle.hb_outside.specs.Streams.{Rose}
@@ -13,11 +13,11 @@ use Rattle.hbpi.specs.Outcome.{IsTextOf, IsWholeText}
 use Rattle.hbpi.specs.declared.statuses.Status.{Status}
 use Rattle.hbpi.specs.declared.statuses.Status.TheVariants.{Done, Usage, BadText, SourceFault, SinkFault, DiskFault, Damaged, NoMemory, BadLayout, Small, NotBuilt}
 
--- the text was read whole, and says these lines over k attributes and these steps
-pub record IsScheduled (k : ℕ) (left rest : Option (List ℕ)) (lines : List Line) (steps : List ℕ) : Type 0 where
+-- the text was read whole, and says these lines over k attributes and these steps; it may have step lines or not
+pub record IsScheduled (step_lines : Bool) (k : ℕ) (left rest : Option (List ℕ)) (lines : List Line) (steps : List ℕ) : Type 0 where
   pub text : List ℕ
   pub whole : IsWholeText left rest text
-  pub says : text_read true k text ≡ Ok (record { lines = lines; steps = steps })
+  pub says : text_read step_lines k text ≡ Ok (record { lines = lines; steps = steps })
 
 -- the box of a search is one
 abbrev pub SearchesBox : Command → Type 0
@@ -36,16 +36,16 @@ pub record IsScript (k : ℕ) (lines : List Line) (steps : List ℕ) : Type 0 wh
   pub boxes : All HasLineBox lines
   pub actors : All (λ actor. (1 ≤ actor) × (actor ≤ 19)) steps
 
--- why no schedule was read of a text over k attributes
-abbrev pub NotScheduled : ℕ → SourceModel → SourceModel → Status → Type 0
-NotScheduled k before after (BadText bad) = (text : List ℕ) × IsTextOf before.left after.left text × (text_read true k text ≡ Err bad) × (after.faults ≡ before.faults)
-NotScheduled k before after SourceFault = Rose before.faults after.faults
-NotScheduled k before after NoMemory = after.faults ≡ before.faults
-NotScheduled k before after Done = ⊥
-NotScheduled k before after SinkFault = ⊥
-NotScheduled k before after DiskFault = ⊥
-NotScheduled k before after Usage = ⊥
-NotScheduled k before after (Damaged damage) = ⊥
-NotScheduled k before after (Small needed found) = ⊥
-NotScheduled k before after (BadLayout field value) = ⊥
-NotScheduled k before after NotBuilt = ⊥
+-- why no script was read of a text over k attributes
+abbrev pub NotScheduled : Bool → ℕ → SourceModel → SourceModel → Status → Type 0
+NotScheduled step_lines k before after (BadText bad) = (text : List ℕ) × IsTextOf before.left after.left text × (text_read step_lines k text ≡ Err bad) × (after.faults ≡ before.faults)
+NotScheduled step_lines k before after SourceFault = Rose before.faults after.faults
+NotScheduled step_lines k before after NoMemory = after.faults ≡ before.faults
+NotScheduled step_lines k before after Done = ⊥
+NotScheduled step_lines k before after SinkFault = ⊥
+NotScheduled step_lines k before after DiskFault = ⊥
+NotScheduled step_lines k before after Usage = ⊥
+NotScheduled step_lines k before after (Damaged damage) = ⊥
+NotScheduled step_lines k before after (Small needed found) = ⊥
+NotScheduled step_lines k before after (BadLayout field value) = ⊥
+NotScheduled step_lines k before after NotBuilt = ⊥

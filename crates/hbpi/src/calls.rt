@@ -12,8 +12,11 @@ use crate::trouble::{Told, Trouble};
 use hb_disk::{Disk, MemDisk};
 use hb_outside::{ReadSource, Sink, WriteSink};
 use hb_restart::Layout;
+use hb_run::FreeGate;
 use std::alloc::Global;
 use std::io::{BufWriter, Read, Write};
+use std::sync::Wait;
+use std::thread::Threads;
 use std::{env, io, rt};
 
 /// A call of the program.
@@ -115,8 +118,14 @@ fn told_of(status: Status, trouble: Option<Trouble>) -> Option<Told> {
 }
 
 /// Runs the program over these streams and a disk, which is given back with the status.
-fn run_over<I: Read + Drop, O: Write + Drop, D: Disk + Drop>(
+fn run_over<
+    R: Threads + Wait + Sync,
+    I: Read + Drop,
+    O: Write + Drop + Send,
+    D: Disk + Drop + Send,
+>(
     alloc: Global,
+    threads: &R,
     words: &[String],
     input: I,
     sink: WriteSink<BufWriter<O>>,
@@ -128,7 +137,7 @@ fn run_over<I: Read + Drop, O: Write + Drop, D: Disk + Drop>(
         sink,
         disk,
         ..
-    } = top(alloc, words, &mut source, sink, disk);
+    } = top(threads, alloc, words, &mut source, sink, disk, &FreeGate);
     (end_output(sink, status), disk)
 }
 
@@ -141,13 +150,26 @@ fn refuse_file<O: Write + Drop>(mut sink: WriteSink<BufWriter<O>>, trouble: Trou
     }
 }
 
+/// Room for output that is held back.
+const HELD: usize = 8192;
+
+/// How much output is held back: none where threads run, so that a reply is told before they wait.
+fn room_for(words: &[String]) -> usize {
+    if Form::is_threaded(Form::of_words(words)) {
+        0
+    } else {
+        HELD
+    }
+}
+
 /// Room for the output of a `create`, which is one line.
 const LINE: usize = 64;
 
 /// Runs `create` over a new file, which gets its name once it is whole and synced. The output is held back until then. The
 /// file is locked until this returns.
-fn run_new<I: Read + Drop, O: Write + Drop>(
+fn run_new<R: Threads + Wait + Sync, I: Read + Drop, O: Write + Drop + Send>(
     rt: &HostRuntime,
+    threads: &R,
     call: &Call,
     input: I,
     mut sink: WriteSink<BufWriter<O>>,
@@ -159,12 +181,21 @@ fn run_new<I: Read + Drop, O: Write + Drop>(
         Err(trouble) => return Ok(refuse_file(sink, trouble)),
     };
     let mut source = ReadSource::new(input);
+    let words = call.words.as_slice();
     let Finished {
         status,
         sink: held,
         disk,
         ..
-    } = top(rt.alloc(), call.words.as_slice(), &mut source, held, disk);
+    } = top(
+        threads,
+        rt.alloc(),
+        words,
+        &mut source,
+        held,
+        disk,
+        &FreeGate,
+    );
     match status {
         Status::Done => {
             if let Err(trouble) = file.name(rt, call.name()) {
@@ -184,8 +215,9 @@ fn run_new<I: Read + Drop, O: Write + Drop>(
 }
 
 /// Runs the program over a file that is there.
-fn run_there<I: Read + Drop, O: Write + Drop>(
+fn run_there<R: Threads + Wait + Sync, I: Read + Drop, O: Write + Drop + Send>(
     rt: &HostRuntime,
+    threads: &R,
     call: &Call,
     input: I,
     sink: WriteSink<BufWriter<O>>,
@@ -193,7 +225,7 @@ fn run_there<I: Read + Drop, O: Write + Drop>(
     match open_file(rt, call.name()) {
         Ok(disk) => {
             let words = call.words.as_slice();
-            let (status, disk) = run_over(rt.alloc(), words, input, sink, disk);
+            let (status, disk) = run_over(rt.alloc(), threads, words, input, sink, disk);
             Ended {
                 status,
                 told: told_of(status, disk.trouble()),
@@ -204,37 +236,40 @@ fn run_there<I: Read + Drop, O: Write + Drop>(
 }
 
 /// Runs the program over the file of the call, with the text from `input` and the output to `output`, and says how it
-/// ended. The output is buffered, and flushed at the end. A file that can't be had is `DiskFault`.
+/// ended. The second handle is for its threads. The output is buffered, and flushed at the end; but where threads run, each reply is written in the turn that gives it.
+/// A file that can't be had is `DiskFault`.
 ///
 /// Errors: where memory is refused for the output's buffer. No file was made or opened then, and nothing was written.
-pub fn run<I: Read + Drop, O: Write + Drop>(
+pub fn run<R: Threads + Wait + Sync, I: Read + Drop, O: Write + Drop + Send>(
     rt: &HostRuntime,
+    threads: &R,
     call: &Call,
     input: I,
     output: O,
 ) -> io::Result<Ended> {
     let alloc = rt.alloc();
-    let sink = WriteSink::new(BufWriter::new(alloc, output)?);
+    let room = room_for(call.words.as_slice());
+    let sink = WriteSink::new(BufWriter::with_capacity(alloc, room, output)?);
     match place_of(call) {
         Place::Memory => {
             let disk = MemDisk::new(alloc, Vec::new(alloc));
             let words = call.words.as_slice();
-            let (status, _disk) = run_over(alloc, words, input, sink, disk);
+            let (status, _disk) = run_over(alloc, threads, words, input, sink, disk);
             Ok(Ended {
                 status,
                 told: told_of(status, None),
             })
         }
-        Place::New(size) => run_new(rt, call, input, sink, size),
-        Place::There => Ok(run_there(rt, call, input, sink)),
+        Place::New(size) => run_new(rt, threads, call, input, sink, size),
+        Place::There => Ok(run_there(rt, threads, call, input, sink)),
     }
 }
 
 /// The call of this process, over its standard streams. What kept it from its file is told on the standard error, where
 /// that can be written.
-fn run_call(rt: &HostRuntime) -> io::Result<Status> {
+fn run_call<R: Threads + Wait + Sync>(rt: &HostRuntime, threads: &R) -> io::Result<Status> {
     let call = call_of(rt)?;
-    let ended = run(rt, &call, rt.reader(), io::writer(rt))?;
+    let ended = run(rt, threads, &call, rt.reader(), io::writer(rt))?;
     if let Some(told) = ended.told {
         let name = call.name();
         let _unheard = eprintln!(rt; "hbpi: {name:?}: {told}");
@@ -248,9 +283,10 @@ fn refuse(rt: &HostRuntime, status: Status) -> Status {
     status
 }
 
-/// Runs the program as this process was called, over its standard streams, and gives the status to end with.
-pub fn run_process(rt: &HostRuntime) -> Status {
-    match run_call(rt) {
+/// Runs the program as this process was called, over its standard streams, and gives the status to end with. The second handle
+/// is for its threads.
+pub fn run_process<R: Threads + Wait + Sync>(rt: &HostRuntime, threads: &R) -> Status {
+    match run_call(rt, threads) {
         Ok(status) => status,
         // A word that isn't UTF-8 is no word of a form.
         Err(error) if error.kind() == io::ErrorKind::InvalidData => refuse(rt, Status::Usage),

@@ -1,5 +1,5 @@
 ghost use Rattle.std.specs.Prelude.{◌≡◌, ℕ, ◌<◌, ◌≤◌, Some, map, string_bytes};
-ghost use Rattle.hbpi.specs.Forms.{number_said, attributes_of, line_count_of, create_of, dry_of, gen_of, work_of, alone, form_from, form_of};
+ghost use Rattle.hbpi.specs.Forms.{number_said, attributes_of, line_count_of, create_of, dry_of, gen_of, work_of, alone, form_from, form_of, is_threaded};
 
 use hb_space::form::KMAX;
 use hb_text::read_number;
@@ -165,5 +165,12 @@ impl Form {
         ensures attributes { (k : ℕ) → result ≡ Some (Form.Dry k) → (0 < k) × (k ≤ KMAX) }
     {
         read_words(words)
+    }
+
+    /// Whether threads work it off.
+    pub fn is_threaded(form: Option<Form>) -> bool
+        ensures { result ≡ is_threaded form }
+    {
+        matches!(form, Some(Form::Run | Form::Work { .. }))
     }
 }

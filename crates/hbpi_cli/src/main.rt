@@ -6,5 +6,5 @@
 use std::process::ExitCode;
 
 fn main(rt: HostRuntime) -> ExitCode {
-    ExitCode::from(hbpi::run_process(&rt).code())
+    ExitCode::from(hbpi::run_process(&rt, &rt).code())
 }

@@ -2,9 +2,12 @@
 
 use hb_disk::{Disk, MemDisk};
 use hb_outside::{MemSink, MemSource};
+use hb_run::FreeGate;
 use hbpi::{Call, Ended, Told, run, top};
 use std::alloc::Global;
 use std::io::{Read, Write};
+use std::sync::Wait;
+use std::thread::Threads;
 use std::{fs, io, str};
 
 /// A real file, and a disk in memory that is to have the same bytes.
@@ -34,13 +37,14 @@ pub(crate) fn call_of(alloc: Global, name: &str, words: &str) -> io::Result<Call
 }
 
 /// The call over the file itself, by the functions of the program, and what is told on the standard error.
-fn on_file<I: Read + Drop>(
+fn on_file<R: Threads + Wait + Sync, I: Read + Drop>(
     rt: &HostRuntime,
+    threads: &R,
     call: &Call,
     input: I,
 ) -> io::Result<(Outcome, Option<Told>)> {
     let mut output = Vec::new(rt.alloc());
-    let Ended { status, told } = run(rt, call, input, &mut output)?;
+    let Ended { status, told } = run(rt, threads, call, input, &mut output)?;
     let outcome = Outcome {
         status: status.code(),
         output,
@@ -49,20 +53,22 @@ fn on_file<I: Read + Drop>(
 }
 
 /// Makes a call over the file of this name alone, and prints what came of it.
-pub(crate) fn call_alone<I: Read + Drop>(
+pub(crate) fn call_alone<R: Threads + Wait + Sync, I: Read + Drop>(
     rt: &HostRuntime,
+    threads: &R,
     name: &str,
     words: &str,
     input: I,
 ) -> io::Result<()> {
     println!(rt; "> {words}")?;
     let call = call_of(rt.alloc(), name, words)?;
-    let (outcome, told) = on_file(rt, &call, input)?;
+    let (outcome, told) = on_file(rt, threads, &call, input)?;
     tell(rt, &outcome, told)
 }
 
 /// The same call over a disk, and that disk behind it.
-pub(crate) fn on_disk<D: Disk + Drop>(
+pub(crate) fn on_disk<R: Threads + Wait + Sync, D: Disk + Drop + Send>(
+    threads: &R,
     alloc: Global,
     call: &Call,
     text: &str,
@@ -71,7 +77,8 @@ pub(crate) fn on_disk<D: Disk + Drop>(
     let text = Vec::from_slice(alloc, text.as_bytes())?;
     let mut source = MemSource::new(text, Vec::new(alloc));
     let sink = MemSink::new(alloc, Vec::new(alloc));
-    let finished = top::top(alloc, call.words.as_slice(), &mut source, sink, disk);
+    let words = call.words.as_slice();
+    let finished = top::top(threads, alloc, words, &mut source, sink, disk, &FreeGate);
     let outcome = Outcome {
         status: finished.status.code(),
         output: Vec::from_slice(alloc, finished.sink.bytes())?,
@@ -109,13 +116,19 @@ impl Pair {
     }
 
     /// Makes a call over both, prints what came of it, and compares the two.
-    pub(crate) fn call(self, rt: &HostRuntime, words: &str, text: &str) -> io::Result<Pair> {
+    pub(crate) fn call<R: Threads + Wait + Sync>(
+        self,
+        rt: &HostRuntime,
+        threads: &R,
+        words: &str,
+        text: &str,
+    ) -> io::Result<Pair> {
         println!(rt; "> {words}")?;
         let Pair { name, disk } = self;
         let call = call_of(rt.alloc(), name, words)?;
-        let (outcome, told) = on_file(rt, &call, text.as_bytes())?;
+        let (outcome, told) = on_file(rt, threads, &call, text.as_bytes())?;
         tell(rt, &outcome, told)?;
-        let (wanted, disk) = on_disk(rt.alloc(), &call, text, disk)?;
+        let (wanted, disk) = on_disk(threads, rt.alloc(), &call, text, disk)?;
         if outcome != wanted {
             println!(rt; "in memory it comes to another output or status")?;
         }
@@ -125,21 +138,23 @@ impl Pair {
     }
 
     /// Makes a call over the file alone, which is to leave it as it was, and compares the two.
-    pub(crate) fn call_that_changes_nothing(
+    pub(crate) fn call_that_changes_nothing<R: Threads + Wait + Sync>(
         &self,
         rt: &HostRuntime,
+        threads: &R,
         words: &str,
         text: &str,
     ) -> io::Result<()> {
-        call_alone(rt, self.name, words, text.as_bytes())?;
+        call_alone(rt, threads, self.name, words, text.as_bytes())?;
         self.compare(rt)
     }
 
     /// Makes a call over both, where that over the file writes its output to a writer that fails, prints the status, and
     /// compares the two.
-    pub(crate) fn call_into<W: Write + Drop>(
+    pub(crate) fn call_into<R: Threads + Wait + Sync, W: Write + Drop + Send>(
         self,
         rt: &HostRuntime,
+        threads: &R,
         words: &str,
         text: &str,
         output: W,
@@ -147,9 +162,11 @@ impl Pair {
         println!(rt; "> {words}")?;
         let Pair { name, disk } = self;
         let call = call_of(rt.alloc(), name, words)?;
-        let status = run(rt, &call, text.as_bytes(), output)?.status.code();
+        let status = run(rt, threads, &call, text.as_bytes(), output)?
+            .status
+            .code();
         println!(rt; "status {status}")?;
-        let (_, disk) = on_disk(rt.alloc(), &call, text, disk)?;
+        let (_, disk) = on_disk(threads, rt.alloc(), &call, text, disk)?;
         let pair = Pair { name, disk };
         pair.compare(rt)?;
         Ok(pair)

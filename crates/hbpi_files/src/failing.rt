@@ -5,6 +5,8 @@ use hb_disk::Device;
 use hbpi::{FileDisk, Told, disk_of};
 use std::fs::File;
 use std::io::Read;
+use std::sync::Wait;
+use std::thread::Threads;
 use std::{fs, io};
 
 const NAME: &str = "./hbpi_files.failing";
@@ -86,22 +88,26 @@ fn cut_a_disk(rt: &HostRuntime) -> io::Result<()> {
 }
 
 /// A drive of a file that is cut behind its opening, and then of the file as it was.
-fn cut_a_drive(rt: &HostRuntime, size: u64) -> io::Result<()> {
+fn cut_a_drive<R: Threads + Wait + Sync>(
+    rt: &HostRuntime,
+    threads: &R,
+    size: u64,
+) -> io::Result<()> {
     println!(rt; "cut to {size} bytes behind the opening")?;
     let cuts = Cuts {
         file: File::options().write(true).open(rt, NAME)?,
         size,
         text: SECOND.as_bytes(),
     };
-    call_alone(rt, NAME, "drive", cuts)
+    call_alone(rt, threads, NAME, "drive", cuts)
 }
 
 /// A drive and calls by a handle that may only read.
-fn only_read(rt: &HostRuntime) -> io::Result<()> {
+fn only_read<R: Threads + Wait + Sync>(rt: &HostRuntime, threads: &R) -> io::Result<()> {
     println!(rt; "opened for reading alone")?;
     let call = call_of(rt.alloc(), NAME, "drive")?;
     let disk = disk_of(File::open(rt, NAME)?)?;
-    let (outcome, mut disk) = on_disk(rt.alloc(), &call, SECOND, disk)?;
+    let (outcome, mut disk) = on_disk(threads, rt.alloc(), &call, SECOND, disk)?;
     tell_outcome(rt, &outcome, disk.trouble().map(Told::Trouble))?;
     tell_faults(rt, &disk)?;
     let read = reads(&mut disk, 0);
@@ -112,19 +118,19 @@ fn only_read(rt: &HostRuntime) -> io::Result<()> {
 }
 
 /// Tries all of this, each with the file of one record, and prints what came out.
-pub(crate) fn tell(rt: &HostRuntime) -> io::Result<()> {
+pub(crate) fn tell<R: Threads + Wait + Sync>(rt: &HostRuntime, threads: &R) -> io::Result<()> {
     let _gone = fs::remove_file(rt, NAME);
-    call_alone(rt, NAME, CREATE, "".as_bytes())?;
-    call_alone(rt, NAME, "drive", FIRST.as_bytes())?;
+    call_alone(rt, threads, NAME, CREATE, "".as_bytes())?;
+    call_alone(rt, threads, NAME, "drive", FIRST.as_bytes())?;
     let whole = fs::read(rt, NAME)?;
-    only_read(rt)?;
+    only_read(rt, threads)?;
     let is_same = fs::read(rt, NAME)?.as_slice() == whole.as_slice();
     println!(rt; "every byte is as it was: {is_same}")?;
     cut_a_disk(rt)?;
     fs::write(rt, NAME, &whole)?;
-    cut_a_drive(rt, PAGES)?;
+    cut_a_drive(rt, threads, PAGES)?;
     fs::write(rt, NAME, &whole)?;
     println!(rt; "whole again")?;
-    call_alone(rt, NAME, "drive", SECOND.as_bytes())?;
+    call_alone(rt, threads, NAME, "drive", SECOND.as_bytes())?;
     fs::remove_file(rt, NAME)
 }

@@ -18,8 +18,8 @@ mod story;
 use std::io;
 
 fn main(rt: HostRuntime) -> io::Result<()> {
-    story::tell(&rt)?;
+    story::tell(&rt, &rt)?;
     places::tell(&rt)?;
-    making::tell(&rt)?;
-    failing::tell(&rt)
+    making::tell(&rt, &rt)?;
+    failing::tell(&rt, &rt)
 }

@@ -2,6 +2,8 @@
 
 use crate::beside::call_alone;
 use hbpi::{Attempt, NewFile, Trouble};
+use std::sync::Wait;
+use std::thread::Threads;
 use std::{fs, io, process};
 
 const NAME: &str = "./hbpi_files.making";
@@ -82,12 +84,12 @@ fn given_up(rt: &HostRuntime) -> io::Result<()> {
 }
 
 /// Tries all of this, and prints what came out. The last `create` finds nothing in its way.
-pub(crate) fn tell(rt: &HostRuntime) -> io::Result<()> {
+pub(crate) fn tell<R: Threads + Wait + Sync>(rt: &HostRuntime, threads: &R) -> io::Result<()> {
     let _gone = fs::remove_file(rt, NAME);
     stopped(rt)?;
     overtaken(rt)?;
     given_up(rt)?;
-    call_alone(rt, NAME, CREATE, "".as_bytes())?;
+    call_alone(rt, threads, NAME, CREATE, "".as_bytes())?;
     clear_left(rt)?;
     fs::remove_file(rt, NAME)
 }

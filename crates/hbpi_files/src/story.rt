@@ -7,6 +7,8 @@ use hbpi::{NewFile, open_file};
 use std::alloc::Global;
 use std::fs::File;
 use std::io::{Seek, SeekFrom, Write};
+use std::sync::Wait;
+use std::thread::Threads;
 use std::{fs, io};
 
 /// The file, and another one, which is cut short later.
@@ -51,6 +53,13 @@ const SECOND: &str = "1 lookup 5 7
 step 1x32
 ";
 
+/// A record goes and comes again, and between the two the flusher writes its page to its place, and begins the next turn: the log area
+/// that the run before had is zeroed.
+const THIRD: &str = "1 delete 5 7
+1 insert 5 7 =a
+step 1x5 fx3 1x5
+";
+
 /// These have as many steps as they take on a page that another one names.
 const LOOKUP: &str = "1 lookup 5 7
 step 1x4
@@ -92,63 +101,73 @@ fn zeros(alloc: Global) -> io::Result<MemDisk> {
     Ok(MemDisk::new(alloc, vec![in alloc; 0; SIZE]?))
 }
 
-/// Makes the file, and drives it with two texts.
-fn make_and_drive(rt: &HostRuntime) -> io::Result<Pair> {
+/// Makes the file, and drives it with three texts.
+fn make_and_drive<R: Threads + Wait + Sync>(rt: &HostRuntime, threads: &R) -> io::Result<Pair> {
     let pair = Pair {
         name: NAME,
         disk: zeros(rt.alloc())?,
     };
-    let pair = pair.call(rt, CREATE, "")?;
+    let pair = pair.call(rt, threads, CREATE, "")?;
     let pair = fill_area(rt, pair)?;
-    let pair = pair.call(rt, "drive", FIRST)?;
-    pair.call(rt, "drive", SECOND)
+    let pair = pair.call(rt, threads, "drive", FIRST)?;
+    let pair = pair.call(rt, threads, "drive", SECOND)?;
+    pair.call(rt, threads, "drive", THIRD)
 }
 
 /// `create` on the file that is there, and `drive` while another has it open.
-fn refuse(rt: &HostRuntime, pair: Pair) -> io::Result<Pair> {
-    pair.call_that_changes_nothing(rt, CREATE, "")?;
+fn refuse<R: Threads + Wait + Sync>(rt: &HostRuntime, threads: &R, pair: Pair) -> io::Result<Pair> {
+    pair.call_that_changes_nothing(rt, threads, CREATE, "")?;
     let held = open_file(rt, NAME)?;
     println!(rt; "held open")?;
-    pair.call_that_changes_nothing(rt, "drive", LOOKUP)?;
+    pair.call_that_changes_nothing(rt, threads, "drive", LOOKUP)?;
     drop(held);
     println!(rt; "let go")?;
-    let pair = pair.call(rt, "drive", LOOKUP)?;
-    pair.call(rt, "drive", SEARCH)
+    let pair = pair.call(rt, threads, "drive", LOOKUP)?;
+    pair.call(rt, threads, "drive", SEARCH)
 }
 
 /// `drive` on a new file that is held since it was made, and then. `create` makes nine calls of a disk.
-fn hold_a_new_file(rt: &HostRuntime) -> io::Result<()> {
+fn hold_a_new_file<R: Threads + Wait + Sync>(rt: &HostRuntime, threads: &R) -> io::Result<()> {
     let alloc = rt.alloc();
     let call = call_of(alloc, SHORT, CREATE)?;
     let (file, disk) = NewFile::make(rt, SHORT, SIZE as u64)?;
-    let (_, held) = on_disk(alloc, &call, "", disk)?;
+    let (_, held) = on_disk(threads, alloc, &call, "", disk)?;
     file.name(rt, SHORT)?;
-    let (_, disk) = on_disk(alloc, &call, "", zeros(alloc)?)?;
+    let (_, disk) = on_disk(threads, alloc, &call, "", zeros(alloc)?)?;
     let pair = Pair { name: SHORT, disk };
     let count = held.clock();
     println!(rt; "made by {count} calls, and held open")?;
-    pair.call_that_changes_nothing(rt, "drive", LOOKUP)?;
+    pair.call_that_changes_nothing(rt, threads, "drive", LOOKUP)?;
     drop(held);
     println!(rt; "let go")?;
-    pair.call(rt, "drive", LOOKUP)?;
+    pair.call(rt, threads, "drive", LOOKUP)?;
     Ok(())
 }
 
 /// Two changes whose replies are lost: they are made all the same.
-fn lose_the_output(rt: &HostRuntime, pair: Pair) -> io::Result<Pair> {
+fn lose_the_output<R: Threads + Wait + Sync>(
+    rt: &HostRuntime,
+    threads: &R,
+    pair: Pair,
+) -> io::Result<Pair> {
     println!(rt; "the output can't be flushed")?;
-    let pair = pair.call_into(rt, "drive", DELETE, FailsToFlush)?;
-    let pair = pair.call(rt, "drive", LOOKUP)?;
+    let pair = pair.call_into(rt, threads, "drive", DELETE, FailsToFlush)?;
+    let pair = pair.call(rt, threads, "drive", LOOKUP)?;
     println!(rt; "the output is full")?;
     let pair = match File::options().write(true).open(rt, "/dev/full") {
-        Ok(full) => pair.call_into(rt, "drive", INSERT, full)?,
-        Err(_) => pair.call_into(rt, "drive", INSERT, Full)?,
+        Ok(full) => pair.call_into(rt, threads, "drive", INSERT, full)?,
+        Err(_) => pair.call_into(rt, threads, "drive", INSERT, Full)?,
     };
-    pair.call(rt, "drive", LOOKUP)
+    pair.call(rt, threads, "drive", LOOKUP)
 }
 
 /// A copy of the file that was cut to so many bytes.
-fn cut_to(rt: &HostRuntime, pair: &Pair, count: usize) -> io::Result<()> {
+fn cut_to<R: Threads + Wait + Sync>(
+    rt: &HostRuntime,
+    threads: &R,
+    pair: &Pair,
+    count: usize,
+) -> io::Result<()> {
     println!(rt; "cut to {count} bytes")?;
     fs::copy(rt, pair.name, SHORT)?;
     let file = File::options().write(true).open(rt, SHORT)?;
@@ -159,7 +178,7 @@ fn cut_to(rt: &HostRuntime, pair: &Pair, count: usize) -> io::Result<()> {
         name: SHORT,
         disk: MemDisk::new(rt.alloc(), front),
     };
-    short.call(rt, "drive", LOOKUP)?;
+    short.call(rt, threads, "drive", LOOKUP)?;
     Ok(())
 }
 
@@ -171,14 +190,14 @@ fn clear(rt: &HostRuntime) {
 }
 
 /// Tries everything, and prints what came out.
-pub(crate) fn tell(rt: &HostRuntime) -> io::Result<()> {
+pub(crate) fn tell<R: Threads + Wait + Sync>(rt: &HostRuntime, threads: &R) -> io::Result<()> {
     clear(rt);
-    let pair = make_and_drive(rt)?;
-    let pair = refuse(rt, pair)?;
-    hold_a_new_file(rt)?;
-    let pair = lose_the_output(rt, pair)?;
+    let pair = make_and_drive(rt, threads)?;
+    let pair = refuse(rt, threads, pair)?;
+    hold_a_new_file(rt, threads)?;
+    let pair = lose_the_output(rt, threads, pair)?;
     for count in [SIZE - 1, 8191, 0] {
-        cut_to(rt, &pair, count)?;
+        cut_to(rt, threads, &pair, count)?;
     }
     clear(rt);
     Ok(())

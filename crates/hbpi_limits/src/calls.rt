@@ -3,7 +3,8 @@
 use crate::missed::Missed;
 use hb_disk::MemDisk;
 use hb_outside::{MemSink, MemSource};
-use hbpi::top::top;
+use hbpi::Form;
+use hbpi::top::run_without_threads;
 use std::alloc::{AllocError, Global};
 
 /// A text of commands, and the output that has to come of it.
@@ -62,7 +63,10 @@ pub(crate) fn ends(
     let text = Vec::from_slice(alloc, text.as_bytes())?;
     let mut source = MemSource::new(text, Vec::new(alloc));
     let sink = MemSink::new(alloc, Vec::new(alloc));
-    let finished = top(alloc, list.as_slice(), &mut source, sink, disk);
+    if Form::is_threaded(Form::of_words(list.as_slice())) {
+        return Err(Missed::Threaded { call: words });
+    }
+    let finished = run_without_threads(alloc, list.as_slice(), &mut source, sink, disk);
     let (got, wanted) = (finished.sink.bytes(), output.as_bytes());
     let status = finished.status.code();
     if status == code && got == wanted {

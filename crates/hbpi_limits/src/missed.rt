@@ -5,6 +5,10 @@ use std::alloc::{AllocError, AllocFailed};
 pub(crate) enum Missed {
     /// This program had no memory for what it compares with.
     NoMemory,
+    /// The words want threads, and this program has none.
+    Threaded {
+        call: &'static str,
+    },
     /// A call ended with another status or output than it should. `from` is the first byte of the output that differs.
     Call {
         call: &'static str,

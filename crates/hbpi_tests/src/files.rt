@@ -263,8 +263,8 @@ const STREAMS: [(&str, &str, u64, u64, &str); 30] = [
     ("dry 1", "1 lookup 01\n", NEVER, 0, "3 "),
     ("dry 1", "1 lookup 01\n", 0, 0, "4 "),
     ("dry", "1 lookup 01\n", 0, 0, "2 "),
-    ("run", "1 lookup 01\n", 0, NEVER, "11 not built\n"),
-    ("run", "1 lookup 01\n", 0, 0, "11 "),
+    ("map", "1 lookup 01\n", 0, NEVER, "11 not built\n"),
+    ("map", "1 lookup 01\n", 0, 0, "11 "),
 ];
 
 /// What a run says over a new file whose source and sink fail at these calls.

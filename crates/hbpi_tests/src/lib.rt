@@ -50,4 +50,6 @@ mod taller;
 #[cfg(test)]
 mod texts;
 #[cfg(test)]
+mod threads;
+#[cfg(test)]
 mod turns;

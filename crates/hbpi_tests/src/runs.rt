@@ -3,8 +3,8 @@
 use hb_disk::MemDisk;
 use hb_outside::{MemSink, MemSource};
 use hb_set::Answered;
-use hbpi::top::top;
-use hbpi::{Finished, Status};
+use hbpi::top::run_without_threads;
+use hbpi::{Finished, Form, Status};
 use std::alloc::Global;
 use std::process::Abort;
 use std::str;
@@ -33,7 +33,7 @@ fn add_word(alloc: Global, list: &mut Vec<String>, word: &str) -> Option<()> {
 }
 
 /// The words of a line.
-fn words_of(alloc: Global, line: &str) -> Option<Vec<String>> {
+pub(crate) fn words_of(alloc: Global, line: &str) -> Option<Vec<String>> {
     let mut list = Vec::new(alloc);
     for word in line.split_whitespace() {
         add_word(alloc, &mut list, word)?;
@@ -42,27 +42,27 @@ fn words_of(alloc: Global, line: &str) -> Option<Vec<String>> {
 }
 
 /// A source of this text that fails at the call of this number.
-fn source_of(alloc: Global, text: &str, failing: u64) -> Option<MemSource> {
+pub(crate) fn source_of(alloc: Global, text: &str, failing: u64) -> Option<MemSource> {
     let calls = Vec::from_slice(alloc, &[failing]).ok()?;
     let bytes = Vec::from_slice(alloc, text.as_bytes()).ok()?;
     Some(MemSource::new(bytes, calls))
 }
 
 /// A sink that fails at the call of this number.
-fn sink_of(alloc: Global, failing: u64) -> Option<MemSink> {
+pub(crate) fn sink_of(alloc: Global, failing: u64) -> Option<MemSink> {
     let calls = Vec::from_slice(alloc, &[failing]).ok()?;
     Some(MemSink::new(alloc, calls))
 }
 
 /// The exit status, a space, and what the sink got.
-fn said_of(alloc: Global, status: Status, sink: &MemSink) -> Option<String> {
+pub(crate) fn said_of(alloc: Global, status: Status, sink: &MemSink) -> Option<String> {
     let code = status.code();
     let written = str::from_utf8(sink.bytes()).ok()?;
     format!(in alloc; "{code} {written}").ok()
 }
 
 /// What a run leaves.
-fn left_by(alloc: Global, finished: Finished<MemSink, MemDisk>) -> Option<Left> {
+pub(crate) fn left_by(alloc: Global, finished: Finished<MemSink, MemDisk>) -> Option<Left> {
     let said = said_of(alloc, finished.status, &finished.sink)?;
     Some(Left {
         said,
@@ -71,15 +71,18 @@ fn left_by(alloc: Global, finished: Finished<MemSink, MemDisk>) -> Option<Left> 
     })
 }
 
-/// Runs the program.
+/// Runs the program, for words that no threads work off. `None` for others.
 fn run(
     alloc: Global,
     words: &[String],
     source: &mut MemSource,
     sink: MemSink,
     disk: MemDisk,
-) -> Finished<MemSink, MemDisk> {
-    top(alloc, words, source, sink, disk)
+) -> Option<Finished<MemSink, MemDisk>> {
+    if Form::is_threaded(Form::of_words(words)) {
+        return None;
+    }
+    Some(run_without_threads(alloc, words, source, sink, disk))
 }
 
 /// Runs the program over this disk. The source fails at the call of number `read`, and the sink at that of number `write`.
@@ -94,7 +97,7 @@ pub(crate) fn run_over(
     let list = words_of(alloc, words)?;
     let mut source = source_of(alloc, text, read)?;
     let sink = sink_of(alloc, write)?;
-    left_by(alloc, run(alloc, list.as_slice(), &mut source, sink, disk))
+    left_by(alloc, run(alloc, list.as_slice(), &mut source, sink, disk)?)
 }
 
 /// Runs the program over a disk of these bytes whose call of this number fails.

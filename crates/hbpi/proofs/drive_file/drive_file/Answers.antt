@@ -1,41 +1,70 @@
-use Rattle.std.proofs.Common.{inl, refl, sym, subst}
+use Rattle.std.proofs.Common.{ℕ, List, refl, sym, ap, subst, arith}
+use Rattle.hb_core.specs.CoreSeen.{core_disk, core_seen}
+use Rattle.hb_core.specs.Showing.{RunningCore}
 use Rattle.hb_disk.specs.Model.{DiskModel}
+use Rattle.hb_outside.specs.Calls.{SinkModel}
 use Rattle.hb_restart.specs.Beyond.{KeepsBeyondFile}
-use Rattle.hb_store.specs.Seen.{disk_of, seen_as}
-use Rattle.hbpi.proofs.Beyond.{beyond_driven}
-use Rattle.hbpi.proofs.Reopened.{ends_before, kept_of}
-use Rattle.hbpi.proofs.ShutOut.{shut_out}
-use Rattle.hbpi.specs.SeenRuns.{Seen, seen_by}
+use Rattle.hb_space.specs.Actors.{IsActor}
+use Rattle.std.specs.List.{All}
+use Rattle.hbpi.proofs.CoreEnds.{RanCore, core_beyond, core_ends, may_begin}
+use Rattle.hbpi.proofs.StepsTaken.{are_actors}
+use Rattle.hbpi.proofs.Turned.{turned}
+use Rattle.hbpi.specs.Driven.{by_schedule}
 use Rattle.hbpi.proofs.drive_file.drive_file.Goals as goal
+
+pub drive-requires-clause-may : goal.drive-requires-clause-may
+drive-requires-clause-may g c = may_begin _ _ _ _ _ _ c.in-Ok.ensures.started
+
+pub drive-requires-clause-actors : goal.drive-requires-clause-actors
+drive-requires-clause-actors g c =
+    let made = c.in-Ok.ensures.started.made in
+    subst (λ (steps : List ℕ). All IsActor steps) (sym (ap (λ (r : RunningCore). r.steps) made.core_is)) (are_actors made.steps made.script.actors)
 
 pub returns-in-Ok-clause-ends : goal.returns-in-Ok-clause-ends
 returns-in-Ok-clause-ends g c =
     let M : g.row.D.Denot → DiskModel = g.D.Device.model in
-    let seen : Seen = seen_by (g.S.Source.model c.args.source.now) (g.S.Source.model c.drive_store.new.source) (g.K.Sink.model c.args.sink) (g.K.Sink.model c.drive_store.result.sink) c.drive_store.result.answered.items c.drive_store.result.order.items in
-    ends_before M (M c.args.disk) (disk_of c.in-Ok.store) c.drive_store.result.disk (seen_as c.in-Ok.store) c.in-Ok.field-0-1 seen c.drive_store.result.status
-    c.a_walk_ends_at_the_responsible_page.ensures.root c.a_level_parts_the_space.ensures.alone c.an_image_opens_to_one_file.ensures.one (g.met.D.Device.is_disk (disk_of c.in-Ok.store))
-    c.in-Ok.ensures.opened c.in-Ok.ensures.through c.in-Ok.ensures.leaves c.drive_store.ensures.ends
-
-pub returns-in-Err-clause-ends : goal.returns-in-Err-clause-ends
-returns-in-Err-clause-ends g c =
-    let facts = c.in-Err.ensures in
-    let seen : Seen = seen_by (g.S.Source.model c.args.source.now) (g.S.Source.model c.args.source.now) (g.K.Sink.model c.args.sink) (g.K.Sink.model c.refused.result.sink) c.refused.result.answered.items c.refused.result.order.items in
-    inl (shut_out g.D.Device.model c.args.disk c.in-Err.disk c.refused.result.disk seen c.in-Err.fault c.from.result c.refused.result.status c.refused.ensures.disk c.refused.ensures.status c.from.ensures
-    c.refused.ensures.line c.refused.ensures.answered c.refused.ensures.order (record { rest = refl; faults = refl }) facts.refused facts.unwritten facts.leaves)
+    let S : g.row.K.Denot → SinkModel = g.K.Sink.model in
+    let facts : RanCore M S by_schedule (core_disk c.in-Ok.core) (core_disk c.drive.result.core) c.finish.result.disk c.args.sink c.drive.result.sink c.finish.result.sink (core_seen c.in-Ok.core) (core_seen c.drive.result.core)
+    c.drive.result.end c.drive.result.answered.items c.finish.result.answered.items c.finish.result.order.items c.finish.result.status = record {
+      unbegun = c.drive.ensures.unbegun;
+      drives = λ some m may. ((core_seen c.in-Ok.core).steps, c.drive.ensures.drives some m may, refl);
+      status_is = c.finish.ensures.status;
+      disk_is = c.finish.ensures.disk;
+      answered_is = c.finish.ensures.answered;
+      order_is = c.finish.ensures.order;
+      silent = c.finish.ensures.silent;
+      silent_done = c.finish.ensures.silent_done;
+      line = c.finish.ensures.line;
+    } in
+    core_ends _ _ _ _ _ _ _ _ _ _ _ _ _ _ _ _ facts c.knows_laws.ensures _ _ _ c.in-Ok.ensures.started
 
 pub returns-in-Ok-clause-beyond : goal.returns-in-Ok-clause-beyond
 returns-in-Ok-clause-beyond g c =
-    beyond_driven (g.D.Device.model c.args.disk) (g.D.Device.model (disk_of c.in-Ok.store)) (g.D.Device.model c.drive_store.result.disk) (seen_as c.in-Ok.store).meta
-    c.in-Ok.ensures.opened.said c.in-Ok.ensures.leaves.beyond c.drive_store.ensures.beyond
+    let M : g.row.D.Denot → DiskModel = g.D.Device.model in
+    let S : g.row.K.Denot → SinkModel = g.K.Sink.model in
+    let facts : RanCore M S by_schedule (core_disk c.in-Ok.core) (core_disk c.drive.result.core) c.finish.result.disk c.args.sink c.drive.result.sink c.finish.result.sink (core_seen c.in-Ok.core) (core_seen c.drive.result.core)
+    c.drive.result.end c.drive.result.answered.items c.finish.result.answered.items c.finish.result.order.items c.finish.result.status = record {
+      unbegun = c.drive.ensures.unbegun;
+      drives = λ some m may. ((core_seen c.in-Ok.core).steps, c.drive.ensures.drives some m may, refl);
+      status_is = c.finish.ensures.status;
+      disk_is = c.finish.ensures.disk;
+      answered_is = c.finish.ensures.answered;
+      order_is = c.finish.ensures.order;
+      silent = c.finish.ensures.silent;
+      silent_done = c.finish.ensures.silent_done;
+      line = c.finish.ensures.line;
+    } in
+    core_beyond _ _ _ _ _ _ _ _ _ _ _ _ _ _ _ _ facts c.knows_laws.ensures _ _ _ c.in-Ok.ensures.started
+
+pub returns-in-Err-clause-ends : goal.returns-in-Err-clause-ends
+returns-in-Err-clause-ends g c =
+    turned g.D.Device.model by_schedule c.args.disk c.in-Err.disk c.refused.result.disk _ _ _ _ _ _ c.in-Err.status c.refused.result.status c.refused.ensures.disk c.refused.ensures.status
+    c.refused.ensures.line c.refused.ensures.answered c.refused.ensures.order c.in-Err.ensures.refused
 
 pub returns-in-Err-clause-beyond : goal.returns-in-Err-clause-beyond
 returns-in-Err-clause-beyond g c =
     let M : g.row.D.Denot → DiskModel = g.D.Device.model in
-    subst (λ (x : g.row.D.Denot). KeepsBeyondFile (M c.args.disk) (M x)) (sym c.refused.ensures.disk) c.in-Err.ensures.leaves.beyond
+    subst (λ (x : g.row.D.Denot). KeepsBeyondFile (M c.args.disk) (M x)) (sym c.refused.ensures.disk) c.in-Err.ensures.beyond
 
-pub drive_store-requires-clause-new : goal.drive_store-requires-clause-new
-drive_store-requires-clause-new g c = c.in-Ok.ensures.opened.is_new
-
-pub drive_store-requires-clause-kept : goal.drive_store-requires-clause-kept
-drive_store-requires-clause-kept g c =
-    kept_of (g.D.Device.model c.args.disk) (g.D.Device.model (disk_of c.in-Ok.store)) (seen_as c.in-Ok.store) c.in-Ok.field-0-1 c.in-Ok.ensures.opened c.in-Ok.ensures.through
+pub returns-in-Ok-clause-sink_later : goal.returns-in-Ok-clause-sink_later
+returns-in-Ok-clause-sink_later g c = omega (arith, c.drive.ensures.later, c.finish.ensures.later)

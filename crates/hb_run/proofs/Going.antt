@@ -1,0 +1,114 @@
+-- A run of threads begins, and goes on by a turn.
+use Rattle.std.proofs.Common.{◌≡◌, ℕ, ◌+◌, ◌≤◌, List, [], ◌∷◌, ◌++◌, length, map, IsSome, Result, Ok, refl, sym, ap, ◌∙◌, subst, arith, length-append}
+use Rattle.std.specs.List.{flat_map}
+use Rattle.std.proofs.lemmas.List.{length-map}
+use Rattle.std.proofs.lemmas.List.Sums.{count_by-le-length}
+use Rattle.std.proofs.lemmas.Grind.{flat_map-append}
+use Rattle.hb_disk.specs.Model.{DiskModel, IsDisk}
+use Rattle.hb_outside.specs.Calls.{SinkModel, Puts, PutsOn}
+use Rattle.hb_outside.specs.declared.traits.Failed.{Failed}
+use Rattle.hb_outside.proofs.Facts.PutLaws.{has_put_more}
+use Rattle.hb_set.specs.declared.scripts.Answered.{Answered}
+use Rattle.hb_set.specs.declared.scripts.Line.{Line}
+use Rattle.hb_space.specs.Actors.{IsActor}
+use Rattle.hb_text.specs.Output.{answer_text}
+use Rattle.hb_core.specs.declared.outcomes.Outcome.{Outcome}
+use Rattle.hb_core.specs.Machines.{Machine}
+use Rattle.hb_core.specs.Performing.{given_by}
+use Rattle.hb_core.specs.Runs.{HasRun, RunningLaws, has_none, left_count, without_clock}
+use Rattle.hb_core.specs.Showing.{RunningCore, ShowsMachine}
+use Rattle.hb_core.specs.Steps.{StepsTo}
+use Rattle.hb_core.specs.Touching.{Touches}
+use Rattle.hb_core.specs.Working.{MayStep}
+use Rattle.hb_core.proofs.Facts.RunSteps.{may_go_on, run_begins, run_by_step}
+use Rattle.hb_drive.proofs.Facts.AnswerTexts.{has_put_none}
+use Rattle.hb_run.specs.Beginnings.{Beginning}
+use Rattle.hb_run.specs.Courses.{Course, KeepsRun, TakesTurn}
+
+-- a machine from which the core goes on
+pub may_turn : (b : Beginning) (c : Course) → KeepsRun b c → (m : Machine) × MayStep c.disk c.core m
+may_turn b c keeps =
+    let run = keeps.runs keeps.begun.0 keeps.begun.1 in
+    (run.new, may_go_on b.disk keeps.begun.0 keeps.actors c.answers c.disk c.core run)
+
+-- What is known of a step that a core took.
+pub record TookStep (actor : ℕ) (outcome : Outcome) (at : ℕ) (e : DiskModel) (old : RunningCore) (f : DiskModel) (new : RunningCore) : Type 0 where
+  pub disk : IsDisk e
+  pub disk_next : IsDisk f
+  pub may : IsActor actor
+  pub steps : (m : Machine) → MayStep e old m → (next : Machine) × StepsTo m actor outcome next × ShowsMachine f new next
+  pub touches : Touches e old outcome f new
+  pub clock : IsSome f.told → at ≡ f.clock
+
+module _ (laws : RunningLaws) (b : Beginning) (c : Course) (actor : ℕ) (outcome : Outcome) (at : ℕ) (f : DiskModel) (new : RunningCore) (keeps : KeepsRun b c) (took : TookStep actor outcome at c.disk c.core f new) where
+  pub run_on : (m : Machine) → MayStep b.disk b.core m → HasRun b.disk m (keeps.actors ++ actor ∷ []) (c.answers ++ given_by outcome at) f new
+  run_on m may = run_by_step laws b.disk m keeps.actors c.answers c.disk c.core actor outcome at f new (keeps.runs m may) took.disk took.disk_next took.may took.steps took.touches took.clock
+
+pub answers_are_as_many : (d e : DiskModel) (m : Machine) (actors : List ℕ) (answers : List Answered) (c : RunningCore) (run : HasRun d m actors answers e c) → length answers + left_count run.new ≡ left_count m
+answers_are_as_many d e m actors answers c run =
+    let same = sym (length-map answers without_clock) ∙ ap (λ (l : List Answered). length l) run.answers_are.alike ∙ length-map run.came without_clock in
+    let left = run.left in
+    omega (arith, same, left)
+
+given_fits : (before given all now left lines room : ℕ) → all ≡ before + given → all + now ≡ lines → before + left ≡ lines → before + left ≤ room → (given ≤ left) × (before + given ≤ room)
+given_fits before given all now left lines room is after kept fits = (omega (arith, is, after, kept), omega (arith, is, after, kept, fits))
+
+-- so the answer of a step is one of a line that had none, and finds room
+pub room_for_given : (laws : RunningLaws) (b : Beginning) (c : Course) (actor : ℕ) (outcome : Outcome) (at : ℕ) (f : DiskModel) (new : RunningCore) → KeepsRun b c → TookStep actor outcome at c.disk c.core f new
+    → (length (given_by outcome at) ≤ c.left) × (length c.answers + length (given_by outcome at) ≤ c.room)
+room_for_given laws b c actor outcome at f new keeps took =
+    let m = keeps.begun.0 in
+    let run = run_on laws b c actor outcome at f new keeps took m keeps.begun.1 in
+    given_fits (length c.answers) (length (given_by outcome at)) (length (c.answers ++ given_by outcome at)) (left_count run.new) c.left (left_count m) c.room
+    (length-append c.answers (given_by outcome at)) (answers_are_as_many b.disk f m (keeps.actors ++ actor ∷ []) (c.answers ++ given_by outcome at) new run) (keeps.left_is m keeps.begun.1) keeps.fits
+
+more_text : (b : SinkModel) (put later : Result (Unit {0}) Failed) (mid after : SinkModel) (answers given all : List Answered) → all ≡ answers ++ given → Puts (flat_map answer_text answers) put b mid
+    → PutsOn put (flat_map answer_text given) later mid after → Puts (flat_map answer_text all) later b after
+more_text b put later mid after answers given all is first more =
+    let P : List ℕ → Type 0 = λ t. Puts t later b after in
+    subst P (sym (ap (flat_map answer_text) is ∙ flat_map-append answer_text answers given))
+    (has_put_more b mid after put later (flat_map answer_text answers) (flat_map answer_text given) first more)
+
+count_on : (before given all left now lines : ℕ) → all ≡ before + given → given + now ≡ left → before + left ≡ lines → all + now ≡ lines
+count_on before given all left now lines is less kept = omega (arith, is, less, kept)
+
+fits_on : (before given all left now room more : ℕ) → all ≡ before + given → given + now ≡ left → room ≤ more → before + left ≤ room → all + now ≤ more
+fits_on before given all left now room more is less grown fits = omega (arith, is, less, grown, fits)
+
+pub goes_on : (laws : RunningLaws) (b : Beginning) (actor : ℕ) (outcome : Outcome) (old new : Course) → IsActor actor → IsDisk old.disk → IsDisk new.disk → KeepsRun b old → TakesTurn actor outcome old new → KeepsRun b new
+goes_on laws b actor outcome old new may disk disk_next keeps turn = record {
+  begun = keeps.begun;
+  actors = keeps.actors ++ actor ∷ [];
+  runs = λ m begun. subst (λ (l : List Answered). HasRun b.disk m (keeps.actors ++ actor ∷ []) l new.disk new.core) (sym turn.answers) (run_on laws b old actor outcome turn.at new.disk new.core keeps took m begun);
+  text = more_text b.sink old.put new.put old.sink new.sink old.answers (given_by outcome turn.at) new.answers turn.answers keeps.text turn.written;
+  left_is = λ m begun. count_on (length old.answers) (length (given_by outcome turn.at)) (length new.answers) old.left new.left (left_count m) many turn.left_is (keeps.left_is m begun);
+  fits = fits_on (length old.answers) (length (given_by outcome turn.at)) (length new.answers) old.left new.left old.room new.room many turn.left_is turn.room keeps.fits;
+}
+  where
+    took : TookStep actor outcome turn.at old.disk old.core new.disk new.core
+    took = record { disk = disk; disk_next = disk_next; may = may; steps = turn.steps; touches = turn.touches; clock = turn.clock }
+
+    many : length new.answers ≡ length old.answers + length (given_by outcome turn.at)
+    many = ap (λ (l : List Answered). length l) turn.answers ∙ length-append old.answers (given_by outcome turn.at)
+
+-- ---- it begins
+
+fits_first : (given left count lines now room : ℕ) → given ≡ 0 → left ≡ count → count ≤ lines → lines ≡ now → now ≤ room → given + left ≤ room
+fits_first given left count lines now room none is few same fits = omega (arith, none, is, few, same, fits)
+
+count_first : (given left count : ℕ) → given ≡ 0 → left ≡ count → given + left ≡ count
+count_first given left count none is = omega (arith, none, is)
+
+pub begins : (laws : RunningLaws) (b : Beginning) (answers : List Answered) (room left : ℕ) → IsDisk b.disk → ((m : Machine) × MayStep b.disk b.core m) → answers ≡ [] → ((m : Machine) → MayStep b.disk b.core m → left ≡ left_count m) → length b.core.lines ≤ room
+    → KeepsRun b (record { disk = b.disk; core = b.core; sink = b.sink; put = Ok (tt {0}); answers = answers; room = room; left = left })
+begins laws b answers room left disk may none left_is fits = record {
+  begun = may;
+  actors = [];
+  runs = λ m begun. subst (λ (l : List Answered). HasRun b.disk m [] l b.disk b.core) (sym none) (run_begins laws b.disk m b.core disk begun);
+  text = has_put_none b.sink answers none;
+  left_is = λ m begun. count_first (length answers) left (left_count m) no_answer (left_is m begun);
+  fits = fits_first (length answers) left (left_count may.0) (length may.0.lines) (length b.core.lines) room no_answer (left_is may.0 may.1) (count_by-le-length (has_none may.0) may.0.lines) (ap (λ (ls : List Line). length ls) may.1.shows.lines) fits;
+}
+  where
+    no_answer : length answers ≡ 0
+    no_answer = ap (λ (l : List Answered). length l) none

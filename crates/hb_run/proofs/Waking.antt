@@ -1,0 +1,62 @@
+-- Whoever waited for what a turn brought is rung.
+use Rattle.std.proofs.Common.{◌≡◌, ◌≢◌, ℕ, ◌==◌, Bool, true, false, not, ◌||◌, ◌&&◌, List, Option, is_some, refl, sym, ap, ◌∙◌, subst}
+use Rattle.std.specs.List.{slice_get}
+use Rattle.std.proofs.lemmas.Bool.{false≢true}
+use Rattle.hb_activity.specs.declared.jobs.JobKind.TheVariants.{Post, Merge}
+use Rattle.hb_lemmas.proofs.Booleans.{if_same}
+use Rattle.hb_run.specs.Courses.{Course}
+use Rattle.hb_run.specs.Turning.{CountsMove, IsNews, WakesAll, is_done, is_due, is_so, jobs_left, rings, still_waits}
+use Rattle.hb_run.specs.declared.turns.News.{News}
+use Rattle.hb_run.specs.declared.turns.Pause.{Pause}
+use Rattle.hb_run.specs.declared.turns.Pause.TheVariants as pauses
+
+second : (a b : Bool) → (a && b) ≡ true → b ≡ true
+second true b is = is
+second false b is = absurd (false≢true is)
+
+-- what waits for two things, of which one has come
+come : (stopped none : Bool) → (not stopped && none) ≡ false → stopped ≡ false → none ≡ false
+come true none is runs = absurd (false≢true (sym runs))
+come false none is runs = is
+
+-- it rings where the core is stopped, and else for what came
+rung : (stopped bell : Bool) → (stopped ≡ false → bell ≡ true) → (stopped || bell) ≡ true
+rung true bell else = refl
+rung false bell else = else refl
+
+-- no job is left and yet not all is done: of one of the two it has come
+job_came : (none done : Bool) → (none && not done) ≡ false → (not none || done) ≡ true
+job_came true true is = refl
+job_came true false is = absurd (false≢true (sym is))
+job_came false done is = refl
+
+-- and so of flushing
+due_came : (none due : Bool) → (not none && not due) ≡ false → (none || due) ≡ true
+due_came true due is = refl
+due_came false true is = refl
+due_came false false is = absurd (false≢true (sym is))
+
+module _ (mover : ℕ) (moved : Bool) (before after : List ℕ) (old new : Course) (news : News) (tells : IsNews mover moved new news) (counts : CountsMove mover moved before after) where
+  -- who waits behind an actor that changed something
+  moved_on : (place count : ℕ) → is_so count (slice_get before place) ≡ true → is_so count (slice_get after place) ≡ false → (moved && (mover == place)) ≡ true
+  moved_on place count was gone = by moved refl
+    where
+      same : (slice_get after place ≡ slice_get before place) → ⊥
+      same is = false≢true (sym gone ∙ ap (is_so count) is ∙ was)
+
+      by : (b : Bool) → moved ≡ b → (b && (mover == place)) ≡ true
+      by false is = absurd (same (ap (λ (l : List ℕ). slice_get l place) (counts.still is)))
+      by true is = if_same mover place (λ b. b ≡ true) (λ here. refl) (λ apart. absurd (same (counts.others place (λ here. apart (sym here)))))
+
+  pub wakes_all : WakesAll news before old after new
+  wakes_all (pauses.Behind place count) was gone =
+      rung news.stopped (news.moved && (news.place == place)) (λ runs.
+      ap (λ (b : Bool). b && (news.place == place)) tells.moved_is
+      ∙ ap (λ (n : ℕ). moved && (n == place)) tells.place_is
+      ∙ moved_on place count (second (not (is_some old.core.stop)) (is_so count (slice_get before place)) was) (come (is_some new.core.stop) (is_so count (slice_get after place)) gone (sym tells.stopped ∙ runs)))
+  wakes_all (pauses.NoJob Post) was gone =
+      rung news.stopped news.posts (λ runs. tells.posts ∙ job_came (jobs_left Post new.core == 0) (is_done new) (come (is_some new.core.stop) ((jobs_left Post new.core == 0) && not (is_done new)) gone (sym tells.stopped ∙ runs)))
+  wakes_all (pauses.NoJob Merge) was gone =
+      rung news.stopped news.merges (λ runs. tells.merges ∙ job_came (jobs_left Merge new.core == 0) (is_done new) (come (is_some new.core.stop) ((jobs_left Merge new.core == 0) && not (is_done new)) gone (sym tells.stopped ∙ runs)))
+  wakes_all pauses.NotDue was gone =
+      rung news.stopped news.flushes (λ runs. tells.flushes ∙ due_came (new.left == 0) (is_due new.core) (come (is_some new.core.stop) (not (new.left == 0) && not (is_due new.core)) gone (sym tells.stopped ∙ runs)))

@@ -1,0 +1,5 @@
+pub mod Beginnings
+pub mod Courses
+pub mod CourseSeen
+pub mod Turning
+pub mod Running

@@ -1,0 +1,90 @@
+-- What a turn says, who waits for what, and for whom a turn is news.
+use Rattle.std.specs.Prelude.{◌≡◌, ◌≢◌, ◌⊎◌, ◌≤◌, ℕ, ◌+◌, ◌-◌, ◌*◌, ◌==◌, nat_lt, Bool, true, false, not, List, ◌||◌, ◌&&◌, Option, Some, None, is_some, count_by}
+use Rattle.std.specs.List.{slice_get}
+use Rattle.hb_activity.specs.Queue.{is_of}
+use Rattle.hb_activity.specs.declared.activities.Activity.{Activity}
+use Rattle.hb_activity.specs.declared.jobs.JobKind.{JobKind}
+use Rattle.hb_activity.specs.declared.jobs.JobKind.TheVariants.{Post, Merge}
+use Rattle.hb_wal.specs.Log.{room_of}
+use Rattle.hb_core.specs.declared.outcomes.Outcome.{Outcome}
+use Rattle.hb_core.specs.declared.outcomes.Outcome.TheVariants as outcomes
+use Rattle.hb_core.specs.Showing.{RunningCore}
+use Rattle.hb_core.specs.Taking.{jobs_in_work, worker_for}
+use Rattle.hb_run.specs.Courses.{Course}
+use Rattle.hb_run.specs.declared.turns.Turn.{Turn}
+use Rattle.hb_run.specs.declared.turns.Turn.TheVariants as turns
+use Rattle.hb_run.specs.declared.turns.Pause.{Pause}
+use Rattle.hb_run.specs.declared.turns.Pause.TheVariants as pauses
+use Rattle.hb_run.specs.declared.turns.Next.{Next}
+use Rattle.hb_run.specs.declared.turns.Next.TheVariants as nexts
+use Rattle.hb_run.specs.declared.turns.News.{News}
+
+abbrev pub turn_of : Outcome → Turn
+turn_of (outcomes.Stopped why) = turns.Stopped
+turn_of outcomes.Idle = turns.Idle
+turn_of (outcomes.Blocked by) = turns.Blocked by
+turn_of outcomes.Helped = turns.More
+turn_of (outcomes.Answered number reply) = turns.More
+turn_of (outcomes.Dropped why) = turns.More
+turn_of outcomes.Moved = turns.More
+
+-- how many jobs of the kind wait or are in work
+abbrev pub in_work : Option Activity → ℕ
+in_work None = 0
+in_work (Some activity) = jobs_in_work activity
+
+abbrev pub jobs_left : JobKind → RunningCore → ℕ
+jobs_left kind c = count_by (is_of kind) c.jobs + in_work (slice_get c.activities (worker_for kind - 1))
+
+-- no line is without an answer, and no job of either kind is left
+abbrev pub is_done : Course → Bool
+is_done c = (c.left == 0) && (jobs_left Post c.core == 0) && (jobs_left Merge c.core == 0)
+
+-- it is time to flush
+abbrev pub is_due : RunningCore → Bool
+is_due c = nat_lt (2 * room_of c.store.log) c.store.meta.log
+
+-- What an actor waits for hasn't come, by how often each actor changed something, actor 1 first: the actor of a place has changed nothing, no job of its kind is left and yet not all is done, or
+-- it isn't time to flush and some line has no answer. In a core that is stopped nobody waits.
+abbrev pub is_so : ℕ → Option ℕ → Bool
+is_so count None = false
+is_so count (Some now) = now == count
+
+abbrev pub still_waits : Pause → List ℕ → Course → Bool
+still_waits (pauses.Behind place count) moves c = not (is_some c.core.stop) && is_so count (slice_get moves place)
+still_waits (pauses.NoJob kind) moves c = not (is_some c.core.stop) && ((jobs_left kind c.core == 0) && not (is_done c))
+still_waits pauses.NotDue moves c = not (is_some c.core.stop) && (not (c.left == 0) && not (is_due c.core))
+
+-- The actor of a place counts that it changed something, where it did, and no other one does.
+pub record CountsMove (place : ℕ) (moved : Bool) (old new : List ℕ) : Type 0 where
+  pub still : moved ≡ false → new ≡ old
+  pub others : (other : ℕ) → other ≢ place → slice_get new other ≡ slice_get old other
+
+-- What a turn tells, and whose bells ring for it.
+pub record IsNews (place : ℕ) (moved : Bool) (c : Course) (news : News) : Type 0 where
+  pub place_is : news.place ≡ place
+  pub moved_is : news.moved ≡ moved
+  pub stopped : news.stopped ≡ is_some c.core.stop
+  pub posts : news.posts ≡ not (jobs_left Post c.core == 0) || is_done c
+  pub merges : news.merges ≡ not (jobs_left Merge c.core == 0) || is_done c
+  pub flushes : news.flushes ≡ (c.left == 0) || is_due c.core
+
+abbrev pub rings : News → Pause → Bool
+rings news (pauses.Behind place moves) = news.stopped || (news.moved && (news.place == place))
+rings news (pauses.NoJob Post) = news.stopped || news.posts
+rings news (pauses.NoJob Merge) = news.stopped || news.merges
+rings news pauses.NotDue = news.stopped || news.flushes
+
+-- No wake-up is lost: whoever waited for what a turn brought is rung.
+abbrev pub WakesAll : News → List ℕ → Course → List ℕ → Course → Type 0
+WakesAll news before old after new = (pause : Pause) → still_waits pause before old ≡ true → still_waits pause after new ≡ false → rings news pause ≡ true
+
+-- What an actor does next. It waits only for what hasn't come. It ends where the core is stopped; a session where it has no line left; a
+-- worker where all is done; and who flushes where each line has an answer.
+abbrev pub MayEnd : ℕ → Course → Type 0
+MayEnd actor c = (is_some c.core.stop ≡ true) ⊎ (actor ≤ 16) ⊎ (is_done c ≡ true) ⊎ ((actor ≡ 19) × (c.left ≡ 0))
+
+abbrev pub GoesWell : ℕ → Next → List ℕ → Course → Type 0
+GoesWell actor nexts.Goes moves c = Unit {0}
+GoesWell actor (nexts.Waits pause) moves c = still_waits pause moves c ≡ true
+GoesWell actor nexts.Ends moves c = MayEnd actor c

@@ -1,0 +1,89 @@
+//! Who takes turns.
+ghost use Rattle.hb_space.specs.Actors.{IsActor};
+
+use crate::turns::Next;
+use hb_set::Line;
+use hb_space::{Actor, NoMemory};
+use std::alloc::Global;
+
+/// How many sessions there are: actors 1 to 16.
+pub(crate) const SESSIONS: u8 = 16;
+
+/// The actor that posts.
+pub(crate) const POSTER: Actor = 17;
+
+/// The actor that merges.
+pub(crate) const CONSOLIDATOR: Actor = 18;
+
+/// The actor that flushes.
+pub(crate) const FLUSHER: Actor = 19;
+
+/// One who takes turns.
+#[derive(Debug, Drop)]
+pub(crate) struct Seat {
+    pub(crate) actor: Actor,
+    ghost may: { IsActor actor },
+}
+
+impl Seat {
+    /// The seat of the actor.
+    pub(crate) fn of(actor: Actor) -> Seat
+        requires { IsActor actor }
+    {
+        Seat { actor }
+    }
+}
+
+/// The sessions that have a line.
+pub(crate) fn sessions_of(alloc: Global, lines: &[Line]) -> Result<Vec<Seat>, NoMemory> {
+    let mut seats = Vec::new(alloc);
+    for session in 1..=SESSIONS {
+        if lines.iter().any(|line| line.session == session) {
+            seats.push(Seat::of(session))?;
+        }
+    }
+    Ok(seats)
+}
+
+/// A worker, and what it does next in the thread of the caller. One that has a thread of its own has ended there.
+#[derive(Debug, Drop)]
+pub(crate) struct Hand {
+    pub(crate) seat: Seat,
+    pub(crate) next: Next,
+}
+
+/// The workers, whose turns the caller takes where no thread could be made for them.
+#[derive(Debug, Drop)]
+pub(crate) struct Crew {
+    pub(crate) hands: [Hand; 3],
+}
+
+impl Crew {
+    /// Who posts, who merges and who flushes, as far as they were refused.
+    pub(crate) fn of(poster: bool, consolidator: bool, flusher: bool) -> Crew {
+        Crew {
+            hands: [
+                hand_for(POSTER, poster),
+                hand_for(CONSOLIDATOR, consolidator),
+                hand_for(FLUSHER, flusher),
+            ],
+        }
+    }
+
+    /// Whether all have ended.
+    pub(crate) fn has_ended(&self) -> bool {
+        self.hands
+            .iter()
+            .all(|hand| matches!(hand.next, Next::Ends))
+    }
+}
+
+/// A worker that begins, where it was refused.
+fn hand_for(actor: Actor, refused: bool) -> Hand
+    requires { IsActor actor }
+{
+    Hand {
+        seat: Seat::of(actor),
+        next: if refused { Next::Goes } else { Next::Ends },
+    }
+}

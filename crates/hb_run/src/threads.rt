@@ -1,0 +1,208 @@
+//! The threads of a run: each session with a line has one, and so have who posts, who merges and who flushes.
+ghost use Rattle.std.specs.Prelude.{◌≡◌, is_some, false, true};
+ghost use Rattle.hb_core.specs.CoreSeen.{core_seen};
+ghost use Rattle.hb_run.specs.CourseSeen.{course_seen};
+ghost use Rattle.hb_run.specs.Courses.{KeepsRun};
+ghost use Rattle.hb_run.specs.Turning.{is_done};
+
+use crate::begun::Begun;
+use crate::bells::Bells;
+use crate::courses::Course;
+use crate::gates::{Gate, Place};
+use crate::seats::{CONSOLIDATOR, Crew, FLUSHER, POSTER, SESSIONS, Seat};
+use crate::shared::Shared;
+use crate::turns::{Next, Pause};
+use hb_disk::Disk;
+use hb_outside::Sink;
+use std::sync::{Mutex, MutexGuard, Wait};
+use std::thread;
+use std::thread::Threads;
+
+/// What each thread sees of a run.
+#[derive(Drop)]
+pub(crate) struct Hall<'h, R: Wait, N: Begun, D: Disk, K: Sink, G: Gate> {
+    pub(crate) rt: &'h R,
+    pub(crate) lock: &'h Mutex<Shared<N, D, K>>,
+    pub(crate) bells: &'h Bells,
+    pub(crate) gate: &'h G,
+}
+
+impl<R: Wait, N: Begun, D: Disk, K: Sink, G: Gate> Hall<'_, R, N, D, K, G> {
+    /// All turns of an actor, in a thread of its own.
+    fn work(&self, seat: &Seat) {
+        self.gate.at(seat.actor, Place::Start);
+        for _ in self.rt.forever() {
+            match self.turn(seat) {
+                Next::Goes => {}
+                Next::Waits(pause) => self.wait(&pause),
+                Next::Ends => break,
+            }
+            self.gate.at(seat.actor, Place::Between);
+        }
+        self.gate.at(seat.actor, Place::End);
+    }
+
+    /// A turn under one hold of the lock, or a look that takes none. Whoever it is news for is rung with the lock let go.
+    fn turn(&self, seat: &Seat) -> Next {
+        let mut held = self.lock.lock(self.rt);
+        let (next, news) = held.turn(seat.actor);
+        drop(held);
+        self.bells.ring(news);
+        next
+    }
+
+    /// Waits till what is waited for has come. The lock is let go meanwhile.
+    fn wait(&self, pause: &Pause) {
+        let Some(bell) = self.bells.of(pause) else {
+            return;
+        };
+        let held = self.lock.lock(self.rt);
+        let held = bell.wait_while(self.rt, held, |shared| shared.still_waits(pause));
+        drop(held);
+    }
+
+    /// All turns of the workers for whom no thread could be made, one of each in turn.
+    fn work_for(&self, crew: &mut Crew) {
+        self.start(crew);
+        for _ in self.rt.forever() {
+            if crew.has_ended() {
+                return;
+            }
+            self.turn_each(crew);
+            self.wait_for_any(crew);
+        }
+    }
+
+    /// Those of the crew begin that were refused.
+    fn start(&self, crew: &Crew) {
+        for hand in &crew.hands {
+            if !matches!(hand.next, Next::Ends) {
+                self.gate.at(hand.seat.actor, Place::Start);
+            }
+        }
+    }
+
+    /// A turn of each that hasn't ended.
+    fn turn_each(&self, crew: &mut Crew) {
+        for hand in &mut crew.hands {
+            if matches!(hand.next, Next::Ends) {
+                continue;
+            }
+            hand.next = self.turn(&hand.seat);
+            let place = if matches!(hand.next, Next::Ends) {
+                Place::End
+            } else {
+                Place::Between
+            };
+            self.gate.at(hand.seat.actor, place);
+        }
+    }
+
+    /// Waits while all of them wait.
+    fn wait_for_any(&self, crew: &Crew) {
+        if crew.has_ended() {
+            return;
+        }
+        let held = self.lock.lock(self.rt);
+        let held = self
+            .bells
+            .any()
+            .wait_while(self.rt, held, |shared| all_wait(shared, crew));
+        drop(held);
+    }
+}
+
+/// Whether each of the crew that hasn't ended waits.
+fn all_wait<N: Begun, D: Disk, K: Sink>(shared: &Shared<N, D, K>, crew: &Crew) -> bool {
+    crew.hands.iter().all(|hand| match &hand.next {
+        Next::Goes => false,
+        Next::Waits(pause) => shared.still_waits(pause),
+        Next::Ends => true,
+    })
+}
+
+/// All turns of these sessions, each in a thread where one can be made.
+fn work_sessions<
+    R: Threads + Wait + Sync,
+    N: Begun + Send + Sync,
+    D: Disk + Send,
+    K: Sink + Send,
+    G: Gate + Sync,
+>(rt: &R, hall: &Hall<'_, R, N, D, K, G>, sessions: &mut [Seat]) {
+    thread::for_each_mut(
+        rt,
+        sessions,
+        usize::from(SESSIONS),
+        &|_, seat| { hall.work(seat) },
+    );
+}
+
+/// All turns of the sessions and of the three workers. It returns once all have ended.
+fn work_all<
+    R: Threads + Wait + Sync,
+    N: Begun + Send + Sync,
+    D: Disk + Send,
+    K: Sink + Send,
+    G: Gate + Sync,
+>(rt: &R, hall: &Hall<'_, R, N, D, K, G>, sessions: &mut [Seat]) {
+    thread::scope(thread::scope_env(), rt, |scope| {
+        let poster = scope.spawn(move || hall.work(&Seat::of(POSTER)));
+        let consolidator = scope.spawn(move || hall.work(&Seat::of(CONSOLIDATOR)));
+        let flusher = scope.spawn(move || hall.work(&Seat::of(FLUSHER)));
+        work_sessions(rt, hall, sessions);
+        let mut crew = Crew::of(poster.is_err(), consolidator.is_err(), flusher.is_err());
+        hall.work_for(&mut crew);
+    });
+}
+
+/// Turns of all actors but who flushes, one after the other, until nothing is left to do or the core is stopped. No other thread has
+/// the run.
+fn work_off<R: Wait, N: Begun, D: Disk, K: Sink>(rt: &R, course: Course<D, K>) -> Course<D, K>
+    requires { KeepsRun N.beginning (course_seen D.model K.model course) }
+    ensures keeps { KeepsRun N.beginning (course_seen D.model K.model result) }
+    ensures whole { is_some (core_seen result.core).stop ≡ false → is_done (course_seen D.model K.model result) ≡ true }
+{
+    let mut run = course;
+    for _ in rt.forever() {
+        if run.is_stopped() || run.is_done() {
+            return run;
+        }
+        turn_each::<N, D, K>(&mut run);
+    }
+    unreachable!()
+}
+
+/// A turn of each actor but who flushes.
+fn turn_each<N: Begun, D: Disk, K: Sink>(course: &mut Course<D, K>)
+    requires { KeepsRun N.beginning (course_seen D.model K.model course.old) }
+    ensures { KeepsRun N.beginning (course_seen D.model K.model course.new) }
+{
+    for actor in 1..FLUSHER {
+        let (_turn, news) = course.turn::<N>(actor);
+        news.is_for_nobody();
+    }
+}
+
+/// All turns of a run: those of the threads, until all have ended, and the caller's, where they left something.
+pub(crate) fn take_turns<
+    R: Threads + Wait + Sync,
+    N: Begun + Send + Sync,
+    D: Disk + Send,
+    K: Sink + Send,
+    G: Gate + Sync,
+>(rt: &R, course: Course<D, K>, gate: &G, bells: &Bells, sessions: &mut [Seat]) -> Course<D, K>
+    requires { KeepsRun N.beginning (course_seen D.model K.model course) }
+    ensures keeps { KeepsRun N.beginning (course_seen D.model K.model result) }
+    ensures whole { is_some (core_seen result.core).stop ≡ false → is_done (course_seen D.model K.model result) ≡ true }
+{
+    let lock: Mutex<Shared<N, D, K>> = Mutex::new(Shared::new(course));
+    let hall = Hall {
+        rt,
+        lock: &lock,
+        bells,
+        gate,
+    };
+    work_all(rt, &hall, sessions);
+    drop(hall);
+    work_off::<R, N, D, K>(rt, lock.into_inner().into_course())
+}

@@ -1,0 +1,62 @@
+use Rattle.std.proofs.Common.{sym, subst, arith}
+use Rattle.hb_core.specs.CoreSeen.{core_disk, core_seen}
+use Rattle.hb_disk.specs.Model.{DiskModel}
+use Rattle.hb_outside.specs.Calls.{SinkModel}
+use Rattle.hb_restart.specs.Beyond.{KeepsBeyondFile}
+use Rattle.hbpi.proofs.CoreEnds.{RanCore, core_beyond, core_ends, may_begin}
+use Rattle.hbpi.proofs.Turned.{turned}
+use Rattle.hbpi.proofs.WorkedOff.{ran_off}
+use Rattle.hbpi.specs.Driven.{by_threads}
+use Rattle.hbpi.proofs.run_file.run_file.Goals as goal
+
+pub run-requires-clause-may : goal.run-requires-clause-may
+run-requires-clause-may g c κs within = may_begin _ _ _ _ _ _ c.in-Ok.ensures.started
+
+pub returns-in-Ok-clause-ends : goal.returns-in-Ok-clause-ends
+returns-in-Ok-clause-ends g c =
+    let M : g.row.D.Denot → DiskModel = g.D.Device.model in
+    let S : g.row.K.Denot → SinkModel = g.K.Sink.model in
+    let facts : RanCore M S by_threads (core_disk c.in-Ok.core) (core_disk c.run.result.core) c.finish.result.disk c.args.sink c.run.result.sink c.finish.result.sink (core_seen c.in-Ok.core) (core_seen c.run.result.core)
+    c.run.result.end c.run.result.answered.items c.finish.result.answered.items c.finish.result.order.items c.finish.result.status = record {
+      unbegun = c.run.ensures.unbegun;
+      drives = λ some m may. ran_off (c.run.ensures.runs some m may);
+      status_is = c.finish.ensures.status;
+      disk_is = c.finish.ensures.disk;
+      answered_is = c.finish.ensures.answered;
+      order_is = c.finish.ensures.order;
+      silent = c.finish.ensures.silent;
+      silent_done = c.finish.ensures.silent_done;
+      line = c.finish.ensures.line;
+    } in
+    core_ends _ _ _ _ _ _ _ _ _ _ _ _ _ _ _ _ facts c.knows_laws.ensures _ _ _ c.in-Ok.ensures.started
+
+pub returns-in-Ok-clause-beyond : goal.returns-in-Ok-clause-beyond
+returns-in-Ok-clause-beyond g c =
+    let M : g.row.D.Denot → DiskModel = g.D.Device.model in
+    let S : g.row.K.Denot → SinkModel = g.K.Sink.model in
+    let facts : RanCore M S by_threads (core_disk c.in-Ok.core) (core_disk c.run.result.core) c.finish.result.disk c.args.sink c.run.result.sink c.finish.result.sink (core_seen c.in-Ok.core) (core_seen c.run.result.core)
+    c.run.result.end c.run.result.answered.items c.finish.result.answered.items c.finish.result.order.items c.finish.result.status = record {
+      unbegun = c.run.ensures.unbegun;
+      drives = λ some m may. ran_off (c.run.ensures.runs some m may);
+      status_is = c.finish.ensures.status;
+      disk_is = c.finish.ensures.disk;
+      answered_is = c.finish.ensures.answered;
+      order_is = c.finish.ensures.order;
+      silent = c.finish.ensures.silent;
+      silent_done = c.finish.ensures.silent_done;
+      line = c.finish.ensures.line;
+    } in
+    core_beyond _ _ _ _ _ _ _ _ _ _ _ _ _ _ _ _ facts c.knows_laws.ensures _ _ _ c.in-Ok.ensures.started
+
+pub returns-in-Err-clause-ends : goal.returns-in-Err-clause-ends
+returns-in-Err-clause-ends g c =
+    turned g.D.Device.model by_threads c.args.disk c.in-Err.disk c.refused.result.disk _ _ _ _ _ _ c.in-Err.status c.refused.result.status c.refused.ensures.disk c.refused.ensures.status
+    c.refused.ensures.line c.refused.ensures.answered c.refused.ensures.order c.in-Err.ensures.refused
+
+pub returns-in-Err-clause-beyond : goal.returns-in-Err-clause-beyond
+returns-in-Err-clause-beyond g c =
+    let M : g.row.D.Denot → DiskModel = g.D.Device.model in
+    subst (λ (x : g.row.D.Denot). KeepsBeyondFile (M c.args.disk) (M x)) (sym c.refused.ensures.disk) c.in-Err.ensures.beyond
+
+pub returns-in-Ok-clause-sink_later : goal.returns-in-Ok-clause-sink_later
+returns-in-Ok-clause-sink_later g c = omega (arith, c.run.ensures.later, c.finish.ensures.later)

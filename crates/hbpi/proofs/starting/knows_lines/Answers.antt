@@ -1,0 +1,17 @@
+use Rattle.std.proofs.Common.{arith}
+use Rattle.hb_core.specs.KeptLines.{HasLineBody}
+use Rattle.hbpi.specs.Schedules.{HasLineBox}
+use Rattle.hbpi.proofs.RunLines.{each_line, each_more}
+use Rattle.hbpi.proofs.starting.knows_lines.Goals as goal
+
+pub loop-line-preserved : goal.loop-line-preserved
+loop-line-preserved c = record {
+  bodies = each_more HasLineBody c.args.lines.now c.loop-line.line-index c.line-item.result (omega arith) c.line-item.is c.knows_line.ensures.body c.loop-line.invariant.bodies;
+  boxes = each_more HasLineBox c.args.lines.now c.loop-line.line-index c.line-item.result (omega arith) c.line-item.is c.knows_line.ensures.area c.loop-line.invariant.boxes;
+}
+
+pub returns-clause-bodies : goal.returns-clause-bodies
+returns-clause-bodies c = each_line HasLineBody c.args.lines.now c.loop-line.line-index (omega arith) c.loop-line.invariant.bodies
+
+pub returns-clause-boxes : goal.returns-clause-boxes
+returns-clause-boxes c = each_line HasLineBox c.args.lines.now c.loop-line.line-index (omega arith) c.loop-line.invariant.boxes

@@ -1,0 +1,30 @@
+use Rattle.std.proofs.Common.{◌≡◌, ℕ, ap, subst, ◌∙◌, arith}
+use Rattle.hb_core.specs.Taking.{begun_core}
+use Rattle.hb_layout.specs.declared.meta.Meta.{Meta}
+use Rattle.hb_set.proofs.Facts.ScriptLaws.{script_is_short}
+use Rattle.hb_store.specs.Seen.{held_by, seen_as}
+use Rattle.hbpi.proofs.Begins.{no_frame}
+use Rattle.hbpi.specs.Schedules.{IsScheduled, IsScript}
+use Rattle.hbpi.proofs.starting.make_core.Goals as goal
+
+pub over-requires : goal.over-requires
+over-requires g c = omega (arith, script_is_short c.meta.result.now.k c.in-Ok.script.lines c.in-Ok.ensures.script.script)
+
+pub returns-in-Ok-over-clause-made : goal.returns-in-Ok-over-clause-made
+returns-in-Ok-over-clause-made g c =
+    let before = g.S.Source.model c.args.source.now in
+    let after = g.S.Source.model c.read_script.new.source in
+    let store = c.args.store in
+    let script = c.in-Ok.script in
+    let k : c.meta.result.now.k ≡ (seen_as store).meta.k = ap (λ (m : Meta). m.k) c.meta.ensures.meta in (
+      c.in-Ok-over.ensures.disk,
+      record {
+        lines = script.lines;
+        steps = script.steps;
+        scheduled = subst (λ (n : ℕ). IsScheduled c.args.step_lines n before.left after.left script.lines script.steps) k c.in-Ok.ensures.read;
+        source = c.in-Ok.ensures.no_fault;
+        script = subst (λ (n : ℕ). IsScript n script.lines script.steps) k c.in-Ok.ensures.script;
+        stands = c.meta.ensures.store.memory.stands;
+        core_is = c.in-Ok-over.ensures.seen ∙ ap (begun_core script.lines script.steps (seen_as store)) (no_frame (held_by store) c.requires.new c.meta.ensures.tied);
+      },
+    )

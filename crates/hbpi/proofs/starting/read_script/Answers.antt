@@ -1,0 +1,14 @@
+use Rattle.hbpi.proofs.TextPieces.{short_is_whole}
+use Rattle.hbpi.proofs.starting.read_script.Goals as goal
+
+pub returns-in-Ok-read_commands-clause-read : goal.returns-in-Ok-read_commands-clause-read
+returns-in-Ok-read_commands-clause-read g c =
+    let facts = c.in-Ok-read_commands.ensures in
+    record {
+      text = c.as_slice.result.now;
+      whole = short_is_whole _ _ c.as_slice.result.now (rw c.as_slice.ensures.value c.in-Ok.ensures.text) facts.short;
+      says = facts.exact;
+    }
+
+pub read_commands-requires : goal.read_commands-requires
+read_commands-requires g c = record { some = c.requires.some; few = c.requires.few }

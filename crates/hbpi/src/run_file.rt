@@ -1,0 +1,37 @@
+//! The command `run`.
+ghost use Rattle.std.specs.Prelude.{◌≤◌};
+ghost use Rattle.hb_restart.specs.Beyond.{KeepsBeyondFile};
+ghost use Rattle.hbpi.specs.Driven.{StepsEnd, by_threads};
+ghost use Rattle.hbpi.specs.SeenRuns.{run_of, seen_by};
+
+use crate::dry::refused;
+use crate::finished::Finished;
+use crate::finishing::finish;
+use crate::starting::{knows_laws, start};
+use hb_disk::Disk;
+use hb_outside::{Sink, Source};
+use hb_run::{Gate, run};
+use std::alloc::Global;
+use std::sync::Wait;
+use std::thread::Threads;
+
+/// The command `run`: opens the file of the disk, reads a text, runs its sessions in threads, and writes the replies and the
+/// order.
+pub(crate) fn run_file<
+    R: Threads + Wait + Sync,
+    S: Source,
+    K: Sink + Send,
+    D: Disk + Send,
+    G: Gate + Sync,
+>(rt: &R, alloc: Global, source: &mut S, sink: K, disk: D, gate: &G) -> Finished<K, D>
+    ensures ends { StepsEnd by_threads (run_of (seen_by (S.model source.old) (S.model source.new) (K.model sink) (K.model result.sink) result.answered.items result.order.items) (D.model disk) (D.model result.disk)) result.status }
+    ensures beyond { KeepsBeyondFile (D.model disk) (D.model result.disk) }
+    ensures source_later { (S.model source.old).faults ≤ (S.model source.new).faults }
+    ensures sink_later { (K.model sink).faults ≤ (K.model result.sink).faults }
+{
+    knows_laws();
+    match start(alloc, false, source, disk) {
+        Ok(core) => finish(run(rt, alloc, core, sink, gate)),
+        Err((status, disk)) => refused(alloc, status, sink, disk),
+    }
+}

@@ -1,0 +1,132 @@
+//! A file that is opened, and a text that is read, before the first step.
+ghost use Rattle.std.specs.Prelude.{◌≡◌, ◌<◌, ◌≤◌, [], All, IfOk, IfErr, OnOk};
+ghost use Rattle.hb_core.specs.CoreSeen.{core_seen, core_disk};
+ghost use Rattle.hb_core.specs.KeptLines.{HasLineBody};
+ghost use Rattle.hb_restart.specs.Beyond.{KeepsBeyondFile};
+ghost use Rattle.hb_store.specs.Seen.{seen_as, disk_of};
+ghost use Rattle.hb_store.specs.States.{IsNew};
+ghost use Rattle.hbpi.specs.Schedules.{HasLineBox, IsScheduled, IsScript, NotScheduled};
+ghost use Rattle.hbpi.specs.Starts.{IsMadeCore, IsNotStarted, IsStarted, StartLaws};
+
+use crate::statuses::Status;
+use crate::texts::{TextStop, read_text};
+use hb_core::Core;
+use hb_core::file_laws::a_beginning_keeps_all;
+use hb_core::keeping_laws::steps_keep_all;
+use hb_disk::Disk;
+use hb_outside::Source;
+use hb_restart::recover;
+use hb_set::{Command, Line, Script};
+use hb_sound::laws::{a_level_parts_the_space, a_walk_ends_at_the_responsible_page};
+use hb_space::form::KMAX;
+use hb_store::{Store, an_image_opens_to_one_file};
+use hb_text::{TextError, read_commands};
+use std::alloc::Global;
+
+/// The laws that a run rests on.
+pub(crate) fn knows_laws()
+    ensures { StartLaws }
+{
+    a_beginning_keeps_all();
+    steps_keep_all();
+    an_image_opens_to_one_file();
+    a_walk_ends_at_the_responsible_page();
+    a_level_parts_the_space();
+}
+
+/// That a line's body can be stored, and that its box is one, which their types say.
+fn knows_line(line: &Line)
+    ensures body { HasLineBody line.now }
+    ensures area { HasLineBox line.now }
+{
+    match &line.command {
+        Command::Insert(record) => {
+            let _bytes = record.body.bytes();
+        }
+        Command::Search(area) => {
+            let _corner = area.lo();
+        }
+        Command::Delete(_) | Command::Lookup(_) => {}
+    }
+}
+
+/// So of each of these lines.
+fn knows_lines(lines: &[Line])
+    ensures bodies { All HasLineBody lines.now }
+    ensures boxes { All HasLineBox lines.now }
+{
+    for line in lines {
+        knows_line(line);
+    }
+}
+
+/// Reads the script of a text over `k` attributes, with step lines or without, or the status that refuses it.
+fn read_script<S: Source>(
+    alloc: Global,
+    k: u8,
+    step_lines: bool,
+    source: &mut S,
+) -> Result<Script, Status>
+    requires some { 0 < k }
+    requires few { k ≤ KMAX }
+    ensures read { IfOk result (λ script. IsScheduled step_lines k (S.model source.old).left (S.model source.new).left script.lines script.steps) }
+    ensures script { IfOk result (λ script. IsScript k script.lines script.steps) }
+    ensures refused { IfErr result (NotScheduled step_lines k (S.model source.old) (S.model source.new)) }
+    ensures no_fault { OnOk result ((S.model source.new).faults ≡ (S.model source.old).faults) }
+    ensures later { (S.model source.old).faults ≤ (S.model source.new).faults }
+{
+    let text = match read_text(alloc, source) {
+        Ok(text) => text,
+        Err(TextStop::SourceFault) => return Err(Status::SourceFault),
+        Err(TextStop::NoMemory) => return Err(Status::NoMemory),
+    };
+    match read_commands(alloc, text.as_slice(), k, step_lines) {
+        Ok(script) => {
+            knows_lines(script.lines.as_slice());
+            Ok(script)
+        }
+        Err(TextError::Bad(bad)) => Err(Status::BadText(bad)),
+        Err(TextError::NoMemory) => Err(Status::NoMemory),
+    }
+}
+
+/// Reads the script, and makes a core over a store that was just opened. Otherwise the disk comes back, with the status.
+fn make_core<S: Source, D: Disk>(
+    alloc: Global,
+    step_lines: bool,
+    source: &mut S,
+    store: Store<D>,
+) -> Result<Core<D>, (Status, D)>
+    requires new { IsNew (seen_as store).turn (seen_as store).meta (seen_as store) }
+    ensures made { IfOk result (λ core. (core_disk core ≡ disk_of store) × IsMadeCore step_lines (seen_as store) (S.model source.old) (S.model source.new) (core_seen core)) }
+    ensures refused { IfErr result (λ e. (e.1 ≡ disk_of store) × NotScheduled step_lines (seen_as store).meta.k (S.model source.old) (S.model source.new) e.0) }
+    ensures later { (S.model source.old).faults ≤ (S.model source.new).faults }
+{
+    let k = store.meta().k;
+    match read_script(alloc, k, step_lines, source) {
+        Ok(script) => match Core::over(alloc, store, script) {
+            Ok(core) => Ok(core),
+            Err((_, store)) => Err((Status::NoMemory, store.into_disk())),
+        },
+        Err(status) => Err((status, store.into_disk())),
+    }
+}
+
+/// Opens the file of the disk, reads a text, with step lines or without, and makes a core over both. Otherwise the disk comes
+/// back, with the status that refuses it.
+pub(crate) fn start<S: Source, D: Disk>(
+    alloc: Global,
+    step_lines: bool,
+    source: &mut S,
+    disk: D,
+) -> Result<Core<D>, (Status, D)>
+    ensures started { IfOk result (λ core. IsStarted step_lines (S.model source.old) (S.model source.new) (D.model disk) (D.model (core_disk core)) (core_seen core)) }
+    ensures refused { IfErr result (λ e. IsNotStarted step_lines (S.model source.old) (S.model source.new) (D.model disk) (D.model e.1) e.0) }
+    ensures beyond { IfErr result (λ e. KeepsBeyondFile (D.model disk) (D.model e.1)) }
+    ensures later { (S.model source.old).faults ≤ (S.model source.new).faults }
+{
+    match recover(alloc, disk) {
+        Ok((store, _)) => make_core(alloc, step_lines, source, store),
+        Err((fault, disk)) => Err((Status::from(fault), disk)),
+    }
+}

@@ -1,0 +1,201 @@
+//! Texts under `run`, whose sessions run in threads, over disks in memory.
+
+use crate::runs::{
+    CREATE, Left, NEVER, SIZE, drive_on, expect_said, file_of, left_by, left_of, said_of, sink_of,
+    source_of, words_of,
+};
+use crate::stops::BEFORE_FORCES;
+use hb_disk::{Disk, MemDisk, Pick, RotDisk};
+use hb_outside::MemSink;
+use hb_run::{FreeGate, Gate, HoldGate};
+use hbpi::top::{quiet, top};
+use hbpi::{Finished, Form};
+use std::alloc::Global;
+use std::sync::Wait;
+use std::thread::Threads;
+
+/// A file of two attributes, else as that of `CREATE`.
+const PLANE: &str = "create 2 64 65536 6 32";
+
+/// The texts for such a file, and what the program says: its exit status, and its output.
+const TEXTS: [(&str, &str); 6] = [
+    ("", "0 order\n"),
+    (
+        "1 insert 5 7 =a\n1 insert 5 7 =b\n1 lookup 5 7\n",
+        "0 1 ok\n2 duplicate\n3 found =a\norder 1 2 3\n",
+    ),
+    (
+        "1 insert 18446744073709551615 0 =\n1 search 0 18446744073709551615 0 18446744073709551615\n",
+        "0 1 ok\n2 box 1\n+ 18446744073709551615 0 =\norder 1 2\n",
+    ),
+    (
+        "1 insert 18446744073709551616 0 =x\n",
+        "3 bad text 1 TooLarge\n",
+    ),
+    ("1 insert 5 7 =a\nstep 1x20\n", "3 bad text 2 BadStep\n"),
+    ("16 delete 5 7\n", "0 1 absent\norder 1\n"),
+];
+
+/// Two changes of one session.
+const TWO: &str = "1 insert 5 7 =a\n1 insert 6 7 =b\n";
+
+/// Looks for both.
+const LOOKUPS: &str = "1 lookup 5 7\n1 lookup 6 7\nstep 1x20\n";
+
+/// One change of each of two sessions.
+const BOTH: &str = "1 insert 1 1 =\n2 insert 2 2 =\n";
+
+/// Runs the program over a disk, with a gate. The source fails at the first of these calls, and the sink at the second.
+fn run_words<R: Threads + Wait + Sync, D: Disk + Drop + Send, G: Gate + Sync>(
+    rt: &R,
+    alloc: Global,
+    words: &str,
+    text: &str,
+    failing: (u64, u64),
+    disk: D,
+    gate: &G,
+) -> Option<Finished<MemSink, D>> {
+    let list = words_of(alloc, words)?;
+    let mut source = source_of(alloc, text, failing.0)?;
+    let sink = sink_of(alloc, failing.1)?;
+    Some(top(rt, alloc, list.as_slice(), &mut source, sink, disk, gate))
+}
+
+/// The bytes of a new file of two attributes.
+fn plane(alloc: Global) -> Option<Vec<u8>> {
+    left_of(alloc, PLANE, &[], SIZE, 0)
+}
+
+/// Runs a text over such a file, the call of this number of the disk failing.
+fn run_on_plane<R: Threads + Wait + Sync, G: Gate + Sync>(
+    rt: &R,
+    alloc: Global,
+    text: &str,
+    call: u64,
+    gate: &G,
+) -> Option<Left> {
+    let calls = Vec::from_slice(alloc, &[call]).ok()?;
+    let disk = MemDisk::failing(alloc, plane(alloc)?, calls);
+    left_by(
+        alloc,
+        run_words(rt, alloc, "run", text, (NEVER, NEVER), disk, gate)?,
+    )
+}
+
+/// What the words say over a new file of one attribute whose source and sink fail at these calls.
+fn with_faults<R: Threads + Wait + Sync>(
+    rt: &R,
+    alloc: Global,
+    words: &str,
+    failing: (u64, u64),
+) -> Option<Left> {
+    let disk = MemDisk::new(alloc, file_of(alloc, &[])?);
+    left_by(
+        alloc,
+        run_words(
+            rt,
+            alloc,
+            words,
+            "1 insert 5 =a\n",
+            failing,
+            disk,
+            &FreeGate,
+        )?,
+    )
+}
+
+#[test]
+fn texts_run_in_threads(rt: HostRuntime) {
+    for &(text, want) in &TEXTS {
+        let left = run_on_plane(&rt, rt.alloc(), text, NEVER, &FreeGate);
+        expect_said(&rt, left, want, text);
+    }
+}
+
+/// The words, the calls at which source and sink fail, and what the program says.
+const FAULTS: [(&str, (u64, u64), &str); 5] = [
+    ("run", (0, NEVER), "4 source fault\n"),
+    ("run", (NEVER, 0), "5 "),
+    ("run", (NEVER, 1), "5 1 ok\n"),
+    ("work 1 1", (0, NEVER), "11 not built\n"),
+    ("run run", (0, 0), "2 "),
+];
+
+#[test]
+fn streams_fail_under_threads(rt: HostRuntime) {
+    for &(words, failing, want) in &FAULTS {
+        let left = with_faults(&rt, rt.alloc(), words, failing);
+        expect_said(&rt, left, want, words);
+    }
+}
+
+/// The sync behind the gate byte of the second frame: each frame takes four calls.
+const SECOND_GATE: u64 = BEFORE_FORCES + 7;
+
+/// What stands in the file that a crash leaves of that run, where that byte is the old one or the new one.
+fn after_crash<R: Threads + Wait + Sync>(rt: &R, alloc: Global, pick: Pick) -> Option<Left> {
+    let left = run_on_plane(rt, alloc, TWO, SECOND_GATE, &FreeGate)?;
+    let image = left.disk.image(SECOND_GATE, pick).ok()??;
+    drive_on(alloc, LOOKUPS, image.as_slice())
+}
+
+#[test]
+fn a_failed_force_stops_a_run(rt: HostRuntime) {
+    let alloc = rt.alloc();
+    let left = run_on_plane(&rt, alloc, TWO, SECOND_GATE, &FreeGate);
+    let want = "6 1 ok\n2 unanswered\norder 1 | 2\ndisk fault\n";
+    expect_said(&rt, left, want, "the run");
+    let old = "0 1 found =a\n2 none\norder 1 2\n";
+    expect_said(&rt, after_crash(&rt, alloc, Pick::Old), old, "old");
+    let new = "0 1 found =a\n2 found =b\norder 1 2\n";
+    expect_said(&rt, after_crash(&rt, alloc, Pick::New), new, "new");
+}
+
+/// What a run says whose page 1 goes bad behind the recovery.
+fn rotten<R: Threads + Wait + Sync>(rt: &R, alloc: Global) -> Option<String> {
+    let disk = RotDisk {
+        inner: MemDisk::new(alloc, file_of(alloc, &[])?),
+        before: BEFORE_FORCES - 1,
+        at: 139_264,
+        byte: 9,
+    };
+    let text = "1 lookup 1\n";
+    let ran = run_words(rt, alloc, "run", text, (NEVER, NEVER), disk, &FreeGate)?;
+    said_of(alloc, ran.status, &ran.sink)
+}
+
+#[test]
+fn a_bad_page_stops_a_run(rt: HostRuntime) {
+    let said = rotten(&rt, rt.alloc()).expect(&rt, "memory");
+    let said = said.as_str();
+    assert!(&rt; said == "7 1 unanswered\norder\ndamaged 1 S0\n", "{said}");
+}
+
+#[test]
+fn sessions_take_turns(rt: HostRuntime) {
+    let gate = HoldGate::new();
+    let left = run_on_plane(&rt, rt.alloc(), BOTH, NEVER, &gate);
+    expect_said(&rt, left, "0 2 ok\n1 ok\norder 2 1\n", "held");
+    assert!(&rt; gate.met());
+}
+
+/// What `check` says without threads over a new file.
+fn checked<R: Threads + Sync>(rt: &R, alloc: Global) -> Option<Left> {
+    let list = words_of(alloc, "check")?;
+    if Form::is_threaded(Form::of_words(list.as_slice())) {
+        return None;
+    }
+    let disk = MemDisk::new(alloc, file_of(alloc, &[])?);
+    let mut source = source_of(alloc, "", NEVER)?;
+    let sink = sink_of(alloc, NEVER)?;
+    left_by(
+        alloc,
+        quiet(rt, alloc, list.as_slice(), &mut source, sink, disk),
+    )
+}
+
+#[test]
+fn a_check_waits_for_nobody(rt: HostRuntime) {
+    let want = "0 sound height 1 pages 1 records 0\n";
+    expect_said(&rt, checked(&rt, rt.alloc()), want, CREATE);
+}
