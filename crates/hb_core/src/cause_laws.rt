@@ -12,8 +12,7 @@ pub fn sessions_answer_their_first_line()
 
 /// A line is `read fault` only where a page of the file that the step needs isn't in memory; and `no memory`
 /// only for a page that the step decodes, for what the step's row takes, or for the boxes of a search that
-/// begins. It is `full` only where the page that is to be split has no room and no page is free, or where the
-/// step can't be made ready and nothing is left to flush.
+/// begins. It is `full` only where the page that is to be split has no room and no page is free.
 pub fn lines_are_refused_by_cause()
     ensures fault { ReadFaultByCause }
     ensures memory { NoMemoryByCause }
@@ -39,7 +38,7 @@ pub fn jobs_leave_to_workers()
 {}
 
 /// A job in work stays in work of its worker, or waits again, or is dropped, or ends: by a row of the table
-/// and for a cause that this names, or since its step can't be made ready and nothing is left to flush.
+/// and for a cause that this names.
 #[tactic(auto, using(crate::proofs::Table::Causes::jobs_end_by_cause))]
 pub fn jobs_end_by_cause()
     ensures { JobsEndByCause }
