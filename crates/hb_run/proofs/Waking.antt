@@ -1,11 +1,11 @@
 -- Whoever waited for what a turn brought is rung.
-use Rattle.std.proofs.Common.{◌≡◌, ◌≢◌, ℕ, ◌==◌, Bool, true, false, not, ◌||◌, ◌&&◌, List, Option, is_some, refl, sym, ap, ◌∙◌, subst}
+use Rattle.std.proofs.Common.{◌≡◌, ◌≢◌, ℕ, ◌==◌, nat_lt, Bool, true, false, not, ◌||◌, ◌&&◌, List, Option, is_some, refl, sym, ap, ◌∙◌, subst}
 use Rattle.std.specs.List.{slice_get}
 use Rattle.std.proofs.lemmas.Bool.{false≢true}
 use Rattle.hb_activity.specs.declared.jobs.JobKind.TheVariants.{Post, Merge}
 use Rattle.hb_lemmas.proofs.Booleans.{if_same}
 use Rattle.hb_run.specs.Courses.{Course}
-use Rattle.hb_run.specs.Turning.{CountsMove, IsNews, WakesAll, is_done, is_due, is_so, jobs_left, rings, still_waits}
+use Rattle.hb_run.specs.Turning.{CountsMove, IsNews, WakesAll, is_done, is_due, is_so, jobs_left, rings, round_of, settled_of, still_waits}
 use Rattle.hb_run.specs.declared.turns.News.{News}
 use Rattle.hb_run.specs.declared.turns.Pause.{Pause}
 use Rattle.hb_run.specs.declared.turns.Pause.TheVariants as pauses
@@ -13,6 +13,18 @@ use Rattle.hb_run.specs.declared.turns.Pause.TheVariants as pauses
 second : (a b : Bool) → (a && b) ≡ true → b ≡ true
 second true b is = is
 second false b is = absurd (false≢true is)
+
+first : (a b : Bool) → (a && b) ≡ true → a ≡ true
+first true b is = refl
+first false b is = absurd (false≢true is)
+
+or_true : (a : Bool) → (a || true) ≡ true
+or_true true = refl
+or_true false = refl
+
+and_true : (a : Bool) → (a && true) ≡ a
+and_true true = refl
+and_true false = refl
 
 -- what waits for two things, of which one has come
 come : (stopped none : Bool) → (not stopped && none) ≡ false → stopped ≡ false → none ≡ false
@@ -36,7 +48,19 @@ due_came true due is = refl
 due_came false true is = refl
 due_came false false is = absurd (false≢true (sym is))
 
-module _ (mover : ℕ) (moved : Bool) (before after : List ℕ) (old new : Course) (news : News) (tells : IsNews mover moved new news) (counts : CountsMove mover moved before after) where
+-- and so of a place of the order: it was settled, or the round has ended, or nobody comes
+place_came : (place round s t r q : ℕ) (was_coming coming : Bool) → ((not (nat_lt place s) && (r == round)) && was_coming) ≡ true → ((not (nat_lt place t) && (q == round)) && coming) ≡ false
+    → (not ((s == t) && (r == q)) || not coming) ≡ true
+place_came place round s t r q was_coming false was gone = or_true (not ((s == t) && (r == q)))
+place_came place round s t r q was_coming true was gone =
+    if_same s t (λ b. (not (b && (r == q)) || false) ≡ true)
+    (λ same. if_same r q (λ b. (not (true && b) || false) ≡ true)
+    (λ also. absurd (false≢true (sym gone ∙ and_true (not (nat_lt place t) && (q == round)) ∙ ap (λ n. not (nat_lt place t) && (n == round)) (sym also) ∙ ap (λ n. not (nat_lt place n) && (r == round)) (sym same)
+    ∙ first (not (nat_lt place s) && (r == round)) was_coming was)))
+    (λ apart. refl))
+    (λ apart. refl)
+
+module _ (mover : ℕ) (moved : Bool) (before after : List ℕ) (coming_before coming : Bool) (old new : Course) (news : News) (tells : IsNews mover moved (settled_of old.core) (round_of old.core) coming new news) (counts : CountsMove mover moved before after) where
   -- who waits behind an actor that changed something
   moved_on : (place count : ℕ) → is_so count (slice_get before place) ≡ true → is_so count (slice_get after place) ≡ false → (moved && (mover == place)) ≡ true
   moved_on place count was gone = by moved refl
@@ -48,7 +72,7 @@ module _ (mover : ℕ) (moved : Bool) (before after : List ℕ) (old new : Cours
       by false is = absurd (same (ap (λ (l : List ℕ). slice_get l place) (counts.still is)))
       by true is = if_same mover place (λ b. b ≡ true) (λ here. refl) (λ apart. absurd (same (counts.others place (λ here. apart (sym here)))))
 
-  pub wakes_all : WakesAll news before old after new
+  pub wakes_all : (pause : Pause) → still_waits pause before coming_before old ≡ true → still_waits pause after coming new ≡ false → rings news pause ≡ true
   wakes_all (pauses.Behind place count) was gone =
       rung news.stopped (news.moved && (news.place == place)) (λ runs.
       ap (λ (b : Bool). b && (news.place == place)) tells.moved_is
@@ -60,3 +84,7 @@ module _ (mover : ℕ) (moved : Bool) (before after : List ℕ) (old new : Cours
       rung news.stopped news.merges (λ runs. tells.merges ∙ job_came (jobs_left Merge new.core == 0) (is_done new) (come (is_some new.core.stop) ((jobs_left Merge new.core == 0) && not (is_done new)) gone (sym tells.stopped ∙ runs)))
   wakes_all pauses.NotDue was gone =
       rung news.stopped news.flushes (λ runs. tells.flushes ∙ due_came (new.left == 0) (is_due new.core) (come (is_some new.core.stop) (not (new.left == 0) && not (is_due new.core)) gone (sym tells.stopped ∙ runs)))
+  wakes_all (pauses.Unsettled place round) was gone =
+      rung news.stopped news.settles (λ runs. tells.settles ∙ place_came place round (settled_of old.core) (settled_of new.core) (round_of old.core) (round_of new.core) coming_before coming
+      (second (not (is_some old.core.stop)) ((not (nat_lt place (settled_of old.core)) && (round_of old.core == round)) && coming_before) was)
+      (come (is_some new.core.stop) ((not (nat_lt place (settled_of new.core)) && (round_of new.core == round)) && coming) gone (sym tells.stopped ∙ runs)))

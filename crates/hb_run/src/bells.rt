@@ -1,7 +1,7 @@
 //! The bells by which threads that wait are woken.
 ghost use Rattle.std.specs.Prelude.{◌≡◌, IfOk, vec_len};
 
-use crate::courses::ACTORS;
+use crate::rosters::ACTORS;
 use crate::turns::{News, Pause};
 use hb_activity::JobKind;
 use hb_space::NoMemory;
@@ -16,6 +16,8 @@ pub(crate) struct Bells {
     posts: Condvar,
     merges: Condvar,
     flushes: Condvar,
+    /// For those who let others come first.
+    settles: Condvar,
     /// For a thread that does several actors' turns. It is rung with each other bell.
     any: Condvar,
 }
@@ -32,6 +34,7 @@ impl Bells {
             posts: Condvar::new(),
             merges: Condvar::new(),
             flushes: Condvar::new(),
+            settles: Condvar::new(),
             any: Condvar::new(),
         })
     }
@@ -47,6 +50,7 @@ impl Bells {
                 kind: JobKind::Merge,
             } => Some(&self.merges),
             Pause::NotDue => Some(&self.flushes),
+            Pause::Unsettled { .. } => Some(&self.settles),
         }
     }
 
@@ -64,6 +68,7 @@ impl Bells {
             posts,
             merges,
             flushes,
+            settles,
         } = news;
         if stopped {
             self.ring_all();
@@ -83,6 +88,9 @@ impl Bells {
         if flushes {
             self.flushes.notify_all();
         }
+        if settles {
+            self.settles.notify_all();
+        }
         self.any.notify_all();
     }
 
@@ -94,6 +102,7 @@ impl Bells {
         self.posts.notify_all();
         self.merges.notify_all();
         self.flushes.notify_all();
+        self.settles.notify_all();
         self.any.notify_all();
     }
 }

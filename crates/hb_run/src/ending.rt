@@ -33,7 +33,7 @@ pub(crate) fn finish<N: Begun, D: Disk, K: Sink>(course: Course<D, K>, left: Vec
         put,
         answered,
         left: _,
-        moves: _,
+        roster: _,
     } = course;
     let mut left = left;
     core.unanswered(&mut left);

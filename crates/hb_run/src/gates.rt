@@ -19,6 +19,11 @@ pub enum Place {
 pub trait Gate {
     /// The actor is there.
     fn at(&self, actor: Actor, place: Place);
+
+    /// Whether an actor may be held there for what others do. Where it may, nobody lets others come first, since they may not come.
+    fn may_hold(&self) -> bool {
+        true
+    }
 }
 
 /// A gate that does nothing.
@@ -27,6 +32,10 @@ pub struct FreeGate;
 
 impl Gate for FreeGate {
     fn at(&self, _actor: Actor, _place: Place) {}
+
+    fn may_hold(&self) -> bool {
+        false
+    }
 }
 
 /// Who is held, and for whom.

@@ -19,6 +19,7 @@ mod bells;
 mod courses;
 mod ending;
 mod gates;
+mod rosters;
 mod seats;
 mod shared;
 mod threads;
@@ -26,7 +27,7 @@ mod turns;
 
 use begun::Begun;
 use bells::Bells;
-use courses::{ACTORS, Course};
+use courses::Course;
 use ending::finish;
 pub use gates::{FreeGate, Gate, HoldGate, Place};
 use hb_core::run_laws::runs_go_on;
@@ -35,6 +36,7 @@ use hb_disk::Disk;
 use hb_outside::Sink;
 use hb_set::{Answered, Script};
 use hb_space::NoMemory;
+use rosters::Roster;
 use seats::{Seat, sessions_of};
 use std::alloc::Global;
 use std::marker::Brand;
@@ -68,12 +70,17 @@ pub fn run<R: Threads + Wait + Sync, D: Disk + Send, K: Sink + Send, G: Gate + S
             end: End::NoMemory,
         };
     };
-    let course = begin(core, sink, answered);
+    let course = begin(core, sink, answered, !gate.may_hold());
     run_named::<R, Brand, D, K, G>(rt, course, gate, &bells, sessions.as_mut_slice(), left)
 }
 
 /// A run that has taken no step. There has to be room for an answer to each line.
-fn begin<D: Disk, K: Sink>(core: Core<D>, sink: K, answered: Vec<Answered>) -> Course<D, K>
+fn begin<D: Disk, K: Sink>(
+    core: Core<D>,
+    sink: K,
+    answered: Vec<Answered>,
+    free: bool,
+) -> Course<D, K>
     requires may { (m : Machine) × MayStep (D.model (core_disk core)) (core_seen core) m }
     requires none { answered.items ≡ [] }
     requires room { length (core_seen core).lines ≤ vec_capacity answered }
@@ -89,7 +96,7 @@ fn begin<D: Disk, K: Sink>(core: Core<D>, sink: K, answered: Vec<Answered>) -> C
         put: Ok(()),
         answered,
         left,
-        moves: [0; ACTORS],
+        roster: Roster::new(free),
     }
 }
 

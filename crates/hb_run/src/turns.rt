@@ -32,7 +32,7 @@ pub(crate) fn turn_of(outcome: &Outcome) -> Turn
 }
 
 /// What an actor waits for.
-#[derive(Debug, Drop)]
+#[derive(Clone, Copy, Debug)]
 pub(crate) enum Pause {
     /// Till the actor of this place, which has changed something so often, does so again. Actor 1 has place 0.
     Behind { place: usize, moves: u64 },
@@ -40,10 +40,12 @@ pub(crate) enum Pause {
     NoJob { kind: JobKind },
     /// Till it is time to flush, or each line has an answer.
     NotDue,
+    /// Till this place of the order is settled, the round of turns has ended, or no session comes first.
+    Unsettled { place: usize, round: u64 },
 }
 
 /// What an actor does next.
-#[derive(Debug, Drop)]
+#[derive(Clone, Copy, Debug)]
 pub(crate) enum Next {
     /// It takes a further turn.
     Goes,
@@ -65,18 +67,6 @@ pub(crate) struct News {
     pub(crate) merges: bool,
     /// It is time to flush, or each line has an answer.
     pub(crate) flushes: bool,
-}
-
-impl News {
-    /// Nobody is left who waits for it.
-    pub(crate) fn is_for_nobody(self) {
-        let News {
-            place: _,
-            moved: _,
-            stopped: _,
-            posts: _,
-            merges: _,
-            flushes: _,
-        } = self;
-    }
+    /// Places of the order were settled, a round has ended, or no session comes.
+    pub(crate) settles: bool,
 }

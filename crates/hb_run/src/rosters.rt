@@ -1,0 +1,58 @@
+//! What a run knows of its actors beside the core.
+ghost use Rattle.std.specs.Prelude.{◌≡◌, ◌≢◌, ◌-◌, true};
+ghost use Rattle.std.specs.List.{slice_get};
+ghost use Rattle.hb_space.specs.Actors.{IsActor};
+ghost use Rattle.hb_run.specs.Turning.{CountsMove};
+
+use crate::seats::SESSIONS;
+use crate::turns::Next;
+use hb_space::Actor;
+
+/// How many actors there are.
+pub(crate) const ACTORS: usize = 19;
+
+/// What a run knows of its actors.
+#[derive(Debug, Drop)]
+pub struct Roster {
+    /// How often each changed something, actor 1 first; it begins again at 0.
+    pub(crate) moves: [u64; ACTORS],
+    /// What each session does next, session 1 first.
+    pub(crate) nexts: [Next; SESSIONS as usize],
+    /// Whether one of these takes a further turn before something comes.
+    pub(crate) coming: bool,
+    /// Whether nobody is held between two turns.
+    pub(crate) free: bool,
+}
+
+impl Roster {
+    /// Nobody has taken a turn.
+    pub(crate) fn new(free: bool) -> Roster {
+        Roster {
+            moves: [0; ACTORS],
+            nexts: [Next::Ends; SESSIONS as usize],
+            coming: false,
+            free,
+        }
+    }
+
+    /// Counts that the actor changed something, where it did.
+    pub(crate) fn count(&mut self, actor: Actor, moved: bool)
+        requires { IsActor actor }
+        ensures counts { CountsMove (actor - 1) moved self.old.moves self.new.moves }
+        ensures another { moved ≡ true → slice_get self.new.moves (actor - 1) ≢ slice_get self.old.moves (actor - 1) }
+    {
+        if moved {
+            let place = usize::from(actor) - 1;
+            self.moves[place] = self.moves[place].wrapping_add(1);
+        }
+    }
+
+    /// Notes what the actor does next, where it is a session.
+    pub(crate) fn note(&mut self, actor: Actor, next: Next)
+        ensures { self.new.moves ≡ self.old.moves }
+    {
+        if let Some(place) = self.nexts.get_mut(usize::from(actor).wrapping_sub(1)) {
+            *place = next;
+        }
+    }
+}
