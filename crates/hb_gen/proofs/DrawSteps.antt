@@ -1,5 +1,5 @@
--- One draw more: the values that are still wanted begin with the next.
-use Rattle.std.proofs.Common.{◌≡◌, ℕ, zero, suc, ◌+◌, ◌-◌, ◌*◌, ◌%◌, ◌<◌, ◌≤◌, List, [], ◌∷◌, ◌++◌, length, get_or, refl, sym, ap, ◌∙◌, arith, append_assoc, append-nil}
+-- One draw more: what was drawn so far, and what is still wanted, stay what is wanted in all.
+use Rattle.std.proofs.Common.{◌≡◌, ℕ, zero, suc, ◌+◌, ◌-◌, ◌*◌, ◌%◌, ◌<◌, ◌≤◌, List, [], ◌∷◌, ◌++◌, length, refl, sym, ap, ◌∙◌, arith, append_assoc, append-nil}
 use Rattle.std.specs.Prelude.{EachIndex, slice_index}
 use Rattle.hb_gen.specs.Draws.{draw, next_state, state_behind}
 use Rattle.hb_gen.specs.Lines.{drawn_values, drawn_lows, drawn_highs}
@@ -11,60 +11,48 @@ one_first k i more = omega arith
 none_left : (k i : ℕ) → k ≤ i → k - i ≡ 0
 none_left k i past = omega arith
 
-pub state_next : (k i x : ℕ) → i < k → state_behind (k - i) x ≡ state_behind (k - (i + 1)) (next_state x)
-state_next k i x more = ap (λ n. state_behind n x) (one_first k i more)
+-- the states of what is still wanted
+pub state_after : (k i x y end : ℕ) → i < k → y ≡ next_state x → state_behind (k - i) x ≡ end → state_behind (k - (i + 1)) y ≡ end
+state_after k i x y end more y_is before = rw y_is (sym (ap (λ n. state_behind n x) (one_first k i more)) ∙ before)
 
-pub states_next : (k i x : ℕ) → i < k → state_behind (2 * (k - i)) x ≡ state_behind (2 * (k - (i + 1))) (next_state (next_state x))
-states_next k i x more =
+pub state_after_two : (k i x y end : ℕ) → i < k → y ≡ next_state (next_state x) → state_behind (2 * (k - i)) x ≡ end → state_behind (2 * (k - (i + 1))) y ≡ end
+state_after_two k i x y end more y_is before =
     let two : 2 * (k - i) ≡ suc (suc (2 * (k - (i + 1)))) = omega arith in
-    ap (λ n. state_behind n x) two
+    rw y_is (sym (ap (λ n. state_behind n x) two) ∙ before)
 
-pub state_end : (k i x : ℕ) → k ≤ i → state_behind (k - i) x ≡ x
-state_end k i x past = ap (λ n. state_behind n x) (none_left k i past)
+-- a list to which the first of what is wanted is added
+one_joins : (front new rest more all : List ℕ) (value v : ℕ) → rest ≡ value ∷ more → v ≡ value → new ≡ front ++ v ∷ [] → front ++ rest ≡ all → new ++ more ≡ all
+one_joins front new rest more all value v rest_is v_is new_is before =
+    rw (new_is, v_is) (append_assoc front (value ∷ []) more ∙ ap (λ r. front ++ r) (sym rest_is) ∙ before)
 
-pub states_end : (k i x : ℕ) → k ≤ i → state_behind (2 * (k - i)) x ≡ x
-states_end k i x past = ap (λ n. state_behind (2 * n) x) (none_left k i past)
+none_joins : (front rest all : List ℕ) → rest ≡ [] → front ++ rest ≡ all → front ≡ all
+none_joins front rest all rest_is before = sym (ap (λ r. front ++ r) rest_is ∙ append-nil front) ∙ before
 
--- a list that is made one by one, from what is drawn
-pub joins_next : (front rest more : List ℕ) (value : ℕ) → rest ≡ value ∷ more → front ++ rest ≡ (front ++ value ∷ []) ++ more
-joins_next front rest more value e = ap (λ r. front ++ r) e ∙ sym (append_assoc front (value ∷ []) more)
+-- k in all, i so far, at the state x
+module _ (k i x : ℕ) where
+  pub value_added : (front new all : List ℕ) (y v : ℕ) → i < k → y ≡ next_state x → v ≡ draw x % 1000 → new ≡ front ++ v ∷ [] → front ++ drawn_values (k - i) x ≡ all → new ++ drawn_values (k - (i + 1)) y ≡ all
+  value_added front new all y v more y_is v_is new_is before =
+      rw y_is (one_joins front new _ _ all _ v (ap (λ n. drawn_values n x) (one_first k i more)) v_is new_is before)
 
-pub joins_none : (front rest : List ℕ) → rest ≡ [] → front ++ rest ≡ front
-joins_none front rest e = ap (λ r. front ++ r) e ∙ append-nil front
+  pub low_added : (front new all : List ℕ) (y v : ℕ) → i < k → y ≡ next_state (next_state x) → v ≡ draw x % 1000 → new ≡ front ++ v ∷ [] → front ++ drawn_lows (k - i) x ≡ all → new ++ drawn_lows (k - (i + 1)) y ≡ all
+  low_added front new all y v more y_is v_is new_is before =
+      rw y_is (one_joins front new _ _ all _ v (ap (λ n. drawn_lows n x) (one_first k i more)) v_is new_is before)
 
-pub values_next : (k i x : ℕ) → i < k → drawn_values (k - i) x ≡ (draw x % 1000) ∷ drawn_values (k - (i + 1)) (next_state x)
-values_next k i x more = ap (λ n. drawn_values n x) (one_first k i more)
+  pub high_added : (front new all : List ℕ) (y v : ℕ) → i < k → y ≡ next_state (next_state x) → v ≡ draw x % 1000 + draw (next_state x) % 50 → new ≡ front ++ v ∷ [] → front ++ drawn_highs (k - i) x ≡ all → new ++ drawn_highs (k - (i + 1)) y ≡ all
+  high_added front new all y v more y_is v_is new_is before =
+      rw y_is (one_joins front new _ _ all _ v (ap (λ n. drawn_highs n x) (one_first k i more)) v_is new_is before)
 
-pub values_end : (k i x : ℕ) → k ≤ i → drawn_values (k - i) x ≡ []
-values_end k i x past = ap (λ n. drawn_values n x) (none_left k i past)
+  pub lows_made : (front all : List ℕ) → k ≤ i → front ++ drawn_lows (k - i) x ≡ all → front ≡ all
+  lows_made front all past before = none_joins front _ all (ap (λ n. drawn_lows n x) (none_left k i past)) before
 
-pub lows_next : (k i x : ℕ) → i < k → drawn_lows (k - i) x ≡ (draw x % 1000) ∷ drawn_lows (k - (i + 1)) (state_behind 2 x)
-lows_next k i x more = ap (λ n. drawn_lows n x) (one_first k i more)
-
-pub lows_end : (k i x : ℕ) → k ≤ i → drawn_lows (k - i) x ≡ []
-lows_end k i x past = ap (λ n. drawn_lows n x) (none_left k i past)
-
-pub highs_next : (k i x : ℕ) → i < k → drawn_highs (k - i) x ≡ (draw x % 1000 + draw (next_state x) % 50) ∷ drawn_highs (k - (i + 1)) (state_behind 2 x)
-highs_next k i x more = ap (λ n. drawn_highs n x) (one_first k i more)
-
-pub highs_end : (k i x : ℕ) → k ≤ i → drawn_highs (k - i) x ≡ []
-highs_end k i x past = ap (λ n. drawn_highs n x) (none_left k i past)
+  pub highs_made : (front all : List ℕ) → k ≤ i → front ++ drawn_highs (k - i) x ≡ all → front ≡ all
+  highs_made front all past before = none_joins front _ all (ap (λ n. drawn_highs n x) (none_left k i past)) before
 
 -- no lower value is above its upper one
-pub lows_below_highs : (k x : ℕ) → EachIndex (drawn_lows k x) (λ i. slice_index (drawn_lows k x) i ≤ slice_index (drawn_highs k x) i)
+lows_below_highs : (k x : ℕ) → EachIndex (drawn_lows k x) (λ i. slice_index (drawn_lows k x) i ≤ slice_index (drawn_highs k x) i)
 lows_below_highs zero x i lt = absurd (omega arith)
 lows_below_highs (suc k) x zero lt = omega arith
 lows_below_highs (suc k) x (suc i) lt = lows_below_highs k (state_behind 2 x) i (omega arith)
 
--- as many of them as attributes
-pub lows_length : (k x : ℕ) → length (drawn_lows k x) ≡ k
-lows_length zero x = refl
-lows_length (suc k) x = ap suc (lows_length k (state_behind 2 x))
-
-pub highs_length : (k x : ℕ) → length (drawn_highs k x) ≡ k
-highs_length zero x = refl
-highs_length (suc k) x = ap suc (highs_length k (state_behind 2 x))
-
-pub values_length : (k x : ℕ) → length (drawn_values k x) ≡ k
-values_length zero x = refl
-values_length (suc k) x = ap suc (values_length k (next_state x))
+pub corners_in_order : (lo hi : List ℕ) (k x : ℕ) → lo ≡ drawn_lows k x → hi ≡ drawn_highs k x → EachIndex lo (λ i. slice_index lo i ≤ slice_index hi i)
+corners_in_order lo hi k x lo_is hi_is = rw (lo_is, hi_is) (lows_below_highs k x)

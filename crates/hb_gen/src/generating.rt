@@ -22,8 +22,8 @@ pub fn generate(
 {
     let mut draws = Draws::from_state(state);
     let mut text = Vec::new(alloc);
-    for number in 1..=lines {
-        let line = draw_line(&mut draws, attributes, number);
+    for index in 0..lines {
+        let line = draw_line(&mut draws, attributes, index + 1);
         add_line(&mut text, &line)?;
     }
     Ok(text)
