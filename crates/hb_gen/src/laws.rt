@@ -5,3 +5,11 @@ ghost use Rattle.hb_space.specs.Points.{IsAttributeCount};
 ghost use Rattle.hb_text.specs.Grammar.{text_read};
 ghost use Rattle.hb_gen.specs.Lines.{generated};
 ghost use Rattle.hb_gen.specs.Spelling.{generated_text};
+
+/// A generated text breaks no rule, and says just the lines that were drawn, whether step lines are
+/// allowed or not.
+#[tactic(auto, using(crate::proofs::ReadBack::generated_is_read))]
+pub fn a_generated_text_says_its_lines()
+    ensures { (allowed : Bool) (x n k : ℕ) → n ≤ 1000000 → IsAttributeCount k →
+        text_read allowed k (generated_text x n k) ≡ Ok (record { lines = generated x n k; steps = [] }) }
+{}
