@@ -1,5 +1,5 @@
 -- One draw more: what was drawn so far, and what is still wanted, stay what is wanted in all.
-use Rattle.std.proofs.Common.{◌≡◌, ℕ, zero, suc, ◌+◌, ◌-◌, ◌*◌, ◌%◌, ◌<◌, ◌≤◌, List, [], ◌∷◌, ◌++◌, length, refl, sym, ap, ◌∙◌, arith, append_assoc, append-nil}
+use Rattle.std.proofs.Common.{◌≡◌, ℕ, zero, suc, ◌+◌, ◌-◌, ◌*◌, ◌%◌, ◌<◌, ◌≤◌, List, [], ◌∷◌, ◌++◌, sym, ap, ◌∙◌, arith, append_assoc, append-nil}
 use Rattle.std.specs.Prelude.{EachIndex, slice_index}
 use Rattle.hb_gen.specs.Draws.{draw, next_state, state_behind}
 use Rattle.hb_gen.specs.Lines.{drawn_values, drawn_lows, drawn_highs}

@@ -1,16 +1,14 @@
 -- The lines of the generator can be said by words.
-use Rattle.std.proofs.Common.{◌≡◌, ℕ, zero, suc, ◌+◌, ◌-◌, ◌*◌, ◌/◌, ◌%◌, ◌<◌, ◌≤◌, ◌^◌, ◌==◌, Bool, true, false, cond, List, [], ◌∷◌, length, refl, sym, ap, ◌∙◌, arith}
+use Rattle.std.proofs.Common.{◌≡◌, ℕ, zero, suc, ◌+◌, ◌-◌, ◌*◌, ◌%◌, ◌<◌, ◌≤◌, ◌^◌, ◌==◌, Bool, true, false, cond, ◌∷◌, length, refl, ap, arith}
 use Rattle.std.specs.Prelude.{nat_le}
-use Rattle.std.specs.List.{AllByRecursion}
 use Rattle.std.specs.Fmt.{decimal}
 use Rattle.std.proofs.lemmas.Bool.Decides.{nat_tests}
 use Rattle.std.proofs.lemmas.Fmt.{length-decimal-le}
-use Rattle.hb_space.specs.Points.{IsAttributeCount}
 use Rattle.hb_set.specs.declared.commands.Command.{Command}
 use Rattle.hb_set.specs.declared.commands.Command.TheVariants.{Insert, Delete, Lookup, Search}
 use Rattle.hb_text.specs.Operands.{lows, highs, pairs_are_ordered}
 use Rattle.hb_gen.specs.Draws.{draw, next_state, state_behind}
-use Rattle.hb_gen.specs.Lines.{drawn_values, drawn_point, drawn_lows, drawn_highs, by_kind, drawn_command, drawn_session}
+use Rattle.hb_gen.specs.Lines.{drawn_values, drawn_point, drawn_lows, drawn_highs, drawn_command, drawn_session}
 use Rattle.hb_gen.specs.Spelling.{side_by_side}
 use Rattle.hb_gen.proofs.PlainWords.{decimal_plain}
 use Rattle.hb_gen.proofs.LineWords.{AreValues, IsSaidBody, IsSaidBox, IsSaid}

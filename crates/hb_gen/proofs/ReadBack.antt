@@ -1,13 +1,12 @@
 -- What a generated text says: the lines that were drawn.
-use Rattle.std.proofs.Common.{◌≡◌, ℕ, zero, suc, ◌+◌, ◌*◌, ◌<◌, ◌≤◌, ◌^◌, Bool, true, false, cond, List, [], ◌∷◌, ◌++◌, length, Some, Ok, refl, sym, ap, ◌∙◌, arith}
-use Rattle.std.specs.Prelude.{map, codes, nat_le, nat_lt, not}
-use Rattle.std.specs.List.{AllByRecursion, flat_map, list_all, list_any}
+use Rattle.std.proofs.Common.{◌≡◌, ℕ, zero, suc, ◌+◌, ◌<◌, ◌≤◌, ◌^◌, Bool, true, false, cond, List, [], ◌∷◌, ◌++◌, length, Some, Ok, refl, ap, ◌∙◌, arith}
+use Rattle.std.specs.Prelude.{map, nat_le, nat_lt, not}
+use Rattle.std.specs.List.{AllByRecursion, list_all, list_any}
 use Rattle.std.specs.Fmt.{decimal}
 use Rattle.std.proofs.lemmas.Bool.Decides.{nat_tests}
 use Rattle.std.proofs.lemmas.Fmt.{length-decimal-le}
 use Rattle.std.proofs.lemmas.List.{length-append}
 use Rattle.hb_space.specs.Points.{IsAttributeCount}
-use Rattle.hb_set.specs.declared.commands.Command.{Command}
 use Rattle.hb_set.specs.declared.scripts.Line.{Line}
 use Rattle.hb_text.specs.Grammar.{words_read, line_read, lines_read, text_read}
 use Rattle.hb_text.specs.StepWords.{session_of}
@@ -17,7 +16,7 @@ use Rattle.hb_text.proofs.Facts.TextLaws.{lines_come_back}
 use Rattle.hb_gen.specs.Draws.{state_behind}
 use Rattle.hb_gen.specs.Lines.{drawn_line, drawn_session, drawn_kind, value_draws, lines_from, generated}
 use Rattle.hb_gen.specs.Spelling.{command_text, line_text, lines_text, generated_text}
-use Rattle.hb_gen.proofs.PlainWords.{decimal_plain, plain_line, spaced, IsPlainLine}
+use Rattle.hb_gen.proofs.PlainWords.{decimal_plain, plain_line, IsPlainLine}
 use Rattle.hb_gen.proofs.LineWords.{command_words, command_spaced, command_plain, command_length, command_back, number_back, no_step, IsSaid}
 use Rattle.hb_gen.proofs.DrawnLines.{command_said, session_fits}
 

@@ -1,5 +1,5 @@
 -- A text that grows by a line: what was added so far, and the lines that are still wanted, stay the text in all.
-use Rattle.std.proofs.Common.{◌≡◌, ℕ, zero, suc, ◌+◌, ◌-◌, ◌<◌, ◌≤◌, List, ◌++◌, refl, sym, ap, ◌∙◌, arith, append_assoc, append-nil}
+use Rattle.std.proofs.Common.{◌≡◌, ℕ, suc, ◌+◌, ◌-◌, ◌<◌, ◌≤◌, List, ◌++◌, sym, ap, ◌∙◌, arith, append_assoc, append-nil}
 use Rattle.hb_set.specs.declared.scripts.Line.{Line}
 use Rattle.hb_gen.specs.Draws.{state_behind}
 use Rattle.hb_gen.specs.Lines.{drawn_kind, drawn_line, value_draws, lines_from}

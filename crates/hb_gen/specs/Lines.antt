@@ -33,10 +33,10 @@ by_kind kind insert delete lookup search =
 unfoldable pub drawn_command : ℕ → ℕ → ℕ → ℕ → ℕ → Command
 drawn_command k number session kind x =
     by_kind kind
-      (Insert (record { key = drawn_point k session x; body = decimal number }))
-      (Delete (drawn_point k session x))
-      (Lookup (drawn_point k session x))
-      (Search (record { lo = drawn_lows k x; hi = drawn_highs k x }))
+    (Insert (record { key = drawn_point k session x; body = decimal number }))
+    (Delete (drawn_point k session x))
+    (Lookup (drawn_point k session x))
+    (Search (record { lo = drawn_lows k x; hi = drawn_highs k x }))
 
 -- a line draws its session and its kind, and then the values of its command
 abbrev pub drawn_session : ℕ → ℕ

@@ -33,13 +33,7 @@ pub(crate) fn draw_line(draws: &mut Draws, attributes: u8, number: u32) -> Line
 // Draws the values of a command of this kind: six of ten are inserts, one is a delete, two are
 // lookups and one is a search.
 #[tactic(auto, unfolding(crate::specs::Lines::drawn_command))]
-fn draw_command(
-    draws: &mut Draws,
-    attributes: u8,
-    number: u32,
-    session: u8,
-    kind: u32,
-) -> Command
+fn draw_command(draws: &mut Draws, attributes: u8, number: u32, session: u8, kind: u32) -> Command
     requires attributes { IsAttributeCount attributes }
     requires session { (1 ≤ session) × (session ≤ 8) }
     ensures command { result ≡ drawn_command attributes number session kind draws.old.state }

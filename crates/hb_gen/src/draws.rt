@@ -27,10 +27,7 @@ impl Draws {
         ensures state { self.new.state ≡ next_state self.old.state }
         ensures value { result ≡ draw self.old.state }
     {
-        self.state = self
-            .state
-            .wrapping_mul(MULTIPLIER)
-            .wrapping_add(INCREMENT);
+        self.state = self.state.wrapping_mul(MULTIPLIER).wrapping_add(INCREMENT);
         (self.state >> 32) as u32
     }
 

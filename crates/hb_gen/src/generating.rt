@@ -10,12 +10,7 @@ use std::alloc::Global;
 
 /// The text of so many command lines over so many attributes, drawn from this state. `Err` comes
 /// only where memory is refused.
-pub fn generate(
-    alloc: Global,
-    state: u64,
-    lines: u32,
-    attributes: u8,
-) -> Result<Vec<u8>, NoMemory>
+pub fn generate(alloc: Global, state: u64, lines: u32, attributes: u8) -> Result<Vec<u8>, NoMemory>
     requires lines { lines ≤ 1000000 }
     requires attributes { IsAttributeCount attributes }
     ensures { IfOk result (λ text. text.items ≡ generated_text state lines attributes) }

@@ -1,4 +1,4 @@
-use Rattle.std.proofs.Common.{◌≡◌, ◌-◌, ◌≤◌, ◌++◌, length}
+use Rattle.std.proofs.Common.{◌≡◌, ◌-◌, ◌++◌, length}
 use Rattle.hb_gen.specs.Draws.{state_behind}
 use Rattle.hb_gen.specs.Lines.{drawn_values, drawn_point}
 use Rattle.hb_gen.proofs.drawing.draw_point.Given as goal
