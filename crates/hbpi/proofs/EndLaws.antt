@@ -7,12 +7,13 @@ use Rattle.hb_text.specs.declared.rules.BadLine.{BadLine}
 use Rattle.hb_text.specs.Grammar.{Reading, text_read}
 use Rattle.hb_text.proofs.Facts.TextLength.{text_is_short}
 use Rattle.hbpi.specs.declared.forms.Form.{Form}
-use Rattle.hbpi.specs.declared.forms.Form.TheVariants.{Check, Create, Drive, Dry}
+use Rattle.hbpi.specs.declared.forms.Form.TheVariants.{Check, Create, Drive, Dry, Gen}
 use Rattle.hbpi.specs.declared.forms.Form.TheVariants as forms
 use Rattle.hbpi.specs.declared.statuses.Status.{Status}
 use Rattle.hbpi.specs.declared.statuses.Status.TheVariants.{Done, Usage, BadText, SourceFault, SinkFault, DiskFault, Damaged, NoMemory, BadLayout, Small, NotBuilt}
 use Rattle.hb_outside.specs.Streams.{Rose}
 use Rattle.hbpi.specs.Outcome.{greatest_text, IsTextOf, IsWholeText}
+use Rattle.hb_gen.specs.Spelling.{generated_text}
 use Rattle.hb_restart.specs.Layouts.{first_fault, size_of}
 use Rattle.hb_restart.specs.declared.faults.BadField.{BadField}
 use Rattle.hb_restart.specs.declared.faults.OpenFault.{OpenFault}
@@ -21,7 +22,7 @@ use Rattle.hbpi.specs.Codes.{status_of}
 use Rattle.hbpi.specs.declared.statuses.Damage.{Damage}
 use Rattle.hbpi.specs.declared.statuses.Damage.TheVariants as damages
 use Rattle.hbpi.specs.Runs.{RunEnds}
-use Rattle.hbpi.specs.Ends.{DryEnds, IsAnswered, IsComplete, RefusesBadText, NamesBadLine, UnbuiltEnds, UsageEnds}
+use Rattle.hbpi.specs.Ends.{DryEnds, GenEnds, IsAnswered, IsComplete, RefusesBadText, NamesBadLine, UnbuiltEnds, UsageEnds}
 use Rattle.hbpi.specs.SeenRuns.{Run, Seen}
 use Rattle.hbpi.specs.Checked.{CheckEnds, sound_text}
 use Rattle.hbpi.specs.Driven.{Manner, RanEnds, StepsEnd, by_schedule, by_threads}
@@ -218,6 +219,9 @@ steps_source by run status ends other = elim ends [
 check_source : (run : Run) (status : Status) → CheckEnds run status → run.seen.source_after.faults ≡ run.seen.source_before.faults
 check_source run status ends = elim ends [ inl shut ↦ shut.2.unread.faults | inr checked ↦ checked.2.unread.faults ]
 
+gen_source : (text : List ℕ) (seen : Seen) (status : Status) → GenEnds text seen status → seen.source_after.faults ≡ seen.source_before.faults
+gen_source text seen status ends = elim ends [ inl refused ↦ refused.2.faults | inr said ↦ said.0.unread.faults ]
+
 usage_source : (seen : Seen) (status : Status) → UsageEnds seen status → seen.source_after.faults ≡ seen.source_before.faults
 usage_source seen Usage ends = ends.1.faults
 usage_source seen other ends = absurd ends
@@ -234,6 +238,7 @@ ends_source (Some (Create k pages log dcap icap)) run status ends other = create
 ends_source (Some forms.Run) run status ends other = steps_source by_threads run status ends other
 ends_source (Some Drive) run status ends other = steps_source by_schedule run status ends other
 ends_source (Some Check) run status ends other = check_source run status ends
+ends_source (Some (Gen x n k)) run status ends other = gen_source (generated_text x n k) run.seen status ends
 ends_source (Some form) run status ends other = unbuilt_source run.seen status ends
 
 never_usage : (fault : OpenFault) → status_of fault ≡ Usage → ⊥
@@ -255,6 +260,12 @@ check_never_usage run status ends is = elim ends [
   | inr checked ↦ subst (λ (x : Status). IsSaid (sound_text checked.0.meta checked.1) run.seen.sink_before run.seen.sink_after x) is checked.3
 ]
 
+gen_never_usage : (text : List ℕ) (seen : Seen) (status : Status) → GenEnds text seen status → status ≡ Usage → ⊥
+gen_never_usage text seen status ends is = elim ends [
+  | inl refused ↦ cc (is, refused.0)
+  | inr said ↦ subst (λ (x : Status). IsSaid text seen.sink_before seen.sink_after x) is said.1
+]
+
 is_usage : (seen : Seen) (status : Status) → UsageEnds seen status → status ≡ Usage
 is_usage seen Usage ends = refl
 is_usage seen other ends = absurd ends
@@ -271,6 +282,7 @@ ends_usage (Some (Create k pages log dcap icap)) run status ends =
 ends_usage (Some forms.Run) run status ends = (λ is. absurd (steps_never_usage by_threads run status ends is), λ none. cc (none))
 ends_usage (Some Drive) run status ends = (λ is. absurd (steps_never_usage by_schedule run status ends is), λ none. cc (none))
 ends_usage (Some Check) run status ends = (λ is. absurd (check_never_usage run status ends is), λ none. cc (none))
+ends_usage (Some (Gen x n k)) run status ends = (λ is. absurd (gen_never_usage (generated_text x n k) run.seen status ends is), λ none. cc (none))
 ends_usage (Some form) run status ends = (λ is. cc (is, is_unbuilt run.seen status ends), λ none. cc (none))
 
 -- A form that isn't built gives `not built`.
@@ -281,4 +293,5 @@ ends_unbuilt (Some (Create k pages log dcap icap)) run status unbuilt ends = abs
 ends_unbuilt (Some forms.Run) run status unbuilt ends = absurd unbuilt
 ends_unbuilt (Some Drive) run status unbuilt ends = absurd unbuilt
 ends_unbuilt (Some Check) run status unbuilt ends = absurd unbuilt
+ends_unbuilt (Some (Gen x n k)) run status unbuilt ends = absurd unbuilt
 ends_unbuilt (Some form) run status unbuilt ends = is_unbuilt run.seen status ends

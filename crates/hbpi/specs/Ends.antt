@@ -11,6 +11,7 @@ use Rattle.hbpi.specs.declared.statuses.Status.{Status}
 use Rattle.hbpi.specs.declared.statuses.Status.TheVariants.{Done, Usage, BadText, SourceFault, SinkFault, DiskFault, Damaged, NoMemory, BadLayout, Small, NotBuilt}
 use Rattle.hbpi.specs.Created.{IsUnmade}
 use Rattle.hbpi.specs.Outcome.{IsTextOf, IsWholeText, IsDryRun}
+use Rattle.hbpi.specs.Saying.{IsSaid}
 use Rattle.hbpi.specs.SeenRuns.{Seen, IsRefused, IsUnread}
 
 -- the text was read whole and with no fault, says these lines, and they were answered
@@ -47,6 +48,15 @@ UsageEnds seen _ = ⊥
 abbrev pub UnbuiltEnds : Seen → Status → Type 0
 UnbuiltEnds seen NotBuilt = IsRefused seen NotBuilt × IsUnread seen
 UnbuiltEnds seen _ = ⊥
+
+-- A text was said, or a front of it where the sink failed; or memory for it was refused. Nothing was read.
+pub record IsAlone (seen : Seen) : Type 0 where
+  pub unread : IsUnread seen
+  pub none_answered : seen.answered ≡ []
+  pub none_ordered : seen.order ≡ []
+
+abbrev pub GenEnds : List ℕ → Seen → Status → Type 0
+GenEnds text seen status = ((status ≡ NoMemory) × IsRefused seen NoMemory × IsUnread seen) ⊎ (IsAlone seen × IsSaid text seen.sink_before seen.sink_after status)
 
 -- The disk is as it was: `run`, `drive` and `check` may write it, which open its file, and `create` where it makes a file or tries to.
 abbrev pub LeavesDisk : Option Form → Status → Type 0

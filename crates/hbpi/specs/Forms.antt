@@ -1,5 +1,5 @@
 -- The words of the program.
-use Rattle.std.specs.Prelude.{ℕ, Bool, true, false, ◌&&◌, nat_le, if◌then◌else◌, List, [], ◌∷◌, codes, Option, Some, None}
+use Rattle.std.specs.Prelude.{ℕ, Bool, true, false, ◌&&◌, ◌<◌, ◌≤◌, nat_le, if◌then◌else◌, List, [], ◌∷◌, codes, Option, Some, None}
 use Rattle.std.specs.Str.{bytes_eq}
 use Rattle.std.specs.Result.{result_ok}
 use Rattle.hb_space.specs.declared.form.TheConstants.{KMAX}
@@ -82,6 +82,13 @@ unfoldable pub form_of : List (List ℕ) → Option Form
 form_of [] = None
 form_of (first ∷ words) = form_from first words
 
+-- a form's counts are within their limits
+abbrev pub FitsLimits : Form → Type 0
+FitsLimits (Dry k) = (0 < k) × (k ≤ KMAX)
+FitsLimits (Gen x n k) = (n ≤ 1000000) × (0 < k) × (k ≤ KMAX)
+FitsLimits (Work x n) = n ≤ 1000000
+FitsLimits form = Unit {0}
+
 -- a form that threads work off, so that whoever calls may wait for them
 abbrev pub is_threaded : Option Form → Bool
 is_threaded None = false
@@ -97,4 +104,5 @@ IsUnbuilt (Some (Create k pages log dcap icap)) = ⊥
 IsUnbuilt (Some Run) = ⊥
 IsUnbuilt (Some Drive) = ⊥
 IsUnbuilt (Some Check) = ⊥
+IsUnbuilt (Some (Gen x n k)) = ⊥
 IsUnbuilt (Some form) = Unit {0}

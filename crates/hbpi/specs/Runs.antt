@@ -1,16 +1,17 @@
 -- What `top` says of a run: one table of how it ends, by its words and its status, and what holds of every run.
 use Rattle.std.specs.Prelude.{◌≡◌, ◌≤◌, Option, Some, None, IsSome}
+use Rattle.hb_gen.specs.Spelling.{generated_text}
 use Rattle.hb_restart.specs.Beyond.{KeepsBeyond, KeepsBeyondFile}
 use Rattle.hb_restart.specs.Layouts.{first_fault, size_of}
 use Rattle.hb_restart.specs.NewFiles.{new_file}
 use Rattle.hb_store.specs.Opening.{IsEven}
 use Rattle.hbpi.specs.Checked.{CheckEnds}
 use Rattle.hbpi.specs.Driven.{StepsEnd, by_schedule, by_threads}
-use Rattle.hbpi.specs.Ends.{DryEnds, UsageEnds, UnbuiltEnds}
+use Rattle.hbpi.specs.Ends.{DryEnds, GenEnds, UsageEnds, UnbuiltEnds}
 use Rattle.hbpi.specs.MadeEnds.{CreateEnds, HasMade}
 use Rattle.hbpi.specs.SeenRuns.{Run}
 use Rattle.hbpi.specs.declared.forms.Form.{Form}
-use Rattle.hbpi.specs.declared.forms.Form.TheVariants.{Check, Create, Dry, Drive}
+use Rattle.hbpi.specs.declared.forms.Form.TheVariants.{Check, Create, Dry, Drive, Gen}
 use Rattle.hbpi.specs.declared.forms.Form.TheVariants as forms
 use Rattle.hbpi.specs.declared.statuses.Status.{Status}
 use Rattle.hbpi.specs.declared.statuses.Status.TheVariants.{SourceFault}
@@ -23,6 +24,7 @@ RunEnds (Some (Create k pages log dcap icap)) run status = CreateEnds (first_fau
 RunEnds (Some forms.Run) run status = StepsEnd by_threads run status
 RunEnds (Some Drive) run status = StepsEnd by_schedule run status
 RunEnds (Some Check) run status = CheckEnds run status
+RunEnds (Some (Gen x n k)) run status = GenEnds (generated_text x n k) run.seen status
 RunEnds (Some form) run status = UnbuiltEnds run.seen status
 
 -- Where a file was made, every image of the disk opens to it: it has no record.

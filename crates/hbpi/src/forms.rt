@@ -163,6 +163,7 @@ impl Form {
     pub fn of_words(words: &[String]) -> Option<Form>
         ensures form { result ≡ form_of (map string_bytes words.now) }
         ensures attributes { (k : ℕ) → result ≡ Some (Form.Dry k) → (0 < k) × (k ≤ KMAX) }
+        ensures generated { (x n k : ℕ) → result ≡ Some (Form.Gen x n k) → (n ≤ 1000000) × (0 < k) × (k ≤ KMAX) }
     {
         read_words(words)
     }

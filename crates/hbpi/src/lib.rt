@@ -25,6 +25,7 @@ mod files;
 mod finished;
 mod finishing;
 mod forms;
+mod gen_text;
 mod new_files;
 mod run_file;
 mod saying;

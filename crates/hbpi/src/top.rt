@@ -11,6 +11,7 @@ use crate::drive_file::drive_file;
 use crate::dry::{dry, refused};
 use crate::finished::Finished;
 use crate::forms::Form;
+use crate::gen_text::gen_text;
 use crate::run_file::run_file;
 use crate::statuses::Status;
 use hb_disk::Disk;
@@ -52,9 +53,8 @@ fn do_words<S: Source, K: Sink, D: Disk>(
         ) => create_file(alloc, k, pages, log, dcap, icap, sink, disk),
         Some(Form::Drive) => drive_file(alloc, source, sink, disk),
         Some(Form::Check) => check_file(alloc, sink, disk),
-        Some(Form::Map | Form::Tidy | Form::Gen { .. }) => {
-            refused(alloc, Status::NotBuilt, sink, disk)
-        }
+        Some(Form::Gen { x, n, k }) => gen_text(alloc, x, n, k, sink, disk),
+        Some(Form::Map | Form::Tidy) => refused(alloc, Status::NotBuilt, sink, disk),
         Some(Form::Run | Form::Work { .. }) => unreachable!(),
     }
 }

@@ -1,4 +1,4 @@
-//! Texts for `dry`, words that are no form or aren't built, and layouts that are out of their limits. Over a disk of no byte.
+//! Texts for `dry`, generated texts, words that are no form or aren't built, and layouts that are out of their limits. Over a disk of no byte.
 
 use crate::runs::{expect_said, run_on};
 
@@ -68,7 +68,7 @@ fn answers_texts(rt: HostRuntime) {
 }
 
 /// The words, and what the program says where its text is `x`.
-const WORDS: [(&str, &str); 71] = [
+const WORDS: [(&str, &str); 73] = [
     ("", "2 usage\n"),
     ("dry", "2 usage\n"),
     ("dry 0", "2 usage\n"),
@@ -118,8 +118,6 @@ const WORDS: [(&str, &str); 71] = [
     ("check", "9 small 8192 0\n"),
     ("map", "11 not built\n"),
     ("tidy", "11 not built\n"),
-    ("gen 18446744073709551615 1000000 4", "11 not built\n"),
-    ("gen 0 0 1", "11 not built\n"),
     ("create 0 0 0 0 0", "9 bad layout K 0\n"),
     ("create 5 64 65536 6 32", "9 bad layout K 5\n"),
     ("create 257 64 65536 6 32", "9 bad layout K 257\n"),
@@ -146,6 +144,16 @@ const WORDS: [(&str, &str); 71] = [
     ("create 1 1 65536 6 32", "9 small 143360 0\n"),
     ("create 2 64 65536 6 32", "9 small 401408 0\n"),
     ("drive", "9 small 8192 0\n"),
+    ("gen 1 1 1", "0 5 lookup 148\n"),
+    ("gen 18446744073709551615 0 4", "0 "),
+    (
+        "gen 18446744073709551615 4 4",
+        "0 2 lookup 841 205 728 974\n4 insert 51 64 766 324 =2\n2 lookup 449 760 202 624\n5 insert 268 561 602 30 =4\n",
+    ),
+    (
+        "gen 7 12 2",
+        "0 5 insert 52 346 =1\n3 search 728 756 478 501\n8 insert 127 561 =3\n4 insert 491 799 =4\n2 insert 985 586 =5\n5 delete 460 409\n2 insert 289 265 =7\n1 insert 608 750 =8\n4 lookup 347 614\n2 insert 129 671 =10\n1 insert 480 88 =11\n1 search 92 123 944 952\n",
+    ),
 ];
 
 #[test]

@@ -34,6 +34,12 @@ returns-in-Some-Drive-clause-reads g c = steps_reads by_schedule (run_of _ (g.D.
 pub returns-in-Some-Drive-clause-writes : goal.returns-in-Some-Drive-clause-writes
 returns-in-Some-Drive-clause-writes g c = steps_writes by_schedule (run_of _ (g.D.Device.model c.args.disk) (g.D.Device.model c.drive_file.result.disk)) c.drive_file.result.status c.drive_file.ensures.ends
 
+pub returns-in-Some-Gen-clause-ends : goal.returns-in-Some-Gen-clause-ends
+returns-in-Some-Gen-clause-ends g c =
+    let seen = seen_by (g.S.Source.model c.args.source.now) (g.S.Source.model c.args.source.now) (g.K.Sink.model c.args.sink) (g.K.Sink.model c.gen_text.result.sink) c.gen_text.result.answered.items c.gen_text.result.order.items in
+    subst (λ (form : Option Form). RunEnds form (run_of seen (g.D.Device.model c.args.disk) (g.D.Device.model c.gen_text.result.disk)) c.gen_text.result.status) (sym (ap Some c.in-Some-Gen.field-0-is) ∙ c.in-Some-Gen.ensures.form)
+    (c.gen_text.ensures.ends (g.S.Source.model c.args.source.now))
+
 pub returns-in-Some-Check-clause-ends : goal.returns-in-Some-Check-clause-ends
 returns-in-Some-Check-clause-ends g c =
     let seen = seen_by (g.S.Source.model c.args.source.now) (g.S.Source.model c.args.source.now) (g.K.Sink.model c.args.sink) (g.K.Sink.model c.check_file.result.sink) c.check_file.result.answered.items c.check_file.result.order.items in
