@@ -1,11 +1,11 @@
 -- Whoever waited for what a turn brought is rung.
-use Rattle.std.proofs.Common.{◌≡◌, ◌≢◌, ℕ, ◌==◌, nat_lt, Bool, true, false, not, ◌||◌, ◌&&◌, List, Option, is_some, refl, sym, ap, ◌∙◌, subst}
+use Rattle.std.proofs.Common.{◌≡◌, ℕ, ◌==◌, nat_lt, Bool, true, false, not, ◌||◌, ◌&&◌, List, is_some, refl, sym, ap, ◌∙◌}
 use Rattle.std.specs.List.{slice_get}
 use Rattle.std.proofs.lemmas.Bool.{false≢true}
 use Rattle.hb_activity.specs.declared.jobs.JobKind.TheVariants.{Post, Merge}
 use Rattle.hb_lemmas.proofs.Booleans.{if_same}
 use Rattle.hb_run.specs.Courses.{Course}
-use Rattle.hb_run.specs.Turning.{CountsMove, IsNews, WakesAll, is_done, is_due, is_so, jobs_left, rings, round_of, settled_of, still_waits}
+use Rattle.hb_run.specs.Turning.{CountsMove, IsNews, is_done, is_due, is_so, jobs_left, rings, round_of, settled_of, still_waits}
 use Rattle.hb_run.specs.declared.turns.News.{News}
 use Rattle.hb_run.specs.declared.turns.Pause.{Pause}
 use Rattle.hb_run.specs.declared.turns.Pause.TheVariants as pauses

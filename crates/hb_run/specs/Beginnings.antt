@@ -1,5 +1,5 @@
 -- What was there as a run began.
-use Rattle.std.specs.Prelude.{ℕ, [], None, false}
+use Rattle.std.specs.Prelude.{[], None, false}
 use Rattle.std.specs.FinMap as map
 use Rattle.std.specs.FinSet as set
 use Rattle.hb_core.specs.Showing.{RunningCore}

@@ -4,10 +4,8 @@ use Rattle.hb_disk.specs.Model.{DiskModel}
 use Rattle.hb_disk.specs.declared.traits.Device.{Ghosts}
 use Rattle.hb_outside.specs.Calls.{SinkModel}
 use Rattle.hb_core.specs.CoreSeen.{core_seen, core_disk}
-use Rattle.hb_run.specs.Beginnings.{Beginning}
 use Rattle.hb_run.specs.Courses as courses
 use Rattle.hb_run.specs.declared.courses.Course.{Course}
-use Rattle.hb_core.specs.declared.state.Core.{Core}
 
 abbrev pub course_seen : {D K : Type 0} {g : Ghosts D} → (D → DiskModel) → (K → SinkModel) → Course D K g → courses.Course
 course_seen disk sink c = record {

@@ -1,13 +1,37 @@
+use Rattle.std.proofs.Common.{ℕ, ◌-◌, Bool, List, subst, sym}
 use Rattle.hb_run.specs.CourseSeen.{course_seen}
+use Rattle.hb_run.specs.Turning.{CountsMove, IsNews, settled_of}
 use Rattle.hb_run.proofs.Going.{may_turn}
+use Rattle.hb_run.proofs.Waking.{wakes_all}
 use Rattle.hb_run.proofs.courses.Course.take_turn.Goals as goal
 
-pub news-news-requires-clause-shows : goal.news-news-requires-clause-shows
-news-news-requires-clause-shows g c =
-    let may = may_turn _ (course_seen g.D.Device.model g.K.Sink.model c.args.self.now) c.requires.keeps in
-    (may.0, may.1.shows)
+pub mark-before-requires : goal.mark-before-requires
+mark-before-requires g c = record { may = may_turn _ (course_seen g.D.Device.model g.K.Sink.model c.args.self.now) c.requires.keeps }
 
-pub next-next-requires-clause-shows : goal.next-next-requires-clause-shows
-next-next-requires-clause-shows g c =
-    let may = may_turn _ (course_seen g.D.Device.model g.K.Sink.model c.turn-turn.new.self) c.turn-turn.ensures.keeps in
-    (may.0, may.1.shows)
+pub news-news-requires-clause-may : goal.news-news-requires-clause-may
+news-news-requires-clause-may g c = may_turn _ (course_seen g.D.Device.model g.K.Sink.model c.args.self.now) c.requires.keeps
+
+pub next-next-requires-clause-may : goal.next-next-requires-clause-may
+next-next-requires-clause-may g c = may_turn _ (course_seen g.D.Device.model g.K.Sink.model c.turn-turn.new.self) c.turn-turn.ensures.keeps
+
+pub anyone_comes-self-requires : goal.anyone_comes-self-requires
+anyone_comes-self-requires g c = record { may = may_turn _ (course_seen g.D.Device.model g.K.Sink.model c.turn-turn.new.self) c.turn-turn.ensures.keeps }
+
+pub news-news-requires-2-clause-may : goal.news-news-requires-2-clause-may
+news-news-requires-2-clause-may g c = may_turn _ (course_seen g.D.Device.model g.K.Sink.model c.turn-turn.new.self) c.turn-turn.ensures.keeps
+
+pub returns-clause-wakes : goal.returns-clause-wakes
+returns-clause-wakes g c =
+    let place = c.args.actor - 1 in
+    let old = course_seen g.D.Device.model g.K.Sink.model c.args.self.now in
+    let new = course_seen g.D.Device.model g.K.Sink.model c.turn-turn.new.self in
+    let moved = c.is_move.result in
+    let coming = c.anyone_comes-self.result in
+    let news = c.news-news-2.result in
+    let A : ℕ → Type 0 = λ s. IsNews place moved s c.mark-before.result.round coming new news in
+    let B : ℕ → Type 0 = λ r. IsNews place moved (settled_of old.core) r coming new news in
+    let C : List ℕ → Type 0 = λ l. CountsMove place moved c.args.self.now.roster.moves l in
+    let E : Bool → Type 0 = λ b. CountsMove place b c.args.self.now.roster.moves c.turn-turn.new.self.roster.moves in
+    wakes_all place moved c.args.self.now.roster.moves c.note.new.self.moves c.args.self.now.roster.coming coming old new news
+    (subst B c.mark-before.ensures.round (subst A c.mark-before.ensures.settled c.news-news-2.ensures))
+    (subst C (sym c.note.ensures) (subst E (sym c.is_move.ensures) c.turn-turn.ensures.counts))
