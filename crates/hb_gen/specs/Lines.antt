@@ -24,12 +24,13 @@ abbrev pub drawn_highs : ℕ → ℕ → List ℕ
 drawn_highs zero x = []
 drawn_highs (suc n) x = (draw x % 1000 + draw (next_state x) % 50) ∷ drawn_highs n (state_behind 2 x)
 
--- of ten commands six are inserts, one is a delete, two are lookups and one is a search
+-- by a kind from 0 to 9: 0 to 5 are inserts, 6 is a delete, 7 and 8 are lookups, and 9 is a search
 abbrev pub by_kind : {T : Type 0} → ℕ → T → T → T → T → T
 by_kind kind insert delete lookup search =
     if nat_le kind 5 then insert else (if kind == 6 then delete else (if nat_le kind 8 then lookup else search))
 
--- the command of the line of this number: a draw for its kind, and then its values; an insert's body is that number
+-- the command of the line of this number, over k attributes: a draw for its kind, and then its values; an insert's body
+-- is that number
 unfoldable pub drawn_command : ℕ → ℕ → ℕ → ℕ → Command
 drawn_command k number session x =
     by_kind (draw x % 10)
@@ -38,6 +39,7 @@ drawn_command k number session x =
     (Lookup (drawn_point k session (next_state x)))
     (Search (record { lo = drawn_lows k (next_state x); hi = drawn_highs k (next_state x) }))
 
+-- the state behind it: a point took a draw for each value, and a box two
 abbrev pub behind_command : ℕ → ℕ → ℕ
 behind_command k x = state_behind (by_kind (draw x % 10) k k k (2 * k)) (next_state x)
 

@@ -29,7 +29,7 @@ pub(crate) fn draw_line(draws: &mut Draws, attributes: u8, number: u32) -> Line
     }
 }
 
-// Draws a command: its kind, and its values. Six of ten are inserts, one is a delete, two are
+// Draws a command: its kind, and then its values. Of ten, six are inserts, one is a delete, two are
 // lookups and one is a search.
 #[tactic(auto, unfolding(crate::specs::Lines::drawn_command))]
 fn draw_command(draws: &mut Draws, attributes: u8, number: u32, session: u8) -> Command
