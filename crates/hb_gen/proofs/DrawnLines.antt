@@ -65,17 +65,17 @@ chosen_all : {T : Type 0} (P : T → Type 0) (b : Bool) (x y : T) → P x → P 
 chosen_all P true x y px py = px
 chosen_all P false x y px py = py
 
-pub command_said : (k number session kind x : ℕ) → 0 < k → number < 2 ^ 64 → session ≤ 8 → IsSaid k (drawn_command k number session kind x)
+pub command_said : (k number session x : ℕ) → 0 < k → number < 2 ^ 64 → session ≤ 8 → IsSaid k (drawn_command k number session x)
 unfolding drawn_command
-command_said k number session kind x some small low =
-    let point = point_said k session x some low in
-    let insert : Command = Insert (record { key = drawn_point k session x; body = decimal number }) in
-    let delete : Command = Delete (drawn_point k session x) in
-    let lookup : Command = Lookup (drawn_point k session x) in
-    let search_box : Command = Search (record { lo = drawn_lows k x; hi = drawn_highs k x }) in
-    chosen_all (IsSaid k) (nat_le kind 5) insert _ (point, body_said number small)
-    (chosen_all (IsSaid k) (kind == 6) delete _ point
-    (chosen_all (IsSaid k) (nat_le kind 8) lookup search_box point (box_said k x)))
+command_said k number session x some small low =
+    let point = point_said k session (next_state x) some low in
+    let insert : Command = Insert (record { key = drawn_point k session (next_state x); body = decimal number }) in
+    let delete : Command = Delete (drawn_point k session (next_state x)) in
+    let lookup : Command = Lookup (drawn_point k session (next_state x)) in
+    let within : Command = Search (record { lo = drawn_lows k (next_state x); hi = drawn_highs k (next_state x) }) in
+    chosen_all (IsSaid k) (nat_le (draw x % 10) 5) insert _ (point, body_said number small)
+    (chosen_all (IsSaid k) (draw x % 10 == 6) delete _ point
+    (chosen_all (IsSaid k) (nat_le (draw x % 10) 8) lookup within point (box_said k (next_state x))))
 
 pub session_fits : (x : ℕ) → (1 ≤ drawn_session x) × (drawn_session x ≤ 8)
 session_fits x = (omega arith, omega arith)

@@ -13,8 +13,8 @@ use Rattle.hb_text.specs.StepWords.{session_of}
 use Rattle.hb_text.specs.TextLaws.{HasNo, with_line_feeds}
 use Rattle.hb_text.specs.Words.{lines_of, words_of, is_empty, is_printable}
 use Rattle.hb_text.proofs.Facts.TextLaws.{lines_come_back}
-use Rattle.hb_gen.specs.Draws.{state_behind}
-use Rattle.hb_gen.specs.Lines.{drawn_line, drawn_session, drawn_kind, value_draws, lines_from, generated}
+use Rattle.hb_gen.specs.Draws.{next_state}
+use Rattle.hb_gen.specs.Lines.{drawn_line, drawn_session, behind_line, lines_from, generated}
 use Rattle.hb_gen.specs.Spelling.{command_text, line_text, lines_text, generated_text}
 use Rattle.hb_gen.proofs.PlainWords.{decimal_plain, plain_line, IsPlainLine}
 use Rattle.hb_gen.proofs.LineWords.{command_words, command_spaced, command_plain, command_length, command_back, number_back, no_step, IsSaid}
@@ -75,7 +75,7 @@ line_back allowed k taken number line few low said =
 drawn_said : (k number x : ℕ) → 0 < k → number ≤ 1000000 → IsSaidLine k number (drawn_line k number x)
 drawn_said k number x some low =
     let session = session_fits x in
-    record { number_is = refl; session_from = session.0; session_to = session.1; command = command_said k number (drawn_session x) (drawn_kind x) (state_behind 2 x) some (omega arith) session.1 }
+    record { number_is = refl; session_from = session.0; session_to = session.1; command = command_said k number (drawn_session x) (next_state x) some (omega arith) session.1 }
 
 -- over k attributes
 module _ (k : ℕ) (attributes : IsAttributeCount k) where
@@ -84,7 +84,7 @@ module _ (k : ℕ) (attributes : IsAttributeCount k) where
   lines_back allowed taken number zero x low = refl
   lines_back allowed taken number (suc n) x low =
       let said = drawn_said k number x attributes.some (omega arith) in
-      let more = lines_back allowed (taken + 0) (number + 1) n (state_behind (value_draws k (drawn_kind x)) (state_behind 2 x)) (omega arith) in
+      let more = lines_back allowed (taken + 0) (number + 1) n (behind_line k x) (omega arith) in
       rw (line_back allowed k taken number (drawn_line k number x) attributes.few (omega arith) said, more) refl
 
   no_feeds : (number n x : ℕ) → number + n ≤ 1000001 → AllByRecursion (HasNo 10) (map bare_text (lines_from k number n x))

@@ -10,7 +10,7 @@ use Rattle.hb_gen.specs.Lines.{generated}
 
 -- the lower and the upper value of one attribute after the other
 abbrev pub side_by_side : List ℕ → List ℕ → List ℕ
-side_by_side (lo ∷ los) (hi ∷ his) = lo ∷ hi ∷ side_by_side los his
+side_by_side (low ∷ lows) (high ∷ highs) = low ∷ high ∷ side_by_side lows highs
 side_by_side _ _ = []
 
 -- what follows the session

@@ -1,8 +1,8 @@
 // A command line by draws: its session, its kind, and the values of its command.
-ghost use Rattle.std.specs.Prelude.{◌≡◌, ◌<◌, ◌≤◌, ◌-◌, ◌*◌, decimal};
+ghost use Rattle.std.specs.Prelude.{◌≡◌, ◌≤◌, ◌*◌, decimal};
 ghost use Rattle.hb_space.specs.Points.{IsAttributeCount};
-ghost use Rattle.hb_gen.specs.Draws.{next_state, state_behind};
-ghost use Rattle.hb_gen.specs.Lines.{drawn_values, drawn_point, drawn_lows, drawn_highs, drawn_command, drawn_kind, drawn_line, value_draws};
+ghost use Rattle.hb_gen.specs.Draws.{state_behind};
+ghost use Rattle.hb_gen.specs.Lines.{drawn_point, drawn_lows, drawn_highs, drawn_command, behind_command, drawn_line, behind_line};
 
 use crate::draws::Draws;
 use arrayvec::ArrayVec;
@@ -18,11 +18,10 @@ const SESSIONS: u32 = 8;
 pub(crate) fn draw_line(draws: &mut Draws, attributes: u8, number: u32) -> Line
     requires { IsAttributeCount attributes }
     ensures line { result ≡ drawn_line attributes number draws.old.state }
-    ensures state { draws.new.state ≡ state_behind (value_draws attributes (drawn_kind draws.old.state)) (state_behind 2 draws.old.state) }
+    ensures state { draws.new.state ≡ behind_line attributes draws.old.state }
 {
     let session = draws.below(SESSIONS) as u8 + 1;
-    let kind = draws.below(10);
-    let command = draw_command(draws, attributes, number, session, kind);
+    let command = draw_command(draws, attributes, number, session);
     Line {
         number,
         session,
@@ -30,16 +29,16 @@ pub(crate) fn draw_line(draws: &mut Draws, attributes: u8, number: u32) -> Line
     }
 }
 
-// Draws the values of a command of this kind: six of ten are inserts, one is a delete, two are
+// Draws a command: its kind, and then its values. Of ten, six are inserts, one is a delete, two are
 // lookups and one is a search.
 #[tactic(auto, unfolding(crate::specs::Lines::drawn_command))]
-fn draw_command(draws: &mut Draws, attributes: u8, number: u32, session: u8, kind: u32) -> Command
+fn draw_command(draws: &mut Draws, attributes: u8, number: u32, session: u8) -> Command
     requires attributes { IsAttributeCount attributes }
     requires session { (1 ≤ session) × (session ≤ 8) }
-    ensures command { result ≡ drawn_command attributes number session kind draws.old.state }
-    ensures state { draws.new.state ≡ state_behind (value_draws attributes kind) draws.old.state }
+    ensures command { result ≡ drawn_command attributes number session draws.old.state }
+    ensures state { draws.new.state ≡ behind_command attributes draws.old.state }
 {
-    match kind {
+    match draws.below(10) {
         0..=5 => {
             let key = draw_point(draws, attributes, session);
             let body = number_body(number);

@@ -2,7 +2,7 @@
 ghost use Rattle.std.specs.Prelude.{◌≡◌, ◌<◌, ◌%◌};
 ghost use Rattle.hb_gen.specs.Draws.{next_state, draw};
 
-// Knuth's multiplier, and what is added behind it.
+// Knuth's multiplier, and what is added to each product.
 const MULTIPLIER: u64 = 6_364_136_223_846_793_005;
 
 const INCREMENT: u64 = 1_442_695_040_888_963_407;
