@@ -122,7 +122,7 @@ class Client:
         data = f"{folder}/calls"
         self.run(folder, traced.recording(data))
         told = traced.calls(data)
-        told.pop("behind")
+        told.pop("bells")
         return told
 
     def name(self):

@@ -105,7 +105,7 @@ def calls(data):
     told, syncing, writers, futexes = {"syncs": 0, "bytes": 0}, set(), set(), []
     for thread, name, given, value in recorded(data):
         if name == "futex":
-            futexes.append((thread, given["op"], given["uaddr"], given["val"]))
+            futexes.append((thread, given["op"], given["uaddr"]))
         elif name == "openat" and given["flags"] & O_DSYNC:
             syncing.add(value)
         elif name in SYNCS:
@@ -119,10 +119,13 @@ def calls(data):
 
 
 def waits(futexes, writers):
-    """How many futex calls wait, but for a thread's end, and how many wake. And how often a thread that writes a reply waits at a bell:
-    a place where no call wakes just one, as whoever lets a lock go does."""
-    waiting = [(thread, place) for thread, op, place, _ in futexes if op & 127 in (0, 9) and op != 265]
-    waking = [(place, count) for _, op, place, count in futexes if op & 127 in (1, 10)]
-    locks = {place for place, count in waking if count == 1}
-    behind = sum(thread in writers and place not in locks for thread, place in waiting)
-    return {"waits": len(waiting), "wakes": len(waking), "behind": behind}
+    """How many futex calls wait, but for a thread's end, and how many wake; and how often a thread that writes replies waits at a bell:
+    anywhere but at the lock, at which most threads wait."""
+    told, places = {"waits": 0, "wakes": 0}, {}
+    for thread, op, place in futexes:
+        told["wakes"] += op & 127 in (1, 10)
+        if op & 127 in (0, 9) and op != 265:
+            told["waits"] += 1
+            places.setdefault(place, []).append(thread)
+    lock = max(places, key=lambda place: len(set(places[place])), default=None)
+    return told | {"bells": sum(thread in writers for place, threads in places.items() if place != lock for thread in threads)}
