@@ -90,7 +90,7 @@ class Drive(Program):
         return {name: busy[name] - idle[name] for name in busy}
 
     def name(self):
-        return f"hbpi, {self.log:,}, {self.each} in turn"
+        return f"drive, {self.log:,}, {self.each} in turn"
 
 
 class Client:
