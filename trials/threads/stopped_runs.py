@@ -182,7 +182,7 @@ def shut(rooms, case, wanted):
     process.stdout.close()
     status = ended(process, case.text(0))
     list(answered(case.runs[0][0], Said(said[:said.rfind("\n") + 1])))
-    return whole(rooms, case, status, (0, 5) if wanted > 3 * len(case.runs[0][0]) // 4 else (5,))
+    return whole(rooms, case, status, (0, 5))
 
 
 def rule_of(line):
