@@ -33,7 +33,11 @@ def look_at(process, text):
         for task in sorted(glob.glob(f"/proc/{process.pid}/task/*")):
             f.write(f"{task} {read_or(task + '/wchan')} {read_or(task + '/syscall')}\n{read_or(task + '/stack')}\n")
         words = ["gdb", "-p", str(process.pid), "-batch", "-ex", "thread apply all bt"]
-        f.write(subprocess.run(words, capture_output=True, text=True, timeout=60).stdout + "\n-- text\n" + text)
+        try:
+            f.write(subprocess.run(words, capture_output=True, text=True, timeout=60).stdout)
+        except subprocess.TimeoutExpired:
+            f.write("gdb was too slow\n")
+        f.write("\n-- text\n" + text)
     process.kill()
     out = process.communicate()[0]
     with open(place, "a") as f:
