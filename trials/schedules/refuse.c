@@ -4,6 +4,7 @@
 #include <stddef.h>
 #include <stdio.h>
 #include <stdlib.h>
+#include <sys/syscall.h>
 #include <unistd.h>
 
 extern void *__libc_malloc(size_t);
@@ -16,15 +17,23 @@ __attribute__((constructor)) static void begin(void) {
     count = 0;
 }
 
-__attribute__((destructor)) static void end(void) {
+static void tell(void) {
     const char *name = getenv("REFUSE_TOLD");
     char text[32];
     int file = name ? open(name, O_WRONLY | O_CREAT | O_TRUNC, 0600) : -1;
     if (file >= 0) {
         int length = snprintf(text, sizeof text, "%ld\n", count);
-        if (write(file, text, length) != length) _exit(99);
+        if (write(file, text, length) != length) syscall(SYS_exit_group, 99);
         close(file);
     }
+}
+
+__attribute__((destructor)) static void end(void) { tell(); }
+
+/* A program with threads ends by this call, which runs no destructor. */
+void _exit(int status) {
+    tell();
+    for (;;) syscall(SYS_exit_group, status);
 }
 
 void *malloc(size_t size) { return ++count == wanted ? NULL : __libc_malloc(size); }
