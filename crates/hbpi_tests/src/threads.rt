@@ -7,12 +7,13 @@ use crate::runs::{
 use crate::stops::BEFORE_FORCES;
 use hb_disk::{Disk, MemDisk, Pick, RotDisk};
 use hb_outside::MemSink;
-use hb_run::{FreeGate, Gate, HoldGate};
+use hb_run::{FreeGate, Gate, HoldGate, Place};
 use hbpi::top::{quiet, top};
 use hbpi::{Finished, Form};
 use std::alloc::Global;
 use std::sync::Wait;
-use std::thread::Threads;
+use std::sync::atomic::{AtomicBool, Ordering};
+use std::thread::{Threads, yield_now};
 
 /// A file of two attributes, else as that of `CREATE`.
 const PLANE: &str = "create 2 64 65536 6 32";
@@ -177,6 +178,46 @@ fn sessions_take_turns(rt: HostRuntime) {
     let left = run_on_plane(&rt, rt.alloc(), BOTH, NEVER, &gate);
     expect_said(&rt, left, "0 2 ok\n1 ok\norder 2 1\n", "held");
     assert!(&rt; gate.met());
+}
+
+/// A gate at which actor 2 begins once actor 1 is between two turns. There that one is held, until actor 2 has ended.
+struct CrossGate {
+    begun: AtomicBool,
+    hold: HoldGate,
+}
+
+impl CrossGate {
+    /// Waits till actor 1 is between two turns, but not for ever.
+    fn wait(&self) {
+        for _ in 0..10_000_000 {
+            if self.begun.load(Ordering::SeqCst) {
+                return;
+            }
+            yield_now();
+        }
+    }
+}
+
+impl Gate for CrossGate {
+    fn at(&self, actor: u8, place: Place) {
+        match (actor, place) {
+            (2, Place::Start) => self.wait(),
+            (1, Place::Between) => self.begun.store(true, Ordering::SeqCst),
+            _ => {}
+        }
+        self.hold.at(actor, place);
+    }
+}
+
+#[test]
+fn the_lock_is_free_between_turns(rt: HostRuntime) {
+    let gate = CrossGate {
+        begun: AtomicBool::new(false),
+        hold: HoldGate::new(),
+    };
+    let left = run_on_plane(&rt, rt.alloc(), BOTH, NEVER, &gate);
+    expect_said(&rt, left, "0 2 ok\n1 ok\norder 2 1\n", "crossed");
+    assert!(&rt; gate.hold.met());
 }
 
 /// What `check` says without threads over a new file.
