@@ -181,6 +181,7 @@ fn sessions_take_turns(rt: HostRuntime) {
 }
 
 /// A gate at which actor 2 begins once actor 1 is between two turns. There that one is held, until actor 2 has ended.
+#[derive(Drop)]
 struct CrossGate {
     begun: AtomicBool,
     hold: HoldGate,
