@@ -1,3 +1,4 @@
+pub mod Counts
 pub mod Machines
 pub mod Asking
 pub mod Fetching
@@ -42,6 +43,7 @@ pub mod CoreUpdates
 pub mod Pinning
 pub mod Committing
 pub mod Moving
+pub mod Counting
 pub mod Taking
 pub mod Stopping
 pub mod Looking

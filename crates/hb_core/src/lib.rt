@@ -18,6 +18,7 @@ pub mod asked_laws;
 mod asking;
 mod bringing;
 pub mod cause_laws;
+mod counts;
 mod deciding;
 mod endings;
 pub mod examples;
@@ -42,6 +43,7 @@ pub mod waiting_laws;
 mod working;
 pub mod written_chains;
 
+pub use counts::TidyCounts;
 pub use endings::{End, Ran};
 pub use hb_activity::DropWhy;
 pub use outcomes::Outcome;
