@@ -51,6 +51,8 @@ pub mod AskingDeciders
 pub mod LookingToMerge
 pub mod Working
 pub mod Relied
+pub mod Between
+pub mod BetweenLaws
 pub mod Touching
 pub mod Runs
 pub mod MomentLaws
