@@ -9,3 +9,4 @@ pub mod RunCrashes
 pub mod RunSteps
 pub mod BegunCores
 pub mod RunLines
+pub mod CallsCounted

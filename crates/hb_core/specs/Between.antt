@@ -44,7 +44,7 @@ pub record AddsToQueue (job : Job) (old new : RunningCore) : Type 0 where
 -- ---- a page
 
 -- A page is in memory now, as a fetch brings it. The file stays, and so does all that isn't memory.
-pub record LooksAt (id : ℕ) (m new : Machine) : Type 0 where
+pub record PageComes (id : ℕ) (m new : Machine) : Type 0 where
   pub brings : Brings m (λ other. other ≡ id) new.store
   pub there : IsSome (in_memory new.store id)
   pub tied : IsTied new.store new.uses
@@ -54,8 +54,8 @@ pub record LooksAt (id : ℕ) (m new : Machine) : Type 0 where
 -- A page is copied: it is in memory, and over a disk that tells it is the file's. For want of memory it may have come and isn't copied. A
 -- read that failed and want of a place leave all as it was. A damaged page stops the machine; only over a disk that tells nothing one is.
 abbrev pub CopiesPage : ℕ → Result Page CopyStop → Machine → Machine → Type 0
-CopiesPage id (Ok page) m new = LooksAt id m new × (in_memory new.store id ≡ Some page) × IfSome m.files (λ files. page_of (current_file files) id ≡ Some page)
-CopiesPage id (Err copies.NoMemory) m new = LooksAt id m new
+CopiesPage id (Ok page) m new = PageComes id m new × (in_memory new.store id ≡ Some page) × IfSome m.files (λ files. page_of (current_file files) id ≡ Some page)
+CopiesPage id (Err copies.NoMemory) m new = PageComes id m new
 CopiesPage id (Err copies.ReadFault) m new = (new ≡ m) × (in_memory m.store id ≡ None)
 CopiesPage id (Err copies.Crowded) m new = (new ≡ m) × IsCrowdedOut id m.store m.uses
 CopiesPage id (Err (copies.Damaged page why)) m new = (new ≡ stopped_for (stops.Damaged page why) m) × (page ≡ id) × IsBadRead m.files m.store id why

@@ -1,5 +1,5 @@
 -- What a call makes of the counts of a core: of its steps, and of the operations that they did.
-use Rattle.std.specs.Prelude.{◌≡◌, ◌⊎◌, ℕ, ◌≤◌, [], length}
+use Rattle.std.specs.Prelude.{◌≡◌, ◌⊎◌, ℕ, ◌-◌, ◌^◌, ◌≤◌, [], length}
 use Rattle.hb_ops.specs.declared.operations.Op.{Op}
 use Rattle.hb_store.specs.Calls.{KeepsAllButPages}
 use Rattle.hb_store.specs.States.{StoreState}
@@ -36,6 +36,7 @@ pub record CountsStep (actor : ℕ) (old new : RunningCore) : Type 0 where
 -- No more operations of a kind were counted than steps. A core that has taken no step begins so, and each call keeps it; so none of
 -- these counts stands still before that of the steps does.
 pub record CountsWithin (c : RunningCore) : Type 0 where
+  pub last : c.taken ≤ 2 ^ 64 - 1
   pub grown : c.done.grown ≤ c.taken
   pub posted : c.done.posted ≤ c.taken
   pub split : c.done.split ≤ c.taken

@@ -39,7 +39,7 @@ use Rattle.hb_core.proofs.Running.Frames.{fetched_pins}
 use Rattle.hb_core.proofs.Walks.MergesKept.{PlaceStays, place_latched}
 use Rattle.hb_core.proofs.Walks.WalksKept.{StandsInSpace, all_stand, each_stands, free_stands, parent_latched, stands_again}
 use Rattle.hb_core.proofs.Walks.WorkersKept.{none_stands, stands_again as works_again}
-use Rattle.hb_core.specs.Between.{LetsWait, LooksAt, with_waiting}
+use Rattle.hb_core.specs.Between.{LetsWait, PageComes, with_waiting}
 use Rattle.hb_core.specs.BetweenLaws.{LookingGoesOn, LookingKeepsAll, WaitingGoesOn, WaitingKeepsAll}
 use Rattle.hb_core.specs.Fetching.{Brings}
 use Rattle.hb_core.specs.Keeps.{HasSoundFile, HoldsPagesOfFile, KnowsRoom, LatchesFit, WalksInSpace}
@@ -279,7 +279,7 @@ waiting_keeps_all n m files job new fits waits all = subst (λ (x : Machine). Co
 
 -- ---- a page is looked at
 
-module _ (m : Machine) (id : ℕ) (new : Machine) (looks : LooksAt id m new) where
+module _ (m : Machine) (id : ℕ) (new : Machine) (looks : PageComes id m new) where
   abbrev looked : Machine
   looked = with_uses new.uses (with_disk new.store m.files m.clock m)
 

@@ -43,7 +43,7 @@ use Rattle.hb_core.proofs.Running.ForcedShows.{shown_stopped, with_held}
 use Rattle.hb_core.proofs.Running.Frames.{must_here}
 use Rattle.hb_core.proofs.Running.Touched.{flush_idled_then, moved_well, touched_forced, touched_home, touched_turn}
 use Rattle.hb_core.proofs.Running.WrittenShows.{home_none, home_some, home_turn}
-use Rattle.hb_core.specs.Between.{CopiesPage, FailsToLook, IsNotCopied, LetsWait, LooksAt, said_of_flush, with_waiting}
+use Rattle.hb_core.specs.Between.{CopiesPage, FailsToLook, IsNotCopied, LetsWait, PageComes, said_of_flush, with_waiting}
 use Rattle.hb_core.specs.Fetching.{Brings, IsBadRead, MustStay}
 use Rattle.hb_core.specs.Forcing.{Flushes}
 use Rattle.hb_core.specs.Keeps.{HasSoundFile}
@@ -102,7 +102,7 @@ module _ (d e : DiskModel) (c : RunningCore) (m : Machine) (id : ℕ) (step : Ma
     brings_it : Brings m (λ other. other ≡ id) st
     brings_it = fetch_brings m d e c failed st step.shows looks id memory fetched (λ q must. stays q (must_now q must) ∙ ap (λ (x : StoreState). in_memory x q) (sym step.shows.store))
 
-    looks_there : LooksAt id m looked
+    looks_there : PageComes id m looked
     looks_there = record {
       brings = brings_it;
       there = fetched.there;
@@ -114,7 +114,7 @@ module _ (d e : DiskModel) (c : RunningCore) (m : Machine) (id : ℕ) (step : Ma
     steps_then : MayStep e then looked
     steps_then = record { shows = shows_store m d e c failed st step.shows looks uses; goes_on = looking_goes_on m id looked looks_there step.goes_on }
 
-    pub looked_only : (new : Machine) × LooksAt id m new × MayStep e then new
+    pub looked_only : (new : Machine) × PageComes id m new × MayStep e then new
     looked_only = (looked, looks_there, steps_then)
 
     pub page_copied : (page : Page) → in_memory st id ≡ Some page → (new : Machine) × CopiesPage id (Ok page) m new × MayStep e then new

@@ -1,0 +1,96 @@
+-- What calls make of the counts of a core, and of a run: a step of it, a flush that its caller asked for, and what changes no more than
+-- the jobs that wait and the pages in memory.
+use Rattle.std.proofs.Common.{◌≡◌, inl, inr, ℕ, ◌+◌, ◌-◌, ◌^◌, ◌≤◌, ◌==◌, Bool, true, false, cond, List, [], ◌∷◌, ◌++◌, Ok, Err, Result, IsSome, refl, sym, ap, ◌∙◌, subst, arith, append-nil}
+use Rattle.hb_disk.specs.Model.{DiskModel, IsDisk}
+use Rattle.hb_ops.specs.declared.operations.Op.{Op}
+use Rattle.hb_ops.specs.declared.operations.Op.TheVariants as ops
+use Rattle.hb_pool.specs.Frames.{Use}
+use Rattle.hb_set.specs.declared.scripts.Answered.{Answered}
+use Rattle.hb_set.specs.declared.scripts.Line.{Line}
+use Rattle.hb_store.specs.States.{StoreState}
+use Rattle.hb_store.specs.declared.stops.Flushed.{Flushed}
+use Rattle.hb_store.specs.declared.stops.Flushed.TheVariants as flushes
+use Rattle.hb_store.specs.declared.stops.WriteFault.{WriteFault}
+use Rattle.hb_core.specs.declared.counts.TidyCounts.{TidyCounts}
+use Rattle.hb_core.proofs.Facts.RunSteps.{run_by_step}
+use Rattle.hb_core.proofs.Running.BetweenCalls.{is_flusher}
+use Rattle.hb_core.specs.Between.{said_of_flush}
+use Rattle.hb_core.specs.Counting.{CountsOp, CountsStay, CountsStep, CountsWithin}
+use Rattle.hb_core.specs.Counts.{counted, one_more}
+use Rattle.hb_core.specs.Machines.{Machine}
+use Rattle.hb_core.specs.Performing.{given_by}
+use Rattle.hb_core.specs.Runs.{HasRun, RunningLaws}
+use Rattle.hb_core.specs.Showing.{RunningCore, ShowsMachine}
+use Rattle.hb_core.specs.Steps.{StepsTo}
+use Rattle.hb_core.specs.Taking.{begun_core}
+use Rattle.hb_core.specs.Touching.{Touches}
+use Rattle.hb_core.specs.Working.{MayStep}
+
+-- ---- no more operations of a kind were counted than steps
+
+pub record AreWithin (done : TidyCounts) (taken : ℕ) : Type 0 where
+  pub grown : done.grown ≤ taken
+  pub posted : done.posted ≤ taken
+  pub split : done.split ≤ taken
+  pub merged : done.merged ≤ taken
+
+rises : (n taken : ℕ) → n ≤ taken → one_more n ≤ one_more taken
+rises n taken le = omega (arith, le)
+
+still : (n taken : ℕ) → taken ≤ 2 ^ 64 - 1 → n ≤ taken → n ≤ one_more taken
+still n taken last le = omega (arith, last, le)
+
+all_still : (done : TidyCounts) (taken : ℕ) → taken ≤ 2 ^ 64 - 1 → AreWithin done taken → AreWithin done (one_more taken)
+all_still done taken last are = record { grown = still done.grown taken last are.grown; posted = still done.posted taken last are.posted; split = still done.split taken last are.split; merged = still done.merged taken last are.merged }
+
+one_rises : (actor : ℕ) (op : Op) (done : TidyCounts) (taken : ℕ) → taken ≤ 2 ^ 64 - 1 → AreWithin done taken → AreWithin (counted actor op done) (one_more taken)
+one_rises actor (ops.Put page rec) done taken last are = all_still done taken last are
+one_rises actor (ops.Del page point) done taken last are = all_still done taken last are
+one_rises actor (ops.Extract source fresh path cuts free_after) done taken last are = by (actor == 17)
+  where
+    by : (b : Bool) → AreWithin (cond b (record done { split = one_more done.split }) done) (one_more taken)
+    by true = let all = all_still done taken last are in record { grown = all.grown; posted = all.posted; split = rises done.split taken are.split; merged = all.merged }
+    by false = all_still done taken last are
+one_rises actor (ops.Post parent way inner area) done taken last are = let all = all_still done taken last are in record { grown = all.grown; posted = rises done.posted taken are.posted; split = all.split; merged = all.merged }
+one_rises actor (ops.Merge parent keep gone) done taken last are = let all = all_still done taken last are in record { grown = all.grown; posted = all.posted; split = all.split; merged = rises done.merged taken are.merged }
+one_rises actor (ops.Grow fresh free_after) done taken last are = let all = all_still done taken last are in record { grown = rises done.grown taken are.grown; posted = all.posted; split = all.split; merged = all.merged }
+
+are_within : (c : RunningCore) → CountsWithin c → AreWithin c.done c.taken
+are_within c within = record { grown = within.grown; posted = within.posted; split = within.split; merged = within.merged }
+
+so_within : (c : RunningCore) (done : TidyCounts) (taken : ℕ) → c.done ≡ done → c.taken ≡ taken → taken ≤ 2 ^ 64 - 1 → AreWithin done taken → CountsWithin c
+so_within c done taken counts steps last are =
+    let its : AreWithin c.done c.taken = subst (λ (x : TidyCounts). AreWithin x c.taken) (sym counts) (subst (AreWithin done) (sym steps) are) in
+    record { last = subst (λ (n : ℕ). n ≤ 2 ^ 64 - 1) (sym steps) last; grown = its.grown; posted = its.posted; split = its.split; merged = its.merged }
+
+at_last : (taken : ℕ) → one_more taken ≤ 2 ^ 64 - 1
+at_last taken = omega arith
+
+-- a core that has taken no step, a step, and a call that counts nothing
+pub begun_within : (lines : List Line) (steps : List ℕ) (store : StoreState) (uses : List Use) → CountsWithin (begun_core lines steps store uses)
+begun_within lines steps store uses = record { last = omega arith; grown = omega arith; posted = omega arith; split = omega arith; merged = omega arith }
+
+pub steps_within : (actor : ℕ) (old new : RunningCore) → CountsStep actor old new → CountsWithin old → CountsWithin new
+steps_within actor old new step within = by step.done
+  where
+    by : CountsOp actor old new → CountsWithin new
+    by (inl (none, done)) = so_within new old.done (one_more old.taken) done step.taken (at_last old.taken) (all_still old.done old.taken within.last (are_within old within))
+    by (inr (op, did, done)) = so_within new (counted actor op old.done) (one_more old.taken) done step.taken (at_last old.taken) (one_rises actor op old.done old.taken within.last (are_within old within))
+
+pub stays_within : (old new : RunningCore) → CountsStay old new → CountsWithin old → CountsWithin new
+stays_within old new stay within = so_within new old.done old.taken stay.done stay.taken within.last (are_within old within)
+
+-- ---- a flush is a step of the flusher, and answers nothing
+
+answers_none : (r : Result Flushed WriteFault) (clock : ℕ) (answers : List Answered) → answers ++ given_by (said_of_flush r) clock ≡ answers
+answers_none (Ok flushes.Forced) clock answers = append-nil answers
+answers_none (Ok (flushes.Written page)) clock answers = append-nil answers
+answers_none (Ok flushes.Switched) clock answers = append-nil answers
+answers_none (Ok flushes.Nothing) clock answers = append-nil answers
+answers_none (Err fault) clock answers = append-nil answers
+
+pub run_by_help : RunningLaws → (d : DiskModel) (m : Machine) (actors : List ℕ) (answers : List Answered) (e : DiskModel) (old : RunningCore) (r : Result Flushed WriteFault) (f : DiskModel) (new : RunningCore) → HasRun d m actors answers e old → IsDisk e → IsDisk f
+    → ((x : Machine) → MayStep e old x → (next : Machine) × StepsTo x 19 (said_of_flush r) next × ShowsMachine f new next) → Touches e old (said_of_flush r) f new → HasRun d m (actors ++ 19 ∷ []) answers f new
+run_by_help laws d m actors answers e old r f new run disk disk_next steps touches =
+    subst (λ (l : List Answered). HasRun d m (actors ++ 19 ∷ []) l f new) (answers_none r f.clock answers)
+    (run_by_step laws d m actors answers e old 19 (said_of_flush r) f.clock f new run disk disk_next is_flusher steps touches (λ told. refl))
