@@ -43,7 +43,7 @@ returns-in-Err-next-clause-reads g c =
     reads_halted c.in-Err-next.stop c.halt_of.result (g.D.Device.model c.args.self.now.store.disk) (g.D.Device.model c.next_page-next.new.self.disk) c.halt_of.ensures c.in-Err-next.ensures.looks.only
 
 pub returns-in-Ok-clause-brings : goal.returns-in-Ok-clause-brings
-returns-in-Ok-clause-brings g c = record { pages = pages_may (core_seen c.args.self.now).store.meta.free (seen_as c.args.self.now.store) (seen_as c.next_page-next.new.self) c.next_page-next.ensures.fetches; rest = refl }
+returns-in-Ok-clause-brings g c = record { pages = pages_may (core_seen c.args.self.now).store.meta.free (seen_as c.args.self.now.store) (seen_as c.next_page-next.new.self) c.in-Ok.ensures.fetches; rest = refl }
 
 pub returns-in-Err-next-clause-brings : goal.returns-in-Err-next-clause-brings
-returns-in-Err-next-clause-brings g c = record { pages = pages_may (core_seen c.args.self.now).store.meta.free (seen_as c.args.self.now.store) (seen_as c.next_page-next.new.self) c.next_page-next.ensures.fetches; rest = refl }
+returns-in-Err-next-clause-brings g c = record { pages = pages_may (core_seen c.args.self.now).store.meta.free (seen_as c.args.self.now.store) (seen_as c.next_page-next.new.self) c.in-Err-next.ensures.fetches; rest = refl }

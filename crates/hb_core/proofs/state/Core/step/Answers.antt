@@ -63,7 +63,7 @@ returns-in-SessionIdle g c = record {
       let behind = lies_behind (g.D.Device.model (core_disk c.args.self.now)) (core_seen c.args.self.now) c.requires.may.0 c.args.actor c.activity.result.now c.requires.actor c.requires.may.1 c.in_default.is c.activity.ensures c.in-SessionIdle.is in
       untouched g.D.Device.model (core_disk c.args.self.now) (core_disk c.take_line.new.self) (core_seen c.args.self.now) (core_seen c.take_line.new.self) c.take_line.result
       (line_well c.args.actor behind.0 c.take_line.result (with_taken c.saturating_add-self.result (core_seen c.args.self.now)) (core_seen c.take_line.new.self) (c.take_line.ensures.does behind.0 behind.1)) c.take_line.ensures.disk;
-  counts = 
+  counts =
       let behind = lies_behind (g.D.Device.model (core_disk c.args.self.now)) (core_seen c.args.self.now) c.requires.may.0 c.args.actor c.activity.result.now c.requires.actor c.requires.may.1 c.in_default.is c.activity.ensures c.in-SessionIdle.is in
       counts_step c.args.actor c.saturating_add-self.result (core_seen c.args.self.now) (core_seen c.take_line.new.self) c.saturating_add-self.ensures (stays_part c.args.actor (with_taken c.saturating_add-self.result (core_seen c.args.self.now)) (core_seen c.take_line.new.self) (line_counts c.args.actor behind.0 c.take_line.result (with_taken c.saturating_add-self.result (core_seen c.args.self.now)) (core_seen c.take_line.new.self) (c.take_line.ensures.does behind.0 behind.1)));
 }

@@ -157,3 +157,6 @@ pub returns-in-Err-Stops-clause-counts : goal.returns-in-Err-Stops-clause-counts
 returns-in-Err-Stops-clause-counts g c =
     part_then c.args.actor (core_seen c.args.self.now) (core_seen c.do_row.new.self) (core_seen c.stop_for.new.self) c.in-Err-Stops.ensures.counts
     (ap (λ (s : RunningCore). s.store) c.stop_for.ensures.stops.does) (ap (λ (s : RunningCore). s.taken) c.stop_for.ensures.stops.does) (ap (λ (s : RunningCore). s.done) c.stop_for.ensures.stops.does)
+
+pub returns-in-Ok-clause-counts : goal.returns-in-Ok-clause-counts
+returns-in-Ok-clause-counts g c = c.in-Ok.ensures.counts
