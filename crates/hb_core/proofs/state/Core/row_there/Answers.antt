@@ -87,12 +87,12 @@ pub returns-in_err-free-clause-counts : goal.returns-in_err-free-clause-counts
 returns-in_err-free-clause-counts g c = brings_part c.args.actor (core_seen c.args.self.now) (core_seen c.number.new.self) c.in_err-free.ensures.brings
 
 pub returns-in-Err-clause-counts : goal.returns-in-Err-clause-counts
-returns-in-Err-clause-counts g c = stands_part c.args.actor (core_seen c.args.self.now) (core_seen c.number.new.self) (core_seen c.decide.new.self) (idle_of (class_for c.args.actor)) c.in_ok-free.ensures.brings c.decide.ensures.rest.does
+returns-in-Err-clause-counts g c = stands_part c.args.actor (core_seen c.args.self.now) (core_seen c.number.new.self) (core_seen c.decide.new.self) (idle_of (class_for c.args.actor)) c.in_ok-free.ensures.brings c.in-Err.ensures.rest.does
 
 pub returns-in-Ok-clause-counts : goal.returns-in-Ok-clause-counts
 returns-in-Ok-clause-counts g c =
     let m = c.requires.row.come.0 in
-    stands_then c.args.actor (core_seen c.args.self.now) (core_seen c.number.new.self) (core_seen c.decide.new.self) (core_seen c.perform.new.self) (idle_of (class_for c.args.actor)) c.in_ok-free.ensures.brings c.decide.ensures.rest.does
+    stands_then c.args.actor (core_seen c.args.self.now) (core_seen c.number.new.self) (core_seen c.decide.new.self) (core_seen c.perform.new.self) (idle_of (class_for c.args.actor)) c.in_ok-free.ensures.brings c.in-Ok.ensures.rest.does
     (by_result c.perform.result _ _ (CountsPart c.args.actor (core_seen c.decide.new.self) (core_seen c.perform.new.self))
     (λ outcome does. deed_part c.args.actor c.as_slice.result.now _ outcome (core_seen c.decide.new.self) (core_seen c.perform.new.self) (does (m.activity c.args.actor) (c.requires.line m c.requires.row.come.1)))
     (λ halt why. stays_part c.args.actor (core_seen c.decide.new.self) (core_seen c.perform.new.self) (counts_so (core_seen c.decide.new.self) (core_seen c.perform.new.self) (core_seen c.decide.new.self) why.2 refl refl refl))
