@@ -33,6 +33,12 @@ pub record CountsStep (actor : ℕ) (old new : RunningCore) : Type 0 where
   pub taken : new.taken ≡ one_more old.taken
   pub done : CountsOp actor old new
 
+-- So is a flush that a caller asks for, which does no operation.
+pub record CountsFlush (old new : RunningCore) : Type 0 where
+  pub taken : new.taken ≡ one_more old.taken
+  pub done : new.done ≡ old.done
+  pub no_op : DoesNoOp old.store new.store
+
 -- No more operations of a kind were counted than steps. A core that has taken no step begins so, and each call keeps it; so none of
 -- these counts stands still before that of the steps does.
 pub record CountsWithin (c : RunningCore) : Type 0 where

@@ -11,7 +11,7 @@ ghost use Rattle.hb_activity.specs.declared.waiting_jobs.TheConstants.{JOBS};
 ghost use Rattle.hb_core.specs.declared.copies.CopyStop.TheVariants as copies;
 ghost use Rattle.hb_core.specs.Between.{AddsToQueue, CopiesPage, FailsToLook, IsNotCopied, LetsWait, said_of_flush};
 ghost use Rattle.hb_core.specs.CoreSeen.{core_seen, core_disk, Alters};
-ghost use Rattle.hb_core.specs.Counting.{CountsStay, CountsStep};
+ghost use Rattle.hb_core.specs.Counting.{CountsFlush, CountsStay};
 ghost use Rattle.hb_core.specs.KeptFits.{JobFits};
 ghost use Rattle.hb_core.specs.Machines.{Machine};
 ghost use Rattle.hb_core.specs.Relied.{MayFlush};
@@ -99,7 +99,7 @@ impl<D: Device> Core<D> {
             (new : Machine) × StepsTo m 19 (said_of_flush result) new × ShowsMachine (D.model (core_disk self.new)) (core_seen self.new) new }
         ensures touches { Touches (D.model (core_disk self.old)) (core_seen self.old) (said_of_flush result) (D.model (core_disk self.new)) (core_seen self.new) }
         ensures stop { OnErr result ((core_seen self.new).stop ≡ Some stops.WriteFault) }
-        ensures counts { CountsStep 19 (core_seen self.old) (core_seen self.new) }
+        ensures counts { CountsFlush (core_seen self.old) (core_seen self.new) }
     {
         self.taken = self.taken.saturating_add(1);
         match self.store.flush_step() {

@@ -15,7 +15,7 @@ use Rattle.hb_core.specs.declared.counts.TidyCounts.{TidyCounts}
 use Rattle.hb_core.proofs.Facts.RunSteps.{run_by_step}
 use Rattle.hb_core.proofs.Running.BetweenCalls.{is_flusher}
 use Rattle.hb_core.specs.Between.{said_of_flush}
-use Rattle.hb_core.specs.Counting.{CountsOp, CountsStay, CountsStep, CountsWithin}
+use Rattle.hb_core.specs.Counting.{CountsFlush, CountsOp, CountsStay, CountsStep, CountsWithin}
 use Rattle.hb_core.specs.Counts.{counted, one_more}
 use Rattle.hb_core.specs.Machines.{Machine}
 use Rattle.hb_core.specs.Performing.{given_by}
@@ -76,6 +76,9 @@ steps_within actor old new step within = by step.done
     by : CountsOp actor old new → CountsWithin new
     by (inl (none, done)) = so_within new old.done (one_more old.taken) done step.taken (at_last old.taken) (all_still old.done old.taken within.last (are_within old within))
     by (inr (op, did, done)) = so_within new (counted actor op old.done) (one_more old.taken) done step.taken (at_last old.taken) (one_rises actor op old.done old.taken within.last (are_within old within))
+
+pub flushes_within : (old new : RunningCore) → CountsFlush old new → CountsWithin old → CountsWithin new
+flushes_within old new flush within = so_within new old.done (one_more old.taken) flush.done flush.taken (at_last old.taken) (all_still old.done old.taken within.last (are_within old within))
 
 pub stays_within : (old new : RunningCore) → CountsStay old new → CountsWithin old → CountsWithin new
 stays_within old new stay within = so_within new old.done old.taken stay.done stay.taken within.last (are_within old within)
