@@ -1,12 +1,16 @@
 -- What calls make of the counts of a core, and of a run: a step of it, a flush that its caller asked for, and what changes no more than
 -- the jobs that wait and the pages in memory.
-use Rattle.std.proofs.Common.{◌≡◌, inl, inr, ℕ, ◌+◌, ◌-◌, ◌^◌, ◌≤◌, ◌==◌, Bool, true, false, cond, List, [], ◌∷◌, ◌++◌, Ok, Err, Result, IsSome, refl, sym, ap, ◌∙◌, subst, arith, append-nil}
+use Rattle.std.proofs.Common.{◌≡◌, inl, inr, ℕ, ◌+◌, ◌-◌, ◌^◌, ◌≤◌, ◌==◌, Bool, true, false, cond, List, [], ◌∷◌, ◌++◌, Option, Some, None, Ok, Err, Result, IsSome, refl, sym, ap, ◌∙◌, subst, arith, append-nil}
 use Rattle.hb_disk.specs.Model.{DiskModel, IsDisk}
+use Rattle.hb_frag.specs.declared.pages.LivePage.{LivePage}
+use Rattle.hb_layout.specs.declared.meta.Meta.{Meta}
+use Rattle.hb_ops.specs.Operations.{change_of}
 use Rattle.hb_ops.specs.declared.operations.Op.{Op}
 use Rattle.hb_ops.specs.declared.operations.Op.TheVariants as ops
 use Rattle.hb_pool.specs.Frames.{Use}
 use Rattle.hb_set.specs.declared.scripts.Answered.{Answered}
 use Rattle.hb_set.specs.declared.scripts.Line.{Line}
+use Rattle.hb_store.specs.Calls.{read_here}
 use Rattle.hb_store.specs.States.{StoreState}
 use Rattle.hb_store.specs.declared.stops.Flushed.{Flushed}
 use Rattle.hb_store.specs.declared.stops.Flushed.TheVariants as flushes
@@ -82,6 +86,55 @@ flushes_within old new flush within = so_within new old.done (one_more old.taken
 
 pub stays_within : (old new : RunningCore) → CountsStay old new → CountsWithin old → CountsWithin new
 stays_within old new stay within = so_within new old.done old.taken stay.done stay.taken within.last (are_within old within)
+
+-- ---- the file's height
+
+-- how many levels an operation gives to the file
+abbrev pub levels_made : Op → ℕ
+levels_made (ops.Grow fresh free_after) = 1
+levels_made other = 0
+
+height_of_change : (op : Op) (meta : Meta) (first second third : Option LivePage) → (change_of op meta first second third).meta.height ≡ meta.height + levels_made op
+height_of_change (ops.Put id rec) meta None second third = omega arith
+height_of_change (ops.Put id rec) meta (Some page) second third = omega arith
+height_of_change (ops.Del id point) meta None second third = omega arith
+height_of_change (ops.Del id point) meta (Some page) second third = omega arith
+height_of_change (ops.Extract source fresh path cuts free_after) meta None second third = omega arith
+height_of_change (ops.Extract source fresh path cuts free_after) meta (Some page) second third = omega arith
+height_of_change (ops.Post parent way inner area) meta None second third = omega arith
+height_of_change (ops.Post parent way inner area) meta (Some page) second third = omega arith
+height_of_change (ops.Merge parent keep gone) meta None second third = omega arith
+height_of_change (ops.Merge parent keep gone) meta (Some above) None third = omega arith
+height_of_change (ops.Merge parent keep gone) meta (Some above) (Some kept) None = omega arith
+height_of_change (ops.Merge parent keep gone) meta (Some above) (Some kept) (Some going) = omega arith
+height_of_change (ops.Grow fresh free_after) meta first second third = omega arith
+
+one_level : (actor : ℕ) (op : Op) (done : TidyCounts) → done.grown + 1 ≤ 2 ^ 64 - 1 → (counted actor op done).grown ≡ done.grown + levels_made op
+one_level actor (ops.Put page rec) done few = omega arith
+one_level actor (ops.Del page point) done few = omega arith
+one_level actor (ops.Extract source fresh path cuts free_after) done few = by (actor == 17)
+  where
+    by : (b : Bool) → (cond b (record done { split = one_more done.split }) done).grown ≡ done.grown + 0
+    by true = omega arith
+    by false = omega arith
+one_level actor (ops.Post parent way inner area) done few = omega arith
+one_level actor (ops.Merge parent keep gone) done few = omega arith
+one_level actor (ops.Grow fresh free_after) done few = omega (arith, few)
+
+-- it rises by the growths that are counted, until the count stands still
+pub height_counted : (actor : ℕ) (old new : RunningCore) → CountsStep actor old new → old.done.grown + 1 ≤ 2 ^ 64 - 1 → new.store.meta.height + old.done.grown ≡ old.store.meta.height + new.done.grown
+height_counted actor old new step few = by step.done
+  where
+    by : CountsOp actor old new → new.store.meta.height + old.done.grown ≡ old.store.meta.height + new.done.grown
+    by (inl (none, done)) =
+        let height = ap (λ (x : Meta). x.height) none.meta in
+        let grown = ap (λ (c : TidyCounts). c.grown) done in
+        omega (arith, height, grown)
+    by (inr (op, did, done)) =
+        let made = ap (λ (x : Meta). x.height) did.does.commits.meta ∙ height_of_change op did.came.meta (read_here did.came op 0) (read_here did.came op 1) (read_here did.came op 2) in
+        let same = ap (λ (x : Meta). x.height) did.rest.meta in
+        let grown = ap (λ (c : TidyCounts). c.grown) done ∙ one_level actor op old.done few in
+        omega (arith, made, same, grown)
 
 -- ---- a flush is a step of the flusher, and answers nothing
 
