@@ -1,5 +1,5 @@
 //! What a caller does to a core between two steps: it lets a job wait, looks at a page, and flushes.
-ghost use Rattle.std.specs.Prelude.{◌≡◌, ◌⊎◌, ◌↔◌, ◌<◌, ◌+◌, ◌-◌, ◌^◌, length, min, IfErr, IfOk, IsErrOf, IsSome, IsTrue, None, Some, OnErr};
+ghost use Rattle.std.specs.Prelude.{◌≡◌, ◌⊎◌, ◌↔◌, ◌<◌, length, IfErr, IfOk, IsErrOf, IsSome, IsTrue, Some, OnErr};
 ghost use Rattle.std.specs.List.{Contains};
 ghost use Rattle.hb_disk.specs.Calls.{ReadsOnly};
 ghost use Rattle.hb_store.specs.Fetching.{IsCrowdedOut};
