@@ -9,4 +9,5 @@ pub mod RunCrashes
 pub mod RunSteps
 pub mod BegunCores
 pub mod RunLines
-pub mod CallsCounted
+pub mod CountsKept
+pub mod BetweenRuns

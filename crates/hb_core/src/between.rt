@@ -71,7 +71,10 @@ impl<D: Device> Core<D> {
         ensures memory { IfErr result (λ stop. stop ≡ copies.NoMemory) }
     {
         match self.store.get(id) {
-            Some(view) => Ok(view.page(self.alloc)?),
+            Some(view) => match view.page(self.alloc) {
+                Ok(page) => Ok(page),
+                Err(_refused) => Err(CopyStop::NoMemory),
+            },
             None => unreachable!(),
         }
     }

@@ -1,8 +1,5 @@
 //! Why a page isn't copied.
-ghost use Rattle.std.specs.Prelude.{◌≡◌};
-ghost use Rattle.hb_core.specs.declared.copies.CopyStop.TheVariants as copies;
 
-use hb_space::NoMemory;
 use hb_store::Why;
 
 /// Why a page wasn't copied.
@@ -16,12 +13,4 @@ pub enum CopyStop {
     Crowded,
     /// Memory was refused for the copy. The page may have come into memory.
     NoMemory,
-}
-
-impl From<NoMemory> for CopyStop {
-    fn from(_refused: NoMemory) -> CopyStop
-        ensures { result ≡ copies.NoMemory }
-    {
-        CopyStop::NoMemory
-    }
 }

@@ -1,5 +1,6 @@
 -- What a caller does to a core between two steps, of the machines that it shows.
 use Rattle.std.proofs.Common.{◌≡◌, ◌≢◌, ◌⊎◌, inl, inr, ◌↔◌, ℕ, ◌<◌, ◌≤◌, List, [], Option, Some, None, IfErr, IfOk, IfSome, IsOk, IsSome, Result, Ok, Err, refl, sym, ap, ◌∙◌, subst, arith}
+use Rattle.std.specs.Result.{IsErrOf}
 use Rattle.hb_activity.specs.Classes.{Class, Flushers, class_of}
 use Rattle.hb_activity.specs.declared.activities.Activity.{Activity}
 use Rattle.hb_activity.specs.declared.activities.Activity.TheVariants as at
@@ -7,7 +8,7 @@ use Rattle.hb_activity.specs.declared.jobs.Job.{Job}
 use Rattle.hb_activity.specs.Queue.{AddsJob}
 use Rattle.hb_disk.specs.Calls.{ReadsOnly}
 use Rattle.hb_disk.specs.Model.{DiskModel}
-use Rattle.hb_disk.proofs.Facts.FaultLaws.{ReadsOnly-both, ReadsOnly-neither}
+use Rattle.hb_disk.proofs.Facts.FaultLaws.{ReadsOnly-as}
 use Rattle.hb_frag.specs.declared.pages.Page.{Page}
 use Rattle.hb_layout.specs.declared.meta.Meta.{Meta}
 use Rattle.hb_lemmas.proofs.Options.{at_value, if_value}
@@ -226,13 +227,21 @@ pub why_memory : (meta : Meta) (d : DiskModel) (id : ℕ) (r : Result Page CopyS
 why_memory meta d id (Ok page) memory = tt
 why_memory meta d id (Err stop) memory = subst (IsNotCopied meta d id) (sym memory) tt
 
-pub ok_never : {T E : Type 0} (v : T) (e : E) → Ok v ≡ Err e → ⊥
+pub ok_never : {T E : Type 0} (v : T) (e : E) → IsErrOf (Ok v) e → ⊥
 ok_never v e is = cc
 
-pub same_err : {T E : Type 0} (a b : E) → Err {T = T} a ≡ Err b → a ≡ b
+pub same_err : {T E : Type 0} (a b : E) → IsErrOf {T = T} (Err a) b → a ≡ b
 same_err a b is = cc
 
-pub memory_alone : (r : Result Page CopyStop) (other : CopyStop) → (copies.NoMemory ≡ other → ⊥) → IfErr r (λ stop. stop ≡ copies.NoMemory) → r ≡ Err other → ⊥
+pub err_as : {T E : Type 0} (a b : E) → a ≡ b → IsErrOf {T = T} (Err a) b
+err_as a b is = ap Err is
+
+pub reads_said : {T : Type 0} (c after : RunningCore) (stop : FetchStop) (said : CopyStop) → FailsToLook stop said c after → (d e : DiskModel) → ReadsOnly (IsErrOf {T = T} (Err stop) fetches.ReadFault) d e → ReadsOnly (IsErrOf {T = Page} (Err said) copies.ReadFault) d e
+reads_said {T = T} c after stop said fails d e only =
+    let says = fault_said c after stop said fails in
+    ReadsOnly-as d e (λ is. err_as {T = Page} said copies.ReadFault (says.1 (same_err {T = T} stop fetches.ReadFault is))) (λ is. err_as {T = T} stop fetches.ReadFault (says.0 (same_err {T = Page} said copies.ReadFault is))) only
+
+pub memory_alone : (r : Result Page CopyStop) (other : CopyStop) → (copies.NoMemory ≡ other → ⊥) → IfErr r (λ stop. stop ≡ copies.NoMemory) → IsErrOf r other → ⊥
 memory_alone (Ok page) other differ memory is = ok_never page other is
 memory_alone (Err stop) other differ memory is = differ (sym memory ∙ same_err {T = Page} stop other is)
 

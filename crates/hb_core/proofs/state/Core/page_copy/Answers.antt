@@ -1,9 +1,12 @@
 use Rattle.std.proofs.Common.{◌≡◌, Err, refl, sym, ap, subst}
 use Rattle.std.proofs.lemmas.Bool.{false≢true}
-use Rattle.hb_disk.proofs.Facts.FaultLaws.{ReadsOnly-as, ReadsOnly-neither}
+use Rattle.std.specs.Result.{IsErrOf}
+use Rattle.hb_disk.proofs.Facts.FaultLaws.{ReadsOnly-neither}
 use Rattle.hb_disk.specs.Calls.{ReadsOnly}
+use Rattle.hb_frag.specs.declared.pages.Page.{Page}
 use Rattle.hb_store.specs.Seen.{seen_as, uses_of}
-use Rattle.hb_core.proofs.Running.BetweenCalls.{copied_or_not, crowded_said, fault_said, look_counts, memory_alone, no_crowd, no_fault, not_copied, not_copied_why, ok_never, same_err, why_memory}
+use Rattle.hb_core.specs.declared.copies.CopyStop.TheVariants as copies
+use Rattle.hb_core.proofs.Running.BetweenCalls.{copied_or_not, crowded_said, look_counts, memory_alone, no_crowd, no_fault, not_copied, not_copied_why, ok_never, reads_said, same_err, why_memory}
 use Rattle.hb_core.proofs.Running.Coming.{none_where}
 use Rattle.hb_core.specs.Between.{CopiesPage}
 use Rattle.hb_core.specs.CoreSeen.{core_disk, core_seen}
@@ -47,9 +50,8 @@ returns-in-Err-clause-crowded g c =
 
 pub returns-in-Err-clause-reads : goal.returns-in-Err-clause-reads
 returns-in-Err-clause-reads g c =
-    let says = fault_said _ (core_seen c.fails_to_look.new.self) c.in-Err.stop c.fails_to_look.result c.fails_to_look.ensures.does in
-    subst (λ (k : _). ReadsOnly _ (g.D.Device.model (core_disk c.args.self.now)) (g.D.Device.model k)) (sym c.fails_to_look.ensures.disk)
-    (ReadsOnly-as (g.D.Device.model (core_disk c.args.self.now)) (g.D.Device.model c.fetch.new.self.disk) (λ is. ap Err (says.1 (same_err _ _ is))) (λ is. ap Err (says.0 (same_err _ _ is))) c.in-Err.ensures.looks.only)
+    subst (λ (k : _). ReadsOnly (IsErrOf {T = Page} (Err c.fails_to_look.result) copies.ReadFault) (g.D.Device.model (core_disk c.args.self.now)) (g.D.Device.model k)) (sym c.fails_to_look.ensures.disk)
+    (reads_said _ (core_seen c.fails_to_look.new.self) c.in-Err.stop c.fails_to_look.result c.fails_to_look.ensures.does (g.D.Device.model (core_disk c.args.self.now)) (g.D.Device.model c.fetch.new.self.disk) c.in-Err.ensures.looks.only)
 
 pub returns-in-Err-clause-counts : goal.returns-in-Err-clause-counts
 returns-in-Err-clause-counts g c =

@@ -1,41 +1,19 @@
--- What calls make of the counts of a core, and of a run: a step of it, a flush that its caller asked for, and what changes no more than
--- the jobs that wait and the pages in memory.
-use Rattle.std.proofs.Common.{◌≡◌, inl, inr, ℕ, ◌+◌, ◌-◌, ◌^◌, ◌≤◌, ◌==◌, Bool, true, false, cond, List, [], ◌∷◌, ◌++◌, Option, Some, None, Ok, Err, Result, IsSome, refl, sym, ap, ◌∙◌, subst, arith, append-nil}
-use Rattle.std.specs.List.{slice_get}
-use Rattle.std.proofs.lemmas.List.Elements.{All-weaker}
-use Rattle.hb_disk.proofs.Facts.RunLaws.{Leaves-read}
-use Rattle.hb_disk.specs.Calls.{Leaves}
-use Rattle.hb_disk.specs.Model.{DiskModel, IsDisk, Stays}
+-- What calls make of the counts of a core: no more operations of a kind were counted than steps, and the file's height rises by growths.
+use Rattle.std.proofs.Common.{◌≡◌, inl, inr, ℕ, ◌+◌, ◌-◌, ◌^◌, ◌≤◌, ◌==◌, Bool, true, false, cond, List, Option, Some, None, sym, ap, ◌∙◌, subst, arith}
 use Rattle.hb_frag.specs.declared.pages.LivePage.{LivePage}
 use Rattle.hb_layout.specs.declared.meta.Meta.{Meta}
 use Rattle.hb_ops.specs.Operations.{change_of}
 use Rattle.hb_ops.specs.declared.operations.Op.{Op}
 use Rattle.hb_ops.specs.declared.operations.Op.TheVariants as ops
 use Rattle.hb_pool.specs.Frames.{Use}
-use Rattle.hb_set.specs.Machine.{RecordSet}
-use Rattle.hb_set.specs.Order.{Entry}
-use Rattle.hb_set.specs.declared.scripts.Answered.{Answered}
 use Rattle.hb_set.specs.declared.scripts.Line.{Line}
 use Rattle.hb_store.specs.Calls.{read_here}
 use Rattle.hb_store.specs.States.{StoreState}
-use Rattle.hb_store.specs.declared.stops.Flushed.{Flushed}
-use Rattle.hb_store.specs.declared.stops.Flushed.TheVariants as flushes
-use Rattle.hb_store.specs.declared.stops.WriteFault.{WriteFault}
 use Rattle.hb_core.specs.declared.counts.TidyCounts.{TidyCounts}
-use Rattle.hb_core.proofs.Facts.RunSteps.{run_by_step}
-use Rattle.hb_core.proofs.Running.BetweenCalls.{is_flusher}
-use Rattle.hb_core.specs.Between.{said_of_flush}
 use Rattle.hb_core.specs.Counting.{CountsFlush, CountsOp, CountsStay, CountsStep, CountsWithin}
 use Rattle.hb_core.specs.Counts.{counted, one_more}
-use Rattle.hb_core.specs.Machines.{Machine}
-use Rattle.hb_core.specs.Performing.{given_by}
-use Rattle.hb_core.specs.KeptOrder.{StandsInOrder}
-use Rattle.hb_core.specs.Runs.{CrashesTo, HasRun, HoldsSince, IsPrefixImage, RunningLaws}
-use Rattle.hb_core.specs.Showing.{RunningCore, ShowsMachine}
-use Rattle.hb_core.specs.Steps.{StepsTo}
+use Rattle.hb_core.specs.Showing.{RunningCore}
 use Rattle.hb_core.specs.Taking.{begun_core}
-use Rattle.hb_core.specs.Touching.{Touches}
-use Rattle.hb_core.specs.Working.{MayStep}
 
 -- ---- no more operations of a kind were counted than steps
 
@@ -142,35 +120,3 @@ height_counted actor old new step few = by step.done
         let same = ap (λ (x : Meta). x.height) did.rest.meta in
         let grown = ap (λ (c : TidyCounts). c.grown) done ∙ one_level actor op old.done few in
         omega (arith, made, same, grown)
-
--- ---- a flush is a step of the flusher, and answers nothing
-
-answers_none : (r : Result Flushed WriteFault) (clock : ℕ) (answers : List Answered) → answers ++ given_by (said_of_flush r) clock ≡ answers
-answers_none (Ok flushes.Forced) clock answers = append-nil answers
-answers_none (Ok (flushes.Written page)) clock answers = append-nil answers
-answers_none (Ok flushes.Switched) clock answers = append-nil answers
-answers_none (Ok flushes.Nothing) clock answers = append-nil answers
-answers_none (Err fault) clock answers = append-nil answers
-
-pub run_by_help : RunningLaws → (d : DiskModel) (m : Machine) (actors : List ℕ) (answers : List Answered) (e : DiskModel) (old : RunningCore) (r : Result Flushed WriteFault) (f : DiskModel) (new : RunningCore) → HasRun d m actors answers e old → IsDisk e → IsDisk f
-    → ((x : Machine) → MayStep e old x → (next : Machine) × StepsTo x 19 (said_of_flush r) next × ShowsMachine f new next) → Touches e old (said_of_flush r) f new → HasRun d m (actors ++ 19 ∷ []) answers f new
-run_by_help laws d m actors answers e old r f new run disk disk_next steps touches =
-    subst (λ (l : List Answered). HasRun d m (actors ++ 19 ∷ []) l f new) (answers_none r f.clock answers)
-    (run_by_step laws d m actors answers e old 19 (said_of_flush r) f.clock f new run disk disk_next is_flusher steps touches (λ told. refl))
-
--- ---- what crashes leave of a run they leave of it still, once a job waits or a page was read
-
-before_read : (m new : Machine) (a : Answered) (place : ℕ) → new.order ≡ m.order → StandsInOrder new a.line a.reply place → StandsInOrder m a.line a.reply place
-before_read m new a place same stands = record {
-  entry = stands.entry;
-  there = ap (λ (es : List Entry). slice_get es place) (sym same) ∙ stands.there;
-  number_is = stands.number_is;
-  reply_is = stands.reply_is;
-}
-
-pub crashes_same : (n : RecordSet) (d e f : DiskModel) (m new : Machine) (answers : List Answered) → new.order ≡ m.order → Stays e f → CrashesTo n d e m answers → CrashesTo n d f new answers
-crashes_same n d e f m new answers same stays crashes = record {
-  each = subst (λ (es : List Entry). Leaves d f (IsPrefixImage n es 0)) (sym same) (Leaves-read d e f (IsPrefixImage n m.order 0) crashes.each stays);
-  since = All-weaker (HoldsSince e n m) (HoldsSince f n new)
-      (λ a holds place stands c image. subst (λ (es : List Entry). IsPrefixImage n es (place + 1) c) (sym same) (holds place (before_read m new a place same stands) c (stays.since a.at c image))) answers crashes.since;
-}
