@@ -2,14 +2,10 @@
 -- kept.
 use Rattle.std.proofs.Common.{◌≡◌, ◌⊎◌, inl, inr, ℕ, ◌<◌, ◌≤◌, ◌^◌, List, [], ◌∷◌, length, All, Option, Some, None, IfSome, IsSome, refl, sym, ap, ◌∙◌, subst, arith}
 use Rattle.std.proofs.lemmas.List.Elements.{All-cons, All-nil, All-weaker}
-use Rattle.hb_activity.specs.declared.activities.Activity.{Activity}
 use Rattle.hb_activity.specs.declared.activities.Activity.TheVariants as at
 use Rattle.hb_activity.specs.declared.jobs.Job.{Job}
 use Rattle.hb_activity.specs.Classes.{job_in_work, line_in_hand}
-use Rattle.hb_activity.specs.Queue.{AddsJob}
 use Rattle.hb_activity.specs.Walks.{walk_held}
-use Rattle.hb_frag.specs.declared.pages.LivePage.{LivePage}
-use Rattle.hb_frag.specs.declared.pages.Page.{Page}
 use Rattle.hb_frag.specs.declared.pages.Page.TheVariants.{Live}
 use Rattle.hb_latch.specs.declared.modes.Mode.{Mode}
 use Rattle.hb_latch.specs.Tables.{mode_at}
@@ -18,38 +14,36 @@ use Rattle.hb_layout.specs.Limits.{IsLayout}
 use Rattle.hb_layout.specs.Offsets.{log_start}
 use Rattle.hb_lemmas.proofs.Options.{at_value, has_value, if_value}
 use Rattle.hb_ops.proofs.Facts.PageNumberLaws.{live_so}
-use Rattle.hb_ops.specs.Files.{if_live, page_of}
+use Rattle.hb_ops.specs.Files.{if_live}
 use Rattle.hb_pool.specs.Frames.{Use}
 use Rattle.hb_set.specs.Machine.{RecordSet}
-use Rattle.hb_set.specs.Order.{Entry}
 use Rattle.hb_set.specs.declared.commands.Reply.{Reply}
 use Rattle.hb_set.specs.declared.scripts.Answered.{Answered}
 use Rattle.hb_space.specs.Actors.{IsActor}
-use Rattle.hb_store.specs.Calls.{KeepsAllButPages, use_fetched}
+use Rattle.hb_store.specs.Calls.{KeepsAllButPages}
 use Rattle.hb_store.specs.States.{StoreState, in_memory}
 use Rattle.hb_store.specs.declared.stops.StopWhy.{StopWhy}
 use Rattle.hb_wal.specs.Log.{LogState, Waiting, mark_of}
-use Rattle.hb_core.proofs.Files.SoundFiles.{FilesHold, brought_shown, files_hold, has_sound_file}
+use Rattle.hb_core.proofs.Files.SoundFiles.{brought_shown, files_hold, has_sound_file}
 use Rattle.hb_core.proofs.Latches.LatchesStay.{same_latches, walk_latched}
 use Rattle.hb_core.proofs.Machines.AddedJobs.{JobsFit, added_fit}
 use Rattle.hb_core.proofs.Memory.KeptPages.{brought, keeps_pages, pages_kept}
 use Rattle.hb_core.proofs.Memory.StillThere.{may_or_not}
-use Rattle.hb_core.proofs.Room.RoomKept.{KnowsOf, all_know, each_knows, free_knows, knows_as, put_latched, puts_again, split_latched, splits_again}
+use Rattle.hb_core.proofs.Room.RoomKept.{KnowsOf, all_know, free_knows, knows_as, put_latched, puts_again, split_latched, splits_again}
 use Rattle.hb_core.proofs.Running.Frames.{fetched_pins}
-use Rattle.hb_core.proofs.Walks.MergesKept.{PlaceStays, place_latched}
+use Rattle.hb_core.proofs.Walks.MergesKept.{place_latched}
 use Rattle.hb_core.proofs.Walks.WalksKept.{StandsInSpace, all_stand, each_stands, free_stands, parent_latched, stands_again}
 use Rattle.hb_core.proofs.Walks.WorkersKept.{none_stands, stands_again as works_again}
 use Rattle.hb_core.specs.Between.{LetsWait, PageComes, with_waiting}
 use Rattle.hb_core.specs.BetweenLaws.{LookingGoesOn, LookingKeepsAll, WaitingGoesOn, WaitingKeepsAll}
-use Rattle.hb_core.specs.Fetching.{Brings}
 use Rattle.hb_core.specs.Keeps.{HasSoundFile, HoldsPagesOfFile, KnowsRoom, LatchesFit, WalksInSpace}
 use Rattle.hb_core.specs.KeptFits.{AttributesFit, IsBoxOf, JobFits, LineFits, RunsWithStore, WorkersStand, boxes_left, walking_job}
 use Rattle.hb_core.specs.KeptLines.{LinesFit, LogInPlace, MetaWithinLimits}
 use Rattle.hb_core.specs.KeptMachine.{CoreKeeps, MachineKeeps}
 use Rattle.hb_core.specs.KeptOrder.{FollowMarks, HasLegalOrder, HasPendingPrefix, StandsInOrder, StandsOutside}
-use Rattle.hb_core.specs.KeptPlaces.{AnswersAreSingle, MarksRise, OrderIsShort, RepliesStand}
-use Rattle.hb_core.specs.KeptSequence.{HasAnswer, IsInSequence, LinesInSequence}
-use Rattle.hb_core.specs.Machines.{Files, Machine, current_file, live_here, settled_count, stopped_for, with_disk, with_uses}
+use Rattle.hb_core.specs.KeptPlaces.{MarksRise, RepliesStand}
+use Rattle.hb_core.specs.KeptSequence.{IsInSequence, LinesInSequence}
+use Rattle.hb_core.specs.Machines.{Files, Machine, live_here, settled_count, stopped_for, with_disk, with_uses}
 use Rattle.hb_core.specs.Performing.{latches_held, mode_among}
 use Rattle.hb_core.specs.Using.{FramesFit, pins_of}
 use Rattle.hb_core.specs.Working.{MayGoOn}

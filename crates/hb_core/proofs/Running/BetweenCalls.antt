@@ -1,7 +1,7 @@
 -- What a caller does to a core between two steps, of the machines that it shows.
-use Rattle.std.proofs.Common.{◌≡◌, ◌≢◌, ◌⊎◌, inl, inr, ◌↔◌, ℕ, ◌<◌, ◌≤◌, List, [], Option, Some, None, IfErr, IfOk, IfSome, IsOk, IsSome, Result, Ok, Err, refl, sym, ap, ◌∙◌, subst, arith}
+use Rattle.std.proofs.Common.{◌≡◌, ◌≢◌, inl, inr, ◌↔◌, ℕ, List, [], Some, None, IfErr, IfOk, Result, Ok, Err, refl, sym, ap, ◌∙◌, subst, arith}
 use Rattle.std.specs.Result.{IsErrOf}
-use Rattle.hb_activity.specs.Classes.{Class, Flushers, class_of}
+use Rattle.hb_activity.specs.Classes.{Flushers, class_of}
 use Rattle.hb_activity.specs.declared.activities.Activity.{Activity}
 use Rattle.hb_activity.specs.declared.activities.Activity.TheVariants as at
 use Rattle.hb_activity.specs.declared.jobs.Job.{Job}
@@ -30,9 +30,7 @@ use Rattle.hb_store.specs.declared.stops.FetchStop.TheVariants as fetches
 use Rattle.hb_store.specs.declared.stops.Flushed.{Flushed}
 use Rattle.hb_store.specs.declared.stops.Flushed.TheVariants as flushes
 use Rattle.hb_store.specs.declared.stops.StopWhy.TheVariants as stops
-use Rattle.hb_store.specs.declared.stops.Why.{Why}
 use Rattle.hb_store.specs.declared.stops.Why.TheVariants.{Rule, Level, Extent}
-use Rattle.hb_store.specs.declared.stops.WriteFault.{WriteFault}
 use Rattle.hb_core.specs.declared.copies.CopyStop.{CopyStop}
 use Rattle.hb_core.specs.declared.copies.CopyStop.TheVariants as copies
 use Rattle.hb_core.specs.declared.outcomes.Outcome.TheVariants as outcomes
@@ -45,15 +43,15 @@ use Rattle.hb_core.proofs.Running.Frames.{must_here}
 use Rattle.hb_core.proofs.Running.Touched.{flush_idled_then, moved_well, touched_forced, touched_home, touched_turn}
 use Rattle.hb_core.proofs.Running.WrittenShows.{home_none, home_some, home_turn}
 use Rattle.hb_core.specs.Between.{CopiesPage, FailsToLook, IsNotCopied, LetsWait, PageComes, said_of_flush, with_waiting}
-use Rattle.hb_core.specs.Fetching.{Brings, IsBadRead, MustStay}
+use Rattle.hb_core.specs.Fetching.{Brings, MustStay}
 use Rattle.hb_core.specs.Forcing.{Flushes}
 use Rattle.hb_core.specs.Keeps.{HasSoundFile}
-use Rattle.hb_core.specs.KeptFits.{HaveClasses, JobFits}
-use Rattle.hb_core.specs.Machines.{Files, Machine, current_file, stopped_for, with_disk, with_uses}
+use Rattle.hb_core.specs.KeptFits.{JobFits}
+use Rattle.hb_core.specs.Machines.{Machine, current_file, stopped_for, with_disk, with_uses}
 use Rattle.hb_core.specs.Moving.{with_jobs, with_order_of_use, with_stop, with_store}
-use Rattle.hb_core.specs.Showing.{RunningCore, ShowsFiles, ShowsMachine}
+use Rattle.hb_core.specs.Showing.{RunningCore, ShowsMachine}
 use Rattle.hb_core.specs.Touching.{Touches, held_in}
-use Rattle.hb_core.specs.Working.{MayGoOn, MayStep}
+use Rattle.hb_core.specs.Working.{MayStep}
 
 -- ---- a job waits
 

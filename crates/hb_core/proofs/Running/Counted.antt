@@ -2,17 +2,14 @@
 use Rattle.std.proofs.Common.{◌≡◌, ◌⊎◌, inl, inr, ℕ, List, [], length, Option, Some, None, IfErr, IfOk, Result, Ok, Err, refl, sym, ap, ◌∙◌, subst}
 use Rattle.hb_activity.specs.declared.activities.Activity.{Activity}
 use Rattle.hb_activity.specs.Deeds.{Deed}
-use Rattle.hb_layout.specs.declared.meta.Meta.{Meta}
 use Rattle.hb_ops.specs.declared.operations.Op.{Op}
-use Rattle.hb_pool.specs.Frames.{Use}
-use Rattle.hb_store.specs.Calls.{Fetched, KeepsAllButPages}
+use Rattle.hb_store.specs.Calls.{KeepsAllButPages}
 use Rattle.hb_store.specs.Fetching.{MayFetch}
 use Rattle.hb_store.specs.Forced.{forced_state, stopped_state}
 use Rattle.hb_store.specs.States.{StoreState}
-use Rattle.hb_wal.specs.Log.{LogState, Waiting}
-use Rattle.hb_core.specs.declared.counts.TidyCounts.{TidyCounts}
+use Rattle.hb_wal.specs.Log.{LogState}
 use Rattle.hb_core.specs.declared.outcomes.Outcome.{Outcome}
-use Rattle.hb_core.specs.Counting.{CountsNoOp, CountsOp, CountsPart, CountsStay, CountsStep, DidOp, DoesNoOp, OnlyBrings}
+use Rattle.hb_core.specs.Counting.{CountsNoOp, CountsOp, CountsPart, CountsStep, DidOp, DoesNoOp, OnlyBrings}
 use Rattle.hb_core.specs.Counts.{counted, counted_by, one_more}
 use Rattle.hb_core.specs.Forcing.{FailsToWrite, FlushesOnce, ForcesAll}
 use Rattle.hb_core.specs.Machines.{Machine}
@@ -20,7 +17,6 @@ use Rattle.hb_core.specs.Moving.{DoesDeed, with_standing}
 use Rattle.hb_core.specs.Performing.{DoesOp, MayDo}
 use Rattle.hb_core.specs.Showing.{RunningCore}
 use Rattle.hb_core.specs.Taking.{TakesNextLine, TakesNextMerging, TakesNextPosting}
-use Rattle.hb_core.proofs.Memory.OwnPages.{gives_up_nothing}
 use Rattle.hb_core.proofs.Running.StepTaken.{with_taken}
 
 -- ---- stores of which no operation made anything

@@ -1,4 +1,4 @@
-use Rattle.std.proofs.Common.{◌≡◌, Err, refl, sym, ap, subst}
+use Rattle.std.proofs.Common.{Err, refl, sym, ap, subst}
 use Rattle.std.proofs.lemmas.Bool.{false≢true}
 use Rattle.std.specs.Result.{IsErrOf}
 use Rattle.hb_disk.proofs.Facts.FaultLaws.{ReadsOnly-neither}
