@@ -10,7 +10,7 @@ use Rattle.hbpi.proofs.Turned.{IfErr-weaker}
 use Rattle.hbpi.specs.Driven.{IsOpened}
 use Rattle.hbpi.specs.SeenRuns.{seen_by}
 use Rattle.hbpi.specs.Starts.{IsMadeCore, IsNotStarted, IsStarted}
-use Rattle.hbpi.specs.Schedules.{NotScheduled}
+use Rattle.hbpi.specs.Schedules.{CameNot}
 use Rattle.hbpi.proofs.starting.start.Goals as goal
 
 pub returns-in-Ok-clause-started : goal.returns-in-Ok-clause-started
@@ -21,8 +21,8 @@ returns-in-Ok-clause-started g c =
     let store = seen_as c.in-Ok.store in
     let facts = c.in-Ok.ensures in
     IfOk-weaker c.make_core.result
-    (λ core. (core_disk core ≡ disk_of c.in-Ok.store) × IsMadeCore c.args.step_lines store before after (core_seen core))
-    (λ core. IsStarted c.args.step_lines before after (M c.args.disk) (M (core_disk core)) (core_seen core))
+    (λ core. (core_disk core ≡ disk_of c.in-Ok.store) × IsMadeCore c.args.origin store before after (core_seen core))
+    (λ core. IsStarted c.args.origin before after (M c.args.disk) (M (core_disk core)) (core_seen core))
     (λ core made. record {
       store = store;
       count = c.in-Ok.field-0-1;
@@ -41,8 +41,8 @@ returns-in-Ok-clause-refused g c =
     let store = seen_as c.in-Ok.store in
     let facts = c.in-Ok.ensures in
     IfErr-weaker c.make_core.result
-    (λ e. (e.1 ≡ disk_of c.in-Ok.store) × NotScheduled c.args.step_lines store.meta.k before after e.0)
-    (λ e. IsNotStarted c.args.step_lines before after (M c.args.disk) (M e.1) e.0)
+    (λ e. (e.1 ≡ disk_of c.in-Ok.store) × CameNot c.args.origin store.meta.k before after e.0)
+    (λ e. IsNotStarted c.args.origin before after (M c.args.disk) (M e.1) e.0)
     (λ e turned sink put line. inr (record {
       k = store.meta.k;
       opened = subst (λ (x : g.row.D.Denot). IsOpened store.meta.k (M c.args.disk) (M x)) (sym turned.0)
@@ -57,7 +57,7 @@ returns-in-Ok-clause-beyond g c =
     let before = g.S.Source.model c.args.source.now in
     let after = g.S.Source.model c.make_core.new.source in
     IfErr-weaker c.make_core.result
-    (λ e. (e.1 ≡ disk_of c.in-Ok.store) × NotScheduled c.args.step_lines (seen_as c.in-Ok.store).meta.k before after e.0)
+    (λ e. (e.1 ≡ disk_of c.in-Ok.store) × CameNot c.args.origin (seen_as c.in-Ok.store).meta.k before after e.0)
     (λ e. KeepsBeyondFile (M c.args.disk) (M e.1))
     (λ e turned. subst (λ (x : g.row.D.Denot). KeepsBeyondFile (M c.args.disk) (M x)) (sym turned.0) c.in-Ok.ensures.leaves.beyond) c.make_core.ensures.refused
 
