@@ -84,49 +84,61 @@ none_taken replies.ReadFault (Some line) outside = refl
 none_taken reply o outside = absurd outside
 
 -- what stands at a place stands in the list
-in_order : (order : List Entry) (place : ℕ) (e : Entry) → slice_get order place ≡ Some e → In e order
+pub in_order : (order : List Entry) (place : ℕ) (e : Entry) → slice_get order place ≡ Some e → In e order
 in_order [] place e is = cc (is)
 in_order (x ∷ rest) zero e is = inl (let same : x ≡ e = cc in same)
 in_order (x ∷ rest) (suc place) e is = inr (in_order rest place e is)
 
--- Where each line has an answer, the answers say of as many records as the entries of the order that they were added, and so of those
--- that were taken away.
-module _ (m : Machine) (keeps : MachineKeeps m) (places : NumbersArePlaces m.lines) (none : left_count m ≡ 0) (test : Reply → Command → Bool) (nothing : SaysNothing test) where
-  abbrev number_of : Answered → ℕ
-  number_of a = a.line
+-- Where each line has an answer, each entry of the order has one, with its reply.
+abbrev pub number_of : Answered → ℕ
+number_of a = a.line
 
-  abbrev name_of : Entry → ℕ
-  name_of e = e.line.number
+abbrev pub name_of : Entry → ℕ
+name_of e = e.line.number
 
-  abbrev entry_says : Entry → Bool
-  entry_says e = test e.reply e.line.command
+each_in_recursion : (P : Line → Type 0) (ls : List Line) → AllByRecursion P ls → (l : Line) → In l ls → P l
+each_in_recursion P [] all l none = absurd none
+each_in_recursion P (x ∷ rest) all l (inl is) = subst P is all.0
+each_in_recursion P (x ∷ rest) all l (inr later) = each_in_recursion P rest all.1 l later
 
-  -- the answer of an entry has its reply
+module _ (m : Machine) (keeps : MachineKeeps m) (none : left_count m ≡ 0) where
+  stands_there : (a : Answered) → In a m.answered → StandsOutside a.reply ⊎ ((place : ℕ) × StandsInOrder m a.line a.reply place)
+  stands_there a given = each_in (λ (a : Answered). StandsOutside a.reply ⊎ ((place : ℕ) × StandsInOrder m a.line a.reply place)) m.answered keeps.replies_stand.answers a given
+
+  not_there : (a : Answered) → In a m.answered → StandsOutside a.reply → (e : Entry) → In e m.order → e.line.number ≡ a.line → ⊥
+  not_there a given outside e there = each_in (λ (e : Entry). e.line.number ≡ a.line → ⊥) m.order
+      (each_in (λ (a : Answered). StandsOutside a.reply → All (λ (e : Entry). e.line.number ≡ a.line → ⊥) m.order) m.answered keeps.answers_single.outside a given outside) e there
+
   alike : (e : Entry) → In e m.order → (a : Answered) → In a m.answered → a.line ≡ e.line.number → a.reply ≡ e.reply
-  alike e there a given same = elim (each_in (λ (a : Answered). StandsOutside a.reply ⊎ ((place : ℕ) × StandsInOrder m a.line a.reply place)) m.answered keeps.replies_stand.answers a given) [
-    | inl outside ↦ absurd (each_in (λ (e : Entry). e.line.number ≡ a.line → ⊥) m.order (each_in (λ (a : Answered). StandsOutside a.reply → All (λ (e : Entry). e.line.number ≡ a.line → ⊥) m.order) m.answered keeps.answers_single.outside a given outside) e there (sym same))
+  alike e there a given same = elim (stands_there a given) [
+    | inl outside ↦ absurd (not_there a given outside e there (sym same))
     | inr inside ↦
         let stands = inside.1 in
         let is = one_of_key name_of m.order (apart name_of m.order keeps.order_short.once) stands.entry e (in_order m.order inside.0 stands.entry stands.there) there (stands.number_is ∙ same) in
         sym stands.reply_is ∙ ap (λ (e : Entry). e.reply) is
   ]
 
-  has_answer : (e : Entry) → In e m.order → HasLike number_of name_of (says_at test m.lines) entry_says m.answered e
-  has_answer e there =
+  pub entry_answer : (e : Entry) → In e m.order → (a : Answered) × In a m.answered × (a.line ≡ e.line.number) × (a.reply ≡ e.reply)
+  entry_answer e there =
       let among = (each_in (IsInSequence m) m.order keeps.lines_in_sequence.placed e there).among in
       let done = each_in_recursion (λ (l : Line). IsTrue (is_answered l.number m.answered)) m.lines (each_answered m.answered m.lines none) e.line (contained m.lines e.line among) in
       let a = answer_of e.line.number m.answered done in
-      let reply = alike e there a.0 a.1 a.2 in
+      (a.0, a.1, a.2, alike e there a.0 a.1 a.2)
+
+-- So the answers say of as many records as the entries of the order that they were added, and so of those that were taken away.
+module _ (m : Machine) (keeps : MachineKeeps m) (places : NumbersArePlaces m.lines) (none : left_count m ≡ 0) (test : Reply → Command → Bool) (nothing : SaysNothing test) where
+  abbrev entry_says : Entry → Bool
+  entry_says e = test e.reply e.line.command
+
+  has_answer : (e : Entry) → In e m.order → HasLike number_of name_of (says_at test m.lines) entry_says m.answered e
+  has_answer e there =
+      let among = (each_in (IsInSequence m) m.order keeps.lines_in_sequence.placed e there).among in
+      let a = entry_answer m keeps none e there in
       let line : slice_get m.lines (a.0.line - 1) ≡ Some e.line = ap (λ (n : ℕ). slice_get m.lines (n - 1)) a.2 ∙ places e.line among in
-      record { like = a.0; there = a.1; same = a.2; passes = ap (says_of test a.0.reply) line ∙ ap (λ (r : Reply). test r e.line.command) reply }
-    where
-      each_in_recursion : (P : Line → Type 0) (ls : List Line) → AllByRecursion P ls → (l : Line) → In l ls → P l
-      each_in_recursion P [] all l none = absurd none
-      each_in_recursion P (x ∷ rest) all l (inl is) = subst P is all.0
-      each_in_recursion P (x ∷ rest) all l (inr later) = each_in_recursion P rest all.1 l later
+      record { like = a.0; there = a.1; same = a.2; passes = ap (says_of test a.0.reply) line ∙ ap (λ (r : Reply). test r e.line.command) a.3 }
 
   has_entry : (a : Answered) → In a m.answered → (says_at test m.lines a ≡ false) ⊎ StandsFor number_of name_of (says_at test m.lines) entry_says m.order a
-  has_entry a given = elim (each_in (λ (a : Answered). StandsOutside a.reply ⊎ ((place : ℕ) × StandsInOrder m a.line a.reply place)) m.answered keeps.replies_stand.answers a given) [
+  has_entry a given = elim (stands_there m keeps none a given) [
     | inl outside ↦ inl (nothing a.reply (slice_get m.lines (a.line - 1)) outside)
     | inr inside ↦ let stands = inside.1 in inr (record { like = stands.entry; there = in_order m.order inside.0 stands.entry stands.there; same = stands.number_is })
   ]

@@ -1,11 +1,12 @@
 -- What follows of how a run of `drive`, `run` or `work` ends: the statements of lemmas.
-use Rattle.std.specs.Prelude.{◌≡◌, ◌⊎◌, ℕ, ◌+◌, ◌≤◌, IsTrue, List, [], map, take, length, All, Option, Some, Result, Ok, Err}
+use Rattle.std.specs.Prelude.{◌≡◌, ◌⊎◌, ℕ, ◌+◌, ◌≤◌, IsTrue, List, [], map, take, All, Option, Some, Result, Ok, Err}
+use Rattle.std.specs.FinMap as finite
 use Rattle.std.specs.List.{Contains, slice_get}
 use Rattle.hb_core.specs.KeptOrder.{StandsOutside}
 use Rattle.hb_core.specs.Runs.{IsPrefixImage}
 use Rattle.hb_disk.specs.Calls.{Leaves}
 use Rattle.hb_disk.specs.Model.{DiskModel}
-use Rattle.hb_ops.specs.Files.{FileState, contents_of, file_records}
+use Rattle.hb_ops.specs.Files.{FileState, contents_of}
 use Rattle.hb_ops.specs.Sound.{IsSound}
 use Rattle.hb_outside.specs.Streams.{Appends, Rose}
 use Rattle.hb_point.specs.SessionRows.{is_answered}
@@ -111,4 +112,4 @@ pub record KeepsCounts (run : Run) : Type 0 where
   pub file : FileState
   pub even : IsEven run.after file
   pub sound : IsSound file
-  pub line : Appends run.seen.sink_before.written run.seen.sink_after.written (counts_text run.seen.answered (length (file_records file)))
+  pub line : Appends run.seen.sink_before.written run.seen.sink_after.written (counts_text run.seen.answered (finite.len (contents_of file)))
