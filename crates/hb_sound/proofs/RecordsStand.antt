@@ -91,7 +91,7 @@ on_level level rs r has = elim (cases_eq level 0) [
   | inr above ↦ let none : Contains [] r = subst (λ (b : Bool). Contains (cond b rs []) r) (ne_eqb level 0 above) has in absurd (omega (arith, none.1))
 ]
 
-of_page : (s : FileState) (n : ℕ) (q : Page) (r : Record) → slice_get s.pages n ≡ Some q → Contains (page_records q) r → HasRecord s r
+pub of_page : (s : FileState) (n : ℕ) (q : Page) (r : Record) → slice_get s.pages n ≡ Some q → Contains (page_records q) r → HasRecord s r
 of_page s n (Free next) r e (k, lt, is) = absurd (omega arith)
 of_page s n (Live page) r e has =
     let on = on_level page.level (flat_map records_of (leaves page.frag)) r has in
