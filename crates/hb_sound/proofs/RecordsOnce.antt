@@ -109,12 +109,12 @@ module _ (trees : TreeLaws) where
       let high = IsArea-side_from area axis value box cut.0 in
       let parts = (All-parts IsInOrder (leaves_of left below) (leaves_of right from)).0 order in
       let apart = apart_joined (flat_map records_of (leaves left)) (flat_map records_of (leaves right))
-          (tree_apart left below low cut.1 parts.0) (tree_apart right from high cut.2 parts.1)
-          (λ r has. recursion_from_All (Differs r) (flat_map records_of (leaves right)) (λ k d lt same.
-              let other = get_or (flat_map records_of (leaves right)) k d in
-              let mine = held_by_tree left below low cut.1 parts.0 r has in
-              let there = held_by_tree right from high cut.2 parts.1 other (k, lt, get_or_same (flat_map records_of (leaves right)) k other d lt) in
-              both_sides area axis value r.key box cut.0 mine (subst (λ (q : List ℕ). Holds from q) same there))) in
+      (tree_apart left below low cut.1 parts.0) (tree_apart right from high cut.2 parts.1)
+      (λ r has. recursion_from_All (Differs r) (flat_map records_of (leaves right)) (λ k d lt same.
+      let other = get_or (flat_map records_of (leaves right)) k d in
+      let mine = held_by_tree left below low cut.1 parts.0 r has in
+      let there = held_by_tree right from high cut.2 parts.1 other (k, lt, get_or_same (flat_map records_of (leaves right)) k other d lt) in
+      both_sides area axis value r.key box cut.0 mine (subst (λ (q : List ℕ). Holds from q) same there))) in
       subst AreApart (sym (flat_map-append records_of (leaves left) (leaves right))) apart
 
 first_place : (first : ℕ) → first + 0 ≡ first

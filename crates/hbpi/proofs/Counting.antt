@@ -168,6 +168,9 @@ has_records laws origin before after d e core started last k lines given actors 
     let set = contents_of s in
     let in_place = subst NumbersArePlaces (sym same) places in
     let added : count_by (says_at adds_record given) answered ≡ added_by m.order = ap (count_by (says_at adds_record given)) came ∙ ap (λ (ls : List Line). count_by (says_at adds_record ls) m.answered) (sym same) ∙ as_many m keeps.kept in_place left.answered adds_record none_added in
-    let taken : count_by (says_at takes_record given) answered ≡ taken_by m.order = ap (count_by (says_at takes_record given)) came ∙ ap (λ (ls : List Line). count_by (says_at takes_record ls) m.answered) (sym same) ∙ as_many m keeps.kept in_place left.answered takes_record none_taken in
-    (s, here.1, left_over (finite.len set) started.count (count_by (says_at adds_record given) answered) (count_by (says_at takes_record given) answered) (finite.len (result_of set m.order)) (added_by m.order) (taken_by m.order)
-        (laws.counted s here.2 some few ∙ sym count) added taken (sizes_follow set m.order keeps.order_legal.legal.replies)))
+    let taken : count_by (says_at takes_record given) answered ≡ taken_by m.order = ap (count_by (says_at takes_record given)) came ∙ ap (λ (ls : List Line). count_by (says_at takes_record ls) m.answered) (sym same) ∙ as_many m keeps.kept in_place left.answered takes_record none_taken in (
+      s,
+      here.1,
+      left_over (finite.len set) started.count (count_by (says_at adds_record given) answered) (count_by (says_at takes_record given) answered) (finite.len (result_of set m.order)) (added_by m.order) (taken_by m.order)
+          (laws.counted s here.2 some few ∙ sym count) added taken (sizes_follow set m.order keeps.order_legal.legal.replies),
+    ))

@@ -115,11 +115,15 @@ module _ {X : Type 0} (M : X → DiskModel) (state count : ℕ) (first over last
         let drove = facts.drives some m may in
         let new = drove.1.run.new in
         let text : List Answered → ℕ → List ℕ = λ a n. counts_text a (records_left ran.lines a n) in
-        let same : text given records ≡ text seen.answered started.count = ap (λ (a : List Answered). text a records) (sym facts.answered_is) ∙ ap (text seen.answered) counted in
-        (drove.0, drove.1.run, drove.2, λ went. counted_ends state count end whole new (text seen.answered started.count) status
-            (output m drove.0 may drove.1 went)
-            (λ is. subst (λ (t : List ℕ). IsSaid t seen.sink_before seen.sink_after status) same (facts.said is)) facts.fault facts.line
-            (subst (λ (a : List Answered). EndsWith end nowhere nowhere (run_text a new) a new.stop) (sym facts.answered_is) drove.1.text));
+        let same : text given records ≡ text seen.answered started.count = ap (λ (a : List Answered). text a records) (sym facts.answered_is) ∙ ap (text seen.answered) counted in (
+          drove.0,
+          drove.1.run,
+          drove.2,
+          λ went. counted_ends state count end whole new (text seen.answered started.count) status
+              (output m drove.0 may drove.1 went)
+              (λ is. subst (λ (t : List ℕ). IsSaid t seen.sink_before seen.sink_after status) same (facts.said is)) facts.fault facts.line
+              (subst (λ (a : List Answered). EndsWith end nowhere nowhere (run_text a new) a new.stop) (sym facts.answered_is) drove.1.text),
+        );
     disk_is = facts.disk_is;
     answered_is = facts.answered_is;
     order_is = facts.order_is;

@@ -75,7 +75,6 @@ module _ {X : Type 0} (key : X → ℕ) where
   not_in_rest (y ∷ ys) x (inr later) all z (inl is) same = all.0 x later (ap key is ∙ same)
   not_in_rest (y ∷ ys) x (inr later) all z (inr there) same = not_in_rest ys x later all.1 z there same
 
-
 cons_count : {X : Type 0} (p : X → Bool) (x : X) (xs : List X) → count_by p (x ∷ xs) ≡ cond (p x) 1 0 + count_by p xs
 cons_count p x xs = sum_by-cons (λ y. cond (p y) 1 0) x xs
 
@@ -116,16 +115,16 @@ module _ {X Y : Type 0} (key : X → ℕ) (name : Y → ℕ) (p : X → Bool) (q
       let mine = likes y (inl refl) in
       let rest = without xs mine.like mine.there in
       let fewer = same_count ys rest (rest_apart key xs mine.like mine.there keys) names.1
-          (λ z there. let its = likes z (inr there) in record {
-            like = its.like;
-            there = to_rest key xs mine.like mine.there its.like its.there (λ same. names.0 z there (sym mine.same ∙ sym same ∙ its.same));
-            same = its.same;
-            passes = its.passes;
-          })
-          (λ x there. elim (stands x (from_rest key xs mine.like mine.there x there)) [
-            | inl none ↦ inl none
-            | inr some ↦ stays x some (λ same. not_in_rest key xs mine.like mine.there keys x there (sym same ∙ sym mine.same)) some.there
-          ]) in
+      (λ z there. let its = likes z (inr there) in record {
+        like = its.like;
+        there = to_rest key xs mine.like mine.there its.like its.there (λ same. names.0 z there (sym mine.same ∙ sym same ∙ its.same));
+        same = its.same;
+        passes = its.passes;
+      })
+      (λ x there. elim (stands x (from_rest key xs mine.like mine.there x there)) [
+        | inl none ↦ inl none
+        | inr some ↦ stays x some (λ same. not_in_rest key xs mine.like mine.there keys x there (sym same ∙ sym mine.same)) some.there
+      ]) in
       let here = count_rest p xs mine.like mine.there in
       let all = cons_count q y ys in
       let passes = ap (λ (b : Bool). cond b 1 0) mine.passes in

@@ -40,9 +40,13 @@ text_core {Y = Y} M S step_lines goes first over last sink mid put core ran end 
           let drove = facts.drives some m may in
           let new = drove.1.run.new in
           let text = subst (λ (a : List Answered). EndsWith end (S sink) (S mid) (run_text a new) a new.stop) (sym facts.answered_is) drove.1.text in
-          let line = subst (λ (x : Status). GetsLine (S mid) (S put) (fault_line x)) facts.status_is facts.line in
-          (drove.0, drove.1.run, drove.2, λ went. subst (λ (x : Status). RanEnds (by_text step_lines goes) x whole new) (sym facts.status_is)
-              (ran_ends step_lines goes end whole (S mid) new text line (λ is. ap S (facts.silent is)) (λ is. ap S (facts.silent_done is))));
+          let line = subst (λ (x : Status). GetsLine (S mid) (S put) (fault_line x)) facts.status_is facts.line in (
+            drove.0,
+            drove.1.run,
+            drove.2,
+            λ went. subst (λ (x : Status). RanEnds (by_text step_lines goes) x whole new) (sym facts.status_is)
+                (ran_ends step_lines goes end whole (S mid) new text line (λ is. ap S (facts.silent is)) (λ is. ap S (facts.silent_done is))),
+          );
       disk_is = facts.disk_is;
       answered_is = facts.answered_is;
       order_is = facts.order_is;

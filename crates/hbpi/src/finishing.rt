@@ -13,7 +13,7 @@ use crate::finished::Finished;
 use crate::nowhere::Nowhere;
 use crate::saying::{counts_line, say};
 use crate::statuses::{Damage, Status};
-use hb_core::{End, Ran};
+use hb_core::{Core, End, Ran};
 use hb_disk::Disk;
 use hb_outside::Sink;
 use hb_set::{Answered, Line};
@@ -42,6 +42,29 @@ fn status_of(end: &End) -> Status
     }
 }
 
+/// What a run of a core leaves.
+fn leave<K, D: Disk>(
+    core: Core<D>,
+    status: Status,
+    sink: K,
+    answered: Vec<Answered>,
+) -> Finished<K, D>
+    ensures status { result.status ≡ status }
+    ensures sink { result.sink ≡ sink }
+    ensures disk { result.disk ≡ core_disk core }
+    ensures answered { result.answered ≡ answered }
+    ensures order { result.order.items ≡ (core_seen core).order }
+{
+    let (store, order) = core.into_store();
+    Finished {
+        status,
+        sink,
+        disk: store.into_disk(),
+        answered,
+        order,
+    }
+}
+
 /// Writes the fault line behind the output of a run, and gives back what it leaves.
 pub(crate) fn finish<K: Sink, D: Disk>(ran: Ran<D, K>) -> Finished<K, D>
     ensures status { result.status ≡ status_after ran.end }
@@ -61,14 +84,7 @@ pub(crate) fn finish<K: Sink, D: Disk>(ran: Ran<D, K>) -> Finished<K, D>
     } = ran;
     let status = status_of(&end);
     put_fault(&mut sink, status);
-    let (store, order) = core.into_store();
-    Finished {
-        status,
-        sink,
-        disk: store.into_disk(),
-        answered,
-        order,
-    }
+    leave(core, status, sink, answered)
 }
 
 /// Says how many answers have each reply, and how many records are left of so many. Where the run didn't end well, its fault line is put.
@@ -115,12 +131,5 @@ pub(crate) fn finish_counting<K: Sink, D: Disk>(
     } = ran;
     let lines = core.script().lines.as_slice();
     let status = say_counts(&end, lines, answered.as_slice(), records, &mut sink);
-    let (store, order) = core.into_store();
-    Finished {
-        status,
-        sink,
-        disk: store.into_disk(),
-        answered,
-        order,
-    }
+    leave(core, status, sink, answered)
 }

@@ -55,7 +55,11 @@ pub(crate) fn counts_line(answers: &[Answered], records: u128) -> ArrayVec<u8, L
 {
     let mut line = ArrayVec::new();
     add_count(&mut line, b"ok ", count_kind(Kind::Done, answers));
-    add_count(&mut line, b" duplicate ", count_kind(Kind::Duplicate, answers));
+    add_count(
+        &mut line,
+        b" duplicate ",
+        count_kind(Kind::Duplicate, answers),
+    );
     add_count(&mut line, b" absent ", count_kind(Kind::Absent, answers));
     add_count(&mut line, b" found ", count_kind(Kind::Found, answers));
     add_count(&mut line, b" none ", count_kind(Kind::Missing, answers));

@@ -260,7 +260,9 @@ fn dry_counts(alloc: Global, worked: &Worked) -> Option<String> {
     let text = text.as_str().strip_prefix("0 ")?;
     let left = run_on(alloc, worked.dry, text, &[])?;
     let [ok, duplicate, absent, found, none, within] = tally(left.answered.as_slice());
-    format!(in alloc; "0 ok {ok} duplicate {duplicate} absent {absent} found {found} none {none} box {within} records ").ok()
+    format!(in alloc;
+        "0 ok {ok} duplicate {duplicate} absent {absent} found {found} none {none} box {within} records "
+    ).ok()
 }
 
 /// What `work` leaves of the new file.
