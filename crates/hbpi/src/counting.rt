@@ -45,23 +45,37 @@ fn line_of(lines: &[Line], number: u32) -> Option<&Line>
     lines.get(number.saturating_sub(1) as usize)
 }
 
+/// Whether a command that was answered so has added a record.
+fn adds_record(reply: &Reply, command: &Command) -> bool
+    ensures { result ≡ adds_record reply.now command.now }
+{
+    matches!(reply, Reply::Done) && matches!(command, Command::Insert(_))
+}
+
+/// Or has taken one away.
+fn takes_record(reply: &Reply, command: &Command) -> bool
+    ensures { result ≡ takes_record reply.now command.now }
+{
+    matches!(reply, Reply::Done) && matches!(command, Command::Delete(_))
+}
+
 /// Whether an answer to one of these lines says that a record was added.
-fn adds(lines: &[Line], answer: &Answered) -> bool
+fn says_added(lines: &[Line], answer: &Answered) -> bool
     ensures { result ≡ says_at adds_record lines.now answer.now }
 {
-    match (&answer.reply, line_of(lines, answer.line)) {
-        (Reply::Done, Some(line)) => matches!(line.command, Command::Insert(_)),
-        _ => false,
+    match line_of(lines, answer.line) {
+        Some(line) => adds_record(&answer.reply, &line.command),
+        None => false,
     }
 }
 
 /// Or that one was taken away.
-fn takes(lines: &[Line], answer: &Answered) -> bool
+fn says_taken(lines: &[Line], answer: &Answered) -> bool
     ensures { result ≡ says_at takes_record lines.now answer.now }
 {
-    match (&answer.reply, line_of(lines, answer.line)) {
-        (Reply::Done, Some(line)) => matches!(line.command, Command::Delete(_)),
-        _ => false,
+    match line_of(lines, answer.line) {
+        Some(line) => takes_record(&answer.reply, &line.command),
+        None => false,
     }
 }
 
@@ -69,7 +83,7 @@ fn takes(lines: &[Line], answer: &Answered) -> bool
 pub(crate) fn records_left(lines: &[Line], answers: &[Answered], records: u64) -> u128
     ensures { result ≡ records_left lines.now answers.now records }
 {
-    let added = answers.iter().filter(|a| adds(lines, a)).count();
-    let taken = answers.iter().filter(|a| takes(lines, a)).count();
+    let added = answers.iter().filter(|a| says_added(lines, *a)).count();
+    let taken = answers.iter().filter(|a| says_taken(lines, *a)).count();
     (u128::from(records) + added as u128).saturating_sub(taken as u128)
 }
