@@ -57,7 +57,7 @@ answer_of : (number : ℕ) (answered : List Answered) → is_answered number ans
 answer_of number [] is = absurd (false≢true is)
 answer_of number (a ∷ rest) is = by (a.line == number) refl is
   where
-    by : (b : Bool) → (a.line == number) ≡ b → b || is_answered number rest ≡ true → (x : Answered) × In x (a ∷ rest) × (x.line ≡ number)
+    by : (b : Bool) → (a.line == number) ≡ b → (b || is_answered number rest) ≡ true → (x : Answered) × In x (a ∷ rest) × (x.line ≡ number)
     by true here all = (a, inl refl, eqb-true a.line number here)
     by false off all = let later = answer_of number rest all in (later.0, inr later.1, later.2)
 
