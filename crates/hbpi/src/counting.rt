@@ -1,8 +1,8 @@
 //! How many answers have each reply, and how many records are left behind them.
-ghost use Rattle.std.specs.Prelude.{◌≡◌, ◌+◌, ◌-◌, ◌≤◌, length, count_by};
+ghost use Rattle.std.specs.Prelude.{◌≡◌, ◌-◌};
 ghost use Rattle.std.specs.List.{slice_get};
 ghost use Rattle.hb_set.specs.Sizes.{adds_record, takes_record};
-ghost use Rattle.hbpi.specs.Counted.{count_kind, has_kind, records_left, says_at, says_of};
+ghost use Rattle.hbpi.specs.Counted.{count_kind, has_kind, records_left, says_at};
 
 use hb_set::{Answered, Command, Line, Reply};
 

@@ -1,6 +1,4 @@
 //! A sink that drops what it is given.
-ghost use Rattle.std.specs.Prelude.{None};
-ghost use Rattle.hb_outside.specs.Calls.{SinkModel};
 
 use hb_outside::{Failed, Sink};
 

@@ -25,7 +25,6 @@ use hb_set::{Command, Line, Script};
 use hb_sound::laws::{
     a_level_parts_the_space, a_walk_ends_at_the_responsible_page, records_stand_once,
 };
-use hb_space::NoMemory;
 use hb_space::form::KMAX;
 use hb_store::{Store, an_image_opens_to_one_file};
 use hb_text::{TextError, read_commands};
@@ -99,23 +98,26 @@ fn read_script<S: Source>(
     }
 }
 
-/// The script of so many lines over `k` attributes that the generator draws from the state.
-fn draw_script(alloc: Global, k: u8, state: u64, count: u32) -> Result<Script, NoMemory>
+/// The script of so many lines over `k` attributes that the generator draws from the state. It is refused for want of memory alone.
+fn draw_script(alloc: Global, k: u8, state: u64, count: u32) -> Result<Script, Status>
     requires lines { count ≤ 1000000 }
     requires attributes { IsAttributeCount k }
     ensures lines { IfOk result (λ script. script.lines ≡ generated state count k) }
     ensures steps { IfOk result (λ script. script.steps ≡ []) }
     ensures script { IfOk result (λ script. IsScript k script.lines script.steps) }
+    ensures refused { IfErr result (λ status. status ≡ Status.NoMemory) }
 {
     a_generated_text_says_its_lines();
-    let text = generate(alloc, state, count, k)?;
+    let Ok(text) = generate(alloc, state, count, k) else {
+        return Err(Status::NoMemory);
+    };
     match read_commands(alloc, text.as_slice(), k, false) {
         Ok(script) => {
             knows_lines(script.lines.as_slice());
             Ok(script)
         }
         Err(TextError::Bad(_)) => unreachable!(),
-        Err(TextError::NoMemory) => Err(NoMemory),
+        Err(TextError::NoMemory) => Err(Status::NoMemory),
     }
 }
 
@@ -136,10 +138,7 @@ fn script_from<S: Source>(
 {
     match origin {
         Origin::Text { step_lines } => read_script(alloc, k, step_lines, source),
-        Origin::Drawn { state, lines } => match draw_script(alloc, k, state, lines) {
-            Ok(script) => Ok(script),
-            Err(_) => Err(Status::NoMemory),
-        },
+        Origin::Drawn { state, lines } => draw_script(alloc, k, state, lines),
     }
 }
 
