@@ -15,7 +15,7 @@ use Rattle.hb_set.specs.declared.scripts.Answered.{Answered}
 use Rattle.hb_set.specs.declared.scripts.Line.{Line}
 use Rattle.hb_store.specs.declared.stops.StopWhy.TheVariants as stops
 use Rattle.hbpi.proofs.CoreEnds.{RanCore}
-use Rattle.hbpi.proofs.Counting.{NumbersArePlaces, drawn_in_place, has_records}
+use Rattle.hbpi.proofs.RecordsLeft.{NumbersArePlaces, drawn_in_place, has_records}
 use Rattle.hbpi.specs.Codes.{status_after}
 use Rattle.hbpi.specs.Counted.{HasRecords, counts_text, records_left}
 use Rattle.hbpi.specs.Driven.{Drove, GetsOutput, GoesOnForAll, RanEnds, by_counting}

@@ -23,7 +23,7 @@ pub mod FileRefused
 pub mod Promises
 pub mod CheckPromises
 pub mod AllAnswered
-pub mod Counting
+pub mod RecordsLeft
 pub mod CountingEnds
 pub mod WorkPromises
 pub mod Causes

@@ -16,7 +16,7 @@ use Rattle.hb_set.specs.Order.{Entry, result_of}
 use Rattle.hb_store.specs.Opening.{OpensToOne}
 use Rattle.hb_wal.specs.Log.{Waiting, mark_of}
 use Rattle.hb_set.specs.declared.scripts.Answered.{Answered}
-use Rattle.hbpi.proofs.Counting.{entry_answer, in_order}
+use Rattle.hbpi.proofs.RecordsLeft.{entry_answer, in_order}
 use Rattle.hbpi.proofs.EndLaws.{no_done}
 use Rattle.hbpi.proofs.Promises.{not_done}
 use Rattle.hbpi.proofs.Tallies.{each_in}
