@@ -30,7 +30,7 @@ use Rattle.hb_sound.specs.Laws.{RecordsStandOnce, SpaceLaws, TreeLaws}
 use Rattle.hb_sound.specs.PointWalks.{IsResponsible}
 use Rattle.hb_sound.proofs.PagePlaces.{live_there}
 use Rattle.hb_sound.proofs.Partition.{is_responsible, pages_have_boxes, records_are_at_home}
-use Rattle.hb_sound.proofs.RecordsStand.{in_leaf, of_page, stands_at}
+use Rattle.hb_sound.proofs.RecordsStand.{in_leaf, of_page, of_page_id, stands_at}
 
 -- no two of these records have one point
 abbrev Differs : Record → Record → Type 0
@@ -142,14 +142,10 @@ module _ (trees : TreeLaws) (space : SpaceLaws) (points : (a : Area) (p : List �
       let h = of_page s n q r here has in
       let at = stands_at trees points s r h (sound.well_made h.id h.page h.live) (pages_have_boxes trees space s h.id h.page sound some few h.live) in
       let mine : IsResponsible s r.key h.id = is_responsible trees space s r.key h.id h.page at.stands.records at.stands.area sound at.point h.live at.stands.leaf in
-      records_are_at_home trees space s r.key h.id sound at.point mine (suc m) other (λ same. apart (numbers m n h.id same (of_number n q r here has))) (page_at-suc s.pages m ∙ there)
+      records_are_at_home trees space s r.key h.id sound at.point mine (suc m) other (λ same. apart (numbers m n h.id same (of_page_id s n q r here has))) (page_at-suc s.pages m ∙ there)
     where
       numbers : (m n id : ℕ) → suc m ≡ id → id ≡ suc n → m ≡ n
       numbers m n id same is = omega (arith, same, is)
-
-      of_number : (n : ℕ) (q : Page) (r : Record) (here : slice_get s.pages n ≡ Some q) (has : Contains (page_records q) r) → (of_page s n q r here has).id ≡ suc n
-      of_number n (Live page) r here has = refl
-      of_number n (Free next) r here (k, lt, e) = absurd (omega (arith, lt))
 
   rest_lacks : (pages : List Page) (first n : ℕ) (q : Page) (r : Record) → n < first → slice_get s.pages n ≡ Some q → Contains (page_records q) r → ((m : ℕ) (x : Page) → slice_get pages m ≡ Some x → slice_get s.pages (first + m) ≡ Some x) → AllByRecursion (Differs r) (flat_map page_records pages)
   rest_lacks [] first n q r less here has at = tt

@@ -98,6 +98,11 @@ of_page s n (Live page) r e has =
     let w = in_leaf page.frag page.area r on.1 in
     record { id = suc n; page = page; live = live_there s n page e; level = on.0; leaf = w.0; there = w.1; among = w.2 }
 
+pub of_page_id : (s : FileState) (n : ℕ) (q : Page) (r : Record) (e : slice_get s.pages n ≡ Some q) (has : Contains (page_records q) r) → (of_page s n q r e has).id ≡ suc n
+unfolding of_page
+of_page_id s n (Free next) r e (k, lt, is) = absurd (omega arith)
+of_page_id s n (Live page) r e has = refl
+
 -- what the contents have under a point
 pub record IsBodyOf (s : FileState) (q body : List ℕ) : Type 0 where
   pub rec : Record

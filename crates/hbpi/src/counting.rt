@@ -1,6 +1,5 @@
 //! How many answers have each reply, and how many records are left behind them.
-ghost use Rattle.std.specs.Prelude.{◌≡◌, ◌-◌};
-ghost use Rattle.std.specs.List.{slice_get};
+ghost use Rattle.std.specs.Prelude.{◌≡◌};
 ghost use Rattle.hb_set.specs.Sizes.{adds_record, takes_record};
 ghost use Rattle.hbpi.specs.Counted.{count_kind, has_kind, records_left, says_at};
 
@@ -38,13 +37,6 @@ pub(crate) fn count_kind(kind: Kind, answers: &[Answered]) -> u128
     answers.iter().filter(|a| has_kind(kind, &a.reply)).count() as u128
 }
 
-/// The line of a number, where each one's number is its place, from 1.
-fn line_of(lines: &[Line], number: u32) -> Option<&Line>
-    ensures { result ≡ slice_get lines.now (number - 1) }
-{
-    lines.get(number.saturating_sub(1) as usize)
-}
-
 /// Whether a command that was answered so has added a record.
 fn adds_record(reply: &Reply, command: &Command) -> bool
     ensures { result ≡ adds_record reply.now command.now }
@@ -63,7 +55,7 @@ fn takes_record(reply: &Reply, command: &Command) -> bool
 fn says_added(lines: &[Line], answer: &Answered) -> bool
     ensures { result ≡ says_at adds_record lines.now answer.now }
 {
-    match line_of(lines, answer.line) {
+    match lines.get(answer.line.saturating_sub(1) as usize) {
         Some(line) => adds_record(&answer.reply, &line.command),
         None => false,
     }
@@ -73,7 +65,7 @@ fn says_added(lines: &[Line], answer: &Answered) -> bool
 fn says_taken(lines: &[Line], answer: &Answered) -> bool
     ensures { result ≡ says_at takes_record lines.now answer.now }
 {
-    match line_of(lines, answer.line) {
+    match lines.get(answer.line.saturating_sub(1) as usize) {
         Some(line) => takes_record(&answer.reply, &line.command),
         None => false,
     }
