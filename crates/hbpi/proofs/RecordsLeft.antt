@@ -12,6 +12,7 @@ use Rattle.hb_core.specs.Runs.{left_count}
 use Rattle.hb_core.specs.Showing.{RunningCore}
 use Rattle.hb_disk.specs.Model.{DiskModel}
 use Rattle.hb_gen.specs.Lines.{generated, lines_from}
+use Rattle.hb_layout.specs.declared.meta.Meta.{Meta}
 use Rattle.hb_lemmas.proofs.Options.{at_value, has_value, if_value}
 use Rattle.hb_ops.specs.Files.{FileState, contents_of, file_records}
 use Rattle.hb_outside.specs.Calls.{SourceModel}
@@ -162,8 +163,8 @@ has_records laws origin before after d e core started last k lines given actors 
     let one : found.0 ≡ s = laws.one b found.0 s found.1 here.1 in
     let count : started.count ≡ length (file_records s) = found.3 ∙ ap (λ (t : FileState). length (file_records t)) one in
     let layout = takes.begun.store.stands.layout in
-    let some : 1 ≤ s.meta.k = subst (λ (n : ℕ). 1 ≤ n) (sym (ap (λ (x : _). x.k) over.meta)) layout.some_attributes in
-    let few = subst (λ (n : ℕ). n ≤ 4) (sym (ap (λ (x : _). x.k) over.meta)) layout.few_attributes in
+    let some : 1 ≤ s.meta.k = subst (λ (n : ℕ). 1 ≤ n) (sym (ap (λ (x : Meta). x.k) over.meta)) layout.some_attributes in
+    let few = subst (λ (n : ℕ). n ≤ 4) (sym (ap (λ (x : Meta). x.k) over.meta)) layout.few_attributes in
     let came : answered ≡ m.answered = takes.came.same (has_value d.told b is) in
     let set = contents_of s in
     let in_place = subst NumbersArePlaces (sym same) places in
