@@ -56,11 +56,11 @@ drawn_in_place state count k line among = (drawn_at k 1 count state line among).
 -- an answered line has its answer
 answer_of : (number : ℕ) (answered : List Answered) → is_answered number answered ≡ true → (a : Answered) × In a answered × (a.line ≡ number)
 answer_of number [] is = absurd (false≢true is)
-answer_of number (a ∷ rest) is = by (a.line == number) refl is
+answer_of number (a ∷ rest) is = by (a.line == number) refl is (answer_of number rest)
   where
-    by : (b : Bool) → (a.line == number) ≡ b → (b || is_answered number rest) ≡ true → (x : Answered) × In x (a ∷ rest) × (x.line ≡ number)
-    by true here all = (a, inl refl, eqb-true a.line number here)
-    by false off all = let later = answer_of number rest all in (later.0, inr later.1, later.2)
+    by : (b : Bool) → (a.line == number) ≡ b → (b || is_answered number rest) ≡ true → (is_answered number rest ≡ true → (x : Answered) × In x rest × (x.line ≡ number)) → (x : Answered) × In x (a ∷ rest) × (x.line ≡ number)
+    by true here all later = (a, inl refl, eqb-true a.line number here)
+    by false off all later = let found = later all in (found.0, inr found.1, found.2)
 
 -- a reply outside of the order says of no record that it was added, or taken away
 abbrev SaysNothing : (Reply → Command → Bool) → Type 0

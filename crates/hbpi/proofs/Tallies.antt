@@ -45,7 +45,7 @@ one_of_key key (z ∷ zs) all x y (inr a) (inl b) same = absurd (all.0 x a (ap k
 one_of_key key (z ∷ zs) all x y (inr a) (inr b) same = one_of_key key zs all.1 x y a b same
 
 -- a list without one of its elements
-without : {X : Type 0} (xs : List X) (x : X) → In x xs → List X
+abbrev without : {X : Type 0} (xs : List X) (x : X) → In x xs → List X
 without [] x none = absurd none
 without (y ∷ ys) x (inl is) = ys
 without (y ∷ ys) x (inr later) = y ∷ without ys x later
@@ -90,7 +90,7 @@ count_rest p (y ∷ ys) x (inr later) =
 none_count : {X : Type 0} (p : X → Bool) (xs : List X) → ((x : X) → In x xs → p x ≡ false) → count_by p xs ≡ 0
 none_count p [] none = refl
 none_count p (x ∷ xs) none =
-    let here = ap (λ (b : Bool). cond b 1 0) (none x (inl refl)) in
+    let here = ap {B = ℕ} (λ (b : Bool). cond b 1 0) (none x (inl refl)) in
     let rest = none_count p xs (λ y there. none y (inr there)) in
     let all = cons_count p x xs in
     omega (arith, here, rest, all)
@@ -127,7 +127,7 @@ module _ {X Y : Type 0} (key : X → ℕ) (name : Y → ℕ) (p : X → Bool) (q
       ]) in
       let here = count_rest p xs mine.like mine.there in
       let all = cons_count q y ys in
-      let passes = ap (λ (b : Bool). cond b 1 0) mine.passes in
+      let passes = ap {B = ℕ} (λ (b : Bool). cond b 1 0) mine.passes in
       omega (arith, here, all, fewer, passes)
     where
       stays : (x : X) (some : StandsFor (y ∷ ys) x) → (name y ≡ key x → ⊥) → In some.like (y ∷ ys) → (p x ≡ false) ⊎ StandsFor ys x

@@ -1,4 +1,4 @@
-use Rattle.std.proofs.Common.{◌≡◌, ℕ, List, refl, sym, ap, subst, arith}
+use Rattle.std.proofs.Common.{true, ◌≡◌, ℕ, List, refl, sym, ap, subst, arith}
 use Rattle.hb_core.specs.CoreSeen.{core_disk, core_seen}
 use Rattle.hb_core.specs.Showing.{RunningCore}
 use Rattle.hb_disk.specs.Model.{DiskModel}
