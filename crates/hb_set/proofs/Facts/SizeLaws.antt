@@ -12,8 +12,8 @@ use Rattle.hb_set.specs.declared.commands.Command.TheVariants.{Insert, Delete, L
 use Rattle.hb_set.specs.declared.commands.Reply.{Reply}
 use Rattle.hb_set.specs.declared.commands.Reply.TheVariants.{Done, Duplicate, Absent}
 use Rattle.hb_set.specs.Machine.{RecordSet, if_there, found_or_missing, reply_of, set_after}
-use Rattle.hb_set.specs.Order.{Entry, AreReplies, result_of}
-use Rattle.hb_set.specs.Sizes.{SizesFollowReplies, added_by, adds_record, taken_by, takes_record}
+use Rattle.hb_set.specs.Order.{Entry}
+use Rattle.hb_set.specs.Sizes.{SizesFollowReplies, adds_record, takes_record}
 
 -- what a reply says of the size of the set before and after it
 abbrev IsSized : RecordSet → RecordSet → Command → Reply → Type 0

@@ -1,6 +1,5 @@
 use Rattle.std.proofs.Common.{◌≡◌, ℕ, List, sym, ap, subst, ◌∙◌}
 use Rattle.hb_core.specs.CoreSeen.{core_seen}
-use Rattle.hb_core.specs.declared.endings.End.TheVariants as ends
 use Rattle.hb_outside.specs.Calls.{SinkModel}
 use Rattle.hb_set.specs.declared.scripts.Answered.{Answered}
 use Rattle.hb_set.specs.declared.scripts.Line.{Line}

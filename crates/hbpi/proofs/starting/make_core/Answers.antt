@@ -4,7 +4,7 @@ use Rattle.hb_layout.specs.declared.meta.Meta.{Meta}
 use Rattle.hb_set.proofs.Facts.ScriptLaws.{script_is_short}
 use Rattle.hb_store.specs.Seen.{held_by, seen_as}
 use Rattle.hbpi.proofs.Begins.{no_frame}
-use Rattle.hbpi.specs.Schedules.{CameFrom, CameNot, IsScript}
+use Rattle.hbpi.specs.Schedules.{CameFrom, IsScript}
 use Rattle.hbpi.proofs.starting.make_core.Goals as goal
 
 pub over-requires : goal.over-requires

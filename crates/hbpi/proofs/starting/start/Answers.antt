@@ -1,5 +1,5 @@
-use Rattle.std.proofs.Common.{◌≡◌, inl, inr, [], refl, sym, subst}
-use Rattle.hb_core.specs.CoreSeen.{core_disk, core_seen}
+use Rattle.std.proofs.Common.{inl, inr, [], refl, sym, subst}
+use Rattle.hb_core.specs.CoreSeen.{core_disk}
 use Rattle.hb_disk.specs.Model.{DiskModel}
 use Rattle.hb_restart.specs.Beyond.{KeepsBeyondFile}
 use Rattle.hb_restart.specs.Leaving.{LeavesOpening, OpensStore, RunsThrough}
