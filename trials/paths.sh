@@ -44,6 +44,7 @@ says "drive of /dev/null" "small 8192 0 (9)" "$(drive /dev/null '')"
 
 says "run with a file" "order (0)" "$(call "$HBPI" f run </dev/null)"
 says "run without one" "small 8192 0 (9)" "$(call "$HBPI" - run </dev/null)"
+says "work without one" "small 8192 0 (9)" "$(call "$HBPI" - work 1 10 </dev/null)"
 
 # forms that need no file open it all the same
 before=$(cksum <f)
