@@ -10,7 +10,6 @@ pub mod Opened
 pub mod ShutOut
 pub mod StepsTaken
 pub mod Reopened
-pub mod DrawnScripts
 pub mod CoreEnds
 pub mod TextEnds
 pub mod Tallies
