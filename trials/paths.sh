@@ -44,6 +44,7 @@ says "drive of /dev/null" "small 8192 0 (9)" "$(drive /dev/null '')"
 
 says "run with a file" "order (0)" "$(call "$HBPI" f run </dev/null)"
 says "run without one" "small 8192 0 (9)" "$(call "$HBPI" - run </dev/null)"
+says "work without one" "small 8192 0 (9)" "$(call "$HBPI" - work 1 10 </dev/null)"
 
 # forms that need no file open it all the same
 before=$(cksum <f)
@@ -51,7 +52,7 @@ says "dry with a file" "order (0)" "$(call "$HBPI" f dry 1 </dev/null)"
 says "dry without one" "order (0)" "$(call "$HBPI" - dry 1 </dev/null)"
 says "dry of a file that isn't there" "disk fault (6)" "$(call "$HBPI" none dry 1 </dev/null)"
 hears "told" "hbpi: \"none\": can't be opened for reading and writing: No such file or directory (os error 2)/"
-for words in map tidy "work 1 10"; do
+for words in map tidy; do
     says "$words with a file" "not built (11)" "$(call "$HBPI" f $words </dev/null)"
     says "$words without one" "not built (11)" "$(call "$HBPI" - $words </dev/null)"
     says "$words of a file that isn't there" "disk fault (6)" "$(call "$HBPI" none $words </dev/null)"

@@ -9,3 +9,5 @@ pub mod RunCrashes
 pub mod RunSteps
 pub mod BegunCores
 pub mod RunLines
+pub mod CountsKept
+pub mod BetweenRuns

@@ -18,3 +18,4 @@ pub mod HoldersMoved
 pub mod LatchesApart
 pub mod FlushedFrames
 pub mod PlacesLeft
+pub mod BesideSteps

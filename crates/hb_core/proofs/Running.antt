@@ -48,3 +48,5 @@ pub mod Holds
 pub mod WrittenShows
 pub mod OwnPins
 pub mod JobsBegun
+pub mod Counted
+pub mod BetweenCalls

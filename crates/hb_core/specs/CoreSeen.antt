@@ -18,6 +18,7 @@ core_seen c = record {
   store = seen_as c.store;
   uses = uses_of c.store;
   taken = c.taken;
+  done = c.done;
 }
 
 abbrev pub core_disk : {D : Type 0} {g : Ghosts D} → Core D g → D

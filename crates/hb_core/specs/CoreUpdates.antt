@@ -7,6 +7,7 @@ use Rattle.hb_latch.specs.Tables.{LatchTable}
 use Rattle.hb_store.specs.declared.stops.StopWhy.{StopWhy}
 use Rattle.hb_pool.specs.Frames.{Use}
 use Rattle.hb_store.specs.States.{StoreState}
+use Rattle.hb_core.specs.declared.counts.TidyCounts.{TidyCounts}
 use Rattle.hb_core.specs.Showing.{RunningCore}
 
 -- the actor stands so
@@ -17,7 +18,7 @@ StandsAs c actor activity = slice_get c.activities (actor - 1) ≡ Some activity
 abbrev pub with_standing : ℕ → Activity → RunningCore → RunningCore
 with_standing actor next c = record c { activities = slice_set c.activities (actor - 1) next }
 
--- other jobs, a stop, another order, other latches, another store
+-- other jobs, a stop, another order, other latches, another store, other counts
 abbrev pub with_jobs : List Job → RunningCore → RunningCore
 with_jobs jobs c = record c { jobs = jobs }
 
@@ -35,3 +36,6 @@ with_store store c = record c { store = store }
 
 abbrev pub with_order_of_use : List Use → RunningCore → RunningCore
 with_order_of_use uses c = record c { uses = uses }
+
+abbrev pub with_counts : TidyCounts → RunningCore → RunningCore
+with_counts done c = record c { done = done }

@@ -1,3 +1,4 @@
+pub mod Counts
 pub mod Machines
 pub mod Asking
 pub mod Fetching
@@ -42,6 +43,7 @@ pub mod CoreUpdates
 pub mod Pinning
 pub mod Committing
 pub mod Moving
+pub mod Counting
 pub mod Taking
 pub mod Stopping
 pub mod Looking
@@ -49,6 +51,8 @@ pub mod AskingDeciders
 pub mod LookingToMerge
 pub mod Working
 pub mod Relied
+pub mod Between
+pub mod BetweenLaws
 pub mod Touching
 pub mod Runs
 pub mod MomentLaws

@@ -23,7 +23,8 @@ use Rattle.hb_store.specs.States.{StoreState, in_memory}
 use Rattle.hb_core.specs.declared.outcomes.Outcome.{Outcome}
 use Rattle.hb_core.specs.declared.outcomes.Outcome.TheVariants as outcomes
 pub use Rattle.hb_core.specs.Committing.{KeepsFilesBy, MayCommit, later_with}
-pub use Rattle.hb_core.specs.CoreUpdates.{StandsAs, with_jobs, with_latches, with_order, with_order_of_use, with_standing, with_stop, with_store}
+pub use Rattle.hb_core.specs.CoreUpdates.{StandsAs, with_counts, with_jobs, with_latches, with_order, with_order_of_use, with_standing, with_stop, with_store}
+use Rattle.hb_core.specs.Counts.{counted_by}
 use Rattle.hb_core.specs.Machines.{live_here}
 use Rattle.hb_core.specs.Performing.{ChangesQueue, MayDo, Relatches, latches_held, mode_among, outcome_of}
 use Rattle.hb_core.specs.Showing.{RunningCore}
@@ -98,7 +99,7 @@ said (Some number) (fates.Answers reply) = outcomes.Answered number reply
 said line fate = outcomes.Moved
 
 -- A deed of an actor is done: its latches, the queue, the store and the order are as it says, its pins go over from these pages to those
--- of its latches, and all else is as it was.
+-- of its latches, its operation is counted, and all else is as it was.
 pub record DoesDeed (actor : ℕ) (pins : List ℕ) (deed : Deed) (outcome : Outcome) (old new : RunningCore) : Type 0 where
   pub says : outcome ≡ outcome_of deed.says
   pub latches : Relatches actor (latches_held new.store deed.next) old.latches new.latches
@@ -109,4 +110,5 @@ pub record DoesDeed (actor : ℕ) (pins : List ℕ) (deed : Deed) (outcome : Out
   pub stays : KeepsStaying deed.op old new.store
   -- the frames are those of the pages in memory
   pub tied : IsTied new.store new.uses
-  pub rest : new ≡ record (with_standing actor deed.next old) { latches = new.latches; jobs = new.jobs; order = new.order; store = new.store; uses = new.uses }
+  pub counts : new.done ≡ counted_by actor deed.op old.done
+  pub rest : new ≡ record (with_standing actor deed.next old) { latches = new.latches; jobs = new.jobs; order = new.order; store = new.store; uses = new.uses; done = new.done }

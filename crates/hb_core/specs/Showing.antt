@@ -13,6 +13,7 @@ use Rattle.hb_store.specs.Keeps.{StoreKeeps}
 use Rattle.hb_pool.specs.Frames.{Use}
 use Rattle.hb_store.specs.States.{StoreState}
 use Rattle.hb_store.specs.declared.stops.StopWhy.{StopWhy}
+use Rattle.hb_core.specs.declared.counts.TidyCounts.{TidyCounts}
 use Rattle.hb_core.specs.Keeps.{HasNobodyElse}
 use Rattle.hb_core.specs.KeptSequence.{HasAnswer}
 use Rattle.hb_core.specs.Machines.{Files, Machine}
@@ -36,8 +37,9 @@ pub record RunningCore : Type 0 where
   pub store : StoreState
   -- of the pages in memory the order of use, with their pins and marks
   pub uses : List Use
-  -- how many steps were taken
+  -- how many steps were taken, and how many operations of a kind they did
   pub taken : ℕ
+  pub done : TidyCounts
 
 -- the number of the line that an actor has in hand, or for whose place it waits
 abbrev pub number_in_hand : Activity → Option ℕ

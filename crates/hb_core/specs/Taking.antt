@@ -21,6 +21,7 @@ use Rattle.hb_store.specs.States.{StoreState}
 use Rattle.hb_core.specs.declared.outcomes.Outcome.{Outcome}
 use Rattle.hb_core.specs.declared.outcomes.Outcome.TheVariants as outcomes
 use Rattle.hb_boxlock.specs.Locking.{Excludes}
+use Rattle.hb_core.specs.Counts.{no_counts}
 use Rattle.hb_core.specs.Moving.{DoesDeed, with_standing}
 use Rattle.hb_core.specs.Performing.{Relatches}
 use Rattle.hb_core.specs.Showing.{RunningCore}
@@ -108,6 +109,7 @@ begun_core lines steps store uses = record {
   store = store;
   uses = uses;
   taken = 0;
+  done = no_counts;
 }
 
 -- A core was made that holds this over this disk, or the store comes back.

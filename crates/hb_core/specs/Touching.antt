@@ -16,6 +16,7 @@ use Rattle.hb_core.specs.declared.halts.Halt.{Halt}
 use Rattle.hb_core.specs.declared.halts.Halt.TheVariants.{GivesUp, Stops}
 use Rattle.hb_core.specs.declared.outcomes.Outcome.{Outcome}
 use Rattle.hb_core.specs.declared.outcomes.Outcome.TheVariants as outcomes
+use Rattle.hb_core.specs.Counting.{CountsNoOp}
 use Rattle.hb_core.specs.Showing.{RunningCore}
 
 -- the step ended since a page couldn't be read
@@ -67,7 +68,8 @@ pub record BeginsNextTurn (d : DiskModel) (old : RunningCore) (outcome : Outcome
 abbrev pub Touches : DiskModel → RunningCore → Outcome → DiskModel → RunningCore → Type 0
 Touches d old outcome e new = ReadsAtMost d old outcome e ⊎ Forces d old outcome e new ⊎ WritesPage d old outcome e new ⊎ BeginsNextTurn d old outcome e new
 
--- A part of a step: what it makes of each machine that the core shows, and what it does to the disk.
+-- A part of a step that does no operation: what it makes of each machine that the core shows, and what it does to the disk and the counts.
 pub record StepsSo (so : Machine → Type 0) (d : DiskModel) (old : RunningCore) (outcome : Outcome) (e : DiskModel) (new : RunningCore) : Type 0 where
   pub steps : (m : Machine) → MayStep d old m → so m
   pub touches : Touches d old outcome e new
+  pub counts : CountsNoOp old new

@@ -5,6 +5,7 @@ ghost use Rattle.hb_store.specs.declared.stops.StopWhy.TheVariants.{Damaged};
 ghost use Rattle.hb_store.specs.declared.stops.Why.{Why};
 ghost use Rattle.hb_core.specs.declared.halts.Halt.TheVariants.{Stops};
 ghost use Rattle.hb_core.specs.Looking.{FailsTest, PassesTest};
+ghost use Rattle.hb_core.specs.Counting.{OnlyBrings};
 ghost use Rattle.hb_core.specs.Machines.{Machine, live_here};
 ghost use Rattle.hb_core.specs.Moving.{StandsAs, placed, with_standing};
 ghost use Rattle.hb_disk.specs.Calls.{ReadsOnly};
@@ -29,6 +30,7 @@ impl<D: Device> Core<D> {
         ensures halts { IfErr result (λ halt. (m : Machine) → MayStep (D.model (core_disk self.old)) (core_seen self.old) m → MayWork m actor →
             Halts m actor halt (D.model (core_disk self.new)) (core_seen self.new)) }
         ensures intact { (core_seen self.new).activities ≡ (core_seen self.old).activities }
+        ensures brings { OnlyBrings (core_seen self.old) (core_seen self.new) }
         ensures reads { ReadsOnly (IsErrAnd result IsReadHalt) (D.model (core_disk self.old)) (D.model (core_disk self.new)) }
     {
         let Some(wanted) = wanted else {
@@ -79,6 +81,7 @@ impl<D: Device> Core<D> {
         ensures halts { IfErr result (λ halt. (m : Machine) → HasCome m actor (D.model (core_disk self.old)) (core_seen self.old) →
             HaltsPinned m actor halt (D.model (core_disk self.new)) (core_seen self.new)) }
         ensures intact { (core_seen self.new).activities ≡ (core_seen self.old).activities }
+        ensures brings { OnlyBrings (core_seen self.old) (core_seen self.new) }
         ensures reads { ReadsOnly (IsErrAnd result IsReadHalt) (D.model (core_disk self.old)) (D.model (core_disk self.new)) }
     {
         match self.needs_number(actor, wanted) {

@@ -51,7 +51,8 @@ pub(crate) fn copy_of(stop: &StopWhy) -> StopWhy
     }
 }
 
-fn copy_of_why(why: &Why) -> Why
+/// The same reason once more.
+pub(crate) fn copy_of_why(why: &Why) -> Why
     ensures { result ≡ why.now }
 {
     match why {

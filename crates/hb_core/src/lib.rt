@@ -16,8 +16,12 @@
 
 pub mod asked_laws;
 mod asking;
+mod between;
+pub mod between_laws;
 mod bringing;
 pub mod cause_laws;
+mod copies;
+mod counts;
 mod deciding;
 mod endings;
 pub mod examples;
@@ -42,6 +46,8 @@ pub mod waiting_laws;
 mod working;
 pub mod written_chains;
 
+pub use copies::CopyStop;
+pub use counts::TidyCounts;
 pub use endings::{End, Ran};
 pub use hb_activity::DropWhy;
 pub use outcomes::Outcome;

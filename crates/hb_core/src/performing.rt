@@ -15,15 +15,17 @@ ghost use Rattle.hb_store.specs.States.{StoreState};
 ghost use Rattle.hb_core.specs.declared.halts.Halt.TheVariants as halts;
 ghost use Rattle.hb_activity.specs.declared.dropping.DropWhy.TheVariants as drops;
 ghost use Rattle.hb_core.specs.CoreSeen.{core_seen, core_disk, Alters, ChangesBy};
+ghost use Rattle.hb_core.specs.Counts.{counted_by};
 ghost use Rattle.hb_core.specs.GivingUp.{gives_up, reply_for};
 ghost use Rattle.hb_core.specs.KeptFits.{class_for};
 ghost use Rattle.hb_core.specs.Machines.{live_here};
-ghost use Rattle.hb_core.specs.Moving.{AreApart, DoesDeed, KeepsFilesBy, KeepsStaying, MayCommit, MayHave, MayStand, Queues, StandsFree, StandsNow, StandsAs, joins_order, number_of, placed, placed_at, pushed, said, with_jobs, with_latches, with_order, with_order_of_use, with_store};
+ghost use Rattle.hb_core.specs.Moving.{AreApart, DoesDeed, KeepsFilesBy, KeepsStaying, MayCommit, MayHave, MayStand, Queues, StandsFree, StandsNow, StandsAs, joins_order, number_of, placed, placed_at, pushed, said, with_counts, with_jobs, with_latches, with_order, with_order_of_use, with_store};
 ghost use Rattle.hb_core.specs.Performing.{MayDo, Relatches, latches_held, mode_among};
 ghost use Rattle.hb_core.specs.Pinning.{CanMovePins, CanPin, CanUnpin};
 ghost use Rattle.hb_core.specs.Using.{pages_of, pin_each, unpin_each, use_done};
 ghost use Rattle.hb_core.specs.Working.{IsWorking};
 
+use crate::counts::TidyCounts;
 use crate::halts::Halt;
 use crate::outcomes::Outcome;
 use crate::reading::idle;
@@ -69,6 +71,7 @@ impl<D: Device> Core<D> {
             fate,
         } = next;
         let place = self.order.len() as u32;
+        let done = self.counts_with(actor, &op);
         let Ok(()) = self.commit(op, place) else {
             return Err(Halt::GivesUp(DropWhy::NoMemory));
         };
@@ -77,7 +80,25 @@ impl<D: Device> Core<D> {
         let joins = joins(line, &then, &fate);
         self.stand_with(actor, at_place(then, place), pins);
         self.join(joins);
+        self.count(done);
         Ok(outcome_of(line, fate))
+    }
+
+    /// The counts once the actor has done the operation, where there is one.
+    fn counts_with(&self, actor: Actor, op: &Option<Op>) -> TidyCounts
+        ensures { result ≡ counted_by actor op.now (core_seen self.now).done }
+    {
+        match op {
+            Some(op) => self.done.with_op(actor, op),
+            None => self.done,
+        }
+    }
+
+    /// So many operations were done.
+    fn count(&mut self, done: TidyCounts)
+        ensures { ChangesBy (with_counts done) self.old self.new }
+    {
+        self.done = done;
     }
 
     /// Does the operation in memory, where there is one. For want of memory nothing changes.

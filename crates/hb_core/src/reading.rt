@@ -19,12 +19,14 @@ ghost use Rattle.hb_core.specs.SteppingLaws.{IsBegun};
 ghost use Rattle.hb_core.specs.Taking.{IsMade, all_idle, begun_core, jobs_in_work, worker_for};
 ghost use Rattle.hb_core.specs.Showing.{ShowsFiles, ShowsMachine, number_in_hand};
 
+use crate::counts::TidyCounts;
 use crate::halts::copy_of;
 use crate::state::{ACTORS, CONSOLIDATOR, Core, POSTER, SESSIONS};
 use arrayvec::ArrayVec;
 use hb_activity::{Activity, JOBS, JobKind, Jobs};
 use hb_disk::{Device, Disk};
 use hb_latch::Latches;
+use hb_layout::Meta;
 use hb_set::{Line, Script};
 use hb_space::{Actor, NoMemory};
 use hb_store::{StopWhy, Store};
@@ -73,6 +75,7 @@ impl<D: Device> Core<D> {
                 order,
                 stop: None,
                 taken: 0,
+                done: TidyCounts::none(),
             }),
             Err(refused) => Err((refused, store)),
         }
@@ -157,6 +160,20 @@ impl<D: Device> Core<D> {
         ensures { result ≡ (core_seen self.now).taken }
     {
         self.taken
+    }
+
+    /// How many operations of each of these kinds were done. Each count stands still at its last value.
+    pub fn done(&self) -> TidyCounts
+        ensures { result ≡ (core_seen self.now).done }
+    {
+        self.done
+    }
+
+    /// What the file says of itself.
+    pub fn meta(&self) -> &Meta
+        ensures { result.now ≡ (core_seen self.now).store.meta }
+    {
+        self.store.meta()
     }
 
     /// The store, and the order.

@@ -1,6 +1,7 @@
 //! The core: a store, and where its actors stand.
 ghost use Rattle.std.specs.Prelude.{◌≡◌, ◌<◌, ◌≤◌, ◌^◌, length, vec_capacity};
 
+use crate::counts::TidyCounts;
 use arrayvec::ArrayVec;
 use hb_activity::{Activity, Jobs};
 use hb_disk::Device;
@@ -45,6 +46,8 @@ pub struct Core<D: Device> {
     pub(crate) stop: Option<StopWhy>,
     /// How many steps were taken.
     pub(crate) taken: u64,
+    /// How many operations of a kind they did.
+    pub(crate) done: TidyCounts,
     ghost actors: { length activities.items ≡ 19 },
     ghost few: { length script.lines < 2 ^ 32 },
     ghost room: { length script.lines ≤ vec_capacity order },

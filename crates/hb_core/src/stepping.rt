@@ -5,6 +5,7 @@ ghost use Rattle.hb_space.specs.Actors.{IsActor};
 ghost use Rattle.hb_activity.specs.declared.activities.Activity.TheVariants as at;
 ghost use Rattle.hb_core.specs.declared.outcomes.Outcome.TheVariants as outcomes;
 ghost use Rattle.hb_core.specs.CoreSeen.{core_seen, core_disk, Alters, ChangesBy};
+ghost use Rattle.hb_core.specs.Counting.{CountsStep};
 ghost use Rattle.hb_core.specs.Machines.{Machine};
 ghost use Rattle.hb_point.specs.SessionRows.{WantsBoxes, boxes_ahead};
 ghost use Rattle.hb_poster.specs.PosterRows.{IsPostingOf};
@@ -42,6 +43,8 @@ impl<D: Device> Core<D> {
         ensures steps { (m : Machine) → MayStep (D.model (core_disk self.old)) (core_seen self.old) m →
             (new : Machine) × StepsTo m actor result new × ShowsMachine (D.model (core_disk self.new)) (core_seen self.new) new }
         ensures touches { Touches (D.model (core_disk self.old)) (core_seen self.old) result (D.model (core_disk self.new)) (core_seen self.new) }
+        // it is counted, and so is the operation that it did
+        ensures counts { CountsStep actor (core_seen self.old) (core_seen self.new) }
     {
         self.taken = self.taken.saturating_add(1);
         if let Some(why) = &self.stop {

@@ -9,6 +9,7 @@ ghost use Rattle.hb_store.specs.Calls.{HasPlaces, IsReady};
 ghost use Rattle.hb_store.specs.States.{in_memory};
 ghost use Rattle.hb_core.specs.Asking.{looked_live};
 ghost use Rattle.hb_core.specs.CoreSeen.{core_seen, core_disk, ChangesBy};
+ghost use Rattle.hb_core.specs.Counting.{CountsPart};
 ghost use Rattle.hb_core.specs.Machines.{Machine};
 ghost use Rattle.hb_core.specs.Moving.{StandsAs, number_of, with_order_of_use};
 ghost use Rattle.hb_core.specs.Performing.{latches_held};
@@ -39,6 +40,7 @@ impl<D: Device> Core<D> {
         ensures works { (m : Machine) → MayStep (D.model (core_disk self.old)) (core_seen self.old) m → m.stop ≡ None → IsWorking (m.activity actor) →
             (new : Machine) × Works m actor result new × ShowsMachine (D.model (core_disk self.new)) (core_seen self.new) new }
         ensures touches { Touches (D.model (core_disk self.old)) (core_seen self.old) result (D.model (core_disk self.new)) (core_seen self.new) }
+        ensures counts { CountsPart actor (core_seen self.old) (core_seen self.new) }
     {
         let wanted = self.wanted(actor);
         if let Some(by) = self.in_the_way(actor, wanted) {
@@ -116,6 +118,7 @@ impl<D: Device> Core<D> {
         // where the core is to be stopped, everybody stands as before
         ensures reads { ReadsOnly (IsErrAnd result IsReadHalt) (D.model (core_disk self.old)) (D.model (core_disk self.new)) }
         ensures intact { IfErr result (λ halt. IsStop halt → (core_seen self.new).activities ≡ (core_seen self.old).activities) }
+        ensures counts { CountsPart actor (core_seen self.old) (core_seen self.new) }
     {
         self.bring(actor, wanted)?;
         match self.row_there(actor, wanted, line, pins) {
@@ -144,6 +147,7 @@ impl<D: Device> Core<D> {
             HaltsPinned m actor halt (D.model (core_disk self.new)) (core_seen self.new)) }
         ensures reads { ReadsOnly (IsErrAnd result IsReadHalt) (D.model (core_disk self.old)) (D.model (core_disk self.new)) }
         ensures intact { IfErr result (λ halt. IsStop halt → (core_seen self.new).activities ≡ (core_seen self.old).activities) }
+        ensures counts { CountsPart actor (core_seen self.old) (core_seen self.new) }
     {
         let free = self.number(actor, wanted)?;
         match self.decide(actor, wanted, free) {

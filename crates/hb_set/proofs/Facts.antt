@@ -2,3 +2,4 @@ pub mod MachineLaws
 pub mod OrderLaws
 pub mod TextOrderLaws
 pub mod ScriptLaws
+pub mod SizeLaws

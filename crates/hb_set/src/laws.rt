@@ -7,6 +7,7 @@ ghost use Rattle.hb_set.specs.declared.commands.Command.{Command};
 ghost use Rattle.hb_set.specs.declared.commands.Reply.{Reply};
 ghost use Rattle.hb_set.specs.Machine.{Answers, HasAttributes, RecordSet, attributes};
 ghost use Rattle.hb_set.specs.Laws.{OneAnswer, PartsAreLegal, ResultIsByParts, RepliesAreByParts, RepliesGrow, ResultGrows, TextKeepsSessions, EntriesGrow, RunsGrow, RunsReply, RunsAreLegal, RunsAnswerEach};
+ghost use Rattle.hb_set.specs.Sizes.{SizesFollowReplies};
 
 /// One machine, one answer: the lines determine the replies, and the replies the result.
 pub fn one_machine_one_answer()
@@ -38,6 +39,11 @@ pub fn runs_are_legal_orders()
     ensures replies { RunsReply }
     ensures legal { RunsAreLegal }
     ensures each { RunsAnswerEach }
+{}
+
+/// How many records an order leaves: one more for each insert that was done, one less for each delete.
+pub fn sizes_follow_replies()
+    ensures { SizesFollowReplies }
 {}
 
 /// The records of a set keep their number of attributes.

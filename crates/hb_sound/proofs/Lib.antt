@@ -72,3 +72,4 @@ mod CoverBridge
 mod LateRules
 mod WholeAudit
 mod NamesOnce
+mod RecordsOnce

@@ -58,7 +58,7 @@ module _ (trees : TreeLaws) (space : SpaceLaws) where
       others_lack trees s sound.well_made sound.siblings sound.covered (whole_is_area s p h) p id (λ other has. no_point_is_held_twice s 0 p other id sound h has here)
 
   -- a page whose leaf at the point has records is the one that is responsible, and no other page has a record of it
-  is_responsible : (s : FileState) (p : List ℕ) (id : ℕ) (page : LivePage) (records : List Record) (b : Area) → IsSound s → IsPointOf s p → live_page s id ≡ Some page → leaf_at page p ≡ Some (placed (Records records) b) → IsResponsible s p id
+  pub is_responsible : (s : FileState) (p : List ℕ) (id : ℕ) (page : LivePage) (records : List Record) (b : Area) → IsSound s → IsPointOf s p → live_page s id ≡ Some page → leaf_at page p ≡ Some (placed (Records records) b) → IsResponsible s p id
   is_responsible s p id page records b sound h live e = responsible_for trees s sound.well_made sound.siblings sound.children sound.covered (whole_is_area s p h) p id page records b live e
 
   on_level_0 : (s : FileState) (p : List ℕ) (id : ℕ) (page : LivePage) → live_page s id ≡ Some page → IsResponsible s p id → page.level ≡ 0

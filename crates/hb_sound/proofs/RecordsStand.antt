@@ -91,12 +91,17 @@ on_level level rs r has = elim (cases_eq level 0) [
   | inr above ↦ let none : Contains [] r = subst (λ (b : Bool). Contains (cond b rs []) r) (ne_eqb level 0 above) has in absurd (omega (arith, none.1))
 ]
 
-of_page : (s : FileState) (n : ℕ) (q : Page) (r : Record) → slice_get s.pages n ≡ Some q → Contains (page_records q) r → HasRecord s r
+pub of_page : (s : FileState) (n : ℕ) (q : Page) (r : Record) → slice_get s.pages n ≡ Some q → Contains (page_records q) r → HasRecord s r
 of_page s n (Free next) r e (k, lt, is) = absurd (omega arith)
 of_page s n (Live page) r e has =
     let on = on_level page.level (flat_map records_of (leaves page.frag)) r has in
     let w = in_leaf page.frag page.area r on.1 in
     record { id = suc n; page = page; live = live_there s n page e; level = on.0; leaf = w.0; there = w.1; among = w.2 }
+
+pub of_page_id : (s : FileState) (n : ℕ) (q : Page) (r : Record) (e : slice_get s.pages n ≡ Some q) (has : Contains (page_records q) r) → (of_page s n q r e has).id ≡ suc n
+unfolding of_page
+of_page_id s n (Free next) r e (k, lt, is) = absurd (omega arith)
+of_page_id s n (Live page) r e has = refl
 
 -- what the contents have under a point
 pub record IsBodyOf (s : FileState) (q body : List ℕ) : Type 0 where

@@ -9,7 +9,7 @@ use Rattle.hb_frag.specs.declared.pages.LivePage.{LivePage}
 use Rattle.hb_frag.specs.Leaves.{IsWellCut, Placed, first_at, leaves_of, DirectlyCovers}
 use Rattle.hb_frag.specs.Trees.{Tree}
 use Rattle.hb_ops.specs.declared.operations.Op.TheVariants.{Put, Del}
-use Rattle.hb_ops.specs.Files.{FileState, live_page, contents_of}
+use Rattle.hb_ops.specs.Files.{FileState, live_page, contents_of, file_records}
 use Rattle.hb_ops.specs.Operations.{IsAllowed, effect_of}
 use Rattle.hb_ops.specs.LawsOfContents.{OthersLack}
 use Rattle.hb_ops.specs.Sound.{IsSound}
@@ -85,3 +85,7 @@ abbrev pub NoOtherParent : Type 0
 NoOtherParent = (s : FileState) (id parent other : ℕ) (page above holder : LivePage) (area : Area) → IsSound s → 1 ≤ s.meta.k → s.meta.k ≤ KMAX →
     live_page s id ≡ Some page → live_page s parent ≡ Some above → page.level + 1 ≡ above.level → DirectlyCovers above page.area →
     live_page s other ≡ Some holder → HasChild holder id area → other ≡ parent
+
+-- No two records of a sound file have one point: its contents have as many as its pages.
+abbrev pub RecordsStandOnce : Type 0
+RecordsStandOnce = (s : FileState) → IsSound s → 1 ≤ s.meta.k → s.meta.k ≤ KMAX → finite.len (contents_of s) ≡ length (file_records s)

@@ -1,7 +1,7 @@
 //! What follows of a sound file, whatever was done to it. Each law is the contract of a function
 //! that does nothing: a caller learns it by the call.
 
-ghost use Rattle.hb_sound.specs.Laws.{DelsTakeOne, EachPageHasWalks, EachPointIsHeld, LackIsContents, NoPointIsHeldTwice, PagesHaveBoxes, PutsAddOne, RecordsAreAtHome, RootHasWalks, SpaceLaws, StandingIsContents, StepsLeadFurther, TreeLaws, WalksAreOne, NoOtherParent, FullyPostedWalksAreShort};
+ghost use Rattle.hb_sound.specs.Laws.{DelsTakeOne, EachPageHasWalks, EachPointIsHeld, LackIsContents, NoPointIsHeldTwice, PagesHaveBoxes, PutsAddOne, RecordsAreAtHome, RecordsStandOnce, RootHasWalks, SpaceLaws, StandingIsContents, StepsLeadFurther, TreeLaws, WalksAreOne, NoOtherParent, FullyPostedWalksAreShort};
 ghost use Rattle.hb_sound.specs.LawsOfOperations.{GrowthChangesOne, GrowthKeepsContents, GrowthKeepsDirect, GrowthKeepsSound, OperationsKeepContents, OperationsKeepLayout, OperationsKeepSound, SplitsChangeTwo, SplitsKeepContents, SplitsKeepSound, SplitsPartDirect};
 ghost use Rattle.hb_sound.specs.LawsOfMerges.{FreePagesAreNotNamed, MergesChangeThree, MergesJoinDirect, MergesKeepContents, MergesKeepSound, MergesRename};
 ghost use Rattle.hb_sound.specs.LawsOfPostings.{PostingsChangeParent, PostingsKeepContents, PostingsKeepDirect, PostingsKeepSound, PostingsName};
@@ -59,6 +59,14 @@ pub fn records_are_at_home()
     ensures { RecordsAreAtHome }
 {
     trees_and_space();
+}
+
+/// No two records of a sound file have one point, so that its contents have as many as all its pages.
+pub fn records_stand_once()
+    ensures { RecordsStandOnce }
+{
+    trees_and_space();
+    held_is_a_point();
 }
 
 /// What a page has at a point is what the contents of the file have there: where its leaf at the point

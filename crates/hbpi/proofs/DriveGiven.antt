@@ -1,8 +1,9 @@
--- What `drive` and `run` answer where nothing failed.
-use Rattle.std.proofs.Common.{◌≡◌, ◌⊎◌, inl, inr, ℕ, Bool, List, Option, Some, Result, Ok, Err, refl, sym, ap, subst, ◌∙◌}
+-- What `drive`, `run` and `work` answer where nothing failed.
+use Rattle.std.proofs.Common.{◌≡◌, ◌⊎◌, inl, inr, ℕ, Bool, List, [], Option, Some, Result, Ok, Err, refl, sym, ap, subst, ◌∙◌}
 use Rattle.hb_core.specs.DamageLaws.{IsUndamaged}
 use Rattle.hb_core.specs.KeepingLaws.{BegunKeepsAll}
 use Rattle.hb_core.specs.Machines.{Machine}
+use Rattle.hb_gen.specs.Lines.{generated}
 use Rattle.hb_lemmas.proofs.Options.{at_value}
 use Rattle.hb_layout.specs.declared.meta.Meta.{Meta}
 use Rattle.hb_ops.specs.Files.{FileState}
@@ -19,9 +20,11 @@ use Rattle.hbpi.proofs.DriveNames.{opened_k, reads_left}
 use Rattle.hbpi.specs.Codes.{status_of}
 use Rattle.hbpi.specs.Driven.{Drove, IsShutOut, Manner, RanEnds, StepsEnd}
 use Rattle.hbpi.specs.Outcome.{IsWholeText}
-use Rattle.hbpi.specs.Promises.{GivesFor, IsCalm, IsDriven}
-use Rattle.hbpi.specs.Schedules.{IsScheduled, NotScheduled}
+use Rattle.hbpi.specs.Promises.{GivesFor, IsCalm, IsDriven, TellsLeft}
+use Rattle.hbpi.specs.Schedules.{CameFrom, CameNot, IsScheduled, NotScheduled, read_from}
 use Rattle.hbpi.specs.SeenRuns.{Run, Seen}
+use Rattle.hbpi.specs.declared.origins.Origin.{Origin}
+use Rattle.hbpi.specs.declared.origins.Origin.TheVariants.{Text, Drawn}
 use Rattle.hbpi.specs.declared.statuses.Status.{Status}
 use Rattle.hbpi.specs.declared.statuses.Status.TheVariants.{Done, Usage, BadText, SourceFault, SinkFault, DiskFault, Damaged, NoMemory, BadLayout, Small, NotBuilt}
 
@@ -49,28 +52,42 @@ no_damage after page why fine is = elim fine [
   | inr fault ↦ cc (fault, is)
 ]
 
-module _ (by : Manner) (s : FileState) (left : List ℕ) (run : Run) (calm : IsCalm s left run) where
-  shut_gives : (status : Status) (fault : OpenFault) → GoodIsNotRefused → status ≡ status_of fault → IsShutOut run fault → GivesFor run.seen status (text_read by.step_lines s.meta.k left)
+-- what is answered to a text of which no script was read, where the source didn't fail
+text_gives : (step_lines : Bool) (k n : ℕ) (left : List ℕ) (seen : Seen) (status : Status) → n ≡ k → seen.source_before.left ≡ Some left → ¬ (Rose seen.source_before.faults seen.source_after.faults) → NotScheduled step_lines n seen.source_before seen.source_after status → GivesFor seen status (text_read step_lines k left)
+text_gives step_lines k n left seen (BadText bad) same told source why =
+    let says = reads_left step_lines k n left why.0 seen.source_before.left seen.source_after.left same told why.1 ∙ why.2 in
+    subst (λ (r : Result Reading BadLine). GivesFor seen (BadText bad) r) (sym says) (inl refl)
+text_gives step_lines k n left seen SourceFault same told source why = absurd (source why)
+text_gives step_lines k n left seen NoMemory same told source why = no_memory seen NoMemory (text_read step_lines k left) refl
+text_gives step_lines k n left seen Done same told source why = absurd why
+text_gives step_lines k n left seen SinkFault same told source why = absurd why
+text_gives step_lines k n left seen DiskFault same told source why = absurd why
+text_gives step_lines k n left seen Usage same told source why = absurd why
+text_gives step_lines k n left seen (Damaged damage) same told source why = absurd why
+text_gives step_lines k n left seen (Small needed found) same told source why = absurd why
+text_gives step_lines k n left seen (BadLayout field value) same told source why = absurd why
+text_gives step_lines k n left seen NotBuilt same told source why = absurd why
+
+came_gives : (origin : Origin) (k n : ℕ) (left : List ℕ) (seen : Seen) (status : Status) → n ≡ k → TellsLeft origin seen.source_before.left left → ¬ (Rose seen.source_before.faults seen.source_after.faults) → CameNot origin n seen.source_before seen.source_after status → GivesFor seen status (read_from origin k left)
+came_gives (Text step_lines) k n left seen status same told source why = text_gives step_lines k n left seen status same told source why
+came_gives (Drawn state count) k n left seen status same told source why = λ sink. inr why.0
+
+-- a script that came is what comes from there
+abbrev reading_of : List Line → List ℕ → Result Reading BadLine
+reading_of lines steps = Ok (record { lines = lines; steps = steps })
+
+came_reads : (origin : Origin) (k n : ℕ) (left : List ℕ) (seen : Seen) (lines : List Line) (steps : List ℕ) → n ≡ k → TellsLeft origin seen.source_before.left left → CameFrom origin n seen.source_before seen.source_after lines steps → read_from origin k left ≡ reading_of lines steps
+came_reads (Text step_lines) k n left seen lines steps same told came = scheduled_reads step_lines k n left seen lines steps same told came
+came_reads (Drawn state count) k n left seen lines steps same told came =
+    ap (λ (m : ℕ). reading_of (generated state count m) []) (sym same) ∙ ap (λ (ls : List Line). reading_of ls []) (sym came.0) ∙ ap (reading_of lines) (sym came.1)
+
+module _ (by : Manner) (s : FileState) (left : List ℕ) (run : Run) (calm : IsCalm by.origin s left run) where
+  shut_gives : (status : Status) (fault : OpenFault) → GoodIsNotRefused → status ≡ status_of fault → IsShutOut run fault → GivesFor run.seen status (read_from by.origin s.meta.k left)
   shut_gives status fault good is out =
       elim (good fault calm.bytes s calm.opens calm.sound (at_value run.before.told _ calm.bytes calm.told out.why.why)) [
         | inl failed ↦ absurd (calm.disk (out.leaves.faults.cause failed))
-        | inr none ↦ no_memory run.seen status (text_read by.step_lines s.meta.k left) (is ∙ ap status_of none)
+        | inr none ↦ no_memory run.seen status (read_from by.origin s.meta.k left) (is ∙ ap status_of none)
       ]
-
-  away_gives : (k : ℕ) (status : Status) → k ≡ s.meta.k → NotScheduled by.step_lines k run.seen.source_before run.seen.source_after status → GivesFor run.seen status (text_read by.step_lines s.meta.k left)
-  away_gives k (BadText bad) same why =
-      let says = reads_left by.step_lines s.meta.k k left why.0 run.seen.source_before.left run.seen.source_after.left same calm.text why.1 ∙ why.2 in
-      subst (λ (r : Result Reading BadLine). GivesFor run.seen (BadText bad) r) (sym says) (inl refl)
-  away_gives k SourceFault same why = absurd (calm.source why)
-  away_gives k NoMemory same why = no_memory run.seen NoMemory (text_read by.step_lines s.meta.k left) refl
-  away_gives k Done same why = absurd why
-  away_gives k SinkFault same why = absurd why
-  away_gives k DiskFault same why = absurd why
-  away_gives k Usage same why = absurd why
-  away_gives k (Damaged damage) same why = absurd why
-  away_gives k (Small needed found) same why = absurd why
-  away_gives k (BadLayout field value) same why = absurd why
-  away_gives k NotBuilt same why = absurd why
 
   drove_k : (after : Machine) (drove : Drove by run after) → OpensToOne → drove.k ≡ s.meta.k
   drove_k after drove one =
@@ -79,9 +96,9 @@ module _ (by : Manner) (s : FileState) (left : List ℕ) (run : Run) (calm : IsC
       sym (ap (λ (f : FileState). f.meta.k) (sym same) ∙ ap (λ (m : Meta). m.k) here.3.meta ∙ drove.takes.attributes)
 
   -- the steps were taken: the run is done, unless the sink failed
-  ran_done : (status : Status) (after : Machine) → Drove by run after → IsUndamaged after → RanEnds status run.seen.sink_before run.seen.sink_after run.seen.answered after → ¬ (Rose run.seen.sink_before.faults run.seen.sink_after.faults) → (status ≡ Done) ⊎ (status ≡ NoMemory)
+  ran_done : (status : Status) (after : Machine) → Drove by run after → IsUndamaged after → RanEnds by status run after → ¬ (Rose run.seen.sink_before.faults run.seen.sink_after.faults) → (status ≡ Done) ⊎ (status ≡ NoMemory)
   ran_done Done after drove fine ends sink = inl refl
-  ran_done SinkFault after drove fine ends sink = absurd (sink ends.1)
+  ran_done SinkFault after drove fine ends sink = absurd (sink ends.3)
   ran_done DiskFault after drove fine ends sink = elim ends.1 [
     | inl write ↦ absurd (calm.disk (inr (drove.takes.faults.write write (λ is. cc (is)))))
     | inr read ↦ absurd (calm.disk (inl (drove.takes.faults.read read.1)))
@@ -95,17 +112,17 @@ module _ (by : Manner) (s : FileState) (left : List ℕ) (run : Run) (calm : IsC
   ran_done (Small needed found) after drove fine ends sink = absurd ends
   ran_done NotBuilt after drove fine ends sink = absurd ends
 
-  ran_gives : (status : Status) (after : Machine) → OpensToOne → BegunKeepsAll → Drove by run after → RanEnds status run.seen.sink_before run.seen.sink_after run.seen.answered after → GivesFor run.seen status (text_read by.step_lines s.meta.k left)
+  ran_gives : (status : Status) (after : Machine) → OpensToOne → BegunKeepsAll → Drove by run after → RanEnds by status run after → GivesFor run.seen status (read_from by.origin s.meta.k left)
   ran_gives status after one all drove ends =
-      subst (λ (r : Result Reading BadLine). GivesFor run.seen status r) (sym (scheduled_reads by.step_lines s.meta.k drove.k left run.seen drove.lines drove.steps (drove_k after drove one) calm.text drove.scheduled))
+      subst (λ (r : Result Reading BadLine). GivesFor run.seen status r) (sym (came_reads by.origin s.meta.k drove.k left run.seen drove.lines drove.steps (drove_k after drove one) calm.text drove.came))
       (λ sink. ran_done status after drove (undamaged by run after calm.bytes all calm.told drove) ends sink)
 
 -- Where nothing fails, a good text is worked off over a good file, and a bad text is refused.
-pub is_driven : (by : Manner) (run : Run) (status : Status) → OpensToOne → GoodIsNotRefused → BegunKeepsAll → StepsEnd by run status → IsDriven by.step_lines run status
+pub is_driven : (by : Manner) (run : Run) (status : Status) → OpensToOne → GoodIsNotRefused → BegunKeepsAll → StepsEnd by run status → IsDriven by.origin run status
 is_driven by run status one good all ends s left calm = elim ends [
   | inl shut ↦ shut_gives by s left run calm status shut.0 good shut.1 shut.2
   | inr opened ↦ elim opened [
-    | inl away ↦ away_gives by s left run calm away.k status (opened_k away.k run.before run.after calm.bytes s away.opened calm.told calm.opens) away.why
+    | inl away ↦ came_gives by.origin s.meta.k away.k left run.seen status (opened_k away.k run.before run.after calm.bytes s away.opened calm.told calm.opens) calm.text calm.source away.why
     | inr ran ↦ ran_gives by s left run calm status ran.0 one all ran.1 ran.2
   ]
 ]

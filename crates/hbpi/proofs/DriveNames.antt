@@ -1,5 +1,5 @@
 -- The bad line that a run over a file names.
-use Rattle.std.proofs.Common.{◌≡◌, inl, inr, ℕ, Bool, List, Option, Some, sym, ap, subst, ◌∙◌}
+use Rattle.std.proofs.Common.{◌≡◌, inl, inr, ℕ, Bool, List, Option, Some, Err, sym, ap, subst, ◌∙◌}
 use Rattle.hb_lemmas.proofs.Options.{at_value}
 use Rattle.hb_disk.specs.Model.{DiskModel}
 use Rattle.hb_layout.specs.declared.meta.Meta.{Meta}
@@ -10,11 +10,13 @@ use Rattle.hb_text.specs.Grammar.{text_read}
 use Rattle.hb_text.specs.declared.rules.BadLine.{BadLine}
 use Rattle.hbpi.proofs.EndLaws.{front_reads, of_closed}
 use Rattle.hbpi.specs.Codes.{status_of}
-use Rattle.hbpi.specs.Driven.{IsOpened, Manner, RanEnds, StepsEnd}
+use Rattle.hbpi.specs.Driven.{IsOpened, IsTurnedAway, Manner, RanEnds, StepsEnd}
 use Rattle.hbpi.specs.Outcome.{IsTextOf}
 use Rattle.hbpi.specs.Promises.{NamesScheduleLine}
-use Rattle.hbpi.specs.Schedules.{NotScheduled}
+use Rattle.hbpi.specs.Schedules.{NotScheduled, read_from}
 use Rattle.hbpi.specs.SeenRuns.{Run}
+use Rattle.hbpi.specs.declared.origins.Origin.{Origin}
+use Rattle.hbpi.specs.declared.origins.Origin.TheVariants.{Text, Drawn}
 use Rattle.hbpi.specs.declared.statuses.Status.{Status}
 use Rattle.hbpi.specs.declared.statuses.Status.TheVariants.{BadText}
 
@@ -33,13 +35,17 @@ reads_left step_lines k n left text before after same told read =
     let here = subst (λ (o : Option (List ℕ)). IsTextOf o after text) told read in
     ap (λ (m : ℕ). text_read step_lines m left) (sym same) ∙ sym (front_reads step_lines n left) ∙ ap (text_read step_lines n) (sym here.0)
 
-pub names_line : (by : Manner) (run : Run) (status : Status) → StepsEnd by run status → NamesScheduleLine by.step_lines run status
+away_names : (origin : Origin) (run : Run) (status : Status) (b : List ℕ) (s : FileState) (left : List ℕ) (bad : BadLine) → IsTurnedAway origin run status → run.before.told ≡ Some b → OpensTo b s → run.seen.source_before.left ≡ Some left → status ≡ BadText bad → read_from origin s.meta.k left ≡ Err bad
+away_names (Text step_lines) run status b s left bad away told opens text is =
+    let why = subst (λ (x : Status). NotScheduled step_lines away.k run.seen.source_before run.seen.source_after x) is away.why in
+    reads_left step_lines s.meta.k away.k left why.0 run.seen.source_before.left run.seen.source_after.left (opened_k away.k run.before run.after b s away.opened told opens) text why.1 ∙ why.2
+away_names (Drawn state count) run status b s left bad away told opens text is = let none = away.why.0 in cc (none, is)
+
+pub names_line : (by : Manner) (run : Run) (status : Status) → StepsEnd by run status → NamesScheduleLine by.origin run status
 names_line by run status ends b s left bad told opens text is = elim ends [
   | inl shut ↦ absurd (no_line shut.0 bad (sym shut.1 ∙ is))
   | inr opened ↦ elim opened [
-    | inl away ↦
-        let why = subst (λ (x : Status). NotScheduled by.step_lines away.k run.seen.source_before run.seen.source_after x) is away.why in
-        reads_left by.step_lines s.meta.k away.k left why.0 run.seen.source_before.left run.seen.source_after.left (opened_k away.k run.before run.after b s away.opened told opens) text why.1 ∙ why.2
-    | inr ran ↦ absurd (subst (λ (x : Status). RanEnds x run.seen.sink_before run.seen.sink_after run.seen.answered ran.0) is ran.2)
+    | inl away ↦ away_names by.origin run status b s left bad away told opens text is
+    | inr ran ↦ absurd (subst (λ (x : Status). RanEnds by x run ran.0) is ran.2)
   ]
 ]

@@ -7,7 +7,7 @@ use Rattle.hb_text.specs.declared.rules.BadLine.{BadLine}
 use Rattle.hb_text.specs.Grammar.{Reading, text_read}
 use Rattle.hb_text.proofs.Facts.TextLength.{text_is_short}
 use Rattle.hbpi.specs.declared.forms.Form.{Form}
-use Rattle.hbpi.specs.declared.forms.Form.TheVariants.{Check, Create, Drive, Dry, Gen}
+use Rattle.hbpi.specs.declared.forms.Form.TheVariants.{Check, Create, Drive, Dry, Gen, Work}
 use Rattle.hbpi.specs.declared.forms.Form.TheVariants as forms
 use Rattle.hbpi.specs.declared.statuses.Status.{Status}
 use Rattle.hbpi.specs.declared.statuses.Status.TheVariants.{Done, Usage, BadText, SourceFault, SinkFault, DiskFault, Damaged, NoMemory, BadLayout, Small, NotBuilt}
@@ -25,10 +25,12 @@ use Rattle.hbpi.specs.Runs.{RunEnds}
 use Rattle.hbpi.specs.Ends.{DryEnds, GenEnds, IsAnswered, IsComplete, RefusesBadText, NamesBadLine, UnbuiltEnds, UsageEnds}
 use Rattle.hbpi.specs.SeenRuns.{Run, Seen}
 use Rattle.hbpi.specs.Checked.{CheckEnds, sound_text}
-use Rattle.hbpi.specs.Driven.{Manner, RanEnds, StepsEnd, by_schedule, by_threads}
+use Rattle.hbpi.specs.Driven.{Manner, RanEnds, StepsEnd, by_counting, by_schedule, by_threads}
 use Rattle.hbpi.specs.Saying.{IsSaid}
 use Rattle.hbpi.specs.Forms.{IsUnbuilt}
-use Rattle.hbpi.specs.Schedules.{NotScheduled}
+use Rattle.hbpi.specs.Schedules.{CameNot, NotScheduled}
+use Rattle.hbpi.specs.declared.origins.Origin.{Origin}
+use Rattle.hbpi.specs.declared.origins.Origin.TheVariants.{Text, Drawn}
 use Rattle.hb_outside.specs.Calls.{SourceModel}
 use Rattle.hbpi.specs.MadeEnds.{CreateEnds, IsMadeWhole}
 
@@ -181,6 +183,19 @@ source_kept step_lines (Damaged damage) k before after why other = absurd why
 source_kept step_lines (Small needed found) k before after why other = absurd why
 source_kept step_lines (BadLayout field value) k before after why other = absurd why
 
+came_kept : (origin : Origin) (status : Status) (k : ℕ) (before after : SourceModel) → CameNot origin k before after status → ¬ (status ≡ SourceFault) → after.faults ≡ before.faults
+came_kept (Text step_lines) status k before after why other = source_kept step_lines status k before after why other
+came_kept (Drawn state count) status k before after why other = ap (λ (s : SourceModel). s.faults) why.1
+
+-- no script came neither for the words nor where the run is done
+pub no_usage : (origin : Origin) (k : ℕ) (before after : SourceModel) → CameNot origin k before after Usage → ⊥
+no_usage (Text step_lines) k before after why = why
+no_usage (Drawn state count) k before after why = let is = why.0 in cc (is)
+
+pub no_done : (origin : Origin) (k : ℕ) (before after : SourceModel) → CameNot origin k before after Done → ⊥
+no_done (Text step_lines) k before after why = why
+no_done (Drawn state count) k before after why = let is = why.0 in cc (is)
+
 dry_source : (k : ℕ) (seen : Seen) (status : Status) → DryEnds k seen status → ¬ (status ≡ SourceFault) → seen.source_after.faults ≡ seen.source_before.faults
 dry_source k seen Done ends other = ends.1.faults
 dry_source k seen SinkFault ends other = ends.1.faults
@@ -211,7 +226,7 @@ steps_source : (by : Manner) (run : Run) (status : Status) → StepsEnd by run s
 steps_source by run status ends other = elim ends [
   | inl shut ↦ shut.2.unread.faults
   | inr opened ↦ elim opened [
-    | inl away ↦ source_kept by.step_lines status away.k run.seen.source_before run.seen.source_after away.why other
+    | inl away ↦ came_kept by.origin status away.k run.seen.source_before run.seen.source_after away.why other
     | inr ran ↦ ran.1.source
   ]
 ]
@@ -237,6 +252,7 @@ ends_source (Some (Dry k)) run status ends other = dry_source k run.seen status 
 ends_source (Some (Create k pages log dcap icap)) run status ends other = create_source (first_fault k pages log dcap icap) (size_of pages log) run status ends
 ends_source (Some forms.Run) run status ends other = steps_source by_threads run status ends other
 ends_source (Some Drive) run status ends other = steps_source by_schedule run status ends other
+ends_source (Some (Work x n)) run status ends other = steps_source (by_counting x n) run status ends other
 ends_source (Some Check) run status ends other = check_source run status ends
 ends_source (Some (Gen x n k)) run status ends other = gen_source (generated_text x n k) run.seen status ends
 ends_source (Some form) run status ends other = unbuilt_source run.seen status ends
@@ -249,8 +265,8 @@ steps_never_usage : (by : Manner) (run : Run) (status : Status) → StepsEnd by 
 steps_never_usage by run status ends is = elim ends [
   | inl shut ↦ never_usage shut.0 (sym shut.1 ∙ is)
   | inr opened ↦ elim opened [
-    | inl away ↦ subst (λ (x : Status). NotScheduled by.step_lines away.k run.seen.source_before run.seen.source_after x) is away.why
-    | inr ran ↦ subst (λ (x : Status). RanEnds x run.seen.sink_before run.seen.sink_after run.seen.answered ran.0) is ran.2
+    | inl away ↦ no_usage by.origin away.k run.seen.source_before run.seen.source_after (subst (λ (x : Status). CameNot by.origin away.k run.seen.source_before run.seen.source_after x) is away.why)
+    | inr ran ↦ subst (λ (x : Status). RanEnds by x run ran.0) is ran.2
   ]
 ]
 
@@ -281,6 +297,7 @@ ends_usage (Some (Create k pages log dcap icap)) run status ends =
     (λ is. absurd (subst (λ (x : Status). CreateEnds (first_fault k pages log dcap icap) (size_of pages log) run x) is ends), λ none. cc (none))
 ends_usage (Some forms.Run) run status ends = (λ is. absurd (steps_never_usage by_threads run status ends is), λ none. cc (none))
 ends_usage (Some Drive) run status ends = (λ is. absurd (steps_never_usage by_schedule run status ends is), λ none. cc (none))
+ends_usage (Some (Work x n)) run status ends = (λ is. absurd (steps_never_usage (by_counting x n) run status ends is), λ none. cc (none))
 ends_usage (Some Check) run status ends = (λ is. absurd (check_never_usage run status ends is), λ none. cc (none))
 ends_usage (Some (Gen x n k)) run status ends = (λ is. absurd (gen_never_usage (generated_text x n k) run.seen status ends is), λ none. cc (none))
 ends_usage (Some form) run status ends = (λ is. cc (is, is_unbuilt run.seen status ends), λ none. cc (none))
@@ -294,4 +311,5 @@ ends_unbuilt (Some forms.Run) run status unbuilt ends = absurd unbuilt
 ends_unbuilt (Some Drive) run status unbuilt ends = absurd unbuilt
 ends_unbuilt (Some Check) run status unbuilt ends = absurd unbuilt
 ends_unbuilt (Some (Gen x n k)) run status unbuilt ends = absurd unbuilt
+ends_unbuilt (Some (Work x n)) run status unbuilt ends = absurd unbuilt
 ends_unbuilt (Some form) run status unbuilt ends = is_unbuilt run.seen status ends

@@ -11,6 +11,8 @@ pub mod ShutOut
 pub mod StepsTaken
 pub mod Reopened
 pub mod CoreEnds
+pub mod TextEnds
+pub mod Tallies
 pub mod Turned
 pub mod WorkedOff
 pub mod DriveLaws
@@ -20,4 +22,7 @@ pub mod FileRefused
 pub mod Promises
 pub mod CheckPromises
 pub mod AllAnswered
+pub mod RecordsLeft
+pub mod CountingEnds
+pub mod WorkPromises
 pub mod Causes

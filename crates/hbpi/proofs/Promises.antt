@@ -1,5 +1,5 @@
--- The promise of `drive` and `run`, from how a run ends.
-use Rattle.std.proofs.Common.{◌≡◌, ◌⊎◌, inl, inr, Bool, ℕ, ◌+◌, ◌≤◌, List, [], ◌∷◌, All, Some, None, refl, sym, ap, subst, ◌∙◌, arith}
+-- The promise of `drive`, `run` and `work`, from how a run ends.
+use Rattle.std.proofs.Common.{◌≡◌, ◌⊎◌, inl, inr, ℕ, ◌+◌, ◌≤◌, List, [], ◌∷◌, All, Some, None, refl, sym, ap, subst, ◌∙◌, arith}
 use Rattle.std.proofs.lemmas.List.Elements.{All-nil, All-weaker}
 use Rattle.std.specs.List.{Contains}
 use Rattle.hb_core.specs.KeepingLaws.{BegunKeepsAll}
@@ -24,14 +24,15 @@ use Rattle.hb_set.specs.declared.scripts.Line.{Line}
 use Rattle.hb_sound.specs.Laws.{NoPointIsHeldTwice, RootHasWalks}
 use Rattle.hb_sound.specs.PointWalks.{IsPointOf}
 use Rattle.hb_store.specs.Opening.{IsEven, OpensTo, OpensToOne}
-use Rattle.hbpi.proofs.EndLaws.{of_closed}
+use Rattle.hbpi.proofs.EndLaws.{no_done, of_closed}
 use Rattle.hbpi.proofs.Reopened.{no_line_yet, pages_of}
 use Rattle.hbpi.specs.Codes.{status_of}
 use Rattle.hbpi.specs.Driven.{Drove, IsOpened, Manner, RanEnds, StepsEnd}
 use Rattle.hbpi.specs.Drives.{LeavesLate, LeavesPrefixes}
-use Rattle.hbpi.specs.Promises.{AreOfText, IsHeld, KeepsPromise, StandsAt}
-use Rattle.hbpi.specs.Schedules.{IsScheduled, NotScheduled}
+use Rattle.hbpi.specs.Promises.{AreOfScript, IsHeld, KeepsPromise, StandsAt}
+use Rattle.hbpi.specs.Schedules.{CameFrom, CameNot}
 use Rattle.hbpi.specs.SeenRuns.{Run}
+use Rattle.hbpi.specs.declared.origins.Origin.{Origin}
 use Rattle.hbpi.specs.declared.statuses.Status.{Status}
 use Rattle.hbpi.specs.declared.statuses.Status.TheVariants.{Done}
 
@@ -47,9 +48,9 @@ pub not_done : (fault : OpenFault) → status_of fault ≡ Done → ⊥
 not_done fault = of_closed fault (λ x. x ≡ Done → ⊥) (λ needed found is. cc (is)) (λ damage is. cc (is)) (λ is. cc (is)) (λ is. cc (is))
 
 -- where no command was done
-nothing_done : (step_lines : Bool) (s : FileState) (run : Run) (status : Status) → IsSound s → ((p : List ℕ) → IsPointOf s p → HasOnePage s p) → run.seen.answered ≡ [] → run.seen.order ≡ []
-    → (IsEven run.before s → Leaves run.before run.after (λ c. OpensTo c s)) → (run.before.clock + 2 ≤ run.after.clock → LeavesLate run.before run.after (λ c. OpensTo c s)) → (status ≡ Done → ⊥) → KeepsPromise step_lines s run status
-nothing_done step_lines s run status sound pages none_answered none_ordered leaves late undone =
+nothing_done : (origin : Origin) (s : FileState) (run : Run) (status : Status) → IsSound s → ((p : List ℕ) → IsPointOf s p → HasOnePage s p) → run.seen.answered ≡ [] → run.seen.order ≡ []
+    → (IsEven run.before s → Leaves run.before run.after (λ c. OpensTo c s)) → (run.before.clock + 2 ≤ run.after.clock → LeavesLate run.before run.after (λ c. OpensTo c s)) → (status ≡ Done → ⊥) → KeepsPromise origin s run status
+nothing_done origin s run status sound pages none_answered none_ordered leaves late undone =
     let P : List ℕ → Type 0 = IsPrefixImage (contents_of s) [] 0 in
     let weaker : (c : List ℕ) → OpensTo c s → P c = λ c opens. no_line_yet s [] c sound pages opens in
     record {
@@ -73,19 +74,19 @@ stands_here m a place stands = record { entry = stands.entry; there = stands.the
 
 -- where the steps were taken, from this file on
 module _ (laws : PromiseLaws) (b : List ℕ) (by : Manner) (run : Run) (status : Status) (after : Machine) (told : run.before.told ≡ Some b) (drove : Drove by run after) (going : status ≡ Done → after.stop ≡ None) where
-  of_text : (s : FileState) → IsBegunOver drove.takes.before s → All (IsInSequence after) after.order → AreOfText by.step_lines s.meta.k run.seen after.order
-  of_text s over placed =
+  of_script : (s : FileState) → IsBegunOver drove.takes.before s → All (IsInSequence after) after.order → AreOfScript by.origin s.meta.k run.seen after.order
+  of_script s over placed =
       let takes = drove.takes in
       let k : drove.k ≡ s.meta.k = sym (ap (λ (m : Meta). m.k) over.meta ∙ takes.attributes) in
       let lines : after.lines ≡ drove.lines = (laws.further drove.actors takes.before after takes.reached).lines ∙ takes.lines_are in
       record {
         lines = drove.lines;
         steps = drove.steps;
-        scheduled = subst (λ (n : ℕ). IsScheduled by.step_lines n run.seen.source_before.left run.seen.source_after.left drove.lines drove.steps) k drove.scheduled;
+        came = subst (λ (n : ℕ). CameFrom by.origin n run.seen.source_before run.seen.source_after drove.lines drove.steps) k drove.came;
         among = All-weaker (IsInSequence after) (λ e. Contains drove.lines e.line) (λ e placed. subst (λ (ls : List Line). Contains ls e.line) lines placed.among) after.order placed;
       }
 
-  ran_promise : (s : FileState) → IsBegunOver drove.takes.before s → LeavesPrefixes s run.before run.after run.seen.answered after → KeepsPromise by.step_lines s run status
+  ran_promise : (s : FileState) → IsBegunOver drove.takes.before s → LeavesPrefixes s run.before run.after run.seen.answered after → KeepsPromise by.origin s run status
   ran_promise s over prefixes =
       let takes = drove.takes in
       let n = contents_of s in
@@ -95,7 +96,7 @@ module _ (laws : PromiseLaws) (b : List ℕ) (by : Manner) (run : Run) (status :
       record {
         order = after.order;
         numbers = takes.order_is;
-        said = inr (of_text s over keeps.kept.lines_in_sequence.placed);
+        said = inr (of_script s over keeps.kept.lines_in_sequence.placed);
         legal = keeps.order_legal.legal;
         replied = subst (λ (given : List Answered). All R given) (sym came)
             (All-weaker (λ a. StandsOutside a.reply ⊎ ((place : ℕ) × StandsInOrder after a.line a.reply place)) R
@@ -106,11 +107,11 @@ module _ (laws : PromiseLaws) (b : List ℕ) (by : Manner) (run : Run) (status :
         even = λ is. let even = prefixes.settled (going is) in (even.0, settled_count after, even.1, even.2, even.3);
       }
 
-  drove_promise : (s : FileState) → OpensTo b s → KeepsPromise by.step_lines s run status
+  drove_promise : (s : FileState) → OpensTo b s → KeepsPromise by.origin s run status
   drove_promise s opens =
       let here = at_value run.before.told _ b told drove.takes.told in
       let same : here.0 ≡ s = laws.one b here.0 s here.1 opens in
-      subst (λ (f : FileState). KeepsPromise by.step_lines f run status) same (ran_promise here.0 here.3 here.4)
+      subst (λ (f : FileState). KeepsPromise by.origin f run status) same (ran_promise here.0 here.3 here.4)
 
 -- over a file that was opened each image since the first sync opens to it
 opened_late : (k : ℕ) (d e : DiskModel) (b : List ℕ) (s : FileState) → IsOpened k d e → d.told ≡ Some b → OpensTo b s → LeavesLate d e (λ c. OpensTo c s)
@@ -120,17 +121,17 @@ shut_late : (d e : DiskModel) (b : List ℕ) (s : FileState) → d.told ≡ Some
     → ((b : List ℕ) → d.told ≡ Some b → (s : FileState) → OpensTo b s → d.clock + 2 ≤ e.clock → (c : List ℕ) → e.ImageSince (d.clock + 1) c → OpensTo c s) → d.clock + 2 ≤ e.clock → LeavesLate d e (λ c. OpensTo c s)
 shut_late d e b s told opens late later = record { since = d.clock + 1; soon = omega arith; each = late b told s opens later }
 
-pub keeps_promise : (laws : PromiseLaws) (by : Manner) (run : Run) (status : Status) (b : List ℕ) (s : FileState) → run.before.told ≡ Some b → OpensTo b s → IsSound s → StepsEnd by run status → KeepsPromise by.step_lines s run status
+pub keeps_promise : (laws : PromiseLaws) (by : Manner) (run : Run) (status : Status) (b : List ℕ) (s : FileState) → run.before.told ≡ Some b → OpensTo b s → IsSound s → StepsEnd by run status → KeepsPromise by.origin s run status
 keeps_promise laws by run status b s told opens sound ends = elim ends [
   | inl shut ↦
       let out = shut.2 in
-      nothing_done by.step_lines s run status sound (pages_of laws.walks laws.alone s sound) out.refused.none_answered out.refused.none_ordered (out.leaves.even s)
+      nothing_done by.origin s run status sound (pages_of laws.walks laws.alone s sound) out.refused.none_answered out.refused.none_ordered (out.leaves.even s)
       (shut_late run.before run.after b s told opens (λ c is. at_value run.before.told _ c is out.leaves.late)) (λ is. not_done shut.0 (sym shut.1 ∙ is))
   | inr opened ↦ elim opened [
-    | inl away ↦ nothing_done by.step_lines s run status sound (pages_of laws.walks laws.alone s sound) away.refused.none_answered away.refused.none_ordered (away.opened.leaves.even s)
-        (λ later. opened_late away.k run.before run.after b s away.opened told opens) (λ is. subst (λ (x : Status). NotScheduled by.step_lines away.k run.seen.source_before run.seen.source_after x) is away.why)
+    | inl away ↦ nothing_done by.origin s run status sound (pages_of laws.walks laws.alone s sound) away.refused.none_answered away.refused.none_ordered (away.opened.leaves.even s)
+        (λ later. opened_late away.k run.before run.after b s away.opened told opens) (λ is. no_done by.origin away.k run.seen.source_before run.seen.source_after (subst (λ (x : Status). CameNot by.origin away.k run.seen.source_before run.seen.source_after x) is away.why))
     | inr ran ↦ drove_promise laws b by run status ran.0 told ran.1
-        (λ is. (subst (λ (x : Status). RanEnds x run.seen.sink_before run.seen.sink_after run.seen.answered ran.0) is ran.2).2) s opens
+        (λ is. (subst (λ (x : Status). RanEnds by x run ran.0) is ran.2).4) s opens
   ]
 ]
 

@@ -1,5 +1,5 @@
 -- What a run of a core over a store that was just opened comes to, as the program says it.
-use Rattle.std.proofs.Common.{◌≡◌, ◌≢◌, ◌⊎◌, inl, inr, ℕ, ◌≤◌, List, [], ◌++◌, All, Option, None, IsSome, refl, sym, ap, subst, ◌∙◌, arith}
+use Rattle.std.proofs.Common.{◌≡◌, ◌≢◌, ◌⊎◌, inl, inr, Bool, ℕ, ◌≤◌, List, [], ◌++◌, All, Option, None, IsSome, refl, sym, ap, subst, ◌∙◌, arith}
 use Rattle.hb_core.specs.KeepingLaws.{BegunKeepsAll, HasKeptAll}
 use Rattle.hb_core.specs.Machines.{Files, Machine, settled_count}
 use Rattle.hb_core.specs.Runs.{AreAnswers, ChangesFile, CountsFaults, HasRun, IsPrefixImage}
@@ -33,9 +33,10 @@ use Rattle.std.proofs.lemmas.List.Elements.{All-weaker}
 use Rattle.hbpi.proofs.Begins.{IsBegunHere}
 use Rattle.hbpi.proofs.Opened.{even_store, since_start}
 use Rattle.hbpi.specs.Codes.{status_after}
-use Rattle.hbpi.specs.Driven.{RanEnds}
+use Rattle.hbpi.specs.Driven.{RanEnds, by_text}
 use Rattle.hbpi.specs.Drives.{LeavesPrefixes, TakesSteps}
 use Rattle.hbpi.specs.Outcome.{GetsLine, fault_line}
+use Rattle.hbpi.specs.SeenRuns.{Run}
 
 pub are_actors : (steps : List ℕ) → All (λ actor. (1 ≤ actor) × (actor ≤ 19)) steps → All IsActor steps
 are_actors steps all = All-weaker (λ actor. (1 ≤ actor) × (actor ≤ 19)) IsActor (λ actor is. record { from_1 = is.0; to_19 = is.1 }) steps all
@@ -91,26 +92,30 @@ pub run_beyond : (d e : DiskModel) (st : StoreState) (m : Machine) → m.store �
 run_beyond d e st m stored in_file = subst (λ (x : StoreState). Becomes (ChangesFile x) d e) stored in_file
 
 -- how the run ended, and the fault line behind its text
-pub ran_ends : (end : End) (before mid after : SinkModel) (answered : List Answered) (m : Machine) → EndsWith end before mid (run_text answered m) answered m.stop → GetsLine mid after (fault_line (status_after end))
-    → (end ≡ ends.SinkFault → after ≡ mid) → (end ≡ ends.Finished → after ≡ mid) → RanEnds (status_after end) before after answered m
-ran_ends ends.Finished before mid after answered m put line silent done =
+pub ran_ends : (step_lines : Bool) (goes : List ℕ → List ℕ → Machine → Type 0) (end : End) (run : Run) (mid : SinkModel) (m : Machine) → EndsWith end run.seen.sink_before mid (run_text run.seen.answered m) run.seen.answered m.stop → GetsLine mid run.seen.sink_after (fault_line (status_after end))
+    → (end ≡ ends.SinkFault → run.seen.sink_after ≡ mid) → (end ≡ ends.Finished → run.seen.sink_after ≡ mid) → RanEnds (by_text step_lines goes) (status_after end) run m
+ran_ends step_lines goes ends.Finished run mid m put line silent done =
     let still = done refl in (
-      subst (λ (k : SinkModel). Appends before.written k.written (run_text answered m)) (sym still) put.0,
+      run_text run.seen.answered m,
+      refl,
+      subst (λ (k : SinkModel). Appends run.seen.sink_before.written k.written (run_text run.seen.answered m)) (sym still) put.0,
       ap (λ (k : SinkModel). k.faults) still ∙ put.1,
       put.2,
       put.3,
     )
-ran_ends ends.NoMemory before mid after answered m put line silent done = absurd put
-ran_ends ends.SinkFault before mid after answered m put line silent done =
+ran_ends step_lines goes ends.NoMemory run mid m put line silent done = absurd put
+ran_ends step_lines goes ends.SinkFault run mid m put line silent done =
     let still = silent refl in (
-      subst (λ (k : SinkModel). AppendsFront before.written k.written (run_text answered m)) (sym still) put.0,
-      subst (λ (k : SinkModel). Rose before.faults k.faults) (sym still) put.1,
+      run_text run.seen.answered m,
+      refl,
+      subst (λ (k : SinkModel). AppendsFront run.seen.sink_before.written k.written (run_text run.seen.answered m)) (sym still) put.0,
+      subst (λ (k : SinkModel). Rose run.seen.sink_before.faults k.faults) (sym still) put.1,
     )
-ran_ends ends.ReadFault before mid after answered m put line silent done =
+ran_ends step_lines goes ends.ReadFault run mid m put line silent done =
     (record { between = mid; whole = put.0; same = put.1; line = line }, inr (put.2, put.3))
-ran_ends (ends.Stopped stops.WriteFault) before mid after answered m put line silent done =
+ran_ends step_lines goes (ends.Stopped stops.WriteFault) run mid m put line silent done =
     (record { between = mid; whole = put.0; same = put.1; line = line }, inl put.2)
-ran_ends (ends.Stopped (stops.Damaged page why)) before mid after answered m put line silent done =
+ran_ends step_lines goes (ends.Stopped (stops.Damaged page why)) run mid m put line silent done =
     (record { between = mid; whole = put.0; same = put.1; line = line }, page, why, put.2, refl)
 
 pub is_unbegun : (end : End) → (end ≡ ends.NoMemory) ⊎ (end ≢ ends.NoMemory)

@@ -11,7 +11,7 @@ use Rattle.hbpi.specs.Starts.{IsNotStarted}
 use Rattle.hbpi.specs.declared.statuses.Status.{Status}
 
 pub turned : {X : Type 0} (M : X → DiskModel) (by : Manner) (first found last : X) (before after : SourceModel) (sink put : SinkModel) (answered : List Answered) (order : List ℕ) (asked status : Status) → last ≡ found → status ≡ asked
-    → GetsLine sink put (fault_line asked) → answered ≡ [] → order ≡ [] → IsNotStarted by.step_lines before after (M first) (M found) asked
+    → GetsLine sink put (fault_line asked) → answered ≡ [] → order ≡ [] → IsNotStarted by.origin before after (M first) (M found) asked
     → StepsEnd by (run_of (seen_by before after sink put answered order) (M first) (M last)) status
 turned {X = X} M by first found last before after sink put answered order asked status same is line none_answered none_ordered not =
     let ends : StepsEnd by (run_of (seen_by before after sink put [] []) (M first) (M found)) asked = elim (not sink put line) [ inl shut ↦ inl shut | inr away ↦ inr (inl away) ] in

@@ -1,5 +1,5 @@
--- What a run of `drive` or `run` leaves, by its status.
-use Rattle.std.specs.Prelude.{◌≡◌, ◌⊎◌, ℕ, ◌+◌, Bool, true, false, List, None, Some, count_by}
+-- What a run of `drive`, `run` or `work` leaves, by its status.
+use Rattle.std.specs.Prelude.{◌≡◌, ◌⊎◌, ℕ, ◌+◌, Bool, true, false, List, [], None, Some, count_by}
 use Rattle.hb_activity.specs.Queue.{is_of}
 use Rattle.hb_activity.specs.declared.jobs.JobKind.{JobKind}
 use Rattle.hb_activity.specs.declared.jobs.JobKind.TheVariants.{Post, Merge}
@@ -21,10 +21,13 @@ use Rattle.hb_store.specs.States.{StoreState}
 use Rattle.hb_store.specs.declared.stops.StopWhy.TheVariants as stops
 use Rattle.hb_store.specs.declared.stops.Why.{Why}
 use Rattle.hbpi.specs.Codes.{damage_of, status_of}
+use Rattle.hbpi.specs.Counted.{HasRecords, counts_text}
 use Rattle.hbpi.specs.Drives.{TakesSteps}
 use Rattle.hbpi.specs.Outcome.{GetsLine, fault_line}
-use Rattle.hbpi.specs.Schedules.{IsScheduled, NotScheduled}
+use Rattle.hbpi.specs.Schedules.{CameFrom, CameNot}
 use Rattle.hbpi.specs.SeenRuns.{IsRefused, IsUnread, Run}
+use Rattle.hbpi.specs.declared.origins.Origin.{Origin}
+use Rattle.hbpi.specs.declared.origins.Origin.TheVariants.{Text, Drawn}
 use Rattle.hbpi.specs.declared.statuses.Status.{Status}
 use Rattle.hbpi.specs.declared.statuses.Status.TheVariants.{Done, Usage, BadText, SourceFault, SinkFault, DiskFault, Damaged, NoMemory, BadLayout, Small, NotBuilt}
 
@@ -55,33 +58,57 @@ pub record HasNothingLeft (m : Machine) : Type 0 where
   pub posted : jobs_of Post m ≡ 0
   pub merged : jobs_of Merge m ≡ 0
 
--- How a run takes its steps: whether its text may have step lines, and what ties these to the actors whose steps were taken and to the
--- machine that was come to.
+-- How a run takes its steps: where its script comes from; what ties the script's steps to the actors whose steps were taken, and to the
+-- machine that was come to; what is put where it ended well; and what in front of a fault line.
 pub record Manner : Type 1 where
-  pub step_lines : Bool
+  pub origin : Origin
   pub goes : List ℕ → List ℕ → Machine → Type 0
+  pub output : Run → Machine → List ℕ → Type 0
+  pub in_front : Run → Machine → List ℕ
+
+-- of a text, with the output text whole in both cases
+abbrev pub by_text : Bool → (List ℕ → List ℕ → Machine → Type 0) → Manner
+by_text step_lines goes = record {
+  origin = Text step_lines;
+  goes = goes;
+  output = λ run after text. text ≡ run_text run.seen.answered after;
+  in_front = λ run after. run_text run.seen.answered after;
+}
 
 -- by exactly the steps of the text
 abbrev pub by_schedule : Manner
-by_schedule = record { step_lines = true; goes = λ steps actors after. actors ≡ steps }
+by_schedule = by_text true (λ steps actors after. actors ≡ steps)
 
--- by threads, in whichever sequence, until nothing is left unless they were stopped
+-- in whichever sequence, until nothing is left unless they were stopped
+abbrev pub GoesOnForAll : List ℕ → List ℕ → Machine → Type 0
+GoesOnForAll steps actors after = after.stop ≡ None → HasNothingLeft after
+
+-- by threads
 abbrev pub by_threads : Manner
-by_threads = record { step_lines = false; goes = λ steps actors after. after.stop ≡ None → HasNothingLeft after }
+by_threads = by_text false GoesOnForAll
 
--- The file was opened, and no command was done: no script was read of the text, or memory was refused.
-pub record IsTurnedAway (step_lines : Bool) (run : Run) (status : Status) : Type 0 where
+-- by threads that put no reply, of lines that were drawn: the answers are counted, and the records behind them
+abbrev pub by_counting : ℕ → ℕ → Manner
+by_counting state count = record {
+  origin = Drawn state count;
+  goes = GoesOnForAll;
+  output = λ run after text. (records : ℕ) × HasRecords run.before.told after records × (text ≡ counts_text run.seen.answered records);
+  in_front = λ run after. [];
+}
+
+-- The file was opened, and no command was done: no script came, or memory was refused.
+pub record IsTurnedAway (origin : Origin) (run : Run) (status : Status) : Type 0 where
   pub k : ℕ
   pub opened : IsOpened k run.before run.after
   pub refused : IsRefused run.seen status
-  pub why : NotScheduled step_lines k run.seen.source_before run.seen.source_after status
+  pub why : CameNot origin k run.seen.source_before run.seen.source_after status
 
--- the text was read whole, and steps were taken in this manner
+-- a script came, and steps were taken in this manner
 pub record Drove (by : Manner) (run : Run) (after : Machine) : Type 0 where
   pub k : ℕ
   pub lines : List Line
   pub steps : List ℕ
-  pub scheduled : IsScheduled by.step_lines k run.seen.source_before.left run.seen.source_after.left lines steps
+  pub came : CameFrom by.origin k run.seen.source_before run.seen.source_after lines steps
   pub source : run.seen.source_after.faults ≡ run.seen.source_before.faults
   pub actors : List ℕ
   pub takes : TakesSteps run.before run.after k lines actors run.seen.answered run.seen.order after
@@ -96,22 +123,22 @@ pub record GetsOutput (before after : SinkModel) (text : List ℕ) (status : Sta
 
 -- Why a run that came to this machine ends so, and what it has put: the sink failed; or else the machine is stopped; or a reply is a
 -- read fault; or none of these.
-abbrev pub RanEnds : Status → SinkModel → SinkModel → List Answered → Machine → Type 0
-RanEnds Done before after answered m = Appends before.written after.written (run_text answered m) × (after.faults ≡ before.faults) × (m.stop ≡ None) × (¬ (HasReadFault answered))
-RanEnds SinkFault before after answered m = AppendsFront before.written after.written (run_text answered m) × Rose before.faults after.faults
-RanEnds DiskFault before after answered m = GetsOutput before after (run_text answered m) DiskFault × ((m.stop ≡ Some stops.WriteFault) ⊎ ((m.stop ≡ None) × HasReadFault answered))
-RanEnds (Damaged damage) before after answered m = GetsOutput before after (run_text answered m) (Damaged damage) × (page : ℕ) × (why : Why) × (m.stop ≡ Some (stops.Damaged page why)) × (damage ≡ damage_of page why)
-RanEnds Usage before after answered m = ⊥
-RanEnds (BadText bad) before after answered m = ⊥
-RanEnds SourceFault before after answered m = ⊥
-RanEnds NoMemory before after answered m = ⊥
-RanEnds (BadLayout field value) before after answered m = ⊥
-RanEnds (Small needed found) before after answered m = ⊥
-RanEnds NotBuilt before after answered m = ⊥
+abbrev pub RanEnds : Manner → Status → Run → Machine → Type 0
+RanEnds by Done run m = (text : List ℕ) × by.output run m text × Appends run.seen.sink_before.written run.seen.sink_after.written text × (run.seen.sink_after.faults ≡ run.seen.sink_before.faults) × (m.stop ≡ None) × (¬ (HasReadFault run.seen.answered))
+RanEnds by SinkFault run m = (text : List ℕ) × by.output run m text × AppendsFront run.seen.sink_before.written run.seen.sink_after.written text × Rose run.seen.sink_before.faults run.seen.sink_after.faults
+RanEnds by DiskFault run m = GetsOutput run.seen.sink_before run.seen.sink_after (by.in_front run m) DiskFault × ((m.stop ≡ Some stops.WriteFault) ⊎ ((m.stop ≡ None) × HasReadFault run.seen.answered))
+RanEnds by (Damaged damage) run m = GetsOutput run.seen.sink_before run.seen.sink_after (by.in_front run m) (Damaged damage) × (page : ℕ) × (why : Why) × (m.stop ≡ Some (stops.Damaged page why)) × (damage ≡ damage_of page why)
+RanEnds by Usage run m = ⊥
+RanEnds by (BadText bad) run m = ⊥
+RanEnds by SourceFault run m = ⊥
+RanEnds by NoMemory run m = ⊥
+RanEnds by (BadLayout field value) run m = ⊥
+RanEnds by (Small needed found) run m = ⊥
+RanEnds by NotBuilt run m = ⊥
 
--- How a run of `drive` or `run` ends: its file wasn't opened; or the text wasn't taken; or steps were.
+-- How a run of `drive`, `run` or `work` ends: its file wasn't opened; or no script came; or steps were taken.
 abbrev pub StepsEnd : Manner → Run → Status → Type 0
 StepsEnd by run status =
     ((fault : OpenFault) × (status ≡ status_of fault) × IsShutOut run fault)
-    ⊎ IsTurnedAway by.step_lines run status
-    ⊎ ((after : Machine) × Drove by run after × RanEnds status run.seen.sink_before run.seen.sink_after run.seen.answered after)
+    ⊎ IsTurnedAway by.origin run status
+    ⊎ ((after : Machine) × Drove by run after × RanEnds by status run after)

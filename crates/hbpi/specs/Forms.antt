@@ -105,4 +105,5 @@ IsUnbuilt (Some Run) = ⊥
 IsUnbuilt (Some Drive) = ⊥
 IsUnbuilt (Some Check) = ⊥
 IsUnbuilt (Some (Gen x n k)) = ⊥
+IsUnbuilt (Some (Work x n)) = ⊥
 IsUnbuilt (Some form) = Unit {0}

@@ -9,6 +9,7 @@ pub mod Ends
 pub mod MadeEnds
 pub mod DryParts
 pub mod Schedules
+pub mod Counted
 pub mod Drives
 pub mod Driven
 pub mod Starts

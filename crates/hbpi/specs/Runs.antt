@@ -6,12 +6,12 @@ use Rattle.hb_restart.specs.Layouts.{first_fault, size_of}
 use Rattle.hb_restart.specs.NewFiles.{new_file}
 use Rattle.hb_store.specs.Opening.{IsEven}
 use Rattle.hbpi.specs.Checked.{CheckEnds}
-use Rattle.hbpi.specs.Driven.{StepsEnd, by_schedule, by_threads}
+use Rattle.hbpi.specs.Driven.{StepsEnd, by_counting, by_schedule, by_threads}
 use Rattle.hbpi.specs.Ends.{DryEnds, GenEnds, UsageEnds, UnbuiltEnds}
 use Rattle.hbpi.specs.MadeEnds.{CreateEnds, HasMade}
 use Rattle.hbpi.specs.SeenRuns.{Run}
 use Rattle.hbpi.specs.declared.forms.Form.{Form}
-use Rattle.hbpi.specs.declared.forms.Form.TheVariants.{Check, Create, Dry, Drive, Gen}
+use Rattle.hbpi.specs.declared.forms.Form.TheVariants.{Check, Create, Dry, Drive, Gen, Work}
 use Rattle.hbpi.specs.declared.forms.Form.TheVariants as forms
 use Rattle.hbpi.specs.declared.statuses.Status.{Status}
 use Rattle.hbpi.specs.declared.statuses.Status.TheVariants.{SourceFault}
@@ -23,6 +23,7 @@ RunEnds (Some (Dry k)) run status = DryEnds k run.seen status
 RunEnds (Some (Create k pages log dcap icap)) run status = CreateEnds (first_fault k pages log dcap icap) (size_of pages log) run status
 RunEnds (Some forms.Run) run status = StepsEnd by_threads run status
 RunEnds (Some Drive) run status = StepsEnd by_schedule run status
+RunEnds (Some (Work x n)) run status = StepsEnd (by_counting x n) run status
 RunEnds (Some Check) run status = CheckEnds run status
 RunEnds (Some (Gen x n k)) run status = GenEnds (generated_text x n k) run.seen status
 RunEnds (Some form) run status = UnbuiltEnds run.seen status
@@ -39,6 +40,7 @@ abbrev pub LeavesBeyond : Option Form → Run → Type 0
 LeavesBeyond (Some (Create k pages log dcap icap)) run = KeepsBeyond (size_of pages log) run.before run.after
 LeavesBeyond (Some forms.Run) run = KeepsBeyondFile run.before run.after
 LeavesBeyond (Some Drive) run = KeepsBeyondFile run.before run.after
+LeavesBeyond (Some (Work x n)) run = KeepsBeyondFile run.before run.after
 LeavesBeyond (Some Check) run = KeepsBeyondFile run.before run.after
 LeavesBeyond _ run = Unit {0}
 

@@ -1,6 +1,7 @@
--- Which texts are a script, with step lines or without.
-use Rattle.std.specs.Prelude.{◌≡◌, ℕ, ◌≤◌, Bool, List, All, Option, Ok, Err}
+-- Which scripts come of a text, with step lines or without, or of the generator.
+use Rattle.std.specs.Prelude.{◌≡◌, ℕ, ◌≤◌, Bool, List, [], All, Option, Result, Ok, Err}
 use Rattle.hb_core.specs.KeptLines.{HasLineBody}
+use Rattle.hb_gen.specs.Lines.{generated}
 use Rattle.hb_outside.specs.Calls.{SourceModel}
 use Rattle.hb_outside.specs.Streams.{Rose}
 use Rattle.hb_set.specs.Scripts.{IsScriptFor}
@@ -8,8 +9,11 @@ use Rattle.hb_set.specs.declared.commands.Command.{Command}
 use Rattle.hb_set.specs.declared.commands.Command.TheVariants.{Insert, Delete, Lookup, Search}
 use Rattle.hb_set.specs.declared.scripts.Line.{Line}
 use Rattle.hb_space.specs.Boxes.{IsArea}
-use Rattle.hb_text.specs.Grammar.{text_read}
+use Rattle.hb_text.specs.Grammar.{Reading, text_read}
+use Rattle.hb_text.specs.declared.rules.BadLine.{BadLine}
 use Rattle.hbpi.specs.Outcome.{IsTextOf, IsWholeText}
+use Rattle.hbpi.specs.declared.origins.Origin.{Origin}
+use Rattle.hbpi.specs.declared.origins.Origin.TheVariants.{Text, Drawn}
 use Rattle.hbpi.specs.declared.statuses.Status.{Status}
 use Rattle.hbpi.specs.declared.statuses.Status.TheVariants.{Done, Usage, BadText, SourceFault, SinkFault, DiskFault, Damaged, NoMemory, BadLayout, Small, NotBuilt}
 
@@ -18,6 +22,16 @@ pub record IsScheduled (step_lines : Bool) (k : ℕ) (left rest : Option (List �
   pub text : List ℕ
   pub whole : IsWholeText left rest text
   pub says : text_read step_lines k text ≡ Ok (record { lines = lines; steps = steps })
+
+-- A script over k attributes came from there: such a text was read; or the lines were drawn, without steps, and the source stayed as it was.
+abbrev pub CameFrom : Origin → ℕ → SourceModel → SourceModel → List Line → List ℕ → Type 0
+CameFrom (Text step_lines) k before after lines steps = IsScheduled step_lines k before.left after.left lines steps
+CameFrom (Drawn state count) k before after lines steps = (lines ≡ generated state count k) × (steps ≡ []) × (after ≡ before)
+
+-- the generator draws at most so many lines
+abbrev pub FitsOrigin : Origin → Type 0
+FitsOrigin (Text step_lines) = Unit {0}
+FitsOrigin (Drawn state count) = count ≤ 1000000
 
 -- the box of a search is one
 abbrev pub SearchesBox : Command → Type 0
@@ -49,3 +63,13 @@ NotScheduled step_lines k before after (Damaged damage) = ⊥
 NotScheduled step_lines k before after (Small needed found) = ⊥
 NotScheduled step_lines k before after (BadLayout field value) = ⊥
 NotScheduled step_lines k before after NotBuilt = ⊥
+
+-- why none came: of the generator for want of memory alone
+abbrev pub CameNot : Origin → ℕ → SourceModel → SourceModel → Status → Type 0
+CameNot (Text step_lines) k before after status = NotScheduled step_lines k before after status
+CameNot (Drawn state count) k before after status = (status ≡ NoMemory) × (after ≡ before)
+
+-- what comes of it, by what the source has left
+abbrev pub read_from : Origin → ℕ → List ℕ → Result Reading BadLine
+read_from (Text step_lines) k left = text_read step_lines k left
+read_from (Drawn state count) k left = Ok (record { lines = generated state count k; steps = [] })

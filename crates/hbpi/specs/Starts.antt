@@ -1,5 +1,5 @@
 -- A run over a file before its first step.
-use Rattle.std.specs.Prelude.{◌≡◌, ◌⊎◌, ℕ, Bool, List, []}
+use Rattle.std.specs.Prelude.{◌≡◌, ◌⊎◌, ℕ, List, []}
 use Rattle.hb_core.specs.KeepingLaws.{BegunKeepsAll}
 use Rattle.hb_core.specs.Showing.{RunningCore}
 use Rattle.hb_core.specs.SteppingLaws.{BeginningKeepsAll}
@@ -9,47 +9,49 @@ use Rattle.hb_outside.specs.Calls.{SinkModel, SourceModel}
 use Rattle.hb_restart.specs.declared.faults.OpenFault.{OpenFault}
 use Rattle.hb_restart.specs.Leaving.{LeavesOpening, OpensStore, RunsThrough}
 use Rattle.hb_set.specs.declared.scripts.Line.{Line}
-use Rattle.hb_sound.specs.Laws.{NoPointIsHeldTwice, RootHasWalks}
+use Rattle.hb_sound.specs.Laws.{NoPointIsHeldTwice, RecordsStandOnce, RootHasWalks}
 use Rattle.hb_store.specs.Opening.{OpensToOne}
 use Rattle.hb_store.specs.States.{IsStanding, StoreState}
 use Rattle.hbpi.specs.Codes.{status_of}
 use Rattle.hbpi.specs.Driven.{IsShutOut, IsTurnedAway}
 use Rattle.hbpi.specs.Outcome.{GetsLine, fault_line}
-use Rattle.hbpi.specs.Schedules.{IsScheduled, IsScript}
+use Rattle.hbpi.specs.Schedules.{CameFrom, IsScript}
 use Rattle.hbpi.specs.SeenRuns.{run_of, seen_by}
+use Rattle.hbpi.specs.declared.origins.Origin.{Origin}
 use Rattle.hbpi.specs.declared.statuses.Status.{Status}
 
--- A core was made of a store that was just opened and of a text that was read whole.
-pub record IsMadeCore (step_lines : Bool) (store : StoreState) (before after : SourceModel) (core : RunningCore) : Type 0 where
+-- A core was made of a store that was just opened and of a script that came.
+pub record IsMadeCore (origin : Origin) (store : StoreState) (before after : SourceModel) (core : RunningCore) : Type 0 where
   pub lines : List Line
   pub steps : List ℕ
-  pub scheduled : IsScheduled step_lines store.meta.k before.left after.left lines steps
+  pub came : CameFrom origin store.meta.k before after lines steps
   pub source : after.faults ≡ before.faults
   pub script : IsScript store.meta.k lines steps
   pub stands : IsStanding store.turn store.meta
   pub core_is : core ≡ begun_core lines steps store []
 
--- The file was opened, and such a core was made over it.
-pub record IsStarted (step_lines : Bool) (before after : SourceModel) (d e : DiskModel) (core : RunningCore) : Type 0 where
+-- The file, of so many records, was opened, and such a core was made over it.
+pub record IsStarted (origin : Origin) (before after : SourceModel) (d e : DiskModel) (core : RunningCore) : Type 0 where
   pub store : StoreState
   pub count : ℕ
   pub disk : IsDisk e
   pub opens : OpensStore d e store count
   pub through : RunsThrough store.meta.high d e
   pub leaves : LeavesOpening ⊥ d e
-  pub made : IsMadeCore step_lines store before after core
+  pub made : IsMadeCore origin store before after core
 
 -- Or not: whatever sink the fault line is put into, such a run ends so.
-abbrev pub IsNotStarted : Bool → SourceModel → SourceModel → DiskModel → DiskModel → Status → Type 0
-IsNotStarted step_lines before after d e status = (sink put : SinkModel) → GetsLine sink put (fault_line status) →
+abbrev pub IsNotStarted : Origin → SourceModel → SourceModel → DiskModel → DiskModel → Status → Type 0
+IsNotStarted origin before after d e status = (sink put : SinkModel) → GetsLine sink put (fault_line status) →
     ((fault : OpenFault) × (status ≡ status_of fault) × IsShutOut (run_of (seen_by before after sink put [] []) d e) fault)
-    ⊎ IsTurnedAway step_lines (run_of (seen_by before after sink put [] []) d e) status
+    ⊎ IsTurnedAway origin (run_of (seen_by before after sink put [] []) d e) status
 
--- The laws that a run rests on: what a beginning keeps over a disk that tells, and any steps behind it; that bytes open to one file; and
--- that each point has one page in it.
+-- The laws that a run rests on: what a beginning keeps over a disk that tells, and any steps behind it; that bytes open to one file;
+-- and that each point has one page in it, and each record stands in it once.
 pub record StartLaws : Type 0 where
   pub beginning : BeginningKeepsAll
   pub begun : BegunKeepsAll
   pub one : OpensToOne
   pub walks : RootHasWalks
   pub alone : NoPointIsHeldTwice
+  pub counted : RecordsStandOnce

@@ -7,6 +7,7 @@ ghost use Rattle.hbpi.specs.SeenRuns.{run_of, seen_by};
 use crate::dry::refused;
 use crate::finished::Finished;
 use crate::finishing::finish;
+use crate::origins::Origin;
 use crate::starting::{knows_laws, start};
 use hb_disk::Disk;
 use hb_drive::drive;
@@ -27,8 +28,8 @@ pub(crate) fn drive_file<S: Source, K: Sink, D: Disk>(
     ensures sink_later { (K.model sink).faults ≤ (K.model result.sink).faults }
 {
     knows_laws();
-    match start(alloc, true, source, disk) {
-        Ok(core) => finish(drive(alloc, core, sink)),
+    match start(alloc, Origin::Text { step_lines: true }, source, disk) {
+        Ok((core, _)) => finish(drive(alloc, core, sink)),
         Err((status, disk)) => refused(alloc, status, sink, disk),
     }
 }

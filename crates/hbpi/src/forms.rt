@@ -164,6 +164,7 @@ impl Form {
         ensures form { result ≡ form_of (map string_bytes words.now) }
         ensures attributes { (k : ℕ) → result ≡ Some (Form.Dry k) → (0 < k) × (k ≤ KMAX) }
         ensures generated { (x n k : ℕ) → result ≡ Some (Form.Gen x n k) → (n ≤ 1000000) × (0 < k) × (k ≤ KMAX) }
+        ensures worked { (x n : ℕ) → result ≡ Some (Form.Work x n) → n ≤ 1000000 }
     {
         read_words(words)
     }

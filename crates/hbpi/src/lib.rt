@@ -16,6 +16,7 @@
 mod answers;
 mod calls;
 mod check_file;
+mod counting;
 mod create;
 mod drive_file;
 mod dry;
@@ -27,6 +28,8 @@ mod finishing;
 mod forms;
 mod gen_text;
 mod new_files;
+mod nowhere;
+mod origins;
 mod run_file;
 mod saying;
 mod starting;
@@ -34,6 +37,7 @@ mod statuses;
 mod texts;
 pub mod top;
 mod trouble;
+mod work_file;
 
 pub use calls::{Call, Ended, call_of, run, run_process};
 pub use file_disk::FileDisk;

@@ -7,6 +7,7 @@ ghost use Rattle.hbpi.specs.SeenRuns.{run_of, seen_by};
 use crate::dry::refused;
 use crate::finished::Finished;
 use crate::finishing::finish;
+use crate::origins::Origin;
 use crate::starting::{knows_laws, start};
 use hb_disk::Disk;
 use hb_outside::{Sink, Source};
@@ -30,8 +31,8 @@ pub(crate) fn run_file<
     ensures sink_later { (K.model sink).faults ≤ (K.model result.sink).faults }
 {
     knows_laws();
-    match start(alloc, false, source, disk) {
-        Ok(core) => finish(run(rt, alloc, core, sink, gate)),
+    match start(alloc, Origin::Text { step_lines: false }, source, disk) {
+        Ok((core, _)) => finish(run(rt, alloc, core, sink, gate)),
         Err((status, disk)) => refused(alloc, status, sink, disk),
     }
 }

@@ -1,12 +1,15 @@
 //! Lines that are said where all went well.
 ghost use Rattle.std.specs.Prelude.{◌≡◌, ◌+◌, ◌≤◌, ◌++◌, length, decimal};
 ghost use Rattle.hbpi.specs.Checked.{sound_text};
+ghost use Rattle.hbpi.specs.Counted.{counts_text};
 ghost use Rattle.hbpi.specs.Saying.{IsSaid};
 
+use crate::counting::{Kind, count_kind};
 use crate::statuses::Status;
 use arrayvec::ArrayVec;
 use hb_layout::Meta;
 use hb_outside::Sink;
+use hb_set::Answered;
 use itoa::Buffer;
 
 /// Says a line, and gives the status then.
@@ -20,11 +23,14 @@ pub(crate) fn say<K: Sink>(sink: &mut K, line: &[u8]) -> Status
     }
 }
 
+/// No line is longer.
+const LONGEST: usize = 384;
+
 /// Adds words and a number to a line.
-fn add_count(line: &mut ArrayVec<u8, 96>, words: &[u8], count: u64)
-    requires { length line.old.items + length words.now + 20 ≤ 96 }
+fn add_count(line: &mut ArrayVec<u8, LONGEST>, words: &[u8], count: u128)
+    requires { length line.old.items + length words.now + 40 ≤ LONGEST }
     ensures added { line.new.items ≡ line.old.items ++ (words.now ++ decimal count) }
-    ensures short { length line.new.items ≤ length line.old.items + length words.now + 20 }
+    ensures short { length line.new.items ≤ length line.old.items + length words.now + 40 }
 {
     let mut number = Buffer::new();
     let _fits = line.try_extend_from_slice(words);
@@ -32,12 +38,32 @@ fn add_count(line: &mut ArrayVec<u8, 96>, words: &[u8], count: u64)
 }
 
 /// The line of a sound file.
-pub(crate) fn sound_line(meta: &Meta, records: u64) -> ArrayVec<u8, 96>
+pub(crate) fn sound_line(meta: &Meta, records: u64) -> ArrayVec<u8, LONGEST>
     ensures { result.items ≡ sound_text meta.now records }
 {
     let mut line = ArrayVec::new();
-    add_count(&mut line, b"sound height ", u64::from(meta.height));
-    add_count(&mut line, b" pages ", u64::from(meta.live));
+    add_count(&mut line, b"sound height ", u128::from(meta.height));
+    add_count(&mut line, b" pages ", u128::from(meta.live));
+    add_count(&mut line, b" records ", u128::from(records));
+    let _fits = line.try_extend_from_slice(b"\n");
+    line
+}
+
+/// The line of these answers, and of so many records.
+pub(crate) fn counts_line(answers: &[Answered], records: u128) -> ArrayVec<u8, LONGEST>
+    ensures { result.items ≡ counts_text answers.now records }
+{
+    let mut line = ArrayVec::new();
+    add_count(&mut line, b"ok ", count_kind(Kind::Done, answers));
+    add_count(
+        &mut line,
+        b" duplicate ",
+        count_kind(Kind::Duplicate, answers),
+    );
+    add_count(&mut line, b" absent ", count_kind(Kind::Absent, answers));
+    add_count(&mut line, b" found ", count_kind(Kind::Found, answers));
+    add_count(&mut line, b" none ", count_kind(Kind::Missing, answers));
+    add_count(&mut line, b" box ", count_kind(Kind::Within, answers));
     add_count(&mut line, b" records ", records);
     let _fits = line.try_extend_from_slice(b"\n");
     line

@@ -1,23 +1,30 @@
-//! A file that is opened, and a text that is read, before the first step.
+//! A file that is opened, and a script that comes, before the first step.
 ghost use Rattle.std.specs.Prelude.{◌≡◌, ◌<◌, ◌≤◌, [], All, IfOk, IfErr, OnOk};
+ghost use Rattle.hb_gen.specs.Lines.{generated};
+ghost use Rattle.hb_space.specs.Points.{IsAttributeCount};
 ghost use Rattle.hb_core.specs.CoreSeen.{core_seen, core_disk};
 ghost use Rattle.hb_core.specs.KeptLines.{HasLineBody};
 ghost use Rattle.hb_restart.specs.Beyond.{KeepsBeyondFile};
 ghost use Rattle.hb_store.specs.Seen.{seen_as, disk_of};
 ghost use Rattle.hb_store.specs.States.{IsNew};
-ghost use Rattle.hbpi.specs.Schedules.{HasLineBox, IsScheduled, IsScript, NotScheduled};
+ghost use Rattle.hbpi.specs.Schedules.{CameFrom, CameNot, FitsOrigin, HasLineBox, IsScheduled, IsScript, NotScheduled};
 ghost use Rattle.hbpi.specs.Starts.{IsMadeCore, IsNotStarted, IsStarted, StartLaws};
 
+use crate::origins::Origin;
 use crate::statuses::Status;
 use crate::texts::{TextStop, read_text};
 use hb_core::Core;
 use hb_core::file_laws::a_beginning_keeps_all;
 use hb_core::keeping_laws::steps_keep_all;
 use hb_disk::Disk;
+use hb_gen::generate;
+use hb_gen::laws::a_generated_text_says_its_lines;
 use hb_outside::Source;
 use hb_restart::recover;
 use hb_set::{Command, Line, Script};
-use hb_sound::laws::{a_level_parts_the_space, a_walk_ends_at_the_responsible_page};
+use hb_sound::laws::{
+    a_level_parts_the_space, a_walk_ends_at_the_responsible_page, records_stand_once,
+};
 use hb_space::form::KMAX;
 use hb_store::{Store, an_image_opens_to_one_file};
 use hb_text::{TextError, read_commands};
@@ -32,6 +39,7 @@ pub(crate) fn knows_laws()
     an_image_opens_to_one_file();
     a_walk_ends_at_the_responsible_page();
     a_level_parts_the_space();
+    records_stand_once();
 }
 
 /// That a line's body can be stored, and that its box is one, which their types say.
@@ -90,20 +98,65 @@ fn read_script<S: Source>(
     }
 }
 
-/// Reads the script, and makes a core over a store that was just opened. Otherwise the disk comes back, with the status.
+/// The script of so many lines over `k` attributes that the generator draws from the state. It is refused for want of memory alone.
+fn draw_script(alloc: Global, k: u8, state: u64, count: u32) -> Result<Script, Status>
+    requires lines { count ≤ 1000000 }
+    requires attributes { IsAttributeCount k }
+    ensures lines { IfOk result (λ script. script.lines ≡ generated state count k) }
+    ensures steps { IfOk result (λ script. script.steps ≡ []) }
+    ensures script { IfOk result (λ script. IsScript k script.lines script.steps) }
+    ensures refused { IfErr result (λ status. status ≡ Status.NoMemory) }
+{
+    a_generated_text_says_its_lines();
+    let Ok(text) = generate(alloc, state, count, k) else {
+        return Err(Status::NoMemory);
+    };
+    match read_commands(alloc, text.as_slice(), k, false) {
+        Ok(script) => {
+            knows_lines(script.lines.as_slice());
+            Ok(script)
+        }
+        Err(TextError::Bad(_)) => unreachable!(),
+        Err(TextError::NoMemory) => Err(Status::NoMemory),
+    }
+}
+
+/// The script over `k` attributes from where it comes, or the status that refuses it.
+fn script_from<S: Source>(
+    alloc: Global,
+    k: u8,
+    origin: Origin,
+    source: &mut S,
+) -> Result<Script, Status>
+    requires attributes { IsAttributeCount k }
+    requires few { FitsOrigin origin }
+    ensures came { IfOk result (λ script. CameFrom origin k (S.model source.old) (S.model source.new) script.lines script.steps) }
+    ensures script { IfOk result (λ script. IsScript k script.lines script.steps) }
+    ensures refused { IfErr result (CameNot origin k (S.model source.old) (S.model source.new)) }
+    ensures no_fault { OnOk result ((S.model source.new).faults ≡ (S.model source.old).faults) }
+    ensures later { (S.model source.old).faults ≤ (S.model source.new).faults }
+{
+    match origin {
+        Origin::Text { step_lines } => read_script(alloc, k, step_lines, source),
+        Origin::Drawn { state, lines } => draw_script(alloc, k, state, lines),
+    }
+}
+
+/// Makes a core of the script over a store that was just opened. Otherwise the disk comes back, with the status.
 fn make_core<S: Source, D: Disk>(
     alloc: Global,
-    step_lines: bool,
+    origin: Origin,
     source: &mut S,
     store: Store<D>,
 ) -> Result<Core<D>, (Status, D)>
+    requires few { FitsOrigin origin }
     requires new { IsNew (seen_as store).turn (seen_as store).meta (seen_as store) }
-    ensures made { IfOk result (λ core. (core_disk core ≡ disk_of store) × IsMadeCore step_lines (seen_as store) (S.model source.old) (S.model source.new) (core_seen core)) }
-    ensures refused { IfErr result (λ e. (e.1 ≡ disk_of store) × NotScheduled step_lines (seen_as store).meta.k (S.model source.old) (S.model source.new) e.0) }
+    ensures made { IfOk result (λ core. (core_disk core ≡ disk_of store) × IsMadeCore origin (seen_as store) (S.model source.old) (S.model source.new) (core_seen core)) }
+    ensures refused { IfErr result (λ e. (e.1 ≡ disk_of store) × CameNot origin (seen_as store).meta.k (S.model source.old) (S.model source.new) e.0) }
     ensures later { (S.model source.old).faults ≤ (S.model source.new).faults }
 {
     let k = store.meta().k;
-    match read_script(alloc, k, step_lines, source) {
+    match script_from(alloc, k, origin, source) {
         Ok(script) => match Core::over(alloc, store, script) {
             Ok(core) => Ok(core),
             Err((_, store)) => Err((Status::NoMemory, store.into_disk())),
@@ -112,21 +165,25 @@ fn make_core<S: Source, D: Disk>(
     }
 }
 
-/// Opens the file of the disk, reads a text, with step lines or without, and makes a core over both. Otherwise the disk comes
-/// back, with the status that refuses it.
+/// Opens the file of the disk, takes the script from where it comes, and makes a core over both, with the number of the file's records.
+/// Otherwise the disk comes back, with the status that refuses it.
 pub(crate) fn start<S: Source, D: Disk>(
     alloc: Global,
-    step_lines: bool,
+    origin: Origin,
     source: &mut S,
     disk: D,
-) -> Result<Core<D>, (Status, D)>
-    ensures started { IfOk result (λ core. IsStarted step_lines (S.model source.old) (S.model source.new) (D.model disk) (D.model (core_disk core)) (core_seen core)) }
-    ensures refused { IfErr result (λ e. IsNotStarted step_lines (S.model source.old) (S.model source.new) (D.model disk) (D.model e.1) e.0) }
+) -> Result<(Core<D>, u64), (Status, D)>
+    requires few { FitsOrigin origin }
+    ensures started { IfOk result (λ r. (started : IsStarted origin (S.model source.old) (S.model source.new) (D.model disk) (D.model (core_disk r.0)) (core_seen r.0)) × (r.1 ≡ started.count)) }
+    ensures refused { IfErr result (λ e. IsNotStarted origin (S.model source.old) (S.model source.new) (D.model disk) (D.model e.1) e.0) }
     ensures beyond { IfErr result (λ e. KeepsBeyondFile (D.model disk) (D.model e.1)) }
     ensures later { (S.model source.old).faults ≤ (S.model source.new).faults }
 {
     match recover(alloc, disk) {
-        Ok((store, _)) => make_core(alloc, step_lines, source, store),
+        Ok((store, records)) => match make_core(alloc, origin, source, store) {
+            Ok(core) => Ok((core, records)),
+            Err(refusal) => Err(refusal),
+        },
         Err((fault, disk)) => Err((Status::from(fault), disk)),
     }
 }

@@ -1,5 +1,5 @@
 //! The program over any source, sink and disk.
-ghost use Rattle.std.specs.Prelude.{◌≡◌, ◌≤◌, true, false, map, string_bytes};
+ghost use Rattle.std.specs.Prelude.{◌≡◌, ℕ, ◌≤◌, true, false, Some, map, string_bytes};
 ghost use Rattle.hbpi.specs.Ends.{LeavesDisk};
 ghost use Rattle.hbpi.specs.Forms.{form_of, is_threaded};
 ghost use Rattle.hbpi.specs.Runs.{IsRunOf, LeavesBeyond, LeavesFile, RunEnds};
@@ -14,6 +14,7 @@ use crate::forms::Form;
 use crate::gen_text::gen_text;
 use crate::run_file::run_file;
 use crate::statuses::Status;
+use crate::work_file::work_file;
 use hb_disk::Disk;
 use hb_outside::{Sink, Source};
 use hb_run::Gate;
@@ -70,6 +71,7 @@ fn do_threads<R: Threads + Wait + Sync, S: Source, K: Sink + Send, D: Disk + Sen
     gate: &G,
 ) -> Finished<K, D>
     requires threads { is_threaded form ≡ true }
+    requires few { (x n : ℕ) → form ≡ Some (Form.Work x n) → n ≤ 1000000 }
     ensures ends { RunEnds form (run_of (seen_by (S.model source.old) (S.model source.new) (K.model sink) (K.model result.sink) result.answered.items result.order.items) (D.model disk) (D.model result.disk)) result.status }
     ensures file { LeavesFile form (run_of (seen_by (S.model source.old) (S.model source.new) (K.model sink) (K.model result.sink) result.answered.items result.order.items) (D.model disk) (D.model result.disk)) result.status }
     ensures beyond { LeavesBeyond form (run_of (seen_by (S.model source.old) (S.model source.new) (K.model sink) (K.model result.sink) result.answered.items result.order.items) (D.model disk) (D.model result.disk)) }
@@ -81,7 +83,7 @@ fn do_threads<R: Threads + Wait + Sync, S: Source, K: Sink + Send, D: Disk + Sen
 {
     match form {
         Some(Form::Run) => run_file(rt, alloc, source, sink, disk, gate),
-        Some(Form::Work { .. }) => refused(alloc, Status::NotBuilt, sink, disk),
+        Some(Form::Work { x, n }) => work_file(rt, alloc, x, n, source, sink, disk, gate),
         _ => unreachable!(),
     }
 }
@@ -133,7 +135,7 @@ pub fn top<R: Threads + Wait + Sync, S: Source, K: Sink + Send, D: Disk + Send, 
     // Which row of the table this run is of: the cause of its status, what was read and written, what was answered, and what
     // is on the disk.
     ensures ends { IsRunOf (form_of (map string_bytes words.now)) (run_of (seen_by (S.model source.old) (S.model source.new) (K.model sink) (K.model result.sink) result.answered.items result.order.items) (D.model disk) (D.model result.disk)) result.status }
-    // But for `run`, `drive` and `check`, and for `create` where it makes a file or fails in it, the disk is given back as it was.
+    // But for `run`, `work`, `drive` and `check`, and for `create` where it makes a file or fails in it, the disk is given back as it was.
     ensures untouched { LeavesDisk (form_of (map string_bytes words.now)) result.status → result.disk ≡ disk }
 {
     let form = Form::of_words(words);

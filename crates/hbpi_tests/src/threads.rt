@@ -1,13 +1,14 @@
-//! Texts under `run`, whose sessions run in threads, over disks in memory.
+//! Texts under `run`, and generated lines under `work`, whose sessions run in threads, over disks in memory.
 
 use crate::runs::{
-    CREATE, Left, NEVER, SIZE, drive_on, expect_said, file_of, left_by, left_of, said_of, sink_of,
-    source_of, words_of,
+    CREATE, Left, NEVER, SIZE, drive_on, expect_said, file_of, left_by, left_of, run_on, run_over,
+    said_of, sink_of, source_of, words_of,
 };
 use crate::stops::BEFORE_FORCES;
 use hb_disk::{Disk, MemDisk, Pick, RotDisk};
 use hb_outside::MemSink;
 use hb_run::{FreeGate, Gate, HoldGate, Place};
+use hb_set::{Answered, Reply};
 use hbpi::top::{quiet, top};
 use hbpi::{Finished, Form};
 use std::alloc::Global;
@@ -114,11 +115,16 @@ fn texts_run_in_threads(rt: HostRuntime) {
 }
 
 /// The words, the calls at which source and sink fail, and what the program says.
-const FAULTS: [(&str, (u64, u64), &str); 5] = [
+const FAULTS: [(&str, (u64, u64), &str); 6] = [
     ("run", (0, NEVER), "4 source fault\n"),
     ("run", (NEVER, 0), "5 "),
     ("run", (NEVER, 1), "5 1 ok\n"),
-    ("work 1 1", (0, NEVER), "11 not built\n"),
+    (
+        "work 1 1",
+        (0, NEVER),
+        "0 ok 0 duplicate 0 absent 0 found 0 none 1 box 0 records 0\n",
+    ),
+    ("work 1 1", (NEVER, 0), "5 "),
     ("run run", (0, 0), "2 "),
 ];
 
@@ -240,4 +246,91 @@ fn checked<R: Threads + Sync>(rt: &R, alloc: Global) -> Option<Left> {
 fn a_check_waits_for_nobody(rt: HostRuntime) {
     let want = "0 sound height 1 pages 1 records 0\n";
     expect_said(&rt, checked(&rt, rt.alloc()), want, CREATE);
+}
+
+/// A new file by these words and of so many bytes, words over it, what they say, as a plain dictionary counts it, and the end of that;
+/// and the words that give the same text, and those that answer it from a plain set.
+struct Worked {
+    create: &'static str,
+    size: usize,
+    work: &'static str,
+    want: &'static str,
+    records: &'static str,
+    gen_words: &'static str,
+    dry: &'static str,
+}
+
+const WORKED: [Worked; 2] = [
+    Worked {
+        create: "create 3 256 65536 48 256",
+        size: 1_187_840,
+        work: "work 1 300",
+        want: "0 ok 181 duplicate 0 absent 36 found 0 none 52 box 31 records 181\n",
+        records: " records 181\n",
+        gen_words: "gen 1 300 3",
+        dry: "dry 3",
+    },
+    Worked {
+        create: "create 1 64 65536 48 256",
+        size: SIZE,
+        work: "work 1 3000",
+        want: "0 ok 1059 duplicate 922 absent 167 found 263 none 298 box 291 records 769\n",
+        records: " records 769\n",
+        gen_words: "gen 1 3000 1",
+        dry: "dry 1",
+    },
+];
+
+/// How many answers have each of the six replies.
+fn tally(answered: &[Answered]) -> [usize; 6] {
+    let mut counts = [0_usize; 6];
+    for a in answered {
+        let place = match &a.reply {
+            Reply::Done => 0,
+            Reply::Duplicate => 1,
+            Reply::Absent => 2,
+            Reply::Found(_) => 3,
+            Reply::Missing => 4,
+            Reply::Within(_) => 5,
+            _ => continue,
+        };
+        counts[place] = counts[place].wrapping_add(1);
+    }
+    counts
+}
+
+/// What the replies of the plain set to the same text are.
+fn dry_counts(alloc: Global, worked: &Worked) -> Option<String> {
+    let text = run_on(alloc, worked.gen_words, "", &[])?.said;
+    let text = text.as_str().strip_prefix("0 ")?;
+    let left = run_on(alloc, worked.dry, text, &[])?;
+    let [ok, duplicate, absent, found, none, within] = tally(left.answered.as_slice());
+    format!(in alloc;
+        "0 ok {ok} duplicate {duplicate} absent {absent} found {found} none {none} box {within} records "
+    ).ok()
+}
+
+/// What `work` leaves of the new file.
+fn work_on<R: Threads + Wait + Sync>(rt: &R, alloc: Global, worked: &Worked) -> Option<Left> {
+    let disk = MemDisk::new(alloc, left_of(alloc, worked.create, &[], worked.size, 0)?);
+    left_by(
+        alloc,
+        run_words(rt, alloc, worked.work, "", (0, NEVER), disk, &FreeGate)?,
+    )
+}
+
+#[test]
+fn generated_lines_are_counted(rt: HostRuntime) {
+    let alloc = rt.alloc();
+    for worked in &WORKED {
+        let left = work_on(&rt, alloc, worked).expect(&rt, "memory");
+        let said = left.said.as_str();
+        assert!(&rt; said == worked.want, "{said}");
+        let counts = dry_counts(alloc, worked).expect(&rt, "memory");
+        assert!(&rt; said.starts_with(counts.as_str()), "{counts}");
+        let check = run_over(alloc, "check", "", NEVER, NEVER, left.disk).expect(&rt, "memory");
+        let sound = check.said.as_str();
+        assert!(&rt; sound.starts_with("0 sound height "), "{sound}");
+        assert!(&rt; sound.ends_with(worked.records), "{sound}");
+    }
 }

@@ -36,7 +36,7 @@ use Rattle.hb_store.specs.States.{StoreState, in_memory}
 
 -- ---- what the latches of an activity are, in another memory that has its page
 
-same_latches : (activity : Activity) (old new : StoreState) → ((held : ℕ) → walk_held activity ≡ Some held → live_here new held ≡ live_here old held) → latches_held new activity ≡ latches_held old activity
+pub same_latches : (activity : Activity) (old new : StoreState) → ((held : ℕ) → walk_held activity ≡ Some held → live_here new held ≡ live_here old held) → latches_held new activity ≡ latches_held old activity
 same_latches (at.SessionWalk line (Some held) rest found) old new same = ap (λ (o : Option LivePage). walk_latch (Some held) o (session_mode line.command)) (same held refl)
 same_latches (at.PosterWalk job (Some held)) old new same = ap (λ (o : Option LivePage). walk_latch (Some held) o (job_mode job)) (same held refl)
 same_latches (at.ConsolidatorWalk job (Some held)) old new same = ap (λ (o : Option LivePage). walk_latch (Some held) o (job_mode job)) (same held refl)

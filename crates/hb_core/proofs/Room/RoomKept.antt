@@ -119,10 +119,10 @@ pub record KnowsOf (m : Machine) (activity : Activity) : Type 0 where
   pub splits : (held : ℕ) (line : Line) → activity ≡ at.SessionSplit line held → LacksRoom m line held
   pub puts : (source fresh : ℕ) (line : Line) → activity ≡ at.SessionPut line source fresh → HasRoom m line source fresh
 
-each_knows : (m : Machine) → KnowsRoom m → (actor : ℕ) → KnowsOf m (m.activity actor)
+pub each_knows : (m : Machine) → KnowsRoom m → (actor : ℕ) → KnowsOf m (m.activity actor)
 each_knows m knows actor = record { splits = knows.splits actor; puts = knows.puts actor }
 
-all_know : (m : Machine) → ((actor : ℕ) → KnowsOf m (m.activity actor)) → KnowsRoom m
+pub all_know : (m : Machine) → ((actor : ℕ) → KnowsOf m (m.activity actor)) → KnowsRoom m
 all_know m each = record { splits = λ actor. (each actor).splits; puts = λ actor. (each actor).puts }
 
 -- the same in a memory that has the page
@@ -147,7 +147,7 @@ module _ (m new : Machine) (capacity : SameCapacity m new) where
     room = subst (λ (n : ℕ). weight_of (put_page (record { key = p; body = body }) has.page).frag ≤ n) (sym capacity) has.room;
   }
 
-  splits_again : (line : Line) (held : ℕ) → ((page : LivePage) → live_here m.store held ≡ Some page → live_here new.store held ≡ Some page) → LacksRoom m line held → LacksRoom new line held
+  pub splits_again : (line : Line) (held : ℕ) → ((page : LivePage) → live_here m.store held ≡ Some page → live_here new.store held ≡ Some page) → LacksRoom m line held → LacksRoom new line held
   splits_again line held there (rec, command, lacks) = (rec, command, lacks_again held rec.key rec.body there lacks)
 
   one_again : (source fresh : ℕ) (p body : List ℕ) → ((page : LivePage) → live_here m.store source ≡ Some page → live_here new.store source ≡ Some page) → ((page : LivePage) → live_here m.store fresh ≡ Some page → live_here new.store fresh ≡ Some page)
@@ -165,7 +165,7 @@ module _ (m new : Machine) (capacity : SameCapacity m new) where
       by (inl has) = inl (has_again source p body first has)
       by (inr has) = inr (has_again fresh p body second has)
 
-  puts_again : (line : Line) (source fresh : ℕ) → ((page : LivePage) → live_here m.store source ≡ Some page → live_here new.store source ≡ Some page) → ((page : LivePage) → live_here m.store fresh ≡ Some page → live_here new.store fresh ≡ Some page)
+  pub puts_again : (line : Line) (source fresh : ℕ) → ((page : LivePage) → live_here m.store source ≡ Some page → live_here new.store source ≡ Some page) → ((page : LivePage) → live_here m.store fresh ≡ Some page → live_here new.store fresh ≡ Some page)
       → HasRoom m line source fresh → HasRoom new line source fresh
   puts_again line source fresh first second (rec, command, one) = (rec, command, one_again source fresh rec.key rec.body first second one)
 
@@ -174,7 +174,7 @@ module _ (m new : Machine) (capacity : SameCapacity m new) where
 knows_none : (m : Machine) (activity : Activity) → ((held : ℕ) (line : Line) → activity ≡ at.SessionSplit line held → ⊥) → ((source fresh : ℕ) (line : Line) → activity ≡ at.SessionPut line source fresh → ⊥) → KnowsOf m activity
 knows_none m activity split put = record { splits = λ held line is. absurd (split held line is); puts = λ source fresh line is. absurd (put source fresh line is) }
 
-free_knows : (m : Machine) (activity : Activity) → HoldsNothing activity → KnowsOf m activity
+pub free_knows : (m : Machine) (activity : Activity) → HoldsNothing activity → KnowsOf m activity
 free_knows m activity free = knows_none m activity (λ held line is. some held [] (sym (ap (latches_held m.store) is) ∙ free.latches m.store)) (λ source fresh line is. some source (latch_on fresh Exclusive ∷ []) (sym (ap (latches_held m.store) is) ∙ free.latches m.store))
   where
     some : (id : ℕ) (rest : List Latch) → latch_on id Exclusive ∷ rest ≡ [] → ⊥
@@ -202,10 +202,10 @@ again_knows m job parent = knows_none m (at.PosterAgain job parent) (λ held lin
 -- ---- one that does
 
 -- its pages are held exclusively
-split_latched : (st : StoreState) (activity : Activity) (line : Line) (held : ℕ) → activity ≡ at.SessionSplit line held → mode_among held (latches_held st activity) ≡ Some Exclusive
+pub split_latched : (st : StoreState) (activity : Activity) (line : Line) (held : ℕ) → activity ≡ at.SessionSplit line held → mode_among held (latches_held st activity) ≡ Some Exclusive
 split_latched st activity line held is = ap (λ (a : Activity). mode_among held (latches_held st a)) is ∙ ap (λ (b : Bool). cond b (Some Exclusive) None) (eq-eqb held held refl)
 
-put_latched : (st : StoreState) (activity : Activity) (line : Line) (source fresh : ℕ) → activity ≡ at.SessionPut line source fresh → (mode_among source (latches_held st activity) ≡ Some Exclusive) × (mode_among fresh (latches_held st activity) ≡ Some Exclusive)
+pub put_latched : (st : StoreState) (activity : Activity) (line : Line) (source fresh : ℕ) → activity ≡ at.SessionPut line source fresh → (mode_among source (latches_held st activity) ≡ Some Exclusive) × (mode_among fresh (latches_held st activity) ≡ Some Exclusive)
 put_latched st activity line source fresh is = (
   ap (λ (a : Activity). mode_among source (latches_held st a)) is ∙ ap (λ (b : Bool). cond b (Some Exclusive) (mode_among source (latch_on fresh Exclusive ∷ []))) (eq-eqb source source refl),
   ap (λ (a : Activity). mode_among fresh (latches_held st a)) is ∙ either (source == fresh) ∙ refl,
@@ -248,7 +248,7 @@ put_knows m line source fresh has = record { splits = λ held other is. absurd (
     never : (held : ℕ) (other : Line) → at.SessionPut line source fresh ≡ at.SessionSplit other held → ⊥
     never held other is = cc
 
-knows_as : (m : Machine) (activity other : Activity) → activity ≡ other → KnowsOf m other → KnowsOf m activity
+pub knows_as : (m : Machine) (activity other : Activity) → activity ≡ other → KnowsOf m other → KnowsOf m activity
 knows_as m activity other is knows = subst (KnowsOf m) (sym is) knows
 
 -- ---- the actor that steps

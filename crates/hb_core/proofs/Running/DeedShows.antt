@@ -78,7 +78,7 @@ module _ (d : DiskModel) (c after : RunningCore) (m : Machine) (actor : ℕ) (de
     stays = λ id must same. does.stays id (stay id must) same;
   }
 
-  of_core : {X : Type 0} (f : RunningCore → X) → f after ≡ f (record (with_standing actor deed.next c) { latches = after.latches; jobs = after.jobs; order = after.order; store = after.store; uses = after.uses })
+  of_core : {X : Type 0} (f : RunningCore → X) → f after ≡ f (record (with_standing actor deed.next c) { latches = after.latches; jobs = after.jobs; order = after.order; store = after.store; uses = after.uses; done = after.done })
   of_core f = ap f does.rest
 
   files_shown : KeepsFilesBy deed.op d c.store d after.store → IsSome d.told → ShowsFiles d new

@@ -1,5 +1,5 @@
 -- What the calls of a core make of it, put together: a deed.
-use Rattle.std.proofs.Common.{◌≡◌, ℕ, ◌-◌, List, [], ◌++◌, length, Option, Some, None, refl, sym, ap, subst, ◌∙◌, append-nil}
+use Rattle.std.proofs.Common.{◌≡◌, ℕ, List, [], ◌++◌, length, Option, Some, None, refl, sym, ap, subst, ◌∙◌, append-nil}
 use Rattle.hb_latch.specs.Tables.{LatchTable}
 use Rattle.hb_activity.specs.declared.activities.Activity.{Activity}
 use Rattle.hb_activity.specs.declared.activities.Activity.TheVariants as at
@@ -22,7 +22,9 @@ use Rattle.hb_pool.specs.Frames.{Use}
 use Rattle.hb_set.specs.declared.commands.Reply.{Reply}
 use Rattle.hb_store.specs.Held.{IsTied}
 use Rattle.hb_core.proofs.Running.Pins.{tied_held}
-use Rattle.hb_core.specs.Moving.{DoesDeed, KeepsStaying, StandsFree, StandsNow, joins_order, number_of, numbers_joined, placed, placed_at, pushed, said, with_jobs, with_order, with_order_of_use, with_standing, with_store}
+use Rattle.hb_core.specs.declared.counts.TidyCounts.{TidyCounts}
+use Rattle.hb_core.specs.Counts.{counted_by}
+use Rattle.hb_core.specs.Moving.{DoesDeed, KeepsStaying, StandsFree, StandsNow, joins_order, number_of, numbers_joined, placed, placed_at, pushed, said, with_counts, with_jobs, with_order, with_order_of_use, with_standing, with_store}
 use Rattle.hb_core.specs.Pinning.{CanMovePins, CanUnpin}
 use Rattle.hb_core.specs.Using.{pages_of, use_done, use_held}
 use Rattle.hb_core.specs.Performing.{MayDo, Relatches, latches_held, outcome_of}
@@ -33,14 +35,14 @@ use Rattle.hb_core.proofs.Table.DeedKinds.{line_is_sessions}
 use Rattle.hb_core.proofs.Table.GivenUp.{given_up_is, idle_latches}
 use Rattle.std.proofs.lemmas.Option.{same_Some}
 
--- a deed, by what became of the store, the order of use, the jobs and the latches
-pub does_deed : (actor : ℕ) (pins : List ℕ) (deed : Deed) (outcome : Outcome) (old new : RunningCore) (store : StoreState) (uses : List Use) (left jobs : List Job) (latches : LatchTable)
+-- a deed, by what became of the store, the order of use, the jobs, the latches and the counts
+pub does_deed : (actor : ℕ) (pins : List ℕ) (deed : Deed) (outcome : Outcome) (old new : RunningCore) (store : StoreState) (uses : List Use) (left jobs : List Job) (latches : LatchTable) (counts : TidyCounts)
     → outcome ≡ outcome_of deed.says → LeavesBy deed.takes old.jobs left → AddsJobs deed.adds left jobs → MayDo deed.op (length old.order) old.store store
     → Relatches actor (latches_held store deed.next) old.latches latches
-    → uses ≡ use_held pins (pages_of (latches_held store deed.next)) (use_done deed.op old.store old.uses) → KeepsStaying deed.op old store → IsTied store uses
-    → new ≡ record (with_standing actor deed.next old) { latches = latches; jobs = jobs; order = old.order ++ numbers_joined deed.joins; store = store; uses = uses }
+    → uses ≡ use_held pins (pages_of (latches_held store deed.next)) (use_done deed.op old.store old.uses) → KeepsStaying deed.op old store → IsTied store uses → counts ≡ counted_by actor deed.op old.done
+    → new ≡ record (with_standing actor deed.next old) { latches = latches; jobs = jobs; order = old.order ++ numbers_joined deed.joins; store = store; uses = uses; done = counts }
     → DoesDeed actor pins deed outcome old new
-does_deed actor pins deed outcome old new store uses left jobs latches says takes adds done relatched used stays tied is =
+does_deed actor pins deed outcome old new store uses left jobs latches counts says takes adds done relatched used stays tied counted is =
     subst (λ (c : RunningCore). DoesDeed actor pins deed outcome old c) (sym is) (record {
       says = says;
       latches = relatched;
@@ -50,6 +52,7 @@ does_deed actor pins deed outcome old new store uses left jobs latches says take
       uses = used;
       stays = stays;
       tied = tied;
+      counts = counted;
       rest = refl;
     })
 
@@ -97,26 +100,26 @@ can_then place pins next stands_as old done hold at_end is_next does used tied =
     (subst (λ (l : List Use). CanMovePins pins (pages_of (latches_held done.store (placed_at (length old.order) next.then))) l) (sym used)
     (hold done.store (subst (λ (n : ℕ). MayDo next.op n old.store done.store) at_end does) (subst (λ (l : List Use). IsTied done.store l) used tied)))
 
--- what a decider said is performed: the operation, the jobs, the latches with the pins, and the order, one after the other
-pub performed : (actor place : ℕ) (pins : List ℕ) (line joins : Option ℕ) (next : Next) (stands_as : Activity) (outcome : Outcome) (old done queued stood new : RunningCore) (state : Activity)
+-- what a decider said is performed: the operation, the jobs, the latches with the pins, the order, and the counts, one after the other
+pub performed : (actor place : ℕ) (pins : List ℕ) (line joins : Option ℕ) (next : Next) (stands_as : Activity) (outcome : Outcome) (counts : TidyCounts) (old done queued stood ordered new : RunningCore) (state : Activity)
     → line ≡ number_of (hand_of state) → place ≡ length old.order → stands_as ≡ placed_at place next.then → joins ≡ joins_order line next.then next.fate → outcome ≡ said line next.fate
     → MayDo next.op place old.store done.store → done.uses ≡ use_done next.op old.store old.uses → KeepsStaying next.op old done.store → IsTied done.store done.uses
     → done ≡ with_order_of_use done.uses (with_store done.store old) → AddsJobs next.jobs.items done.jobs queued.jobs → queued ≡ with_jobs queued.jobs done
     → CanMovePins pins (pages_of (latches_held done.store stands_as)) done.uses
-    → StandsNow actor pins stands_as queued stood → new ≡ with_order (stood.order ++ pushed joins) stood
+    → StandsNow actor pins stands_as queued stood → ordered ≡ with_order (stood.order ++ pushed joins) stood → counts ≡ counted_by actor next.op old.done → new ≡ with_counts counts ordered
     → DoesDeed actor pins (placed (length old.order) (deed_of state next)) outcome old new
-performed actor place pins line joins next stands_as outcome old done queued stood new state hand at_end is_next is_joined is_said does used stay tied kept adds queued_so can stands joined =
+performed actor place pins line joins next stands_as outcome counts old done queued stood ordered new state hand at_end is_next is_joined is_said does used stay tied kept adds queued_so can stands joined counted counting =
     let deed : Deed = placed (length old.order) (deed_of state next) in
     let after : stands_as ≡ deed.next = is_next ∙ ap (λ (n : ℕ). placed_at n next.then) at_end in
     let jobs_so : queued ≡ record old { store = done.store; uses = done.uses; jobs = queued.jobs } = queued_so ∙ ap (with_jobs queued.jobs) kept in
     let stood_so : stood ≡ record (with_standing actor stands_as old) { store = done.store; uses = stood.uses; jobs = queued.jobs; latches = stood.latches } =
     stands.rest ∙ ap (λ (c : RunningCore). record (with_standing actor stands_as c) { latches = stood.latches; uses = stood.uses }) jobs_so in
-    let all : new ≡ record (with_standing actor stands_as old) { store = done.store; uses = stood.uses; jobs = queued.jobs; latches = stood.latches; order = old.order ++ pushed joins } =
-    joined ∙ ap (λ (c : RunningCore). with_order (c.order ++ pushed joins) c) stood_so in
+    let all : new ≡ record (with_standing actor stands_as old) { store = done.store; uses = stood.uses; jobs = queued.jobs; latches = stood.latches; order = old.order ++ pushed joins; done = counts } =
+    counting ∙ ap (with_counts counts) joined ∙ ap (λ (c : RunningCore). with_counts counts (with_order (c.order ++ pushed joins) c)) stood_so in
     let numbers : pushed joins ≡ numbers_joined deed.joins = ap pushed (is_joined ∙ ap (λ (l : Option ℕ). joins_order l next.then next.fate) hand) ∙ joined_so (hand_of state) next.then next.fate in
     let held : stood.uses ≡ use_held pins (pages_of (latches_held done.store stands_as)) done.uses =
     stands.uses ∙ ap (λ (c : RunningCore). use_held pins (pages_of (latches_held c.store stands_as)) c.uses) jobs_so in
-    does_deed actor pins deed outcome old new done.store stood.uses old.jobs queued.jobs stood.latches
+    does_deed actor pins deed outcome old new done.store stood.uses old.jobs queued.jobs stood.latches counts
     (is_said ∙ ap (λ (l : Option ℕ). said l next.fate) hand ∙ said_so (hand_of state) next.fate)
     refl
     (subst (λ (c : RunningCore). AddsJobs next.jobs.items c.jobs queued.jobs) kept adds)
@@ -127,8 +130,9 @@ performed actor place pins line joins next stands_as outcome old done queued sto
     ∙ ap (λ (a : Activity). use_held pins (pages_of (latches_held done.store a)) (use_done next.op old.store old.uses)) after)
     stay
     (subst (λ (l : List Use). IsTied done.store l) (sym held) (tied_held done.store pins (pages_of (latches_held done.store stands_as)) done.uses tied can))
-    (all ∙ ap (λ (l : List ℕ). record (with_standing actor stands_as old) { store = done.store; uses = stood.uses; jobs = queued.jobs; latches = stood.latches; order = old.order ++ l }) numbers
-    ∙ ap (λ (a : Activity). record (with_standing actor a old) { store = done.store; uses = stood.uses; jobs = queued.jobs; latches = stood.latches; order = old.order ++ numbers_joined deed.joins }) after)
+    counted
+    (all ∙ ap (λ (l : List ℕ). record (with_standing actor stands_as old) { store = done.store; uses = stood.uses; jobs = queued.jobs; latches = stood.latches; order = old.order ++ l; done = counts }) numbers
+    ∙ ap (λ (a : Activity). record (with_standing actor a old) { store = done.store; uses = stood.uses; jobs = queued.jobs; latches = stood.latches; order = old.order ++ numbers_joined deed.joins; done = counts }) after)
 
 -- nothing is done to the file
 nothing_done : (op : Option Op) (st : StoreState) (uses : List Use) → op ≡ None → use_done op st uses ≡ uses
@@ -140,10 +144,11 @@ pub just_stands : (actor : ℕ) (pins : List ℕ) (deed : Deed) (outcome : Outco
     → StandsNow actor pins deed.next old new → DoesDeed actor pins deed outcome old new
 just_stands actor pins deed outcome old new says takes adds does none joins tied can stands =
     let order : old.order ≡ old.order ++ numbers_joined deed.joins = sym (append-nil old.order) ∙ ap (λ (l : List ℕ). old.order ++ l) joins in
-    does_deed actor pins deed outcome old new old.store new.uses old.jobs old.jobs new.latches says takes adds does stands.latches
+    does_deed actor pins deed outcome old new old.store new.uses old.jobs old.jobs new.latches old.done says takes adds does stands.latches
     (stands.uses ∙ ap (λ (l : List Use). use_held pins (pages_of (latches_held old.store deed.next)) l) (sym (nothing_done deed.op old.store old.uses none)))
     (λ id stays same. refl)
     (subst (λ (l : List Use). IsTied old.store l) (sym stands.uses) (tied_held old.store pins (pages_of (latches_held old.store deed.next)) old.uses tied can))
+    (ap (λ (o : Option Op). counted_by actor o old.done) (sym none))
     (stands.rest ∙ ap (λ (l : List ℕ). record (with_standing actor deed.next old) { latches = new.latches; uses = new.uses; order = l }) order)
 
 -- the oldest job is taken, and no page is held before and afterwards
@@ -152,12 +157,13 @@ pub took_job : (actor : ℕ) (job : Job) (next : Activity) (old left new : Runni
 took_job actor job next old left new takes left_so none tied stands =
     let rest : new ≡ record (with_standing actor next old) { latches = new.latches; jobs = left.jobs } =
     stands.rest ∙ ap (λ (c : RunningCore). record (with_standing actor next c) { latches = new.latches }) left_so in
-    does_deed actor [] (takes_job next job) outcomes.Moved old new old.store old.uses left.jobs left.jobs new.latches refl takes refl refl
+    does_deed actor [] (takes_job next job) outcomes.Moved old new old.store old.uses left.jobs left.jobs new.latches old.done refl takes refl refl
     (subst (λ (l : List Latch). Relatches actor l old.latches new.latches) (sym none)
     (subst (λ (c : RunningCore). Relatches actor [] c.latches new.latches) left_so stands.latches))
     (ap (λ (l : List Latch). use_held [] (pages_of l) old.uses) (sym none))
     (λ id stays same. refl)
     tied
+    refl
     (rest ∙ ap (λ (l : List ℕ). record (with_standing actor next old) { latches = new.latches; jobs = left.jobs; order = l }) (sym (append-nil old.order)))
 
 -- who is idle pins nothing

@@ -10,18 +10,27 @@ use Rattle.hb_store.specs.declared.stops.StopWhy.TheVariants as stops
 use Rattle.hb_store.specs.declared.stops.WriteFault.{WriteFault}
 use Rattle.hb_core.specs.declared.outcomes.Outcome.{Outcome}
 use Rattle.hb_core.specs.declared.outcomes.Outcome.TheVariants as outcomes
+use Rattle.hb_core.specs.Counting.{CountsNoOp}
 use Rattle.hb_core.specs.Forcing.{FlushesOnce, StaysSo}
 use Rattle.hb_core.specs.Machines.{Machine}
 use Rattle.hb_core.specs.Moving.{with_stop}
 use Rattle.hb_core.specs.Showing.{RunningCore, ShowsMachine}
 use Rattle.hb_core.specs.Touching.{held_in}
 use Rattle.hb_core.specs.Working.{MayStep}
+use Rattle.hb_core.proofs.Running.Counted.{flush_no_op, no_op_shown}
 use Rattle.hb_core.proofs.Running.ForcedShows.{fails, forces, waits_or_not, with_held}
 use Rattle.hb_core.proofs.Running.WrittenShows.{fails_home, fails_turn, home_failed, home_none, home_some, home_turn, old_now, oldest_now, stayed_shown, turns_well, writes_well}
 
 -- a flush that says what is due, and idles where nothing is left to flush
 abbrev pub FlushesOrIdles : Machine → Outcome → Outcome → Machine → Type 0
 FlushesOrIdles m due outcome new = FlushesOnce m due (StaysSo m outcomes.Idle outcome new) outcome new
+
+-- It does no operation, and counts nothing.
+pub flushed_counts : (d e : DiskModel) (c after : RunningCore) (m : Machine) (due outcome : Outcome) → MayStep d c m → (new : Machine) × FlushesOrIdles m due outcome new × ShowsMachine e after new → after.taken ≡ c.taken → after.done ≡ c.done → CountsNoOp c after
+flushed_counts d e c after m due outcome step flushed taken done = record {
+  stay = record { taken = taken; done = done };
+  no_op = no_op_shown m.store flushed.0.store c.store after.store step.shows.store flushed.2.store (flush_no_op m due (StaysSo m outcomes.Idle outcome flushed.0) outcome flushed.0 (λ so. so.1) flushed.1);
+}
 
 module _ {D : Type 0} (model : D → DiskModel) (x y : D) (c : RunningCore) (m : Machine) (due : Outcome) (st : StoreState) (uses : List Use) (step : MayStep (model x) c m) where
   abbrev now : StoreHeld

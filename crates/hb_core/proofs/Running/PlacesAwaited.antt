@@ -59,6 +59,7 @@ module _ {D : Type 0} (model : D → DiskModel) (x y : D) (c : RunningCore) (m :
         uses = refl;
         stays = λ id stays same. refl;
         tied = subst (λ (l : List Use). IsTied c.store l) step.shows.uses (subst (λ (s : StoreState). IsTied s m.uses) step.shows.store step.goes_on.kept.frames_fit.tied);
+        counts = refl;
         rest = refl;
       } in
       let done = deed_done (model x) c (with_standing actor at.SessionIdle c) m actor may step (answers_now number reply) outcome [] (sym (ap (λ (a : Activity). pages_of (latches_held m.store a)) is)) refl (kept_number (m.activity actor) number reply (ap number_in_hand is)) does in

@@ -49,7 +49,7 @@ waits_or_not (x ∷ jobs) job = elim (same_job x job) [
 ]
 
 -- what `add` does, as its clauses tell
-added : (old new : List Job) (job : Job) (r : Bool) → (IsTrue r ↔ (Contains old job ⊎ (length old < JOBS))) → (Contains old job → new ≡ old)
+pub added : (old new : List Job) (job : Job) (r : Bool) → (IsTrue r ↔ (Contains old job ⊎ (length old < JOBS))) → (Contains old job → new ≡ old)
     → ((Contains old job → ⊥) → length old < JOBS → new ≡ old ++ job ∷ []) → OnFalse r (new ≡ old) → AddsJob job old new
 added old new job r tells there joins dropped = elim (waits_or_not old job) [
   | inl waits ↦ inl (waits, there waits)

@@ -54,17 +54,17 @@ pub record StandsInSpace (st : StoreState) (activity : Activity) : Type 0 where
   pub parents : (job : Job) (parent : ℕ) → IsAtParent activity job parent → HasParentOf st job parent
   pub merging : IfSome (merging_at activity) (NamesKnown st)
 
-each_stands : (m : Machine) → WalksInSpace m → (actor : ℕ) → StandsInSpace m.store (m.activity actor)
+pub each_stands : (m : Machine) → WalksInSpace m → (actor : ℕ) → StandsInSpace m.store (m.activity actor)
 each_stands m walks actor = record { held = walks.held actor; leads = walks.leads actor; parents = walks.parents actor; merging = walks.merging actor }
 
-all_stand : (m : Machine) → ((actor : ℕ) → StandsInSpace m.store (m.activity actor)) → WalksInSpace m
+pub all_stand : (m : Machine) → ((actor : ℕ) → StandsInSpace m.store (m.activity actor)) → WalksInSpace m
 all_stand m each = record { held = λ actor. (each actor).held; leads = λ actor. (each actor).leads; parents = λ actor. (each actor).parents; merging = λ actor. (each actor).merging }
 
 moved_parent : (old new : StoreState) (job : Job) (parent : ℕ) → ((page : LivePage) → live_here old parent ≡ Some page → live_here new parent ≡ Some page) → HasParentOf old job parent → HasParentOf new job parent
 moved_parent old new job parent moves (page, live, level, leads) = (page, moves page live, level, leads)
 
 -- the same activity, in a memory that has its pages
-stands_again : (activity : Activity) (old new : StoreState) → StandsInSpace old activity → ((held : ℕ) (page : LivePage) → walk_held activity ≡ Some held → live_here new held ≡ Some page → live_here old held ≡ Some page)
+pub stands_again : (activity : Activity) (old new : StoreState) → StandsInSpace old activity → ((held : ℕ) (page : LivePage) → walk_held activity ≡ Some held → live_here new held ≡ Some page → live_here old held ≡ Some page)
     → ((job : Job) (parent : ℕ) (page : LivePage) → IsAtParent activity job parent → live_here old parent ≡ Some page → live_here new parent ≡ Some page)
     → ((place : AtParent) → merging_at activity ≡ Some place → PlaceStays old new place) → StandsInSpace new activity
 stands_again activity old new stands walk parent merges = record {
@@ -96,7 +96,7 @@ no_parent st activity job parent none (inr (inr is)) = some (sym (ap (latches_he
     some : latch_on parent Exclusive ∷ [] ≡ [] → ⊥
     some is = cc
 
-free_stands : (st : StoreState) (activity : Activity) → HoldsNothing activity → StandsInSpace st activity
+pub free_stands : (st : StoreState) (activity : Activity) → HoldsNothing activity → StandsInSpace st activity
 free_stands st activity free = record {
   held = λ held page walks live. absurd (no_walk activity held free.walk walks);
   leads = λ held page walks live. absurd (no_walk activity held free.walk walks);

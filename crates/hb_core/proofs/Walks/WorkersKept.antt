@@ -36,11 +36,11 @@ use Rattle.hb_store.specs.States.{StoreState}
 abbrev pub StandsByJob : StoreState → Activity → Type 0
 StandsByJob st activity = IfSome (walking_job activity) (StandsAbove st (walk_held activity))
 
-none_stands : (st : StoreState) (activity : Activity) → walking_job activity ≡ None → StandsByJob st activity
+pub none_stands : (st : StoreState) (activity : Activity) → walking_job activity ≡ None → StandsByJob st activity
 none_stands st activity none = subst (λ (o : Option Job). IfSome o (StandsAbove st (walk_held activity))) (sym none) tt
 
 -- the same activity in a memory that has its page, under a height that didn't fall
-stands_again : (old new : StoreState) (held : Option ℕ) (o : Option Job) → old.meta.height ≤ new.meta.height → ((id : ℕ) (page : LivePage) → held ≡ Some id → live_here new id ≡ Some page → live_here old id ≡ Some page) → IfSome o (StandsAbove old held) → IfSome o (StandsAbove new held)
+pub stands_again : (old new : StoreState) (held : Option ℕ) (o : Option Job) → old.meta.height ≤ new.meta.height → ((id : ℕ) (page : LivePage) → held ≡ Some id → live_here new id ≡ Some page → live_here old id ≡ Some page) → IfSome o (StandsAbove old held) → IfSome o (StandsAbove new held)
 stands_again old new held None grows back stands = tt
 stands_again old new held (Some job) grows back stands = record {
   below_height = omega (arith, stands.below_height, grows);

@@ -1,4 +1,4 @@
-use Rattle.std.proofs.Common.{ℕ, List, refl, sym, ap, subst, arith}
+use Rattle.std.proofs.Common.{true, ◌≡◌, ℕ, List, refl, sym, ap, subst, arith}
 use Rattle.hb_core.specs.CoreSeen.{core_disk, core_seen}
 use Rattle.hb_core.specs.Showing.{RunningCore}
 use Rattle.hb_disk.specs.Model.{DiskModel}
@@ -6,25 +6,30 @@ use Rattle.hb_outside.specs.Calls.{SinkModel}
 use Rattle.hb_restart.specs.Beyond.{KeepsBeyondFile}
 use Rattle.hb_space.specs.Actors.{IsActor}
 use Rattle.std.specs.List.{All}
-use Rattle.hbpi.proofs.CoreEnds.{RanCore, core_beyond, core_ends, may_begin}
+use Rattle.hbpi.proofs.CoreEnds.{core_beyond, core_ends, may_begin}
 use Rattle.hbpi.proofs.StepsTaken.{are_actors}
+use Rattle.hbpi.proofs.TextEnds.{RanText, text_core}
 use Rattle.hbpi.proofs.Turned.{turned}
 use Rattle.hbpi.specs.Driven.{by_schedule}
+use Rattle.hb_core.specs.Machines.{Machine}
 use Rattle.hbpi.proofs.drive_file.drive_file.Goals as goal
 
+abbrev exactly : List ℕ → List ℕ → Machine → Type 0
+exactly steps actors after = actors ≡ steps
+
 pub drive-requires-clause-may : goal.drive-requires-clause-may
-drive-requires-clause-may g c = may_begin _ _ _ _ _ _ c.in-Ok.ensures.started
+drive-requires-clause-may g c = may_begin _ _ _ _ _ _ c.in-Ok.ensures.started.0
 
 pub drive-requires-clause-actors : goal.drive-requires-clause-actors
 drive-requires-clause-actors g c =
-    let made = c.in-Ok.ensures.started.made in
+    let made = c.in-Ok.ensures.started.0.made in
     subst (λ (steps : List ℕ). All IsActor steps) (sym (ap (λ (r : RunningCore). r.steps) made.core_is)) (are_actors made.steps made.script.actors)
 
 pub returns-in-Ok-clause-ends : goal.returns-in-Ok-clause-ends
 returns-in-Ok-clause-ends g c =
     let M : g.row.D.Denot → DiskModel = g.D.Device.model in
     let S : g.row.K.Denot → SinkModel = g.K.Sink.model in
-    let facts : RanCore M S by_schedule (core_disk c.in-Ok.core) (core_disk c.drive.result.core) c.finish.result.disk c.args.sink c.drive.result.sink c.finish.result.sink (core_seen c.in-Ok.core) (core_seen c.drive.result.core)
+    let facts : RanText M S exactly (core_disk c.in-Ok.core) (core_disk c.drive.result.core) c.finish.result.disk c.args.sink c.drive.result.sink c.finish.result.sink (core_seen c.in-Ok.core) (core_seen c.drive.result.core)
     c.drive.result.end c.drive.result.answered.items c.finish.result.answered.items c.finish.result.order.items c.finish.result.status = record {
       unbegun = c.drive.ensures.unbegun;
       drives = λ some m may. ((core_seen c.in-Ok.core).steps, c.drive.ensures.drives some m may, refl);
@@ -36,13 +41,14 @@ returns-in-Ok-clause-ends g c =
       silent_done = c.finish.ensures.silent_done;
       line = c.finish.ensures.line;
     } in
-    core_ends _ _ _ _ _ _ _ _ _ _ _ _ _ _ _ _ facts c.knows_laws.ensures _ _ _ c.in-Ok.ensures.started
+    let ran = text_core M S true exactly _ _ _ _ _ _ _ _ _ _ _ _ _ facts (M c.args.disk) (g.S.Source.model c.args.source.now) (g.S.Source.model c.start.new.source) in
+    core_ends M _ _ _ _ _ _ _ _ _ _ _ ran c.knows_laws.ensures c.in-Ok.ensures.started.0
 
 pub returns-in-Ok-clause-beyond : goal.returns-in-Ok-clause-beyond
 returns-in-Ok-clause-beyond g c =
     let M : g.row.D.Denot → DiskModel = g.D.Device.model in
     let S : g.row.K.Denot → SinkModel = g.K.Sink.model in
-    let facts : RanCore M S by_schedule (core_disk c.in-Ok.core) (core_disk c.drive.result.core) c.finish.result.disk c.args.sink c.drive.result.sink c.finish.result.sink (core_seen c.in-Ok.core) (core_seen c.drive.result.core)
+    let facts : RanText M S exactly (core_disk c.in-Ok.core) (core_disk c.drive.result.core) c.finish.result.disk c.args.sink c.drive.result.sink c.finish.result.sink (core_seen c.in-Ok.core) (core_seen c.drive.result.core)
     c.drive.result.end c.drive.result.answered.items c.finish.result.answered.items c.finish.result.order.items c.finish.result.status = record {
       unbegun = c.drive.ensures.unbegun;
       drives = λ some m may. ((core_seen c.in-Ok.core).steps, c.drive.ensures.drives some m may, refl);
@@ -54,7 +60,8 @@ returns-in-Ok-clause-beyond g c =
       silent_done = c.finish.ensures.silent_done;
       line = c.finish.ensures.line;
     } in
-    core_beyond _ _ _ _ _ _ _ _ _ _ _ _ _ _ _ _ facts c.knows_laws.ensures _ _ _ c.in-Ok.ensures.started
+    let ran = text_core M S true exactly _ _ _ _ _ _ _ _ _ _ _ _ _ facts (M c.args.disk) (g.S.Source.model c.args.source.now) (g.S.Source.model c.start.new.source) in
+    core_beyond M _ _ _ _ _ _ _ _ _ _ _ ran c.knows_laws.ensures c.in-Ok.ensures.started.0
 
 pub returns-in-Err-clause-ends : goal.returns-in-Err-clause-ends
 returns-in-Err-clause-ends g c =

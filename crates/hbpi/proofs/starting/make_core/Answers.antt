@@ -4,7 +4,7 @@ use Rattle.hb_layout.specs.declared.meta.Meta.{Meta}
 use Rattle.hb_set.proofs.Facts.ScriptLaws.{script_is_short}
 use Rattle.hb_store.specs.Seen.{held_by, seen_as}
 use Rattle.hbpi.proofs.Begins.{no_frame}
-use Rattle.hbpi.specs.Schedules.{IsScheduled, IsScript}
+use Rattle.hbpi.specs.Schedules.{CameFrom, IsScript}
 use Rattle.hbpi.proofs.starting.make_core.Goals as goal
 
 pub over-requires : goal.over-requires
@@ -13,7 +13,7 @@ over-requires g c = omega (arith, script_is_short c.meta.result.now.k c.in-Ok.sc
 pub returns-in-Ok-over-clause-made : goal.returns-in-Ok-over-clause-made
 returns-in-Ok-over-clause-made g c =
     let before = g.S.Source.model c.args.source.now in
-    let after = g.S.Source.model c.read_script.new.source in
+    let after = g.S.Source.model c.script_from.new.source in
     let store = c.args.store in
     let script = c.in-Ok.script in
     let k : c.meta.result.now.k ≡ (seen_as store).meta.k = ap (λ (m : Meta). m.k) c.meta.ensures.meta in (
@@ -21,7 +21,7 @@ returns-in-Ok-over-clause-made g c =
       record {
         lines = script.lines;
         steps = script.steps;
-        scheduled = subst (λ (n : ℕ). IsScheduled c.args.step_lines n before.left after.left script.lines script.steps) k c.in-Ok.ensures.read;
+        came = subst (λ (n : ℕ). CameFrom c.args.origin n before after script.lines script.steps) k c.in-Ok.ensures.came;
         source = c.in-Ok.ensures.no_fault;
         script = subst (λ (n : ℕ). IsScript n script.lines script.steps) k c.in-Ok.ensures.script;
         stands = c.meta.ensures.store.memory.stands;

@@ -1,65 +1,51 @@
-use Rattle.std.proofs.Common.{◌≡◌, inl, inr, [], refl, sym, subst}
-use Rattle.std.proofs.lemmas.Result.{IfOk-weaker}
-use Rattle.hb_core.specs.CoreSeen.{core_disk, core_seen}
+use Rattle.std.proofs.Common.{inl, inr, [], refl, sym, subst}
+use Rattle.hb_core.specs.CoreSeen.{core_disk}
 use Rattle.hb_disk.specs.Model.{DiskModel}
 use Rattle.hb_restart.specs.Beyond.{KeepsBeyondFile}
 use Rattle.hb_restart.specs.Leaving.{LeavesOpening, OpensStore, RunsThrough}
-use Rattle.hb_store.specs.Seen.{disk_of, seen_as}
+use Rattle.hb_store.specs.Seen.{seen_as}
 use Rattle.hbpi.proofs.ShutOut.{shut_out}
-use Rattle.hbpi.proofs.Turned.{IfErr-weaker}
 use Rattle.hbpi.specs.Driven.{IsOpened}
 use Rattle.hbpi.specs.SeenRuns.{seen_by}
-use Rattle.hbpi.specs.Starts.{IsMadeCore, IsNotStarted, IsStarted}
-use Rattle.hbpi.specs.Schedules.{NotScheduled}
 use Rattle.hbpi.proofs.starting.start.Goals as goal
 
-pub returns-in-Ok-clause-started : goal.returns-in-Ok-clause-started
-returns-in-Ok-clause-started g c =
+pub returns-in-Ok-make_core-clause-started : goal.returns-in-Ok-make_core-clause-started
+returns-in-Ok-make_core-clause-started g c =
     let M : g.row.D.Denot → DiskModel = g.D.Device.model in
-    let before = g.S.Source.model c.args.source.now in
-    let after = g.S.Source.model c.make_core.new.source in
     let store = seen_as c.in-Ok.store in
     let facts = c.in-Ok.ensures in
-    IfOk-weaker c.make_core.result
-    (λ core. (core_disk core ≡ disk_of c.in-Ok.store) × IsMadeCore c.args.step_lines store before after (core_seen core))
-    (λ core. IsStarted c.args.step_lines before after (M c.args.disk) (M (core_disk core)) (core_seen core))
-    (λ core made. record {
-      store = store;
-      count = c.in-Ok.field-0-1;
-      disk = g.met.D.Device.is_disk (core_disk core);
-      opens = subst (λ (x : g.row.D.Denot). OpensStore (M c.args.disk) (M x) store c.in-Ok.field-0-1) (sym made.0) facts.opened;
-      through = subst (λ (x : g.row.D.Denot). RunsThrough store.meta.high (M c.args.disk) (M x)) (sym made.0) facts.through;
-      leaves = subst (λ (x : g.row.D.Denot). LeavesOpening ⊥ (M c.args.disk) (M x)) (sym made.0) facts.leaves;
-      made = made.1;
-    }) c.make_core.ensures.made
+    let core = c.in-Ok-make_core.core in
+    let made = c.in-Ok-make_core.ensures.made in (
+      record {
+        store = store;
+        count = c.in-Ok.records;
+        disk = g.met.D.Device.is_disk (core_disk core);
+        opens = subst (λ (x : g.row.D.Denot). OpensStore (M c.args.disk) (M x) store c.in-Ok.records) (sym made.0) facts.opened;
+        through = subst (λ (x : g.row.D.Denot). RunsThrough store.meta.high (M c.args.disk) (M x)) (sym made.0) facts.through;
+        leaves = subst (λ (x : g.row.D.Denot). LeavesOpening ⊥ (M c.args.disk) (M x)) (sym made.0) facts.leaves;
+        made = made.1;
+      },
+      refl,
+    )
 
-pub returns-in-Ok-clause-refused : goal.returns-in-Ok-clause-refused
-returns-in-Ok-clause-refused g c =
+pub returns-in-Err-make_core-clause-refused : goal.returns-in-Err-make_core-clause-refused
+returns-in-Err-make_core-clause-refused g c sink put line =
     let M : g.row.D.Denot → DiskModel = g.D.Device.model in
-    let before = g.S.Source.model c.args.source.now in
-    let after = g.S.Source.model c.make_core.new.source in
     let store = seen_as c.in-Ok.store in
     let facts = c.in-Ok.ensures in
-    IfErr-weaker c.make_core.result
-    (λ e. (e.1 ≡ disk_of c.in-Ok.store) × NotScheduled c.args.step_lines store.meta.k before after e.0)
-    (λ e. IsNotStarted c.args.step_lines before after (M c.args.disk) (M e.1) e.0)
-    (λ e turned sink put line. inr (record {
+    let turned = c.in-Err-make_core.ensures.refused in
+    inr (record {
       k = store.meta.k;
       opened = subst (λ (x : g.row.D.Denot). IsOpened store.meta.k (M c.args.disk) (M x)) (sym turned.0)
-          (record { store = store; count = c.in-Ok.field-0-1; attributes = refl; opens = facts.opened; through = facts.through; leaves = facts.leaves });
+          (record { store = store; count = c.in-Ok.records; attributes = refl; opens = facts.opened; through = facts.through; leaves = facts.leaves });
       refused = record { line = line; none_answered = refl; none_ordered = refl };
       why = turned.1;
-    })) c.make_core.ensures.refused
+    })
 
-pub returns-in-Ok-clause-beyond : goal.returns-in-Ok-clause-beyond
-returns-in-Ok-clause-beyond g c =
+pub returns-in-Err-make_core-clause-beyond : goal.returns-in-Err-make_core-clause-beyond
+returns-in-Err-make_core-clause-beyond g c =
     let M : g.row.D.Denot → DiskModel = g.D.Device.model in
-    let before = g.S.Source.model c.args.source.now in
-    let after = g.S.Source.model c.make_core.new.source in
-    IfErr-weaker c.make_core.result
-    (λ e. (e.1 ≡ disk_of c.in-Ok.store) × NotScheduled c.args.step_lines (seen_as c.in-Ok.store).meta.k before after e.0)
-    (λ e. KeepsBeyondFile (M c.args.disk) (M e.1))
-    (λ e turned. subst (λ (x : g.row.D.Denot). KeepsBeyondFile (M c.args.disk) (M x)) (sym turned.0) c.in-Ok.ensures.leaves.beyond) c.make_core.ensures.refused
+    subst (λ (x : g.row.D.Denot). KeepsBeyondFile (M c.args.disk) (M x)) (sym c.in-Err-make_core.ensures.refused.0) c.in-Ok.ensures.leaves.beyond
 
 pub returns-in-Err-clause-refused : goal.returns-in-Err-clause-refused
 returns-in-Err-clause-refused g c sink put line =

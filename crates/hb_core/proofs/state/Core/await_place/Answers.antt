@@ -1,9 +1,11 @@
 use Rattle.hb_core.proofs.state.Core.await_place.Goals as goal
-use Rattle.std.proofs.Common.{Some, ap, ◌∙◌}
+use Rattle.std.proofs.Common.{Some, refl, ap, ◌∙◌}
 use Rattle.hb_core.specs.declared.outcomes.Outcome.TheVariants as outcomes
+use Rattle.hb_core.proofs.Running.Counted.{counts_so, forced_no_op, stopped_no_op}
 use Rattle.hb_core.proofs.Running.PlacesAwaited.{await_answered, await_failed, await_forced, awaits_as}
 use Rattle.hb_core.proofs.Running.Touched.{failed_then, kept_well, moved_well, touched_forced, untouched, well_as}
 use Rattle.hb_core.specs.CoreSeen.{core_disk, core_seen}
+use Rattle.hb_core.specs.Showing.{RunningCore}
 use Rattle.hb_store.specs.Seen.{seen_as, uses_of}
 
 pub answer_kept-requires : goal.answer_kept-requires
@@ -25,6 +27,9 @@ returns-then-place-settled g c = record {
       (kept_well (g.D.Device.model (core_disk c.args.self.now)) (core_seen c.args.self.now) c.requires.may.0 c.args.actor its.0 c.args.place its.1 c.requires.may.1
       (awaits_as (g.D.Device.model (core_disk c.args.self.now)) (core_seen c.args.self.now) c.requires.may.0 c.args.actor its.0 c.args.place its.1 c.requires.actor c.requires.may.1 its.2)))
       c.answer_kept.ensures.disk;
+  counts =
+      let its = c.requires.awaits in
+      counts_so (core_seen c.args.self.now) (core_seen c.answer_kept.new.self) _ (c.answer_kept.ensures.does its.0 c.args.place its.1 its.2).1 refl refl refl;
 }
 
 pub returns-in-Ok : goal.returns-in-Ok
@@ -33,6 +38,7 @@ returns-in-Ok g c = record {
       await_forced g.D.Device.model (core_disk c.args.self.now) c.force.new.self.disk (core_seen c.args.self.now) m c.args.actor number c.args.place c.settled.result reply step c.settled.ensures
       c.in-Ok.field-0 (seen_as c.force.new.self) (uses_of c.force.new.self) c.if-place-settled.false c.in-Ok.ensures.writes c.in-Ok.ensures.uses;
   touches = touched_forced g.D.Device.model (core_disk c.args.self.now) c.force.new.self.disk (core_seen c.args.self.now) _ outcomes.Moved c.in-Ok.field-0 moved_well c.in-Ok.ensures.writes;
+  counts = record { stay = record { taken = refl; done = refl }; no_op = forced_no_op (core_seen c.args.self.now).store (seen_as c.force.new.self) c.in-Ok.ensures.writes.forced };
 }
 
 pub returns-in-Err : goal.returns-in-Err
@@ -44,4 +50,8 @@ returns-in-Err g c = record {
   touches =
       failed_then g.D.Device.model (core_disk c.args.self.now) c.force.new.self.disk (core_seen c.args.self.now) (seen_as c.force.new.self) (uses_of c.force.new.self) (core_disk c.stop_for.new.self) (core_seen c.stop_for.new.self) c.stop_for.result
       c.in-Err._fault c.in-Err.ensures.writes c.stop_for.ensures.says c.stop_for.ensures.stops.does c.stop_for.ensures.stops.disk;
+  counts = record {
+    stay = record { taken = ap (λ (s : RunningCore). s.taken) c.stop_for.ensures.stops.does; done = ap (λ (s : RunningCore). s.done) c.stop_for.ensures.stops.does };
+    no_op = stopped_no_op (core_seen c.args.self.now).store (core_seen c.stop_for.new.self).store (ap (λ (s : RunningCore). s.store) c.stop_for.ensures.stops.does ∙ c.in-Err.ensures.writes.stopped);
+  };
 }

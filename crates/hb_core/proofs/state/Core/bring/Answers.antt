@@ -1,15 +1,16 @@
-use Rattle.std.proofs.Common.{Err, ap, subst, sym, ◌∙◌}
+use Rattle.std.proofs.Common.{Err, refl, ap, subst, sym, ◌∙◌}
 use Rattle.std.proofs.lemmas.Bool.{false≢true}
 use Rattle.hb_disk.specs.Model.{DiskModel}
 use Rattle.hb_pool.specs.Frames.{pinned}
 use Rattle.hb_pool.specs.Pools.{put_last}
-use Rattle.hb_store.specs.Calls.{Fetched}
+use Rattle.hb_store.specs.Calls.{Fetched, KeepsAllButPages}
 use Rattle.hb_store.specs.Seen.{seen_as, uses_of}
 use Rattle.hb_store.specs.States.{StoreState, in_memory}
 use Rattle.hb_core.specs.Moving.{with_order_of_use, with_store}
 use Rattle.hb_core.specs.CoreSeen.{core_seen}
 use Rattle.hb_core.specs.Working.{Halts, IsWorking}
 use Rattle.hb_core.specs.declared.halts.Halt.{Halt}
+use Rattle.hb_core.proofs.Running.Counted.{pages_as}
 use Rattle.hb_core.proofs.Running.Coming.{failed_test, looks_as, looks_kept, may_be_pinned, may_let_go, none_where, not_crowded, passed, refused}
 use Rattle.hb_core.proofs.Running.StandsElsewhere.{stands_as}
 use Rattle.hb_core.proofs.state.Core.bring.Goals as goal
@@ -71,3 +72,18 @@ returns-in-Err-clause-halts g c m may work =
     refused m (g.D.Device.model c.args.self.now.store.disk) (core_seen c.args.self.now) c.args.actor c.requires.actor may work c.in-Some.wanted (sym (c.requires.wanted m may) ∙ c.in-Some.is)
     (g.D.Device.model c.fetch.new.self.disk) _ (seen_as c.fetch.new.self) (uses_of c.fetch.new.self) c.in-Err.stop c.halt_of.result c.halt_of.ensures c.in-Err.ensures.looks c.in-Err.ensures.kept
     (none_where _ (λ there. false≢true (c.in-Err.ensures.there there).0)) c.in-Err.ensures.why c.in-Err.ensures.sound
+
+pub returns-in-Ok-tested-clause-brings : goal.returns-in-Ok-tested-clause-brings
+returns-in-Ok-tested-clause-brings g c = record {
+  pages = subst (λ (st : StoreState). KeepsAllButPages (seen_as c.args.self.now.store) st) (sym c.pin.ensures.seen) c.in-Ok.ensures.fetched.rest;
+  rest = refl;
+}
+
+pub returns-in-Err-tested-clause-brings : goal.returns-in-Err-tested-clause-brings
+returns-in-Err-tested-clause-brings g c = record {
+  pages = subst (λ (st : StoreState). KeepsAllButPages (seen_as c.args.self.now.store) st) (sym (c.unpin.ensures.seen ∙ c.pin.ensures.seen)) c.in-Ok.ensures.fetched.rest;
+  rest = refl;
+}
+
+pub returns-in-Err-clause-brings : goal.returns-in-Err-clause-brings
+returns-in-Err-clause-brings g c = record { pages = pages_as (seen_as c.args.self.now.store) (seen_as c.fetch.new.self) c.in-Err.ensures.kept.0; rest = refl }

@@ -1,8 +1,9 @@
 use Rattle.hb_core.specs.CoreSeen.{core_seen, core_disk}
+use Rattle.hb_core.proofs.Running.Counted.{brings_part, brings_then, part_then}
 use Rattle.hb_core.proofs.Running.Holds.{holds_alike}
 use Rattle.hb_core.proofs.Running.RowsDone.{let_go, lines_alike, may_let_wanted_go}
 use Rattle.hb_core.proofs.Running.Wants.{want_alike}
-use Rattle.std.proofs.Common.{refl, subst, sym, ◌∙◌}
+use Rattle.std.proofs.Common.{refl, ap, subst, sym, ◌∙◌}
 use Rattle.hb_core.specs.Showing.{RunningCore}
 use Rattle.hb_core.specs.Working.{Halts}
 use Rattle.hb_core.proofs.state.Core.do_row.Goals as goal
@@ -48,3 +49,15 @@ returns-in-Err-clause-halts g c m may work =
 
 pub returns-in-Ok-clause-done : goal.returns-in-Ok-clause-done
 returns-in-Ok-clause-done g c m may work = c.in-Ok.ensures.done m (c.in_ok-bring.ensures.comes m may work)
+
+pub returns-in_err-bring-clause-counts : goal.returns-in_err-bring-clause-counts
+returns-in_err-bring-clause-counts g c = brings_part c.args.actor (core_seen c.args.self.now) (core_seen c.bring.new.self) c.in_err-bring.ensures.brings
+
+pub returns-in-Ok-clause-counts : goal.returns-in-Ok-clause-counts
+returns-in-Ok-clause-counts g c = brings_then c.args.actor (core_seen c.args.self.now) (core_seen c.bring.new.self) (core_seen c.row_there.new.self) c.in_ok-bring.ensures.brings c.in-Ok.ensures.counts
+
+pub returns-in-Err-clause-counts : goal.returns-in-Err-clause-counts
+returns-in-Err-clause-counts g c =
+    part_then c.args.actor (core_seen c.args.self.now) (core_seen c.row_there.new.self) (core_seen c.let_go.new.self)
+    (brings_then c.args.actor (core_seen c.args.self.now) (core_seen c.bring.new.self) (core_seen c.row_there.new.self) c.in_ok-bring.ensures.brings c.in-Err.ensures.counts)
+    (ap (λ (s : RunningCore). s.store) c.let_go.ensures.does) (ap (λ (s : RunningCore). s.taken) c.let_go.ensures.does) (ap (λ (s : RunningCore). s.done) c.let_go.ensures.does)

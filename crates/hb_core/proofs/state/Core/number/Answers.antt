@@ -1,9 +1,10 @@
-use Rattle.std.proofs.Common.{Err, ap, inl, inr, subst, sym, ◌∙◌}
+use Rattle.std.proofs.Common.{Err, ap, inl, inr, refl, subst, sym, ◌∙◌}
 use Rattle.std.proofs.lemmas.Bool.{false≢true}
 use Rattle.hb_store.specs.Seen.{seen_as, uses_of}
 use Rattle.hb_core.specs.CoreSeen.{core_seen}
 use Rattle.hb_core.specs.Working.{HaltsPinned}
 use Rattle.hb_core.specs.declared.halts.Halt.{Halt}
+use Rattle.hb_core.proofs.Running.Counted.{pages_may}
 use Rattle.hb_core.proofs.Running.Numbered.{came_by_chain, head_halts, head_not_crowded, none_given, number_refused, number_then, reads_halted, reads_on}
 use Rattle.hb_core.proofs.state.Core.number.Goals as goal
 
@@ -40,3 +41,9 @@ returns-in-Ok-clause-reads g c = reads_on c.in-Ok.next (g.D.Device.model c.args.
 pub returns-in-Err-next-clause-reads : goal.returns-in-Err-next-clause-reads
 returns-in-Err-next-clause-reads g c =
     reads_halted c.in-Err-next.stop c.halt_of.result (g.D.Device.model c.args.self.now.store.disk) (g.D.Device.model c.next_page-next.new.self.disk) c.halt_of.ensures c.in-Err-next.ensures.looks.only
+
+pub returns-in-Ok-clause-brings : goal.returns-in-Ok-clause-brings
+returns-in-Ok-clause-brings g c = record { pages = pages_may (core_seen c.args.self.now).store.meta.free (seen_as c.args.self.now.store) (seen_as c.next_page-next.new.self) c.in-Ok.ensures.fetches; rest = refl }
+
+pub returns-in-Err-next-clause-brings : goal.returns-in-Err-next-clause-brings
+returns-in-Err-next-clause-brings g c = record { pages = pages_may (core_seen c.args.self.now).store.meta.free (seen_as c.args.self.now.store) (seen_as c.next_page-next.new.self) c.in-Err-next.ensures.fetches; rest = refl }

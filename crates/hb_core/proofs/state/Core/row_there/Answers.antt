@@ -1,6 +1,10 @@
-use Rattle.std.proofs.Common.{◌∙◌}
+use Rattle.std.proofs.Common.{refl, ◌∙◌}
 use Rattle.std.proofs.lemmas.Result.{IfErr-weaker}
 use Rattle.hb_core.specs.CoreSeen.{core_seen, core_disk}
+use Rattle.hb_activity.specs.Classes.{idle_of}
+use Rattle.hb_core.specs.Counting.{CountsPart}
+use Rattle.hb_core.specs.KeptFits.{class_for}
+use Rattle.hb_core.proofs.Running.Counted.{brings_part, by_result, counts_so, deed_part, stands_part, stands_then, stays_part}
 use Rattle.hb_core.proofs.Running.Holds.{few_held}
 use Rattle.hb_core.proofs.Running.RowsPerformed.{ok_both, order_few, performed_halts, performed_row, pins_joined, refused_halts, row_may_commit, row_may_hold, row_may_join, row_may_stand}
 use Rattle.hb_core.proofs.Running.Wants.{want_alike}
@@ -78,3 +82,18 @@ returns-in-Err-clause-halts g c m come =
     let pages = c.in_ok-free.ensures.numbered m come in
     refused_halts g.D.Device.model (core_disk c.number.new.self) (core_disk c.decide.new.self) (core_seen c.number.new.self) (core_seen c.decide.new.self) m c.args.actor c.in_ok-free.free c.requires.row.actor
     c.in-Err.ensures.rest.does c.in-Err.ensures.rest.disk pages c.from.result c.from.ensures (c.in-Err.ensures.memory m pages)
+
+pub returns-in_err-free-clause-counts : goal.returns-in_err-free-clause-counts
+returns-in_err-free-clause-counts g c = brings_part c.args.actor (core_seen c.args.self.now) (core_seen c.number.new.self) c.in_err-free.ensures.brings
+
+pub returns-in-Err-clause-counts : goal.returns-in-Err-clause-counts
+returns-in-Err-clause-counts g c = stands_part c.args.actor (core_seen c.args.self.now) (core_seen c.number.new.self) (core_seen c.decide.new.self) (idle_of (class_for c.args.actor)) c.in_ok-free.ensures.brings c.in-Err.ensures.rest.does
+
+pub returns-in-Ok-clause-counts : goal.returns-in-Ok-clause-counts
+returns-in-Ok-clause-counts g c =
+    let m = c.requires.row.come.0 in
+    stands_then c.args.actor (core_seen c.args.self.now) (core_seen c.number.new.self) (core_seen c.decide.new.self) (core_seen c.perform.new.self) (idle_of (class_for c.args.actor)) c.in_ok-free.ensures.brings c.in-Ok.ensures.rest.does
+    (by_result c.perform.result _ _ (CountsPart c.args.actor (core_seen c.decide.new.self) (core_seen c.perform.new.self))
+    (λ outcome does. deed_part c.args.actor c.as_slice.result.now _ outcome (core_seen c.decide.new.self) (core_seen c.perform.new.self) (does (m.activity c.args.actor) (c.requires.line m c.requires.row.come.1)))
+    (λ halt why. stays_part c.args.actor (core_seen c.decide.new.self) (core_seen c.perform.new.self) (counts_so (core_seen c.decide.new.self) (core_seen c.perform.new.self) (core_seen c.decide.new.self) why.2 refl refl refl))
+    c.perform.ensures.does c.perform.ensures.why)

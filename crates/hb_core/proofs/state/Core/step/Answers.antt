@@ -1,7 +1,8 @@
 use Rattle.hb_core.proofs.state.Core.step.Goals as goal
-use Rattle.std.proofs.Common.{Some, refl, ap, ◌∙◌}
+use Rattle.std.proofs.Common.{Some, inl, refl, ap, ◌∙◌}
 use Rattle.hb_core.specs.declared.outcomes.Outcome.TheVariants as outcomes
 use Rattle.hb_core.proofs.Running.AgainstPlaces.{lines_have_boxes, locks_have_boxes}
+use Rattle.hb_core.proofs.Running.Counted.{counts_step, line_counts, merging_counts, no_op_still, posting_counts, stays_part}
 use Rattle.hb_core.proofs.Running.Touched.{as_before_count, line_well, merging_well, posting_well, untouched, untouched_stopped}
 use Rattle.hb_core.proofs.Running.StepTaken.{await_step, counted, flusher_step, lies_behind, line_step, merging_step, posting_step, stopped_stays, with_taken, work_step, works_then}
 use Rattle.hb_core.specs.CoreSeen.{core_disk, core_seen}
@@ -12,6 +13,7 @@ returns-in-Some g c = record {
       stopped_stays (g.D.Device.model (core_disk c.args.self.now)) (with_taken c.saturating_add-self.result (core_seen c.args.self.now)) m c.args.actor c.in-Some.why c.copy_of.result
       (counted c.saturating_add-self.result (g.D.Device.model (core_disk c.args.self.now)) (core_seen c.args.self.now) m step).shows c.in-Some.is c.copy_of.ensures;
   touches = untouched_stopped g.D.Device.model (core_disk c.args.self.now) (core_disk c.args.self.now) (core_seen c.args.self.now) _ (outcomes.Stopped c.copy_of.result) c.in-Some.why c.copy_of.result c.in-Some.is c.copy_of.ensures refl;
+  counts = record { taken = c.saturating_add-self.ensures; done = inl (no_op_still (core_seen c.args.self.now).store, refl) };
 }
 
 pub take_line-requires : goal.take_line-requires
@@ -61,6 +63,9 @@ returns-in-SessionIdle g c = record {
       let behind = lies_behind (g.D.Device.model (core_disk c.args.self.now)) (core_seen c.args.self.now) c.requires.may.0 c.args.actor c.activity.result.now c.requires.actor c.requires.may.1 c.in_default.is c.activity.ensures c.in-SessionIdle.is in
       untouched g.D.Device.model (core_disk c.args.self.now) (core_disk c.take_line.new.self) (core_seen c.args.self.now) (core_seen c.take_line.new.self) c.take_line.result
       (line_well c.args.actor behind.0 c.take_line.result (with_taken c.saturating_add-self.result (core_seen c.args.self.now)) (core_seen c.take_line.new.self) (c.take_line.ensures.does behind.0 behind.1)) c.take_line.ensures.disk;
+  counts =
+      let behind = lies_behind (g.D.Device.model (core_disk c.args.self.now)) (core_seen c.args.self.now) c.requires.may.0 c.args.actor c.activity.result.now c.requires.actor c.requires.may.1 c.in_default.is c.activity.ensures c.in-SessionIdle.is in
+      counts_step c.args.actor c.saturating_add-self.result (core_seen c.args.self.now) (core_seen c.take_line.new.self) c.saturating_add-self.ensures (stays_part c.args.actor (with_taken c.saturating_add-self.result (core_seen c.args.self.now)) (core_seen c.take_line.new.self) (line_counts c.args.actor behind.0 c.take_line.result (with_taken c.saturating_add-self.result (core_seen c.args.self.now)) (core_seen c.take_line.new.self) (c.take_line.ensures.does behind.0 behind.1)));
 }
 
 pub returns-in-SessionAwait : goal.returns-in-SessionAwait
@@ -71,6 +76,7 @@ returns-in-SessionAwait g c = record {
       c.requires.actor mine c.in_default.is c.activity.ensures c.in-SessionAwait.line c.in-SessionAwait.place c.in-SessionAwait.reply c.in-SessionAwait.is
       (λ runs is. c.await_place.ensures.steps m mine c.in-SessionAwait.line c.in-SessionAwait.reply runs is);
   touches = as_before_count g.D.Device.model (core_disk c.args.self.now) (core_disk c.await_place.new.self) c.saturating_add-self.result (core_seen c.args.self.now) (core_seen c.await_place.new.self) c.await_place.result c.await_place.ensures.touches;
+  counts = counts_step c.args.actor c.saturating_add-self.result (core_seen c.args.self.now) (core_seen c.await_place.new.self) c.saturating_add-self.ensures (stays_part c.args.actor (with_taken c.saturating_add-self.result (core_seen c.args.self.now)) (core_seen c.await_place.new.self) c.await_place.ensures.counts);
 }
 
 pub returns-in-PosterIdle : goal.returns-in-PosterIdle
@@ -81,6 +87,7 @@ returns-in-PosterIdle g c = record {
       c.requires.actor mine c.in_default.is c.activity.ensures c.in-PosterIdle.is c.take_posting.ensures.disk c.take_posting.ensures.does;
   touches = untouched g.D.Device.model (core_disk c.args.self.now) (core_disk c.take_posting.new.self) (core_seen c.args.self.now) (core_seen c.take_posting.new.self) c.take_posting.result
       (posting_well c.args.actor c.take_posting.result (with_taken c.saturating_add-self.result (core_seen c.args.self.now)) (core_seen c.take_posting.new.self) c.take_posting.ensures.does) c.take_posting.ensures.disk;
+  counts = counts_step c.args.actor c.saturating_add-self.result (core_seen c.args.self.now) (core_seen c.take_posting.new.self) c.saturating_add-self.ensures (stays_part c.args.actor (with_taken c.saturating_add-self.result (core_seen c.args.self.now)) (core_seen c.take_posting.new.self) (posting_counts c.args.actor c.take_posting.result (with_taken c.saturating_add-self.result (core_seen c.args.self.now)) (core_seen c.take_posting.new.self) c.take_posting.ensures.does));
 }
 
 pub returns-in_default-activity : goal.returns-in_default-activity
@@ -93,6 +100,7 @@ returns-in_default-activity g c = record {
       (λ number place reply is. c.in_default-activity.not-SessionAwait number reply place is) c.in_default-activity.not-SessionIdle c.in_default-activity.not-PosterIdle c.in_default-activity.not-ConsolidatorIdle c.in_default-activity.not-Flusher)
       (λ runs works. c.work.ensures.works m mine runs works);
   touches = as_before_count g.D.Device.model (core_disk c.args.self.now) (core_disk c.work.new.self) c.saturating_add-self.result (core_seen c.args.self.now) (core_seen c.work.new.self) c.work.result c.work.ensures.touches;
+  counts = counts_step c.args.actor c.saturating_add-self.result (core_seen c.args.self.now) (core_seen c.work.new.self) c.saturating_add-self.ensures (c.work.ensures.counts);
 }
 
 pub returns-in-ConsolidatorIdle : goal.returns-in-ConsolidatorIdle
@@ -103,6 +111,7 @@ returns-in-ConsolidatorIdle g c = record {
       c.requires.actor mine c.in_default.is c.activity.ensures c.in-ConsolidatorIdle.is c.take_merging.ensures.disk c.take_merging.ensures.does;
   touches = untouched g.D.Device.model (core_disk c.args.self.now) (core_disk c.take_merging.new.self) (core_seen c.args.self.now) (core_seen c.take_merging.new.self) c.take_merging.result
       (merging_well c.args.actor c.take_merging.result (with_taken c.saturating_add-self.result (core_seen c.args.self.now)) (core_seen c.take_merging.new.self) c.take_merging.ensures.does) c.take_merging.ensures.disk;
+  counts = counts_step c.args.actor c.saturating_add-self.result (core_seen c.args.self.now) (core_seen c.take_merging.new.self) c.saturating_add-self.ensures (stays_part c.args.actor (with_taken c.saturating_add-self.result (core_seen c.args.self.now)) (core_seen c.take_merging.new.self) (merging_counts c.args.actor c.take_merging.result (with_taken c.saturating_add-self.result (core_seen c.args.self.now)) (core_seen c.take_merging.new.self) c.take_merging.ensures.does));
 }
 
 pub returns-in-Flusher : goal.returns-in-Flusher
@@ -112,4 +121,5 @@ returns-in-Flusher g c = record {
       flusher_step g.D.Device.model (core_disk c.args.self.now) (core_disk c.flush.new.self) (with_taken c.saturating_add-self.result (core_seen c.args.self.now)) (core_seen c.flush.new.self) m c.args.actor c.activity.result.now c.flush.result
       c.requires.actor mine c.in_default.is c.activity.ensures c.in-Flusher.is (c.flush.ensures.steps m mine (mine.shows.stop ∙ c.in_default.is));
   touches = as_before_count g.D.Device.model (core_disk c.args.self.now) (core_disk c.flush.new.self) c.saturating_add-self.result (core_seen c.args.self.now) (core_seen c.flush.new.self) c.flush.result c.flush.ensures.touches;
+  counts = counts_step c.args.actor c.saturating_add-self.result (core_seen c.args.self.now) (core_seen c.flush.new.self) c.saturating_add-self.ensures (stays_part c.args.actor (with_taken c.saturating_add-self.result (core_seen c.args.self.now)) (core_seen c.flush.new.self) c.flush.ensures.counts);
 }

@@ -1,4 +1,4 @@
-use Rattle.std.proofs.Common.{ℕ, List, inl, inr, sym, subst, ◌∙◌}
+use Rattle.std.proofs.Common.{ℕ, List, inl, inr, refl, sym, ap, subst, ◌∙◌}
 use Rattle.hb_core.specs.Pinning.{CanUnpin}
 use Rattle.hb_core.proofs.Running.Holds.{may_give_up}
 use Rattle.hb_disk.specs.Calls.{ReadsOnly}
@@ -6,7 +6,10 @@ use Rattle.hb_core.specs.declared.halts.Halt.{Halt}
 use Rattle.hb_core.specs.CoreSeen.{core_seen, core_disk}
 use Rattle.hb_core.specs.Touching.{IsReadHalt, Touches}
 use Rattle.hb_core.specs.Working.{Halts, IsStop}
+use Rattle.hb_core.specs.Showing.{RunningCore}
 use Rattle.hb_core.proofs.Machines.PlacesLeft.{always_flushes}
+use Rattle.hb_core.proofs.Memory.OwnPages.{gives_up_nothing}
+use Rattle.hb_core.proofs.Running.Counted.{deed_stays, deed_store, no_op_still, part_then, stays_part}
 use Rattle.hb_core.proofs.Running.WorkDone.{blocked, given_up, holds_line, holds_pages, looks_now, may_work, stopped, unready, walks_here, wants, way_free, works_too}
 use Rattle.hb_core.proofs.Running.WorkTouches.{done_touches, given_up_touches, row_well, stopped_touches}
 use Rattle.hb_core.proofs.state.Core.work.Goals as goal
@@ -132,3 +135,28 @@ returns-in-Err-Stops-clause-touches g c =
     subst (λ (k : _). Touches (g.D.Device.model (core_disk c.args.self.now)) (core_seen c.args.self.now) c.stop_for.result (g.D.Device.model k) (core_seen c.stop_for.new.self)) (sym c.stop_for.ensures.stops.disk)
     (stopped_touches (g.D.Device.model (core_disk c.args.self.now)) (g.D.Device.model (core_disk c.do_row.new.self)) (core_seen c.args.self.now) (core_seen c.stop_for.new.self) c.stop_for.result m c.args.actor (core_seen c.do_row.new.self).store c.in-Err-Stops.why halts.cause c.stop_for.ensures.says
     (subst (λ (h : Halt). ReadsOnly (IsReadHalt h) (g.D.Device.model (core_disk c.args.self.now)) (g.D.Device.model (core_disk c.do_row.new.self))) c.in-Err-Stops.field-0-is c.in-Err-Stops.ensures.reads))
+
+pub returns-in-Some-clause-counts : goal.returns-in-Some-clause-counts
+returns-in-Some-clause-counts g c = record { taken = refl; done = inl (no_op_still (core_seen c.args.self.now).store, refl) }
+
+pub returns-then-is_unready-clause-counts : goal.returns-then-is_unready-clause-counts
+returns-then-is_unready-clause-counts g c = stays_part c.args.actor (core_seen c.args.self.now) (core_seen c.flush.new.self) c.flush.ensures.counts
+
+pub returns-in-Err-GivesUp-clause-counts : goal.returns-in-Err-GivesUp-clause-counts
+returns-in-Err-GivesUp-clause-counts g c =
+    let m = c.requires.may.0 in
+    let step = c.requires.may.1 in
+    let works = c.requires.may.3 in
+    let does = c.give_up.ensures.does (m.activity c.args.actor) works (step.goes_on.kept.classes c.args.actor) (holds_line (g.D.Device.model (core_disk c.args.self.now)) (core_seen c.args.self.now) m c.args.actor c.requires.actor step c.line_in_hand-line.result works c.line_in_hand-line.ensures) in
+    let stays = deed_stays c.args.actor c.as_slice-in-Err-GivesUp.result.now _ c.give_up.result (core_seen c.do_row.new.self) (core_seen c.give_up.new.self) (gives_up_nothing c.in-Err-GivesUp.why (m.activity c.args.actor)) does in
+    part_then c.args.actor (core_seen c.args.self.now) (core_seen c.do_row.new.self) (core_seen c.give_up.new.self) c.in-Err-GivesUp.ensures.counts
+    (deed_store c.args.actor c.as_slice-in-Err-GivesUp.result.now _ c.give_up.result (core_seen c.do_row.new.self) (core_seen c.give_up.new.self) (gives_up_nothing c.in-Err-GivesUp.why (m.activity c.args.actor)) does)
+    stays.stay.taken stays.stay.done
+
+pub returns-in-Err-Stops-clause-counts : goal.returns-in-Err-Stops-clause-counts
+returns-in-Err-Stops-clause-counts g c =
+    part_then c.args.actor (core_seen c.args.self.now) (core_seen c.do_row.new.self) (core_seen c.stop_for.new.self) c.in-Err-Stops.ensures.counts
+    (ap (λ (s : RunningCore). s.store) c.stop_for.ensures.stops.does) (ap (λ (s : RunningCore). s.taken) c.stop_for.ensures.stops.does) (ap (λ (s : RunningCore). s.done) c.stop_for.ensures.stops.does)
+
+pub returns-in-Ok-clause-counts : goal.returns-in-Ok-clause-counts
+returns-in-Ok-clause-counts g c = c.in-Ok.ensures.counts

@@ -1,0 +1,315 @@
+-- A machine of which a caller changed no more than the jobs that wait, the pages in memory that nobody holds, and the stop, keeps what it
+-- kept.
+use Rattle.std.proofs.Common.{◌≡◌, ◌⊎◌, inl, inr, ℕ, ◌<◌, ◌≤◌, ◌^◌, List, [], ◌∷◌, length, All, Option, Some, None, IfSome, IsSome, refl, sym, ap, ◌∙◌, subst, arith}
+use Rattle.std.proofs.lemmas.List.Elements.{All-cons, All-nil, All-weaker}
+use Rattle.hb_activity.specs.declared.activities.Activity.TheVariants as at
+use Rattle.hb_activity.specs.declared.jobs.Job.{Job}
+use Rattle.hb_activity.specs.Classes.{job_in_work, line_in_hand}
+use Rattle.hb_activity.specs.Walks.{walk_held}
+use Rattle.hb_frag.specs.declared.pages.Page.TheVariants.{Live}
+use Rattle.hb_latch.specs.declared.modes.Mode.{Mode}
+use Rattle.hb_latch.specs.Tables.{mode_at}
+use Rattle.hb_layout.specs.declared.meta.Meta.{Meta}
+use Rattle.hb_layout.specs.Limits.{IsLayout}
+use Rattle.hb_layout.specs.Offsets.{log_start}
+use Rattle.hb_lemmas.proofs.Options.{at_value, has_value, if_value}
+use Rattle.hb_ops.proofs.Facts.PageNumberLaws.{live_so}
+use Rattle.hb_ops.specs.Files.{if_live}
+use Rattle.hb_pool.specs.Frames.{Use}
+use Rattle.hb_set.specs.Machine.{RecordSet}
+use Rattle.hb_set.specs.declared.commands.Reply.{Reply}
+use Rattle.hb_set.specs.declared.scripts.Answered.{Answered}
+use Rattle.hb_space.specs.Actors.{IsActor}
+use Rattle.hb_store.specs.Calls.{KeepsAllButPages}
+use Rattle.hb_store.specs.States.{StoreState, in_memory}
+use Rattle.hb_store.specs.declared.stops.StopWhy.{StopWhy}
+use Rattle.hb_wal.specs.Log.{LogState, Waiting, mark_of}
+use Rattle.hb_core.proofs.Files.SoundFiles.{brought_shown, files_hold, has_sound_file}
+use Rattle.hb_core.proofs.Latches.LatchesStay.{same_latches, walk_latched}
+use Rattle.hb_core.proofs.Machines.AddedJobs.{JobsFit, added_fit}
+use Rattle.hb_core.proofs.Memory.KeptPages.{brought, keeps_pages, pages_kept}
+use Rattle.hb_core.proofs.Memory.StillThere.{may_or_not}
+use Rattle.hb_core.proofs.Room.RoomKept.{KnowsOf, all_know, free_knows, knows_as, put_latched, puts_again, split_latched, splits_again}
+use Rattle.hb_core.proofs.Running.Frames.{fetched_pins}
+use Rattle.hb_core.proofs.Walks.MergesKept.{place_latched}
+use Rattle.hb_core.proofs.Walks.WalksKept.{StandsInSpace, all_stand, each_stands, free_stands, parent_latched, stands_again}
+use Rattle.hb_core.proofs.Walks.WorkersKept.{none_stands, stands_again as works_again}
+use Rattle.hb_core.specs.Between.{LetsWait, PageComes, with_waiting}
+use Rattle.hb_core.specs.BetweenLaws.{LookingGoesOn, LookingKeepsAll, WaitingGoesOn, WaitingKeepsAll}
+use Rattle.hb_core.specs.Keeps.{HasSoundFile, HoldsPagesOfFile, KnowsRoom, LatchesFit, WalksInSpace}
+use Rattle.hb_core.specs.KeptFits.{AttributesFit, IsBoxOf, JobFits, LineFits, RunsWithStore, WorkersStand, boxes_left, walking_job}
+use Rattle.hb_core.specs.KeptLines.{LinesFit, LogInPlace, MetaWithinLimits}
+use Rattle.hb_core.specs.KeptMachine.{CoreKeeps, MachineKeeps}
+use Rattle.hb_core.specs.KeptOrder.{FollowMarks, HasLegalOrder, HasPendingPrefix, StandsInOrder, StandsOutside}
+use Rattle.hb_core.specs.KeptPlaces.{MarksRise, RepliesStand}
+use Rattle.hb_core.specs.KeptSequence.{IsInSequence, LinesInSequence}
+use Rattle.hb_core.specs.Machines.{Files, Machine, live_here, settled_count, stopped_for, with_disk, with_uses}
+use Rattle.hb_core.specs.Performing.{latches_held, mode_among}
+use Rattle.hb_core.specs.Using.{FramesFit, pins_of}
+use Rattle.hb_core.specs.Working.{MayGoOn}
+
+-- the pages that somebody holds are there as they were
+abbrev pub HeldStay : Machine → StoreState → Type 0
+HeldStay m st = (actor id : ℕ) (mode : Mode) → mode_at m.latches actor id ≡ Some mode → IsSome (in_memory m.store id) → in_memory st id ≡ in_memory m.store id
+
+module _ (m : Machine) (jobs : List Job) (st : StoreState) (uses : List Use) (stop : Option StopWhy) where
+  abbrev pub beside : Machine
+  beside = record m { jobs = jobs; store = st; uses = uses; stop = stop }
+
+  stands_still : (number place : ℕ) (reply : Reply) → StandsInOrder m number reply place → StandsInOrder beside number reply place
+  stands_still number place reply stands = record { entry = stands.entry; there = stands.there; number_is = stands.number_is; reply_is = stands.reply_is }
+
+  stood_before : (number place : ℕ) (reply : Reply) → StandsInOrder beside number reply place → StandsInOrder m number reply place
+  stood_before number place reply stands = record { entry = stands.entry; there = stands.there; number_is = stands.number_is; reply_is = stands.reply_is }
+
+  answer_stands : (a : Answered) → StandsOutside a.reply ⊎ ((place : ℕ) × StandsInOrder m a.line a.reply place) → StandsOutside a.reply ⊎ ((place : ℕ) × StandsInOrder beside a.line a.reply place)
+  answer_stands a (inl outside) = inl outside
+  answer_stands a (inr (place, stands)) = inr (place, stands_still a.line place a.reply stands)
+
+  module _ (keeps : MachineKeeps m) (rest : KeepsAllButPages m.store st) (held : HeldStay m st) where
+    -- ---- what an actor holds
+
+    latched_same : (actor id : ℕ) (mode : Mode) → mode_at m.latches actor id ≡ Some mode → live_here st id ≡ live_here m.store id
+    latched_same actor id mode holds =
+        let used = keeps.latches_fit.used actor id mode holds in
+        ap if_live (held actor id mode holds (has_value (in_memory m.store id) (Live used.0) used.1))
+
+    own_same : (actor id : ℕ) (mode : Mode) → IsActor actor → mode_among id (latches_held m.store (m.activity actor)) ≡ Some mode → live_here st id ≡ live_here m.store id
+    own_same actor id mode may among = latched_same actor id mode (keeps.latches_fit.exact actor id may ∙ among)
+
+    walk_same : (actor id : ℕ) → IsActor actor → walk_held (m.activity actor) ≡ Some id → live_here st id ≡ live_here m.store id
+    walk_same actor id may walks =
+        let old = keeps.latches_fit.walking actor id may walks in
+        let latch = walk_latched (m.activity actor) m.store id old.0 walks (ap if_live old.1) in
+        own_same actor id latch.0 may latch.1
+
+    -- ---- the parts
+
+    same_meta : m.store.meta ≡ st.meta
+    same_meta = sym rest.meta
+
+    limits : MetaWithinLimits beside
+    limits = record {
+      layout = subst IsLayout same_meta keeps.meta_within_limits.layout;
+      high = subst (λ (x : Meta). x.high ≤ x.pages) same_meta keeps.meta_within_limits.high;
+      live = subst (λ (x : Meta). x.live ≤ x.pages) same_meta keeps.meta_within_limits.live;
+      root = subst (λ (x : Meta). x.root < 2 ^ 32) same_meta keeps.meta_within_limits.root;
+      free = subst (λ (x : Meta). x.free < 2 ^ 32) same_meta keeps.meta_within_limits.free;
+    }
+
+    in_place : LogInPlace beside
+    in_place = record {
+      area = ap (λ (l : LogState). l.area) rest.log ∙ keeps.log_in_place.area ∙ ap (λ (t : ℕ). log_start t m.store.meta) (sym rest.turn) ∙ ap (log_start st.turn) same_meta;
+      len = ap (λ (l : LogState). l.len) rest.log ∙ keeps.log_in_place.len ∙ ap (λ (x : Meta). x.log) same_meta;
+    }
+
+    bodies : LinesFit beside
+    bodies = record { script = keeps.lines_fit.script; in_hand = keeps.lines_fit.in_hand }
+
+    attributes : JobsFit m.store.meta.k jobs → AttributesFit beside
+    attributes fit = record {
+      script = subst (λ (x : Meta). All (LineFits x.k) m.lines) same_meta keeps.attributes_fit.script;
+      in_hand = λ actor. subst (λ (x : Meta). IfSome (line_in_hand (m.activity actor)) (LineFits x.k)) same_meta (keeps.attributes_fit.in_hand actor);
+      boxes = λ actor. subst (λ (x : Meta). All (IsBoxOf x.k) (boxes_left (m.activity actor))) same_meta (keeps.attributes_fit.boxes actor);
+      box_left = keeps.attributes_fit.box_left;
+      waiting = subst (λ (x : Meta). JobsFit x.k jobs) same_meta fit;
+      in_work = λ actor. subst (λ (x : Meta). IfSome (job_in_work (m.activity actor)) (JobFits x.k)) same_meta (keeps.attributes_fit.in_work actor);
+    }
+
+    in_sequence : LinesInSequence beside
+    in_sequence = record {
+      rising = keeps.lines_in_sequence.rising;
+      in_hand = keeps.lines_in_sequence.in_hand;
+      awaited = keeps.lines_in_sequence.awaited;
+      placed = All-weaker (IsInSequence m) (IsInSequence beside) (λ entry is. record { among = is.among; state = is.state }) m.order keeps.lines_in_sequence.placed;
+      earlier_first = keeps.lines_in_sequence.earlier_first;
+    }
+
+    replies : RepliesStand beside
+    replies = record {
+      awaits = λ actor number place reply is. stands_still number place reply (keeps.replies_stand.awaits actor number place reply is);
+      inside = keeps.replies_stand.inside;
+      answers = All-weaker (λ (a : Answered). StandsOutside a.reply ⊎ ((place : ℕ) × StandsInOrder m a.line a.reply place)) (λ (a : Answered). StandsOutside a.reply ⊎ ((place : ℕ) × StandsInOrder beside a.line a.reply place)) answer_stands m.answered keeps.replies_stand.answers;
+    }
+
+    latches : LatchesFit beside
+    latches = record {
+      compatible = keeps.latches_fit.compatible;
+      exact = λ actor page may.
+          keeps.latches_fit.exact actor page may
+          ∙ sym (ap (mode_among page) (same_latches (m.activity actor) m.store st (λ id walks. walk_same actor id may walks)));
+      used = λ actor page mode holds.
+          let old = keeps.latches_fit.used actor page mode holds in
+          (old.0, held actor page mode holds (has_value (in_memory m.store page) (Live old.0) old.1) ∙ old.1);
+      walking = λ actor id may walks.
+          let old = keeps.latches_fit.walking actor id may walks in
+          (old.0, live_so (in_memory st id) old.0 (walk_same actor id may walks ∙ ap if_live old.1));
+    }
+
+    at_rest : (actor : ℕ) → ¬ (IsActor actor) → m.activity actor ≡ at.SessionIdle
+    at_rest actor none = keeps.nobody_else actor none
+
+    own_in_space : (actor : ℕ) → IsActor actor → StandsInSpace st (m.activity actor)
+    own_in_space actor may = stands_again (m.activity actor) m.store st (each_stands m keeps.walk_in_space actor)
+        (λ id page walks live. sym (walk_same actor id may walks) ∙ live)
+        (λ job parent page is live. let latch = parent_latched m.store (m.activity actor) job parent is in own_same actor parent latch.0 may latch.1 ∙ live)
+        (λ place is.
+        let latched = place_latched m.store (m.activity actor) place is in
+        record {
+          parent = λ page live. own_same actor place.parent latched.parent.0 may latched.parent.1 ∙ live;
+          pair = λ pair pair_is page live. let latch = latched.pair pair pair_is in own_same actor pair.keep latch.0 may latch.1 ∙ live;
+        })
+
+    in_space : WalksInSpace beside
+    in_space = all_stand beside (λ actor. elim (may_or_not actor) [
+      | inl may ↦ own_in_space actor may
+      | inr none ↦ subst (StandsInSpace st) (sym (at_rest actor none)) (free_stands st at.SessionIdle (record { walk = refl; latches = λ st. refl; merging = refl }))
+    ])
+
+    workers : WorkersStand beside
+    workers actor = elim (may_or_not actor) [
+      | inl may ↦ works_again m.store st (walk_held (m.activity actor)) (walking_job (m.activity actor)) same_height (λ id page walks live. sym (walk_same actor id may walks) ∙ live) (keeps.workers_stand actor)
+      | inr none ↦ none_stands st (m.activity actor) (ap walking_job (at_rest actor none))
+    ]
+      where
+        same_height : m.store.meta.height ≤ st.meta.height
+        same_height = let same = ap (λ (x : Meta). x.height) rest.meta in omega (arith, same)
+
+    own_knows : (actor : ℕ) → IsActor actor → KnowsOf beside (m.activity actor)
+    own_knows actor may = record {
+      splits = λ id line is. splits_again m beside (ap (λ (x : Meta). x.dcap) rest.meta) line id (λ page live. own_same actor id _ may (split_latched m.store (m.activity actor) line id is) ∙ live) (keeps.room_known.splits actor id line is);
+      puts = λ source fresh line is.
+          let both = put_latched m.store (m.activity actor) line source fresh is in
+          puts_again m beside (ap (λ (x : Meta). x.dcap) rest.meta) line source fresh (λ page live. own_same actor source _ may both.0 ∙ live) (λ page live. own_same actor fresh _ may both.1 ∙ live) (keeps.room_known.puts actor source fresh line is);
+    }
+
+    room : KnowsRoom beside
+    room = all_know beside (λ actor. elim (may_or_not actor) [
+      | inl may ↦ own_knows actor may
+      | inr none ↦ knows_as beside (m.activity actor) at.SessionIdle (at_rest actor none) (free_knows beside at.SessionIdle (record { walk = refl; latches = λ st. refl; merging = refl }))
+    ])
+
+    same_groups : m.store.log.groups ≡ st.log.groups
+    same_groups = sym (ap (λ (l : LogState). l.groups) rest.log)
+
+    marks : MarksRise beside
+    marks = subst (λ (groups : List Waiting). MarksRise (record beside { store = record st { log = record st.log { groups = groups } } })) same_groups
+        (record { rising = keeps.marks_rise.rising; inside = keeps.marks_rise.inside })
+
+    pub beside_keeps : JobsFit m.store.meta.k jobs → HoldsPagesOfFile beside → FramesFit st uses m.latches → RunsWithStore beside → MachineKeeps beside
+    beside_keeps fit pages frames runs = record {
+      meta_within_limits = limits;
+      log_in_place = in_place;
+      lines_fit = bodies;
+      attributes_fit = attributes fit;
+      lines_in_sequence = in_sequence;
+      order_short = record { once = keeps.order_short.once; few = keeps.order_short.few };
+      replies_stand = replies;
+      answers_single = record { once = keeps.answers_single.once; outside = keeps.answers_single.outside };
+      pages_of_file = pages;
+      frames_fit = frames;
+      classes = keeps.classes;
+      nobody_else = keeps.nobody_else;
+      latches_fit = latches;
+      no_other_latches = keeps.no_other_latches;
+      box_locks_fit = keeps.box_locks_fit;
+      searches_gather = keeps.searches_gather;
+      walk_in_space = in_space;
+      workers_stand = workers;
+      room_known = room;
+      marks_rise = marks;
+      runs = runs;
+    }
+
+    -- ---- over a disk that tells
+
+    module _ (n : RecordSet) (files : Files) (all : CoreKeeps n m files) where
+      legal : HasLegalOrder n beside files
+      legal = record {
+        legal = all.order_legal.legal;
+        result = all.order_legal.result;
+        awaits = λ actor number place reply is. stands_still number place reply (all.order_legal.awaits actor number place reply is);
+        answers = All-weaker (λ (a : Answered). StandsOutside a.reply ⊎ ((place : ℕ) × StandsInOrder m a.line a.reply place)) (λ (a : Answered). StandsOutside a.reply ⊎ ((place : ℕ) × StandsInOrder beside a.line a.reply place)) answer_stands m.answered all.order_legal.answers;
+      }
+
+      same_settled : settled_count m ≡ settled_count beside
+      same_settled = ap (λ (groups : List Waiting). mark_of groups (length m.order)) same_groups
+
+      prefix : HasPendingPrefix n beside files
+      prefix = record {
+        marks = subst (λ (groups : List Waiting). FollowMarks n m.order files.durable groups files.later) same_groups all.pending_prefix.marks;
+        rising = marks.rising;
+        settled = All-weaker (λ (a : Answered). (place : ℕ) → StandsInOrder m a.line a.reply place → place < settled_count m) (λ (a : Answered). (place : ℕ) → StandsInOrder beside a.line a.reply place → place < settled_count beside)
+            (λ a settled place stands. subst (λ (k : ℕ). place < k) same_settled (settled place (stood_before a.line place a.reply stands))) m.answered all.pending_prefix.settled;
+      }
+
+      pub beside_keeps_all : MachineKeeps beside → HasSoundFile beside files → CoreKeeps n beside files
+      beside_keeps_all kept sound = record { told = all.told; kept = kept; sound_file = sound; search_exact = all.search_exact; order_legal = legal; pending_prefix = prefix }
+
+-- ---- a job waits
+
+same_store : (m : Machine) → KeepsAllButPages m.store m.store
+same_store m = record { turn = refl; meta = refl; log = refl; in_log = refl; dirty = refl; stopped = refl }
+
+module _ (m : Machine) (job : Job) (new : Machine) (fits : JobFits m.store.meta.k job) (waits : LetsWait job m new) where
+  waiting_fit : JobsFit m.store.meta.k m.jobs → JobsFit m.store.meta.k new.jobs
+  waiting_fit all = added_fit m.store.meta.k (job ∷ []) m.jobs new.jobs (new.jobs, waits.adds, refl) (All-cons (JobFits m.store.meta.k) job [] fits (All-nil (JobFits m.store.meta.k))) all
+
+  kept_waiting : MachineKeeps m → MachineKeeps (with_waiting new.jobs m)
+  kept_waiting keeps = beside_keeps m new.jobs m.store m.uses m.stop keeps (same_store m) (λ actor id mode holds there. refl) (waiting_fit keeps.attributes_fit.waiting) keeps.pages_of_file keeps.frames_fit keeps.runs
+
+  sound_waiting : (files : Files) → HasSoundFile m files → HasSoundFile (with_waiting new.jobs m) files
+  sound_waiting files sound = has_sound_file (with_waiting new.jobs m) files (files_hold m files sound)
+
+pub waiting_goes_on : WaitingGoesOn
+waiting_goes_on m job new fits waits goes_on = subst MayGoOn (sym waits.rest) (record {
+  kept = kept_waiting m job new fits waits goes_on.kept;
+  sound = if_value m.files (HasSoundFile (with_waiting new.jobs m)) (λ files told. sound_waiting m job new fits waits files (at_value m.files (HasSoundFile m) files told goes_on.sound));
+})
+
+pub waiting_keeps_all : WaitingKeepsAll
+waiting_keeps_all n m files job new fits waits all = subst (λ (x : Machine). CoreKeeps n x files) (sym waits.rest)
+    (beside_keeps_all m new.jobs m.store m.uses m.stop all.kept (same_store m) (λ actor id mode holds there. refl) n files all (kept_waiting m job new fits waits all.kept) (sound_waiting m job new fits waits files all.sound_file))
+
+-- ---- a page is looked at
+
+module _ (m : Machine) (id : ℕ) (new : Machine) (looks : PageComes id m new) where
+  abbrev looked : Machine
+  looked = with_uses new.uses (with_disk new.store m.files m.clock m)
+
+  pages_looked : MachineKeeps m → HoldsPagesOfFile looked
+  pages_looked keeps = pages_kept looked (brought m (λ other. other ≡ id) new.store looks.brings (keeps_pages m keeps.meta_within_limits keeps.pages_of_file))
+
+  frames_looked : MachineKeeps m → FramesFit new.store new.uses m.latches
+  frames_looked keeps = record {
+    tied = looks.tied;
+    pins = λ q. ap (λ (l : List Use). pins_of l q) looks.uses ∙ fetched_pins id m.uses keeps.frames_fit.tied.pool.distinct q ∙ keeps.frames_fit.pins q;
+  }
+
+  kept_looked : MachineKeeps m → MachineKeeps looked
+  kept_looked keeps = beside_keeps m m.jobs new.store new.uses m.stop keeps looks.brings.rest (λ actor q mode holds there. looks.brings.stays q (inl (actor, mode, holds)) there) keeps.attributes_fit.waiting (pages_looked keeps) (frames_looked keeps)
+      (λ running. looks.brings.rest.stopped ∙ keeps.runs running)
+
+  sound_looked : (files : Files) → m.files ≡ Some files → HasSoundFile m files → HasSoundFile looked files
+  sound_looked files told sound = has_sound_file looked files (brought_shown m files (λ other. other ≡ id) new.store told looks.brings (files_hold m files sound))
+
+pub looking_goes_on : LookingGoesOn
+looking_goes_on m id new looks goes_on = subst MayGoOn (sym looks.rest) (record {
+  kept = kept_looked m id new looks goes_on.kept;
+  sound = if_value m.files (HasSoundFile (with_uses new.uses (with_disk new.store m.files m.clock m))) (λ files told. sound_looked m id new looks files told (at_value m.files (HasSoundFile m) files told goes_on.sound));
+})
+
+pub looking_keeps_all : LookingKeepsAll
+looking_keeps_all n m files id new looks all = subst (λ (x : Machine). CoreKeeps n x files) (sym looks.rest)
+    (beside_keeps_all m m.jobs new.store new.uses m.stop all.kept looks.brings.rest (λ actor q mode holds there. looks.brings.stays q (inl (actor, mode, holds)) there) n files all (kept_looked m id new looks all.kept) (sound_looked m id new looks files all.told all.sound_file))
+
+-- ---- a machine is stopped
+
+pub stopped_goes_on : (m : Machine) (why : StopWhy) → MayGoOn m → MayGoOn (stopped_for why m)
+stopped_goes_on m why goes_on = record {
+  kept = beside_keeps m m.jobs m.store m.uses (Some why) goes_on.kept (same_store m) (λ actor id mode holds there. refl) goes_on.kept.attributes_fit.waiting goes_on.kept.pages_of_file goes_on.kept.frames_fit (λ never. absurd (stops never));
+  sound = if_value m.files (HasSoundFile (stopped_for why m)) (λ files told. has_sound_file (stopped_for why m) files (files_hold m files (at_value m.files (HasSoundFile m) files told goes_on.sound)));
+}
+  where
+    stops : Some why ≡ None → ⊥
+    stops is = cc

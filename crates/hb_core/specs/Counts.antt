@@ -1,0 +1,27 @@
+-- The operations that a core counts, by their kinds.
+use Rattle.std.specs.Prelude.{ℕ, ◌+◌, ◌-◌, ◌^◌, ◌==◌, min, if◌then◌else◌, Option, Some, None}
+use Rattle.hb_ops.specs.declared.operations.Op.{Op}
+use Rattle.hb_ops.specs.declared.operations.Op.TheVariants as ops
+use Rattle.hb_core.specs.declared.counts.TidyCounts.{TidyCounts}
+
+-- one more, up to the last value of a count
+abbrev pub one_more : ℕ → ℕ
+one_more n = min (n + 1) (2 ^ 64 - 1)
+
+-- none was done yet
+abbrev pub no_counts : TidyCounts
+no_counts = record { grown = 0; posted = 0; split = 0; merged = 0 }
+
+-- An operation that an actor did is counted by its kind, and a part that left a page where the poster did it. Records that are put or
+-- taken out aren't.
+abbrev pub counted : ℕ → Op → TidyCounts → TidyCounts
+counted actor (ops.Put page rec) c = c
+counted actor (ops.Del page point) c = c
+counted actor (ops.Extract source fresh path cuts free_after) c = if actor == 17 then record c { split = one_more c.split } else c
+counted actor (ops.Post parent way inner area) c = record c { posted = one_more c.posted }
+counted actor (ops.Merge parent keep gone) c = record c { merged = one_more c.merged }
+counted actor (ops.Grow fresh free_after) c = record c { grown = one_more c.grown }
+
+abbrev pub counted_by : ℕ → Option Op → TidyCounts → TidyCounts
+counted_by actor None c = c
+counted_by actor (Some op) c = counted actor op c

@@ -1,0 +1,130 @@
+-- How a run ends that has counted its replies, of which a core was made.
+use Rattle.std.proofs.Common.{◌≡◌, ◌≢◌, inl, inr, ℕ, List, [], ◌++◌, Option, Some, None, refl, sym, ap, subst, ◌∙◌, append-nil, arith}
+use Rattle.hb_core.proofs.Facts.RunLines.{run_keeps_lines}
+use Rattle.hb_core.specs.Machines.{Machine}
+use Rattle.hb_core.specs.Runs.{HasReadFault}
+use Rattle.hb_core.specs.Showing.{RunningCore}
+use Rattle.hb_core.specs.Working.{MayStep}
+use Rattle.hb_core.specs.declared.endings.End.{End}
+use Rattle.hb_core.specs.declared.endings.End.TheVariants as ends
+use Rattle.hb_disk.specs.Model.{DiskModel}
+use Rattle.hb_drive.specs.Driving.{DrivesTo, EndsWith, run_text}
+use Rattle.hb_outside.specs.Calls.{SinkModel}
+use Rattle.hb_outside.specs.Streams.{Appends}
+use Rattle.hb_set.specs.declared.scripts.Answered.{Answered}
+use Rattle.hb_set.specs.declared.scripts.Line.{Line}
+use Rattle.hb_store.specs.declared.stops.StopWhy.TheVariants as stops
+use Rattle.hbpi.proofs.CoreEnds.{RanCore}
+use Rattle.hbpi.proofs.RecordsLeft.{NumbersArePlaces, drawn_in_place, has_records}
+use Rattle.hbpi.specs.Codes.{status_after}
+use Rattle.hbpi.specs.Counted.{HasRecords, counts_text, records_left}
+use Rattle.hbpi.specs.Driven.{Drove, GetsOutput, GoesOnForAll, RanEnds, by_counting}
+use Rattle.hbpi.specs.Outcome.{GetsLine, fault_line}
+use Rattle.hbpi.specs.Saying.{IsSaid}
+use Rattle.hbpi.specs.SeenRuns.{Run, Seen, run_of}
+use Rattle.hbpi.specs.Starts.{IsStarted, StartLaws}
+use Rattle.hbpi.specs.declared.origins.Origin.TheVariants.{Drawn}
+use Rattle.hbpi.specs.declared.statuses.Status.{Status}
+use Rattle.hbpi.specs.declared.statuses.Status.TheVariants.{Done, Usage, BadText, SourceFault, SinkFault, DiskFault, Damaged, NoMemory, BadLayout, Small, NotBuilt}
+
+-- a sink that tells nothing and never fails
+abbrev pub nowhere : SinkModel
+nowhere = record { written = None; faults = 0 }
+
+-- a sink to which nothing was appended
+appends_none : (written : Option (List ℕ)) → Appends written written []
+appends_none None = refl
+appends_none (Some bytes) = ap (λ (b : List ℕ). Some b) (sym (append-nil bytes))
+
+-- a fault line alone
+alone_put : (before after : SinkModel) (status : Status) → GetsLine before after (fault_line status) → GetsOutput before after [] status
+alone_put before after status line = record { between = before; whole = appends_none before.written; same = refl; line = line }
+
+-- a line that was said, where it ended well
+said_ends : (state count : ℕ) (run : Run) (m : Machine) (text : List ℕ) (status : Status) → (by_counting state count).output run m text → m.stop ≡ None → ¬ (HasReadFault run.seen.answered)
+    → IsSaid text run.seen.sink_before run.seen.sink_after status → RanEnds (by_counting state count) status run m
+said_ends state count run m text Done output going read said = (text, output, said.0, said.1, going, read)
+said_ends state count run m text SinkFault output going read said = (text, output, said.0, said.1)
+said_ends state count run m text Usage output going read said = absurd said
+said_ends state count run m text (BadText bad) output going read said = absurd said
+said_ends state count run m text SourceFault output going read said = absurd said
+said_ends state count run m text DiskFault output going read said = absurd said
+said_ends state count run m text (Damaged damage) output going read said = absurd said
+said_ends state count run m text NoMemory output going read said = absurd said
+said_ends state count run m text (BadLayout field value) output going read said = absurd said
+said_ends state count run m text (Small needed found) output going read said = absurd said
+said_ends state count run m text NotBuilt output going read said = absurd said
+
+-- how it ended, by the end of the run and by what was said or put
+counted_ends : (state count : ℕ) (end : End) (run : Run) (m : Machine) (text : List ℕ) (status : Status) → (m.stop ≡ None → (by_counting state count).output run m text)
+    → (end ≡ ends.Finished → IsSaid text run.seen.sink_before run.seen.sink_after status) → (end ≢ ends.Finished → status ≡ status_after end) → (end ≢ ends.Finished → GetsLine run.seen.sink_before run.seen.sink_after (fault_line (status_after end)))
+    → EndsWith end nowhere nowhere (run_text run.seen.answered m) run.seen.answered m.stop → RanEnds (by_counting state count) status run m
+counted_ends state count ends.Finished run m text status output said fault line went = said_ends state count run m text status (output went.2) went.2 went.3 (said refl)
+counted_ends state count ends.NoMemory run m text status output said fault line went = absurd went
+counted_ends state count ends.SinkFault run m text status output said fault line went = elim went.1 [ inl less ↦ absurd (omega (arith, less)) | inr last ↦ absurd (omega (arith, last)) ]
+counted_ends state count ends.ReadFault run m text status output said fault line went =
+    let other : ends.ReadFault ≢ ends.Finished = λ is. cc (is) in
+    subst (λ (x : Status). RanEnds (by_counting state count) x run m) (sym (fault other)) (alone_put run.seen.sink_before run.seen.sink_after DiskFault (line other), inr (went.2, went.3))
+counted_ends state count (ends.Stopped stops.WriteFault) run m text status output said fault line went =
+    let other : ends.Stopped stops.WriteFault ≢ ends.Finished = λ is. cc (is) in
+    subst (λ (x : Status). RanEnds (by_counting state count) x run m) (sym (fault other)) (alone_put run.seen.sink_before run.seen.sink_after DiskFault (line other), inl went.2)
+counted_ends state count (ends.Stopped (stops.Damaged page why)) run m text status output said fault line went =
+    let other : ends.Stopped (stops.Damaged page why) ≢ ends.Finished = λ is. cc (is) in
+    subst (λ (x : Status). RanEnds (by_counting state count) x run m) (sym (fault other)) (alone_put run.seen.sink_before run.seen.sink_after _ (line other), page, why, went.2, refl)
+
+-- What is known of the calls over a core: its disk and what the run left of it, and what became of the sink behind the run.
+pub record RanCounting {X : Type 0} (M : X → DiskModel) (first over last : X) (core ran : RunningCore) (end : End) (given answered : List Answered) (order : List ℕ) (records : ℕ) (sink put : SinkModel) (status : Status) : Type 0 where
+  pub unbegun : end ≡ ends.NoMemory → (ran ≡ core) × (over ≡ first) × (given ≡ [])
+  pub drives : end ≢ ends.NoMemory → (m : Machine) → MayStep (M first) core m → (actors : List ℕ) × (drives : DrivesTo m actors given (M first) (M over) ran end nowhere nowhere) × GoesOnForAll core.steps actors drives.run.new
+  pub said : end ≡ ends.Finished → IsSaid (counts_text given (records_left ran.lines given records)) sink put status
+  pub fault : end ≢ ends.Finished → status ≡ status_after end
+  pub line : end ≢ ends.Finished → GetsLine sink put (fault_line (status_after end))
+  pub disk_is : last ≡ over
+  pub answered_is : answered ≡ given
+  pub order_is : order ≡ ran.order
+
+module _ {X : Type 0} (M : X → DiskModel) (state count : ℕ) (first over last : X) (core ran : RunningCore) (end : End) (given : List Answered) (records : ℕ) (d : DiskModel) (seen : Seen) (status : Status)
+    (facts : RanCounting M first over last core ran end given seen.answered seen.order records seen.sink_before seen.sink_after status) (laws : StartLaws) (started : IsStarted (Drawn state count) seen.source_before seen.source_after d (M first) core) (counted : records ≡ started.count) where
+  abbrev whole : Run
+  whole = run_of seen d (M last)
+
+  -- the lines of the core are those that were drawn
+  in_place : (m : Machine) (actors : List ℕ) → MayStep (M first) core m → (drives : DrivesTo m actors given (M first) (M over) ran end nowhere nowhere) → (drives.run.new.lines ≡ ran.lines) × NumbersArePlaces ran.lines
+  in_place m actors may drives =
+      let same : ran.lines ≡ started.made.lines = run_keeps_lines (M first) (M over) m actors given core ran may.shows drives.run ∙ ap (λ (c : RunningCore). c.lines) started.made.core_is in
+      let drawn = same ∙ started.made.came.0 in
+      (drives.run.shows.lines, subst NumbersArePlaces (sym drawn) (drawn_in_place state count started.store.meta.k))
+
+  output : (m : Machine) (actors : List ℕ) → MayStep (M first) core m → (drives : DrivesTo m actors given (M first) (M over) ran end nowhere nowhere) → Drove (by_counting state count) whole drives.run.new → drives.run.new.stop ≡ None
+      → (by_counting state count).output whole drives.run.new (counts_text seen.answered (records_left ran.lines seen.answered started.count))
+  output m actors may drives drove going =
+      let lines = in_place m actors may drives in (
+        records_left ran.lines seen.answered started.count,
+        has_records laws (Drawn state count) seen.source_before seen.source_after d (M first) core started (M last) drove.k drove.lines ran.lines drove.actors seen.answered seen.order drives.run.new drove.takes lines.0 lines.1 (drove.goes going),
+        refl,
+      )
+
+  pub counting_core : RanCore M (by_counting state count) first over last core ran end given d seen status
+  counting_core = record {
+    unbegun = λ none.
+        let still = facts.unbegun none in
+        let other : end ≢ ends.Finished = λ is. cc (none, is) in
+        let is = facts.fault other in
+        (still.0, still.1, still.2, is ∙ ap status_after none, subst (λ (x : Status). GetsLine seen.sink_before seen.sink_after (fault_line x)) (sym is) (facts.line other));
+    goes = λ some m may.
+        let drove = facts.drives some m may in
+        let new = drove.1.run.new in
+        let text : List Answered → ℕ → List ℕ = λ a n. counts_text a (records_left ran.lines a n) in
+        let same : text given records ≡ text seen.answered started.count = ap (λ (a : List Answered). text a records) (sym facts.answered_is) ∙ ap (text seen.answered) counted in (
+          drove.0,
+          drove.1.run,
+          drove.2,
+          λ went. counted_ends state count end whole new (text seen.answered started.count) status
+              (output m drove.0 may drove.1 went)
+              (λ is. subst (λ (t : List ℕ). IsSaid t seen.sink_before seen.sink_after status) same (facts.said is)) facts.fault facts.line
+              (subst (λ (a : List Answered). EndsWith end nowhere nowhere (run_text a new) a new.stop) (sym facts.answered_is) drove.1.text),
+        );
+    disk_is = facts.disk_is;
+    answered_is = facts.answered_is;
+    order_is = facts.order_is;
+  }

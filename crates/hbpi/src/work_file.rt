@@ -1,0 +1,51 @@
+//! The command `work`.
+ghost use Rattle.std.specs.Prelude.{◌≤◌};
+ghost use Rattle.hb_restart.specs.Beyond.{KeepsBeyondFile};
+ghost use Rattle.hbpi.specs.Driven.{StepsEnd, by_counting};
+ghost use Rattle.hbpi.specs.SeenRuns.{run_of, seen_by};
+
+use crate::dry::refused;
+use crate::finished::Finished;
+use crate::finishing::finish_counting;
+use crate::nowhere::Nowhere;
+use crate::origins::Origin;
+use crate::starting::{knows_laws, start};
+use hb_disk::Disk;
+use hb_outside::{Sink, Source};
+use hb_run::{Gate, run};
+use std::alloc::Global;
+use std::sync::Wait;
+use std::thread::Threads;
+
+/// The command `work`: opens the file of the disk, runs in threads the sessions of `n` lines that the generator draws from the state `x`,
+/// puts none of their replies, and says how many lines have each reply and how many records the file has then.
+pub(crate) fn work_file<
+    R: Threads + Wait + Sync,
+    S: Source,
+    K: Sink,
+    D: Disk + Send,
+    G: Gate + Sync,
+>(
+    rt: &R,
+    alloc: Global,
+    x: u64,
+    n: u32,
+    source: &mut S,
+    sink: K,
+    disk: D,
+    gate: &G,
+) -> Finished<K, D>
+    requires { n ≤ 1000000 }
+    ensures ends { StepsEnd (by_counting x n) (run_of (seen_by (S.model source.old) (S.model source.new) (K.model sink) (K.model result.sink) result.answered.items result.order.items) (D.model disk) (D.model result.disk)) result.status }
+    ensures beyond { KeepsBeyondFile (D.model disk) (D.model result.disk) }
+    ensures source_later { (S.model source.old).faults ≤ (S.model source.new).faults }
+    ensures sink_later { (K.model sink).faults ≤ (K.model result.sink).faults }
+{
+    knows_laws();
+    match start(alloc, Origin::Drawn { state: x, lines: n }, source, disk) {
+        Ok((core, records)) => {
+            finish_counting(run(rt, alloc, core, Nowhere, gate), records, sink)
+        }
+        Err((status, disk)) => refused(alloc, status, sink, disk),
+    }
+}
