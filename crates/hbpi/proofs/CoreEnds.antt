@@ -1,5 +1,5 @@
 -- How a run ends that has made its core.
-use Rattle.std.proofs.Common.{◌≡◌, ◌≢◌, inl, inr, ℕ, List, [], refl, sym, ap, subst, ◌∙◌}
+use Rattle.std.proofs.Common.{◌≡◌, ◌≢◌, inl, inr, ℕ, List, [], None, refl, sym, ap, subst, ◌∙◌}
 use Rattle.hb_core.specs.Machines.{Machine}
 use Rattle.hb_core.specs.Runs.{HasRun}
 use Rattle.hb_core.specs.Showing.{RunningCore}
@@ -52,6 +52,12 @@ pub may_begin : (origin : Origin) (before after : SourceModel) (d e : DiskModel)
 may_begin origin before after d e core started =
     let here = begins_here origin before after d e core started in
     (here.0, may_core origin before after d e core here.0 started here.1)
+
+-- it isn't stopped
+pub may_begin_running : (origin : Origin) (before after : SourceModel) (d e : DiskModel) (core : RunningCore) → IsStarted origin before after d e core → (m : Machine) × MayStep e core m × (m.stop ≡ None)
+may_begin_running origin before after d e core started =
+    let here = begins_here origin before after d e core started in
+    (here.0, may_core origin before after d e core here.0 started here.1, here.1.begun.runs)
 
 -- where memory was refused before the first step
 no_room : (origin : Origin) (k : ℕ) (before after : SourceModel) (lines : List Line) (steps : List ℕ) → after.faults ≡ before.faults → CameFrom origin k before after lines steps → CameNot origin k before after NoMemory

@@ -25,7 +25,7 @@ use Rattle.hbpi.specs.SeenRuns.{Run, Seen, run_of}
 use Rattle.hbpi.specs.Starts.{IsStarted, StartLaws}
 use Rattle.hbpi.specs.declared.origins.Origin.TheVariants.{Drawn}
 use Rattle.hbpi.specs.declared.statuses.Status.{Status}
-use Rattle.hbpi.specs.declared.statuses.Status.TheVariants.{Done, Usage, BadText, SourceFault, SinkFault, DiskFault, Damaged, NoMemory, BadLayout, Small, NotBuilt}
+use Rattle.hbpi.specs.declared.statuses.Status.TheVariants.{Done, Usage, BadText, SourceFault, SinkFault, DiskFault, Damaged, NoMemory, BadLayout, Small, NotBuilt, Full, Spent}
 
 -- a sink that tells nothing and never fails
 abbrev pub nowhere : SinkModel
@@ -54,6 +54,8 @@ said_ends state count run m text NoMemory output going read said = absurd said
 said_ends state count run m text (BadLayout field value) output going read said = absurd said
 said_ends state count run m text (Small needed found) output going read said = absurd said
 said_ends state count run m text NotBuilt output going read said = absurd said
+said_ends state count run m text Full output going read said = absurd said
+said_ends state count run m text Spent output going read said = absurd said
 
 -- how it ended, by the end of the run and by what was said or put
 counted_ends : (state count : ℕ) (end : End) (run : Run) (m : Machine) (text : List ℕ) (status : Status) → (m.stop ≡ None → (by_counting state count).output run m text)

@@ -26,7 +26,7 @@ use Rattle.hbpi.specs.SeenRuns.{Run, Seen}
 use Rattle.hbpi.specs.declared.origins.Origin.{Origin}
 use Rattle.hbpi.specs.declared.origins.Origin.TheVariants.{Text, Drawn}
 use Rattle.hbpi.specs.declared.statuses.Status.{Status}
-use Rattle.hbpi.specs.declared.statuses.Status.TheVariants.{Done, Usage, BadText, SourceFault, SinkFault, DiskFault, Damaged, NoMemory, BadLayout, Small, NotBuilt}
+use Rattle.hbpi.specs.declared.statuses.Status.TheVariants.{Done, Usage, BadText, SourceFault, SinkFault, DiskFault, Damaged, NoMemory, BadLayout, Small, NotBuilt, Full, Spent}
 
 -- want of memory is answered to any text
 no_memory : (seen : Seen) (status : Status) (read : Result Reading BadLine) → status ≡ NoMemory → GivesFor seen status read
@@ -67,6 +67,8 @@ text_gives step_lines k n left seen (Damaged damage) same told source why = absu
 text_gives step_lines k n left seen (Small needed found) same told source why = absurd why
 text_gives step_lines k n left seen (BadLayout field value) same told source why = absurd why
 text_gives step_lines k n left seen NotBuilt same told source why = absurd why
+text_gives step_lines k n left seen Full same told source why = absurd why
+text_gives step_lines k n left seen Spent same told source why = absurd why
 
 came_gives : (origin : Origin) (k n : ℕ) (left : List ℕ) (seen : Seen) (status : Status) → n ≡ k → TellsLeft origin seen.source_before.left left → ¬ (Rose seen.source_before.faults seen.source_after.faults) → CameNot origin n seen.source_before seen.source_after status → GivesFor seen status (read_from origin k left)
 came_gives (Text step_lines) k n left seen status same told source why = text_gives step_lines k n left seen status same told source why
@@ -111,6 +113,8 @@ module _ (by : Manner) (s : FileState) (left : List ℕ) (run : Run) (calm : IsC
   ran_done (BadLayout field value) after drove fine ends sink = absurd ends
   ran_done (Small needed found) after drove fine ends sink = absurd ends
   ran_done NotBuilt after drove fine ends sink = absurd ends
+  ran_done Full after drove fine ends sink = absurd ends
+  ran_done Spent after drove fine ends sink = absurd ends
 
   ran_gives : (status : Status) (after : Machine) → OpensToOne → BegunKeepsAll → Drove by run after → RanEnds by status run after → GivesFor run.seen status (read_from by.origin s.meta.k left)
   ran_gives status after one all drove ends =

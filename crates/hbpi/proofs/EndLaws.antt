@@ -7,10 +7,10 @@ use Rattle.hb_text.specs.declared.rules.BadLine.{BadLine}
 use Rattle.hb_text.specs.Grammar.{Reading, text_read}
 use Rattle.hb_text.proofs.Facts.TextLength.{text_is_short}
 use Rattle.hbpi.specs.declared.forms.Form.{Form}
-use Rattle.hbpi.specs.declared.forms.Form.TheVariants.{Check, Create, Drive, Dry, Gen, Work}
+use Rattle.hbpi.specs.declared.forms.Form.TheVariants.{Check, Create, Drive, Dry, Gen, Tidy, Work}
 use Rattle.hbpi.specs.declared.forms.Form.TheVariants as forms
 use Rattle.hbpi.specs.declared.statuses.Status.{Status}
-use Rattle.hbpi.specs.declared.statuses.Status.TheVariants.{Done, Usage, BadText, SourceFault, SinkFault, DiskFault, Damaged, NoMemory, BadLayout, Small, NotBuilt}
+use Rattle.hbpi.specs.declared.statuses.Status.TheVariants.{Done, Usage, BadText, SourceFault, SinkFault, DiskFault, Damaged, NoMemory, BadLayout, Small, NotBuilt, Full, Spent}
 use Rattle.hb_outside.specs.Streams.{Rose}
 use Rattle.hbpi.specs.Outcome.{greatest_text, IsTextOf, IsWholeText}
 use Rattle.hb_gen.specs.Spelling.{generated_text}
@@ -18,7 +18,11 @@ use Rattle.hb_restart.specs.Layouts.{first_fault, size_of}
 use Rattle.hb_restart.specs.declared.faults.BadField.{BadField}
 use Rattle.hb_restart.specs.declared.faults.OpenFault.{OpenFault}
 use Rattle.hb_restart.specs.declared.faults.OpenFault.TheVariants as faults
-use Rattle.hbpi.specs.Codes.{status_of}
+use Rattle.hb_core.specs.declared.counts.TidyCounts.{TidyCounts}
+use Rattle.hb_tidy.specs.declared.stops.TidyStop.{TidyStop}
+use Rattle.hb_tidy.specs.declared.stops.TidyStop.TheVariants as tidies
+use Rattle.hbpi.specs.Codes.{status_of, tidy_status}
+use Rattle.hbpi.specs.Tidied.{SaysTidied, TidyEnds, tidied_text}
 use Rattle.hbpi.specs.declared.statuses.Damage.{Damage}
 use Rattle.hbpi.specs.declared.statuses.Damage.TheVariants as damages
 use Rattle.hbpi.specs.Runs.{RunEnds}
@@ -31,7 +35,7 @@ use Rattle.hbpi.specs.Forms.{IsUnbuilt}
 use Rattle.hbpi.specs.Schedules.{CameNot, NotScheduled}
 use Rattle.hbpi.specs.declared.origins.Origin.{Origin}
 use Rattle.hbpi.specs.declared.origins.Origin.TheVariants.{Text, Drawn}
-use Rattle.hb_outside.specs.Calls.{SourceModel}
+use Rattle.hb_outside.specs.Calls.{SinkModel, SourceModel}
 use Rattle.hbpi.specs.MadeEnds.{CreateEnds, IsMadeWhole}
 
 -- a good text is read whole
@@ -69,6 +73,8 @@ dry_complete k seen (Damaged damage) ends left reading told good source sink = a
 dry_complete k seen (BadLayout field value) ends left reading told good source sink = absurd ends
 dry_complete k seen (Small needed found) ends left reading told good source sink = absurd ends
 dry_complete k seen NotBuilt ends left reading told good source sink = absurd ends
+dry_complete k seen Full ends left reading told good source sink = absurd ends
+dry_complete k seen Spent ends left reading told good source sink = absurd ends
 
 answered_not_bad : (k : ℕ) (seen : Seen) (lines : _) (left : List ℕ) (bad : BadLine) → IsAnswered k seen lines → seen.source_before.left ≡ Some left → text_read false k (take greatest_text left) ≡ Err bad → ⊥
 answered_not_bad k seen lines left bad answered told wrong =
@@ -93,6 +99,8 @@ dry_refuses k seen (Damaged damage) ends left bad told wrong source = absurd end
 dry_refuses k seen (BadLayout field value) ends left bad told wrong source = absurd ends
 dry_refuses k seen (Small needed found) ends left bad told wrong source = absurd ends
 dry_refuses k seen NotBuilt ends left bad told wrong source = absurd ends
+dry_refuses k seen Full ends left bad told wrong source = absurd ends
+dry_refuses k seen Spent ends left bad told wrong source = absurd ends
 
 pub ends_complete : (form : Option Form) (run : Run) (status : Status) → RunEnds form run status → IsComplete form run.seen status
 ends_complete None _ _ _ _ _ _ is _ _ _ _ = cc (is)
@@ -124,6 +132,8 @@ dry_names _ _ (Damaged damage) _ _ _ _ is = cc (is)
 dry_names _ _ (BadLayout field value) _ _ _ _ is = cc (is)
 dry_names _ _ (Small needed found) _ _ _ _ is = cc (is)
 dry_names _ _ NotBuilt _ _ _ _ is = cc (is)
+dry_names _ _ Full _ _ _ _ is = cc (is)
+dry_names _ _ Spent _ _ _ _ is = cc (is)
 
 pub ends_names : (form : Option Form) (run : Run) (status : Status) → RunEnds form run status → NamesBadLine form run.seen status
 ends_names None _ _ _ _ _ _ is _ _ = cc (is)
@@ -151,6 +161,8 @@ create_complete fault needed run (BadText bad) ends good large writes sink = abs
 create_complete fault needed run SourceFault ends good large writes sink = absurd ends
 create_complete fault needed run (Damaged damage) ends good large writes sink = absurd ends
 create_complete fault needed run NotBuilt ends good large writes sink = absurd ends
+create_complete fault needed run Full ends good large writes sink = absurd ends
+create_complete fault needed run Spent ends good large writes sink = absurd ends
 
 pub ends_made : (form : Option Form) (run : Run) (status : Status) → RunEnds form run status → IsMadeWhole form run status
 ends_made None _ _ _ _ _ _ _ _ is _ _ _ _ = cc (is)
@@ -174,6 +186,8 @@ pub source_kept : (step_lines : Bool) (status : Status) (k : ℕ) (before after 
 source_kept step_lines (BadText bad) k before after why other = why.3
 source_kept step_lines SourceFault k before after why other = absurd (other refl)
 source_kept step_lines NotBuilt k before after why other = absurd why
+source_kept step_lines Full k before after why other = absurd why
+source_kept step_lines Spent k before after why other = absurd why
 source_kept step_lines NoMemory k before after why other = why
 source_kept step_lines Done k before after why other = absurd why
 source_kept step_lines SinkFault k before after why other = absurd why
@@ -208,6 +222,8 @@ dry_source k seen (Damaged damage) ends other = absurd ends
 dry_source k seen (BadLayout field value) ends other = absurd ends
 dry_source k seen (Small needed found) ends other = absurd ends
 dry_source k seen NotBuilt ends other = absurd ends
+dry_source k seen Full ends other = absurd ends
+dry_source k seen Spent ends other = absurd ends
 
 create_source : (fault : Option BadField) (needed : ℕ) (run : Run) (status : Status) → CreateEnds fault needed run status → run.seen.source_after.faults ≡ run.seen.source_before.faults
 create_source fault needed run Done ends = ends.0.unread.faults
@@ -221,6 +237,8 @@ create_source fault needed run (BadText bad) ends = absurd ends
 create_source fault needed run SourceFault ends = absurd ends
 create_source fault needed run (Damaged damage) ends = absurd ends
 create_source fault needed run NotBuilt ends = absurd ends
+create_source fault needed run Full ends = absurd ends
+create_source fault needed run Spent ends = absurd ends
 
 steps_source : (by : Manner) (run : Run) (status : Status) → StepsEnd by run status → ¬ (status ≡ SourceFault) → run.seen.source_after.faults ≡ run.seen.source_before.faults
 steps_source by run status ends other = elim ends [
@@ -233,6 +251,15 @@ steps_source by run status ends other = elim ends [
 
 check_source : (run : Run) (status : Status) → CheckEnds run status → run.seen.source_after.faults ≡ run.seen.source_before.faults
 check_source run status ends = elim ends [ inl shut ↦ shut.2.unread.faults | inr checked ↦ checked.2.unread.faults ]
+
+tidy_source : (run : Run) (status : Status) → TidyEnds run status → run.seen.source_after.faults ≡ run.seen.source_before.faults
+tidy_source run status ends = elim ends [
+  | inl shut ↦ shut.2.unread.faults
+  | inr opened ↦ elim opened [
+    | inl away ↦ ap (λ (m : SourceModel). m.faults) away.why.1
+    | inr tidied ↦ tidied.2.unread.faults
+  ]
+]
 
 gen_source : (text : List ℕ) (seen : Seen) (status : Status) → GenEnds text seen status → seen.source_after.faults ≡ seen.source_before.faults
 gen_source text seen status ends = elim ends [ inl refused ↦ refused.2.faults | inr said ↦ said.0.unread.faults ]
@@ -254,6 +281,7 @@ ends_source (Some forms.Run) run status ends other = steps_source by_threads run
 ends_source (Some Drive) run status ends other = steps_source by_schedule run status ends other
 ends_source (Some (Work x n)) run status ends other = steps_source (by_counting x n) run status ends other
 ends_source (Some Check) run status ends other = check_source run status ends
+ends_source (Some Tidy) run status ends other = tidy_source run status ends
 ends_source (Some (Gen x n k)) run status ends other = gen_source (generated_text x n k) run.seen status ends
 ends_source (Some form) run status ends other = unbuilt_source run.seen status ends
 
@@ -274,6 +302,27 @@ check_never_usage : (run : Run) (status : Status) → CheckEnds run status → s
 check_never_usage run status ends is = elim ends [
   | inl shut ↦ never_usage shut.0 (sym shut.1 ∙ is)
   | inr checked ↦ subst (λ (x : Status). IsSaid (sound_text checked.0.meta checked.1) run.seen.sink_before run.seen.sink_after x) is checked.3
+]
+
+no_tidy_usage : (stop : TidyStop) → tidy_status stop ≡ Usage → ⊥
+no_tidy_usage tidies.Full is = cc (is)
+no_tidy_usage tidies.ReadFault is = cc (is)
+no_tidy_usage tidies.WriteFault is = cc (is)
+no_tidy_usage (tidies.Damaged page why) is = cc (is)
+no_tidy_usage tidies.Spent is = cc (is)
+no_tidy_usage tidies.NoMemory is = cc (is)
+
+said_no_usage : (result : Result TidyCounts TidyStop) (before after : SinkModel) (status : Status) → SaysTidied result before after status → status ≡ Usage → ⊥
+said_no_usage (Ok counts) before after status said is = subst (λ (x : Status). IsSaid (tidied_text counts) before after x) is said
+said_no_usage (Err stop) before after status said is = no_tidy_usage stop (sym said.0 ∙ is)
+
+tidy_never_usage : (run : Run) (status : Status) → TidyEnds run status → status ≡ Usage → ⊥
+tidy_never_usage run status ends is = elim ends [
+  | inl shut ↦ never_usage shut.0 (sym shut.1 ∙ is)
+  | inr opened ↦ elim opened [
+    | inl away ↦ cc (is, away.why.0)
+    | inr tidied ↦ said_no_usage tidied.1 run.seen.sink_before run.seen.sink_after status tidied.3 is
+  ]
 ]
 
 gen_never_usage : (text : List ℕ) (seen : Seen) (status : Status) → GenEnds text seen status → status ≡ Usage → ⊥
@@ -299,6 +348,7 @@ ends_usage (Some forms.Run) run status ends = (λ is. absurd (steps_never_usage 
 ends_usage (Some Drive) run status ends = (λ is. absurd (steps_never_usage by_schedule run status ends is), λ none. cc (none))
 ends_usage (Some (Work x n)) run status ends = (λ is. absurd (steps_never_usage (by_counting x n) run status ends is), λ none. cc (none))
 ends_usage (Some Check) run status ends = (λ is. absurd (check_never_usage run status ends is), λ none. cc (none))
+ends_usage (Some Tidy) run status ends = (λ is. absurd (tidy_never_usage run status ends is), λ none. cc (none))
 ends_usage (Some (Gen x n k)) run status ends = (λ is. absurd (gen_never_usage (generated_text x n k) run.seen status ends is), λ none. cc (none))
 ends_usage (Some form) run status ends = (λ is. cc (is, is_unbuilt run.seen status ends), λ none. cc (none))
 
@@ -310,6 +360,7 @@ ends_unbuilt (Some (Create k pages log dcap icap)) run status unbuilt ends = abs
 ends_unbuilt (Some forms.Run) run status unbuilt ends = absurd unbuilt
 ends_unbuilt (Some Drive) run status unbuilt ends = absurd unbuilt
 ends_unbuilt (Some Check) run status unbuilt ends = absurd unbuilt
+ends_unbuilt (Some Tidy) run status unbuilt ends = absurd unbuilt
 ends_unbuilt (Some (Gen x n k)) run status unbuilt ends = absurd unbuilt
 ends_unbuilt (Some (Work x n)) run status unbuilt ends = absurd unbuilt
 ends_unbuilt (Some form) run status unbuilt ends = is_unbuilt run.seen status ends

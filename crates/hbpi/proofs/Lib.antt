@@ -11,6 +11,8 @@ pub mod ShutOut
 pub mod StepsTaken
 pub mod Reopened
 pub mod CoreEnds
+pub mod Tidied
+pub mod TidyEnds
 pub mod TextEnds
 pub mod Tallies
 pub mod Turned

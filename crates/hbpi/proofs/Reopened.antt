@@ -44,7 +44,7 @@ prefixes_before s d m e answered after opening tells late sound pages even run =
     }
 
 -- the opening has raised no count of faults
-counts_before : (d m e : DiskModel) (answered : List Answered) (before after : Option StopWhy) → IsOpening d m → CountsFaults m e answered before after → CountsFaults d e answered before after
+pub counts_before : (d m e : DiskModel) (answered : List Answered) (before after : Option StopWhy) → IsOpening d m → CountsFaults m e answered before after → CountsFaults d e answered before after
 counts_before d m e answered before after opening counts = record {
   reads = subst (λ (n : ℕ). n ≤ e.read_faults) opening.reads counts.reads;
   writes = subst (λ (n : ℕ). n ≤ e.write_faults) opening.writes counts.writes;

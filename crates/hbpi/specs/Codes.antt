@@ -10,10 +10,12 @@ use Rattle.hb_store.specs.declared.stops.StopWhy.{StopWhy}
 use Rattle.hb_store.specs.declared.stops.StopWhy.TheVariants as stops
 use Rattle.hb_store.specs.declared.stops.Why.{Why}
 use Rattle.hb_store.specs.declared.stops.Why.TheVariants as whys
+use Rattle.hb_tidy.specs.declared.stops.TidyStop.{TidyStop}
+use Rattle.hb_tidy.specs.declared.stops.TidyStop.TheVariants as tidies
 use Rattle.hbpi.specs.declared.statuses.Damage.{Damage}
 use Rattle.hbpi.specs.declared.statuses.Damage.TheVariants as damages
 use Rattle.hbpi.specs.declared.statuses.Status.{Status}
-use Rattle.hbpi.specs.declared.statuses.Status.TheVariants.{Done, Usage, BadText, SourceFault, SinkFault, DiskFault, Damaged, NoMemory, BadLayout, Small, NotBuilt}
+use Rattle.hbpi.specs.declared.statuses.Status.TheVariants.{Done, Usage, BadText, SourceFault, SinkFault, DiskFault, Damaged, NoMemory, BadLayout, Small, NotBuilt, Full, Spent}
 
 abbrev pub code_of : Status → ℕ
 code_of Done = 0
@@ -27,6 +29,8 @@ code_of NoMemory = 8
 code_of (BadLayout field value) = 9
 code_of (Small needed found) = 9
 code_of NotBuilt = 11
+code_of Full = 10
+code_of Spent = 14
 
 -- what is wrong with a page that a run met
 abbrev pub damage_of : ℕ → Why → Damage
@@ -49,6 +53,15 @@ status_of (faults.BadGroup frame) = Damaged (damages.BadGroup frame)
 status_of (faults.Unsound page rule) = Damaged (damages.Rule page rule)
 status_of faults.DiskFault = DiskFault
 status_of faults.NoMemory = NoMemory
+
+-- the status of a run whose file wasn't tidied
+abbrev pub tidy_status : TidyStop → Status
+tidy_status tidies.Full = Full
+tidy_status tidies.ReadFault = DiskFault
+tidy_status tidies.WriteFault = DiskFault
+tidy_status (tidies.Damaged page why) = Damaged (damage_of page why)
+tidy_status tidies.Spent = Spent
+tidy_status tidies.NoMemory = NoMemory
 
 -- the status behind the last step
 abbrev pub stop_status : StopWhy → Status

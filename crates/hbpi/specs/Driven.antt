@@ -29,7 +29,7 @@ use Rattle.hbpi.specs.SeenRuns.{IsRefused, IsUnread, Run}
 use Rattle.hbpi.specs.declared.origins.Origin.{Origin}
 use Rattle.hbpi.specs.declared.origins.Origin.TheVariants.{Text, Drawn}
 use Rattle.hbpi.specs.declared.statuses.Status.{Status}
-use Rattle.hbpi.specs.declared.statuses.Status.TheVariants.{Done, Usage, BadText, SourceFault, SinkFault, DiskFault, Damaged, NoMemory, BadLayout, Small, NotBuilt}
+use Rattle.hbpi.specs.declared.statuses.Status.TheVariants.{Done, Usage, BadText, SourceFault, SinkFault, DiskFault, Damaged, NoMemory, BadLayout, Small, NotBuilt, Full, Spent}
 
 -- The file wasn't opened, and the source wasn't read.
 pub record IsShutOut (run : Run) (fault : OpenFault) : Type 0 where
@@ -135,6 +135,8 @@ RanEnds by NoMemory run m = ⊥
 RanEnds by (BadLayout field value) run m = ⊥
 RanEnds by (Small needed found) run m = ⊥
 RanEnds by NotBuilt run m = ⊥
+RanEnds by Full run m = ⊥
+RanEnds by Spent run m = ⊥
 
 -- How a run of `drive`, `run` or `work` ends: its file wasn't opened; or no script came; or steps were taken.
 abbrev pub StepsEnd : Manner → Run → Status → Type 0

@@ -14,5 +14,6 @@ pub mod Drives
 pub mod Driven
 pub mod Starts
 pub mod Checked
+pub mod Tidied
 pub mod Runs
 pub mod Promises

@@ -11,7 +11,7 @@ use Rattle.hb_set.specs.declared.scripts.Answered.{Answered}
 use Rattle.hb_text.specs.declared.rules.TextRule.{TextRule}
 use Rattle.hb_text.specs.declared.rules.TextRule.TheVariants.{TooMany, LongLine, BadByte, BadSpacing, BadStep, BadSession, BadVerb, BadCount, BadNumber, TooLarge, EmptyBox, BadBody}
 use Rattle.hbpi.specs.declared.statuses.Status.{Status}
-use Rattle.hbpi.specs.declared.statuses.Status.TheVariants.{Done, Usage, BadText, SourceFault, SinkFault, DiskFault, Damaged, NoMemory, BadLayout, Small, NotBuilt}
+use Rattle.hbpi.specs.declared.statuses.Status.TheVariants.{Done, Usage, BadText, SourceFault, SinkFault, DiskFault, Damaged, NoMemory, BadLayout, Small, NotBuilt, Full, Spent}
 use Rattle.hbpi.specs.declared.statuses.Damage.{Damage}
 use Rattle.hbpi.specs.declared.statuses.Damage.TheVariants as damages
 use Rattle.hb_restart.specs.declared.faults.Field.{Field}
@@ -61,6 +61,8 @@ fault_line (BadLayout field value) = codes "bad layout " ++ field_name field ++ 
 fault_line (Small needed found) = codes "small " ++ decimal needed ++ codes " " ++ decimal found ++ codes "\n"
 fault_line NoMemory = codes "no memory\n"
 fault_line NotBuilt = codes "not built\n"
+fault_line Full = codes "full\n"
+fault_line Spent = codes "spent\n"
 
 -- The line was put, whole or in front, and nobody is told which.
 pub record GetsLine (before after : SinkModel) (line : List ℕ) : Type 0 where

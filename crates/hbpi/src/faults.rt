@@ -164,5 +164,7 @@ pub(crate) fn put_fault<K: Sink>(sink: &mut K, status: Status)
         }
         Status::Small { needed, found } => put_line(sink, small_line(needed, found).as_slice()),
         Status::NotBuilt => put_line(sink, b"not built\n"),
+        Status::Full => put_line(sink, b"full\n"),
+        Status::Spent => put_line(sink, b"spent\n"),
     }
 }

@@ -35,6 +35,7 @@ mod saying;
 mod starting;
 mod statuses;
 mod texts;
+mod tidy_file;
 pub mod top;
 mod trouble;
 mod work_file;

@@ -3,10 +3,12 @@ ghost use Rattle.std.specs.Prelude.{◌≡◌, ◌+◌, ◌≤◌, ◌++◌, len
 ghost use Rattle.hbpi.specs.Checked.{sound_text};
 ghost use Rattle.hbpi.specs.Counted.{counts_text};
 ghost use Rattle.hbpi.specs.Saying.{IsSaid};
+ghost use Rattle.hbpi.specs.Tidied.{tidied_text};
 
 use crate::counting::{Kind, count_kind};
 use crate::statuses::Status;
 use arrayvec::ArrayVec;
+use hb_core::TidyCounts;
 use hb_layout::Meta;
 use hb_outside::Sink;
 use hb_set::Answered;
@@ -45,6 +47,19 @@ pub(crate) fn sound_line(meta: &Meta, records: u64) -> ArrayVec<u8, LONGEST>
     add_count(&mut line, b"sound height ", u128::from(meta.height));
     add_count(&mut line, b" pages ", u128::from(meta.live));
     add_count(&mut line, b" records ", u128::from(records));
+    let _fits = line.try_extend_from_slice(b"\n");
+    line
+}
+
+/// The line of a tidying.
+pub(crate) fn tidied_line(counts: &TidyCounts) -> ArrayVec<u8, LONGEST>
+    ensures { result.items ≡ tidied_text counts.now }
+{
+    let mut line = ArrayVec::new();
+    add_count(&mut line, b"tidy grown ", u128::from(counts.grown));
+    add_count(&mut line, b" posted ", u128::from(counts.posted));
+    add_count(&mut line, b" split ", u128::from(counts.split));
+    add_count(&mut line, b" merged ", u128::from(counts.merged));
     let _fits = line.try_extend_from_slice(b"\n");
     line
 }

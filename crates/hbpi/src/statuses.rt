@@ -4,6 +4,7 @@ ghost use Rattle.hbpi.specs.Codes.{code_of, damage_of, made_status, status_of};
 use hb_restart::{CreateFault, Field, OpenFault};
 use hb_store::Why;
 use hb_text::BadLine;
+use hb_tidy::TidyStop;
 
 /// What is wrong with a file.
 #[derive(Clone, Copy, Debug, PartialEq, Eq)]
@@ -58,6 +59,10 @@ pub enum Status {
     Small { needed: u64, found: u64 },
     /// The words are a form whose command isn't built.
     NotBuilt,
+    /// What is to be tidied needs a page, and none is free.
+    Full,
+    /// The core has taken as many steps as it counts.
+    Spent,
 }
 
 impl Status {
@@ -75,7 +80,9 @@ impl Status {
             Status::Damaged(_) => 7,
             Status::NoMemory => 8,
             Status::BadLayout { .. } | Status::Small { .. } => 9,
+            Status::Full => 10,
             Status::NotBuilt => 11,
+            Status::Spent => 14,
         }
     }
 
@@ -108,6 +115,24 @@ impl From<CreateFault> for Status {
             CreateFault::Small { needed, found } => Status::Small { needed, found },
             CreateFault::DiskFault => Status::DiskFault,
             CreateFault::NoMemory => Status::NoMemory,
+        }
+    }
+}
+
+impl From<TidyStop> for Status {
+    ghost use Rattle.std.specs.Prelude.{◌≡◌};
+    ghost use Rattle.hbpi.specs.Codes.{tidy_status};
+
+    ghost from_gives = { λ stop status. status ≡ tidy_status stop };
+
+    /// The status of a run whose file wasn't tidied.
+    fn from(stop: TidyStop) -> Status {
+        match stop {
+            TidyStop::Full => Status::Full,
+            TidyStop::ReadFault | TidyStop::WriteFault => Status::DiskFault,
+            TidyStop::Damaged { page, why } => Status::Damaged(Damage::of_page(page, &why)),
+            TidyStop::Spent => Status::Spent,
+            TidyStop::NoMemory => Status::NoMemory,
         }
     }
 }

@@ -1,0 +1,146 @@
+-- What a tidying of a file that was just opened comes to, seen from before the opening.
+use Rattle.std.proofs.Common.{◌≡◌, ℕ, ◌+◌, List, [], ◌∷◌, All, Option, Some, None, IfSome, IsSome, Result, Ok, Err, refl, sym, ap, ◌∙◌, subst}
+use Rattle.std.specs.List.{AllByRecursion}
+use Rattle.std.proofs.lemmas.List.Elements.{recursion_from_All}
+use Rattle.hb_core.specs.KeptMachine.{CoreKeeps}
+use Rattle.hb_core.specs.Laws.{HasOnePage}
+use Rattle.hb_core.specs.Machines.{Files, Machine, current_file}
+use Rattle.hb_core.specs.Runs.{ChangesFile, CountsFaults, IsPrefixImage}
+use Rattle.hb_core.specs.Showing.{RunningCore, ShowsFiles}
+use Rattle.hb_core.specs.SteppingLaws.{BeginningKeepsAll, IsBegunOver}
+use Rattle.hb_core.specs.declared.counts.TidyCounts.{TidyCounts}
+use Rattle.hb_disk.proofs.Facts.RewriteLaws.{Becomes-tells}
+use Rattle.hb_disk.proofs.Facts.RunLaws.{Leaves-then, Leaves-weaker}
+use Rattle.hb_disk.specs.Calls.{Leaves}
+use Rattle.hb_disk.specs.Model.{DiskModel}
+use Rattle.hb_lemmas.proofs.Options.{at_value, has_value, if_value}
+use Rattle.hb_layout.specs.declared.meta.Meta.{Meta}
+use Rattle.hb_ops.specs.Files.{FileState, contents_of}
+use Rattle.hb_ops.specs.Sound.{IsSound}
+use Rattle.hb_outside.specs.Streams.{Rose}
+use Rattle.hb_set.specs.Machine.{RecordSet}
+use Rattle.hb_set.specs.Order.{Entry, result_of}
+use Rattle.hb_set.specs.declared.scripts.Line.{Line}
+use Rattle.hb_sound.specs.PointWalks.{IsPointOf}
+use Rattle.hb_store.specs.Keeps.{StoreKeeps}
+use Rattle.hb_store.specs.Opening.{IsEven, OpensTo}
+use Rattle.hb_store.specs.Parts.{last_of}
+use Rattle.hb_store.specs.States.{IsNew, StoreState}
+use Rattle.hb_store.specs.declared.stops.StopWhy.{StopWhy}
+use Rattle.hb_tidy.specs.Tidying.{HasTidied, IsTidy, KeepsSet}
+use Rattle.hb_tidy.specs.declared.stops.TidyStop.{TidyStop}
+use Rattle.hb_tidy.specs.declared.stops.TidyStop.TheVariants as tidies
+use Rattle.hbpi.proofs.Begins.{IsBegunHere}
+use Rattle.hbpi.proofs.Opened.{IsOpening, even_store, from_before, late_before, since_start}
+use Rattle.hbpi.proofs.Reopened.{counts_before, no_line_yet, pages_of}
+use Rattle.hbpi.specs.Drives.{LeavesLate}
+use Rattle.hbpi.specs.SeenRuns.{IsUnread, Seen, run_of}
+use Rattle.hbpi.specs.Starts.{StartLaws}
+use Rattle.hbpi.specs.Tidied.{EndsForced, FilesTidied, HasContents, HasSameRecords, IsTidied, LeavesTidied, TidiesFile, TidyWhy}
+
+-- the file after all groups that wait is sound
+last_sound : (s : FileState) (later : List FileState) → IsSound s → AllByRecursion IsSound later → IsSound (last_of s later)
+last_sound s [] sound all = sound
+last_sound s (next ∷ later) sound all = last_sound next later all.0 all.1
+
+-- ---- over the file of a disk that tells
+
+module _ (s : FileState) (d e : DiskModel) (m new : Machine) (keeps : KeepsSet (contents_of s) d e new) (order : new.order ≡ []) (opened : m.store.meta.height ≡ s.meta.height) where
+  abbrev files : Files
+  files = keeps.after
+
+  same_contents : contents_of (current_file files) ≡ contents_of s
+  same_contents = sym keeps.keeps.order_legal.result ∙ ap (result_of (contents_of s)) order
+
+  current : HasSameRecords s (current_file files)
+  current = record {
+    sound = last_sound files.durable files.later keeps.keeps.sound_file.durable (recursion_from_All IsSound files.later keeps.keeps.sound_file.later);
+    contents = same_contents;
+  }
+
+  is_tidied : (result : Result TidyCounts TidyStop) → ShowsFiles e new → TidyWhy d e new result → FilesTidied m.store.meta.height result files → IsTidied s e result
+  is_tidied (Ok counts) shown why (none, tidy, height) =
+      let same : shown.files ≡ files = cc (shown.told, keeps.keeps.told) in
+      let store : StoreKeeps e new.store files.durable files.later = subst (λ (f : Files). StoreKeeps e new.store f.durable f.later) same shown.kept in
+      let alone : current_file files ≡ files.durable = ap (last_of files.durable) none in (
+        files.durable,
+        subst (HasSameRecords s) alone current,
+        even_store e new.store files.durable files.later store (keeps.keeps.kept.runs why),
+        tidy,
+        height ∙ ap (λ (h : ℕ). h + counts.grown) opened,
+      )
+  is_tidied (Err tidies.Full) shown why wants = (current_file files, current, wants)
+  is_tidied (Err tidies.ReadFault) shown why wants = tt
+  is_tidied (Err tidies.WriteFault) shown why wants = tt
+  is_tidied (Err (tidies.Damaged page cause)) shown why wants = tt
+  is_tidied (Err tidies.Spent) shown why wants = tt
+  is_tidied (Err tidies.NoMemory) shown why wants = tt
+
+-- ---- behind an opening
+
+module _ (laws : StartLaws) (d first last : DiskModel) (store : StoreState) (lines : List Line) (steps : List ℕ) (ran : RunningCore) (result : Result TidyCounts TidyStop) (opening : IsOpening d first) (new : IsNew store.turn store.meta store)
+    (m : Machine) (here : IsBegunHere first lines steps store m) (went : HasTidied first m last ran) (forced : EndsForced first last m went.new result) where
+  no_order : went.new.order ≡ []
+  no_order = went.order ∙ here.begun.no_order
+
+  -- what it leaves, seen from the opening
+  left_here : IfSome first.told (λ b. (s : FileState) × OpensTo b s × IsBegunOver m s × LeavesTidied s first last result)
+  left_here = if_value first.told _ (λ b is.
+      let from = at_value first.told _ b is here.told in
+      let s = from.0 in
+      let over = from.1 in
+      let tells = has_value first.told b is in
+      let keeps = went.kept (contents_of s) (record { durable = s; later = [] }) (laws.beginning m s over) in
+      let shown = went.shows.tells (Becomes-tells (ChangesFile m.store) first last went.in_file tells) in
+      let crashes : Leaves first last (HasContents s) = subst (λ (es : List Entry). Leaves first last (IsPrefixImage (contents_of s) es 0)) no_order keeps.crashes.each in
+      let files : FilesTidied m.store.meta.height result keeps.after = at_value went.new.files (FilesTidied m.store.meta.height result) keeps.after keeps.keeps.told forced.files in
+      (
+        s,
+        (even_store first store s [] from.2 new.running).images b (opening.disk.as_read b is),
+        over,
+        record {
+          even = λ was. crashes;
+          late = since_start first last (HasContents s) crashes;
+          ends = is_tidied s first last m went.new keeps no_order (ap (λ (x : Meta). x.height) (sym over.meta)) result shown forced.why files;
+        },
+      ))
+
+  left_before : IfSome d.told (λ b. (s : FileState) × OpensTo b s × IsSound s × IsBegunOver m s × LeavesTidied s d last result)
+  left_before = from_before d first (λ s. IsBegunOver m s × LeavesTidied s first last result) _ _ laws.one opening
+      (λ b f. f)
+      (λ b s is opens sound even here. (
+        s,
+        opens,
+        sound,
+        here.0,
+        record {
+          even = λ was. Leaves-then d first last (HasContents s) (Leaves-weaker d first (λ c. OpensTo c s) (HasContents s) (λ c image. no_line_yet s [] c sound (pages_of laws.walks laws.alone s sound) image) (opening.even s was)) (here.1.even even);
+          late = late_before d first last (λ c. OpensTo c s) (HasContents s) opening (has_value d.told b is) (opening.late b is s opens) (λ c image. no_line_yet s [] c sound (pages_of laws.walks laws.alone s sound) image) (here.1.even even);
+          ends = here.1.ends;
+        },
+      )) left_here
+
+  -- a count that rose behind the opening has risen since before it
+  why_before : (r : Result TidyCounts TidyStop) → TidyWhy first last went.new r → TidyWhy d last went.new r
+  why_before (Ok counts) why = why
+  why_before (Err tidies.Full) why = why
+  why_before (Err tidies.ReadFault) why = subst (λ (n : ℕ). Rose n last.read_faults) opening.reads why
+  why_before (Err tidies.WriteFault) why = subst (λ (n : ℕ). Rose n last.write_faults) opening.writes why
+  why_before (Err (tidies.Damaged page cause)) why = why
+  why_before (Err tidies.Spent) why = why
+  why_before (Err tidies.NoMemory) why = why
+
+  pub tidies_file : (seen : Seen) → lines ≡ [] → IsUnread seen → seen.answered ≡ [] → seen.order ≡ [] → TidiesFile (run_of seen d last) went.new result
+  tidies_file seen none unread answered order = record {
+    before = m;
+    begun = here.begun;
+    opened = subst (λ (st : StoreState). IsNew st.turn st.meta st) (sym here.may.shows.store) new;
+    no_line = here.may.shows.lines ∙ none;
+    no_order = no_order;
+    unread = unread;
+    none_answered = answered;
+    none_ordered = order;
+    faults = counts_before d first last [] None went.new.stop opening (subst (λ (why : Option StopWhy). CountsFaults first last [] why went.new.stop) here.begun.runs went.faults);
+    why = why_before result forced.why;
+    told = left_before;
+  }

@@ -1,0 +1,103 @@
+-- How a run of `tidy` ends that has made its core.
+use Rattle.std.proofs.Common.{◌≡◌, ℕ, ◌≤◌, List, [], ◌∷◌, map, Result, Ok, Err, None, inl, inr, refl, sym, ap, ◌∙◌, subst, arith}
+use Rattle.hb_core.specs.BetweenLaws.{CountsStayWithin}
+use Rattle.hb_core.specs.Counting.{CountsWithin}
+use Rattle.hb_core.specs.Machines.{Machine}
+use Rattle.hb_core.specs.Runs.{ChangesFile}
+use Rattle.hb_core.specs.Showing.{RunningCore}
+use Rattle.hb_core.specs.Working.{MayStep}
+use Rattle.hb_core.specs.declared.counts.TidyCounts.{TidyCounts}
+use Rattle.hb_disk.specs.Calls.{Becomes}
+use Rattle.hb_disk.specs.Model.{DiskModel}
+use Rattle.hb_layout.specs.Offsets.{file_size}
+use Rattle.hb_outside.specs.Calls.{SinkModel, SourceModel}
+use Rattle.hb_restart.specs.Beyond.{KeepsBeyond, KeepsBeyondFile}
+use Rattle.hb_set.specs.Order.{Entry}
+use Rattle.hb_set.specs.declared.scripts.Answered.{Answered}
+use Rattle.hb_set.specs.declared.scripts.Line.{Line}
+use Rattle.hb_store.specs.States.{StoreState}
+use Rattle.hb_tidy.specs.Tidying.{AllAtRest, HasTidied}
+use Rattle.hb_tidy.specs.declared.stops.TidyStop.{TidyStop}
+use Rattle.hbpi.proofs.Begins.{IsBegunHere}
+use Rattle.hbpi.proofs.Beyond.{beyond_driven}
+use Rattle.hbpi.proofs.CoreEnds.{begins_here, may_core}
+use Rattle.hbpi.proofs.Opened.{IsOpening, is_opening}
+use Rattle.hbpi.proofs.StepsTaken.{run_beyond}
+use Rattle.hbpi.proofs.Tidied.{tidies_file}
+use Rattle.hbpi.specs.Codes.{status_of}
+use Rattle.hbpi.specs.Driven.{IsShutOut, IsTurnedAway}
+use Rattle.hbpi.specs.Outcome.{GetsLine, fault_line}
+use Rattle.hbpi.specs.SeenRuns.{IsUnread, Seen, run_of, seen_by}
+use Rattle.hbpi.specs.Starts.{IsNotStarted, IsStarted, StartLaws}
+use Rattle.hbpi.specs.Tidied.{EndsForced, SaysTidied, TidyEnds, TidiesFile, nobody}
+use Rattle.hbpi.specs.declared.statuses.Status.{Status}
+
+-- ---- a core that was made for nobody
+
+pub rests_begun : (before after : SourceModel) (d e : DiskModel) (core : RunningCore) → IsStarted nobody before after d e core → AllAtRest core
+rests_begun before after d e core started = subst AllAtRest (sym started.made.core_is) refl
+
+pub within_begun : CountsStayWithin → (before after : SourceModel) (d e : DiskModel) (core : RunningCore) → IsStarted nobody before after d e core → CountsWithin core
+within_begun within before after d e core started = subst CountsWithin (sym started.made.core_is) (within.begun started.made.lines started.made.steps started.store [])
+
+-- ---- where it was tidied
+
+-- What is known of the calls over a core: what became of the disk, what was said, and what is given back.
+pub record TidiedCore {X : Type 0} (M : X → DiskModel) (first over last : X) (core ran : RunningCore) (result : Result TidyCounts TidyStop) (sink put : SinkModel) (status : Status) (answered : List Answered) (order : List ℕ) : Type 0 where
+  pub tidies : (m : Machine) → MayStep (M first) core m → (t : HasTidied (M first) m (M over) ran) × EndsForced (M first) (M over) m t.new result
+  pub said : SaysTidied result sink put status
+  pub disk_is : last ≡ over
+  pub none_answered : answered ≡ []
+  pub order_is : order ≡ ran.order
+
+module _ {X : Type 0} (M : X → DiskModel) (first over last : X) (core ran : RunningCore) (result : Result TidyCounts TidyStop) (sink put : SinkModel) (status : Status) (answered : List Answered) (order : List ℕ)
+    (facts : TidiedCore M first over last core ran result sink put status answered order) (laws : StartLaws) (d : DiskModel) (before after : SourceModel) (started : IsStarted nobody before after d (M first) core) where
+  abbrev seen : Seen
+  seen = seen_by before after sink put answered order
+
+  opening : IsOpening d (M first)
+  opening = is_opening d (M first) started.store started.count started.disk started.opens started.through started.leaves
+
+  here : (m : Machine) × IsBegunHere (M first) started.made.lines started.made.steps started.store m
+  here = begins_here nobody before after d (M first) core started
+
+  went : (t : HasTidied (M first) here.0 (M over) ran) × EndsForced (M first) (M over) here.0 t.new result
+  went = facts.tidies here.0 (may_core nobody before after d (M first) core here.0 started here.1)
+
+  -- nothing is in the order, since nobody commands
+  no_order : order ≡ []
+  no_order = facts.order_is ∙ sym went.0.shows.order ∙ ap (map (λ (e : Entry). e.line.number)) (went.0.order ∙ here.1.begun.no_order)
+
+  unread : IsUnread seen
+  unread = let same = started.made.came.2 in record { rest = ap (λ (m : SourceModel). m.left) same; faults = ap (λ (m : SourceModel). m.faults) same }
+
+  pub tidied_ends : TidyEnds (run_of seen d (M last)) status
+  tidied_ends =
+      let file : TidiesFile (run_of seen d (M over)) went.0.new result =
+      tidies_file laws d (M first) (M over) started.store started.made.lines started.made.steps ran result opening started.opens.is_new here.0 here.1 went.0 went.1 seen started.made.came.0 unread facts.none_answered no_order in
+      inr (inr (went.0.new, result, subst (λ (x : X). TidiesFile (run_of seen d (M x)) went.0.new result) (sym facts.disk_is) file, facts.said))
+
+  -- what lies behind the file is as it was
+  pub tidied_beyond : KeepsBeyondFile d (M last)
+  tidied_beyond =
+      beyond_driven d (M first) (M last) started.store.meta started.opens.said started.leaves.beyond
+      (subst (λ (x : X). KeepsBeyond (file_size started.store.meta) (M first) (M x)) (sym facts.disk_is) (run_beyond (M first) (M over) started.store here.0 here.1.may.shows.store went.0.in_file))
+
+  -- no count of the disk's faults falls
+  pub tidied_reads : d.read_faults ≤ (M last).read_faults
+  tidied_reads = subst (λ (x : X). d.read_faults ≤ (M x).read_faults) (sym facts.disk_is) (subst (λ (n : ℕ). n ≤ (M over).read_faults) opening.reads went.0.faults.reads)
+
+  pub tidied_writes : d.write_faults ≤ (M last).write_faults
+  tidied_writes = subst (λ (x : X). d.write_faults ≤ (M x).write_faults) (sym facts.disk_is) (subst (λ (n : ℕ). n ≤ (M over).write_faults) opening.writes went.0.faults.writes)
+
+-- ---- where no core was made
+
+pub turned_tidy : {X : Type 0} (M : X → DiskModel) (first found last : X) (before after : SourceModel) (sink put : SinkModel) (answered : List Answered) (order : List ℕ) (asked status : Status) → last ≡ found → status ≡ asked
+    → GetsLine sink put (fault_line asked) → answered ≡ [] → order ≡ [] → IsNotStarted nobody before after (M first) (M found) asked
+    → TidyEnds (run_of (seen_by before after sink put answered order) (M first) (M last)) status
+turned_tidy {X = X} M first found last before after sink put answered order asked status same is line none_answered none_ordered not =
+    let ends : TidyEnds (run_of (seen_by before after sink put [] []) (M first) (M found)) asked = elim (not sink put line) [ inl shut ↦ inl shut | inr away ↦ inr (inl away) ] in
+    let on_disk = subst (λ (x : X). TidyEnds (run_of (seen_by before after sink put [] []) (M first) (M x)) asked) (sym same) ends in
+    let of_status = subst (λ (x : Status). TidyEnds (run_of (seen_by before after sink put [] []) (M first) (M last)) x) (sym is) on_disk in
+    let with_order = subst (λ (o : List ℕ). TidyEnds (run_of (seen_by before after sink put [] o) (M first) (M last)) status) (sym none_ordered) of_status in
+    subst (λ (a : List Answered). TidyEnds (run_of (seen_by before after sink put a order) (M first) (M last)) status) (sym none_answered) with_order

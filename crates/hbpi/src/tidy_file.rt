@@ -1,0 +1,88 @@
+//! The command `tidy`.
+ghost use Rattle.std.specs.Prelude.{◌≡◌, ◌≤◌, None};
+ghost use Rattle.hb_core.specs.Counting.{CountsWithin};
+ghost use Rattle.hb_core.specs.CoreSeen.{core_disk, core_seen};
+ghost use Rattle.hb_core.specs.Machines.{Machine};
+ghost use Rattle.hb_core.specs.Working.{MayStep};
+ghost use Rattle.hb_restart.specs.Beyond.{KeepsBeyondFile};
+ghost use Rattle.hb_tidy.specs.Tidying.{AllAtRest, HasTidied};
+ghost use Rattle.hbpi.specs.Tidied.{EndsForced, SaysTidied, TidyEnds};
+ghost use Rattle.hbpi.specs.SeenRuns.{run_of, seen_by};
+
+use crate::dry::refused;
+use crate::faults::put_fault;
+use crate::finished::Finished;
+use crate::origins::Origin;
+use crate::saying::{say, tidied_line};
+use crate::starting::{knows_laws, start};
+use crate::statuses::Status;
+use hb_core::between_laws::operations_are_counted;
+use hb_core::{Core, TidyCounts};
+use hb_disk::Disk;
+use hb_outside::{Sink, Source};
+use hb_tidy::{TidyStop, tidy};
+use std::alloc::Global;
+
+/// Tidies the file of a core, and forces what waits then, so that every image has it.
+fn tidy_core<D: Disk>(alloc: Global, core: &mut Core<D>) -> Result<TidyCounts, TidyStop>
+    requires may { (m : Machine) × MayStep (D.model (core_disk core.old)) (core_seen core.old) m × (m.stop ≡ None) }
+    requires idle { AllAtRest (core_seen core.old) }
+    requires counts { CountsWithin (core_seen core.old) }
+    ensures tidies { (m : Machine) → MayStep (D.model (core_disk core.old)) (core_seen core.old) m →
+        (t : HasTidied (D.model (core_disk core.old)) m (D.model (core_disk core.new)) (core_seen core.new)) × EndsForced (D.model (core_disk core.old)) (D.model (core_disk core.new)) m t.new result }
+{
+    let counts = tidy(alloc, core)?;
+    match core.help() {
+        Ok(_) => Ok(counts),
+        Err(_) => Err(TidyStop::WriteFault),
+    }
+}
+
+/// Says what was tidied, or why it wasn't.
+fn say_tidied<K: Sink>(tidied: Result<TidyCounts, TidyStop>, sink: &mut K) -> Status
+    ensures said { SaysTidied tidied (K.model sink.old) (K.model sink.new) result }
+    ensures later { (K.model sink.old).faults ≤ (K.model sink.new).faults }
+{
+    match tidied {
+        Ok(counts) => say(sink, tidied_line(&counts).as_slice()),
+        Err(stop) => {
+            let status = Status::from(stop);
+            put_fault(sink, status);
+            status
+        }
+    }
+}
+
+/// The command `tidy`: opens the file of the disk, posts what is late and merges what is thin, and says how many operations of each kind
+/// that took.
+pub(crate) fn tidy_file<S: Source, K: Sink, D: Disk>(
+    alloc: Global,
+    source: &mut S,
+    mut sink: K,
+    disk: D,
+) -> Finished<K, D>
+    ensures ends { TidyEnds (run_of (seen_by (S.model source.old) (S.model source.new) (K.model sink) (K.model result.sink) result.answered.items result.order.items) (D.model disk) (D.model result.disk)) result.status }
+    ensures beyond { KeepsBeyondFile (D.model disk) (D.model result.disk) }
+    ensures source_later { (S.model source.old).faults ≤ (S.model source.new).faults }
+    ensures sink_later { (K.model sink).faults ≤ (K.model result.sink).faults }
+    ensures reads_later { (D.model disk).read_faults ≤ (D.model result.disk).read_faults }
+    ensures writes_later { (D.model disk).write_faults ≤ (D.model result.disk).write_faults }
+{
+    knows_laws();
+    operations_are_counted();
+    match start(alloc, Origin::Drawn { state: 0, lines: 0 }, source, disk) {
+        Ok((mut core, _records)) => {
+            let tidied = tidy_core(alloc, &mut core);
+            let status = say_tidied(tidied, &mut sink);
+            let (store, order) = core.into_store();
+            Finished {
+                status,
+                sink,
+                disk: store.into_disk(),
+                answered: Vec::new(alloc),
+                order,
+            }
+        }
+        Err((status, disk)) => refused(alloc, status, sink, disk),
+    }
+}
