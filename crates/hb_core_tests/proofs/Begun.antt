@@ -19,14 +19,14 @@ use Rattle.hb_restart.specs.NewFiles.{new_file}
 use Rattle.hb_restart.specs.declared.layout.Layout.{Layout}
 use Rattle.hb_store.specs.Held.{StoreHeld, IsTied}
 use Rattle.hb_store.specs.States.{IsGoodPage, IsStore, StoreState}
-use Rattle.hb_core_tests.specs.Begun.{IsFresh}
+use Rattle.hb_core_tests.specs.Begun.{IsBegunCore}
 
 good_spelling : (meta : Meta) (page : Page) → IsGoodPage meta page → HasSpelling page
 good_spelling meta (Live page) good = good.0
 good_spelling meta (Free next) good = good
 
 -- what was copied of a machine that goes on has a spelling
-pub copied_spelling : (id : ℕ) (page : Page) (d e : DiskModel) (old new : RunningCore) → IsFresh d old
+pub copied_spelling : (id : ℕ) (page : Page) (d e : DiskModel) (old new : RunningCore) → IsBegunCore d old
     → ((m : Machine) → MayStep d old m → (next : Machine) × CopiesPage id (Ok page) m next × MayStep e new next) → HasSpelling page
 copied_spelling id page d e old new fresh copies =
     let came = copies fresh.may.0 fresh.may.1 in

@@ -1,7 +1,7 @@
 //! Jobs that wait, a page that is copied, and a flush that has nothing to do. Bytes and counts were worked out by hand.
 ghost use Rattle.std.specs.Prelude.{◌≡◌, length, IfSome};
 ghost use Rattle.hb_core.specs.CoreSeen.{core_seen, core_disk};
-ghost use Rattle.hb_core_tests.specs.Begun.{IsFresh};
+ghost use Rattle.hb_core_tests.specs.Begun.{IsBegunCore};
 
 use crate::cores::{SIZE, begun};
 use hb_activity::{Job, JobKind};
@@ -20,7 +20,7 @@ const EMPTY: [u8; 23] = [
 
 /// A core over a new file in memory.
 fn core(alloc: Global) -> Option<Core<MemDisk>>
-    ensures { IfSome result (λ c. IsFresh (disk_model (core_disk c)) (core_seen c)) }
+    ensures { IfSome result (λ c. IsBegunCore (disk_model (core_disk c)) (core_seen c)) }
 {
     let Ok(bytes) = vec![in alloc; 0; SIZE] else {
         return None;
@@ -42,7 +42,7 @@ fn posting(point: u64) -> Job
 
 /// The bytes of a copy of page 1.
 fn first_bytes<D: Device>(core: &mut Core<D>) -> Option<[u8; PAGE]>
-    requires { IsFresh (D.model (core_disk core.old)) (core_seen core.old) }
+    requires { IsBegunCore (D.model (core_disk core.old)) (core_seen core.old) }
 {
     let page = core.page_copy(1).ok()?;
     let mut bytes = [0; PAGE];

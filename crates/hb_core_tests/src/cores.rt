@@ -1,7 +1,7 @@
 //! A core over a new file that has no line. Where something is `None`, memory was refused.
 ghost use Rattle.std.specs.Prelude.{IfSome};
 ghost use Rattle.hb_core.specs.CoreSeen.{core_seen, core_disk};
-ghost use Rattle.hb_core_tests.specs.Begun.{IsFresh};
+ghost use Rattle.hb_core_tests.specs.Begun.{IsBegunCore};
 
 use hb_core::Core;
 use hb_disk::Device;
@@ -23,7 +23,7 @@ pub(crate) const SIZE: usize = 401_408;
 
 /// A core over a new file on a disk.
 pub(crate) fn begun<D: Device>(alloc: Global, disk: D) -> Option<Core<D>>
-    ensures { IfSome result (λ c. IsFresh (D.model (core_disk c)) (core_seen c)) }
+    ensures { IfSome result (λ c. IsBegunCore (D.model (core_disk c)) (core_seen c)) }
 {
     a_new_file_is_sound();
     let store = create(alloc, disk, LAYOUT).ok()?;

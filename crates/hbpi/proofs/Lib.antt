@@ -22,7 +22,9 @@ pub mod DriveNames
 pub mod DriveGiven
 pub mod FileRefused
 pub mod Promises
+pub mod SaidWhole
 pub mod CheckPromises
+pub mod TidyPromises
 pub mod AllAnswered
 pub mod RecordsLeft
 pub mod CountingEnds

@@ -27,11 +27,11 @@ use Rattle.hb_store.specs.Opening.{IsEven, OpensTo}
 use Rattle.hb_store.specs.Parts.{last_of}
 use Rattle.hb_store.specs.States.{IsNew, StoreState}
 use Rattle.hb_store.specs.declared.stops.StopWhy.{StopWhy}
-use Rattle.hb_tidy.specs.Tidying.{HasTidied, IsTidy, KeepsSet}
+use Rattle.hb_tidy.specs.Tidying.{HasTidied, KeepsSet}
 use Rattle.hb_tidy.specs.declared.stops.TidyStop.{TidyStop}
 use Rattle.hb_tidy.specs.declared.stops.TidyStop.TheVariants as tidies
 use Rattle.hbpi.proofs.Begins.{IsBegunHere}
-use Rattle.hbpi.proofs.Opened.{IsOpening, even_store, from_before, late_before, since_start}
+use Rattle.hbpi.proofs.Opened.{IsOpening, even_store, from_before, late_before, since_start, tells_behind}
 use Rattle.hbpi.proofs.Reopened.{counts_before, no_line_yet, pages_of}
 use Rattle.hbpi.specs.Drives.{LeavesLate}
 use Rattle.hbpi.specs.SeenRuns.{IsUnread, Seen, run_of}
@@ -45,7 +45,7 @@ last_sound s (next ∷ later) sound all = last_sound next later all.0 all.1
 
 -- ---- over the file of a disk that tells
 
-module _ (s : FileState) (d e : DiskModel) (m new : Machine) (keeps : KeepsSet (contents_of s) d e new) (order : new.order ≡ []) (opened : m.store.meta.height ≡ s.meta.height) where
+module _ (s : FileState) (d e : DiskModel) (m new : Machine) (first : Files) (keeps : KeepsSet (contents_of s) d first e new) (order : new.order ≡ []) (opened : m.store.meta.height ≡ s.meta.height) where
   abbrev files : Files
   files = keeps.after
 
@@ -101,7 +101,7 @@ module _ (laws : StartLaws) (d first last : DiskModel) (store : StoreState) (lin
         record {
           even = λ was. crashes;
           late = since_start first last (HasContents s) crashes;
-          ends = is_tidied s first last m went.new keeps no_order (ap (λ (x : Meta). x.height) (sym over.meta)) result shown forced.why files;
+          ends = is_tidied s first last m went.new (record { durable = s; later = [] }) keeps no_order (ap (λ (x : Meta). x.height) (sym over.meta)) result shown forced.why files;
         },
       ))
 
@@ -126,7 +126,7 @@ module _ (laws : StartLaws) (d first last : DiskModel) (store : StoreState) (lin
   why_before (Err tidies.Full) why = why
   why_before (Err tidies.ReadFault) why = subst (λ (n : ℕ). Rose n last.read_faults) opening.reads why
   why_before (Err tidies.WriteFault) why = subst (λ (n : ℕ). Rose n last.write_faults) opening.writes why
-  why_before (Err (tidies.Damaged page cause)) why = why
+  why_before (Err (tidies.Damaged page cause)) why = (λ tells. why.0 (tells_behind d first opening tells), why.1)
   why_before (Err tidies.Spent) why = why
   why_before (Err tidies.NoMemory) why = why
 

@@ -1,5 +1,5 @@
 -- What a run of `tidy` leaves, by its status.
-use Rattle.std.specs.Prelude.{◌≡◌, ◌⊎◌, ℕ, ◌+◌, List, [], ◌++◌, codes, length, Result, Ok, Err, None, Some, IfSome}
+use Rattle.std.specs.Prelude.{◌≡◌, ◌⊎◌, ℕ, ◌+◌, List, [], ◌++◌, codes, length, Result, Ok, Err, None, Some, IfSome, IsSome}
 use Rattle.std.specs.Fmt.{decimal}
 use Rattle.hb_core.specs.Machines.{Files, Machine, current_file}
 use Rattle.hb_core.specs.Runs.{CountsFaults, IsPrefixImage}
@@ -17,7 +17,7 @@ use Rattle.hb_restart.specs.declared.faults.OpenFault.{OpenFault}
 use Rattle.hb_store.specs.Opening.{IsEven, OpensTo}
 use Rattle.hb_store.specs.States.{IsNew}
 use Rattle.hb_store.specs.declared.stops.StopWhy.TheVariants as stops
-use Rattle.hb_tidy.specs.Tidying.{IsTidy, WantsPage}
+use Rattle.hb_tidy.specs.Finding.{IsTidy, WantsPage}
 use Rattle.hb_tidy.specs.declared.stops.TidyStop.{TidyStop}
 use Rattle.hb_tidy.specs.declared.stops.TidyStop.TheVariants as tidies
 use Rattle.hbpi.specs.Driven.{IsShutOut, IsTurnedAway}
@@ -25,10 +25,11 @@ use Rattle.hbpi.specs.Drives.{LeavesLate}
 use Rattle.hbpi.specs.Codes.{status_of, tidy_status}
 use Rattle.hbpi.specs.Outcome.{GetsLine, fault_line}
 use Rattle.hbpi.specs.Saying.{IsSaid}
-use Rattle.hbpi.specs.SeenRuns.{IsUnread, Run}
+use Rattle.hbpi.specs.SeenRuns.{HasFailed, IsUnread, Run}
 use Rattle.hbpi.specs.declared.origins.Origin.{Origin}
 use Rattle.hbpi.specs.declared.origins.Origin.TheVariants.{Drawn}
 use Rattle.hbpi.specs.declared.statuses.Status.{Status}
+use Rattle.hbpi.specs.declared.statuses.Status.TheVariants.{Done, Full, NoMemory, Spent}
 
 -- a script of no line: nobody commands
 abbrev pub nobody : Origin
@@ -59,13 +60,14 @@ pub record LeavesTidied (s : FileState) (d e : DiskModel) (result : Result TidyC
   pub late : LeavesLate d e (HasContents s)
   pub ends : IsTidied s e result
 
--- What stopped it: nothing where it is done or no page is free; a count of faults that rose; or a damaged page.
+-- What stopped it: nothing where it is done or no page is free; a count of faults that rose; or a damaged page, which only a disk has that
+-- tells nothing.
 abbrev pub TidyWhy : DiskModel → DiskModel → Machine → Result TidyCounts TidyStop → Type 0
 TidyWhy d e m (Ok counts) = m.stop ≡ None
 TidyWhy d e m (Err tidies.Full) = m.stop ≡ None
 TidyWhy d e m (Err tidies.ReadFault) = Rose d.read_faults e.read_faults
 TidyWhy d e m (Err tidies.WriteFault) = Rose d.write_faults e.write_faults
-TidyWhy d e m (Err (tidies.Damaged page why)) = m.stop ≡ Some (stops.Damaged page why)
+TidyWhy d e m (Err (tidies.Damaged page why)) = (¬ (IsSome d.told)) × (m.stop ≡ Some (stops.Damaged page why))
 TidyWhy d e m (Err stop) = Unit {0}
 
 -- The machine's files then, whose height was this: where it is done no group waits, and the file is tidy.
@@ -117,3 +119,9 @@ pub record KeepsTidied (s : FileState) (run : Run) : Type 0 where
   pub tidy : IsTidy file
   pub height : file.meta.height ≡ s.meta.height + counts.grown
   pub walks : HasLoneRoot file → (p rest : List ℕ) (last : ℕ) → IsPointOf file p → IsWholeWalk file p file.meta.root rest last → length rest + 1 ≡ file.meta.height
+
+-- Where no call failed over such a disk, it is done, unless memory was refused, no page was free where one was wanted, or the core's count
+-- of steps ran out.
+abbrev pub IsTidiedWhole : FileState → Run → Status → Type 0
+IsTidiedWhole s run status = (b : List ℕ) → run.before.told ≡ Some b → OpensTo b s → IsSound s → ¬ (HasFailed run) → ¬ (Rose run.seen.sink_before.faults run.seen.sink_after.faults) →
+    (status ≡ Done) ⊎ (status ≡ NoMemory) ⊎ (status ≡ Full) ⊎ (status ≡ Spent)

@@ -52,4 +52,6 @@ mod texts;
 #[cfg(test)]
 mod threads;
 #[cfg(test)]
+mod tidies;
+#[cfg(test)]
 mod turns;
