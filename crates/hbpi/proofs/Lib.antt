@@ -12,6 +12,7 @@ pub mod StepsTaken
 pub mod Reopened
 pub mod CoreEnds
 pub mod Tidied
+pub mod TidiedCore
 pub mod TidyEnds
 pub mod TextEnds
 pub mod Tallies

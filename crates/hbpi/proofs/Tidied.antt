@@ -106,8 +106,11 @@ module _ (laws : StartLaws) (d first last : DiskModel) (store : StoreState) (lin
       ))
 
   left_before : IfSome d.told (λ b. (s : FileState) × OpensTo b s × IsSound s × IsBegunOver m s × LeavesTidied s d last result)
-  left_before = from_before d first (λ s. IsBegunOver m s × LeavesTidied s first last result) _ _ laws.one opening
-      (λ b f. f)
+  left_before = from_before d first (λ s. IsBegunOver m s × LeavesTidied s first last result)
+      (λ b. (s : FileState) × OpensTo b s × IsBegunOver m s × LeavesTidied s first last result)
+      (λ b. (s : FileState) × OpensTo b s × IsSound s × IsBegunOver m s × LeavesTidied s d last result)
+      laws.one opening
+      (λ b f. (f.0, f.1, (f.2, f.3)))
       (λ b s is opens sound even here. (
         s,
         opens,

@@ -9,6 +9,7 @@ use Rattle.hb_core.specs.Working.{MayStep}
 use Rattle.hb_core.specs.declared.counts.TidyCounts.{TidyCounts}
 use Rattle.hb_disk.specs.Calls.{Becomes}
 use Rattle.hb_disk.specs.Model.{DiskModel}
+use Rattle.hb_gen.specs.Lines.{generated, lines_from}
 use Rattle.hb_layout.specs.Offsets.{file_size}
 use Rattle.hb_outside.specs.Calls.{SinkModel, SourceModel}
 use Rattle.hb_restart.specs.Beyond.{KeepsBeyond, KeepsBeyondFile}
@@ -27,7 +28,7 @@ use Rattle.hbpi.proofs.Tidied.{tidies_file}
 use Rattle.hbpi.specs.Codes.{status_of}
 use Rattle.hbpi.specs.Driven.{IsShutOut, IsTurnedAway}
 use Rattle.hbpi.specs.Outcome.{GetsLine, fault_line}
-use Rattle.hbpi.specs.SeenRuns.{IsUnread, Seen, run_of, seen_by}
+use Rattle.hbpi.specs.SeenRuns.{IsUnread, Run, Seen, run_of, seen_by}
 use Rattle.hbpi.specs.Starts.{IsNotStarted, IsStarted, StartLaws}
 use Rattle.hbpi.specs.Tidied.{EndsForced, SaysTidied, TidyEnds, TidiesFile, nobody}
 use Rattle.hbpi.specs.declared.statuses.Status.{Status}
@@ -39,6 +40,11 @@ rests_begun before after d e core started = subst AllAtRest (sym started.made.co
 
 pub within_begun : CountsStayWithin → (before after : SourceModel) (d e : DiskModel) (core : RunningCore) → IsStarted nobody before after d e core → CountsWithin core
 within_begun within before after d e core started = subst CountsWithin (sym started.made.core_is) (within.begun started.made.lines started.made.steps started.store [])
+
+-- nothing is drawn for nobody
+no_lines : (k : ℕ) → generated 0 0 k ≡ []
+unfolding lines_from
+no_lines k = refl
 
 -- ---- where it was tidied
 
@@ -74,7 +80,7 @@ module _ {X : Type 0} (M : X → DiskModel) (first over last : X) (core ran : Ru
   pub tidied_ends : TidyEnds (run_of seen d (M last)) status
   tidied_ends =
       let file : TidiesFile (run_of seen d (M over)) went.0.new result =
-      tidies_file laws d (M first) (M over) started.store started.made.lines started.made.steps ran result opening started.opens.is_new here.0 here.1 went.0 went.1 seen started.made.came.0 unread facts.none_answered no_order in
+      tidies_file laws d (M first) (M over) started.store started.made.lines started.made.steps ran result opening started.opens.is_new here.0 here.1 went.0 went.1 seen (started.made.came.0 ∙ no_lines started.store.meta.k) unread facts.none_answered no_order in
       inr (inr (went.0.new, result, subst (λ (x : X). TidiesFile (run_of seen d (M x)) went.0.new result) (sym facts.disk_is) file, facts.said))
 
   -- what lies behind the file is as it was
@@ -82,13 +88,6 @@ module _ {X : Type 0} (M : X → DiskModel) (first over last : X) (core ran : Ru
   tidied_beyond =
       beyond_driven d (M first) (M last) started.store.meta started.opens.said started.leaves.beyond
       (subst (λ (x : X). KeepsBeyond (file_size started.store.meta) (M first) (M x)) (sym facts.disk_is) (run_beyond (M first) (M over) started.store here.0 here.1.may.shows.store went.0.in_file))
-
-  -- no count of the disk's faults falls
-  pub tidied_reads : d.read_faults ≤ (M last).read_faults
-  tidied_reads = subst (λ (x : X). d.read_faults ≤ (M x).read_faults) (sym facts.disk_is) (subst (λ (n : ℕ). n ≤ (M over).read_faults) opening.reads went.0.faults.reads)
-
-  pub tidied_writes : d.write_faults ≤ (M last).write_faults
-  tidied_writes = subst (λ (x : X). d.write_faults ≤ (M x).write_faults) (sym facts.disk_is) (subst (λ (n : ℕ). n ≤ (M over).write_faults) opening.writes went.0.faults.writes)
 
 -- ---- where no core was made
 
@@ -101,3 +100,17 @@ turned_tidy {X = X} M first found last before after sink put answered order aske
     let of_status = subst (λ (x : Status). TidyEnds (run_of (seen_by before after sink put [] []) (M first) (M last)) x) (sym is) on_disk in
     let with_order = subst (λ (o : List ℕ). TidyEnds (run_of (seen_by before after sink put [] o) (M first) (M last)) status) (sym none_ordered) of_status in
     subst (λ (a : List Answered). TidyEnds (run_of (seen_by before after sink put a order) (M first) (M last)) status) (sym none_answered) with_order
+
+-- ---- counts of the disk's faults
+
+pub tidy_reads : (run : Run) (status : Status) → TidyEnds run status → run.before.read_faults ≤ run.after.read_faults
+tidy_reads run status ends = elim ends [
+  | inl shut ↦ shut.2.leaves.faults.reads
+  | inr opened ↦ elim opened [ inl away ↦ away.opened.leaves.faults.reads | inr tidied ↦ tidied.2.faults.reads ]
+]
+
+pub tidy_writes : (run : Run) (status : Status) → TidyEnds run status → run.before.write_faults ≤ run.after.write_faults
+tidy_writes run status ends = elim ends [
+  | inl shut ↦ shut.2.leaves.faults.writes
+  | inr opened ↦ elim opened [ inl away ↦ away.opened.leaves.faults.writes | inr tidied ↦ tidied.2.faults.writes ]
+]

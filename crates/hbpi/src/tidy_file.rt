@@ -17,6 +17,7 @@ use crate::saying::{say, tidied_line};
 use crate::starting::{knows_laws, start};
 use crate::statuses::Status;
 use hb_core::between_laws::operations_are_counted;
+use hb_core::run_laws::runs_go_on;
 use hb_core::{Core, TidyCounts};
 use hb_disk::Disk;
 use hb_outside::{Sink, Source};
@@ -31,10 +32,13 @@ fn tidy_core<D: Disk>(alloc: Global, core: &mut Core<D>) -> Result<TidyCounts, T
     ensures tidies { (m : Machine) → MayStep (D.model (core_disk core.old)) (core_seen core.old) m →
         (t : HasTidied (D.model (core_disk core.old)) m (D.model (core_disk core.new)) (core_seen core.new)) × EndsForced (D.model (core_disk core.old)) (D.model (core_disk core.new)) m t.new result }
 {
-    let counts = tidy(alloc, core)?;
-    match core.help() {
-        Ok(_) => Ok(counts),
-        Err(_) => Err(TidyStop::WriteFault),
+    runs_go_on();
+    match tidy(alloc, core) {
+        Ok(counts) => match core.help() {
+            Ok(_) => Ok(counts),
+            Err(_) => Err(TidyStop::WriteFault),
+        },
+        Err(stop) => Err(stop),
     }
 }
 
@@ -65,8 +69,6 @@ pub(crate) fn tidy_file<S: Source, K: Sink, D: Disk>(
     ensures beyond { KeepsBeyondFile (D.model disk) (D.model result.disk) }
     ensures source_later { (S.model source.old).faults ≤ (S.model source.new).faults }
     ensures sink_later { (K.model sink).faults ≤ (K.model result.sink).faults }
-    ensures reads_later { (D.model disk).read_faults ≤ (D.model result.disk).read_faults }
-    ensures writes_later { (D.model disk).write_faults ≤ (D.model result.disk).write_faults }
 {
     knows_laws();
     operations_are_counted();

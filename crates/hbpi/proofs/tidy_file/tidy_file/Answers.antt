@@ -1,36 +1,41 @@
-use Rattle.std.proofs.Common.{◌≡◌, ℕ, List, [], Result, inl, inr, refl, sym, ap, ◌∙◌, subst, arith}
+use Rattle.std.proofs.Common.{sym, ap, ◌∙◌, subst}
 use Rattle.hb_core.specs.CoreSeen.{core_disk, core_seen}
 use Rattle.hb_disk.specs.Model.{DiskModel}
 use Rattle.hb_restart.specs.Beyond.{KeepsBeyondFile}
+use Rattle.hb_store.specs.declared.store.Store.{Store}
 use Rattle.hbpi.proofs.CoreEnds.{may_begin_running}
-use Rattle.hbpi.proofs.TidyEnds.{TidiedCore, rests_begun, tidied_beyond, tidied_ends, tidied_reads, tidied_writes, turned_tidy, within_begun}
+use Rattle.hbpi.proofs.TidyEnds.{TidiedCore, tidied_beyond, tidied_ends, turned_tidy}
 use Rattle.hbpi.specs.Tidied.{nobody}
 use Rattle.hbpi.proofs.tidy_file.tidy_file.Goals as goal
 
-pub tidy_core-requires-clause-may : goal.tidy_core-requires-clause-may
-tidy_core-requires-clause-may g c = may_begin_running nobody _ _ _ _ _ c.in-Ok.ensures.started.0
-
-pub tidy_core-requires-clause-idle : goal.tidy_core-requires-clause-idle
-tidy_core-requires-clause-idle g c = rests_begun _ _ _ _ _ c.in-Ok.ensures.started.0
-
-pub tidy_core-requires-clause-counts : goal.tidy_core-requires-clause-counts
-tidy_core-requires-clause-counts g c = within_begun c.operations_are_counted.ensures.within _ _ _ _ _ c.in-Ok.ensures.started.0
+pub tidy_core-tidied-requires-clause-may : goal.tidy_core-tidied-requires-clause-may
+tidy_core-tidied-requires-clause-may g c = may_begin_running nobody _ _ _ _ _ c.in-Ok.ensures.started.0
 
 pub returns-in-Ok-clause-ends : goal.returns-in-Ok-clause-ends
 returns-in-Ok-clause-ends g c =
     let M : g.row.D.Denot → DiskModel = g.D.Device.model in
-    let facts : TidiedCore M (core_disk c.in-Ok.core) (core_disk c.tidy_core.new.core) c.into_disk.result (core_seen c.in-Ok.core) (core_seen c.tidy_core.new.core) c.tidy_core.result
-    (g.K.Sink.model c.args.sink) (g.K.Sink.model c.say_tidied.new.sink) c.say_tidied.result c.new.result.items c.into_store.result.1.items = record {
-      tidies = c.tidy_core.ensures.tidies;
-      said = c.say_tidied.ensures.said;
-      disk_is = {!!};
+    let facts : TidiedCore M (core_disk c.in-Ok.core) (core_disk c.tidy_core-tidied.new.core) c.into_disk.result (core_seen c.in-Ok.core) (core_seen c.tidy_core-tidied.new.core) c.tidy_core-tidied.result
+    (g.K.Sink.model c.args.sink) (g.K.Sink.model c.say_tidied-status.new.sink) c.say_tidied-status.result c.new.result.items c.into_store-store.result.1.items = record {
+      tidies = c.tidy_core-tidied.ensures.tidies;
+      said = c.say_tidied-status.ensures.said;
+      disk_is = c.into_disk.ensures ∙ ap (λ (st : Store g.row.D.Denot g.D.Device). st.disk) c.into_store-store.ensures.store;
       none_answered = c.new.ensures.items;
-      order_is = c.into_store.ensures.order;
+      order_is = c.into_store-store.ensures.order;
     } in
     tidied_ends M _ _ _ _ _ _ _ _ _ _ _ facts c.knows_laws.ensures (M c.args.disk) (g.S.Source.model c.args.source.now) (g.S.Source.model c.start.new.source) c.in-Ok.ensures.started.0
 
 pub returns-in-Ok-clause-beyond : goal.returns-in-Ok-clause-beyond
-returns-in-Ok-clause-beyond g c = {!!}
+returns-in-Ok-clause-beyond g c =
+    let M : g.row.D.Denot → DiskModel = g.D.Device.model in
+    let facts : TidiedCore M (core_disk c.in-Ok.core) (core_disk c.tidy_core-tidied.new.core) c.into_disk.result (core_seen c.in-Ok.core) (core_seen c.tidy_core-tidied.new.core) c.tidy_core-tidied.result
+    (g.K.Sink.model c.args.sink) (g.K.Sink.model c.say_tidied-status.new.sink) c.say_tidied-status.result c.new.result.items c.into_store-store.result.1.items = record {
+      tidies = c.tidy_core-tidied.ensures.tidies;
+      said = c.say_tidied-status.ensures.said;
+      disk_is = c.into_disk.ensures ∙ ap (λ (st : Store g.row.D.Denot g.D.Device). st.disk) c.into_store-store.ensures.store;
+      none_answered = c.new.ensures.items;
+      order_is = c.into_store-store.ensures.order;
+    } in
+    tidied_beyond M _ _ _ _ _ _ _ _ _ _ _ facts c.knows_laws.ensures (M c.args.disk) (g.S.Source.model c.args.source.now) (g.S.Source.model c.start.new.source) c.in-Ok.ensures.started.0
 
 pub returns-in-Err-clause-ends : goal.returns-in-Err-clause-ends
 returns-in-Err-clause-ends g c =

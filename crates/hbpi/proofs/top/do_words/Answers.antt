@@ -5,6 +5,7 @@ use Rattle.hbpi.specs.Ends.{LeavesDisk}
 use Rattle.hbpi.specs.Runs.{LeavesBeyond, LeavesFile, RunEnds}
 use Rattle.hbpi.specs.SeenRuns.{run_of, seen_by}
 use Rattle.hbpi.proofs.DriveLaws.{steps_reads, steps_writes}
+use Rattle.hbpi.proofs.TidyEnds.{tidy_reads, tidy_writes}
 use Rattle.hbpi.proofs.top.do_words.Goals as goal
 
 pub returns-in-Some-Create-clause-ends : goal.returns-in-Some-Create-clause-ends
@@ -33,6 +34,12 @@ returns-in-Some-Drive-clause-reads g c = steps_reads by_schedule (run_of _ (g.D.
 
 pub returns-in-Some-Drive-clause-writes : goal.returns-in-Some-Drive-clause-writes
 returns-in-Some-Drive-clause-writes g c = steps_writes by_schedule (run_of _ (g.D.Device.model c.args.disk) (g.D.Device.model c.drive_file.result.disk)) c.drive_file.result.status c.drive_file.ensures.ends
+
+pub returns-in-Some-Tidy-clause-reads : goal.returns-in-Some-Tidy-clause-reads
+returns-in-Some-Tidy-clause-reads g c = tidy_reads (run_of _ (g.D.Device.model c.args.disk) (g.D.Device.model c.tidy_file.result.disk)) c.tidy_file.result.status c.tidy_file.ensures.ends
+
+pub returns-in-Some-Tidy-clause-writes : goal.returns-in-Some-Tidy-clause-writes
+returns-in-Some-Tidy-clause-writes g c = tidy_writes (run_of _ (g.D.Device.model c.args.disk) (g.D.Device.model c.tidy_file.result.disk)) c.tidy_file.result.status c.tidy_file.ensures.ends
 
 pub returns-in-Some-Gen-clause-ends : goal.returns-in-Some-Gen-clause-ends
 returns-in-Some-Gen-clause-ends g c =

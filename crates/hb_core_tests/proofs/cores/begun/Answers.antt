@@ -1,1 +1,0 @@
-use Rattle.hb_core_tests.proofs.cores.begun.Goals as goal

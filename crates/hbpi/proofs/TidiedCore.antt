@@ -1,0 +1,102 @@
+-- What the calls over a core come to: it is tidied, and flushed behind that.
+use Rattle.std.proofs.Common.{◌≡◌, ℕ, ◌+◌, List, [], Option, Some, None, IfSome, IsSome, Ok, Err, Result, option_map, refl, sym, ap, ◌∙◌, subst}
+use Rattle.hb_core.proofs.Facts.RunDisks.{none_later}
+use Rattle.hb_core.specs.Between.{said_of_flush}
+use Rattle.hb_core.specs.Keeps.{HasSoundFile}
+use Rattle.hb_core.specs.Machines.{Files, Machine, current_file}
+use Rattle.hb_core.specs.Runs.{RunningLaws}
+use Rattle.hb_core.specs.Showing.{RunningCore, ShowsMachine}
+use Rattle.hb_core.specs.Steps.{StepsTo}
+use Rattle.hb_core.specs.Touching.{Touches}
+use Rattle.hb_core.specs.Working.{MayStep}
+use Rattle.hb_core.specs.declared.counts.TidyCounts.{TidyCounts}
+use Rattle.hb_disk.specs.Model.{DiskModel, IsDisk}
+use Rattle.hb_layout.specs.declared.meta.Meta.{Meta}
+use Rattle.hb_lemmas.proofs.Options.{at_value, has_value, if_value}
+use Rattle.hb_ops.specs.Files.{FileState}
+use Rattle.hb_outside.specs.Streams.{Rose}
+use Rattle.hb_store.specs.Keeps.{StoreKeeps}
+use Rattle.hb_store.specs.Parts.{last_of}
+use Rattle.hb_store.specs.States.{StoreState}
+use Rattle.hb_store.specs.declared.stops.Flushed.{Flushed}
+use Rattle.hb_store.specs.declared.stops.StopWhy.{StopWhy}
+use Rattle.hb_store.specs.declared.stops.StopWhy.TheVariants as stops
+use Rattle.hb_store.specs.declared.stops.WriteFault.{WriteFault}
+use Rattle.hb_tidy.proofs.Forced.{FlushesOn, flush_runs, flushes_on}
+use Rattle.hb_tidy.proofs.Joined.{may_then}
+use Rattle.hb_tidy.specs.Finding.{IsTidy, WantsPage}
+use Rattle.hb_tidy.specs.Tidying.{EndsTidying, HasTidied, StopsTidying, file_now}
+use Rattle.hb_tidy.specs.declared.stops.TidyStop.{TidyStop}
+use Rattle.hb_tidy.specs.declared.stops.TidyStop.TheVariants as tidies
+use Rattle.hbpi.specs.Tidied.{EndsForced, FilesTidied, TidyWhy}
+
+-- ---- where the tidying wasn't done
+
+any_files : (o : Option Files) → IfSome o (λ files. Unit {0})
+any_files None = tt
+any_files (Some files) = tt
+
+wanting : (o : Option Files) → IfSome (option_map current_file o) WantsPage → IfSome o (λ files. WantsPage (current_file files))
+wanting None wants = tt
+wanting (Some files) wants = wants
+
+pub stopped_so : (d e : DiskModel) (c : RunningCore) (m new : Machine) (stop : TidyStop) → StopsTidying stop d e c new → EndsForced d e m new (Err stop)
+stopped_so d e c m new tidies.Full stops = record { why = stops.0; files = wanting new.files stops.1 }
+stopped_so d e c m new tidies.ReadFault stops = record { why = stops; files = any_files new.files }
+stopped_so d e c m new tidies.WriteFault stops = record { why = stops.0; files = any_files new.files }
+stopped_so d e c m new (tidies.Damaged page why) stops = record { why = stops; files = any_files new.files }
+stopped_so d e c m new tidies.Spent stops = record { why = tt; files = any_files new.files }
+stopped_so d e c m new tidies.NoMemory stops = record { why = tt; files = any_files new.files }
+
+-- ---- where it was done, and a flush came behind it
+
+-- a machine has files where the disk tells
+tells_of : (d : DiskModel) (m : Machine) (files : Files) → (d.told ≡ None → m.files ≡ None) → m.files ≡ Some files → IsSome d.told
+tells_of d m files silent is = by d.told refl
+  where
+    by : (o : Option (List ℕ)) → d.told ≡ o → IsSome d.told
+    by None none = let no = silent none in cc (no, is)
+    by (Some b) told = has_value d.told b told
+
+-- the tidy file is durable, once no group waits
+durable_tidy : (height : ℕ) (counts : TidyCounts) (files : Files) → files.later ≡ [] → (current_file files).meta.height ≡ height + counts.grown → IsTidy (current_file files) → FilesTidied height (Ok counts) files
+durable_tidy height counts files none high tidy =
+    let alone : current_file files ≡ files.durable = ap (last_of files.durable) none in
+    (none, subst IsTidy alone tidy, sym (ap (λ (s : FileState). s.meta.height) alone) ∙ high)
+
+module _ (laws : RunningLaws) (d : DiskModel) (m : Machine) (e : DiskModel) (first old : RunningCore) (f : DiskModel) (new : RunningCore) (counts : TidyCounts) (t : HasTidied d m e old) (done : EndsTidying d e first old t.new (Ok counts)) (shown : m.store ≡ first.store) (disk : IsDisk e) (disk_next : IsDisk f) where
+  module _ (r : Result Flushed WriteFault) (steps : (x : Machine) → MayStep e old x → (next : Machine) × StepsTo x 19 (said_of_flush r) next × ShowsMachine f new next) (touches : Touches e old (said_of_flush r) f new) where
+    on : FlushesOn d m t.new f new
+    on = flushes_on laws d m e old f new t done.0 disk disk_next r steps touches
+
+  -- no fault ended the flush
+  pub forced_well : (flushed : Flushed) (steps : (x : Machine) → MayStep e old x → (next : Machine) × StepsTo x 19 (said_of_flush (Ok flushed)) next × ShowsMachine f new next) (touches : Touches e old (said_of_flush (Ok flushed)) f new)
+      → (went : HasTidied d m f new) × EndsForced d f m went.new (Ok counts)
+  forced_well flushed steps touches =
+      let flush = on (Ok flushed) steps touches in
+      let went = flush.went in
+      let runs : went.new.stop ≡ None = went.shows.stop ∙ flush_runs e f t.new old new flushed (may_then d e m old t) done.0 steps in
+      let none = flush.none runs in
+      let tidy : IfSome (file_now went.new) IsTidy = subst (λ (o : Option FileState). IfSome o IsTidy) (sym flush.stays.file) done.1 in
+      let height : went.new.store.meta.height ≡ m.store.meta.height + counts.grown =
+      ap (λ (x : Meta). x.height) flush.stays.meta ∙ ap (λ (x : StoreState). x.meta.height) t.shows.store ∙ done.2.height ∙ sym (ap (λ (x : StoreState). x.meta.height + counts.grown) shown) in
+      (
+        went,
+        record {
+          why = runs;
+          files = if_value went.new.files (FilesTidied m.store.meta.height (Ok counts)) (λ files is.
+              let shown = went.shows.tells (tells_of f went.new files went.shows.silent is) in
+              let same : shown.files ≡ files = cc (shown.told, is) in
+              let later = none_later f went.new.store files.durable files.later none (subst (λ (x : Files). StoreKeeps f went.new.store x.durable x.later) same shown.kept) in
+              let sound : HasSoundFile went.new files = at_value went.new.files (HasSoundFile went.new) files is went.goes_on.sound in
+              durable_tidy m.store.meta.height counts files later (ap (λ (x : Meta). x.height) sound.meta ∙ height) (subst (λ (o : Option Files). IfSome (option_map current_file o) IsTidy) is tidy));
+        },
+      )
+
+  -- the flush failed
+  pub forced_badly : (fault : WriteFault) (steps : (x : Machine) → MayStep e old x → (next : Machine) × StepsTo x 19 (said_of_flush (Err fault)) next × ShowsMachine f new next) (touches : Touches e old (said_of_flush (Err fault)) f new) → new.stop ≡ Some stops.WriteFault → m.stop ≡ None
+      → (went : HasTidied d m f new) × EndsForced d f m went.new (Err tidies.WriteFault)
+  forced_badly fault steps touches stopped begun =
+      let flush = on (Err fault) steps touches in
+      let went = flush.went in
+      (went, record { why = went.faults.write (went.shows.stop ∙ stopped) (λ is. cc (is, begun)); files = any_files went.new.files })
