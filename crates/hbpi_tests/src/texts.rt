@@ -1,4 +1,4 @@
-//! Texts for `dry`, generated texts, words that are no form or aren't built, and layouts that are out of their limits. Over a disk of no byte.
+//! Texts for `dry`, generated texts, words that are no form, and layouts that are out of their limits. Over a disk of no byte.
 
 use crate::runs::{expect_said, run_on};
 
@@ -116,8 +116,8 @@ const WORDS: [(&str, &str); 73] = [
     ("work", "2 usage\n"),
     ("check check", "2 usage\n"),
     ("check", "9 small 8192 0\n"),
-    ("map", "11 not built\n"),
-    ("tidy", "11 not built\n"),
+    ("map", "9 small 8192 0\n"),
+    ("tidy", "9 small 8192 0\n"),
     ("create 0 0 0 0 0", "9 bad layout K 0\n"),
     ("create 5 64 65536 6 32", "9 bad layout K 5\n"),
     ("create 257 64 65536 6 32", "9 bad layout K 257\n"),
