@@ -56,7 +56,7 @@ module _ (one : OpensToOne) (short : FullyPostedWalksAreShort) (s : FileState) (
 
 -- ---- where no call failed
 
-Ends : Status → Type 0
+abbrev Ends : Status → Type 0
 Ends status = (status ≡ Done) ⊎ (status ≡ NoMemory) ⊎ (status ≡ Full) ⊎ (status ≡ Spent)
 
 module _ (s : FileState) (run : Run) (status : Status) (b : List ℕ) (told : run.before.told ≡ Some b) (calm : ¬ (HasFailed run)) (sink : ¬ (Rose run.seen.sink_before.faults run.seen.sink_after.faults)) where
