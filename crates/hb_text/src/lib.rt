@@ -31,5 +31,6 @@ mod words;
 pub use long_texts::a_long_text_is_refused_by_its_front;
 pub use numbers::{NumberFault, read_number};
 pub use output::{put_left, put_order, put_reply};
+pub use output_line::LineBuffer;
 pub use reading::read_commands;
 pub use rules::{BadLine, TextError, TextRule};

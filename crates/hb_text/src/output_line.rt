@@ -1,4 +1,4 @@
-// A line of output text while it is built, in a buffer on the stack.
+//! A line of output text while it is built, in a buffer on the stack.
 ghost use Rattle.std.specs.Prelude.{◌≡◌, ◌+◌, ◌*◌, ◌<◌, ◌≤◌, [], ◌∷◌, ◌++◌, length, decimal};
 ghost use Rattle.std.specs.List.{list_all, flat_map};
 ghost use Rattle.hb_text.specs.BodyText.{body_text, byte_digits, hex_digit, is_visible};
@@ -8,17 +8,17 @@ use arrayvec::ArrayVec;
 use hb_space::Body;
 use itoa::Buffer;
 
-// Room for the longest line, which is a record's: 1 + 4 * 21 + 1 + 65 + 1 bytes.
-const ROOM: usize = 192;
+/// Room for the longest line, in bytes, which is that of a leaf in a map: 8 + 20 + 8 * 21 + 1.
+const ROOM: usize = 200;
 
-// The bytes of a line so far.
+/// The bytes of a line so far.
 #[derive(Drop)]
 pub struct LineBuffer {
     bytes: ArrayVec<u8, ROOM>,
 }
 
 impl LineBuffer {
-    // An empty line.
+    /// An empty line.
     pub fn new() -> LineBuffer
         ensures { result.bytes.items ≡ [] }
     {
@@ -27,28 +27,28 @@ impl LineBuffer {
         }
     }
 
-    // How many bytes it has.
+    /// How many bytes it has.
     pub fn len(&self) -> usize
         ensures { result ≡ length self.now.bytes.items }
     {
         self.bytes.len()
     }
 
-    // Makes it empty.
+    /// Makes it empty.
     pub fn clear(&mut self)
         ensures { self.new.bytes.items ≡ [] }
     {
         self.bytes.clear();
     }
 
-    // The bytes.
+    /// The bytes.
     pub fn as_slice(&self) -> &[u8]
         ensures { result.now ≡ self.now.bytes.items }
     {
         self.bytes.as_slice()
     }
 
-    // Adds a piece, for which there is room.
+    /// Adds a piece, for which there is room.
     pub fn add(&mut self, piece: &[u8])
         requires { length self.old.bytes.items + length piece.now ≤ ROOM }
         ensures { self.new.bytes.items ≡ self.old.bytes.items ++ piece.now }
@@ -56,7 +56,7 @@ impl LineBuffer {
         let _fits = self.bytes.try_extend_from_slice(piece);
     }
 
-    // Adds a number in decimal, for which there is room.
+    /// Adds a number in decimal, for which there is room.
     pub fn add_number(&mut self, n: u64)
         requires { length self.old.bytes.items + 20 ≤ ROOM }
         ensures text { self.new.bytes.items ≡ self.old.bytes.items ++ decimal n }
@@ -66,7 +66,7 @@ impl LineBuffer {
         self.add(digits.format(n).as_bytes());
     }
 
-    // Adds a space and a number in decimal, for which there is room.
+    /// Adds a space and a number in decimal, for which there is room.
     pub fn add_word(&mut self, n: u64)
         requires { length self.old.bytes.items + 21 ≤ ROOM }
         ensures text { self.new.bytes.items ≡ self.old.bytes.items ++ 32 ∷ decimal n }
@@ -76,7 +76,7 @@ impl LineBuffer {
         self.add_number(n);
     }
 
-    // Adds numbers, each after a space, for which there is room.
+    /// Adds numbers, each after a space, for which there is room.
     pub fn add_numbers(&mut self, numbers: &[u64])
         requires { length self.old.bytes.items + 21 * length numbers.now ≤ ROOM }
         ensures text { self.new.bytes.items ≡ self.old.bytes.items ++ numbers_text numbers.now }
@@ -87,7 +87,7 @@ impl LineBuffer {
         }
     }
 
-    // Adds a body, for which there is room.
+    /// Adds a body, for which there is room.
     #[tactic(auto, unfolding(crate::specs::BodyText::body_text))]
     pub fn add_body(&mut self, body: &Body)
         requires { length self.old.bytes.items + 65 ≤ ROOM }

@@ -6,11 +6,11 @@ use Rattle.hb_text.proofs.OutputText.{order_ends_settled, order_ends_later, orde
 use Rattle.hb_text.proofs.output.put_order.Goals as goal
 
 -- a piece to which numbers were added has room for the bar
-bar_fits : (piece before bar : List ℕ) → length piece ≤ max 181 (length before) → length before ≤ 181 → length bar ≤ 2 → length piece + length bar ≤ 192
+bar_fits : (piece before bar : List ℕ) → length piece ≤ max 181 (length before) → length before ≤ 181 → length bar ≤ 2 → length piece + length bar ≤ 200
 bar_fits piece before bar room few short = omega arith
 
 -- and behind the bar and further numbers for a line feed
-feed_fits : (piece before : List ℕ) → length piece ≤ max 181 (length before) → length before ≤ 183 → length piece + 1 ≤ 192
+feed_fits : (piece before : List ℕ) → length piece ≤ max 181 (length before) → length before ≤ 183 → length piece + 1 ≤ 200
 feed_fits piece before room few = omega arith
 
 -- with the bar behind it, it has no more than the next numbers allow
