@@ -50,3 +50,7 @@ stops_before d e a b stop through rightly = record {
   names = subst (λ (meta : Meta). NamesPage meta stop) through.rest.meta rightly.names;
   sound = λ durable later keeps sound. rightly.sound durable later (through.looks.keeps durable later keeps) sound;
 }
+
+-- one look more that was well, behind others
+pub looks_on : {F : Type 0} (d e f : DiskModel) (a b c : StoreHeld) → (F → ⊥) → LooksThrough ⊥ d e a b → LooksThrough F e f b c → LooksThrough ⊥ d f a c
+looks_on d e f a b c good one two = looks_as d f a c good (λ never. absurd never) (looks_then d e f a b c (λ never. never) one two)

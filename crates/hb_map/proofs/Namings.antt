@@ -1,7 +1,8 @@
 -- How many pages name a page, counted page by page.
-use Rattle.std.proofs.Common.{◌≡◌, ℕ, ◌+◌, ◌==◌, ◌≤◌, ◌||◌, Bool, true, false, not, cond, List, [], ◌∷◌, take, drop, filter, refl, sym, ap, subst, ◌∙◌, arith, inl, inr}
+use Rattle.std.proofs.Common.{◌≡◌, ◌≢◌, ℕ, ◌+◌, ◌-◌, ◌==◌, ◌<◌, ◌≤◌, ◌^◌, ◌||◌, ◌⊎◌, get_or, length, set, Bool, true, false, not, cond, List, [], ◌∷◌, take, drop, filter, refl, sym, ap, subst, ◌∙◌, arith, inl, inr}
 use Rattle.std.specs.List.{count_by, list_any, sum_by}
 use Rattle.std.proofs.lemmas.Bool.{cases_eq, eq-eqb, ne_eqb}
+use Rattle.std.proofs.lemmas.List.{get_or-set_other, get_or-set_same, take_all}
 use Rattle.std.proofs.lemmas.List.Sums.{sum_by-cons, sum_by-take-le}
 use Rattle.hb_frag.specs.Leaves.{firsts}
 
@@ -59,3 +60,35 @@ at_most_once id i names =
     let all = once_or_never id names in
     let one : cond (list_any (λ name. name == id) names) 1 0 ≤ 1 = elim (list_any (λ name. name == id) names) as (λ b. cond b 1 0 ≤ 1) [ true ↦ omega arith | false ↦ omega arith ] in
     omega (arith, most, all, one)
+
+-- one more at the place of a page
+pub raised : (counts : List ℕ) (id place : ℕ) → id ≢ 0 → id ≤ length counts → get_or (set counts (id - 1) (get_or counts (id - 1) 0 + 1)) place 0 ≡ get_or counts place 0 + cond (id == place + 1) 1 0
+raised counts id place some few = elim (cases_eq id (place + 1)) [
+  | inl is ↦
+      let here : place ≡ id - 1 = omega (arith, is) in
+      let within : id - 1 < length counts = omega (arith, some, few) in
+      let one : get_or (set counts (id - 1) (get_or counts (id - 1) 0 + 1)) (id - 1) 0 ≡ get_or counts (id - 1) 0 + 1 = get_or-set_same counts (id - 1) (get_or counts (id - 1) 0 + 1) 0 within in
+      ap (λ (n : ℕ). get_or (set counts (id - 1) (get_or counts (id - 1) 0 + 1)) n 0) here ∙ one ∙ sym (ap (λ (n : ℕ). get_or counts n 0 + cond (id == place + 1) 1 0) here ∙ ap (λ b. get_or counts (id - 1) 0 + cond b 1 0) (eq-eqb id (place + 1) is))
+  | inr ne ↦
+      let apart : place ≢ id - 1 = λ same. ne (omega (arith, same, some)) in
+      get_or-set_other counts (id - 1) place (get_or counts (id - 1) 0 + 1) 0 apart ∙ unchanged (get_or counts place 0) id (place + 1) ne
+]
+  where
+    unchanged : (n id other : ℕ) → id ≢ other → n ≡ n + cond (id == other) 1 0
+    unchanged n id other ne = omega arith ∙ sym (ap (λ b. n + cond b 1 0) (ne_eqb id other ne))
+
+-- and none where no page has the number
+pub not_raised : (counts : List ℕ) (id place : ℕ) → place < length counts → (id ≡ 0) ⊎ (length counts < id) → get_or counts place 0 ≡ get_or counts place 0 + cond (id == place + 1) 1 0
+not_raised counts id place within none =
+    let ne : id ≢ place + 1 = λ is. elim none [ inl zero ↦ omega (arith, is, zero) | inr beyond ↦ omega (arith, is, beyond, within) ] in
+    omega arith ∙ sym (ap (λ b. get_or counts place 0 + cond b 1 0) (ne_eqb id (place + 1) ne))
+
+-- the counts stay small while the names of a page are gone through
+pub room_left : (names items : List ℕ) (id i : ℕ) (old now : ℕ) → items ≡ firsts names → now ≤ old + times id (take i items) → old < 2 ^ 31 → now < 2 ^ 32 - 1
+room_left names items id i old now is small few =
+    let most : times id (take i items) ≤ 1 = subst (λ (l : List ℕ). times id (take i l) ≤ 1) (sym is) (at_most_once id i names) in
+    omega (arith, small, most, few)
+
+-- gone through to the end, each name of a page counted once
+pub all_named : (names items : List ℕ) (id i : ℕ) → items ≡ firsts names → length items ≤ i → times id (take i items) ≡ cond (list_any (λ name. name == id) names) 1 0
+all_named names items id i is end = ap (times id) (take_all i items end ∙ is) ∙ once_or_never id names

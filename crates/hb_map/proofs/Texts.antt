@@ -1,5 +1,6 @@
 -- Texts that are put piece by piece, and the pages of a file one by one.
-use Rattle.std.proofs.Common.{◌≡◌, ℕ, zero, suc, ◌+◌, List, [], ◌∷◌, ◌++◌, length, drop, slice_get, Option, Some, None, Result, Ok, Err, refl, sym, ap, subst, ◌∙◌, arith, append_assoc, append-nil}
+use Rattle.std.proofs.Common.{◌≡◌, ℕ, zero, suc, ◌+◌, List, [], ◌∷◌, ◌++◌, length, drop, slice_get, Option, Some, None, Result, IsErr, Ok, Err, refl, sym, ap, subst, ◌∙◌, arith, append_assoc, append-nil}
+use Rattle.std.proofs.lemmas.Bool.{false≢true}
 use Rattle.hb_frag.specs.declared.pages.Page.{Page}
 use Rattle.hb_ops.specs.Files.{FileState, page_at}
 use Rattle.hb_ops.proofs.Facts.PageNumberLaws.{page_at-suc}
@@ -18,13 +19,20 @@ pub puts_behind : {T E : Type 0} (r : Result T E) (a b c : Option (List ℕ)) (p
 puts_behind (Ok x) a b c p q put more = record { done = Appends-both a b c p q put more.done; tried = tt }
 puts_behind (Err e) a b c p q put more = record { done = tt; tried = Appends-front a b c p q put more.tried }
 
--- a stop behind one that was put: a front was put of anything that goes on
-pub stops_behind : {T E : Type 0} {e : E} (a b : Option (List ℕ)) (p q whole : List ℕ) → p ++ q ≡ whole → Appends a b p → PutsText {T = T} whole (Err e) a b
-stops_behind a b p q whole is put = record { done = tt; tried = subst (AppendsFront a b) is (front_put a b p q put) }
+-- where a call stopped, a front was put
+pub stopped : {T E : Type 0} (r : Result T E) (a b : Option (List ℕ)) (whole : List ℕ) → IsErr r → AppendsFront a b whole → PutsText whole r a b
+stopped (Ok x) a b whole bad front = absurd (false≢true bad)
+stopped (Err e) a b whole bad front = record { done = tt; tried = front }
 
--- a piece of which a front was put, behind one that was put
-pub fails_behind : {T E : Type 0} {e : E} (a b c : Option (List ℕ)) (p q rest whole : List ℕ) → p ++ (q ++ rest) ≡ whole → Appends a b p → AppendsFront b c q → PutsText {T = T} whole (Err e) a c
-fails_behind a b c p q rest whole is put tried = record { done = tt; tried = subst (AppendsFront a c) is (Appends-front a b c p (q ++ rest) put (AppendsFront-longer b c q rest tried)) }
+-- of what goes on with what was put before, and with a front of the next piece
+pub still_front : (a b : Option (List ℕ)) (p q whole : List ℕ) → p ++ q ≡ whole → Appends a b p → AppendsFront a b whole
+still_front a b p q whole is put = subst (AppendsFront a b) is (front_put a b p q put)
+
+pub longer_front : (a b c : Option (List ℕ)) (p q rest whole : List ℕ) → p ++ (q ++ rest) ≡ whole → Appends a b p → AppendsFront b c q → AppendsFront a c whole
+longer_front a b c p q rest whole is put tried = subst (AppendsFront a c) is (Appends-front a b c p (q ++ rest) put (AppendsFront-longer b c q rest tried))
+
+pub none_put : (a : Option (List ℕ)) (whole : List ℕ) → AppendsFront a a whole
+none_put a whole = front_put a a [] whole (Appends-none a)
 
 -- the pages from a place on begin with the one there
 pages_from : (pages : List Page) (place : ℕ) (page : Page) → slice_get pages place ≡ Some page → drop place pages ≡ page ∷ drop (suc place) pages
@@ -40,8 +48,5 @@ next_page pages place page there =
 
 -- and so does their text
 pub next_text : (s : FileState) (place : ℕ) (page : Page) → page_at s.pages (place + 1) ≡ Some page →
-    pages_text s.pages (place + 1) (drop place s.pages) ≡ page_text (place + 1) (parents_of (place + 1) s.pages) page ++ pages_text s.pages (place + 2) (drop (place + 1) s.pages)
-next_text s place page there =
-    let number : (place + 1) + 1 ≡ place + 2 = omega arith in
-    ap (pages_text s.pages (place + 1)) (next_page s.pages place page there)
-    ∙ ap (λ (n : ℕ). page_text (place + 1) (parents_of (place + 1) s.pages) page ++ pages_text s.pages n (drop (place + 1) s.pages)) number
+    pages_text s.pages (place + 1) (drop place s.pages) ≡ page_text (place + 1) (parents_of (place + 1) s.pages) page ++ pages_text s.pages (place + 1 + 1) (drop (place + 1) s.pages)
+next_text s place page there = ap (pages_text s.pages (place + 1)) (next_page s.pages place page there)

@@ -3,7 +3,6 @@ ghost use Rattle.std.specs.Prelude.{◌≡◌, ◌+◌, ◌*◌, ◌<◌, ◌≤
 ghost use Rattle.hb_space.specs.declared.form.TheConstants.{KMAX};
 ghost use Rattle.hb_frag.specs.Leaves.{IsWellCut, leaves_of, weight_of};
 ghost use Rattle.hb_outside.specs.Calls.{Puts};
-ghost use Rattle.hb_text.specs.declared.output_line.TheConstants.{ROOM};
 ghost use Rattle.hb_map.specs.Map.{corners_text, head_text, leaf_text, page_head, page_text, placed_text};
 ghost use Rattle.hb_map.specs.Mapping.{MayBePrinted};
 
@@ -12,6 +11,9 @@ use hb_ops::Meta;
 use hb_outside::{Failed, Sink};
 use hb_space::Area;
 use hb_text::LineBuffer;
+
+// What a line has room for.
+const ROOM: usize = 200;
 
 /// Adds words and a number to a line.
 fn add_count(line: &mut LineBuffer, words: &[u8], count: u64)

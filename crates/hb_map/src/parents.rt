@@ -25,13 +25,31 @@ pub(crate) fn count_parents<D: Device>(
     ensures stop { IfErr result (StopsRightly (D.model (disk_of store.old)) (held_by store.old)) }
     ensures silent { IsErrOf result stops.SinkFault → ⊥ }
 {
+    let mut parents = zeros(alloc, store.meta().high)?;
+    count_pages(alloc, store, &mut parents)?;
+    Ok(parents)
+}
+
+/// Counts each page as a parent of those that it names, from zeros on.
+fn count_pages<D: Device>(
+    alloc: Global,
+    store: &mut Store<D>,
+    parents: &mut [u32],
+) -> Result<(), MapStop>
+    requires may_go { MayAllGo (uses_of store.old) }
+    requires long { length parents.old ≡ (held_by store.old).state.meta.high }
+    requires none { (place : ℕ) → slice_index parents.old place ≡ 0 }
+    ensures through { LooksThrough (IsErrOf result stops.ReadFault) (D.model (disk_of store.old)) (D.model (disk_of store.new)) (held_by store.old) (held_by store.new) }
+    ensures parents { OnOk result (OfSoundFile (D.model (disk_of store.old)) (held_by store.old) (λ s. AreParents s parents.new)) }
+    ensures stop { IfErr result (StopsRightly (D.model (disk_of store.old)) (held_by store.old)) }
+    ensures silent { IsErrOf result stops.SinkFault → ⊥ }
+{
     let high = store.meta().high;
-    let mut parents = zeros(alloc, high)?;
     for place in 0..high {
         let page = read_page(alloc, store, place + 1)?;
-        count_page(alloc, &mut parents, &page)?;
+        count_page(alloc, parents, &page)?;
     }
-    Ok(parents)
+    Ok(())
 }
 
 /// So many zeros.
@@ -67,10 +85,9 @@ fn count_one(parents: &mut [u32], id: u32)
     ensures counted { (place : ℕ) → place < length parents.old →
         slice_index parents.new place ≡ slice_index parents.old place + (if id == place + 1 then 1 else 0) }
 {
-    if id == 0 {
+    let id = id as usize;
+    if id == 0 || id > parents.len() {
         return;
     }
-    if let Some(count) = parents.get_mut(id as usize - 1) {
-        *count += 1;
-    }
+    parents[id - 1] += 1;
 }
