@@ -8,6 +8,7 @@ use Rattle.hb_ops.specs.Files.{FileState, page_at}
 use Rattle.hb_outside.specs.Streams.{Appends, AppendsFront}
 use Rattle.hb_outside.proofs.Facts.PutLaws.{AppendsFront-longer}
 use Rattle.hb_store.specs.Held.{StoreHeld}
+use Rattle.hb_store.specs.Parts.{last_of}
 use Rattle.hb_map.specs.Map.{head_text, map_text, page_text, pages_text, parents_of}
 use Rattle.hb_map.specs.Mapping.{AreParents, LooksThrough, OfSoundFile, PutsText}
 use Rattle.hb_map.proofs.Texts.{next_text, puts_behind, stopped}
@@ -17,15 +18,16 @@ module _ {F : Type 0} (d e : DiskModel) (old mid : StoreHeld) (meta : Meta) (thr
   pub whole_map : {T E : Type 0} (r : Result T E) (parents : List ℕ) (a b c : Option (List ℕ)) → OfSoundFile d old (λ s. AreParents s parents) → Appends a b (head_text meta)
       → OfSoundFile e mid (λ s. AreParents s parents → PutsText (pages_text s.pages 1 s.pages) r b c) → OfSoundFile d old (λ s. PutsText (map_text s) r a c)
   whole_map r parents a b c counted head pages durable later keeps sound =
-      puts_behind r a b c (head_text _) (pages_text _ 1 _) (subst (λ (m : Meta). Appends a b (head_text m)) (meta_old ∙ sym keeps.memory.meta_is) head) (pages durable later (through.looks.keeps durable later keeps) sound (counted durable later keeps sound))
-    where
-      meta_old : meta ≡ old.state.meta
-      meta_old = meta_is ∙ through.rest.meta
+      let s : FileState = last_of durable later in
+      puts_behind r a b c (head_text s.meta) (pages_text s.pages 1 s.pages) (subst (λ (m : Meta). Appends a b (head_text m)) (meta_is ∙ through.rest.meta ∙ sym keeps.memory.meta_is) head)
+      (pages durable later (through.looks.keeps durable later keeps) sound (counted durable later keeps sound))
 
   -- or a front of its first line
   pub head_failed : {T E : Type 0} (r : Result T E) (a b : Option (List ℕ)) → IsErr r → AppendsFront a b (head_text meta) → OfSoundFile d old (λ s. PutsText (map_text s) r a b)
   head_failed r a b bad tried durable later keeps sound =
-      stopped r a b (map_text _) bad (AppendsFront-longer a b (head_text _) (pages_text _ 1 _) (subst (λ (m : Meta). AppendsFront a b (head_text m)) (meta_is ∙ through.rest.meta ∙ sym keeps.memory.meta_is) tried))
+      let s : FileState = last_of durable later in
+      stopped r a b (map_text s) bad
+      (AppendsFront-longer a b (head_text s.meta) (pages_text s.pages 1 s.pages) (subst (λ (m : Meta). AppendsFront a b (head_text m)) (meta_is ∙ through.rest.meta ∙ sym keeps.memory.meta_is) tried))
 
   -- and over any disk some text behind it
   pub begins_map : {T E : Type 0} (r : Result T E) (a b c : Option (List ℕ)) → Appends a b (head_text meta) → (text : List ℕ) × PutsText text r b c → (rest : List ℕ) × PutsText (head_text old.state.meta ++ rest) r a c
@@ -35,14 +37,19 @@ module _ {F : Type 0} (d e : DiskModel) (old mid : StoreHeld) (meta : Meta) (thr
   begins_failed r a b bad tried = ([], stopped r a b (head_text old.state.meta ++ []) bad (AppendsFront-longer a b (head_text old.state.meta) [] (subst (λ (m : Meta). AppendsFront a b (head_text m)) (meta_is ∙ through.rest.meta) tried)))
 
 -- one page more of the pages
+pub page_next : (s : FileState) (place : ℕ) (page : Page) (parents so_far : List ℕ) → page_at s.pages (place + 1) ≡ Some page → AreParents s parents → place < length parents
+    → so_far ++ pages_text s.pages (place + 1) (drop place s.pages) ≡ pages_text s.pages 1 s.pages
+    → so_far ++ (page_text (place + 1) (get_or parents place 0) page ++ pages_text s.pages (place + 1 + 1) (drop (place + 1) s.pages)) ≡ pages_text s.pages 1 s.pages
+page_next s place page parents so_far there counted low before =
+    ap (λ (n : ℕ). so_far ++ (page_text (place + 1) n page ++ pages_text s.pages (place + 1 + 1) (drop (place + 1) s.pages))) (counted.each place low)
+    ∙ ap (λ (t : List ℕ). so_far ++ t) (sym (next_text s place page there))
+    ∙ before
+
 pub page_behind : (s : FileState) (place : ℕ) (page : Page) (parents so_far : List ℕ) → page_at s.pages (place + 1) ≡ Some page → AreParents s parents → place < length parents
     → so_far ++ pages_text s.pages (place + 1) (drop place s.pages) ≡ pages_text s.pages 1 s.pages
     → (so_far ++ page_text (place + 1) (get_or parents place 0) page) ++ pages_text s.pages (place + 1 + 1) (drop (place + 1) s.pages) ≡ pages_text s.pages 1 s.pages
 page_behind s place page parents so_far there counted low before =
-    append_assoc so_far (page_text (place + 1) (get_or parents place 0) page) (pages_text s.pages (place + 1 + 1) (drop (place + 1) s.pages))
-    ∙ ap (λ (n : ℕ). so_far ++ (page_text (place + 1) n page ++ pages_text s.pages (place + 1 + 1) (drop (place + 1) s.pages))) (counted.each place low)
-    ∙ ap (λ (t : List ℕ). so_far ++ t) (sym (next_text s place page there))
-    ∙ before
+    append_assoc so_far (page_text (place + 1) (get_or parents place 0) page) (pages_text s.pages (place + 1 + 1) (drop (place + 1) s.pages)) ∙ page_next s place page parents so_far there counted low before
 
 -- all pages
 pub all_pages : (s : FileState) (place : ℕ) (so_far : List ℕ) → length s.pages ≤ place → so_far ++ pages_text s.pages (place + 1) (drop place s.pages) ≡ pages_text s.pages 1 s.pages → so_far ≡ pages_text s.pages 1 s.pages

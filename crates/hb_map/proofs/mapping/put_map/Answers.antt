@@ -1,6 +1,6 @@
-use Rattle.std.proofs.Common.{[], sym}
+use Rattle.std.proofs.Common.{ℕ, List, [], sym, subst}
 use Rattle.hb_store.specs.Seen.{disk_of, held_by, seen_as}
-use Rattle.hb_map.specs.Map.{head_text, map_text}
+use Rattle.hb_map.specs.Mapping.{AreParents, OfSoundFile}
 use Rattle.hb_map.proofs.Texts.{none_put, stopped}
 use Rattle.hb_map.proofs.WholeMaps.{begins_failed, begins_map, head_failed, whole_map}
 use Rattle.hb_map.proofs.mapping.put_map.Goals as goal
@@ -21,7 +21,8 @@ returns-in_err-put_head-clause-begins g c =
 
 pub returns-clause-map : goal.returns-clause-map
 returns-clause-map g c =
-    whole_map (g.D.Device.model (disk_of c.args.store.now)) (g.D.Device.model (disk_of c.count_parents.new.store)) (held_by c.args.store.now) (held_by c.count_parents.new.store) c.meta.result.now c.in_ok-parents.ensures.through c.meta.ensures.meta c.put_pages.result _ _ _ _ c.in_ok-parents.ensures.parents c.in_ok-put_head.ensures.done c.put_pages.ensures.pages
+    whole_map (g.D.Device.model (disk_of c.args.store.now)) (g.D.Device.model (disk_of c.count_parents.new.store)) (held_by c.args.store.now) (held_by c.count_parents.new.store) c.meta.result.now c.in_ok-parents.ensures.through c.meta.ensures.meta c.put_pages.result c.deref.result.now _ _ _
+    (subst (λ (items : List ℕ). OfSoundFile (g.D.Device.model (disk_of c.args.store.now)) (held_by c.args.store.now) (λ s. AreParents s items)) (sym c.deref.ensures.value) c.in_ok-parents.ensures.parents) c.in_ok-put_head.ensures.done c.put_pages.ensures.pages
 
 pub returns-clause-begins : goal.returns-clause-begins
 returns-clause-begins g c =

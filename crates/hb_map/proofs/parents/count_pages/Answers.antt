@@ -1,5 +1,6 @@
 use Rattle.std.proofs.Common.{◌≡◌, ◌+◌, Ok, Bool, arith, sym, ◌∙◌}
 use Rattle.hb_store.specs.Seen.{disk_of, held_by}
+use Rattle.hb_store.specs.Parts.{last_of}
 use Rattle.hb_map.specs.Map.{is_parent}
 use Rattle.hb_map.proofs.Countings.{all_counted, as_many_pages, counted_on, low_on}
 use Rattle.hb_map.proofs.Looks.{looks_on}
@@ -16,7 +17,7 @@ loop-place-preserved g c =
       long = c.count_page.ensures.long ∙ inv.long;
       low = low_on c.loop-place.parents c.count_page.new.parents c.loop-place.place (λ i. is_parent (i + 1) c.in_ok-page.page) c.count_page.ensures.long c.in_ok-count_page.ensures.counted inv.low;
       counted = λ durable later keeps sound.
-          counted_on _ c.loop-place.place _ c.in_ok-page.page c.loop-place.parents c.count_page.new.parents (c.in_ok-page.ensures.page durable later (inv.through.looks.keeps durable later keeps) sound) inv.long c.in_ok-count_page.ensures.counted
+          counted_on (last_of durable later) c.loop-place.place _ c.in_ok-page.page c.loop-place.parents c.count_page.new.parents (c.in_ok-page.ensures.page durable later (inv.through.looks.keeps durable later keeps) sound) inv.long c.in_ok-count_page.ensures.counted
           (inv.counted durable later keeps sound);
     }
 

@@ -8,9 +8,9 @@ use Rattle.hb_map.proofs.parents.count_pages.Given as goal
 abbrev pub invariant-loop-place : goal.invariant-loop-place
 invariant-loop-place g l = record {
   through : LooksThrough ⊥ (g.D.Device.model (disk_of l.fn.store)) (g.D.Device.model (disk_of l.store)) (held_by l.fn.store) (held_by l.store);
-  high : l.place-end ≡ (held_by l.fn.store).state.meta.high;
-  few : l.place-end ≤ 65536;
-  long : length l.parents ≡ l.place-end;
+  high : l.high ≡ (held_by l.fn.store).state.meta.high;
+  few : l.high ≤ 65536;
+  long : length l.parents ≡ l.high;
   low : (place : ℕ) → get_or l.parents place 0 ≤ l.place;
-  counted : OfSoundFile (g.D.Device.model (disk_of l.fn.store)) (held_by l.fn.store) (λ (s : FileState). (place : ℕ) → place < l.place-end → get_or l.parents place 0 + parents_of (place + 1) (drop l.place s.pages) ≡ parents_of (place + 1) s.pages);
+  counted : OfSoundFile (g.D.Device.model (disk_of l.fn.store)) (held_by l.fn.store) (λ (s : FileState). (place : ℕ) → place < l.high → get_or l.parents place 0 + parents_of (place + 1) (drop l.place s.pages) ≡ parents_of (place + 1) s.pages);
 }
