@@ -1,19 +1,20 @@
 -- Pages that may all go stay such pages where another one comes that may.
-use Rattle.std.proofs.Common.{◌≡◌, ◌≢◌, ℕ, ◌+◌, ◌-◌, ◌≤◌, Bool, true, false, cond, List, [], ◌∷◌, ◌++◌, length, nat_lt, Option, Some, None, refl, arith}
-use Rattle.std.specs.List.{count_by, sum_by}
+use Rattle.std.proofs.Common.{◌≡◌, ◌≢◌, ℕ, ◌+◌, ◌-◌, ◌≤◌, Bool, true, false, cond, List, [], ◌∷◌, ◌++◌, length, nat_lt, Option, Some, None, refl, sym, ap, ◌∙◌, arith}
+use Rattle.std.specs.List.{count_by, find, sum_by}
 use Rattle.std.specs.Option.{is_some}
 use Rattle.std.specs.Set.{remove_key}
+use Rattle.std.proofs.lemmas.Bool.{eq-eqb, false≢true}
 use Rattle.std.proofs.lemmas.List.Sums.{sum_by-append, sum_by-cons}
+use Rattle.hb_frag.specs.declared.pages.Page.{Page}
+use Rattle.hb_layout.specs.declared.meta.Meta.{Meta}
 use Rattle.hb_pool.specs.declared.pools.TheConstants.{FRAMES}
-use Rattle.hb_pool.specs.Frames.{Use, fresh, may_go, must_stay}
+use Rattle.hb_pool.specs.Frames.{Use, fresh, has_id, may_go, must_stay}
 use Rattle.hb_pool.specs.Pools.{brought, frame_of, places, with_room}
 use Rattle.hb_store.specs.Calls.{use_fetched}
 use Rattle.hb_store.specs.Fetching.{IsCrowdedOut}
-use Rattle.hb_store.specs.States.{StoreState}
+use Rattle.hb_store.specs.Held.{IsTied}
+use Rattle.hb_store.specs.States.{IsNew, StoreState, in_memory}
 use Rattle.hb_map.specs.Mapping.{MayAllGo}
-
-as_one : Use → ℕ
-as_one u = cond (must_stay u) 1 0
 
 fewer : (test : Use → Bool) (uses : List Use) → count_by must_stay (remove_key test uses) ≤ count_by must_stay uses
 fewer test [] = omega arith
@@ -42,3 +43,11 @@ still_go id uses go =
 -- and then there is a place for each
 pub not_crowded : (id : ℕ) (st : StoreState) (uses : List Use) → MayAllGo uses → IsCrowdedOut id st uses → ⊥
 not_crowded id st uses go crowded = omega (arith, go, crowded.2)
+
+-- a store without pages has none that must stay
+pub new_may_go : (turn : ℕ) (meta : Meta) (st : StoreState) (uses : List Use) → IsNew turn meta st → IsTied st uses → MayAllGo uses
+new_may_go turn meta st [] new tied = refl
+new_may_go turn meta st (u ∷ rest) new tied =
+    let none : is_some (in_memory st u.id) ≡ false = ap (λ (o : Option Page). is_some o) (new.no_page u.id) in
+    let some : is_some (frame_of (u ∷ rest) u.id) ≡ true = ap (λ b. is_some (cond b (Some u) (find (has_id u.id) rest))) (eq-eqb u.id u.id refl) in
+    absurd (false≢true (sym none ∙ tied.there u.id ∙ some))

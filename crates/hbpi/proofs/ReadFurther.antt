@@ -72,3 +72,6 @@ leaves_further d e f good only leaves =
         writes = omega (arith, none.1, only.writes);
       };
     }
+
+pub beyond_file_further : (d e f : DiskModel) → Stays e f → KeepsBeyondFile d e → KeepsBeyondFile d f
+beyond_file_further d e f stays beyond b turn said told newest = beyond_further _ d e f stays (beyond b turn said told newest)
