@@ -25,7 +25,7 @@ use Rattle.hbpi.specs.SeenRuns.{Run, Seen, run_of}
 use Rattle.hbpi.specs.Starts.{IsStarted, StartLaws}
 use Rattle.hbpi.specs.declared.origins.Origin.TheVariants.{Drawn}
 use Rattle.hbpi.specs.declared.statuses.Status.{Status}
-use Rattle.hbpi.specs.declared.statuses.Status.TheVariants.{Done, Usage, BadText, SourceFault, SinkFault, DiskFault, Damaged, NoMemory, BadLayout, Small, NotBuilt, Full, Spent}
+use Rattle.hbpi.specs.declared.statuses.Status.TheVariants.{Done, Usage, BadText, SourceFault, SinkFault, DiskFault, Damaged, NoMemory, BadLayout, Small, Full, Spent}
 
 -- a sink that tells nothing and never fails
 abbrev pub nowhere : SinkModel
@@ -53,7 +53,6 @@ said_ends state count run m text (Damaged damage) output going read said = absur
 said_ends state count run m text NoMemory output going read said = absurd said
 said_ends state count run m text (BadLayout field value) output going read said = absurd said
 said_ends state count run m text (Small needed found) output going read said = absurd said
-said_ends state count run m text NotBuilt output going read said = absurd said
 said_ends state count run m text Full output going read said = absurd said
 said_ends state count run m text Spent output going read said = absurd said
 

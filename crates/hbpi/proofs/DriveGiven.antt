@@ -26,7 +26,7 @@ use Rattle.hbpi.specs.SeenRuns.{Run, Seen}
 use Rattle.hbpi.specs.declared.origins.Origin.{Origin}
 use Rattle.hbpi.specs.declared.origins.Origin.TheVariants.{Text, Drawn}
 use Rattle.hbpi.specs.declared.statuses.Status.{Status}
-use Rattle.hbpi.specs.declared.statuses.Status.TheVariants.{Done, Usage, BadText, SourceFault, SinkFault, DiskFault, Damaged, NoMemory, BadLayout, Small, NotBuilt, Full, Spent}
+use Rattle.hbpi.specs.declared.statuses.Status.TheVariants.{Done, Usage, BadText, SourceFault, SinkFault, DiskFault, Damaged, NoMemory, BadLayout, Small, Full, Spent}
 
 -- want of memory is answered to any text
 no_memory : (seen : Seen) (status : Status) (read : Result Reading BadLine) → status ≡ NoMemory → GivesFor seen status read
@@ -66,7 +66,6 @@ text_gives step_lines k n left seen Usage same told source why = absurd why
 text_gives step_lines k n left seen (Damaged damage) same told source why = absurd why
 text_gives step_lines k n left seen (Small needed found) same told source why = absurd why
 text_gives step_lines k n left seen (BadLayout field value) same told source why = absurd why
-text_gives step_lines k n left seen NotBuilt same told source why = absurd why
 text_gives step_lines k n left seen Full same told source why = absurd why
 text_gives step_lines k n left seen Spent same told source why = absurd why
 
@@ -112,7 +111,6 @@ module _ (by : Manner) (s : FileState) (left : List ℕ) (run : Run) (calm : IsC
   ran_done NoMemory after drove fine ends sink = absurd ends
   ran_done (BadLayout field value) after drove fine ends sink = absurd ends
   ran_done (Small needed found) after drove fine ends sink = absurd ends
-  ran_done NotBuilt after drove fine ends sink = absurd ends
   ran_done Full after drove fine ends sink = absurd ends
   ran_done Spent after drove fine ends sink = absurd ends
 

@@ -7,10 +7,10 @@ use Rattle.hb_text.specs.declared.rules.BadLine.{BadLine}
 use Rattle.hb_text.specs.Grammar.{Reading, text_read}
 use Rattle.hb_text.proofs.Facts.TextLength.{text_is_short}
 use Rattle.hbpi.specs.declared.forms.Form.{Form}
-use Rattle.hbpi.specs.declared.forms.Form.TheVariants.{Check, Create, Drive, Dry, Gen, Tidy, Work}
+use Rattle.hbpi.specs.declared.forms.Form.TheVariants.{Check, Create, Drive, Dry, Gen, Map, Tidy, Work}
 use Rattle.hbpi.specs.declared.forms.Form.TheVariants as forms
 use Rattle.hbpi.specs.declared.statuses.Status.{Status}
-use Rattle.hbpi.specs.declared.statuses.Status.TheVariants.{Done, Usage, BadText, SourceFault, SinkFault, DiskFault, Damaged, NoMemory, BadLayout, Small, NotBuilt, Full, Spent}
+use Rattle.hbpi.specs.declared.statuses.Status.TheVariants.{Done, Usage, BadText, SourceFault, SinkFault, DiskFault, Damaged, NoMemory, BadLayout, Small, Full, Spent}
 use Rattle.hb_outside.specs.Streams.{Rose}
 use Rattle.hbpi.specs.Outcome.{greatest_text, IsTextOf, IsWholeText}
 use Rattle.hb_gen.specs.Spelling.{generated_text}
@@ -26,12 +26,12 @@ use Rattle.hbpi.specs.Tidied.{SaysTidied, TidyEnds, tidied_text}
 use Rattle.hbpi.specs.declared.statuses.Damage.{Damage}
 use Rattle.hbpi.specs.declared.statuses.Damage.TheVariants as damages
 use Rattle.hbpi.specs.Runs.{RunEnds}
-use Rattle.hbpi.specs.Ends.{DryEnds, GenEnds, IsAnswered, IsComplete, RefusesBadText, NamesBadLine, UnbuiltEnds, UsageEnds}
+use Rattle.hbpi.specs.Ends.{DryEnds, GenEnds, IsAnswered, IsComplete, RefusesBadText, NamesBadLine, UsageEnds}
 use Rattle.hbpi.specs.SeenRuns.{Run, Seen}
 use Rattle.hbpi.specs.Checked.{CheckEnds, sound_text}
+use Rattle.hbpi.specs.Mapped.{MapEnds, MapsWith}
 use Rattle.hbpi.specs.Driven.{Manner, RanEnds, StepsEnd, by_counting, by_schedule, by_threads}
 use Rattle.hbpi.specs.Saying.{IsSaid}
-use Rattle.hbpi.specs.Forms.{IsUnbuilt}
 use Rattle.hbpi.specs.Schedules.{CameNot, NotScheduled}
 use Rattle.hbpi.specs.declared.origins.Origin.{Origin}
 use Rattle.hbpi.specs.declared.origins.Origin.TheVariants.{Text, Drawn}
@@ -72,7 +72,6 @@ dry_complete k seen DiskFault ends left reading told good source sink = absurd e
 dry_complete k seen (Damaged damage) ends left reading told good source sink = absurd ends
 dry_complete k seen (BadLayout field value) ends left reading told good source sink = absurd ends
 dry_complete k seen (Small needed found) ends left reading told good source sink = absurd ends
-dry_complete k seen NotBuilt ends left reading told good source sink = absurd ends
 dry_complete k seen Full ends left reading told good source sink = absurd ends
 dry_complete k seen Spent ends left reading told good source sink = absurd ends
 
@@ -98,7 +97,6 @@ dry_refuses k seen DiskFault ends left bad told wrong source = absurd ends
 dry_refuses k seen (Damaged damage) ends left bad told wrong source = absurd ends
 dry_refuses k seen (BadLayout field value) ends left bad told wrong source = absurd ends
 dry_refuses k seen (Small needed found) ends left bad told wrong source = absurd ends
-dry_refuses k seen NotBuilt ends left bad told wrong source = absurd ends
 dry_refuses k seen Full ends left bad told wrong source = absurd ends
 dry_refuses k seen Spent ends left bad told wrong source = absurd ends
 
@@ -131,7 +129,6 @@ dry_names _ _ DiskFault _ _ _ _ is = cc (is)
 dry_names _ _ (Damaged damage) _ _ _ _ is = cc (is)
 dry_names _ _ (BadLayout field value) _ _ _ _ is = cc (is)
 dry_names _ _ (Small needed found) _ _ _ _ is = cc (is)
-dry_names _ _ NotBuilt _ _ _ _ is = cc (is)
 dry_names _ _ Full _ _ _ _ is = cc (is)
 dry_names _ _ Spent _ _ _ _ is = cc (is)
 
@@ -160,7 +157,6 @@ create_complete fault needed run Usage ends good large writes sink = absurd ends
 create_complete fault needed run (BadText bad) ends good large writes sink = absurd ends
 create_complete fault needed run SourceFault ends good large writes sink = absurd ends
 create_complete fault needed run (Damaged damage) ends good large writes sink = absurd ends
-create_complete fault needed run NotBuilt ends good large writes sink = absurd ends
 create_complete fault needed run Full ends good large writes sink = absurd ends
 create_complete fault needed run Spent ends good large writes sink = absurd ends
 
@@ -185,7 +181,6 @@ of_closed faults.NoMemory P small damaged disk memory = memory
 pub source_kept : (step_lines : Bool) (status : Status) (k : ℕ) (before after : SourceModel) → NotScheduled step_lines k before after status → ¬ (status ≡ SourceFault) → after.faults ≡ before.faults
 source_kept step_lines (BadText bad) k before after why other = why.3
 source_kept step_lines SourceFault k before after why other = absurd (other refl)
-source_kept step_lines NotBuilt k before after why other = absurd why
 source_kept step_lines Full k before after why other = absurd why
 source_kept step_lines Spent k before after why other = absurd why
 source_kept step_lines NoMemory k before after why other = why
@@ -221,7 +216,6 @@ dry_source k seen DiskFault ends other = absurd ends
 dry_source k seen (Damaged damage) ends other = absurd ends
 dry_source k seen (BadLayout field value) ends other = absurd ends
 dry_source k seen (Small needed found) ends other = absurd ends
-dry_source k seen NotBuilt ends other = absurd ends
 dry_source k seen Full ends other = absurd ends
 dry_source k seen Spent ends other = absurd ends
 
@@ -236,7 +230,6 @@ create_source fault needed run Usage ends = absurd ends
 create_source fault needed run (BadText bad) ends = absurd ends
 create_source fault needed run SourceFault ends = absurd ends
 create_source fault needed run (Damaged damage) ends = absurd ends
-create_source fault needed run NotBuilt ends = absurd ends
 create_source fault needed run Full ends = absurd ends
 create_source fault needed run Spent ends = absurd ends
 
@@ -261,16 +254,15 @@ tidy_source run status ends = elim ends [
   ]
 ]
 
+map_source : (run : Run) (status : Status) → MapEnds run status → run.seen.source_after.faults ≡ run.seen.source_before.faults
+map_source run status ends = elim ends [ inl shut ↦ shut.2.unread.faults | inr mapped ↦ mapped.2.unread.faults ]
+
 gen_source : (text : List ℕ) (seen : Seen) (status : Status) → GenEnds text seen status → seen.source_after.faults ≡ seen.source_before.faults
 gen_source text seen status ends = elim ends [ inl refused ↦ refused.2.faults | inr said ↦ said.0.unread.faults ]
 
 usage_source : (seen : Seen) (status : Status) → UsageEnds seen status → seen.source_after.faults ≡ seen.source_before.faults
 usage_source seen Usage ends = ends.1.faults
 usage_source seen other ends = absurd ends
-
-unbuilt_source : (seen : Seen) (status : Status) → UnbuiltEnds seen status → seen.source_after.faults ≡ seen.source_before.faults
-unbuilt_source seen NotBuilt ends = ends.1.faults
-unbuilt_source seen other ends = absurd ends
 
 -- The count of the source's faults is as it was, unless the status says that the source failed.
 pub ends_source : (form : Option Form) (run : Run) (status : Status) → RunEnds form run status → ¬ (status ≡ SourceFault) → run.seen.source_after.faults ≡ run.seen.source_before.faults
@@ -281,9 +273,9 @@ ends_source (Some forms.Run) run status ends other = steps_source by_threads run
 ends_source (Some Drive) run status ends other = steps_source by_schedule run status ends other
 ends_source (Some (Work x n)) run status ends other = steps_source (by_counting x n) run status ends other
 ends_source (Some Check) run status ends other = check_source run status ends
+ends_source (Some Map) run status ends other = map_source run status ends
 ends_source (Some Tidy) run status ends other = tidy_source run status ends
 ends_source (Some (Gen x n k)) run status ends other = gen_source (generated_text x n k) run.seen status ends
-ends_source (Some form) run status ends other = unbuilt_source run.seen status ends
 
 never_usage : (fault : OpenFault) → status_of fault ≡ Usage → ⊥
 never_usage fault = of_closed fault (λ x. x ≡ Usage → ⊥) (λ needed found no. cc (no)) (λ damage no. cc (no)) (λ no. cc (no)) (λ no. cc (no))
@@ -325,6 +317,12 @@ tidy_never_usage run status ends is = elim ends [
   ]
 ]
 
+map_never_usage : (run : Run) (status : Status) → MapEnds run status → status ≡ Usage → ⊥
+map_never_usage run status ends is = elim ends [
+  | inl shut ↦ never_usage shut.0 (sym shut.1 ∙ is)
+  | inr mapped ↦ subst (λ (x : Status). MapsWith x run mapped.0.meta mapped.1) is mapped.4
+]
+
 gen_never_usage : (text : List ℕ) (seen : Seen) (status : Status) → GenEnds text seen status → status ≡ Usage → ⊥
 gen_never_usage text seen status ends is = elim ends [
   | inl refused ↦ cc (is, refused.0)
@@ -335,10 +333,6 @@ is_usage : (seen : Seen) (status : Status) → UsageEnds seen status → status 
 is_usage seen Usage ends = refl
 is_usage seen other ends = absurd ends
 
-is_unbuilt : (seen : Seen) (status : Status) → UnbuiltEnds seen status → status ≡ NotBuilt
-is_unbuilt seen NotBuilt ends = refl
-is_unbuilt seen other ends = absurd ends
-
 pub ends_usage : (form : Option Form) (run : Run) (status : Status) → RunEnds form run status → (status ≡ Usage) ↔ (form ≡ None)
 ends_usage None run status ends = (λ is. refl, λ none. is_usage run.seen status ends)
 ends_usage (Some (Dry k)) run status ends = (λ is. absurd (subst (λ (x : Status). DryEnds k run.seen x) is ends), λ none. cc (none))
@@ -348,19 +342,6 @@ ends_usage (Some forms.Run) run status ends = (λ is. absurd (steps_never_usage 
 ends_usage (Some Drive) run status ends = (λ is. absurd (steps_never_usage by_schedule run status ends is), λ none. cc (none))
 ends_usage (Some (Work x n)) run status ends = (λ is. absurd (steps_never_usage (by_counting x n) run status ends is), λ none. cc (none))
 ends_usage (Some Check) run status ends = (λ is. absurd (check_never_usage run status ends is), λ none. cc (none))
+ends_usage (Some Map) run status ends = (λ is. absurd (map_never_usage run status ends is), λ none. cc (none))
 ends_usage (Some Tidy) run status ends = (λ is. absurd (tidy_never_usage run status ends is), λ none. cc (none))
 ends_usage (Some (Gen x n k)) run status ends = (λ is. absurd (gen_never_usage (generated_text x n k) run.seen status ends is), λ none. cc (none))
-ends_usage (Some form) run status ends = (λ is. cc (is, is_unbuilt run.seen status ends), λ none. cc (none))
-
--- A form that isn't built gives `not built`.
-pub ends_unbuilt : (form : Option Form) (run : Run) (status : Status) → IsUnbuilt form → RunEnds form run status → status ≡ NotBuilt
-ends_unbuilt None run status unbuilt ends = absurd unbuilt
-ends_unbuilt (Some (Dry k)) run status unbuilt ends = absurd unbuilt
-ends_unbuilt (Some (Create k pages log dcap icap)) run status unbuilt ends = absurd unbuilt
-ends_unbuilt (Some forms.Run) run status unbuilt ends = absurd unbuilt
-ends_unbuilt (Some Drive) run status unbuilt ends = absurd unbuilt
-ends_unbuilt (Some Check) run status unbuilt ends = absurd unbuilt
-ends_unbuilt (Some Tidy) run status unbuilt ends = absurd unbuilt
-ends_unbuilt (Some (Gen x n k)) run status unbuilt ends = absurd unbuilt
-ends_unbuilt (Some (Work x n)) run status unbuilt ends = absurd unbuilt
-ends_unbuilt (Some form) run status unbuilt ends = is_unbuilt run.seen status ends

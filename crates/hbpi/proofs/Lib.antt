@@ -25,6 +25,9 @@ pub mod FileRefused
 pub mod Promises
 pub mod SaidWhole
 pub mod CheckPromises
+pub mod ReadFurther
+pub mod MappedRuns
+pub mod MapPromises
 pub mod TidyPromises
 pub mod AllAnswered
 pub mod RecordsLeft

@@ -13,7 +13,7 @@ use Rattle.hbpi.specs.Driven.{IsShutOut}
 use Rattle.hbpi.specs.Saying.{IsSaid}
 use Rattle.hbpi.specs.SeenRuns.{HasFailed, Run}
 use Rattle.hbpi.specs.declared.statuses.Status.{Status}
-use Rattle.hbpi.specs.declared.statuses.Status.TheVariants.{Done, Usage, BadText, SourceFault, SinkFault, DiskFault, Damaged, NoMemory, BadLayout, Small, NotBuilt, Full, Spent}
+use Rattle.hbpi.specs.declared.statuses.Status.TheVariants.{Done, Usage, BadText, SourceFault, SinkFault, DiskFault, Damaged, NoMemory, BadLayout, Small, Full, Spent}
 
 pub said_whole : (before after : SinkModel) (status : Status) (line : List ℕ) → ¬ (Rose before.faults after.faults) → IsSaid line before after status → status ≡ Done
 said_whole before after Done line sink said = refl
@@ -26,7 +26,6 @@ said_whole before after (Damaged damage) line sink said = absurd said
 said_whole before after NoMemory line sink said = absurd said
 said_whole before after (BadLayout field value) line sink said = absurd said
 said_whole before after (Small needed found) line sink said = absurd said
-said_whole before after NotBuilt line sink said = absurd said
 said_whole before after Full line sink said = absurd said
 said_whole before after Spent line sink said = absurd said
 

@@ -15,7 +15,7 @@ use Rattle.hb_tidy.specs.declared.stops.TidyStop.TheVariants as tidies
 use Rattle.hbpi.specs.declared.statuses.Damage.{Damage}
 use Rattle.hbpi.specs.declared.statuses.Damage.TheVariants as damages
 use Rattle.hbpi.specs.declared.statuses.Status.{Status}
-use Rattle.hbpi.specs.declared.statuses.Status.TheVariants.{Done, Usage, BadText, SourceFault, SinkFault, DiskFault, Damaged, NoMemory, BadLayout, Small, NotBuilt, Full, Spent}
+use Rattle.hbpi.specs.declared.statuses.Status.TheVariants.{Done, Usage, BadText, SourceFault, SinkFault, DiskFault, Damaged, NoMemory, BadLayout, Small, Full, Spent}
 
 abbrev pub code_of : Status → ℕ
 code_of Done = 0
@@ -28,7 +28,6 @@ code_of (Damaged damage) = 7
 code_of NoMemory = 8
 code_of (BadLayout field value) = 9
 code_of (Small needed found) = 9
-code_of NotBuilt = 11
 code_of Full = 10
 code_of Spent = 14
 

@@ -29,7 +29,7 @@ use Rattle.hbpi.specs.SeenRuns.{IsRefused, IsUnread, Run}
 use Rattle.hbpi.specs.declared.origins.Origin.{Origin}
 use Rattle.hbpi.specs.declared.origins.Origin.TheVariants.{Text, Drawn}
 use Rattle.hbpi.specs.declared.statuses.Status.{Status}
-use Rattle.hbpi.specs.declared.statuses.Status.TheVariants.{Done, Usage, BadText, SourceFault, SinkFault, DiskFault, Damaged, NoMemory, BadLayout, Small, NotBuilt, Full, Spent}
+use Rattle.hbpi.specs.declared.statuses.Status.TheVariants.{Done, Usage, BadText, SourceFault, SinkFault, DiskFault, Damaged, NoMemory, BadLayout, Small, Full, Spent}
 
 -- The file wasn't opened, and the source wasn't read.
 pub record IsShutOut (run : Run) (fault : OpenFault) : Type 0 where
@@ -134,7 +134,6 @@ RanEnds by SourceFault run m = ⊥
 RanEnds by NoMemory run m = ⊥
 RanEnds by (BadLayout field value) run m = ⊥
 RanEnds by (Small needed found) run m = ⊥
-RanEnds by NotBuilt run m = ⊥
 RanEnds by Full run m = ⊥
 RanEnds by Spent run m = ⊥
 

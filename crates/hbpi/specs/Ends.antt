@@ -6,9 +6,9 @@ use Rattle.hb_text.specs.declared.rules.BadLine.{BadLine}
 use Rattle.hb_text.specs.Grammar.{Reading, text_read}
 use Rattle.hb_text.specs.Output.{output_text}
 use Rattle.hbpi.specs.declared.forms.Form.{Form}
-use Rattle.hbpi.specs.declared.forms.Form.TheVariants.{Check, Create, Dry, Drive, Run, Tidy, Work}
+use Rattle.hbpi.specs.declared.forms.Form.TheVariants.{Check, Create, Drive, Dry, Map, Run, Tidy, Work}
 use Rattle.hbpi.specs.declared.statuses.Status.{Status}
-use Rattle.hbpi.specs.declared.statuses.Status.TheVariants.{Done, Usage, BadText, SourceFault, SinkFault, DiskFault, Damaged, NoMemory, BadLayout, Small, NotBuilt, Full, Spent}
+use Rattle.hbpi.specs.declared.statuses.Status.TheVariants.{Done, Usage, BadText, SourceFault, SinkFault, DiskFault, Damaged, NoMemory, BadLayout, Small, Full, Spent}
 use Rattle.hbpi.specs.Created.{IsUnmade}
 use Rattle.hbpi.specs.Outcome.{IsTextOf, IsWholeText, IsDryRun}
 use Rattle.hbpi.specs.Saying.{IsSaid}
@@ -38,18 +38,13 @@ DryEnds k seen DiskFault = ⊥
 DryEnds k seen (Damaged damage) = ⊥
 DryEnds k seen (BadLayout field value) = ⊥
 DryEnds k seen (Small needed found) = ⊥
-DryEnds k seen NotBuilt = ⊥
 DryEnds k seen Full = ⊥
 DryEnds k seen Spent = ⊥
 
--- words that are no form, and forms that aren't built, are refused before anything is read
+-- words that are no form are refused before anything is read
 abbrev pub UsageEnds : Seen → Status → Type 0
 UsageEnds seen Usage = IsRefused seen Usage × IsUnread seen
 UsageEnds seen _ = ⊥
-
-abbrev pub UnbuiltEnds : Seen → Status → Type 0
-UnbuiltEnds seen NotBuilt = IsRefused seen NotBuilt × IsUnread seen
-UnbuiltEnds seen _ = ⊥
 
 -- A text was said, or a front of it where the sink failed; or memory for it was refused. Nothing was read.
 pub record IsAlone (seen : Seen) : Type 0 where
@@ -60,7 +55,7 @@ pub record IsAlone (seen : Seen) : Type 0 where
 abbrev pub GenEnds : List ℕ → Seen → Status → Type 0
 GenEnds text seen status = ((status ≡ NoMemory) × IsRefused seen NoMemory × IsUnread seen) ⊎ (IsAlone seen × IsSaid text seen.sink_before seen.sink_after status)
 
--- The disk is as it was: `run`, `work`, `drive`, `check` and `tidy` may write it, which open its file, and `create` where it makes a file or tries to.
+-- The disk is as it was: `run`, `work`, `drive`, `check`, `map` and `tidy` may write it, which open its file, and `create` where it makes a file or tries to.
 abbrev pub LeavesDisk : Option Form → Status → Type 0
 LeavesDisk None status = Unit {0}
 LeavesDisk (Some (Create k pages log dcap icap)) status = IsUnmade status
@@ -68,6 +63,7 @@ LeavesDisk (Some Run) status = ⊥
 LeavesDisk (Some (Work x n)) status = ⊥
 LeavesDisk (Some Drive) status = ⊥
 LeavesDisk (Some Check) status = ⊥
+LeavesDisk (Some Map) status = ⊥
 LeavesDisk (Some Tidy) status = ⊥
 LeavesDisk (Some form) status = Unit {0}
 

@@ -95,16 +95,3 @@ is_threaded None = false
 is_threaded (Some Run) = true
 is_threaded (Some (Work x n)) = true
 is_threaded (Some form) = false
-
--- a form whose command isn't built yet
-abbrev pub IsUnbuilt : Option Form → Type 0
-IsUnbuilt None = ⊥
-IsUnbuilt (Some (Dry k)) = ⊥
-IsUnbuilt (Some (Create k pages log dcap icap)) = ⊥
-IsUnbuilt (Some Run) = ⊥
-IsUnbuilt (Some Drive) = ⊥
-IsUnbuilt (Some Check) = ⊥
-IsUnbuilt (Some Tidy) = ⊥
-IsUnbuilt (Some (Gen x n k)) = ⊥
-IsUnbuilt (Some (Work x n)) = ⊥
-IsUnbuilt (Some form) = Unit {0}

@@ -14,6 +14,7 @@ pub mod Drives
 pub mod Driven
 pub mod Starts
 pub mod Checked
+pub mod Mapped
 pub mod Tidied
 pub mod Runs
 pub mod Promises

@@ -4,7 +4,7 @@ use Rattle.hb_outside.specs.Streams.{Rose, Appends, AppendsFront}
 use Rattle.hbpi.specs.declared.forms.Form.{Form}
 use Rattle.hbpi.specs.declared.forms.Form.TheVariants.{Create}
 use Rattle.hbpi.specs.declared.statuses.Status.{Status}
-use Rattle.hbpi.specs.declared.statuses.Status.TheVariants.{Done, Usage, BadText, SourceFault, SinkFault, DiskFault, Damaged, NoMemory, BadLayout, Small, NotBuilt, Full, Spent}
+use Rattle.hbpi.specs.declared.statuses.Status.TheVariants.{Done, Usage, BadText, SourceFault, SinkFault, DiskFault, Damaged, NoMemory, BadLayout, Small, Full, Spent}
 use Rattle.hb_restart.specs.declared.faults.BadField.{BadField}
 use Rattle.hb_restart.specs.Layouts.{first_fault, size_of}
 use Rattle.hbpi.specs.SeenRuns.{HasNotFailed, IsRefused, IsUnread, Run}
@@ -36,7 +36,6 @@ CreateEnds fault needed run Usage = ⊥
 CreateEnds fault needed run (BadText bad) = ⊥
 CreateEnds fault needed run SourceFault = ⊥
 CreateEnds fault needed run (Damaged damage) = ⊥
-CreateEnds fault needed run NotBuilt = ⊥
 CreateEnds fault needed run Full = ⊥
 CreateEnds fault needed run Spent = ⊥
 

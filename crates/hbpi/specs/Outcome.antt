@@ -11,7 +11,7 @@ use Rattle.hb_set.specs.declared.scripts.Answered.{Answered}
 use Rattle.hb_text.specs.declared.rules.TextRule.{TextRule}
 use Rattle.hb_text.specs.declared.rules.TextRule.TheVariants.{TooMany, LongLine, BadByte, BadSpacing, BadStep, BadSession, BadVerb, BadCount, BadNumber, TooLarge, EmptyBox, BadBody}
 use Rattle.hbpi.specs.declared.statuses.Status.{Status}
-use Rattle.hbpi.specs.declared.statuses.Status.TheVariants.{Done, Usage, BadText, SourceFault, SinkFault, DiskFault, Damaged, NoMemory, BadLayout, Small, NotBuilt, Full, Spent}
+use Rattle.hbpi.specs.declared.statuses.Status.TheVariants.{Done, Usage, BadText, SourceFault, SinkFault, DiskFault, Damaged, NoMemory, BadLayout, Small, Full, Spent}
 use Rattle.hbpi.specs.declared.statuses.Damage.{Damage}
 use Rattle.hbpi.specs.declared.statuses.Damage.TheVariants as damages
 use Rattle.hb_restart.specs.declared.faults.Field.{Field}
@@ -60,7 +60,6 @@ fault_line (Damaged damage) = damage_text damage ++ codes "\n"
 fault_line (BadLayout field value) = codes "bad layout " ++ field_name field ++ codes " " ++ decimal value ++ codes "\n"
 fault_line (Small needed found) = codes "small " ++ decimal needed ++ codes " " ++ decimal found ++ codes "\n"
 fault_line NoMemory = codes "no memory\n"
-fault_line NotBuilt = codes "not built\n"
 fault_line Full = codes "full\n"
 fault_line Spent = codes "spent\n"
 

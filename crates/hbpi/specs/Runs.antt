@@ -7,12 +7,13 @@ use Rattle.hb_restart.specs.NewFiles.{new_file}
 use Rattle.hb_store.specs.Opening.{IsEven}
 use Rattle.hbpi.specs.Checked.{CheckEnds}
 use Rattle.hbpi.specs.Driven.{StepsEnd, by_counting, by_schedule, by_threads}
-use Rattle.hbpi.specs.Ends.{DryEnds, GenEnds, UsageEnds, UnbuiltEnds}
+use Rattle.hbpi.specs.Ends.{DryEnds, GenEnds, UsageEnds}
 use Rattle.hbpi.specs.MadeEnds.{CreateEnds, HasMade}
+use Rattle.hbpi.specs.Mapped.{MapEnds}
 use Rattle.hbpi.specs.SeenRuns.{Run}
 use Rattle.hbpi.specs.Tidied.{TidyEnds}
 use Rattle.hbpi.specs.declared.forms.Form.{Form}
-use Rattle.hbpi.specs.declared.forms.Form.TheVariants.{Check, Create, Dry, Drive, Gen, Tidy, Work}
+use Rattle.hbpi.specs.declared.forms.Form.TheVariants.{Check, Create, Drive, Dry, Gen, Map, Tidy, Work}
 use Rattle.hbpi.specs.declared.forms.Form.TheVariants as forms
 use Rattle.hbpi.specs.declared.statuses.Status.{Status}
 use Rattle.hbpi.specs.declared.statuses.Status.TheVariants.{SourceFault}
@@ -26,9 +27,9 @@ RunEnds (Some forms.Run) run status = StepsEnd by_threads run status
 RunEnds (Some Drive) run status = StepsEnd by_schedule run status
 RunEnds (Some (Work x n)) run status = StepsEnd (by_counting x n) run status
 RunEnds (Some Check) run status = CheckEnds run status
+RunEnds (Some Map) run status = MapEnds run status
 RunEnds (Some Tidy) run status = TidyEnds run status
 RunEnds (Some (Gen x n k)) run status = GenEnds (generated_text x n k) run.seen status
-RunEnds (Some form) run status = UnbuiltEnds run.seen status
 
 -- Where a file was made, every image of the disk opens to it: it has no record.
 abbrev pub LeavesFile : Option Form → Run → Status → Type 0
@@ -44,6 +45,7 @@ LeavesBeyond (Some forms.Run) run = KeepsBeyondFile run.before run.after
 LeavesBeyond (Some Drive) run = KeepsBeyondFile run.before run.after
 LeavesBeyond (Some (Work x n)) run = KeepsBeyondFile run.before run.after
 LeavesBeyond (Some Check) run = KeepsBeyondFile run.before run.after
+LeavesBeyond (Some Map) run = KeepsBeyondFile run.before run.after
 LeavesBeyond (Some Tidy) run = KeepsBeyondFile run.before run.after
 LeavesBeyond _ run = Unit {0}
 

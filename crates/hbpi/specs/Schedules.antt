@@ -15,7 +15,7 @@ use Rattle.hbpi.specs.Outcome.{IsTextOf, IsWholeText}
 use Rattle.hbpi.specs.declared.origins.Origin.{Origin}
 use Rattle.hbpi.specs.declared.origins.Origin.TheVariants.{Text, Drawn}
 use Rattle.hbpi.specs.declared.statuses.Status.{Status}
-use Rattle.hbpi.specs.declared.statuses.Status.TheVariants.{Done, Usage, BadText, SourceFault, SinkFault, DiskFault, Damaged, NoMemory, BadLayout, Small, NotBuilt, Full, Spent}
+use Rattle.hbpi.specs.declared.statuses.Status.TheVariants.{Done, Usage, BadText, SourceFault, SinkFault, DiskFault, Damaged, NoMemory, BadLayout, Small, Full, Spent}
 
 -- the text was read whole, and says these lines over k attributes and these steps; it may have step lines or not
 pub record IsScheduled (step_lines : Bool) (k : ℕ) (left rest : Option (List ℕ)) (lines : List Line) (steps : List ℕ) : Type 0 where
@@ -62,7 +62,6 @@ NotScheduled step_lines k before after Usage = ⊥
 NotScheduled step_lines k before after (Damaged damage) = ⊥
 NotScheduled step_lines k before after (Small needed found) = ⊥
 NotScheduled step_lines k before after (BadLayout field value) = ⊥
-NotScheduled step_lines k before after NotBuilt = ⊥
 NotScheduled step_lines k before after Full = ⊥
 NotScheduled step_lines k before after Spent = ⊥
 

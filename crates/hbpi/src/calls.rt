@@ -8,7 +8,7 @@ use crate::forms::Form;
 use crate::new_files::NewFile;
 use crate::statuses::Status;
 use crate::top::top;
-use crate::trouble::{Told, Trouble};
+use crate::trouble::Trouble;
 use hb_disk::{Disk, MemDisk};
 use hb_outside::{ReadSource, Sink, WriteSink};
 use hb_restart::Layout;
@@ -33,7 +33,7 @@ pub struct Call {
 pub struct Ended {
     pub status: Status,
     /// What is told on the standard error.
-    pub told: Option<Told>,
+    pub told: Option<Trouble>,
 }
 
 /// Where the file of a call is.
@@ -108,15 +108,6 @@ fn end_output<O: Write + Drop>(mut sink: WriteSink<BufWriter<O>>, status: Status
     status.after_sink_fault()
 }
 
-/// What is told of a run over a disk that met this trouble.
-fn told_of(status: Status, trouble: Option<Trouble>) -> Option<Told> {
-    match (status, trouble) {
-        (Status::NotBuilt, _) => Some(Told::Form),
-        (_, Some(trouble)) => Some(Told::Trouble(trouble)),
-        _ => None,
-    }
-}
-
 /// Runs the program over these streams and a disk, which is given back with the status.
 fn run_over<
     R: Threads + Wait + Sync,
@@ -146,7 +137,7 @@ fn refuse_file<O: Write + Drop>(mut sink: WriteSink<BufWriter<O>>, trouble: Trou
     put_fault(&mut sink, Status::DiskFault);
     Ended {
         status: end_output(sink, Status::DiskFault),
-        told: Some(Told::Trouble(trouble)),
+        told: Some(trouble),
     }
 }
 
@@ -210,7 +201,7 @@ fn run_new<R: Threads + Wait + Sync, I: Read + Drop, O: Write + Drop + Send>(
     };
     Ok(Ended {
         status,
-        told: disk.trouble().map(Told::Trouble),
+        told: disk.trouble(),
     })
 }
 
@@ -228,7 +219,7 @@ fn run_there<R: Threads + Wait + Sync, I: Read + Drop, O: Write + Drop + Send>(
             let (status, disk) = run_over(rt.alloc(), threads, words, input, sink, disk);
             Ended {
                 status,
-                told: told_of(status, disk.trouble()),
+                told: disk.trouble(),
             }
         }
         Err(trouble) => refuse_file(sink, trouble),
@@ -257,7 +248,7 @@ pub fn run<R: Threads + Wait + Sync, I: Read + Drop, O: Write + Drop + Send>(
             let (status, _disk) = run_over(alloc, threads, words, input, sink, disk);
             Ok(Ended {
                 status,
-                told: told_of(status, None),
+                told: None,
             })
         }
         Place::New(size) => run_new(rt, threads, call, input, sink, size),

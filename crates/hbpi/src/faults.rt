@@ -163,7 +163,6 @@ pub(crate) fn put_fault<K: Sink>(sink: &mut K, status: Status)
             put_line(sink, bad_layout_line(field, value).as_slice());
         }
         Status::Small { needed, found } => put_line(sink, small_line(needed, found).as_slice()),
-        Status::NotBuilt => put_line(sink, b"not built\n"),
         Status::Full => put_line(sink, b"full\n"),
         Status::Spent => put_line(sink, b"spent\n"),
     }

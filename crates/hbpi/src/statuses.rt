@@ -57,8 +57,6 @@ pub enum Status {
     BadLayout { field: Field, value: u64 },
     /// The disk has fewer bytes than are needed.
     Small { needed: u64, found: u64 },
-    /// The words are a form whose command isn't built.
-    NotBuilt,
     /// What is to be tidied needs a page, and none is free.
     Full,
     /// The core has taken as many steps as it counts.
@@ -81,7 +79,6 @@ impl Status {
             Status::NoMemory => 8,
             Status::BadLayout { .. } | Status::Small { .. } => 9,
             Status::Full => 10,
-            Status::NotBuilt => 11,
             Status::Spent => 14,
         }
     }

@@ -109,21 +109,3 @@ impl From<Trouble> for io::Error {
         trouble.error
     }
 }
-
-/// What is told on the standard error.
-#[derive(Clone, Copy)]
-pub enum Told {
-    /// A call on the file failed.
-    Trouble(Trouble),
-    /// The words are a form that isn't built.
-    Form,
-}
-
-impl Display for Told {
-    fn fmt<W: fmt::Write>(&self, f: &mut Formatter<W>) -> fmt::Result {
-        match self {
-            Told::Trouble(trouble) => write!(f, "{trouble}"),
-            Told::Form => f.pad("the program can't do this yet"),
-        }
-    }
-}

@@ -3,7 +3,7 @@
 use hb_disk::{Disk, MemDisk};
 use hb_outside::{MemSink, MemSource};
 use hb_run::FreeGate;
-use hbpi::{Call, Ended, Told, run, top};
+use hbpi::{Call, Ended, Trouble, run, top};
 use std::alloc::Global;
 use std::io::{Read, Write};
 use std::sync::Wait;
@@ -42,7 +42,7 @@ fn on_file<R: Threads + Wait + Sync, I: Read + Drop>(
     threads: &R,
     call: &Call,
     input: I,
-) -> io::Result<(Outcome, Option<Told>)> {
+) -> io::Result<(Outcome, Option<Trouble>)> {
     let mut output = Vec::new(rt.alloc());
     let Ended { status, told } = run(rt, threads, call, input, &mut output)?;
     let outcome = Outcome {
@@ -87,7 +87,7 @@ pub(crate) fn on_disk<R: Threads + Wait + Sync, D: Disk + Drop + Send>(
 }
 
 /// Prints the output, the status, and what is told.
-pub(crate) fn tell(rt: &HostRuntime, outcome: &Outcome, told: Option<Told>) -> io::Result<()> {
+pub(crate) fn tell(rt: &HostRuntime, outcome: &Outcome, told: Option<Trouble>) -> io::Result<()> {
     match str::from_utf8(outcome.output.as_slice()) {
         Ok(text) => rt.print(text)?,
         Err(_) => println!(rt; "the output isn't text")?,

@@ -2,7 +2,7 @@
 
 use crate::beside::{call_alone, call_of, on_disk, tell as tell_outcome};
 use hb_disk::Device;
-use hbpi::{FileDisk, Told, disk_of};
+use hbpi::{FileDisk, disk_of};
 use std::fs::File;
 use std::io::Read;
 use std::sync::Wait;
@@ -108,7 +108,7 @@ fn only_read<R: Threads + Wait + Sync>(rt: &HostRuntime, threads: &R) -> io::Res
     let call = call_of(rt.alloc(), NAME, "drive")?;
     let disk = disk_of(File::open(rt, NAME)?)?;
     let (outcome, mut disk) = on_disk(threads, rt.alloc(), &call, SECOND, disk)?;
-    tell_outcome(rt, &outcome, disk.trouble().map(Told::Trouble))?;
+    tell_outcome(rt, &outcome, disk.trouble())?;
     tell_faults(rt, &disk)?;
     let read = reads(&mut disk, 0);
     let (written, zero) = (writes(&mut disk, 8), zeroes(&mut disk, 0, 100_000));
