@@ -7,7 +7,7 @@ use Rattle.hb_text.specs.declared.rules.BadLine.{BadLine}
 use Rattle.hb_text.specs.Grammar.{Reading, text_read}
 use Rattle.hb_text.proofs.Facts.TextLength.{text_is_short}
 use Rattle.hbpi.specs.declared.forms.Form.{Form}
-use Rattle.hbpi.specs.declared.forms.Form.TheVariants.{Check, Create, Drive, Dry, Gen, Work}
+use Rattle.hbpi.specs.declared.forms.Form.TheVariants.{Check, Create, Drive, Dry, Gen, Map, Work}
 use Rattle.hbpi.specs.declared.forms.Form.TheVariants as forms
 use Rattle.hbpi.specs.declared.statuses.Status.{Status}
 use Rattle.hbpi.specs.declared.statuses.Status.TheVariants.{Done, Usage, BadText, SourceFault, SinkFault, DiskFault, Damaged, NoMemory, BadLayout, Small, NotBuilt}
@@ -25,6 +25,7 @@ use Rattle.hbpi.specs.Runs.{RunEnds}
 use Rattle.hbpi.specs.Ends.{DryEnds, GenEnds, IsAnswered, IsComplete, RefusesBadText, NamesBadLine, UnbuiltEnds, UsageEnds}
 use Rattle.hbpi.specs.SeenRuns.{Run, Seen}
 use Rattle.hbpi.specs.Checked.{CheckEnds, sound_text}
+use Rattle.hbpi.specs.Mapped.{MapEnds, MapsWith}
 use Rattle.hbpi.specs.Driven.{Manner, RanEnds, StepsEnd, by_counting, by_schedule, by_threads}
 use Rattle.hbpi.specs.Saying.{IsSaid}
 use Rattle.hbpi.specs.Forms.{IsUnbuilt}
@@ -234,6 +235,9 @@ steps_source by run status ends other = elim ends [
 check_source : (run : Run) (status : Status) → CheckEnds run status → run.seen.source_after.faults ≡ run.seen.source_before.faults
 check_source run status ends = elim ends [ inl shut ↦ shut.2.unread.faults | inr checked ↦ checked.2.unread.faults ]
 
+map_source : (run : Run) (status : Status) → MapEnds run status → run.seen.source_after.faults ≡ run.seen.source_before.faults
+map_source run status ends = elim ends [ inl shut ↦ shut.2.unread.faults | inr mapped ↦ mapped.2.unread.faults ]
+
 gen_source : (text : List ℕ) (seen : Seen) (status : Status) → GenEnds text seen status → seen.source_after.faults ≡ seen.source_before.faults
 gen_source text seen status ends = elim ends [ inl refused ↦ refused.2.faults | inr said ↦ said.0.unread.faults ]
 
@@ -254,6 +258,7 @@ ends_source (Some forms.Run) run status ends other = steps_source by_threads run
 ends_source (Some Drive) run status ends other = steps_source by_schedule run status ends other
 ends_source (Some (Work x n)) run status ends other = steps_source (by_counting x n) run status ends other
 ends_source (Some Check) run status ends other = check_source run status ends
+ends_source (Some Map) run status ends other = map_source run status ends
 ends_source (Some (Gen x n k)) run status ends other = gen_source (generated_text x n k) run.seen status ends
 ends_source (Some form) run status ends other = unbuilt_source run.seen status ends
 
@@ -274,6 +279,12 @@ check_never_usage : (run : Run) (status : Status) → CheckEnds run status → s
 check_never_usage run status ends is = elim ends [
   | inl shut ↦ never_usage shut.0 (sym shut.1 ∙ is)
   | inr checked ↦ subst (λ (x : Status). IsSaid (sound_text checked.0.meta checked.1) run.seen.sink_before run.seen.sink_after x) is checked.3
+]
+
+map_never_usage : (run : Run) (status : Status) → MapEnds run status → status ≡ Usage → ⊥
+map_never_usage run status ends is = elim ends [
+  | inl shut ↦ never_usage shut.0 (sym shut.1 ∙ is)
+  | inr mapped ↦ subst (λ (x : Status). MapsWith x run mapped.0.meta mapped.1) is mapped.4
 ]
 
 gen_never_usage : (text : List ℕ) (seen : Seen) (status : Status) → GenEnds text seen status → status ≡ Usage → ⊥
@@ -299,6 +310,7 @@ ends_usage (Some forms.Run) run status ends = (λ is. absurd (steps_never_usage 
 ends_usage (Some Drive) run status ends = (λ is. absurd (steps_never_usage by_schedule run status ends is), λ none. cc (none))
 ends_usage (Some (Work x n)) run status ends = (λ is. absurd (steps_never_usage (by_counting x n) run status ends is), λ none. cc (none))
 ends_usage (Some Check) run status ends = (λ is. absurd (check_never_usage run status ends is), λ none. cc (none))
+ends_usage (Some Map) run status ends = (λ is. absurd (map_never_usage run status ends is), λ none. cc (none))
 ends_usage (Some (Gen x n k)) run status ends = (λ is. absurd (gen_never_usage (generated_text x n k) run.seen status ends is), λ none. cc (none))
 ends_usage (Some form) run status ends = (λ is. cc (is, is_unbuilt run.seen status ends), λ none. cc (none))
 
@@ -310,6 +322,7 @@ ends_unbuilt (Some (Create k pages log dcap icap)) run status unbuilt ends = abs
 ends_unbuilt (Some forms.Run) run status unbuilt ends = absurd unbuilt
 ends_unbuilt (Some Drive) run status unbuilt ends = absurd unbuilt
 ends_unbuilt (Some Check) run status unbuilt ends = absurd unbuilt
+ends_unbuilt (Some Map) run status unbuilt ends = absurd unbuilt
 ends_unbuilt (Some (Gen x n k)) run status unbuilt ends = absurd unbuilt
 ends_unbuilt (Some (Work x n)) run status unbuilt ends = absurd unbuilt
 ends_unbuilt (Some form) run status unbuilt ends = is_unbuilt run.seen status ends

@@ -21,6 +21,9 @@ pub mod DriveGiven
 pub mod FileRefused
 pub mod Promises
 pub mod CheckPromises
+pub mod ReadFurther
+pub mod MappedRuns
+pub mod MapPromises
 pub mod AllAnswered
 pub mod RecordsLeft
 pub mod CountingEnds

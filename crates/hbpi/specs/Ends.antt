@@ -6,7 +6,7 @@ use Rattle.hb_text.specs.declared.rules.BadLine.{BadLine}
 use Rattle.hb_text.specs.Grammar.{Reading, text_read}
 use Rattle.hb_text.specs.Output.{output_text}
 use Rattle.hbpi.specs.declared.forms.Form.{Form}
-use Rattle.hbpi.specs.declared.forms.Form.TheVariants.{Check, Create, Dry, Drive, Run, Work}
+use Rattle.hbpi.specs.declared.forms.Form.TheVariants.{Check, Create, Dry, Drive, Map, Run, Work}
 use Rattle.hbpi.specs.declared.statuses.Status.{Status}
 use Rattle.hbpi.specs.declared.statuses.Status.TheVariants.{Done, Usage, BadText, SourceFault, SinkFault, DiskFault, Damaged, NoMemory, BadLayout, Small, NotBuilt}
 use Rattle.hbpi.specs.Created.{IsUnmade}
@@ -58,7 +58,7 @@ pub record IsAlone (seen : Seen) : Type 0 where
 abbrev pub GenEnds : List ℕ → Seen → Status → Type 0
 GenEnds text seen status = ((status ≡ NoMemory) × IsRefused seen NoMemory × IsUnread seen) ⊎ (IsAlone seen × IsSaid text seen.sink_before seen.sink_after status)
 
--- The disk is as it was: `run`, `work`, `drive` and `check` may write it, which open its file, and `create` where it makes a file or tries to.
+-- The disk is as it was: `run`, `work`, `drive`, `check` and `map` may write it, which open its file, and `create` where it makes a file or tries to.
 abbrev pub LeavesDisk : Option Form → Status → Type 0
 LeavesDisk None status = Unit {0}
 LeavesDisk (Some (Create k pages log dcap icap)) status = IsUnmade status
@@ -66,6 +66,7 @@ LeavesDisk (Some Run) status = ⊥
 LeavesDisk (Some (Work x n)) status = ⊥
 LeavesDisk (Some Drive) status = ⊥
 LeavesDisk (Some Check) status = ⊥
+LeavesDisk (Some Map) status = ⊥
 LeavesDisk (Some form) status = Unit {0}
 
 -- A good text is answered whole, unless the source or the sink failed or memory was refused.

@@ -104,6 +104,7 @@ IsUnbuilt (Some (Create k pages log dcap icap)) = ⊥
 IsUnbuilt (Some Run) = ⊥
 IsUnbuilt (Some Drive) = ⊥
 IsUnbuilt (Some Check) = ⊥
+IsUnbuilt (Some Map) = ⊥
 IsUnbuilt (Some (Gen x n k)) = ⊥
 IsUnbuilt (Some (Work x n)) = ⊥
 IsUnbuilt (Some form) = Unit {0}

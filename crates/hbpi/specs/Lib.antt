@@ -14,5 +14,6 @@ pub mod Drives
 pub mod Driven
 pub mod Starts
 pub mod Checked
+pub mod Mapped
 pub mod Runs
 pub mod Promises

@@ -9,9 +9,10 @@ use Rattle.hbpi.specs.Checked.{CheckEnds}
 use Rattle.hbpi.specs.Driven.{StepsEnd, by_counting, by_schedule, by_threads}
 use Rattle.hbpi.specs.Ends.{DryEnds, GenEnds, UsageEnds, UnbuiltEnds}
 use Rattle.hbpi.specs.MadeEnds.{CreateEnds, HasMade}
+use Rattle.hbpi.specs.Mapped.{MapEnds}
 use Rattle.hbpi.specs.SeenRuns.{Run}
 use Rattle.hbpi.specs.declared.forms.Form.{Form}
-use Rattle.hbpi.specs.declared.forms.Form.TheVariants.{Check, Create, Dry, Drive, Gen, Work}
+use Rattle.hbpi.specs.declared.forms.Form.TheVariants.{Check, Create, Dry, Drive, Gen, Map, Work}
 use Rattle.hbpi.specs.declared.forms.Form.TheVariants as forms
 use Rattle.hbpi.specs.declared.statuses.Status.{Status}
 use Rattle.hbpi.specs.declared.statuses.Status.TheVariants.{SourceFault}
@@ -25,6 +26,7 @@ RunEnds (Some forms.Run) run status = StepsEnd by_threads run status
 RunEnds (Some Drive) run status = StepsEnd by_schedule run status
 RunEnds (Some (Work x n)) run status = StepsEnd (by_counting x n) run status
 RunEnds (Some Check) run status = CheckEnds run status
+RunEnds (Some Map) run status = MapEnds run status
 RunEnds (Some (Gen x n k)) run status = GenEnds (generated_text x n k) run.seen status
 RunEnds (Some form) run status = UnbuiltEnds run.seen status
 
@@ -42,6 +44,7 @@ LeavesBeyond (Some forms.Run) run = KeepsBeyondFile run.before run.after
 LeavesBeyond (Some Drive) run = KeepsBeyondFile run.before run.after
 LeavesBeyond (Some (Work x n)) run = KeepsBeyondFile run.before run.after
 LeavesBeyond (Some Check) run = KeepsBeyondFile run.before run.after
+LeavesBeyond (Some Map) run = KeepsBeyondFile run.before run.after
 LeavesBeyond _ run = Unit {0}
 
 -- No count of faults falls, and that of the source is as it was unless the status says that the source failed.

@@ -27,6 +27,7 @@ mod finished;
 mod finishing;
 mod forms;
 mod gen_text;
+mod map_file;
 mod new_files;
 mod nowhere;
 mod origins;

@@ -12,6 +12,7 @@ use crate::dry::{dry, refused};
 use crate::finished::Finished;
 use crate::forms::Form;
 use crate::gen_text::gen_text;
+use crate::map_file::map_file;
 use crate::run_file::run_file;
 use crate::statuses::Status;
 use crate::work_file::work_file;
@@ -54,8 +55,9 @@ fn do_words<S: Source, K: Sink, D: Disk>(
         ) => create_file(alloc, k, pages, log, dcap, icap, sink, disk),
         Some(Form::Drive) => drive_file(alloc, source, sink, disk),
         Some(Form::Check) => check_file(alloc, sink, disk),
+        Some(Form::Map) => map_file(alloc, sink, disk),
         Some(Form::Gen { x, n, k }) => gen_text(alloc, x, n, k, sink, disk),
-        Some(Form::Map | Form::Tidy) => refused(alloc, Status::NotBuilt, sink, disk),
+        Some(Form::Tidy) => refused(alloc, Status::NotBuilt, sink, disk),
         Some(Form::Run | Form::Work { .. }) => unreachable!(),
     }
 }
@@ -135,7 +137,7 @@ pub fn top<R: Threads + Wait + Sync, S: Source, K: Sink + Send, D: Disk + Send, 
     // Which row of the table this run is of: the cause of its status, what was read and written, what was answered, and what
     // is on the disk.
     ensures ends { IsRunOf (form_of (map string_bytes words.now)) (run_of (seen_by (S.model source.old) (S.model source.new) (K.model sink) (K.model result.sink) result.answered.items result.order.items) (D.model disk) (D.model result.disk)) result.status }
-    // But for `run`, `work`, `drive` and `check`, and for `create` where it makes a file or fails in it, the disk is given back as it was.
+    // But for `run`, `work`, `drive`, `check` and `map`, and for `create` where it makes a file or fails in it, the disk is given back as it was.
     ensures untouched { LeavesDisk (form_of (map string_bytes words.now)) result.status → result.disk ≡ disk }
 {
     let form = Form::of_words(words);

@@ -45,3 +45,9 @@ returns-in-Some-Check-clause-ends g c =
     let seen = seen_by (g.S.Source.model c.args.source.now) (g.S.Source.model c.args.source.now) (g.K.Sink.model c.args.sink) (g.K.Sink.model c.check_file.result.sink) c.check_file.result.answered.items c.check_file.result.order.items in
     subst (λ (form : Option Form). RunEnds form (run_of seen (g.D.Device.model c.args.disk) (g.D.Device.model c.check_file.result.disk)) c.check_file.result.status) (sym (ap Some c.in-Some-Check.field-0-is) ∙ c.in-Some-Check.ensures.form)
     (c.check_file.ensures.ends (g.S.Source.model c.args.source.now))
+
+pub returns-in-Some-Map-clause-ends : goal.returns-in-Some-Map-clause-ends
+returns-in-Some-Map-clause-ends g c =
+    let seen = seen_by (g.S.Source.model c.args.source.now) (g.S.Source.model c.args.source.now) (g.K.Sink.model c.args.sink) (g.K.Sink.model c.map_file.result.sink) c.map_file.result.answered.items c.map_file.result.order.items in
+    subst (λ (form : Option Form). RunEnds form (run_of seen (g.D.Device.model c.args.disk) (g.D.Device.model c.map_file.result.disk)) c.map_file.result.status) (sym (ap Some c.in-Some-Map.field-0-is) ∙ c.in-Some-Map.ensures.form)
+    (c.map_file.ensures.ends (g.S.Source.model c.args.source.now))

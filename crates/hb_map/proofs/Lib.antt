@@ -1,0 +1,9 @@
+pub mod Going
+pub mod Looks
+pub mod Readings
+pub mod Texts
+pub mod WholeMaps
+pub mod Namings
+pub mod Countings
+pub mod HeldCounts
+pub mod OneBox

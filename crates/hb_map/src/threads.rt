@@ -1,0 +1,9 @@
+//! The types of this crate may go to another thread, and be read by several.
+
+use crate::MapStop;
+use hb_lemmas::crosses;
+
+/// Each type of the crate does.
+fn types_cross_threads() {
+    crosses::<MapStop>();
+}

@@ -1,0 +1,55 @@
+//! The command `map`.
+ghost use Rattle.std.specs.Prelude.{◌≡◌, ◌≤◌};
+ghost use Rattle.hb_outside.specs.Calls.{SourceModel};
+ghost use Rattle.hb_restart.specs.Beyond.{KeepsBeyondFile};
+ghost use Rattle.hbpi.specs.Mapped.{MapEnds, map_status};
+ghost use Rattle.hbpi.specs.SeenRuns.{run_of, seen_by};
+
+use crate::dry::refused;
+use crate::faults::put_fault;
+use crate::finished::Finished;
+use crate::statuses::{Damage, Status};
+use hb_disk::Device;
+use hb_map::{MapStop, put_map};
+use hb_outside::Sink;
+use hb_restart::recover;
+use std::alloc::Global;
+
+/// The status of a run that put a map, or stopped in it.
+fn status_of(mapped: &Result<(), MapStop>) -> Status
+    ensures { result ≡ map_status mapped.now }
+{
+    match mapped {
+        Ok(()) => Status::Done,
+        Err(MapStop::SinkFault) => Status::SinkFault,
+        Err(MapStop::ReadFault) => Status::DiskFault,
+        Err(MapStop::Damaged { page, why }) => Status::Damaged(Damage::of_page(*page, why)),
+        Err(MapStop::NoMemory) => Status::NoMemory,
+    }
+}
+
+/// The command `map`: opens the file of the disk, which tests all its rules, and puts its map. Where that isn't whole, the fault line
+/// stands behind a front of it.
+pub(crate) fn map_file<K: Sink, D: Device>(alloc: Global, mut sink: K, disk: D) -> Finished<K, D>
+    ensures ends { (source : SourceModel) → MapEnds (run_of (seen_by source source (K.model sink) (K.model result.sink) result.answered.items result.order.items) (D.model disk) (D.model result.disk)) result.status }
+    ensures beyond { KeepsBeyondFile (D.model disk) (D.model result.disk) }
+    ensures sink_later { (K.model sink).faults ≤ (K.model result.sink).faults }
+    ensures reads_later { (D.model disk).read_faults ≤ (D.model result.disk).read_faults }
+    ensures writes_later { (D.model disk).write_faults ≤ (D.model result.disk).write_faults }
+{
+    match recover(alloc, disk) {
+        Ok((mut store, _records)) => {
+            let _ = store.meta();
+            let status = status_of(&put_map(alloc, &mut store, &mut sink));
+            put_fault(&mut sink, status);
+            Finished {
+                status,
+                sink,
+                disk: store.into_disk(),
+                answered: Vec::new(alloc),
+                order: Vec::new(alloc),
+            }
+        }
+        Err((fault, disk)) => refused(alloc, Status::from(fault), sink, disk),
+    }
+}
