@@ -20,6 +20,7 @@ pub mod DriveNames
 pub mod DriveGiven
 pub mod FileRefused
 pub mod Promises
+pub mod SaidWhole
 pub mod CheckPromises
 pub mod ReadFurther
 pub mod MappedRuns

@@ -3,7 +3,7 @@
 use crate::missed::Missed;
 use hb_disk::MemDisk;
 use hb_outside::{MemSink, MemSource};
-use hbpi::Form;
+use hbpi::{Finished, Form};
 use hbpi::top::run_without_threads;
 use std::alloc::{AllocError, Global};
 
@@ -47,15 +47,13 @@ pub(crate) fn zeros(alloc: Global, size: usize) -> Result<MemDisk, AllocError> {
     Ok(MemDisk::new(alloc, vec![in alloc; 0; size]?))
 }
 
-/// Runs the program over the disk, and compares: the status has to be this one, and the output.
-pub(crate) fn ends(
+/// Runs the program over the disk, for words that no threads work off.
+pub(crate) fn run_words(
     alloc: Global,
     words: &'static str,
     text: &str,
-    code: u8,
-    output: &str,
     disk: MemDisk,
-) -> Result<MemDisk, Missed> {
+) -> Result<Finished<MemSink, MemDisk>, Missed> {
     let mut list = Vec::new(alloc);
     for word in words.split_whitespace() {
         list.push(word.to_string(alloc)?)?;
@@ -66,7 +64,25 @@ pub(crate) fn ends(
     if Form::is_threaded(Form::of_words(list.as_slice())) {
         return Err(Missed::Threaded { call: words });
     }
-    let finished = run_without_threads(alloc, list.as_slice(), &mut source, sink, disk);
+    Ok(run_without_threads(
+        alloc,
+        list.as_slice(),
+        &mut source,
+        sink,
+        disk,
+    ))
+}
+
+/// Runs the program over the disk, and compares: the status has to be this one, and the output.
+pub(crate) fn ends(
+    alloc: Global,
+    words: &'static str,
+    text: &str,
+    code: u8,
+    output: &str,
+    disk: MemDisk,
+) -> Result<MemDisk, Missed> {
+    let finished = run_words(alloc, words, text, disk)?;
     let (got, wanted) = (finished.sink.bytes(), output.as_bytes());
     let status = finished.status.code();
     if status == code && got == wanted {

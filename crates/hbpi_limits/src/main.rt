@@ -13,6 +13,7 @@ mod calls;
 mod fields;
 mod found;
 mod free_pages;
+mod generated;
 mod heights;
 mod holes;
 mod indexes;
@@ -119,6 +120,11 @@ fn tell_texts(rt: &impl Print, alloc: Global) -> io::Result<()> {
         rt,
         "1000000 lines, and 500000 records in one reply",
         searches::many_lines(alloc),
+    )?;
+    tell(
+        rt,
+        "1000000 lines of the generator",
+        generated::longest_text(alloc),
     )?;
     tell(
         rt,

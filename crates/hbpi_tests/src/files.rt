@@ -138,7 +138,7 @@ fn drives_texts(rt: HostRuntime) {
 }
 
 /// The words and a text; the calls at which the source and the sink fail; and what the program says over a new file.
-const STREAMS: [(&str, &str, u64, u64, &str); 30] = [
+const STREAMS: [(&str, &str, u64, u64, &str); 31] = [
     (
         "drive",
         "1 insert 1 =a\n1 lookup 2\n1 delete 1\nstep 1x9\n",
@@ -263,8 +263,15 @@ const STREAMS: [(&str, &str, u64, u64, &str); 30] = [
     ("dry 1", "1 lookup 01\n", NEVER, 0, "3 "),
     ("dry 1", "1 lookup 01\n", 0, 0, "4 "),
     ("dry", "1 lookup 01\n", 0, 0, "2 "),
-    ("map", "1 lookup 01\n", 0, NEVER, "11 not built\n"),
-    ("map", "1 lookup 01\n", 0, 0, "11 "),
+    (
+        "map",
+        "1 lookup 01\n",
+        0,
+        NEVER,
+        "0 height 1 root 1 pages 1 free 63\npage 1 level 0 weight 1 parents 0\nrecords 0 0 18446744073709551615\n",
+    ),
+    ("tidy", "1 lookup 01\n", 0, NEVER, "11 not built\n"),
+    ("tidy", "1 lookup 01\n", 0, 0, "11 "),
 ];
 
 /// What a run says over a new file whose source and sink fail at these calls.

@@ -1,7 +1,7 @@
-//! What `map` says of a file where a call fails, or where a page is damaged. Whole maps stand with the files that are tidied.
+//! What `map` says of a file, where a call fails, and where a page is damaged.
 
 use crate::runs::{
-    Left, NEVER, expect_said, file_of, run_failing, run_on, run_over, said_of, sink_of, source_of,
+    Left, NEVER, SIZE, expect_said, file_of, run_failing, run_on, run_over, said_of, sink_of, source_of,
     words_of,
 };
 use crate::spoiled::{PAGE_1, put_at};
@@ -33,6 +33,27 @@ fn first_lines(alloc: Global, status: &str, count: usize) -> Option<String> {
 /// The whole map.
 fn whole(alloc: Global) -> Option<String> {
     first_lines(alloc, "0 ", LINES.len())
+}
+
+/// A page of which a hole is cut whose box two planes bound, in a file of three attributes: the page keeps what is below it and above.
+const CUT_TWICE: (&str, &str, &str) = (
+    "create 3 64 65536 6 32",
+    "1 insert 1 5 5 =\n1 insert 9 5 5 =\n1 insert 5 1 5 =\n1 insert 5 9 5 =\n1 insert 5 5 1 =\n1 insert 5 5 9 =\n1 insert 5 5 5 =\nstep 1x40\n",
+    "0 height 1 root 1 pages 2 free 62\npage 1 level 0 weight 3 parents 0\nrecords 1 0 4 0 18446744073709551615 0 18446744073709551615\nhole 2 5 8 0 18446744073709551615 0 18446744073709551615\nrecords 1 9 18446744073709551615 0 18446744073709551615 0 18446744073709551615\npage 2 level 0 weight 5 parents 0\nrecords 5 5 8 0 18446744073709551615 0 18446744073709551615\n",
+);
+
+/// The map of the file that the words make and the text fills.
+fn mapped(alloc: Global, create: &str, text: &str) -> Option<Left> {
+    let zeros = vec![in alloc; 0; SIZE].ok()?;
+    let made = run_on(alloc, create, "", zeros.as_slice())?;
+    let filled = run_on(alloc, "drive", text, made.disk.bytes())?;
+    run_on(alloc, "map", "", filled.disk.bytes())
+}
+
+#[test]
+fn a_page_has_leaves_on_both_sides_of_a_hole(rt: HostRuntime) {
+    let (create, text, want) = CUT_TWICE;
+    expect_said(&rt, mapped(rt.alloc(), create, text), want, "a map");
 }
 
 /// What `map` says where the sink fails at the put of this number.

@@ -116,7 +116,7 @@ const WORDS: [(&str, &str); 73] = [
     ("work", "2 usage\n"),
     ("check check", "2 usage\n"),
     ("check", "9 small 8192 0\n"),
-    ("map", "11 not built\n"),
+    ("map", "9 small 8192 0\n"),
     ("tidy", "11 not built\n"),
     ("create 0 0 0 0 0", "9 bad layout K 0\n"),
     ("create 5 64 65536 6 32", "9 bad layout K 5\n"),

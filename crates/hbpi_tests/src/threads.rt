@@ -260,7 +260,7 @@ struct Worked {
     dry: &'static str,
 }
 
-const WORKED: [Worked; 2] = [
+const WORKED: [Worked; 3] = [
     Worked {
         create: "create 3 256 65536 48 256",
         size: 1_187_840,
@@ -278,6 +278,15 @@ const WORKED: [Worked; 2] = [
         records: " records 769\n",
         gen_words: "gen 1 3000 1",
         dry: "dry 1",
+    },
+    Worked {
+        create: "create 3 4096 1048576 48 256",
+        size: 18_882_560,
+        work: "work 1 20000",
+        want: "0 ok 11928 duplicate 1 absent 2034 found 0 none 4043 box 1994 records 11928\n",
+        records: " records 11928\n",
+        gen_words: "gen 1 20000 3",
+        dry: "dry 3",
     },
 ];
 
