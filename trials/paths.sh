@@ -52,12 +52,13 @@ says "dry with a file" "order (0)" "$(call "$HBPI" f dry 1 </dev/null)"
 says "dry without one" "order (0)" "$(call "$HBPI" - dry 1 </dev/null)"
 says "dry of a file that isn't there" "disk fault (6)" "$(call "$HBPI" none dry 1 </dev/null)"
 hears "told" "hbpi: \"none\": can't be opened for reading and writing: No such file or directory (os error 2)/"
-for words in map tidy; do
-    says "$words with a file" "not built (11)" "$(call "$HBPI" f $words </dev/null)"
-    says "$words without one" "not built (11)" "$(call "$HBPI" - $words </dev/null)"
-    says "$words of a file that isn't there" "disk fault (6)" "$(call "$HBPI" none $words </dev/null)"
-done
 says "the file is as it was" "$before" "$(cksum <f)"
+says "map with a file" "height 1 root 1 pages 1 free 63/page 1 level 0 weight 2 parents 0/records 1 0 18446744073709551615 (0)" "$(call "$HBPI" f map </dev/null)"
+says "map without one" "small 8192 0 (9)" "$(call "$HBPI" - map </dev/null)"
+says "map of a file that isn't there" "disk fault (6)" "$(call "$HBPI" none map </dev/null)"
+says "tidy with a file" "tidy grown 0 posted 0 split 0 merged 0 (0)" "$(call "$HBPI" f tidy </dev/null)"
+says "tidy without one" "small 8192 0 (9)" "$(call "$HBPI" - tidy </dev/null)"
+says "tidy of a file that isn't there" "disk fault (6)" "$(call "$HBPI" none tidy </dev/null)"
 says "no word" "usage (2)" "$(call "$HBPI" </dev/null)"
 says "a name alone" "usage (2)" "$(call "$HBPI" f </dev/null)"
 bad_word=$(printf 'a\377')

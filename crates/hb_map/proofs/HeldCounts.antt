@@ -135,11 +135,10 @@ none_counts p (s ∷ rest) boxes none =
 pub none_holds : (p : List ℕ) (holes : List (ℕ × Area)) → AllByRecursion (λ (s : ℕ × Area). IsArea s.1) holes → count_by (λ (s : ℕ × Area). holds s.1 p) holes ≡ 0 → AllByRecursion (HoldsNot p) holes
 none_holds p [] boxes none = tt
 none_holds p (s ∷ rest) boxes none =
-    let whole = sum_by-cons (λ (s : ℕ × Area). cond (holds s.1 p) 1 0) s rest in
-    (
+    let whole = sum_by-cons (λ (s : ℕ × Area). cond (holds s.1 p) 1 0) s rest in (
       λ held.
-        let test = held_test s.1 p boxes.0 held in
-        let one : one_if (holds s.1 p) ≡ 1 = ap one_if test in
-        absurd (omega (arith, whole, none, one)),
+          let test = held_test s.1 p boxes.0 held in
+          let one : one_if (holds s.1 p) ≡ 1 = ap one_if test in
+          absurd (omega (arith, whole, none, one)),
       none_holds p rest boxes.1 (omega (arith, whole, none)),
     )

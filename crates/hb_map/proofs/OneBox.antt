@@ -98,11 +98,11 @@ module _ (boxes : PagesHaveBoxes) (s : FileState) (p : List ℕ) (sound : IsSoun
               elim (cases_eq (by_holes p (leaves_of page.frag page.area)) 0) [
                 | inr some_hole ↦ inl (omega (arith, sum, one, some_hole))
                 | inl no_hole ↦ inr (record {
-                    page = page;
-                    live = live;
-                    on = on;
-                    direct = record { inside = held_from_test page.area p box test; not_given = All-from_recursion (HoldsNot p) _ (none_holds p (siblings (leaves_of page.frag page.area)) (holes_are_boxes id page live) no_hole) };
-                  })
+                  page = page;
+                  live = live;
+                  on = on;
+                  direct = record { inside = held_from_test page.area p box test; not_given = All-from_recursion (HoldsNot p) _ (none_holds p (siblings (leaves_of page.frag page.area)) (holes_are_boxes id page live) no_hole) };
+                })
               ]
         ] refl
   ]

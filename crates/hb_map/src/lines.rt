@@ -1,6 +1,5 @@
 //! The lines of a map, each put to a sink from a buffer on the stack.
 ghost use Rattle.std.specs.Prelude.{◌≡◌, ◌+◌, ◌*◌, ◌<◌, ◌≤◌, ◌^◌, ◌++◌, length, decimal, flat_map};
-ghost use Rattle.hb_space.specs.declared.form.TheConstants.{KMAX};
 ghost use Rattle.hb_frag.specs.Leaves.{IsWellCut, leaves_of, weight_of};
 ghost use Rattle.hb_outside.specs.Calls.{Puts};
 ghost use Rattle.hb_map.specs.Map.{corners_text, head_text, leaf_text, page_head, page_text, placed_text};

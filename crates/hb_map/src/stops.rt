@@ -1,3 +1,4 @@
+//! Why a map isn't whole.
 ghost use Rattle.std.specs.Prelude.{◌≡◌, ◌≢◌};
 ghost use Rattle.hb_map.specs.Mapping.{map_stop_of};
 ghost use Rattle.hb_store.specs.declared.stops.FetchStop.TheVariants.{Crowded};

@@ -101,8 +101,7 @@ module _ (d m e : DiskModel) (old new : StoreHeld) (count : ℕ) (seen : Seen) (
       by_told None is = (head_text old.state.meta ++ facts.begins.0, record { first = (facts.begins.0, refl); whole = tt }, facts.begins.1)
       by_told (Some b) is =
           let found = at_value d.told _ b is facts.opens.file in
-          let meta : found.0.meta ≡ old.state.meta = at_value d.told _ b is facts.opens.meta found.0 found.1 in
-          (
+          let meta : found.0.meta ≡ old.state.meta = at_value d.told _ b is facts.opens.meta found.0 found.1 in (
             map_text found.0,
             record { first = (pages_text found.0.pages 1 found.0.pages, ap (λ (k : Meta). head_text k ++ pages_text found.0.pages 1 found.0.pages) meta); whole = (found.0, found.1, refl) },
             facts.map found.0 [] found.4 found.2,

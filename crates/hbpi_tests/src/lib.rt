@@ -22,6 +22,8 @@ mod grown_stops;
 #[cfg(test)]
 mod many_pages;
 #[cfg(test)]
+mod mapped;
+#[cfg(test)]
 mod maps;
 #[cfg(test)]
 mod merges;
