@@ -14,9 +14,10 @@ import colorsys
 import sys
 
 TOP = 2 ** 64 - 1
-# the sides of a panel and what is left around it, what stands above all of them, a column of the legend and a line in it, and the
-# width of a hole's rim
-SIDE, LEFT, ABOVE, BELOW, HEAD, COLUMN, LINE, RIM = 440, 40, 40, 40, 72, 285, 20, 6
+# the least and the greatest sides of a panel and how much of them a cut gets, and what is left around a panel
+LEAST, MOST, EACH, LEFT, ABOVE, BELOW = 440, 1600, 26, 40, 40, 40
+# what stands above all panels, a column of the legend and a line in it, and the width of a hole's rim
+HEAD, COLUMN, LINE, RIM = 72, 285, 20, 6
 KEY = (
     "Dark plate: the number of a page. Light plate: the number of a child. Bare number: how many records.",
     "Hatched: a hole of the page of that colour; within it stands the page that it names.",
@@ -57,23 +58,33 @@ def read_map(lines):
 
 # ---- where values stand
 
+def ends_of(pages, axis):
+    """Where leaves begin, and the end behind all values."""
+    return sorted({0, TOP + 1, *(leaf.low[axis] for page in pages.values() for leaf in page.leaves)})
+
+
 class Scale:
     """Where the values of an attribute stand. Half of the room goes to each step between cuts alike, half by its width."""
 
-    def __init__(self, pages, axis):
-        self.ends = sorted({0, TOP + 1, *(leaf.low[axis] for page in pages.values() for leaf in page.leaves)})
-        steps = [after - at for at, after in zip(self.ends, self.ends[1:])]
+    def __init__(self, ends, side):
+        self.ends, self.side = ends, side
+        steps = [after - at for at, after in zip(ends, ends[1:])]
         # the step up to the greatest value would leave no room to the others
-        widest = max(steps[:-1], default=1)
-        steps[-1] = min(steps[-1], widest)
-        shares = [0.5 / len(steps) + 0.5 * step / sum(steps) for step in steps]
+        steps[-1] = min(steps[-1], max(steps[:-1], default=1))
         self.places, at = {0: 0.0}, 0.0
-        for end, share in zip(self.ends[1:], shares):
-            at += share * SIDE
+        for end, step in zip(ends[1:], steps):
+            at += side * (0.5 / len(steps) + 0.5 * step / sum(steps))
             self.places[end] = at
 
     def place(self, end):
         return self.places[end]
+
+
+def scales_of(pages):
+    """The scales of both attributes: the more cuts, the longer."""
+    ends = [ends_of(pages, axis) for axis in (0, 1)]
+    side = min(MOST, max(LEAST, EACH * max(map(len, ends))))
+    return [Scale(its, side) for its in ends]
 
 
 Rect = collections.namedtuple("Rect", "left top right bottom")
@@ -86,7 +97,7 @@ def inner(rect, sides):
 def rectangle(scales, low, high):
     """Where a box stands."""
     (left, under), (right, over) = ([scale.place(end) for scale, end in zip(scales, ends)] for ends in (low, [value + 1 for value in high]))
-    return Rect(left, SIDE - over, right, SIDE - under)
+    return Rect(left, scales[1].side - over, right, scales[1].side - under)
 
 
 def shared(leaf, page, sides):
@@ -180,23 +191,22 @@ def axis_marks(scales):
     for axis, scale in enumerate(scales):
         last = -99
         for end in scale.ends:
-            at = scale.place(end)
-            word = "2⁶⁴" if end > TOP else str(end)
+            at, word = scale.place(end), "2⁶⁴" if end > TOP else str(end)
             room = 13 if axis else 7 * len(word) + 8
-            if at - last < room or (end <= TOP and SIDE - at < room):
+            if at - last < room or (end <= TOP and scale.side - at < room):
                 continue
             last = at
             if axis:
-                yield text(-8, SIDE - at + 4, word, 10, 'text-anchor="end" fill="#555"')
-                yield f'<path d="M-5 {SIDE - at:.1f}h5" stroke="#777"/>'
+                yield text(-8, scale.side - at + 4, word, 10, 'text-anchor="end" fill="#555"')
+                yield f'<path d="M-5 {scale.side - at:.1f}h5" stroke="#777"/>'
             else:
-                yield text(at, SIDE + 17, word, 10, 'text-anchor="middle" fill="#555"')
-                yield f'<path d="M{at:.1f} {SIDE}v5" stroke="#777"/>'
+                yield text(at, scale.side + 17, word, 10, 'text-anchor="middle" fill="#555"')
+                yield f'<path d="M{at:.1f} {scale.side}v5" stroke="#777"/>'
 
 
-def legend(of_level, root, x):
-    """A line for each page of a level, in columns."""
-    rows, holder = int(SIDE // LINE), {leaf.what: page.number for page in of_level for leaf in page.holes()}
+def legend(of_level, root, x, rows):
+    """A line for each page of a level, in columns of so many rows."""
+    holder = {leaf.what: page.number for page in of_level for leaf in page.holes()}
     for at, page in enumerate(of_level):
         left, top = x + at // rows * COLUMN, at % rows * LINE
         said = [f"weight {page.weight}", "root" if page.number == root else f"parents {page.parents}"]
@@ -215,22 +225,24 @@ def panel(pages, level, root, scales):
     marks = [text(0, -12, f"Level {level}: {'pages of records' if level == 0 else 'index pages'}", 14, 'font-weight="bold" fill="#222"')]
     marks += page_marks(pages, first, scales)
     marks += axis_marks(scales)
-    marks += legend(of_level, root, SIDE + 28)
-    return marks, -(-len(of_level) // int(SIDE // LINE))
+    side, rows = scales[0].side, scales[0].side // LINE
+    marks += legend(of_level, root, side + 28, rows)
+    return marks, -(-len(of_level) // rows)
 
 
 def picture(said, pages):
-    scales = [Scale(pages, axis) for axis in (0, 1)]
+    scales = scales_of(pages)
     panels = [panel(pages, level, said["root"], scales) for level in reversed(range(said["height"]))]
-    width = LEFT + SIDE + 28 + COLUMN * max(columns for _, columns in panels)
-    height = HEAD + len(panels) * (ABOVE + SIDE + BELOW)
+    width = LEFT + scales[0].side + 28 + COLUMN * max(columns for _, columns in panels)
+    step = ABOVE + scales[0].side + BELOW
+    height = HEAD + len(panels) * step
     yield f'<svg xmlns="http://www.w3.org/2000/svg" width="{width}" height="{height}" viewBox="0 0 {width} {height}">'
     yield f'<rect width="{width}" height="{height}" fill="#fff"/><defs>{"".join(hatching(pages))}</defs>'
     yield text(LEFT, 28, f"Height {said['height']}, {said['pages']} pages in use, {said['free']} free", 16, 'font-weight="bold" fill="#222"')
     for at, words in enumerate(KEY):
         yield text(LEFT, 49 + 17 * at, words, 12, 'fill="#444"')
     for at, (marks, _) in enumerate(panels):
-        yield f'<g transform="translate({LEFT} {HEAD + ABOVE + at * (ABOVE + SIDE + BELOW)})">'
+        yield f'<g transform="translate({LEFT} {HEAD + ABOVE + at * step})">'
         yield from marks
         yield "</g>"
     yield "</svg>"
