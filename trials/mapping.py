@@ -8,6 +8,7 @@ The first form prints the map of a file, whose log it replays; it writes nothing
 four attributes, by `work`, `run` and `drive`. Of each the map by its bytes has to be what `map` says, before an opening and behind one,
 `check` has to say the same numbers, and a search of the whole space the same records. Where the program has no `map` yet, it says so.
 """
+import collections
 import os
 import sys
 import tempfile
@@ -67,6 +68,21 @@ def rows(program, folder):
     return wrong
 
 
+def load(program, folder):
+    """Twenty thousand lines of eight sessions, which own their points: each reply comes as often as it does over a plain set."""
+    name, none = f"{folder}/load", "-"
+    call(program, name, "create", 3, 4096, 1048576, 48, 256)
+    said, status = call(program, name, "work", 1, 20000)
+    plain = collections.Counter(line.split(" ", 2)[1] for line in call(program, none, "dry", 3, text=call(program, none, "gen", 1, 20000, 3)[0])[0].splitlines() if line[0].isdigit())
+    counts = {reply: plain[reply] for reply in ("ok", "duplicate", "absent", "found", "none", "box")}
+    found, _, file = differences(program, name, 3)
+    wanted = " ".join(f"{reply} {times}" for reply, times in counts.items()) + f" records {len(file.records())}\n"
+    found += ["the line of work"] if (said, status) != (wanted, 0) or sum(counts.values()) != 20000 else []
+    os.remove(name)
+    print(f"{'BAD ' if found else 'ok  '} a load: {', '.join(found) or said.strip()}", flush=True)
+    return bool(found)
+
+
 def compare(program, folder, count, seed):
     """How many of so many random files differ, and what all of them have."""
     wrong, built, seen = 0, True, dict(files=0, pages=0, holes=0, heights={}, records=0)
@@ -101,7 +117,7 @@ def main():
     count, seed = (sys.argv[1:] + ["1"])[:2]
     program = os.path.realpath(os.environ["HBPI"])
     with tempfile.TemporaryDirectory(dir=MEMORY) as folder:
-        return bool(rows(program, folder) + compare(program, folder, int(count), seed))
+        return bool(rows(program, folder) + load(program, folder) + compare(program, folder, int(count), seed))
 
 
 if __name__ == "__main__":
