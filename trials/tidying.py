@@ -22,7 +22,7 @@ import tempfile
 HERE = os.path.dirname(os.path.abspath(__file__))
 sys.path.insert(0, os.path.join(HERE, "maps"))
 from grown import call, contents, grow, layout, read, seeded
-from mapped import Bad, check_text, file_of, is_settled, map_text, mergeable
+from mapped import Bad, check_text, file_of, is_settled, map_text, mergeable, wants_page
 from mapping import MEMORY, NOT_BUILT, lines_of
 
 FULL = 10
@@ -64,8 +64,8 @@ def tidy(program, name, k):
     after, told = file_of(read(name)), TOLD.fullmatch(said)
     found = kept(program, name, k, records)
     if status == FULL and said == "full\n":
-        is_owed = not is_settled(after) and after.meta["live"] == after.meta["pages"]
-        return found + ([] if is_owed else ["full, though nothing is owed or a page is free"]), told, status
+        is_full = wants_page(after) and after.meta["live"] == after.meta["pages"]
+        return found + ([] if is_full else ["full, though no page is wanted or one is free"]), told, status
     if status or not told:
         return found + [f"{said!r} ({status})"], told, status
     found += untidy(after) + difference(told, before, after)

@@ -10,7 +10,7 @@ sys.path.insert(0, os.path.join(os.path.dirname(HERE), "opening"))
 from opening import Answer, audited, behind_log, without_super
 from reading import Bad, newest, page_at, page_of, PAGE
 from replaying import change
-from model import leaves, meets, weight
+from model import common, leaves, meets, post_plan, weight
 
 HIGHEST = 12
 
@@ -85,16 +85,22 @@ def check_text(file):
 # ---- settled, and nothing to merge
 
 def owed(file):
-    """The postings that are owed: a page, a child of it, and the sibling of that, for which the page has no leaf where it should."""
+    """The postings that are owed: a page, a child of it, and a point at which that has a sibling leaf."""
     for number in file.live:
         for child, area in file.leaves(number, "child"):
-            for sibling, there in file.leaves(child, "sibling"):
+            for _, there in file.leaves(child, "sibling"):
                 if meets(area, there):
-                    yield number, child, sibling
+                    yield number, child, common(area, there)[0]
 
 
 def owes_growth(file):
     return file.meta["height"] < HIGHEST and bool(file.leaves(file.meta["root"], "sibling"))
+
+
+def wants_page(file):
+    """Whether a growth is owed, or a posting for which a page has to be split first."""
+    plans = (post_plan(file.pages[parent], file.pages[child], point, file.meta["icap"])[0] for parent, child, point in owed(file))
+    return owes_growth(file) or "split" in plans
 
 
 def is_settled(file):
