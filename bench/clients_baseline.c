@@ -1,6 +1,6 @@
-/* The text of bench/clients over another store: clients_baseline sqlite|lmdb|postgres PLACE CLIENTS
+/* The text of bench/clients over another store: clients_baseline sqlite|lmdb|postgres PLACE CLIENTS [ATTRIBUTES]
 
-   Reads commands over two attributes from the standard input, in the form of `hbpi FILE drive`; step lines are passed over. Each
+   Reads commands over so many attributes (2) from the standard input, in the form of `hbpi FILE drive`; step lines are passed over. Each
    session's commands go, in their order, through a client of its own: a thread with a connection, which it has before the clock
    begins. Each command is a transaction, and each change is on the disk before the client's next command. Standard output gets the
    seconds from the first command to the last answer, by the clock and of the process, and then the replies by line, a search's
@@ -20,7 +20,7 @@
 #include <string.h>
 #include <time.h>
 
-enum { CLIENTS = 16 };
+enum { CLIENTS = 16, ATTRIBUTES = 4, SQL = 500 };
 enum verb { INSERT, DELETE, LOOKUP, SEARCH, VERBS };
 static const char *names[VERBS] = {"insert", "delete", "lookup", "search"};
 
@@ -28,7 +28,7 @@ static const char *names[VERBS] = {"insert", "delete", "lookup", "search"};
 struct command {
     int number, session;
     enum verb verb;
-    long long values[4];
+    long long values[2 * ATTRIBUTES];
     char body[40];
     char reply[64];
 };
@@ -43,7 +43,7 @@ struct store {
 static const char *place;
 static struct command *commands;
 static long count;
-static int clients;
+static int clients, attributes = 2;
 static pthread_barrier_t barrier;
 
 static void must(int holds, const char *what, const char *why) {
@@ -55,6 +55,38 @@ static void must(int holds, const char *what, const char *why) {
 static void reply(struct command *command, int done) {
     static const char *otherwise[VERBS] = {"duplicate", "absent", "none", ""};
     strcpy(command->reply, done ? "ok" : otherwise[command->verb]);
+}
+
+/* Adds a form for each attribute, with words between: # is its number, < and > are those of the ends of a box in it. */
+static void add_each(char *sql, const char *form, const char *between) {
+    for (int at = 1; at <= attributes; at++) {
+        if (at > 1) strcat(sql, between);
+        for (const char *sign = form; *sign; sign++) {
+            int number = *sign == '#' ? at : *sign == '<' ? 2 * at - 1 : *sign == '>' ? 2 * at : 0;
+            sprintf(sql + strlen(sql), number ? "%d" : "%c", number ? number : *sign);
+        }
+    }
+}
+
+static char *create_sql(char *sql, const char *type, const char *end) {
+    char form[40];
+    snprintf(form, sizeof form, "v# %s", type);
+    strcpy(sql, "CREATE TABLE record (");
+    add_each(sql, form, ", ");
+    strcat(sql, ", body TEXT, PRIMARY KEY (");
+    add_each(sql, "v#", ", ");
+    return strcat(strcat(sql, "))"), end);
+}
+
+/* The statement of a verb, whose parameters have this sign in front. */
+static char *verb_sql(char *sql, enum verb verb, char sign) {
+    static const char *begins[VERBS] = {"INSERT INTO record VALUES (", "DELETE FROM record WHERE ", "SELECT body FROM record WHERE ", "SELECT * FROM record WHERE "};
+    char form[40];
+    snprintf(form, sizeof form, verb == INSERT ? "%c#" : verb == SEARCH ? "v# BETWEEN %c< AND %c>" : "v# = %c#", sign, sign);
+    strcpy(sql, begins[verb]);
+    add_each(sql, form, verb == INSERT ? ", " : " AND ");
+    if (verb == INSERT) sprintf(sql + strlen(sql), ", %c%d) ON CONFLICT DO NOTHING", sign, attributes + 1);
+    return sql;
 }
 
 /* SQLite. */
@@ -77,27 +109,26 @@ static sqlite3 *sqlite_open(void) {
 
 static void sqlite_prepare(void) {
     sqlite3 *file = sqlite_open();
-    sqlite_run(file, "CREATE TABLE record (x INTEGER, y INTEGER, body TEXT, PRIMARY KEY (x, y)) WITHOUT ROWID");
+    char sql[SQL];
+    sqlite_run(file, create_sql(sql, "INTEGER", " WITHOUT ROWID"));
     sqlite3_close(file);
 }
 
 static void *sqlite_connect(void) {
-    static const char *texts[VERBS] = {
-        "INSERT OR IGNORE INTO record VALUES (?1, ?2, ?3)", "DELETE FROM record WHERE x = ?1 AND y = ?2",
-        "SELECT body FROM record WHERE x = ?1 AND y = ?2", "SELECT x, y, body FROM record WHERE x BETWEEN ?1 AND ?2 AND y BETWEEN ?3 AND ?4"};
+    char sql[SQL];
     struct sqlite *made = calloc(1, sizeof *made);
     made->file = sqlite_open();
     for (int verb = 0; verb < VERBS; verb++)
-        must(sqlite3_prepare_v3(made->file, texts[verb], -1, SQLITE_PREPARE_PERSISTENT, &made->of[verb], 0) == SQLITE_OK, texts[verb], "");
+        must(sqlite3_prepare_v3(made->file, verb_sql(sql, verb, '?'), -1, SQLITE_PREPARE_PERSISTENT, &made->of[verb], 0) == SQLITE_OK, sql, "");
     return made;
 }
 
 static void sqlite_act(void *client, struct command *command) {
     struct sqlite *it = client;
     sqlite3_stmt *statement = it->of[command->verb];
-    int values = command->verb == SEARCH ? 4 : 2, changes = command->verb <= DELETE, step, found = 0;
+    int values = command->verb == SEARCH ? 2 * attributes : attributes, changes = command->verb <= DELETE, step, found = 0;
     for (int at = 0; at < values; at++) sqlite3_bind_int64(statement, at + 1, command->values[at]);
-    if (command->verb == INSERT) sqlite3_bind_text(statement, 3, command->body, -1, SQLITE_STATIC);
+    if (command->verb == INSERT) sqlite3_bind_text(statement, attributes + 1, command->body, -1, SQLITE_STATIC);
     if (changes) pthread_mutex_lock(&writing);
     while ((step = sqlite3_step(statement)) == SQLITE_ROW) {
         found++;
@@ -111,7 +142,7 @@ static void sqlite_act(void *client, struct command *command) {
     if (command->verb == LOOKUP && !found) reply(command, 0);
 }
 
-/* LMDB: a key is the two values, highest byte first. */
+/* LMDB: a key is the values, highest byte first. */
 
 static MDB_env *env;
 static MDB_dbi dbi;
@@ -130,10 +161,10 @@ static void lmdb_prepare(void) {
 
 static void *lmdb_connect(void) { return env; }
 
-static MDB_val lmdb_key(uint64_t room[2], long long x, long long y) {
-    room[0] = __builtin_bswap64((uint64_t)x);
-    room[1] = __builtin_bswap64((uint64_t)y);
-    return (MDB_val){16, room};
+/* The key of every value, or of every second one. */
+static MDB_val lmdb_key(uint64_t room[ATTRIBUTES], const long long *values, int each) {
+    for (int at = 0; at < attributes; at++) room[at] = __builtin_bswap64((uint64_t)values[each * at]);
+    return (MDB_val){8 * attributes, room};
 }
 
 static void lmdb_change(struct command *command, MDB_val key) {
@@ -149,17 +180,21 @@ static void lmdb_change(struct command *command, MDB_val key) {
 
 /* Goes over the keys from the box's least first value to its greatest, and counts those in the box. */
 static int lmdb_count(MDB_txn *txn, const long long *box) {
-    uint64_t room[2];
+    uint64_t room[ATTRIBUTES];
     MDB_cursor *cursor;
-    MDB_val key = lmdb_key(room, box[0], box[2]), body;
+    MDB_val key = lmdb_key(room, box, 2), body;
     int found = 0;
     lmdb_must(mdb_cursor_open(txn, dbi, &cursor), "cursor");
     for (int code = mdb_cursor_get(cursor, &key, &body, MDB_SET_RANGE); code == 0; code = mdb_cursor_get(cursor, &key, &body, MDB_NEXT)) {
-        uint64_t at[2];
-        memcpy(at, key.mv_data, 16);
-        long long x = (long long)__builtin_bswap64(at[0]), y = (long long)__builtin_bswap64(at[1]);
-        if (x > box[1]) break;
-        found += y >= box[2] && y <= box[3];
+        uint64_t bytes[ATTRIBUTES];
+        int inside = 1;
+        memcpy(bytes, key.mv_data, 8 * attributes);
+        if ((long long)__builtin_bswap64(bytes[0]) > box[1]) break;
+        for (int at = 1; at < attributes; at++) {
+            long long value = (long long)__builtin_bswap64(bytes[at]);
+            inside &= value >= box[2 * at] && value <= box[2 * at + 1];
+        }
+        found += inside;
     }
     mdb_cursor_close(cursor);
     return found;
@@ -167,8 +202,8 @@ static int lmdb_count(MDB_txn *txn, const long long *box) {
 
 static void lmdb_act(void *client, struct command *command) {
     (void)client;
-    uint64_t room[2];
-    MDB_val key = lmdb_key(room, command->values[0], command->values[1]), body;
+    uint64_t room[ATTRIBUTES];
+    MDB_val key = lmdb_key(room, command->values, 1), body;
     if (command->verb <= DELETE) {
         lmdb_change(command, key);
         return;
@@ -201,33 +236,32 @@ static void postgres_prepare(void) {
     PGconn *to = postgres_open();
     postgres_run(to, "SET client_min_messages = warning");
     postgres_run(to, "DROP TABLE IF EXISTS record");
-    postgres_run(to, "CREATE TABLE record (x bigint, y bigint, body text, PRIMARY KEY (x, y))");
+    char sql[SQL];
+    postgres_run(to, create_sql(sql, "bigint", ""));
     postgres_run(to, "CHECKPOINT");
     PQfinish(to);
 }
 
 static void *postgres_connect(void) {
-    static const char *texts[VERBS] = {
-        "INSERT INTO record VALUES ($1, $2, $3) ON CONFLICT DO NOTHING", "DELETE FROM record WHERE x = $1 AND y = $2",
-        "SELECT body FROM record WHERE x = $1 AND y = $2", "SELECT x, y, body FROM record WHERE x BETWEEN $1 AND $2 AND y BETWEEN $3 AND $4"};
+    char sql[SQL];
     PGconn *made = postgres_open();
     for (int verb = 0; verb < VERBS; verb++) {
-        PGresult *result = PQprepare(made, names[verb], texts[verb], 0, NULL);
-        must(PQresultStatus(result) == PGRES_COMMAND_OK, texts[verb], PQerrorMessage(made));
+        PGresult *result = PQprepare(made, names[verb], verb_sql(sql, verb, '$'), 0, NULL);
+        must(PQresultStatus(result) == PGRES_COMMAND_OK, sql, PQerrorMessage(made));
         PQclear(result);
     }
     return made;
 }
 
 static void postgres_act(void *client, struct command *command) {
-    char rooms[4][24];
-    const char *values[4];
-    int numbers = command->verb == SEARCH ? 4 : 2;
+    char rooms[2 * ATTRIBUTES][24];
+    const char *values[2 * ATTRIBUTES];
+    int numbers = command->verb == SEARCH ? 2 * attributes : attributes;
     for (int at = 0; at < numbers; at++) {
         snprintf(rooms[at], sizeof rooms[at], "%lld", command->values[at]);
         values[at] = rooms[at];
     }
-    if (command->verb == INSERT) values[2] = command->body;
+    if (command->verb == INSERT) values[attributes] = command->body;
     PGresult *result = PQexecPrepared(client, names[command->verb], numbers + (command->verb == INSERT), values, NULL, NULL, 0);
     must(PQresultStatus(result) == (command->verb <= DELETE ? PGRES_COMMAND_OK : PGRES_TUPLES_OK), names[command->verb], PQerrorMessage(client));
     if (command->verb <= DELETE) reply(command, atoi(PQcmdTuples(result)) > 0);
@@ -245,18 +279,21 @@ static const struct store postgres_store = {postgres_prepare, postgres_connect, 
 static const struct store *store;
 
 static void read_text(void) {
-    char line[300], verb[16];
+    char line[300], verb[16], *at;
     long room = 0;
+    int words;
     for (int number = 1; fgets(line, sizeof line, stdin); number++) {
         if (!isdigit(line[0])) continue;
         if (count == room) commands = realloc(commands, (room = 2 * room + 1024) * sizeof *commands);
         struct command *it = &commands[count++];
         memset(it, 0, sizeof *it);
         it->number = number;
-        must(sscanf(line, "%d %15s %lld %lld", &it->session, verb, &it->values[0], &it->values[1]) == 4, "line", line);
+        must(sscanf(line, "%d %15s%n", &it->session, verb, &words) == 2, "line", line);
         while (strcmp(verb, names[it->verb])) must(++it->verb < VERBS, "verb", line);
-        if (it->verb == INSERT) must(sscanf(strchr(line, '='), "=%39s", it->body) == 1, "body", line);
-        if (it->verb == SEARCH) must(sscanf(line, "%*d %*s %*d %*d %lld %lld", &it->values[2], &it->values[3]) == 2, "box", line);
+        at = line + words;
+        for (int value = 0; value < attributes * (it->verb == SEARCH ? 2 : 1); value++) it->values[value] = strtoll(at, &at, 10);
+        if (it->verb == INSERT) must(sscanf(at, " =%39s", it->body) == 1, "body", line);
+        else must(*at == '\n', "values", line);
     }
 }
 
@@ -277,11 +314,13 @@ static double now(clockid_t clock) {
 
 int main(int argc, char **argv) {
     pthread_t threads[CLIENTS];
-    must(argc == 4, "words", "sqlite|lmdb|postgres PLACE CLIENTS");
+    must(argc == 4 || argc == 5, "words", "sqlite|lmdb|postgres PLACE CLIENTS [ATTRIBUTES]");
     store = argv[1][0] == 's' ? &sqlite_store : argv[1][0] == 'l' ? &lmdb_store : &postgres_store;
     place = argv[2];
     clients = atoi(argv[3]);
+    if (argc == 5) attributes = atoi(argv[4]);
     must(clients >= 1 && clients <= CLIENTS, "clients", argv[3]);
+    must(attributes >= 1 && attributes <= ATTRIBUTES, "attributes", argv[4]);
     read_text();
     store->prepare();
     pthread_barrier_init(&barrier, NULL, clients + 1);

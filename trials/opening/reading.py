@@ -3,7 +3,7 @@
 Pages and boxes are those of trials/pages/model.py. A path is a text of L and R. A meta is a dictionary
 of the superblock's fields. An operation is one of ("put", page, (point, body)), ("del", page, point),
 ("extract", source, fresh, after, path, cuts) with cuts of (axis, value, side),
-("post", parent, path, inner, box) and ("grow", fresh, after).
+("post", parent, path, inner, box), ("merge", parent, keep, gone) and ("grow", fresh, after).
 """
 import os
 import struct
@@ -167,6 +167,8 @@ def operation(reader, k):
         if any(l > h for l, h in zip(lo, hi)):
             raise Bad("box")
         return ("post", parent, path, inner, (lo, hi))
+    if tag == 5:
+        return ("merge", reader.number(4), reader.number(4), reader.number(4))
     if tag == 6:
         return ("grow", reader.number(4), reader.number(4))
     raise Bad("tag of an operation")

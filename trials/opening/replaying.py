@@ -3,7 +3,7 @@
 An operation gives the meta and the pages that it sets, or raises `Bad` where it isn't allowed.
 """
 from reading import Bad, groups
-from model import carve, cuts, leaf_at, meets, normal, own_rule, sides, way_to, weight, whole, with_part
+from model import carve, cuts, leaf_at, meets, merge_plan, names, normal, own_rule, renamed, sides, way_to, weight, whole, with_first, with_part
 
 
 def read(number, meta, pages):
@@ -106,6 +106,24 @@ def post(meta, pages, parent, path, inner, box):
     return meta, {parent: page[:2] + (tree,)}
 
 
+def capacity(meta, level):
+    return meta["dcap"] if level == 0 else meta["icap"]
+
+
+def merge(meta, pages, parent, keep, gone):
+    above, first, second = (read(number, meta, pages) for number in (parent, keep, gone))
+    if len({parent, keep, gone}) < 3 or meta["live"] < 1 or not above[0] == first[0] + 1 == second[0] + 1:
+        raise Bad("no such pair")
+    if not names(above[2], keep) or not names(above[2], gone):
+        raise Bad("parent doesn't name them")
+    plan = merge_plan(above, first, gone, second, capacity(meta, first[0]))
+    if plan != "merge":
+        raise Bad(plan)
+    tree = normal(with_first(first[2], ("sibling", gone), second[2]))
+    said = dict(meta, free=gone, live=meta["live"] - 1)
+    return said, {parent: above[:2] + (normal(renamed(above[2], gone, keep)),), keep: first[:2] + (tree,), gone: ("free", meta["free"])}
+
+
 def grow(meta, pages, fresh, after):
     said = allocated(meta, fresh, after)
     if meta["height"] >= 12:
@@ -114,7 +132,7 @@ def grow(meta, pages, fresh, after):
     return dict(said, root=fresh, height=meta["height"] + 1), {fresh: root}
 
 
-KINDS = {"put": put, "del": delete, "extract": extract, "post": post, "grow": grow}
+KINDS = {"put": put, "del": delete, "extract": extract, "post": post, "merge": merge, "grow": grow}
 
 
 def change(op, meta, pages):

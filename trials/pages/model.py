@@ -268,6 +268,49 @@ def post_plan(parent, child, p, icap):
     return ("split",)
 
 
+def names(tree, number):
+    """Whether a child leaf names the page."""
+    if tree[0] == "cut":
+        return names(tree[3], number) or names(tree[4], number)
+    return tree == ("child", number)
+
+
+def directly(page, area):
+    """Whether the page has the area, and gave no part of it to a sibling."""
+    _, box, tree = page
+    return within(area, box) and not any(leaf[0] == "sibling" and meets(there, area) for leaf, there in leaves(tree, box))
+
+
+def merge_plan(parent, keep, number, gone, capacity):
+    """What becomes of a pair whose second page has this number."""
+    if ("sibling", number) not in [leaf for leaf, _ in leaves(keep[2], keep[1])]:
+        return "not contained"
+    if not directly(parent, gone[1]):
+        return "many parents"
+    if 4 * (weight(keep[2]) - 1 + weight(gone[2])) > 3 * capacity:
+        return "too heavy"
+    return "merge"
+
+
+def with_first(tree, leaf, part):
+    """The tree with a part in the place of the first such leaf from the left, or None where it has none."""
+    if tree[0] != "cut":
+        return part if tree == leaf else None
+    kind, axis, value, left, right = tree
+    changed = with_first(left, leaf, part)
+    if changed is not None:
+        return (kind, axis, value, changed, right)
+    changed = with_first(right, leaf, part)
+    return None if changed is None else (kind, axis, value, left, changed)
+
+
+def renamed(tree, old, new):
+    """The tree whose child leaves to a page name another one."""
+    if tree[0] == "cut":
+        return tree[:3] + (renamed(tree[3], old, new), renamed(tree[4], old, new))
+    return ("child", new) if tree == ("child", old) else tree
+
+
 # ---- bytes
 
 def tree_fields(tree):

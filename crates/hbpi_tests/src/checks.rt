@@ -4,6 +4,7 @@ use crate::runs::{
     CREATE, Left, NEVER, SIZE, expect_said, file_of, left_of, run_failing, run_on, run_over,
 };
 use crate::spoiled::{GROWTH, LOGGED, NEW, PAGE_1, UNORDERED, put_at};
+use crate::taller::SEVEN;
 use hb_disk::{Disk, MemDisk};
 use std::alloc::Global;
 
@@ -19,7 +20,7 @@ const POSTED: &[&str] = &[
 
 /// A file by these texts, an offset with the bytes that are put there, and what `check` says. The offsets are those of
 /// `spoiled`.
-const ROWS: [(&[&str], usize, &[u8], &str); 13] = [
+const ROWS: [(&[&str], usize, &[u8], &str); 14] = [
     (NEW, 0, b"", "0 sound height 1 pages 1 records 0\n"),
     (SPLIT, 0, b"", "0 sound height 1 pages 2 records 7\n"),
     (POSTED, 0, b"", "0 sound height 2 pages 3 records 8\n"),
@@ -44,6 +45,8 @@ const ROWS: [(&[&str], usize, &[u8], &str); 13] = [
     (NEW, 0, b"\0", "7 no super\n"),
     (NEW, PAGE_1 + 4095, b"\x01", "7 damaged 1 S0\n"),
     (NEW, PAGE_1, &UNORDERED, "7 damaged 1 S6\n"),
+    // page 2 ends a value below the sibling leaf that names it
+    (&[SEVEN, ""], 143_379, b"\x26", "7 damaged 1 S7\n"),
     (LOGGED, 73_729, b"\0\0\0\0", "7 bad group 0\n"),
     (LOGGED, 77_870, b"\xA5\0\0\0\0", "7 bad group 2\n"),
 ];
