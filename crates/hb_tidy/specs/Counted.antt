@@ -1,0 +1,20 @@
+-- What the calls of this crate make of the counts of a core.
+use Rattle.std.specs.Prelude.{◌≡◌, ◌↔◌, ℕ, ◌+◌, ◌<◌, ◌-◌, ◌^◌, ◌≤◌, Result, MatchResult}
+use Rattle.hb_core.specs.Counting.{CountsWithin}
+use Rattle.hb_core.specs.Showing.{RunningCore}
+use Rattle.hb_tidy.specs.declared.stops.TidyStop.{TidyStop}
+use Rattle.hb_tidy.specs.declared.stops.TidyStop.TheVariants as stops
+
+-- No count falls. The file's height rises by the growths that were counted.
+pub record CountsRise (old new : RunningCore) : Type 0 where
+  pub taken : old.taken ≤ new.taken
+  pub grown : old.done.grown ≤ new.done.grown
+  pub posted : old.done.posted ≤ new.done.posted
+  pub split : old.done.split ≤ new.done.split
+  pub merged : old.done.merged ≤ new.done.merged
+  pub within : CountsWithin new
+  pub height : new.store.meta.height + old.done.grown ≡ old.store.meta.height + new.done.grown
+
+-- A call ends as spent exactly where the count of steps has come to its last value.
+abbrev pub EndsSpent : {T : Type 0} → Result T TidyStop → RunningCore → Type 0
+EndsSpent result c = MatchResult result (λ v. c.taken < 2 ^ 64 - 1) (λ stop. (stop ≡ stops.Spent) ↔ (c.taken ≡ 2 ^ 64 - 1))
