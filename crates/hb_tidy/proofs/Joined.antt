@@ -102,15 +102,13 @@ pub err_weaker : {T : Type 0} (P Q : TidyStop → Type 0) (r : Result T TidyStop
 err_weaker P Q (Ok v) imp err = tt
 err_weaker P Q (Err stop) imp err = imp stop err
 
-pub does_then : {T U : Type 0} (v : T) (r : Result U TidyStop) (d e f : DiskModel) (m : Machine) (mid c : RunningCore) (one : Does (Ok v) d m e mid) → Does r e one.run.new f c → Does r d m f c
-does_then v r d e f m mid c one two = record {
-  run = tidied_then d e f m mid c one.run two.run;
-  err = ends;
-}
-  where
-    ends : IfErr r (λ stop. StopsTidying stop d f c (tidied_then d e f m mid c one.run two.run).new)
-    unfolding tidied_then
-    ends = err_weaker (λ stop. StopsTidying stop e f c two.run.new) (λ stop. StopsTidying stop d f c two.run.new) r (stops_then d e f m mid c two.run.new one.run) two.err
+module _ {T U : Type 0} (v : T) (r : Result U TidyStop) (d e f : DiskModel) (m : Machine) (mid c : RunningCore) (one : Does (Ok v) d m e mid) (two : Does r e one.run.new f c) where
+  ends_then : IfErr r (λ stop. StopsTidying stop d f c (tidied_then d e f m mid c one.run two.run).new)
+  unfolding tidied_then
+  ends_then = err_weaker (λ stop. StopsTidying stop e f c two.run.new) (λ stop. StopsTidying stop d f c two.run.new) r (stops_then d e f m mid c two.run.new one.run) two.err
+
+  pub does_then : Does r d m f c
+  does_then = record { run = tidied_then d e f m mid c one.run two.run; err = ends_then }
 
 -- ---- what becomes of counts
 
@@ -182,16 +180,16 @@ module _ {T U : Type 0} (v : T) (says : T → FileState → Type 0) (r : Result 
   then_seen : IfOk r (λ w. IfSome (file_now m) (more w))
   then_seen = subst (λ (o : Option FileState). IfOk r (λ w. IfSome o (more w))) one.same.file two.ok
 
+  stay : FileStays m (does_then v r d e f m mid c one.does two.does).run.new
+  unfolding does_then, tidied_then
+  stay = same_stays m one.does.run.new two.does.run.new one.same two.same
+
   pub looks_then : Looks r final d m f c
   looks_then = record {
     does = does_then v r d e f m mid c one.does two.does;
     same = stay;
     ok = ok_weaker (file_now m) (λ s. knows s × says v s) more final r (λ s w both after. imp s w both.0 both.1 after) both_known then_seen;
   }
-    where
-      stay : FileStays m (does_then v r d e f m mid c one.does two.does).run.new
-      unfolding does_then, tidied_then
-      stay = same_stays m one.does.run.new two.does.run.new one.same two.same
 
 pub over_then : {T U : Type 0} (knows : FileState → Type 0) (v : T) (says : T → FileState → Type 0) (then_knows : FileState → Type 0) (r : Result U TidyStop) (more final : U → FileState → Type 0) (d e f : DiskModel) (old mid new : RunningCore)
     → LooksOver knows (Ok v) says d old e mid → ((s : FileState) → knows s → says v s → then_knows s) → LooksOver then_knows r more e mid f new → ((s : FileState) (w : U) → knows s → says v s → more w s → final w s)

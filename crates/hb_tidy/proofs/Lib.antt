@@ -1,6 +1,11 @@
 pub mod Listings
 pub mod PlacedLeaves
+pub mod JobLists
 pub mod Workers
 pub mod OneCall
 pub mod Joined
 pub mod CountsOfCalls
+pub mod CallsMade
+pub mod LooksMade
+pub mod KnownFiles
+pub mod CleanPages

@@ -2,23 +2,21 @@
 use Rattle.std.proofs.Common.{◌≡◌, ◌⊎◌, inl, inr, ℕ, zero, suc, ◌+◌, ◌<◌, ◌≤◌, List, [], ◌∷◌, ◌++◌, length, map, Any, All, Some, IsSome, refl, sym, ap, ◌∙◌, subst, arith}
 use Rattle.std.specs.List.{Contains}
 use Rattle.std.proofs.lemmas.List.Elements.{All-contains, Contains-append_right}
-use Rattle.hb_lemmas.proofs.Lists.{first_member, later_member, member_cases, no_member}
+use Rattle.hb_lemmas.proofs.Lists.{each_member, first_member, later_member, member_cases, no_member}
 use Rattle.hb_space.specs.Boxes.{Area, IsArea, Holds, Within}
 use Rattle.hb_space.proofs.Facts.Boxes.{Holds-within}
 use Rattle.hb_frag.specs.declared.leaves.Leaf.{Leaf}
 use Rattle.hb_frag.specs.declared.leaves.Leaf.TheVariants.{Records, Child, Sibling}
 use Rattle.hb_frag.specs.declared.pages.LivePage.{LivePage}
-use Rattle.hb_frag.specs.Leaves.{Placed, leaves, leaves_of, WellCut}
+use Rattle.hb_frag.specs.Leaves.{Placed, leaves, leaves_of, siblings, siblings_of}
 use Rattle.hb_frag.specs.Rules.{BelongsAt}
 use Rattle.hb_frag.proofs.Facts.Tiles.{first_tells, leaves_placed, tiles_areas, tiles_attributes, tiles_within}
 use Rattle.hb_layout.specs.declared.meta.Meta.{Meta}
+use Rattle.hb_ops.proofs.Facts.PlacedLaws.{placed, placed_is_leaf, sibling_is_leaf}
 use Rattle.hb_ops.specs.Owing.{NamesChildAt}
 use Rattle.hb_ops.specs.Settled.{HasChild}
 use Rattle.hb_ops.specs.Sound.{FitsFile}
 use Rattle.hb_tidy.specs.Placing.{StandsBelow, children, placed_children}
-
-abbrev pub placed : Leaf → Area → Placed
-placed leaf area = record { leaf = leaf; area = area }
 
 -- ---- the list of child leaves
 
@@ -28,42 +26,34 @@ first_listed (Records records) a rest name area has = inr has
 first_listed (Sibling page) a rest name area has = inr has
 first_listed (Child page) a rest name area has = by (member_cases (page, a) (children rest) (name, area) has)
   where
-    by : ((page, a) ≡ (name, area)) ⊎ Contains (children rest) (name, area) → (placed (Child page) a ≡ placed (Child name) area) ⊎ Contains (children rest) (name, area)
+    by : (◌≡◌ {A = ℕ × Area} (page, a) (name, area)) ⊎ Contains (children rest) (name, area) → (placed (Child page) a ≡ placed (Child name) area) ⊎ Contains (children rest) (name, area)
     by (inl here) = inl (ap (λ (x : ℕ × Area). placed (Child x.0) x.1) here)
     by (inr later) = inr later
 
 pub listed_child : (ls : List Placed) (name : ℕ) (area : Area) → Contains (children ls) (name, area) → Contains ls (placed (Child name) area)
 listed_child [] name area has = absurd (no_member (name, area) has)
-listed_child (x ∷ rest) name area has = by (first_listed x.leaf x.area rest name area has)
+listed_child (x ∷ rest) name area has = by (first_listed x.leaf x.area rest name area has) (listed_child rest name area)
   where
-    by : (x ≡ placed (Child name) area) ⊎ Contains (children rest) (name, area) → Contains (x ∷ rest) (placed (Child name) area)
-    by (inl here) = subst (λ (y : Placed). Contains (x ∷ rest) y) here (first_member x rest)
-    by (inr later) = later_member x rest (placed (Child name) area) (listed_child rest name area later)
+    by : (x ≡ placed (Child name) area) ⊎ Contains (children rest) (name, area) → (Contains (children rest) (name, area) → Contains rest (placed (Child name) area)) → Contains (x ∷ rest) (placed (Child name) area)
+    by (inl here) in_rest = subst (λ (y : Placed). Contains (x ∷ rest) y) here (first_member x rest)
+    by (inr later) in_rest = later_member x rest (placed (Child name) area) (in_rest later)
 
 pub child_listed : (ls : List Placed) (name : ℕ) (area : Area) → Contains ls (placed (Child name) area) → Contains (children ls) (name, area)
 child_listed [] name area has = absurd (no_member (placed (Child name) area) has)
-child_listed (x ∷ rest) name area has = by (member_cases x rest (placed (Child name) area) has)
+child_listed (x ∷ rest) name area has = by (member_cases x rest (placed (Child name) area) has) (child_listed rest name area)
   where
-    by : (x ≡ placed (Child name) area) ⊎ Contains rest (placed (Child name) area) → Contains (children (x ∷ rest)) (name, area)
-    by (inl here) = subst (λ (y : Placed). Contains (children (y ∷ rest)) (name, area)) (sym here) (first_member (name, area) (children rest))
-    by (inr later) = Contains-append_right _ (children rest) (name, area) (child_listed rest name area later)
+    by : (x ≡ placed (Child name) area) ⊎ Contains rest (placed (Child name) area) → (Contains rest (placed (Child name) area) → Contains (children rest) (name, area)) → Contains (children (x ∷ rest)) (name, area)
+    by (inl here) in_rest = subst (λ (y : Placed). Contains (children (y ∷ rest)) (name, area)) (sym here) (first_member (name, area) (children rest))
+    by (inr later) in_rest = Contains-append_right _ (children rest) (name, area) (in_rest later)
 
 -- a leaf without its box is one with some box
 with_box : (ls : List Placed) (name : ℕ) → Contains (map (λ (l : Placed). l.leaf) ls) (Child name) → (area : Area) × Contains ls (placed (Child name) area)
 with_box [] name has = absurd (no_member (Child name) has)
-with_box (x ∷ rest) name has = by (member_cases x.leaf (map (λ (l : Placed). l.leaf) rest) (Child name) has)
+with_box (x ∷ rest) name has = by (member_cases x.leaf (map (λ (l : Placed). l.leaf) rest) (Child name) has) (with_box rest name)
   where
-    by : (x.leaf ≡ Child name) ⊎ Contains (map (λ (l : Placed). l.leaf) rest) (Child name) → (area : Area) × Contains (x ∷ rest) (placed (Child name) area)
-    by (inl here) = (x.area, subst (λ (leaf : Leaf). Contains (x ∷ rest) (placed leaf x.area)) here (first_member x rest))
-    by (inr later) = let found = with_box rest name later in (found.0, later_member x rest (placed (Child name) found.0) found.1)
-
-without_box : (ls : List Placed) (name : ℕ) (area : Area) → Contains ls (placed (Child name) area) → Contains (map (λ (l : Placed). l.leaf) ls) (Child name)
-without_box [] name area has = absurd (no_member (placed (Child name) area) has)
-without_box (x ∷ rest) name area has = by (member_cases x rest (placed (Child name) area) has)
-  where
-    by : (x ≡ placed (Child name) area) ⊎ Contains rest (placed (Child name) area) → Contains (map (λ (l : Placed). l.leaf) (x ∷ rest)) (Child name)
-    by (inl here) = subst (λ (leaf : Leaf). Contains (map (λ (l : Placed). l.leaf) (x ∷ rest)) leaf) (ap (λ (l : Placed). l.leaf) here) (first_member x.leaf (map (λ (l : Placed). l.leaf) rest))
-    by (inr later) = later_member x.leaf (map (λ (l : Placed). l.leaf) rest) (Child name) (without_box rest name area later)
+    by : (x.leaf ≡ Child name) ⊎ Contains (map (λ (l : Placed). l.leaf) rest) (Child name) → (Contains (map (λ (l : Placed). l.leaf) rest) (Child name) → (area : Area) × Contains rest (placed (Child name) area)) → (area : Area) × Contains (x ∷ rest) (placed (Child name) area)
+    by (inl here) in_rest = (x.area, subst (λ (leaf : Leaf). Contains (x ∷ rest) (placed leaf x.area)) here (first_member x rest))
+    by (inr later) in_rest = let found = in_rest later in (found.0, later_member x rest (placed (Child name) found.0) found.1)
 
 -- so a page that is named is named over some box
 pub named_over : (page : LivePage) (name : ℕ) → Contains (leaves page.frag) (Child name) → (area : Area) × Contains (placed_children page) (name, area)
@@ -72,7 +62,7 @@ named_over page name has =
     (found.0, child_listed (leaves_of page.frag page.area) name found.0 found.1)
 
 pub names_child : (page : LivePage) (name : ℕ) (area : Area) → HasChild page name area → Contains (leaves page.frag) (Child name)
-names_child page name area has = subst (λ (ls : List Leaf). Contains ls (Child name)) (leaves_placed page.frag page.area) (without_box (leaves_of page.frag page.area) name area has)
+names_child page name area has = placed_is_leaf page.frag page.area (placed (Child name) area) has
 
 -- ---- a child leaf of a page that is well made
 
@@ -108,3 +98,14 @@ module _ (meta : Meta) (parent : LivePage) (name : ℕ) (area : Area) (child : L
     leaf = area;
     at_point = (first_tells parent.frag parent.area p (placed (Child name) area) stands.above_area stands.above_made.well_cut).1 (stands.leaf, held);
   }
+
+-- ---- sibling leaves
+
+siblings_attributes : (ls : List Placed) (k : ℕ) → All (λ (l : Placed). length l.area.lo ≡ k) ls → All (λ (s : ℕ × Area). length s.1.lo ≡ k) (siblings ls)
+siblings_attributes ls k all = each_member (λ (s : ℕ × Area). length s.1.lo ≡ k) (siblings ls) (λ s has. All-contains (λ (l : Placed). length l.area.lo ≡ k) ls (placed (Sibling s.0) s.1) all (sibling_is_leaf ls s.0 s.1 has))
+
+-- the boxes that a page gave away have the file's number of attributes
+pub given_attributes : (meta : Meta) (page : LivePage) → FitsFile meta page → All (λ (s : ℕ × Area). length s.1.lo ≡ meta.k) (siblings_of page)
+given_attributes meta page made =
+    subst (λ (k : ℕ). All (λ (s : ℕ × Area). length s.1.lo ≡ k) (siblings_of page)) made.fits.attributes
+    (siblings_attributes (leaves_of page.frag page.area) (length page.area.lo) (tiles_attributes page.frag page.area))

@@ -6,7 +6,7 @@ use Rattle.hb_frag.specs.declared.pages.LivePage.{LivePage}
 use Rattle.hb_frag.specs.Leaves.{siblings_of}
 use Rattle.hb_ops.specs.Files.{FileState, live_page}
 use Rattle.hb_ops.specs.Owing.{LacksRoom}
-use Rattle.hb_ops.specs.Settled.{HasChild, IsMergeable, IsSettled}
+use Rattle.hb_ops.specs.Settled.{HasChild, HasLoneRoot, IsMergeable, IsSettled}
 
 -- a file with nothing left to tidy: it is settled, and no three of its pages may be merged
 pub record IsTidy (s : FileState) : Type 0 where
@@ -23,6 +23,10 @@ pub record IsTidyAt (s : FileState) (id : ℕ) : Type 0 where
   pub posted : (name : ℕ) (page named : LivePage) (area : Area) → live_page s id ≡ Some page → HasChild page name area → live_page s name ≡ Some named →
       All (λ sibling. ¬ (Meets area sibling.1)) (siblings_of named)
   pub none : (keep gone : ℕ) → ¬ (IsMergeable s id keep gone)
+
+-- The root has no sibling leaf, or the file grows no more.
+abbrev pub HasGrown : FileState → Type 0
+HasGrown s = (s.meta.height ≡ HEIGHT_MAX) ⊎ HasLoneRoot s
 
 -- A growth is owed: the root has a sibling leaf, and the file may grow. Or a posting is for which the parent has no room.
 pub record OwesGrowth (s : FileState) : Type 0 where

@@ -56,11 +56,32 @@ pub(crate) fn owe_postings(
     ensures full { IfErr result (IsNotOwed meta.now parent.now child.now) }
 {
     for leaf in given {
-        if let Some(common) = area.common(&leaf.1) {
-            owe_posting(alloc, meta, parent, child, area, common.lo(), jobs)?;
-        }
+        owe_given(alloc, meta, parent, child, area, &leaf.1, jobs)?;
     }
     Ok(())
+}
+
+/// Adds a job for the posting of a page to which the child gave this box, where it is owed at the leaf.
+fn owe_given(
+    alloc: Global,
+    meta: &Meta,
+    parent: &LivePage,
+    child: &LivePage,
+    area: &Area,
+    given: &Area,
+    jobs: &mut Vec<Job>,
+) -> Result<(), TidyStop>
+    requires stands { (name : ℕ) × StandsBelow meta.now parent.now name area.now child.now }
+    requires attributes { length area.now.lo ≡ length given.now.lo }
+    requires fit { All (JobFits meta.now.k) jobs.old.items }
+    ensures fit { All (JobFits meta.now.k) jobs.new.items }
+    ensures none { OnOk result (jobs.new.items ≡ [] → (jobs.old.items ≡ []) × (¬ (Meets area.now given.now))) }
+    ensures full { IfErr result (IsNotOwed meta.now parent.now child.now) }
+{
+    match area.common(given) {
+        Some(common) => owe_posting(alloc, meta, parent, child, area, common.lo(), jobs),
+        None => Ok(()),
+    }
 }
 
 /// Adds a job for the posting that is owed at the point.

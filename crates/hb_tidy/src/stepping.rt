@@ -3,12 +3,11 @@ ghost use Rattle.std.specs.Prelude.{◌≡◌, ◌⊎◌, ◌+◌, ◌<◌, OnOk
 ghost use Rattle.hb_core.specs.CoreSeen.{core_seen, core_disk};
 ghost use Rattle.hb_tidy.specs.Going.{Goes, MayTidy};
 ghost use Rattle.hb_tidy.specs.Looking.{LooksOver, NothingOf};
-ghost use Rattle.hb_tidy.specs.Stepping.{EndsStep};
+ghost use Rattle.hb_tidy.specs.Stepping.{EndsCall, EndsStep, stop_by};
 
 use crate::TidyStop;
 use hb_activity::JobKind;
-use hb_core::between_laws::{all_is_kept_between_steps, operations_are_counted};
-use hb_core::outcome_laws::no_page_is_damaged;
+use hb_core::between_laws::operations_are_counted;
 use hb_core::run_laws::runs_go_on;
 use hb_core::{Core, DropWhy, Outcome};
 use hb_disk::Device;
@@ -57,28 +56,47 @@ fn step<D: Device>(core: &mut Core<D>, worker: Actor) -> Result<(), TidyStop>
 {
     runs_go_on();
     operations_are_counted();
-    no_page_is_damaged();
     let outcome = core.step(worker);
-    if core.taken() == u64::MAX {
-        return Err(TidyStop::Spent);
-    }
-    end_of(outcome)
+    went_on(core)?;
+    end_of(&outcome)
 }
 
-/// Why a step ends the tidying: the core is stopped, or a job was dropped.
-fn end_of(outcome: Outcome) -> Result<(), TidyStop>
-    ensures { EndsStep outcome result }
+/// Why a step ends the tidying though the core isn't stopped: a worker's job was dropped.
+fn end_of(outcome: &Outcome) -> Result<(), TidyStop>
+    ensures { EndsStep outcome.now result }
 {
     match outcome {
-        Outcome::Stopped(StopWhy::WriteFault) => Err(TidyStop::WriteFault),
-        Outcome::Stopped(StopWhy::Damaged { page, why }) => Err(TidyStop::Damaged { page, why }),
         Outcome::Dropped(DropWhy::NoMemory) => Err(TidyStop::NoMemory),
         Outcome::Dropped(DropWhy::ReadFault) => Err(TidyStop::ReadFault),
-        Outcome::Idle
+        Outcome::Stopped(_)
+        | Outcome::Idle
         | Outcome::Blocked { .. }
         | Outcome::Helped
         | Outcome::Answered { .. }
         | Outcome::Moved => Ok(()),
+    }
+}
+
+/// Whether steps are left and the core isn't stopped, behind a step.
+fn went_on<D: Device>(core: &Core<D>) -> Result<(), TidyStop>
+    ensures { EndsCall (core_seen core.now) result }
+{
+    if core.taken() == u64::MAX {
+        return Err(TidyStop::Spent);
+    }
+    match core.stop() {
+        None => Ok(()),
+        Some(why) => Err(stop_by(why)),
+    }
+}
+
+/// Why a tidying ends where the core is stopped.
+fn stop_by(why: StopWhy) -> TidyStop
+    ensures { result ≡ stop_by why }
+{
+    match why {
+        StopWhy::WriteFault => TidyStop::WriteFault,
+        StopWhy::Damaged { page, why } => TidyStop::Damaged { page, why },
     }
 }
 
@@ -91,12 +109,6 @@ pub(crate) fn flush<D: Device>(core: &mut Core<D>) -> Result<(), TidyStop>
 {
     runs_go_on();
     operations_are_counted();
-    let flushed = core.help();
-    if core.taken() == u64::MAX {
-        return Err(TidyStop::Spent);
-    }
-    match flushed {
-        Ok(_flushed) => Ok(()),
-        Err(_fault) => Err(TidyStop::WriteFault),
-    }
+    let _flushed = core.help();
+    went_on(core)
 }
