@@ -1,5 +1,5 @@
 -- A step of a worker, a flush, a look and a job that waits, as the calls of this crate have them.
-use Rattle.std.proofs.Common.{◌≡◌, ◌≢◌, ◌⊎◌, inl, inr, ℕ, ◌+◌, ◌-◌, ◌^◌, ◌≤◌, ◌<◌, List, [], ◌∷◌, Option, Some, None, IfSome, IsSome, Result, Ok, Err, OnOk, refl, sym, ap, ◌∙◌, subst, arith}
+use Rattle.std.proofs.Common.{◌≡◌, ◌≢◌, ◌⊎◌, ◌↔◌, inl, inr, ℕ, ◌+◌, ◌-◌, ◌^◌, ◌≤◌, ◌<◌, List, [], ◌∷◌, Option, Some, None, IfSome, IsSome, Result, Ok, Err, OnOk, refl, sym, ap, ◌∙◌, subst, arith}
 use Rattle.std.specs.Result.{IfErr, IfOk, IsErrOf}
 use Rattle.std.proofs.Math.Nat.{eq-or-lt_of_le}
 use Rattle.hb_disk.proofs.Facts.RunLaws.{OnlyReads-none, OnlyReads-read}
@@ -9,6 +9,7 @@ use Rattle.hb_frag.specs.declared.pages.Page.{Page}
 use Rattle.hb_lemmas.proofs.Options.{at_value, not_none, of_value}
 use Rattle.hb_activity.specs.declared.dropping.DropWhy.TheVariants as drops
 use Rattle.hb_activity.specs.declared.jobs.Job.{Job}
+use Rattle.hb_layout.specs.Limits.{IsLayout}
 use Rattle.hb_ops.specs.Files.{FileState, page_of}
 use Rattle.hb_outside.specs.Streams.{Rose}
 use Rattle.hb_store.specs.States.{IsGoodPage, StoreState}
@@ -37,7 +38,7 @@ use Rattle.hb_core.specs.declared.outcomes.Outcome.{Outcome}
 use Rattle.hb_core.specs.declared.outcomes.Outcome.TheVariants as outcomes
 use Rattle.hb_tidy.proofs.CountsOfCalls.{flush_rises, same_rises, stay_rises, step_rises}
 use Rattle.hb_tidy.proofs.Joined.{may_then}
-use Rattle.hb_tidy.proofs.OneCall.{StandsStill, run_tidied, step_runs, step_taken, still_itself, still_looking, still_tidied, still_waiting}
+use Rattle.hb_tidy.proofs.OneCall.{StandsStill, run_tidied, step_runs, step_taken, still_itself, still_tidied, still_tidied_new, still_waiting}
 use Rattle.hb_tidy.proofs.Workers.{IsWorker, flusher_leaves, is_actor}
 use Rattle.hb_tidy.specs.declared.stops.TidyStop.{TidyStop}
 use Rattle.hb_tidy.specs.declared.stops.TidyStop.TheVariants as stops
@@ -51,7 +52,11 @@ use Rattle.hb_tidy.specs.Tidying.{HasTidied, StopsTidying, file_now}
 
 -- no machine that it shows is stopped
 pub runs_all : (d : DiskModel) (c : RunningCore) (m : Machine) → MayTidy d c → MayStep d c m → m.stop ≡ None
-runs_all d c m may shows = shows.shows.stop ∙ sym may.runs.1.0.shows.stop ∙ may.runs.1.1
+runs_all d c m may shows = shows.shows.stop ∙ sym may.runs.1.shows.stop ∙ may.runs.2
+
+-- what the file says of itself is within its limits
+pub layout_of : (d : DiskModel) (c : RunningCore) → MayTidy d c → IsLayout c.store.meta
+layout_of d c may = subst (λ (st : StoreState). IsLayout st.meta) may.runs.1.shows.store may.runs.1.goes_on.kept.meta_within_limits.layout
 
 never_both : (stop : Option StopWhy) → stop ≡ None → stop ≡ Some whys.WriteFault → ⊥
 never_both stop none fault = let never : None ≡ Some whys.WriteFault = sym none ∙ fault in cc
@@ -63,7 +68,7 @@ not_last : (taken : ℕ) → taken < 2 ^ 64 - 1 → taken ≡ 2 ^ 64 - 1 → ⊥
 not_last taken less is = omega (arith, less, is)
 
 -- an error that isn't want of steps, where some are left
-pub other_stop : {T : Type 0} (stop : TidyStop) (c : RunningCore) → c.taken < 2 ^ 64 - 1 → (stop ≡ stops.Spent → ⊥) → EndsSpent {T = T} (Err stop) c
+pub other_stop : (stop : TidyStop) (c : RunningCore) → c.taken < 2 ^ 64 - 1 → (stop ≡ stops.Spent → ⊥) → (stop ≡ stops.Spent) ↔ (c.taken ≡ 2 ^ 64 - 1)
 other_stop stop c left other = (λ is. absurd (other is), λ is. absurd (not_last c.taken left is))
 
 never_spent : (stop : TidyStop) (why : StopWhy) → stop ≡ stop_by why → stop ≡ stops.Spent → ⊥
@@ -80,9 +85,9 @@ pub record Stepped (d : DiskModel) (old : RunningCore) (actor : ℕ) (outcome : 
   pub steps : (m : Machine) → MayStep d old m → (next : Machine) × StepsTo m actor outcome next × ShowsMachine e new next
   pub touches : Touches d old outcome e new
 
-module _ (laws : RunningLaws) (d : DiskModel) (old : RunningCore) (actor : ℕ) (outcome : Outcome) (e : DiskModel) (new : RunningCore) (took : Stepped d old actor outcome e new) (may : MayTidy d old) where
+module _ (d : DiskModel) (old : RunningCore) (actor : ℕ) (outcome : Outcome) (e : DiskModel) (new : RunningCore) (took : Stepped d old actor outcome e new) (may : MayTidy d old) where
   pub tidied : (m : Machine) → MayStep d old m → HasTidied d m e new
-  tidied m shows = run_tidied laws d e m actor _ new (step_runs laws d e m actor outcome old new took.disk took.disk_next took.worker shows took.steps took.touches) shows.goes_on.kept took.worker
+  tidied m shows = run_tidied may.laws.runs d e m actor _ new (step_runs may.laws.runs d e m actor outcome old new took.disk took.disk_next took.worker shows took.steps took.touches) shows.goes_on.kept took.worker
 
   -- nothing but a failed write stops it over a disk that tells
   never_damaged : (m : Machine) → MayStep d old m → (page : ℕ) (why : Why) → new.stop ≡ Some (whys.Damaged page why) → IsSome d.told → ⊥
@@ -134,8 +139,8 @@ module _ (laws : RunningLaws) (d : DiskModel) (old : RunningCore) (actor : ℕ) 
         where
           by : (r : Result (Unit {0}) TidyStop) → EndsCall new r → OnOk r (MayTidy e new)
           by (Ok v) is =
-              let t = tidied may.runs.0 may.runs.1.0 in
-              record { runs = (t.new, may_then d e may.runs.0 new t, t.shows.stop ∙ is.1); counts = rise.within; left = left_by is.0 }
+              let t = tidied may.runs.0 may.runs.1 in
+              record { laws = may.laws; runs = (t.new, may_then d e may.runs.0 new t, t.shows.stop ∙ is.1); counts = rise.within; left = left_by is.0 }
           by (Err stop) is = tt
 
 -- a step of a worker that dropped its job ends the call, though the core may go on
@@ -148,70 +153,72 @@ read_rose d old outcome e new (inr (inr (inr turn))) ends = absurd (turn.no_read
 pub ended_goes : (d : DiskModel) (old : RunningCore) (outcome : Outcome) (e : DiskModel) (new : RunningCore) (v : Unit {0}) (result : Result (Unit {0}) TidyStop) → Touches d old outcome e new → EndsStep outcome result → Goes (Ok v) d old e new → Goes result d old e new
 ended_goes d old outcome e new v result touches ends one = by outcome touches ends
   where
-    fails : (stop : TidyStop) → (stop ≡ stops.Spent → ⊥) → ((c : RunningCore) (m : Machine) → StopsTidying stop d e c m) → Goes (Err stop) d old e new
+    fails : (stop : TidyStop) → (stop ≡ stops.Spent → ⊥) → ((c : RunningCore) (m : Machine) → StopsTidying stop d e c m) → Goes {T = Unit {0}} (Err stop) d old e new
     fails stop other why = record {
       does = λ m may. let first = one.does m may in record { run = first.run; err = why new first.run.new };
       counts = one.counts;
       spent = other_stop stop new one.spent other;
     }
 
-    as : (r : Result (Unit {0}) TidyStop) → result ≡ r → Goes r d old e new → Goes result d old e new
-    as r is goes = subst (λ (x : Result (Unit {0}) TidyStop). Goes x d old e new) (sym is) goes
+    so : (r : Result (Unit {0}) TidyStop) → result ≡ r → Goes r d old e new → Goes result d old e new
+    so r is goes = subst (λ (x : Result (Unit {0}) TidyStop). Goes x d old e new) (sym is) goes
 
     by : (o : Outcome) → Touches d old o e new → EndsStep o result → Goes result d old e new
-    by (outcomes.Dropped drops.NoMemory) touched is = as (Err stops.NoMemory) is (fails stops.NoMemory (λ same. cc) (λ c m. tt))
-    by (outcomes.Dropped drops.ReadFault) touched is = as (Err stops.ReadFault) is (fails stops.ReadFault (λ same. cc) (λ c m. read_rose d old (outcomes.Dropped drops.ReadFault) e new touched refl))
-    by (outcomes.Stopped why) touched is = as (Ok (tt {0})) is one
-    by outcomes.Idle touched is = as (Ok (tt {0})) is one
-    by (outcomes.Blocked other) touched is = as (Ok (tt {0})) is one
-    by outcomes.Helped touched is = as (Ok (tt {0})) is one
-    by (outcomes.Answered line reply) touched is = as (Ok (tt {0})) is one
-    by outcomes.Moved touched is = as (Ok (tt {0})) is one
+    by (outcomes.Dropped drops.NoMemory) touched is = so (Err stops.NoMemory) is (fails stops.NoMemory (λ same. cc) (λ c m. tt))
+    by (outcomes.Dropped drops.ReadFault) touched is = so (Err stops.ReadFault) is (fails stops.ReadFault (λ same. cc) (λ c m. read_rose d old (outcomes.Dropped drops.ReadFault) e new touched refl))
+    by (outcomes.Stopped why) touched is = so (Ok (tt {0})) is one
+    by outcomes.Idle touched is = so (Ok (tt {0})) is one
+    by (outcomes.Blocked other) touched is = so (Ok (tt {0})) is one
+    by outcomes.Helped touched is = so (Ok (tt {0})) is one
+    by (outcomes.Answered line reply) touched is = so (Ok (tt {0})) is one
+    by outcomes.Moved touched is = so (Ok (tt {0})) is one
 
 -- ---- a flush
 
-module _ (laws : RunningLaws) (d : DiskModel) (old : RunningCore) (outcome : Outcome) (e : DiskModel) (new : RunningCore) (took : Stepped d old 19 outcome e new) where
+module _ (d : DiskModel) (old : RunningCore) (outcome : Outcome) (e : DiskModel) (new : RunningCore) (took : Stepped d old 19 outcome e new) (may : MayTidy d old) where
   -- it leaves the file
-  pub flush_stays : (m : Machine) (shows : MayStep d old m) → FileStays m (tidied laws d old 19 outcome e new took m shows).new
+  pub flush_stays : (m : Machine) (shows : MayStep d old m) → FileStays m (tidied d old 19 outcome e new took may m shows).new
   unfolding tidied
   flush_stays m shows =
-      let run = step_runs laws d e m 19 outcome old new took.disk took.disk_next took.worker shows took.steps took.touches in
-      let step = step_taken laws d e m 19 _ new run shows.goes_on.kept took.worker in
-      flusher_leaves m step.0 (run_tidied laws d e m 19 _ new run shows.goes_on.kept took.worker).new shows.goes_on.kept step.1
+      let run = step_runs may.laws.runs d e m 19 outcome old new took.disk took.disk_next took.worker shows took.steps took.touches in
+      let step = step_taken may.laws.runs d e m 19 _ new run shows.goes_on.kept took.worker in
+      flusher_leaves m step.0 (run_tidied may.laws.runs d e m 19 _ new run shows.goes_on.kept took.worker).new shows.goes_on.kept step.1
 
 nothing_said : {T : Type 0} (o : Option FileState) (r : Result T TidyStop) → IfOk r (λ v. IfSome o NothingOf)
 nothing_said None (Ok v) = tt
 nothing_said (Some s) (Ok v) = tt
 nothing_said o (Err stop) = tt
 
-pub flush_looks : (laws : RunningLaws) (d : DiskModel) (old : RunningCore) (outcome : Outcome) (e : DiskModel) (new : RunningCore) (took : Stepped d old 19 outcome e new) (may : MayTidy d old) (result : Result (Unit {0}) TidyStop) (went : EndsCall new result) (rise : CountsRise old new) → new.store.meta ≡ old.store.meta
+pub flush_looks : (d : DiskModel) (old : RunningCore) (outcome : Outcome) (e : DiskModel) (new : RunningCore) (took : Stepped d old 19 outcome e new) (may : MayTidy d old) (result : Result (Unit {0}) TidyStop) (went : EndsCall new result) (rise : CountsRise old new) → new.store.meta ≡ old.store.meta
     → LooksOver NothingOf result (λ v. NothingOf) d old e new
-flush_looks laws d old outcome e new took may result went rise meta = record {
+flush_looks d old outcome e new took may result went rise meta = record {
   looks = λ m shows known.
-      let t = tidied laws d old 19 outcome e new took m shows in
+      let t = tidied d old 19 outcome e new took may m shows in
       record {
-        does = record { run = t; err = cause laws d old 19 outcome e new took may result went m shows t };
-        same = flush_stays laws d old outcome e new took m shows;
+        does = record { run = t; err = cause d old 19 outcome e new took may result went m shows t };
+        same = flush_stays d old outcome e new took may m shows;
         ok = nothing_said (file_now m) result;
       };
   counts = rise;
-  spent = spent laws d old 19 outcome e new took may result went rise;
+  spent = spent d old 19 outcome e new took may result went rise;
   meta = meta;
 }
 
 -- ---- a call that only reads
 
-module _ (laws : RunningLaws) (d : DiskModel) (c : RunningCore) (disk : IsDisk d) (may : MayTidy d c) where
+module _ (d : DiskModel) (c : RunningCore) (disk : IsDisk d) (may : MayTidy d c) where
   nothing_done : (m : Machine) → MayStep d c m → HasTidied d m d c
-  nothing_done m shows = still_tidied laws d d m m c c disk shows shows (OnlyReads-none d) (still_itself m)
+  nothing_done m shows = still_tidied may.laws.runs d d m m c c disk shows shows (OnlyReads-none d) (still_itself m)
+
+  nothing_new : (m : Machine) (shows : MayStep d c m) → (nothing_done m shows).new ≡ m
+  unfolding nothing_done
+  nothing_new m shows = still_tidied_new may.laws.runs d d m m c c disk shows shows (OnlyReads-none d) (still_itself m)
 
   nothing_stays : (m : Machine) (shows : MayStep d c m) → FileStays m (nothing_done m shows).new
-  unfolding nothing_done, still_tidied
-  nothing_stays m shows = record { file = refl; meta = refl }
+  nothing_stays m shows = subst (λ (x : Machine). FileStays m x) (sym (nothing_new m shows)) (record { file = refl; meta = refl })
 
   nothing_ends : (stop : TidyStop) (m : Machine) (shows : MayStep d c m) → StopsTidying stop d d c m → StopsTidying stop d d c (nothing_done m shows).new
-  unfolding nothing_done, still_tidied
-  nothing_ends stop m shows why = why
+  nothing_ends stop m shows why = subst (λ (x : Machine). StopsTidying stop d d c x) (sym (nothing_new m shows)) why
 
   if_known : (o : Option FileState) (P Q : FileState → Type 0) → ((s : FileState) → P s → Q s) → IfSome o P → IfSome o Q
   if_known None P Q imp k = tt
@@ -245,17 +252,18 @@ module _ (laws : RunningLaws) (d : DiskModel) (c : RunningCore) (disk : IsDisk d
   }
 
 -- a job waits
-module _ (laws : RunningLaws) (waiting : WaitingKeepsAll) (d : DiskModel) (old new : RunningCore) (job : Job) (disk : IsDisk d) (may : MayTidy d old) (fits : JobFits old.store.meta.k job)
+module _ (d : DiskModel) (old new : RunningCore) (job : Job) (disk : IsDisk d) (may : MayTidy d old) (fits : JobFits old.store.meta.k job)
     (goes_on : (m : Machine) → MayStep d old m → (next : Machine) × LetsWait job m next × MayStep d new next) where
   still : (m : Machine) (shows : MayStep d old m) → StandsStill m (goes_on m shows).0
-  still m shows = still_waiting waiting m job (goes_on m shows).0 (subst (λ (st : StoreState). JobFits st.meta.k job) (sym shows.shows.store) fits) (goes_on m shows).1
+  still m shows = still_waiting may.laws.waiting m job (goes_on m shows).0 (subst (λ (st : StoreState). JobFits st.meta.k job) (sym shows.shows.store) fits) (goes_on m shows).1
 
   waited : (m : Machine) → MayStep d old m → HasTidied d m d new
-  waited m shows = still_tidied laws d d m (goes_on m shows).0 old new disk shows (goes_on m shows).2 (OnlyReads-none d) (still m shows)
+  waited m shows = still_tidied may.laws.runs d d m (goes_on m shows).0 old new disk shows (goes_on m shows).2 (OnlyReads-none d) (still m shows)
 
   stays_waiting : (m : Machine) (shows : MayStep d old m) → FileStays m (waited m shows).new
-  unfolding waited, still_tidied
-  stays_waiting m shows = (still m shows).same
+  unfolding waited
+  stays_waiting m shows =
+      subst (λ (x : Machine). FileStays m x) (sym (still_tidied_new may.laws.runs d d m (goes_on m shows).0 old new disk shows (goes_on m shows).2 (OnlyReads-none d) (still m shows))) (still m shows).same
 
   pub wait_looks : CountsRise old new → new.taken ≡ old.taken → new.store.meta ≡ old.store.meta → LooksOver {T = Unit {0}} NothingOf (Ok (tt {0})) (λ v. NothingOf) d old d new
   wait_looks rise taken meta = record {
@@ -268,9 +276,10 @@ module _ (laws : RunningLaws) (waiting : WaitingKeepsAll) (d : DiskModel) (old n
   pub wait_may : CountsRise old new → new.taken ≡ old.taken → MayTidy d new
   wait_may rise taken =
       let m = may.runs.0 in
-      let next = goes_on m may.runs.1.0 in
+      let next = goes_on m may.runs.1 in
       record {
-        runs = (next.0, next.2, ap (λ (x : Machine). x.stop) next.1.rest ∙ may.runs.1.1);
+        laws = may.laws;
+        runs = (next.0, next.2, ap (λ (x : Machine). x.stop) next.1.rest ∙ may.runs.2);
         counts = rise.within;
         left = let left = may.left in omega (arith, left, taken);
       }

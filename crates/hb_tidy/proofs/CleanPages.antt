@@ -20,7 +20,7 @@ use Rattle.hb_sound.proofs.OneLevel.{same_page}
 use Rattle.hb_core.specs.Showing.{RunningCore}
 use Rattle.hb_tidy.proofs.KnownFiles.{IsFileOf, none_there}
 use Rattle.hb_tidy.proofs.PlacedLeaves.{child_listed, named_over}
-use Rattle.hb_tidy.specs.Finding.{HasGrown, IsTidy, IsTidyAt, IsTidyBelow}
+use Rattle.hb_tidy.specs.Finding.{AreTidyUpTo, HasGrown, IsTidy, IsTidyAt, IsTidyBelow}
 use Rattle.hb_tidy.specs.Placing.{placed_children}
 
 -- ---- three pages that may be merged
@@ -40,6 +40,15 @@ gone_listed s parent keep gone above kept above_live kept_live may =
     let fits = fits_known s parent keep gone above kept above_live kept_live may in
     let box = named_box gone (siblings_of kept) fits.2.may.given in
     (box.0, box.2)
+
+-- so three pages may not be merged that don't fit
+pub not_mergeable : (c : RunningCore) (s : FileState) (parent keep gone : ℕ) (above kept going : LivePage) → IsFileOf c s → live_page s parent ≡ Some above → live_page s keep ≡ Some kept → live_page s gone ≡ Some going
+    → (FitsMerge c.store.meta parent keep gone above kept going → ⊥) → IsMergeable s parent keep gone → ⊥
+not_mergeable c s parent keep gone above kept going file above_live kept_live gone_live unfit may =
+    let fits = fits_known s parent keep gone above kept above_live kept_live may in
+    unfit
+    (subst (λ (meta : Meta). FitsMerge meta parent keep gone above kept going) file.meta
+      (subst (λ (g : LivePage). FitsMerge s.meta parent keep gone above kept g) (same_page s gone fits.0 going fits.1 gone_live) fits.2))
 
 -- ---- a page of a number
 
@@ -65,10 +74,6 @@ below_is_tidy s id page live all = record {
 }
 
 -- ---- the whole file
-
--- at each page up to a number
-abbrev pub AreTidyUpTo : FileState → ℕ → Type 0
-AreTidyUpTo s count = (id : ℕ) → id ≤ count → IsTidyAt s id
 
 pub tidy_at_none : (c : RunningCore) (s : FileState) → IsFileOf c s → AreTidyUpTo s 0
 tidy_at_none c s file id few = unused_is_tidy s id (none_there c s id file (inl (omega (arith, few))))

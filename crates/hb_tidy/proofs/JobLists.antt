@@ -1,5 +1,6 @@
 -- Lists of jobs, and of leaves that were gone over.
-use Rattle.std.proofs.Common.{◌≡◌, ℕ, ◌+◌, ◌<◌, List, [], ◌∷◌, ◌++◌, All, length, get_or, take, sym, subst}
+use Rattle.std.proofs.Common.{◌≡◌, ℕ, ◌+◌, ◌<◌, ◌==◌, true, false, List, [], ◌∷◌, ◌++◌, All, length, get_or, take, refl, sym, ap, subst, arith}
+use Rattle.std.proofs.lemmas.Bool.{eqb-false, eqb-true}
 use Rattle.std.proofs.lemmas.List.{take_more}
 use Rattle.std.proofs.lemmas.List.Elements.{All-append, All-nil}
 use Rattle.hb_lemmas.proofs.Lists.{All-alone}
@@ -18,3 +19,13 @@ pub all_next : {X : Type 0} (P : X → Type 0) (xs : List X) (i : ℕ) (x : X) �
 all_next P xs i x lt is all here =
     subst (λ (ys : List _). All P ys) (sym (take_more xs i x lt))
     (All-append P (take i xs) (get_or xs i x ∷ []) all (All-alone P (get_or xs i x) (subst P is here)))
+
+-- a list of no items
+pub no_items : {X : Type 0} (xs : List X) (n : ℕ) → n ≡ length xs → (n == 0) ≡ true → xs ≡ []
+no_items [] n long zero = refl
+no_items (x ∷ xs) n long zero = let none = eqb-true n 0 zero in absurd (omega (arith, long, none))
+
+pub some_items : {X : Type 0} (xs : List X) (n : ℕ) → n ≡ length xs → (n == 0) ≡ false → xs ≡ [] → ⊥
+some_items xs n long some empty =
+    let none = ap (λ (ys : List _). length ys) empty in
+    eqb-false n 0 some (omega (arith, long, none))

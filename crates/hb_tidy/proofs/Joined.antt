@@ -24,7 +24,7 @@ use Rattle.hb_tidy.specs.declared.stops.TidyStop.{TidyStop}
 use Rattle.hb_tidy.specs.declared.stops.TidyStop.TheVariants as stops
 use Rattle.hb_tidy.specs.Counted.{CountsRise, EndsSpent}
 use Rattle.hb_tidy.specs.Going.{Does, Goes}
-use Rattle.hb_tidy.specs.Looking.{FileStays, Looks, LooksOver}
+use Rattle.hb_tidy.specs.Looking.{FileStays, Looks, LooksOver, NothingOf}
 use Rattle.hb_tidy.specs.Tidying.{HasTidied, KeepsSet, StopsTidying, file_now}
 
 no_fault_in : HasReadFault [] → ⊥
@@ -85,6 +85,10 @@ module _ (d e f : DiskModel) (m : Machine) (mid c : RunningCore) (one : HasTidie
     in_file = file_more d e f m one.new one.size one.in_file two.in_file;
     kept = sets_then;
   }
+
+  pub tidied_then_new : tidied_then.new ≡ two.new
+  unfolding tidied_then
+  tidied_then_new = refl
 
 -- why a call ended is why both did
 pub stops_then : (d e f : DiskModel) (m : Machine) (mid c : RunningCore) (new : Machine) → HasTidied d m e mid → (stop : TidyStop) → StopsTidying stop e f c new → StopsTidying stop d f c new
@@ -181,7 +185,7 @@ module _ {T U : Type 0} (v : T) (says : T → FileState → Type 0) (r : Result 
   then_seen = subst (λ (o : Option FileState). IfOk r (λ w. IfSome o (more w))) one.same.file two.ok
 
   stay : FileStays m (does_then v r d e f m mid c one.does two.does).run.new
-  unfolding does_then, tidied_then
+  unfolding does_then tidied_then
   stay = same_stays m one.does.run.new two.does.run.new one.same two.same
 
   pub looks_then : Looks r final d m f c
@@ -235,14 +239,18 @@ over_ok knows v w says other d e old new imp one = record {
   meta = one.meta;
 }
 
+-- what was known before a call that wants none of it
+pub over_known : {T : Type 0} (knows : FileState → Type 0) (r : Result T TidyStop) (says : T → FileState → Type 0) (d e : DiskModel) (old new : RunningCore) → LooksOver NothingOf r says d old e new → LooksOver knows r says d old e new
+over_known knows r says d e old new one = over_weaker NothingOf knows r says says d e old new (λ s known. tt) (λ s v known said. said) one
+
 -- a look is a call
-pub over_goes : {T : Type 0} (r : Result T TidyStop) (says : T → FileState → Type 0) (d e : DiskModel) (old new : RunningCore) → LooksOver (λ s. Unit {0}) r says d old e new → Goes r d old e new
+pub over_goes : {T : Type 0} (r : Result T TidyStop) (says : T → FileState → Type 0) (d e : DiskModel) (old new : RunningCore) → LooksOver NothingOf r says d old e new → Goes r d old e new
 over_goes r says d e old new one = record {
   does = λ m may. (one.looks m may (anything (file_now m))).does;
   counts = one.counts;
   spent = one.spent;
 }
   where
-    anything : (o : Option FileState) → IfSome o (λ s. Unit {0})
+    anything : (o : Option FileState) → IfSome o NothingOf
     anything None = tt
     anything (Some s) = tt

@@ -9,3 +9,11 @@ pub mod CallsMade
 pub mod LooksMade
 pub mod KnownFiles
 pub mod CleanPages
+pub mod Exits
+pub mod RunsBegun
+pub mod Belows
+pub mod Pairs
+pub mod ChildrenSeen
+pub mod PassParts
+pub mod Ends
+pub mod JobsWaiting

@@ -138,6 +138,10 @@ module _ (laws : RunningLaws) (d e : DiskModel) (m new : Machine) (old c : Runni
     };
   }
 
+  pub still_tidied_new : still_tidied.new ≡ new
+  unfolding still_tidied
+  still_tidied_new = refl
+
 -- nothing happens
 pub still_itself : (m : Machine) → StandsStill m m
 still_itself m = record {

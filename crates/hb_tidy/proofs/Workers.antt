@@ -112,3 +112,7 @@ module _ (m : Machine) (outcome : Outcome) (new : Machine) where
       by : (stop : Option StopWhy) → MatchOption stop (StepsAs (m.activity 19) m 19 outcome new) (λ why. StaysSo m (outcomes.Stopped why) outcome new) → FileStays m new
       by None one = flushes_file (subst (λ (activity : Activity). StepsAs activity m 19 outcome new) (flusher_stands (m.activity 19) (kept.classes 19)) one)
       by (Some why) so = stays_file (outcomes.Stopped why) so
+
+pub is_worker : (actor : ℕ) → (actor ≡ 17) ⊎ (actor ≡ 18) → IsWorker actor
+is_worker actor (inl posts) = inl posts
+is_worker actor (inr merges) = inr (inl merges)

@@ -1,5 +1,6 @@
 -- What the calls of this crate make of the counts of a core.
 use Rattle.std.specs.Prelude.{◌≡◌, ◌↔◌, ℕ, ◌+◌, ◌<◌, ◌-◌, ◌^◌, ◌≤◌, Result, MatchResult}
+use Rattle.hb_core.specs.declared.counts.TidyCounts.{TidyCounts}
 use Rattle.hb_core.specs.Counting.{CountsWithin}
 use Rattle.hb_core.specs.Showing.{RunningCore}
 use Rattle.hb_tidy.specs.declared.stops.TidyStop.{TidyStop}
@@ -18,3 +19,13 @@ pub record CountsRise (old new : RunningCore) : Type 0 where
 -- A call ends as spent exactly where the count of steps has come to its last value.
 abbrev pub EndsSpent : {T : Type 0} → Result T TidyStop → RunningCore → Type 0
 EndsSpent result c = MatchResult result (λ v. c.taken < 2 ^ 64 - 1) (λ stop. (stop ≡ stops.Spent) ↔ (c.taken ≡ 2 ^ 64 - 1))
+
+-- counts of operations that are no less than others, and counts with others added
+pub record AreAtMost (old new : TidyCounts) : Type 0 where
+  pub grown : old.grown ≤ new.grown
+  pub posted : old.posted ≤ new.posted
+  pub split : old.split ≤ new.split
+  pub merged : old.merged ≤ new.merged
+
+abbrev pub added : TidyCounts → TidyCounts → TidyCounts
+added old more = record { grown = old.grown + more.grown; posted = old.posted + more.posted; split = old.split + more.split; merged = old.merged + more.merged }

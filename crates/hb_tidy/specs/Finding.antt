@@ -1,5 +1,5 @@
 -- What may be found in a file that isn't tidy: a posting or a growth that is owed, and pages that may become one.
-use Rattle.std.specs.Prelude.{◌≡◌, ◌≢◌, ◌⊎◌, ℕ, ◌<◌, List, [], All, Some}
+use Rattle.std.specs.Prelude.{◌≡◌, ◌≢◌, ◌⊎◌, ℕ, ◌<◌, ◌≤◌, List, [], All, Some}
 use Rattle.hb_space.specs.Boxes.{Area, Meets}
 use Rattle.hb_layout.specs.declared.limits.TheConstants.{HEIGHT_MAX}
 use Rattle.hb_frag.specs.declared.pages.LivePage.{LivePage}
@@ -51,3 +51,11 @@ pub record OwesSplit (s : FileState) : Type 0 where
 pub record WantsPage (s : FileState) : Type 0 where
   pub none_free : s.meta.live ≡ s.meta.pages
   pub owed : OwesGrowth s ⊎ OwesSplit s
+
+-- at each page up to a number
+abbrev pub AreTidyUpTo : FileState → ℕ → Type 0
+AreTidyUpTo s count = (id : ℕ) → id ≤ count → IsTidyAt s id
+
+-- these two pages are in use
+abbrev pub BothLive : ℕ → LivePage → ℕ → LivePage → FileState → Type 0
+BothLive parent above child below s = (live_page s parent ≡ Some above) × (live_page s child ≡ Some below)

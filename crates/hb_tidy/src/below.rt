@@ -8,13 +8,13 @@ ghost use Rattle.hb_ops.specs.Settled.{HasChild, IsMergeable};
 ghost use Rattle.hb_ops.specs.Sound.{FitsFile};
 ghost use Rattle.hb_core.specs.CoreSeen.{core_seen, core_disk};
 ghost use Rattle.hb_core.specs.KeptFits.{JobFits};
-ghost use Rattle.hb_tidy.specs.Finding.{IsTidyBelow};
+ghost use Rattle.hb_tidy.specs.Finding.{BothLive, IsTidyBelow};
 ghost use Rattle.hb_tidy.specs.Going.{MayTidy};
 ghost use Rattle.hb_tidy.specs.Looking.{LooksOver, NothingOf};
 ghost use Rattle.hb_tidy.specs.Placing.{StandsBelow, placed_children};
 
 use crate::TidyStop;
-use crate::finding::{Numbered, may_merge, owe_job, owe_postings, stands_below};
+use crate::finding::{Numbered, owe_job, owe_merge, owe_postings, stands_below};
 use crate::listing::sibling_leaves;
 use crate::looking::named_page;
 use hb_activity::{Job, JobKind};
@@ -94,6 +94,7 @@ fn child_below<D: Device>(
         (D.model (core_disk core.old)) (core_seen core.old) (D.model (core_disk core.new)) (core_seen core.new) }
     ensures may { OnOk result (MayTidy (D.model (core_disk core.new)) (core_seen core.new)) }
     ensures meta { (core_seen core.new).store.meta ≡ (core_seen core.old).store.meta }
+    ensures made { IfOk result (λ seen. IfSome seen (FitsFile (core_seen core.old).store.meta)) }
     ensures stands { IfOk result (λ seen. IfSome seen (λ page. IsArea parent.now.page.area → IsArea page.area → StandsBelow (core_seen core.old).store.meta parent.now.page name area.now page)) }
 {
     match named_page(core, name)? {
@@ -121,7 +122,7 @@ fn look_into<D: Device>(
     requires stands { IsArea child.now.page.area → StandsBelow (core_seen core.old).store.meta parent.now.page child.now.id area.now child.now.page }
     requires made { FitsFile (core_seen core.old).store.meta child.now.page }
     requires fit { All (JobFits (core_seen core.old).store.meta.k) jobs.old.items }
-    ensures looks { LooksOver (λ s. (live_page s parent.now.id ≡ Some parent.now.page) × (live_page s child.now.id ≡ Some child.now.page)) result
+    ensures looks { LooksOver (BothLive parent.now.id parent.now.page child.now.id child.now.page) result
         (λ v s. jobs.new.items ≡ [] → (jobs.old.items ≡ []) × IsTidyBelow s parent.now.id (child.now.id, area.now))
         (D.model (core_disk core.old)) (core_seen core.old) (D.model (core_disk core.new)) (core_seen core.new) }
     ensures may { OnOk result (MayTidy (D.model (core_disk core.new)) (core_seen core.new)) }
@@ -154,7 +155,7 @@ fn find_merges<D: Device>(
     requires stands { StandsBelow (core_seen core.old).store.meta parent.now.page keep.now.id area.now keep.now.page }
     requires given { given.now ≡ siblings_of keep.now.page }
     requires fit { All (JobFits (core_seen core.old).store.meta.k) jobs.old.items }
-    ensures looks { LooksOver (λ s. (live_page s parent.now.id ≡ Some parent.now.page) × (live_page s keep.now.id ≡ Some keep.now.page)) result
+    ensures looks { LooksOver (BothLive parent.now.id parent.now.page keep.now.id keep.now.page) result
         (λ v s. jobs.new.items ≡ [] → (jobs.old.items ≡ []) × ((gone : ℕ) → ¬ (IsMergeable s parent.now.id keep.now.id gone)))
         (D.model (core_disk core.old)) (core_seen core.old) (D.model (core_disk core.new)) (core_seen core.new) }
     ensures may { OnOk result (MayTidy (D.model (core_disk core.new)) (core_seen core.new)) }
@@ -179,21 +180,42 @@ fn try_pair<D: Device>(
     requires may { MayTidy (D.model (core_disk core.old)) (core_seen core.old) }
     requires stands { StandsBelow (core_seen core.old).store.meta parent.now.page keep.now.id area.now keep.now.page }
     requires fit { All (JobFits (core_seen core.old).store.meta.k) jobs.old.items }
-    ensures looks { LooksOver (λ s. (live_page s parent.now.id ≡ Some parent.now.page) × (live_page s keep.now.id ≡ Some keep.now.page)) result
+    ensures looks { LooksOver (BothLive parent.now.id parent.now.page keep.now.id keep.now.page) result
         (λ v s. jobs.new.items ≡ [] → (jobs.old.items ≡ []) × (¬ (IsMergeable s parent.now.id keep.now.id gone)))
         (D.model (core_disk core.old)) (core_seen core.old) (D.model (core_disk core.new)) (core_seen core.new) }
     ensures may { OnOk result (MayTidy (D.model (core_disk core.new)) (core_seen core.new)) }
     ensures meta { (core_seen core.new).store.meta ≡ (core_seen core.old).store.meta }
     ensures fit { All (JobFits (core_seen core.old).store.meta.k) jobs.new.items }
 {
-    if !parent.page.names(gone) {
-        return Ok(());
+    if parent.page.names(gone) {
+        look_at_pair(core, parent, keep, area, gone, jobs)
+    } else {
+        Ok(())
     }
+}
+
+/// Looks at a page that the parent names, and adds a job where the page to keep may take it over.
+fn look_at_pair<D: Device>(
+    core: &mut Core<D>,
+    parent: &Numbered,
+    keep: &Numbered,
+    area: &Area,
+    gone: u32,
+    jobs: &mut Vec<Job>,
+) -> Result<(), TidyStop>
+    requires may { MayTidy (D.model (core_disk core.old)) (core_seen core.old) }
+    requires stands { StandsBelow (core_seen core.old).store.meta parent.now.page keep.now.id area.now keep.now.page }
+    requires fit { All (JobFits (core_seen core.old).store.meta.k) jobs.old.items }
+    ensures looks { LooksOver (BothLive parent.now.id parent.now.page keep.now.id keep.now.page) result
+        (λ v s. jobs.new.items ≡ [] → (jobs.old.items ≡ []) × (¬ (IsMergeable s parent.now.id keep.now.id gone)))
+        (D.model (core_disk core.old)) (core_seen core.old) (D.model (core_disk core.new)) (core_seen core.new) }
+    ensures may { OnOk result (MayTidy (D.model (core_disk core.new)) (core_seen core.new)) }
+    ensures meta { (core_seen core.new).store.meta ≡ (core_seen core.old).store.meta }
+    ensures fit { All (JobFits (core_seen core.old).store.meta.k) jobs.new.items }
+{
     match named_page(core, gone)? {
         Some(going) => {
-            if may_merge(core.meta(), parent, keep, gone, &going) {
-                owe_job(core.meta(), JobKind::Merge, &parent.page, area, jobs)?;
-            }
+            owe_merge(core.meta(), parent, keep, area, gone, &going, jobs)?;
             Ok(())
         }
         None => Ok(()),

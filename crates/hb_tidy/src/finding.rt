@@ -162,8 +162,33 @@ fn add_job(jobs: &mut Vec<Job>, job: Job) -> Result<(), NoMemory>
     Ok(jobs.push(job)?)
 }
 
+/// Adds a job where two children of a parent, the second of which has a box of the first, may become one page.
+pub(crate) fn owe_merge(
+    meta: &Meta,
+    parent: &Numbered,
+    keep: &Numbered,
+    area: &Area,
+    gone: u32,
+    going: &LivePage,
+    jobs: &mut Vec<Job>,
+) -> Result<(), NoMemory>
+    requires layout { IsLayout meta.now }
+    requires stands { StandsBelow meta.now parent.now.page keep.now.id area.now keep.now.page }
+    requires going { FitsFile meta.now going.now }
+    requires fit { All (JobFits meta.now.k) jobs.old.items }
+    ensures fit { All (JobFits meta.now.k) jobs.new.items }
+    ensures none { OnOk result (jobs.new.items ≡ [] → (jobs.old.items ≡ [])
+        × (¬ (FitsMerge meta.now parent.now.id keep.now.id gone parent.now.page keep.now.page going.now))) }
+{
+    if may_merge(meta, parent, keep, gone, going) {
+        owe_job(meta, JobKind::Merge, &parent.page, area, jobs)
+    } else {
+        Ok(())
+    }
+}
+
 /// Whether two children of a parent may become one page.
-pub(crate) fn may_merge(
+fn may_merge(
     meta: &Meta,
     parent: &Numbered,
     keep: &Numbered,

@@ -1,7 +1,8 @@
 //! Looks at pages of the file.
-ghost use Rattle.std.specs.Prelude.{◌≡◌, IfOk, IfSome, OnOk, Some};
+ghost use Rattle.std.specs.Prelude.{◌≡◌, ◌↔◌, IfOk, IfSome, IsTrue, OnOk, Some};
 ghost use Rattle.hb_ops.specs.Files.{if_live, live_page, page_of};
 ghost use Rattle.hb_ops.specs.Sound.{FitsFile};
+ghost use Rattle.hb_store.specs.Fetching.{IsNoPage};
 ghost use Rattle.hb_store.specs.Replaying.{IsPageOf};
 ghost use Rattle.hb_store.specs.States.{IsGoodPage};
 ghost use Rattle.hb_core.specs.CoreSeen.{core_seen, core_disk};
@@ -10,11 +11,10 @@ ghost use Rattle.hb_tidy.specs.Looking.{LooksOver, NothingOf, SeesBy};
 
 use crate::TidyStop;
 use crate::stepping::flush;
-use hb_core::between_laws::{all_is_kept_between_steps, operations_are_counted};
-use hb_core::run_laws::runs_go_on;
 use hb_core::{Core, CopyStop};
 use hb_disk::Device;
 use hb_frag::{LivePage, Page};
+use hb_layout::Meta;
 
 /// The page of the number. Where memory has no place for it, a flush makes one.
 pub(crate) fn look<D: Device>(core: &mut Core<D>, id: u32) -> Result<Page, TidyStop>
@@ -43,9 +43,6 @@ fn look_once<D: Device>(core: &mut Core<D>, id: u32) -> Result<Option<Page>, Tid
     ensures taken { (core_seen core.new).taken ≡ (core_seen core.old).taken }
     ensures good { IfOk result (λ seen. IfSome seen (IsGoodPage (core_seen core.old).store.meta)) }
 {
-    runs_go_on();
-    operations_are_counted();
-    all_is_kept_between_steps();
     let copied = core.page_copy(id);
     seen_by(copied)
 }
@@ -74,11 +71,18 @@ pub(crate) fn named_page<D: Device>(
     ensures meta { (core_seen core.new).store.meta ≡ (core_seen core.old).store.meta }
     ensures good { IfOk result (λ seen. IfSome seen (FitsFile (core_seen core.old).store.meta)) }
 {
-    if id == 0 || core.meta().high < id {
+    if is_beyond(core.meta(), id) {
         return Ok(None);
     }
     let page = look(core, id)?;
     Ok(page_in_use(page))
+}
+
+/// Whether the file has no page of the number.
+fn is_beyond(meta: &Meta, id: u32) -> bool
+    ensures { IsTrue result ↔ IsNoPage meta.now id }
+{
+    id == 0 || meta.high < id
 }
 
 /// The page, where it is in use.

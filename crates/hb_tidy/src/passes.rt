@@ -19,8 +19,6 @@ use crate::listing::{child_leaves, sibling_leaves};
 use crate::looking::{look, named_page};
 use hb_activity::{Job, JobKind};
 use hb_core::Core;
-use hb_core::between_laws::{all_is_kept_between_steps, operations_are_counted};
-use hb_core::run_laws::runs_go_on;
 use hb_disk::Device;
 use hb_frag::{LivePage, Page};
 use hb_layout::limits::HEIGHT_MAX;
@@ -179,8 +177,5 @@ fn wait_for<D: Device>(core: &mut Core<D>, job: Job)
     ensures may { MayTidy (D.model (core_disk core.new)) (core_seen core.new) }
     ensures meta { (core_seen core.new).store.meta ≡ (core_seen core.old).store.meta }
 {
-    runs_go_on();
-    operations_are_counted();
-    all_is_kept_between_steps();
     let _waits = core.add_job(job);
 }

@@ -7,8 +7,6 @@ ghost use Rattle.hb_tidy.specs.Stepping.{EndsCall, EndsStep, stop_by};
 
 use crate::TidyStop;
 use hb_activity::JobKind;
-use hb_core::between_laws::operations_are_counted;
-use hb_core::run_laws::runs_go_on;
 use hb_core::{Core, DropWhy, Outcome};
 use hb_disk::Device;
 use hb_space::Actor;
@@ -54,8 +52,6 @@ fn step<D: Device>(core: &mut Core<D>, worker: Actor) -> Result<(), TidyStop>
     ensures may { OnOk result (MayTidy (D.model (core_disk core.new)) (core_seen core.new)) }
     ensures one { OnOk result ((core_seen core.new).taken ≡ (core_seen core.old).taken + 1) }
 {
-    runs_go_on();
-    operations_are_counted();
     let outcome = core.step(worker);
     went_on(core)?;
     end_of(&outcome)
@@ -107,8 +103,6 @@ pub(crate) fn flush<D: Device>(core: &mut Core<D>) -> Result<(), TidyStop>
     ensures may { OnOk result (MayTidy (D.model (core_disk core.new)) (core_seen core.new)) }
     ensures one { OnOk result ((core_seen core.new).taken ≡ (core_seen core.old).taken + 1) }
 {
-    runs_go_on();
-    operations_are_counted();
     let _flushed = core.help();
     went_on(core)
 }

@@ -10,11 +10,11 @@ returns-clause-looks g c =
     let new = core_seen c.page_copy-copied.new.self in
     let looked : Looked c.args.id c.page_copy-copied.result d old e new = record {
       disk = g.met.D.Device.is_disk (core_disk c.args.core.now);
-      copies = c.page_copy-copied.ensures.copies;
+      told = c.page_copy-copied.ensures.copies;
       reads = c.page_copy-copied.ensures.reads;
       counts = c.page_copy-copied.ensures.counts;
     } in
-    look_looks c.runs_go_on.ensures c.all_is_kept_between_steps.ensures.looking c.args.id c.page_copy-copied.result d old e new looked c.requires.may c.operations_are_counted.ensures.within c.seen_by.result c.seen_by.ensures
+    look_looks c.args.id c.page_copy-copied.result d old e new looked c.requires.may c.seen_by.result c.seen_by.ensures
 
 pub returns-clause-may : goal.returns-clause-may
 returns-clause-may g c =
@@ -24,8 +24,8 @@ returns-clause-may g c =
     let new = core_seen c.page_copy-copied.new.self in
     let looked : Looked c.args.id c.page_copy-copied.result d old e new = record {
       disk = g.met.D.Device.is_disk (core_disk c.args.core.now);
-      copies = c.page_copy-copied.ensures.copies;
+      told = c.page_copy-copied.ensures.copies;
       reads = c.page_copy-copied.ensures.reads;
       counts = c.page_copy-copied.ensures.counts;
     } in
-    look_may c.runs_go_on.ensures c.all_is_kept_between_steps.ensures.looking c.args.id c.page_copy-copied.result d old e new looked c.requires.may c.operations_are_counted.ensures.within c.seen_by.result c.seen_by.ensures
+    look_may c.args.id c.page_copy-copied.result d old e new looked c.requires.may c.seen_by.result c.seen_by.ensures

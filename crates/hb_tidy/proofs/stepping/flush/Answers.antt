@@ -8,33 +8,33 @@ use Rattle.hb_tidy.proofs.stepping.flush.Goals as goal
 pub returns-clause-looks : goal.returns-clause-looks
 returns-clause-looks g c =
     let d = g.D.Device.model (core_disk c.args.core.now) in
-    let e = g.D.Device.model (core_disk c.help-_flushed.new.self) in
+    let e = g.D.Device.model (core_disk c.help-flushed.new.self) in
     let old = core_seen c.args.core.now in
-    let new = core_seen c.help-_flushed.new.self in
-    let outcome = said_of_flush c.help-_flushed.result in
+    let new = core_seen c.help-flushed.new.self in
+    let outcome = said_of_flush c.help-flushed.result in
     let took : Stepped d old 19 outcome e new = record {
       disk = g.met.D.Device.is_disk (core_disk c.args.core.now);
-      disk_next = g.met.D.Device.is_disk (core_disk c.help-_flushed.new.self);
+      disk_next = g.met.D.Device.is_disk (core_disk c.help-flushed.new.self);
       worker = inr (inr refl);
-      steps = c.help-_flushed.ensures.steps;
-      touches = c.help-_flushed.ensures.touches;
+      steps = c.help-flushed.ensures.steps;
+      touches = c.help-flushed.ensures.touches;
     } in
-    flush_looks c.runs_go_on.ensures d old outcome e new took c.requires c.went_on.result c.went_on.ensures
-    (flush_rises c.operations_are_counted.ensures.within old new c.help-_flushed.ensures.counts c.requires.counts c.requires.left) c.help-_flushed.ensures.counts.no_op.meta
+    flush_looks d old outcome e new took c.requires c.went_on.result c.went_on.ensures
+    (flush_rises c.requires.laws.counts old new c.help-flushed.ensures.counts c.requires.counts c.requires.left) c.help-flushed.ensures.counts.no_op.meta
 
 pub returns-clause-may : goal.returns-clause-may
 returns-clause-may g c =
     let d = g.D.Device.model (core_disk c.args.core.now) in
-    let e = g.D.Device.model (core_disk c.help-_flushed.new.self) in
+    let e = g.D.Device.model (core_disk c.help-flushed.new.self) in
     let old = core_seen c.args.core.now in
-    let new = core_seen c.help-_flushed.new.self in
-    let outcome = said_of_flush c.help-_flushed.result in
+    let new = core_seen c.help-flushed.new.self in
+    let outcome = said_of_flush c.help-flushed.result in
     let took : Stepped d old 19 outcome e new = record {
       disk = g.met.D.Device.is_disk (core_disk c.args.core.now);
-      disk_next = g.met.D.Device.is_disk (core_disk c.help-_flushed.new.self);
+      disk_next = g.met.D.Device.is_disk (core_disk c.help-flushed.new.self);
       worker = inr (inr refl);
-      steps = c.help-_flushed.ensures.steps;
-      touches = c.help-_flushed.ensures.touches;
+      steps = c.help-flushed.ensures.steps;
+      touches = c.help-flushed.ensures.touches;
     } in
-    step_may c.runs_go_on.ensures d old 19 outcome e new took c.requires c.went_on.result c.went_on.ensures
-    (flush_rises c.operations_are_counted.ensures.within old new c.help-_flushed.ensures.counts c.requires.counts c.requires.left)
+    step_may d old 19 outcome e new took c.requires c.went_on.result c.went_on.ensures
+    (flush_rises c.requires.laws.counts old new c.help-flushed.ensures.counts c.requires.counts c.requires.left)
