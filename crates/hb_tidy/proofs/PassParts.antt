@@ -1,9 +1,11 @@
 -- A pass, page by page, and its end.
-use Rattle.std.proofs.Common.{◌≡◌, ◌⊎◌, inl, inr, ℕ, ◌+◌, ◌<◌, ◌≤◌, Bool, true, false, [], Option, None, Some, IfSome, Result, Ok, refl, sym, ap, ◌∙◌, subst}
+use Rattle.std.proofs.Common.{◌≡◌, ◌⊎◌, ◌↔◌, inl, inr, ℕ, ◌+◌, ◌<◌, ◌≤◌, Bool, true, false, [], Option, None, Some, IfSome, Result, Ok, refl, sym, ap, ◌∙◌, subst, arith}
+use Rattle.std.proofs.lemmas.Bool.{cases_lt}
 use Rattle.hb_disk.specs.Model.{DiskModel, IsDisk}
 use Rattle.hb_frag.specs.declared.pages.LivePage.{LivePage}
 use Rattle.hb_frag.specs.Leaves.{siblings_of}
 use Rattle.hb_layout.specs.declared.limits.TheConstants.{HEIGHT_MAX}
+use Rattle.hb_layout.specs.Limits.{IsLayout}
 use Rattle.hb_layout.specs.declared.meta.Meta.{Meta}
 use Rattle.hb_ops.specs.Files.{FileState, live_page}
 use Rattle.hb_ops.specs.Settled.{HasLoneRoot}
@@ -89,3 +91,14 @@ pub root_alone : (root : LivePage) (d : DiskModel) (c : RunningCore) → IsDisk 
 root_alone root d c disk may none =
     nothing_looked d c disk may true (λ s. live_page s s.meta.root ≡ Some root) (Clean HasLoneRoot)
     (λ s known is page live. subst (λ (p : LivePage). siblings_of p ≡ []) (same_page s s.meta.root root page known live) none)
+
+-- the greatest height, and a lesser one
+pub is_most : (meta : Meta) → IsLayout meta → HEIGHT_MAX ≤ meta.height → meta.height ≡ HEIGHT_MAX
+is_most meta layout high = let few = layout.few_levels in omega (arith, few, high)
+
+pub is_low : (height : ℕ) → (false ≡ true) ↔ (HEIGHT_MAX ≤ height) → height < HEIGHT_MAX
+is_low height test = by (cases_lt height HEIGHT_MAX)
+  where
+    by : (height < HEIGHT_MAX) ⊎ (HEIGHT_MAX ≤ height) → height < HEIGHT_MAX
+    by (inl low) = low
+    by (inr high) = absurd (let never = test.1 high in cc)

@@ -1,7 +1,6 @@
 //! A pass over the whole file: what is found waits as a job for the workers.
-ghost use Rattle.std.specs.Prelude.{◌≡◌, ◌<◌, [], All, IfOk, Ok, OnOk, Some, true};
+ghost use Rattle.std.specs.Prelude.{◌≡◌, ◌<◌, ◌≤◌, ◌↔◌, [], All, IfOk, IsTrue, Ok, OnOk, Some, true};
 ghost use Rattle.hb_layout.specs.declared.limits.TheConstants.{HEIGHT_MAX};
-ghost use Rattle.hb_space.specs.Boxes.{IsArea};
 ghost use Rattle.hb_ops.specs.Files.{live_page};
 ghost use Rattle.hb_ops.specs.Settled.{HasLoneRoot};
 ghost use Rattle.hb_ops.specs.Sound.{FitsFile};
@@ -21,6 +20,7 @@ use hb_activity::{Job, JobKind};
 use hb_core::Core;
 use hb_disk::Device;
 use hb_frag::{LivePage, Page};
+use hb_layout::Meta;
 use hb_layout::limits::HEIGHT_MAX;
 use hb_space::Area;
 use std::alloc::Global;
@@ -49,7 +49,7 @@ fn visit_root<D: Device>(alloc: Global, core: &mut Core<D>) -> Result<bool, Tidy
     ensures may { OnOk result (MayTidy (D.model (core_disk core.new)) (core_seen core.new)) }
     ensures meta { (core_seen core.new).store.meta ≡ (core_seen core.old).store.meta }
 {
-    if HEIGHT_MAX <= core.meta().height {
+    if is_highest(core.meta()) {
         return Ok(true);
     }
     let root = core.meta().root;
@@ -60,6 +60,13 @@ fn visit_root<D: Device>(alloc: Global, core: &mut Core<D>) -> Result<bool, Tidy
             Ok(false)
         }
     }
+}
+
+/// Whether the file has its greatest height.
+fn is_highest(meta: &Meta) -> bool
+    ensures { IsTrue result ↔ (HEIGHT_MAX ≤ meta.now.height) }
+{
+    HEIGHT_MAX <= meta.height
 }
 
 /// Looks into the root of a file that may grow. Whether it has no sibling leaf.
