@@ -76,7 +76,8 @@ module _ (parent : ℕ) (above : LivePage) where
       (λ s w known said more empty. let here = more empty in let so_far = said here.0 in (so_far.0, all_next (IsTidyBelow s parent) leaves i leaf lt is so_far.1 here.1))
 
   -- So nothing is found at the page, where these are all its child leaves.
-  pub leaves_all : {T : Type 0} (v : T) (jobs : T → List Job) (first : List Job) (d e : DiskModel) (old new : RunningCore) → LooksOver (λ s. live_page s parent ≡ Some above) (Ok (tt {0})) (SeesAll (placed_children above) first (jobs v)) d old e new
+  pub leaves_all : {T : Type 0} (v : T) (jobs : T → List Job) (first : List Job) (leaves : List (ℕ × Area)) (d e : DiskModel) (old new : RunningCore) → leaves ≡ placed_children above → LooksOver (λ s. live_page s parent ≡ Some above) (Ok (tt {0})) (SeesAll leaves first (jobs v)) d old e new
       → LooksOver (λ s. live_page s parent ≡ Some above) (Ok v) (λ w s. jobs w ≡ [] → IsTidyAt s parent) d old e new
-  leaves_all v jobs first d e old new one =
-      over_ok IsAbove (tt {0}) v (SeesAll (placed_children above) first (jobs v)) (λ w s. jobs w ≡ [] → IsTidyAt s parent) d e old new (λ s known said empty. below_is_tidy s parent above known (said empty).1) one
+  leaves_all v jobs first leaves d e old new is one =
+      over_ok IsAbove (tt {0}) v (SeesAll leaves first (jobs v)) (λ w s. jobs w ≡ [] → IsTidyAt s parent) d e old new
+      (λ s known said empty. below_is_tidy s parent above known (subst (λ (ls : List (ℕ × Area)). All (IsTidyBelow s parent) ls) is (said empty).1)) one

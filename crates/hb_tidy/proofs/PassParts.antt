@@ -28,8 +28,8 @@ Clean P clean s = clean ≡ true → P s
 pub waits_then : {T : Type 0} (v : T) (empty : T → Type 0) (P : FileState → Type 0) (clean : Bool) (d e f : DiskModel) (old mid new : RunningCore) → (clean ≡ true → empty v) → LooksOver NothingOf (Ok v) (λ w s. empty w → P s) d old e mid
     → LooksOver {T = Unit {0}} NothingOf (Ok (tt {0})) (λ w. NothingOf) e mid f new → LooksOver NothingOf (Ok clean) (Clean P) d old f new
 waits_then v empty P clean d e f old mid new tells one two =
-    over_then NothingOf v (λ w s. empty w → P s) NothingOf (Ok clean) (λ w. NothingOf) (Clean P) d e f old mid new one (λ s known said. tt)
-    (over_ok NothingOf (tt {0}) clean (λ w. NothingOf) (λ w. NothingOf) e f mid new (λ s known said. tt) two) (λ s w known said more is. said (tells is))
+    over_then NothingOf v (λ w s. empty w → P s) NothingOf (Ok clean) (λ w s. w ≡ clean) (Clean P) d e f old mid new one (λ s known said. tt)
+    (over_ok NothingOf (tt {0}) clean (λ w. NothingOf) (λ w s. w ≡ clean) e f mid new (λ s known said. refl) two) (λ s w known said more is. said (tells (sym more ∙ is)))
 
 -- One page more, and the end.
 pub pages_begin : (clean : Bool) (d e : DiskModel) (old new : RunningCore) → LooksOver NothingOf (Ok clean) (Clean HasGrown) d old e new
@@ -74,8 +74,8 @@ root_then root r d e f old mid new one two =
 -- something is to be done
 pub found_then : {T : Type 0} (v : T) (says : T → FileState → Type 0) (P : FileState → Type 0) (d e f : DiskModel) (old mid new : RunningCore) → LooksOver NothingOf (Ok v) says d old e mid → LooksOver {T = Unit {0}} NothingOf (Ok (tt {0})) (λ w. NothingOf) e mid f new → LooksOver NothingOf (Ok false) (Clean P) d old f new
 found_then v says P d e f old mid new one two =
-    over_then NothingOf v says NothingOf (Ok false) (λ w. NothingOf) (Clean P) d e f old mid new one (λ s known said. tt)
-    (over_ok NothingOf (tt {0}) false (λ w. NothingOf) (λ w. NothingOf) e f mid new (λ s known said. tt) two) (λ s w known said more is. absurd (never is))
+    over_then NothingOf v says NothingOf (Ok false) (λ w s. w ≡ false) (Clean P) d e f old mid new one (λ s known said. tt)
+    (over_ok NothingOf (tt {0}) false (λ w. NothingOf) (λ w s. w ≡ false) e f mid new (λ s known said. refl) two) (λ s w known said more is. absurd (never (sym more ∙ is)))
   where
     never : false ≡ true → ⊥
     never is = cc

@@ -24,6 +24,5 @@ returns-clause-looks g c =
     let d = g.D.Device.model (core_disk c.args.core.now) in
     let e = g.D.Device.model (core_disk c.look_at_all.new.core) in
     let Above : FileState → Type 0 = λ s. live_page s c.args.parent.now.id ≡ Some c.args.parent.now.page in
-    let P : List (ℕ × Area) → Type 0 = λ ls. LooksOver {T = Unit {0}} Above (Ok (tt {0})) (SeesAll c.args.parent.now.id c.args.parent.now.page ls _ c.look_at_all.new.jobs.items) d (core_seen c.args.core.now) e (core_seen c.look_at_all.new.core) in
-    leaves_all c.args.parent.now.id c.args.parent.now.page c.look_at_all.new.jobs (λ v. v.items) _ d e (core_seen c.args.core.now) (core_seen c.look_at_all.new.core)
-    (subst P (c.as_slice.ensures.value ∙ c.in_ok-children.ensures.leaves) (over_value Above (tt {0}) c.look_at_all.result _ d e (core_seen c.args.core.now) (core_seen c.look_at_all.new.core) c.in_ok-look_at_all.was c.look_at_all.ensures.looks))
+    leaves_all c.args.parent.now.id c.args.parent.now.page c.look_at_all.new.jobs (λ v. v.items) _ c.as_slice.result.now d e (core_seen c.args.core.now) (core_seen c.look_at_all.new.core) (c.as_slice.ensures.value ∙ c.in_ok-children.ensures.leaves)
+    (over_value Above (tt {0}) c.look_at_all.result _ d e (core_seen c.args.core.now) (core_seen c.look_at_all.new.core) c.in_ok-look_at_all.was c.look_at_all.ensures.looks)
