@@ -8,7 +8,8 @@ use Rattle.hb_core.specs.Counting.{CountsFlush, CountsOp, CountsStay, CountsStep
 use Rattle.hb_core.specs.Counts.{counted, one_more}
 use Rattle.hb_core.specs.Showing.{RunningCore}
 use Rattle.hb_core.specs.declared.counts.TidyCounts.{TidyCounts}
-use Rattle.hb_tidy.specs.Counted.{CountsRise}
+use Rattle.hb_tidy.proofs.LiveCounted.{live_same}
+use Rattle.hb_tidy.specs.Counted.{CountsRise, LiveIsCounted}
 
 -- no count of operations falls
 record DoneRise (old new : TidyCounts) : Type 0 where
@@ -43,8 +44,8 @@ module _ (c : RunningCore) (within : CountsWithin c) where
   counted_rises actor new (inl (none, done)) = subst (λ (x : TidyCounts). DoneRise c.done x) (sym done) (done_same c.done)
   counted_rises actor new (inr (op, did, done)) = subst (λ (x : TidyCounts). DoneRise c.done x) (sym done) (op_rises actor op)
 
-with_all : (old new : RunningCore) → old.taken ≤ new.taken → DoneRise old.done new.done → CountsWithin new → new.store.meta.height + old.done.grown ≡ old.store.meta.height + new.done.grown → CountsRise old new
-with_all old new taken done within height = record { taken = taken; grown = done.grown; posted = done.posted; split = done.split; merged = done.merged; within = within; height = height }
+with_all : (old new : RunningCore) → old.taken ≤ new.taken → DoneRise old.done new.done → CountsWithin new → new.store.meta.height + old.done.grown ≡ old.store.meta.height + new.done.grown → LiveIsCounted old new → CountsRise old new
+with_all old new taken done within height live = record { taken = taken; grown = done.grown; posted = done.posted; split = done.split; merged = done.merged; within = within; height = height; live = live }
 
 some_left : (grown taken : ℕ) → grown ≤ taken → taken < 2 ^ 64 - 1 → grown + 1 ≤ 2 ^ 64 - 1
 some_left grown taken few left = omega (arith, few, left)
@@ -56,10 +57,11 @@ later_taken : (taken next : ℕ) → taken < 2 ^ 64 - 1 → next ≡ one_more ta
 later_taken taken next left is = omega (arith, left, is)
 
 -- a step, a flush, and a call that counts nothing
-pub step_rises : CountsStayWithin → HeightIsCounted → (actor : ℕ) (old new : RunningCore) → CountsStep actor old new → CountsWithin old → old.taken < 2 ^ 64 - 1 → CountsRise old new
-step_rises laws height actor old new step within left =
+pub step_rises : CountsStayWithin → HeightIsCounted → (actor : ℕ) (old new : RunningCore) → CountsStep actor old new → CountsWithin old → old.taken < 2 ^ 64 - 1 → LiveIsCounted old new → CountsRise old new
+step_rises laws height actor old new step within left live =
     with_all old new (later_taken old.taken new.taken left step.taken) (counted_rises old within actor new step.done) (laws.step actor old new step within)
     (height actor old new step (some_left old.done.grown old.taken within.grown left))
+    live
 
 same_height : (old new : RunningCore) → new.store.meta ≡ old.store.meta → new.done ≡ old.done → new.store.meta.height + old.done.grown ≡ old.store.meta.height + new.done.grown
 same_height old new meta done =
@@ -71,11 +73,13 @@ pub flush_rises : CountsStayWithin → (old new : RunningCore) → CountsFlush o
 flush_rises laws old new flush within left =
     with_all old new (later_taken old.taken new.taken left flush.taken) (subst (λ (x : TidyCounts). DoneRise old.done x) (sym flush.done) (done_same old.done)) (laws.flush old new flush within)
     (same_height old new flush.no_op.meta flush.done)
+    (live_same old new flush.no_op.meta flush.done)
 
 pub stay_rises : CountsStayWithin → (old new : RunningCore) → CountsStay old new → new.store.meta ≡ old.store.meta → CountsWithin old → CountsRise old new
 stay_rises laws old new stay meta within =
     with_all old new (let t = stay.taken in omega (arith, t)) (subst (λ (x : TidyCounts). DoneRise old.done x) (sym stay.done) (done_same old.done)) (laws.stay old new stay within)
     (same_height old new meta stay.done)
+    (live_same old new meta stay.done)
 
 pub same_rises : (c : RunningCore) → CountsWithin c → CountsRise c c
-same_rises c within = with_all c c (as_many c.taken) (done_same c.done) within refl
+same_rises c within = with_all c c (as_many c.taken) (done_same c.done) within refl (live_same c c refl refl)

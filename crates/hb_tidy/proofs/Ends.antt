@@ -44,14 +44,19 @@ ends_by_err stop first r d e old new m is hands one may = by r hands (goes_exit 
 counts_of : (old new : RunningCore) (counts : TidyCounts) → CountsRise old new → new.taken < 2 ^ 64 - 1 → new.done ≡ added old.done counts → HasCounted old new counts
 counts_of old new counts rise left is =
     let grown = ap (λ (x : TidyCounts). x.grown) is in
+    let posted = ap (λ (x : TidyCounts). x.posted) is in
+    let split = ap (λ (x : TidyCounts). x.split) is in
+    let merged = ap (λ (x : TidyCounts). x.merged) is in
     let height = rise.height in
+    let live = rise.live in
     record {
       left = left;
       grown = grown;
-      posted = ap (λ (x : TidyCounts). x.posted) is;
-      split = ap (λ (x : TidyCounts). x.split) is;
-      merged = ap (λ (x : TidyCounts). x.merged) is;
+      posted = posted;
+      split = split;
+      merged = merged;
       height = omega (arith, grown, height);
+      live = omega (arith, grown, split, merged, live);
     }
 
 clean_file : (o : Option FileState) → IfSome o (Clean IsTidy true) → IfSome o IsTidy

@@ -22,6 +22,7 @@ use Rattle.hb_core.specs.Showing.{RunningCore}
 use Rattle.hb_core.specs.Working.{MayStep}
 use Rattle.hb_tidy.specs.declared.stops.TidyStop.{TidyStop}
 use Rattle.hb_tidy.specs.declared.stops.TidyStop.TheVariants as stops
+use Rattle.hb_tidy.proofs.LiveCounted.{live_then}
 use Rattle.hb_tidy.specs.Counted.{CountsRise, EndsSpent}
 use Rattle.hb_tidy.specs.Going.{Does, Goes}
 use Rattle.hb_tidy.specs.Looking.{FileStays, Looks, LooksOver, NothingOf}
@@ -138,6 +139,7 @@ rise_then a b c one two =
       merged = omega (arith, m1, m2);
       within = two.within;
       height = omega (arith, h1, h2);
+      live = live_then a b c one.live two.live;
     }
 
 pub goes_then : {T U : Type 0} (v : T) (r : Result U TidyStop) (d e f : DiskModel) (old mid new : RunningCore) → Goes (Ok v) d old e mid → Goes r e mid f new → Goes r d old f new

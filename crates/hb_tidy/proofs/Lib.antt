@@ -3,6 +3,7 @@ pub mod PlacedLeaves
 pub mod JobLists
 pub mod Workers
 pub mod OneCall
+pub mod LiveCounted
 pub mod Joined
 pub mod CountsOfCalls
 pub mod CallsMade
@@ -17,3 +18,4 @@ pub mod ChildrenSeen
 pub mod PassParts
 pub mod Ends
 pub mod JobsWaiting
+pub mod Forced

@@ -6,7 +6,11 @@ use Rattle.hb_core.specs.Showing.{RunningCore}
 use Rattle.hb_tidy.specs.declared.stops.TidyStop.{TidyStop}
 use Rattle.hb_tidy.specs.declared.stops.TidyStop.TheVariants as stops
 
--- No count falls. The file's height rises by the growths that were counted.
+-- Pages in use rise by growths and splits, and fall by merges.
+abbrev pub LiveIsCounted : RunningCore → RunningCore → Type 0
+LiveIsCounted old new = new.store.meta.live + new.done.merged + (old.done.grown + old.done.split) ≡ old.store.meta.live + old.done.merged + (new.done.grown + new.done.split)
+
+-- No count falls. The file's height rises by the growths that were counted, and its pages in use by what was made and merged.
 pub record CountsRise (old new : RunningCore) : Type 0 where
   pub taken : old.taken ≤ new.taken
   pub grown : old.done.grown ≤ new.done.grown
@@ -15,6 +19,7 @@ pub record CountsRise (old new : RunningCore) : Type 0 where
   pub merged : old.done.merged ≤ new.done.merged
   pub within : CountsWithin new
   pub height : new.store.meta.height + old.done.grown ≡ old.store.meta.height + new.done.grown
+  pub live : LiveIsCounted old new
 
 -- A call ends as spent exactly where the count of steps has come to its last value.
 abbrev pub EndsSpent : {T : Type 0} → Result T TidyStop → RunningCore → Type 0

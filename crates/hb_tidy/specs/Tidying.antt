@@ -58,7 +58,8 @@ StopsTidying (stops.Damaged page why) d e c new = (¬ (IsSome d.told)) × (new.s
 StopsTidying stops.Spent d e c new = c.taken ≡ 2 ^ 64 - 1
 StopsTidying stops.NoMemory d e c new = Unit {0}
 
--- The counts say by how much each count of the core rose, and by the first of them the file's height did. There are steps left.
+-- The counts say by how much each count of the core rose. The file's height rose by its growths, and its pages in use by growths
+-- and splits, less merges. There are steps left.
 pub record HasCounted (old c : RunningCore) (counts : TidyCounts) : Type 0 where
   pub left : c.taken < 2 ^ 64 - 1
   pub grown : c.done.grown ≡ old.done.grown + counts.grown
@@ -66,6 +67,7 @@ pub record HasCounted (old c : RunningCore) (counts : TidyCounts) : Type 0 where
   pub split : c.done.split ≡ old.done.split + counts.split
   pub merged : c.done.merged ≡ old.done.merged + counts.merged
   pub height : c.store.meta.height ≡ old.store.meta.height + counts.grown
+  pub live : c.store.meta.live + counts.merged ≡ old.store.meta.live + (counts.grown + counts.split)
 
 -- how it ends
 abbrev pub EndsTidying : DiskModel → DiskModel → RunningCore → RunningCore → Machine → Result TidyCounts TidyStop → Type 0

@@ -10,6 +10,11 @@ use Rattle.hb_tidy.specs.Looking.{LooksOver, NothingOf}
 use Rattle.hb_tidy.proofs.passes.pass.Goals as goal
 use Rattle.hb_tidy.proofs.passes.pass.Goals.{else-clean, then-clean}
 
+pub returns-in_err-clean-clause-looks : goal.returns-in_err-clean-clause-looks
+returns-in_err-clean-clause-looks g c =
+    over_exit NothingOf c.in_err-clean.field-0.0 c.visit_root.result c.from_residual.result (Clean HasGrown) (Clean IsTidy) (g.D.Device.model (core_disk c.args.core.now)) (g.D.Device.model (core_disk c.visit_root.new.core)) (core_seen c.args.core.now) (core_seen c.visit_root.new.core)
+    c.in_err-clean.was c.from_residual.ensures.1 c.visit_root.ensures.looks
+
 pub loop-place-init : goal.loop-place-init
 loop-place-init g c =
     let d = g.D.Device.model (core_disk c.args.core.now) in

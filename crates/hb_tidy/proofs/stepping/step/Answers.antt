@@ -3,6 +3,7 @@ use Rattle.hb_lemmas.proofs.Options.{on_ok}
 use Rattle.hb_core.specs.CoreSeen.{core_seen, core_disk}
 use Rattle.hb_tidy.proofs.CallsMade.{Stepped, ended_goes, step_goes, step_may}
 use Rattle.hb_tidy.proofs.CountsOfCalls.{one_taken, step_rises}
+use Rattle.hb_tidy.proofs.LiveCounted.{live_by_worker}
 use Rattle.hb_tidy.proofs.Exits.{goes_exit, goes_value, on_value}
 use Rattle.hb_tidy.proofs.Workers.{IsWorker, is_actor, is_worker}
 use Rattle.hb_tidy.proofs.stepping.step.Goals as goal
@@ -28,7 +29,7 @@ returns-in_err-went_on-clause-goes g c =
       touches = told.touches;
     } in
     let may = c.requires.may in
-    let rise = step_rises may.laws.counts may.laws.height c.args.worker old new told.counts may.counts may.left in
+    let rise = step_rises may.laws.counts may.laws.height c.args.worker old new told.counts may.counts may.left (live_by_worker d old c.args.worker c.step-outcome.result e new c.requires.worker may.runs may.counts may.left told.steps told.counts) in
     goes_exit c.in_err-went_on.field-0.0 c.went_on.result c.from_residual.result d e old new c.in_err-went_on.was c.from_residual.ensures.1
     (step_goes d old c.args.worker c.step-outcome.result e new took may c.went_on.result c.went_on.ensures rise)
 
@@ -47,7 +48,7 @@ returns-clause-goes g c =
       touches = told.touches;
     } in
     let may = c.requires.may in
-    let rise = step_rises may.laws.counts may.laws.height c.args.worker old new told.counts may.counts may.left in
+    let rise = step_rises may.laws.counts may.laws.height c.args.worker old new told.counts may.counts may.left (live_by_worker d old c.args.worker c.step-outcome.result e new c.requires.worker may.runs may.counts may.left told.steps told.counts) in
     ended_goes d old c.step-outcome.result e new (tt {0}) c.end_of.result told.touches c.end_of.ensures
     (goes_value (tt {0}) c.went_on.result d e old new c.in_ok-went_on.was (step_goes d old c.args.worker c.step-outcome.result e new took may c.went_on.result c.went_on.ensures rise))
 
@@ -66,7 +67,7 @@ returns-clause-may g c =
       touches = told.touches;
     } in
     let may = c.requires.may in
-    let rise = step_rises may.laws.counts may.laws.height c.args.worker old new told.counts may.counts may.left in
+    let rise = step_rises may.laws.counts may.laws.height c.args.worker old new told.counts may.counts may.left (live_by_worker d old c.args.worker c.step-outcome.result e new c.requires.worker may.runs may.counts may.left told.steps told.counts) in
     on_ok c.end_of.result _
     (on_value (tt {0}) c.went_on.result _ c.in_ok-went_on.was (step_may d old c.args.worker c.step-outcome.result e new took may c.went_on.result c.went_on.ensures rise))
 
