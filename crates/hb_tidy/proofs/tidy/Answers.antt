@@ -76,11 +76,11 @@ returns-in_err-work_off-2-clause-tidies g c = λ m may.
     let mid = g.D.Device.model (core_disk c.loop-core.core) in
     let e = g.D.Device.model (core_disk c.pass.new.core) in
     let f = g.D.Device.model (core_disk c.work_off.new.core) in
-    let h = g.D.Device.model (core_disk c.work_off-2.new.core) in
+    let h = g.D.Device.model (core_disk c.work_off-in-loop-core.new.core) in
     let passed = goes_then (tt {0}) c.pass.result d mid e (core_seen c.args.core.now) (core_seen c.loop-core.core) (core_seen c.pass.new.core) c.loop-core.invariant.goes (over_goes c.pass.result (Clean IsTidy) mid e (core_seen c.loop-core.core) (core_seen c.pass.new.core) c.pass.ensures.looks) in
     let posted = goes_then c.in_ok-pass.field-0 c.work_off.result d e f (core_seen c.args.core.now) (core_seen c.pass.new.core) (core_seen c.work_off.new.core) (goes_value c.in_ok-pass.field-0 c.pass.result d e (core_seen c.args.core.now) (core_seen c.pass.new.core) c.in_ok-pass.was passed) c.work_off.ensures.goes in
-    ends_by_err c.in_err-work_off-2.field-0.0 c.work_off-2.result c.from_residual-in_err-work_off-2.result d h (core_seen c.args.core.now) (core_seen c.work_off-2.new.core) m c.in_err-work_off-2.was c.from_residual-in_err-work_off-2.ensures.1
-    (goes_then (tt {0}) c.work_off-2.result d f h (core_seen c.args.core.now) (core_seen c.work_off.new.core) (core_seen c.work_off-2.new.core) (goes_value (tt {0}) c.work_off.result d f (core_seen c.args.core.now) (core_seen c.work_off.new.core) c.in_ok-work_off.was posted) c.work_off-2.ensures.goes)
+    ends_by_err c.in_err-work_off-2.field-0.0 c.work_off-in-loop-core.result c.from_residual-in_err-work_off-2.result d h (core_seen c.args.core.now) (core_seen c.work_off-in-loop-core.new.core) m c.in_err-work_off-2.was c.from_residual-in_err-work_off-2.ensures.1
+    (goes_then (tt {0}) c.work_off-in-loop-core.result d f h (core_seen c.args.core.now) (core_seen c.work_off.new.core) (core_seen c.work_off-in-loop-core.new.core) (goes_value (tt {0}) c.work_off.result d f (core_seen c.args.core.now) (core_seen c.work_off.new.core) c.in_ok-work_off.was posted) c.work_off-in-loop-core.ensures.goes)
     may
 
 pub loop-core-preserved : goal.loop-core-preserved
@@ -89,12 +89,12 @@ loop-core-preserved g c =
     let mid = g.D.Device.model (core_disk c.loop-core.core) in
     let e = g.D.Device.model (core_disk c.pass.new.core) in
     let f = g.D.Device.model (core_disk c.work_off.new.core) in
-    let h = g.D.Device.model (core_disk c.work_off-2.new.core) in
+    let h = g.D.Device.model (core_disk c.work_off-in-loop-core.new.core) in
     let passed = goes_then (tt {0}) c.pass.result d mid e (core_seen c.args.core.now) (core_seen c.loop-core.core) (core_seen c.pass.new.core) c.loop-core.invariant.goes (over_goes c.pass.result (Clean IsTidy) mid e (core_seen c.loop-core.core) (core_seen c.pass.new.core) c.pass.ensures.looks) in
     let posted = goes_then c.in_ok-pass.field-0 c.work_off.result d e f (core_seen c.args.core.now) (core_seen c.pass.new.core) (core_seen c.work_off.new.core) (goes_value c.in_ok-pass.field-0 c.pass.result d e (core_seen c.args.core.now) (core_seen c.pass.new.core) c.in_ok-pass.was passed) c.work_off.ensures.goes in
     record {
-      goes = goes_value (tt {0}) c.work_off-2.result d h (core_seen c.args.core.now) (core_seen c.work_off-2.new.core) c.in_ok-work_off-2.was
-          (goes_then (tt {0}) c.work_off-2.result d f h (core_seen c.args.core.now) (core_seen c.work_off.new.core) (core_seen c.work_off-2.new.core) (goes_value (tt {0}) c.work_off.result d f (core_seen c.args.core.now) (core_seen c.work_off.new.core) c.in_ok-work_off.was posted) c.work_off-2.ensures.goes);
+      goes = goes_value (tt {0}) c.work_off-in-loop-core.result d h (core_seen c.args.core.now) (core_seen c.work_off-in-loop-core.new.core) c.in_ok-work_off-2.was
+          (goes_then (tt {0}) c.work_off-in-loop-core.result d f h (core_seen c.args.core.now) (core_seen c.work_off.new.core) (core_seen c.work_off-in-loop-core.new.core) (goes_value (tt {0}) c.work_off.result d f (core_seen c.args.core.now) (core_seen c.work_off.new.core) c.in_ok-work_off.was posted) c.work_off-in-loop-core.ensures.goes);
       may = c.in_ok-work_off-2.ensures.may;
       before = c.loop-core.invariant.before;
     }
