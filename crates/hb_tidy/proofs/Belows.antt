@@ -1,5 +1,5 @@
 -- Calls that look below a page: the errors by which they end before they look at anything, and what is said of the file then.
-use Rattle.std.proofs.Common.{◌≡◌, ◌⊎◌, inl, inr, ℕ, ◌<◌, List, [], Option, None, Some, IfSome, Result, Ok, Err, refl, sym, ap, ◌∙◌, subst}
+use Rattle.std.proofs.Common.{◌≡◌, inl, inr, ℕ, ◌<◌, List, [], Option, None, Some, IfSome, Result, Ok, Err, refl, sym, ap, ◌∙◌, subst}
 use Rattle.hb_disk.specs.Model.{DiskModel, IsDisk}
 use Rattle.hb_space.specs.Boxes.{Area}
 use Rattle.hb_frag.specs.declared.pages.LivePage.{LivePage}
@@ -9,20 +9,18 @@ use Rattle.hb_layout.specs.declared.meta.Meta.{Meta}
 use Rattle.hb_ops.specs.Files.{FileState, live_page}
 use Rattle.hb_ops.specs.Owing.{LacksRoom}
 use Rattle.hb_ops.specs.Settled.{HasChild}
-use Rattle.hb_core.specs.Machines.{Machine}
 use Rattle.hb_core.specs.Showing.{RunningCore}
-use Rattle.hb_core.specs.Working.{MayStep}
 use Rattle.hb_tidy.proofs.CallsMade.{nothing_more, runs_all}
 use Rattle.hb_tidy.proofs.Exits.{HandsOn}
 use Rattle.hb_tidy.proofs.Joined.{over_then}
 use Rattle.hb_tidy.proofs.KnownFiles.{IsFileOf, over_file}
 use Rattle.hb_tidy.specs.declared.stops.TidyStop.{TidyStop}
 use Rattle.hb_tidy.specs.declared.stops.TidyStop.TheVariants as stops
-use Rattle.hb_tidy.specs.Finding.{BothLive, OwesGrowth, OwesSplit, WantsPage}
+use Rattle.hb_tidy.specs.Finding.{BothLive, WantsPage}
 use Rattle.hb_tidy.specs.Going.{MayTidy}
 use Rattle.hb_tidy.specs.Looking.{LooksOver, NothingOf}
 use Rattle.hb_tidy.specs.Placing.{IsNotOwed}
-use Rattle.hb_tidy.specs.Tidying.{StopsTidying, file_now}
+use Rattle.hb_tidy.specs.Tidying.{file_now}
 
 -- ---- want of memory
 

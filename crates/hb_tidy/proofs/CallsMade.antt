@@ -1,50 +1,39 @@
 -- A step of a worker, a flush, a look and a job that waits, as the calls of this crate have them.
-use Rattle.std.proofs.Common.{◌≡◌, ◌≢◌, ◌⊎◌, ◌↔◌, inl, inr, ℕ, ◌+◌, ◌-◌, ◌^◌, ◌≤◌, ◌<◌, List, [], ◌∷◌, Option, Some, None, IfSome, IsSome, Result, Ok, Err, OnOk, refl, sym, ap, ◌∙◌, subst, arith}
-use Rattle.std.specs.Result.{IfErr, IfOk, IsErrOf}
+use Rattle.std.proofs.Common.{◌≡◌, ◌≢◌, ◌⊎◌, ◌↔◌, inl, inr, ℕ, ◌-◌, ◌^◌, ◌≤◌, ◌<◌, Option, Some, None, IfSome, IsSome, Result, Ok, Err, OnOk, refl, sym, ap, ◌∙◌, subst, arith}
+use Rattle.std.specs.Result.{IfErr, IfOk}
 use Rattle.std.proofs.Math.Nat.{eq-or-lt_of_le}
-use Rattle.hb_disk.proofs.Facts.RunLaws.{OnlyReads-none, OnlyReads-read}
-use Rattle.hb_disk.specs.Calls.{ReadsOnly}
+use Rattle.hb_disk.proofs.Facts.RunLaws.{OnlyReads-none}
 use Rattle.hb_disk.specs.Model.{DiskModel, IsDisk}
-use Rattle.hb_frag.specs.declared.pages.Page.{Page}
-use Rattle.hb_lemmas.proofs.Options.{at_value, not_none, of_value}
+use Rattle.hb_lemmas.proofs.Options.{at_value}
 use Rattle.hb_activity.specs.declared.dropping.DropWhy.TheVariants as drops
 use Rattle.hb_activity.specs.declared.jobs.Job.{Job}
 use Rattle.hb_layout.specs.Limits.{IsLayout}
-use Rattle.hb_ops.specs.Files.{FileState, page_of}
+use Rattle.hb_ops.specs.Files.{FileState}
 use Rattle.hb_outside.specs.Streams.{Rose}
-use Rattle.hb_store.specs.States.{IsGoodPage, StoreState}
+use Rattle.hb_store.specs.States.{StoreState}
 use Rattle.hb_store.specs.declared.stops.StopWhy.{StopWhy}
 use Rattle.hb_store.specs.declared.stops.StopWhy.TheVariants as whys
-use Rattle.hb_store.specs.declared.stops.Flushed.{Flushed}
 use Rattle.hb_store.specs.declared.stops.Why.{Why}
-use Rattle.hb_store.specs.declared.stops.WriteFault.{WriteFault}
 use Rattle.hb_core.proofs.Files.NoDamage.{stays_undamaged}
-use Rattle.hb_core.specs.Between.{CopiesPage, LetsWait, said_of_flush}
-use Rattle.hb_core.specs.BetweenLaws.{CountsStayWithin, HeightIsCounted, LookingKeepsAll, WaitingKeepsAll}
-use Rattle.hb_core.specs.Counting.{CountsFlush, CountsStay, CountsStep, CountsWithin}
-use Rattle.hb_core.specs.DamageLaws.{IsUndamaged}
-use Rattle.hb_core.specs.Fetching.{IsBadRead}
+use Rattle.hb_core.specs.Between.{LetsWait}
 use Rattle.hb_core.specs.Keeps.{HasSoundFile}
 use Rattle.hb_core.specs.KeptFits.{JobFits}
-use Rattle.hb_core.specs.Machines.{Files, Machine, current_file}
-use Rattle.hb_core.specs.Runs.{RunningLaws}
+use Rattle.hb_core.specs.Machines.{Machine}
 use Rattle.hb_core.specs.Showing.{RunningCore, ShowsMachine}
 use Rattle.hb_core.specs.Steps.{StepsTo}
 use Rattle.hb_core.specs.Touching.{EndsByRead, Touches}
 use Rattle.hb_core.specs.Working.{MayStep}
-use Rattle.hb_core.specs.declared.copies.CopyStop.{CopyStop}
-use Rattle.hb_core.specs.declared.copies.CopyStop.TheVariants as copies
 use Rattle.hb_core.specs.declared.outcomes.Outcome.{Outcome}
 use Rattle.hb_core.specs.declared.outcomes.Outcome.TheVariants as outcomes
-use Rattle.hb_tidy.proofs.CountsOfCalls.{flush_rises, same_rises, stay_rises, step_rises}
+use Rattle.hb_tidy.proofs.CountsOfCalls.{same_rises}
 use Rattle.hb_tidy.proofs.Joined.{may_then}
 use Rattle.hb_tidy.proofs.OneCall.{StandsStill, run_tidied, step_runs, step_taken, still_itself, still_tidied, still_tidied_new, still_waiting}
 use Rattle.hb_tidy.proofs.Workers.{IsWorker, flusher_leaves, is_actor}
 use Rattle.hb_tidy.specs.declared.stops.TidyStop.{TidyStop}
 use Rattle.hb_tidy.specs.declared.stops.TidyStop.TheVariants as stops
 use Rattle.hb_tidy.specs.Counted.{CountsRise, EndsSpent}
-use Rattle.hb_tidy.specs.Going.{Does, Goes, MayTidy}
-use Rattle.hb_tidy.specs.Looking.{FileStays, Looks, LooksOver, NothingOf, SeesBy}
+use Rattle.hb_tidy.specs.Going.{Goes, MayTidy}
+use Rattle.hb_tidy.specs.Looking.{FileStays, LooksOver, NothingOf}
 use Rattle.hb_tidy.specs.Stepping.{EndsCall, EndsStep, stop_by}
 use Rattle.hb_tidy.specs.Tidying.{HasTidied, StopsTidying, file_now}
 
@@ -62,7 +51,7 @@ never_both : (stop : Option StopWhy) → stop ≡ None → stop ≡ Some whys.Wr
 never_both stop none fault = let never : None ≡ Some whys.WriteFault = sym none ∙ fault in cc
 
 below_last : (taken : ℕ) → taken ≤ 2 ^ 64 - 1 → (taken ≡ 2 ^ 64 - 1 → ⊥) → taken < 2 ^ 64 - 1
-below_last taken last ne = elim (eq-or-lt_of_le last) [ | inl same ↦ absurd (ne same) | inr less ↦ less ]
+below_last taken last ne = elim (eq-or-lt_of_le last) [ inl same ↦ absurd (ne same) | inr less ↦ less ]
 
 not_last : (taken : ℕ) → taken < 2 ^ 64 - 1 → taken ≡ 2 ^ 64 - 1 → ⊥
 not_last taken less is = omega (arith, less, is)

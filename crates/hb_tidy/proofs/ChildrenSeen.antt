@@ -1,5 +1,5 @@
 -- Looks at the pages below a page, one child leaf after the other.
-use Rattle.std.proofs.Common.{◌≡◌, ℕ, ◌+◌, ◌<◌, List, [], All, length, get_or, take, Option, None, Some, IfSome, Result, Ok, refl, sym, ap, ◌∙◌, subst}
+use Rattle.std.proofs.Common.{◌≡◌, ℕ, ◌+◌, ◌<◌, List, [], All, length, get_or, take, Option, None, Some, IfSome, Result, Ok, subst}
 use Rattle.hb_disk.specs.Model.{DiskModel, IsDisk}
 use Rattle.hb_space.specs.Boxes.{Area, Meets}
 use Rattle.hb_activity.specs.declared.jobs.Job.{Job}
@@ -40,15 +40,17 @@ module _ (parent : ℕ) (above : LivePage) where
   child_seen name below area given first before after r d e old new is none one =
       over_weaker (BothLive parent above name below) (BothLive parent above name below) r (λ v s. after ≡ [] → (before ≡ []) × ((gone : ℕ) → ¬ (IsMergeable s parent name gone))) (SeesBelow (name, area) first after) d e old new (λ s both. both)
       (λ s v both said empty.
-        let last = said empty in
-        let posted = none last.0 in
-        (posted.0, record {
+      let last = said empty in
+      let posted = none last.0 in (
+        posted.0,
+        record {
           posted = λ named live.
               let same = same_page s name below named both.1 live in
               subst (λ (page : LivePage). All (λ (sibling : ℕ × Area). ¬ (Meets area sibling.1)) (siblings_of page)) same
               (subst (λ (ss : List (ℕ × Area)). All (λ (sibling : ℕ × Area). ¬ (Meets area sibling.1)) ss) is posted.1);
           none = last.1;
-        }))
+        },
+      ))
       one
 
   -- after the look by which the child was found

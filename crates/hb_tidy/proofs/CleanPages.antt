@@ -1,16 +1,14 @@
 -- Pages at which nothing was found, and the whole file where none is left.
-use Rattle.std.proofs.Common.{◌≡◌, ◌≢◌, ◌⊎◌, inl, inr, ℕ, zero, suc, ◌+◌, ◌<◌, ◌≤◌, List, [], ◌∷◌, All, Option, Some, None, IsSome, refl, sym, ap, ◌∙◌, subst, arith}
+use Rattle.std.proofs.Common.{◌≡◌, ◌⊎◌, inl, inr, ℕ, ◌+◌, ◌<◌, ◌≤◌, All, Some, None, sym, subst, arith}
 use Rattle.std.specs.List.{Contains}
 use Rattle.std.proofs.lemmas.List.Elements.{All-contains}
 use Rattle.std.proofs.Math.Nat.{eq-or-lt_of_le}
 use Rattle.std.proofs.lemmas.Bool.{cases_lt}
-use Rattle.hb_lemmas.proofs.Lists.{first_member, later_member, no_member}
 use Rattle.hb_lemmas.proofs.Options.{not_none}
-use Rattle.hb_space.specs.Boxes.{Area, Meets}
+use Rattle.hb_space.specs.Boxes.{Area}
 use Rattle.hb_frag.specs.declared.leaves.Leaf.TheVariants.{Child}
 use Rattle.hb_frag.specs.declared.pages.LivePage.{LivePage}
-use Rattle.hb_frag.specs.Leaves.{first_named, leaves, leaves_of, siblings_of}
-use Rattle.hb_frag.specs.Rules.{capacity_of}
+use Rattle.hb_frag.specs.Leaves.{leaves, leaves_of, siblings_of}
 use Rattle.hb_layout.specs.declared.meta.Meta.{Meta}
 use Rattle.hb_ops.specs.Files.{FileState, live_page}
 use Rattle.hb_ops.specs.Merging.{FitsMerge}
@@ -29,10 +27,12 @@ use Rattle.hb_tidy.specs.Placing.{placed_children}
 pub fits_known : (s : FileState) (parent keep gone : ℕ) (above kept : LivePage) → live_page s parent ≡ Some above → live_page s keep ≡ Some kept → IsMergeable s parent keep gone
     → (going : LivePage) × (live_page s gone ≡ Some going) × FitsMerge s.meta parent keep gone above kept going
 fits_known s parent keep gone above kept above_live kept_live may =
-    let are = joins s parent keep gone may in
-    (are.going, are.gone_live,
+    let are = joins s parent keep gone may in (
+      are.going,
+      are.gone_live,
       subst (λ (p : LivePage). FitsMerge s.meta parent keep gone p kept are.going) (same_page s parent are.above above are.above_live above_live)
-      (subst (λ (k : LivePage). FitsMerge s.meta parent keep gone are.above k are.going) (same_page s keep are.kept kept are.kept_live kept_live) are.fits))
+          (subst (λ (k : LivePage). FitsMerge s.meta parent keep gone are.above k are.going) (same_page s keep are.kept kept are.kept_live kept_live) are.fits),
+    )
 
 -- the page to go is one to which the page to keep gave a box
 pub gone_listed : (s : FileState) (parent keep gone : ℕ) (above kept : LivePage) → live_page s parent ≡ Some above → live_page s keep ≡ Some kept → IsMergeable s parent keep gone → (area : Area) × Contains (siblings_of kept) (gone, area)
@@ -48,7 +48,7 @@ not_mergeable c s parent keep gone above kept going file above_live kept_live go
     let fits = fits_known s parent keep gone above kept above_live kept_live may in
     unfit
     (subst (λ (meta : Meta). FitsMerge meta parent keep gone above kept going) file.meta
-      (subst (λ (g : LivePage). FitsMerge s.meta parent keep gone above kept g) (same_page s gone fits.0 going fits.1 gone_live) fits.2))
+    (subst (λ (g : LivePage). FitsMerge s.meta parent keep gone above kept g) (same_page s gone fits.0 going fits.1 gone_live) fits.2))
 
 -- ---- a page of a number
 

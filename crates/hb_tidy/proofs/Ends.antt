@@ -1,6 +1,5 @@
 -- How a tidying ends.
-use Rattle.std.proofs.Common.{◌≡◌, ℕ, ◌+◌, ◌-◌, ◌^◌, ◌<◌, ◌≤◌, Bool, true, Option, None, Some, IfSome, Result, Ok, Err, refl, sym, ap, ◌∙◌, subst, arith}
-use Rattle.std.specs.Result.{IfErr}
+use Rattle.std.proofs.Common.{◌≡◌, ◌-◌, ◌^◌, ◌<◌, true, Option, None, Some, IfSome, Result, Ok, Err, refl, sym, ap, ◌∙◌, subst, arith}
 use Rattle.hb_disk.proofs.Facts.RunLaws.{OnlyReads-none}
 use Rattle.hb_disk.specs.Model.{DiskModel, IsDisk}
 use Rattle.hb_ops.specs.Files.{FileState}
@@ -20,7 +19,7 @@ use Rattle.hb_tidy.specs.Counted.{AreAtMost, CountsRise, added}
 use Rattle.hb_tidy.specs.Finding.{IsTidy}
 use Rattle.hb_tidy.specs.Going.{Goes, MayTidy}
 use Rattle.hb_tidy.specs.Looking.{LooksOver, NothingOf}
-use Rattle.hb_tidy.specs.Tidying.{EndsTidying, HasCounted, HasTidied, StopsTidying, file_now}
+use Rattle.hb_tidy.specs.Tidying.{EndsTidying, HasCounted, HasTidied, file_now}
 
 -- what the caller of a tidying is told of a machine
 abbrev pub Ended : Result TidyCounts TidyStop → DiskModel → RunningCore → DiskModel → RunningCore → Machine → Type 0

@@ -1,8 +1,7 @@
 -- A tidying with a flush behind it: the file is the same, and where no fault ended it no group waits.
 use Rattle.std.specs.Prelude.{MatchOption}
-use Rattle.std.proofs.Common.{◌≡◌, ◌⊎◌, inl, inr, ℕ, [], Option, Some, None, Ok, Err, Result, IsSome, refl, sym, ap, ◌∙◌, subst}
+use Rattle.std.proofs.Common.{◌≡◌, inl, inr, ℕ, [], Option, None, Ok, Result, refl, sym, ap, ◌∙◌, subst}
 use Rattle.hb_activity.specs.declared.activities.Activity.{Activity}
-use Rattle.hb_activity.specs.declared.activities.Activity.TheVariants as at
 use Rattle.hb_core.proofs.Running.BetweenCalls.{flusher_stands}
 use Rattle.hb_core.specs.Between.{said_of_flush}
 use Rattle.hb_core.specs.Forcing.{FailsToWrite, Flushes, FlushesRest, ForcesAll, StaysSo}
@@ -20,7 +19,6 @@ use Rattle.hb_disk.specs.Model.{DiskModel, IsDisk}
 use Rattle.hb_store.specs.declared.stops.Flushed.{Flushed}
 use Rattle.hb_store.specs.declared.stops.Flushed.TheVariants as flushes
 use Rattle.hb_store.specs.declared.stops.StopWhy.{StopWhy}
-use Rattle.hb_store.specs.declared.stops.StopWhy.TheVariants as whys
 use Rattle.hb_store.specs.declared.stops.WriteFault.{WriteFault}
 use Rattle.hb_tidy.proofs.Joined.{may_then, tidied_then, tidied_then_new}
 use Rattle.hb_tidy.proofs.OneCall.{run_tidied, step_runs, step_taken}

@@ -1,5 +1,5 @@
 -- A job that waits, as a core tells it.
-use Rattle.std.proofs.Common.{◌≡◌, Ok, refl, sym, ap, subst}
+use Rattle.std.proofs.Common.{◌≡◌, Ok, sym, ap, subst}
 use Rattle.hb_activity.specs.declared.jobs.Job.{Job}
 use Rattle.hb_disk.specs.Model.{DiskModel, IsDisk}
 use Rattle.hb_core.specs.Between.{AddsToQueue, LetsWait}

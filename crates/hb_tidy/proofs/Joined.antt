@@ -1,5 +1,5 @@
 -- One call after another: what they come to together.
-use Rattle.std.proofs.Common.{◌≡◌, ◌≢◌, ◌⊎◌, inl, inr, ℕ, ◌+◌, ◌≤◌, ◌<◌, ◌-◌, ◌^◌, List, [], ◌∷◌, Option, Some, None, IfSome, IsSome, Result, Ok, Err, refl, sym, ap, ◌∙◌, subst, arith}
+use Rattle.std.proofs.Common.{◌≡◌, List, [], Option, Some, None, IfSome, Result, Ok, Err, refl, sym, ◌∙◌, subst, arith}
 use Rattle.std.specs.Result.{IfErr, IfOk}
 use Rattle.std.proofs.lemmas.List.Elements.{All-nil}
 use Rattle.hb_disk.proofs.Facts.RewriteLaws.{Becomes-tells}
@@ -23,7 +23,7 @@ use Rattle.hb_core.specs.Working.{MayStep}
 use Rattle.hb_tidy.specs.declared.stops.TidyStop.{TidyStop}
 use Rattle.hb_tidy.specs.declared.stops.TidyStop.TheVariants as stops
 use Rattle.hb_tidy.proofs.LiveCounted.{live_then}
-use Rattle.hb_tidy.specs.Counted.{CountsRise, EndsSpent}
+use Rattle.hb_tidy.specs.Counted.{CountsRise}
 use Rattle.hb_tidy.specs.Going.{Does, Goes}
 use Rattle.hb_tidy.specs.Looking.{FileStays, Looks, LooksOver, NothingOf}
 use Rattle.hb_tidy.specs.Tidying.{HasTidied, KeepsSet, StopsTidying, file_now}

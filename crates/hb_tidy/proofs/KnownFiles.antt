@@ -1,12 +1,10 @@
 -- What is known of the file of a machine that a core shows.
-use Rattle.std.proofs.Common.{◌≡◌, ◌≢◌, ◌⊎◌, inl, inr, ℕ, ◌+◌, ◌-◌, ◌<◌, ◌≤◌, List, [], ◌∷◌, length, Option, Some, None, IfSome, Result, Ok, Err, option_map, refl, sym, ap, ◌∙◌, subst, arith}
-use Rattle.std.specs.Result.{IfOk}
+use Rattle.std.proofs.Common.{◌≡◌, ◌⊎◌, inl, inr, ℕ, ◌-◌, ◌<◌, List, [], ◌∷◌, length, Option, Some, None, IfSome, Result, option_map, refl, ap, ◌∙◌, arith}
 use Rattle.hb_disk.specs.Model.{DiskModel}
 use Rattle.hb_frag.specs.declared.pages.Page.{Page}
-use Rattle.hb_frag.specs.declared.pages.LivePage.{LivePage}
 use Rattle.hb_lemmas.proofs.Booleans.{at_other}
 use Rattle.hb_layout.specs.declared.meta.Meta.{Meta}
-use Rattle.hb_ops.specs.Files.{FileState, if_live, live_page, page_at, page_of}
+use Rattle.hb_ops.specs.Files.{FileState, if_live, live_page, page_at}
 use Rattle.hb_ops.specs.Sound.{IsSound}
 use Rattle.hb_store.specs.States.{StoreState}
 use Rattle.hb_core.proofs.Walks.LaterPages.{last_sound}
@@ -14,9 +12,8 @@ use Rattle.hb_core.specs.Keeps.{HasSoundFile}
 use Rattle.hb_core.specs.Machines.{Files, Machine, current_file}
 use Rattle.hb_core.specs.Showing.{RunningCore}
 use Rattle.hb_core.specs.Working.{MayStep}
-use Rattle.hb_tidy.proofs.Joined.{ok_weaker}
 use Rattle.hb_tidy.specs.declared.stops.TidyStop.{TidyStop}
-use Rattle.hb_tidy.specs.Looking.{Looks, LooksOver}
+use Rattle.hb_tidy.specs.Looking.{LooksOver}
 use Rattle.hb_tidy.specs.Tidying.{file_now}
 
 -- It is sound, and says of itself what the core says.

@@ -1,5 +1,5 @@
 -- A look at a page, as the calls of this crate have it.
-use Rattle.std.proofs.Common.{◌≡◌, ◌⊎◌, inl, inr, ℕ, ◌-◌, ◌^◌, ◌≤◌, ◌<◌, Option, Some, None, IfSome, IsSome, Result, Ok, Err, OnOk, option_map, refl, sym, ap, ◌∙◌, subst, arith}
+use Rattle.std.proofs.Common.{◌≡◌, ℕ, ◌-◌, ◌^◌, ◌<◌, Option, Some, None, IfSome, Result, Ok, Err, OnOk, option_map, refl, sym, ap, ◌∙◌, subst, arith}
 use Rattle.std.specs.Result.{IfErr, IfOk, IsErrOf}
 use Rattle.hb_disk.proofs.Facts.RunLaws.{OnlyReads-read}
 use Rattle.hb_disk.specs.Calls.{ReadsOnly}
@@ -10,15 +10,12 @@ use Rattle.hb_layout.specs.declared.meta.Meta.{Meta}
 use Rattle.hb_ops.specs.Files.{FileState, page_of}
 use Rattle.hb_outside.specs.Streams.{Rose}
 use Rattle.hb_store.specs.States.{IsGoodPage, StoreState}
-use Rattle.hb_store.specs.declared.stops.StopWhy.TheVariants as whys
 use Rattle.hb_store.specs.declared.stops.Why.{Why}
 use Rattle.hb_store.specs.declared.stops.Why.TheVariants.{Rule, Level, Extent}
 use Rattle.hb_core.specs.Between.{CopiesPage}
-use Rattle.hb_core.specs.BetweenLaws.{CountsStayWithin, LookingKeepsAll}
 use Rattle.hb_core.specs.Counting.{CountsStay}
 use Rattle.hb_core.specs.Fetching.{IsBadRead}
 use Rattle.hb_core.specs.Machines.{Files, Machine, current_file}
-use Rattle.hb_core.specs.Runs.{RunningLaws}
 use Rattle.hb_core.specs.Showing.{RunningCore}
 use Rattle.hb_core.specs.Working.{MayStep}
 use Rattle.hb_core.specs.declared.copies.CopyStop.{CopyStop}

@@ -1,5 +1,5 @@
 -- What one call comes to, from a machine that a core shows: a step of a worker, a flush, a job that waits, a look.
-use Rattle.std.proofs.Common.{◌≡◌, ◌⊎◌, inl, inr, ℕ, ◌≤◌, List, [], ◌∷◌, Option, Some, None, Result, Ok, Err, IsSome, refl, sym, ap, ◌∙◌, subst, arith}
+use Rattle.std.proofs.Common.{◌≡◌, ℕ, List, [], ◌∷◌, Some, None, Result, Ok, Err, refl, sym, ap, ◌∙◌, subst, arith}
 use Rattle.std.proofs.lemmas.List.Elements.{All-nil}
 use Rattle.hb_disk.proofs.Facts.BecomesLaws.{Becomes-read}
 use Rattle.hb_disk.proofs.Facts.RunLaws.{Leaves-read}
@@ -9,13 +9,10 @@ use Rattle.hb_disk.specs.Model.{DiskModel, IsDisk}
 use Rattle.hb_frag.specs.declared.pages.Page.{Page}
 use Rattle.hb_lemmas.proofs.Options.{not_none}
 use Rattle.hb_layout.specs.Offsets.{file_size}
-use Rattle.hb_layout.specs.declared.meta.Meta.{Meta}
 use Rattle.hb_activity.specs.declared.jobs.Job.{Job}
 use Rattle.hb_set.specs.Machine.{RecordSet}
 use Rattle.hb_set.specs.Order.{Entry, result_of}
 use Rattle.hb_set.specs.declared.scripts.Answered.{Answered}
-use Rattle.hb_store.specs.States.{StoreState}
-use Rattle.hb_store.specs.declared.stops.StopWhy.{StopWhy}
 use Rattle.hb_store.specs.declared.stops.StopWhy.TheVariants as whys
 use Rattle.hb_store.specs.declared.stops.Why.{Why}
 use Rattle.hb_store.specs.declared.stops.Why.TheVariants.{Rule, Level, Extent}
@@ -28,7 +25,7 @@ use Rattle.hb_core.specs.KeptFits.{JobFits}
 use Rattle.hb_core.specs.KeptMachine.{CoreKeeps, MachineKeeps}
 use Rattle.hb_core.specs.Machines.{Files, Machine, stopped_for}
 use Rattle.hb_core.specs.Performing.{given_by}
-use Rattle.hb_core.specs.Runs.{ChangesFile, CountsFaults, HasReadFault, HasRun, HoldsSince, IsPrefixImage, RunningLaws}
+use Rattle.hb_core.specs.Runs.{ChangesFile, HasReadFault, HasRun, HoldsSince, IsPrefixImage, RunningLaws}
 use Rattle.hb_core.specs.Showing.{RunningCore, ShowsMachine}
 use Rattle.hb_core.specs.Steps.{StepsInSequence, StepsTo}
 use Rattle.hb_core.specs.Touching.{Touches}

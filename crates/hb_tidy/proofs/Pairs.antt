@@ -1,5 +1,5 @@
 -- Looks at the pages that one page gave boxes to, whether it may take one over.
-use Rattle.std.proofs.Common.{◌≡◌, inl, inr, ℕ, ◌+◌, ◌<◌, true, false, List, [], All, length, get_or, take, Option, None, Some, Result, Ok, refl, sym, ap, ◌∙◌, subst}
+use Rattle.std.proofs.Common.{◌≡◌, ℕ, ◌+◌, ◌<◌, true, false, List, [], All, length, get_or, take, Option, None, Some, Ok}
 use Rattle.std.specs.List.{Contains}
 use Rattle.std.proofs.lemmas.List.Elements.{All-contains}
 use Rattle.hb_disk.specs.Model.{DiskModel, IsDisk}
@@ -68,9 +68,12 @@ module _ (parent keep : ℕ) (above kept : LivePage) where
       → LooksOver (BothLive parent above keep kept) (Ok (tt {0})) (λ v s. after ≡ [] → (before ≡ []) × ((gone : ℕ) → ¬ (IsMergeable s parent keep gone))) d old e new
   pairs_all before after d e old new one =
       over_weaker Both Both (Ok (tt {0})) (NoneGoing (siblings_of kept) before after) (λ v s. after ≡ [] → (before ≡ []) × ((gone : ℕ) → ¬ (IsMergeable s parent keep gone))) d e old new (λ s both. both)
-      (λ s w both said empty. let all = said empty in (all.0, λ gone merge.
-        let listed = gone_listed s parent keep gone above kept both.0 both.1 merge in
-        All-contains (λ (leaf : ℕ × Area). ¬ (IsMergeable s parent keep leaf.0)) (siblings_of kept) (gone, listed.0) all.1 listed.1 merge))
+      (λ s w both said empty. let all = said empty in (
+        all.0,
+        λ gone merge.
+            let listed = gone_listed s parent keep gone above kept both.0 both.1 merge in
+            All-contains (λ (leaf : ℕ × Area). ¬ (IsMergeable s parent keep leaf.0)) (siblings_of kept) (gone, listed.0) all.1 listed.1 merge,
+      ))
       one
 
 pub never_true : false ≡ true → ⊥

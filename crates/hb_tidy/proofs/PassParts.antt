@@ -1,5 +1,5 @@
 -- A pass, page by page, and its end.
-use Rattle.std.proofs.Common.{◌≡◌, ◌⊎◌, ◌↔◌, inl, inr, ℕ, ◌+◌, ◌<◌, ◌≤◌, Bool, true, false, [], Option, None, Some, IfSome, Result, Ok, refl, sym, ap, ◌∙◌, subst, arith}
+use Rattle.std.proofs.Common.{◌≡◌, ◌⊎◌, ◌↔◌, inl, inr, ℕ, ◌+◌, ◌<◌, ◌≤◌, Bool, true, false, [], Option, Some, Result, Ok, refl, sym, ap, ◌∙◌, subst, arith}
 use Rattle.std.proofs.lemmas.Bool.{cases_lt}
 use Rattle.hb_disk.specs.Model.{DiskModel, IsDisk}
 use Rattle.hb_frag.specs.declared.pages.LivePage.{LivePage}
@@ -13,7 +13,7 @@ use Rattle.hb_sound.proofs.OneLevel.{same_page}
 use Rattle.hb_core.specs.Showing.{RunningCore}
 use Rattle.hb_tidy.proofs.CallsMade.{nothing_looked}
 use Rattle.hb_tidy.proofs.CleanPages.{file_is_tidy, tidy_at_next, tidy_at_none}
-use Rattle.hb_tidy.proofs.Joined.{over_known, over_ok, over_then, over_weaker}
+use Rattle.hb_tidy.proofs.Joined.{over_known, over_ok, over_then}
 use Rattle.hb_tidy.proofs.KnownFiles.{IsFileOf, over_file}
 use Rattle.hb_tidy.specs.declared.stops.TidyStop.{TidyStop}
 use Rattle.hb_tidy.specs.Finding.{AreTidyUpTo, HasGrown, IsTidy, IsTidyAt}
@@ -37,7 +37,7 @@ pub pages_begin : (clean : Bool) (d e : DiskModel) (old new : RunningCore) → L
 pages_begin clean d e old new one =
     over_file NothingOf (Ok (tt {0})) (λ v s. clean ≡ true → HasGrown s × AreTidyUpTo s 0) d e old new
     (over_ok (λ s. IsFileOf old s × NothingOf s) clean (tt {0}) (Clean HasGrown) (λ v s. clean ≡ true → HasGrown s × AreTidyUpTo s 0) d e old new (λ s known said is. (said is, tidy_at_none old s known.0))
-      (over_known (λ s. IsFileOf old s × NothingOf s) (Ok clean) (Clean HasGrown) d e old new one))
+    (over_known (λ s. IsFileOf old s × NothingOf s) (Ok clean) (Clean HasGrown) d e old new one))
 
 pub pages_next : (clean nothing both : Bool) (place : ℕ) (d e f : DiskModel) (old mid new : RunningCore) → (both ≡ true → (clean ≡ true) × (nothing ≡ true)) → LooksOver {T = Unit {0}} NothingOf (Ok (tt {0})) (λ v s. clean ≡ true → HasGrown s × AreTidyUpTo s place) d old e mid
     → LooksOver NothingOf (Ok nothing) (Clean (λ s. IsTidyAt s (place + 1))) e mid f new → LooksOver {T = Unit {0}} NothingOf (Ok (tt {0})) (λ v s. both ≡ true → HasGrown s × AreTidyUpTo s (place + 1)) d old f new
@@ -50,7 +50,7 @@ pub pages_all : (clean : Bool) (d e : DiskModel) (old new : RunningCore) → Loo
 pages_all clean d e old new one =
     over_file NothingOf (Ok clean) (Clean IsTidy) d e old new
     (over_ok (λ s. IsFileOf old s × NothingOf s) (tt {0}) clean (λ v s. clean ≡ true → HasGrown s × AreTidyUpTo s old.store.meta.high) (Clean IsTidy) d e old new (λ s known said is. let all = said is in file_is_tidy old s known.0 all.0 all.1)
-      (over_known (λ s. IsFileOf old s × NothingOf s) (Ok (tt {0})) (λ v s. clean ≡ true → HasGrown s × AreTidyUpTo s old.store.meta.high) d e old new one))
+    (over_known (λ s. IsFileOf old s × NothingOf s) (Ok (tt {0})) (λ v s. clean ≡ true → HasGrown s × AreTidyUpTo s old.store.meta.high) d e old new one))
 
 -- ---- the root
 
@@ -66,10 +66,10 @@ pub root_then : (root : LivePage) (r : Result Bool TidyStop) (d e f : DiskModel)
 root_then root r d e f old mid new one two =
     over_file NothingOf r (Clean HasGrown) d f old new
     (over_then (λ s. IsFileOf old s × NothingOf s) (Some root) (λ page s. live_page s old.store.meta.root ≡ page) (λ s. live_page s s.meta.root ≡ Some root) r (Clean HasLoneRoot) (Clean HasGrown) d e f old mid new
-      (over_known (λ s. IsFileOf old s × NothingOf s) (Ok (Some root)) (λ page s. live_page s old.store.meta.root ≡ page) d e old mid one)
-      (λ s known said. ap (λ (x : Meta). live_page s x.root) known.0.meta ∙ said)
-      two
-      (λ s v known said more is. inr (more is)))
+    (over_known (λ s. IsFileOf old s × NothingOf s) (Ok (Some root)) (λ page s. live_page s old.store.meta.root ≡ page) d e old mid one)
+    (λ s known said. ap (λ (x : Meta). live_page s x.root) known.0.meta ∙ said)
+    two
+    (λ s v known said more is. inr (more is)))
 
 -- something is to be done
 pub found_then : {T : Type 0} (v : T) (says : T → FileState → Type 0) (P : FileState → Type 0) (d e f : DiskModel) (old mid new : RunningCore) → LooksOver NothingOf (Ok v) says d old e mid → LooksOver {T = Unit {0}} NothingOf (Ok (tt {0})) (λ w. NothingOf) e mid f new → LooksOver NothingOf (Ok false) (Clean P) d old f new

@@ -1,7 +1,6 @@
 -- A call that has done nothing yet.
-use Rattle.std.proofs.Common.{◌≡◌, Ok, Option, None, Some, IfSome}
+use Rattle.std.proofs.Common.{Ok}
 use Rattle.hb_disk.specs.Model.{DiskModel, IsDisk}
-use Rattle.hb_ops.specs.Files.{FileState}
 use Rattle.hb_core.specs.Showing.{RunningCore}
 use Rattle.hb_tidy.proofs.CallsMade.{nothing_looked}
 use Rattle.hb_tidy.proofs.Joined.{over_goes}

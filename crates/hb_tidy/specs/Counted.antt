@@ -1,5 +1,5 @@
 -- What the calls of this crate make of the counts of a core.
-use Rattle.std.specs.Prelude.{◌≡◌, ◌↔◌, ℕ, ◌+◌, ◌<◌, ◌-◌, ◌^◌, ◌≤◌, Result, MatchResult}
+use Rattle.std.specs.Prelude.{◌≡◌, ◌↔◌, ◌+◌, ◌<◌, ◌-◌, ◌^◌, ◌≤◌, Result, MatchResult}
 use Rattle.hb_core.specs.declared.counts.TidyCounts.{TidyCounts}
 use Rattle.hb_core.specs.Counting.{CountsWithin}
 use Rattle.hb_core.specs.Showing.{RunningCore}

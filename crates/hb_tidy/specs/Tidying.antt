@@ -1,5 +1,5 @@
 -- What a tidying comes to, from a machine that a core shows to one that it shows then, and how it ends.
-use Rattle.std.specs.Prelude.{◌≡◌, ℕ, ◌+◌, ◌<◌, ◌-◌, ◌^◌, [], Result, Ok, Err, IfSome, IsSome, Option, Some, None, option_map}
+use Rattle.std.specs.Prelude.{◌≡◌, ◌+◌, ◌<◌, ◌-◌, ◌^◌, [], Result, Ok, Err, IfSome, IsSome, Option, Some, None, option_map}
 use Rattle.hb_disk.specs.Calls.{Becomes}
 use Rattle.hb_disk.specs.Model.{DiskModel}
 use Rattle.hb_layout.specs.Offsets.{file_size}

@@ -72,7 +72,14 @@ fn look_below<D: Device>(
     ensures fit { All (JobFits (core_seen core.old).store.meta.k) jobs.new.items }
 {
     match child_below(core, parent, name, area)? {
-        Some(page) => look_into(alloc, core, parent, &Numbered { id: name, page }, area, jobs),
+        Some(page) => look_into(
+            alloc,
+            core,
+            parent,
+            &Numbered { id: name, page },
+            area,
+            jobs,
+        ),
         None => {
             owe_job(core.meta(), JobKind::Post, &parent.page, area, jobs)?;
             Ok(())

@@ -188,13 +188,7 @@ pub(crate) fn owe_merge(
 }
 
 /// Whether two children of a parent may become one page.
-fn may_merge(
-    meta: &Meta,
-    parent: &Numbered,
-    keep: &Numbered,
-    gone: u32,
-    going: &LivePage,
-) -> bool
+fn may_merge(meta: &Meta, parent: &Numbered, keep: &Numbered, gone: u32, going: &LivePage) -> bool
     requires layout { IsLayout meta.now }
     requires parent { FitsFile meta.now parent.now.page }
     requires keep { FitsFile meta.now keep.now.page }
@@ -215,13 +209,7 @@ fn are_three(parent: u32, keep: u32, gone: u32) -> bool
 }
 
 /// Whether the plan for the two is that they become one.
-fn plans_merge(
-    meta: &Meta,
-    parent: &Numbered,
-    keep: &Numbered,
-    gone: u32,
-    going: &LivePage,
-) -> bool
+fn plans_merge(meta: &Meta, parent: &Numbered, keep: &Numbered, gone: u32, going: &LivePage) -> bool
     requires layout { IsLayout meta.now }
     requires parent { FitsFile meta.now parent.now.page }
     requires keep { FitsFile meta.now keep.now.page }

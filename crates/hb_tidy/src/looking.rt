@@ -11,7 +11,7 @@ ghost use Rattle.hb_tidy.specs.Looking.{LooksOver, NothingOf, SeesBy};
 
 use crate::TidyStop;
 use crate::stepping::flush;
-use hb_core::{Core, CopyStop};
+use hb_core::{CopyStop, Core};
 use hb_disk::Device;
 use hb_frag::{LivePage, Page};
 use hb_layout::Meta;

@@ -1,15 +1,14 @@
-use Rattle.std.proofs.Common.{◌≡◌, ℕ, ◌-◌, ◌^◌, ◌<◌, ◌≤◌, Bool, true, Ok, Err, sym, ap, ◌∙◌, arith, subst}
+use Rattle.std.proofs.Common.{◌≡◌, true, sym, ap, ◌∙◌, arith}
 use Rattle.hb_core.specs.CoreSeen.{core_seen, core_disk}
-use Rattle.hb_core.specs.Showing.{RunningCore}
 use Rattle.hb_core.specs.declared.counts.TidyCounts.{TidyCounts}
-use Rattle.hb_tidy.proofs.Ends.{at_most, ends_at_once, ends_by_err, ends_well}
+use Rattle.hb_tidy.proofs.Ends.{ends_at_once, ends_by_err, ends_well}
 use Rattle.hb_tidy.proofs.Exits.{goes_value, ok_is, over_value}
-use Rattle.hb_tidy.proofs.Joined.{goes_ok, goes_then, over_goes, rise_then}
+use Rattle.hb_tidy.proofs.Joined.{goes_then, over_goes}
 use Rattle.hb_tidy.proofs.PassParts.{Clean}
 use Rattle.hb_tidy.proofs.RunsBegun.{goes_none}
 use Rattle.hb_tidy.specs.Counted.{added}
 use Rattle.hb_tidy.specs.Finding.{IsTidy}
-use Rattle.hb_tidy.specs.Going.{MayTidy, TidyLaws}
+use Rattle.hb_tidy.specs.Going.{MayTidy}
 use Rattle.hb_tidy.specs.Looking.{NothingOf}
 use Rattle.hb_tidy.proofs.tidy.Goals as goal
 

@@ -1,7 +1,6 @@
-use Rattle.std.proofs.Common.{◌≡◌, ℕ, ◌≤◌, List, [], All, length, get_or, take, Ok, refl, sym, ◌∙◌, arith, rules, subst}
+use Rattle.std.proofs.Common.{◌≡◌, ℕ, ◌≤◌, List, All, length, get_or, Ok, refl, ◌∙◌, arith, rules, subst}
 use Rattle.std.proofs.lemmas.List.{take_all}
 use Rattle.hb_space.specs.Boxes.{Area}
-use Rattle.hb_activity.specs.declared.jobs.Job.{Job}
 use Rattle.hb_core.specs.CoreSeen.{core_seen, core_disk}
 use Rattle.hb_core.specs.KeptFits.{JobFits}
 use Rattle.hb_layout.specs.declared.meta.Meta.{Meta}

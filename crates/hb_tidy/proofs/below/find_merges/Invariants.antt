@@ -1,4 +1,4 @@
-use Rattle.std.proofs.Common.{◌≡◌, ℕ, List, [], All, Ok, take}
+use Rattle.std.proofs.Common.{◌≡◌, ℕ, [], All, Ok, take}
 use Rattle.hb_space.specs.Boxes.{Area}
 use Rattle.hb_ops.specs.Settled.{IsMergeable}
 use Rattle.hb_core.specs.CoreSeen.{core_seen, core_disk}

@@ -1,4 +1,4 @@
-use Rattle.std.proofs.Common.{◌≡◌, ℕ, List, [], All, Ok, Some, take}
+use Rattle.std.proofs.Common.{◌≡◌, [], All, Ok, Some, take}
 use Rattle.hb_ops.specs.Files.{live_page}
 use Rattle.hb_core.specs.CoreSeen.{core_seen, core_disk}
 use Rattle.hb_core.specs.KeptFits.{JobFits}

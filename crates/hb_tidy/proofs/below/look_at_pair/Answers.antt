@@ -1,5 +1,4 @@
-use Rattle.std.proofs.Common.{◌≡◌, ℕ, List, [], Option, None, Some, Ok, ◌∙◌, subst}
-use Rattle.hb_activity.specs.declared.jobs.Job.{Job}
+use Rattle.std.proofs.Common.{◌≡◌, [], Option, None, Some, Ok, ◌∙◌, subst}
 use Rattle.hb_frag.specs.declared.pages.LivePage.{LivePage}
 use Rattle.hb_layout.specs.declared.meta.Meta.{Meta}
 use Rattle.hb_ops.specs.Files.{FileState, live_page}
@@ -8,7 +7,7 @@ use Rattle.hb_core.specs.CoreSeen.{core_seen, core_disk}
 use Rattle.hb_tidy.proofs.Belows.{refused_then}
 use Rattle.hb_tidy.proofs.Exits.{ok_is, over_exit, over_value}
 use Rattle.hb_tidy.proofs.Joined.{over_known}
-use Rattle.hb_tidy.proofs.Pairs.{NotGoing, pair_absent, pair_tried}
+use Rattle.hb_tidy.proofs.Pairs.{pair_absent, pair_tried}
 use Rattle.hb_tidy.specs.Finding.{BothLive}
 use Rattle.hb_tidy.specs.Looking.{NothingOf}
 use Rattle.hb_tidy.proofs.below.look_at_pair.Goals as goal
@@ -30,7 +29,7 @@ returns-in_err-owe_merge-in-Some-clause-looks g c =
     let Was : Option LivePage → FileState → Type 0 = λ page s. live_page s c.args.gone ≡ page in
     refused_then Both c.in_ok-going.field-0 Was c.from_residual-in_err-owe_merge-in-Some.result _ d e (core_seen c.args.core.now) (core_seen c.named_page.new.core) (g.met.D.Device.is_disk (core_disk c.named_page.new.core)) c.in_ok-going.ensures.may
     (over_known Both (Ok c.in_ok-going.field-0) Was d e (core_seen c.args.core.now) (core_seen c.named_page.new.core)
-      (over_value NothingOf c.in_ok-going.field-0 c.named_page.result Was d e (core_seen c.args.core.now) (core_seen c.named_page.new.core) c.in_ok-going.was c.named_page.ensures.looks))
+    (over_value NothingOf c.in_ok-going.field-0 c.named_page.result Was d e (core_seen c.args.core.now) (core_seen c.named_page.new.core) c.in_ok-going.was c.named_page.ensures.looks))
     c.from_residual-in_err-owe_merge-in-Some.ensures.1
 
 pub returns-in_ok-owe_merge-in-Some-clause-looks : goal.returns-in_ok-owe_merge-in-Some-clause-looks

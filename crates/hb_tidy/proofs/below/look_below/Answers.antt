@@ -1,5 +1,5 @@
-use Rattle.std.proofs.Common.{◌≡◌, ℕ, List, [], length, Option, None, Some, IfSome, Ok, sym, ◌∙◌, subst}
-use Rattle.hb_space.specs.Boxes.{Area, IsArea}
+use Rattle.std.proofs.Common.{◌≡◌, length, Option, None, Some, IfSome, Ok, sym, ◌∙◌, subst}
+use Rattle.hb_space.specs.Boxes.{IsArea}
 use Rattle.hb_frag.specs.declared.pages.LivePage.{LivePage}
 use Rattle.hb_lemmas.proofs.Options.{at_value}
 use Rattle.hb_layout.specs.declared.meta.Meta.{Meta}
@@ -61,7 +61,7 @@ returns-in_err-owe_job-in-None-clause-looks g c =
     let Was : Option LivePage → FileState → Type 0 = λ seen s. IfSome seen (λ page. live_page s c.args.name ≡ Some page) in
     refused_then Above c.in_ok-page.field-0 Was c.from_residual-in_err-owe_job-in-None.result _ d e (core_seen c.args.core.now) (core_seen c.child_below.new.core) (g.met.D.Device.is_disk (core_disk c.child_below.new.core)) c.in_ok-page.ensures.may
     (over_known Above (Ok c.in_ok-page.field-0) Was d e (core_seen c.args.core.now) (core_seen c.child_below.new.core)
-      (over_value NothingOf c.in_ok-page.field-0 c.child_below.result Was d e (core_seen c.args.core.now) (core_seen c.child_below.new.core) c.in_ok-page.was c.child_below.ensures.looks))
+    (over_value NothingOf c.in_ok-page.field-0 c.child_below.result Was d e (core_seen c.args.core.now) (core_seen c.child_below.new.core) c.in_ok-page.was c.child_below.ensures.looks))
     c.from_residual-in_err-owe_job-in-None.ensures.1
 
 pub returns-in_ok-owe_job-in-None-clause-looks : goal.returns-in_ok-owe_job-in-None-clause-looks

@@ -1,6 +1,4 @@
-use Rattle.std.proofs.Common.{◌≡◌, ℕ, List, [], All, Ok, sym, ◌∙◌, subst}
-use Rattle.hb_space.specs.Boxes.{Area, Meets}
-use Rattle.hb_frag.specs.Leaves.{siblings_of}
+use Rattle.std.proofs.Common.{◌∙◌, subst}
 use Rattle.hb_layout.specs.declared.meta.Meta.{Meta}
 use Rattle.hb_core.specs.CoreSeen.{core_seen, core_disk}
 use Rattle.hb_tidy.proofs.Belows.{over_not_owed, over_refused}

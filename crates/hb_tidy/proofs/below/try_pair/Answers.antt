@@ -1,4 +1,3 @@
-use Rattle.std.proofs.Common.{◌≡◌, true, false, refl}
 use Rattle.hb_core.specs.CoreSeen.{core_seen, core_disk}
 use Rattle.hb_tidy.proofs.Pairs.{never_true, pair_unnamed}
 use Rattle.hb_tidy.proofs.below.try_pair.Goals as goal

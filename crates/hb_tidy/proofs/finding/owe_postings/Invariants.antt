@@ -1,4 +1,4 @@
-use Rattle.std.proofs.Common.{◌≡◌, ℕ, List, [], All, take}
+use Rattle.std.proofs.Common.{◌≡◌, ℕ, [], All, take}
 use Rattle.hb_space.specs.Boxes.{Area, Meets}
 use Rattle.hb_core.specs.KeptFits.{JobFits}
 use Rattle.hb_tidy.proofs.finding.owe_postings.Given as goal

@@ -1,4 +1,4 @@
-use Rattle.std.proofs.Common.{◌≡◌, ℕ, Option, None, Some, Ok, ◌∙◌, refl}
+use Rattle.std.proofs.Common.{◌≡◌, None, Some, Ok, ◌∙◌, refl}
 use Rattle.hb_frag.specs.declared.pages.Page.{Page}
 use Rattle.hb_ops.specs.Files.{FileState, page_of}
 use Rattle.hb_core.specs.CoreSeen.{core_seen, core_disk}
@@ -34,7 +34,7 @@ returns-in-Some-clause-looks g c =
     let Is : Page → FileState → Type 0 = λ page s. page_of s c.args.id ≡ Some page in
     over_then NothingOf (tt {0}) (λ v. NothingOf) NothingOf (Ok c.in-Some.page) Is Is d mid e (core_seen c.args.core.now) (core_seen c.loop-page.core) (core_seen c.look_once.new.core) c.loop-page.invariant.looks (λ s known said. tt)
     (over_ok NothingOf (Some c.in-Some.page) c.in-Some.page (SawPage c.args.id) Is mid e (core_seen c.loop-page.core) (core_seen c.look_once.new.core) (λ s known said. said)
-      (over_value NothingOf (Some c.in-Some.page) c.look_once.result (SawPage c.args.id) mid e (core_seen c.loop-page.core) (core_seen c.look_once.new.core) (ok_is c.look_once.result c.in_ok-page.field-0 (Some c.in-Some.page) c.in_ok-page.was c.in-Some.is) c.look_once.ensures.looks))
+    (over_value NothingOf (Some c.in-Some.page) c.look_once.result (SawPage c.args.id) mid e (core_seen c.loop-page.core) (core_seen c.look_once.new.core) (ok_is c.look_once.result c.in_ok-page.field-0 (Some c.in-Some.page) c.in_ok-page.was c.in-Some.is) c.look_once.ensures.looks))
     (λ s w known said more. more)
 
 pub loop-page-preserved : goal.loop-page-preserved

@@ -1,12 +1,9 @@
-use Rattle.std.proofs.Common.{◌≡◌, ℕ, List, [], Ok, Some, sym, ◌∙◌, subst}
-use Rattle.hb_space.specs.Boxes.{Area}
-use Rattle.hb_activity.specs.declared.jobs.Job.{Job}
+use Rattle.std.proofs.Common.{◌≡◌, Some, ◌∙◌}
 use Rattle.hb_ops.specs.Files.{FileState, live_page}
 use Rattle.hb_core.specs.CoreSeen.{core_seen, core_disk}
 use Rattle.hb_tidy.proofs.Belows.{over_refused}
-use Rattle.hb_tidy.proofs.ChildrenSeen.{SeesAll, leaves_all}
+use Rattle.hb_tidy.proofs.ChildrenSeen.{leaves_all}
 use Rattle.hb_tidy.proofs.Exits.{over_exit, over_value}
-use Rattle.hb_tidy.specs.Looking.{LooksOver}
 use Rattle.hb_tidy.proofs.passes.jobs_below.Goals as goal
 
 pub returns-in_err-children-clause-looks : goal.returns-in_err-children-clause-looks

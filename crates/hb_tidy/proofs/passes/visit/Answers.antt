@@ -1,7 +1,6 @@
-use Rattle.std.proofs.Common.{◌≡◌, ℕ, List, [], All, Ok, sym, ◌∙◌, arith, subst}
+use Rattle.std.proofs.Common.{◌≡◌, List, [], All, sym, ◌∙◌, arith, subst}
 use Rattle.hb_activity.specs.declared.jobs.Job.{Job}
 use Rattle.hb_layout.specs.declared.meta.Meta.{Meta}
-use Rattle.hb_ops.specs.Files.{FileState}
 use Rattle.hb_core.specs.CoreSeen.{core_seen, core_disk}
 use Rattle.hb_core.specs.KeptFits.{JobFits}
 use Rattle.hb_tidy.proofs.Exits.{over_exit, over_value}

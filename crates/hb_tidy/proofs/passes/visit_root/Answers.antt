@@ -1,4 +1,4 @@
-use Rattle.std.proofs.Common.{◌≡◌, ℕ, ◌<◌, ◌≤◌, Bool, true, false, Option, None, Some, IfSome, Ok, sym, ap, ◌∙◌, arith, refl, subst}
+use Rattle.std.proofs.Common.{◌≡◌, ℕ, ◌<◌, ◌≤◌, Option, Some, Ok, sym, ap, refl, subst}
 use Rattle.hb_frag.specs.declared.pages.LivePage.{LivePage}
 use Rattle.hb_layout.specs.declared.limits.TheConstants.{HEIGHT_MAX}
 use Rattle.hb_layout.specs.declared.meta.Meta.{Meta}
@@ -45,7 +45,7 @@ returns-in-Some-clause-looks g c =
     let root : c.meta-2.result.now.root ≡ old.store.meta.root = ap (λ (meta : Meta). meta.root) c.meta-2.ensures in
     root_then c.in-Some.page c.visit_top.result d e f old (core_seen c.named_page.new.core) (core_seen c.visit_top.new.core)
     (subst (λ (n : ℕ). LooksOver NothingOf (Ok (Some c.in-Some.page)) (Was n) d old e (core_seen c.named_page.new.core)) root
-      (over_value NothingOf (Some c.in-Some.page) c.named_page.result (Was c.meta-2.result.now.root) d e old (core_seen c.named_page.new.core) (ok_is c.named_page.result c.in_ok-page.field-0 (Some c.in-Some.page) c.in_ok-page.was c.in-Some.is) c.named_page.ensures.looks))
+    (over_value NothingOf (Some c.in-Some.page) c.named_page.result (Was c.meta-2.result.now.root) d e old (core_seen c.named_page.new.core) (ok_is c.named_page.result c.in_ok-page.field-0 (Some c.in-Some.page) c.in_ok-page.was c.in-Some.is) c.named_page.ensures.looks))
     c.visit_top.ensures.looks
 
 pub returns-in-None-clause-looks : goal.returns-in-None-clause-looks

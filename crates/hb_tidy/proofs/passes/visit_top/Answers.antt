@@ -1,5 +1,4 @@
-use Rattle.std.proofs.Common.{◌≡◌, ℕ, List, [], Some, sym, ◌∙◌, arith, rules}
-use Rattle.hb_space.specs.Boxes.{Area}
+use Rattle.std.proofs.Common.{◌≡◌, [], Some, sym, ◌∙◌, arith, rules}
 use Rattle.hb_frag.specs.Leaves.{siblings_of}
 use Rattle.hb_ops.specs.Files.{live_page}
 use Rattle.hb_ops.specs.Settled.{HasLoneRoot}

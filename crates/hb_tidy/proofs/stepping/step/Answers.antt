@@ -1,11 +1,10 @@
-use Rattle.std.proofs.Common.{◌⊎◌, inl, inr, ◌≡◌, ◌+◌, ℕ, OnOk, subst}
 use Rattle.hb_lemmas.proofs.Options.{on_ok}
 use Rattle.hb_core.specs.CoreSeen.{core_seen, core_disk}
 use Rattle.hb_tidy.proofs.CallsMade.{Stepped, ended_goes, step_goes, step_may}
 use Rattle.hb_tidy.proofs.CountsOfCalls.{one_taken, step_rises}
 use Rattle.hb_tidy.proofs.LiveCounted.{live_by_worker}
 use Rattle.hb_tidy.proofs.Exits.{goes_exit, goes_value, on_value}
-use Rattle.hb_tidy.proofs.Workers.{IsWorker, is_actor, is_worker}
+use Rattle.hb_tidy.proofs.Workers.{is_actor, is_worker}
 use Rattle.hb_tidy.proofs.stepping.step.Goals as goal
 
 pub step-outcome-requires-clause-actor : goal.step-outcome-requires-clause-actor

@@ -1,4 +1,4 @@
-use Rattle.std.proofs.Common.{◌≡◌, ◌<◌, ◌≤◌, ◌+◌, ℕ, Ok, arith}
+use Rattle.std.proofs.Common.{arith}
 use Rattle.hb_core.specs.CoreSeen.{core_seen, core_disk}
 use Rattle.hb_tidy.proofs.Exits.{goes_exit, goes_value}
 use Rattle.hb_tidy.proofs.Joined.{goes_then}
