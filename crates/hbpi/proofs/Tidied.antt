@@ -93,8 +93,7 @@ module _ (laws : StartLaws) (d first last : DiskModel) (store : StoreState) (lin
       let keeps = went.kept (contents_of s) (record { durable = s; later = [] }) (laws.beginning m s over) in
       let shown = went.shows.tells (Becomes-tells (ChangesFile m.store) first last went.in_file tells) in
       let crashes : Leaves first last (HasContents s) = subst (λ (es : List Entry). Leaves first last (IsPrefixImage (contents_of s) es 0)) no_order keeps.crashes.each in
-      let files : FilesTidied m.store.meta result keeps.after = at_value went.new.files (FilesTidied m.store.meta result) keeps.after keeps.keeps.told forced.files in
-      (
+      let files : FilesTidied m.store.meta result keeps.after = at_value went.new.files (FilesTidied m.store.meta result) keeps.after keeps.keeps.told forced.files in (
         s,
         (even_store first store s [] from.2 new.running).images b (opening.disk.as_read b is),
         over,

@@ -80,8 +80,7 @@ module _ (laws : RunningLaws) (d : DiskModel) (m : Machine) (e : DiskModel) (fir
       let tidy : IfSome (file_now went.new) IsTidy = subst (λ (o : Option FileState). IfSome o IsTidy) (sym flush.stays.file) done.1 in
       let same_meta : went.new.store.meta ≡ old.store.meta = flush.stays.meta ∙ ap (λ (x : StoreState). x.meta) t.shows.store in
       let counted : GrewBy first.store.meta old.store.meta counts = record { height = done.2.height; live = done.2.live } in
-      let grew : GrewBy m.store.meta went.new.store.meta counts = subst (λ (x : Meta). GrewBy m.store.meta x counts) (sym same_meta) (subst (λ (x : StoreState). GrewBy x.meta old.store.meta counts) (sym shown) counted) in
-      (
+      let grew : GrewBy m.store.meta went.new.store.meta counts = subst (λ (x : Meta). GrewBy m.store.meta x counts) (sym same_meta) (subst (λ (x : StoreState). GrewBy x.meta old.store.meta counts) (sym shown) counted) in (
         went,
         record {
           why = runs;
