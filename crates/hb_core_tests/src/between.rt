@@ -63,18 +63,24 @@ fn adds<D: Device>(core: &mut Core<D>, count: u64) -> u64
     added
 }
 
-
 /// What the fields and the bytes behind them are of a copy of page 1 of a new file, and whether the core counts a step for it.
 fn copies<D: Device + Drop>(alloc: Global, disk: D) -> Option<(bool, bool, u64)> {
     let mut core = begun(alloc, disk)?;
     let bytes = first_bytes(&mut core)?;
     let (fields, rest) = bytes.split_at(EMPTY.len());
-    Some((fields == EMPTY.as_slice(), rest.iter().all(|byte| *byte == 0), core.taken()))
+    Some((
+        fields == EMPTY.as_slice(),
+        rest.iter().all(|byte| *byte == 0),
+        core.taken(),
+    ))
 }
 
 #[test]
 fn a_copy_is_the_page_of_the_file(rt: HostRuntime) {
-    assert!(rt; copies(rt.alloc(), zeros(rt.alloc()).expect(&rt, "memory")) == Some((true, true, 0)), "page 1");
+    assert!(rt;
+        copies(rt.alloc(), zeros(rt.alloc()).expect(&rt, "memory")) == Some((true, true, 0)),
+        "page 1"
+    );
 }
 
 /// How many jobs were taken where one is added twice, and how many wait of each kind then.
@@ -82,12 +88,20 @@ fn twice<D: Device + Drop>(alloc: Global, disk: D) -> Option<(bool, bool, u32, u
     let mut core = begun(alloc, disk)?;
     let first = core.add_job(posting(5));
     let second = core.add_job(posting(5));
-    Some((first, second, core.jobs(JobKind::Post), core.jobs(JobKind::Merge)))
+    Some((
+        first,
+        second,
+        core.jobs(JobKind::Post),
+        core.jobs(JobKind::Merge),
+    ))
 }
 
 #[test]
 fn a_job_waits_once(rt: HostRuntime) {
-    assert!(rt; twice(rt.alloc(), zeros(rt.alloc()).expect(&rt, "memory")) == Some((true, true, 1, 0)), "twice");
+    assert!(rt;
+        twice(rt.alloc(), zeros(rt.alloc()).expect(&rt, "memory")) == Some((true, true, 1, 0)),
+        "twice"
+    );
 }
 
 /// How many of so many jobs are taken, and how many wait then. One that waits already is taken again.
@@ -126,5 +140,8 @@ const NONE: TidyCounts = TidyCounts {
 
 #[test]
 fn a_flush_is_a_step_that_may_do_nothing(rt: HostRuntime) {
-    assert!(rt; flushes(rt.alloc(), zeros(rt.alloc()).expect(&rt, "memory")) == Some((true, 1, NONE)), "a flush");
+    assert!(rt;
+        flushes(rt.alloc(), zeros(rt.alloc()).expect(&rt, "memory")) == Some((true, 1, NONE)),
+        "a flush"
+    );
 }

@@ -28,11 +28,7 @@ const LAYOUT: Layout = Layout {
 pub(crate) const SIZE: usize = 401_408;
 
 /// A core of a script without a line over a store that has begun.
-fn begun_over<D: Device + Drop>(
-    alloc: Global,
-    store: Store<D>,
-    script: Script,
-) -> Option<Core<D>>
+fn begun_over<D: Device + Drop>(alloc: Global, store: Store<D>, script: Script) -> Option<Core<D>>
     requires new { IsNew (seen_as store).turn (seen_as store).meta (seen_as store) }
     requires sound { IfSome (D.model (disk_of store)).told (λ b. (s : FileState) × IsSound s × StoreKeeps (D.model (disk_of store)) (seen_as store) s []) }
     requires no_line { script.lines ≡ [] }

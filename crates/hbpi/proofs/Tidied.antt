@@ -36,7 +36,7 @@ use Rattle.hbpi.proofs.Reopened.{counts_before, no_line_yet, pages_of}
 use Rattle.hbpi.specs.Drives.{LeavesLate}
 use Rattle.hbpi.specs.SeenRuns.{IsUnread, Seen, run_of}
 use Rattle.hbpi.specs.Starts.{StartLaws}
-use Rattle.hbpi.specs.Tidied.{EndsForced, FilesTidied, HasContents, HasSameRecords, IsTidied, LeavesTidied, TidiesFile, TidyWhy}
+use Rattle.hbpi.specs.Tidied.{EndsForced, FilesTidied, GrewBy, HasContents, HasSameRecords, IsTidied, LeavesTidied, TidiesFile, TidyWhy}
 
 -- the file after all groups that wait is sound
 last_sound : (s : FileState) (later : List FileState) → IsSound s → AllByRecursion IsSound later → IsSound (last_of s later)
@@ -45,7 +45,7 @@ last_sound s (next ∷ later) sound all = last_sound next later all.0 all.1
 
 -- ---- over the file of a disk that tells
 
-module _ (s : FileState) (d e : DiskModel) (m new : Machine) (first : Files) (keeps : KeepsSet (contents_of s) d first e new) (order : new.order ≡ []) (opened : m.store.meta.height ≡ s.meta.height) where
+module _ (s : FileState) (d e : DiskModel) (m new : Machine) (first : Files) (keeps : KeepsSet (contents_of s) d first e new) (order : new.order ≡ []) (opened : m.store.meta ≡ s.meta) where
   abbrev files : Files
   files = keeps.after
 
@@ -58,8 +58,8 @@ module _ (s : FileState) (d e : DiskModel) (m new : Machine) (first : Files) (ke
     contents = same_contents;
   }
 
-  is_tidied : (result : Result TidyCounts TidyStop) → ShowsFiles e new → TidyWhy d e new result → FilesTidied m.store.meta.height result files → IsTidied s e result
-  is_tidied (Ok counts) shown why (none, tidy, height) =
+  is_tidied : (result : Result TidyCounts TidyStop) → ShowsFiles e new → TidyWhy d e new result → FilesTidied m.store.meta result files → IsTidied s e result
+  is_tidied (Ok counts) shown why (none, tidy, grew) =
       let same : shown.files ≡ files = cc (shown.told, keeps.keeps.told) in
       let store : StoreKeeps e new.store files.durable files.later = subst (λ (f : Files). StoreKeeps e new.store f.durable f.later) same shown.kept in
       let alone : current_file files ≡ files.durable = ap (last_of files.durable) none in (
@@ -67,7 +67,7 @@ module _ (s : FileState) (d e : DiskModel) (m new : Machine) (first : Files) (ke
         subst (HasSameRecords s) alone current,
         even_store e new.store files.durable files.later store (keeps.keeps.kept.runs why),
         tidy,
-        height ∙ ap (λ (h : ℕ). h + counts.grown) opened,
+        subst (λ (meta : Meta). GrewBy meta files.durable.meta counts) opened grew,
       )
   is_tidied (Err tidies.Full) shown why wants = (current_file files, current, wants)
   is_tidied (Err tidies.ReadFault) shown why wants = tt
@@ -93,15 +93,14 @@ module _ (laws : StartLaws) (d first last : DiskModel) (store : StoreState) (lin
       let keeps = went.kept (contents_of s) (record { durable = s; later = [] }) (laws.beginning m s over) in
       let shown = went.shows.tells (Becomes-tells (ChangesFile m.store) first last went.in_file tells) in
       let crashes : Leaves first last (HasContents s) = subst (λ (es : List Entry). Leaves first last (IsPrefixImage (contents_of s) es 0)) no_order keeps.crashes.each in
-      let files : FilesTidied m.store.meta.height result keeps.after = at_value went.new.files (FilesTidied m.store.meta.height result) keeps.after keeps.keeps.told forced.files in
-      (
+      let files : FilesTidied m.store.meta result keeps.after = at_value went.new.files (FilesTidied m.store.meta result) keeps.after keeps.keeps.told forced.files in (
         s,
         (even_store first store s [] from.2 new.running).images b (opening.disk.as_read b is),
         over,
         record {
           even = λ was. crashes;
           late = since_start first last (HasContents s) crashes;
-          ends = is_tidied s first last m went.new (record { durable = s; later = [] }) keeps no_order (ap (λ (x : Meta). x.height) (sym over.meta)) result shown forced.why files;
+          ends = is_tidied s first last m went.new (record { durable = s; later = [] }) keeps no_order (sym over.meta) result shown forced.why files;
         },
       ))
 

@@ -28,7 +28,7 @@ use Rattle.hb_tidy.specs.Finding.{IsTidy, WantsPage}
 use Rattle.hb_tidy.specs.Tidying.{EndsTidying, HasTidied, StopsTidying, file_now}
 use Rattle.hb_tidy.specs.declared.stops.TidyStop.{TidyStop}
 use Rattle.hb_tidy.specs.declared.stops.TidyStop.TheVariants as tidies
-use Rattle.hbpi.specs.Tidied.{EndsForced, FilesTidied, TidyWhy}
+use Rattle.hbpi.specs.Tidied.{EndsForced, FilesTidied, GrewBy, TidyWhy}
 
 -- ---- where the tidying wasn't done
 
@@ -59,10 +59,10 @@ tells_of d m files silent is = by d.told refl
     by (Some b) told = has_value d.told b told
 
 -- the tidy file is durable, once no group waits
-durable_tidy : (height : ℕ) (counts : TidyCounts) (files : Files) → files.later ≡ [] → (current_file files).meta.height ≡ height + counts.grown → IsTidy (current_file files) → FilesTidied height (Ok counts) files
-durable_tidy height counts files none high tidy =
+durable_tidy : (meta : Meta) (counts : TidyCounts) (files : Files) → files.later ≡ [] → GrewBy meta (current_file files).meta counts → IsTidy (current_file files) → FilesTidied meta (Ok counts) files
+durable_tidy meta counts files none grew tidy =
     let alone : current_file files ≡ files.durable = ap (last_of files.durable) none in
-    (none, subst IsTidy alone tidy, sym (ap (λ (s : FileState). s.meta.height) alone) ∙ high)
+    (none, subst IsTidy alone tidy, subst (λ (s : FileState). GrewBy meta s.meta counts) alone grew)
 
 module _ (laws : RunningLaws) (d : DiskModel) (m : Machine) (e : DiskModel) (first old : RunningCore) (f : DiskModel) (new : RunningCore) (counts : TidyCounts) (t : HasTidied d m e old) (done : EndsTidying d e first old t.new (Ok counts)) (shown : m.store ≡ first.store) (disk : IsDisk e) (disk_next : IsDisk f) where
   module _ (r : Result Flushed WriteFault) (steps : (x : Machine) → MayStep e old x → (next : Machine) × StepsTo x 19 (said_of_flush r) next × ShowsMachine f new next) (touches : Touches e old (said_of_flush r) f new) where
@@ -78,18 +78,18 @@ module _ (laws : RunningLaws) (d : DiskModel) (m : Machine) (e : DiskModel) (fir
       let runs : went.new.stop ≡ None = went.shows.stop ∙ flush_runs e f t.new old new flushed (may_then d e m old t) done.0 steps in
       let none = flush.none runs in
       let tidy : IfSome (file_now went.new) IsTidy = subst (λ (o : Option FileState). IfSome o IsTidy) (sym flush.stays.file) done.1 in
-      let height : went.new.store.meta.height ≡ m.store.meta.height + counts.grown =
-      ap (λ (x : Meta). x.height) flush.stays.meta ∙ ap (λ (x : StoreState). x.meta.height) t.shows.store ∙ done.2.height ∙ sym (ap (λ (x : StoreState). x.meta.height + counts.grown) shown) in
-      (
+      let same_meta : went.new.store.meta ≡ old.store.meta = flush.stays.meta ∙ ap (λ (x : StoreState). x.meta) t.shows.store in
+      let counted : GrewBy first.store.meta old.store.meta counts = record { height = done.2.height; live = done.2.live } in
+      let grew : GrewBy m.store.meta went.new.store.meta counts = subst (λ (x : Meta). GrewBy m.store.meta x counts) (sym same_meta) (subst (λ (x : StoreState). GrewBy x.meta old.store.meta counts) (sym shown) counted) in (
         went,
         record {
           why = runs;
-          files = if_value went.new.files (FilesTidied m.store.meta.height (Ok counts)) (λ files is.
+          files = if_value went.new.files (FilesTidied m.store.meta (Ok counts)) (λ files is.
               let shown = went.shows.tells (tells_of f went.new files went.shows.silent is) in
               let same : shown.files ≡ files = cc (shown.told, is) in
               let later = none_later f went.new.store files.durable files.later none (subst (λ (x : Files). StoreKeeps f went.new.store x.durable x.later) same shown.kept) in
               let sound : HasSoundFile went.new files = at_value went.new.files (HasSoundFile went.new) files is went.goes_on.sound in
-              durable_tidy m.store.meta.height counts files later (ap (λ (x : Meta). x.height) sound.meta ∙ height) (subst (λ (o : Option Files). IfSome (option_map current_file o) IsTidy) is tidy));
+              durable_tidy m.store.meta counts files later (subst (λ (x : Meta). GrewBy m.store.meta x counts) (sym sound.meta) grew) (subst (λ (o : Option Files). IfSome (option_map current_file o) IsTidy) is tidy));
         },
       )
 

@@ -40,7 +40,7 @@ module _ (one : OpensToOne) (short : FullyPostedWalksAreShort) (s : FileState) (
         same = ends.1;
         even = ends.2;
         tidy = ends.3;
-        height = ends.4;
+        grew = ends.4;
         walks = λ lone p rest last point walk. short ends.0 p rest last ends.1.sound ends.3.settled lone point walk;
       }
   keeps_by after (Err stop) file said = absurd (stop_not_done stop (sym said.0))

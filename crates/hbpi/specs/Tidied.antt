@@ -7,6 +7,7 @@ use Rattle.hb_core.specs.SteppingLaws.{IsBegun, IsBegunOver}
 use Rattle.hb_core.specs.declared.counts.TidyCounts.{TidyCounts}
 use Rattle.hb_disk.specs.Calls.{Leaves}
 use Rattle.hb_disk.specs.Model.{DiskModel}
+use Rattle.hb_layout.specs.declared.meta.Meta.{Meta}
 use Rattle.hb_ops.specs.Files.{FileState, contents_of}
 use Rattle.hb_ops.specs.Settled.{HasLoneRoot}
 use Rattle.hb_sound.specs.PointWalks.{IsPointOf, IsWholeWalk}
@@ -43,14 +44,20 @@ tidied_text c = codes "tidy grown " ++ decimal c.grown ++ codes " posted " ++ de
 abbrev pub HasContents : FileState → List ℕ → Type 0
 HasContents s c = IsPrefixImage (contents_of s) [] 0 c
 
--- A file with the contents of this one. Where the tidying is done it is the one to which every image opens, it is tidy, and it is higher
--- by the growths that are counted. Where no page is free, it wants one.
+-- A file got higher by the growths that are counted, and has as many more pages in use as growths and splits made, less those that
+-- merges freed.
+pub record GrewBy (before after : Meta) (counts : TidyCounts) : Type 0 where
+  pub height : after.height ≡ before.height + counts.grown
+  pub live : after.live + counts.merged ≡ before.live + (counts.grown + counts.split)
+
+-- A file with the contents of this one. Where the tidying is done it is the one to which every image opens, it is tidy, and it grew by
+-- what is counted. Where no page is free, it wants one.
 pub record HasSameRecords (s t : FileState) : Type 0 where
   pub sound : IsSound t
   pub contents : contents_of t ≡ contents_of s
 
 abbrev pub IsTidied : FileState → DiskModel → Result TidyCounts TidyStop → Type 0
-IsTidied s e (Ok counts) = (t : FileState) × HasSameRecords s t × IsEven e t × IsTidy t × (t.meta.height ≡ s.meta.height + counts.grown)
+IsTidied s e (Ok counts) = (t : FileState) × HasSameRecords s t × IsEven e t × IsTidy t × GrewBy s.meta t.meta counts
 IsTidied s e (Err tidies.Full) = (t : FileState) × HasSameRecords s t × WantsPage t
 IsTidied s e (Err stop) = Unit {0}
 
@@ -70,16 +77,16 @@ TidyWhy d e m (Err tidies.WriteFault) = Rose d.write_faults e.write_faults
 TidyWhy d e m (Err (tidies.Damaged page why)) = (¬ (IsSome d.told)) × (m.stop ≡ Some (stops.Damaged page why))
 TidyWhy d e m (Err stop) = Unit {0}
 
--- The machine's files then, whose height was this: where it is done no group waits, and the file is tidy.
-abbrev pub FilesTidied : ℕ → Result TidyCounts TidyStop → Files → Type 0
-FilesTidied height (Ok counts) files = (files.later ≡ []) × IsTidy files.durable × (files.durable.meta.height ≡ height + counts.grown)
-FilesTidied height (Err tidies.Full) files = WantsPage (current_file files)
-FilesTidied height (Err stop) files = Unit {0}
+-- The machine's files then, by what they said of themselves before: where it is done no group waits, and the file is tidy.
+abbrev pub FilesTidied : Meta → Result TidyCounts TidyStop → Files → Type 0
+FilesTidied meta (Ok counts) files = (files.later ≡ []) × IsTidy files.durable × GrewBy meta files.durable.meta counts
+FilesTidied meta (Err tidies.Full) files = WantsPage (current_file files)
+FilesTidied meta (Err stop) files = Unit {0}
 
 -- A core was tidied and flushed: from a machine to this one.
 pub record EndsForced (d e : DiskModel) (m new : Machine) (result : Result TidyCounts TidyStop) : Type 0 where
   pub why : TidyWhy d e new result
-  pub files : IfSome new.files (FilesTidied m.store.meta.height result)
+  pub files : IfSome new.files (FilesTidied m.store.meta result)
 
 -- The file was opened and tidied, so far as the result says: from a machine that has taken no step and has no line, to this one.
 pub record TidiesFile (run : Run) (after : Machine) (result : Result TidyCounts TidyStop) : Type 0 where
@@ -117,7 +124,7 @@ pub record KeepsTidied (s : FileState) (run : Run) : Type 0 where
   pub same : HasSameRecords s file
   pub even : IsEven run.after file
   pub tidy : IsTidy file
-  pub height : file.meta.height ≡ s.meta.height + counts.grown
+  pub grew : GrewBy s.meta file.meta counts
   pub walks : HasLoneRoot file → (p rest : List ℕ) (last : ℕ) → IsPointOf file p → IsWholeWalk file p file.meta.root rest last → length rest + 1 ≡ file.meta.height
 
 -- Where no call failed over such a disk, it is done, unless memory was refused, no page was free where one was wanted, or the core's count

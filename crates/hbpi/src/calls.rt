@@ -246,10 +246,7 @@ pub fn run<R: Threads + Wait + Sync, I: Read + Drop, O: Write + Drop + Send>(
             let disk = MemDisk::new(alloc, Vec::new(alloc));
             let words = call.words.as_slice();
             let (status, _disk) = run_over(alloc, threads, words, input, sink, disk);
-            Ok(Ended {
-                status,
-                told: None,
-            })
+            Ok(Ended { status, told: None })
         }
         Place::New(size) => run_new(rt, threads, call, input, sink, size),
         Place::There => Ok(run_there(rt, threads, call, input, sink)),

@@ -3,8 +3,8 @@
 use crate::missed::Missed;
 use hb_disk::MemDisk;
 use hb_outside::{MemSink, MemSource};
-use hbpi::{Finished, Form};
 use hbpi::top::run_without_threads;
+use hbpi::{Finished, Form};
 use std::alloc::{AllocError, Global};
 
 /// A text of commands, and the output that has to come of it.
@@ -64,13 +64,7 @@ pub(crate) fn run_words(
     if Form::is_threaded(Form::of_words(list.as_slice())) {
         return Err(Missed::Threaded { call: words });
     }
-    Ok(run_without_threads(
-        alloc,
-        list.as_slice(),
-        &mut source,
-        sink,
-        disk,
-    ))
+    Ok(run_without_threads(alloc, list.as_slice(), &mut source, sink, disk))
 }
 
 /// Runs the program over the disk, and compares: the status has to be this one, and the output.

@@ -9,6 +9,7 @@ const LONGEST: &str = "gen 1 1000000 4";
 
 /// How many bytes it has, and a sum of them in which each one's place counts, by a plain program.
 const BYTES: usize = 30_868_509;
+
 const SUM: u64 = 15_640_263_640_816_413_717;
 
 /// Puts it, and compares.

@@ -1,8 +1,8 @@
 //! What `map` says of a file, where a call fails, and where a page is damaged.
 
 use crate::runs::{
-    Left, NEVER, SIZE, expect_said, file_of, run_failing, run_on, run_over, said_of, sink_of, source_of,
-    words_of,
+    Left, NEVER, SIZE, expect_said, file_of, run_failing, run_on, run_over, said_of, sink_of,
+    source_of, words_of,
 };
 use crate::spoiled::{PAGE_1, put_at};
 use crate::taller::SEVEN;

@@ -6,15 +6,17 @@ use crate::stops::always_say;
 use std::alloc::Global;
 
 /// Seven records, of which one page holds six.
-const SEVEN: &str = "1 insert 10 =\n1 insert 20 =\n1 insert 30 =\n1 insert 40 =\n1 insert 50 =\n1 insert 60 =\n1 insert 70 =\nstep 1x40\n";
+const SEVEN: &str =
+    "1 insert 10 =\n1 insert 20 =\n1 insert 30 =\n1 insert 40 =\n1 insert 50 =\n1 insert 60 =\n1 insert 70 =\nstep 1x40\n";
 
 /// They are looked for, and what is said of them.
 const LOOK: &str = "1 search 0 100\nstep 1x20\n";
-const FOUND: &str =
-    "0 1 box 7\n+ 10 =\n+ 20 =\n+ 30 =\n+ 40 =\n+ 50 =\n+ 60 =\n+ 70 =\norder 1\n";
+
+const FOUND: &str = "0 1 box 7\n+ 10 =\n+ 20 =\n+ 30 =\n+ 40 =\n+ 50 =\n+ 60 =\n+ 70 =\norder 1\n";
 
 /// They are taken out.
-const OUT: &str = "1 delete 10\n1 delete 20\n1 delete 30\n1 delete 40\n1 delete 50\n1 delete 60\n1 delete 70\nstep 1x60\n";
+const OUT: &str =
+    "1 delete 10\n1 delete 20\n1 delete 30\n1 delete 40\n1 delete 50\n1 delete 60\n1 delete 70\nstep 1x60\n";
 
 /// Words, a text, and what is said then: the exit status, and the output.
 type Said = (&'static str, &'static str, &'static str);
@@ -31,11 +33,7 @@ const POSTED_AND_MERGED: [Said; 11] = [
         "",
         "0 height 1 root 1 pages 2 free 62\npage 1 level 0 weight 5 parents 0\nhole 2 0 39\nrecords 4 40 18446744073709551615\npage 2 level 0 weight 3 parents 0\nrecords 3 0 39\n",
     ),
-    (
-        "drive",
-        "1 lookup 10\nstep 1x4\n",
-        "0 1 found =\norder 1\n",
-    ),
+    ("drive", "1 lookup 10\nstep 1x4\n", "0 1 found =\norder 1\n"),
     ("tidy", "", "0 tidy grown 1 posted 1 split 0 merged 0\n"),
     (
         "map",
@@ -141,7 +139,10 @@ fn keeps_records(alloc: Global, left: &Left) -> bool {
 fn a_stopped_tidying_keeps_all_records(rt: HostRuntime) {
     let done = tidied(rt.alloc(), NEVER).expect(&rt, "memory");
     let said = done.said.as_str();
-    assert!(&rt; said == "0 tidy grown 1 posted 1 split 0 merged 0\n", "{said}");
+    assert!(&rt;
+        said == "0 tidy grown 1 posted 1 split 0 merged 0\n",
+        "{said}"
+    );
     assert!(&rt; keeps_records(rt.alloc(), &done), "a crash");
     for call in 0..done.disk.calls() {
         let left = tidied(rt.alloc(), call).expect(&rt, "memory");

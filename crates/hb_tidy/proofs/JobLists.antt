@@ -1,0 +1,31 @@
+-- Lists of jobs, and of leaves that were gone over.
+use Rattle.std.proofs.Common.{◌≡◌, ℕ, ◌+◌, ◌<◌, ◌==◌, true, false, List, [], ◌∷◌, ◌++◌, All, length, get_or, take, refl, sym, ap, subst, arith}
+use Rattle.std.proofs.lemmas.Bool.{eqb-false, eqb-true}
+use Rattle.std.proofs.lemmas.List.{take_more}
+use Rattle.std.proofs.lemmas.List.Elements.{All-append, All-nil}
+use Rattle.hb_lemmas.proofs.Lists.{All-alone}
+use Rattle.hb_activity.specs.declared.jobs.Job.{Job}
+use Rattle.hb_core.specs.KeptFits.{JobFits}
+
+-- one more that fits
+pub fit_added : (k : ℕ) (old new : List Job) (job : Job) → new ≡ old ++ job ∷ [] → All (JobFits k) old → JobFits k job → All (JobFits k) new
+fit_added k old new job is all fits = subst (λ (jobs : List Job). All (JobFits k) jobs) (sym is) (All-append (JobFits k) old (job ∷ []) all (All-alone (JobFits k) job fits))
+
+-- what holds of the first items of a list
+pub none_yet : {X : Type 0} (P : X → Type 0) (xs : List X) → All P (take 0 xs)
+none_yet P xs = All-nil P
+
+pub all_next : {X : Type 0} (P : X → Type 0) (xs : List X) (i : ℕ) (x : X) → i < length xs → x ≡ get_or xs i x → All P (take i xs) → P x → All P (take (i + 1) xs)
+all_next P xs i x lt is all here =
+    subst (λ (ys : List _). All P ys) (sym (take_more xs i x lt))
+    (All-append P (take i xs) (get_or xs i x ∷ []) all (All-alone P (get_or xs i x) (subst P is here)))
+
+-- a list of no items
+pub no_items : {X : Type 0} (xs : List X) (n : ℕ) → n ≡ length xs → (n == 0) ≡ true → xs ≡ []
+no_items [] n long zero = refl
+no_items (x ∷ xs) n long zero = let none = eqb-true n 0 zero in absurd (omega (arith, long, none))
+
+pub some_items : {X : Type 0} (xs : List X) (n : ℕ) → n ≡ length xs → (n == 0) ≡ false → xs ≡ [] → ⊥
+some_items xs n long some empty =
+    let none = ap (λ (ys : List _). length ys) empty in
+    eqb-false n 0 some (omega (arith, long, none))

@@ -1,0 +1,34 @@
+-- A job that waits, as a core tells it.
+use Rattle.std.proofs.Common.{◌≡◌, Ok, sym, ap, subst}
+use Rattle.hb_activity.specs.declared.jobs.Job.{Job}
+use Rattle.hb_disk.specs.Model.{DiskModel, IsDisk}
+use Rattle.hb_core.specs.Between.{AddsToQueue, LetsWait}
+use Rattle.hb_core.specs.Counting.{CountsStay}
+use Rattle.hb_core.specs.KeptFits.{JobFits}
+use Rattle.hb_core.specs.Machines.{Machine}
+use Rattle.hb_core.specs.Showing.{RunningCore}
+use Rattle.hb_core.specs.Working.{MayStep}
+use Rattle.hb_tidy.proofs.CallsMade.{wait_looks, wait_may}
+use Rattle.hb_tidy.proofs.CountsOfCalls.{stay_rises}
+use Rattle.hb_tidy.specs.Counted.{CountsRise}
+use Rattle.hb_tidy.specs.Going.{MayTidy}
+use Rattle.hb_tidy.specs.Looking.{LooksOver, NothingOf}
+
+module _ {D : Type 0} (model : D → DiskModel) (x : D) (old new : RunningCore) (job : Job) (disk : IsDisk (model x)) (may : MayTidy (model x) old) (fits : JobFits old.store.meta.k job) (adds : AddsToQueue job old new) where
+  stay : CountsStay old new
+  stay = record { taken = ap (λ (c : RunningCore). c.taken) adds.rest; done = ap (λ (c : RunningCore). c.done) adds.rest }
+
+  rise : CountsRise old new
+  rise = stay_rises may.laws.counts old new stay (ap (λ (c : RunningCore). c.store.meta) adds.rest) may.counts
+
+  -- the disk stays as it was
+  abbrev GoesOn : D → Type 0
+  GoesOn y = (m : Machine) → MayStep (model x) old m → (next : Machine) × LetsWait job m next × MayStep (model y) new next
+
+  pub job_looks : (y : D) → y ≡ x → GoesOn y → LooksOver {T = Unit {0}} NothingOf (Ok (tt {0})) (λ v. NothingOf) (model x) old (model y) new
+  job_looks y same goes =
+      subst (λ (z : D). GoesOn z → LooksOver {T = Unit {0}} NothingOf (Ok (tt {0})) (λ v. NothingOf) (model x) old (model z) new) (sym same)
+      (λ here. wait_looks (model x) old new job disk may fits here rise stay.taken (ap (λ (c : RunningCore). c.store.meta) adds.rest)) goes
+
+  pub job_may : (y : D) → y ≡ x → GoesOn y → MayTidy (model y) new
+  job_may y same goes = subst (λ (z : D). GoesOn z → MayTidy (model z) new) (sym same) (λ here. wait_may (model x) old new job disk may fits here rise stay.taken) goes

@@ -1,0 +1,258 @@
+-- One call after another: what they come to together.
+use Rattle.std.proofs.Common.{◌≡◌, List, [], Option, Some, None, IfSome, Result, Ok, Err, refl, sym, ◌∙◌, subst, arith}
+use Rattle.std.specs.Result.{IfErr, IfOk}
+use Rattle.std.proofs.lemmas.List.Elements.{All-nil}
+use Rattle.hb_disk.proofs.Facts.RewriteLaws.{Becomes-tells}
+use Rattle.hb_disk.proofs.Facts.RunLaws.{Leaves-then}
+use Rattle.hb_disk.specs.Calls.{Leaves}
+use Rattle.hb_disk.specs.Model.{DiskModel}
+use Rattle.hb_ops.specs.Files.{FileState}
+use Rattle.hb_outside.proofs.Facts.CountLaws.{Rose-later}
+use Rattle.hb_outside.specs.Streams.{Rose}
+use Rattle.hb_set.specs.Machine.{RecordSet}
+use Rattle.hb_set.specs.Order.{Entry}
+use Rattle.hb_store.specs.declared.stops.StopWhy.{StopWhy}
+use Rattle.hb_store.specs.declared.stops.StopWhy.TheVariants as whys
+use Rattle.hb_core.proofs.Facts.RunDisks.{file_more}
+use Rattle.hb_core.proofs.Facts.RunFaults.{rose_longer}
+use Rattle.hb_core.specs.KeptMachine.{CoreKeeps}
+use Rattle.hb_core.specs.Machines.{Files, Machine}
+use Rattle.hb_core.specs.Runs.{ChangesFile, CountsFaults, HasReadFault, HoldsSince, IsPrefixImage}
+use Rattle.hb_core.specs.Showing.{RunningCore}
+use Rattle.hb_core.specs.Working.{MayStep}
+use Rattle.hb_tidy.specs.declared.stops.TidyStop.{TidyStop}
+use Rattle.hb_tidy.specs.declared.stops.TidyStop.TheVariants as stops
+use Rattle.hb_tidy.proofs.LiveCounted.{live_then}
+use Rattle.hb_tidy.specs.Counted.{CountsRise}
+use Rattle.hb_tidy.specs.Going.{Does, Goes}
+use Rattle.hb_tidy.specs.Looking.{FileStays, Looks, LooksOver, NothingOf}
+use Rattle.hb_tidy.specs.Tidying.{HasTidied, KeepsSet, StopsTidying, file_now}
+
+no_fault_in : HasReadFault [] → ⊥
+no_fault_in (k, a, lt, at, is) = omega (arith, lt)
+
+-- ---- what becomes of machines
+
+-- counts of faults: a failed write stopped the machine in the first call or in the second
+faults_then : (d e f : DiskModel) (first mid last : Option StopWhy) → CountsFaults d e [] first mid → CountsFaults e f [] mid last → CountsFaults d f [] first last
+faults_then d e f first mid last one two =
+    let reads = one.reads in
+    let reads_then = two.reads in
+    let writes = one.writes in
+    let writes_then = two.writes in
+    record {
+      reads = omega (arith, reads, reads_then);
+      writes = omega (arith, writes, writes_then);
+      read = λ has. absurd (no_fault_in has);
+      write = λ stop begun. by mid refl stop begun;
+    }
+  where
+    early : mid ≡ Some whys.WriteFault → (first ≡ Some whys.WriteFault → ⊥) → Rose d.write_faults f.write_faults
+    early is begun = rose_longer d.write_faults e.write_faults f.write_faults one.writes two.writes (one.write is begun)
+
+    late : last ≡ Some whys.WriteFault → (mid ≡ Some whys.WriteFault → ⊥) → Rose d.write_faults f.write_faults
+    late stop running = Rose-later d.write_faults e.write_faults f.write_faults one.writes (two.write stop running)
+
+    by : (o : Option StopWhy) → mid ≡ o → last ≡ Some whys.WriteFault → (first ≡ Some whys.WriteFault → ⊥) → Rose d.write_faults f.write_faults
+    by None is stop begun = late stop (λ other. let never : None ≡ Some whys.WriteFault = sym is ∙ other in cc)
+    by (Some whys.WriteFault) is stop begun = early is begun
+    by (Some (whys.Damaged page why)) is stop begun = late stop (λ other. let never : Some (whys.Damaged page why) ≡ Some whys.WriteFault = sym is ∙ other in cc)
+
+module _ (d e f : DiskModel) (m : Machine) (mid c : RunningCore) (one : HasTidied d m e mid) (two : HasTidied e one.new f c) where
+  sets_then : (n : RecordSet) (files : Files) → CoreKeeps n m files → KeepsSet n d files f two.new
+  sets_then n files keeps =
+      let first = one.kept n files keeps in
+      let second = two.kept n first.after first.keeps in
+      record {
+        after = second.after;
+        keeps = second.keeps;
+        contents = second.contents ∙ first.contents;
+        crashes = record {
+          each = Leaves-then d e f (IsPrefixImage n two.new.order 0) (subst (λ (es : List Entry). Leaves d e (IsPrefixImage n es 0)) (sym two.order) first.crashes.each) second.crashes.each;
+          since = All-nil (HoldsSince f n two.new);
+        };
+      }
+
+  pub tidied_then : HasTidied d m f c
+  tidied_then = record {
+    new = two.new;
+    shows = two.shows;
+    goes_on = two.goes_on;
+    lines = two.lines ∙ one.lines;
+    answered = two.answered ∙ one.answered;
+    order = two.order ∙ one.order;
+    size = two.size ∙ one.size;
+    faults = faults_then d e f m.stop one.new.stop two.new.stop one.faults two.faults;
+    in_file = file_more d e f m one.new one.size one.in_file two.in_file;
+    kept = sets_then;
+  }
+
+  pub tidied_then_new : tidied_then.new ≡ two.new
+  unfolding tidied_then
+  tidied_then_new = refl
+
+-- why a call ended is why both did
+pub stops_then : (d e f : DiskModel) (m : Machine) (mid c : RunningCore) (new : Machine) → HasTidied d m e mid → (stop : TidyStop) → StopsTidying stop e f c new → StopsTidying stop d f c new
+stops_then d e f m mid c new one stops.Full cause = cause
+stops_then d e f m mid c new one stops.ReadFault cause = Rose-later d.read_faults e.read_faults f.read_faults one.faults.reads cause
+stops_then d e f m mid c new one stops.WriteFault cause = (Rose-later d.write_faults e.write_faults f.write_faults one.faults.writes cause.0, cause.1)
+stops_then d e f m mid c new one (stops.Damaged page why) cause = (λ tells. cause.0 (Becomes-tells (ChangesFile m.store) d e one.in_file tells), cause.1)
+stops_then d e f m mid c new one stops.Spent cause = cause
+stops_then d e f m mid c new one stops.NoMemory cause = cause
+
+pub may_then : (d e : DiskModel) (m : Machine) (c : RunningCore) (t : HasTidied d m e c) → MayStep e c t.new
+may_then d e m c t = record { shows = t.shows; goes_on = t.goes_on }
+
+pub err_weaker : {T : Type 0} (P Q : TidyStop → Type 0) (r : Result T TidyStop) → ((stop : TidyStop) → P stop → Q stop) → IfErr r P → IfErr r Q
+err_weaker P Q (Ok v) imp err = tt
+err_weaker P Q (Err stop) imp err = imp stop err
+
+module _ {T U : Type 0} (v : T) (r : Result U TidyStop) (d e f : DiskModel) (m : Machine) (mid c : RunningCore) (one : Does (Ok v) d m e mid) (two : Does r e one.run.new f c) where
+  ends_then : IfErr r (λ stop. StopsTidying stop d f c (tidied_then d e f m mid c one.run two.run).new)
+  unfolding tidied_then
+  ends_then = err_weaker (λ stop. StopsTidying stop e f c two.run.new) (λ stop. StopsTidying stop d f c two.run.new) r (stops_then d e f m mid c two.run.new one.run) two.err
+
+  pub does_then : Does r d m f c
+  does_then = record { run = tidied_then d e f m mid c one.run two.run; err = ends_then }
+
+-- ---- what becomes of counts
+
+pub rise_then : (a b c : RunningCore) → CountsRise a b → CountsRise b c → CountsRise a c
+rise_then a b c one two =
+    let t1 = one.taken in
+    let t2 = two.taken in
+    let g1 = one.grown in
+    let g2 = two.grown in
+    let p1 = one.posted in
+    let p2 = two.posted in
+    let s1 = one.split in
+    let s2 = two.split in
+    let m1 = one.merged in
+    let m2 = two.merged in
+    let h1 = one.height in
+    let h2 = two.height in
+    record {
+      taken = omega (arith, t1, t2);
+      grown = omega (arith, g1, g2);
+      posted = omega (arith, p1, p2);
+      split = omega (arith, s1, s2);
+      merged = omega (arith, m1, m2);
+      within = two.within;
+      height = omega (arith, h1, h2);
+      live = live_then a b c one.live two.live;
+    }
+
+pub goes_then : {T U : Type 0} (v : T) (r : Result U TidyStop) (d e f : DiskModel) (old mid new : RunningCore) → Goes (Ok v) d old e mid → Goes r e mid f new → Goes r d old f new
+goes_then v r d e f old mid new one two = record {
+  does = λ m may. let first = one.does m may in does_then v r d e f m mid new first (two.does first.run.new (may_then d e m mid first.run));
+  counts = rise_then old mid new one.counts two.counts;
+  spent = two.spent;
+}
+
+-- an error goes on to the caller
+pub goes_err : {T U : Type 0} (stop : TidyStop) (d e : DiskModel) (old new : RunningCore) → Goes {T = T} (Err stop) d old e new → Goes {T = U} (Err stop) d old e new
+goes_err stop d e old new one = record {
+  does = λ m may. let first = one.does m may in record { run = first.run; err = first.err };
+  counts = one.counts;
+  spent = one.spent;
+}
+
+-- and what was answered is another value
+pub goes_ok : {T U : Type 0} (v : T) (w : U) (d e : DiskModel) (old new : RunningCore) → Goes (Ok v) d old e new → Goes (Ok w) d old e new
+goes_ok v w d e old new one = record {
+  does = λ m may. let first = one.does m may in record { run = first.run; err = tt };
+  counts = one.counts;
+  spent = one.spent;
+}
+
+-- ---- what becomes of what was seen
+
+if_both : (o : Option FileState) (P Q R : FileState → Type 0) → ((s : FileState) → P s → Q s → R s) → IfSome o P → IfSome o Q → IfSome o R
+if_both None P Q R imp p q = tt
+if_both (Some s) P Q R imp p q = imp s p q
+
+pub ok_weaker : {T : Type 0} (o : Option FileState) (P : FileState → Type 0) (Q R : T → FileState → Type 0) (r : Result T TidyStop) → ((s : FileState) (v : T) → P s → Q v s → R v s) → IfSome o P → IfOk r (λ v. IfSome o (Q v)) → IfOk r (λ v. IfSome o (R v))
+ok_weaker o P Q R (Ok v) imp p ok = if_both o P (Q v) (R v) (λ s a b. imp s v a b) p ok
+ok_weaker o P Q R (Err stop) imp p ok = tt
+
+same_stays : (m mid new : Machine) → FileStays m mid → FileStays mid new → FileStays m new
+same_stays m mid new one two = record { file = two.file ∙ one.file; meta = two.meta ∙ one.meta }
+
+module _ {T U : Type 0} (v : T) (says : T → FileState → Type 0) (r : Result U TidyStop) (more final : U → FileState → Type 0) (knows : FileState → Type 0) (imp : (s : FileState) (w : U) → knows s → says v s → more w s → final w s)
+    (d e f : DiskModel) (m : Machine) (mid c : RunningCore) (known : IfSome (file_now m) knows) (one : Looks (Ok v) says d m e mid) (two : Looks r more e one.does.run.new f c) where
+  both_known : IfSome (file_now m) (λ s. knows s × says v s)
+  both_known = if_both (file_now m) knows (says v) (λ s. knows s × says v s) (λ s a b. (a, b)) known one.ok
+
+  then_seen : IfOk r (λ w. IfSome (file_now m) (more w))
+  then_seen = subst (λ (o : Option FileState). IfOk r (λ w. IfSome o (more w))) one.same.file two.ok
+
+  stay : FileStays m (does_then v r d e f m mid c one.does two.does).run.new
+  unfolding does_then tidied_then
+  stay = same_stays m one.does.run.new two.does.run.new one.same two.same
+
+  pub looks_then : Looks r final d m f c
+  looks_then = record {
+    does = does_then v r d e f m mid c one.does two.does;
+    same = stay;
+    ok = ok_weaker (file_now m) (λ s. knows s × says v s) more final r (λ s w both after. imp s w both.0 both.1 after) both_known then_seen;
+  }
+
+pub over_then : {T U : Type 0} (knows : FileState → Type 0) (v : T) (says : T → FileState → Type 0) (then_knows : FileState → Type 0) (r : Result U TidyStop) (more final : U → FileState → Type 0) (d e f : DiskModel) (old mid new : RunningCore)
+    → LooksOver knows (Ok v) says d old e mid → ((s : FileState) → knows s → says v s → then_knows s) → LooksOver then_knows r more e mid f new → ((s : FileState) (w : U) → knows s → says v s → more w s → final w s)
+    → LooksOver knows r final d old f new
+over_then knows v says then_knows r more final d e f old mid new one known two imp = record {
+  looks = λ m may its.
+      let first = one.looks m may its in
+      let both = if_both (file_now m) knows (says v) then_knows known its first.ok in
+      let second = two.looks first.does.run.new (may_then d e m mid first.does.run) (subst (λ (o : Option FileState). IfSome o then_knows) (sym first.same.file) both) in
+      looks_then v says r more final knows imp d e f m mid new its first second;
+  counts = rise_then old mid new one.counts two.counts;
+  spent = two.spent;
+  meta = two.meta ∙ one.meta;
+}
+
+pub over_err : {T U : Type 0} (knows : FileState → Type 0) (stop : TidyStop) (says : T → FileState → Type 0) (other : U → FileState → Type 0) (d e : DiskModel) (old new : RunningCore) → LooksOver {T = T} knows (Err stop) says d old e new → LooksOver {T = U} knows (Err stop) other d old e new
+over_err knows stop says other d e old new one = record {
+  looks = λ m may its. let first = one.looks m may its in record { does = record { run = first.does.run; err = first.does.err }; same = first.same; ok = tt };
+  counts = one.counts;
+  spent = one.spent;
+  meta = one.meta;
+}
+
+-- of the same answer less is said, or of another one, with more that is known
+pub over_weaker : {T : Type 0} (knows less : FileState → Type 0) (r : Result T TidyStop) (says other : T → FileState → Type 0) (d e : DiskModel) (old new : RunningCore) → ((s : FileState) → less s → knows s) → ((s : FileState) (v : T) → less s → says v s → other v s)
+    → LooksOver knows r says d old e new → LooksOver less r other d old e new
+over_weaker knows less r says other d e old new known imp one = record {
+  looks = λ m may its.
+      let first = one.looks m may (if_both (file_now m) less less knows (λ s a b. known s a) its its) in
+      record { does = first.does; same = first.same; ok = ok_weaker (file_now m) less says other r imp its first.ok };
+  counts = one.counts;
+  spent = one.spent;
+  meta = one.meta;
+}
+
+pub over_ok : {T U : Type 0} (knows : FileState → Type 0) (v : T) (w : U) (says : T → FileState → Type 0) (other : U → FileState → Type 0) (d e : DiskModel) (old new : RunningCore) → ((s : FileState) → knows s → says v s → other w s) → LooksOver knows (Ok v) says d old e new → LooksOver knows (Ok w) other d old e new
+over_ok knows v w says other d e old new imp one = record {
+  looks = λ m may its.
+      let first = one.looks m may its in
+      record { does = record { run = first.does.run; err = tt }; same = first.same; ok = if_both (file_now m) knows (says v) (other w) imp its first.ok };
+  counts = one.counts;
+  spent = one.spent;
+  meta = one.meta;
+}
+
+-- what was known before a call that wants none of it
+pub over_known : {T : Type 0} (knows : FileState → Type 0) (r : Result T TidyStop) (says : T → FileState → Type 0) (d e : DiskModel) (old new : RunningCore) → LooksOver NothingOf r says d old e new → LooksOver knows r says d old e new
+over_known knows r says d e old new one = over_weaker NothingOf knows r says says d e old new (λ s known. tt) (λ s v known said. said) one
+
+-- a look is a call
+pub over_goes : {T : Type 0} (r : Result T TidyStop) (says : T → FileState → Type 0) (d e : DiskModel) (old new : RunningCore) → LooksOver NothingOf r says d old e new → Goes r d old e new
+over_goes r says d e old new one = record {
+  does = λ m may. (one.looks m may (anything (file_now m))).does;
+  counts = one.counts;
+  spent = one.spent;
+}
+  where
+    anything : (o : Option FileState) → IfSome o NothingOf
+    anything None = tt
+    anything (Some s) = tt

@@ -1,0 +1,159 @@
+-- A look at a page, as the calls of this crate have it.
+use Rattle.std.proofs.Common.{◌≡◌, ℕ, ◌-◌, ◌^◌, ◌<◌, Option, Some, None, IfSome, Result, Ok, Err, OnOk, option_map, refl, sym, ap, ◌∙◌, subst, arith}
+use Rattle.std.specs.Result.{IfErr, IfOk, IsErrOf}
+use Rattle.hb_disk.proofs.Facts.RunLaws.{OnlyReads-read}
+use Rattle.hb_disk.specs.Calls.{ReadsOnly}
+use Rattle.hb_disk.specs.Model.{DiskModel, IsDisk}
+use Rattle.hb_frag.specs.declared.pages.Page.{Page}
+use Rattle.hb_lemmas.proofs.Options.{not_none}
+use Rattle.hb_layout.specs.declared.meta.Meta.{Meta}
+use Rattle.hb_ops.specs.Files.{FileState, page_of}
+use Rattle.hb_outside.specs.Streams.{Rose}
+use Rattle.hb_store.specs.States.{IsGoodPage, StoreState}
+use Rattle.hb_store.specs.declared.stops.Why.{Why}
+use Rattle.hb_store.specs.declared.stops.Why.TheVariants.{Rule, Level, Extent}
+use Rattle.hb_core.specs.Between.{CopiesPage}
+use Rattle.hb_core.specs.Counting.{CountsStay}
+use Rattle.hb_core.specs.Fetching.{IsBadRead}
+use Rattle.hb_core.specs.Machines.{Files, Machine, current_file}
+use Rattle.hb_core.specs.Showing.{RunningCore}
+use Rattle.hb_core.specs.Working.{MayStep}
+use Rattle.hb_core.specs.declared.copies.CopyStop.{CopyStop}
+use Rattle.hb_core.specs.declared.copies.CopyStop.TheVariants as copies
+use Rattle.hb_tidy.proofs.CallsMade.{other_stop}
+use Rattle.hb_tidy.proofs.CountsOfCalls.{stay_rises}
+use Rattle.hb_tidy.proofs.OneCall.{StandsStill, still_looking, still_tidied, still_tidied_new}
+use Rattle.hb_tidy.specs.declared.stops.TidyStop.{TidyStop}
+use Rattle.hb_tidy.specs.declared.stops.TidyStop.TheVariants as stops
+use Rattle.hb_tidy.specs.Counted.{CountsRise, EndsSpent}
+use Rattle.hb_tidy.specs.Going.{MayTidy}
+use Rattle.hb_tidy.specs.Looking.{FileStays, LooksOver, NothingOf, SeesBy}
+use Rattle.hb_tidy.specs.Tidying.{HasTidied, StopsTidying, file_now}
+
+-- What a core told of a look.
+pub record Looked (id : ℕ) (copied : Result Page CopyStop) (d : DiskModel) (old : RunningCore) (e : DiskModel) (new : RunningCore) : Type 0 where
+  pub disk : IsDisk d
+  pub told : (m : Machine) → MayStep d old m → (next : Machine) × CopiesPage id copied m next × MayStep e new next
+  pub reads : ReadsOnly (IsErrOf copied copies.ReadFault) d e
+  pub counts : CountsStay old new
+
+-- what was seen of a page
+abbrev pub SawPage : ℕ → Option Page → FileState → Type 0
+SawPage id seen s = IfSome seen (λ page. page_of s id ≡ Some page)
+
+of_files : (files : Option Files) (P : FileState → Type 0) → IfSome files (λ f. P (current_file f)) → IfSome (option_map current_file files) P
+of_files None P has = tt
+of_files (Some files) P has = has
+
+none_seen : (o : Option FileState) (id : ℕ) → IfSome o (SawPage id None)
+none_seen None id = tt
+none_seen (Some s) id = tt
+
+only_silent : (o : Option Files) (id : ℕ) (st : StoreState) (why : Why) → IsBadRead o st id why → o ≡ None
+only_silent o id st (Rule rule) bad = bad.0
+only_silent o id st (Level level found) bad = absurd bad
+only_silent o id st (Extent area found) bad = absurd bad
+
+module _ (id : ℕ) (copied : Result Page CopyStop) (d : DiskModel) (old : RunningCore) (e : DiskModel) (new : RunningCore) (looked : Looked id copied d old e new) (may : MayTidy d old) where
+  next : (m : Machine) → MayStep d old m → Machine
+  next m shows = (looked.told m shows).0
+
+  still : (m : Machine) (shows : MayStep d old m) → StandsStill m (looked.told m shows).0
+  still m shows = still_looking may.laws.looking m id (looked.told m shows).0 copied (looked.told m shows).1
+
+  looked_at : (m : Machine) → MayStep d old m → HasTidied d m e new
+  looked_at m shows = still_tidied may.laws.runs d e m (looked.told m shows).0 old new looked.disk shows (looked.told m shows).2 (OnlyReads-read _ d e looked.reads) (still m shows)
+
+  stays : (m : Machine) (shows : MayStep d old m) → FileStays m (looked_at m shows).new
+  unfolding looked_at
+  stays m shows =
+      subst (λ (x : Machine). FileStays m x) (sym (still_tidied_new may.laws.runs d e m (looked.told m shows).0 old new looked.disk shows (looked.told m shows).2 (OnlyReads-read _ d e looked.reads) (still m shows))) (still m shows).same
+
+  pub look_meta : new.store.meta ≡ old.store.meta
+  look_meta =
+      let m = may.runs.0 in
+      let shows = may.runs.1 in
+      let one = looked.told m shows in
+      ap (λ (st : StoreState). st.meta) (sym one.2.shows.store) ∙ (still m shows).same.meta ∙ ap (λ (st : StoreState). st.meta) shows.shows.store
+
+  -- a damaged page is there only over a disk that tells nothing, and stops the machine
+  damaged : (m : Machine) (shows : MayStep d old m) (page : ℕ) (why : Why) (t : HasTidied d m e new) → CopiesPage id (Err (copies.Damaged page why)) m (looked.told m shows).0 → StopsTidying (stops.Damaged page why) d e new t.new
+  damaged m shows page why t copied_so = (
+    λ tells. let them = shows.shows.tells tells in not_none m.files them.files them.told (only_silent m.files id m.store why copied_so.2),
+    t.shows.stop ∙ sym (looked.told m shows).2.shows.stop ∙ ap (λ (x : Machine). x.stop) copied_so.0,
+  )
+
+  left_still : new.taken < 2 ^ 64 - 1
+  left_still =
+      let left = may.left in
+      let same = looked.counts.taken in
+      omega (arith, left, same)
+
+  module _ (seen : Result (Option Page) TidyStop) (sees : SeesBy copied seen) where
+    rise : CountsRise old new
+    rise = stay_rises may.laws.counts old new looked.counts look_meta may.counts
+
+    module _ (m : Machine) (shows : MayStep d old m) (t : HasTidied d m e new) where
+      cause : (c : Result Page CopyStop) → (IsErrOf c copies.ReadFault → Rose d.read_faults e.read_faults) → CopiesPage id c m (looked.told m shows).0 → (r : Result (Option Page) TidyStop) → SeesBy c r → IfErr r (λ stop. StopsTidying stop d e new t.new)
+      cause (Ok page) fault was r is = subst (λ (x : Result (Option Page) TidyStop). IfErr x (λ stop. StopsTidying stop d e new t.new)) (sym is) tt
+      cause (Err copies.Crowded) fault was r is = subst (λ (x : Result (Option Page) TidyStop). IfErr x (λ stop. StopsTidying stop d e new t.new)) (sym is) tt
+      cause (Err copies.ReadFault) fault was r is = subst (λ (x : Result (Option Page) TidyStop). IfErr x (λ stop. StopsTidying stop d e new t.new)) (sym is) (fault refl)
+      cause (Err copies.NoMemory) fault was r is = subst (λ (x : Result (Option Page) TidyStop). IfErr x (λ stop. StopsTidying stop d e new t.new)) (sym is) tt
+      cause (Err (copies.Damaged page why)) fault was r is = subst (λ (x : Result (Option Page) TidyStop). IfErr x (λ stop. StopsTidying stop d e new t.new)) (sym is) (damaged m shows page why t was)
+
+      saw : (c : Result Page CopyStop) → CopiesPage id c m (looked.told m shows).0 → (r : Result (Option Page) TidyStop) → SeesBy c r → IfOk r (λ v. IfSome (file_now m) (SawPage id v))
+      saw (Ok page) was r is = subst (λ (x : Result (Option Page) TidyStop). IfOk x (λ v. IfSome (file_now m) (SawPage id v))) (sym is) (of_files m.files (SawPage id (Some page)) was.2)
+      saw (Err copies.Crowded) was r is = subst (λ (x : Result (Option Page) TidyStop). IfOk x (λ v. IfSome (file_now m) (SawPage id v))) (sym is) (none_seen (file_now m) id)
+      saw (Err copies.ReadFault) was r is = subst (λ (x : Result (Option Page) TidyStop). IfOk x (λ v. IfSome (file_now m) (SawPage id v))) (sym is) tt
+      saw (Err copies.NoMemory) was r is = subst (λ (x : Result (Option Page) TidyStop). IfOk x (λ v. IfSome (file_now m) (SawPage id v))) (sym is) tt
+      saw (Err (copies.Damaged page why)) was r is = subst (λ (x : Result (Option Page) TidyStop). IfOk x (λ v. IfSome (file_now m) (SawPage id v))) (sym is) tt
+
+    spent_so : (c : Result Page CopyStop) (r : Result (Option Page) TidyStop) → SeesBy c r → EndsSpent r new
+    spent_so (Ok page) r is = subst (λ (x : Result (Option Page) TidyStop). EndsSpent x new) (sym is) left_still
+    spent_so (Err copies.Crowded) r is = subst (λ (x : Result (Option Page) TidyStop). EndsSpent x new) (sym is) left_still
+    spent_so (Err copies.ReadFault) r is = subst (λ (x : Result (Option Page) TidyStop). EndsSpent x new) (sym is) (other_stop stops.ReadFault new left_still (λ same. cc))
+    spent_so (Err copies.NoMemory) r is = subst (λ (x : Result (Option Page) TidyStop). EndsSpent x new) (sym is) (other_stop stops.NoMemory new left_still (λ same. cc))
+    spent_so (Err (copies.Damaged page why)) r is = subst (λ (x : Result (Option Page) TidyStop). EndsSpent x new) (sym is) (other_stop (stops.Damaged page why) new left_still (λ same. cc))
+
+    pub look_looks : LooksOver NothingOf seen (SawPage id) d old e new
+    look_looks = record {
+      looks = λ m shows known.
+          let t = looked_at m shows in
+          record {
+            does = record { run = t; err = cause m shows t copied looked.reads.reads.cause (looked.told m shows).1 seen sees };
+            same = stays m shows;
+            ok = saw m shows t copied (looked.told m shows).1 seen sees;
+          };
+      counts = rise;
+      spent = spent_so copied seen sees;
+      meta = look_meta;
+    }
+
+    -- the core may go on where the page came, or found no place
+    goes_on : (m : Machine) (shows : MayStep d old m) → m.stop ≡ None → (c : Result Page CopyStop) → CopiesPage id c m (looked.told m shows).0 → (r : Result (Option Page) TidyStop) → SeesBy c r → OnOk r (MayTidy e new)
+    goes_on m shows none (Ok page) was r is =
+        subst (λ (x : Result (Option Page) TidyStop). OnOk x (MayTidy e new)) (sym is)
+        (record { laws = may.laws; runs = ((looked.told m shows).0, (looked.told m shows).2, ap (λ (x : Machine). x.stop) was.0.rest ∙ none); counts = rise.within; left = left_still })
+    goes_on m shows none (Err copies.Crowded) was r is =
+        subst (λ (x : Result (Option Page) TidyStop). OnOk x (MayTidy e new)) (sym is)
+        (record { laws = may.laws; runs = ((looked.told m shows).0, (looked.told m shows).2, ap (λ (x : Machine). x.stop) was.0 ∙ none); counts = rise.within; left = left_still })
+    goes_on m shows none (Err copies.ReadFault) was r is = subst (λ (x : Result (Option Page) TidyStop). OnOk x (MayTidy e new)) (sym is) tt
+    goes_on m shows none (Err copies.NoMemory) was r is = subst (λ (x : Result (Option Page) TidyStop). OnOk x (MayTidy e new)) (sym is) tt
+    goes_on m shows none (Err (copies.Damaged page why)) was r is = subst (λ (x : Result (Option Page) TidyStop). OnOk x (MayTidy e new)) (sym is) tt
+
+    pub look_may : OnOk seen (MayTidy e new)
+    look_may = let m = may.runs.0 in let shows = may.runs.1 in goes_on m shows may.runs.2 copied (looked.told m shows).1 seen sees
+
+    good_so : (m : Machine) (shows : MayStep d old m) (c : Result Page CopyStop) → CopiesPage id c m (looked.told m shows).0 → (r : Result (Option Page) TidyStop) → SeesBy c r → IfOk r (λ v. IfSome v (IsGoodPage old.store.meta))
+    good_so m shows (Ok page) was r is =
+        let one = looked.told m shows in
+        let meta : one.0.store.meta ≡ old.store.meta = ap (λ (st : StoreState). st.meta) one.2.shows.store ∙ look_meta in
+        subst (λ (x : Result (Option Page) TidyStop). IfOk x (λ v. IfSome v (IsGoodPage old.store.meta))) (sym is)
+        (subst (λ (meta : Meta). IsGoodPage meta page) meta (one.2.goes_on.kept.pages_of_file id page was.1).2)
+    good_so m shows (Err copies.Crowded) was r is = subst (λ (x : Result (Option Page) TidyStop). IfOk x (λ v. IfSome v (IsGoodPage old.store.meta))) (sym is) tt
+    good_so m shows (Err copies.ReadFault) was r is = subst (λ (x : Result (Option Page) TidyStop). IfOk x (λ v. IfSome v (IsGoodPage old.store.meta))) (sym is) tt
+    good_so m shows (Err copies.NoMemory) was r is = subst (λ (x : Result (Option Page) TidyStop). IfOk x (λ v. IfSome v (IsGoodPage old.store.meta))) (sym is) tt
+    good_so m shows (Err (copies.Damaged page why)) was r is = subst (λ (x : Result (Option Page) TidyStop). IfOk x (λ v. IfSome v (IsGoodPage old.store.meta))) (sym is) tt
+
+    pub look_good : IfOk seen (λ v. IfSome v (IsGoodPage old.store.meta))
+    look_good = let m = may.runs.0 in let shows = may.runs.1 in good_so m shows copied (looked.told m shows).1 seen sees

@@ -1,0 +1,11 @@
+use Rattle.hb_tidy.proofs.PlacedLeaves.{child_holds, child_there, parent_holds}
+use Rattle.hb_tidy.proofs.finding.needs_split.Goals as goal
+
+pub post_plan-requires-clause-parent_held : goal.post_plan-requires-clause-parent_held
+post_plan-requires-clause-parent_held c = parent_holds c.args.meta.now c.args.parent.now c.requires.stands.0 c.args.area.now c.args.child.now c.args.point.now c.requires.stands.1 c.requires.held
+
+pub post_plan-requires-clause-child_held : goal.post_plan-requires-clause-child_held
+post_plan-requires-clause-child_held c = child_holds c.args.meta.now c.args.parent.now c.requires.stands.0 c.args.area.now c.args.child.now c.args.point.now c.requires.stands.1 c.requires.held
+
+pub post_plan-requires-clause-child_leaf : goal.post_plan-requires-clause-child_leaf
+post_plan-requires-clause-child_leaf c = child_there c.args.meta.now c.args.parent.now c.requires.stands.0 c.args.area.now c.args.child.now c.args.point.now c.requires.stands.1 c.requires.held

@@ -1,0 +1,36 @@
+use Rattle.std.proofs.Common.{◌≡◌, ℕ, ◌≤◌, List, [], All, length, get_or, arith, rules, sym, subst, ◌∙◌}
+use Rattle.std.proofs.lemmas.List.{take_all}
+use Rattle.std.proofs.lemmas.List.Elements.{All-get_or}
+use Rattle.hb_space.specs.Boxes.{Area, Meets}
+use Rattle.hb_tidy.proofs.JobLists.{all_next, none_yet}
+use Rattle.hb_tidy.proofs.PlacedLeaves.{given_attributes, leaf_attributes}
+use Rattle.hb_tidy.proofs.finding.owe_postings.Goals as goal
+
+pub owe_given-requires-clause-attributes : goal.owe_given-requires-clause-attributes
+owe_given-requires-clause-attributes c =
+    let stands = c.requires.stands.1 in
+    let all = subst (λ (ls : List (ℕ × Area)). All (λ (s : ℕ × Area). length s.1.lo ≡ c.args.meta.now.k) ls) (sym c.requires.given) (given_attributes c.args.meta.now c.args.child.now stands.below_made) in
+    let x : ℕ × Area = (c.leaf-item.result.0, c.leaf-item.result.1) in
+    let is : x ≡ get_or c.args.given.now c.loop-leaf.leaf-index x = search rules in
+    leaf_attributes c.args.meta.now c.args.parent.now c.requires.stands.0 c.args.area.now stands.above_made stands.leaf
+    ∙ sym (subst (λ (s : ℕ × Area). length s.1.lo ≡ c.args.meta.now.k) (sym is) (All-get_or (λ (s : ℕ × Area). length s.1.lo ≡ c.args.meta.now.k) c.args.given.now c.loop-leaf.leaf-index x (omega arith) all))
+
+pub loop-leaf-init : goal.loop-leaf-init
+loop-leaf-init c = record { fit = c.requires.fit; none = λ empty. (empty, none_yet (λ (s : ℕ × Area). ¬ (Meets c.args.area.now s.1)) c.args.given.now) }
+
+pub loop-leaf-preserved : goal.loop-leaf-preserved
+loop-leaf-preserved c = record {
+  fit = c.in_ok-owe_given.ensures.fit;
+  none = λ empty.
+      let here = c.in_ok-owe_given.ensures.none empty in
+      let before = c.loop-leaf.invariant.none here.0 in
+      let x : ℕ × Area = (c.leaf-item.result.0, c.leaf-item.result.1) in
+      let is : x ≡ get_or c.args.given.now c.loop-leaf.leaf-index x = search rules in
+      (before.0, all_next (λ (s : ℕ × Area). ¬ (Meets c.args.area.now s.1)) c.args.given.now c.loop-leaf.leaf-index x (omega arith) is before.1 here.1);
+}
+
+pub returns-clause-none : goal.returns-clause-none
+returns-clause-none c =
+    let end : length c.args.given.now ≤ c.loop-leaf.leaf-index = omega arith in
+    let P : List (ℕ × Area) → Type 0 = λ ls. c.loop-leaf.jobs.items ≡ [] → (c.args.jobs.now.items ≡ []) × All (λ (s : ℕ × Area). ¬ (Meets c.args.area.now s.1)) ls in
+    subst P (take_all c.loop-leaf.leaf-index c.args.given.now end) c.loop-leaf.invariant.none

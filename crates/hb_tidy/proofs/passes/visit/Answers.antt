@@ -1,0 +1,31 @@
+use Rattle.std.proofs.Common.{◌≡◌, List, [], All, sym, ◌∙◌, arith, subst}
+use Rattle.hb_activity.specs.declared.jobs.Job.{Job}
+use Rattle.hb_layout.specs.declared.meta.Meta.{Meta}
+use Rattle.hb_core.specs.CoreSeen.{core_seen, core_disk}
+use Rattle.hb_core.specs.KeptFits.{JobFits}
+use Rattle.hb_tidy.proofs.Exits.{over_exit, over_value}
+use Rattle.hb_tidy.proofs.JobLists.{no_items}
+use Rattle.hb_tidy.proofs.PassParts.{waits_then}
+use Rattle.hb_tidy.specs.Finding.{IsTidyAt}
+use Rattle.hb_tidy.specs.Looking.{NothingOf}
+use Rattle.hb_tidy.proofs.passes.visit.Goals as goal
+
+pub returns-in_err-jobs-clause-looks : goal.returns-in_err-jobs-clause-looks
+returns-in_err-jobs-clause-looks g c =
+    over_exit NothingOf c.in_err-jobs.field-0.0 c.jobs_at.result c.from_residual.result _ _ (g.D.Device.model (core_disk c.args.core.now)) (g.D.Device.model (core_disk c.jobs_at.new.core)) (core_seen c.args.core.now) (core_seen c.jobs_at.new.core)
+    c.in_err-jobs.was c.from_residual.ensures.1 c.jobs_at.ensures.looks
+
+pub wait_for_all-requires-clause-fit : goal.wait_for_all-requires-clause-fit
+wait_for_all-requires-clause-fit g c =
+    subst (λ (meta : Meta). All (JobFits meta.k) c.as_slice.result.now) (sym c.jobs_at.ensures.meta)
+    (subst (λ (jobs : List Job). All (JobFits (core_seen c.args.core.now).store.meta.k) jobs) (sym c.as_slice.ensures.value) c.in_ok-jobs.ensures.fit)
+
+pub returns-clause-looks : goal.returns-clause-looks
+returns-clause-looks g c =
+    let d = g.D.Device.model (core_disk c.args.core.now) in
+    let e = g.D.Device.model (core_disk c.jobs_at.new.core) in
+    let f = g.D.Device.model (core_disk c.wait_for_all.new.core) in
+    waits_then c.in_ok-jobs.jobs (λ v. v.items ≡ []) (λ s. IsTidyAt s c.args.id) c.is_empty.result d e f (core_seen c.args.core.now) (core_seen c.jobs_at.new.core) (core_seen c.wait_for_all.new.core)
+    (λ is. no_items c.in_ok-jobs.jobs.items _ (omega (arith, c.in_ok-jobs.jobs.ok.0)) (sym c.is_empty.ensures ∙ is))
+    (over_value NothingOf c.in_ok-jobs.jobs c.jobs_at.result _ d e (core_seen c.args.core.now) (core_seen c.jobs_at.new.core) c.in_ok-jobs.was c.jobs_at.ensures.looks)
+    c.wait_for_all.ensures.looks

@@ -1,0 +1,29 @@
+use Rattle.std.proofs.Common.{◌≡◌, [], Some, sym, ◌∙◌, arith, rules}
+use Rattle.hb_frag.specs.Leaves.{siblings_of}
+use Rattle.hb_ops.specs.Files.{live_page}
+use Rattle.hb_ops.specs.Settled.{HasLoneRoot}
+use Rattle.hb_core.specs.CoreSeen.{core_seen, core_disk}
+use Rattle.hb_tidy.proofs.Belows.{over_full, over_refused, wants_growth}
+use Rattle.hb_tidy.proofs.JobLists.{no_items, some_items}
+use Rattle.hb_tidy.proofs.PassParts.{Clean, found_here, root_alone}
+use Rattle.hb_tidy.proofs.passes.visit_top.Goals as goal
+
+pub returns-in_err-given-clause-looks : goal.returns-in_err-given-clause-looks
+returns-in_err-given-clause-looks g c =
+    over_refused (λ s. live_page s s.meta.root ≡ Some c.args.page.now) c.from_residual.result (Clean HasLoneRoot) (g.D.Device.model (core_disk c.args.core.now)) (core_seen c.args.core.now)
+    (g.met.D.Device.is_disk (core_disk c.args.core.now)) c.requires.may c.from_residual.ensures.1
+
+pub returns-then-is_empty-clause-looks : goal.returns-then-is_empty-clause-looks
+returns-then-is_empty-clause-looks g c =
+    let none : siblings_of c.args.page.now ≡ [] = sym c.in_ok-given.ensures.leaves ∙ no_items c.in_ok-given.given.items _ (omega (arith, c.in_ok-given.given.ok.0)) (sym c.is_empty.ensures ∙ c.if-is_empty.true) in
+    root_alone c.args.page.now (g.D.Device.model (core_disk c.args.core.now)) (core_seen c.args.core.now) (g.met.D.Device.is_disk (core_disk c.args.core.now)) c.requires.may none
+
+pub returns-then-meta-clause-looks : goal.returns-then-meta-clause-looks
+returns-then-meta-clause-looks g c =
+    let some : siblings_of c.args.page.now ≡ [] → ⊥ = λ none. some_items c.in_ok-given.given.items _ (omega (arith, c.in_ok-given.given.ok.0)) (sym c.is_empty.ensures ∙ c.if-is_empty.false) (c.in_ok-given.ensures.leaves ∙ none) in
+    over_full (λ s. live_page s s.meta.root ≡ Some c.args.page.now) (Clean HasLoneRoot) (g.D.Device.model (core_disk c.args.core.now)) (core_seen c.args.core.now) (g.met.D.Device.is_disk (core_disk c.args.core.now)) c.requires.may
+    (λ s file known. wants_growth (core_seen c.args.core.now) s c.args.page.now file known some c.requires.low (search rules))
+
+pub returns-clause-looks : goal.returns-clause-looks
+returns-clause-looks g c =
+    found_here (λ s. live_page s s.meta.root ≡ Some c.args.page.now) HasLoneRoot (g.D.Device.model (core_disk c.args.core.now)) (g.D.Device.model (core_disk c.owe_growth.new.core)) (core_seen c.args.core.now) (core_seen c.owe_growth.new.core) c.owe_growth.ensures.looks

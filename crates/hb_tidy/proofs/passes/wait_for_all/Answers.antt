@@ -1,0 +1,23 @@
+use Rattle.std.proofs.Common.{Ok, refl, ◌∙◌}
+use Rattle.hb_core.specs.CoreSeen.{core_seen, core_disk}
+use Rattle.hb_tidy.proofs.Joined.{over_then}
+use Rattle.hb_tidy.proofs.RunsBegun.{over_none}
+use Rattle.hb_tidy.specs.Looking.{NothingOf}
+use Rattle.hb_tidy.proofs.passes.wait_for_all.Goals as goal
+
+pub loop-job-init : goal.loop-job-init
+loop-job-init g c = record {
+  looks = over_none (g.D.Device.model (core_disk c.args.core.now)) (core_seen c.args.core.now) (g.met.D.Device.is_disk (core_disk c.args.core.now)) c.requires.may;
+  may = c.requires.may;
+  meta = refl;
+}
+
+pub loop-job-preserved : goal.loop-job-preserved
+loop-job-preserved g c = record {
+  looks = over_then NothingOf (tt {0}) (λ v. NothingOf) NothingOf (Ok (tt {0})) (λ v. NothingOf) (λ v. NothingOf)
+      (g.D.Device.model (core_disk c.args.core.now)) (g.D.Device.model (core_disk c.loop-job.core)) (g.D.Device.model (core_disk c.wait_for.new.core))
+      (core_seen c.args.core.now) (core_seen c.loop-job.core) (core_seen c.wait_for.new.core)
+      c.loop-job.invariant.looks (λ s known said. tt) c.wait_for.ensures.looks (λ s w known said more. tt);
+  may = c.wait_for.ensures.may;
+  meta = c.wait_for.ensures.meta ∙ c.loop-job.invariant.meta;
+}

@@ -1,0 +1,99 @@
+use Rattle.std.proofs.Common.{◌≡◌, true, sym, ap, ◌∙◌, arith}
+use Rattle.hb_core.specs.CoreSeen.{core_seen, core_disk}
+use Rattle.hb_core.specs.declared.counts.TidyCounts.{TidyCounts}
+use Rattle.hb_tidy.proofs.Ends.{ends_at_once, ends_by_err, ends_well}
+use Rattle.hb_tidy.proofs.Exits.{goes_value, ok_is, over_value}
+use Rattle.hb_tidy.proofs.Joined.{goes_then, over_goes}
+use Rattle.hb_tidy.proofs.PassParts.{Clean}
+use Rattle.hb_tidy.proofs.RunsBegun.{goes_none}
+use Rattle.hb_tidy.specs.Counted.{added}
+use Rattle.hb_tidy.specs.Finding.{IsTidy}
+use Rattle.hb_tidy.specs.Going.{MayTidy}
+use Rattle.hb_tidy.specs.Looking.{NothingOf}
+use Rattle.hb_tidy.proofs.tidy.Goals as goal
+
+pub returns-then-taken-eq18446744073709551615-clause-tidies : goal.returns-then-taken-eq18446744073709551615-clause-tidies
+returns-then-taken-eq18446744073709551615-clause-tidies g c = λ m may.
+    ends_at_once c.runs_go_on.ensures (g.D.Device.model (core_disk c.args.core.now)) (core_seen c.args.core.now) m (g.met.D.Device.is_disk (core_disk c.args.core.now)) may (search (arith))
+
+pub loop-core-init : goal.loop-core-init
+loop-core-init g c =
+    let d = g.D.Device.model (core_disk c.args.core.now) in
+    let last = c.requires.counts.last in
+    let may : MayTidy d (core_seen c.args.core.now) = record {
+      laws = record {
+        runs = c.runs_go_on.ensures;
+        waiting = c.all_is_kept_between_steps.ensures.waiting;
+        looking = c.all_is_kept_between_steps.ensures.looking;
+        counts = c.operations_are_counted.ensures.within;
+        height = c.operations_are_counted.ensures.height;
+      };
+      runs = c.requires.may;
+      counts = c.requires.counts;
+      left = search (arith, last);
+    } in
+    record {
+      goes = goes_none d (core_seen c.args.core.now) (g.met.D.Device.is_disk (core_disk c.args.core.now)) may;
+      may = may;
+      before = c.done-before.ensures;
+    }
+
+pub returns-in_err-pass-clause-tidies : goal.returns-in_err-pass-clause-tidies
+returns-in_err-pass-clause-tidies g c = λ m may.
+    let d = g.D.Device.model (core_disk c.args.core.now) in
+    let mid = g.D.Device.model (core_disk c.loop-core.core) in
+    let e = g.D.Device.model (core_disk c.pass.new.core) in
+    ends_by_err c.in_err-pass.field-0.0 c.pass.result c.from_residual.result d e (core_seen c.args.core.now) (core_seen c.pass.new.core) m c.in_err-pass.was c.from_residual.ensures.1
+    (goes_then (tt {0}) c.pass.result d mid e (core_seen c.args.core.now) (core_seen c.loop-core.core) (core_seen c.pass.new.core) c.loop-core.invariant.goes (over_goes c.pass.result (Clean IsTidy) mid e (core_seen c.loop-core.core) (core_seen c.pass.new.core) c.pass.ensures.looks))
+    may
+
+pub returns-then-branch-clause-tidies : goal.returns-then-branch-clause-tidies
+returns-then-branch-clause-tidies g c = λ m may.
+    let d = g.D.Device.model (core_disk c.args.core.now) in
+    let mid = g.D.Device.model (core_disk c.loop-core.core) in
+    let e = g.D.Device.model (core_disk c.pass.new.core) in
+    let old = core_seen c.args.core.now in
+    let new = core_seen c.pass.new.core in
+    let clean = ok_is c.pass.result c.in_ok-pass.field-0 true c.in_ok-pass.was c.if-branch.true in
+    let is : new.done ≡ added old.done c.rise_of.result = sym c.done.ensures ∙ c.rise_of.ensures ∙ ap (λ (x : TidyCounts). added x c.rise_of.result) c.loop-core.invariant.before in
+    ends_well d mid e old (core_seen c.loop-core.core) new c.rise_of.result c.loop-core.invariant.goes (over_value NothingOf true c.pass.result (Clean IsTidy) mid e (core_seen c.loop-core.core) new clean c.pass.ensures.looks) c.in_ok-pass.ensures.may is m may
+
+pub returns-in_err-work_off-clause-tidies : goal.returns-in_err-work_off-clause-tidies
+returns-in_err-work_off-clause-tidies g c = λ m may.
+    let d = g.D.Device.model (core_disk c.args.core.now) in
+    let mid = g.D.Device.model (core_disk c.loop-core.core) in
+    let e = g.D.Device.model (core_disk c.pass.new.core) in
+    let f = g.D.Device.model (core_disk c.work_off.new.core) in
+    let passed = goes_then (tt {0}) c.pass.result d mid e (core_seen c.args.core.now) (core_seen c.loop-core.core) (core_seen c.pass.new.core) c.loop-core.invariant.goes (over_goes c.pass.result (Clean IsTidy) mid e (core_seen c.loop-core.core) (core_seen c.pass.new.core) c.pass.ensures.looks) in
+    ends_by_err c.in_err-work_off.field-0.0 c.work_off.result c.from_residual-in_err-work_off.result d f (core_seen c.args.core.now) (core_seen c.work_off.new.core) m c.in_err-work_off.was c.from_residual-in_err-work_off.ensures.1
+    (goes_then c.in_ok-pass.field-0 c.work_off.result d e f (core_seen c.args.core.now) (core_seen c.pass.new.core) (core_seen c.work_off.new.core) (goes_value c.in_ok-pass.field-0 c.pass.result d e (core_seen c.args.core.now) (core_seen c.pass.new.core) c.in_ok-pass.was passed) c.work_off.ensures.goes)
+    may
+
+pub returns-in_err-work_off-2-clause-tidies : goal.returns-in_err-work_off-2-clause-tidies
+returns-in_err-work_off-2-clause-tidies g c = λ m may.
+    let d = g.D.Device.model (core_disk c.args.core.now) in
+    let mid = g.D.Device.model (core_disk c.loop-core.core) in
+    let e = g.D.Device.model (core_disk c.pass.new.core) in
+    let f = g.D.Device.model (core_disk c.work_off.new.core) in
+    let h = g.D.Device.model (core_disk c.work_off-in-loop-core.new.core) in
+    let passed = goes_then (tt {0}) c.pass.result d mid e (core_seen c.args.core.now) (core_seen c.loop-core.core) (core_seen c.pass.new.core) c.loop-core.invariant.goes (over_goes c.pass.result (Clean IsTidy) mid e (core_seen c.loop-core.core) (core_seen c.pass.new.core) c.pass.ensures.looks) in
+    let posted = goes_then c.in_ok-pass.field-0 c.work_off.result d e f (core_seen c.args.core.now) (core_seen c.pass.new.core) (core_seen c.work_off.new.core) (goes_value c.in_ok-pass.field-0 c.pass.result d e (core_seen c.args.core.now) (core_seen c.pass.new.core) c.in_ok-pass.was passed) c.work_off.ensures.goes in
+    ends_by_err c.in_err-work_off-2.field-0.0 c.work_off-in-loop-core.result c.from_residual-in_err-work_off-2.result d h (core_seen c.args.core.now) (core_seen c.work_off-in-loop-core.new.core) m c.in_err-work_off-2.was c.from_residual-in_err-work_off-2.ensures.1
+    (goes_then (tt {0}) c.work_off-in-loop-core.result d f h (core_seen c.args.core.now) (core_seen c.work_off.new.core) (core_seen c.work_off-in-loop-core.new.core) (goes_value (tt {0}) c.work_off.result d f (core_seen c.args.core.now) (core_seen c.work_off.new.core) c.in_ok-work_off.was posted) c.work_off-in-loop-core.ensures.goes)
+    may
+
+pub loop-core-preserved : goal.loop-core-preserved
+loop-core-preserved g c =
+    let d = g.D.Device.model (core_disk c.args.core.now) in
+    let mid = g.D.Device.model (core_disk c.loop-core.core) in
+    let e = g.D.Device.model (core_disk c.pass.new.core) in
+    let f = g.D.Device.model (core_disk c.work_off.new.core) in
+    let h = g.D.Device.model (core_disk c.work_off-in-loop-core.new.core) in
+    let passed = goes_then (tt {0}) c.pass.result d mid e (core_seen c.args.core.now) (core_seen c.loop-core.core) (core_seen c.pass.new.core) c.loop-core.invariant.goes (over_goes c.pass.result (Clean IsTidy) mid e (core_seen c.loop-core.core) (core_seen c.pass.new.core) c.pass.ensures.looks) in
+    let posted = goes_then c.in_ok-pass.field-0 c.work_off.result d e f (core_seen c.args.core.now) (core_seen c.pass.new.core) (core_seen c.work_off.new.core) (goes_value c.in_ok-pass.field-0 c.pass.result d e (core_seen c.args.core.now) (core_seen c.pass.new.core) c.in_ok-pass.was passed) c.work_off.ensures.goes in
+    record {
+      goes = goes_value (tt {0}) c.work_off-in-loop-core.result d h (core_seen c.args.core.now) (core_seen c.work_off-in-loop-core.new.core) c.in_ok-work_off-2.was
+          (goes_then (tt {0}) c.work_off-in-loop-core.result d f h (core_seen c.args.core.now) (core_seen c.work_off.new.core) (core_seen c.work_off-in-loop-core.new.core) (goes_value (tt {0}) c.work_off.result d f (core_seen c.args.core.now) (core_seen c.work_off.new.core) c.in_ok-work_off.was posted) c.work_off-in-loop-core.ensures.goes);
+      may = c.in_ok-work_off-2.ensures.may;
+      before = c.loop-core.invariant.before;
+    }

@@ -1,0 +1,38 @@
+-- How a core goes on while it is tidied: what a call wants of it, and what it has come to behind the call.
+use Rattle.std.specs.Prelude.{◌<◌, ◌-◌, ◌^◌, Result, IfErr}
+use Rattle.hb_disk.specs.Model.{DiskModel}
+use Rattle.hb_core.specs.BetweenLaws.{CountsStayWithin, HeightIsCounted, LookingKeepsAll, WaitingKeepsAll}
+use Rattle.hb_core.specs.Counting.{CountsWithin}
+use Rattle.hb_core.specs.Machines.{Machine}
+use Rattle.hb_core.specs.Relied.{MayFlush}
+use Rattle.hb_core.specs.Runs.{RunningLaws}
+use Rattle.hb_core.specs.Showing.{RunningCore}
+use Rattle.hb_core.specs.Working.{MayStep}
+use Rattle.hb_tidy.specs.declared.stops.TidyStop.{TidyStop}
+use Rattle.hb_tidy.specs.Counted.{CountsRise, EndsSpent}
+use Rattle.hb_tidy.specs.Tidying.{HasTidied, StopsTidying}
+
+-- The laws of the core by which it goes on; a call of the core's laws tells them once, and each call hands them on.
+pub record TidyLaws : Type 0 where
+  pub runs : RunningLaws
+  pub waiting : WaitingKeepsAll
+  pub looking : LookingKeepsAll
+  pub counts : CountsStayWithin
+  pub height : HeightIsCounted
+
+-- A core may go on: it isn't stopped, no more operations of a kind were counted than steps, and the count of steps has some left.
+pub record MayTidy (d : DiskModel) (c : RunningCore) : Type 0 where
+  pub laws : TidyLaws
+  pub runs : MayFlush d c
+  pub counts : CountsWithin c
+  pub left : c.taken < 2 ^ 64 - 1
+
+-- A call, from one machine that the core showed, and from each of them, with its counts.
+pub record Does {T : Type 0} (result : Result T TidyStop) (d : DiskModel) (m : Machine) (e : DiskModel) (c : RunningCore) : Type 0 where
+  pub run : HasTidied d m e c
+  pub err : IfErr result (λ stop. StopsTidying stop d e c run.new)
+
+pub record Goes {T : Type 0} (result : Result T TidyStop) (d : DiskModel) (old : RunningCore) (e : DiskModel) (new : RunningCore) : Type 0 where
+  pub does : (m : Machine) → MayStep d old m → Does result d m e new
+  pub counts : CountsRise old new
+  pub spent : EndsSpent result new

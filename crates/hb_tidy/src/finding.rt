@@ -1,0 +1,238 @@
+//! What is found at a child leaf of a page: postings that are owed to the page, and pages that may become one.
+ghost use Rattle.std.specs.Prelude.{◌≡◌, ◌+◌, ◌≤◌, ◌↔◌, ◌++◌, ◌∷◌, [], ℕ, All, IfErr, IfOk, IsTrue, OnErr, OnOk, length};
+ghost use Rattle.hb_space.specs.Boxes.{Holds, Meets, Within};
+ghost use Rattle.hb_frag.specs.Leaves.{siblings_of};
+ghost use Rattle.hb_frag.specs.Rules.{capacity_of};
+ghost use Rattle.hb_layout.specs.Limits.{IsLayout};
+ghost use Rattle.hb_ops.specs.Merging.{FitsMerge, MayMerge};
+ghost use Rattle.hb_ops.specs.Owing.{LacksRoom};
+ghost use Rattle.hb_ops.specs.Sound.{FitsFile};
+ghost use Rattle.hb_core.specs.KeptFits.{JobFits};
+ghost use Rattle.hb_tidy.specs.Placing.{IsNotOwed, StandsBelow};
+
+use crate::TidyStop;
+use hb_activity::{Job, JobKind};
+use hb_frag::LivePage;
+use hb_layout::Meta;
+use hb_space::{Area, NoMemory, Point};
+use hb_terms::{MergePlan, PostPlan, merge_plan, post_plan};
+use std::alloc::Global;
+
+/// A page in use, with its number.
+#[derive(Drop)]
+pub(crate) struct Numbered {
+    pub(crate) id: u32,
+    pub(crate) page: LivePage,
+}
+
+/// Whether a page is one level below another one, and has the box within its own.
+pub(crate) fn stands_below(parent: &LivePage, area: &Area, child: &LivePage) -> bool
+    requires { length area.now.lo ≡ length child.now.area.lo }
+    ensures { IsTrue result ↔ ((child.now.level + 1 ≡ parent.now.level) × Within area.now child.now.area) }
+{
+    u16::from(child.level) + 1 == u16::from(parent.level) && area.within(&child.area)
+}
+
+/// Adds a job for each posting that the child owes to its parent at the leaf of this box: for each page to which it gave a part of
+/// that.
+///
+/// # Errors
+///
+/// `Full` where no page is free and the parent has no room for one of them.
+pub(crate) fn owe_postings(
+    alloc: Global,
+    meta: &Meta,
+    parent: &LivePage,
+    child: &LivePage,
+    area: &Area,
+    given: &[(u32, Area)],
+    jobs: &mut Vec<Job>,
+) -> Result<(), TidyStop>
+    requires stands { (name : ℕ) × StandsBelow meta.now parent.now name area.now child.now }
+    requires given { given.now ≡ siblings_of child.now }
+    requires fit { All (JobFits meta.now.k) jobs.old.items }
+    ensures fit { All (JobFits meta.now.k) jobs.new.items }
+    ensures none { OnOk result (jobs.new.items ≡ [] → (jobs.old.items ≡ []) × All (λ sibling. ¬ (Meets area.now sibling.1)) given.now) }
+    ensures full { IfErr result (IsNotOwed meta.now parent.now child.now) }
+{
+    for leaf in given {
+        owe_given(alloc, meta, parent, child, area, &leaf.1, jobs)?;
+    }
+    Ok(())
+}
+
+/// Adds a job for the posting of a page to which the child gave this box, where it is owed at the leaf.
+fn owe_given(
+    alloc: Global,
+    meta: &Meta,
+    parent: &LivePage,
+    child: &LivePage,
+    area: &Area,
+    given: &Area,
+    jobs: &mut Vec<Job>,
+) -> Result<(), TidyStop>
+    requires stands { (name : ℕ) × StandsBelow meta.now parent.now name area.now child.now }
+    requires attributes { length area.now.lo ≡ length given.now.lo }
+    requires fit { All (JobFits meta.now.k) jobs.old.items }
+    ensures fit { All (JobFits meta.now.k) jobs.new.items }
+    ensures none { OnOk result (jobs.new.items ≡ [] → (jobs.old.items ≡ []) × (¬ (Meets area.now given.now))) }
+    ensures full { IfErr result (IsNotOwed meta.now parent.now child.now) }
+{
+    match area.common(given) {
+        Some(common) => owe_posting(alloc, meta, parent, child, area, common.lo(), jobs),
+        None => Ok(()),
+    }
+}
+
+/// Adds a job for the posting that is owed at the point.
+fn owe_posting(
+    alloc: Global,
+    meta: &Meta,
+    parent: &LivePage,
+    child: &LivePage,
+    area: &Area,
+    point: &Point,
+    jobs: &mut Vec<Job>,
+) -> Result<(), TidyStop>
+    requires stands { (name : ℕ) × StandsBelow meta.now parent.now name area.now child.now }
+    requires held { Holds area.now point.now }
+    requires fit { All (JobFits meta.now.k) jobs.old.items }
+    ensures fit { All (JobFits meta.now.k) jobs.new.items }
+    ensures none { OnOk result (jobs.new.items ≡ [] → ⊥) }
+    ensures full { IfErr result (IsNotOwed meta.now parent.now child.now) }
+{
+    if meta.live == meta.pages && needs_split(alloc, meta, parent, child, area, point)? {
+        return Err(TidyStop::Full);
+    }
+    let job = Job {
+        kind: JobKind::Post,
+        level: parent.level,
+        point: point.copy(),
+    };
+    add_job(jobs, job)?;
+    Ok(())
+}
+
+/// Whether the parent has no room for the posting that is owed at the point.
+fn needs_split(
+    alloc: Global,
+    meta: &Meta,
+    parent: &LivePage,
+    child: &LivePage,
+    area: &Area,
+    point: &Point,
+) -> Result<bool, NoMemory>
+    requires stands { (name : ℕ) × StandsBelow meta.now parent.now name area.now child.now }
+    requires held { Holds area.now point.now }
+    ensures { IfOk result (λ needs. IsTrue needs → LacksRoom parent.now child.now point.now meta.now.icap) }
+{
+    match post_plan(alloc, parent, child, point, meta.icap)? {
+        PostPlan::SplitFirst => Ok(true),
+        PostPlan::Nothing | PostPlan::Post { .. } => Ok(false),
+    }
+}
+
+/// Adds the job of this kind at the lower corner of a child leaf of this box. Below it something is to be done.
+pub(crate) fn owe_job(
+    meta: &Meta,
+    kind: JobKind,
+    parent: &LivePage,
+    area: &Area,
+    jobs: &mut Vec<Job>,
+) -> Result<(), NoMemory>
+    requires level { 1 ≤ parent.now.level }
+    requires attributes { length area.now.lo ≡ meta.now.k }
+    requires fit { All (JobFits meta.now.k) jobs.old.items }
+    ensures fit { All (JobFits meta.now.k) jobs.new.items }
+    ensures none { OnOk result (jobs.new.items ≡ [] → ⊥) }
+{
+    let job = Job {
+        kind,
+        level: parent.level,
+        point: area.lo().copy(),
+    };
+    add_job(jobs, job)
+}
+
+/// Adds a job to the list.
+fn add_job(jobs: &mut Vec<Job>, job: Job) -> Result<(), NoMemory>
+    ensures added { OnOk result (jobs.new.items ≡ jobs.old.items ++ job ∷ []) }
+    ensures same { OnErr result (jobs.new.items ≡ jobs.old.items) }
+{
+    Ok(jobs.push(job)?)
+}
+
+/// Adds a job where two children of a parent, the second of which has a box of the first, may become one page.
+pub(crate) fn owe_merge(
+    meta: &Meta,
+    parent: &Numbered,
+    keep: &Numbered,
+    area: &Area,
+    gone: u32,
+    going: &LivePage,
+    jobs: &mut Vec<Job>,
+) -> Result<(), NoMemory>
+    requires layout { IsLayout meta.now }
+    requires stands { StandsBelow meta.now parent.now.page keep.now.id area.now keep.now.page }
+    requires going { FitsFile meta.now going.now }
+    requires fit { All (JobFits meta.now.k) jobs.old.items }
+    ensures fit { All (JobFits meta.now.k) jobs.new.items }
+    ensures none { OnOk result (jobs.new.items ≡ [] → (jobs.old.items ≡ [])
+        × (¬ (FitsMerge meta.now parent.now.id keep.now.id gone parent.now.page keep.now.page going.now))) }
+{
+    if may_merge(meta, parent, keep, gone, going) {
+        owe_job(meta, JobKind::Merge, &parent.page, area, jobs)
+    } else {
+        Ok(())
+    }
+}
+
+/// Whether two children of a parent may become one page.
+fn may_merge(meta: &Meta, parent: &Numbered, keep: &Numbered, gone: u32, going: &LivePage) -> bool
+    requires layout { IsLayout meta.now }
+    requires parent { FitsFile meta.now parent.now.page }
+    requires keep { FitsFile meta.now keep.now.page }
+    requires going { FitsFile meta.now going.now }
+    ensures { FitsMerge meta.now parent.now.id keep.now.id gone parent.now.page keep.now.page going.now → IsTrue result }
+{
+    meta.live > 0
+        && are_three(parent.id, keep.id, gone)
+        && going.level == keep.page.level
+        && plans_merge(meta, parent, keep, gone, going)
+}
+
+/// Whether no two of the numbers are the same.
+fn are_three(parent: u32, keep: u32, gone: u32) -> bool
+    ensures { IsTrue result ↔ (((parent ≡ keep) → ⊥) × ((parent ≡ gone) → ⊥) × ((keep ≡ gone) → ⊥)) }
+{
+    parent != keep && parent != gone && keep != gone
+}
+
+/// Whether the plan for the two is that they become one.
+fn plans_merge(meta: &Meta, parent: &Numbered, keep: &Numbered, gone: u32, going: &LivePage) -> bool
+    requires layout { IsLayout meta.now }
+    requires parent { FitsFile meta.now parent.now.page }
+    requires keep { FitsFile meta.now keep.now.page }
+    requires going { FitsFile meta.now going.now }
+    ensures { MayMerge parent.now.page keep.now.page gone going.now (capacity_of keep.now.page.level meta.now.dcap meta.now.icap) → IsTrue result }
+{
+    let plan = merge_plan(
+        &parent.page,
+        &keep.page,
+        gone,
+        going,
+        capacity(&keep.page, meta),
+    );
+    plan == MergePlan::Merge
+}
+
+/// What a page of this level may weigh.
+fn capacity(page: &LivePage, meta: &Meta) -> u16
+    ensures { result ≡ capacity_of page.now.level meta.now.dcap meta.now.icap }
+{
+    if page.level == 0 {
+        meta.dcap
+    } else {
+        meta.icap
+    }
+}

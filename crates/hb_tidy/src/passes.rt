@@ -1,0 +1,188 @@
+//! A pass over the whole file: what is found waits as a job for the workers.
+ghost use Rattle.std.specs.Prelude.{◌≡◌, ◌<◌, ◌≤◌, ◌↔◌, [], All, IfOk, IsTrue, Ok, OnOk, Some, true};
+ghost use Rattle.hb_layout.specs.declared.limits.TheConstants.{HEIGHT_MAX};
+ghost use Rattle.hb_ops.specs.Files.{live_page};
+ghost use Rattle.hb_ops.specs.Settled.{HasLoneRoot};
+ghost use Rattle.hb_ops.specs.Sound.{FitsFile};
+ghost use Rattle.hb_store.specs.Replaying.{IsPageOf};
+ghost use Rattle.hb_core.specs.CoreSeen.{core_seen, core_disk};
+ghost use Rattle.hb_core.specs.KeptFits.{JobFits};
+ghost use Rattle.hb_tidy.specs.Finding.{HasGrown, IsTidy, IsTidyAt};
+ghost use Rattle.hb_tidy.specs.Going.{MayTidy};
+ghost use Rattle.hb_tidy.specs.Looking.{LooksOver, NothingOf};
+
+use crate::TidyStop;
+use crate::below::look_at_all;
+use crate::finding::Numbered;
+use crate::listing::{child_leaves, sibling_leaves};
+use crate::looking::{look, named_page};
+use hb_activity::{Job, JobKind};
+use hb_core::Core;
+use hb_disk::Device;
+use hb_frag::{LivePage, Page};
+use hb_layout::Meta;
+use hb_layout::limits::HEIGHT_MAX;
+use hb_space::Area;
+use std::alloc::Global;
+
+/// Looks at the root and at each page of the file, and lets a job wait for each thing that is found. Whether nothing was.
+pub(crate) fn pass<D: Device>(alloc: Global, core: &mut Core<D>) -> Result<bool, TidyStop>
+    requires { MayTidy (D.model (core_disk core.old)) (core_seen core.old) }
+    ensures looks { LooksOver NothingOf result (λ clean s. clean ≡ true → IsTidy s)
+        (D.model (core_disk core.old)) (core_seen core.old) (D.model (core_disk core.new)) (core_seen core.new) }
+    ensures may { OnOk result (MayTidy (D.model (core_disk core.new)) (core_seen core.new)) }
+{
+    let mut clean = visit_root(alloc, core)?;
+    let high = core.meta().high;
+    for place in 0..high {
+        let nothing = visit(alloc, core, place + 1)?;
+        clean = clean && nothing;
+    }
+    Ok(clean)
+}
+
+/// Looks at the root. Whether no growth is owed.
+fn visit_root<D: Device>(alloc: Global, core: &mut Core<D>) -> Result<bool, TidyStop>
+    requires { MayTidy (D.model (core_disk core.old)) (core_seen core.old) }
+    ensures looks { LooksOver NothingOf result (λ clean s. clean ≡ true → HasGrown s)
+        (D.model (core_disk core.old)) (core_seen core.old) (D.model (core_disk core.new)) (core_seen core.new) }
+    ensures may { OnOk result (MayTidy (D.model (core_disk core.new)) (core_seen core.new)) }
+    ensures meta { (core_seen core.new).store.meta ≡ (core_seen core.old).store.meta }
+{
+    if is_highest(core.meta()) {
+        return Ok(true);
+    }
+    let root = core.meta().root;
+    match named_page(core, root)? {
+        Some(page) => visit_top(alloc, core, &page),
+        None => {
+            owe_growth(core);
+            Ok(false)
+        }
+    }
+}
+
+/// Whether the file has its greatest height.
+fn is_highest(meta: &Meta) -> bool
+    ensures { IsTrue result ↔ (HEIGHT_MAX ≤ meta.now.height) }
+{
+    HEIGHT_MAX <= meta.height
+}
+
+/// Looks into the root of a file that may grow. Whether it has no sibling leaf.
+fn visit_top<D: Device>(
+    alloc: Global,
+    core: &mut Core<D>,
+    page: &LivePage,
+) -> Result<bool, TidyStop>
+    requires may { MayTidy (D.model (core_disk core.old)) (core_seen core.old) }
+    requires made { FitsFile (core_seen core.old).store.meta page.now }
+    requires low { (core_seen core.old).store.meta.height < HEIGHT_MAX }
+    ensures looks { LooksOver (λ s. live_page s s.meta.root ≡ Some page.now) result (λ clean s. clean ≡ true → HasLoneRoot s)
+        (D.model (core_disk core.old)) (core_seen core.old) (D.model (core_disk core.new)) (core_seen core.new) }
+    ensures may { OnOk result (MayTidy (D.model (core_disk core.new)) (core_seen core.new)) }
+    ensures meta { (core_seen core.new).store.meta ≡ (core_seen core.old).store.meta }
+{
+    let given = sibling_leaves(alloc, page)?;
+    if given.is_empty() {
+        return Ok(true);
+    }
+    if core.meta().live == core.meta().pages {
+        return Err(TidyStop::Full);
+    }
+    owe_growth(core);
+    Ok(false)
+}
+
+/// Lets the job for a growth wait.
+fn owe_growth<D: Device>(core: &mut Core<D>)
+    requires may { MayTidy (D.model (core_disk core.old)) (core_seen core.old) }
+    ensures looks { LooksOver NothingOf (Ok result) (λ v. NothingOf)
+        (D.model (core_disk core.old)) (core_seen core.old) (D.model (core_disk core.new)) (core_seen core.new) }
+    ensures may { MayTidy (D.model (core_disk core.new)) (core_seen core.new) }
+    ensures meta { (core_seen core.new).store.meta ≡ (core_seen core.old).store.meta }
+{
+    let whole = Area::whole(core.meta().k);
+    let job = Job {
+        kind: JobKind::Post,
+        level: core.meta().height,
+        point: whole.lo().copy(),
+    };
+    wait_for(core, job);
+}
+
+/// Looks at the page of the number and at the pages below it. Whether nothing was found there.
+fn visit<D: Device>(alloc: Global, core: &mut Core<D>, id: u32) -> Result<bool, TidyStop>
+    requires may { MayTidy (D.model (core_disk core.old)) (core_seen core.old) }
+    requires page { IsPageOf (core_seen core.old).store.meta id }
+    ensures looks { LooksOver NothingOf result (λ clean s. clean ≡ true → IsTidyAt s id)
+        (D.model (core_disk core.old)) (core_seen core.old) (D.model (core_disk core.new)) (core_seen core.new) }
+    ensures may { OnOk result (MayTidy (D.model (core_disk core.new)) (core_seen core.new)) }
+    ensures meta { (core_seen core.new).store.meta ≡ (core_seen core.old).store.meta }
+{
+    let jobs = jobs_at(alloc, core, id)?;
+    wait_for_all(core, jobs.as_slice());
+    Ok(jobs.is_empty())
+}
+
+/// The jobs for what is found at the page of the number.
+fn jobs_at<D: Device>(alloc: Global, core: &mut Core<D>, id: u32) -> Result<Vec<Job>, TidyStop>
+    requires may { MayTidy (D.model (core_disk core.old)) (core_seen core.old) }
+    requires page { IsPageOf (core_seen core.old).store.meta id }
+    ensures looks { LooksOver NothingOf result (λ jobs s. jobs.items ≡ [] → IsTidyAt s id)
+        (D.model (core_disk core.old)) (core_seen core.old) (D.model (core_disk core.new)) (core_seen core.new) }
+    ensures may { OnOk result (MayTidy (D.model (core_disk core.new)) (core_seen core.new)) }
+    ensures meta { (core_seen core.new).store.meta ≡ (core_seen core.old).store.meta }
+    ensures fit { IfOk result (λ jobs. All (JobFits (core_seen core.old).store.meta.k) jobs.items) }
+{
+    match look(core, id)? {
+        Page::Live(page) => jobs_below(alloc, core, &Numbered { id, page }),
+        Page::Free { .. } => Ok(Vec::new(alloc)),
+    }
+}
+
+/// The jobs for what is found below a page.
+fn jobs_below<D: Device>(
+    alloc: Global,
+    core: &mut Core<D>,
+    parent: &Numbered,
+) -> Result<Vec<Job>, TidyStop>
+    requires may { MayTidy (D.model (core_disk core.old)) (core_seen core.old) }
+    requires made { FitsFile (core_seen core.old).store.meta parent.now.page }
+    ensures looks { LooksOver (λ s. live_page s parent.now.id ≡ Some parent.now.page) result (λ jobs s. jobs.items ≡ [] → IsTidyAt s parent.now.id)
+        (D.model (core_disk core.old)) (core_seen core.old) (D.model (core_disk core.new)) (core_seen core.new) }
+    ensures may { OnOk result (MayTidy (D.model (core_disk core.new)) (core_seen core.new)) }
+    ensures meta { (core_seen core.new).store.meta ≡ (core_seen core.old).store.meta }
+    ensures fit { IfOk result (λ jobs. All (JobFits (core_seen core.old).store.meta.k) jobs.items) }
+{
+    let mut jobs = Vec::new(alloc);
+    let children = child_leaves(alloc, &parent.page)?;
+    look_at_all(alloc, core, parent, children.as_slice(), &mut jobs)?;
+    Ok(jobs)
+}
+
+/// Lets each of these jobs wait, as far as there is room: what finds none is found again by the next pass.
+fn wait_for_all<D: Device>(core: &mut Core<D>, jobs: &[Job])
+    requires may { MayTidy (D.model (core_disk core.old)) (core_seen core.old) }
+    requires fit { All (JobFits (core_seen core.old).store.meta.k) jobs.now }
+    ensures looks { LooksOver NothingOf (Ok result) (λ v. NothingOf)
+        (D.model (core_disk core.old)) (core_seen core.old) (D.model (core_disk core.new)) (core_seen core.new) }
+    ensures may { MayTidy (D.model (core_disk core.new)) (core_seen core.new) }
+    ensures meta { (core_seen core.new).store.meta ≡ (core_seen core.old).store.meta }
+{
+    for job in jobs {
+        wait_for(core, job.copy());
+    }
+}
+
+/// Lets the job wait, where there is room.
+fn wait_for<D: Device>(core: &mut Core<D>, job: Job)
+    requires may { MayTidy (D.model (core_disk core.old)) (core_seen core.old) }
+    requires fits { JobFits (core_seen core.old).store.meta.k job }
+    ensures looks { LooksOver NothingOf (Ok result) (λ v. NothingOf)
+        (D.model (core_disk core.old)) (core_seen core.old) (D.model (core_disk core.new)) (core_seen core.new) }
+    ensures may { MayTidy (D.model (core_disk core.new)) (core_seen core.new) }
+    ensures meta { (core_seen core.new).store.meta ≡ (core_seen core.old).store.meta }
+{
+    let _waits = core.add_job(job);
+}

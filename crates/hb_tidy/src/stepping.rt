@@ -1,0 +1,108 @@
+//! Steps of the workers and flushes, and why they end a tidying.
+ghost use Rattle.std.specs.Prelude.{◌≡◌, ◌⊎◌, ◌+◌, ◌<◌, OnOk};
+ghost use Rattle.hb_core.specs.CoreSeen.{core_seen, core_disk};
+ghost use Rattle.hb_tidy.specs.Going.{Goes, MayTidy};
+ghost use Rattle.hb_tidy.specs.Looking.{LooksOver, NothingOf};
+ghost use Rattle.hb_tidy.specs.Stepping.{EndsCall, EndsStep, stop_by};
+
+use crate::TidyStop;
+use hb_activity::JobKind;
+use hb_core::{Core, DropWhy, Outcome};
+use hb_disk::Device;
+use hb_space::Actor;
+use hb_store::StopWhy;
+
+/// The actor that posts.
+const POSTER: Actor = 17;
+
+/// The actor that merges.
+const CONSOLIDATOR: Actor = 18;
+
+/// Takes steps of the worker for this kind of jobs, one at least, until none of these waits or is in work.
+pub(crate) fn work_off<D: Device>(core: &mut Core<D>, kind: JobKind) -> Result<(), TidyStop>
+    requires { MayTidy (D.model (core_disk core.old)) (core_seen core.old) }
+    ensures goes { Goes result (D.model (core_disk core.old)) (core_seen core.old) (D.model (core_disk core.new)) (core_seen core.new) }
+    ensures may { OnOk result (MayTidy (D.model (core_disk core.new)) (core_seen core.new)) }
+    ensures more { OnOk result ((core_seen core.old).taken < (core_seen core.new).taken) }
+{
+    let worker = worker_for(kind);
+    loop {
+        step(core, worker)?;
+        if core.jobs(kind) == 0 {
+            return Ok(());
+        }
+    }
+}
+
+/// Who works off the jobs of the kind.
+fn worker_for(kind: JobKind) -> Actor
+    ensures { (result ≡ 17) ⊎ (result ≡ 18) }
+{
+    match kind {
+        JobKind::Post => POSTER,
+        JobKind::Merge => CONSOLIDATOR,
+    }
+}
+
+/// Takes one step of a worker.
+fn step<D: Device>(core: &mut Core<D>, worker: Actor) -> Result<(), TidyStop>
+    requires may { MayTidy (D.model (core_disk core.old)) (core_seen core.old) }
+    requires worker { (worker ≡ 17) ⊎ (worker ≡ 18) }
+    ensures goes { Goes result (D.model (core_disk core.old)) (core_seen core.old) (D.model (core_disk core.new)) (core_seen core.new) }
+    ensures may { OnOk result (MayTidy (D.model (core_disk core.new)) (core_seen core.new)) }
+    ensures one { OnOk result ((core_seen core.new).taken ≡ (core_seen core.old).taken + 1) }
+{
+    let outcome = core.step(worker);
+    went_on(core)?;
+    end_of(&outcome)
+}
+
+/// Why a step ends the tidying though the core isn't stopped: a worker's job was dropped.
+fn end_of(outcome: &Outcome) -> Result<(), TidyStop>
+    ensures { EndsStep outcome.now result }
+{
+    match outcome {
+        Outcome::Dropped(DropWhy::NoMemory) => Err(TidyStop::NoMemory),
+        Outcome::Dropped(DropWhy::ReadFault) => Err(TidyStop::ReadFault),
+        Outcome::Stopped(_)
+        | Outcome::Idle
+        | Outcome::Blocked { .. }
+        | Outcome::Helped
+        | Outcome::Answered { .. }
+        | Outcome::Moved => Ok(()),
+    }
+}
+
+/// Whether steps are left and the core isn't stopped, behind a step.
+fn went_on<D: Device>(core: &Core<D>) -> Result<(), TidyStop>
+    ensures { EndsCall (core_seen core.now) result }
+{
+    if core.taken() == u64::MAX {
+        return Err(TidyStop::Spent);
+    }
+    match core.stop() {
+        None => Ok(()),
+        Some(why) => Err(stop_by(why)),
+    }
+}
+
+/// Why a tidying ends where the core is stopped.
+fn stop_by(why: StopWhy) -> TidyStop
+    ensures { result ≡ stop_by why }
+{
+    match why {
+        StopWhy::WriteFault => TidyStop::WriteFault,
+        StopWhy::Damaged { page, why } => TidyStop::Damaged { page, why },
+    }
+}
+
+/// Flushes once. It counts as a step.
+pub(crate) fn flush<D: Device>(core: &mut Core<D>) -> Result<(), TidyStop>
+    requires { MayTidy (D.model (core_disk core.old)) (core_seen core.old) }
+    ensures looks { LooksOver NothingOf result (λ v. NothingOf) (D.model (core_disk core.old)) (core_seen core.old) (D.model (core_disk core.new)) (core_seen core.new) }
+    ensures may { OnOk result (MayTidy (D.model (core_disk core.new)) (core_seen core.new)) }
+    ensures one { OnOk result ((core_seen core.new).taken ≡ (core_seen core.old).taken + 1) }
+{
+    let _flushed = core.help();
+    went_on(core)
+}
