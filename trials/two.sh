@@ -26,7 +26,7 @@ is_locked || says "the first program has a lock" yes no
 before=$(cksum <f)
 says "drive by a second program" "disk fault (6)" "$(drive f '1 insert 6 =b/step 1x4')"
 says "create by a second program" "disk fault (6)" "$(make f)"
-says "a form that isn't built" "disk fault (6)" "$(call "$HBPI" f map </dev/null)"
+says "map of it" "disk fault (6)" "$(call "$HBPI" f map </dev/null)"
 says "check" "disk fault (6)" "$(call "$HBPI" f check </dev/null)"
 ln f other
 says "drive by another name of the file" "disk fault (6)" "$(drive other '1 insert 6 =b/step 1x4')"
