@@ -1,14 +1,9 @@
 //! What `map` says of a file, where a call fails, and where a page is damaged.
 
-use crate::runs::{
-    Left, NEVER, SIZE, expect_said, file_of, run_failing, run_on, run_over, said_of, sink_of,
-    source_of, words_of,
-};
+use crate::runs::{Left, NEVER, SIZE, expect_said, file_of, run_failing, run_on, run_over};
 use crate::spoiled::{PAGE_1, put_at};
 use crate::taller::SEVEN;
-use hb_disk::{MemDisk, RotDisk};
-use hbpi::Form;
-use hbpi::top::run_without_threads;
+use hb_disk::MemDisk;
 use std::alloc::Global;
 
 /// The map of a file of two pages: of what was the first one's box, the lower part is a hole that the second has. A put has a line.
@@ -82,9 +77,6 @@ fn failing(alloc: Global, call: u64) -> Option<Left> {
     run_failing(alloc, "map", "", file_of(alloc, &[SEVEN])?.as_slice(), call)
 }
 
-/// The device calls behind those of a check, which opens the file: each page is read once.
-const READS: u64 = 2;
-
 #[test]
 fn a_call_of_a_map_fails(rt: HostRuntime) {
     let want = whole(rt.alloc()).expect(&rt, "memory");
@@ -94,54 +86,6 @@ fn a_call_of_a_map_fails(rt: HostRuntime) {
         assert!(rt; left.said.as_str() == "6 disk fault\n", "{call}");
         let again = run_on(rt.alloc(), "map", "", left.disk.bytes());
         expect_said(&rt, again, want.as_str(), "behind a fault");
-    }
-}
-
-/// The device calls of a check of that file.
-fn calls_to_open(alloc: Global, bytes: &[u8]) -> Option<u64> {
-    Some(run_on(alloc, "check", "", bytes)?.disk.calls())
-}
-
-#[test]
-fn a_map_reads_each_page_once(rt: HostRuntime) {
-    let bytes = file_of(rt.alloc(), &[SEVEN]).expect(&rt, "memory");
-    let opened = calls_to_open(rt.alloc(), bytes.as_slice()).expect(&rt, "memory");
-    let done = failing(rt.alloc(), NEVER).expect(&rt, "memory");
-    assert!(rt; done.disk.calls() == opened + READS, "{opened}");
-}
-
-/// What `map` says where the byte at this place of the file is 9 once it was opened.
-fn rotten(alloc: Global, at: usize) -> Option<String> {
-    let bytes = file_of(alloc, &[SEVEN])?;
-    let before = calls_to_open(alloc, bytes.as_slice())?;
-    let disk = RotDisk {
-        inner: MemDisk::new(alloc, bytes),
-        before,
-        at: at as u64,
-        byte: 9,
-    };
-    let words = words_of(alloc, "map")?;
-    if Form::is_threaded(Form::of_words(words.as_slice())) {
-        return None;
-    }
-    let mut source = source_of(alloc, "", NEVER)?;
-    let sink = sink_of(alloc, NEVER)?;
-    let finished = run_without_threads(alloc, words.as_slice(), &mut source, sink, disk);
-    said_of(alloc, finished.status, &finished.sink)
-}
-
-/// A place of the file whose byte goes bad, and what `map` says then.
-const ROTTEN: [(usize, &str); 3] = [
-    (PAGE_1, "7 damaged 1 S0\n"),
-    (PAGE_1 + 4096, "7 damaged 2 S0\n"),
-    (PAGE_1 + 1, "7 damaged 1 S3\n"),
-];
-
-#[test]
-fn a_page_goes_bad_before_it_is_mapped(rt: HostRuntime) {
-    for &(at, want) in &ROTTEN {
-        let said = rotten(rt.alloc(), at).expect(&rt, "memory");
-        assert!(rt; said.as_str() == want, "{at}: {}", said.as_str());
     }
 }
 
