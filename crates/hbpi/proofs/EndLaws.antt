@@ -22,7 +22,8 @@ use Rattle.hb_core.specs.declared.counts.TidyCounts.{TidyCounts}
 use Rattle.hb_tidy.specs.declared.stops.TidyStop.{TidyStop}
 use Rattle.hb_tidy.specs.declared.stops.TidyStop.TheVariants as tidies
 use Rattle.hbpi.specs.Codes.{status_of, tidy_status}
-use Rattle.hbpi.specs.Tidied.{SaysTidied, TidyEnds, tidied_text}
+use Rattle.hbpi.specs.Tidied.{tidied_text}
+use Rattle.hbpi.specs.TidyRuns.{SaysTidied, TidyEnds}
 use Rattle.hbpi.specs.declared.statuses.Damage.{Damage}
 use Rattle.hbpi.specs.declared.statuses.Damage.TheVariants as damages
 use Rattle.hbpi.specs.Runs.{RunEnds}
@@ -30,7 +31,8 @@ use Rattle.hbpi.specs.Ends.{DryEnds, GenEnds, IsAnswered, IsComplete, RefusesBad
 use Rattle.hbpi.specs.SeenRuns.{Run, Seen}
 use Rattle.hbpi.specs.Checked.{CheckEnds, sound_text}
 use Rattle.hbpi.specs.Mapped.{MapEnds, MapsWith}
-use Rattle.hbpi.specs.Driven.{Manner, RanEnds, StepsEnd, by_counting, by_schedule, by_threads}
+use Rattle.hbpi.specs.Driven.{Manner, by_counting, by_schedule, by_threads}
+use Rattle.hbpi.specs.StepEnds.{RanEnds, StepsEnd}
 use Rattle.hbpi.specs.Saying.{IsSaid}
 use Rattle.hbpi.specs.Schedules.{CameNot, NotScheduled}
 use Rattle.hbpi.specs.declared.origins.Origin.{Origin}

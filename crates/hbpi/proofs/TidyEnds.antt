@@ -1,13 +1,9 @@
 -- How a run of `tidy` ends that has made its core.
-use Rattle.std.proofs.Common.{◌≡◌, ℕ, ◌≤◌, List, [], ◌∷◌, map, Result, Ok, Err, None, inl, inr, refl, sym, ap, ◌∙◌, subst, arith}
-use Rattle.hb_core.specs.BetweenLaws.{CountsStayWithin}
-use Rattle.hb_core.specs.Counting.{CountsWithin}
+use Rattle.std.proofs.Common.{◌≡◌, ℕ, ◌≤◌, List, [], map, Result, inl, inr, refl, sym, ap, ◌∙◌, subst}
 use Rattle.hb_core.specs.Machines.{Machine}
-use Rattle.hb_core.specs.Runs.{ChangesFile}
 use Rattle.hb_core.specs.Showing.{RunningCore}
 use Rattle.hb_core.specs.Working.{MayStep}
 use Rattle.hb_core.specs.declared.counts.TidyCounts.{TidyCounts}
-use Rattle.hb_disk.specs.Calls.{Becomes}
 use Rattle.hb_disk.specs.Model.{DiskModel}
 use Rattle.hb_gen.specs.Lines.{generated, lines_from}
 use Rattle.hb_layout.specs.Offsets.{file_size}
@@ -15,9 +11,7 @@ use Rattle.hb_outside.specs.Calls.{SinkModel, SourceModel}
 use Rattle.hb_restart.specs.Beyond.{KeepsBeyond, KeepsBeyondFile}
 use Rattle.hb_set.specs.Order.{Entry}
 use Rattle.hb_set.specs.declared.scripts.Answered.{Answered}
-use Rattle.hb_set.specs.declared.scripts.Line.{Line}
-use Rattle.hb_store.specs.States.{StoreState}
-use Rattle.hb_tidy.specs.Tidying.{AllAtRest, HasTidied}
+use Rattle.hb_tidy.specs.Tidying.{HasTidied}
 use Rattle.hb_tidy.specs.declared.stops.TidyStop.{TidyStop}
 use Rattle.hbpi.proofs.Begins.{IsBegunHere}
 use Rattle.hbpi.proofs.Beyond.{beyond_driven}
@@ -25,21 +19,15 @@ use Rattle.hbpi.proofs.CoreEnds.{begins_here, may_core}
 use Rattle.hbpi.proofs.Opened.{IsOpening, is_opening}
 use Rattle.hbpi.proofs.StepsTaken.{run_beyond}
 use Rattle.hbpi.proofs.Tidied.{tidies_file}
-use Rattle.hbpi.specs.Codes.{status_of}
-use Rattle.hbpi.specs.Driven.{IsShutOut, IsTurnedAway}
+use Rattle.hbpi.proofs.Turned.{handed_back}
 use Rattle.hbpi.specs.Outcome.{GetsLine, fault_line}
 use Rattle.hbpi.specs.SeenRuns.{IsUnread, Run, Seen, run_of, seen_by}
 use Rattle.hbpi.specs.Starts.{IsNotStarted, IsStarted, StartLaws}
-use Rattle.hbpi.specs.Tidied.{EndsForced, SaysTidied, TidyEnds, TidiesFile, nobody}
+use Rattle.hbpi.specs.Tidied.{nobody}
+use Rattle.hbpi.specs.TidyRuns.{EndsForced, SaysTidied, TidyEnds, TidiesFile}
 use Rattle.hbpi.specs.declared.statuses.Status.{Status}
 
 -- ---- a core that was made for nobody
-
-pub rests_begun : (before after : SourceModel) (d e : DiskModel) (core : RunningCore) → IsStarted nobody before after d e core → AllAtRest core
-rests_begun before after d e core started = subst AllAtRest (sym started.made.core_is) refl
-
-pub within_begun : CountsStayWithin → (before after : SourceModel) (d e : DiskModel) (core : RunningCore) → IsStarted nobody before after d e core → CountsWithin core
-within_begun within before after d e core started = subst CountsWithin (sym started.made.core_is) (within.begun started.made.lines started.made.steps started.store [])
 
 -- nothing is drawn for nobody
 no_lines : (k : ℕ) → generated 0 0 k ≡ []
@@ -94,12 +82,8 @@ module _ {X : Type 0} (M : X → DiskModel) (first over last : X) (core ran : Ru
 pub turned_tidy : {X : Type 0} (M : X → DiskModel) (first found last : X) (before after : SourceModel) (sink put : SinkModel) (answered : List Answered) (order : List ℕ) (asked status : Status) → last ≡ found → status ≡ asked
     → GetsLine sink put (fault_line asked) → answered ≡ [] → order ≡ [] → IsNotStarted nobody before after (M first) (M found) asked
     → TidyEnds (run_of (seen_by before after sink put answered order) (M first) (M last)) status
-turned_tidy {X = X} M first found last before after sink put answered order asked status same is line none_answered none_ordered not =
-    let ends : TidyEnds (run_of (seen_by before after sink put [] []) (M first) (M found)) asked = elim (not sink put line) [ inl shut ↦ inl shut | inr away ↦ inr (inl away) ] in
-    let on_disk = subst (λ (x : X). TidyEnds (run_of (seen_by before after sink put [] []) (M first) (M x)) asked) (sym same) ends in
-    let of_status = subst (λ (x : Status). TidyEnds (run_of (seen_by before after sink put [] []) (M first) (M last)) x) (sym is) on_disk in
-    let with_order = subst (λ (o : List ℕ). TidyEnds (run_of (seen_by before after sink put [] o) (M first) (M last)) status) (sym none_ordered) of_status in
-    subst (λ (a : List Answered). TidyEnds (run_of (seen_by before after sink put a order) (M first) (M last)) status) (sym none_answered) with_order
+turned_tidy M first found last before after sink put answered order asked status same is line none_answered none_ordered not =
+    handed_back M TidyEnds first found last before after sink put answered order asked status same is none_answered none_ordered (elim (not sink put line) [ inl shut ↦ inl shut | inr away ↦ inr (inl away) ])
 
 -- ---- counts of the disk's faults
 

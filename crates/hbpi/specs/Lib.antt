@@ -12,9 +12,11 @@ pub mod Schedules
 pub mod Counted
 pub mod Drives
 pub mod Driven
+pub mod StepEnds
 pub mod Starts
 pub mod Checked
 pub mod Mapped
 pub mod Tidied
+pub mod TidyRuns
 pub mod Runs
 pub mod Promises

@@ -6,12 +6,13 @@ use Rattle.hb_restart.specs.Layouts.{first_fault, size_of}
 use Rattle.hb_restart.specs.NewFiles.{new_file}
 use Rattle.hb_store.specs.Opening.{IsEven}
 use Rattle.hbpi.specs.Checked.{CheckEnds}
-use Rattle.hbpi.specs.Driven.{StepsEnd, by_counting, by_schedule, by_threads}
+use Rattle.hbpi.specs.Driven.{by_counting, by_schedule, by_threads}
+use Rattle.hbpi.specs.StepEnds.{StepsEnd}
 use Rattle.hbpi.specs.Ends.{DryEnds, GenEnds, UsageEnds}
 use Rattle.hbpi.specs.MadeEnds.{CreateEnds, HasMade}
 use Rattle.hbpi.specs.Mapped.{MapEnds}
 use Rattle.hbpi.specs.SeenRuns.{Run}
-use Rattle.hbpi.specs.Tidied.{TidyEnds}
+use Rattle.hbpi.specs.TidyRuns.{TidyEnds}
 use Rattle.hbpi.specs.declared.forms.Form.{Form}
 use Rattle.hbpi.specs.declared.forms.Form.TheVariants.{Check, Create, Drive, Dry, Gen, Map, Tidy, Work}
 use Rattle.hbpi.specs.declared.forms.Form.TheVariants as forms
