@@ -1,6 +1,7 @@
 //! Texts for `dry`, generated texts, words that are no form, and layouts that are out of their limits. Over a disk of no byte.
 
-use crate::runs::{expect_said, run_on};
+use crate::says::expect_said;
+use hbpi_shared_tests::run_on;
 
 /// The words, the text, and what the program says: its exit status, and its output.
 const TEXTS: [(&str, &str, &str); 18] = [
