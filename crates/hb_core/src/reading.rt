@@ -1,5 +1,5 @@
 //! A core that has taken no step, and what can be read of a core.
-ghost use Rattle.std.specs.Prelude.{◌≡◌, ◌↔◌, ◌<◌, ◌≤◌, ◌+◌, ◌*◌, ◌^◌, ◌++◌, length, count_by, vec_capacity, IfOk, IfErr, IfSome, IsSome, IsTrue, Some, None, [], ◌∷◌, replicate, if◌then◌else◌};
+ghost use Rattle.std.specs.Prelude.{◌≡◌, ◌↔◌, ◌<◌, ◌≤◌, ◌+◌, ◌*◌, ◌^◌, ◌++◌, length, vec_capacity, IfOk, IfErr, IfSome, IsSome, IsTrue, Some, None, [], ◌∷◌, replicate, if◌then◌else◌};
 ghost use Rattle.std.specs.List.{slice_get};
 ghost use Rattle.hb_space.specs.Actors.{IsActor};
 ghost use Rattle.hb_store.specs.Seen.{seen_as, disk_of, uses_of};
@@ -11,12 +11,11 @@ ghost use Rattle.hb_activity.specs.Classes.{idle_of};
 ghost use Rattle.hb_core.specs.KeptFits.{IsOfSession, class_for};
 ghost use Rattle.hb_core.specs.Machines.{Machine, live_here};
 ghost use Rattle.hb_core.specs.Moving.{StandsAs};
-ghost use Rattle.hb_activity.specs.Queue.{is_of};
 ghost use Rattle.hb_point.specs.SessionRows.{is_answered};
 ghost use Rattle.hb_core.specs.KeptMachine.{MachineKeeps};
 ghost use Rattle.hb_core.specs.Runs.{has_none, left_count, left_numbers};
 ghost use Rattle.hb_core.specs.SteppingLaws.{IsBegun};
-ghost use Rattle.hb_core.specs.Taking.{IsMade, all_idle, begun_core, jobs_in_work, worker_for};
+ghost use Rattle.hb_core.specs.Taking.{IsMade, all_idle, begun_core, jobs_in_work, jobs_of, worker_for};
 ghost use Rattle.hb_core.specs.Showing.{ShowsFiles, ShowsMachine, number_in_hand};
 
 use crate::counts::TidyCounts;
@@ -148,8 +147,7 @@ impl<D: Device> Core<D> {
 
     /// How many jobs of the kind wait or are in work.
     pub fn jobs(&self, kind: JobKind) -> u32
-        ensures { (m : Machine) → ShowsMachine (D.model (core_disk self.now)) (core_seen self.now) m →
-            result ≡ count_by (is_of kind) m.jobs + jobs_in_work (m.activity (worker_for kind)) }
+        ensures { (m : Machine) → ShowsMachine (D.model (core_disk self.now)) (core_seen self.now) m → result ≡ jobs_of kind m }
     {
         prove!(self.jobs.as_slice().len() <= JOBS);
         self.jobs.count(kind) as u32 + jobs_in_work(self.activity(worker_for(kind)))

@@ -9,6 +9,7 @@ use Rattle.hb_layout.specs.declared.meta.Meta.{Meta}
 use Rattle.hb_ops.specs.Files.{FileState, live_page}
 use Rattle.hb_ops.specs.Owing.{LacksRoom}
 use Rattle.hb_ops.specs.Settled.{HasChild}
+use Rattle.hb_store.specs.States.{StoreState}
 use Rattle.hb_core.specs.Showing.{RunningCore}
 use Rattle.hb_tidy.proofs.CallsMade.{nothing_more, runs_all}
 use Rattle.hb_tidy.proofs.Exits.{HandsOn}
@@ -65,10 +66,10 @@ if_some_weaker None P Q imp has = tt
 if_some_weaker (Some s) P Q imp has = imp s has
 
 -- a call that ends since a page is wanted, and none is free
-pub over_full : {U : Type 0} (knows : FileState → Type 0) (says : U → FileState → Type 0) (d : DiskModel) (c : RunningCore) → IsDisk d → MayTidy d c → ((s : FileState) → IsFileOf c s → knows s → WantsPage s) → LooksOver {T = U} knows (Err stops.Full) says d c d c
-over_full {U = U} knows says d c disk may wants =
+pub over_full : {U : Type 0} (knows : FileState → Type 0) (says : U → FileState → Type 0) (d : DiskModel) (c : RunningCore) → IsDisk d → MayTidy d c → c.store.meta.live ≡ c.store.meta.pages → ((s : FileState) → IsFileOf c s → knows s → WantsPage s) → LooksOver {T = U} knows (Err stops.Full) says d c d c
+over_full {U = U} knows says d c disk may none wants =
     over_file knows (Err stops.Full) says d d c c
-    (nothing_more d c disk may {T = U} (λ s. IsFileOf c s × knows s) says stops.Full (λ same. cc) (λ m shows known. (runs_all d c m may shows, if_some_weaker (file_now m) (λ s. IsFileOf c s × knows s) WantsPage (λ s k. wants s k.0 k.1) known)))
+    (nothing_more d c disk may {T = U} (λ s. IsFileOf c s × knows s) says stops.Full (λ same. cc) (λ m shows known. (runs_all d c m may shows, subst (λ (st : StoreState). st.meta.live ≡ st.meta.pages) (sym shows.shows.store) none, if_some_weaker (file_now m) (λ s. IsFileOf c s × knows s) WantsPage (λ s k. wants s k.0 k.1) known)))
 
 pub over_not_owed : {U : Type 0} (parent child : ℕ) (above below : LivePage) (area : Area) (stop : TidyStop) (r : Result U TidyStop) (says : U → FileState → Type 0) (d : DiskModel) (c : RunningCore) → IsDisk d → MayTidy d c → HasChild above child area → IsNotOwed c.store.meta above below stop → HandsOn stop r
     → LooksOver (BothLive parent above child below) r says d c d c
@@ -77,7 +78,7 @@ over_not_owed {U = U} parent child above below area stop (Err e) says d c disk m
     subst (λ (x : TidyStop). LooksOver {T = U} (BothLive parent above child below) (Err x) says d c d c) (sym hands) (by stop owed)
   where
     by : (x : TidyStop) → IsNotOwed c.store.meta above below x → LooksOver {T = U} (BothLive parent above child below) (Err x) says d c d c
-    by stops.Full owed = over_full {U = U} (BothLive parent above child below) says d c disk may (λ s file both. wants_split c s parent child above below area owed.1 file both leaf owed.0 owed.2)
+    by stops.Full owed = over_full {U = U} (BothLive parent above child below) says d c disk may owed.0 (λ s file both. wants_split c s parent child above below area owed.1 file both leaf owed.0 owed.2)
     by stops.NoMemory owed = over_refused {U = U} (BothLive parent above child below) (Err stops.NoMemory) says d c disk may refl
     by stops.ReadFault owed = absurd owed
     by stops.WriteFault owed = absurd owed

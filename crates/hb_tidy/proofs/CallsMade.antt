@@ -1,5 +1,5 @@
 -- A step of a worker, a flush, a look and a job that waits, as the calls of this crate have them.
-use Rattle.std.proofs.Common.{◌≡◌, ◌≢◌, ◌⊎◌, ◌↔◌, inl, inr, ℕ, ◌-◌, ◌^◌, ◌≤◌, ◌<◌, Option, Some, None, IfSome, IsSome, Result, Ok, Err, OnOk, refl, sym, ap, ◌∙◌, subst, arith}
+use Rattle.std.proofs.Common.{◌≡◌, ◌≢◌, ◌⊎◌, ◌↔◌, inl, inr, ℕ, ◌+◌, ◌-◌, ◌^◌, ◌≤◌, ◌<◌, [], Option, Some, None, IfSome, IsSome, Result, Ok, Err, OnOk, refl, sym, ap, ◌∙◌, subst, arith}
 use Rattle.std.specs.Result.{IfErr, IfOk}
 use Rattle.std.proofs.Math.Nat.{eq-or-lt_of_le}
 use Rattle.hb_disk.proofs.Facts.RunLaws.{OnlyReads-none}
@@ -28,7 +28,8 @@ use Rattle.hb_core.specs.declared.outcomes.Outcome.TheVariants as outcomes
 use Rattle.hb_tidy.proofs.CountsOfCalls.{same_rises}
 use Rattle.hb_tidy.proofs.Joined.{may_then}
 use Rattle.hb_tidy.proofs.OneCall.{StandsStill, run_tidied, step_runs, step_taken, still_itself, still_tidied, still_tidied_new, still_waiting}
-use Rattle.hb_tidy.proofs.Workers.{IsWorker, flusher_leaves, is_actor}
+use Rattle.hb_tidy.proofs.Worked.{between_itself, worked_none, worked_once}
+use Rattle.hb_tidy.proofs.Workers.{FlushLeaves, IsWorker, flusher_leaves, is_actor}
 use Rattle.hb_tidy.specs.declared.stops.TidyStop.{TidyStop}
 use Rattle.hb_tidy.specs.declared.stops.TidyStop.TheVariants as stops
 use Rattle.hb_tidy.specs.Counted.{CountsRise, EndsSpent}
@@ -36,6 +37,7 @@ use Rattle.hb_tidy.specs.Going.{Goes, MayTidy}
 use Rattle.hb_tidy.specs.Looking.{FileStays, LooksOver, NothingOf}
 use Rattle.hb_tidy.specs.Stepping.{EndsCall, EndsStep, stop_by}
 use Rattle.hb_tidy.specs.Tidying.{HasTidied, StopsTidying, file_now}
+use Rattle.hb_tidy.specs.Working.{HasCause, HasWorked}
 
 -- ---- what is known of a core that may go on
 
@@ -73,10 +75,19 @@ pub record Stepped (d : DiskModel) (old : RunningCore) (actor : ℕ) (outcome : 
   pub worker : IsWorker actor
   pub steps : (m : Machine) → MayStep d old m → (next : Machine) × StepsTo m actor outcome next × ShowsMachine e new next
   pub touches : Touches d old outcome e new
+  pub cause : (m : Machine) → MayStep d old m → HasCause m actor
+  pub one : new.taken ≡ old.taken + 1
 
 module _ (d : DiskModel) (old : RunningCore) (actor : ℕ) (outcome : Outcome) (e : DiskModel) (new : RunningCore) (took : Stepped d old actor outcome e new) (may : MayTidy d old) where
   pub tidied : (m : Machine) → MayStep d old m → HasTidied d m e new
   tidied m shows = run_tidied may.laws.runs d e m actor _ new (step_runs may.laws.runs d e m actor outcome old new took.disk took.disk_next took.worker shows took.steps took.touches) shows.goes_on.kept took.worker
+
+  pub worked : (m : Machine) (shows : MayStep d old m) → HasWorked old m new (tidied m shows).new
+  unfolding tidied
+  worked m shows =
+      let run = step_runs may.laws.runs d e m actor outcome old new took.disk took.disk_next took.worker shows took.steps took.touches in
+      let step = step_taken may.laws.runs d e m actor _ new run shows.goes_on.kept took.worker in
+      worked_once old new m (run_tidied may.laws.runs d e m actor _ new run shows.goes_on.kept took.worker).new actor step.0 took.one (took.cause m shows) step.1
 
   -- nothing but a failed write stops it over a disk that tells
   never_damaged : (m : Machine) → MayStep d old m → (page : ℕ) (why : Why) → new.stop ≡ Some (whys.Damaged page why) → IsSome d.told → ⊥
@@ -118,7 +129,7 @@ module _ (d : DiskModel) (old : RunningCore) (actor : ℕ) (outcome : Outcome) (
 
       pub step_goes : Goes result d old e new
       step_goes = record {
-        does = λ m shows. let t = tidied m shows in record { run = t; err = cause m shows t };
+        does = λ m shows. let t = tidied m shows in record { run = t; worked = worked m shows; err = cause m shows t };
         counts = rise;
         spent = spent;
       }
@@ -144,7 +155,7 @@ ended_goes d old outcome e new v result touches ends one = by outcome touches en
   where
     fails : (stop : TidyStop) → (stop ≡ stops.Spent → ⊥) → ((c : RunningCore) (m : Machine) → StopsTidying stop d e c m) → Goes {T = Unit {0}} (Err stop) d old e new
     fails stop other why = record {
-      does = λ m may. let first = one.does m may in record { run = first.run; err = why new first.run.new };
+      does = λ m may. let first = one.does m may in record { run = first.run; worked = first.worked; err = why new first.run.new };
       counts = one.counts;
       spent = other_stop stop new one.spent other;
     }
@@ -165,13 +176,16 @@ ended_goes d old outcome e new v result touches ends one = by outcome touches en
 -- ---- a flush
 
 module _ (d : DiskModel) (old : RunningCore) (outcome : Outcome) (e : DiskModel) (new : RunningCore) (took : Stepped d old 19 outcome e new) (may : MayTidy d old) where
-  -- it leaves the file
-  pub flush_stays : (m : Machine) (shows : MayStep d old m) → FileStays m (tidied d old 19 outcome e new took may m shows).new
+  -- it leaves the file and the jobs
+  pub flush_stays : (m : Machine) (shows : MayStep d old m) → FlushLeaves m (tidied d old 19 outcome e new took may m shows).new
   unfolding tidied
   flush_stays m shows =
       let run = step_runs may.laws.runs d e m 19 outcome old new took.disk took.disk_next took.worker shows took.steps took.touches in
       let step = step_taken may.laws.runs d e m 19 _ new run shows.goes_on.kept took.worker in
       flusher_leaves m step.0 (run_tidied may.laws.runs d e m 19 _ new run shows.goes_on.kept took.worker).new shows.goes_on.kept step.1
+
+  flush_waits : new.jobs ≡ old.jobs
+  flush_waits = let m = may.runs.0 in let shows = may.runs.1 in sym (tidied d old 19 outcome e new took may m shows).shows.jobs ∙ (flush_stays m shows).jobs ∙ shows.shows.jobs
 
 nothing_said : {T : Type 0} (o : Option FileState) (r : Result T TidyStop) → IfOk r (λ v. IfSome o NothingOf)
 nothing_said None (Ok v) = tt
@@ -184,13 +198,14 @@ flush_looks d old outcome e new took may result went rise meta = record {
   looks = λ m shows known.
       let t = tidied d old 19 outcome e new took may m shows in
       record {
-        does = record { run = t; err = cause d old 19 outcome e new took may result went m shows t };
-        same = flush_stays d old outcome e new took may m shows;
+        does = record { run = t; worked = worked d old 19 outcome e new took may m shows; err = cause d old 19 outcome e new took may result went m shows t };
+        same = (flush_stays d old outcome e new took may m shows).same;
         ok = nothing_said (file_now m) result;
       };
   counts = rise;
   spent = spent d old 19 outcome e new took may result went rise;
   meta = meta;
+  waiting = λ none. sym (flush_waits d old outcome e new took may) ∙ none;
 }
 
 -- ---- a call that only reads
@@ -202,6 +217,9 @@ module _ (d : DiskModel) (c : RunningCore) (disk : IsDisk d) (may : MayTidy d c)
   nothing_new : (m : Machine) (shows : MayStep d c m) → (nothing_done m shows).new ≡ m
   unfolding nothing_done
   nothing_new m shows = still_tidied_new may.laws.runs d d m m c c disk shows shows (OnlyReads-none d) (still_itself m)
+
+  nothing_worked : (m : Machine) (shows : MayStep d c m) → HasWorked c m c (nothing_done m shows).new
+  nothing_worked m shows = subst (λ (x : Machine). HasWorked c m c x) (sym (nothing_new m shows)) (worked_none c c m m refl (between_itself m))
 
   nothing_stays : (m : Machine) (shows : MayStep d c m) → FileStays m (nothing_done m shows).new
   nothing_stays m shows = subst (λ (x : Machine). FileStays m x) (sym (nothing_new m shows)) (record { file = refl; meta = refl })
@@ -217,13 +235,14 @@ module _ (d : DiskModel) (c : RunningCore) (disk : IsDisk d) (may : MayTidy d c)
   pub nothing_looked : {T : Type 0} (v : T) (knows : FileState → Type 0) (says : T → FileState → Type 0) → ((s : FileState) → knows s → says v s) → LooksOver {T = T} knows (Ok v) says d c d c
   nothing_looked v knows says imp = record {
     looks = λ m shows known. record {
-      does = record { run = nothing_done m shows; err = tt };
+      does = record { run = nothing_done m shows; worked = nothing_worked m shows; err = tt };
       same = nothing_stays m shows;
       ok = if_known (file_now m) knows (says v) imp known;
     };
     counts = same_rises c may.counts;
     spent = may.left;
     meta = refl;
+    waiting = λ none. none;
   }
 
   -- a call that ends before it does anything
@@ -231,13 +250,14 @@ module _ (d : DiskModel) (c : RunningCore) (disk : IsDisk d) (may : MayTidy d c)
       → LooksOver {T = T} knows (Err stop) says d c d c
   nothing_more knows says stop other why = record {
     looks = λ m shows known. record {
-      does = record { run = nothing_done m shows; err = nothing_ends stop m shows (why m shows known) };
+      does = record { run = nothing_done m shows; worked = nothing_worked m shows; err = nothing_ends stop m shows (why m shows known) };
       same = nothing_stays m shows;
       ok = tt;
     };
     counts = same_rises c may.counts;
     spent = other_stop stop c may.left other;
     meta = refl;
+    waiting = λ none. none;
   }
 
 -- a job waits
@@ -254,12 +274,19 @@ module _ (d : DiskModel) (old new : RunningCore) (job : Job) (disk : IsDisk d) (
   stays_waiting m shows =
       subst (λ (x : Machine). FileStays m x) (sym (still_tidied_new may.laws.runs d d m (goes_on m shows).0 old new disk shows (goes_on m shows).2 (OnlyReads-none d) (still m shows))) (still m shows).same
 
-  pub wait_looks : CountsRise old new → new.taken ≡ old.taken → new.store.meta ≡ old.store.meta → LooksOver {T = Unit {0}} NothingOf (Ok (tt {0})) (λ v. NothingOf) d old d new
-  wait_looks rise taken meta = record {
-    looks = λ m shows known. record { does = record { run = waited m shows; err = tt }; same = stays_waiting m shows; ok = nothing_said {T = Unit {0}} (file_now m) (Ok (tt {0})) };
+  waited_worked : new.taken ≡ old.taken → (m : Machine) (shows : MayStep d old m) → HasWorked old m new (waited m shows).new
+  unfolding waited
+  waited_worked same m shows =
+      subst (λ (x : Machine). HasWorked old m new x) (sym (still_tidied_new may.laws.runs d d m (goes_on m shows).0 old new disk shows (goes_on m shows).2 (OnlyReads-none d) (still m shows)))
+      (worked_none old new m (goes_on m shows).0 same (still m shows).between)
+
+  pub wait_looks : CountsRise old new → new.taken ≡ old.taken → new.store.meta ≡ old.store.meta → (new.jobs ≡ [] → ⊥) → LooksOver {T = Unit {0}} NothingOf (Ok (tt {0})) (λ v. NothingOf) d old d new
+  wait_looks rise taken meta some = record {
+    looks = λ m shows known. record { does = record { run = waited m shows; worked = waited_worked taken m shows; err = tt }; same = stays_waiting m shows; ok = nothing_said {T = Unit {0}} (file_now m) (Ok (tt {0})) };
     counts = rise;
     spent = let left = may.left in omega (arith, left, taken);
     meta = meta;
+    waiting = λ none. absurd (some none);
   }
 
   pub wait_may : CountsRise old new → new.taken ≡ old.taken → MayTidy d new

@@ -1,5 +1,5 @@
 -- How a tidying ends.
-use Rattle.std.proofs.Common.{◌≡◌, ◌-◌, ◌^◌, ◌<◌, true, Option, None, Some, IfSome, Result, Ok, Err, refl, sym, ap, ◌∙◌, subst, arith}
+use Rattle.std.proofs.Common.{◌≡◌, ◌-◌, ◌^◌, ◌<◌, [], Option, None, Some, IfSome, Result, Ok, Err, refl, sym, ap, ◌∙◌, subst, arith}
 use Rattle.hb_disk.proofs.Facts.RunLaws.{OnlyReads-none}
 use Rattle.hb_disk.specs.Model.{DiskModel, IsDisk}
 use Rattle.hb_ops.specs.Files.{FileState}
@@ -11,8 +11,9 @@ use Rattle.hb_core.specs.declared.counts.TidyCounts.{TidyCounts}
 use Rattle.hb_tidy.proofs.CallsMade.{runs_all}
 use Rattle.hb_tidy.proofs.Exits.{HandsOn, goes_exit}
 use Rattle.hb_tidy.proofs.Joined.{may_then, rise_then, tidied_then, tidied_then_new}
-use Rattle.hb_tidy.proofs.OneCall.{still_itself, still_tidied}
+use Rattle.hb_tidy.proofs.OneCall.{still_itself, still_tidied, still_tidied_new}
 use Rattle.hb_tidy.proofs.PassParts.{Clean}
+use Rattle.hb_tidy.proofs.Worked.{between_itself, worked_none, worked_then}
 use Rattle.hb_tidy.specs.declared.stops.TidyStop.{TidyStop}
 use Rattle.hb_tidy.specs.declared.stops.TidyStop.TheVariants as stops
 use Rattle.hb_tidy.specs.Counted.{AreAtMost, CountsRise, added}
@@ -20,14 +21,17 @@ use Rattle.hb_tidy.specs.Finding.{IsTidy}
 use Rattle.hb_tidy.specs.Going.{Goes, MayTidy}
 use Rattle.hb_tidy.specs.Looking.{LooksOver, NothingOf}
 use Rattle.hb_tidy.specs.Tidying.{EndsTidying, HasCounted, HasTidied, file_now}
+use Rattle.hb_tidy.specs.Working.{HasWorked}
 
 -- what the caller of a tidying is told of a machine
 abbrev pub Ended : Result TidyCounts TidyStop → DiskModel → RunningCore → DiskModel → RunningCore → Machine → Type 0
-Ended r d old e new m = (t : HasTidied d m e new) × EndsTidying d e old new t.new r
+Ended r d old e new m = (t : HasTidied d m e new) × HasWorked old m new t.new × EndsTidying d e old new t.new r
 
 -- it ended before it took a step, since none was left
 pub ends_at_once : RunningLaws → (d : DiskModel) (c : RunningCore) (m : Machine) → IsDisk d → MayStep d c m → c.taken ≡ 2 ^ 64 - 1 → Ended (Err stops.Spent) d c d c m
-ends_at_once laws d c m disk may spent = (still_tidied laws d d m m c c disk may may (OnlyReads-none d) (still_itself m), spent)
+ends_at_once laws d c m disk may spent =
+    let same = still_tidied_new laws d d m m c c disk may may (OnlyReads-none d) (still_itself m) in
+    (still_tidied laws d d m m c c disk may may (OnlyReads-none d) (still_itself m), subst (λ (x : Machine). HasWorked c m c x) (sym same) (worked_none c c m m refl (between_itself m)), spent)
 
 -- it ended by an error of a call
 pub ends_by_err : {T : Type 0} (stop : TidyStop) (first : Result T TidyStop) (r : Result TidyCounts TidyStop) (d e : DiskModel) (old new : RunningCore) (m : Machine) → first ≡ Err stop → HandsOn stop r → Goes first d old e new → MayStep d old m → Ended r d old e new m
@@ -35,7 +39,7 @@ ends_by_err stop first r d e old new m is hands one may = by r hands (goes_exit 
   where
     by : (x : Result TidyCounts TidyStop) → HandsOn stop x → Goes x d old e new → Ended x d old e new m
     by (Ok v) h goes = absurd h
-    by (Err other) h goes = let last = goes.does m may in (last.run, last.err)
+    by (Err other) h goes = let last = goes.does m may in (last.run, last.worked, last.err)
 
 -- ---- it was done
 
@@ -58,15 +62,15 @@ counts_of old new counts rise left is =
       live = omega (arith, grown, split, merged, live);
     }
 
-clean_file : (o : Option FileState) → IfSome o (Clean IsTidy true) → IfSome o IsTidy
-clean_file None clean = tt
-clean_file (Some s) clean = clean refl
+clean_file : (o : Option FileState) (c : RunningCore) → c.jobs ≡ [] → IfSome o (Clean IsTidy c (tt {0})) → IfSome o IsTidy
+clean_file None c none clean = tt
+clean_file (Some s) c none clean = clean none
 
 pub nothing_known : (o : Option FileState) → IfSome o NothingOf
 nothing_known None = tt
 nothing_known (Some s) = tt
 
-module _ (d e f : DiskModel) (old mid new : RunningCore) (counts : TidyCounts) (goes : Goes {T = Unit {0}} (Ok (tt {0})) d old e mid) (looks : LooksOver NothingOf (Ok true) (Clean IsTidy) e mid f new) (may : MayTidy f new) (is : new.done ≡ added old.done counts) where
+module _ (d e f : DiskModel) (old mid new : RunningCore) (counts : TidyCounts) (goes : Goes {T = Unit {0}} (Ok (tt {0})) d old e mid) (looks : LooksOver NothingOf (Ok (tt {0})) (Clean IsTidy new) e mid f new) (may : MayTidy f new) (none : new.jobs ≡ []) (is : new.done ≡ added old.done counts) where
   pub ends_well : (m : Machine) → MayStep d old m → Ended (Ok counts) d old f new m
   ends_well m shows =
       let first = goes.does m shows in
@@ -74,7 +78,8 @@ module _ (d e f : DiskModel) (old mid new : RunningCore) (counts : TidyCounts) (
       let t = tidied_then d e f m mid new first.run last.does.run in
       let same = tidied_then_new d e f m mid new first.run last.does.run in
       let file = ap file_now same ∙ last.same.file in
-      (t, (runs_all f new t.new may (may_then d f m new t), subst (λ (o : Option FileState). IfSome o IsTidy) (sym file) (clean_file (file_now first.run.new) last.ok), counts_of old new counts (rise_then old mid new goes.counts looks.counts) may.left is))
+      let worked = subst (λ (x : Machine). HasWorked old m new x) (sym same) (worked_then old mid new m first.run.new last.does.run.new first.worked last.does.worked) in
+      (t, worked, (runs_all f new t.new may (may_then d f m new t), subst (λ (o : Option FileState). IfSome o IsTidy) (sym file) (clean_file (file_now first.run.new) new none last.ok), counts_of old new counts (rise_then old mid new goes.counts looks.counts) may.left is))
 
 -- counts that are no less, as `rise_of` wants them
 pub at_most : (old new : RunningCore) → CountsRise old new → AreAtMost old.done new.done

@@ -106,7 +106,7 @@ module _ (laws : RunningLaws) (d : DiskModel) (m : Machine) (e : DiskModel) (old
       let same = tidied_then_new d e f m old new t two in
       record {
         went = tidied_then d e f m old new t two;
-        stays = subst (FileStays t.new) (sym same) (flusher_leaves t.new took.0 two.new kept took.1);
+        stays = subst (FileStays t.new) (sym same) (flusher_leaves t.new took.0 two.new kept took.1).same;
         none = λ on. ap (λ (x : Machine). x.store.log.groups) same ∙ none_waits t.new took.0 two.new (sym (ap (λ (x : Machine). x.stop) same) ∙ on) (is_flush t.new took.0 two.new kept runs took.1);
       }
 

@@ -1,5 +1,5 @@
 -- Lists of jobs, and of leaves that were gone over.
-use Rattle.std.proofs.Common.{◌≡◌, ℕ, ◌+◌, ◌<◌, ◌==◌, true, false, List, [], ◌∷◌, ◌++◌, All, length, get_or, take, refl, sym, ap, subst, arith}
+use Rattle.std.proofs.Common.{◌≡◌, ℕ, ◌+◌, ◌<◌, ◌≤◌, ◌==◌, true, false, List, [], ◌∷◌, ◌++◌, All, length, get_or, take, refl, sym, ap, subst, arith}
 use Rattle.std.proofs.lemmas.Bool.{eqb-false, eqb-true}
 use Rattle.std.proofs.lemmas.List.{take_more}
 use Rattle.std.proofs.lemmas.List.Elements.{All-append, All-nil}
@@ -29,3 +29,8 @@ pub some_items : {X : Type 0} (xs : List X) (n : ℕ) → n ≡ length xs → (n
 some_items xs n long some empty =
     let none = ap (λ (ys : List _). length ys) empty in
     eqb-false n 0 some (omega (arith, long, none))
+
+-- a list that was gone over before its first item
+pub no_first : {X : Type 0} (xs : List X) (i : ℕ) → length xs ≤ i → i ≡ 0 → xs ≡ []
+no_first [] i end none = refl
+no_first (x ∷ xs) i end none = absurd (omega (arith, end, none))

@@ -10,6 +10,7 @@ use Rattle.hb_core.specs.Showing.{RunningCore}
 use Rattle.hb_core.specs.Working.{MayStep}
 use Rattle.hb_tidy.proofs.CallsMade.{wait_looks, wait_may}
 use Rattle.hb_tidy.proofs.CountsOfCalls.{stay_rises}
+use Rattle.hb_tidy.proofs.ToDo.{adds_some}
 use Rattle.hb_tidy.specs.Counted.{CountsRise}
 use Rattle.hb_tidy.specs.Going.{MayTidy}
 use Rattle.hb_tidy.specs.Looking.{LooksOver, NothingOf}
@@ -28,7 +29,7 @@ module _ {D : Type 0} (model : D → DiskModel) (x : D) (old new : RunningCore) 
   pub job_looks : (y : D) → y ≡ x → GoesOn y → LooksOver {T = Unit {0}} NothingOf (Ok (tt {0})) (λ v. NothingOf) (model x) old (model y) new
   job_looks y same goes =
       subst (λ (z : D). GoesOn z → LooksOver {T = Unit {0}} NothingOf (Ok (tt {0})) (λ v. NothingOf) (model x) old (model z) new) (sym same)
-      (λ here. wait_looks (model x) old new job disk may fits here rise stay.taken (ap (λ (c : RunningCore). c.store.meta) adds.rest)) goes
+      (λ here. wait_looks (model x) old new job disk may fits here rise stay.taken (ap (λ (c : RunningCore). c.store.meta) adds.rest) (adds_some job old.jobs new.jobs adds.adds)) goes
 
   pub job_may : (y : D) → y ≡ x → GoesOn y → MayTidy (model y) new
   job_may y same goes = subst (λ (z : D). GoesOn z → MayTidy (model z) new) (sym same) (λ here. wait_may (model x) old new job disk may fits here rise stay.taken) goes

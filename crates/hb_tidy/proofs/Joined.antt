@@ -23,10 +23,12 @@ use Rattle.hb_core.specs.Working.{MayStep}
 use Rattle.hb_tidy.specs.declared.stops.TidyStop.{TidyStop}
 use Rattle.hb_tidy.specs.declared.stops.TidyStop.TheVariants as stops
 use Rattle.hb_tidy.proofs.LiveCounted.{live_then}
+use Rattle.hb_tidy.proofs.Worked.{worked_then}
 use Rattle.hb_tidy.specs.Counted.{CountsRise}
 use Rattle.hb_tidy.specs.Going.{Does, Goes}
 use Rattle.hb_tidy.specs.Looking.{FileStays, Looks, LooksOver, NothingOf}
 use Rattle.hb_tidy.specs.Tidying.{HasTidied, KeepsSet, StopsTidying, file_now}
+use Rattle.hb_tidy.specs.Working.{HasWorked}
 
 no_fault_in : HasReadFault [] → ⊥
 no_fault_in (k, a, lt, at, is) = omega (arith, lt)
@@ -107,13 +109,17 @@ pub err_weaker : {T : Type 0} (P Q : TidyStop → Type 0) (r : Result T TidyStop
 err_weaker P Q (Ok v) imp err = tt
 err_weaker P Q (Err stop) imp err = imp stop err
 
-module _ {T U : Type 0} (v : T) (r : Result U TidyStop) (d e f : DiskModel) (m : Machine) (mid c : RunningCore) (one : Does (Ok v) d m e mid) (two : Does r e one.run.new f c) where
+module _ {T U : Type 0} (v : T) (r : Result U TidyStop) (d e f : DiskModel) (old : RunningCore) (m : Machine) (mid c : RunningCore) (one : Does (Ok v) d old m e mid) (two : Does r e mid one.run.new f c) where
   ends_then : IfErr r (λ stop. StopsTidying stop d f c (tidied_then d e f m mid c one.run two.run).new)
   unfolding tidied_then
   ends_then = err_weaker (λ stop. StopsTidying stop e f c two.run.new) (λ stop. StopsTidying stop d f c two.run.new) r (stops_then d e f m mid c two.run.new one.run) two.err
 
-  pub does_then : Does r d m f c
-  does_then = record { run = tidied_then d e f m mid c one.run two.run; err = ends_then }
+  steps_then : HasWorked old m c (tidied_then d e f m mid c one.run two.run).new
+  unfolding tidied_then
+  steps_then = worked_then old mid c m one.run.new two.run.new one.worked two.worked
+
+  pub does_then : Does r d old m f c
+  does_then = record { run = tidied_then d e f m mid c one.run two.run; worked = steps_then; err = ends_then }
 
 -- ---- what becomes of counts
 
@@ -144,7 +150,7 @@ rise_then a b c one two =
 
 pub goes_then : {T U : Type 0} (v : T) (r : Result U TidyStop) (d e f : DiskModel) (old mid new : RunningCore) → Goes (Ok v) d old e mid → Goes r e mid f new → Goes r d old f new
 goes_then v r d e f old mid new one two = record {
-  does = λ m may. let first = one.does m may in does_then v r d e f m mid new first (two.does first.run.new (may_then d e m mid first.run));
+  does = λ m may. let first = one.does m may in does_then v r d e f old m mid new first (two.does first.run.new (may_then d e m mid first.run));
   counts = rise_then old mid new one.counts two.counts;
   spent = two.spent;
 }
@@ -152,7 +158,7 @@ goes_then v r d e f old mid new one two = record {
 -- an error goes on to the caller
 pub goes_err : {T U : Type 0} (stop : TidyStop) (d e : DiskModel) (old new : RunningCore) → Goes {T = T} (Err stop) d old e new → Goes {T = U} (Err stop) d old e new
 goes_err stop d e old new one = record {
-  does = λ m may. let first = one.does m may in record { run = first.run; err = first.err };
+  does = λ m may. let first = one.does m may in record { run = first.run; worked = first.worked; err = first.err };
   counts = one.counts;
   spent = one.spent;
 }
@@ -160,7 +166,7 @@ goes_err stop d e old new one = record {
 -- and what was answered is another value
 pub goes_ok : {T U : Type 0} (v : T) (w : U) (d e : DiskModel) (old new : RunningCore) → Goes (Ok v) d old e new → Goes (Ok w) d old e new
 goes_ok v w d e old new one = record {
-  does = λ m may. let first = one.does m may in record { run = first.run; err = tt };
+  does = λ m may. let first = one.does m may in record { run = first.run; worked = first.worked; err = tt };
   counts = one.counts;
   spent = one.spent;
 }
@@ -179,20 +185,20 @@ same_stays : (m mid new : Machine) → FileStays m mid → FileStays mid new →
 same_stays m mid new one two = record { file = two.file ∙ one.file; meta = two.meta ∙ one.meta }
 
 module _ {T U : Type 0} (v : T) (says : T → FileState → Type 0) (r : Result U TidyStop) (more final : U → FileState → Type 0) (knows : FileState → Type 0) (imp : (s : FileState) (w : U) → knows s → says v s → more w s → final w s)
-    (d e f : DiskModel) (m : Machine) (mid c : RunningCore) (known : IfSome (file_now m) knows) (one : Looks (Ok v) says d m e mid) (two : Looks r more e one.does.run.new f c) where
+    (d e f : DiskModel) (old : RunningCore) (m : Machine) (mid c : RunningCore) (known : IfSome (file_now m) knows) (one : Looks (Ok v) says d old m e mid) (two : Looks r more e mid one.does.run.new f c) where
   both_known : IfSome (file_now m) (λ s. knows s × says v s)
   both_known = if_both (file_now m) knows (says v) (λ s. knows s × says v s) (λ s a b. (a, b)) known one.ok
 
   then_seen : IfOk r (λ w. IfSome (file_now m) (more w))
   then_seen = subst (λ (o : Option FileState). IfOk r (λ w. IfSome o (more w))) one.same.file two.ok
 
-  stay : FileStays m (does_then v r d e f m mid c one.does two.does).run.new
+  stay : FileStays m (does_then v r d e f old m mid c one.does two.does).run.new
   unfolding does_then tidied_then
   stay = same_stays m one.does.run.new two.does.run.new one.same two.same
 
-  pub looks_then : Looks r final d m f c
+  pub looks_then : Looks r final d old m f c
   looks_then = record {
-    does = does_then v r d e f m mid c one.does two.does;
+    does = does_then v r d e f old m mid c one.does two.does;
     same = stay;
     ok = ok_weaker (file_now m) (λ s. knows s × says v s) more final r (λ s w both after. imp s w both.0 both.1 after) both_known then_seen;
   }
@@ -205,18 +211,20 @@ over_then knows v says then_knows r more final d e f old mid new one known two i
       let first = one.looks m may its in
       let both = if_both (file_now m) knows (says v) then_knows known its first.ok in
       let second = two.looks first.does.run.new (may_then d e m mid first.does.run) (subst (λ (o : Option FileState). IfSome o then_knows) (sym first.same.file) both) in
-      looks_then v says r more final knows imp d e f m mid new its first second;
+      looks_then v says r more final knows imp d e f old m mid new its first second;
   counts = rise_then old mid new one.counts two.counts;
   spent = two.spent;
   meta = two.meta ∙ one.meta;
+  waiting = λ none. one.waiting (two.waiting none);
 }
 
 pub over_err : {T U : Type 0} (knows : FileState → Type 0) (stop : TidyStop) (says : T → FileState → Type 0) (other : U → FileState → Type 0) (d e : DiskModel) (old new : RunningCore) → LooksOver {T = T} knows (Err stop) says d old e new → LooksOver {T = U} knows (Err stop) other d old e new
 over_err knows stop says other d e old new one = record {
-  looks = λ m may its. let first = one.looks m may its in record { does = record { run = first.does.run; err = first.does.err }; same = first.same; ok = tt };
+  looks = λ m may its. let first = one.looks m may its in record { does = record { run = first.does.run; worked = first.does.worked; err = first.does.err }; same = first.same; ok = tt };
   counts = one.counts;
   spent = one.spent;
   meta = one.meta;
+  waiting = one.waiting;
 }
 
 -- of the same answer less is said, or of another one, with more that is known
@@ -229,16 +237,18 @@ over_weaker knows less r says other d e old new known imp one = record {
   counts = one.counts;
   spent = one.spent;
   meta = one.meta;
+  waiting = one.waiting;
 }
 
 pub over_ok : {T U : Type 0} (knows : FileState → Type 0) (v : T) (w : U) (says : T → FileState → Type 0) (other : U → FileState → Type 0) (d e : DiskModel) (old new : RunningCore) → ((s : FileState) → knows s → says v s → other w s) → LooksOver knows (Ok v) says d old e new → LooksOver knows (Ok w) other d old e new
 over_ok knows v w says other d e old new imp one = record {
   looks = λ m may its.
       let first = one.looks m may its in
-      record { does = record { run = first.does.run; err = tt }; same = first.same; ok = if_both (file_now m) knows (says v) (other w) imp its first.ok };
+      record { does = record { run = first.does.run; worked = first.does.worked; err = tt }; same = first.same; ok = if_both (file_now m) knows (says v) (other w) imp its first.ok };
   counts = one.counts;
   spent = one.spent;
   meta = one.meta;
+  waiting = one.waiting;
 }
 
 -- what was known before a call that wants none of it
@@ -256,3 +266,7 @@ over_goes r says d e old new one = record {
     anything : (o : Option FileState) → IfSome o NothingOf
     anything None = tt
     anything (Some s) = tt
+
+-- a call that ended well goes on
+pub goes_next : (v : Unit {0}) (r : Result (Unit {0}) TidyStop) (d e f : DiskModel) (old mid new : RunningCore) → Goes (Ok v) d old e mid → Goes r e mid f new → r ≡ Ok v → Goes (Ok v) d old f new
+goes_next v r d e f old mid new one two is = subst (λ (x : Result (Unit {0}) TidyStop). Goes x d old f new) is (goes_then v r d e f old mid new one two)

@@ -42,6 +42,7 @@ over_file knows r says d e old new one = record {
   counts = one.counts;
   spent = one.spent;
   meta = one.meta;
+  waiting = one.waiting;
 }
 
 -- ---- numbers of pages

@@ -2,11 +2,14 @@ pub mod Listings
 pub mod PlacedLeaves
 pub mod JobLists
 pub mod Workers
+pub mod Worked
+pub mod ToDo
 pub mod OneCall
 pub mod LiveCounted
 pub mod Joined
 pub mod CountsOfCalls
 pub mod CallsMade
+pub mod WorkerSteps
 pub mod LooksMade
 pub mod KnownFiles
 pub mod CleanPages

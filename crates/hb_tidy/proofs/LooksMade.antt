@@ -1,5 +1,5 @@
 -- A look at a page, as the calls of this crate have it.
-use Rattle.std.proofs.Common.{◌≡◌, ℕ, ◌-◌, ◌^◌, ◌<◌, Option, Some, None, IfSome, Result, Ok, Err, OnOk, option_map, refl, sym, ap, ◌∙◌, subst, arith}
+use Rattle.std.proofs.Common.{◌≡◌, ℕ, ◌-◌, ◌^◌, ◌<◌, List, Option, Some, None, IfSome, Result, Ok, Err, OnOk, option_map, refl, sym, ap, ◌∙◌, subst, arith}
 use Rattle.std.specs.Result.{IfErr, IfOk, IsErrOf}
 use Rattle.hb_disk.proofs.Facts.RunLaws.{OnlyReads-read}
 use Rattle.hb_disk.specs.Calls.{ReadsOnly}
@@ -9,6 +9,8 @@ use Rattle.hb_lemmas.proofs.Options.{not_none}
 use Rattle.hb_layout.specs.declared.meta.Meta.{Meta}
 use Rattle.hb_ops.specs.Files.{FileState, page_of}
 use Rattle.hb_outside.specs.Streams.{Rose}
+use Rattle.hb_pool.specs.Frames.{Use}
+use Rattle.hb_store.specs.Fetching.{IsCrowdedOut}
 use Rattle.hb_store.specs.States.{IsGoodPage, StoreState}
 use Rattle.hb_store.specs.declared.stops.Why.{Why}
 use Rattle.hb_store.specs.declared.stops.Why.TheVariants.{Rule, Level, Extent}
@@ -23,12 +25,14 @@ use Rattle.hb_core.specs.declared.copies.CopyStop.TheVariants as copies
 use Rattle.hb_tidy.proofs.CallsMade.{other_stop}
 use Rattle.hb_tidy.proofs.CountsOfCalls.{stay_rises}
 use Rattle.hb_tidy.proofs.OneCall.{StandsStill, still_looking, still_tidied, still_tidied_new}
+use Rattle.hb_tidy.proofs.Worked.{worked_none}
 use Rattle.hb_tidy.specs.declared.stops.TidyStop.{TidyStop}
 use Rattle.hb_tidy.specs.declared.stops.TidyStop.TheVariants as stops
 use Rattle.hb_tidy.specs.Counted.{CountsRise, EndsSpent}
 use Rattle.hb_tidy.specs.Going.{MayTidy}
 use Rattle.hb_tidy.specs.Looking.{FileStays, LooksOver, NothingOf, SeesBy}
 use Rattle.hb_tidy.specs.Tidying.{HasTidied, StopsTidying, file_now}
+use Rattle.hb_tidy.specs.Working.{HasWorked}
 
 -- What a core told of a look.
 pub record Looked (id : ℕ) (copied : Result Page CopyStop) (d : DiskModel) (old : RunningCore) (e : DiskModel) (new : RunningCore) : Type 0 where
@@ -54,6 +58,14 @@ only_silent o id st (Rule rule) bad = bad.0
 only_silent o id st (Level level found) bad = absurd bad
 only_silent o id st (Extent area found) bad = absurd bad
 
+-- a look leaves the jobs
+copied_jobs : (id : ℕ) (m new : Machine) (copied : Result Page CopyStop) → CopiesPage id copied m new → new.jobs ≡ m.jobs
+copied_jobs id m new (Ok page) was = ap (λ (x : Machine). x.jobs) was.0.rest
+copied_jobs id m new (Err copies.NoMemory) was = ap (λ (x : Machine). x.jobs) was.rest
+copied_jobs id m new (Err copies.ReadFault) was = ap (λ (x : Machine). x.jobs) was.0
+copied_jobs id m new (Err copies.Crowded) was = ap (λ (x : Machine). x.jobs) was.0
+copied_jobs id m new (Err (copies.Damaged page why)) was = ap (λ (x : Machine). x.jobs) was.0
+
 module _ (id : ℕ) (copied : Result Page CopyStop) (d : DiskModel) (old : RunningCore) (e : DiskModel) (new : RunningCore) (looked : Looked id copied d old e new) (may : MayTidy d old) where
   next : (m : Machine) → MayStep d old m → Machine
   next m shows = (looked.told m shows).0
@@ -68,6 +80,19 @@ module _ (id : ℕ) (copied : Result Page CopyStop) (d : DiskModel) (old : Runni
   unfolding looked_at
   stays m shows =
       subst (λ (x : Machine). FileStays m x) (sym (still_tidied_new may.laws.runs d e m (looked.told m shows).0 old new looked.disk shows (looked.told m shows).2 (OnlyReads-read _ d e looked.reads) (still m shows))) (still m shows).same
+
+  worked_at : (m : Machine) (shows : MayStep d old m) → HasWorked old m new (looked_at m shows).new
+  unfolding looked_at
+  worked_at m shows =
+      subst (λ (x : Machine). HasWorked old m new x) (sym (still_tidied_new may.laws.runs d e m (looked.told m shows).0 old new looked.disk shows (looked.told m shows).2 (OnlyReads-read _ d e looked.reads) (still m shows)))
+      (worked_none old new m (looked.told m shows).0 looked.counts.taken (still m shows).between)
+
+  look_waits : new.jobs ≡ old.jobs
+  look_waits =
+      let m = may.runs.0 in
+      let shows = may.runs.1 in
+      let one = looked.told m shows in
+      sym one.2.shows.jobs ∙ copied_jobs id m one.0 copied one.1 ∙ shows.shows.jobs
 
   pub look_meta : new.store.meta ≡ old.store.meta
   look_meta =
@@ -120,13 +145,14 @@ module _ (id : ℕ) (copied : Result Page CopyStop) (d : DiskModel) (old : Runni
       looks = λ m shows known.
           let t = looked_at m shows in
           record {
-            does = record { run = t; err = cause m shows t copied looked.reads.reads.cause (looked.told m shows).1 seen sees };
+            does = record { run = t; worked = worked_at m shows; err = cause m shows t copied looked.reads.reads.cause (looked.told m shows).1 seen sees };
             same = stays m shows;
             ok = saw m shows t copied (looked.told m shows).1 seen sees;
           };
       counts = rise;
       spent = spent_so copied seen sees;
       meta = look_meta;
+      waiting = λ none. sym look_waits ∙ none;
     }
 
     -- the core may go on where the page came, or found no place
@@ -157,3 +183,17 @@ module _ (id : ℕ) (copied : Result Page CopyStop) (d : DiskModel) (old : Runni
 
     pub look_good : IfOk seen (λ v. IfSome v (IsGoodPage old.store.meta))
     look_good = let m = may.runs.0 in let shows = may.runs.1 in good_so m shows copied (looked.told m shows).1 seen sees
+
+    crowded_so : (m : Machine) (shows : MayStep d old m) (c : Result Page CopyStop) → CopiesPage id c m (looked.told m shows).0 → (r : Result (Option Page) TidyStop) → SeesBy c r → IfOk r (λ v. v ≡ None → IsCrowdedOut id new.store new.uses)
+    crowded_so m shows (Ok page) was r is = subst (λ (x : Result (Option Page) TidyStop). IfOk x (λ v. v ≡ None → IsCrowdedOut id new.store new.uses)) (sym is) (λ none. cc (none))
+    crowded_so m shows (Err copies.Crowded) was r is =
+        let next = (looked.told m shows).2.shows in
+        let so : IsCrowdedOut id (looked.told m shows).0.store (looked.told m shows).0.uses = subst (λ (x : Machine). IsCrowdedOut id x.store x.uses) (sym was.0) was.1 in
+        let here : IsCrowdedOut id new.store (looked.told m shows).0.uses = subst (λ (st : StoreState). IsCrowdedOut id st (looked.told m shows).0.uses) next.store so in
+        subst (λ (x : Result (Option Page) TidyStop). IfOk x (λ v. v ≡ None → IsCrowdedOut id new.store new.uses)) (sym is) (λ none. subst (λ (uses : List Use). IsCrowdedOut id new.store uses) next.uses here)
+    crowded_so m shows (Err copies.ReadFault) was r is = subst (λ (x : Result (Option Page) TidyStop). IfOk x (λ v. v ≡ None → IsCrowdedOut id new.store new.uses)) (sym is) tt
+    crowded_so m shows (Err copies.NoMemory) was r is = subst (λ (x : Result (Option Page) TidyStop). IfOk x (λ v. v ≡ None → IsCrowdedOut id new.store new.uses)) (sym is) tt
+    crowded_so m shows (Err (copies.Damaged page why)) was r is = subst (λ (x : Result (Option Page) TidyStop). IfOk x (λ v. v ≡ None → IsCrowdedOut id new.store new.uses)) (sym is) tt
+
+    pub look_crowded : IfOk seen (λ v. v ≡ None → IsCrowdedOut id new.store new.uses)
+    look_crowded = let m = may.runs.0 in let shows = may.runs.1 in crowded_so m shows copied (looked.told m shows).1 seen sees

@@ -33,9 +33,11 @@ use Rattle.hb_core.specs.Working.{MayStep}
 use Rattle.hb_core.specs.declared.copies.CopyStop.{CopyStop}
 use Rattle.hb_core.specs.declared.copies.CopyStop.TheVariants as copies
 use Rattle.hb_core.specs.declared.outcomes.Outcome.{Outcome}
+use Rattle.hb_tidy.proofs.Worked.{between_as, between_itself}
 use Rattle.hb_tidy.proofs.Workers.{IsWorker, LinesStand, is_actor, worker_stands}
 use Rattle.hb_tidy.specs.Looking.{FileStays}
 use Rattle.hb_tidy.specs.Tidying.{HasTidied, KeepsSet, file_now}
+use Rattle.hb_tidy.specs.Working.{IsBetweenSteps}
 
 no_fault_in : HasReadFault [] → ⊥
 no_fault_in (k, a, lt, at, is) = omega (arith, lt)
@@ -98,6 +100,7 @@ step_taken laws d e m actor answers c run kept worker = stepped laws d e m actor
 pub record StandsStill (m new : Machine) : Type 0 where
   pub lines : LinesStand m new
   pub same : FileStays m new
+  pub between : IsBetweenSteps m new
   pub stop : new.stop ≡ Some whys.WriteFault → m.stop ≡ Some whys.WriteFault
   pub keeps : (n : RecordSet) (files : Files) → CoreKeeps n m files → CoreKeeps n new files
 
@@ -144,6 +147,7 @@ pub still_itself : (m : Machine) → StandsStill m m
 still_itself m = record {
   lines = record { lines = refl; answered = refl; order = refl };
   same = record { file = refl; meta = refl };
+  between = between_itself m;
   stop = λ stop. stop;
   keeps = λ n files keeps. keeps;
 }
@@ -157,6 +161,7 @@ still_waiting keeps m job new fits waits = record {
     order = ap (λ (x : Machine). x.order) waits.rest;
   };
   same = record { file = ap file_now waits.rest; meta = ap (λ (x : Machine). x.store.meta) waits.rest };
+  between = between_as m new.jobs m.stop m.store m.uses new refl waits.rest;
   stop = λ stop. sym (ap (λ (x : Machine). x.stop) waits.rest) ∙ stop;
   keeps = λ n files all. keeps n m files job new fits waits all;
 }
@@ -171,6 +176,7 @@ module _ (looking : LookingKeepsAll) (m : Machine) (id : ℕ) (new : Machine) wh
       order = ap (λ (x : Machine). x.order) comes.rest;
     };
     same = record { file = ap file_now comes.rest; meta = comes.brings.rest.meta };
+    between = between_as m m.jobs m.stop new.store new.uses new comes.brings.rest.meta comes.rest;
     stop = λ stop. sym (ap (λ (x : Machine). x.stop) comes.rest) ∙ stop;
     keeps = λ n files all. looking n m files id new comes all;
   }
@@ -188,6 +194,7 @@ module _ (looking : LookingKeepsAll) (m : Machine) (id : ℕ) (new : Machine) wh
   still_damaged page why is bad = record {
     lines = record { lines = ap (λ (x : Machine). x.lines) is; answered = ap (λ (x : Machine). x.answered) is; order = ap (λ (x : Machine). x.order) is };
     same = record { file = ap file_now is; meta = ap (λ (x : Machine). x.store.meta) is };
+    between = between_as m m.jobs (Some (whys.Damaged page why)) m.store m.uses new refl is;
     stop = λ stop. let never : Some (whys.Damaged page why) ≡ Some whys.WriteFault = sym (ap (λ (x : Machine). x.stop) is) ∙ stop in cc;
     keeps = λ n files all. absurd (not_none m.files files all.told (silent why bad));
   }

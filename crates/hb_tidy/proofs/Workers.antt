@@ -77,38 +77,48 @@ module _ (m : Machine) (actor : ℕ) (kept : MachineKeeps m) (worker : IsWorker 
       by (inr (inr (inl answers))) = absurd (none_next answers.line answers.next)
       by (inr (inr (inr settles))) = absurd (none_awaited settles.number settles.place settles.reply settles.waited)
 
--- ---- the file, where the flusher takes the step
+-- ---- the file and the jobs, where the flusher takes the step
+
+pub record FlushLeaves (m new : Machine) : Type 0 where
+  pub same : FileStays m new
+  pub jobs : new.jobs ≡ m.jobs
 
 forced_same : (files : Option Files) → option_map current_file (option_map forced_files files) ≡ option_map current_file files
 forced_same None = refl
 forced_same (Some files) = refl
 
 module _ (m : Machine) (outcome : Outcome) (new : Machine) where
-  stays_file : (said : Outcome) → StaysSo m said outcome new → FileStays m new
-  stays_file said so = record { file = ap file_now so.1; meta = ap (λ (x : Machine). x.store.meta) so.1 }
+  leaves : (other : Machine) → new ≡ other → file_now other ≡ file_now m → other.store.meta ≡ m.store.meta → other.jobs ≡ m.jobs → FlushLeaves m new
+  leaves other is file meta jobs = record {
+    same = record { file = ap file_now is ∙ file; meta = ap (λ (x : Machine). x.store.meta) is ∙ meta };
+    jobs = ap (λ (x : Machine). x.jobs) is ∙ jobs;
+  }
 
-  fails_file : {most : ℕ} → FailsToWrite m most outcome new → FileStays m new
-  fails_file fails = record { file = ap file_now fails.stops; meta = ap (λ (x : Machine). x.store.meta) fails.stops }
+  stays_file : (said : Outcome) → StaysSo m said outcome new → FlushLeaves m new
+  stays_file said so = leaves m so.1 refl refl refl
 
-  forces_file : ForcesAll m outcomes.Moved outcome new → FileStays m new
-  forces_file (inl (says, is)) = record { file = ap file_now is ∙ forced_same m.files; meta = ap (λ (x : Machine). x.store.meta) is }
+  fails_file : {most : ℕ} → FailsToWrite m most outcome new → FlushLeaves m new
+  fails_file fails = leaves _ fails.stops refl refl refl
+
+  forces_file : ForcesAll m outcomes.Moved outcome new → FlushLeaves m new
+  forces_file (inl (says, is)) = leaves _ is (forced_same m.files) refl refl
   forces_file (inr badly) = fails_file badly.1
 
-  rest_file : FlushesRest m outcomes.Moved (StaysSo m outcomes.Idle outcome new) outcome new → FileStays m new
-  rest_file (inl (page, oldest, inl well)) = record { file = ap file_now well.leaves; meta = ap (λ (x : Machine). x.store.meta) well.leaves }
+  rest_file : FlushesRest m outcomes.Moved (StaysSo m outcomes.Idle outcome new) outcome new → FlushLeaves m new
+  rest_file (inl (page, oldest, inl well)) = leaves _ well.leaves refl refl refl
   rest_file (inl (page, oldest, inr fails)) = fails_file fails
-  rest_file (inr (inl (old, inl turns))) = record { file = ap file_now turns.leaves; meta = ap (λ (x : Machine). x.store.meta) turns.leaves }
+  rest_file (inr (inl (old, inl turns))) = leaves _ turns.leaves refl refl refl
   rest_file (inr (inl (old, inr fails))) = fails_file fails
   rest_file (inr (inr (flushed, so))) = stays_file outcomes.Idle so
 
-  flushes_file : Flushes m outcome new → FileStays m new
+  flushes_file : Flushes m outcome new → FlushLeaves m new
   flushes_file (inl (waits, force)) = forces_file force
   flushes_file (inr (none, rest)) = rest_file rest
 
-  pub flusher_leaves : MachineKeeps m → StepsTo m 19 outcome new → FileStays m new
+  pub flusher_leaves : MachineKeeps m → StepsTo m 19 outcome new → FlushLeaves m new
   flusher_leaves kept step = by m.stop step
     where
-      by : (stop : Option StopWhy) → MatchOption stop (StepsAs (m.activity 19) m 19 outcome new) (λ why. StaysSo m (outcomes.Stopped why) outcome new) → FileStays m new
+      by : (stop : Option StopWhy) → MatchOption stop (StepsAs (m.activity 19) m 19 outcome new) (λ why. StaysSo m (outcomes.Stopped why) outcome new) → FlushLeaves m new
       by None one = flushes_file (subst (λ (activity : Activity). StepsAs activity m 19 outcome new) (flusher_stands (m.activity 19) (kept.classes 19)) one)
       by (Some why) so = stays_file (outcomes.Stopped why) so
 

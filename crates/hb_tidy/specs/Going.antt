@@ -11,6 +11,7 @@ use Rattle.hb_core.specs.Working.{MayStep}
 use Rattle.hb_tidy.specs.declared.stops.TidyStop.{TidyStop}
 use Rattle.hb_tidy.specs.Counted.{CountsRise, EndsSpent}
 use Rattle.hb_tidy.specs.Tidying.{HasTidied, StopsTidying}
+use Rattle.hb_tidy.specs.Working.{HasWorked}
 
 -- The laws of the core by which it goes on; a call of the core's laws tells them once, and each call hands them on.
 pub record TidyLaws : Type 0 where
@@ -28,11 +29,12 @@ pub record MayTidy (d : DiskModel) (c : RunningCore) : Type 0 where
   pub left : c.taken < 2 ^ 64 - 1
 
 -- A call, from one machine that the core showed, and from each of them, with its counts.
-pub record Does {T : Type 0} (result : Result T TidyStop) (d : DiskModel) (m : Machine) (e : DiskModel) (c : RunningCore) : Type 0 where
+pub record Does {T : Type 0} (result : Result T TidyStop) (d : DiskModel) (old : RunningCore) (m : Machine) (e : DiskModel) (c : RunningCore) : Type 0 where
   pub run : HasTidied d m e c
+  pub worked : HasWorked old m c run.new
   pub err : IfErr result (λ stop. StopsTidying stop d e c run.new)
 
 pub record Goes {T : Type 0} (result : Result T TidyStop) (d : DiskModel) (old : RunningCore) (e : DiskModel) (new : RunningCore) : Type 0 where
-  pub does : (m : Machine) → MayStep d old m → Does result d m e new
+  pub does : (m : Machine) → MayStep d old m → Does result d old m e new
   pub counts : CountsRise old new
   pub spent : EndsSpent result new

@@ -5,3 +5,4 @@ pub mod Looking
 pub mod Placing
 pub mod Stepping
 pub mod Tidying
+pub mod Working

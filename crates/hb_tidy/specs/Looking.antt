@@ -1,5 +1,5 @@
 -- What looks at the file come to: nothing in it changes, and what they see is of it.
-use Rattle.std.specs.Prelude.{◌≡◌, Result, Ok, Err, IfOk, IfSome, Option, Some, None}
+use Rattle.std.specs.Prelude.{◌≡◌, [], Result, Ok, Err, IfOk, IfSome, Option, Some, None}
 use Rattle.hb_disk.specs.Model.{DiskModel}
 use Rattle.hb_frag.specs.declared.pages.Page.{Page}
 use Rattle.hb_ops.specs.Files.{FileState}
@@ -20,17 +20,18 @@ pub record FileStays (m new : Machine) : Type 0 where
   pub meta : new.store.meta ≡ m.store.meta
 
 -- From one machine: over a disk that tells, what was seen is so related to its file.
-pub record Looks {T : Type 0} (result : Result T TidyStop) (says : T → FileState → Type 0) (d : DiskModel) (m : Machine) (e : DiskModel) (c : RunningCore) : Type 0 where
-  pub does : Does result d m e c
+pub record Looks {T : Type 0} (result : Result T TidyStop) (says : T → FileState → Type 0) (d : DiskModel) (old : RunningCore) (m : Machine) (e : DiskModel) (c : RunningCore) : Type 0 where
+  pub does : Does result d old m e c
   pub same : FileStays m does.run.new
   pub ok : IfOk result (λ v. IfSome (file_now m) (says v))
 
--- From each machine that the core showed of whose file this is known already; with the counts.
+-- From each machine that the core showed of whose file this is known already; with the counts. Where no job waits, none did before.
 pub record LooksOver {T : Type 0} (knows : FileState → Type 0) (result : Result T TidyStop) (says : T → FileState → Type 0) (d : DiskModel) (old : RunningCore) (e : DiskModel) (new : RunningCore) : Type 0 where
-  pub looks : (m : Machine) → MayStep d old m → IfSome (file_now m) knows → Looks result says d m e new
+  pub looks : (m : Machine) → MayStep d old m → IfSome (file_now m) knows → Looks result says d old m e new
   pub counts : CountsRise old new
   pub spent : EndsSpent result new
   pub meta : new.store.meta ≡ old.store.meta
+  pub waiting : new.jobs ≡ [] → old.jobs ≡ []
 
 -- nothing is known of a file, or said of what was seen
 abbrev pub NothingOf : FileState → Type 0

@@ -48,10 +48,10 @@ pub record HasTidied (d : DiskModel) (m : Machine) (e : DiskModel) (c : RunningC
 abbrev pub file_now : Machine → Option FileState
 file_now m = option_map current_file m.files
 
--- Why it ended before the file was tidy: no page is free where one is wanted; a fault of the disk, which was counted; a damaged page,
+-- Why it ended before the file was tidy: no page is free, and one is wanted; a fault of the disk, which was counted; a damaged page,
 -- which only a disk has that tells nothing; or the count of steps has come to its last value.
 abbrev pub StopsTidying : TidyStop → DiskModel → DiskModel → RunningCore → Machine → Type 0
-StopsTidying stops.Full d e c new = (new.stop ≡ None) × IfSome (file_now new) WantsPage
+StopsTidying stops.Full d e c new = (new.stop ≡ None) × (new.store.meta.live ≡ new.store.meta.pages) × IfSome (file_now new) WantsPage
 StopsTidying stops.ReadFault d e c new = Rose d.read_faults e.read_faults
 StopsTidying stops.WriteFault d e c new = Rose d.write_faults e.write_faults × (new.stop ≡ Some whys.WriteFault)
 StopsTidying (stops.Damaged page why) d e c new = (¬ (IsSome d.told)) × (new.stop ≡ Some (whys.Damaged page why))

@@ -5,7 +5,7 @@
 //! `specs/Tidying.antt` says so.
 //!
 //! The file is looked through page by page. What is found waits as a job for the core's workers, and is worked off by steps of
-//! theirs behind the pass. A pass over the whole file that finds nothing ends the call.
+//! theirs behind the pass. A pass over the whole file behind which no job waits ends the call. No step is taken without a cause.
 //!
 //! No type keeps an invariant.
 //!
@@ -19,6 +19,7 @@ ghost use Rattle.hb_core.specs.Machines.{Machine};
 ghost use Rattle.hb_core.specs.Working.{MayStep};
 ghost use Rattle.hb_tidy.specs.Counted.{AreAtMost, CountsRise, EndsSpent, added};
 ghost use Rattle.hb_tidy.specs.Tidying.{AllAtRest, EndsTidying, HasTidied};
+ghost use Rattle.hb_tidy.specs.Working.{HasWorked};
 
 mod below;
 mod finding;
@@ -45,7 +46,7 @@ pub use stops::TidyStop;
 ///
 /// # Errors
 ///
-/// `Full` where a posting or a growth wants a page and none is free; `ReadFault` and `WriteFault` where the disk failed, and
+/// `Full` where no page is free and a posting or a growth wants one; `ReadFault` and `WriteFault` where the disk failed, and
 /// `Damaged` where a page is none that the file may have there, which after the last two stops the core; `Spent` exactly where
 /// the core's count of steps has come to its last value; `NoMemory` where memory was refused.
 pub fn tidy<D: Device>(alloc: Global, core: &mut Core<D>) -> Result<TidyCounts, TidyStop>
@@ -54,6 +55,7 @@ pub fn tidy<D: Device>(alloc: Global, core: &mut Core<D>) -> Result<TidyCounts, 
     requires counts { CountsWithin (core_seen core.old) }
     ensures tidies { (m : Machine) → MayStep (D.model (core_disk core.old)) (core_seen core.old) m →
         (t : HasTidied (D.model (core_disk core.old)) m (D.model (core_disk core.new)) (core_seen core.new))
+        × HasWorked (core_seen core.old) m (core_seen core.new) t.new
         × EndsTidying (D.model (core_disk core.old)) (D.model (core_disk core.new)) (core_seen core.old) (core_seen core.new) t.new result }
     ensures rise { CountsRise (core_seen core.old) (core_seen core.new) }
     ensures spent { EndsSpent result (core_seen core.new) }
@@ -66,7 +68,8 @@ pub fn tidy<D: Device>(alloc: Global, core: &mut Core<D>) -> Result<TidyCounts, 
     }
     let before = core.done();
     loop {
-        if pass(alloc, core)? {
+        pass(alloc, core)?;
+        if core.jobs(JobKind::Post) == 0 && core.jobs(JobKind::Merge) == 0 {
             return Ok(rise_of(before, core.done()));
         }
         work_off(core, JobKind::Post)?;

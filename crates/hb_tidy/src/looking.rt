@@ -1,8 +1,8 @@
 //! Looks at pages of the file.
-ghost use Rattle.std.specs.Prelude.{◌≡◌, ◌↔◌, IfOk, IfSome, IsTrue, OnOk, Some};
+ghost use Rattle.std.specs.Prelude.{◌≡◌, ◌↔◌, IfOk, IfSome, IsTrue, None, OnOk, Some};
 ghost use Rattle.hb_ops.specs.Files.{if_live, live_page, page_of};
 ghost use Rattle.hb_ops.specs.Sound.{FitsFile};
-ghost use Rattle.hb_store.specs.Fetching.{IsNoPage};
+ghost use Rattle.hb_store.specs.Fetching.{IsCrowdedOut, IsNoPage};
 ghost use Rattle.hb_store.specs.Replaying.{IsPageOf};
 ghost use Rattle.hb_store.specs.States.{IsGoodPage};
 ghost use Rattle.hb_core.specs.CoreSeen.{core_seen, core_disk};
@@ -41,6 +41,7 @@ fn look_once<D: Device>(core: &mut Core<D>, id: u32) -> Result<Option<Page>, Tid
     ensures may { OnOk result (MayTidy (D.model (core_disk core.new)) (core_seen core.new)) }
     ensures meta { (core_seen core.new).store.meta ≡ (core_seen core.old).store.meta }
     ensures taken { (core_seen core.new).taken ≡ (core_seen core.old).taken }
+    ensures crowded { IfOk result (λ seen. seen ≡ None → IsCrowdedOut id (core_seen core.new).store (core_seen core.new).uses) }
     ensures good { IfOk result (λ seen. IfSome seen (IsGoodPage (core_seen core.old).store.meta)) }
 {
     let copied = core.page_copy(id);

@@ -1,5 +1,5 @@
 //! A pass over the whole file: what is found waits as a job for the workers.
-ghost use Rattle.std.specs.Prelude.{◌≡◌, ◌<◌, ◌≤◌, ◌↔◌, [], All, IfOk, IsTrue, Ok, OnOk, Some, true};
+ghost use Rattle.std.specs.Prelude.{◌≡◌, ◌≢◌, ◌<◌, ◌≤◌, ◌↔◌, [], All, IfOk, IsTrue, Ok, OnOk, Some};
 ghost use Rattle.hb_layout.specs.declared.limits.TheConstants.{HEIGHT_MAX};
 ghost use Rattle.hb_ops.specs.Files.{live_page};
 ghost use Rattle.hb_ops.specs.Settled.{HasLoneRoot};
@@ -25,39 +25,38 @@ use hb_layout::limits::HEIGHT_MAX;
 use hb_space::Area;
 use std::alloc::Global;
 
-/// Looks at the root and at each page of the file, and lets a job wait for each thing that is found. Whether nothing was.
-pub(crate) fn pass<D: Device>(alloc: Global, core: &mut Core<D>) -> Result<bool, TidyStop>
+/// Looks at the root and at each page of the file, and lets a job wait for each thing that is found.
+pub(crate) fn pass<D: Device>(alloc: Global, core: &mut Core<D>) -> Result<(), TidyStop>
     requires { MayTidy (D.model (core_disk core.old)) (core_seen core.old) }
-    ensures looks { LooksOver NothingOf result (λ clean s. clean ≡ true → IsTidy s)
+    ensures looks { LooksOver NothingOf result (λ v s. (core_seen core.new).jobs ≡ [] → IsTidy s)
         (D.model (core_disk core.old)) (core_seen core.old) (D.model (core_disk core.new)) (core_seen core.new) }
     ensures may { OnOk result (MayTidy (D.model (core_disk core.new)) (core_seen core.new)) }
 {
-    let mut clean = visit_root(alloc, core)?;
+    visit_root(alloc, core)?;
     let high = core.meta().high;
     for place in 0..high {
-        let nothing = visit(alloc, core, place + 1)?;
-        clean = clean && nothing;
+        visit(alloc, core, place + 1)?;
     }
-    Ok(clean)
+    Ok(())
 }
 
-/// Looks at the root. Whether no growth is owed.
-fn visit_root<D: Device>(alloc: Global, core: &mut Core<D>) -> Result<bool, TidyStop>
+/// Looks at the root, and lets the job for a growth wait, where one is owed.
+fn visit_root<D: Device>(alloc: Global, core: &mut Core<D>) -> Result<(), TidyStop>
     requires { MayTidy (D.model (core_disk core.old)) (core_seen core.old) }
-    ensures looks { LooksOver NothingOf result (λ clean s. clean ≡ true → HasGrown s)
+    ensures looks { LooksOver NothingOf result (λ v s. (core_seen core.new).jobs ≡ [] → HasGrown s)
         (D.model (core_disk core.old)) (core_seen core.old) (D.model (core_disk core.new)) (core_seen core.new) }
     ensures may { OnOk result (MayTidy (D.model (core_disk core.new)) (core_seen core.new)) }
     ensures meta { (core_seen core.new).store.meta ≡ (core_seen core.old).store.meta }
 {
     if is_highest(core.meta()) {
-        return Ok(true);
+        return Ok(());
     }
     let root = core.meta().root;
     match named_page(core, root)? {
         Some(page) => visit_top(alloc, core, &page),
         None => {
             owe_growth(core);
-            Ok(false)
+            Ok(())
         }
     }
 }
@@ -69,29 +68,29 @@ fn is_highest(meta: &Meta) -> bool
     HEIGHT_MAX <= meta.height
 }
 
-/// Looks into the root of a file that may grow. Whether it has no sibling leaf.
+/// Looks into the root of a file that may grow, and lets the job for a growth wait, where it has a sibling leaf.
 fn visit_top<D: Device>(
     alloc: Global,
     core: &mut Core<D>,
     page: &LivePage,
-) -> Result<bool, TidyStop>
+) -> Result<(), TidyStop>
     requires may { MayTidy (D.model (core_disk core.old)) (core_seen core.old) }
     requires made { FitsFile (core_seen core.old).store.meta page.now }
     requires low { (core_seen core.old).store.meta.height < HEIGHT_MAX }
-    ensures looks { LooksOver (λ s. live_page s s.meta.root ≡ Some page.now) result (λ clean s. clean ≡ true → HasLoneRoot s)
+    ensures looks { LooksOver (λ s. live_page s s.meta.root ≡ Some page.now) result (λ v s. (core_seen core.new).jobs ≡ [] → HasLoneRoot s)
         (D.model (core_disk core.old)) (core_seen core.old) (D.model (core_disk core.new)) (core_seen core.new) }
     ensures may { OnOk result (MayTidy (D.model (core_disk core.new)) (core_seen core.new)) }
     ensures meta { (core_seen core.new).store.meta ≡ (core_seen core.old).store.meta }
 {
     let given = sibling_leaves(alloc, page)?;
     if given.is_empty() {
-        return Ok(true);
+        return Ok(());
     }
     if core.meta().live == core.meta().pages {
         return Err(TidyStop::Full);
     }
     owe_growth(core);
-    Ok(false)
+    Ok(())
 }
 
 /// Lets the job for a growth wait.
@@ -101,6 +100,7 @@ fn owe_growth<D: Device>(core: &mut Core<D>)
         (D.model (core_disk core.old)) (core_seen core.old) (D.model (core_disk core.new)) (core_seen core.new) }
     ensures may { MayTidy (D.model (core_disk core.new)) (core_seen core.new) }
     ensures meta { (core_seen core.new).store.meta ≡ (core_seen core.old).store.meta }
+    ensures some { (core_seen core.new).jobs ≢ [] }
 {
     let whole = Area::whole(core.meta().k);
     let job = Job {
@@ -111,18 +111,18 @@ fn owe_growth<D: Device>(core: &mut Core<D>)
     wait_for(core, job);
 }
 
-/// Looks at the page of the number and at the pages below it. Whether nothing was found there.
-fn visit<D: Device>(alloc: Global, core: &mut Core<D>, id: u32) -> Result<bool, TidyStop>
+/// Looks at the page of the number and at the pages below it, and lets a job wait for each thing that is found there.
+fn visit<D: Device>(alloc: Global, core: &mut Core<D>, id: u32) -> Result<(), TidyStop>
     requires may { MayTidy (D.model (core_disk core.old)) (core_seen core.old) }
     requires page { IsPageOf (core_seen core.old).store.meta id }
-    ensures looks { LooksOver NothingOf result (λ clean s. clean ≡ true → IsTidyAt s id)
+    ensures looks { LooksOver NothingOf result (λ v s. (core_seen core.new).jobs ≡ [] → IsTidyAt s id)
         (D.model (core_disk core.old)) (core_seen core.old) (D.model (core_disk core.new)) (core_seen core.new) }
     ensures may { OnOk result (MayTidy (D.model (core_disk core.new)) (core_seen core.new)) }
     ensures meta { (core_seen core.new).store.meta ≡ (core_seen core.old).store.meta }
 {
     let jobs = jobs_at(alloc, core, id)?;
     wait_for_all(core, jobs.as_slice());
-    Ok(jobs.is_empty())
+    Ok(())
 }
 
 /// The jobs for what is found at the page of the number.
@@ -169,6 +169,7 @@ fn wait_for_all<D: Device>(core: &mut Core<D>, jobs: &[Job])
         (D.model (core_disk core.old)) (core_seen core.old) (D.model (core_disk core.new)) (core_seen core.new) }
     ensures may { MayTidy (D.model (core_disk core.new)) (core_seen core.new) }
     ensures meta { (core_seen core.new).store.meta ≡ (core_seen core.old).store.meta }
+    ensures some { (core_seen core.new).jobs ≡ [] → jobs.now ≡ [] }
 {
     for job in jobs {
         wait_for(core, job.copy());
@@ -183,6 +184,7 @@ fn wait_for<D: Device>(core: &mut Core<D>, job: Job)
         (D.model (core_disk core.old)) (core_seen core.old) (D.model (core_disk core.new)) (core_seen core.new) }
     ensures may { MayTidy (D.model (core_disk core.new)) (core_seen core.new) }
     ensures meta { (core_seen core.new).store.meta ≡ (core_seen core.old).store.meta }
+    ensures some { (core_seen core.new).jobs ≢ [] }
 {
     let _waits = core.add_job(job);
 }

@@ -1,6 +1,10 @@
 //! Steps of the workers and flushes, and why they end a tidying.
-ghost use Rattle.std.specs.Prelude.{◌≡◌, ◌⊎◌, ◌+◌, ◌<◌, OnOk};
+ghost use Rattle.std.specs.Prelude.{◌≡◌, ◌⊎◌, ℕ, ◌+◌, ◌<◌, OnOk};
+ghost use Rattle.hb_store.specs.Fetching.{IsCrowdedOut};
 ghost use Rattle.hb_core.specs.CoreSeen.{core_seen, core_disk};
+ghost use Rattle.hb_core.specs.Machines.{Machine};
+ghost use Rattle.hb_core.specs.Showing.{ShowsMachine};
+ghost use Rattle.hb_core.specs.Taking.{jobs_of, worker_for};
 ghost use Rattle.hb_tidy.specs.Going.{Goes, MayTidy};
 ghost use Rattle.hb_tidy.specs.Looking.{LooksOver, NothingOf};
 ghost use Rattle.hb_tidy.specs.Stepping.{EndsCall, EndsStep, stop_by};
@@ -18,25 +22,23 @@ const POSTER: Actor = 17;
 /// The actor that merges.
 const CONSOLIDATOR: Actor = 18;
 
-/// Takes steps of the worker for this kind of jobs, one at least, until none of these waits or is in work.
+/// Takes steps of the worker for this kind of jobs until none of these waits or is in work.
 pub(crate) fn work_off<D: Device>(core: &mut Core<D>, kind: JobKind) -> Result<(), TidyStop>
     requires { MayTidy (D.model (core_disk core.old)) (core_seen core.old) }
     ensures goes { Goes result (D.model (core_disk core.old)) (core_seen core.old) (D.model (core_disk core.new)) (core_seen core.new) }
     ensures may { OnOk result (MayTidy (D.model (core_disk core.new)) (core_seen core.new)) }
-    ensures more { OnOk result ((core_seen core.old).taken < (core_seen core.new).taken) }
+    ensures done { OnOk result ((m : Machine) → ShowsMachine (D.model (core_disk core.new)) (core_seen core.new) m → jobs_of kind m ≡ 0) }
+    ensures more { OnOk result (((core_seen core.old).taken < (core_seen core.new).taken) ⊎ (core.new ≡ core.old)) }
 {
-    let worker = worker_for(kind);
-    loop {
-        step(core, worker)?;
-        if core.jobs(kind) == 0 {
-            return Ok(());
-        }
+    while core.jobs(kind) != 0 {
+        step(core, kind)?;
     }
+    Ok(())
 }
 
 /// Who works off the jobs of the kind.
 fn worker_for(kind: JobKind) -> Actor
-    ensures { (result ≡ 17) ⊎ (result ≡ 18) }
+    ensures { result ≡ worker_for kind }
 {
     match kind {
         JobKind::Post => POSTER,
@@ -44,15 +46,15 @@ fn worker_for(kind: JobKind) -> Actor
     }
 }
 
-/// Takes one step of a worker.
-fn step<D: Device>(core: &mut Core<D>, worker: Actor) -> Result<(), TidyStop>
+/// Takes one step of the worker for this kind of jobs.
+fn step<D: Device>(core: &mut Core<D>, kind: JobKind) -> Result<(), TidyStop>
     requires may { MayTidy (D.model (core_disk core.old)) (core_seen core.old) }
-    requires worker { (worker ≡ 17) ⊎ (worker ≡ 18) }
+    requires some { (m : Machine) → ShowsMachine (D.model (core_disk core.old)) (core_seen core.old) m → 0 < jobs_of kind m }
     ensures goes { Goes result (D.model (core_disk core.old)) (core_seen core.old) (D.model (core_disk core.new)) (core_seen core.new) }
     ensures may { OnOk result (MayTidy (D.model (core_disk core.new)) (core_seen core.new)) }
     ensures one { OnOk result ((core_seen core.new).taken ≡ (core_seen core.old).taken + 1) }
 {
-    let outcome = core.step(worker);
+    let outcome = core.step(worker_for(kind));
     went_on(core)?;
     end_of(&outcome)
 }
@@ -96,9 +98,10 @@ fn stop_by(why: StopWhy) -> TidyStop
     }
 }
 
-/// Flushes once. It counts as a step.
+/// Flushes once, since a page has no place in memory. It counts as a step.
 pub(crate) fn flush<D: Device>(core: &mut Core<D>) -> Result<(), TidyStop>
-    requires { MayTidy (D.model (core_disk core.old)) (core_seen core.old) }
+    requires may { MayTidy (D.model (core_disk core.old)) (core_seen core.old) }
+    requires crowded { (id : ℕ) × IsCrowdedOut id (core_seen core.old).store (core_seen core.old).uses }
     ensures looks { LooksOver NothingOf result (λ v. NothingOf) (D.model (core_disk core.old)) (core_seen core.old) (D.model (core_disk core.new)) (core_seen core.new) }
     ensures may { OnOk result (MayTidy (D.model (core_disk core.new)) (core_seen core.new)) }
     ensures one { OnOk result ((core_seen core.new).taken ≡ (core_seen core.old).taken + 1) }

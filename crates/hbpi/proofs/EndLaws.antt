@@ -22,7 +22,8 @@ use Rattle.hb_core.specs.declared.counts.TidyCounts.{TidyCounts}
 use Rattle.hb_tidy.specs.declared.stops.TidyStop.{TidyStop}
 use Rattle.hb_tidy.specs.declared.stops.TidyStop.TheVariants as tidies
 use Rattle.hbpi.specs.Codes.{status_of, tidy_status}
-use Rattle.hbpi.specs.Tidied.{SaysTidied, TidyEnds, tidied_text}
+use Rattle.hbpi.specs.Tidied.{tidied_text}
+use Rattle.hbpi.specs.TidyRuns.{SaysTidied, TidyEnds}
 use Rattle.hbpi.specs.declared.statuses.Damage.{Damage}
 use Rattle.hbpi.specs.declared.statuses.Damage.TheVariants as damages
 use Rattle.hbpi.specs.Runs.{RunEnds}

@@ -36,7 +36,8 @@ use Rattle.hbpi.proofs.Reopened.{counts_before, no_line_yet, pages_of}
 use Rattle.hbpi.specs.Drives.{LeavesLate}
 use Rattle.hbpi.specs.SeenRuns.{IsUnread, Seen, run_of}
 use Rattle.hbpi.specs.Starts.{StartLaws}
-use Rattle.hbpi.specs.Tidied.{EndsForced, FilesTidied, GrewBy, HasContents, HasSameRecords, IsTidied, LeavesTidied, TidiesFile, TidyWhy}
+use Rattle.hbpi.specs.Tidied.{GrewBy, HasContents, HasSameRecords, IsTidied, LeavesTidied}
+use Rattle.hbpi.specs.TidyRuns.{EndsForced, FilesTidied, TidiesFile, TidyWhy}
 
 -- the file after all groups that wait is sound
 last_sound : (s : FileState) (later : List FileState) → IsSound s → AllByRecursion IsSound later → IsSound (last_of s later)
@@ -58,7 +59,7 @@ module _ (s : FileState) (d e : DiskModel) (m new : Machine) (first : Files) (ke
     contents = same_contents;
   }
 
-  is_tidied : (result : Result TidyCounts TidyStop) → ShowsFiles e new → TidyWhy d e new result → FilesTidied m.store.meta result files → IsTidied s e result
+  is_tidied : (result : Result TidyCounts TidyStop) → ShowsFiles e new → TidyWhy d e m new result → FilesTidied m.store.meta result files → IsTidied s e result
   is_tidied (Ok counts) shown why (none, tidy, grew) =
       let same : shown.files ≡ files = cc (shown.told, keeps.keeps.told) in
       let store : StoreKeeps e new.store files.durable files.later = subst (λ (f : Files). StoreKeeps e new.store f.durable f.later) same shown.kept in
@@ -123,7 +124,7 @@ module _ (laws : StartLaws) (d first last : DiskModel) (store : StoreState) (lin
       )) left_here
 
   -- a count that rose behind the opening has risen since before it
-  why_before : (r : Result TidyCounts TidyStop) → TidyWhy first last went.new r → TidyWhy d last went.new r
+  why_before : (r : Result TidyCounts TidyStop) → TidyWhy first last m went.new r → TidyWhy d last m went.new r
   why_before (Ok counts) why = why
   why_before (Err tidies.Full) why = why
   why_before (Err tidies.ReadFault) why = subst (λ (n : ℕ). Rose n last.read_faults) opening.reads why

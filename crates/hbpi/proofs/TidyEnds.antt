@@ -30,7 +30,8 @@ use Rattle.hbpi.specs.Driven.{IsShutOut, IsTurnedAway}
 use Rattle.hbpi.specs.Outcome.{GetsLine, fault_line}
 use Rattle.hbpi.specs.SeenRuns.{IsUnread, Run, Seen, run_of, seen_by}
 use Rattle.hbpi.specs.Starts.{IsNotStarted, IsStarted, StartLaws}
-use Rattle.hbpi.specs.Tidied.{EndsForced, SaysTidied, TidyEnds, TidiesFile, nobody}
+use Rattle.hbpi.specs.Tidied.{nobody}
+use Rattle.hbpi.specs.TidyRuns.{EndsForced, SaysTidied, TidyEnds, TidiesFile}
 use Rattle.hbpi.specs.declared.statuses.Status.{Status}
 
 -- ---- a core that was made for nobody

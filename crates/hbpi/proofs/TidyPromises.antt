@@ -14,7 +14,8 @@ use Rattle.hbpi.proofs.Promises.{not_done}
 use Rattle.hbpi.proofs.SaidWhole.{said_whole, shut_for_memory}
 use Rattle.hbpi.specs.Codes.{tidy_status}
 use Rattle.hbpi.specs.SeenRuns.{HasFailed, Run}
-use Rattle.hbpi.specs.Tidied.{IsTidied, IsTidiedWhole, KeepsTidied, SaysTidied, TidiesFile, TidyEnds, tidied_text}
+use Rattle.hbpi.specs.Tidied.{IsTidied, IsTidiedWhole, KeepsTidied, tidied_text}
+use Rattle.hbpi.specs.TidyRuns.{SaysTidied, TidiesFile, TidyEnds}
 use Rattle.hbpi.specs.declared.statuses.Status.{Status}
 use Rattle.hbpi.specs.declared.statuses.Status.TheVariants.{Done, Full, NoMemory, Spent}
 

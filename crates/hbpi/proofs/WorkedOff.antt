@@ -9,7 +9,7 @@ use Rattle.hb_activity.specs.declared.jobs.JobKind.{JobKind}
 use Rattle.hb_activity.specs.declared.jobs.JobKind.TheVariants.{Post, Merge}
 use Rattle.hb_core.specs.Machines.{Machine}
 use Rattle.hb_core.specs.Showing.{RunningCore, ShowsMachine}
-use Rattle.hb_core.specs.Taking.{jobs_in_work, worker_for}
+use Rattle.hb_core.specs.Taking.{jobs_in_work, jobs_of, worker_for}
 use Rattle.hb_disk.specs.Model.{DiskModel}
 use Rattle.hb_core.specs.declared.endings.End.{End}
 use Rattle.hb_drive.specs.Driving.{DrivesTo}
@@ -17,7 +17,7 @@ use Rattle.hb_outside.specs.Calls.{SinkModel}
 use Rattle.hb_set.specs.declared.scripts.Answered.{Answered}
 use Rattle.hb_run.specs.Running.{IsWorkedOff, RunsTo}
 use Rattle.hb_run.specs.Turning.{in_work, jobs_left}
-use Rattle.hbpi.specs.Driven.{HasNothingLeft, jobs_of}
+use Rattle.hbpi.specs.Driven.{HasNothingLeft}
 
 jobs_shown : (kind : JobKind) (d : DiskModel) (c : RunningCore) (m : Machine) → ShowsMachine d c m → slice_get c.activities (worker_for kind - 1) ≡ Some (m.activity (worker_for kind)) → jobs_of kind m ≡ jobs_left kind c
 jobs_shown kind d c m shows stands =

@@ -1,11 +1,9 @@
 -- What a run of `drive`, `run` or `work` leaves, by its status.
-use Rattle.std.specs.Prelude.{◌≡◌, ◌⊎◌, ℕ, ◌+◌, Bool, true, false, List, [], None, Some, count_by}
-use Rattle.hb_activity.specs.Queue.{is_of}
-use Rattle.hb_activity.specs.declared.jobs.JobKind.{JobKind}
+use Rattle.std.specs.Prelude.{◌≡◌, ◌⊎◌, ℕ, Bool, true, false, List, [], None, Some}
 use Rattle.hb_activity.specs.declared.jobs.JobKind.TheVariants.{Post, Merge}
 use Rattle.hb_core.specs.Machines.{Machine}
 use Rattle.hb_core.specs.Runs.{HasReadFault, left_count}
-use Rattle.hb_core.specs.Taking.{jobs_in_work, worker_for}
+use Rattle.hb_core.specs.Taking.{jobs_of}
 use Rattle.hb_disk.specs.Calls.{OnlyReads}
 use Rattle.hb_disk.specs.Model.{DiskModel}
 use Rattle.hb_drive.specs.Driving.{run_text}
@@ -47,10 +45,6 @@ pub record IsOpened (k : ℕ) (old new : DiskModel) : Type 0 where
   pub opens : OpensStore old new store count
   pub through : RunsThrough store.meta.high old new
   pub leaves : LeavesOpening ⊥ old new
-
--- how many jobs of a kind wait or are in work
-abbrev pub jobs_of : JobKind → Machine → ℕ
-jobs_of kind m = count_by (is_of kind) m.jobs + jobs_in_work (m.activity (worker_for kind))
 
 -- Nothing is left to do: each line has an answer, and no job of either kind waits or is in work.
 pub record HasNothingLeft (m : Machine) : Type 0 where

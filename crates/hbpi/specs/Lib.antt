@@ -16,5 +16,6 @@ pub mod Starts
 pub mod Checked
 pub mod Mapped
 pub mod Tidied
+pub mod TidyRuns
 pub mod Runs
 pub mod Promises

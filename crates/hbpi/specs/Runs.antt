@@ -11,7 +11,7 @@ use Rattle.hbpi.specs.Ends.{DryEnds, GenEnds, UsageEnds}
 use Rattle.hbpi.specs.MadeEnds.{CreateEnds, HasMade}
 use Rattle.hbpi.specs.Mapped.{MapEnds}
 use Rattle.hbpi.specs.SeenRuns.{Run}
-use Rattle.hbpi.specs.Tidied.{TidyEnds}
+use Rattle.hbpi.specs.TidyRuns.{TidyEnds}
 use Rattle.hbpi.specs.declared.forms.Form.{Form}
 use Rattle.hbpi.specs.declared.forms.Form.TheVariants.{Check, Create, Drive, Dry, Gen, Map, Tidy, Work}
 use Rattle.hbpi.specs.declared.forms.Form.TheVariants as forms

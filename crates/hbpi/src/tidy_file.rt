@@ -6,7 +6,7 @@ ghost use Rattle.hb_core.specs.Machines.{Machine};
 ghost use Rattle.hb_core.specs.Working.{MayStep};
 ghost use Rattle.hb_restart.specs.Beyond.{KeepsBeyondFile};
 ghost use Rattle.hb_tidy.specs.Tidying.{AllAtRest, HasTidied};
-ghost use Rattle.hbpi.specs.Tidied.{EndsForced, SaysTidied, TidyEnds};
+ghost use Rattle.hbpi.specs.TidyRuns.{EndsForced, SaysTidied, TidyEnds};
 ghost use Rattle.hbpi.specs.SeenRuns.{run_of, seen_by};
 
 use crate::dry::refused;
@@ -24,11 +24,12 @@ use hb_outside::{Sink, Source};
 use hb_tidy::{TidyStop, tidy};
 use std::alloc::Global;
 
-/// Tidies the file of a core, and forces what waits then, so that every image has it.
+/// Tidies the file of a core that has taken no step, and forces what waits then, so that every image has it.
 fn tidy_core<D: Disk>(alloc: Global, core: &mut Core<D>) -> Result<TidyCounts, TidyStop>
     requires may { (m : Machine) × MayStep (D.model (core_disk core.old)) (core_seen core.old) m × (m.stop ≡ None) }
     requires idle { AllAtRest (core_seen core.old) }
     requires counts { CountsWithin (core_seen core.old) }
+    requires first { (core_seen core.old).taken ≡ 0 }
     ensures tidies { (m : Machine) → MayStep (D.model (core_disk core.old)) (core_seen core.old) m →
         (t : HasTidied (D.model (core_disk core.old)) m (D.model (core_disk core.new)) (core_seen core.new)) × EndsForced (D.model (core_disk core.old)) (D.model (core_disk core.new)) m t.new result }
 {

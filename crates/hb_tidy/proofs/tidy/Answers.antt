@@ -1,14 +1,15 @@
-use Rattle.std.proofs.Common.{◌≡◌, true, sym, ap, ◌∙◌, arith}
+use Rattle.std.proofs.Common.{◌≡◌, Ok, sym, ap, ◌∙◌, arith}
 use Rattle.hb_core.specs.CoreSeen.{core_seen, core_disk}
 use Rattle.hb_core.specs.declared.counts.TidyCounts.{TidyCounts}
 use Rattle.hb_tidy.proofs.Ends.{ends_at_once, ends_by_err, ends_well}
-use Rattle.hb_tidy.proofs.Exits.{goes_value, ok_is, over_value}
-use Rattle.hb_tidy.proofs.Joined.{goes_then, over_goes}
-use Rattle.hb_tidy.proofs.PassParts.{Clean}
+use Rattle.hb_tidy.proofs.Exits.{goes_value, over_value}
+use Rattle.hb_tidy.proofs.Joined.{goes_next, goes_then, over_goes}
+use Rattle.hb_tidy.proofs.PassParts.{Clean, passed_then}
 use Rattle.hb_tidy.proofs.RunsBegun.{goes_none}
+use Rattle.hb_tidy.proofs.ToDo.{later_by_work, none_left}
 use Rattle.hb_tidy.specs.Counted.{added}
 use Rattle.hb_tidy.specs.Finding.{IsTidy}
-use Rattle.hb_tidy.specs.Going.{MayTidy}
+use Rattle.hb_tidy.specs.Going.{Goes, MayTidy}
 use Rattle.hb_tidy.specs.Looking.{NothingOf}
 use Rattle.hb_tidy.proofs.tidy.Goals as goal
 
@@ -43,8 +44,9 @@ returns-in_err-pass-clause-tidies g c = λ m may.
     let d = g.D.Device.model (core_disk c.args.core.now) in
     let mid = g.D.Device.model (core_disk c.loop-core.core) in
     let e = g.D.Device.model (core_disk c.pass.new.core) in
-    ends_by_err c.in_err-pass.field-0.0 c.pass.result c.from_residual.result d e (core_seen c.args.core.now) (core_seen c.pass.new.core) m c.in_err-pass.was c.from_residual.ensures.1
-    (goes_then (tt {0}) c.pass.result d mid e (core_seen c.args.core.now) (core_seen c.loop-core.core) (core_seen c.pass.new.core) c.loop-core.invariant.goes (over_goes c.pass.result (Clean IsTidy) mid e (core_seen c.loop-core.core) (core_seen c.pass.new.core) c.pass.ensures.looks))
+    let new = core_seen c.pass.new.core in
+    ends_by_err c.in_err-pass.field-0.0 c.pass.result c.from_residual.result d e (core_seen c.args.core.now) new m c.in_err-pass.was c.from_residual.ensures.1
+    (goes_then (tt {0}) c.pass.result d mid e (core_seen c.args.core.now) (core_seen c.loop-core.core) new c.loop-core.invariant.goes (over_goes c.pass.result (Clean IsTidy new) mid e (core_seen c.loop-core.core) new c.pass.ensures.looks))
     may
 
 pub returns-then-branch-clause-tidies : goal.returns-then-branch-clause-tidies
@@ -54,9 +56,8 @@ returns-then-branch-clause-tidies g c = λ m may.
     let e = g.D.Device.model (core_disk c.pass.new.core) in
     let old = core_seen c.args.core.now in
     let new = core_seen c.pass.new.core in
-    let clean = ok_is c.pass.result c.in_ok-pass.field-0 true c.in_ok-pass.was c.if-branch.true in
     let is : new.done ≡ added old.done c.rise_of.result = sym c.done.ensures ∙ c.rise_of.ensures ∙ ap (λ (x : TidyCounts). added x c.rise_of.result) c.loop-core.invariant.before in
-    ends_well d mid e old (core_seen c.loop-core.core) new c.rise_of.result c.loop-core.invariant.goes (over_value NothingOf true c.pass.result (Clean IsTidy) mid e (core_seen c.loop-core.core) new clean c.pass.ensures.looks) c.in_ok-pass.ensures.may is m may
+    ends_well d mid e old (core_seen c.loop-core.core) new c.rise_of.result c.loop-core.invariant.goes (over_value NothingOf (tt {0}) c.pass.result (Clean IsTidy new) mid e (core_seen c.loop-core.core) new c.in_ok-pass.was c.pass.ensures.looks) c.in_ok-pass.ensures.may none is m may
 
 pub returns-in_err-work_off-clause-tidies : goal.returns-in_err-work_off-clause-tidies
 returns-in_err-work_off-clause-tidies g c = λ m may.
@@ -64,9 +65,10 @@ returns-in_err-work_off-clause-tidies g c = λ m may.
     let mid = g.D.Device.model (core_disk c.loop-core.core) in
     let e = g.D.Device.model (core_disk c.pass.new.core) in
     let f = g.D.Device.model (core_disk c.work_off.new.core) in
-    let passed = goes_then (tt {0}) c.pass.result d mid e (core_seen c.args.core.now) (core_seen c.loop-core.core) (core_seen c.pass.new.core) c.loop-core.invariant.goes (over_goes c.pass.result (Clean IsTidy) mid e (core_seen c.loop-core.core) (core_seen c.pass.new.core) c.pass.ensures.looks) in
-    ends_by_err c.in_err-work_off.field-0.0 c.work_off.result c.from_residual-in_err-work_off.result d f (core_seen c.args.core.now) (core_seen c.work_off.new.core) m c.in_err-work_off.was c.from_residual-in_err-work_off.ensures.1
-    (goes_then c.in_ok-pass.field-0 c.work_off.result d e f (core_seen c.args.core.now) (core_seen c.pass.new.core) (core_seen c.work_off.new.core) (goes_value c.in_ok-pass.field-0 c.pass.result d e (core_seen c.args.core.now) (core_seen c.pass.new.core) c.in_ok-pass.was passed) c.work_off.ensures.goes)
+    let old = core_seen c.args.core.now in
+    let passed = passed_then (tt {0}) c.pass.result d mid e old (core_seen c.loop-core.core) (core_seen c.pass.new.core) c.loop-core.invariant.goes c.pass.ensures.looks c.in_ok-pass.was in
+    ends_by_err c.in_err-work_off.field-0.0 c.work_off.result c.from_residual-in_err-work_off.result d f old (core_seen c.work_off.new.core) m c.in_err-work_off.was c.from_residual-in_err-work_off.ensures.1
+    (goes_then (tt {0}) c.work_off.result d e f old (core_seen c.pass.new.core) (core_seen c.work_off.new.core) passed c.work_off.ensures.goes)
     may
 
 pub returns-in_err-work_off-2-clause-tidies : goal.returns-in_err-work_off-2-clause-tidies
@@ -76,10 +78,11 @@ returns-in_err-work_off-2-clause-tidies g c = λ m may.
     let e = g.D.Device.model (core_disk c.pass.new.core) in
     let f = g.D.Device.model (core_disk c.work_off.new.core) in
     let h = g.D.Device.model (core_disk c.work_off-in-loop-core.new.core) in
-    let passed = goes_then (tt {0}) c.pass.result d mid e (core_seen c.args.core.now) (core_seen c.loop-core.core) (core_seen c.pass.new.core) c.loop-core.invariant.goes (over_goes c.pass.result (Clean IsTidy) mid e (core_seen c.loop-core.core) (core_seen c.pass.new.core) c.pass.ensures.looks) in
-    let posted = goes_then c.in_ok-pass.field-0 c.work_off.result d e f (core_seen c.args.core.now) (core_seen c.pass.new.core) (core_seen c.work_off.new.core) (goes_value c.in_ok-pass.field-0 c.pass.result d e (core_seen c.args.core.now) (core_seen c.pass.new.core) c.in_ok-pass.was passed) c.work_off.ensures.goes in
-    ends_by_err c.in_err-work_off-2.field-0.0 c.work_off-in-loop-core.result c.from_residual-in_err-work_off-2.result d h (core_seen c.args.core.now) (core_seen c.work_off-in-loop-core.new.core) m c.in_err-work_off-2.was c.from_residual-in_err-work_off-2.ensures.1
-    (goes_then (tt {0}) c.work_off-in-loop-core.result d f h (core_seen c.args.core.now) (core_seen c.work_off.new.core) (core_seen c.work_off-in-loop-core.new.core) (goes_value (tt {0}) c.work_off.result d f (core_seen c.args.core.now) (core_seen c.work_off.new.core) c.in_ok-work_off.was posted) c.work_off-in-loop-core.ensures.goes)
+    let old = core_seen c.args.core.now in
+    let passed = passed_then (tt {0}) c.pass.result d mid e old (core_seen c.loop-core.core) (core_seen c.pass.new.core) c.loop-core.invariant.goes c.pass.ensures.looks c.in_ok-pass.was in
+    let posted = goes_next (tt {0}) c.work_off.result d e f old (core_seen c.pass.new.core) (core_seen c.work_off.new.core) passed c.work_off.ensures.goes c.in_ok-work_off.was in
+    ends_by_err c.in_err-work_off-2.field-0.0 c.work_off-in-loop-core.result c.from_residual-in_err-work_off-2.result d h old (core_seen c.work_off-in-loop-core.new.core) m c.in_err-work_off-2.was c.from_residual-in_err-work_off-2.ensures.1
+    (goes_then (tt {0}) c.work_off-in-loop-core.result d f h old (core_seen c.work_off.new.core) (core_seen c.work_off-in-loop-core.new.core) posted c.work_off-in-loop-core.ensures.goes)
     may
 
 pub loop-core-preserved : goal.loop-core-preserved
@@ -89,11 +92,11 @@ loop-core-preserved g c =
     let e = g.D.Device.model (core_disk c.pass.new.core) in
     let f = g.D.Device.model (core_disk c.work_off.new.core) in
     let h = g.D.Device.model (core_disk c.work_off-in-loop-core.new.core) in
-    let passed = goes_then (tt {0}) c.pass.result d mid e (core_seen c.args.core.now) (core_seen c.loop-core.core) (core_seen c.pass.new.core) c.loop-core.invariant.goes (over_goes c.pass.result (Clean IsTidy) mid e (core_seen c.loop-core.core) (core_seen c.pass.new.core) c.pass.ensures.looks) in
-    let posted = goes_then c.in_ok-pass.field-0 c.work_off.result d e f (core_seen c.args.core.now) (core_seen c.pass.new.core) (core_seen c.work_off.new.core) (goes_value c.in_ok-pass.field-0 c.pass.result d e (core_seen c.args.core.now) (core_seen c.pass.new.core) c.in_ok-pass.was passed) c.work_off.ensures.goes in
+    let old = core_seen c.args.core.now in
+    let passed = passed_then (tt {0}) c.pass.result d mid e old (core_seen c.loop-core.core) (core_seen c.pass.new.core) c.loop-core.invariant.goes c.pass.ensures.looks c.in_ok-pass.was in
+    let posted = goes_next (tt {0}) c.work_off.result d e f old (core_seen c.pass.new.core) (core_seen c.work_off.new.core) passed c.work_off.ensures.goes c.in_ok-work_off.was in
     record {
-      goes = goes_value (tt {0}) c.work_off-in-loop-core.result d h (core_seen c.args.core.now) (core_seen c.work_off-in-loop-core.new.core) c.in_ok-work_off-2.was
-          (goes_then (tt {0}) c.work_off-in-loop-core.result d f h (core_seen c.args.core.now) (core_seen c.work_off.new.core) (core_seen c.work_off-in-loop-core.new.core) (goes_value (tt {0}) c.work_off.result d f (core_seen c.args.core.now) (core_seen c.work_off.new.core) c.in_ok-work_off.was posted) c.work_off-in-loop-core.ensures.goes);
+      goes = goes_next (tt {0}) c.work_off-in-loop-core.result d f h old (core_seen c.work_off.new.core) (core_seen c.work_off-in-loop-core.new.core) posted c.work_off-in-loop-core.ensures.goes c.in_ok-work_off-2.was;
       may = c.in_ok-work_off-2.ensures.may;
       before = c.loop-core.invariant.before;
     }

@@ -67,3 +67,6 @@ returns-in_err-flush-in-None-clause-looks g c =
     (λ s known said. tt)
     (over_exit NothingOf c.in_err-flush-in-None.field-0.0 c.flush.result c.from_residual-in_err-flush-in-None.result (λ v. NothingOf) Is e f (core_seen c.look_once.new.core) (core_seen c.flush.new.core) c.in_err-flush-in-None.was c.from_residual-in_err-flush-in-None.ensures.1 c.flush.ensures.looks)
     (λ s w known said more. more)
+
+pub flush-requires-clause-crowded : goal.flush-requires-clause-crowded
+flush-requires-clause-crowded g c = (c.args.id, c.in_ok-page.ensures.crowded c.in-None.is)

@@ -1,10 +1,9 @@
-use Rattle.std.proofs.Common.{◌≡◌, List, [], All, sym, ◌∙◌, arith, subst}
+use Rattle.std.proofs.Common.{◌≡◌, List, [], All, sym, ◌∙◌, subst}
 use Rattle.hb_activity.specs.declared.jobs.Job.{Job}
 use Rattle.hb_layout.specs.declared.meta.Meta.{Meta}
 use Rattle.hb_core.specs.CoreSeen.{core_seen, core_disk}
 use Rattle.hb_core.specs.KeptFits.{JobFits}
 use Rattle.hb_tidy.proofs.Exits.{over_exit, over_value}
-use Rattle.hb_tidy.proofs.JobLists.{no_items}
 use Rattle.hb_tidy.proofs.PassParts.{waits_then}
 use Rattle.hb_tidy.specs.Finding.{IsTidyAt}
 use Rattle.hb_tidy.specs.Looking.{NothingOf}
@@ -25,7 +24,7 @@ returns-clause-looks g c =
     let d = g.D.Device.model (core_disk c.args.core.now) in
     let e = g.D.Device.model (core_disk c.jobs_at.new.core) in
     let f = g.D.Device.model (core_disk c.wait_for_all.new.core) in
-    waits_then c.in_ok-jobs.jobs (λ v. v.items ≡ []) (λ s. IsTidyAt s c.args.id) c.is_empty.result d e f (core_seen c.args.core.now) (core_seen c.jobs_at.new.core) (core_seen c.wait_for_all.new.core)
-    (λ is. no_items c.in_ok-jobs.jobs.items _ (omega (arith, c.in_ok-jobs.jobs.ok.0)) (sym c.is_empty.ensures ∙ is))
+    waits_then c.in_ok-jobs.jobs (λ v. v.items ≡ []) (λ s. IsTidyAt s c.args.id) d e f (core_seen c.args.core.now) (core_seen c.jobs_at.new.core) (core_seen c.wait_for_all.new.core)
+    (λ none. sym c.as_slice.ensures.value ∙ c.wait_for_all.ensures.some none)
     (over_value NothingOf c.in_ok-jobs.jobs c.jobs_at.result _ d e (core_seen c.args.core.now) (core_seen c.jobs_at.new.core) c.in_ok-jobs.was c.jobs_at.ensures.looks)
     c.wait_for_all.ensures.looks

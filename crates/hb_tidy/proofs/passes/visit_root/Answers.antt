@@ -54,4 +54,4 @@ returns-in-None-clause-looks g c =
     let e = g.D.Device.model (core_disk c.named_page.new.core) in
     let f = g.D.Device.model (core_disk c.owe_growth.new.core) in
     found_then c.in_ok-page.field-0 _ HasGrown d e f (core_seen c.args.core.now) (core_seen c.named_page.new.core) (core_seen c.owe_growth.new.core)
-    (over_value NothingOf c.in_ok-page.field-0 c.named_page.result _ d e (core_seen c.args.core.now) (core_seen c.named_page.new.core) c.in_ok-page.was c.named_page.ensures.looks) c.owe_growth.ensures.looks
+    (over_value NothingOf c.in_ok-page.field-0 c.named_page.result _ d e (core_seen c.args.core.now) (core_seen c.named_page.new.core) c.in_ok-page.was c.named_page.ensures.looks) c.owe_growth.ensures.looks c.owe_growth.ensures.some

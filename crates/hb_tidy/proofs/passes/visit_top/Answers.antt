@@ -10,7 +10,7 @@ use Rattle.hb_tidy.proofs.passes.visit_top.Goals as goal
 
 pub returns-in_err-given-clause-looks : goal.returns-in_err-given-clause-looks
 returns-in_err-given-clause-looks g c =
-    over_refused (λ s. live_page s s.meta.root ≡ Some c.args.page.now) c.from_residual.result (Clean HasLoneRoot) (g.D.Device.model (core_disk c.args.core.now)) (core_seen c.args.core.now)
+    over_refused (λ s. live_page s s.meta.root ≡ Some c.args.page.now) c.from_residual.result (Clean HasLoneRoot (core_seen c.args.core.now)) (g.D.Device.model (core_disk c.args.core.now)) (core_seen c.args.core.now)
     (g.met.D.Device.is_disk (core_disk c.args.core.now)) c.requires.may c.from_residual.ensures.1
 
 pub returns-then-is_empty-clause-looks : goal.returns-then-is_empty-clause-looks
@@ -21,9 +21,11 @@ returns-then-is_empty-clause-looks g c =
 pub returns-then-meta-clause-looks : goal.returns-then-meta-clause-looks
 returns-then-meta-clause-looks g c =
     let some : siblings_of c.args.page.now ≡ [] → ⊥ = λ none. some_items c.in_ok-given.given.items _ (omega (arith, c.in_ok-given.given.ok.0)) (sym c.is_empty.ensures ∙ c.if-is_empty.false) (c.in_ok-given.ensures.leaves ∙ none) in
-    over_full (λ s. live_page s s.meta.root ≡ Some c.args.page.now) (Clean HasLoneRoot) (g.D.Device.model (core_disk c.args.core.now)) (core_seen c.args.core.now) (g.met.D.Device.is_disk (core_disk c.args.core.now)) c.requires.may
-    (λ s file known. wants_growth (core_seen c.args.core.now) s c.args.page.now file known some c.requires.low (search rules))
+    let old = core_seen c.args.core.now in
+    let none : old.store.meta.live ≡ old.store.meta.pages = search rules in
+    over_full (λ s. live_page s s.meta.root ≡ Some c.args.page.now) (Clean HasLoneRoot old) (g.D.Device.model (core_disk c.args.core.now)) old (g.met.D.Device.is_disk (core_disk c.args.core.now)) c.requires.may none
+    (λ s file known. wants_growth old s c.args.page.now file known some c.requires.low none)
 
 pub returns-clause-looks : goal.returns-clause-looks
 returns-clause-looks g c =
-    found_here (λ s. live_page s s.meta.root ≡ Some c.args.page.now) HasLoneRoot (g.D.Device.model (core_disk c.args.core.now)) (g.D.Device.model (core_disk c.owe_growth.new.core)) (core_seen c.args.core.now) (core_seen c.owe_growth.new.core) c.owe_growth.ensures.looks
+    found_here (λ s. live_page s s.meta.root ≡ Some c.args.page.now) HasLoneRoot (g.D.Device.model (core_disk c.args.core.now)) (g.D.Device.model (core_disk c.owe_growth.new.core)) (core_seen c.args.core.now) (core_seen c.owe_growth.new.core) c.owe_growth.ensures.looks c.owe_growth.ensures.some

@@ -1,6 +1,7 @@
-use Rattle.std.proofs.Common.{Ok, refl, ◌∙◌}
+use Rattle.std.proofs.Common.{Ok, refl, ◌∙◌, arith}
 use Rattle.hb_core.specs.CoreSeen.{core_seen, core_disk}
 use Rattle.hb_tidy.proofs.Joined.{over_then}
+use Rattle.hb_tidy.proofs.JobLists.{no_first}
 use Rattle.hb_tidy.proofs.RunsBegun.{over_none}
 use Rattle.hb_tidy.specs.Looking.{NothingOf}
 use Rattle.hb_tidy.proofs.passes.wait_for_all.Goals as goal
@@ -10,6 +11,7 @@ loop-job-init g c = record {
   looks = over_none (g.D.Device.model (core_disk c.args.core.now)) (core_seen c.args.core.now) (g.met.D.Device.is_disk (core_disk c.args.core.now)) c.requires.may;
   may = c.requires.may;
   meta = refl;
+  some = λ none. refl;
 }
 
 pub loop-job-preserved : goal.loop-job-preserved
@@ -20,4 +22,8 @@ loop-job-preserved g c = record {
       c.loop-job.invariant.looks (λ s known said. tt) c.wait_for.ensures.looks (λ s w known said more. tt);
   may = c.wait_for.ensures.may;
   meta = c.wait_for.ensures.meta ∙ c.loop-job.invariant.meta;
+  some = λ none. absurd (c.wait_for.ensures.some none);
 }
+
+pub returns-clause-some : goal.returns-clause-some
+returns-clause-some g c = λ none. no_first c.args.jobs.now c.loop-job.job-index (omega arith) (c.loop-job.invariant.some none)

@@ -1,8 +1,8 @@
-use Rattle.std.proofs.Common.{inr, refl}
 use Rattle.hb_core.specs.Between.{said_of_flush}
 use Rattle.hb_core.specs.CoreSeen.{core_seen, core_disk}
-use Rattle.hb_tidy.proofs.CallsMade.{Stepped, flush_looks, step_may}
+use Rattle.hb_tidy.proofs.CallsMade.{flush_looks, step_may}
 use Rattle.hb_tidy.proofs.CountsOfCalls.{flush_rises}
+use Rattle.hb_tidy.proofs.WorkerSteps.{flush_took}
 use Rattle.hb_tidy.proofs.stepping.flush.Goals as goal
 
 pub returns-clause-looks : goal.returns-clause-looks
@@ -11,16 +11,11 @@ returns-clause-looks g c =
     let e = g.D.Device.model (core_disk c.help-flushed.new.self) in
     let old = core_seen c.args.core.now in
     let new = core_seen c.help-flushed.new.self in
+    let told = c.help-flushed.ensures in
+    let may = c.requires.may in
     let outcome = said_of_flush c.help-flushed.result in
-    let took : Stepped d old 19 outcome e new = record {
-      disk = g.met.D.Device.is_disk (core_disk c.args.core.now);
-      disk_next = g.met.D.Device.is_disk (core_disk c.help-flushed.new.self);
-      worker = inr (inr refl);
-      steps = c.help-flushed.ensures.steps;
-      touches = c.help-flushed.ensures.touches;
-    } in
-    flush_looks d old outcome e new took c.requires c.went_on.result c.went_on.ensures
-    (flush_rises c.requires.laws.counts old new c.help-flushed.ensures.counts c.requires.counts c.requires.left) c.help-flushed.ensures.counts.no_op.meta
+    let took = flush_took d old outcome e new (g.met.D.Device.is_disk (core_disk c.args.core.now)) (g.met.D.Device.is_disk (core_disk c.help-flushed.new.self)) may told.steps told.touches told.counts c.requires.crowded in
+    flush_looks d old outcome e new took may c.went_on.result c.went_on.ensures (flush_rises may.laws.counts old new told.counts may.counts may.left) told.counts.no_op.meta
 
 pub returns-clause-may : goal.returns-clause-may
 returns-clause-may g c =
@@ -28,13 +23,8 @@ returns-clause-may g c =
     let e = g.D.Device.model (core_disk c.help-flushed.new.self) in
     let old = core_seen c.args.core.now in
     let new = core_seen c.help-flushed.new.self in
+    let told = c.help-flushed.ensures in
+    let may = c.requires.may in
     let outcome = said_of_flush c.help-flushed.result in
-    let took : Stepped d old 19 outcome e new = record {
-      disk = g.met.D.Device.is_disk (core_disk c.args.core.now);
-      disk_next = g.met.D.Device.is_disk (core_disk c.help-flushed.new.self);
-      worker = inr (inr refl);
-      steps = c.help-flushed.ensures.steps;
-      touches = c.help-flushed.ensures.touches;
-    } in
-    step_may d old 19 outcome e new took c.requires c.went_on.result c.went_on.ensures
-    (flush_rises c.requires.laws.counts old new c.help-flushed.ensures.counts c.requires.counts c.requires.left)
+    let took = flush_took d old outcome e new (g.met.D.Device.is_disk (core_disk c.args.core.now)) (g.met.D.Device.is_disk (core_disk c.help-flushed.new.self)) may told.steps told.touches told.counts c.requires.crowded in
+    step_may d old 19 outcome e new took may c.went_on.result c.went_on.ensures (flush_rises may.laws.counts old new told.counts may.counts may.left)

@@ -1,15 +1,14 @@
-use Rattle.std.proofs.Common.{◌⊎◌, ◌≡◌, ◌≤◌, ◌-◌, ◌^◌, Ok}
+use Rattle.std.proofs.Common.{◌⊎◌, ◌≡◌, ◌<◌, ◌-◌, ◌^◌, Ok}
 use Rattle.hb_core.specs.CoreSeen.{core_seen, core_disk}
 use Rattle.hb_tidy.specs.Going.{Goes, MayTidy}
 use Rattle.hb_tidy.proofs.stepping.work_off.Given as goal
 
--- the steps so far
+-- the steps so far, where any was taken
 abbrev pub invariant-loop-core : goal.invariant-loop-core
 invariant-loop-core g l = record {
   goes : Goes {T = Unit {0}} (Ok (tt {0})) (g.D.Device.model (core_disk l.fn.core)) (core_seen l.fn.core) (g.D.Device.model (core_disk l.core)) (core_seen l.core);
   may : MayTidy (g.D.Device.model (core_disk l.core)) (core_seen l.core);
-  worker : (l.worker ≡ 17) ⊎ (l.worker ≡ 18);
-  later : l.fn.core.taken ≤ l.core.taken;
+  more : (l.fn.core.taken < l.core.taken) ⊎ (l.core ≡ l.fn.core);
 }
 
 abbrev pub decreases-loop-core : goal.decreases-loop-core

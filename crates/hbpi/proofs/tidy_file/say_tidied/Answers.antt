@@ -2,7 +2,7 @@ use Rattle.std.proofs.Common.{List, ℕ, Result, Ok, sym, subst, ◌∙◌}
 use Rattle.hb_core.specs.declared.counts.TidyCounts.{TidyCounts}
 use Rattle.hb_tidy.specs.declared.stops.TidyStop.{TidyStop}
 use Rattle.hbpi.specs.Saying.{IsSaid}
-use Rattle.hbpi.specs.Tidied.{SaysTidied}
+use Rattle.hbpi.specs.TidyRuns.{SaysTidied}
 use Rattle.hbpi.proofs.tidy_file.say_tidied.Goals as goal
 
 pub returns-in-Ok-clause-said : goal.returns-in-Ok-clause-said

@@ -1,0 +1,111 @@
+-- Jobs that are left, and the worker that has them to do.
+use Rattle.std.proofs.Common.{◌≡◌, ◌⊎◌, inl, inr, ℕ, ◌+◌, ◌<◌, ◌≤◌, Bool, true, false, cond, List, [], ◌∷◌, ◌++◌, length, refl, sym, ap, ◌∙◌, subst, arith, length-append}
+use Rattle.std.specs.Prelude.{count_by}
+use Rattle.std.specs.List.{Contains}
+use Rattle.std.proofs.lemmas.List.Elements.{Contains-append_right, Contains-push}
+use Rattle.hb_activity.specs.Classes.{class_of}
+use Rattle.hb_activity.specs.Queue.{AddsJob, is_of}
+use Rattle.hb_activity.specs.declared.activities.Activity.{Activity}
+use Rattle.hb_activity.specs.declared.activities.Activity.TheVariants as at
+use Rattle.hb_activity.specs.declared.jobs.Job.{Job}
+use Rattle.hb_activity.specs.declared.jobs.JobKind.{JobKind}
+use Rattle.hb_activity.specs.declared.jobs.JobKind.TheVariants.{Merge, Post}
+use Rattle.hb_activity.specs.declared.waiting_jobs.TheConstants.{JOBS}
+use Rattle.hb_core.specs.KeptFits.{class_for}
+use Rattle.hb_core.specs.KeptMachine.{MachineKeeps}
+use Rattle.hb_core.specs.Machines.{Machine}
+use Rattle.hb_core.specs.ProgressLaws.{HasToDo}
+use Rattle.hb_core.specs.SteppingLaws.{IsAtRest}
+use Rattle.hb_core.specs.Taking.{jobs_in_work, jobs_of, worker_for}
+use Rattle.hb_tidy.specs.Working.{HasCause}
+
+-- ---- a queue in which a job of a kind is counted
+
+of_kind : (kind : JobKind) (job : Job) → is_of kind job ≡ true → job.kind ≡ kind
+of_kind kind job is = by kind job.kind is
+  where
+    by : (k l : JobKind) → is_of k (record job { kind = l }) ≡ true → l ≡ k
+    by Post Post is = refl
+    by Merge Merge is = refl
+    by Post Merge is = cc (is)
+    by Merge Post is = cc (is)
+
+counted_one : (kind : JobKind) (jobs : List Job) → 0 < count_by (is_of kind) jobs → (job : Job) × Contains jobs job × (job.kind ≡ kind)
+counted_one kind [] some = absurd (omega (arith, some))
+counted_one kind (job ∷ rest) some = elim (is_of kind job) as (λ b. (is_of kind job ≡ b) → (j : Job) × Contains (job ∷ rest) j × (j.kind ≡ kind)) [
+  | true ↦ λ is. (job, Contains-push [] job, of_kind kind job is)
+  | false ↦ λ is.
+      let more : count_by (is_of kind) (job ∷ rest) ≡ count_by (is_of kind) rest = ap (λ (b : Bool). cond b 1 0 + count_by (is_of kind) rest) is in
+      let later = counted_one kind rest (omega (arith, more, some)) in
+      (later.0, Contains-append_right (job ∷ []) rest later.0 later.1, later.2)
+] refl
+
+-- none is counted of either kind, so none waits
+pub none_left : (m : Machine) → jobs_of Post m ≡ 0 → jobs_of Merge m ≡ 0 → m.jobs ≡ []
+none_left m posts merges = by m.jobs (let few = posts in omega (arith, few)) (let few = merges in omega (arith, few))
+  where
+    by : (jobs : List Job) → count_by (is_of Post) jobs ≡ 0 → count_by (is_of Merge) jobs ≡ 0 → jobs ≡ []
+    by [] post merge = refl
+    by (job ∷ rest) post merge = absurd (one job.kind refl)
+      where
+        one : (kind : JobKind) → job.kind ≡ kind → ⊥
+        one Post is = let here : is_of Post job ≡ true = cc (is) in let all : count_by (is_of Post) (job ∷ rest) ≡ 1 + count_by (is_of Post) rest = ap (λ (b : Bool). cond b 1 0 + count_by (is_of Post) rest) here in omega (arith, all, post)
+        one Merge is = let here : is_of Merge job ≡ true = cc (is) in let all : count_by (is_of Merge) (job ∷ rest) ≡ 1 + count_by (is_of Merge) rest = ap (λ (b : Bool). cond b 1 0 + count_by (is_of Merge) rest) here in omega (arith, all, merge)
+
+-- ---- a worker for which a job is left
+
+no_more : (n k : ℕ) → k ≡ 0 → 0 < n + k → 0 < n
+no_more n k none some = omega (arith, none, some)
+
+module _ (m : Machine) (kept : MachineKeeps m) where
+  waits_for : (kind : JobKind) → jobs_in_work (m.activity (worker_for kind)) ≡ 0 → 0 < jobs_of kind m → (job : Job) × Contains m.jobs job × (job.kind ≡ kind)
+  waits_for kind rests some = counted_one kind m.jobs (no_more (count_by (is_of kind) m.jobs) (jobs_in_work (m.activity (worker_for kind))) rests some)
+
+  -- no worker stands as an actor of another class
+  never_so : {G : Type 0} (actor : ℕ) (a : Activity) → m.activity actor ≡ a → (class_of a ≡ class_for actor → ⊥) → G
+  never_so actor a is other = absurd (other (sym (ap class_of is) ∙ kept.classes actor))
+
+  to_post : 0 < jobs_of Post m → (a : Activity) → m.activity 17 ≡ a → HasToDo m 17
+  to_post some at.PosterIdle is = inr (inr (inl (is, waits_for Post (ap jobs_in_work is) some)))
+  to_post some at.SessionIdle is = never_so 17 at.SessionIdle is (λ same. cc)
+  to_post some at.ConsolidatorIdle is = never_so 17 at.ConsolidatorIdle is (λ same. cc)
+  to_post some at.Flusher is = never_so 17 at.Flusher is (λ same. cc)
+  to_post some other is = inl (subst (λ (a : Activity). ¬ (IsAtRest a)) (sym is) (λ never. never))
+
+  to_merge : 0 < jobs_of Merge m → (a : Activity) → m.activity 18 ≡ a → HasToDo m 18
+  to_merge some at.ConsolidatorIdle is = inr (inr (inr (is, waits_for Merge (ap jobs_in_work is) some)))
+  to_merge some at.SessionIdle is = never_so 18 at.SessionIdle is (λ same. cc)
+  to_merge some at.PosterIdle is = never_so 18 at.PosterIdle is (λ same. cc)
+  to_merge some at.Flusher is = never_so 18 at.Flusher is (λ same. cc)
+  to_merge some other is = inl (subst (λ (a : Activity). ¬ (IsAtRest a)) (sym is) (λ never. never))
+
+  pub has_cause : (kind : JobKind) → 0 < jobs_of kind m → HasCause m (worker_for kind)
+  has_cause Post some = inl (inl refl, to_post some (m.activity 17) refl)
+  has_cause Merge some = inl (inr refl, to_merge some (m.activity 18) refl)
+
+-- ---- a job that joins the queue
+
+no_more_room : (n : ℕ) → JOBS ≤ n → n ≡ 0 → ⊥
+no_more_room n full none = omega (arith, full, none)
+
+-- Some job waits then.
+pub adds_some : (job : Job) (old new : List Job) → AddsJob job old new → new ≡ [] → ⊥
+adds_some job old new (inl (among, same)) none = never (subst (λ (jobs : List Job). Contains jobs job) (sym same ∙ none) among)
+  where
+    never : Contains [] job → ⊥
+    never (k, x, lt, at, is) = omega (arith, lt)
+adds_some job old new (inr (inl (apart, room, is))) none =
+    let long = length-append {A = Job} old (job ∷ []) in
+    let empty = ap (λ (jobs : List Job). length jobs) (sym is ∙ none) in
+    omega (arith, long, empty)
+adds_some job old new (inr (inr (apart, full, same))) none = no_more_room (length old) full (ap (λ (jobs : List Job). length jobs) (sym same ∙ none))
+
+-- ---- turns of a loop that works jobs off
+
+pub some_counted : (n k : ℕ) → (n != 0) ≡ true → n ≡ k → 0 < k
+some_counted n k some is = let more = nat_ne_zero n some in omega (arith, more, is)
+
+-- a step was taken, whether any was before or not
+pub later_still : {C : Type 0} (seen : C → RunningCore) (first mid : C) (taken : ℕ) → ((seen first).taken < (seen mid).taken) ⊎ (mid ≡ first) → taken ≡ (seen mid).taken + 1 → (seen first).taken < taken
+later_still seen first mid taken (inl more) one = omega (arith, more, one)
+later_still seen first mid taken (inr same) one = let as_many = ap (λ (c : _). (seen c).taken) same in omega (arith, as_many, one)
