@@ -1,6 +1,7 @@
 -- What other crates cite of the core: what one step tells, what many steps come to, and a core that has taken none.
 pub mod PrefixImages
 pub mod LogAndStop
+pub mod GivenUpLaws
 pub mod AnswersGiven
 pub mod LinesLeft
 pub mod RunFaults

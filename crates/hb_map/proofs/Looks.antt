@@ -1,37 +1,23 @@
 -- Looks at pages one after the other, and what is said of the file and of a stop, seen from before.
-use Rattle.std.proofs.Common.{◌≡◌, ℕ, List, refl, ◌∙◌, subst, sym}
+use Rattle.std.proofs.Common.{◌≡◌, ℕ, List, subst, sym}
 use Rattle.hb_disk.specs.Model.{DiskModel}
 use Rattle.hb_disk.proofs.Facts.FaultLaws.{ReadsOnly-none, ReadsOnly-then}
 use Rattle.hb_layout.specs.declared.meta.Meta.{Meta}
 use Rattle.hb_ops.specs.Files.{FileState}
-use Rattle.hb_store.specs.Calls.{KeepsAllButPages}
 use Rattle.hb_store.specs.Held.{StoreHeld}
-use Rattle.hb_store.specs.States.{StoreState}
 use Rattle.hb_store.proofs.Facts.LookLaws.{LooksUp-as}
+use Rattle.hb_store.proofs.Facts.PageOnlyLaws.{KeepsAllButPages-none, KeepsAllButPages-then}
 use Rattle.hb_map.specs.declared.stops.MapStop.{MapStop}
 use Rattle.hb_map.specs.Mapping.{LooksThrough, MayAllGo, NamesPage, OfSoundFile, StopsRightly}
 
-pub rest_same : (st : StoreState) → KeepsAllButPages st st
-rest_same st = record { turn = refl; meta = refl; log = refl; in_log = refl; dirty = refl; stopped = refl }
-
-rest_then : (a b c : StoreState) → KeepsAllButPages a b → KeepsAllButPages b c → KeepsAllButPages a c
-rest_then a b c one two = record {
-  turn = two.turn ∙ one.turn;
-  meta = two.meta ∙ one.meta;
-  log = two.log ∙ one.log;
-  in_log = two.in_log ∙ one.in_log;
-  dirty = two.dirty ∙ one.dirty;
-  stopped = two.stopped ∙ one.stopped;
-}
-
 -- no look, and one look more behind those that didn't fail
 pub looks_none : {F : Type 0} (d : DiskModel) (a : StoreHeld) → (F → ⊥) → MayAllGo a.uses → LooksThrough F d d a a
-looks_none d a good go = record { looks = record { only = ReadsOnly-none d good; keeps = λ durable later keeps. keeps }; rest = rest_same a.state; may_go = go }
+looks_none d a good go = record { looks = record { only = ReadsOnly-none d good; keeps = λ durable later keeps. keeps }; rest = KeepsAllButPages-none a.state; may_go = go }
 
 pub looks_then : {F G : Type 0} (d e f : DiskModel) (a b c : StoreHeld) → (F → ⊥) → LooksThrough F d e a b → LooksThrough G e f b c → LooksThrough G d f a c
 looks_then d e f a b c good one two = record {
   looks = record { only = ReadsOnly-then d e f good one.looks.only two.looks.only; keeps = λ durable later keeps. two.looks.keeps durable later (one.looks.keeps durable later keeps) };
-  rest = rest_then a.state b.state c.state one.rest two.rest;
+  rest = KeepsAllButPages-then a.state b.state c.state one.rest two.rest;
   may_go = two.may_go;
 }
 

@@ -2,6 +2,9 @@ pub mod FreshLaws
 pub mod ReplayLaws
 pub mod ReplayLists
 pub mod StayingLaws
+pub mod StayedDisks
+pub mod PageOnlyLaws
+pub mod MarkLaws
 pub mod StoreLaws
 pub mod Spellings
 pub mod FilePages

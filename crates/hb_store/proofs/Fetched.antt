@@ -1,11 +1,10 @@
 -- A page that a fetch brings into memory is the file's.
-use Rattle.std.proofs.Common.{◌≡◌, ◌≢◌, inl, inr, ℕ, ◌+◌, ◌-◌, ◌*◌, ◌≤◌, ◌++◌, false, List, length, take, drop, Option, Some, None, Result, Ok, Err, refl, sym, ap, subst, ◌∙◌, arith}
-use Rattle.std.specs.Prelude.{replicate, IfErr, IfSome, IsSome, IsSomeAnd}
+use Rattle.std.proofs.Common.{◌≡◌, ◌≢◌, inl, inr, ℕ, ◌+◌, ◌-◌, ◌*◌, ◌≤◌, false, List, length, take, drop, Option, Some, None, Result, Ok, Err, refl, sym, ap, subst, ◌∙◌, arith}
+use Rattle.std.specs.Prelude.{IfErr, IfSome, IsSome, IsSomeAnd}
 use Rattle.std.specs.Option.{is_some, option_map, option_map_or}
 use Rattle.std.proofs.lemmas.Bool.{cases_eq}
 use Rattle.hb_space.specs.declared.form.TheConstants.{PAGE}
 use Rattle.hb_disk.specs.Model.{DiskModel, IsDisk, Stays}
-use Rattle.hb_disk.specs.Calls.{IsSynced}
 use Rattle.hb_lemmas.proofs.Options.{some_value}
 use Rattle.hb_frag.specs.declared.pages.LivePage.{LivePage}
 use Rattle.hb_frag.specs.declared.pages.Page.{Page}
@@ -14,7 +13,6 @@ use Rattle.hb_frag.specs.Grammar.{SpellsPage}
 use Rattle.hb_layout.specs.declared.meta.Meta.{Meta}
 use Rattle.hb_ops.specs.Files.{FileState, if_live, page_of}
 use Rattle.hb_ops.specs.Sound.{BreaksFirst, FitsFile, IsSound}
-use Rattle.hb_wal.specs.Frames.{frames, range}
 use Rattle.hb_page_codec.proofs.Facts.PageLaws.{SpelledOnce}
 use Rattle.hb_layout.specs.Offsets.{page_offset}
 use Rattle.hb_store.specs.Opening.{place_bytes}
@@ -28,6 +26,7 @@ use Rattle.hb_store.specs.Keeps.{StoreKeeps}
 use Rattle.hb_store.specs.Parts.{last_of}
 use Rattle.hb_store.specs.Calls.{Fetched}
 use Rattle.hb_store.proofs.Facts.StayingLaws.{was_there}
+pub use Rattle.hb_store.proofs.Facts.StayedDisks.{keeps_read}
 use Rattle.hb_store.specs.Fetching.{FetchesNot, HoldsNot, IsDamagedBy, IsNoPage}
 use Rattle.hb_store.specs.declared.stops.FetchStop.{FetchStop}
 use Rattle.hb_store.specs.declared.stops.FetchStop.TheVariants as fetches
@@ -84,39 +83,6 @@ fetches_not meta d id fetches.ReadFault page holds = page
 fetches_not meta d id fetches.Crowded page holds = page
 
 -- ---- what a store keeps
-
-synced_read : (d e : DiskModel) (at n : ℕ) → Stays d e → IsSynced d at n → IsSynced e at n
-synced_read d e at n stays s = record { each = λ b c told image. s.each b c (sym stays.told ∙ told) (stays.image c image) }
-
-pub keeps_read : (d e : DiskModel) (st : StoreState) (durable : FileState) (later : List FileState) → Stays d e → StoreKeeps d st durable later → StoreKeeps e st durable later
-keeps_read d e st durable later stays k = record {
-  parts = k.parts;
-  disk = record {
-    told = subst (λ (t : Option (List ℕ)). IsSome t) (sym stays.told) k.disk.told;
-    count = k.disk.count;
-    images = λ c image. k.disk.images c (stays.image c image);
-    shows = λ c image. k.disk.shows c (stays.image c image);
-    running = λ r. let run = k.disk.running r in record {
-      places = synced_read d e 0 8192 stays run.places;
-      no_body = λ b told. run.no_body b (sym stays.told ∙ told);
-      logged = record {
-        synced = synced_read d e st.log.area st.log.len stays run.logged.synced;
-        payloads_fit = run.logged.payloads_fit;
-        count = run.logged.count;
-        reads = subst (λ (t : Option (List ℕ)). IfSome t (λ b. range st.log.area st.log.len b ≡ frames k.parts.payloads ++ replicate (st.log.len - st.log.written) 0)) (sym stays.told) run.logged.reads;
-      };
-    };
-    kept = (synced_read d e _ PAGE stays k.disk.kept.0, synced_read d e st.log.area st.log.written stays k.disk.kept.1);
-  };
-  waits = k.waits;
-  in_log = record { touched = k.in_log.touched; synced = λ id page none found c image. k.in_log.synced id page none found c (stays.image c image) };
-  memory = record {
-    layout = k.memory.layout;
-    meta_is = k.memory.meta_is;
-    cached = k.memory.cached;
-    placed = λ id page b none found told. k.memory.placed id page b none found (sym stays.told ∙ told);
-  };
-}
 
 pub keeps_fetched : (d : DiskModel) (old new : StoreState) (durable : FileState) (later : List FileState) (id : ℕ) → Fetched id old new
     → ((page : Page) → in_memory new id ≡ Some page → page_of (last_of durable later) id ≡ Some page) → StoreKeeps d old durable later → StoreKeeps d new durable later

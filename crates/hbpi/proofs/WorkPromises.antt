@@ -1,5 +1,5 @@
 -- What `work` says over a disk that tells: the records of the one file to which every image opens then.
-use Rattle.std.proofs.Common.{◌≡◌, inl, inr, ℕ, zero, suc, ◌+◌, ◌-◌, ◌<◌, ◌≤◌, List, [], ◌∷◌, length, take, All, Some, None, refl, sym, ap, subst, ◌∙◌, arith}
+use Rattle.std.proofs.Common.{◌≡◌, inl, inr, ℕ, suc, ◌+◌, ◌-◌, ◌<◌, ◌≤◌, List, [], ◌∷◌, length, take, Some, None, refl, sym, ap, subst, ◌∙◌, arith}
 use Rattle.std.specs.List.{slice_get}
 use Rattle.std.specs.FinMap as finite
 use Rattle.std.proofs.lemmas.List.{take_all}
@@ -14,7 +14,7 @@ use Rattle.hb_outside.specs.Streams.{Appends}
 use Rattle.hb_set.specs.Machine.{RecordSet}
 use Rattle.hb_set.specs.Order.{Entry, result_of}
 use Rattle.hb_store.specs.Opening.{OpensToOne}
-use Rattle.hb_wal.specs.Log.{Waiting, mark_of}
+use Rattle.hb_store.proofs.Facts.MarkLaws.{mark_inside}
 use Rattle.hb_set.specs.declared.scripts.Answered.{Answered}
 use Rattle.hbpi.proofs.RecordsLeft.{entry_answer, in_order}
 use Rattle.hbpi.proofs.EndLaws.{no_done}
@@ -30,11 +30,6 @@ use Rattle.hbpi.specs.declared.statuses.Status.TheVariants.{Done}
 last_entry : (x : Entry) (rest : List Entry) → (e : Entry) × (slice_get (x ∷ rest) (length rest) ≡ Some e)
 last_entry x [] = (x, refl)
 last_entry x (y ∷ rest) = last_entry y rest
-
--- no group's mark is behind the end
-mark_inside : (groups : List Waiting) (now : ℕ) → All (λ (g : Waiting). g.mark ≤ now) groups → mark_of groups now ≤ now
-mark_inside [] now all = omega arith
-mark_inside (first ∷ rest) now all = all zero first (omega arith)
 
 -- Where each line has an answer, all places of the order are settled.
 module _ (n : RecordSet) (m : Machine) (files : Files) (keeps : CoreKeeps n m files) (none : left_count m ≡ 0) where

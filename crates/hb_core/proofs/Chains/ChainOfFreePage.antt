@@ -1,8 +1,8 @@
 -- A split that takes the number of a free page, and one for which none is left: each step of the chains.
 use Rattle.hb_point.specs.Examples.{at_forty}
-use Rattle.std.proofs.Common.{inl, inr, ℕ, List, [], ◌∷◌, refl, ap, arith, ◌++◌}
+use Rattle.std.proofs.Common.{inl, inr, ℕ, List, [], ◌∷◌, refl, ap, arith}
 use Rattle.hb_frag.specs.declared.pages.Page.{Page}
-use Rattle.hb_frag.specs.declared.pages.Page.TheVariants.{Free, Live}
+use Rattle.hb_frag.specs.declared.pages.Page.TheVariants.{Free}
 use Rattle.hb_set.specs.declared.commands.Reply.TheVariants as replies
 use Rattle.hb_core.specs.declared.outcomes.Outcome.TheVariants.{Moved}
 use Rattle.hb_activity.specs.Deeds.{Deed, answers_now}
@@ -12,7 +12,7 @@ use Rattle.hb_core.proofs.Chains.TakenLines.{takes_line}
 use Rattle.hb_core.proofs.Chains.FlushedSteps.{forced_scene, forces}
 use Rattle.hb_core.proofs.Chains.ChainOfTwoParts.{full_fits, put_fits, six}
 use Rattle.hb_core.specs.ChainOfFreePage.{FreePageIsTaken, NoPageIsFree, free_before, none_free_before, tight_meta}
-use Rattle.hb_core.specs.ChainOfTwo.{full_page, inserts_seventy, lettered, posts_at, upper_half, upper_three, lower_half}
+use Rattle.hb_core.specs.ChainOfTwo.{full_page, inserts_seventy, lettered, posts_at, upper_half, upper_three}
 use Rattle.hb_core.specs.Machines.{next_of_chain}
 use Rattle.hb_core.specs.Rows.{Row}
 use Rattle.hb_core.specs.Scenes.{Scene, machine_of, standing}
@@ -22,21 +22,7 @@ use Rattle.hb_ops.specs.Recording.{FitsPut}
 use Rattle.hb_lemmas.specs.Numbers.{big_endian}
 use Rattle.hb_point.specs.SessionRows.{taking}
 use Rattle.hb_space.proofs.Facts.Intervals.{cuts, top}
-use Rattle.hb_core.proofs.Chains.SplitRows.{finds_no_room, no_room_row, put_row, puts, split_row, splits}
-
--- ---- the pages
-
-abbrev whole_1 : ℕ × Page
-whole_1 = (1, Live full_page)
-
-abbrev upper_1 : ℕ × Page
-upper_1 = (1, Live (upper_half upper_three))
-
-abbrev lower_2 : ℕ × Page
-lower_2 = (2, Live lower_half)
-
-abbrev put_1 : ℕ × Page
-put_1 = (1, Live (upper_half (upper_three ++ lettered 70 103 ∷ [])))
+use Rattle.hb_core.proofs.Chains.SplitRows.{finds_no_room, lower_2, no_room_row, put_row, puts, split_row, splits, upper_1, whole_1, with_seventy}
 
 -- ---- the scenes, one after the other
 
@@ -57,7 +43,7 @@ abbrev is_split : Scene
 is_split = after (upper_1 ∷ lower_2 ∷ []) 1 splits (posts_at 0 ∷ []) (bringing page_2 to_split)
 
 abbrev is_put : Scene
-is_put = after (lower_2 ∷ put_1 ∷ []) 1 puts (posts_at 0 ∷ []) is_split
+is_put = with_seventy is_split
 
 abbrev is_forced : Scene
 is_forced = forced_scene is_put

@@ -1,6 +1,6 @@
 -- Two sessions on one page: each step of the chain.
-use Rattle.hb_core.proofs.Chains.SplitRows.{finds_no_room, no_room_row, put_row, puts, split_row, splits}
-use Rattle.std.proofs.Common.{◌≡◌, inl, inr, [], ◌∷◌, slice_index, Contains, Option, Some, None, refl, ap, arith, true, false, ℕ, ◌++◌}
+use Rattle.hb_core.proofs.Chains.SplitRows.{finds_no_room, lower_2, no_room_row, put_row, put_1, puts, split_row, splits, upper_1, whole_1, with_seventy}
+use Rattle.std.proofs.Common.{◌≡◌, inl, inr, [], ◌∷◌, slice_index, Contains, Option, Some, None, refl, ap, arith, true, false}
 use Rattle.hb_frag.specs.declared.pages.LivePage.{LivePage}
 use Rattle.hb_latch.specs.declared.modes.Mode.TheVariants.{Exclusive}
 use Rattle.hb_set.specs.declared.commands.Reply.TheVariants as replies
@@ -13,28 +13,12 @@ use Rattle.hb_core.proofs.Chains.TakenLines.{points_apart, takes_line}
 use Rattle.hb_core.proofs.Chains.FlushedSteps.{forced_scene, forces}
 use Rattle.hb_core.proofs.Chains.ChainOfTwoParts.{extract_fits, put_fits, twenty_there}
 use Rattle.hb_core.specs.Asking.{box_at}
-use Rattle.hb_core.specs.ChainOfTwo.{TwoOnOnePage, inserts_seventy, lettered, looks_twenty_up, lower_half, posts_at, two_before, upper_half, full_page, upper_three}
+use Rattle.hb_core.specs.ChainOfTwo.{TwoOnOnePage, inserts_seventy, lettered, looks_twenty_up, lower_half, posts_at, two_before, upper_half}
 use Rattle.hb_core.specs.Rows.{Row}
 use Rattle.hb_core.specs.Scenes.{Scene, machine_of, standing}
 use Rattle.hb_lemmas.specs.Numbers.{big_endian}
 use Rattle.hb_point.specs.SessionRows.{taking}
 use Rattle.hb_lemmas.proofs.Lists.{only_one}
-use Rattle.hb_frag.specs.declared.pages.Page.{Page}
-use Rattle.hb_frag.specs.declared.pages.Page.TheVariants.{Live}
-
--- ---- the pages
-
-abbrev whole_1 : ℕ × Page
-whole_1 = (1, Live full_page)
-
-abbrev upper_1 : ℕ × Page
-upper_1 = (1, Live (upper_half upper_three))
-
-abbrev lower_2 : ℕ × Page
-lower_2 = (2, Live lower_half)
-
-abbrev put_1 : ℕ × Page
-put_1 = (1, Live (upper_half (upper_three ++ lettered 70 103 ∷ [])))
 
 -- ---- the scenes, one after the other
 
@@ -51,7 +35,7 @@ abbrev is_split : Scene
 is_split = after (upper_1 ∷ lower_2 ∷ []) 1 splits (posts_at 0 ∷ []) to_split
 
 abbrev is_put : Scene
-is_put = after (lower_2 ∷ put_1 ∷ []) 1 puts (posts_at 0 ∷ []) is_split
+is_put = with_seventy is_split
 
 abbrev passes : Deed
 passes = moves_to (SessionWalk looks_twenty_up (Some 1) [] []) (posts_at 20 ∷ [])

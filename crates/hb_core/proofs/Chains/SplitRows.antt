@@ -1,19 +1,37 @@
 -- The rows of an insert of 70 at a full page 1, in any scene that has the page: it finds no room, splits the page, and puts its record.
-use Rattle.std.proofs.Common.{◌≡◌, inl, inr, ℕ, ◌<◌, [], ◌∷◌, length, Some, None, refl, sym, ap, ◌∙◌, arith}
+use Rattle.std.proofs.Common.{◌≡◌, inl, inr, ℕ, ◌<◌, [], ◌∷◌, ◌++◌, length, Some, None, refl, sym, ap, ◌∙◌, arith}
+use Rattle.hb_frag.specs.declared.pages.Page.{Page}
+use Rattle.hb_frag.specs.declared.pages.Page.TheVariants.{Live}
 use Rattle.hb_ops.specs.declared.operations.Op.TheVariants.{Put, Extract}
 use Rattle.hb_latch.specs.declared.modes.Mode.TheVariants.{Exclusive}
 use Rattle.hb_set.specs.declared.commands.Reply.TheVariants as replies
 use Rattle.hb_activity.specs.declared.activities.Activity.TheVariants.{SessionPut, SessionSplit, SessionWalk}
 use Rattle.hb_activity.specs.Deeds.{Deed, does, moves_to, takes_effect}
 use Rattle.hb_activity.specs.Wanting.{wanted_page}
-use Rattle.hb_core.proofs.Chains.BuiltSteps.{live_in, live_is}
+use Rattle.hb_core.proofs.Chains.BuiltSteps.{after, live_in, live_is}
 use Rattle.hb_core.proofs.Chains.ChainOfTwoParts.{chosen_at_forty, seventy_absent, seventy_held}
-use Rattle.hb_core.specs.ChainOfTwo.{full_page, inserts_seventy, lettered, posts_at, upper_half, upper_three}
+use Rattle.hb_core.specs.ChainOfTwo.{full_page, inserts_seventy, lettered, lower_half, posts_at, upper_half, upper_three}
 use Rattle.hb_core.specs.Machines.{next_of}
 use Rattle.hb_core.specs.Rows.{Row}
 use Rattle.hb_core.specs.Scenes.{Scene, machine_of, store_of}
 use Rattle.hb_point.specs.Examples.{at_forty}
 use Rattle.hb_space.specs.Boxes.{whole_area}
+
+-- ---- the pages
+
+abbrev pub whole_1 : ℕ × Page
+whole_1 = (1, Live full_page)
+
+abbrev pub upper_1 : ℕ × Page
+upper_1 = (1, Live (upper_half upper_three))
+
+abbrev pub lower_2 : ℕ × Page
+lower_2 = (2, Live lower_half)
+
+abbrev pub put_1 : ℕ × Page
+put_1 = (1, Live (upper_half (upper_three ++ lettered 70 103 ∷ [])))
+
+-- ---- the deeds, and the scene once the record is put
 
 abbrev pub finds_no_room : Deed
 finds_no_room = moves_to (SessionSplit inserts_seventy 1) []
@@ -23,6 +41,11 @@ splits = does (SessionPut inserts_seventy 1 2) (Extract 1 2 [] (at_forty ∷ [])
 
 abbrev pub puts : Deed
 puts = takes_effect 0 inserts_seventy replies.Done (Some (Put 1 (lettered 70 103))) []
+
+abbrev pub with_seventy : Scene → Scene
+with_seventy split = after (lower_2 ∷ put_1 ∷ []) 1 puts (posts_at 0 ∷ []) split
+
+-- ---- the rows
 
 module _ (s : Scene) where
   pub no_room_row : s.meta.k ≡ 1 → s.meta.dcap ≡ 6 → live_in s 1 ≡ Some full_page → Row (SessionWalk inserts_seventy None [] []) (Some (wanted_page 1 0 Exclusive)) (machine_of s) finds_no_room

@@ -13,7 +13,7 @@ use Rattle.hb_core.proofs.Files.FileOps.{ShowsFile, allowed_in_file, has_in_file
 use Rattle.hb_core.proofs.Files.FitOps.{HeldArePoints, fits_op}
 use Rattle.hb_core.proofs.Memory.KeptPages.{KeepsPages, brought, change_is_well, keeps_pages}
 use Rattle.hb_core.proofs.Walks.LaterPages.{last_sound}
-use Rattle.hb_core.proofs.Memory.OwnPages.{gives_up_nothing}
+use Rattle.hb_core.proofs.Facts.GivenUpLaws.{gives_up_nothing}
 use Rattle.hb_core.proofs.Files.RowTells.{Tells, tells_row, tells_none}
 use Rattle.hb_core.specs.AllowedLaws.{IsLicensedHere}
 use Rattle.hb_core.proofs.Table.StepKinds.{each_kind, ready_kind, FlushesMore}

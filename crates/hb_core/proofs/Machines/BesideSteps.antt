@@ -23,6 +23,7 @@ use Rattle.hb_space.specs.Actors.{IsActor}
 use Rattle.hb_store.specs.Calls.{KeepsAllButPages}
 use Rattle.hb_store.specs.States.{StoreState, in_memory}
 use Rattle.hb_store.specs.declared.stops.StopWhy.{StopWhy}
+use Rattle.hb_store.proofs.Facts.PageOnlyLaws.{KeepsAllButPages-none}
 use Rattle.hb_wal.specs.Log.{LogState, Waiting, mark_of}
 use Rattle.hb_core.proofs.Files.SoundFiles.{brought_shown, files_hold, has_sound_file}
 use Rattle.hb_core.proofs.Latches.LatchesStay.{same_latches, walk_latched}
@@ -248,15 +249,12 @@ module _ (m : Machine) (jobs : List Job) (st : StoreState) (uses : List Use) (st
 
 -- ---- a job waits
 
-same_store : (m : Machine) → KeepsAllButPages m.store m.store
-same_store m = record { turn = refl; meta = refl; log = refl; in_log = refl; dirty = refl; stopped = refl }
-
 module _ (m : Machine) (job : Job) (new : Machine) (fits : JobFits m.store.meta.k job) (waits : LetsWait job m new) where
   waiting_fit : JobsFit m.store.meta.k m.jobs → JobsFit m.store.meta.k new.jobs
   waiting_fit all = added_fit m.store.meta.k (job ∷ []) m.jobs new.jobs (new.jobs, waits.adds, refl) (All-cons (JobFits m.store.meta.k) job [] fits (All-nil (JobFits m.store.meta.k))) all
 
   kept_waiting : MachineKeeps m → MachineKeeps (with_waiting new.jobs m)
-  kept_waiting keeps = beside_keeps m new.jobs m.store m.uses m.stop keeps (same_store m) (λ actor id mode holds there. refl) (waiting_fit keeps.attributes_fit.waiting) keeps.pages_of_file keeps.frames_fit keeps.runs
+  kept_waiting keeps = beside_keeps m new.jobs m.store m.uses m.stop keeps (KeepsAllButPages-none m.store) (λ actor id mode holds there. refl) (waiting_fit keeps.attributes_fit.waiting) keeps.pages_of_file keeps.frames_fit keeps.runs
 
   sound_waiting : (files : Files) → HasSoundFile m files → HasSoundFile (with_waiting new.jobs m) files
   sound_waiting files sound = has_sound_file (with_waiting new.jobs m) files (files_hold m files sound)
@@ -269,7 +267,7 @@ waiting_goes_on m job new fits waits goes_on = subst MayGoOn (sym waits.rest) (r
 
 pub waiting_keeps_all : WaitingKeepsAll
 waiting_keeps_all n m files job new fits waits all = subst (λ (x : Machine). CoreKeeps n x files) (sym waits.rest)
-    (beside_keeps_all m new.jobs m.store m.uses m.stop all.kept (same_store m) (λ actor id mode holds there. refl) n files all (kept_waiting m job new fits waits all.kept) (sound_waiting m job new fits waits files all.sound_file))
+    (beside_keeps_all m new.jobs m.store m.uses m.stop all.kept (KeepsAllButPages-none m.store) (λ actor id mode holds there. refl) n files all (kept_waiting m job new fits waits all.kept) (sound_waiting m job new fits waits files all.sound_file))
 
 -- ---- a page is looked at
 
@@ -307,7 +305,7 @@ looking_keeps_all n m files id new looks all = subst (λ (x : Machine). CoreKeep
 
 pub stopped_goes_on : (m : Machine) (why : StopWhy) → MayGoOn m → MayGoOn (stopped_for why m)
 stopped_goes_on m why goes_on = record {
-  kept = beside_keeps m m.jobs m.store m.uses (Some why) goes_on.kept (same_store m) (λ actor id mode holds there. refl) goes_on.kept.attributes_fit.waiting goes_on.kept.pages_of_file goes_on.kept.frames_fit (λ never. absurd (stops never));
+  kept = beside_keeps m m.jobs m.store m.uses (Some why) goes_on.kept (KeepsAllButPages-none m.store) (λ actor id mode holds there. refl) goes_on.kept.attributes_fit.waiting goes_on.kept.pages_of_file goes_on.kept.frames_fit (λ never. absurd (stops never));
   sound = if_value m.files (HasSoundFile (stopped_for why m)) (λ files told. has_sound_file (stopped_for why m) files (files_hold m files (at_value m.files (HasSoundFile m) files told goes_on.sound)));
 }
   where

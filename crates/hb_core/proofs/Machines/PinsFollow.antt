@@ -21,7 +21,7 @@ abbrev pub times : ℕ → List ℕ → ℕ
 times q [] = 0
 times q (id ∷ rest) = one_if (id == q) + times q rest
 
-times_joined : (q : ℕ) (xs ys : List ℕ) → times q (xs ++ ys) ≡ times q xs + times q ys
+pub times_joined : (q : ℕ) (xs ys : List ℕ) → times q (xs ++ ys) ≡ times q xs + times q ys
 times_joined q [] ys = omega arith
 times_joined q (id ∷ rest) ys = let more = times_joined q rest ys in omega (arith, more)
 

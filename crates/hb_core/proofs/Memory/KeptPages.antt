@@ -9,7 +9,7 @@ use Rattle.hb_core.specs.declared.outcomes.Outcome.TheVariants as outcomes
 use Rattle.hb_activity.specs.Deeds.{Deed, does}
 use Rattle.hb_core.proofs.Files.FitOps.{HeldArePoints, fits_op}
 use Rattle.hb_core.proofs.Files.GoodChanges.{IsGoodChange, good_change}
-use Rattle.hb_core.proofs.Memory.OwnPages.{gives_up_nothing}
+use Rattle.hb_core.proofs.Facts.GivenUpLaws.{gives_up_nothing}
 use Rattle.hb_core.proofs.Files.RowTells.{Tells, boxes_told, tells_row, tells_none}
 use Rattle.hb_core.specs.AllowedLaws.{IsLicensedHere}
 use Rattle.hb_core.proofs.Table.StepKinds.{each_kind, FlushesMore, ready_kind}

@@ -14,7 +14,7 @@ use Rattle.hb_core.specs.declared.outcomes.Outcome.TheVariants as outcomes
 use Rattle.hb_activity.specs.Deeds.{Deed}
 use Rattle.hb_core.proofs.Memory.CommitPages.{commit_here}
 use Rattle.hb_core.proofs.Memory.NextNumbers.{is_next_number}
-use Rattle.hb_core.proofs.Memory.OwnPages.{gives_up_nothing}
+use Rattle.hb_core.proofs.Facts.GivenUpLaws.{gives_up_nothing}
 use Rattle.hb_core.proofs.Table.StepKinds.{each_kind, FlushesMore, ready_kind}
 use Rattle.hb_core.proofs.Table.Targets.{IsNumber, numbers_are_targets, set_elsewhere}
 use Rattle.hb_core.specs.Acting.{MayNeed, NeedsNumber, takes_number}

@@ -8,14 +8,12 @@ use Rattle.hb_ops.specs.declared.operations.Op.{Op}
 use Rattle.hb_latch.specs.declared.modes.Mode.{Mode}
 use Rattle.hb_latch.specs.declared.modes.Mode.TheVariants.{Shared, Update, Exclusive}
 use Rattle.hb_activity.specs.declared.wanting.Wanted.{Wanted}
-use Rattle.hb_activity.specs.declared.activities.Activity.{Activity}
-use Rattle.hb_activity.specs.declared.dropping.DropWhy.{DropWhy}
 use Rattle.hb_core.specs.declared.outcomes.Outcome.{Outcome}
 use Rattle.hb_core.specs.declared.outcomes.Outcome.TheVariants as outcomes
 use Rattle.hb_activity.specs.Deeds.{Deed, does}
 use Rattle.hb_core.proofs.Memory.BroughtPages.{stays_or_left}
-use Rattle.hb_core.proofs.Table.GivenUp.{given_up_is}
 use Rattle.hb_core.proofs.Memory.OwnedOps.{IsFreeFor, OwnsTargets, allowed_by, owned_row}
+use Rattle.hb_core.proofs.Facts.GivenUpLaws.{gives_up_nothing}
 use Rattle.hb_core.proofs.Table.StepKinds.{IsOutright, each_kind, FlushesMore, ready_kind}
 use Rattle.hb_core.proofs.Table.Targets.{IsNumber, numbers_are_targets, set_elsewhere}
 use Rattle.hb_core.specs.Asking.{wanted_by}
@@ -34,10 +32,6 @@ use Rattle.hb_space.specs.Actors.{IsActor}
 use Rattle.hb_store.specs.Calls.{change_here, read_here}
 use Rattle.hb_store.specs.Replay.{set_pages}
 use Rattle.hb_store.specs.States.{StoreState, in_memory}
-
--- what a line or a job that can't go on does to the file
-pub gives_up_nothing : (why : DropWhy) (activity : Activity) → (gives_up why activity).op ≡ None
-gives_up_nothing why activity = given_up_is (λ deed. deed.op ≡ None) why activity (λ line is. refl) (λ job is. refl) (λ is. refl)
 
 module _ (m : Machine) (actor : ℕ) (latches : IsActor actor) (fit : LatchesFit m) (inside : HoldsPagesOfFile m) (new : Machine) (id : ℕ) (page : LivePage) (used : IsInUse m id page) where
   abbrev pub Goal : Type 0

@@ -6,6 +6,7 @@ use Rattle.hb_frag.specs.declared.pages.Page.{Page}
 use Rattle.hb_frag.specs.declared.pages.Page.TheVariants.{Live}
 use Rattle.hb_ops.specs.declared.operations.Op.{Op}
 use Rattle.hb_latch.specs.declared.modes.Mode.{Mode}
+use Rattle.hb_layout.specs.declared.meta.Meta.{Meta}
 use Rattle.hb_activity.specs.declared.activities.Activity.{Activity}
 use Rattle.hb_core.specs.declared.outcomes.Outcome.{Outcome}
 use Rattle.hb_activity.specs.Deeds.{Deed}
@@ -22,6 +23,7 @@ use Rattle.hb_core.specs.Steps.{StepsTo}
 use Rattle.hb_latch.specs.Tables.{mode_at}
 use Rattle.hb_space.specs.Actors.{IsActor}
 use Rattle.hb_ops.specs.Files.{if_live}
+use Rattle.hb_ops.specs.Sound.{FitsFile}
 use Rattle.hb_store.specs.States.{IsGoodPage, StoreState, in_memory}
 use Rattle.hb_ops.proofs.Facts.PageNumberLaws.{live_so}
 
@@ -61,6 +63,10 @@ module _ (m : Machine) (may : ℕ → Type 0) (fetched : StoreState) (inside : H
     | inl was ↦ (inside id (Live page) was).2
     | inr good ↦ good.2
   ]
+
+  -- so it fits the file
+  pub fetched_fits : (id : ℕ) (page : LivePage) → live_here fetched id ≡ Some page → FitsFile fetched.meta page
+  fetched_fits id page live = subst (λ (meta : Meta). FitsFile meta page) (sym brings.rest.meta) (fetched_good id page live).1
 
 module _ (m : Machine) (actor : ℕ) (fetched : StoreState) (deed : Deed) (outcome : Outcome) (new : Machine) (performs : Performs m fetched actor deed outcome new) where
   pub own_next : new.activity actor ≡ deed.next

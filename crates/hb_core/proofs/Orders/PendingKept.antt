@@ -32,6 +32,7 @@ use Rattle.hb_set.specs.Order.{Entry, IsLegalOrder, result_of}
 use Rattle.hb_store.specs.Making.{group_here}
 use Rattle.hb_store.specs.Parts.{last_of}
 use Rattle.hb_store.specs.States.{StoreState}
+use Rattle.hb_store.proofs.Facts.MarkLaws.{mark_inside}
 use Rattle.hb_wal.specs.Log.{LogState, Waiting, mark_of}
 
 -- ---- groups and the files before them
@@ -87,11 +88,6 @@ later_mark (first ∷ rest) now then le = omega arith
 pub next_mark : (first : Waiting) (rest : List Waiting) (now : ℕ) → All (λ (g : Waiting). g.mark ≤ now) (first ∷ rest) → AllPairs IsBelow (first ∷ rest) → first.mark ≤ mark_of rest now
 next_mark first [] now low rising = low 0 first (omega arith)
 next_mark first (second ∷ rest) now low rising = rising 0 1 first (omega arith) (omega arith)
-
--- and is none that is to come
-mark_inside : (groups : List Waiting) (now : ℕ) → All (λ (g : Waiting). g.mark ≤ now) groups → mark_of groups now ≤ now
-mark_inside [] now low = omega arith
-mark_inside (first ∷ rest) now low = low 0 first (omega arith)
 
 joined_mark : (groups : List Waiting) (group : Waiting) (now then : ℕ) → group.mark ≡ now → mark_of groups now ≤ mark_of (groups ++ group ∷ []) then
 joined_mark [] group now then is = omega (arith, is)

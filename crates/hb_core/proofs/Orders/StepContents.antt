@@ -15,7 +15,7 @@ use Rattle.hb_activity.specs.Deeds.{Deed, does}
 use Rattle.hb_core.proofs.Files.FitOps.{HeldArePoints}
 use Rattle.hb_core.proofs.Memory.KeptPages.{KeepsPages, brought, keeps_pages}
 use Rattle.hb_core.proofs.Table.LineFates.{given_up_joins_nothing}
-use Rattle.hb_core.proofs.Memory.OwnPages.{gives_up_nothing}
+use Rattle.hb_core.proofs.Facts.GivenUpLaws.{gives_up_nothing}
 use Rattle.hb_core.proofs.Orders.RowContents.{ContentsBecomeBy, JoinsWith, joins_row}
 use Rattle.hb_core.proofs.Files.RowTells.{Tells, tells_row}
 use Rattle.hb_core.proofs.Files.SoundFiles.{FilesHold, brought_shown, files_hold, sound_within_limits, may_be_done, shows_file}

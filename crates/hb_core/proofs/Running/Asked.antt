@@ -14,7 +14,6 @@ use Rattle.hb_space.specs.Actors.{IsActor}
 use Rattle.hb_layout.specs.declared.meta.Meta.{Meta}
 use Rattle.hb_layout.specs.Limits.{IsLayout}
 use Rattle.hb_ops.specs.Files.{if_live}
-use Rattle.hb_ops.specs.Sound.{FitsFile}
 use Rattle.hb_set.specs.declared.commands.Command.{Command}
 use Rattle.hb_set.specs.declared.commands.Command.TheVariants.{Insert, Delete, Lookup, Search}
 use Rattle.hb_set.specs.declared.scripts.Line.{Line}
@@ -35,9 +34,10 @@ use Rattle.hb_search.specs.Searching.{MaySearch}
 use Rattle.hb_store.specs.States.{StoreState}
 use Rattle.hb_lemmas.proofs.Options.{at_value, has_value, some_value}
 use Rattle.hb_core.proofs.Machines.BoxesAhead.{corner_ahead, has_last}
+use Rattle.hb_core.proofs.Memory.StillThere.{fetched_fits}
 use Rattle.hb_core.proofs.Running.Brought.{brings_wider}
 use Rattle.hb_core.proofs.Walks.AskedToMerge.{merger_walks_may_be_asked, pairs_may_be_asked}
-use Rattle.hb_core.proofs.Walks.MayBeAsked.{children_may_be_asked, pages_at_hand_fit, points_may_be_asked, poster_walks_may_be_asked, puts_may_be_asked, searches_may_be_asked, splits_may_be_asked}
+use Rattle.hb_core.proofs.Walks.MayBeAsked.{children_may_be_asked, points_may_be_asked, poster_walks_may_be_asked, puts_may_be_asked, searches_may_be_asked, splits_may_be_asked}
 use Rattle.hb_core.specs.AllowedLaws.{AnyPage}
 use Rattle.hb_core.specs.Acting.{NeedsNumber}
 use Rattle.hb_core.specs.Asking.{looked_live, wanted_by}
@@ -205,13 +205,10 @@ module _ (d : DiskModel) (c : RunningCore) (m : Machine) (actor : ℕ) (free : O
   layout : IsLayout c.store.meta
   layout = subst IsLayout (sym meta) keeps.meta_within_limits.layout
 
-  pub made : (id : ℕ) (page : LivePage) → live_here c.store id ≡ Some page → FitsFile c.store.meta page
-  made id page live = subst (λ (m : Meta). FitsFile m page) (sym meta) (pages_at_hand_fit m c.store id page keeps brings live).1
-
   -- ---- sessions
 
   asks_point : (activity : Activity) (id : ℕ) (page : LivePage) → live_here c.store id ≡ Some page → MayAsk activity m.store.meta free id page (other_page c.store activity) → AsksPoint c.store activity id free
-  asks_point activity id page live asked = record { layout = layout; page = page; live = live; made = made id page live; asked = subst (λ (m : Meta). MayAsk activity m free id page (other_page c.store activity)) (sym meta) asked; next = next_is_given }
+  asks_point activity id page live asked = record { layout = layout; page = page; live = live; made = fetched_fits m AnyPage c.store keeps.pages_of_file brings id page live; asked = subst (λ (m : Meta). MayAsk activity m free id page (other_page c.store activity)) (sym meta) asked; next = next_is_given }
 
   abbrev AsksSession : Activity → Type 0
   AsksSession activity = AsksPoint c.store activity (number_of_row activity (wanted_by m actor)) free
@@ -281,7 +278,7 @@ module _ (d : DiskModel) (c : RunningCore) (m : Machine) (actor : ℕ) (free : O
         layout = layout;
         page = its.page;
         live = its.hand.live;
-        made = made its.wanted.page its.page its.hand.live;
+        made = fetched_fits m AnyPage c.store keeps.pages_of_file brings its.wanted.page its.page its.hand.live;
         asked = subst (λ (a : Activity). MaySearch a its.page) is asked;
       })
 
@@ -299,7 +296,7 @@ module _ (d : DiskModel) (c : RunningCore) (m : Machine) (actor : ℕ) (free : O
     layout = layout;
     page = its.page;
     live = its.hand.live;
-    made = made its.wanted.page its.page its.hand.live;
+    made = fetched_fits m AnyPage c.store keeps.pages_of_file brings its.wanted.page its.page its.hand.live;
     asked = subst (λ (m : Meta). MayBeAsked activity m its.page (other_page c.store activity)) (sym meta) asked;
     fits = fits;
     next = next_is_given;
@@ -357,7 +354,7 @@ module _ (d : DiskModel) (c : RunningCore) (m : Machine) (actor : ℕ) (free : O
     layout = layout;
     page = its.page;
     live = its.hand.live;
-    made = made its.wanted.page its.page its.hand.live;
+    made = fetched_fits m AnyPage c.store keeps.pages_of_file brings its.wanted.page its.page its.hand.live;
     asked = subst (λ (m : Meta). MayAskToMerge activity m its.page (other_page c.store activity) (second_page c.store activity)) (sym meta) asked;
   })
 

@@ -17,6 +17,7 @@ use Rattle.hb_core.specs.Fetching.{Brings, MustStay}
 use Rattle.hb_core.specs.Machines.{Files, Machine, current_file, with_disk, with_uses}
 use Rattle.hb_core.specs.Moving.{with_order_of_use, with_store}
 use Rattle.hb_core.specs.Showing.{RunningCore, ShowsFiles, ShowsMachine}
+use Rattle.hb_core.proofs.Running.ForcedShows.{shown_with}
 
 -- nothing came
 pub brings_none : (m : Machine) (may : ℕ → Type 0) (st : StoreState) → m.store ≡ st → Brings m may st
@@ -43,22 +44,9 @@ module _ (m : Machine) (d e : DiskModel) (c : RunningCore) (failed : Type 0) (st
 
   -- the core shows the machine with the pages that it has now, in their order of use
   pub shows_store : (uses : List Use) → ShowsMachine e (with_order_of_use uses (with_store st c)) (with_uses uses (with_disk st m.files m.clock m))
-  shows_store uses = record {
-    lines = shows.lines;
-    sessions = shows.sessions;
-    turns = λ session behind from to at. let turn = shows.turns session behind from to at in record { few = turn.few; front = turn.front; back = turn.back };
-    all_actors = shows.all_actors;
-    activities = shows.activities;
-    nobody_else = shows.nobody_else;
-    latches = shows.latches;
-    jobs = shows.jobs;
-    order = shows.order;
-    stop = shows.stop;
-    store = refl;
-    uses = refl;
-    tells = λ told. files_as (files_then (shows.tells (subst (λ (o : Option (List ℕ)). IsSome o) looks.only.stays.told told)));
-    silent = λ none. shows.silent (sym looks.only.stays.told ∙ none);
-  }
+  shows_store uses = shown_with d e c st uses m shows st uses m.files m.clock refl refl
+      (λ told. files_as (files_then (shows.tells (subst (λ (o : Option (List ℕ)). IsSome o) looks.only.stays.told told))))
+      (λ none. shows.silent (sym looks.only.stays.told ∙ none))
     where
       files_as : ShowsFiles e (with_disk st m.files m.clock m) → ShowsFiles e (with_uses uses (with_disk st m.files m.clock m))
       files_as s = record { files = s.files; told = s.told; kept = s.kept; clock = s.clock }
@@ -247,19 +235,4 @@ files_again d m st uses same s = record {
 
 -- the core shows the machine with the pages that it has
 pub shows_again : (d : DiskModel) (c : RunningCore) (m : Machine) → ShowsMachine d c m → ShowsMachine d c (with_uses c.uses (with_disk c.store m.files m.clock m))
-shows_again d c m shows = record {
-  lines = shows.lines;
-  sessions = shows.sessions;
-  turns = λ session behind from to at. let turn = shows.turns session behind from to at in record { few = turn.few; front = turn.front; back = turn.back };
-  all_actors = shows.all_actors;
-  activities = shows.activities;
-  nobody_else = shows.nobody_else;
-  latches = shows.latches;
-  jobs = shows.jobs;
-  order = shows.order;
-  stop = shows.stop;
-  store = refl;
-  uses = refl;
-  tells = λ told. files_again d m c.store c.uses shows.store (shows.tells told);
-  silent = shows.silent;
-}
+shows_again d c m shows = shown_with d d c c.store c.uses m shows c.store c.uses m.files m.clock refl refl (λ told. files_again d m c.store c.uses shows.store (shows.tells told)) shows.silent

@@ -7,6 +7,7 @@ use Rattle.hb_store.specs.Calls.{KeepsAllButPages}
 use Rattle.hb_store.specs.Fetching.{MayFetch}
 use Rattle.hb_store.specs.Forced.{forced_state, stopped_state}
 use Rattle.hb_store.specs.States.{StoreState}
+use Rattle.hb_store.proofs.Facts.PageOnlyLaws.{KeepsAllButPages-none, KeepsAllButPages-same, KeepsAllButPages-then}
 use Rattle.hb_wal.specs.Log.{LogState}
 use Rattle.hb_core.specs.declared.outcomes.Outcome.{Outcome}
 use Rattle.hb_core.specs.Counting.{CountsNoOp, CountsOp, CountsPart, CountsStep, DidOp, DoesNoOp, OnlyBrings}
@@ -21,25 +22,9 @@ use Rattle.hb_core.proofs.Running.StepTaken.{with_taken}
 
 -- ---- stores of which no operation made anything
 
-pub pages_stay : (st : StoreState) → KeepsAllButPages st st
-pages_stay st = record { turn = refl; meta = refl; log = refl; in_log = refl; dirty = refl; stopped = refl }
-
-pub pages_as : (old new : StoreState) → new ≡ old → KeepsAllButPages old new
-pages_as old new is = subst (KeepsAllButPages old) (sym is) (pages_stay old)
-
 pub pages_may : (id : ℕ) (old new : StoreState) → MayFetch id old new → KeepsAllButPages old new
-pages_may id old new (inl same) = pages_as old new same
+pages_may id old new (inl same) = KeepsAllButPages-same old new same
 pages_may id old new (inr fetched) = fetched.rest
-
-pages_then : (a b c : StoreState) → KeepsAllButPages a b → KeepsAllButPages b c → KeepsAllButPages a c
-pages_then a b c first second = record {
-  turn = second.turn ∙ first.turn;
-  meta = second.meta ∙ first.meta;
-  log = second.log ∙ first.log;
-  in_log = second.in_log ∙ first.in_log;
-  dirty = second.dirty ∙ first.dirty;
-  stopped = second.stopped ∙ first.stopped;
-}
 
 pub no_op_still : (st : StoreState) → DoesNoOp st st
 no_op_still st = record { meta = refl; groups = inl refl }
@@ -109,7 +94,7 @@ brings_then actor old mid new brings part = record { taken = part.taken ∙ ap (
     before : (op : Op) → DidOp op (length mid.order) mid.store new.store → DidOp op (length old.order) old.store new.store
     before op did = record {
       came = did.came;
-      rest = pages_then old.store mid.store did.came brings.pages did.rest;
+      rest = KeepsAllButPages-then old.store mid.store did.came brings.pages did.rest;
       does = subst (λ (n : ℕ). DoesOp op n did.came new.store) same_order did.does;
     }
 
@@ -146,7 +131,7 @@ deed_part actor pins deed outcome old new does = record { taken = ap (λ (s : Ru
     )
     by (Some op) is = inr (
       op,
-      record { came = old.store; rest = pages_stay old.store; does = subst (λ (o : Option Op). MayDo o (length old.order) old.store new.store) is does.store },
+      record { came = old.store; rest = KeepsAllButPages-none old.store; does = subst (λ (o : Option Op). MayDo o (length old.order) old.store new.store) is does.store },
       does.counts ∙ ap (λ (o : Option Op). counted_by actor o old.done) is,
     )
 
@@ -184,6 +169,9 @@ merging_counts actor outcome old new (inr (job, next, kind, merging, does)) = de
 
 pub counts_step : (actor taken : ℕ) (c new : RunningCore) → taken ≡ one_more c.taken → CountsPart actor (with_taken taken c) new → CountsStep actor c new
 counts_step actor taken c new is part = record { taken = part.taken ∙ is; done = part.done }
+
+pub counts_none : (actor taken : ℕ) (c new : RunningCore) → taken ≡ one_more c.taken → CountsNoOp (with_taken taken c) new → CountsStep actor c new
+counts_none actor taken c new is none = counts_step actor taken c new is (stays_part actor (with_taken taken c) new none)
 
 -- what is known of a result in both cases
 pub by_result : {A E : Type 0} (r : Result A E) (P : A → Type 0) (Q : E → Type 0) (C : Type 0) → ((x : A) → P x → C) → ((e : E) → Q e → C) → IfOk r P → IfErr r Q → C

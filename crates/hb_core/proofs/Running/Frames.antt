@@ -21,12 +21,13 @@ use Rattle.hb_store.specs.Held.{IsTied}
 use Rattle.hb_store.specs.States.{StoreState, in_memory, is_dirty}
 use Rattle.hb_core.proofs.Machines.HoldersMoved.{holders_moved}
 use Rattle.hb_core.proofs.Machines.PinCounts.{IsSingle, brought_pins, one_if}
+use Rattle.hb_core.proofs.Machines.PinsFollow.{PinsMore, times}
 use Rattle.hb_core.proofs.Memory.StillThere.{may_or_not}
-use Rattle.hb_core.proofs.Running.Pins.{few_pins, pins_there}
+use Rattle.hb_core.proofs.Running.Pins.{few_pins, pins_there, times_first}
 use Rattle.hb_core.specs.Fetching.{MustStay}
 use Rattle.hb_core.specs.KeptMachine.{MachineKeeps}
 use Rattle.hb_core.specs.Machines.{Machine}
-use Rattle.hb_core.specs.Using.{actors, holders, pins_of}
+use Rattle.hb_core.specs.Using.{actors, holders, page_wanted, pins_of}
 
 -- ---- which pages stay
 
@@ -43,6 +44,13 @@ pinned_here uses id some = by (frame_of uses id) some
     by : (o : Option Use) → 0 < option_map_or (λ (u : Use). u.pins) o 0 → IsSomeAnd o (λ (u : Use). IsTrue (must_stay u))
     by None some = absurd (omega (arith, some))
     by (Some u) some = pinned_stays u some
+
+-- the page that a step wants is pinned for it
+pub wanted_here : (wants : Option Wanted) (old uses : List Use) → PinsMore (page_wanted wants) old uses → (wanted : Wanted) → wants ≡ Some wanted → StaysHere uses wanted.page
+wanted_here wants old uses pinned wanted is =
+    let more : pins_of uses wanted.page ≡ pins_of old wanted.page + times wanted.page (page_wanted wants) = pinned.pins wanted.page in
+    let here : times wanted.page (page_wanted wants) ≡ 1 + 0 = ap (λ (o : Option Wanted). times wanted.page (page_wanted o)) is ∙ times_first wanted.page [] in
+    pinned_here uses wanted.page (omega (arith, more, here))
 
 -- who has latched a page counts
 pub latched_counts : (m : Machine) (keeps : MachineKeeps m) (actor id : ℕ) (mode : Mode) → mode_at m.latches actor id ≡ Some mode → 0 < holders m.latches id

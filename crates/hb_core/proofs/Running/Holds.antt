@@ -21,10 +21,10 @@ use Rattle.hb_core.proofs.Latches.MergerBacked.{every_row_backed}
 use Rattle.hb_core.proofs.Machines.HoldersMoved.{holders_moved}
 use Rattle.hb_core.proofs.Machines.LatchesApart.{known_apart, latches_once}
 use Rattle.hb_core.proofs.Machines.PinCounts.{one_if}
-use Rattle.hb_core.proofs.Machines.PinsFollow.{came_stays, stay_done, times}
+use Rattle.hb_core.proofs.Machines.PinsFollow.{came_stays, stay_done, times, times_joined}
 use Rattle.hb_core.proofs.Running.Brought.{brings_wider}
 use Rattle.hb_core.proofs.Running.Frames.{few_hold}
-use Rattle.hb_core.proofs.Running.Pins.{can_hold, can_unpin, times_joined}
+use Rattle.hb_core.proofs.Running.Pins.{can_hold, can_unpin}
 use Rattle.hb_core.proofs.Running.ReadsStay.{pinned_so}
 use Rattle.hb_core.specs.AllowedLaws.{AnyPage}
 use Rattle.hb_core.specs.Asking.{wanted_by}

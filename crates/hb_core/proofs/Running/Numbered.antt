@@ -1,5 +1,5 @@
 -- The number of a page that a row makes, and the first page of the free chain, which comes for it.
-use Rattle.std.proofs.Common.{◌≡◌, ◌≢◌, ◌⊎◌, inl, inr, ℕ, ◌+◌, ◌<◌, ◌≤◌, ◌==◌, Bool, true, false, cond, nat_lt, ◌||◌, List, [], Option, Some, None, Ok, Err, IfSome, IsSome, IsTrue, refl, sym, ap, ◌∙◌, subst, arith}
+use Rattle.std.proofs.Common.{◌≡◌, ◌≢◌, ◌⊎◌, inl, inr, ℕ, ◌+◌, ◌<◌, ◌≤◌, ◌==◌, Bool, true, false, cond, nat_lt, ◌||◌, List, Option, Some, None, Ok, Err, IfSome, IsSome, IsTrue, refl, sym, ap, ◌∙◌, subst, arith}
 use Rattle.std.proofs.lemmas.Bool.{cases_Bool, eqb-true, eqb-false, false≢true, lt-ltb}
 use Rattle.std.specs.Result.{IsErrOf}
 use Rattle.hb_disk.proofs.Facts.FaultLaws.{ReadsOnly-both, ReadsOnly-neither}
@@ -33,10 +33,9 @@ use Rattle.hb_store.specs.declared.stops.Why.TheVariants.{Rule, Level, Extent}
 use Rattle.hb_core.specs.Moving.{with_order_of_use, with_store}
 use Rattle.hb_activity.specs.declared.dropping.DropWhy.TheVariants as drops
 use Rattle.hb_core.specs.declared.halts.Halt.TheVariants.{GivesUp, Stops}
-use Rattle.hb_core.proofs.Machines.PinsFollow.{PinsMore, more_number, times}
+use Rattle.hb_core.proofs.Machines.PinsFollow.{PinsMore, more_number}
 use Rattle.hb_core.proofs.Running.Brought.{brings_joined, brings_none, brings_numbered, brings_wider, fetch_brings, shows_store}
-use Rattle.hb_core.proofs.Running.Frames.{must_here, pinned_here}
-use Rattle.hb_core.proofs.Running.Pins.{times_first}
+use Rattle.hb_core.proofs.Running.Frames.{must_here, wanted_here}
 use Rattle.hb_core.proofs.Running.PlacesFor.{after_wanted, is_ready}
 use Rattle.hb_activity.specs.Wanting.{may_commit}
 use Rattle.hb_core.proofs.Running.Coming.{sound_where_told, told_or_not}
@@ -50,7 +49,7 @@ use Rattle.hb_core.specs.Rows.{IsAtHand}
 use Rattle.hb_core.specs.Showing.{RunningCore, ShowsMachine}
 use Rattle.hb_core.specs.Stopping.{IsHaltOf}
 use Rattle.hb_core.specs.Touching.{IsReadHalt}
-use Rattle.hb_core.specs.Using.{page_wanted, pins_of, use_wanted}
+use Rattle.hb_core.specs.Using.{page_wanted, use_wanted}
 use Rattle.hb_core.specs.Working.{HasCome, HasPages, HaltsPinned, IsHalt, with_memory}
 use Rattle.hb_core.specs.declared.halts.Halt.{Halt}
 use Rattle.hb_frag.specs.declared.pages.Page.{Page}
@@ -210,12 +209,6 @@ module _ (m : Machine) (d : DiskModel) (c : RunningCore) (actor : ℕ) (come : H
       as_before (inl held) = inl held
       as_before (inr dirty) = inr (ap (λ (s : set.FinSet nat_cmp). set.contains s id) (sym come.brings.rest.dirty) ∙ dirty)
 
-  pub wanted_then : (wanted : Wanted) → wanted_by m actor ≡ Some wanted → StaysHere c.uses wanted.page
-  wanted_then wanted is =
-      let more : pins_of c.uses wanted.page ≡ pins_of m.uses wanted.page + times wanted.page (page_wanted (wanted_by m actor)) = pinned_so.pins wanted.page in
-      let here : times wanted.page (page_wanted (wanted_by m actor)) ≡ 1 + 0 = ap (λ (o : Option Wanted). times wanted.page (page_wanted o)) is ∙ times_first wanted.page [] in
-      pinned_here c.uses wanted.page (omega (arith, more, here))
-
 module _ (m : Machine) (d : DiskModel) (c : RunningCore) (actor : ℕ) (latches : IsActor actor) (come : HasCome m actor d c) (needs : NeedsNumber (m.activity actor) (wanted_by m actor) (with_memory c m))
     (e : DiskModel) (failed : Type 0) (st : StoreState) (looks : LooksUp failed d e c.store st) (memory : IsMemory st) (came : MayFetch c.store.meta.free c.store st)
     (stays : (id : ℕ) → StaysHere c.uses id → in_memory st id ≡ in_memory c.store id) where
@@ -261,7 +254,7 @@ module _ (m : Machine) (d : DiskModel) (c : RunningCore) (actor : ℕ) (latches 
 
   -- the wanted page is there as it was
   live_then : (wanted : Wanted) (page : LivePage) → wanted_by m actor ≡ Some wanted → live_here c.store wanted.page ≡ Some page → live_here st wanted.page ≡ Some page
-  live_then wanted page is live = ap if_live (stays wanted.page (wanted_then m d c actor come wanted is)) ∙ live
+  live_then wanted page is live = ap if_live (stays wanted.page (wanted_here (wanted_by m actor) m.uses c.uses (pinned_so m d c actor come) wanted is)) ∙ live
 
   move : NeedsMove now then activity (wanted_by m actor)
   move = record {

@@ -1,6 +1,6 @@
 -- Pages that are pinned and unpinned one after the other: which may be, what becomes of the pins, and that the frames stay those of the
 -- pages in memory.
-use Rattle.std.proofs.Common.{◌≡◌, ◌≢◌, inl, inr, ℕ, ◌+◌, ◌-◌, ◌<◌, ◌≤◌, ◌==◌, Bool, false, List, [], ◌∷◌, ◌++◌, Option, Some, None, IsSome, refl, sym, ap, subst, ◌∙◌, arith}
+use Rattle.std.proofs.Common.{◌≡◌, ◌≢◌, inl, inr, ℕ, ◌+◌, ◌-◌, ◌<◌, ◌≤◌, ◌==◌, Bool, false, List, [], ◌∷◌, Option, Some, None, IsSome, refl, sym, ap, subst, ◌∙◌, arith}
 use Rattle.std.specs.Option.{IsSomeAnd, is_some, option_map, option_map_or}
 use Rattle.std.proofs.lemmas.Bool.{cases_Bool, eq-eqb, eqb-true, eqb-false}
 use Rattle.std.proofs.lemmas.Option.{same_Some}
@@ -15,10 +15,6 @@ use Rattle.hb_core.specs.Pinning.{CanMovePins, CanPin, CanUnpin}
 use Rattle.hb_core.specs.Using.{pin_each, pins_of, unpin_each, use_held}
 use Rattle.hb_core.proofs.Machines.PinCounts.{one_if, pinned_pins, unpinned_pins}
 use Rattle.hb_core.proofs.Machines.PinsFollow.{found_counted, times}
-
-pub times_joined : (q : ℕ) (xs ys : List ℕ) → times q (xs ++ ys) ≡ times q xs + times q ys
-times_joined q [] ys = omega arith
-times_joined q (id ∷ xs) ys = let rest = times_joined q xs ys in omega (arith, rest)
 
 pub one_itself : (id : ℕ) → one_if (id == id) ≡ 1
 one_itself id = ap one_if (eq-eqb id id refl)

@@ -1,13 +1,11 @@
 -- A session of a core that awaits its place is answered, or forces, as a step of the machine that is shown.
 use Rattle.std.proofs.Common.{◌≡◌, inl, inr, ℕ, ◌<◌, ◌≤◌, List, [], length, None, Ok, Err, refl, sym, ap, ◌∙◌, subst, append-nil}
-use Rattle.std.proofs.lemmas.List.{length-map}
 use Rattle.hb_activity.specs.declared.activities.Activity.{Activity}
 use Rattle.hb_activity.specs.declared.activities.Activity.TheVariants as at
 use Rattle.hb_activity.specs.Deeds.{answers_now}
 use Rattle.hb_disk.specs.Model.{DiskModel}
 use Rattle.hb_latch.specs.Tables.{LatchTable, mode_at}
 use Rattle.hb_space.specs.Actors.{IsActor}
-use Rattle.hb_set.specs.Order.{Entry}
 use Rattle.hb_set.specs.declared.commands.Reply.{Reply}
 use Rattle.hb_pool.specs.Frames.{Use}
 use Rattle.hb_store.specs.Forced.{WritesGroups}
@@ -28,18 +26,15 @@ use Rattle.hb_core.specs.Working.{MayStep}
 use Rattle.hb_core.proofs.Running.ForcedShows.{fails, forces, group_waits, with_held}
 use Rattle.hb_core.proofs.Running.LineTaken.{deed_done}
 use Rattle.hb_core.proofs.Running.NumbersInHand.{kept_number}
-use Rattle.hb_core.proofs.Running.StandsElsewhere.{stands_as}
+use Rattle.hb_core.proofs.Running.StandsElsewhere.{shown_length, stands_as}
 
 -- the machine stands as the core
 pub awaits_as : (d : DiskModel) (c : RunningCore) (m : Machine) (actor number place : ℕ) (reply : Reply) → IsActor actor → MayStep d c m → StandsAs c actor (at.SessionAwait number reply place) → m.activity actor ≡ at.SessionAwait number reply place
 awaits_as d c m actor number place reply may step stands = stands_as d c m actor (at.SessionAwait number reply place) may step.shows stands
 
 -- the places that are settled are the machine's
-pub same_length : (d : DiskModel) (c : RunningCore) (m : Machine) → ShowsMachine d c m → length m.order ≡ length c.order
-same_length d c m shows = sym (length-map m.order (λ (e : Entry). e.line.number)) ∙ ap (λ (l : List ℕ). length l) shows.order
-
 same_settled : (d : DiskModel) (c : RunningCore) (m : Machine) → ShowsMachine d c m → settled_count m ≡ mark_of c.store.log.groups (length c.order)
-same_settled d c m shows = ap (λ (s : StoreState). mark_of s.log.groups (length m.order)) shows.store ∙ ap (mark_of c.store.log.groups) (same_length d c m shows)
+same_settled d c m shows = ap (λ (s : StoreState). mark_of s.log.groups (length m.order)) shows.store ∙ ap (mark_of c.store.log.groups) (shown_length d c m shows)
 
 -- who awaits its place holds no latch
 no_latch : (d : DiskModel) (c : RunningCore) (m : Machine) (actor number place : ℕ) (reply : Reply) → IsActor actor → MayStep d c m → m.activity actor ≡ at.SessionAwait number reply place → (page : ℕ) → mode_at c.latches actor page ≡ None

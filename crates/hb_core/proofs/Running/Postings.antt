@@ -10,7 +10,6 @@ use Rattle.hb_space.specs.Actors.{IsActor}
 use Rattle.hb_layout.specs.declared.meta.Meta.{Meta}
 use Rattle.hb_layout.specs.declared.limits.TheConstants.{HEIGHT_MAX}
 use Rattle.hb_lemmas.proofs.Options.{at_value, has_value, some_value}
-use Rattle.hb_ops.specs.Sound.{FitsFile}
 use Rattle.hb_activity.specs.declared.jobs.Job.{Job}
 use Rattle.hb_activity.specs.declared.wanting.Wanted.{Wanted}
 use Rattle.hb_activity.specs.declared.activities.Activity.{Activity}
@@ -22,7 +21,7 @@ use Rattle.hb_activity.specs.Wanting.{in_mode, named_child, wanted_of}
 use Rattle.hb_poster.specs.Asks.{MakesPage, MayBeAsked}
 use Rattle.hb_poster.specs.PosterRows.{MayGrow}
 use Rattle.hb_ops.specs.Owing.{LacksRoom}
-use Rattle.hb_core.proofs.Memory.StillThere.{fetched_good}
+use Rattle.hb_core.proofs.Memory.StillThere.{fetched_fits}
 use Rattle.hb_core.proofs.Running.Brought.{brings_wider}
 use Rattle.hb_core.proofs.Running.StandsElsewhere.{stands_as}
 use Rattle.hb_core.proofs.Walks.MayBeAsked.{children_may_be_asked}
@@ -51,9 +50,6 @@ module _ (m : Machine) (d : DiskModel) (c : RunningCore) (actor : ℕ) (latches 
 
   any : Brings m AnyPage c.store
   any = brings_wider m (IsWantedPage (wanted_by m actor)) AnyPage c.store (λ id is. tt) come.brings
-
-  fits_page : (id : ℕ) (page : LivePage) → live_here c.store id ≡ Some page → FitsFile c.store.meta page
-  fits_page id page live = subst (λ (meta : Meta). FitsFile meta page) (sym come.brings.rest.meta) (fetched_good m (IsWantedPage (wanted_by m actor)) c.store come.may.goes_on.kept.pages_of_file come.brings id page live).1
 
   -- ---- it wants a page
 
@@ -175,7 +171,7 @@ module _ (m : Machine) (d : DiskModel) (c : RunningCore) (actor : ℕ) (latches 
   asks_number = record {
     page = its_page.0;
     live = its_page.1;
-    made = fits_page m d c actor latches come id its_page.0 its_page.1;
+    made = fetched_fits m (IsWantedPage (wanted_by m actor)) c.store come.may.goes_on.kept.pages_of_file come.brings id its_page.0 its_page.1;
     asked = asked_at m d c actor latches come activity stands_so may its_page.0 (same_page ∙ its_page.1);
   }
 

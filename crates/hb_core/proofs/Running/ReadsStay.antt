@@ -1,5 +1,5 @@
 -- The pages that the operation of a row reads stay: the actor has latched them, or it is the wanted page, which is pinned for the step.
-use Rattle.std.proofs.Common.{◌≡◌, ◌⊎◌, inl, inr, ℕ, ◌+◌, ◌==◌, ◌||◌, Bool, true, false, cond, List, [], Option, Some, None, IsTrue, refl, sym, ap, subst, ◌∙◌, arith}
+use Rattle.std.proofs.Common.{◌≡◌, ◌⊎◌, inl, inr, ℕ, ◌==◌, ◌||◌, Bool, true, false, cond, List, Option, Some, None, IsTrue, refl, sym, ap, subst, ◌∙◌, arith}
 use Rattle.std.specs.Option.{is_some}
 use Rattle.std.proofs.lemmas.Bool.{cases_Bool, eqb-true, false≢true}
 use Rattle.hb_disk.specs.Model.{DiskModel}
@@ -17,10 +17,9 @@ use Rattle.hb_space.specs.Actors.{IsActor}
 use Rattle.hb_store.specs.Calls.{StaysHere}
 use Rattle.hb_store.specs.Replay.{is_among}
 use Rattle.hb_core.proofs.Files.PairAtHand.{decides_page}
-use Rattle.hb_core.proofs.Machines.PinsFollow.{PinsMore, more_number, times}
+use Rattle.hb_core.proofs.Machines.PinsFollow.{PinsMore, more_number}
 use Rattle.hb_core.proofs.Memory.OwnedOps.{second_mode}
-use Rattle.hb_core.proofs.Running.Frames.{must_here, pinned_here}
-use Rattle.hb_core.proofs.Running.Pins.{times_first}
+use Rattle.hb_core.proofs.Running.Frames.{must_here, wanted_here}
 use Rattle.hb_core.proofs.Table.EachRow.{each_op, each_row}
 use Rattle.hb_core.specs.Asking.{wanted_by}
 use Rattle.hb_core.specs.Fetching.{MustStay}
@@ -28,7 +27,7 @@ use Rattle.hb_core.specs.Machines.{Machine, sight}
 use Rattle.hb_core.specs.Performing.{latches_held, mode_among}
 use Rattle.hb_core.specs.Rows.{Row}
 use Rattle.hb_core.specs.Showing.{RunningCore}
-use Rattle.hb_core.specs.Using.{page_wanted, pins_of}
+use Rattle.hb_core.specs.Using.{page_wanted}
 use Rattle.hb_core.specs.Working.{HasPages, with_memory}
 
 module _ (m : Machine) (d : DiskModel) (c : RunningCore) (actor : ℕ) (free : Option (ℕ × ℕ)) (may : IsActor actor) (has : HasPages m actor free d c) where
@@ -44,12 +43,6 @@ module _ (m : Machine) (d : DiskModel) (c : RunningCore) (actor : ℕ) (free : O
   held_stays id mode is =
       must_here m c.store c.uses has.may.goes_on.kept has.brings.rest.dirty has.tied (λ q. let more = pinned_so.pins q in omega (arith, more)) id
       (inl (actor, mode, has.may.goes_on.kept.latches_fit.exact actor id may ∙ is))
-
-  pub wanted_stays : (wanted : Wanted) → wanted_by m actor ≡ Some wanted → StaysHere c.uses wanted.page
-  wanted_stays wanted is =
-      let more : pins_of c.uses wanted.page ≡ pins_of m.uses wanted.page + times wanted.page (page_wanted (wanted_by m actor)) = pinned_so.pins wanted.page in
-      let here : times wanted.page (page_wanted (wanted_by m actor)) ≡ 1 + 0 = ap (λ (o : Option Wanted). times wanted.page (page_wanted o)) is ∙ times_first wanted.page [] in
-      pinned_here c.uses wanted.page (omega (arith, more, here))
 
   abbrev ReadsStay : Option Op → Type 0
   ReadsStay None = Unit {0}
@@ -92,8 +85,8 @@ module _ (m : Machine) (d : DiskModel) (c : RunningCore) (actor : ℕ) (free : O
           })
           (λ its page at_hand hand. each_op (sight (with_memory c m)) its.page page Shown (record {
             none = λ activity is. tt;
-            inserts = λ line held rest found rec command absent room is id. one its.page id (wanted_stays its (wanted ∙ at_hand));
-            deletes = λ line held rest found p there command stands is id. one its.page id (wanted_stays its (wanted ∙ at_hand));
+            inserts = λ line held rest found rec command absent room is id. one its.page id (wanted_here (wanted_by m actor) m.uses c.uses pinned_so its (wanted ∙ at_hand));
+            deletes = λ line held rest found p there command stands is id. one its.page id (wanted_here (wanted_by m actor) m.uses c.uses pinned_so its (wanted ∙ at_hand));
             grows = λ job fresh free_after may free next is id among. absurd (false≢true among);
             posts = λ job parent above path inner area live plan is id. one parent id (own (at.PosterAgain job parent) parent is (at_itself parent (Some Exclusive) None));
             parts = λ job parent above live plan leaves is id. one parent id (own (at.PosterAgain job parent) parent is (at_itself parent (Some Exclusive) None));
@@ -101,7 +94,7 @@ module _ (m : Machine) (d : DiskModel) (c : RunningCore) (actor : ℕ) (free : O
                 let named = decides_page m actor job parent keep gone its is (wanted ∙ at_hand) in
                 more parent id _ (own (at.ConsolidatorDecide job parent keep gone) parent is (at_itself parent (Some Exclusive) (cond (keep == parent) (Some Exclusive) None)))
                 (more keep id _ (own (at.ConsolidatorDecide job parent keep gone) keep is (second_mode parent keep))
-                (one gone id (subst (StaysHere c.uses) named.0 (wanted_stays its (wanted ∙ at_hand))))) among;
+                (one gone id (subst (StaysHere c.uses) named.0 (wanted_here (wanted_by m actor) m.uses c.uses pinned_so its (wanted ∙ at_hand))))) among;
           }))
           row refl
 

@@ -2,8 +2,6 @@
 use Rattle.std.proofs.Common.{◌≡◌, ◌⊎◌, inl, inr, ℕ, suc, zero, ◌-◌, ◌+◌, ◌++◌, arith, true, false, Bool, List, [], ◌∷◌, length, slice_set, Option, Some, None, IsSome, refl, sym, ap, ◌∙◌, subst}
 use Rattle.std.specs.Option.{MatchOption, is_some}
 use Rattle.std.proofs.lemmas.Bool.{cases_Bool}
-use Rattle.std.proofs.lemmas.List.{length-map}
-use Rattle.hb_set.specs.Order.{Entry}
 use Rattle.hb_activity.specs.declared.activities.Activity.{Activity}
 use Rattle.hb_activity.specs.declared.activities.Activity.TheVariants as at
 use Rattle.hb_activity.specs.declared.dropping.DropWhy.TheVariants as drops
@@ -35,12 +33,14 @@ use Rattle.hb_core.specs.Working.{Halts, HaltsPinned, HasCome, HasPages, ShowsBu
 use Rattle.hb_core.proofs.Running.Brought.{brings_wider}
 use Rattle.hb_core.proofs.Running.MayPerform.{brings_as_row, row_there}
 use Rattle.hb_core.proofs.Running.DeedShows.{deed_shows}
+use Rattle.hb_core.proofs.Running.ForcedShows.{shown_with}
 use Rattle.hb_core.proofs.Running.NumbersInHand.{row_number}
+use Rattle.hb_core.proofs.Running.Numbered.{decodes_as}
 use Rattle.hb_core.proofs.Running.Pins.{can_unpin, tied_unpinned}
 use Rattle.hb_core.proofs.Machines.PinsFollow.{PinsMore, more_number}
 use Rattle.hb_core.specs.KeptMachine.{MachineKeeps}
 use Rattle.hb_core.proofs.Running.ReadsStay.{must_stays}
-use Rattle.hb_core.proofs.Running.StandsElsewhere.{shows_but, stands_as}
+use Rattle.hb_core.proofs.Running.StandsElsewhere.{shown_length, shows_but, stands_as}
 use Rattle.hb_core.proofs.Running.TakesNumbers.{needs_what_it_takes, takes_what_it_needs}
 
 set_twice : {X : Type 0} (xs : List X) (n : ℕ) (x y : X) → slice_set (slice_set xs n x) n y ≡ slice_set xs n y
@@ -48,28 +48,9 @@ set_twice [] n x y = refl
 set_twice (z ∷ xs) zero x y = refl
 set_twice (z ∷ xs) (suc n) x y = ap (λ (l : List _). z ∷ l) (set_twice xs n x y)
 
--- the order is as long
-shown_length : (d : DiskModel) (c : RunningCore) (m : Machine) → ShowsMachine d c m → length m.order ≡ length c.order
-shown_length d c m shows = sym (length-map m.order (λ (e : Entry). e.line.number)) ∙ ap (λ (l : List ℕ). length l) shows.order
-
 -- a core shows a machine with another order of use, where it has that
 pub shows_with : (d : DiskModel) (c : RunningCore) (uses : List Use) (n : Machine) → ShowsMachine d c n → ShowsMachine d (with_order_of_use uses c) (with_uses uses n)
-shows_with d c uses n shows = record {
-  lines = shows.lines;
-  sessions = shows.sessions;
-  turns = λ session behind from to at. let turn = shows.turns session behind from to at in record { few = turn.few; front = turn.front; back = turn.back };
-  all_actors = shows.all_actors;
-  activities = shows.activities;
-  nobody_else = shows.nobody_else;
-  latches = shows.latches;
-  jobs = shows.jobs;
-  order = shows.order;
-  stop = shows.stop;
-  store = shows.store;
-  uses = refl;
-  tells = λ told. let s = shows.tells told in record { files = s.files; told = s.told; kept = s.kept; clock = s.clock };
-  silent = shows.silent;
-}
+shows_with d c uses n shows = shown_with d d c c.store uses n shows n.store uses n.files n.clock shows.store refl (λ told. let s = shows.tells told in record { files = s.files; told = s.told; kept = s.kept; clock = s.clock }) shows.silent
 
 -- a number that is given is one that the row needs
 needed : (N : Type 0) (given : ℕ × ℕ → Type 0) (free : Option (ℕ × ℕ)) → MatchOption free (¬ N) (λ next. N × given next) → IsSome free → N
@@ -83,42 +64,9 @@ needs_as m uses (Some wanted) (at.PosterGrow job) (room, root, hand, may) = (roo
 needs_as m uses (Some wanted) (at.PosterAgain job parent) (room, child, hand, planned) = (room, child, record { live = hand.live; level = hand.level; box = hand.box }, planned)
 needs_as m uses wanted activity needs = absurd needs
 
--- a step decodes its pages, whatever the order of use
-pub decodes_as : (m : Machine) (uses : List Use) (wanted : Option Wanted) (activity : Activity) → Decodes wanted (with_uses uses m) activity → Decodes wanted m activity
-decodes_as m uses None (at.SessionWalk line held rest found) decodes = decodes
-decodes_as m uses (Some wanted) (at.SessionWalk line held rest found) (boxes, (page, hand, now)) = (boxes, (page, record { live = hand.live; level = hand.level; box = hand.box }, now))
-decodes_as m uses wanted (at.SessionSplit line held) decodes = decodes
-decodes_as m uses wanted (at.SessionPut line source fresh) decodes = decodes
-decodes_as m uses wanted at.SessionIdle decodes = decodes
-decodes_as m uses wanted (at.SessionAwait number reply place) decodes = decodes
-decodes_as m uses wanted at.PosterIdle decodes = decodes
-decodes_as m uses wanted (at.PosterGrow job) decodes = decodes
-decodes_as m uses wanted (at.PosterWalk job held) decodes = decodes
-decodes_as m uses wanted (at.PosterChild job parent) decodes = decodes
-decodes_as m uses wanted (at.PosterPromote job parent) decodes = decodes
-decodes_as m uses wanted (at.PosterAgain job parent) decodes = decodes
-decodes_as m uses wanted at.ConsolidatorIdle decodes = decodes
-decodes_as m uses wanted (at.ConsolidatorWalk job held) decodes = decodes
-decodes_as m uses wanted (at.ConsolidatorScan job parent child) decodes = decodes
-decodes_as m uses wanted (at.ConsolidatorTry job parent keep gone leaf) decodes = decodes
-decodes_as m uses wanted (at.ConsolidatorPromote job parent keep gone) decodes = decodes
-decodes_as m uses wanted (at.ConsolidatorKeep job parent keep gone) decodes = decodes
-decodes_as m uses wanted (at.ConsolidatorDecide job parent keep gone) decodes = decodes
-decodes_as m uses wanted at.Flusher decodes = decodes
-
 -- of two machines that a core shows an actor has the same line in hand
 pub lines_alike : (d : DiskModel) (c : RunningCore) (m n : Machine) (actor : ℕ) → IsActor actor → HasCome m actor d c → HasCome n actor d c → number_of (hand_of (m.activity actor)) ≡ number_of (hand_of (n.activity actor))
 lines_alike d c m n actor may own come = ap (λ (a : Activity). number_of (hand_of a)) (stands_as d c (with_memory c m) actor (n.activity actor) may own.shows (come.shows.activities actor may))
-
--- memory is refused before a number is known to be needed
-pub number_refused : (d : DiskModel) (c : RunningCore) (m : Machine) (actor : ℕ) → IsActor actor → HasCome m actor d c → Decodes (wanted_by m actor) (with_memory c m) (m.activity actor) → HaltsPinned m actor (GivesUp drops.NoMemory) d c
-number_refused d c m actor may come decodes = record {
-  brings = brings_wider m (IsWantedPage (wanted_by m actor)) (MayNeed m actor c.store) c.store (λ id wants. inl wants) come.brings;
-  shows = shows_but d c (with_memory c m) actor may come.shows;
-  cause = inl (decodes_as (with_disk c.store m.files m.clock m) c.uses (wanted_by m actor) (m.activity actor) decodes);
-  used_is = inl come.uses;
-  tied = come.tied;
-}
 
 -- the wanted page is pinned for the step still, so that it may be let go
 pub may_let_wanted_go : (m : Machine) (actor : ℕ) (d : DiskModel) (c : RunningCore) (wanted : Option Wanted) (halt : Halt) → MachineKeeps m → wanted ≡ wanted_by m actor → HaltsPinned m actor halt d c → CanUnpin (page_wanted wanted) c.uses

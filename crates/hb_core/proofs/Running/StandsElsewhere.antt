@@ -1,9 +1,10 @@
 -- Where the actors of a core stand, once one of them stands elsewhere.
 use Rattle.std.proofs.Common.{◌≡◌, ◌≢◌, ℕ, zero, suc, ◌<◌, ◌-◌, cond, List, [], ◌∷◌, length, slice_get, slice_set, Some, refl, sym, ap, ◌∙◌, subst, arith}
-use Rattle.std.proofs.lemmas.List.{length-set}
+use Rattle.std.proofs.lemmas.List.{length-map, length-set}
 use Rattle.hb_activity.specs.declared.activities.Activity.{Activity}
 use Rattle.hb_disk.specs.Model.{DiskModel}
 use Rattle.hb_lemmas.proofs.Booleans.{if_same}
+use Rattle.hb_set.specs.Order.{Entry}
 use Rattle.hb_space.specs.Actors.{IsActor}
 use Rattle.hb_core.specs.Machines.{Machine, with_activity}
 use Rattle.hb_core.specs.Moving.{StandsAs, with_standing}
@@ -55,6 +56,10 @@ stands_so d c m actor may shows = ap (λ (l : List Activity). record c { activit
 
 pub shows_but : (d : DiskModel) (c : RunningCore) (m : Machine) (actor : ℕ) → IsActor actor → ShowsMachine d c m → ShowsMachine d (with_standing actor (m.activity actor) c) m
 shows_but d c m actor may shows = subst (λ (s : RunningCore). ShowsMachine d s m) (sym (stands_so d c m actor may shows)) shows
+
+-- its order is as long
+pub shown_length : (d : DiskModel) (c : RunningCore) (m : Machine) → ShowsMachine d c m → length m.order ≡ length c.order
+shown_length d c m shows = sym (length-map m.order (λ (e : Entry). e.line.number)) ∙ ap (λ (l : List ℕ). length l) shows.order
 
 -- it is what an activity is that it stands as
 pub stands_as : (d : DiskModel) (c : RunningCore) (m : Machine) (actor : ℕ) (activity : Activity) → IsActor actor → ShowsMachine d c m → StandsAs c actor activity → m.activity actor ≡ activity

@@ -1,9 +1,6 @@
 -- A core that works takes a step of the machine that it shows.
-use Rattle.std.proofs.Common.{◌≡◌, ◌⊎◌, inl, inr, ℕ, ◌-◌, ◌↔◌, arith, Bool, true, false, List, slice_get, slice_set, Option, None, IfSome, IsSome, IsTrue, refl, sym, ap, ◌∙◌, subst}
-use Rattle.std.specs.Option.{IsSomeAnd, option_and_then}
-use Rattle.hb_activity.specs.Walks.{walk_held}
-use Rattle.hb_lemmas.proofs.Options.{has_value, some_value}
-use Rattle.hb_ops.specs.Files.{if_live}
+use Rattle.std.proofs.Common.{◌≡◌, ◌⊎◌, inl, inr, ℕ, ◌-◌, ◌↔◌, arith, Bool, true, false, List, slice_get, slice_set, Option, None, IfSome, IsTrue, refl, sym, ap, ◌∙◌, subst}
+use Rattle.std.specs.Option.{IsSomeAnd}
 use Rattle.hb_activity.specs.declared.activities.Activity.{Activity}
 use Rattle.hb_activity.specs.declared.dropping.DropWhy.{DropWhy}
 use Rattle.hb_activity.specs.declared.wanting.Wanted.{Wanted}
@@ -31,7 +28,7 @@ use Rattle.hb_core.specs.Asking.{HasWayFree, looked_live, wanted_by}
 use Rattle.hb_core.specs.GivingUp.{gives_up, gives_up_hand}
 use Rattle.hb_core.specs.KeptFits.{class_for}
 use Rattle.hb_core.specs.Looking.{MayLook, wanted_in}
-use Rattle.hb_core.specs.Machines.{Machine, live_here, stopped_for}
+use Rattle.hb_core.specs.Machines.{Machine, stopped_for}
 use Rattle.hb_core.specs.Moving.{DoesDeed, StandsAs, number_of, with_stop}
 use Rattle.hb_core.specs.Showing.{RunningCore, ShowsMachine, number_in_hand}
 use Rattle.hb_core.specs.Steps.{IsUnready, Works}
@@ -62,19 +59,6 @@ module _ (d : DiskModel) (c : RunningCore) (m : Machine) (actor : ℕ) (may : Is
   -- the pages that it holds, and the one that its walk holds is there
   pub holds_pages : (pins : List ℕ) → ((activity : Activity) → StandsAs c actor activity → pins ≡ pages_of (latches_held c.store activity)) → pins ≡ pages_of (latches_held m.store (m.activity actor))
   holds_pages pins is = is (m.activity actor) stands ∙ ap (λ (st : StoreState). pages_of (latches_held st (m.activity actor))) (sym step.shows.store)
-
-  abbrev Walks : Activity → Type 0
-  Walks activity = IsSome (walk_held activity) → IsSome (option_and_then (live_here c.store) (walk_held activity))
-
-  pub walks_here : (activity : Activity) → StandsAs c actor activity → IsSome (walk_held activity) → IsSome (option_and_then (live_here c.store) (walk_held activity))
-  walks_here activity so = subst Walks (stands_as d c m actor activity may step.shows so) own
-    where
-      own : Walks (m.activity actor)
-      own walks =
-          let held = some_value (walk_held (m.activity actor)) walks in
-          let there = step.goes_on.kept.latches_fit.walking actor held.0 may held.1 in
-          subst (λ (o : Option ℕ). IsSome (option_and_then (live_here c.store) o)) (sym held.1)
-          (subst (λ (st : StoreState). IsSome (live_here st held.0)) step.shows.store (has_value (live_here m.store held.0) there.0 (ap if_live there.1)))
 
   -- another actor is in the way, and the core stays so
   pub blocked : (wanted : Option Wanted) (by : ℕ) → wanted ≡ wanted_by m actor → IsSomeAnd wanted (λ w. IsLeastInTheWay c.latches actor w.page w.mode by) → (new : Machine) × Works m actor (outcomes.Blocked by) new × ShowsMachine d c new

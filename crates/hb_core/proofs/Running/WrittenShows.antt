@@ -1,12 +1,11 @@
 -- A core that writes the least recently used dirty page to its place, or finds nothing to write, shows what this makes of the machine.
-use Rattle.std.proofs.Common.{◌≡◌, ℕ, ◌+◌, ◌-◌, ◌++◌, List, Option, Some, None, IsOk, IsSome, IfSome, Ok, Err, Result, refl, sym, ap, ◌∙◌, subst, ◌⊎◌, ◌<◌, inl, inr, [], arith}
-use Rattle.std.specs.Prelude.{MatchOption, replicate}
-use Rattle.hb_disk.specs.Calls.{IsSynced, ReadsOnly}
+use Rattle.std.proofs.Common.{◌≡◌, ℕ, ◌+◌, List, Option, Some, None, IsOk, IsSome, Ok, Err, Result, refl, sym, ap, ◌∙◌, subst, ◌⊎◌, ◌<◌, inl, inr, [], arith}
+use Rattle.std.specs.Prelude.{MatchOption}
+use Rattle.hb_disk.specs.Calls.{ReadsOnly}
 use Rattle.hb_disk.specs.Model.{DiskModel, Stays}
 use Rattle.hb_ops.specs.Files.{FileState}
 use Rattle.hb_pool.specs.Frames.{Use, clean}
 use Rattle.hb_pool.specs.Pools.{in_place}
-use Rattle.hb_space.specs.declared.form.TheConstants.{PAGE}
 use Rattle.hb_store.specs.Held.{StoreHeld, cleaned_state, oldest_dirty}
 use Rattle.hb_store.specs.Keeps.{StoreKeeps}
 use Rattle.hb_store.specs.States.{StoreState}
@@ -14,7 +13,7 @@ use Rattle.hb_store.specs.Switching.{SwitchesTurn, switched_state}
 use Rattle.hb_store.specs.WritingHome.{FlushesClean, FlushesHome, WritesHome}
 use Rattle.hb_store.specs.declared.stops.StopWhy.TheVariants as stops
 use Rattle.hb_store.specs.declared.stops.WriteFault.{WriteFault}
-use Rattle.hb_wal.specs.Frames.{frames, range}
+use Rattle.hb_store.proofs.Facts.StayedDisks.{keeps_read}
 use Rattle.hb_core.specs.declared.outcomes.Outcome.{Outcome}
 use Rattle.hb_core.specs.declared.outcomes.Outcome.TheVariants as outcomes
 use Rattle.hb_core.specs.Forcing.{BeginsTurn, FailsToWrite, HasDirtyPage, HasOldTurn, WritesOldest}
@@ -24,42 +23,6 @@ use Rattle.hb_core.specs.Showing.{RunningCore, ShowsMachine}
 use Rattle.hb_core.specs.Touching.{held_in}
 use Rattle.hb_core.proofs.Facts.RunDisks.{none_later}
 use Rattle.hb_core.proofs.Running.ForcedShows.{fails_by, kept_before, shown_with, silent_before, told_before, with_held}
-
--- ---- a disk that stays
-
-synced_still : (d e : DiskModel) (at n : ℕ) → Stays d e → IsSynced d at n → IsSynced e at n
-synced_still d e at n stays s = record { each = λ b c told image. s.each b c (sym stays.told ∙ told) (stays.image c image) }
-
--- what a store keeps of it
-pub keeps_still : (d e : DiskModel) (st : StoreState) (durable : FileState) (later : List FileState) → Stays d e → StoreKeeps d st durable later → StoreKeeps e st durable later
-keeps_still d e st durable later stays k = record {
-  parts = k.parts;
-  disk = record {
-    told = subst (λ (t : Option (List ℕ)). IsSome t) (sym stays.told) k.disk.told;
-    count = k.disk.count;
-    images = λ c image. k.disk.images c (stays.image c image);
-    shows = λ c image. k.disk.shows c (stays.image c image);
-    running = λ r. let run = k.disk.running r in record {
-      places = synced_still d e 0 8192 stays run.places;
-      no_body = λ b told. run.no_body b (sym stays.told ∙ told);
-      logged = record {
-        synced = synced_still d e st.log.area st.log.len stays run.logged.synced;
-        payloads_fit = run.logged.payloads_fit;
-        count = run.logged.count;
-        reads = subst (λ (t : Option (List ℕ)). IfSome t (λ b. range st.log.area st.log.len b ≡ frames k.parts.payloads ++ replicate (st.log.len - st.log.written) 0)) (sym stays.told) run.logged.reads;
-      };
-    };
-    kept = (synced_still d e _ PAGE stays k.disk.kept.0, synced_still d e st.log.area st.log.written stays k.disk.kept.1);
-  };
-  waits = k.waits;
-  in_log = record { touched = k.in_log.touched; synced = λ id page none found c image. k.in_log.synced id page none found c (stays.image c image) };
-  memory = record {
-    layout = k.memory.layout;
-    meta_is = k.memory.meta_is;
-    cached = k.memory.cached;
-    placed = λ id page b none found told. k.memory.placed id page b none found (sym stays.told ∙ told);
-  };
-}
 
 module _ (d e : DiskModel) (c : RunningCore) (st : StoreState) (uses : List Use) (m : Machine) (shows : ShowsMachine d c m) where
   abbrev pub now : StoreHeld
@@ -77,7 +40,7 @@ module _ (d e : DiskModel) (c : RunningCore) (st : StoreState) (uses : List Use)
       record {
         files = had.files;
         told = had.told;
-        kept = keeps_still d e m.store had.files.durable had.files.later stays had.kept;
+        kept = keeps_read d e m.store had.files.durable had.files.later stays had.kept;
         clock = had.clock ∙ sym stays.clock;
       })
       (λ untold. shows.silent (sym stays.told ∙ untold))

@@ -22,7 +22,7 @@ use Rattle.hb_core.specs.Rows.{Row}
 use Rattle.hb_frag.specs.Leaves.{IsPointer, Placed, leaf_at}
 use Rattle.hb_space.specs.Boxes.{Area}
 use Rattle.hb_store.specs.States.{StoreState}
-use Rattle.hb_core.proofs.Table.EachRow.{each_row}
+use Rattle.hb_core.proofs.Table.EachRow.{PassesAt, each_row}
 
 -- a walking worker, with its job and the page that it holds
 abbrev pub WalksAsWorker : Activity → Job → Option ℕ → Type 0
@@ -59,6 +59,28 @@ pub record WalksOn (m : Machine) (actor : ℕ) (now : Machine) (deed : Deed) : T
   pub level : page.level ≡ wanted.level
   pub goes : GoesFarther (m.activity actor) wanted.page page deed
 
+walks_on : (m : Machine) (actor : ℕ) (now : Machine) (its : Wanted) (page : LivePage) (deed : Deed) (job : Job) (held : Option ℕ) (leaf : Leaf) → wanted_by m actor ≡ Some its → live_here now.store its.page ≡ Some page → page.level ≡ its.level
+    → WalksAsWorker (m.activity actor) job held → WalksAsWorker deed.next job (Some its.page) → deed.op ≡ None → (page.level ≡ job.level → ¬ (LeadsBelow page job)) → PassesAt page job.point leaf → WalksOn m actor now deed
+walks_on m actor now its page deed job held leaf wants live level before after nothing farther row = record {
+  wanted = its;
+  wants = wants;
+  page = page;
+  live = live;
+  level = level;
+  goes = record {
+    job = job;
+    held = held;
+    before = before;
+    after = after;
+    nothing = nothing;
+    leaf = leaf;
+    area = row.area;
+    at_point = row.at_point;
+    names = row.names;
+    farther = farther;
+  };
+}
+
 pub walk_after : (m : Machine) (actor : ℕ) (now : Machine) (wanted : Option Wanted) (deed : Deed) → wanted_by m actor ≡ wanted → Row (m.activity actor) wanted now deed → (walking_job deed.next ≡ None) ⊎ WalksOn m actor now deed
 walk_after m actor now wanted deed wants row = each_row now (λ activity deed. m.activity actor ≡ activity → (walking_job deed.next ≡ None) ⊎ WalksOn m actor now deed) (m.activity actor) wanted deed
     (record {
@@ -76,48 +98,12 @@ walk_after m actor now wanted deed wants row = each_row now (λ activity deed. m
       grows = λ job fresh free_after may free next is. inl refl;
       ends = λ activity job kind hand is. inl refl;
       arrives = λ job held child area level leaf is. inl refl;
-      walks = λ job held leaf farther row is. inr (record {
-        wanted = its;
-        wants = wants ∙ at_hand;
-        page = page;
-        live = hand.live;
-        level = hand.level;
-        goes = record {
-          job = job;
-          held = held;
-          before = inl is;
-          after = inl refl;
-          nothing = refl;
-          leaf = leaf;
-          area = row.area;
-          at_point = row.at_point;
-          names = row.names;
-          farther = farther;
-        };
-      });
+      walks = λ job held leaf farther row is. inr (walks_on m actor now its page _ job held leaf (wants ∙ at_hand) hand.live hand.level (inl is) (inl refl) refl farther row);
       looks = λ job parent is. inl refl;
       promotes = λ job parent is. inl refl;
       posts = λ job parent above path inner area live plan is. inl refl;
       parts = λ job parent above live plan leaves is. inl refl;
-      walks_to_merge = λ job held leaf farther row is. inr (record {
-        wanted = its;
-        wants = wants ∙ at_hand;
-        page = page;
-        live = hand.live;
-        level = hand.level;
-        goes = record {
-          job = job;
-          held = held;
-          before = inr is;
-          after = inr refl;
-          nothing = refl;
-          leaf = leaf;
-          area = row.area;
-          at_point = row.at_point;
-          names = row.names;
-          farther = farther;
-        };
-      });
+      walks_to_merge = λ job held leaf farther row is. inr (walks_on m actor now its page _ job held leaf (wants ∙ at_hand) hand.live hand.level (inr is) (inr refl) refl farther row);
       merges = λ activity deed kind row stays is. inl (ap (λ (d : Deed). walking_job d.next) stays.is ∙ stays.after.goal);
       merges_two = λ job parent keep gone pair is. inl refl;
     }) row refl

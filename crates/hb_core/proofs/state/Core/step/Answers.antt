@@ -2,7 +2,7 @@ use Rattle.hb_core.proofs.state.Core.step.Goals as goal
 use Rattle.std.proofs.Common.{Some, inl, refl, ap, ◌∙◌}
 use Rattle.hb_core.specs.declared.outcomes.Outcome.TheVariants as outcomes
 use Rattle.hb_core.proofs.Running.AgainstPlaces.{lines_have_boxes, locks_have_boxes}
-use Rattle.hb_core.proofs.Running.Counted.{counts_step, line_counts, merging_counts, no_op_still, posting_counts, stays_part}
+use Rattle.hb_core.proofs.Running.Counted.{counts_none, counts_step, line_counts, merging_counts, no_op_still, posting_counts}
 use Rattle.hb_core.proofs.Running.Touched.{as_before_count, line_well, merging_well, posting_well, untouched, untouched_stopped}
 use Rattle.hb_core.proofs.Running.StepTaken.{await_step, counted, flusher_step, lies_behind, line_step, merging_step, posting_step, stopped_stays, with_taken, work_step, works_then}
 use Rattle.hb_core.specs.CoreSeen.{core_disk, core_seen}
@@ -65,7 +65,7 @@ returns-in-SessionIdle g c = record {
       (line_well c.args.actor behind.0 c.take_line.result (with_taken c.saturating_add-self.result (core_seen c.args.self.now)) (core_seen c.take_line.new.self) (c.take_line.ensures.does behind.0 behind.1)) c.take_line.ensures.disk;
   counts =
       let behind = lies_behind (g.D.Device.model (core_disk c.args.self.now)) (core_seen c.args.self.now) c.requires.may.0 c.args.actor c.activity.result.now c.requires.actor c.requires.may.1 c.in_default.is c.activity.ensures c.in-SessionIdle.is in
-      counts_step c.args.actor c.saturating_add-self.result (core_seen c.args.self.now) (core_seen c.take_line.new.self) c.saturating_add-self.ensures (stays_part c.args.actor (with_taken c.saturating_add-self.result (core_seen c.args.self.now)) (core_seen c.take_line.new.self) (line_counts c.args.actor behind.0 c.take_line.result (with_taken c.saturating_add-self.result (core_seen c.args.self.now)) (core_seen c.take_line.new.self) (c.take_line.ensures.does behind.0 behind.1)));
+      counts_none c.args.actor c.saturating_add-self.result (core_seen c.args.self.now) (core_seen c.take_line.new.self) c.saturating_add-self.ensures (line_counts c.args.actor behind.0 c.take_line.result (with_taken c.saturating_add-self.result (core_seen c.args.self.now)) (core_seen c.take_line.new.self) (c.take_line.ensures.does behind.0 behind.1));
 }
 
 pub returns-in-SessionAwait : goal.returns-in-SessionAwait
@@ -76,7 +76,7 @@ returns-in-SessionAwait g c = record {
       c.requires.actor mine c.in_default.is c.activity.ensures c.in-SessionAwait.line c.in-SessionAwait.place c.in-SessionAwait.reply c.in-SessionAwait.is
       (λ runs is. c.await_place.ensures.steps m mine c.in-SessionAwait.line c.in-SessionAwait.reply runs is);
   touches = as_before_count g.D.Device.model (core_disk c.args.self.now) (core_disk c.await_place.new.self) c.saturating_add-self.result (core_seen c.args.self.now) (core_seen c.await_place.new.self) c.await_place.result c.await_place.ensures.touches;
-  counts = counts_step c.args.actor c.saturating_add-self.result (core_seen c.args.self.now) (core_seen c.await_place.new.self) c.saturating_add-self.ensures (stays_part c.args.actor (with_taken c.saturating_add-self.result (core_seen c.args.self.now)) (core_seen c.await_place.new.self) c.await_place.ensures.counts);
+  counts = counts_none c.args.actor c.saturating_add-self.result (core_seen c.args.self.now) (core_seen c.await_place.new.self) c.saturating_add-self.ensures c.await_place.ensures.counts;
 }
 
 pub returns-in-PosterIdle : goal.returns-in-PosterIdle
@@ -87,7 +87,7 @@ returns-in-PosterIdle g c = record {
       c.requires.actor mine c.in_default.is c.activity.ensures c.in-PosterIdle.is c.take_posting.ensures.disk c.take_posting.ensures.does;
   touches = untouched g.D.Device.model (core_disk c.args.self.now) (core_disk c.take_posting.new.self) (core_seen c.args.self.now) (core_seen c.take_posting.new.self) c.take_posting.result
       (posting_well c.args.actor c.take_posting.result (with_taken c.saturating_add-self.result (core_seen c.args.self.now)) (core_seen c.take_posting.new.self) c.take_posting.ensures.does) c.take_posting.ensures.disk;
-  counts = counts_step c.args.actor c.saturating_add-self.result (core_seen c.args.self.now) (core_seen c.take_posting.new.self) c.saturating_add-self.ensures (stays_part c.args.actor (with_taken c.saturating_add-self.result (core_seen c.args.self.now)) (core_seen c.take_posting.new.self) (posting_counts c.args.actor c.take_posting.result (with_taken c.saturating_add-self.result (core_seen c.args.self.now)) (core_seen c.take_posting.new.self) c.take_posting.ensures.does));
+  counts = counts_none c.args.actor c.saturating_add-self.result (core_seen c.args.self.now) (core_seen c.take_posting.new.self) c.saturating_add-self.ensures (posting_counts c.args.actor c.take_posting.result (with_taken c.saturating_add-self.result (core_seen c.args.self.now)) (core_seen c.take_posting.new.self) c.take_posting.ensures.does);
 }
 
 pub returns-in_default-activity : goal.returns-in_default-activity
@@ -111,7 +111,7 @@ returns-in-ConsolidatorIdle g c = record {
       c.requires.actor mine c.in_default.is c.activity.ensures c.in-ConsolidatorIdle.is c.take_merging.ensures.disk c.take_merging.ensures.does;
   touches = untouched g.D.Device.model (core_disk c.args.self.now) (core_disk c.take_merging.new.self) (core_seen c.args.self.now) (core_seen c.take_merging.new.self) c.take_merging.result
       (merging_well c.args.actor c.take_merging.result (with_taken c.saturating_add-self.result (core_seen c.args.self.now)) (core_seen c.take_merging.new.self) c.take_merging.ensures.does) c.take_merging.ensures.disk;
-  counts = counts_step c.args.actor c.saturating_add-self.result (core_seen c.args.self.now) (core_seen c.take_merging.new.self) c.saturating_add-self.ensures (stays_part c.args.actor (with_taken c.saturating_add-self.result (core_seen c.args.self.now)) (core_seen c.take_merging.new.self) (merging_counts c.args.actor c.take_merging.result (with_taken c.saturating_add-self.result (core_seen c.args.self.now)) (core_seen c.take_merging.new.self) c.take_merging.ensures.does));
+  counts = counts_none c.args.actor c.saturating_add-self.result (core_seen c.args.self.now) (core_seen c.take_merging.new.self) c.saturating_add-self.ensures (merging_counts c.args.actor c.take_merging.result (with_taken c.saturating_add-self.result (core_seen c.args.self.now)) (core_seen c.take_merging.new.self) c.take_merging.ensures.does);
 }
 
 pub returns-in-Flusher : goal.returns-in-Flusher
@@ -121,5 +121,5 @@ returns-in-Flusher g c = record {
       flusher_step g.D.Device.model (core_disk c.args.self.now) (core_disk c.flush.new.self) (with_taken c.saturating_add-self.result (core_seen c.args.self.now)) (core_seen c.flush.new.self) m c.args.actor c.activity.result.now c.flush.result
       c.requires.actor mine c.in_default.is c.activity.ensures c.in-Flusher.is (c.flush.ensures.steps m mine (mine.shows.stop ∙ c.in_default.is));
   touches = as_before_count g.D.Device.model (core_disk c.args.self.now) (core_disk c.flush.new.self) c.saturating_add-self.result (core_seen c.args.self.now) (core_seen c.flush.new.self) c.flush.result c.flush.ensures.touches;
-  counts = counts_step c.args.actor c.saturating_add-self.result (core_seen c.args.self.now) (core_seen c.flush.new.self) c.saturating_add-self.ensures (stays_part c.args.actor (with_taken c.saturating_add-self.result (core_seen c.args.self.now)) (core_seen c.flush.new.self) c.flush.ensures.counts);
+  counts = counts_none c.args.actor c.saturating_add-self.result (core_seen c.args.self.now) (core_seen c.flush.new.self) c.saturating_add-self.ensures c.flush.ensures.counts;
 }

@@ -8,10 +8,11 @@ use Rattle.hb_core.specs.Touching.{IsReadHalt, Touches}
 use Rattle.hb_core.specs.Working.{Halts, IsStop}
 use Rattle.hb_core.specs.Showing.{RunningCore}
 use Rattle.hb_core.proofs.Machines.PlacesLeft.{always_flushes}
-use Rattle.hb_core.proofs.Memory.OwnPages.{gives_up_nothing}
+use Rattle.hb_core.proofs.Facts.GivenUpLaws.{gives_up_nothing}
 use Rattle.hb_core.proofs.Running.Counted.{deed_stays, deed_store, no_op_still, part_then, stays_part}
-use Rattle.hb_core.proofs.Running.WorkDone.{blocked, given_up, holds_line, holds_pages, looks_now, may_work, stopped, unready, walks_here, wants, way_free, works_too}
+use Rattle.hb_core.proofs.Running.WorkDone.{blocked, given_up, holds_line, holds_pages, looks_now, may_work, stopped, unready, wants, way_free, works_too}
 use Rattle.hb_core.proofs.Running.WorkTouches.{done_touches, given_up_touches, row_well, stopped_touches}
+use Rattle.hb_core.proofs.Running.OwnPins.{walk_there}
 use Rattle.hb_core.proofs.state.Core.work.Goals as goal
 
 pub wanted-wanted-requires : goal.wanted-wanted-requires
@@ -53,7 +54,7 @@ do_row-requires-clause-row g c =
     }
 
 pub held_pages-pins-requires-clause-walks : goal.held_pages-pins-requires-clause-walks
-held_pages-pins-requires-clause-walks g c = walks_here (g.D.Device.model (core_disk c.args.self.now)) (core_seen c.args.self.now) c.requires.may.0 c.args.actor c.requires.actor c.requires.may.1
+held_pages-pins-requires-clause-walks g c = walk_there (g.D.Device.model (core_disk c.args.self.now)) (core_seen c.args.self.now) c.requires.may.0 c.args.actor c.requires.actor c.requires.may.1
 
 pub do_row-requires-clause-pins : goal.do_row-requires-clause-pins
 do_row-requires-clause-pins g c m step = c.as_slice.ensures.value ∙ holds_pages (g.D.Device.model (core_disk c.args.self.now)) (core_seen c.args.self.now) m c.args.actor c.requires.actor step c.held_pages-pins.result.items c.held_pages-pins.ensures
