@@ -11,7 +11,7 @@ use Rattle.hb_ops.specs.Owing.{LacksRoom}
 use Rattle.hb_ops.specs.Settled.{HasChild}
 use Rattle.hb_store.specs.States.{StoreState}
 use Rattle.hb_core.specs.Showing.{RunningCore}
-use Rattle.hb_tidy.proofs.CallsMade.{nothing_more, runs_all}
+use Rattle.hb_tidy.proofs.CallsMade.{if_known, nothing_more, runs_all}
 use Rattle.hb_tidy.proofs.Exits.{HandsOn}
 use Rattle.hb_tidy.proofs.Joined.{over_then}
 use Rattle.hb_tidy.proofs.KnownFiles.{IsFileOf, over_file}
@@ -61,15 +61,11 @@ wants_growth c s root file live given low full = record {
   owed = inl (record { low = subst (λ (meta : Meta). meta.height < HEIGHT_MAX) (sym file.meta) low; root = root; live = live; given = given });
 }
 
-if_some_weaker : (o : Option FileState) (P Q : FileState → Type 0) → ((s : FileState) → P s → Q s) → IfSome o P → IfSome o Q
-if_some_weaker None P Q imp has = tt
-if_some_weaker (Some s) P Q imp has = imp s has
-
 -- a call that ends since a page is wanted, and none is free
 pub over_full : {U : Type 0} (knows : FileState → Type 0) (says : U → FileState → Type 0) (d : DiskModel) (c : RunningCore) → IsDisk d → MayTidy d c → c.store.meta.live ≡ c.store.meta.pages → ((s : FileState) → IsFileOf c s → knows s → WantsPage s) → LooksOver {T = U} knows (Err stops.Full) says d c d c
 over_full {U = U} knows says d c disk may none wants =
     over_file knows (Err stops.Full) says d d c c
-    (nothing_more d c disk may {T = U} (λ s. IsFileOf c s × knows s) says stops.Full (λ same. cc) (λ m shows known. (runs_all d c m may shows, subst (λ (st : StoreState). st.meta.live ≡ st.meta.pages) (sym shows.shows.store) none, if_some_weaker (file_now m) (λ s. IsFileOf c s × knows s) WantsPage (λ s k. wants s k.0 k.1) known)))
+    (nothing_more d c disk may {T = U} (λ s. IsFileOf c s × knows s) says stops.Full (λ same. cc) (λ m shows known. (runs_all d c m may shows, subst (λ (st : StoreState). st.meta.live ≡ st.meta.pages) (sym shows.shows.store) none, if_known (file_now m) (λ s. IsFileOf c s × knows s) WantsPage (λ s k. wants s k.0 k.1) known)))
 
 pub over_not_owed : {U : Type 0} (parent child : ℕ) (above below : LivePage) (area : Area) (stop : TidyStop) (r : Result U TidyStop) (says : U → FileState → Type 0) (d : DiskModel) (c : RunningCore) → IsDisk d → MayTidy d c → HasChild above child area → IsNotOwed c.store.meta above below stop → HandsOn stop r
     → LooksOver (BothLive parent above child below) r says d c d c

@@ -210,6 +210,10 @@ flush_looks d old outcome e new took may result went rise meta = record {
 
 -- ---- a call that only reads
 
+pub if_known : (o : Option FileState) (P Q : FileState → Type 0) → ((s : FileState) → P s → Q s) → IfSome o P → IfSome o Q
+if_known None P Q imp k = tt
+if_known (Some s) P Q imp k = imp s k
+
 module _ (d : DiskModel) (c : RunningCore) (disk : IsDisk d) (may : MayTidy d c) where
   nothing_done : (m : Machine) → MayStep d c m → HasTidied d m d c
   nothing_done m shows = still_tidied may.laws.runs d d m m c c disk shows shows (OnlyReads-none d) (still_itself m)
@@ -226,10 +230,6 @@ module _ (d : DiskModel) (c : RunningCore) (disk : IsDisk d) (may : MayTidy d c)
 
   nothing_ends : (stop : TidyStop) (m : Machine) (shows : MayStep d c m) → StopsTidying stop d d c m → StopsTidying stop d d c (nothing_done m shows).new
   nothing_ends stop m shows why = subst (λ (x : Machine). StopsTidying stop d d c x) (sym (nothing_new m shows)) why
-
-  if_known : (o : Option FileState) (P Q : FileState → Type 0) → ((s : FileState) → P s → Q s) → IfSome o P → IfSome o Q
-  if_known None P Q imp k = tt
-  if_known (Some s) P Q imp k = imp s k
 
   -- nothing was done yet
   pub nothing_looked : {T : Type 0} (v : T) (knows : FileState → Type 0) (says : T → FileState → Type 0) → ((s : FileState) → knows s → says v s) → LooksOver {T = T} knows (Ok v) says d c d c

@@ -9,14 +9,7 @@ use Rattle.hb_core.specs.Counts.{counted, one_more}
 use Rattle.hb_core.specs.Showing.{RunningCore}
 use Rattle.hb_core.specs.declared.counts.TidyCounts.{TidyCounts}
 use Rattle.hb_tidy.proofs.LiveCounted.{live_same}
-use Rattle.hb_tidy.specs.Counted.{CountsRise, LiveIsCounted}
-
--- no count of operations falls
-record DoneRise (old new : TidyCounts) : Type 0 where
-  pub grown : old.grown ≤ new.grown
-  pub posted : old.posted ≤ new.posted
-  pub split : old.split ≤ new.split
-  pub merged : old.merged ≤ new.merged
+use Rattle.hb_tidy.specs.Counted.{AreAtMost, CountsRise, LiveIsCounted}
 
 one_up : (n taken : ℕ) → n ≤ taken → taken ≤ 2 ^ 64 - 1 → n ≤ one_more n
 one_up n taken few last = omega (arith, few, last)
@@ -24,27 +17,27 @@ one_up n taken few last = omega (arith, few, last)
 as_many : (n : ℕ) → n ≤ n
 as_many n = omega arith
 
-done_same : (done : TidyCounts) → DoneRise done done
+done_same : (done : TidyCounts) → AreAtMost done done
 done_same done = record { grown = as_many done.grown; posted = as_many done.posted; split = as_many done.split; merged = as_many done.merged }
 
 module _ (c : RunningCore) (within : CountsWithin c) where
-  op_rises : (actor : ℕ) (op : Op) → DoneRise c.done (counted actor op c.done)
+  op_rises : (actor : ℕ) (op : Op) → AreAtMost c.done (counted actor op c.done)
   op_rises actor (ops.Put page rec) = done_same c.done
   op_rises actor (ops.Del page point) = done_same c.done
   op_rises actor (ops.Extract source fresh path cuts free_after) = by (actor == 17)
     where
-      by : (b : Bool) → DoneRise c.done (cond b (record c.done { split = one_more c.done.split }) c.done)
+      by : (b : Bool) → AreAtMost c.done (cond b (record c.done { split = one_more c.done.split }) c.done)
       by true = record { grown = as_many c.done.grown; posted = as_many c.done.posted; split = one_up c.done.split c.taken within.split within.last; merged = as_many c.done.merged }
       by false = done_same c.done
   op_rises actor (ops.Post parent way inner area) = record { grown = as_many c.done.grown; posted = one_up c.done.posted c.taken within.posted within.last; split = as_many c.done.split; merged = as_many c.done.merged }
   op_rises actor (ops.Merge parent keep gone) = record { grown = as_many c.done.grown; posted = as_many c.done.posted; split = as_many c.done.split; merged = one_up c.done.merged c.taken within.merged within.last }
   op_rises actor (ops.Grow fresh free_after) = record { grown = one_up c.done.grown c.taken within.grown within.last; posted = as_many c.done.posted; split = as_many c.done.split; merged = as_many c.done.merged }
 
-  counted_rises : (actor : ℕ) (new : RunningCore) → CountsOp actor c new → DoneRise c.done new.done
-  counted_rises actor new (inl (none, done)) = subst (λ (x : TidyCounts). DoneRise c.done x) (sym done) (done_same c.done)
-  counted_rises actor new (inr (op, did, done)) = subst (λ (x : TidyCounts). DoneRise c.done x) (sym done) (op_rises actor op)
+  counted_rises : (actor : ℕ) (new : RunningCore) → CountsOp actor c new → AreAtMost c.done new.done
+  counted_rises actor new (inl (none, done)) = subst (λ (x : TidyCounts). AreAtMost c.done x) (sym done) (done_same c.done)
+  counted_rises actor new (inr (op, did, done)) = subst (λ (x : TidyCounts). AreAtMost c.done x) (sym done) (op_rises actor op)
 
-with_all : (old new : RunningCore) → old.taken ≤ new.taken → DoneRise old.done new.done → CountsWithin new → new.store.meta.height + old.done.grown ≡ old.store.meta.height + new.done.grown → LiveIsCounted old new → CountsRise old new
+with_all : (old new : RunningCore) → old.taken ≤ new.taken → AreAtMost old.done new.done → CountsWithin new → new.store.meta.height + old.done.grown ≡ old.store.meta.height + new.done.grown → LiveIsCounted old new → CountsRise old new
 with_all old new taken done within height live = record { taken = taken; grown = done.grown; posted = done.posted; split = done.split; merged = done.merged; within = within; height = height; live = live }
 
 some_left : (grown taken : ℕ) → grown ≤ taken → taken < 2 ^ 64 - 1 → grown + 1 ≤ 2 ^ 64 - 1
@@ -71,13 +64,13 @@ same_height old new meta done =
 
 pub flush_rises : CountsStayWithin → (old new : RunningCore) → CountsFlush old new → CountsWithin old → old.taken < 2 ^ 64 - 1 → CountsRise old new
 flush_rises laws old new flush within left =
-    with_all old new (later_taken old.taken new.taken left flush.taken) (subst (λ (x : TidyCounts). DoneRise old.done x) (sym flush.done) (done_same old.done)) (laws.flush old new flush within)
+    with_all old new (later_taken old.taken new.taken left flush.taken) (subst (λ (x : TidyCounts). AreAtMost old.done x) (sym flush.done) (done_same old.done)) (laws.flush old new flush within)
     (same_height old new flush.no_op.meta flush.done)
     (live_same old new flush.no_op.meta flush.done)
 
 pub stay_rises : CountsStayWithin → (old new : RunningCore) → CountsStay old new → new.store.meta ≡ old.store.meta → CountsWithin old → CountsRise old new
 stay_rises laws old new stay meta within =
-    with_all old new (let t = stay.taken in omega (arith, t)) (subst (λ (x : TidyCounts). DoneRise old.done x) (sym stay.done) (done_same old.done)) (laws.stay old new stay within)
+    with_all old new (let t = stay.taken in omega (arith, t)) (subst (λ (x : TidyCounts). AreAtMost old.done x) (sym stay.done) (done_same old.done)) (laws.stay old new stay within)
     (same_height old new meta stay.done)
     (live_same old new meta stay.done)
 

@@ -17,21 +17,19 @@ use Rattle.hb_core.proofs.Facts.RunDisks.{file_more}
 use Rattle.hb_core.proofs.Facts.RunFaults.{rose_longer}
 use Rattle.hb_core.specs.KeptMachine.{CoreKeeps}
 use Rattle.hb_core.specs.Machines.{Files, Machine}
-use Rattle.hb_core.specs.Runs.{ChangesFile, CountsFaults, HasReadFault, HoldsSince, IsPrefixImage}
+use Rattle.hb_core.specs.Runs.{ChangesFile, CountsFaults, HoldsSince, IsPrefixImage}
 use Rattle.hb_core.specs.Showing.{RunningCore}
 use Rattle.hb_core.specs.Working.{MayStep}
 use Rattle.hb_tidy.specs.declared.stops.TidyStop.{TidyStop}
 use Rattle.hb_tidy.specs.declared.stops.TidyStop.TheVariants as stops
 use Rattle.hb_tidy.proofs.LiveCounted.{live_then}
+use Rattle.hb_tidy.proofs.OneCall.{no_fault_in}
 use Rattle.hb_tidy.proofs.Worked.{worked_then}
 use Rattle.hb_tidy.specs.Counted.{CountsRise}
 use Rattle.hb_tidy.specs.Going.{Does, Goes}
 use Rattle.hb_tidy.specs.Looking.{FileStays, Looks, LooksOver, NothingOf}
 use Rattle.hb_tidy.specs.Tidying.{HasTidied, KeepsSet, StopsTidying, file_now}
 use Rattle.hb_tidy.specs.Working.{HasWorked}
-
-no_fault_in : HasReadFault [] → ⊥
-no_fault_in (k, a, lt, at, is) = omega (arith, lt)
 
 -- ---- what becomes of machines
 

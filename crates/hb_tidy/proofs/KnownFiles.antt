@@ -4,6 +4,7 @@ use Rattle.hb_disk.specs.Model.{DiskModel}
 use Rattle.hb_frag.specs.declared.pages.Page.{Page}
 use Rattle.hb_lemmas.proofs.Booleans.{at_other}
 use Rattle.hb_layout.specs.declared.meta.Meta.{Meta}
+use Rattle.hb_ops.proofs.Facts.PageNumberLaws.{page_at-zero}
 use Rattle.hb_ops.specs.Files.{FileState, if_live, live_page, page_at}
 use Rattle.hb_ops.specs.Sound.{IsSound}
 use Rattle.hb_store.specs.States.{StoreState}
@@ -47,10 +48,6 @@ over_file knows r says d e old new one = record {
 
 -- ---- numbers of pages
 
-pub page_zero : (pages : List Page) → page_at pages 0 ≡ None
-page_zero [] = refl
-page_zero (page ∷ rest) = refl
-
 pub page_beyond : (pages : List Page) (id : ℕ) → length pages < id → page_at pages id ≡ None
 page_beyond [] id beyond = refl
 page_beyond (page ∷ rest) id beyond =
@@ -58,7 +55,7 @@ page_beyond (page ∷ rest) id beyond =
 
 -- no page in use has a number that the file hasn't
 pub none_there : (c : RunningCore) (s : FileState) (id : ℕ) → IsFileOf c s → (id ≡ 0) ⊎ (c.store.meta.high < id) → live_page s id ≡ None
-none_there c s id file (inl zero) = ap if_live (ap (page_at s.pages) zero ∙ page_zero s.pages)
+none_there c s id file (inl zero) = ap if_live (ap (page_at s.pages) zero ∙ page_at-zero s.pages)
 none_there c s id file (inr beyond) =
     let long = file.sound.rooted.numbered in
     let high = ap (λ (x : Meta). x.high) file.meta in

@@ -3,15 +3,13 @@ use Rattle.std.proofs.Common.{◌≡◌, ◌⊎◌, inl, inr, ℕ, ◌+◌, ◌-
 use Rattle.hb_activity.specs.Classes.{Consolidators, class_of}
 use Rattle.hb_activity.specs.Deeds.{Deed}
 use Rattle.hb_activity.specs.declared.activities.Activity.{Activity}
-use Rattle.hb_activity.specs.declared.dropping.DropWhy.{DropWhy}
 use Rattle.hb_activity.specs.declared.wanting.Wanted.{Wanted}
 use Rattle.hb_core.proofs.Table.EachRow.{each_op, each_row}
-use Rattle.hb_core.proofs.Table.GivenUp.{given_up_is}
+use Rattle.hb_core.proofs.Facts.GivenUpLaws.{gives_up_nothing}
 use Rattle.hb_core.proofs.Table.StepKinds.{FlushesMore, each_kind, ready_kind}
 use Rattle.hb_core.specs.Counting.{CountsOp, CountsStep, CountsWithin, DidOp}
 use Rattle.hb_core.specs.Counts.{counted, one_more}
 use Rattle.hb_core.specs.Forcing.{FailsToWrite, ForcesAll}
-use Rattle.hb_core.specs.GivingUp.{gives_up}
 use Rattle.hb_core.specs.KeptFits.{HaveClasses}
 use Rattle.hb_core.specs.Machines.{Machine, sight, with_disk}
 use Rattle.hb_core.specs.Performing.{DoesOp, MayDo, Performs}
@@ -108,9 +106,6 @@ by_op (Some (ops.Extract source fresh path cuts free_after)) mark fetched new on
 by_op (Some (ops.Post parent way inner area)) mark fetched new only does = absurd only
 by_op (Some (ops.Grow fresh free_after)) mark fetched new only does = absurd only
 
-gives_no_op : (why : DropWhy) (activity : Activity) → (gives_up why activity).op ≡ None
-gives_no_op why activity = given_up_is (λ deed. deed.op ≡ None) why activity (λ line is. refl) (λ job is. refl) (λ is. refl)
-
 module _ (m : Machine) (actor : ℕ) (outcome : Outcome) (new : Machine) (kind : class_of (m.activity actor) ≡ Consolidators) where
   fails : {most : ℕ} → FailsToWrite m most outcome new → NoMore m new
   fails failed = still m new (ap (λ (x : Machine). x.store.meta) failed.stops)
@@ -138,7 +133,7 @@ module _ (m : Machine) (actor : ℕ) (outcome : Outcome) (new : Machine) (kind :
   worked (inr (inl (free, unready, inl (waits, force)))) = forces outcomes.Helped force
   worked (inr (inl (free, unready, inr (none, rest)))) = ready_kind m outcome new (NoMore m new) none more rest
   worked (inr (inr (free, ready, inl acts))) = performed acts.fetched acts.deed acts.brings.rest.meta (row_merges (with_disk acts.fetched m.files m.clock m) (m.activity actor) _ acts.deed acts.row kind) acts.performs
-  worked (inr (inr (free, ready, inr (inl gives)))) = performed gives.fetched _ gives.brings.rest.meta (none_only _ (gives_no_op gives.why (m.activity actor))) gives.performs
+  worked (inr (inr (free, ready, inr (inl gives)))) = performed gives.fetched _ gives.brings.rest.meta (none_only _ (gives_up_nothing gives.why (m.activity actor))) gives.performs
   worked (inr (inr (free, ready, inr (inr bad)))) = still m new (ap (λ (x : Machine). x.store.meta) bad.stops ∙ bad.brings.rest.meta)
 
   pub merger_makes_none : StepsTo m actor outcome new → NoMore m new

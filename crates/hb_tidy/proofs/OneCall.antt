@@ -39,7 +39,7 @@ use Rattle.hb_tidy.specs.Looking.{FileStays}
 use Rattle.hb_tidy.specs.Tidying.{HasTidied, KeepsSet, file_now}
 use Rattle.hb_tidy.specs.Working.{IsBetweenSteps}
 
-no_fault_in : HasReadFault [] → ⊥
+pub no_fault_in : HasReadFault [] → ⊥
 no_fault_in (k, a, lt, at, is) = omega (arith, lt)
 
 -- ---- a step
