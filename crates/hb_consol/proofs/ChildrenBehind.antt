@@ -1,7 +1,7 @@
 -- The search for the first child of a parent, and for the one behind another, over the names in its child leaves.
 use Rattle.std.proofs.Common.{◌≡◌, inl, inr, ℕ, ◌==◌, ◌||◌, Bool, true, false, not, cond, List, [], ◌∷◌, ◌++◌, Some, None, refl, sym, ap, ◌∙◌, subst, eq-eqb}
 use Rattle.std.specs.List.{list_any, filter}
-use Rattle.std.proofs.lemmas.Bool.{cases_eq, eqb-true, ne_eqb}
+use Rattle.std.proofs.lemmas.Bool.{cases_eq, eqb-true, ne_eqb, or_left, or_right}
 use Rattle.std.proofs.lemmas.List.{append_assoc}
 use Rattle.std.proofs.lemmas.List.Folds.{list_any-append}
 use Rattle.hb_frag.specs.declared.leaves.Leaf.{Leaf}
@@ -74,17 +74,9 @@ module _ (names : List ℕ) (child : ℕ) where
 
 -- ---- the names up to the child
 
-true_before : (b c : Bool) → b ≡ true → b || c ≡ true
-true_before true c is = refl
-true_before false c is = absurd (let no : ⊥ = cc in no)
-
-true_behind : (b c : Bool) → c ≡ true → b || c ≡ true
-true_behind true c is = refl
-true_behind false c is = is
-
 last_listed : (seen : List ℕ) (name child : ℕ) → name ≡ child → list_any (λ other. other == name) (seen ++ child ∷ []) ≡ true
-last_listed [] name child same = true_before (child == name) false (eq-eqb child name (sym same))
-last_listed (x ∷ seen) name child same = true_behind (x == name) (list_any (λ other. other == name) (seen ++ child ∷ [])) (last_listed seen name child same)
+last_listed [] name child same = or_left (child == name) false (eq-eqb child name (sym same))
+last_listed (x ∷ seen) name child same = or_right (x == name) (list_any (λ other. other == name) (seen ++ child ∷ [])) (last_listed seen name child same)
 
 earlier_step : (b c listed later : Bool) (rest : Earlier) → c || listed ≡ false → (listed ≡ false → is_first rest ≡ later) → is_first (cond b First (cond c Other rest)) ≡ (b || later)
 earlier_step true c listed later rest out is = refl

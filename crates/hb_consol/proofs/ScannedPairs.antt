@@ -1,16 +1,10 @@
 -- A scan of two lists of leaves, one behind the other.
-use Rattle.std.proofs.Common.{◌≡◌, inl, inr, ℕ, zero, suc, ◌+◌, ◌-◌, ◌<◌, ◌≤◌, All, ◌==◌, ◌&&◌, ◌||◌, Bool, true, false, cond, List, [], ◌∷◌, ◌++◌, length, IsTrue, ◌↔◌, Option, Some, None, refl, sym, ap, ◌∙◌, subst, arith, eq-eqb}
+use Rattle.std.proofs.Common.{◌≡◌, inl, inr, ℕ, zero, suc, ◌+◌, ◌-◌, ◌<◌, ◌==◌, ◌&&◌, Bool, true, false, cond, List, [], ◌∷◌, ◌++◌, length, IsTrue, ◌↔◌, Option, Some, None, refl, sym, ap, ◌∙◌, arith, eq-eqb}
 use Rattle.std.specs.List.{Contains, list_any}
-use Rattle.std.proofs.lemmas.Bool.{cases_Bool, eqb-true}
+use Rattle.std.proofs.lemmas.Bool.{cases_Bool, or_left, or_right}
 use Rattle.std.proofs.lemmas.List.{length-append}
-use Rattle.hb_frag.specs.Leaves.{child_names, leaf_at, leaves, leaves_of}
-use Rattle.hb_frag.specs.Rules.{BelongsAt}
+use Rattle.hb_frag.specs.Leaves.{child_names, leaves}
 use Rattle.hb_ops.proofs.Facts.NamedChildren.{named_leaf}
-use Rattle.hb_ops.proofs.Facts.Opened.{first_has}
-use Rattle.hb_ops.proofs.Facts.PlacedLaws.{placed, placed_is_leaf}
-use Rattle.hb_space.specs.Boxes.{Area}
-use Rattle.hb_space.specs.declared.records.Record.{Record}
-use Rattle.std.proofs.lemmas.List.Elements.{All-contains, All-contains_itself}
 use Rattle.hb_frag.specs.declared.leaves.Leaf.{Leaf}
 use Rattle.hb_frag.specs.declared.leaves.Leaf.TheVariants.{Records, Child, Sibling}
 use Rattle.hb_frag.specs.declared.pages.LivePage.{LivePage}
@@ -114,14 +108,6 @@ other_leaf parent from (Sibling page) fails = (ap (λ b. cond b (Some (page, 0))
 
 -- ---- the pages that a parent names
 
-true_before : (b c : Bool) → b ≡ true → b || c ≡ true
-true_before true c is = refl
-true_before false c is = absurd (let no : ⊥ = cc in no)
-
-true_behind : (b c : Bool) → c ≡ true → b || c ≡ true
-true_behind true c is = refl
-true_behind false c is = is
-
 -- and the other way
 leaf_named : (name : ℕ) (ls : List Leaf) → Contains ls (Child name) → list_any (λ x. x == name) (child_names ls) ≡ true
 leaf_named name [] has = absurd (omega (arith, has.1))
@@ -129,8 +115,8 @@ leaf_named name (Records records ∷ rest) (zero, lt, e) = absurd (let no : ⊥ 
 leaf_named name (Records records ∷ rest) (suc k, lt, e) = leaf_named name rest (k, omega (arith, lt), e)
 leaf_named name (Sibling page ∷ rest) (zero, lt, e) = absurd (let no : ⊥ = cc in no)
 leaf_named name (Sibling page ∷ rest) (suc k, lt, e) = leaf_named name rest (k, omega (arith, lt), e)
-leaf_named name (Child page ∷ rest) (zero, lt, e) = let same : page ≡ name = cc in true_before (page == name) (list_any (λ x. x == name) (child_names rest)) (eq-eqb page name same)
-leaf_named name (Child page ∷ rest) (suc k, lt, e) = true_behind (page == name) (list_any (λ x. x == name) (child_names rest)) (leaf_named name rest (k, omega (arith, lt), e))
+leaf_named name (Child page ∷ rest) (zero, lt, e) = let same : page ≡ name = cc in or_left (page == name) (list_any (λ x. x == name) (child_names rest)) (eq-eqb page name same)
+leaf_named name (Child page ∷ rest) (suc k, lt, e) = or_right (page == name) (list_any (λ x. x == name) (child_names rest)) (leaf_named name rest (k, omega (arith, lt), e))
 
 pub named_as_child : (b : Bool) (parent : LivePage) (id : ℕ) → (IsTrue b ↔ Contains (leaves parent.frag) (Child id)) → b ≡ names_child parent id
 named_as_child true parent id test = sym (leaf_named id (leaves parent.frag) (test.0 refl))
@@ -138,14 +124,3 @@ named_as_child false parent id test = elim (cases_Bool (names_child parent id)) 
   | inl named ↦ absurd (let there = test.1 (named_leaf id (leaves parent.frag) named) in cc)
   | inr fails ↦ sym fails
 ]
-
--- ---- the leaf at a point
-
--- a page above the records has none at any point
-pub no_records : (page : LivePage) (p : List ℕ) (leaf : Leaf) (area : Area) (records : List Record) → All (BelongsAt page.level) (leaves page.frag) → 1 ≤ page.level
-    → leaf_at page p ≡ Some (record { leaf = leaf; area = area }) → leaf ≡ Records records → ⊥
-no_records page p leaf area records kinds above is has =
-    let there = first_has (Contains (leaves_of page.frag page.area)) p (leaves_of page.frag page.area) (placed leaf area) is (All-contains_itself (leaves_of page.frag page.area)) in
-    let kind = All-contains (BelongsAt page.level) (leaves page.frag) leaf kinds (placed_is_leaf page.frag page.area (placed leaf area) there) in
-    let bottom : page.level ≡ 0 = subst (BelongsAt page.level) has kind in
-    omega (arith, bottom, above)

@@ -19,7 +19,7 @@ use hb_space::NoMemory;
 /// What a walk comes to at a page: it is over at a page of the job's level whose leaf at the point is a
 /// child leaf, and the first of its children is scanned. Else it passes on to the page that the leaf
 /// names, and a sibling leaf shows that the parent owes a posting.
-#[tactic(auto, using(crate::proofs::ScannedPairs::no_records))]
+#[tactic(auto, using(hb_activity::proofs::Facts::OneLeaf::no_records))]
 pub(crate) fn walk(job: Job, id: u32, page: &LivePage) -> Result<Next, NoMemory>
     requires well_cut { WellCut page.now }
     requires kinds { All (BelongsAt page.now.level) (leaves page.now.frag) }

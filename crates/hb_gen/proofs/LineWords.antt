@@ -14,7 +14,6 @@ use Rattle.hb_set.specs.declared.commands.Command.{Command}
 use Rattle.hb_set.specs.declared.commands.Command.TheVariants.{Insert, Delete, Lookup, Search}
 use Rattle.hb_space.specs.Boxes.{Area}
 use Rattle.hb_text.specs.BodyText.{IsVisible}
-use Rattle.hb_text.specs.Numbers.{number_read}
 use Rattle.hb_text.specs.Operands.{lows, highs, pairs_are_ordered, values_read, operands_read, command_read}
 use Rattle.hb_text.specs.Output.{numbers_text}
 use Rattle.hb_text.proofs.Facts.NumberLaws.{numbers_are_decimal}
@@ -92,13 +91,10 @@ command_length k (Search area) few said =
     omega (arith, length-append (codes " search") (numbers_text (side_by_side area.lo area.hi)), numbers_length (side_by_side area.lo area.hi) said.values.below, said.values.number)
 
 -- what words say
-pub number_back : (n : ℕ) → n < 2 ^ 64 → number_read (decimal n) ≡ Ok n
-number_back n small = (numbers_are_decimal (decimal n) n small).1 refl
-
 values_back : (ns : List ℕ) → AllByRecursion (λ n. n < 2 ^ 64) ns → values_read (map decimal ns) ≡ Ok ns
 unfolding values_read
 values_back [] below = refl
-values_back (n ∷ ns) below = rw (number_back n below.0, values_back ns below.1) refl
+values_back (n ∷ ns) below = rw ((numbers_are_decimal (decimal n) n below.0).1 refl, values_back ns below.1) refl
 
 same_number : (m n : ℕ) → m ≡ n → (m == n) ≡ true
 same_number m n e = grind (arith, nat_tests)

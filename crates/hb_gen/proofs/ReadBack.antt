@@ -12,12 +12,13 @@ use Rattle.hb_text.specs.Grammar.{words_read, line_read, lines_read, text_read}
 use Rattle.hb_text.specs.StepWords.{session_of}
 use Rattle.hb_text.specs.TextLaws.{HasNo, with_line_feeds}
 use Rattle.hb_text.specs.Words.{lines_of, words_of, is_empty, is_printable}
+use Rattle.hb_text.proofs.Facts.NumberLaws.{numbers_are_decimal}
 use Rattle.hb_text.proofs.Facts.TextLaws.{lines_come_back}
 use Rattle.hb_gen.specs.Draws.{next_state}
 use Rattle.hb_gen.specs.Lines.{drawn_line, drawn_session, behind_line, lines_from, generated}
 use Rattle.hb_gen.specs.Spelling.{command_text, line_text, lines_text, generated_text}
 use Rattle.hb_gen.proofs.PlainWords.{decimal_plain, plain_line, IsPlainLine}
-use Rattle.hb_gen.proofs.LineWords.{command_words, command_spaced, command_plain, command_length, command_back, number_back, no_step, IsSaid}
+use Rattle.hb_gen.proofs.LineWords.{command_words, command_spaced, command_plain, command_length, command_back, no_step, IsSaid}
 use Rattle.hb_gen.proofs.DrawnLines.{command_said, session_fits}
 
 -- a line's spelling, without its line feed
@@ -36,7 +37,7 @@ session_back session from to =
     let small : session < 2 ^ 64 = omega arith in
     let low : nat_le 1 session ≡ true = grind (arith, nat_tests) in
     let high : nat_le session 16 ≡ true = grind (arith, nat_tests) in
-    rw (number_back session small, low, high) refl
+    rw ((numbers_are_decimal (decimal session) session small).1 refl, low, high) refl
 
 words_back : (allowed : Bool) (k taken number : ℕ) (line : Line) → IsSaidLine k number line → words_read allowed k taken number (decimal line.session ∷ command_words line.command) ≡ Ok (record { line = Some line; steps = [] })
 unfolding words_read

@@ -1,5 +1,5 @@
 -- What is read from the bytes of a page is the row that was asked for.
-use Rattle.std.proofs.Common.{◌≡◌, ◌≢◌, inl, inr, ℕ, zero, suc, ◌+◌, ◌*◌, ◌/◌, ◌<◌, ◌≤◌, Bool, true, false, cond, nat_le, nat_lt, max, List, [], ◌∷◌, length, filter, All, Option, Some, None, IsTrue, refl, sym, ap, subst, ◌∙◌, arith, length-append}
+use Rattle.std.proofs.Common.{◌≡◌, ◌≢◌, inl, inr, ℕ, zero, suc, ◌+◌, ◌*◌, ◌/◌, ◌<◌, ◌≤◌, Bool, cond, nat_le, nat_lt, max, List, [], ◌∷◌, length, filter, All, Option, Some, None, IsTrue, refl, sym, ap, subst, ◌∙◌, arith, length-append}
 use Rattle.std.specs.List.{slice_get}
 use Rattle.std.specs.Ordering.{is_gt, is_lt}
 use Rattle.std.specs.declared.cmp.Ordering.{Ordering}
@@ -23,6 +23,7 @@ use Rattle.hb_space.proofs.Facts.PointOrder.{exact_points}
 use Rattle.hb_view.specs.Naming.{CountsLeaf}
 use Rattle.hb_view.specs.Views.{FindsAmong, IsLiveAnd, TellsBody}
 use Rattle.hb_point.proofs.Facts.DeletedRecords.{thin_of_many, thin_of_one, weighs_less, weighs_same}
+use Rattle.hb_point.proofs.Facts.RecordLeaves.{length_cond}
 use Rattle.hb_point.specs.Doing.{HasLeafOfRecords, HasRecordsIn, StandsIn}
 
 -- ---- a page that is read
@@ -99,10 +100,6 @@ one_side p q other = by (point_cmp p q) (λ tie. other (exact_points p q tie))
     by Less untied = refl
     by Equal untied = absurd (untied refl)
     by Greater untied = refl
-
-length_cond : (b : Bool) (r : Record) (rs : List Record) → length (cond b (r ∷ rs) rs) ≡ cond b 1 0 + length rs
-length_cond true r rs = omega arith
-length_cond false r rs = omega arith
 
 all_sides : (p : List ℕ) (records : List Record) → All (λ r. r.key ≢ p) records → length (filter (λ r. is_lt (point_cmp r.key p)) records) + length (filter (λ r. is_gt (point_cmp r.key p)) records) ≡ length records
 all_sides p [] lack = omega arith

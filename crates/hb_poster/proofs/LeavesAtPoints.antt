@@ -1,14 +1,11 @@
 -- What holds of all leaves of a page holds of its leaf at a point.
-use Rattle.std.proofs.Common.{◌≡◌, ℕ, ◌≤◌, Bool, true, false, cond, List, [], ◌∷◌, map, All, Some, None, sym, subst, arith}
+use Rattle.std.proofs.Common.{◌≡◌, ℕ, Bool, true, false, cond, List, [], ◌∷◌, map, All, Some, None, sym, subst}
 use Rattle.std.proofs.lemmas.List.Elements.{All-cons, All-head, All-nil, All-tail}
 use Rattle.hb_frag.proofs.Facts.Tiles.{leaves_placed}
 use Rattle.hb_frag.specs.Leaves.{Placed, first_at, leaf_at, leaves, leaves_of}
 use Rattle.hb_frag.specs.Rules.{BelongsAt}
-use Rattle.hb_frag.specs.declared.leaves.Leaf.{Leaf}
-use Rattle.hb_frag.specs.declared.leaves.Leaf.TheVariants.{Records}
 use Rattle.hb_frag.specs.declared.pages.LivePage.{LivePage}
-use Rattle.hb_space.specs.Boxes.{Area, holds}
-use Rattle.hb_space.specs.declared.records.Record.{Record}
+use Rattle.hb_space.specs.Boxes.{holds}
 
 -- so of the first leaf of a list whose box holds the point
 pub of_first : (P : Placed → Type 0) (p : List ℕ) (xs : List Placed) (w : Placed) → All P xs → first_at p xs ≡ Some w → P w
@@ -33,10 +30,3 @@ pub kind_there : (page : LivePage) (p : List ℕ) (w : Placed) → All (BelongsA
 kind_there page p w kinds is =
     of_first (λ (l : Placed). BelongsAt page.level l.leaf) p (leaves_of page.frag page.area) w
     (kinds_placed page.level (leaves_of page.frag page.area) (subst (All (BelongsAt page.level)) (sym (leaves_placed page.frag page.area)) kinds)) is
-
--- a page above the records has none at any point
-pub no_records : (page : LivePage) (p : List ℕ) (leaf : Leaf) (area : Area) (records : List Record) → All (BelongsAt page.level) (leaves page.frag) → 1 ≤ page.level
-    → leaf_at page p ≡ Some (record { leaf = leaf; area = area }) → leaf ≡ Records records → ⊥
-no_records page p leaf area records kinds above is has =
-    let bottom : page.level ≡ 0 = subst (BelongsAt page.level) has (kind_there page p (record { leaf = leaf; area = area }) kinds is) in
-    omega arith

@@ -10,6 +10,7 @@ use Rattle.hb_frag.specs.Trees.{Tree, Tip, Cut}
 use Rattle.hb_frag.proofs.Facts.NamesListed.{named_behind, named_in_front, siblings-append}
 use Rattle.hb_frag.proofs.Facts.Sides.{IsArea-side_below, IsArea-side_from}
 use Rattle.hb_frag.proofs.Ways.{found_here, found_left, found_right}
+use Rattle.hb_ops.proofs.Facts.PlacedLaws.{placed}
 use Rattle.hb_page_codec.specs.ReadingFields.{record_at}
 use Rattle.hb_view.specs.declared.leaves.LeafView.{LeafView}
 use Rattle.hb_view.specs.declared.leaves.LeafView.TheVariants as views
@@ -18,9 +19,6 @@ use Rattle.hb_view.specs.Roots.{tree_there, rest_there, IsCutAt, IsListAt}
 use Rattle.hb_view.specs.Views.{ShowsLeaf}
 use Rattle.hb_view.proofs.Passing.{below_box, from_box}
 use Rattle.hb_view.proofs.Walked.{many_counted}
-
-abbrev pub placed : Leaf → Area → Placed
-placed leaf area = record { leaf = leaf; area = area }
 
 -- ---- the leaves of both sides
 

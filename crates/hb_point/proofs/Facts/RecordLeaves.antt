@@ -47,7 +47,7 @@ one_side Less = omega arith
 one_side Equal = omega arith
 one_side Greater = omega arith
 
-length_cond : (b : Bool) (r : Record) (rs : List Record) → length (cond b (r ∷ rs) rs) ≡ cond b 1 0 + length rs
+pub length_cond : (b : Bool) (r : Record) (rs : List Record) → length (cond b (r ∷ rs) rs) ≡ cond b 1 0 + length rs
 length_cond true r rs = omega arith
 length_cond false r rs = omega arith
 
