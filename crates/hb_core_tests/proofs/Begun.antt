@@ -9,8 +9,6 @@ use Rattle.hb_core.specs.Working.{MayStep}
 use Rattle.hb_disk.specs.Model.{DiskModel}
 use Rattle.hb_frag.specs.Grammar.{HasSpelling}
 use Rattle.hb_frag.specs.declared.pages.Page.{Page}
-use Rattle.hb_frag.specs.declared.pages.Page.TheVariants.{Live, Free}
-use Rattle.hb_layout.specs.declared.meta.Meta.{Meta}
 use Rattle.hb_lemmas.proofs.Options.{has_value, if_value}
 use Rattle.hb_ops.specs.Sound.{IsSound}
 use Rattle.hb_core.specs.KeptLines.{HasLineBody}
@@ -23,20 +21,17 @@ use Rattle.hb_set.specs.declared.scripts.Line.{Line}
 use Rattle.hb_store.specs.Keeps.{StoreKeeps}
 use Rattle.hbpi.proofs.Begins.{begins_script, no_frame}
 use Rattle.hbpi.specs.Schedules.{HasLineBox, IsScript}
+use Rattle.hb_store.proofs.Grouped.{good_spelled}
 use Rattle.hb_store.specs.Held.{StoreHeld, IsTied}
-use Rattle.hb_store.specs.States.{IsGoodPage, IsNew, IsStanding, StoreState}
+use Rattle.hb_store.specs.States.{IsNew, IsStanding, StoreState}
 use Rattle.hb_core_tests.specs.Begun.{IsBegunCore}
-
-good_spelling : (meta : Meta) (page : Page) → IsGoodPage meta page → HasSpelling page
-good_spelling meta (Live page) good = good.0
-good_spelling meta (Free next) good = good
 
 -- what was copied of a machine that goes on has a spelling
 pub copied_spelling : (id : ℕ) (page : Page) (d e : DiskModel) (old new : RunningCore) → IsBegunCore d old
     → ((m : Machine) → MayStep d old m → (next : Machine) × CopiesPage id (Ok page) m next × MayStep e new next) → HasSpelling page
 copied_spelling id page d e old new fresh copies =
     let came = copies fresh.may.0 fresh.may.1 in
-    good_spelling came.0.store.meta page (came.2.goes_on.kept.pages_of_file id page came.1.1).2
+    good_spelled came.0.store.meta page (came.2.goes_on.kept.pages_of_file id page came.1.1).2
 
 -- ---- a new file
 

@@ -1,14 +1,12 @@
 -- What tests use of a store: over a disk that tells nothing no licence is owed, and each call leaves a driven store driven.
 use Rattle.std.proofs.Common.{◌≡◌, ◌≢◌, inl, inr, ℕ, ◌<◌, ◌≤◌, ◌==◌, Bool, true, false, cond, List, [], ◌∷◌, All, Option, Some, None, IsSome, IsTrue, Result, Ok, refl, sym, ap, ◌∙◌, subst, arith}
 use Rattle.std.specs.Prelude.{IsSomeAnd, MatchOption}
-use Rattle.std.specs.Option.{is_some}
-use Rattle.std.proofs.lemmas.Bool.{eq-eqb, eqb-true, or_cases, or_right}
-use Rattle.std.proofs.lemmas.List.Elements.{All-append, All-head, All-nil, All-tail}
+use Rattle.std.proofs.lemmas.Bool.{eq-eqb, or_right}
+use Rattle.std.proofs.lemmas.List.Elements.{All-append, All-nil}
 use Rattle.hb_lemmas.proofs.Lists.{All-alone}
 use Rattle.hb_lemmas.proofs.Options.{not_none, some_value}
 use Rattle.hb_disk.specs.Model.{DiskModel}
 use Rattle.hb_disk.specs.Untold.{untold_of}
-use Rattle.hb_frag.specs.declared.pages.Page.{Page}
 use Rattle.hb_layout.specs.declared.meta.Meta.{Meta}
 use Rattle.hb_wal.specs.Log.{LogState, Waiting}
 use Rattle.hb_ops.specs.declared.operations.Op.{Op}
@@ -24,9 +22,10 @@ use Rattle.hb_store.specs.Parts.{last_of}
 use Rattle.hb_store.specs.Fetching.{MayFetch, use_numbered}
 use Rattle.hb_store.specs.Forced.{WritesGroups, forced_state}
 use Rattle.hb_store.specs.Held.{IsTied, StoreHeld, oldest_dirty}
-use Rattle.hb_store.specs.Replay.{is_among}
 use Rattle.hb_store.specs.WritingHome.{FlushesClean, FlushesHome, WritesHome}
 use Rattle.hb_store.specs.declared.stops.WriteFault.{WriteFault}
+use Rattle.hb_store.proofs.Fetched.{no_frame}
+use Rattle.hb_store.proofs.Setting.{among_all}
 use Rattle.hb_file_tests.specs.Driven.{AllStay, FewPins, IsDrivenHere, IsPinned}
 use Rattle.hb_file_tests.proofs.Staying.{changed_stay, fetched_all, fetched_frame, found_all, pinned_last, pinned_on, pinned_stay, pinned_then}
 
@@ -41,13 +40,6 @@ IsEarly g = g.mark ≤ 7
 framed : (st : StoreState) (uses : List Use) (id : ℕ) → IsTied st uses → IsSome (in_memory st id) → IsSome (frame_of uses id)
 framed st uses id tied some = sym (tied.there id) ∙ some
 
-unframed : (st : StoreState) (uses : List Use) (id : ℕ) → IsTied st uses → in_memory st id ≡ None → frame_of uses id ≡ None
-unframed st uses id tied none = by (frame_of uses id) (sym (tied.there id) ∙ ap (λ (o : Option Page). is_some o) none)
-  where
-    by : (o : Option Use) → is_some o ≡ false → o ≡ None
-    by None off = refl
-    by (Some u) off = absurd cc
-
 -- a store without pages
 no_frames : (uses : List Use) → ((id : ℕ) → frame_of uses id ≡ None) → uses ≡ []
 no_frames [] none = refl
@@ -56,7 +48,7 @@ no_frames (u ∷ rest) none =
     absurd (not_none (frame_of (u ∷ rest) u.id) u here (none u.id))
 
 new_uses : (turn : ℕ) (meta : Meta) (st : StoreState) (uses : List Use) → IsNew turn meta st → IsTied st uses → uses ≡ []
-new_uses turn meta st uses new tied = no_frames uses (λ id. unframed st uses id tied (new.no_page id))
+new_uses turn meta st uses new tied = no_frames uses (λ id. no_frame st uses id tied (new.no_page id))
 
 pub new_driven : (turn : ℕ) (meta : Meta) (st : StoreState) (uses : List Use) → IsNew turn meta st → IsTied st uses → IsDrivenHere st uses
 new_driven turn meta st uses new tied = record {
@@ -87,17 +79,17 @@ fetched_driven id st new uses after fetched stay driven = record {
 pub new_may_pin : (id : ℕ) (st : StoreState) (uses after : List Use) → IsTied st uses → in_memory st id ≡ None → after ≡ use_fetched id uses → IsSomeAnd (frame_of after id) (λ (u : Use). u.pins < 255)
 new_may_pin id st uses after tied none order =
     let Q : Option Use → Type 0 = λ o. IsSomeAnd o (λ (u : Use). u.pins < 255) in
-    subst Q (sym (ap (λ (l : List Use). frame_of l id) order ∙ fetched_frame uses id (unframed st uses id tied none))) (omega arith)
+    subst Q (sym (ap (λ (l : List Use). frame_of l id) order ∙ fetched_frame uses id (no_frame st uses id tied none))) (omega arith)
 
 pub held_driven : (id : ℕ) (st mid new : StoreState) (uses after last : List Use) → IsTied st uses → in_memory st id ≡ None → Fetched id st mid → new ≡ mid → after ≡ use_fetched id uses → last ≡ put_last id pinned after → IsDrivenHere st uses → IsDrivenHere new last
 held_driven id st mid new uses after last tied none fetched same order then driven =
     let is : last ≡ put_last id pinned (use_fetched id uses) = then ∙ ap (λ (l : List Use). put_last id pinned l) order in
-    subst (λ (s : StoreState). IsDrivenHere s last) (sym same) (fetched_driven id st mid uses last fetched (subst AllStay (sym is) (pinned_stay uses id (unframed st uses id tied none) driven.stay)) driven)
+    subst (λ (s : StoreState). IsDrivenHere s last) (sym same) (fetched_driven id st mid uses last fetched (subst AllStay (sym is) (pinned_stay uses id (no_frame st uses id tied none) driven.stay)) driven)
 
 pub held_pinned : (id : ℕ) (st : StoreState) (uses after last : List Use) → IsTied st uses → in_memory st id ≡ None → after ≡ use_fetched id uses → last ≡ put_last id pinned after → IsPinned last id
 held_pinned id st uses after last tied none order then =
     let is : last ≡ put_last id pinned (use_fetched id uses) = then ∙ ap (λ (l : List Use). put_last id pinned l) order in
-    subst (λ (l : List Use). IsPinned l id) (sym is) (pinned_then uses id (unframed st uses id tied none))
+    subst (λ (l : List Use). IsPinned l id) (sym is) (pinned_then uses id (no_frame st uses id tied none))
 
 pub fetched_few : (id : ℕ) (uses after : List Use) → after ≡ use_fetched id uses → FewPins uses → FewPins after
 fetched_few id uses after order few = subst FewPins (sym order) (fetched_all (λ (u : Use). u.pins ≤ 1) uses id few (omega arith))
@@ -117,13 +109,6 @@ pub pinned_may_go : (id : ℕ) (st : StoreState) (uses after : List Use) → IsT
 pinned_may_go id st uses after tied some order = subst (λ (l : List Use). IsPinned l id) (sym order) (pinned_last uses id tied.pool (framed st uses id tied some))
 
 -- ---- operations
-
-among_all : (Q : ℕ → Type 0) (ids : List ℕ) (q : ℕ) → All Q ids → IsTrue (is_among q ids) → Q q
-among_all Q [] q all is = cc is
-among_all Q (id ∷ rest) q all is = elim (or_cases (q == id) (is_among q rest) is) [
-  | inl here ↦ subst Q (sym (eqb-true q id here)) (All-head Q id rest all)
-  | inr later ↦ among_all Q rest q (All-tail Q id rest all) later
-]
 
 -- the pages that it reads stay, and there is a place
 pub has_place : (op : Op) (st : StoreState) (uses : List Use) → IsTied st uses → IsDrivenHere st uses → IsAllowedHere st op → HasPlaces uses → HasFrameFor op st uses

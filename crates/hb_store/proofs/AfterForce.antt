@@ -101,25 +101,27 @@ memory_logged st log is area len = record { stands = is.stands; area = area ∙ 
 pub memory_stopped : (st : StoreState) → IsMemory st → IsMemory (stopped_state st)
 memory_stopped st is = record { stands = is.stands; area = is.area; len = is.len; good = is.good; in_file = is.in_file; logged = is.logged }
 
+-- where the log lies, by the layout that the newest superblock said
+module _ (d : DiskModel) (st : StoreState) (is : IsMemory st) (durable : FileState) (later : List FileState) (keeps : StoreKeeps d st durable later) where
+  pub area_there : st.log.area ≡ log_start st.turn keeps.parts.said
+  area_there = is.area ∙ ap (λ (n : ℕ). 8192 + (st.turn % 2) * n) keeps.memory.layout.log
+
+  pub len_there : st.log.len ≡ keeps.parts.said.log
+  len_there = is.len ∙ keeps.memory.layout.log
+
 module _ (d : DiskModel) (is_disk : IsDisk d) (st : StoreState) (is : IsMemory st) (going : st.stopped ≡ false) (durable : FileState) (later : List FileState) (keeps : StoreKeeps d st durable later) where
   abbrev p : Parts
   p = keeps.parts
 
-  area_is : st.log.area ≡ log_start st.turn p.said
-  area_is = is.area ∙ ap (λ (n : ℕ). 8192 + (st.turn % 2) * n) keeps.memory.layout.log
-
-  len_is : st.log.len ≡ p.said.log
-  len_is = is.len ∙ keeps.memory.layout.log
-
   torn_there : (b c : List ℕ) → Torn st.log.area st.log.len b c → Torn (log_start st.turn p.said) p.said.log b c
   torn_there b c torn =
       let Q : ℕ → ℕ → Type 0 = λ at n. Torn at n b c in
-      subst (λ (n : ℕ). Q (log_start st.turn p.said) n) len_is (subst (λ (at : ℕ). Q at st.log.len) area_is torn)
+      subst (λ (n : ℕ). Q (log_start st.turn p.said) n) (len_there d st is durable later keeps) (subst (λ (at : ℕ). Q at st.log.len) (area_there d st is durable later keeps) torn)
 
   frames_there : (c : List ℕ) (payloads : List (List ℕ)) → HasFrames (range st.log.area st.log.len c) payloads → HasFrames (log_bytes st.turn p.said c) payloads
   frames_there c payloads framed =
       let Q : ℕ → ℕ → Type 0 = λ at n. HasFrames (range at n c) payloads in
-      subst (λ (n : ℕ). Q (log_start st.turn p.said) n) len_is (subst (λ (at : ℕ). Q at st.log.len) area_is framed)
+      subst (λ (n : ℕ). Q (log_start st.turn p.said) n) (len_there d st is durable later keeps) (subst (λ (at : ℕ). Q at st.log.len) (area_there d st is durable later keeps) framed)
 
   -- inside
   pub inside_opens : (c : List ℕ) → ForceLeaves d st.log p.payloads c
@@ -148,7 +150,7 @@ module _ (d : DiskModel) (is_disk : IsDisk d) (st : StoreState) (is : IsMemory s
 
     -- superblock places and page places stand as before
     places_synced : IsSynced new 0 8192
-    places_synced = IsSynced-elsewhere d new 0 8192 st.log.area st.log.len (inl (omega (arith, area_is))) place (keeps.disk.running going).places
+    places_synced = IsSynced-elsewhere d new 0 8192 st.log.area st.log.len (inl (omega (arith, area_there d st is durable later keeps))) place (keeps.disk.running going).places
 
     no_body : (e : List ℕ) → new.told ≡ Some e → HasNoBody e (next_turn st.turn)
     no_body e tells =

@@ -1,5 +1,5 @@
 -- What a store keeps once the page of a number was written to its place, or perhaps not, where no group waits.
-use Rattle.std.proofs.Common.{◌≡◌, inl, inr, ℕ, ◌+◌, ◌*◌, ◌-◌, ◌%◌, ◌≤◌, Bool, true, false, IsTrue, List, [], ◌∷◌, ◌++◌, map, take, drop, replicate, Option, Some, None, refl, sym, ap, ◌∙◌, subst, arith}
+use Rattle.std.proofs.Common.{◌≡◌, inl, inr, ℕ, ◌+◌, ◌*◌, ◌-◌, ◌≤◌, Bool, true, false, IsTrue, List, [], ◌∷◌, ◌++◌, map, take, drop, replicate, Option, Some, None, refl, sym, ap, ◌∙◌, subst, arith}
 use Rattle.std.specs.Prelude.{not, ◌&&◌}
 use Rattle.std.specs.Option.{is_some}
 use Rattle.std.specs.Ordering.{nat_cmp, eq_by_cmp}
@@ -33,7 +33,7 @@ use Rattle.hb_store.specs.Opening.{OpensBy, place_bytes}
 use Rattle.hb_store.specs.Parts.{IsDurable, IsInLog, IsRunning, Parts, all_pages, written_pages}
 use Rattle.hb_store.specs.Replay.{Replayed, replay, untouched}
 use Rattle.hb_store.specs.States.{IsMemory, StoreState, in_memory, is_dirty, is_in_log}
-use Rattle.hb_store.proofs.AfterForce.{written_fits}
+use Rattle.hb_store.proofs.AfterForce.{area_there, len_there, written_fits}
 use Rattle.hb_store.proofs.AreaTorn.{area_end}
 use Rattle.hb_store.proofs.Facts.FreshLaws.{IsNewest-elsewhere}
 use Rattle.hb_store.proofs.Facts.PlaceWrites.{Tore, becomes_there, other_place, tore}
@@ -97,12 +97,6 @@ module _ (d e : DiskModel) (st : StoreState) (is : IsMemory st) (going : st.stop
   some_number : 1 ≤ id
   some_number = (is.in_file id (is.logged id dirty)).0
 
-  area_is : st.log.area ≡ log_start st.turn p.said
-  area_is = is.area ∙ ap (λ (n : ℕ). 8192 + (st.turn % 2) * n) keeps.memory.layout.log
-
-  len_is : st.log.len ≡ p.said.log
-  len_is = is.len ∙ keeps.memory.layout.log
-
   there : Becomes (Torn (page_offset p.said id) PAGE) d e
   there = becomes_there d e (page_offset st.meta id) PAGE p.said id (ap (λ (n : ℕ). 8192 + 2 * n + 4096 * (id - 1)) keeps.memory.layout.log) refl run
 
@@ -134,7 +128,7 @@ module _ (d e : DiskModel) (st : StoreState) (is : IsMemory st) (going : st.stop
   places_synced = IsSynced-elsewhere d e 0 8192 (page_offset p.said id) PAGE (inl (omega arith)) there (keeps.disk.running going).places
 
   area_apart : Apart st.log.area st.log.len (page_offset p.said id) PAGE
-  area_apart = inl (omega (arith, area_end st.turn p.said, area_is, len_is))
+  area_apart = inl (omega (arith, area_end st.turn p.said, area_there d st is durable [] keeps, len_there d st is durable [] keeps))
 
   area_synced : IsSynced e st.log.area st.log.len
   area_synced = IsSynced-elsewhere d e st.log.area st.log.len (page_offset p.said id) PAGE area_apart there (keeps.disk.running going).logged.synced

@@ -4,7 +4,7 @@ pub mod MadeParts
 mod AreaTorn
 mod AfterForce
 mod Written
-mod Setting
+pub mod Setting
 mod Held
 mod Framed
 mod Filled
@@ -15,7 +15,7 @@ mod Holding
 mod Committing
 mod Putting
 mod Checked
-mod Grouped
+pub mod Grouped
 mod InLog
 mod Committed
 pub mod Counting

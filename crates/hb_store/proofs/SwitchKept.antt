@@ -1,5 +1,5 @@
 -- A store begins its next turn: from what it keeps of the disk before, and to what it keeps then.
-use Rattle.std.proofs.Common.{◌≡◌, ◌⊎◌, inl, inr, ℕ, ◌+◌, ◌*◌, ◌-◌, ◌≤◌, take, drop, Bool, false, IsTrue, List, [], refl, sym, subst}
+use Rattle.std.proofs.Common.{◌≡◌, ℕ, ◌+◌, ◌*◌, ◌-◌, ◌≤◌, take, drop, Bool, false, [], refl, sym, subst}
 use Rattle.std.specs.Ordering.{nat_cmp}
 use Rattle.std.specs.FinSet as set
 use Rattle.hb_disk.specs.Model.{DiskModel, IsDisk}
@@ -10,24 +10,12 @@ use Rattle.hb_ops.specs.Files.{FileState}
 use Rattle.hb_super.specs.Superblocks.{next_turn}
 use Rattle.hb_super.proofs.Facts.BodyLaws.{HasNoBody-hides}
 use Rattle.hb_store.specs.Keeps.{IsFresh, StoreKeeps}
-use Rattle.hb_store.specs.Opening.{OpensBy}
 use Rattle.hb_store.specs.Parts.{IsDurable, written_pages}
 use Rattle.hb_store.specs.States.{IsMemory, StoreState, is_dirty}
 use Rattle.hb_store.specs.Switching.{switched_state}
 use Rattle.hb_store.specs.Turning.{MayTurn}
+use Rattle.hb_store.proofs.Facts.StoreLaws.{StoreKeeps-by}
 use Rattle.hb_store.proofs.Openings.{fresh_keeps}
-
--- in a store that was not stopped only the first is so
-first_only : (b : Bool) (A B C : Type 0) → b ≡ false → A ⊎ (IsTrue b × B) ⊎ (IsTrue b × C) → A
-first_only b A B C going (inl a) = a
-first_only b A B C going (inr (inl (stopped, h))) = cc (going, stopped)
-first_only b A B C going (inr (inr (stopped, h))) = cc (going, stopped)
-
--- each image opens by the written groups
-pub by_turn : (d : DiskModel) (st : StoreState) → IsMemory st → st.stopped ≡ false → (durable : FileState) → (keeps : StoreKeeps d st durable []) → (c : List ℕ) → d.Image c
-    → OpensBy c st.turn keeps.parts.said keeps.parts.payloads keeps.parts.written durable
-by_turn d st is going durable keeps c image =
-    first_only st.stopped (OpensBy c st.turn keeps.parts.said keeps.parts.payloads keeps.parts.written durable) _ _ going (keeps.disk.images c image)
 
 module _ (d : DiskModel) (st : StoreState) (is : IsMemory st) (going : st.stopped ≡ false) (clean : (id : ℕ) → is_dirty st id ≡ false) (durable : FileState) (keeps : StoreKeeps d st durable []) where
   -- where no page is dirty the next turn may begin
@@ -41,7 +29,7 @@ module _ (d : DiskModel) (st : StoreState) (is : IsMemory st) (going : st.stoppe
           meta_is = keeps.memory.meta_is;
           payloads = keeps.parts.payloads;
           groups = keeps.parts.written;
-          by = first_only st.stopped (OpensBy c st.turn keeps.parts.said keeps.parts.payloads keeps.parts.written durable) _ _ going (keeps.disk.images c image);
+          by = StoreKeeps-by d st durable [] keeps going c image;
           touched_is = λ id. refl;
         };
         places = (keeps.disk.running going).places;

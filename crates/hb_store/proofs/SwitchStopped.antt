@@ -20,7 +20,7 @@ use Rattle.hb_store.specs.States.{IsMemory, StoreState}
 use Rattle.hb_store.specs.Switching.{TornSwitch}
 use Rattle.hb_store.specs.Turning.{OpensByEither}
 use Rattle.hb_store.proofs.Facts.ReplayLaws.{opens_elsewhere}
-use Rattle.hb_store.proofs.SwitchKept.{by_turn}
+use Rattle.hb_store.proofs.Facts.StoreLaws.{StoreKeeps-by}
 use Rattle.hb_space.specs.declared.form.TheConstants.{PAGE}
 use Rattle.hb_store.proofs.Turned.{Areas, areas, parities}
 
@@ -71,7 +71,7 @@ module _ (d e : DiskModel) (st : StoreState) (is : IsMemory st) (going : st.stop
   images_then left c image =
       let was = run.crash c image in
       elim (left c image) [
-        | inl still ↦ inl (opens_elsewhere was.0 c st.turn p.said p.payloads p.written durable (by_turn d st is going durable keeps was.0 was.1) still.by.newest (was.2.place.as_long ∙ was.2.area.as_long)
+        | inl still ↦ inl (opens_elsewhere was.0 c st.turn p.said p.payloads p.written durable (StoreKeeps-by d st durable [] keeps going was.0 was.1) still.by.newest (was.2.place.as_long ∙ was.2.area.as_long)
             (log_kept was.0 c was.2) (λ id page has none. place_kept was.0 c was.2 id))
         | inr next ↦ let M : Meta → Type 0 = λ m. OpensBy c (next_turn st.turn) m [] [] durable in inr (subst M (sym keeps.memory.meta_is) next)
       ]

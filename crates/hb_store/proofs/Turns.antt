@@ -12,7 +12,7 @@ use Rattle.hb_layout.specs.Offsets.{log_start, slot_offset}
 use Rattle.hb_layout.specs.declared.meta.Meta.{Meta}
 use Rattle.hb_ops.specs.Files.{FileState}
 use Rattle.hb_super.specs.Superblocks.{next_turn}
-use Rattle.hb_lemmas.proofs.Options.{some_value}
+use Rattle.hb_lemmas.proofs.Options.{on_ok_weaker, some_value}
 use Rattle.hb_store.proofs.Facts.PlaceWrites.{ok_tick}
 use Rattle.hb_store.specs.Switching.{TornSwitch}
 use Rattle.hb_store.specs.Turning.{MayTurn, OpensByEither, StillOpens}
@@ -44,10 +44,6 @@ ok_of : {T E : Type 0} (r : Result T E) (v : T) (P : Type 0) → r ≡ Ok v → 
 ok_of (Ok w) v P ok p = p
 ok_of (Err e) v P ok p = cc ok
 
-ok_then : {T E : Type 0} (r : Result T E) (P Q : Type 0) → (P → Q) → OnOk r P → OnOk r Q
-ok_then (Ok v) P Q f p = f p
-ok_then (Err e) P Q f p = tt
-
 -- nine ticks: one of the sync, two of the area and six of the superblock
 pub nine_ticks : {T E U F V W : Type 0} (q : Result T E) (r : Result U F) (s : Result V W) (v : T) (w : U) (old mid late new : DiskModel) → q ≡ Ok v → r ≡ Ok w → IsDisk old → Syncs q old mid
     → (area len : ℕ) → Rewrites (Torn area len) 2 r mid late → (IsSome mid.told → OnOk r (late.clock ≡ mid.clock + 2)) → (IsSome late.told → OnOk s (new.clock ≡ late.clock + 6))
@@ -56,7 +52,7 @@ nine_ticks q r s v w old mid late new is_ok are_ok is_old syncs area len run sec
     let here : IsSome mid.told = ap is_some syncs.same ∙ tells in
     let one = ok_tick q v old mid is_ok is_old tells syncs.ticks in
     let two = ok_of r w (late.clock ≡ mid.clock + 2) are_ok (second here) in
-    ok_then s (new.clock ≡ late.clock + 6) (new.clock ≡ old.clock + 9) (λ six. omega (arith, one, two, six)) (third (Becomes-tells (Torn area len) mid late run.became here))
+    on_ok_weaker s (new.clock ≡ late.clock + 6) (new.clock ≡ old.clock + 9) (λ six. omega (arith, one, two, six)) (third (Becomes-tells (Torn area len) mid late run.became here))
 
 module _ (before next : ℕ) (meta : Meta) (is : next ≡ next_turn before) (area : ℕ) (area_is : area ≡ log_start next meta) where
   as_switch : (b c e : List ℕ) → Torn area meta.log b c → Torn (slot_offset next) 41 c e → TornSwitch before meta b e
