@@ -41,6 +41,10 @@ pub record Looked (id : ℕ) (copied : Result Page CopyStop) (d : DiskModel) (ol
   pub reads : ReadsOnly (IsErrOf copied copies.ReadFault) d e
   pub counts : CountsStay old new
 
+pub looked_by : (id : ℕ) (copied : Result Page CopyStop) (d : DiskModel) (old : RunningCore) (e : DiskModel) (new : RunningCore) → IsDisk d → ((m : Machine) → MayStep d old m → (next : Machine) × CopiesPage id copied m next × MayStep e new next)
+    → ReadsOnly (IsErrOf copied copies.ReadFault) d e → CountsStay old new → Looked id copied d old e new
+looked_by id copied d old e new disk told reads counts = record { disk = disk; told = told; reads = reads; counts = counts }
+
 -- what was seen of a page
 abbrev pub SawPage : ℕ → Option Page → FileState → Type 0
 SawPage id seen s = IfSome seen (λ page. page_of s id ≡ Some page)

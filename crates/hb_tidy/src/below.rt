@@ -195,36 +195,14 @@ fn try_pair<D: Device>(
     ensures fit { All (JobFits (core_seen core.old).store.meta.k) jobs.new.items }
 {
     if parent.page.names(gone) {
-        look_at_pair(core, parent, keep, area, gone, jobs)
+        match named_page(core, gone)? {
+            Some(going) => {
+                owe_merge(core.meta(), parent, keep, area, gone, &going, jobs)?;
+                Ok(())
+            }
+            None => Ok(()),
+        }
     } else {
         Ok(())
-    }
-}
-
-/// Looks at a page that the parent names, and adds a job where the page to keep may take it over.
-fn look_at_pair<D: Device>(
-    core: &mut Core<D>,
-    parent: &Numbered,
-    keep: &Numbered,
-    area: &Area,
-    gone: u32,
-    jobs: &mut Vec<Job>,
-) -> Result<(), TidyStop>
-    requires may { MayTidy (D.model (core_disk core.old)) (core_seen core.old) }
-    requires stands { StandsBelow (core_seen core.old).store.meta parent.now.page keep.now.id area.now keep.now.page }
-    requires fit { All (JobFits (core_seen core.old).store.meta.k) jobs.old.items }
-    ensures looks { LooksOver (BothLive parent.now.id parent.now.page keep.now.id keep.now.page) result
-        (λ v s. jobs.new.items ≡ [] → (jobs.old.items ≡ []) × (¬ (IsMergeable s parent.now.id keep.now.id gone)))
-        (D.model (core_disk core.old)) (core_seen core.old) (D.model (core_disk core.new)) (core_seen core.new) }
-    ensures may { OnOk result (MayTidy (D.model (core_disk core.new)) (core_seen core.new)) }
-    ensures meta { (core_seen core.new).store.meta ≡ (core_seen core.old).store.meta }
-    ensures fit { All (JobFits (core_seen core.old).store.meta.k) jobs.new.items }
-{
-    match named_page(core, gone)? {
-        Some(going) => {
-            owe_merge(core.meta(), parent, keep, area, gone, &going, jobs)?;
-            Ok(())
-        }
-        None => Ok(()),
     }
 }

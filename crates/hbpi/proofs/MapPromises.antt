@@ -10,7 +10,7 @@ use Rattle.hb_restart.specs.Refusals.{GoodIsNotRefused}
 use Rattle.hb_store.specs.Opening.{IsEven, OpensTo, OpensToOne}
 use Rattle.hbpi.proofs.Opened.{even_store}
 use Rattle.hbpi.proofs.Promises.{not_done}
-use Rattle.hbpi.specs.Codes.{status_of}
+use Rattle.hbpi.proofs.SaidWhole.{shut_for_memory}
 use Rattle.hbpi.specs.Mapped.{KeepsMapped, MapEnds, MapsWith}
 use Rattle.hbpi.specs.SeenRuns.{HasFailed, Run}
 use Rattle.hbpi.specs.declared.statuses.Status.{Status}
@@ -55,11 +55,6 @@ maps_whole run meta text Spent b told calm sink ends = absurd ends
 pub map_whole : GoodIsNotRefused → (s : FileState) (run : Run) (status : Status) (b : List ℕ) → run.before.told ≡ Some b → OpensTo b s → IsSound s → ¬ (HasFailed run) → ¬ (Rose run.seen.sink_before.faults run.seen.sink_after.faults) → MapEnds run status
     → (status ≡ Done) ⊎ (status ≡ NoMemory)
 map_whole good s run status b told opens sound calm sink ends = elim ends [
-  | inl shut ↦
-      let why = at_value run.before.told _ b told shut.2.why.why in
-      elim (good shut.0 b s opens sound why) [
-        | inl failed ↦ absurd (calm (shut.2.leaves.faults.cause failed))
-        | inr refused ↦ inr (shut.1 ∙ ap status_of refused)
-      ]
+  | inl shut ↦ inr (shut_for_memory good s run status b told opens sound calm shut.0 shut.1 shut.2)
   | inr mapped ↦ maps_whole run mapped.0.meta mapped.1 status b told calm sink mapped.4
 ]

@@ -1,7 +1,7 @@
 //! The bytes of files that were made and driven. Places and bytes are worked out from `docs/FORMAT.md`.
 
-use crate::runs::{CREATE, SIZE, left_of};
 use crate::taller::SEVEN;
+use hbpi_shared_tests::{CREATE, SIZE, left_of};
 use std::alloc::Global;
 
 /// Where the log area 1 of such a file begins.

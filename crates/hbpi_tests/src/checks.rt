@@ -1,11 +1,12 @@
 //! What `check` says of files, by rows worked out by hand, and that it changes no record.
 
-use crate::runs::{
-    CREATE, Left, NEVER, SIZE, expect_said, file_of, left_of, run_failing, run_on, run_over,
-};
+use crate::says::expect_said;
 use crate::spoiled::{GROWTH, LOGGED, NEW, PAGE_1, UNORDERED, put_at};
 use crate::taller::SEVEN;
 use hb_disk::{Disk, MemDisk};
+use hbpi_shared_tests::{
+    CREATE, Left, NEVER, SIZE, file_of, left_of, run_failing, run_on, run_over,
+};
 use std::alloc::Global;
 
 /// Seven records, of which one page holds six. Then both pages are looked up, the poster puts a root above them, and another

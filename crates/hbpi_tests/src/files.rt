@@ -1,9 +1,8 @@
 //! Files that are made and driven. Where a file isn't named, it is a new one of one attribute.
 
-use crate::runs::{
-    CREATE, Left, NEVER, SIZE, drive_on, expect_said, file_of, left_of, run_on, run_over,
-};
+use crate::says::expect_said;
 use hb_disk::{Disk, MemDisk};
+use hbpi_shared_tests::{CREATE, Left, NEVER, SIZE, drive_on, file_of, left_of, run_on, run_over};
 use std::alloc::Global;
 
 /// A text that was driven before, where it isn't empty; a text, and what `drive` says to it.

@@ -1,8 +1,8 @@
 //! Steps of the flusher: groups are forced, pages go home, and the next turn begins. Turns behind turns, and a crash before each call of
 //! all this, or a failure of it.
 
-use crate::runs::{Left, NEVER, drive_on, file_of, run_failing};
 use crate::stops::{ALL, all_say, always_say, has_stopped};
+use hbpi_shared_tests::{Left, NEVER, drive_on, file_of, run_failing};
 use std::alloc::Global;
 
 /// The turns in the two places of a superblock, each behind its open gate.

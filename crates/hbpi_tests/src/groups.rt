@@ -1,8 +1,8 @@
 //! Groups that wait together and are forced as one frame: a crash before each device call, and each call of a force failing.
 
-use crate::runs::{Left, NEVER, file_of, run_failing};
 use crate::stops::{ALL, BEFORE_FORCES, all_say, has_stopped};
 use hb_disk::Disk;
+use hbpi_shared_tests::{Left, NEVER, file_of, run_failing};
 use std::alloc::Global;
 
 /// A text; what it says; what all records are at first and behind each force; and what it says where a call of each force fails.

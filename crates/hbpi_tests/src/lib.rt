@@ -8,19 +8,11 @@ mod bytes;
 #[cfg(test)]
 mod checks;
 #[cfg(test)]
-mod drawn;
-#[cfg(test)]
 mod files;
 #[cfg(test)]
 mod flushes;
 #[cfg(test)]
-mod full_logs;
-#[cfg(test)]
 mod groups;
-#[cfg(test)]
-mod grown_stops;
-#[cfg(test)]
-mod many_pages;
 #[cfg(test)]
 mod mapped;
 #[cfg(test)]
@@ -30,15 +22,11 @@ mod merges;
 #[cfg(test)]
 mod merges_by_hand;
 #[cfg(test)]
-mod ordered;
-#[cfg(test)]
-mod plain_list;
-#[cfg(test)]
 mod postings;
 #[cfg(test)]
 mod races;
 #[cfg(test)]
-mod runs;
+mod says;
 #[cfg(test)]
 mod searches;
 #[cfg(test)]

@@ -1,9 +1,10 @@
 //! What `map` says of a file, where a call fails, and where a page is damaged.
 
-use crate::runs::{Left, NEVER, SIZE, expect_said, file_of, run_failing, run_on, run_over};
+use crate::says::expect_said;
 use crate::spoiled::{PAGE_1, put_at};
 use crate::taller::SEVEN;
 use hb_disk::MemDisk;
+use hbpi_shared_tests::{Left, NEVER, SIZE, file_of, run_failing, run_on, run_over};
 use std::alloc::Global;
 
 /// The map of a file of two pages: of what was the first one's box, the lower part is a hole that the second has. A put has a line.

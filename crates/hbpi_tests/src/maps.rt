@@ -1,8 +1,9 @@
 //! The pages of files of more than one page, behind a recovery. Pages and their bytes were worked out by hand, after
 //! `docs/FORMAT.md`: each page is spelled as its head, its box, and its cuts and leaves from the left.
 
-use crate::runs::{CREATE, SIZE, drive_on, expect_said, left_of};
+use crate::says::expect_said;
 use crate::taller::{BETWEEN, POSTING, SEVEN, TWELVE};
+use hbpi_shared_tests::{CREATE, SIZE, drive_on, left_of};
 use std::alloc::Global;
 
 /// Where page 1 stands.

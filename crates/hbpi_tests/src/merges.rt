@@ -2,8 +2,9 @@
 //! hand, after `docs/STEPS.md` and `docs/FORMAT.md`, and by a plain machine (`trials/schedules/machine.py`).
 
 use crate::maps::{PAGE_1, PAGE_2, PAGE_3, PAGE_4, by_hand, stands};
-use crate::runs::{Left, drive_on, expect_said, file_of};
+use crate::says::expect_said;
 use crate::taller::{POSTING, SEVEN};
+use hbpi_shared_tests::{Left, drive_on, file_of};
 use std::alloc::Global;
 
 /// Where the second place of the superblock stands.

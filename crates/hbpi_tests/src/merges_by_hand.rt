@@ -3,7 +3,7 @@
 
 use crate::maps::{PAGE_1, PAGE_2, PAGE_3, PAGE_4};
 use crate::merges::{Row, SECOND, is_as_drawn, left_by};
-use crate::runs::expect_said;
+use crate::says::expect_said;
 
 /// Where the next pages stand.
 const PAGE_5: usize = PAGE_4 + 4096;

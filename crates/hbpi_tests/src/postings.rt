@@ -2,7 +2,7 @@
 //! that splits while pages are posted.
 
 use crate::maps::stands;
-use crate::runs::{CREATE, Left, SIZE, drive_on, file_of, left_of};
+use hbpi_shared_tests::{CREATE, Left, SIZE, drive_on, file_of, left_of};
 use std::alloc::Global;
 
 /// Nine points in three pages: below 4000 in page 2, up to 5999 in page 1, and from 6000 on in page 3.

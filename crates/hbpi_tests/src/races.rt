@@ -1,7 +1,7 @@
 //! Two sessions on one page, in all interleavings of their first six steps each.
 
-use crate::ordered::{Commands, Verb, holds, told_by};
-use crate::runs::{Left, drive_on, expect_said, file_of, left_of};
+use crate::says::expect_said;
+use hbpi_shared_tests::{Commands, Left, Verb, drive_on, file_of, holds, left_of, told_by};
 use std::alloc::Global;
 
 /// Two records.

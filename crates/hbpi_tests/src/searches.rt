@@ -2,8 +2,9 @@
 //! each search, and so its steps, were worked out by hand.
 
 use crate::maps::{PAGE_1, PAGE_2, PAGE_3, by_hand};
-use crate::runs::{CREATE, Left, SIZE, drive_on, expect_said, left_of};
+use crate::says::expect_said;
 use crate::taller::{BETWEEN, SEVEN};
+use hbpi_shared_tests::{CREATE, Left, SIZE, drive_on, left_of};
 use std::alloc::Global;
 
 /// Four points more behind seven. Page 2, from 0 to 39, is split at 10: what lies below is on page 3, in a hole of page 2, which

@@ -1,6 +1,7 @@
 //! Runs of several sessions over a file of one attribute.
 
-use crate::runs::{Left, drive_on, expect_said, file_of};
+use crate::says::expect_said;
+use hbpi_shared_tests::{Left, drive_on, file_of};
 use std::alloc::Global;
 
 /// As many records as a page has room for.

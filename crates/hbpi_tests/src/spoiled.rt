@@ -1,7 +1,7 @@
 //! Files that are damaged or cut short, and a larger one. Nothing is written to those that are refused for their bytes.
 
-use crate::runs::{Left, drive_on, file_of};
 use hb_disk::Disk;
+use hbpi_shared_tests::{Left, drive_on, file_of};
 use std::alloc::Global;
 
 /// The head of a page that is cut at 256: below it no record, from it on what page 9 has.

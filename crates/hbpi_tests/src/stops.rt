@@ -1,7 +1,7 @@
 //! A crash before each device call, and each device call failing.
 
-use crate::runs::{CREATE, Left, NEVER, SIZE, drive_on, file_of, left_of, run_failing};
 use hb_disk::{Disk, MemDisk, Pick};
+use hbpi_shared_tests::{CREATE, Left, NEVER, SIZE, drive_on, file_of, left_of, run_failing};
 use std::alloc::Global;
 
 /// Whether `drive` of a text says one of two outputs over what a crash before this call might have left.

@@ -1,7 +1,8 @@
 //! Runs over files of more than one page: pages that split, siblings that are posted, and a file that is full. Where each
 //! record lies, and what a step does, was worked out by hand.
 
-use crate::runs::{CREATE, Left, SIZE, drive_on, expect_said, left_of};
+use crate::says::expect_said;
+use hbpi_shared_tests::{CREATE, Left, SIZE, drive_on, left_of};
 use std::alloc::Global;
 
 /// Seven points in three attributes, of which one lies between the others in each.

@@ -1,7 +1,5 @@
 //! Texts for `dry`, generated texts, words that are no form, and layouts that are out of their limits. Over a disk of no byte.
 
-use crate::runs::{expect_said, run_on};
-
 /// The words, the text, and what the program says: its exit status, and its output.
 const TEXTS: [(&str, &str, &str); 18] = [
     ("dry 2", "", "0 order\n"),

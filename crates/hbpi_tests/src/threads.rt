@@ -1,9 +1,6 @@
 //! Texts under `run`, and generated lines under `work`, whose sessions run in threads, over disks in memory.
 
-use crate::runs::{
-    CREATE, Left, NEVER, SIZE, drive_on, expect_said, file_of, left_by, left_of, run_on, run_over,
-    said_of, sink_of, source_of, words_of,
-};
+use crate::says::expect_said;
 use crate::stops::BEFORE_FORCES;
 use hb_disk::{Disk, MemDisk, Pick, RotDisk};
 use hb_outside::MemSink;
@@ -11,6 +8,10 @@ use hb_run::{FreeGate, Gate, HoldGate, Place};
 use hb_set::{Answered, Reply};
 use hbpi::top::{quiet, top};
 use hbpi::{Finished, Form};
+use hbpi_shared_tests::{
+    CREATE, Left, NEVER, SIZE, drive_on, file_of, left_by, left_of, run_on, run_over, said_of,
+    sink_of, source_of, words_of,
+};
 use std::alloc::Global;
 use std::sync::Wait;
 use std::sync::atomic::{AtomicBool, Ordering};

@@ -1,8 +1,8 @@
 //! Files that are tidied, by hand: what `tidy`, `map` and `check` say of them, one call behind the other; a tidying that is stopped before
 //! each device call, and each of its calls failing.
 
-use crate::runs::{CREATE, Left, NEVER, SIZE, file_of, run_failing, run_on};
 use crate::stops::always_say;
+use hbpi_shared_tests::{CREATE, Left, NEVER, SIZE, file_of, run_failing, run_on};
 use std::alloc::Global;
 
 /// Seven records, of which one page holds six.

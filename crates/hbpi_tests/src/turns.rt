@@ -2,8 +2,9 @@
 
 use crate::flushes::turns_of;
 use crate::maps::{PAGE_1, stands};
-use crate::runs::{Left, drive_on, expect_said, file_of};
+use crate::says::expect_said;
 use hb_disk::Disk;
+use hbpi_shared_tests::{Left, drive_on, file_of};
 use std::alloc::Global;
 
 /// A text, what `drive` says to it, and the line of the order as far as the lines go.

@@ -1,9 +1,11 @@
-use Rattle.std.proofs.Common.{◌≡◌, ℕ, ◌≤◌, List, All, length, get_or, Ok, refl, ◌∙◌, arith, rules, subst}
+use Rattle.std.proofs.Common.{◌≡◌, ℕ, ◌≤◌, List, [], All, length, get_or, take, Ok, refl, ◌∙◌, arith, rules, subst}
 use Rattle.std.proofs.lemmas.List.{take_all}
 use Rattle.hb_space.specs.Boxes.{Area}
 use Rattle.hb_core.specs.CoreSeen.{core_seen, core_disk}
 use Rattle.hb_core.specs.KeptFits.{JobFits}
 use Rattle.hb_layout.specs.declared.meta.Meta.{Meta}
+use Rattle.hb_ops.specs.Files.{FileState}
+use Rattle.hb_ops.specs.Settled.{IsMergeable}
 use Rattle.hb_tidy.proofs.Exits.{over_exit, over_value}
 use Rattle.hb_tidy.proofs.Joined.{over_then}
 use Rattle.hb_tidy.proofs.Pairs.{NoneGoing, NotGoing, pairs_all, pairs_begin, pairs_next}
@@ -26,8 +28,10 @@ returns-in_err-try_pair-clause-looks g c =
     let e = g.D.Device.model (core_disk c.try_pair.new.core) in
     let Both = BothLive c.args.parent.now.id c.args.parent.now.page c.args.keep.now.id c.args.keep.now.page in
     let Not = NotGoing c.args.parent.now.id c.args.keep.now.id c.args.parent.now.page c.args.keep.now.page c.leaf-item.result.0 c.loop-leaf.jobs.items c.try_pair.new.jobs.items in
-    over_then Both (tt {0}) _ Both c.from_residual.result _ _ d mid e (core_seen c.args.core.now) (core_seen c.loop-leaf.core) (core_seen c.try_pair.new.core) c.loop-leaf.invariant.looks (λ s known said. known)
-    (over_exit Both c.in_err-try_pair.field-0.0 c.try_pair.result c.from_residual.result Not _ mid e (core_seen c.loop-leaf.core) (core_seen c.try_pair.new.core) c.in_err-try_pair.was c.from_residual.ensures.1 c.try_pair.ensures.looks)
+    let So = NoneGoing c.args.parent.now.id c.args.keep.now.id c.args.parent.now.page c.args.keep.now.page (take c.loop-leaf.leaf-index c.args.given.now) c.args.jobs.now.items c.loop-leaf.jobs.items in
+    let Ends : Unit {0} → FileState → Type 0 = λ v s. c.try_pair.new.jobs.items ≡ [] → (c.args.jobs.now.items ≡ []) × ((gone : ℕ) → ¬ (IsMergeable s c.args.parent.now.id c.args.keep.now.id gone)) in
+    over_then Both (tt {0}) So Both c.from_residual.result Ends Ends d mid e (core_seen c.args.core.now) (core_seen c.loop-leaf.core) (core_seen c.try_pair.new.core) c.loop-leaf.invariant.looks (λ s known said. known)
+    (over_exit Both c.in_err-try_pair.field-0.0 c.try_pair.result c.from_residual.result Not Ends mid e (core_seen c.loop-leaf.core) (core_seen c.try_pair.new.core) c.in_err-try_pair.was c.from_residual.ensures.1 c.try_pair.ensures.looks)
     (λ s w known said more. more)
 
 pub loop-leaf-preserved : goal.loop-leaf-preserved

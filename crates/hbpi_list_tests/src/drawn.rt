@@ -2,9 +2,8 @@
 //! reopening in the middle; and a hundred in which points come, go and come again, with the consolidator, too. What is printed and kept is
 //! compared with a plain list by the printed order.
 
-use crate::ordered::{Commands, EMPTY, Plain, Told, Verb, holds, told_by};
 use crate::plain_list::drawn;
-use crate::runs::{drive_on, left_of};
+use hbpi_shared_tests::{Commands, EMPTY, Plain, Told, Verb, drive_on, holds, left_of, told_by};
 use std::alloc::Global;
 
 /// How many points commands are drawn on: 24, 64, or 1,024.

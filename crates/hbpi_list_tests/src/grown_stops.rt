@@ -1,9 +1,10 @@
 //! A crash before each device call, and each device call failing, once or from then on, of a run that splits a page twice and
 //! posts both.
 
-use crate::ordered::{Commands, EMPTY, Plain, Verb, holds, told_by};
-use crate::runs::{Left, NEVER, left_of, run_over};
 use hb_disk::{Disk, MemDisk, Pick};
+use hbpi_shared_tests::{
+    Commands, EMPTY, Left, NEVER, Plain, Verb, holds, left_of, run_over, told_by,
+};
 use std::alloc::Global;
 
 /// The commands of session 1: points, of which the first nine split a page twice, and the verbs on them.

@@ -6,25 +6,24 @@ use hb_set::Answered;
 use hbpi::top::run_without_threads;
 use hbpi::{Finished, Form, Status};
 use std::alloc::Global;
-use std::process::Abort;
 use std::str;
 
 /// How many bytes a file has under `create K 64 65536 6 32`.
-pub(crate) const SIZE: usize = 401_408;
+pub const SIZE: usize = 401_408;
 
 /// A file of one attribute: 64 pages, log areas of 65,536 bytes, six records in a page.
-pub(crate) const CREATE: &str = "create 1 64 65536 6 32";
+pub const CREATE: &str = "create 1 64 65536 6 32";
 
 /// A number that no call has.
-pub(crate) const NEVER: u64 = u64::MAX;
+pub const NEVER: u64 = u64::MAX;
 
 /// What a run leaves.
 #[derive(Drop)]
-pub(crate) struct Left {
+pub struct Left {
     /// The exit status, a space, and what the sink got.
-    pub(crate) said: String,
-    pub(crate) disk: MemDisk,
-    pub(crate) answered: Vec<Answered>,
+    pub said: String,
+    pub disk: MemDisk,
+    pub answered: Vec<Answered>,
 }
 
 /// Adds a word to a list.
@@ -33,7 +32,7 @@ fn add_word(alloc: Global, list: &mut Vec<String>, word: &str) -> Option<()> {
 }
 
 /// The words of a line.
-pub(crate) fn words_of(alloc: Global, line: &str) -> Option<Vec<String>> {
+pub fn words_of(alloc: Global, line: &str) -> Option<Vec<String>> {
     let mut list = Vec::new(alloc);
     for word in line.split_whitespace() {
         add_word(alloc, &mut list, word)?;
@@ -42,27 +41,27 @@ pub(crate) fn words_of(alloc: Global, line: &str) -> Option<Vec<String>> {
 }
 
 /// A source of this text that fails at the call of this number.
-pub(crate) fn source_of(alloc: Global, text: &str, failing: u64) -> Option<MemSource> {
+pub fn source_of(alloc: Global, text: &str, failing: u64) -> Option<MemSource> {
     let calls = Vec::from_slice(alloc, &[failing]).ok()?;
     let bytes = Vec::from_slice(alloc, text.as_bytes()).ok()?;
     Some(MemSource::new(bytes, calls))
 }
 
 /// A sink that fails at the call of this number.
-pub(crate) fn sink_of(alloc: Global, failing: u64) -> Option<MemSink> {
+pub fn sink_of(alloc: Global, failing: u64) -> Option<MemSink> {
     let calls = Vec::from_slice(alloc, &[failing]).ok()?;
     Some(MemSink::new(alloc, calls))
 }
 
 /// The exit status, a space, and what the sink got.
-pub(crate) fn said_of(alloc: Global, status: Status, sink: &MemSink) -> Option<String> {
+pub fn said_of(alloc: Global, status: Status, sink: &MemSink) -> Option<String> {
     let code = status.code();
     let written = str::from_utf8(sink.bytes()).ok()?;
     format!(in alloc; "{code} {written}").ok()
 }
 
 /// What a run leaves.
-pub(crate) fn left_by(alloc: Global, finished: Finished<MemSink, MemDisk>) -> Option<Left> {
+pub fn left_by(alloc: Global, finished: Finished<MemSink, MemDisk>) -> Option<Left> {
     let said = said_of(alloc, finished.status, &finished.sink)?;
     Some(Left {
         said,
@@ -86,7 +85,7 @@ fn run(
 }
 
 /// Runs the program over this disk. The source fails at the call of number `read`, and the sink at that of number `write`.
-pub(crate) fn run_over(
+pub fn run_over(
     alloc: Global,
     words: &str,
     text: &str,
@@ -101,7 +100,7 @@ pub(crate) fn run_over(
 }
 
 /// Runs the program over a disk of these bytes whose call of this number fails.
-pub(crate) fn run_failing(
+pub fn run_failing(
     alloc: Global,
     words: &str,
     text: &str,
@@ -115,12 +114,12 @@ pub(crate) fn run_failing(
 }
 
 /// Runs the program over a disk of these bytes, where nothing fails.
-pub(crate) fn run_on(alloc: Global, words: &str, text: &str, bytes: &[u8]) -> Option<Left> {
+pub fn run_on(alloc: Global, words: &str, text: &str, bytes: &[u8]) -> Option<Left> {
     run_failing(alloc, words, text, bytes, NEVER)
 }
 
 /// The same with `drive`.
-pub(crate) fn drive_on(alloc: Global, text: &str, bytes: &[u8]) -> Option<Left> {
+pub fn drive_on(alloc: Global, text: &str, bytes: &[u8]) -> Option<Left> {
     run_on(alloc, "drive", text, bytes)
 }
 
@@ -137,7 +136,7 @@ fn filled(alloc: Global, byte: u8, size: usize) -> Option<Vec<u8>> {
 
 /// The bytes that the words leave of a disk of so many bytes of one kind, and then these texts with `drive`, one after the
 /// other.
-pub(crate) fn left_of(
+pub fn left_of(
     alloc: Global,
     words: &str,
     texts: &[&str],
@@ -153,17 +152,6 @@ pub(crate) fn left_of(
 }
 
 /// The bytes that these texts leave of a new file of one attribute.
-pub(crate) fn file_of(alloc: Global, texts: &[&str]) -> Option<Vec<u8>> {
+pub fn file_of(alloc: Global, texts: &[&str]) -> Option<Vec<u8>> {
     left_of(alloc, CREATE, texts, SIZE, 0)
-}
-
-/// Ends the test unless the run said this.
-pub(crate) fn expect_said(rt: &impl Abort, left: Option<Left>, want: &str, row: &str) {
-    match left {
-        Some(left) => {
-            let said = left.said.as_str();
-            assert!(rt; said == want, "{row}: {said}");
-        }
-        None => panic!(rt; "memory was refused"),
-    }
 }

@@ -3,9 +3,8 @@
 //! which pages are read again.
 
 use crate::drawn::{Draw, Rows, Wave, driven, finish};
-use crate::ordered::{Commands, EMPTY, Plain, Told, Verb, holds};
-use crate::runs::{drive_on, left_of};
 use hb_disk::Disk;
+use hbpi_shared_tests::{Commands, EMPTY, Plain, Told, Verb, drive_on, holds, left_of};
 use std::alloc::Global;
 use std::process::Abort;
 

@@ -3,7 +3,7 @@
 
 ghost use Rattle.std.specs.Prelude.{◌<◌};
 
-use crate::runs::{SIZE, drive_on, left_of, run_on};
+use hbpi_shared_tests::{SIZE, drive_on, left_of, run_on};
 use std::alloc::Global;
 
 /// A point: its two values.

@@ -8,13 +8,13 @@ use std::alloc::Global;
 const MOST: usize = 1024;
 
 /// The body that each point has, which is a number; 0 where it has no record.
-pub(crate) type Plain = [usize; MOST];
+pub type Plain = [usize; MOST];
 
 /// Points without a record.
-pub(crate) const EMPTY: Plain = [0; MOST];
+pub const EMPTY: Plain = [0; MOST];
 
 #[derive(Clone, Copy)]
-pub(crate) enum Verb {
+pub enum Verb {
     Insert,
     Delete,
     Lookup,
@@ -125,9 +125,9 @@ fn effect(plain: &mut Plain, k: u8, command: &Command, body: usize) -> Option<Re
 
 /// The commands of a text, one on each line from line 1 on.
 #[derive(Drop)]
-pub(crate) struct Commands {
+pub struct Commands {
     list: Vec<Command>,
-    pub(crate) text: String,
+    pub text: String,
     /// The number of attributes, 1 or 2.
     k: u8,
     /// A body is this number and that of its line.
@@ -135,7 +135,7 @@ pub(crate) struct Commands {
 }
 
 impl Commands {
-    pub(crate) fn new(alloc: Global, k: u8, from: usize) -> Commands {
+    pub fn new(alloc: Global, k: u8, from: usize) -> Commands {
         Commands {
             list: Vec::new(alloc),
             text: String::new(alloc),
@@ -169,7 +169,7 @@ impl Commands {
     }
 
     /// Adds a command.
-    pub(crate) fn add(&mut self, session: u8, verb: Verb, place: usize) -> Option<()> {
+    pub fn add(&mut self, session: u8, verb: Verb, place: usize) -> Option<()> {
         let word = match verb {
             Verb::Insert => "insert",
             Verb::Delete => "delete",
@@ -193,7 +193,7 @@ impl Commands {
     }
 
     /// What the points have behind the first of these commands, one after the other.
-    pub(crate) fn behind(&self, count: usize) -> Option<Plain> {
+    pub fn behind(&self, count: usize) -> Option<Plain> {
         let mut plain = EMPTY;
         for (place, command) in self.list.iter().enumerate().take(count) {
             effect(&mut plain, self.k, command, self.body(place))?;
@@ -204,13 +204,13 @@ impl Commands {
 
 /// What an output says.
 #[derive(Drop)]
-pub(crate) struct Told {
+pub struct Told {
     /// What the points have behind the settled part of the order.
-    pub(crate) settled: Plain,
+    pub settled: Plain,
     /// And behind all of it.
-    pub(crate) whole: Plain,
+    pub whole: Plain,
     /// Whether each line was answered, and all of the order is settled.
-    pub(crate) done: bool,
+    pub done: bool,
     /// What each line in the order has to reply.
     replies: [Option<Reply>; MOST],
     /// The lines that were printed.
@@ -338,7 +338,7 @@ impl Told {
 
 /// What the output of these commands says over points that had this. It is `None` where a reply isn't the plain list's over the
 /// printed order, where the order turns two lines of a session round, or where a line is missing or there twice.
-pub(crate) fn told_by(commands: &Commands, before: Plain, said: &str) -> Option<Told> {
+pub fn told_by(commands: &Commands, before: Plain, said: &str) -> Option<Told> {
     let (_, body) = said.split_once(' ')?;
     let (lines, rest) = body.split_once("order")?;
     let mut told = Told::new(before);
@@ -362,7 +362,7 @@ fn lookups(alloc: Global, k: u8, places: usize) -> Option<Commands> {
 }
 
 /// Whether a file opens with one of two sets of records, below this place.
-pub(crate) fn holds(
+pub fn holds(
     alloc: Global,
     file: &[u8],
     k: u8,

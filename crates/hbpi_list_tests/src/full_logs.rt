@@ -3,9 +3,10 @@
 
 use crate::drawn::driven;
 use crate::many_pages::changed;
-use crate::ordered::{Commands, EMPTY, Plain, Verb, told_by};
-use crate::runs::{Left, drive_on, left_of, run_failing};
 use hb_disk::{Disk, Pick};
+use hbpi_shared_tests::{
+    Commands, EMPTY, Left, Plain, Verb, drive_on, left_of, run_failing, told_by,
+};
 use std::alloc::Global;
 
 /// The file, and how many pages and bytes it may have: two superblocks, two log areas of 16 pages, and these pages.
