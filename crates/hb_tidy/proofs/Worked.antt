@@ -24,7 +24,7 @@ between_then a b c one two = record {
 
 works_behind : (actors : List ℕ) (a b c : Machine) → IsBetweenSteps a b → WorksOff actors b c → WorksOff actors a c
 works_behind [] a b c one two = between_then a b c one two
-works_behind (actor ∷ rest) a b c one (now, next, outcome, between, last) = (now, next, outcome, between_then a b now one between, last)
+works_behind (actor ∷ rest) a b c one (now, next, outcome, between, cause, step, last) = (now, next, outcome, between_then a b now one between, cause, step, last)
 
 works_then : (xs ys : List ℕ) (a b c : Machine) → WorksOff xs a b → WorksOff ys b c → WorksOff (xs ++ ys) a c
 works_then [] ys a b c one two = works_behind ys a b c one two

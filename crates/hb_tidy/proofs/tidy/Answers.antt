@@ -1,17 +1,21 @@
-use Rattle.std.proofs.Common.{◌≡◌, Ok, sym, ap, ◌∙◌, arith}
+use Rattle.std.proofs.Common.{◌≡◌, ◌⊎◌, ◌<◌, inl, inr, sym, ap, ◌∙◌, arith}
+use Rattle.hb_disk.specs.Model.{DiskModel}
+use Rattle.hb_activity.specs.declared.jobs.JobKind.TheVariants.{Merge, Post}
+use Rattle.hb_core.specs.Taking.{jobs_of}
 use Rattle.hb_core.specs.CoreSeen.{core_seen, core_disk}
 use Rattle.hb_core.specs.declared.counts.TidyCounts.{TidyCounts}
 use Rattle.hb_tidy.proofs.Ends.{ends_at_once, ends_by_err, ends_well}
-use Rattle.hb_tidy.proofs.Exits.{goes_value, over_value}
+use Rattle.hb_tidy.proofs.Exits.{over_value}
 use Rattle.hb_tidy.proofs.Joined.{goes_next, goes_then, over_goes}
 use Rattle.hb_tidy.proofs.PassParts.{Clean, passed_then}
 use Rattle.hb_tidy.proofs.RunsBegun.{goes_none}
-use Rattle.hb_tidy.proofs.ToDo.{later_by_work, none_left}
+use Rattle.hb_tidy.proofs.ToDo.{falls_short, no_jobs, work_counts}
 use Rattle.hb_tidy.specs.Counted.{added}
 use Rattle.hb_tidy.specs.Finding.{IsTidy}
-use Rattle.hb_tidy.specs.Going.{Goes, MayTidy}
+use Rattle.hb_tidy.specs.Going.{MayTidy}
 use Rattle.hb_tidy.specs.Looking.{NothingOf}
 use Rattle.hb_tidy.proofs.tidy.Goals as goal
+use Rattle.hb_tidy.proofs.tidy.Goals.{else-jobs-eq0-via-else-jobs-eq0, else-jobs-eq0-via-then-jobs-eq0+else-jobs-eq0-2}
 
 pub returns-then-taken-eq18446744073709551615-clause-tidies : goal.returns-then-taken-eq18446744073709551615-clause-tidies
 returns-then-taken-eq18446744073709551615-clause-tidies g c = λ m may.
@@ -49,13 +53,15 @@ returns-in_err-pass-clause-tidies g c = λ m may.
     (goes_then (tt {0}) c.pass.result d mid e (core_seen c.args.core.now) (core_seen c.loop-core.core) new c.loop-core.invariant.goes (over_goes c.pass.result (Clean IsTidy new) mid e (core_seen c.loop-core.core) new c.pass.ensures.looks))
     may
 
-pub returns-then-branch-clause-tidies : goal.returns-then-branch-clause-tidies
-returns-then-branch-clause-tidies g c = λ m may.
+pub returns-then-jobs-eq0-2-clause-tidies : goal.returns-then-jobs-eq0-2-clause-tidies
+returns-then-jobs-eq0-2-clause-tidies g c = λ m may.
     let d = g.D.Device.model (core_disk c.args.core.now) in
     let mid = g.D.Device.model (core_disk c.loop-core.core) in
     let e = g.D.Device.model (core_disk c.pass.new.core) in
     let old = core_seen c.args.core.now in
     let new = core_seen c.pass.new.core in
+    let shows = c.in_ok-pass.ensures.may.runs.1.shows in
+    let none = no_jobs e new c.in_ok-pass.ensures.may.runs.0 shows c.jobs.result c.jobs-then-jobs-eq0.result (c.jobs.ensures _ shows) (c.jobs-then-jobs-eq0.ensures _ shows) c.if-jobs-eq0.true c.if-jobs-eq0-2.true in
     let is : new.done ≡ added old.done c.rise_of.result = sym c.done.ensures ∙ c.rise_of.ensures ∙ ap (λ (x : TidyCounts). added x c.rise_of.result) c.loop-core.invariant.before in
     ends_well d mid e old (core_seen c.loop-core.core) new c.rise_of.result c.loop-core.invariant.goes (over_value NothingOf (tt {0}) c.pass.result (Clean IsTidy new) mid e (core_seen c.loop-core.core) new c.in_ok-pass.was c.pass.ensures.looks) c.in_ok-pass.ensures.may none is m may
 
@@ -100,3 +106,16 @@ loop-core-preserved g c =
       may = c.in_ok-work_off-2.ensures.may;
       before = c.loop-core.invariant.before;
     }
+
+pub loop-core-smaller : goal.loop-core-smaller
+loop-core-smaller g c =
+    let M : g.row.D.Denot → DiskModel = g.D.Device.model in
+    let m = c.in_ok-pass.ensures.may.runs.0 in
+    let shows = c.in_ok-pass.ensures.may.runs.1.shows in
+    let some : (0 < jobs_of Post m) ⊎ (0 < jobs_of Merge m) = elim c.else-jobs-eq0.branch [
+      | else-jobs-eq0-via-then-jobs-eq0+else-jobs-eq0-2 w ↦ inr (let is = w.jobs-then-jobs-eq0.ensures m shows in omega (arith, w.if-jobs-eq0-2.false, is))
+      | else-jobs-eq0-via-else-jobs-eq0 w ↦ inl (let is = c.jobs.ensures m shows in omega (arith, w.if-jobs-eq0.false, is))
+    ] in
+    let counts = work_counts (λ (x : _). M (core_disk x)) core_seen c.pass.new.core c.work_off.new.core c.work_off-in-loop-core.new.core m shows c.in_ok-work_off.ensures.done c.in_ok-work_off-2.ensures.done some c.in_ok-work_off.ensures.more c.in_ok-work_off-2.ensures.more in
+    let left = c.in_ok-work_off-2.ensures.may.left in
+    falls_short (core_seen c.loop-core.core).taken (core_seen c.pass.new.core).taken (core_seen c.work_off-in-loop-core.new.core).taken c.pass.ensures.looks.counts.taken counts (omega (arith, left))

@@ -4,12 +4,12 @@ use Rattle.hb_tidy.specs.Going.{Goes, MayTidy}
 use Rattle.hb_tidy.proofs.stepping.work_off.Given as goal
 
 -- the steps so far, where any was taken
-abbrev pub invariant-loop-core : goal.invariant-loop-core
-invariant-loop-core g l = record {
+abbrev pub invariant-loop-kind : goal.invariant-loop-kind
+invariant-loop-kind g l = record {
   goes : Goes {T = Unit {0}} (Ok (tt {0})) (g.D.Device.model (core_disk l.fn.core)) (core_seen l.fn.core) (g.D.Device.model (core_disk l.core)) (core_seen l.core);
   may : MayTidy (g.D.Device.model (core_disk l.core)) (core_seen l.core);
   more : (l.fn.core.taken < l.core.taken) ⊎ (l.core ≡ l.fn.core);
 }
 
-abbrev pub decreases-loop-core : goal.decreases-loop-core
-decreases-loop-core g l = 2 ^ 64 - 1 - l.core.taken
+abbrev pub decreases-loop-kind : goal.decreases-loop-kind
+decreases-loop-kind g l = 2 ^ 64 - 1 - l.core.taken
