@@ -1,4 +1,4 @@
-use Rattle.std.proofs.Common.{◌≡◌, ℕ, ◌≤◌, List, All, length, get_or, Ok, Some, refl, sym, ◌∙◌, arith, rules, subst}
+use Rattle.std.proofs.Common.{◌≡◌, ℕ, ◌≤◌, List, All, length, get_or, take, Ok, Some, refl, sym, ◌∙◌, arith, rules, subst}
 use Rattle.std.specs.List.{Contains}
 use Rattle.std.proofs.lemmas.List.{take_all}
 use Rattle.hb_space.specs.Boxes.{Area}
@@ -44,8 +44,10 @@ returns-in_err-look_below-clause-looks g c =
     let Above : FileState → Type 0 = λ s. live_page s c.args.parent.now.id ≡ Some c.args.parent.now.page in
     let x : ℕ × Area = (c.leaf-item.result.0, c.leaf-item.result.1) in
     let Here = SeesBelow c.args.parent.now.id c.args.parent.now.page x c.loop-leaf.jobs.items c.look_below.new.jobs.items in
-    over_then Above (tt {0}) _ Above c.from_residual.result _ _ d mid e (core_seen c.args.core.now) (core_seen c.loop-leaf.core) (core_seen c.look_below.new.core) c.loop-leaf.invariant.looks (λ s known said. known)
-    (over_exit Above c.in_err-look_below.field-0.0 c.look_below.result c.from_residual.result Here _ mid e (core_seen c.loop-leaf.core) (core_seen c.look_below.new.core) c.in_err-look_below.was c.from_residual.ensures.1 c.look_below.ensures.looks)
+    let So = SeesAll c.args.parent.now.id c.args.parent.now.page (take c.loop-leaf.leaf-index c.args.children.now) c.args.jobs.now.items c.loop-leaf.jobs.items in
+    let Ends = SeesAll c.args.parent.now.id c.args.parent.now.page c.args.children.now c.args.jobs.now.items c.look_below.new.jobs.items in
+    over_then Above (tt {0}) So Above c.from_residual.result Ends Ends d mid e (core_seen c.args.core.now) (core_seen c.loop-leaf.core) (core_seen c.look_below.new.core) c.loop-leaf.invariant.looks (λ s known said. known)
+    (over_exit Above c.in_err-look_below.field-0.0 c.look_below.result c.from_residual.result Here Ends mid e (core_seen c.loop-leaf.core) (core_seen c.look_below.new.core) c.in_err-look_below.was c.from_residual.ensures.1 c.look_below.ensures.looks)
     (λ s w known said more. more)
 
 pub loop-leaf-preserved : goal.loop-leaf-preserved
