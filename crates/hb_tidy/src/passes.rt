@@ -69,11 +69,7 @@ fn is_highest(meta: &Meta) -> bool
 }
 
 /// Looks into the root of a file that may grow, and lets the job for a growth wait, where it has a sibling leaf.
-fn visit_top<D: Device>(
-    alloc: Global,
-    core: &mut Core<D>,
-    page: &LivePage,
-) -> Result<(), TidyStop>
+fn visit_top<D: Device>(alloc: Global, core: &mut Core<D>, page: &LivePage) -> Result<(), TidyStop>
     requires may { MayTidy (D.model (core_disk core.old)) (core_seen core.old) }
     requires made { FitsFile (core_seen core.old).store.meta page.now }
     requires low { (core_seen core.old).store.meta.height < HEIGHT_MAX }

@@ -1,5 +1,5 @@
 -- How a run ends that has counted its replies, of which a core was made.
-use Rattle.std.proofs.Common.{◌≡◌, ◌≢◌, inl, inr, ℕ, List, [], ◌++◌, Option, Some, None, refl, sym, ap, subst, ◌∙◌, append-nil, arith}
+use Rattle.std.proofs.Common.{◌≡◌, ◌≢◌, inl, inr, ℕ, List, [], Option, Some, None, refl, sym, ap, subst, ◌∙◌, append-nil, arith}
 use Rattle.hb_core.proofs.Facts.RunLines.{run_keeps_lines}
 use Rattle.hb_core.specs.Machines.{Machine}
 use Rattle.hb_core.specs.Runs.{HasReadFault}
@@ -12,12 +12,11 @@ use Rattle.hb_drive.specs.Driving.{DrivesTo, EndsWith, run_text}
 use Rattle.hb_outside.specs.Calls.{SinkModel}
 use Rattle.hb_outside.specs.Streams.{Appends}
 use Rattle.hb_set.specs.declared.scripts.Answered.{Answered}
-use Rattle.hb_set.specs.declared.scripts.Line.{Line}
 use Rattle.hb_store.specs.declared.stops.StopWhy.TheVariants as stops
 use Rattle.hbpi.proofs.CoreEnds.{RanCore}
 use Rattle.hbpi.proofs.RecordsLeft.{NumbersArePlaces, drawn_in_place, has_records}
 use Rattle.hbpi.specs.Codes.{status_after}
-use Rattle.hbpi.specs.Counted.{HasRecords, counts_text, records_left}
+use Rattle.hbpi.specs.Counted.{counts_text, records_left}
 use Rattle.hbpi.specs.Driven.{Drove, GetsOutput, GoesOnForAll, RanEnds, by_counting}
 use Rattle.hbpi.specs.Outcome.{GetsLine, fault_line}
 use Rattle.hbpi.specs.Saying.{IsSaid}

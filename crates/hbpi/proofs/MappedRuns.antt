@@ -1,28 +1,25 @@
 -- A run of `map` over a file that was opened.
-use Rattle.std.proofs.Common.{◌≡◌, ◌≢◌, ℕ, ◌≤◌, List, [], ◌++◌, Option, Some, None, Result, Ok, Err, false, inl, inr, refl, sym, ap, subst, ◌∙◌, append_assoc}
+use Rattle.std.proofs.Common.{◌≡◌, ◌≢◌, ℕ, List, [], ◌++◌, Option, Some, None, Result, Ok, Err, inr, refl, sym, ap, subst}
 use Rattle.std.specs.Result.{IfErr, IsErrOf}
 use Rattle.hb_disk.specs.Model.{DiskModel}
 use Rattle.hb_layout.specs.declared.meta.Meta.{Meta}
-use Rattle.hb_lemmas.proofs.Options.{at_value, if_value}
+use Rattle.hb_lemmas.proofs.Options.{at_value}
 use Rattle.hb_map.specs.Map.{head_text, map_text, pages_text}
-use Rattle.hb_map.specs.Mapping.{IsNoDamage, LooksThrough, NamesPage, OfSoundFile, PutsText, StopsRightly}
+use Rattle.hb_map.specs.Mapping.{LooksThrough, OfSoundFile, PutsText, StopsRightly}
 use Rattle.hb_map.specs.declared.stops.MapStop.{MapStop}
 use Rattle.hb_map.specs.declared.stops.MapStop.TheVariants as stops
-use Rattle.hb_ops.specs.Files.{FileState}
-use Rattle.hb_outside.proofs.Facts.CountLaws.{Rose-later}
 use Rattle.hb_outside.specs.Calls.{Counts, SinkModel}
 use Rattle.hb_outside.specs.Streams.{Appends, AppendsFront, Rose}
 use Rattle.hb_restart.specs.Leaving.{LeavesOpening, OpensStore, RunsThrough}
 use Rattle.hb_store.specs.Held.{StoreHeld}
-use Rattle.hb_store.specs.Opening.{OpensTo}
 use Rattle.hb_store.specs.declared.stops.Why.{Why}
 use Rattle.hb_store.specs.declared.stops.Why.TheVariants.{Rule, Level, Extent}
 use Rattle.hbpi.proofs.ReadFurther.{leaves_further, opens_further, runs_further}
-use Rattle.hbpi.specs.Mapped.{GetsFront, IsMapText, IsMapped, MapEnds, MapsWith, map_status}
+use Rattle.hbpi.specs.Mapped.{GetsFront, IsMapText, MapEnds, MapsWith, map_status}
 use Rattle.hbpi.specs.Outcome.{GetsLine, fault_line}
-use Rattle.hbpi.specs.SeenRuns.{IsUnread, Run, Seen, run_of}
+use Rattle.hbpi.specs.SeenRuns.{IsUnread, Seen, run_of}
 use Rattle.hbpi.specs.declared.statuses.Status.{Status}
-use Rattle.hbpi.specs.declared.statuses.Status.TheVariants.{Done, SinkFault, DiskFault, Damaged, NoMemory}
+use Rattle.hbpi.specs.declared.statuses.Status.TheVariants.{Done, SinkFault, DiskFault, NoMemory}
 
 -- the status is that of a fault of the disk exactly where a read failed
 of_disk : {T : Type 0} (result : Result T MapStop) → map_status result ≡ DiskFault → IsErrOf result stops.ReadFault

@@ -1,16 +1,15 @@
 -- What an opening left of a disk holds of the disk that was only read since.
-use Rattle.std.proofs.Common.{◌≡◌, ℕ, ◌+◌, ◌<◌, ◌≤◌, List, [], Option, Some, IsSome, inl, inr, sym, subst, ◌∙◌, arith}
+use Rattle.std.proofs.Common.{ℕ, ◌+◌, ◌<◌, ◌≤◌, List, [], Option, IsSome, inl, sym, subst, ◌∙◌, arith}
 use Rattle.hb_disk.proofs.Facts.RunLaws.{Leaves-read}
-use Rattle.hb_disk.specs.Calls.{Becomes, ReadsOnly}
+use Rattle.hb_disk.specs.Calls.{ReadsOnly}
 use Rattle.hb_disk.specs.Model.{DiskModel, Stays}
 use Rattle.hb_frag.specs.declared.pages.Page.{Page}
 use Rattle.hb_layout.specs.declared.meta.Meta.{Meta}
 use Rattle.hb_lemmas.proofs.Options.{at_value, if_value}
-use Rattle.hb_ops.specs.Files.{FileState}
 use Rattle.hb_outside.specs.Streams.{Rose}
 use Rattle.hb_restart.specs.Beyond.{KeepsBeyond, KeepsBeyondFile}
 use Rattle.hb_restart.specs.Leaving.{LeavesOpening, OpensStore, RunsThrough}
-use Rattle.hb_restart.specs.Renewing.{DiskFaults, WritesAll, WritesEachOnce, touched_to}
+use Rattle.hb_restart.specs.Renewing.{WritesAll, WritesEachOnce, touched_to}
 use Rattle.hb_store.proofs.Facts.LookLaws.{LooksUp-read}
 use Rattle.hb_store.specs.Opening.{OpensTo}
 use Rattle.hb_store.specs.States.{StoreState}

@@ -1,5 +1,5 @@
 -- Where a sink didn't fail a line is said whole, and a good file is opened where the disk didn't, unless memory is refused.
-use Rattle.std.proofs.Common.{◌≡◌, ◌⊎◌, inl, inr, ℕ, List, Some, refl, ap, ◌∙◌}
+use Rattle.std.proofs.Common.{◌≡◌, inl, inr, ℕ, List, Some, refl, ap, ◌∙◌}
 use Rattle.hb_lemmas.proofs.Options.{at_value}
 use Rattle.hb_ops.specs.Files.{FileState}
 use Rattle.hb_ops.specs.Sound.{IsSound}

@@ -1,13 +1,11 @@
 -- What a tidying of a file that was just opened comes to, seen from before the opening.
-use Rattle.std.proofs.Common.{◌≡◌, ℕ, ◌+◌, List, [], ◌∷◌, All, Option, Some, None, IfSome, IsSome, Result, Ok, Err, refl, sym, ap, ◌∙◌, subst}
+use Rattle.std.proofs.Common.{◌≡◌, ℕ, List, [], ◌∷◌, Option, None, IfSome, Result, Ok, Err, sym, ap, ◌∙◌, subst}
 use Rattle.std.specs.List.{AllByRecursion}
 use Rattle.std.proofs.lemmas.List.Elements.{recursion_from_All}
-use Rattle.hb_core.specs.KeptMachine.{CoreKeeps}
-use Rattle.hb_core.specs.Laws.{HasOnePage}
 use Rattle.hb_core.specs.Machines.{Files, Machine, current_file}
 use Rattle.hb_core.specs.Runs.{ChangesFile, CountsFaults, IsPrefixImage}
 use Rattle.hb_core.specs.Showing.{RunningCore, ShowsFiles}
-use Rattle.hb_core.specs.SteppingLaws.{BeginningKeepsAll, IsBegunOver}
+use Rattle.hb_core.specs.SteppingLaws.{IsBegunOver}
 use Rattle.hb_core.specs.declared.counts.TidyCounts.{TidyCounts}
 use Rattle.hb_disk.proofs.Facts.RewriteLaws.{Becomes-tells}
 use Rattle.hb_disk.proofs.Facts.RunLaws.{Leaves-then, Leaves-weaker}
@@ -18,12 +16,10 @@ use Rattle.hb_layout.specs.declared.meta.Meta.{Meta}
 use Rattle.hb_ops.specs.Files.{FileState, contents_of}
 use Rattle.hb_ops.specs.Sound.{IsSound}
 use Rattle.hb_outside.specs.Streams.{Rose}
-use Rattle.hb_set.specs.Machine.{RecordSet}
 use Rattle.hb_set.specs.Order.{Entry, result_of}
 use Rattle.hb_set.specs.declared.scripts.Line.{Line}
-use Rattle.hb_sound.specs.PointWalks.{IsPointOf}
 use Rattle.hb_store.specs.Keeps.{StoreKeeps}
-use Rattle.hb_store.specs.Opening.{IsEven, OpensTo}
+use Rattle.hb_store.specs.Opening.{OpensTo}
 use Rattle.hb_store.specs.Parts.{last_of}
 use Rattle.hb_store.specs.States.{IsNew, StoreState}
 use Rattle.hb_store.specs.declared.stops.StopWhy.{StopWhy}
@@ -33,7 +29,6 @@ use Rattle.hb_tidy.specs.declared.stops.TidyStop.TheVariants as tidies
 use Rattle.hbpi.proofs.Begins.{IsBegunHere}
 use Rattle.hbpi.proofs.Opened.{IsOpening, even_store, from_before, late_before, since_start, tells_behind}
 use Rattle.hbpi.proofs.Reopened.{counts_before, no_line_yet, pages_of}
-use Rattle.hbpi.specs.Drives.{LeavesLate}
 use Rattle.hbpi.specs.SeenRuns.{IsUnread, Seen, run_of}
 use Rattle.hbpi.specs.Starts.{StartLaws}
 use Rattle.hbpi.specs.Tidied.{GrewBy, HasContents, HasSameRecords, IsTidied, LeavesTidied}

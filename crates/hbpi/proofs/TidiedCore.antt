@@ -14,12 +14,10 @@ use Rattle.hb_disk.specs.Model.{DiskModel, IsDisk}
 use Rattle.hb_layout.specs.declared.meta.Meta.{Meta}
 use Rattle.hb_lemmas.proofs.Options.{at_value, has_value, if_value}
 use Rattle.hb_ops.specs.Files.{FileState}
-use Rattle.hb_outside.specs.Streams.{Rose}
 use Rattle.hb_store.specs.Keeps.{StoreKeeps}
 use Rattle.hb_store.specs.Parts.{last_of}
 use Rattle.hb_store.specs.States.{StoreState}
 use Rattle.hb_store.specs.declared.stops.Flushed.{Flushed}
-use Rattle.hb_store.specs.declared.stops.StopWhy.{StopWhy}
 use Rattle.hb_store.specs.declared.stops.StopWhy.TheVariants as stops
 use Rattle.hb_store.specs.declared.stops.WriteFault.{WriteFault}
 use Rattle.hb_tidy.proofs.Forced.{FlushesOn, flush_runs, flushes_on}

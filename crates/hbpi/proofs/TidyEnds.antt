@@ -1,13 +1,11 @@
 -- How a run of `tidy` ends that has made its core.
-use Rattle.std.proofs.Common.{◌≡◌, ℕ, ◌≤◌, List, [], ◌∷◌, map, Result, Ok, Err, None, inl, inr, refl, sym, ap, ◌∙◌, subst, arith}
+use Rattle.std.proofs.Common.{◌≡◌, ℕ, ◌≤◌, List, [], map, Result, inl, inr, refl, sym, ap, ◌∙◌, subst}
 use Rattle.hb_core.specs.BetweenLaws.{CountsStayWithin}
 use Rattle.hb_core.specs.Counting.{CountsWithin}
 use Rattle.hb_core.specs.Machines.{Machine}
-use Rattle.hb_core.specs.Runs.{ChangesFile}
 use Rattle.hb_core.specs.Showing.{RunningCore}
 use Rattle.hb_core.specs.Working.{MayStep}
 use Rattle.hb_core.specs.declared.counts.TidyCounts.{TidyCounts}
-use Rattle.hb_disk.specs.Calls.{Becomes}
 use Rattle.hb_disk.specs.Model.{DiskModel}
 use Rattle.hb_gen.specs.Lines.{generated, lines_from}
 use Rattle.hb_layout.specs.Offsets.{file_size}
@@ -15,8 +13,6 @@ use Rattle.hb_outside.specs.Calls.{SinkModel, SourceModel}
 use Rattle.hb_restart.specs.Beyond.{KeepsBeyond, KeepsBeyondFile}
 use Rattle.hb_set.specs.Order.{Entry}
 use Rattle.hb_set.specs.declared.scripts.Answered.{Answered}
-use Rattle.hb_set.specs.declared.scripts.Line.{Line}
-use Rattle.hb_store.specs.States.{StoreState}
 use Rattle.hb_tidy.specs.Tidying.{AllAtRest, HasTidied}
 use Rattle.hb_tidy.specs.declared.stops.TidyStop.{TidyStop}
 use Rattle.hbpi.proofs.Begins.{IsBegunHere}
@@ -25,8 +21,6 @@ use Rattle.hbpi.proofs.CoreEnds.{begins_here, may_core}
 use Rattle.hbpi.proofs.Opened.{IsOpening, is_opening}
 use Rattle.hbpi.proofs.StepsTaken.{run_beyond}
 use Rattle.hbpi.proofs.Tidied.{tidies_file}
-use Rattle.hbpi.specs.Codes.{status_of}
-use Rattle.hbpi.specs.Driven.{IsShutOut, IsTurnedAway}
 use Rattle.hbpi.specs.Outcome.{GetsLine, fault_line}
 use Rattle.hbpi.specs.SeenRuns.{IsUnread, Run, Seen, run_of, seen_by}
 use Rattle.hbpi.specs.Starts.{IsNotStarted, IsStarted, StartLaws}

@@ -1,5 +1,5 @@
 -- What `tidy` leaves of the file that the disk opens to.
-use Rattle.std.proofs.Common.{◌≡◌, ◌⊎◌, inl, inr, ℕ, List, [], Option, Some, IsSome, Result, Ok, Err, sym, subst}
+use Rattle.std.proofs.Common.{◌≡◌, ◌⊎◌, inl, inr, ℕ, List, Some, Result, Ok, Err, sym, subst}
 use Rattle.hb_core.specs.Machines.{Machine}
 use Rattle.hb_core.specs.declared.counts.TidyCounts.{TidyCounts}
 use Rattle.hb_lemmas.proofs.Options.{at_value, has_value}

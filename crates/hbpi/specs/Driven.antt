@@ -13,7 +13,6 @@ use Rattle.hb_restart.specs.declared.faults.OpenFault.{OpenFault}
 use Rattle.hb_restart.specs.declared.faults.OpenFault.TheVariants as faults
 use Rattle.hb_restart.specs.Leaving.{LeavesOpening, OpensStore, RunsThrough}
 use Rattle.hb_restart.specs.Refusals.{IsRefusal, IsUnwritten}
-use Rattle.hb_set.specs.declared.scripts.Answered.{Answered}
 use Rattle.hb_set.specs.declared.scripts.Line.{Line}
 use Rattle.hb_store.specs.States.{StoreState}
 use Rattle.hb_store.specs.declared.stops.StopWhy.TheVariants as stops

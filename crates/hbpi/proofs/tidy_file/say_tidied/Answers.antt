@@ -1,4 +1,4 @@
-use Rattle.std.proofs.Common.{List, ℕ, Result, Ok, sym, subst, ◌∙◌}
+use Rattle.std.proofs.Common.{List, ℕ, Result, sym, subst, ◌∙◌}
 use Rattle.hb_core.specs.declared.counts.TidyCounts.{TidyCounts}
 use Rattle.hb_tidy.specs.declared.stops.TidyStop.{TidyStop}
 use Rattle.hbpi.specs.Saying.{IsSaid}

@@ -1,6 +1,5 @@
-use Rattle.std.proofs.Common.{◌≡◌, Option, None, sym, ◌∙◌}
+use Rattle.std.proofs.Common.{◌≡◌, None, sym, ◌∙◌}
 use Rattle.hb_core.specs.CoreSeen.{core_disk, core_seen}
-use Rattle.hb_core.specs.Machines.{Machine}
 use Rattle.hb_disk.specs.Model.{DiskModel}
 use Rattle.hb_tidy.proofs.Joined.{may_then}
 use Rattle.hbpi.proofs.TidiedCore.{forced_badly, forced_well, stopped_so}
@@ -11,7 +10,7 @@ help-requires g c =
     let M : g.row.D.Denot → DiskModel = g.D.Device.model in
     let some = c.requires.may in
     let went = c.in-Ok.ensures.tidies some.0 some.1 in
-    (went.0.new, may_then (M (core_disk c.args.core.now)) (M (core_disk c.tidy.new.core)) some.0 (core_seen c.tidy.new.core) went.0, went.1.1.0)
+    (went.0.new, may_then (M (core_disk c.args.core.now)) (M (core_disk c.tidy.new.core)) some.0 (core_seen c.tidy.new.core) went.0, went.2.0)
 
 pub returns-in-Ok-help : goal.returns-in-Ok-help
 returns-in-Ok-help g c =
@@ -19,7 +18,7 @@ returns-in-Ok-help g c =
     record {
       tidies = λ m may.
           let went = c.in-Ok.ensures.tidies m may in
-          forced_well c.runs_go_on.ensures (M (core_disk c.args.core.now)) m (M (core_disk c.tidy.new.core)) (core_seen c.args.core.now) (core_seen c.tidy.new.core) (M (core_disk c.help.new.self)) (core_seen c.help.new.self) c.in-Ok.counts went.0 went.1.1 may.shows.store
+          forced_well c.runs_go_on.ensures (M (core_disk c.args.core.now)) m (M (core_disk c.tidy.new.core)) (core_seen c.args.core.now) (core_seen c.tidy.new.core) (M (core_disk c.help.new.self)) (core_seen c.help.new.self) c.in-Ok.counts went.0 went.2 may.shows.store
           (g.met.D.Device.is_disk (core_disk c.tidy.new.core)) (g.met.D.Device.is_disk (core_disk c.help.new.self)) c.in-Ok-help.field-0 c.in-Ok-help.ensures.steps c.in-Ok-help.ensures.touches;
     }
 
@@ -31,7 +30,7 @@ returns-in-Err-help g c =
       tidies = λ m may.
           let went = c.in-Ok.ensures.tidies m may in
           let begun : m.stop ≡ None = may.shows.stop ∙ sym some.1.shows.stop ∙ some.2 in
-          forced_badly c.runs_go_on.ensures (M (core_disk c.args.core.now)) m (M (core_disk c.tidy.new.core)) (core_seen c.args.core.now) (core_seen c.tidy.new.core) (M (core_disk c.help.new.self)) (core_seen c.help.new.self) c.in-Ok.counts went.0 went.1.1 may.shows.store
+          forced_badly c.runs_go_on.ensures (M (core_disk c.args.core.now)) m (M (core_disk c.tidy.new.core)) (core_seen c.args.core.now) (core_seen c.tidy.new.core) (M (core_disk c.help.new.self)) (core_seen c.help.new.self) c.in-Ok.counts went.0 went.2 may.shows.store
           (g.met.D.Device.is_disk (core_disk c.tidy.new.core)) (g.met.D.Device.is_disk (core_disk c.help.new.self)) c.in-Err-help.field-0 c.in-Err-help.ensures.steps c.in-Err-help.ensures.touches c.in-Err-help.ensures.stop begun;
     }
 
@@ -41,5 +40,5 @@ returns-in-Err g c =
     record {
       tidies = λ m may.
           let went = c.in-Err.ensures.tidies m may in
-          (went.0, stopped_so (M (core_disk c.args.core.now)) (M (core_disk c.tidy.new.core)) (core_seen c.args.core.now) (core_seen c.tidy.new.core) m went.0.new c.in-Err.stop c.requires.first went.1.0 went.1.1);
+          (went.0, stopped_so (M (core_disk c.args.core.now)) (M (core_disk c.tidy.new.core)) (core_seen c.args.core.now) (core_seen c.tidy.new.core) m went.0.new c.in-Err.stop c.requires.first went.1 went.2);
     }

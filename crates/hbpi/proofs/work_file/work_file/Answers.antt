@@ -1,4 +1,4 @@
-use Rattle.std.proofs.Common.{◌≢◌, sym, subst, arith}
+use Rattle.std.proofs.Common.{sym, subst}
 use Rattle.hb_core.specs.CoreSeen.{core_disk, core_seen}
 use Rattle.hb_disk.specs.Model.{DiskModel}
 use Rattle.hb_restart.specs.Beyond.{KeepsBeyondFile}
