@@ -30,12 +30,6 @@ use Rattle.hbpi.specs.declared.statuses.Status.{Status}
 
 -- ---- a core that was made for nobody
 
-pub rests_begun : (before after : SourceModel) (d e : DiskModel) (core : RunningCore) → IsStarted nobody before after d e core → AllAtRest core
-rests_begun before after d e core started = subst AllAtRest (sym started.made.core_is) refl
-
-pub within_begun : CountsStayWithin → (before after : SourceModel) (d e : DiskModel) (core : RunningCore) → IsStarted nobody before after d e core → CountsWithin core
-within_begun within before after d e core started = subst CountsWithin (sym started.made.core_is) (within.begun started.made.lines started.made.steps started.store [])
-
 -- nothing is drawn for nobody
 no_lines : (k : ℕ) → generated 0 0 k ≡ []
 unfolding lines_from

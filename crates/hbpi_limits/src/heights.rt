@@ -1,6 +1,6 @@
 //! Files of one to twelve levels, of which each but the highest gets one more.
 
-use crate::calls::{Script, drive};
+use crate::calls::{Script, call, drive};
 use crate::fields::{
     DCAP, ICAP, LOG, blank, page_at, put_cut, put_fields, put_head, put_name, put_records,
 };
@@ -112,6 +112,98 @@ pub(crate) fn each_height(alloc: Global) -> Result<(), Missed> {
         let height = disk.bytes().get(12).copied().unwrap_or(0);
         if height != MOST.min(meta.height.saturating_add(1)) {
             return Err(Missed::Height { height });
+        }
+    }
+    Ok(())
+}
+
+/// What a tidying says that finds nothing to do.
+const NOTHING: &str = "tidy grown 0 posted 0 split 0 merged 0\n";
+
+/// The heights, what `tidy` says of the file, and what `check` says of what it leaves.
+///
+/// The root has a sibling leaf, so the file gets a level, for which a page is free. The new root names the old one alone,
+/// and the sibling is posted there; the root has room, so no page is split. Now the root names both pages of the level
+/// below, and has no sibling leaf. They weigh 2 and 1, and together may weigh 4 of 6, or 192 of 256. So the second one
+/// goes, and the first gets its child. Now the first names both pages of the next level, and so on down to the records.
+/// Each level keeps one of its two pages, and the new root is one more.
+///
+/// A file of twelve levels grows no more, and its root keeps its sibling leaf. So each parent names one page of a level and not
+/// the other one, and nothing may be merged.
+const TIDIED: [(u8, &str, &str); 12] = [
+    (
+        1,
+        "tidy grown 1 posted 1 split 0 merged 1\n",
+        "sound height 2 pages 2 records 2\n",
+    ),
+    (
+        2,
+        "tidy grown 1 posted 1 split 0 merged 2\n",
+        "sound height 3 pages 3 records 2\n",
+    ),
+    (
+        3,
+        "tidy grown 1 posted 1 split 0 merged 3\n",
+        "sound height 4 pages 4 records 2\n",
+    ),
+    (
+        4,
+        "tidy grown 1 posted 1 split 0 merged 4\n",
+        "sound height 5 pages 5 records 2\n",
+    ),
+    (
+        5,
+        "tidy grown 1 posted 1 split 0 merged 5\n",
+        "sound height 6 pages 6 records 2\n",
+    ),
+    (
+        6,
+        "tidy grown 1 posted 1 split 0 merged 6\n",
+        "sound height 7 pages 7 records 2\n",
+    ),
+    (
+        7,
+        "tidy grown 1 posted 1 split 0 merged 7\n",
+        "sound height 8 pages 8 records 2\n",
+    ),
+    (
+        8,
+        "tidy grown 1 posted 1 split 0 merged 8\n",
+        "sound height 9 pages 9 records 2\n",
+    ),
+    (
+        9,
+        "tidy grown 1 posted 1 split 0 merged 9\n",
+        "sound height 10 pages 10 records 2\n",
+    ),
+    (
+        10,
+        "tidy grown 1 posted 1 split 0 merged 10\n",
+        "sound height 11 pages 11 records 2\n",
+    ),
+    (
+        11,
+        "tidy grown 1 posted 1 split 0 merged 11\n",
+        "sound height 12 pages 12 records 2\n",
+    ),
+    (12, NOTHING, "sound height 12 pages 24 records 2\n"),
+];
+
+/// Tidies a file of so many levels, tidies it again, which finds nothing, and looks whether it is sound.
+fn tidied(alloc: Global, height: u8, said: &str, checked: &str) -> Result<MemDisk, Missed> {
+    let disk = MemDisk::new(alloc, file_of(alloc, &meta_of(height))?);
+    let disk = call(alloc, "tidy", "", said, disk)?;
+    let disk = call(alloc, "tidy", "", NOTHING, disk)?;
+    call(alloc, "check", "", checked, disk)
+}
+
+/// Tidies each of the files.
+pub(crate) fn each_height_tidied(alloc: Global) -> Result<(), Missed> {
+    for &(height, said, checked) in &TIDIED {
+        match tidied(alloc, height, said, checked) {
+            Ok(_) => (),
+            Err(Missed::Call { call, .. }) => return Err(Missed::Tidied { call, height }),
+            Err(other) => return Err(other),
         }
     }
     Ok(())

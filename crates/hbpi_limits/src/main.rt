@@ -133,6 +133,12 @@ fn tell_texts(rt: &impl Print, alloc: Global) -> io::Result<()> {
     )
 }
 
+/// Lets files of each height grow, and tidies others.
+fn all_heights(alloc: Global) -> Result<(), Missed> {
+    heights::each_height(alloc)?;
+    heights::each_height_tidied(alloc)
+}
+
 /// Says of files, from a new one to a last look.
 fn tell_files(rt: &impl Print, alloc: Global) -> io::Result<()> {
     tell(
@@ -143,7 +149,7 @@ fn tell_files(rt: &impl Print, alloc: Global) -> io::Result<()> {
     tell(
         rt,
         "one to twelve levels, and one more where there may be",
-        heights::each_height(alloc),
+        all_heights(alloc),
     )?;
     tell(
         rt,

@@ -15,6 +15,11 @@ pub(crate) enum Missed {
         status: u8,
         from: usize,
     },
+    /// A call ended otherwise than it should over the file of so many levels, which is tidied.
+    Tidied {
+        call: &'static str,
+        height: u8,
+    },
     /// The log has another number of frames.
     Frames {
         count: usize,

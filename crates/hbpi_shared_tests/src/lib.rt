@@ -8,6 +8,6 @@ mod runs;
 
 pub use ordered::{Commands, EMPTY, Plain, Told, Verb, holds, told_by};
 pub use runs::{
-    CREATE, Left, NEVER, SIZE, drive_on, file_of, left_by, left_of, run_failing, run_on, run_over,
-    said_of, sink_of, source_of, words_of,
+    CREATE, Left, NEVER, SIZE, drive_on, file_of, left_by, left_of, run, run_failing, run_on,
+    run_over, said_of, sink_of, source_of, words_of,
 };

@@ -1,6 +1,6 @@
 //! Runs of the program over disks in memory. Where something is `None`, memory was refused.
 
-use hb_disk::MemDisk;
+use hb_disk::{Disk, MemDisk};
 use hb_outside::{MemSink, MemSource};
 use hb_set::Answered;
 use hbpi::top::run_without_threads;
@@ -71,13 +71,13 @@ pub fn left_by(alloc: Global, finished: Finished<MemSink, MemDisk>) -> Option<Le
 }
 
 /// Runs the program, for words that no threads work off. `None` for others.
-fn run(
+pub fn run<D: Disk + Drop>(
     alloc: Global,
     words: &[String],
     source: &mut MemSource,
     sink: MemSink,
-    disk: MemDisk,
-) -> Option<Finished<MemSink, MemDisk>> {
+    disk: D,
+) -> Option<Finished<MemSink, D>> {
     if Form::is_threaded(Form::of_words(words)) {
         return None;
     }

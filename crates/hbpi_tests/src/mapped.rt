@@ -3,8 +3,11 @@
 use crate::says::expect_said;
 use crate::spoiled::{PAGE_1, put_at};
 use crate::taller::SEVEN;
-use hb_disk::MemDisk;
-use hbpi_shared_tests::{Left, NEVER, SIZE, file_of, run_failing, run_on, run_over};
+use hb_disk::{MemDisk, RotDisk};
+use hbpi_shared_tests::{
+    Left, NEVER, SIZE, file_of, run, run_failing, run_on, run_over, said_of, sink_of, source_of,
+    words_of,
+};
 use std::alloc::Global;
 
 /// The map of a file of two pages: of what was the first one's box, the lower part is a hole that the second has. A put has a line.
@@ -88,6 +91,81 @@ fn a_call_of_a_map_fails(rt: HostRuntime) {
         let again = run_on(rt.alloc(), "map", "", left.disk.bytes());
         expect_said(&rt, again, want.as_str(), "behind a fault");
     }
+}
+
+/// How many device calls a map makes behind the opening: it goes over both pages twice, and reads each once, since pages
+/// stay in memory.
+const READS: u64 = 2;
+
+/// How many device calls an opening of the file makes. A check makes no others.
+fn calls_to_open(alloc: Global, bytes: &[u8]) -> Option<u64> {
+    Some(run_on(alloc, "check", "", bytes)?.disk.calls())
+}
+
+#[test]
+fn a_map_reads_each_page_once(rt: HostRuntime) {
+    let bytes = file_of(rt.alloc(), &[SEVEN]).expect(&rt, "memory");
+    let opened = calls_to_open(rt.alloc(), bytes.as_slice()).expect(&rt, "memory");
+    let done = failing(rt.alloc(), NEVER).expect(&rt, "memory");
+    let calls = done.disk.calls();
+    assert!(rt; calls == opened.saturating_add(READS), "{opened} {calls}");
+}
+
+/// What `map` says where a byte of the file is another one from directly before this call behind the opening on. Call 0
+/// reads page 1, and call 1 page 2.
+fn rotten(alloc: Global, call: u64, at: usize, byte: u8) -> Option<String> {
+    let bytes = file_of(alloc, &[SEVEN])?;
+    let opened = calls_to_open(alloc, bytes.as_slice())?;
+    let disk = RotDisk {
+        inner: MemDisk::new(alloc, bytes),
+        before: opened.saturating_add(call),
+        at: at as u64,
+        byte,
+    };
+    let words = words_of(alloc, "map")?;
+    let mut source = source_of(alloc, "", NEVER)?;
+    let sink = sink_of(alloc, NEVER)?;
+    let finished = run(alloc, words.as_slice(), &mut source, sink, disk)?;
+    said_of(alloc, finished.status, &finished.sink)
+}
+
+/// Where page 2 stands.
+const PAGE_2: usize = PAGE_1 + 4096;
+
+/// A call behind the opening, a place of the file, the byte that is there from directly before that call on, and what `map`
+/// says then. All pages are counted before the first line is put, so no line is.
+///
+/// Page 1 has its cut at 40 in the bytes 22 to 29, the greatest first. Of page 2 byte 1 is the level, the bytes 21 and 22
+/// count the records, and those of 10, 20 and 30 begin at the bytes 23, 32 and 41, with 8 bytes of value each.
+const ROTTEN: [(u64, usize, u8, &str); 7] = [
+    // neither tag of a page
+    (0, PAGE_1, 9, "7 damaged 1 S0\n"),
+    (0, PAGE_2, 9, "7 damaged 2 S0\n"),
+    // a cut at 0, below which nothing lies
+    (0, PAGE_1 + 29, 0, "7 damaged 1 S4\n"),
+    // level 9 of a file of one level
+    (0, PAGE_2 + 1, 9, "7 damaged 2 S3\n"),
+    // nine records, six of them of 0: they weigh more than six
+    (0, PAGE_2 + 22, 9, "7 damaged 2 S5\n"),
+    // records of 10, 9 and 30
+    (0, PAGE_2 + 39, 9, "7 damaged 2 S6\n"),
+    // once page 1 was read
+    (1, PAGE_2, 9, "7 damaged 2 S0\n"),
+];
+
+#[test]
+fn a_page_goes_bad_before_it_is_read(rt: HostRuntime) {
+    for &(call, at, byte, want) in &ROTTEN {
+        let said = rotten(rt.alloc(), call, at, byte).expect(&rt, "memory");
+        assert!(rt; said.as_str() == want, "{at}: {}", said.as_str());
+    }
+}
+
+#[test]
+fn a_page_goes_bad_once_it_is_in_memory(rt: HostRuntime) {
+    let want = whole(rt.alloc()).expect(&rt, "memory");
+    let said = rotten(rt.alloc(), 1, PAGE_1, 9).expect(&rt, "memory");
+    assert!(rt; said.as_str() == want.as_str(), "{}", said.as_str());
 }
 
 /// What `map` says once the box of page 2 ends a value earlier than the hole of page 1.
