@@ -1,7 +1,5 @@
 -- How a run of `tidy` ends that has made its core.
 use Rattle.std.proofs.Common.{◌≡◌, ℕ, ◌≤◌, List, [], map, Result, inl, inr, refl, sym, ap, ◌∙◌, subst}
-use Rattle.hb_core.specs.BetweenLaws.{CountsStayWithin}
-use Rattle.hb_core.specs.Counting.{CountsWithin}
 use Rattle.hb_core.specs.Machines.{Machine}
 use Rattle.hb_core.specs.Showing.{RunningCore}
 use Rattle.hb_core.specs.Working.{MayStep}
@@ -13,7 +11,7 @@ use Rattle.hb_outside.specs.Calls.{SinkModel, SourceModel}
 use Rattle.hb_restart.specs.Beyond.{KeepsBeyond, KeepsBeyondFile}
 use Rattle.hb_set.specs.Order.{Entry}
 use Rattle.hb_set.specs.declared.scripts.Answered.{Answered}
-use Rattle.hb_tidy.specs.Tidying.{AllAtRest, HasTidied}
+use Rattle.hb_tidy.specs.Tidying.{HasTidied}
 use Rattle.hb_tidy.specs.declared.stops.TidyStop.{TidyStop}
 use Rattle.hbpi.proofs.Begins.{IsBegunHere}
 use Rattle.hbpi.proofs.Beyond.{beyond_driven}
