@@ -19,6 +19,7 @@ use Rattle.hbpi.proofs.CoreEnds.{begins_here, may_core}
 use Rattle.hbpi.proofs.Opened.{IsOpening, is_opening}
 use Rattle.hbpi.proofs.StepsTaken.{run_beyond}
 use Rattle.hbpi.proofs.Tidied.{tidies_file}
+use Rattle.hbpi.proofs.Turned.{handed_back}
 use Rattle.hbpi.specs.Outcome.{GetsLine, fault_line}
 use Rattle.hbpi.specs.SeenRuns.{IsUnread, Run, Seen, run_of, seen_by}
 use Rattle.hbpi.specs.Starts.{IsNotStarted, IsStarted, StartLaws}
@@ -81,12 +82,8 @@ module _ {X : Type 0} (M : X → DiskModel) (first over last : X) (core ran : Ru
 pub turned_tidy : {X : Type 0} (M : X → DiskModel) (first found last : X) (before after : SourceModel) (sink put : SinkModel) (answered : List Answered) (order : List ℕ) (asked status : Status) → last ≡ found → status ≡ asked
     → GetsLine sink put (fault_line asked) → answered ≡ [] → order ≡ [] → IsNotStarted nobody before after (M first) (M found) asked
     → TidyEnds (run_of (seen_by before after sink put answered order) (M first) (M last)) status
-turned_tidy {X = X} M first found last before after sink put answered order asked status same is line none_answered none_ordered not =
-    let ends : TidyEnds (run_of (seen_by before after sink put [] []) (M first) (M found)) asked = elim (not sink put line) [ inl shut ↦ inl shut | inr away ↦ inr (inl away) ] in
-    let on_disk = subst (λ (x : X). TidyEnds (run_of (seen_by before after sink put [] []) (M first) (M x)) asked) (sym same) ends in
-    let of_status = subst (λ (x : Status). TidyEnds (run_of (seen_by before after sink put [] []) (M first) (M last)) x) (sym is) on_disk in
-    let with_order = subst (λ (o : List ℕ). TidyEnds (run_of (seen_by before after sink put [] o) (M first) (M last)) status) (sym none_ordered) of_status in
-    subst (λ (a : List Answered). TidyEnds (run_of (seen_by before after sink put a order) (M first) (M last)) status) (sym none_answered) with_order
+turned_tidy M first found last before after sink put answered order asked status same is line none_answered none_ordered not =
+    handed_back M TidyEnds first found last before after sink put answered order asked status same is none_answered none_ordered (elim (not sink put line) [ inl shut ↦ inl shut | inr away ↦ inr (inl away) ])
 
 -- ---- counts of the disk's faults
 
