@@ -12,7 +12,8 @@ use Rattle.hb_set.specs.declared.scripts.Answered.{Answered}
 use Rattle.hb_set.specs.declared.scripts.Line.{Line}
 use Rattle.hbpi.proofs.EndLaws.{no_done}
 use Rattle.hbpi.proofs.Promises.{not_done}
-use Rattle.hbpi.specs.Driven.{Drove, HasNothingLeft, Manner, StepsEnd, by_counting, by_threads}
+use Rattle.hbpi.specs.Driven.{HasNothingLeft, Manner, by_counting, by_threads}
+use Rattle.hbpi.specs.StepEnds.{Drove, StepsEnd}
 use Rattle.hbpi.specs.Promises.{AnswersAll}
 use Rattle.hbpi.specs.SeenRuns.{Run}
 use Rattle.hbpi.specs.declared.statuses.Status.TheVariants.{Done}

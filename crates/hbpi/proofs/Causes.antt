@@ -16,7 +16,8 @@ use Rattle.hb_lemmas.proofs.Lists.{All-alone, All-parts}
 use Rattle.hb_set.specs.declared.commands.Reply.{Reply}
 use Rattle.hb_set.specs.declared.commands.Reply.TheVariants as replies
 use Rattle.hb_set.specs.declared.scripts.Answered.{Answered}
-use Rattle.hbpi.specs.Driven.{Drove, Manner}
+use Rattle.hbpi.specs.Driven.{Manner}
+use Rattle.hbpi.specs.StepEnds.{Drove}
 use Rattle.hbpi.specs.SeenRuns.{Run}
 
 -- These steps have a front that leads to a machine at which the next one finds no page.

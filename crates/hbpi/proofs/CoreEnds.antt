@@ -18,7 +18,8 @@ use Rattle.hbpi.proofs.Beyond.{beyond_driven}
 use Rattle.hbpi.proofs.Opened.{is_opening}
 use Rattle.hbpi.proofs.Reopened.{kept_of, takes_before}
 use Rattle.hbpi.proofs.StepsTaken.{is_unbegun, run_beyond, takes_steps}
-use Rattle.hbpi.specs.Driven.{Drove, IsOpened, Manner, RanEnds, StepsEnd}
+use Rattle.hbpi.specs.Driven.{IsOpened, Manner}
+use Rattle.hbpi.specs.StepEnds.{Drove, RanEnds, StepsEnd}
 use Rattle.hbpi.specs.Drives.{TakesSteps}
 use Rattle.hbpi.specs.Outcome.{GetsLine, fault_line}
 use Rattle.hbpi.specs.Schedules.{CameFrom, CameNot}

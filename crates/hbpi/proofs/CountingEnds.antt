@@ -17,7 +17,8 @@ use Rattle.hbpi.proofs.CoreEnds.{RanCore}
 use Rattle.hbpi.proofs.RecordsLeft.{NumbersArePlaces, drawn_in_place, has_records}
 use Rattle.hbpi.specs.Codes.{status_after}
 use Rattle.hbpi.specs.Counted.{counts_text, records_left}
-use Rattle.hbpi.specs.Driven.{Drove, GetsOutput, GoesOnForAll, RanEnds, by_counting}
+use Rattle.hbpi.specs.Driven.{GoesOnForAll, by_counting}
+use Rattle.hbpi.specs.StepEnds.{Drove, GetsOutput, RanEnds}
 use Rattle.hbpi.specs.Outcome.{GetsLine, fault_line}
 use Rattle.hbpi.specs.Saying.{IsSaid}
 use Rattle.hbpi.specs.SeenRuns.{Run, Seen, run_of}

@@ -18,7 +18,8 @@ use Rattle.hb_text.specs.Grammar.{Reading, text_read}
 use Rattle.hb_text.specs.declared.rules.BadLine.{BadLine}
 use Rattle.hbpi.proofs.DriveNames.{opened_k, reads_left}
 use Rattle.hbpi.specs.Codes.{status_of}
-use Rattle.hbpi.specs.Driven.{Drove, IsShutOut, Manner, RanEnds, StepsEnd}
+use Rattle.hbpi.specs.Driven.{IsShutOut, Manner}
+use Rattle.hbpi.specs.StepEnds.{Drove, RanEnds, StepsEnd}
 use Rattle.hbpi.specs.Outcome.{IsWholeText}
 use Rattle.hbpi.specs.Promises.{GivesFor, IsCalm, IsDriven, TellsLeft}
 use Rattle.hbpi.specs.Schedules.{CameFrom, CameNot, IsScheduled, NotScheduled, read_from}

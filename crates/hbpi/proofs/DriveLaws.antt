@@ -1,6 +1,7 @@
 -- What follows of how a run of `drive` or `run` ends, by which of three ways it went.
 use Rattle.std.proofs.Common.{inl, inr, ◌≤◌}
-use Rattle.hbpi.specs.Driven.{Manner, StepsEnd}
+use Rattle.hbpi.specs.Driven.{Manner}
+use Rattle.hbpi.specs.StepEnds.{StepsEnd}
 use Rattle.hbpi.specs.SeenRuns.{Run}
 use Rattle.hbpi.specs.declared.statuses.Status.{Status}
 

@@ -10,7 +10,8 @@ use Rattle.hb_text.specs.Grammar.{text_read}
 use Rattle.hb_text.specs.declared.rules.BadLine.{BadLine}
 use Rattle.hbpi.proofs.EndLaws.{front_reads, of_closed}
 use Rattle.hbpi.specs.Codes.{status_of}
-use Rattle.hbpi.specs.Driven.{IsOpened, IsTurnedAway, Manner, RanEnds, StepsEnd}
+use Rattle.hbpi.specs.Driven.{IsOpened, IsTurnedAway, Manner}
+use Rattle.hbpi.specs.StepEnds.{RanEnds, StepsEnd}
 use Rattle.hbpi.specs.Outcome.{IsTextOf}
 use Rattle.hbpi.specs.Promises.{NamesScheduleLine}
 use Rattle.hbpi.specs.Schedules.{NotScheduled, read_from}

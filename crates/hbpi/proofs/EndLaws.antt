@@ -31,7 +31,8 @@ use Rattle.hbpi.specs.Ends.{DryEnds, GenEnds, IsAnswered, IsComplete, RefusesBad
 use Rattle.hbpi.specs.SeenRuns.{Run, Seen}
 use Rattle.hbpi.specs.Checked.{CheckEnds, sound_text}
 use Rattle.hbpi.specs.Mapped.{MapEnds, MapsWith}
-use Rattle.hbpi.specs.Driven.{Manner, RanEnds, StepsEnd, by_counting, by_schedule, by_threads}
+use Rattle.hbpi.specs.Driven.{Manner, by_counting, by_schedule, by_threads}
+use Rattle.hbpi.specs.StepEnds.{RanEnds, StepsEnd}
 use Rattle.hbpi.specs.Saying.{IsSaid}
 use Rattle.hbpi.specs.Schedules.{CameNot, NotScheduled}
 use Rattle.hbpi.specs.declared.origins.Origin.{Origin}

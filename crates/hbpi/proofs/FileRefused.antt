@@ -8,7 +8,8 @@ use Rattle.hb_restart.specs.declared.faults.OpenFault.{OpenFault}
 use Rattle.hb_restart.specs.declared.faults.OpenFault.TheVariants as faults
 use Rattle.hb_store.specs.Opening.{OpensTo}
 use Rattle.hbpi.specs.Codes.{status_of}
-use Rattle.hbpi.specs.Driven.{Manner, StepsEnd}
+use Rattle.hbpi.specs.Driven.{Manner}
+use Rattle.hbpi.specs.StepEnds.{StepsEnd}
 use Rattle.hbpi.specs.Promises.{RefusesFile}
 use Rattle.hbpi.specs.SeenRuns.{Run}
 use Rattle.hbpi.specs.declared.statuses.Status.{Status}

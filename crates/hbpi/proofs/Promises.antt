@@ -27,7 +27,8 @@ use Rattle.hb_store.specs.Opening.{IsEven, OpensTo, OpensToOne}
 use Rattle.hbpi.proofs.EndLaws.{no_done, of_closed}
 use Rattle.hbpi.proofs.Reopened.{no_line_yet, pages_of}
 use Rattle.hbpi.specs.Codes.{status_of}
-use Rattle.hbpi.specs.Driven.{Drove, IsOpened, Manner, RanEnds, StepsEnd}
+use Rattle.hbpi.specs.Driven.{IsOpened, Manner}
+use Rattle.hbpi.specs.StepEnds.{Drove, RanEnds, StepsEnd}
 use Rattle.hbpi.specs.Drives.{LeavesLate, LeavesPrefixes}
 use Rattle.hbpi.specs.Promises.{AreOfScript, IsHeld, KeepsPromise, StandsAt}
 use Rattle.hbpi.specs.Schedules.{CameFrom, CameNot}

@@ -33,7 +33,8 @@ use Rattle.std.proofs.lemmas.List.Elements.{All-weaker}
 use Rattle.hbpi.proofs.Begins.{IsBegunHere}
 use Rattle.hbpi.proofs.Opened.{even_store, since_start}
 use Rattle.hbpi.specs.Codes.{status_after}
-use Rattle.hbpi.specs.Driven.{RanEnds, by_text}
+use Rattle.hbpi.specs.Driven.{by_text}
+use Rattle.hbpi.specs.StepEnds.{RanEnds}
 use Rattle.hbpi.specs.Drives.{LeavesPrefixes, TakesSteps}
 use Rattle.hbpi.specs.Outcome.{GetsLine, fault_line}
 use Rattle.hbpi.specs.SeenRuns.{Run}

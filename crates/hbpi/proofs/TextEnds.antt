@@ -12,7 +12,8 @@ use Rattle.hb_set.specs.declared.scripts.Answered.{Answered}
 use Rattle.hbpi.proofs.CoreEnds.{RanCore}
 use Rattle.hbpi.proofs.StepsTaken.{ran_ends}
 use Rattle.hbpi.specs.Codes.{status_after}
-use Rattle.hbpi.specs.Driven.{RanEnds, by_text}
+use Rattle.hbpi.specs.Driven.{by_text}
+use Rattle.hbpi.specs.StepEnds.{RanEnds}
 use Rattle.hbpi.specs.Outcome.{GetsLine, fault_line}
 use Rattle.hbpi.specs.SeenRuns.{Run, run_of, seen_by}
 use Rattle.hbpi.specs.declared.statuses.Status.{Status}

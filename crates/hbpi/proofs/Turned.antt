@@ -4,7 +4,8 @@ use Rattle.std.specs.Prelude.{IfErr}
 use Rattle.hb_disk.specs.Model.{DiskModel}
 use Rattle.hb_outside.specs.Calls.{SinkModel, SourceModel}
 use Rattle.hb_set.specs.declared.scripts.Answered.{Answered}
-use Rattle.hbpi.specs.Driven.{Manner, StepsEnd}
+use Rattle.hbpi.specs.Driven.{Manner}
+use Rattle.hbpi.specs.StepEnds.{StepsEnd}
 use Rattle.hbpi.specs.Outcome.{GetsLine, fault_line}
 use Rattle.hbpi.specs.SeenRuns.{Run, run_of, seen_by}
 use Rattle.hbpi.specs.Starts.{IsNotStarted}

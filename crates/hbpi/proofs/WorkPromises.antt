@@ -21,7 +21,8 @@ use Rattle.hbpi.proofs.EndLaws.{no_done}
 use Rattle.hbpi.proofs.Promises.{not_done}
 use Rattle.hbpi.proofs.Tallies.{each_in}
 use Rattle.hbpi.specs.Counted.{counts_text}
-use Rattle.hbpi.specs.Driven.{Drove, RanEnds, StepsEnd, by_counting}
+use Rattle.hbpi.specs.Driven.{by_counting}
+use Rattle.hbpi.specs.StepEnds.{Drove, RanEnds, StepsEnd}
 use Rattle.hbpi.specs.Promises.{KeepsCounts}
 use Rattle.hbpi.specs.SeenRuns.{Run}
 use Rattle.hbpi.specs.declared.statuses.Status.TheVariants.{Done}

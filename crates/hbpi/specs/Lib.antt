@@ -12,6 +12,7 @@ pub mod Schedules
 pub mod Counted
 pub mod Drives
 pub mod Driven
+pub mod StepEnds
 pub mod Starts
 pub mod Checked
 pub mod Mapped

@@ -11,7 +11,8 @@ use Rattle.hb_restart.specs.Leaving.{LeavesOpening, OpensStore, RunsThrough}
 use Rattle.hb_store.specs.Opening.{IsEven, OpensTo}
 use Rattle.hb_store.specs.States.{StoreState}
 use Rattle.hbpi.specs.Codes.{damage_of, status_of}
-use Rattle.hbpi.specs.Driven.{GetsOutput, IsShutOut}
+use Rattle.hbpi.specs.Driven.{IsShutOut}
+use Rattle.hbpi.specs.StepEnds.{GetsOutput}
 use Rattle.hbpi.specs.SeenRuns.{IsUnread, Run}
 use Rattle.hbpi.specs.declared.statuses.Damage.TheVariants as damages
 use Rattle.hbpi.specs.declared.statuses.Status.{Status}

@@ -6,7 +6,8 @@ use Rattle.hb_restart.specs.Layouts.{first_fault, size_of}
 use Rattle.hb_restart.specs.NewFiles.{new_file}
 use Rattle.hb_store.specs.Opening.{IsEven}
 use Rattle.hbpi.specs.Checked.{CheckEnds}
-use Rattle.hbpi.specs.Driven.{StepsEnd, by_counting, by_schedule, by_threads}
+use Rattle.hbpi.specs.Driven.{by_counting, by_schedule, by_threads}
+use Rattle.hbpi.specs.StepEnds.{StepsEnd}
 use Rattle.hbpi.specs.Ends.{DryEnds, GenEnds, UsageEnds}
 use Rattle.hbpi.specs.MadeEnds.{CreateEnds, HasMade}
 use Rattle.hbpi.specs.Mapped.{MapEnds}

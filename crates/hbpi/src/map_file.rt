@@ -39,6 +39,7 @@ pub(crate) fn map_file<K: Sink, D: Device>(alloc: Global, mut sink: K, disk: D) 
 {
     match recover(alloc, disk) {
         Ok((mut store, _records)) => {
+            // Its contract says that the frames are those of the pages in memory, as the map wants it.
             let _ = store.meta();
             let status = status_of(&put_map(alloc, &mut store, &mut sink));
             put_fault(&mut sink, status);

@@ -1,7 +1,8 @@
 //! The command `run`.
 ghost use Rattle.std.specs.Prelude.{◌≤◌};
 ghost use Rattle.hb_restart.specs.Beyond.{KeepsBeyondFile};
-ghost use Rattle.hbpi.specs.Driven.{StepsEnd, by_threads};
+ghost use Rattle.hbpi.specs.Driven.{by_threads};
+ghost use Rattle.hbpi.specs.StepEnds.{StepsEnd};
 ghost use Rattle.hbpi.specs.SeenRuns.{run_of, seen_by};
 
 use crate::dry::refused;
