@@ -31,6 +31,7 @@ mod roots;
 mod rules;
 mod skipping;
 mod threads;
+mod trees;
 mod views;
 mod walking;
 

@@ -5,15 +5,14 @@ ghost use Rattle.hb_space.specs.Points.{IsAttributeCount};
 ghost use Rattle.hb_frag.specs.Leaves.{IsWellCut, leaves_of};
 ghost use Rattle.hb_frag.specs.Rules.{IsInOrder};
 ghost use Rattle.hb_page_codec.specs.ReadingFields.{records_at};
-ghost use Rattle.hb_page_codec.specs.ReadingPages.{tree_at};
 ghost use Rattle.hb_view.specs.Lists.{records_there, after_there};
 ghost use Rattle.hb_view.specs.Walks.{WalksOver, ComesBehind, RiseFrom};
-ghost use Rattle.hb_view.specs.Roots.{tree_there, rest_there};
+ghost use Rattle.hb_view.specs.Seen.{tree_seen, rest_seen};
 
 use crate::lists::entry_of;
 use crate::roots::{Root, root_of};
+use crate::trees::TreeView;
 use hb_space::Point;
-use hb_space::form::KMAX;
 
 /// Whether the box of these corners holds the point.
 fn holds(lo: &[u64], hi: &[u64], p: &[u64]) -> bool
@@ -77,35 +76,47 @@ fn behind_rising<'a>(k: u8, count: u16, first: &'a [u8], lo: &[u64], hi: &[u64])
 /// Goes over a tree whose box has these corners, where the records of each leaf lie in its box and rise. The corners stay as
 /// they are.
 pub(crate) fn behind_order<'a>(
-    k: u8,
-    bytes: &'a [u8],
+    tree: &TreeView<'a>,
     lo: &mut [u64],
     hi: &mut [u64],
 ) -> Option<&'a [u8]>
-    requires attributes { IsAttributeCount k }
-    requires there { IsSome (tree_at k bytes.now) }
+    requires attributes { IsAttributeCount tree.now.k }
     requires same { length lo.old ≡ length hi.old }
-    requires well_cut { IsWellCut (tree_there k bytes.now) (record { lo = lo.old; hi = hi.old }) }
-    ensures passes { WalksOver (All IsInOrder (leaves_of (tree_there k bytes.now) (record { lo = lo.old; hi = hi.old })))
-        (rest_there k bytes.now) (option_map (λ b. b.now) result) }
+    requires well_cut { IsWellCut (tree_seen tree.now) (record { lo = lo.old; hi = hi.old }) }
+    ensures passes { WalksOver (All IsInOrder (leaves_of (tree_seen tree.now) (record { lo = lo.old; hi = hi.old })))
+        (rest_seen tree.now) (option_map (λ b. b.now) result) }
     ensures lo { lo.new ≡ lo.old }
     ensures hi { hi.new ≡ hi.old }
 {
-    match root_of(k, bytes) {
+    match root_of(tree) {
         Root::Cut { axis, value, left } => {
             let at = usize::from(axis);
             let greatest = hi[at];
             hi[at] = value - 1;
-            let below = behind_order(k, left, lo, hi);
+            let below = behind_order(
+                &TreeView {
+                    k: tree.k,
+                    bytes: left,
+                },
+                lo,
+                hi,
+            );
             hi[at] = greatest;
             let right = below?;
             let least = lo[at];
             lo[at] = value;
-            let from = behind_order(k, right, lo, hi);
+            let from = behind_order(
+                &TreeView {
+                    k: tree.k,
+                    bytes: right,
+                },
+                lo,
+                hi,
+            );
             lo[at] = least;
             from
         }
-        Root::Records { count, first } => behind_rising(k, count, first, lo, hi),
+        Root::Records { count, first } => behind_rising(tree.k, count, first, lo, hi),
         Root::Child { rest, .. } => Some(rest),
         Root::Sibling { rest, .. } => Some(rest),
     }

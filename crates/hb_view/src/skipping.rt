@@ -4,10 +4,11 @@ ghost use Rattle.hb_page_codec.specs.Reading.{ReadsAs};
 ghost use Rattle.hb_page_codec.specs.ReadingFields.{records_at};
 ghost use Rattle.hb_page_codec.specs.ReadingPages.{tree_at};
 ghost use Rattle.hb_view.specs.Behind.{behind, record_behind, list_behind, cut_behind, name_behind, node_behind, rest_after};
-ghost use Rattle.hb_view.specs.Roots.{rest_there};
+ghost use Rattle.hb_view.specs.Seen.{rest_seen};
 
 use crate::corners::{from_place, point_read};
 use crate::fields::{axis_of, body_of, count_of};
+use crate::trees::TreeView;
 use hb_page_codec::{u32_of, u64_of};
 use hb_space::form::KMAX;
 
@@ -124,15 +125,13 @@ fn past_node(k: u8, trees: usize, bytes: &[u8]) -> (usize, &[u8])
 }
 
 /// The bytes behind a tree that stands there. Of a node the tag alone says how far it goes, but for a leaf of records.
-pub(crate) fn rest_of(k: u8, bytes: &[u8]) -> &[u8]
-    requires count { k ≤ KMAX }
-    requires there { IsSome (tree_at k bytes.now) }
-    ensures { result.now ≡ rest_there k bytes.now }
+pub(crate) fn rest_of<'a>(tree: &TreeView<'a>) -> &'a [u8]
+    ensures { result.now ≡ rest_seen tree.now }
 {
     let mut trees: usize = 1;
-    let mut rest = bytes;
+    let mut rest = tree.bytes;
     while trees > 0 {
-        (trees, rest) = past_node(k, trees, rest);
+        (trees, rest) = past_node(tree.k, trees, rest);
     }
     rest
 }

@@ -14,7 +14,7 @@ InOrder t area = All IsInOrder (leaves_of t area)
 
 pub returns-in_err-right-in-Cut-clause-passes : goal.returns-in_err-right-in-Cut-clause-passes
 returns-in_err-right-in-Cut-clause-passes t c =
-    let k = c.args.k in
+    let k = c.args.tree.now.k in
     let left = c.in-Cut.left.now in
     let lo = c.args.lo.now in
     let hi = c.args.hi.now in
@@ -24,11 +24,11 @@ returns-in_err-right-in-Cut-clause-passes t c =
     let l = tree_there k left in
     let r = tree_there k (rest_there k left) in
     let splits = box_splits lo hi lo hi axis at value l r InOrder c.from-at.ensures refl refl (order_splits (record { lo = lo; hi = hi }) axis value l r) in
-    rw c.from_residual.ensures (cut_stops k c.args.bytes.now left axis value (λ t. InOrder t (record { lo = lo; hi = hi })) (InOrder l (record { lo = lo; hi = slice_set hi at (value - 1) })) c.in-Cut.ensures (λ w. (splits.0 w).0) c.in_err-right-in-Cut.ensures.passes)
+    rw c.from_residual.ensures (cut_stops k c.args.tree.now.bytes.now left axis value (λ t. InOrder t (record { lo = lo; hi = hi })) (InOrder l (record { lo = lo; hi = slice_set hi at (value - 1) })) c.in-Cut.ensures (λ w. (splits.0 w).0) c.in_err-right-in-Cut.ensures.passes)
 
 pub returns-in_ok-right-in-Cut-clause-passes : goal.returns-in_ok-right-in-Cut-clause-passes
 returns-in_ok-right-in-Cut-clause-passes t c =
-    let k = c.args.k in
+    let k = c.args.tree.now.k in
     let left = c.in-Cut.left.now in
     let right = c.in_ok-right-in-Cut.right.now in
     let lo = c.args.lo.now in
@@ -41,7 +41,7 @@ returns-in_ok-right-in-Cut-clause-passes t c =
     let back = put_back hi c.behind_order-below.new.hi at (value - 1) 0 c.behind_order-below.ensures.hi in
     let l = tree_there k left in
     let r = tree_there k right in
-    cut_goes_on k c.args.bytes.now left right axis value
+    cut_goes_on k c.args.tree.now.bytes.now left right axis value
     (λ t. InOrder t (record { lo = lo; hi = hi })) (λ t. InOrder t (record { lo = lo; hi = slice_set hi at (value - 1) })) (λ t. InOrder t (record { lo = slice_set low at value; hi = high }))
     (option_map (λ b. b.now) c.behind_order-from.result) c.in-Cut.ensures c.in_ok-right-in-Cut.ensures.passes
     (box_splits lo hi low high axis at value l r InOrder c.from-at.ensures c.behind_order-below.ensures.lo back (order_splits (record { lo = lo; hi = hi }) axis value l r))
@@ -49,4 +49,4 @@ returns-in_ok-right-in-Cut-clause-passes t c =
 
 pub returns-in-Records-clause-passes : goal.returns-in-Records-clause-passes
 returns-in-Records-clause-passes t c =
-    list_in_order c.args.k c.args.bytes.now c.in-Records.first.now c.in-Records.count (record { lo = c.args.lo.now; hi = c.args.hi.now }) (option_map (λ b. b.now) c.behind_rising.result) c.in-Records.ensures c.behind_rising.ensures
+    list_in_order c.args.tree.now.k c.args.tree.now.bytes.now c.in-Records.first.now c.in-Records.count (record { lo = c.args.lo.now; hi = c.args.hi.now }) (option_map (λ b. b.now) c.behind_rising.result) c.in-Records.ensures c.behind_rising.ensures
