@@ -22,15 +22,29 @@ pub(crate) fn box_between(lo: &Corner, hi: &Corner) -> Area
     }
 }
 
+/// The least values of a box.
+pub(crate) fn lo_of(inside: &Inside<'_>) -> Corner
+    ensures { result.items ≡ (area_seen inside.now).lo }
+{
+    corner_at(inside.tree.k, inside.corners)
+}
+
+/// The greatest values of a box.
+pub(crate) fn hi_of(inside: &Inside<'_>) -> Corner
+    ensures { result.items ≡ (area_seen inside.now).hi }
+{
+    let k = inside.tree.k;
+    corner_at(k, from_place(inside.corners, 8 * usize::from(k)))
+}
+
 /// The leaf whose box holds the point, and that box.
 pub(crate) fn leaf_in(inside: &Inside<'_>, p: &Point) -> (LeafView, Area)
     requires well_cut { IsWellCut (tree_seen inside.now.tree) (area_seen inside.now) }
     requires held { Holds (area_seen inside.now) p.now }
     ensures { ShowsLeaf (first_at p.now (leaves_of (tree_seen inside.now.tree) (area_seen inside.now))) result.0 result.1 }
 {
-    let k = inside.tree.k;
-    let mut lo = corner_at(k, inside.corners);
-    let mut hi = corner_at(k, from_place(inside.corners, 8 * usize::from(k)));
+    let mut lo = lo_of(inside);
+    let mut hi = hi_of(inside);
     let leaf = descend(
         &inside.tree,
         lo.as_mut_slice(),

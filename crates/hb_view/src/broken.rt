@@ -1,6 +1,5 @@
 //! The first rule that a page in use breaks by itself, told from the bytes of its tree.
 ghost use Rattle.std.specs.Prelude.{◌≡◌, ◌*◌, ◌≤◌, ◌↔◌, length, All, IfSome, IsNone, IsSome, IsTrue};
-ghost use Rattle.hb_space.specs.Points.{IsAttributeCount};
 ghost use Rattle.hb_frag.specs.Leaves.{IsWellCut, leaves, leaves_of, weight_of};
 ghost use Rattle.hb_frag.specs.Rules.{BelongsAt, IsFilledRight, IsInOrder, IsNormal, IsSiblingTip, capacity_of};
 ghost use Rattle.hb_ops.specs.Sound.{FitsFile, BreaksFirst};
@@ -8,7 +7,7 @@ ghost use Rattle.hb_space.specs.Boxes.{Area as Extent, IsArea};
 ghost use Rattle.hb_view.specs.Limits.{meta_with};
 ghost use Rattle.hb_view.specs.Seen.{tree_seen, area_seen};
 
-use crate::corners::{corner_at, from_place};
+use crate::boxes::{hi_of, lo_of};
 use crate::order::behind_order;
 use crate::roots::{Root, root_of};
 use crate::rules::{behind_cuts, behind_kinds, behind_normal};
@@ -33,9 +32,8 @@ pub(crate) struct Limits {
 fn is_cut(inside: &Inside<'_>) -> bool
     ensures { IsTrue result ↔ IsWellCut (tree_seen inside.now.tree) (area_seen inside.now) }
 {
-    let k = inside.tree.k;
-    let mut lo = corner_at(k, inside.corners);
-    let mut hi = corner_at(k, from_place(inside.corners, 8 * usize::from(k)));
+    let mut lo = lo_of(inside);
+    let mut hi = hi_of(inside);
     match behind_cuts(&inside.tree, lo.as_mut_slice(), hi.as_mut_slice()) {
         Some(_) => true,
         None => false,
@@ -84,13 +82,11 @@ fn is_filled_right(tree: &TreeView<'_>, level: u8, limits: Limits) -> bool
 
 // Rule 6: the records of each leaf lie in its box and rise.
 fn is_in_order(inside: &Inside<'_>) -> bool
-    requires attributes { IsAttributeCount inside.now.tree.k }
     requires cut { IsWellCut (tree_seen inside.now.tree) (area_seen inside.now) }
     ensures { IsTrue result ↔ All IsInOrder (leaves_of (tree_seen inside.now.tree) (area_seen inside.now)) }
 {
-    let k = inside.tree.k;
-    let mut lo = corner_at(k, inside.corners);
-    let mut hi = corner_at(k, from_place(inside.corners, 8 * usize::from(k)));
+    let mut lo = lo_of(inside);
+    let mut hi = hi_of(inside);
     match behind_order(&inside.tree, lo.as_mut_slice(), hi.as_mut_slice()) {
         Some(_) => true,
         None => false,
@@ -107,9 +103,9 @@ fn is_normal(tree: &TreeView<'_>) -> bool
     }
 }
 
-/// The least of the rules 3, 4, 5, 6 and 10 that a page of this level breaks by itself, with this box and this tree. `None` where it keeps them all.
+/// The least of the rules 3, 4, 5, 6 and 10 that a page of this level breaks by itself, with this box and tree. `None`
+/// where it keeps them all.
 pub(crate) fn first_broken(inside: &Inside<'_>, level: u8, limits: Limits) -> Option<u8>
-    requires attributes { IsAttributeCount inside.now.tree.k }
     requires same { inside.now.tree.k ≡ length (area_seen inside.now).lo }
     requires light { weight_of (tree_seen inside.now.tree) ≤ PAGE }
     ensures none { IsNone result ↔ FitsFile (meta_with limits.k limits.height limits.dcap limits.icap)

@@ -8,8 +8,7 @@ ghost use Rattle.hb_view.specs.Seen.{tree_seen, rest_seen, area_seen};
 ghost use Rattle.hb_view.specs.Views.{ShowsLeaf};
 
 use crate::LeafView;
-use crate::boxes::box_between;
-use crate::corners::{corner_at, from_place};
+use crate::boxes::{box_between, hi_of, lo_of};
 use crate::lists::rest_behind_list;
 use crate::roots::{Root, root_of};
 use crate::trees::{Inside, TreeView};
@@ -31,36 +30,21 @@ fn past_named<'a>(
     ensures hi { IfSome result (λ b. hi.new ≡ hi.old) }
     ensures area { IsArea (record { lo = lo.new; hi = hi.new }) }
 {
+    let k = tree.k;
     match root_of(tree) {
         Root::Cut { axis, value, left } => {
             let at = usize::from(axis);
             let greatest = hi[at];
             hi[at] = value - 1;
-            let right = past_named(
-                &TreeView {
-                    k: tree.k,
-                    bytes: left,
-                },
-                lo,
-                hi,
-                sought,
-            )?;
+            let right = past_named(&TreeView { k, bytes: left }, lo, hi, sought)?;
             hi[at] = greatest;
             let least = lo[at];
             lo[at] = value;
-            let rest = past_named(
-                &TreeView {
-                    k: tree.k,
-                    bytes: right,
-                },
-                lo,
-                hi,
-                sought,
-            )?;
+            let rest = past_named(&TreeView { k, bytes: right }, lo, hi, sought)?;
             lo[at] = least;
             Some(rest)
         }
-        Root::Records { count, first } => Some(rest_behind_list(tree.k, count, first)),
+        Root::Records { count, first } => Some(rest_behind_list(k, count, first)),
         Root::Child { page, rest } => past_tip(LeafView::Child(page), rest, sought),
         Root::Sibling { page, rest } => past_tip(LeafView::Sibling(page), rest, sought),
     }
@@ -78,9 +62,8 @@ pub(crate) fn named_in(inside: &Inside<'_>, sought: LeafView) -> Option<Area>
     requires well_cut { IsWellCut (tree_seen inside.now.tree) (area_seen inside.now) }
     ensures { result ≡ named_box sought (leaves_of (tree_seen inside.now.tree) (area_seen inside.now)) }
 {
-    let k = inside.tree.k;
-    let mut lo = corner_at(k, inside.corners);
-    let mut hi = corner_at(k, from_place(inside.corners, 8 * usize::from(k)));
+    let mut lo = lo_of(inside);
+    let mut hi = hi_of(inside);
     match past_named(&inside.tree, lo.as_mut_slice(), hi.as_mut_slice(), sought) {
         Some(_) => None,
         None => Some(box_between(&lo, &hi)),
@@ -106,32 +89,17 @@ fn past_place<'a>(
     ensures hi { IfOk result (λ r. hi.new ≡ hi.old) }
     ensures area { IsArea (record { lo = lo.new; hi = hi.new }) }
 {
+    let k = tree.k;
     match root_of(tree) {
         Root::Cut { axis, value, left } => {
             let at = usize::from(axis);
             let greatest = hi[at];
             hi[at] = value - 1;
-            let (behind, right) = past_place(
-                &TreeView {
-                    k: tree.k,
-                    bytes: left,
-                },
-                lo,
-                hi,
-                place,
-            )?;
+            let (behind, right) = past_place(&TreeView { k, bytes: left }, lo, hi, place)?;
             hi[at] = greatest;
             let least = lo[at];
             lo[at] = value;
-            let further = past_place(
-                &TreeView {
-                    k: tree.k,
-                    bytes: right,
-                },
-                lo,
-                hi,
-                behind,
-            )?;
+            let further = past_place(&TreeView { k, bytes: right }, lo, hi, behind)?;
             lo[at] = least;
             Ok(further)
         }
@@ -139,7 +107,7 @@ fn past_place<'a>(
             if place == 0 {
                 return Err(LeafView::Records);
             }
-            Ok((place - 1, rest_behind_list(tree.k, count, first)))
+            Ok((place - 1, rest_behind_list(k, count, first)))
         }
         Root::Child { page, rest } => past_one(LeafView::Child(page), rest, place),
         Root::Sibling { page, rest } => past_one(LeafView::Sibling(page), rest, place),
@@ -164,9 +132,8 @@ pub(crate) fn leaf_of_place(inside: &Inside<'_>, place: u32) -> Option<(LeafView
     ensures { MatchOption result (slice_get (leaves_of (tree_seen inside.now.tree) (area_seen inside.now)) place ≡ None)
         (λ r. ShowsLeaf (slice_get (leaves_of (tree_seen inside.now.tree) (area_seen inside.now)) place) r.0 r.1) }
 {
-    let k = inside.tree.k;
-    let mut lo = corner_at(k, inside.corners);
-    let mut hi = corner_at(k, from_place(inside.corners, 8 * usize::from(k)));
+    let mut lo = lo_of(inside);
+    let mut hi = hi_of(inside);
     match past_place(&inside.tree, lo.as_mut_slice(), hi.as_mut_slice(), place) {
         Ok(_) => None,
         Err(leaf) => Some((leaf, box_between(&lo, &hi))),

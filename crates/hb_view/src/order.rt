@@ -80,7 +80,6 @@ pub(crate) fn behind_order<'a>(
     lo: &mut [u64],
     hi: &mut [u64],
 ) -> Option<&'a [u8]>
-    requires attributes { IsAttributeCount tree.now.k }
     requires same { length lo.old ≡ length hi.old }
     requires well_cut { IsWellCut (tree_seen tree.now) (record { lo = lo.old; hi = hi.old }) }
     ensures passes { WalksOver (All IsInOrder (leaves_of (tree_seen tree.now) (record { lo = lo.old; hi = hi.old })))
@@ -88,35 +87,22 @@ pub(crate) fn behind_order<'a>(
     ensures lo { lo.new ≡ lo.old }
     ensures hi { hi.new ≡ hi.old }
 {
+    let k = tree.k;
     match root_of(tree) {
         Root::Cut { axis, value, left } => {
             let at = usize::from(axis);
             let greatest = hi[at];
             hi[at] = value - 1;
-            let below = behind_order(
-                &TreeView {
-                    k: tree.k,
-                    bytes: left,
-                },
-                lo,
-                hi,
-            );
+            let below = behind_order(&TreeView { k, bytes: left }, lo, hi);
             hi[at] = greatest;
             let right = below?;
             let least = lo[at];
             lo[at] = value;
-            let from = behind_order(
-                &TreeView {
-                    k: tree.k,
-                    bytes: right,
-                },
-                lo,
-                hi,
-            );
+            let from = behind_order(&TreeView { k, bytes: right }, lo, hi);
             lo[at] = least;
             from
         }
-        Root::Records { count, first } => behind_rising(tree.k, count, first, lo, hi),
+        Root::Records { count, first } => behind_rising(k, count, first, lo, hi),
         Root::Child { rest, .. } => Some(rest),
         Root::Sibling { rest, .. } => Some(rest),
     }

@@ -32,6 +32,7 @@ pub(crate) fn behind_cuts<'a>(
     ensures lo { lo.new ≡ lo.old }
     ensures hi { hi.new ≡ hi.old }
 {
+    let k = tree.k;
     match root_of(tree) {
         Root::Cut { axis, value, left } => {
             if !cuts(lo, hi, axis, value) {
@@ -40,30 +41,16 @@ pub(crate) fn behind_cuts<'a>(
             let at = usize::from(axis);
             let greatest = hi[at];
             hi[at] = value - 1;
-            let below = behind_cuts(
-                &TreeView {
-                    k: tree.k,
-                    bytes: left,
-                },
-                lo,
-                hi,
-            );
+            let below = behind_cuts(&TreeView { k, bytes: left }, lo, hi);
             hi[at] = greatest;
             let right = below?;
             let least = lo[at];
             lo[at] = value;
-            let from = behind_cuts(
-                &TreeView {
-                    k: tree.k,
-                    bytes: right,
-                },
-                lo,
-                hi,
-            );
+            let from = behind_cuts(&TreeView { k, bytes: right }, lo, hi);
             lo[at] = least;
             from
         }
-        Root::Records { count, first } => Some(rest_behind_list(tree.k, count, first)),
+        Root::Records { count, first } => Some(rest_behind_list(k, count, first)),
         Root::Child { rest, .. } => Some(rest),
         Root::Sibling { rest, .. } => Some(rest),
     }
@@ -74,28 +61,17 @@ pub(crate) fn behind_kinds<'a>(tree: &TreeView<'a>, level: u8) -> Option<&'a [u8
     ensures { WalksOver (All (BelongsAt level) (leaves (tree_seen tree.now)))
         (rest_seen tree.now) (option_map (λ b. b.now) result) }
 {
+    let k = tree.k;
     match root_of(tree) {
         Root::Cut { left, .. } => {
-            let right = behind_kinds(
-                &TreeView {
-                    k: tree.k,
-                    bytes: left,
-                },
-                level,
-            )?;
-            behind_kinds(
-                &TreeView {
-                    k: tree.k,
-                    bytes: right,
-                },
-                level,
-            )
+            let right = behind_kinds(&TreeView { k, bytes: left }, level)?;
+            behind_kinds(&TreeView { k, bytes: right }, level)
         }
         Root::Records { count, first } => {
             if level > 0 {
                 return None;
             }
-            Some(rest_behind_list(tree.k, count, first))
+            Some(rest_behind_list(k, count, first))
         }
         Root::Child { rest, .. } => {
             if level == 0 {
@@ -122,22 +98,18 @@ fn are_alike(left: &TreeView<'_>, right: &TreeView<'_>) -> bool
 pub(crate) fn behind_normal<'a>(tree: &TreeView<'a>) -> Option<&'a [u8]>
     ensures { WalksOver (IsNormal (tree_seen tree.now)) (rest_seen tree.now) (option_map (λ b. b.now) result) }
 {
+    let k = tree.k;
     match root_of(tree) {
         Root::Cut { left, .. } => {
-            let left = TreeView {
-                k: tree.k,
-                bytes: left,
-            };
-            let right = TreeView {
-                k: tree.k,
-                bytes: behind_normal(&left)?,
-            };
+            let left = TreeView { k, bytes: left };
+            let right = behind_normal(&left)?;
+            let right = TreeView { k, bytes: right };
             if are_alike(&left, &right) {
                 return None;
             }
             behind_normal(&right)
         }
-        Root::Records { count, first } => Some(rest_behind_list(tree.k, count, first)),
+        Root::Records { count, first } => Some(rest_behind_list(k, count, first)),
         Root::Child { rest, .. } => Some(rest),
         Root::Sibling { rest, .. } => Some(rest),
     }

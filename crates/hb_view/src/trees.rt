@@ -1,7 +1,7 @@
 //! The box and the tree of a page in use, where they stand.
 ghost use Rattle.std.specs.Prelude.{◌≤◌, ◌*◌, length, IsSome};
 ghost use Rattle.hb_space.specs.Boxes.{IsArea};
-ghost use Rattle.hb_space.specs.declared.form.TheConstants.{KMAX};
+ghost use Rattle.hb_space.specs.Points.{IsAttributeCount};
 ghost use Rattle.hb_page_codec.specs.ReadingPages.{tree_at};
 ghost use Rattle.hb_view.specs.Corners.{corners_there};
 
@@ -11,7 +11,7 @@ pub(crate) struct TreeView<'a> {
     /// The number of attributes.
     pub k: u8,
     pub bytes: &'a [u8],
-    ghost few: { k ≤ KMAX },
+    ghost attributes: { IsAttributeCount k },
     ghost there: { IsSome (tree_at k bytes.now) },
 }
 

@@ -22,23 +22,18 @@ pub(crate) fn descend(tree: &TreeView<'_>, lo: &mut [u64], hi: &mut [u64], p: &[
         result (record { lo = lo.new; hi = hi.new }) }
     ensures area { IsArea (record { lo = lo.new; hi = hi.new }) }
 {
+    let k = tree.k;
     match root_of(tree) {
         Root::Cut { axis, value, left } => {
-            let left = TreeView {
-                k: tree.k,
-                bytes: left,
-            };
+            let left = TreeView { k, bytes: left };
             let at = usize::from(axis);
             if p[at] < value {
                 hi[at] = value - 1;
                 descend(&left, lo, hi, p)
             } else {
                 lo[at] = value;
-                let right = TreeView {
-                    k: tree.k,
-                    bytes: rest_of(&left),
-                };
-                descend(&right, lo, hi, p)
+                let right = rest_of(&left);
+                descend(&TreeView { k, bytes: right }, lo, hi, p)
             }
         }
         Root::Records { .. } => LeafView::Records,
@@ -55,25 +50,18 @@ pub(crate) fn find_in<'a>(tree: &TreeView<'a>, p: &[u64]) -> Option<&'a [u8]>
         TellsBody p.now (first_at p.now (leaves_of (tree_seen tree.now) area)) (option_map (λ b. b.now) result) }
     ensures short { IfSome result (λ b. length b.now ≤ BMAX) }
 {
+    let k = tree.k;
     match root_of(tree) {
         Root::Cut { axis, value, left } => {
-            let left = TreeView {
-                k: tree.k,
-                bytes: left,
-            };
+            let left = TreeView { k, bytes: left };
             if p[usize::from(axis)] < value {
                 find_in(&left, p)
             } else {
-                find_in(
-                    &TreeView {
-                        k: tree.k,
-                        bytes: rest_of(&left),
-                    },
-                    p,
-                )
+                let right = rest_of(&left);
+                find_in(&TreeView { k, bytes: right }, p)
             }
         }
-        Root::Records { count, first } => body_among(tree.k, count, first, p),
+        Root::Records { count, first } => body_among(k, count, first, p),
         Root::Child { .. } => None,
         Root::Sibling { .. } => None,
     }
@@ -85,22 +73,15 @@ pub(crate) fn count_in(tree: &TreeView<'_>, p: &[u64]) -> u16
     ensures { (area : Extent) → IsArea area → IsWellCut (tree_seen tree.now) area → Holds area p.now →
         CountsLeaf (first_at p.now (leaves_of (tree_seen tree.now) area)) result }
 {
+    let k = tree.k;
     match root_of(tree) {
         Root::Cut { axis, value, left } => {
-            let left = TreeView {
-                k: tree.k,
-                bytes: left,
-            };
+            let left = TreeView { k, bytes: left };
             if p[usize::from(axis)] < value {
                 count_in(&left, p)
             } else {
-                count_in(
-                    &TreeView {
-                        k: tree.k,
-                        bytes: rest_of(&left),
-                    },
-                    p,
-                )
+                let right = rest_of(&left);
+                count_in(&TreeView { k, bytes: right }, p)
             }
         }
         Root::Records { count, .. } => count,
@@ -115,20 +96,15 @@ pub(crate) fn weigh<'a>(tree: &TreeView<'a>) -> (u32, &'a [u8])
     ensures weight { result.0 ≡ weight_of (tree_seen tree.now) }
     ensures rest { result.1.now ≡ rest_seen tree.now }
 {
+    let k = tree.k;
     match root_of(tree) {
         Root::Cut { left, .. } => {
-            let (below, right) = weigh(&TreeView {
-                k: tree.k,
-                bytes: left,
-            });
-            let (from, rest) = weigh(&TreeView {
-                k: tree.k,
-                bytes: right,
-            });
+            let (below, right) = weigh(&TreeView { k, bytes: left });
+            let (from, rest) = weigh(&TreeView { k, bytes: right });
             (below + from, rest)
         }
         Root::Records { count, first } => {
-            let rest = rest_behind_list(tree.k, count, first);
+            let rest = rest_behind_list(k, count, first);
             (u32::from(count).max(1), rest)
         }
         Root::Child { rest, .. } | Root::Sibling { rest, .. } => (1, rest),

@@ -21,7 +21,7 @@ pub invariant_of-tree : goal.invariant_of-tree
 invariant_of-tree c =
     let s = live_spelled c.args.bytes.now (λ i. omega (arith, c.type_inv.bytes i)) c.requires in
     let has = has_parts c.args.bytes.now s c.from.result c.from_place-corners.result.now c.from_place.result.now c.from.ensures c.from_place-corners.ensures c.from_place.ensures in
-    record { few = has.few; there = has.there }
+    record { attributes = has.count; there = has.there }
 
 pub invariant_of-result : goal.invariant_of-result
 invariant_of-result c =

@@ -10,7 +10,7 @@ returns-then-p-from t c =
 
 pub returns-else-p-from : goal.returns-else-p-from
 returns-else-p-from t c =
-    counts_right c.args.tree.now.k c.args.tree.now.bytes.now c.in-Cut.left.now c.rest_of.result.now c.in-Cut.axis c.in-Cut.value c.from.result c.args.p.now c.count_in-else-p-from.result c.in-Cut.ensures c.rest_of.ensures c.from.ensures
+    counts_right c.args.tree.now.k c.args.tree.now.bytes.now c.in-Cut.left.now c.rest_of-right.result.now c.in-Cut.axis c.in-Cut.value c.from.result c.args.p.now c.count_in-else-p-from.result c.in-Cut.ensures c.rest_of-right.ensures c.from.ensures
     c.if-p-from.false c.count_in-else-p-from.ensures
 
 pub returns-in-Records : goal.returns-in-Records

@@ -9,7 +9,7 @@ returns-then-p-at-clause-leaf t c =
 
 pub returns-else-p-at-clause-leaf : goal.returns-else-p-at-clause-leaf
 returns-else-p-at-clause-leaf t c =
-    shows_right c.args.tree.now.k c.args.tree.now.bytes.now c.in-Cut.left.now c.rest_of.result.now c.in-Cut.axis c.in-Cut.value c.from-at.result c.args.p.now c.args.lo.now c.args.hi.now _ _ c.in-Cut.ensures c.rest_of.ensures c.from-at.ensures
+    shows_right c.args.tree.now.k c.args.tree.now.bytes.now c.in-Cut.left.now c.rest_of-right.result.now c.in-Cut.axis c.in-Cut.value c.from-at.result c.args.p.now c.args.lo.now c.args.hi.now _ _ c.in-Cut.ensures c.rest_of-right.ensures c.from-at.ensures
     c.requires.corners c.requires.well_cut c.requires.held c.if-p-at.false c.descend-else-p-at.ensures.leaf
 
 pub returns-in-Records-clause-leaf : goal.returns-in-Records-clause-leaf

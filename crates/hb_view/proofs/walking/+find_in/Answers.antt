@@ -10,7 +10,7 @@ returns-then-p-from-clause-found t c =
 
 pub returns-else-p-from-clause-found : goal.returns-else-p-from-clause-found
 returns-else-p-from-clause-found t c =
-    finds_right c.args.tree.now.k c.args.tree.now.bytes.now c.in-Cut.left.now c.rest_of.result.now c.in-Cut.axis c.in-Cut.value c.from.result c.args.p.now (option_map (λ b. b.now) c.find_in-else-p-from.result) c.in-Cut.ensures c.rest_of.ensures c.from.ensures
+    finds_right c.args.tree.now.k c.args.tree.now.bytes.now c.in-Cut.left.now c.rest_of-right.result.now c.in-Cut.axis c.in-Cut.value c.from.result c.args.p.now (option_map (λ b. b.now) c.find_in-else-p-from.result) c.in-Cut.ensures c.rest_of-right.ensures c.from.ensures
     c.if-p-from.false c.find_in-else-p-from.ensures.found
 
 pub returns-in-Records-clause-found : goal.returns-in-Records-clause-found
