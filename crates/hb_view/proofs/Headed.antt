@@ -199,7 +199,6 @@ has_box bytes s k from ek ef none =
 
 -- a page in use has so many attributes, and its box and its tree stand at the front of these bytes
 pub record HasParts (page : LivePage) (k : ℕ) (corners bytes : List ℕ) : Type 0 where
-  pub count : IsAttributeCount k
   pub attributes : k ≡ length page.area.lo
   pub is_area : IsArea (corners_there k corners)
   pub room : 16 * k ≤ length corners
@@ -216,7 +215,6 @@ has_parts bytes s n corners from en ec ef =
     let box : area_at (get_or bytes 2 0) corners ≡ Some (s.page.area, s.fields.behind) = ap (λ m. area_at m corners) k ∙ ap (area_at (length s.page.area.lo)) ec ∙ s.fields.area in
     let has = has_corners (get_or bytes 2 0) corners (s.page.area, s.fields.behind) box in
     record {
-      count = subst IsAttributeCount (sym k) s.fields.count;
       attributes = k;
       is_area = subst IsArea (sym has.corners) s.fields.is_area;
       room = has.room;

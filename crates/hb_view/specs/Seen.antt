@@ -9,15 +9,15 @@ use Rattle.hb_view.specs.declared.trees.Inside.{Inside}
 use Rattle.hb_view.specs.declared.trees.TreeView.{TreeView}
 
 abbrev pub tree_seen : TreeView → Tree
-tree_seen view = tree_there view.k view.bytes.now
+tree_seen view = tree_there view.k.number view.bytes.now
 
 -- the bytes behind it
 abbrev pub rest_seen : TreeView → List ℕ
-rest_seen view = rest_there view.k view.bytes.now
+rest_seen view = rest_there view.k.number view.bytes.now
 
 -- its root
 abbrev pub HasRoot : TreeView → Root → Type 0
-HasRoot view root = IsRootAt view.k view.bytes.now root
+HasRoot view root = IsRootAt view.k.number view.bytes.now root
 
 abbrev pub area_seen : Inside → Area
-area_seen inside = corners_there inside.tree.k inside.corners.now
+area_seen inside = corners_there inside.tree.k.number inside.corners.now

@@ -26,7 +26,7 @@ IsLiveAnd (Free next) P = ⊥
 
 -- a page in use has this box and this tree
 pub record HasInside (page : LivePage) (inside : Inside) : Type 0 where
-  pub attributes : inside.tree.k ≡ length page.area.lo
+  pub attributes : inside.tree.k.number ≡ length page.area.lo
   pub is_area : IsArea page.area
   pub area : area_seen inside ≡ page.area
   pub tree : tree_seen inside.tree ≡ page.frag

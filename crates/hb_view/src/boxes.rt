@@ -34,7 +34,7 @@ pub(crate) fn hi_of(inside: &Inside<'_>) -> Corner
     ensures { result.items ≡ (area_seen inside.now).hi }
 {
     let k = inside.tree.k;
-    corner_at(k, from_place(inside.corners, 8 * usize::from(k)))
+    corner_at(k, from_place(inside.corners, 8 * usize::from(k.number)))
 }
 
 /// The leaf whose box holds the point, and that box.

@@ -71,7 +71,7 @@ fn capacity(level: u8, limits: Limits) -> u16
 
 // Rule 5: leaves of the right kinds, a weight that the page may have, and no lone sibling leaf.
 fn is_filled_right(tree: &TreeView<'_>, level: u8, limits: Limits) -> bool
-    requires light { weight_of (tree_seen tree.now) ≤ PAGE }
+    requires { weight_of (tree_seen tree.now) ≤ PAGE }
     ensures { (area : Extent) → IsTrue result ↔ IsFilledRight (record { level = level; area = area; frag = tree_seen tree.now })
         limits.dcap limits.icap }
 {
@@ -82,7 +82,7 @@ fn is_filled_right(tree: &TreeView<'_>, level: u8, limits: Limits) -> bool
 
 // Rule 6: the records of each leaf lie in its box and rise.
 fn is_in_order(inside: &Inside<'_>) -> bool
-    requires cut { IsWellCut (tree_seen inside.now.tree) (area_seen inside.now) }
+    requires { IsWellCut (tree_seen inside.now.tree) (area_seen inside.now) }
     ensures { IsTrue result ↔ All IsInOrder (leaves_of (tree_seen inside.now.tree) (area_seen inside.now)) }
 {
     let mut lo = lo_of(inside);
@@ -106,7 +106,7 @@ fn is_normal(tree: &TreeView<'_>) -> bool
 /// The least of the rules 3, 4, 5, 6 and 10 that a page of this level breaks by itself, with this box and tree. `None`
 /// where it keeps them all.
 pub(crate) fn first_broken(inside: &Inside<'_>, level: u8, limits: Limits) -> Option<u8>
-    requires same { inside.now.tree.k ≡ length (area_seen inside.now).lo }
+    requires same { inside.now.tree.k.number ≡ length (area_seen inside.now).lo }
     requires light { weight_of (tree_seen inside.now.tree) ≤ PAGE }
     ensures none { IsNone result ↔ FitsFile (meta_with limits.k limits.height limits.dcap limits.icap)
         (record { level = level; area = area_seen inside.now; frag = tree_seen inside.now.tree }) }
@@ -114,7 +114,7 @@ pub(crate) fn first_broken(inside: &Inside<'_>, level: u8, limits: Limits) -> Op
         (record { level = level; area = area_seen inside.now; frag = tree_seen inside.now.tree })
         (meta_with limits.k limits.height limits.dcap limits.icap)) }
 {
-    if level >= limits.height || inside.tree.k != limits.k {
+    if level >= limits.height || inside.tree.k.number != limits.k {
         return Some(3);
     }
     if !is_cut(inside) {

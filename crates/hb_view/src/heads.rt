@@ -6,6 +6,7 @@ ghost use Rattle.hb_page_codec.specs.ReadingPages.{page_of_bytes};
 ghost use Rattle.hb_view.specs.Spelled.{page_spelled};
 ghost use Rattle.hb_view.specs.Views.{IsLive, IsLiveAnd, HasInside};
 
+use crate::attributes::Attributes;
 use crate::corners::from_place;
 use crate::trees::{Inside, TreeView};
 use hb_frag::Page;
@@ -45,11 +46,11 @@ pub(crate) fn inside_of(bytes: &[u8]) -> Inside<'_>
     requires { IsLive (page_spelled bytes.now) }
     ensures { IsLiveAnd (page_spelled bytes.now) (λ page. HasInside page result) }
 {
-    let k = bytes[2];
+    let k = Attributes { number: bytes[2] };
     let corners = from_place(bytes, 4);
     let tree = TreeView {
         k,
-        bytes: from_place(bytes, 4 + 16 * usize::from(k)),
+        bytes: from_place(bytes, 4 + 16 * usize::from(k.number)),
     };
     Inside { corners, tree }
 }

@@ -8,6 +8,9 @@
 //! one, which is read over. A box on the way is two corners of which one value is changed. Only `page` wants memory, since
 //! it decodes.
 //!
+//! Inside, a tree is a `TreeView`, and a tree with its box an `Inside`: bytes of which it is known that one stands there. Making
+//! one tests nothing. Contracts see it as that tree and that box (`tree_seen`, `area_seen`).
+//!
 //! Invariants: a view's bytes spell a page. A walk over bytes takes those from its place on, and where it goes on it hands
 //! back those behind what it looked at. So a side has fewer bytes than its tree, and walks end; and a tree is never deeper
 //! than its bytes allow. A cut takes ten of them, so a page has fewer than 410 cuts one below the other, which is what
@@ -17,6 +20,7 @@
 //! and read again only what they need.
 #![tactic(auto)]
 
+mod attributes;
 mod boxes;
 mod broken;
 mod checking;

@@ -1,7 +1,6 @@
 //! Whether the records of each leaf lie in its box and rise, told from the bytes of a tree.
 ghost use Rattle.std.specs.Prelude.{◌≡◌, ◌≤◌, ◌↔◌, length, All, IsSome, IsTrue, None, option_map};
 ghost use Rattle.hb_space.specs.Boxes.{Holds};
-ghost use Rattle.hb_space.specs.Points.{IsAttributeCount};
 ghost use Rattle.hb_frag.specs.Leaves.{IsWellCut, leaves_of};
 ghost use Rattle.hb_frag.specs.Rules.{IsInOrder};
 ghost use Rattle.hb_page_codec.specs.ReadingFields.{records_at};
@@ -9,6 +8,7 @@ ghost use Rattle.hb_view.specs.Lists.{records_there, after_there};
 ghost use Rattle.hb_view.specs.Walks.{WalksOver, ComesBehind, RiseFrom};
 ghost use Rattle.hb_view.specs.Seen.{tree_seen, rest_seen};
 
+use crate::attributes::Attributes;
 use crate::lists::entry_of;
 use crate::roots::{Root, root_of};
 use crate::trees::TreeView;
@@ -49,12 +49,17 @@ fn comes_next(lo: &[u64], hi: &[u64], last: &Option<Point>, p: &Point) -> bool
 }
 
 /// Goes over so many records whose points lie in the box of these corners and rise.
-fn behind_rising<'a>(k: u8, count: u16, first: &'a [u8], lo: &[u64], hi: &[u64]) -> Option<&'a [u8]>
-    requires attributes { IsAttributeCount k }
-    requires there { IsSome (records_at k count first.now) }
+fn behind_rising<'a>(
+    k: Attributes,
+    count: u16,
+    first: &'a [u8],
+    lo: &[u64],
+    hi: &[u64],
+) -> Option<&'a [u8]>
+    requires there { IsSome (records_at k.number count first.now) }
     requires same { length lo.now ≡ length hi.now }
-    ensures { WalksOver (RiseFrom (record { lo = lo.now; hi = hi.now }) None (records_there k count first.now))
-        (after_there k count first.now) (option_map (λ b. b.now) result) }
+    ensures { WalksOver (RiseFrom (record { lo = lo.now; hi = hi.now }) None (records_there k.number count first.now))
+        (after_there k.number count first.now) (option_map (λ b. b.now) result) }
 {
     let mut rest = first;
     let mut last = None;

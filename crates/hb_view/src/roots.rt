@@ -4,10 +4,10 @@ ghost use Rattle.hb_page_codec.specs.Reading.{ReadsAs};
 ghost use Rattle.hb_view.specs.Roots.{sight_of, root_at};
 ghost use Rattle.hb_view.specs.Seen.{HasRoot};
 
+use crate::attributes::Attributes;
 use crate::fields::{axis_of, count_of};
 use crate::trees::TreeView;
 use hb_page_codec::{u32_of, u64_of};
-use hb_space::form::KMAX;
 
 /// What stands at the root of a tree.
 #[derive(Clone, Copy, Debug)]
@@ -37,9 +37,8 @@ pub(crate) enum Root<'a> {
 
 /// The root at the front of the bytes. None where none stands there.
 #[tactic(auto, unfolding(crate::specs::Roots::root_at))]
-fn root_read(k: u8, bytes: &[u8]) -> Option<Root<'_>>
-    requires { k ≤ KMAX }
-    ensures { ReadsAs sight_of result (root_at k bytes.now) }
+fn root_read(k: Attributes, bytes: &[u8]) -> Option<Root<'_>>
+    ensures { ReadsAs sight_of result (root_at k.number bytes.now) }
 {
     match bytes {
         [0, rest @ ..] => {

@@ -1,18 +1,18 @@
 //! The box and the tree of a page in use, where they stand.
 ghost use Rattle.std.specs.Prelude.{◌≤◌, ◌*◌, length, IsSome};
 ghost use Rattle.hb_space.specs.Boxes.{IsArea};
-ghost use Rattle.hb_space.specs.Points.{IsAttributeCount};
 ghost use Rattle.hb_page_codec.specs.ReadingPages.{tree_at};
 ghost use Rattle.hb_view.specs.Corners.{corners_there};
+
+use crate::attributes::Attributes;
 
 /// A tree as the bytes that it stands at the front of.
 #[derive(Clone, Copy, Debug)]
 pub(crate) struct TreeView<'a> {
     /// The number of attributes.
-    pub k: u8,
+    pub k: Attributes,
     pub bytes: &'a [u8],
-    ghost attributes: { IsAttributeCount k },
-    ghost there: { IsSome (tree_at k bytes.now) },
+    ghost there: { IsSome (tree_at k.number bytes.now) },
 }
 
 /// A box and a tree.
@@ -21,6 +21,6 @@ pub(crate) struct Inside<'a> {
     /// The bytes from the box on.
     pub corners: &'a [u8],
     pub tree: TreeView<'a>,
-    ghost room: { 16 * tree.k ≤ length corners.now },
-    ghost is_area: { IsArea (corners_there tree.k corners.now) },
+    ghost room: { 16 * tree.k.number ≤ length corners.now },
+    ghost is_area: { IsArea (corners_there tree.k.number corners.now) },
 }

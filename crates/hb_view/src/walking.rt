@@ -45,7 +45,7 @@ pub(crate) fn descend(tree: &TreeView<'_>, lo: &mut [u64], hi: &mut [u64], p: &[
 /// The body of the point's record in the leaf whose box holds the point. None where that leaf names a page, or lacks
 /// the point.
 pub(crate) fn find_in<'a>(tree: &TreeView<'a>, p: &[u64]) -> Option<&'a [u8]>
-    requires attributes { length p.now ≡ tree.now.k }
+    requires { length p.now ≡ tree.now.k.number }
     ensures found { (area : Extent) → IsArea area → IsWellCut (tree_seen tree.now) area → Holds area p.now →
         TellsBody p.now (first_at p.now (leaves_of (tree_seen tree.now) area)) (option_map (λ b. b.now) result) }
     ensures short { IfSome result (λ b. length b.now ≤ BMAX) }
@@ -69,7 +69,7 @@ pub(crate) fn find_in<'a>(tree: &TreeView<'a>, p: &[u64]) -> Option<&'a [u8]>
 
 /// How many records the leaf has whose box holds the point; none where it names a page.
 pub(crate) fn count_in(tree: &TreeView<'_>, p: &[u64]) -> u16
-    requires attributes { length p.now ≡ tree.now.k }
+    requires { length p.now ≡ tree.now.k.number }
     ensures { (area : Extent) → IsArea area → IsWellCut (tree_seen tree.now) area → Holds area p.now →
         CountsLeaf (first_at p.now (leaves_of (tree_seen tree.now) area)) result }
 {
@@ -92,7 +92,7 @@ pub(crate) fn count_in(tree: &TreeView<'_>, p: &[u64]) -> u16
 
 /// What the leaves of a tree weigh together, and the bytes behind the tree.
 pub(crate) fn weigh<'a>(tree: &TreeView<'a>) -> (u32, &'a [u8])
-    requires light { weight_of (tree_seen tree.now) ≤ PAGE }
+    requires { weight_of (tree_seen tree.now) ≤ PAGE }
     ensures weight { result.0 ≡ weight_of (tree_seen tree.now) }
     ensures rest { result.1.now ≡ rest_seen tree.now }
 {

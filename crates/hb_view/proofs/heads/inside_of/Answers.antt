@@ -1,4 +1,5 @@
-use Rattle.std.proofs.Common.{arith}
+use Rattle.std.proofs.Common.{sym, subst, arith}
+use Rattle.hb_space.specs.Points.{IsAttributeCount}
 use Rattle.hb_view.proofs.Headed.{live_spelled, live_tells, live_room, has_parts}
 use Rattle.hb_view.proofs.heads.inside_of.Goals as goal
 
@@ -17,11 +18,16 @@ from_place-requires c =
     let s = live_spelled c.args.bytes.now (λ i. omega (arith, c.type_inv.bytes i)) c.requires in
     omega (arith, live_room c.args.bytes.now s, c.from.ensures, s.fields.attributes)
 
+pub invariant_of-k : goal.invariant_of-k
+invariant_of-k c =
+    let s = live_spelled c.args.bytes.now (λ i. omega (arith, c.type_inv.bytes i)) c.requires in
+    record { allowed = subst IsAttributeCount (sym s.fields.attributes) s.fields.count }
+
 pub invariant_of-tree : goal.invariant_of-tree
 invariant_of-tree c =
     let s = live_spelled c.args.bytes.now (λ i. omega (arith, c.type_inv.bytes i)) c.requires in
     let has = has_parts c.args.bytes.now s c.from.result c.from_place-corners.result.now c.from_place.result.now c.from.ensures c.from_place-corners.ensures c.from_place.ensures in
-    record { attributes = has.count; there = has.there }
+    record { there = has.there }
 
 pub invariant_of-result : goal.invariant_of-result
 invariant_of-result c =

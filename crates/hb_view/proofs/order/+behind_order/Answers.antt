@@ -14,7 +14,7 @@ InOrder t area = All IsInOrder (leaves_of t area)
 
 pub returns-in_err-right-in-Cut-clause-passes : goal.returns-in_err-right-in-Cut-clause-passes
 returns-in_err-right-in-Cut-clause-passes t c =
-    let k = c.args.tree.now.k in
+    let k = c.args.tree.now.k.number in
     let left = c.in-Cut.left.now in
     let lo = c.args.lo.now in
     let hi = c.args.hi.now in
@@ -28,7 +28,7 @@ returns-in_err-right-in-Cut-clause-passes t c =
 
 pub returns-in_ok-right-in-Cut-clause-passes : goal.returns-in_ok-right-in-Cut-clause-passes
 returns-in_ok-right-in-Cut-clause-passes t c =
-    let k = c.args.tree.now.k in
+    let k = c.args.tree.now.k.number in
     let left = c.in-Cut.left.now in
     let right = c.in_ok-right-in-Cut.right.now in
     let lo = c.args.lo.now in
@@ -49,4 +49,4 @@ returns-in_ok-right-in-Cut-clause-passes t c =
 
 pub returns-in-Records-clause-passes : goal.returns-in-Records-clause-passes
 returns-in-Records-clause-passes t c =
-    list_in_order c.args.tree.now.k c.args.tree.now.bytes.now c.in-Records.first.now c.in-Records.count (record { lo = c.args.lo.now; hi = c.args.hi.now }) (option_map (λ b. b.now) c.behind_rising.result) c.in-Records.ensures c.behind_rising.ensures
+    list_in_order c.args.tree.now.k.number c.args.tree.now.bytes.now c.in-Records.first.now c.in-Records.count (record { lo = c.args.lo.now; hi = c.args.hi.now }) (option_map (λ b. b.now) c.behind_rising.result) c.in-Records.ensures c.behind_rising.ensures

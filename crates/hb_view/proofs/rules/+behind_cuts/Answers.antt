@@ -7,7 +7,7 @@ use Rattle.hb_view.proofs.rules.+behind_cuts.Goals as goal
 
 pub returns-in_ok-right-in-Cut-clause-passes : goal.returns-in_ok-right-in-Cut-clause-passes
 returns-in_ok-right-in-Cut-clause-passes t c =
-    let k = c.args.tree.now.k in
+    let k = c.args.tree.now.k.number in
     let left = c.in-Cut.left.now in
     let right = c.in_ok-right-in-Cut.right.now in
     let lo = c.args.lo.now in

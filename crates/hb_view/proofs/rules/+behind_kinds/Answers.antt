@@ -9,7 +9,7 @@ use Rattle.hb_view.proofs.rules.+behind_kinds.Goals as goal
 
 pub returns-in_err-right-in-Cut : goal.returns-in_err-right-in-Cut
 returns-in_err-right-in-Cut t c =
-    let k = c.args.tree.now.k in
+    let k = c.args.tree.now.k.number in
     let left = c.in-Cut.left.now in
     let W : Tree → Type 0 = λ t. All (BelongsAt c.args.level) (leaves t) in
     rw c.from_residual.ensures (cut_stops k c.args.tree.now.bytes.now left c.in-Cut.axis c.in-Cut.value W (W (tree_there k left)) c.in-Cut.ensures
@@ -17,7 +17,7 @@ returns-in_err-right-in-Cut t c =
 
 pub returns-in_ok-right-in-Cut : goal.returns-in_ok-right-in-Cut
 returns-in_ok-right-in-Cut t c =
-    let k = c.args.tree.now.k in
+    let k = c.args.tree.now.k.number in
     let left = c.in-Cut.left.now in
     let right = c.in_ok-right-in-Cut.right.now in
     let W : Tree → Type 0 = λ t. All (BelongsAt c.args.level) (leaves t) in

@@ -6,7 +6,7 @@ use Rattle.hb_view.proofs.skipping.rest_of.Given as goal
 -- behind the trees that are left stands what stands behind the tree
 abbrev pub invariant-loop-trees : goal.invariant-loop-trees
 invariant-loop-trees l = record {
-  same : rest_after l.trees l.tree.k l.rest ≡ Some (rest_there l.tree.k l.tree.bytes.now);
+  same : rest_after l.trees l.tree.k.number l.rest ≡ Some (rest_there l.tree.k.number l.tree.bytes.now);
   few : l.trees + length l.rest ≤ 1 + length l.tree.bytes.now;
 }
 
