@@ -1,15 +1,16 @@
 //! The records of a leaf, from the front of bytes.
 ghost use Rattle.std.specs.Prelude.{◌≡◌, ◌*◌, ◌≤◌, length, IfSome, IsSome, option_map};
 ghost use Rattle.hb_page_codec.specs.Reading.{ReadsAs};
-ghost use Rattle.hb_page_codec.specs.ReadingFields.{record_at, records_at};
+ghost use Rattle.hb_page_codec.specs.ReadingFields.{record_at};
 ghost use Rattle.hb_view.specs.Corners.{point_there};
-ghost use Rattle.hb_view.specs.Lists.{records_there, after_there};
+ghost use Rattle.hb_view.specs.Seen.{list_seen, after_seen};
 ghost use Rattle.hb_view.specs.Views.{FindsAmong};
 
 use crate::attributes::Attributes;
 use crate::corners::{is_point, point_read};
 use crate::fields::body_of;
 use crate::skipping::behind_list;
+use crate::trees::ListView;
 use hb_page_codec::point_of;
 use hb_space::Point;
 use hb_space::form::BMAX;
@@ -36,23 +37,17 @@ fn parts_of(k: Attributes, bytes: &[u8]) -> Option<(&[u8], &[u8], &[u8])>
     Some((key, body, rest))
 }
 
-/// The body of the first of so many records that has the point. None where none has it.
-pub(crate) fn body_among<'a>(
-    k: Attributes,
-    count: u16,
-    first: &'a [u8],
-    p: &[u64],
-) -> Option<&'a [u8]>
-    requires attributes { length p.now ≡ k.number }
-    requires there { IsSome (records_at k.number count first.now) }
-    ensures found { FindsAmong p.now (records_there k.number count first.now) (option_map (λ b. b.now) result) }
+/// The body of the first of the records that has the point. None where none has it.
+pub(crate) fn body_among<'a>(list: &ListView<'a>, p: &[u64]) -> Option<&'a [u8]>
+    requires { length p.now ≡ list.now.k.number }
+    ensures found { FindsAmong p.now (list_seen list.now) (option_map (λ b. b.now) result) }
     ensures short { IfSome result (λ b. length b.now ≤ BMAX) }
 {
-    let mut rest = first;
-    for _ in 0..count {
-        match parts_of(k, rest) {
+    let mut rest = list.first;
+    for _ in 0..list.count {
+        match parts_of(list.k, rest) {
             Some((key, body, after)) => {
-                if is_point(k, key, p) {
+                if is_point(list.k, key, p) {
                     return Some(body);
                 }
                 rest = after;
@@ -63,12 +58,11 @@ pub(crate) fn body_among<'a>(
     None
 }
 
-/// The bytes behind so many records that stand there.
-pub(crate) fn rest_behind_list(k: Attributes, count: u16, first: &[u8]) -> &[u8]
-    requires { IsSome (records_at k.number count first.now) }
-    ensures { result.now ≡ after_there k.number count first.now }
+/// The bytes behind the records.
+pub(crate) fn rest_behind_list<'a>(list: &ListView<'a>) -> &'a [u8]
+    ensures { result.now ≡ after_seen list.now }
 {
-    match behind_list(k, count, first) {
+    match behind_list(list.k, list.count, list.first) {
         Some(rest) => rest,
         None => unreachable!(),
     }

@@ -11,7 +11,7 @@ use crate::LeafView;
 use crate::boxes::{box_between, hi_of, lo_of};
 use crate::lists::rest_behind_list;
 use crate::roots::{Root, root_of};
-use crate::trees::{Inside, TreeView};
+use crate::trees::{Inside, ListView, TreeView};
 use hb_space::Area;
 
 /// Goes over a tree whose box has these corners, to the first leaf that is this one. There it stops, and they are those of
@@ -44,7 +44,7 @@ fn past_named<'a>(
             lo[at] = least;
             Some(rest)
         }
-        Root::Records { count, first } => Some(rest_behind_list(k, count, first)),
+        Root::Records { count, first } => Some(rest_behind_list(&ListView { k, count, first })),
         Root::Child { page, rest } => past_tip(LeafView::Child(page), rest, sought),
         Root::Sibling { page, rest } => past_tip(LeafView::Sibling(page), rest, sought),
     }
@@ -107,7 +107,7 @@ fn past_place<'a>(
             if place == 0 {
                 return Err(LeafView::Records);
             }
-            Ok((place - 1, rest_behind_list(k, count, first)))
+            Ok((place - 1, rest_behind_list(&ListView { k, count, first })))
         }
         Root::Child { page, rest } => past_one(LeafView::Child(page), rest, place),
         Root::Sibling { page, rest } => past_one(LeafView::Sibling(page), rest, place),

@@ -3,22 +3,20 @@ ghost use Rattle.std.specs.Prelude.{◌≡◌, ◌≤◌, ◌↔◌, length, All
 ghost use Rattle.hb_space.specs.Boxes.{Holds};
 ghost use Rattle.hb_frag.specs.Leaves.{IsWellCut, leaves_of};
 ghost use Rattle.hb_frag.specs.Rules.{IsInOrder};
-ghost use Rattle.hb_page_codec.specs.ReadingFields.{records_at};
-ghost use Rattle.hb_view.specs.Lists.{records_there, after_there};
 ghost use Rattle.hb_view.specs.Walks.{WalksOver, ComesBehind, RiseFrom};
-ghost use Rattle.hb_view.specs.Seen.{tree_seen, rest_seen};
+ghost use Rattle.hb_view.specs.Seen.{box_seen, tree_seen, rest_seen, list_seen, after_seen};
 
-use crate::attributes::Attributes;
+use crate::corners::Bounds;
 use crate::lists::entry_of;
 use crate::roots::{Root, root_of};
-use crate::trees::TreeView;
+use crate::trees::{ListView, TreeView};
 use hb_space::Point;
 
-/// Whether the box of these corners holds the point.
-fn holds(lo: &[u64], hi: &[u64], p: &[u64]) -> bool
-    requires { length lo.now ≡ length hi.now }
-    ensures { IsTrue result ↔ Holds (record { lo = lo.now; hi = hi.now }) p.now }
+/// Whether the box holds the point.
+fn holds(bounds: &Bounds<'_>, p: &[u64]) -> bool
+    ensures { IsTrue result ↔ Holds (box_seen bounds.now) p.now }
 {
+    let Bounds { lo, hi } = *bounds;
     if p.len() != lo.len() {
         return false;
     }
@@ -40,33 +38,24 @@ fn follows(last: &Option<Point>, p: &Point) -> bool
     }
 }
 
-/// Whether the point lies in the box of these corners, and comes behind the last one.
-fn comes_next(lo: &[u64], hi: &[u64], last: &Option<Point>, p: &Point) -> bool
-    requires { length lo.now ≡ length hi.now }
-    ensures { IsTrue result ↔ (Holds (record { lo = lo.now; hi = hi.now }) p.now × ComesBehind last.now p.now) }
+/// Whether the point lies in the box, and comes behind the last one.
+fn comes_next(bounds: &Bounds<'_>, last: &Option<Point>, p: &Point) -> bool
+    ensures { IsTrue result ↔ (Holds (box_seen bounds.now) p.now × ComesBehind last.now p.now) }
 {
-    holds(lo, hi, p.values()) && follows(last, p)
+    holds(bounds, p.values()) && follows(last, p)
 }
 
-/// Goes over so many records whose points lie in the box of these corners and rise.
-fn behind_rising<'a>(
-    k: Attributes,
-    count: u16,
-    first: &'a [u8],
-    lo: &[u64],
-    hi: &[u64],
-) -> Option<&'a [u8]>
-    requires there { IsSome (records_at k.number count first.now) }
-    requires same { length lo.now ≡ length hi.now }
-    ensures { WalksOver (RiseFrom (record { lo = lo.now; hi = hi.now }) None (records_there k.number count first.now))
-        (after_there k.number count first.now) (option_map (λ b. b.now) result) }
+/// Goes over records whose points lie in the box and rise.
+fn behind_rising<'a>(list: &ListView<'a>, bounds: &Bounds<'_>) -> Option<&'a [u8]>
+    ensures { WalksOver (RiseFrom (box_seen bounds.now) None (list_seen list.now))
+        (after_seen list.now) (option_map (λ b. b.now) result) }
 {
-    let mut rest = first;
+    let mut rest = list.first;
     let mut last = None;
-    for _ in 0..count {
-        match entry_of(k, rest) {
+    for _ in 0..list.count {
+        match entry_of(list.k, rest) {
             Some((key, _, after)) => {
-                if !comes_next(lo, hi, &last, &key) {
+                if !comes_next(bounds, &last, &key) {
                     return None;
                 }
                 last = Some(key);
@@ -107,7 +96,10 @@ pub(crate) fn behind_order<'a>(
             lo[at] = least;
             from
         }
-        Root::Records { count, first } => behind_rising(k, count, first, lo, hi),
+        Root::Records { count, first } => {
+            let list = ListView { k, count, first };
+            behind_rising(&list, &Bounds { lo, hi })
+        }
         Root::Child { rest, .. } => Some(rest),
         Root::Sibling { rest, .. } => Some(rest),
     }

@@ -5,19 +5,19 @@ ghost use Rattle.hb_space.specs.Boxes.{Cuts};
 ghost use Rattle.hb_frag.specs.Leaves.{IsWellCut, leaves};
 ghost use Rattle.hb_frag.specs.Rules.{AreAlike, BelongsAt, IsNormal};
 ghost use Rattle.hb_view.specs.Walks.{WalksOver};
-ghost use Rattle.hb_view.specs.Seen.{tree_seen, rest_seen};
+ghost use Rattle.hb_view.specs.Seen.{box_seen, tree_seen, rest_seen};
 
+use crate::corners::Bounds;
 use crate::lists::rest_behind_list;
 use crate::roots::{Root, root_of};
-use crate::trees::TreeView;
+use crate::trees::{ListView, TreeView};
 
-/// Whether the plane cuts the box of these corners.
-fn cuts(lo: &[u64], hi: &[u64], axis: u8, value: u64) -> bool
-    requires { length lo.now ≡ length hi.now }
-    ensures { IsTrue result ↔ Cuts (record { lo = lo.now; hi = hi.now }) axis value }
+/// Whether the plane cuts the box.
+fn cuts(bounds: &Bounds<'_>, axis: u8, value: u64) -> bool
+    ensures { IsTrue result ↔ Cuts (box_seen bounds.now) axis value }
 {
     let at = usize::from(axis);
-    at < lo.len() && lo[at] < value && value <= hi[at]
+    at < bounds.lo.len() && bounds.lo[at] < value && value <= bounds.hi[at]
 }
 
 /// Goes over a tree whose box has these corners, where every cut cuts its box. The corners stay as they are.
@@ -35,7 +35,7 @@ pub(crate) fn behind_cuts<'a>(
     let k = tree.k;
     match root_of(tree) {
         Root::Cut { axis, value, left } => {
-            if !cuts(lo, hi, axis, value) {
+            if !cuts(&Bounds { lo, hi }, axis, value) {
                 return None;
             }
             let at = usize::from(axis);
@@ -50,7 +50,7 @@ pub(crate) fn behind_cuts<'a>(
             lo[at] = least;
             from
         }
-        Root::Records { count, first } => Some(rest_behind_list(k, count, first)),
+        Root::Records { count, first } => Some(rest_behind_list(&ListView { k, count, first })),
         Root::Child { rest, .. } => Some(rest),
         Root::Sibling { rest, .. } => Some(rest),
     }
@@ -71,7 +71,7 @@ pub(crate) fn behind_kinds<'a>(tree: &TreeView<'a>, level: u8) -> Option<&'a [u8
             if level > 0 {
                 return None;
             }
-            Some(rest_behind_list(k, count, first))
+            Some(rest_behind_list(&ListView { k, count, first }))
         }
         Root::Child { rest, .. } => {
             if level == 0 {
@@ -109,7 +109,7 @@ pub(crate) fn behind_normal<'a>(tree: &TreeView<'a>) -> Option<&'a [u8]>
             }
             behind_normal(&right)
         }
-        Root::Records { count, first } => Some(rest_behind_list(k, count, first)),
+        Root::Records { count, first } => Some(rest_behind_list(&ListView { k, count, first })),
         Root::Child { rest, .. } => Some(rest),
         Root::Sibling { rest, .. } => Some(rest),
     }

@@ -1,6 +1,7 @@
-//! The box and the tree of a page in use, where they stand.
+//! The box, the tree and the lists of records of a page in use, where they stand.
 ghost use Rattle.std.specs.Prelude.{◌≤◌, ◌*◌, length, IsSome};
 ghost use Rattle.hb_space.specs.Boxes.{IsArea};
+ghost use Rattle.hb_page_codec.specs.ReadingFields.{records_at};
 ghost use Rattle.hb_page_codec.specs.ReadingPages.{tree_at};
 ghost use Rattle.hb_view.specs.Corners.{corners_there};
 
@@ -23,4 +24,13 @@ pub(crate) struct Inside<'a> {
     pub tree: TreeView<'a>,
     ghost room: { 16 * tree.k.number ≤ length corners.now },
     ghost is_area: { IsArea (corners_there tree.k.number corners.now) },
+}
+
+/// So many records as the bytes that they stand at the front of.
+#[derive(Clone, Copy, Debug)]
+pub(crate) struct ListView<'a> {
+    pub k: Attributes,
+    pub count: u16,
+    pub first: &'a [u8],
+    ghost listed: { IsSome (records_at k.number count first.now) },
 }

@@ -10,7 +10,7 @@ use crate::LeafView;
 use crate::lists::{body_among, rest_behind_list};
 use crate::roots::{Root, root_of};
 use crate::skipping::rest_of;
-use crate::trees::TreeView;
+use crate::trees::{ListView, TreeView};
 use hb_space::form::{BMAX, PAGE};
 
 /// The leaf whose box holds the point, in a tree whose box has these corners. They become those of the leaf's box.
@@ -61,7 +61,7 @@ pub(crate) fn find_in<'a>(tree: &TreeView<'a>, p: &[u64]) -> Option<&'a [u8]>
                 find_in(&TreeView { k, bytes: right }, p)
             }
         }
-        Root::Records { count, first } => body_among(k, count, first, p),
+        Root::Records { count, first } => body_among(&ListView { k, count, first }, p),
         Root::Child { .. } => None,
         Root::Sibling { .. } => None,
     }
@@ -104,7 +104,7 @@ pub(crate) fn weigh<'a>(tree: &TreeView<'a>) -> (u32, &'a [u8])
             (below + from, rest)
         }
         Root::Records { count, first } => {
-            let rest = rest_behind_list(k, count, first);
+            let rest = rest_behind_list(&ListView { k, count, first });
             (u32::from(count).max(1), rest)
         }
         Root::Child { rest, .. } | Root::Sibling { rest, .. } => (1, rest),
