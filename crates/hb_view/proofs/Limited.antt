@@ -1,5 +1,5 @@
 -- What is told of a page by its parts is told of the page.
-use Rattle.std.proofs.Common.{◌≡◌, ℕ, List, sym, subst}
+use Rattle.std.proofs.Common.{◌≡◌, ℕ, subst}
 use Rattle.hb_space.specs.Boxes.{Area}
 use Rattle.hb_frag.specs.declared.pages.LivePage.{LivePage}
 use Rattle.hb_frag.specs.declared.pages.Page.{Page}
@@ -8,19 +8,6 @@ use Rattle.hb_frag.specs.Trees.{Tree}
 use Rattle.hb_view.specs.Seen.{tree_seen, area_seen}
 use Rattle.hb_view.specs.Views.{IsLiveAnd, HasInside}
 use Rattle.hb_view.specs.declared.trees.Inside.{Inside}
-
--- a box whose corners were copied
-pub at_box : (W : Area → Type 0) (area : Area) (lo hi : List ℕ) → lo ≡ area.lo → hi ≡ area.hi → W (record { lo = lo; hi = hi }) → W area
-at_box W area lo hi el eh h =
-    let L : List ℕ → Type 0 = λ l. W (record { lo = l; hi = hi }) in
-    let H : List ℕ → Type 0 = λ l. W (record { lo = area.lo; hi = l }) in
-    subst H eh (subst L el h)
-
-pub from_box : (W : Area → Type 0) (area : Area) (lo hi : List ℕ) → lo ≡ area.lo → hi ≡ area.hi → W area → W (record { lo = lo; hi = hi })
-from_box W area lo hi el eh h =
-    let L : List ℕ → Type 0 = λ l. W (record { lo = l; hi = hi }) in
-    let H : List ℕ → Type 0 = λ l. W (record { lo = area.lo; hi = l }) in
-    subst L (sym el) (subst H (sym eh) h)
 
 -- a page in use, by its level, its box and its tree
 pub by_parts : (p : Page) (inside : Inside) (level : ℕ) (P : LivePage → Type 0) → IsLiveAnd p (λ page. HasInside page inside) → IsLiveAnd p (λ page. level ≡ page.level)

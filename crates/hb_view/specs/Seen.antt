@@ -7,7 +7,6 @@ use Rattle.hb_view.specs.Corners.{corners_there}
 use Rattle.hb_view.specs.Lists.{records_there, after_there}
 use Rattle.hb_view.specs.Roots.{tree_there, rest_there, IsRootAt}
 use Rattle.hb_view.specs.declared.roots.Root.{Root}
-use Rattle.hb_view.specs.declared.corners.Bounds.{Bounds}
 use Rattle.hb_view.specs.declared.trees.Inside.{Inside}
 use Rattle.hb_view.specs.declared.trees.ListView.{ListView}
 use Rattle.hb_view.specs.declared.trees.TreeView.{TreeView}
@@ -25,9 +24,6 @@ HasRoot view root = IsRootAt view.k.number view.bytes.now root
 
 abbrev pub area_seen : Inside → Area
 area_seen inside = corners_there inside.tree.k.number inside.corners.now
-
-abbrev pub box_seen : Bounds → Area
-box_seen bounds = record { lo = bounds.lo.now; hi = bounds.hi.now }
 
 abbrev pub list_seen : ListView → List Record
 list_seen list = records_there list.k.number list.count list.first.now

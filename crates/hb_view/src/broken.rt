@@ -7,7 +7,7 @@ ghost use Rattle.hb_space.specs.Boxes.{Area as Extent, IsArea};
 ghost use Rattle.hb_view.specs.Limits.{meta_with};
 ghost use Rattle.hb_view.specs.Seen.{tree_seen, area_seen};
 
-use crate::boxes::{hi_of, lo_of};
+use crate::boxes::bounds_of;
 use crate::order::behind_order;
 use crate::roots::{Root, root_of};
 use crate::rules::{behind_cuts, behind_kinds, behind_normal};
@@ -32,9 +32,8 @@ pub(crate) struct Limits {
 fn is_cut(inside: &Inside<'_>) -> bool
     ensures { IsTrue result ↔ IsWellCut (tree_seen inside.now.tree) (area_seen inside.now) }
 {
-    let mut lo = lo_of(inside);
-    let mut hi = hi_of(inside);
-    match behind_cuts(&inside.tree, lo.as_mut_slice(), hi.as_mut_slice()) {
+    let mut bounds = bounds_of(inside);
+    match behind_cuts(&inside.tree, &mut bounds) {
         Some(_) => true,
         None => false,
     }
@@ -85,9 +84,8 @@ fn is_in_order(inside: &Inside<'_>) -> bool
     requires { IsWellCut (tree_seen inside.now.tree) (area_seen inside.now) }
     ensures { IsTrue result ↔ All IsInOrder (leaves_of (tree_seen inside.now.tree) (area_seen inside.now)) }
 {
-    let mut lo = lo_of(inside);
-    let mut hi = hi_of(inside);
-    match behind_order(&inside.tree, lo.as_mut_slice(), hi.as_mut_slice()) {
+    let mut bounds = bounds_of(inside);
+    match behind_order(&inside.tree, &mut bounds) {
         Some(_) => true,
         None => false,
     }

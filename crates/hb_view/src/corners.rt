@@ -13,14 +13,6 @@ use hb_space::form::KMAX;
 /// A corner of a box, of which each value may be changed.
 pub(crate) type Corner = ArrayVec<u64, KMAX>;
 
-/// A box as the values of its corners.
-#[derive(Clone, Copy, Debug)]
-pub(crate) struct Bounds<'a> {
-    pub lo: &'a [u64],
-    pub hi: &'a [u64],
-    ghost same: { length lo.now ≡ length hi.now },
-}
-
 /// The bytes from a place on.
 pub(crate) fn from_place(bytes: &[u8], place: usize) -> &[u8]
     requires { place ≤ length bytes.now }

@@ -21,6 +21,7 @@
 #![tactic(auto)]
 
 mod attributes;
+mod bounds;
 mod boxes;
 mod broken;
 mod checking;

@@ -8,7 +8,8 @@ ghost use Rattle.hb_view.specs.Seen.{tree_seen, rest_seen, area_seen};
 ghost use Rattle.hb_view.specs.Views.{ShowsLeaf};
 
 use crate::LeafView;
-use crate::boxes::{box_between, hi_of, lo_of};
+use crate::bounds::Bounds;
+use crate::boxes::{area_of, bounds_of};
 use crate::lists::rest_behind_list;
 use crate::roots::{Root, root_of};
 use crate::trees::{Inside, ListView, TreeView};
@@ -16,32 +17,21 @@ use hb_space::Area;
 
 /// Goes over a tree whose box has these corners, to the first leaf that is this one. There it stops, and they are those of
 /// the leaf's box. Where no leaf is, they stay as they are.
-fn past_named<'a>(
-    tree: &TreeView<'a>,
-    lo: &mut [u64],
-    hi: &mut [u64],
-    sought: LeafView,
-) -> Option<&'a [u8]>
-    requires corners { IsArea (record { lo = lo.old; hi = hi.old }) }
-    requires well_cut { IsWellCut (tree_seen tree.now) (record { lo = lo.old; hi = hi.old }) }
-    ensures stops { StopsAtLeaf (named_box sought (leaves_of (tree_seen tree.now) (record { lo = lo.old; hi = hi.old })))
-        (record { lo = lo.new; hi = hi.new }) (rest_seen tree.now) (option_map (λ b. b.now) result) }
-    ensures lo { IfSome result (λ b. lo.new ≡ lo.old) }
-    ensures hi { IfSome result (λ b. hi.new ≡ hi.old) }
-    ensures area { IsArea (record { lo = lo.new; hi = hi.new }) }
+fn past_named<'a>(tree: &TreeView<'a>, bounds: &mut Bounds, sought: LeafView) -> Option<&'a [u8]>
+    requires well_cut { IsWellCut (tree_seen tree.now) bounds.old }
+    ensures stops { StopsAtLeaf (named_box sought (leaves_of (tree_seen tree.now) bounds.old))
+        bounds.new (rest_seen tree.now) (option_map (λ b. b.now) result) }
+    ensures same { IfSome result (λ b. bounds.new ≡ bounds.old) }
 {
     let k = tree.k;
     match root_of(tree) {
         Root::Cut { axis, value, left } => {
-            let at = usize::from(axis);
-            let greatest = hi[at];
-            hi[at] = value - 1;
-            let right = past_named(&TreeView { k, bytes: left }, lo, hi, sought)?;
-            hi[at] = greatest;
-            let least = lo[at];
-            lo[at] = value;
-            let rest = past_named(&TreeView { k, bytes: right }, lo, hi, sought)?;
-            lo[at] = least;
+            let greatest = bounds.take_below(axis, value);
+            let right = past_named(&TreeView { k, bytes: left }, bounds, sought)?;
+            bounds.put_hi(axis, greatest);
+            let least = bounds.take_from(axis, value);
+            let rest = past_named(&TreeView { k, bytes: right }, bounds, sought)?;
+            bounds.put_lo(axis, least);
             Some(rest)
         }
         Root::Records { count, first } => Some(rest_behind_list(&ListView { k, count, first })),
@@ -62,11 +52,10 @@ pub(crate) fn named_in(inside: &Inside<'_>, sought: LeafView) -> Option<Area>
     requires well_cut { IsWellCut (tree_seen inside.now.tree) (area_seen inside.now) }
     ensures { result ≡ named_box sought (leaves_of (tree_seen inside.now.tree) (area_seen inside.now)) }
 {
-    let mut lo = lo_of(inside);
-    let mut hi = hi_of(inside);
-    match past_named(&inside.tree, lo.as_mut_slice(), hi.as_mut_slice(), sought) {
+    let mut bounds = bounds_of(inside);
+    match past_named(&inside.tree, &mut bounds, sought) {
         Some(_) => None,
-        None => Some(box_between(&lo, &hi)),
+        None => Some(area_of(&bounds)),
     }
 }
 
@@ -74,33 +63,26 @@ pub(crate) fn named_in(inside: &Inside<'_>, sought: LeafView) -> Option<Area>
 /// of the leaf's box. Where the tree has fewer leaves, they stay as they are, and it hands on the place behind it.
 fn past_place<'a>(
     tree: &TreeView<'a>,
-    lo: &mut [u64],
-    hi: &mut [u64],
+    bounds: &mut Bounds,
     place: u32,
 ) -> Result<(u32, &'a [u8]), LeafView>
-    requires corners { IsArea (record { lo = lo.old; hi = hi.old }) }
-    requires well_cut { IsWellCut (tree_seen tree.now) (record { lo = lo.old; hi = hi.old }) }
+    requires well_cut { IsWellCut (tree_seen tree.now) bounds.old }
     ensures leaf { IfErr result (λ view. ShowsLeaf
-        (slice_get (leaves_of (tree_seen tree.now) (record { lo = lo.old; hi = hi.old })) place)
-        view (record { lo = lo.new; hi = hi.new })) }
-    ensures past { IfOk result (λ r. place ≡ length (leaves_of (tree_seen tree.now) (record { lo = lo.old; hi = hi.old })) + r.0) }
+        (slice_get (leaves_of (tree_seen tree.now) bounds.old) place)
+        view bounds.new) }
+    ensures past { IfOk result (λ r. place ≡ length (leaves_of (tree_seen tree.now) bounds.old) + r.0) }
     ensures rest { IfOk result (λ r. r.1.now ≡ rest_seen tree.now) }
-    ensures lo { IfOk result (λ r. lo.new ≡ lo.old) }
-    ensures hi { IfOk result (λ r. hi.new ≡ hi.old) }
-    ensures area { IsArea (record { lo = lo.new; hi = hi.new }) }
+    ensures same { IfOk result (λ r. bounds.new ≡ bounds.old) }
 {
     let k = tree.k;
     match root_of(tree) {
         Root::Cut { axis, value, left } => {
-            let at = usize::from(axis);
-            let greatest = hi[at];
-            hi[at] = value - 1;
-            let (behind, right) = past_place(&TreeView { k, bytes: left }, lo, hi, place)?;
-            hi[at] = greatest;
-            let least = lo[at];
-            lo[at] = value;
-            let further = past_place(&TreeView { k, bytes: right }, lo, hi, behind)?;
-            lo[at] = least;
+            let greatest = bounds.take_below(axis, value);
+            let (behind, right) = past_place(&TreeView { k, bytes: left }, bounds, place)?;
+            bounds.put_hi(axis, greatest);
+            let least = bounds.take_from(axis, value);
+            let further = past_place(&TreeView { k, bytes: right }, bounds, behind)?;
+            bounds.put_lo(axis, least);
             Ok(further)
         }
         Root::Records { count, first } => {
@@ -132,10 +114,9 @@ pub(crate) fn leaf_of_place(inside: &Inside<'_>, place: u32) -> Option<(LeafView
     ensures { MatchOption result (slice_get (leaves_of (tree_seen inside.now.tree) (area_seen inside.now)) place ≡ None)
         (λ r. ShowsLeaf (slice_get (leaves_of (tree_seen inside.now.tree) (area_seen inside.now)) place) r.0 r.1) }
 {
-    let mut lo = lo_of(inside);
-    let mut hi = hi_of(inside);
-    match past_place(&inside.tree, lo.as_mut_slice(), hi.as_mut_slice(), place) {
+    let mut bounds = bounds_of(inside);
+    match past_place(&inside.tree, &mut bounds, place) {
         Ok(_) => None,
-        Err(leaf) => Some((leaf, box_between(&lo, &hi))),
+        Err(leaf) => Some((leaf, area_of(&bounds))),
     }
 }

@@ -4,19 +4,20 @@ ghost use Rattle.hb_space.specs.Boxes.{Holds};
 ghost use Rattle.hb_frag.specs.Leaves.{IsWellCut, leaves_of};
 ghost use Rattle.hb_frag.specs.Rules.{IsInOrder};
 ghost use Rattle.hb_view.specs.Walks.{WalksOver, ComesBehind, RiseFrom};
-ghost use Rattle.hb_view.specs.Seen.{box_seen, tree_seen, rest_seen, list_seen, after_seen};
+ghost use Rattle.hb_view.specs.Seen.{tree_seen, rest_seen, list_seen, after_seen};
 
-use crate::corners::Bounds;
+use crate::bounds::Bounds;
 use crate::lists::entry_of;
 use crate::roots::{Root, root_of};
 use crate::trees::{ListView, TreeView};
 use hb_space::Point;
 
 /// Whether the box holds the point.
-fn holds(bounds: &Bounds<'_>, p: &[u64]) -> bool
-    ensures { IsTrue result ↔ Holds (box_seen bounds.now) p.now }
+fn holds(bounds: &Bounds, p: &[u64]) -> bool
+    ensures { IsTrue result ↔ Holds bounds.now p.now }
 {
-    let Bounds { lo, hi } = *bounds;
+    let lo = bounds.lo();
+    let hi = bounds.hi();
     if p.len() != lo.len() {
         return false;
     }
@@ -39,15 +40,15 @@ fn follows(last: &Option<Point>, p: &Point) -> bool
 }
 
 /// Whether the point lies in the box, and comes behind the last one.
-fn comes_next(bounds: &Bounds<'_>, last: &Option<Point>, p: &Point) -> bool
-    ensures { IsTrue result ↔ (Holds (box_seen bounds.now) p.now × ComesBehind last.now p.now) }
+fn comes_next(bounds: &Bounds, last: &Option<Point>, p: &Point) -> bool
+    ensures { IsTrue result ↔ (Holds bounds.now p.now × ComesBehind last.now p.now) }
 {
     holds(bounds, p.values()) && follows(last, p)
 }
 
 /// Goes over records whose points lie in the box and rise.
-fn behind_rising<'a>(list: &ListView<'a>, bounds: &Bounds<'_>) -> Option<&'a [u8]>
-    ensures { WalksOver (RiseFrom (box_seen bounds.now) None (list_seen list.now))
+fn behind_rising<'a>(list: &ListView<'a>, bounds: &Bounds) -> Option<&'a [u8]>
+    ensures { WalksOver (RiseFrom bounds.now None (list_seen list.now))
         (after_seen list.now) (option_map (λ b. b.now) result) }
 {
     let mut rest = list.first;
@@ -69,36 +70,27 @@ fn behind_rising<'a>(list: &ListView<'a>, bounds: &Bounds<'_>) -> Option<&'a [u8
 
 /// Goes over a tree whose box has these corners, where the records of each leaf lie in its box and rise. The corners stay as
 /// they are.
-pub(crate) fn behind_order<'a>(
-    tree: &TreeView<'a>,
-    lo: &mut [u64],
-    hi: &mut [u64],
-) -> Option<&'a [u8]>
-    requires same { length lo.old ≡ length hi.old }
-    requires well_cut { IsWellCut (tree_seen tree.now) (record { lo = lo.old; hi = hi.old }) }
-    ensures passes { WalksOver (All IsInOrder (leaves_of (tree_seen tree.now) (record { lo = lo.old; hi = hi.old })))
+pub(crate) fn behind_order<'a>(tree: &TreeView<'a>, bounds: &mut Bounds) -> Option<&'a [u8]>
+    requires well_cut { IsWellCut (tree_seen tree.now) bounds.old }
+    ensures passes { WalksOver (All IsInOrder (leaves_of (tree_seen tree.now) bounds.old))
         (rest_seen tree.now) (option_map (λ b. b.now) result) }
-    ensures lo { lo.new ≡ lo.old }
-    ensures hi { hi.new ≡ hi.old }
+    ensures same { bounds.new ≡ bounds.old }
 {
     let k = tree.k;
     match root_of(tree) {
         Root::Cut { axis, value, left } => {
-            let at = usize::from(axis);
-            let greatest = hi[at];
-            hi[at] = value - 1;
-            let below = behind_order(&TreeView { k, bytes: left }, lo, hi);
-            hi[at] = greatest;
+            let greatest = bounds.take_below(axis, value);
+            let below = behind_order(&TreeView { k, bytes: left }, bounds);
+            bounds.put_hi(axis, greatest);
             let right = below?;
-            let least = lo[at];
-            lo[at] = value;
-            let from = behind_order(&TreeView { k, bytes: right }, lo, hi);
-            lo[at] = least;
+            let least = bounds.take_from(axis, value);
+            let from = behind_order(&TreeView { k, bytes: right }, bounds);
+            bounds.put_lo(axis, least);
             from
         }
         Root::Records { count, first } => {
             let list = ListView { k, count, first };
-            behind_rising(&list, &Bounds { lo, hi })
+            behind_rising(&list, bounds)
         }
         Root::Child { rest, .. } => Some(rest),
         Root::Sibling { rest, .. } => Some(rest),

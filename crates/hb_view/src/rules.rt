@@ -5,49 +5,41 @@ ghost use Rattle.hb_space.specs.Boxes.{Cuts};
 ghost use Rattle.hb_frag.specs.Leaves.{IsWellCut, leaves};
 ghost use Rattle.hb_frag.specs.Rules.{AreAlike, BelongsAt, IsNormal};
 ghost use Rattle.hb_view.specs.Walks.{WalksOver};
-ghost use Rattle.hb_view.specs.Seen.{box_seen, tree_seen, rest_seen};
+ghost use Rattle.hb_view.specs.Seen.{tree_seen, rest_seen};
 
-use crate::corners::Bounds;
+use crate::bounds::Bounds;
 use crate::lists::rest_behind_list;
 use crate::roots::{Root, root_of};
 use crate::trees::{ListView, TreeView};
 
 /// Whether the plane cuts the box.
-fn cuts(bounds: &Bounds<'_>, axis: u8, value: u64) -> bool
-    ensures { IsTrue result ↔ Cuts (box_seen bounds.now) axis value }
+fn cuts(bounds: &Bounds, axis: u8, value: u64) -> bool
+    ensures { IsTrue result ↔ Cuts bounds.now axis value }
 {
     let at = usize::from(axis);
-    at < bounds.lo.len() && bounds.lo[at] < value && value <= bounds.hi[at]
+    let lo = bounds.lo();
+    at < lo.len() && lo[at] < value && value <= bounds.hi()[at]
 }
 
 /// Goes over a tree whose box has these corners, where every cut cuts its box. The corners stay as they are.
-pub(crate) fn behind_cuts<'a>(
-    tree: &TreeView<'a>,
-    lo: &mut [u64],
-    hi: &mut [u64],
-) -> Option<&'a [u8]>
-    requires same { length lo.old ≡ length hi.old }
-    ensures passes { WalksOver (IsWellCut (tree_seen tree.now) (record { lo = lo.old; hi = hi.old }))
+pub(crate) fn behind_cuts<'a>(tree: &TreeView<'a>, bounds: &mut Bounds) -> Option<&'a [u8]>
+    ensures passes { WalksOver (IsWellCut (tree_seen tree.now) bounds.old)
         (rest_seen tree.now) (option_map (λ b. b.now) result) }
-    ensures lo { lo.new ≡ lo.old }
-    ensures hi { hi.new ≡ hi.old }
+    ensures same { bounds.new ≡ bounds.old }
 {
     let k = tree.k;
     match root_of(tree) {
         Root::Cut { axis, value, left } => {
-            if !cuts(&Bounds { lo, hi }, axis, value) {
+            if !cuts(bounds, axis, value) {
                 return None;
             }
-            let at = usize::from(axis);
-            let greatest = hi[at];
-            hi[at] = value - 1;
-            let below = behind_cuts(&TreeView { k, bytes: left }, lo, hi);
-            hi[at] = greatest;
+            let greatest = bounds.take_below(axis, value);
+            let below = behind_cuts(&TreeView { k, bytes: left }, bounds);
+            bounds.put_hi(axis, greatest);
             let right = below?;
-            let least = lo[at];
-            lo[at] = value;
-            let from = behind_cuts(&TreeView { k, bytes: right }, lo, hi);
-            lo[at] = least;
+            let least = bounds.take_from(axis, value);
+            let from = behind_cuts(&TreeView { k, bytes: right }, bounds);
+            bounds.put_lo(axis, least);
             from
         }
         Root::Records { count, first } => Some(rest_behind_list(&ListView { k, count, first })),

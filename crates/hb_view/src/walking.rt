@@ -7,20 +7,19 @@ ghost use Rattle.hb_view.specs.Seen.{tree_seen, rest_seen};
 ghost use Rattle.hb_view.specs.Views.{ShowsLeaf, TellsBody};
 
 use crate::LeafView;
+use crate::bounds::Bounds;
 use crate::lists::{body_among, rest_behind_list};
 use crate::roots::{Root, root_of};
 use crate::skipping::rest_of;
 use crate::trees::{ListView, TreeView};
 use hb_space::form::{BMAX, PAGE};
 
-/// The leaf whose box holds the point, in a tree whose box has these corners. They become those of the leaf's box.
-pub(crate) fn descend(tree: &TreeView<'_>, lo: &mut [u64], hi: &mut [u64], p: &[u64]) -> LeafView
-    requires corners { IsArea (record { lo = lo.old; hi = hi.old }) }
-    requires well_cut { IsWellCut (tree_seen tree.now) (record { lo = lo.old; hi = hi.old }) }
-    requires held { Holds (record { lo = lo.old; hi = hi.old }) p.now }
-    ensures leaf { ShowsLeaf (first_at p.now (leaves_of (tree_seen tree.now) (record { lo = lo.old; hi = hi.old })))
-        result (record { lo = lo.new; hi = hi.new }) }
-    ensures area { IsArea (record { lo = lo.new; hi = hi.new }) }
+/// The leaf whose box holds the point, in a tree with this box, which becomes the leaf's.
+pub(crate) fn descend(tree: &TreeView<'_>, bounds: &mut Bounds, p: &[u64]) -> LeafView
+    requires area { IsArea bounds.old }
+    requires well_cut { IsWellCut (tree_seen tree.now) bounds.old }
+    requires held { Holds bounds.old p.now }
+    ensures { ShowsLeaf (first_at p.now (leaves_of (tree_seen tree.now) bounds.old)) result bounds.new }
 {
     let k = tree.k;
     match root_of(tree) {
@@ -28,12 +27,12 @@ pub(crate) fn descend(tree: &TreeView<'_>, lo: &mut [u64], hi: &mut [u64], p: &[
             let left = TreeView { k, bytes: left };
             let at = usize::from(axis);
             if p[at] < value {
-                hi[at] = value - 1;
-                descend(&left, lo, hi, p)
+                bounds.take_below(axis, value);
+                descend(&left, bounds, p)
             } else {
-                lo[at] = value;
+                bounds.take_from(axis, value);
                 let right = rest_of(&left);
-                descend(&TreeView { k, bytes: right }, lo, hi, p)
+                descend(&TreeView { k, bytes: right }, bounds, p)
             }
         }
         Root::Records { .. } => LeafView::Records,

@@ -3,7 +3,6 @@ use Rattle.std.proofs.lemmas.Bool.{false≢true}
 use Rattle.hb_space.specs.Boxes.{Area}
 use Rattle.hb_space.specs.declared.records.Record.{Record}
 use Rattle.hb_view.specs.Lists.{records_there}
-use Rattle.hb_view.specs.Seen.{box_seen}
 use Rattle.hb_view.specs.Walks.{RiseFrom}
 use Rattle.hb_view.proofs.Listed.{left_list, left_behind, others_there, none_missing}
 use Rattle.hb_view.proofs.Risen.{step_stops, step_goes_on, all_rose, none_after}
@@ -11,7 +10,7 @@ use Rattle.hb_view.proofs.order.behind_rising.Goals as goal
 
 pub returns-then-not-comes_next : goal.returns-then-not-comes_next
 returns-then-not-comes_next c =
-    let area : Area = box_seen c.args.bounds.now in
+    let area : Area = c.args.bounds.now in
     let all = RiseFrom area None (records_there c.args.list.now.k.number c.args.list.now.count c.args.list.now.first.now) in
     let r : Record = record { key = c.in-Some.key; body = c.in-Some.field-0-1.now } in
     let left = records_there c.args.list.now.k.number (c.args.list.now.count - c.loop.counter) c.loop.rest.now in
@@ -24,7 +23,7 @@ unreachable-requires c = none_missing c.args.list.now.k.number c.args.list.now.c
 
 pub loop-preserved : goal.loop-preserved
 loop-preserved c =
-    let area : Area = box_seen c.args.bounds.now in
+    let area : Area = c.args.bounds.now in
     let all = RiseFrom area None (records_there c.args.list.now.k.number c.args.list.now.count c.args.list.now.first.now) in
     let r : Record = record { key = c.in-Some.key; body = c.in-Some.field-0-1.now } in
     let left = records_there c.args.list.now.k.number (c.args.list.now.count - c.loop.counter) c.loop.rest.now in
@@ -38,7 +37,7 @@ loop-preserved c =
 
 pub returns : goal.returns
 returns c =
-    let area : Area = box_seen c.args.bounds.now in
+    let area : Area = c.args.bounds.now in
     let all = RiseFrom area None (records_there c.args.list.now.k.number c.args.list.now.count c.args.list.now.first.now) in (
       all_rose c.args.list.now.k.number c.args.list.now.count c.loop.counter c.loop.rest.now area c.loop.last all c.loop-test.false c.loop.invariant.same,
       none_after c.args.list.now.k.number c.args.list.now.count c.loop.counter c.loop.rest.now c.loop-test.false ∙ c.loop.invariant.after,
