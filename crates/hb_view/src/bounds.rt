@@ -1,8 +1,11 @@
 //! A box that becomes one of its sides, and itself again.
 ghost use Rattle.std.specs.Prelude.{◌≡◌, ◌<◌, length, slice_index, slice_set};
 ghost use Rattle.hb_space.specs.Boxes.{Cuts, IsArea, side_below, side_from};
+ghost use Rattle.hb_view.specs.Seen.{area_seen};
 
-use crate::corners::Corner;
+use crate::corners::{Corner, corner_at, from_place};
+use crate::trees::Inside;
+use hb_space::{Area, Point};
 use std::marker::Model;
 
 /// A box as its corners, of which values may be changed.
@@ -23,28 +26,36 @@ impl Model for Bounds {
 }
 
 impl Bounds {
-    /// The box between two corners of one.
-    pub(crate) fn of(lo: Corner, hi: Corner) -> Bounds
-        requires { IsArea (record { lo = lo.items; hi = hi.items }) }
-        ensures { result ≡ record { lo = lo.items; hi = hi.items } }
+    /// The box that stands there.
+    pub(crate) fn of(inside: &Inside<'_>) -> Bounds
+        ensures { result ≡ area_seen inside.now }
     {
-        Bounds { lo, hi }
+        let k = inside.tree.k;
+        let hi = from_place(inside.corners, 8 * usize::from(k.number));
+        Bounds {
+            lo: corner_at(k, inside.corners),
+            hi: corner_at(k, hi),
+        }
     }
 
-    /// The least values.
-    pub(crate) fn lo(&self) -> &[u64]
-        ensures value { result.now ≡ self.now.lo }
-        ensures area { IsArea self.now }
+    /// The box as a value.
+    pub(crate) fn area(&self) -> Area
+        ensures { result ≡ self.now }
     {
-        self.lo.as_slice()
+        let (lo, hi) = self.corners();
+        match Area::between(Point::new(lo), Point::new(hi)) {
+            Some(area) => area,
+            None => unreachable!(),
+        }
     }
 
-    /// The greatest values.
-    pub(crate) fn hi(&self) -> &[u64]
-        ensures value { result.now ≡ self.now.hi }
+    /// The least values and the greatest ones.
+    pub(crate) fn corners(&self) -> (&[u64], &[u64])
+        ensures lo { result.0.now ≡ self.now.lo }
+        ensures hi { result.1.now ≡ self.now.hi }
         ensures area { IsArea self.now }
     {
-        self.hi.as_slice()
+        (self.lo.as_slice(), self.hi.as_slice())
     }
 
     /// Becomes its side below the plane. Hands back the greatest value that it had.

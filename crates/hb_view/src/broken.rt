@@ -1,13 +1,13 @@
 //! The first rule that a page in use breaks by itself, told from the bytes of its tree.
-ghost use Rattle.std.specs.Prelude.{◌≡◌, ◌*◌, ◌≤◌, ◌↔◌, length, All, IfSome, IsNone, IsSome, IsTrue};
+ghost use Rattle.std.specs.Prelude.{◌≡◌, ◌≤◌, ◌↔◌, length, All, IfSome, IsNone, IsTrue};
 ghost use Rattle.hb_frag.specs.Leaves.{IsWellCut, leaves, leaves_of, weight_of};
 ghost use Rattle.hb_frag.specs.Rules.{BelongsAt, IsFilledRight, IsInOrder, IsNormal, IsSiblingTip, capacity_of};
 ghost use Rattle.hb_ops.specs.Sound.{FitsFile, BreaksFirst};
-ghost use Rattle.hb_space.specs.Boxes.{Area as Extent, IsArea};
+ghost use Rattle.hb_space.specs.Boxes.{Area as Extent};
 ghost use Rattle.hb_view.specs.Limits.{meta_with};
 ghost use Rattle.hb_view.specs.Seen.{tree_seen, area_seen};
 
-use crate::boxes::bounds_of;
+use crate::bounds::Bounds;
 use crate::order::behind_order;
 use crate::roots::{Root, root_of};
 use crate::rules::{behind_cuts, behind_kinds, behind_normal};
@@ -32,7 +32,7 @@ pub(crate) struct Limits {
 fn is_cut(inside: &Inside<'_>) -> bool
     ensures { IsTrue result ↔ IsWellCut (tree_seen inside.now.tree) (area_seen inside.now) }
 {
-    let mut bounds = bounds_of(inside);
+    let mut bounds = Bounds::of(inside);
     match behind_cuts(&inside.tree, &mut bounds) {
         Some(_) => true,
         None => false,
@@ -84,7 +84,7 @@ fn is_in_order(inside: &Inside<'_>) -> bool
     requires { IsWellCut (tree_seen inside.now.tree) (area_seen inside.now) }
     ensures { IsTrue result ↔ All IsInOrder (leaves_of (tree_seen inside.now.tree) (area_seen inside.now)) }
 {
-    let mut bounds = bounds_of(inside);
+    let mut bounds = Bounds::of(inside);
     match behind_order(&inside.tree, &mut bounds) {
         Some(_) => true,
         None => false,

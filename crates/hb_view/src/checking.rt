@@ -1,5 +1,5 @@
 //! Whether bytes spell a page.
-ghost use Rattle.std.specs.Prelude.{◌≡◌, ◌↔◌, IsSome, IsTrue};
+ghost use Rattle.std.specs.Prelude.{◌↔◌, IsSome, IsTrue};
 ghost use Rattle.hb_page_codec.specs.Reading.{ReadsAs};
 ghost use Rattle.hb_page_codec.specs.ReadingPages.{head_at, page_of_bytes};
 ghost use Rattle.hb_view.specs.Behind.{live_behind, fields_behind};

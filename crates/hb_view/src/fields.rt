@@ -1,5 +1,5 @@
 //! Fields of a page's inside, from the front of bytes.
-ghost use Rattle.std.specs.Prelude.{◌≡◌, ◌≤◌, length, IfSome};
+ghost use Rattle.std.specs.Prelude.{◌≤◌, length, IfSome};
 ghost use Rattle.hb_page_codec.specs.Reading.{ReadsAs, number_at};
 ghost use Rattle.hb_page_codec.specs.ReadingFields.{axis_at, body_at, count_at};
 

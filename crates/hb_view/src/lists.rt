@@ -1,5 +1,5 @@
 //! The records of a leaf, from the front of bytes.
-ghost use Rattle.std.specs.Prelude.{◌≡◌, ◌*◌, ◌≤◌, length, IfSome, IsSome, option_map};
+ghost use Rattle.std.specs.Prelude.{◌≡◌, ◌*◌, ◌≤◌, length, IfSome, option_map};
 ghost use Rattle.hb_page_codec.specs.Reading.{ReadsAs};
 ghost use Rattle.hb_page_codec.specs.ReadingFields.{record_at};
 ghost use Rattle.hb_view.specs.Corners.{point_there};

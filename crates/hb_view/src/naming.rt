@@ -1,7 +1,6 @@
 //! Leaves looked for by the page that they name, or by their place, in a tree that stands at the front of bytes.
-ghost use Rattle.std.specs.Prelude.{◌≡◌, ◌+◌, ◌*◌, ◌≤◌, length, None, IfErr, IfOk, IfSome, IsSome, MatchOption, option_map};
+ghost use Rattle.std.specs.Prelude.{◌≡◌, ◌+◌, length, None, IfErr, IfOk, IfSome, MatchOption, option_map};
 ghost use Rattle.std.specs.List.{slice_get};
-ghost use Rattle.hb_space.specs.Boxes.{IsArea};
 ghost use Rattle.hb_frag.specs.Leaves.{IsWellCut, leaves_of};
 ghost use Rattle.hb_view.specs.Naming.{named_box, StopsAtLeaf};
 ghost use Rattle.hb_view.specs.Seen.{tree_seen, rest_seen, area_seen};
@@ -9,14 +8,13 @@ ghost use Rattle.hb_view.specs.Views.{ShowsLeaf};
 
 use crate::LeafView;
 use crate::bounds::Bounds;
-use crate::boxes::{area_of, bounds_of};
 use crate::lists::rest_behind_list;
 use crate::roots::{Root, root_of};
 use crate::trees::{Inside, ListView, TreeView};
 use hb_space::Area;
 
-/// Goes over a tree whose box has these corners, to the first leaf that is this one. There it stops, and they are those of
-/// the leaf's box. Where no leaf is, they stay as they are.
+/// Goes over a tree with this box, to the first leaf that is this one. There it stops, and the box is the leaf's. Where no
+/// leaf is, the box stays as it is.
 fn past_named<'a>(tree: &TreeView<'a>, bounds: &mut Bounds, sought: LeafView) -> Option<&'a [u8]>
     requires well_cut { IsWellCut (tree_seen tree.now) bounds.old }
     ensures stops { StopsAtLeaf (named_box sought (leaves_of (tree_seen tree.now) bounds.old))
@@ -52,15 +50,15 @@ pub(crate) fn named_in(inside: &Inside<'_>, sought: LeafView) -> Option<Area>
     requires well_cut { IsWellCut (tree_seen inside.now.tree) (area_seen inside.now) }
     ensures { result ≡ named_box sought (leaves_of (tree_seen inside.now.tree) (area_seen inside.now)) }
 {
-    let mut bounds = bounds_of(inside);
+    let mut bounds = Bounds::of(inside);
     match past_named(&inside.tree, &mut bounds, sought) {
         Some(_) => None,
-        None => Some(area_of(&bounds)),
+        None => Some(bounds.area()),
     }
 }
 
-/// Goes over a tree whose box has these corners, to the leaf at this place from the left. There it stops, and they are those
-/// of the leaf's box. Where the tree has fewer leaves, they stay as they are, and it hands on the place behind it.
+/// Goes over a tree with this box, to the leaf at this place from the left. There it stops, and the box is the leaf's. Where
+/// the tree has fewer leaves, the box stays as it is, and it hands on the place behind it.
 fn past_place<'a>(
     tree: &TreeView<'a>,
     bounds: &mut Bounds,
@@ -114,9 +112,9 @@ pub(crate) fn leaf_of_place(inside: &Inside<'_>, place: u32) -> Option<(LeafView
     ensures { MatchOption result (slice_get (leaves_of (tree_seen inside.now.tree) (area_seen inside.now)) place ≡ None)
         (λ r. ShowsLeaf (slice_get (leaves_of (tree_seen inside.now.tree) (area_seen inside.now)) place) r.0 r.1) }
 {
-    let mut bounds = bounds_of(inside);
+    let mut bounds = Bounds::of(inside);
     match past_place(&inside.tree, &mut bounds, place) {
         Ok(_) => None,
-        Err(leaf) => Some((leaf, area_of(&bounds))),
+        Err(leaf) => Some((leaf, bounds.area())),
     }
 }

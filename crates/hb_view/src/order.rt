@@ -1,5 +1,5 @@
 //! Whether the records of each leaf lie in its box and rise, told from the bytes of a tree.
-ghost use Rattle.std.specs.Prelude.{◌≡◌, ◌≤◌, ◌↔◌, length, All, IsSome, IsTrue, None, option_map};
+ghost use Rattle.std.specs.Prelude.{◌≡◌, ◌↔◌, All, IsTrue, None, option_map};
 ghost use Rattle.hb_space.specs.Boxes.{Holds};
 ghost use Rattle.hb_frag.specs.Leaves.{IsWellCut, leaves_of};
 ghost use Rattle.hb_frag.specs.Rules.{IsInOrder};
@@ -16,8 +16,7 @@ use hb_space::Point;
 fn holds(bounds: &Bounds, p: &[u64]) -> bool
     ensures { IsTrue result ↔ Holds bounds.now p.now }
 {
-    let lo = bounds.lo();
-    let hi = bounds.hi();
+    let (lo, hi) = bounds.corners();
     if p.len() != lo.len() {
         return false;
     }
@@ -68,8 +67,7 @@ fn behind_rising<'a>(list: &ListView<'a>, bounds: &Bounds) -> Option<&'a [u8]>
     Some(rest)
 }
 
-/// Goes over a tree whose box has these corners, where the records of each leaf lie in its box and rise. The corners stay as
-/// they are.
+/// Goes over a tree with this box, where the records of each leaf lie in its box and rise. The box stays as it is.
 pub(crate) fn behind_order<'a>(tree: &TreeView<'a>, bounds: &mut Bounds) -> Option<&'a [u8]>
     requires well_cut { IsWellCut (tree_seen tree.now) bounds.old }
     ensures passes { WalksOver (All IsInOrder (leaves_of (tree_seen tree.now) bounds.old))

@@ -1,5 +1,4 @@
 //! The root of a tree, from the front of bytes.
-ghost use Rattle.std.specs.Prelude.{◌≤◌};
 ghost use Rattle.hb_page_codec.specs.Reading.{ReadsAs};
 ghost use Rattle.hb_view.specs.Roots.{sight_of, root_at};
 ghost use Rattle.hb_view.specs.Seen.{HasRoot};

@@ -1,6 +1,6 @@
 //! The rules that a page in use keeps by itself, told from the bytes of its tree. Each walk reads over the bytes once, and
 //! stops where the rule is broken.
-ghost use Rattle.std.specs.Prelude.{◌≡◌, ◌≤◌, ◌↔◌, length, All, IsSome, IsTrue, option_map};
+ghost use Rattle.std.specs.Prelude.{◌≡◌, ◌↔◌, All, IsTrue, option_map};
 ghost use Rattle.hb_space.specs.Boxes.{Cuts};
 ghost use Rattle.hb_frag.specs.Leaves.{IsWellCut, leaves};
 ghost use Rattle.hb_frag.specs.Rules.{AreAlike, BelongsAt, IsNormal};
@@ -17,11 +17,11 @@ fn cuts(bounds: &Bounds, axis: u8, value: u64) -> bool
     ensures { IsTrue result ↔ Cuts bounds.now axis value }
 {
     let at = usize::from(axis);
-    let lo = bounds.lo();
-    at < lo.len() && lo[at] < value && value <= bounds.hi()[at]
+    let (lo, hi) = bounds.corners();
+    at < lo.len() && lo[at] < value && value <= hi[at]
 }
 
-/// Goes over a tree whose box has these corners, where every cut cuts its box. The corners stay as they are.
+/// Goes over a tree with this box, where every cut cuts its box. The box stays as it is.
 pub(crate) fn behind_cuts<'a>(tree: &TreeView<'a>, bounds: &mut Bounds) -> Option<&'a [u8]>
     ensures passes { WalksOver (IsWellCut (tree_seen tree.now) bounds.old)
         (rest_seen tree.now) (option_map (λ b. b.now) result) }

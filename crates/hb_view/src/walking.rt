@@ -1,5 +1,5 @@
 //! Going down a tree.
-ghost use Rattle.std.specs.Prelude.{◌≡◌, ◌≤◌, length, IfSome, IsSome, option_map};
+ghost use Rattle.std.specs.Prelude.{◌≡◌, ◌≤◌, length, IfSome, option_map};
 ghost use Rattle.hb_space.specs.Boxes.{Area as Extent, IsArea, Holds};
 ghost use Rattle.hb_frag.specs.Leaves.{IsWellCut, first_at, leaves_of, weight_of};
 ghost use Rattle.hb_view.specs.Naming.{CountsLeaf};

@@ -9,9 +9,9 @@ use Rattle.hb_view.proofs.broken.is_in_order.Goals as goal
 pub returns-in-Some : goal.returns-in-Some
 returns-in-Some c =
     let W : Area → Type 0 = λ a. All IsInOrder (leaves_of (tree_seen c.args.inside.now.tree) a) in
-    (λ t. subst W c.bounds_of-bounds.ensures c.in-Some.ensures.passes.0, λ all. refl)
+    (λ t. subst W c.of-bounds.ensures c.in-Some.ensures.passes.0, λ all. refl)
 
 pub returns-in-None : goal.returns-in-None
 returns-in-None c =
     let W : Area → Type 0 = λ a. All IsInOrder (leaves_of (tree_seen c.args.inside.now.tree) a) in
-    (λ t. absurd (false≢true t), λ all. absurd (c.in-None.ensures.passes (subst W (sym c.bounds_of-bounds.ensures) all)))
+    (λ t. absurd (false≢true t), λ all. absurd (c.in-None.ensures.passes (subst W (sym c.of-bounds.ensures) all)))
