@@ -39,14 +39,14 @@ cut_stops k bytes left axis value W P cut says never = λ w. never (says (subst 
 -- ---- the sides of a box that becomes them in place
 
 -- each side with its value given back is the whole
-pub back_below : (area below : Area) (axis value greatest : ℕ) → below ≡ side_below area axis value → greatest ≡ get_or area.hi axis 0 → ◌≡◌ {A = Area} (record { lo = below.lo; hi = slice_set below.hi axis greatest }) area
+back_below : (area below : Area) (axis value greatest : ℕ) → below ≡ side_below area axis value → greatest ≡ get_or area.hi axis 0 → ◌≡◌ {A = Area} (record { lo = below.lo; hi = slice_set below.hi axis greatest }) area
 back_below area below axis value greatest side same =
     let first : Area → Area = λ a. record { lo = a.lo; hi = slice_set a.hi axis greatest } in
     let second : ℕ → Area = λ n. record { lo = area.lo; hi = slice_set (slice_set area.hi axis (value - 1)) axis n } in
     let third : List ℕ → Area = λ h. record { lo = area.lo; hi = h } in
     ap first side ∙ ap second same ∙ ap third (put_back area.hi (slice_set area.hi axis (value - 1)) axis (value - 1) 0 refl)
 
-pub back_from : (area above : Area) (axis value least : ℕ) → above ≡ side_from area axis value → least ≡ get_or area.lo axis 0 → ◌≡◌ {A = Area} (record { lo = slice_set above.lo axis least; hi = above.hi }) area
+back_from : (area above : Area) (axis value least : ℕ) → above ≡ side_from area axis value → least ≡ get_or area.lo axis 0 → ◌≡◌ {A = Area} (record { lo = slice_set above.lo axis least; hi = above.hi }) area
 back_from area above axis value least side same =
     let first : Area → Area = λ a. record { lo = slice_set a.lo axis least; hi = a.hi } in
     let second : ℕ → Area = λ n. record { lo = slice_set (slice_set area.lo axis value) axis n; hi = area.hi } in
