@@ -13,7 +13,7 @@ use Rattle.hb_activity.specs.Queue.{is_of, LeavesFirst}
 use Rattle.hb_activity.proofs.Facts.NoPlace.{none_before}
 
 -- the test of the kind
-kind_so : (kind : JobKind) (job : Job) → is_of kind job ≡ true → job.kind ≡ kind
+pub kind_so : (kind : JobKind) (job : Job) → is_of kind job ≡ true → job.kind ≡ kind
 kind_so kind job is = by kind job.kind is
   where
     by : (k l : JobKind) → is_of k (record job { kind = l }) ≡ true → l ≡ k

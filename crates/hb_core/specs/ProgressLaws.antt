@@ -1,9 +1,11 @@
 -- That somebody may always go on, as laws.
-use Rattle.std.specs.Prelude.{◌≡◌, ◌⊎◌, ℕ, false, Contains, None, IsSome}
+use Rattle.std.specs.Prelude.{◌≡◌, ◌⊎◌, ℕ, ◌+◌, false, Contains, count_by, None, IsSome}
 use Rattle.hb_space.specs.Actors.{IsActor}
 use Rattle.hb_set.specs.Machine.{RecordSet}
 use Rattle.hb_set.specs.declared.scripts.Line.{Line}
 use Rattle.hb_activity.specs.declared.jobs.Job.{Job}
+use Rattle.hb_activity.specs.Queue.{is_of}
+use Rattle.hb_activity.specs.declared.jobs.JobKind.{JobKind}
 use Rattle.hb_activity.specs.declared.jobs.JobKind.TheVariants.{Post, Merge}
 use Rattle.hb_activity.specs.declared.activities.Activity.TheVariants as at
 use Rattle.hb_point.specs.SessionRows.{is_answered, next_line}
@@ -13,6 +15,11 @@ use Rattle.hb_core.specs.KeptMachine.{CoreKeeps}
 use Rattle.hb_core.specs.Machines.{Files, Machine}
 use Rattle.hb_core.specs.SteppingLaws.{IsAtRest}
 use Rattle.hb_core.specs.Steps.{StepsTo}
+use Rattle.hb_core.specs.Taking.{jobs_in_work, worker_for}
+
+-- how many jobs of a kind wait or are in work
+abbrev pub jobs_of : JobKind → Machine → ℕ
+jobs_of kind m = count_by (is_of kind) m.jobs + jobs_in_work (m.activity (worker_for kind))
 
 -- An actor has something to do: a line or a job in hand, a line whose place it awaits, a next line, or a job that waits for it.
 abbrev pub HasToDo : Machine → ℕ → Type 0

@@ -1,11 +1,10 @@
 -- When a core over a disk shows a machine, and when a machine is reached.
-use Rattle.std.specs.Prelude.{◌≡◌, ◌≢◌, ◌⊎◌, ℕ, ◌-◌, ◌≤◌, All, List, ◌++◌, map, take, drop, length, Option, Some, None, IsSome}
+use Rattle.std.specs.Prelude.{◌≡◌, ◌≢◌, ◌⊎◌, ℕ, ◌-◌, ◌≤◌, All, List, map, take, drop, length, Option, Some, None, IsSome}
 use Rattle.std.specs.List.{slice_get}
 use Rattle.hb_disk.specs.Model.{DiskModel}
 use Rattle.hb_latch.specs.Tables.{LatchTable}
 use Rattle.hb_space.specs.Actors.{IsActor}
 use Rattle.hb_set.specs.declared.scripts.Line.{Line}
-use Rattle.hb_set.specs.declared.scripts.Answered.{Answered}
 use Rattle.hb_activity.specs.declared.jobs.Job.{Job}
 use Rattle.hb_activity.specs.declared.activities.Activity.{Activity}
 use Rattle.hb_activity.specs.declared.activities.Activity.TheVariants as at
@@ -17,7 +16,6 @@ use Rattle.hb_core.specs.declared.counts.TidyCounts.{TidyCounts}
 use Rattle.hb_core.specs.Keeps.{HasNobodyElse}
 use Rattle.hb_core.specs.KeptSequence.{HasAnswer}
 use Rattle.hb_core.specs.Machines.{Files, Machine}
-use Rattle.hb_core.specs.Steps.{StepsInSequence}
 
 -- What a core holds. It has no replies of the order, no answers and no files: these are in the machines that it shows.
 pub record RunningCore : Type 0 where
@@ -85,9 +83,3 @@ pub record ShowsMachine (d : DiskModel) (c : RunningCore) (m : Machine) : Type 0
   pub uses : m.uses ≡ c.uses
   pub tells : IsSome d.told → ShowsFiles d m
   pub silent : d.told ≡ None → m.files ≡ None
-
--- Steps of these actors lead from a machine to another one, and these are the answers that came, in their sequence, each with the
--- clock after its step.
-pub record IsReached (first : Machine) (actors : List ℕ) (answers : List Answered) (new : Machine) : Type 0 where
-  pub steps : StepsInSequence actors first new
-  pub answered : new.answered ≡ first.answered ++ answers

@@ -1,5 +1,5 @@
 -- How an idle actor of a core takes a line or a job, and a core that has taken no step.
-use Rattle.std.specs.Prelude.{◌≡◌, ◌≢◌, ◌⊎◌, ℕ, Result, IfOk, IfErr, ◌-◌, ◌+◌, All, List, [], ◌∷◌, ◌++◌, count_by, length, take, drop, replicate, Some, None, is_some, if◌then◌else◌, ◌<◌, IfSome, IsSomeAnd}
+use Rattle.std.specs.Prelude.{◌≡◌, ◌≢◌, ◌⊎◌, ℕ, Result, IfOk, IfErr, ◌-◌, ◌+◌, All, List, [], ◌∷◌, ◌++◌, length, take, drop, replicate, Some, None, is_some, if◌then◌else◌, ◌<◌, IfSome, IsSomeAnd}
 use Rattle.std.specs.List.{slice_get, slice_set}
 use Rattle.std.specs.FinMap as map
 use Rattle.hb_activity.specs.declared.activities.Activity.{Activity}
@@ -11,7 +11,6 @@ use Rattle.hb_activity.specs.BoxLocks.{lock_of, lock_of_command}
 use Rattle.hb_activity.specs.Classes.{job_in_work}
 use Rattle.hb_activity.specs.declared.jobs.JobKind.TheVariants.{Post, Merge}
 use Rattle.hb_activity.specs.Deeds.{takes_job}
-use Rattle.hb_activity.specs.Queue.{is_of}
 use Rattle.hb_point.specs.SessionRows.{WantsBoxes, boxes_ahead}
 use Rattle.hb_consol.specs.ConsolidatorRows.{IsMergingOf}
 use Rattle.hb_poster.specs.PosterRows.{IsPostingOf}
@@ -23,7 +22,6 @@ use Rattle.hb_core.specs.declared.outcomes.Outcome.{Outcome}
 use Rattle.hb_core.specs.declared.outcomes.Outcome.TheVariants as outcomes
 use Rattle.hb_boxlock.specs.Locking.{Excludes}
 use Rattle.hb_core.specs.Counts.{no_counts}
-use Rattle.hb_core.specs.Machines.{Machine}
 use Rattle.hb_core.specs.Moving.{DoesDeed, with_standing}
 use Rattle.hb_core.specs.Performing.{Relatches}
 use Rattle.hb_core.specs.Showing.{RunningCore}
@@ -93,10 +91,6 @@ worker_for Merge = 18
 
 abbrev pub jobs_in_work : Activity → ℕ
 jobs_in_work activity = if is_some (job_in_work activity) then 1 else 0
-
--- how many jobs of a kind wait or are in work
-abbrev pub jobs_of : JobKind → Machine → ℕ
-jobs_of kind m = count_by (is_of kind) m.jobs + jobs_in_work (m.activity (worker_for kind))
 
 -- all actors with nothing in hand, and a core that has taken no step
 abbrev pub all_idle : List Activity

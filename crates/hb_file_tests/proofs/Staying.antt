@@ -8,6 +8,7 @@ use Rattle.std.proofs.lemmas.Bool.{eq-eqb}
 use Rattle.std.proofs.lemmas.List.Elements.{All-append, All-head, All-nil, All-tail}
 use Rattle.std.proofs.lemmas.List.Folds.{find-append}
 use Rattle.std.proofs.lemmas.Map.Views.{All-remove_key}
+use Rattle.hb_pool.proofs.Others.{absent_left}
 use Rattle.hb_lemmas.proofs.Lists.{All-alone}
 use Rattle.hb_lemmas.proofs.Options.{some_value}
 use Rattle.hb_pool.specs.declared.pools.TheConstants.{FRAMES}
@@ -39,18 +40,6 @@ module _ {X : Type 0} (P : X → Type 0) (p : X → Bool) where
         | true ↦ λ here. let same : y ≡ x = cc in subst P same (All-head P y ys all)
         | false ↦ λ later. found_all ys x (All-tail P y ys all) later
       ] is
-
--- what isn't there isn't there once another goes
-absent_left : {X : Type 0} (p q : X → Bool) (xs : List X) → find p xs ≡ None → find p (remove_key q xs) ≡ None
-absent_left p q [] none = refl
-absent_left p q (y ∷ ys) none =
-    elim (p y) as (λ b. p y ≡ b → cond b (Some y) (find p ys) ≡ None → find p (cond (q y) ys (y ∷ remove_key q ys)) ≡ None) [
-      | true ↦ λ _ here. absurd cc
-      | false ↦ λ off later. elim (q y) as (λ b. find p (cond b ys (y ∷ remove_key q ys)) ≡ None) [
-        | true ↦ later
-        | false ↦ ap (λ b. cond b (Some y) (find p (remove_key q ys))) off ∙ absent_left p q ys later
-      ]
-    ] refl none
 
 -- the last one goes where no other passes
 without_last : {X : Type 0} (p : X → Bool) (xs : List X) (x : X) → find p xs ≡ None → p x ≡ true → remove_key p (xs ++ x ∷ []) ≡ xs

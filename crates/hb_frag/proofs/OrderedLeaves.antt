@@ -144,7 +144,7 @@ module _ (axis value : ℕ) where
   )
 
 -- what the part below a plane holds, the box holds below the plane
-held_below : (a : Area) (axis value : ℕ) (p : List ℕ) → Cuts a axis value → Holds (side_below a axis value) p → Holds a p × (get_or p axis 0 < value)
+pub held_below : (a : Area) (axis value : ℕ) (p : List ℕ) → Cuts a axis value → Holds (side_below a axis value) p → Holds a p × (get_or p axis 0 < value)
 held_below a axis value p cuts s =
     let in_hi : axis < length a.hi = elim (cases_lt axis (length a.hi)) [
       | inl l ↦ l

@@ -1,9 +1,10 @@
 -- Which points the sides of a cut hold.
-use Rattle.std.proofs.Common.{◌≡◌, ℕ, zero, suc, ◌-◌, ◌<◌, ◌≤◌, true, false, List, [], ◌∷◌, length, get_or, EachIndex, IsTrue, refl, ap, arith, inl, inr}
+use Rattle.std.proofs.Common.{◌≡◌, ℕ, zero, suc, ◌<◌, ◌≤◌, true, false, List, [], ◌∷◌, length, get_or, EachIndex, IsTrue, refl, ap, arith, inl, inr}
 use Rattle.std.proofs.lemmas.Bool.{cases_eq, cases_lt, false≢true}
 use Rattle.std.proofs.lemmas.Bool.Decides.{nat_tests}
 use Rattle.std.proofs.lemmas.List.{length-set, get_or-set_other}
 use Rattle.std.proofs.lemmas.Grind.{get_or-set_at}
+use Rattle.hb_frag.proofs.OrderedLeaves.{held_below}
 use Rattle.hb_space.proofs.Facts.Boxes.{as_long}
 use Rattle.hb_space.specs.Boxes.{Area, Cuts, Holds, holds, is_between, side_below, side_from}
 
@@ -38,21 +39,6 @@ in_hi a axis value cuts = elim (cases_lt axis (length a.hi)) [
 ]
 
 -- what a side holds lies in the box, on that side
-pub in_below : (a : Area) (axis value : ℕ) (p : List ℕ) → Cuts a axis value → Holds (side_below a axis value) p → Holds a p × (get_or p axis 0 < value)
-in_below a axis value p cuts h =
-    let room = in_hi a axis value cuts in (
-      record {
-        same = h.same;
-        between = λ i lt. elim (cases_eq i axis) [
-          | inl e ↦
-              let here : get_or a.hi i 0 ≡ get_or a.hi axis 0 = ap (λ (n : ℕ). get_or a.hi n 0) e in
-              ((h.between i lt).0, omega (arith, (h.between i lt).1, get_or-set_at a.hi axis i (value - 1) 0 e room, cuts.up_to_greatest))
-          | inr n ↦ ((h.between i lt).0, omega (arith, (h.between i lt).1, get_or-set_other a.hi axis i (value - 1) 0 n))
-        ];
-      },
-      omega (arith, (h.between axis (omega (arith, h.same, cuts.attribute))).1, get_or-set_at a.hi axis axis (value - 1) 0 refl room, cuts.above_least),
-    )
-
 pub in_from : (a : Area) (axis value : ℕ) (p : List ℕ) → Cuts a axis value → Holds (side_from a axis value) p → Holds a p × (value ≤ get_or p axis 0)
 in_from a axis value p cuts h =
     let same : length p ≡ length a.lo = omega (arith, h.same, length-set a.lo axis value) in (
@@ -70,4 +56,4 @@ in_from a axis value p cuts h =
 
 -- so no point lies on both
 pub apart : (a : Area) (axis value : ℕ) (p : List ℕ) → Cuts a axis value → Holds (side_below a axis value) p → Holds (side_from a axis value) p → ⊥
-apart a axis value p cuts h k = omega (arith, (in_below a axis value p cuts h).1, (in_from a axis value p cuts k).1)
+apart a axis value p cuts h k = omega (arith, (held_below a axis value p cuts h).1, (in_from a axis value p cuts k).1)

@@ -34,7 +34,7 @@ with_places laws P path t area w other there old new =
     (All-append P (stretch.front ++ leaves_of other w.1) stretch.behind (All-append P stretch.front (leaves_of other w.1) front new) outer.1)
 
 -- a leaf with another name stands at the same level
-renamed_kind : (old new level : ℕ) (leaf : Leaf) → BelongsAt level leaf → BelongsAt level (renamed_leaf old new leaf)
+pub renamed_kind : (old new level : ℕ) (leaf : Leaf) → BelongsAt level leaf → BelongsAt level (renamed_leaf old new leaf)
 renamed_kind old new level (Records records) h = h
 renamed_kind old new level (Child page) h = h
 renamed_kind old new level (Sibling page) h = h

@@ -1,5 +1,5 @@
 -- A page in which another one is named is well made again.
-use Rattle.std.proofs.Common.{◌≡◌, ℕ, ◌<◌, ◌≤◌, ◌==◌, Bool, true, false, cond, List, [], ◌∷◌, length, All, Some, refl, sym, subst, ◌∙◌, arith, ne_eqb}
+use Rattle.std.proofs.Common.{◌≡◌, ℕ, ◌<◌, ◌≤◌, ◌==◌, Bool, true, false, cond, List, [], ◌∷◌, length, All, refl, sym, subst, ◌∙◌, arith, ne_eqb}
 use Rattle.std.proofs.lemmas.List.Elements.{All-append, All-cons, All-head, All-nil}
 use Rattle.hb_space.specs.Boxes.{Area, Holds, side_below, side_from}
 use Rattle.hb_frag.specs.declared.leaves.Leaf.{Leaf}
@@ -11,7 +11,7 @@ use Rattle.hb_frag.specs.Carving.{carved}
 use Rattle.hb_frag.specs.Leaves.{leaves, leaves_of, weight_of}
 use Rattle.hb_frag.specs.Normal.{normal, one_leaf_or_cut}
 use Rattle.hb_frag.specs.NormalLaws.{SaysTheSame}
-use Rattle.hb_frag.specs.Paths.{part_at, with_part}
+use Rattle.hb_frag.specs.Paths.{with_part}
 use Rattle.hb_frag.specs.Rules.{BelongsAt, IsInOrder, IsNormal, IsSiblingTip}
 use Rattle.hb_frag.specs.Trees.{Tree, Tip, Cut}
 use Rattle.hb_layout.specs.declared.meta.Meta.{Meta}

@@ -113,7 +113,7 @@ none_goes pool id bytes dirty lt =
     ap (λ b. cond b pool (remove_key may_go pool) ++ fresh id bytes dirty ∷ []) (lt-ltb (length pool) FRAMES lt)
 
 -- what isn't there doesn't come by another's going
-absent_left : {X : Type 0} (p q : X → Bool) (xs : List X) → find p xs ≡ None → find p (remove_key q xs) ≡ None
+pub absent_left : {X : Type 0} (p q : X → Bool) (xs : List X) → find p xs ≡ None → find p (remove_key q xs) ≡ None
 absent_left p q [] none = refl
 absent_left p q (y ∷ ys) none =
     elim (p y) as (λ b. p y ≡ b → cond b (Some y) (find p ys) ≡ None → find p (cond (q y) ys (y ∷ remove_key q ys)) ≡ None) [

@@ -2,6 +2,7 @@
 use Rattle.std.proofs.Common.{◌≡◌, ℕ, ◌+◌, ◌<◌, true, false, cond, List, [], ◌∷◌, map, Some, refl, sym, ap, subst, ◌∙◌, arith}
 use Rattle.std.specs.Option.{option_map}
 use Rattle.std.proofs.lemmas.List.Elements.{All-contains}
+use Rattle.hb_ops.proofs.MergeMade.{renamed_kind}
 use Rattle.hb_space.specs.Boxes.{IsArea, Holds, holds}
 use Rattle.hb_frag.specs.declared.leaves.Leaf.{Leaf}
 use Rattle.hb_frag.specs.declared.leaves.Leaf.TheVariants.{Records, Child, Sibling}
@@ -32,12 +33,6 @@ first_renamed old new p (x ∷ xs) =
       | false ↦ first_renamed old new p xs
     ]
 
--- a leaf with a new name belongs where it belonged
-belongs_again : (old new level : ℕ) (leaf : Leaf) → BelongsAt level leaf → BelongsAt level (renamed_leaf old new leaf)
-belongs_again old new level (Records records) on = on
-belongs_again old new level (Child page) on = on
-belongs_again old new level (Sibling page) on = on
-
 module _ (trees : TreeLaws) (laws : MergeLaws) (meta : Meta) (keep gone : ℕ) (above : LivePage) (made : FitsFile meta above) (high : 0 < above.level) (box : IsArea above.area) (p : List ℕ) (held : Holds above.area p) where
   abbrev between : Tree
   between = renamed gone keep above.frag
@@ -62,7 +57,7 @@ module _ (trees : TreeLaws) (laws : MergeLaws) (meta : Meta) (keep gone : ℕ) (
   belongs =
       let there = (trees.only above.frag above.area p before.0 box made.well_cut).0 before.1 in
       let was = All-contains (BelongsAt above.level) (leaves above.frag) before.0.leaf made.filled.kinds (placed_is_leaf above.frag above.area before.0 there.0) in
-      subst (BelongsAt above.level) (sym name_is) (belongs_again gone keep above.level before.0.leaf was)
+      subst (BelongsAt above.level) (sym name_is) (renamed_kind gone keep above.level before.0.leaf was)
 
   pub renames_at : RenamesAt above (parent_page keep gone above) keep gone p
   renames_at = record {

@@ -4,6 +4,7 @@ use Rattle.std.specs.Prelude.{count_by}
 use Rattle.std.specs.List.{Contains}
 use Rattle.std.proofs.lemmas.List.Elements.{Contains-append_left, Contains-append_right, Contains-push}
 use Rattle.std.proofs.lemmas.List.Sums.{sum_by-cons}
+use Rattle.hb_activity.proofs.QueueParts.{kind_so}
 use Rattle.hb_activity.specs.Classes.{class_of}
 use Rattle.hb_activity.specs.Queue.{AddsJob, is_of}
 use Rattle.hb_activity.specs.declared.activities.Activity.{Activity}
@@ -19,19 +20,11 @@ use Rattle.hb_core.specs.Machines.{Machine}
 use Rattle.hb_core.specs.ProgressLaws.{HasToDo}
 use Rattle.hb_core.specs.Showing.{RunningCore, ShowsMachine}
 use Rattle.hb_core.specs.SteppingLaws.{IsAtRest}
-use Rattle.hb_core.specs.Taking.{jobs_in_work, jobs_of, worker_for}
+use Rattle.hb_core.specs.ProgressLaws.{jobs_of}
+use Rattle.hb_core.specs.Taking.{jobs_in_work, worker_for}
 use Rattle.hb_tidy.specs.Working.{HasCause}
 
 -- ---- a queue in which a job of a kind is counted
-
-of_kind : (kind : JobKind) (job : Job) → is_of kind job ≡ true → job.kind ≡ kind
-of_kind kind job is = by kind job.kind is
-  where
-    by : (k l : JobKind) → is_of k (record job { kind = l }) ≡ true → l ≡ k
-    by Post Post is = refl
-    by Merge Merge is = refl
-    by Post Merge is = cc (is)
-    by Merge Post is = cc (is)
 
 counted_more : (kind : JobKind) (job : Job) (rest : List Job) → count_by (is_of kind) (job ∷ rest) ≡ cond (is_of kind job) 1 0 + count_by (is_of kind) rest
 counted_more kind job rest = sum_by-cons (λ (j : Job). cond (is_of kind j) 1 0) job rest
@@ -42,7 +35,7 @@ counted_as kind job rest b is = counted_more kind job rest ∙ ap (λ (b : Bool)
 counted_one : (kind : JobKind) (jobs : List Job) → 0 < count_by (is_of kind) jobs → (job : Job) × Contains jobs job × (job.kind ≡ kind)
 counted_one kind [] some = absurd (omega (arith, some))
 counted_one kind (job ∷ rest) some = elim (is_of kind job) as (λ b. (is_of kind job ≡ b) → (j : Job) × Contains (job ∷ rest) j × (j.kind ≡ kind)) [
-  | true ↦ λ is. (job, Contains-append_left (job ∷ []) rest job (Contains-push [] job), of_kind kind job is)
+  | true ↦ λ is. (job, Contains-append_left (job ∷ []) rest job (Contains-push [] job), kind_so kind job is)
   | false ↦ λ is.
       let more = counted_as kind job rest false is in
       let later = counted_one kind rest (omega (arith, more, some)) in

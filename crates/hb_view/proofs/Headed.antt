@@ -24,8 +24,9 @@ use Rattle.hb_page_codec.proofs.Facts.PageLaws.{head_takes, page_takes}
 use Rattle.hb_page_codec.proofs.Facts.Weights.{is_light}
 use Rattle.hb_view.proofs.Cornered.{has_corners}
 use Rattle.hb_view.specs.Spelled.{page_or, page_spelled}
-use Rattle.hb_view.specs.Roots.{tree_or}
-use Rattle.hb_view.specs.Views.{IsLive, IsLiveAnd, HasInside}
+use Rattle.hb_view.specs.Corners.{corners_there}
+use Rattle.hb_view.specs.Roots.{tree_or, tree_there}
+use Rattle.hb_view.specs.Views.{IsLive, IsLiveAnd}
 
 -- where the fields of a page in use stand
 pub record LiveBytes (bytes : List ℕ) (page : LivePage) : Type 0 where
@@ -196,9 +197,18 @@ has_box bytes s k from ek ef none =
     let same : area_at k from ≡ Some (s.page.area, s.fields.behind) = ap (λ n. area_at n from) (ek ∙ s.fields.attributes) ∙ ap (area_at (length s.page.area.lo)) ef ∙ s.fields.area in
     not_none (area_at k from) (s.page.area, s.fields.behind) same none
 
+-- a page in use has so many attributes, and its box and its tree stand at the front of these bytes
+pub record HasParts (page : LivePage) (k : ℕ) (corners bytes : List ℕ) : Type 0 where
+  pub attributes : k ≡ length page.area.lo
+  pub is_area : IsArea (corners_there k corners)
+  pub room : 16 * k ≤ length corners
+  pub area : corners_there k corners ≡ page.area
+  pub there : IsSome (tree_at k bytes)
+  pub tree : tree_there k bytes ≡ page.frag
+
 -- the tree where it begins
-pub has_inside : (bytes : List ℕ) (s : LiveSpelled bytes) (n : ℕ) (corners from : List ℕ) → n ≡ get_or bytes 2 0 → corners ≡ drop 4 bytes → from ≡ drop (4 + 16 * n) bytes → HasInside s.page (get_or bytes 2 0) corners from
-has_inside bytes s n corners from en ec ef =
+pub has_parts : (bytes : List ℕ) (s : LiveSpelled bytes) (n : ℕ) (corners from : List ℕ) → n ≡ get_or bytes 2 0 → corners ≡ drop 4 bytes → from ≡ drop (4 + 16 * n) bytes → HasParts s.page (get_or bytes 2 0) corners from
+has_parts bytes s n corners from en ec ef =
     let k = s.fields.attributes in
     let read : tree_at (get_or bytes 2 0) from ≡ Some (s.page.frag, s.fields.rest) =
     ap (λ m. tree_at m from) k ∙ ap (tree_at (length s.page.area.lo)) (ef ∙ ap (λ m. drop (4 + 16 * m) bytes) (en ∙ k)) ∙ s.fields.tree in
@@ -206,12 +216,11 @@ has_inside bytes s n corners from en ec ef =
     let has = has_corners (get_or bytes 2 0) corners (s.page.area, s.fields.behind) box in
     record {
       attributes = k;
-      is_area = s.fields.is_area;
+      is_area = subst IsArea (sym has.corners) s.fields.is_area;
       room = has.room;
       area = has.corners;
       there = has_value (tree_at (get_or bytes 2 0) from) (s.page.frag, s.fields.rest) read;
       tree = ap tree_or read;
-      light = s.light;
     }
 
 -- ---- a free page

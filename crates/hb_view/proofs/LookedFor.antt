@@ -1,6 +1,6 @@
 -- What a walk over a tree of bytes says of its leaves: which of them names a page first, which stands at a place, and how
 -- many records the one at a point has.
-use Rattle.std.proofs.Common.{◌≡◌, ℕ, suc, ◌+◌, ◌-◌, ◌<◌, ◌≤◌, ◌==◌, true, false, cond, List, [], ◌∷◌, ◌++◌, length, get_or, slice_get, slice_set, Option, Some, None, refl, sym, ap, subst, ◌∙◌, length-append, arith}
+use Rattle.std.proofs.Common.{◌≡◌, ℕ, suc, ◌+◌, ◌<◌, ◌≤◌, ◌==◌, true, false, cond, List, [], ◌∷◌, ◌++◌, length, get_or, slice_get, Option, Some, None, refl, sym, ap, subst, ◌∙◌, length-append, arith}
 use Rattle.hb_space.specs.Boxes.{Area, IsArea, Holds, side_below, side_from}
 use Rattle.hb_space.proofs.Facts.Boxes.{Holds-side_below, Holds-side_from}
 use Rattle.hb_frag.specs.declared.leaves.Leaf.{Leaf}
@@ -17,21 +17,18 @@ use Rattle.hb_view.specs.declared.leaves.LeafView.TheVariants as views
 use Rattle.hb_view.specs.Naming.{CountsLeaf, StopsAtLeaf, first_child_box, named_box}
 use Rattle.hb_view.specs.Roots.{tree_there, rest_there, IsCutAt, IsListAt}
 use Rattle.hb_view.specs.Views.{ShowsLeaf}
-use Rattle.hb_view.proofs.Passing.{below_box, from_box}
 use Rattle.hb_view.proofs.Walked.{many_counted}
 
 -- ---- the leaves of both sides
 
--- of a cut whose box is changed in place
-pub both_sides : (k : ℕ) (bytes left right : List ℕ) (axis value at : ℕ) (lo hi low high : List ℕ) → IsCutAt k bytes axis value left → right ≡ rest_there k left → at ≡ axis → low ≡ lo → high ≡ hi
-    → leaves_of (tree_there k bytes) (record { lo = lo; hi = hi }) ≡ leaves_of (tree_there k left) (record { lo = lo; hi = slice_set hi at (value - 1) }) ++ leaves_of (tree_there k right) (record { lo = slice_set low at value; hi = high })
-both_sides k bytes left right axis value at lo hi low high cut r e el eh =
-    let area : Area = record { lo = lo; hi = hi } in
+-- of a cut whose box becomes its sides
+pub both_sides : (k : ℕ) (bytes left right : List ℕ) (axis value : ℕ) (area below above : Area) → IsCutAt k bytes axis value left → right ≡ rest_there k left → below ≡ side_below area axis value → above ≡ side_from area axis value
+    → leaves_of (tree_there k bytes) area ≡ leaves_of (tree_there k left) below ++ leaves_of (tree_there k right) above
+both_sides k bytes left right axis value area below above cut r eb ea =
     let l = tree_there k left in
     ap (λ (t : Tree). leaves_of t area) cut.tree
     ∙ ap (λ (b : List ℕ). leaves_of l (side_below area axis value) ++ leaves_of (tree_there k b) (side_from area axis value)) (sym r)
-    ∙ ap (λ (a : Area). leaves_of l a ++ leaves_of (tree_there k right) (side_from area axis value)) (sym (below_box lo hi axis at value e))
-    ∙ ap (λ (a : Area). leaves_of l (record { lo = lo; hi = slice_set hi at (value - 1) }) ++ leaves_of (tree_there k right) a) (sym (from_box lo hi low high axis at value e el eh))
+    ∙ ap (λ (a : Area). leaves_of l a ++ leaves_of (tree_there k right) (side_from area axis value)) (sym eb) ∙ ap (λ (a : Area). leaves_of l below ++ leaves_of (tree_there k right) a) (sym ea)
 
 -- ---- the first that names a page
 
@@ -72,21 +69,19 @@ behind_all (views.Child page) xs ys is = child_behind page xs ys is
 behind_all (views.Sibling page) xs ys is = ap (first_named page) (siblings-append xs ys) ∙ named_behind page (siblings xs) (siblings ys) is
 
 -- at a cut: in the left side, and behind it
-pub stops_left : (k : ℕ) (bytes left : List ℕ) (axis value at : ℕ) (lo hi : List ℕ) (sought : LeafView) (box : Area) → IsCutAt k bytes axis value left → at ≡ axis
-    → named_box sought (leaves_of (tree_there k left) (record { lo = lo; hi = slice_set hi at (value - 1) })) ≡ Some box → named_box sought (leaves_of (tree_there k bytes) (record { lo = lo; hi = hi })) ≡ Some box
-stops_left k bytes left axis value at lo hi sought box cut e found =
-    let all = both_sides k bytes left (rest_there k left) axis value at lo hi lo hi cut refl e refl refl in
-    ap (named_box sought) all ∙ in_front sought (leaves_of (tree_there k left) (record { lo = lo; hi = slice_set hi at (value - 1) })) _ box found
+pub stops_left : (k : ℕ) (bytes left : List ℕ) (axis value : ℕ) (area below : Area) (sought : LeafView) (box : Area) → IsCutAt k bytes axis value left → below ≡ side_below area axis value
+    → named_box sought (leaves_of (tree_there k left) below) ≡ Some box → named_box sought (leaves_of (tree_there k bytes) area) ≡ Some box
+stops_left k bytes left axis value area below sought box cut eb found =
+    ap (named_box sought) (both_sides k bytes left (rest_there k left) axis value area below (side_from area axis value) cut refl eb refl) ∙ in_front sought (leaves_of (tree_there k left) below) _ box found
 
-pub stops_right : (k : ℕ) (bytes left right : List ℕ) (axis value at : ℕ) (lo hi low high : List ℕ) (sought : LeafView) (box : Area) (r : Option (List ℕ)) → IsCutAt k bytes axis value left → at ≡ axis → low ≡ lo → high ≡ hi
-    → (named_box sought (leaves_of (tree_there k left) (record { lo = lo; hi = slice_set hi at (value - 1) })) ≡ None) × (right ≡ rest_there k left)
-    → StopsAtLeaf (named_box sought (leaves_of (tree_there k right) (record { lo = slice_set low at value; hi = high }))) box (rest_there k right) r
-    → StopsAtLeaf (named_box sought (leaves_of (tree_there k bytes) (record { lo = lo; hi = hi }))) box (rest_there k bytes) r
-stops_right k bytes left right axis value at lo hi low high sought box r cut e el eh none there =
-    let same : named_box sought (leaves_of (tree_there k bytes) (record { lo = lo; hi = hi })) ≡ named_box sought (leaves_of (tree_there k right) (record { lo = slice_set low at value; hi = high })) =
-    ap (named_box sought) (both_sides k bytes left right axis value at lo hi low high cut none.1 e el eh) ∙ behind_all sought (leaves_of (tree_there k left) (record { lo = lo; hi = slice_set hi at (value - 1) })) _ none.0 in
+pub stops_right : (k : ℕ) (bytes left right : List ℕ) (axis value : ℕ) (area below above : Area) (sought : LeafView) (box : Area) (r : Option (List ℕ)) → IsCutAt k bytes axis value left → below ≡ side_below area axis value → above ≡ side_from area axis value
+    → (named_box sought (leaves_of (tree_there k left) below) ≡ None) × (right ≡ rest_there k left) → StopsAtLeaf (named_box sought (leaves_of (tree_there k right) above)) box (rest_there k right) r
+    → StopsAtLeaf (named_box sought (leaves_of (tree_there k bytes) area)) box (rest_there k bytes) r
+stops_right k bytes left right axis value area below above sought box r cut eb ea none there =
+    let same : named_box sought (leaves_of (tree_there k bytes) area) ≡ named_box sought (leaves_of (tree_there k right) above) =
+    ap (named_box sought) (both_sides k bytes left right axis value area below above cut none.1 eb ea) ∙ behind_all sought (leaves_of (tree_there k left) below) _ none.0 in
     let rest : rest_there k bytes ≡ rest_there k right = cut.rest ∙ sym (ap (rest_there k) none.1) in
-    let R : List ℕ → Type 0 = λ b. StopsAtLeaf (named_box sought (leaves_of (tree_there k bytes) (record { lo = lo; hi = hi }))) box b r in
+    let R : List ℕ → Type 0 = λ b. StopsAtLeaf (named_box sought (leaves_of (tree_there k bytes) area)) box b r in
     let F : Option Area → Type 0 = λ o. StopsAtLeaf o box (rest_there k right) r in
     subst R (sym rest) (subst F (sym same) there)
 
@@ -102,14 +97,12 @@ get_behind : (xs ys : List Placed) (rest : ℕ) → slice_get (xs ++ ys) (length
 get_behind [] ys rest = ap (slice_get ys) (none_more rest)
 get_behind (x ∷ xs) ys rest = ap (slice_get (x ∷ xs ++ ys)) (one_more (length xs) rest) ∙ get_behind xs ys rest
 
-pub place_right : (k : ℕ) (bytes left right : List ℕ) (axis value at : ℕ) (lo hi low high : List ℕ) (place behind : ℕ) (view : LeafView) (box : Area) → IsCutAt k bytes axis value left → right ≡ rest_there k left → at ≡ axis → low ≡ lo → high ≡ hi
-    → place ≡ length (leaves_of (tree_there k left) (record { lo = lo; hi = slice_set hi at (value - 1) })) + behind
-    → ShowsLeaf (slice_get (leaves_of (tree_there k right) (record { lo = slice_set low at value; hi = high })) behind) view box
-    → ShowsLeaf (slice_get (leaves_of (tree_there k bytes) (record { lo = lo; hi = hi })) place) view box
-place_right k bytes left right axis value at lo hi low high place behind view box cut r e el eh past shows =
-    let xs = leaves_of (tree_there k left) (record { lo = lo; hi = slice_set hi at (value - 1) }) in
-    let ys = leaves_of (tree_there k right) (record { lo = slice_set low at value; hi = high }) in
-    let all = both_sides k bytes left right axis value at lo hi low high cut r e el eh in
+pub place_right : (k : ℕ) (bytes left right : List ℕ) (axis value : ℕ) (area below above : Area) (place behind : ℕ) (view : LeafView) (box : Area) → IsCutAt k bytes axis value left → right ≡ rest_there k left → below ≡ side_below area axis value → above ≡ side_from area axis value
+    → place ≡ length (leaves_of (tree_there k left) below) + behind → ShowsLeaf (slice_get (leaves_of (tree_there k right) above) behind) view box → ShowsLeaf (slice_get (leaves_of (tree_there k bytes) area) place) view box
+place_right k bytes left right axis value area below above place behind view box cut r eb ea past shows =
+    let xs = leaves_of (tree_there k left) below in
+    let ys = leaves_of (tree_there k right) above in
+    let all = both_sides k bytes left right axis value area below above cut r eb ea in
     record {
       placed = shows.placed;
       found = ap (λ (l : List Placed). slice_get l place) all ∙ ap (slice_get (xs ++ ys)) past ∙ get_behind xs ys behind ∙ shows.found;
@@ -117,13 +110,11 @@ place_right k bytes left right axis value at lo hi low high place behind view bo
       area = shows.area;
     }
 
-pub place_past : (k : ℕ) (bytes left right : List ℕ) (axis value at : ℕ) (lo hi low high : List ℕ) (place behind last : ℕ) → IsCutAt k bytes axis value left → right ≡ rest_there k left → at ≡ axis → low ≡ lo → high ≡ hi
-    → place ≡ length (leaves_of (tree_there k left) (record { lo = lo; hi = slice_set hi at (value - 1) })) + behind
-    → behind ≡ length (leaves_of (tree_there k right) (record { lo = slice_set low at value; hi = high })) + last
-    → place ≡ length (leaves_of (tree_there k bytes) (record { lo = lo; hi = hi })) + last
-place_past k bytes left right axis value at lo hi low high place behind last cut r e el eh past more =
-    let all = both_sides k bytes left right axis value at lo hi low high cut r e el eh in
-    sums (leaves_of (tree_there k left) (record { lo = lo; hi = slice_set hi at (value - 1) })) (leaves_of (tree_there k right) (record { lo = slice_set low at value; hi = high })) past more
+pub place_past : (k : ℕ) (bytes left right : List ℕ) (axis value : ℕ) (area below above : Area) (place behind last : ℕ) → IsCutAt k bytes axis value left → right ≡ rest_there k left → below ≡ side_below area axis value → above ≡ side_from area axis value
+    → place ≡ length (leaves_of (tree_there k left) below) + behind → behind ≡ length (leaves_of (tree_there k right) above) + last → place ≡ length (leaves_of (tree_there k bytes) area) + last
+place_past k bytes left right axis value area below above place behind last cut r eb ea past more =
+    let all = both_sides k bytes left right axis value area below above cut r eb ea in
+    sums (leaves_of (tree_there k left) below) (leaves_of (tree_there k right) above) past more
     ∙ ap (λ (l : List Placed). length l + last) (sym all)
   where
     sums : (xs ys : List Placed) → place ≡ length xs + behind → behind ≡ length ys + last → place ≡ length (xs ++ ys) + last
@@ -165,17 +156,9 @@ counts_right k bytes left rest axis value at p count cut r e le counts area h cu
       counted = there.counted;
     }
 
--- ---- the box of the right side, of a cut whose box is changed in place
+-- ---- the right side of a tree that is well cut
 
-pub right_area : (k : ℕ) (bytes left : List ℕ) (axis value at : ℕ) (lo hi low high : List ℕ) → IsCutAt k bytes axis value left → at ≡ axis → low ≡ lo → high ≡ hi → IsArea (record { lo = lo; hi = hi }) → IsWellCut (tree_there k bytes) (record { lo = lo; hi = hi }) → IsArea (record { lo = slice_set low at value; hi = high })
-right_area k bytes left axis value at lo hi low high cut e el eh h cuts =
-    let area : Area = record { lo = lo; hi = hi } in
+pub right_cut : (k : ℕ) (bytes left right : List ℕ) (axis value : ℕ) (area whole above : Area) → IsCutAt k bytes axis value left → right ≡ rest_there k left → whole ≡ area → above ≡ side_from whole axis value → IsWellCut (tree_there k bytes) area → IsWellCut (tree_there k right) above
+right_cut k bytes left right axis value area whole above cut r back ea cuts =
     let parts : IsWellCut (Cut axis value (tree_there k left) (tree_there k (rest_there k left))) area = subst (λ (t : Tree). IsWellCut t area) cut.tree cuts in
-    subst IsArea (sym (from_box lo hi low high axis at value e el eh)) (IsArea-side_from area axis value h parts.0)
-
-pub right_cut : (k : ℕ) (bytes left right : List ℕ) (axis value at : ℕ) (lo hi low high : List ℕ) → IsCutAt k bytes axis value left → right ≡ rest_there k left → at ≡ axis → low ≡ lo → high ≡ hi → IsWellCut (tree_there k bytes) (record { lo = lo; hi = hi })
-    → IsWellCut (tree_there k right) (record { lo = slice_set low at value; hi = high })
-right_cut k bytes left right axis value at lo hi low high cut r e el eh cuts =
-    let area : Area = record { lo = lo; hi = hi } in
-    let parts : IsWellCut (Cut axis value (tree_there k left) (tree_there k (rest_there k left))) area = subst (λ (t : Tree). IsWellCut t area) cut.tree cuts in
-    subst (IsWellCut (tree_there k right)) (sym (from_box lo hi low high axis at value e el eh)) (subst (λ (b : List ℕ). IsWellCut (tree_there k b) (side_from area axis value)) (sym r) parts.2)
+    subst (IsWellCut (tree_there k right)) (sym (ea ∙ ap (λ (a : Area). side_from a axis value) back)) (subst (λ (b : List ℕ). IsWellCut (tree_there k b) (side_from area axis value)) (sym r) parts.2)

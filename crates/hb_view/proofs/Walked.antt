@@ -1,5 +1,5 @@
 -- What one step down a tree of bytes says of the whole tree.
-use Rattle.std.proofs.Common.{◌≡◌, ℕ, zero, suc, ◌-◌, ◌<◌, ◌≤◌, max, List, [], ◌∷◌, length, get_or, slice_set, Option, Some, refl, sym, ap, subst, ◌∙◌, arith}
+use Rattle.std.proofs.Common.{◌≡◌, ℕ, zero, suc, ◌<◌, ◌≤◌, max, List, [], ◌∷◌, length, get_or, Option, Some, refl, sym, ap, subst, ◌∙◌, arith}
 use Rattle.std.proofs.lemmas.Option.{same_Some}
 use Rattle.hb_space.specs.Boxes.{Area, IsArea, Holds, side_below, side_from}
 use Rattle.hb_space.specs.declared.records.Record.{Record}
@@ -23,30 +23,23 @@ use Rattle.hb_view.specs.Views.{leaf_view, ShowsLeaf, TellsBody, FindsAmong}
 pub shows_tip : (t : Tree) (leaf : Leaf) (p : List ℕ) (area : Area) → t ≡ Tip leaf → IsArea area → Holds area p → ShowsLeaf (first_at p (leaves_of t area)) (leaf_view leaf) area
 shows_tip t leaf p area e h held = record { placed = record { leaf = leaf; area = area }; found = found_here t leaf area p e h held; leaf = refl; area = refl }
 
-pub shows_left : (k : ℕ) (bytes left : List ℕ) (axis value at : ℕ) (p lo hi : List ℕ) (view : LeafView) (box : Area) → IsCutAt k bytes axis value left → at ≡ axis
-    → ShowsLeaf (first_at p (leaves_of (tree_there k left) (record { lo = lo; hi = slice_set hi at (value - 1) }))) view box
-    → ShowsLeaf (first_at p (leaves_of (tree_there k bytes) (record { lo = lo; hi = hi }))) view box
-shows_left k bytes left axis value at p lo hi view box cut e h =
-    let area : Area = record { lo = lo; hi = hi } in
-    let make : ℕ → Area = λ n. record { lo = lo; hi = slice_set hi n (value - 1) } in
-    record {
-      placed = h.placed;
-      found = found_left (tree_there k bytes) (tree_there k left) (tree_there k (rest_there k left)) (tree_there k left) axis value area (make at) p h.placed cut.tree refl (ap make e) h.found;
-      leaf = h.leaf;
-      area = h.area;
-    }
+pub shows_left : (k : ℕ) (bytes left : List ℕ) (axis value : ℕ) (p : List ℕ) (area below : Area) (view : LeafView) (box : Area) → IsCutAt k bytes axis value left → below ≡ side_below area axis value
+    → ShowsLeaf (first_at p (leaves_of (tree_there k left) below)) view box → ShowsLeaf (first_at p (leaves_of (tree_there k bytes) area)) view box
+shows_left k bytes left axis value p area below view box cut side h = record {
+  placed = h.placed;
+  found = found_left (tree_there k bytes) (tree_there k left) (tree_there k (rest_there k left)) (tree_there k left) axis value area below p h.placed cut.tree refl side h.found;
+  leaf = h.leaf;
+  area = h.area;
+}
 
-pub shows_right : (k : ℕ) (bytes left rest : List ℕ) (axis value at : ℕ) (p lo hi : List ℕ) (view : LeafView) (box : Area) → IsCutAt k bytes axis value left → rest ≡ rest_there k left → at ≡ axis
-    → IsArea (record { lo = lo; hi = hi }) → IsWellCut (tree_there k bytes) (record { lo = lo; hi = hi }) → Holds (record { lo = lo; hi = hi }) p → value ≤ get_or p at 0
-    → ShowsLeaf (first_at p (leaves_of (tree_there k rest) (record { lo = slice_set lo at value; hi = hi }))) view box
-    → ShowsLeaf (first_at p (leaves_of (tree_there k bytes) (record { lo = lo; hi = hi }))) view box
-shows_right k bytes left rest axis value at p lo hi view box cut r e corners well_cut held above h =
-    let area : Area = record { lo = lo; hi = hi } in
-    let make : ℕ → Area = λ n. record { lo = slice_set lo n value; hi = hi } in
-    let here : value ≤ get_or p axis 0 = subst (λ (n : ℕ). value ≤ get_or p n 0) e above in
+pub shows_right : (k : ℕ) (bytes left rest : List ℕ) (axis value at : ℕ) (p : List ℕ) (area above : Area) (view : LeafView) (box : Area) → IsCutAt k bytes axis value left → rest ≡ rest_there k left → at ≡ axis
+    → IsArea area → IsWellCut (tree_there k bytes) area → Holds area p → value ≤ get_or p at 0 → above ≡ side_from area axis value
+    → ShowsLeaf (first_at p (leaves_of (tree_there k rest) above)) view box → ShowsLeaf (first_at p (leaves_of (tree_there k bytes) area)) view box
+shows_right k bytes left rest axis value at p area above view box cut r e is_area well_cut held over side h =
+    let here : value ≤ get_or p axis 0 = subst (λ (n : ℕ). value ≤ get_or p n 0) e over in
     record {
       placed = h.placed;
-      found = found_right (tree_there k bytes) (tree_there k left) (tree_there k (rest_there k left)) (tree_there k rest) axis value area (make at) p h.placed cut.tree (ap (tree_there k) r) (ap make e) corners well_cut held here h.found;
+      found = found_right (tree_there k bytes) (tree_there k left) (tree_there k (rest_there k left)) (tree_there k rest) axis value area above p h.placed cut.tree (ap (tree_there k) r) side is_area well_cut held here h.found;
       leaf = h.leaf;
       area = h.area;
     }

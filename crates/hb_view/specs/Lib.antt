@@ -7,3 +7,4 @@ pub mod Walks
 pub mod Limits
 pub mod Corners
 pub mod Naming
+pub mod Seen

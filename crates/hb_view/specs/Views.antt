@@ -1,5 +1,5 @@
 -- What a view is seen as, and what it tells of a leaf.
-use Rattle.std.specs.Prelude.{◌≡◌, ℕ, ◌*◌, ◌≤◌, ◌⊎◌, List, [], ◌∷◌, length, Option, Some, None, IsSome}
+use Rattle.std.specs.Prelude.{◌≡◌, ℕ, ◌≤◌, ◌⊎◌, List, [], ◌∷◌, length, Option, Some, None}
 use Rattle.hb_space.specs.Boxes.{Area, IsArea}
 use Rattle.hb_space.specs.declared.form.TheConstants.{PAGE}
 use Rattle.hb_space.specs.declared.records.Record.{Record}
@@ -9,11 +9,10 @@ use Rattle.hb_frag.specs.declared.pages.LivePage.{LivePage}
 use Rattle.hb_frag.specs.declared.pages.Page.{Page}
 use Rattle.hb_frag.specs.declared.pages.Page.TheVariants.{Live, Free}
 use Rattle.hb_frag.specs.Leaves.{Placed, records_of, weight_of}
-use Rattle.hb_page_codec.specs.ReadingPages.{tree_at}
-use Rattle.hb_view.specs.Corners.{corners_there}
-use Rattle.hb_view.specs.Roots.{tree_there}
+use Rattle.hb_view.specs.Seen.{tree_seen, area_seen}
 use Rattle.hb_view.specs.declared.leaves.LeafView.{LeafView}
 use Rattle.hb_view.specs.declared.leaves.LeafView.TheVariants as views
+use Rattle.hb_view.specs.declared.trees.Inside.{Inside}
 
 -- the page is in use; a page that isn't is free
 abbrev pub IsLive : Page → Type 0
@@ -25,14 +24,12 @@ abbrev pub IsLiveAnd : Page → (LivePage → Type 0) → Type 0
 IsLiveAnd (Live page) P = P page
 IsLiveAnd (Free next) P = ⊥
 
--- a page in use has so many attributes, and its box and its tree stand at the front of these bytes
-pub record HasInside (page : LivePage) (k : ℕ) (corners bytes : List ℕ) : Type 0 where
-  pub attributes : k ≡ length page.area.lo
+-- a page in use has this box and this tree
+pub record HasInside (page : LivePage) (inside : Inside) : Type 0 where
+  pub attributes : inside.tree.k.number ≡ length page.area.lo
   pub is_area : IsArea page.area
-  pub room : 16 * k ≤ length corners
-  pub area : corners_there k corners ≡ page.area
-  pub there : IsSome (tree_at k bytes)
-  pub tree : tree_there k bytes ≡ page.frag
+  pub area : area_seen inside ≡ page.area
+  pub tree : tree_seen inside.tree ≡ page.frag
   pub light : weight_of page.frag ≤ PAGE
 
 -- a leaf without its records

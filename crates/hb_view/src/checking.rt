@@ -1,10 +1,10 @@
 //! Whether bytes spell a page.
-ghost use Rattle.std.specs.Prelude.{◌≡◌, ◌↔◌, IfSome, IsSome, IsTrue};
-ghost use Rattle.hb_space.specs.Points.{IsAttributeCount};
+ghost use Rattle.std.specs.Prelude.{◌↔◌, IsSome, IsTrue};
 ghost use Rattle.hb_page_codec.specs.Reading.{ReadsAs};
 ghost use Rattle.hb_page_codec.specs.ReadingPages.{head_at, page_of_bytes};
 ghost use Rattle.hb_view.specs.Behind.{live_behind, fields_behind};
 
+use crate::attributes::Attributes;
 use crate::corners::behind_box;
 use crate::skipping::{behind_name, behind_tree};
 use hb_lemmas::is_zero;
@@ -12,16 +12,15 @@ use hb_space::form::{KMAX, PAGE};
 
 /// The level and the number of attributes, and the bytes behind the byte that is zero.
 #[tactic(auto, unfolding(hb_page_codec::specs::ReadingPages::head_at))]
-fn head_of(bytes: &[u8]) -> Option<(u8, u8, &[u8])>
-    ensures reads { ReadsAs (λ x. (x.0, x.1, x.2.now)) result (head_at bytes.now) }
-    ensures attributes { IfSome result (λ x. IsAttributeCount x.1) }
+fn head_of(bytes: &[u8]) -> Option<(u8, Attributes, &[u8])>
+    ensures { ReadsAs (λ x. (x.0, x.1.number, x.2.now)) result (head_at bytes.now) }
 {
     match bytes {
         [level, k, 0, rest @ ..] => {
             if *k == 0 || usize::from(*k) > KMAX {
                 return None;
             }
-            Some((*level, *k, rest))
+            Some((*level, Attributes { number: *k }, rest))
         }
         _ => None,
     }

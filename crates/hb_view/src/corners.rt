@@ -5,6 +5,7 @@ ghost use Rattle.hb_page_codec.specs.ReadingFields.{point_at, area_at, are_order
 ghost use Rattle.hb_view.specs.Behind.{behind};
 ghost use Rattle.hb_view.specs.Corners.{point_there};
 
+use crate::attributes::Attributes;
 use arrayvec::ArrayVec;
 use hb_page_codec::u64_of;
 use hb_space::form::KMAX;
@@ -21,10 +22,10 @@ pub(crate) fn from_place(bytes: &[u8], place: usize) -> &[u8]
 }
 
 /// A value of the point of `k` values that stands there.
-fn value_at(k: u8, bytes: &[u8], axis: usize) -> u64
-    requires room { 8 * k ≤ length bytes.now }
-    requires attribute { axis < k }
-    ensures { result ≡ slice_index (point_there k bytes.now) axis }
+fn value_at(k: Attributes, bytes: &[u8], axis: usize) -> u64
+    requires room { 8 * k.number ≤ length bytes.now }
+    requires attribute { axis < k.number }
+    ensures { result ≡ slice_index (point_there k.number bytes.now) axis }
 {
     match u64_of(from_place(bytes, 8 * axis)) {
         Some((value, _)) => value,
@@ -33,23 +34,22 @@ fn value_at(k: u8, bytes: &[u8], axis: usize) -> u64
 }
 
 /// The values of the point of `k` values that stands there.
-pub(crate) fn corner_at(k: u8, bytes: &[u8]) -> Corner
-    requires few { k ≤ KMAX }
-    requires room { 8 * k ≤ length bytes.now }
-    ensures { result.items ≡ point_there k bytes.now }
+pub(crate) fn corner_at(k: Attributes, bytes: &[u8]) -> Corner
+    requires { 8 * k.number ≤ length bytes.now }
+    ensures { result.items ≡ point_there k.number bytes.now }
 {
     let mut corner = ArrayVec::new();
-    for axis in 0..usize::from(k) {
+    for axis in 0..usize::from(k.number) {
         corner.push(value_at(k, bytes, axis));
     }
     corner
 }
 
 /// Whether the point of `k` values that stands there has these.
-pub(crate) fn is_point(k: u8, bytes: &[u8], p: &[u64]) -> bool
-    requires room { 8 * k ≤ length bytes.now }
-    requires attributes { length p.now ≡ k }
-    ensures { IsTrue result ↔ (point_there k bytes.now ≡ p.now) }
+pub(crate) fn is_point(k: Attributes, bytes: &[u8], p: &[u64]) -> bool
+    requires room { 8 * k.number ≤ length bytes.now }
+    requires attributes { length p.now ≡ k.number }
+    ensures { IsTrue result ↔ (point_there k.number bytes.now ≡ p.now) }
 {
     for axis in 0..p.len() {
         if value_at(k, bytes, axis) != p[axis] {
@@ -60,12 +60,12 @@ pub(crate) fn is_point(k: u8, bytes: &[u8], p: &[u64]) -> bool
 }
 
 /// Whether no value of the first of two points exceeds the second one's in the same attribute.
-fn is_ordered(k: u8, lo: &[u8], hi: &[u8]) -> bool
-    requires lo { 8 * k ≤ length lo.now }
-    requires hi { 8 * k ≤ length hi.now }
-    ensures { result ≡ are_ordered (point_there k lo.now) (point_there k hi.now) }
+fn is_ordered(k: Attributes, lo: &[u8], hi: &[u8]) -> bool
+    requires lo { 8 * k.number ≤ length lo.now }
+    requires hi { 8 * k.number ≤ length hi.now }
+    ensures { result ≡ are_ordered (point_there k.number lo.now) (point_there k.number hi.now) }
 {
-    for axis in 0..usize::from(k) {
+    for axis in 0..usize::from(k.number) {
         if value_at(k, hi, axis) < value_at(k, lo, axis) {
             return false;
         }
@@ -74,12 +74,11 @@ fn is_ordered(k: u8, lo: &[u8], hi: &[u8]) -> bool
 }
 
 /// The bytes of a point of `k` values, and those behind it.
-pub(crate) fn point_read(k: u8, bytes: &[u8]) -> Option<(&[u8], &[u8])>
-    requires { k ≤ KMAX }
-    ensures reads { ReadsAs (λ x. (point_there k x.0.now, x.1.now)) result (point_at k bytes.now) }
-    ensures room { IfSome result (λ x. 8 * k ≤ length x.0.now) }
+pub(crate) fn point_read(k: Attributes, bytes: &[u8]) -> Option<(&[u8], &[u8])>
+    ensures reads { ReadsAs (λ x. (point_there k.number x.0.now, x.1.now)) result (point_at k.number bytes.now) }
+    ensures room { IfSome result (λ x. 8 * k.number ≤ length x.0.now) }
 {
-    let length = 8 * usize::from(k);
+    let length = 8 * usize::from(k.number);
     if bytes.len() < length {
         return None;
     }
@@ -87,9 +86,8 @@ pub(crate) fn point_read(k: u8, bytes: &[u8]) -> Option<(&[u8], &[u8])>
 }
 
 /// The bytes behind a box of `k` attributes.
-pub(crate) fn behind_box(k: u8, bytes: &[u8]) -> Option<&[u8]>
-    requires { k ≤ KMAX }
-    ensures { ReadsAs (λ x. x.now) result (behind (area_at k bytes.now)) }
+pub(crate) fn behind_box(k: Attributes, bytes: &[u8]) -> Option<&[u8]>
+    ensures { ReadsAs (λ x. x.now) result (behind (area_at k.number bytes.now)) }
 {
     let (lo, rest) = point_read(k, bytes)?;
     let (hi, rest) = point_read(k, rest)?;

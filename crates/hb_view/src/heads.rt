@@ -6,7 +6,9 @@ ghost use Rattle.hb_page_codec.specs.ReadingPages.{page_of_bytes};
 ghost use Rattle.hb_view.specs.Spelled.{page_spelled};
 ghost use Rattle.hb_view.specs.Views.{IsLive, IsLiveAnd, HasInside};
 
+use crate::attributes::Attributes;
 use crate::corners::from_place;
+use crate::trees::{Inside, TreeView};
 use hb_frag::Page;
 use hb_page_codec::{PageError, area_of, decode, u32_of};
 use hb_space::{Area, NoMemory};
@@ -39,28 +41,18 @@ pub(crate) fn box_of(bytes: &[u8]) -> Area
     }
 }
 
-/// Where the parts of a page in use stand.
-#[derive(Clone, Copy, Debug)]
-pub(crate) struct Inside<'a> {
-    /// The number of attributes.
-    pub k: u8,
-    /// The bytes from its box on.
-    pub corners: &'a [u8],
-    /// The bytes from its tree on.
-    pub tree: &'a [u8],
-}
-
-/// Where the parts of the page in use stand that the bytes spell.
+/// Where the box and the tree of the page in use stand that the bytes spell.
 pub(crate) fn inside_of(bytes: &[u8]) -> Inside<'_>
     requires { IsLive (page_spelled bytes.now) }
-    ensures { IsLiveAnd (page_spelled bytes.now) (λ page. HasInside page result.k result.corners.now result.tree.now) }
+    ensures { IsLiveAnd (page_spelled bytes.now) (λ page. HasInside page result) }
 {
-    let k = bytes[2];
-    Inside {
+    let k = Attributes { number: bytes[2] };
+    let corners = from_place(bytes, 4);
+    let tree = TreeView {
         k,
-        corners: from_place(bytes, 4),
-        tree: from_place(bytes, 4 + 16 * usize::from(k)),
-    }
+        bytes: from_place(bytes, 4 + 16 * usize::from(k.number)),
+    };
+    Inside { corners, tree }
 }
 
 /// The next page of the free chain, of the free page that the bytes spell.

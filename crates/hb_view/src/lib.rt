@@ -5,8 +5,12 @@
 //! spell one. So a caller speaks of the page, and keeps its 4,096 bytes.
 //!
 //! A view goes down one path. At a cut the left side begins behind the cut's value; the right side begins behind the left
-//! one, which is read over. A box on the way is two corners of which one value is changed. Only `page` wants memory, since
-//! it decodes.
+//! one, which is read over. Of a box on the way one value is changed, and given back behind the side. Only `page` wants
+//! memory, since it decodes.
+//!
+//! Within the crate, a tree is a `TreeView`, a list of records a `ListView`, and a tree with its box an `Inside`: bytes of
+//! which it is known that one stands there. Making one tests nothing. A box on the way is a `Bounds`, which contracts see as
+//! that box.
 //!
 //! Invariants: a view's bytes spell a page. A walk over bytes takes those from its place on, and where it goes on it hands
 //! back those behind what it looked at. So a side has fewer bytes than its tree, and walks end; and a tree is never deeper
@@ -17,6 +21,8 @@
 //! and read again only what they need.
 #![tactic(auto)]
 
+mod attributes;
+mod bounds;
 mod boxes;
 mod broken;
 mod checking;
@@ -31,6 +37,7 @@ mod roots;
 mod rules;
 mod skipping;
 mod threads;
+mod trees;
 mod views;
 mod walking;
 

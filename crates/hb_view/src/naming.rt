@@ -1,55 +1,38 @@
 //! Leaves looked for by the page that they name, or by their place, in a tree that stands at the front of bytes.
-ghost use Rattle.std.specs.Prelude.{◌≡◌, ◌+◌, ◌*◌, ◌≤◌, length, None, IfErr, IfOk, IfSome, IsSome, MatchOption, option_map};
+ghost use Rattle.std.specs.Prelude.{◌≡◌, ◌+◌, length, None, IfErr, IfOk, IfSome, MatchOption, option_map};
 ghost use Rattle.std.specs.List.{slice_get};
-ghost use Rattle.hb_space.specs.Boxes.{IsArea};
 ghost use Rattle.hb_frag.specs.Leaves.{IsWellCut, leaves_of};
-ghost use Rattle.hb_page_codec.specs.ReadingPages.{tree_at};
-ghost use Rattle.hb_view.specs.Corners.{corners_there};
 ghost use Rattle.hb_view.specs.Naming.{named_box, StopsAtLeaf};
-ghost use Rattle.hb_view.specs.Roots.{tree_there, rest_there};
+ghost use Rattle.hb_view.specs.Seen.{tree_seen, rest_seen, area_seen};
 ghost use Rattle.hb_view.specs.Views.{ShowsLeaf};
 
 use crate::LeafView;
-use crate::boxes::box_between;
-use crate::corners::{corner_at, from_place};
+use crate::bounds::Bounds;
 use crate::lists::rest_behind_list;
 use crate::roots::{Root, root_of};
+use crate::trees::{Inside, ListView, TreeView};
 use hb_space::Area;
-use hb_space::form::KMAX;
 
-/// Goes over a tree whose box has these corners, to the first leaf that is this one. There it stops, and they are those of
-/// the leaf's box. Where no leaf is, they stay as they are.
-fn past_named<'a>(
-    k: u8,
-    bytes: &'a [u8],
-    lo: &mut [u64],
-    hi: &mut [u64],
-    sought: LeafView,
-) -> Option<&'a [u8]>
-    requires count { k ≤ KMAX }
-    requires there { IsSome (tree_at k bytes.now) }
-    requires corners { IsArea (record { lo = lo.old; hi = hi.old }) }
-    requires well_cut { IsWellCut (tree_there k bytes.now) (record { lo = lo.old; hi = hi.old }) }
-    ensures stops { StopsAtLeaf (named_box sought (leaves_of (tree_there k bytes.now) (record { lo = lo.old; hi = hi.old })))
-        (record { lo = lo.new; hi = hi.new }) (rest_there k bytes.now) (option_map (λ b. b.now) result) }
-    ensures lo { IfSome result (λ b. lo.new ≡ lo.old) }
-    ensures hi { IfSome result (λ b. hi.new ≡ hi.old) }
-    ensures area { IsArea (record { lo = lo.new; hi = hi.new }) }
+/// Goes over a tree with this box, to the first leaf that is this one. There it stops, and the box is the leaf's. Where no
+/// leaf is, the box stays as it is.
+fn past_named<'a>(tree: &TreeView<'a>, bounds: &mut Bounds, sought: LeafView) -> Option<&'a [u8]>
+    requires well_cut { IsWellCut (tree_seen tree.now) bounds.old }
+    ensures stops { StopsAtLeaf (named_box sought (leaves_of (tree_seen tree.now) bounds.old))
+        bounds.new (rest_seen tree.now) (option_map (λ b. b.now) result) }
+    ensures same { IfSome result (λ b. bounds.new ≡ bounds.old) }
 {
-    match root_of(k, bytes) {
+    let k = tree.k;
+    match root_of(tree) {
         Root::Cut { axis, value, left } => {
-            let at = usize::from(axis);
-            let greatest = hi[at];
-            hi[at] = value - 1;
-            let right = past_named(k, left, lo, hi, sought)?;
-            hi[at] = greatest;
-            let least = lo[at];
-            lo[at] = value;
-            let rest = past_named(k, right, lo, hi, sought)?;
-            lo[at] = least;
+            let greatest = bounds.take_below(axis, value);
+            let right = past_named(&TreeView { k, bytes: left }, bounds, sought)?;
+            bounds.put_hi(axis, greatest);
+            let least = bounds.take_from(axis, value);
+            let rest = past_named(&TreeView { k, bytes: right }, bounds, sought)?;
+            bounds.put_lo(axis, least);
             Some(rest)
         }
-        Root::Records { count, first } => Some(rest_behind_list(k, count, first)),
+        Root::Records { count, first } => Some(rest_behind_list(&ListView { k, count, first })),
         Root::Child { page, rest } => past_tip(LeafView::Child(page), rest, sought),
         Root::Sibling { page, rest } => past_tip(LeafView::Sibling(page), rest, sought),
     }
@@ -62,63 +45,49 @@ fn past_tip(leaf: LeafView, rest: &[u8], sought: LeafView) -> Option<&[u8]>
     if sought == leaf { None } else { Some(rest) }
 }
 
-/// The box of the first leaf from the left that is this one, in a tree whose box stands at `corners`.
-pub(crate) fn named_in(k: u8, corners: &[u8], bytes: &[u8], sought: LeafView) -> Option<Area>
-    requires count { k ≤ KMAX }
-    requires room { 16 * k ≤ length corners.now }
-    requires there { IsSome (tree_at k bytes.now) }
-    requires area { IsArea (corners_there k corners.now) }
-    requires well_cut { IsWellCut (tree_there k bytes.now) (corners_there k corners.now) }
-    ensures { result ≡ named_box sought (leaves_of (tree_there k bytes.now) (corners_there k corners.now)) }
+/// The box of the first leaf from the left that is this one.
+pub(crate) fn named_in(inside: &Inside<'_>, sought: LeafView) -> Option<Area>
+    requires well_cut { IsWellCut (tree_seen inside.now.tree) (area_seen inside.now) }
+    ensures { result ≡ named_box sought (leaves_of (tree_seen inside.now.tree) (area_seen inside.now)) }
 {
-    let mut lo = corner_at(k, corners);
-    let mut hi = corner_at(k, from_place(corners, 8 * usize::from(k)));
-    match past_named(k, bytes, lo.as_mut_slice(), hi.as_mut_slice(), sought) {
+    let mut bounds = Bounds::of(inside);
+    match past_named(&inside.tree, &mut bounds, sought) {
         Some(_) => None,
-        None => Some(box_between(&lo, &hi)),
+        None => Some(bounds.area()),
     }
 }
 
-/// Goes over a tree whose box has these corners, to the leaf at this place from the left. There it stops, and they are those
-/// of the leaf's box. Where the tree has fewer leaves, they stay as they are, and it hands on the place behind it.
+/// Goes over a tree with this box, to the leaf at this place from the left. There it stops, and the box is the leaf's. Where
+/// the tree has fewer leaves, the box stays as it is, and it hands on the place behind it.
 fn past_place<'a>(
-    k: u8,
-    bytes: &'a [u8],
-    lo: &mut [u64],
-    hi: &mut [u64],
+    tree: &TreeView<'a>,
+    bounds: &mut Bounds,
     place: u32,
 ) -> Result<(u32, &'a [u8]), LeafView>
-    requires count { k ≤ KMAX }
-    requires there { IsSome (tree_at k bytes.now) }
-    requires corners { IsArea (record { lo = lo.old; hi = hi.old }) }
-    requires well_cut { IsWellCut (tree_there k bytes.now) (record { lo = lo.old; hi = hi.old }) }
+    requires well_cut { IsWellCut (tree_seen tree.now) bounds.old }
     ensures leaf { IfErr result (λ view. ShowsLeaf
-        (slice_get (leaves_of (tree_there k bytes.now) (record { lo = lo.old; hi = hi.old })) place)
-        view (record { lo = lo.new; hi = hi.new })) }
-    ensures past { IfOk result (λ r. place ≡ length (leaves_of (tree_there k bytes.now) (record { lo = lo.old; hi = hi.old })) + r.0) }
-    ensures rest { IfOk result (λ r. r.1.now ≡ rest_there k bytes.now) }
-    ensures lo { IfOk result (λ r. lo.new ≡ lo.old) }
-    ensures hi { IfOk result (λ r. hi.new ≡ hi.old) }
-    ensures area { IsArea (record { lo = lo.new; hi = hi.new }) }
+        (slice_get (leaves_of (tree_seen tree.now) bounds.old) place)
+        view bounds.new) }
+    ensures past { IfOk result (λ r. place ≡ length (leaves_of (tree_seen tree.now) bounds.old) + r.0) }
+    ensures rest { IfOk result (λ r. r.1.now ≡ rest_seen tree.now) }
+    ensures same { IfOk result (λ r. bounds.new ≡ bounds.old) }
 {
-    match root_of(k, bytes) {
+    let k = tree.k;
+    match root_of(tree) {
         Root::Cut { axis, value, left } => {
-            let at = usize::from(axis);
-            let greatest = hi[at];
-            hi[at] = value - 1;
-            let (behind, right) = past_place(k, left, lo, hi, place)?;
-            hi[at] = greatest;
-            let least = lo[at];
-            lo[at] = value;
-            let further = past_place(k, right, lo, hi, behind)?;
-            lo[at] = least;
+            let greatest = bounds.take_below(axis, value);
+            let (behind, right) = past_place(&TreeView { k, bytes: left }, bounds, place)?;
+            bounds.put_hi(axis, greatest);
+            let least = bounds.take_from(axis, value);
+            let further = past_place(&TreeView { k, bytes: right }, bounds, behind)?;
+            bounds.put_lo(axis, least);
             Ok(further)
         }
         Root::Records { count, first } => {
             if place == 0 {
                 return Err(LeafView::Records);
             }
-            Ok((place - 1, rest_behind_list(k, count, first)))
+            Ok((place - 1, rest_behind_list(&ListView { k, count, first })))
         }
         Root::Child { page, rest } => past_one(LeafView::Child(page), rest, place),
         Root::Sibling { page, rest } => past_one(LeafView::Sibling(page), rest, place),
@@ -137,25 +106,15 @@ fn past_one(leaf: LeafView, rest: &[u8], place: u32) -> Result<(u32, &[u8]), Lea
     Ok((place - 1, rest))
 }
 
-/// The leaf at this place from the left with its box, in a tree whose box stands at `corners`. `None` behind the last leaf.
-pub(crate) fn leaf_of_place(
-    k: u8,
-    corners: &[u8],
-    bytes: &[u8],
-    place: u32,
-) -> Option<(LeafView, Area)>
-    requires count { k ≤ KMAX }
-    requires room { 16 * k ≤ length corners.now }
-    requires there { IsSome (tree_at k bytes.now) }
-    requires area { IsArea (corners_there k corners.now) }
-    requires well_cut { IsWellCut (tree_there k bytes.now) (corners_there k corners.now) }
-    ensures { MatchOption result (slice_get (leaves_of (tree_there k bytes.now) (corners_there k corners.now)) place ≡ None)
-        (λ r. ShowsLeaf (slice_get (leaves_of (tree_there k bytes.now) (corners_there k corners.now)) place) r.0 r.1) }
+/// The leaf at this place from the left with its box. `None` behind the last leaf.
+pub(crate) fn leaf_of_place(inside: &Inside<'_>, place: u32) -> Option<(LeafView, Area)>
+    requires well_cut { IsWellCut (tree_seen inside.now.tree) (area_seen inside.now) }
+    ensures { MatchOption result (slice_get (leaves_of (tree_seen inside.now.tree) (area_seen inside.now)) place ≡ None)
+        (λ r. ShowsLeaf (slice_get (leaves_of (tree_seen inside.now.tree) (area_seen inside.now)) place) r.0 r.1) }
 {
-    let mut lo = corner_at(k, corners);
-    let mut hi = corner_at(k, from_place(corners, 8 * usize::from(k)));
-    match past_place(k, bytes, lo.as_mut_slice(), hi.as_mut_slice(), place) {
+    let mut bounds = Bounds::of(inside);
+    match past_place(&inside.tree, &mut bounds, place) {
         Ok(_) => None,
-        Err(leaf) => Some((leaf, box_between(&lo, &hi))),
+        Err(leaf) => Some((leaf, bounds.area())),
     }
 }

@@ -1,25 +1,22 @@
 //! Whether the records of each leaf lie in its box and rise, told from the bytes of a tree.
-ghost use Rattle.std.specs.Prelude.{◌≡◌, ◌≤◌, ◌↔◌, length, All, IsSome, IsTrue, None, option_map};
+ghost use Rattle.std.specs.Prelude.{◌≡◌, ◌↔◌, All, IsTrue, None, option_map};
 ghost use Rattle.hb_space.specs.Boxes.{Holds};
-ghost use Rattle.hb_space.specs.Points.{IsAttributeCount};
 ghost use Rattle.hb_frag.specs.Leaves.{IsWellCut, leaves_of};
 ghost use Rattle.hb_frag.specs.Rules.{IsInOrder};
-ghost use Rattle.hb_page_codec.specs.ReadingFields.{records_at};
-ghost use Rattle.hb_page_codec.specs.ReadingPages.{tree_at};
-ghost use Rattle.hb_view.specs.Lists.{records_there, after_there};
 ghost use Rattle.hb_view.specs.Walks.{WalksOver, ComesBehind, RiseFrom};
-ghost use Rattle.hb_view.specs.Roots.{tree_there, rest_there};
+ghost use Rattle.hb_view.specs.Seen.{tree_seen, rest_seen, list_seen, after_seen};
 
+use crate::bounds::Bounds;
 use crate::lists::entry_of;
 use crate::roots::{Root, root_of};
+use crate::trees::{ListView, TreeView};
 use hb_space::Point;
-use hb_space::form::KMAX;
 
-/// Whether the box of these corners holds the point.
-fn holds(lo: &[u64], hi: &[u64], p: &[u64]) -> bool
-    requires { length lo.now ≡ length hi.now }
-    ensures { IsTrue result ↔ Holds (record { lo = lo.now; hi = hi.now }) p.now }
+/// Whether the box holds the point.
+fn holds(bounds: &Bounds, p: &[u64]) -> bool
+    ensures { IsTrue result ↔ Holds bounds.now p.now }
 {
+    let (lo, hi) = bounds.corners();
     if p.len() != lo.len() {
         return false;
     }
@@ -41,28 +38,24 @@ fn follows(last: &Option<Point>, p: &Point) -> bool
     }
 }
 
-/// Whether the point lies in the box of these corners, and comes behind the last one.
-fn comes_next(lo: &[u64], hi: &[u64], last: &Option<Point>, p: &Point) -> bool
-    requires { length lo.now ≡ length hi.now }
-    ensures { IsTrue result ↔ (Holds (record { lo = lo.now; hi = hi.now }) p.now × ComesBehind last.now p.now) }
+/// Whether the point lies in the box, and comes behind the last one.
+fn comes_next(bounds: &Bounds, last: &Option<Point>, p: &Point) -> bool
+    ensures { IsTrue result ↔ (Holds bounds.now p.now × ComesBehind last.now p.now) }
 {
-    holds(lo, hi, p.values()) && follows(last, p)
+    holds(bounds, p.values()) && follows(last, p)
 }
 
-/// Goes over so many records whose points lie in the box of these corners and rise.
-fn behind_rising<'a>(k: u8, count: u16, first: &'a [u8], lo: &[u64], hi: &[u64]) -> Option<&'a [u8]>
-    requires attributes { IsAttributeCount k }
-    requires there { IsSome (records_at k count first.now) }
-    requires same { length lo.now ≡ length hi.now }
-    ensures { WalksOver (RiseFrom (record { lo = lo.now; hi = hi.now }) None (records_there k count first.now))
-        (after_there k count first.now) (option_map (λ b. b.now) result) }
+/// Goes over records whose points lie in the box and rise.
+fn behind_rising<'a>(list: &ListView<'a>, bounds: &Bounds) -> Option<&'a [u8]>
+    ensures { WalksOver (RiseFrom bounds.now None (list_seen list.now))
+        (after_seen list.now) (option_map (λ b. b.now) result) }
 {
-    let mut rest = first;
+    let mut rest = list.first;
     let mut last = None;
-    for _ in 0..count {
-        match entry_of(k, rest) {
+    for _ in 0..list.count {
+        match entry_of(list.k, rest) {
             Some((key, _, after)) => {
-                if !comes_next(lo, hi, &last, &key) {
+                if !comes_next(bounds, &last, &key) {
                     return None;
                 }
                 last = Some(key);
@@ -74,38 +67,29 @@ fn behind_rising<'a>(k: u8, count: u16, first: &'a [u8], lo: &[u64], hi: &[u64])
     Some(rest)
 }
 
-/// Goes over a tree whose box has these corners, where the records of each leaf lie in its box and rise. The corners stay as
-/// they are.
-pub(crate) fn behind_order<'a>(
-    k: u8,
-    bytes: &'a [u8],
-    lo: &mut [u64],
-    hi: &mut [u64],
-) -> Option<&'a [u8]>
-    requires attributes { IsAttributeCount k }
-    requires there { IsSome (tree_at k bytes.now) }
-    requires same { length lo.old ≡ length hi.old }
-    requires well_cut { IsWellCut (tree_there k bytes.now) (record { lo = lo.old; hi = hi.old }) }
-    ensures passes { WalksOver (All IsInOrder (leaves_of (tree_there k bytes.now) (record { lo = lo.old; hi = hi.old })))
-        (rest_there k bytes.now) (option_map (λ b. b.now) result) }
-    ensures lo { lo.new ≡ lo.old }
-    ensures hi { hi.new ≡ hi.old }
+/// Goes over a tree with this box, where the records of each leaf lie in its box and rise. The box stays as it is.
+pub(crate) fn behind_order<'a>(tree: &TreeView<'a>, bounds: &mut Bounds) -> Option<&'a [u8]>
+    requires well_cut { IsWellCut (tree_seen tree.now) bounds.old }
+    ensures passes { WalksOver (All IsInOrder (leaves_of (tree_seen tree.now) bounds.old))
+        (rest_seen tree.now) (option_map (λ b. b.now) result) }
+    ensures same { bounds.new ≡ bounds.old }
 {
-    match root_of(k, bytes) {
+    let k = tree.k;
+    match root_of(tree) {
         Root::Cut { axis, value, left } => {
-            let at = usize::from(axis);
-            let greatest = hi[at];
-            hi[at] = value - 1;
-            let below = behind_order(k, left, lo, hi);
-            hi[at] = greatest;
+            let greatest = bounds.take_below(axis, value);
+            let below = behind_order(&TreeView { k, bytes: left }, bounds);
+            bounds.put_hi(axis, greatest);
             let right = below?;
-            let least = lo[at];
-            lo[at] = value;
-            let from = behind_order(k, right, lo, hi);
-            lo[at] = least;
+            let least = bounds.take_from(axis, value);
+            let from = behind_order(&TreeView { k, bytes: right }, bounds);
+            bounds.put_lo(axis, least);
             from
         }
-        Root::Records { count, first } => behind_rising(k, count, first, lo, hi),
+        Root::Records { count, first } => {
+            let list = ListView { k, count, first };
+            behind_rising(&list, bounds)
+        }
         Root::Child { rest, .. } => Some(rest),
         Root::Sibling { rest, .. } => Some(rest),
     }

@@ -1,12 +1,12 @@
 //! The root of a tree, from the front of bytes.
-ghost use Rattle.std.specs.Prelude.{◌≤◌, IsSome};
 ghost use Rattle.hb_page_codec.specs.Reading.{ReadsAs};
-ghost use Rattle.hb_page_codec.specs.ReadingPages.{tree_at};
-ghost use Rattle.hb_view.specs.Roots.{sight_of, root_at, IsRootAt};
+ghost use Rattle.hb_view.specs.Roots.{sight_of, root_at};
+ghost use Rattle.hb_view.specs.Seen.{HasRoot};
 
+use crate::attributes::Attributes;
 use crate::fields::{axis_of, count_of};
+use crate::trees::TreeView;
 use hb_page_codec::{u32_of, u64_of};
-use hb_space::form::KMAX;
 
 /// What stands at the root of a tree.
 #[derive(Clone, Copy, Debug)]
@@ -36,9 +36,8 @@ pub(crate) enum Root<'a> {
 
 /// The root at the front of the bytes. None where none stands there.
 #[tactic(auto, unfolding(crate::specs::Roots::root_at))]
-fn root_read(k: u8, bytes: &[u8]) -> Option<Root<'_>>
-    requires { k ≤ KMAX }
-    ensures { ReadsAs sight_of result (root_at k bytes.now) }
+fn root_read(k: Attributes, bytes: &[u8]) -> Option<Root<'_>>
+    ensures { ReadsAs sight_of result (root_at k.number bytes.now) }
 {
     match bytes {
         [0, rest @ ..] => {
@@ -62,13 +61,11 @@ fn root_read(k: u8, bytes: &[u8]) -> Option<Root<'_>>
     }
 }
 
-/// The root of the tree that stands at the front of the bytes.
-pub(crate) fn root_of(k: u8, bytes: &[u8]) -> Root<'_>
-    requires count { k ≤ KMAX }
-    requires there { IsSome (tree_at k bytes.now) }
-    ensures { IsRootAt k bytes.now result }
+/// The root of a tree.
+pub(crate) fn root_of<'a>(tree: &TreeView<'a>) -> Root<'a>
+    ensures { HasRoot tree.now result }
 {
-    match root_read(k, bytes) {
+    match root_read(tree.k, tree.bytes) {
         Some(root) => root,
         None => unreachable!(),
     }

@@ -4,18 +4,18 @@ ghost use Rattle.hb_page_codec.specs.Reading.{ReadsAs};
 ghost use Rattle.hb_page_codec.specs.ReadingFields.{records_at};
 ghost use Rattle.hb_page_codec.specs.ReadingPages.{tree_at};
 ghost use Rattle.hb_view.specs.Behind.{behind, record_behind, list_behind, cut_behind, name_behind, node_behind, rest_after};
-ghost use Rattle.hb_view.specs.Roots.{rest_there};
+ghost use Rattle.hb_view.specs.Seen.{rest_seen};
 
+use crate::attributes::Attributes;
 use crate::corners::{from_place, point_read};
 use crate::fields::{axis_of, body_of, count_of};
+use crate::trees::TreeView;
 use hb_page_codec::{u32_of, u64_of};
-use hb_space::form::KMAX;
 
 /// The bytes behind a record whose point has `k` values.
 #[tactic(auto, unfolding(crate::specs::Behind::record_behind))]
-fn behind_record(k: u8, bytes: &[u8]) -> Option<&[u8]>
-    requires { k ≤ KMAX }
-    ensures { ReadsAs (λ x. x.now) result (record_behind k bytes.now) }
+fn behind_record(k: Attributes, bytes: &[u8]) -> Option<&[u8]>
+    ensures { ReadsAs (λ x. x.now) result (record_behind k.number bytes.now) }
 {
     let (_, rest) = point_read(k, bytes)?;
     let (_, rest) = body_of(rest)?;
@@ -23,9 +23,8 @@ fn behind_record(k: u8, bytes: &[u8]) -> Option<&[u8]>
 }
 
 /// The bytes behind so many records.
-pub(crate) fn behind_list(k: u8, count: u16, bytes: &[u8]) -> Option<&[u8]>
-    requires { k ≤ KMAX }
-    ensures { ReadsAs (λ x. x.now) result (behind (records_at k count bytes.now)) }
+pub(crate) fn behind_list(k: Attributes, count: u16, bytes: &[u8]) -> Option<&[u8]>
+    ensures { ReadsAs (λ x. x.now) result (behind (records_at k.number count bytes.now)) }
 {
     let mut rest = bytes;
     for _ in 0..count {
@@ -36,9 +35,8 @@ pub(crate) fn behind_list(k: u8, count: u16, bytes: &[u8]) -> Option<&[u8]>
 
 /// The bytes behind a leaf of records, from behind its tag.
 #[tactic(auto, unfolding(crate::specs::Behind::list_behind))]
-fn behind_records(k: u8, bytes: &[u8]) -> Option<&[u8]>
-    requires { k ≤ KMAX }
-    ensures { ReadsAs (λ x. x.now) result (list_behind k bytes.now) }
+fn behind_records(k: Attributes, bytes: &[u8]) -> Option<&[u8]>
+    ensures { ReadsAs (λ x. x.now) result (list_behind k.number bytes.now) }
 {
     let (count, rest) = count_of(k, bytes)?;
     behind_list(k, count, rest)
@@ -56,9 +54,8 @@ pub(crate) fn behind_name(bytes: &[u8]) -> Option<&[u8]>
 /// The bytes behind a cut, from behind its tag.
 #[cycle(trees)]
 #[tactic(auto, unfolding(crate::specs::Behind::cut_behind))]
-fn behind_cut(k: u8, bytes: &[u8]) -> Option<&[u8]>
-    requires { k ≤ KMAX }
-    ensures { ReadsAs (λ x. x.now) result (cut_behind k bytes.now) }
+fn behind_cut(k: Attributes, bytes: &[u8]) -> Option<&[u8]>
+    ensures { ReadsAs (λ x. x.now) result (cut_behind k.number bytes.now) }
 {
     let (_axis, rest) = axis_of(k, bytes)?;
     let (_value, rest) = u64_of(rest)?;
@@ -69,9 +66,8 @@ fn behind_cut(k: u8, bytes: &[u8]) -> Option<&[u8]>
 /// The bytes behind the root of a tree and what lies below it.
 #[cycle(trees)]
 #[tactic(auto, unfolding(crate::specs::Behind::node_behind))]
-fn behind_node(k: u8, bytes: &[u8]) -> Option<&[u8]>
-    requires { k ≤ KMAX }
-    ensures { ReadsAs (λ x. x.now) result (node_behind k bytes.now) }
+fn behind_node(k: Attributes, bytes: &[u8]) -> Option<&[u8]>
+    ensures { ReadsAs (λ x. x.now) result (node_behind k.number bytes.now) }
 {
     match bytes {
         [0, rest @ ..] => behind_cut(k, rest),
@@ -84,18 +80,16 @@ fn behind_node(k: u8, bytes: &[u8]) -> Option<&[u8]>
 
 /// The bytes behind a tree. None where no tree stands there.
 #[cycle(trees)]
-pub(crate) fn behind_tree(k: u8, bytes: &[u8]) -> Option<&[u8]>
-    requires { k ≤ KMAX }
-    ensures { ReadsAs (λ x. x.now) result (behind (tree_at k bytes.now)) }
+pub(crate) fn behind_tree(k: Attributes, bytes: &[u8]) -> Option<&[u8]>
+    ensures { ReadsAs (λ x. x.now) result (behind (tree_at k.number bytes.now)) }
 {
     behind_node(k, bytes)
 }
 
 /// The bytes behind a leaf of records that stands there, from behind its tag.
-fn rest_behind_records(k: u8, bytes: &[u8]) -> &[u8]
-    requires count { k ≤ KMAX }
-    requires there { IsSome (list_behind k bytes.now) }
-    ensures { list_behind k bytes.now ≡ Some result.now }
+fn rest_behind_records(k: Attributes, bytes: &[u8]) -> &[u8]
+    requires { IsSome (list_behind k.number bytes.now) }
+    ensures { list_behind k.number bytes.now ≡ Some result.now }
 {
     match behind_records(k, bytes) {
         Some(rest) => rest,
@@ -105,12 +99,11 @@ fn rest_behind_records(k: u8, bytes: &[u8]) -> &[u8]
 
 /// Where so many trees stand one behind the other: how many stand behind the first node, and their bytes. A cut has two
 /// trees in place of one.
-fn past_node(k: u8, trees: usize, bytes: &[u8]) -> (usize, &[u8])
-    requires count { k ≤ KMAX }
+fn past_node(k: Attributes, trees: usize, bytes: &[u8]) -> (usize, &[u8])
     requires some { 0 < trees }
     requires few { trees + length bytes.now ≤ 2 ^ 63 }
-    requires there { IsSome (rest_after trees k bytes.now) }
-    ensures same { rest_after result.0 k result.1.now ≡ rest_after trees k bytes.now }
+    requires there { IsSome (rest_after trees k.number bytes.now) }
+    ensures same { rest_after result.0 k.number result.1.now ≡ rest_after trees k.number bytes.now }
     ensures fewer { result.0 + length result.1.now < trees + length bytes.now }
 {
     let tag = bytes[0];
@@ -124,15 +117,13 @@ fn past_node(k: u8, trees: usize, bytes: &[u8]) -> (usize, &[u8])
 }
 
 /// The bytes behind a tree that stands there. Of a node the tag alone says how far it goes, but for a leaf of records.
-pub(crate) fn rest_of(k: u8, bytes: &[u8]) -> &[u8]
-    requires count { k ≤ KMAX }
-    requires there { IsSome (tree_at k bytes.now) }
-    ensures { result.now ≡ rest_there k bytes.now }
+pub(crate) fn rest_of<'a>(tree: &TreeView<'a>) -> &'a [u8]
+    ensures { result.now ≡ rest_seen tree.now }
 {
     let mut trees: usize = 1;
-    let mut rest = bytes;
+    let mut rest = tree.bytes;
     while trees > 0 {
-        (trees, rest) = past_node(k, trees, rest);
+        (trees, rest) = past_node(tree.k, trees, rest);
     }
     rest
 }

@@ -16,8 +16,9 @@ use crate::LeafView;
 use crate::boxes::leaf_in;
 use crate::broken::{Limits, first_broken};
 use crate::checking::spells;
-use crate::heads::{Inside, are_live, box_of, inside_of, level_of, next_of, page_of};
+use crate::heads::{are_live, box_of, inside_of, level_of, next_of, page_of};
 use crate::naming::{leaf_of_place, named_in};
+use crate::trees::Inside;
 use crate::walking::{count_in, find_in, weigh};
 use hb_frag::Page;
 use hb_space::form::BMAX;
@@ -105,10 +106,10 @@ impl<'a> PageView<'a> {
         next_of(self.bytes)
     }
 
-    /// Where the parts of a page in use stand.
+    /// Where the box and the tree of a page in use stand.
     fn inside(&self) -> Inside<'a>
         requires { IsLive self.now }
-        ensures { IsLiveAnd self.now (λ page. HasInside page result.k result.corners.now result.tree.now) }
+        ensures { IsLiveAnd self.now (λ page. HasInside page result) }
     {
         inside_of(self.bytes)
     }
@@ -118,8 +119,7 @@ impl<'a> PageView<'a> {
         requires { IsLive self.now }
         ensures { IsLiveAnd self.now (λ page. result ≡ weight_of page.frag) }
     {
-        let inside = self.inside();
-        weigh(inside.k, inside.tree).0
+        weigh(&self.inside().tree).0
     }
 
     /// The leaf whose box holds the point, and that box.
@@ -128,8 +128,7 @@ impl<'a> PageView<'a> {
         requires held { IsLiveAnd self.now (λ page. Holds page.area p.now) }
         ensures { IsLiveAnd self.now (λ page. ShowsLeaf (leaf_at page p.now) result.0 result.1) }
     {
-        let inside = self.inside();
-        leaf_in(inside.k, inside.corners, inside.tree, p)
+        leaf_in(&self.inside(), p)
     }
 
     /// The body of the record of the point. `None` where the leaf whose box holds the point names a page, or has no record
@@ -140,8 +139,7 @@ impl<'a> PageView<'a> {
         ensures found { IsLiveAnd self.now (λ page. TellsBody p.now (leaf_at page p.now) (option_map (λ b. b.now) result)) }
         ensures short { IfSome result (λ b. length b.now ≤ BMAX) }
     {
-        let inside = self.inside();
-        find_in(inside.k, inside.tree, p.values())
+        find_in(&self.inside().tree, p.values())
     }
 
     /// How many records the leaf has whose box holds the point; none where it names a page.
@@ -150,8 +148,7 @@ impl<'a> PageView<'a> {
         requires held { IsLiveAnd self.now (λ page. Holds page.area p.now) }
         ensures { IsLiveAnd self.now (λ page. CountsLeaf (leaf_at page p.now) result) }
     {
-        let inside = self.inside();
-        count_in(inside.k, inside.tree, p.values())
+        count_in(&self.inside().tree, p.values())
     }
 
     /// The box of the first sibling leaf from the left that names the page. `None` where no sibling leaf does.
@@ -159,8 +156,7 @@ impl<'a> PageView<'a> {
         requires { IsLiveAnd self.now WellCut }
         ensures { IsLiveAnd self.now (λ page. result ≡ first_named id (siblings_of page)) }
     {
-        let inside = self.inside();
-        named_in(inside.k, inside.corners, inside.tree, LeafView::Sibling(id))
+        named_in(&self.inside(), LeafView::Sibling(id))
     }
 
     /// The box of the first child leaf from the left that names the page. `None` where no child leaf does.
@@ -168,8 +164,7 @@ impl<'a> PageView<'a> {
         requires { IsLiveAnd self.now WellCut }
         ensures { IsLiveAnd self.now (λ page. result ≡ first_child_box id (leaves_of page.frag page.area)) }
     {
-        let inside = self.inside();
-        named_in(inside.k, inside.corners, inside.tree, LeafView::Child(id))
+        named_in(&self.inside(), LeafView::Child(id))
     }
 
     /// The leaf at this place, from the left and counted from 0, and its box. `None` where the page has no more leaves than
@@ -179,8 +174,7 @@ impl<'a> PageView<'a> {
         ensures { IsLiveAnd self.now (λ page. MatchOption result (slice_get (leaves_of page.frag page.area) place ≡ None)
             (λ r. ShowsLeaf (slice_get (leaves_of page.frag page.area) place) r.0 r.1)) }
     {
-        let inside = self.inside();
-        leaf_of_place(inside.k, inside.corners, inside.tree, place)
+        leaf_of_place(&self.inside(), place)
     }
 
     /// The page itself, with memory of its own.
@@ -198,13 +192,12 @@ impl<'a> PageView<'a> {
         ensures none { IsLiveAnd self.now (λ page. IsNone result ↔ FitsFile (meta_with k height dcap icap) page) }
         ensures first { IsLiveAnd self.now (λ page. IfSome result (λ r. BreaksFirst r page (meta_with k height dcap icap))) }
     {
-        let inside = self.inside();
         let limits = Limits {
             k,
             height,
             dcap,
             icap,
         };
-        first_broken(inside.k, inside.corners, inside.tree, self.level(), limits)
+        first_broken(&self.inside(), self.level(), limits)
     }
 }

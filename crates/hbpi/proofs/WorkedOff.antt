@@ -9,7 +9,8 @@ use Rattle.hb_activity.specs.declared.jobs.JobKind.{JobKind}
 use Rattle.hb_activity.specs.declared.jobs.JobKind.TheVariants.{Post, Merge}
 use Rattle.hb_core.specs.Machines.{Machine}
 use Rattle.hb_core.specs.Showing.{RunningCore, ShowsMachine}
-use Rattle.hb_core.specs.Taking.{jobs_in_work, jobs_of, worker_for}
+use Rattle.hb_core.specs.ProgressLaws.{jobs_of}
+use Rattle.hb_core.specs.Taking.{jobs_in_work, worker_for}
 use Rattle.hb_disk.specs.Model.{DiskModel}
 use Rattle.hb_core.specs.declared.endings.End.{End}
 use Rattle.hb_drive.specs.Driving.{DrivesTo}

@@ -1,5 +1,5 @@
 -- What is decided of boxes: whether something is of each number below another, and whether a box lies within another.
-use Rattle.std.proofs.Common.{◌≡◌, inl, inr, ℕ, zero, suc, ◌<◌, length, sym, subst, arith}
+use Rattle.std.proofs.Common.{inl, inr, ℕ, zero, suc, ◌<◌, length, sym, subst, arith}
 use Rattle.std.proofs.lemmas.Bool.{cases_eq}
 use Rattle.hb_lemmas.proofs.Decisions.{Known, both, known_le}
 use Rattle.hb_space.specs.Boxes.{Area, Within}

@@ -2,13 +2,14 @@
 use Rattle.std.proofs.Common.{◌≡◌, ◌≢◌, ℕ, Bool, true, false, cond, IsTrue, List, [], ◌∷◌, ◌++◌, Some, None, refl, sym, ap, subst, ◌∙◌, ◌⊎◌, inl, inr, append_assoc}
 use Rattle.std.specs.List.{AllByRecursion}
 use Rattle.std.proofs.lemmas.List.Elements.{recursion_from_All}
+use Rattle.hb_frag.proofs.OrderedLeaves.{held_below}
 use Rattle.hb_space.specs.Boxes.{Area, Holds, holds, side_below, side_from}
 use Rattle.hb_space.specs.declared.records.Record.{Record}
 use Rattle.hb_frag.specs.declared.leaves.Leaf.{Leaf}
 use Rattle.hb_frag.specs.Trees.{Tree, Tip, Cut}
 use Rattle.hb_frag.specs.Leaves.{Placed, IsWellCut, first_at, leaves, leaves_of, records_of, with_leaf_at}
 use Rattle.hb_frag.specs.Rules.{IsInOrder}
-use Rattle.hb_ops.proofs.Boxes.{apart, held, in_below, in_from, not_held}
+use Rattle.hb_ops.proofs.Boxes.{apart, held, in_from, not_held}
 use Rattle.hb_lemmas.proofs.Lists.{parts, whole}
 
 -- no record of the leaf has the point
@@ -37,7 +38,7 @@ pub first_held : (p : List ℕ) (tree : Tree) (area : Area) (placed : Placed) �
 first_held p (Tip leaf) area placed cut e = held area p (tip_at p leaf area placed e).0
 first_held p (Cut axis value left right) area placed cut e =
     elim (first_append p (leaves_of left (side_below area axis value)) (leaves_of right (side_from area axis value)) placed e) [
-      | inl l ↦ (in_below area axis value p cut.0 (first_held p left (side_below area axis value) placed cut.1 l)).0
+      | inl l ↦ (held_below area axis value p cut.0 (first_held p left (side_below area axis value) placed cut.1 l)).0
       | inr r ↦ (in_from area axis value p cut.0 (first_held p right (side_from area axis value) placed cut.2 r)).0
     ]
 
@@ -45,7 +46,7 @@ first_held p (Cut axis value left right) area placed cut e =
 pub unchanged : (p : List ℕ) (change : Leaf → Leaf) (tree : Tree) (area : Area) → IsWellCut tree area → ¬ (Holds area p) → with_leaf_at p change tree area ≡ tree
 unchanged p change (Tip leaf) area cut out = ap (λ (b : Bool). Tip (cond b (change leaf) leaf)) (not_held area p out)
 unchanged p change (Cut axis value left right) area cut out =
-    let l = unchanged p change left (side_below area axis value) cut.1 (λ h. out (in_below area axis value p cut.0 h).0) in
+    let l = unchanged p change left (side_below area axis value) cut.1 (λ h. out (held_below area axis value p cut.0 h).0) in
     let r = unchanged p change right (side_from area axis value) cut.2 (λ h. out (in_from area axis value p cut.0 h).0) in
     λ i. Cut axis value (l i) (r i)
 
@@ -59,7 +60,7 @@ lacks p (Tip leaf) area cut order out = (outside_lacks p (records_of leaf) area 
 lacks p (Cut axis value left right) area cut order out =
     let both = parts IsInOrder (leaves_of left (side_below area axis value)) (leaves_of right (side_from area axis value)) order in
     whole (LeafLacks p) (leaves left) (leaves right)
-    (lacks p left (side_below area axis value) cut.1 both.0 (λ h. out (in_below area axis value p cut.0 h).0))
+    (lacks p left (side_below area axis value) cut.1 both.0 (λ h. out (held_below area axis value p cut.0 h).0))
     (lacks p right (side_from area axis value) cut.2 both.1 (λ h. out (in_from area axis value p cut.0 h).0))
 
 -- The leaves from the left are some, the one at the point, and some: a change there changes that one. Where records lie

@@ -4,4 +4,4 @@ use Rattle.hb_view.proofs.corners.is_ordered.Given as goal
 
 -- the values so far are in order
 abbrev pub invariant-loop-axis : goal.invariant-loop-axis
-invariant-loop-axis l = (j : ℕ) → j < l.axis → get_or (point_there l.k l.lo) j 0 ≤ get_or (point_there l.k l.hi) j 0
+invariant-loop-axis l = (j : ℕ) → j < l.axis → get_or (point_there l.k.number l.lo) j 0 ≤ get_or (point_there l.k.number l.hi) j 0

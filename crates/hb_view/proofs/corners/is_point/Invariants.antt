@@ -4,4 +4,4 @@ use Rattle.hb_view.proofs.corners.is_point.Given as goal
 
 -- the values so far are the same
 abbrev pub invariant-loop-axis : goal.invariant-loop-axis
-invariant-loop-axis l = (j : ℕ) → j < l.axis → get_or (point_there l.k l.bytes) j 0 ≡ get_or l.p j 0
+invariant-loop-axis l = (j : ℕ) → j < l.axis → get_or (point_there l.k.number l.bytes) j 0 ≡ get_or l.p j 0

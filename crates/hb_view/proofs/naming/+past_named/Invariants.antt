@@ -3,4 +3,4 @@ use Rattle.hb_view.proofs.naming.+past_named.Given as goal
 
 -- a side has fewer bytes than the tree
 abbrev pub decreases-past_named : goal.decreases-past_named
-decreases-past_named l = length l.bytes.now
+decreases-past_named l = length l.tree.now.bytes.now

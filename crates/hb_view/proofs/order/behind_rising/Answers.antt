@@ -10,35 +10,35 @@ use Rattle.hb_view.proofs.order.behind_rising.Goals as goal
 
 pub returns-then-not-comes_next : goal.returns-then-not-comes_next
 returns-then-not-comes_next c =
-    let area : Area = record { lo = c.args.lo.now; hi = c.args.hi.now } in
-    let all = RiseFrom area None (records_there c.args.k c.args.count c.args.first.now) in
+    let area : Area = c.args.bounds.now in
+    let all = RiseFrom area None (records_there c.args.list.now.k.number c.args.list.now.count c.args.list.now.first.now) in
     let r : Record = record { key = c.in-Some.key; body = c.in-Some.field-0-1.now } in
-    let left = records_there c.args.k (c.args.count - c.loop.counter) c.loop.rest.now in
-    let others = records_there c.args.k (c.args.count - (c.loop.counter + 1)) c.in-Some.after.now in
-    let e = left_list c.args.k c.args.count c.loop.counter c.loop.rest.now r c.in-Some.after.now c.loop-test.true c.loop.invariant.there c.in-Some.ensures in
+    let left = records_there c.args.list.now.k.number (c.args.list.now.count - c.loop.counter) c.loop.rest.now in
+    let others = records_there c.args.list.now.k.number (c.args.list.now.count - (c.loop.counter + 1)) c.in-Some.after.now in
+    let e = left_list c.args.list.now.k.number c.args.list.now.count c.loop.counter c.loop.rest.now r c.in-Some.after.now c.loop-test.true c.loop.invariant.there c.in-Some.ensures in
     step_stops area c.loop.last left others r all c.loop.invariant.same e (λ next. false≢true (sym c.if-not-comes_next.true ∙ c.comes_next.ensures.1 next))
 
 pub unreachable-requires : goal.unreachable-requires
-unreachable-requires c = none_missing c.args.k c.args.count c.loop.counter c.loop.rest.now c.loop-test.true c.loop.invariant.there c.in-None.ensures
+unreachable-requires c = none_missing c.args.list.now.k.number c.args.list.now.count c.loop.counter c.loop.rest.now c.loop-test.true c.loop.invariant.there c.in-None.ensures
 
 pub loop-preserved : goal.loop-preserved
 loop-preserved c =
-    let area : Area = record { lo = c.args.lo.now; hi = c.args.hi.now } in
-    let all = RiseFrom area None (records_there c.args.k c.args.count c.args.first.now) in
+    let area : Area = c.args.bounds.now in
+    let all = RiseFrom area None (records_there c.args.list.now.k.number c.args.list.now.count c.args.list.now.first.now) in
     let r : Record = record { key = c.in-Some.key; body = c.in-Some.field-0-1.now } in
-    let left = records_there c.args.k (c.args.count - c.loop.counter) c.loop.rest.now in
-    let others = records_there c.args.k (c.args.count - (c.loop.counter + 1)) c.in-Some.after.now in
-    let e = left_list c.args.k c.args.count c.loop.counter c.loop.rest.now r c.in-Some.after.now c.loop-test.true c.loop.invariant.there c.in-Some.ensures in
+    let left = records_there c.args.list.now.k.number (c.args.list.now.count - c.loop.counter) c.loop.rest.now in
+    let others = records_there c.args.list.now.k.number (c.args.list.now.count - (c.loop.counter + 1)) c.in-Some.after.now in
+    let e = left_list c.args.list.now.k.number c.args.list.now.count c.loop.counter c.loop.rest.now r c.in-Some.after.now c.loop-test.true c.loop.invariant.there c.in-Some.ensures in
     record {
-      there = others_there c.args.k c.args.count c.loop.counter c.loop.rest.now r c.in-Some.after.now c.loop-test.true c.loop.invariant.there c.in-Some.ensures;
-      after = left_behind c.args.k c.args.count c.loop.counter c.loop.rest.now r c.in-Some.after.now c.loop-test.true c.loop.invariant.there c.in-Some.ensures ∙ c.loop.invariant.after;
+      there = others_there c.args.list.now.k.number c.args.list.now.count c.loop.counter c.loop.rest.now r c.in-Some.after.now c.loop-test.true c.loop.invariant.there c.in-Some.ensures;
+      after = left_behind c.args.list.now.k.number c.args.list.now.count c.loop.counter c.loop.rest.now r c.in-Some.after.now c.loop-test.true c.loop.invariant.there c.in-Some.ensures ∙ c.loop.invariant.after;
       same = step_goes_on area c.loop.last left others r all c.loop.invariant.same e (c.comes_next.ensures.0 c.if-not-comes_next.false);
     }
 
 pub returns : goal.returns
 returns c =
-    let area : Area = record { lo = c.args.lo.now; hi = c.args.hi.now } in
-    let all = RiseFrom area None (records_there c.args.k c.args.count c.args.first.now) in (
-      all_rose c.args.k c.args.count c.loop.counter c.loop.rest.now area c.loop.last all c.loop-test.false c.loop.invariant.same,
-      none_after c.args.k c.args.count c.loop.counter c.loop.rest.now c.loop-test.false ∙ c.loop.invariant.after,
+    let area : Area = c.args.bounds.now in
+    let all = RiseFrom area None (records_there c.args.list.now.k.number c.args.list.now.count c.args.list.now.first.now) in (
+      all_rose c.args.list.now.k.number c.args.list.now.count c.loop.counter c.loop.rest.now area c.loop.last all c.loop-test.false c.loop.invariant.same,
+      none_after c.args.list.now.k.number c.args.list.now.count c.loop.counter c.loop.rest.now c.loop-test.false ∙ c.loop.invariant.after,
     )

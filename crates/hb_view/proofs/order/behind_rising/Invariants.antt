@@ -7,7 +7,7 @@ use Rattle.hb_view.proofs.order.behind_rising.Given as goal
 -- the records that are left rise exactly where all do
 abbrev pub invariant-loop : goal.invariant-loop
 invariant-loop l = record {
-  there : IsSome (records_at l.k (l.count - l.counter) l.rest);
-  after : after_there l.k (l.count - l.counter) l.rest ≡ after_there l.k l.count l.first;
-  same : RiseFrom (record { lo = l.lo; hi = l.hi }) l.last (records_there l.k (l.count - l.counter) l.rest) ↔ RiseFrom (record { lo = l.lo; hi = l.hi }) None (records_there l.k l.count l.first);
+  there : IsSome (records_at l.list.k.number (l.list.count - l.counter) l.rest);
+  after : after_there l.list.k.number (l.list.count - l.counter) l.rest ≡ after_there l.list.k.number l.list.count l.list.first.now;
+  same : RiseFrom l.bounds l.last (records_there l.list.k.number (l.list.count - l.counter) l.rest) ↔ RiseFrom l.bounds None (records_there l.list.k.number l.list.count l.list.first.now);
 }

@@ -3,4 +3,4 @@ use Rattle.hb_view.proofs.rules.+behind_kinds.Given as goal
 
 -- a side has fewer bytes than the tree
 abbrev pub decreases-behind_kinds : goal.decreases-behind_kinds
-decreases-behind_kinds l = length l.bytes.now
+decreases-behind_kinds l = length l.tree.now.bytes.now

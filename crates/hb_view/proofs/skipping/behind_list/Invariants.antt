@@ -6,4 +6,4 @@ use Rattle.hb_view.proofs.skipping.behind_list.Given as goal
 
 -- behind the records that are left stands what stands behind all
 abbrev pub invariant-loop : goal.invariant-loop
-invariant-loop l = behind (many_at (record_at l.k) (l.count - l.counter) l.rest) ≡ behind (records_at l.k l.count l.bytes)
+invariant-loop l = behind (many_at (record_at l.k.number) (l.count - l.counter) l.rest) ≡ behind (records_at l.k.number l.count l.bytes)

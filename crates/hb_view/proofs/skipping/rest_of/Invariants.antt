@@ -6,8 +6,8 @@ use Rattle.hb_view.proofs.skipping.rest_of.Given as goal
 -- behind the trees that are left stands what stands behind the tree
 abbrev pub invariant-loop-trees : goal.invariant-loop-trees
 invariant-loop-trees l = record {
-  same : rest_after l.trees l.k l.rest ≡ Some (rest_there l.k l.bytes);
-  few : l.trees + length l.rest ≤ 1 + length l.bytes;
+  same : rest_after l.trees l.tree.k.number l.rest ≡ Some (rest_there l.tree.k.number l.tree.bytes.now);
+  few : l.trees + length l.rest ≤ 1 + length l.tree.bytes.now;
 }
 
 abbrev pub decreases-loop-trees : goal.decreases-loop-trees

@@ -3,4 +3,4 @@ use Rattle.hb_view.proofs.walking.+descend.Given as goal
 
 -- a side has fewer bytes than the tree
 abbrev pub decreases-descend : goal.decreases-descend
-decreases-descend l = length l.bytes.now
+decreases-descend l = length l.tree.now.bytes.now

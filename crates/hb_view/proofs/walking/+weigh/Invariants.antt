@@ -3,4 +3,4 @@ use Rattle.hb_view.proofs.walking.+weigh.Given as goal
 
 -- a side has fewer bytes than the tree
 abbrev pub decreases-weigh : goal.decreases-weigh
-decreases-weigh l = length l.bytes.now
+decreases-weigh l = length l.tree.now.bytes.now
