@@ -1,5 +1,5 @@
 -- Calls that look below a page: the errors by which they end before they look at anything, and what is said of the file then.
-use Rattle.std.proofs.Common.{◌≡◌, inl, inr, ℕ, ◌<◌, List, [], Some, Result, Ok, Err, refl, sym, ap, ◌∙◌, subst}
+use Rattle.std.proofs.Common.{◌≡◌, ◌≢◌, inl, inr, ℕ, ◌<◌, List, [], Some, Result, Ok, Err, refl, sym, ap, ◌∙◌, subst}
 use Rattle.hb_disk.specs.Model.{DiskModel, IsDisk}
 use Rattle.hb_space.specs.Boxes.{Area}
 use Rattle.hb_frag.specs.declared.pages.LivePage.{LivePage}
@@ -17,7 +17,7 @@ use Rattle.hb_tidy.proofs.Joined.{over_then}
 use Rattle.hb_tidy.proofs.KnownFiles.{IsFileOf, over_file}
 use Rattle.hb_tidy.specs.declared.stops.TidyStop.{TidyStop}
 use Rattle.hb_tidy.specs.declared.stops.TidyStop.TheVariants as stops
-use Rattle.hb_tidy.specs.Finding.{BothLive, WantsPage}
+use Rattle.hb_tidy.specs.Finding.{BothLive, OwesGrowth, WantsPage}
 use Rattle.hb_tidy.specs.Going.{MayTidy}
 use Rattle.hb_tidy.specs.Looking.{LooksOver, NothingOf}
 use Rattle.hb_tidy.specs.Placing.{IsNotOwed}
@@ -60,6 +60,13 @@ wants_growth c s root file live given low full = record {
   none_free = ap (λ (x : Meta). x.live) file.meta ∙ full ∙ sym (ap (λ (x : Meta). x.pages) file.meta);
   owed = inl (record { low = subst (λ (meta : Meta). meta.height < HEIGHT_MAX) (sym file.meta) low; root = root; live = live; given = given });
 }
+
+-- the growth is owed, and a page is free for it
+pub owes_growth : (c : RunningCore) (s : FileState) (root : LivePage) → IsFileOf c s → live_page s s.meta.root ≡ Some root → (siblings_of root ≡ [] → ⊥) → c.store.meta.height < HEIGHT_MAX → (c.store.meta.live ≡ c.store.meta.pages → ⊥) → OwesGrowth s × (s.meta.live ≢ s.meta.pages)
+owes_growth c s root file live given low free = (
+  record { low = subst (λ (meta : Meta). meta.height < HEIGHT_MAX) (sym file.meta) low; root = root; live = live; given = given },
+  λ full. free (sym (ap (λ (x : Meta). x.live) file.meta) ∙ full ∙ ap (λ (x : Meta). x.pages) file.meta),
+)
 
 -- a call that ends since a page is wanted, and none is free
 pub over_full : {U : Type 0} (knows : FileState → Type 0) (says : U → FileState → Type 0) (d : DiskModel) (c : RunningCore) → IsDisk d → MayTidy d c → c.store.meta.live ≡ c.store.meta.pages → ((s : FileState) → IsFileOf c s → knows s → WantsPage s) → LooksOver {T = U} knows (Err stops.Full) says d c d c

@@ -11,11 +11,15 @@ use Rattle.hb_layout.specs.Limits.{IsLayout}
 use Rattle.hb_ops.specs.Files.{FileState}
 use Rattle.hb_outside.specs.Streams.{Rose}
 use Rattle.hb_store.specs.States.{StoreState}
+use Rattle.hb_store.specs.declared.stops.Flushed.{Flushed}
+use Rattle.hb_store.specs.declared.stops.Flushed.TheVariants as flushes
+use Rattle.hb_store.specs.declared.stops.WriteFault.{WriteFault}
 use Rattle.hb_store.specs.declared.stops.StopWhy.{StopWhy}
 use Rattle.hb_store.specs.declared.stops.StopWhy.TheVariants as whys
 use Rattle.hb_store.specs.declared.stops.Why.{Why}
 use Rattle.hb_core.proofs.Files.NoDamage.{stays_undamaged}
-use Rattle.hb_core.specs.Between.{LetsWait}
+use Rattle.hb_core.proofs.Running.BetweenCalls.{flusher_stands}
+use Rattle.hb_core.specs.Between.{LetsWait, said_of_flush}
 use Rattle.hb_core.specs.Keeps.{HasSoundFile}
 use Rattle.hb_core.specs.KeptFits.{JobFits}
 use Rattle.hb_core.specs.Machines.{Machine}
@@ -28,7 +32,8 @@ use Rattle.hb_core.specs.declared.outcomes.Outcome.TheVariants as outcomes
 use Rattle.hb_tidy.proofs.CountsOfCalls.{same_rises}
 use Rattle.hb_tidy.proofs.Joined.{may_then}
 use Rattle.hb_tidy.proofs.OneCall.{StandsStill, run_tidied, step_runs, step_taken, still_itself, still_tidied, still_tidied_new, still_waiting}
-use Rattle.hb_tidy.proofs.Worked.{between_itself, worked_none, worked_once}
+use Rattle.hb_tidy.proofs.Resting.{still_rests}
+use Rattle.hb_tidy.proofs.Worked.{none_dropped, taken_still, worked_none, worked_once}
 use Rattle.hb_tidy.proofs.Workers.{FlushLeaves, IsWorker, flusher_leaves, is_actor}
 use Rattle.hb_tidy.specs.declared.stops.TidyStop.{TidyStop}
 use Rattle.hb_tidy.specs.declared.stops.TidyStop.TheVariants as stops
@@ -37,7 +42,9 @@ use Rattle.hb_tidy.specs.Going.{Goes, MayTidy}
 use Rattle.hb_tidy.specs.Looking.{FileStays, LooksOver, NothingOf}
 use Rattle.hb_tidy.specs.Stepping.{EndsCall, EndsStep, stop_by}
 use Rattle.hb_tidy.specs.Tidying.{HasTidied, StopsTidying, file_now}
-use Rattle.hb_tidy.specs.Working.{HasCause, HasWorked}
+use Rattle.hb_tidy.specs.Owed.{IsJobOwed}
+use Rattle.hb_tidy.specs.Working.{DropsNone, HasCause, HasWorked}
+use Rattle.hb_tidy.specs.Working.{Steps, Waits}
 
 -- ---- what is known of a core that may go on
 
@@ -82,12 +89,12 @@ module _ (d : DiskModel) (old : RunningCore) (actor : ℕ) (outcome : Outcome) (
   pub tidied : (m : Machine) → MayStep d old m → HasTidied d m e new
   tidied m shows = run_tidied may.laws.runs d e m actor _ new (step_runs may.laws.runs d e m actor outcome old new took.disk took.disk_next took.worker shows took.steps took.touches) shows.goes_on.kept took.worker
 
-  pub worked : (m : Machine) (shows : MayStep d old m) → HasWorked old m new (tidied m shows).new
+  pub step_made : (m : Machine) (shows : MayStep d old m) → StepsTo m actor outcome (tidied m shows).new
   unfolding tidied
-  worked m shows =
-      let run = step_runs may.laws.runs d e m actor outcome old new took.disk took.disk_next took.worker shows took.steps took.touches in
-      let step = step_taken may.laws.runs d e m actor _ new run shows.goes_on.kept took.worker in
-      worked_once old new m (run_tidied may.laws.runs d e m actor _ new run shows.goes_on.kept took.worker).new actor step.0 took.one (took.cause m shows) step.1
+  step_made m shows = step_taken may.laws.runs d e m actor outcome old new took.disk took.disk_next took.worker shows took.steps took.touches shows.goes_on.kept
+
+  pub worked : {T : Type 0} (r : Result T TidyStop) → IfOk r (λ v. DropsNone (Steps actor outcome)) → (m : Machine) (shows : MayStep d old m) → HasWorked r old m new (tidied m shows).new
+  worked r none m shows = worked_once r old new m (tidied m shows).new (Steps actor outcome) took.one (took.cause m shows, step_made m shows) none
 
   -- nothing but a failed write stops it over a disk that tells
   never_damaged : (m : Machine) → MayStep d old m → (page : ℕ) (why : Why) → new.stop ≡ Some (whys.Damaged page why) → IsSome d.told → ⊥
@@ -116,7 +123,7 @@ module _ (d : DiskModel) (old : RunningCore) (actor : ℕ) (outcome : Outcome) (
         by (Err stop) (inr stopped) = subst (λ (x : TidyStop). StopsTidying x d e new t.new) (sym stopped.says) (stopped_cause m shows t stopped.why stopped.stopped)
 
     module _ (rise : CountsRise old new) where
-      left_by : new.taken ≢ 2 ^ 64 - 1 → new.taken < 2 ^ 64 - 1
+      pub left_by : new.taken ≢ 2 ^ 64 - 1 → new.taken < 2 ^ 64 - 1
       left_by ne = below_last new.taken rise.within.last ne
 
       pub spent : EndsSpent result new
@@ -127,13 +134,6 @@ module _ (d : DiskModel) (old : RunningCore) (actor : ℕ) (outcome : Outcome) (
           by (Err stop) (inl none) = (λ same. none.1, λ same. none.0)
           by (Err stop) (inr stopped) = other_stop stop new (left_by stopped.left) (never_spent stop stopped.why stopped.says)
 
-      pub step_goes : Goes result d old e new
-      step_goes = record {
-        does = λ m shows. let t = tidied m shows in record { run = t; worked = worked m shows; err = cause m shows t };
-        counts = rise;
-        spent = spent;
-      }
-
       pub step_may : OnOk result (MayTidy e new)
       step_may = by result went
         where
@@ -143,6 +143,14 @@ module _ (d : DiskModel) (old : RunningCore) (actor : ℕ) (outcome : Outcome) (
               record { laws = may.laws; runs = (t.new, may_then d e may.runs.0 new t, t.shows.stop ∙ is.1); counts = rise.within; left = left_by is.0 }
           by (Err stop) is = tt
 
+      pub step_goes : IfOk result (λ v. DropsNone (Steps actor outcome)) → Goes result d old e new
+      step_goes none = record {
+        does = λ m shows. let t = tidied m shows in record { run = t; worked = worked result none m shows; err = cause m shows t };
+        counts = rise;
+        spent = spent;
+        may = step_may;
+      }
+
 -- a step of a worker that dropped its job ends the call, though the core may go on
 read_rose : (d : DiskModel) (old : RunningCore) (outcome : Outcome) (e : DiskModel) (new : RunningCore) → Touches d old outcome e new → EndsByRead outcome → Rose d.read_faults e.read_faults
 read_rose d old outcome e new (inl reads) ends = reads.only.reads.cause ends
@@ -150,39 +158,39 @@ read_rose d old outcome e new (inr (inl force)) ends = absurd (force.no_read end
 read_rose d old outcome e new (inr (inr (inl home))) ends = absurd (home.no_read ends)
 read_rose d old outcome e new (inr (inr (inr turn))) ends = absurd (turn.no_read ends)
 
-pub ended_goes : (d : DiskModel) (old : RunningCore) (outcome : Outcome) (e : DiskModel) (new : RunningCore) (v : Unit {0}) (result : Result (Unit {0}) TidyStop) → Touches d old outcome e new → EndsStep outcome result → Goes (Ok v) d old e new → Goes result d old e new
-ended_goes d old outcome e new v result touches ends one = by outcome touches ends
+pub ended_goes : (d : DiskModel) (old : RunningCore) (actor : ℕ) (outcome : Outcome) (e : DiskModel) (new : RunningCore) (result : Result (Unit {0}) TidyStop) → Stepped d old actor outcome e new → MayTidy d old → CountsRise old new → EndsCall new (Ok (tt {0})) → EndsStep outcome result → Goes result d old e new
+ended_goes d old actor outcome e new result took may rise went ends = by outcome took ends
   where
-    fails : (stop : TidyStop) → (stop ≡ stops.Spent → ⊥) → ((c : RunningCore) (m : Machine) → StopsTidying stop d e c m) → Goes {T = Unit {0}} (Err stop) d old e new
-    fails stop other why = record {
-      does = λ m may. let first = one.does m may in record { run = first.run; worked = first.worked; err = why new first.run.new };
-      counts = one.counts;
-      spent = other_stop stop new one.spent other;
-    }
-
     so : (r : Result (Unit {0}) TidyStop) → result ≡ r → Goes r d old e new → Goes result d old e new
     so r is goes = subst (λ (x : Result (Unit {0}) TidyStop). Goes x d old e new) (sym is) goes
 
-    by : (o : Outcome) → Touches d old o e new → EndsStep o result → Goes result d old e new
-    by (outcomes.Dropped drops.NoMemory) touched is = so (Err stops.NoMemory) is (fails stops.NoMemory (λ same. cc) (λ c m. tt))
-    by (outcomes.Dropped drops.ReadFault) touched is = so (Err stops.ReadFault) is (fails stops.ReadFault (λ same. cc) (λ c m. read_rose d old (outcomes.Dropped drops.ReadFault) e new touched refl))
-    by (outcomes.Stopped why) touched is = so (Ok (tt {0})) is one
-    by outcomes.Idle touched is = so (Ok (tt {0})) is one
-    by (outcomes.Blocked other) touched is = so (Ok (tt {0})) is one
-    by outcomes.Helped touched is = so (Ok (tt {0})) is one
-    by (outcomes.Answered line reply) touched is = so (Ok (tt {0})) is one
-    by outcomes.Moved touched is = so (Ok (tt {0})) is one
+    fails : (stop : TidyStop) (o : Outcome) → Stepped d old actor o e new → result ≡ Err stop → (stop ≡ stops.Spent → ⊥) → ((m : Machine) → StopsTidying stop d e new m) → Goes result d old e new
+    fails stop o made is other why = so (Err stop) is (record {
+      does = λ m shows. let t = tidied d old actor o e new made may m shows in record { run = t; worked = worked d old actor o e new made may (Err stop) tt m shows; err = why t.new };
+      counts = rise;
+      spent = other_stop stop new (below_last new.taken rise.within.last went.0) other;
+      may = tt;
+    })
+
+    goes : (o : Outcome) → Stepped d old actor o e new → DropsNone (Steps actor o) → result ≡ Ok (tt {0}) → Goes result d old e new
+    goes o made none is = so (Ok (tt {0})) is (step_goes d old actor o e new made may (Ok (tt {0})) went rise none)
+
+    by : (o : Outcome) → Stepped d old actor o e new → EndsStep o result → Goes result d old e new
+    by (outcomes.Dropped drops.NoMemory) made is = fails stops.NoMemory (outcomes.Dropped drops.NoMemory) made is (λ same. cc) (λ m. tt)
+    by (outcomes.Dropped drops.ReadFault) made is = fails stops.ReadFault (outcomes.Dropped drops.ReadFault) made is (λ same. cc) (λ m. read_rose d old (outcomes.Dropped drops.ReadFault) e new made.touches refl)
+    by (outcomes.Stopped why) made is = goes (outcomes.Stopped why) made tt is
+    by outcomes.Idle made is = goes outcomes.Idle made tt is
+    by (outcomes.Blocked other) made is = goes (outcomes.Blocked other) made tt is
+    by outcomes.Helped made is = goes outcomes.Helped made tt is
+    by (outcomes.Answered line reply) made is = goes (outcomes.Answered line reply) made tt is
+    by outcomes.Moved made is = goes outcomes.Moved made tt is
 
 -- ---- a flush
 
 module _ (d : DiskModel) (old : RunningCore) (outcome : Outcome) (e : DiskModel) (new : RunningCore) (took : Stepped d old 19 outcome e new) (may : MayTidy d old) where
   -- it leaves the file and the jobs
   pub flush_stays : (m : Machine) (shows : MayStep d old m) → FlushLeaves m (tidied d old 19 outcome e new took may m shows).new
-  unfolding tidied
-  flush_stays m shows =
-      let run = step_runs may.laws.runs d e m 19 outcome old new took.disk took.disk_next took.worker shows took.steps took.touches in
-      let step = step_taken may.laws.runs d e m 19 _ new run shows.goes_on.kept took.worker in
-      flusher_leaves m step.0 (run_tidied may.laws.runs d e m 19 _ new run shows.goes_on.kept took.worker).new shows.goes_on.kept step.1
+  flush_stays m shows = flusher_leaves m outcome (tidied d old 19 outcome e new took may m shows).new (flusher_stands (m.activity 19) (shows.goes_on.kept.classes 19)) (step_made d old 19 outcome e new took may m shows)
 
   flush_waits : new.jobs ≡ old.jobs
   flush_waits = let m = may.runs.0 in let shows = may.runs.1 in sym (tidied d old 19 outcome e new took may m shows).shows.jobs ∙ (flush_stays m shows).jobs ∙ shows.shows.jobs
@@ -192,21 +200,34 @@ nothing_said None (Ok v) = tt
 nothing_said (Some s) (Ok v) = tt
 nothing_said o (Err stop) = tt
 
-pub flush_looks : (d : DiskModel) (old : RunningCore) (outcome : Outcome) (e : DiskModel) (new : RunningCore) (took : Stepped d old 19 outcome e new) (may : MayTidy d old) (result : Result (Unit {0}) TidyStop) (went : EndsCall new result) (rise : CountsRise old new) → new.store.meta ≡ old.store.meta
+pub flush_looks : (d : DiskModel) (old : RunningCore) (outcome : Outcome) (e : DiskModel) (new : RunningCore) (took : Stepped d old 19 outcome e new) (may : MayTidy d old) (result : Result (Unit {0}) TidyStop) (went : EndsCall new result) (rise : CountsRise old new) → new.store.meta ≡ old.store.meta → DropsNone (Steps 19 outcome)
     → LooksOver NothingOf result (λ v. NothingOf) d old e new
-flush_looks d old outcome e new took may result went rise meta = record {
+flush_looks d old outcome e new took may result went rise meta none = record {
   looks = λ m shows known.
       let t = tidied d old 19 outcome e new took may m shows in
       record {
-        does = record { run = t; worked = worked d old 19 outcome e new took may m shows; err = cause d old 19 outcome e new took may result went m shows t };
+        does = record { run = t; worked = worked d old 19 outcome e new took may result (none_dropped result (Steps 19 outcome) none) m shows; err = cause d old 19 outcome e new took may result went m shows t };
         same = (flush_stays d old outcome e new took may m shows).same;
         ok = nothing_said (file_now m) result;
       };
   counts = rise;
   spent = spent d old 19 outcome e new took may result went rise;
+  may = step_may d old 19 outcome e new took may result went rise;
   meta = meta;
-  waiting = λ none. sym (flush_waits d old outcome e new took may) ∙ none;
+  waiting = λ empty. sym (flush_waits d old outcome e new took may) ∙ empty;
+  rests =
+      let m = may.runs.0 in
+      let shows = may.runs.1 in
+      let t = tidied d old 19 outcome e new took may m shows in
+      still_rests d old m e new t.new shows.shows t.shows (flush_stays d old outcome e new took may m shows).activity;
 }
+
+pub flush_drops : (flushed : Result Flushed WriteFault) → DropsNone (Steps 19 (said_of_flush flushed))
+flush_drops (Ok flushes.Forced) = tt
+flush_drops (Ok (flushes.Written page)) = tt
+flush_drops (Ok flushes.Switched) = tt
+flush_drops (Ok flushes.Nothing) = tt
+flush_drops (Err fault) = tt
 
 -- ---- a call that only reads
 
@@ -222,8 +243,8 @@ module _ (d : DiskModel) (c : RunningCore) (disk : IsDisk d) (may : MayTidy d c)
   unfolding nothing_done
   nothing_new m shows = still_tidied_new may.laws.runs d d m m c c disk shows shows (OnlyReads-none d) (still_itself m)
 
-  nothing_worked : (m : Machine) (shows : MayStep d c m) → HasWorked c m c (nothing_done m shows).new
-  nothing_worked m shows = subst (λ (x : Machine). HasWorked c m c x) (sym (nothing_new m shows)) (worked_none c c m m refl (between_itself m))
+  nothing_worked : {T : Type 0} (r : Result T TidyStop) (m : Machine) (shows : MayStep d c m) → HasWorked r c m c (nothing_done m shows).new
+  nothing_worked r m shows = worked_none r c c m (nothing_done m shows).new refl (nothing_new m shows)
 
   nothing_stays : (m : Machine) (shows : MayStep d c m) → FileStays m (nothing_done m shows).new
   nothing_stays m shows = subst (λ (x : Machine). FileStays m x) (sym (nothing_new m shows)) (record { file = refl; meta = refl })
@@ -233,31 +254,35 @@ module _ (d : DiskModel) (c : RunningCore) (disk : IsDisk d) (may : MayTidy d c)
 
   -- nothing was done yet
   pub nothing_looked : {T : Type 0} (v : T) (knows : FileState → Type 0) (says : T → FileState → Type 0) → ((s : FileState) → knows s → says v s) → LooksOver {T = T} knows (Ok v) says d c d c
-  nothing_looked v knows says imp = record {
+  nothing_looked {T = T} v knows says imp = record {
     looks = λ m shows known. record {
-      does = record { run = nothing_done m shows; worked = nothing_worked m shows; err = tt };
+      does = record { run = nothing_done m shows; worked = nothing_worked {T = T} (Ok v) m shows; err = tt };
       same = nothing_stays m shows;
       ok = if_known (file_now m) knows (says v) imp known;
     };
     counts = same_rises c may.counts;
     spent = may.left;
+    may = may;
     meta = refl;
     waiting = λ none. none;
+    rests = λ rests. rests;
   }
 
   -- a call that ends before it does anything
   pub nothing_more : {T : Type 0} (knows : FileState → Type 0) (says : T → FileState → Type 0) (stop : TidyStop) → (stop ≡ stops.Spent → ⊥) → ((m : Machine) → MayStep d c m → IfSome (file_now m) knows → StopsTidying stop d d c m)
       → LooksOver {T = T} knows (Err stop) says d c d c
-  nothing_more knows says stop other why = record {
+  nothing_more {T = T} knows says stop other why = record {
     looks = λ m shows known. record {
-      does = record { run = nothing_done m shows; worked = nothing_worked m shows; err = nothing_ends stop m shows (why m shows known) };
+      does = record { run = nothing_done m shows; worked = nothing_worked {T = T} (Err stop) m shows; err = nothing_ends stop m shows (why m shows known) };
       same = nothing_stays m shows;
       ok = tt;
     };
     counts = same_rises c may.counts;
     spent = other_stop stop c may.left other;
+    may = tt;
     meta = refl;
     waiting = λ none. none;
+    rests = λ rests. rests;
   }
 
 -- a job waits
@@ -269,27 +294,19 @@ module _ (d : DiskModel) (old new : RunningCore) (job : Job) (disk : IsDisk d) (
   waited : (m : Machine) → MayStep d old m → HasTidied d m d new
   waited m shows = still_tidied may.laws.runs d d m (goes_on m shows).0 old new disk shows (goes_on m shows).2 (OnlyReads-none d) (still m shows)
 
+  waited_new : (m : Machine) (shows : MayStep d old m) → (waited m shows).new ≡ (goes_on m shows).0
+  unfolding waited
+  waited_new m shows = still_tidied_new may.laws.runs d d m (goes_on m shows).0 old new disk shows (goes_on m shows).2 (OnlyReads-none d) (still m shows)
+
   stays_waiting : (m : Machine) (shows : MayStep d old m) → FileStays m (waited m shows).new
-  unfolding waited
-  stays_waiting m shows =
-      subst (λ (x : Machine). FileStays m x) (sym (still_tidied_new may.laws.runs d d m (goes_on m shows).0 old new disk shows (goes_on m shows).2 (OnlyReads-none d) (still m shows))) (still m shows).same
+  stays_waiting m shows = subst (λ (x : Machine). FileStays m x) (sym (waited_new m shows)) (still m shows).same
 
-  waited_worked : new.taken ≡ old.taken → (m : Machine) (shows : MayStep d old m) → HasWorked old m new (waited m shows).new
-  unfolding waited
-  waited_worked same m shows =
-      subst (λ (x : Machine). HasWorked old m new x) (sym (still_tidied_new may.laws.runs d d m (goes_on m shows).0 old new disk shows (goes_on m shows).2 (OnlyReads-none d) (still m shows)))
-      (worked_none old new m (goes_on m shows).0 same (still m shows).between)
+  waited_worked : {T : Type 0} (v : T) → new.taken ≡ old.taken → (m : Machine) (shows : MayStep d old m) → IfSome (file_now m) (λ s. IsJobOwed s job) → HasWorked (Ok v) old m new (waited m shows).new
+  waited_worked v same m shows owed =
+      worked_once (Ok v) old new m (waited m shows).new (Waits job) (taken_still old.taken new.taken (Waits job) refl same)
+      (subst (λ (x : Machine). LetsWait job m x) (sym (waited_new m shows)) (goes_on m shows).1, owed) tt
 
-  pub wait_looks : CountsRise old new → new.taken ≡ old.taken → new.store.meta ≡ old.store.meta → (new.jobs ≡ [] → ⊥) → LooksOver {T = Unit {0}} NothingOf (Ok (tt {0})) (λ v. NothingOf) d old d new
-  wait_looks rise taken meta some = record {
-    looks = λ m shows known. record { does = record { run = waited m shows; worked = waited_worked taken m shows; err = tt }; same = stays_waiting m shows; ok = nothing_said {T = Unit {0}} (file_now m) (Ok (tt {0})) };
-    counts = rise;
-    spent = let left = may.left in omega (arith, left, taken);
-    meta = meta;
-    waiting = λ none. absurd (some none);
-  }
-
-  pub wait_may : CountsRise old new → new.taken ≡ old.taken → MayTidy d new
+  wait_may : CountsRise old new → new.taken ≡ old.taken → MayTidy d new
   wait_may rise taken =
       let m = may.runs.0 in
       let next = goes_on m may.runs.1 in
@@ -299,3 +316,14 @@ module _ (d : DiskModel) (old new : RunningCore) (job : Job) (disk : IsDisk d) (
         counts = rise.within;
         left = let left = may.left in omega (arith, left, taken);
       }
+
+  pub wait_looks : CountsRise old new → new.taken ≡ old.taken → new.store.meta ≡ old.store.meta → (new.jobs ≡ [] → ⊥) → LooksOver {T = Unit {0}} (λ s. IsJobOwed s job) (Ok (tt {0})) (λ v. NothingOf) d old d new
+  wait_looks rise taken meta some = record {
+    looks = λ m shows known. record { does = record { run = waited m shows; worked = waited_worked (tt {0}) taken m shows known; err = tt }; same = stays_waiting m shows; ok = nothing_said {T = Unit {0}} (file_now m) (Ok (tt {0})) };
+    counts = rise;
+    spent = let left = may.left in omega (arith, left, taken);
+    may = wait_may rise taken;
+    meta = meta;
+    waiting = λ none. absurd (some none);
+    rests = let one = goes_on may.runs.0 may.runs.1 in still_rests d old may.runs.0 d new one.0 may.runs.1.shows one.2.shows (ap (λ (x : Machine). x.activity) one.1.rest);
+  }

@@ -13,7 +13,7 @@ use Rattle.hb_tidy.proofs.Exits.{HandsOn, goes_exit}
 use Rattle.hb_tidy.proofs.Joined.{may_then, rise_then, tidied_then, tidied_then_new}
 use Rattle.hb_tidy.proofs.OneCall.{still_itself, still_tidied, still_tidied_new}
 use Rattle.hb_tidy.proofs.PassParts.{Clean}
-use Rattle.hb_tidy.proofs.Worked.{between_itself, worked_none, worked_then}
+use Rattle.hb_tidy.proofs.Worked.{worked_as, worked_none, worked_then}
 use Rattle.hb_tidy.specs.declared.stops.TidyStop.{TidyStop}
 use Rattle.hb_tidy.specs.declared.stops.TidyStop.TheVariants as stops
 use Rattle.hb_tidy.specs.Counted.{AreAtMost, CountsRise, added}
@@ -25,13 +25,13 @@ use Rattle.hb_tidy.specs.Working.{HasWorked}
 
 -- what the caller of a tidying is told of a machine
 abbrev pub Ended : Result TidyCounts TidyStop → DiskModel → RunningCore → DiskModel → RunningCore → Machine → Type 0
-Ended r d old e new m = (t : HasTidied d m e new) × HasWorked old m new t.new × EndsTidying d e old new t.new r
+Ended r d old e new m = (t : HasTidied d m e new) × HasWorked r old m new t.new × EndsTidying d e old new t.new r
 
 -- it ended before it took a step, since none was left
 pub ends_at_once : RunningLaws → (d : DiskModel) (c : RunningCore) (m : Machine) → IsDisk d → MayStep d c m → c.taken ≡ 2 ^ 64 - 1 → Ended (Err stops.Spent) d c d c m
 ends_at_once laws d c m disk may spent =
     let same = still_tidied_new laws d d m m c c disk may may (OnlyReads-none d) (still_itself m) in
-    (still_tidied laws d d m m c c disk may may (OnlyReads-none d) (still_itself m), subst (λ (x : Machine). HasWorked c m c x) (sym same) (worked_none c c m m refl (between_itself m)), spent)
+    (still_tidied laws d d m m c c disk may may (OnlyReads-none d) (still_itself m), worked_none (Err stops.Spent) c c m (still_tidied laws d d m m c c disk may may (OnlyReads-none d) (still_itself m)).new refl same, spent)
 
 -- it ended by an error of a call
 pub ends_by_err : {T : Type 0} (stop : TidyStop) (first : Result T TidyStop) (r : Result TidyCounts TidyStop) (d e : DiskModel) (old new : RunningCore) (m : Machine) → first ≡ Err stop → HandsOn stop r → Goes first d old e new → MayStep d old m → Ended r d old e new m
@@ -78,7 +78,7 @@ module _ (d e f : DiskModel) (old mid new : RunningCore) (counts : TidyCounts) (
       let t = tidied_then d e f m mid new first.run last.does.run in
       let same = tidied_then_new d e f m mid new first.run last.does.run in
       let file = ap file_now same ∙ last.same.file in
-      let worked = subst (λ (x : Machine). HasWorked old m new x) (sym same) (worked_then old mid new m first.run.new last.does.run.new first.worked last.does.worked) in
+      let worked = subst (λ (x : Machine). HasWorked (Ok counts) old m new x) (sym same) (worked_as (tt {0}) counts old new m last.does.run.new (worked_then (tt {0}) (Ok (tt {0})) old mid new m first.run.new last.does.run.new first.worked last.does.worked)) in
       (t, worked, (runs_all f new t.new may (may_then d f m new t), subst (λ (o : Option FileState). IfSome o IsTidy) (sym file) (clean_file (file_now first.run.new) new none last.ok), counts_of old new counts (rise_then old mid new goes.counts looks.counts) may.left is))
 
 -- counts that are no less, as `rise_of` wants them

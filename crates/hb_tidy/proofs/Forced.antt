@@ -102,12 +102,12 @@ module _ (laws : RunningLaws) (d : DiskModel) (m : Machine) (e : DiskModel) (old
       let run = step_runs laws e f t.new 19 (said_of_flush r) old new disk disk_next flusher mid_may steps touches in
       let kept = t.goes_on.kept in
       let two = run_tidied laws e f t.new 19 (given_by (said_of_flush r) f.clock) new run kept flusher in
-      let took = step_taken laws e f t.new 19 (given_by (said_of_flush r) f.clock) new run kept flusher in
+      let took = step_taken laws e f t.new 19 (said_of_flush r) old new disk disk_next flusher mid_may steps touches kept in
       let same = tidied_then_new d e f m old new t two in
       record {
         went = tidied_then d e f m old new t two;
-        stays = subst (FileStays t.new) (sym same) (flusher_leaves t.new took.0 two.new kept took.1).same;
-        none = λ on. ap (λ (x : Machine). x.store.log.groups) same ∙ none_waits t.new took.0 two.new (sym (ap (λ (x : Machine). x.stop) same) ∙ on) (is_flush t.new took.0 two.new kept runs took.1);
+        stays = subst (FileStays t.new) (sym same) (flusher_leaves t.new (said_of_flush r) two.new (flusher_stands (t.new.activity 19) (kept.classes 19)) took).same;
+        none = λ on. ap (λ (x : Machine). x.store.log.groups) same ∙ none_waits t.new (said_of_flush r) two.new (sym (ap (λ (x : Machine). x.stop) same) ∙ on) (is_flush t.new (said_of_flush r) two.new kept runs took);
       }
 
 -- where no fault ended the flush the core isn't stopped

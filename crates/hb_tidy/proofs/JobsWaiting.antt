@@ -8,12 +8,13 @@ use Rattle.hb_core.specs.KeptFits.{JobFits}
 use Rattle.hb_core.specs.Machines.{Machine}
 use Rattle.hb_core.specs.Showing.{RunningCore}
 use Rattle.hb_core.specs.Working.{MayStep}
-use Rattle.hb_tidy.proofs.CallsMade.{wait_looks, wait_may}
+use Rattle.hb_tidy.proofs.CallsMade.{wait_looks}
 use Rattle.hb_tidy.proofs.CountsOfCalls.{stay_rises}
 use Rattle.hb_tidy.proofs.ToDo.{adds_some}
 use Rattle.hb_tidy.specs.Counted.{CountsRise}
 use Rattle.hb_tidy.specs.Going.{MayTidy}
 use Rattle.hb_tidy.specs.Looking.{LooksOver, NothingOf}
+use Rattle.hb_tidy.specs.Owed.{IsJobOwed}
 
 module _ {D : Type 0} (model : D → DiskModel) (x : D) (old new : RunningCore) (job : Job) (disk : IsDisk (model x)) (may : MayTidy (model x) old) (fits : JobFits old.store.meta.k job) (adds : AddsToQueue job old new) where
   stay : CountsStay old new
@@ -26,10 +27,7 @@ module _ {D : Type 0} (model : D → DiskModel) (x : D) (old new : RunningCore) 
   abbrev GoesOn : D → Type 0
   GoesOn y = (m : Machine) → MayStep (model x) old m → (next : Machine) × LetsWait job m next × MayStep (model y) new next
 
-  pub job_looks : (y : D) → y ≡ x → GoesOn y → LooksOver {T = Unit {0}} NothingOf (Ok (tt {0})) (λ v. NothingOf) (model x) old (model y) new
+  pub job_looks : (y : D) → y ≡ x → GoesOn y → LooksOver {T = Unit {0}} (λ s. IsJobOwed s job) (Ok (tt {0})) (λ v. NothingOf) (model x) old (model y) new
   job_looks y same goes =
-      subst (λ (z : D). GoesOn z → LooksOver {T = Unit {0}} NothingOf (Ok (tt {0})) (λ v. NothingOf) (model x) old (model z) new) (sym same)
+      subst (λ (z : D). GoesOn z → LooksOver {T = Unit {0}} (λ s. IsJobOwed s job) (Ok (tt {0})) (λ v. NothingOf) (model x) old (model z) new) (sym same)
       (λ here. wait_looks (model x) old new job disk may fits here rise stay.taken (ap (λ (c : RunningCore). c.store.meta) adds.rest) (adds_some job old.jobs new.jobs adds.adds)) goes
-
-  pub job_may : (y : D) → y ≡ x → GoesOn y → MayTidy (model y) new
-  job_may y same goes = subst (λ (z : D). GoesOn z → MayTidy (model z) new) (sym same) (λ here. wait_may (model x) old new job disk may fits here rise stay.taken) goes

@@ -24,7 +24,7 @@ use Rattle.hb_tidy.specs.declared.stops.TidyStop.{TidyStop}
 use Rattle.hb_tidy.specs.declared.stops.TidyStop.TheVariants as stops
 use Rattle.hb_tidy.proofs.LiveCounted.{live_then}
 use Rattle.hb_tidy.proofs.OneCall.{no_fault_in}
-use Rattle.hb_tidy.proofs.Worked.{worked_then}
+use Rattle.hb_tidy.proofs.Worked.{worked_as, worked_err, worked_then}
 use Rattle.hb_tidy.specs.Counted.{CountsRise}
 use Rattle.hb_tidy.specs.Going.{Does, Goes}
 use Rattle.hb_tidy.specs.Looking.{FileStays, Looks, LooksOver, NothingOf}
@@ -112,9 +112,9 @@ module _ {T U : Type 0} (v : T) (r : Result U TidyStop) (d e f : DiskModel) (old
   unfolding tidied_then
   ends_then = err_weaker (λ stop. StopsTidying stop e f c two.run.new) (λ stop. StopsTidying stop d f c two.run.new) r (stops_then d e f m mid c two.run.new one.run) two.err
 
-  steps_then : HasWorked old m c (tidied_then d e f m mid c one.run two.run).new
+  steps_then : HasWorked r old m c (tidied_then d e f m mid c one.run two.run).new
   unfolding tidied_then
-  steps_then = worked_then old mid c m one.run.new two.run.new one.worked two.worked
+  steps_then = worked_then v r old mid c m one.run.new two.run.new one.worked two.worked
 
   pub does_then : Does r d old m f c
   does_then = record { run = tidied_then d e f m mid c one.run two.run; worked = steps_then; err = ends_then }
@@ -151,22 +151,25 @@ goes_then v r d e f old mid new one two = record {
   does = λ m may. let first = one.does m may in does_then v r d e f old m mid new first (two.does first.run.new (may_then d e m mid first.run));
   counts = rise_then old mid new one.counts two.counts;
   spent = two.spent;
+  may = two.may;
 }
 
 -- an error goes on to the caller
 pub goes_err : {T U : Type 0} (stop : TidyStop) (d e : DiskModel) (old new : RunningCore) → Goes {T = T} (Err stop) d old e new → Goes {T = U} (Err stop) d old e new
-goes_err stop d e old new one = record {
-  does = λ m may. let first = one.does m may in record { run = first.run; worked = first.worked; err = first.err };
+goes_err {T = T} {U = U} stop d e old new one = record {
+  does = λ m may. let first = one.does m may in record { run = first.run; worked = worked_err {T = T} {U = U} stop old new m first.run.new first.worked; err = first.err };
   counts = one.counts;
   spent = one.spent;
+  may = tt;
 }
 
 -- and what was answered is another value
 pub goes_ok : {T U : Type 0} (v : T) (w : U) (d e : DiskModel) (old new : RunningCore) → Goes (Ok v) d old e new → Goes (Ok w) d old e new
 goes_ok v w d e old new one = record {
-  does = λ m may. let first = one.does m may in record { run = first.run; worked = first.worked; err = tt };
+  does = λ m may. let first = one.does m may in record { run = first.run; worked = worked_as v w old new m first.run.new first.worked; err = tt };
   counts = one.counts;
   spent = one.spent;
+  may = one.may;
 }
 
 -- ---- what becomes of what was seen
@@ -212,17 +215,21 @@ over_then knows v says then_knows r more final d e f old mid new one known two i
       looks_then v says r more final knows imp d e f old m mid new its first second;
   counts = rise_then old mid new one.counts two.counts;
   spent = two.spent;
+  may = two.may;
   meta = two.meta ∙ one.meta;
   waiting = λ none. one.waiting (two.waiting none);
+  rests = λ rests. two.rests (one.rests rests);
 }
 
 pub over_err : {T U : Type 0} (knows : FileState → Type 0) (stop : TidyStop) (says : T → FileState → Type 0) (other : U → FileState → Type 0) (d e : DiskModel) (old new : RunningCore) → LooksOver {T = T} knows (Err stop) says d old e new → LooksOver {T = U} knows (Err stop) other d old e new
-over_err knows stop says other d e old new one = record {
-  looks = λ m may its. let first = one.looks m may its in record { does = record { run = first.does.run; worked = first.does.worked; err = first.does.err }; same = first.same; ok = tt };
+over_err {T = T} {U = U} knows stop says other d e old new one = record {
+  looks = λ m may its. let first = one.looks m may its in record { does = record { run = first.does.run; worked = worked_err {T = T} {U = U} stop old new m first.does.run.new first.does.worked; err = first.does.err }; same = first.same; ok = tt };
   counts = one.counts;
   spent = one.spent;
+  may = tt;
   meta = one.meta;
   waiting = one.waiting;
+  rests = one.rests;
 }
 
 -- of the same answer less is said, or of another one, with more that is known
@@ -234,19 +241,23 @@ over_weaker knows less r says other d e old new known imp one = record {
       record { does = first.does; same = first.same; ok = ok_weaker (file_now m) less says other r imp its first.ok };
   counts = one.counts;
   spent = one.spent;
+  may = one.may;
   meta = one.meta;
   waiting = one.waiting;
+  rests = one.rests;
 }
 
 pub over_ok : {T U : Type 0} (knows : FileState → Type 0) (v : T) (w : U) (says : T → FileState → Type 0) (other : U → FileState → Type 0) (d e : DiskModel) (old new : RunningCore) → ((s : FileState) → knows s → says v s → other w s) → LooksOver knows (Ok v) says d old e new → LooksOver knows (Ok w) other d old e new
 over_ok knows v w says other d e old new imp one = record {
   looks = λ m may its.
       let first = one.looks m may its in
-      record { does = record { run = first.does.run; worked = first.does.worked; err = tt }; same = first.same; ok = if_both (file_now m) knows (says v) (other w) imp its first.ok };
+      record { does = record { run = first.does.run; worked = worked_as v w old new m first.does.run.new first.does.worked; err = tt }; same = first.same; ok = if_both (file_now m) knows (says v) (other w) imp its first.ok };
   counts = one.counts;
   spent = one.spent;
+  may = one.may;
   meta = one.meta;
   waiting = one.waiting;
+  rests = one.rests;
 }
 
 -- what was known before a call that wants none of it
@@ -259,6 +270,7 @@ over_goes r says d e old new one = record {
   does = λ m may. (one.looks m may (anything (file_now m))).does;
   counts = one.counts;
   spent = one.spent;
+  may = one.may;
 }
   where
     anything : (o : Option FileState) → IfSome o NothingOf

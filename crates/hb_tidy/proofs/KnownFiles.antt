@@ -42,8 +42,10 @@ over_file knows r says d e old new one = record {
   looks = λ m shows known. one.looks m shows (if_two (file_now m) (IsFileOf old) knows (file_is d old m shows) known);
   counts = one.counts;
   spent = one.spent;
+  may = one.may;
   meta = one.meta;
   waiting = one.waiting;
+  rests = one.rests;
 }
 
 -- ---- numbers of pages

@@ -4,6 +4,8 @@ pub mod JobLists
 pub mod Workers
 pub mod Worked
 pub mod ToDo
+pub mod Resting
+pub mod CleanedPlaces
 pub mod OneCall
 pub mod LiveCounted
 pub mod Joined
@@ -12,13 +14,17 @@ pub mod CallsMade
 pub mod WorkerSteps
 pub mod LooksMade
 pub mod KnownFiles
+pub mod OwedJobs
+pub mod OwedRoom
 pub mod CleanPages
 pub mod Exits
 pub mod RunsBegun
 pub mod Belows
 pub mod Pairs
+pub mod ChildrenThere
 pub mod ChildrenSeen
 pub mod PassParts
 pub mod Ends
 pub mod JobsWaiting
 pub mod Forced
+pub mod LeftAlone

@@ -1,5 +1,5 @@
 -- A look at a page, as the calls of this crate have it.
-use Rattle.std.proofs.Common.{◌≡◌, ℕ, ◌-◌, ◌^◌, ◌<◌, List, Option, Some, None, IfSome, Result, Ok, Err, OnOk, option_map, refl, sym, ap, ◌∙◌, subst, arith}
+use Rattle.std.proofs.Common.{◌≡◌, ℕ, ◌-◌, ◌^◌, ◌<◌, List, Option, Some, None, IfSome, Result, Ok, Err, OnOk, option_map, refl, sym, ap, ◌∙◌, subst, arith, [], ◌∷◌}
 use Rattle.std.specs.Result.{IfErr, IfOk, IsErrOf}
 use Rattle.hb_disk.proofs.Facts.RunLaws.{OnlyReads-read}
 use Rattle.hb_disk.specs.Calls.{ReadsOnly}
@@ -25,14 +25,16 @@ use Rattle.hb_core.specs.declared.copies.CopyStop.TheVariants as copies
 use Rattle.hb_tidy.proofs.CallsMade.{other_stop}
 use Rattle.hb_tidy.proofs.CountsOfCalls.{stay_rises}
 use Rattle.hb_tidy.proofs.OneCall.{StandsStill, still_looking, still_tidied, still_tidied_new}
-use Rattle.hb_tidy.proofs.Worked.{worked_none}
+use Rattle.hb_tidy.proofs.Resting.{still_rests}
+use Rattle.hb_tidy.proofs.Worked.{none_dropped, taken_still, worked_none, worked_once}
 use Rattle.hb_tidy.specs.declared.stops.TidyStop.{TidyStop}
 use Rattle.hb_tidy.specs.declared.stops.TidyStop.TheVariants as stops
 use Rattle.hb_tidy.specs.Counted.{CountsRise, EndsSpent}
 use Rattle.hb_tidy.specs.Going.{MayTidy}
 use Rattle.hb_tidy.specs.Looking.{FileStays, LooksOver, NothingOf, SeesBy}
 use Rattle.hb_tidy.specs.Tidying.{HasTidied, StopsTidying, file_now}
-use Rattle.hb_tidy.specs.Working.{HasWorked}
+use Rattle.hb_tidy.specs.Working.{DropsNone, Event, Happens, HasWorked, steps_in}
+use Rattle.hb_tidy.specs.Working.{Breaks, Comes}
 
 -- What a core told of a look.
 pub record Looked (id : ℕ) (copied : Result Page CopyStop) (d : DiskModel) (old : RunningCore) (e : DiskModel) (new : RunningCore) : Type 0 where
@@ -70,6 +72,14 @@ copied_jobs id m new (Err copies.ReadFault) was = ap (λ (x : Machine). x.jobs) 
 copied_jobs id m new (Err copies.Crowded) was = ap (λ (x : Machine). x.jobs) was.0
 copied_jobs id m new (Err (copies.Damaged page why)) was = ap (λ (x : Machine). x.jobs) was.0
 
+-- and where everybody stands
+copied_activity : (id : ℕ) (m new : Machine) (copied : Result Page CopyStop) → CopiesPage id copied m new → new.activity ≡ m.activity
+copied_activity id m new (Ok page) was = ap (λ (x : Machine). x.activity) was.0.rest
+copied_activity id m new (Err copies.NoMemory) was = ap (λ (x : Machine). x.activity) was.rest
+copied_activity id m new (Err copies.ReadFault) was = ap (λ (x : Machine). x.activity) was.0
+copied_activity id m new (Err copies.Crowded) was = ap (λ (x : Machine). x.activity) was.0
+copied_activity id m new (Err (copies.Damaged page why)) was = ap (λ (x : Machine). x.activity) was.0
+
 module _ (id : ℕ) (copied : Result Page CopyStop) (d : DiskModel) (old : RunningCore) (e : DiskModel) (new : RunningCore) (looked : Looked id copied d old e new) (may : MayTidy d old) where
   next : (m : Machine) → MayStep d old m → Machine
   next m shows = (looked.told m shows).0
@@ -80,16 +90,29 @@ module _ (id : ℕ) (copied : Result Page CopyStop) (d : DiskModel) (old : Runni
   looked_at : (m : Machine) → MayStep d old m → HasTidied d m e new
   looked_at m shows = still_tidied may.laws.runs d e m (looked.told m shows).0 old new looked.disk shows (looked.told m shows).2 (OnlyReads-read _ d e looked.reads) (still m shows)
 
-  stays : (m : Machine) (shows : MayStep d old m) → FileStays m (looked_at m shows).new
+  looked_new : (m : Machine) (shows : MayStep d old m) → (looked_at m shows).new ≡ (looked.told m shows).0
   unfolding looked_at
-  stays m shows =
-      subst (λ (x : Machine). FileStays m x) (sym (still_tidied_new may.laws.runs d e m (looked.told m shows).0 old new looked.disk shows (looked.told m shows).2 (OnlyReads-read _ d e looked.reads) (still m shows))) (still m shows).same
+  looked_new m shows = still_tidied_new may.laws.runs d e m (looked.told m shows).0 old new looked.disk shows (looked.told m shows).2 (OnlyReads-read _ d e looked.reads) (still m shows)
 
-  worked_at : (m : Machine) (shows : MayStep d old m) → HasWorked old m new (looked_at m shows).new
-  unfolding looked_at
-  worked_at m shows =
-      subst (λ (x : Machine). HasWorked old m new x) (sym (still_tidied_new may.laws.runs d e m (looked.told m shows).0 old new looked.disk shows (looked.told m shows).2 (OnlyReads-read _ d e looked.reads) (still m shows)))
-      (worked_none old new m (looked.told m shows).0 looked.counts.taken (still m shows).between)
+  stays : (m : Machine) (shows : MayStep d old m) → FileStays m (looked_at m shows).new
+  stays m shows = subst (λ (x : Machine). FileStays m x) (sym (looked_new m shows)) (still m shows).same
+
+  -- the page came, or a damaged one stopped the machine, or neither
+  worked_so : {T : Type 0} (r : Result T TidyStop) (m x : Machine) (c : Result Page CopyStop) → CopiesPage id c m x → HasWorked r old m new x
+  worked_so r m x c was = by c was
+    where
+      one : (event : Event) → steps_in (event ∷ []) ≡ 0 → DropsNone event → Happens event m x → HasWorked r old m new x
+      one event still none here = worked_once r old new m x event (taken_still old.taken new.taken event still looked.counts.taken) here (none_dropped r event none)
+
+      by : (c : Result Page CopyStop) → CopiesPage id c m x → HasWorked r old m new x
+      by (Ok page) was = one (Comes id) refl tt was.0
+      by (Err copies.NoMemory) was = one (Comes id) refl tt was
+      by (Err copies.ReadFault) was = worked_none r old new m x looked.counts.taken was.0
+      by (Err copies.Crowded) was = worked_none r old new m x looked.counts.taken was.0
+      by (Err (copies.Damaged page why)) was = one (Breaks page why) refl tt (was.0, subst (λ (n : ℕ). IsBadRead m.files m.store n why) (sym was.1) was.2)
+
+  worked_at : {T : Type 0} (r : Result T TidyStop) (m : Machine) (shows : MayStep d old m) → HasWorked r old m new (looked_at m shows).new
+  worked_at r m shows = worked_so r m (looked_at m shows).new copied (subst (λ (x : Machine). CopiesPage id copied m x) (sym (looked_new m shows)) (looked.told m shows).1)
 
   look_waits : new.jobs ≡ old.jobs
   look_waits =
@@ -144,21 +167,6 @@ module _ (id : ℕ) (copied : Result Page CopyStop) (d : DiskModel) (old : Runni
     spent_so (Err copies.NoMemory) r is = subst (λ (x : Result (Option Page) TidyStop). EndsSpent x new) (sym is) (other_stop stops.NoMemory new left_still (λ same. cc))
     spent_so (Err (copies.Damaged page why)) r is = subst (λ (x : Result (Option Page) TidyStop). EndsSpent x new) (sym is) (other_stop (stops.Damaged page why) new left_still (λ same. cc))
 
-    pub look_looks : LooksOver NothingOf seen (SawPage id) d old e new
-    look_looks = record {
-      looks = λ m shows known.
-          let t = looked_at m shows in
-          record {
-            does = record { run = t; worked = worked_at m shows; err = cause m shows t copied looked.reads.reads.cause (looked.told m shows).1 seen sees };
-            same = stays m shows;
-            ok = saw m shows t copied (looked.told m shows).1 seen sees;
-          };
-      counts = rise;
-      spent = spent_so copied seen sees;
-      meta = look_meta;
-      waiting = λ none. sym look_waits ∙ none;
-    }
-
     -- the core may go on where the page came, or found no place
     goes_on : (m : Machine) (shows : MayStep d old m) → m.stop ≡ None → (c : Result Page CopyStop) → CopiesPage id c m (looked.told m shows).0 → (r : Result (Option Page) TidyStop) → SeesBy c r → OnOk r (MayTidy e new)
     goes_on m shows none (Ok page) was r is =
@@ -171,8 +179,25 @@ module _ (id : ℕ) (copied : Result Page CopyStop) (d : DiskModel) (old : Runni
     goes_on m shows none (Err copies.NoMemory) was r is = subst (λ (x : Result (Option Page) TidyStop). OnOk x (MayTidy e new)) (sym is) tt
     goes_on m shows none (Err (copies.Damaged page why)) was r is = subst (λ (x : Result (Option Page) TidyStop). OnOk x (MayTidy e new)) (sym is) tt
 
-    pub look_may : OnOk seen (MayTidy e new)
+    look_may : OnOk seen (MayTidy e new)
     look_may = let m = may.runs.0 in let shows = may.runs.1 in goes_on m shows may.runs.2 copied (looked.told m shows).1 seen sees
+
+    pub look_looks : LooksOver NothingOf seen (SawPage id) d old e new
+    look_looks = record {
+      looks = λ m shows known.
+          let t = looked_at m shows in
+          record {
+            does = record { run = t; worked = worked_at seen m shows; err = cause m shows t copied looked.reads.reads.cause (looked.told m shows).1 seen sees };
+            same = stays m shows;
+            ok = saw m shows t copied (looked.told m shows).1 seen sees;
+          };
+      counts = rise;
+      spent = spent_so copied seen sees;
+      may = look_may;
+      meta = look_meta;
+      waiting = λ none. sym look_waits ∙ none;
+      rests = let one = looked.told may.runs.0 may.runs.1 in still_rests d old may.runs.0 e new one.0 may.runs.1.shows one.2.shows (copied_activity id may.runs.0 one.0 copied one.1);
+    }
 
     good_so : (m : Machine) (shows : MayStep d old m) (c : Result Page CopyStop) → CopiesPage id c m (looked.told m shows).0 → (r : Result (Option Page) TidyStop) → SeesBy c r → IfOk r (λ v. IfSome v (IsGoodPage old.store.meta))
     good_so m shows (Ok page) was r is =

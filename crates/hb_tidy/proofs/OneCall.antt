@@ -17,7 +17,7 @@ use Rattle.hb_store.specs.declared.stops.StopWhy.TheVariants as whys
 use Rattle.hb_store.specs.declared.stops.Why.{Why}
 use Rattle.hb_store.specs.declared.stops.Why.TheVariants.{Rule, Level, Extent}
 use Rattle.hb_core.proofs.Facts.LogAndStop.{size_stands}
-use Rattle.hb_core.proofs.Facts.RunSteps.{run_begins, run_by_step}
+use Rattle.hb_core.proofs.Facts.RunSteps.{run_begins, run_of_step, steps_so}
 use Rattle.hb_core.specs.Between.{CopiesPage, LetsWait, PageComes}
 use Rattle.hb_core.specs.BetweenLaws.{LookingKeepsAll, WaitingKeepsAll}
 use Rattle.hb_core.specs.Fetching.{IsBadRead}
@@ -33,11 +33,9 @@ use Rattle.hb_core.specs.Working.{MayStep}
 use Rattle.hb_core.specs.declared.copies.CopyStop.{CopyStop}
 use Rattle.hb_core.specs.declared.copies.CopyStop.TheVariants as copies
 use Rattle.hb_core.specs.declared.outcomes.Outcome.{Outcome}
-use Rattle.hb_tidy.proofs.Worked.{between_as, between_itself}
 use Rattle.hb_tidy.proofs.Workers.{IsWorker, LinesStand, is_actor, worker_stands}
 use Rattle.hb_tidy.specs.Looking.{FileStays}
 use Rattle.hb_tidy.specs.Tidying.{HasTidied, KeepsSet, file_now}
-use Rattle.hb_tidy.specs.Working.{IsBetweenSteps}
 
 pub no_fault_in : HasReadFault [] → ⊥
 no_fault_in (k, a, lt, at, is) = omega (arith, lt)
@@ -82,25 +80,25 @@ module _ (laws : RunningLaws) (d e : DiskModel) (m : Machine) (actor : ℕ) (ans
 pub step_runs : RunningLaws → (d e : DiskModel) (m : Machine) (actor : ℕ) (outcome : Outcome) (old new : RunningCore) → IsDisk d → IsDisk e → IsWorker actor → MayStep d old m
     → ((x : Machine) → MayStep d old x → (next : Machine) × StepsTo x actor outcome next × ShowsMachine e new next) → Touches d old outcome e new → HasRun d m (actor ∷ []) (given_by outcome e.clock) e new
 step_runs laws d e m actor outcome old new disk disk_next worker may steps touches =
-    run_by_step laws d m [] [] d old actor outcome e.clock e new (run_begins laws d m old disk may) disk disk_next (is_actor actor worker) steps touches (λ told. refl)
+    run_of_step laws d m old actor outcome e.clock e new disk may disk_next (is_actor actor worker) steps touches (λ told. refl)
 
 pub step_tidied : RunningLaws → (d e : DiskModel) (m : Machine) (actor : ℕ) (outcome : Outcome) (old new : RunningCore) → IsDisk d → IsDisk e → IsWorker actor → MayStep d old m
     → ((x : Machine) → MayStep d old x → (next : Machine) × StepsTo x actor outcome next × ShowsMachine e new next) → Touches d old outcome e new → HasTidied d m e new
 step_tidied laws d e m actor outcome old new disk disk_next worker may steps touches =
     run_tidied laws d e m actor (given_by outcome e.clock) new (step_runs laws d e m actor outcome old new disk disk_next worker may steps touches) may.goes_on.kept worker
 
--- the step that the run took, whatever it said
-pub step_taken : (laws : RunningLaws) (d e : DiskModel) (m : Machine) (actor : ℕ) (answers : List Answered) (c : RunningCore) (run : HasRun d m (actor ∷ []) answers e c) (kept : MachineKeeps m) (worker : IsWorker actor)
-    → (outcome : Outcome) × StepsTo m actor outcome (run_tidied laws d e m actor answers c run kept worker).new
-unfolding run_tidied
-step_taken laws d e m actor answers c run kept worker = stepped laws d e m actor answers c run kept worker
+-- the step that the run took
+pub step_taken : (laws : RunningLaws) (d e : DiskModel) (m : Machine) (actor : ℕ) (outcome : Outcome) (old new : RunningCore) (disk : IsDisk d) (disk_next : IsDisk e) (worker : IsWorker actor) (may : MayStep d old m)
+    (steps : (x : Machine) → MayStep d old x → (next : Machine) × StepsTo x actor outcome next × ShowsMachine e new next) (touches : Touches d old outcome e new) (kept : MachineKeeps m)
+    → StepsTo m actor outcome (run_tidied laws d e m actor (given_by outcome e.clock) new (step_runs laws d e m actor outcome old new disk disk_next worker may steps touches) kept worker).new
+unfolding run_tidied step_runs
+step_taken laws d e m actor outcome old new disk disk_next worker may steps touches kept = steps_so laws d m old actor outcome e.clock e new disk may disk_next (is_actor actor worker) steps touches (λ told. refl)
 
 -- ---- a call that only reads the disk, and changes nothing of the file
 
 pub record StandsStill (m new : Machine) : Type 0 where
   pub lines : LinesStand m new
   pub same : FileStays m new
-  pub between : IsBetweenSteps m new
   pub stop : new.stop ≡ Some whys.WriteFault → m.stop ≡ Some whys.WriteFault
   pub keeps : (n : RecordSet) (files : Files) → CoreKeeps n m files → CoreKeeps n new files
 
@@ -147,7 +145,6 @@ pub still_itself : (m : Machine) → StandsStill m m
 still_itself m = record {
   lines = record { lines = refl; answered = refl; order = refl };
   same = record { file = refl; meta = refl };
-  between = between_itself m;
   stop = λ stop. stop;
   keeps = λ n files keeps. keeps;
 }
@@ -161,7 +158,6 @@ still_waiting keeps m job new fits waits = record {
     order = ap (λ (x : Machine). x.order) waits.rest;
   };
   same = record { file = ap file_now waits.rest; meta = ap (λ (x : Machine). x.store.meta) waits.rest };
-  between = between_as m new.jobs m.stop m.store m.uses new refl waits.rest;
   stop = λ stop. sym (ap (λ (x : Machine). x.stop) waits.rest) ∙ stop;
   keeps = λ n files all. keeps n m files job new fits waits all;
 }
@@ -176,7 +172,6 @@ module _ (looking : LookingKeepsAll) (m : Machine) (id : ℕ) (new : Machine) wh
       order = ap (λ (x : Machine). x.order) comes.rest;
     };
     same = record { file = ap file_now comes.rest; meta = comes.brings.rest.meta };
-    between = between_as m m.jobs m.stop new.store new.uses new comes.brings.rest.meta comes.rest;
     stop = λ stop. sym (ap (λ (x : Machine). x.stop) comes.rest) ∙ stop;
     keeps = λ n files all. looking n m files id new comes all;
   }
@@ -194,7 +189,6 @@ module _ (looking : LookingKeepsAll) (m : Machine) (id : ℕ) (new : Machine) wh
   still_damaged page why is bad = record {
     lines = record { lines = ap (λ (x : Machine). x.lines) is; answered = ap (λ (x : Machine). x.answered) is; order = ap (λ (x : Machine). x.order) is };
     same = record { file = ap file_now is; meta = ap (λ (x : Machine). x.store.meta) is };
-    between = between_as m m.jobs (Some (whys.Damaged page why)) m.store m.uses new refl is;
     stop = λ stop. let never : Some (whys.Damaged page why) ≡ Some whys.WriteFault = sym (ap (λ (x : Machine). x.stop) is) ∙ stop in cc;
     keeps = λ n files all. absurd (not_none m.files files all.told (silent why bad));
   }

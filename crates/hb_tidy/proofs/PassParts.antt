@@ -1,7 +1,11 @@
 -- A pass, page by page, and its end.
-use Rattle.std.proofs.Common.{◌≡◌, ◌⊎◌, ◌↔◌, inl, inr, ℕ, ◌+◌, ◌<◌, ◌≤◌, true, false, [], Option, Some, Result, Ok, ap, ◌∙◌, subst, arith}
+use Rattle.std.proofs.Common.{◌≡◌, ◌≢◌, ◌⊎◌, ◌↔◌, inl, inr, ℕ, ◌+◌, ◌<◌, ◌≤◌, true, false, List, [], All, Option, None, Some, Result, Ok, sym, ap, ◌∙◌, subst, arith}
+use Rattle.std.proofs.lemmas.List.Elements.{All-nil}
 use Rattle.std.proofs.lemmas.Bool.{cases_lt}
 use Rattle.hb_disk.specs.Model.{DiskModel, IsDisk}
+use Rattle.hb_activity.specs.declared.jobs.Job.{Job}
+use Rattle.hb_activity.specs.declared.jobs.JobKind.TheVariants.{Post}
+use Rattle.hb_lemmas.proofs.Options.{not_none}
 use Rattle.hb_frag.specs.declared.pages.LivePage.{LivePage}
 use Rattle.hb_frag.specs.Leaves.{siblings_of}
 use Rattle.hb_layout.specs.declared.limits.TheConstants.{HEIGHT_MAX}
@@ -13,22 +17,24 @@ use Rattle.hb_sound.proofs.OneLevel.{same_page}
 use Rattle.hb_core.specs.Showing.{RunningCore}
 use Rattle.hb_tidy.proofs.CallsMade.{nothing_looked}
 use Rattle.hb_tidy.proofs.CleanPages.{file_is_tidy, tidy_at_next, tidy_at_none}
-use Rattle.hb_tidy.proofs.Joined.{goes_next, over_goes, over_known, over_ok, over_then}
+use Rattle.hb_tidy.proofs.Joined.{goes_next, over_goes, over_known, over_ok, over_then, over_weaker}
 use Rattle.hb_tidy.proofs.KnownFiles.{IsFileOf, over_file}
 use Rattle.hb_tidy.specs.declared.stops.TidyStop.{TidyStop}
-use Rattle.hb_tidy.specs.Finding.{AreTidyUpTo, HasGrown, IsTidy, IsTidyAt}
+use Rattle.hb_tidy.specs.Finding.{AreTidyUpTo, HasGrown, IsTidy, IsTidyAt, OwesGrowth}
 use Rattle.hb_tidy.specs.Going.{Goes, MayTidy}
 use Rattle.hb_tidy.specs.Looking.{LooksOver, NothingOf}
+use Rattle.hb_tidy.specs.Owed.{FindsJobs, IsJobOwed}
 
 -- what is said of a page or of the file, where no job waits behind the look
 abbrev pub Clean : (FileState → Type 0) → RunningCore → Unit {0} → FileState → Type 0
 Clean P c v s = c.jobs ≡ [] → P s
 
 -- Jobs were found, and wait.
-pub waits_then : {T : Type 0} (v : T) (empty : T → Type 0) (P : FileState → Type 0) (d e f : DiskModel) (old mid new : RunningCore) → (new.jobs ≡ [] → empty v) → LooksOver NothingOf (Ok v) (λ w s. empty w → P s) d old e mid
-    → LooksOver {T = Unit {0}} NothingOf (Ok (tt {0})) (λ w. NothingOf) e mid f new → LooksOver NothingOf (Ok (tt {0})) (Clean P new) d old f new
-waits_then v empty P d e f old mid new tells one two =
-    over_then NothingOf v (λ w s. empty w → P s) NothingOf (Ok (tt {0})) (λ w. NothingOf) (Clean P new) d e f old mid new one (λ s known said. tt) two (λ s w known said more none. said (tells none))
+pub waits_then : {T : Type 0} (jobs : List Job) (v : T) (items : T → List Job) (P : FileState → Type 0) (d e f : DiskModel) (old mid new : RunningCore) → jobs ≡ items v → (new.jobs ≡ [] → jobs ≡ []) → LooksOver NothingOf (Ok v) (λ w s. FindsJobs s (P s) [] (items w)) d old e mid
+    → LooksOver {T = Unit {0}} (λ s. All (IsJobOwed s) jobs) (Ok (tt {0})) (λ w. NothingOf) e mid f new → LooksOver NothingOf (Ok (tt {0})) (Clean P new) d old f new
+waits_then jobs v items P d e f old mid new is tells one two =
+    over_then NothingOf v (λ w s. FindsJobs s (P s) [] (items w)) (λ s. All (IsJobOwed s) jobs) (Ok (tt {0})) (λ w. NothingOf) (Clean P new) d e f old mid new one
+    (λ s known said. subst (λ (js : List Job). All (IsJobOwed s) js) (sym is) (said.owed (All-nil (IsJobOwed s)))) two (λ s w known said more none. (said.none (sym is ∙ tells none)).1)
 
 -- One page more, and the end.
 abbrev pub CleanUpTo : RunningCore → ℕ → Unit {0} → FileState → Type 0
@@ -72,12 +78,31 @@ root_then root r d e f old mid new one two =
     (λ s v known said more none. inr (more none)))
 
 -- something is to be done, and a job waits
-pub found_then : {T : Type 0} (v : T) (says : T → FileState → Type 0) (P : FileState → Type 0) (d e f : DiskModel) (old mid new : RunningCore) → LooksOver NothingOf (Ok v) says d old e mid → LooksOver {T = Unit {0}} NothingOf (Ok (tt {0})) (λ w. NothingOf) e mid f new → (new.jobs ≡ [] → ⊥)
-    → LooksOver NothingOf (Ok (tt {0})) (Clean P new) d old f new
-found_then v says P d e f old mid new one two some = over_then NothingOf v says NothingOf (Ok (tt {0})) (λ w. NothingOf) (Clean P new) d e f old mid new one (λ s known said. tt) two (λ s w known said more none. absurd (some none))
+pub found_here : (knows more P : FileState → Type 0) (d e : DiskModel) (old new : RunningCore) → ((s : FileState) → IsFileOf old s → knows s → more s) → LooksOver {T = Unit {0}} more (Ok (tt {0})) (λ w. NothingOf) d old e new → (new.jobs ≡ [] → ⊥) → LooksOver knows (Ok (tt {0})) (Clean P new) d old e new
+found_here knows more P d e old new imp one some =
+    over_file knows (Ok (tt {0})) (Clean P new) d e old new
+    (over_weaker more (λ s. IsFileOf old s × knows s) (Ok (tt {0})) (λ w. NothingOf) (Clean P new) d e old new (λ s known. imp s known.0 known.1) (λ s w known said none. absurd (some none)) one)
 
-pub found_here : (knows P : FileState → Type 0) (d e : DiskModel) (old new : RunningCore) → LooksOver {T = Unit {0}} NothingOf (Ok (tt {0})) (λ w. NothingOf) d old e new → (new.jobs ≡ [] → ⊥) → LooksOver knows (Ok (tt {0})) (Clean P new) d old e new
-found_here knows P d e old new one some = over_ok knows (tt {0}) (tt {0}) (λ w. NothingOf) (Clean P new) d e old new (λ s known said none. absurd (some none)) (over_known knows (Ok (tt {0})) (λ w. NothingOf) d e old new one)
+-- a growth is owed, and its job waits
+pub growth_waits : (job : Job) (d e : DiskModel) (old new : RunningCore) → job.kind ≡ Post → job.level ≡ old.store.meta.height → LooksOver {T = Unit {0}} (λ s. IsJobOwed s job) (Ok (tt {0})) (λ v. NothingOf) d old e new
+    → LooksOver {T = Unit {0}} (λ s. OwesGrowth s × (s.meta.live ≢ s.meta.pages)) (Ok (tt {0})) (λ v. NothingOf) d old e new
+growth_waits job d e old new kind level one =
+    over_file (λ s. OwesGrowth s × (s.meta.live ≢ s.meta.pages)) (Ok (tt {0})) (λ v. NothingOf) d e old new
+    (over_weaker (λ s. IsJobOwed s job) (λ s. IsFileOf old s × (OwesGrowth s × (s.meta.live ≢ s.meta.pages))) (Ok (tt {0})) (λ v. NothingOf) (λ v. NothingOf) d e old new
+    (λ s known. inl (record { kind = kind; level = level ∙ sym (ap (λ (x : Meta). x.height) known.0.meta); owed = known.1.0; free = known.1.1 })) (λ s v known said. tt) one)
+
+-- Over a disk that tells, the root is in use.
+pub root_there : (more P : FileState → Type 0) (d e f : DiskModel) (old mid new : RunningCore) → LooksOver {T = Option LivePage} NothingOf (Ok None) (λ page s. live_page s old.store.meta.root ≡ page) d old e mid → LooksOver {T = Unit {0}} more (Ok (tt {0})) (λ w. NothingOf) e mid f new
+    → LooksOver NothingOf (Ok (tt {0})) (Clean P new) d old f new
+root_there more P d e f old mid new one two =
+    over_file NothingOf (Ok (tt {0})) (Clean P new) d f old new
+    (over_then {T = Option LivePage} (λ s. IsFileOf old s × NothingOf s) None (λ page s. live_page s old.store.meta.root ≡ page) more (Ok (tt {0})) (λ w. NothingOf) (Clean P new) d e f old mid new
+    (over_known {T = Option LivePage} (λ s. IsFileOf old s × NothingOf s) (Ok None) (λ page s. live_page s old.store.meta.root ≡ page) d e old mid one) (λ s known said. absurd (never s known.0 said)) two (λ s w known said more none. absurd (never s known.0 said)))
+  where
+    never : (s : FileState) → IsFileOf old s → live_page s old.store.meta.root ≡ None → ⊥
+    never s file none =
+        let top = file.sound.rooted.top in
+        not_none (live_page s s.meta.root) top.0 top.1 (ap (λ (x : Meta). live_page s x.root) file.meta ∙ none)
 
 -- the root was looked into, and has no sibling leaf
 pub root_alone : (root : LivePage) (d : DiskModel) (c : RunningCore) → IsDisk d → MayTidy d c → siblings_of root ≡ [] → LooksOver (λ s. live_page s s.meta.root ≡ Some root) (Ok (tt {0})) (Clean HasLoneRoot c) d c d c

@@ -1,5 +1,5 @@
 -- Jobs that are left, and the worker that has them to do.
-use Rattle.std.proofs.Common.{◌≡◌, ◌⊎◌, inl, inr, ℕ, ◌+◌, ◌-◌, ◌^◌, ◌<◌, ◌≤◌, Bool, true, false, cond, List, [], ◌∷◌, length, refl, sym, ap, ◌∙◌, subst, arith, length-append}
+use Rattle.std.proofs.Common.{◌≡◌, ◌⊎◌, inl, inr, ℕ, ◌+◌, ◌-◌, ◌^◌, ◌<◌, ◌≤◌, Bool, true, false, cond, List, [], ◌∷◌, None, length, refl, sym, ap, ◌∙◌, subst, arith, length-append}
 use Rattle.std.specs.Prelude.{count_by}
 use Rattle.std.specs.List.{Contains}
 use Rattle.std.proofs.lemmas.List.Elements.{Contains-append_left, Contains-append_right, Contains-push}
@@ -22,7 +22,7 @@ use Rattle.hb_core.specs.Showing.{RunningCore, ShowsMachine}
 use Rattle.hb_core.specs.SteppingLaws.{IsAtRest}
 use Rattle.hb_core.specs.ProgressLaws.{jobs_of}
 use Rattle.hb_core.specs.Taking.{jobs_in_work, worker_for}
-use Rattle.hb_tidy.specs.Working.{HasCause}
+use Rattle.hb_tidy.specs.Working.{HasCause, OthersRest}
 
 -- ---- a queue in which a job of a kind is counted
 
@@ -81,9 +81,9 @@ module _ (m : Machine) (kept : MachineKeeps m) where
   to_merge some at.Flusher is = never_so 18 at.Flusher is (λ same. cc)
   to_merge some other is = inl (subst (λ (a : Activity). ¬ (IsAtRest a)) (sym is) (λ never. never))
 
-  pub has_cause : (kind : JobKind) → 0 < jobs_of kind m → HasCause m (worker_for kind)
-  has_cause Post some = inl (inl refl, to_post some (m.activity 17) refl)
-  has_cause Merge some = inl (inr refl, to_merge some (m.activity 18) refl)
+  pub has_cause : (kind : JobKind) → m.stop ≡ None → OthersRest m (worker_for kind) → 0 < jobs_of kind m → HasCause m (worker_for kind)
+  has_cause Post runs rest some = (runs, inl (inl refl, rest, to_post some (m.activity 17) refl))
+  has_cause Merge runs rest some = (runs, inl (inr refl, rest, to_merge some (m.activity 18) refl))
 
 -- ---- a job that joins the queue
 

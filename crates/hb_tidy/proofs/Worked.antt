@@ -1,52 +1,87 @@
--- Steps with a cause, one after the other.
-use Rattle.std.proofs.Common.{◌≡◌, ℕ, ◌+◌, List, [], ◌∷◌, ◌++◌, length, Option, refl, sym, ap, ◌∙◌, subst, arith, length-append}
+-- What happened to a machine, one thing after the other.
+use Rattle.std.proofs.Common.{◌≡◌, inl, inr, ℕ, ◌+◌, List, [], ◌∷◌, ◌++◌, All, Result, Ok, Err, refl, sym, subst, arith}
+use Rattle.std.specs.Prelude.{MatchResult}
+use Rattle.std.specs.Result.{IfOk}
+use Rattle.std.proofs.lemmas.List.Elements.{All-append, All-nil}
 use Rattle.hb_activity.specs.declared.jobs.Job.{Job}
-use Rattle.hb_pool.specs.Frames.{Use}
-use Rattle.hb_store.specs.States.{StoreState}
-use Rattle.hb_store.specs.declared.stops.StopWhy.{StopWhy}
+use Rattle.hb_lemmas.proofs.Lists.{All-alone, All-behind, All-front, All-one}
+use Rattle.hb_store.specs.declared.stops.Why.{Why}
 use Rattle.hb_core.specs.Machines.{Machine}
 use Rattle.hb_core.specs.Showing.{RunningCore}
-use Rattle.hb_core.specs.Steps.{StepsTo}
 use Rattle.hb_core.specs.declared.outcomes.Outcome.{Outcome}
-use Rattle.hb_tidy.specs.Working.{HasCause, HasWorked, IsBetweenSteps, WorksOff}
+use Rattle.hb_tidy.specs.declared.stops.TidyStop.{TidyStop}
+use Rattle.hb_tidy.specs.Working.{DropsAtEnd, DropsNone, Event, Happens, HasWorked, WorksOff, steps_in}
+use Rattle.hb_tidy.specs.Working.{Breaks, Comes, Steps, Waits}
 
-pub between_itself : (m : Machine) → IsBetweenSteps m m
-between_itself m = record { meta = refl; rest = refl }
+works_then : (xs ys : List Event) (a b c : Machine) → WorksOff xs a b → WorksOff ys b c → WorksOff (xs ++ ys) a c
+works_then [] ys a b c is two = subst (λ (x : Machine). WorksOff ys x c) is two
+works_then (event ∷ rest) ys a b c (next, here, last) two = (next, here, works_then rest ys next b c last two)
 
-pub between_as : (m : Machine) (jobs : List Job) (stop : Option StopWhy) (store : StoreState) (uses : List Use) (new : Machine) → store.meta ≡ m.store.meta → new ≡ record m { jobs = jobs; stop = stop; store = store; uses = uses } → IsBetweenSteps m new
-between_as m jobs stop store uses new meta is = subst (λ (x : Machine). IsBetweenSteps m x) (sym is) (record { meta = meta; rest = refl })
+steps_then : (xs ys : List Event) → steps_in (xs ++ ys) ≡ steps_in xs + steps_in ys
+steps_then [] ys = omega arith
+steps_then (Steps actor outcome ∷ rest) ys = let more = steps_then rest ys in omega (arith, more)
+steps_then (Waits job ∷ rest) ys = steps_then rest ys
+steps_then (Comes id ∷ rest) ys = steps_then rest ys
+steps_then (Breaks id why ∷ rest) ys = steps_then rest ys
 
-between_then : (a b c : Machine) → IsBetweenSteps a b → IsBetweenSteps b c → IsBetweenSteps a c
-between_then a b c one two = record {
-  meta = two.meta ∙ one.meta;
-  rest = two.rest ∙ ap (λ (x : Machine). record x { jobs = c.jobs; stop = c.stop; store = c.store; uses = c.uses }) one.rest;
-}
+drops_later : (xs ys : List Event) → All DropsNone xs → DropsAtEnd ys → DropsAtEnd (xs ++ ys)
+drops_later [] ys none last = last
+drops_later (event ∷ rest) ys none last = (inl ((All-one DropsNone event).0 (All-front DropsNone (event ∷ []) rest none)), drops_later rest ys (All-behind DropsNone (event ∷ []) rest none) last)
 
-works_behind : (actors : List ℕ) (a b c : Machine) → IsBetweenSteps a b → WorksOff actors b c → WorksOff actors a c
-works_behind [] a b c one two = between_then a b c one two
-works_behind (actor ∷ rest) a b c one (now, next, outcome, between, cause, step, last) = (now, next, outcome, between_then a b now one between, cause, step, last)
+abbrev Drops : {T : Type 0} → Result T TidyStop → List Event → Type 0
+Drops r events = MatchResult r (λ v. All DropsNone events) (λ stop. DropsAtEnd events)
 
-works_then : (xs ys : List ℕ) (a b c : Machine) → WorksOff xs a b → WorksOff ys b c → WorksOff (xs ++ ys) a c
-works_then [] ys a b c one two = works_behind ys a b c one two
-works_then (actor ∷ rest) ys a b c (now, next, outcome, between, cause, step, last) two = (now, next, outcome, between, cause, step, works_then rest ys next b c last two)
+drops_then : {T : Type 0} (r : Result T TidyStop) (xs ys : List Event) → All DropsNone xs → Drops r ys → Drops r (xs ++ ys)
+drops_then (Ok v) xs ys none last = All-append DropsNone xs ys none last
+drops_then (Err stop) xs ys none last = drops_later xs ys none last
 
 counted_then : (first mid last n k both : ℕ) → mid ≡ first + n → last ≡ mid + k → both ≡ n + k → last ≡ first + both
 counted_then first mid last n k both one two long = omega (arith, one, two, long)
 
-pub worked_then : (old mid new : RunningCore) (a b c : Machine) → HasWorked old a mid b → HasWorked mid b new c → HasWorked old a new c
-worked_then old mid new a b c one two = record {
-  actors = one.actors ++ two.actors;
-  steps = works_then one.actors two.actors a b c one.steps two.steps;
-  counted = counted_then old.taken mid.taken new.taken (length one.actors) (length two.actors) (length (one.actors ++ two.actors)) one.counted two.counted (length-append {A = ℕ} one.actors two.actors);
+pub worked_then : {T U : Type 0} (v : T) (r : Result U TidyStop) (old mid new : RunningCore) (a b c : Machine) → HasWorked (Ok v) old a mid b → HasWorked r mid b new c → HasWorked r old a new c
+worked_then v r old mid new a b c one two = record {
+  events = one.events ++ two.events;
+  works = works_then one.events two.events a b c one.works two.works;
+  counted = counted_then old.taken mid.taken new.taken (steps_in one.events) (steps_in two.events) (steps_in (one.events ++ two.events)) one.counted two.counted (steps_then one.events two.events);
+  drops = drops_then r one.events two.events one.drops two.drops;
 }
+
+-- ---- one thing, or none
+
+drops_none : {T : Type 0} (r : Result T TidyStop) → Drops r []
+drops_none (Ok v) = All-nil DropsNone
+drops_none (Err stop) = tt
+
+drops_one : {T : Type 0} (r : Result T TidyStop) (event : Event) → IfOk r (λ v. DropsNone event) → Drops r (event ∷ [])
+drops_one (Ok v) event none = All-alone DropsNone event none
+drops_one (Err stop) event none = (inr refl, tt)
 
 same_count : (old new : ℕ) → new ≡ old → new ≡ old + 0
 same_count old new is = omega (arith, is)
 
--- no step was taken
-pub worked_none : (old new : RunningCore) (m x : Machine) → new.taken ≡ old.taken → IsBetweenSteps m x → HasWorked old m new x
-worked_none old new m x same between = record { actors = []; steps = between; counted = same_count old.taken new.taken same }
+pub worked_none : {T : Type 0} (r : Result T TidyStop) (old new : RunningCore) (m x : Machine) → new.taken ≡ old.taken → x ≡ m → HasWorked r old m new x
+worked_none r old new m x same is = record { events = []; works = is; counted = same_count old.taken new.taken same; drops = drops_none r }
 
--- or one was
-pub worked_once : (old new : RunningCore) (m x : Machine) (actor : ℕ) (outcome : Outcome) → new.taken ≡ old.taken + 1 → HasCause m actor → StepsTo m actor outcome x → HasWorked old m new x
-worked_once old new m x actor outcome one cause step = record { actors = actor ∷ []; steps = (m, x, outcome, between_itself m, cause, step, between_itself x); counted = one }
+pub worked_once : {T : Type 0} (r : Result T TidyStop) (old new : RunningCore) (m x : Machine) (event : Event) → new.taken ≡ old.taken + steps_in (event ∷ []) → Happens event m x → IfOk r (λ v. DropsNone event) → HasWorked r old m new x
+worked_once r old new m x event taken here none = record { events = event ∷ []; works = (x, here, refl); counted = taken; drops = drops_one r event none }
+
+-- what drops no job, whatever the call says
+pub none_dropped : {T : Type 0} (r : Result T TidyStop) (event : Event) → DropsNone event → IfOk r (λ v. DropsNone event)
+none_dropped (Ok v) event none = none
+none_dropped (Err stop) event none = tt
+
+pub failed_drops : {T : Type 0} (r : Result T TidyStop) (stop : TidyStop) (event : Event) → r ≡ Err stop → IfOk r (λ v. DropsNone event)
+failed_drops (Ok v) stop event is = let never = is in cc
+failed_drops (Err other) stop event is = tt
+
+-- and what took no step
+pub taken_still : (old new : ℕ) (event : Event) → steps_in (event ∷ []) ≡ 0 → new ≡ old → new ≡ old + steps_in (event ∷ [])
+taken_still old new event none same = omega (arith, none, same)
+
+-- ---- another answer
+
+pub worked_as : {T U : Type 0} (v : T) (w : U) (old new : RunningCore) (m x : Machine) → HasWorked (Ok v) old m new x → HasWorked (Ok w) old m new x
+worked_as v w old new m x one = record { events = one.events; works = one.works; counted = one.counted; drops = one.drops }
+
+pub worked_err : {T U : Type 0} (stop : TidyStop) (old new : RunningCore) (m x : Machine) → HasWorked {T = T} (Err stop) old m new x → HasWorked {T = U} (Err stop) old m new x
+worked_err stop old new m x one = record { events = one.events; works = one.works; counted = one.counted; drops = one.drops }

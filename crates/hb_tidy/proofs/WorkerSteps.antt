@@ -15,13 +15,14 @@ use Rattle.hb_core.specs.Taking.{worker_for}
 use Rattle.hb_core.specs.Touching.{Touches}
 use Rattle.hb_core.specs.Working.{MayStep}
 use Rattle.hb_core.specs.declared.outcomes.Outcome.{Outcome}
-use Rattle.hb_tidy.proofs.CallsMade.{Stepped}
+use Rattle.hb_tidy.proofs.CallsMade.{Stepped, runs_all}
 use Rattle.hb_tidy.proofs.CountsOfCalls.{one_taken, step_rises}
 use Rattle.hb_tidy.proofs.LiveCounted.{live_by_worker}
+use Rattle.hb_tidy.proofs.Resting.{others_rest}
 use Rattle.hb_tidy.proofs.ToDo.{has_cause}
 use Rattle.hb_tidy.proofs.Workers.{IsWorker, is_worker}
 use Rattle.hb_tidy.specs.Counted.{CountsRise}
-use Rattle.hb_tidy.specs.Going.{MayTidy}
+use Rattle.hb_tidy.specs.Going.{MayTidy, RestsBut}
 use Rattle.hb_tidy.specs.Working.{HasCause}
 
 posts_or_merges : (kind : JobKind) → (worker_for kind ≡ 17) ⊎ (worker_for kind ≡ 18)
@@ -33,14 +34,14 @@ is_actor_for kind actor is = subst IsWorker (sym is) (is_worker (worker_for kind
 
 module _ (d : DiskModel) (old : RunningCore) (kind : JobKind) (actor : ℕ) (outcome : Outcome) (e : DiskModel) (new : RunningCore) (is : actor ≡ worker_for kind) (may : MayTidy d old) (counts : CountsStep actor old new)
     (steps : (m : Machine) → MayStep d old m → (next : Machine) × StepsTo m actor outcome next × ShowsMachine e new next) where
-  pub worker_took : IsDisk d → IsDisk e → Touches d old outcome e new → ((m : Machine) → ShowsMachine d old m → 0 < jobs_of kind m) → Stepped d old actor outcome e new
-  worker_took disk disk_next touches some = record {
+  pub worker_took : IsDisk d → IsDisk e → Touches d old outcome e new → RestsBut (worker_for kind) old → ((m : Machine) → ShowsMachine d old m → 0 < jobs_of kind m) → Stepped d old actor outcome e new
+  worker_took disk disk_next touches rests some = record {
     disk = disk;
     disk_next = disk_next;
     worker = is_actor_for kind actor is;
     steps = steps;
     touches = touches;
-    cause = λ m shows. subst (λ (n : ℕ). HasCause m n) (sym is) (has_cause m shows.goes_on.kept kind (some m shows.shows));
+    cause = λ m shows. subst (λ (n : ℕ). HasCause m n) (sym is) (has_cause m shows.goes_on.kept kind (runs_all d old m may shows) (others_rest d old m shows.shows (worker_for kind) rests) (some m shows.shows));
     one = one_taken old.taken new.taken may.left counts.taken;
   }
 
@@ -57,6 +58,6 @@ flush_took d old outcome e new disk disk_next may steps touches counts crowded =
   worker = inr (inr refl);
   steps = steps;
   touches = touches;
-  cause = λ m shows. inr (refl, crowded.0, subst (λ (st : StoreState). IsCrowdedOut crowded.0 st m.uses) (sym shows.shows.store) (subst (λ (uses : List Use). IsCrowdedOut crowded.0 old.store uses) (sym shows.shows.uses) crowded.1));
+  cause = λ m shows. (runs_all d old m may shows, inr (refl, crowded.0, subst (λ (st : StoreState). IsCrowdedOut crowded.0 st m.uses) (sym shows.shows.store) (subst (λ (uses : List Use). IsCrowdedOut crowded.0 old.store uses) (sym shows.shows.uses) crowded.1)));
   one = one_taken old.taken new.taken may.left counts.taken;
 }

@@ -9,9 +9,11 @@ use Rattle.hb_set.specs.declared.commands.Reply.{Reply}
 use Rattle.hb_set.specs.declared.scripts.Line.{Line}
 use Rattle.hb_space.specs.Actors.{IsActor}
 use Rattle.hb_point.specs.SessionRows.{next_line}
+use Rattle.hb_pool.specs.Frames.{clean}
+use Rattle.hb_pool.specs.Pools.{in_place}
+use Rattle.hb_store.specs.Held.{oldest_dirty}
 use Rattle.hb_store.specs.declared.stops.StopWhy.{StopWhy}
 use Rattle.hb_core.proofs.Orders.NextLines.{next_is}
-use Rattle.hb_core.proofs.Running.BetweenCalls.{flusher_stands}
 use Rattle.hb_core.proofs.Table.StepLines.{LinesAfter, lines_after}
 use Rattle.hb_core.proofs.Table.Ways.{order_grows}
 use Rattle.hb_core.specs.Forcing.{FailsToWrite, Flushes, FlushesRest, ForcesAll, StaysSo, forced_files}
@@ -82,32 +84,36 @@ module _ (m : Machine) (actor : ℕ) (kept : MachineKeeps m) (worker : IsWorker 
 pub record FlushLeaves (m new : Machine) : Type 0 where
   pub same : FileStays m new
   pub jobs : new.jobs ≡ m.jobs
+  pub activity : new.activity ≡ m.activity
+  pub uses : (new.uses ≡ m.uses) ⊎ ((page : ℕ) × (oldest_dirty m.uses ≡ Some page) × (new.uses ≡ in_place page clean m.uses))
 
 forced_same : (files : Option Files) → option_map current_file (option_map forced_files files) ≡ option_map current_file files
 forced_same None = refl
 forced_same (Some files) = refl
 
 module _ (m : Machine) (outcome : Outcome) (new : Machine) where
-  leaves : (other : Machine) → new ≡ other → file_now other ≡ file_now m → other.store.meta ≡ m.store.meta → other.jobs ≡ m.jobs → FlushLeaves m new
-  leaves other is file meta jobs = record {
+  leaves : (other : Machine) → new ≡ other → file_now other ≡ file_now m → other.store.meta ≡ m.store.meta → other.jobs ≡ m.jobs → other.activity ≡ m.activity → (other.uses ≡ m.uses) ⊎ ((page : ℕ) × (oldest_dirty m.uses ≡ Some page) × (other.uses ≡ in_place page clean m.uses)) → FlushLeaves m new
+  leaves other is file meta jobs activity uses = record {
     same = record { file = ap file_now is ∙ file; meta = ap (λ (x : Machine). x.store.meta) is ∙ meta };
     jobs = ap (λ (x : Machine). x.jobs) is ∙ jobs;
+    activity = ap (λ (x : Machine). x.activity) is ∙ activity;
+    uses = subst (λ (x : Machine). (x.uses ≡ m.uses) ⊎ ((page : ℕ) × (oldest_dirty m.uses ≡ Some page) × (x.uses ≡ in_place page clean m.uses))) (sym is) uses;
   }
 
   stays_file : (said : Outcome) → StaysSo m said outcome new → FlushLeaves m new
-  stays_file said so = leaves m so.1 refl refl refl
+  stays_file said so = leaves m so.1 refl refl refl refl (inl refl)
 
   fails_file : {most : ℕ} → FailsToWrite m most outcome new → FlushLeaves m new
-  fails_file fails = leaves _ fails.stops refl refl refl
+  fails_file fails = leaves _ fails.stops refl refl refl refl (inl refl)
 
   forces_file : ForcesAll m outcomes.Moved outcome new → FlushLeaves m new
-  forces_file (inl (says, is)) = leaves _ is (forced_same m.files) refl refl
+  forces_file (inl (says, is)) = leaves _ is (forced_same m.files) refl refl refl (inl refl)
   forces_file (inr badly) = fails_file badly.1
 
   rest_file : FlushesRest m outcomes.Moved (StaysSo m outcomes.Idle outcome new) outcome new → FlushLeaves m new
-  rest_file (inl (page, oldest, inl well)) = leaves _ well.leaves refl refl refl
+  rest_file (inl (page, oldest, inl well)) = leaves _ well.leaves refl refl refl refl (inr (page, oldest, refl))
   rest_file (inl (page, oldest, inr fails)) = fails_file fails
-  rest_file (inr (inl (old, inl turns))) = leaves _ turns.leaves refl refl refl
+  rest_file (inr (inl (old, inl turns))) = leaves _ turns.leaves refl refl refl refl (inl refl)
   rest_file (inr (inl (old, inr fails))) = fails_file fails
   rest_file (inr (inr (flushed, so))) = stays_file outcomes.Idle so
 
@@ -115,11 +121,11 @@ module _ (m : Machine) (outcome : Outcome) (new : Machine) where
   flushes_file (inl (waits, force)) = forces_file force
   flushes_file (inr (none, rest)) = rest_file rest
 
-  pub flusher_leaves : MachineKeeps m → StepsTo m 19 outcome new → FlushLeaves m new
-  flusher_leaves kept step = by m.stop step
+  pub flusher_leaves : m.activity 19 ≡ at.Flusher → StepsTo m 19 outcome new → FlushLeaves m new
+  flusher_leaves stands step = by m.stop step
     where
       by : (stop : Option StopWhy) → MatchOption stop (StepsAs (m.activity 19) m 19 outcome new) (λ why. StaysSo m (outcomes.Stopped why) outcome new) → FlushLeaves m new
-      by None one = flushes_file (subst (λ (activity : Activity). StepsAs activity m 19 outcome new) (flusher_stands (m.activity 19) (kept.classes 19)) one)
+      by None one = flushes_file (subst (λ (activity : Activity). StepsAs activity m 19 outcome new) stands one)
       by (Some why) so = stays_file (outcomes.Stopped why) so
 
 pub is_worker : (actor : ℕ) → (actor ≡ 17) ⊎ (actor ≡ 18) → IsWorker actor

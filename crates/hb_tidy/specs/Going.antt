@@ -1,5 +1,8 @@
 -- How a core goes on while it is tidied: what a call wants of it, and what it has come to behind the call.
-use Rattle.std.specs.Prelude.{◌<◌, ◌-◌, ◌^◌, Result, IfErr}
+use Rattle.std.specs.Prelude.{◌≡◌, ◌≢◌, ◌<◌, ◌-◌, ◌^◌, ℕ, Result, IfErr, OnOk, Some}
+use Rattle.std.specs.List.{slice_get}
+use Rattle.hb_activity.specs.declared.activities.Activity.{Activity}
+use Rattle.hb_space.specs.Actors.{IsActor}
 use Rattle.hb_disk.specs.Model.{DiskModel}
 use Rattle.hb_core.specs.BetweenLaws.{CountsStayWithin, HeightIsCounted, LookingKeepsAll, WaitingKeepsAll}
 use Rattle.hb_core.specs.Counting.{CountsWithin}
@@ -7,6 +10,7 @@ use Rattle.hb_core.specs.Machines.{Machine}
 use Rattle.hb_core.specs.Relied.{MayFlush}
 use Rattle.hb_core.specs.Runs.{RunningLaws}
 use Rattle.hb_core.specs.Showing.{RunningCore}
+use Rattle.hb_core.specs.SteppingLaws.{IsAtRest}
 use Rattle.hb_core.specs.Working.{MayStep}
 use Rattle.hb_tidy.specs.declared.stops.TidyStop.{TidyStop}
 use Rattle.hb_tidy.specs.Counted.{CountsRise, EndsSpent}
@@ -28,13 +32,21 @@ pub record MayTidy (d : DiskModel) (c : RunningCore) : Type 0 where
   pub counts : CountsWithin c
   pub left : c.taken < 2 ^ 64 - 1
 
--- A call, from one machine that the core showed, and from each of them, with its counts.
+-- each actor but this one is at rest, as a core has them; or each, but for nobody
+abbrev pub RestsBut : ℕ → RunningCore → Type 0
+RestsBut actor c = (other : ℕ) → IsActor other → other ≢ actor → (a : Activity) × (slice_get c.activities (other - 1) ≡ Some a) × IsAtRest a
+
+abbrev pub AllRest : RunningCore → Type 0
+AllRest c = RestsBut 0 c
+
+-- A call, from one machine that the core showed, and from each of them, with its counts. Where it ends well the core may go on.
 pub record Does {T : Type 0} (result : Result T TidyStop) (d : DiskModel) (old : RunningCore) (m : Machine) (e : DiskModel) (c : RunningCore) : Type 0 where
   pub run : HasTidied d m e c
-  pub worked : HasWorked old m c run.new
+  pub worked : HasWorked result old m c run.new
   pub err : IfErr result (λ stop. StopsTidying stop d e c run.new)
 
 pub record Goes {T : Type 0} (result : Result T TidyStop) (d : DiskModel) (old : RunningCore) (e : DiskModel) (new : RunningCore) : Type 0 where
   pub does : (m : Machine) → MayStep d old m → Does result d old m e new
   pub counts : CountsRise old new
   pub spent : EndsSpent result new
+  pub may : OnOk result (MayTidy e new)

@@ -2,7 +2,9 @@ pub mod Counted
 pub mod Finding
 pub mod Going
 pub mod Looking
+pub mod Owed
 pub mod Placing
 pub mod Stepping
+pub mod TidyFiles
 pub mod Tidying
 pub mod Working

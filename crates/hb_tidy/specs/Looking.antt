@@ -1,5 +1,5 @@
 -- What looks at the file come to: nothing in it changes, and what they see is of it.
-use Rattle.std.specs.Prelude.{◌≡◌, [], Result, Ok, Err, IfOk, IfSome, Option, Some, None}
+use Rattle.std.specs.Prelude.{◌≡◌, [], Result, Ok, Err, IfOk, OnOk, IfSome, Option, Some, None}
 use Rattle.hb_disk.specs.Model.{DiskModel}
 use Rattle.hb_frag.specs.declared.pages.Page.{Page}
 use Rattle.hb_ops.specs.Files.{FileState}
@@ -11,7 +11,7 @@ use Rattle.hb_core.specs.Working.{MayStep}
 use Rattle.hb_tidy.specs.declared.stops.TidyStop.{TidyStop}
 use Rattle.hb_tidy.specs.declared.stops.TidyStop.TheVariants as stops
 use Rattle.hb_tidy.specs.Counted.{CountsRise, EndsSpent}
-use Rattle.hb_tidy.specs.Going.{Does}
+use Rattle.hb_tidy.specs.Going.{AllRest, Does, MayTidy}
 use Rattle.hb_tidy.specs.Tidying.{file_now}
 
 -- the file stays, and what it says of itself
@@ -25,13 +25,16 @@ pub record Looks {T : Type 0} (result : Result T TidyStop) (says : T → FileSta
   pub same : FileStays m does.run.new
   pub ok : IfOk result (λ v. IfSome (file_now m) (says v))
 
--- From each machine that the core showed of whose file this is known already; with the counts. Where no job waits, none did before.
+-- From each machine that the core showed of whose file this is known already; with the counts. Where no job waits, none did before; and
+-- nobody comes to have anything in hand.
 pub record LooksOver {T : Type 0} (knows : FileState → Type 0) (result : Result T TidyStop) (says : T → FileState → Type 0) (d : DiskModel) (old : RunningCore) (e : DiskModel) (new : RunningCore) : Type 0 where
   pub looks : (m : Machine) → MayStep d old m → IfSome (file_now m) knows → Looks result says d old m e new
   pub counts : CountsRise old new
   pub spent : EndsSpent result new
+  pub may : OnOk result (MayTidy e new)
   pub meta : new.store.meta ≡ old.store.meta
   pub waiting : new.jobs ≡ [] → old.jobs ≡ []
+  pub rests : AllRest old → AllRest new
 
 -- nothing is known of a file, or said of what was seen
 abbrev pub NothingOf : FileState → Type 0

@@ -1,29 +1,68 @@
--- The steps by which a tidying comes from one machine to another, and why each of them is taken.
-use Rattle.std.specs.Prelude.{◌≡◌, ◌⊎◌, ℕ, ◌+◌, List, [], ◌∷◌, length}
+-- What happens to a machine while it is tidied, one thing after the other, and why each of them may.
+use Rattle.std.specs.Prelude.{◌≡◌, ◌≢◌, ◌⊎◌, ℕ, None, ◌+◌, List, [], ◌∷◌, All, IfSome, Result, MatchResult}
+use Rattle.hb_activity.specs.declared.jobs.Job.{Job}
 use Rattle.hb_store.specs.Fetching.{IsCrowdedOut}
-use Rattle.hb_core.specs.Machines.{Machine}
+use Rattle.hb_store.specs.declared.stops.StopWhy.TheVariants as whys
+use Rattle.hb_store.specs.declared.stops.Why.{Why}
+use Rattle.hb_core.specs.Between.{LetsWait, PageComes}
+use Rattle.hb_core.specs.Fetching.{IsBadRead}
+use Rattle.hb_core.specs.Machines.{Machine, stopped_for}
 use Rattle.hb_core.specs.ProgressLaws.{HasToDo}
 use Rattle.hb_core.specs.Showing.{RunningCore}
 use Rattle.hb_core.specs.Steps.{StepsTo}
+use Rattle.hb_core.specs.SteppingLaws.{IsAtRest}
 use Rattle.hb_core.specs.declared.outcomes.Outcome.{Outcome}
+use Rattle.hb_core.specs.declared.outcomes.Outcome.TheVariants as outcomes
+use Rattle.hb_tidy.specs.declared.stops.TidyStop.{TidyStop}
+use Rattle.hb_tidy.specs.Owed.{IsJobOwed}
+use Rattle.hb_tidy.specs.Tidying.{file_now}
 
--- Between two steps jobs wait, pages come into memory, and a damaged page stops the machine. All else is as it was, also what the file
--- says of itself.
-pub record IsBetweenSteps (m new : Machine) : Type 0 where
-  pub meta : new.store.meta ≡ m.store.meta
-  pub rest : new ≡ record m { jobs = new.jobs; stop = new.stop; store = new.store; uses = new.uses }
+-- An actor takes a step; a job comes to wait; a page comes into memory; or a damaged one stops the machine.
+pub data Event : Type 0 where
+  Steps : ℕ → Outcome → Event
+  Waits : Job → Event
+  Comes : ℕ → Event
+  Breaks : ℕ → Why → Event
 
--- A worker takes a step that has a job in hand or one that waits for it; or a flush makes room for a page that has no place in memory.
+-- While all others rest a worker takes a step that has a job in hand or one that waits for it; or a flush makes room for a page that has
+-- no place in memory. The machine runs.
+abbrev pub OthersRest : Machine → ℕ → Type 0
+OthersRest m actor = (other : ℕ) → other ≢ actor → IsAtRest (m.activity other)
+
 abbrev pub HasCause : Machine → ℕ → Type 0
-HasCause m actor = (((actor ≡ 17) ⊎ (actor ≡ 18)) × HasToDo m actor) ⊎ ((actor ≡ 19) × (id : ℕ) × IsCrowdedOut id m.store m.uses)
+HasCause m actor = (m.stop ≡ None) × ((((actor ≡ 17) ⊎ (actor ≡ 18)) × OthersRest m actor × HasToDo m actor) ⊎ ((actor ≡ 19) × (id : ℕ) × IsCrowdedOut id m.store m.uses))
 
--- Steps of these actors, none without such a cause.
-abbrev pub WorksOff : List ℕ → Machine → Machine → Type 0
-WorksOff [] m new = IsBetweenSteps m new
-WorksOff (actor ∷ rest) m new = (now next : Machine) × (outcome : Outcome) × IsBetweenSteps m now × HasCause now actor × StepsTo now actor outcome next × WorksOff rest next new
+-- What each makes of a machine. A step has such a cause, and over a disk that tells the file owes what a job is for. Nothing else changes.
+abbrev pub Happens : Event → Machine → Machine → Type 0
+Happens (Steps actor outcome) m new = HasCause m actor × StepsTo m actor outcome new
+Happens (Waits job) m new = LetsWait job m new × IfSome (file_now m) (λ s. IsJobOwed s job)
+Happens (Comes id) m new = PageComes id m new
+Happens (Breaks id why) m new = (new ≡ stopped_for (whys.Damaged id why) m) × IsBadRead m.files m.store id why
 
--- They are as many as the core has counted since.
-pub record HasWorked (old : RunningCore) (m : Machine) (c : RunningCore) (new : Machine) : Type 0 where
-  pub actors : List ℕ
-  pub steps : WorksOff actors m new
-  pub counted : c.taken ≡ old.taken + length actors
+-- one after the other
+abbrev pub WorksOff : List Event → Machine → Machine → Type 0
+WorksOff [] m new = new ≡ m
+WorksOff (event ∷ rest) m new = (next : Machine) × Happens event m next × WorksOff rest next new
+
+-- how many of them are steps
+abbrev pub steps_in : List Event → ℕ
+steps_in [] = 0
+steps_in (Steps actor outcome ∷ rest) = steps_in rest + 1
+steps_in (other ∷ rest) = steps_in rest
+
+-- No job is dropped by it; or by none but the last.
+abbrev pub DropsNone : Event → Type 0
+DropsNone (Steps actor (outcomes.Dropped why)) = ⊥
+DropsNone other = Unit {0}
+
+abbrev pub DropsAtEnd : List Event → Type 0
+DropsAtEnd [] = Unit {0}
+DropsAtEnd (event ∷ rest) = (DropsNone event ⊎ (rest ≡ [])) × DropsAtEnd rest
+
+-- They lead from the one machine to the other, with as many steps as the core has counted since. A job that is dropped ends the call by an
+-- error.
+pub record HasWorked {T : Type 0} (result : Result T TidyStop) (old : RunningCore) (m : Machine) (c : RunningCore) (new : Machine) : Type 0 where
+  pub events : List Event
+  pub works : WorksOff events m new
+  pub counted : c.taken ≡ old.taken + steps_in events
+  pub drops : MatchResult result (λ v. All DropsNone events) (λ stop. DropsAtEnd events)

@@ -1,5 +1,5 @@
 //! What is found below a page: at each of its child leaves.
-ghost use Rattle.std.specs.Prelude.{◌≡◌, ◌<◌, ◌≤◌, ℕ, [], All, IfOk, IfSome, OnOk, Some, length};
+ghost use Rattle.std.specs.Prelude.{◌≡◌, ◌<◌, ◌≤◌, ℕ, All, IfOk, IfSome, IsSome, OnOk, Some, length};
 ghost use Rattle.hb_space.specs.Boxes.{IsArea};
 ghost use Rattle.hb_frag.specs.Leaves.{leaves, siblings_of};
 ghost use Rattle.hb_layout.specs.Limits.{IsLayout};
@@ -10,7 +10,8 @@ ghost use Rattle.hb_core.specs.CoreSeen.{core_seen, core_disk};
 ghost use Rattle.hb_core.specs.KeptFits.{JobFits};
 ghost use Rattle.hb_tidy.specs.Finding.{BothLive, IsTidyBelow};
 ghost use Rattle.hb_tidy.specs.Going.{MayTidy};
-ghost use Rattle.hb_tidy.specs.Looking.{LooksOver, NothingOf};
+ghost use Rattle.hb_tidy.specs.Looking.{LooksOver};
+ghost use Rattle.hb_tidy.specs.Owed.{FindsJobs};
 ghost use Rattle.hb_tidy.specs.Placing.{StandsBelow, placed_children};
 
 use crate::TidyStop;
@@ -38,11 +39,9 @@ pub(crate) fn look_at_all<D: Device>(
     requires leaves { children.now ≡ placed_children parent.now.page }
     requires fit { All (JobFits (core_seen core.old).store.meta.k) jobs.old.items }
     ensures looks { LooksOver (λ s. live_page s parent.now.id ≡ Some parent.now.page) result
-        (λ v s. jobs.new.items ≡ [] → (jobs.old.items ≡ []) × All (IsTidyBelow s parent.now.id) children.now)
+        (λ v s. FindsJobs s (All (IsTidyBelow s parent.now.id) children.now) jobs.old.items jobs.new.items)
         (D.model (core_disk core.old)) (core_seen core.old) (D.model (core_disk core.new)) (core_seen core.new) }
-    ensures may { OnOk result (MayTidy (D.model (core_disk core.new)) (core_seen core.new)) }
-    ensures meta { (core_seen core.new).store.meta ≡ (core_seen core.old).store.meta }
-    ensures fit { All (JobFits (core_seen core.old).store.meta.k) jobs.new.items }
+    ensures fit { OnOk result (All (JobFits (core_seen core.old).store.meta.k) jobs.new.items) }
 {
     for leaf in children {
         look_below(alloc, core, parent, leaf.0, &leaf.1, jobs)?;
@@ -50,7 +49,8 @@ pub(crate) fn look_at_all<D: Device>(
     Ok(())
 }
 
-/// Looks at the page that a child leaf of this box names. One that doesn't stand there is a job for the poster, who comes upon it.
+/// Looks at the page that a child leaf of this box names. One that doesn't stand there, as may be over a disk that tells nothing, is a
+/// job for the poster, who comes upon it.
 fn look_below<D: Device>(
     alloc: Global,
     core: &mut Core<D>,
@@ -65,11 +65,9 @@ fn look_below<D: Device>(
     requires leaf { HasChild parent.now.page name area.now }
     requires fit { All (JobFits (core_seen core.old).store.meta.k) jobs.old.items }
     ensures looks { LooksOver (λ s. live_page s parent.now.id ≡ Some parent.now.page) result
-        (λ v s. jobs.new.items ≡ [] → (jobs.old.items ≡ []) × IsTidyBelow s parent.now.id (name, area.now))
+        (λ v s. FindsJobs s (IsTidyBelow s parent.now.id (name, area.now)) jobs.old.items jobs.new.items)
         (D.model (core_disk core.old)) (core_seen core.old) (D.model (core_disk core.new)) (core_seen core.new) }
-    ensures may { OnOk result (MayTidy (D.model (core_disk core.new)) (core_seen core.new)) }
-    ensures meta { (core_seen core.new).store.meta ≡ (core_seen core.old).store.meta }
-    ensures fit { All (JobFits (core_seen core.old).store.meta.k) jobs.new.items }
+    ensures fit { OnOk result (All (JobFits (core_seen core.old).store.meta.k) jobs.new.items) }
 {
     match child_below(core, parent, name, area)? {
         Some(page) => look_into(
@@ -87,7 +85,7 @@ fn look_below<D: Device>(
     }
 }
 
-/// The page of the number, where it stands below the parent's leaf of this box.
+/// The page of the number, where it stands below the parent's leaf of this box. Over a disk that tells it does.
 fn child_below<D: Device>(
     core: &mut Core<D>,
     parent: &Numbered,
@@ -97,10 +95,8 @@ fn child_below<D: Device>(
     requires may { MayTidy (D.model (core_disk core.old)) (core_seen core.old) }
     requires made { FitsFile (core_seen core.old).store.meta parent.now.page }
     requires leaf { HasChild parent.now.page name area.now }
-    ensures looks { LooksOver NothingOf result (λ seen s. IfSome seen (λ page. live_page s name ≡ Some page))
+    ensures looks { LooksOver (λ s. live_page s parent.now.id ≡ Some parent.now.page) result (λ seen s. IsSome seen × (live_page s name ≡ seen))
         (D.model (core_disk core.old)) (core_seen core.old) (D.model (core_disk core.new)) (core_seen core.new) }
-    ensures may { OnOk result (MayTidy (D.model (core_disk core.new)) (core_seen core.new)) }
-    ensures meta { (core_seen core.new).store.meta ≡ (core_seen core.old).store.meta }
     ensures made { IfOk result (λ seen. IfSome seen (FitsFile (core_seen core.old).store.meta)) }
     ensures stands { IfOk result (λ seen. IfSome seen (λ page. IsArea parent.now.page.area → IsArea page.area → StandsBelow (core_seen core.old).store.meta parent.now.page name area.now page)) }
 {
@@ -130,11 +126,9 @@ fn look_into<D: Device>(
     requires made { FitsFile (core_seen core.old).store.meta child.now.page }
     requires fit { All (JobFits (core_seen core.old).store.meta.k) jobs.old.items }
     ensures looks { LooksOver (BothLive parent.now.id parent.now.page child.now.id child.now.page) result
-        (λ v s. jobs.new.items ≡ [] → (jobs.old.items ≡ []) × IsTidyBelow s parent.now.id (child.now.id, area.now))
+        (λ v s. FindsJobs s (IsTidyBelow s parent.now.id (child.now.id, area.now)) jobs.old.items jobs.new.items)
         (D.model (core_disk core.old)) (core_seen core.old) (D.model (core_disk core.new)) (core_seen core.new) }
-    ensures may { OnOk result (MayTidy (D.model (core_disk core.new)) (core_seen core.new)) }
-    ensures meta { (core_seen core.new).store.meta ≡ (core_seen core.old).store.meta }
-    ensures fit { All (JobFits (core_seen core.old).store.meta.k) jobs.new.items }
+    ensures fit { OnOk result (All (JobFits (core_seen core.old).store.meta.k) jobs.new.items) }
 {
     let given = sibling_leaves(alloc, &child.page)?;
     owe_postings(
@@ -163,11 +157,9 @@ fn find_merges<D: Device>(
     requires given { given.now ≡ siblings_of keep.now.page }
     requires fit { All (JobFits (core_seen core.old).store.meta.k) jobs.old.items }
     ensures looks { LooksOver (BothLive parent.now.id parent.now.page keep.now.id keep.now.page) result
-        (λ v s. jobs.new.items ≡ [] → (jobs.old.items ≡ []) × ((gone : ℕ) → ¬ (IsMergeable s parent.now.id keep.now.id gone)))
+        (λ v s. FindsJobs s ((gone : ℕ) → ¬ (IsMergeable s parent.now.id keep.now.id gone)) jobs.old.items jobs.new.items)
         (D.model (core_disk core.old)) (core_seen core.old) (D.model (core_disk core.new)) (core_seen core.new) }
-    ensures may { OnOk result (MayTidy (D.model (core_disk core.new)) (core_seen core.new)) }
-    ensures meta { (core_seen core.new).store.meta ≡ (core_seen core.old).store.meta }
-    ensures fit { All (JobFits (core_seen core.old).store.meta.k) jobs.new.items }
+    ensures fit { OnOk result (All (JobFits (core_seen core.old).store.meta.k) jobs.new.items) }
 {
     for leaf in given {
         try_pair(core, parent, keep, area, leaf.0, jobs)?;
@@ -188,11 +180,9 @@ fn try_pair<D: Device>(
     requires stands { StandsBelow (core_seen core.old).store.meta parent.now.page keep.now.id area.now keep.now.page }
     requires fit { All (JobFits (core_seen core.old).store.meta.k) jobs.old.items }
     ensures looks { LooksOver (BothLive parent.now.id parent.now.page keep.now.id keep.now.page) result
-        (λ v s. jobs.new.items ≡ [] → (jobs.old.items ≡ []) × (¬ (IsMergeable s parent.now.id keep.now.id gone)))
+        (λ v s. FindsJobs s (¬ (IsMergeable s parent.now.id keep.now.id gone)) jobs.old.items jobs.new.items)
         (D.model (core_disk core.old)) (core_seen core.old) (D.model (core_disk core.new)) (core_seen core.new) }
-    ensures may { OnOk result (MayTidy (D.model (core_disk core.new)) (core_seen core.new)) }
-    ensures meta { (core_seen core.new).store.meta ≡ (core_seen core.old).store.meta }
-    ensures fit { All (JobFits (core_seen core.old).store.meta.k) jobs.new.items }
+    ensures fit { OnOk result (All (JobFits (core_seen core.old).store.meta.k) jobs.new.items) }
 {
     if parent.page.names(gone) {
         match named_page(core, gone)? {

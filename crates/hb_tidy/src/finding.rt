@@ -1,13 +1,16 @@
 //! What is found at a child leaf of a page: postings that are owed to the page, and pages that may become one.
-ghost use Rattle.std.specs.Prelude.{◌≡◌, ◌+◌, ◌≤◌, ◌↔◌, ◌++◌, ◌∷◌, [], ℕ, All, IfErr, IfOk, IsTrue, OnErr, OnOk, length};
-ghost use Rattle.hb_space.specs.Boxes.{Holds, Meets, Within};
-ghost use Rattle.hb_frag.specs.Leaves.{siblings_of};
+ghost use Rattle.std.specs.Prelude.{◌≡◌, ◌+◌, ◌<◌, ◌≤◌, ◌↔◌, ◌++◌, ◌∷◌, [], ℕ, All, Contains, IfErr, IfOk, IsTrue, OnErr, OnOk, length};
+ghost use Rattle.hb_activity.specs.declared.jobs.JobKind.TheVariants.{Merge};
+ghost use Rattle.hb_space.specs.Boxes.{Area, Holds, Meets, Within};
+ghost use Rattle.hb_frag.specs.declared.leaves.Leaf.TheVariants.{Child};
+ghost use Rattle.hb_frag.specs.Leaves.{leaves, siblings_of};
 ghost use Rattle.hb_frag.specs.Rules.{capacity_of};
 ghost use Rattle.hb_layout.specs.Limits.{IsLayout};
 ghost use Rattle.hb_ops.specs.Merging.{FitsMerge, MayMerge};
 ghost use Rattle.hb_ops.specs.Owing.{LacksRoom};
 ghost use Rattle.hb_ops.specs.Sound.{FitsFile};
-ghost use Rattle.hb_core.specs.KeptFits.{JobFits};
+ghost use Rattle.hb_terms.specs.declared.plans.PostPlan.TheVariants.{SplitFirst};
+ghost use Rattle.hb_tidy.specs.Owed.{HasAdded, IsAtCorner, IsPosting};
 ghost use Rattle.hb_tidy.specs.Placing.{IsNotOwed, StandsBelow};
 
 use crate::TidyStop;
@@ -50,8 +53,7 @@ pub(crate) fn owe_postings(
 ) -> Result<(), TidyStop>
     requires stands { (name : ℕ) × StandsBelow meta.now parent.now name area.now child.now }
     requires given { given.now ≡ siblings_of child.now }
-    requires fit { All (JobFits meta.now.k) jobs.old.items }
-    ensures fit { All (JobFits meta.now.k) jobs.new.items }
+    ensures added { OnOk result (HasAdded meta.now.k (IsPosting meta.now parent.now child.now area.now) jobs.old.items jobs.new.items) }
     ensures none { OnOk result (jobs.new.items ≡ [] → (jobs.old.items ≡ []) × All (λ sibling. ¬ (Meets area.now sibling.1)) given.now) }
     ensures full { IfErr result (IsNotOwed meta.now parent.now child.now) }
 {
@@ -73,8 +75,8 @@ fn owe_given(
 ) -> Result<(), TidyStop>
     requires stands { (name : ℕ) × StandsBelow meta.now parent.now name area.now child.now }
     requires attributes { length area.now.lo ≡ length given.now.lo }
-    requires fit { All (JobFits meta.now.k) jobs.old.items }
-    ensures fit { All (JobFits meta.now.k) jobs.new.items }
+    requires given { (inner : ℕ) × Contains (siblings_of child.now) (inner, given.now) }
+    ensures added { OnOk result (HasAdded meta.now.k (IsPosting meta.now parent.now child.now area.now) jobs.old.items jobs.new.items) }
     ensures none { OnOk result (jobs.new.items ≡ [] → (jobs.old.items ≡ []) × (¬ (Meets area.now given.now))) }
     ensures full { IfErr result (IsNotOwed meta.now parent.now child.now) }
 {
@@ -96,8 +98,8 @@ fn owe_posting(
 ) -> Result<(), TidyStop>
     requires stands { (name : ℕ) × StandsBelow meta.now parent.now name area.now child.now }
     requires held { Holds area.now point.now }
-    requires fit { All (JobFits meta.now.k) jobs.old.items }
-    ensures fit { All (JobFits meta.now.k) jobs.new.items }
+    requires given { (inner : ℕ × Area) × Contains (siblings_of child.now) inner × Holds inner.1 point.now }
+    ensures added { OnOk result (HasAdded meta.now.k (IsPosting meta.now parent.now child.now area.now) jobs.old.items jobs.new.items) }
     ensures none { OnOk result (jobs.new.items ≡ [] → ⊥) }
     ensures full { IfErr result (IsNotOwed meta.now parent.now child.now) }
 {
@@ -124,11 +126,19 @@ fn needs_split(
 ) -> Result<bool, NoMemory>
     requires stands { (name : ℕ) × StandsBelow meta.now parent.now name area.now child.now }
     requires held { Holds area.now point.now }
-    ensures { IfOk result (λ needs. IsTrue needs → LacksRoom parent.now child.now point.now meta.now.icap) }
+    ensures { IfOk result (λ needs. IsTrue needs ↔ LacksRoom parent.now child.now point.now meta.now.icap) }
 {
-    match post_plan(alloc, parent, child, point, meta.icap)? {
-        PostPlan::SplitFirst => Ok(true),
-        PostPlan::Nothing | PostPlan::Post { .. } => Ok(false),
+    let plan = post_plan(alloc, parent, child, point, meta.icap)?;
+    Ok(is_split(&plan))
+}
+
+/// Whether the plan is that the parent is split first.
+fn is_split(plan: &PostPlan) -> bool
+    ensures { IsTrue result ↔ (plan.now ≡ SplitFirst) }
+{
+    match plan {
+        PostPlan::SplitFirst => true,
+        PostPlan::Nothing | PostPlan::Post { .. } => false,
     }
 }
 
@@ -142,8 +152,7 @@ pub(crate) fn owe_job(
 ) -> Result<(), NoMemory>
     requires level { 1 ≤ parent.now.level }
     requires attributes { length area.now.lo ≡ meta.now.k }
-    requires fit { All (JobFits meta.now.k) jobs.old.items }
-    ensures fit { All (JobFits meta.now.k) jobs.new.items }
+    ensures added { OnOk result (HasAdded meta.now.k (IsAtCorner kind parent.now area.now) jobs.old.items jobs.new.items) }
     ensures none { OnOk result (jobs.new.items ≡ [] → ⊥) }
 {
     let job = Job {
@@ -175,8 +184,9 @@ pub(crate) fn owe_merge(
     requires layout { IsLayout meta.now }
     requires stands { StandsBelow meta.now parent.now.page keep.now.id area.now keep.now.page }
     requires going { FitsFile meta.now going.now }
-    requires fit { All (JobFits meta.now.k) jobs.old.items }
-    ensures fit { All (JobFits meta.now.k) jobs.new.items }
+    requires named { Contains (leaves parent.now.page.frag) (Child gone) }
+    ensures added { OnOk result (HasAdded meta.now.k
+        (λ job. IsAtCorner Merge parent.now.page area.now job × FitsMerge meta.now parent.now.id keep.now.id gone parent.now.page keep.now.page going.now) jobs.old.items jobs.new.items) }
     ensures none { OnOk result (jobs.new.items ≡ [] → (jobs.old.items ≡ [])
         × (¬ (FitsMerge meta.now parent.now.id keep.now.id gone parent.now.page keep.now.page going.now))) }
 {
@@ -190,15 +200,25 @@ pub(crate) fn owe_merge(
 /// Whether two children of a parent may become one page.
 fn may_merge(meta: &Meta, parent: &Numbered, keep: &Numbered, gone: u32, going: &LivePage) -> bool
     requires layout { IsLayout meta.now }
-    requires parent { FitsFile meta.now parent.now.page }
-    requires keep { FitsFile meta.now keep.now.page }
+    requires stands { (area : Area) × StandsBelow meta.now parent.now.page keep.now.id area keep.now.page }
     requires going { FitsFile meta.now going.now }
-    ensures { FitsMerge meta.now parent.now.id keep.now.id gone parent.now.page keep.now.page going.now → IsTrue result }
+    requires named { Contains (leaves parent.now.page.frag) (Child gone) }
+    ensures { IsTrue result ↔ FitsMerge meta.now parent.now.id keep.now.id gone parent.now.page keep.now.page going.now }
 {
-    meta.live > 0
-        && are_three(parent.id, keep.id, gone)
-        && going.level == keep.page.level
-        && plans_merge(meta, parent, keep, gone, going)
+    may_be_three(meta, parent, keep, gone, going) && plans_merge(meta, parent, keep, gone, going)
+}
+
+/// Whether these are three pages of a file that has some in use, the last two of them of one level.
+fn may_be_three(
+    meta: &Meta,
+    parent: &Numbered,
+    keep: &Numbered,
+    gone: u32,
+    going: &LivePage,
+) -> bool
+    ensures { IsTrue result ↔ ((0 < meta.now.live) × ((parent.now.id ≡ keep.now.id) → ⊥) × ((parent.now.id ≡ gone) → ⊥) × ((keep.now.id ≡ gone) → ⊥) × (going.now.level ≡ keep.now.page.level)) }
+{
+    meta.live > 0 && are_three(parent.id, keep.id, gone) && going.level == keep.page.level
 }
 
 /// Whether no two of the numbers are the same.
@@ -214,7 +234,7 @@ fn plans_merge(meta: &Meta, parent: &Numbered, keep: &Numbered, gone: u32, going
     requires parent { FitsFile meta.now parent.now.page }
     requires keep { FitsFile meta.now keep.now.page }
     requires going { FitsFile meta.now going.now }
-    ensures { MayMerge parent.now.page keep.now.page gone going.now (capacity_of keep.now.page.level meta.now.dcap meta.now.icap) → IsTrue result }
+    ensures { IsTrue result ↔ MayMerge parent.now.page keep.now.page gone going.now (capacity_of keep.now.page.level meta.now.dcap meta.now.icap) }
 {
     let plan = merge_plan(
         &parent.page,

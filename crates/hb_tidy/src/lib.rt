@@ -5,7 +5,8 @@
 //! `specs/Tidying.antt` says so.
 //!
 //! The file is looked through page by page. What is found waits as a job for the core's workers, and is worked off by steps of
-//! theirs behind the pass. A pass over the whole file behind which no job waits ends the call. No step is taken without a cause.
+//! theirs behind the pass. A pass over the whole file behind which no job waits ends the call. No step is taken without a cause, and
+//! no job waits that the file doesn't owe (`specs/Working.antt`).
 //!
 //! No type keeps an invariant.
 //!
@@ -23,6 +24,7 @@ ghost use Rattle.hb_tidy.specs.Working.{HasWorked};
 
 mod below;
 mod finding;
+pub mod laws;
 mod listing;
 mod looking;
 mod passes;
@@ -55,7 +57,7 @@ pub fn tidy<D: Device>(alloc: Global, core: &mut Core<D>) -> Result<TidyCounts, 
     requires counts { CountsWithin (core_seen core.old) }
     ensures tidies { (m : Machine) → MayStep (D.model (core_disk core.old)) (core_seen core.old) m →
         (t : HasTidied (D.model (core_disk core.old)) m (D.model (core_disk core.new)) (core_seen core.new))
-        × HasWorked (core_seen core.old) m (core_seen core.new) t.new
+        × HasWorked result (core_seen core.old) m (core_seen core.new) t.new
         × EndsTidying (D.model (core_disk core.old)) (D.model (core_disk core.new)) (core_seen core.old) (core_seen core.new) t.new result }
     ensures rise { CountsRise (core_seen core.old) (core_seen core.new) }
     ensures spent { EndsSpent result (core_seen core.new) }

@@ -21,8 +21,6 @@ pub(crate) fn look<D: Device>(core: &mut Core<D>, id: u32) -> Result<Page, TidyS
     requires may { MayTidy (D.model (core_disk core.old)) (core_seen core.old) }
     requires page { IsPageOf (core_seen core.old).store.meta id }
     ensures looks { LooksOver NothingOf result (λ page s. page_of s id ≡ Some page) (D.model (core_disk core.old)) (core_seen core.old) (D.model (core_disk core.new)) (core_seen core.new) }
-    ensures may { OnOk result (MayTidy (D.model (core_disk core.new)) (core_seen core.new)) }
-    ensures meta { (core_seen core.new).store.meta ≡ (core_seen core.old).store.meta }
     ensures good { IfOk result (IsGoodPage (core_seen core.old).store.meta) }
 {
     loop {
@@ -38,8 +36,6 @@ fn look_once<D: Device>(core: &mut Core<D>, id: u32) -> Result<Option<Page>, Tid
     requires may { MayTidy (D.model (core_disk core.old)) (core_seen core.old) }
     requires page { IsPageOf (core_seen core.old).store.meta id }
     ensures looks { LooksOver NothingOf result (λ seen s. IfSome seen (λ page. page_of s id ≡ Some page)) (D.model (core_disk core.old)) (core_seen core.old) (D.model (core_disk core.new)) (core_seen core.new) }
-    ensures may { OnOk result (MayTidy (D.model (core_disk core.new)) (core_seen core.new)) }
-    ensures meta { (core_seen core.new).store.meta ≡ (core_seen core.old).store.meta }
     ensures taken { (core_seen core.new).taken ≡ (core_seen core.old).taken }
     ensures crowded { IfOk result (λ seen. seen ≡ None → IsCrowdedOut id (core_seen core.new).store (core_seen core.new).uses) }
     ensures good { IfOk result (λ seen. IfSome seen (IsGoodPage (core_seen core.old).store.meta)) }
@@ -68,8 +64,6 @@ pub(crate) fn named_page<D: Device>(
 ) -> Result<Option<LivePage>, TidyStop>
     requires may { MayTidy (D.model (core_disk core.old)) (core_seen core.old) }
     ensures looks { LooksOver NothingOf result (λ page s. live_page s id ≡ page) (D.model (core_disk core.old)) (core_seen core.old) (D.model (core_disk core.new)) (core_seen core.new) }
-    ensures may { OnOk result (MayTidy (D.model (core_disk core.new)) (core_seen core.new)) }
-    ensures meta { (core_seen core.new).store.meta ≡ (core_seen core.old).store.meta }
     ensures good { IfOk result (λ seen. IfSome seen (FitsFile (core_seen core.old).store.meta)) }
 {
     if is_beyond(core.meta(), id) {

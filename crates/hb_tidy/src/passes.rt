@@ -7,9 +7,10 @@ ghost use Rattle.hb_ops.specs.Sound.{FitsFile};
 ghost use Rattle.hb_store.specs.Replaying.{IsPageOf};
 ghost use Rattle.hb_core.specs.CoreSeen.{core_seen, core_disk};
 ghost use Rattle.hb_core.specs.KeptFits.{JobFits};
-ghost use Rattle.hb_tidy.specs.Finding.{HasGrown, IsTidy, IsTidyAt};
+ghost use Rattle.hb_tidy.specs.Finding.{HasGrown, IsTidy, IsTidyAt, OwesGrowth};
 ghost use Rattle.hb_tidy.specs.Going.{MayTidy};
 ghost use Rattle.hb_tidy.specs.Looking.{LooksOver, NothingOf};
+ghost use Rattle.hb_tidy.specs.Owed.{FindsJobs, IsJobOwed};
 
 use crate::TidyStop;
 use crate::below::look_at_all;
@@ -28,9 +29,8 @@ use std::alloc::Global;
 /// Looks at the root and at each page of the file, and lets a job wait for each thing that is found.
 pub(crate) fn pass<D: Device>(alloc: Global, core: &mut Core<D>) -> Result<(), TidyStop>
     requires { MayTidy (D.model (core_disk core.old)) (core_seen core.old) }
-    ensures looks { LooksOver NothingOf result (λ v s. (core_seen core.new).jobs ≡ [] → IsTidy s)
+    ensures { LooksOver NothingOf result (λ v s. (core_seen core.new).jobs ≡ [] → IsTidy s)
         (D.model (core_disk core.old)) (core_seen core.old) (D.model (core_disk core.new)) (core_seen core.new) }
-    ensures may { OnOk result (MayTidy (D.model (core_disk core.new)) (core_seen core.new)) }
 {
     visit_root(alloc, core)?;
     let high = core.meta().high;
@@ -43,10 +43,8 @@ pub(crate) fn pass<D: Device>(alloc: Global, core: &mut Core<D>) -> Result<(), T
 /// Looks at the root, and lets the job for a growth wait, where one is owed.
 fn visit_root<D: Device>(alloc: Global, core: &mut Core<D>) -> Result<(), TidyStop>
     requires { MayTidy (D.model (core_disk core.old)) (core_seen core.old) }
-    ensures looks { LooksOver NothingOf result (λ v s. (core_seen core.new).jobs ≡ [] → HasGrown s)
+    ensures { LooksOver NothingOf result (λ v s. (core_seen core.new).jobs ≡ [] → HasGrown s)
         (D.model (core_disk core.old)) (core_seen core.old) (D.model (core_disk core.new)) (core_seen core.new) }
-    ensures may { OnOk result (MayTidy (D.model (core_disk core.new)) (core_seen core.new)) }
-    ensures meta { (core_seen core.new).store.meta ≡ (core_seen core.old).store.meta }
 {
     if is_highest(core.meta()) {
         return Ok(());
@@ -73,10 +71,8 @@ fn visit_top<D: Device>(alloc: Global, core: &mut Core<D>, page: &LivePage) -> R
     requires may { MayTidy (D.model (core_disk core.old)) (core_seen core.old) }
     requires made { FitsFile (core_seen core.old).store.meta page.now }
     requires low { (core_seen core.old).store.meta.height < HEIGHT_MAX }
-    ensures looks { LooksOver (λ s. live_page s s.meta.root ≡ Some page.now) result (λ v s. (core_seen core.new).jobs ≡ [] → HasLoneRoot s)
+    ensures { LooksOver (λ s. live_page s s.meta.root ≡ Some page.now) result (λ v s. (core_seen core.new).jobs ≡ [] → HasLoneRoot s)
         (D.model (core_disk core.old)) (core_seen core.old) (D.model (core_disk core.new)) (core_seen core.new) }
-    ensures may { OnOk result (MayTidy (D.model (core_disk core.new)) (core_seen core.new)) }
-    ensures meta { (core_seen core.new).store.meta ≡ (core_seen core.old).store.meta }
 {
     let given = sibling_leaves(alloc, page)?;
     if given.is_empty() {
@@ -92,10 +88,8 @@ fn visit_top<D: Device>(alloc: Global, core: &mut Core<D>, page: &LivePage) -> R
 /// Lets the job for a growth wait.
 fn owe_growth<D: Device>(core: &mut Core<D>)
     requires may { MayTidy (D.model (core_disk core.old)) (core_seen core.old) }
-    ensures looks { LooksOver NothingOf (Ok result) (λ v. NothingOf)
+    ensures looks { LooksOver (λ s. OwesGrowth s × (s.meta.live ≢ s.meta.pages)) (Ok result) (λ v. NothingOf)
         (D.model (core_disk core.old)) (core_seen core.old) (D.model (core_disk core.new)) (core_seen core.new) }
-    ensures may { MayTidy (D.model (core_disk core.new)) (core_seen core.new) }
-    ensures meta { (core_seen core.new).store.meta ≡ (core_seen core.old).store.meta }
     ensures some { (core_seen core.new).jobs ≢ [] }
 {
     let whole = Area::whole(core.meta().k);
@@ -111,10 +105,8 @@ fn owe_growth<D: Device>(core: &mut Core<D>)
 fn visit<D: Device>(alloc: Global, core: &mut Core<D>, id: u32) -> Result<(), TidyStop>
     requires may { MayTidy (D.model (core_disk core.old)) (core_seen core.old) }
     requires page { IsPageOf (core_seen core.old).store.meta id }
-    ensures looks { LooksOver NothingOf result (λ v s. (core_seen core.new).jobs ≡ [] → IsTidyAt s id)
+    ensures { LooksOver NothingOf result (λ v s. (core_seen core.new).jobs ≡ [] → IsTidyAt s id)
         (D.model (core_disk core.old)) (core_seen core.old) (D.model (core_disk core.new)) (core_seen core.new) }
-    ensures may { OnOk result (MayTidy (D.model (core_disk core.new)) (core_seen core.new)) }
-    ensures meta { (core_seen core.new).store.meta ≡ (core_seen core.old).store.meta }
 {
     let jobs = jobs_at(alloc, core, id)?;
     wait_for_all(core, jobs.as_slice());
@@ -125,10 +117,8 @@ fn visit<D: Device>(alloc: Global, core: &mut Core<D>, id: u32) -> Result<(), Ti
 fn jobs_at<D: Device>(alloc: Global, core: &mut Core<D>, id: u32) -> Result<Vec<Job>, TidyStop>
     requires may { MayTidy (D.model (core_disk core.old)) (core_seen core.old) }
     requires page { IsPageOf (core_seen core.old).store.meta id }
-    ensures looks { LooksOver NothingOf result (λ jobs s. jobs.items ≡ [] → IsTidyAt s id)
+    ensures looks { LooksOver NothingOf result (λ jobs s. FindsJobs s (IsTidyAt s id) [] jobs.items)
         (D.model (core_disk core.old)) (core_seen core.old) (D.model (core_disk core.new)) (core_seen core.new) }
-    ensures may { OnOk result (MayTidy (D.model (core_disk core.new)) (core_seen core.new)) }
-    ensures meta { (core_seen core.new).store.meta ≡ (core_seen core.old).store.meta }
     ensures fit { IfOk result (λ jobs. All (JobFits (core_seen core.old).store.meta.k) jobs.items) }
 {
     match look(core, id)? {
@@ -145,10 +135,8 @@ fn jobs_below<D: Device>(
 ) -> Result<Vec<Job>, TidyStop>
     requires may { MayTidy (D.model (core_disk core.old)) (core_seen core.old) }
     requires made { FitsFile (core_seen core.old).store.meta parent.now.page }
-    ensures looks { LooksOver (λ s. live_page s parent.now.id ≡ Some parent.now.page) result (λ jobs s. jobs.items ≡ [] → IsTidyAt s parent.now.id)
+    ensures looks { LooksOver (λ s. live_page s parent.now.id ≡ Some parent.now.page) result (λ jobs s. FindsJobs s (IsTidyAt s parent.now.id) [] jobs.items)
         (D.model (core_disk core.old)) (core_seen core.old) (D.model (core_disk core.new)) (core_seen core.new) }
-    ensures may { OnOk result (MayTidy (D.model (core_disk core.new)) (core_seen core.new)) }
-    ensures meta { (core_seen core.new).store.meta ≡ (core_seen core.old).store.meta }
     ensures fit { IfOk result (λ jobs. All (JobFits (core_seen core.old).store.meta.k) jobs.items) }
 {
     let mut jobs = Vec::new(alloc);
@@ -161,10 +149,8 @@ fn jobs_below<D: Device>(
 fn wait_for_all<D: Device>(core: &mut Core<D>, jobs: &[Job])
     requires may { MayTidy (D.model (core_disk core.old)) (core_seen core.old) }
     requires fit { All (JobFits (core_seen core.old).store.meta.k) jobs.now }
-    ensures looks { LooksOver NothingOf (Ok result) (λ v. NothingOf)
+    ensures looks { LooksOver (λ s. All (IsJobOwed s) jobs.now) (Ok result) (λ v. NothingOf)
         (D.model (core_disk core.old)) (core_seen core.old) (D.model (core_disk core.new)) (core_seen core.new) }
-    ensures may { MayTidy (D.model (core_disk core.new)) (core_seen core.new) }
-    ensures meta { (core_seen core.new).store.meta ≡ (core_seen core.old).store.meta }
     ensures some { (core_seen core.new).jobs ≡ [] → jobs.now ≡ [] }
 {
     for job in jobs {
@@ -176,10 +162,8 @@ fn wait_for_all<D: Device>(core: &mut Core<D>, jobs: &[Job])
 fn wait_for<D: Device>(core: &mut Core<D>, job: Job)
     requires may { MayTidy (D.model (core_disk core.old)) (core_seen core.old) }
     requires fits { JobFits (core_seen core.old).store.meta.k job }
-    ensures looks { LooksOver NothingOf (Ok result) (λ v. NothingOf)
+    ensures looks { LooksOver (λ s. IsJobOwed s job) (Ok result) (λ v. NothingOf)
         (D.model (core_disk core.old)) (core_seen core.old) (D.model (core_disk core.new)) (core_seen core.new) }
-    ensures may { MayTidy (D.model (core_disk core.new)) (core_seen core.new) }
-    ensures meta { (core_seen core.new).store.meta ≡ (core_seen core.old).store.meta }
     ensures some { (core_seen core.new).jobs ≢ [] }
 {
     let _waits = core.add_job(job);

@@ -6,7 +6,7 @@ ghost use Rattle.hb_core.specs.Machines.{Machine};
 ghost use Rattle.hb_core.specs.Showing.{ShowsMachine};
 ghost use Rattle.hb_core.specs.ProgressLaws.{jobs_of};
 ghost use Rattle.hb_core.specs.Taking.{worker_for};
-ghost use Rattle.hb_tidy.specs.Going.{Goes, MayTidy};
+ghost use Rattle.hb_tidy.specs.Going.{AllRest, Goes, MayTidy, RestsBut};
 ghost use Rattle.hb_tidy.specs.Looking.{LooksOver, NothingOf};
 ghost use Rattle.hb_tidy.specs.Stepping.{EndsCall, EndsStep, stop_by};
 
@@ -25,9 +25,10 @@ const CONSOLIDATOR: Actor = 18;
 
 /// Takes steps of the worker for this kind of jobs until none of these waits or is in work.
 pub(crate) fn work_off<D: Device>(core: &mut Core<D>, kind: JobKind) -> Result<(), TidyStop>
-    requires { MayTidy (D.model (core_disk core.old)) (core_seen core.old) }
+    requires may { MayTidy (D.model (core_disk core.old)) (core_seen core.old) }
+    requires rests { AllRest (core_seen core.old) }
     ensures goes { Goes result (D.model (core_disk core.old)) (core_seen core.old) (D.model (core_disk core.new)) (core_seen core.new) }
-    ensures may { OnOk result (MayTidy (D.model (core_disk core.new)) (core_seen core.new)) }
+    ensures rests { OnOk result (AllRest (core_seen core.new)) }
     ensures done { OnOk result ((m : Machine) → ShowsMachine (D.model (core_disk core.new)) (core_seen core.new) m → jobs_of kind m ≡ 0) }
     ensures more { OnOk result (((core_seen core.old).taken < (core_seen core.new).taken) ⊎ (core.new ≡ core.old)) }
 {
@@ -50,9 +51,10 @@ fn worker_for(kind: JobKind) -> Actor
 /// Takes one step of the worker for this kind of jobs.
 fn step<D: Device>(core: &mut Core<D>, kind: JobKind) -> Result<(), TidyStop>
     requires may { MayTidy (D.model (core_disk core.old)) (core_seen core.old) }
+    requires rests { RestsBut (worker_for kind) (core_seen core.old) }
     requires some { (m : Machine) → ShowsMachine (D.model (core_disk core.old)) (core_seen core.old) m → 0 < jobs_of kind m }
     ensures goes { Goes result (D.model (core_disk core.old)) (core_seen core.old) (D.model (core_disk core.new)) (core_seen core.new) }
-    ensures may { OnOk result (MayTidy (D.model (core_disk core.new)) (core_seen core.new)) }
+    ensures rests { OnOk result (RestsBut (worker_for kind) (core_seen core.new)) }
     ensures one { OnOk result ((core_seen core.new).taken ≡ (core_seen core.old).taken + 1) }
 {
     let outcome = core.step(worker_for(kind));
@@ -104,7 +106,6 @@ pub(crate) fn flush<D: Device>(core: &mut Core<D>) -> Result<(), TidyStop>
     requires may { MayTidy (D.model (core_disk core.old)) (core_seen core.old) }
     requires crowded { (id : ℕ) × IsCrowdedOut id (core_seen core.old).store (core_seen core.old).uses }
     ensures looks { LooksOver NothingOf result (λ v. NothingOf) (D.model (core_disk core.old)) (core_seen core.old) (D.model (core_disk core.new)) (core_seen core.new) }
-    ensures may { OnOk result (MayTidy (D.model (core_disk core.new)) (core_seen core.new)) }
     ensures one { OnOk result ((core_seen core.new).taken ≡ (core_seen core.old).taken + 1) }
 {
     let _flushed = core.help();

@@ -1,5 +1,5 @@
 -- What the calls over a core come to: it is tidied, and flushed behind that.
-use Rattle.std.proofs.Common.{◌≡◌, ℕ, ◌+◌, ◌-◌, ◌^◌, List, [], length, Option, Some, None, IfSome, IsSome, Ok, Err, Result, option_map, refl, sym, ap, ◌∙◌, subst, arith}
+use Rattle.std.proofs.Common.{◌≡◌, ℕ, ◌+◌, ◌-◌, ◌^◌, List, [], Option, Some, None, IfSome, IsSome, Ok, Err, Result, option_map, refl, sym, ap, ◌∙◌, subst, arith}
 use Rattle.hb_core.proofs.Facts.RunDisks.{none_later}
 use Rattle.hb_core.specs.Between.{said_of_flush}
 use Rattle.hb_core.specs.Keeps.{HasSoundFile}
@@ -24,7 +24,7 @@ use Rattle.hb_tidy.proofs.Forced.{FlushesOn, flush_runs, flushes_on}
 use Rattle.hb_tidy.proofs.Joined.{may_then}
 use Rattle.hb_tidy.specs.Finding.{IsTidy, WantsPage}
 use Rattle.hb_tidy.specs.Tidying.{EndsTidying, HasTidied, StopsTidying, file_now}
-use Rattle.hb_tidy.specs.Working.{HasWorked}
+use Rattle.hb_tidy.specs.Working.{HasWorked, steps_in}
 use Rattle.hb_tidy.specs.declared.stops.TidyStop.{TidyStop}
 use Rattle.hb_tidy.specs.declared.stops.TidyStop.TheVariants as tidies
 use Rattle.hbpi.specs.Tidied.{GrewBy}
@@ -44,12 +44,12 @@ wanting (Some files) wants = wants
 all_steps : (first taken count : ℕ) → first ≡ 0 → taken ≡ first + count → taken ≡ 2 ^ 64 - 1 → count ≡ 2 ^ 64 - 1
 all_steps first taken count none counted last = omega (arith, none, counted, last)
 
-pub stopped_so : (d e : DiskModel) (old c : RunningCore) (m new : Machine) (stop : TidyStop) → old.taken ≡ 0 → HasWorked old m c new → StopsTidying stop d e c new → EndsForced d e m new (Err stop)
+pub stopped_so : (d e : DiskModel) (old c : RunningCore) (m new : Machine) (stop : TidyStop) → old.taken ≡ 0 → HasWorked {T = TidyCounts} (Err stop) old m c new → StopsTidying stop d e c new → EndsForced d e m new (Err stop)
 stopped_so d e old c m new tidies.Full none worked stops = record { why = (stops.0, stops.1); files = wanting new.files stops.2 }
 stopped_so d e old c m new tidies.ReadFault none worked stops = record { why = stops; files = any_files new.files }
 stopped_so d e old c m new tidies.WriteFault none worked stops = record { why = stops.0; files = any_files new.files }
 stopped_so d e old c m new (tidies.Damaged page why) none worked stops = record { why = stops; files = any_files new.files }
-stopped_so d e old c m new tidies.Spent none worked stops = record { why = (worked.actors, all_steps old.taken c.taken (length worked.actors) none worked.counted stops, worked.steps); files = any_files new.files }
+stopped_so d e old c m new tidies.Spent none worked stops = record { why = (worked.events, all_steps old.taken c.taken (steps_in worked.events) none worked.counted stops, worked.works, worked.drops); files = any_files new.files }
 stopped_so d e old c m new tidies.NoMemory none worked stops = record { why = tt; files = any_files new.files }
 
 -- ---- where it was done, and a flush came behind it

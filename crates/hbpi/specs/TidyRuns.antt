@@ -1,5 +1,5 @@
 -- How a run of `tidy` ends, and why.
-use Rattle.std.specs.Prelude.{◌≡◌, ◌⊎◌, ℕ, List, [], length, Result, Ok, Err, None, Some, IfSome, IsSome, ◌-◌, ◌^◌}
+use Rattle.std.specs.Prelude.{◌≡◌, ◌⊎◌, List, [], Result, Ok, Err, None, Some, IfSome, IsSome, ◌-◌, ◌^◌}
 use Rattle.hb_core.specs.Machines.{Files, Machine, current_file}
 use Rattle.hb_core.specs.Runs.{CountsFaults}
 use Rattle.hb_core.specs.SteppingLaws.{IsBegun, IsBegunOver}
@@ -23,12 +23,13 @@ use Rattle.hbpi.specs.Outcome.{GetsLine, fault_line}
 use Rattle.hbpi.specs.Saying.{IsSaid}
 use Rattle.hbpi.specs.SeenRuns.{IsUnread, Run}
 use Rattle.hbpi.specs.declared.statuses.Status.{Status}
-use Rattle.hb_tidy.specs.Working.{WorksOff}
+use Rattle.hb_tidy.specs.Working.{DropsAtEnd, Event, WorksOff, steps_in}
 use Rattle.hbpi.specs.Tidied.{GrewBy, LeavesTidied, nobody, tidied_text}
 
--- The count of steps has come to its last value: so many lead from the one machine to the other, each of which had its cause.
+-- The count of steps has come to its last value: what happened between the two machines has so many steps, each with its cause, and over a
+-- disk that tells each job was owed. No step but the last dropped one.
 abbrev pub IsSpent : Machine → Machine → Type 0
-IsSpent first m = (actors : List ℕ) × (length actors ≡ 2 ^ 64 - 1) × WorksOff actors first m
+IsSpent first m = (events : List Event) × (steps_in events ≡ 2 ^ 64 - 1) × WorksOff events first m × DropsAtEnd events
 
 -- What stopped it on its way from a first machine to this one: nothing where it is done; nothing but that no page is free; a count of
 -- faults that rose; a damaged page, which only a disk has that tells nothing; or want of steps.

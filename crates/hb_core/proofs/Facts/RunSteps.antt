@@ -220,3 +220,13 @@ run_by_step laws d m actors answers e old actor outcome clock f new run disk dis
     let took = steps run.new (may_go_on d m actors answers e old run) in
     run_goes_on laws d m actors answers e old run actor outcome (given_by outcome clock) f new disk disk_next
     (record { next = took.0; may = may; step = took.1; shows = took.2; touches = touches; given_is = given_at f.told outcome clock f.clock same })
+
+-- From the beginning it comes to the machine to which the step came.
+module _ (laws : RunningLaws) (d : DiskModel) (m : Machine) (old : RunningCore) (actor : ℕ) (outcome : Outcome) (clock : ℕ) (f : DiskModel) (new : RunningCore) (disk : IsDisk d) (begun : MayStep d old m) (disk_next : IsDisk f) (may : IsActor actor)
+    (steps : (x : Machine) → MayStep d old x → (next : Machine) × StepsTo x actor outcome next × ShowsMachine f new next) (touches : Touches d old outcome f new) (same : IsSome f.told → clock ≡ f.clock) where
+  pub run_of_step : HasRun d m (actor ∷ []) (given_by outcome clock) f new
+  run_of_step = run_by_step laws d m [] [] d old actor outcome clock f new (run_begins laws d m old disk begun) disk disk_next may steps touches same
+
+  pub steps_so : StepsTo m actor outcome run_of_step.new
+  unfolding run_of_step run_by_step run_goes_on run_begins
+  steps_so = (steps m (may_go_on d m [] [] d old (run_begins laws d m old disk begun))).1

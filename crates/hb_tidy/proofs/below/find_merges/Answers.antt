@@ -1,4 +1,4 @@
-use Rattle.std.proofs.Common.{◌≡◌, ℕ, ◌≤◌, List, [], All, length, get_or, take, Ok, refl, ◌∙◌, arith, rules, subst}
+use Rattle.std.proofs.Common.{◌≡◌, ℕ, ◌≤◌, List, All, length, get_or, take, Ok, refl, ◌∙◌, arith, rules, subst}
 use Rattle.std.proofs.lemmas.List.{take_all}
 use Rattle.hb_space.specs.Boxes.{Area}
 use Rattle.hb_core.specs.CoreSeen.{core_seen, core_disk}
@@ -11,6 +11,7 @@ use Rattle.hb_tidy.proofs.Joined.{over_then}
 use Rattle.hb_tidy.proofs.Pairs.{NoneGoing, NotGoing, pairs_all, pairs_begin, pairs_next}
 use Rattle.hb_tidy.specs.Finding.{BothLive}
 use Rattle.hb_tidy.specs.Looking.{LooksOver}
+use Rattle.hb_tidy.specs.Owed.{FindsJobs}
 use Rattle.hb_tidy.proofs.below.find_merges.Goals as goal
 
 pub loop-leaf-init : goal.loop-leaf-init
@@ -29,7 +30,7 @@ returns-in_err-try_pair-clause-looks g c =
     let Both = BothLive c.args.parent.now.id c.args.parent.now.page c.args.keep.now.id c.args.keep.now.page in
     let Not = NotGoing c.args.parent.now.id c.args.keep.now.id c.args.parent.now.page c.args.keep.now.page c.leaf-item.result.0 c.loop-leaf.jobs.items c.try_pair.new.jobs.items in
     let So = NoneGoing c.args.parent.now.id c.args.keep.now.id c.args.parent.now.page c.args.keep.now.page (take c.loop-leaf.leaf-index c.args.given.now) c.args.jobs.now.items c.loop-leaf.jobs.items in
-    let Ends : Unit {0} → FileState → Type 0 = λ v s. c.try_pair.new.jobs.items ≡ [] → (c.args.jobs.now.items ≡ []) × ((gone : ℕ) → ¬ (IsMergeable s c.args.parent.now.id c.args.keep.now.id gone)) in
+    let Ends : Unit {0} → FileState → Type 0 = λ v s. FindsJobs s ((gone : ℕ) → ¬ (IsMergeable s c.args.parent.now.id c.args.keep.now.id gone)) c.args.jobs.now.items c.try_pair.new.jobs.items in
     over_then Both (tt {0}) So Both c.from_residual.result Ends Ends d mid e (core_seen c.args.core.now) (core_seen c.loop-leaf.core) (core_seen c.try_pair.new.core) c.loop-leaf.invariant.looks (λ s known said. known)
     (over_exit Both c.in_err-try_pair.field-0.0 c.try_pair.result c.from_residual.result Not Ends mid e (core_seen c.loop-leaf.core) (core_seen c.try_pair.new.core) c.in_err-try_pair.was c.from_residual.ensures.1 c.try_pair.ensures.looks)
     (λ s w known said more. more)
@@ -47,9 +48,9 @@ loop-leaf-preserved g c =
       looks = pairs_next c.args.parent.now.id c.args.keep.now.id c.args.parent.now.page c.args.keep.now.page c.args.given.now c.loop-leaf.leaf-index x c.args.jobs.now.items c.loop-leaf.jobs.items c.try_pair.new.jobs.items d mid e
           (core_seen c.args.core.now) (core_seen c.loop-leaf.core) (core_seen c.try_pair.new.core) (omega arith) is c.loop-leaf.invariant.looks
           (over_value Both (tt {0}) c.try_pair.result Not mid e (core_seen c.loop-leaf.core) (core_seen c.try_pair.new.core) c.in_ok-try_pair.was c.try_pair.ensures.looks);
-      may = c.in_ok-try_pair.ensures.may;
-      meta = c.try_pair.ensures.meta ∙ c.loop-leaf.invariant.meta;
-      fit = subst (λ (meta : Meta). All (JobFits meta.k) c.try_pair.new.jobs.items) c.loop-leaf.invariant.meta c.try_pair.ensures.fit;
+      may = c.in_ok-try_pair.ensures.looks.may;
+      meta = c.try_pair.ensures.looks.meta ∙ c.loop-leaf.invariant.meta;
+      fit = subst (λ (meta : Meta). All (JobFits meta.k) c.try_pair.new.jobs.items) c.loop-leaf.invariant.meta c.in_ok-try_pair.ensures.fit;
     }
 
 pub returns-clause-looks : goal.returns-clause-looks

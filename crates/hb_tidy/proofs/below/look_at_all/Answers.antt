@@ -63,9 +63,9 @@ loop-leaf-preserved g c =
       looks = leaves_next c.args.parent.now.id c.args.parent.now.page c.args.children.now c.loop-leaf.leaf-index x c.args.jobs.now.items c.loop-leaf.jobs.items c.look_below.new.jobs.items d mid e
           (core_seen c.args.core.now) (core_seen c.loop-leaf.core) (core_seen c.look_below.new.core) (omega arith) is c.loop-leaf.invariant.looks
           (over_value Above (tt {0}) c.look_below.result Here mid e (core_seen c.loop-leaf.core) (core_seen c.look_below.new.core) c.in_ok-look_below.was c.look_below.ensures.looks);
-      may = c.in_ok-look_below.ensures.may;
-      meta = c.look_below.ensures.meta ∙ c.loop-leaf.invariant.meta;
-      fit = subst (λ (meta : Meta). All (JobFits meta.k) c.look_below.new.jobs.items) c.loop-leaf.invariant.meta c.look_below.ensures.fit;
+      may = c.in_ok-look_below.ensures.looks.may;
+      meta = c.look_below.ensures.looks.meta ∙ c.loop-leaf.invariant.meta;
+      fit = subst (λ (meta : Meta). All (JobFits meta.k) c.look_below.new.jobs.items) c.loop-leaf.invariant.meta c.in_ok-look_below.ensures.fit;
     }
 
 pub returns-clause-looks : goal.returns-clause-looks

@@ -1,8 +1,29 @@
+use Rattle.std.proofs.Common.{refl}
+use Rattle.hb_lemmas.proofs.Options.{on_ok_weaker}
+use Rattle.hb_activity.specs.declared.jobs.Job.{Job}
+use Rattle.hb_activity.specs.declared.jobs.JobKind.TheVariants.{Merge}
+use Rattle.hb_ops.specs.Merging.{FitsMerge}
+use Rattle.hb_tidy.proofs.OwedJobs.{added_none, added_weaker}
 use Rattle.hb_tidy.proofs.PlacedLeaves.{above_records, leaf_attributes}
+use Rattle.hb_tidy.specs.Owed.{IsAtCorner}
 use Rattle.hb_tidy.proofs.finding.owe_merge.Goals as goal
+
+pub may_merge-requires-clause-stands : goal.may_merge-requires-clause-stands
+may_merge-requires-clause-stands c = (c.args.area.now, c.requires.stands)
 
 pub owe_job-requires-clause-level : goal.owe_job-requires-clause-level
 owe_job-requires-clause-level c = above_records c.args.meta.now c.args.parent.now.page c.args.keep.now.id c.args.area.now c.requires.stands.above_made c.requires.stands.leaf
 
 pub owe_job-requires-clause-attributes : goal.owe_job-requires-clause-attributes
 owe_job-requires-clause-attributes c = leaf_attributes c.args.meta.now c.args.parent.now.page c.args.keep.now.id c.args.area.now c.requires.stands.above_made c.requires.stands.leaf
+
+pub returns-then-may_merge-clause-added : goal.returns-then-may_merge-clause-added
+returns-then-may_merge-clause-added c =
+    let fits = c.if-may_merge.ensures.0 refl in
+    on_ok_weaker c.owe_job.result _ _
+    (added_weaker c.args.meta.now.k (IsAtCorner Merge c.args.parent.now.page c.args.area.now)
+    (λ (job : Job). IsAtCorner Merge c.args.parent.now.page c.args.area.now job × FitsMerge c.args.meta.now c.args.parent.now.id c.args.keep.now.id c.args.gone c.args.parent.now.page c.args.keep.now.page c.args.going.now)
+    c.args.jobs.now.items c.owe_job.new.jobs.items (λ job at. (at, fits))) c.owe_job.ensures.added
+
+pub returns-else-may_merge-clause-added : goal.returns-else-may_merge-clause-added
+returns-else-may_merge-clause-added c = added_none c.args.meta.now.k _ c.args.jobs.now.items

@@ -1,8 +1,10 @@
 use Rattle.std.proofs.Common.{◌≡◌, ℕ, ◌≤◌, List, [], All, length, get_or, arith, rules, sym, subst, ◌∙◌}
+use Rattle.std.specs.List.{Contains}
 use Rattle.std.proofs.lemmas.List.{take_all}
 use Rattle.std.proofs.lemmas.List.Elements.{All-get_or}
 use Rattle.hb_space.specs.Boxes.{Area, Meets}
 use Rattle.hb_tidy.proofs.JobLists.{all_next, none_yet}
+use Rattle.hb_tidy.proofs.OwedJobs.{added_none, added_then}
 use Rattle.hb_tidy.proofs.PlacedLeaves.{given_attributes, leaf_attributes}
 use Rattle.hb_tidy.proofs.finding.owe_postings.Goals as goal
 
@@ -15,12 +17,18 @@ owe_given-requires-clause-attributes c =
     leaf_attributes c.args.meta.now c.args.parent.now c.requires.stands.0 c.args.area.now stands.above_made stands.leaf
     ∙ sym (subst (λ (s : ℕ × Area). length s.1.lo ≡ c.args.meta.now.k) (sym is) (All-get_or (λ (s : ℕ × Area). length s.1.lo ≡ c.args.meta.now.k) c.args.given.now c.loop-leaf.leaf-index x (omega arith) all))
 
+pub owe_given-requires-clause-given : goal.owe_given-requires-clause-given
+owe_given-requires-clause-given c =
+    let x : ℕ × Area = (c.leaf-item.result.0, c.leaf-item.result.1) in
+    let is : x ≡ get_or c.args.given.now c.loop-leaf.leaf-index x = search rules in
+    (c.leaf-item.result.0, subst (λ (ls : List (ℕ × Area)). Contains ls x) c.requires.given (c.loop-leaf.leaf-index, omega arith, sym is))
+
 pub loop-leaf-init : goal.loop-leaf-init
-loop-leaf-init c = record { fit = c.requires.fit; none = λ empty. (empty, none_yet (λ (s : ℕ × Area). ¬ (Meets c.args.area.now s.1)) c.args.given.now) }
+loop-leaf-init c = record { added = added_none c.args.meta.now.k _ c.args.jobs.now.items; none = λ empty. (empty, none_yet (λ (s : ℕ × Area). ¬ (Meets c.args.area.now s.1)) c.args.given.now) }
 
 pub loop-leaf-preserved : goal.loop-leaf-preserved
 loop-leaf-preserved c = record {
-  fit = c.in_ok-owe_given.ensures.fit;
+  added = added_then c.args.meta.now.k _ c.args.jobs.now.items c.loop-leaf.jobs.items c.owe_given.new.jobs.items c.loop-leaf.invariant.added c.in_ok-owe_given.ensures.added;
   none = λ empty.
       let here = c.in_ok-owe_given.ensures.none empty in
       let before = c.loop-leaf.invariant.none here.0 in

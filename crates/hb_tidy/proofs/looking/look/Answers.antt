@@ -50,8 +50,8 @@ loop-page-preserved g c =
           (λ s known said. tt)
           (over_value NothingOf (tt {0}) c.flush.result (λ v. NothingOf) e f (core_seen c.look_once.new.core) (core_seen c.flush.new.core) c.in_ok-flush-in-None.was c.flush.ensures.looks)
           (λ s w known said more. tt);
-      may = c.in_ok-flush-in-None.ensures.may;
-      meta = c.flush.ensures.looks.meta ∙ c.look_once.ensures.meta ∙ c.loop-page.invariant.meta;
+      may = c.in_ok-flush-in-None.ensures.looks.may;
+      meta = c.flush.ensures.looks.meta ∙ c.look_once.ensures.looks.meta ∙ c.loop-page.invariant.meta;
     }
 
 pub returns-in_err-flush-in-None-clause-looks : goal.returns-in_err-flush-in-None-clause-looks

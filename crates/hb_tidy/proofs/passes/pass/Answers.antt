@@ -8,10 +8,10 @@ use Rattle.hb_tidy.specs.Finding.{HasGrown, IsTidy, IsTidyAt}
 use Rattle.hb_tidy.specs.Looking.{LooksOver, NothingOf}
 use Rattle.hb_tidy.proofs.passes.pass.Goals as goal
 
-pub returns-in_err-visit_root-clause-looks : goal.returns-in_err-visit_root-clause-looks
-returns-in_err-visit_root-clause-looks g c =
+pub returns-in_err-visit_root : goal.returns-in_err-visit_root
+returns-in_err-visit_root g c =
     over_exit NothingOf c.in_err-visit_root.field-0.0 c.visit_root.result c.from_residual.result (Clean HasGrown (core_seen c.visit_root.new.core)) (Clean IsTidy (core_seen c.visit_root.new.core)) (g.D.Device.model (core_disk c.args.core.now)) (g.D.Device.model (core_disk c.visit_root.new.core))
-    (core_seen c.args.core.now) (core_seen c.visit_root.new.core) c.in_err-visit_root.was c.from_residual.ensures.1 c.visit_root.ensures.looks
+    (core_seen c.args.core.now) (core_seen c.visit_root.new.core) c.in_err-visit_root.was c.from_residual.ensures.1 c.visit_root.ensures
 
 pub loop-place-init : goal.loop-place-init
 loop-place-init g c =
@@ -19,20 +19,20 @@ loop-place-init g c =
     let e = g.D.Device.model (core_disk c.visit_root.new.core) in
     record {
       looks = pages_begin d e (core_seen c.args.core.now) (core_seen c.visit_root.new.core)
-          (over_value NothingOf (tt {0}) c.visit_root.result (Clean HasGrown (core_seen c.visit_root.new.core)) d e (core_seen c.args.core.now) (core_seen c.visit_root.new.core) c.in_ok-visit_root.was c.visit_root.ensures.looks);
+          (over_value NothingOf (tt {0}) c.visit_root.result (Clean HasGrown (core_seen c.visit_root.new.core)) d e (core_seen c.args.core.now) (core_seen c.visit_root.new.core) c.in_ok-visit_root.was c.visit_root.ensures);
       may = c.in_ok-visit_root.ensures.may;
       high = ap (λ (meta : Meta). meta.high) c.meta.ensures;
     }
 
-pub returns-in_err-visit-clause-looks : goal.returns-in_err-visit-clause-looks
-returns-in_err-visit-clause-looks g c =
+pub returns-in_err-visit : goal.returns-in_err-visit
+returns-in_err-visit g c =
     let d = g.D.Device.model (core_disk c.args.core.now) in
     let mid = g.D.Device.model (core_disk c.loop-place.core) in
     let e = g.D.Device.model (core_disk c.visit.new.core) in
     let new = core_seen c.visit.new.core in
     over_then NothingOf (tt {0}) (CleanUpTo (core_seen c.loop-place.core) c.loop-place.place) NothingOf c.from_residual-in_err-visit.result (Clean IsTidy new) (Clean IsTidy new) d mid e (core_seen c.args.core.now) (core_seen c.loop-place.core) new c.loop-place.invariant.looks
     (λ s known said. tt)
-    (over_exit NothingOf c.in_err-visit.field-0.0 c.visit.result c.from_residual-in_err-visit.result (Clean (λ s. IsTidyAt s (c.loop-place.place + 1)) new) (Clean IsTidy new) mid e (core_seen c.loop-place.core) new c.in_err-visit.was c.from_residual-in_err-visit.ensures.1 c.visit.ensures.looks)
+    (over_exit NothingOf c.in_err-visit.field-0.0 c.visit.result c.from_residual-in_err-visit.result (Clean (λ s. IsTidyAt s (c.loop-place.place + 1)) new) (Clean IsTidy new) mid e (core_seen c.loop-place.core) new c.in_err-visit.was c.from_residual-in_err-visit.ensures.1 c.visit.ensures)
     (λ s w known said more. more)
 
 pub loop-place-preserved : goal.loop-place-preserved
@@ -43,13 +43,13 @@ loop-place-preserved g c =
     let new = core_seen c.visit.new.core in
     record {
       looks = pages_next c.loop-place.place d mid e (core_seen c.args.core.now) (core_seen c.loop-place.core) new c.loop-place.invariant.looks
-          (over_value NothingOf (tt {0}) c.visit.result (Clean (λ s. IsTidyAt s (c.loop-place.place + 1)) new) mid e (core_seen c.loop-place.core) new c.in_ok-visit.was c.visit.ensures.looks);
+          (over_value NothingOf (tt {0}) c.visit.result (Clean (λ s. IsTidyAt s (c.loop-place.place + 1)) new) mid e (core_seen c.loop-place.core) new c.in_ok-visit.was c.visit.ensures);
       may = c.in_ok-visit.ensures.may;
       high = c.loop-place.invariant.high ∙ sym (ap (λ (meta : Meta). meta.high) c.visit.ensures.meta);
     }
 
-pub returns-clause-looks : goal.returns-clause-looks
-returns-clause-looks g c =
+pub returns : goal.returns
+returns g c =
     let d = g.D.Device.model (core_disk c.args.core.now) in
     let e = g.D.Device.model (core_disk c.loop-place.core) in
     let old = core_seen c.args.core.now in

@@ -1,29 +1,34 @@
-use Rattle.std.proofs.Common.{Ok, refl, ◌∙◌, arith}
+use Rattle.std.proofs.Common.{◌≡◌, All, get_or, Ok, refl, sym, ◌∙◌, subst, arith, rules}
 use Rattle.hb_core.specs.CoreSeen.{core_seen, core_disk}
-use Rattle.hb_tidy.proofs.Joined.{over_then}
+use Rattle.std.proofs.lemmas.List.Elements.{All-get_or}
+use Rattle.hb_tidy.proofs.Joined.{over_known, over_then}
 use Rattle.hb_tidy.proofs.JobLists.{no_first}
 use Rattle.hb_tidy.proofs.RunsBegun.{over_none}
 use Rattle.hb_tidy.specs.Looking.{NothingOf}
+use Rattle.hb_tidy.specs.Owed.{IsJobOwed}
 use Rattle.hb_tidy.proofs.passes.wait_for_all.Goals as goal
 
 pub loop-job-init : goal.loop-job-init
 loop-job-init g c = record {
-  looks = over_none (g.D.Device.model (core_disk c.args.core.now)) (core_seen c.args.core.now) (g.met.D.Device.is_disk (core_disk c.args.core.now)) c.requires.may;
+  looks = over_known (λ s. All (IsJobOwed s) c.args.jobs.now) (Ok (tt {0})) (λ v. NothingOf) (g.D.Device.model (core_disk c.args.core.now)) (g.D.Device.model (core_disk c.args.core.now)) (core_seen c.args.core.now) (core_seen c.args.core.now)
+      (over_none (g.D.Device.model (core_disk c.args.core.now)) (core_seen c.args.core.now) (g.met.D.Device.is_disk (core_disk c.args.core.now)) c.requires.may);
   may = c.requires.may;
   meta = refl;
   some = λ none. refl;
 }
 
 pub loop-job-preserved : goal.loop-job-preserved
-loop-job-preserved g c = record {
-  looks = over_then NothingOf (tt {0}) (λ v. NothingOf) NothingOf (Ok (tt {0})) (λ v. NothingOf) (λ v. NothingOf)
-      (g.D.Device.model (core_disk c.args.core.now)) (g.D.Device.model (core_disk c.loop-job.core)) (g.D.Device.model (core_disk c.wait_for.new.core))
-      (core_seen c.args.core.now) (core_seen c.loop-job.core) (core_seen c.wait_for.new.core)
-      c.loop-job.invariant.looks (λ s known said. tt) c.wait_for.ensures.looks (λ s w known said more. tt);
-  may = c.wait_for.ensures.may;
-  meta = c.wait_for.ensures.meta ∙ c.loop-job.invariant.meta;
-  some = λ none. absurd (c.wait_for.ensures.some none);
-}
+loop-job-preserved g c =
+    let is : c.job-item.result ≡ get_or c.args.jobs.now c.loop-job.job-index c.job-item.result = search rules in
+    record {
+      looks = over_then (λ s. All (IsJobOwed s) c.args.jobs.now) (tt {0}) (λ v. NothingOf) (λ s. IsJobOwed s c.copy.result) (Ok (tt {0})) (λ v. NothingOf) (λ v. NothingOf)
+          (g.D.Device.model (core_disk c.args.core.now)) (g.D.Device.model (core_disk c.loop-job.core)) (g.D.Device.model (core_disk c.wait_for.new.core))
+          (core_seen c.args.core.now) (core_seen c.loop-job.core) (core_seen c.wait_for.new.core)
+          c.loop-job.invariant.looks (λ s known said. subst (IsJobOwed s) (sym (c.copy.ensures ∙ is)) (All-get_or (IsJobOwed s) c.args.jobs.now c.loop-job.job-index c.job-item.result (omega arith) known)) c.wait_for.ensures.looks (λ s w known said more. tt);
+      may = c.wait_for.ensures.looks.may;
+      meta = c.wait_for.ensures.looks.meta ∙ c.loop-job.invariant.meta;
+      some = λ none. absurd (c.wait_for.ensures.some none);
+    }
 
 pub returns-clause-some : goal.returns-clause-some
 returns-clause-some g c = λ none. no_first c.args.jobs.now c.loop-job.job-index (omega arith) (c.loop-job.invariant.some none)

@@ -1,6 +1,7 @@
 use Rattle.std.proofs.Common.{◌⊎◌, ◌≡◌, ◌<◌, ◌-◌, ◌^◌, Ok}
 use Rattle.hb_core.specs.CoreSeen.{core_seen, core_disk}
-use Rattle.hb_tidy.specs.Going.{Goes, MayTidy}
+use Rattle.hb_core.specs.Taking.{worker_for}
+use Rattle.hb_tidy.specs.Going.{Goes, MayTidy, RestsBut}
 use Rattle.hb_tidy.proofs.stepping.work_off.Given as goal
 
 -- the steps so far, where any was taken
@@ -8,6 +9,7 @@ abbrev pub invariant-loop-kind : goal.invariant-loop-kind
 invariant-loop-kind g l = record {
   goes : Goes {T = Unit {0}} (Ok (tt {0})) (g.D.Device.model (core_disk l.fn.core)) (core_seen l.fn.core) (g.D.Device.model (core_disk l.core)) (core_seen l.core);
   may : MayTidy (g.D.Device.model (core_disk l.core)) (core_seen l.core);
+  rests : RestsBut (worker_for l.kind) (core_seen l.core);
   more : (l.fn.core.taken < l.core.taken) ⊎ (l.core ≡ l.fn.core);
 }
 
