@@ -261,7 +261,7 @@ struct Worked {
     dry: &'static str,
 }
 
-const WORKED: [Worked; 3] = [
+const WORKED: [Worked; 4] = [
     Worked {
         create: "create 3 256 65536 48 256",
         size: 1_187_840,
@@ -283,6 +283,16 @@ const WORKED: [Worked; 3] = [
     Worked {
         create: "create 3 4096 1048576 48 256",
         size: 18_882_560,
+        work: "work 1 20000",
+        want: "0 ok 11928 duplicate 1 absent 2034 found 0 none 4043 box 1994 records 11928\n",
+        records: " records 11928\n",
+        gen_words: "gen 1 20000 3",
+        dry: "dry 3",
+    },
+    // its 11,928 inserts have 31 bytes and more each in the log, so an area of 65,536 begins again at least five times
+    Worked {
+        create: "create 3 4096 65536 48 256",
+        size: 16_916_480,
         work: "work 1 20000",
         want: "0 ok 11928 duplicate 1 absent 2034 found 0 none 4043 box 1994 records 11928\n",
         records: " records 11928\n",
