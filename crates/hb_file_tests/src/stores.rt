@@ -18,7 +18,7 @@ use hb_disk::{MemDisk, RotDisk};
 use hb_frag::{LivePage, Page};
 use hb_log_codec::{Group, decode_all};
 use hb_ops::{ChangeError, Meta, Op, change};
-use hb_space::Area;
+use hb_space::{Area, Attributes};
 use hb_store::{FetchStop, Store};
 use std::alloc::Global;
 
@@ -123,7 +123,7 @@ fn has_one(op: &Op) -> bool
 fn op_in(alloc: Global, bytes: &[u8]) -> Option<Op>
     ensures { IfSome result (λ op. OpHas 1 op) }
 {
-    let Group { op, .. } = decode_all(alloc, bytes, 1).ok()?.pop()?;
+    let Group { op, .. } = decode_all(alloc, bytes, Attributes { number: 1 }).ok()?.pop()?;
     if has_one(&op) { Some(op) } else { None }
 }
 

@@ -1,5 +1,4 @@
 //! Operations, from the front of bytes.
-ghost use Rattle.hb_space.specs.Points.{IsAttributeCount};
 ghost use Rattle.hb_log_codec.specs.Fields.{side_at, path_at, leaf_cut_at, cuts_at, put_at, del_at, extract_at, post_at, merge_at, grow_at, op_at};
 ghost use Rattle.hb_log_codec.specs.Reading.{GivesOrStops};
 ghost use Rattle.hb_page_codec.specs.Reading.{byte_at, many_at};
@@ -8,6 +7,7 @@ use crate::reading::GroupStop;
 use hb_frag::{Path, Side};
 use hb_ops::{Cuts, LeafCut, Op};
 use hb_page_codec::{area_of, point_of, record_of, u32_of, u64_of};
+use hb_space::Attributes;
 use smallvec::SmallVec;
 use std::alloc::Global;
 
@@ -101,9 +101,8 @@ fn leaf_cuts_of(
 
 /// A put, behind its tag.
 #[tactic(auto, unfolding(crate::specs::Fields::put_at))]
-fn put_of(k: u8, bytes: &[u8]) -> Result<(Op, &[u8]), GroupStop>
-    requires { IsAttributeCount k }
-    ensures { GivesOrStops (λ x. (x.0, x.1.now)) result (put_at k bytes.now) }
+fn put_of(k: Attributes, bytes: &[u8]) -> Result<(Op, &[u8]), GroupStop>
+    ensures { GivesOrStops (λ x. (x.0, x.1.now)) result (put_at k.number bytes.now) }
 {
     let (page, rest) = u32_of(bytes).ok_or(GroupStop::Bad)?;
     let (rec, rest) = record_of(k, rest).ok_or(GroupStop::Bad)?;
@@ -112,9 +111,8 @@ fn put_of(k: u8, bytes: &[u8]) -> Result<(Op, &[u8]), GroupStop>
 
 /// A delete, behind its tag.
 #[tactic(auto, unfolding(crate::specs::Fields::del_at))]
-fn del_of(k: u8, bytes: &[u8]) -> Result<(Op, &[u8]), GroupStop>
-    requires { IsAttributeCount k }
-    ensures { GivesOrStops (λ x. (x.0, x.1.now)) result (del_at k bytes.now) }
+fn del_of(k: Attributes, bytes: &[u8]) -> Result<(Op, &[u8]), GroupStop>
+    ensures { GivesOrStops (λ x. (x.0, x.1.now)) result (del_at k.number bytes.now) }
 {
     let (page, rest) = u32_of(bytes).ok_or(GroupStop::Bad)?;
     let (point, rest) = point_of(k, rest).ok_or(GroupStop::Bad)?;
@@ -143,9 +141,8 @@ fn extract_of(alloc: Global, bytes: &[u8]) -> Result<(Op, &[u8]), GroupStop>
 
 /// A posting, behind its tag.
 #[tactic(auto, unfolding(crate::specs::Fields::post_at))]
-fn post_of(alloc: Global, k: u8, bytes: &[u8]) -> Result<(Op, &[u8]), GroupStop>
-    requires { IsAttributeCount k }
-    ensures { GivesOrStops (λ x. (x.0, x.1.now)) result (post_at k bytes.now) }
+fn post_of(alloc: Global, k: Attributes, bytes: &[u8]) -> Result<(Op, &[u8]), GroupStop>
+    ensures { GivesOrStops (λ x. (x.0, x.1.now)) result (post_at k.number bytes.now) }
 {
     let (parent, rest) = u32_of(bytes).ok_or(GroupStop::Bad)?;
     let (at, rest) = path_of(alloc, rest)?;
@@ -182,9 +179,8 @@ fn grow_of(bytes: &[u8]) -> Result<(Op, &[u8]), GroupStop>
 }
 
 /// An operation over `k` attributes.
-pub(crate) fn op_of(alloc: Global, k: u8, bytes: &[u8]) -> Result<(Op, &[u8]), GroupStop>
-    requires { IsAttributeCount k }
-    ensures { GivesOrStops (λ x. (x.0, x.1.now)) result (op_at k bytes.now) }
+pub(crate) fn op_of(alloc: Global, k: Attributes, bytes: &[u8]) -> Result<(Op, &[u8]), GroupStop>
+    ensures { GivesOrStops (λ x. (x.0, x.1.now)) result (op_at k.number bytes.now) }
 {
     match bytes {
         [1, rest @ ..] => put_of(k, rest),

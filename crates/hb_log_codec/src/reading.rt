@@ -1,6 +1,5 @@
 //! Groups from bytes.
 ghost use Rattle.std.specs.Prelude.{◌≡◌, ◌≢◌, ◌<◌, ◌≤◌, ◌↔◌, ◌∷◌, length, map, AllPairs, IfOk, IfErr, IsTrue};
-ghost use Rattle.hb_space.specs.Points.{IsAttributeCount};
 ghost use Rattle.hb_log_codec.specs.Groups.{FitsPageImage, FitsOp, FitsGroup, SpellsGroups, page_image_bytes, op_bytes, group_bytes};
 ghost use Rattle.hb_log_codec.specs.Reading.{FitPageImages, Finds, GroupsEnd, page_images_bytes, logged, stop_at};
 
@@ -12,7 +11,8 @@ use hb_frag::Page;
 use hb_ops::Op;
 use hb_page_codec::laws::spelling_law;
 use hb_page_codec::{PageError, decode, u32_of};
-use hb_space::form::{KMAX, PAGE};
+use hb_space::Attributes;
+use hb_space::form::PAGE;
 use std::alloc::{AllocFailed, Global};
 
 /// Why no page image, operation or group was read from the front of bytes.
@@ -129,19 +129,17 @@ fn are_distinct(images: &[(u32, Page)]) -> bool
 }
 
 /// An operation over `k` attributes.
-fn operation_of(alloc: Global, k: u8, bytes: &[u8]) -> Result<(Op, &[u8]), GroupStop>
-    requires { IsAttributeCount k }
-    ensures { Finds (FitsOp k) op_bytes bytes.now (λ x. (x.0, x.1.now)) result }
+fn operation_of(alloc: Global, k: Attributes, bytes: &[u8]) -> Result<(Op, &[u8]), GroupStop>
+    ensures { Finds (FitsOp k.number) op_bytes bytes.now (λ x. (x.0, x.1.now)) result }
 {
     fields_are_exact();
     op_of(alloc, k, bytes)
 }
 
 /// A group over `k` attributes, behind the count of its page images.
-fn group_behind(alloc: Global, k: u8, count: u8, bytes: &[u8]) -> Result<(Group, &[u8]), GroupStop>
-    requires attributes { IsAttributeCount k }
-    requires images { count ≤ 3 }
-    ensures { Finds (FitsGroup k) group_bytes (count ∷ bytes.now) (λ x. (logged x.0, x.1.now)) result }
+fn group_behind(alloc: Global, k: Attributes, count: u8, bytes: &[u8]) -> Result<(Group, &[u8]), GroupStop>
+    requires { count ≤ 3 }
+    ensures { Finds (FitsGroup k.number) group_bytes (count ∷ bytes.now) (λ x. (logged x.0, x.1.now)) result }
 {
     spelling_law();
     fields_are_exact();
@@ -154,9 +152,8 @@ fn group_behind(alloc: Global, k: u8, count: u8, bytes: &[u8]) -> Result<(Group,
 }
 
 /// A group over `k` attributes.
-fn group_of(alloc: Global, k: u8, bytes: &[u8]) -> Result<(Group, &[u8]), GroupStop>
-    requires { IsAttributeCount k }
-    ensures { Finds (FitsGroup k) group_bytes bytes.now (λ x. (logged x.0, x.1.now)) result }
+fn group_of(alloc: Global, k: Attributes, bytes: &[u8]) -> Result<(Group, &[u8]), GroupStop>
+    ensures { Finds (FitsGroup k.number) group_bytes bytes.now (λ x. (logged x.0, x.1.now)) result }
 {
     match bytes {
         [count, rest @ ..] => {
@@ -172,11 +169,9 @@ fn group_of(alloc: Global, k: u8, bytes: &[u8]) -> Result<(Group, &[u8]), GroupS
 /// The groups over `k` attributes that the bytes spell, all of them. Any bytes may be given.
 ///
 /// `BadBytes` exactly where they spell no list of groups.
-pub fn decode_all(alloc: Global, bytes: &[u8], k: u8) -> Result<Vec<Group>, GroupsError>
-    requires some { 0 < k }
-    requires few { k ≤ KMAX }
-    ensures read { IfOk result (λ groups. SpellsGroups k bytes.now (map logged groups.items)) }
-    ensures end { IfErr result (GroupsEnd k bytes.now) }
+pub fn decode_all(alloc: Global, bytes: &[u8], k: Attributes) -> Result<Vec<Group>, GroupsError>
+    ensures read { IfOk result (λ groups. SpellsGroups k.number bytes.now (map logged groups.items)) }
+    ensures end { IfErr result (GroupsEnd k.number bytes.now) }
 {
     spelling_law();
     fields_are_exact();

@@ -1,6 +1,5 @@
 //! Pages from bytes.
-ghost use Rattle.std.specs.Prelude.{◌≡◌, ◌<◌, ◌≤◌, ◌⊎◌, ◌∷◌, IfSome, IfOk, Ok, Err};
-ghost use Rattle.hb_space.specs.Points.{IsAttributeCount};
+ghost use Rattle.std.specs.Prelude.{◌≡◌, ◌<◌, ◌≤◌, ◌⊎◌, ◌∷◌, IfOk, Ok, Err};
 ghost use Rattle.hb_frag.specs.declared.pages.Page.{Page as Content};
 ghost use Rattle.hb_frag.specs.Grammar.{HasSpelling, SpellsPage};
 ghost use Rattle.hb_page_codec.specs.Memory.{WantsOnly, BeginsWithMany, PageMayWantMemory};
@@ -15,21 +14,21 @@ use crate::numbers::u32_of;
 use crate::records::area_of;
 use hb_frag::{LivePage, Page};
 use hb_lemmas::is_zero;
+use hb_space::Attributes;
 use hb_space::form::{KMAX, PAGE};
 use std::alloc::Global;
 
 /// The level and the number of attributes, and the byte that is zero.
 #[tactic(auto, unfolding(crate::specs::ReadingPages::head_at))]
-fn head_of(bytes: &[u8]) -> Option<(u8, u8, &[u8])>
-    ensures reads { ReadsAs (λ x. (x.0, x.1, x.2.now)) result (head_at bytes.now) }
-    ensures attributes { IfSome result (λ x. IsAttributeCount x.1) }
+fn head_of(bytes: &[u8]) -> Option<(u8, Attributes, &[u8])>
+    ensures { ReadsAs (λ x. (x.0, x.1.number, x.2.now)) result (head_at bytes.now) }
 {
     match bytes {
         [level, k, 0, rest @ ..] => {
             if *k == 0 || usize::from(*k) > KMAX {
                 return None;
             }
-            Some((*level, *k, rest))
+            Some((*level, Attributes { number: *k }, rest))
         }
         _ => None,
     }

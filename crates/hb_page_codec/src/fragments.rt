@@ -1,6 +1,5 @@
 //! A page's inside, from the front of bytes.
 ghost use Rattle.std.specs.Prelude.{◌≡◌, ◌<◌, ◌≤◌};
-ghost use Rattle.hb_space.specs.Points.{IsAttributeCount};
 ghost use Rattle.hb_page_codec.specs.Memory.{WantsOnly, IsSomeCount, IsCutOrRecords};
 ghost use Rattle.hb_page_codec.specs.Reading.{ReadsAs, Gives};
 ghost use Rattle.hb_page_codec.specs.ReadingFields.{count_at, records_at, axis_at};
@@ -11,18 +10,16 @@ use crate::errors::PageError;
 use crate::numbers::{u16_of, u32_of, u64_of};
 use crate::records::record_of;
 use hb_frag::{Frag, Leaf, Node};
-use hb_space::Records;
-use hb_space::form::KMAX;
+use hb_space::{Attributes, Records};
 use std::alloc::Global;
 
 /// How many records follow, each with `k` attributes: no more than there is room for.
 #[tactic(auto, unfolding(crate::specs::ReadingFields::count_at))]
-fn count_of(k: u8, bytes: &[u8]) -> Option<(u16, &[u8])>
-    requires { k ≤ KMAX }
-    ensures { ReadsAs (λ x. (x.0, x.1.now)) result (count_at k bytes.now) }
+fn count_of(k: Attributes, bytes: &[u8]) -> Option<(u16, &[u8])>
+    ensures { ReadsAs (λ x. (x.0, x.1.now)) result (count_at k.number bytes.now) }
 {
     let (count, rest) = u16_of(bytes)?;
-    let least = 8 * usize::from(k) + 1;
+    let least = 8 * usize::from(k.number) + 1;
     if rest.len() < usize::from(count) * least {
         return None;
     }
@@ -30,9 +27,8 @@ fn count_of(k: u8, bytes: &[u8]) -> Option<(u16, &[u8])>
 }
 
 /// So many records.
-fn records_of(alloc: Global, k: u8, count: u16, bytes: &[u8]) -> Result<(Records, &[u8]), PageError>
-    requires { IsAttributeCount k }
-    ensures gives { Gives (λ x. (x.0, x.1.now)) result (records_at k count bytes.now) }
+fn records_of(alloc: Global, k: Attributes, count: u16, bytes: &[u8]) -> Result<(Records, &[u8]), PageError>
+    ensures gives { Gives (λ x. (x.0, x.1.now)) result (records_at k.number count bytes.now) }
     ensures memory { WantsOnly result (0 < count) }
 {
     let mut records = Vec::with_capacity(alloc, usize::from(count))?;
@@ -47,9 +43,8 @@ fn records_of(alloc: Global, k: u8, count: u16, bytes: &[u8]) -> Result<(Records
 
 /// A leaf of records, behind its tag.
 #[tactic(auto, unfolding(crate::specs::ReadingPages::records_tip_at))]
-fn records_tip_of(alloc: Global, k: u8, bytes: &[u8]) -> Result<(Node, &[u8]), PageError>
-    requires { IsAttributeCount k }
-    ensures gives { Gives (λ x. (tree_of x.0, x.1.now)) result (records_tip_at k bytes.now) }
+fn records_tip_of(alloc: Global, k: Attributes, bytes: &[u8]) -> Result<(Node, &[u8]), PageError>
+    ensures gives { Gives (λ x. (tree_of x.0, x.1.now)) result (records_tip_at k.number bytes.now) }
     ensures memory { WantsOnly result (IsSomeCount bytes.now) }
 {
     let (count, rest) = count_of(k, bytes).ok_or(PageError::BadPage)?;
@@ -59,19 +54,18 @@ fn records_tip_of(alloc: Global, k: u8, bytes: &[u8]) -> Result<(Node, &[u8]), P
 
 /// An attribute below `k`.
 #[tactic(auto, unfolding(crate::specs::ReadingFields::axis_at))]
-fn axis_of(k: u8, bytes: &[u8]) -> Option<(u8, &[u8])>
-    ensures { ReadsAs (λ x. (x.0, x.1.now)) result (axis_at k bytes.now) }
+fn axis_of(k: Attributes, bytes: &[u8]) -> Option<(u8, &[u8])>
+    ensures { ReadsAs (λ x. (x.0, x.1.now)) result (axis_at k.number bytes.now) }
 {
     let (axis, rest) = bytes.split_first()?;
-    if *axis < k { Some((*axis, rest)) } else { None }
+    if *axis < k.number { Some((*axis, rest)) } else { None }
 }
 
 /// A cut, behind its tag.
 #[cycle(fragments)]
 #[tactic(auto, unfolding(crate::specs::ReadingPages::cut_at))]
-fn cut_of(alloc: Global, k: u8, bytes: &[u8]) -> Result<(Node, &[u8]), PageError>
-    requires { IsAttributeCount k }
-    ensures { Gives (λ x. (tree_of x.0, x.1.now)) result (cut_at (tree_at k) k bytes.now) }
+fn cut_of(alloc: Global, k: Attributes, bytes: &[u8]) -> Result<(Node, &[u8]), PageError>
+    ensures { Gives (λ x. (tree_of x.0, x.1.now)) result (cut_at (tree_at k.number) k.number bytes.now) }
 {
     let (axis, rest) = axis_of(k, bytes).ok_or(PageError::BadPage)?;
     let (value, rest) = u64_of(rest).ok_or(PageError::BadPage)?;
@@ -91,9 +85,8 @@ fn cut_of(alloc: Global, k: u8, bytes: &[u8]) -> Result<(Node, &[u8]), PageError
 /// The root of a fragment, with what lies below it.
 #[cycle(fragments)]
 #[tactic(auto, unfolding(crate::specs::ReadingPages::node_at))]
-fn node_of(alloc: Global, k: u8, bytes: &[u8]) -> Result<(Node, &[u8]), PageError>
-    requires { IsAttributeCount k }
-    ensures gives { Gives (λ x. (tree_of x.0, x.1.now)) result (node_at (tree_at k) k bytes.now) }
+fn node_of(alloc: Global, k: Attributes, bytes: &[u8]) -> Result<(Node, &[u8]), PageError>
+    ensures gives { Gives (λ x. (tree_of x.0, x.1.now)) result (node_at (tree_at k.number) k.number bytes.now) }
     ensures memory { WantsOnly result (IsCutOrRecords bytes.now) }
 {
     match bytes {
@@ -113,9 +106,8 @@ fn node_of(alloc: Global, k: u8, bytes: &[u8]) -> Result<(Node, &[u8]), PageErro
 
 /// A fragment for pages of `k` attributes.
 #[cycle(fragments)]
-pub(crate) fn fragment_of(alloc: Global, k: u8, bytes: &[u8]) -> Result<(Frag, &[u8]), PageError>
-    requires { IsAttributeCount k }
-    ensures gives { Gives (λ x. (x.0, x.1.now)) result (tree_at k bytes.now) }
+pub(crate) fn fragment_of(alloc: Global, k: Attributes, bytes: &[u8]) -> Result<(Frag, &[u8]), PageError>
+    ensures gives { Gives (λ x. (x.0, x.1.now)) result (tree_at k.number bytes.now) }
     ensures memory { WantsOnly result (IsCutOrRecords bytes.now) }
 {
     let (node, rest) = node_of(alloc, k, bytes)?;

@@ -9,7 +9,7 @@ use crate::drawn::push_page;
 use crate::operations::push_op;
 use crate::rows::expect_all;
 use hb_log_codec::{Group, GroupsError, decode_all, encode};
-use hb_space::NoMemory;
+use hb_space::{Attributes, NoMemory};
 use std::alloc::Global;
 use std::test::Fail;
 
@@ -43,7 +43,7 @@ fn groups_text(alloc: Global, groups: &[Group]) -> Result<String, NoMemory> {
 }
 
 fn read(alloc: Global, bytes: &[u8]) -> Result<String, Fail> {
-    match decode_all(alloc, bytes, 1) {
+    match decode_all(alloc, bytes, Attributes { number: 1 }) {
         Ok(groups) => {
             if written(alloc, &groups)?.as_slice() != bytes {
                 return Err("written otherwise".into());

@@ -8,11 +8,12 @@
 //!
 //! Invariants that the types keep: a `Point` has 1 to `form::KMAX` values, a `Body` at most
 //! `form::BMAX` bytes, and an `Area` two corners of as many attributes, of which no lower value
-//! exceeds its upper one. Contracts see a point and a body as lists of numbers, an area as its
+//! exceeds its upper one; `Attributes` are as many as a point has. Contracts see a point and a body as lists of numbers, an area as its
 //! two corners, and areas and records as lists.
 #![tactic(auto)]
 
 mod areas;
+mod attributes;
 mod bodies;
 pub mod form;
 pub mod laws;
@@ -23,6 +24,7 @@ mod sides;
 mod threads;
 
 pub use areas::Area;
+pub use attributes::Attributes;
 pub use bodies::Body;
 pub use pieces::Areas;
 pub use points::Point;

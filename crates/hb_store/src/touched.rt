@@ -15,7 +15,7 @@ use hb_frag::{LivePage, Page};
 use hb_log_codec::laws::groups_are_read_in_one_way;
 use hb_log_codec::{Group, GroupsError, decode_all};
 use hb_ops::{ChangeError, Changed, Meta, Op, change};
-use hb_space::NoMemory;
+use hb_space::{Attributes, NoMemory};
 use std::alloc::Global;
 use std::collections::BTreeMap;
 
@@ -199,7 +199,13 @@ impl Touched {
         ensures unfit { IsErrOf result Unfit → IsBadPayload self.old.meta.k (replayed_of self.old) payload.now }
     {
         groups_are_read_in_one_way();
-        let groups = decode_all(alloc, payload, self.meta.k)?;
+        let groups = decode_all(
+            alloc,
+            payload,
+            Attributes {
+                number: self.meta.k,
+            },
+        )?;
         for group in groups {
             self.follow(alloc, group)?;
         }

@@ -325,5 +325,5 @@ module _ (d : DiskModel) (old new : RunningCore) (job : Job) (disk : IsDisk d) (
     may = wait_may rise taken;
     meta = meta;
     waiting = λ none. absurd (some none);
-    rests = let one = goes_on may.runs.0 may.runs.1 in still_rests d old may.runs.0 d new one.0 may.runs.1.shows one.2.shows (ap (λ (x : Machine). x.activity) one.1.rest);
+    rests = let one = goes_on may.runs.0 may.runs.1 in still_rests d old may.runs.0 d new one.0 may.runs.1.shows one.2.shows (still may.runs.0 may.runs.1).activity;
   }

@@ -1,5 +1,5 @@
 -- The page that a child leaf names: over a disk that tells it stands there.
-use Rattle.std.proofs.Common.{◌≡◌, ◌+◌, ℕ, Option, None, Some, IsSome, Result, Ok, refl, subst}
+use Rattle.std.proofs.Common.{◌≡◌, ◌+◌, ℕ, Option, None, Some, IsSome, Ok, refl, subst}
 use Rattle.hb_disk.specs.Model.{DiskModel}
 use Rattle.hb_lemmas.proofs.Options.{has_value, not_none}
 use Rattle.hb_space.specs.Boxes.{Area, Within}

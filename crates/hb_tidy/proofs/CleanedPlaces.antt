@@ -1,5 +1,5 @@
 -- The order of use where no page is pinned: a flush of the oldest dirty page makes a place, and a page that comes takes none away.
-use Rattle.std.proofs.Common.{◌≡◌, ◌⊎◌, ℕ, ◌+◌, ◌-◌, ◌<◌, ◌==◌, ◌||◌, not, if◌then◌else◌, Bool, true, false, cond, is_some, List, [], ◌∷◌, ◌++◌, All, Option, Some, None, option_map, refl, sym, ap, ◌∙◌, subst, arith}
+use Rattle.std.proofs.Common.{◌≡◌, ℕ, ◌+◌, ◌-◌, ◌<◌, ◌==◌, ◌||◌, not, if◌then◌else◌, Bool, true, false, cond, is_some, List, [], ◌∷◌, All, Option, Some, None, option_map, refl, sym, ap, ◌∙◌, subst, arith}
 use Rattle.std.specs.List.{find, count_by, position_or_len}
 use Rattle.std.specs.Set.{remove_key}
 use Rattle.std.proofs.lemmas.List.Elements.{All-append}

@@ -1,6 +1,6 @@
 -- What a call comes to that ends by an error of a call before.
 use Rattle.std.proofs.Common.{◌≡◌, Result, Ok, Err, sym, ap, ◌∙◌, subst}
-use Rattle.std.specs.Result.{IsErrAnd, OnOk}
+use Rattle.std.specs.Result.{IsErrAnd}
 use Rattle.hb_disk.specs.Model.{DiskModel}
 use Rattle.hb_ops.specs.Files.{FileState}
 use Rattle.hb_core.specs.Showing.{RunningCore}
@@ -30,9 +30,6 @@ over_value knows v r says d e old new is one = subst (λ (x : Result _ TidyStop)
 
 pub goes_value : {T : Type 0} (v : T) (r : Result T TidyStop) (d e : DiskModel) (old new : RunningCore) → r ≡ Ok v → Goes r d old e new → Goes (Ok v) d old e new
 goes_value v r d e old new is one = subst (λ (x : Result _ TidyStop). Goes x d old e new) is one
-
-pub on_value : {T E : Type 0} (v : T) (r : Result T E) (P : Type 0) → r ≡ Ok v → OnOk r P → P
-on_value v r P is on = subst (λ (x : Result _ _). OnOk x P) is on
 
 pub ok_is : {T E : Type 0} (r : Result T E) (v w : T) → r ≡ Ok v → v ≡ w → r ≡ Ok w
 ok_is r v w is same = is ∙ ap (λ (x : _). Ok x) same

@@ -1,15 +1,9 @@
 -- Lists of jobs, and of leaves that were gone over.
-use Rattle.std.proofs.Common.{◌≡◌, ℕ, ◌+◌, ◌<◌, ◌≤◌, ◌==◌, true, false, List, [], ◌∷◌, ◌++◌, All, length, get_or, take, refl, sym, ap, subst, arith}
+use Rattle.std.proofs.Common.{◌≡◌, ℕ, ◌+◌, ◌<◌, ◌≤◌, ◌==◌, true, false, List, [], ◌∷◌, All, length, get_or, take, refl, sym, ap, subst, arith}
 use Rattle.std.proofs.lemmas.Bool.{eqb-false, eqb-true}
 use Rattle.std.proofs.lemmas.List.{take_more}
 use Rattle.std.proofs.lemmas.List.Elements.{All-append, All-nil}
 use Rattle.hb_lemmas.proofs.Lists.{All-alone}
-use Rattle.hb_activity.specs.declared.jobs.Job.{Job}
-use Rattle.hb_core.specs.KeptFits.{JobFits}
-
--- one more that fits
-pub fit_added : (k : ℕ) (old new : List Job) (job : Job) → new ≡ old ++ job ∷ [] → All (JobFits k) old → JobFits k job → All (JobFits k) new
-fit_added k old new job is all fits = subst (λ (jobs : List Job). All (JobFits k) jobs) (sym is) (All-append (JobFits k) old (job ∷ []) all (All-alone (JobFits k) job fits))
 
 -- what holds of the first items of a list
 pub none_yet : {X : Type 0} (P : X → Type 0) (xs : List X) → All P (take 0 xs)

@@ -163,15 +163,6 @@ goes_err {T = T} {U = U} stop d e old new one = record {
   may = tt;
 }
 
--- and what was answered is another value
-pub goes_ok : {T U : Type 0} (v : T) (w : U) (d e : DiskModel) (old new : RunningCore) → Goes (Ok v) d old e new → Goes (Ok w) d old e new
-goes_ok v w d e old new one = record {
-  does = λ m may. let first = one.does m may in record { run = first.run; worked = worked_as v w old new m first.run.new first.worked; err = tt };
-  counts = one.counts;
-  spent = one.spent;
-  may = one.may;
-}
-
 -- ---- what becomes of what was seen
 
 if_both : (o : Option FileState) (P Q R : FileState → Type 0) → ((s : FileState) → P s → Q s → R s) → IfSome o P → IfSome o Q → IfSome o R

@@ -3,7 +3,6 @@ use Rattle.std.proofs.Common.{◌≡◌, ◌≢◌, ◌⊎◌, inl, inr, ℕ, �
 use Rattle.std.specs.List.{Contains}
 use Rattle.std.specs.Prelude.{MatchOption}
 use Rattle.std.proofs.lemmas.List.Elements.{All-append, All-contains, All-nil}
-use Rattle.hb_activity.specs.Queue.{AddsJob}
 use Rattle.hb_activity.specs.declared.activities.Activity.{Activity}
 use Rattle.hb_activity.specs.declared.activities.Activity.TheVariants as at
 use Rattle.hb_activity.specs.declared.jobs.Job.{Job}
@@ -18,9 +17,6 @@ use Rattle.hb_pool.specs.Frames.{Use, clean}
 use Rattle.hb_pool.specs.Pools.{IsPool, in_place, places}
 use Rattle.hb_store.specs.Held.{oldest_dirty}
 use Rattle.hb_store.specs.declared.stops.StopWhy.{StopWhy}
-use Rattle.hb_store.specs.declared.stops.Why.{Why}
-use Rattle.hb_store.specs.declared.stops.Why.TheVariants.{Rule, Level, Extent}
-use Rattle.hb_core.specs.Fetching.{IsBadRead}
 use Rattle.hb_core.specs.Machines.{Files, Machine, current_file}
 use Rattle.hb_core.specs.ProgressLaws.{HasToDo}
 use Rattle.hb_core.specs.SteppingLaws.{IsAtRest}
@@ -29,8 +25,8 @@ use Rattle.hb_core.specs.Forcing.{FailsToWrite, Flushes, FlushesRest, StaysSo}
 use Rattle.hb_core.specs.Steps.{StepsAs, StepsTo}
 use Rattle.hb_core.specs.declared.outcomes.Outcome.{Outcome}
 use Rattle.hb_core.specs.declared.outcomes.Outcome.TheVariants as outcomes
-use Rattle.hb_store.specs.States.{StoreState}
 use Rattle.hb_tidy.proofs.CleanedPlaces.{AreUnpinned, cleaned_free, cleaned_place, cleaned_pool, fetched_free, fetched_place, oldest_there, some_dirty}
+use Rattle.hb_tidy.proofs.OneCall.{only_silent}
 use Rattle.hb_tidy.proofs.Workers.{flusher_leaves}
 use Rattle.hb_tidy.specs.Finding.{IsTidy, OwesGrowth}
 use Rattle.hb_tidy.specs.Owed.{IsJobOwed}
@@ -109,16 +105,11 @@ module _ (s : FileState) (m : Machine) (done : HasTidyFile s m) where
   told : m.files ≡ None → ⊥
   told none = let never : None ≡ Some s = sym (ap (λ (o : Option Files). option_map current_file o) none) ∙ done.file in cc
 
-  well_read : (id : ℕ) (why : Why) → IsBadRead m.files m.store id why → ⊥
-  well_read id (Rule rule) bad = told bad.0
-  well_read id (Level level found) bad = bad
-  well_read id (Extent area found) bad = bad
-
   happens : (event : Event) (next : Machine) → Happens event m next → IsNoWork event × HasTidyFile s next
   happens (Steps actor outcome) next (cause, step) = let is = by_flusher actor cause in (is, flushed actor outcome next is step)
   happens (Waits job) next (waits, owed) = absurd (none_owed s job done.tidy (subst (λ (o : Option FileState). IfSome o (λ t. IsJobOwed t job)) done.file owed))
   happens (Comes id) next comes = (tt, so_still next (ap (λ (x : Machine). x.activity) comes.rest) (ap (λ (x : Machine). x.jobs) comes.rest) (ap file_now comes.rest) comes.tied.pool (subst AreUnpinned (sym comes.uses) (fetched_free m.uses id done.unpinned)))
-  happens (Breaks id why) next (is, bad) = absurd (well_read id why bad)
+  happens (Breaks id why) next (is, bad) = absurd (told (only_silent m.files id m.store why bad))
 
 -- ---- how many flushes there may be
 

@@ -1,5 +1,5 @@
 -- Lists of leaves that name pages, part by part.
-use Rattle.std.proofs.Common.{◌≡◌, ℕ, List, [], ◌∷◌, ◌++◌, refl, sym, append-nil, append_assoc}
+use Rattle.std.proofs.Common.{◌≡◌, List, [], ◌∷◌, ◌++◌, refl, sym, append-nil, append_assoc}
 use Rattle.hb_frag.specs.Leaves.{Placed}
 use Rattle.hb_frag.proofs.Facts.NamesListed.{siblings-append}
 use Rattle.hb_tidy.specs.Placing.{children}

@@ -13,7 +13,6 @@ use Rattle.hb_pool.specs.Frames.{Use}
 use Rattle.hb_store.specs.Fetching.{IsCrowdedOut}
 use Rattle.hb_store.specs.States.{IsGoodPage, StoreState}
 use Rattle.hb_store.specs.declared.stops.Why.{Why}
-use Rattle.hb_store.specs.declared.stops.Why.TheVariants.{Rule, Level, Extent}
 use Rattle.hb_core.specs.Between.{CopiesPage}
 use Rattle.hb_core.specs.Counting.{CountsStay}
 use Rattle.hb_core.specs.Fetching.{IsBadRead}
@@ -24,7 +23,7 @@ use Rattle.hb_core.specs.declared.copies.CopyStop.{CopyStop}
 use Rattle.hb_core.specs.declared.copies.CopyStop.TheVariants as copies
 use Rattle.hb_tidy.proofs.CallsMade.{other_stop}
 use Rattle.hb_tidy.proofs.CountsOfCalls.{stay_rises}
-use Rattle.hb_tidy.proofs.OneCall.{StandsStill, still_looking, still_tidied, still_tidied_new}
+use Rattle.hb_tidy.proofs.OneCall.{StandsStill, only_silent, still_looking, still_tidied, still_tidied_new}
 use Rattle.hb_tidy.proofs.Resting.{still_rests}
 use Rattle.hb_tidy.proofs.Worked.{none_dropped, taken_still, worked_none, worked_once}
 use Rattle.hb_tidy.specs.declared.stops.TidyStop.{TidyStop}
@@ -59,11 +58,6 @@ none_seen : (o : Option FileState) (id : ℕ) → IfSome o (SawPage id None)
 none_seen None id = tt
 none_seen (Some s) id = tt
 
-only_silent : (o : Option Files) (id : ℕ) (st : StoreState) (why : Why) → IsBadRead o st id why → o ≡ None
-only_silent o id st (Rule rule) bad = bad.0
-only_silent o id st (Level level found) bad = absurd bad
-only_silent o id st (Extent area found) bad = absurd bad
-
 -- a look leaves the jobs
 copied_jobs : (id : ℕ) (m new : Machine) (copied : Result Page CopyStop) → CopiesPage id copied m new → new.jobs ≡ m.jobs
 copied_jobs id m new (Ok page) was = ap (λ (x : Machine). x.jobs) was.0.rest
@@ -71,14 +65,6 @@ copied_jobs id m new (Err copies.NoMemory) was = ap (λ (x : Machine). x.jobs) w
 copied_jobs id m new (Err copies.ReadFault) was = ap (λ (x : Machine). x.jobs) was.0
 copied_jobs id m new (Err copies.Crowded) was = ap (λ (x : Machine). x.jobs) was.0
 copied_jobs id m new (Err (copies.Damaged page why)) was = ap (λ (x : Machine). x.jobs) was.0
-
--- and where everybody stands
-copied_activity : (id : ℕ) (m new : Machine) (copied : Result Page CopyStop) → CopiesPage id copied m new → new.activity ≡ m.activity
-copied_activity id m new (Ok page) was = ap (λ (x : Machine). x.activity) was.0.rest
-copied_activity id m new (Err copies.NoMemory) was = ap (λ (x : Machine). x.activity) was.rest
-copied_activity id m new (Err copies.ReadFault) was = ap (λ (x : Machine). x.activity) was.0
-copied_activity id m new (Err copies.Crowded) was = ap (λ (x : Machine). x.activity) was.0
-copied_activity id m new (Err (copies.Damaged page why)) was = ap (λ (x : Machine). x.activity) was.0
 
 module _ (id : ℕ) (copied : Result Page CopyStop) (d : DiskModel) (old : RunningCore) (e : DiskModel) (new : RunningCore) (looked : Looked id copied d old e new) (may : MayTidy d old) where
   next : (m : Machine) → MayStep d old m → Machine
@@ -196,7 +182,7 @@ module _ (id : ℕ) (copied : Result Page CopyStop) (d : DiskModel) (old : Runni
       may = look_may;
       meta = look_meta;
       waiting = λ none. sym look_waits ∙ none;
-      rests = let one = looked.told may.runs.0 may.runs.1 in still_rests d old may.runs.0 e new one.0 may.runs.1.shows one.2.shows (copied_activity id may.runs.0 one.0 copied one.1);
+      rests = let one = looked.told may.runs.0 may.runs.1 in still_rests d old may.runs.0 e new one.0 may.runs.1.shows one.2.shows (still may.runs.0 may.runs.1).activity;
     }
 
     good_so : (m : Machine) (shows : MayStep d old m) (c : Result Page CopyStop) → CopiesPage id c m (looked.told m shows).0 → (r : Result (Option Page) TidyStop) → SeesBy c r → IfOk r (λ v. IfSome v (IsGoodPage old.store.meta))

@@ -1,5 +1,5 @@
 -- What one call comes to, from a machine that a core shows: a step of a worker, a flush, a job that waits, a look.
-use Rattle.std.proofs.Common.{◌≡◌, ℕ, List, [], ◌∷◌, Some, None, Result, Ok, Err, refl, sym, ap, ◌∙◌, subst, arith}
+use Rattle.std.proofs.Common.{◌≡◌, ℕ, List, [], ◌∷◌, Some, None, Result, Ok, Err, refl, sym, ap, ◌∙◌, subst, arith, Option}
 use Rattle.std.proofs.lemmas.List.Elements.{All-nil}
 use Rattle.hb_disk.proofs.Facts.BecomesLaws.{Becomes-read}
 use Rattle.hb_disk.proofs.Facts.RunLaws.{Leaves-read}
@@ -13,6 +13,7 @@ use Rattle.hb_activity.specs.declared.jobs.Job.{Job}
 use Rattle.hb_set.specs.Machine.{RecordSet}
 use Rattle.hb_set.specs.Order.{Entry, result_of}
 use Rattle.hb_set.specs.declared.scripts.Answered.{Answered}
+use Rattle.hb_store.specs.States.{StoreState}
 use Rattle.hb_store.specs.declared.stops.StopWhy.TheVariants as whys
 use Rattle.hb_store.specs.declared.stops.Why.{Why}
 use Rattle.hb_store.specs.declared.stops.Why.TheVariants.{Rule, Level, Extent}
@@ -82,11 +83,6 @@ pub step_runs : RunningLaws → (d e : DiskModel) (m : Machine) (actor : ℕ) (o
 step_runs laws d e m actor outcome old new disk disk_next worker may steps touches =
     run_of_step laws d m old actor outcome e.clock e new disk may disk_next (is_actor actor worker) steps touches (λ told. refl)
 
-pub step_tidied : RunningLaws → (d e : DiskModel) (m : Machine) (actor : ℕ) (outcome : Outcome) (old new : RunningCore) → IsDisk d → IsDisk e → IsWorker actor → MayStep d old m
-    → ((x : Machine) → MayStep d old x → (next : Machine) × StepsTo x actor outcome next × ShowsMachine e new next) → Touches d old outcome e new → HasTidied d m e new
-step_tidied laws d e m actor outcome old new disk disk_next worker may steps touches =
-    run_tidied laws d e m actor (given_by outcome e.clock) new (step_runs laws d e m actor outcome old new disk disk_next worker may steps touches) may.goes_on.kept worker
-
 -- the step that the run took
 pub step_taken : (laws : RunningLaws) (d e : DiskModel) (m : Machine) (actor : ℕ) (outcome : Outcome) (old new : RunningCore) (disk : IsDisk d) (disk_next : IsDisk e) (worker : IsWorker actor) (may : MayStep d old m)
     (steps : (x : Machine) → MayStep d old x → (next : Machine) × StepsTo x actor outcome next × ShowsMachine e new next) (touches : Touches d old outcome e new) (kept : MachineKeeps m)
@@ -100,6 +96,7 @@ pub record StandsStill (m new : Machine) : Type 0 where
   pub lines : LinesStand m new
   pub same : FileStays m new
   pub stop : new.stop ≡ Some whys.WriteFault → m.stop ≡ Some whys.WriteFault
+  pub activity : new.activity ≡ m.activity
   pub keeps : (n : RecordSet) (files : Files) → CoreKeeps n m files → CoreKeeps n new files
 
 module _ (laws : RunningLaws) (d e : DiskModel) (m new : Machine) (old c : RunningCore) (disk : IsDisk d) (may : MayStep d old m) (may_then : MayStep e c new) (reads : OnlyReads d e) (still : StandsStill m new) where
@@ -146,6 +143,7 @@ still_itself m = record {
   lines = record { lines = refl; answered = refl; order = refl };
   same = record { file = refl; meta = refl };
   stop = λ stop. stop;
+  activity = refl;
   keeps = λ n files keeps. keeps;
 }
 
@@ -159,8 +157,15 @@ still_waiting keeps m job new fits waits = record {
   };
   same = record { file = ap file_now waits.rest; meta = ap (λ (x : Machine). x.store.meta) waits.rest };
   stop = λ stop. sym (ap (λ (x : Machine). x.stop) waits.rest) ∙ stop;
+  activity = ap (λ (x : Machine). x.activity) waits.rest;
   keeps = λ n files all. keeps n m files job new fits waits all;
 }
+
+-- a damaged page is there only over a disk that tells nothing
+pub only_silent : (files : Option Files) (id : ℕ) (st : StoreState) (why : Why) → IsBadRead files st id why → files ≡ None
+only_silent files id st (Rule rule) bad = bad.0
+only_silent files id st (Level level found) bad = absurd bad
+only_silent files id st (Extent area found) bad = absurd bad
 
 -- a page is looked at
 module _ (looking : LookingKeepsAll) (m : Machine) (id : ℕ) (new : Machine) where
@@ -173,24 +178,20 @@ module _ (looking : LookingKeepsAll) (m : Machine) (id : ℕ) (new : Machine) wh
     };
     same = record { file = ap file_now comes.rest; meta = comes.brings.rest.meta };
     stop = λ stop. sym (ap (λ (x : Machine). x.stop) comes.rest) ∙ stop;
+    activity = ap (λ (x : Machine). x.activity) comes.rest;
     keeps = λ n files all. looking n m files id new comes all;
   }
 
   still_same : new ≡ m → StandsStill m new
   still_same is = subst (λ (x : Machine). StandsStill m x) (sym is) (still_itself m)
 
-  -- only over a disk that tells nothing
-  silent : (why : Why) → IsBadRead m.files m.store id why → m.files ≡ None
-  silent (Rule rule) bad = bad.0
-  silent (Level level found) bad = absurd bad
-  silent (Extent area found) bad = absurd bad
-
   still_damaged : (page : ℕ) (why : Why) → new ≡ stopped_for (whys.Damaged page why) m → IsBadRead m.files m.store id why → StandsStill m new
   still_damaged page why is bad = record {
     lines = record { lines = ap (λ (x : Machine). x.lines) is; answered = ap (λ (x : Machine). x.answered) is; order = ap (λ (x : Machine). x.order) is };
     same = record { file = ap file_now is; meta = ap (λ (x : Machine). x.store.meta) is };
     stop = λ stop. let never : Some (whys.Damaged page why) ≡ Some whys.WriteFault = sym (ap (λ (x : Machine). x.stop) is) ∙ stop in cc;
-    keeps = λ n files all. absurd (not_none m.files files all.told (silent why bad));
+    activity = ap (λ (x : Machine). x.activity) is;
+    keeps = λ n files all. absurd (not_none m.files files all.told (only_silent m.files id m.store why bad));
   }
 
   pub still_looking : (result : Result Page CopyStop) → CopiesPage id result m new → StandsStill m new

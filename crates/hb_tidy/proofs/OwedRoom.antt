@@ -1,5 +1,5 @@
 -- Room for a posting, by the plan for it; and three pages that fit, by the plan for two of them.
-use Rattle.std.proofs.Common.{◌≡◌, ◌↔◌, ℕ, ◌+◌, ◌<◌, ◌≤◌, Bool, IsTrue, List, Contains, Some, refl, sym, ap, ◌∙◌, subst, arith}
+use Rattle.std.proofs.Common.{◌≡◌, ◌↔◌, ℕ, ◌+◌, ◌<◌, ◌≤◌, Bool, IsTrue, List, Contains, Some, refl, sym, ap, ◌∙◌, arith}
 use Rattle.hb_space.specs.Boxes.{Area}
 use Rattle.hb_frag.specs.declared.leaves.Leaf.TheVariants.{Child, Sibling}
 use Rattle.hb_frag.specs.declared.pages.LivePage.{LivePage}
@@ -8,7 +8,7 @@ use Rattle.hb_frag.specs.Leaves.{Placed, leaves, weight_of}
 use Rattle.hb_frag.specs.Rules.{capacity_of}
 use Rattle.hb_layout.specs.declared.meta.Meta.{Meta}
 use Rattle.hb_ops.specs.Merging.{FitsMerge, MayMerge}
-use Rattle.hb_ops.specs.Owing.{IsOwed, LacksRoom, OwesNothing, Posts, posted_parent}
+use Rattle.hb_ops.specs.Owing.{LacksRoom, OwesNothing, Posts, posted_parent}
 use Rattle.hb_ops.specs.Sound.{FitsFile}
 use Rattle.hb_terms.specs.Plans.{IsPlan}
 use Rattle.hb_terms.specs.declared.plans.PostPlan.{PostPlan}

@@ -1,14 +1,11 @@
 -- What happened to a machine, one thing after the other.
-use Rattle.std.proofs.Common.{◌≡◌, inl, inr, ℕ, ◌+◌, List, [], ◌∷◌, ◌++◌, All, Result, Ok, Err, refl, sym, subst, arith}
+use Rattle.std.proofs.Common.{◌≡◌, inl, inr, ℕ, ◌+◌, List, [], ◌∷◌, ◌++◌, All, Result, Ok, Err, refl, subst, arith}
 use Rattle.std.specs.Prelude.{MatchResult}
 use Rattle.std.specs.Result.{IfOk}
 use Rattle.std.proofs.lemmas.List.Elements.{All-append, All-nil}
-use Rattle.hb_activity.specs.declared.jobs.Job.{Job}
 use Rattle.hb_lemmas.proofs.Lists.{All-alone, All-behind, All-front, All-one}
-use Rattle.hb_store.specs.declared.stops.Why.{Why}
 use Rattle.hb_core.specs.Machines.{Machine}
 use Rattle.hb_core.specs.Showing.{RunningCore}
-use Rattle.hb_core.specs.declared.outcomes.Outcome.{Outcome}
 use Rattle.hb_tidy.specs.declared.stops.TidyStop.{TidyStop}
 use Rattle.hb_tidy.specs.Working.{DropsAtEnd, DropsNone, Event, Happens, HasWorked, WorksOff, steps_in}
 use Rattle.hb_tidy.specs.Working.{Breaks, Comes, Steps, Waits}

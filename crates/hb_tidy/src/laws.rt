@@ -2,7 +2,8 @@
 ghost use Rattle.hb_tidy.specs.TidyFiles.{TidyFilesAreLeftAlone};
 
 /// In a file that is tidy, over a disk that tells, nothing is worked off: no worker takes a step, no job comes to wait, and the file
-/// stays. At most two flushes make room for pages that are looked at. So a tidying of such a file is never `Spent`.
+/// stays. At most two flushes make room for pages that are looked at. So a tidying that begins with more than two steps left isn't
+/// `Spent` there.
 pub fn tidy_files_are_left_alone()
     ensures { TidyFilesAreLeftAlone }
 {}

@@ -3,7 +3,7 @@ ghost use Rattle.std.specs.Prelude.{◌≤◌, length, IfSome};
 ghost use Rattle.hb_page_codec.specs.Reading.{ReadsAs, number_at};
 ghost use Rattle.hb_page_codec.specs.ReadingFields.{axis_at, body_at, count_at};
 
-use crate::attributes::Attributes;
+use hb_space::Attributes;
 use hb_outside::take_u16;
 use hb_space::form::BMAX;
 

@@ -6,12 +6,11 @@ ghost use Rattle.hb_page_codec.specs.ReadingPages.{page_of_bytes};
 ghost use Rattle.hb_view.specs.Spelled.{page_spelled};
 ghost use Rattle.hb_view.specs.Views.{IsLive, IsLiveAnd, HasInside};
 
-use crate::attributes::Attributes;
 use crate::corners::from_place;
 use crate::trees::{Inside, TreeView};
 use hb_frag::Page;
 use hb_page_codec::{PageError, area_of, decode, u32_of};
-use hb_space::{Area, NoMemory};
+use hb_space::{Area, Attributes, NoMemory};
 use std::alloc::{AllocError, Global};
 
 /// Whether the bytes spell a page in use.
@@ -35,7 +34,8 @@ pub(crate) fn box_of(bytes: &[u8]) -> Area
     requires { IsLive (page_spelled bytes.now) }
     ensures { IsLiveAnd (page_spelled bytes.now) (λ page. result ≡ page.area) }
 {
-    match area_of(bytes[2], from_place(bytes, 4)) {
+    let k = Attributes { number: bytes[2] };
+    match area_of(k, from_place(bytes, 4)) {
         Some((area, _)) => area,
         None => unreachable!(),
     }

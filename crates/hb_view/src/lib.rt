@@ -21,7 +21,6 @@
 //! and read again only what they need.
 #![tactic(auto)]
 
-mod attributes;
 mod bounds;
 mod boxes;
 mod broken;

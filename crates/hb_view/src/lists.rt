@@ -6,13 +6,12 @@ ghost use Rattle.hb_view.specs.Corners.{point_there};
 ghost use Rattle.hb_view.specs.Seen.{list_seen, after_seen};
 ghost use Rattle.hb_view.specs.Views.{FindsAmong};
 
-use crate::attributes::Attributes;
 use crate::corners::{is_point, point_read};
 use crate::fields::body_of;
 use crate::skipping::behind_list;
 use crate::trees::ListView;
 use hb_page_codec::point_of;
-use hb_space::Point;
+use hb_space::{Attributes, Point};
 use hb_space::form::BMAX;
 
 /// A record as its point and the bytes of its body, and the bytes behind it.
@@ -20,7 +19,7 @@ use hb_space::form::BMAX;
 pub(crate) fn entry_of(k: Attributes, bytes: &[u8]) -> Option<(Point, &[u8], &[u8])>
     ensures { ReadsAs (λ x. (record { key = x.0; body = x.1.now }, x.2.now)) result (record_at k.number bytes.now) }
 {
-    let (key, rest) = point_of(k.number, bytes)?;
+    let (key, rest) = point_of(k, bytes)?;
     let (body, rest) = body_of(rest)?;
     Some((key, body, rest))
 }

@@ -3,7 +3,7 @@ ghost use Rattle.hb_page_codec.specs.Reading.{ReadsAs};
 ghost use Rattle.hb_view.specs.Roots.{sight_of, root_at};
 ghost use Rattle.hb_view.specs.Seen.{HasRoot};
 
-use crate::attributes::Attributes;
+use hb_space::Attributes;
 use crate::fields::{axis_of, count_of};
 use crate::trees::TreeView;
 use hb_page_codec::{u32_of, u64_of};

@@ -6,7 +6,7 @@ ghost use Rattle.hb_page_codec.specs.ReadingPages.{tree_at};
 ghost use Rattle.hb_view.specs.Behind.{behind, record_behind, list_behind, cut_behind, name_behind, node_behind, rest_after};
 ghost use Rattle.hb_view.specs.Seen.{rest_seen};
 
-use crate::attributes::Attributes;
+use hb_space::Attributes;
 use crate::corners::{from_place, point_read};
 use crate::fields::{axis_of, body_of, count_of};
 use crate::trees::TreeView;

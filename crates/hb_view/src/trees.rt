@@ -5,7 +5,7 @@ ghost use Rattle.hb_page_codec.specs.ReadingFields.{records_at};
 ghost use Rattle.hb_page_codec.specs.ReadingPages.{tree_at};
 ghost use Rattle.hb_view.specs.Corners.{corners_there};
 
-use crate::attributes::Attributes;
+use hb_space::Attributes;
 
 /// A tree as the bytes that it stands at the front of.
 #[derive(Clone, Copy, Debug)]

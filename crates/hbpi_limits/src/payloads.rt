@@ -10,7 +10,7 @@ use crate::shapes::{Beside, Row};
 use hb_disk::{Device, MemDisk};
 use hb_frag::Side;
 use hb_log_codec::{Group, decode_all, encode};
-use hb_space::NoMemory;
+use hb_space::{Attributes, NoMemory};
 use hb_space::form::{KMAX, PAGE};
 use hb_wal::{Payloads, read_area};
 use std::alloc::{AllocError, Global};
@@ -130,7 +130,7 @@ fn read(alloc: Global, bytes: &[u8], k: u8) -> Result<(usize, Vec<u8>), Missed>
     requires some { 1 ≤ k }
     requires few { k ≤ KMAX }
 {
-    match decode_all(alloc, bytes, k) {
+    match decode_all(alloc, bytes, Attributes { number: k }) {
         Ok(groups) => {
             let again = written(alloc, &groups, k)?;
             Ok((groups.len(), again))

@@ -7,7 +7,7 @@ use Rattle.hb_log_codec.proofs.reading.decode_all.Given as goal
 -- the groups so far stand in front of the rest
 abbrev pub invariant-loop-rest : goal.invariant-loop-rest
 invariant-loop-rest l = record {
-  fits : All (FitsGroup l.k) (map logged l.groups.items);
+  fits : All (FitsGroup l.k.number) (map logged l.groups.items);
   parts : l.bytes ≡ flat_map group_bytes (map logged l.groups.items) ++ l.rest;
 }
 

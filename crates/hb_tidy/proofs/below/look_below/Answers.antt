@@ -1,4 +1,4 @@
-use Rattle.std.proofs.Common.{◌≡◌, length, Option, None, Some, IsSome, Ok, sym, ◌∙◌, subst}
+use Rattle.std.proofs.Common.{◌≡◌, length, Option, None, Some, IsSome, sym, ◌∙◌, subst}
 use Rattle.hb_space.specs.Boxes.{IsArea}
 use Rattle.hb_frag.specs.declared.pages.LivePage.{LivePage}
 use Rattle.hb_lemmas.proofs.Options.{at_value}

@@ -1,4 +1,4 @@
-use Rattle.std.proofs.Common.{◌≡◌, List, [], Some, Ok, subst, ◌∙◌}
+use Rattle.std.proofs.Common.{◌≡◌, List, Some, Ok, subst, ◌∙◌}
 use Rattle.hb_activity.specs.declared.jobs.Job.{Job}
 use Rattle.hb_ops.specs.Files.{FileState, live_page}
 use Rattle.hb_core.specs.CoreSeen.{core_seen, core_disk}

@@ -1,4 +1,4 @@
-use Rattle.std.proofs.Common.{◌≡◌, List, [], All, sym, ◌∙◌, subst}
+use Rattle.std.proofs.Common.{List, All, sym, subst}
 use Rattle.hb_activity.specs.declared.jobs.Job.{Job}
 use Rattle.hb_layout.specs.declared.meta.Meta.{Meta}
 use Rattle.hb_core.specs.CoreSeen.{core_seen, core_disk}
