@@ -137,7 +137,12 @@ fn operation_of(alloc: Global, k: Attributes, bytes: &[u8]) -> Result<(Op, &[u8]
 }
 
 /// A group over `k` attributes, behind the count of its page images.
-fn group_behind(alloc: Global, k: Attributes, count: u8, bytes: &[u8]) -> Result<(Group, &[u8]), GroupStop>
+fn group_behind(
+    alloc: Global,
+    k: Attributes,
+    count: u8,
+    bytes: &[u8],
+) -> Result<(Group, &[u8]), GroupStop>
     requires { count ≤ 3 }
     ensures { Finds (FitsGroup k.number) group_bytes (count ∷ bytes.now) (λ x. (logged x.0, x.1.now)) result }
 {

@@ -1,6 +1,5 @@
 -- Fields of pages are read exactly.
 use Rattle.std.proofs.Common.{ℕ, ◌^◌, ◌<◌, ◌++◌, refl, sym, ap, subst, ◌∙◌}
-use Rattle.hb_space.specs.declared.records.Record.{Record}
 use Rattle.hb_frag.specs.Grammar.{point_bytes}
 use Rattle.hb_page_codec.specs.Exact.{BytesAreExact, NumbersAreExact, PointsAreExact, BoxesAreExact, RecordsAreExact, PagesAreExact}
 use Rattle.hb_page_codec.specs.ReadingFields.{area_at, point_at}

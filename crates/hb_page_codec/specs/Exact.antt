@@ -1,6 +1,6 @@
 -- Readers that are exact: what they give is what was spelled, and what was spelled is read again.
 use Rattle.std.specs.Prelude.{◌≡◌, ◌↔◌, ℕ, ◌^◌, ◌<◌, ◌≤◌, List, ◌∷◌, [], ◌++◌, length, get_or, All, Option, Some}
-use Rattle.hb_space.specs.Boxes.{Area, IsArea}
+use Rattle.hb_space.specs.Boxes.{IsArea}
 use Rattle.hb_space.specs.declared.form.TheConstants.{KMAX}
 use Rattle.hb_frag.specs.declared.pages.Page.{Page}
 use Rattle.hb_frag.specs.Grammar.{FitsRecord, SpellsPage, point_bytes, record_bytes}

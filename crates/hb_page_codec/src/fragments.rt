@@ -27,7 +27,12 @@ fn count_of(k: Attributes, bytes: &[u8]) -> Option<(u16, &[u8])>
 }
 
 /// So many records.
-fn records_of(alloc: Global, k: Attributes, count: u16, bytes: &[u8]) -> Result<(Records, &[u8]), PageError>
+fn records_of(
+    alloc: Global,
+    k: Attributes,
+    count: u16,
+    bytes: &[u8],
+) -> Result<(Records, &[u8]), PageError>
     ensures gives { Gives (λ x. (x.0, x.1.now)) result (records_at k.number count bytes.now) }
     ensures memory { WantsOnly result (0 < count) }
 {
@@ -58,7 +63,11 @@ fn axis_of(k: Attributes, bytes: &[u8]) -> Option<(u8, &[u8])>
     ensures { ReadsAs (λ x. (x.0, x.1.now)) result (axis_at k.number bytes.now) }
 {
     let (axis, rest) = bytes.split_first()?;
-    if *axis < k.number { Some((*axis, rest)) } else { None }
+    if *axis < k.number {
+        Some((*axis, rest))
+    } else {
+        None
+    }
 }
 
 /// A cut, behind its tag.
@@ -106,7 +115,11 @@ fn node_of(alloc: Global, k: Attributes, bytes: &[u8]) -> Result<(Node, &[u8]), 
 
 /// A fragment for pages of `k` attributes.
 #[cycle(fragments)]
-pub(crate) fn fragment_of(alloc: Global, k: Attributes, bytes: &[u8]) -> Result<(Frag, &[u8]), PageError>
+pub(crate) fn fragment_of(
+    alloc: Global,
+    k: Attributes,
+    bytes: &[u8],
+) -> Result<(Frag, &[u8]), PageError>
     ensures gives { Gives (λ x. (x.0, x.1.now)) result (tree_at k.number bytes.now) }
     ensures memory { WantsOnly result (IsCutOrRecords bytes.now) }
 {

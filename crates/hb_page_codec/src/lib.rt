@@ -29,5 +29,5 @@ mod threads;
 pub use decoding::decode;
 pub use encoding::encode;
 pub use errors::PageError;
-pub use numbers::{u32_of, u64_of};
+pub use numbers::{u16_of, u32_of, u64_of};
 pub use records::{area_of, point_of, record_of};

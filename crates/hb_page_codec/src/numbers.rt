@@ -5,7 +5,7 @@ ghost use Rattle.hb_page_codec.specs.Reading.{ReadsAs, number_at};
 use hb_outside::{take_u16, take_u32, take_u64};
 
 /// A number of two bytes, and the bytes behind it.
-pub(crate) fn u16_of(bytes: &[u8]) -> Option<(u16, &[u8])>
+pub fn u16_of(bytes: &[u8]) -> Option<(u16, &[u8])>
     ensures { ReadsAs (λ x. (x.0, x.1.now)) result (number_at 2 bytes.now) }
 {
     let number = take_u16(bytes, 0)?;

@@ -11,7 +11,7 @@ use hb_space::{Area, Attributes, Body, Point, Record};
 /// A point of `k` values.
 pub fn point_of(k: Attributes, bytes: &[u8]) -> Option<(Point, &[u8])>
     ensures reads { ReadsAs (λ x. (x.0, x.1.now)) result (point_at k.number bytes.now) }
-    ensures count { IfSome result (λ x. length x.0 ≡ k) }
+    ensures count { IfSome result (λ x. length x.0 ≡ k.number) }
 {
     let mut values: ArrayVec<u64, KMAX> = ArrayVec::new();
     let mut rest = bytes;

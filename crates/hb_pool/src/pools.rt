@@ -58,7 +58,7 @@ impl Pool {
     pub fn get(&self, id: u32) -> Option<&[u8; PAGE]>
         ensures { option_copied result ≡ option_map (λ f. f.bytes) (frame_of self.now id) }
     {
-        match slot_of(self.used.as_slice(), id) {
+        match self.slot(id) {
             Some(slot) => Some(slot.bytes()),
             None => None,
         }
@@ -68,7 +68,7 @@ impl Pool {
     pub fn pins(&self, id: u32) -> Option<u8>
         ensures { result ≡ option_map (λ f. f.pins) (frame_of self.now id) }
     {
-        match slot_of(self.used.as_slice(), id) {
+        match self.slot(id) {
             Some(slot) => Some(slot.pins()),
             None => None,
         }
@@ -90,7 +90,7 @@ impl Pool {
         requires { IsSomeAnd (frame_of self.old id) (λ f. 0 < f.pins) }
         ensures { self.new ≡ in_place id unpinned self.old }
     {
-        let place = place_of(self.used.as_slice(), id);
+        let place = self.place(id);
         let slot = &mut self.used[place];
         slot.unpin();
         self.held -= one_if(!slot.must_stay());
@@ -135,7 +135,7 @@ impl Pool {
         requires { IsSomeAnd (frame_of self.old id) (λ f. IsTrue f.dirty) }
         ensures { self.new ≡ in_place id clean self.old }
     {
-        let place = place_of(self.used.as_slice(), id);
+        let place = self.place(id);
         let written = &mut self.used[place];
         written.clean();
         self.held -= one_if(!written.must_stay());
@@ -148,6 +148,20 @@ impl Pool {
         ensures pages { HaveWholePages self.now }
     {
         (FRAMES - self.held) as u32
+    }
+
+    // The page's frame, where it has one.
+    fn slot(&self, id: u32) -> Option<&Slot>
+        ensures { option_copied result ≡ frame_of self.now id }
+    {
+        slot_of(self.used.as_slice(), id)
+    }
+
+    // Where the page's frame stands, or how many there are where it has none.
+    fn place(&self, id: u32) -> usize
+        ensures { result ≡ position_or_len (has_id id) self.now }
+    {
+        place_of(self.used.as_slice(), id)
     }
 }
 

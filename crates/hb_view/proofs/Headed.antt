@@ -207,19 +207,19 @@ pub record HasParts (page : LivePage) (k : ℕ) (corners bytes : List ℕ) : Typ
   pub tree : tree_there k bytes ≡ page.frag
 
 -- the tree where it begins
-pub has_parts : (bytes : List ℕ) (s : LiveSpelled bytes) (n : ℕ) (corners from : List ℕ) → n ≡ get_or bytes 2 0 → corners ≡ drop 4 bytes → from ≡ drop (4 + 16 * n) bytes → HasParts s.page (get_or bytes 2 0) corners from
-has_parts bytes s n corners from en ec ef =
-    let k = s.fields.attributes in
-    let read : tree_at (get_or bytes 2 0) from ≡ Some (s.page.frag, s.fields.rest) =
-    ap (λ m. tree_at m from) k ∙ ap (tree_at (length s.page.area.lo)) (ef ∙ ap (λ m. drop (4 + 16 * m) bytes) (en ∙ k)) ∙ s.fields.tree in
-    let box : area_at (get_or bytes 2 0) corners ≡ Some (s.page.area, s.fields.behind) = ap (λ m. area_at m corners) k ∙ ap (area_at (length s.page.area.lo)) ec ∙ s.fields.area in
-    let has = has_corners (get_or bytes 2 0) corners (s.page.area, s.fields.behind) box in
+pub has_parts : (bytes : List ℕ) (s : LiveSpelled bytes) (k n : ℕ) (corners from : List ℕ) → k ≡ get_or bytes 2 0 → n ≡ k → corners ≡ drop 4 bytes → from ≡ drop (4 + 16 * n) bytes → HasParts s.page k corners from
+has_parts bytes s k n corners from ek en ec ef =
+    let same : k ≡ length s.page.area.lo = ek ∙ s.fields.attributes in
+    let read : tree_at k from ≡ Some (s.page.frag, s.fields.rest) =
+    ap (λ m. tree_at m from) same ∙ ap (tree_at (length s.page.area.lo)) (ef ∙ ap (λ m. drop (4 + 16 * m) bytes) (en ∙ same)) ∙ s.fields.tree in
+    let box : area_at k corners ≡ Some (s.page.area, s.fields.behind) = ap (λ m. area_at m corners) same ∙ ap (area_at (length s.page.area.lo)) ec ∙ s.fields.area in
+    let has = has_corners k corners (s.page.area, s.fields.behind) box in
     record {
-      attributes = k;
+      attributes = same;
       is_area = subst IsArea (sym has.corners) s.fields.is_area;
       room = has.room;
       area = has.corners;
-      there = has_value (tree_at (get_or bytes 2 0) from) (s.page.frag, s.fields.rest) read;
+      there = has_value (tree_at k from) (s.page.frag, s.fields.rest) read;
       tree = ap tree_or read;
     }
 

@@ -4,10 +4,10 @@ ghost use Rattle.hb_page_codec.specs.Reading.{ReadsAs};
 ghost use Rattle.hb_page_codec.specs.ReadingPages.{head_at, page_of_bytes};
 ghost use Rattle.hb_view.specs.Behind.{live_behind, fields_behind};
 
-use hb_space::Attributes;
 use crate::corners::behind_box;
 use crate::skipping::{behind_name, behind_tree};
 use hb_lemmas::is_zero;
+use hb_space::Attributes;
 use hb_space::form::{KMAX, PAGE};
 
 /// The level and the number of attributes, and the bytes behind the byte that is zero.

@@ -5,9 +5,9 @@ ghost use Rattle.hb_page_codec.specs.ReadingFields.{point_at, area_at, are_order
 ghost use Rattle.hb_view.specs.Behind.{behind};
 ghost use Rattle.hb_view.specs.Corners.{point_there};
 
-use hb_space::Attributes;
 use arrayvec::ArrayVec;
 use hb_page_codec::u64_of;
+use hb_space::Attributes;
 use hb_space::form::KMAX;
 
 /// A corner of a box, of which each value may be changed.

@@ -1,19 +1,11 @@
 //! Fields of a page's inside, from the front of bytes.
 ghost use Rattle.std.specs.Prelude.{◌≤◌, length, IfSome};
-ghost use Rattle.hb_page_codec.specs.Reading.{ReadsAs, number_at};
+ghost use Rattle.hb_page_codec.specs.Reading.{ReadsAs};
 ghost use Rattle.hb_page_codec.specs.ReadingFields.{axis_at, body_at, count_at};
 
+use hb_page_codec::u16_of;
 use hb_space::Attributes;
-use hb_outside::take_u16;
 use hb_space::form::BMAX;
-
-/// A number of two bytes, and the bytes behind it.
-fn u16_of(bytes: &[u8]) -> Option<(u16, &[u8])>
-    ensures { ReadsAs (λ x. (x.0, x.1.now)) result (number_at 2 bytes.now) }
-{
-    let number = take_u16(bytes, 0)?;
-    Some((number, &bytes[2..]))
-}
 
 /// How many records follow, each with `k` attributes: no more than there is room for.
 #[tactic(auto, unfolding(hb_page_codec::specs::ReadingFields::count_at))]

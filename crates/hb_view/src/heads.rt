@@ -1,5 +1,5 @@
 //! The fields of a page in front of its tree.
-ghost use Rattle.std.specs.Prelude.{◌≡◌, ◌↔◌, IfOk, IsSome, IsTrue};
+ghost use Rattle.std.specs.Prelude.{◌≡◌, ◌↔◌, slice_index, IfOk, IsSome, IsTrue};
 ghost use Rattle.hb_frag.specs.Grammar.{HasSpelling};
 ghost use Rattle.hb_frag.specs.declared.pages.Page.TheVariants.{Free};
 ghost use Rattle.hb_page_codec.specs.ReadingPages.{page_of_bytes};
@@ -29,13 +29,20 @@ pub(crate) fn level_of(bytes: &[u8]) -> u8
     bytes[1]
 }
 
+/// How many attributes the page in use has that the bytes spell.
+fn attributes_of(bytes: &[u8]) -> Attributes
+    requires { IsLive (page_spelled bytes.now) }
+    ensures { result.number ≡ slice_index bytes.now 2 }
+{
+    Attributes { number: bytes[2] }
+}
+
 /// The box of the page in use that the bytes spell.
 pub(crate) fn box_of(bytes: &[u8]) -> Area
     requires { IsLive (page_spelled bytes.now) }
     ensures { IsLiveAnd (page_spelled bytes.now) (λ page. result ≡ page.area) }
 {
-    let k = Attributes { number: bytes[2] };
-    match area_of(k, from_place(bytes, 4)) {
+    match area_of(attributes_of(bytes), from_place(bytes, 4)) {
         Some((area, _)) => area,
         None => unreachable!(),
     }
@@ -46,7 +53,7 @@ pub(crate) fn inside_of(bytes: &[u8]) -> Inside<'_>
     requires { IsLive (page_spelled bytes.now) }
     ensures { IsLiveAnd (page_spelled bytes.now) (λ page. HasInside page result) }
 {
-    let k = Attributes { number: bytes[2] };
+    let k = attributes_of(bytes);
     let corners = from_place(bytes, 4);
     let tree = TreeView {
         k,

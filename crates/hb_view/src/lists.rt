@@ -11,8 +11,8 @@ use crate::fields::body_of;
 use crate::skipping::behind_list;
 use crate::trees::ListView;
 use hb_page_codec::point_of;
-use hb_space::{Attributes, Point};
 use hb_space::form::BMAX;
+use hb_space::{Attributes, Point};
 
 /// A record as its point and the bytes of its body, and the bytes behind it.
 #[tactic(auto, unfolding(hb_page_codec::specs::ReadingFields::record_at))]

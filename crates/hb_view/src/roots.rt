@@ -3,10 +3,10 @@ ghost use Rattle.hb_page_codec.specs.Reading.{ReadsAs};
 ghost use Rattle.hb_view.specs.Roots.{sight_of, root_at};
 ghost use Rattle.hb_view.specs.Seen.{HasRoot};
 
-use hb_space::Attributes;
 use crate::fields::{axis_of, count_of};
 use crate::trees::TreeView;
 use hb_page_codec::{u32_of, u64_of};
+use hb_space::Attributes;
 
 /// What stands at the root of a tree.
 #[derive(Clone, Copy, Debug)]

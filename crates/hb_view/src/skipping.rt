@@ -6,11 +6,11 @@ ghost use Rattle.hb_page_codec.specs.ReadingPages.{tree_at};
 ghost use Rattle.hb_view.specs.Behind.{behind, record_behind, list_behind, cut_behind, name_behind, node_behind, rest_after};
 ghost use Rattle.hb_view.specs.Seen.{rest_seen};
 
-use hb_space::Attributes;
 use crate::corners::{from_place, point_read};
 use crate::fields::{axis_of, body_of, count_of};
 use crate::trees::TreeView;
 use hb_page_codec::{u32_of, u64_of};
+use hb_space::Attributes;
 
 /// The bytes behind a record whose point has `k` values.
 #[tactic(auto, unfolding(crate::specs::Behind::record_behind))]

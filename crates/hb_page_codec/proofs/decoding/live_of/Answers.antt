@@ -13,7 +13,7 @@ returns-in_err-frag-clause-memory c =
     let bytes = c.args.bytes.now in
     let head = c.in_ok-level in
     let area = c.in_ok-area in
-    let h = read_some _ c.head_of.result (head.level, head.k.number, head.rest) (head_at bytes) head.ensures.ok_part c.head_of.ensures in
+    let h = read_some _ c.head_of.result (head.level, head.k, head.rest) (head_at bytes) head.ensures.ok_part c.head_of.ensures in
     let a = read_some _ c.area_of.result (area.area, area.rest) (area_at head.k.number head.rest.now) area.ensures.ok_part c.area_of.ensures in
     rw (p.1, p.2) (wants_then c.in_err-frag.field-0.0 (IsCutOrRecords area.rest.now) (BeginsWithMany (1 ∷ bytes)) c.in_err-frag.ensures.memory
     (begins bytes head.level head.k.number head.rest.now area.area area.rest.now (λ i. omega (arith, c.type_inv.bytes i)) h a))

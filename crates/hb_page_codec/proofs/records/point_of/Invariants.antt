@@ -8,5 +8,5 @@ use Rattle.hb_page_codec.proofs.records.point_of.Given as goal
 abbrev pub invariant-loop : goal.invariant-loop
 invariant-loop l = record {
   count : length l.values.items ≡ l.counter;
-  read : with_front l.values.items (many_at (number_at 8) (l.k.number - l.counter) l.rest) ≡ point_at l.k.number l.bytes;
+  read : with_front l.values.items (many_at (number_at 8) (l.fn.k.number - l.counter) l.rest) ≡ point_at l.fn.k.number l.bytes;
 }
