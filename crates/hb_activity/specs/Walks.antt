@@ -1,7 +1,11 @@
 -- Where an activity walks, and in which mode it latches the pages on its way.
-use Rattle.std.specs.Prelude.{ℕ, ◌-◌, ◌==◌, Bool, true, false, ◌&&◌, if◌then◌else◌, List, length, slice_get, Option, Some, None}
+use Rattle.std.specs.Prelude.{◌≡◌, ℕ, ◌-◌, ◌==◌, Bool, true, false, ◌&&◌, if◌then◌else◌, List, length, slice_get, Option, Some, None}
 use Rattle.std.specs.Option.{option_map}
+use Rattle.hb_frag.specs.Leaves.{leaf_at}
+use Rattle.hb_frag.specs.declared.leaves.Leaf.TheVariants.{Records}
+use Rattle.hb_frag.specs.declared.pages.LivePage.{LivePage}
 use Rattle.hb_space.specs.Boxes.{Area}
+use Rattle.hb_space.specs.declared.records.Record.{Record}
 use Rattle.hb_set.specs.declared.commands.Command.{Command}
 use Rattle.hb_set.specs.declared.commands.Command.TheVariants.{Insert, Delete, Lookup, Search}
 use Rattle.hb_latch.specs.declared.modes.Mode.{Mode}
@@ -38,6 +42,10 @@ walk_point (SessionWalk line held rest found) = goal_of line.command rest
 walk_point (PosterWalk job held) = Some job.point
 walk_point (ConsolidatorWalk job held) = Some job.point
 walk_point other = None
+
+-- where a session's walk ends: the page's leaf at the point has records
+abbrev pub MeetsRecords : LivePage → List ℕ → Type 0
+MeetsRecords page p = (records : List Record) × (area : Area) × (leaf_at page p ≡ Some (record { leaf = Records records; area = area }))
 
 -- the page that a walk holds
 abbrev pub walk_held : Activity → Option ℕ

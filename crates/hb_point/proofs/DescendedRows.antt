@@ -13,7 +13,7 @@ use Rattle.hb_activity.specs.Classes.{HasLine}
 use Rattle.hb_activity.specs.Deciding.{NextIs, deed_of, given_pages, given_sight, joined_by, said_by}
 use Rattle.hb_activity.specs.Deeds.{Deed, takes_effect}
 use Rattle.hb_activity.specs.Passing.{PassesOn}
-use Rattle.hb_activity.specs.Walks.{IsSessionWalk, goal_of, walk_holding, walk_point}
+use Rattle.hb_activity.specs.Walks.{IsSessionWalk, MeetsRecords, goal_of, walk_holding, walk_point}
 use Rattle.hb_activity.specs.Wanting.{HasLeafAt}
 use Rattle.hb_frag.specs.declared.leaves.Leaf.TheVariants.{Records}
 use Rattle.hb_frag.specs.declared.pages.LivePage.{LivePage}
@@ -185,22 +185,18 @@ passes_so v meta state id next walks passes =
     (so v (λ page. MatchOption (goal_of parts.line.command parts.rest) ⊥ (λ p. PassesOn page p (at.SessionWalk parts.line (Some id) parts.rest parts.found) (deed_of walk next))) (RowAt meta walk id next)
     (λ page h. passed page (at.SessionWalk parts.line (Some id) parts.rest parts.found) (deed_of walk next) (goal_of parts.line.command parts.rest) _ h)) passes
 
--- its page has records at the point
-abbrev pub LeafHere : LivePage → List ℕ → Type 0
-LeafHere page p = (records : List Record) × (area : Area) × (leaf_at page p ≡ Some (record { leaf = Records records; area = area }))
-
-at_command : (v : Page) (meta : Meta) (command : Command) (rest : List Area) → IsLiveAnd v (λ page. FitsFile meta page × WalksInside page command) → IsLiveAnd v (λ page. MatchOption (goal_of command rest) ⊥ (LeafHere page)) → IsAtCommand meta v command
+at_command : (v : Page) (meta : Meta) (command : Command) (rest : List Area) → IsLiveAnd v (λ page. FitsFile meta page × WalksInside page command) → IsLiveAnd v (λ page. MatchOption (goal_of command rest) ⊥ (MeetsRecords page)) → IsAtCommand meta v command
 at_command (Live page) meta (Insert rec) rest asked there = record { made = asked.0; inside = asked.1; records = record { records = there.0; area = there.1; leaf = there.2 } }
 at_command (Live page) meta (Delete point) rest asked there = record { made = asked.0; inside = asked.1; records = record { records = there.0; area = there.1; leaf = there.2 } }
 at_command (Live page) meta (Lookup point) rest asked there = record { made = asked.0; inside = asked.1; records = record { records = there.0; area = there.1; leaf = there.2 } }
 at_command (Live page) meta (Search area) rest asked there = absurd asked.1
 at_command (Free next) meta command rest asked there = absurd asked
 
-pub at_records : (v : Page) (meta : Meta) (state back : Activity) (id : ℕ) → back ≡ state → IsSessionWalk state → IsLiveAnd v (IsAsked meta state id) → IsLiveAnd v (λ page. MatchOption (walk_point state) ⊥ (LeafHere page)) → IsAtRecords meta v back
+pub at_records : (v : Page) (meta : Meta) (state back : Activity) (id : ℕ) → back ≡ state → IsSessionWalk state → IsLiveAnd v (IsAsked meta state id) → IsLiveAnd v (λ page. MatchOption (walk_point state) ⊥ (MeetsRecords page)) → IsAtRecords meta v back
 at_records v meta state back id same walks asked there =
     let parts = walk_parts state walks in
     subst (IsAtRecords meta v) (sym same)
-    (subst (λ (a : Activity). IsLiveAnd v (IsAsked meta a id) → IsLiveAnd v (λ page. MatchOption (walk_point a) ⊥ (LeafHere page)) → IsAtRecords meta v a) (sym parts.is) (λ asked there. at_command v meta parts.line.command parts.rest asked there) asked there)
+    (subst (λ (a : Activity). IsLiveAnd v (IsAsked meta a id) → IsLiveAnd v (λ page. MatchOption (walk_point a) ⊥ (MeetsRecords page)) → IsAtRecords meta v a) (sym parts.is) (λ asked there. at_command v meta parts.line.command parts.rest asked there) asked there)
 
 -- so it does there what the command is
 does_one : (page : LivePage) (after : Activity) (deed : Deed) (command : Command) (rest : List Area) (s : List (ℕ × LivePage)) (meta : Meta) (line : Line) (id : ℕ) → DoesThere (given_sight meta s None) line command id page deed → MatchOption (goal_of command rest) ⊥ (λ p. PassesOn page p after deed ⊎ DoesThere (given_sight meta s None) line command id page deed)

@@ -5,7 +5,7 @@ ghost use Rattle.std.specs.Prelude.{◌≡◌, ℕ, ◌≤◌, ◌↔◌, ◌*�
 ghost use Rattle.hb_activity.specs.Deciding.{NextIs, deed_of, given_pages, given_sight};
 ghost use Rattle.hb_activity.specs.Walks.{IsSessionWalk};
 ghost use Rattle.hb_activity.specs.declared.deciding.Fate.TheVariants.{GoesOn, TakesEffect};
-ghost use Rattle.hb_frag.specs.Leaves.{weight_of};
+ghost use Rattle.hb_frag.specs.Leaves.{leaf_at, weight_of};
 ghost use Rattle.hb_layout.specs.Limits.{IsLayout};
 ghost use Rattle.hb_ops.specs.Recording.{del_page, put_page};
 ghost use Rattle.hb_ops.specs.Sound.{FitsFile};
@@ -15,6 +15,7 @@ ghost use Rattle.hb_point.specs.Doing.{HasRecordsIn, DoesIn, IsAtCommand, IsAtRe
 ghost use Rattle.hb_point.specs.SessionRows.{PointRow};
 ghost use Rattle.hb_set.specs.declared.commands.Command.TheVariants as commands;
 ghost use Rattle.hb_space.specs.declared.records.Record.{Record as Entry};
+ghost use Rattle.hb_view.specs.Naming.{CountsLeaf};
 ghost use Rattle.hb_view.specs.Views.{IsLiveAnd};
 
 use hb_activity::{Activity, Job, JobKind, Next};
@@ -115,6 +116,14 @@ fn joins(number: u32, session: u8, rec: Record, id: u32, room: bool) -> Next
     Next::moves(Activity::SessionSplit { line, held: id })
 }
 
+/// How many records stand in the leaf at the point, in a page whose leaf there has records.
+fn count_at(view: &PageView<'_>, meta: &Meta, point: &Point) -> u16
+    requires { HasRecordsIn meta.now view.now point.now }
+    ensures { IsLiveAnd view.now (λ page. CountsLeaf (leaf_at page point.now) result) }
+{
+    view.count_at(point)
+}
+
 /// Whether the page has room for a record of the point, which isn't there. One more record weighs one more, but the first
 /// one of a leaf.
 fn has_room(view: &PageView<'_>, meta: &Meta, point: &Point) -> bool
@@ -124,7 +133,7 @@ fn has_room(view: &PageView<'_>, meta: &Meta, point: &Point) -> bool
         IsTrue result ↔ (weight_of (put_page rec page).frag ≤ meta.now.dcap)) }
 {
     let capacity = u32::from(meta.dcap);
-    if view.count_at(point) == 0 {
+    if count_at(view, meta, point) == 0 {
         view.weight() <= capacity
     } else {
         view.weight() < capacity
@@ -171,7 +180,7 @@ fn is_thin_without(view: &PageView<'_>, meta: &Meta, point: &Point) -> bool
     ensures { IsLiveAnd view.now (λ page. result ≡ nat_le (4 * weight_of (del_page point.now page).frag) meta.now.dcap) }
 {
     let quarter = u32::from(meta.dcap / 4);
-    if view.count_at(point) > 1 {
+    if count_at(view, meta, point) > 1 {
         view.weight() <= quarter + 1
     } else {
         view.weight() <= quarter

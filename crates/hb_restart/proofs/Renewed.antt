@@ -35,9 +35,6 @@ module _ (turn next : ℕ) (said meta : Meta) (small : turn ≤ 3) (is : next �
   still_cleared d opens c left =
       still_place turn next said meta small is touched s left.base c (slot_offset next + 1) 40 (let h = (areas turn next meta small is).place in omega (arith, h)) (opens left.base left.image) left.elsewhere left.newest
 
-  abbrev P : List ℕ → Type 0
-  P = StillOpens turn said meta touched s
-
   -- the page that the log has is the file's
   the_page : (b : List ℕ) → StillOpens turn said meta touched s b → (id : ℕ) (page : Page) → page_of s id ≡ Some page → (o : Option Page) → touched id ≡ o → IsPageIn b meta id o page
   the_page b opens id page is o is_touched =
@@ -52,11 +49,11 @@ module _ (turn next : ℕ) (said meta : Meta) (small : turn ≤ 3) (is : next �
   -- a page that is written to its place
   module _ {T E : Type 0} (r : Result T E) (old new : DiskModel) (is_old : IsDisk old) (here : IsHere old turn said meta touched s) (at : ℕ) (first : 1 ≤ at)
       (some : touched at ≡ None → ⊥) (ticks : Ticks r old new) (run : Becomes (Torn (page_offset meta at) PAGE) old new) where
-    placed_images : (c : List ℕ) → new.Image c → P c
+    placed_images : (c : List ℕ) → new.Image c → StillOpens turn said meta touched s c
     placed_images c image = let was = run.crash c image in still_placed was.0 c at first some (here.images was.0 was.1) was.2
 
     pub placed_moments : Leaves old new (StillOpens turn said meta touched s)
-    placed_moments = Leaves-call r old old new P (Leaves-start old P is_old here.images) ticks placed_images
+    placed_moments = Leaves-call r old old new (StillOpens turn said meta touched s) (Leaves-start old (StillOpens turn said meta touched s) is_old here.images) ticks placed_images
 
     placed_here : IsHere new turn said meta touched s
     placed_here = record {
@@ -116,7 +113,7 @@ module _ (turn next : ℕ) (said meta : Meta) (small : turn ≤ 3) (is : next �
 
     pub cleared_moments : Leaves old new (StillOpens turn said meta touched s)
     cleared_moments =
-        Leaves-weaker old new (ClearLeaves old turn said next) P (still_cleared old placed.here.images)
+        Leaves-weaker old new (ClearLeaves old turn said next) (StillOpens turn said meta touched s) (still_cleared old placed.here.images)
         (at_value old.told (λ b. IsNewest b turn said → Leaves old new (ClearLeaves old turn said next)) clears.before clears.was moments (placed.here.images clears.before (is_old.as_read clears.before clears.was)).by.newest)
 
     -- the place of a page
@@ -131,7 +128,7 @@ module _ (turn next : ℕ) (said meta : Meta) (small : turn ≤ 3) (is : next �
       placed = record {
         here = record {
           told = Becomes-tells (Torn (slot_offset next + 1) 40) old new run placed.here.told;
-          images = now_has old new P is_new cleared_moments;
+          images = now_has old new (StillOpens turn said meta touched s) is_new cleared_moments;
           places = synced;
         };
         there = λ id page most is b told. let S : List ℕ → Type 0 = λ l. SpellsPage l page in

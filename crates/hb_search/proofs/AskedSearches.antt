@@ -6,7 +6,7 @@ use Rattle.std.specs.declared.result.Result.{Result}
 use Rattle.std.specs.declared.result.Result.TheVariants.{Ok, Err}
 use Rattle.hb_activity.specs.Deciding.{deed_of, given_pages, given_sight}
 use Rattle.hb_activity.specs.Passing.{PassesOn, posts_owed}
-use Rattle.hb_activity.specs.Walks.{goal_of}
+use Rattle.hb_activity.specs.Walks.{MeetsRecords, goal_of}
 use Rattle.hb_activity.specs.declared.activities.Activity.{Activity}
 use Rattle.hb_activity.specs.declared.activities.Activity.TheVariants as at
 use Rattle.hb_activity.specs.declared.deciding.Fate.TheVariants as fates
@@ -19,7 +19,7 @@ use Rattle.hb_layout.specs.declared.meta.Meta.{Meta}
 use Rattle.hb_lemmas.proofs.Lists.{same_ends}
 use Rattle.hb_search.specs.Gathering.{GathersBy, GoesOnBy, IsLeafAhead, SearchesBy, boxes_then}
 use Rattle.hb_search.specs.SearchRows.{Gathers}
-use Rattle.hb_search.specs.Searching.{IsGathering, MeetsRecords, SearchRow, StaysGathering}
+use Rattle.hb_search.specs.Searching.{IsGathering, SearchRow, StaysGathering}
 use Rattle.hb_set.specs.declared.scripts.Line.{Line}
 use Rattle.hb_space.specs.Boxes.{Area, common_area, holds, pieces_outside}
 use Rattle.hb_space.specs.declared.records.Record.{Record}

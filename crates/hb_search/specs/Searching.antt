@@ -1,7 +1,5 @@
 -- What the decider of a search's step is given, and what it may rely on.
-use Rattle.std.specs.Prelude.{◌≡◌, ◌≢◌, ◌⊎◌, ℕ, List, Some, All, AllPairs, MatchOption}
-use Rattle.hb_frag.specs.Leaves.{leaf_at}
-use Rattle.hb_frag.specs.declared.leaves.Leaf.TheVariants.{Records}
+use Rattle.std.specs.Prelude.{◌≡◌, ◌≢◌, ◌⊎◌, ℕ, List, All, AllPairs, MatchOption}
 use Rattle.hb_frag.specs.declared.pages.LivePage.{LivePage}
 use Rattle.hb_set.specs.declared.commands.Command.{Command}
 use Rattle.hb_set.specs.declared.commands.Command.TheVariants.{Insert, Delete, Lookup, Search}
@@ -10,7 +8,7 @@ use Rattle.hb_activity.specs.declared.activities.Activity.TheVariants as at
 use Rattle.hb_activity.specs.Deeds.{Deed}
 use Rattle.hb_activity.specs.Passing.{PassesOn}
 use Rattle.hb_activity.specs.Sights.{Sight}
-use Rattle.hb_activity.specs.Walks.{goal_of}
+use Rattle.hb_activity.specs.Walks.{MeetsRecords, goal_of}
 use Rattle.hb_search.specs.SearchRows.{Gathers}
 use Rattle.hb_space.specs.Boxes.{Area, Disjoint, Holds}
 use Rattle.hb_space.specs.declared.records.Record.{Record}
@@ -50,9 +48,6 @@ StaysGathering (at.SessionWalk line held rest found) = IsGathering rest found
 StaysGathering other = Unit {0}
 
 -- Memory is wanted only where the leaf at the point has records.
-abbrev pub MeetsRecords : LivePage → List ℕ → Type 0
-MeetsRecords page p = (records : List Record) × (area : Area) × (leaf_at page p ≡ Some (record { leaf = Records records; area = area }))
-
 abbrev pub GathersNow : Activity → LivePage → Type 0
 GathersNow (at.SessionWalk line held rest found) page = MatchOption (goal_of line.command rest) ⊥ (MeetsRecords page)
 GathersNow other page = ⊥

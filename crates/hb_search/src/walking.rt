@@ -2,11 +2,11 @@
 //! gathers there.
 
 ghost use Rattle.std.specs.Prelude.{◌≡◌, ◌-◌, List, ℕ, Some, IfOk, OnErr, length, slice_get, MatchOption};
-ghost use Rattle.hb_activity.specs.Walks.{goal_of};
+ghost use Rattle.hb_activity.specs.Walks.{MeetsRecords, goal_of};
 ghost use Rattle.hb_layout.specs.Limits.{IsLayout};
 ghost use Rattle.hb_ops.specs.Sound.{FitsFile};
 ghost use Rattle.hb_search.specs.Gathering.{SearchesBy};
-ghost use Rattle.hb_search.specs.Searching.{IsGathering, MeetsRecords, SearchesInside, StaysGathering};
+ghost use Rattle.hb_search.specs.Searching.{IsGathering, SearchesInside, StaysGathering};
 ghost use Rattle.hb_set.specs.declared.commands.Command.{Command as OneCommand};
 ghost use Rattle.hb_space.specs.Boxes.{Area as Extent, Holds, IsArea};
 

@@ -235,7 +235,7 @@ module _ (m : Machine) (actor : ℕ) (may : ℕ → Type 0) (fetched : StoreStat
     made = fresh_page row.leaves.cuts row.page row.leaves.part
 
     abbrev changed : List (ℕ × Page)
-    changed = (held, Live source) ∷ (row.leaves.fresh, Live made) ∷ []
+    changed = split_pages held row.leaves.fresh row.leaves.path row.leaves.cuts row.page (Some row.leaves.part)
 
     changed_are : (change_here fetched split).pages ≡ changed
     changed_are =

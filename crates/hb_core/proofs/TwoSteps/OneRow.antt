@@ -25,7 +25,7 @@ use Rattle.hb_activity.specs.declared.activities.Activity.{Activity}
 use Rattle.hb_activity.specs.declared.activities.Activity.TheVariants as at
 use Rattle.hb_activity.specs.Deeds.{Deed, does, takes_effect}
 use Rattle.hb_activity.specs.Passing.{PassesOn, PartLeavesTo, corner_of}
-use Rattle.hb_activity.specs.Walks.{goal_of}
+use Rattle.hb_activity.specs.Walks.{MeetsRecords, goal_of}
 use Rattle.hb_consol.specs.ConsolidatorRows.{ArrivesToMerge, ConsolidatorPasses, children_of, first_one}
 use Rattle.hb_core.proofs.TwoSteps.OneMerge.{one_decision, one_keep, one_scan, one_try, same_scan}
 use Rattle.hb_core.proofs.TwoSteps.OnePiece.{one_number}
@@ -41,7 +41,6 @@ use Rattle.hb_point.specs.SessionRows.{merges_due, DoesThere}
 use Rattle.hb_point.specs.SplitRows.{PutsInHalf, Splits}
 use Rattle.hb_poster.specs.PosterRows.{Arrives, DoesPlan, GrowsFile, GrowsNot, LooksAgain, LooksAtChild, MayGrow, PosterPasses, after_look}
 use Rattle.hb_search.specs.SearchRows.{Gathers, SearchGoesOn}
-use Rattle.hb_search.specs.Searching.{MeetsRecords}
 use Rattle.hb_space.specs.Boxes.{Area, holds}
 use Rattle.hb_split.specs.Choosing.{AreChosen, IsChosen}
 use Rattle.hb_store.specs.States.{StoreState, in_memory}

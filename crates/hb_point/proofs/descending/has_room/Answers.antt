@@ -1,12 +1,6 @@
 use Rattle.std.proofs.Common.{nat_le, nat_lt}
-use Rattle.hb_point.proofs.ViewedRows.{cut_there, first_has_room, held_there, more_have_room, test_below, test_of_most}
+use Rattle.hb_point.proofs.ViewedRows.{first_has_room, more_have_room, test_below, test_of_most}
 use Rattle.hb_point.proofs.descending.has_room.Goals as goal
-
-pub count_at-requires-clause-well_cut : goal.count_at-requires-clause-well_cut
-count_at-requires-clause-well_cut c = cut_there c.args.view.now c.args.meta.now c.args.point.now c.requires.given
-
-pub count_at-requires-clause-held : goal.count_at-requires-clause-held
-count_at-requires-clause-held c = held_there c.args.view.now c.args.meta.now c.args.point.now c.requires.given
 
 pub returns-then-count_at-eq0 : goal.returns-then-count_at-eq0
 returns-then-count_at-eq0 c =

@@ -1,12 +1,6 @@
 use Rattle.std.proofs.Common.{ℕ, ◌+◌, ◌/◌, nat_le, ap}
-use Rattle.hb_point.proofs.ViewedRows.{cut_there, held_there, many_thin, one_thin, test_of_most}
+use Rattle.hb_point.proofs.ViewedRows.{many_thin, one_thin, test_of_most}
 use Rattle.hb_point.proofs.descending.is_thin_without.Goals as goal
-
-pub count_at-requires-clause-well_cut : goal.count_at-requires-clause-well_cut
-count_at-requires-clause-well_cut c = cut_there c.args.view.now c.args.meta.now c.args.point.now c.requires.given
-
-pub count_at-requires-clause-held : goal.count_at-requires-clause-held
-count_at-requires-clause-held c = held_there c.args.view.now c.args.meta.now c.args.point.now c.requires.given
 
 pub returns-then-count_at-gt1 : goal.returns-then-count_at-gt1
 returns-then-count_at-gt1 c =

@@ -1,4 +1,4 @@
-use Rattle.std.proofs.Common.{refl, arith}
+use Rattle.std.proofs.Common.{arith}
 use Rattle.hb_view.proofs.Headed.{live_spelled, live_tells, is_box, has_box}
 use Rattle.hb_view.proofs.heads.box_of.Goals as goal
 
