@@ -1,6 +1,7 @@
 //! Texts by hand: what is read of them, and the first line that breaks a rule.
 
 use hb_set::{Command, Line, Script};
+use hb_space::Attributes;
 use hb_text::{NumberFault, TextError, TextRule, read_commands, read_number};
 use std::alloc::Global;
 
@@ -37,6 +38,7 @@ fn answer_to(alloc: Global, attributes: u8, step_lines: bool, text: &[u8]) -> Op
     if attributes == 0 || attributes > 4 {
         return None;
     }
+    let attributes = Attributes { number: attributes };
     match read_commands(alloc, text, attributes, step_lines) {
         Ok(script) => Some(Ok((script.lines.as_slice().len(), script.steps.as_slice().len()))),
         Err(TextError::Bad(bad)) => Some(Err((bad.line, bad.rule))),
@@ -194,7 +196,7 @@ fn limits(rt: HostRuntime) {
 
 /// Whether the steps of a text of one attribute are these.
 fn has_steps(alloc: Global, text: &str, steps: &[u8]) -> bool {
-    match read_commands(alloc, text.as_bytes(), 1, true) {
+    match read_commands(alloc, text.as_bytes(), Attributes { number: 1 }, true) {
         Ok(script) => script.steps.as_slice() == steps,
         Err(_) => false,
     }
@@ -256,7 +258,7 @@ fn has_line(
 
 #[test]
 fn a_script_is_read(rt: HostRuntime) {
-    let Ok(script) = read_commands(rt.alloc(), SCRIPT, 2, false) else {
+    let Ok(script) = read_commands(rt.alloc(), SCRIPT, Attributes { number: 2 }, false) else {
         panic!(rt; "no script");
     };
     assert_eq!(rt; script.lines.as_slice().len(), 4);

@@ -21,23 +21,15 @@ impl Draws {
         Draws { state }
     }
 
-    // The next draw.
-    #[tactic(auto, unfolding(crate::specs::Draws::next_state))]
-    fn next(&mut self) -> u32
-        ensures state { self.new.state ≡ next_state self.old.state }
-        ensures value { result ≡ draw self.old.state }
-    {
-        self.state = self.state.wrapping_mul(MULTIPLIER).wrapping_add(INCREMENT);
-        (self.state >> 32) as u32
-    }
-
     // The next draw, brought below a limit.
+    #[tactic(auto, unfolding(crate::specs::Draws::next_state))]
     pub(crate) fn below(&mut self, limit: u32) -> u32
         requires { 0 < limit }
         ensures state { self.new.state ≡ next_state self.old.state }
         ensures value { result ≡ draw self.old.state % limit }
         ensures small { result < limit }
     {
-        self.next() % limit
+        self.state = self.state.wrapping_mul(MULTIPLIER).wrapping_add(INCREMENT);
+        (self.state >> 32) as u32 % limit
     }
 }

@@ -1,6 +1,7 @@
 //! Texts by hand and by a plain program. Where something is `None`, memory was refused.
 
 use hb_gen::generate;
+use hb_space::Attributes;
 use std::alloc::Global;
 
 /// A first state, how many lines and attributes, and the text.
@@ -50,6 +51,7 @@ fn text_of(alloc: Global, state: u64, lines: u32, attributes: u8) -> Option<Vec<
     if lines > 1_000_000 || attributes == 0 || attributes > 4 {
         return None;
     }
+    let attributes = Attributes { number: attributes };
     generate(alloc, state, lines, attributes).ok()
 }
 

@@ -1,5 +1,4 @@
-ghost use Rattle.std.specs.Prelude.{◌≡◌, ◌<◌, length};
-ghost use Rattle.hb_space.specs.Points.{IsAttributeCount};
+ghost use Rattle.std.specs.Prelude.{◌≡◌, length};
 ghost use Rattle.hb_text.specs.StepWords.{session_of};
 ghost use Rattle.hb_text.specs.Operands.{operand_count, operands_read, command_read};
 
@@ -9,7 +8,7 @@ use crate::rules::TextRule;
 use crate::verbs::{Verb, named_verb, wanted_operands};
 use crate::words::Words;
 use hb_set::Command;
-use hb_space::Record;
+use hb_space::{Attributes, Record};
 
 /// The session that a word names: a number from 1 to 16.
 pub(crate) fn read_session(word: &[u8]) -> Option<u8>
@@ -23,10 +22,13 @@ pub(crate) fn read_session(word: &[u8]) -> Option<u8>
 
 /// The command of a verb, whose words are those that are left.
 #[tactic(auto, unfolding(crate::specs::Operands::operands_read))]
-fn read_operands(verb: Verb, attributes: u8, words: &mut Words<'_>) -> Result<Command, TextRule>
-    requires attributes { IsAttributeCount attributes }
-    requires count { length words.old ≡ operand_count verb attributes }
-    ensures { result ≡ operands_read verb attributes words.old }
+fn read_operands(
+    verb: Verb,
+    attributes: Attributes,
+    words: &mut Words<'_>,
+) -> Result<Command, TextRule>
+    requires { length words.old ≡ operand_count verb attributes.number }
+    ensures { result ≡ operands_read verb attributes.number words.old }
 {
     match verb {
         Verb::Insert => {
@@ -42,9 +44,11 @@ fn read_operands(verb: Verb, attributes: u8, words: &mut Words<'_>) -> Result<Co
 
 /// The command that the words behind the session say.
 #[tactic(auto, unfolding(crate::specs::Operands::command_read))]
-pub(crate) fn read_command(attributes: u8, words: &mut Words<'_>) -> Result<Command, TextRule>
-    requires { IsAttributeCount attributes }
-    ensures { result ≡ command_read attributes words.old }
+pub(crate) fn read_command(
+    attributes: Attributes,
+    words: &mut Words<'_>,
+) -> Result<Command, TextRule>
+    ensures { result ≡ command_read attributes.number words.old }
 {
     let Some(word) = words.next_word() else {
         return Err(TextRule::BadVerb);

@@ -1,6 +1,5 @@
-ghost use Rattle.std.specs.Prelude.{◌≡◌, ◌==◌, ◌<◌, ◌≤◌, ◌∷◌, if◌then◌else◌, length, position, OnOk, Err};
+ghost use Rattle.std.specs.Prelude.{◌≡◌, ◌==◌, ◌<◌, ◌≤◌, ◌∷◌, if◌then◌else◌, length, position, Err};
 ghost use Rattle.std.specs.List.{list_all, list_any};
-ghost use Rattle.hb_space.specs.Points.{IsAttributeCount};
 ghost use Rattle.hb_text.specs.Grammar.{words_read, line_read, says_steps, SaysLine, SaysSteps};
 ghost use Rattle.hb_text.specs.Words.{lines_of, words_of, is_printable, is_empty};
 ghost use Rattle.hb_text.specs.StepWords.{steps_read};
@@ -10,6 +9,7 @@ use crate::rules::TextRule;
 use crate::steps::{STEPS, left_behind};
 use crate::words::Words;
 use hb_set::Line;
+use hb_space::Attributes;
 use hb_space::form::LINE;
 
 /// The greatest number of lines.
@@ -53,6 +53,18 @@ fn has_empty_word(line: &[u8]) -> bool
     false
 }
 
+/// A line's place in the text, and what it may say there.
+#[derive(Clone, Copy)]
+pub(crate) struct Place {
+    /// The number of the line.
+    pub(crate) number: u32,
+    /// How many steps were taken before it.
+    pub(crate) taken: usize,
+    pub(crate) attributes: Attributes,
+    pub(crate) step_lines: bool,
+    ghost few: { taken ≤ 10000000 },
+}
+
 /// What a line says.
 #[derive(Drop)]
 pub(crate) enum Meaning {
@@ -66,14 +78,13 @@ pub(crate) enum Meaning {
 
 /// What the words behind `step` say: steps, where step lines are allowed and no more are said than
 /// the schedule may still take.
-fn read_step_line(allowed: bool, taken: usize, words: &mut Words<'_>) -> Result<Meaning, TextRule>
-    requires { taken ≤ 10000000 }
-    ensures { SaysSteps words.old result (if allowed then says_steps (steps_read taken words.old) else Err TextRule.BadStep) }
+fn read_step_line(place: Place, words: &mut Words<'_>) -> Result<Meaning, TextRule>
+    ensures { SaysSteps words.old result (if place.step_lines then says_steps (steps_read place.taken words.old) else Err TextRule.BadStep) }
 {
-    if !allowed || words.is_done() {
+    if !place.step_lines || words.is_done() {
         return Err(TextRule::BadStep);
     }
-    match left_behind(words, STEPS - taken) {
+    match left_behind(words, STEPS - place.taken) {
         Some(_) => Ok(Meaning::Steps),
         None => Err(TextRule::BadStep),
     }
@@ -81,50 +92,33 @@ fn read_step_line(allowed: bool, taken: usize, words: &mut Words<'_>) -> Result<
 
 /// What the words of a line say, or the first rule that they break.
 #[tactic(auto, unfolding(crate::specs::Grammar::words_read))]
-fn read_words(
-    allowed: bool,
-    attributes: u8,
-    taken: usize,
-    number: u32,
-    line: &[u8],
-) -> Result<Meaning, TextRule>
-    requires attributes { IsAttributeCount attributes }
-    requires taken { taken ≤ 10000000 }
-    ensures { SaysLine (words_of line.now) result (words_read allowed attributes taken number (words_of line.now)) }
+fn read_words(place: Place, line: &[u8]) -> Result<Meaning, TextRule>
+    ensures { SaysLine (words_of line.now) result (words_read place.step_lines place.attributes.number place.taken place.number (words_of line.now)) }
 {
     let mut words = Words::of_line(line);
     let Some(first) = words.next_word() else {
         return Err(TextRule::BadSession);
     };
     if first == b"step".as_slice() {
-        return read_step_line(allowed, taken, &mut words);
+        return read_step_line(place, &mut words);
     }
     let Some(session) = read_session(first) else {
         return Err(TextRule::BadSession);
     };
-    let command = read_command(attributes, &mut words)?;
+    let command = read_command(place.attributes, &mut words)?;
     Ok(Meaning::Command(Line {
-        number,
+        number: place.number,
         session,
         command,
     }))
 }
 
-/// What a line says, or the first rule that it breaks. So many steps were taken before it.
+/// What the line of this place says, or the first rule that it breaks.
 #[tactic(auto, unfolding(crate::specs::Grammar::line_read))]
-pub(crate) fn read_line(
-    allowed: bool,
-    attributes: u8,
-    taken: usize,
-    number: u32,
-    line: &[u8],
-) -> Result<Meaning, TextRule>
-    requires attributes { IsAttributeCount attributes }
-    requires taken { taken ≤ 10000000 }
-    ensures says { SaysLine (words_of line.now) result (line_read allowed attributes taken number line.now) }
-    ensures number { OnOk result (number ≤ 1000000) }
+pub(crate) fn read_line(place: Place, line: &[u8]) -> Result<Meaning, TextRule>
+    ensures { SaysLine (words_of line.now) result (line_read place.step_lines place.attributes.number place.taken place.number line.now) }
 {
-    if number > LINES {
+    if place.number > LINES {
         return Err(TextRule::TooMany);
     }
     if line.is_empty() {
@@ -139,5 +133,5 @@ pub(crate) fn read_line(
     if has_empty_word(line) {
         return Err(TextRule::BadSpacing);
     }
-    read_words(allowed, attributes, taken, number, line)
+    read_words(place, line)
 }

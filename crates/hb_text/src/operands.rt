@@ -1,5 +1,4 @@
-ghost use Rattle.std.specs.Prelude.{◌≡◌, ◌*◌, ◌<◌, ◌≤◌, length, take, drop, Ok, Err, MatchResult, IfOk, OnOk};
-ghost use Rattle.hb_space.specs.Points.{IsAttributeCount};
+ghost use Rattle.std.specs.Prelude.{◌≡◌, ◌*◌, ◌≤◌, length, take, drop, Ok, Err, MatchResult, IfOk, OnOk};
 ghost use Rattle.hb_text.specs.Numbers.{number_read};
 ghost use Rattle.hb_text.specs.Operands.{or_fault, values_read, body_read, lows, highs, box_read, box_words_read};
 
@@ -8,7 +7,7 @@ use crate::rules::TextRule;
 use crate::words::Words;
 use arrayvec::ArrayVec;
 use hb_space::form::{BMAX, KMAX};
-use hb_space::{Area, Body, Point};
+use hb_space::{Area, Attributes, Body, Point};
 
 /// The greatest number of values of a command: two for each attribute.
 pub(crate) const VALUES: usize = 8;
@@ -44,13 +43,12 @@ pub(crate) fn read_values(
 }
 
 /// The point that the next words say, one for each attribute.
-pub(crate) fn read_point(attributes: u8, words: &mut Words<'_>) -> Result<Point, TextRule>
-    requires attributes { IsAttributeCount attributes }
-    requires enough { attributes ≤ length words.old }
-    ensures point { result ≡ values_read (take attributes words.old) }
-    ensures rest { OnOk result (words.new ≡ drop attributes words.old) }
+pub(crate) fn read_point(attributes: Attributes, words: &mut Words<'_>) -> Result<Point, TextRule>
+    requires { attributes.number ≤ length words.old }
+    ensures point { result ≡ values_read (take attributes.number words.old) }
+    ensures rest { OnOk result (words.new ≡ drop attributes.number words.old) }
 {
-    let values = read_values(words, usize::from(attributes))?;
+    let values = read_values(words, usize::from(attributes.number))?;
     Ok(Point::new(values.as_slice()))
 }
 
@@ -94,11 +92,10 @@ fn box_of(values: &[u64]) -> Result<Area, TextRule>
 }
 
 /// The box that the next words say, two for each attribute.
-pub(crate) fn read_box(attributes: u8, words: &mut Words<'_>) -> Result<Area, TextRule>
-    requires attributes { IsAttributeCount attributes }
-    requires enough { 2 * attributes ≤ length words.old }
-    ensures { result ≡ box_words_read (take (2 * attributes) words.old) }
+pub(crate) fn read_box(attributes: Attributes, words: &mut Words<'_>) -> Result<Area, TextRule>
+    requires { 2 * attributes.number ≤ length words.old }
+    ensures { result ≡ box_words_read (take (2 * attributes.number) words.old) }
 {
-    let values = read_values(words, 2 * usize::from(attributes))?;
+    let values = read_values(words, 2 * usize::from(attributes.number))?;
     box_of(values.as_slice())
 }

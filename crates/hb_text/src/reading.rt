@@ -1,17 +1,16 @@
-ghost use Rattle.std.specs.Prelude.{◌≡◌, ℕ, ◌+◌, ◌<◌, ◌≤◌, false, List, [], ◌∷◌, ◌++◌, length, drop, Some, All, OnOk, IfOk};
-ghost use Rattle.hb_space.specs.Points.{IsAttributeCount};
+ghost use Rattle.std.specs.Prelude.{◌≡◌, ℕ, ◌+◌, ◌≤◌, false, List, [], ◌∷◌, ◌++◌, length, drop, Some, All, OnOk, IfOk};
 ghost use Rattle.hb_set.specs.Scripts.{IsScriptFor};
 ghost use Rattle.hb_text.specs.Grammar.{line_read, text_read};
 ghost use Rattle.hb_text.specs.StepWords.{steps_of};
 ghost use Rattle.hb_text.specs.Words.{words_of};
 ghost use Rattle.hb_text.specs.Reading.{ReadsScript, AddsLine, WantsMemory};
 
-use crate::lines::{Meaning, first_line, read_line};
+use crate::lines::{Meaning, Place, first_line, read_line};
 use crate::rules::{BadLine, TextError};
 use crate::steps::push_steps;
 use crate::words::Words;
 use hb_set::{Line, Lines, Script, Steps};
-use hb_space::{Actor, NoMemory};
+use hb_space::{Actor, Attributes, NoMemory};
 use std::alloc::Global;
 
 /// Adds the steps of a step line.
@@ -28,19 +27,23 @@ fn add_steps(steps: &mut Vec<Actor>, line: &[u8]) -> Result<(), NoMemory>
 fn add_line(
     lines: &mut Vec<Line>,
     steps: &mut Vec<Actor>,
-    allowed: bool,
-    attributes: u8,
+    step_lines: bool,
+    attributes: Attributes,
     number: u32,
     line: &[u8],
 ) -> Result<(), TextError>
-    requires attributes { IsAttributeCount attributes }
-    requires taken { length steps.old.items ≤ 10000000 }
+    requires { length steps.old.items ≤ 10000000 }
     ensures adds { AddsLine number lines.old.items lines.new.items steps.old.items steps.new.items result
-        (line_read allowed attributes (length steps.old.items) number line.now) }
-    ensures number { OnOk result (number ≤ 1000000) }
+        (line_read step_lines attributes.number (length steps.old.items) number line.now) }
     ensures taken { OnOk result (length steps.new.items ≤ 10000000) }
 {
-    match read_line(allowed, attributes, steps.len(), number, line) {
+    let place = Place {
+        number,
+        taken: steps.len(),
+        attributes,
+        step_lines,
+    };
+    match read_line(place, line) {
         Ok(Meaning::Nothing) => Ok(()),
         Ok(Meaning::Command(said)) => {
             lines.push(said)?;
@@ -57,17 +60,16 @@ fn add_line(
 pub fn read_commands(
     alloc: Global,
     text: &[u8],
-    attributes: u8,
+    attributes: Attributes,
     step_lines: bool,
 ) -> Result<Script, TextError>
-    requires { IsAttributeCount attributes }
-    ensures exact { ReadsScript result (text_read step_lines attributes text.now) }
-    ensures memory { WantsMemory step_lines attributes text.now result }
+    ensures exact { ReadsScript result (text_read step_lines attributes.number text.now) }
+    ensures memory { WantsMemory step_lines attributes.number text.now result }
     ensures no_steps { IfOk result (λ script. step_lines ≡ false → script.steps ≡ []) }
     ensures actors { IfOk result (λ script. All (λ a. (1 ≤ a) × (a ≤ 19)) script.steps) }
     ensures few_steps { IfOk result (λ script. length script.steps ≤ 10000000) }
     ensures short { OnOk result (length text.now ≤ 257000000) }
-    ensures script { IfOk result (λ script. IsScriptFor attributes script.lines) }
+    ensures script { IfOk result (λ script. IsScriptFor attributes.number script.lines) }
 {
     let mut lines: Vec<Line> = Vec::new(alloc);
     let mut steps: Vec<Actor> = Vec::new(alloc);

@@ -1,5 +1,5 @@
 //! The steps of a step line.
-ghost use Rattle.std.specs.Prelude.{◌≡◌, ◌+◌, ◌≤◌, ◌==◌, ℕ, List, ◌++◌, ◌∷◌, length, position, replicate, Some, None, option_map, MatchOption, IfSome, OnOk};
+ghost use Rattle.std.specs.Prelude.{◌≡◌, ◌+◌, ◌≤◌, ◌==◌, ℕ, List, ◌++◌, ◌∷◌, length, position, replicate, Some, None, option_map, MatchOption, OnOk};
 ghost use Rattle.hb_text.specs.Numbers.{number_read};
 ghost use Rattle.hb_text.specs.StepWords.{actor_of, count_number, repeated, word_steps, steps_of};
 ghost use Rattle.hb_text.specs.Steps.{steps_left};
@@ -43,8 +43,7 @@ fn read_actor(word: &[u8]) -> Option<Actor>
 
 /// The count of steps that a word says: a number from 1 to 1,000,000.
 fn read_count(word: &[u8]) -> Option<usize>
-    ensures count { result ≡ count_number (number_read word.now) }
-    ensures few { IfSome result (λ n. n ≤ 1000000) }
+    ensures { result ≡ count_number (number_read word.now) }
 {
     match read_number(word) {
         Ok(number) if 1 <= number && number <= 1_000_000 => Some(number as usize),
@@ -73,9 +72,7 @@ fn cut_at_x(word: &[u8]) -> Option<(&[u8], &[u8])>
 
 /// So many steps of an actor, where both were read.
 fn repeats_of(actor: Option<Actor>, count: Option<usize>) -> Option<Repeats>
-    requires { IfSome count (λ n. n ≤ 1000000) }
-    ensures steps { option_map (λ t. replicate t.count t.actor) result ≡ repeated actor count }
-    ensures few { IfSome result (λ t. t.count ≤ 1000000) }
+    ensures { option_map (λ t. replicate t.count t.actor) result ≡ repeated actor count }
 {
     match (actor, count) {
         (Some(actor), Some(count)) => Some(Repeats { actor, count }),
@@ -85,8 +82,7 @@ fn repeats_of(actor: Option<Actor>, count: Option<usize>) -> Option<Repeats>
 
 /// The steps that a word says: an actor, alone or with `x` and a count behind it.
 fn read_repeats(word: &[u8]) -> Option<Repeats>
-    ensures steps { option_map (λ t. replicate t.count t.actor) result ≡ word_steps word.now }
-    ensures few { IfSome result (λ t. t.count ≤ 1000000) }
+    ensures { option_map (λ t. replicate t.count t.actor) result ≡ word_steps word.now }
 {
     match cut_at_x(word) {
         None => repeats_of(read_actor(word), Some(1)),

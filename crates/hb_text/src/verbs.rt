@@ -1,6 +1,8 @@
 ghost use Rattle.std.specs.Prelude.{◌≡◌};
 ghost use Rattle.hb_text.specs.Operands.{verb_of, operand_count};
 
+use hb_space::Attributes;
+
 /// What a command line asks for.
 #[derive(Clone, Copy)]
 pub(crate) enum Verb {
@@ -28,10 +30,10 @@ pub(crate) fn named_verb(word: &[u8]) -> Option<Verb>
 }
 
 /// How many words follow the verb, over so many attributes.
-pub(crate) fn wanted_operands(verb: Verb, attributes: u8) -> usize
-    ensures { result ≡ operand_count verb attributes }
+pub(crate) fn wanted_operands(verb: Verb, attributes: Attributes) -> usize
+    ensures { result ≡ operand_count verb attributes.number }
 {
-    let attributes = usize::from(attributes);
+    let attributes = usize::from(attributes.number);
     match verb {
         Verb::Insert => attributes + 1,
         Verb::Delete | Verb::Lookup => attributes,

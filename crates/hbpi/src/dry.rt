@@ -1,4 +1,4 @@
-ghost use Rattle.std.specs.Prelude.{◌≡◌, ℕ, ◌<◌, ◌≤◌, [], length, IfOk, IfErr, OnOk};
+ghost use Rattle.std.specs.Prelude.{◌≡◌, ℕ, ◌≤◌, [], length, IfOk, IfErr, OnOk};
 ghost use Rattle.hb_set.specs.Scripts.{IsScriptFor};
 ghost use Rattle.hbpi.specs.Outcome.{fault_line, GetsLine};
 ghost use Rattle.hbpi.specs.Ends.{DryEnds};
@@ -12,16 +12,14 @@ use crate::statuses::Status;
 use crate::texts::{TextStop, read_text};
 use hb_outside::{Failed, Sink, Source};
 use hb_set::Script;
-use hb_space::form::KMAX;
+use hb_space::Attributes;
 use hb_text::{TextError, read_commands};
 use std::alloc::Global;
 
 /// Reads the script of a text over `k` attributes, or the status that refuses it.
-fn read_script<S: Source>(alloc: Global, k: u8, source: &mut S) -> Result<Script, Status>
-    requires some { 0 < k }
-    requires few { k ≤ KMAX }
-    ensures read { IfOk result (λ script. IsRead k (S.model source.old).left (S.model source.new).left script.lines) }
-    ensures refused { IfErr result (NotRead k (S.model source.old) (S.model source.new)) }
+fn read_script<S: Source>(alloc: Global, k: Attributes, source: &mut S) -> Result<Script, Status>
+    ensures read { IfOk result (λ script. IsRead k.number (S.model source.old).left (S.model source.new).left script.lines) }
+    ensures refused { IfErr result (NotRead k.number (S.model source.old) (S.model source.new)) }
     ensures no_fault { OnOk result ((S.model source.new).faults ≡ (S.model source.old).faults) }
     ensures later { (S.model source.old).faults ≤ (S.model source.new).faults }
 {
@@ -113,14 +111,12 @@ fn run_script<K: Sink, D>(alloc: Global, script: &Script, mut sink: K, disk: D) 
 /// attributes, and writes the replies and the order.
 pub(crate) fn dry<S: Source, K: Sink, D>(
     alloc: Global,
-    k: u8,
+    k: Attributes,
     source: &mut S,
     sink: K,
     disk: D,
 ) -> Finished<K, D>
-    requires some { 0 < k }
-    requires few { k ≤ KMAX }
-    ensures ends { DryEnds k (seen_by (S.model source.old) (S.model source.new) (K.model sink) (K.model result.sink) result.answered.items result.order.items) result.status }
+    ensures ends { DryEnds k.number (seen_by (S.model source.old) (S.model source.new) (K.model sink) (K.model result.sink) result.answered.items result.order.items) result.status }
     ensures disk { result.disk ≡ disk }
     ensures source_later { (S.model source.old).faults ≤ (S.model source.new).faults }
     ensures sink_later { (K.model sink).faults ≤ (K.model result.sink).faults }

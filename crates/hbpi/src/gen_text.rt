@@ -2,7 +2,6 @@
 ghost use Rattle.std.specs.Prelude.{◌≡◌, ◌≤◌};
 ghost use Rattle.hb_gen.specs.Spelling.{generated_text};
 ghost use Rattle.hb_outside.specs.Calls.{SourceModel};
-ghost use Rattle.hb_space.specs.Points.{IsAttributeCount};
 ghost use Rattle.hbpi.specs.Ends.{GenEnds};
 ghost use Rattle.hbpi.specs.SeenRuns.{seen_by};
 
@@ -12,6 +11,7 @@ use crate::saying::say;
 use crate::statuses::Status;
 use hb_gen::generate;
 use hb_outside::Sink;
+use hb_space::Attributes;
 use std::alloc::Global;
 
 /// The command `gen`: says the text of `n` lines over `k` attributes that the generator gives from the state `x`.
@@ -19,13 +19,12 @@ pub(crate) fn gen_text<K: Sink, D>(
     alloc: Global,
     x: u64,
     n: u32,
-    k: u8,
+    k: Attributes,
     mut sink: K,
     disk: D,
 ) -> Finished<K, D>
-    requires lines { n ≤ 1000000 }
-    requires attributes { IsAttributeCount k }
-    ensures ends { (source : SourceModel) → GenEnds (generated_text x n k) (seen_by source source (K.model sink) (K.model result.sink) result.answered.items result.order.items) result.status }
+    requires { n ≤ 1000000 }
+    ensures ends { (source : SourceModel) → GenEnds (generated_text x n k.number) (seen_by source source (K.model sink) (K.model result.sink) result.answered.items result.order.items) result.status }
     ensures disk { result.disk ≡ disk }
     ensures later { (K.model sink).faults ≤ (K.model result.sink).faults }
 {

@@ -1,7 +1,6 @@
 //! A file that is opened, and a script that comes, before the first step.
-ghost use Rattle.std.specs.Prelude.{◌≡◌, ◌<◌, ◌≤◌, [], All, IfOk, IfErr, OnOk};
+ghost use Rattle.std.specs.Prelude.{◌≡◌, ◌≤◌, [], All, IfOk, IfErr, OnOk};
 ghost use Rattle.hb_gen.specs.Lines.{generated};
-ghost use Rattle.hb_space.specs.Points.{IsAttributeCount};
 ghost use Rattle.hb_core.specs.CoreSeen.{core_seen, core_disk};
 ghost use Rattle.hb_core.specs.KeptLines.{HasLineBody};
 ghost use Rattle.hb_restart.specs.Beyond.{KeepsBeyondFile};
@@ -25,7 +24,7 @@ use hb_set::{Command, Line, Script};
 use hb_sound::laws::{
     a_level_parts_the_space, a_walk_ends_at_the_responsible_page, records_stand_once,
 };
-use hb_space::form::KMAX;
+use hb_space::Attributes;
 use hb_store::{Store, an_image_opens_to_one_file};
 use hb_text::{TextError, read_commands};
 use std::alloc::Global;
@@ -71,15 +70,13 @@ fn knows_lines(lines: &[Line])
 /// Reads the script of a text over `k` attributes, with step lines or without, or the status that refuses it.
 fn read_script<S: Source>(
     alloc: Global,
-    k: u8,
+    k: Attributes,
     step_lines: bool,
     source: &mut S,
 ) -> Result<Script, Status>
-    requires some { 0 < k }
-    requires few { k ≤ KMAX }
-    ensures read { IfOk result (λ script. IsScheduled step_lines k (S.model source.old).left (S.model source.new).left script.lines script.steps) }
-    ensures script { IfOk result (λ script. IsScript k script.lines script.steps) }
-    ensures refused { IfErr result (NotScheduled step_lines k (S.model source.old) (S.model source.new)) }
+    ensures read { IfOk result (λ script. IsScheduled step_lines k.number (S.model source.old).left (S.model source.new).left script.lines script.steps) }
+    ensures script { IfOk result (λ script. IsScript k.number script.lines script.steps) }
+    ensures refused { IfErr result (NotScheduled step_lines k.number (S.model source.old) (S.model source.new)) }
     ensures no_fault { OnOk result ((S.model source.new).faults ≡ (S.model source.old).faults) }
     ensures later { (S.model source.old).faults ≤ (S.model source.new).faults }
 {
@@ -99,12 +96,11 @@ fn read_script<S: Source>(
 }
 
 /// The script of so many lines over `k` attributes that the generator draws from the state. It is refused for want of memory alone.
-fn draw_script(alloc: Global, k: u8, state: u64, count: u32) -> Result<Script, Status>
-    requires lines { count ≤ 1000000 }
-    requires attributes { IsAttributeCount k }
-    ensures lines { IfOk result (λ script. script.lines ≡ generated state count k) }
+fn draw_script(alloc: Global, k: Attributes, state: u64, count: u32) -> Result<Script, Status>
+    requires { count ≤ 1000000 }
+    ensures lines { IfOk result (λ script. script.lines ≡ generated state count k.number) }
     ensures steps { IfOk result (λ script. script.steps ≡ []) }
-    ensures script { IfOk result (λ script. IsScript k script.lines script.steps) }
+    ensures script { IfOk result (λ script. IsScript k.number script.lines script.steps) }
     ensures refused { IfErr result (λ status. status ≡ Status.NoMemory) }
 {
     a_generated_text_says_its_lines();
@@ -124,15 +120,14 @@ fn draw_script(alloc: Global, k: u8, state: u64, count: u32) -> Result<Script, S
 /// The script over `k` attributes from where it comes, or the status that refuses it.
 fn script_from<S: Source>(
     alloc: Global,
-    k: u8,
+    k: Attributes,
     origin: Origin,
     source: &mut S,
 ) -> Result<Script, Status>
-    requires attributes { IsAttributeCount k }
-    requires few { FitsOrigin origin }
-    ensures came { IfOk result (λ script. CameFrom origin k (S.model source.old) (S.model source.new) script.lines script.steps) }
-    ensures script { IfOk result (λ script. IsScript k script.lines script.steps) }
-    ensures refused { IfErr result (CameNot origin k (S.model source.old) (S.model source.new)) }
+    requires { FitsOrigin origin }
+    ensures came { IfOk result (λ script. CameFrom origin k.number (S.model source.old) (S.model source.new) script.lines script.steps) }
+    ensures script { IfOk result (λ script. IsScript k.number script.lines script.steps) }
+    ensures refused { IfErr result (CameNot origin k.number (S.model source.old) (S.model source.new)) }
     ensures no_fault { OnOk result ((S.model source.new).faults ≡ (S.model source.old).faults) }
     ensures later { (S.model source.old).faults ≤ (S.model source.new).faults }
 {
@@ -155,7 +150,9 @@ fn make_core<S: Source, D: Disk>(
     ensures refused { IfErr result (λ e. (e.1 ≡ disk_of store) × CameNot origin (seen_as store).meta.k (S.model source.old) (S.model source.new) e.0) }
     ensures later { (S.model source.old).faults ≤ (S.model source.new).faults }
 {
-    let k = store.meta().k;
+    let k = Attributes {
+        number: store.meta().k,
+    };
     match script_from(alloc, k, origin, source) {
         Ok(script) => match Core::over(alloc, store, script) {
             Ok(core) => Ok(core),

@@ -20,6 +20,7 @@ use crate::work_file::work_file;
 use hb_disk::Disk;
 use hb_outside::{Sink, Source};
 use hb_run::Gate;
+use hb_space::Attributes;
 use std::alloc::Global;
 use std::sync::Wait;
 use std::thread::Threads;
@@ -44,7 +45,7 @@ fn do_words<S: Source, K: Sink, D: Disk>(
 {
     match Form::of_words(words) {
         None => refused(alloc, Status::Usage, sink, disk),
-        Some(Form::Dry { k }) => dry(alloc, k, source, sink, disk),
+        Some(Form::Dry { k }) => dry(alloc, Attributes { number: k }, source, sink, disk),
         Some(
             Form::Create {
                 k,
@@ -57,7 +58,9 @@ fn do_words<S: Source, K: Sink, D: Disk>(
         Some(Form::Drive) => drive_file(alloc, source, sink, disk),
         Some(Form::Check) => check_file(alloc, sink, disk),
         Some(Form::Map) => map_file(alloc, sink, disk),
-        Some(Form::Gen { x, n, k }) => gen_text(alloc, x, n, k, sink, disk),
+        Some(Form::Gen { x, n, k }) => {
+            gen_text(alloc, x, n, Attributes { number: k }, sink, disk)
+        }
         Some(Form::Tidy) => tidy_file(alloc, source, sink, disk),
         Some(Form::Run | Form::Work { .. }) => unreachable!(),
     }

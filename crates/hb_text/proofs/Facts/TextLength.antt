@@ -31,7 +31,7 @@ text_bytes (c ∷ text) =
 -- whether step lines are allowed
 module _ (allowed : Bool) where
   -- a line that breaks no rule is one of the first 1,000,000 and has at most 256 bytes
-  line_bytes : (k taken number : ℕ) (line : List ℕ) (said : Said) → line_read allowed k taken number line ≡ Ok said → (number ≤ 1000000) × (length line ≤ 256)
+  pub line_bytes : (k taken number : ℕ) (line : List ℕ) (said : Said) → line_read allowed k taken number line ≡ Ok said → (number ≤ 1000000) × (length line ≤ 256)
   unfolding line_read
   line_bytes k taken number line said e =
       let words = words_read allowed k taken number (words_of line) in

@@ -6,7 +6,7 @@ use Rattle.hb_gen.proofs.drawing.draw_point.Given as goal
 -- the values so far, and those that are still to be drawn
 abbrev pub invariant-loop : goal.invariant-loop
 invariant-loop l = record {
-  told : l.values.items ++ drawn_values (l.attributes - l.counter) l.draws.state ≡ drawn_point l.attributes l.session l.fn.draws.state;
+  told : l.values.items ++ drawn_values (l.fn.attributes.number - l.counter) l.draws.state ≡ drawn_point l.fn.attributes.number l.fn.session.number l.fn.draws.state;
   number : length l.values.items ≡ l.counter;
-  left : state_behind (l.attributes - l.counter) l.draws.state ≡ state_behind l.attributes l.fn.draws.state;
+  left : state_behind (l.fn.attributes.number - l.counter) l.draws.state ≡ state_behind l.fn.attributes.number l.fn.draws.state;
 }

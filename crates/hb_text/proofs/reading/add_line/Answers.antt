@@ -16,9 +16,9 @@ fits allowed k taken number now line m is says len few =
 
 pub add_steps-requires : goal.add_steps-requires
 add_steps-requires c =
-    fits c.args.allowed c.args.attributes c.len.result c.args.number (length c.args.steps.now.items) c.args.line.now c.in-Ok-Steps.field-0 c.in-Ok-Steps.field-0-is c.in-Ok-Steps.ensures.says (c.len.ensures ∙ c.args.steps.now.ok.0) c.requires.taken
+    fits c.args.step_lines c.args.attributes.number c.len.result c.args.number (length c.args.steps.now.items) c.args.line.now c.in-Ok-Steps.field-0 c.in-Ok-Steps.field-0-is c.in-Ok-Steps.ensures (c.len.ensures ∙ c.args.steps.now.ok.0) c.requires
 
 pub returns-in_ok-add_steps-in-Ok-Steps-clause-taken : goal.returns-in_ok-add_steps-in-Ok-Steps-clause-taken
 returns-in_ok-add_steps-in-Ok-Steps-clause-taken c =
-    let said = fits c.args.allowed c.args.attributes c.len.result c.args.number (length c.args.steps.now.items) c.args.line.now c.in-Ok-Steps.field-0 c.in-Ok-Steps.field-0-is c.in-Ok-Steps.ensures.says (c.len.ensures ∙ c.args.steps.now.ok.0) c.requires.taken in
+    let said = fits c.args.step_lines c.args.attributes.number c.len.result c.args.number (length c.args.steps.now.items) c.args.line.now c.in-Ok-Steps.field-0 c.in-Ok-Steps.field-0-is c.in-Ok-Steps.ensures (c.len.ensures ∙ c.args.steps.now.ok.0) c.requires in
     omega (arith, said.2, ap (λ (s : List ℕ). length s) (c.in_ok-add_steps-in-Ok-Steps.ensures said.0 said.1), length-append c.args.steps.now.items said.0)

@@ -9,7 +9,7 @@ push_repeats-requires c =
     let repeats = c.in-Some-read_repeats.repeats in
     let one : List ℕ = replicate repeats.count repeats.actor in
     let left = subst (λ ws. steps_of ws ≡ Some c.loop-word.invariant.said) c.in-Some.ensures c.loop-word.invariant.left in
-    let more = said_more c.in-Some.word.now c.next_word.new.self c.loop-word.invariant.said one left (sym c.in-Some-read_repeats.ensures.steps) in
+    let more = said_more c.in-Some.word.now c.next_word.new.self c.loop-word.invariant.said one left (sym c.in-Some-read_repeats.ensures) in
     omega (arith, c.loop-word.invariant.few, ap (λ (s : List ℕ). length s) more.2, length-append one more.0, length-replicate repeats.count repeats.actor)
 
 pub loop-word-preserved : goal.loop-word-preserved
@@ -18,7 +18,7 @@ loop-word-preserved c =
     let one : List ℕ = replicate repeats.count repeats.actor in
     let words_are = c.in-Some.ensures in
     let left = subst (λ ws. steps_of ws ≡ Some c.loop-word.invariant.said) words_are c.loop-word.invariant.left in
-    let more = said_more c.in-Some.word.now c.next_word.new.self c.loop-word.invariant.said one left (sym c.in-Some-read_repeats.ensures.steps) in
+    let more = said_more c.in-Some.word.now c.next_word.new.self c.loop-word.invariant.said one left (sym c.in-Some-read_repeats.ensures) in
     record {
       said = more.0;
       left = more.1;

@@ -11,6 +11,3 @@ returns-in-Ok-read_commands-clause-read g c =
       says = facts.exact ∙ ap Ok (λ i. record { lines = c.in-Ok-read_commands.script.lines; steps = facts.no_steps refl i });
       script = facts.script;
     }
-
-pub read_commands-requires : goal.read_commands-requires
-read_commands-requires g c = record { some = c.requires.some; few = c.requires.few }

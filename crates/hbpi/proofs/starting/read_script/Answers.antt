@@ -9,6 +9,3 @@ returns-in-Ok-read_commands-clause-read g c =
       whole = short_is_whole _ _ c.as_slice.result.now (rw c.as_slice.ensures.value c.in-Ok.ensures.text) facts.short;
       says = facts.exact;
     }
-
-pub read_commands-requires : goal.read_commands-requires
-read_commands-requires g c = record { some = c.requires.some; few = c.requires.few }
