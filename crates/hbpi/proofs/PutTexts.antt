@@ -6,7 +6,6 @@ use Rattle.std.proofs.lemmas.Grind.{flat_map-append}
 use Rattle.hb_outside.specs.Calls.{Puts, SinkModel}
 use Rattle.hb_outside.specs.declared.traits.Failed.{Failed}
 use Rattle.hb_outside.proofs.Facts.PutLaws.{Puts-none, has_put_more}
-pub use Rattle.hb_outside.proofs.Facts.PutLaws.{puts_on, puts_off}
 pub use Rattle.hb_drive.proofs.Facts.AnswerTexts.{has_put_none}
 use Rattle.hb_set.specs.declared.scripts.Answered.{Answered}
 use Rattle.hb_set.specs.declared.scripts.Line.{Line}
@@ -30,7 +29,7 @@ output_parts answered order = ap (λ t. t ++ order_text order (length order)) (s
 put_ends : (before after : SinkModel) (lines : List Line) (answered : List Answered) (order : List ℕ) (result : Result (Unit {0}) Failed) → IsDryRun lines answered order
     → Puts (output_text answered [] false order (length order)) result before after → EndsRun before after lines answered order (put_status result)
 put_ends before after lines answered order (Ok done) run all = (run, all.done, all.counts.no_fault (λ e. false≢true e))
-put_ends before after lines answered order (Err failed) run all = (run, all.tried, all.counts.cause refl)
+put_ends before after lines answered order (Err failed) run all = (run, all.tried, all.counts.cause refl, all.counts.later)
 
 run_ends : (before mid after : SinkModel) (so_far : Result (Unit {0}) Failed) (lines : List Line) (answered : List Answered) (order : List ℕ) (status : Status) → IsDryRun lines answered order
     → Puts (flat_map answer_text answered) so_far before mid → EndsBySink so_far order status mid after → EndsRun before after lines answered order status

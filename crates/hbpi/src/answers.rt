@@ -1,16 +1,17 @@
-ghost use Rattle.std.specs.Prelude.{◌≡◌, ℕ, ◌+◌, ◌<◌, ◌≤◌, [], ◌∷◌, ◌++◌, length, vec_len, IfOk, OnErr};
+ghost use Rattle.std.specs.Prelude.{◌≡◌, ℕ, ◌+◌, ◌<◌, ◌≤◌, [], ◌∷◌, length, vec_len, IfOk, OnErr};
 ghost use Rattle.std.specs.Vec.{vec_capacity};
 ghost use Rattle.std.specs.List.{flat_map};
 ghost use Rattle.hb_set.specs.Order.{with_entry, order_of};
 ghost use Rattle.hb_set.specs.Scripts.{IsScriptFor};
-ghost use Rattle.hb_text.specs.Output.{reply_text, answer_text, order_text};
+ghost use Rattle.hb_text.specs.Output.{answer_text};
+ghost use Rattle.hbpi.specs.DryParts.{Gains};
 ghost use Rattle.hbpi.specs.Outcome.{IsDryRun};
-ghost use Rattle.hb_outside.specs.Calls.{Puts, PutsOn};
+ghost use Rattle.hb_outside.specs.Calls.{Puts};
 
+use hb_drive::put_answer;
 use hb_outside::{Failed, Sink};
 use hb_set::{Answered, Line, Reply, Set};
 use hb_space::NoMemory;
-use hb_text::{put_order, put_reply};
 use std::alloc::Global;
 
 /// The answers to lines in the order of the text, and how their text was put.
@@ -20,43 +21,10 @@ pub(crate) struct Answers {
     pub(crate) put: Result<(), Failed>,
 }
 
-/// Puts a reply, unless the sink failed before.
-#[tactic(auto, using(crate::proofs::PutTexts::puts_on, crate::proofs::PutTexts::puts_off))]
-pub(crate) fn put_answer<K: Sink>(
-    sink: &mut K,
-    so_far: Result<(), Failed>,
-    line: u32,
-    reply: &Reply,
-) -> Result<(), Failed>
-    ensures { PutsOn so_far (reply_text line reply.now) result (K.model sink.old) (K.model sink.new) }
-{
-    match so_far {
-        Ok(()) => put_reply(sink, line, reply),
-        Err(failed) => Err(failed),
-    }
-}
-
-/// Puts the order, so many of it settled, unless the sink failed before.
-#[tactic(auto, using(crate::proofs::PutTexts::puts_on, crate::proofs::PutTexts::puts_off))]
-pub(crate) fn put_order_on<K: Sink>(
-    sink: &mut K,
-    so_far: Result<(), Failed>,
-    order: &[u32],
-    settled: u32,
-) -> Result<(), Failed>
-    ensures { PutsOn so_far (order_text order.now settled) result (K.model sink.old) (K.model sink.new) }
-{
-    match so_far {
-        Ok(()) => put_order(sink, order, settled),
-        Err(failed) => Err(failed),
-    }
-}
-
 /// The line joins the order, unless its reply stands outside it. There has to be room.
 fn join_order(order: &mut Vec<u32>, line: &Line, reply: &Reply)
     requires { vec_len order.old < vec_capacity order.old }
-    ensures order { order.new.items ≡ order.old.items ++ order_of (with_entry line.now reply.now []) }
-    ensures room { vec_capacity order.old ≤ vec_capacity order.new }
+    ensures gains { Gains order.old.items order.new.items (order_of (with_entry line.now reply.now [])) (vec_capacity order.old) (vec_capacity order.new) }
     ensures one { vec_len order.new ≤ vec_len order.old + 1 }
 {
     match reply {
@@ -68,8 +36,7 @@ fn join_order(order: &mut Vec<u32>, line: &Line, reply: &Reply)
 /// Keeps the answer to a line. There has to be room.
 fn keep_answer(answered: &mut Vec<Answered>, line: u32, reply: Reply)
     requires { vec_len answered.old < vec_capacity answered.old }
-    ensures kept { answered.new.items ≡ answered.old.items ++ record { line = line; reply = reply; at = 0 } ∷ [] }
-    ensures room { vec_capacity answered.old ≤ vec_capacity answered.new }
+    ensures { Gains answered.old.items answered.new.items (record { line = line; reply = reply; at = 0 } ∷ []) (vec_capacity answered.old) (vec_capacity answered.new) }
 {
     answered.push(Answered { line, reply, at: 0 }).unwrap();
 }
@@ -86,7 +53,6 @@ pub(crate) fn answer_lines<K: Sink>(
     ensures put { IfOk result (λ a. Puts (flat_map answer_text a.answered.items) a.put (K.model sink.old) (K.model sink.new)) }
     ensures few { IfOk result (λ a. length a.order.items ≤ 1000000) }
     ensures err { OnErr result (sink.new ≡ sink.old) }
-    ensures later { (K.model sink.old).faults ≤ (K.model sink.new).faults }
 {
     let mut set = Set::new(alloc)?;
     let mut answered = Vec::with_capacity(alloc, lines.len())?;
