@@ -1,5 +1,5 @@
 -- What the leaves of the pages name, by the facts of the pages, and what the first reading leaves of that to the second.
-use Rattle.std.specs.Prelude.{◌≡◌, ◌⊎◌, ℕ, ◌≤◌, List, length, All, take, option_map, vec_len, Option, Some, None, Result, IfErr, IfSome, OnOk, ◌<◌, ◌∷◌, []}
+use Rattle.std.specs.Prelude.{◌≡◌, ◌⊎◌, ℕ, ◌≤◌, List, length, All, take, option_map, vec_len, Option, Some, None, Result, IfErr, IfSome, OnOk, ◌∷◌, []}
 use Rattle.hb_frag.specs.declared.pages.LivePage.{LivePage}
 use Rattle.hb_frag.specs.declared.pages.Page.{Page}
 use Rattle.hb_frag.specs.declared.pages.Page.TheVariants as pages
@@ -14,16 +14,9 @@ use Rattle.hb_sound.specs.Facts.{FindsBelow, FindsSame, more, names_in}
 use Rattle.hb_sound.specs.Stops.{OnBroken}
 use Rattle.hb_sound.specs.Told.{item_at}
 use Rattle.hb_sound.specs.Walks.{IsLeast}
-use Rattle.hb_space.specs.declared.form.TheConstants.{KMAX}
 use Rattle.hb_sound.specs.declared.facts.Fact.TheVariants.{Live, Free}
 use Rattle.hb_sound.specs.declared.rests.Rest.{Rest}
 use Rattle.hb_sound.specs.declared.rests.Rest.TheVariants.{Nothing, Lone, More}
-
--- the corners of a box
-pub record AreCorners (lo hi : List ℕ) : Type 0 where
-  pub some : 0 < length lo
-  pub few : length lo ≤ KMAX
-  pub same : length lo ≡ length hi
 
 -- where not more is left, each child leaf among these keeps rule 8 by the facts, and these are the sibling leaves
 abbrev pub IsRestOf : List Fact → ℕ → List Placed → Rest → Type 0
