@@ -6,7 +6,7 @@ ghost use Rattle.hb_frag.specs.declared.pages.LivePage.{LivePage as Live};
 ghost use Rattle.hb_frag.specs.declared.pages.Page.{Page as Content};
 ghost use Rattle.hb_sound.specs.Asking.{Asks};
 ghost use Rattle.hb_sound.specs.Facts.{FindsBelow, FindsSame, SeesBelow, SeesSame};
-ghost use Rattle.hb_sound.specs.Links.{Adds, AreLinks, AreRead, FindsChildren, FindsSiblings, ReadsLinks, or_else, IsRestOf, Knows, KnowsTold};
+ghost use Rattle.hb_sound.specs.Links.{Adds, AreLinks, AreRead, ReadsLinks, or_else, IsRestOf, Knows, KnowsTold};
 ghost use Rattle.hb_sound.specs.Stops.{OnBroken};
 ghost use Rattle.hb_sound.specs.declared.facts.Fact.TheVariants.{Live as SeenLive};
 ghost use Rattle.hb_sound.specs.declared.names.Times.TheVariants.{Never};
@@ -126,15 +126,6 @@ fn leaves_match(facts: &[Fact], level: u8, frag: &Frag, corners: &mut Corners) -
     }
 }
 
-/// The same of the leaves of a page.
-fn page_matches(facts: &[Fact], page: &LivePage) -> (bool, bool)
-    requires { WellCut page.now }
-    ensures siblings { IsTrue result.0 ↔ FindsSiblings facts.now page.now }
-    ensures children { IsTrue result.1 ↔ FindsChildren facts.now page.now }
-{
-    leaves_match(facts, page.level, &page.frag, &mut Corners::of(&page.area))
-}
-
 /// The first page that isn't good, after one more page.
 fn first_bad(first: Option<u32>, id: u32, good: bool) -> Option<u32>
     ensures { result ≡ (if good then first else or_else first id) }
@@ -160,7 +151,8 @@ impl Links {
         requires { WellCut page.now }
         ensures { Adds facts.now id page.now self.old self.new }
     {
-        let (same, below) = page_matches(facts, page);
+        let corners = &mut Corners::of(&page.area);
+        let (same, below) = leaves_match(facts, page.level, &page.frag, corners);
         self.sibling = first_bad(self.sibling, id, same);
         self.child = first_bad(self.child, id, below);
         count_names(&page.frag, &mut self.named);
@@ -173,8 +165,7 @@ impl Links {
         pages: &mut P,
         id: u32,
     ) -> Result<(), AuditStop>
-        ensures reads { ReadsLinks (P.model pages.old).told facts.now id (λ _ _. Unit {0}) result self.old self.new }
-        ensures asks { Asks P.model P.asked (IsErrOf result Failed) pages.old pages.new }
+        ensures { ReadsLinks P.model P.asked facts.now id (λ _ _. Unit {0}) result pages.old pages.new self.old self.new }
     {
         match pages.page(id)? {
             Some(Page::Live(page)) => {
@@ -209,8 +200,7 @@ impl Links {
         pages: &mut P,
         id: u32,
     ) -> Result<(), AuditStop>
-        ensures reads { ReadsLinks (P.model pages.old).told facts.now id (λ _ page. Knows facts.now (SeenLive seen.now) page) result self.old self.new }
-        ensures asks { Asks P.model P.asked (IsErrOf result Failed) pages.old pages.new }
+        ensures { ReadsLinks P.model P.asked facts.now id (λ _ page. Knows facts.now (SeenLive seen.now) page) result pages.old pages.new self.old self.new }
     {
         match &seen.rest {
             Rest::Nothing => Ok(()),
@@ -222,15 +212,19 @@ impl Links {
         }
     }
 
-    /// Adds those of the page of this number.
-    fn read<P: Pages>(&mut self, facts: &[Fact], pages: &mut P, id: u32) -> Result<(), AuditStop>
-        requires some { 1 ≤ id }
-        requires within { id ≤ length facts.now }
-        ensures reads { ReadsLinks (P.model pages.old).told facts.now id (λ told _. KnowsTold facts.now told) result self.old self.new }
-        ensures asks { Asks P.model P.asked (IsErrOf result Failed) pages.old pages.new }
+    /// Adds those of the page of this place.
+    fn read<P: Pages>(
+        &mut self,
+        facts: &Facts<'_>,
+        pages: &mut P,
+        place: u32,
+    ) -> Result<(), AuditStop>
+        requires { place < length facts.now.list.now }
+        ensures { ReadsLinks P.model P.asked facts.now.list.now (place + 1) (λ told _. KnowsTold facts.now.list.now told) result pages.old pages.new self.old self.new }
     {
-        match seen_in(facts, id) {
-            Some(seen) => self.read_seen(facts, seen, pages, id),
+        let id = place + 1;
+        match seen_in(facts.list, id) {
+            Some(seen) => self.read_seen(facts.list, seen, pages, id),
             None => Ok(()),
         }
     }
@@ -249,7 +243,7 @@ pub(crate) fn read_links<P: Pages>(
 {
     let mut links = Links::new(alloc, facts.list.len())?;
     for place in 0..facts.list.len() as u32 {
-        links.read(facts.list, pages, place + 1)?;
+        links.read(facts, pages, place)?;
     }
     Ok(links)
 }
