@@ -21,6 +21,9 @@ lo_back area above after whole axis value least side same kept put =
     let A : Area → Area = λ a. record { lo = slice_set a.lo axis least; hi = a.hi } in
     put ∙ ap A (kept ∙ side) ∙ ap G same ∙ ap L (put_back area.lo (slice_set area.lo axis value) axis value 0 refl)
 
--- the side from the plane on of a box that was put back is the box's
-pub side_again : (area whole above : Area) (axis value : ℕ) → whole ≡ area → above ≡ side_from whole axis value → above ≡ side_from area axis value
-side_again area whole above axis value back side = side ∙ ap (λ (a : Area). side_from a axis value) back
+-- the side from the plane on, of a box that was its side below it and is itself again
+pub other_side : (area below after whole above : Area) (axis value greatest : ℕ) → below ≡ side_below area axis value → greatest ≡ slice_index area.hi axis → after ≡ below
+    → whole ≡ record { lo = after.lo; hi = slice_set after.hi axis greatest } → above ≡ side_from whole axis value → above ≡ side_from area axis value
+other_side area below after whole above axis value greatest side same kept put from =
+    let F : Area → Area = λ a. side_from a axis value in
+    from ∙ ap F (hi_back area below after whole axis value greatest side same kept put)

@@ -2,16 +2,16 @@ use Rattle.std.proofs.Common.{◌∙◌, rules}
 use Rattle.hb_lemmas.proofs.Lists.{one_tells}
 use Rattle.hb_sound.specs.Facts.{FindsBelow, FindsSame}
 use Rattle.hb_sound.proofs.LeafTests.{both_match, right_cut}
-use Rattle.hb_sound.proofs.Sides.{hi_back, lo_back, side_again}
+use Rattle.hb_sound.proofs.Sides.{hi_back, lo_back, other_side}
 use Rattle.hb_sound.proofs.links.+leaves_match.Goals as goal
 
 pub leaves_match-from-requires : goal.leaves_match-from-requires
 leaves_match-from-requires t c =
     let axis = c.in-Cut.axis in
     let value = c.in-Cut.value in
-    let whole = hi_back c.args.corners.now c.replace_hi-greatest.new.self c.leaves_match-below.new.corners c.replace_hi.new.self axis value c.replace_hi-greatest.result
-    c.replace_hi-greatest.ensures.replaced c.replace_hi-greatest.ensures.before c.leaves_match-below.ensures.same c.replace_hi.ensures.replaced in
-    let side = side_again c.args.corners.now c.replace_hi.new.self c.replace_lo-least.new.self axis value whole c.replace_lo-least.ensures.replaced in
+    let side =
+    other_side c.args.corners.now c.replace_hi-greatest.new.self c.leaves_match-below.new.corners c.replace_hi.new.self c.replace_lo-least.new.self axis value c.replace_hi-greatest.result
+    c.replace_hi-greatest.ensures.replaced c.replace_hi-greatest.ensures.before c.leaves_match-below.ensures.same c.replace_hi.ensures.replaced c.replace_lo-least.ensures.replaced in
     let cut = rw (← c.frag.view_is, c.in-Cut.is) at c.requires in
     (search rules, rw c.deref-in-Cut.ensures (right_cut c.args.corners.now c.replace_lo-least.new.self axis value c.in-Cut.left.value c.in-Cut.right.value side cut))
 
@@ -25,9 +25,9 @@ pub returns-in-Cut-clause-siblings : goal.returns-in-Cut-clause-siblings
 returns-in-Cut-clause-siblings t c =
     let axis = c.in-Cut.axis in
     let value = c.in-Cut.value in
-    let whole = hi_back c.args.corners.now c.replace_hi-greatest.new.self c.leaves_match-below.new.corners c.replace_hi.new.self axis value c.replace_hi-greatest.result
-    c.replace_hi-greatest.ensures.replaced c.replace_hi-greatest.ensures.before c.leaves_match-below.ensures.same c.replace_hi.ensures.replaced in
-    let side = side_again c.args.corners.now c.replace_hi.new.self c.replace_lo-least.new.self axis value whole c.replace_lo-least.ensures.replaced in
+    let side =
+    other_side c.args.corners.now c.replace_hi-greatest.new.self c.leaves_match-below.new.corners c.replace_hi.new.self c.replace_lo-least.new.self axis value c.replace_hi-greatest.result
+    c.replace_hi-greatest.ensures.replaced c.replace_hi-greatest.ensures.before c.leaves_match-below.ensures.same c.replace_hi.ensures.replaced c.replace_lo-least.ensures.replaced in
     rw (← c.frag.view_is, c.in-Cut.is)
     (both_match (FindsSame c.args.facts.now c.args.level) c.args.corners.now c.replace_hi-greatest.new.self c.replace_lo-least.new.self axis value c.in-Cut.left.value c.in-Cut.right.value
     c.leaves_match-below.result.0 c.leaves_match-from.result.0 c.both.result c.replace_hi-greatest.ensures.replaced side c.both.ensures
@@ -37,9 +37,9 @@ pub returns-in-Cut-clause-children : goal.returns-in-Cut-clause-children
 returns-in-Cut-clause-children t c =
     let axis = c.in-Cut.axis in
     let value = c.in-Cut.value in
-    let whole = hi_back c.args.corners.now c.replace_hi-greatest.new.self c.leaves_match-below.new.corners c.replace_hi.new.self axis value c.replace_hi-greatest.result
-    c.replace_hi-greatest.ensures.replaced c.replace_hi-greatest.ensures.before c.leaves_match-below.ensures.same c.replace_hi.ensures.replaced in
-    let side = side_again c.args.corners.now c.replace_hi.new.self c.replace_lo-least.new.self axis value whole c.replace_lo-least.ensures.replaced in
+    let side =
+    other_side c.args.corners.now c.replace_hi-greatest.new.self c.leaves_match-below.new.corners c.replace_hi.new.self c.replace_lo-least.new.self axis value c.replace_hi-greatest.result
+    c.replace_hi-greatest.ensures.replaced c.replace_hi-greatest.ensures.before c.leaves_match-below.ensures.same c.replace_hi.ensures.replaced c.replace_lo-least.ensures.replaced in
     rw (← c.frag.view_is, c.in-Cut.is)
     (both_match (FindsBelow c.args.facts.now c.args.level) c.args.corners.now c.replace_hi-greatest.new.self c.replace_lo-least.new.self axis value c.in-Cut.left.value c.in-Cut.right.value
     c.leaves_match-below.result.1 c.leaves_match-from.result.1 c.both-in-Cut.result c.replace_hi-greatest.ensures.replaced side c.both-in-Cut.ensures
