@@ -7,7 +7,7 @@ ghost use Rattle.hb_file_tests.specs.Driven.{IsDrivenHere};
 use crate::fetches::told;
 use crate::homes::flush;
 use crate::orders::{SOUND, wide};
-use crate::stores::{done, held};
+use crate::stores::{all_held, all_taken};
 use hb_disk::RotDisk;
 use hb_store::Store;
 use std::alloc::Global;
@@ -24,10 +24,8 @@ fn grown(alloc: Global, count: usize) -> Option<Store<RotDisk>>
     ensures { IfSome result (λ store. IsDrivenHere (seen_as store) (uses_of store)) }
 {
     let mut store = wide(alloc, SOUND)?;
-    for group in GROWTHS.get(..count)? {
-        if !done(alloc, &mut store, group)? {
-            return None;
-        }
+    if all_taken(alloc, &mut store, GROWTHS.get(..count)?, &[])? != count {
+        return None;
     }
     Some(store)
 }
@@ -36,10 +34,12 @@ fn grown(alloc: Global, count: usize) -> Option<Store<RotDisk>>
 fn filled(alloc: Global, growths: usize, pins: u32) -> Option<Store<RotDisk>>
     ensures { IfSome result (λ store. (seen_as store).stopped ≡ false) }
 {
-    let mut store = grown(alloc, growths)?;
+    let mut ids = Vec::new(alloc);
     for id in 1..pins.saturating_add(1) {
-        held(&mut store, id).ok()?;
+        ids.push(id).ok()?;
     }
+    let mut store = grown(alloc, growths)?;
+    all_held(&mut store, &ids)?;
     Some(store)
 }
 

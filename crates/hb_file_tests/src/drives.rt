@@ -6,7 +6,7 @@ ghost use Rattle.hb_store.specs.Seen.{seen_as, uses_of};
 ghost use Rattle.hb_file_tests.specs.Driven.{IsDrivenHere};
 
 use crate::driven_trees::{PARENTS_TOGETHER, SPLIT_AGAIN, SPLIT_TOGETHER, TWO_PARENTS};
-use crate::stores::{NEVER, done, forced, held};
+use crate::stores::{NEVER, all_held, done, forced};
 use hb_disk::{MemDisk, Pick, RotDisk};
 use hb_ops::Meta;
 use hb_restart::recover;
@@ -83,9 +83,7 @@ pub(crate) fn begun(alloc: Global, tree: &Tree, failing: u64) -> Option<Store<Ro
     ensures { IfSome result (λ store. IsDrivenHere (seen_as store) (uses_of store)) }
 {
     let mut store = opened(alloc, file(alloc, tree)?, failing)?;
-    for id in tree.fetched {
-        held(&mut store, *id).ok()?;
-    }
+    all_held(&mut store, tree.fetched)?;
     Some(store)
 }
 
@@ -106,7 +104,7 @@ fn number(store: &mut Store<RotDisk>) -> Option<u32>
 
 /// Takes a step, and where that is asked for forces all groups that wait. `Some(false)` where the force failed; `None` where something
 /// else isn't as it is to be.
-pub(crate) fn stepped(
+fn stepped(
     alloc: Global,
     store: &mut Store<RotDisk>,
     step: (u32, &[u8], u32),
@@ -127,18 +125,24 @@ pub(crate) fn stepped(
     }
 }
 
-/// The disk behind a driving, up to the force that failed.
-fn driven(alloc: Global, tree: &Tree, failing: u64) -> Option<MemDisk> {
+/// The store behind the steps of a driving and their forces, and whether all were done: else a force failed, the last one.
+pub(crate) fn walked(alloc: Global, tree: &Tree, failing: u64) -> Option<(Store<RotDisk>, bool)>
+    ensures { IfSome result (λ x. x.1 ≡ true → IsDrivenHere (seen_as x.0) (uses_of x.0)) }
+{
     let mut store = begun(alloc, tree, failing)?;
     let mut count = 0;
     for step in tree.steps {
         count = usize::saturating_add(count, 1);
-        match stepped(alloc, &mut store, *step, tree.ends.contains(&count)) {
-            Some(true) => {}
-            Some(false) => return Some(store.into_disk().inner),
-            None => return None,
+        if !stepped(alloc, &mut store, *step, tree.ends.contains(&count))? {
+            return Some((store, false));
         }
     }
+    Some((store, true))
+}
+
+/// The disk behind a driving, up to the force that failed.
+fn driven(alloc: Global, tree: &Tree, failing: u64) -> Option<MemDisk> {
+    let (store, _all) = walked(alloc, tree, failing)?;
     Some(store.into_disk().inner)
 }
 

@@ -5,7 +5,7 @@ ghost use Rattle.hb_store.specs.Seen.{seen_as, uses_of};
 ghost use Rattle.hb_file_tests.specs.Driven.{IsDrivenOnFirst};
 
 use crate::driven_trees::{PARENTS_TOGETHER, SPLIT_AGAIN, SPLIT_TOGETHER, TWO_PARENTS};
-use crate::drives::{PICKS, Tree, begun, file, image_opened, put_all, stand, stands, stepped};
+use crate::drives::{PICKS, Tree, file, image_opened, put_all, stand, stands, walked};
 use crate::groups::behind;
 use crate::openings::{LEFT, MERGED};
 use crate::stores::{NEVER, POINTS};
@@ -138,15 +138,10 @@ const HOMEWARD: [(Tree, &str); 4] = [
 fn all_stepped(alloc: Global, tree: &Tree, failing: u64) -> Option<Store<RotDisk>>
     ensures { IfSome result (λ store. (seen_as store).stopped ≡ false) }
 {
-    let mut store = begun(alloc, tree, failing)?;
-    let mut count = 0;
-    for step in tree.steps {
-        count = usize::saturating_add(count, 1);
-        if !stepped(alloc, &mut store, *step, tree.ends.contains(&count))? {
-            return None;
-        }
+    match walked(alloc, tree, failing)? {
+        (store, true) => Some(store),
+        (_, false) => None,
     }
-    Some(store)
 }
 
 /// The disk then, once flushes did this.

@@ -292,6 +292,17 @@ pub(crate) fn held(store: &mut Store<RotDisk>, id: u32) -> Result<(), FetchStop>
     Ok(())
 }
 
+/// Fetches these pages and pins them, where they aren't in memory.
+pub(crate) fn all_held(store: &mut Store<RotDisk>, ids: &[u32]) -> Option<()>
+    requires { IsDrivenHere (seen_as store.old) (uses_of store.old) }
+    ensures { IfSome result (λ _. IsDrivenHere (seen_as store.new) (uses_of store.new)) }
+{
+    for id in ids {
+        held(store, *id).ok()?;
+    }
+    Some(())
+}
+
 /// Forces all groups that wait, and says whether that was done.
 pub(crate) fn forced(store: &mut Store<RotDisk>) -> bool
     requires { IsDrivenHere (seen_as store.old) (uses_of store.old) }
@@ -305,16 +316,42 @@ pub(crate) fn forced(store: &mut Store<RotDisk>) -> bool
 
 /// Does the operation of a group where it is allowed, and where that is asked for forces all groups that wait. `None` where
 /// that failed.
-fn taken(alloc: Global, store: &mut Store<RotDisk>, group: &[u8], is_forced: bool) -> Option<()>
+fn taken(
+    alloc: Global,
+    store: &mut Store<RotDisk>,
+    group: &[u8],
+    is_forced: bool,
+) -> Option<bool>
     requires { IsDrivenHere (seen_as store.old) (uses_of store.old) }
     ensures { IfSome result (λ _. IsDrivenHere (seen_as store.new) (uses_of store.new)) }
 {
-    done(alloc, store, group)?;
-    if is_forced {
-        if forced(store) { Some(()) } else { None }
-    } else {
-        Some(())
+    let is_done = done(alloc, store, group)?;
+    if is_forced && !forced(store) {
+        return None;
     }
+    Some(is_done)
+}
+
+/// Does the operations of these groups where they are allowed, and forces behind each of these numbers of them. It answers how
+/// many were done.
+pub(crate) fn all_taken(
+    alloc: Global,
+    store: &mut Store<RotDisk>,
+    groups: &[&[u8]],
+    forces: &[usize],
+) -> Option<usize>
+    requires { IsDrivenHere (seen_as store.old) (uses_of store.old) }
+    ensures { IfSome result (λ _. IsDrivenHere (seen_as store.new) (uses_of store.new)) }
+{
+    let mut count = 0;
+    let mut all_done = 0;
+    for group in groups {
+        count = usize::saturating_add(count, 1);
+        if taken(alloc, store, group, forces.contains(&count))? {
+            all_done = usize::saturating_add(all_done, 1);
+        }
+    }
+    Some(all_done)
 }
 
 /// The store of a file whose page 1 is pinned and has these fields, once the operations of these groups were done where
@@ -330,10 +367,6 @@ pub(crate) fn with_groups(
 {
     let mut store = opened(alloc, (4, 1, 1, 0), disk(alloc, &[], page, failing)?)?;
     held(&mut store, 1).ok()?;
-    let mut count = 0;
-    for group in groups {
-        count = usize::saturating_add(count, 1);
-        taken(alloc, &mut store, group, forces.contains(&count))?;
-    }
+    all_taken(alloc, &mut store, groups, forces)?;
     Some(store)
 }

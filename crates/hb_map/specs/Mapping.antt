@@ -1,5 +1,5 @@
 -- What the making of a map did to its store and its sink.
-use Rattle.std.specs.Prelude.{◌≡◌, ℕ, ◌+◌, ◌<◌, ◌≤◌, ◌^◌, List, length, count_by, slice_index, Option, Result, OnOk, OnErr}
+use Rattle.std.specs.Prelude.{◌≡◌, ℕ, ◌+◌, ◌<◌, ◌≤◌, ◌^◌, List, length, count_by, slice_index, Option, Result, IfErr, IsErrOf, OnOk, OnErr}
 use Rattle.hb_disk.specs.Model.{DiskModel}
 use Rattle.hb_frag.specs.declared.pages.Page.{Page}
 use Rattle.hb_frag.specs.declared.pages.Page.TheVariants.{Live, Free}
@@ -18,7 +18,7 @@ use Rattle.hb_store.specs.declared.stops.FetchStop.{FetchStop}
 use Rattle.hb_store.specs.declared.stops.FetchStop.TheVariants as fetches
 use Rattle.hb_store.specs.declared.stops.Why.TheVariants.{Rule, Level, Extent}
 use Rattle.hb_map.specs.declared.stops.MapStop.{MapStop}
-use Rattle.hb_map.specs.declared.stops.MapStop.TheVariants.{Damaged, ReadFault}
+use Rattle.hb_map.specs.declared.stops.MapStop.TheVariants.{Damaged, ReadFault, SinkFault}
 use Rattle.hb_map.specs.Map.{parents_of}
 
 -- no page in memory is dirty or pinned, so that each may go where another comes
@@ -69,6 +69,12 @@ pub record StopsRightly (d : DiskModel) (held : StoreHeld) (stop : MapStop) : Ty
   pub names : NamesPage held.state.meta stop
   -- in a sound file, over a disk that tells, no page is damaged
   pub sound : OfSoundFile d held (λ s. IsNoDamage stop)
+
+-- Pages were read, for nothing that is put: they were looked at, and a stop is right, and isn't the sink's.
+pub record Reads {T : Type 0} (result : Result T MapStop) (d e : DiskModel) (old new : StoreHeld) : Type 0 where
+  pub through : LooksThrough (IsErrOf result ReadFault) d e old new
+  pub stop : IfErr result (StopsRightly d old)
+  pub silent : IsErrOf result SinkFault → ⊥
 
 -- a page in use is well cut, and no heavier than its bytes let it be
 abbrev pub MayBePrinted : Page → Type 0

@@ -1,10 +1,10 @@
 //! The pages of a store's file, one at a time.
-ghost use Rattle.std.specs.Prelude.{◌≡◌, Some, IfErr, IfOk, IsErrOf, IsSome};
+ghost use Rattle.std.specs.Prelude.{◌≡◌, Some, IfErr, IfOk, IsSome};
 ghost use Rattle.hb_ops.specs.Files.{page_of};
 ghost use Rattle.hb_store.specs.Replaying.{IsPageOf};
 ghost use Rattle.hb_store.specs.Seen.{disk_of, held_by, seen_as, uses_of};
 ghost use Rattle.hb_store.specs.States.{in_memory};
-ghost use Rattle.hb_map.specs.Mapping.{LooksThrough, MayAllGo, MayBePrinted, OfSoundFile, StopsRightly};
+ghost use Rattle.hb_map.specs.Mapping.{MayAllGo, MayBePrinted, OfSoundFile, Reads};
 ghost use Rattle.hb_map.specs.declared.stops.MapStop.TheVariants as stops;
 
 use crate::stops::{MapStop, stop_of};
@@ -21,11 +21,9 @@ pub(crate) fn read_page<D: Device>(
 ) -> Result<Page, MapStop>
     requires page { IsPageOf (seen_as store.old).meta id }
     requires may_go { MayAllGo (uses_of store.old) }
-    ensures through { LooksThrough (IsErrOf result stops.ReadFault) (D.model (disk_of store.old)) (D.model (disk_of store.new)) (held_by store.old) (held_by store.new) }
+    ensures reads { Reads result (D.model (disk_of store.old)) (D.model (disk_of store.new)) (held_by store.old) (held_by store.new) }
     ensures page { IfOk result (λ page. OfSoundFile (D.model (disk_of store.old)) (held_by store.old) (λ s. page_of s id ≡ Some page)) }
     ensures printed { IfOk result MayBePrinted }
-    ensures stop { IfErr result (StopsRightly (D.model (disk_of store.old)) (held_by store.old)) }
-    ensures silent { IsErrOf result stops.SinkFault → ⊥ }
 {
     match store.fetch(id) {
         Ok(()) => copy_page(alloc, store, id),

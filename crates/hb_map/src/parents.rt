@@ -1,9 +1,8 @@
 //! How many pages name each page.
-ghost use Rattle.std.specs.Prelude.{◌≡◌, ◌==◌, ◌+◌, ◌-◌, ◌<◌, ◌≤◌, ◌^◌, ℕ, if◌then◌else◌, length, replicate, slice_index, IfErr, IfOk, IsErrOf, OnOk};
+ghost use Rattle.std.specs.Prelude.{◌≡◌, ◌==◌, ◌+◌, ◌-◌, ◌<◌, ◌≤◌, ◌^◌, ℕ, if◌then◌else◌, length, replicate, slice_index, IfOk, OnOk};
 ghost use Rattle.hb_store.specs.Seen.{disk_of, held_by, uses_of};
 ghost use Rattle.hb_map.specs.Map.{is_parent};
-ghost use Rattle.hb_map.specs.Mapping.{AreParents, LooksThrough, MayAllGo, OfSoundFile, StopsRightly};
-ghost use Rattle.hb_map.specs.declared.stops.MapStop.TheVariants as stops;
+ghost use Rattle.hb_map.specs.Mapping.{AreParents, MayAllGo, OfSoundFile, Reads};
 
 use crate::pages::read_page;
 use crate::stops::MapStop;
@@ -19,37 +18,17 @@ pub(crate) fn count_parents<D: Device>(
     store: &mut Store<D>,
 ) -> Result<Vec<u32>, MapStop>
     requires { MayAllGo (uses_of store.old) }
-    ensures through { LooksThrough (IsErrOf result stops.ReadFault) (D.model (disk_of store.old)) (D.model (disk_of store.new)) (held_by store.old) (held_by store.new) }
+    ensures reads { Reads result (D.model (disk_of store.old)) (D.model (disk_of store.new)) (held_by store.old) (held_by store.new) }
     ensures long { IfOk result (λ parents. length parents.items ≡ (held_by store.old).state.meta.high) }
     ensures parents { IfOk result (λ parents. OfSoundFile (D.model (disk_of store.old)) (held_by store.old) (λ s. AreParents s parents.items)) }
-    ensures stop { IfErr result (StopsRightly (D.model (disk_of store.old)) (held_by store.old)) }
-    ensures silent { IsErrOf result stops.SinkFault → ⊥ }
-{
-    let mut parents = zeros(alloc, store.meta().high)?;
-    count_pages(alloc, store, &mut parents)?;
-    Ok(parents)
-}
-
-/// Counts each page as a parent of those that it names, from zeros on.
-fn count_pages<D: Device>(
-    alloc: Global,
-    store: &mut Store<D>,
-    parents: &mut [u32],
-) -> Result<(), MapStop>
-    requires may_go { MayAllGo (uses_of store.old) }
-    requires long { length parents.old ≡ (held_by store.old).state.meta.high }
-    requires none { (place : ℕ) → slice_index parents.old place ≡ 0 }
-    ensures through { LooksThrough (IsErrOf result stops.ReadFault) (D.model (disk_of store.old)) (D.model (disk_of store.new)) (held_by store.old) (held_by store.new) }
-    ensures parents { OnOk result (OfSoundFile (D.model (disk_of store.old)) (held_by store.old) (λ s. AreParents s parents.new)) }
-    ensures stop { IfErr result (StopsRightly (D.model (disk_of store.old)) (held_by store.old)) }
-    ensures silent { IsErrOf result stops.SinkFault → ⊥ }
 {
     let high = store.meta().high;
+    let mut parents = zeros(alloc, high)?;
     for place in 0..high {
         let page = read_page(alloc, store, place + 1)?;
-        count_page(alloc, parents, &page)?;
+        count_page(alloc, &mut parents, &page)?;
     }
-    Ok(())
+    Ok(parents)
 }
 
 /// So many zeros.

@@ -35,9 +35,12 @@ fn chosen(alloc: Global, page: &LivePage) -> Result<String, Fail>
     requires { weight_of page.now.frag < 2 ^ 32 }
 {
     let file = file_of(page.area.lo().attributes());
-    if page.weight() < 6 || local_rule(page, &file).is_some() {
+    if page.weight() < 6 {
         return Err("no page to cut".into());
     }
+    let None = local_rule(page, &file) else {
+        return Err("no page of a sound file".into());
+    };
     let part = choose(alloc, page)?;
     let mut text = String::new(alloc);
     push_path(&mut text, &part.path)?;

@@ -1,5 +1,5 @@
 -- What the decider of a search's step is given, and what it may rely on.
-use Rattle.std.specs.Prelude.{◌≡◌, ◌≢◌, ◌⊎◌, ℕ, List, All, AllPairs, MatchOption}
+use Rattle.std.specs.Prelude.{◌≢◌, ◌⊎◌, ℕ, List, Some, All, AllPairs, MatchOption}
 use Rattle.hb_frag.specs.declared.pages.LivePage.{LivePage}
 use Rattle.hb_set.specs.declared.commands.Command.{Command}
 use Rattle.hb_set.specs.declared.commands.Command.TheVariants.{Insert, Delete, Lookup, Search}

@@ -1,5 +1,5 @@
 -- Rules 7 and 8: what the leaves of the pages name, from the facts to the pages.
-use Rattle.std.proofs.Common.{◌≡◌, inl, inr, ℕ, zero, suc, ◌+◌, ◌<◌, ◌≤◌, List, [], ◌∷◌, length, All, Contains, Option, Some, None, refl, sym, ap, ◌∙◌, subst, arith}
+use Rattle.std.proofs.Common.{◌≡◌, inl, inr, ℕ, ◌+◌, ◌≤◌, List, [], ◌∷◌, length, All, Contains, Option, Some, None, refl, sym, ap, ◌∙◌, subst, arith}
 use Rattle.std.proofs.lemmas.Bool.{cases_eq}
 use Rattle.std.proofs.lemmas.List.{length-set}
 use Rattle.std.proofs.lemmas.List.Elements.{All-cons, All-contains, All-nil, Contains-append_cases, Contains-append_right}
@@ -25,7 +25,7 @@ use Rattle.hb_sound.specs.Told.{item_at, file_with}
 use Rattle.hb_sound.specs.Walks.{IsLeast}
 use Rattle.hb_sound.proofs.Bridge.{live_seen, seen_live}
 use Rattle.hb_sound.proofs.Firsts.{item_within}
-use Rattle.hb_lemmas.proofs.Decisions.{Known, both, known_le, known_list}
+use Rattle.hb_lemmas.proofs.Decisions.{Known, both, known_list}
 use Rattle.hb_lemmas.proofs.Lists.{only_one, first_member}
 use Rattle.hb_sound.proofs.Levels.{seen_fact}
 use Rattle.hb_sound.proofs.LocalBridge.{fits}

@@ -62,6 +62,7 @@ mod ReadUp
 mod Bridge
 mod LinkSteps
 mod RestSteps
+mod Sides
 mod LeafTests
 mod ChainBridge
 mod LocalBridge

@@ -4,8 +4,6 @@ use Rattle.std.specs.Option.{option_map}
 use Rattle.std.proofs.lemmas.List.Elements.{All-contains}
 use Rattle.hb_ops.proofs.MergeMade.{renamed_kind}
 use Rattle.hb_space.specs.Boxes.{IsArea, Holds, holds}
-use Rattle.hb_frag.specs.declared.leaves.Leaf.{Leaf}
-use Rattle.hb_frag.specs.declared.leaves.Leaf.TheVariants.{Records, Child, Sibling}
 use Rattle.hb_frag.specs.declared.pages.LivePage.{LivePage}
 use Rattle.hb_frag.specs.Leaves.{IsWellCut, Placed, first_at, leaf_at, leaves, leaves_of}
 use Rattle.hb_frag.specs.NormalLaws.{KeepsPoint}

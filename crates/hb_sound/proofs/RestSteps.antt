@@ -1,10 +1,9 @@
 -- What is left of the leaves of a page, leaf by leaf, and what that adds once all pages were read.
-use Rattle.std.proofs.Common.{◌≡◌, ◌↔◌, ◌⊎◌, inl, inr, ℕ, zero, suc, ◌-◌, ◌≤◌, ◌==◌, Bool, true, false, IsTrue, if◌then◌else◌, List, [], ◌∷◌, ◌++◌, length, All, Contains, Option, Some, None, option_map, IfSome, slice_set, take, vec_len, refl, sym, ap, ◌∙◌, subst, arith}
-use Rattle.std.proofs.Math.Seq.{take-append_seam}
+use Rattle.std.proofs.Common.{◌≡◌, ◌↔◌, ◌⊎◌, inl, inr, ℕ, zero, suc, ◌≤◌, ◌==◌, Bool, true, false, IsTrue, if◌then◌else◌, List, [], ◌∷◌, ◌++◌, length, All, Contains, Option, Some, None, option_map, IfSome, vec_len, refl, sym, ap, ◌∙◌, subst, arith}
 use Rattle.std.proofs.lemmas.Bool.{false≢true}
 use Rattle.std.proofs.lemmas.List.{append-nil, append_assoc}
 use Rattle.std.proofs.lemmas.List.Elements.{All-append, All-cons, All-contains, All-nil}
-use Rattle.hb_space.specs.Boxes.{Area}
+use Rattle.hb_space.specs.Boxes.{Area, side_below, side_from}
 use Rattle.hb_frag.specs.declared.leaves.Leaf.{Leaf}
 use Rattle.hb_frag.specs.declared.leaves.Leaf.TheVariants.{Records, Child, Sibling}
 use Rattle.hb_frag.specs.declared.pages.LivePage.{LivePage}
@@ -68,29 +67,15 @@ module _ (facts : List Fact) (level : ℕ) (before : List Placed) where
       let Q : Rest → Type 0 = λ r. IsRestOf facts level (before ++ placed (Sibling name) area ∷ []) r in
       elim made [ inl full ↦ subst Q (sym full) tt | inr lone ↦ subst Q (sym lone) (sibling_more name area (subst P none is)) ]
 
-  -- both sides of a cut, where the corners are what they were before
-  pub cut_more : (lo hi low high : List ℕ) (axis value : ℕ) (left right : Tree) (rest : Rest) → low ≡ lo → high ≡ hi
-      → IsRestOf facts level ((before ++ leaves_of left (record { lo = lo; hi = slice_set hi axis (value - 1) })) ++ leaves_of right (record { lo = slice_set low axis value; hi = high })) rest
-      → IsRestOf facts level (before ++ leaves_of (Cut axis value left right) (record { lo = lo; hi = hi })) rest
-  cut_more lo hi low high axis value left right rest below above is =
-      let first = leaves_of left (record { lo = lo; hi = slice_set hi axis (value - 1) }) in
-      let L : List ℕ → Type 0 = λ l. IsRestOf facts level ((before ++ first) ++ leaves_of right (record { lo = slice_set l axis value; hi = high })) rest in
-      let H : List ℕ → Type 0 = λ l. IsRestOf facts level ((before ++ first) ++ leaves_of right (record { lo = slice_set lo axis value; hi = l })) rest in
+  -- both sides of a cut
+  pub cut_more : (area below above : Area) (axis value : ℕ) (left right : Tree) (rest : Rest) → below ≡ side_below area axis value → above ≡ side_from area axis value
+      → IsRestOf facts level ((before ++ leaves_of left below) ++ leaves_of right above) rest → IsRestOf facts level (before ++ leaves_of (Cut axis value left right) area) rest
+  cut_more area below above axis value left right rest one_side other_side is =
+      let first = leaves_of left (side_below area axis value) in
+      let L : Area → Type 0 = λ a. IsRestOf facts level ((before ++ leaves_of left a) ++ leaves_of right above) rest in
+      let R : Area → Type 0 = λ a. IsRestOf facts level ((before ++ first) ++ leaves_of right a) rest in
       let Q : List Placed → Type 0 = λ l. IsRestOf facts level l rest in
-      subst Q (append_assoc before first (leaves_of right (record { lo = slice_set lo axis value; hi = hi }))) (subst H above (subst L below is))
-
--- the values that were copied into a longer list
-pub front : (copied behind values : List ℕ) (n : ℕ) → n ≡ length values → copied ≡ values → take n (copied ++ behind) ≡ values
-front copied behind values n count same =
-    ap (λ (l : List ℕ). take n (l ++ behind)) same ∙ ap (λ (m : ℕ). take m (values ++ behind)) count ∙ take-append_seam values behind
-
--- the leaves in the box of these corners
-pub same_corners : (facts : List Fact) (level : ℕ) (frag : Tree) (area : Area) (lo hi : List ℕ) (rest : Rest) → lo ≡ area.lo → hi ≡ area.hi
-    → IsRestOf facts level (leaves_of frag (record { lo = lo; hi = hi })) rest → IsRestOf facts level (leaves_of frag area) rest
-same_corners facts level frag area lo hi rest low high is =
-    let L : List ℕ → Type 0 = λ l. IsRestOf facts level (leaves_of frag (record { lo = l; hi = hi })) rest in
-    let H : List ℕ → Type 0 = λ l. IsRestOf facts level (leaves_of frag (record { lo = area.lo; hi = l })) rest in
-    subst H high (subst L low is)
+      subst Q (append_assoc before first (leaves_of right (side_from area axis value))) (subst R other_side (subst L one_side is))
 
 -- a test, and what is the first bad one after it
 pub next_by : (P : Type 0) (good : Bool) (id : ℕ) (first after : Option ℕ) → (IsTrue good ↔ P) → after ≡ (if good then first else or_else first id)

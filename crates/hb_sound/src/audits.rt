@@ -1,12 +1,12 @@
 //! Whether a file is sound.
-ghost use Rattle.std.specs.Prelude.{◌≡◌, ◌+◌, ◌<◌, ◌≤◌, ◌^◌, ◌↔◌, ℕ, List, Some, None, All, length, vec_len, IfErr, IfOk, IfSome, IsErrOf, IsTrue, MatchOption, OnOk};
+ghost use Rattle.std.specs.Prelude.{◌≡◌, ◌+◌, ◌<◌, ◌≤◌, ◌↔◌, ℕ, List, Some, None, All, length, vec_len, IfErr, IfOk, IfSome, IsErrOf, IsTrue, MatchOption, OnOk};
 ghost use Rattle.hb_frag.specs.declared.pages.Page.{Page as Content};
 ghost use Rattle.hb_sound.specs.Asking.{Asks};
 ghost use Rattle.hb_layout.specs.Limits.{IsLayout};
 ghost use Rattle.hb_sound.specs.Covers.{HasRule, IsLeastRule, SeesRule, SeesTop};
 ghost use Rattle.hb_sound.specs.Told.{HasBoundedMeta, CoversFile, file_with};
 ghost use Rattle.hb_ops.specs.Sound.{IsSound};
-ghost use Rattle.hb_sound.specs.Facts.{AreFactsOf, HasFacts};
+ghost use Rattle.hb_sound.specs.Facts.{AreFactsOf};
 ghost use Rattle.hb_sound.specs.RecordCounts.{IsLightFact, all_records, records_seen};
 ghost use Rattle.hb_sound.specs.Links.{AreLinks};
 ghost use Rattle.hb_sound.specs.Names.{IsSoundWith, KeepsSix, Names, NamesIn, OneIsNamed, SoundBreaksNone};
@@ -17,6 +17,7 @@ ghost use Rattle.hb_sound.specs.declared.pages.AuditStop.TheVariants.{Broken, Fa
 use crate::chains::free_break;
 use crate::covers::cover_break;
 use crate::facts::{Fact, Seen, read_facts, seen_in};
+use crate::files::Facts;
 use crate::links::{Links, read_links};
 use crate::{AuditStop, Pages};
 use hb_ops::Meta;
@@ -31,27 +32,26 @@ fn is_top_page(meta: &Meta, seen: &Seen, whole: &Area) -> bool
 }
 
 /// Whether the root is in use at the top of the file and has the whole space.
-fn is_top(meta: &Meta, facts: &[Fact]) -> bool
-    requires { IsLayout meta.now }
-    ensures { IsTrue result ↔ SeesTop meta.now facts.now }
+fn is_top(facts: &Facts<'_>) -> bool
+    ensures { IsTrue result ↔ SeesTop facts.now.meta.now facts.now.list.now }
 {
-    match seen_in(facts, meta.root) {
-        Some(root) => is_top_page(meta, root, &Area::whole(meta.k)),
+    match seen_in(facts.list, facts.meta.root) {
+        Some(root) => is_top_page(facts.meta, root, &Area::whole(facts.meta.k)),
         None => false,
     }
 }
 
 /// Rule 1, where a page is there up to the highest page.
-fn is_rooted(meta: &Meta, facts: &[Fact]) -> bool
-    requires facts { HasFacts meta.now facts.now }
-    ensures bounded { IsTrue result → HasBoundedMeta meta.now }
-    ensures rooted { IsTrue result ↔ (HasBoundedMeta meta.now × SeesTop meta.now facts.now) }
+fn is_rooted(facts: &Facts<'_>) -> bool
+    ensures bounded { IsTrue result → HasBoundedMeta facts.now.meta.now }
+    ensures rooted { IsTrue result ↔ (HasBoundedMeta facts.now.meta.now × SeesTop facts.now.meta.now facts.now.list.now) }
 {
+    let meta = facts.meta;
     meta.high >= 1
         && meta.root <= meta.high
         && meta.free <= meta.high
         && meta.live <= meta.high
-        && is_top(meta, facts)
+        && is_top(facts)
 }
 
 /// Whether this is the first rule that the page breaks by itself.
@@ -65,11 +65,10 @@ fn breaks(fact: &Fact, rule: u8) -> bool
 }
 
 /// The least page of which this is the first rule that it breaks by itself.
-fn first_breaking(facts: &[Fact], rule: u8) -> Option<u32>
-    requires few { length facts.now < 2 ^ 32 }
-    ensures { MatchOption result ((id : ℕ) → ¬ (SeesRule facts.now rule id)) (IsLeast (SeesRule facts.now rule)) }
+fn first_breaking(facts: &Facts<'_>, rule: u8) -> Option<u32>
+    ensures { MatchOption result ((id : ℕ) → ¬ (SeesRule facts.now.list.now rule id)) (IsLeast (SeesRule facts.now.list.now rule)) }
 {
-    for (place, fact) in facts.iter().enumerate() {
+    for (place, fact) in facts.list.iter().enumerate() {
         if breaks(fact, rule) {
             return Some(place as u32 + 1);
         }
@@ -89,10 +88,9 @@ fn none_for(rule: u8, page: Option<u32>) -> Result<(), AuditStop>
 }
 
 /// The rules 3 to 6.
-fn test_alone(facts: &[Fact]) -> Result<(), AuditStop>
-    requires few { length facts.now < 2 ^ 32 }
-    ensures ok { OnOk result ((id rule : ℕ) → 3 ≤ rule → rule ≤ 6 → ¬ (SeesRule facts.now rule id)) }
-    ensures err { IfErr result (λ stop. (id rule : ℕ) × (stop ≡ Broken id rule) × IsLeastRule facts.now id rule) }
+fn test_alone(facts: &Facts<'_>) -> Result<(), AuditStop>
+    ensures ok { OnOk result ((id rule : ℕ) → 3 ≤ rule → rule ≤ 6 → ¬ (SeesRule facts.now.list.now rule id)) }
+    ensures err { IfErr result (λ stop. (id rule : ℕ) × (stop ≡ Broken id rule) × IsLeastRule facts.now.list.now id rule) }
 {
     for rule in 3..7 {
         if let Some(page) = first_breaking(facts, rule) {
@@ -103,33 +101,31 @@ fn test_alone(facts: &[Fact]) -> Result<(), AuditStop>
 }
 
 /// The rules 1 to 6.
-fn test_pages(alloc: Global, meta: &Meta, facts: &[Fact]) -> Result<(), AuditStop>
-    requires facts { HasFacts meta.now facts.now }
-    ensures keeps { OnOk result ((list : List Content) → AreFactsOf meta.now facts.now list → KeepsSix (file_with meta.now list)) }
-    ensures names { IfErr result (OnBroken (λ page rule. (list : List Content) → AreFactsOf meta.now facts.now list → NamesIn (file_with meta.now list) page rule)) }
-    ensures bounded { OnOk result (HasBoundedMeta meta.now) }
+fn test_pages(alloc: Global, facts: &Facts<'_>) -> Result<(), AuditStop>
+    ensures keeps { OnOk result ((list : List Content) → AreFactsOf facts.now.meta.now facts.now.list.now list → KeepsSix (file_with facts.now.meta.now list)) }
+    ensures names { IfErr result (OnBroken (λ page rule. (list : List Content) → AreFactsOf facts.now.meta.now facts.now.list.now list → NamesIn (file_with facts.now.meta.now list) page rule)) }
+    ensures bounded { OnOk result (HasBoundedMeta facts.now.meta.now) }
     ensures no_fault { IsErrOf result Failed → ⊥ }
 {
-    if !is_rooted(meta, facts) {
+    if !is_rooted(facts) {
         return Err(AuditStop::Broken { page: 0, rule: 1 });
     }
-    none_for(2, free_break(alloc, meta, facts)?)?;
+    none_for(2, free_break(alloc, facts)?)?;
     test_alone(facts)
 }
 
 /// The rules 7 to 10.
-fn test_links(alloc: Global, meta: &Meta, facts: &[Fact], links: &Links) -> Result<(), AuditStop>
-    requires facts { HasFacts meta.now facts.now }
-    requires same { vec_len links.now.named ≡ length facts.now }
-    ensures sound { OnOk result ((list : List Content) → AreFactsOf meta.now facts.now list → KeepsSix (file_with meta.now list)
-        → AreLinks facts.now list (length facts.now) links.now → IsSound (file_with meta.now list)) }
-    ensures names { IfErr result (OnBroken (λ page rule. (list : List Content) → AreFactsOf meta.now facts.now list → KeepsSix (file_with meta.now list)
-        → AreLinks facts.now list (length facts.now) links.now → NamesIn (file_with meta.now list) page rule)) }
+fn test_links(alloc: Global, facts: &Facts<'_>, links: &Links) -> Result<(), AuditStop>
+    requires { vec_len links.now.named ≡ length facts.now.list.now }
+    ensures sound { OnOk result ((list : List Content) → AreFactsOf facts.now.meta.now facts.now.list.now list → KeepsSix (file_with facts.now.meta.now list)
+        → AreLinks facts.now.list.now list (length facts.now.list.now) links.now → IsSound (file_with facts.now.meta.now list)) }
+    ensures names { IfErr result (OnBroken (λ page rule. (list : List Content) → AreFactsOf facts.now.meta.now facts.now.list.now list → KeepsSix (file_with facts.now.meta.now list)
+        → AreLinks facts.now.list.now list (length facts.now.list.now) links.now → NamesIn (file_with facts.now.meta.now list) page rule)) }
     ensures no_fault { IsErrOf result Failed → ⊥ }
 {
     none_for(7, links.sibling)?;
     none_for(8, links.child)?;
-    none_for(9, cover_break(alloc, meta, facts, &links.named)?)?;
+    none_for(9, cover_break(alloc, facts, &links.named)?)?;
     none_for(10, first_breaking(facts, 10))
 }
 
@@ -144,13 +140,12 @@ fn records_of(fact: &Fact) -> u64
 }
 
 /// How many records the pages have together.
-fn count_records(facts: &[Fact]) -> u64
-    requires few { length facts.now ≤ 65536 }
-    requires light { All IsLightFact facts.now }
-    ensures { result ≡ all_records facts.now }
+fn count_records(facts: &Facts<'_>) -> u64
+    requires { All IsLightFact facts.now.list.now }
+    ensures { result ≡ all_records facts.now.list.now }
 {
     let mut records = 0;
-    for fact in facts {
+    for fact in facts.list {
         records += records_of(fact);
     }
     records
@@ -171,11 +166,12 @@ pub fn audit<P: Pages>(alloc: Global, meta: &Meta, pages: &mut P) -> Result<u64,
     ensures bounded { IfOk result (λ _. HasBoundedMeta meta.now) }
     ensures asks { Asks P.model P.asked (IsErrOf result Failed) pages.old pages.new }
 {
-    let facts = read_facts(alloc, meta, pages)?;
-    test_pages(alloc, meta, &facts)?;
-    let links = read_links(alloc, &facts, pages)?;
-    test_links(alloc, meta, &facts, &links)?;
-    Ok(count_records(&facts))
+    let list = read_facts(alloc, meta, pages)?;
+    let facts = &Facts { meta, list: &list };
+    test_pages(alloc, facts)?;
+    let links = read_links(alloc, facts, pages)?;
+    test_links(alloc, facts, &links)?;
+    Ok(count_records(facts))
 }
 
 /// A sound file breaks no rule.

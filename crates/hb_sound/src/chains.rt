@@ -1,12 +1,12 @@
 //! Rule 2: the free chain, and the count of pages in use.
-ghost use Rattle.std.specs.Prelude.{◌≡◌, ◌<◌, ◌≤◌, ◌^◌, ◌↔◌, ◌⊎◌, ℕ, List, All, length, Some, None, true, false, IfOk, IsTrue, MatchOption};
+ghost use Rattle.std.specs.Prelude.{◌≡◌, ◌<◌, ◌≤◌, ◌↔◌, ◌⊎◌, ℕ, List, All, length, Some, None, true, false, IfOk, IsTrue, MatchOption};
 ghost use Rattle.hb_sound.specs.Covers.{IsChained, IsFreeBreak, IsFreeFact, live_fact, live_facts};
 ghost use Rattle.hb_sound.specs.Facts.{next_at};
 ghost use Rattle.hb_sound.specs.Told.{item_at};
 ghost use Rattle.hb_sound.specs.Walks.{IsLeast, IsLeftOut, IsChainWalk};
 
 use crate::facts::{Fact, next_in};
-use hb_ops::Meta;
+use crate::files::Facts;
 use hb_space::NoMemory;
 use std::alloc::Global;
 
@@ -50,14 +50,13 @@ fn is_left_out(fact: &Fact, chained: bool) -> bool
 }
 
 /// The least free page that the chain leaves out.
-fn first_left_out(facts: &[Fact], chained: &[bool]) -> Option<u32>
-    requires few { length facts.now < 2 ^ 32 }
-    requires same { length chained.now ≡ length facts.now }
+fn first_left_out(facts: &Facts<'_>, chained: &[bool]) -> Option<u32>
+    requires { length chained.now ≡ length facts.now.list.now }
     ensures { (chain : List ℕ) → IsChained chain chained.now → MatchOption result
-        ((id : ℕ) → ¬ (IsLeftOut (next_at facts.now) chain id))
-        (λ id. IsLeast (IsLeftOut (next_at facts.now) chain) id) }
+        ((id : ℕ) → ¬ (IsLeftOut (next_at facts.now.list.now) chain id))
+        (λ id. IsLeast (IsLeftOut (next_at facts.now.list.now) chain) id) }
 {
-    for (place, fact) in facts.iter().enumerate() {
+    for (place, fact) in facts.list.iter().enumerate() {
         if is_left_out(fact, chained[place]) {
             return Some(place as u32 + 1);
         }
@@ -77,24 +76,22 @@ fn count_one(fact: &Fact) -> u32
 }
 
 /// How many pages are in use.
-fn count_live(facts: &[Fact]) -> u32
-    requires { length facts.now < 2 ^ 32 }
-    ensures { result ≡ live_facts facts.now }
+fn count_live(facts: &Facts<'_>) -> u32
+    ensures { result ≡ live_facts facts.now.list.now }
 {
     let mut live = 0;
-    for fact in facts {
+    for fact in facts.list {
         live += count_one(fact);
     }
     live
 }
 
 /// The number at which the chain ends, where it is another than 0, or the count of pages in use is another.
-fn end_break(meta: &Meta, facts: &[Fact], end: u32) -> Option<u32>
-    requires { length facts.now < 2 ^ 32 }
-    ensures { MatchOption result ((end ≡ 0) × (meta.now.live ≡ live_facts facts.now))
-        (λ id. (id ≡ end) × (((end ≡ 0) × (meta.now.live ≡ live_facts facts.now)) → ⊥)) }
+fn end_break(facts: &Facts<'_>, end: u32) -> Option<u32>
+    ensures { MatchOption result ((end ≡ 0) × (facts.now.meta.now.live ≡ live_facts facts.now.list.now))
+        (λ id. (id ≡ end) × (((end ≡ 0) × (facts.now.meta.now.live ≡ live_facts facts.now.list.now)) → ⊥)) }
 {
-    if end == 0 && count_live(facts) == meta.live {
+    if end == 0 && count_live(facts) == facts.meta.live {
         None
     } else {
         Some(end)
@@ -102,18 +99,13 @@ fn end_break(meta: &Meta, facts: &[Fact], end: u32) -> Option<u32>
 }
 
 /// The page that is named where rule 2 is broken.
-pub(crate) fn free_break(
-    alloc: Global,
-    meta: &Meta,
-    facts: &[Fact],
-) -> Result<Option<u32>, NoMemory>
-    requires { length facts.now < 2 ^ 32 }
-    ensures { IfOk result (λ broken. IsFreeBreak meta.now facts.now broken) }
+pub(crate) fn free_break(alloc: Global, facts: &Facts<'_>) -> Result<Option<u32>, NoMemory>
+    ensures { IfOk result (λ broken. IsFreeBreak facts.now.meta.now facts.now.list.now broken) }
 {
-    let mut chained = vec![in alloc; false; facts.len()]?;
-    let end = walk(facts, meta.free, &mut chained);
+    let mut chained = vec![in alloc; false; facts.list.len()]?;
+    let end = walk(facts.list, facts.meta.free, &mut chained);
     match first_left_out(facts, &chained) {
         Some(id) => Ok(Some(id)),
-        None => Ok(end_break(meta, facts, end)),
+        None => Ok(end_break(facts, end)),
     }
 }

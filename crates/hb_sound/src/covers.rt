@@ -1,14 +1,14 @@
 //! Rule 9: one page of the whole space on each level, and one sibling leaf for each other page.
-ghost use Rattle.std.specs.Prelude.{◌≡◌, ◌<◌, ◌^◌, ◌↔◌, ℕ, List, Some, length, slice_get, IfOk, IsTrue, MatchOption};
+ghost use Rattle.std.specs.Prelude.{◌≡◌, ◌<◌, ◌↔◌, ℕ, List, Some, length, slice_get, IfOk, IsTrue, MatchOption};
 ghost use Rattle.hb_sound.specs.Covers.{AreBelow, AreFirsts, HasBox, IsCoverBreak, IsLooseFact, IsLooseSeen, LacksLevel, SeesSome, SeesLoose};
 ghost use Rattle.hb_sound.specs.declared.facts.Fact.{Fact as FactSeen};
-ghost use Rattle.hb_sound.specs.Facts.{HasFacts, seen_at};
+ghost use Rattle.hb_sound.specs.Facts.{seen_at};
 ghost use Rattle.hb_sound.specs.Told.{item_at};
 ghost use Rattle.hb_sound.specs.Walks.{IsLeast};
 
 use crate::facts::{Fact, Seen};
+use crate::files::Facts;
 use crate::names::Times;
-use hb_ops::Meta;
 use hb_space::{Area, NoMemory};
 use std::alloc::Global;
 
@@ -23,12 +23,11 @@ fn is_same(fact: &Fact, level: u8, area: &Area) -> bool
 }
 
 /// The first page in use of this level with this box.
-fn first_same(facts: &[Fact], level: u8, area: &Area) -> Option<u32>
-    requires few { length facts.now < 2 ^ 32 }
-    ensures { MatchOption result ((id : ℕ) → ¬ (SeesSome (HasBox level area.now) facts.now id))
-        (IsLeast (SeesSome (HasBox level area.now) facts.now)) }
+fn first_same(facts: &Facts<'_>, level: u8, area: &Area) -> Option<u32>
+    ensures { MatchOption result ((id : ℕ) → ¬ (SeesSome (HasBox level area.now) facts.now.list.now id))
+        (IsLeast (SeesSome (HasBox level area.now) facts.now.list.now)) }
 {
-    for (place, fact) in facts.iter().enumerate() {
+    for (place, fact) in facts.list.iter().enumerate() {
         if is_same(fact, level, area) {
             return Some(place as u32 + 1);
         }
@@ -37,17 +36,11 @@ fn first_same(facts: &[Fact], level: u8, area: &Area) -> Option<u32>
 }
 
 /// The first page of the whole space of each level below the height, from level 0 on. None where a level has none.
-fn firsts_of(
-    alloc: Global,
-    facts: &[Fact],
-    height: u8,
-    whole: &Area,
-) -> Result<Option<Vec<u32>>, NoMemory>
-    requires few { length facts.now < 2 ^ 32 }
-    ensures { IfOk result (λ firsts. MatchOption firsts (LacksLevel facts.now height whole.now) (λ found. AreFirsts facts.now height whole.now found.items)) }
+fn firsts_of(alloc: Global, facts: &Facts<'_>, whole: &Area) -> Result<Option<Vec<u32>>, NoMemory>
+    ensures { IfOk result (λ firsts. MatchOption firsts (LacksLevel facts.now.list.now facts.now.meta.now.height whole.now) (λ found. AreFirsts facts.now.list.now facts.now.meta.now.height whole.now found.items)) }
 {
     let mut firsts = Vec::new(alloc);
-    for level in 0..height {
+    for level in 0..facts.meta.height {
         match first_same(facts, level, whole) {
             Some(id) => firsts.push(id)?,
             None => return Ok(None),
@@ -96,14 +89,13 @@ fn is_loose_fact(fact: &Fact, id: u32, firsts: &[u32], times: Times, whole: &Are
 }
 
 /// The first page that is loose.
-fn first_loose(facts: &[Fact], firsts: &[u32], named: &[Times], whole: &Area) -> Option<u32>
-    requires few { length facts.now < 2 ^ 32 }
-    requires same { length named.now ≡ length facts.now }
-    requires firsts { AreFirsts facts.now (length firsts.now) whole.now firsts.now }
-    ensures { AreBelow (length firsts.now) facts.now → MatchOption result
-        ((id : ℕ) → ¬ (SeesLoose facts.now named.now whole.now id)) (IsLeast (SeesLoose facts.now named.now whole.now)) }
+fn first_loose(facts: &Facts<'_>, firsts: &[u32], named: &[Times], whole: &Area) -> Option<u32>
+    requires same { length named.now ≡ length facts.now.list.now }
+    requires firsts { AreFirsts facts.now.list.now (length firsts.now) whole.now firsts.now }
+    ensures { AreBelow (length firsts.now) facts.now.list.now → MatchOption result
+        ((id : ℕ) → ¬ (SeesLoose facts.now.list.now named.now whole.now id)) (IsLeast (SeesLoose facts.now.list.now named.now whole.now)) }
 {
-    for (place, fact) in facts.iter().enumerate() {
+    for (place, fact) in facts.list.iter().enumerate() {
         let id = place as u32 + 1;
         if is_loose_fact(fact, id, firsts, named[place], whole) {
             return Some(id);
@@ -115,16 +107,14 @@ fn first_loose(facts: &[Fact], firsts: &[u32], named: &[Times], whole: &Area) ->
 /// The page that is named where rule 9 is broken.
 pub(crate) fn cover_break(
     alloc: Global,
-    meta: &Meta,
-    facts: &[Fact],
+    facts: &Facts<'_>,
     named: &[Times],
 ) -> Result<Option<u32>, NoMemory>
-    requires facts { HasFacts meta.now facts.now }
-    requires same { length named.now ≡ length facts.now }
-    ensures { IfOk result (λ broken. AreBelow meta.now.height facts.now → IsCoverBreak meta.now facts.now named.now broken) }
+    requires same { length named.now ≡ length facts.now.list.now }
+    ensures { IfOk result (λ broken. AreBelow facts.now.meta.now.height facts.now.list.now → IsCoverBreak facts.now.meta.now facts.now.list.now named.now broken) }
 {
-    let whole = Area::whole(meta.k);
-    match firsts_of(alloc, facts, meta.height, &whole)? {
+    let whole = Area::whole(facts.meta.k);
+    match firsts_of(alloc, facts, &whole)? {
         Some(firsts) => Ok(first_loose(facts, &firsts, named, &whole)),
         None => Ok(Some(0)),
     }

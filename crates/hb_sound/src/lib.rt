@@ -15,6 +15,7 @@ mod corners;
 mod covers;
 pub mod examples;
 mod facts;
+mod files;
 pub mod laws;
 mod links;
 mod names;

@@ -1,25 +1,25 @@
 //! Rules 7 and 8: what leaves name.
-ghost use Rattle.std.specs.Prelude.{◌≡◌, ◌+◌, ◌<◌, ◌≤◌, ◌^◌, ◌↔◌, ℕ, if◌then◌else◌, List, Some, None, All, length, replicate, vec_len, IfErr, IfOk, IfSome, IsErrOf, IsTrue};
+ghost use Rattle.std.specs.Prelude.{◌≡◌, ◌+◌, ◌<◌, ◌≤◌, ◌↔◌, if◌then◌else◌, List, Some, None, All, length, replicate, vec_len, IfErr, IfOk, IfSome, IsErrOf, IsTrue};
 ghost use Rattle.hb_space.specs.Boxes.{Within};
 ghost use Rattle.hb_frag.specs.Leaves.{IsWellCut, WellCut, leaves_of};
 ghost use Rattle.hb_frag.specs.declared.pages.LivePage.{LivePage as Live};
 ghost use Rattle.hb_frag.specs.declared.pages.Page.{Page as Content};
 ghost use Rattle.hb_sound.specs.Asking.{Asks};
 ghost use Rattle.hb_sound.specs.Facts.{FindsBelow, FindsSame, SeesBelow, SeesSame};
-ghost use Rattle.hb_sound.specs.Links.{Adds, AreLinks, AreRead, FindsChildren, FindsSiblings, ReadsLinks, or_else, IsRestOf, Knows, KnowsTold};
+ghost use Rattle.hb_sound.specs.Links.{Adds, AreLinks, AreRead, ReadsLinks, or_else, IsRestOf, Knows, KnowsTold};
 ghost use Rattle.hb_sound.specs.Stops.{OnBroken};
 ghost use Rattle.hb_sound.specs.declared.facts.Fact.TheVariants.{Live as SeenLive};
 ghost use Rattle.hb_sound.specs.declared.names.Times.TheVariants.{Never};
 ghost use Rattle.hb_sound.specs.declared.pages.AuditStop.TheVariants.{Failed};
 ghost use Rattle.hb_sound.specs.declared.rests.Rest.TheVariants.{Lone};
 
-use crate::corners::is_within;
+use crate::corners::Corners;
 use crate::facts::{Fact, Seen, seen_in};
+use crate::files::Facts;
 use crate::names::{Times, count_names, count_one};
 use crate::rests::Rest;
 use crate::{AuditStop, Pages};
 use hb_frag::{Frag, Leaf, LivePage, Node, Page};
-use hb_space::form::KMAX;
 use hb_space::{Area, NoMemory};
 use std::alloc::Global;
 
@@ -52,44 +52,39 @@ fn sees_same(facts: &[Fact], level: u8, id: u32, lo: &[u64], hi: &[u64]) -> bool
 }
 
 /// Whether what was seen is one level down and has the box of these corners in its own.
-fn is_below(seen: &Seen, level: u8, lo: &[u64], hi: &[u64]) -> bool
-    requires { length lo.now ≡ length hi.now }
-    ensures { IsTrue result ↔ ((seen.now.level + 1 ≡ level) × (length lo.now ≡ length seen.now.area.lo) × Within (record { lo = lo.now; hi = hi.now }) seen.now.area) }
+fn is_below(seen: &Seen, level: u8, corners: &Corners) -> bool
+    ensures { IsTrue result ↔ ((seen.now.level + 1 ≡ level) × (length corners.now.lo ≡ length seen.now.area.lo) × Within corners.now seen.now.area) }
 {
-    u16::from(seen.level) + 1 == u16::from(level)
-        && lo.len() == seen.area.lo().values().len()
-        && is_within(lo, hi, seen.area.lo().values(), seen.area.hi().values())
+    u16::from(seen.level) + 1 == u16::from(level) && corners.are_within(&seen.area)
 }
 
 /// Whether a page in use of this number, which may be any, is one level down and has the box of these corners in its own.
-pub(crate) fn sees_below(facts: &[Fact], level: u8, id: u32, lo: &[u64], hi: &[u64]) -> bool
-    requires { length lo.now ≡ length hi.now }
-    ensures { IsTrue result ↔ SeesBelow facts.now level id (record { lo = lo.now; hi = hi.now }) }
+pub(crate) fn sees_below(facts: &[Fact], level: u8, id: u32, corners: &Corners) -> bool
+    ensures { IsTrue result ↔ SeesBelow facts.now level id corners.now }
 {
     match seen_in(facts, id) {
-        Some(seen) => is_below(seen, level, lo, hi),
+        Some(seen) => is_below(seen, level, corners),
         None => false,
     }
 }
 
 /// Whether the leaf with the box of these corners, where it is a sibling leaf, names a page of its level and box.
-fn finds_same(facts: &[Fact], level: u8, leaf: &Leaf, lo: &[u64], hi: &[u64]) -> bool
-    ensures { IsTrue result ↔ FindsSame facts.now level (record { leaf = leaf.now; area = record { lo = lo.now; hi = hi.now } }) }
+fn finds_same(facts: &[Fact], level: u8, leaf: &Leaf, corners: &Corners) -> bool
+    ensures { IsTrue result ↔ FindsSame facts.now level (record { leaf = leaf.now; area = corners.now }) }
 {
     match leaf {
-        Leaf::Sibling(id) => sees_same(facts, level, *id, lo, hi),
+        Leaf::Sibling(id) => sees_same(facts, level, *id, corners.lo(), corners.hi()),
         Leaf::Records(_) | Leaf::Child(_) => true,
     }
 }
 
 /// Whether the leaf with the box of these corners, where it is a child leaf, names a page one level down with the box in
 /// its own.
-fn finds_below(facts: &[Fact], level: u8, leaf: &Leaf, lo: &[u64], hi: &[u64]) -> bool
-    requires { length lo.now ≡ length hi.now }
-    ensures { IsTrue result ↔ FindsBelow facts.now level (record { leaf = leaf.now; area = record { lo = lo.now; hi = hi.now } }) }
+fn finds_below(facts: &[Fact], level: u8, leaf: &Leaf, corners: &Corners) -> bool
+    ensures { IsTrue result ↔ FindsBelow facts.now level (record { leaf = leaf.now; area = corners.now }) }
 {
     match leaf {
-        Leaf::Child(id) => sees_below(facts, level, *id, lo, hi),
+        Leaf::Child(id) => sees_below(facts, level, *id, corners),
         Leaf::Records(_) | Leaf::Sibling(_) => true,
     }
 }
@@ -103,24 +98,16 @@ fn both(one: bool, other: bool) -> bool
 
 /// Whether each sibling leaf of the part, whose box has these corners, names a page of its level and the leaf's box, and
 /// whether each child leaf names one a level down with the leaf's box in its own. The corners stay as they are.
-fn leaves_match(
-    facts: &[Fact],
-    level: u8,
-    frag: &Frag,
-    lo: &mut [u64],
-    hi: &mut [u64],
-) -> (bool, bool)
-    requires cut { IsWellCut frag.now (record { lo = lo.old; hi = hi.old }) }
-    requires same { length lo.old ≡ length hi.old }
-    ensures siblings { IsTrue result.0 ↔ All (FindsSame facts.now level) (leaves_of frag.now (record { lo = lo.old; hi = hi.old })) }
-    ensures children { IsTrue result.1 ↔ All (FindsBelow facts.now level) (leaves_of frag.now (record { lo = lo.old; hi = hi.old })) }
-    ensures lo { lo.new ≡ lo.old }
-    ensures hi { hi.new ≡ hi.old }
+fn leaves_match(facts: &[Fact], level: u8, frag: &Frag, corners: &mut Corners) -> (bool, bool)
+    requires { IsWellCut frag.now corners.old }
+    ensures siblings { IsTrue result.0 ↔ All (FindsSame facts.now level) (leaves_of frag.now corners.old) }
+    ensures children { IsTrue result.1 ↔ All (FindsBelow facts.now level) (leaves_of frag.now corners.old) }
+    ensures same { corners.new ≡ corners.old }
 {
     match &frag.node {
         Node::Tip(leaf) => (
-            finds_same(facts, level, leaf, lo, hi),
-            finds_below(facts, level, leaf, lo, hi),
+            finds_same(facts, level, leaf, corners),
+            finds_below(facts, level, leaf, corners),
         ),
         Node::Cut {
             axis,
@@ -128,38 +115,15 @@ fn leaves_match(
             left,
             right,
         } => {
-            let at = usize::from(*axis);
-            let greatest = hi[at];
-            hi[at] = *value - 1;
-            let below = leaves_match(facts, level, left, lo, hi);
-            hi[at] = greatest;
-            let least = lo[at];
-            lo[at] = *value;
-            let from = leaves_match(facts, level, right, lo, hi);
-            lo[at] = least;
+            let greatest = corners.replace_hi(*axis, *value - 1);
+            let below = leaves_match(facts, level, left, corners);
+            corners.replace_hi(*axis, greatest);
+            let least = corners.replace_lo(*axis, *value);
+            let from = leaves_match(facts, level, right, corners);
+            corners.replace_lo(*axis, least);
             (both(below.0, from.0), both(below.1, from.1))
         }
     }
-}
-
-/// The same of the leaves of a page.
-fn page_matches(facts: &[Fact], page: &LivePage) -> (bool, bool)
-    requires { WellCut page.now }
-    ensures siblings { IsTrue result.0 ↔ FindsSiblings facts.now page.now }
-    ensures children { IsTrue result.1 ↔ FindsChildren facts.now page.now }
-{
-    let count = page.area.lo().values().len();
-    let mut lo = [0; KMAX];
-    let mut hi = [0; KMAX];
-    lo[..count].copy_from_slice(page.area.lo().values());
-    hi[..count].copy_from_slice(page.area.hi().values());
-    leaves_match(
-        facts,
-        page.level,
-        &page.frag,
-        &mut lo[..count],
-        &mut hi[..count],
-    )
 }
 
 /// The first page that isn't good, after one more page.
@@ -187,7 +151,8 @@ impl Links {
         requires { WellCut page.now }
         ensures { Adds facts.now id page.now self.old self.new }
     {
-        let (same, below) = page_matches(facts, page);
+        let corners = &mut Corners::of(&page.area);
+        let (same, below) = leaves_match(facts, page.level, &page.frag, corners);
         self.sibling = first_bad(self.sibling, id, same);
         self.child = first_bad(self.child, id, below);
         count_names(&page.frag, &mut self.named);
@@ -200,8 +165,7 @@ impl Links {
         pages: &mut P,
         id: u32,
     ) -> Result<(), AuditStop>
-        ensures reads { ReadsLinks (P.model pages.old).told facts.now id (λ _ _. Unit {0}) result self.old self.new }
-        ensures asks { Asks P.model P.asked (IsErrOf result Failed) pages.old pages.new }
+        ensures { ReadsLinks P.model P.asked facts.now id (λ _ _. Unit {0}) result pages.old pages.new self.old self.new }
     {
         match pages.page(id)? {
             Some(Page::Live(page)) => {
@@ -236,8 +200,7 @@ impl Links {
         pages: &mut P,
         id: u32,
     ) -> Result<(), AuditStop>
-        ensures reads { ReadsLinks (P.model pages.old).told facts.now id (λ _ page. Knows facts.now (SeenLive seen.now) page) result self.old self.new }
-        ensures asks { Asks P.model P.asked (IsErrOf result Failed) pages.old pages.new }
+        ensures { ReadsLinks P.model P.asked facts.now id (λ _ page. Knows facts.now (SeenLive seen.now) page) result pages.old pages.new self.old self.new }
     {
         match &seen.rest {
             Rest::Nothing => Ok(()),
@@ -249,15 +212,19 @@ impl Links {
         }
     }
 
-    /// Adds those of the page of this number.
-    fn read<P: Pages>(&mut self, facts: &[Fact], pages: &mut P, id: u32) -> Result<(), AuditStop>
-        requires some { 1 ≤ id }
-        requires within { id ≤ length facts.now }
-        ensures reads { ReadsLinks (P.model pages.old).told facts.now id (λ told _. KnowsTold facts.now told) result self.old self.new }
-        ensures asks { Asks P.model P.asked (IsErrOf result Failed) pages.old pages.new }
+    /// Adds those of the page of this place.
+    fn read<P: Pages>(
+        &mut self,
+        facts: &Facts<'_>,
+        pages: &mut P,
+        place: u32,
+    ) -> Result<(), AuditStop>
+        requires { place < length facts.now.list.now }
+        ensures { ReadsLinks P.model P.asked facts.now.list.now (place + 1) (λ told _. KnowsTold facts.now.list.now told) result pages.old pages.new self.old self.new }
     {
-        match seen_in(facts, id) {
-            Some(seen) => self.read_seen(facts, seen, pages, id),
+        let id = place + 1;
+        match seen_in(facts.list, id) {
+            Some(seen) => self.read_seen(facts.list, seen, pages, id),
             None => Ok(()),
         }
     }
@@ -266,18 +233,17 @@ impl Links {
 /// What the leaves of all pages up to the highest page name. A page is read once more where its fact doesn't say it.
 pub(crate) fn read_links<P: Pages>(
     alloc: Global,
-    facts: &[Fact],
+    facts: &Facts<'_>,
     pages: &mut P,
 ) -> Result<Links, AuditStop>
-    requires { length facts.now < 2 ^ 32 }
-    ensures links { IfOk result (λ links. IfSome (P.model pages.old).told (λ told. (list : List Content) → AreRead told facts.now list → AreLinks facts.now list (length facts.now) links)) }
-    ensures never { IfErr result (OnBroken (λ _ _. IfSome (P.model pages.old).told (λ told. (list : List Content) → AreRead told facts.now list → ⊥))) }
-    ensures same { IfOk result (λ links. vec_len links.named ≡ length facts.now) }
+    ensures links { IfOk result (λ links. IfSome (P.model pages.old).told (λ told. (list : List Content) → AreRead told facts.now.list.now list → AreLinks facts.now.list.now list (length facts.now.list.now) links)) }
+    ensures never { IfErr result (OnBroken (λ _ _. IfSome (P.model pages.old).told (λ told. (list : List Content) → AreRead told facts.now.list.now list → ⊥))) }
+    ensures same { IfOk result (λ links. vec_len links.named ≡ length facts.now.list.now) }
     ensures asks { Asks P.model P.asked (IsErrOf result Failed) pages.old pages.new }
 {
-    let mut links = Links::new(alloc, facts.len())?;
-    for place in 0..facts.len() as u32 {
-        links.read(facts, pages, place + 1)?;
+    let mut links = Links::new(alloc, facts.list.len())?;
+    for place in 0..facts.list.len() as u32 {
+        links.read(facts, pages, place)?;
     }
     Ok(links)
 }

@@ -15,17 +15,10 @@ mod found;
 mod free_pages;
 mod generated;
 mod heights;
-mod holes;
-mod indexes;
-mod leaves;
 mod logs;
 mod missed;
-mod pages;
-mod paths;
-mod payloads;
 mod records;
 mod searches;
-mod shapes;
 mod sizes;
 mod spaces;
 mod trees;
@@ -42,64 +35,12 @@ fn tell(rt: &impl Print, limit: &str, reached: Result<(), Missed>) -> io::Result
     }
 }
 
-/// Says of pages, of their parts and of what is made of them whether each limit was reached.
-fn tell_pages(rt: &impl Print, alloc: Global) -> io::Result<()> {
+/// Says of log areas, sets and texts.
+fn tell_texts(rt: &impl Print, alloc: Global) -> io::Result<()> {
     tell(
         rt,
         "48 records of four attributes and 32 bytes, put, found and deleted",
         records::fill_a_page(alloc),
-    )?;
-    tell(rt, "a page of 256 children", pages::many_children(alloc))?;
-    tell(rt, "a leaf of 48 records", pages::many_records(alloc))?;
-    tell(
-        rt,
-        "a page of 313 cuts, each on a side of the one before",
-        paths::all_lengths(alloc),
-    )?;
-    tell(
-        rt,
-        "pages of 6 to 256 children, split, posted in and joined",
-        indexes::all_counts(alloc),
-    )?;
-    tell(rt, "files of 2 to 12 levels", indexes::all_levels(alloc))?;
-    tell(
-        rt,
-        "boxes with a hole, carved by 0 to 8 cuts",
-        holes::all_holes(alloc),
-    )?;
-    tell(
-        rt,
-        "leaves of 0 to 48 records that become one",
-        leaves::all_joined(alloc),
-    )?;
-    tell(
-        rt,
-        "records that come and go behind 0 to 47 cuts",
-        leaves::all_places(alloc),
-    )?;
-    tell(
-        rt,
-        "parts that leave by 0 to 47 cuts",
-        leaves::all_parts(alloc),
-    )?;
-    tell(
-        rt,
-        "parts of stars, cut on each attribute",
-        leaves::all_stars(alloc),
-    )
-}
-
-/// Says of payloads, log areas, sets and texts.
-fn tell_texts(rt: &impl Print, alloc: Global) -> io::Result<()> {
-    tell(
-        rt,
-        "payloads of 1 to 100 groups of each length",
-        payloads::all_groups(alloc),
-    )?;
-    tell(
-        rt,
-        "log areas of 67108864 bytes, full of frames",
-        payloads::all_frames(alloc),
     )?;
     tell(
         rt,
@@ -175,7 +116,6 @@ fn tell_files(rt: &impl Print, alloc: Global) -> io::Result<()> {
 
 fn main(rt: HostRuntime) -> io::Result<()> {
     let alloc = rt.alloc();
-    tell_pages(&rt, alloc)?;
     tell_texts(&rt, alloc)?;
     tell_files(&rt, alloc)
 }

@@ -24,10 +24,6 @@ pub(crate) enum Missed {
     Frames {
         count: usize,
     },
-    /// Bytes that are a page weren't read.
-    NotRead,
-    /// A page was written as other bytes than it was read from.
-    WrittenOtherwise,
     /// A page was read that isn't the one of the bytes.
     AnotherPage,
     /// The file has another number of levels.
@@ -47,8 +43,6 @@ pub(crate) enum Missed {
     NotHome {
         page: u32,
     },
-    /// A call gave up, or found what it was given unfit.
-    Refused,
     /// A call answered otherwise than it should, for a page of so many leaves or steps.
     Otherwise {
         call: &'static str,

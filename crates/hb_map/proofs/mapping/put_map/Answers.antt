@@ -13,17 +13,17 @@ returns-in_err-parents-clause-begins g c = ([], stopped _ _ _ _ c.from_residual.
 
 pub returns-in_err-put_head-clause-map : goal.returns-in_err-put_head-clause-map
 returns-in_err-put_head-clause-map g c =
-    head_failed (g.D.Device.model (disk_of c.args.store.now)) (g.D.Device.model (disk_of c.count_parents.new.store)) (held_by c.args.store.now) (held_by c.count_parents.new.store) c.meta.result.now c.in_ok-parents.ensures.through c.meta.ensures.meta _ _ _ c.from_residual-in_err-put_head.ensures.0 c.in_err-put_head.ensures.tried
+    head_failed (g.D.Device.model (disk_of c.args.store.now)) (g.D.Device.model (disk_of c.count_parents.new.store)) (held_by c.args.store.now) (held_by c.count_parents.new.store) c.meta.result.now c.in_ok-parents.ensures.reads.through c.meta.ensures.meta _ _ _ c.from_residual-in_err-put_head.ensures.0 c.in_err-put_head.ensures.tried
 
 pub returns-in_err-put_head-clause-begins : goal.returns-in_err-put_head-clause-begins
 returns-in_err-put_head-clause-begins g c =
-    begins_failed (g.D.Device.model (disk_of c.args.store.now)) (g.D.Device.model (disk_of c.count_parents.new.store)) (held_by c.args.store.now) (held_by c.count_parents.new.store) c.meta.result.now c.in_ok-parents.ensures.through c.meta.ensures.meta _ _ _ c.from_residual-in_err-put_head.ensures.0 c.in_err-put_head.ensures.tried
+    begins_failed (g.D.Device.model (disk_of c.args.store.now)) (g.D.Device.model (disk_of c.count_parents.new.store)) (held_by c.args.store.now) (held_by c.count_parents.new.store) c.meta.result.now c.in_ok-parents.ensures.reads.through c.meta.ensures.meta _ _ _ c.from_residual-in_err-put_head.ensures.0 c.in_err-put_head.ensures.tried
 
 pub returns-clause-map : goal.returns-clause-map
 returns-clause-map g c =
-    whole_map (g.D.Device.model (disk_of c.args.store.now)) (g.D.Device.model (disk_of c.count_parents.new.store)) (held_by c.args.store.now) (held_by c.count_parents.new.store) c.meta.result.now c.in_ok-parents.ensures.through c.meta.ensures.meta c.put_pages.result c.deref.result.now _ _ _
+    whole_map (g.D.Device.model (disk_of c.args.store.now)) (g.D.Device.model (disk_of c.count_parents.new.store)) (held_by c.args.store.now) (held_by c.count_parents.new.store) c.meta.result.now c.in_ok-parents.ensures.reads.through c.meta.ensures.meta c.put_pages.result c.deref.result.now _ _ _
     (subst (λ (items : List ℕ). OfSoundFile (g.D.Device.model (disk_of c.args.store.now)) (held_by c.args.store.now) (λ s. AreParents s items)) (sym c.deref.ensures.value) c.in_ok-parents.ensures.parents) c.in_ok-put_head.ensures.done c.put_pages.ensures.pages
 
 pub returns-clause-begins : goal.returns-clause-begins
 returns-clause-begins g c =
-    begins_map (g.D.Device.model (disk_of c.args.store.now)) (g.D.Device.model (disk_of c.count_parents.new.store)) (held_by c.args.store.now) (held_by c.count_parents.new.store) c.meta.result.now c.in_ok-parents.ensures.through c.meta.ensures.meta c.put_pages.result _ _ _ c.in_ok-put_head.ensures.done c.put_pages.ensures.some
+    begins_map (g.D.Device.model (disk_of c.args.store.now)) (g.D.Device.model (disk_of c.count_parents.new.store)) (held_by c.args.store.now) (held_by c.count_parents.new.store) c.meta.result.now c.in_ok-parents.ensures.reads.through c.meta.ensures.meta c.put_pages.result _ _ _ c.in_ok-put_head.ensures.done c.put_pages.ensures.some

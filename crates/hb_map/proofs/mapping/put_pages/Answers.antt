@@ -26,7 +26,7 @@ loop-place-preserved g c =
     let inv = c.loop-place.invariant in
     let text = page_text (c.loop-place.place + 1) (get_or c.args.parents.now c.loop-place.place 0) c.in_ok-page.page in
     record {
-      through = looks_on _ _ _ _ _ _ (λ is. ok_no_err _ _ is) inv.through c.in_ok-page.ensures.through;
+      through = looks_on _ _ _ _ _ _ (λ is. ok_no_err _ _ is) inv.through c.in_ok-page.ensures.reads.through;
       high = inv.high;
       few = inv.few;
       faults = c.in_ok-put_page.ensures.counts.no_fault (λ e. false≢true e) ∙ inv.faults;

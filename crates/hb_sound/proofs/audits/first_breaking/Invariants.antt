@@ -5,4 +5,4 @@ use Rattle.hb_sound.proofs.audits.first_breaking.Given as goal
 
 -- none so far
 abbrev pub invariant-loop-place : goal.invariant-loop-place
-invariant-loop-place l = IsFirstUpTo (SeesRule l.facts l.rule) l.place None
+invariant-loop-place l = IsFirstUpTo (SeesRule l.facts.list.now l.rule) l.place None

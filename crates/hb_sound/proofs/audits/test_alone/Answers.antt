@@ -10,7 +10,7 @@ loop-rule-preserved c id rule some few sees =
       | inl before ↦ c.loop-rule.invariant id rule some before sees
       | inr here ↦
           let e : rule ≡ c.loop-rule.rule = omega (arith, here, few) in
-          let P : ℕ → Type 0 = λ r. SeesRule c.args.facts.now r id in
+          let P : ℕ → Type 0 = λ r. SeesRule c.args.facts.now.list.now r id in
           none id (subst P e sees)
     ]
 

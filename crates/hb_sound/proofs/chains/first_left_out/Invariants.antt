@@ -7,4 +7,4 @@ use Rattle.hb_sound.proofs.chains.first_left_out.Given as goal
 
 -- none so far
 abbrev pub invariant-loop-place : goal.invariant-loop-place
-invariant-loop-place l = (chain : List ℕ) → IsChained chain l.chained → IsFirstUpTo (IsLeftOut (next_at l.facts) chain) l.place None
+invariant-loop-place l = (chain : List ℕ) → IsChained chain l.chained → IsFirstUpTo (IsLeftOut (next_at l.facts.list.now) chain) l.place None

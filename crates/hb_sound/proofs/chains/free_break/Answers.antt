@@ -9,11 +9,11 @@ returns-in-Some c =
     let walk = c.walk-end.ensures.walked in
     let I : List Bool → Type 0 = λ flags. IsChained walk.0 flags in
     let flags = c.deref.ensures.value ∙ with_items_is c.in_ok-chained.chained c.walk-end.new.chained (omega (arith, c.walk-end.ensures.same, c.in_ok-chained.ensures.len)) in
-    left_one c.args.meta.now c.args.facts.now walk.0 c.walk-end.result c.in-Some.id walk.1 (c.in-Some.ensures walk.0 (subst I (sym flags) walk.2))
+    left_one c.args.facts.now.meta.now c.args.facts.now.list.now walk.0 c.walk-end.result c.in-Some.id walk.1 (c.in-Some.ensures walk.0 (subst I (sym flags) walk.2))
 
 pub returns : goal.returns
 returns c =
     let walk = c.walk-end.ensures.walked in
     let I : List Bool → Type 0 = λ flags. IsChained walk.0 flags in
     let flags = c.deref.ensures.value ∙ with_items_is c.in_ok-chained.chained c.walk-end.new.chained (omega (arith, c.walk-end.ensures.same, c.in_ok-chained.ensures.len)) in
-    ended c.args.meta.now c.args.facts.now walk.0 c.walk-end.result c.end_break.result walk.1 (c.in-None.ensures walk.0 (subst I (sym flags) walk.2)) c.end_break.ensures
+    ended c.args.facts.now.meta.now c.args.facts.now.list.now walk.0 c.walk-end.result c.end_break.result walk.1 (c.in-None.ensures walk.0 (subst I (sym flags) walk.2)) c.end_break.ensures

@@ -5,4 +5,4 @@ use Rattle.hb_sound.proofs.covers.first_same.Given as goal
 
 -- none so far
 abbrev pub invariant-loop-place : goal.invariant-loop-place
-invariant-loop-place l = IsFirstUpTo (SeesSome (HasBox l.level l.area) l.facts) l.place None
+invariant-loop-place l = IsFirstUpTo (SeesSome (HasBox l.level l.area) l.facts.list.now) l.place None

@@ -5,6 +5,6 @@ use Rattle.hb_sound.proofs.covers.firsts_of.Goals as goal
 
 pub loop-level-preserved : goal.loop-level-preserved
 loop-level-preserved c =
-    let Q : List ℕ → Type 0 = λ l. AreFirsts c.args.facts.now (c.loop-level.level + 1) c.args.whole.now l in
+    let Q : List ℕ → Type 0 = λ l. AreFirsts c.args.facts.now.list.now (c.loop-level.level + 1) c.args.whole.now l in
     subst Q (sym c.in_ok-push-in-Some.ensures.items)
-    (firsts_on c.args.facts.now c.loop-level.level c.args.whole.now c.loop-level.firsts.items c.in-Some.id c.loop-level.invariant c.in-Some.ensures)
+    (firsts_on c.args.facts.now.list.now c.loop-level.level c.args.whole.now c.loop-level.firsts.items c.in-Some.id c.loop-level.invariant c.in-Some.ensures)

@@ -3,4 +3,4 @@ use Rattle.hb_sound.proofs.covers.firsts_of.Given as goal
 
 -- those of the levels so far
 abbrev pub invariant-loop-level : goal.invariant-loop-level
-invariant-loop-level l = AreFirsts l.facts l.level l.whole l.firsts.items
+invariant-loop-level l = AreFirsts l.facts.list.now l.level l.whole l.firsts.items

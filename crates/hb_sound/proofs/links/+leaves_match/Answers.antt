@@ -1,9 +1,19 @@
-use Rattle.std.proofs.Common.{ℕ, ◌-◌, List, length, ap, sym, ◌∙◌, rules}
-use Rattle.std.proofs.lemmas.List.{length-set}
-use Rattle.hb_lemmas.proofs.Lists.{one_tells, put_back}
+use Rattle.std.proofs.Common.{◌∙◌, rules}
+use Rattle.hb_lemmas.proofs.Lists.{one_tells}
 use Rattle.hb_sound.specs.Facts.{FindsBelow, FindsSame}
 use Rattle.hb_sound.proofs.LeafTests.{both_match, right_cut}
+use Rattle.hb_sound.proofs.Sides.{hi_back, lo_back, other_side}
 use Rattle.hb_sound.proofs.links.+leaves_match.Goals as goal
+
+pub leaves_match-from-requires : goal.leaves_match-from-requires
+leaves_match-from-requires t c =
+    let axis = c.in-Cut.axis in
+    let value = c.in-Cut.value in
+    let side =
+    other_side c.args.corners.now c.replace_hi-greatest.new.self c.leaves_match-below.new.corners c.replace_hi.new.self c.replace_lo-least.new.self axis value c.replace_hi-greatest.result
+    c.replace_hi-greatest.ensures.replaced c.replace_hi-greatest.ensures.before c.leaves_match-below.ensures.same c.replace_hi.ensures.replaced c.replace_lo-least.ensures.replaced in
+    let cut = rw (← c.frag.view_is, c.in-Cut.is) at c.requires in
+    (search rules, rw c.deref-in-Cut.ensures (right_cut c.args.corners.now c.replace_lo-least.new.self axis value c.in-Cut.left.value c.in-Cut.right.value side cut))
 
 pub returns-in-Tip-clause-siblings : goal.returns-in-Tip-clause-siblings
 returns-in-Tip-clause-siblings t c = rw (← c.frag.view_is, c.in-Tip.is) (one_tells (FindsSame c.args.facts.now c.args.level) _ c.finds_same.result c.finds_same.ensures)
@@ -13,37 +23,34 @@ returns-in-Tip-clause-children t c = rw (← c.frag.view_is, c.in-Tip.is) (one_t
 
 pub returns-in-Cut-clause-siblings : goal.returns-in-Cut-clause-siblings
 returns-in-Cut-clause-siblings t c =
-    let at = c.from-at.result in
+    let axis = c.in-Cut.axis in
     let value = c.in-Cut.value in
+    let side =
+    other_side c.args.corners.now c.replace_hi-greatest.new.self c.leaves_match-below.new.corners c.replace_hi.new.self c.replace_lo-least.new.self axis value c.replace_hi-greatest.result
+    c.replace_hi-greatest.ensures.replaced c.replace_hi-greatest.ensures.before c.leaves_match-below.ensures.same c.replace_hi.ensures.replaced c.replace_lo-least.ensures.replaced in
     rw (← c.frag.view_is, c.in-Cut.is)
-    (both_match (FindsSame c.args.facts.now c.args.level) c.args.lo.now c.args.hi.now c.leaves_match-below.new.lo _ c.in-Cut.axis at value c.in-Cut.left.value c.in-Cut.right.value
-    c.leaves_match-below.result.0 c.leaves_match-from.result.0 c.both.result c.from-at.ensures c.leaves_match-below.ensures.lo
-    (put_back c.args.hi.now c.leaves_match-below.new.hi at (value - 1) 0 c.leaves_match-below.ensures.hi) c.both.ensures
+    (both_match (FindsSame c.args.facts.now c.args.level) c.args.corners.now c.replace_hi-greatest.new.self c.replace_lo-least.new.self axis value c.in-Cut.left.value c.in-Cut.right.value
+    c.leaves_match-below.result.0 c.leaves_match-from.result.0 c.both.result c.replace_hi-greatest.ensures.replaced side c.both.ensures
     (rw c.deref.ensures at c.leaves_match-below.ensures.siblings) (rw c.deref-in-Cut.ensures at c.leaves_match-from.ensures.siblings))
 
 pub returns-in-Cut-clause-children : goal.returns-in-Cut-clause-children
 returns-in-Cut-clause-children t c =
-    let at = c.from-at.result in
+    let axis = c.in-Cut.axis in
     let value = c.in-Cut.value in
+    let side =
+    other_side c.args.corners.now c.replace_hi-greatest.new.self c.leaves_match-below.new.corners c.replace_hi.new.self c.replace_lo-least.new.self axis value c.replace_hi-greatest.result
+    c.replace_hi-greatest.ensures.replaced c.replace_hi-greatest.ensures.before c.leaves_match-below.ensures.same c.replace_hi.ensures.replaced c.replace_lo-least.ensures.replaced in
     rw (← c.frag.view_is, c.in-Cut.is)
-    (both_match (FindsBelow c.args.facts.now c.args.level) c.args.lo.now c.args.hi.now c.leaves_match-below.new.lo _ c.in-Cut.axis at value c.in-Cut.left.value c.in-Cut.right.value
-    c.leaves_match-below.result.1 c.leaves_match-from.result.1 c.both-in-Cut.result c.from-at.ensures c.leaves_match-below.ensures.lo
-    (put_back c.args.hi.now c.leaves_match-below.new.hi at (value - 1) 0 c.leaves_match-below.ensures.hi) c.both-in-Cut.ensures
+    (both_match (FindsBelow c.args.facts.now c.args.level) c.args.corners.now c.replace_hi-greatest.new.self c.replace_lo-least.new.self axis value c.in-Cut.left.value c.in-Cut.right.value
+    c.leaves_match-below.result.1 c.leaves_match-from.result.1 c.both-in-Cut.result c.replace_hi-greatest.ensures.replaced side c.both-in-Cut.ensures
     (rw c.deref.ensures at c.leaves_match-below.ensures.children) (rw c.deref-in-Cut.ensures at c.leaves_match-from.ensures.children))
 
-pub returns-in-Cut-clause-lo : goal.returns-in-Cut-clause-lo
-returns-in-Cut-clause-lo t c = put_back c.leaves_match-below.new.lo c.leaves_match-from.new.lo c.from-at.result c.in-Cut.value 0 c.leaves_match-from.ensures.lo ∙ c.leaves_match-below.ensures.lo
-
-pub returns-in-Cut-clause-hi : goal.returns-in-Cut-clause-hi
-returns-in-Cut-clause-hi t c = c.leaves_match-from.ensures.hi ∙ put_back c.args.hi.now c.leaves_match-below.new.hi c.from-at.result (c.in-Cut.value - 1) 0 c.leaves_match-below.ensures.hi
-
-pub leaves_match-from-requires : goal.leaves_match-from-requires
-leaves_match-from-requires t c =
-    let at = c.from-at.result in
+pub returns-in-Cut-clause-same : goal.returns-in-Cut-clause-same
+returns-in-Cut-clause-same t c =
+    let axis = c.in-Cut.axis in
     let value = c.in-Cut.value in
-    let cut = rw (← c.frag.view_is, c.in-Cut.is) at c.requires.cut in
-    let back = put_back c.args.hi.now c.leaves_match-below.new.hi at (value - 1) 0 c.leaves_match-below.ensures.hi in
-    let right = right_cut c.args.lo.now c.args.hi.now c.leaves_match-below.new.lo _ c.in-Cut.axis at value c.in-Cut.left.value c.in-Cut.right.value c.from-at.ensures c.leaves_match-below.ensures.lo back cut in
-    let L : List ℕ → ℕ = λ l. length l in
-    let long = length-set c.leaves_match-below.new.lo at value ∙ ap L c.leaves_match-below.ensures.lo ∙ c.requires.same ∙ sym (ap L back) in
-    (search rules, (rw c.deref-in-Cut.ensures right, long))
+    let whole = hi_back c.args.corners.now c.replace_hi-greatest.new.self c.leaves_match-below.new.corners c.replace_hi.new.self axis value c.replace_hi-greatest.result
+    c.replace_hi-greatest.ensures.replaced c.replace_hi-greatest.ensures.before c.leaves_match-below.ensures.same c.replace_hi.ensures.replaced in
+    lo_back c.replace_hi.new.self c.replace_lo-least.new.self c.leaves_match-from.new.corners c.replace_lo.new.self axis value c.replace_lo-least.result
+    c.replace_lo-least.ensures.replaced c.replace_lo-least.ensures.before c.leaves_match-from.ensures.same c.replace_lo.ensures.replaced
+    ∙ whole

@@ -8,6 +8,6 @@ use Rattle.hb_sound.proofs.links.read_links.Given as goal
 abbrev pub invariant-loop-place : goal.invariant-loop-place
 invariant-loop-place g l = record {
   asks : Asks g.P.Pages.model g.P.Pages.asked ⊥ l.fn.pages l.pages;
-  same : vec_len l.links.named ≡ length l.facts;
-  links : IfSome (g.P.Pages.model l.fn.pages).told (λ told. (list : List Page) → AreRead told l.facts list → AreLinks l.facts list l.place l.links);
+  same : vec_len l.links.named ≡ length l.facts.list.now;
+  links : IfSome (g.P.Pages.model l.fn.pages).told (λ told. (list : List Page) → AreRead told l.facts.list.now list → AreLinks l.facts.list.now list l.place l.links);
 }

@@ -3,4 +3,4 @@ use Rattle.hb_sound.proofs.rests.add_sibling.Goals as goal
 
 pub returns-then-is_nothing : goal.returns-then-is_nothing
 returns-then-is_nothing c facts level before is =
-    lone_more facts level before c.args.rest.now c.lone.result c.args.name (record { lo = c.args.lo.now; hi = c.args.hi.now }) (c.is_nothing.ensures.0 c.if-is_nothing.true) c.lone.ensures is
+    lone_more facts level before c.args.rest.now c.lone.result c.args.name c.args.corners.now (c.is_nothing.ensures.0 c.if-is_nothing.true) c.lone.ensures is

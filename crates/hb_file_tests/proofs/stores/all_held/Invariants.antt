@@ -1,5 +1,5 @@
 use Rattle.hb_file_tests.specs.Driven.{IsDrivenHere}
-use Rattle.hb_file_tests.proofs.crowds.filled.Given as goal
+use Rattle.hb_file_tests.proofs.stores.all_held.Given as goal
 
 -- the store stays driven
 abbrev pub invariant-loop-id : goal.invariant-loop-id

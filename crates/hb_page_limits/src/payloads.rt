@@ -126,13 +126,10 @@ fn written(alloc: Global, groups: &[Group], k: u8) -> Result<Vec<u8>, NoMemory>
 }
 
 /// How many groups the bytes spell, and these once more as bytes.
-fn read(alloc: Global, bytes: &[u8], k: u8) -> Result<(usize, Vec<u8>), Missed>
-    requires some { 1 ≤ k }
-    requires few { k ≤ KMAX }
-{
-    match decode_all(alloc, bytes, Attributes { number: k }) {
+fn read(alloc: Global, bytes: &[u8], k: Attributes) -> Result<(usize, Vec<u8>), Missed> {
+    match decode_all(alloc, bytes, k) {
         Ok(groups) => {
-            let again = written(alloc, &groups, k)?;
+            let again = written(alloc, &groups, k.number)?;
             Ok((groups.len(), again))
         }
         Err(_) => Err(Missed::NotRead),
@@ -144,7 +141,7 @@ fn again(alloc: Global, bytes: &[u8], k: u8, count: u32) -> Result<(), Missed> {
     if k < 1 || KMAX < usize::from(k) {
         return Err(Missed::AnotherPage);
     }
-    let (groups, written) = read(alloc, bytes, k)?;
+    let (groups, written) = read(alloc, bytes, Attributes { number: k })?;
     if groups as u64 == u64::from(count) && written.as_slice() == bytes {
         return Ok(());
     }

@@ -75,9 +75,9 @@ pub(crate) fn changed(
 
 /// The part that leaves a page of a sound file.
 pub(crate) fn chosen(alloc: Global, page: &LivePage, meta: &Meta) -> Result<Extraction, Missed> {
-    if local_rule(page, meta).is_some() {
+    let None = local_rule(page, meta) else {
         return Err(Missed::AnotherPage);
-    }
+    };
     if page.weighs_at_most(5) || !page.weighs_at_most(256) {
         return Err(Missed::AnotherPage);
     }

@@ -1,5 +1,5 @@
 use Rattle.hb_file_tests.specs.Driven.{IsDrivenHere}
-use Rattle.hb_file_tests.proofs.stores.with_groups.Given as goal
+use Rattle.hb_file_tests.proofs.stores.all_taken.Given as goal
 
 -- the store stays driven
 abbrev pub invariant-loop-group : goal.invariant-loop-group

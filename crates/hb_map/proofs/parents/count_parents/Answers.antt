@@ -5,13 +5,13 @@ use Rattle.hb_map.specs.Map.{is_parent}
 use Rattle.hb_map.proofs.Countings.{all_counted, as_many_pages, counted_on, low_on}
 use Rattle.hb_map.proofs.Looks.{looks_on}
 use Rattle.hb_map.proofs.Readings.{ok_no_err}
-use Rattle.hb_map.proofs.parents.count_pages.Goals as goal
+use Rattle.hb_map.proofs.parents.count_parents.Goals as goal
 
 pub loop-place-preserved : goal.loop-place-preserved
 loop-place-preserved g c =
     let inv = c.loop-place.invariant in
     record {
-      through = looks_on _ _ _ _ _ _ (λ is. ok_no_err _ _ is) inv.through c.in_ok-page.ensures.through;
+      through = looks_on _ _ _ _ _ _ (λ is. ok_no_err _ _ is) inv.through c.in_ok-page.ensures.reads.through;
       high = inv.high;
       few = inv.few;
       long = c.count_page.ensures.long ∙ inv.long;

@@ -1,5 +1,5 @@
 use Rattle.hb_file_tests.specs.Driven.{IsDrivenHere}
-use Rattle.hb_file_tests.proofs.drives.driven.Given as goal
+use Rattle.hb_file_tests.proofs.drives.walked.Given as goal
 
 -- the store stays driven
 abbrev pub invariant-loop-step : goal.invariant-loop-step

@@ -1,6 +1,0 @@
-use Rattle.hb_file_tests.specs.Driven.{IsDrivenHere}
-use Rattle.hb_file_tests.proofs.homes.all_stepped.Given as goal
-
--- the store stays driven
-abbrev pub invariant-loop-step : goal.invariant-loop-step
-invariant-loop-step l = IsDrivenHere l.store.memory.state l.store.memory.uses
