@@ -1,4 +1,4 @@
-use Rattle.std.proofs.Common.{◌≡◌, [], refl}
+use Rattle.std.proofs.Common.{rules, ◌≡◌, [], refl}
 use Rattle.hb_gen.specs.Lines.{generated}
 use Rattle.hbpi.proofs.starting.draw_script.Goals as goal
 
