@@ -38,6 +38,10 @@ runs_form M form seen old new status ends file beyond untouched =
       untouched = untouched;
     }
 
+-- so of a form that is known to be another one
+pub of_form : {X : Type 0} {M : X → DiskModel} {seen : Seen} {old new : X} {status : Status} {known form : Option Form} → known ≡ form → RunsForm M known seen old new status → RunsForm M form seen old new status
+of_form {M = M} {seen = seen} {old = old} {new = new} {status = status} is runs = subst (λ (form : Option Form). RunsForm M form seen old new status) is runs
+
 -- words that are no form
 pub refused_words : {X : Type 0} (M : X → DiskModel) (seen : Seen) (old new : X) (status : Status) → HandsBack Usage status seen.sink_before seen.sink_after seen.answered seen.order old new → IsUnread seen → RunsForm M None seen old new status
 refused_words M seen old new status back unread =
