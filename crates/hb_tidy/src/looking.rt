@@ -6,7 +6,7 @@ ghost use Rattle.hb_store.specs.Fetching.{IsCrowdedOut, IsNoPage};
 ghost use Rattle.hb_store.specs.Replaying.{IsPageOf};
 ghost use Rattle.hb_store.specs.States.{IsGoodPage};
 ghost use Rattle.hb_core.specs.CoreSeen.{core_seen, core_disk};
-ghost use Rattle.hb_tidy.specs.Going.{MayTidy};
+ghost use Rattle.hb_tidy.specs.Going.{MayTidy, MayTidyWhere};
 ghost use Rattle.hb_tidy.specs.Looking.{LooksOver, NothingOf, SeesBy};
 
 use crate::TidyStop;
@@ -17,9 +17,8 @@ use hb_frag::{LivePage, Page};
 use hb_layout::Meta;
 
 /// The page of the number. Where memory has no place for it, a flush makes one.
-pub(crate) fn look<D: Device>(core: &mut Core<D>, id: u32) -> Result<Page, TidyStop>
-    requires may { MayTidy (D.model (core_disk core.old)) (core_seen core.old) }
-    requires page { IsPageOf (core_seen core.old).store.meta id }
+fn look<D: Device>(core: &mut Core<D>, id: u32) -> Result<Page, TidyStop>
+    requires { MayTidyWhere (λ meta. IsPageOf meta id) (D.model (core_disk core.old)) (core_seen core.old) }
     ensures looks { LooksOver NothingOf result (λ page s. page_of s id ≡ Some page) (D.model (core_disk core.old)) (core_seen core.old) (D.model (core_disk core.new)) (core_seen core.new) }
     ensures good { IfOk result (IsGoodPage (core_seen core.old).store.meta) }
 {
@@ -33,8 +32,7 @@ pub(crate) fn look<D: Device>(core: &mut Core<D>, id: u32) -> Result<Page, TidyS
 
 /// The page of the number. `None` where memory has no place for it.
 fn look_once<D: Device>(core: &mut Core<D>, id: u32) -> Result<Option<Page>, TidyStop>
-    requires may { MayTidy (D.model (core_disk core.old)) (core_seen core.old) }
-    requires page { IsPageOf (core_seen core.old).store.meta id }
+    requires { MayTidyWhere (λ meta. IsPageOf meta id) (D.model (core_disk core.old)) (core_seen core.old) }
     ensures looks { LooksOver NothingOf result (λ seen s. IfSome seen (λ page. page_of s id ≡ Some page)) (D.model (core_disk core.old)) (core_seen core.old) (D.model (core_disk core.new)) (core_seen core.new) }
     ensures taken { (core_seen core.new).taken ≡ (core_seen core.old).taken }
     ensures crowded { IfOk result (λ seen. seen ≡ None → IsCrowdedOut id (core_seen core.new).store (core_seen core.new).uses) }
@@ -62,7 +60,7 @@ pub(crate) fn named_page<D: Device>(
     core: &mut Core<D>,
     id: u32,
 ) -> Result<Option<LivePage>, TidyStop>
-    requires may { MayTidy (D.model (core_disk core.old)) (core_seen core.old) }
+    requires { MayTidy (D.model (core_disk core.old)) (core_seen core.old) }
     ensures looks { LooksOver NothingOf result (λ page s. live_page s id ≡ page) (D.model (core_disk core.old)) (core_seen core.old) (D.model (core_disk core.new)) (core_seen core.new) }
     ensures good { IfOk result (λ seen. IfSome seen (FitsFile (core_seen core.old).store.meta)) }
 {

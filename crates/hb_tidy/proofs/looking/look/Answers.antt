@@ -1,9 +1,12 @@
 use Rattle.std.proofs.Common.{◌≡◌, None, Some, Ok, ◌∙◌, refl}
 use Rattle.hb_frag.specs.declared.pages.Page.{Page}
+use Rattle.hb_layout.specs.declared.meta.Meta.{Meta}
 use Rattle.hb_ops.specs.Files.{FileState, page_of}
+use Rattle.hb_store.specs.Replaying.{IsPageOf}
 use Rattle.hb_core.specs.CoreSeen.{core_seen, core_disk}
 use Rattle.hb_tidy.proofs.Exits.{ok_is, over_exit, over_value}
 use Rattle.hb_tidy.proofs.Joined.{over_ok, over_then}
+use Rattle.hb_tidy.proofs.KnownFiles.{still_known}
 use Rattle.hb_tidy.proofs.LooksMade.{SawPage}
 use Rattle.hb_tidy.proofs.RunsBegun.{over_none}
 use Rattle.hb_tidy.specs.Looking.{NothingOf}
@@ -68,5 +71,8 @@ returns-in_err-flush-in-None-clause-looks g c =
     (over_exit NothingOf c.in_err-flush-in-None.field-0.0 c.flush.result c.from_residual-in_err-flush-in-None.result (λ v. NothingOf) Is e f (core_seen c.look_once.new.core) (core_seen c.flush.new.core) c.in_err-flush-in-None.was c.from_residual-in_err-flush-in-None.ensures.1 c.flush.ensures.looks)
     (λ s w known said more. more)
 
-pub flush-requires-clause-crowded : goal.flush-requires-clause-crowded
-flush-requires-clause-crowded g c = (c.args.id, c.in_ok-page.ensures.crowded c.in-None.is)
+pub look_once-requires : goal.look_once-requires
+look_once-requires g c = still_known (λ (meta : Meta). IsPageOf meta c.args.id) (g.D.Device.model (core_disk c.loop-page.core)) (core_seen c.args.core.now) (core_seen c.loop-page.core) c.loop-page.invariant.may c.loop-page.invariant.meta c.requires.known
+
+pub flush-requires : goal.flush-requires
+flush-requires g c = record { may = c.in_ok-page.ensures.looks.may; crowded = (c.args.id, c.in_ok-page.ensures.crowded c.in-None.is) }

@@ -19,7 +19,7 @@ returns-then-is_beyond-clause-looks g c =
     let Is : Option LivePage → FileState → Type 0 = λ page s. live_page s c.args.id ≡ page in
     let beyond : IsNoPage old.store.meta c.args.id = subst (λ (meta : Meta). IsNoPage meta c.args.id) c.meta.ensures (c.if-is_beyond.ensures.0 refl) in
     over_file NothingOf (Ok None) Is d d old old
-    (nothing_looked d old (g.met.D.Device.is_disk (core_disk c.args.core.now)) c.requires.may None (λ s. IsFileOf old s × NothingOf s) Is (λ s known. none_there old s c.args.id known.0 beyond))
+    (nothing_looked d old (g.met.D.Device.is_disk (core_disk c.args.core.now)) c.requires None (λ s. IsFileOf old s × NothingOf s) Is (λ s known. none_there old s c.args.id known.0 beyond))
 
 pub returns-in_err-page-clause-looks : goal.returns-in_err-page-clause-looks
 returns-in_err-page-clause-looks g c =

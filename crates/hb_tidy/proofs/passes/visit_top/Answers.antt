@@ -25,7 +25,7 @@ returns-then-meta g c =
     let old = core_seen c.args.core.now in
     let none : old.store.meta.live ≡ old.store.meta.pages = search rules in
     over_full (λ s. live_page s s.meta.root ≡ Some c.args.page.now) (Clean HasLoneRoot old) (g.D.Device.model (core_disk c.args.core.now)) old (g.met.D.Device.is_disk (core_disk c.args.core.now)) c.requires.may none
-    (λ s file known. wants_growth old s c.args.page.now file known some c.requires.low none)
+    (λ s file known. wants_growth old s c.args.page.now file known some c.requires.known.1 none)
 
 pub returns : goal.returns
 returns g c =
@@ -33,4 +33,4 @@ returns g c =
     let old = core_seen c.args.core.now in
     let free : old.store.meta.live ≡ old.store.meta.pages → ⊥ = λ full. search rules in
     found_here (λ s. live_page s s.meta.root ≡ Some c.args.page.now) (λ s. OwesGrowth s × (s.meta.live ≢ s.meta.pages)) HasLoneRoot (g.D.Device.model (core_disk c.args.core.now)) (g.D.Device.model (core_disk c.owe_growth.new.core)) old (core_seen c.owe_growth.new.core)
-    (λ s file known. owes_growth old s c.args.page.now file known some c.requires.low free) c.owe_growth.ensures.looks c.owe_growth.ensures.some
+    (λ s file known. owes_growth old s c.args.page.now file known some c.requires.known.1 free) c.owe_growth.ensures.looks c.owe_growth.ensures.some
