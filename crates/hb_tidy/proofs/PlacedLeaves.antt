@@ -10,7 +10,7 @@ use Rattle.hb_frag.specs.declared.leaves.Leaf.TheVariants.{Records, Child, Sibli
 use Rattle.hb_frag.specs.declared.pages.LivePage.{LivePage}
 use Rattle.hb_frag.specs.Leaves.{Placed, leaves, leaves_of, siblings, siblings_of}
 use Rattle.hb_frag.specs.Rules.{BelongsAt}
-use Rattle.hb_frag.proofs.Facts.Tiles.{first_tells, leaves_placed, tiles_areas, tiles_attributes, tiles_within}
+use Rattle.hb_frag.proofs.Facts.Tiles.{first_tells, leaves_placed, tiles_attributes, tiles_within}
 use Rattle.hb_layout.specs.declared.meta.Meta.{Meta}
 use Rattle.hb_ops.proofs.Facts.PlacedLaws.{placed, placed_is_leaf, sibling_is_leaf}
 use Rattle.hb_ops.specs.Owing.{NamesChildAt}
@@ -77,9 +77,6 @@ module _ (meta : Meta) (parent : LivePage) (name : ℕ) (area : Area) (made : Fi
   above_records =
       let some : 0 < parent.level = All-contains (BelongsAt parent.level) (leaves parent.frag) (Child name) made.filled.kinds (names_child parent name area leaf) in
       omega (arith, some)
-
-  pub leaf_area : IsArea parent.area → IsArea area
-  leaf_area box = All-contains (λ (l : Placed). IsArea l.area) (leaves_of parent.frag parent.area) (placed (Child name) area) (tiles_areas parent.frag parent.area box made.well_cut) leaf
 
   pub stands_there : (page : LivePage) → IsArea parent.area → FitsFile meta page → (page.level + 1 ≡ parent.level) × Within area page.area → IsArea page.area → StandsBelow meta parent name area page
   stands_there page whole good (level, within) below = record { above_made = made; below_made = good; above_area = whole; below_area = below; leaf = leaf; level = level; within = within }

@@ -1,5 +1,5 @@
 -- What looks at the file come to: nothing in it changes, and what they see is of it.
-use Rattle.std.specs.Prelude.{◌≡◌, ◌≢◌, List, [], All, Result, Ok, Err, IfOk, OnOk, IfSome, Option, Some, None}
+use Rattle.std.specs.Prelude.{◌≡◌, List, [], All, Result, Ok, Err, IfOk, OnOk, IfSome, Option, Some, None}
 use Rattle.hb_activity.specs.declared.jobs.Job.{Job}
 use Rattle.hb_disk.specs.Model.{DiskModel}
 use Rattle.hb_frag.specs.declared.pages.Page.{Page}
@@ -47,11 +47,6 @@ NothingOf s = Unit {0}
 pub record LooksForJobs (knows : FileState → Type 0) {T : Type 0} (result : Result T TidyStop) (P : FileState → Type 0) (before after : List Job) (d : DiskModel) (old : RunningCore) (e : DiskModel) (new : RunningCore) : Type 0 where
   pub looks : LooksOver knows result (λ v s. FindsJobs s (P s) before after) d old e new
   pub fit : All (JobFits old.store.meta.k) before → OnOk result (All (JobFits old.store.meta.k) after)
-
--- A job comes to wait, where this is known of the file.
-pub record LetsJobWait (knows : FileState → Type 0) (d : DiskModel) (old : RunningCore) (e : DiskModel) (new : RunningCore) : Type 0 where
-  pub looks : LooksOver {T = Unit {0}} knows (Ok (tt {0})) (λ v. NothingOf) d old e new
-  pub some : new.jobs ≢ []
 
 -- What a look comes to, by what the core said of it: the page, or no page where there was no place for it.
 abbrev pub SeesBy : Result Page CopyStop → Result (Option Page) TidyStop → Type 0

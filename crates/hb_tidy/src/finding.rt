@@ -195,23 +195,11 @@ fn plans_merge(meta: &Meta, parent: &Numbered, keep: &Numbered, gone: u32, going
     requires { MayPlanMerge meta.now parent.now.page keep.now.page going.now }
     ensures { IsTrue result ↔ MayMerge parent.now.page keep.now.page gone going.now (capacity_of keep.now.page.level meta.now.dcap meta.now.icap) }
 {
-    let plan = merge_plan(
-        &parent.page,
-        &keep.page,
-        gone,
-        going,
-        capacity(&keep.page, meta),
-    );
-    plan == MergePlan::Merge
-}
-
-/// What a page of this level may weigh.
-fn capacity(page: &LivePage, meta: &Meta) -> u16
-    ensures { result ≡ capacity_of page.now.level meta.now.dcap meta.now.icap }
-{
-    if page.level == 0 {
+    let cap = if keep.page.level == 0 {
         meta.dcap
     } else {
         meta.icap
-    }
+    };
+    let plan = merge_plan(&parent.page, &keep.page, gone, going, cap);
+    plan == MergePlan::Merge
 }

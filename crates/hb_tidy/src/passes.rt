@@ -1,14 +1,15 @@
 //! A pass over the whole file: what is found waits as a job for the workers.
 ghost use Rattle.std.specs.Prelude.{◌≡◌, ◌≢◌, ◌<◌, ◌≤◌, ◌↔◌, [], All, IsTrue, Ok, Some};
+ghost use Rattle.hb_activity.specs.declared.jobs.JobKind.TheVariants.{Post};
 ghost use Rattle.hb_layout.specs.declared.limits.TheConstants.{HEIGHT_MAX};
 ghost use Rattle.hb_ops.specs.Files.{live_page};
 ghost use Rattle.hb_ops.specs.Settled.{HasLoneRoot};
 ghost use Rattle.hb_ops.specs.Sound.{FitsFile};
 ghost use Rattle.hb_core.specs.CoreSeen.{core_seen, core_disk};
 ghost use Rattle.hb_core.specs.KeptFits.{JobFits};
-ghost use Rattle.hb_tidy.specs.Finding.{HasGrown, IsTidy, IsTidyAt, OwesGrowth};
+ghost use Rattle.hb_tidy.specs.Finding.{HasGrown, IsTidy, IsTidyAt};
 ghost use Rattle.hb_tidy.specs.Going.{MayTidy, MayTidyWhere};
-ghost use Rattle.hb_tidy.specs.Looking.{LetsJobWait, LooksOver, NothingOf};
+ghost use Rattle.hb_tidy.specs.Looking.{LooksOver, NothingOf};
 ghost use Rattle.hb_tidy.specs.Owed.{IsJobOwed};
 
 use crate::TidyStop;
@@ -52,7 +53,8 @@ fn visit_root<D: Device>(alloc: Global, core: &mut Core<D>) -> Result<(), TidySt
     match named_page(core, root)? {
         Some(page) => visit_top(alloc, core, &page),
         None => {
-            owe_growth(core);
+            let job = growth_job(core);
+            wait_for(core, job);
             Ok(())
         }
     }
@@ -79,23 +81,24 @@ fn visit_top<D: Device>(alloc: Global, core: &mut Core<D>, page: &LivePage) -> R
     if core.meta().live == core.meta().pages {
         return Err(TidyStop::Full);
     }
-    owe_growth(core);
+    let job = growth_job(core);
+    wait_for(core, job);
     Ok(())
 }
 
-/// Lets the job for a growth wait.
-fn owe_growth<D: Device>(core: &mut Core<D>)
-    requires { MayTidy (D.model (core_disk core.old)) (core_seen core.old) }
-    ensures { LetsJobWait (λ s. OwesGrowth s × (s.meta.live ≢ s.meta.pages))
-        (D.model (core_disk core.old)) (core_seen core.old) (D.model (core_disk core.new)) (core_seen core.new) }
+/// The job for a growth.
+fn growth_job<D: Device>(core: &Core<D>) -> Job
+    requires { MayTidy (D.model (core_disk core.now)) (core_seen core.now) }
+    ensures kind { result.kind ≡ Post }
+    ensures level { result.level ≡ (core_seen core.now).store.meta.height }
+    ensures fits { JobFits (core_seen core.now).store.meta.k result }
 {
     let whole = Area::whole(core.meta().k);
-    let job = Job {
+    Job {
         kind: JobKind::Post,
         level: core.meta().height,
         point: whole.lo().copy(),
-    };
-    wait_for(core, job);
+    }
 }
 
 /// Looks at the page of the number, where it is in use, and at the pages below it, and lets a job wait for each thing that is found.
@@ -145,8 +148,9 @@ fn wait_for_all<D: Device>(core: &mut Core<D>, jobs: &[Job])
 fn wait_for<D: Device>(core: &mut Core<D>, job: Job)
     requires { MayTidyWhere (λ meta. JobFits meta.k job)
         (D.model (core_disk core.old)) (core_seen core.old) }
-    ensures { LetsJobWait (λ s. IsJobOwed s job)
+    ensures looks { LooksOver (λ s. IsJobOwed s job) (Ok result) (λ v. NothingOf)
         (D.model (core_disk core.old)) (core_seen core.old) (D.model (core_disk core.new)) (core_seen core.new) }
+    ensures some { (core_seen core.new).jobs ≢ [] }
 {
     let _waits = core.add_job(job);
 }

@@ -26,10 +26,10 @@ returns-in_err-children g c =
 pub look_at_all-requires : goal.look_at_all-requires
 look_at_all-requires g c =
     let old = (core_seen c.args.core.now).store.meta in
-    let is : c.as_slice.result.now ≡ placed_children c.args.parent.now.page = c.as_slice.ensures.value ∙ c.in_ok-children.ensures.leaves in
+    let Placed : List (ℕ × Area) → Type 0 = λ ls. All (λ (leaf : ℕ × Area). HasPlacedChild old c.args.parent.now.page leaf.0 leaf.1) ls in
     record {
       may = c.requires.may;
-      known = subst (λ (ls : List (ℕ × Area)). All (λ (leaf : ℕ × Area). HasPlacedChild old c.args.parent.now.page leaf.0 leaf.1) ls) (sym is) (leaves_are_placed old c.args.parent.now.page c.requires.known c.in_ok-children.ensures.area);
+      known = subst Placed (sym c.as_slice.ensures.value) (subst Placed (sym {b = placed_children c.args.parent.now.page} c.in_ok-children.ensures.leaves) (leaves_are_placed old c.args.parent.now.page c.requires.known c.in_ok-children.ensures.area));
     }
 
 pub returns-in_err-look_at_all : goal.returns-in_err-look_at_all

@@ -51,11 +51,11 @@ pub returns-in-None : goal.returns-in-None
 returns-in-None g c =
     let d = g.D.Device.model (core_disk c.args.core.now) in
     let e = g.D.Device.model (core_disk c.named_page.new.core) in
-    let f = g.D.Device.model (core_disk c.owe_growth.new.core) in
+    let f = g.D.Device.model (core_disk c.wait_for.new.core) in
     let old = core_seen c.args.core.now in
     let Was : ℕ → Option LivePage → FileState → Type 0 = λ root page s. live_page s root ≡ page in
     let root : c.meta-2.result.now.root ≡ old.store.meta.root = ap (λ (meta : Meta). meta.root) c.meta-2.ensures in
-    root_there _ HasGrown d e f old (core_seen c.named_page.new.core) (core_seen c.owe_growth.new.core)
+    root_there _ HasGrown d e f old (core_seen c.named_page.new.core) (core_seen c.wait_for.new.core)
     (subst (λ (n : ℕ). LooksOver {T = Option LivePage} NothingOf (Ok None) (Was n) d old e (core_seen c.named_page.new.core)) root
     (over_value NothingOf None c.named_page.result (Was c.meta-2.result.now.root) d e old (core_seen c.named_page.new.core) (ok_is c.named_page.result c.in_ok-page.field-0 None c.in_ok-page.was c.in-None.is) c.named_page.ensures.looks))
-    c.owe_growth.ensures.looks
+    c.wait_for.ensures.looks
