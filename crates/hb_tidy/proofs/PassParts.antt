@@ -58,13 +58,13 @@ pages_all d e old new one =
     (over_ok (λ s. IsFileOf old s × NothingOf s) (tt {0}) (tt {0}) (CleanUpTo new old.store.meta.high) (Clean IsTidy new) d e old new (λ s known said none. let all = said none in file_is_tidy old s known.0 all.0 all.1)
     (over_known (λ s. IsFileOf old s × NothingOf s) (Ok (tt {0})) (CleanUpTo new old.store.meta.high) d e old new one))
 
--- a page was found, and looked below; or none is there
-pub page_then : (id : ℕ) (page : LivePage) (P : FileState → Type 0) (r : Result (Unit {0}) TidyStop) (d e f : DiskModel) (old mid new : RunningCore) → LooksOver {T = Option LivePage} NothingOf (Ok (Some page)) (λ page s. live_page s id ≡ page) d old e mid
-    → LooksOver (λ s. live_page s id ≡ Some page) r (Clean P new) e mid f new → LooksOver NothingOf r (Clean P new) d old f new
-page_then id page P r d e f old mid new one two = over_then NothingOf (Some page) (λ page s. live_page s id ≡ page) (λ s. live_page s id ≡ Some page) r (Clean P new) (Clean P new) d e f old mid new one (λ s known said. said) two (λ s v known said more. more)
+-- what was seen of a page was looked below; or nothing is there
+pub page_then : (id : ℕ) (seen : Option LivePage) (P : FileState → Type 0) (r : Result (Unit {0}) TidyStop) (d e f : DiskModel) (old mid new : RunningCore) → LooksOver NothingOf (Ok seen) (λ page s. live_page s id ≡ page) d old e mid
+    → LooksOver (λ s. live_page s id ≡ seen) r (Clean P new) e mid f new → LooksOver NothingOf r (Clean P new) d old f new
+page_then id seen P r d e f old mid new one two = over_then NothingOf seen (λ page s. live_page s id ≡ page) (λ s. live_page s id ≡ seen) r (Clean P new) (Clean P new) d e f old mid new one (λ s known said. said) two (λ s v known said more. more)
 
-pub no_page : (id : ℕ) (d e : DiskModel) (old new : RunningCore) → LooksOver {T = Option LivePage} NothingOf (Ok None) (λ page s. live_page s id ≡ page) d old e new → LooksOver NothingOf (Ok (tt {0})) (Clean (λ s. IsTidyAt s id) new) d old e new
-no_page id d e old new one = over_ok {T = Option LivePage} NothingOf None (tt {0}) (λ page s. live_page s id ≡ page) (Clean (λ s. IsTidyAt s id) new) d e old new (λ s known said none. unused_is_tidy s id said) one
+pub no_page : (id : ℕ) (d : DiskModel) (c : RunningCore) → IsDisk d → MayTidy d c → LooksOver (λ s. live_page s id ≡ None) (Ok (tt {0})) (Clean (λ s. IsTidyAt s id) c) d c d c
+no_page id d c disk may = nothing_looked d c disk may (tt {0}) (λ s. live_page s id ≡ None) (Clean (λ s. IsTidyAt s id) c) (λ s known none. unused_is_tidy s id known)
 
 -- ---- the root
 

@@ -1,5 +1,5 @@
 //! A pass over the whole file: what is found waits as a job for the workers.
-ghost use Rattle.std.specs.Prelude.{◌≡◌, ◌≢◌, ◌<◌, ◌≤◌, ◌↔◌, [], All, IsTrue, Ok, Some};
+ghost use Rattle.std.specs.Prelude.{◌≡◌, ◌≢◌, ◌<◌, ◌≤◌, ◌↔◌, [], All, IfSome, IsTrue, Ok, Some};
 ghost use Rattle.hb_activity.specs.declared.jobs.JobKind.TheVariants.{Post};
 ghost use Rattle.hb_layout.specs.declared.limits.TheConstants.{HEIGHT_MAX};
 ghost use Rattle.hb_ops.specs.Files.{live_page};
@@ -35,7 +35,8 @@ pub(crate) fn pass<D: Device>(alloc: Global, core: &mut Core<D>) -> Result<(), T
     visit_root(alloc, core)?;
     let high = core.meta().high;
     for place in 0..high {
-        visit(alloc, core, place + 1)?;
+        let seen = named_page(core, place + 1)?;
+        visit(alloc, core, place + 1, seen)?;
     }
     Ok(())
 }
@@ -101,13 +102,19 @@ fn growth_job<D: Device>(core: &Core<D>) -> Job
     }
 }
 
-/// Looks at the page of the number, where it is in use, and at the pages below it, and lets a job wait for each thing that is found.
-fn visit<D: Device>(alloc: Global, core: &mut Core<D>, id: u32) -> Result<(), TidyStop>
-    requires { MayTidy (D.model (core_disk core.old)) (core_seen core.old) }
-    ensures { LooksOver NothingOf result (λ v s. (core_seen core.new).jobs ≡ [] → IsTidyAt s id)
+/// Looks below what was seen of the page of a number, and lets a job wait for each thing that is found.
+fn visit<D: Device>(
+    alloc: Global,
+    core: &mut Core<D>,
+    id: u32,
+    seen: Option<LivePage>,
+) -> Result<(), TidyStop>
+    requires { MayTidyWhere (λ meta. IfSome seen (FitsFile meta))
+        (D.model (core_disk core.old)) (core_seen core.old) }
+    ensures { LooksOver (λ s. live_page s id ≡ seen) result (λ v s. (core_seen core.new).jobs ≡ [] → IsTidyAt s id)
         (D.model (core_disk core.old)) (core_seen core.old) (D.model (core_disk core.new)) (core_seen core.new) }
 {
-    match named_page(core, id)? {
+    match seen {
         Some(page) => visit_page(alloc, core, &Numbered { id, page }),
         None => Ok(()),
     }

@@ -55,7 +55,7 @@ returns g c =
     let Above : FileState → Type 0 = λ s. live_page s c.args.parent.now.id ≡ Some c.args.parent.now.page in
     let Was : List Job → Type 0 = λ found. LooksOver {T = Unit {0}} Above (Ok (tt {0})) (λ v s. FindsJobs s (IsTidyAt s c.args.parent.now.id) [] found) d old e mid in
     let Begun : List Job → Type 0 = λ first. LooksOver {T = Unit {0}} Above (Ok (tt {0})) (λ v s. FindsJobs s (IsTidyAt s c.args.parent.now.id) first c.look_at_all.new.jobs.items) d old e mid in
-    let all = leaves_all c.args.parent.now.id c.args.parent.now.page c.as_slice.result.now _ c.look_at_all.new.jobs.items d e old mid (c.as_slice.ensures.value ∙ c.in_ok-children.ensures.leaves)
+    let all = leaves_all c.args.parent.now.id c.args.parent.now.page c.as_slice.result.now _ c.look_at_all.new.jobs.items d e old mid (◌∙◌ {c = placed_children c.args.parent.now.page} c.as_slice.ensures.value c.in_ok-children.ensures.leaves)
     (over_value Above (tt {0}) c.look_at_all.result _ d e old mid c.in_ok-look_at_all.was c.look_at_all.ensures.looks) in
     waits_then Above c.as_slice-2.result.now (λ s. IsTidyAt s c.args.parent.now.id) d e f old mid (core_seen c.wait_for_all.new.core) c.wait_for_all.ensures.some
     (subst Was (sym c.as_slice-2.ensures.value) (subst Begun c.new-jobs.ensures.items all))
