@@ -44,7 +44,7 @@ abbrev pub NothingOf : FileState → Type 0
 NothingOf s = Unit {0}
 
 -- A look at a part of the file, by which jobs were added for what was found. Where those before fit the file each does.
-pub record LooksForJobs (knows : FileState → Type 0) {T : Type 0} (result : Result T TidyStop) (P : FileState → Type 0) (before after : List Job) (d : DiskModel) (old : RunningCore) (e : DiskModel) (new : RunningCore) : Type 0 where
+pub record LooksForJobs (knows : FileState → Type 0) (result : Result (Unit {0}) TidyStop) (P : FileState → Type 0) (before after : List Job) (d : DiskModel) (old : RunningCore) (e : DiskModel) (new : RunningCore) : Type 0 where
   pub looks : LooksOver knows result (λ v s. FindsJobs s (P s) before after) d old e new
   pub fit : All (JobFits old.store.meta.k) before → OnOk result (All (JobFits old.store.meta.k) after)
 

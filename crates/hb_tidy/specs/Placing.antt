@@ -50,13 +50,14 @@ pub record StandsBelow (meta : Meta) (parent : LivePage) (name : ℕ) (area : Ar
   pub level : child.level + 1 ≡ parent.level
   pub within : Within area child.area
 
--- It gave this other box away; or one with a point of the leaf.
+-- A page stands below a leaf of this box, and gave this other box away.
 pub record HasGiven (meta : Meta) (parent : LivePage) (area : Area) (child : LivePage) (given : Area) : Type 0 where
   pub name : ℕ
   pub stands : StandsBelow meta parent name area child
   pub inner : ℕ
   pub listed : Contains (siblings_of child) (inner, given)
 
+-- It gave away a box with this point, which the leaf has.
 pub record OwesAt (meta : Meta) (parent : LivePage) (area : Area) (child : LivePage) (point : List ℕ) : Type 0 where
   pub name : ℕ
   pub stands : StandsBelow meta parent name area child
@@ -65,14 +66,14 @@ pub record OwesAt (meta : Meta) (parent : LivePage) (area : Area) (child : LiveP
   pub given : Contains (siblings_of child) inner
   pub inside : Holds inner.1 point
 
--- Another page that is well made has the number that another child leaf names, or so the parent says.
+-- A page stands below a leaf of this box, and another one is well made, whose number a child leaf of the parent names.
 pub record IsChildPair (meta : Meta) (parent : LivePage) (name : ℕ) (area : Area) (keep : LivePage) (gone : ℕ) (going : LivePage) : Type 0 where
   pub layout : IsLayout meta
   pub stands : StandsBelow meta parent name area keep
   pub named : Contains (leaves parent.frag) (Child gone)
   pub made : FitsFile meta going
 
--- three pages that are well made
+-- three pages of one file, each well made
 pub record MayPlanMerge (meta : Meta) (parent keep going : LivePage) : Type 0 where
   pub layout : IsLayout meta
   pub parent_made : FitsFile meta parent

@@ -40,17 +40,18 @@ EndsStep other result = result ≡ Ok (tt {0})
 
 -- ---- what a call wants of the core, and what a step makes of it
 
--- The core may go on, and each actor is at rest; or each but the worker for this kind of jobs, for which there are some; or a page has no
--- place in memory.
+-- The core may go on, and each actor is at rest.
 pub record MayWorkOff (d : DiskModel) (c : RunningCore) : Type 0 where
   pub may : MayTidy d c
   pub rests : AllRest c
 
+-- The core may go on, and each actor is at rest but the worker for this kind of jobs. There are some for it.
 pub record MayTakeStep (kind : JobKind) (d : DiskModel) (c : RunningCore) : Type 0 where
   pub may : MayTidy d c
   pub rests : RestsBut (worker_for kind) c
   pub some : (m : Machine) → ShowsMachine d c m → 0 < jobs_of kind m
 
+-- The core may go on, and a page has no place in memory.
 pub record MayMakeRoom (d : DiskModel) (c : RunningCore) : Type 0 where
   pub may : MayTidy d c
   pub crowded : (id : ℕ) × IsCrowdedOut id c.store c.uses
