@@ -123,7 +123,9 @@ fn has_one(op: &Op) -> bool
 fn op_in(alloc: Global, bytes: &[u8]) -> Option<Op>
     ensures { IfSome result (λ op. OpHas 1 op) }
 {
-    let Group { op, .. } = decode_all(alloc, bytes, Attributes { number: 1 }).ok()?.pop()?;
+    let Group { op, .. } = decode_all(alloc, bytes, Attributes { number: 1 })
+        .ok()?
+        .pop()?;
     if has_one(&op) { Some(op) } else { None }
 }
 
@@ -316,12 +318,7 @@ pub(crate) fn forced(store: &mut Store<RotDisk>) -> bool
 
 /// Does the operation of a group where it is allowed, and where that is asked for forces all groups that wait. `None` where
 /// that failed.
-fn taken(
-    alloc: Global,
-    store: &mut Store<RotDisk>,
-    group: &[u8],
-    is_forced: bool,
-) -> Option<bool>
+fn taken(alloc: Global, store: &mut Store<RotDisk>, group: &[u8], is_forced: bool) -> Option<bool>
     requires { IsDrivenHere (seen_as store.old) (uses_of store.old) }
     ensures { IfSome result (λ _. IsDrivenHere (seen_as store.new) (uses_of store.new)) }
 {

@@ -1,6 +1,6 @@
 -- Pages that may all go stay such pages where another one comes that may.
-use Rattle.std.proofs.Common.{◌≡◌, ◌≢◌, ℕ, ◌+◌, ◌-◌, ◌≤◌, Bool, true, false, cond, List, [], ◌∷◌, ◌++◌, length, nat_lt, Option, Some, None, refl, sym, ap, ◌∙◌, arith}
-use Rattle.std.specs.List.{count_by, find, sum_by}
+use Rattle.std.proofs.Common.{◌≡◌, ℕ, ◌≤◌, Bool, true, false, cond, List, [], ◌∷◌, length, nat_lt, Option, Some, refl, sym, ap, ◌∙◌, arith}
+use Rattle.std.specs.List.{count_by, find}
 use Rattle.std.specs.Option.{is_some}
 use Rattle.std.specs.Set.{remove_key}
 use Rattle.std.proofs.lemmas.Bool.{eq-eqb, false≢true}
@@ -9,7 +9,7 @@ use Rattle.hb_frag.specs.declared.pages.Page.{Page}
 use Rattle.hb_layout.specs.declared.meta.Meta.{Meta}
 use Rattle.hb_pool.specs.declared.pools.TheConstants.{FRAMES}
 use Rattle.hb_pool.specs.Frames.{Use, fresh, has_id, may_go, must_stay}
-use Rattle.hb_pool.specs.Pools.{brought, frame_of, places, with_room}
+use Rattle.hb_pool.specs.Pools.{brought, frame_of, with_room}
 use Rattle.hb_store.specs.Calls.{use_fetched}
 use Rattle.hb_store.specs.Fetching.{IsCrowdedOut}
 use Rattle.hb_store.specs.Held.{IsTied}

@@ -1,5 +1,5 @@
 -- Looks at pages one after the other, and what is said of the file and of a stop, seen from before.
-use Rattle.std.proofs.Common.{◌≡◌, ℕ, List, subst, sym}
+use Rattle.std.proofs.Common.{subst}
 use Rattle.hb_disk.specs.Model.{DiskModel}
 use Rattle.hb_disk.proofs.Facts.FaultLaws.{ReadsOnly-none, ReadsOnly-then}
 use Rattle.hb_layout.specs.declared.meta.Meta.{Meta}

@@ -1,10 +1,9 @@
 -- Texts that are put piece by piece, and the pages of a file one by one.
-use Rattle.std.proofs.Common.{◌≡◌, ℕ, zero, suc, ◌+◌, List, [], ◌∷◌, ◌++◌, length, drop, slice_get, Option, Some, None, Result, IsErr, Ok, Err, refl, sym, ap, subst, ◌∙◌, arith, append_assoc, append-nil}
+use Rattle.std.proofs.Common.{◌≡◌, ℕ, zero, suc, ◌+◌, List, [], ◌∷◌, ◌++◌, drop, slice_get, Option, Some, Result, IsErr, Ok, Err, refl, sym, ap, subst, ◌∙◌, arith}
 use Rattle.std.proofs.lemmas.Bool.{false≢true}
 use Rattle.hb_frag.specs.declared.pages.Page.{Page}
 use Rattle.hb_ops.specs.Files.{FileState, page_at}
 use Rattle.hb_ops.proofs.Facts.PageNumberLaws.{page_at-suc}
-use Rattle.hb_outside.specs.Calls.{SinkModel, Puts}
 use Rattle.hb_outside.specs.Streams.{Appends, AppendsFront}
 use Rattle.hb_outside.proofs.Facts.PutLaws.{Appends-both, Appends-front, Appends-none, AppendsFront-longer}
 use Rattle.hb_map.specs.Map.{page_text, pages_text, parents_of}

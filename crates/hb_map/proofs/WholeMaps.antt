@@ -1,5 +1,5 @@
 -- The whole map, of its first line and the lines of all pages.
-use Rattle.std.proofs.Common.{◌≡◌, ℕ, ◌+◌, ◌<◌, ◌≤◌, Some, List, [], ◌++◌, length, drop, get_or, Option, Result, IsErr, refl, sym, ap, subst, ◌∙◌, append_assoc, append-nil, arith}
+use Rattle.std.proofs.Common.{◌≡◌, ℕ, ◌+◌, ◌<◌, ◌≤◌, Some, List, [], ◌++◌, length, drop, get_or, Option, Result, IsErr, sym, ap, subst, ◌∙◌, append_assoc, append-nil}
 use Rattle.std.proofs.Math.ListN.{drop_of_length-le}
 use Rattle.hb_disk.specs.Model.{DiskModel}
 use Rattle.hb_frag.specs.declared.pages.Page.{Page}
@@ -9,7 +9,7 @@ use Rattle.hb_outside.specs.Streams.{Appends, AppendsFront}
 use Rattle.hb_outside.proofs.Facts.PutLaws.{AppendsFront-longer}
 use Rattle.hb_store.specs.Held.{StoreHeld}
 use Rattle.hb_store.specs.Parts.{last_of}
-use Rattle.hb_map.specs.Map.{head_text, map_text, page_text, pages_text, parents_of}
+use Rattle.hb_map.specs.Map.{head_text, map_text, page_text, pages_text}
 use Rattle.hb_map.specs.Mapping.{AreParents, LooksThrough, OfSoundFile, PutsText}
 use Rattle.hb_map.proofs.Texts.{next_text, puts_behind, stopped}
 

@@ -22,13 +22,29 @@ pub(crate) fn count_parents<D: Device>(
     ensures long { IfOk result (λ parents. length parents.items ≡ (held_by store.old).state.meta.high) }
     ensures parents { IfOk result (λ parents. OfSoundFile (D.model (disk_of store.old)) (held_by store.old) (λ s. AreParents s parents.items)) }
 {
+    let mut parents = zeros(alloc, store.meta().high)?;
+    count_pages(alloc, store, &mut parents)?;
+    Ok(parents)
+}
+
+/// Counts each page as a parent of those that it names, from zeros on.
+fn count_pages<D: Device>(
+    alloc: Global,
+    store: &mut Store<D>,
+    parents: &mut [u32],
+) -> Result<(), MapStop>
+    requires may_go { MayAllGo (uses_of store.old) }
+    requires long { length parents.old ≡ (held_by store.old).state.meta.high }
+    requires none { (place : ℕ) → slice_index parents.old place ≡ 0 }
+    ensures reads { Reads result (D.model (disk_of store.old)) (D.model (disk_of store.new)) (held_by store.old) (held_by store.new) }
+    ensures parents { OnOk result (OfSoundFile (D.model (disk_of store.old)) (held_by store.old) (λ s. AreParents s parents.new)) }
+{
     let high = store.meta().high;
-    let mut parents = zeros(alloc, high)?;
     for place in 0..high {
         let page = read_page(alloc, store, place + 1)?;
-        count_page(alloc, &mut parents, &page)?;
+        count_page(alloc, parents, &page)?;
     }
-    Ok(parents)
+    Ok(())
 }
 
 /// So many zeros.

@@ -83,8 +83,8 @@ module _ (parent : ℕ) (above : LivePage) where
       (λ s w known said more. finds_both s _ _ _ first before after (λ so_far here. all_next (IsTidyBelow s parent) leaves i leaf lt is so_far here) said more)
 
   -- So nothing is found at the page, where these are all its child leaves.
-  pub leaves_all : {T : Type 0} (v : T) (jobs : T → List Job) (first : List Job) (leaves : List (ℕ × Area)) (d e : DiskModel) (old new : RunningCore) → leaves ≡ placed_children above → LooksOver (λ s. live_page s parent ≡ Some above) (Ok (tt {0})) (SeesAll leaves first (jobs v)) d old e new
-      → LooksOver (λ s. live_page s parent ≡ Some above) (Ok v) (λ w s. FindsJobs s (IsTidyAt s parent) first (jobs w)) d old e new
-  leaves_all v jobs first leaves d e old new is one =
-      over_ok IsAbove (tt {0}) v (SeesAll leaves first (jobs v)) (λ w s. FindsJobs s (IsTidyAt s parent) first (jobs w)) d e old new
-      (λ s known said. finds_less s (All (IsTidyBelow s parent) leaves) (IsTidyAt s parent) first (jobs v) (λ all. below_is_tidy s parent above known (subst (λ (ls : List (ℕ × Area)). All (IsTidyBelow s parent) ls) is all)) said) one
+  pub leaves_all : (leaves : List (ℕ × Area)) (first after : List Job) (d e : DiskModel) (old new : RunningCore) → leaves ≡ placed_children above → LooksOver (λ s. live_page s parent ≡ Some above) (Ok (tt {0})) (SeesAll leaves first after) d old e new
+      → LooksOver {T = Unit {0}} (λ s. live_page s parent ≡ Some above) (Ok (tt {0})) (λ v s. FindsJobs s (IsTidyAt s parent) first after) d old e new
+  leaves_all leaves first after d e old new is one =
+      over_ok IsAbove (tt {0}) (tt {0}) (SeesAll leaves first after) (λ v s. FindsJobs s (IsTidyAt s parent) first after) d e old new
+      (λ s known said. finds_less s (All (IsTidyBelow s parent) leaves) (IsTidyAt s parent) first after (λ all. below_is_tidy s parent above known (subst (λ (ls : List (ℕ × Area)). All (IsTidyBelow s parent) ls) is all)) said) one

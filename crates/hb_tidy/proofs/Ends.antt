@@ -16,7 +16,7 @@ use Rattle.hb_tidy.proofs.PassParts.{Clean}
 use Rattle.hb_tidy.proofs.Worked.{worked_as, worked_none, worked_then}
 use Rattle.hb_tidy.specs.declared.stops.TidyStop.{TidyStop}
 use Rattle.hb_tidy.specs.declared.stops.TidyStop.TheVariants as stops
-use Rattle.hb_tidy.specs.Counted.{AreAtMost, CountsRise, added}
+use Rattle.hb_tidy.specs.Counted.{CountsRise, added}
 use Rattle.hb_tidy.specs.Finding.{IsTidy}
 use Rattle.hb_tidy.specs.Going.{Goes, MayTidy}
 use Rattle.hb_tidy.specs.Looking.{LooksOver, NothingOf}
@@ -80,7 +80,3 @@ module _ (d e f : DiskModel) (old mid new : RunningCore) (counts : TidyCounts) (
       let file = ap file_now same ∙ last.same.file in
       let worked = subst (λ (x : Machine). HasWorked (Ok counts) old m new x) (sym same) (worked_as (tt {0}) counts old new m last.does.run.new (worked_then (tt {0}) (Ok (tt {0})) old mid new m first.run.new last.does.run.new first.worked last.does.worked)) in
       (t, worked, (runs_all f new t.new may (may_then d f m new t), subst (λ (o : Option FileState). IfSome o IsTidy) (sym file) (clean_file (file_now first.run.new) new none last.ok), counts_of old new counts (rise_then old mid new goes.counts looks.counts) may.left is))
-
--- counts that are no less, as `rise_of` wants them
-pub at_most : (old new : RunningCore) → CountsRise old new → AreAtMost old.done new.done
-at_most old new rise = record { grown = rise.grown; posted = rise.posted; split = rise.split; merged = rise.merged }

@@ -1,5 +1,5 @@
 -- What a call comes to that ends by an error of a call before.
-use Rattle.std.proofs.Common.{◌≡◌, Result, Ok, Err, sym, ap, ◌∙◌, subst}
+use Rattle.std.proofs.Common.{◌≡◌, Result, Ok, Err, OnOk, sym, ap, ◌∙◌, subst}
 use Rattle.std.specs.Result.{IsErrAnd}
 use Rattle.hb_disk.specs.Model.{DiskModel}
 use Rattle.hb_ops.specs.Files.{FileState}
@@ -12,6 +12,11 @@ use Rattle.hb_tidy.specs.Looking.{LooksOver}
 -- the error that a `?` hands on is the one that came
 abbrev pub HandsOn : {U : Type 0} → TidyStop → Result U TidyStop → Type 0
 HandsOn stop r = IsErrAnd r (λ y. y ≡ stop)
+
+-- it says nothing of what is so where all went well
+pub not_ok : {U : Type 0} (stop : TidyStop) (r : Result U TidyStop) (P : Type 0) → HandsOn stop r → OnOk r P
+not_ok stop (Ok v) P hands = absurd hands
+not_ok stop (Err other) P hands = tt
 
 pub goes_exit : {T U : Type 0} (stop : TidyStop) (first : Result T TidyStop) (r : Result U TidyStop) (d e : DiskModel) (old new : RunningCore) → first ≡ Err stop → HandsOn stop r → Goes first d old e new → Goes r d old e new
 goes_exit stop first (Ok v) d e old new is hands one = absurd hands

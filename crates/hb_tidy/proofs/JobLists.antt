@@ -1,5 +1,5 @@
 -- Lists of jobs, and of leaves that were gone over.
-use Rattle.std.proofs.Common.{◌≡◌, ℕ, ◌+◌, ◌<◌, ◌≤◌, ◌==◌, true, false, List, [], ◌∷◌, All, length, get_or, take, refl, sym, ap, subst, arith}
+use Rattle.std.proofs.Common.{◌≡◌, ℕ, ◌+◌, ◌<◌, ◌≤◌, ◌==◌, true, false, List, [], ◌∷◌, ◌++◌, All, length, get_or, take, refl, sym, ap, ◌∙◌, subst, arith}
 use Rattle.std.proofs.lemmas.Bool.{eqb-false, eqb-true}
 use Rattle.std.proofs.lemmas.List.{take_more}
 use Rattle.std.proofs.lemmas.List.Elements.{All-append, All-nil}
@@ -23,6 +23,10 @@ pub some_items : {X : Type 0} (xs : List X) (n : ℕ) → n ≡ length xs → (n
 some_items xs n long some empty =
     let none = ap (λ (ys : List _). length ys) empty in
     eqb-false n 0 some (omega (arith, long, none))
+
+pub some_added : {X : Type 0} (xs ys : List X) (x : X) → ys ≡ xs ++ x ∷ [] → ys ≡ [] → ⊥
+some_added {X = X} [] ys x is none = let never : ◌≡◌ {A = List X} [] (x ∷ []) = sym none ∙ is in cc never
+some_added {X = X} (y ∷ xs) ys x is none = let never : ◌≡◌ {A = List X} [] (y ∷ (xs ++ x ∷ [])) = sym none ∙ is in cc never
 
 -- a list that was gone over before its first item
 pub no_first : {X : Type 0} (xs : List X) (i : ℕ) → length xs ≤ i → i ≡ 0 → xs ≡ []

@@ -1,5 +1,5 @@
 -- What is known of the file of a machine that a core shows.
-use Rattle.std.proofs.Common.{◌≡◌, ◌⊎◌, inl, inr, ℕ, ◌-◌, ◌<◌, List, [], ◌∷◌, length, Option, Some, None, IfSome, Result, option_map, refl, ap, ◌∙◌, arith}
+use Rattle.std.proofs.Common.{◌≡◌, ◌⊎◌, inl, inr, ℕ, ◌-◌, ◌<◌, List, [], ◌∷◌, length, Option, Some, None, IfSome, Result, option_map, refl, sym, ap, ◌∙◌, subst, arith}
 use Rattle.hb_disk.specs.Model.{DiskModel}
 use Rattle.hb_frag.specs.declared.pages.Page.{Page}
 use Rattle.hb_lemmas.proofs.Booleans.{at_other}
@@ -14,8 +14,13 @@ use Rattle.hb_core.specs.Machines.{Files, Machine, current_file}
 use Rattle.hb_core.specs.Showing.{RunningCore}
 use Rattle.hb_core.specs.Working.{MayStep}
 use Rattle.hb_tidy.specs.declared.stops.TidyStop.{TidyStop}
+use Rattle.hb_tidy.specs.Going.{MayTidy, MayTidyWhere}
 use Rattle.hb_tidy.specs.Looking.{LooksOver}
 use Rattle.hb_tidy.specs.Tidying.{file_now}
+
+-- What is known of a file by what it says of itself is known as long as that stays.
+pub still_known : (P : Meta → Type 0) (d : DiskModel) (old new : RunningCore) → MayTidy d new → new.store.meta ≡ old.store.meta → P old.store.meta → MayTidyWhere P d new
+still_known P d old new may same known = record { may = may; known = subst P (sym same) known }
 
 -- It is sound, and says of itself what the core says.
 pub record IsFileOf (c : RunningCore) (s : FileState) : Type 0 where

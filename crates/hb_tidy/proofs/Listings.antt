@@ -2,14 +2,18 @@
 use Rattle.std.proofs.Common.{◌≡◌, List, [], ◌∷◌, ◌++◌, refl, sym, append-nil, append_assoc}
 use Rattle.hb_frag.specs.Leaves.{Placed}
 use Rattle.hb_frag.proofs.Facts.NamesListed.{siblings-append}
-use Rattle.hb_tidy.specs.Placing.{children}
+use Rattle.hb_tidy.specs.declared.listing.Names.{Names}
+use Rattle.hb_tidy.specs.declared.listing.Names.TheVariants.{Children, Siblings}
+use Rattle.hb_tidy.specs.Placing.{children, named_leaves}
 
-pub children-append : (xs ys : List Placed) → children (xs ++ ys) ≡ children xs ++ children ys
+children-append : (xs ys : List Placed) → children (xs ++ ys) ≡ children xs ++ children ys
 children-append [] ys = refl
 children-append (x ∷ xs) ys = rw (children-append xs ys) (sym (append_assoc _ (children xs) (children ys)))
 
-pub ruleset child_lists = (children-append, append_assoc)
+pub named_leaves-append : (names : Names) (xs ys : List Placed) → named_leaves names (xs ++ ys) ≡ named_leaves names xs ++ named_leaves names ys
+named_leaves-append Children xs ys = children-append xs ys
+named_leaves-append Siblings xs ys = siblings-append xs ys
 
-pub ruleset sibling_lists = (siblings-append, append_assoc)
+pub ruleset leaf_lists = (named_leaves-append, append_assoc)
 
 pub ruleset one_leaf = (append-nil)

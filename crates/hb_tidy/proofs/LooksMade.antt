@@ -42,7 +42,7 @@ pub record Looked (id : ℕ) (copied : Result Page CopyStop) (d : DiskModel) (ol
   pub reads : ReadsOnly (IsErrOf copied copies.ReadFault) d e
   pub counts : CountsStay old new
 
-pub looked_by : (id : ℕ) (copied : Result Page CopyStop) (d : DiskModel) (old : RunningCore) (e : DiskModel) (new : RunningCore) → IsDisk d → ((m : Machine) → MayStep d old m → (next : Machine) × CopiesPage id copied m next × MayStep e new next)
+looked_by : (id : ℕ) (copied : Result Page CopyStop) (d : DiskModel) (old : RunningCore) (e : DiskModel) (new : RunningCore) → IsDisk d → ((m : Machine) → MayStep d old m → (next : Machine) × CopiesPage id copied m next × MayStep e new next)
     → ReadsOnly (IsErrOf copied copies.ReadFault) d e → CountsStay old new → Looked id copied d old e new
 looked_by id copied d old e new disk told reads counts = record { disk = disk; told = told; reads = reads; counts = counts }
 
@@ -168,7 +168,7 @@ module _ (id : ℕ) (copied : Result Page CopyStop) (d : DiskModel) (old : Runni
     look_may : OnOk seen (MayTidy e new)
     look_may = let m = may.runs.0 in let shows = may.runs.1 in goes_on m shows may.runs.2 copied (looked.told m shows).1 seen sees
 
-    pub look_looks : LooksOver NothingOf seen (SawPage id) d old e new
+    look_looks : LooksOver NothingOf seen (SawPage id) d old e new
     look_looks = record {
       looks = λ m shows known.
           let t = looked_at m shows in
@@ -196,7 +196,7 @@ module _ (id : ℕ) (copied : Result Page CopyStop) (d : DiskModel) (old : Runni
     good_so m shows (Err copies.NoMemory) was r is = subst (λ (x : Result (Option Page) TidyStop). IfOk x (λ v. IfSome v (IsGoodPage old.store.meta))) (sym is) tt
     good_so m shows (Err (copies.Damaged page why)) was r is = subst (λ (x : Result (Option Page) TidyStop). IfOk x (λ v. IfSome v (IsGoodPage old.store.meta))) (sym is) tt
 
-    pub look_good : IfOk seen (λ v. IfSome v (IsGoodPage old.store.meta))
+    look_good : IfOk seen (λ v. IfSome v (IsGoodPage old.store.meta))
     look_good = let m = may.runs.0 in let shows = may.runs.1 in good_so m shows copied (looked.told m shows).1 seen sees
 
     crowded_so : (m : Machine) (shows : MayStep d old m) (c : Result Page CopyStop) → CopiesPage id c m (looked.told m shows).0 → (r : Result (Option Page) TidyStop) → SeesBy c r → IfOk r (λ v. v ≡ None → IsCrowdedOut id new.store new.uses)
@@ -210,5 +210,25 @@ module _ (id : ℕ) (copied : Result Page CopyStop) (d : DiskModel) (old : Runni
     crowded_so m shows (Err copies.NoMemory) was r is = subst (λ (x : Result (Option Page) TidyStop). IfOk x (λ v. v ≡ None → IsCrowdedOut id new.store new.uses)) (sym is) tt
     crowded_so m shows (Err (copies.Damaged page why)) was r is = subst (λ (x : Result (Option Page) TidyStop). IfOk x (λ v. v ≡ None → IsCrowdedOut id new.store new.uses)) (sym is) tt
 
-    pub look_crowded : IfOk seen (λ v. v ≡ None → IsCrowdedOut id new.store new.uses)
+    look_crowded : IfOk seen (λ v. v ≡ None → IsCrowdedOut id new.store new.uses)
     look_crowded = let m = may.runs.0 in let shows = may.runs.1 in crowded_so m shows copied (looked.told m shows).1 seen sees
+
+-- What a look comes to.
+pub record SeesPage (id : ℕ) (seen : Result (Option Page) TidyStop) (d : DiskModel) (old : RunningCore) (e : DiskModel) (new : RunningCore) : Type 0 where
+  pub looks : LooksOver NothingOf seen (SawPage id) d old e new
+  pub crowded : IfOk seen (λ v. v ≡ None → IsCrowdedOut id new.store new.uses)
+  pub good : IfOk seen (λ v. IfSome v (IsGoodPage old.store.meta))
+
+pub sees_page : (id : ℕ) (copied : Result Page CopyStop) (d : DiskModel) (old : RunningCore) (e : DiskModel) (new : RunningCore) → IsDisk d → ((m : Machine) → MayStep d old m → (next : Machine) × CopiesPage id copied m next × MayStep e new next)
+    → ReadsOnly (IsErrOf copied copies.ReadFault) d e → CountsStay old new → MayTidy d old → (seen : Result (Option Page) TidyStop) → SeesBy copied seen → SeesPage id seen d old e new
+sees_page id copied d old e new disk told reads counts may seen sees =
+    let looked = looked_by id copied d old e new disk told reads counts in
+    record {
+      looks = look_looks id copied d old e new looked may seen sees;
+      crowded = look_crowded id copied d old e new looked may seen sees;
+      good = look_good id copied d old e new looked may seen sees;
+    }
+
+-- the page came, or found no place
+pub sees_value : (id : ℕ) (seen : Result (Option Page) TidyStop) (v w : Option Page) (d : DiskModel) (old : RunningCore) (e : DiskModel) (new : RunningCore) → SeesPage id seen d old e new → seen ≡ Ok v → v ≡ w → SeesPage id (Ok w) d old e new
+sees_value id seen v w d old e new sees is same = subst (λ (r : Result (Option Page) TidyStop). SeesPage id r d old e new) (is ∙ ap (λ (x : Option Page). Ok x) same) sees

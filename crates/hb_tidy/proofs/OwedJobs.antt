@@ -1,7 +1,8 @@
 -- Jobs that were added to a list, and that the file owes them.
-use Rattle.std.proofs.Common.{◌≡◌, inl, inr, ℕ, List, [], ◌∷◌, ◌++◌, All, Option, Some, sym, ap, ◌∙◌, subst, append-nil, append_assoc}
+use Rattle.std.proofs.Common.{◌≡◌, inl, inr, ℕ, List, [], ◌∷◌, ◌++◌, All, Option, Some, Result, sym, ap, ◌∙◌, subst, append-nil, append_assoc}
 use Rattle.std.proofs.lemmas.List.Elements.{All-append, All-nil, All-weaker}
 use Rattle.hb_lemmas.proofs.Lists.{All-alone}
+use Rattle.hb_lemmas.proofs.Options.{on_ok_weaker}
 use Rattle.hb_activity.specs.declared.jobs.Job.{Job}
 use Rattle.hb_activity.specs.declared.jobs.JobKind.TheVariants.{Merge}
 use Rattle.hb_space.specs.Boxes.{Area}
@@ -15,8 +16,9 @@ use Rattle.hb_ops.specs.declared.operations.Op.TheVariants as ops
 use Rattle.hb_core.specs.KeptFits.{JobFits}
 use Rattle.hb_core.specs.Showing.{RunningCore}
 use Rattle.hb_tidy.proofs.KnownFiles.{IsFileOf}
+use Rattle.hb_tidy.specs.declared.stops.TidyStop.{TidyStop}
 use Rattle.hb_tidy.specs.Finding.{BothLive}
-use Rattle.hb_tidy.specs.Owed.{FindsJobs, HasAdded, IsAtCorner, IsJobOwed, IsPosting}
+use Rattle.hb_tidy.specs.Owed.{AddsPostings, FindsJobs, HasAdded, IsAtCorner, IsJobOwed, IsPosting}
 
 -- ---- a list of jobs
 
@@ -43,6 +45,18 @@ added_fit k P before after one all = subst (λ (jobs : List Job). All (JobFits k
 
 pub added_weaker : (k : ℕ) (P Q : Job → Type 0) (before after : List Job) → ((job : Job) → P job → Q job) → HasAdded k P before after → HasAdded k Q before after
 added_weaker k P Q before after imp one = record { added = one.added; is = one.is; fit = one.fit; each = All-weaker P Q imp one.added one.each }
+
+-- by a look behind another one: what the file says of itself stays
+pub fit_then : (old mid : Meta) (first before after : List Job) → mid ≡ old → (All (JobFits old.k) first → All (JobFits old.k) before) → (All (JobFits mid.k) before → All (JobFits mid.k) after) → All (JobFits old.k) first → All (JobFits old.k) after
+fit_then old mid first before after same one two all =
+    subst (λ (meta : Meta). All (JobFits meta.k) after) same (two (subst (λ (meta : Meta). All (JobFits meta.k) before) (sym same) (one all)))
+
+pub postings_weaker : {T : Type 0} (r : Result T TidyStop) (meta : Meta) (parent child : LivePage) (area : Area) (P Q : Type 0) (before after : List Job) → (P → Q) → AddsPostings r meta parent child area P before after → AddsPostings r meta parent child area Q before after
+postings_weaker r meta parent child area P Q before after imp one = record {
+  added = one.added;
+  none = on_ok_weaker r (after ≡ [] → (before ≡ []) × P) (after ≡ [] → (before ≡ []) × Q) (λ none empty. let all = none empty in (all.0, imp all.1)) one.none;
+  full = one.full;
+}
 
 -- ---- a file that owes them
 

@@ -16,7 +16,7 @@ use Rattle.hb_ops.specs.Settled.{HasLoneRoot}
 use Rattle.hb_sound.proofs.OneLevel.{same_page}
 use Rattle.hb_core.specs.Showing.{RunningCore}
 use Rattle.hb_tidy.proofs.CallsMade.{nothing_looked}
-use Rattle.hb_tidy.proofs.CleanPages.{file_is_tidy, tidy_at_next, tidy_at_none}
+use Rattle.hb_tidy.proofs.CleanPages.{file_is_tidy, tidy_at_next, tidy_at_none, unused_is_tidy}
 use Rattle.hb_tidy.proofs.Joined.{goes_next, over_goes, over_known, over_ok, over_then, over_weaker}
 use Rattle.hb_tidy.proofs.KnownFiles.{IsFileOf, over_file}
 use Rattle.hb_tidy.specs.declared.stops.TidyStop.{TidyStop}
@@ -30,11 +30,11 @@ abbrev pub Clean : (FileState → Type 0) → RunningCore → Unit {0} → FileS
 Clean P c v s = c.jobs ≡ [] → P s
 
 -- Jobs were found, and wait.
-pub waits_then : {T : Type 0} (jobs : List Job) (v : T) (items : T → List Job) (P : FileState → Type 0) (d e f : DiskModel) (old mid new : RunningCore) → jobs ≡ items v → (new.jobs ≡ [] → jobs ≡ []) → LooksOver NothingOf (Ok v) (λ w s. FindsJobs s (P s) [] (items w)) d old e mid
-    → LooksOver {T = Unit {0}} (λ s. All (IsJobOwed s) jobs) (Ok (tt {0})) (λ w. NothingOf) e mid f new → LooksOver NothingOf (Ok (tt {0})) (Clean P new) d old f new
-waits_then jobs v items P d e f old mid new is tells one two =
-    over_then NothingOf v (λ w s. FindsJobs s (P s) [] (items w)) (λ s. All (IsJobOwed s) jobs) (Ok (tt {0})) (λ w. NothingOf) (Clean P new) d e f old mid new one
-    (λ s known said. subst (λ (js : List Job). All (IsJobOwed s) js) (sym is) (said.owed (All-nil (IsJobOwed s)))) two (λ s w known said more none. (said.none (sym is ∙ tells none)).1)
+pub waits_then : (knows : FileState → Type 0) (found : List Job) (P : FileState → Type 0) (d e f : DiskModel) (old mid new : RunningCore) → (new.jobs ≡ [] → found ≡ []) → LooksOver {T = Unit {0}} knows (Ok (tt {0})) (λ v s. FindsJobs s (P s) [] found) d old e mid
+    → LooksOver {T = Unit {0}} (λ s. All (IsJobOwed s) found) (Ok (tt {0})) (λ w. NothingOf) e mid f new → LooksOver knows (Ok (tt {0})) (Clean P new) d old f new
+waits_then knows found P d e f old mid new tells one two =
+    over_then knows (tt {0}) (λ v s. FindsJobs s (P s) [] found) (λ s. All (IsJobOwed s) found) (Ok (tt {0})) (λ w. NothingOf) (Clean P new) d e f old mid new one
+    (λ s known said. said.owed (All-nil (IsJobOwed s))) two (λ s w known said more none. (said.none (tells none)).1)
 
 -- One page more, and the end.
 abbrev pub CleanUpTo : RunningCore → ℕ → Unit {0} → FileState → Type 0
@@ -57,6 +57,14 @@ pages_all d e old new one =
     over_file NothingOf (Ok (tt {0})) (Clean IsTidy new) d e old new
     (over_ok (λ s. IsFileOf old s × NothingOf s) (tt {0}) (tt {0}) (CleanUpTo new old.store.meta.high) (Clean IsTidy new) d e old new (λ s known said none. let all = said none in file_is_tidy old s known.0 all.0 all.1)
     (over_known (λ s. IsFileOf old s × NothingOf s) (Ok (tt {0})) (CleanUpTo new old.store.meta.high) d e old new one))
+
+-- what was seen of a page was looked below; or nothing is there
+pub page_then : (id : ℕ) (seen : Option LivePage) (P : FileState → Type 0) (r : Result (Unit {0}) TidyStop) (d e f : DiskModel) (old mid new : RunningCore) → LooksOver NothingOf (Ok seen) (λ page s. live_page s id ≡ page) d old e mid
+    → LooksOver (λ s. live_page s id ≡ seen) r (Clean P new) e mid f new → LooksOver NothingOf r (Clean P new) d old f new
+page_then id seen P r d e f old mid new one two = over_then NothingOf seen (λ page s. live_page s id ≡ page) (λ s. live_page s id ≡ seen) r (Clean P new) (Clean P new) d e f old mid new one (λ s known said. said) two (λ s v known said more. more)
+
+pub no_page : (id : ℕ) (d : DiskModel) (c : RunningCore) → IsDisk d → MayTidy d c → LooksOver (λ s. live_page s id ≡ None) (Ok (tt {0})) (Clean (λ s. IsTidyAt s id) c) d c d c
+no_page id d c disk may = nothing_looked d c disk may (tt {0}) (λ s. live_page s id ≡ None) (Clean (λ s. IsTidyAt s id) c) (λ s known none. unused_is_tidy s id known)
 
 -- ---- the root
 

@@ -1,5 +1,5 @@
 -- Child leaves with their boxes: which pages they name, and what is known of a point in such a box.
-use Rattle.std.proofs.Common.{◌≡◌, ◌⊎◌, inl, inr, ℕ, ◌<◌, ◌≤◌, List, [], ◌∷◌, length, map, All, sym, ap, ◌∙◌, subst, arith}
+use Rattle.std.proofs.Common.{◌≡◌, ◌⊎◌, inl, inr, ℕ, ◌+◌, ◌<◌, ◌≤◌, List, [], ◌∷◌, length, map, All, sym, ap, ◌∙◌, subst, arith}
 use Rattle.std.specs.List.{Contains}
 use Rattle.std.proofs.lemmas.List.Elements.{All-contains, Contains-append_right}
 use Rattle.hb_lemmas.proofs.Lists.{each_member, first_member, later_member, member_cases, no_member}
@@ -10,13 +10,13 @@ use Rattle.hb_frag.specs.declared.leaves.Leaf.TheVariants.{Records, Child, Sibli
 use Rattle.hb_frag.specs.declared.pages.LivePage.{LivePage}
 use Rattle.hb_frag.specs.Leaves.{Placed, leaves, leaves_of, siblings, siblings_of}
 use Rattle.hb_frag.specs.Rules.{BelongsAt}
-use Rattle.hb_frag.proofs.Facts.Tiles.{first_tells, leaves_placed, tiles_areas, tiles_attributes, tiles_within}
+use Rattle.hb_frag.proofs.Facts.Tiles.{first_tells, leaves_placed, tiles_attributes, tiles_within}
 use Rattle.hb_layout.specs.declared.meta.Meta.{Meta}
 use Rattle.hb_ops.proofs.Facts.PlacedLaws.{placed, placed_is_leaf, sibling_is_leaf}
 use Rattle.hb_ops.specs.Owing.{NamesChildAt}
 use Rattle.hb_ops.specs.Settled.{HasChild}
 use Rattle.hb_ops.specs.Sound.{FitsFile}
-use Rattle.hb_tidy.specs.Placing.{StandsBelow, children, placed_children}
+use Rattle.hb_tidy.specs.Placing.{HasGiven, HasPlacedChild, StandsBelow, children, placed_children}
 
 -- ---- the list of child leaves
 
@@ -78,8 +78,12 @@ module _ (meta : Meta) (parent : LivePage) (name : ℕ) (area : Area) (made : Fi
       let some : 0 < parent.level = All-contains (BelongsAt parent.level) (leaves parent.frag) (Child name) made.filled.kinds (names_child parent name area leaf) in
       omega (arith, some)
 
-  pub leaf_area : IsArea parent.area → IsArea area
-  leaf_area box = All-contains (λ (l : Placed). IsArea l.area) (leaves_of parent.frag parent.area) (placed (Child name) area) (tiles_areas parent.frag parent.area box made.well_cut) leaf
+  pub stands_there : (page : LivePage) → IsArea parent.area → FitsFile meta page → (page.level + 1 ≡ parent.level) × Within area page.area → IsArea page.area → StandsBelow meta parent name area page
+  stands_there page whole good (level, within) below = record { above_made = made; below_made = good; above_area = whole; below_area = below; leaf = leaf; level = level; within = within }
+
+pub leaves_are_placed : (meta : Meta) (parent : LivePage) → FitsFile meta parent → IsArea parent.area → All (λ (leaf : ℕ × Area). HasPlacedChild meta parent leaf.0 leaf.1) (placed_children parent)
+leaves_are_placed meta parent made whole =
+    each_member (λ (leaf : ℕ × Area). HasPlacedChild meta parent leaf.0 leaf.1) (placed_children parent) (λ leaf has. record { made = made; whole = whole; leaf = listed_child (leaves_of parent.frag parent.area) leaf.0 leaf.1 has })
 
 -- ---- a point of its box
 
@@ -105,7 +109,13 @@ siblings_attributes : (ls : List Placed) (k : ℕ) → All (λ (l : Placed). len
 siblings_attributes ls k all = each_member (λ (s : ℕ × Area). length s.1.lo ≡ k) (siblings ls) (λ s has. All-contains (λ (l : Placed). length l.area.lo ≡ k) ls (placed (Sibling s.0) s.1) all (sibling_is_leaf ls s.0 s.1 has))
 
 -- the boxes that a page gave away have the file's number of attributes
-pub given_attributes : (meta : Meta) (page : LivePage) → FitsFile meta page → All (λ (s : ℕ × Area). length s.1.lo ≡ meta.k) (siblings_of page)
+given_attributes : (meta : Meta) (page : LivePage) → FitsFile meta page → All (λ (s : ℕ × Area). length s.1.lo ≡ meta.k) (siblings_of page)
 given_attributes meta page made =
     subst (λ (k : ℕ). All (λ (s : ℕ × Area). length s.1.lo ≡ k) (siblings_of page)) made.fits.attributes
     (siblings_attributes (leaves_of page.frag page.area) (length page.area.lo) (tiles_attributes page.frag page.area))
+
+-- as many as the leaf that it stands below
+pub common_attributes : (meta : Meta) (parent : LivePage) (area : Area) (child : LivePage) (given : Area) → HasGiven meta parent area child given → length area.lo ≡ length given.lo
+common_attributes meta parent area child given has =
+    leaf_attributes meta parent has.name area has.stands.above_made has.stands.leaf
+    ∙ sym (All-contains (λ (s : ℕ × Area). length s.1.lo ≡ meta.k) (siblings_of child) (has.inner, given) (given_attributes meta child has.stands.below_made) has.listed)

@@ -4,6 +4,7 @@ use Rattle.std.specs.List.{slice_get}
 use Rattle.hb_activity.specs.declared.activities.Activity.{Activity}
 use Rattle.hb_space.specs.Actors.{IsActor}
 use Rattle.hb_disk.specs.Model.{DiskModel}
+use Rattle.hb_layout.specs.declared.meta.Meta.{Meta}
 use Rattle.hb_core.specs.BetweenLaws.{CountsStayWithin, HeightIsCounted, LookingKeepsAll, WaitingKeepsAll}
 use Rattle.hb_core.specs.Counting.{CountsWithin}
 use Rattle.hb_core.specs.Machines.{Machine}
@@ -31,6 +32,11 @@ pub record MayTidy (d : DiskModel) (c : RunningCore) : Type 0 where
   pub runs : MayFlush d c
   pub counts : CountsWithin c
   pub left : c.taken < 2 ^ 64 - 1
+
+-- It may go on, and so much is known of its file, by what that says of itself. No look changes this.
+pub record MayTidyWhere (P : Meta → Type 0) (d : DiskModel) (c : RunningCore) : Type 0 where
+  pub may : MayTidy d c
+  pub known : P c.store.meta
 
 -- each actor but this one is at rest, as a core has them; or each, but for nobody
 abbrev pub RestsBut : ℕ → RunningCore → Type 0

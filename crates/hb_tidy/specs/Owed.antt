@@ -1,5 +1,5 @@
 -- What a file owes, and the jobs for it: why a job may wait.
-use Rattle.std.specs.Prelude.{◌≡◌, ◌≢◌, ◌⊎◌, ℕ, List, [], ◌++◌, All, Contains, Some}
+use Rattle.std.specs.Prelude.{◌≡◌, ◌≢◌, ◌⊎◌, ℕ, List, [], ◌++◌, All, Contains, Some, Result, IfErr, OnOk}
 use Rattle.hb_activity.specs.declared.jobs.Job.{Job}
 use Rattle.hb_activity.specs.declared.jobs.JobKind.{JobKind}
 use Rattle.hb_activity.specs.declared.jobs.JobKind.TheVariants.{Merge, Post}
@@ -11,7 +11,9 @@ use Rattle.hb_ops.specs.Files.{FileState, live_page}
 use Rattle.hb_ops.specs.Owing.{LacksRoom}
 use Rattle.hb_ops.specs.Settled.{HasChild, IsMergeable}
 use Rattle.hb_core.specs.KeptFits.{JobFits}
+use Rattle.hb_tidy.specs.declared.stops.TidyStop.{TidyStop}
 use Rattle.hb_tidy.specs.Finding.{BothLive, OwesGrowth}
+use Rattle.hb_tidy.specs.Placing.{IsNotOwed}
 
 -- ---- jobs that are made of pages
 
@@ -38,6 +40,13 @@ pub record HasAdded (k : ℕ) (P : Job → Type 0) (before after : List Job) : T
   pub is : after ≡ before ++ added
   pub fit : All (JobFits k) added
   pub each : All P added
+
+-- Jobs were added for postings that a child owes to its parent at a leaf of this box. Where there are none now there were none before,
+-- and this is so. An error says that one wasn't added.
+pub record AddsPostings {T : Type 0} (result : Result T TidyStop) (meta : Meta) (parent child : LivePage) (area : Area) (P : Type 0) (before after : List Job) : Type 0 where
+  pub added : OnOk result (HasAdded meta.k (IsPosting meta parent child area) before after)
+  pub none : OnOk result (after ≡ [] → (before ≡ []) × P)
+  pub full : IfErr result (IsNotOwed meta parent child)
 
 -- ---- jobs that a file owes
 

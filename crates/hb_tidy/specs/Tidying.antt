@@ -8,12 +8,13 @@ use Rattle.hb_outside.specs.Streams.{Rose}
 use Rattle.hb_set.specs.Machine.{RecordSet}
 use Rattle.hb_store.specs.declared.stops.StopWhy.TheVariants as whys
 use Rattle.hb_core.specs.declared.counts.TidyCounts.{TidyCounts}
+use Rattle.hb_core.specs.Counting.{CountsWithin}
 use Rattle.hb_core.specs.KeptMachine.{CoreKeeps}
 use Rattle.hb_core.specs.Machines.{Files, Machine, current_file}
 use Rattle.hb_core.specs.Runs.{ChangesFile, CountsFaults, CrashesTo}
 use Rattle.hb_core.specs.Showing.{RunningCore, ShowsMachine}
 use Rattle.hb_core.specs.Taking.{all_idle}
-use Rattle.hb_core.specs.Working.{MayGoOn}
+use Rattle.hb_core.specs.Working.{MayGoOn, MayStep}
 use Rattle.hb_tidy.specs.declared.stops.TidyStop.{TidyStop}
 use Rattle.hb_tidy.specs.declared.stops.TidyStop.TheVariants as stops
 use Rattle.hb_tidy.specs.Finding.{IsTidy, WantsPage}
@@ -21,6 +22,13 @@ use Rattle.hb_tidy.specs.Finding.{IsTidy, WantsPage}
 -- each actor is between commands and jobs
 abbrev pub AllAtRest : RunningCore → Type 0
 AllAtRest c = c.activities ≡ all_idle
+
+-- A core may be tidied: it isn't stopped, its actors are between commands and jobs, and it has counted no more operations of a kind
+-- than steps.
+pub record MayBeTidied (d : DiskModel) (c : RunningCore) : Type 0 where
+  pub may : (m : Machine) × MayStep d c m × (m.stop ≡ None)
+  pub idle : AllAtRest c
+  pub counts : CountsWithin c
 
 -- What is kept over a disk that tells, from a set on: all that was kept there, and the contents of the file. What crashes leave has
 -- the set after a prefix of the order.

@@ -1,22 +1,19 @@
 //! What is found below a page: at each of its child leaves.
-ghost use Rattle.std.specs.Prelude.{◌≡◌, ◌<◌, ◌≤◌, ℕ, All, IfOk, IfSome, IsSome, OnOk, Some, length};
-ghost use Rattle.hb_space.specs.Boxes.{IsArea};
-ghost use Rattle.hb_frag.specs.Leaves.{leaves, siblings_of};
-ghost use Rattle.hb_layout.specs.Limits.{IsLayout};
+ghost use Rattle.std.specs.Prelude.{◌≡◌, ◌+◌, ℕ, All, IfSome, None, Some, length};
+ghost use Rattle.hb_space.specs.Boxes.{IsArea, Within};
+ghost use Rattle.hb_frag.specs.Leaves.{siblings_of};
 ghost use Rattle.hb_ops.specs.Files.{live_page};
-ghost use Rattle.hb_ops.specs.Settled.{HasChild, IsMergeable};
+ghost use Rattle.hb_ops.specs.Settled.{IsMergeable};
 ghost use Rattle.hb_ops.specs.Sound.{FitsFile};
 ghost use Rattle.hb_core.specs.CoreSeen.{core_seen, core_disk};
-ghost use Rattle.hb_core.specs.KeptFits.{JobFits};
 ghost use Rattle.hb_tidy.specs.Finding.{BothLive, IsTidyBelow};
-ghost use Rattle.hb_tidy.specs.Going.{MayTidy};
-ghost use Rattle.hb_tidy.specs.Looking.{LooksOver};
-ghost use Rattle.hb_tidy.specs.Owed.{FindsJobs};
-ghost use Rattle.hb_tidy.specs.Placing.{StandsBelow, placed_children};
+ghost use Rattle.hb_tidy.specs.Going.{MayTidyWhere};
+ghost use Rattle.hb_tidy.specs.Looking.{LooksForJobs};
+ghost use Rattle.hb_tidy.specs.Placing.{HasPlacedChild, StandsBelow};
 
 use crate::TidyStop;
 use crate::finding::{Numbered, owe_job, owe_merge, owe_postings, stands_below};
-use crate::listing::sibling_leaves;
+use crate::listing::{Names, leaves_naming};
 use crate::looking::named_page;
 use hb_activity::{Job, JobKind};
 use hb_core::Core;
@@ -33,15 +30,11 @@ pub(crate) fn look_at_all<D: Device>(
     children: &[(u32, Area)],
     jobs: &mut Vec<Job>,
 ) -> Result<(), TidyStop>
-    requires may { MayTidy (D.model (core_disk core.old)) (core_seen core.old) }
-    requires made { FitsFile (core_seen core.old).store.meta parent.now.page }
-    requires area { IsArea parent.now.page.area }
-    requires leaves { children.now ≡ placed_children parent.now.page }
-    requires fit { All (JobFits (core_seen core.old).store.meta.k) jobs.old.items }
-    ensures looks { LooksOver (λ s. live_page s parent.now.id ≡ Some parent.now.page) result
-        (λ v s. FindsJobs s (All (IsTidyBelow s parent.now.id) children.now) jobs.old.items jobs.new.items)
+    requires { MayTidyWhere (λ meta. All (λ leaf. HasPlacedChild meta parent.now.page leaf.0 leaf.1) children.now)
+        (D.model (core_disk core.old)) (core_seen core.old) }
+    ensures { LooksForJobs (λ s. live_page s parent.now.id ≡ Some parent.now.page) result
+        (λ s. All (IsTidyBelow s parent.now.id) children.now) jobs.old.items jobs.new.items
         (D.model (core_disk core.old)) (core_seen core.old) (D.model (core_disk core.new)) (core_seen core.new) }
-    ensures fit { OnOk result (All (JobFits (core_seen core.old).store.meta.k) jobs.new.items) }
 {
     for leaf in children {
         look_below(alloc, core, parent, leaf.0, &leaf.1, jobs)?;
@@ -59,17 +52,14 @@ fn look_below<D: Device>(
     area: &Area,
     jobs: &mut Vec<Job>,
 ) -> Result<(), TidyStop>
-    requires may { MayTidy (D.model (core_disk core.old)) (core_seen core.old) }
-    requires made { FitsFile (core_seen core.old).store.meta parent.now.page }
-    requires area { IsArea parent.now.page.area }
-    requires leaf { HasChild parent.now.page name area.now }
-    requires fit { All (JobFits (core_seen core.old).store.meta.k) jobs.old.items }
-    ensures looks { LooksOver (λ s. live_page s parent.now.id ≡ Some parent.now.page) result
-        (λ v s. FindsJobs s (IsTidyBelow s parent.now.id (name, area.now)) jobs.old.items jobs.new.items)
+    requires { MayTidyWhere (λ meta. HasPlacedChild meta parent.now.page name area.now)
+        (D.model (core_disk core.old)) (core_seen core.old) }
+    ensures { LooksForJobs (λ s. live_page s parent.now.id ≡ Some parent.now.page) result
+        (λ s. IsTidyBelow s parent.now.id (name, area.now)) jobs.old.items jobs.new.items
         (D.model (core_disk core.old)) (core_seen core.old) (D.model (core_disk core.new)) (core_seen core.new) }
-    ensures fit { OnOk result (All (JobFits (core_seen core.old).store.meta.k) jobs.new.items) }
 {
-    match child_below(core, parent, name, area)? {
+    let seen = named_page(core, name)?;
+    match standing(&parent.page, area, seen) {
         Some(page) => look_into(
             alloc,
             core,
@@ -85,30 +75,21 @@ fn look_below<D: Device>(
     }
 }
 
-/// The page of the number, where it stands below the parent's leaf of this box. Over a disk that tells it does.
-fn child_below<D: Device>(
-    core: &mut Core<D>,
-    parent: &Numbered,
-    name: u32,
-    area: &Area,
-) -> Result<Option<LivePage>, TidyStop>
-    requires may { MayTidy (D.model (core_disk core.old)) (core_seen core.old) }
-    requires made { FitsFile (core_seen core.old).store.meta parent.now.page }
-    requires leaf { HasChild parent.now.page name area.now }
-    ensures looks { LooksOver (λ s. live_page s parent.now.id ≡ Some parent.now.page) result (λ seen s. IsSome seen × (live_page s name ≡ seen))
-        (D.model (core_disk core.old)) (core_seen core.old) (D.model (core_disk core.new)) (core_seen core.new) }
-    ensures made { IfOk result (λ seen. IfSome seen (FitsFile (core_seen core.old).store.meta)) }
-    ensures stands { IfOk result (λ seen. IfSome seen (λ page. IsArea parent.now.page.area → IsArea page.area → StandsBelow (core_seen core.old).store.meta parent.now.page name area.now page)) }
+/// The page, where it stands below the parent's leaf of this box.
+fn standing(parent: &LivePage, area: &Area, seen: Option<LivePage>) -> Option<LivePage>
+    requires { IfSome seen (λ page. length area.now.lo ≡ length page.area.lo) }
+    ensures some { IfSome result (λ page. (seen ≡ Some page) × (page.level + 1 ≡ parent.now.level) × Within area.now page.area) }
+    ensures none { result ≡ None → IfSome seen (λ page. (page.level + 1 ≡ parent.now.level) × Within area.now page.area → ⊥) }
 {
-    match named_page(core, name)? {
+    match seen {
         Some(page) => {
-            if stands_below(&parent.page, area, &page) {
-                Ok(Some(page))
+            if stands_below(parent, area, &page) {
+                Some(page)
             } else {
-                Ok(None)
+                None
             }
         }
-        None => Ok(None),
+        None => None,
     }
 }
 
@@ -121,16 +102,13 @@ fn look_into<D: Device>(
     area: &Area,
     jobs: &mut Vec<Job>,
 ) -> Result<(), TidyStop>
-    requires may { MayTidy (D.model (core_disk core.old)) (core_seen core.old) }
-    requires stands { IsArea child.now.page.area → StandsBelow (core_seen core.old).store.meta parent.now.page child.now.id area.now child.now.page }
-    requires made { FitsFile (core_seen core.old).store.meta child.now.page }
-    requires fit { All (JobFits (core_seen core.old).store.meta.k) jobs.old.items }
-    ensures looks { LooksOver (BothLive parent.now.id parent.now.page child.now.id child.now.page) result
-        (λ v s. FindsJobs s (IsTidyBelow s parent.now.id (child.now.id, area.now)) jobs.old.items jobs.new.items)
+    requires { MayTidyWhere (λ meta. FitsFile meta child.now.page × (IsArea child.now.page.area → StandsBelow meta parent.now.page child.now.id area.now child.now.page))
+        (D.model (core_disk core.old)) (core_seen core.old) }
+    ensures { LooksForJobs (BothLive parent.now.id parent.now.page child.now.id child.now.page) result
+        (λ s. IsTidyBelow s parent.now.id (child.now.id, area.now)) jobs.old.items jobs.new.items
         (D.model (core_disk core.old)) (core_seen core.old) (D.model (core_disk core.new)) (core_seen core.new) }
-    ensures fit { OnOk result (All (JobFits (core_seen core.old).store.meta.k) jobs.new.items) }
 {
-    let given = sibling_leaves(alloc, &child.page)?;
+    let given = leaves_naming(alloc, &child.page, Names::Siblings)?;
     owe_postings(
         alloc,
         core.meta(),
@@ -152,14 +130,11 @@ fn find_merges<D: Device>(
     given: &[(u32, Area)],
     jobs: &mut Vec<Job>,
 ) -> Result<(), TidyStop>
-    requires may { MayTidy (D.model (core_disk core.old)) (core_seen core.old) }
-    requires stands { StandsBelow (core_seen core.old).store.meta parent.now.page keep.now.id area.now keep.now.page }
-    requires given { given.now ≡ siblings_of keep.now.page }
-    requires fit { All (JobFits (core_seen core.old).store.meta.k) jobs.old.items }
-    ensures looks { LooksOver (BothLive parent.now.id parent.now.page keep.now.id keep.now.page) result
-        (λ v s. FindsJobs s ((gone : ℕ) → ¬ (IsMergeable s parent.now.id keep.now.id gone)) jobs.old.items jobs.new.items)
+    requires { MayTidyWhere (λ meta. StandsBelow meta parent.now.page keep.now.id area.now keep.now.page × (given.now ≡ siblings_of keep.now.page))
+        (D.model (core_disk core.old)) (core_seen core.old) }
+    ensures { LooksForJobs (BothLive parent.now.id parent.now.page keep.now.id keep.now.page) result
+        (λ s. (gone : ℕ) → ¬ (IsMergeable s parent.now.id keep.now.id gone)) jobs.old.items jobs.new.items
         (D.model (core_disk core.old)) (core_seen core.old) (D.model (core_disk core.new)) (core_seen core.new) }
-    ensures fit { OnOk result (All (JobFits (core_seen core.old).store.meta.k) jobs.new.items) }
 {
     for leaf in given {
         try_pair(core, parent, keep, area, leaf.0, jobs)?;
@@ -176,13 +151,11 @@ fn try_pair<D: Device>(
     gone: u32,
     jobs: &mut Vec<Job>,
 ) -> Result<(), TidyStop>
-    requires may { MayTidy (D.model (core_disk core.old)) (core_seen core.old) }
-    requires stands { StandsBelow (core_seen core.old).store.meta parent.now.page keep.now.id area.now keep.now.page }
-    requires fit { All (JobFits (core_seen core.old).store.meta.k) jobs.old.items }
-    ensures looks { LooksOver (BothLive parent.now.id parent.now.page keep.now.id keep.now.page) result
-        (λ v s. FindsJobs s (¬ (IsMergeable s parent.now.id keep.now.id gone)) jobs.old.items jobs.new.items)
+    requires { MayTidyWhere (λ meta. StandsBelow meta parent.now.page keep.now.id area.now keep.now.page)
+        (D.model (core_disk core.old)) (core_seen core.old) }
+    ensures { LooksForJobs (BothLive parent.now.id parent.now.page keep.now.id keep.now.page) result
+        (λ s. ¬ (IsMergeable s parent.now.id keep.now.id gone)) jobs.old.items jobs.new.items
         (D.model (core_disk core.old)) (core_seen core.old) (D.model (core_disk core.new)) (core_seen core.new) }
-    ensures fit { OnOk result (All (JobFits (core_seen core.old).store.meta.k) jobs.new.items) }
 {
     if parent.page.names(gone) {
         match named_page(core, gone)? {

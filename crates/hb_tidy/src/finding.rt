@@ -1,17 +1,13 @@
 //! What is found at a child leaf of a page: postings that are owed to the page, and pages that may become one.
-ghost use Rattle.std.specs.Prelude.{◌≡◌, ◌+◌, ◌<◌, ◌≤◌, ◌↔◌, ◌++◌, ◌∷◌, [], ℕ, All, Contains, IfErr, IfOk, IsTrue, OnErr, OnOk, length};
+ghost use Rattle.std.specs.Prelude.{◌≡◌, ◌+◌, ◌<◌, ◌↔◌, ◌++◌, ◌∷◌, [], ℕ, All, IsTrue, OnErr, OnOk, length};
 ghost use Rattle.hb_activity.specs.declared.jobs.JobKind.TheVariants.{Merge};
-ghost use Rattle.hb_space.specs.Boxes.{Area, Holds, Meets, Within};
-ghost use Rattle.hb_frag.specs.declared.leaves.Leaf.TheVariants.{Child};
-ghost use Rattle.hb_frag.specs.Leaves.{leaves, siblings_of};
+ghost use Rattle.hb_space.specs.Boxes.{Area, Meets, Within};
+ghost use Rattle.hb_frag.specs.Leaves.{siblings_of};
 ghost use Rattle.hb_frag.specs.Rules.{capacity_of};
-ghost use Rattle.hb_layout.specs.Limits.{IsLayout};
 ghost use Rattle.hb_ops.specs.Merging.{FitsMerge, MayMerge};
-ghost use Rattle.hb_ops.specs.Owing.{LacksRoom};
-ghost use Rattle.hb_ops.specs.Sound.{FitsFile};
 ghost use Rattle.hb_terms.specs.declared.plans.PostPlan.TheVariants.{SplitFirst};
-ghost use Rattle.hb_tidy.specs.Owed.{HasAdded, IsAtCorner, IsPosting};
-ghost use Rattle.hb_tidy.specs.Placing.{IsNotOwed, StandsBelow};
+ghost use Rattle.hb_tidy.specs.Owed.{AddsPostings, HasAdded, IsAtCorner};
+ghost use Rattle.hb_tidy.specs.Placing.{HasGiven, HasPlacedChild, IsChildPair, MayPlanMerge, OwesAt, StandsBelow};
 
 use crate::TidyStop;
 use hb_activity::{Job, JobKind};
@@ -53,9 +49,7 @@ pub(crate) fn owe_postings(
 ) -> Result<(), TidyStop>
     requires stands { (name : ℕ) × StandsBelow meta.now parent.now name area.now child.now }
     requires given { given.now ≡ siblings_of child.now }
-    ensures added { OnOk result (HasAdded meta.now.k (IsPosting meta.now parent.now child.now area.now) jobs.old.items jobs.new.items) }
-    ensures none { OnOk result (jobs.new.items ≡ [] → (jobs.old.items ≡ []) × All (λ sibling. ¬ (Meets area.now sibling.1)) given.now) }
-    ensures full { IfErr result (IsNotOwed meta.now parent.now child.now) }
+    ensures { AddsPostings result meta.now parent.now child.now area.now (All (λ sibling. ¬ (Meets area.now sibling.1)) given.now) jobs.old.items jobs.new.items }
 {
     for leaf in given {
         owe_given(alloc, meta, parent, child, area, &leaf.1, jobs)?;
@@ -73,12 +67,8 @@ fn owe_given(
     given: &Area,
     jobs: &mut Vec<Job>,
 ) -> Result<(), TidyStop>
-    requires stands { (name : ℕ) × StandsBelow meta.now parent.now name area.now child.now }
-    requires attributes { length area.now.lo ≡ length given.now.lo }
-    requires given { (inner : ℕ) × Contains (siblings_of child.now) (inner, given.now) }
-    ensures added { OnOk result (HasAdded meta.now.k (IsPosting meta.now parent.now child.now area.now) jobs.old.items jobs.new.items) }
-    ensures none { OnOk result (jobs.new.items ≡ [] → (jobs.old.items ≡ []) × (¬ (Meets area.now given.now))) }
-    ensures full { IfErr result (IsNotOwed meta.now parent.now child.now) }
+    requires { HasGiven meta.now parent.now area.now child.now given.now }
+    ensures { AddsPostings result meta.now parent.now child.now area.now (¬ (Meets area.now given.now)) jobs.old.items jobs.new.items }
 {
     match area.common(given) {
         Some(common) => owe_posting(alloc, meta, parent, child, area, common.lo(), jobs),
@@ -96,14 +86,10 @@ fn owe_posting(
     point: &Point,
     jobs: &mut Vec<Job>,
 ) -> Result<(), TidyStop>
-    requires stands { (name : ℕ) × StandsBelow meta.now parent.now name area.now child.now }
-    requires held { Holds area.now point.now }
-    requires given { (inner : ℕ × Area) × Contains (siblings_of child.now) inner × Holds inner.1 point.now }
-    ensures added { OnOk result (HasAdded meta.now.k (IsPosting meta.now parent.now child.now area.now) jobs.old.items jobs.new.items) }
-    ensures none { OnOk result (jobs.new.items ≡ [] → ⊥) }
-    ensures full { IfErr result (IsNotOwed meta.now parent.now child.now) }
+    requires { OwesAt meta.now parent.now area.now child.now point.now }
+    ensures { AddsPostings result meta.now parent.now child.now area.now ⊥ jobs.old.items jobs.new.items }
 {
-    if meta.live == meta.pages && needs_split(alloc, meta, parent, child, area, point)? {
+    if meta.live == meta.pages && is_split(&post_plan(alloc, parent, child, point, meta.icap)?) {
         return Err(TidyStop::Full);
     }
     let job = Job {
@@ -113,23 +99,6 @@ fn owe_posting(
     };
     add_job(jobs, job)?;
     Ok(())
-}
-
-/// Whether the parent has no room for the posting that is owed at the point.
-fn needs_split(
-    alloc: Global,
-    meta: &Meta,
-    parent: &LivePage,
-    child: &LivePage,
-    area: &Area,
-    point: &Point,
-) -> Result<bool, NoMemory>
-    requires stands { (name : ℕ) × StandsBelow meta.now parent.now name area.now child.now }
-    requires held { Holds area.now point.now }
-    ensures { IfOk result (λ needs. IsTrue needs ↔ LacksRoom parent.now child.now point.now meta.now.icap) }
-{
-    let plan = post_plan(alloc, parent, child, point, meta.icap)?;
-    Ok(is_split(&plan))
 }
 
 /// Whether the plan is that the parent is split first.
@@ -150,8 +119,7 @@ pub(crate) fn owe_job(
     area: &Area,
     jobs: &mut Vec<Job>,
 ) -> Result<(), NoMemory>
-    requires level { 1 ≤ parent.now.level }
-    requires attributes { length area.now.lo ≡ meta.now.k }
+    requires { (name : ℕ) × HasPlacedChild meta.now parent.now name area.now }
     ensures added { OnOk result (HasAdded meta.now.k (IsAtCorner kind parent.now area.now) jobs.old.items jobs.new.items) }
     ensures none { OnOk result (jobs.new.items ≡ [] → ⊥) }
 {
@@ -181,10 +149,7 @@ pub(crate) fn owe_merge(
     going: &LivePage,
     jobs: &mut Vec<Job>,
 ) -> Result<(), NoMemory>
-    requires layout { IsLayout meta.now }
-    requires stands { StandsBelow meta.now parent.now.page keep.now.id area.now keep.now.page }
-    requires going { FitsFile meta.now going.now }
-    requires named { Contains (leaves parent.now.page.frag) (Child gone) }
+    requires { IsChildPair meta.now parent.now.page keep.now.id area.now keep.now.page gone going.now }
     ensures added { OnOk result (HasAdded meta.now.k
         (λ job. IsAtCorner Merge parent.now.page area.now job × FitsMerge meta.now parent.now.id keep.now.id gone parent.now.page keep.now.page going.now) jobs.old.items jobs.new.items) }
     ensures none { OnOk result (jobs.new.items ≡ [] → (jobs.old.items ≡ [])
@@ -199,10 +164,7 @@ pub(crate) fn owe_merge(
 
 /// Whether two children of a parent may become one page.
 fn may_merge(meta: &Meta, parent: &Numbered, keep: &Numbered, gone: u32, going: &LivePage) -> bool
-    requires layout { IsLayout meta.now }
-    requires stands { (area : Area) × StandsBelow meta.now parent.now.page keep.now.id area keep.now.page }
-    requires going { FitsFile meta.now going.now }
-    requires named { Contains (leaves parent.now.page.frag) (Child gone) }
+    requires { (area : Area) × IsChildPair meta.now parent.now.page keep.now.id area keep.now.page gone going.now }
     ensures { IsTrue result ↔ FitsMerge meta.now parent.now.id keep.now.id gone parent.now.page keep.now.page going.now }
 {
     may_be_three(meta, parent, keep, gone, going) && plans_merge(meta, parent, keep, gone, going)
@@ -230,29 +192,14 @@ fn are_three(parent: u32, keep: u32, gone: u32) -> bool
 
 /// Whether the plan for the two is that they become one.
 fn plans_merge(meta: &Meta, parent: &Numbered, keep: &Numbered, gone: u32, going: &LivePage) -> bool
-    requires layout { IsLayout meta.now }
-    requires parent { FitsFile meta.now parent.now.page }
-    requires keep { FitsFile meta.now keep.now.page }
-    requires going { FitsFile meta.now going.now }
+    requires { MayPlanMerge meta.now parent.now.page keep.now.page going.now }
     ensures { IsTrue result ↔ MayMerge parent.now.page keep.now.page gone going.now (capacity_of keep.now.page.level meta.now.dcap meta.now.icap) }
 {
-    let plan = merge_plan(
-        &parent.page,
-        &keep.page,
-        gone,
-        going,
-        capacity(&keep.page, meta),
-    );
-    plan == MergePlan::Merge
-}
-
-/// What a page of this level may weigh.
-fn capacity(page: &LivePage, meta: &Meta) -> u16
-    ensures { result ≡ capacity_of page.now.level meta.now.dcap meta.now.icap }
-{
-    if page.level == 0 {
+    let cap = if keep.page.level == 0 {
         meta.dcap
     } else {
         meta.icap
-    }
+    };
+    let plan = merge_plan(&parent.page, &keep.page, gone, going, cap);
+    plan == MergePlan::Merge
 }

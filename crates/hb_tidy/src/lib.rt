@@ -13,13 +13,12 @@
 //! Source of the idea: Evangelidis, Lomet and Salzberg 1997, whose structure changes are completed late.
 #![tactic(auto)]
 
-ghost use Rattle.std.specs.Prelude.{◌≡◌, None};
+ghost use Rattle.std.specs.Prelude.{◌≡◌};
 ghost use Rattle.hb_core.specs.CoreSeen.{core_seen, core_disk};
-ghost use Rattle.hb_core.specs.Counting.{CountsWithin};
 ghost use Rattle.hb_core.specs.Machines.{Machine};
 ghost use Rattle.hb_core.specs.Working.{MayStep};
 ghost use Rattle.hb_tidy.specs.Counted.{AreAtMost, CountsRise, EndsSpent, added};
-ghost use Rattle.hb_tidy.specs.Tidying.{AllAtRest, EndsTidying, HasTidied};
+ghost use Rattle.hb_tidy.specs.Tidying.{EndsTidying, HasTidied, MayBeTidied};
 ghost use Rattle.hb_tidy.specs.Working.{HasWorked};
 
 mod below;
@@ -52,9 +51,7 @@ pub use stops::TidyStop;
 /// `Damaged` where a page is none that the file may have there, which after the last two stops the core; `Spent` exactly where
 /// the core's count of steps has come to its last value; `NoMemory` where memory was refused.
 pub fn tidy<D: Device>(alloc: Global, core: &mut Core<D>) -> Result<TidyCounts, TidyStop>
-    requires may { (m : Machine) × MayStep (D.model (core_disk core.old)) (core_seen core.old) m × (m.stop ≡ None) }
-    requires idle { AllAtRest (core_seen core.old) }
-    requires counts { CountsWithin (core_seen core.old) }
+    requires { MayBeTidied (D.model (core_disk core.old)) (core_seen core.old) }
     ensures tidies { (m : Machine) → MayStep (D.model (core_disk core.old)) (core_seen core.old) m →
         (t : HasTidied (D.model (core_disk core.old)) m (D.model (core_disk core.new)) (core_seen core.new))
         × HasWorked result (core_seen core.old) m (core_seen core.new) t.new

@@ -1,12 +1,12 @@
 //! Looks at pages of the file.
-ghost use Rattle.std.specs.Prelude.{◌≡◌, ◌↔◌, IfOk, IfSome, IsTrue, None, OnOk, Some};
-ghost use Rattle.hb_ops.specs.Files.{if_live, live_page, page_of};
+ghost use Rattle.std.specs.Prelude.{◌≡◌, ◌↔◌, IfOk, IfSome, IsTrue, Some};
+ghost use Rattle.hb_ops.specs.Files.{live_page, page_of};
 ghost use Rattle.hb_ops.specs.Sound.{FitsFile};
-ghost use Rattle.hb_store.specs.Fetching.{IsCrowdedOut, IsNoPage};
+ghost use Rattle.hb_store.specs.Fetching.{IsNoPage};
 ghost use Rattle.hb_store.specs.Replaying.{IsPageOf};
 ghost use Rattle.hb_store.specs.States.{IsGoodPage};
 ghost use Rattle.hb_core.specs.CoreSeen.{core_seen, core_disk};
-ghost use Rattle.hb_tidy.specs.Going.{MayTidy};
+ghost use Rattle.hb_tidy.specs.Going.{MayTidy, MayTidyWhere};
 ghost use Rattle.hb_tidy.specs.Looking.{LooksOver, NothingOf, SeesBy};
 
 use crate::TidyStop;
@@ -17,31 +17,17 @@ use hb_frag::{LivePage, Page};
 use hb_layout::Meta;
 
 /// The page of the number. Where memory has no place for it, a flush makes one.
-pub(crate) fn look<D: Device>(core: &mut Core<D>, id: u32) -> Result<Page, TidyStop>
-    requires may { MayTidy (D.model (core_disk core.old)) (core_seen core.old) }
-    requires page { IsPageOf (core_seen core.old).store.meta id }
+fn look<D: Device>(core: &mut Core<D>, id: u32) -> Result<Page, TidyStop>
+    requires { MayTidyWhere (λ meta. IsPageOf meta id) (D.model (core_disk core.old)) (core_seen core.old) }
     ensures looks { LooksOver NothingOf result (λ page s. page_of s id ≡ Some page) (D.model (core_disk core.old)) (core_seen core.old) (D.model (core_disk core.new)) (core_seen core.new) }
     ensures good { IfOk result (IsGoodPage (core_seen core.old).store.meta) }
 {
     loop {
-        match look_once(core, id)? {
+        match seen_by(core.page_copy(id))? {
             Some(page) => return Ok(page),
             None => flush(core)?,
         }
     }
-}
-
-/// The page of the number. `None` where memory has no place for it.
-fn look_once<D: Device>(core: &mut Core<D>, id: u32) -> Result<Option<Page>, TidyStop>
-    requires may { MayTidy (D.model (core_disk core.old)) (core_seen core.old) }
-    requires page { IsPageOf (core_seen core.old).store.meta id }
-    ensures looks { LooksOver NothingOf result (λ seen s. IfSome seen (λ page. page_of s id ≡ Some page)) (D.model (core_disk core.old)) (core_seen core.old) (D.model (core_disk core.new)) (core_seen core.new) }
-    ensures taken { (core_seen core.new).taken ≡ (core_seen core.old).taken }
-    ensures crowded { IfOk result (λ seen. seen ≡ None → IsCrowdedOut id (core_seen core.new).store (core_seen core.new).uses) }
-    ensures good { IfOk result (λ seen. IfSome seen (IsGoodPage (core_seen core.old).store.meta)) }
-{
-    let copied = core.page_copy(id);
-    seen_by(copied)
 }
 
 /// What a look came to, by what the core said.
@@ -62,15 +48,17 @@ pub(crate) fn named_page<D: Device>(
     core: &mut Core<D>,
     id: u32,
 ) -> Result<Option<LivePage>, TidyStop>
-    requires may { MayTidy (D.model (core_disk core.old)) (core_seen core.old) }
+    requires { MayTidy (D.model (core_disk core.old)) (core_seen core.old) }
     ensures looks { LooksOver NothingOf result (λ page s. live_page s id ≡ page) (D.model (core_disk core.old)) (core_seen core.old) (D.model (core_disk core.new)) (core_seen core.new) }
     ensures good { IfOk result (λ seen. IfSome seen (FitsFile (core_seen core.old).store.meta)) }
 {
     if is_beyond(core.meta(), id) {
         return Ok(None);
     }
-    let page = look(core, id)?;
-    Ok(page_in_use(page))
+    match look(core, id)? {
+        Page::Live(page) => Ok(Some(page)),
+        Page::Free { .. } => Ok(None),
+    }
 }
 
 /// Whether the file has no page of the number.
@@ -78,14 +66,4 @@ fn is_beyond(meta: &Meta, id: u32) -> bool
     ensures { IsTrue result ↔ IsNoPage meta.now id }
 {
     id == 0 || meta.high < id
-}
-
-/// The page, where it is in use.
-fn page_in_use(page: Page) -> Option<LivePage>
-    ensures { result ≡ if_live (Some page) }
-{
-    match page {
-        Page::Live(page) => Some(page),
-        Page::Free { .. } => None,
-    }
 }

@@ -1,26 +1,26 @@
 //! A pass over the whole file: what is found waits as a job for the workers.
-ghost use Rattle.std.specs.Prelude.{◌≡◌, ◌≢◌, ◌<◌, ◌≤◌, ◌↔◌, [], All, IfOk, IsTrue, Ok, OnOk, Some};
+ghost use Rattle.std.specs.Prelude.{◌≡◌, ◌≢◌, ◌<◌, ◌≤◌, ◌↔◌, [], All, IfSome, IsTrue, Ok, Some};
+ghost use Rattle.hb_activity.specs.declared.jobs.JobKind.TheVariants.{Post};
 ghost use Rattle.hb_layout.specs.declared.limits.TheConstants.{HEIGHT_MAX};
 ghost use Rattle.hb_ops.specs.Files.{live_page};
 ghost use Rattle.hb_ops.specs.Settled.{HasLoneRoot};
 ghost use Rattle.hb_ops.specs.Sound.{FitsFile};
-ghost use Rattle.hb_store.specs.Replaying.{IsPageOf};
 ghost use Rattle.hb_core.specs.CoreSeen.{core_seen, core_disk};
 ghost use Rattle.hb_core.specs.KeptFits.{JobFits};
-ghost use Rattle.hb_tidy.specs.Finding.{HasGrown, IsTidy, IsTidyAt, OwesGrowth};
-ghost use Rattle.hb_tidy.specs.Going.{MayTidy};
+ghost use Rattle.hb_tidy.specs.Finding.{HasGrown, IsTidy, IsTidyAt};
+ghost use Rattle.hb_tidy.specs.Going.{MayTidy, MayTidyWhere};
 ghost use Rattle.hb_tidy.specs.Looking.{LooksOver, NothingOf};
-ghost use Rattle.hb_tidy.specs.Owed.{FindsJobs, IsJobOwed};
+ghost use Rattle.hb_tidy.specs.Owed.{IsJobOwed};
 
 use crate::TidyStop;
 use crate::below::look_at_all;
 use crate::finding::Numbered;
-use crate::listing::{child_leaves, sibling_leaves};
-use crate::looking::{look, named_page};
+use crate::listing::{Names, leaves_naming};
+use crate::looking::named_page;
 use hb_activity::{Job, JobKind};
 use hb_core::Core;
 use hb_disk::Device;
-use hb_frag::{LivePage, Page};
+use hb_frag::LivePage;
 use hb_layout::Meta;
 use hb_layout::limits::HEIGHT_MAX;
 use hb_space::Area;
@@ -35,7 +35,8 @@ pub(crate) fn pass<D: Device>(alloc: Global, core: &mut Core<D>) -> Result<(), T
     visit_root(alloc, core)?;
     let high = core.meta().high;
     for place in 0..high {
-        visit(alloc, core, place + 1)?;
+        let seen = named_page(core, place + 1)?;
+        visit(alloc, core, place + 1, seen)?;
     }
     Ok(())
 }
@@ -53,7 +54,8 @@ fn visit_root<D: Device>(alloc: Global, core: &mut Core<D>) -> Result<(), TidySt
     match named_page(core, root)? {
         Some(page) => visit_top(alloc, core, &page),
         None => {
-            owe_growth(core);
+            let job = growth_job(core);
+            wait_for(core, job);
             Ok(())
         }
     }
@@ -68,87 +70,78 @@ fn is_highest(meta: &Meta) -> bool
 
 /// Looks into the root of a file that may grow, and lets the job for a growth wait, where it has a sibling leaf.
 fn visit_top<D: Device>(alloc: Global, core: &mut Core<D>, page: &LivePage) -> Result<(), TidyStop>
-    requires may { MayTidy (D.model (core_disk core.old)) (core_seen core.old) }
-    requires made { FitsFile (core_seen core.old).store.meta page.now }
-    requires low { (core_seen core.old).store.meta.height < HEIGHT_MAX }
+    requires { MayTidyWhere (λ meta. FitsFile meta page.now × (meta.height < HEIGHT_MAX))
+        (D.model (core_disk core.old)) (core_seen core.old) }
     ensures { LooksOver (λ s. live_page s s.meta.root ≡ Some page.now) result (λ v s. (core_seen core.new).jobs ≡ [] → HasLoneRoot s)
         (D.model (core_disk core.old)) (core_seen core.old) (D.model (core_disk core.new)) (core_seen core.new) }
 {
-    let given = sibling_leaves(alloc, page)?;
+    let given = leaves_naming(alloc, page, Names::Siblings)?;
     if given.is_empty() {
         return Ok(());
     }
     if core.meta().live == core.meta().pages {
         return Err(TidyStop::Full);
     }
-    owe_growth(core);
+    let job = growth_job(core);
+    wait_for(core, job);
     Ok(())
 }
 
-/// Lets the job for a growth wait.
-fn owe_growth<D: Device>(core: &mut Core<D>)
-    requires may { MayTidy (D.model (core_disk core.old)) (core_seen core.old) }
-    ensures looks { LooksOver (λ s. OwesGrowth s × (s.meta.live ≢ s.meta.pages)) (Ok result) (λ v. NothingOf)
-        (D.model (core_disk core.old)) (core_seen core.old) (D.model (core_disk core.new)) (core_seen core.new) }
-    ensures some { (core_seen core.new).jobs ≢ [] }
+/// The job for a growth.
+fn growth_job<D: Device>(core: &Core<D>) -> Job
+    requires { MayTidy (D.model (core_disk core.now)) (core_seen core.now) }
+    ensures kind { result.kind ≡ Post }
+    ensures level { result.level ≡ (core_seen core.now).store.meta.height }
+    ensures fits { JobFits (core_seen core.now).store.meta.k result }
 {
     let whole = Area::whole(core.meta().k);
-    let job = Job {
+    Job {
         kind: JobKind::Post,
         level: core.meta().height,
         point: whole.lo().copy(),
-    };
-    wait_for(core, job);
+    }
 }
 
-/// Looks at the page of the number and at the pages below it, and lets a job wait for each thing that is found there.
-fn visit<D: Device>(alloc: Global, core: &mut Core<D>, id: u32) -> Result<(), TidyStop>
-    requires may { MayTidy (D.model (core_disk core.old)) (core_seen core.old) }
-    requires page { IsPageOf (core_seen core.old).store.meta id }
-    ensures { LooksOver NothingOf result (λ v s. (core_seen core.new).jobs ≡ [] → IsTidyAt s id)
+/// Looks below what was seen of the page of a number, and lets a job wait for each thing that is found.
+fn visit<D: Device>(
+    alloc: Global,
+    core: &mut Core<D>,
+    id: u32,
+    seen: Option<LivePage>,
+) -> Result<(), TidyStop>
+    requires { MayTidyWhere (λ meta. IfSome seen (FitsFile meta))
+        (D.model (core_disk core.old)) (core_seen core.old) }
+    ensures { LooksOver (λ s. live_page s id ≡ seen) result (λ v s. (core_seen core.new).jobs ≡ [] → IsTidyAt s id)
         (D.model (core_disk core.old)) (core_seen core.old) (D.model (core_disk core.new)) (core_seen core.new) }
 {
-    let jobs = jobs_at(alloc, core, id)?;
+    match seen {
+        Some(page) => visit_page(alloc, core, &Numbered { id, page }),
+        None => Ok(()),
+    }
+}
+
+/// Looks at the pages below a page, and lets a job wait for each thing that is found there.
+fn visit_page<D: Device>(
+    alloc: Global,
+    core: &mut Core<D>,
+    parent: &Numbered,
+) -> Result<(), TidyStop>
+    requires { MayTidyWhere (λ meta. FitsFile meta parent.now.page)
+        (D.model (core_disk core.old)) (core_seen core.old) }
+    ensures { LooksOver (λ s. live_page s parent.now.id ≡ Some parent.now.page) result (λ v s. (core_seen core.new).jobs ≡ [] → IsTidyAt s parent.now.id)
+        (D.model (core_disk core.old)) (core_seen core.old) (D.model (core_disk core.new)) (core_seen core.new) }
+{
+    let mut jobs = Vec::new(alloc);
+    let children = leaves_naming(alloc, &parent.page, Names::Children)?;
+    look_at_all(alloc, core, parent, children.as_slice(), &mut jobs)?;
     wait_for_all(core, jobs.as_slice());
     Ok(())
 }
 
-/// The jobs for what is found at the page of the number.
-fn jobs_at<D: Device>(alloc: Global, core: &mut Core<D>, id: u32) -> Result<Vec<Job>, TidyStop>
-    requires may { MayTidy (D.model (core_disk core.old)) (core_seen core.old) }
-    requires page { IsPageOf (core_seen core.old).store.meta id }
-    ensures looks { LooksOver NothingOf result (λ jobs s. FindsJobs s (IsTidyAt s id) [] jobs.items)
-        (D.model (core_disk core.old)) (core_seen core.old) (D.model (core_disk core.new)) (core_seen core.new) }
-    ensures fit { IfOk result (λ jobs. All (JobFits (core_seen core.old).store.meta.k) jobs.items) }
-{
-    match look(core, id)? {
-        Page::Live(page) => jobs_below(alloc, core, &Numbered { id, page }),
-        Page::Free { .. } => Ok(Vec::new(alloc)),
-    }
-}
-
-/// The jobs for what is found below a page.
-fn jobs_below<D: Device>(
-    alloc: Global,
-    core: &mut Core<D>,
-    parent: &Numbered,
-) -> Result<Vec<Job>, TidyStop>
-    requires may { MayTidy (D.model (core_disk core.old)) (core_seen core.old) }
-    requires made { FitsFile (core_seen core.old).store.meta parent.now.page }
-    ensures looks { LooksOver (λ s. live_page s parent.now.id ≡ Some parent.now.page) result (λ jobs s. FindsJobs s (IsTidyAt s parent.now.id) [] jobs.items)
-        (D.model (core_disk core.old)) (core_seen core.old) (D.model (core_disk core.new)) (core_seen core.new) }
-    ensures fit { IfOk result (λ jobs. All (JobFits (core_seen core.old).store.meta.k) jobs.items) }
-{
-    let mut jobs = Vec::new(alloc);
-    let children = child_leaves(alloc, &parent.page)?;
-    look_at_all(alloc, core, parent, children.as_slice(), &mut jobs)?;
-    Ok(jobs)
-}
-
 /// Lets each of these jobs wait, as far as there is room: what finds none is found again by the next pass.
 fn wait_for_all<D: Device>(core: &mut Core<D>, jobs: &[Job])
-    requires may { MayTidy (D.model (core_disk core.old)) (core_seen core.old) }
-    requires fit { All (JobFits (core_seen core.old).store.meta.k) jobs.now }
+    requires { MayTidyWhere (λ meta. All (JobFits meta.k) jobs.now)
+        (D.model (core_disk core.old)) (core_seen core.old) }
     ensures looks { LooksOver (λ s. All (IsJobOwed s) jobs.now) (Ok result) (λ v. NothingOf)
         (D.model (core_disk core.old)) (core_seen core.old) (D.model (core_disk core.new)) (core_seen core.new) }
     ensures some { (core_seen core.new).jobs ≡ [] → jobs.now ≡ [] }
@@ -160,8 +153,8 @@ fn wait_for_all<D: Device>(core: &mut Core<D>, jobs: &[Job])
 
 /// Lets the job wait, where there is room.
 fn wait_for<D: Device>(core: &mut Core<D>, job: Job)
-    requires may { MayTidy (D.model (core_disk core.old)) (core_seen core.old) }
-    requires fits { JobFits (core_seen core.old).store.meta.k job }
+    requires { MayTidyWhere (λ meta. JobFits meta.k job)
+        (D.model (core_disk core.old)) (core_seen core.old) }
     ensures looks { LooksOver (λ s. IsJobOwed s job) (Ok result) (λ v. NothingOf)
         (D.model (core_disk core.old)) (core_seen core.old) (D.model (core_disk core.new)) (core_seen core.new) }
     ensures some { (core_seen core.new).jobs ≢ [] }

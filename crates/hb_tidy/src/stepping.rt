@@ -1,14 +1,13 @@
 //! Steps of the workers and flushes, and why they end a tidying.
-ghost use Rattle.std.specs.Prelude.{◌≡◌, ◌⊎◌, ℕ, ◌+◌, ◌<◌, OnOk};
-ghost use Rattle.hb_store.specs.Fetching.{IsCrowdedOut};
+ghost use Rattle.std.specs.Prelude.{◌≡◌, ◌⊎◌, ◌+◌, ◌<◌, OnOk};
 ghost use Rattle.hb_core.specs.CoreSeen.{core_seen, core_disk};
 ghost use Rattle.hb_core.specs.Machines.{Machine};
 ghost use Rattle.hb_core.specs.Showing.{ShowsMachine};
 ghost use Rattle.hb_core.specs.ProgressLaws.{jobs_of};
 ghost use Rattle.hb_core.specs.Taking.{worker_for};
-ghost use Rattle.hb_tidy.specs.Going.{AllRest, Goes, MayTidy, RestsBut};
+ghost use Rattle.hb_tidy.specs.Going.{AllRest, Goes};
 ghost use Rattle.hb_tidy.specs.Looking.{LooksOver, NothingOf};
-ghost use Rattle.hb_tidy.specs.Stepping.{EndsCall, EndsStep, stop_by};
+ghost use Rattle.hb_tidy.specs.Stepping.{EndsCall, EndsStep, MayMakeRoom, MayTakeStep, MayWorkOff, TakesStep, stop_by};
 
 use crate::TidyStop;
 use hb_activity::JobKind;
@@ -25,8 +24,7 @@ const CONSOLIDATOR: Actor = 18;
 
 /// Takes steps of the worker for this kind of jobs until none of these waits or is in work.
 pub(crate) fn work_off<D: Device>(core: &mut Core<D>, kind: JobKind) -> Result<(), TidyStop>
-    requires may { MayTidy (D.model (core_disk core.old)) (core_seen core.old) }
-    requires rests { AllRest (core_seen core.old) }
+    requires { MayWorkOff (D.model (core_disk core.old)) (core_seen core.old) }
     ensures goes { Goes result (D.model (core_disk core.old)) (core_seen core.old) (D.model (core_disk core.new)) (core_seen core.new) }
     ensures rests { OnOk result (AllRest (core_seen core.new)) }
     ensures done { OnOk result ((m : Machine) → ShowsMachine (D.model (core_disk core.new)) (core_seen core.new) m → jobs_of kind m ≡ 0) }
@@ -50,12 +48,8 @@ fn worker_for(kind: JobKind) -> Actor
 
 /// Takes one step of the worker for this kind of jobs.
 fn step<D: Device>(core: &mut Core<D>, kind: JobKind) -> Result<(), TidyStop>
-    requires may { MayTidy (D.model (core_disk core.old)) (core_seen core.old) }
-    requires rests { RestsBut (worker_for kind) (core_seen core.old) }
-    requires some { (m : Machine) → ShowsMachine (D.model (core_disk core.old)) (core_seen core.old) m → 0 < jobs_of kind m }
-    ensures goes { Goes result (D.model (core_disk core.old)) (core_seen core.old) (D.model (core_disk core.new)) (core_seen core.new) }
-    ensures rests { OnOk result (RestsBut (worker_for kind) (core_seen core.new)) }
-    ensures one { OnOk result ((core_seen core.new).taken ≡ (core_seen core.old).taken + 1) }
+    requires { MayTakeStep kind (D.model (core_disk core.old)) (core_seen core.old) }
+    ensures { TakesStep kind result (D.model (core_disk core.old)) (core_seen core.old) (D.model (core_disk core.new)) (core_seen core.new) }
 {
     let outcome = core.step(worker_for(kind));
     went_on(core)?;
@@ -103,8 +97,7 @@ fn stop_by(why: StopWhy) -> TidyStop
 
 /// Flushes once, since a page has no place in memory. It counts as a step.
 pub(crate) fn flush<D: Device>(core: &mut Core<D>) -> Result<(), TidyStop>
-    requires may { MayTidy (D.model (core_disk core.old)) (core_seen core.old) }
-    requires crowded { (id : ℕ) × IsCrowdedOut id (core_seen core.old).store (core_seen core.old).uses }
+    requires { MayMakeRoom (D.model (core_disk core.old)) (core_seen core.old) }
     ensures looks { LooksOver NothingOf result (λ v. NothingOf) (D.model (core_disk core.old)) (core_seen core.old) (D.model (core_disk core.new)) (core_seen core.new) }
     ensures one { OnOk result ((core_seen core.new).taken ≡ (core_seen core.old).taken + 1) }
 {

@@ -123,5 +123,5 @@ loop-core-smaller g c =
     let left = c.in_ok-work_off-2.ensures.goes.may.left in
     falls_short (core_seen c.loop-core.core).taken (core_seen c.pass.new.core).taken (core_seen c.work_off-in-loop-core.new.core).taken c.pass.ensures.counts.taken counts (omega (arith, left))
 
-pub work_off-requires-clause-rests : goal.work_off-requires-clause-rests
-work_off-requires-clause-rests g c = c.pass.ensures.rests c.loop-core.invariant.rests
+pub work_off-requires : goal.work_off-requires
+work_off-requires g c = record { may = c.in_ok-pass.ensures.may; rests = c.pass.ensures.rests c.loop-core.invariant.rests }

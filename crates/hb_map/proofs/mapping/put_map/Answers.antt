@@ -1,5 +1,5 @@
 use Rattle.std.proofs.Common.{ℕ, List, [], sym, subst}
-use Rattle.hb_store.specs.Seen.{disk_of, held_by, seen_as}
+use Rattle.hb_store.specs.Seen.{disk_of, held_by}
 use Rattle.hb_map.specs.Mapping.{AreParents, OfSoundFile}
 use Rattle.hb_map.proofs.Texts.{none_put, stopped}
 use Rattle.hb_map.proofs.WholeMaps.{begins_failed, begins_map, head_failed, whole_map}

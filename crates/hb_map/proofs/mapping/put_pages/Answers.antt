@@ -1,7 +1,7 @@
-use Rattle.std.proofs.Common.{◌+◌, ◌++◌, drop, get_or, arith, ◌∙◌}
+use Rattle.std.proofs.Common.{◌+◌, ◌++◌, get_or, arith, ◌∙◌}
 use Rattle.std.proofs.lemmas.Bool.{false≢true}
 use Rattle.hb_outside.proofs.Facts.PutLaws.{Appends-both, Appends-front}
-use Rattle.hb_map.specs.Map.{page_text, pages_text}
+use Rattle.hb_map.specs.Map.{page_text}
 use Rattle.hb_map.proofs.Looks.{looks_on}
 use Rattle.hb_map.proofs.Readings.{ok_no_err}
 use Rattle.hb_map.proofs.Texts.{longer_front, stopped}

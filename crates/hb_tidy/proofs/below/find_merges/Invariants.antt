@@ -17,5 +17,5 @@ invariant-loop-leaf g l = record {
       (g.D.Device.model (core_disk l.fn.core)) (core_seen l.fn.core) (g.D.Device.model (core_disk l.core)) (core_seen l.core);
   may : MayTidy (g.D.Device.model (core_disk l.core)) (core_seen l.core);
   meta : (core_seen l.core).store.meta ≡ (core_seen l.fn.core).store.meta;
-  fit : All (JobFits (core_seen l.fn.core).store.meta.k) l.jobs.items;
+  fit : All (JobFits (core_seen l.fn.core).store.meta.k) l.fn.jobs.items → All (JobFits (core_seen l.fn.core).store.meta.k) l.jobs.items;
 }

@@ -3,15 +3,12 @@ use Rattle.hb_tidy.proofs.OwedRoom.{fit_three, three_fit}
 use Rattle.hb_tidy.proofs.Pairs.{never_true}
 use Rattle.hb_tidy.proofs.finding.may_merge.Goals as goal
 
-pub plans_merge-requires-clause-parent : goal.plans_merge-requires-clause-parent
-plans_merge-requires-clause-parent c = c.requires.stands.1.above_made
-
-pub plans_merge-requires-clause-keep : goal.plans_merge-requires-clause-keep
-plans_merge-requires-clause-keep c = c.requires.stands.1.below_made
+pub plans_merge-requires : goal.plans_merge-requires
+plans_merge-requires c = let stands = c.requires.1.stands in record { layout = c.requires.1.layout; parent_made = stands.above_made; keep_made = stands.below_made; going_made = c.requires.1.made }
 
 pub returns-then-may_be_three : goal.returns-then-may_be_three
 returns-then-may_be_three c = (
-  λ yes. three_fit c.args.meta.now c.args.parent.now.id c.args.keep.now.id c.args.gone c.args.parent.now.page c.args.keep.now.page c.args.going.now c.requires.stands.0 c.requires.stands.1 c.requires.going c.requires.named (c.if-may_be_three.ensures.0 refl) (c.plans_merge.ensures.0 yes),
+  λ yes. three_fit c.args.meta.now c.args.parent.now.id c.args.keep.now.id c.args.gone c.args.parent.now.page c.args.keep.now.page c.args.going.now c.requires.0 c.requires.1.stands c.requires.1.made c.requires.1.named (c.if-may_be_three.ensures.0 refl) (c.plans_merge.ensures.0 yes),
   λ fits. c.plans_merge.ensures.1 fits.may,
 )
 

@@ -1,18 +1,32 @@
 use Rattle.std.proofs.Common.{ℕ, List, sym, subst}
-use Rattle.hb_space.specs.Boxes.{Holds}
+use Rattle.hb_lemmas.proofs.Options.{not_none, some_value}
+use Rattle.hb_space.specs.Boxes.{Holds, Meets}
 use Rattle.hb_space.proofs.Facts.Boxes.{lo_held}
-use Rattle.hb_tidy.proofs.OwedJobs.{added_none}
+use Rattle.hb_tidy.proofs.OwedJobs.{added_none, postings_weaker}
+use Rattle.hb_tidy.proofs.PlacedLeaves.{common_attributes}
 use Rattle.hb_tidy.proofs.finding.owe_given.Goals as goal
 
-pub owe_posting-requires-clause-held : goal.owe_posting-requires-clause-held
-owe_posting-requires-clause-held c =
-    let corner = (c.in-Some.ensures.points c.in-Some.common.lo).0 (lo_held c.in-Some.common c.lo.ensures.area) in
-    subst (λ (p : List ℕ). Holds c.args.area.now p) (sym c.lo.ensures.value) corner.0
+pub common-requires : goal.common-requires
+common-requires c = common_attributes c.args.meta.now c.args.parent.now c.args.area.now c.args.child.now c.args.given.now c.requires
 
-pub owe_posting-requires-clause-given : goal.owe_posting-requires-clause-given
-owe_posting-requires-clause-given c =
+pub owe_posting-requires : goal.owe_posting-requires
+owe_posting-requires c =
     let corner = (c.in-Some.ensures.points c.in-Some.common.lo).0 (lo_held c.in-Some.common c.lo.ensures.area) in
-    ((c.requires.given.0, c.args.given.now), c.requires.given.1, subst (λ (p : List ℕ). Holds c.args.given.now p) (sym c.lo.ensures.value) corner.1)
+    record {
+      name = c.requires.name;
+      stands = c.requires.stands;
+      held = subst (λ (p : List ℕ). Holds c.args.area.now p) (sym c.lo.ensures.value) corner.0;
+      inner = (c.requires.inner, c.args.given.now);
+      given = c.requires.listed;
+      inside = subst (λ (p : List ℕ). Holds c.args.given.now p) (sym c.lo.ensures.value) corner.1;
+    }
 
-pub returns-in-None-clause-added : goal.returns-in-None-clause-added
-returns-in-None-clause-added c = added_none c.args.meta.now.k _ c.args.jobs.now.items
+pub returns-in-Some : goal.returns-in-Some
+returns-in-Some c = postings_weaker c.owe_posting.result c.args.meta.now c.args.parent.now c.args.child.now c.args.area.now ⊥ (¬ (Meets c.args.area.now c.args.given.now)) c.args.jobs.now.items c.owe_posting.new.jobs.items (λ never. absurd never) c.owe_posting.ensures
+
+pub returns-in-None : goal.returns-in-None
+returns-in-None c = record {
+  added = added_none c.args.meta.now.k _ c.args.jobs.now.items;
+  none = λ empty. (empty, λ meets. let some = some_value c.common.result (c.common.ensures.meets.1 meets) in not_none c.common.result some.0 some.1 c.in-None.is);
+  full = tt;
+}

@@ -4,18 +4,14 @@ use Rattle.hb_activity.specs.declared.jobs.Job.{Job}
 use Rattle.hb_activity.specs.declared.jobs.JobKind.TheVariants.{Merge}
 use Rattle.hb_ops.specs.Merging.{FitsMerge}
 use Rattle.hb_tidy.proofs.OwedJobs.{added_none, added_weaker}
-use Rattle.hb_tidy.proofs.PlacedLeaves.{above_records, leaf_attributes}
 use Rattle.hb_tidy.specs.Owed.{IsAtCorner}
 use Rattle.hb_tidy.proofs.finding.owe_merge.Goals as goal
 
-pub may_merge-requires-clause-stands : goal.may_merge-requires-clause-stands
-may_merge-requires-clause-stands c = (c.args.area.now, c.requires.stands)
+pub may_merge-requires : goal.may_merge-requires
+may_merge-requires c = (c.args.area.now, c.requires)
 
-pub owe_job-requires-clause-level : goal.owe_job-requires-clause-level
-owe_job-requires-clause-level c = above_records c.args.meta.now c.args.parent.now.page c.args.keep.now.id c.args.area.now c.requires.stands.above_made c.requires.stands.leaf
-
-pub owe_job-requires-clause-attributes : goal.owe_job-requires-clause-attributes
-owe_job-requires-clause-attributes c = leaf_attributes c.args.meta.now c.args.parent.now.page c.args.keep.now.id c.args.area.now c.requires.stands.above_made c.requires.stands.leaf
+pub owe_job-requires : goal.owe_job-requires
+owe_job-requires c = let stands = c.requires.stands in (c.args.keep.now.id, record { made = stands.above_made; whole = stands.above_area; leaf = stands.leaf })
 
 pub returns-then-may_merge-clause-added : goal.returns-then-may_merge-clause-added
 returns-then-may_merge-clause-added c =

@@ -1,27 +1,21 @@
-use Rattle.std.proofs.Common.{◌≡◌, ℕ, ◌≤◌, List, [], All, length, get_or, arith, rules, sym, subst, ◌∙◌}
+use Rattle.std.proofs.Common.{◌≡◌, ℕ, ◌≤◌, List, [], All, length, get_or, arith, rules, sym, subst}
 use Rattle.std.specs.List.{Contains}
 use Rattle.std.proofs.lemmas.List.{take_all}
-use Rattle.std.proofs.lemmas.List.Elements.{All-get_or}
 use Rattle.hb_space.specs.Boxes.{Area, Meets}
 use Rattle.hb_tidy.proofs.JobLists.{all_next, none_yet}
 use Rattle.hb_tidy.proofs.OwedJobs.{added_none, added_then}
-use Rattle.hb_tidy.proofs.PlacedLeaves.{given_attributes, leaf_attributes}
 use Rattle.hb_tidy.proofs.finding.owe_postings.Goals as goal
 
-pub owe_given-requires-clause-attributes : goal.owe_given-requires-clause-attributes
-owe_given-requires-clause-attributes c =
-    let stands = c.requires.stands.1 in
-    let all = subst (λ (ls : List (ℕ × Area)). All (λ (s : ℕ × Area). length s.1.lo ≡ c.args.meta.now.k) ls) (sym c.requires.given) (given_attributes c.args.meta.now c.args.child.now stands.below_made) in
+pub owe_given-requires : goal.owe_given-requires
+owe_given-requires c =
     let x : ℕ × Area = (c.leaf-item.result.0, c.leaf-item.result.1) in
     let is : x ≡ get_or c.args.given.now c.loop-leaf.leaf-index x = search rules in
-    leaf_attributes c.args.meta.now c.args.parent.now c.requires.stands.0 c.args.area.now stands.above_made stands.leaf
-    ∙ sym (subst (λ (s : ℕ × Area). length s.1.lo ≡ c.args.meta.now.k) (sym is) (All-get_or (λ (s : ℕ × Area). length s.1.lo ≡ c.args.meta.now.k) c.args.given.now c.loop-leaf.leaf-index x (omega arith) all))
-
-pub owe_given-requires-clause-given : goal.owe_given-requires-clause-given
-owe_given-requires-clause-given c =
-    let x : ℕ × Area = (c.leaf-item.result.0, c.leaf-item.result.1) in
-    let is : x ≡ get_or c.args.given.now c.loop-leaf.leaf-index x = search rules in
-    (c.leaf-item.result.0, subst (λ (ls : List (ℕ × Area)). Contains ls x) c.requires.given (c.loop-leaf.leaf-index, omega arith, sym is))
+    record {
+      name = c.requires.stands.0;
+      stands = c.requires.stands.1;
+      inner = c.leaf-item.result.0;
+      listed = subst (λ (ls : List (ℕ × Area)). Contains ls x) c.requires.given (c.loop-leaf.leaf-index, omega arith, sym is);
+    }
 
 pub loop-leaf-init : goal.loop-leaf-init
 loop-leaf-init c = record { added = added_none c.args.meta.now.k _ c.args.jobs.now.items; none = λ empty. (empty, none_yet (λ (s : ℕ × Area). ¬ (Meets c.args.area.now s.1)) c.args.given.now) }
@@ -37,8 +31,12 @@ loop-leaf-preserved c = record {
       (before.0, all_next (λ (s : ℕ × Area). ¬ (Meets c.args.area.now s.1)) c.args.given.now c.loop-leaf.leaf-index x (omega arith) is before.1 here.1);
 }
 
-pub returns-clause-none : goal.returns-clause-none
-returns-clause-none c =
+pub returns : goal.returns
+returns c =
     let end : length c.args.given.now ≤ c.loop-leaf.leaf-index = omega arith in
     let P : List (ℕ × Area) → Type 0 = λ ls. c.loop-leaf.jobs.items ≡ [] → (c.args.jobs.now.items ≡ []) × All (λ (s : ℕ × Area). ¬ (Meets c.args.area.now s.1)) ls in
-    subst P (take_all c.loop-leaf.leaf-index c.args.given.now end) c.loop-leaf.invariant.none
+    record {
+      added = c.loop-leaf.invariant.added;
+      none = subst P (take_all c.loop-leaf.leaf-index c.args.given.now end) c.loop-leaf.invariant.none;
+      full = tt;
+    }

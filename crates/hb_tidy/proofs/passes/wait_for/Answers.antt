@@ -6,7 +6,7 @@ use Rattle.hb_tidy.proofs.passes.wait_for.Goals as goal
 pub returns-clause-looks : goal.returns-clause-looks
 returns-clause-looks g c =
     let told = c.add_job-waits.ensures in
-    job_looks g.D.Device.model (core_disk c.args.core.now) (core_seen c.args.core.now) (core_seen c.add_job-waits.new.self) c.args.job (g.met.D.Device.is_disk (core_disk c.args.core.now)) c.requires.may c.requires.fits told.queue.does
+    job_looks g.D.Device.model (core_disk c.args.core.now) (core_seen c.args.core.now) (core_seen c.add_job-waits.new.self) c.args.job (g.met.D.Device.is_disk (core_disk c.args.core.now)) c.requires.may c.requires.known told.queue.does
     (core_disk c.add_job-waits.new.self) told.queue.disk told.goes_on
 
 pub returns-clause-some : goal.returns-clause-some

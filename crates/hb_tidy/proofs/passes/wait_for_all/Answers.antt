@@ -1,8 +1,11 @@
 use Rattle.std.proofs.Common.{◌≡◌, All, get_or, Ok, refl, sym, ◌∙◌, subst, arith, rules}
+use Rattle.hb_layout.specs.declared.meta.Meta.{Meta}
 use Rattle.hb_core.specs.CoreSeen.{core_seen, core_disk}
+use Rattle.hb_core.specs.KeptFits.{JobFits}
 use Rattle.std.proofs.lemmas.List.Elements.{All-get_or}
 use Rattle.hb_tidy.proofs.Joined.{over_known, over_then}
 use Rattle.hb_tidy.proofs.JobLists.{no_first}
+use Rattle.hb_tidy.proofs.KnownFiles.{still_known}
 use Rattle.hb_tidy.proofs.RunsBegun.{over_none}
 use Rattle.hb_tidy.specs.Looking.{NothingOf}
 use Rattle.hb_tidy.specs.Owed.{IsJobOwed}
@@ -16,6 +19,14 @@ loop-job-init g c = record {
   meta = refl;
   some = λ none. refl;
 }
+
+pub wait_for-requires : goal.wait_for-requires
+wait_for-requires g c =
+    let old = core_seen c.args.core.now in
+    let is : c.job-item.result ≡ get_or c.args.jobs.now c.loop-job.job-index c.job-item.result = search rules in
+    let Fits : Meta → Type 0 = λ meta. JobFits meta.k c.copy.result in
+    still_known Fits (g.D.Device.model (core_disk c.loop-job.core)) old (core_seen c.loop-job.core) c.loop-job.invariant.may c.loop-job.invariant.meta
+    (subst (JobFits old.store.meta.k) (sym (c.copy.ensures ∙ is)) (All-get_or (JobFits old.store.meta.k) c.args.jobs.now c.loop-job.job-index c.job-item.result (omega arith) c.requires.known))
 
 pub loop-job-preserved : goal.loop-job-preserved
 loop-job-preserved g c =

@@ -15,8 +15,8 @@ loop-kind-init g c = record {
   more = inr refl;
 }
 
-pub step-requires-clause-some : goal.step-requires-clause-some
-step-requires-clause-some g c = λ m shows. let is = c.jobs.ensures m shows in omega (arith, c.loop-kind-test.true, is)
+pub step-requires : goal.step-requires
+step-requires g c = record { may = c.loop-kind.invariant.may; rests = c.loop-kind.invariant.rests; some = λ m shows. let is = c.jobs.ensures m shows in omega (arith, c.loop-kind-test.true, is) }
 
 pub returns-in_err-step-clause-goes : goal.returns-in_err-step-clause-goes
 returns-in_err-step-clause-goes g c =

@@ -1,11 +1,11 @@
-use Rattle.std.proofs.Common.{◌≡◌, ◌+◌, Ok, Bool, arith, sym, ◌∙◌}
+use Rattle.std.proofs.Common.{◌+◌, arith, sym, ◌∙◌}
 use Rattle.hb_store.specs.Seen.{disk_of, held_by}
 use Rattle.hb_store.specs.Parts.{last_of}
 use Rattle.hb_map.specs.Map.{is_parent}
 use Rattle.hb_map.proofs.Countings.{all_counted, as_many_pages, counted_on, low_on}
 use Rattle.hb_map.proofs.Looks.{looks_on}
 use Rattle.hb_map.proofs.Readings.{ok_no_err}
-use Rattle.hb_map.proofs.parents.count_parents.Goals as goal
+use Rattle.hb_map.proofs.parents.count_pages.Goals as goal
 
 pub loop-place-preserved : goal.loop-place-preserved
 loop-place-preserved g c =
