@@ -1,13 +1,12 @@
 //! The command `tidy`.
-ghost use Rattle.std.specs.Prelude.{◌≡◌, None, Some};
-ghost use Rattle.hb_core.specs.Counting.{CountsWithin};
+ghost use Rattle.std.specs.Prelude.{Some};
 ghost use Rattle.hb_core.specs.CoreSeen.{core_disk, core_seen};
 ghost use Rattle.hb_core.specs.Machines.{Machine};
 ghost use Rattle.hb_core.specs.Working.{MayStep};
-ghost use Rattle.hb_tidy.specs.Tidying.{AllAtRest, HasTidied};
+ghost use Rattle.hb_tidy.specs.Tidying.{HasTidied};
 ghost use Rattle.hbpi.specs.Runs.{RunsForm};
 ghost use Rattle.hbpi.specs.SeenRuns.{seen_by};
-ghost use Rattle.hbpi.specs.TidyRuns.{EndsForced, SaysTidied};
+ghost use Rattle.hbpi.specs.TidyRuns.{EndsForced, MayTidyFirst, SaysTidied};
 ghost use Rattle.hbpi.specs.declared.forms.Form.TheVariants as forms;
 
 use crate::dry::refused;
@@ -27,10 +26,7 @@ use std::alloc::Global;
 
 /// Tidies the file of a core that has taken no step, and forces what waits then, so that every image has it.
 fn tidy_core<D: Disk>(alloc: Global, core: &mut Core<D>) -> Result<TidyCounts, TidyStop>
-    requires may { (m : Machine) × MayStep (D.model (core_disk core.old)) (core_seen core.old) m × (m.stop ≡ None) }
-    requires idle { AllAtRest (core_seen core.old) }
-    requires counts { CountsWithin (core_seen core.old) }
-    requires first { (core_seen core.old).taken ≡ 0 }
+    requires { MayTidyFirst (D.model (core_disk core.old)) (core_seen core.old) }
     ensures tidies { (m : Machine) → MayStep (D.model (core_disk core.old)) (core_seen core.old) m →
         (t : HasTidied (D.model (core_disk core.old)) m (D.model (core_disk core.new)) (core_seen core.new)) × EndsForced (D.model (core_disk core.old)) (D.model (core_disk core.new)) m t.new result }
 {

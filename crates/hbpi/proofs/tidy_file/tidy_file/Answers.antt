@@ -1,7 +1,9 @@
-use Rattle.std.proofs.Common.{Some, ap, ◌∙◌}
+use Rattle.std.proofs.Common.{rules, ◌≡◌, Some, ap, ◌∙◌}
+use Rattle.hb_core.specs.Counting.{CountsWithin}
 use Rattle.hb_core.specs.CoreSeen.{core_disk, core_seen}
 use Rattle.hb_disk.specs.Model.{DiskModel}
 use Rattle.hb_store.specs.declared.store.Store.{Store}
+use Rattle.hb_tidy.specs.Tidying.{AllAtRest}
 use Rattle.hbpi.proofs.CoreEnds.{may_begin_running}
 use Rattle.hbpi.proofs.RunsOf.{runs_form}
 use Rattle.hbpi.proofs.TidyEnds.{TidiedCore, tidied_beyond, tidied_ends}
@@ -11,8 +13,13 @@ use Rattle.hbpi.specs.Tidied.{nobody}
 use Rattle.hbpi.specs.declared.forms.Form.TheVariants.{Tidy}
 use Rattle.hbpi.proofs.tidy_file.tidy_file.Goals as goal
 
-pub tidy_core-tidied-requires-clause-may : goal.tidy_core-tidied-requires-clause-may
-tidy_core-tidied-requires-clause-may g c = may_begin_running nobody _ _ _ _ _ c.in-Ok.ensures.has.started
+pub tidy_core-tidied-requires : goal.tidy_core-tidied-requires
+tidy_core-tidied-requires g c =
+    let core = core_seen c.in-Ok.core in
+    let idle : AllAtRest core = search rules in
+    let counts : CountsWithin core = search rules in
+    let first : core.taken ≡ 0 = search rules in
+    record { may = may_begin_running nobody _ _ _ _ _ c.in-Ok.ensures.has.started; idle = idle; counts = counts; first = first }
 
 pub returns-in-Ok : goal.returns-in-Ok
 returns-in-Ok g c =
