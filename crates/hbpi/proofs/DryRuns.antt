@@ -1,9 +1,7 @@
 -- How a run of `dry` ends, by how its script came and by how its lines were answered.
 use Rattle.std.proofs.Common.{◌≡◌, ℕ, false, List, [], Ok, refl, ap, sym, subst, ◌∙◌}
-use Rattle.hb_disk.specs.Model.{DiskModel}
 use Rattle.hb_set.specs.declared.scripts.Line.{Line}
 use Rattle.hb_text.proofs.Facts.StepLaws.{text_has_no_steps}
-use Rattle.hb_text.specs.Grammar.{Reading}
 use Rattle.hbpi.specs.DryParts.{EndsRun}
 use Rattle.hbpi.specs.Ends.{DryEnds, IsAnswered}
 use Rattle.hbpi.specs.Handing.{HandsBack}

@@ -1,9 +1,7 @@
 -- All that is said of a run, from its row and what it leaves of the disk.
-use Rattle.std.proofs.Common.{◌≡◌, ◌⊎◌, inl, inr, ℕ, List, [], Option, Some, None, sym, subst}
+use Rattle.std.proofs.Common.{◌≡◌, inl, inr, Option, Some, None, sym, subst}
 use Rattle.hb_disk.specs.Model.{DiskModel}
-use Rattle.hb_outside.specs.Calls.{SinkModel, SourceModel}
 use Rattle.hb_restart.specs.Beyond.{KeepsBeyondFile}
-use Rattle.hb_set.specs.declared.scripts.Answered.{Answered}
 use Rattle.hbpi.proofs.EndLaws.{ends_source}
 use Rattle.hbpi.proofs.Later.{ends_disk_later, ends_sink_later, ends_source_later}
 use Rattle.hbpi.specs.Checked.{CheckEnds}

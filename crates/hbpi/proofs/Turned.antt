@@ -1,5 +1,5 @@
 -- A run that came to no core.
-use Rattle.std.proofs.Common.{◌≡◌, List, [], ℕ, inl, inr, sym, subst}
+use Rattle.std.proofs.Common.{List, [], ℕ, inl, inr, sym, subst}
 use Rattle.hb_disk.specs.Model.{DiskModel}
 use Rattle.hb_outside.specs.Calls.{SinkModel, SourceModel}
 use Rattle.hb_restart.specs.Beyond.{KeepsBeyondFile}

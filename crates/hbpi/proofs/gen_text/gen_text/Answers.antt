@@ -1,11 +1,8 @@
-use Rattle.std.proofs.Common.{◌≡◌, ℕ, List, Some, inl, inr, refl, sym, subst, ◌∙◌}
-use Rattle.hb_gen.specs.Spelling.{generated_text}
+use Rattle.std.proofs.Common.{ℕ, List, Some, inl, inr, refl, subst, ◌∙◌}
 use Rattle.hbpi.proofs.RunsOf.{runs_form}
-use Rattle.hbpi.specs.Ends.{GenEnds}
 use Rattle.hbpi.specs.Saying.{IsSaid}
 use Rattle.hbpi.specs.SeenRuns.{Seen, seen_by}
 use Rattle.hbpi.specs.declared.forms.Form.TheVariants.{Gen}
-use Rattle.hbpi.specs.declared.statuses.Status.{Status}
 use Rattle.hbpi.proofs.gen_text.gen_text.Goals as goal
 
 pub returns-in-Ok : goal.returns-in-Ok
