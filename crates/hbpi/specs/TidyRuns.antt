@@ -1,11 +1,9 @@
 -- How a run of `tidy` ends, and why.
 use Rattle.std.specs.Prelude.{◌≡◌, ◌⊎◌, List, [], Result, Ok, Err, None, Some, IfSome, IsSome, ◌-◌, ◌^◌}
-use Rattle.hb_core.specs.Counting.{CountsWithin}
 use Rattle.hb_core.specs.Machines.{Files, Machine, current_file}
 use Rattle.hb_core.specs.Runs.{CountsFaults}
 use Rattle.hb_core.specs.Showing.{RunningCore}
 use Rattle.hb_core.specs.SteppingLaws.{IsBegun, IsBegunOver}
-use Rattle.hb_core.specs.Working.{MayStep}
 use Rattle.hb_core.specs.declared.counts.TidyCounts.{TidyCounts}
 use Rattle.hb_disk.specs.Model.{DiskModel}
 use Rattle.hb_layout.specs.declared.meta.Meta.{Meta}
@@ -18,7 +16,7 @@ use Rattle.hb_store.specs.Opening.{OpensTo}
 use Rattle.hb_store.specs.States.{IsNew}
 use Rattle.hb_store.specs.declared.stops.StopWhy.TheVariants as stops
 use Rattle.hb_tidy.specs.Finding.{IsTidy, WantsPage}
-use Rattle.hb_tidy.specs.Tidying.{AllAtRest}
+use Rattle.hb_tidy.specs.Tidying.{MayBeTidied}
 use Rattle.hb_tidy.specs.declared.stops.TidyStop.{TidyStop}
 use Rattle.hb_tidy.specs.declared.stops.TidyStop.TheVariants as tidies
 use Rattle.hbpi.specs.Driven.{IsShutOut, IsTurnedAway}
@@ -52,12 +50,9 @@ FilesTidied meta (Ok counts) files = (files.later ≡ []) × IsTidy files.durabl
 FilesTidied meta (Err tidies.Full) files = WantsPage (current_file files)
 FilesTidied meta (Err stop) files = Unit {0}
 
--- A core may be tidied that has taken no step: it isn't stopped, its actors are between commands and jobs, and it has counted no more
--- operations of a kind than steps.
+-- A core may be tidied that has taken no step.
 pub record MayTidyFirst (d : DiskModel) (c : RunningCore) : Type 0 where
-  pub may : (m : Machine) × MayStep d c m × (m.stop ≡ None)
-  pub idle : AllAtRest c
-  pub counts : CountsWithin c
+  pub fit : MayBeTidied d c
   pub first : c.taken ≡ 0
 
 -- A core was tidied and flushed: from a machine to this one.

@@ -19,7 +19,7 @@ tidy_core-tidied-requires g c =
     let idle : AllAtRest core = search rules in
     let counts : CountsWithin core = search rules in
     let first : core.taken ≡ 0 = search rules in
-    record { may = may_begin_running nobody _ _ _ _ _ c.in-Ok.ensures.has.started; idle = idle; counts = counts; first = first }
+    record { fit = record { may = may_begin_running nobody _ _ _ _ _ c.in-Ok.ensures.has.started; idle = idle; counts = counts }; first = first }
 
 pub returns-in-Ok : goal.returns-in-Ok
 returns-in-Ok g c =
