@@ -55,23 +55,28 @@ answers_are_as_many d e m actors answers c run =
 same_left : (given now count left : ℕ) → given + now ≡ left → given + count ≡ left → now ≡ count
 same_left given now count left less has = omega (arith, less, has)
 
--- The answer of a step is one of a line that had none, and what is left shows on.
-module _ (laws : RunningLaws) (actor : ℕ) (outcome : Outcome) (at : ℕ) (e : DiskModel) (old : RunningCore) (f : DiskModel) (new : RunningCore) (left : ℕ) (took : TookStep actor outcome at e old f new) (shows : ∥ ShowsLeft e old left ∥₁) where
+-- What a step leaves of the lines without an answer: its answer is one of a line that had none, and what is left shows on.
+pub record LeavesLines (given : ℕ) (left : ℕ) (f : DiskModel) (new : RunningCore) : Type 0 where
+  pub fits : given ≤ left
+  pub shows : (now : ℕ) → given + now ≡ left → ∥ ShowsLeft f new now ∥₁
+
+module _ (laws : RunningLaws) (actor : ℕ) (outcome : Outcome) (at : ℕ) (e : DiskModel) (old : RunningCore) (f : DiskModel) (new : RunningCore) (left : ℕ) (disk : IsDisk e) (disk_next : IsDisk f) (may : IsActor actor)
+    (steps : (m : Machine) → MayStep e old m → (next : Machine) × StepsTo m actor outcome next × ShowsMachine f new next) (touches : Touches e old outcome f new) (clock : IsSome f.told → at ≡ f.clock) (shows : ∥ ShowsLeft e old left ∥₁) where
   one : (was : ShowsLeft e old left) → HasRun e was.machine (actor ∷ []) (given_by outcome at) f new
-  one was = run_of_step laws e was.machine old actor outcome at f new took.disk was.may took.disk_next took.may took.steps took.touches took.clock
+  one was = run_of_step laws e was.machine old actor outcome at f new disk was.may disk_next may steps touches clock
 
   has : (was : ShowsLeft e old left) → length (given_by outcome at) + left_count (one was).new ≡ left
   has was = answers_are_as_many e f was.machine (actor ∷ []) (given_by outcome at) new (one was) ∙ sym was.left_is
 
-  pub given_is_left : length (given_by outcome at) ≤ left
-  given_is_left = ∥∥₁_elim shows le_prop (λ was. let all = has was in omega (arith, all))
-
-  pub shows_on : (now : ℕ) → length (given_by outcome at) + now ≡ left → ∥ ShowsLeft f new now ∥₁
-  shows_on now less = ∥∥₁_map shows (λ was. record {
-    machine = (one was).new;
-    may = may_go_on e was.machine (actor ∷ []) (given_by outcome at) f new (one was);
-    left_is = same_left (length (given_by outcome at)) now (left_count (one was).new) left less (has was);
-  })
+  pub leaves_lines : LeavesLines (length (given_by outcome at)) left f new
+  leaves_lines = record {
+    fits = ∥∥₁_elim shows le_prop (λ was. let all = has was in omega (arith, all));
+    shows = λ now less. ∥∥₁_map shows (λ was. record {
+      machine = (one was).new;
+      may = may_go_on e was.machine (actor ∷ []) (given_by outcome at) f new (one was);
+      left_is = same_left (length (given_by outcome at)) now (left_count (one was).new) left less (has was);
+    });
+  }
 
 -- for what the code takes off, as many as were given
 pub less_left : (given taken left : ℕ) → taken ≡ given → given ≤ left → given + (left - taken) ≡ left
