@@ -21,6 +21,7 @@ use Rattle.hbpi.proofs.StepsTaken.{is_unbegun, run_beyond, takes_steps}
 use Rattle.hbpi.specs.Driven.{IsOpened, Manner}
 use Rattle.hbpi.specs.StepEnds.{Drove, RanEnds, StepsEnd}
 use Rattle.hbpi.specs.Drives.{TakesSteps}
+use Rattle.hbpi.specs.Handing.{HandsOver}
 use Rattle.hbpi.specs.Outcome.{GetsLine, fault_line}
 use Rattle.hbpi.specs.Schedules.{CameFrom, CameNot}
 use Rattle.hbpi.specs.SeenRuns.{Seen, run_of}
@@ -36,9 +37,7 @@ pub record RanCore {X : Type 0} (M : X → DiskModel) (by : Manner) (first over 
   pub unbegun : end ≡ ends.NoMemory → (ran ≡ core) × (over ≡ first) × (given ≡ []) × (status ≡ NoMemory) × GetsLine seen.sink_before seen.sink_after (fault_line status)
   pub goes : end ≢ ends.NoMemory → (m : Machine) → MayStep (M first) core m → (actors : List ℕ) × (run : HasRun (M first) m actors given (M over) ran) × by.goes core.steps actors run.new
       × (Drove by (run_of seen d (M last)) run.new → RanEnds by status (run_of seen d (M last)) run.new)
-  pub disk_is : last ≡ over
-  pub answered_is : seen.answered ≡ given
-  pub order_is : seen.order ≡ ran.order
+  pub hands : HandsOver over last given seen.answered ran.order seen.order
 
 -- a machine that has taken no step, which a core shows that was made
 pub begins_here : (origin : Origin) (before after : SourceModel) (d e : DiskModel) (core : RunningCore) → (started : IsStarted origin before after d e core) → (m : Machine) × IsBegunHere e started.made.lines started.made.steps started.store m
@@ -79,9 +78,9 @@ module _ {X : Type 0} (M : X → DiskModel) (by : Manner) (first over last : X) 
       let new = run.new in
       let takes : TakesSteps (M first) (M over) store.meta.k made.lines actors given ran.order new =
       takes_steps (M first) (M over) made.lines made.steps actors store ran given here.0 laws.beginning laws.begun started.disk started.opens.is_new here.1 run in
-      let on_disk = subst (λ (x : X). TakesSteps (M first) (M x) store.meta.k made.lines actors given ran.order new) (sym facts.disk_is) takes in
-      let with_order = subst (λ (o : List ℕ). TakesSteps (M first) (M last) store.meta.k made.lines actors given o new) (sym facts.order_is) on_disk in
-      let with_answers = subst (λ (a : List Answered). TakesSteps (M first) (M last) store.meta.k made.lines actors a seen.order new) (sym facts.answered_is) with_order in
+      let on_disk = subst (λ (x : X). TakesSteps (M first) (M x) store.meta.k made.lines actors given ran.order new) (sym facts.hands.disk_is) takes in
+      let with_order = subst (λ (o : List ℕ). TakesSteps (M first) (M last) store.meta.k made.lines actors given o new) (sym facts.hands.order_is) on_disk in
+      let with_answers = subst (λ (a : List Answered). TakesSteps (M first) (M last) store.meta.k made.lines actors a seen.order new) (sym facts.hands.answered_is) with_order in
       let opening = is_opening d (M first) store started.count started.disk started.opens started.through started.leaves in
       let drove : Drove by (run_of seen d (M last)) new = record {
         k = store.meta.k;
@@ -101,12 +100,12 @@ module _ {X : Type 0} (M : X → DiskModel) (by : Manner) (first over last : X) 
       let still = facts.unbegun none in
       inr (inl (record {
         k = started.store.meta.k;
-        opened = subst (λ (x : X). IsOpened started.store.meta.k d (M x)) (sym (facts.disk_is ∙ still.1))
+        opened = subst (λ (x : X). IsOpened started.store.meta.k d (M x)) (sym (facts.hands.disk_is ∙ still.1))
             (record { store = started.store; count = started.count; attributes = refl; opens = started.opens; through = started.through; leaves = started.leaves });
         refused = record {
           line = still.4;
-          none_answered = facts.answered_is ∙ still.2;
-          none_ordered = facts.order_is ∙ ap (λ (c : RunningCore). c.order) still.0 ∙ ap (λ (c : RunningCore). c.order) made.core_is;
+          none_answered = facts.hands.answered_is ∙ still.2;
+          none_ordered = facts.hands.order_is ∙ ap (λ (c : RunningCore). c.order) still.0 ∙ ap (λ (c : RunningCore). c.order) made.core_is;
         };
         why = subst (λ (x : Status). CameNot by.origin started.store.meta.k seen.source_before seen.source_after x) (sym still.3) (no_room by.origin started.store.meta.k seen.source_before seen.source_after made.lines made.steps made.source made.came);
       }))
@@ -117,12 +116,12 @@ module _ {X : Type 0} (M : X → DiskModel) (by : Manner) (first over last : X) 
   -- what lies behind the file is as it was
   run_keeps : KeepsBeyond (file_size started.store.meta) (M first) (M last)
   run_keeps = elim (is_unbegun end) [
-    | inl none ↦ subst (λ (x : X). KeepsBeyond (file_size started.store.meta) (M first) (M x)) (sym (facts.disk_is ∙ (facts.unbegun none).1)) (beyond_none (file_size started.store.meta) (M first) started.disk)
+    | inl none ↦ subst (λ (x : X). KeepsBeyond (file_size started.store.meta) (M first) (M x)) (sym (facts.hands.disk_is ∙ (facts.unbegun none).1)) (beyond_none (file_size started.store.meta) (M first) started.disk)
     | inr some ↦
         let here = begins_here by.origin seen.source_before seen.source_after d (M first) core started in
         let may = may_core by.origin seen.source_before seen.source_after d (M first) core here.0 started here.1 in
         let run = (facts.goes some here.0 may).1 in
-        subst (λ (x : X). KeepsBeyond (file_size started.store.meta) (M first) (M x)) (sym facts.disk_is) (run_beyond (M first) (M over) started.store here.0 here.1.may.shows.store run.in_file)
+        subst (λ (x : X). KeepsBeyond (file_size started.store.meta) (M first) (M x)) (sym facts.hands.disk_is) (run_beyond (M first) (M over) started.store here.0 here.1.may.shows.store run.in_file)
   ]
 
   pub core_beyond : KeepsBeyondFile d (M last)

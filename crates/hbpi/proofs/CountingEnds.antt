@@ -15,12 +15,12 @@ use Rattle.hb_set.specs.declared.scripts.Answered.{Answered}
 use Rattle.hb_store.specs.declared.stops.StopWhy.TheVariants as stops
 use Rattle.hbpi.proofs.CoreEnds.{RanCore}
 use Rattle.hbpi.proofs.RecordsLeft.{NumbersArePlaces, drawn_in_place, has_records}
-use Rattle.hbpi.specs.Codes.{status_after}
 use Rattle.hbpi.specs.Counted.{counts_text, records_left}
 use Rattle.hbpi.specs.Driven.{GoesOnForAll, by_counting}
+use Rattle.hbpi.specs.Handing.{EndsCounting}
 use Rattle.hbpi.specs.StepEnds.{Drove, GetsOutput, RanEnds}
 use Rattle.hbpi.specs.Outcome.{GetsLine, fault_line}
-use Rattle.hbpi.specs.Saying.{IsSaid}
+use Rattle.hbpi.specs.Saying.{IsSaid, SaysCounts}
 use Rattle.hbpi.specs.SeenRuns.{Run, Seen, run_of}
 use Rattle.hbpi.specs.Starts.{IsStarted, StartLaws}
 use Rattle.hbpi.specs.declared.origins.Origin.TheVariants.{Drawn}
@@ -44,7 +44,7 @@ alone_put before after status line = record { between = before; whole = appends_
 said_ends : (state count : ℕ) (run : Run) (m : Machine) (text : List ℕ) (status : Status) → (by_counting state count).output run m text → m.stop ≡ None → ¬ (HasReadFault run.seen.answered)
     → IsSaid text run.seen.sink_before run.seen.sink_after status → RanEnds (by_counting state count) status run m
 said_ends state count run m text Done output going read said = (text, output, said.0, said.1, going, read)
-said_ends state count run m text SinkFault output going read said = (text, output, said.0, said.1)
+said_ends state count run m text SinkFault output going read said = (text, output, said.0, said.1, said.2)
 said_ends state count run m text Usage output going read said = absurd said
 said_ends state count run m text (BadText bad) output going read said = absurd said
 said_ends state count run m text SourceFault output going read said = absurd said
@@ -56,33 +56,29 @@ said_ends state count run m text (Small needed found) output going read said = a
 said_ends state count run m text Full output going read said = absurd said
 said_ends state count run m text Spent output going read said = absurd said
 
+-- a fault line alone, by the status of the end
+fault_ends : (state count : ℕ) (run : Run) (m : Machine) (status after : Status) → (status ≡ after) × GetsLine run.seen.sink_before run.seen.sink_after (fault_line status) → (GetsOutput run.seen.sink_before run.seen.sink_after [] after → RanEnds (by_counting state count) after run m)
+    → RanEnds (by_counting state count) status run m
+fault_ends state count run m status after says ends =
+    subst (λ (x : Status). RanEnds (by_counting state count) x run m) (sym says.0)
+    (ends (alone_put run.seen.sink_before run.seen.sink_after after (subst (λ (x : Status). GetsLine run.seen.sink_before run.seen.sink_after (fault_line x)) says.0 says.1)))
+
 -- how it ended, by the end of the run and by what was said or put
 counted_ends : (state count : ℕ) (end : End) (run : Run) (m : Machine) (text : List ℕ) (status : Status) → (m.stop ≡ None → (by_counting state count).output run m text)
-    → (end ≡ ends.Finished → IsSaid text run.seen.sink_before run.seen.sink_after status) → (end ≢ ends.Finished → status ≡ status_after end) → (end ≢ ends.Finished → GetsLine run.seen.sink_before run.seen.sink_after (fault_line (status_after end)))
+    → SaysCounts end text run.seen.sink_before run.seen.sink_after status
     → EndsWith end nowhere nowhere (run_text run.seen.answered m) run.seen.answered m.stop → RanEnds (by_counting state count) status run m
-counted_ends state count ends.Finished run m text status output said fault line went = said_ends state count run m text status (output went.2) went.2 went.3 (said refl)
-counted_ends state count ends.NoMemory run m text status output said fault line went = absurd went
-counted_ends state count ends.SinkFault run m text status output said fault line went = elim went.1 [ inl less ↦ absurd (omega (arith, less)) | inr last ↦ absurd (omega (arith, last)) ]
-counted_ends state count ends.ReadFault run m text status output said fault line went =
-    let other : ends.ReadFault ≢ ends.Finished = λ is. cc (is) in
-    subst (λ (x : Status). RanEnds (by_counting state count) x run m) (sym (fault other)) (alone_put run.seen.sink_before run.seen.sink_after DiskFault (line other), inr (went.2, went.3))
-counted_ends state count (ends.Stopped stops.WriteFault) run m text status output said fault line went =
-    let other : ends.Stopped stops.WriteFault ≢ ends.Finished = λ is. cc (is) in
-    subst (λ (x : Status). RanEnds (by_counting state count) x run m) (sym (fault other)) (alone_put run.seen.sink_before run.seen.sink_after DiskFault (line other), inl went.2)
-counted_ends state count (ends.Stopped (stops.Damaged page why)) run m text status output said fault line went =
-    let other : ends.Stopped (stops.Damaged page why) ≢ ends.Finished = λ is. cc (is) in
-    subst (λ (x : Status). RanEnds (by_counting state count) x run m) (sym (fault other)) (alone_put run.seen.sink_before run.seen.sink_after _ (line other), page, why, went.2, refl)
+counted_ends state count ends.Finished run m text status output says went = said_ends state count run m text status (output went.2) went.2 went.3 says
+counted_ends state count ends.NoMemory run m text status output says went = absurd went
+counted_ends state count ends.SinkFault run m text status output says went = elim went.1 [ inl less ↦ absurd (omega (arith, less)) | inr last ↦ absurd (omega (arith, last)) ]
+counted_ends state count ends.ReadFault run m text status output says went = fault_ends state count run m status DiskFault says (λ put. (put, inr (went.2, went.3)))
+counted_ends state count (ends.Stopped stops.WriteFault) run m text status output says went = fault_ends state count run m status DiskFault says (λ put. (put, inl went.2))
+counted_ends state count (ends.Stopped (stops.Damaged page why)) run m text status output says went = fault_ends state count run m status _ says (λ put. (put, page, why, went.2, refl))
 
 -- What is known of the calls over a core: its disk and what the run left of it, and what became of the sink behind the run.
 pub record RanCounting {X : Type 0} (M : X → DiskModel) (first over last : X) (core ran : RunningCore) (end : End) (given answered : List Answered) (order : List ℕ) (records : ℕ) (sink put : SinkModel) (status : Status) : Type 0 where
   pub unbegun : end ≡ ends.NoMemory → (ran ≡ core) × (over ≡ first) × (given ≡ [])
   pub drives : end ≢ ends.NoMemory → (m : Machine) → MayStep (M first) core m → (actors : List ℕ) × (drives : DrivesTo m actors given (M first) (M over) ran end nowhere nowhere) × GoesOnForAll core.steps actors drives.run.new
-  pub said : end ≡ ends.Finished → IsSaid (counts_text given (records_left ran.lines given records)) sink put status
-  pub fault : end ≢ ends.Finished → status ≡ status_after end
-  pub line : end ≢ ends.Finished → GetsLine sink put (fault_line (status_after end))
-  pub disk_is : last ≡ over
-  pub answered_is : answered ≡ given
-  pub order_is : order ≡ ran.order
+  pub ended : EndsCounting end (counts_text given (records_left ran.lines given records)) sink put over last given answered ran.order order status
 
 module _ {X : Type 0} (M : X → DiskModel) (state count : ℕ) (first over last : X) (core ran : RunningCore) (end : End) (given : List Answered) (records : ℕ) (d : DiskModel) (seen : Seen) (status : Status)
     (facts : RanCounting M first over last core ran end given seen.answered seen.order records seen.sink_before seen.sink_after status) (laws : StartLaws) (started : IsStarted (Drawn state count) seen.source_before seen.source_after d (M first) core) (counted : records ≡ started.count) where
@@ -109,23 +105,21 @@ module _ {X : Type 0} (M : X → DiskModel) (state count : ℕ) (first over last
   counting_core = record {
     unbegun = λ none.
         let still = facts.unbegun none in
-        let other : end ≢ ends.Finished = λ is. cc (none, is) in
-        let is = facts.fault other in
-        (still.0, still.1, still.2, is ∙ ap status_after none, subst (λ (x : Status). GetsLine seen.sink_before seen.sink_after (fault_line x)) (sym is) (facts.line other));
+        let says : SaysCounts ends.NoMemory (counts_text given (records_left ran.lines given records)) seen.sink_before seen.sink_after status =
+        subst (λ (x : End). SaysCounts x (counts_text given (records_left ran.lines given records)) seen.sink_before seen.sink_after status) none facts.ended.says in
+        (still.0, still.1, still.2, says.0, says.1);
     goes = λ some m may.
         let drove = facts.drives some m may in
         let new = drove.1.run.new in
         let text : List Answered → ℕ → List ℕ = λ a n. counts_text a (records_left ran.lines a n) in
-        let same : text given records ≡ text seen.answered started.count = ap (λ (a : List Answered). text a records) (sym facts.answered_is) ∙ ap (text seen.answered) counted in (
+        let same : text given records ≡ text seen.answered started.count = ap (λ (a : List Answered). text a records) (sym facts.ended.hands.answered_is) ∙ ap (text seen.answered) counted in (
           drove.0,
           drove.1.run,
           drove.2,
           λ went. counted_ends state count end whole new (text seen.answered started.count) status
               (output m drove.0 may drove.1 went)
-              (λ is. subst (λ (t : List ℕ). IsSaid t seen.sink_before seen.sink_after status) same (facts.said is)) facts.fault facts.line
-              (subst (λ (a : List Answered). EndsWith end nowhere nowhere (run_text a new) a new.stop) (sym facts.answered_is) drove.1.text),
+              (subst (λ (t : List ℕ). SaysCounts end t seen.sink_before seen.sink_after status) same facts.ended.says)
+              (subst (λ (a : List Answered). EndsWith end nowhere nowhere (run_text a new) a new.stop) (sym facts.ended.hands.answered_is) drove.1.text),
         );
-    disk_is = facts.disk_is;
-    answered_is = facts.answered_is;
-    order_is = facts.order_is;
+    hands = facts.ended.hands;
   }

@@ -58,7 +58,7 @@ text_gives : (step_lines : Bool) (k n : ℕ) (left : List ℕ) (seen : Seen) (st
 text_gives step_lines k n left seen (BadText bad) same told source why =
     let says = reads_left step_lines k n left why.0 seen.source_before.left seen.source_after.left same told why.1 ∙ why.2 in
     subst (λ (r : Result Reading BadLine). GivesFor seen (BadText bad) r) (sym says) (inl refl)
-text_gives step_lines k n left seen SourceFault same told source why = absurd (source why)
+text_gives step_lines k n left seen SourceFault same told source why = absurd (source why.0)
 text_gives step_lines k n left seen NoMemory same told source why = no_memory seen NoMemory (text_read step_lines k left) refl
 text_gives step_lines k n left seen Done same told source why = absurd why
 text_gives step_lines k n left seen SinkFault same told source why = absurd why

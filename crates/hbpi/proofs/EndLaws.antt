@@ -244,10 +244,10 @@ steps_source by run status ends other = elim ends [
   ]
 ]
 
-check_source : (run : Run) (status : Status) → CheckEnds run status → run.seen.source_after.faults ≡ run.seen.source_before.faults
+pub check_source : (run : Run) (status : Status) → CheckEnds run status → run.seen.source_after.faults ≡ run.seen.source_before.faults
 check_source run status ends = elim ends [ inl shut ↦ shut.2.unread.faults | inr checked ↦ checked.2.unread.faults ]
 
-tidy_source : (run : Run) (status : Status) → TidyEnds run status → run.seen.source_after.faults ≡ run.seen.source_before.faults
+pub tidy_source : (run : Run) (status : Status) → TidyEnds run status → run.seen.source_after.faults ≡ run.seen.source_before.faults
 tidy_source run status ends = elim ends [
   | inl shut ↦ shut.2.unread.faults
   | inr opened ↦ elim opened [
@@ -256,10 +256,10 @@ tidy_source run status ends = elim ends [
   ]
 ]
 
-map_source : (run : Run) (status : Status) → MapEnds run status → run.seen.source_after.faults ≡ run.seen.source_before.faults
+pub map_source : (run : Run) (status : Status) → MapEnds run status → run.seen.source_after.faults ≡ run.seen.source_before.faults
 map_source run status ends = elim ends [ inl shut ↦ shut.2.unread.faults | inr mapped ↦ mapped.2.unread.faults ]
 
-gen_source : (text : List ℕ) (seen : Seen) (status : Status) → GenEnds text seen status → seen.source_after.faults ≡ seen.source_before.faults
+pub gen_source : (text : List ℕ) (seen : Seen) (status : Status) → GenEnds text seen status → seen.source_after.faults ≡ seen.source_before.faults
 gen_source text seen status ends = elim ends [ inl refused ↦ refused.2.faults | inr said ↦ said.0.unread.faults ]
 
 usage_source : (seen : Seen) (status : Status) → UsageEnds seen status → seen.source_after.faults ≡ seen.source_before.faults

@@ -3,7 +3,9 @@ pub mod TextPieces
 pub mod PutTexts
 pub mod RunLines
 pub mod EndLaws
+pub mod Later
 pub mod RunsOf
+pub mod DryRuns
 pub mod Beyond
 pub mod Begins
 pub mod Opened
@@ -18,7 +20,6 @@ pub mod TextEnds
 pub mod Tallies
 pub mod Turned
 pub mod WorkedOff
-pub mod DriveLaws
 pub mod DriveNames
 pub mod DriveGiven
 pub mod FileRefused

@@ -1,5 +1,5 @@
 -- A run of `map` over a file that was opened.
-use Rattle.std.proofs.Common.{◌≡◌, ◌≢◌, ℕ, List, [], ◌++◌, Option, Some, None, Result, Ok, Err, inr, refl, sym, ap, subst}
+use Rattle.std.proofs.Common.{◌≡◌, ◌≢◌, ◌≤◌, ℕ, List, [], ◌++◌, Option, Some, None, Result, Ok, Err, inr, refl, sym, ap, subst}
 use Rattle.std.specs.Result.{IfErr, IsErrOf}
 use Rattle.hb_disk.specs.Model.{DiskModel}
 use Rattle.hb_layout.specs.declared.meta.Meta.{Meta}
@@ -75,7 +75,7 @@ module _ (d m e : DiskModel) (old new : StoreHeld) (count : ℕ) (seen : Seen) (
   maps_with (Ok done) text facts puts =
       subst (λ (k : SinkModel). Appends seen.sink_before.written k.written text × (k.faults ≡ seen.sink_before.faults)) (sym (facts.silent_done refl)) (puts.done, facts.counts.no_fault (not_err done stops.SinkFault))
   maps_with (Err stops.SinkFault) text facts puts =
-      subst (λ (k : SinkModel). AppendsFront seen.sink_before.written k.written text × Rose seen.sink_before.faults k.faults) (sym (facts.silent refl)) (puts.tried, facts.counts.cause refl)
+      subst (λ (k : SinkModel). AppendsFront seen.sink_before.written k.written text × Rose seen.sink_before.faults k.faults × (seen.sink_before.faults ≤ k.faults)) (sym (facts.silent refl)) (puts.tried, facts.counts.cause refl, facts.counts.later)
   maps_with (Err stops.ReadFault) text facts puts = (
     front_line stops.ReadFault text (λ is. cc (is)) puts facts.counts DiskFault facts.line,
     subst (λ (n : ℕ). Rose n e.read_faults) (facts.leaves.faults.no_fault (λ x. x)).0 (facts.looks.looks.only.reads.cause refl),

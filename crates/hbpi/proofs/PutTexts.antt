@@ -29,7 +29,7 @@ output_parts answered order = ap (λ t. t ++ order_text order (length order)) (s
 put_ends : (before after : SinkModel) (lines : List Line) (answered : List Answered) (order : List ℕ) (result : Result (Unit {0}) Failed) → IsDryRun lines answered order
     → Puts (output_text answered [] false order (length order)) result before after → EndsRun before after lines answered order (put_status result)
 put_ends before after lines answered order (Ok done) run all = (run, all.done, all.counts.no_fault (λ e. false≢true e))
-put_ends before after lines answered order (Err failed) run all = (run, all.tried, all.counts.cause refl)
+put_ends before after lines answered order (Err failed) run all = (run, all.tried, all.counts.cause refl, all.counts.later)
 
 run_ends : (before mid after : SinkModel) (so_far : Result (Unit {0}) Failed) (lines : List Line) (answered : List Answered) (order : List ℕ) (status : Status) → IsDryRun lines answered order
     → Puts (flat_map answer_text answered) so_far before mid → EndsBySink so_far order status mid after → EndsRun before after lines answered order status

@@ -94,8 +94,8 @@ run_beyond d e st m stored in_file = subst (λ (x : StoreState). Becomes (Change
 
 -- how the run ended, and the fault line behind its text
 pub ran_ends : (step_lines : Bool) (goes : List ℕ → List ℕ → Machine → Type 0) (end : End) (run : Run) (mid : SinkModel) (m : Machine) → EndsWith end run.seen.sink_before mid (run_text run.seen.answered m) run.seen.answered m.stop → GetsLine mid run.seen.sink_after (fault_line (status_after end))
-    → (end ≡ ends.SinkFault → run.seen.sink_after ≡ mid) → (end ≡ ends.Finished → run.seen.sink_after ≡ mid) → RanEnds (by_text step_lines goes) (status_after end) run m
-ran_ends step_lines goes ends.Finished run mid m put line silent done =
+    → run.seen.sink_before.faults ≤ mid.faults → (end ≡ ends.SinkFault → run.seen.sink_after ≡ mid) → (end ≡ ends.Finished → run.seen.sink_after ≡ mid) → RanEnds (by_text step_lines goes) (status_after end) run m
+ran_ends step_lines goes ends.Finished run mid m put line later silent done =
     let still = done refl in (
       run_text run.seen.answered m,
       refl,
@@ -104,19 +104,20 @@ ran_ends step_lines goes ends.Finished run mid m put line silent done =
       put.2,
       put.3,
     )
-ran_ends step_lines goes ends.NoMemory run mid m put line silent done = absurd put
-ran_ends step_lines goes ends.SinkFault run mid m put line silent done =
+ran_ends step_lines goes ends.NoMemory run mid m put line later silent done = absurd put
+ran_ends step_lines goes ends.SinkFault run mid m put line later silent done =
     let still = silent refl in (
       run_text run.seen.answered m,
       refl,
       subst (λ (k : SinkModel). AppendsFront run.seen.sink_before.written k.written (run_text run.seen.answered m)) (sym still) put.0,
       subst (λ (k : SinkModel). Rose run.seen.sink_before.faults k.faults) (sym still) put.1,
+      subst (λ (k : SinkModel). run.seen.sink_before.faults ≤ k.faults) (sym still) later,
     )
-ran_ends step_lines goes ends.ReadFault run mid m put line silent done =
+ran_ends step_lines goes ends.ReadFault run mid m put line later silent done =
     (record { between = mid; whole = put.0; same = put.1; line = line }, inr (put.2, put.3))
-ran_ends step_lines goes (ends.Stopped stops.WriteFault) run mid m put line silent done =
+ran_ends step_lines goes (ends.Stopped stops.WriteFault) run mid m put line later silent done =
     (record { between = mid; whole = put.0; same = put.1; line = line }, inl put.2)
-ran_ends step_lines goes (ends.Stopped (stops.Damaged page why)) run mid m put line silent done =
+ran_ends step_lines goes (ends.Stopped (stops.Damaged page why)) run mid m put line later silent done =
     (record { between = mid; whole = put.0; same = put.1; line = line }, page, why, put.2, refl)
 
 pub is_unbegun : (end : End) → (end ≡ ends.NoMemory) ⊎ (end ≢ ends.NoMemory)

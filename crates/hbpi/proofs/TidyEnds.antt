@@ -1,5 +1,5 @@
 -- How a run of `tidy` ends that has made its core.
-use Rattle.std.proofs.Common.{◌≡◌, ℕ, ◌≤◌, List, [], map, Result, inl, inr, refl, sym, ap, ◌∙◌, subst}
+use Rattle.std.proofs.Common.{◌≡◌, ℕ, List, [], map, Result, inr, refl, sym, ap, ◌∙◌, subst}
 use Rattle.hb_core.specs.Machines.{Machine}
 use Rattle.hb_core.specs.Showing.{RunningCore}
 use Rattle.hb_core.specs.Working.{MayStep}
@@ -19,10 +19,8 @@ use Rattle.hbpi.proofs.CoreEnds.{begins_here, may_core}
 use Rattle.hbpi.proofs.Opened.{IsOpening, is_opening}
 use Rattle.hbpi.proofs.StepsTaken.{run_beyond}
 use Rattle.hbpi.proofs.Tidied.{tidies_file}
-use Rattle.hbpi.proofs.Turned.{handed_back}
-use Rattle.hbpi.specs.Outcome.{GetsLine, fault_line}
-use Rattle.hbpi.specs.SeenRuns.{IsUnread, Run, Seen, run_of, seen_by}
-use Rattle.hbpi.specs.Starts.{IsNotStarted, IsStarted, StartLaws}
+use Rattle.hbpi.specs.SeenRuns.{IsUnread, Seen, run_of, seen_by}
+use Rattle.hbpi.specs.Starts.{IsStarted, StartLaws}
 use Rattle.hbpi.specs.Tidied.{nobody}
 use Rattle.hbpi.specs.TidyRuns.{EndsForced, SaysTidied, TidyEnds, TidiesFile}
 use Rattle.hbpi.specs.declared.statuses.Status.{Status}
@@ -76,25 +74,3 @@ module _ {X : Type 0} (M : X → DiskModel) (first over last : X) (core ran : Ru
   tidied_beyond =
       beyond_driven d (M first) (M last) started.store.meta started.opens.said started.leaves.beyond
       (subst (λ (x : X). KeepsBeyond (file_size started.store.meta) (M first) (M x)) (sym facts.disk_is) (run_beyond (M first) (M over) started.store here.0 here.1.may.shows.store went.0.in_file))
-
--- ---- where no core was made
-
-pub turned_tidy : {X : Type 0} (M : X → DiskModel) (first found last : X) (before after : SourceModel) (sink put : SinkModel) (answered : List Answered) (order : List ℕ) (asked status : Status) → last ≡ found → status ≡ asked
-    → GetsLine sink put (fault_line asked) → answered ≡ [] → order ≡ [] → IsNotStarted nobody before after (M first) (M found) asked
-    → TidyEnds (run_of (seen_by before after sink put answered order) (M first) (M last)) status
-turned_tidy M first found last before after sink put answered order asked status same is line none_answered none_ordered not =
-    handed_back M TidyEnds first found last before after sink put answered order asked status same is none_answered none_ordered (elim (not sink put line) [ inl shut ↦ inl shut | inr away ↦ inr (inl away) ])
-
--- ---- counts of the disk's faults
-
-pub tidy_reads : (run : Run) (status : Status) → TidyEnds run status → run.before.read_faults ≤ run.after.read_faults
-tidy_reads run status ends = elim ends [
-  | inl shut ↦ shut.2.leaves.faults.reads
-  | inr opened ↦ elim opened [ inl away ↦ away.opened.leaves.faults.reads | inr tidied ↦ tidied.2.faults.reads ]
-]
-
-pub tidy_writes : (run : Run) (status : Status) → TidyEnds run status → run.before.write_faults ≤ run.after.write_faults
-tidy_writes run status ends = elim ends [
-  | inl shut ↦ shut.2.leaves.faults.writes
-  | inr opened ↦ elim opened [ inl away ↦ away.opened.leaves.faults.writes | inr tidied ↦ tidied.2.faults.writes ]
-]

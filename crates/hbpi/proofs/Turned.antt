@@ -1,31 +1,33 @@
 -- A run that came to no core.
-use Rattle.std.proofs.Common.{◌≡◌, List, [], ℕ, Result, Ok, Err, inl, inr, sym, subst}
-use Rattle.std.specs.Prelude.{IfErr}
+use Rattle.std.proofs.Common.{List, [], ℕ, inl, inr, sym, subst}
 use Rattle.hb_disk.specs.Model.{DiskModel}
 use Rattle.hb_outside.specs.Calls.{SinkModel, SourceModel}
+use Rattle.hb_restart.specs.Beyond.{KeepsBeyondFile}
 use Rattle.hb_set.specs.declared.scripts.Answered.{Answered}
 use Rattle.hbpi.specs.Driven.{Manner}
+use Rattle.hbpi.specs.Handing.{HandsBack}
 use Rattle.hbpi.specs.StepEnds.{StepsEnd}
-use Rattle.hbpi.specs.Outcome.{GetsLine, fault_line}
 use Rattle.hbpi.specs.SeenRuns.{Run, run_of, seen_by}
 use Rattle.hbpi.specs.Starts.{IsNotStarted}
+use Rattle.hbpi.specs.Tidied.{nobody}
+use Rattle.hbpi.specs.TidyRuns.{TidyEnds}
 use Rattle.hbpi.specs.declared.statuses.Status.{Status}
 
--- how a run ends that did nothing but hand its disk back, by the status that was asked for
-pub handed_back : {X : Type 0} (M : X → DiskModel) (Ends : Run → Status → Type 0) (first found last : X) (before after : SourceModel) (sink put : SinkModel) (answered : List Answered) (order : List ℕ) (asked status : Status) → last ≡ found → status ≡ asked
-    → answered ≡ [] → order ≡ [] → Ends (run_of (seen_by before after sink put [] []) (M first) (M found)) asked → Ends (run_of (seen_by before after sink put answered order) (M first) (M last)) status
-handed_back {X = X} M Ends first found last before after sink put answered order asked status same is none_answered none_ordered ends =
-    let on_disk = subst (λ (x : X). Ends (run_of (seen_by before after sink put [] []) (M first) (M x)) asked) (sym same) ends in
-    let of_status = subst (λ (x : Status). Ends (run_of (seen_by before after sink put [] []) (M first) (M last)) x) (sym is) on_disk in
-    let with_order = subst (λ (o : List ℕ). Ends (run_of (seen_by before after sink put [] o) (M first) (M last)) status) (sym none_ordered) of_status in
-    subst (λ (a : List Answered). Ends (run_of (seen_by before after sink put a order) (M first) (M last)) status) (sym none_answered) with_order
+-- how it ended, and that it left what lies behind the file
+abbrev EndsInFile : (Run → Status → Type 0) → Run → Status → Type 0
+EndsInFile Ends run status = Ends run status × KeepsBeyondFile run.before run.after
 
-pub turned : {X : Type 0} (M : X → DiskModel) (by : Manner) (first found last : X) (before after : SourceModel) (sink put : SinkModel) (answered : List Answered) (order : List ℕ) (asked status : Status) → last ≡ found → status ≡ asked
-    → GetsLine sink put (fault_line asked) → answered ≡ [] → order ≡ [] → IsNotStarted by.origin before after (M first) (M found) asked
-    → StepsEnd by (run_of (seen_by before after sink put answered order) (M first) (M last)) status
-turned M by first found last before after sink put answered order asked status same is line none_answered none_ordered not =
-    handed_back M (StepsEnd by) first found last before after sink put answered order asked status same is none_answered none_ordered (elim (not sink put line) [ inl shut ↦ inl shut | inr away ↦ inr (inl away) ])
+module _ {X : Type 0} (M : X → DiskModel) (first found last : X) (before after : SourceModel) (sink put : SinkModel) (answered : List Answered) (order : List ℕ) (asked status : Status) (back : HandsBack asked status sink put answered order found last) where
+  -- how a run ends that did nothing but hand its disk back, by the status that was asked for
+  handed_back : (Ends : Run → Status → Type 0) → Ends (run_of (seen_by before after sink put [] []) (M first) (M found)) asked → Ends (run_of (seen_by before after sink put answered order) (M first) (M last)) status
+  handed_back Ends ends =
+      let on_disk = subst (λ (x : X). Ends (run_of (seen_by before after sink put [] []) (M first) (M x)) asked) (sym back.disk_is) ends in
+      let of_status = subst (λ (x : Status). Ends (run_of (seen_by before after sink put [] []) (M first) (M last)) x) (sym back.status_is) on_disk in
+      let with_order = subst (λ (o : List ℕ). Ends (run_of (seen_by before after sink put [] o) (M first) (M last)) status) (sym back.none_ordered) of_status in
+      subst (λ (a : List Answered). Ends (run_of (seen_by before after sink put a order) (M first) (M last)) status) (sym back.none_answered) with_order
 
-pub IfErr-weaker : {T E : Type 0} (r : Result T E) (P Q : E → Type 0) → ((e : E) → P e → Q e) → IfErr r P → IfErr r Q
-IfErr-weaker (Ok x) P Q weaker holds = tt
-IfErr-weaker (Err e) P Q weaker holds = weaker e holds
+  pub turned : (by : Manner) → IsNotStarted by.origin before after (M first) (M found) asked → EndsInFile (StepsEnd by) (run_of (seen_by before after sink put answered order) (M first) (M last)) status
+  turned by not = handed_back (EndsInFile (StepsEnd by)) (elim (not sink put back.line) [ inl shut ↦ (inl shut, shut.2.leaves.beyond) | inr away ↦ (inr (inl away), away.opened.leaves.beyond) ])
+
+  pub turned_tidy : IsNotStarted nobody before after (M first) (M found) asked → EndsInFile TidyEnds (run_of (seen_by before after sink put answered order) (M first) (M last)) status
+  turned_tidy not = handed_back (EndsInFile TidyEnds) (elim (not sink put back.line) [ inl shut ↦ (inl shut, shut.2.leaves.beyond) | inr away ↦ (inr (inl away), away.opened.leaves.beyond) ])

@@ -1,30 +1,19 @@
 -- What the parts of a run of `dry` say.
-use Rattle.std.specs.Prelude.{◌≡◌, ℕ, false, List, [], length, Option, Result, Ok, Err}
-use Rattle.hb_outside.specs.Calls.{PutsOn, SourceModel, SinkModel}
+use Rattle.std.specs.Prelude.{◌≡◌, ℕ, ◌≤◌, false, List, [], ◌++◌, length, Result, Ok, Err}
+use Rattle.hb_outside.specs.Calls.{PutsOn, SinkModel}
 use Rattle.hb_outside.specs.declared.traits.Failed.{Failed}
 use Rattle.hb_outside.specs.Streams.{Rose, Appends, AppendsFront}
 use Rattle.hb_set.specs.declared.scripts.Line.{Line}
 use Rattle.hb_set.specs.declared.scripts.Answered.{Answered}
-use Rattle.hb_set.specs.Scripts.{IsScriptFor}
-use Rattle.hb_text.specs.Grammar.{text_read}
 use Rattle.hb_text.specs.Output.{order_text, output_text}
 use Rattle.hbpi.specs.declared.statuses.Status.{Status}
-use Rattle.hbpi.specs.declared.statuses.Status.TheVariants.{Done, BadText, SourceFault, SinkFault, NoMemory}
-use Rattle.hbpi.specs.Outcome.{fault_line, GetsLine, IsTextOf, IsWholeText, IsDryRun}
+use Rattle.hbpi.specs.declared.statuses.Status.TheVariants.{Done, SinkFault, NoMemory}
+use Rattle.hbpi.specs.Outcome.{fault_line, GetsLine, IsDryRun}
 
--- a text that was read and says a script over k attributes
-pub record IsRead (k : ℕ) (left rest : Option (List ℕ)) (lines : List Line) : Type 0 where
-  pub text : List ℕ
-  pub whole : IsWholeText left rest text
-  pub says : text_read false k text ≡ Ok (record { lines = lines; steps = [] })
-  pub script : IsScriptFor k lines
-
--- why no script was read
-abbrev pub NotRead : ℕ → SourceModel → SourceModel → Status → Type 0
-NotRead k before after (BadText bad) = (text : List ℕ) × IsTextOf before.left after.left text × (text_read false k text ≡ Err bad) × (after.faults ≡ before.faults)
-NotRead k before after SourceFault = Rose before.faults after.faults
-NotRead k before after NoMemory = after.faults ≡ before.faults
-NotRead k before after _ = ⊥
+-- Some more stand behind the items of a list, which has no less room then.
+pub record Gains {T : Type 0} (old new more : List T) (room now : ℕ) : Type 0 where
+  pub items : new ≡ old ++ more
+  pub room_stays : room ≤ now
 
 -- the status behind the last put
 abbrev pub put_status : Result (Unit {0}) Failed → Status
@@ -40,6 +29,6 @@ pub record EndsBySink (so_far : Result (Unit {0}) Failed) (order : List ℕ) (st
 -- how a run of these lines ends
 abbrev pub EndsRun : SinkModel → SinkModel → List Line → List Answered → List ℕ → Status → Type 0
 EndsRun before after lines answered order Done = IsDryRun lines answered order × Appends before.written after.written (output_text answered [] false order (length order)) × (after.faults ≡ before.faults)
-EndsRun before after lines answered order SinkFault = IsDryRun lines answered order × AppendsFront before.written after.written (output_text answered [] false order (length order)) × Rose before.faults after.faults
+EndsRun before after lines answered order SinkFault = IsDryRun lines answered order × AppendsFront before.written after.written (output_text answered [] false order (length order)) × Rose before.faults after.faults × (before.faults ≤ after.faults)
 EndsRun before after lines answered order NoMemory = GetsLine before after (fault_line NoMemory) × (answered ≡ []) × (order ≡ [])
 EndsRun before after lines answered order _ = ⊥

@@ -1,5 +1,5 @@
 -- What each status says of a run: its cause, and what it leaves.
-use Rattle.std.specs.Prelude.{◌≡◌, ℕ, ◌⊎◌, false, List, [], length, Option, Some, None, Ok, Err}
+use Rattle.std.specs.Prelude.{◌≡◌, ℕ, ◌≤◌, ◌⊎◌, false, List, [], length, Option, Some, None, Ok, Err}
 use Rattle.hb_outside.specs.Streams.{Rose, Appends, AppendsFront}
 use Rattle.hb_set.specs.declared.scripts.Line.{Line}
 use Rattle.hb_text.specs.declared.rules.BadLine.{BadLine}
@@ -29,9 +29,9 @@ whole_output seen = output_text seen.answered [] false seen.order (length seen.o
 -- the plain record set over k attributes
 abbrev pub DryEnds : ℕ → Seen → Status → Type 0
 DryEnds k seen Done = (lines : List Line) × IsAnswered k seen lines × Appends seen.sink_before.written seen.sink_after.written (whole_output seen) × (seen.sink_after.faults ≡ seen.sink_before.faults)
-DryEnds k seen SinkFault = (lines : List Line) × IsAnswered k seen lines × AppendsFront seen.sink_before.written seen.sink_after.written (whole_output seen) × Rose seen.sink_before.faults seen.sink_after.faults
+DryEnds k seen SinkFault = (lines : List Line) × IsAnswered k seen lines × AppendsFront seen.sink_before.written seen.sink_after.written (whole_output seen) × Rose seen.sink_before.faults seen.sink_after.faults × (seen.sink_before.faults ≤ seen.sink_after.faults)
 DryEnds k seen (BadText bad) = (text : List ℕ) × IsTextOf seen.source_before.left seen.source_after.left text × (text_read false k text ≡ Err bad) × IsRefused seen (BadText bad) × (seen.source_after.faults ≡ seen.source_before.faults)
-DryEnds k seen SourceFault = Rose seen.source_before.faults seen.source_after.faults × IsRefused seen SourceFault
+DryEnds k seen SourceFault = Rose seen.source_before.faults seen.source_after.faults × IsRefused seen SourceFault × (seen.source_before.faults ≤ seen.source_after.faults)
 DryEnds k seen NoMemory = IsRefused seen NoMemory × (seen.source_after.faults ≡ seen.source_before.faults)
 DryEnds k seen Usage = ⊥
 DryEnds k seen DiskFault = ⊥

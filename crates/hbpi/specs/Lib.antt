@@ -4,6 +4,7 @@ pub mod Taking
 pub mod Outcome
 pub mod SeenRuns
 pub mod Saying
+pub mod Handing
 pub mod Created
 pub mod Ends
 pub mod MadeEnds

@@ -27,10 +27,10 @@ pub record IsNotMade (fault : Option BadField) (run : Run) (status : Status) : T
 -- a new file, whose layout has this bad field and wants so many bytes
 abbrev pub CreateEnds : Option BadField → ℕ → Run → Status → Type 0
 CreateEnds fault needed run Done = EndsMaking fault needed run × Appends run.seen.sink_before.written run.seen.sink_after.written (codes "created\n") × (run.seen.sink_after.faults ≡ run.seen.sink_before.faults)
-CreateEnds fault needed run SinkFault = EndsMaking fault needed run × AppendsFront run.seen.sink_before.written run.seen.sink_after.written (codes "created\n") × Rose run.seen.sink_before.faults run.seen.sink_after.faults
+CreateEnds fault needed run SinkFault = EndsMaking fault needed run × AppendsFront run.seen.sink_before.written run.seen.sink_after.written (codes "created\n") × Rose run.seen.sink_before.faults run.seen.sink_after.faults × (run.seen.sink_before.faults ≤ run.seen.sink_after.faults)
 CreateEnds fault needed run (BadLayout field value) = (fault ≡ Some (record { field = field; value = value })) × IsRefused run.seen (BadLayout field value) × IsUnread run.seen × HasNotFailed run
 CreateEnds fault needed run (Small wanted found) = (wanted ≡ needed) × (found ≡ run.before.size) × (run.before.size < needed) × IsNotMade fault run (Small wanted found) × HasNotFailed run
-CreateEnds fault needed run DiskFault = (needed ≤ run.before.size) × Rose run.before.write_faults run.after.write_faults × IsNotMade fault run DiskFault × (run.after.read_faults ≡ run.before.read_faults)
+CreateEnds fault needed run DiskFault = (needed ≤ run.before.size) × Rose run.before.write_faults run.after.write_faults × IsNotMade fault run DiskFault × (run.after.read_faults ≡ run.before.read_faults) × (run.before.write_faults ≤ run.after.write_faults)
 CreateEnds fault needed run NoMemory = (needed ≤ run.before.size) × IsNotMade fault run NoMemory × HasNotFailed run
 CreateEnds fault needed run Usage = ⊥
 CreateEnds fault needed run (BadText bad) = ⊥

@@ -48,7 +48,7 @@ GetsFront run text status = (front : List ℕ) × IsFront front text × GetsOutp
 -- Why a map ends so, and what was put of it.
 abbrev pub MapsWith : Status → Run → Meta → List ℕ → Type 0
 MapsWith Done run meta text = Appends run.seen.sink_before.written run.seen.sink_after.written text × (run.seen.sink_after.faults ≡ run.seen.sink_before.faults)
-MapsWith SinkFault run meta text = AppendsFront run.seen.sink_before.written run.seen.sink_after.written text × Rose run.seen.sink_before.faults run.seen.sink_after.faults
+MapsWith SinkFault run meta text = AppendsFront run.seen.sink_before.written run.seen.sink_after.written text × Rose run.seen.sink_before.faults run.seen.sink_after.faults × (run.seen.sink_before.faults ≤ run.seen.sink_after.faults)
 MapsWith DiskFault run meta text = GetsFront run text DiskFault × Rose run.before.read_faults run.after.read_faults
 MapsWith (Damaged (damages.Rule page rule)) run meta text = GetsFront run text (Damaged (damages.Rule page rule)) × (run.before.told ≡ None) × (1 ≤ page) × (page ≤ meta.high)
 MapsWith (Damaged other) run meta text = ⊥

@@ -1,5 +1,6 @@
 -- What `top` says of a run: one table of how it ends, by its words and its status, and what holds of every run.
 use Rattle.std.specs.Prelude.{◌≡◌, ◌≤◌, Option, Some, None, IsSome}
+use Rattle.hb_disk.specs.Model.{DiskModel}
 use Rattle.hb_gen.specs.Spelling.{generated_text}
 use Rattle.hb_restart.specs.Beyond.{KeepsBeyond, KeepsBeyondFile}
 use Rattle.hb_restart.specs.Layouts.{first_fault, size_of}
@@ -8,10 +9,10 @@ use Rattle.hb_store.specs.Opening.{IsEven}
 use Rattle.hbpi.specs.Checked.{CheckEnds}
 use Rattle.hbpi.specs.Driven.{by_counting, by_schedule, by_threads}
 use Rattle.hbpi.specs.StepEnds.{StepsEnd}
-use Rattle.hbpi.specs.Ends.{DryEnds, GenEnds, UsageEnds}
+use Rattle.hbpi.specs.Ends.{DryEnds, GenEnds, LeavesDisk, UsageEnds}
 use Rattle.hbpi.specs.MadeEnds.{CreateEnds, HasMade}
 use Rattle.hbpi.specs.Mapped.{MapEnds}
-use Rattle.hbpi.specs.SeenRuns.{Run}
+use Rattle.hbpi.specs.SeenRuns.{Run, Seen, run_of}
 use Rattle.hbpi.specs.TidyRuns.{TidyEnds}
 use Rattle.hbpi.specs.declared.forms.Form.{Form}
 use Rattle.hbpi.specs.declared.forms.Form.TheVariants.{Check, Create, Drive, Dry, Gen, Map, Tidy, Work}
@@ -64,3 +65,8 @@ pub record IsRunOf (form : Option Form) (run : Run) (status : Status) : Type 0 w
   pub file : LeavesFile form run status
   pub beyond : LeavesBeyond form run
   pub counts : CountsLater run status
+
+-- All that is said of a run over a disk of some type. Where its form leaves the disk alone, the disk is given back as it was.
+pub record RunsForm {X : Type 0} (M : X → DiskModel) (form : Option Form) (seen : Seen) (old new : X) (status : Status) : Type 0 where
+  pub ends : IsRunOf form (run_of seen (M old) (M new)) status
+  pub untouched : LeavesDisk form status → new ≡ old

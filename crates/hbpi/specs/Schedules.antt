@@ -50,10 +50,17 @@ pub record IsScript (k : ℕ) (lines : List Line) (steps : List ℕ) : Type 0 wh
   pub boxes : All HasLineBox lines
   pub actors : All (λ actor. (1 ≤ actor) × (actor ≤ 19)) steps
 
+-- A script over k attributes came from there, whose steps are of actors, and the source hasn't failed.
+pub record ScriptCame (origin : Origin) (k : ℕ) (before after : SourceModel) (lines : List Line) (steps : List ℕ) : Type 0 where
+  pub came : CameFrom origin k before after lines steps
+  pub source : after.faults ≡ before.faults
+  pub script : IsScriptFor k lines
+  pub actors : All (λ actor. (1 ≤ actor) × (actor ≤ 19)) steps
+
 -- why no script was read of a text over k attributes
 abbrev pub NotScheduled : Bool → ℕ → SourceModel → SourceModel → Status → Type 0
 NotScheduled step_lines k before after (BadText bad) = (text : List ℕ) × IsTextOf before.left after.left text × (text_read step_lines k text ≡ Err bad) × (after.faults ≡ before.faults)
-NotScheduled step_lines k before after SourceFault = Rose before.faults after.faults
+NotScheduled step_lines k before after SourceFault = Rose before.faults after.faults × (before.faults ≤ after.faults)
 NotScheduled step_lines k before after NoMemory = after.faults ≡ before.faults
 NotScheduled step_lines k before after Done = ⊥
 NotScheduled step_lines k before after SinkFault = ⊥

@@ -1,5 +1,7 @@
 -- A run over a file before its first step.
 use Rattle.std.specs.Prelude.{◌≡◌, ◌⊎◌, ℕ, List, []}
+use Rattle.hb_core.specs.Machines.{Machine}
+use Rattle.hb_core.specs.Working.{MayStep}
 use Rattle.hb_core.specs.KeepingLaws.{BegunKeepsAll}
 use Rattle.hb_core.specs.Showing.{RunningCore}
 use Rattle.hb_core.specs.SteppingLaws.{BeginningKeepsAll}
@@ -11,14 +13,19 @@ use Rattle.hb_restart.specs.Leaving.{LeavesOpening, OpensStore, RunsThrough}
 use Rattle.hb_set.specs.declared.scripts.Line.{Line}
 use Rattle.hb_sound.specs.Laws.{NoPointIsHeldTwice, RecordsStandOnce, RootHasWalks}
 use Rattle.hb_store.specs.Opening.{OpensToOne}
-use Rattle.hb_store.specs.States.{IsStanding, StoreState}
+use Rattle.hb_store.specs.States.{IsNew, IsStanding, StoreState}
 use Rattle.hbpi.specs.Codes.{status_of}
 use Rattle.hbpi.specs.Driven.{IsShutOut, IsTurnedAway}
 use Rattle.hbpi.specs.Outcome.{GetsLine, fault_line}
-use Rattle.hbpi.specs.Schedules.{CameFrom, IsScript}
+use Rattle.hbpi.specs.Schedules.{CameFrom, FitsOrigin, IsScript}
 use Rattle.hbpi.specs.SeenRuns.{run_of, seen_by}
 use Rattle.hbpi.specs.declared.origins.Origin.{Origin}
 use Rattle.hbpi.specs.declared.statuses.Status.{Status}
+
+-- What a core is made of: a script from where no more lines come than are allowed, and a store that was just opened.
+pub record MayMake (origin : Origin) (store : StoreState) : Type 0 where
+  pub few : FitsOrigin origin
+  pub is_new : IsNew store.turn store.meta store
 
 -- A core was made of a store that was just opened and of a script that came.
 pub record IsMadeCore (origin : Origin) (store : StoreState) (before after : SourceModel) (core : RunningCore) : Type 0 where
@@ -39,6 +46,12 @@ pub record IsStarted (origin : Origin) (before after : SourceModel) (d e : DiskM
   pub through : RunsThrough store.meta.high d e
   pub leaves : LeavesOpening ⊥ d e
   pub made : IsMadeCore origin store before after core
+
+-- It shows a machine then that may take steps.
+pub record HasStarted (origin : Origin) (before after : SourceModel) (d e : DiskModel) (core : RunningCore) (records : ℕ) : Type 0 where
+  pub started : IsStarted origin before after d e core
+  pub count_is : records ≡ started.count
+  pub may : (m : Machine) × MayStep e core m
 
 -- Or not: whatever sink the fault line is put into, such a run ends so.
 abbrev pub IsNotStarted : Origin → SourceModel → SourceModel → DiskModel → DiskModel → Status → Type 0

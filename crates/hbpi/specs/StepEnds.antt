@@ -1,5 +1,5 @@
 -- How a run of `drive`, `run` or `work` ends.
-use Rattle.std.specs.Prelude.{◌≡◌, ◌⊎◌, ℕ, List, None, Some}
+use Rattle.std.specs.Prelude.{◌≡◌, ◌⊎◌, ℕ, ◌≤◌, List, None, Some}
 use Rattle.hb_core.specs.Machines.{Machine}
 use Rattle.hb_core.specs.Runs.{HasReadFault}
 use Rattle.hb_outside.specs.Calls.{SinkModel}
@@ -39,7 +39,7 @@ pub record GetsOutput (before after : SinkModel) (text : List ℕ) (status : Sta
 -- read fault; or none of these.
 abbrev pub RanEnds : Manner → Status → Run → Machine → Type 0
 RanEnds by Done run m = (text : List ℕ) × by.output run m text × Appends run.seen.sink_before.written run.seen.sink_after.written text × (run.seen.sink_after.faults ≡ run.seen.sink_before.faults) × (m.stop ≡ None) × (¬ (HasReadFault run.seen.answered))
-RanEnds by SinkFault run m = (text : List ℕ) × by.output run m text × AppendsFront run.seen.sink_before.written run.seen.sink_after.written text × Rose run.seen.sink_before.faults run.seen.sink_after.faults
+RanEnds by SinkFault run m = (text : List ℕ) × by.output run m text × AppendsFront run.seen.sink_before.written run.seen.sink_after.written text × Rose run.seen.sink_before.faults run.seen.sink_after.faults × (run.seen.sink_before.faults ≤ run.seen.sink_after.faults)
 RanEnds by DiskFault run m = GetsOutput run.seen.sink_before run.seen.sink_after (by.in_front run m) DiskFault × ((m.stop ≡ Some stops.WriteFault) ⊎ ((m.stop ≡ None) × HasReadFault run.seen.answered))
 RanEnds by (Damaged damage) run m = GetsOutput run.seen.sink_before run.seen.sink_after (by.in_front run m) (Damaged damage) × (page : ℕ) × (why : Why) × (m.stop ≡ Some (stops.Damaged page why)) × (damage ≡ damage_of page why)
 RanEnds by Usage run m = ⊥

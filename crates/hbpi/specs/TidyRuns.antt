@@ -2,6 +2,7 @@
 use Rattle.std.specs.Prelude.{◌≡◌, ◌⊎◌, List, [], Result, Ok, Err, None, Some, IfSome, IsSome, ◌-◌, ◌^◌}
 use Rattle.hb_core.specs.Machines.{Files, Machine, current_file}
 use Rattle.hb_core.specs.Runs.{CountsFaults}
+use Rattle.hb_core.specs.Showing.{RunningCore}
 use Rattle.hb_core.specs.SteppingLaws.{IsBegun, IsBegunOver}
 use Rattle.hb_core.specs.declared.counts.TidyCounts.{TidyCounts}
 use Rattle.hb_disk.specs.Model.{DiskModel}
@@ -15,6 +16,7 @@ use Rattle.hb_store.specs.Opening.{OpensTo}
 use Rattle.hb_store.specs.States.{IsNew}
 use Rattle.hb_store.specs.declared.stops.StopWhy.TheVariants as stops
 use Rattle.hb_tidy.specs.Finding.{IsTidy, WantsPage}
+use Rattle.hb_tidy.specs.Tidying.{MayBeTidied}
 use Rattle.hb_tidy.specs.declared.stops.TidyStop.{TidyStop}
 use Rattle.hb_tidy.specs.declared.stops.TidyStop.TheVariants as tidies
 use Rattle.hbpi.specs.Driven.{IsShutOut, IsTurnedAway}
@@ -47,6 +49,11 @@ abbrev pub FilesTidied : Meta → Result TidyCounts TidyStop → Files → Type 
 FilesTidied meta (Ok counts) files = (files.later ≡ []) × IsTidy files.durable × GrewBy meta files.durable.meta counts
 FilesTidied meta (Err tidies.Full) files = WantsPage (current_file files)
 FilesTidied meta (Err stop) files = Unit {0}
+
+-- A core may be tidied that has taken no step.
+pub record MayTidyFirst (d : DiskModel) (c : RunningCore) : Type 0 where
+  pub fit : MayBeTidied d c
+  pub first : c.taken ≡ 0
 
 -- A core was tidied and flushed: from a machine to this one.
 pub record EndsForced (d e : DiskModel) (m new : Machine) (result : Result TidyCounts TidyStop) : Type 0 where

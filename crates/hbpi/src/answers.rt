@@ -1,9 +1,10 @@
-ghost use Rattle.std.specs.Prelude.{◌≡◌, ℕ, ◌+◌, ◌<◌, ◌≤◌, [], ◌∷◌, ◌++◌, length, vec_len, IfOk, OnErr};
+ghost use Rattle.std.specs.Prelude.{◌≡◌, ℕ, ◌+◌, ◌<◌, ◌≤◌, [], ◌∷◌, length, vec_len, IfOk, OnErr};
 ghost use Rattle.std.specs.Vec.{vec_capacity};
 ghost use Rattle.std.specs.List.{flat_map};
 ghost use Rattle.hb_set.specs.Order.{with_entry, order_of};
 ghost use Rattle.hb_set.specs.Scripts.{IsScriptFor};
 ghost use Rattle.hb_text.specs.Output.{answer_text};
+ghost use Rattle.hbpi.specs.DryParts.{Gains};
 ghost use Rattle.hbpi.specs.Outcome.{IsDryRun};
 ghost use Rattle.hb_outside.specs.Calls.{Puts};
 
@@ -23,8 +24,7 @@ pub(crate) struct Answers {
 /// The line joins the order, unless its reply stands outside it. There has to be room.
 fn join_order(order: &mut Vec<u32>, line: &Line, reply: &Reply)
     requires { vec_len order.old < vec_capacity order.old }
-    ensures order { order.new.items ≡ order.old.items ++ order_of (with_entry line.now reply.now []) }
-    ensures room { vec_capacity order.old ≤ vec_capacity order.new }
+    ensures gains { Gains order.old.items order.new.items (order_of (with_entry line.now reply.now [])) (vec_capacity order.old) (vec_capacity order.new) }
     ensures one { vec_len order.new ≤ vec_len order.old + 1 }
 {
     match reply {
@@ -36,8 +36,7 @@ fn join_order(order: &mut Vec<u32>, line: &Line, reply: &Reply)
 /// Keeps the answer to a line. There has to be room.
 fn keep_answer(answered: &mut Vec<Answered>, line: u32, reply: Reply)
     requires { vec_len answered.old < vec_capacity answered.old }
-    ensures kept { answered.new.items ≡ answered.old.items ++ record { line = line; reply = reply; at = 0 } ∷ [] }
-    ensures room { vec_capacity answered.old ≤ vec_capacity answered.new }
+    ensures { Gains answered.old.items answered.new.items (record { line = line; reply = reply; at = 0 } ∷ []) (vec_capacity answered.old) (vec_capacity answered.new) }
 {
     answered.push(Answered { line, reply, at: 0 }).unwrap();
 }
@@ -54,7 +53,6 @@ pub(crate) fn answer_lines<K: Sink>(
     ensures put { IfOk result (λ a. Puts (flat_map answer_text a.answered.items) a.put (K.model sink.old) (K.model sink.new)) }
     ensures few { IfOk result (λ a. length a.order.items ≤ 1000000) }
     ensures err { OnErr result (sink.new ≡ sink.old) }
-    ensures later { (K.model sink.old).faults ≤ (K.model sink.new).faults }
 {
     let mut set = Set::new(alloc)?;
     let mut answered = Vec::with_capacity(alloc, lines.len())?;

@@ -1,9 +1,9 @@
 //! The command `check`.
-ghost use Rattle.std.specs.Prelude.{◌≤◌};
+ghost use Rattle.std.specs.Prelude.{Some};
 ghost use Rattle.hb_outside.specs.Calls.{SourceModel};
-ghost use Rattle.hb_restart.specs.Beyond.{KeepsBeyondFile};
-ghost use Rattle.hbpi.specs.Checked.{CheckEnds};
-ghost use Rattle.hbpi.specs.SeenRuns.{run_of, seen_by};
+ghost use Rattle.hbpi.specs.Runs.{RunsForm};
+ghost use Rattle.hbpi.specs.SeenRuns.{seen_by};
+ghost use Rattle.hbpi.specs.declared.forms.Form.TheVariants as forms;
 
 use crate::dry::refused;
 use crate::finished::Finished;
@@ -17,11 +17,7 @@ use std::alloc::Global;
 /// The command `check`: opens the file of the disk, which tests all its rules, and says its height, its pages in use and its
 /// records.
 pub(crate) fn check_file<K: Sink, D: Device>(alloc: Global, mut sink: K, disk: D) -> Finished<K, D>
-    ensures ends { (source : SourceModel) → CheckEnds (run_of (seen_by source source (K.model sink) (K.model result.sink) result.answered.items result.order.items) (D.model disk) (D.model result.disk)) result.status }
-    ensures beyond { KeepsBeyondFile (D.model disk) (D.model result.disk) }
-    ensures sink_later { (K.model sink).faults ≤ (K.model result.sink).faults }
-    ensures reads_later { (D.model disk).read_faults ≤ (D.model result.disk).read_faults }
-    ensures writes_later { (D.model disk).write_faults ≤ (D.model result.disk).write_faults }
+    ensures { (source : SourceModel) → RunsForm D.model (Some forms.Check) (seen_by source source (K.model sink) (K.model result.sink) result.answered.items result.order.items) disk result.disk result.status }
 {
     match recover(alloc, disk) {
         Ok((store, records)) => {

@@ -70,9 +70,6 @@ pub(crate) fn create_file<K: Sink, D: Device>(
         (new_file (record { k = k; pages = pages; log = log; dcap = dcap; icap = icap })) }
     ensures beyond { KeepsBeyond (size_of pages log) (D.model disk) (D.model result.disk) }
     ensures unmade { IsUnmade result.status → result.disk ≡ disk }
-    ensures sink_later { (K.model sink).faults ≤ (K.model result.sink).faults }
-    ensures reads_later { (D.model disk).read_faults ≤ (D.model result.disk).read_faults }
-    ensures writes_later { (D.model disk).write_faults ≤ (D.model result.disk).write_faults }
 {
     match make(alloc, disk, k, pages, log, dcap, icap) {
         Ok(disk) => {

@@ -1,9 +1,8 @@
 //! The command `drive`.
-ghost use Rattle.std.specs.Prelude.{◌≤◌};
-ghost use Rattle.hb_restart.specs.Beyond.{KeepsBeyondFile};
-ghost use Rattle.hbpi.specs.Driven.{by_schedule};
-ghost use Rattle.hbpi.specs.StepEnds.{StepsEnd};
-ghost use Rattle.hbpi.specs.SeenRuns.{run_of, seen_by};
+ghost use Rattle.std.specs.Prelude.{Some};
+ghost use Rattle.hbpi.specs.Runs.{RunsForm};
+ghost use Rattle.hbpi.specs.SeenRuns.{seen_by};
+ghost use Rattle.hbpi.specs.declared.forms.Form.TheVariants as forms;
 
 use crate::dry::refused;
 use crate::finished::Finished;
@@ -23,10 +22,7 @@ pub(crate) fn drive_file<S: Source, K: Sink, D: Disk>(
     sink: K,
     disk: D,
 ) -> Finished<K, D>
-    ensures ends { StepsEnd by_schedule (run_of (seen_by (S.model source.old) (S.model source.new) (K.model sink) (K.model result.sink) result.answered.items result.order.items) (D.model disk) (D.model result.disk)) result.status }
-    ensures beyond { KeepsBeyondFile (D.model disk) (D.model result.disk) }
-    ensures source_later { (S.model source.old).faults ≤ (S.model source.new).faults }
-    ensures sink_later { (K.model sink).faults ≤ (K.model result.sink).faults }
+    ensures { RunsForm D.model (Some forms.Drive) (seen_by (S.model source.old) (S.model source.new) (K.model sink) (K.model result.sink) result.answered.items result.order.items) disk result.disk result.status }
 {
     knows_laws();
     match start(alloc, Origin::Text { step_lines: true }, source, disk) {

@@ -1,11 +1,10 @@
 //! The end of a run of a core.
-ghost use Rattle.std.specs.Prelude.{◌≡◌, ◌≢◌, ◌≤◌};
+ghost use Rattle.std.specs.Prelude.{◌≡◌};
 ghost use Rattle.hb_core.specs.CoreSeen.{core_seen, core_disk};
-ghost use Rattle.hb_core.specs.declared.endings.End.TheVariants as ends;
 ghost use Rattle.hbpi.specs.Codes.{status_after, stop_status};
 ghost use Rattle.hbpi.specs.Counted.{counts_text, records_left};
-ghost use Rattle.hbpi.specs.Outcome.{GetsLine, fault_line};
-ghost use Rattle.hbpi.specs.Saying.{IsSaid};
+ghost use Rattle.hbpi.specs.Handing.{EndsCounting, EndsText, HandsOver};
+ghost use Rattle.hbpi.specs.Saying.{SaysCounts};
 
 use crate::counting::records_left;
 use crate::faults::put_fault;
@@ -49,11 +48,8 @@ fn leave<K, D: Disk>(
     sink: K,
     answered: Vec<Answered>,
 ) -> Finished<K, D>
-    ensures status { result.status ≡ status }
-    ensures sink { result.sink ≡ sink }
-    ensures disk { result.disk ≡ core_disk core }
-    ensures answered { result.answered ≡ answered }
-    ensures order { result.order.items ≡ (core_seen core).order }
+    ensures hands { HandsOver (core_disk core) result.disk answered.items result.answered.items (core_seen core).order result.order.items }
+    ensures given { (result.status ≡ status) × (result.sink ≡ sink) }
 {
     let (store, order) = core.into_store();
     Finished {
@@ -67,14 +63,7 @@ fn leave<K, D: Disk>(
 
 /// Writes the fault line behind the output of a run, and gives back what it leaves.
 pub(crate) fn finish<K: Sink, D: Disk>(ran: Ran<D, K>) -> Finished<K, D>
-    ensures status { result.status ≡ status_after ran.end }
-    ensures disk { result.disk ≡ core_disk ran.core }
-    ensures answered { result.answered.items ≡ ran.answered.items }
-    ensures order { result.order.items ≡ (core_seen ran.core).order }
-    ensures silent { ran.end ≡ ends.SinkFault → result.sink ≡ ran.sink }
-    ensures silent_done { ran.end ≡ ends.Finished → result.sink ≡ ran.sink }
-    ensures line { GetsLine (K.model ran.sink) (K.model result.sink) (fault_line result.status) }
-    ensures later { (K.model ran.sink).faults ≤ (K.model result.sink).faults }
+    ensures { EndsText K.model ran.end ran.sink result.sink (core_disk ran.core) result.disk ran.answered.items result.answered.items (core_seen ran.core).order result.order.items result.status }
 {
     let Ran {
         core,
@@ -95,10 +84,7 @@ fn say_counts<K: Sink>(
     records: u64,
     sink: &mut K,
 ) -> Status
-    ensures done { end.now ≡ ends.Finished → IsSaid (counts_text answered.now (records_left lines.now answered.now records)) (K.model sink.old) (K.model sink.new) result }
-    ensures status { end.now ≢ ends.Finished → result ≡ status_after end.now }
-    ensures line { end.now ≢ ends.Finished → GetsLine (K.model sink.old) (K.model sink.new) (fault_line (status_after end.now)) }
-    ensures later { (K.model sink.old).faults ≤ (K.model sink.new).faults }
+    ensures { SaysCounts end.now (counts_text answered.now (records_left lines.now answered.now records)) (K.model sink.old) (K.model sink.new) result }
 {
     if let End::Finished = end {
         let left = records_left(lines, answered, records);
@@ -115,13 +101,7 @@ pub(crate) fn finish_counting<K: Sink, D: Disk>(
     records: u64,
     mut sink: K,
 ) -> Finished<K, D>
-    ensures done { ran.end ≡ ends.Finished → IsSaid (counts_text ran.answered.items (records_left (core_seen ran.core).lines ran.answered.items records)) (K.model sink) (K.model result.sink) result.status }
-    ensures status { ran.end ≢ ends.Finished → result.status ≡ status_after ran.end }
-    ensures line { ran.end ≢ ends.Finished → GetsLine (K.model sink) (K.model result.sink) (fault_line (status_after ran.end)) }
-    ensures disk { result.disk ≡ core_disk ran.core }
-    ensures answered { result.answered.items ≡ ran.answered.items }
-    ensures order { result.order.items ≡ (core_seen ran.core).order }
-    ensures later { (K.model sink).faults ≤ (K.model result.sink).faults }
+    ensures { EndsCounting ran.end (counts_text ran.answered.items (records_left (core_seen ran.core).lines ran.answered.items records)) (K.model sink) (K.model result.sink) (core_disk ran.core) result.disk ran.answered.items result.answered.items (core_seen ran.core).order result.order.items result.status }
 {
     let Ran {
         core,

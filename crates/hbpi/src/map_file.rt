@@ -1,9 +1,10 @@
 //! The command `map`.
-ghost use Rattle.std.specs.Prelude.{◌≡◌, ◌≤◌};
+ghost use Rattle.std.specs.Prelude.{◌≡◌, Some};
 ghost use Rattle.hb_outside.specs.Calls.{SourceModel};
-ghost use Rattle.hb_restart.specs.Beyond.{KeepsBeyondFile};
-ghost use Rattle.hbpi.specs.Mapped.{MapEnds, map_status};
-ghost use Rattle.hbpi.specs.SeenRuns.{run_of, seen_by};
+ghost use Rattle.hbpi.specs.Mapped.{map_status};
+ghost use Rattle.hbpi.specs.Runs.{RunsForm};
+ghost use Rattle.hbpi.specs.SeenRuns.{seen_by};
+ghost use Rattle.hbpi.specs.declared.forms.Form.TheVariants as forms;
 
 use crate::dry::refused;
 use crate::faults::put_fault;
@@ -31,11 +32,7 @@ fn status_of(mapped: &Result<(), MapStop>) -> Status
 /// The command `map`: opens the file of the disk, which tests all its rules, and puts its map. Where that isn't whole, the fault line
 /// stands behind a front of it.
 pub(crate) fn map_file<K: Sink, D: Device>(alloc: Global, mut sink: K, disk: D) -> Finished<K, D>
-    ensures ends { (source : SourceModel) → MapEnds (run_of (seen_by source source (K.model sink) (K.model result.sink) result.answered.items result.order.items) (D.model disk) (D.model result.disk)) result.status }
-    ensures beyond { KeepsBeyondFile (D.model disk) (D.model result.disk) }
-    ensures sink_later { (K.model sink).faults ≤ (K.model result.sink).faults }
-    ensures reads_later { (D.model disk).read_faults ≤ (D.model result.disk).read_faults }
-    ensures writes_later { (D.model disk).write_faults ≤ (D.model result.disk).write_faults }
+    ensures { (source : SourceModel) → RunsForm D.model (Some forms.Map) (seen_by source source (K.model sink) (K.model result.sink) result.answered.items result.order.items) disk result.disk result.status }
 {
     match recover(alloc, disk) {
         Ok((mut store, _records)) => {

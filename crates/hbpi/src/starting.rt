@@ -1,13 +1,11 @@
 //! A file that is opened, and a script that comes, before the first step.
-ghost use Rattle.std.specs.Prelude.{◌≡◌, ◌≤◌, [], All, IfOk, IfErr, OnOk};
-ghost use Rattle.hb_gen.specs.Lines.{generated};
+ghost use Rattle.std.specs.Prelude.{◌≡◌, ◌≤◌, All, IfOk, IfErr};
 ghost use Rattle.hb_core.specs.CoreSeen.{core_seen, core_disk};
 ghost use Rattle.hb_core.specs.KeptLines.{HasLineBody};
-ghost use Rattle.hb_restart.specs.Beyond.{KeepsBeyondFile};
+ghost use Rattle.hb_outside.specs.Calls.{SourceModel};
 ghost use Rattle.hb_store.specs.Seen.{seen_as, disk_of};
-ghost use Rattle.hb_store.specs.States.{IsNew};
-ghost use Rattle.hbpi.specs.Schedules.{CameFrom, CameNot, FitsOrigin, HasLineBox, IsScheduled, IsScript, NotScheduled};
-ghost use Rattle.hbpi.specs.Starts.{IsMadeCore, IsNotStarted, IsStarted, StartLaws};
+ghost use Rattle.hbpi.specs.Schedules.{CameNot, FitsOrigin, HasLineBox, NotScheduled, ScriptCame};
+ghost use Rattle.hbpi.specs.Starts.{HasStarted, IsMadeCore, IsNotStarted, MayMake, StartLaws};
 
 use crate::origins::Origin;
 use crate::statuses::Status;
@@ -68,17 +66,14 @@ fn knows_lines(lines: &[Line])
 }
 
 /// Reads the script of a text over `k` attributes, with step lines or without, or the status that refuses it.
-fn read_script<S: Source>(
+pub(crate) fn read_script<S: Source>(
     alloc: Global,
     k: Attributes,
     step_lines: bool,
     source: &mut S,
 ) -> Result<Script, Status>
-    ensures read { IfOk result (λ script. IsScheduled step_lines k.number (S.model source.old).left (S.model source.new).left script.lines script.steps) }
-    ensures script { IfOk result (λ script. IsScript k.number script.lines script.steps) }
+    ensures came { IfOk result (λ script. ScriptCame (Origin.Text step_lines) k.number (S.model source.old) (S.model source.new) script.lines script.steps) }
     ensures refused { IfErr result (NotScheduled step_lines k.number (S.model source.old) (S.model source.new)) }
-    ensures no_fault { OnOk result ((S.model source.new).faults ≡ (S.model source.old).faults) }
-    ensures later { (S.model source.old).faults ≤ (S.model source.new).faults }
 {
     let text = match read_text(alloc, source) {
         Ok(text) => text,
@@ -86,10 +81,7 @@ fn read_script<S: Source>(
         Err(TextStop::NoMemory) => return Err(Status::NoMemory),
     };
     match read_commands(alloc, text.as_slice(), k, step_lines) {
-        Ok(script) => {
-            knows_lines(script.lines.as_slice());
-            Ok(script)
-        }
+        Ok(script) => Ok(script),
         Err(TextError::Bad(bad)) => Err(Status::BadText(bad)),
         Err(TextError::NoMemory) => Err(Status::NoMemory),
     }
@@ -98,9 +90,7 @@ fn read_script<S: Source>(
 /// The script of so many lines over `k` attributes that the generator draws from the state. It is refused for want of memory alone.
 fn draw_script(alloc: Global, k: Attributes, state: u64, count: u32) -> Result<Script, Status>
     requires { count ≤ 1000000 }
-    ensures lines { IfOk result (λ script. script.lines ≡ generated state count k.number) }
-    ensures steps { IfOk result (λ script. script.steps ≡ []) }
-    ensures script { IfOk result (λ script. IsScript k.number script.lines script.steps) }
+    ensures came { IfOk result (λ script. (source : SourceModel) → ScriptCame (Origin.Drawn state count) k.number source source script.lines script.steps) }
     ensures refused { IfErr result (λ status. status ≡ Status.NoMemory) }
 {
     a_generated_text_says_its_lines();
@@ -108,10 +98,7 @@ fn draw_script(alloc: Global, k: Attributes, state: u64, count: u32) -> Result<S
         return Err(Status::NoMemory);
     };
     match read_commands(alloc, text.as_slice(), k, false) {
-        Ok(script) => {
-            knows_lines(script.lines.as_slice());
-            Ok(script)
-        }
+        Ok(script) => Ok(script),
         Err(TextError::Bad(_)) => unreachable!(),
         Err(TextError::NoMemory) => Err(Status::NoMemory),
     }
@@ -125,11 +112,8 @@ fn script_from<S: Source>(
     source: &mut S,
 ) -> Result<Script, Status>
     requires { FitsOrigin origin }
-    ensures came { IfOk result (λ script. CameFrom origin k.number (S.model source.old) (S.model source.new) script.lines script.steps) }
-    ensures script { IfOk result (λ script. IsScript k.number script.lines script.steps) }
+    ensures came { IfOk result (λ script. ScriptCame origin k.number (S.model source.old) (S.model source.new) script.lines script.steps) }
     ensures refused { IfErr result (CameNot origin k.number (S.model source.old) (S.model source.new)) }
-    ensures no_fault { OnOk result ((S.model source.new).faults ≡ (S.model source.old).faults) }
-    ensures later { (S.model source.old).faults ≤ (S.model source.new).faults }
 {
     match origin {
         Origin::Text { step_lines } => read_script(alloc, k, step_lines, source),
@@ -144,20 +128,21 @@ fn make_core<S: Source, D: Disk>(
     source: &mut S,
     store: Store<D>,
 ) -> Result<Core<D>, (Status, D)>
-    requires few { FitsOrigin origin }
-    requires new { IsNew (seen_as store).turn (seen_as store).meta (seen_as store) }
+    requires { MayMake origin (seen_as store) }
     ensures made { IfOk result (λ core. (core_disk core ≡ disk_of store) × IsMadeCore origin (seen_as store) (S.model source.old) (S.model source.new) (core_seen core)) }
     ensures refused { IfErr result (λ e. (e.1 ≡ disk_of store) × CameNot origin (seen_as store).meta.k (S.model source.old) (S.model source.new) e.0) }
-    ensures later { (S.model source.old).faults ≤ (S.model source.new).faults }
 {
     let k = Attributes {
         number: store.meta().k,
     };
     match script_from(alloc, k, origin, source) {
-        Ok(script) => match Core::over(alloc, store, script) {
-            Ok(core) => Ok(core),
-            Err((_, store)) => Err((Status::NoMemory, store.into_disk())),
-        },
+        Ok(script) => {
+            knows_lines(script.lines.as_slice());
+            match Core::over(alloc, store, script) {
+                Ok(core) => Ok(core),
+                Err((_, store)) => Err((Status::NoMemory, store.into_disk())),
+            }
+        }
         Err(status) => Err((status, store.into_disk())),
     }
 }
@@ -171,10 +156,8 @@ pub(crate) fn start<S: Source, D: Disk>(
     disk: D,
 ) -> Result<(Core<D>, u64), (Status, D)>
     requires few { FitsOrigin origin }
-    ensures started { IfOk result (λ r. (started : IsStarted origin (S.model source.old) (S.model source.new) (D.model disk) (D.model (core_disk r.0)) (core_seen r.0)) × (r.1 ≡ started.count)) }
+    ensures has { IfOk result (λ r. HasStarted origin (S.model source.old) (S.model source.new) (D.model disk) (D.model (core_disk r.0)) (core_seen r.0) r.1) }
     ensures refused { IfErr result (λ e. IsNotStarted origin (S.model source.old) (S.model source.new) (D.model disk) (D.model e.1) e.0) }
-    ensures beyond { IfErr result (λ e. KeepsBeyondFile (D.model disk) (D.model e.1)) }
-    ensures later { (S.model source.old).faults ≤ (S.model source.new).faults }
 {
     match recover(alloc, disk) {
         Ok((store, records)) => match make_core(alloc, origin, source, store) {

@@ -1,7 +1,7 @@
-ghost use Rattle.std.specs.Prelude.{◌≡◌, ◌+◌, ◌<◌, ◌≤◌, false, length, IsTrue, OnOk, IfOk, IsErrOf};
+ghost use Rattle.std.specs.Prelude.{◌≡◌, ◌+◌, ◌<◌, ◌≤◌, false, length, IsTrue, OnOk, IfOk, IfErr, IsErrOf};
 ghost use Rattle.hb_outside.specs.Calls.{Counts};
 ghost use Rattle.hbpi.specs.Outcome.{IsTextOf};
-ghost use Rattle.hbpi.specs.Taking.{TakesPiece, IsAtEnd};
+ghost use Rattle.hbpi.specs.Taking.{TakesPiece, IsAtEnd, NotTaken};
 ghost use Rattle.hbpi.specs.declared.texts.TextStop.TheVariants.{NoMemory};
 
 use hb_outside::Source;
@@ -50,8 +50,8 @@ fn take_piece<S: Source>(source: &mut S, text: &mut Vec<u8>, most: usize) -> Res
 
 /// The text that the source has left, up to `GREATEST` bytes.
 pub(crate) fn read_text<S: Source>(alloc: Global, source: &mut S) -> Result<Vec<u8>, TextStop>
-    ensures text { IfOk result (λ text. IsTextOf (S.model source.old).left (S.model source.new).left text.items) }
-    ensures counts { Counts (IsErrOf result TextStop.SourceFault) (S.model source.old).faults (S.model source.new).faults }
+    ensures text { IfOk result (λ text. IsTextOf (S.model source.old).left (S.model source.new).left text.items × ((S.model source.new).faults ≡ (S.model source.old).faults)) }
+    ensures refused { IfErr result (NotTaken (S.model source.old) (S.model source.new)) }
 {
     let mut text = Vec::new(alloc);
     let mut more = true;

@@ -1,13 +1,13 @@
 //! The command `tidy`.
-ghost use Rattle.std.specs.Prelude.{◌≡◌, ◌≤◌, None};
-ghost use Rattle.hb_core.specs.Counting.{CountsWithin};
+ghost use Rattle.std.specs.Prelude.{Some};
 ghost use Rattle.hb_core.specs.CoreSeen.{core_disk, core_seen};
 ghost use Rattle.hb_core.specs.Machines.{Machine};
 ghost use Rattle.hb_core.specs.Working.{MayStep};
-ghost use Rattle.hb_restart.specs.Beyond.{KeepsBeyondFile};
-ghost use Rattle.hb_tidy.specs.Tidying.{AllAtRest, HasTidied};
-ghost use Rattle.hbpi.specs.TidyRuns.{EndsForced, SaysTidied, TidyEnds};
-ghost use Rattle.hbpi.specs.SeenRuns.{run_of, seen_by};
+ghost use Rattle.hb_tidy.specs.Tidying.{HasTidied};
+ghost use Rattle.hbpi.specs.Runs.{RunsForm};
+ghost use Rattle.hbpi.specs.SeenRuns.{seen_by};
+ghost use Rattle.hbpi.specs.TidyRuns.{EndsForced, MayTidyFirst, SaysTidied};
+ghost use Rattle.hbpi.specs.declared.forms.Form.TheVariants as forms;
 
 use crate::dry::refused;
 use crate::faults::put_fault;
@@ -26,10 +26,7 @@ use std::alloc::Global;
 
 /// Tidies the file of a core that has taken no step, and forces what waits then, so that every image has it.
 fn tidy_core<D: Disk>(alloc: Global, core: &mut Core<D>) -> Result<TidyCounts, TidyStop>
-    requires may { (m : Machine) × MayStep (D.model (core_disk core.old)) (core_seen core.old) m × (m.stop ≡ None) }
-    requires idle { AllAtRest (core_seen core.old) }
-    requires counts { CountsWithin (core_seen core.old) }
-    requires first { (core_seen core.old).taken ≡ 0 }
+    requires { MayTidyFirst (D.model (core_disk core.old)) (core_seen core.old) }
     ensures tidies { (m : Machine) → MayStep (D.model (core_disk core.old)) (core_seen core.old) m →
         (t : HasTidied (D.model (core_disk core.old)) m (D.model (core_disk core.new)) (core_seen core.new)) × EndsForced (D.model (core_disk core.old)) (D.model (core_disk core.new)) m t.new result }
 {
@@ -45,8 +42,7 @@ fn tidy_core<D: Disk>(alloc: Global, core: &mut Core<D>) -> Result<TidyCounts, T
 
 /// Says what was tidied, or why it wasn't.
 fn say_tidied<K: Sink>(tidied: Result<TidyCounts, TidyStop>, sink: &mut K) -> Status
-    ensures said { SaysTidied tidied (K.model sink.old) (K.model sink.new) result }
-    ensures later { (K.model sink.old).faults ≤ (K.model sink.new).faults }
+    ensures { SaysTidied tidied (K.model sink.old) (K.model sink.new) result }
 {
     match tidied {
         Ok(counts) => say(sink, tidied_line(&counts).as_slice()),
@@ -66,10 +62,7 @@ pub(crate) fn tidy_file<S: Source, K: Sink, D: Disk>(
     mut sink: K,
     disk: D,
 ) -> Finished<K, D>
-    ensures ends { TidyEnds (run_of (seen_by (S.model source.old) (S.model source.new) (K.model sink) (K.model result.sink) result.answered.items result.order.items) (D.model disk) (D.model result.disk)) result.status }
-    ensures beyond { KeepsBeyondFile (D.model disk) (D.model result.disk) }
-    ensures source_later { (S.model source.old).faults ≤ (S.model source.new).faults }
-    ensures sink_later { (K.model sink).faults ≤ (K.model result.sink).faults }
+    ensures { RunsForm D.model (Some forms.Tidy) (seen_by (S.model source.old) (S.model source.new) (K.model sink) (K.model result.sink) result.answered.items result.order.items) disk result.disk result.status }
 {
     knows_laws();
     operations_are_counted();

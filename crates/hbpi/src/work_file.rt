@@ -1,9 +1,9 @@
 //! The command `work`.
-ghost use Rattle.std.specs.Prelude.{◌≤◌};
-ghost use Rattle.hb_restart.specs.Beyond.{KeepsBeyondFile};
-ghost use Rattle.hbpi.specs.Driven.{by_counting};
-ghost use Rattle.hbpi.specs.StepEnds.{StepsEnd};
-ghost use Rattle.hbpi.specs.SeenRuns.{run_of, seen_by};
+ghost use Rattle.std.specs.Prelude.{Some};
+ghost use Rattle.hbpi.specs.Forms.{FitsLimits};
+ghost use Rattle.hbpi.specs.Runs.{RunsForm};
+ghost use Rattle.hbpi.specs.SeenRuns.{seen_by};
+ghost use Rattle.hbpi.specs.declared.forms.Form.TheVariants as forms;
 
 use crate::dry::refused;
 use crate::finished::Finished;
@@ -36,11 +36,8 @@ pub(crate) fn work_file<
     disk: D,
     gate: &G,
 ) -> Finished<K, D>
-    requires { n ≤ 1000000 }
-    ensures ends { StepsEnd (by_counting x n) (run_of (seen_by (S.model source.old) (S.model source.new) (K.model sink) (K.model result.sink) result.answered.items result.order.items) (D.model disk) (D.model result.disk)) result.status }
-    ensures beyond { KeepsBeyondFile (D.model disk) (D.model result.disk) }
-    ensures source_later { (S.model source.old).faults ≤ (S.model source.new).faults }
-    ensures sink_later { (K.model sink).faults ≤ (K.model result.sink).faults }
+    requires { FitsLimits (forms.Work x n) }
+    ensures { RunsForm D.model (Some (forms.Work x n)) (seen_by (S.model source.old) (S.model source.new) (K.model sink) (K.model result.sink) result.answered.items result.order.items) disk result.disk result.status }
 {
     knows_laws();
     match start(alloc, Origin::Drawn { state: x, lines: n }, source, disk) {

@@ -29,17 +29,17 @@ answer-reply-requires g c =
 pub loop-line-preserved : goal.loop-line-preserved
 loop-line-preserved g c =
     let before = c.loop-line.invariant in
-    let kept = c.keep_answer.ensures.kept in
+    let kept = c.keep_answer.ensures.items in
     record {
       ran = ran_more c.args.lines.now c.loop-line.line-index c.line-item.result _ _ c.loop-line.set _ _ (omega arith) c.line-item.is before.ran c.answer-reply.ensures.answers c.answer-reply.ensures.memory kept;
-      order = order_more c.args.lines.now c.loop-line.line-index c.line-item.result _ _ _ _ _ (omega arith) c.line-item.is before.answered_count before.order c.join_order.ensures.order kept;
+      order = order_more c.args.lines.now c.loop-line.line-index c.line-item.result _ _ _ _ _ (omega arith) c.line-item.is before.answered_count before.order c.join_order.ensures.gains.items kept;
       attributes = λ k script. subst (λ (n : ℕ). HasAttributes n c.answer-reply.new.self)
           (line_attributes k c.args.lines.now c.loop-line.line-index c.line-item.result script.lines (omega arith) c.line-item.is)
           c.answer-reply.ensures.attributes;
       answered_count = omega (arith, ap length kept, length-append {A = Answered}, before.answered_count);
-      answered_room = omega (arith, c.keep_answer.ensures.room, before.answered_room);
+      answered_room = omega (arith, c.keep_answer.ensures.room_stays, before.answered_room);
       order_count = omega (arith, c.join_order.ensures.one, before.order_count, c.join_order.new.order.ok.0, c.loop-line.order.ok.0);
-      order_room = omega (arith, c.join_order.ensures.room, before.order_room);
+      order_room = omega (arith, c.join_order.ensures.gains.room_stays, before.order_room);
       put = rw (answer_texts c.loop-line.answered.items _ _ kept) (has_put_more _ _ _ _ _ _ _ before.put c.put_answer-put.ensures);
     }
 
@@ -49,6 +49,3 @@ returns-clause-run g c =
 
 pub returns-clause-few : goal.returns-clause-few
 returns-clause-few g c = omega (arith, script_is_short c.requires.0 c.args.lines.now c.requires.1, c.loop-line.invariant.order_count, c.loop-line.auto.line-index-end)
-
-pub returns-clause-later : goal.returns-clause-later
-returns-clause-later g c = c.loop-line.invariant.put.counts.later

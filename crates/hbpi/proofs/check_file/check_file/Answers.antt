@@ -1,18 +1,19 @@
 use Rattle.std.proofs.Common.{ℕ, List, inl, inr, refl, sym, subst, ap, ◌∙◌}
 use Rattle.hb_layout.specs.declared.meta.Meta.{Meta}
-use Rattle.hb_restart.specs.Beyond.{KeepsBeyondFile}
 use Rattle.hb_store.specs.Seen.{seen_as}
+use Rattle.hbpi.proofs.RunsOf.{check_runs}
 use Rattle.hbpi.proofs.ShutOut.{shut_out}
 use Rattle.hbpi.specs.Checked.{CheckEnds, sound_text}
 use Rattle.hbpi.specs.Saying.{IsSaid}
 use Rattle.hbpi.specs.SeenRuns.{Seen, run_of, seen_by}
 use Rattle.hbpi.proofs.check_file.check_file.Goals as goal
 
-pub returns-in-Ok-clause-ends : goal.returns-in-Ok-clause-ends
-returns-in-Ok-clause-ends g c source =
+pub returns-in-Ok : goal.returns-in-Ok
+returns-in-Ok g c source =
     let said = c.as_slice.ensures.value ∙ c.sound_line.ensures ∙ ap (λ (m : Meta). sound_text m c.in-Ok.records) c.meta.ensures.meta in
     let seen : Seen = seen_by source source (g.K.Sink.model c.args.sink) (g.K.Sink.model c.say-status.new.sink) c.new.result.items c.new-in-Ok.result.items in
-    subst (λ (x : g.row.D.Denot). CheckEnds (run_of seen (g.D.Device.model c.args.disk) (g.D.Device.model x)) c.say-status.result) (sym c.into_disk.ensures) (inr (
+    check_runs g.D.Device.model seen c.args.disk c.into_disk.result c.say-status.result
+    (subst (λ (x : g.row.D.Denot). CheckEnds (run_of seen (g.D.Device.model c.args.disk) (g.D.Device.model x)) c.say-status.result) (sym c.into_disk.ensures) (inr (
       seen_as c.in-Ok.store,
       c.in-Ok.records,
       record {
@@ -23,18 +24,12 @@ returns-in-Ok-clause-ends g c source =
         none_answered = c.new.ensures.items;
         none_ordered = c.new-in-Ok.ensures.items;
       },
-      subst (λ (line : List ℕ). IsSaid line (g.K.Sink.model c.args.sink) (g.K.Sink.model c.say-status.new.sink) c.say-status.result) said c.say-status.ensures.said,
-    ))
+      subst (λ (line : List ℕ). IsSaid line (g.K.Sink.model c.args.sink) (g.K.Sink.model c.say-status.new.sink) c.say-status.result) said c.say-status.ensures,
+    )))
 
-pub returns-in-Ok-clause-beyond : goal.returns-in-Ok-clause-beyond
-returns-in-Ok-clause-beyond g c = subst (λ (x : g.row.D.Denot). KeepsBeyondFile (g.D.Device.model c.args.disk) (g.D.Device.model x)) (sym c.into_disk.ensures) c.in-Ok.ensures.leaves.beyond
-
-pub returns-in-Err-clause-beyond : goal.returns-in-Err-clause-beyond
-returns-in-Err-clause-beyond g c = subst (λ (x : g.row.D.Denot). KeepsBeyondFile (g.D.Device.model c.args.disk) (g.D.Device.model x)) (sym c.refused.ensures.disk) c.in-Err.ensures.leaves.beyond
-
-pub returns-in-Err-clause-ends : goal.returns-in-Err-clause-ends
-returns-in-Err-clause-ends g c source =
+pub returns-in-Err : goal.returns-in-Err
+returns-in-Err g c source =
     let facts = c.in-Err.ensures in
     let seen : Seen = seen_by source source (g.K.Sink.model c.args.sink) (g.K.Sink.model c.refused.result.sink) c.refused.result.answered.items c.refused.result.order.items in
-    inl (shut_out g.D.Device.model c.args.disk c.in-Err.disk c.refused.result.disk seen c.in-Err.fault c.from.result c.refused.result.status c.refused.ensures.disk c.refused.ensures.status c.from.ensures
-    c.refused.ensures.line c.refused.ensures.answered c.refused.ensures.order (record { rest = refl; faults = refl }) facts.refused facts.unwritten facts.leaves)
+    check_runs g.D.Device.model seen c.args.disk c.refused.result.disk c.refused.result.status
+    (inl (shut_out g.D.Device.model c.args.disk c.in-Err.disk c.refused.result.disk seen c.in-Err.fault c.from.result c.refused.result.status c.refused.ensures c.from.ensures (record { rest = refl; faults = refl }) facts.refused facts.unwritten facts.leaves))

@@ -1,9 +1,8 @@
 use Rattle.std.proofs.Common.{inl, refl, sym, subst, ap, ◌∙◌}
 use Rattle.hb_map.proofs.Going.{new_may_go}
-use Rattle.hb_restart.specs.Beyond.{KeepsBeyondFile}
 use Rattle.hb_store.specs.Seen.{disk_of, held_by, seen_as, uses_of}
 use Rattle.hbpi.proofs.MappedRuns.{map_ended}
-use Rattle.hbpi.proofs.ReadFurther.{beyond_file_further}
+use Rattle.hbpi.proofs.RunsOf.{map_runs}
 use Rattle.hbpi.proofs.ShutOut.{shut_out}
 use Rattle.hbpi.specs.Mapped.{MapEnds}
 use Rattle.hbpi.specs.Outcome.{GetsLine, fault_line}
@@ -14,10 +13,11 @@ use Rattle.hbpi.proofs.map_file.map_file.Goals as goal
 pub put_map-requires : goal.put_map-requires
 put_map-requires g c = new_may_go _ _ (seen_as c.in-Ok.store) (uses_of c.in-Ok.store) c.in-Ok.ensures.opened.is_new c.meta.ensures.tied
 
-pub returns-in-Ok-clause-ends : goal.returns-in-Ok-clause-ends
-returns-in-Ok-clause-ends g c source =
+pub returns-in-Ok : goal.returns-in-Ok
+returns-in-Ok g c source =
     let seen : Seen = seen_by source source (g.K.Sink.model c.args.sink) (g.K.Sink.model c.put_fault.new.sink) c.new.result.items c.new-in-Ok.result.items in
-    subst (λ (x : g.row.D.Denot). MapEnds (run_of seen (g.D.Device.model c.args.disk) (g.D.Device.model x)) c.status_of-status.result) (sym c.into_disk.ensures)
+    map_runs g.D.Device.model seen c.args.disk c.into_disk.result c.status_of-status.result
+    (subst (λ (x : g.row.D.Denot). MapEnds (run_of seen (g.D.Device.model c.args.disk) (g.D.Device.model x)) c.status_of-status.result) (sym c.into_disk.ensures)
     (map_ended (g.D.Device.model c.args.disk) (g.D.Device.model (disk_of c.in-Ok.store)) (g.D.Device.model (disk_of c.put_map.new.store)) (held_by c.in-Ok.store) (held_by c.put_map.new.store) c.in-Ok._records seen (g.K.Sink.model c.put_map.new.sink)
     c.put_map.result c.status_of-status.result c.status_of-status.ensures (record {
       opens = c.in-Ok.ensures.opened;
@@ -34,19 +34,11 @@ returns-in-Ok-clause-ends g c source =
       unread = record { rest = refl; faults = refl };
       none_answered = c.new.ensures.items;
       none_ordered = c.new-in-Ok.ensures.items;
-    }))
+    })))
 
-pub returns-in-Ok-clause-beyond : goal.returns-in-Ok-clause-beyond
-returns-in-Ok-clause-beyond g c =
-    subst (λ (x : g.row.D.Denot). KeepsBeyondFile (g.D.Device.model c.args.disk) (g.D.Device.model x)) (sym c.into_disk.ensures)
-    (beyond_file_further (g.D.Device.model c.args.disk) (g.D.Device.model (disk_of c.in-Ok.store)) (g.D.Device.model (disk_of c.put_map.new.store)) c.put_map.ensures.through.looks.only.stays c.in-Ok.ensures.leaves.beyond)
-
-pub returns-in-Err-clause-beyond : goal.returns-in-Err-clause-beyond
-returns-in-Err-clause-beyond g c = subst (λ (x : g.row.D.Denot). KeepsBeyondFile (g.D.Device.model c.args.disk) (g.D.Device.model x)) (sym c.refused.ensures.disk) c.in-Err.ensures.leaves.beyond
-
-pub returns-in-Err-clause-ends : goal.returns-in-Err-clause-ends
-returns-in-Err-clause-ends g c source =
+pub returns-in-Err : goal.returns-in-Err
+returns-in-Err g c source =
     let facts = c.in-Err.ensures in
     let seen : Seen = seen_by source source (g.K.Sink.model c.args.sink) (g.K.Sink.model c.refused.result.sink) c.refused.result.answered.items c.refused.result.order.items in
-    inl (shut_out g.D.Device.model c.args.disk c.in-Err.disk c.refused.result.disk seen c.in-Err.fault c.from.result c.refused.result.status c.refused.ensures.disk c.refused.ensures.status c.from.ensures
-    c.refused.ensures.line c.refused.ensures.answered c.refused.ensures.order (record { rest = refl; faults = refl }) facts.refused facts.unwritten facts.leaves)
+    map_runs g.D.Device.model seen c.args.disk c.refused.result.disk c.refused.result.status
+    (inl (shut_out g.D.Device.model c.args.disk c.in-Err.disk c.refused.result.disk seen c.in-Err.fault c.from.result c.refused.result.status c.refused.ensures c.from.ensures (record { rest = refl; faults = refl }) facts.refused facts.unwritten facts.leaves))

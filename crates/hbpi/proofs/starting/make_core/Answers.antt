@@ -1,14 +1,16 @@
-use Rattle.std.proofs.Common.{◌≡◌, ℕ, ap, subst, ◌∙◌, arith}
+use Rattle.std.proofs.Common.{◌≡◌, ℕ, List, All, ap, subst, ◌∙◌, arith}
+use Rattle.hb_core.specs.KeptLines.{HasLineBody}
 use Rattle.hb_core.specs.Taking.{begun_core}
 use Rattle.hb_layout.specs.declared.meta.Meta.{Meta}
 use Rattle.hb_set.proofs.Facts.ScriptLaws.{script_is_short}
 use Rattle.hb_store.specs.Seen.{held_by, seen_as}
 use Rattle.hbpi.proofs.Begins.{no_frame}
-use Rattle.hbpi.specs.Schedules.{CameFrom, IsScript}
+use Rattle.hb_set.specs.declared.scripts.Line.{Line}
+use Rattle.hbpi.specs.Schedules.{CameFrom, HasLineBox, IsScript}
 use Rattle.hbpi.proofs.starting.make_core.Goals as goal
 
 pub over-requires : goal.over-requires
-over-requires g c = omega (arith, script_is_short c.meta.result.now.k c.in-Ok.script.lines c.in-Ok.ensures.script.script)
+over-requires g c = omega (arith, script_is_short c.meta.result.now.k c.in-Ok.script.lines c.in-Ok.ensures.came.script)
 
 pub returns-in-Ok-over-clause-made : goal.returns-in-Ok-over-clause-made
 returns-in-Ok-over-clause-made g c =
@@ -16,15 +18,21 @@ returns-in-Ok-over-clause-made g c =
     let after = g.S.Source.model c.script_from.new.source in
     let store = c.args.store in
     let script = c.in-Ok.script in
+    let came = c.in-Ok.ensures.came in
     let k : c.meta.result.now.k ≡ (seen_as store).meta.k = ap (λ (m : Meta). m.k) c.meta.ensures.meta in (
       c.in-Ok-over.ensures.disk,
       record {
         lines = script.lines;
         steps = script.steps;
-        came = subst (λ (n : ℕ). CameFrom c.args.origin n before after script.lines script.steps) k c.in-Ok.ensures.came;
-        source = c.in-Ok.ensures.no_fault;
-        script = subst (λ (n : ℕ). IsScript n script.lines script.steps) k c.in-Ok.ensures.script;
+        came = subst (λ (n : ℕ). CameFrom c.args.origin n before after script.lines script.steps) k came.came;
+        source = came.source;
+        script = subst (λ (n : ℕ). IsScript n script.lines script.steps) k (record {
+          script = came.script;
+          bodies = subst (λ (l : List Line). All HasLineBody l) c.as_slice.ensures c.knows_lines.ensures.bodies;
+          boxes = subst (λ (l : List Line). All HasLineBox l) c.as_slice.ensures c.knows_lines.ensures.boxes;
+          actors = came.actors;
+        });
         stands = c.meta.ensures.store.memory.stands;
-        core_is = c.in-Ok-over.ensures.seen ∙ ap (begun_core script.lines script.steps (seen_as store)) (no_frame (held_by store) c.requires.new c.meta.ensures.tied);
+        core_is = c.in-Ok-over.ensures.seen ∙ ap (begun_core script.lines script.steps (seen_as store)) (no_frame (held_by store) c.requires.is_new c.meta.ensures.tied);
       },
     )

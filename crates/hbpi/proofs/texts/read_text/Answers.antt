@@ -20,7 +20,10 @@ loop-more-preserved g c = record {
 }
 
 pub returns-clause-text : goal.returns-clause-text
-returns-clause-text g c = elim c.loop-more-test.branch [
-  | then-loop-more-test+else-len-lt-GREATEST w ↦ text_whole _ _ c.loop-more.text.items c.loop-more.invariant.so_far c.loop-more.invariant.room (inl (omega arith))
-  | else-loop-more-test w ↦ text_whole _ _ c.loop-more.text.items c.loop-more.invariant.so_far c.loop-more.invariant.room (inr (c.loop-more.invariant.ended w.loop-more-test.false))
-]
+returns-clause-text g c = (
+  elim c.loop-more-test.branch [
+    | then-loop-more-test+else-len-lt-GREATEST w ↦ text_whole _ _ c.loop-more.text.items c.loop-more.invariant.so_far c.loop-more.invariant.room (inl (omega arith))
+    | else-loop-more-test w ↦ text_whole _ _ c.loop-more.text.items c.loop-more.invariant.so_far c.loop-more.invariant.room (inr (c.loop-more.invariant.ended w.loop-more-test.false))
+  ],
+  c.loop-more.invariant.same,
+)

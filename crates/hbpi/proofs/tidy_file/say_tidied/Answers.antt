@@ -5,9 +5,9 @@ use Rattle.hbpi.specs.Saying.{IsSaid}
 use Rattle.hbpi.specs.TidyRuns.{SaysTidied}
 use Rattle.hbpi.proofs.tidy_file.say_tidied.Goals as goal
 
-pub returns-in-Ok-clause-said : goal.returns-in-Ok-clause-said
-returns-in-Ok-clause-said g c =
+pub returns-in-Ok : goal.returns-in-Ok
+returns-in-Ok g c =
     let before = g.K.Sink.model c.args.sink.now in
     let after = g.K.Sink.model c.say.new.sink in
     subst (λ (r : Result TidyCounts TidyStop). SaysTidied r before after c.say.result) (sym c.in-Ok.is)
-    (subst (λ (line : List ℕ). IsSaid line before after c.say.result) (c.as_slice.ensures.value ∙ c.tidied_line.ensures) c.say.ensures.said)
+    (subst (λ (line : List ℕ). IsSaid line before after c.say.result) (c.as_slice.ensures.value ∙ c.tidied_line.ensures) c.say.ensures)

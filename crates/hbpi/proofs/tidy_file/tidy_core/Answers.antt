@@ -8,7 +8,7 @@ use Rattle.hbpi.proofs.tidy_file.tidy_core.Goals as goal
 pub help-requires : goal.help-requires
 help-requires g c =
     let M : g.row.D.Denot → DiskModel = g.D.Device.model in
-    let some = c.requires.may in
+    let some = c.requires.fit.may in
     let went = c.in-Ok.ensures.tidies some.0 some.1 in
     (went.0.new, may_then (M (core_disk c.args.core.now)) (M (core_disk c.tidy.new.core)) some.0 (core_seen c.tidy.new.core) went.0, went.2.0)
 
@@ -25,7 +25,7 @@ returns-in-Ok-help g c =
 pub returns-in-Err-help : goal.returns-in-Err-help
 returns-in-Err-help g c =
     let M : g.row.D.Denot → DiskModel = g.D.Device.model in
-    let some = c.requires.may in
+    let some = c.requires.fit.may in
     record {
       tidies = λ m may.
           let went = c.in-Ok.ensures.tidies m may in
