@@ -6,7 +6,6 @@ use Rattle.std.proofs.lemmas.Grind.{flat_map-append}
 use Rattle.hb_outside.specs.Calls.{Puts, SinkModel}
 use Rattle.hb_outside.specs.declared.traits.Failed.{Failed}
 use Rattle.hb_outside.proofs.Facts.PutLaws.{Puts-none, has_put_more}
-pub use Rattle.hb_outside.proofs.Facts.PutLaws.{puts_on, puts_off}
 pub use Rattle.hb_drive.proofs.Facts.AnswerTexts.{has_put_none}
 use Rattle.hb_set.specs.declared.scripts.Answered.{Answered}
 use Rattle.hb_set.specs.declared.scripts.Line.{Line}

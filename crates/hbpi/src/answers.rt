@@ -3,14 +3,14 @@ ghost use Rattle.std.specs.Vec.{vec_capacity};
 ghost use Rattle.std.specs.List.{flat_map};
 ghost use Rattle.hb_set.specs.Order.{with_entry, order_of};
 ghost use Rattle.hb_set.specs.Scripts.{IsScriptFor};
-ghost use Rattle.hb_text.specs.Output.{reply_text, answer_text, order_text};
+ghost use Rattle.hb_text.specs.Output.{answer_text};
 ghost use Rattle.hbpi.specs.Outcome.{IsDryRun};
-ghost use Rattle.hb_outside.specs.Calls.{Puts, PutsOn};
+ghost use Rattle.hb_outside.specs.Calls.{Puts};
 
+use hb_drive::put_answer;
 use hb_outside::{Failed, Sink};
 use hb_set::{Answered, Line, Reply, Set};
 use hb_space::NoMemory;
-use hb_text::{put_order, put_reply};
 use std::alloc::Global;
 
 /// The answers to lines in the order of the text, and how their text was put.
@@ -18,38 +18,6 @@ pub(crate) struct Answers {
     pub(crate) answered: Vec<Answered>,
     pub(crate) order: Vec<u32>,
     pub(crate) put: Result<(), Failed>,
-}
-
-/// Puts a reply, unless the sink failed before.
-#[tactic(auto, using(crate::proofs::PutTexts::puts_on, crate::proofs::PutTexts::puts_off))]
-pub(crate) fn put_answer<K: Sink>(
-    sink: &mut K,
-    so_far: Result<(), Failed>,
-    line: u32,
-    reply: &Reply,
-) -> Result<(), Failed>
-    ensures { PutsOn so_far (reply_text line reply.now) result (K.model sink.old) (K.model sink.new) }
-{
-    match so_far {
-        Ok(()) => put_reply(sink, line, reply),
-        Err(failed) => Err(failed),
-    }
-}
-
-/// Puts the order, so many of it settled, unless the sink failed before.
-#[tactic(auto, using(crate::proofs::PutTexts::puts_on, crate::proofs::PutTexts::puts_off))]
-pub(crate) fn put_order_on<K: Sink>(
-    sink: &mut K,
-    so_far: Result<(), Failed>,
-    order: &[u32],
-    settled: u32,
-) -> Result<(), Failed>
-    ensures { PutsOn so_far (order_text order.now settled) result (K.model sink.old) (K.model sink.new) }
-{
-    match so_far {
-        Ok(()) => put_order(sink, order, settled),
-        Err(failed) => Err(failed),
-    }
 }
 
 /// The line joins the order, unless its reply stands outside it. There has to be room.

@@ -5,11 +5,12 @@ ghost use Rattle.hbpi.specs.Ends.{DryEnds};
 ghost use Rattle.hbpi.specs.DryParts.{IsRead, NotRead, EndsBySink, EndsRun, put_status};
 ghost use Rattle.hbpi.specs.SeenRuns.{seen_by};
 
-use crate::answers::{Answers, answer_lines, put_order_on};
+use crate::answers::{Answers, answer_lines};
 use crate::faults::put_fault;
 use crate::finished::Finished;
 use crate::statuses::Status;
 use crate::texts::{TextStop, read_text};
+use hb_drive::put_order_on;
 use hb_outside::{Failed, Sink, Source};
 use hb_set::Script;
 use hb_space::Attributes;
