@@ -1,6 +1,7 @@
 -- What a schedule's run comes to: its steps, its answers, and the text that it writes.
-use Rattle.std.specs.Prelude.{◌≡◌, ℕ, Bool, true, false, List, map, Option, None, Some, is_some}
+use Rattle.std.specs.Prelude.{◌≡◌, ◌≢◌, ◌≤◌, ℕ, Bool, true, false, List, [], map, Option, None, Some, is_some}
 use Rattle.hb_disk.specs.Model.{DiskModel}
+use Rattle.hb_disk.specs.declared.traits.Device.{Ghosts}
 use Rattle.hb_outside.specs.Calls.{SinkModel}
 use Rattle.hb_outside.specs.Streams.{Appends, AppendsFront, Rose}
 use Rattle.hb_set.specs.declared.scripts.Answered.{Answered}
@@ -8,9 +9,13 @@ use Rattle.hb_store.specs.declared.stops.StopWhy.{StopWhy}
 use Rattle.hb_text.specs.Output.{output_text}
 use Rattle.hb_core.specs.declared.endings.End.{End}
 use Rattle.hb_core.specs.declared.endings.End.TheVariants as ends
+use Rattle.hb_core.specs.declared.endings.Ran.{Ran}
+use Rattle.hb_core.specs.declared.state.Core.{Core}
+use Rattle.hb_core.specs.CoreSeen.{core_seen, core_disk}
 use Rattle.hb_core.specs.Machines.{Machine, settled_count}
 use Rattle.hb_core.specs.Runs.{HasReadFault, HasRun, left_numbers}
 use Rattle.hb_core.specs.Showing.{RunningCore}
+use Rattle.hb_core.specs.Working.{MayStep}
 
 -- the output of a run: the replies in the sequence of answering, the lines without an answer, and the order, with a bar before the first
 -- place that isn't settled
@@ -38,3 +43,11 @@ IsEndOf ends.Finished failed stop answers = (failed ≡ false) × (stop ≡ None
 pub record DrivesTo (m : Machine) (actors : List ℕ) (answers : List Answered) (d e : DiskModel) (c : RunningCore) (end : End) (before after : SinkModel) : Type 0 where
   pub run : HasRun d m actors answers e c
   pub text : EndsWith end before after (run_text answers run.new) answers run.new.stop
+
+-- What a run of a core leaves. For want of memory, which is asked for before the first step alone, the core, its disk and the sink are as
+-- they were, and there is no answer. Else it comes to what is said, of each machine that the core showed. The sink's count of faults
+-- doesn't fall.
+pub record LeavesRun {D K : Type 0} {g : Ghosts D} (comes : Machine → Type 0) (disk : D → DiskModel) (put : K → SinkModel) (core : Core D g) (sink : K) (ran : Ran D K g) : Type 0 where
+  pub unbegun : ran.end ≡ ends.NoMemory → (core_seen ran.core ≡ core_seen core) × (core_disk ran.core ≡ core_disk core) × (ran.sink ≡ sink) × (ran.answered.items ≡ [])
+  pub runs : ran.end ≢ ends.NoMemory → (m : Machine) → MayStep (disk (core_disk core)) (core_seen core) m → comes m
+  pub later : (put sink).faults ≤ (put ran.sink).faults

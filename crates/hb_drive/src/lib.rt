@@ -7,13 +7,12 @@
 //! No type keeps an invariant.
 #![tactic(auto)]
 
-ghost use Rattle.std.specs.Prelude.{◌≡◌, ◌≢◌, ◌≤◌, [], All, IfOk, length, vec_capacity};
+ghost use Rattle.std.specs.Prelude.{◌≡◌, ◌≤◌, [], All, IfOk, length, vec_capacity};
 ghost use Rattle.hb_space.specs.Actors.{IsActor};
-ghost use Rattle.hb_core.specs.declared.endings.End.TheVariants as ends;
 ghost use Rattle.hb_core.specs.CoreSeen.{core_seen, core_disk};
 ghost use Rattle.hb_core.specs.Machines.{Machine};
 ghost use Rattle.hb_core.specs.Working.{MayStep};
-ghost use Rattle.hb_drive.specs.Driving.{DrivesTo};
+ghost use Rattle.hb_drive.specs.Driving.{DrivesTo, LeavesRun};
 
 mod ending;
 mod taking;
@@ -26,8 +25,9 @@ use hb_outside::Sink;
 use hb_set::{Answered, Script};
 use hb_space::{Actor, NoMemory};
 use std::alloc::Global;
+pub use taking::take_answer;
 use taking::take_steps;
-pub use writing::{put_answer, put_rest};
+pub use writing::{put_answer, put_order_on, put_rest};
 
 /// Takes exactly the script's steps, and writes the output: the reply of each line as it is answered, then the lines that
 /// have no answer, then the order. After a fault of the sink nothing more is written, and the steps go on.
@@ -36,10 +36,8 @@ pub use writing::{put_answer, put_rest};
 pub fn drive<D: Disk, K: Sink>(alloc: Global, mut core: Core<D>, mut sink: K) -> Ran<D, K>
     requires may { (m : Machine) × MayStep (D.model (core_disk core)) (core_seen core) m }
     requires actors { All IsActor (core_seen core).steps }
-    ensures unbegun { result.end ≡ ends.NoMemory → (core_seen result.core ≡ core_seen core) × (core_disk result.core ≡ core_disk core) × (result.sink ≡ sink) × (result.answered.items ≡ []) }
-    ensures drives { result.end ≢ ends.NoMemory → (m : Machine) → MayStep (D.model (core_disk core)) (core_seen core) m →
-        DrivesTo m (core_seen core).steps result.answered.items (D.model (core_disk core)) (D.model (core_disk result.core)) (core_seen result.core) result.end (K.model sink) (K.model result.sink) }
-    ensures later { (K.model sink).faults ≤ (K.model result.sink).faults }
+    ensures { LeavesRun (λ m. DrivesTo m (core_seen core).steps result.answered.items (D.model (core_disk core)) (D.model (core_disk result.core)) (core_seen result.core) result.end (K.model sink) (K.model result.sink))
+        D.model K.model core sink result }
 {
     let Ok((steps, mut answered, mut left)) = room_for(alloc, core.script()) else {
         return Ran {

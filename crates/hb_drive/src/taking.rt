@@ -46,7 +46,7 @@ pub(crate) fn take_steps<D: Disk, K: Sink>(
 
 /// Puts and keeps the answer that a step gave, where it gave one. There has to be room.
 #[tactic(auto, using(crate::proofs::PutTexts::puts_none, crate::proofs::PutTexts::puts_answer))]
-fn take_answer<K: Sink>(
+pub fn take_answer<K: Sink>(
     sink: &mut K,
     so_far: Result<(), Failed>,
     outcome: Outcome,

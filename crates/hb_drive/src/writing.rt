@@ -74,7 +74,7 @@ fn put_one_left<K: Sink>(
 
 /// Puts the order, unless the sink failed before.
 #[tactic(auto, using(crate::proofs::PutTexts::puts_on, crate::proofs::PutTexts::puts_off))]
-fn put_order_on<K: Sink>(
+pub fn put_order_on<K: Sink>(
     sink: &mut K,
     so_far: Result<(), Failed>,
     order: &[u32],

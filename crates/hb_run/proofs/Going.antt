@@ -1,6 +1,8 @@
 -- A run of threads begins, and goes on by a turn.
-use Rattle.std.proofs.Common.{◌≡◌, ℕ, ◌+◌, ◌≤◌, List, [], ◌∷◌, ◌++◌, length, IsSome, Result, Ok, sym, ap, ◌∙◌, subst, arith, length-append}
+use Rattle.std.proofs.Common.{◌≡◌, ℕ, ◌+◌, ◌-◌, ◌≤◌, List, [], ◌∷◌, ◌++◌, length, IsSome, Result, Ok, sym, ap, ◌∙◌, subst, arith, length-append}
+use Rattle.std.specs.Coded.{le_prop}
 use Rattle.std.specs.List.{flat_map}
+use Rattle.std.proofs.Math.Logic.{∥∥₁_elim, ∥∥₁_map}
 use Rattle.std.proofs.lemmas.List.{length-map}
 use Rattle.std.proofs.lemmas.List.Sums.{count_by-le-length}
 use Rattle.std.proofs.lemmas.Grind.{flat_map-append}
@@ -20,10 +22,10 @@ use Rattle.hb_core.specs.Showing.{RunningCore, ShowsMachine}
 use Rattle.hb_core.specs.Steps.{StepsTo}
 use Rattle.hb_core.specs.Touching.{Touches}
 use Rattle.hb_core.specs.Working.{MayStep}
-use Rattle.hb_core.proofs.Facts.RunSteps.{may_go_on, run_begins, run_by_step}
+use Rattle.hb_core.proofs.Facts.RunSteps.{may_go_on, run_begins, run_by_step, run_of_step}
 use Rattle.hb_drive.proofs.Facts.AnswerTexts.{has_put_none}
 use Rattle.hb_run.specs.Beginnings.{Beginning}
-use Rattle.hb_run.specs.Courses.{Course, KeepsRun, TakesTurn}
+use Rattle.hb_run.specs.Courses.{Course, KeepsRun, ShowsLeft, TakesTurn}
 
 -- a machine from which the core goes on
 pub may_turn : (b : Beginning) (c : Course) → KeepsRun b c → (m : Machine) × MayStep c.disk c.core m
@@ -50,17 +52,40 @@ answers_are_as_many d e m actors answers c run =
     let left = run.left in
     omega (arith, same, left)
 
-given_fits : (before given all now left lines room : ℕ) → all ≡ before + given → all + now ≡ lines → before + left ≡ lines → before + left ≤ room → (given ≤ left) × (before + given ≤ room)
-given_fits before given all now left lines room is after kept fits = (omega (arith, is, after, kept), omega (arith, is, after, kept, fits))
+same_left : (given now count left : ℕ) → given + now ≡ left → given + count ≡ left → now ≡ count
+same_left given now count left less has = omega (arith, less, has)
 
--- so the answer of a step is one of a line that had none, and finds room
-pub room_for_given : (laws : RunningLaws) (b : Beginning) (c : Course) (actor : ℕ) (outcome : Outcome) (at : ℕ) (f : DiskModel) (new : RunningCore) → KeepsRun b c → TookStep actor outcome at c.disk c.core f new
-    → (length (given_by outcome at) ≤ c.left) × (length c.answers + length (given_by outcome at) ≤ c.room)
-room_for_given laws b c actor outcome at f new keeps took =
-    let m = keeps.begun.0 in
-    let run = run_on laws b c actor outcome at f new keeps took m keeps.begun.1 in
-    given_fits (length c.answers) (length (given_by outcome at)) (length (c.answers ++ given_by outcome at)) (left_count run.new) c.left (left_count m) c.room
-    (length-append c.answers (given_by outcome at)) (answers_are_as_many b.disk f m (keeps.actors ++ actor ∷ []) (c.answers ++ given_by outcome at) new run) (keeps.left_is m keeps.begun.1) keeps.fits
+-- What a step leaves of the lines without an answer: its answer is one of a line that had none, and what is left shows on.
+pub record LeavesLines (given : ℕ) (left : ℕ) (f : DiskModel) (new : RunningCore) : Type 0 where
+  pub fits : given ≤ left
+  pub shows : (now : ℕ) → given + now ≡ left → ∥ ShowsLeft f new now ∥₁
+
+module _ (laws : RunningLaws) (actor : ℕ) (outcome : Outcome) (at : ℕ) (e : DiskModel) (old : RunningCore) (f : DiskModel) (new : RunningCore) (left : ℕ) (disk : IsDisk e) (disk_next : IsDisk f) (may : IsActor actor)
+    (steps : (m : Machine) → MayStep e old m → (next : Machine) × StepsTo m actor outcome next × ShowsMachine f new next) (touches : Touches e old outcome f new) (clock : IsSome f.told → at ≡ f.clock) (shows : ∥ ShowsLeft e old left ∥₁) where
+  one : (was : ShowsLeft e old left) → HasRun e was.machine (actor ∷ []) (given_by outcome at) f new
+  one was = run_of_step laws e was.machine old actor outcome at f new disk was.may disk_next may steps touches clock
+
+  has : (was : ShowsLeft e old left) → length (given_by outcome at) + left_count (one was).new ≡ left
+  has was = answers_are_as_many e f was.machine (actor ∷ []) (given_by outcome at) new (one was) ∙ sym was.left_is
+
+  pub leaves_lines : LeavesLines (length (given_by outcome at)) left f new
+  leaves_lines = record {
+    fits = ∥∥₁_elim shows le_prop (λ was. let all = has was in omega (arith, all));
+    shows = λ now less. ∥∥₁_map shows (λ was. record {
+      machine = (one was).new;
+      may = may_go_on e was.machine (actor ∷ []) (given_by outcome at) f new (one was);
+      left_is = same_left (length (given_by outcome at)) now (left_count (one was).new) left less (has was);
+    });
+  }
+
+-- for what the code takes off, as many as were given
+pub less_left : (given taken left : ℕ) → taken ≡ given → given ≤ left → given + (left - taken) ≡ left
+less_left given taken left same fits = omega (arith, same, fits)
+
+pub room_on : (was now : ℕ) (old given new : List Answered) (taken left room more : ℕ) → was ≡ length old → now ≡ length new → new ≡ old ++ given → taken ≡ length given → length given ≤ left → was + left ≤ room → room ≤ more → now + (left - taken) ≤ more
+room_on was now old given new taken left room more was_is now_is new_is same fits has grown =
+    let long = ap (λ (l : List Answered). length l) new_is ∙ length-append old given in
+    omega (arith, was_is, now_is, long, same, fits, has, grown)
 
 more_text : (b : SinkModel) (put later : Result (Unit {0}) Failed) (mid after : SinkModel) (answers given all : List Answered) → all ≡ answers ++ given → Puts (flat_map answer_text answers) put b mid
     → PutsOn put (flat_map answer_text given) later mid after → Puts (flat_map answer_text all) later b after
@@ -72,9 +97,6 @@ more_text b put later mid after answers given all is first more =
 count_on : (before given all left now lines : ℕ) → all ≡ before + given → given + now ≡ left → before + left ≡ lines → all + now ≡ lines
 count_on before given all left now lines is less kept = omega (arith, is, less, kept)
 
-fits_on : (before given all left now room more : ℕ) → all ≡ before + given → given + now ≡ left → room ≤ more → before + left ≤ room → all + now ≤ more
-fits_on before given all left now room more is less grown fits = omega (arith, is, less, grown, fits)
-
 pub goes_on : (laws : RunningLaws) (b : Beginning) (actor : ℕ) (outcome : Outcome) (old new : Course) → IsActor actor → IsDisk old.disk → IsDisk new.disk → KeepsRun b old → TakesTurn actor outcome old new → KeepsRun b new
 goes_on laws b actor outcome old new may disk disk_next keeps turn = record {
   begun = keeps.begun;
@@ -82,7 +104,6 @@ goes_on laws b actor outcome old new may disk disk_next keeps turn = record {
   runs = λ m begun. subst (λ (l : List Answered). HasRun b.disk m (keeps.actors ++ actor ∷ []) l new.disk new.core) (sym turn.answers) (run_on laws b old actor outcome turn.at new.disk new.core keeps took m begun);
   text = more_text b.sink old.put new.put old.sink new.sink old.answers (given_by outcome turn.at) new.answers turn.answers keeps.text turn.written;
   left_is = λ m begun. count_on (length old.answers) (length (given_by outcome turn.at)) (length new.answers) old.left new.left (left_count m) many turn.left_is (keeps.left_is m begun);
-  fits = fits_on (length old.answers) (length (given_by outcome turn.at)) (length new.answers) old.left new.left old.room new.room many turn.left_is turn.room keeps.fits;
 }
   where
     took : TookStep actor outcome turn.at old.disk old.core new.disk new.core
@@ -93,22 +114,24 @@ goes_on laws b actor outcome old new may disk disk_next keeps turn = record {
 
 -- ---- it begins
 
-fits_first : (given left count lines now room : ℕ) → given ≡ 0 → left ≡ count → count ≤ lines → lines ≡ now → now ≤ room → given + left ≤ room
-fits_first given left count lines now room none is few same fits = omega (arith, none, is, few, same, fits)
-
 count_first : (given left count : ℕ) → given ≡ 0 → left ≡ count → given + left ≡ count
 count_first given left count none is = omega (arith, none, is)
 
-pub begins : (laws : RunningLaws) (b : Beginning) (answers : List Answered) (room left : ℕ) → IsDisk b.disk → ((m : Machine) × MayStep b.disk b.core m) → answers ≡ [] → ((m : Machine) → MayStep b.disk b.core m → left ≡ left_count m) → length b.core.lines ≤ room
+pub begins : (laws : RunningLaws) (b : Beginning) (answers : List Answered) (room left : ℕ) → IsDisk b.disk → ((m : Machine) × MayStep b.disk b.core m) → answers ≡ [] → ((m : Machine) → MayStep b.disk b.core m → left ≡ left_count m)
     → KeepsRun b (record { disk = b.disk; core = b.core; sink = b.sink; put = Ok (tt {0}); answers = answers; room = room; left = left })
-begins laws b answers room left disk may none left_is fits = record {
+begins laws b answers room left disk may none left_is = record {
   begun = may;
   actors = [];
   runs = λ m begun. subst (λ (l : List Answered). HasRun b.disk m [] l b.disk b.core) (sym none) (run_begins laws b.disk m b.core disk begun);
   text = has_put_none b.sink answers none;
   left_is = λ m begun. count_first (length answers) left (left_count m) no_answer (left_is m begun);
-  fits = fits_first (length answers) left (left_count may.0) (length may.0.lines) (length b.core.lines) room no_answer (left_is may.0 may.1) (count_by-le-length (has_none may.0) may.0.lines) (ap (λ (ls : List Line). length ls) may.1.shows.lines) fits;
 }
   where
     no_answer : length answers ≡ 0
     no_answer = ap (λ (l : List Answered). length l) none
+
+fits_first : (given left count lines now room : ℕ) → given ≡ 0 → left ≡ count → count ≤ lines → lines ≡ now → now ≤ room → given + left ≤ room
+fits_first given left count lines now room none is few same fits = omega (arith, none, is, few, same, fits)
+
+pub room_first : (d : DiskModel) (c : RunningCore) (m : Machine) (given left room : ℕ) → MayStep d c m → given ≡ 0 → left ≡ left_count m → length c.lines ≤ room → given + left ≤ room
+room_first d c m given left room may none is fits = fits_first given left (left_count m) (length m.lines) (length c.lines) room none is (count_by-le-length (has_none m) m.lines) (ap (λ (ls : List Line). length ls) may.shows.lines) fits

@@ -27,15 +27,20 @@ pub record Course : Type 1 where
   pub room : ℕ
   pub left : ℕ
 
+-- The core shows a machine of which steps may be taken, and so many of its lines have no answer.
+pub record ShowsLeft (d : DiskModel) (c : RunningCore) (left : ℕ) : Type 0 where
+  pub machine : Machine
+  pub may : MayStep d c machine
+  pub left_is : left ≡ left_count machine
+
 -- What the lock keeps. Steps of some actors led from each machine of the beginning to one that the core shows now, with these answers,
--- and their text was put; the lines without an answer are counted, and there is room for their answers.
+-- and their text was put; the lines without an answer are counted.
 pub record KeepsRun (b : Beginning) (c : Course) : Type 0 where
   pub begun : (m : Machine) × MayStep b.disk b.core m
   pub actors : List ℕ
   pub runs : (m : Machine) → MayStep b.disk b.core m → HasRun b.disk m actors c.answers c.disk c.core
   pub text : Puts (flat_map answer_text c.answers) c.put b.sink c.sink
   pub left_is : (m : Machine) → MayStep b.disk b.core m → length c.answers + c.left ≡ left_count m
-  pub fits : length c.answers + c.left ≤ c.room
 
 -- A turn is one step of the actor, in full: what came of it, its answer, which is kept with the clock after the step, and the text of
 -- that, which is put unless a put failed before.

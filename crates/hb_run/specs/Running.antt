@@ -1,5 +1,5 @@
 -- What a run of threads comes to.
-use Rattle.std.specs.Prelude.{◌≡◌, ℕ, List, None}
+use Rattle.std.specs.Prelude.{◌≡◌, ℕ, true, false, List, None, is_some}
 use Rattle.hb_disk.specs.Model.{DiskModel}
 use Rattle.hb_outside.specs.Calls.{SinkModel}
 use Rattle.hb_set.specs.declared.scripts.Answered.{Answered}
@@ -9,7 +9,14 @@ use Rattle.hb_core.specs.Machines.{Machine}
 use Rattle.hb_core.specs.Runs.{left_count}
 use Rattle.hb_core.specs.Showing.{RunningCore}
 use Rattle.hb_drive.specs.Driving.{DrivesTo}
-use Rattle.hb_run.specs.Turning.{jobs_left}
+use Rattle.hb_run.specs.Beginnings.{Beginning}
+use Rattle.hb_run.specs.Courses.{Course, KeepsRun}
+use Rattle.hb_run.specs.Turning.{is_done, jobs_left}
+
+-- The turns of a run are over: nothing is left to do, unless the core is stopped.
+pub record TurnsAreOver (b : Beginning) (c : Course) : Type 0 where
+  pub keeps : KeepsRun b c
+  pub whole : is_some c.core.stop ≡ false → is_done c ≡ true
 
 -- No line is left without an answer, and no job of either kind waits or is in work.
 pub record IsWorkedOff (m : Machine) (c : RunningCore) : Type 0 where

@@ -1,31 +1,25 @@
 //! A run so far, and its next step.
-ghost use Rattle.std.specs.Prelude.{◌≡◌, ◌≢◌, ◌⊎◌, ◌≤◌, ℕ, ◌+◌, ◌-◌, ◌==◌, ◌++◌, ◌||◌, ◌&&◌, nat_lt, not, true, false, is_some, length, vec_len, vec_capacity};
-ghost use Rattle.std.specs.List.{flat_map, slice_get};
-ghost use Rattle.hb_space.specs.Actors.{IsActor};
-ghost use Rattle.hb_outside.specs.Calls.{PutsOn};
-ghost use Rattle.hb_text.specs.Output.{answer_text};
+ghost use Rattle.std.specs.Prelude.{◌≡◌, ◌≢◌, ◌⊎◌, ◌≤◌, ℕ, ◌+◌, ◌-◌, ◌==◌, ◌||◌, ◌&&◌, nat_lt, not, true, false, is_some, length, vec_len, vec_capacity};
+ghost use Rattle.std.specs.List.{slice_get};
 ghost use Rattle.hb_core.specs.CoreSeen.{core_seen, core_disk};
 ghost use Rattle.hb_core.specs.declared.outcomes.Outcome.{Outcome};
 ghost use Rattle.hb_core.specs.Machines.{Machine};
 ghost use Rattle.hb_core.specs.Performing.{given_by};
 ghost use Rattle.hb_core.specs.Working.{MayStep};
-ghost use Rattle.hb_run.specs.CourseSeen.{course_seen};
-ghost use Rattle.hb_run.specs.Courses.{KeepsRun, TakesTurn};
+ghost use Rattle.hb_run.specs.Courses.{ShowsLeft, TakesTurn};
 ghost use Rattle.hb_run.specs.declared.turns.Turn.TheVariants as turns;
 ghost use Rattle.hb_run.specs.Turning.{CountsMove, GoesWell, IsNews, WakesAll, is_done, is_due, is_more, is_so, jobs_left, round_of, settled_of, still_waits, turn_of};
 
-use crate::begun::Begun;
 use crate::rosters::Roster;
-use crate::seats::{CONSOLIDATOR, FLUSHER, POSTER};
+use crate::seats::{CONSOLIDATOR, FLUSHER, POSTER, Seat};
 use crate::turns::{News, Next, Pause, Turn, turn_of};
 use hb_activity::JobKind;
 use hb_core::run_laws::runs_go_on;
 use hb_core::{Core, Outcome};
 use hb_disk::Disk;
-use hb_drive::put_answer;
+use hb_drive::take_answer;
 use hb_outside::{Failed, Sink};
 use hb_set::Answered;
-use hb_space::Actor;
 
 /// So many turns are a round.
 const ROUND: u64 = 256;
@@ -49,121 +43,117 @@ pub struct Course<D: Disk, K: Sink> {
     /// How many lines have no answer.
     pub(crate) left: usize,
     pub(crate) roster: Roster,
+    ghost shows: { ∥ ShowsLeft (D.model (core_disk core)) (core_seen core) left ∥₁ },
+    ghost room: { vec_len answered + left ≤ vec_capacity answered },
 }
 
 impl<D: Disk, K: Sink> Course<D, K> {
+    ghost use Rattle.hb_run.specs.CourseSeen.{course_seen};
+
     /// What an actor does under one hold of the lock: one step of the core, or none where who flushes has nothing to do. It tells what the
     /// actor does then, and who else has to look again.
-    pub(crate) fn take_turn<N: Begun>(&mut self, actor: Actor) -> (Next, News)
-        requires actor { IsActor actor }
-        requires keeps { KeepsRun N.beginning (course_seen D.model K.model self.old) }
-        ensures keeps { KeepsRun N.beginning (course_seen D.model K.model self.new) }
-        ensures turn { (self.new ≡ self.old) ⊎ ((outcome : Outcome) × TakesTurn actor outcome (course_seen D.model K.model self.old) (course_seen D.model K.model self.new)) }
-        ensures next { GoesWell actor result.0 self.new.roster.moves (course_seen D.model K.model self.new) }
+    pub(crate) fn take_turn(&mut self, seat: &Seat) -> (Next, News)
+        requires { (m : Machine) × MayStep (D.model (core_disk self.old.core)) (core_seen self.old.core) m }
+        ensures turn { (self.new ≡ self.old) ⊎ ((outcome : Outcome) × TakesTurn seat.now.actor outcome (course_seen D.model K.model self.old) (course_seen D.model K.model self.new)) }
+        ensures next { GoesWell seat.now.actor result.0 self.new.roster.moves (course_seen D.model K.model self.new) }
         ensures wakes { WakesAll result.1 self.old.roster (course_seen D.model K.model self.old) self.new.roster (course_seen D.model K.model self.new) }
     {
         let before = self.mark();
-        if actor == FLUSHER && !self.may_flush() {
+        if seat.actor == FLUSHER && !self.may_flush() {
             let next = self.rest();
-            let news = self.news(actor, false, &before);
+            let news = self.news(seat, false, &before);
             return (next, news);
         }
         let effects = self.core.order().len();
-        let turn = self.turn::<N>(actor);
-        let next = self.next(actor, &turn, effects);
-        self.roster.note(actor, next);
+        let turn = self.turn(seat);
+        let next = self.next(seat, &turn, effects);
+        self.roster.note(seat.actor, next);
         self.roster.coming = self.anyone_comes();
-        let news = self.news(actor, is_move(&turn), &before);
+        let news = self.news(seat, is_move(&turn), &before);
         (next, news)
     }
 
-    /// One step of the core. The answer that it gives is kept, and its lines are put.
-    pub(crate) fn turn<N: Begun>(&mut self, actor: Actor) -> Turn
-        requires actor { IsActor actor }
-        requires keeps { KeepsRun N.beginning (course_seen D.model K.model self.old) }
-        ensures keeps { KeepsRun N.beginning (course_seen D.model K.model self.new) }
-        ensures turn { (outcome : Outcome) × TakesTurn actor outcome (course_seen D.model K.model self.old) (course_seen D.model K.model self.new) × (result ≡ turn_of outcome) }
-        ensures counts { CountsMove (actor - 1) (is_more result) self.old.roster.moves self.new.roster.moves }
-        ensures another { result ≡ turns.More → slice_get self.new.roster.moves (actor - 1) ≢ slice_get self.old.roster.moves (actor - 1) }
-    {
-        let turn = self.take_step::<N>(actor);
-        self.roster.count(actor, is_move(&turn));
-        turn
-    }
-
-    /// The step of a turn, with its answer.
-    fn take_step<N: Begun>(&mut self, actor: Actor) -> Turn
-        requires actor { IsActor actor }
-        requires keeps { KeepsRun N.beginning (course_seen D.model K.model self.old) }
-        ensures keeps { KeepsRun N.beginning (course_seen D.model K.model self.new) }
-        ensures turn { (outcome : Outcome) × TakesTurn actor outcome (course_seen D.model K.model self.old) (course_seen D.model K.model self.new) × (result ≡ turn_of outcome) }
-        ensures roster { self.new.roster ≡ self.old.roster }
+    /// One step of the core. The answer that it gives is kept with the clock after it, and its lines are put unless a put failed before.
+    pub(crate) fn turn(&mut self, seat: &Seat) -> Turn
+        requires { (m : Machine) × MayStep (D.model (core_disk self.old.core)) (core_seen self.old.core) m }
+        ensures turn { (outcome : Outcome) × TakesTurn seat.now.actor outcome (course_seen D.model K.model self.old) (course_seen D.model K.model self.new) × (result ≡ turn_of outcome) }
+        ensures counts { CountsMove (seat.now.actor - 1) (is_more result) self.old.roster.moves self.new.roster.moves }
+        ensures another { result ≡ turns.More → slice_get self.new.roster.moves (seat.now.actor - 1) ≢ slice_get self.old.roster.moves (seat.now.actor - 1) }
     {
         runs_go_on();
-        let outcome = self.core.step(actor);
+        let outcome = self.core.step(seat.actor);
         let at = self.core.clock();
         let turn = turn_of(&outcome);
-        self.keep(outcome, at);
+        self.left -= answers_of(&outcome);
+        self.put = take_answer(&mut self.sink, self.put, outcome, at, &mut self.answered);
+        self.roster.count(seat, is_move(&turn));
         turn
     }
 
-    /// Keeps the answer of a step with the clock after it, and puts its lines unless a put failed before.
-    fn keep(&mut self, outcome: Outcome, at: u64)
-        requires room { vec_len self.old.answered + length (given_by outcome at) ≤ vec_capacity self.old.answered }
-        requires left { length (given_by outcome at) ≤ self.old.left }
-        ensures core { self.new.core ≡ self.old.core }
-        ensures roster { self.new.roster ≡ self.old.roster }
-        ensures answers { self.new.answered.items ≡ self.old.answered.items ++ given_by outcome at }
-        ensures room { vec_capacity self.old.answered ≤ vec_capacity self.new.answered }
-        ensures left { length (given_by outcome at) + self.new.left ≡ self.old.left }
-        ensures written { PutsOn self.old.put (flat_map answer_text (given_by outcome at)) self.new.put (K.model self.old.sink) (K.model self.new.sink) }
-    {
-        let Outcome::Answered { line, reply } = outcome else {
-            return;
-        };
-        self.put = put_answer(&mut self.sink, self.put, line, &reply);
-        self.answered.push(Answered { line, reply, at }).unwrap();
-        self.left -= 1;
-    }
-
-    /// What an actor does after its turn, before which so many lines had taken effect.
-    fn next(&self, actor: Actor, turn: &Turn, effects: usize) -> Next
-        requires actor { IsActor actor }
-        requires may { (m : Machine) × MayStep (D.model (core_disk self.now.core)) (core_seen self.now.core) m }
-        ensures { GoesWell actor result self.now.roster.moves (course_seen D.model K.model self.now) }
+    /// What an actor does after its turn, before which so many lines had taken effect. A session without a line ends. A worker without a
+    /// job waits for one, and ends where all is done.
+    fn next(&self, seat: &Seat, turn: &Turn, effects: usize) -> Next
+        ensures { GoesWell seat.now.actor result self.now.roster.moves (course_seen D.model K.model self.now) }
     {
         if self.is_stopped() {
             return Next::Ends;
         }
-        match turn {
-            Turn::Stopped => Next::Goes,
-            Turn::More => self.after_move(effects),
-            Turn::Blocked { by } => self.behind(*by),
-            Turn::Idle => self.without_job(actor),
+        if !matches!(turn, Turn::Idle) {
+            return self.next_of_busy(turn, effects);
         }
+        let kind = match seat.actor {
+            POSTER => JobKind::Post,
+            CONSOLIDATOR => JobKind::Merge,
+            FLUSHER => return Next::Goes,
+            _ => return Next::Ends,
+        };
+        if self.is_done() {
+            return Next::Ends;
+        }
+        if self.jobs_left(&kind) > 0 {
+            return Next::Goes;
+        }
+        Next::Waits(Pause::NoJob { kind })
     }
 
-    /// An actor whose line took effect in its turn, and isn't settled, lets others come first, so that one force settles the lines of all.
-    /// Where actors may be held between their turns it doesn't.
-    fn after_move(&self, effects: usize) -> Next
-        requires may { (m : Machine) × MayStep (D.model (core_disk self.now.core)) (core_seen self.now.core) m }
+    /// What an actor does next that has a line or a job. One that is blocked waits behind who is in the way. One whose line took effect in
+    /// its turn, and isn't settled, lets others come first, so that one force settles the lines of all; but not where actors may be held
+    /// between their turns.
+    fn next_of_busy(&self, turn: &Turn, effects: usize) -> Next
+        requires { is_some (core_seen self.now.core).stop ≡ false }
         ensures { (actor : ℕ) → GoesWell actor result self.now.roster.moves (course_seen D.model K.model self.now) }
     {
-        let mark = self.mark();
-        let pause = Pause::Unsettled {
-            place: effects,
-            round: mark.round,
-        };
-        if self.roster.free && self.core.order().len() > effects && self.hasnt_come(&pause) {
-            Next::Waits(pause)
-        } else {
-            Next::Goes
+        match turn {
+            Turn::Blocked { by } => {
+                let place = usize::from(*by).wrapping_sub(1);
+                match self.roster.moves.get(place) {
+                    Some(moves) => Next::Waits(Pause::Behind {
+                        place,
+                        moves: *moves,
+                    }),
+                    None => Next::Goes,
+                }
+            }
+            Turn::More => {
+                let pause = Pause::Unsettled {
+                    place: effects,
+                    round: self.mark().round,
+                };
+                if self.roster.free
+                    && self.core.order().len() > effects
+                    && self.hasnt_come(&pause)
+                {
+                    Next::Waits(pause)
+                } else {
+                    Next::Goes
+                }
+            }
+            _ => Next::Goes,
         }
     }
 
     /// How far the run is.
     fn mark(&self) -> Mark
-        requires may { (m : Machine) × MayStep (D.model (core_disk self.now.core)) (core_seen self.now.core) m }
         ensures settled { result.settled ≡ settled_of (core_seen self.now.core) }
         ensures round { result.round ≡ round_of (core_seen self.now.core) }
     {
@@ -174,51 +164,12 @@ impl<D: Disk, K: Sink> Course<D, K> {
     }
 
     /// Whether a session takes a further turn, though it waits for nothing or what it waited for has come.
-    fn anyone_comes(&self) -> bool
-        requires may { (m : Machine) × MayStep (D.model (core_disk self.now.core)) (core_seen self.now.core) m }
-    {
+    fn anyone_comes(&self) -> bool {
         self.roster.nexts.iter().any(|next| match next {
             Next::Goes => true,
             Next::Waits(pause) => !self.hasnt_come(pause),
             Next::Ends => false,
         })
-    }
-
-    /// An actor waits behind another one.
-    fn behind(&self, by: Actor) -> Next
-        requires { is_some (core_seen self.now.core).stop ≡ false }
-        ensures { (actor : ℕ) → GoesWell actor result self.now.roster.moves (course_seen D.model K.model self.now) }
-    {
-        let place = usize::from(by).wrapping_sub(1);
-        match self.roster.moves.get(place) {
-            Some(moves) => Next::Waits(Pause::Behind {
-                place,
-                moves: *moves,
-            }),
-            None => Next::Goes,
-        }
-    }
-
-    /// A session without a line ends. A worker without a job waits for one, and ends where all is done.
-    fn without_job(&self, actor: Actor) -> Next
-        requires actor { IsActor actor }
-        requires runs { is_some (core_seen self.now.core).stop ≡ false }
-        requires may { (m : Machine) × MayStep (D.model (core_disk self.now.core)) (core_seen self.now.core) m }
-        ensures { GoesWell actor result self.now.roster.moves (course_seen D.model K.model self.now) }
-    {
-        let kind = match actor {
-            POSTER => JobKind::Post,
-            CONSOLIDATOR => JobKind::Merge,
-            FLUSHER => return Next::Goes,
-            _ => return Next::Ends,
-        };
-        if self.is_done() {
-            return Next::Ends;
-        }
-        if self.core.jobs(kind) > 0 {
-            return Next::Goes;
-        }
-        Next::Waits(Pause::NoJob { kind })
     }
 
     /// Whether it is time to flush, or the core is stopped.
@@ -240,19 +191,17 @@ impl<D: Disk, K: Sink> Course<D, K> {
     }
 
     /// What a turn of the actor tells, which changed something or not, and before which the run was so far.
-    fn news(&self, actor: Actor, moved: bool, before: &Mark) -> News
-        requires actor { IsActor actor }
-        requires may { (m : Machine) × MayStep (D.model (core_disk self.now.core)) (core_seen self.now.core) m }
-        ensures { IsNews (actor - 1) moved before.now.settled before.now.round self.now.roster.coming (course_seen D.model K.model self.now) result }
+    fn news(&self, seat: &Seat, moved: bool, before: &Mark) -> News
+        ensures { IsNews (seat.now.actor - 1) moved before.now.settled before.now.round self.now.roster.coming (course_seen D.model K.model self.now) result }
     {
         let done = self.is_done();
         let now = self.mark();
         News {
-            place: usize::from(actor) - 1,
+            place: usize::from(seat.actor) - 1,
             moved,
             stopped: self.is_stopped(),
-            posts: self.core.jobs(JobKind::Post) != 0 || done,
-            merges: self.core.jobs(JobKind::Merge) != 0 || done,
+            posts: self.jobs_left(&JobKind::Post) != 0 || done,
+            merges: self.jobs_left(&JobKind::Merge) != 0 || done,
             flushes: self.left == 0 || self.core.flush_due(),
             settles: now.settled != before.settled
                 || now.round != before.round
@@ -262,7 +211,6 @@ impl<D: Disk, K: Sink> Course<D, K> {
 
     /// Whether what is waited for hasn't come.
     pub(crate) fn still_waits(&self, pause: &Pause) -> bool
-        requires may { (m : Machine) × MayStep (D.model (core_disk self.now.core)) (core_seen self.now.core) m }
         ensures { result ≡ still_waits pause.now self.now.roster.moves self.now.roster.coming (course_seen D.model K.model self.now) }
     {
         self.hasnt_come(pause) && (self.roster.coming || !matches!(pause, Pause::Unsettled { .. }))
@@ -270,7 +218,6 @@ impl<D: Disk, K: Sink> Course<D, K> {
 
     /// The same, but for who lets others come first, as if somebody came.
     fn hasnt_come(&self, pause: &Pause) -> bool
-        requires may { (m : Machine) × MayStep (D.model (core_disk self.now.core)) (core_seen self.now.core) m }
         ensures { result ≡ still_waits pause.now self.now.roster.moves true (course_seen D.model K.model self.now) }
     {
         if self.is_stopped() {
@@ -286,7 +233,6 @@ impl<D: Disk, K: Sink> Course<D, K> {
 
     /// Whether the place of the order isn't settled, in the same round of turns.
     fn is_unsettled(&self, place: usize, round: u64) -> bool
-        requires may { (m : Machine) × MayStep (D.model (core_disk self.now.core)) (core_seen self.now.core) m }
         ensures { result ≡ (not (nat_lt place (settled_of (core_seen self.now.core))) && (round_of (core_seen self.now.core) == round)) }
     {
         let now = self.mark();
@@ -305,7 +251,6 @@ impl<D: Disk, K: Sink> Course<D, K> {
 
     /// How many jobs of the kind are left.
     fn jobs_left(&self, kind: &JobKind) -> u32
-        requires may { (m : Machine) × MayStep (D.model (core_disk self.now.core)) (core_seen self.now.core) m }
         ensures { result ≡ jobs_left kind.now (core_seen self.now.core) }
     {
         match kind {
@@ -316,7 +261,6 @@ impl<D: Disk, K: Sink> Course<D, K> {
 
     /// Whether no line is without an answer, and no job of either kind is left.
     pub(crate) fn is_done(&self) -> bool
-        requires may { (m : Machine) × MayStep (D.model (core_disk self.now.core)) (core_seen self.now.core) m }
         ensures { result ≡ is_done (course_seen D.model K.model self.now) }
     {
         self.left == 0
@@ -337,4 +281,14 @@ fn is_move(turn: &Turn) -> bool
     ensures { result ≡ is_more turn.now }
 {
     matches!(turn, Turn::More)
+}
+
+/// How many answers a step gave.
+fn answers_of(outcome: &Outcome) -> usize
+    ensures { (at : ℕ) → result ≡ length (given_by outcome.now at) }
+{
+    match outcome {
+        Outcome::Answered { .. } => 1,
+        _ => 0,
+    }
 }

@@ -1,10 +1,9 @@
 //! What a run knows of its actors beside the core.
 ghost use Rattle.std.specs.Prelude.{◌≡◌, ◌≢◌, ◌-◌, true};
 ghost use Rattle.std.specs.List.{slice_get};
-ghost use Rattle.hb_space.specs.Actors.{IsActor};
 ghost use Rattle.hb_run.specs.Turning.{CountsMove};
 
-use crate::seats::SESSIONS;
+use crate::seats::{SESSIONS, Seat};
 use crate::turns::Next;
 use hb_space::Actor;
 
@@ -36,13 +35,12 @@ impl Roster {
     }
 
     /// Counts that the actor changed something, where it did.
-    pub(crate) fn count(&mut self, actor: Actor, moved: bool)
-        requires { IsActor actor }
-        ensures counts { CountsMove (actor - 1) moved self.old.moves self.new.moves }
-        ensures another { moved ≡ true → slice_get self.new.moves (actor - 1) ≢ slice_get self.old.moves (actor - 1) }
+    pub(crate) fn count(&mut self, seat: &Seat, moved: bool)
+        ensures counts { CountsMove (seat.now.actor - 1) moved self.old.moves self.new.moves }
+        ensures another { moved ≡ true → slice_get self.new.moves (seat.now.actor - 1) ≢ slice_get self.old.moves (seat.now.actor - 1) }
     {
         if moved {
-            let place = usize::from(actor) - 1;
+            let place = usize::from(seat.actor) - 1;
             self.moves[place] = self.moves[place].wrapping_add(1);
         }
     }

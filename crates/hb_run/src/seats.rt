@@ -63,9 +63,9 @@ impl Crew {
     pub(crate) fn of(poster: bool, consolidator: bool, flusher: bool) -> Crew {
         Crew {
             hands: [
-                hand_for(POSTER, poster),
-                hand_for(CONSOLIDATOR, consolidator),
-                hand_for(FLUSHER, flusher),
+                hand_for(Seat::of(POSTER), poster),
+                hand_for(Seat::of(CONSOLIDATOR), consolidator),
+                hand_for(Seat::of(FLUSHER), flusher),
             ],
         }
     }
@@ -79,11 +79,9 @@ impl Crew {
 }
 
 /// A worker that begins, where it was refused.
-fn hand_for(actor: Actor, refused: bool) -> Hand
-    requires { IsActor actor }
-{
+fn hand_for(seat: Seat, refused: bool) -> Hand {
     Hand {
-        seat: Seat::of(actor),
+        seat,
         next: if refused { Next::Goes } else { Next::Ends },
     }
 }

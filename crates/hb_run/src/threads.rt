@@ -1,9 +1,7 @@
 //! The threads of a run: each session with a line has one, and so have who posts, who merges and who flushes.
-ghost use Rattle.std.specs.Prelude.{◌≡◌, is_some, false, true};
-ghost use Rattle.hb_core.specs.CoreSeen.{core_seen};
 ghost use Rattle.hb_run.specs.CourseSeen.{course_seen};
 ghost use Rattle.hb_run.specs.Courses.{KeepsRun};
-ghost use Rattle.hb_run.specs.Turning.{is_done};
+ghost use Rattle.hb_run.specs.Running.{TurnsAreOver};
 
 use crate::begun::Begun;
 use crate::bells::Bells;
@@ -12,6 +10,7 @@ use crate::gates::{Gate, Place};
 use crate::seats::{CONSOLIDATOR, Crew, FLUSHER, POSTER, SESSIONS, Seat};
 use crate::shared::Shared;
 use crate::turns::{Next, Pause};
+use hb_core::run_laws::runs_go_on;
 use hb_disk::Disk;
 use hb_outside::Sink;
 use std::sync::{Mutex, MutexGuard, Wait};
@@ -45,7 +44,7 @@ impl<R: Wait, N: Begun, D: Disk, K: Sink, G: Gate> Hall<'_, R, N, D, K, G> {
     /// A turn under one hold of the lock, or a look that takes none. Whoever it is news for is rung with the lock let go.
     fn turn(&self, seat: &Seat) -> Next {
         let mut held = self.lock.lock(self.rt);
-        let (next, news) = held.turn(seat.actor);
+        let (next, news) = held.turn(seat);
         drop(held);
         self.bells.ring(news);
         next
@@ -155,19 +154,41 @@ fn work_all<
     });
 }
 
-/// Turns of all actors but who flushes, one after the other, until nothing is left to do or the core is stopped. No other thread has
-/// the run.
-fn work_off<R: Wait, N: Begun, D: Disk, K: Sink>(rt: &R, course: Course<D, K>) -> Course<D, K>
-    requires { KeepsRun N.beginning (course_seen D.model K.model course) }
-    ensures keeps { KeepsRun N.beginning (course_seen D.model K.model result) }
-    ensures whole { is_some (core_seen result.core).stop ≡ false → is_done (course_seen D.model K.model result) ≡ true }
+/// All turns of the threads of a run. It returns once all have ended.
+pub(crate) fn take_turns<
+    R: Threads + Wait + Sync,
+    N: Begun + Send + Sync,
+    D: Disk + Send,
+    K: Sink + Send,
+    G: Gate + Sync,
+>(rt: &R, run: Shared<N, D, K>, gate: &G, bells: &Bells, sessions: &mut [Seat]) -> Shared<N, D, K> {
+    let lock = Mutex::new(run);
+    let hall = Hall {
+        rt,
+        lock: &lock,
+        bells,
+        gate,
+    };
+    work_all(rt, &hall, sessions);
+    drop(hall);
+    lock.into_inner()
+}
+
+/// Turns of all actors but who flushes, one after the other, until nothing is left to do or the core is stopped: the caller's, where the
+/// threads left something.
+pub(crate) fn work_off<R: Wait, N: Begun, D: Disk, K: Sink>(
+    rt: &R,
+    run: Shared<N, D, K>,
+) -> Course<D, K>
+    ensures { TurnsAreOver N.beginning (course_seen D.model K.model result) }
 {
-    let mut run = course;
+    let Shared { course, name: _ } = run;
+    let mut course = course;
     for _ in rt.forever() {
-        if run.is_stopped() || run.is_done() {
-            return run;
+        if course.is_stopped() || course.is_done() {
+            return course;
         }
-        turn_each::<N, D, K>(&mut run);
+        turn_each::<N, D, K>(&mut course);
     }
     unreachable!()
 }
@@ -177,31 +198,8 @@ fn turn_each<N: Begun, D: Disk, K: Sink>(course: &mut Course<D, K>)
     requires { KeepsRun N.beginning (course_seen D.model K.model course.old) }
     ensures { KeepsRun N.beginning (course_seen D.model K.model course.new) }
 {
+    runs_go_on();
     for actor in 1..FLUSHER {
-        let _turn = course.turn::<N>(actor);
+        let _turn = course.turn(&Seat::of(actor));
     }
-}
-
-/// All turns of a run: those of the threads, until all have ended, and the caller's, where they left something.
-pub(crate) fn take_turns<
-    R: Threads + Wait + Sync,
-    N: Begun + Send + Sync,
-    D: Disk + Send,
-    K: Sink + Send,
-    G: Gate + Sync,
->(rt: &R, course: Course<D, K>, gate: &G, bells: &Bells, sessions: &mut [Seat]) -> Course<D, K>
-    requires { KeepsRun N.beginning (course_seen D.model K.model course) }
-    ensures keeps { KeepsRun N.beginning (course_seen D.model K.model result) }
-    ensures whole { is_some (core_seen result.core).stop ≡ false → is_done (course_seen D.model K.model result) ≡ true }
-{
-    let lock: Mutex<Shared<N, D, K>> = Mutex::new(Shared::new(course));
-    let hall = Hall {
-        rt,
-        lock: &lock,
-        bells,
-        gate,
-    };
-    work_all(rt, &hall, sessions);
-    drop(hall);
-    work_off::<R, N, D, K>(rt, lock.into_inner().into_course())
 }

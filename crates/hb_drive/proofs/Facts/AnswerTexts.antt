@@ -1,5 +1,5 @@
 -- Texts of answers, for whoever puts them one by one.
-use Rattle.std.proofs.Common.{◌≡◌, List, [], Result, Ok}
+use Rattle.std.proofs.Common.{◌≡◌, List, [], Ok}
 use Rattle.std.specs.List.{flat_map}
 use Rattle.hb_outside.specs.Calls.{Puts, SinkModel}
 use Rattle.hb_outside.proofs.Facts.PutLaws.{Puts-none}

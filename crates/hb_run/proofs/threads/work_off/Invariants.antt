@@ -3,4 +3,4 @@ use Rattle.hb_run.specs.Courses.{KeepsRun}
 use Rattle.hb_run.proofs.threads.work_off.Given as goal
 
 abbrev pub invariant-loop : goal.invariant-loop
-invariant-loop g l = KeepsRun g.N.Begun.beginning (course_seen g.D.Device.model g.K.Sink.model l.run)
+invariant-loop g l = KeepsRun g.N.Begun.beginning (course_seen g.D.Device.model g.K.Sink.model l.course)

@@ -34,7 +34,7 @@ returns-in-Ok g c =
     let facts : RanText M S exactly (core_disk c.in-Ok.core) (core_disk c.drive.result.core) c.finish.result.disk c.args.sink c.drive.result.sink c.finish.result.sink (core_seen c.in-Ok.core) (core_seen c.drive.result.core)
     c.drive.result.end c.drive.result.answered.items c.finish.result.answered.items c.finish.result.order.items c.finish.result.status = record {
       unbegun = c.drive.ensures.unbegun;
-      drives = λ some m may. ((core_seen c.in-Ok.core).steps, c.drive.ensures.drives some m may, refl);
+      drives = λ some m may. ((core_seen c.in-Ok.core).steps, c.drive.ensures.runs some m may, refl);
       later = c.drive.ensures.later;
       ended = c.finish.ensures;
     } in

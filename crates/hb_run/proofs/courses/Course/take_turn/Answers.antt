@@ -1,28 +1,12 @@
 use Rattle.std.proofs.Common.{ℕ, ◌-◌, Bool, List, subst, sym}
 use Rattle.hb_run.specs.CourseSeen.{course_seen}
 use Rattle.hb_run.specs.Turning.{CountsMove, IsNews, settled_of}
-use Rattle.hb_run.proofs.Going.{may_turn}
 use Rattle.hb_run.proofs.Waking.{wakes_all}
 use Rattle.hb_run.proofs.courses.Course.take_turn.Goals as goal
 
-pub mark-before-requires : goal.mark-before-requires
-mark-before-requires g c = record { may = may_turn _ (course_seen g.D.Device.model g.K.Sink.model c.args.self.now) c.requires.keeps }
-
-pub news-news-requires-clause-may : goal.news-news-requires-clause-may
-news-news-requires-clause-may g c = may_turn _ (course_seen g.D.Device.model g.K.Sink.model c.args.self.now) c.requires.keeps
-
-pub next-next-requires-clause-may : goal.next-next-requires-clause-may
-next-next-requires-clause-may g c = may_turn _ (course_seen g.D.Device.model g.K.Sink.model c.turn-turn.new.self) c.turn-turn.ensures.keeps
-
-pub anyone_comes-self-requires : goal.anyone_comes-self-requires
-anyone_comes-self-requires g c = record { may = may_turn _ (course_seen g.D.Device.model g.K.Sink.model c.turn-turn.new.self) c.turn-turn.ensures.keeps }
-
-pub news-news-requires-2-clause-may : goal.news-news-requires-2-clause-may
-news-news-requires-2-clause-may g c = may_turn _ (course_seen g.D.Device.model g.K.Sink.model c.turn-turn.new.self) c.turn-turn.ensures.keeps
-
 pub returns-clause-wakes : goal.returns-clause-wakes
 returns-clause-wakes g c =
-    let place = c.args.actor - 1 in
+    let place = c.args.seat.now.actor - 1 in
     let old = course_seen g.D.Device.model g.K.Sink.model c.args.self.now in
     let new = course_seen g.D.Device.model g.K.Sink.model c.turn-turn.new.self in
     let moved = c.is_move.result in

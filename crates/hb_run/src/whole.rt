@@ -1,5 +1,5 @@
-//! The end of a run.
-ghost use Rattle.std.specs.Prelude.{◌≡◌, ◌≢◌, ◌≤◌, [], true, false, is_some, length, vec_capacity};
+//! A whole run, from its first turn to its end.
+ghost use Rattle.std.specs.Prelude.{◌≡◌, ◌≢◌, ◌≤◌, [], length, vec_capacity};
 ghost use Rattle.hb_core.specs.declared.endings.End.TheVariants as ends;
 ghost use Rattle.hb_core.specs.CoreSeen.{core_seen, core_disk};
 ghost use Rattle.hb_core.specs.Machines.{Machine};
@@ -7,26 +7,51 @@ ghost use Rattle.hb_core.specs.Working.{MayStep};
 ghost use Rattle.hb_run.specs.CourseSeen.{course_seen};
 ghost use Rattle.hb_run.specs.Courses.{KeepsRun};
 ghost use Rattle.hb_run.specs.Running.{RunsTo};
-ghost use Rattle.hb_run.specs.Turning.{is_done};
 
 use crate::begun::Begun;
+use crate::bells::Bells;
 use crate::courses::Course;
+use crate::gates::Gate;
+use crate::seats::Seat;
+use crate::shared::Shared;
+use crate::threads::{take_turns, work_off};
 use hb_core::Ran;
 use hb_disk::Disk;
 use hb_drive::{end_of, put_rest};
 use hb_outside::Sink;
+use std::marker::PhantomData;
+use std::sync::Wait;
+use std::thread::Threads;
 
-/// Puts what follows the replies, and says how the run ended. There has to be room for the number of each line.
-pub(crate) fn finish<N: Begun, D: Disk, K: Sink>(course: Course<D, K>, left: Vec<u32>) -> Ran<D, K>
+/// Takes all turns of a run, puts what follows the replies, and says how the run ended. The name `N` is of its beginning. There has to be
+/// room for the number of each line.
+pub(crate) fn run_whole<
+    R: Threads + Wait + Sync,
+    N: Begun + Send + Sync,
+    D: Disk + Send,
+    K: Sink + Send,
+    G: Gate + Sync,
+>(
+    rt: &R,
+    course: Course<D, K>,
+    gate: &G,
+    bells: &Bells,
+    sessions: &mut [Seat],
+    numbers: Vec<u32>,
+) -> Ran<D, K>
     requires keeps { KeepsRun N.beginning (course_seen D.model K.model course) }
-    requires whole { is_some (core_seen course.core).stop ≡ false → is_done (course_seen D.model K.model course) ≡ true }
-    requires none { left.items ≡ [] }
-    requires room { length N.beginning.core.lines ≤ vec_capacity left }
+    requires none { numbers.items ≡ [] }
+    requires room { length N.beginning.core.lines ≤ vec_capacity numbers }
     ensures begun { result.end ≢ ends.NoMemory }
     ensures runs { (m : Machine) → MayStep N.beginning.disk N.beginning.core m →
         RunsTo m result.answered.items N.beginning.disk (D.model (core_disk result.core)) (core_seen result.core) result.end N.beginning.sink (K.model result.sink) }
     ensures later { N.beginning.sink.faults ≤ (K.model result.sink).faults }
 {
+    let shared: Shared<N, D, K> = Shared {
+        course,
+        name: PhantomData,
+    };
+    let over = work_off(rt, take_turns(rt, shared, gate, bells, sessions));
     let Course {
         core,
         mut sink,
@@ -34,8 +59,8 @@ pub(crate) fn finish<N: Begun, D: Disk, K: Sink>(course: Course<D, K>, left: Vec
         answered,
         left: _,
         roster: _,
-    } = course;
-    let mut left = left;
+    } = over;
+    let mut left = numbers;
     core.unanswered(&mut left);
     let stop = core.stop();
     let last = put_rest(
