@@ -1,5 +1,5 @@
 use Rattle.std.proofs.Common.{rules, ◌≡◌, Some, refl, sym}
-use Rattle.hbpi.proofs.RunsOf.{of_form, refused_words, runs_form}
+use Rattle.hbpi.proofs.RunsOf.{of_form, refused_words}
 use Rattle.hbpi.specs.SeenRuns.{Seen, seen_by}
 use Rattle.hbpi.specs.declared.forms.Form.TheVariants.{Check, Create, Gen, Map}
 use Rattle.hbpi.proofs.top.run_without_threads.Goals as goal
@@ -13,14 +13,9 @@ returns-in-None g c =
 
 pub returns-in-Some-Create : goal.returns-in-Some-Create
 returns-in-Some-Create g c =
-    let source = g.S.Source.model c.args.source.now in
     let said = c.in-Some-Create in
-    let made = c.create_file.ensures in
-    let left = c.create_file.result in
-    let seen : Seen = seen_by source source (g.K.Sink.model c.args.sink) (g.K.Sink.model left.sink) left.answered.items left.order.items in
     let is : c.args.asked.form ≡ Some (Create said.k said.pages said.log said.dcap said.icap) = search rules in
-    of_form (sym is)
-    (runs_form g.D.Device.model (Some (Create said.k said.pages said.log said.dcap said.icap)) seen c.args.disk left.disk left.status (made.ends source) made.opens made.beyond made.unmade)
+    of_form (sym is) (c.create_file.ensures (g.S.Source.model c.args.source.now))
 
 pub returns-in-Some-Gen : goal.returns-in-Some-Gen
 returns-in-Some-Gen g c =
