@@ -10,8 +10,8 @@ use crate::shapes::{Beside, Row};
 use hb_disk::{Device, MemDisk};
 use hb_frag::Side;
 use hb_log_codec::{Group, decode_all, encode};
-use hb_space::{Attributes, NoMemory};
 use hb_space::form::{KMAX, PAGE};
+use hb_space::{Attributes, NoMemory};
 use hb_wal::{Payloads, read_area};
 use std::alloc::{AllocError, Global};
 
