@@ -1,6 +1,6 @@
 -- Two records leaves whose points rise are one whose points do, once a plane has parted their boxes.
 use Rattle.std.proofs.Common.{◌≡◌, ◌≢◌, ℕ, zero, suc, ◌<◌, ◌≤◌, ◌-◌, inl, inr, true, false, cond, List, [], ◌∷◌, ◌++◌, length, get_or, refl, sym, ap, subst, ◌∙◌, arith}
-use Rattle.std.specs.List.{All, AllPairs}
+use Rattle.std.specs.List.{All, AllByRecursion, AllPairs}
 use Rattle.std.specs.Ordering.{is_gt, ordering_reverse}
 use Rattle.std.specs.declared.cmp.Ordering.{Ordering}
 use Rattle.std.specs.declared.cmp.Ordering.TheVariants.{Less, Equal, Greater}
@@ -19,6 +19,7 @@ use Rattle.hb_frag.specs.declared.leaves.Leaf.TheVariants.{Records}
 use Rattle.hb_frag.specs.Rules.{Precedes, IsInOrder}
 use Rattle.hb_frag.specs.Normal.{with_record_in_order, in_point_order}
 use Rattle.hb_frag.proofs.Facts.PointOrder.{order_permutes}
+use Rattle.hb_frag.proofs.Facts.RisingRecords.{Rise, rising}
 use Rattle.hb_lemmas.proofs.Lists.{All-alone}
 
 -- the order of two points, told by the test
@@ -46,15 +47,6 @@ differ_where_less r s h e =
     let no : Less ≡ Greater = sym own ∙ back ∙ ap ordering_reverse own in
     cc
 
--- records behind one, and lists whose points rise
-abbrev EachAfter : Record → List Record → Type 0
-EachAfter r [] = Unit {0}
-EachAfter r (s ∷ xs) = Precedes r s × EachAfter r xs
-
-abbrev Rises : List Record → Type 0
-Rises [] = Unit {0}
-Rises (r ∷ xs) = EachAfter r xs × Rises xs
-
 -- records of other points than one, and lists in which no point stands twice
 abbrev Apart : Record → List Record → Type 0
 Apart r [] = Unit {0}
@@ -64,14 +56,14 @@ abbrev AllApart : List Record → Type 0
 AllApart [] = Unit {0}
 AllApart (r ∷ xs) = Apart r xs × AllApart xs
 
-each_after_put : (z r : Record) (xs : List Record) → EachAfter z xs → Precedes z r → EachAfter z (with_record_in_order r xs)
+each_after_put : (z r : Record) (xs : List Record) → AllByRecursion (Precedes z) xs → Precedes z r → AllByRecursion (Precedes z) (with_record_in_order r xs)
 each_after_put z r [] h k = (k, tt)
-each_after_put z r (s ∷ xs) h k = elim (is_gt (point_cmp r.key s.key)) as (λ b. EachAfter z (cond b (s ∷ with_record_in_order r xs) (r ∷ s ∷ xs))) [
+each_after_put z r (s ∷ xs) h k = elim (is_gt (point_cmp r.key s.key)) as (λ b. AllByRecursion (Precedes z) (cond b (s ∷ with_record_in_order r xs) (r ∷ s ∷ xs))) [
   | true ↦ (h.0, each_after_put z r xs h.1 k)
   | false ↦ (k, h)
 ]
 
-each_after_then : (r s : Record) (xs : List Record) → Precedes r s → EachAfter s xs → EachAfter r xs
+each_after_then : (r s : Record) (xs : List Record) → Precedes r s → AllByRecursion (Precedes s) xs → AllByRecursion (Precedes r) xs
 each_after_then r s [] h k = tt
 each_after_then r s (x ∷ xs) h k = (nat_list_cmp_total.trans r.key s.key x.key h k.0, each_after_then r s xs h k.1)
 
@@ -86,29 +78,18 @@ apart_order : (z : Record) (xs : List Record) → Apart z xs → Apart z (in_poi
 apart_order z [] h = tt
 apart_order z (r ∷ xs) h = apart_put z r (in_point_order xs) (apart_order z xs h.1) h.0
 
-rises_put : (r : Record) (xs : List Record) → Rises xs → Apart r xs → Rises (with_record_in_order r xs)
+rises_put : (r : Record) (xs : List Record) → Rise xs → Apart r xs → Rise (with_record_in_order r xs)
 rises_put r [] h k = (tt, tt)
-rises_put r (s ∷ xs) h k = elim (is_gt (point_cmp r.key s.key)) as (λ b. is_gt (point_cmp r.key s.key) ≡ b → Rises (cond b (s ∷ with_record_in_order r xs) (r ∷ s ∷ xs))) [
+rises_put r (s ∷ xs) h k = elim (is_gt (point_cmp r.key s.key)) as (λ b. is_gt (point_cmp r.key s.key) ≡ b → Rise (cond b (s ∷ with_record_in_order r xs) (r ∷ s ∷ xs))) [
   | true ↦ λ e. (each_after_put s r xs h.0 (less_from_test s.key r.key e), rises_put r xs h.1 k.1)
   | false ↦ λ e. let less = less_unless_same r.key s.key k.0 e in ((less, each_after_then r s xs less h.0), h)
 ] refl
 
-rises_order : (xs : List Record) → AllApart xs → Rises (in_point_order xs)
+rises_order : (xs : List Record) → AllApart xs → Rise (in_point_order xs)
 rises_order [] h = tt
 rises_order (r ∷ xs) h = rises_put r (in_point_order xs) (rises_order xs h.1) (apart_order r xs h.0)
 
--- between these and pairs of places
-after_at : (r : Record) (xs : List Record) (k : ℕ) (d : Record) → EachAfter r xs → k < length xs → Precedes r (get_or xs k d)
-after_at r [] k d h l = absurd (omega arith)
-after_at r (x ∷ xs) zero d h l = h.0
-after_at r (x ∷ xs) (suc k) d h l = after_at r xs k d h.1 (omega arith)
-
-pairs_rise : (xs : List Record) → Rises xs → AllPairs Precedes xs
-pairs_rise [] h i j d before l = absurd (omega arith)
-pairs_rise (x ∷ xs) h i zero d before l = absurd (omega arith)
-pairs_rise (x ∷ xs) h zero (suc j) d before l = after_at x xs j d h.0 (omega arith)
-pairs_rise (x ∷ xs) h (suc i) (suc j) d before l = pairs_rise xs h.1 i j d (omega arith) (omega arith)
-
+-- pairs of places
 apart_after : (r : Record) (xs : List Record) → ((k : ℕ) (d : Record) → k < length xs → Precedes r (get_or xs k d)) → Apart r xs
 apart_after r [] h = tt
 apart_after r (x ∷ xs) h = (differ_where_less r x (h zero x (omega arith)), apart_after r xs (λ k d l. h (suc k) d (omega arith)))
@@ -171,5 +152,5 @@ order_of_both axis value xs ys a cuts k =
     All-alone IsInOrder (record { leaf = Records zs; area = a }) (record {
       inside = All-permutation (λ r. Holds a r.key) (xs ++ ys) zs (order_permutes (xs ++ ys))
           (All-append (λ r. Holds a r.key) xs ys (λ i d l. (below (get_or xs i d).key (left.inside i d l)).0) (λ i d l. (from (get_or ys i d).key (right.inside i d l)).0));
-      rising = pairs_rise zs (rises_order (xs ++ ys) apart);
+      rising = rising zs (rises_order (xs ++ ys) apart);
     })
