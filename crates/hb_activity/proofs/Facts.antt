@@ -6,3 +6,4 @@ pub mod NoPlace
 pub mod OneLeaf
 pub mod OneRecord
 pub mod GivenPages
+pub mod QueueParts

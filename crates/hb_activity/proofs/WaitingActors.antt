@@ -1,7 +1,7 @@
 -- Who waits for whom.
 use Rattle.std.proofs.Common.{◌≡◌, ℕ, Option, Some}
 use Rattle.hb_latch.specs.Tables.{LatchTable, IsGrantable, IsLeastInTheWay}
-use Rattle.hb_latch.proofs.InTheWay.{nobody_keeps}
+use Rattle.hb_latch.proofs.Facts.InTheWay.{nobody_keeps}
 use Rattle.hb_activity.specs.declared.wanting.Wanted.{Wanted}
 use Rattle.hb_activity.specs.Waiting.{WaitsFor}
 

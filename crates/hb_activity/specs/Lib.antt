@@ -11,4 +11,5 @@ pub mod Sights
 pub mod Passing
 pub mod Deciding
 pub mod OneDeed
+pub mod OneFit
 pub mod Examples

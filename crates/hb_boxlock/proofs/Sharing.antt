@@ -1,11 +1,10 @@
 -- Locks of two actors that meet are shared, before and after each call.
-use Rattle.std.proofs.Common.{◌≡◌, ◌≢◌, inl, inr, ℕ, ◌≤◌, ◌&&◌, Bool, true, false, not, cond, length, slice_index, max, min, Option, Some, None, IsTrue, IfSome, refl, sym, ap, subst, ◌∙◌, ne_eqb, eq-eqb, arith}
-use Rattle.std.proofs.Math.Nat.{max_comm, min_comm}
+use Rattle.std.proofs.Common.{◌≡◌, ◌≢◌, inl, inr, ℕ, ◌&&◌, Bool, true, false, not, cond, length, Option, Some, None, IsTrue, IfSome, refl, sym, ap, subst, ◌∙◌, ne_eqb, eq-eqb}
 use Rattle.std.proofs.lemmas.Bool.{cases_eq, false≢true}
 use Rattle.std.specs.FinMap as map
 use Rattle.std.specs.Ordering.{nat_cmp}
 use Rattle.std.specs.Option.{IsSomeAnd}
-use Rattle.hb_space.specs.Boxes.{Area, Meets}
+use Rattle.hb_space.specs.Boxes.{Meets}
 use Rattle.hb_space.proofs.Facts.Boxes.{Meets-back, Meets-from_point}
 use Rattle.hb_boxlock.specs.declared.locks.BoxLock.{BoxLock}
 use Rattle.hb_boxlock.specs.Laws.{AloneHasItsPoints, ReleasedMayBeHad, ReleasingKeepsThemShared, SharedKeepsNone, TakingKeepsThemShared}

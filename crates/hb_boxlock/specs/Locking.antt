@@ -1,5 +1,5 @@
 -- What contracts see of locks on boxes.
-use Rattle.std.specs.Prelude.{◌≡◌, ◌≢◌, ℕ, ◌<◌, ◌≤◌, Bool, ◌&&◌, not, length, Option, Some, IsTrue, IfSome, IsSomeAnd}
+use Rattle.std.specs.Prelude.{◌≡◌, ◌≢◌, ℕ, ◌<◌, Bool, ◌&&◌, not, length, Option, Some, IsTrue, IfSome, IsSomeAnd}
 use Rattle.std.specs.FinMap as map
 use Rattle.std.specs.Ordering.{nat_cmp}
 use Rattle.hb_space.specs.Boxes.{Area, Meets}

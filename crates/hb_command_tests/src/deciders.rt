@@ -16,7 +16,7 @@ ghost use Rattle.hb_view.specs.Views.{IsLive, IsLiveAnd};
 use crate::activities::point;
 use crate::jobs::{job, show};
 use crate::spelled::{bytes_of, fits_file, has_point};
-use hb_activity::{Activity, Fate, Job, JobKind, Next};
+use hb_activity::{Activity, Fate, Job, JobKind, Latched, Next};
 use hb_frag::{Frag, Leaf, LivePage, Node, Path, Side};
 use hb_ops::{Cuts, Meta, Op, Standing, has_room, local_rule, look_at};
 use hb_set::{Command, Line, Reply};
@@ -172,13 +172,12 @@ pub(crate) fn is_inside(page: &LivePage, point: &Point) -> bool
 
 // Whether the page has no record at the point of the record, and no room for it.
 #[tactic(auto, using(hb_point::proofs::Facts::RecordLeaves::no_room_left))]
-fn is_full(page: &LivePage, meta: &Meta, rec: &Record) -> bool
-    requires layout { IsLayout meta.now }
-    requires made { FitsFile meta.now page.now }
-    requires inside { Holds page.now.area rec.now.key }
-    ensures absent { IsTrue result → StandsNot page.now rec.now.key }
-    ensures full { IsTrue result → meta.now.dcap < weight_of (put_page rec.now page.now).frag }
+fn is_full(latched: Latched<'_>, rec: &Record) -> bool
+    requires { Holds latched.page.now.area rec.now.key }
+    ensures absent { IsTrue result → StandsNot latched.entry.page.now rec.now.key }
+    ensures full { IsTrue result → latched.entry.meta.now.dcap < weight_of (put_page rec.now latched.entry.page.now).frag }
 {
+    let Latched { page, meta, .. } = latched;
     match look_at(page, meta, &rec.key) {
         Standing::Absent => !has_room(page, meta, rec),
         Standing::There(_) | Standing::Elsewhere(_) => false,
@@ -196,19 +195,17 @@ fn line(command: Command) -> Line
     }
 }
 
-fn split(alloc: Global, page: &LivePage, rec: Record, meta: &Meta) -> Option<Next>
-    requires layout { IsLayout meta.now }
-    requires made { FitsFile meta.now page.now }
-    requires live { meta.now.live ≤ meta.now.pages }
+fn split(alloc: Global, latched: Latched<'_>, rec: Record) -> Option<Next>
+    requires { latched.meta.now.live ≤ latched.meta.now.pages }
 {
-    if !is_inside(page, &rec.key) || !is_full(page, meta, &rec) {
+    if !is_inside(latched.page, &rec.key) || !is_full(latched, &rec) {
         return None;
     }
     let state = Activity::SessionSplit {
         line: line(Command::Insert(rec)),
-        held: 5,
+        held: latched.id,
     };
-    hb_point::next(alloc, state, 5, page, None, None, free_of(meta), meta).ok()
+    hb_point::next(alloc, state, latched, None, free_of(latched.meta)).ok()
 }
 
 // The step of a walk at the page, which is read from its bytes.
@@ -255,27 +252,15 @@ fn may_look(meta: &Meta, job: &Job, over: &LivePage, child: &LivePage) -> bool
     }
 }
 
-fn post(alloc: Global, over: &LivePage, child: &LivePage, job: Job, meta: &Meta) -> Option<Next>
-    requires layout { IsLayout meta.now }
-    requires over { FitsFile meta.now over.now }
-    requires child { FitsFile meta.now child.now }
-    requires live { meta.now.live ≤ meta.now.pages }
+fn post(alloc: Global, over: &LivePage, child: Latched<'_>, job: Job) -> Option<Next>
+    requires over { FitsFile child.meta.now over.now }
+    requires live { child.meta.now.live ≤ child.meta.now.pages }
 {
-    if !may_look(meta, &job, over, child) {
+    if !may_look(child.meta, &job, over, child.page) {
         return None;
     }
     let state = Activity::PosterAgain { job, parent: 3 };
-    hb_poster::next(
-        alloc,
-        state,
-        1,
-        child,
-        Some(over),
-        None,
-        free_of(meta),
-        meta,
-    )
-    .ok()
+    hb_poster::next(alloc, state, child, Some(over), free_of(child.meta)).ok()
 }
 
 // The step of the poster at the page and the child below it.
@@ -288,7 +273,12 @@ fn posted(alloc: Global, page: &LivePage, value: u32, meta: &Meta) -> Option<Nex
     if !fits(&child, meta) {
         return None;
     }
-    post(alloc, page, &child, job(JobKind::Post, 1, value), meta)
+    let child = Latched {
+        id: 1,
+        page: &child,
+        meta,
+    };
+    post(alloc, page, child, job(JobKind::Post, 1, value))
 }
 
 // What the step comes to.
@@ -304,7 +294,7 @@ fn next_of(alloc: Global, step: &str, page: &LivePage, value: u32, meta: &Meta) 
         return None;
     }
     match step {
-        "split" => split(alloc, page, rec, meta),
+        "split" => split(alloc, Latched { id: 5, page, meta }, rec),
         "lookup" => walk(alloc, page, Command::Lookup(rec.key), meta),
         "delete" => walk(alloc, page, Command::Delete(rec.key), meta),
         _ => walk(alloc, page, Command::Insert(rec), meta),

@@ -6,7 +6,7 @@ ghost use Rattle.hb_ops.specs.Sound.{FitsFile};
 
 use crate::deciders::{cut_at, fits, is_inside, meta, records, show_op};
 use crate::jobs::{job, show};
-use hb_activity::{Activity, Job, JobKind, Next};
+use hb_activity::{Activity, Job, JobKind, Latched, Next};
 use hb_frag::{Frag, Leaf, LivePage};
 use hb_layout::Meta;
 use hb_space::Area;
@@ -86,54 +86,37 @@ fn shown(alloc: Global, next: &Next) -> Option<String> {
     Some(text)
 }
 
-fn walk(alloc: Global, above: &LivePage, meta: &Meta) -> Option<Next>
-    requires layout { IsLayout meta.now }
-    requires above { FitsFile meta.now above.now }
-{
+fn walk(alloc: Global, above: Latched<'_>) -> Option<Next> {
     let job = job(JobKind::Merge, 1, 50);
-    if above.level < 1 || !is_inside(above, &job.point) {
+    if above.page.level < 1 || !is_inside(above.page, &job.point) {
         return None;
     }
     let state = Activity::ConsolidatorWalk { job, held: None };
-    hb_consol::next(alloc, state, 3, above, None, None, None, meta).ok()
+    hb_consol::next(alloc, state, above, None, None).ok()
 }
 
-fn scan(alloc: Global, child: u32, above: &LivePage, page: &LivePage, meta: &Meta) -> Option<Next>
-    requires layout { IsLayout meta.now }
-    requires page { FitsFile meta.now page.now }
-{
+fn scan(alloc: Global, child: Latched<'_>, above: &LivePage) -> Option<Next> {
     let state = Activity::ConsolidatorScan {
         job: job(JobKind::Merge, 1, 50),
         parent: 3,
-        child,
+        child: child.id,
     };
-    hb_consol::next(alloc, state, child, page, Some(above), None, None, meta).ok()
+    hb_consol::next(alloc, state, child, Some(above), None).ok()
 }
 
-fn keep(alloc: Global, kept: &LivePage, meta: &Meta) -> Option<Next>
-    requires layout { IsLayout meta.now }
-    requires kept { FitsFile meta.now kept.now }
-{
+fn keep(alloc: Global, kept: Latched<'_>) -> Option<Next> {
     let state = Activity::ConsolidatorKeep {
         job: job(JobKind::Merge, 1, 50),
         parent: 3,
         keep: 1,
         gone: 2,
     };
-    hb_consol::next(alloc, state, 1, kept, None, None, None, meta).ok()
+    hb_consol::next(alloc, state, kept, None, None).ok()
 }
 
-fn try_pair(
-    alloc: Global,
-    above: &LivePage,
-    kept: &LivePage,
-    page: &LivePage,
-    meta: &Meta,
-) -> Option<Next>
-    requires layout { IsLayout meta.now }
-    requires above { FitsFile meta.now above.now }
-    requires kept { FitsFile meta.now kept.now }
-    requires page { FitsFile meta.now page.now }
+fn try_pair(alloc: Global, page: Latched<'_>, above: &LivePage, kept: &LivePage) -> Option<Next>
+    requires above { FitsFile page.meta.now above.now }
+    requires kept { FitsFile page.meta.now kept.now }
 {
     let state = Activity::ConsolidatorTry {
         job: job(JobKind::Merge, 1, 50),
@@ -142,20 +125,12 @@ fn try_pair(
         gone: 2,
         leaf: 2,
     };
-    hb_consol::next(alloc, state, 2, page, Some(above), Some(kept), None, meta).ok()
+    hb_consol::next(alloc, state, page, Some(above), Some(kept)).ok()
 }
 
-fn decide(
-    alloc: Global,
-    above: &LivePage,
-    kept: &LivePage,
-    page: &LivePage,
-    meta: &Meta,
-) -> Option<Next>
-    requires layout { IsLayout meta.now }
-    requires above { FitsFile meta.now above.now }
-    requires kept { FitsFile meta.now kept.now }
-    requires page { FitsFile meta.now page.now }
+fn decide(alloc: Global, page: Latched<'_>, above: &LivePage, kept: &LivePage) -> Option<Next>
+    requires above { FitsFile page.meta.now above.now }
+    requires kept { FitsFile page.meta.now kept.now }
 {
     let job = job(JobKind::Merge, 1, 50);
     if above.level != job.level {
@@ -167,7 +142,16 @@ fn decide(
         keep: 1,
         gone: 2,
     };
-    hb_consol::next(alloc, state, 2, page, Some(above), Some(kept), None, meta).ok()
+    hb_consol::next(alloc, state, page, Some(above), Some(kept)).ok()
+}
+
+// The page as a step latches it.
+fn latched<'a>(id: u32, page: &'a LivePage, meta: &'a Meta) -> Latched<'a>
+    requires layout { IsLayout meta.now }
+    requires fits { FitsFile meta.now page.now }
+    ensures { result.meta.now ≡ meta.now }
+{
+    Latched { id, page, meta }
 }
 
 fn next_of(alloc: Global, step: &str, meta: &Meta) -> Option<Next> {
@@ -177,13 +161,14 @@ fn next_of(alloc: Global, step: &str, meta: &Meta) -> Option<Next> {
     if !meta.is_layout() || !fits(&above, meta) || !fits(&kept, meta) || !fits(&page, meta) {
         return None;
     }
+    let gone = latched(2, &page, meta);
     match step {
-        "walk" => walk(alloc, &above, meta),
-        "scan 1" => scan(alloc, 1, &above, &kept, meta),
-        "scan 2" => scan(alloc, 2, &above, &page, meta),
-        "keep" => keep(alloc, &kept, meta),
-        "try" => try_pair(alloc, &above, &kept, &page, meta),
-        _ => decide(alloc, &above, &kept, &page, meta),
+        "walk" => walk(alloc, latched(3, &above, meta)),
+        "scan 1" => scan(alloc, latched(1, &kept, meta), &above),
+        "scan 2" => scan(alloc, gone, &above),
+        "keep" => keep(alloc, latched(1, &kept, meta)),
+        "try" => try_pair(alloc, gone, &above, &kept),
+        _ => decide(alloc, gone, &above, &kept),
     }
 }
 

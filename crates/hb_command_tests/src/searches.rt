@@ -5,7 +5,7 @@ ghost use Rattle.std.specs.Prelude.{IsTrue, IfSome};
 ghost use Rattle.hb_search.specs.Searching.{MaySearch, StaysGathering};
 
 use crate::deciders::{fits, is_inside};
-use hb_activity::Activity;
+use hb_activity::{Activity, Latched};
 use hb_frag::{Frag, Leaf, LivePage};
 use hb_ops::Meta;
 use hb_set::{Command, Line, Reply};
@@ -198,7 +198,7 @@ fn step(alloc: Global, state: Activity, id: u32, page: &LivePage, meta: &Meta) -
     if !meta.is_layout() || !fits(page, meta) || !may_ask(&state, page) {
         return None;
     }
-    match hb_search::next(alloc, state, id, page, None, None, None, meta) {
+    match hb_search::next(alloc, state, Latched { id, page, meta }) {
         Ok(next) => Some(next.then),
         Err(_) => None,
     }

@@ -1,5 +1,5 @@
 -- A merge that the consolidator decides is allowed on the pages that its row is given.
-use Rattle.std.proofs.Common.{◌≡◌, ℕ, ◌+◌, ◌<◌, inl, inr, Some, refl, subst, arith}
+use Rattle.std.proofs.Common.{◌≡◌, ℕ, ◌<◌, inl, inr, Some, refl, subst, arith}
 use Rattle.hb_activity.proofs.Facts.AllowedDeeds.{Shows, none_shown, one_shown}
 use Rattle.hb_activity.specs.declared.jobs.Job.{Job}
 use Rattle.hb_activity.specs.Deeds.{Deed}

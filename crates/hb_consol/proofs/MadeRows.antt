@@ -1,8 +1,8 @@
 -- The parts of the decider together are the row that was asked for.
-use Rattle.std.proofs.Common.{◌≡◌, ◌≢◌, ◌⊎◌, inl, inr, ℕ, ◌+◌, ◌<◌, ◌≤◌, ◌==◌, Bool, true, false, cond, List, [], ◌∷◌, length, map, sum, Option, Some, refl, ap, ◌∙◌, arith, eq-eqb, ne_eqb}
+use Rattle.std.proofs.Common.{◌≡◌, ◌≢◌, ◌⊎◌, inl, inr, ℕ, ◌+◌, ◌<◌, ◌≤◌, ◌==◌, true, false, cond, List, [], ◌∷◌, length, map, sum, Option, ◌∙◌, arith}
 use Rattle.std.proofs.lemmas.List.Sums.{sum_by-cons}
 use Rattle.hb_activity.proofs.Facts.GivenPages.{first_given, next_given}
-use Rattle.hb_activity.specs.Deciding.{given_sight, page_among}
+use Rattle.hb_activity.specs.Deciding.{given_sight}
 use Rattle.hb_activity.specs.Deeds.{Deed}
 use Rattle.hb_activity.specs.declared.jobs.Job.{Job}
 use Rattle.hb_consol.specs.ConsolidatorRows.{HasMergePlan, Scans, TriesPair, after_try, pair_from, tries}

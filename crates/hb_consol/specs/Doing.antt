@@ -4,9 +4,10 @@ use Rattle.hb_frag.specs.declared.leaves.Leaf.{Leaf}
 use Rattle.hb_frag.specs.declared.pages.LivePage.{LivePage}
 use Rattle.hb_frag.specs.Rules.{capacity_of}
 use Rattle.hb_layout.specs.declared.meta.Meta.{Meta}
-use Rattle.hb_ops.specs.Sound.{FitsFile}
 use Rattle.hb_terms.specs.Merging.{IsMergePlan}
 use Rattle.hb_terms.specs.declared.merging.MergePlan.{MergePlan}
+use Rattle.hb_activity.specs.declared.activities.Activity.{Activity}
+use Rattle.hb_activity.specs.declared.activities.Activity.TheVariants as at
 use Rattle.hb_consol.specs.ConsolidatorRows.{pair_among}
 use Rattle.hb_consol.specs.declared.children.Earlier.{Earlier}
 use Rattle.hb_consol.specs.declared.children.Earlier.TheVariants.{First, Other, Neither}
@@ -55,11 +56,11 @@ found_by Before = None
 found_by Behind = None
 found_by (There name) = Some name
 
--- The parent, the page to keep and the page to go keep the rules of a page alone.
-pub record AreThreeMade (meta : Meta) (above kept page : LivePage) : Type 0 where
-  pub above_made : FitsFile meta above
-  pub kept_made : FitsFile meta kept
-  pub page_made : FitsFile meta page
+-- A pair is tried or decided.
+abbrev pub HasPair : Activity → Type 0
+HasPair (at.ConsolidatorTry job parent keep gone leaf) = Unit {0}
+HasPair (at.ConsolidatorDecide job parent keep gone) = Unit {0}
+HasPair other = ⊥
 
 -- This is planned for a pair whose second page is at hand.
 abbrev pub PlansMerge : Meta → ℕ → LivePage → LivePage → LivePage → MergePlan → Type 0

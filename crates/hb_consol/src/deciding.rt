@@ -1,24 +1,23 @@
-ghost use Rattle.std.specs.Prelude.{ℕ, Option, IfOk, OnErr};
+ghost use Rattle.std.specs.Prelude.{ℕ, Option, Some, IfOk, OnErr};
 ghost use Rattle.std.specs.Option.{option_copied};
-ghost use Rattle.hb_layout.specs.Limits.{IsLayout};
-ghost use Rattle.hb_ops.specs.Sound.{FitsFile};
 ghost use Rattle.hb_activity.specs.Deciding.{deed_of, given_sight};
 ghost use Rattle.hb_consol.specs.Asks.{AsksMemoryToMerge, MayAskToMerge, pages_given};
+ghost use Rattle.hb_consol.specs.Doing.{HasPair};
 ghost use Rattle.hb_consol.specs.MergeRows.{ConsolidatorRow};
 
 use crate::merging::{decide, take_keep, try_pair};
+use crate::pairs::Pair;
 use crate::scanning::tries;
 use crate::walking::walk;
-use hb_activity::{Activity, Next};
+use hb_activity::{Activity, Latched, Next};
 use hb_frag::LivePage;
-use hb_layout::Meta;
 use hb_space::NoMemory;
 use std::alloc::Global;
 
-/// What a step of the consolidator comes to. `page`, of number `id`, is the page that the step latched: the
-/// page of the walk, the child that is scanned, the parent that is promoted, the page to keep, or the
-/// page to go. `first` is the parent where the step has one beside it, and `second` the page to keep
-/// where a pair is tried or decided. No page is made, so no free number is read.
+/// What a step of the consolidator comes to. The page that the step latched is the page of the walk, the
+/// child that is scanned, the parent that is promoted, the page to keep, or the page to go. `first` is the
+/// parent where the step has one beside it, and `second` the page to keep where a pair is tried or decided.
+/// No page is made, so no free number is read.
 ///
 /// # Errors
 ///
@@ -27,38 +26,21 @@ use std::alloc::Global;
 pub fn next(
     alloc: Global,
     state: Activity,
-    id: u32,
-    page: &LivePage,
+    latched: Latched<'_>,
     first: Option<&LivePage>,
     second: Option<&LivePage>,
-    _free: Option<(u32, u32)>,
-    meta: &Meta,
 ) -> Result<Next, NoMemory>
-    requires layout { IsLayout meta.now }
-    requires made { FitsFile meta.now page.now }
-    requires asked { MayAskToMerge state meta.now page.now (option_copied first) (option_copied second) }
+    requires asked { MayAskToMerge state latched.meta.now latched.page.now (option_copied first) (option_copied second) }
     ensures row { IfOk result (λ next. (free : Option (ℕ × ℕ)) → ConsolidatorRow state
-        (given_sight meta.now (pages_given state id page.now (option_copied first.entry) (option_copied second.entry)) free) id page.now
+        (given_sight latched.entry.meta.now (pages_given state latched.entry.id latched.entry.page.now (option_copied first.entry) (option_copied second.entry)) free) latched.entry.id latched.entry.page.now
         (deed_of state next)) }
-    ensures memory { OnErr result (AsksMemoryToMerge state meta.now page.now (option_copied first.entry) (option_copied second.entry)) }
+    ensures memory { OnErr result (AsksMemoryToMerge state latched.entry.meta.now latched.entry.page.now (option_copied first.entry) (option_copied second.entry)) }
 {
     match state {
-        Activity::ConsolidatorWalk { job, .. } => walk(job, id, page),
+        Activity::ConsolidatorWalk { job, .. } => walk(job, latched.id, latched.page),
         Activity::ConsolidatorScan { job, parent, child } => match first {
-            Some(above) => tries(job, parent, child, above, page, 0),
+            Some(above) => tries(job, parent, child, above, latched.page, 0),
             None => unreachable!(),
-        },
-        Activity::ConsolidatorTry {
-            job,
-            parent,
-            keep,
-            gone,
-            leaf,
-        } => match (first, second) {
-            (Some(above), Some(kept)) => try_pair(
-                job, parent, keep, gone, leaf, above, kept, page, meta,
-            ),
-            _ => unreachable!(),
         },
         Activity::ConsolidatorPromote {
             job,
@@ -76,18 +58,68 @@ pub fn next(
             parent,
             keep,
             gone,
-        } => Ok(take_keep(job, parent, keep, gone, page)),
+        } => Ok(take_keep(job, parent, keep, gone, latched.page)),
+        Activity::ConsolidatorTry { .. } | Activity::ConsolidatorDecide { .. } => {
+            match (first, second) {
+                (Some(above), Some(kept)) => next_of_pair(alloc, state, latched, above, kept),
+                _ => unreachable!(),
+            }
+        }
+        _ => unreachable!(),
+    }
+}
+
+// What a try or a decision comes to, with the parent and the page to keep at hand.
+fn next_of_pair(
+    alloc: Global,
+    state: Activity,
+    latched: Latched<'_>,
+    above: &LivePage,
+    kept: &LivePage,
+) -> Result<Next, NoMemory>
+    requires pair { HasPair state }
+    requires asked { MayAskToMerge state latched.meta.now latched.page.now (Some above.now) (Some kept.now) }
+    ensures row { IfOk result (λ next. (free : Option (ℕ × ℕ)) → ConsolidatorRow state
+        (given_sight latched.entry.meta.now (pages_given state latched.entry.id latched.entry.page.now (Some above.now) (Some kept.now)) free) latched.entry.id latched.entry.page.now
+        (deed_of state next)) }
+    ensures memory { OnErr result (AsksMemoryToMerge state latched.entry.meta.now latched.entry.page.now (Some above.now) (Some kept.now)) }
+{
+    match state {
+        Activity::ConsolidatorTry {
+            job,
+            parent,
+            keep,
+            gone,
+            leaf,
+        } => {
+            let pair = Pair {
+                parent,
+                keep,
+                gone,
+                above,
+                kept,
+                page: latched.page,
+                meta: latched.meta,
+            };
+            try_pair(job, &pair, leaf)
+        }
         Activity::ConsolidatorDecide {
             job,
             parent,
             keep,
             gone,
-        } => match (first, second) {
-            (Some(above), Some(kept)) => {
-                decide(alloc, job, parent, keep, gone, above, kept, page, meta)
-            }
-            _ => unreachable!(),
-        },
+        } => {
+            let pair = Pair {
+                parent,
+                keep,
+                gone,
+                above,
+                kept,
+                page: latched.page,
+                meta: latched.meta,
+            };
+            decide(alloc, job, &pair)
+        }
         _ => unreachable!(),
     }
 }

@@ -12,6 +12,7 @@ mod deciding;
 pub mod examples;
 pub mod laws;
 mod merging;
+mod pairs;
 mod scanning;
 mod walking;
 

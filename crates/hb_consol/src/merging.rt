@@ -3,16 +3,16 @@
 ghost use Rattle.std.specs.Prelude.{◌≡◌, ◌⊎◌, ◌<◌, ◌+◌, ◌≤◌, ◌^◌, length, IfOk, OnErr, Option, ℕ, List};
 ghost use Rattle.hb_frag.specs.Leaves.{WellCut, leaves};
 ghost use Rattle.hb_frag.specs.Rules.{capacity_of};
-ghost use Rattle.hb_layout.specs.Limits.{IsLayout};
 ghost use Rattle.hb_activity.specs.Deciding.{deed_of, given_sight};
 ghost use Rattle.hb_activity.specs.declared.activities.Activity.{Activity as OneActivity};
 ghost use Rattle.hb_consol.specs.Asks.{MergesTwo};
 ghost use Rattle.hb_consol.specs.ConsolidatorRows.{after_try};
-ghost use Rattle.hb_consol.specs.Doing.{AreThreeMade, PlansMerge};
+ghost use Rattle.hb_consol.specs.Doing.{PlansMerge};
 ghost use Rattle.hb_consol.specs.MergeRows.{Merges, DoesMerge, takes_keep};
 ghost use Rattle.hb_frag.specs.declared.pages.LivePage.{LivePage as OnePage};
 ghost use Rattle.hb_terms.specs.declared.merging.MergePlan.{MergePlan as OnePlan};
 
+use crate::pairs::Pair;
 use crate::scanning::tries;
 use hb_activity::{Activity, Job, JobKind, Next};
 use hb_frag::LivePage;
@@ -24,35 +24,23 @@ use std::alloc::Global;
 
 /// What a try comes to: where the two may become one, the parent is to be promoted. Else the sibling
 /// leaves behind this one are looked at.
-pub(crate) fn try_pair(
-    job: Job,
-    parent: u32,
-    keep: u32,
-    gone: u32,
-    leaf: u32,
-    above: &LivePage,
-    kept: &LivePage,
-    page: &LivePage,
-    meta: &Meta,
-) -> Result<Next, NoMemory>
-    requires layout { IsLayout meta.now }
-    requires made { AreThreeMade meta.now above.now kept.now page.now }
-    ensures { IfOk result (λ next. (plan : OnePlan) × PlansMerge meta.now gone above.now kept.now page.now plan
-        × ((state : OneActivity) → deed_of state next ≡ after_try job parent keep gone leaf above.now kept.now plan)) }
+pub(crate) fn try_pair(job: Job, pair: &Pair<'_>, leaf: u32) -> Result<Next, NoMemory>
+    ensures { IfOk result (λ next. (plan : OnePlan) × PlansMerge pair.now.meta.now pair.now.gone pair.now.above.now pair.now.kept.now pair.now.page.now plan
+        × ((state : OneActivity) → deed_of state next ≡ after_try job pair.now.parent pair.now.keep pair.now.gone leaf pair.now.above.now pair.now.kept.now plan)) }
 {
-    match plan_for(gone, above, kept, page, meta) {
+    match plan_for(pair) {
         MergePlan::Merge => Ok(Next::moves(Activity::ConsolidatorPromote {
             job,
-            parent,
-            keep,
-            gone,
+            parent: pair.parent,
+            keep: pair.keep,
+            gone: pair.gone,
         })),
         MergePlan::NotContained | MergePlan::ManyParents | MergePlan::TooHeavy => tries(
             job,
-            parent,
-            keep,
-            above,
-            kept,
+            pair.parent,
+            pair.keep,
+            pair.above,
+            pair.kept,
             u64::from(leaf) + 1,
         ),
     }
@@ -76,30 +64,18 @@ pub(crate) fn take_keep(job: Job, parent: u32, keep: u32, gone: u32, page: &Live
 
 /// What the decision comes to, with all three pages alone: where the two may still become one they do,
 /// and the job waits again. Else it is dropped.
-pub(crate) fn decide(
-    alloc: Global,
-    job: Job,
-    parent: u32,
-    keep: u32,
-    gone: u32,
-    above: &LivePage,
-    kept: &LivePage,
-    page: &LivePage,
-    meta: &Meta,
-) -> Result<Next, NoMemory>
-    requires layout { IsLayout meta.now }
-    requires made { AreThreeMade meta.now above.now kept.now page.now }
-    requires low { job.level < 255 }
-    ensures row { IfOk result (λ next. (plan : OnePlan) × PlansMerge meta.now gone above.now kept.now page.now plan
-        × ((state : OneActivity) (pages : List (ℕ × OnePage)) (free : Option (ℕ × ℕ)) → DoesMerge (given_sight meta.now pages free) job parent keep gone above.now plan (deed_of state next))) }
-    ensures memory { OnErr result (MergesTwo meta.now gone above.now kept.now page.now) }
+pub(crate) fn decide(alloc: Global, job: Job, pair: &Pair<'_>) -> Result<Next, NoMemory>
+    requires { job.level < 255 }
+    ensures row { IfOk result (λ next. (plan : OnePlan) × PlansMerge pair.now.meta.now pair.now.gone pair.now.above.now pair.now.kept.now pair.now.page.now plan
+        × ((state : OneActivity) (pages : List (ℕ × OnePage)) (free : Option (ℕ × ℕ)) → DoesMerge (given_sight pair.now.meta.now pages free) job pair.now.parent pair.now.keep pair.now.gone pair.now.above.now plan (deed_of state next))) }
+    ensures memory { OnErr result (MergesTwo pair.now.meta.now pair.now.gone pair.now.above.now pair.now.kept.now pair.now.page.now) }
 {
-    match plan_for(gone, above, kept, page, meta) {
+    match plan_for(pair) {
         MergePlan::Merge => {
-            if meta.live == 0 {
+            if pair.meta.live == 0 {
                 return Ok(Next::moves(Activity::ConsolidatorIdle));
             }
-            merge(alloc, job, parent, keep, gone, above, meta)
+            merge(alloc, job, pair)
         }
         MergePlan::NotContained | MergePlan::ManyParents | MergePlan::TooHeavy => {
             Ok(Next::moves(Activity::ConsolidatorIdle))
@@ -109,27 +85,23 @@ pub(crate) fn decide(
 
 // The two become one, and the job waits again. A parent that weighs a quarter of its capacity then, or
 // less, is to be merged itself.
-fn merge(
-    alloc: Global,
-    job: Job,
-    parent: u32,
-    keep: u32,
-    gone: u32,
-    above: &LivePage,
-    meta: &Meta,
-) -> Result<Next, NoMemory>
-    requires live { 0 < meta.now.live }
+fn merge(alloc: Global, job: Job, pair: &Pair<'_>) -> Result<Next, NoMemory>
+    requires live { 0 < pair.now.meta.now.live }
     requires low { job.level < 255 }
-    ensures { IfOk result (λ next. (state : OneActivity) (pages : List (ℕ × OnePage)) (free : Option (ℕ × ℕ)) → Merges (given_sight meta.now pages free) job parent keep gone above.now (deed_of state next)) }
+    ensures { IfOk result (λ next. (state : OneActivity) (pages : List (ℕ × OnePage)) (free : Option (ℕ × ℕ)) → Merges (given_sight pair.now.meta.now pages free) job pair.now.parent pair.now.keep pair.now.gone pair.now.above.now (deed_of state next)) }
 {
-    let after = parent_after(alloc, above, keep, gone)?;
-    let thin = after.weighs_at_most(meta.icap / 4);
+    let after = parent_after(alloc, pair.above, pair.keep, pair.gone)?;
+    let thin = after.weighs_at_most(pair.meta.icap / 4);
     let owed = Job {
         kind: JobKind::Merge,
         level: job.level + 1,
         point: job.point.copy(),
     };
-    let op = Op::Merge { parent, keep, gone };
+    let op = Op::Merge {
+        parent: pair.parent,
+        keep: pair.keep,
+        gone: pair.gone,
+    };
     let mut next = Next::does(Activity::ConsolidatorIdle, op, job);
     if thin {
         next.jobs.push(owed);
@@ -138,12 +110,11 @@ fn merge(
 }
 
 // The plan for the pair.
-fn plan_for(gone: u32, above: &LivePage, kept: &LivePage, page: &LivePage, meta: &Meta) -> MergePlan
-    requires layout { IsLayout meta.now }
-    requires made { AreThreeMade meta.now above.now kept.now page.now }
-    ensures { PlansMerge meta.now gone above.now kept.now page.now result }
+fn plan_for(pair: &Pair<'_>) -> MergePlan
+    ensures { PlansMerge pair.now.meta.now pair.now.gone pair.now.above.now pair.now.kept.now pair.now.page.now result }
 {
-    merge_plan(above, kept, gone, page, capacity(page, meta))
+    let most = capacity(pair.page, pair.meta);
+    merge_plan(pair.above, pair.kept, pair.gone, pair.page, most)
 }
 
 // What a page of this level may weigh.

@@ -12,3 +12,12 @@ pub mod BegunCores
 pub mod RunLines
 pub mod CountsKept
 pub mod BetweenRuns
+pub mod NoDamage
+pub mod StillThere
+pub mod NextLines
+pub mod BetweenCalls
+pub mod EachRow
+pub mod StepKinds
+pub mod StepLines
+pub mod Ways
+pub mod LaterPages

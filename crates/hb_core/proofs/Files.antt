@@ -1,12 +1,10 @@
 -- What rows tell of their operations, that these are allowed and licensed, and that files stay sound.
 pub mod PairAtHand
 pub mod RowTells
-pub mod GoodChanges
 pub mod FitOps
 pub mod FileOps
 pub mod SoundFiles
 pub mod MergedPair
 pub mod AllowedRows
 pub mod AskedPages
-pub mod NoDamage
 pub mod RowsDoable

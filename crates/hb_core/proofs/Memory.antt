@@ -7,6 +7,5 @@ pub mod OwnPages
 pub mod NeededPages
 pub mod Moments
 pub mod KeptPages
-pub mod StillThere
 pub mod ToldStays
 pub mod MetaKept

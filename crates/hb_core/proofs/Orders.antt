@@ -2,7 +2,6 @@
 pub mod LinesFit
 pub mod RowContents
 pub mod StepContents
-pub mod NextLines
 pub mod Sequences
 pub mod OrderPlaces
 pub mod LegalOrder

@@ -49,4 +49,3 @@ pub mod WrittenShows
 pub mod OwnPins
 pub mod JobsBegun
 pub mod Counted
-pub mod BetweenCalls

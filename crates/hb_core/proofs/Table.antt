@@ -1,13 +1,9 @@
 -- What a step and a row come to, by cases: the kinds of steps, what is given up, where an actor stands afterwards.
 pub mod GivenUp
 pub mod MergerMoves
-pub mod EachRow
 pub mod Targets
-pub mod StepKinds
-pub mod Ways
 pub mod LineFates
 pub mod NextPlaces
-pub mod StepLines
 pub mod DeedKinds
 pub mod NextHands
 pub mod StepSays

@@ -1,7 +1,6 @@
 -- Where walks and parents stand, that what is wanted comes later, and that nobody waits in a circle.
 pub mod MergesKept
 pub mod OnePlace
-pub mod LaterPages
 pub mod WalksKept
 pub mod Volumes
 pub mod LaterWanted

@@ -69,11 +69,8 @@ abbrev pub LacksNeeded : Machine → ℕ → StoreState → Type 0
 LacksNeeded m actor fetched = (id : ℕ) × MayNeed m actor fetched id × (¬ (IsNoPage m.store.meta id)) × (in_memory fetched id ≡ None)
 
 -- A row takes memory where it does an operation.
-abbrev pub HasOp : Deed → Type 0
-HasOp deed = IsSome deed.op
-
 abbrev pub TakesSome : Option Wanted → Machine → Activity → Type 0
-TakesSome wanted m activity = (deed : Deed) × Row activity wanted m deed × HasOp deed
+TakesSome wanted m activity = (deed : Deed) × Row activity wanted m deed × IsSome deed.op
 
 -- Or it is given up: a page that it needs couldn't be read; or memory was refused, for a page that is decoded or for what the row takes.
 abbrev pub GivesUpFor : DropWhy → Machine → ℕ → StoreState → Type 0

@@ -1,12 +1,11 @@
 -- When a core may commit an operation, and what becomes of the file then.
-use Rattle.std.specs.Prelude.{◌≡◌, ℕ, ◌≤◌, All, List, length, false, Option, Some, None}
+use Rattle.std.specs.Prelude.{◌≡◌, ◌≤◌, All, List, length, false, Option, Some, None}
 use Rattle.hb_disk.specs.Model.{DiskModel}
-use Rattle.hb_ops.specs.Files.{FileState}
+use Rattle.hb_ops.specs.Files.{FileState, last_of}
 use Rattle.hb_ops.specs.Operations.{BoxesMatch, IsLicensed, OpHas}
 use Rattle.hb_ops.specs.declared.operations.Op.{Op}
 use Rattle.hb_store.specs.Calls.{HasFrameFor, IsAllowedHere, IsReady, read_here, with_op}
 use Rattle.hb_store.specs.Keeps.{StoreKeeps}
-use Rattle.hb_store.specs.Parts.{last_of}
 use Rattle.hb_store.specs.States.{StoreState}
 use Rattle.hb_wal.specs.Log.{Waiting}
 use Rattle.hb_core.specs.Showing.{RunningCore}

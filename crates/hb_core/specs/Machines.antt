@@ -10,10 +10,9 @@ use Rattle.hb_activity.specs.declared.activities.Activity.{Activity}
 use Rattle.hb_store.specs.declared.stops.StopWhy.{StopWhy}
 use Rattle.hb_activity.specs.Sights.{Sight}
 use Rattle.hb_latch.specs.Tables.{LatchTable}
-use Rattle.hb_ops.specs.Files.{FileState, if_live}
+use Rattle.hb_ops.specs.Files.{FileState, if_live, last_of}
 use Rattle.hb_pool.specs.Frames.{Use}
 use Rattle.hb_set.specs.Order.{Entry}
-use Rattle.hb_store.specs.Parts.{last_of}
 use Rattle.hb_store.specs.States.{StoreState, in_memory}
 use Rattle.hb_wal.specs.Log.{mark_of}
 

@@ -11,7 +11,7 @@ use Rattle.hb_pool.specs.Pools.{frame_of, in_place, put_last}
 use Rattle.hb_store.specs.Calls.{numbers_changed, use_changed, use_fetched, change_here}
 use Rattle.hb_store.specs.Fetching.{use_numbered}
 use Rattle.hb_store.specs.Held.{IsTied}
-use Rattle.hb_store.specs.Replay.{has_page}
+use Rattle.hb_ops.specs.SetPages.{has_page}
 use Rattle.hb_store.specs.States.{StoreState}
 
 -- The wanted page comes and is pinned for the step, and so it is last in the order of use.

@@ -20,7 +20,7 @@ ghost use Rattle.hb_core.specs.Working.{HasCome, HasPages, with_memory};
 
 use crate::reading::idle;
 use crate::state::{CONSOLIDATOR, Core, POSTER};
-use hb_activity::{Activity, Next, Wanted};
+use hb_activity::{Activity, Latched, Next, Wanted};
 use hb_disk::Device;
 use hb_frag::{LivePage, Page};
 use hb_set::{Command, Reply};
@@ -56,13 +56,10 @@ impl<D: Device> Core<D> {
     {
         let page = self.decoded(id)?;
         let other = self.other(activity)?;
-        Ok(hb_poster::needs_number(
-            self.alloc,
-            activity,
-            &page,
-            other.as_ref(),
-            self.store.meta(),
-        ))
+        let meta = self.store.meta();
+        let page = &page;
+        let latched = Latched { id, page, meta };
+        Ok(hb_poster::needs_number(self.alloc, activity, latched, other.as_ref()))
     }
 
     /// The other page that the row reads, with memory of its own: the half that left, or the parent.
@@ -147,7 +144,8 @@ impl<D: Device> Core<D> {
     {
         let page = self.decoded(id)?;
         let meta = self.store.meta();
-        hb_search::next(self.alloc, state, id, &page, None, None, None, meta)
+        let page = &page;
+        hb_search::next(self.alloc, state, Latched { id, page, meta })
     }
 
     /// What a step of a session comes to that doesn't search.
@@ -198,16 +196,9 @@ impl<D: Device> Core<D> {
         let page = self.decoded(id)?;
         let other = self.other(&state)?;
         let meta = self.store.meta();
-        hb_point::next(
-            self.alloc,
-            state,
-            id,
-            &page,
-            other.as_ref(),
-            None,
-            free,
-            meta,
-        )
+        let page = &page;
+        let latched = Latched { id, page, meta };
+        hb_point::next(self.alloc, state, latched, other.as_ref(), free)
     }
 
     /// What the poster's decider says of this activity.
@@ -225,16 +216,9 @@ impl<D: Device> Core<D> {
         let page = self.decoded(id)?;
         let other = self.other(&state)?;
         let meta = self.store.meta();
-        hb_poster::next(
-            self.alloc,
-            state,
-            id,
-            &page,
-            other.as_ref(),
-            None,
-            free,
-            meta,
-        )
+        let page = &page;
+        let latched = Latched { id, page, meta };
+        hb_poster::next(self.alloc, state, latched, other.as_ref(), free)
     }
 
     /// What the consolidator's decider says of this activity.
@@ -250,7 +234,8 @@ impl<D: Device> Core<D> {
         let above = other.as_ref();
         let kept = second.as_ref();
         let meta = self.store.meta();
-        hb_consol::next(self.alloc, state, id, &page, above, kept, None, meta)
+        let page = &page;
+        hb_consol::next(self.alloc, state, Latched { id, page, meta }, above, kept)
     }
 
     /// The page of the number, which is in memory and in use, with memory of its own.

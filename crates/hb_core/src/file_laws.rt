@@ -8,11 +8,9 @@ ghost use Rattle.hb_core.specs.OrderLaws.{OrderStaysLegal, SearchesAreRight, Sea
 ghost use Rattle.hb_core.specs.SteppingLaws.{BeginningExists, BeginningKeeps, BeginningKeepsAll};
 
 use crate::laws::a_step_leaves_other_actors_alone;
-use hb_frag::laws::{leaves_part_the_box, parts_are_stretches};
-use hb_ops::changed_pages_are_well_made;
-use hb_page_codec::laws::page_within_capacity_has_spelling;
 use hb_sound::laws::{operations_keep_a_file_sound, what_stands_is_what_the_contents_have};
-use hb_space::laws::{held_is_a_point, whole_space_holds_every_point};
+use hb_space::laws::held_is_a_point;
+use hb_store::what_is_made_can_be_written;
 
 /// What the lines of the script and those in hand would store can be stored, after a step, too.
 #[tactic(auto, using(crate::proofs::Orders::LinesFit::lines_stay_fit))]
@@ -27,11 +25,7 @@ pub fn pages_stay_pages_of_the_file()
     ensures pages { PagesStayOfFile }
     ensures within { MetaStaysWithinLimits }
 {
-    changed_pages_are_well_made();
-    page_within_capacity_has_spelling();
-    leaves_part_the_box();
-    parts_are_stretches();
-    whole_space_holds_every_point();
+    what_is_made_can_be_written();
     held_is_a_point();
 }
 
@@ -39,11 +33,7 @@ pub fn pages_stay_pages_of_the_file()
 pub fn rows_are_licensed()
     ensures { RowsAreLicensed }
 {
-    changed_pages_are_well_made();
-    page_within_capacity_has_spelling();
-    leaves_part_the_box();
-    parts_are_stretches();
-    whole_space_holds_every_point();
+    what_is_made_can_be_written();
     held_is_a_point();
 }
 
@@ -51,11 +41,7 @@ pub fn rows_are_licensed()
 pub fn files_stay_sound()
     ensures { FilesStaySound }
 {
-    changed_pages_are_well_made();
-    page_within_capacity_has_spelling();
-    leaves_part_the_box();
-    parts_are_stretches();
-    whole_space_holds_every_point();
+    what_is_made_can_be_written();
     held_is_a_point();
     operations_keep_a_file_sound();
 }
@@ -67,11 +53,7 @@ pub fn contents_follow_the_order()
     ensures contents { ContentsFollowOrder }
     ensures points { PointsStay }
 {
-    changed_pages_are_well_made();
-    page_within_capacity_has_spelling();
-    leaves_part_the_box();
-    parts_are_stretches();
-    whole_space_holds_every_point();
+    what_is_made_can_be_written();
     held_is_a_point();
     operations_keep_a_file_sound();
     what_stands_is_what_the_contents_have();

@@ -14,7 +14,7 @@ use hb_frag::laws::{each_point_has_one_leaf, leaves_part_the_box, parts_are_stre
 use hb_layout::limits::limits_of_this_version;
 
 /// Under no number but those of the 19 actors anybody comes to stand, or takes a latch.
-#[tactic(auto, using(crate::proofs::Memory::StillThere::nobody_else_comes, crate::proofs::Memory::StillThere::nobody_else_latches))]
+#[tactic(auto, using(crate::proofs::Facts::StillThere::nobody_else_comes, crate::proofs::Facts::StillThere::nobody_else_latches))]
 pub fn nobody_else_comes()
     ensures stands { NobodyElseComes }
     ensures latches { NobodyElseLatches }

@@ -6,8 +6,8 @@ ghost use Rattle.hb_core.specs.MachineLaws.{BoxLocksStayFit, MachineStaysKept, M
 use crate::file_laws::{pages_stay_pages_of_the_file, rows_are_allowed};
 use crate::keeping_laws::room_stays_known;
 use crate::laws::latches_stay_fit;
-use hb_frag::laws::{leaves_part_the_box, parts_are_stretches};
 use hb_space::laws::held_is_a_point;
+use hb_store::what_is_made_can_be_written;
 
 /// After a step locks of different actors whose boxes meet are shared.
 #[tactic(auto, using(crate::proofs::Machines::LocksKept::box_locks_stay_fit))]
@@ -32,8 +32,7 @@ pub fn rows_may_be_done()
     ensures { RowsMayBeDone }
 {
     rows_are_allowed();
-    leaves_part_the_box();
-    parts_are_stretches();
+    what_is_made_can_be_written();
     held_is_a_point();
 }
 

@@ -3,10 +3,10 @@ ghost use Rattle.std.specs.Prelude.{◌≡◌, length};
 ghost use Rattle.hb_core.specs.CoreSeen.{core_seen, core_disk};
 ghost use Rattle.hb_core_tests.specs.Begun.{IsBegunCore};
 
-use crate::cores::{SIZE, begun};
+use crate::cores::{begun, zeros};
 use hb_activity::{Job, JobKind};
 use hb_core::{Core, TidyCounts};
-use hb_disk::{Device, MemDisk};
+use hb_disk::Device;
 use hb_page_codec::encode;
 use hb_space::Point;
 use hb_space::form::PAGE;
@@ -17,11 +17,6 @@ use std::alloc::Global;
 const EMPTY: [u8; 23] = [
     1, 0, 1, 0, 0, 0, 0, 0, 0, 0, 0, 0, 255, 255, 255, 255, 255, 255, 255, 255, 1, 0, 0,
 ];
-
-/// A disk of zeros for it.
-fn zeros(alloc: Global) -> Option<MemDisk> {
-    Some(MemDisk::new(alloc, vec![in alloc; 0; SIZE].ok()?))
-}
 
 /// A job to post at a point.
 fn posting(point: u64) -> Job
@@ -65,7 +60,7 @@ fn adds<D: Device>(core: &mut Core<D>, count: u64) -> u64
 
 /// What the fields and the bytes behind them are of a copy of page 1 of a new file, and whether the core counts a step for it.
 fn copies<D: Device + Drop>(alloc: Global, disk: D) -> Option<(bool, bool, u64)> {
-    let mut core = begun(alloc, disk)?;
+    let mut core = begun(alloc, disk, "")?;
     let bytes = first_bytes(&mut core)?;
     let (fields, rest) = bytes.split_at(EMPTY.len());
     Some((
@@ -85,7 +80,7 @@ fn a_copy_is_the_page_of_the_file(rt: HostRuntime) {
 
 /// How many jobs were taken where one is added twice, and how many wait of each kind then.
 fn twice<D: Device + Drop>(alloc: Global, disk: D) -> Option<(bool, bool, u32, u32)> {
-    let mut core = begun(alloc, disk)?;
+    let mut core = begun(alloc, disk, "")?;
     let first = core.add_job(posting(5));
     let second = core.add_job(posting(5));
     Some((
@@ -106,7 +101,7 @@ fn a_job_waits_once(rt: HostRuntime) {
 
 /// How many of so many jobs are taken, and how many wait then. One that waits already is taken again.
 fn many<D: Device + Drop>(alloc: Global, disk: D, count: u64) -> Option<(u64, u32, bool)> {
-    let mut core = begun(alloc, disk)?;
+    let mut core = begun(alloc, disk, "")?;
     let added = adds(&mut core, count);
     Some((added, core.jobs(JobKind::Post), core.add_job(posting(0))))
 }
@@ -125,13 +120,13 @@ fn at_most_256_jobs_wait(rt: HostRuntime) {
 
 /// Whether a flush of a core that has nothing to flush says so, how many steps that is, and how many operations.
 fn flushes<D: Device + Drop>(alloc: Global, disk: D) -> Option<(bool, u64, TidyCounts)> {
-    let mut core = begun(alloc, disk)?;
+    let mut core = begun(alloc, disk, "")?;
     let nothing = matches!(core.help(), Ok(Flushed::Nothing));
     Some((nothing, core.taken(), core.done()))
 }
 
 /// No operation.
-const NONE: TidyCounts = TidyCounts {
+pub(crate) const NONE: TidyCounts = TidyCounts {
     grown: 0,
     posted: 0,
     split: 0,

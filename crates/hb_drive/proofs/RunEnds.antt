@@ -16,9 +16,9 @@ use Rattle.hb_wal.specs.Log.{mark_of}
 use Rattle.hb_core.specs.declared.endings.End.{End}
 use Rattle.hb_core.specs.declared.endings.End.TheVariants as ends
 use Rattle.hb_core.specs.Machines.{Machine, settled_count}
-use Rattle.hb_core.specs.Runs.{HasRun, left_numbers}
+use Rattle.hb_core.specs.Runs.{left_numbers}
 use Rattle.hb_core.specs.Showing.{RunningCore, ShowsMachine}
-use Rattle.hb_drive.specs.Driving.{DrivesTo, EndsWith, IsEndOf, run_text}
+use Rattle.hb_drive.specs.Driving.{EndsWith, IsEndOf, LeavesEnd, run_text}
 
 -- what follows the replies
 abbrev rest_text : List ℕ → Bool → List ℕ → ℕ → List ℕ
@@ -71,26 +71,27 @@ pub record PutRest {T E : Type 0} (early last : Result T E) (mid after : SinkMod
   pub fails : failed ≡ is_err last
   pub ended : IsEndOf end failed c.stop answers
 
-module _ {T E : Type 0} (d e : DiskModel) (m : Machine) (actors : List ℕ) (answers : List Answered) (c : RunningCore) (run : HasRun d m actors answers e c) (before mid after : SinkModel) (early last : Result T E) (left : List ℕ) (failed : Bool) (end : End)
-    (put : Puts (flat_map answer_text answers) early before mid) (left_is : left ≡ left_numbers run.new) (more : PutRest early last mid after c left failed answers end) where
-  same_rest : rest_text left more.stopped more.order more.settled ≡ rest_text (left_numbers run.new) (is_some run.new.stop) (numbers run.new) (settled_count run.new)
-  same_rest = rest_is run.new left more.order more.stopped more.settled left_is
-      (more.stop_is ∙ ap (λ (o : Option StopWhy). is_some o) (sym run.shows.stop)) (more.order_is ∙ sym run.shows.order) (more.settled_is ∙ settled_same e c run.new run.shows)
+-- an end that was named is not want of memory
+not_unbegun : (end : End) (failed : Bool) (stop : Option StopWhy) (answers : List Answered) → IsEndOf end failed stop answers → end ≡ ends.NoMemory → ⊥
+not_unbegun end failed stop answers is same = subst (λ (x : End). IsEndOf x failed stop answers) same is
 
-  all_put : Puts (run_text answers run.new) last before after
-  all_put =
+module _ {T E : Type 0} (d : DiskModel) (c : RunningCore) (m : Machine) (shows : ShowsMachine d c m) (answers : List Answered) (mid after : SinkModel) (early last : Result T E) (left : List ℕ) (failed : Bool) (end : End)
+    (left_is : left ≡ left_numbers m) (more : PutRest early last mid after c left failed answers end) where
+  same_rest : rest_text left more.stopped more.order more.settled ≡ rest_text (left_numbers m) (is_some m.stop) (numbers m) (settled_count m)
+  same_rest = rest_is m left more.order more.stopped more.settled left_is
+      (more.stop_is ∙ ap (λ (o : Option StopWhy). is_some o) (sym shows.stop)) (more.order_is ∙ sym shows.order) (more.settled_is ∙ settled_same d c m shows)
+
+  all_put : (before : SinkModel) → Puts (flat_map answer_text answers) early before mid → Puts (run_text answers m) last before after
+  all_put before put =
       let P : List ℕ → Type 0 = λ t. Puts t last before after in
-      let lefts = flat_map (left_text (is_some run.new.stop)) (left_numbers run.new) in
-      let order = order_text (numbers run.new) (settled_count run.new) in
+      let lefts = flat_map (left_text (is_some m.stop)) (left_numbers m) in
+      let order = order_text (numbers m) (settled_count m) in
       subst P (ap (λ (t : List ℕ). flat_map answer_text answers ++ t) same_rest ∙ sym (append_assoc (flat_map answer_text answers) lefts order))
       (has_put_more before mid after early last (flat_map answer_text answers) (rest_text left more.stopped more.order more.settled) put more.put)
 
-  pub drives_to : DrivesTo m actors answers d e c end before after
-  drives_to = record {
-    run = run;
-    text = ends_with before after last failed run.new.stop (run_text answers run.new) answers end all_put more.fails (subst (λ (o : Option StopWhy). IsEndOf end failed o answers) (sym run.shows.stop) more.ended);
+  pub leaves_end : LeavesEnd m early answers end mid after
+  leaves_end = record {
+    text = λ before put. ends_with before after last failed m.stop (run_text answers m) answers end (all_put before put) more.fails (subst (λ (o : Option StopWhy). IsEndOf end failed o answers) (sym shows.stop) more.ended);
+    begun = not_unbegun end failed c.stop answers more.ended;
+    later = more.put.later;
   }
-
--- an end that was named is not want of memory
-pub not_unbegun : (end : End) (failed : Bool) (stop : Option StopWhy) (answers : List Answered) → IsEndOf end failed stop answers → end ≡ ends.NoMemory → ⊥
-not_unbegun end failed stop answers is same = subst (λ (x : End). IsEndOf x failed stop answers) same is

@@ -32,12 +32,15 @@ answers_fit d e m actors answers first c room shows fits run =
     (answers_are_as_many d e m actors answers c run) run.left (count_by-le-length (has_none m) m.lines)
     (subst (λ (ls : List Line). length ls ≤ room) (sym shows.lines) fits)
 
--- behind an empty list there is room for a number of each line, where the lines stayed
-pub room_for_all : (given first now : List Line) (left : List ℕ) (room : ℕ) → left ≡ [] → given ≡ first → now ≡ first → length given ≤ room → length left + length now ≤ room
-room_for_all given first now left room none read kept fits =
-    let empty = ap (λ (l : List ℕ). length l) none in
+-- behind an empty list there is room for a number of each line
+pub room_for_all : (lines : List Line) (left : List ℕ) (room : ℕ) → left ≡ [] → length lines ≤ room → length left + length lines ≤ room
+room_for_all lines left room none fits = let empty = ap (λ (l : List ℕ). length l) none in omega (arith, empty, fits)
+
+-- and where the lines stayed
+pub room_stays : (given first now : List Line) (room : ℕ) → given ≡ first → now ≡ first → length given ≤ room → length now ≤ room
+room_stays given first now room read kept fits =
     let same = ap (λ (ls : List Line). length ls) (kept ∙ sym read) in
-    omega (arith, empty, same, fits)
+    omega (arith, same, fits)
 
 -- the order is no longer than the script
 pub order_is_short : (d : DiskModel) (c : RunningCore) (m : Machine) (limit : ℕ) → MayStep d c m → length c.lines < limit → length c.order < limit

@@ -1,12 +1,13 @@
 -- What a schedule's run comes to: its steps, its answers, and the text that it writes.
-use Rattle.std.specs.Prelude.{◌≡◌, ◌≢◌, ◌≤◌, ℕ, Bool, true, false, List, [], map, Option, None, Some, is_some}
+use Rattle.std.specs.Prelude.{◌≡◌, ◌≢◌, ◌≤◌, ℕ, Bool, true, false, List, [], map, Option, None, Some, Result, is_some}
+use Rattle.std.specs.List.{flat_map}
 use Rattle.hb_disk.specs.Model.{DiskModel}
 use Rattle.hb_disk.specs.declared.traits.Device.{Ghosts}
-use Rattle.hb_outside.specs.Calls.{SinkModel}
+use Rattle.hb_outside.specs.Calls.{Puts, SinkModel}
 use Rattle.hb_outside.specs.Streams.{Appends, AppendsFront, Rose}
 use Rattle.hb_set.specs.declared.scripts.Answered.{Answered}
 use Rattle.hb_store.specs.declared.stops.StopWhy.{StopWhy}
-use Rattle.hb_text.specs.Output.{output_text}
+use Rattle.hb_text.specs.Output.{answer_text, output_text}
 use Rattle.hb_core.specs.declared.endings.End.{End}
 use Rattle.hb_core.specs.declared.endings.End.TheVariants as ends
 use Rattle.hb_core.specs.declared.endings.Ran.{Ran}
@@ -43,6 +44,13 @@ IsEndOf ends.Finished failed stop answers = (failed ≡ false) × (stop ≡ None
 pub record DrivesTo (m : Machine) (actors : List ℕ) (answers : List Answered) (d e : DiskModel) (c : RunningCore) (end : End) (before after : SinkModel) : Type 0 where
   pub run : HasRun d m actors answers e c
   pub text : EndsWith end before after (run_text answers run.new) answers run.new.stop
+
+-- What follows the replies of a run was written behind them: the run's text is whole, or the sink has a front of it, and the end says which.
+-- It holds of whatever the sink had before the replies.
+pub record LeavesEnd {T E : Type 0} (m : Machine) (put : Result T E) (answers : List Answered) (end : End) (sink after : SinkModel) : Type 0 where
+  pub text : (before : SinkModel) → Puts (flat_map answer_text answers) put before sink → EndsWith end before after (run_text answers m) answers m.stop
+  pub begun : end ≢ ends.NoMemory
+  pub later : sink.faults ≤ after.faults
 
 -- What a run of a core leaves. For want of memory, which is asked for before the first step alone, the core, its disk and the sink are as
 -- they were, and there is no answer. Else it comes to what is said, of each machine that the core showed. The sink's count of faults

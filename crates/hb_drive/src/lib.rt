@@ -18,7 +18,7 @@ mod ending;
 mod taking;
 mod writing;
 
-pub use ending::end_of;
+pub use ending::end_run;
 use hb_core::{Core, End, Ran};
 use hb_disk::Disk;
 use hb_outside::Sink;
@@ -27,7 +27,7 @@ use hb_space::{Actor, NoMemory};
 use std::alloc::Global;
 pub use taking::take_answer;
 use taking::take_steps;
-pub use writing::{put_answer, put_order_on, put_rest};
+pub use writing::{put_answer, put_order_on};
 
 /// Takes exactly the script's steps, and writes the output: the reply of each line as it is answered, then the lines that
 /// have no answer, then the order. After a fault of the sink nothing more is written, and the steps go on.
@@ -39,7 +39,7 @@ pub fn drive<D: Disk, K: Sink>(alloc: Global, mut core: Core<D>, mut sink: K) ->
     ensures { LeavesRun (λ m. DrivesTo m (core_seen core).steps result.answered.items (D.model (core_disk core)) (D.model (core_disk result.core)) (core_seen result.core) result.end (K.model sink) (K.model result.sink))
         D.model K.model core sink result }
 {
-    let Ok((steps, mut answered, mut left)) = room_for(alloc, core.script()) else {
+    let Ok((steps, mut answered, left)) = room_for(alloc, core.script()) else {
         return Ran {
             core,
             sink,
@@ -48,24 +48,7 @@ pub fn drive<D: Disk, K: Sink>(alloc: Global, mut core: Core<D>, mut sink: K) ->
         };
     };
     let put = take_steps(&mut core, steps.as_slice(), &mut sink, &mut answered);
-    core.unanswered(&mut left);
-    let stop = core.stop();
-    let last = put_rest(
-        &mut sink,
-        put,
-        left.as_slice(),
-        stop.is_some(),
-        core.order(),
-        core.settled(),
-    );
-    let failed = last.is_err();
-    let end = end_of(failed, stop, answered.as_slice());
-    Ran {
-        core,
-        sink,
-        answered,
-        end,
-    }
+    end_run(core, sink, put, answered, left)
 }
 
 /// The schedule once more, since a core can't be read while it takes steps, and room for an answer to each line, or for the

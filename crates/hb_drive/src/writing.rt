@@ -26,7 +26,7 @@ pub fn put_answer<K: Sink>(
 
 /// Puts what follows the replies: the lines that have no answer, and the order, so much of it settled.
 #[tactic(auto, using(crate::proofs::PutTexts::puts_then))]
-pub fn put_rest<K: Sink>(
+pub(crate) fn put_rest<K: Sink>(
     sink: &mut K,
     so_far: Result<(), Failed>,
     left: &[u32],

@@ -16,9 +16,9 @@ use Rattle.hb_ops.specs.declared.operations.Op.{Op}
 use Rattle.hb_ops.specs.Operations.{reads_of}
 use Rattle.hb_pool.specs.Frames.{Use, clean, filled, fresh, has_id, must_stay, pinned}
 use Rattle.hb_pool.specs.Pools.{brought, change_first, frame_of, in_place, put_last, with_room}
-use Rattle.hb_pool.proofs.Firsts.{first_passes}
-use Rattle.hb_pool.proofs.Others.{last_no_other, marked_pages_stay}
-use Rattle.hb_pool.proofs.Pooled.{pinned_stays}
+use Rattle.hb_pool.proofs.Facts.Firsts.{first_passes}
+use Rattle.hb_pool.proofs.Facts.Others.{last_no_other, marked_pages_stay}
+use Rattle.hb_pool.proofs.Facts.Pooled.{pinned_stays}
 use Rattle.hb_store.specs.Calls.{Commits, Fetched, HasFrameFor, HasPlaces, StaysHere, numbers_changed, use_changed, use_fetched}
 use Rattle.hb_store.specs.States.{StoreState}
 use Rattle.hb_store.specs.Forced.{WritesGroups, forced_state}

@@ -10,7 +10,7 @@ use Rattle.hb_disk.specs.Untold.{untold_of}
 use Rattle.hb_layout.specs.declared.meta.Meta.{Meta}
 use Rattle.hb_wal.specs.Log.{LogState, Waiting}
 use Rattle.hb_ops.specs.declared.operations.Op.{Op}
-use Rattle.hb_ops.specs.Files.{FileState}
+use Rattle.hb_ops.specs.Files.{FileState, last_of}
 use Rattle.hb_ops.specs.Operations.{IsLicensed, reads_of}
 use Rattle.hb_ops.proofs.Facts.AllowedOps.{reads_some}
 use Rattle.hb_pool.specs.Frames.{Use, has_id, must_stay, pinned}
@@ -18,14 +18,13 @@ use Rattle.hb_pool.specs.Pools.{frame_of, put_last}
 use Rattle.hb_store.specs.Calls.{Commits, Fetched, HasFrameFor, HasPlaces, IsAllowedHere, numbers_changed, use_changed, use_fetched}
 use Rattle.hb_store.specs.States.{IsNew, StoreState, in_memory}
 use Rattle.hb_store.specs.Keeps.{StoreKeeps}
-use Rattle.hb_store.specs.Parts.{last_of}
 use Rattle.hb_store.specs.Fetching.{MayFetch, use_numbered}
 use Rattle.hb_store.specs.Forced.{WritesGroups, forced_state}
 use Rattle.hb_store.specs.Held.{IsTied, StoreHeld, oldest_dirty}
 use Rattle.hb_store.specs.WritingHome.{FlushesClean, FlushesHome, WritesHome}
 use Rattle.hb_store.specs.declared.stops.WriteFault.{WriteFault}
-use Rattle.hb_store.proofs.Fetched.{no_frame}
-use Rattle.hb_store.proofs.Setting.{among_all}
+use Rattle.hb_store.proofs.Facts.Fetched.{no_frame}
+use Rattle.hb_store.proofs.Facts.Setting.{among_all}
 use Rattle.hb_file_tests.specs.Driven.{AllStay, FewPins, IsDrivenHere, IsPinned}
 use Rattle.hb_file_tests.proofs.Staying.{changed_stay, fetched_all, fetched_frame, found_all, pinned_last, pinned_on, pinned_stay, pinned_then}
 

@@ -12,3 +12,5 @@ pub mod OrderKept
 pub mod PointOrder
 pub mod Renamed
 pub mod SiblingWays
+pub mod OrderedLeaves
+pub mod Ways

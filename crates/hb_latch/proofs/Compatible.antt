@@ -9,7 +9,7 @@ use Rattle.hb_latch.specs.declared.modes.Mode.{Mode}
 use Rattle.hb_latch.specs.declared.modes.Mode.TheVariants.{Shared, Update, Exclusive}
 use Rattle.hb_latch.specs.Modes.{goes_beside}
 use Rattle.hb_latch.specs.Tables.{LatchTable, latch_cmp, mode_at, IsGrantable, AreCompatible}
-use Rattle.hb_latch.proofs.KeyOrder.{latch_order}
+use Rattle.hb_latch.proofs.Facts.KeyOrder.{latch_order}
 
 pub both_ways : (mode other : Mode) → goes_beside mode other ≡ goes_beside other mode
 both_ways Shared Shared = refl

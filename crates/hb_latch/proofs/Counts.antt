@@ -9,7 +9,7 @@ use Rattle.std.proofs.lemmas.Bool.{and_parts}
 use Rattle.std.proofs.lemmas.List.Sums.{sum_by-cons}
 use Rattle.hb_latch.specs.declared.modes.Mode.{Mode}
 use Rattle.hb_latch.specs.Tables.{LatchTable, latch_cmp, mode_at, latches_of}
-use Rattle.hb_latch.proofs.KeyOrder.{latch_order, exact_keys, without, entries-remove}
+use Rattle.hb_latch.proofs.Facts.KeyOrder.{latch_order, exact_keys, without, entries-remove}
 use Rattle.hb_lemmas.proofs.Orderings.{equal_so, less_so}
 use Rattle.hb_lemmas.proofs.Booleans.{T_true}
 

@@ -15,7 +15,7 @@ use Rattle.hb_latch.specs.declared.modes.Mode.{Mode}
 use Rattle.hb_latch.specs.declared.entries.Held.{Held}
 use Rattle.hb_latch.specs.Tables.{latch_cmp}
 use Rattle.hb_latch.specs.Entries.{key_of, table_entries, IsHeldAt, IsGapOf}
-use Rattle.hb_latch.proofs.KeyOrder.{latch_order, exact_keys, without}
+use Rattle.hb_latch.proofs.Facts.KeyOrder.{latch_order, exact_keys, without}
 use Rattle.hb_lemmas.proofs.Orderings.{less_so}
 
 -- their keys rise

@@ -1,4 +1,4 @@
-pub mod KeyOrder
+pub mod Facts
 pub mod KeyPlaces
 pub mod TableViews
 pub mod Retained
@@ -6,5 +6,4 @@ pub mod Conflicts
 pub mod Shares
 pub mod KeptEdits
 pub mod Compatible
-pub mod InTheWay
 pub mod Counts

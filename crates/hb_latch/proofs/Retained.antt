@@ -10,7 +10,7 @@ use Rattle.hb_latch.specs.declared.entries.Held.{Held}
 use Rattle.hb_latch.specs.Tables.{LatchTable, latch_cmp, mode_at}
 use Rattle.hb_space.specs.Actors.{IsActor}
 use Rattle.hb_latch.specs.Entries.{IsKept, key_of, table_entries}
-use Rattle.hb_latch.proofs.KeyOrder.{exact_keys, latch_order}
+use Rattle.hb_latch.proofs.Facts.KeyOrder.{exact_keys, latch_order}
 use Rattle.hb_latch.proofs.KeyPlaces.{KeysRise}
 use Rattle.hb_latch.proofs.Shares.{share}
 use Rattle.hb_latch.proofs.TableViews.{get_is, table_of}

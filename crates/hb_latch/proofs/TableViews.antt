@@ -12,7 +12,7 @@ use Rattle.hb_latch.specs.declared.modes.Mode.{Mode}
 use Rattle.hb_latch.specs.declared.entries.Held.{Held}
 use Rattle.hb_latch.specs.Tables.{LatchTable, latch_cmp, latches_of}
 use Rattle.hb_latch.specs.Entries.{key_of, table_entries, IsHeldAt, IsGapOf}
-use Rattle.hb_latch.proofs.KeyOrder.{latch_order, without, entries-remove}
+use Rattle.hb_latch.proofs.Facts.KeyOrder.{latch_order, without, entries-remove}
 use Rattle.hb_latch.proofs.KeyPlaces.{KeysRise, find_at, find_gap, put_gap, put_at, without_at}
 use Rattle.hb_lemmas.proofs.Booleans.{T_true}
 

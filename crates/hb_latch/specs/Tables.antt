@@ -1,5 +1,5 @@
 -- What contracts see of a table of latches.
-use Rattle.std.specs.Prelude.{◌≢◌, ℕ, ◌<◌, ◌≤◌, ◌==◌, count_by, Option, IsTrue, IfSome, IsSomeAnd}
+use Rattle.std.specs.Prelude.{◌≢◌, ℕ, ◌<◌, ◌==◌, count_by, Option, IsTrue, IfSome, IsSomeAnd}
 use Rattle.std.specs.Ordering.{nat_cmp, ordering_then}
 use Rattle.std.specs.FinMap as map
 use Rattle.std.specs.declared.cmp.Ordering.{Ordering}

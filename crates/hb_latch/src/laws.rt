@@ -55,7 +55,7 @@ pub fn compatible_latches_stay_compatible()
 {}
 
 /// An actor may have a page exactly where no other actor keeps it from it.
-#[tactic(auto, using(crate::proofs::InTheWay::nobody_keeps, crate::proofs::InTheWay::none_keeps))]
+#[tactic(auto, using(crate::proofs::Facts::InTheWay::nobody_keeps, crate::proofs::Facts::InTheWay::none_keeps))]
 pub fn what_nobody_keeps_may_be_had()
     ensures { (table : LatchTable) (actor page : ℕ) (mode : Manner) →
         IsGrantable table actor page mode

@@ -5,3 +5,4 @@ pub mod OpLaws
 pub mod GroupLaws
 pub mod GroupReads
 pub mod Lengths
+pub mod Facts

@@ -2,6 +2,7 @@
 ghost use Rattle.std.specs.Prelude.{◌≡◌, ◌<◌, ◌^◌, ◌++◌, ◌∷◌, All, flat_map, length, map, OnOk};
 ghost use Rattle.hb_lemmas.specs.Numbers.{big_endian};
 ghost use Rattle.hb_frag.specs.Grammar.{HasSpelling, point_bytes, record_bytes};
+ghost use Rattle.hb_ops.specs.declared.operations.Op.TheVariants as ops;
 ghost use Rattle.hb_log_codec.specs.Groups.{FitsGroup, FitsPageImage, HasShortPaths, cuts_bytes, group_bytes, page_image_bytes, leaf_cut_bytes, op_bytes, page_bytes, path_bytes, side_byte};
 ghost use Rattle.hb_log_codec.specs.Reading.{logged};
 
@@ -76,26 +77,13 @@ pub fn encode_op(op: &Op, into: &mut Vec<u8>) -> Result<(), NoMemory>
             path,
             cuts,
             free_after,
-        } => {
-            into.push(3)?;
-            append_u32(into, *source)?;
-            append_u32(into, *fresh)?;
-            append_u32(into, *free_after)?;
-            append_path(into, path)?;
-            append_cuts(into, cuts)
-        }
+        } => append_split(into, *source, *fresh, path, cuts, *free_after),
         Op::Post {
             parent,
             at,
             inner,
             area,
-        } => {
-            into.push(4)?;
-            append_u32(into, *parent)?;
-            append_path(into, at)?;
-            append_u32(into, *inner)?;
-            append_area(into, area)
-        }
+        } => append_posting(into, *parent, at, *inner, area),
         Op::Merge { parent, keep, gone } => {
             into.push(5)?;
             append_u32(into, *parent)?;
@@ -108,6 +96,44 @@ pub fn encode_op(op: &Op, into: &mut Vec<u8>) -> Result<(), NoMemory>
             append_u32(into, *free_after)
         }
     }
+}
+
+/// Adds a split behind its tag.
+fn append_split(
+    into: &mut Vec<u8>,
+    source: u32,
+    fresh: u32,
+    path: &Path,
+    cuts: &Cuts,
+    free_after: u32,
+) -> Result<(), NoMemory>
+    requires { HasShortPaths (ops.Extract source fresh path.now cuts.now free_after) }
+    ensures { OnOk result (into.new.items ≡ into.old.items ++ op_bytes (ops.Extract source fresh path.now cuts.now free_after)) }
+{
+    into.push(3)?;
+    append_u32(into, source)?;
+    append_u32(into, fresh)?;
+    append_u32(into, free_after)?;
+    append_path(into, path)?;
+    append_cuts(into, cuts)
+}
+
+/// Adds a posting behind its tag.
+fn append_posting(
+    into: &mut Vec<u8>,
+    parent: u32,
+    at: &Path,
+    inner: u32,
+    area: &Area,
+) -> Result<(), NoMemory>
+    requires { HasShortPaths (ops.Post parent at.now inner area.now) }
+    ensures { OnOk result (into.new.items ≡ into.old.items ++ op_bytes (ops.Post parent at.now inner area.now)) }
+{
+    into.push(4)?;
+    append_u32(into, parent)?;
+    append_path(into, at)?;
+    append_u32(into, inner)?;
+    append_area(into, area)
 }
 
 /// The byte of a step of a path, or of a side of a cut.

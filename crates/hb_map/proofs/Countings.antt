@@ -7,11 +7,10 @@ use Rattle.std.proofs.lemmas.List.Sums.{sum_by-cons}
 use Rattle.hb_frag.specs.declared.pages.Page.{Page}
 use Rattle.hb_layout.specs.declared.meta.Meta.{Meta}
 use Rattle.hb_disk.specs.Model.{DiskModel}
-use Rattle.hb_ops.specs.Files.{FileState, page_at}
+use Rattle.hb_ops.specs.Files.{FileState, page_at, last_of}
 use Rattle.hb_ops.specs.Sound.{IsSound}
 use Rattle.hb_store.specs.Held.{StoreHeld}
 use Rattle.hb_store.specs.Keeps.{StoreKeeps}
-use Rattle.hb_store.specs.Parts.{last_of}
 use Rattle.hb_map.specs.Map.{is_parent, parents_of}
 use Rattle.hb_map.specs.Mapping.{AreParents}
 use Rattle.hb_map.proofs.Texts.{next_page}

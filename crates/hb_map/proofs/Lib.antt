@@ -1,4 +1,4 @@
-pub mod Going
+pub mod Facts
 pub mod Looks
 pub mod Readings
 pub mod Texts

@@ -16,7 +16,7 @@ use Rattle.hb_ops.specs.Files.{FileState, live_page}
 use Rattle.hb_ops.specs.Sound.{IsSound}
 use Rattle.hb_sound.specs.Laws.{EachPointIsHeld, NoPointIsHeldTwice, PagesHaveBoxes}
 use Rattle.hb_sound.specs.PointWalks.{HasOn, IsPointOf}
-use Rattle.hb_sound.proofs.PagePlaces.{live_there, place_of}
+use Rattle.hb_sound.proofs.Facts.PagePlaces.{live_there, place_of}
 use Rattle.hb_map.specs.Boxes.{EachPointHasOneBox, boxes_of_records, record_boxes}
 use Rattle.hb_map.proofs.HeldCounts.{HoldsNot, by_holes, by_records, hole_areas, none_above, none_counts, none_holds, one_if, one_leaf, two_kinds}
 

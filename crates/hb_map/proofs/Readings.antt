@@ -8,13 +8,12 @@ use Rattle.hb_frag.specs.Leaves.{weight_of}
 use Rattle.hb_frag.specs.Rules.{capacity_of}
 use Rattle.hb_layout.specs.declared.meta.Meta.{Meta}
 use Rattle.hb_layout.specs.Limits.{IsLayout}
-use Rattle.hb_ops.specs.Files.{FileState, page_of}
+use Rattle.hb_ops.specs.Files.{FileState, page_of, last_of}
 use Rattle.hb_ops.specs.Sound.{IsSound}
 use Rattle.hb_store.specs.Calls.{Fetched, use_fetched}
 use Rattle.hb_store.specs.Fetching.{FetchesNot, IsNoPage, LooksUp}
 use Rattle.hb_store.specs.Held.{StoreHeld}
 use Rattle.hb_store.specs.Keeps.{StoreKeeps}
-use Rattle.hb_store.specs.Parts.{last_of}
 use Rattle.hb_store.specs.Replaying.{IsPageOf}
 use Rattle.hb_store.specs.States.{IsGoodPage, in_memory}
 use Rattle.hb_store.specs.declared.stops.FetchStop.{FetchStop}
@@ -24,7 +23,7 @@ use Rattle.hb_store.proofs.Facts.LookLaws.{LooksUp-as}
 use Rattle.hb_map.specs.declared.stops.MapStop.{MapStop}
 use Rattle.hb_map.specs.declared.stops.MapStop.TheVariants as stops
 use Rattle.hb_map.specs.Mapping.{IsNoDamage, LooksThrough, MayAllGo, MayBePrinted, NamesPage, OfSoundFile, StopsRightly, map_stop_of}
-use Rattle.hb_map.proofs.Going.{still_go}
+use Rattle.hb_map.proofs.Facts.Going.{still_go}
 use Rattle.hb_store.proofs.Facts.PageOnlyLaws.{KeepsAllButPages-same}
 
 -- a refusal of memory is no other stop

@@ -4,11 +4,10 @@ use Rattle.std.proofs.Math.ListN.{drop_of_length-le}
 use Rattle.hb_disk.specs.Model.{DiskModel}
 use Rattle.hb_frag.specs.declared.pages.Page.{Page}
 use Rattle.hb_layout.specs.declared.meta.Meta.{Meta}
-use Rattle.hb_ops.specs.Files.{FileState, page_at}
+use Rattle.hb_ops.specs.Files.{FileState, page_at, last_of}
 use Rattle.hb_outside.specs.Streams.{Appends, AppendsFront}
 use Rattle.hb_outside.proofs.Facts.PutLaws.{AppendsFront-longer}
 use Rattle.hb_store.specs.Held.{StoreHeld}
-use Rattle.hb_store.specs.Parts.{last_of}
 use Rattle.hb_map.specs.Map.{head_text, map_text, page_text, pages_text}
 use Rattle.hb_map.specs.Mapping.{AreParents, LooksThrough, OfSoundFile, PutsText}
 use Rattle.hb_map.proofs.Texts.{next_text, puts_behind, stopped}

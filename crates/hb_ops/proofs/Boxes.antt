@@ -4,7 +4,7 @@ use Rattle.std.proofs.lemmas.Bool.{cases_eq, cases_lt, false≢true}
 use Rattle.std.proofs.lemmas.Bool.Decides.{nat_tests}
 use Rattle.std.proofs.lemmas.List.{length-set, get_or-set_other}
 use Rattle.std.proofs.lemmas.Grind.{get_or-set_at}
-use Rattle.hb_frag.proofs.OrderedLeaves.{held_below}
+use Rattle.hb_frag.proofs.Facts.OrderedLeaves.{held_below}
 use Rattle.hb_space.proofs.Facts.Boxes.{as_long}
 use Rattle.hb_space.specs.Boxes.{Area, Cuts, Holds, holds, is_between, side_below, side_from}
 

@@ -17,3 +17,7 @@ pub mod AllowedOps
 pub mod FilePages
 pub mod KnownBoxes
 pub mod NamedChildren
+pub mod SetPages
+pub mod ReachedPages
+pub mod MadeLeaves
+pub mod MergeMade

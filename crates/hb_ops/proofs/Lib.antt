@@ -9,6 +9,5 @@ pub mod CutTests
 pub mod PostTests
 pub mod CarvedCuts
 pub mod PostMade
-pub mod MergeMade
 pub mod Made
 pub mod Does

@@ -24,7 +24,7 @@ use Rattle.hb_ops.specs.Recording.{del_page, put_page}
 use Rattle.hb_ops.specs.Sound.{FitsFile}
 use Rattle.hb_ops.proofs.Facts.StemLaws.{PartLaws}
 use Rattle.hb_ops.proofs.Facts.PartedPageLaws.{fresh_made, source_made}
-use Rattle.hb_ops.proofs.MergeMade.{kept_made, parent_made}
+use Rattle.hb_ops.proofs.Facts.MergeMade.{kept_made, parent_made}
 use Rattle.hb_ops.proofs.PostMade.{JoinLaws, post_made}
 use Rattle.hb_ops.proofs.Remade.{put_made, del_made}
 

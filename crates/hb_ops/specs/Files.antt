@@ -41,3 +41,8 @@ file_records s = flat_map page_records s.pages
 -- the contents: the body under each point that a record of the file has
 abbrev pub contents_of : FileState → finite.FinMap point_cmp (List ℕ)
 contents_of s = finite.from_entries (map (λ r. (r.key, r.body)) (file_records s))
+
+-- the last of the files behind the first one
+abbrev pub last_of : FileState → List FileState → FileState
+last_of s [] = s
+last_of s (next ∷ later) = last_of next later

@@ -1,4 +1,5 @@
 pub mod Files
+pub mod SetPages
 pub mod Sound
 pub mod Recording
 pub mod Allocating

@@ -3,3 +3,5 @@ pub mod Fields
 pub mod PageLaws
 pub mod Refusals
 pub mod Weights
+pub mod Depth
+pub mod Ordered

@@ -1,7 +1,5 @@
 pub mod Facts
 pub mod Spelled
-pub mod Ordered
-pub mod Depth
 pub mod TreeLaws
 pub mod Writes
 pub mod Decoded

@@ -20,7 +20,7 @@ use std::alloc::Global;
 
 /// The level and the number of attributes, and the byte that is zero.
 #[tactic(auto, unfolding(crate::specs::ReadingPages::head_at))]
-fn head_of(bytes: &[u8]) -> Option<(u8, Attributes, &[u8])>
+pub fn head_of(bytes: &[u8]) -> Option<(u8, Attributes, &[u8])>
     ensures { ReadsAs (λ x. (x.0, x.1.number, x.2.now)) result (head_at bytes.now) }
 {
     match bytes {

@@ -15,7 +15,7 @@ use std::alloc::Global;
 
 /// How many records follow, each with `k` attributes: no more than there is room for.
 #[tactic(auto, unfolding(crate::specs::ReadingFields::count_at))]
-fn count_of(k: Attributes, bytes: &[u8]) -> Option<(u16, &[u8])>
+pub fn count_of(k: Attributes, bytes: &[u8]) -> Option<(u16, &[u8])>
     ensures { ReadsAs (λ x. (x.0, x.1.now)) result (count_at k.number bytes.now) }
 {
     let (count, rest) = u16_of(bytes)?;
@@ -59,7 +59,7 @@ fn records_tip_of(alloc: Global, k: Attributes, bytes: &[u8]) -> Result<(Node, &
 
 /// An attribute below `k`.
 #[tactic(auto, unfolding(crate::specs::ReadingFields::axis_at))]
-fn axis_of(k: Attributes, bytes: &[u8]) -> Option<(u8, &[u8])>
+pub fn axis_of(k: Attributes, bytes: &[u8]) -> Option<(u8, &[u8])>
     ensures { ReadsAs (λ x. (x.0, x.1.now)) result (axis_at k.number bytes.now) }
 {
     let (axis, rest) = bytes.split_first()?;

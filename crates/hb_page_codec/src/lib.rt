@@ -26,8 +26,9 @@ mod numbers;
 mod records;
 mod threads;
 
-pub use decoding::decode;
+pub use decoding::{decode, head_of};
 pub use encoding::encode;
 pub use errors::PageError;
+pub use fragments::{axis_of, count_of};
 pub use numbers::{u16_of, u32_of, u64_of};
 pub use records::{area_of, point_of, record_of};

@@ -35,14 +35,14 @@ puts_as line command source fresh page next is puts = subst (λ (c : Command). P
 
 -- ---- a split
 
-pub splits_off : (meta : Meta) (line : Line) (held fresh free_after : ℕ) (page : LivePage) (path : List Side) (cuts : List LeafCut) (part : Tree × Area) (next : Next) →
-    meta.live < meta.pages → IsChosen page path cuts → part_at path page.frag page.area ≡ Some part →
+pub splits_off : (meta : Meta) (line : Line) (id held fresh free_after : ℕ) (page : LivePage) (path : List Side) (cuts : List LeafCut) (part : Tree × Area) (next : Next) →
+    id ≡ held → meta.live < meta.pages → IsChosen page path cuts → part_at path page.frag page.area ≡ Some part →
     next.then ≡ at.SessionPut line held fresh → next.op ≡ Some (Extract held fresh path cuts free_after) →
     next.jobs.items ≡ record { kind = Post; level = 1; point = (reached cuts part.0 part.1).1.lo } ∷ [] → next.fate ≡ fates.GoesOn →
-    SplitsOrFull (given_sight meta ((held, page) ∷ []) (Some (fresh, free_after))) line held (deed_for line next)
-splits_off meta line held fresh free_after page path cuts part next some chosen found then_is op_is jobs_is fate_is = inr (record {
+    SplitsOrFull (given_sight meta ((id, page) ∷ []) (Some (fresh, free_after))) line held (deed_for line next)
+splits_off meta line id held fresh free_after page path cuts part next given some chosen found then_is op_is jobs_is fate_is = inr (record {
   page = page;
-  live = first_given held page [];
+  live = ap (page_among ((id, page) ∷ [])) (sym given) ∙ first_given id page [];
   leaves = record { path = path; cuts = cuts; chosen = chosen; part = part; there = found; fresh = fresh; free_after = free_after; free = some; next = refl };
   deed_is = λ i. deed_for line (record { then = then_is i; op = op_is i; jobs = record { items = jobs_is i }; fate = fate_is i });
 })

@@ -15,11 +15,10 @@ use Rattle.hb_activity.specs.Deeds.{Deed, takes_effect}
 use Rattle.hb_activity.specs.Passing.{PassesOn}
 use Rattle.hb_activity.specs.Walks.{IsSessionWalk, MeetsRecords, goal_of, walk_holding, walk_point}
 use Rattle.hb_activity.specs.Wanting.{HasLeafAt}
-use Rattle.hb_frag.specs.declared.leaves.Leaf.TheVariants.{Records}
 use Rattle.hb_frag.specs.declared.pages.LivePage.{LivePage}
 use Rattle.hb_frag.specs.declared.pages.Page.{Page}
 use Rattle.hb_frag.specs.declared.pages.Page.TheVariants.{Live, Free}
-use Rattle.hb_frag.specs.Leaves.{leaf_at, weight_of}
+use Rattle.hb_frag.specs.Leaves.{weight_of}
 use Rattle.hb_layout.specs.declared.meta.Meta.{Meta}
 use Rattle.hb_ops.specs.declared.operations.Op.{Op}
 use Rattle.hb_ops.specs.declared.operations.Op.TheVariants.{Put, Del}

@@ -18,9 +18,8 @@ use Rattle.hb_ops.specs.Standing.{StandsNot, StandsThere}
 use Rattle.hb_view.specs.Views.{IsLiveAnd}
 use Rattle.hb_point.specs.SessionRows.{DoesThere}
 use Rattle.hb_point.specs.SplitRows.{PutsInHalf}
-use Rattle.hb_layout.specs.Limits.{IsLayout}
 use Rattle.hb_ops.specs.Sound.{FitsFile}
-use Rattle.hb_point.specs.Asks.{MustSplit, HasHalves, deed_for}
+use Rattle.hb_point.specs.Asks.{HasHalves, deed_for}
 
 -- the page's leaf at the point has records
 pub record RecordsThere (page : LivePage) (p : List ℕ) : Type 0 where
@@ -72,12 +71,6 @@ IsAtRecords meta page other = ⊥
 abbrev pub StandsIn : LivePage → List ℕ → Option (List ℕ) → Type 0
 StandsIn page p None = StandsNot page p
 StandsIn page p (Some body) = (found : Record) × StandsThere page p found × (found.body ≡ body)
-
--- a page to be split, over a file within its limits
-pub record PartsPage (meta : Meta) (free : Option (ℕ × ℕ)) (line : Line) (held : ℕ) (page : LivePage) : Type 0 where
-  pub layout : IsLayout meta
-  pub made : FitsFile meta page
-  pub must : MustSplit meta free line held held page
 
 -- An answer is the row that puts, whatever is given as the other half.
 abbrev pub PutsBy : Line → ℕ → ℕ → LivePage → Next → Type 0

@@ -3,15 +3,15 @@
 ghost use Rattle.std.specs.Prelude.{◌≡◌, ◌⊎◌, ◌↔◌, ℕ, [], ◌∷◌, Some, IfOk, IsTrue, IsSome, OnErr};
 ghost use Rattle.hb_activity.specs.Deciding.{given_sight};
 ghost use Rattle.hb_frag.specs.Leaves.{DirectlyHolds};
-ghost use Rattle.hb_point.specs.Asks.{deed_for, line_with};
-ghost use Rattle.hb_point.specs.Doing.{CanHold, InsertsInto, IsHalfFor, PartsPage, PutsBy};
+ghost use Rattle.hb_point.specs.Asks.{MustSplit, deed_for, line_with};
+ghost use Rattle.hb_point.specs.Doing.{CanHold, InsertsInto, IsHalfFor, PutsBy};
 ghost use Rattle.hb_point.specs.SplitRows.{SplitsOrFull};
 ghost use Rattle.hb_set.specs.declared.commands.Command.TheVariants as commands;
 ghost use Rattle.hb_space.specs.Boxes.{Cuts as Parts};
 
-use hb_activity::{Activity, Job, JobKind, Next, corner_of};
+use hb_activity::{Activity, Job, JobKind, Latched, Next, corner_of};
 use hb_frag::{LivePage, Path, Side};
-use hb_ops::{Cuts, LeafCut, Meta, Op};
+use hb_ops::{Cuts, LeafCut, Op};
 use hb_set::{Command, Line, Reply};
 use hb_space::{Area, NoMemory, Point, Record};
 use hb_split::{Extraction, choose};
@@ -22,17 +22,17 @@ pub(crate) fn split(
     alloc: Global,
     line: Line,
     held: u32,
-    page: &LivePage,
+    latched: Latched<'_>,
     free: Option<(u32, u32)>,
-    meta: &Meta,
 ) -> Result<Next, NoMemory>
-    requires { PartsPage meta.now free line held page.now }
-    ensures row { IfOk result (λ next. SplitsOrFull (given_sight meta.now ((held, page.now) ∷ []) free) line held (deed_for line next)) }
+    requires { MustSplit latched.meta.now free line held latched.id latched.page.now }
+    ensures row { IfOk result (λ next. SplitsOrFull
+        (given_sight latched.entry.meta.now ((latched.entry.id, latched.entry.page.now) ∷ []) free) line held (deed_for line next)) }
     ensures memory { OnErr result (IsSome free) }
 {
     match free {
         None => Ok(Next::answers(Reply::Full)),
-        Some((fresh, free_after)) => part_off(alloc, line, held, page, fresh, free_after, meta),
+        Some((fresh, free_after)) => part_off(alloc, line, held, latched, fresh, free_after),
     }
 }
 
@@ -42,19 +42,19 @@ fn part_off(
     alloc: Global,
     line: Line,
     held: u32,
-    page: &LivePage,
+    latched: Latched<'_>,
     fresh: u32,
     free_after: u32,
-    meta: &Meta,
 ) -> Result<Next, NoMemory>
-    requires { PartsPage meta.now (Some (fresh, free_after)) line held page.now }
-    ensures { IfOk result (λ next. SplitsOrFull (given_sight meta.now ((held, page.now) ∷ []) (Some (fresh, free_after))) line held (deed_for line next)) }
+    requires { MustSplit latched.meta.now (Some (fresh, free_after)) line held latched.id latched.page.now }
+    ensures { IfOk result (λ next. SplitsOrFull
+        (given_sight latched.entry.meta.now ((latched.entry.id, latched.entry.page.now) ∷ []) (Some (fresh, free_after))) line held (deed_for line next)) }
 {
-    let Extraction { path, cuts } = choose(alloc, page)?;
+    let Extraction { path, cuts } = choose(alloc, latched.page)?;
     let job = Job {
         kind: JobKind::Post,
         level: 1,
-        point: corner_of(page, &path, &cuts),
+        point: corner_of(latched.page, &path, &cuts),
     };
     let then = Activity::SessionPut {
         line,

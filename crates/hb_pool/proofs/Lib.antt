@@ -1,5 +1,1 @@
-pub mod Firsts
-pub mod Pooled
-pub mod Others
-pub mod Behind
-pub mod Told
+pub mod Facts

@@ -26,11 +26,6 @@ pub record LooksBelow (meta : Meta) (job : Job) (over child : LivePage) : Type 0
   pub held : Holds over.area job.point
   pub below : Holds child.area job.point
 
--- So it looks at a child that keeps the rules, too.
-pub record LooksAt (meta : Meta) (job : Job) (over child : LivePage) : Type 0 where
-  pub both : LooksBelow meta job over child
-  pub child_made : FitsFile meta child
-
 -- Looking again, the parent is of the job's level.
 pub record LooksAgainBelow (meta : Meta) (job : Job) (over child : LivePage) : Type 0 where
   pub level : over.level ≡ job.level

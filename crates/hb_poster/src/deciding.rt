@@ -1,7 +1,5 @@
 ghost use Rattle.std.specs.Prelude.{◌≡◌, ◌<◌, ◌↔◌, IsTrue, IfOk, OnErr};
 ghost use Rattle.std.specs.Option.{option_copied};
-ghost use Rattle.hb_layout.specs.Limits.{IsLayout};
-ghost use Rattle.hb_ops.specs.Sound.{FitsFile};
 ghost use Rattle.hb_activity.specs.Deciding.{FitsFree, deed_of, given_pages, given_sight};
 ghost use Rattle.hb_poster.specs.Asks.{AsksMemory, MakesPage, MayBeAsked};
 ghost use Rattle.hb_poster.specs.PosterRows.{PosterRow};
@@ -9,15 +7,14 @@ ghost use Rattle.hb_poster.specs.PosterRows.{PosterRow};
 use crate::growing::{grow, may_grow};
 use crate::posting::{lacks_room, look, look_again};
 use crate::walking::walk;
-use hb_activity::{Activity, Next};
+use hb_activity::{Activity, Latched, Next};
 use hb_frag::LivePage;
-use hb_layout::Meta;
 use hb_space::NoMemory;
 use std::alloc::Global;
 
-/// What a step of the poster comes to. `page`, of number `id`, is the page that the step latched: the
-/// root, the page of the walk, the child, or the parent that is promoted. `first` is the parent, where
-/// the page is a child. `free` is the number that a made page takes, with the free head afterwards:
+/// What a step of the poster comes to. The page that it latched is the root, the page of the walk, the
+/// child, or the parent that is promoted. `first` is the parent, where the page is a child. `free` is
+/// the number that a made page takes, with the free head afterwards:
 /// `None` exactly where no page is free. It is read only where a page is to be made, which
 /// `needs_number` tells; elsewhere anything may be given.
 ///
@@ -27,34 +24,29 @@ use std::alloc::Global;
 pub fn next(
     alloc: Global,
     state: Activity,
-    id: u32,
-    page: &LivePage,
+    latched: Latched<'_>,
     first: Option<&LivePage>,
-    _second: Option<&LivePage>,
     free: Option<(u32, u32)>,
-    meta: &Meta,
 ) -> Result<Next, NoMemory>
-    requires layout { IsLayout meta.now }
-    requires made { FitsFile meta.now page.now }
-    requires asked { MayBeAsked state meta.now page.now (option_copied first) }
-    requires free { MakesPage state meta.now page.now (option_copied first) → FitsFree meta.now free }
+    requires asked { MayBeAsked state latched.meta.now latched.page.now (option_copied first) }
+    requires free { MakesPage state latched.meta.now latched.page.now (option_copied first) → FitsFree latched.meta.now free }
     ensures row { IfOk result (λ next. PosterRow state
-        (given_sight meta.now (given_pages state id page.now (option_copied first.entry)) free) id page.now
-        (deed_of state next)) }
-    ensures memory { OnErr result (AsksMemory state meta.now page.now (option_copied first.entry) free) }
+        (given_sight latched.entry.meta.now (given_pages state latched.entry.id latched.entry.page.now (option_copied first.entry)) free)
+        latched.entry.id latched.entry.page.now (deed_of state next)) }
+    ensures memory { OnErr result (AsksMemory state latched.entry.meta.now latched.entry.page.now (option_copied first.entry) free) }
 {
     match state {
-        Activity::PosterGrow { job } => Ok(grow(job, page, free, meta)),
-        Activity::PosterWalk { job, .. } => Ok(walk(job, id, page)),
+        Activity::PosterGrow { job } => Ok(grow(job, latched, free)),
+        Activity::PosterWalk { job, .. } => Ok(walk(job, latched)),
         Activity::PosterPromote { job, parent } => {
             Ok(Next::moves(Activity::PosterAgain { job, parent }))
         }
         Activity::PosterChild { job, parent } => match first {
-            Some(over) => look(alloc, job, parent, over, page, meta),
+            Some(over) => look(alloc, job, parent, over, latched),
             None => unreachable!(),
         },
         Activity::PosterAgain { job, parent } => match first {
-            Some(over) => look_again(alloc, job, parent, over, page, free, meta),
+            Some(over) => look_again(alloc, job, parent, over, latched, free),
             None => unreachable!(),
         },
         _ => unreachable!(),
@@ -66,22 +58,21 @@ pub fn next(
 pub fn needs_number(
     alloc: Global,
     state: &Activity,
-    page: &LivePage,
+    latched: Latched<'_>,
     first: Option<&LivePage>,
-    meta: &Meta,
 ) -> bool
-    requires made { FitsFile meta.now page.now }
-    requires asked { MayBeAsked state.now meta.now page.now (option_copied first) }
+    requires asked { MayBeAsked state.now latched.meta.now latched.page.now (option_copied first) }
     ensures { IsTrue result
-        ↔ ((meta.now.live < meta.now.pages) × MakesPage state.now meta.now page.now (option_copied first.entry)) }
+        ↔ ((latched.entry.meta.now.live < latched.entry.meta.now.pages)
+        × MakesPage state.now latched.entry.meta.now latched.entry.page.now (option_copied first.entry)) }
 {
-    if meta.pages <= meta.live {
+    if latched.meta.pages <= latched.meta.live {
         return false;
     }
     match state {
-        Activity::PosterGrow { job } => may_grow(job, page, meta),
+        Activity::PosterGrow { job } => may_grow(job, latched),
         Activity::PosterAgain { job, .. } => match first {
-            Some(over) => lacks_room(alloc, job, over, page, meta),
+            Some(over) => lacks_room(alloc, job, over, latched),
             None => unreachable!(),
         },
         _ => false,

@@ -7,20 +7,19 @@ ghost use Rattle.hb_frag.specs.declared.pages.LivePage.{LivePage as OnePage};
 ghost use Rattle.hb_activity.specs.Deciding.{FitsFree, deed_of, given_sight};
 ghost use Rattle.hb_poster.specs.PosterRows.{MayGrow, PosterRow};
 
-use hb_activity::{Activity, Job, Next};
+use hb_activity::{Activity, Job, Latched, Next};
 use hb_frag::{Frag, Leaf, LivePage, Node};
-use hb_layout::Meta;
 use hb_layout::limits::HEIGHT_MAX;
 use hb_ops::Op;
 
 /// What growing comes to: where the file may get a level and a page is free, it does, and the job
 /// waits again. Else the job is dropped.
-pub(crate) fn grow(job: Job, root: &LivePage, free: Option<(u32, u32)>, meta: &Meta) -> Next
-    requires { MayGrow (given_sight meta.now [] None) job root.now → FitsFree meta.now free }
-    ensures { (id : ℕ) (pages : List (ℕ × OnePage)) → PosterRow (Activity.PosterGrow job)
-        (given_sight meta.now pages free) id root.now (deed_of (Activity.PosterGrow job) result) }
+pub(crate) fn grow(job: Job, root: Latched<'_>, free: Option<(u32, u32)>) -> Next
+    requires { MayGrow (given_sight root.meta.now [] None) job root.page.now → FitsFree root.meta.now free }
+    ensures { (pages : List (ℕ × OnePage)) → PosterRow (Activity.PosterGrow job)
+        (given_sight root.entry.meta.now pages free) root.entry.id root.entry.page.now (deed_of (Activity.PosterGrow job) result) }
 {
-    if !may_grow(&job, root, meta) {
+    if !may_grow(&job, root) {
         return Next::moves(Activity::PosterIdle);
     }
     match free {
@@ -33,10 +32,11 @@ pub(crate) fn grow(job: Job, root: &LivePage, free: Option<(u32, u32)>, meta: &M
 
 /// Whether the file may get a level for the job: it is as high as the job's level, and the root
 /// gave a part of its box away.
-pub(crate) fn may_grow(job: &Job, root: &LivePage, meta: &Meta) -> bool
-    ensures { IsTrue result ↔ MayGrow (given_sight meta.now [] None) job.now root.now }
+pub(crate) fn may_grow(job: &Job, root: Latched<'_>) -> bool
+    ensures { IsTrue result ↔ MayGrow (given_sight root.entry.meta.now [] None) job.now root.entry.page.now }
 {
-    meta.height == job.level && meta.height < HEIGHT_MAX && gave_away(root)
+    let height = root.meta.height;
+    height == job.level && height < HEIGHT_MAX && gave_away(root.page)
 }
 
 // Whether the page gave a part of its box away.

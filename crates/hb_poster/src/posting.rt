@@ -3,18 +3,15 @@
 ghost use Rattle.std.specs.Prelude.{◌≡◌, ◌<◌, ◌≤◌, ◌^◌, ◌↔◌, [], ◌∷◌, ℕ, Option, Some, IfOk, IsTrue, OnErr};
 ghost use Rattle.hb_frag.specs.Leaves.{weight_of, WellCut};
 ghost use Rattle.hb_frag.specs.Rules.{AreInOrder};
-ghost use Rattle.hb_layout.specs.Limits.{IsLayout};
-ghost use Rattle.hb_ops.specs.Sound.{FitsFile};
 ghost use Rattle.hb_activity.specs.Deciding.{FitsFree, deed_of, given_sight};
 ghost use Rattle.hb_activity.specs.Sights.{Sight};
-ghost use Rattle.hb_poster.specs.Asks.{AsksMemory, LooksAgainBelow, LooksAt, PlansPosting};
+ghost use Rattle.hb_poster.specs.Asks.{AsksMemory, LooksAgainBelow, LooksBelow, PlansPosting};
 ghost use Rattle.hb_poster.specs.PosterRows.{PosterRow, SplitsParent};
 ghost use Rattle.hb_terms.specs.Plans.{IsPlan};
 ghost use Rattle.hb_ops.specs.Owing.{LacksRoom};
 
-use hb_activity::{Activity, Job, JobKind, Next, corner_of};
+use hb_activity::{Activity, Job, JobKind, Latched, Next, corner_of};
 use hb_frag::LivePage;
-use hb_layout::Meta;
 use hb_ops::Op;
 use hb_space::NoMemory;
 use hb_split::choose;
@@ -28,16 +25,15 @@ pub(crate) fn look(
     job: Job,
     parent: u32,
     over: &LivePage,
-    child: &LivePage,
-    meta: &Meta,
+    child: Latched<'_>,
 ) -> Result<Next, NoMemory>
-    requires { LooksAt meta.now job over.now child.now }
-    ensures row { (id : ℕ) (free : Option (ℕ × ℕ)) → IfOk result (λ next. PosterRow (Activity.PosterChild job parent)
-        (given_sight meta.now ((parent, over.now) ∷ (id, child.now) ∷ []) free) id child.now
-        (deed_of (Activity.PosterChild job parent) next)) }
-    ensures memory { OnErr result (PlansPosting meta.now job over.now child.now) }
+    requires { LooksBelow child.meta.now job over.now child.page.now }
+    ensures row { (free : Option (ℕ × ℕ)) → IfOk result (λ next. PosterRow (Activity.PosterChild job parent)
+        (given_sight child.entry.meta.now ((parent, over.now) ∷ (child.entry.id, child.entry.page.now) ∷ []) free)
+        child.entry.id child.entry.page.now (deed_of (Activity.PosterChild job parent) next)) }
+    ensures memory { OnErr result (PlansPosting child.entry.meta.now job over.now child.entry.page.now) }
 {
-    match plan_for(alloc, &job, over, child, meta)? {
+    match plan_for(alloc, &job, over, child)? {
         PostPlan::Nothing => Ok(Next::moves(Activity::PosterIdle)),
         PostPlan::Post { .. } | PostPlan::SplitFirst => {
             Ok(Next::moves(Activity::PosterPromote { job, parent }))
@@ -51,20 +47,17 @@ pub(crate) fn look_again(
     job: Job,
     parent: u32,
     over: &LivePage,
-    child: &LivePage,
+    child: Latched<'_>,
     free: Option<(u32, u32)>,
-    meta: &Meta,
 ) -> Result<Next, NoMemory>
-    requires layout { IsLayout meta.now }
-    requires both { LooksAgainBelow meta.now job over.now child.now }
-    requires child { FitsFile meta.now child.now }
-    requires free { LacksRoom over.now child.now job.point meta.now.icap → FitsFree meta.now free }
-    ensures row { (id : ℕ) → IfOk result (λ next. PosterRow (Activity.PosterAgain job parent)
-        (given_sight meta.now ((parent, over.now) ∷ (id, child.now) ∷ []) free) id child.now
-        (deed_of (Activity.PosterAgain job parent) next)) }
-    ensures memory { OnErr result (AsksMemory (Activity.PosterAgain job parent) meta.now child.now (Some over.now) free) }
+    requires both { LooksAgainBelow child.meta.now job over.now child.page.now }
+    requires free { LacksRoom over.now child.page.now job.point child.meta.now.icap → FitsFree child.meta.now free }
+    ensures row { IfOk result (λ next. PosterRow (Activity.PosterAgain job parent)
+        (given_sight child.entry.meta.now ((parent, over.now) ∷ (child.entry.id, child.entry.page.now) ∷ []) free)
+        child.entry.id child.entry.page.now (deed_of (Activity.PosterAgain job parent) next)) }
+    ensures memory { OnErr result (AsksMemory (Activity.PosterAgain job parent) child.entry.meta.now child.entry.page.now (Some over.now) free) }
 {
-    match plan_for(alloc, &job, over, child, meta)? {
+    match plan_for(alloc, &job, over, child)? {
         PostPlan::Nothing => Ok(Next::moves(Activity::PosterIdle)),
         PostPlan::Post { at, inner, area } => {
             let op = Op::Post {
@@ -85,17 +78,11 @@ pub(crate) fn look_again(
 /// Whether the parent has no room for what is to be posted. Memory is refused only where it has, and a
 /// posting is planned.
 #[tactic(auto, using(crate::proofs::ParentWeights::has_room))]
-pub(crate) fn lacks_room(
-    alloc: Global,
-    job: &Job,
-    over: &LivePage,
-    child: &LivePage,
-    meta: &Meta,
-) -> bool
-    requires { LooksAt meta.now job.now over.now child.now }
-    ensures { IsTrue result ↔ LacksRoom over.now child.now job.now.point meta.now.icap }
+pub(crate) fn lacks_room(alloc: Global, job: &Job, over: &LivePage, child: Latched<'_>) -> bool
+    requires { LooksBelow child.meta.now job.now over.now child.page.now }
+    ensures { IsTrue result ↔ LacksRoom over.now child.entry.page.now job.now.point child.entry.meta.now.icap }
 {
-    match plan_for(alloc, job, over, child, meta) {
+    match plan_for(alloc, job, over, child) {
         Ok(PostPlan::SplitFirst) => true,
         Ok(PostPlan::Nothing | PostPlan::Post { .. }) | Err(_) => false,
     }
@@ -106,14 +93,13 @@ fn plan_for(
     alloc: Global,
     job: &Job,
     over: &LivePage,
-    child: &LivePage,
-    meta: &Meta,
+    child: Latched<'_>,
 ) -> Result<PostPlan, NoMemory>
-    requires { LooksAt meta.now job.now over.now child.now }
-    ensures plan { IfOk result (IsPlan over.now child.now job.now.point meta.now.icap) }
-    ensures memory { OnErr result (PlansPosting meta.now job.now over.now child.now) }
+    requires { LooksBelow child.meta.now job.now over.now child.page.now }
+    ensures plan { IfOk result (IsPlan over.now child.entry.page.now job.now.point child.entry.meta.now.icap) }
+    ensures memory { OnErr result (PlansPosting child.entry.meta.now job.now over.now child.entry.page.now) }
 {
-    post_plan(alloc, over, child, &job.point, meta.icap)
+    post_plan(alloc, over, child.page, &job.point, child.meta.icap)
 }
 
 // The parent is split: the chosen part becomes a page of its own, whose posting one level up is a job,

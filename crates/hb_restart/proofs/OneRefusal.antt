@@ -15,7 +15,7 @@ use Rattle.hb_restart.specs.declared.faults.OpenFault.{OpenFault}
 use Rattle.hb_restart.specs.declared.faults.OpenFault.TheVariants as faults
 use Rattle.hb_store.proofs.Facts.BadGroups.{not_both, one_bad_group}
 use Rattle.hb_restart.proofs.NotRefused.{least_size, opens_so}
-use Rattle.hb_sound.proofs.LeastLaws.{least_one}
+use Rattle.hb_sound.proofs.Facts.LeastLaws.{least_one}
 
 same_small : (a b c d : ℕ) → a ≡ c → b ≡ d → ◌≡◌ {A = OpenFault} (faults.Small a b) (faults.Small c d)
 same_small a b c d e f = cc (e, f)

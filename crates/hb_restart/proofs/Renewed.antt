@@ -18,7 +18,7 @@ use Rattle.hb_layout.specs.declared.meta.Meta.{Meta}
 use Rattle.hb_ops.specs.Files.{FileState, page_of}
 use Rattle.hb_store.specs.Opening.{IsPageIn, place_bytes}
 use Rattle.hb_store.specs.Turning.{StillOpens, IsHere, IsPlaced, IsPlacedTo, MayTurn}
-use Rattle.hb_store.proofs.Turned.{areas, now_has, still_place, still_torn}
+use Rattle.hb_store.proofs.Facts.Turned.{areas, now_has, still_place, still_torn}
 use Rattle.hb_restart.proofs.Numbered.{some_number}
 use Rattle.hb_store.proofs.Facts.PlaceWrites.{Tore, other_place, tore}
 use Rattle.hb_disk.proofs.Facts.RewriteLaws.{Becomes-tells}

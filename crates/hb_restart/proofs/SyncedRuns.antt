@@ -12,7 +12,7 @@ use Rattle.hb_ops.specs.Files.{FileState}
 use Rattle.hb_store.specs.Opening.{OpensTo, IsEven, OpensToOne}
 use Rattle.hb_store.specs.Keeps.{IsFresh}
 use Rattle.hb_store.specs.Turning.{StillOpens, IsHere}
-use Rattle.hb_store.proofs.Turned.{still_to}
+use Rattle.hb_store.proofs.Facts.Turned.{still_to}
 use Rattle.hb_restart.specs.Found.{IsFoundIn}
 use Rattle.hb_store.proofs.Facts.PlaceWrites.{ok_tick}
 

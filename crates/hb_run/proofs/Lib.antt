@@ -1,3 +1,4 @@
+pub mod Facts
 pub mod Going
 pub mod Looking
 pub mod Waking

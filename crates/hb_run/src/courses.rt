@@ -260,7 +260,7 @@ impl<D: Disk, K: Sink> Course<D, K> {
     }
 
     /// Whether no line is without an answer, and no job of either kind is left.
-    pub(crate) fn is_done(&self) -> bool
+    fn is_done(&self) -> bool
         ensures { result ≡ is_done (course_seen D.model K.model self.now) }
     {
         self.left == 0
@@ -268,8 +268,15 @@ impl<D: Disk, K: Sink> Course<D, K> {
             && self.jobs_left(&JobKind::Merge) == 0
     }
 
+    /// Whether nothing is left to do, or the core is stopped.
+    pub(crate) fn is_over(&self) -> bool
+        ensures { result ≡ (is_some (core_seen self.now.core).stop || is_done (course_seen D.model K.model self.now)) }
+    {
+        self.is_stopped() || self.is_done()
+    }
+
     /// Whether the core is stopped.
-    pub(crate) fn is_stopped(&self) -> bool
+    fn is_stopped(&self) -> bool
         ensures { result ≡ is_some (core_seen self.now.core).stop }
     {
         self.core.stop().is_some()

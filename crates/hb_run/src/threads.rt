@@ -185,7 +185,7 @@ pub(crate) fn work_off<R: Wait, N: Begun, D: Disk, K: Sink>(
     let Shared { course, name: _ } = run;
     let mut course = course;
     for _ in rt.forever() {
-        if course.is_stopped() || course.is_done() {
+        if course.is_over() {
             return course;
         }
         turn_each::<N, D, K>(&mut course);

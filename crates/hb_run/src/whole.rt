@@ -17,7 +17,7 @@ use crate::shared::Shared;
 use crate::threads::{take_turns, work_off};
 use hb_core::Ran;
 use hb_disk::Disk;
-use hb_drive::{end_of, put_rest};
+use hb_drive::end_run;
 use hb_outside::Sink;
 use std::marker::PhantomData;
 use std::sync::Wait;
@@ -54,29 +54,11 @@ pub(crate) fn run_whole<
     let over = work_off(rt, take_turns(rt, shared, gate, bells, sessions));
     let Course {
         core,
-        mut sink,
+        sink,
         put,
         answered,
         left: _,
         roster: _,
     } = over;
-    let mut left = numbers;
-    core.unanswered(&mut left);
-    let stop = core.stop();
-    let last = put_rest(
-        &mut sink,
-        put,
-        left.as_slice(),
-        stop.is_some(),
-        core.order(),
-        core.settled(),
-    );
-    let failed = last.is_err();
-    let end = end_of(failed, stop, answered.as_slice());
-    Ran {
-        core,
-        sink,
-        answered,
-        end,
-    }
+    end_run(core, sink, put, answered, numbers)
 }

@@ -94,8 +94,8 @@ stays_so reached next is stays = subst StaysGathering (sym is) stays
 
 -- ---- the session that asked
 
-pub asked_search : {E : Type 0} (result : Result Next E) (state : Activity) (meta : Meta) (free : Option (ℕ × ℕ)) (id : ℕ) (page : LivePage) (first : Option LivePage) (line : Line) (held : Option ℕ) (rest : List Area) (found : List Record) → state ≡ at.SessionWalk line held rest found → IfOk result (SearchesBy meta line rest found id page) →
-    IfOk result (λ next. SearchRow state (given_sight meta (given_pages state id page first) free) id page (deed_of state next))
-asked_search (Ok next) state meta free id page first line held rest found is by =
-    subst (λ (a : Activity). SearchRow a (given_sight meta (given_pages a id page first) free) id page (deed_of a next)) (sym is) (by held ((id, page) ∷ []) free)
-asked_search (Err why) state meta free id page first line held rest found is by = tt
+pub asked_search : {E : Type 0} (result : Result Next E) (state : Activity) (meta : Meta) (id : ℕ) (page : LivePage) (line : Line) (held : Option ℕ) (rest : List Area) (found : List Record) → state ≡ at.SessionWalk line held rest found → IfOk result (SearchesBy meta line rest found id page) →
+    IfOk result (λ next. (free : Option (ℕ × ℕ)) → SearchRow state (given_sight meta (given_pages state id page None) free) id page (deed_of state next))
+asked_search (Ok next) state meta id page line held rest found is by = λ free.
+    subst (λ (a : Activity). SearchRow a (given_sight meta (given_pages a id page None) free) id page (deed_of a next)) (sym is) (by held ((id, page) ∷ []) free)
+asked_search (Err why) state meta id page line held rest found is by = tt

@@ -4,7 +4,7 @@ use Rattle.std.specs.List.{Contains, slice_get}
 use Rattle.std.proofs.lemmas.List.Elements.{All-contains, Contains-get_or, filter_passes}
 use Rattle.std.proofs.lemmas.List.Kept.{AllPairs-filter}
 use Rattle.std.proofs.lemmas.Option.{slice_get_past}
-use Rattle.hb_activity.proofs.Facts.OneRecord.{not_itself}
+use Rattle.hb_space.proofs.Facts.PointOrder.{not_itself}
 use Rattle.hb_frag.proofs.Facts.Tiles.{tiles_areas}
 use Rattle.hb_frag.specs.Leaves.{WellCut, leaf_at, leaves_of}
 use Rattle.hb_frag.specs.Rules.{AreInOrder, IsInOrder}

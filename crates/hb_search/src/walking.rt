@@ -3,17 +3,14 @@
 
 ghost use Rattle.std.specs.Prelude.{◌≡◌, ◌-◌, List, ℕ, Some, IfOk, OnErr, length, slice_get, MatchOption};
 ghost use Rattle.hb_activity.specs.Walks.{MeetsRecords, goal_of};
-ghost use Rattle.hb_layout.specs.Limits.{IsLayout};
-ghost use Rattle.hb_ops.specs.Sound.{FitsFile};
 ghost use Rattle.hb_search.specs.Gathering.{SearchesBy};
 ghost use Rattle.hb_search.specs.Searching.{IsGathering, SearchesInside, StaysGathering};
 ghost use Rattle.hb_set.specs.declared.commands.Command.{Command as OneCommand};
 ghost use Rattle.hb_space.specs.Boxes.{Area as Extent, Holds, IsArea};
 
 use crate::gathering::gather;
-use hb_activity::{Activity, Job, JobKind, Next};
+use hb_activity::{Activity, Job, JobKind, Latched, Next};
 use hb_frag::{Leaf, LivePage};
-use hb_ops::Meta;
 use hb_set::Line;
 use hb_space::{Area, Areas, NoMemory, Records};
 use std::alloc::Global;
@@ -25,18 +22,15 @@ pub(crate) fn search(
     line: Line,
     rest: Areas,
     found: Records,
-    id: u32,
-    page: &LivePage,
-    meta: &Meta,
+    latched: Latched<'_>,
 ) -> Result<Next, NoMemory>
-    requires layout { IsLayout meta.now }
-    requires made { FitsFile meta.now page.now }
-    requires inside { SearchesInside page.now line.command rest }
+    requires inside { SearchesInside latched.page.now line.command rest }
     requires gathering { IsGathering rest found }
-    ensures row { IfOk result (SearchesBy meta.now line rest found id page.now) }
+    ensures row { IfOk result (SearchesBy latched.entry.meta.now line rest found latched.entry.id latched.entry.page.now) }
     ensures kept { IfOk result (λ next. StaysGathering next.then) }
-    ensures memory { OnErr result (MatchOption (goal_of line.command rest) ⊥ (MeetsRecords page.now)) }
+    ensures memory { OnErr result (MatchOption (goal_of line.command rest) ⊥ (MeetsRecords latched.entry.page.now)) }
 {
+    let Latched { id, page, .. } = latched;
     let corner = last_of(page, &line, &rest).lo().copy();
     match page.leaf_at(&corner) {
         (Leaf::Records(records), area) => gather(alloc, line, rest, found, records, &area),

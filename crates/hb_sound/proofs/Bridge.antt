@@ -7,9 +7,9 @@ use Rattle.hb_frag.specs.declared.pages.Page.TheVariants as pages
 use Rattle.hb_layout.specs.declared.meta.Meta.{Meta}
 use Rattle.hb_ops.specs.Files.{page_at, if_live, live_page}
 use Rattle.hb_ops.specs.Sound.{IsRooted}
-use Rattle.hb_sound.specs.declared.facts.Seen.{Seen}
-use Rattle.hb_sound.specs.declared.facts.Fact.{Fact}
-use Rattle.hb_sound.specs.declared.facts.Fact.TheVariants.{Live, Free}
+use Rattle.hb_sound.specs.declared.page_facts.Seen.{Seen}
+use Rattle.hb_sound.specs.declared.page_facts.Fact.{Fact}
+use Rattle.hb_sound.specs.declared.page_facts.Fact.TheVariants.{Live, Free}
 use Rattle.hb_sound.specs.Covers.{SeesTop}
 use Rattle.hb_sound.specs.Facts.{AreFactsOf, IsFactOf, IsSeenOf, if_next, if_seen, next_at, seen_at}
 use Rattle.hb_sound.specs.Told.{HasBoundedMeta, item_at, file_with}

@@ -7,8 +7,8 @@ use Rattle.hb_frag.specs.declared.pages.Page.TheVariants as pages
 use Rattle.hb_layout.specs.declared.meta.Meta.{Meta}
 use Rattle.hb_ops.specs.Files.{FileState, page_of}
 use Rattle.hb_ops.specs.Sound.{IsChain, IsCounted, count_live}
-use Rattle.hb_sound.specs.declared.facts.Fact.{Fact}
-use Rattle.hb_sound.specs.declared.facts.Fact.TheVariants.{Live, Free}
+use Rattle.hb_sound.specs.declared.page_facts.Fact.{Fact}
+use Rattle.hb_sound.specs.declared.page_facts.Fact.TheVariants.{Live, Free}
 use Rattle.hb_sound.specs.Covers.{IsFreeBreak, live_facts}
 use Rattle.hb_sound.specs.Facts.{AreFactsOf, next_at}
 use Rattle.hb_sound.specs.Names.{NamesFree}

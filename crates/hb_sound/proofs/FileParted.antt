@@ -18,7 +18,7 @@ use Rattle.hb_ops.specs.Allocating.{Allocates, allocated}
 use Rattle.hb_sound.proofs.CutNames.{once}
 use Rattle.hb_sound.proofs.PageLists.{HasInstead, none_behind, put_behind, put_instead}
 use Rattle.hb_ops.proofs.Facts.PageNumberLaws.{live_so}
-use Rattle.hb_sound.proofs.PagesParted.{fresh_narrower, names_parted, stems_child, stems_sibling}
+use Rattle.hb_sound.proofs.Facts.PagesParted.{fresh_narrower, names_parted, stems_child, stems_sibling}
 use Rattle.hb_ops.proofs.Facts.PartedPageLaws.{fresh_made, source_made}
 use Rattle.hb_ops.proofs.Facts.StemLaws.{fresh_stems, source_stems, PartLaws}
 use Rattle.hb_ops.proofs.Facts.PlacedLaws.{leaf_is_sibling, placed, sibling_is_leaf}

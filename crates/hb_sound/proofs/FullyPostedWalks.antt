@@ -11,7 +11,7 @@ use Rattle.hb_sound.specs.Laws.{SpaceLaws, TreeLaws, FullyPostedWalksAreShort}
 use Rattle.hb_ops.specs.Settled.{AllPosted}
 use Rattle.hb_sound.specs.PointWalks.{IsWalk, LeadsOn, Sees}
 use Rattle.hb_sound.proofs.HeldSomewhere.{leaf_there}
-use Rattle.hb_sound.proofs.OneLevel.{same_page}
+use Rattle.hb_sound.proofs.Facts.OneLevel.{same_page}
 use Rattle.hb_sound.proofs.Partition.{whole_holds, whole_is_area}
 use Rattle.hb_sound.proofs.WalksDown.{belongs, child_below, no_sibling}
 use Rattle.hb_space.proofs.Facts.Boxes.{Meets-from_point}

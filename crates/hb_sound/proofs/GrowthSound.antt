@@ -14,7 +14,7 @@ use Rattle.hb_space.proofs.Facts.Boxes.{Within-self}
 use Rattle.hb_sound.proofs.Growths.{Growth, growth, grown}
 use Rattle.hb_sound.specs.LawsOfOperations.{GrowthKeepsSound}
 use Rattle.hb_ops.specs.Allocating.{new_root}
-use Rattle.hb_sound.proofs.ExampleParts.{no_records}
+use Rattle.hb_sound.proofs.Facts.ExampleParts.{no_records}
 use Rattle.std.proofs.lemmas.List.Elements.{All-from_recursion}
 use Rattle.hb_sound.proofs.FileGrown.{IsGrown, comes_from, is_grown, stays_live}
 use Rattle.hb_sound.proofs.PageLists.{live_few}

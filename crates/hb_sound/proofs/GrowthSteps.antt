@@ -11,11 +11,11 @@ use Rattle.hb_ops.specs.Files.{FileState, live_page, page_of}
 use Rattle.hb_ops.specs.Sound.{ChildrenMatch, FitsFile, IsCounted, IsCovered, IsSound, SiblingsMatch, times_named}
 use Rattle.hb_sound.proofs.Growths.{Growth, LicensesGrowth, MayGrow, grown}
 use Rattle.hb_sound.specs.Examples.{passing, tower_ground}
-use Rattle.hb_sound.proofs.ExampleParts.{in_order}
+use Rattle.hb_sound.proofs.Facts.ExampleParts.{in_order}
 use Rattle.hb_space.proofs.Facts.Intervals.{held, interval, top}
 use Rattle.std.proofs.lemmas.List.Elements.{All-from_recursion}
 use Rattle.hb_sound.proofs.GrowthSound.{growth_keeps_sound}
-use Rattle.hb_sound.proofs.PagePlaces.{place_of}
+use Rattle.hb_sound.proofs.Facts.PagePlaces.{place_of}
 use Rattle.hb_ops.proofs.Facts.PageNumberLaws.{page_at-suc, page_at-zero}
 use Rattle.hb_ops.proofs.Facts.PlacedLaws.{placed}
 

@@ -12,7 +12,7 @@ use Rattle.hb_ops.specs.Files.{FileState, live_page}
 use Rattle.hb_ops.specs.Sound.{AreWellMade, IsCovered, SiblingsMatch}
 use Rattle.hb_sound.specs.Laws.{TreeLaws}
 use Rattle.hb_sound.specs.PointWalks.{HasOn}
-use Rattle.hb_sound.proofs.OneLevel.{holds_where_leaf, page_area, sibling_there, spread}
+use Rattle.hb_sound.proofs.Facts.OneLevel.{holds_where_leaf, page_area, sibling_there, spread}
 use Rattle.hb_ops.proofs.Facts.PlacedLaws.{leaf_is_sibling, placed}
 
 -- the page that a sibling leaf names

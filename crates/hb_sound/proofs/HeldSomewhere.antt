@@ -11,7 +11,7 @@ use Rattle.hb_ops.specs.Files.{FileState, live_page}
 use Rattle.hb_ops.specs.Sound.{AreWellMade, IsCovered, SiblingsMatch}
 use Rattle.hb_sound.specs.Laws.{TreeLaws}
 use Rattle.hb_sound.specs.PointWalks.{HasOn, IsWalk}
-use Rattle.hb_sound.proofs.OneLevel.{narrower, page_area, sibling_there}
+use Rattle.hb_sound.proofs.Facts.OneLevel.{narrower, page_area, sibling_there}
 use Rattle.hb_ops.proofs.Facts.PlacedLaws.{leaf_is_sibling, placed}
 use Rattle.hb_sound.proofs.Widths.{width}
 

@@ -5,7 +5,7 @@ use Rattle.hb_frag.specs.Leaves.{leaves, leaves_of}
 use Rattle.hb_frag.specs.Rules.{BelongsAt, IsInOrder}
 use Rattle.hb_ops.specs.Sound.{AreWellMade, ChildrenMatch, FitsFile, IsCovered, IsSound, SiblingsMatch}
 use Rattle.hb_sound.specs.LateFile.{late_aside, late_beside, late_file, late_highest, late_inner, late_lowest, late_meta, late_middle, late_root, late_shared}
-use Rattle.hb_sound.proofs.ExampleParts.{HasChildren, children_match, counted, each_page, first, in_order, is_covered, later, no_records, none_given, siblings_match}
+use Rattle.hb_sound.proofs.Facts.ExampleParts.{HasChildren, children_match, counted, each_page, first, in_order, is_covered, later, no_records, none_given, siblings_match}
 use Rattle.hb_space.proofs.Facts.Intervals.{cuts, held, interval, not_whole, top, within}
 use Rattle.std.proofs.lemmas.List.Elements.{All-from_recursion}
 

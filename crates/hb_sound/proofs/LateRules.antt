@@ -4,7 +4,7 @@ use Rattle.hb_frag.specs.declared.pages.Page.{Page}
 use Rattle.hb_layout.specs.declared.meta.Meta.{Meta}
 use Rattle.hb_ops.specs.Files.{FileState}
 use Rattle.hb_ops.specs.Sound.{AreWellMade, ChildrenMatch, IsCovered, IsSound, SiblingsMatch, times_named}
-use Rattle.hb_sound.specs.declared.facts.Fact.{Fact}
+use Rattle.hb_sound.specs.declared.page_facts.Fact.{Fact}
 use Rattle.hb_sound.specs.declared.links.Links.{Links}
 use Rattle.hb_sound.specs.declared.names.Times.TheVariants.{Never}
 use Rattle.hb_sound.specs.Covers.{AreBelow, IsCoverBreak, SeesRule}

@@ -2,9 +2,9 @@
 use Rattle.std.proofs.Common.{◌≡◌, ◌≢◌, ◌⊎◌, inl, inr, ℕ, zero, suc, ◌+◌, ◌==◌, true, not, List, [], ◌∷◌, ◌++◌, length, Option, Some, None, slice_get, refl, sym, ap, ◌∙◌, subst, arith}
 use Rattle.std.proofs.lemmas.Bool.{eq-eqb, false≢true, ne_eqb}
 use Rattle.hb_space.specs.Boxes.{Area}
-use Rattle.hb_sound.specs.declared.facts.Seen.{Seen}
-use Rattle.hb_sound.specs.declared.facts.Fact.{Fact}
-use Rattle.hb_sound.specs.declared.facts.Fact.TheVariants.{Live, Free}
+use Rattle.hb_sound.specs.declared.page_facts.Seen.{Seen}
+use Rattle.hb_sound.specs.declared.page_facts.Fact.{Fact}
+use Rattle.hb_sound.specs.declared.page_facts.Fact.TheVariants.{Live, Free}
 use Rattle.hb_sound.specs.declared.names.Times.{Times}
 use Rattle.hb_sound.specs.Covers.{AreFirsts, HasBox, IsLooseSeen, SeesSome}
 use Rattle.hb_sound.specs.Facts.{if_seen, seen_at}

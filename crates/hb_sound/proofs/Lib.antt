@@ -1,9 +1,7 @@
-pub mod LeastLaws
+pub mod Facts
 pub mod Asking
 pub mod SiblingLeaves
 pub mod Widths
-pub mod PagePlaces
-pub mod OneLevel
 pub mod HeldOnce
 pub mod HeldSomewhere
 pub mod WalksDown
@@ -11,7 +9,6 @@ pub mod WalkSteps
 pub mod OneWalk
 pub mod RecordsAtHome
 pub mod Partition
-pub mod ExampleParts
 pub mod SmallFile
 pub mod FullyPostedWalks
 pub mod OneParent
@@ -24,13 +21,11 @@ pub mod Extractions
 pub mod Growths
 pub mod CutWidths
 pub mod CutNames
-pub mod PagesParted
 pub mod PageLists
 pub mod FileParted
 pub mod SplitChains
 pub mod SplitSound
 pub mod RecordsStand
-pub mod RecordsParted
 pub mod SplitContents
 pub mod SplitDirect
 pub mod FileGrown
@@ -40,7 +35,6 @@ pub mod GrowthSteps
 pub mod PostedPage
 pub mod OneChanged
 pub mod PostSound
-pub mod MergedPages
 pub mod MergedLeaves
 pub mod UnnamedPages
 pub mod MergedFile

@@ -10,7 +10,7 @@ use Rattle.hb_frag.specs.Leaves.{leaves, leaves_of, siblings, siblings_of}
 use Rattle.hb_frag.specs.Trees.{Tree, Tip, Cut}
 use Rattle.hb_ops.specs.Files.{if_live, page_at}
 use Rattle.hb_ops.specs.Sound.{count_name, times_named}
-use Rattle.hb_sound.specs.declared.facts.Fact.{Fact}
+use Rattle.hb_sound.specs.declared.page_facts.Fact.{Fact}
 use Rattle.hb_sound.specs.declared.links.Links.{Links}
 use Rattle.hb_sound.specs.declared.names.Times.{Times}
 use Rattle.hb_sound.specs.declared.names.Times.TheVariants.{Never}

@@ -8,8 +8,8 @@ use Rattle.hb_frag.specs.Rules.{AreInOrder, Fits, IsFilledRight}
 use Rattle.hb_layout.specs.declared.meta.Meta.{Meta}
 use Rattle.hb_ops.specs.Files.{FileState}
 use Rattle.hb_ops.specs.Sound.{BreaksFirst}
-use Rattle.hb_sound.specs.declared.facts.Fact.{Fact}
-use Rattle.hb_sound.specs.declared.facts.Fact.TheVariants.{Live, Free}
+use Rattle.hb_sound.specs.declared.page_facts.Fact.{Fact}
+use Rattle.hb_sound.specs.declared.page_facts.Fact.TheVariants.{Live, Free}
 use Rattle.hb_sound.specs.Names.{BreaksRule, KeepsLocally, NamesLocal}
 use Rattle.hb_sound.specs.Covers.{HasRule, IsLeastRule, SeesRule}
 use Rattle.hb_sound.specs.Facts.{AreFactsOf, if_seen}

@@ -3,8 +3,8 @@ use Rattle.std.proofs.Common.{◌≡◌, inr, ℕ, ◌+◌, ◌<◌, ◌≤◌, 
 use Rattle.std.proofs.lemmas.Option.{slice_get-get_or, slice_get_read}
 use Rattle.hb_space.specs.Boxes.{Area, whole_area}
 use Rattle.hb_layout.specs.declared.meta.Meta.{Meta}
-use Rattle.hb_sound.specs.declared.facts.Fact.{Fact}
-use Rattle.hb_sound.specs.declared.facts.Fact.TheVariants.{Live, Free}
+use Rattle.hb_sound.specs.declared.page_facts.Fact.{Fact}
+use Rattle.hb_sound.specs.declared.page_facts.Fact.TheVariants.{Live, Free}
 use Rattle.hb_sound.specs.declared.names.Times.{Times}
 use Rattle.hb_sound.specs.Covers.{AreFirsts, IsCoverBreak, IsLooseFact, IsLooseSeen, LacksLevel, SeesLoose}
 use Rattle.hb_sound.specs.Facts.{if_seen}

@@ -7,7 +7,7 @@ use Rattle.hb_frag.specs.Rules.{BelongsAt, IsInOrder}
 use Rattle.hb_ops.specs.Sound.{FitsFile, IsSound, SiblingsMatch, ChildrenMatch, IsCovered}
 use Rattle.hb_sound.specs.Examples.{small_left, lost_file, lost_last, lost_meta, lost_root, lost_second, lost_third}
 use Rattle.hb_sound.specs.PointWalks.{IsResponsible, IsWholeWalk}
-use Rattle.hb_sound.proofs.ExampleParts.{children_match, counted, each_page, first, in_order, is_covered, later, no_records, none_given, siblings_match}
+use Rattle.hb_sound.proofs.Facts.ExampleParts.{children_match, counted, each_page, first, in_order, is_covered, later, no_records, none_given, siblings_match}
 use Rattle.hb_space.proofs.Facts.Intervals.{cuts, held, interval, not_whole, top, within}
 use Rattle.std.proofs.lemmas.List.Elements.{All-from_recursion}
 

@@ -21,8 +21,8 @@ use Rattle.hb_sound.specs.Laws.{SpaceLaws, TreeLaws}
 use Rattle.hb_sound.specs.LawsOfMerges.{MergesChangeThree, MergesKeepContents, MergesKeepSound}
 use Rattle.hb_sound.proofs.DoneMerges.{IsMerged, TakesOver, is_gone, merged, stays, takes_over}
 use Rattle.hb_sound.proofs.MergedLeaves.{MergeLaws}
-use Rattle.hb_sound.proofs.OneLevel.{same_page}
-use Rattle.hb_sound.proofs.RecordsParted.{AmongLeaves, ShareRecords}
+use Rattle.hb_sound.proofs.Facts.OneLevel.{same_page}
+use Rattle.hb_sound.proofs.Facts.RecordsParted.{AmongLeaves, ShareRecords}
 use Rattle.hb_sound.proofs.RecordsStand.{HasRecord, in_leaf}
 use Rattle.hb_sound.proofs.SplitContents.{among_of, in_file, same_contents}
 use Rattle.hb_ops.proofs.Facts.PlacedLaws.{placed, placed_is_leaf}

@@ -13,7 +13,7 @@ use Rattle.hb_sound.specs.LawsOfOperations.{HasDirectly}
 use Rattle.hb_sound.specs.PointWalks.{HasOn, IsPointOf}
 use Rattle.hb_sound.proofs.DoneMerges.{IsMerged, is_gone, merged, stays}
 use Rattle.hb_sound.proofs.MergedLeaves.{MergeLaws, siblings_stay}
-use Rattle.hb_sound.proofs.OneLevel.{same_page}
+use Rattle.hb_sound.proofs.Facts.OneLevel.{same_page}
 use Rattle.hb_sound.proofs.Partition.{each_point_is_held, no_point_is_held_twice}
 use Rattle.hb_sound.proofs.PostSound.{direct_again}
 

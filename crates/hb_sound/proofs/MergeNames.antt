@@ -2,7 +2,7 @@
 use Rattle.std.proofs.Common.{◌≡◌, ℕ, ◌+◌, ◌<◌, true, false, cond, List, [], ◌∷◌, map, Some, refl, sym, ap, subst, ◌∙◌, arith}
 use Rattle.std.specs.Option.{option_map}
 use Rattle.std.proofs.lemmas.List.Elements.{All-contains}
-use Rattle.hb_ops.proofs.MergeMade.{renamed_kind}
+use Rattle.hb_ops.proofs.Facts.MergeMade.{renamed_kind}
 use Rattle.hb_space.specs.Boxes.{IsArea, Holds, holds}
 use Rattle.hb_frag.specs.declared.pages.LivePage.{LivePage}
 use Rattle.hb_frag.specs.Leaves.{IsWellCut, Placed, first_at, leaf_at, leaves, leaves_of}
@@ -17,7 +17,7 @@ use Rattle.hb_sound.specs.Laws.{SpaceLaws, TreeLaws}
 use Rattle.hb_sound.specs.LawsOfMerges.{MergesChangeThree, MergesKeepSound, MergesRename, RenamesAt}
 use Rattle.hb_sound.proofs.DoneMerges.{merged}
 use Rattle.hb_sound.proofs.MergedLeaves.{MergeLaws}
-use Rattle.hb_sound.proofs.OneLevel.{same_page}
+use Rattle.hb_sound.proofs.Facts.OneLevel.{same_page}
 use Rattle.hb_sound.proofs.Partition.{pages_have_boxes}
 use Rattle.hb_sound.proofs.PostedPage.{kept_same, same_first, some_of}
 use Rattle.hb_ops.proofs.Facts.PlacedLaws.{placed_is_leaf}

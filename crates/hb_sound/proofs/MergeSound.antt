@@ -24,8 +24,8 @@ use Rattle.hb_sound.specs.LawsOfOperations.{MayBeDone}
 use Rattle.hb_sound.specs.Names.{HasBelow}
 use Rattle.hb_sound.proofs.MergedFile.{OtherPage, above_now, after as merged_file, comes_from, counted_again, covered_again, found, kept_now, named_gone, rooted_again, same_level, siblings_match, stays_live}
 use Rattle.hb_sound.proofs.MergedLeaves.{MergeLaws, NamesChild, child_from, kept_so, parent_child_from}
-use Rattle.hb_sound.proofs.MergedPages.{is_joined, joins, merged_so, Joins}
-use Rattle.hb_sound.proofs.OneLevel.{same_page}
+use Rattle.hb_sound.proofs.Facts.MergedPages.{is_joined, joins, merged_so, Joins}
+use Rattle.hb_sound.proofs.Facts.OneLevel.{same_page}
 use Rattle.hb_sound.proofs.OneParent.{no_other_parent}
 use Rattle.hb_sound.proofs.Partition.{pages_have_boxes}
 use Rattle.hb_sound.proofs.PostedPage.{capacity_above}

@@ -16,7 +16,7 @@ use Rattle.hb_ops.proofs.Facts.PageNumberLaws.{live_so}
 use Rattle.hb_sound.specs.Laws.{TreeLaws}
 use Rattle.hb_sound.proofs.CutNames.{once}
 use Rattle.hb_sound.proofs.MergedLeaves.{MergeLaws, kept_so, names_again, siblings_from, siblings_stay}
-use Rattle.hb_sound.proofs.MergedPages.{IsJoined, Joins, after as joined_file, gone_box, is_joined}
+use Rattle.hb_sound.proofs.Facts.MergedPages.{IsJoined, Joins, after as joined_file, gone_box, is_joined}
 use Rattle.hb_sound.proofs.UnnamedPages.{named_some}
 
 module _ (trees : TreeLaws) (laws : MergeLaws) (s : FileState) (parent keep gone : ℕ) (may : Joins s parent keep gone) (sound : IsSound s) where

@@ -10,7 +10,7 @@ use Rattle.hb_sound.specs.Names.{BreaksRule, MissesSibling, MissesChild, IsLoose
 use Rattle.hb_sound.specs.Walks.{IsLeast, IsLeftOut, IsOnce, LeadsAlong, next_free}
 use Rattle.hb_sound.proofs.ChainBridge.{contains_cases}
 use Rattle.hb_sound.proofs.NoneBroken.{not_broken}
-use Rattle.hb_sound.proofs.LeastLaws.{least_one}
+use Rattle.hb_sound.proofs.Facts.LeastLaws.{least_one}
 
 -- a number behind the first of a list
 later : (x : ℕ) (xs : List ℕ) (n : ℕ) → Contains xs n → Contains (x ∷ xs) n

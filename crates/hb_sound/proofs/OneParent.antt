@@ -8,7 +8,7 @@ use Rattle.hb_frag.specs.Leaves.{DirectlyCovers, DirectlyHolds, Placed, leaf_at,
 use Rattle.hb_sound.specs.Laws.{SpaceLaws, TreeLaws, NoOtherParent}
 use Rattle.hb_sound.specs.PointWalks.{IsPointOf}
 use Rattle.hb_sound.proofs.HeldSomewhere.{holds_directly}
-use Rattle.hb_sound.proofs.OneLevel.{holds_where_leaf, page_area, same_page}
+use Rattle.hb_sound.proofs.Facts.OneLevel.{holds_where_leaf, page_area, same_page}
 use Rattle.hb_sound.proofs.Partition.{no_point_is_held_twice}
 use Rattle.hb_ops.proofs.Facts.PlacedLaws.{placed}
 use Rattle.hb_space.proofs.Facts.Boxes.{Holds-within, Meets-from_point, lo_held}

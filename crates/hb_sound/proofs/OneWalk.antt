@@ -9,7 +9,7 @@ use Rattle.hb_ops.specs.Files.{FileState}
 use Rattle.hb_sound.specs.Laws.{WalksAreOne}
 use Rattle.hb_sound.specs.PointWalks.{IsWalk, LeadsOn, Sees}
 use Rattle.hb_sound.proofs.HeldSomewhere.{same_leaf}
-use Rattle.hb_sound.proofs.OneLevel.{same_page}
+use Rattle.hb_sound.proofs.Facts.OneLevel.{same_page}
 use Rattle.hb_ops.proofs.Facts.PlacedLaws.{placed}
 
 one_leaf : (s : FileState) (p : List ℕ) (id : ℕ) (a b : Leaf) → Sees s p id a → Sees s p id b → a ≡ b

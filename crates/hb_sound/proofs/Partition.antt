@@ -19,7 +19,7 @@ use Rattle.hb_sound.proofs.WalksDown.{responsible_for, walks_down}
 use Rattle.hb_sound.proofs.WalkSteps.{step_leads}
 use Rattle.hb_ops.proofs.Facts.PlacedLaws.{placed}
 use Rattle.hb_sound.proofs.HeldSomewhere.{found}
-use Rattle.hb_sound.proofs.OneLevel.{page_area, same_page}
+use Rattle.hb_sound.proofs.Facts.OneLevel.{page_area, same_page}
 use Rattle.hb_sound.proofs.Widths.{width}
 use Rattle.hb_ops.proofs.Facts.Contents.{del_on, put_on}
 

@@ -21,7 +21,7 @@ use Rattle.hb_frag.specs.CarvingLaws.{Carves, IsCarvedLeaf}
 use Rattle.hb_frag.specs.NormalLaws.{KeepsLeaf, KeepsPoint, SaysTheSame}
 use Rattle.hb_sound.specs.Laws.{TreeLaws}
 use Rattle.hb_sound.specs.LawsOfPostings.{NamesAt}
-use Rattle.hb_sound.proofs.ExampleParts.{no_records}
+use Rattle.hb_sound.proofs.Facts.ExampleParts.{no_records}
 use Rattle.hb_ops.proofs.Facts.PlacedLaws.{each_leaf, placed, placed_is_leaf}
 use Rattle.hb_lemmas.proofs.Lists.{each_member}
 use Rattle.hb_ops.proofs.Facts.PathLaws.{well_cut_again}

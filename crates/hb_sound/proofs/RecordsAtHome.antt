@@ -20,7 +20,7 @@ use Rattle.hb_ops.specs.Sound.{AreWellMade, IsCovered, SiblingsMatch}
 use Rattle.hb_sound.specs.Laws.{TreeLaws}
 use Rattle.hb_sound.specs.PointWalks.{HasOn}
 use Rattle.hb_sound.proofs.HeldSomewhere.{holds_directly}
-use Rattle.hb_sound.proofs.OneLevel.{holds_where_leaf, page_area}
+use Rattle.hb_sound.proofs.Facts.OneLevel.{holds_where_leaf, page_area}
 use Rattle.hb_ops.proofs.Facts.PlacedLaws.{placed}
 
 -- what holds of each record of each leaf holds of each record of the tree

@@ -25,7 +25,7 @@ use Rattle.hb_ops.proofs.Facts.Finds.{body-lacking, entry_of}
 use Rattle.hb_ops.proofs.Facts.PageNumberLaws.{page_at-suc}
 use Rattle.hb_sound.specs.Laws.{RecordsStandOnce, SpaceLaws, TreeLaws}
 use Rattle.hb_sound.specs.PointWalks.{IsResponsible}
-use Rattle.hb_sound.proofs.PagePlaces.{live_there}
+use Rattle.hb_sound.proofs.Facts.PagePlaces.{live_there}
 use Rattle.hb_sound.proofs.Partition.{is_responsible, pages_have_boxes, records_are_at_home}
 use Rattle.hb_sound.proofs.RecordsStand.{in_leaf, of_page, of_page_id, stands_at}
 

@@ -23,7 +23,7 @@ use Rattle.hb_ops.specs.Sound.{FitsFile}
 use Rattle.hb_ops.specs.Standing.{StandsThere}
 use Rattle.hb_sound.specs.Laws.{TreeLaws}
 use Rattle.hb_sound.specs.PointWalks.{IsPointOf}
-use Rattle.hb_sound.proofs.PagePlaces.{live_there}
+use Rattle.hb_sound.proofs.Facts.PagePlaces.{live_there}
 use Rattle.hb_ops.proofs.Facts.PlacedLaws.{placed}
 use Rattle.hb_lemmas.proofs.Orderings.{equal_so}
 use Rattle.hb_space.proofs.Facts.PointOrder.{exact_points}

@@ -14,9 +14,9 @@ use Rattle.hb_frag.specs.Leaves.{Placed, leaves, leaves_of, siblings}
 use Rattle.hb_lemmas.proofs.Lists.{each_member, only_one}
 use Rattle.hb_ops.proofs.Facts.PlacedLaws.{leaf_is_sibling, placed, sibling_is_leaf}
 use Rattle.hb_ops.specs.Sound.{count_name}
-use Rattle.hb_sound.specs.declared.facts.Seen.{Seen}
-use Rattle.hb_sound.specs.declared.facts.Fact.{Fact}
-use Rattle.hb_sound.specs.declared.facts.Fact.TheVariants.{Live, Free}
+use Rattle.hb_sound.specs.declared.page_facts.Seen.{Seen}
+use Rattle.hb_sound.specs.declared.page_facts.Fact.{Fact}
+use Rattle.hb_sound.specs.declared.page_facts.Fact.TheVariants.{Live, Free}
 use Rattle.hb_sound.specs.declared.links.Links.{Links}
 use Rattle.hb_sound.specs.declared.rests.Rest.{Rest}
 use Rattle.hb_sound.specs.declared.rests.Rest.TheVariants.{Nothing, Lone, More}

@@ -9,7 +9,7 @@ use Rattle.hb_frag.specs.Rules.{BelongsAt, IsInOrder}
 use Rattle.hb_ops.specs.Sound.{AreWellMade, ChildrenMatch, FitsFile, IsCovered, IsSound, SiblingsMatch}
 use Rattle.hb_sound.specs.Examples.{small_file, small_left, small_meta, small_right, small_root}
 use Rattle.hb_sound.specs.PointWalks.{IsResponsible, IsWholeWalk, Sees}
-use Rattle.hb_sound.proofs.ExampleParts.{HasChildren, children_match, counted, each_page, first, in_order, is_covered, later, no_records, none_given, siblings_match}
+use Rattle.hb_sound.proofs.Facts.ExampleParts.{HasChildren, children_match, counted, each_page, first, in_order, is_covered, later, no_records, none_given, siblings_match}
 use Rattle.hb_space.proofs.Facts.Intervals.{below_all, cuts, held, interval, not_whole, top, within}
 use Rattle.std.proofs.lemmas.List.Elements.{All-from_recursion}
 

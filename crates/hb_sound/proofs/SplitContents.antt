@@ -21,7 +21,7 @@ use Rattle.hb_ops.specs.Allocating.{Allocates, allocated}
 use Rattle.hb_sound.proofs.FileParted.{ArePartsOf, IsParted, after as parted_file, is_parted, parts_of}
 use Rattle.hb_ops.proofs.Facts.StemLaws.{PartLaws}
 use Rattle.hb_sound.proofs.Partition.{pages_have_boxes, standing_is_contents}
-use Rattle.hb_sound.proofs.RecordsParted.{AmongLeaves, ShareRecords, share_records}
+use Rattle.hb_sound.proofs.Facts.RecordsParted.{AmongLeaves, ShareRecords, share_records}
 use Rattle.hb_sound.proofs.RecordsStand.{HasRecord, contents_stand, stands_at}
 use Rattle.hb_sound.proofs.SplitChains.{not_fresh}
 use Rattle.std.proofs.lemmas.Option.{same_Some}

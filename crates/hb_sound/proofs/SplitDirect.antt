@@ -12,7 +12,7 @@ use Rattle.hb_sound.specs.LawsOfOperations.{ArePartedAt, HasDirectly, SplitsPart
 use Rattle.hb_sound.specs.PointWalks.{HasOn, IsPointOf}
 use Rattle.hb_ops.specs.Allocating.{Allocates, allocated}
 use Rattle.hb_sound.proofs.FileParted.{ArePartsOf, IsParted, after as parted_file, is_parted, parts_of}
-use Rattle.hb_sound.proofs.OneLevel.{same_page}
+use Rattle.hb_sound.proofs.Facts.OneLevel.{same_page}
 use Rattle.hb_ops.proofs.Facts.StemLaws.{PartLaws}
 use Rattle.hb_sound.proofs.Partition.{each_point_is_held, no_point_is_held_twice}
 use Rattle.hb_sound.proofs.SplitChains.{not_fresh}

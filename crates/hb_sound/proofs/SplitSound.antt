@@ -16,8 +16,8 @@ use Rattle.hb_sound.proofs.Extractions.{Extraction, LicensesExtraction, MayExtra
 use Rattle.hb_ops.specs.Allocating.{Allocates, allocated}
 use Rattle.hb_sound.proofs.CutNames.{once}
 use Rattle.hb_sound.proofs.FileParted.{ArePartsOf, IsParted, after as parted_file, is_parted, parts_of}
-use Rattle.hb_sound.proofs.OneLevel.{spread}
-use Rattle.hb_sound.proofs.PagePlaces.{live_there}
+use Rattle.hb_sound.proofs.Facts.OneLevel.{spread}
+use Rattle.hb_sound.proofs.Facts.PagePlaces.{live_there}
 use Rattle.hb_ops.proofs.Facts.StemLaws.{PartLaws}
 use Rattle.hb_sound.proofs.SiblingLeaves.{named_among}
 use Rattle.hb_ops.proofs.Facts.PlacedLaws.{placed}

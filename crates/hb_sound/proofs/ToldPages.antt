@@ -2,7 +2,7 @@
 use Rattle.std.proofs.Common.{◌≡◌, ◌⊎◌, inr, ℕ, zero, suc, ◌<◌, ◌≤◌, List, [], ◌∷◌, length, slice_get, Option, Some, None, IfSome, refl, sym, ap, ◌∙◌, subst, arith}
 use Rattle.hb_frag.specs.declared.pages.Page.{Page}
 use Rattle.hb_layout.specs.declared.meta.Meta.{Meta}
-use Rattle.hb_sound.specs.declared.facts.Fact.{Fact}
+use Rattle.hb_sound.specs.declared.page_facts.Fact.{Fact}
 use Rattle.hb_sound.specs.Facts.{IsFactOf}
 use Rattle.hb_sound.specs.Told.{GivesPage, item_at}
 

@@ -8,7 +8,7 @@ use Rattle.hb_ops.specs.Files.{live_page}
 use Rattle.hb_ops.specs.Sound.{FitsFile, IsSound, ChildrenMatch, IsCovered}
 use Rattle.hb_sound.specs.Examples.{passing, tower_file, tower_ground, tower_meta}
 use Rattle.hb_sound.specs.PointWalks.{IsResponsible, IsWholeWalk, LeadsOn}
-use Rattle.hb_sound.proofs.ExampleParts.{AllNumbered, HasChildren, HasFirst, HasSiblings, children_match, counted, each_page, first, in_order, is_covered, no_records, siblings_match}
+use Rattle.hb_sound.proofs.Facts.ExampleParts.{AllNumbered, HasChildren, HasFirst, HasSiblings, children_match, counted, each_page, first, in_order, is_covered, no_records, siblings_match}
 use Rattle.hb_space.proofs.Facts.Intervals.{held, interval, top, within}
 use Rattle.std.proofs.lemmas.List.Elements.{All-from_recursion}
 

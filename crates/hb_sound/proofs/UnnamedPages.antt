@@ -15,7 +15,7 @@ use Rattle.hb_ops.specs.Files.{FileState, live_page}
 use Rattle.hb_ops.specs.Sound.{count_name, times_named}
 use Rattle.hb_ops.proofs.Facts.PlacedLaws.{leaf_is_sibling, placed}
 use Rattle.hb_sound.specs.LawsOfMerges.{FreePagesAreNotNamed}
-use Rattle.hb_sound.proofs.PagePlaces.{place_of}
+use Rattle.hb_sound.proofs.Facts.PagePlaces.{place_of}
 
 -- a list of boxes has each name as often as once where it has it
 counted_some : (id : ℕ) (ss : List (ℕ × Area)) (a : Area) → Contains ss (id, a) → 1 ≤ count_name id ss

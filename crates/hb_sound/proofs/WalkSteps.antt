@@ -11,7 +11,7 @@ use Rattle.hb_ops.specs.Sound.{AreWellMade, ChildrenMatch, IsCovered, SiblingsMa
 use Rattle.hb_sound.specs.Laws.{TreeLaws}
 use Rattle.hb_sound.specs.PointWalks.{LeadsFurther, LeadsOn, Sees}
 use Rattle.hb_sound.proofs.HeldSomewhere.{leaf_there}
-use Rattle.hb_sound.proofs.OneLevel.{narrower, page_area, same_page}
+use Rattle.hb_sound.proofs.Facts.OneLevel.{narrower, page_area, same_page}
 use Rattle.hb_ops.proofs.Facts.PlacedLaws.{leaf_is_sibling, placed}
 use Rattle.hb_sound.proofs.WalksDown.{child_below}
 use Rattle.hb_sound.proofs.Widths.{width}

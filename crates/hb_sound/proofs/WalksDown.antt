@@ -13,7 +13,7 @@ use Rattle.hb_ops.specs.Sound.{AreWellMade, ChildrenMatch, IsCovered, SiblingsMa
 use Rattle.hb_sound.specs.Laws.{TreeLaws}
 use Rattle.hb_sound.specs.PointWalks.{IsResponsible, IsWalk, LeadsOn, Sees}
 use Rattle.hb_sound.proofs.HeldSomewhere.{WalksOn, found, holds_directly, leaf_there, some_leaf}
-use Rattle.hb_sound.proofs.OneLevel.{holds_where_leaf}
+use Rattle.hb_sound.proofs.Facts.OneLevel.{holds_where_leaf}
 use Rattle.hb_ops.proofs.Facts.PlacedLaws.{leaf_is_sibling, placed, placed_is_leaf}
 use Rattle.hb_sound.proofs.Widths.{width}
 use Rattle.hb_space.proofs.Facts.Boxes.{Holds-within}

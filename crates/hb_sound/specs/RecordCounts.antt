@@ -1,7 +1,7 @@
 -- How many records the pages have that the audit has seen.
 use Rattle.std.specs.Prelude.{ℕ, ◌+◌, List, [], ◌∷◌, ◌^◌, ◌<◌}
-use Rattle.hb_sound.specs.declared.facts.Fact.{Fact}
-use Rattle.hb_sound.specs.declared.facts.Fact.TheVariants.{Live, Free}
+use Rattle.hb_sound.specs.declared.page_facts.Fact.{Fact}
+use Rattle.hb_sound.specs.declared.page_facts.Fact.TheVariants.{Live, Free}
 
 -- how many records the page has, fewer than 2^32
 abbrev pub records_seen : Fact → ℕ

@@ -16,9 +16,9 @@ ghost use Rattle.hb_sound.specs.declared.pages.AuditStop.TheVariants.{Broken, Fa
 
 use crate::chains::free_break;
 use crate::covers::cover_break;
-use crate::facts::{Fact, Seen, read_facts, seen_in};
 use crate::files::Facts;
 use crate::links::{Links, read_links};
+use crate::page_facts::{Fact, Seen, read_facts, seen_in};
 use crate::{AuditStop, Pages};
 use hb_ops::Meta;
 use hb_space::Area;

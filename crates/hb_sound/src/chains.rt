@@ -5,8 +5,8 @@ ghost use Rattle.hb_sound.specs.Facts.{next_at};
 ghost use Rattle.hb_sound.specs.Told.{item_at};
 ghost use Rattle.hb_sound.specs.Walks.{IsLeast, IsLeftOut, IsChainWalk};
 
-use crate::facts::{Fact, next_in};
 use crate::files::Facts;
+use crate::page_facts::{Fact, next_in};
 use hb_space::NoMemory;
 use std::alloc::Global;
 

@@ -1,14 +1,14 @@
 //! Rule 9: one page of the whole space on each level, and one sibling leaf for each other page.
 ghost use Rattle.std.specs.Prelude.{◌≡◌, ◌<◌, ◌↔◌, ℕ, List, Some, length, slice_get, IfOk, IsTrue, MatchOption};
 ghost use Rattle.hb_sound.specs.Covers.{AreBelow, AreFirsts, HasBox, IsCoverBreak, IsLooseFact, IsLooseSeen, LacksLevel, SeesSome, SeesLoose};
-ghost use Rattle.hb_sound.specs.declared.facts.Fact.{Fact as FactSeen};
+ghost use Rattle.hb_sound.specs.declared.page_facts.Fact.{Fact as FactSeen};
 ghost use Rattle.hb_sound.specs.Facts.{seen_at};
 ghost use Rattle.hb_sound.specs.Told.{item_at};
 ghost use Rattle.hb_sound.specs.Walks.{IsLeast};
 
-use crate::facts::{Fact, Seen};
 use crate::files::Facts;
 use crate::names::Times;
+use crate::page_facts::{Fact, Seen};
 use hb_space::{Area, NoMemory};
 use std::alloc::Global;
 

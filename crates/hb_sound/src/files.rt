@@ -1,7 +1,7 @@
 //! A file by the facts of its pages.
 ghost use Rattle.hb_sound.specs.Facts.{HasFacts};
 
-use crate::facts::Fact;
+use crate::page_facts::Fact;
 use hb_ops::Meta;
 
 /// What a file of a legal layout says of itself, and the fact of each page up to the highest page.

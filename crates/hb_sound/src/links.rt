@@ -8,15 +8,15 @@ ghost use Rattle.hb_sound.specs.Asking.{Asks};
 ghost use Rattle.hb_sound.specs.Facts.{FindsBelow, FindsSame, SeesBelow, SeesSame};
 ghost use Rattle.hb_sound.specs.Links.{Adds, AreLinks, AreRead, ReadsLinks, or_else, IsRestOf, Knows, KnowsTold};
 ghost use Rattle.hb_sound.specs.Stops.{OnBroken};
-ghost use Rattle.hb_sound.specs.declared.facts.Fact.TheVariants.{Live as SeenLive};
+ghost use Rattle.hb_sound.specs.declared.page_facts.Fact.TheVariants.{Live as SeenLive};
 ghost use Rattle.hb_sound.specs.declared.names.Times.TheVariants.{Never};
 ghost use Rattle.hb_sound.specs.declared.pages.AuditStop.TheVariants.{Failed};
 ghost use Rattle.hb_sound.specs.declared.rests.Rest.TheVariants.{Lone};
 
 use crate::corners::Corners;
-use crate::facts::{Fact, Seen, seen_in};
 use crate::files::Facts;
 use crate::names::{Times, count_names, count_one};
+use crate::page_facts::{Fact, Seen, seen_in};
 use crate::rests::Rest;
 use crate::{AuditStop, Pages};
 use hb_frag::{Frag, Leaf, LivePage, Node, Page};

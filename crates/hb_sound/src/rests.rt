@@ -2,13 +2,13 @@
 ghost use Rattle.std.specs.Prelude.{◌≡◌, ◌↔◌, ◌⊎◌, ◌++◌, ℕ, List, [], ◌∷◌, IsTrue};
 ghost use Rattle.hb_frag.specs.Leaves.{IsWellCut, Placed, WellCut, leaves_of};
 ghost use Rattle.hb_frag.specs.declared.leaves.Leaf.TheVariants.{Child, Sibling};
-ghost use Rattle.hb_sound.specs.declared.facts.Fact.{Fact as FactSeen};
+ghost use Rattle.hb_sound.specs.declared.page_facts.Fact.{Fact as FactSeen};
 ghost use Rattle.hb_sound.specs.declared.rests.Rest.TheVariants.{Nothing, Lone, More};
 ghost use Rattle.hb_sound.specs.Links.{IsRestOf};
 
 use crate::corners::Corners;
-use crate::facts::Fact;
 use crate::links::sees_below;
+use crate::page_facts::Fact;
 use hb_frag::{Frag, Leaf, LivePage, Node};
 use hb_space::Area;
 

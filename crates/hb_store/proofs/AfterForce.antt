@@ -22,13 +22,13 @@ use Rattle.hb_super.proofs.Facts.BodyLaws.{HasNoBody-elsewhere}
 use Rattle.hb_frag.specs.declared.pages.Page.{Page}
 use Rattle.hb_frag.specs.Grammar.{SpellsPage}
 use Rattle.hb_layout.specs.declared.meta.Meta.{Meta}
-use Rattle.hb_ops.specs.Files.{FileState, page_of}
+use Rattle.hb_ops.specs.Files.{FileState, page_of, last_of}
 use Rattle.hb_log_codec.specs.Groups.{Logged, FitsGroup, group_bytes}
 use Rattle.hb_store.specs.Replay.{untouched, replay}
 use Rattle.hb_store.specs.Opening.{OpensBy, log_bytes, place_bytes}
 use Rattle.hb_store.specs.States.{IsMemory, StoreState}
 use Rattle.hb_store.specs.Keeps.{StoreKeeps, OpensToEither}
-use Rattle.hb_store.specs.Parts.{Parts, Leads, OpensNext, written_pages, last_of}
+use Rattle.hb_store.specs.Parts.{Parts, Leads, OpensNext, written_pages}
 use Rattle.hb_store.specs.Forced.{stopped_state, forced_state, with_log}
 use Rattle.hb_wal.proofs.Facts.AreaBytes.{end_zeros}
 use Rattle.hb_store.proofs.Facts.StoreLaws.{OpensAfter, OpensHere, OpensOn, opens_either, StoreKeeps-by}

@@ -9,12 +9,12 @@ use Rattle.hb_wal.specs.Frames.{HasFrames}
 use Rattle.hb_frag.specs.declared.pages.Page.{Page}
 use Rattle.hb_frag.specs.Grammar.{SpellsPage}
 use Rattle.hb_layout.specs.declared.meta.Meta.{Meta}
-use Rattle.hb_ops.specs.Files.{FileState}
+use Rattle.hb_ops.specs.Files.{FileState, last_of}
 use Rattle.hb_log_codec.specs.Groups.{Logged, FitsGroup, group_bytes}
 use Rattle.hb_store.specs.Replay.{Replayed, untouched, replay}
 use Rattle.hb_layout.specs.Offsets.{log_start, page_offset}
 use Rattle.hb_store.specs.Opening.{OpensBy, Shows, IsPageIn, log_bytes, place_bytes, SpellAll}
-use Rattle.hb_store.specs.Parts.{Leads, OpensNext, last_of}
+use Rattle.hb_store.specs.Parts.{Leads, OpensNext}
 use Rattle.hb_store.proofs.Facts.ReplayLaws.{replay-append, Leads-replayed, MayReplay-append, SpellAll-append}
 use Rattle.hb_store.proofs.Shown.{Shows-leads}
 use Rattle.hb_store.proofs.Facts.FreshLaws.{IsNewest-elsewhere}

@@ -15,9 +15,9 @@ use Rattle.hb_layout.specs.declared.meta.Meta.{Meta}
 use Rattle.hb_wal.specs.Log.{LogState}
 use Rattle.hb_pool.specs.Frames.{Frame, Use, clean, pinned, unpinned, use_of}
 use Rattle.hb_pool.specs.Pools.{IsPool, frame_of, in_place, put_last}
-use Rattle.hb_pool.proofs.Others.{last_changed, last_no_other, place_changed, place_no_other}
-use Rattle.hb_pool.proofs.Pooled.{frame_pins, in_place_pool, put_last_pool}
-use Rattle.hb_pool.proofs.Told.{last_told, place_told}
+use Rattle.hb_pool.proofs.Facts.Others.{last_changed, last_no_other, place_changed, place_no_other}
+use Rattle.hb_pool.proofs.Facts.Pooled.{frame_pins, in_place_pool, put_last_pool}
+use Rattle.hb_pool.proofs.Facts.Told.{last_told, place_told}
 use Rattle.hb_store.specs.Filling.{in_frame}
 use Rattle.hb_store.specs.Held.{cleaned_held, cleaned_state}
 use Rattle.hb_store.specs.Inside.{AreSpelled}

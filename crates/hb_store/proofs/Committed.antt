@@ -14,29 +14,30 @@ use Rattle.hb_frag.specs.declared.pages.Page.{Page}
 use Rattle.hb_layout.specs.declared.meta.Meta.{Meta}
 use Rattle.hb_layout.specs.Offsets.{file_size}
 use Rattle.hb_ops.specs.declared.operations.Op.{Op}
-use Rattle.hb_ops.specs.Files.{FileState, if_live, page_at, page_of}
+use Rattle.hb_ops.specs.Files.{FileState, if_live, page_at, page_of, last_of}
 use Rattle.hb_ops.specs.Operations.{Change, IsAllowed, IsLicensed, change_of, effect_of, nth_read, reads_of, with_changed_pages}
 use Rattle.hb_log_codec.specs.Groups.{FitsGroup, Logged, group_bytes}
-use Rattle.hb_store.specs.Replay.{MayFollow, Replayed, after_group, change_in, replay, set_pages, touched_read, untouched, with_page_images, has_page, is_among}
-use Rattle.hb_store.proofs.Facts.ReplayLaws.{Leads-append, last_of-append, replay-append}
+use Rattle.hb_store.specs.Replay.{MayFollow, Replayed, after_group, change_in, replay, touched_read, untouched, with_page_images, is_among}
+use Rattle.hb_ops.specs.SetPages.{set_pages, has_page}
+use Rattle.hb_store.proofs.Facts.ReplayLaws.{Leads-append, replay-append}
+use Rattle.hb_ops.proofs.Facts.FilePages.{last_of-append, in_file_at}
 use Rattle.hb_store.specs.Opening.{IsPageIn, Shows}
 use Rattle.hb_store.specs.States.{IsGoodPage, IsMemory, IsSameLayout, IsStanding, StoreState, in_memory, is_dirty, is_in_log}
 use Rattle.hb_store.specs.Held.{StoreHeld}
 use Rattle.hb_store.specs.Keeps.{StoreKeeps}
-use Rattle.hb_store.specs.Parts.{ArePageImagesOf, IsDurable, IsInLog, IsInMemory, IsWaiting, Parts, all_pages, written_pages, last_of}
+use Rattle.hb_store.specs.Parts.{ArePageImagesOf, IsDurable, IsInLog, IsInMemory, IsWaiting, Parts, all_pages, written_pages}
 use Rattle.hb_store.proofs.Facts.StoreLaws.{StoreKeeps-by}
 use Rattle.hb_store.specs.Calls.{Commits, IsAllowedHere, NoneComes, change_here, read_here, with_op}
 use Rattle.hb_store.specs.Making.{MakesWell, group_here}
-use Rattle.hb_store.proofs.Facts.ReplayLists.{set_not, all_set, set_both}
+use Rattle.hb_ops.proofs.Facts.SetPages.{set_not, all_set, set_both}
 use Rattle.hb_store.proofs.Facts.StayingLaws.{Commits-there}
 use Rattle.hb_store.proofs.Facts.Changed.{reads_numbered, same_size}
-use Rattle.hb_store.proofs.Facts.FilePages.{Reaches, pages_set}
+use Rattle.hb_ops.proofs.Facts.ReachedPages.{Reaches, pages_set}
 use Rattle.hb_ops.proofs.Facts.AllowedOps.{reads_some, same_change, same_allowed}
 use Rattle.hb_store.proofs.Shown.{Shows-leads}
-use Rattle.hb_store.proofs.Grouped.{all_needed}
-use Rattle.hb_store.proofs.Setting.{among_all, has_all, set_some}
+use Rattle.hb_store.proofs.Facts.Grouped.{all_needed}
+use Rattle.hb_store.proofs.Facts.Setting.{among_all, has_all, set_some}
 use Rattle.hb_store.proofs.InLog.{in_log_all, none_of, read_page}
-use Rattle.hb_ops.proofs.Facts.FilePages.{in_file_at}
 use Rattle.hb_ops.proofs.Facts.PageNumberLaws.{page_at-zero}
 
 -- a log that lies and is written as another has the same on the disk

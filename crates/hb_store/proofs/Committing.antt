@@ -13,7 +13,8 @@ use Rattle.hb_wal.specs.Log.{LogState}
 use Rattle.hb_store.specs.Calls.{Commits, IsAllowedHere, NoneComes, StaysHere, read_here, change_here, numbers_changed, use_changed}
 use Rattle.hb_store.specs.Filling.{PutsAll}
 use Rattle.hb_store.specs.Held.{StoreHeld}
-use Rattle.hb_store.specs.Replay.{has_page, is_among}
+use Rattle.hb_store.specs.Replay.{is_among}
+use Rattle.hb_ops.specs.SetPages.{has_page}
 use Rattle.hb_frag.specs.Grammar.{HasSpelling}
 use Rattle.hb_store.specs.Replaying.{IsPageOf}
 use Rattle.hb_store.specs.States.{IsGoodPage, IsMemory, StoreState, in_memory, is_dirty, is_in_log}
@@ -21,7 +22,7 @@ use Rattle.hb_store.specs.Making.{MakesGoodPages, MakesWell, group_here}
 use Rattle.hb_store.proofs.Committed.{commits_here}
 use Rattle.hb_store.proofs.Facts.Changed.{changes_well}
 use Rattle.hb_store.proofs.Framed.{held_of, mark_seen, page_seen}
-use Rattle.hb_store.proofs.Grouped.{good_spelled}
+use Rattle.hb_store.proofs.Facts.Grouped.{good_spelled}
 use Rattle.hb_store.proofs.Held.{set_seen}
 use Rattle.hb_store.proofs.Remembered.{none_comes, put_made, put_marks, seen, stays_same}
 

@@ -3,12 +3,12 @@ use Rattle.std.proofs.Common.{List, [], ◌∷◌, sym, ap, subst, ◌∙◌}
 use Rattle.hb_disk.specs.Model.{DiskModel, IsDisk}
 use Rattle.hb_lemmas.proofs.Options.{some_value}
 use Rattle.hb_layout.specs.declared.meta.Meta.{Meta}
-use Rattle.hb_ops.specs.Files.{FileState}
+use Rattle.hb_ops.specs.Files.{FileState, last_of}
 use Rattle.hb_log_codec.specs.Groups.{Logged}
 use Rattle.hb_store.specs.Replay.{Replayed, after_group}
 use Rattle.hb_store.specs.States.{StoreState}
 use Rattle.hb_store.specs.Keeps.{StoreKeeps}
-use Rattle.hb_store.specs.Parts.{Leads, written_pages, last_of}
+use Rattle.hb_store.specs.Parts.{Leads, written_pages}
 use Rattle.hb_store.proofs.Counting.{HasCount, effect_count}
 
 leads_count : (t : Replayed) (s : FileState) (gs : List Logged) (later : List FileState) → Leads t s gs later → HasCount s → HasCount (last_of s later)

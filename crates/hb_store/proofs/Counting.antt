@@ -4,7 +4,7 @@ use Rattle.hb_ops.specs.declared.operations.Op.{Op}
 use Rattle.hb_ops.specs.Files.{FileState, page_of}
 use Rattle.hb_ops.specs.Operations.{IsAllowed, change_of, effect_of, nth_read, reads_of}
 use Rattle.hb_store.specs.Replaying.{IsPageOf}
-use Rattle.hb_store.proofs.Facts.FilePages.{Reaches, greatest, pages_long}
+use Rattle.hb_ops.proofs.Facts.ReachedPages.{Reaches, greatest, pages_long}
 use Rattle.hb_store.proofs.Facts.MadeMeta.{grown_high, made_numbered}
 use Rattle.hb_ops.proofs.Facts.AllowedOps.{reads_some, high_next}
 use Rattle.hb_ops.proofs.Facts.FilePages.{page_in_range}

@@ -1,14 +1,10 @@
 pub mod FreshLaws
 pub mod ReplayLaws
-pub mod ReplayLists
 pub mod StayingLaws
 pub mod StayedDisks
 pub mod PageOnlyLaws
-pub mod MarkLaws
 pub mod StoreLaws
 pub mod Spellings
-pub mod FilePages
-pub mod MadeLeaves
 pub mod MadeMeta
 pub mod MadePages
 pub mod MadeMerges
@@ -17,3 +13,8 @@ pub mod LookLaws
 pub mod BadGroups
 pub mod OtherAnswers
 pub mod PlaceWrites
+pub mod Fetched
+pub mod Grouped
+pub mod Setting
+pub mod Turned
+pub mod NoFrames

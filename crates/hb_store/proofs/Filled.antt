@@ -13,15 +13,15 @@ use Rattle.hb_frag.specs.Grammar.{SpellsPage}
 use Rattle.hb_pool.specs.declared.pools.TheConstants.{FRAMES}
 use Rattle.hb_pool.specs.Frames.{Frame, Use, filled, fresh, may_go, must_stay, use_of}
 use Rattle.hb_pool.specs.Pools.{IsPool, brought, frame_of, places, put_last, with_room}
-use Rattle.hb_pool.proofs.Others.{came_in, last_changed, last_no_other, marked_pages_stay, no_other_came}
-use Rattle.hb_pool.proofs.Pooled.{brought_pool, frame_pins, put_last_pool}
-use Rattle.hb_pool.proofs.Told.{brought_told, frames_told, last_told}
+use Rattle.hb_pool.proofs.Facts.Others.{came_in, last_changed, last_no_other, marked_pages_stay, no_other_came}
+use Rattle.hb_pool.proofs.Facts.Pooled.{brought_pool, frame_pins, put_last_pool}
+use Rattle.hb_pool.proofs.Facts.Told.{brought_told, frames_told, last_told}
 use Rattle.hb_view.specs.Spelled.{page_spelled}
 use Rattle.hb_store.specs.Calls.{use_changed}
 use Rattle.hb_store.specs.Filling.{HasNew, MayGoOut, PutsInto, PutsAll, numbers_of}
 use Rattle.hb_store.specs.Inside.{AreSpelled, dirty_in}
-use Rattle.hb_store.specs.Replay.{has_page, set_pages}
-use Rattle.hb_store.proofs.Setting.{or_assoc}
+use Rattle.hb_ops.specs.SetPages.{has_page, set_pages}
+use Rattle.hb_store.proofs.Facts.Setting.{or_assoc}
 
 -- ---- a frame stays, or leaves
 

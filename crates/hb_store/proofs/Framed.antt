@@ -16,8 +16,8 @@ use Rattle.hb_layout.specs.declared.meta.Meta.{Meta}
 use Rattle.hb_wal.specs.Log.{LogState}
 use Rattle.hb_pool.specs.Frames.{Frame, Use, has_id, use_of}
 use Rattle.hb_pool.specs.Pools.{IsPool, frame_of}
-use Rattle.hb_pool.proofs.Behind.{none_found}
-use Rattle.hb_pool.proofs.Told.{frames_told}
+use Rattle.hb_pool.proofs.Facts.Behind.{none_found}
+use Rattle.hb_pool.proofs.Facts.Told.{frames_told}
 use Rattle.hb_view.specs.Spelled.{page_spelled}
 use Rattle.hb_store.specs.Filling.{in_frame}
 use Rattle.hb_store.specs.Held.{IsTied, StoreHeld}

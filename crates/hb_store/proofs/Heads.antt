@@ -1,14 +1,13 @@
 -- What a sound file's free chain, and its count of pages in use, say of the page number that is taken next.
 use Rattle.std.proofs.Common.{◌≡◌, ◌≢◌, inl, inr, ℕ, List, length, Some, sym, ap, subst, ◌∙◌, arith}
 use Rattle.hb_frag.specs.declared.pages.Page.TheVariants.{Free}
-use Rattle.hb_ops.specs.Files.{FileState, page_of}
+use Rattle.hb_ops.specs.Files.{FileState, page_of, last_of}
 use Rattle.hb_ops.specs.Sound.{IsSound}
 use Rattle.hb_disk.specs.Model.{DiskModel, IsDisk}
 use Rattle.hb_layout.specs.declared.meta.Meta.{Meta}
 use Rattle.hb_ops.specs.Allocating.{Allocates}
 use Rattle.hb_store.specs.States.{IsMemory, StoreState, in_memory}
 use Rattle.hb_store.specs.Keeps.{StoreKeeps}
-use Rattle.hb_store.specs.Parts.{last_of}
 use Rattle.hb_store.specs.Fetching.{MayFetch, IsNoPage}
 use Rattle.hb_store.proofs.Counted.{store_count}
 use Rattle.hb_ops.proofs.Facts.FilePages.{page_in_range, sound_head, sound_room}

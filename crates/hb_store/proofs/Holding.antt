@@ -9,7 +9,7 @@ use Rattle.hb_wal.specs.Log.{LogState}
 use Rattle.hb_page_codec.specs.ReadingPages.{page_of_bytes}
 use Rattle.hb_pool.specs.Frames.{Frame}
 use Rattle.hb_pool.specs.Pools.{IsPool, brought, frame_of, places}
-use Rattle.hb_pool.proofs.Told.{brought_told, frames_told}
+use Rattle.hb_pool.proofs.Facts.Told.{brought_told, frames_told}
 use Rattle.hb_view.specs.Spelled.{page_or}
 use Rattle.hb_store.specs.Calls.{Fetched, StaysHere}
 use Rattle.hb_store.specs.Held.{StoreHeld}

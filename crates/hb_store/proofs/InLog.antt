@@ -8,10 +8,11 @@ use Rattle.std.proofs.lemmas.List.{get_or_past}
 use Rattle.std.proofs.lemmas.List.Elements.{All-head, All-tail}
 use Rattle.hb_frag.specs.declared.pages.Page.{Page}
 use Rattle.hb_store.specs.Making.{page_image_needed, page_images_needed}
-use Rattle.hb_store.specs.Replay.{set_pages, has_page, is_among}
-use Rattle.hb_store.proofs.Facts.ReplayLists.{set_one-same, set_one-other}
+use Rattle.hb_store.specs.Replay.{is_among}
+use Rattle.hb_ops.specs.SetPages.{set_pages, has_page}
+use Rattle.hb_ops.proofs.Facts.SetPages.{set_one-same, set_one-other}
 use Rattle.hb_lemmas.proofs.Options.{some_value}
-use Rattle.hb_store.proofs.Setting.{set_some}
+use Rattle.hb_store.proofs.Facts.Setting.{set_some}
 
 among_at : (ids : List ℕ) (place : ℕ) → place < length ids → is_among (get_or ids place 0) ids ≡ true
 among_at [] place lt = absurd (omega (arith, lt))

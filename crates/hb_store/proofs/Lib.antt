@@ -4,7 +4,6 @@ pub mod MadeParts
 mod AreaTorn
 mod AfterForce
 mod Written
-pub mod Setting
 mod Held
 mod Framed
 mod Filled
@@ -15,14 +14,12 @@ mod Holding
 mod Committing
 mod Putting
 mod Checked
-pub mod Grouped
 mod InLog
 mod Committed
 pub mod Counting
 pub mod Counted
 pub mod Heads
 pub mod Shown
-pub mod Fetched
 pub mod LogReads
 pub mod OneFile
 pub mod OneKept
@@ -30,7 +27,6 @@ pub mod Replays
 pub mod Touches
 pub mod HomeWrites
 pub mod WrittenHome
-pub mod Turned
 mod Turns
 mod Switched
 mod SwitchKept

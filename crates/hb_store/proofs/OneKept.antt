@@ -8,7 +8,7 @@ use Rattle.hb_lemmas.proofs.Options.{some_value}
 use Rattle.hb_super.specs.Superblocks.{IsNewest, next_turn}
 use Rattle.hb_wal.specs.Frames.{frames, frame_bytes, ReadsOneWay}
 use Rattle.hb_layout.specs.declared.meta.Meta.{Meta}
-use Rattle.hb_ops.specs.Files.{FileState}
+use Rattle.hb_ops.specs.Files.{FileState, last_of}
 use Rattle.hb_log_codec.specs.Groups.{Logged, FitsGroup, group_bytes}
 use Rattle.hb_page_codec.proofs.Facts.PageLaws.{SpelledOnce}
 use Rattle.hb_store.proofs.Facts.Spellings.{OneGroup, OneList, same_spelled}
@@ -16,7 +16,7 @@ use Rattle.hb_store.specs.Replay.{Replayed, untouched, replay, after_group}
 use Rattle.hb_store.specs.Opening.{OpensBy, OpensTo, Shows, log_bytes, SpellAll}
 use Rattle.hb_store.specs.States.{StoreState}
 use Rattle.hb_store.specs.Keeps.{StoreKeeps}
-use Rattle.hb_store.specs.Parts.{Leads, OpensNext, Parts, last_of, written_pages}
+use Rattle.hb_store.specs.Parts.{Leads, OpensNext, Parts, written_pages}
 use Rattle.hb_store.proofs.Facts.StoreLaws.{OpensAfter, OpensHere, OpensOn, by_turn}
 use Rattle.hb_store.proofs.OneFile.{OneTurn, OneMeta, one_file, same_shown}
 

@@ -5,12 +5,12 @@ use Rattle.std.proofs.Math.Seq.{drop-cons, take-suc}
 use Rattle.hb_frag.specs.declared.pages.Page.{Page}
 use Rattle.hb_pool.specs.Frames.{Frame, Use, use_of}
 use Rattle.hb_pool.specs.Pools.{IsPool, frame_of, places}
-use Rattle.hb_pool.proofs.Told.{frames_told}
+use Rattle.hb_pool.proofs.Facts.Told.{frames_told}
 use Rattle.hb_store.specs.Filling.{HaveRoom, PutsInto, PutsAll}
-use Rattle.hb_store.specs.Replay.{has_page}
+use Rattle.hb_ops.specs.SetPages.{has_page}
 use Rattle.hb_store.proofs.Filled.{has_push, puts_more}
 use Rattle.hb_store.proofs.Room.{have_first, have_then}
-use Rattle.hb_store.proofs.Setting.{or_assoc, or_swap}
+use Rattle.hb_store.proofs.Facts.Setting.{or_assoc, or_swap}
 
 module _ (pages : List (ℕ × Page)) (i : ℕ) (one d : ℕ × Page) (lt : i < length pages) (is_one : one ≡ get_or pages i d) where
   taken : take (i + 1) pages ≡ take i pages ++ one ∷ []

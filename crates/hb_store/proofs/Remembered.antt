@@ -16,9 +16,9 @@ use Rattle.hb_pool.specs.Frames.{Frame, Use, must_stay, use_of}
 use Rattle.hb_pool.specs.Pools.{IsPool, brought, frame_of, places}
 use Rattle.hb_view.specs.Spelled.{page_or, page_spelled}
 use Rattle.hb_store.specs.Calls.{Fetched, NoneComes, StaysHere}
-use Rattle.hb_view.proofs.Decoded.{is_decoded}
+use Rattle.hb_view.proofs.Facts.Decoded.{is_decoded}
 use Rattle.hb_store.specs.Filling.{HasNew, MayGoOut, PutsAll, in_frame}
-use Rattle.hb_store.specs.Replay.{has_page, set_pages}
+use Rattle.hb_ops.specs.SetPages.{has_page, set_pages}
 use Rattle.hb_store.specs.Inside.{AreSpelled}
 use Rattle.hb_store.specs.Replaying.{IsPageOf}
 use Rattle.hb_store.specs.States.{IsGoodPage, IsMemory, StoreState, in_memory}

@@ -24,13 +24,14 @@ use Rattle.hb_ops.specs.Recording.{del_page, put_page}
 use Rattle.hb_ops.specs.Operations.{change_of, reads_of}
 use Rattle.hb_pool.specs.Frames.{Frame, Use, filled, fresh, must_stay, use_of}
 use Rattle.hb_pool.specs.Pools.{IsPool, brought, frame_of, places, put_last}
-use Rattle.hb_pool.proofs.Others.{came_in, last_changed, last_no_other, marked_pages_stay}
-use Rattle.hb_pool.proofs.Pooled.{last_counts}
-use Rattle.hb_pool.proofs.Told.{frames_told}
+use Rattle.hb_pool.proofs.Facts.Others.{came_in, last_changed, last_no_other, marked_pages_stay}
+use Rattle.hb_pool.proofs.Facts.Pooled.{last_counts}
+use Rattle.hb_pool.proofs.Facts.Told.{frames_told}
 use Rattle.hb_store.specs.Calls.{HasFrameFor, StaysHere, change_here, read_here, use_changed}
 use Rattle.hb_store.specs.Filling.{HasRoom, HaveRoom}
 use Rattle.hb_store.specs.Held.{IsTied}
-use Rattle.hb_store.specs.Replay.{has_page, is_among}
+use Rattle.hb_store.specs.Replay.{is_among}
+use Rattle.hb_ops.specs.SetPages.{has_page}
 use Rattle.hb_store.specs.States.{StoreState, in_memory}
 
 -- the order of use once a page was put

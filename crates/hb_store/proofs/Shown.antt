@@ -7,15 +7,16 @@ use Rattle.hb_frag.specs.declared.pages.Page.{Page}
 use Rattle.hb_layout.specs.declared.meta.Meta.{Meta}
 use Rattle.hb_ops.specs.declared.operations.Op.{Op}
 use Rattle.hb_ops.specs.declared.operations.Op.TheVariants.{Put, Del, Extract, Post, Merge, Grow}
-use Rattle.hb_ops.specs.Files.{FileState, if_live, page_of}
+use Rattle.hb_ops.specs.Files.{FileState, if_live, page_of, last_of}
 use Rattle.hb_ops.specs.Operations.{Change, IsAllowed, change_of, effect_of, nth_read, reads_of}
 use Rattle.hb_log_codec.specs.Groups.{Logged}
-use Rattle.hb_store.specs.Replay.{IsAllowedIn, MayFollow, Replayed, after_group, after_op, change_in, replay, set_pages, touched_read, with_page_images}
-use Rattle.hb_store.proofs.Facts.ReplayLists.{set_one-same, set_one-other}
+use Rattle.hb_store.specs.Replay.{IsAllowedIn, MayFollow, Replayed, after_group, after_op, change_in, replay, touched_read, with_page_images}
+use Rattle.hb_ops.specs.SetPages.{set_pages}
+use Rattle.hb_ops.proofs.Facts.SetPages.{set_one-same, set_one-other}
 use Rattle.hb_store.specs.Opening.{IsPageIn, Shows}
-use Rattle.hb_store.specs.Parts.{ArePageImagesOf, Leads, last_of}
+use Rattle.hb_store.specs.Parts.{ArePageImagesOf, Leads}
 use Rattle.hb_store.proofs.Counting.{HasCount, effect_count, effect_reaches}
-use Rattle.hb_store.proofs.Facts.FilePages.{pages_set}
+use Rattle.hb_ops.proofs.Facts.ReachedPages.{pages_set}
 use Rattle.hb_ops.proofs.Facts.AllowedOps.{reads_some, same_change}
 use Rattle.hb_store.proofs.Touches.{change_by_first}
 use Rattle.hb_lemmas.proofs.Options.{some_value}

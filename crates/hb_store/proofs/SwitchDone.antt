@@ -27,7 +27,7 @@ use Rattle.hb_store.proofs.AfterForce.{written_fits}
 use Rattle.hb_store.proofs.SwitchKept.{keeps_switched, may_turn}
 use Rattle.hb_store.proofs.SwitchStopped.{keeps_not_switched}
 use Rattle.hb_store.proofs.Switched.{none_dirty}
-use Rattle.hb_store.proofs.Turned.{either_to, now_has}
+use Rattle.hb_store.proofs.Facts.Turned.{either_to, now_has}
 
 -- A store that may begin its next turn, and what the calls left, which were told the next turn and what the file says of itself.
 pub record IsToTurn (d : DiskModel) (old : StoreHeld) : Type 0 where

@@ -22,7 +22,7 @@ use Rattle.hb_store.specs.Turning.{OpensByEither}
 use Rattle.hb_store.proofs.Facts.ReplayLaws.{opens_elsewhere}
 use Rattle.hb_store.proofs.Facts.StoreLaws.{StoreKeeps-by}
 use Rattle.hb_space.specs.declared.form.TheConstants.{PAGE}
-use Rattle.hb_store.proofs.Turned.{Areas, areas, parities}
+use Rattle.hb_store.proofs.Facts.Turned.{Areas, areas, parities}
 
 -- a part that neither the area nor the place meets reads as it did
 pub switch_elsewhere : (turn : ℕ) (meta : Meta) (b c : List ℕ) → TornSwitch turn meta b c → (from m : ℕ) → Apart from m (log_start (next_turn turn) meta) meta.log → Apart from m (slot_offset (next_turn turn)) 41

@@ -19,7 +19,7 @@ use Rattle.hb_store.specs.Replaying.{AreItsPages, HasLimits, IsPageOf, IsReplaya
 use Rattle.hb_store.specs.Making.{AreReadable, IsReadable, MakesWritablePages}
 use Rattle.hb_store.proofs.Facts.MadeMeta.{comes_after, made_numbered}
 use Rattle.hb_ops.proofs.Facts.AllowedOps.{reads_some}
-use Rattle.hb_store.proofs.Facts.ReplayLists.{all_set}
+use Rattle.hb_ops.proofs.Facts.SetPages.{all_set}
 use Rattle.hb_lemmas.proofs.Options.{some_value}
 
 -- a page of the file that can be written

@@ -7,10 +7,9 @@ use Rattle.hb_disk.specs.Runs.{Rewrites}
 use Rattle.hb_wal.specs.Log.{LogState, after_force, forced}
 use Rattle.hb_wal.specs.Forces.{ForceLeaves, HasLog, calls_of_force}
 use Rattle.hb_layout.specs.Offsets.{file_size}
-use Rattle.hb_ops.specs.Files.{FileState}
+use Rattle.hb_ops.specs.Files.{FileState, last_of}
 use Rattle.hb_store.specs.States.{IsMemory, StoreState}
 use Rattle.hb_store.specs.Keeps.{OpensToEither, StoreKeeps}
-use Rattle.hb_store.specs.Parts.{last_of}
 use Rattle.hb_store.specs.Forced.{WritesGroups, stopped_state, with_log}
 use Rattle.hb_store.specs.declared.stops.WriteFault.{WriteFault}
 use Rattle.hb_store.proofs.AfterForce.{keeps_forced, keeps_stopped, moments_open}

@@ -17,8 +17,8 @@ use Rattle.hb_frag.specs.Grammar.{SpellsPage}
 use Rattle.hb_ops.specs.Files.{FileState}
 use Rattle.hb_pool.specs.Frames.{Use}
 use Rattle.hb_pool.specs.Pools.{IsPool, frame_of}
-use Rattle.hb_pool.proofs.Firsts.{first_passes}
-use Rattle.hb_pool.proofs.Pooled.{dirty_there}
+use Rattle.hb_pool.proofs.Facts.Firsts.{first_passes}
+use Rattle.hb_pool.proofs.Facts.Pooled.{dirty_there}
 use Rattle.hb_store.specs.Forced.{MayWriteGroups, stopped_state}
 use Rattle.hb_store.specs.Held.{IsTied, StoreHeld, cleaned_held, oldest_dirty}
 use Rattle.hb_store.specs.Keeps.{StoreKeeps}

@@ -4,14 +4,14 @@ use Rattle.hb_space.specs.declared.form.TheConstants.{GROUP, PENDING}
 use Rattle.hb_frag.specs.declared.pages.LivePage.{LivePage}
 use Rattle.hb_frag.specs.declared.pages.Page.{Page}
 use Rattle.hb_ops.specs.declared.operations.Op.{Op}
-use Rattle.hb_ops.specs.Files.{FileState, if_live}
+use Rattle.hb_ops.specs.Files.{FileState, if_live, last_of}
 use Rattle.hb_ops.specs.Operations.{Change, IsAllowedOn, change_of, effect_of, reads_of}
 use Rattle.hb_pool.specs.Frames.{Use, filled, must_stay}
 use Rattle.hb_pool.specs.Pools.{brought, frame_of, places, put_last}
 use Rattle.hb_wal.specs.Log.{pending_bytes, room_of}
-use Rattle.hb_store.specs.Replay.{set_pages, has_page, is_among}
+use Rattle.hb_store.specs.Replay.{is_among}
+use Rattle.hb_ops.specs.SetPages.{set_pages, has_page}
 use Rattle.hb_store.specs.States.{StoreState, in_memory, is_dirty, is_in_log}
-use Rattle.hb_store.specs.Parts.{last_of}
 
 -- the page in use that an operation reads at a place of its list, among those in memory
 abbrev pub read_here : StoreState → Op → ℕ → Option LivePage

@@ -7,7 +7,7 @@ use Rattle.hb_pool.specs.Frames.{Frame, Use, must_stay, use_of}
 use Rattle.hb_pool.specs.Pools.{IsPool, frame_of, places}
 use Rattle.hb_view.specs.Spelled.{page_spelled}
 use Rattle.hb_store.specs.Calls.{StaysHere, use_changed}
-use Rattle.hb_store.specs.Replay.{has_page, set_pages}
+use Rattle.hb_ops.specs.SetPages.{has_page, set_pages}
 
 -- the page that the frame of a number has
 abbrev pub in_frame : List (Frame (List ℕ)) → ℕ → Option Page

@@ -6,10 +6,10 @@ use Rattle.hb_layout.specs.declared.meta.Meta.{Meta}
 use Rattle.hb_super.specs.Superblocks.{IsNewest}
 use Rattle.hb_frag.specs.declared.pages.Page.{Page}
 use Rattle.hb_frag.specs.Grammar.{SpellsPage}
-use Rattle.hb_ops.specs.Files.{FileState, page_of}
+use Rattle.hb_ops.specs.Files.{FileState, page_of, last_of}
 use Rattle.hb_store.specs.Opening.{OpensTo, place_bytes}
 use Rattle.hb_store.specs.States.{StoreState, in_memory, is_dirty, is_in_log}
-use Rattle.hb_store.specs.Parts.{Parts, IsRunning, IsDurable, IsWaiting, IsInLog, IsInMemory, last_of}
+use Rattle.hb_store.specs.Parts.{Parts, IsRunning, IsDurable, IsWaiting, IsInLog, IsInMemory}
 
 -- What a store keeps over a disk that tells. `durable` is the durable file; `later` are the files after each group that
 -- waits. The last one is the store's file.

@@ -9,9 +9,10 @@ use Rattle.hb_ops.specs.declared.operations.Op.{Op}
 use Rattle.hb_ops.specs.declared.operations.Op.TheVariants.{Extract, Post}
 use Rattle.hb_ops.specs.Operations.{BoxesMatch, Change, IsAllowedOn, OpHas, change_of, reads_of}
 use Rattle.hb_log_codec.specs.Groups.{FitsGroup, FitsLeafCut, FitsOp, Logged}
-use Rattle.hb_store.specs.States.{IsGoodPage, IsMemory, IsSameLayout, IsStanding, StoreState, in_memory, is_in_log}
+use Rattle.hb_store.specs.States.{AreGood, IsGoodPage, IsMemory, IsSameLayout, IsStanding, StoreState, in_memory, is_in_log}
 use Rattle.hb_store.specs.Calls.{IsAllowedHere, change_here, read_here}
-use Rattle.hb_store.specs.Replaying.{HasLimits, IsPageOf}
+use Rattle.hb_store.specs.Replay.{IsAllowedIn, Replayed, change_in, touched_read}
+use Rattle.hb_store.specs.Replaying.{ComesAfter, HasLimits, IsPageOf}
 
 -- the page image of a page, unless this turn's log has it
 abbrev pub page_image_needed : ℕ → Option Page → Bool → List (ℕ × Page)
@@ -51,6 +52,23 @@ HasFittingParts other = Unit {0}
 -- An allowed operation's have.
 abbrev pub HaveFittingParts : Type 0
 HaveFittingParts = (op : Op) (meta : Meta) (first second third : Option LivePage) → HasLimits meta → IsAllowedOn op meta first second third → AreReadable first second third → HasFittingParts op
+
+-- What a change makes: what the file says of itself comes after what it said, good pages stay good, and each changed page
+-- is one of the file then, and is good.
+pub record IsGoodChange (meta : Meta) (change : Change) : Type 0 where
+  pub after : ComesAfter meta change.meta
+  pub next : change.meta.high ≤ meta.high + 1
+  pub others : (page : Page) → IsGoodPage meta page → IsGoodPage change.meta page
+  pub pages : All (λ c. IsPageOf change.meta c.0 × IsGoodPage change.meta c.1) change.pages
+
+-- On good pages of a file within its limits an allowed operation makes a good change, where the boxes match; and its paths and cuts
+-- have their places.
+abbrev pub MakesGoodChanges : Type 0
+MakesGoodChanges = (t : Replayed) (op : Op) → HasLimits t.meta → AreGood t.meta t.page → FitsOp t.meta.k op → IsAllowedIn t op
+    → BoxesMatch op (touched_read t op 0) (touched_read t op 1) (touched_read t op 2) → IsGoodChange t.meta (change_in t op)
+
+abbrev pub PartsFitOnGoodPages : Type 0
+PartsFitOnGoodPages = (t : Replayed) (op : Op) → HasLimits t.meta → AreGood t.meta t.page → IsAllowedIn t op → HasFittingParts op
 
 -- What an operation changes: the layout stays, what the file says of itself still stands, good pages are good, and each
 -- changed page is one of the file then, and is good.

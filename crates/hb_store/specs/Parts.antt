@@ -6,7 +6,7 @@ use Rattle.hb_layout.specs.declared.meta.Meta.{Meta}
 use Rattle.hb_super.specs.Superblocks.{next_turn}
 use Rattle.hb_frag.specs.declared.pages.Page.{Page}
 use Rattle.hb_frag.specs.Grammar.{SpellsPage}
-use Rattle.hb_ops.specs.Files.{FileState, page_of}
+use Rattle.hb_ops.specs.Files.{FileState, page_of, last_of}
 use Rattle.hb_store.specs.Opening.{place_bytes, OpensBy, Shows}
 use Rattle.hb_store.specs.States.{IsSameLayout}
 use Rattle.hb_space.specs.declared.form.TheConstants.{PAGE}
@@ -51,11 +51,6 @@ all_pages p = replay (untouched p.said) (p.written ++ p.waiting)
 -- an image that has the frame of all groups that wait
 abbrev pub OpensNext : List ℕ → ℕ → Meta → List (List ℕ) → List Logged → List Logged → FileState → Type 0
 OpensNext c turn said payloads written waiting next = OpensBy c turn said (payloads ++ flat_map group_bytes waiting ∷ []) (written ++ waiting) next
-
--- the last of the files behind the first one
-abbrev pub last_of : FileState → List FileState → FileState
-last_of s [] = s
-last_of s (next ∷ later) = last_of next later
 
 -- Both superblock places and the area are synced, and the area reads as the written frames and zeros. The place of the
 -- next turn has no body of that turn.

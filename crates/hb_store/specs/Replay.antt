@@ -1,10 +1,11 @@
 -- What the groups of a log make of the pages that they touch.
-use Rattle.std.specs.Prelude.{ℕ, ◌≤◌, ◌==◌, if◌then◌else◌, List, [], ◌∷◌, get_or, All, Option, Some, None, Bool, false, ◌||◌}
+use Rattle.std.specs.Prelude.{ℕ, ◌≤◌, ◌==◌, List, [], ◌∷◌, get_or, All, Option, None, Bool, false, ◌||◌}
 use Rattle.hb_frag.specs.declared.pages.LivePage.{LivePage}
 use Rattle.hb_frag.specs.declared.pages.Page.{Page}
 use Rattle.hb_layout.specs.declared.meta.Meta.{Meta}
 use Rattle.hb_ops.specs.declared.operations.Op.{Op}
 use Rattle.hb_ops.specs.Files.{if_live}
+use Rattle.hb_ops.specs.SetPages.{set_pages}
 use Rattle.hb_ops.specs.Operations.{Change, IsAllowedOn, change_of, reads_of}
 use Rattle.hb_log_codec.specs.Groups.{Logged}
 
@@ -21,16 +22,6 @@ untouched meta = record { meta = meta; page = λ id. None }
 abbrev pub is_among : ℕ → List ℕ → Bool
 is_among q [] = false
 is_among q (id ∷ rest) = (q == id) || is_among q rest
-
--- whether it is that of one of these pages
-abbrev pub has_page : ℕ → List (ℕ × Page) → Bool
-has_page q [] = false
-has_page q (one ∷ rest) = (q == one.0) || has_page q rest
-
--- pages with others set under their numbers, one after the other
-abbrev pub set_pages : List (ℕ × Page) → (ℕ → Option Page) → ℕ → Option Page
-set_pages [] page = page
-set_pages (one ∷ rest) page = set_pages rest (λ id. if id == one.0 then Some one.1 else page id)
 
 abbrev pub with_page_images : Replayed → Logged → Replayed
 with_page_images t g = record { meta = t.meta; page = set_pages g.images t.page }

@@ -9,7 +9,8 @@ use Rattle.hb_layout.specs.declared.meta.Meta.{Meta}
 use Rattle.hb_ops.specs.declared.changes.ChangeError.{ChangeError}
 use Rattle.hb_ops.specs.declared.changes.ChangeError.TheVariants as changes
 use Rattle.hb_log_codec.specs.Groups.{Logged, SpellsGroups}
-use Rattle.hb_store.specs.Replay.{Replayed, set_pages, replay, MayReplay, untouched}
+use Rattle.hb_store.specs.Replay.{Replayed, replay, MayReplay, untouched}
+use Rattle.hb_ops.specs.SetPages.{set_pages}
 use Rattle.hb_store.specs.States.{IsSameLayout}
 use Rattle.hb_store.specs.declared.touched.Touched.{Touched}
 use Rattle.hb_store.specs.declared.touched.ReplayStop.{ReplayStop}

@@ -2,13 +2,12 @@
 ghost use Rattle.std.specs.Prelude.{◌≡◌, ◌≢◌, ◌⊎◌, ℕ, List, Some, None, IfOk, IfErr, IfSome, IsErrOf, IsOk, IsSome, OnOk};
 ghost use Rattle.hb_frag.specs.declared.pages.Page.TheVariants.{Free};
 ghost use Rattle.hb_ops.specs.Allocating.{Allocates, NamesNext};
-ghost use Rattle.hb_ops.specs.Files.{FileState, page_of};
+ghost use Rattle.hb_ops.specs.Files.{FileState, page_of, last_of};
 ghost use Rattle.hb_ops.specs.Sound.{IsSound};
 ghost use Rattle.hb_store.specs.States.{IsMemory, in_memory};
 ghost use Rattle.hb_store.specs.Fetching.{IsCrowdedOut, LooksUp, IsDamage, IsNext, IsNoHead, MayFetch, MayUse, NeedsNoRead, use_numbered};
 ghost use Rattle.hb_store.specs.Calls.{StaysHere, use_fetched};
 ghost use Rattle.hb_store.specs.Keeps.{StoreKeeps};
-ghost use Rattle.hb_store.specs.Parts.{last_of};
 ghost use Rattle.hb_store.specs.Seen.{seen_as, uses_of};
 ghost use Rattle.hb_store.specs.declared.stops.FetchStop.TheVariants.{Crowded, Damaged, ReadFault};
 ghost use Rattle.hb_store.specs.declared.stops.Why.TheVariants.{Rule};

@@ -2,15 +2,14 @@
 ghost use Rattle.std.specs.Prelude.{◌≡◌, ℕ, ◌<◌, ◌≤◌, ◌∷◌, ◌++◌, [], false, get_or, List, All, length, IfOk, OnOk, OnErr};
 ghost use Rattle.hb_space.specs.declared.form.TheConstants.{GROUP};
 ghost use Rattle.hb_ops.specs.Given.{given as live_given};
-ghost use Rattle.hb_ops.specs.Files.{FileState, if_live};
+ghost use Rattle.hb_ops.specs.Files.{FileState, if_live, last_of};
 ghost use Rattle.hb_ops.specs.Operations.{BoxesMatch, IsLicensed, OpHas, reads_of};
 ghost use Rattle.hb_log_codec.specs.Groups.{FitsGroup, group_bytes};
 ghost use Rattle.hb_store.specs.Keeps.{StoreKeeps};
-ghost use Rattle.hb_store.specs.Parts.{last_of};
 ghost use Rattle.hb_store.specs.Making.{IsDoableHere, MakesWell, group_here};
 ghost use Rattle.hb_store.specs.Seen.{seen_as, uses_of};
 ghost use Rattle.hb_store.specs.Calls.{Commits, HasFrameFor, IsAllowedHere, IsReady, StaysHere, change_here, numbers_changed, read_here, use_changed, with_op};
-ghost use Rattle.hb_store.specs.Replay.{has_page};
+ghost use Rattle.hb_ops.specs.SetPages.{has_page};
 ghost use Rattle.hb_store.specs.States.{in_memory};
 
 use crate::group_writing::group_for;

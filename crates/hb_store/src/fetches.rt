@@ -1,13 +1,12 @@
 //! Pages brought into memory from their places.
 ghost use Rattle.std.specs.Prelude.{◌≡◌, ◌≢◌, ◌<◌, ◌⊎◌, ◌↔◌, ℕ, false, List, None, IfErr, IsErrOf, IsOk, OnOk, OnErr, IsSome, IsSomeAnd, Some, option_map};
-ghost use Rattle.hb_ops.specs.Files.{FileState};
+ghost use Rattle.hb_ops.specs.Files.{FileState, last_of};
 ghost use Rattle.hb_ops.specs.Sound.{IsSound};
 ghost use Rattle.hb_frag.specs.Grammar.{HasSpelling, SpellsPage};
 ghost use Rattle.hb_page_codec.specs.ReadingPages.{page_of_bytes};
 ghost use Rattle.hb_pool.specs.Pools.{brought, places};
 ghost use Rattle.hb_store.specs.States.{IsGoodPage, in_memory};
 ghost use Rattle.hb_store.specs.Keeps.{StoreKeeps};
-ghost use Rattle.hb_store.specs.Parts.{last_of};
 ghost use Rattle.hb_store.specs.Opening.{place_bytes};
 ghost use Rattle.hb_store.specs.Replaying.{IsPageOf};
 ghost use Rattle.hb_store.specs.Fetching.{LooksUp, BreaksHere, HoldsNot, FetchesNot, IsCrowdedOut, IsNoPage};

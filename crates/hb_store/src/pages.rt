@@ -5,7 +5,8 @@ ghost use Rattle.hb_frag.specs.Grammar.{HasSpelling};
 ghost use Rattle.hb_pool.specs.Frames.{use_of};
 ghost use Rattle.hb_pool.specs.Pools.{IsPool, frame_of, places};
 ghost use Rattle.hb_store.specs.Filling.{HaveRoom, PutsInto, PutsAll};
-ghost use Rattle.hb_store.specs.Replay.{has_page, is_among};
+ghost use Rattle.hb_store.specs.Replay.{is_among};
+ghost use Rattle.hb_ops.specs.SetPages.{has_page};
 
 use hb_frag::Page;
 use hb_page_codec::encode;

@@ -13,7 +13,7 @@ use Rattle.hb_store.specs.States.{StoreState}
 use Rattle.hb_core.specs.Showing.{RunningCore}
 use Rattle.hb_tidy.proofs.CallsMade.{if_known, nothing_more, runs_all}
 use Rattle.hb_tidy.proofs.Exits.{HandsOn}
-use Rattle.hb_tidy.proofs.Joined.{over_then}
+use Rattle.hb_tidy.proofs.Facts.Joined.{over_then}
 use Rattle.hb_tidy.proofs.KnownFiles.{IsFileOf, over_file}
 use Rattle.hb_tidy.specs.declared.stops.TidyStop.{TidyStop}
 use Rattle.hb_tidy.specs.declared.stops.TidyStop.TheVariants as stops

@@ -17,8 +17,8 @@ use Rattle.hb_store.specs.declared.stops.WriteFault.{WriteFault}
 use Rattle.hb_store.specs.declared.stops.StopWhy.{StopWhy}
 use Rattle.hb_store.specs.declared.stops.StopWhy.TheVariants as whys
 use Rattle.hb_store.specs.declared.stops.Why.{Why}
-use Rattle.hb_core.proofs.Files.NoDamage.{stays_undamaged}
-use Rattle.hb_core.proofs.Running.BetweenCalls.{flusher_stands}
+use Rattle.hb_core.proofs.Facts.NoDamage.{stays_undamaged}
+use Rattle.hb_core.proofs.Facts.BetweenCalls.{flusher_stands}
 use Rattle.hb_core.specs.Between.{LetsWait, said_of_flush}
 use Rattle.hb_core.specs.Keeps.{HasSoundFile}
 use Rattle.hb_core.specs.KeptFits.{JobFits}
@@ -30,7 +30,7 @@ use Rattle.hb_core.specs.Working.{MayStep}
 use Rattle.hb_core.specs.declared.outcomes.Outcome.{Outcome}
 use Rattle.hb_core.specs.declared.outcomes.Outcome.TheVariants as outcomes
 use Rattle.hb_tidy.proofs.CountsOfCalls.{same_rises}
-use Rattle.hb_tidy.proofs.Joined.{may_then}
+use Rattle.hb_tidy.proofs.Facts.Joined.{may_then}
 use Rattle.hb_tidy.proofs.OneCall.{StandsStill, run_tidied, step_runs, step_taken, still_itself, still_tidied, still_tidied_new, still_waiting}
 use Rattle.hb_tidy.proofs.Resting.{still_rests}
 use Rattle.hb_tidy.proofs.Worked.{none_dropped, taken_still, worked_none, worked_once}

@@ -8,13 +8,13 @@ use Rattle.hb_frag.specs.Leaves.{siblings_of}
 use Rattle.hb_lemmas.proofs.Options.{not_none, some_value}
 use Rattle.hb_ops.specs.Files.{FileState, live_page}
 use Rattle.hb_ops.specs.Settled.{HasChild, IsMergeable}
-use Rattle.hb_sound.proofs.OneLevel.{same_page}
+use Rattle.hb_sound.proofs.Facts.OneLevel.{same_page}
 use Rattle.hb_core.specs.Showing.{RunningCore}
 use Rattle.hb_tidy.specs.Finding.{BothLive}
 use Rattle.hb_tidy.proofs.CallsMade.{nothing_looked}
 use Rattle.hb_tidy.proofs.CleanPages.{below_is_tidy}
 use Rattle.hb_tidy.proofs.JobLists.{all_next, none_yet}
-use Rattle.hb_tidy.proofs.Joined.{over_ok, over_then, over_weaker}
+use Rattle.hb_tidy.proofs.Facts.Joined.{over_ok, over_then, over_weaker}
 use Rattle.hb_tidy.proofs.KnownFiles.{IsFileOf, over_file}
 use Rattle.hb_tidy.proofs.OwedJobs.{added_are, finds_both, finds_less, finds_nothing, postings_owed}
 use Rattle.hb_tidy.specs.declared.stops.TidyStop.{TidyStop}

@@ -13,8 +13,8 @@ use Rattle.hb_layout.specs.declared.meta.Meta.{Meta}
 use Rattle.hb_ops.specs.Files.{FileState, live_page}
 use Rattle.hb_ops.specs.Merging.{FitsMerge}
 use Rattle.hb_ops.specs.Settled.{HasChild, IsMergeable}
-use Rattle.hb_sound.proofs.MergedPages.{joins, named_box}
-use Rattle.hb_sound.proofs.OneLevel.{same_page}
+use Rattle.hb_sound.proofs.Facts.MergedPages.{joins, named_box}
+use Rattle.hb_sound.proofs.Facts.OneLevel.{same_page}
 use Rattle.hb_core.specs.Showing.{RunningCore}
 use Rattle.hb_tidy.proofs.KnownFiles.{IsFileOf, none_there}
 use Rattle.hb_tidy.proofs.PlacedLeaves.{child_listed, named_over}

@@ -7,8 +7,8 @@ use Rattle.std.proofs.lemmas.List.Sums.{sum_by-cons}
 use Rattle.std.proofs.lemmas.Map.Views.{All-remove_key}
 use Rattle.hb_lemmas.proofs.Lists.{All-alone, All-behind, All-front, All-one}
 use Rattle.hb_lemmas.proofs.Options.{some_of_map}
-use Rattle.hb_pool.proofs.Firsts.{All-changed, first_passes, first_there, first_within, none_counted}
-use Rattle.hb_pool.proofs.Pooled.{brought_counts, dirty_stays, dirty_there, in_place_pool, place_counts}
+use Rattle.hb_pool.proofs.Facts.Firsts.{All-changed, first_passes, first_there, first_within, none_counted}
+use Rattle.hb_pool.proofs.Facts.Pooled.{brought_counts, dirty_stays, dirty_there, in_place_pool, place_counts}
 use Rattle.hb_pool.specs.Frames.{Use, clean, fresh, has_id, may_go, must_stay}
 use Rattle.hb_pool.specs.Pools.{IsPool, brought, frame_of, in_place, places, with_room}
 use Rattle.hb_pool.specs.declared.pools.TheConstants.{FRAMES}

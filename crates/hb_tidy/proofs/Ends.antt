@@ -10,7 +10,7 @@ use Rattle.hb_core.specs.Working.{MayStep}
 use Rattle.hb_core.specs.declared.counts.TidyCounts.{TidyCounts}
 use Rattle.hb_tidy.proofs.CallsMade.{runs_all}
 use Rattle.hb_tidy.proofs.Exits.{HandsOn, goes_exit}
-use Rattle.hb_tidy.proofs.Joined.{may_then, rise_then, tidied_then, tidied_then_new}
+use Rattle.hb_tidy.proofs.Facts.Joined.{may_then, rise_then, tidied_then, tidied_then_new}
 use Rattle.hb_tidy.proofs.OneCall.{still_itself, still_tidied, still_tidied_new}
 use Rattle.hb_tidy.proofs.PassParts.{Clean}
 use Rattle.hb_tidy.proofs.Worked.{worked_as, worked_none, worked_then}

@@ -4,7 +4,7 @@ use Rattle.std.specs.Result.{IsErrAnd}
 use Rattle.hb_disk.specs.Model.{DiskModel}
 use Rattle.hb_ops.specs.Files.{FileState}
 use Rattle.hb_core.specs.Showing.{RunningCore}
-use Rattle.hb_tidy.proofs.Joined.{goes_err, over_err}
+use Rattle.hb_tidy.proofs.Facts.Joined.{goes_err, over_err}
 use Rattle.hb_tidy.specs.declared.stops.TidyStop.{TidyStop}
 use Rattle.hb_tidy.specs.Going.{Goes}
 use Rattle.hb_tidy.specs.Looking.{LooksOver}

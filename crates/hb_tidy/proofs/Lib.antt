@@ -1,3 +1,4 @@
+pub mod Facts
 pub mod Listings
 pub mod PlacedLeaves
 pub mod JobLists
@@ -8,7 +9,6 @@ pub mod Resting
 pub mod CleanedPlaces
 pub mod OneCall
 pub mod LiveCounted
-pub mod Joined
 pub mod CountsOfCalls
 pub mod CallsMade
 pub mod WorkerSteps
@@ -26,5 +26,4 @@ pub mod ChildrenSeen
 pub mod PassParts
 pub mod Ends
 pub mod JobsWaiting
-pub mod Forced
 pub mod LeftAlone

@@ -4,9 +4,9 @@ use Rattle.hb_activity.specs.Classes.{Consolidators, class_of}
 use Rattle.hb_activity.specs.Deeds.{Deed}
 use Rattle.hb_activity.specs.declared.activities.Activity.{Activity}
 use Rattle.hb_activity.specs.declared.wanting.Wanted.{Wanted}
-use Rattle.hb_core.proofs.Table.EachRow.{each_op, each_row}
+use Rattle.hb_core.proofs.Facts.EachRow.{each_op, each_row}
 use Rattle.hb_core.proofs.Facts.GivenUpLaws.{gives_up_nothing}
-use Rattle.hb_core.proofs.Table.StepKinds.{FlushesMore, each_kind, ready_kind}
+use Rattle.hb_core.proofs.Facts.StepKinds.{FlushesMore, each_kind, ready_kind}
 use Rattle.hb_core.specs.Counting.{CountsOp, CountsStep, CountsWithin, DidOp}
 use Rattle.hb_core.specs.Counts.{counted, one_more}
 use Rattle.hb_core.specs.Forcing.{FailsToWrite, ForcesAll}

@@ -18,7 +18,7 @@ use Rattle.hb_tidy.specs.Finding.{BothLive}
 use Rattle.hb_tidy.proofs.CallsMade.{nothing_looked}
 use Rattle.hb_tidy.proofs.CleanPages.{fits_known, gone_listed, not_mergeable}
 use Rattle.hb_tidy.proofs.JobLists.{all_next, none_yet}
-use Rattle.hb_tidy.proofs.Joined.{over_known, over_ok, over_then, over_weaker}
+use Rattle.hb_tidy.proofs.Facts.Joined.{over_known, over_ok, over_then, over_weaker}
 use Rattle.hb_tidy.proofs.KnownFiles.{IsFileOf, over_file}
 use Rattle.hb_tidy.proofs.OwedJobs.{added_are, finds_both, finds_less, finds_nothing, merges_owed}
 use Rattle.hb_tidy.specs.Going.{MayTidy}

@@ -13,11 +13,11 @@ use Rattle.hb_layout.specs.Limits.{IsLayout}
 use Rattle.hb_layout.specs.declared.meta.Meta.{Meta}
 use Rattle.hb_ops.specs.Files.{FileState, live_page}
 use Rattle.hb_ops.specs.Settled.{HasLoneRoot}
-use Rattle.hb_sound.proofs.OneLevel.{same_page}
+use Rattle.hb_sound.proofs.Facts.OneLevel.{same_page}
 use Rattle.hb_core.specs.Showing.{RunningCore}
 use Rattle.hb_tidy.proofs.CallsMade.{nothing_looked}
 use Rattle.hb_tidy.proofs.CleanPages.{file_is_tidy, tidy_at_next, tidy_at_none, unused_is_tidy}
-use Rattle.hb_tidy.proofs.Joined.{goes_next, over_goes, over_known, over_ok, over_then, over_weaker}
+use Rattle.hb_tidy.proofs.Facts.Joined.{goes_next, over_goes, over_known, over_ok, over_then, over_weaker}
 use Rattle.hb_tidy.proofs.KnownFiles.{IsFileOf, over_file}
 use Rattle.hb_tidy.specs.declared.stops.TidyStop.{TidyStop}
 use Rattle.hb_tidy.specs.Finding.{AreTidyUpTo, HasGrown, IsTidy, IsTidyAt, OwesGrowth}

@@ -13,8 +13,8 @@ use Rattle.hb_activity.specs.declared.jobs.JobKind.TheVariants.{Merge, Post}
 use Rattle.hb_disk.specs.Model.{DiskModel}
 use Rattle.hb_lemmas.proofs.Lists.{All-alone, at_place, place_within}
 use Rattle.hb_space.specs.Actors.{IsActor}
-use Rattle.hb_core.proofs.Memory.StillThere.{may_or_not}
-use Rattle.hb_core.proofs.Table.Ways.{others_stay}
+use Rattle.hb_core.proofs.Facts.StillThere.{may_or_not}
+use Rattle.hb_core.proofs.Facts.Ways.{others_stay}
 use Rattle.hb_core.specs.KeptFits.{class_for}
 use Rattle.hb_core.specs.Machines.{Machine}
 use Rattle.hb_core.specs.ProgressLaws.{jobs_of}

@@ -4,7 +4,7 @@ use Rattle.std.specs.Prelude.{count_by}
 use Rattle.std.specs.List.{Contains}
 use Rattle.std.proofs.lemmas.List.Elements.{Contains-append_left, Contains-append_right, Contains-push}
 use Rattle.std.proofs.lemmas.List.Sums.{sum_by-cons}
-use Rattle.hb_activity.proofs.QueueParts.{kind_so}
+use Rattle.hb_activity.proofs.Facts.QueueParts.{kind_so}
 use Rattle.hb_activity.specs.Classes.{class_of}
 use Rattle.hb_activity.specs.Queue.{AddsJob, is_of}
 use Rattle.hb_activity.specs.declared.activities.Activity.{Activity}

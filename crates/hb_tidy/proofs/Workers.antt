@@ -13,9 +13,9 @@ use Rattle.hb_pool.specs.Frames.{clean}
 use Rattle.hb_pool.specs.Pools.{in_place}
 use Rattle.hb_store.specs.Held.{oldest_dirty}
 use Rattle.hb_store.specs.declared.stops.StopWhy.{StopWhy}
-use Rattle.hb_core.proofs.Orders.NextLines.{next_is}
-use Rattle.hb_core.proofs.Table.StepLines.{LinesAfter, lines_after}
-use Rattle.hb_core.proofs.Table.Ways.{order_grows}
+use Rattle.hb_core.proofs.Facts.NextLines.{next_is}
+use Rattle.hb_core.proofs.Facts.StepLines.{LinesAfter, lines_after}
+use Rattle.hb_core.proofs.Facts.Ways.{order_grows}
 use Rattle.hb_core.specs.Forcing.{FailsToWrite, Flushes, FlushesRest, ForcesAll, StaysSo, forced_files}
 use Rattle.hb_core.specs.KeptFits.{LineFits, class_for}
 use Rattle.hb_core.specs.KeptMachine.{MachineKeeps}

@@ -8,7 +8,7 @@ use Rattle.byteorder.specs.Endian.{big_number}
 use Rattle.hb_space.specs.Boxes.{Area}
 use Rattle.hb_page_codec.specs.Reading.{◌>>=◌, number_at, many_at}
 use Rattle.hb_page_codec.specs.ReadingFields.{point_at, area_at, area_between, are_ordered}
-use Rattle.hb_page_codec.proofs.Ordered.{ordered, ordered_test}
+use Rattle.hb_page_codec.proofs.Facts.Ordered.{ordered, ordered_test}
 use Rattle.hb_page_codec.proofs.Facts.Fields.{bind_some}
 use Rattle.hb_lemmas.proofs.Booleans.{when_some}
 use Rattle.hb_view.specs.Behind.{behind}

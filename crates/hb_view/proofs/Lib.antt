@@ -1,10 +1,10 @@
+pub mod Facts
 pub mod Skipped
 pub mod Rooted
 pub mod Walked
 pub mod Listed
 pub mod Headed
 pub mod Checked
-pub mod Decoded
 pub mod Passing
 pub mod Risen
 pub mod Limited

@@ -9,7 +9,7 @@ use Rattle.hb_frag.specs.Leaves.{Placed, IsWellCut, first_at, first_named, leave
 use Rattle.hb_frag.specs.Trees.{Tree, Tip, Cut}
 use Rattle.hb_frag.proofs.Facts.NamesListed.{named_behind, named_in_front, siblings-append}
 use Rattle.hb_frag.proofs.Facts.Sides.{IsArea-side_below, IsArea-side_from}
-use Rattle.hb_frag.proofs.Ways.{found_here, found_left, found_right}
+use Rattle.hb_frag.proofs.Facts.Ways.{found_here, found_left, found_right}
 use Rattle.hb_ops.proofs.Facts.PlacedLaws.{placed}
 use Rattle.hb_page_codec.specs.ReadingFields.{record_at}
 use Rattle.hb_view.specs.declared.leaves.LeafView.{LeafView}

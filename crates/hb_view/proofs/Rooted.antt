@@ -10,7 +10,7 @@ use Rattle.hb_frag.specs.Trees.{Tree, Tip, Cut}
 use Rattle.hb_page_codec.specs.Reading.{◌>>=◌, byte_at, number_at}
 use Rattle.hb_page_codec.specs.ReadingFields.{axis_at, count_at, records_at}
 use Rattle.hb_page_codec.specs.ReadingPages.{cut_at, records_tip_at, node_at, tree_at}
-use Rattle.hb_page_codec.proofs.Depth.{tree_is, tree_shortens, number_shortens, axis_shortens, left_by}
+use Rattle.hb_page_codec.proofs.Facts.Depth.{tree_is, tree_shortens, number_shortens, axis_shortens, left_by}
 use Rattle.hb_page_codec.proofs.Facts.Fields.{bind_some}
 use Rattle.hb_view.specs.Roots.{rest_there, tree_or, rest_or, RootSeen, SeenCut, SeenRecords, SeenChild, SeenSibling, root_at, IsSeenAt}
 

@@ -6,7 +6,7 @@ use Rattle.hb_frag.specs.Trees.{Tree}
 use Rattle.hb_page_codec.specs.Reading.{◌>>=◌, number_at, many_at}
 use Rattle.hb_page_codec.specs.ReadingFields.{axis_at, body_at, count_at, point_at, record_at, records_at}
 use Rattle.hb_page_codec.specs.ReadingPages.{cut_at, records_tip_at, node_at, tree_at}
-use Rattle.hb_page_codec.proofs.Depth.{Leaves, tree_is, tree_shortens}
+use Rattle.hb_page_codec.proofs.Facts.Depth.{Leaves, tree_is, tree_shortens}
 use Rattle.std.proofs.lemmas.Option.{same_Some}
 use Rattle.hb_view.specs.Behind.{behind, record_behind, list_behind, cut_behind, name_behind, node_behind}
 

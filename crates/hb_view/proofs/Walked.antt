@@ -8,7 +8,7 @@ use Rattle.hb_frag.specs.declared.leaves.Leaf.{Leaf}
 use Rattle.hb_frag.specs.declared.leaves.Leaf.TheVariants as leaves
 use Rattle.hb_frag.specs.Trees.{Tree, Tip, Cut}
 use Rattle.hb_frag.specs.Leaves.{IsWellCut, first_at, leaves_of, records_of, weight_of}
-use Rattle.hb_frag.proofs.Ways.{found_here, found_left, found_right}
+use Rattle.hb_frag.proofs.Facts.Ways.{found_here, found_left, found_right}
 use Rattle.hb_frag.proofs.Facts.Sides.{IsArea-side_below, IsArea-side_from}
 use Rattle.hb_page_codec.specs.Reading.{◌>>=◌, many_at}
 use Rattle.hb_page_codec.proofs.Facts.Fields.{bind_some}

@@ -83,7 +83,3 @@ IsSeenAt k bytes (SeenCut axis value left) = IsCutAt k bytes axis value left
 IsSeenAt k bytes (SeenRecords count first) = IsListAt k bytes count first
 IsSeenAt k bytes (SeenChild page rest) = IsNameAt k bytes (leaves.Child page) rest
 IsSeenAt k bytes (SeenSibling page rest) = IsNameAt k bytes (leaves.Sibling page) rest
-
--- the tree that stands at the front of the bytes has this root
-abbrev pub IsRootAt : ℕ → List ℕ → Root → Type 0
-IsRootAt k bytes root = IsSeenAt k bytes (sight_of root)

@@ -1,30 +1,14 @@
 //! Whether bytes spell a page.
 ghost use Rattle.std.specs.Prelude.{◌↔◌, IsSome, IsTrue};
 ghost use Rattle.hb_page_codec.specs.Reading.{ReadsAs};
-ghost use Rattle.hb_page_codec.specs.ReadingPages.{head_at, page_of_bytes};
+ghost use Rattle.hb_page_codec.specs.ReadingPages.{page_of_bytes};
 ghost use Rattle.hb_view.specs.Behind.{live_behind, fields_behind};
 
 use crate::corners::behind_box;
 use crate::skipping::{behind_name, behind_tree};
 use hb_lemmas::is_zero;
-use hb_space::Attributes;
-use hb_space::form::{KMAX, PAGE};
-
-/// The level and the number of attributes, and the bytes behind the byte that is zero.
-#[tactic(auto, unfolding(hb_page_codec::specs::ReadingPages::head_at))]
-fn head_of(bytes: &[u8]) -> Option<(u8, Attributes, &[u8])>
-    ensures { ReadsAs (λ x. (x.0, x.1.number, x.2.now)) result (head_at bytes.now) }
-{
-    match bytes {
-        [level, k, 0, rest @ ..] => {
-            if *k == 0 || usize::from(*k) > KMAX {
-                return None;
-            }
-            Some((*level, Attributes { number: *k }, rest))
-        }
-        _ => None,
-    }
-}
+use hb_page_codec::head_of;
+use hb_space::form::PAGE;
 
 /// The bytes behind a live page, from behind its tag.
 #[tactic(auto, unfolding(crate::specs::Behind::live_behind))]

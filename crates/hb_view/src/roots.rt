@@ -3,9 +3,8 @@ ghost use Rattle.hb_page_codec.specs.Reading.{ReadsAs};
 ghost use Rattle.hb_view.specs.Roots.{sight_of, root_at};
 ghost use Rattle.hb_view.specs.Seen.{HasRoot};
 
-use crate::fields::{axis_of, count_of};
 use crate::trees::TreeView;
-use hb_page_codec::{u32_of, u64_of};
+use hb_page_codec::{axis_of, count_of, u32_of, u64_of};
 use hb_space::Attributes;
 
 /// What stands at the root of a tree.

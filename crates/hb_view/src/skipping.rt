@@ -7,9 +7,9 @@ ghost use Rattle.hb_view.specs.Behind.{behind, record_behind, list_behind, cut_b
 ghost use Rattle.hb_view.specs.Seen.{rest_seen};
 
 use crate::corners::{from_place, point_read};
-use crate::fields::{axis_of, body_of, count_of};
+use crate::fields::body_of;
 use crate::trees::TreeView;
-use hb_page_codec::{u32_of, u64_of};
+use hb_page_codec::{axis_of, count_of, u32_of, u64_of};
 use hb_space::Attributes;
 
 /// The bytes behind a record whose point has `k` values.

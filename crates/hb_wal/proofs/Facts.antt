@@ -1,2 +1,3 @@
 pub mod AreaBytes
 pub mod FrameCounts
+pub mod Marks

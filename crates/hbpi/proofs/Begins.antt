@@ -1,9 +1,5 @@
 -- A core that has taken no step shows a machine that has taken none.
-use Rattle.std.proofs.Common.{◌≡◌, ℕ, Bool, true, false, cond, List, [], ◌∷◌, Option, Some, IfSome, refl, sym, ap, ◌∙◌}
-use Rattle.std.specs.Prelude.{◌==◌}
-use Rattle.std.specs.List.{find}
-use Rattle.std.specs.Option.{is_some}
-use Rattle.std.proofs.lemmas.Bool.{eq-eqb, false≢true}
+use Rattle.std.proofs.Common.{◌≡◌, ℕ, List, [], ◌∷◌, IfSome}
 use Rattle.std.specs.List.{AllByRecursion}
 use Rattle.std.proofs.lemmas.List.Elements.{All-from_recursion, recursion_from_All}
 use Rattle.hb_core.specs.KeptFits.{CommandFits, LineFits}
@@ -20,8 +16,6 @@ use Rattle.hb_set.specs.Scripts.{IsLineFor}
 use Rattle.hb_set.specs.declared.commands.Command.{Command}
 use Rattle.hb_set.specs.declared.commands.Command.TheVariants.{Insert, Delete, Lookup, Search}
 use Rattle.hb_set.specs.declared.scripts.Line.{Line}
-use Rattle.hb_frag.specs.declared.pages.Page.{Page}
-use Rattle.hb_store.specs.Held.{IsTied, StoreHeld}
 use Rattle.hb_store.specs.Keeps.{StoreKeeps}
 use Rattle.hb_store.specs.States.{IsNew, IsStanding, StoreState}
 use Rattle.hb_core.proofs.Facts.BegunCores.{begins_over}
@@ -58,16 +52,3 @@ begins_script d lines steps store script new stands kept =
       fit = All-from_recursion (LineFits store.meta.k) lines (each_fits store.meta.k lines script.script.lines (recursion_from_All HasLineBox lines script.boxes));
     }) (λ tells. let b = some_value d.told tells in let from = at_value d.told _ b.0 b.1 kept in (from.0, record { kept = from.2; sound = from.1 })) in
     (begins.m, record { may = begins.may; begun = begins.begun; told = if_value d.told _ (λ b is. let from = begins.told (has_value d.told b is) in (from.0, from.2, from.1)) })
-
--- what no key finds is empty
-none_found : {A : Type 0} (all : List A) (is : ℕ → A → Bool) (key : A → ℕ) → ((a : A) → is (key a) a ≡ true) → ((k : ℕ) → is_some (find (is k) all) ≡ false) → all ≡ []
-none_found [] is key itself none = refl
-none_found {A = A} (a ∷ rest) is key itself none =
-    let here : find (is (key a)) (a ∷ rest) ≡ Some a = ap (λ (b : Bool). cond b (Some a) (find (is (key a)) rest)) (itself a) in
-    absurd (false≢true (sym (none (key a)) ∙ ap (λ (o : Option A). is_some o) here))
-
--- a store that was just opened has no page in a frame
-pub no_frame : (held : StoreHeld) → IsNew held.state.turn held.state.meta held.state → IsTied held.state held.uses → held.uses ≡ []
-no_frame held new tied =
-    none_found held.uses (λ id u. u.id == id) (λ u. u.id) (λ u. eq-eqb u.id u.id refl)
-    (λ id. sym (tied.there id) ∙ ap (λ (o : Option Page). is_some o) (new.no_page id))

@@ -7,7 +7,6 @@ pub mod Later
 pub mod RunsOf
 pub mod DryRuns
 pub mod Beyond
-pub mod Begins
 pub mod Opened
 pub mod ShutOut
 pub mod StepsTaken
@@ -35,3 +34,4 @@ pub mod RecordsLeft
 pub mod CountingEnds
 pub mod WorkPromises
 pub mod Causes
+pub mod Begins

@@ -13,15 +13,14 @@ use Rattle.hb_core.specs.declared.counts.TidyCounts.{TidyCounts}
 use Rattle.hb_disk.specs.Model.{DiskModel, IsDisk}
 use Rattle.hb_layout.specs.declared.meta.Meta.{Meta}
 use Rattle.hb_lemmas.proofs.Options.{at_value, has_value, if_value}
-use Rattle.hb_ops.specs.Files.{FileState}
+use Rattle.hb_ops.specs.Files.{FileState, last_of}
 use Rattle.hb_store.specs.Keeps.{StoreKeeps}
-use Rattle.hb_store.specs.Parts.{last_of}
 use Rattle.hb_store.specs.States.{StoreState}
 use Rattle.hb_store.specs.declared.stops.Flushed.{Flushed}
 use Rattle.hb_store.specs.declared.stops.StopWhy.TheVariants as stops
 use Rattle.hb_store.specs.declared.stops.WriteFault.{WriteFault}
-use Rattle.hb_tidy.proofs.Forced.{FlushesOn, flush_runs, flushes_on}
-use Rattle.hb_tidy.proofs.Joined.{may_then}
+use Rattle.hb_tidy.proofs.Facts.Forced.{FlushesOn, flush_runs, flushes_on}
+use Rattle.hb_tidy.proofs.Facts.Joined.{may_then}
 use Rattle.hb_tidy.specs.Finding.{IsTidy, WantsPage}
 use Rattle.hb_tidy.specs.Tidying.{EndsTidying, HasTidied, StopsTidying, file_now}
 use Rattle.hb_tidy.specs.Working.{HasWorked, steps_in}

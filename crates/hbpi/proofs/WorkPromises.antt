@@ -14,7 +14,7 @@ use Rattle.hb_outside.specs.Streams.{Appends}
 use Rattle.hb_set.specs.Machine.{RecordSet}
 use Rattle.hb_set.specs.Order.{Entry, result_of}
 use Rattle.hb_store.specs.Opening.{OpensToOne}
-use Rattle.hb_store.proofs.Facts.MarkLaws.{mark_inside}
+use Rattle.hb_wal.proofs.Facts.Marks.{mark_inside}
 use Rattle.hb_set.specs.declared.scripts.Answered.{Answered}
 use Rattle.hbpi.proofs.RecordsLeft.{entry_answer, in_order}
 use Rattle.hbpi.proofs.EndLaws.{no_done}

@@ -2,12 +2,13 @@
 ghost use Rattle.std.specs.Prelude.{◌≡◌, ◌≢◌, ℕ, ◌≤◌, ◌<◌, IfOk, IfErr, IsSome, Some, None};
 ghost use Rattle.hb_store.specs.Opening.{IsEven};
 ghost use Rattle.hb_outside.specs.Calls.{SourceModel};
-ghost use Rattle.hbpi.specs.SeenRuns.{run_of, seen_by};
-ghost use Rattle.hbpi.specs.MadeEnds.{CreateEnds, HasMade};
+ghost use Rattle.hbpi.specs.Runs.{RunsForm};
+ghost use Rattle.hbpi.specs.SeenRuns.{seen_by};
+ghost use Rattle.hbpi.specs.declared.forms.Form.TheVariants as forms;
 ghost use Rattle.hb_restart.specs.Layouts.{first_fault, size_of};
 ghost use Rattle.hb_restart.specs.NewFiles.{new_file};
 ghost use Rattle.hb_restart.specs.Beyond.{KeepsBeyond};
-ghost use Rattle.hbpi.specs.Created.{IsUnmade, NotMadeOn};
+ghost use Rattle.hbpi.specs.Created.{NotMadeOn};
 ghost use Rattle.hb_restart.specs.declared.faults.CreateFault.TheVariants.{DiskFault, NoMemory};
 
 use crate::dry::refused;
@@ -64,12 +65,7 @@ pub(crate) fn create_file<K: Sink, D: Device>(
     mut sink: K,
     disk: D,
 ) -> Finished<K, D>
-    ensures ends { (source : SourceModel) → CreateEnds (first_fault k pages log dcap icap) (size_of pages log)
-        (run_of (seen_by source source (K.model sink) (K.model result.sink) result.answered.items result.order.items) (D.model disk) (D.model result.disk)) result.status }
-    ensures opens { HasMade result.status → IsSome (D.model disk).told → IsEven (D.model result.disk)
-        (new_file (record { k = k; pages = pages; log = log; dcap = dcap; icap = icap })) }
-    ensures beyond { KeepsBeyond (size_of pages log) (D.model disk) (D.model result.disk) }
-    ensures unmade { IsUnmade result.status → result.disk ≡ disk }
+    ensures { (source : SourceModel) → RunsForm D.model (Some (forms.Create k pages log dcap icap)) (seen_by source source (K.model sink) (K.model result.sink) result.answered.items result.order.items) disk result.disk result.status }
 {
     match make(alloc, disk, k, pages, log, dcap, icap) {
         Ok(disk) => {

@@ -13,7 +13,7 @@ use crate::finished::Finished;
 use crate::starting::read_script;
 use crate::statuses::Status;
 use hb_disk::Device;
-use hb_drive::put_rest;
+use hb_drive::put_order_on;
 use hb_outside::{Failed, Sink, Source};
 use hb_set::Script;
 use hb_space::Attributes;
@@ -59,8 +59,7 @@ fn finish<K: Sink, D>(answers: Answers, mut sink: K, disk: D) -> Finished<K, D>
         order,
         put,
     } = answers;
-    let settled = order.len() as u32;
-    let put = put_rest(&mut sink, put, &[], false, order.as_slice(), settled);
+    let put = put_order_on(&mut sink, put, order.as_slice(), order.len() as u32);
     let status = status_of(put);
     Finished {
         status,

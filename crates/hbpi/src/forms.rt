@@ -1,5 +1,7 @@
-ghost use Rattle.std.specs.Prelude.{◌≡◌, ℕ, ◌<◌, ◌≤◌, Some, map, string_bytes};
+ghost use Rattle.std.specs.Prelude.{◌≡◌, ℕ, ◌<◌, ◌≤◌, true, false, Some, None, IfSome, map, string_bytes};
+ghost use Rattle.hb_space.specs.Points.{IsAttributeCount};
 ghost use Rattle.hbpi.specs.Forms.{number_said, attributes_of, line_count_of, create_of, dry_of, gen_of, work_of, alone, form_from, form_of, is_threaded};
+ghost use Rattle.hbpi.specs.declared.forms.Form.TheVariants as forms;
 
 use hb_space::form::KMAX;
 use hb_text::read_number;
@@ -35,6 +37,15 @@ pub enum Form {
         x: u64,
         n: u32,
     },
+}
+
+/// What words ask for that no threads work off, with its counts within their limits: nothing, where they are no form.
+#[derive(Clone, Copy)]
+pub struct QuietForm {
+    pub form: Option<Form>,
+    ghost attributes: { (k : ℕ) → form ≡ Some (forms.Dry k) → IsAttributeCount k },
+    ghost generated: { (x n k : ℕ) → form ≡ Some (forms.Gen x n k) → (n ≤ 1000000) × IsAttributeCount k },
+    ghost alone: { is_threaded form ≡ false },
 }
 
 /// The number that a word says.
@@ -174,5 +185,20 @@ impl Form {
         ensures { result ≡ is_threaded form }
     {
         matches!(form, Some(Form::Run | Form::Work { .. }))
+    }
+}
+
+impl QuietForm {
+    /// What the words ask for. `None` where threads work it off.
+    pub fn of_words(words: &[String]) -> Option<QuietForm>
+        ensures form { IfSome result (λ asked. asked.form ≡ form_of (map string_bytes words.now)) }
+        ensures threaded { result ≡ None → is_threaded (form_of (map string_bytes words.now)) ≡ true }
+    {
+        let form = Form::of_words(words);
+        if Form::is_threaded(form) {
+            None
+        } else {
+            Some(QuietForm { form })
+        }
     }
 }

@@ -45,7 +45,7 @@ pub use calls::{Call, Ended, call_of, run, run_process};
 pub use file_disk::FileDisk;
 pub use files::{disk_of, open_file};
 pub use finished::Finished;
-pub use forms::Form;
+pub use forms::{Form, QuietForm};
 pub use hb_restart::Field;
 pub use new_files::NewFile;
 pub use statuses::{Damage, Status};

@@ -9,7 +9,7 @@ use crate::create::create_file;
 use crate::drive_file::drive_file;
 use crate::dry::{dry, refused};
 use crate::finished::Finished;
-use crate::forms::Form;
+use crate::forms::{Form, QuietForm};
 use crate::gen_text::gen_text;
 use crate::map_file::map_file;
 use crate::run_file::run_file;
@@ -24,19 +24,18 @@ use std::alloc::Global;
 use std::sync::Wait;
 use std::thread::Threads;
 
-/// The program without threads, for words that no threads work off.
+/// The program without threads, for what none work off.
 pub fn run_without_threads<S: Source, K: Sink, D: Disk>(
     alloc: Global,
-    words: &[String],
+    asked: QuietForm,
     source: &mut S,
     sink: K,
     disk: D,
 ) -> Finished<K, D>
-    requires quiet { is_threaded (form_of (map string_bytes words.now)) ≡ false }
     // As `top` says.
-    ensures { RunsForm D.model (form_of (map string_bytes words.now)) (seen_by (S.model source.old) (S.model source.new) (K.model sink) (K.model result.sink) result.answered.items result.order.items) disk result.disk result.status }
+    ensures { RunsForm D.model asked.form (seen_by (S.model source.old) (S.model source.new) (K.model sink) (K.model result.sink) result.answered.items result.order.items) disk result.disk result.status }
 {
-    match Form::of_words(words) {
+    match asked.form {
         None => refused(alloc, Status::Usage, sink, disk),
         Some(Form::Dry { k }) => dry(alloc, Attributes { number: k }, source, sink, disk),
         Some(
@@ -68,11 +67,14 @@ pub fn quiet<R: Threads + Sync, S: Source, K: Sink, D: Disk>(
     sink: K,
     disk: D,
 ) -> Finished<K, D>
-    requires quiet { is_threaded (form_of (map string_bytes words.now)) ≡ false }
+    requires { is_threaded (form_of (map string_bytes words.now)) ≡ false }
     // As `top` says.
     ensures { RunsForm D.model (form_of (map string_bytes words.now)) (seen_by (S.model source.old) (S.model source.new) (K.model sink) (K.model result.sink) result.answered.items result.order.items) disk result.disk result.status }
 {
-    run_without_threads(alloc, words, source, sink, disk)
+    let asked = QuietForm {
+        form: Form::of_words(words),
+    };
+    run_without_threads(alloc, asked, source, sink, disk)
 }
 
 /// The program over any source, sink and disk: does what the words ask for. Only for words that threads work off it may wait for

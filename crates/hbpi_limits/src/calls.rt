@@ -4,7 +4,7 @@ use crate::missed::Missed;
 use hb_disk::MemDisk;
 use hb_outside::{MemSink, MemSource};
 use hbpi::top::run_without_threads;
-use hbpi::{Finished, Form};
+use hbpi::{Finished, QuietForm};
 use std::alloc::{AllocError, Global};
 
 /// A text of commands, and the output that has to come of it.
@@ -61,10 +61,10 @@ pub(crate) fn run_words(
     let text = Vec::from_slice(alloc, text.as_bytes())?;
     let mut source = MemSource::new(text, Vec::new(alloc));
     let sink = MemSink::new(alloc, Vec::new(alloc));
-    if Form::is_threaded(Form::of_words(list.as_slice())) {
+    let Some(asked) = QuietForm::of_words(list.as_slice()) else {
         return Err(Missed::Threaded { call: words });
-    }
-    Ok(run_without_threads(alloc, list.as_slice(), &mut source, sink, disk))
+    };
+    Ok(run_without_threads(alloc, asked, &mut source, sink, disk))
 }
 
 /// Runs the program over the disk, and compares: the status has to be this one, and the output.

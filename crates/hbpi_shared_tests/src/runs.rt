@@ -4,7 +4,7 @@ use hb_disk::{Disk, MemDisk};
 use hb_outside::{MemSink, MemSource};
 use hb_set::Answered;
 use hbpi::top::run_without_threads;
-use hbpi::{Finished, Form, Status};
+use hbpi::{Finished, QuietForm, Status};
 use std::alloc::Global;
 use std::str;
 
@@ -78,10 +78,8 @@ pub fn run<D: Disk + Drop>(
     sink: MemSink,
     disk: D,
 ) -> Option<Finished<MemSink, D>> {
-    if Form::is_threaded(Form::of_words(words)) {
-        return None;
-    }
-    Some(run_without_threads(alloc, words, source, sink, disk))
+    let asked = QuietForm::of_words(words)?;
+    Some(run_without_threads(alloc, asked, source, sink, disk))
 }
 
 /// Runs the program over this disk. The source fails at the call of number `read`, and the sink at that of number `write`.

@@ -21,10 +21,9 @@ use Rattle.hb_core.specs.Rows.{IsAtHand, Row}
 use Rattle.hb_core.specs.Scenes.{Scene, machine_of, standing, store_of}
 use Rattle.hb_core.specs.Steps.{IsUnready, Works}
 use Rattle.hb_core.specs.Using.{page_wanted}
-use Rattle.hb_ops.specs.Files.{page_of}
+use Rattle.hb_ops.specs.Files.{page_of, last_of}
 use Rattle.hb_pool.specs.Frames.{Use}
 use Rattle.hb_store.specs.Held.{IsTied}
-use Rattle.hb_store.specs.Parts.{last_of}
 use Rattle.hb_store.specs.States.{IsGoodPage, in_memory}
 
 abbrev pub bringing : List (ℕ × Page) → Scene → Scene

@@ -37,8 +37,9 @@ use Rattle.hb_ops.specs.Files.{if_live}
 use Rattle.hb_ops.specs.Operations.{Change, IsAllowedOn, change_of, reads_of}
 use Rattle.hb_store.specs.Calls.{IsReady, change_here, with_op, use_changed}
 use Rattle.hb_store.specs.Making.{group_here, page_images_needed}
-use Rattle.hb_store.specs.Replay.{set_pages, has_page, is_among}
-use Rattle.hb_store.proofs.Facts.ReplayLists.{set_not}
+use Rattle.hb_store.specs.Replay.{is_among}
+use Rattle.hb_ops.specs.SetPages.{set_pages, has_page}
+use Rattle.hb_ops.proofs.Facts.SetPages.{set_not}
 use Rattle.hb_store.specs.States.{StoreState, in_memory, is_in_log}
 use Rattle.std.specs.Ordering.{nat_cmp}
 use Rattle.hb_core.proofs.Chains.OrderOfUse.{is_tied, same_pages, tied, used_each}

@@ -25,7 +25,7 @@ use Rattle.hb_ops.specs.Recording.{FitsDel}
 use Rattle.hb_ops.specs.Sound.{FitsFile}
 use Rattle.hb_lemmas.specs.Numbers.{big_endian}
 use Rattle.hb_point.specs.SessionRows.{taking}
-use Rattle.hb_sound.proofs.ExampleParts.{in_order}
+use Rattle.hb_sound.proofs.Facts.ExampleParts.{in_order}
 use Rattle.hb_space.proofs.Facts.Intervals.{held, interval, top, within}
 use Rattle.std.proofs.lemmas.List.Elements.{All-from_recursion}
 use Rattle.hb_lemmas.proofs.Lists.{only_one}

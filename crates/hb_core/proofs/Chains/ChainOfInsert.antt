@@ -21,7 +21,7 @@ use Rattle.hb_ops.specs.Recording.{FitsPut}
 use Rattle.hb_ops.specs.Sound.{FitsFile}
 use Rattle.hb_lemmas.specs.Numbers.{big_endian}
 use Rattle.hb_point.specs.SessionRows.{taking}
-use Rattle.hb_sound.proofs.ExampleParts.{in_order}
+use Rattle.hb_sound.proofs.Facts.ExampleParts.{in_order}
 use Rattle.hb_space.specs.Boxes.{whole_area}
 use Rattle.hb_space.specs.Points.{IsPoint}
 use Rattle.std.proofs.lemmas.List.Elements.{All-from_recursion}

@@ -26,7 +26,7 @@ use Rattle.hb_core.specs.Scenes.{Scene, machine_of, standing}
 use Rattle.hb_core.specs.Steps.{TakesMerging}
 use Rattle.hb_core.proofs.Chains.BuiltSteps.{after_as_it_is, after, at_hand, has_room, live_is, none_waits, one_joins, only_looks, performed, queued, wanted_in, works}
 use Rattle.hb_lemmas.specs.Numbers.{big_endian}
-use Rattle.hb_sound.proofs.ExampleParts.{in_order, no_records, none_given}
+use Rattle.hb_sound.proofs.Facts.ExampleParts.{in_order, no_records, none_given}
 use Rattle.hb_space.proofs.Facts.Intervals.{cuts, held, interval, top, within}
 use Rattle.std.proofs.lemmas.List.Elements.{All-from_recursion}
 use Rattle.hb_frag.specs.declared.pages.Page.{Page}

@@ -31,7 +31,7 @@ use Rattle.hb_ops.specs.Posting.{FitsPost}
 use Rattle.hb_ops.specs.Sound.{FitsFile}
 use Rattle.hb_lemmas.specs.Numbers.{big_endian}
 use Rattle.hb_poster.specs.PosterRows.{ends_job}
-use Rattle.hb_sound.proofs.ExampleParts.{no_records}
+use Rattle.hb_sound.proofs.Facts.ExampleParts.{no_records}
 use Rattle.hb_space.proofs.Facts.Intervals.{interval, top, within}
 use Rattle.hb_space.specs.Boxes.{Meets, side_below, whole_area}
 use Rattle.hb_terms.specs.Plans.{IsPlan}

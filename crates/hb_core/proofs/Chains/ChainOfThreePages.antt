@@ -29,7 +29,7 @@ use Rattle.hb_core.proofs.Chains.TakenLines.{takes_line}
 use Rattle.hb_core.proofs.Chains.FlushedSteps.{forced_scene, forces}
 use Rattle.hb_core.proofs.Chains.ChainOfTwoParts.{differ}
 use Rattle.hb_point.specs.SessionRows.{taking}
-use Rattle.hb_sound.proofs.ExampleParts.{each_has, in_order}
+use Rattle.hb_sound.proofs.Facts.ExampleParts.{each_has, in_order}
 use Rattle.hb_space.proofs.Facts.Intervals.{held, interval, top}
 use Rattle.std.proofs.lemmas.List.Elements.{All-from_recursion}
 use Rattle.hb_frag.specs.declared.pages.Page.{Page}

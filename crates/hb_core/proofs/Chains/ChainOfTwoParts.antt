@@ -10,7 +10,7 @@ use Rattle.hb_ops.specs.Extracting.{FitsExtract}
 use Rattle.hb_ops.specs.Recording.{FitsPut}
 use Rattle.hb_ops.specs.Sound.{FitsFile}
 use Rattle.hb_ops.specs.Standing.{StandsNot, StandsThere}
-use Rattle.hb_sound.proofs.ExampleParts.{in_order, none_given}
+use Rattle.hb_sound.proofs.Facts.ExampleParts.{in_order, none_given}
 use Rattle.hb_space.proofs.Facts.Intervals.{above_all, cuts, held, interval, top}
 use Rattle.hb_space.specs.Boxes.{Area, Holds}
 use Rattle.hb_split.specs.Choosing.{IsBest, IsChosen, MayCut, NotBehind, heavier_count}

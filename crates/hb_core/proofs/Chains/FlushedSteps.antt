@@ -11,7 +11,7 @@ use Rattle.hb_core.specs.Steps.{IsUnready, Works}
 use Rattle.hb_pool.specs.Frames.{clean}
 use Rattle.hb_pool.specs.Pools.{in_place}
 use Rattle.hb_store.specs.Held.{oldest_dirty}
-use Rattle.hb_store.specs.Parts.{last_of}
+use Rattle.hb_ops.specs.Files.{last_of}
 use Rattle.hb_store.specs.Switching.{switched_state}
 use Rattle.hb_wal.specs.Forces.{calls_of_force}
 use Rattle.hb_wal.specs.Frames.{frames}

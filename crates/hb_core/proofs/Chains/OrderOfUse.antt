@@ -14,7 +14,7 @@ use Rattle.hb_frag.specs.declared.pages.Page.{Page}
 use Rattle.hb_pool.specs.declared.pools.TheConstants.{FRAMES}
 use Rattle.hb_pool.specs.Frames.{Use, has_id}
 use Rattle.hb_pool.specs.Pools.{frame_of}
-use Rattle.hb_pool.proofs.Firsts.{none_counted}
+use Rattle.hb_pool.proofs.Facts.Firsts.{none_counted}
 use Rattle.hb_store.specs.Held.{IsTied}
 use Rattle.hb_store.specs.Replay.{is_among}
 use Rattle.hb_core.specs.Scenes.{Scene, store_of}

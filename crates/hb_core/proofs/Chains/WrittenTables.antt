@@ -17,11 +17,12 @@ use Rattle.hb_activity.specs.declared.activities.Activity.{Activity}
 use Rattle.hb_core.specs.Machines.{with_activity}
 use Rattle.hb_core.specs.Performing.{Relatches, mode_among}
 use Rattle.hb_core.specs.Scenes.{at_rest, standing}
-use Rattle.hb_latch.proofs.KeyOrder.{latch_order}
+use Rattle.hb_latch.proofs.Facts.KeyOrder.{latch_order}
 use Rattle.hb_latch.specs.Modes.{goes_beside}
 use Rattle.hb_latch.specs.Tables.{IsGrantable, IsLeastInTheWay, latch_cmp, mode_at}
-use Rattle.hb_store.specs.Replay.{set_pages, has_page, is_among}
-use Rattle.hb_core.proofs.Orders.NextLines.{or_assoc}
+use Rattle.hb_store.specs.Replay.{is_among}
+use Rattle.hb_ops.specs.SetPages.{set_pages, has_page}
+use Rattle.hb_core.proofs.Facts.NextLines.{or_assoc}
 
 -- ---- by numbers
 

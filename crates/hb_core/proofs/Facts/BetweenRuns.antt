@@ -12,7 +12,7 @@ use Rattle.hb_store.specs.declared.stops.Flushed.{Flushed}
 use Rattle.hb_store.specs.declared.stops.Flushed.TheVariants as flushes
 use Rattle.hb_store.specs.declared.stops.WriteFault.{WriteFault}
 use Rattle.hb_core.proofs.Facts.RunSteps.{run_by_step}
-use Rattle.hb_core.proofs.Running.BetweenCalls.{is_flusher}
+use Rattle.hb_core.proofs.Facts.BetweenCalls.{is_flusher}
 use Rattle.hb_core.specs.Between.{said_of_flush}
 use Rattle.hb_core.specs.KeptOrder.{StandsInOrder}
 use Rattle.hb_core.specs.Machines.{Machine}

@@ -5,9 +5,9 @@ use Rattle.std.specs.Option.{IsSomeAnd}
 use Rattle.std.proofs.lemmas.List.{append_cancel_left}
 use Rattle.std.proofs.lemmas.List.Sums.{sum_by-cons}
 use Rattle.hb_core.proofs.Memory.Moments.{answers_are_timed}
-use Rattle.hb_core.proofs.Orders.NextLines.{IsNextOf, above_all, next_is, now_answered, unanswered_same}
-use Rattle.hb_core.proofs.Table.StepLines.{LinesAfter, PlaceSettled, lines_after}
-use Rattle.hb_core.proofs.Table.Ways.{order_grows}
+use Rattle.hb_core.proofs.Facts.NextLines.{IsNextOf, above_all, next_is, now_answered, unanswered_same}
+use Rattle.hb_core.proofs.Facts.StepLines.{LinesAfter, PlaceSettled, lines_after}
+use Rattle.hb_core.proofs.Facts.Ways.{order_grows}
 use Rattle.hb_core.specs.KeptSequence.{LinesInSequence, awaited_number}
 use Rattle.hb_core.specs.Machines.{Machine}
 use Rattle.hb_core.specs.Performing.{given_by}

@@ -1,7 +1,7 @@
 -- What a step tells of the file's length, which stays, and of a stop: a step that stops a machine says so.
 use Rattle.std.proofs.Common.{◌≡◌, ◌⊎◌, inl, inr, ℕ, List, [], ◌∷◌, Option, Some, None, refl, ap, ◌∙◌}
 use Rattle.hb_activity.specs.Deeds.{Deed}
-use Rattle.hb_core.proofs.Table.StepKinds.{FlushesMore, each_kind, ready_kind}
+use Rattle.hb_core.proofs.Facts.StepKinds.{FlushesMore, each_kind, ready_kind}
 use Rattle.hb_core.specs.Acting.{MeetsBadPage}
 use Rattle.hb_core.specs.Forcing.{FailsToWrite, ForcesAll, StaysSo}
 use Rattle.hb_core.specs.Machines.{Machine}

@@ -12,7 +12,7 @@ use Rattle.hb_core.proofs.Facts.RunFaults.{faults_more}
 use Rattle.hb_core.proofs.Machines.GoingOn.{steps_go_on}
 use Rattle.hb_core.proofs.Memory.Moments.{answers_are_timed}
 use Rattle.hb_core.proofs.Orders.PendingKept.{grown_by}
-use Rattle.hb_core.proofs.Table.Ways.{order_grows}
+use Rattle.hb_core.proofs.Facts.Ways.{order_grows}
 use Rattle.hb_core.specs.Keeps.{HasSoundFile}
 use Rattle.hb_core.specs.KeptMachine.{CoreKeeps}
 use Rattle.hb_core.specs.Machines.{Files, Machine, settled_count}

@@ -50,7 +50,7 @@ use Rattle.hb_store.specs.States.{IsGoodPage, StoreState, in_memory}
 use Rattle.hb_terms.proofs.Facts.Owing.{planned_may_be, room_told}
 use Rattle.hb_terms.specs.Plans.{IsPlan}
 use Rattle.hb_ops.specs.Owing.{LacksRoom}
-use Rattle.hb_core.proofs.Table.EachRow.{each_op, each_row}
+use Rattle.hb_core.proofs.Facts.EachRow.{each_op, each_row}
 use Rattle.hb_ops.proofs.Facts.PageNumberLaws.{live_so}
 use Rattle.hb_activity.proofs.Facts.AllowedDeeds.{kind_at}
 use Rattle.hb_space.specs.Actors.{IsActor}

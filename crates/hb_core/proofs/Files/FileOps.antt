@@ -10,7 +10,7 @@ use Rattle.hb_frag.specs.declared.paths.Side.{Side}
 use Rattle.hb_layout.specs.declared.meta.Meta.{Meta}
 use Rattle.hb_ops.specs.declared.operations.Op.{Op}
 use Rattle.hb_ops.specs.declared.operations.Op.TheVariants as ops
-use Rattle.hb_core.proofs.Files.GoodChanges.{IsGoodChange}
+use Rattle.hb_store.specs.Making.{IsGoodChange}
 use Rattle.hb_core.proofs.Memory.KeptPages.{KeepsPages}
 use Rattle.hb_core.specs.AllowedLaws.{IsPlanned, IsLicensedHere}
 use Rattle.hb_frag.proofs.Facts.Tiles.{found_where_held}
@@ -23,16 +23,16 @@ use Rattle.hb_ops.proofs.Facts.PageNumberLaws.{page_at-zero}
 use Rattle.hb_ops.specs.Posting.{GaveAway}
 use Rattle.hb_ops.specs.Sound.{IsSound}
 use Rattle.hb_space.specs.Boxes.{Area, Holds}
-use Rattle.hb_store.proofs.Facts.FilePages.{Reaches, pages_set}
-use Rattle.hb_store.proofs.Facts.MadeMeta.{op_has}
+use Rattle.hb_ops.proofs.Facts.ReachedPages.{Reaches, pages_set}
+use Rattle.hb_log_codec.proofs.Facts.OpParts.{op_has}
 use Rattle.hb_store.specs.Calls.{IsAllowedHere, change_here, read_here}
 use Rattle.hb_store.specs.Fetching.{IsNext}
-use Rattle.hb_store.specs.Replay.{set_pages}
+use Rattle.hb_ops.specs.SetPages.{set_pages}
 use Rattle.hb_store.specs.States.{StoreState, in_memory}
 use Rattle.hb_terms.proofs.Facts.Owing.{planned_may_be, way_ends_there}
 use Rattle.hb_lemmas.proofs.Options.{some_value}
 use Rattle.hb_ops.proofs.Facts.AllowedOps.{reads_some}
-use Rattle.hb_store.proofs.Facts.ReplayLists.{set_both}
+use Rattle.hb_ops.proofs.Facts.SetPages.{set_both}
 
 -- What a store has of a sound file: its words about itself, and its pages in frames.
 pub record ShowsFile (st : StoreState) (s : FileState) : Type 0 where

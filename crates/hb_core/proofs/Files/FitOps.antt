@@ -1,5 +1,5 @@
 -- The operation of a row has its place in the log: its numbers, its point, its body and its box.
-use Rattle.std.proofs.Common.{◌≡◌, inl, inr, ℕ, ◌<◌, ◌≤◌, ◌^◌, ◌==◌, List, [], length, get_or, All, Option, Some, None, IsSome, refl, sym, ◌∙◌, subst, arith}
+use Rattle.std.proofs.Common.{◌≡◌, inl, inr, ℕ, ◌<◌, ◌≤◌, ◌^◌, ◌==◌, List, [], length, All, Option, Some, None, IsSome, refl, sym, ◌∙◌, subst, arith}
 use Rattle.std.specs.List.{Contains}
 use Rattle.std.proofs.lemmas.Bool.{cases_Bool, eqb-true, eqb-false}
 use Rattle.std.proofs.lemmas.List.Elements.{All-append, All-cons, All-contains, All-head, All-nil}
@@ -19,13 +19,12 @@ use Rattle.hb_frag.specs.Leaves.{Placed, leaf_at, leaves, leaves_of}
 use Rattle.hb_frag.specs.Trees.{Tree, Tip, Cut}
 use Rattle.hb_log_codec.specs.Groups.{FitsOp}
 use Rattle.hb_ops.specs.Files.{if_live}
-use Rattle.hb_ops.specs.Operations.{IsAllowedOn, reads_of}
+use Rattle.hb_ops.specs.Operations.{IsAllowedOn}
 use Rattle.hb_space.specs.Boxes.{Area, IsArea, Holds, side_below, side_from}
 use Rattle.hb_space.specs.Points.{IsPoint}
-use Rattle.hb_store.proofs.Facts.Changed.{good_readable}
-use Rattle.hb_store.proofs.Facts.MadeLeaves.{AllFit, FitsIn, all_fit}
+use Rattle.hb_ops.proofs.Facts.MadeLeaves.{AllFit, FitsIn, all_fit}
 use Rattle.hb_store.specs.Calls.{IsAllowedHere, read_here}
-use Rattle.hb_store.specs.Making.{AreReadable, HaveFittingParts}
+use Rattle.hb_store.specs.Making.{PartsFitOnGoodPages}
 use Rattle.hb_store.specs.Fetching.{IsNext}
 use Rattle.hb_store.specs.Replaying.{HasLimits}
 use Rattle.hb_store.specs.States.{AreGood, IsGoodPage, StoreState, in_memory}
@@ -64,7 +63,7 @@ module _ (points : HeldArePoints) (meta : Meta) (page : LivePage) (good : IsGood
   pub leaf_fits_there : FitsIn (length page.area.lo) l.leaf
   leaf_fits_there = All-contains (λ (l : Placed). FitsIn (length page.area.lo) l.leaf) (leaves_of page.frag page.area) l (placed_fit (length page.area.lo) page.frag page.area (all_fit (length page.area.lo) page.frag good.0.fits.2)) at_leaf.0
 
-module _ (points : HeldArePoints) (parts : HaveFittingParts) (st : StoreState) (limits : HasLimits st.meta) (high : st.meta.high ≤ st.meta.pages) (framed : AreGood st.meta (in_memory st)) where
+module _ (points : HeldArePoints) (parts : PartsFitOnGoodPages) (st : StoreState) (limits : HasLimits st.meta) (high : st.meta.high ≤ st.meta.pages) (framed : AreGood st.meta (in_memory st)) where
   -- numbers of pages are short
   number_fits : (id : ℕ) → id ≤ st.meta.pages → id < 2 ^ 32
   number_fits id few = omega (arith, few, limits.layout.few_pages)
@@ -112,14 +111,6 @@ module _ (points : HeldArePoints) (parts : HaveFittingParts) (st : StoreState) (
       let l : Placed = record { leaf = Records at.records; area = at.area } in
       (page_fits id (Live page) (live_so (in_memory st id) page is), as_many points st.meta page good p l at.leaf, (point_there points st.meta page good p l at.leaf).fits)
 
-  -- what an operation reads can be written
-  readable : (op : Op) → AreReadable (read_here st op 0) (read_here st op 1) (read_here st op 2)
-  readable op = (
-    good_readable st.meta (in_memory st) framed (get_or (reads_of op) 0 0),
-    good_readable st.meta (in_memory st) framed (get_or (reads_of op) 1 0),
-    good_readable st.meta (in_memory st) framed (get_or (reads_of op) 2 0),
-  )
-
   -- what a plan posts
   fits_post : (parent : ℕ) (at : List Side) (inner : ℕ) (area : Area) → IsLicensedHere st (ops.Post parent at inner area) → IsAllowedHere st (ops.Post parent at inner area) → FitsOp st.meta.k (ops.Post parent at inner area)
   fits_post parent at inner area tells allowed =
@@ -133,7 +124,7 @@ module _ (points : HeldArePoints) (parts : HaveFittingParts) (st : StoreState) (
       record {
         parent_fits = page_fits parent (Live page) tells.live;
         inner_fits = leaf_fits_there points st.meta child good_child tells.p sibling below;
-        steps = parts (ops.Post parent at inner area) st.meta (read_here st (ops.Post parent at inner area) 0) (read_here st (ops.Post parent at inner area) 1) (read_here st (ops.Post parent at inner area) 2) limits allowed (readable (ops.Post parent at inner area));
+        steps = parts (record { meta = st.meta; page = in_memory st }) (ops.Post parent at inner area) limits framed allowed;
         is_area = may.given_area;
         attributes = sym (at_leaf points st.meta child good_child tells.p sibling below).1.same ∙ as_many points st.meta child good_child tells.p sibling below;
       }
@@ -146,7 +137,7 @@ module _ (points : HeldArePoints) (parts : HaveFittingParts) (st : StoreState) (
       let op = ops.Extract source fresh path cuts free_after in
       let number = takes_number fresh free_after next in
       let whole : IsAllowedHere st op = subst (λ (o : Option LivePage). IsAllowedOn op st.meta o (read_here st op 1) (read_here st op 2)) (sym is) allowed in
-      let short = parts op st.meta (read_here st op 0) (read_here st op 1) (read_here st op 2) limits whole (readable op) in
+      let short = parts (record { meta = st.meta; page = in_memory st }) op limits framed whole in
       record {
         source_fits = page_fits source (Live page) (live_so (in_memory st source) page is);
         fresh_fits = number.fresh_fits;

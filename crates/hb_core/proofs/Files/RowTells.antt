@@ -35,7 +35,7 @@ use Rattle.hb_space.specs.Points.{IsBody}
 use Rattle.hb_store.specs.Calls.{read_here}
 use Rattle.hb_store.specs.States.{StoreState, in_memory}
 use Rattle.hb_ops.specs.Owing.{Posts}
-use Rattle.hb_core.proofs.Table.EachRow.{each_op, each_row}
+use Rattle.hb_core.proofs.Facts.EachRow.{each_op, each_row}
 use Rattle.hb_ops.proofs.Facts.PageNumberLaws.{live_so}
 use Rattle.hb_core.specs.Keeps.{LatchesFit}
 use Rattle.hb_space.specs.Actors.{IsActor}

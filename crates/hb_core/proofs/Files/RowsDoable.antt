@@ -12,8 +12,8 @@ use Rattle.hb_core.specs.MachineLaws.{RowsMayBeDone}
 use Rattle.hb_core.specs.Machines.{Machine}
 use Rattle.hb_ops.specs.declared.operations.Op.{Op}
 use Rattle.hb_ops.specs.declared.operations.Op.TheVariants as ops
-use Rattle.hb_store.proofs.Facts.MadeMeta.{op_has}
-use Rattle.hb_store.specs.Making.{HaveFittingParts}
+use Rattle.hb_log_codec.proofs.Facts.OpParts.{op_has}
+use Rattle.hb_store.specs.Making.{PartsFitOnGoodPages}
 
 -- what every machine keeps of its walks is enough for each operation
 pub names_its_pages : (m : Machine) (op : Op) → WalksInSpace m → NamesItsPages m op
@@ -24,7 +24,7 @@ names_its_pages m (ops.Post parent path inner area) walks = tt
 names_its_pages m (ops.Merge parent keep gone) walks = walks
 names_its_pages m (ops.Grow fresh free_after) walks = tt
 
-pub rows_may_be_done : HaveFittingParts → HeldArePoints → RowsAreAllowed → RowsMayBeDone
+pub rows_may_be_done : PartsFitOnGoodPages → HeldArePoints → RowsAreAllowed → RowsMayBeDone
 rows_may_be_done parts points law m actor fetched deed op may keeps brings row does =
     let allowed = rows_can_be_done law m actor fetched deed op may keeps.latches_fit keeps.meta_within_limits keeps.pages_of_file keeps.room_known (names_its_pages m op keeps.walk_in_space) brings row does in
     let now = brought m AnyPage fetched brings (keeps_pages m keeps.meta_within_limits keeps.pages_of_file) in

@@ -12,11 +12,11 @@ use Rattle.hb_core.proofs.Memory.BroughtPages.{same_there, told_files}
 use Rattle.hb_core.proofs.Files.FileOps.{ShowsFile, allowed_in_file, has_in_file, licensed_in_file, meta_after, shown_after}
 use Rattle.hb_core.proofs.Files.FitOps.{HeldArePoints, fits_op}
 use Rattle.hb_core.proofs.Memory.KeptPages.{KeepsPages, brought, change_is_well, keeps_pages}
-use Rattle.hb_core.proofs.Walks.LaterPages.{last_sound}
+use Rattle.hb_core.proofs.Facts.LaterPages.{last_sound}
 use Rattle.hb_core.proofs.Facts.GivenUpLaws.{gives_up_nothing}
 use Rattle.hb_core.proofs.Files.RowTells.{Tells, tells_row, tells_none}
 use Rattle.hb_core.specs.AllowedLaws.{IsLicensedHere}
-use Rattle.hb_core.proofs.Table.StepKinds.{each_kind, ready_kind, FlushesMore}
+use Rattle.hb_core.proofs.Facts.StepKinds.{each_kind, ready_kind, FlushesMore}
 use Rattle.hb_core.specs.Acting.{MeetsBadPage}
 use Rattle.hb_core.specs.Asking.{wanted_by}
 use Rattle.hb_core.specs.Fetching.{Brings}
@@ -28,14 +28,13 @@ use Rattle.hb_core.specs.Machines.{Files, Machine, current_file}
 use Rattle.hb_core.specs.Performing.{DoesOp, MayDo, Performs, files_after, with_effect}
 use Rattle.hb_core.specs.Steps.{Works}
 use Rattle.hb_layout.specs.Limits.{IsLayout}
-use Rattle.hb_ops.specs.Files.{FileState, page_of}
+use Rattle.hb_ops.specs.Files.{FileState, page_of, last_of}
 use Rattle.hb_ops.specs.Operations.{effect_of}
 use Rattle.hb_ops.specs.Sound.{IsSound}
 use Rattle.hb_sound.specs.LawsOfOperations.{OperationsKeepSound}
 use Rattle.hb_store.specs.Calls.{IsAllowedHere}
-use Rattle.hb_store.specs.Parts.{last_of}
-use Rattle.hb_store.specs.Making.{HaveFittingParts, MakesGoodPages}
-use Rattle.hb_store.proofs.Facts.ReplayLaws.{last_of-append}
+use Rattle.hb_store.specs.Making.{MakesGoodChanges, PartsFitOnGoodPages}
+use Rattle.hb_ops.proofs.Facts.FilePages.{last_of-append}
 use Rattle.hb_store.specs.States.{StoreState, in_memory}
 use Rattle.hb_wal.specs.Log.{Waiting}
 
@@ -93,7 +92,7 @@ brought_shown m files may fetched told brings holds = record {
     by id page there None none = subst (λ (o : Option Files). IfSome o (λ files. page_of (current_file files) id ≡ Some page)) told (brings.told id page none there)
     by id page there (Some old) some = holds.shown id page (sym (same_there m may fetched brings id old page (inl (told_files m files told)) some there) ∙ there)
 
-module _ (makes : MakesGoodPages) (parts : HaveFittingParts) (points : HeldArePoints) where
+module _ (makes : MakesGoodChanges) (parts : PartsFitOnGoodPages) (points : HeldArePoints) where
   -- what is told of an operation makes it one that may be done in the file
   pub may_be_done : (st : StoreState) (files : Files) (op : Op) → KeepsPages st → FilesHold st files → IsLicensedHere st op → IsAllowedHere st op → MayBeDoneIn files op
   may_be_done st files op keeps holds tells allowed =

@@ -42,10 +42,10 @@ use Rattle.hb_ops.specs.Operations.{change_of}
 use Rattle.hb_point.specs.SplitRows.{Splits}
 use Rattle.hb_space.specs.Boxes.{Area}
 use Rattle.hb_store.specs.Calls.{change_here, read_here}
-use Rattle.hb_store.specs.Replay.{set_pages, has_page}
+use Rattle.hb_ops.specs.SetPages.{set_pages, has_page}
 use Rattle.hb_store.specs.States.{StoreState, in_memory}
 use Rattle.hb_core.proofs.Table.MergerMoves.{of_page}
-use Rattle.hb_core.proofs.Table.EachRow.{each_row}
+use Rattle.hb_core.proofs.Facts.EachRow.{each_row}
 use Rattle.hb_ops.proofs.Facts.PageNumberLaws.{live_so}
 
 -- the latch that a step wants, with nobody in the way

@@ -19,8 +19,8 @@ use Rattle.hb_core.proofs.Latches.Backing.{BackedIn, rests}
 use Rattle.hb_core.proofs.Table.GivenUp.{idle_latches, idle_walks, given_up_is}
 use Rattle.hb_core.proofs.Latches.MergerBacked.{every_row_backed}
 use Rattle.hb_core.proofs.Memory.OwnPages.{held_pages_stay}
-use Rattle.hb_core.proofs.Table.StepKinds.{each_kind, ready_kind}
-use Rattle.hb_core.proofs.Table.Ways.{KeepsAllButDisk, forces_so, meets_so, stays_so, more_so}
+use Rattle.hb_core.proofs.Facts.StepKinds.{each_kind, ready_kind}
+use Rattle.hb_core.proofs.Facts.Ways.{KeepsAllButDisk, forces_so, meets_so, stays_so, more_so}
 use Rattle.hb_core.specs.Asking.{wanted_by}
 use Rattle.hb_core.specs.GivingUp.{gives_up}
 use Rattle.hb_core.specs.Keeps.{HoldsPagesOfFile, LatchesFit}

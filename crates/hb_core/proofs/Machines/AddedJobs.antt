@@ -35,7 +35,7 @@ use Rattle.hb_ops.specs.Merging.{parent_page}
 use Rattle.hb_ops.specs.Recording.{del_page}
 use Rattle.hb_point.specs.SessionRows.{merges_due}
 use Rattle.hb_space.specs.Boxes.{Area, side_below, side_from}
-use Rattle.hb_core.proofs.Table.EachRow.{each_row}
+use Rattle.hb_core.proofs.Facts.EachRow.{each_row}
 use Rattle.hb_ops.proofs.Facts.CutLeafLaws.{reached_attributes}
 use Rattle.hb_lemmas.proofs.Lists.{All-front, All-behind, at_place}
 

@@ -21,8 +21,8 @@ use Rattle.hb_core.proofs.Table.DeedKinds.{EndsHand, each_again, each_deed}
 use Rattle.hb_core.proofs.Orders.LinesFit.{line_taken}
 use Rattle.hb_core.proofs.Memory.MetaKept.{deed_keeps_meta}
 use Rattle.hb_core.proofs.Table.NextHands.{KeepsHand, hand_after}
-use Rattle.hb_core.proofs.Memory.StillThere.{fetched_good}
-use Rattle.hb_core.proofs.Table.Ways.{KeepsAllButDisk}
+use Rattle.hb_core.proofs.Facts.StillThere.{fetched_good}
+use Rattle.hb_core.proofs.Facts.Ways.{KeepsAllButDisk}
 use Rattle.hb_core.specs.Acting.{DoesRow}
 use Rattle.hb_core.specs.KeptFits.{AttributesFit, CommandFits, IsBoxOf, JobFits, LineFits, boxes_left}
 use Rattle.hb_core.specs.KeptMachine.{MachineKeeps}

@@ -29,7 +29,7 @@ use Rattle.hb_core.proofs.Files.SoundFiles.{brought_shown, files_hold, has_sound
 use Rattle.hb_core.proofs.Latches.LatchesStay.{same_latches, walk_latched}
 use Rattle.hb_core.proofs.Machines.AddedJobs.{JobsFit, added_fit}
 use Rattle.hb_core.proofs.Memory.KeptPages.{brought, keeps_pages, pages_kept}
-use Rattle.hb_core.proofs.Memory.StillThere.{may_or_not}
+use Rattle.hb_core.proofs.Facts.StillThere.{may_or_not}
 use Rattle.hb_core.proofs.Room.RoomKept.{KnowsOf, all_know, free_knows, knows_as, put_latched, puts_again, split_latched, splits_again}
 use Rattle.hb_core.proofs.Running.Frames.{fetched_pins}
 use Rattle.hb_core.proofs.Walks.MergesKept.{place_latched}

@@ -27,7 +27,7 @@ use Rattle.hb_point.specs.SessionRows.{WantsBoxes}
 use Rattle.hb_space.proofs.Facts.Boxes.{lo_held}
 use Rattle.hb_space.specs.Boxes.{Area, Holds, IsArea, common_area, pieces_outside}
 use Rattle.hb_store.specs.States.{IsGoodPage}
-use Rattle.hb_core.proofs.Table.EachRow.{Searches, each_row}
+use Rattle.hb_core.proofs.Facts.EachRow.{Searches, each_row}
 use Rattle.hb_lemmas.proofs.Lists.{All-last, All-front}
 
 -- a search that walks has a box left

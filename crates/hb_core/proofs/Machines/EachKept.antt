@@ -13,7 +13,7 @@ use Rattle.hb_core.proofs.Machines.RunsKept.{runs_stay}
 use Rattle.hb_core.proofs.Orders.ShortOrder.{order_stays_short}
 use Rattle.hb_core.proofs.Orders.SingleAnswers.{answers_stay_single}
 use Rattle.hb_core.proofs.Searches.GatheringKept.{searches_gather_still}
-use Rattle.hb_core.proofs.Memory.StillThere.{nobody_else_comes, nobody_else_latches}
+use Rattle.hb_core.proofs.Facts.StillThere.{nobody_else_comes, nobody_else_latches}
 use Rattle.hb_core.proofs.Orders.Sequences.{sequence_stays}
 use Rattle.hb_core.proofs.Walks.WalksKept.{walks_stay_in_space}
 use Rattle.hb_core.proofs.Walks.WorkersKept.{workers_stand_still}

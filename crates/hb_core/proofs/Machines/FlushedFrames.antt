@@ -1,5 +1,5 @@
 -- The frames fit a store that differs from the one before in nothing that they show, and one whose oldest dirty page was written home.
-use Rattle.std.proofs.Common.{◌≡◌, ℕ, ◌==◌, Bool, true, false, not, ◌&&◌, List, Option, Some, None, refl, sym, ap, subst, ◌∙◌}
+use Rattle.std.proofs.Common.{◌≡◌, ℕ, ◌==◌, false, not, ◌&&◌, List, Option, Some, None, refl, sym, ap, subst, ◌∙◌}
 use Rattle.std.specs.FinSet as set
 use Rattle.std.specs.List.{find}
 use Rattle.std.specs.Option.{is_some, option_map, option_map_or}
@@ -9,8 +9,8 @@ use Rattle.hb_lemmas.proofs.Booleans.{if_same}
 use Rattle.hb_lemmas.proofs.Options.{some_of_map}
 use Rattle.hb_pool.specs.Frames.{Use, clean}
 use Rattle.hb_pool.specs.Pools.{frame_of, in_place}
-use Rattle.hb_pool.proofs.Others.{place_changed, place_no_other}
-use Rattle.hb_pool.proofs.Pooled.{dirty_there, frame_pins, in_place_pool}
+use Rattle.hb_pool.proofs.Facts.Others.{place_changed, place_no_other}
+use Rattle.hb_pool.proofs.Facts.Pooled.{dirty_there, frame_pins, in_place_pool}
 use Rattle.hb_store.specs.Held.{IsTied, cleaned_state, oldest_dirty}
 use Rattle.hb_store.specs.States.{StoreState, in_memory, is_dirty}
 

@@ -30,9 +30,9 @@ use Rattle.hb_core.proofs.Machines.HoldersMoved.{IsLatched, holders_moved, none_
 use Rattle.hb_core.proofs.Machines.LatchesApart.{AreOnce, known_apart, latches_once, none_once, puts_apart}
 use Rattle.hb_core.proofs.Machines.PinCounts.{IsSingle, cleaned_pins, one_if}
 use Rattle.hb_core.proofs.Machines.PinsFollow.{AreThere, PinsMore, came_stays, deed_pins, found_counted, more_number, none_more, times}
-use Rattle.hb_core.proofs.Memory.StillThere.{own_next}
+use Rattle.hb_core.proofs.Facts.StillThere.{own_next}
 use Rattle.hb_core.proofs.Table.NextPlaces.{nothing_given_up, place_after}
-use Rattle.hb_core.proofs.Table.StepKinds.{FlushesMore, each_kind_so, ready_kind}
+use Rattle.hb_core.proofs.Facts.StepKinds.{FlushesMore, each_kind_so, ready_kind}
 use Rattle.hb_core.proofs.Walks.WalksKept.{walks_stay_in_space}
 use Rattle.hb_space.specs.Actors.{IsActor}
 

@@ -1,5 +1,5 @@
 -- What a list of steps does, and what it keeps.
-use Rattle.std.proofs.Common.{◌≡◌, inl, inr, ℕ, ◌+◌, ◌≤◌, List, [], ◌∷◌, ◌++◌, All, Option, Some, sym, ap, ◌∙◌, subst, arith, append-nil, append_assoc}
+use Rattle.std.proofs.Common.{◌≡◌, inl, inr, ℕ, ◌≤◌, List, [], ◌∷◌, ◌++◌, All, Option, Some, sym, ap, ◌∙◌, subst, arith, append-nil, append_assoc}
 use Rattle.std.proofs.lemmas.List.Elements.{All-append, All-cons, All-nil, All-weaker}
 use Rattle.hb_set.specs.declared.scripts.Answered.{Answered}
 use Rattle.hb_store.specs.declared.stops.StopWhy.{StopWhy}
@@ -8,7 +8,7 @@ use Rattle.hb_core.specs.declared.outcomes.Outcome.{Outcome}
 use Rattle.hb_core.specs.declared.outcomes.Outcome.TheVariants as outcomes
 use Rattle.hb_core.proofs.Memory.Moments.{answers_are_timed, clock_moves}
 use Rattle.hb_core.proofs.Orders.PendingKept.{grown_by}
-use Rattle.hb_core.proofs.Table.Ways.{order_grows}
+use Rattle.hb_core.proofs.Facts.Ways.{order_grows}
 use Rattle.hb_core.specs.Forcing.{StaysSo}
 use Rattle.hb_core.specs.Machines.{Machine}
 use Rattle.hb_core.specs.Performing.{given_by}

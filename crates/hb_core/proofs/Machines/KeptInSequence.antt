@@ -2,7 +2,7 @@
 use Rattle.std.proofs.Common.{◌≡◌, ℕ, List, [], ◌∷◌, All, sym, ap, subst, arith}
 use Rattle.std.proofs.lemmas.List.Elements.{All-head, All-tail}
 use Rattle.hb_core.specs.declared.outcomes.Outcome.{Outcome}
-use Rattle.hb_core.proofs.Files.NoDamage.{stays_undamaged}
+use Rattle.hb_core.proofs.Facts.NoDamage.{stays_undamaged}
 use Rattle.hb_core.proofs.Orders.PendingKept.{prefix_stays_pending, settled_stays_settled}
 use Rattle.hb_core.proofs.Orders.Prefixes.{files_have_prefixes}
 use Rattle.hb_core.specs.DamageLaws.{IsUndamaged}

@@ -1,5 +1,5 @@
 -- After a step locks of different actors whose boxes meet are shared.
-use Rattle.std.proofs.Common.{◌≡◌, ◌≢◌, ◌⊎◌, inl, inr, ℕ, ◌==◌, ◌&&◌, not, Bool, true, false, cond, length, Option, Some, None, IfSome, IsSomeAnd, IsTrue, refl, sym, ap, ◌∙◌, subst, arith}
+use Rattle.std.proofs.Common.{◌≡◌, ◌≢◌, ◌⊎◌, inl, inr, ℕ, ◌==◌, ◌&&◌, not, Bool, true, false, cond, length, Option, Some, None, IfSome, IsSomeAnd, IsTrue, refl, sym, ap, ◌∙◌, subst}
 use Rattle.std.specs.Prelude.{MatchOption}
 use Rattle.std.specs.Option.{option_map}
 use Rattle.std.proofs.lemmas.Bool.{eqb-true, eqb-false}
@@ -16,7 +16,7 @@ use Rattle.hb_poster.specs.PosterRows.{IsPostingOf}
 use Rattle.hb_set.specs.declared.commands.Command.{Command}
 use Rattle.hb_set.specs.declared.commands.Command.TheVariants.{Insert, Delete, Lookup, Search}
 use Rattle.hb_set.specs.declared.scripts.Line.{Line}
-use Rattle.hb_space.specs.Boxes.{Area, Meets}
+use Rattle.hb_space.specs.Boxes.{Meets}
 use Rattle.hb_store.specs.declared.stops.StopWhy.{StopWhy}
 use Rattle.hb_store.specs.States.{StoreState}
 use Rattle.hb_core.specs.declared.outcomes.Outcome.{Outcome}
@@ -24,7 +24,7 @@ use Rattle.hb_core.specs.declared.outcomes.Outcome.TheVariants as outcomes
 use Rattle.hb_core.proofs.Orders.LinesFit.{line_taken}
 use Rattle.hb_core.proofs.Table.DeedKinds.{EndsHand, each_deed}
 use Rattle.hb_core.proofs.Table.NextHands.{KeepsHand, hand_after}
-use Rattle.hb_core.proofs.Table.Ways.{KeepsAllButDisk}
+use Rattle.hb_core.proofs.Facts.Ways.{KeepsAllButDisk}
 use Rattle.hb_core.specs.Acting.{DoesRow}
 use Rattle.hb_core.specs.Forcing.{StaysSo}
 use Rattle.hb_core.specs.KeptFits.{CommandFits, LineFits}

@@ -17,7 +17,7 @@ use Rattle.hb_core.specs.KeptMachine.{MachineKeeps}
 use Rattle.hb_core.specs.Machines.{Machine}
 use Rattle.hb_core.specs.Performing.{MayDo, Performs}
 use Rattle.hb_core.specs.Steps.{StepsTo, Works}
-use Rattle.hb_core.proofs.Table.StepKinds.{FlushesMore, each_kind, ready_kind}
+use Rattle.hb_core.proofs.Facts.StepKinds.{FlushesMore, each_kind, ready_kind}
 
 -- the turn, the log's area and the layout of a store are those of another one
 pub record HasSameArea (old new : StoreState) : Type 0 where

@@ -10,7 +10,7 @@ use Rattle.hb_lemmas.proofs.Booleans.{if_same}
 use Rattle.hb_pool.specs.declared.pools.TheConstants.{FRAMES}
 use Rattle.hb_pool.specs.Frames.{Use, has_id, may_go, fresh, filled, pinned, unpinned, clean}
 use Rattle.hb_pool.specs.Pools.{brought, change_first, frame_of, in_place, put_last, with_room}
-use Rattle.hb_pool.proofs.Firsts.{first_passes, none_counted}
+use Rattle.hb_pool.proofs.Facts.Firsts.{first_passes, none_counted}
 use Rattle.hb_core.specs.Using.{pins_of}
 
 -- no page is in two frames

@@ -8,8 +8,8 @@ use Rattle.hb_layout.specs.declared.meta.Meta.{Meta}
 use Rattle.hb_ops.specs.declared.operations.Op.{Op}
 use Rattle.hb_pool.specs.Frames.{Use, has_id, filled, fresh, pinned, unpinned}
 use Rattle.hb_pool.specs.Pools.{brought, frame_of, in_place, put_last}
-use Rattle.hb_pool.proofs.Firsts.{count_without, first_passes}
-use Rattle.hb_pool.proofs.Others.{came_in}
+use Rattle.hb_pool.proofs.Facts.Firsts.{count_without, first_passes}
+use Rattle.hb_pool.proofs.Facts.Others.{came_in}
 use Rattle.hb_store.specs.Calls.{numbers_changed, use_changed, use_fetched}
 use Rattle.hb_store.specs.Fetching.{use_numbered}
 use Rattle.hb_store.specs.States.{StoreState}

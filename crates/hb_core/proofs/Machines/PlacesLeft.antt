@@ -23,7 +23,7 @@ use Rattle.hb_core.specs.Using.{actors, holders}
 use Rattle.hb_core.specs.declared.outcomes.Outcome.{Outcome}
 use Rattle.hb_core.specs.declared.outcomes.Outcome.TheVariants as outcomes
 use Rattle.hb_core.proofs.Machines.PinCounts.{IsSingle, one_if, pins_if, single_sum}
-use Rattle.hb_core.proofs.Memory.StillThere.{may_or_not}
+use Rattle.hb_core.proofs.Facts.StillThere.{may_or_not}
 
 -- none is dirty
 none_dirty : (uses : List Use) → oldest_dirty uses ≡ None → find (λ (u : Use). u.dirty) uses ≡ None

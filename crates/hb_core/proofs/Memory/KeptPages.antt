@@ -8,11 +8,10 @@ use Rattle.hb_core.specs.declared.outcomes.Outcome.{Outcome}
 use Rattle.hb_core.specs.declared.outcomes.Outcome.TheVariants as outcomes
 use Rattle.hb_activity.specs.Deeds.{Deed, does}
 use Rattle.hb_core.proofs.Files.FitOps.{HeldArePoints, fits_op}
-use Rattle.hb_core.proofs.Files.GoodChanges.{IsGoodChange, good_change}
 use Rattle.hb_core.proofs.Facts.GivenUpLaws.{gives_up_nothing}
 use Rattle.hb_core.proofs.Files.RowTells.{Tells, boxes_told, tells_row, tells_none}
 use Rattle.hb_core.specs.AllowedLaws.{IsLicensedHere}
-use Rattle.hb_core.proofs.Table.StepKinds.{each_kind, FlushesMore, ready_kind}
+use Rattle.hb_core.proofs.Facts.StepKinds.{each_kind, FlushesMore, ready_kind}
 use Rattle.hb_core.specs.Acting.{MeetsBadPage}
 use Rattle.hb_core.specs.Asking.{wanted_by}
 use Rattle.hb_core.specs.Fetching.{Brings}
@@ -24,10 +23,10 @@ use Rattle.hb_core.specs.Machines.{Machine}
 use Rattle.hb_core.specs.Performing.{MayDo, Performs}
 use Rattle.hb_core.specs.Steps.{StepsTo, Works}
 use Rattle.hb_store.specs.Calls.{IsAllowedHere, change_here}
-use Rattle.hb_store.specs.Making.{HaveFittingParts, MakesGoodPages}
+use Rattle.hb_store.specs.Making.{IsGoodChange, MakesGoodChanges, PartsFitOnGoodPages}
 use Rattle.hb_store.specs.Replaying.{HasLimits}
 use Rattle.hb_store.specs.States.{AreGood, IsGoodPage, StoreState, in_memory}
-use Rattle.hb_store.proofs.Facts.ReplayLists.{all_set}
+use Rattle.hb_ops.proofs.Facts.SetPages.{all_set}
 use Rattle.hb_space.specs.Actors.{IsActor}
 
 -- What a store keeps of its pages and of what its file says of itself.
@@ -64,10 +63,10 @@ brought m may fetched brings keeps =
     by id page (inr good) = good
 
 -- so what an operation makes, where it may be done
-module _ (makes : MakesGoodPages) (parts : HaveFittingParts) (points : HeldArePoints) where
+module _ (makes : MakesGoodChanges) (parts : PartsFitOnGoodPages) (points : HeldArePoints) where
   pub change_is_well : (st : StoreState) (op : Op) → KeepsPages st → IsLicensedHere st op → IsAllowedHere st op → IsGoodChange st.meta (change_here st op)
   change_is_well st op keeps tells allowed =
-      good_change makes st.meta keeps.limits (in_memory st) keeps.framed op (fits_op points parts st keeps.limits keeps.high keeps.framed op tells allowed) allowed (boxes_told st op tells)
+      makes (record { meta = st.meta; page = in_memory st }) op keeps.limits keeps.framed (fits_op points parts st keeps.limits keeps.high keeps.framed op tells allowed) allowed (boxes_told st op tells)
 
   done : (op : Option Op) (mark : ℕ) (old new : StoreState) → KeepsPages old → Tells old op → MayDo op mark old new → KeepsPages new
   done None mark old new keeps tells same = subst KeepsPages (sym same) keeps

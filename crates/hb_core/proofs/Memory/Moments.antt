@@ -4,7 +4,7 @@ use Rattle.hb_set.specs.declared.scripts.Answered.{Answered}
 use Rattle.hb_core.specs.declared.outcomes.Outcome.{Outcome}
 use Rattle.hb_core.specs.declared.outcomes.Outcome.TheVariants as outcomes
 use Rattle.hb_activity.specs.Deeds.{Deed}
-use Rattle.hb_core.proofs.Table.StepKinds.{FlushesMore, MoreToFlush, each_kind, plain_is_quiet, ready_kind}
+use Rattle.hb_core.proofs.Facts.StepKinds.{FlushesMore, MoreToFlush, each_kind, plain_is_quiet, ready_kind}
 use Rattle.hb_core.specs.Acting.{MeetsBadPage}
 use Rattle.hb_core.specs.Forcing.{ForcesAll, StaysSo}
 use Rattle.hb_core.specs.Laws.{AnswersAreTimed, ClockMoves, MovesClock}

@@ -15,7 +15,7 @@ use Rattle.hb_activity.specs.Deeds.{Deed}
 use Rattle.hb_core.proofs.Memory.CommitPages.{commit_here}
 use Rattle.hb_core.proofs.Memory.NextNumbers.{is_next_number}
 use Rattle.hb_core.proofs.Facts.GivenUpLaws.{gives_up_nothing}
-use Rattle.hb_core.proofs.Table.StepKinds.{each_kind, FlushesMore, ready_kind}
+use Rattle.hb_core.proofs.Facts.StepKinds.{each_kind, FlushesMore, ready_kind}
 use Rattle.hb_core.proofs.Table.Targets.{IsNumber, numbers_are_targets, set_elsewhere}
 use Rattle.hb_core.specs.Acting.{MayNeed, NeedsNumber, takes_number}
 use Rattle.hb_core.specs.Asking.{wanted_by}
@@ -30,9 +30,9 @@ use Rattle.hb_ops.specs.Files.{if_live}
 use Rattle.hb_ops.specs.Operations.{change_of}
 use Rattle.hb_store.specs.Calls.{change_here, read_here}
 use Rattle.hb_store.specs.Fetching.{IsNext}
-use Rattle.hb_store.specs.Replay.{set_pages}
+use Rattle.hb_ops.specs.SetPages.{set_pages}
 use Rattle.hb_store.specs.States.{StoreState, in_memory}
-use Rattle.hb_core.proofs.Table.EachRow.{each_op, each_row}
+use Rattle.hb_core.proofs.Facts.EachRow.{each_op, each_row}
 
 -- What isn't there isn't some page.
 none_there : (o : Option Page) → o ≡ None → IsSome o → ⊥

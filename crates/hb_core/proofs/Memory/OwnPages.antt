@@ -14,7 +14,7 @@ use Rattle.hb_activity.specs.Deeds.{Deed, does}
 use Rattle.hb_core.proofs.Memory.BroughtPages.{stays_or_left}
 use Rattle.hb_core.proofs.Memory.OwnedOps.{IsFreeFor, OwnsTargets, allowed_by, owned_row}
 use Rattle.hb_core.proofs.Facts.GivenUpLaws.{gives_up_nothing}
-use Rattle.hb_core.proofs.Table.StepKinds.{IsOutright, each_kind, FlushesMore, ready_kind}
+use Rattle.hb_core.proofs.Facts.StepKinds.{IsOutright, each_kind, FlushesMore, ready_kind}
 use Rattle.hb_core.proofs.Table.Targets.{IsNumber, numbers_are_targets, set_elsewhere}
 use Rattle.hb_core.specs.Asking.{wanted_by}
 use Rattle.hb_core.specs.Fetching.{Brings, MustStay}
@@ -30,7 +30,7 @@ use Rattle.hb_latch.specs.Modes.{goes_beside}
 use Rattle.hb_latch.specs.Tables.{IsGrantable, mode_at}
 use Rattle.hb_space.specs.Actors.{IsActor}
 use Rattle.hb_store.specs.Calls.{change_here, read_here}
-use Rattle.hb_store.specs.Replay.{set_pages}
+use Rattle.hb_ops.specs.SetPages.{set_pages}
 use Rattle.hb_store.specs.States.{StoreState, in_memory}
 
 module _ (m : Machine) (actor : ℕ) (latches : IsActor actor) (fit : LatchesFit m) (inside : HoldsPagesOfFile m) (new : Machine) (id : ℕ) (page : LivePage) (used : IsInUse m id page) where

@@ -3,7 +3,7 @@ use Rattle.std.proofs.Common.{◌≡◌, inl, inr, ℕ, Option, Some, None, opti
 use Rattle.hb_ops.specs.declared.operations.Op.{Op}
 use Rattle.hb_core.specs.declared.outcomes.Outcome.{Outcome}
 use Rattle.hb_core.specs.declared.outcomes.Outcome.TheVariants as outcomes
-use Rattle.hb_core.proofs.Table.StepKinds.{each_kind, FlushesMore, ready_kind}
+use Rattle.hb_core.proofs.Facts.StepKinds.{each_kind, FlushesMore, ready_kind}
 use Rattle.hb_core.specs.Forcing.{ForcesAll, StaysSo, forced_files}
 use Rattle.hb_core.specs.Machines.{Files, Machine}
 use Rattle.hb_core.specs.Performing.{files_after, with_effect}

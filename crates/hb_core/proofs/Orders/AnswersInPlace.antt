@@ -12,7 +12,7 @@ use Rattle.hb_core.specs.Machines.{Machine, with_disk}
 use Rattle.hb_core.specs.Performing.{outcome_of}
 use Rattle.hb_core.specs.Asking.{wanted_by}
 use Rattle.hb_core.proofs.Table.StepSays.{each_saying}
-use Rattle.hb_core.proofs.Table.StepKinds.{IsPlain}
+use Rattle.hb_core.proofs.Facts.StepKinds.{IsPlain}
 use Rattle.hb_core.proofs.Table.RowFates.{RowSaying, saying_of}
 use Rattle.hb_core.proofs.Table.LineFates.{outside_for}
 

@@ -3,18 +3,17 @@ use Rattle.std.proofs.Common.{inl, inr, ℕ, suc, zero, List, ◌∷◌, All, re
 use Rattle.std.specs.List.{Contains}
 use Rattle.std.proofs.lemmas.List.Elements.{All-head, All-tail}
 use Rattle.hb_core.proofs.Orders.Prefixes.{files_have_prefixes}
-use Rattle.hb_core.proofs.Walks.LaterPages.{last_sound}
+use Rattle.hb_core.proofs.Facts.LaterPages.{last_sound}
 use Rattle.hb_core.specs.KeepingLaws.{IsAfterLonger}
 use Rattle.hb_core.specs.Laws.{HasOnePage, PointsHaveOnePage}
 use Rattle.hb_core.specs.Machines.{Machine, settled_count}
 use Rattle.hb_core.specs.MomentLaws.{ImagesHavePrefixes, ImageHasPrefix}
-use Rattle.hb_ops.specs.Files.{FileState}
+use Rattle.hb_ops.specs.Files.{FileState, last_of}
 use Rattle.hb_ops.specs.Sound.{IsSound}
 use Rattle.hb_set.specs.Machine.{RecordSet}
 use Rattle.hb_sound.specs.PointWalks.{IsPointOf}
 use Rattle.hb_store.specs.Keeps.{OpensToEither}
 use Rattle.hb_store.specs.Opening.{OpensTo}
-use Rattle.hb_store.specs.Parts.{last_of}
 
 -- the last of the files is one of them
 last_among : (durable : FileState) (later : List FileState) → Contains (durable ∷ later) (last_of durable later)

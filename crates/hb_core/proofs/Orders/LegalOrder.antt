@@ -9,7 +9,7 @@ use Rattle.hb_set.specs.declared.scripts.Line.{Line}
 use Rattle.hb_activity.specs.declared.activities.Activity.{Activity}
 use Rattle.hb_activity.specs.declared.activities.Activity.TheVariants as at
 use Rattle.hb_activity.specs.Classes.{line_in_hand}
-use Rattle.hb_core.proofs.Orders.NextLines.{next_is, same_line}
+use Rattle.hb_core.proofs.Facts.NextLines.{next_is, same_line}
 use Rattle.hb_core.proofs.Orders.OrderPlaces.{replies_kept}
 use Rattle.hb_core.specs.ContentsLaws.{ContentsFollowOrder, ContentsStep, contents_now}
 use Rattle.hb_core.specs.KeptOrder.{HasLegalOrder}

@@ -11,8 +11,8 @@ use Rattle.hb_activity.specs.Classes.{line_in_hand}
 use Rattle.hb_activity.specs.Deeds.{Deed}
 use Rattle.hb_consol.specs.ConsolidatorRows.{IsMergingOf}
 use Rattle.hb_core.proofs.Table.LineFates.{LineFate, fate_given_up, fate_row}
-use Rattle.hb_core.proofs.Table.StepKinds.{each_step, ready_kind}
-use Rattle.hb_core.proofs.Table.Ways.{KeepsAllButDisk, forces_so, meets_so, stays_so, more_so}
+use Rattle.hb_core.proofs.Facts.StepKinds.{each_step, ready_kind}
+use Rattle.hb_core.proofs.Facts.Ways.{KeepsAllButDisk, forces_so, meets_so, stays_so, more_so}
 use Rattle.hb_core.specs.FileLaws.{LinesStayFit}
 use Rattle.hb_core.specs.KeptLines.{HasLineBody, LinesFit}
 use Rattle.hb_core.specs.Machines.{Machine}

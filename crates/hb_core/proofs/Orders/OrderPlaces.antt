@@ -13,8 +13,8 @@ use Rattle.hb_core.specs.declared.outcomes.Outcome.TheVariants as outcomes
 use Rattle.hb_activity.specs.Deeds.{Deed, Answers, Says}
 use Rattle.hb_core.proofs.Table.LineFates.{LineFate, fate_given_up, fate_row, idle_never, merge_waits_never, post_waits_never}
 use Rattle.hb_core.proofs.Table.MergerMoves.{Waits}
-use Rattle.hb_core.proofs.Table.StepKinds.{each_step, ready_kind}
-use Rattle.hb_core.proofs.Table.Ways.{KeepsAllButDisk, forces_so, meets_so, stays_so, more_so}
+use Rattle.hb_core.proofs.Facts.StepKinds.{each_step, ready_kind}
+use Rattle.hb_core.proofs.Facts.Ways.{KeepsAllButDisk, forces_so, meets_so, stays_so, more_so}
 use Rattle.hb_core.specs.KeptOrder.{StandsInOrder, StandsOutside}
 use Rattle.hb_core.specs.Machines.{Machine, if_some}
 use Rattle.hb_core.specs.Performing.{Performs, given_by, outcome_of}

@@ -14,9 +14,9 @@ use Rattle.hb_activity.specs.Deeds.{Deed, does}
 use Rattle.hb_core.proofs.Orders.AnswersInPlace.{answers_are_in_place}
 use Rattle.hb_core.proofs.Memory.Moments.{answers_are_timed}
 use Rattle.hb_core.proofs.TwoSteps.SinglePlaces.{no_place, one_place, stands_longer}
-use Rattle.hb_core.proofs.Table.StepKinds.{each_kind, FlushesMore, ready_kind}
+use Rattle.hb_core.proofs.Facts.StepKinds.{each_kind, FlushesMore, ready_kind}
 use Rattle.hb_core.proofs.Memory.ToldStays.{still_told}
-use Rattle.hb_core.proofs.Table.Ways.{order_grows}
+use Rattle.hb_core.proofs.Facts.Ways.{order_grows}
 use Rattle.hb_core.specs.Acting.{MeetsBadPage}
 use Rattle.hb_core.specs.Forcing.{ForcesAll, StaysSo, forced_files}
 use Rattle.hb_core.specs.KeepingLaws.{IsAnsweredInPlace, PrefixStaysPending, SettledStaysSettled}
@@ -26,13 +26,12 @@ use Rattle.hb_core.specs.Machines.{Files, Machine, current_file, if_some, settle
 use Rattle.hb_core.specs.Performing.{MayDo, Performs, files_after, given_by, with_effect}
 use Rattle.hb_core.specs.Steps.{StepsTo, Works}
 use Rattle.hb_log_codec.specs.Groups.{group_bytes}
-use Rattle.hb_ops.specs.Files.{FileState, contents_of}
+use Rattle.hb_ops.specs.Files.{FileState, contents_of, last_of}
 use Rattle.hb_set.specs.Machine.{RecordSet}
 use Rattle.hb_set.specs.Order.{Entry, IsLegalOrder, result_of}
 use Rattle.hb_store.specs.Making.{group_here}
-use Rattle.hb_store.specs.Parts.{last_of}
 use Rattle.hb_store.specs.States.{StoreState}
-use Rattle.hb_store.proofs.Facts.MarkLaws.{mark_inside}
+use Rattle.hb_wal.proofs.Facts.Marks.{mark_inside}
 use Rattle.hb_wal.specs.Log.{LogState, Waiting, mark_of}
 
 -- ---- groups and the files before them

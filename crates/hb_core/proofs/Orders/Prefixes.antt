@@ -7,10 +7,9 @@ use Rattle.hb_core.proofs.Orders.PendingKept.{IsBelow, marks_inside, next_mark, 
 use Rattle.hb_core.specs.KeepingLaws.{FilesHavePrefixes, IsAfterLonger, IsAmongFirst}
 use Rattle.hb_core.specs.KeptOrder.{FollowMarks, StandsInOrder, StandsOutside}
 use Rattle.hb_core.specs.Machines.{settled_count}
-use Rattle.hb_ops.specs.Files.{FileState, contents_of}
+use Rattle.hb_ops.specs.Files.{FileState, contents_of, last_of}
 use Rattle.hb_set.specs.Machine.{RecordSet}
 use Rattle.hb_set.specs.Order.{Entry, result_of}
-use Rattle.hb_store.specs.Parts.{last_of}
 use Rattle.hb_wal.specs.Log.{Waiting, mark_of}
 
 -- a file has the set after so many entries

@@ -5,7 +5,7 @@ use Rattle.hb_set.specs.declared.commands.Reply.{Reply}
 use Rattle.hb_activity.specs.declared.activities.Activity.TheVariants as at
 use Rattle.hb_core.specs.declared.outcomes.Outcome.{Outcome}
 use Rattle.hb_core.proofs.Orders.OrderPlaces.{KeepsReplies, replies_kept}
-use Rattle.hb_core.proofs.Table.StepLines.{LinesAfter, lines_after}
+use Rattle.hb_core.proofs.Facts.StepLines.{LinesAfter, lines_after}
 use Rattle.hb_core.specs.KeptMachine.{MachineKeeps}
 use Rattle.hb_core.specs.KeptOrder.{StandsOutside}
 use Rattle.hb_core.specs.KeptPlaces.{RepliesStand}

@@ -32,7 +32,7 @@ use Rattle.hb_set.specs.Order.{Entry}
 use Rattle.hb_sound.specs.Laws.{LackIsContents, StandingIsContents}
 use Rattle.hb_sound.specs.PointWalks.{IsPointOf}
 use Rattle.hb_store.specs.States.{StoreState, in_memory}
-use Rattle.hb_core.proofs.Table.EachRow.{OnlyReplies, each_row}
+use Rattle.hb_core.proofs.Facts.EachRow.{OnlyReplies, each_row}
 use Rattle.hb_ops.proofs.Facts.PageNumberLaws.{live_so}
 
 -- what an operation does to the contents

@@ -17,9 +17,9 @@ use Rattle.hb_consol.specs.ConsolidatorRows.{IsMergingOf}
 use Rattle.hb_core.proofs.Table.LineFates.{LineFate, fate_given_up, fate_row}
 use Rattle.hb_core.proofs.Orders.LinesFit.{took_job, took_merging}
 use Rattle.hb_core.proofs.Table.MergerMoves.{Waits}
-use Rattle.hb_core.proofs.Orders.NextLines.{IsNextOf, answered_before, earlier_answered, next_is, next_stays, now_answered, same_line, still_answered}
-use Rattle.hb_core.proofs.Table.StepKinds.{each_step, ready_kind}
-use Rattle.hb_core.proofs.Table.Ways.{KeepsAllButDisk, same_answers, same_order, forces_so, meets_so, stays_so, more_so}
+use Rattle.hb_core.proofs.Facts.NextLines.{IsNextOf, answered_before, earlier_answered, next_is, next_stays, now_answered, same_line, still_answered}
+use Rattle.hb_core.proofs.Facts.StepKinds.{each_step, ready_kind}
+use Rattle.hb_core.proofs.Facts.Ways.{KeepsAllButDisk, same_answers, same_order, forces_so, meets_so, stays_so, more_so}
 use Rattle.hb_core.specs.KeptSequence.{LinesInSequence, awaited_number}
 use Rattle.hb_core.specs.Machines.{Machine, if_some, with_activity}
 use Rattle.hb_core.specs.OrderLaws.{SequenceStays}

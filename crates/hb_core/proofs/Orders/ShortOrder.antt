@@ -6,8 +6,8 @@ use Rattle.std.proofs.lemmas.List.Elements.{All-head, All-tail}
 use Rattle.std.proofs.lemmas.List.Quantifiers.{all_pairs_push}
 use Rattle.hb_set.specs.declared.scripts.Line.{Line}
 use Rattle.hb_core.specs.declared.outcomes.Outcome.{Outcome}
-use Rattle.hb_core.proofs.Orders.NextLines.{IsNextOf, next_is, same_line}
-use Rattle.hb_core.proofs.Table.StepLines.{LinesAfter, lines_after}
+use Rattle.hb_core.proofs.Facts.NextLines.{IsNextOf, next_is, same_line}
+use Rattle.hb_core.proofs.Facts.StepLines.{LinesAfter, lines_after}
 use Rattle.hb_core.proofs.Orders.Sequences.{sequence_stays}
 use Rattle.hb_core.specs.KeptMachine.{MachineKeeps}
 use Rattle.hb_core.specs.KeptPlaces.{OrderIsShort}

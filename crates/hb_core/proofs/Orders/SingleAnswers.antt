@@ -7,9 +7,9 @@ use Rattle.std.proofs.lemmas.List.Quantifiers.{all_pairs_push}
 use Rattle.hb_set.specs.declared.scripts.Answered.{Answered}
 use Rattle.hb_set.specs.declared.scripts.Line.{Line}
 use Rattle.hb_core.specs.declared.outcomes.Outcome.{Outcome}
-use Rattle.hb_core.proofs.Orders.NextLines.{next_is}
+use Rattle.hb_core.proofs.Facts.NextLines.{next_is}
 use Rattle.hb_core.proofs.Orders.ShortOrder.{next_not_placed}
-use Rattle.hb_core.proofs.Table.StepLines.{LinesAfter, PlaceSettled, lines_after}
+use Rattle.hb_core.proofs.Facts.StepLines.{LinesAfter, PlaceSettled, lines_after}
 use Rattle.hb_core.specs.KeptMachine.{MachineKeeps}
 use Rattle.hb_core.specs.KeptOrder.{StandsOutside}
 use Rattle.hb_core.specs.KeptPlaces.{AnswersAreSingle, RepliesStand}

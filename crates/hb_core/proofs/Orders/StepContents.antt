@@ -19,7 +19,7 @@ use Rattle.hb_core.proofs.Facts.GivenUpLaws.{gives_up_nothing}
 use Rattle.hb_core.proofs.Orders.RowContents.{ContentsBecomeBy, JoinsWith, joins_row}
 use Rattle.hb_core.proofs.Files.RowTells.{Tells, tells_row}
 use Rattle.hb_core.proofs.Files.SoundFiles.{FilesHold, brought_shown, files_hold, sound_within_limits, may_be_done, shows_file}
-use Rattle.hb_core.proofs.Table.StepKinds.{each_step, FlushesMore, ready_kind}
+use Rattle.hb_core.proofs.Facts.StepKinds.{each_step, FlushesMore, ready_kind}
 use Rattle.hb_core.specs.Acting.{MeetsBadPage}
 use Rattle.hb_core.specs.Asking.{wanted_by}
 use Rattle.hb_core.specs.ContentsLaws.{ChangesAt, ContentsFollowOrder, ContentsStep, PointsStay, contents_now}
@@ -29,16 +29,15 @@ use Rattle.hb_core.specs.Machines.{Files, Machine, current_file, if_some}
 use Rattle.hb_core.specs.Performing.{MayDo, Performs, files_after, with_effect}
 use Rattle.hb_core.specs.Steps.{StepsTo, Works}
 use Rattle.hb_layout.specs.Limits.{IsLayout}
-use Rattle.hb_ops.specs.Files.{FileState, contents_of}
+use Rattle.hb_ops.specs.Files.{FileState, contents_of, last_of}
 use Rattle.hb_ops.specs.Operations.{effect_of}
 use Rattle.hb_set.specs.Machine.{RecordSet, if_there, set_after}
 use Rattle.hb_set.specs.Order.{Entry}
 use Rattle.hb_sound.specs.Laws.{LackIsContents, StandingIsContents}
 use Rattle.hb_sound.specs.LawsOfOperations.{ContentsBecome, OperationsKeepContents}
 use Rattle.hb_space.specs.Points.{point_cmp}
-use Rattle.hb_store.specs.Parts.{last_of}
-use Rattle.hb_store.specs.Making.{HaveFittingParts, MakesGoodPages}
-use Rattle.hb_store.proofs.Facts.ReplayLaws.{last_of-append}
+use Rattle.hb_store.specs.Making.{MakesGoodChanges, PartsFitOnGoodPages}
+use Rattle.hb_ops.proofs.Facts.FilePages.{last_of-append}
 use Rattle.hb_store.specs.States.{StoreState}
 use Rattle.hb_space.proofs.Facts.PointOrder.{same_point}
 use Rattle.hb_core.proofs.Memory.BroughtPages.{told_files}
@@ -53,7 +52,7 @@ becomes_so s (ops.Post parent at inner area) becomes = becomes
 becomes_so s (ops.Merge parent keep gone) becomes = becomes
 becomes_so s (ops.Grow fresh free_after) becomes = becomes
 
-module _ (makes : MakesGoodPages) (parts : HaveFittingParts) (points : HeldArePoints) (keep_contents : OperationsKeepContents) (standing : StandingIsContents) (lacking : LackIsContents)
+module _ (makes : MakesGoodChanges) (parts : PartsFitOnGoodPages) (points : HeldArePoints) (keep_contents : OperationsKeepContents) (standing : StandingIsContents) (lacking : LackIsContents)
     (m : Machine) (files : Files) (actor : ℕ) (outcome : Outcome) (new : Machine) (told : m.files ≡ Some files) (fit : LinesFit m) (keeps : KeepsPages m.store) (holds : FilesHold m.store files) where
   -- What is to be shown of a step: there are files afterwards, and their contents follow.
   abbrev pub Follows : Type 0
@@ -136,7 +135,7 @@ module _ (makes : MakesGoodPages) (parts : HaveFittingParts) (points : HeldArePo
 same_files : (o : Option Files) (a b : Files) → o ≡ Some a → o ≡ Some b → a ≡ b
 same_files o a b first second = let both : Some a ≡ Some b = sym first ∙ second in let same : a ≡ b = cc in same
 
-module _ (makes : MakesGoodPages) (parts : HaveFittingParts) (points : HeldArePoints) (keep_contents : OperationsKeepContents) (standing : StandingIsContents) (lacking : LackIsContents) where
+module _ (makes : MakesGoodChanges) (parts : PartsFitOnGoodPages) (points : HeldArePoints) (keep_contents : OperationsKeepContents) (standing : StandingIsContents) (lacking : LackIsContents) where
   pub contents_follow_order : ContentsFollowOrder
   contents_follow_order m files after actor outcome new told fit inside has step is =
       let keeps = keeps_pages m (sound_within_limits m files has) inside in

@@ -25,9 +25,9 @@ use Rattle.hb_activity.specs.Walks.{walk_held}
 use Rattle.hb_core.proofs.Table.NextPlaces.{HasPlace, HoldsNothing, KeepsParent, PartsFull, TakesFull, nothing_given_up, now, place_after}
 use Rattle.hb_core.proofs.Room.SplitHalves.{one_has_room, takes_full}
 use Rattle.hb_core.proofs.Room.SplitHome.{RoomLaws}
-use Rattle.hb_core.proofs.Table.StepKinds.{each_kind, FlushesMore, ready_kind}
-use Rattle.hb_core.proofs.Memory.StillThere.{may_or_not, other_holds, own_next}
-use Rattle.hb_core.proofs.Table.Ways.{KeepsAllButDisk, forces_so, meets_so, stays_so, more_so}
+use Rattle.hb_core.proofs.Facts.StepKinds.{each_kind, FlushesMore, ready_kind}
+use Rattle.hb_core.proofs.Facts.StillThere.{may_or_not, other_holds, own_next}
+use Rattle.hb_core.proofs.Facts.Ways.{KeepsAllButDisk, forces_so, meets_so, stays_so, more_so}
 use Rattle.hb_core.specs.Acting.{MeetsBadPage}
 use Rattle.hb_core.specs.Fetching.{Brings, MustStay}
 use Rattle.hb_core.specs.Forcing.{ForcesAll, StaysSo}

@@ -21,7 +21,7 @@ use Rattle.hb_core.proofs.Memory.OwnedOps.{made_was_free}
 use Rattle.hb_core.proofs.Room.SplitHome.{IsHome, RoomLaws, holds_directly, never_both, one_is_home}
 use Rattle.hb_core.proofs.Room.SplitWeights.{both_have_room, parted_weighs}
 use Rattle.hb_point.proofs.Facts.RecordLeaves.{put_weighs}
-use Rattle.hb_core.proofs.Memory.StillThere.{fetched_good, nothing_done}
+use Rattle.hb_core.proofs.Facts.StillThere.{fetched_good, nothing_done}
 use Rattle.hb_core.specs.Fetching.{Brings, MustStay}
 use Rattle.hb_core.specs.KeptLines.{MetaWithinLimits}
 use Rattle.hb_core.specs.Keeps.{HasRoomFor, HoldsPagesOfFile, LacksRoomFor, OneHasRoom}
@@ -42,7 +42,7 @@ use Rattle.hb_space.specs.Boxes.{Area, IsArea}
 use Rattle.hb_split.proofs.Facts.Ends.{is_thirds}
 use Rattle.hb_split.specs.Choosing.{IsThirds}
 use Rattle.hb_store.specs.Calls.{change_here, read_here}
-use Rattle.hb_store.specs.Replay.{set_pages, has_page}
+use Rattle.hb_ops.specs.SetPages.{set_pages, has_page}
 use Rattle.hb_store.specs.States.{IsGoodPage, StoreState, in_memory}
 use Rattle.hb_ops.proofs.Facts.PageNumberLaws.{live_so}
 

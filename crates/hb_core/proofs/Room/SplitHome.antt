@@ -22,9 +22,9 @@ use Rattle.hb_ops.proofs.Facts.PlacedLaws.{leaf_is_sibling, placed, placed_is_le
 use Rattle.hb_ops.specs.Sound.{FitsFile}
 use Rattle.hb_ops.specs.Standing.{StandsNot}
 use Rattle.hb_ops.proofs.Facts.StemLaws.{PartLaws, fresh_stems, opened, source_stems, stretch}
-use Rattle.hb_sound.proofs.RecordsParted.{cut_has_on}
-use Rattle.hb_sound.proofs.OneLevel.{TreeLaws}
-use Rattle.hb_sound.proofs.PagesParted.{stems_sibling}
+use Rattle.hb_sound.proofs.Facts.RecordsParted.{cut_has_on}
+use Rattle.hb_sound.proofs.Facts.OneLevel.{TreeLaws}
+use Rattle.hb_sound.proofs.Facts.PagesParted.{stems_sibling}
 use Rattle.hb_space.specs.Boxes.{Area, Holds, IsArea}
 
 -- what the laws of pages say

@@ -34,7 +34,7 @@ use Rattle.hb_search.specs.Searching.{MaySearch}
 use Rattle.hb_store.specs.States.{StoreState}
 use Rattle.hb_lemmas.proofs.Options.{at_value, has_value, some_value}
 use Rattle.hb_core.proofs.Machines.BoxesAhead.{corner_ahead, has_last}
-use Rattle.hb_core.proofs.Memory.StillThere.{fetched_fits}
+use Rattle.hb_core.proofs.Facts.StillThere.{fetched_fits}
 use Rattle.hb_core.proofs.Running.Brought.{brings_wider}
 use Rattle.hb_core.proofs.Walks.AskedToMerge.{merger_walks_may_be_asked, pairs_may_be_asked}
 use Rattle.hb_core.proofs.Walks.MayBeAsked.{children_may_be_asked, points_may_be_asked, poster_walks_may_be_asked, puts_may_be_asked, searches_may_be_asked, splits_may_be_asked}

@@ -7,7 +7,7 @@ use Rattle.std.proofs.lemmas.Option.{get_or_from_slice_get, slice_get-get_or, sl
 use Rattle.hb_disk.specs.Model.{DiskModel}
 use Rattle.hb_latch.specs.Tables.{LatchTable, latch_cmp, mode_at}
 use Rattle.hb_space.specs.Actors.{IsActor}
-use Rattle.hb_latch.proofs.KeyOrder.{exact_keys, latch_order}
+use Rattle.hb_latch.proofs.Facts.KeyOrder.{exact_keys, latch_order}
 use Rattle.hb_set.specs.declared.scripts.Answered.{Answered}
 use Rattle.hb_set.specs.declared.scripts.Line.{Line}
 use Rattle.hb_set.specs.Order.{Entry}

@@ -10,7 +10,7 @@ use Rattle.hb_frag.specs.declared.pages.LivePage.{LivePage}
 use Rattle.hb_frag.specs.Leaves.{leaf_at}
 use Rattle.hb_space.specs.Actors.{IsActor}
 use Rattle.hb_ops.specs.declared.operations.Op.{Op}
-use Rattle.hb_ops.specs.Files.{FileState}
+use Rattle.hb_ops.specs.Files.{FileState, last_of}
 use Rattle.hb_ops.specs.Operations.{IsLicensed}
 use Rattle.hb_ops.specs.Sound.{FitsFile}
 use Rattle.hb_set.specs.Order.{Entry}
@@ -27,14 +27,13 @@ use Rattle.hb_activity.proofs.Facts.AllowedDeeds.{kind_at}
 use Rattle.hb_lemmas.proofs.Options.{at_value}
 use Rattle.hb_store.specs.Calls.{HasFrameFor, HasPlaces, IsReady}
 use Rattle.hb_store.specs.Keeps.{StoreKeeps}
-use Rattle.hb_store.specs.Parts.{last_of}
 use Rattle.hb_store.specs.States.{StoreState}
 use Rattle.hb_space.specs.declared.form.TheConstants.{GROUP, PENDING}
 use Rattle.hb_wal.specs.Log.{LogState, Waiting, pending_bytes, room_of}
 use Rattle.hb_core.proofs.Files.FileOps.{licensed_in_file}
 use Rattle.hb_core.proofs.Files.SoundFiles.{FilesHold, brought_shown, files_hold, shows_file}
 use Rattle.hb_core.proofs.Memory.KeptPages.{brought, keeps_pages}
-use Rattle.hb_core.proofs.Table.EachRow.{each_op, each_row}
+use Rattle.hb_core.proofs.Facts.EachRow.{each_op, each_row}
 use Rattle.hb_core.proofs.Walks.MayBeAsked.{pages_at_hand_fit}
 use Rattle.hb_core.specs.AllowedLaws.{AnyPage}
 use Rattle.hb_core.specs.Asking.{looked_live, wanted_by}

@@ -1,9 +1,8 @@
 -- What the frames of a machine tell of the pages that a step needs: which stay, how few pins they have, and what a page that comes makes
 -- of that.
-use Rattle.std.proofs.Common.{◌≡◌, ◌⊎◌, inl, inr, ℕ, ◌+◌, ◌<◌, ◌≤◌, ◌==◌, Bool, true, false, List, [], ◌∷◌, cond, length, Option, Some, None, IsSome, IsTrue, refl, sym, ap, subst, ◌∙◌, arith}
+use Rattle.std.proofs.Common.{◌≡◌, inl, inr, ℕ, ◌+◌, ◌<◌, ◌≤◌, true, false, List, [], cond, Option, Some, None, IsSome, IsTrue, refl, sym, ap, subst, ◌∙◌, arith}
 use Rattle.std.specs.FinSet as set
 use Rattle.std.specs.Ordering.{nat_cmp}
-use Rattle.std.specs.List.{count_by}
 use Rattle.std.specs.Option.{IsSomeAnd, is_some, option_map_or}
 use Rattle.std.proofs.lemmas.Bool.{false≢true}
 use Rattle.std.proofs.lemmas.List.Sums.{count_by-le-length}
@@ -11,19 +10,18 @@ use Rattle.hb_lemmas.proofs.Options.{has_value, not_none}
 use Rattle.hb_activity.specs.declared.wanting.Wanted.{Wanted}
 use Rattle.hb_latch.specs.declared.modes.Mode.{Mode}
 use Rattle.hb_latch.specs.Tables.{LatchTable, mode_at}
-use Rattle.hb_layout.specs.declared.meta.Meta.{Meta}
-use Rattle.hb_pool.proofs.Others.{came_in}
-use Rattle.hb_pool.proofs.Pooled.{dirty_stays, pinned_stays}
+use Rattle.hb_pool.proofs.Facts.Others.{came_in}
+use Rattle.hb_pool.proofs.Facts.Pooled.{dirty_stays, pinned_stays}
 use Rattle.hb_pool.specs.Frames.{Use, fresh, must_stay}
-use Rattle.hb_pool.specs.Pools.{IsPool, brought, frame_of}
+use Rattle.hb_pool.specs.Pools.{brought, frame_of}
 use Rattle.hb_store.specs.Calls.{StaysHere, use_fetched}
 use Rattle.hb_store.specs.Held.{IsTied}
-use Rattle.hb_store.specs.States.{StoreState, in_memory, is_dirty}
+use Rattle.hb_store.specs.States.{StoreState, is_dirty}
 use Rattle.hb_core.proofs.Machines.HoldersMoved.{holders_moved}
 use Rattle.hb_core.proofs.Machines.PinCounts.{IsSingle, brought_pins, one_if}
 use Rattle.hb_core.proofs.Machines.PinsFollow.{PinsMore, times}
-use Rattle.hb_core.proofs.Memory.StillThere.{may_or_not}
-use Rattle.hb_core.proofs.Running.Pins.{few_pins, pins_there, times_first}
+use Rattle.hb_core.proofs.Facts.StillThere.{may_or_not}
+use Rattle.hb_core.proofs.Running.Pins.{few_pins, times_first}
 use Rattle.hb_core.specs.Fetching.{MustStay}
 use Rattle.hb_core.specs.KeptMachine.{MachineKeeps}
 use Rattle.hb_core.specs.Machines.{Machine}

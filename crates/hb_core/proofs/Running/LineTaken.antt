@@ -40,7 +40,7 @@ use Rattle.hb_core.specs.Steps.{BeginsLine, StepsAs, TakesJobToMerge, TakesPosti
 use Rattle.hb_core.specs.Taking.{IsNextLine, RefusesLine, TakesLine, TakesNextLine, TakesNextMerging, TakesNextPosting}
 use Rattle.hb_core.specs.Using.{pages_of}
 use Rattle.hb_core.specs.Working.{MayStep, with_memory}
-use Rattle.hb_core.proofs.Orders.NextLines.{next_is}
+use Rattle.hb_core.proofs.Facts.NextLines.{next_is}
 use Rattle.hb_core.proofs.Running.AgainstPlaces.{box_in_the_way, has_box_free}
 use Rattle.hb_core.proofs.Running.DeedShows.{deed_shows}
 use Rattle.hb_core.proofs.Running.Frames.{must_here}

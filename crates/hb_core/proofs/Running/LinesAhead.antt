@@ -7,7 +7,7 @@ use Rattle.std.proofs.lemmas.Option.{slice_get_within}
 use Rattle.hb_lemmas.proofs.Lists.{All-alone, All-behind, each_member}
 use Rattle.hb_set.specs.declared.scripts.Answered.{Answered}
 use Rattle.hb_set.specs.declared.scripts.Line.{Line}
-use Rattle.hb_core.proofs.Orders.NextLines.{above_all}
+use Rattle.hb_core.proofs.Facts.NextLines.{above_all}
 use Rattle.hb_core.proofs.Running.TurnsAfter.{Dealt, ToCome, TurnAt}
 use Rattle.hb_point.specs.SessionRows.{is_answered, next_line}
 use Rattle.hb_set.specs.Order.{AreRising}

@@ -13,7 +13,7 @@ use Rattle.hb_layout.specs.declared.meta.Meta.{Meta}
 use Rattle.hb_lemmas.proofs.Options.{at_value, if_value, some_value}
 use Rattle.std.specs.FinSet as set
 use Rattle.std.specs.Ordering.{nat_cmp}
-use Rattle.hb_ops.specs.Files.{FileState, if_live}
+use Rattle.hb_ops.specs.Files.{FileState, if_live, last_of, page_of}
 use Rattle.hb_ops.specs.Sound.{IsSound}
 use Rattle.hb_ops.specs.Owing.{LacksRoom}
 use Rattle.hb_activity.specs.declared.jobs.Job.{Job}
@@ -23,7 +23,6 @@ use Rattle.hb_activity.specs.declared.activities.Activity.TheVariants as at
 use Rattle.hb_poster.specs.PosterRows.{MayGrow}
 use Rattle.hb_store.specs.Fetching.{Breaks, FetchesNot, IsNoPage, LooksUp, IsNext, IsNoHead, IsCrowdedOut, MayFetch, MayUse, use_numbered}
 use Rattle.hb_store.specs.Keeps.{StoreKeeps}
-use Rattle.hb_store.specs.Parts.{last_of}
 use Rattle.hb_store.specs.States.{IsMemory, StoreState, in_memory}
 use Rattle.hb_store.specs.declared.stops.FetchStop.{FetchStop}
 use Rattle.hb_store.specs.declared.stops.FetchStop.TheVariants as fetches
@@ -53,7 +52,6 @@ use Rattle.hb_core.specs.Using.{page_wanted, use_wanted}
 use Rattle.hb_core.specs.Working.{HasCome, HasPages, HaltsPinned, IsHalt, with_memory}
 use Rattle.hb_core.specs.declared.halts.Halt.{Halt}
 use Rattle.hb_frag.specs.declared.pages.Page.{Page}
-use Rattle.hb_ops.specs.Files.{page_of}
 use Rattle.hb_pool.specs.Frames.{Use}
 use Rattle.hb_pool.specs.Pools.{places}
 use Rattle.hb_store.specs.Calls.{StaysHere, use_fetched}

@@ -13,10 +13,10 @@ use Rattle.hb_activity.specs.declared.jobs.Job.{Job}
 use Rattle.hb_activity.specs.declared.wanting.Wanted.{Wanted}
 use Rattle.hb_activity.specs.Classes.{line_in_hand}
 use Rattle.hb_activity.specs.Deeds.{Answers, Deed, answers_now, takes_job}
-use Rattle.hb_core.proofs.Orders.NextLines.{next_is}
+use Rattle.hb_core.proofs.Facts.NextLines.{next_is}
 use Rattle.hb_core.proofs.Orders.Sequences.{some_such}
 use Rattle.hb_core.proofs.Table.LineFates.{LineFate, Waits, fate_given_up, fate_row}
-use Rattle.hb_core.proofs.Table.StepKinds.{IsQuiet}
+use Rattle.hb_core.proofs.Facts.StepKinds.{IsQuiet}
 use Rattle.hb_core.specs.GivingUp.{gives_up}
 use Rattle.hb_core.specs.KeptSequence.{LinesInSequence, awaited_number}
 use Rattle.hb_core.specs.Machines.{Machine, with_disk}

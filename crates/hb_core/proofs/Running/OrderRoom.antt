@@ -11,7 +11,7 @@ use Rattle.hb_activity.specs.Deeds.{Deed}
 use Rattle.hb_point.specs.SessionRows.{next_line}
 use Rattle.hb_store.specs.States.{StoreState}
 use Rattle.hb_lemmas.proofs.Options.{at_value}
-use Rattle.hb_core.proofs.Orders.NextLines.{next_is}
+use Rattle.hb_core.proofs.Facts.NextLines.{next_is}
 use Rattle.hb_core.proofs.Orders.ShortOrder.{next_not_placed, no_more_than}
 use Rattle.hb_core.proofs.Table.LineFates.{LineFate, fate_row}
 use Rattle.hb_core.specs.Asking.{wanted_by}

@@ -5,8 +5,8 @@ use Rattle.std.specs.Option.{IsSomeAnd, is_some, option_map, option_map_or}
 use Rattle.std.proofs.lemmas.Bool.{cases_Bool, eq-eqb, eqb-true, eqb-false}
 use Rattle.std.proofs.lemmas.Option.{same_Some}
 use Rattle.hb_lemmas.proofs.Options.{some_value}
-use Rattle.hb_pool.proofs.Others.{last_changed, last_no_other, place_changed, place_no_other}
-use Rattle.hb_pool.proofs.Pooled.{frame_pins, in_place_pool, put_last_pool}
+use Rattle.hb_pool.proofs.Facts.Others.{last_changed, last_no_other, place_changed, place_no_other}
+use Rattle.hb_pool.proofs.Facts.Pooled.{frame_pins, in_place_pool, put_last_pool}
 use Rattle.hb_pool.specs.Frames.{Use, pinned, unpinned}
 use Rattle.hb_pool.specs.Pools.{IsPool, frame_of, in_place, put_last}
 use Rattle.hb_store.specs.Held.{IsTied}

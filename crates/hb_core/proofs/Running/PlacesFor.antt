@@ -4,7 +4,7 @@ use Rattle.std.specs.Option.{is_some}
 use Rattle.std.proofs.lemmas.Bool.{cases_lt}
 use Rattle.hb_activity.specs.declared.wanting.Wanted.{Wanted}
 use Rattle.hb_layout.specs.declared.meta.Meta.{Meta}
-use Rattle.hb_pool.proofs.Pooled.{brought_counts, brought_pool, last_counts}
+use Rattle.hb_pool.proofs.Facts.Pooled.{brought_counts, brought_pool, last_counts}
 use Rattle.hb_pool.specs.Frames.{Use, must_stay, pinned}
 use Rattle.hb_pool.specs.Pools.{IsPool, brought, frame_of, places, put_last}
 use Rattle.hb_space.specs.declared.form.TheConstants.{GROUP, PENDING}

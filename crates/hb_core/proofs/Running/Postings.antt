@@ -7,6 +7,7 @@ use Rattle.hb_frag.specs.declared.pages.LivePage.{LivePage}
 use Rattle.hb_frag.specs.Leaves.{Placed}
 use Rattle.hb_latch.specs.declared.modes.Mode.TheVariants.{Shared}
 use Rattle.hb_space.specs.Actors.{IsActor}
+use Rattle.hb_layout.specs.Limits.{IsLayout}
 use Rattle.hb_layout.specs.declared.meta.Meta.{Meta}
 use Rattle.hb_layout.specs.declared.limits.TheConstants.{HEIGHT_MAX}
 use Rattle.hb_lemmas.proofs.Options.{at_value, has_value, some_value}
@@ -21,7 +22,7 @@ use Rattle.hb_activity.specs.Wanting.{in_mode, named_child, wanted_of}
 use Rattle.hb_poster.specs.Asks.{MakesPage, MayBeAsked}
 use Rattle.hb_poster.specs.PosterRows.{MayGrow}
 use Rattle.hb_ops.specs.Owing.{LacksRoom}
-use Rattle.hb_core.proofs.Memory.StillThere.{fetched_fits}
+use Rattle.hb_core.proofs.Facts.StillThere.{fetched_fits}
 use Rattle.hb_core.proofs.Running.Brought.{brings_wider}
 use Rattle.hb_core.proofs.Running.StandsElsewhere.{stands_as}
 use Rattle.hb_core.proofs.Walks.MayBeAsked.{children_may_be_asked}
@@ -169,6 +170,7 @@ module _ (m : Machine) (d : DiskModel) (c : RunningCore) (actor : ℕ) (latches 
   -- what the poster's decider is asked
   pub asks_number : AsksNumber c.store activity id
   asks_number = record {
+    layout = subst IsLayout (sym come.brings.rest.meta) come.may.goes_on.kept.meta_within_limits.layout;
     page = its_page.0;
     live = its_page.1;
     made = fetched_fits m (IsWantedPage (wanted_by m actor)) c.store come.may.goes_on.kept.pages_of_file come.brings id its_page.0 its_page.1;

@@ -20,7 +20,7 @@ use Rattle.hb_core.proofs.Files.PairAtHand.{decides_page}
 use Rattle.hb_core.proofs.Machines.PinsFollow.{PinsMore, more_number}
 use Rattle.hb_core.proofs.Memory.OwnedOps.{second_mode}
 use Rattle.hb_core.proofs.Running.Frames.{must_here, wanted_here}
-use Rattle.hb_core.proofs.Table.EachRow.{each_op, each_row}
+use Rattle.hb_core.proofs.Facts.EachRow.{each_op, each_row}
 use Rattle.hb_core.specs.Asking.{wanted_by}
 use Rattle.hb_core.specs.Fetching.{MustStay}
 use Rattle.hb_core.specs.Machines.{Machine, sight}

@@ -25,7 +25,7 @@ use Rattle.hb_core.proofs.Latches.Beside.{beside_from}
 use Rattle.hb_core.proofs.Latches.MergerBacked.{every_row_backed}
 use Rattle.hb_core.proofs.Memory.NextNumbers.{is_next_number}
 use Rattle.hb_core.proofs.Memory.OwnedOps.{made_was_free}
-use Rattle.hb_core.proofs.Memory.StillThere.{fetched_good}
+use Rattle.hb_core.proofs.Facts.StillThere.{fetched_good}
 use Rattle.hb_core.proofs.Table.NextPlaces.{HasPlace, HoldsNothing, PartsFull, now, place_after}
 use Rattle.hb_core.proofs.Walks.AskedToMerge.{place_stays}
 use Rattle.hb_core.proofs.Walks.MergesKept.{HasMergePlace, merged_place}

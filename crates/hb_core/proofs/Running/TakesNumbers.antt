@@ -15,7 +15,7 @@ use Rattle.hb_terms.proofs.Facts.Owing.{one_plan}
 use Rattle.hb_core.specs.Acting.{NeedsNumber, takes_number}
 use Rattle.hb_core.specs.Machines.{Machine, sight}
 use Rattle.hb_core.specs.Rows.{IsAtHand, Row}
-use Rattle.hb_core.proofs.Table.EachRow.{each_op, each_row}
+use Rattle.hb_core.proofs.Facts.EachRow.{each_op, each_row}
 use Rattle.hb_ops.specs.declared.operations.Op.{Op}
 use Rattle.std.proofs.lemmas.Bool.{false≢true}
 

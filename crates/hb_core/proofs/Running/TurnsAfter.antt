@@ -10,7 +10,7 @@ use Rattle.hb_activity.specs.declared.activities.Activity.{Activity}
 use Rattle.hb_activity.specs.Deeds.{Deed, Says}
 use Rattle.hb_lemmas.proofs.Booleans.{if_same}
 use Rattle.hb_lemmas.proofs.Lists.{each_member}
-use Rattle.hb_core.proofs.Orders.NextLines.{answered_before, now_answered, same_line, still_answered}
+use Rattle.hb_core.proofs.Facts.NextLines.{answered_before, now_answered, same_line, still_answered}
 use Rattle.hb_core.proofs.Running.NumbersInHand.{NumberFate}
 use Rattle.hb_core.specs.Machines.{Machine, with_activity}
 use Rattle.hb_core.specs.Performing.{given_by, outcome_of}

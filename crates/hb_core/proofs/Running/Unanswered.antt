@@ -21,7 +21,7 @@ use Rattle.hb_core.specs.Machines.{Machine}
 use Rattle.hb_core.specs.Moving.{StandsAs}
 use Rattle.hb_core.specs.Showing.{IsDealtWith, IsToCome, RunningCore, ShowsMachine, number_in_hand}
 use Rattle.hb_core.specs.Runs.{has_none}
-use Rattle.hb_core.proofs.Orders.NextLines.{next_is}
+use Rattle.hb_core.proofs.Facts.NextLines.{next_is}
 
 -- a member of the front, and one of what lies behind
 in_front : (P : Line → Type 0) (lines : List Line) (n place : ℕ) (line : Line) → All P (take n lines) → place < n → slice_get lines place ≡ Some line → P line

@@ -22,14 +22,14 @@ use Rattle.hb_store.specs.States.{IsGoodPage, StoreState}
 use Rattle.hb_core.specs.declared.outcomes.Outcome.{Outcome}
 use Rattle.hb_core.proofs.Machines.BoxesAhead.{goal_at_hand, leaf_box}
 use Rattle.hb_core.proofs.Machines.LocksKept.{merging_hand, posting_hand}
-use Rattle.hb_core.proofs.Memory.StillThere.{fetched_good}
+use Rattle.hb_core.proofs.Facts.StillThere.{fetched_good}
 use Rattle.hb_core.proofs.Searches.Gathered.{gathering_after}
 use Rattle.hb_core.proofs.Searches.LeafRecords.{leaf_of}
 use Rattle.hb_core.proofs.Searches.SearchRow.{walk_row}
 use Rattle.hb_core.proofs.Table.DeedKinds.{EndsHand, each_again, each_deed}
-use Rattle.hb_core.proofs.Table.EachRow.{each_row}
+use Rattle.hb_core.proofs.Facts.EachRow.{each_row}
 use Rattle.hb_core.proofs.Table.MergerMoves.{StaysMerger, no_line}
-use Rattle.hb_core.proofs.Table.Ways.{KeepsAllButDisk}
+use Rattle.hb_core.proofs.Facts.Ways.{KeepsAllButDisk}
 use Rattle.hb_core.specs.Acting.{DoesRow}
 use Rattle.hb_core.specs.Asking.{wanted_by}
 use Rattle.hb_core.specs.KeptFits.{IsBoxOf, boxes_left}

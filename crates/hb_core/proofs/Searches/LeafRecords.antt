@@ -3,7 +3,7 @@ use Rattle.std.proofs.Common.{◌↔◌, ◌≡◌, ◌≢◌, ◌⊎◌, inl, i
 use Rattle.std.specs.List.{slice_get}
 use Rattle.std.specs.FinMap as map
 use Rattle.std.proofs.lemmas.List.Elements.{All-cons, All-contains, All-nil}
-use Rattle.hb_activity.proofs.Facts.OneRecord.{not_itself}
+use Rattle.hb_space.proofs.Facts.PointOrder.{not_itself}
 use Rattle.hb_core.proofs.Files.FileOps.{ShowsFile}
 use Rattle.hb_core.proofs.Files.FitOps.{HeldArePoints}
 use Rattle.hb_core.proofs.Machines.BoxesAhead.{leaf_box}

@@ -5,10 +5,9 @@ use Rattle.std.specs.Ordering.{is_eq}
 use Rattle.std.specs.declared.cmp.Ordering.{Ordering}
 use Rattle.std.specs.declared.cmp.Ordering.TheVariants.{Less, Equal, Greater}
 use Rattle.std.proofs.lemmas.Cmp.{nat_list_cmp_total}
-use Rattle.std.proofs.lemmas.List.Elements.{All-cons, All-contains, All-head, All-nil, All-tail}
-use Rattle.std.proofs.lemmas.List.Kept.{AllPairs-cons}
+use Rattle.std.proofs.lemmas.List.Elements.{All-cons, All-contains, All-head, All-tail}
 use Rattle.std.proofs.lemmas.List.Sorted.{All-permutation, IsPermutation-cons, IsPermutation-middle, IsPermutation-refl, IsPermutation-trans}
-use Rattle.hb_activity.proofs.Facts.OneRecord.{Rises}
+use Rattle.hb_frag.proofs.Facts.RisingRecords.{Rise, ahead, in_front, rising}
 use Rattle.hb_frag.specs.Rules.{Precedes}
 use Rattle.hb_lemmas.proofs.Lists.{each_member}
 use Rattle.hb_search.specs.Searching.{Differ}
@@ -20,24 +19,24 @@ use Rattle.hb_space.specs.declared.records.Record.{Record}
 record InOrder (xs : List Record) : Type 0 where
   ordered : List Record
   same : IsPermutation xs ordered
-  rising : Rises ordered
+  rising : Rise ordered
 
 -- a record in front of the first one, or behind it
-put_at : (r y : Record) (ys : List Record) → Rises (y ∷ ys) → All (Differ r) (y ∷ ys) → InOrder (r ∷ ys) → (o : Ordering) → point_cmp r.key y.key ≡ o → InOrder (r ∷ y ∷ ys)
+put_at : (r y : Record) (ys : List Record) → Rise (y ∷ ys) → All (Differ r) (y ∷ ys) → InOrder (r ∷ ys) → (o : Ordering) → point_cmp r.key y.key ≡ o → InOrder (r ∷ y ∷ ys)
 put_at r y ys up apart behind Less is = record {
   ordered = r ∷ y ∷ ys;
   same = IsPermutation-refl (r ∷ y ∷ ys);
-  rising = (All-cons (Precedes r) y ys is (each_member (Precedes r) ys (λ s there. nat_list_cmp_total.trans r.key y.key s.key is (All-contains (Precedes y) ys s up.0 there))), up);
+  rising = in_front r (y ∷ ys) (All-cons (Precedes r) y ys is (each_member (Precedes r) ys (λ s there. nat_list_cmp_total.trans r.key y.key s.key is (All-contains (Precedes y) ys s (ahead y ys up) there)))) up;
 }
 put_at r y ys up apart behind Equal is = absurd (All-head (Differ r) y ys apart (same_point r.key y.key (ap is_eq is)))
 put_at r y ys up apart behind Greater is = record {
   ordered = y ∷ behind.ordered;
   same = IsPermutation-trans (r ∷ y ∷ ys) (y ∷ r ∷ ys) (y ∷ behind.ordered) (IsPermutation-middle (r ∷ []) y ys) (IsPermutation-cons y (r ∷ ys) behind.ordered behind.same);
-  rising = (All-permutation (Precedes y) (r ∷ ys) behind.ordered behind.same (All-cons (Precedes y) r ys (turned r.key y.key Greater is) up.0), behind.rising);
+  rising = in_front y behind.ordered (All-permutation (Precedes y) (r ∷ ys) behind.ordered behind.same (All-cons (Precedes y) r ys (turned r.key y.key Greater is) (ahead y ys up))) behind.rising;
 }
 
-put_one : (r : Record) (ys : List Record) → Rises ys → All (Differ r) ys → InOrder (r ∷ ys)
-put_one r [] up apart = record { ordered = r ∷ []; same = IsPermutation-refl (r ∷ []); rising = (All-nil (Precedes r), tt) }
+put_one : (r : Record) (ys : List Record) → Rise ys → All (Differ r) ys → InOrder (r ∷ ys)
+put_one r [] up apart = record { ordered = r ∷ []; same = IsPermutation-refl (r ∷ []); rising = (tt, tt) }
 put_one r (y ∷ ys) up apart = put_at r y ys up apart (put_one r ys up.1 (All-tail (Differ r) y ys apart)) (point_cmp r.key y.key) refl
 
 put_all : (xs : List Record) → AllPairs Differ xs → InOrder xs
@@ -48,9 +47,5 @@ put_all (x ∷ xs) once =
     let one = put_one x rest.ordered rest.rising (All-permutation (Differ x) xs rest.ordered rest.same first) in
     record { ordered = one.ordered; same = IsPermutation-trans (x ∷ xs) (x ∷ rest.ordered) one.ordered (IsPermutation-cons x xs rest.ordered rest.same) one.same; rising = one.rising }
 
-pairs_rise : (xs : List Record) → Rises xs → AllPairs Precedes xs
-pairs_rise [] up = λ i j d low high. absurd (omega (arith, high))
-pairs_rise (x ∷ xs) up = AllPairs-cons Precedes x xs up.0 (pairs_rise xs up.1)
-
 pub in_order : (xs : List Record) → AllPairs Differ xs → (ordered : List Record) × IsPermutation xs ordered × AllPairs Precedes ordered
-in_order xs once = let all = put_all xs once in (all.ordered, all.same, pairs_rise all.ordered all.rising)
+in_order xs once = let all = put_all xs once in (all.ordered, all.same, rising all.ordered all.rising)

@@ -40,7 +40,7 @@ use Rattle.hb_core.proofs.Searches.SortedRecords.{reply_is}
 use Rattle.hb_core.proofs.Table.DeedKinds.{each_deed}
 use Rattle.hb_core.proofs.Table.LineFates.{given_up_joins_nothing}
 use Rattle.hb_core.proofs.Table.StepSays.{each_saying}
-use Rattle.hb_core.proofs.Table.Ways.{KeepsAllButDisk, others_stay}
+use Rattle.hb_core.proofs.Facts.Ways.{KeepsAllButDisk, others_stay}
 use Rattle.hb_core.specs.Acting.{DoesRow}
 use Rattle.hb_core.specs.Asking.{wanted_by}
 use Rattle.hb_core.specs.Fetching.{Brings}

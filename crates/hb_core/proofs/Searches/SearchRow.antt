@@ -17,7 +17,7 @@ use Rattle.hb_set.specs.declared.commands.Command.TheVariants.{Insert, Search}
 use Rattle.hb_set.specs.declared.scripts.Line.{Line}
 use Rattle.hb_space.specs.Boxes.{Area}
 use Rattle.hb_space.specs.declared.records.Record.{Record}
-use Rattle.hb_core.proofs.Table.EachRow.{each_row}
+use Rattle.hb_core.proofs.Facts.EachRow.{each_row}
 use Rattle.hb_core.proofs.Table.MergerMoves.{StaysMerger}
 use Rattle.hb_core.specs.Machines.{Machine, live_here, sight}
 use Rattle.hb_core.specs.Rows.{DoesHere, Row}

@@ -11,8 +11,8 @@ use Rattle.hb_core.specs.declared.outcomes.Outcome.TheVariants as outcomes
 use Rattle.hb_activity.specs.Classes.{Class, Sessions, Posters, Consolidators, Flushers, Empty, HasLine, class_of, hand_of, idle_of}
 use Rattle.hb_activity.specs.Deeds.{Deed, answers_now}
 use Rattle.hb_core.proofs.Table.GivenUp.{given_up_is, idle_hand}
-use Rattle.hb_core.proofs.Table.StepKinds.{each_step, FlushesMore, ready_kind}
-use Rattle.hb_core.proofs.Table.Ways.{KeepsAllButDisk, forces_so, meets_so, more_so, stays_so}
+use Rattle.hb_core.proofs.Facts.StepKinds.{each_step, FlushesMore, ready_kind}
+use Rattle.hb_core.proofs.Facts.Ways.{KeepsAllButDisk, forces_so, meets_so, more_so, stays_so}
 use Rattle.hb_core.specs.Acting.{DoesRow}
 use Rattle.hb_core.specs.Forcing.{ForcesAll, StaysSo}
 use Rattle.hb_core.specs.GivingUp.{gives_up}

@@ -14,7 +14,7 @@ use Rattle.hb_activity.specs.declared.dropping.DropWhy.TheVariants as drops
 use Rattle.hb_activity.specs.Classes.{line_in_hand, Class, Consolidators, Flushers, Posters, Sessions, class_of, idle_of, line_of}
 use Rattle.hb_activity.specs.Deeds.{Deed, answers_now, Answers}
 use Rattle.hb_core.proofs.Table.GivenUp.{idle_hand, given_up_is}
-use Rattle.hb_core.proofs.Table.StepKinds.{IsQuiet}
+use Rattle.hb_core.proofs.Facts.StepKinds.{IsQuiet}
 use Rattle.hb_core.specs.GivingUp.{gives_up, reply_for}
 use Rattle.hb_core.specs.KeptOrder.{StandsOutside}
 use Rattle.hb_core.specs.Machines.{Machine, with_disk}
@@ -26,7 +26,7 @@ use Rattle.hb_consol.specs.ConsolidatorRows.{IsMergingOf}
 use Rattle.hb_poster.specs.PosterRows.{IsPostingOf}
 use Rattle.hb_core.specs.Steps.{TakesJob, TakesMerging}
 use Rattle.hb_core.proofs.Table.MergerMoves.{StaysMerger, no_line}
-use Rattle.hb_core.proofs.Table.EachRow.{OnlyReplies, each_row}
+use Rattle.hb_core.proofs.Facts.EachRow.{OnlyReplies, each_row}
 
 -- The line stays in hand, and nothing joins the order or is answered.
 pub record GoesOn (activity : Activity) (deed : Deed) : Type 0 where

@@ -28,9 +28,9 @@ use Rattle.hb_core.specs.KeptMachine.{MachineKeeps}
 use Rattle.hb_core.specs.Machines.{Machine, live_here, with_disk}
 use Rattle.hb_core.specs.Rows.{Row}
 use Rattle.hb_core.specs.Steps.{may_change_file}
-use Rattle.hb_core.proofs.Memory.StillThere.{fetched_good}
+use Rattle.hb_core.proofs.Facts.StillThere.{fetched_good}
 use Rattle.hb_core.proofs.Table.Causes.{answering, kept_inside, memory_full, memory_why}
-use Rattle.hb_core.proofs.Table.EachRow.{each_row}
+use Rattle.hb_core.proofs.Facts.EachRow.{each_row}
 use Rattle.hb_frag.specs.declared.leaves.Leaf.TheVariants.{Records}
 use Rattle.hb_frag.specs.Leaves.{leaf_at}
 use Rattle.hb_lemmas.proofs.Options.{at_value}

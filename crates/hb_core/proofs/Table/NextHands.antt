@@ -7,7 +7,7 @@ use Rattle.hb_activity.specs.Deeds.{Deed}
 use Rattle.hb_core.specs.Machines.{Machine}
 use Rattle.hb_core.specs.Rows.{Row}
 use Rattle.hb_core.proofs.Table.MergerMoves.{StaysMerger}
-use Rattle.hb_core.proofs.Table.EachRow.{each_row}
+use Rattle.hb_core.proofs.Facts.EachRow.{each_row}
 
 pub record KeepsHand (activity : Activity) (deed : Deed) : Type 0 where
   pub kind : class_of deed.next ≡ class_of activity

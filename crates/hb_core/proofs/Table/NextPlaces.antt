@@ -27,7 +27,7 @@ use Rattle.hb_poster.specs.PosterRows.{Arrives}
 use Rattle.hb_store.specs.States.{StoreState}
 use Rattle.hb_frag.specs.declared.leaves.Leaf.{Leaf}
 use Rattle.hb_core.proofs.Table.MergerMoves.{StaysMerger}
-use Rattle.hb_core.proofs.Table.EachRow.{PassesAt, each_row}
+use Rattle.hb_core.proofs.Facts.EachRow.{PassesAt, each_row}
 
 -- it holds no page between two steps
 pub record HoldsNothing (next : Activity) : Type 0 where

@@ -25,7 +25,7 @@ use Rattle.hb_frag.specs.Leaves.{first_named, siblings_of}
 use Rattle.hb_poster.specs.PosterRows.{DoesPlan, after_look}
 use Rattle.hb_space.specs.Boxes.{Area}
 use Rattle.hb_terms.specs.Plans.{IsPlan}
-use Rattle.hb_core.proofs.Table.EachRow.{each_row}
+use Rattle.hb_core.proofs.Facts.EachRow.{each_row}
 
 -- ---- what a row says, and what it takes from the queue
 

@@ -7,14 +7,14 @@ use Rattle.hb_activity.specs.declared.activities.Activity.TheVariants as at
 use Rattle.hb_core.specs.declared.outcomes.Outcome.{Outcome}
 use Rattle.hb_core.specs.declared.outcomes.Outcome.TheVariants as outcomes
 use Rattle.hb_activity.specs.Deeds.{Deed, answers_now}
-use Rattle.hb_core.proofs.Table.Ways.{KeepsAllButDisk, fails_so, flushes_so, forces_so, meets_so, stays_so, turns_so}
+use Rattle.hb_core.proofs.Facts.Ways.{KeepsAllButDisk, fails_so, flushes_so, forces_so, meets_so, stays_so, turns_so}
 use Rattle.hb_core.specs.Acting.{Abandons, DoesRow}
 use Rattle.hb_core.specs.Forcing.{ForcesAll, StaysSo}
 use Rattle.hb_core.specs.Machines.{Machine, settled_count}
 use Rattle.hb_core.specs.Performing.{Performs}
 use Rattle.hb_core.specs.Steps.{StepsTo, TakesJob, TakesMerging, Works}
 use Rattle.hb_point.specs.SessionRows.{WantsBoxes, next_line, taking}
-use Rattle.hb_core.proofs.Table.StepKinds.{FlushesMore, IsPlain, each_step, ready_kind}
+use Rattle.hb_core.proofs.Facts.StepKinds.{FlushesMore, IsPlain, each_step, ready_kind}
 
 -- What is to be shown of each case.
 pub record ShowsSaid (m : Machine) (actor : ℕ) (outcome : Outcome) (new : Machine) (G : Type 0) : Type 0 where

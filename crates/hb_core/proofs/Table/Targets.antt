@@ -13,7 +13,7 @@ use Rattle.hb_frag.specs.Trees.{Tree}
 use Rattle.hb_ops.specs.Extracting.{split_pages}
 use Rattle.hb_ops.specs.Operations.{change_of}
 use Rattle.hb_space.specs.Boxes.{Area}
-use Rattle.hb_store.specs.Replay.{set_pages}
+use Rattle.hb_ops.specs.SetPages.{set_pages}
 
 -- one of the changed pages has the number
 abbrev pub IsNumber : ℕ → List (ℕ × Page) → Type 0

@@ -32,7 +32,8 @@ use Rattle.hb_pool.specs.Frames.{Use}
 use Rattle.hb_pool.specs.Pools.{frame_of}
 use Rattle.hb_store.specs.Calls.{IsAllowedHere, KeepsAllButPages, change_here, read_here, use_changed}
 use Rattle.hb_store.specs.Making.{group_here, page_image_needed, page_images_needed}
-use Rattle.hb_store.specs.Replay.{set_pages, has_page, is_among}
+use Rattle.hb_store.specs.Replay.{is_among}
+use Rattle.hb_ops.specs.SetPages.{set_pages, has_page}
 use Rattle.hb_store.specs.States.{StoreState, in_memory, is_dirty, is_in_log}
 use Rattle.hb_wal.specs.Log.{LogState, Waiting}
 use Rattle.hb_ops.proofs.Facts.PageNumberLaws.{live_so}

@@ -10,7 +10,7 @@ use Rattle.hb_core.specs.Rows.{Row, RowAlone, RowAt}
 use Rattle.hb_store.specs.States.{StoreState}
 use Rattle.hb_point.specs.SplitRows.{SplitsOrFull}
 use Rattle.hb_core.proofs.Table.RowFates.{RowSaying, saying_of}
-use Rattle.hb_core.proofs.Table.EachRow.{each_alone}
+use Rattle.hb_core.proofs.Facts.EachRow.{each_alone}
 
 -- at a page that was latched a row says that its actor moved on
 at_moves : (m : Machine) (activity : Activity) (its : Wanted) (deed : Deed) → Row activity (Some its) m deed → deed.says ≡ GoesOn

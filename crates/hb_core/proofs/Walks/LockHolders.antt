@@ -8,7 +8,7 @@ use Rattle.hb_activity.specs.Wanting.{wanted_of}
 use Rattle.hb_latch.specs.Tables.{IsLeastInTheWay}
 use Rattle.hb_point.specs.SessionRows.{next_line}
 use Rattle.hb_set.specs.declared.scripts.Line.{Line}
-use Rattle.hb_core.proofs.Memory.StillThere.{may_or_not}
+use Rattle.hb_core.proofs.Facts.StillThere.{may_or_not}
 use Rattle.hb_core.proofs.Walks.SomebodyFree.{somebody_goes_on}
 use Rattle.hb_core.specs.Asking.{IsInTheWay, looked_live}
 use Rattle.hb_core.specs.Keeps.{HasNobodyElse}

@@ -41,7 +41,7 @@ use Rattle.hb_space.proofs.Facts.Boxes.{Holds-within as holds_within}
 use Rattle.hb_search.specs.Searching.{MaySearch, SearchesInside, StaysGathering}
 use Rattle.hb_store.specs.States.{IsGoodPage, StoreState}
 use Rattle.hb_core.proofs.Files.AskedPages.{place_among}
-use Rattle.hb_core.proofs.Memory.StillThere.{fetched_good}
+use Rattle.hb_core.proofs.Facts.StillThere.{fetched_good}
 use Rattle.hb_core.proofs.Walks.AtHand.{good_here, own_there, walked_there}
 use Rattle.hb_core.proofs.Walks.WalkingWorkers.{walk_wants_above}
 use Rattle.hb_core.proofs.Walks.WalksKept.{IsAtParent, parent_latched}

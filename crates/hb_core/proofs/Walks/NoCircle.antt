@@ -11,7 +11,7 @@ use Rattle.hb_activity.proofs.Facts.LaterPages.{never_itself, onward}
 use Rattle.hb_activity.specs.Waiting.{IsLater, WaitsFor}
 use Rattle.hb_activity.specs.Wanting.{wanted_of}
 use Rattle.hb_core.proofs.Walks.LaterWanted.{wanted_comes_later}
-use Rattle.hb_core.proofs.Memory.StillThere.{may_or_not}
+use Rattle.hb_core.proofs.Facts.StillThere.{may_or_not}
 use Rattle.hb_core.specs.Asking.{looked_live, wanted_by}
 use Rattle.hb_core.specs.Keeps.{HasNoOtherLatches, HasNobodyElse, HasSoundFile, LatchesFit, WalksInSpace}
 use Rattle.hb_core.specs.Machines.{Files, Machine, current_file}

@@ -7,7 +7,7 @@ use Rattle.hb_activity.specs.declared.wanting.Wanted.{Wanted}
 use Rattle.hb_activity.specs.declared.activities.Activity.{Activity}
 use Rattle.hb_activity.specs.declared.activities.Activity.TheVariants as at
 use Rattle.hb_core.proofs.Walks.NoCircle.{AwaitsLatch, held_there, in_sequence}
-use Rattle.hb_core.proofs.Memory.StillThere.{may_or_not}
+use Rattle.hb_core.proofs.Facts.StillThere.{may_or_not}
 use Rattle.hb_core.specs.Asking.{wanted_by}
 use Rattle.hb_core.specs.Keeps.{HasNoOtherLatches, HasNobodyElse, HasSoundFile, LatchesFit, WalksInSpace}
 use Rattle.hb_core.specs.Machines.{Files, Machine, current_file}

@@ -22,7 +22,7 @@ use Rattle.hb_core.specs.Rows.{Row}
 use Rattle.hb_frag.specs.Leaves.{IsPointer, Placed, leaf_at}
 use Rattle.hb_space.specs.Boxes.{Area}
 use Rattle.hb_store.specs.States.{StoreState}
-use Rattle.hb_core.proofs.Table.EachRow.{PassesAt, each_row}
+use Rattle.hb_core.proofs.Facts.EachRow.{PassesAt, each_row}
 
 -- a walking worker, with its job and the page that it holds
 abbrev pub WalksAsWorker : Activity → Job → Option ℕ → Type 0

@@ -24,9 +24,9 @@ use Rattle.hb_core.proofs.Memory.BroughtPages.{still_held}
 use Rattle.hb_core.proofs.Latches.LatchesStay.{walk_latched}
 use Rattle.hb_core.proofs.Walks.MergesKept.{HasMergePlace, PlaceStays, merged_place, named_again, none_named, place_latched}
 use Rattle.hb_core.proofs.Table.NextPlaces.{HasPlace, HoldsNothing, KeepsParent, MergesOn, TakesParent, WalksTo, nothing_given_up, now, place_after}
-use Rattle.hb_core.proofs.Table.StepKinds.{each_kind, ready_kind}
-use Rattle.hb_core.proofs.Memory.StillThere.{fetched_good, may_or_not, nothing_done, other_holds, other_walks, own_next}
-use Rattle.hb_core.proofs.Table.Ways.{KeepsAllButDisk, forces_so, meets_so, stays_so, more_so}
+use Rattle.hb_core.proofs.Facts.StepKinds.{each_kind, ready_kind}
+use Rattle.hb_core.proofs.Facts.StillThere.{fetched_good, may_or_not, nothing_done, other_holds, other_walks, own_next}
+use Rattle.hb_core.proofs.Facts.Ways.{KeepsAllButDisk, forces_so, meets_so, stays_so, more_so}
 use Rattle.hb_core.specs.Fetching.{Brings}
 use Rattle.hb_core.specs.KeepingLaws.{WalksStayInSpace}
 use Rattle.hb_core.specs.Keeps.{HasNobodyElse, HoldsPagesOfFile, LatchesFit, WalksInSpace}

@@ -9,7 +9,7 @@ use Rattle.hb_latch.specs.declared.modes.Mode.{Mode}
 use Rattle.hb_latch.specs.Modes.{goes_beside}
 use Rattle.hb_latch.specs.Tables.{IsGrantable, IsLeastInTheWay, KeepsFrom, LatchTable, mode_at}
 use Rattle.hb_space.specs.Actors.{IsActor}
-use Rattle.hb_latch.proofs.InTheWay.{nobody_keeps, none_keeps}
+use Rattle.hb_latch.proofs.Facts.InTheWay.{nobody_keeps, none_keeps}
 use Rattle.hb_set.specs.declared.commands.Reply.{Reply}
 use Rattle.hb_set.specs.declared.scripts.Answered.{Answered}
 use Rattle.hb_set.specs.declared.scripts.Line.{Line}
@@ -30,7 +30,7 @@ use Rattle.hb_core.specs.declared.outcomes.Outcome.{Outcome}
 use Rattle.hb_core.specs.declared.outcomes.Outcome.TheVariants as outcomes
 use Rattle.hb_core.proofs.Walks.LockHolders.{holder_works}
 use Rattle.hb_core.proofs.Walks.SomebodyFree.{somebody_goes_on}
-use Rattle.hb_core.proofs.Memory.StillThere.{may_or_not}
+use Rattle.hb_core.proofs.Facts.StillThere.{may_or_not}
 use Rattle.hb_core.specs.Asking.{HasWayFree, wanted_by}
 use Rattle.hb_core.specs.Forcing.{FlushesOnce, ForcesAll, StaysSo}
 use Rattle.hb_core.specs.Keeps.{HasNoOtherLatches}

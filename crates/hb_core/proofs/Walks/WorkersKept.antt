@@ -16,9 +16,9 @@ use Rattle.hb_consol.specs.ConsolidatorRows.{IsMergingOf}
 use Rattle.hb_core.proofs.Table.DeedKinds.{each_again, each_deed}
 use Rattle.hb_core.proofs.Latches.LatchesStay.{walk_latched}
 use Rattle.hb_core.proofs.Memory.MetaKept.{deed_keeps_meta}
-use Rattle.hb_core.proofs.Memory.StillThere.{may_or_not, nothing_done, other_walks}
+use Rattle.hb_core.proofs.Facts.StillThere.{may_or_not, nothing_done, other_walks}
 use Rattle.hb_core.proofs.Walks.WalkingWorkers.{WalksAsWorker, WalksOn, empty_has_none, walk_after, walk_wants_above}
-use Rattle.hb_core.proofs.Table.Ways.{KeepsAllButDisk}
+use Rattle.hb_core.proofs.Facts.Ways.{KeepsAllButDisk}
 use Rattle.hb_core.specs.Acting.{DoesRow}
 use Rattle.hb_core.specs.KeptFits.{GaveAwayAt, StandsAbove, WorkersStand, walking_job}
 use Rattle.hb_core.specs.KeptMachine.{MachineKeeps}

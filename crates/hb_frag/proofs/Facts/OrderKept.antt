@@ -9,7 +9,7 @@ use Rattle.hb_frag.specs.Leaves.{IsWellCut, Placed, leaves_of}
 use Rattle.hb_frag.specs.Normal.{normal, one_leaf_or_cut}
 use Rattle.hb_frag.specs.Rules.{IsInOrder}
 use Rattle.hb_frag.proofs.Normals.{joined_by_cases}
-use Rattle.hb_frag.proofs.OrderedLeaves.{order_of_both}
+use Rattle.hb_frag.proofs.Facts.OrderedLeaves.{order_of_both}
 use Rattle.hb_lemmas.proofs.Lists.{All-alone, All-front, All-behind}
 
 -- a tree keeps the order of another one

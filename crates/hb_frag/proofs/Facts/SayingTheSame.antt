@@ -23,7 +23,7 @@ use Rattle.hb_frag.proofs.Facts.Points.{going_left, going_right, way_ends}
 use Rattle.hb_frag.proofs.Facts.PointOrder.{order_permutes}
 use Rattle.hb_frag.proofs.Facts.Sides.{held_test, IsArea-side_below, IsArea-side_from}
 use Rattle.hb_frag.proofs.Normals.{joined_by_cases}
-use Rattle.hb_frag.proofs.OrderedLeaves.{order_of_both}
+use Rattle.hb_frag.proofs.Facts.OrderedLeaves.{order_of_both}
 use Rattle.hb_lemmas.proofs.Lists.{only_one, All-alone, All-front, All-behind}
 
 -- a leaf says what itself does, and what one says that says what another does

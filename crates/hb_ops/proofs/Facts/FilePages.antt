@@ -4,7 +4,7 @@ use Rattle.std.proofs.Math.ListN.{length-set}
 use Rattle.std.proofs.lemmas.Bool.{cases_lt, eqb-true, eqb-false, ne_eqb}
 use Rattle.hb_frag.specs.declared.pages.Page.{Page}
 use Rattle.hb_frag.specs.declared.pages.Page.TheVariants.{Live, Free}
-use Rattle.hb_ops.specs.Files.{FileState, page_at, page_of}
+use Rattle.hb_ops.specs.Files.{FileState, last_of, page_at, page_of}
 use Rattle.hb_ops.specs.Operations.{with_page}
 use Rattle.hb_ops.specs.Sound.{IsChain, IsSound, count_live}
 use Rattle.hb_ops.proofs.Facts.PageNumberLaws.{get-set_other, get-set_same, page_at-suc, page_at-zero, with_page-behind, with_page-there}
@@ -121,3 +121,9 @@ sound_room s sound none high = by_chain sound.counted.chain sound.counted.chaine
 pub chain_kept : (s t : FileState) → ((id next : ℕ) → page_of s id ≡ Some (Free next) → page_of t id ≡ Some (Free next)) → (head : ℕ) (chain : List ℕ) → IsChain s head chain → IsChain t head chain
 chain_kept s t stays head [] h = h
 chain_kept s t stays head (id ∷ rest) h = (h.0, h.1, h.2, stays id h.2 h.3, chain_kept s t stays h.2 rest h.4)
+
+-- ---- a list of files
+
+pub last_of-append : (s : FileState) (later : List FileState) (n : FileState) → last_of s (later ++ n ∷ []) ≡ n
+last_of-append s [] n = refl
+last_of-append s (next ∷ later) n = last_of-append next later n

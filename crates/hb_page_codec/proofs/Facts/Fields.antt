@@ -17,7 +17,7 @@ use Rattle.hb_frag.specs.Grammar.{point_bytes, record_bytes, FitsRecord}
 use Rattle.hb_page_codec.specs.Reading.{◌>>=◌, byte_at, number_at, many_at}
 use Rattle.hb_page_codec.specs.ReadingFields.{point_at, are_ordered, area_between, area_at, body_at, record_at, count_at, axis_at}
 use Rattle.hb_page_codec.proofs.Spelled.{big_number-spelled}
-use Rattle.hb_page_codec.proofs.Ordered.{ordered, ordered_test}
+use Rattle.hb_page_codec.proofs.Facts.Ordered.{ordered, ordered_test}
 use Rattle.hb_lemmas.proofs.Booleans.{unless_some, when_some}
 use Rattle.hb_lemmas.proofs.Numbers.{length_big_endian}
 use Rattle.hb_page_codec.specs.Exact.{AreBytes}

@@ -14,11 +14,12 @@ use Rattle.hb_ops.specs.Sound.{FitsFile}
 use Rattle.hb_log_codec.specs.Groups.{FitsOp}
 use Rattle.hb_store.specs.States.{AreGood, IsGoodPage, IsMemory, IsSameLayout, IsStanding, StoreState, in_memory}
 use Rattle.hb_store.specs.Calls.{IsAllowedHere, change_here, read_here}
-use Rattle.hb_store.specs.Making.{AreReadable, ChangesWell, IsReadable, MakesGoodPages}
+use Rattle.hb_store.specs.Making.{AreReadable, ChangesWell, HaveFittingParts, IsReadable, MakesGoodChanges, MakesGoodPages, PartsFitOnGoodPages}
+use Rattle.hb_store.specs.Replay.{change_in, touched_read}
 use Rattle.hb_ops.proofs.Facts.PageNumberLaws.{live_so}
 use Rattle.hb_store.specs.Replaying.{ComesAfter, HasLimits, IsPageOf}
-use Rattle.hb_ops.proofs.Facts.AllowedOps.{high_next, reads_some}
-use Rattle.hb_store.proofs.Grouped.{good_spelled}
+use Rattle.hb_ops.proofs.Facts.AllowedOps.{high_next, read_by, reads_some}
+use Rattle.hb_store.proofs.Facts.Grouped.{good_spelled}
 use Rattle.hb_store.proofs.Facts.MadeMeta.{comes_after, made_numbered}
 use Rattle.hb_lemmas.proofs.Options.{some_value}
 
@@ -52,17 +53,17 @@ still_fits old new after page fits = record {
 }
 
 -- a good page stays good behind a change
-pub still_good : (old new : Meta) → ComesAfter old new → (page : Page) → IsGoodPage old page → IsGoodPage new page
+still_good : (old new : Meta) → ComesAfter old new → (page : Page) → IsGoodPage old page → IsGoodPage new page
 still_good old new after (Live page) good = (good.0, still_fits old new after page good.1)
 still_good old new after (Free next) good = good
 
-pub good_readable : (meta : Meta) (page_in : ℕ → Option Page) → AreGood meta page_in → (id : ℕ) → IsReadable (if_live (page_in id))
+good_readable : (meta : Meta) (page_in : ℕ → Option Page) → AreGood meta page_in → (id : ℕ) → IsReadable (if_live (page_in id))
 good_readable meta page_in good id page is = good_spelled meta (Live page) (good id (Live page) (live_so (page_in id) page is)).2
 
 -- so can those that an operation reads
-pub reads_readable : (st : StoreState) → IsMemory st → (op : Op) → AreReadable (read_here st op 0) (read_here st op 1) (read_here st op 2)
-reads_readable st is op =
-    let one = λ (place : ℕ). good_readable st.meta (in_memory st) is.good (get_or (reads_of op) place 0) in
+reads_readable : (meta : Meta) (page_in : ℕ → Option Page) → AreGood meta page_in → (op : Op) → AreReadable (read_by page_in op 0) (read_by page_in op 1) (read_by page_in op 2)
+reads_readable meta page_in good op =
+    let one = λ (place : ℕ). good_readable meta page_in good (get_or (reads_of op) place 0) in
     (one 0, one 1, one 2)
 
 -- what an allowed operation reads is of the file
@@ -73,20 +74,41 @@ reads_numbered st is op allowed i d lt =
     let at = is.good id page.0 page.1 in
     (at.0, at.1)
 
--- what it makes here is well made
+-- what it makes of good pages is good for the file afterwards
+pub good_change : MakesGoodPages → MakesGoodChanges
+good_change makes t op limits good fits allowed match =
+    let meta = t.meta in
+    let first = touched_read t op 0 in
+    let second = touched_read t op 1 in
+    let third = touched_read t op 2 in
+    let after = comes_after op meta first second third limits fits allowed in
+    let reads : All (IsPageOf meta) (reads_of op) = λ i d lt.
+    let id = get_or (reads_of op) i d in
+    let page = some_value (t.page id) (reads_some op meta t.page allowed i d lt) in
+    let at = good id page.0 page.1 in
+    (at.0, at.1) in
+    let numbered = made_numbered op meta first second third allowed reads in
+    let made = makes op meta first second third limits fits allowed (reads_readable meta t.page good op) match in
+    record {
+      after = after;
+      next = high_next op meta first second third allowed;
+      others = still_good meta (change_in t op).meta after;
+      pages = λ i d lt. (numbered i d lt, made i d lt);
+    }
+
+pub parts_fit : HaveFittingParts → PartsFitOnGoodPages
+parts_fit parts t op limits good allowed = parts op t.meta (touched_read t op 0) (touched_read t op 1) (touched_read t op 2) limits allowed (reads_readable t.meta t.page good op)
+
+-- so is what it makes here well made
 pub changes_well : MakesGoodPages → (st : StoreState) → IsMemory st → (op : Op) → FitsOp st.meta.k op → IsAllowedHere st op → BoxesMatch op (read_here st op 0) (read_here st op 1) (read_here st op 2)
     → ChangesWell st.turn st.meta (change_here st op)
 changes_well makes st is op fits allowed match =
-    let meta = st.meta in
-    let limits = limits_of st.turn meta is.stands in
-    let after = comes_after op meta (read_here st op 0) (read_here st op 1) (read_here st op 2) limits fits allowed in
-    let numbered = made_numbered op meta (read_here st op 0) (read_here st op 1) (read_here st op 2) allowed (reads_numbered st is op allowed) in
-    let good = makes op meta (read_here st op 0) (read_here st op 1) (read_here st op 2) limits fits allowed (reads_readable st is op) match in
+    let well = good_change makes (record { meta = st.meta; page = in_memory st }) op (limits_of st.turn st.meta is.stands) is.good fits allowed match in
     record {
-      layout = after.layout;
-      stands = still_stands st.turn meta (change_here st op).meta after;
-      high = after.rises;
-      next = high_next op meta (read_here st op 0) (read_here st op 1) (read_here st op 2) allowed;
-      others = still_good meta (change_here st op).meta after;
-      pages = λ i d lt. (numbered i d lt, good i d lt);
+      layout = well.after.layout;
+      stands = still_stands st.turn st.meta (change_here st op).meta well.after;
+      high = well.after.rises;
+      next = well.next;
+      others = well.others;
+      pages = well.pages;
     }

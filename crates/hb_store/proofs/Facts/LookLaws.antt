@@ -8,7 +8,7 @@ use Rattle.hb_store.specs.States.{StoreState}
 use Rattle.hb_store.specs.Fetching.{LooksUp}
 use Rattle.hb_store.specs.declared.stops.FetchStop.{FetchStop}
 use Rattle.hb_store.specs.declared.stops.FetchStop.TheVariants.{ReadFault}
-use Rattle.hb_store.proofs.Fetched.{keeps_read}
+use Rattle.hb_store.proofs.Facts.Fetched.{keeps_read}
 
 -- a call that read nothing
 pub LooksUp-none : {F : Type 0} (d : DiskModel) (st : StoreState) → (F → ⊥) → LooksUp F d d st st

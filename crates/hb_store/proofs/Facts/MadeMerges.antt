@@ -32,9 +32,9 @@ use Rattle.hb_ops.proofs.Facts.PathLaws.{with_own}
 use Rattle.hb_store.specs.Making.{MakesGoodPages, MakesWritablePages}
 use Rattle.hb_store.specs.Replaying.{HasLimits}
 use Rattle.hb_store.specs.States.{IsGoodPage}
-use Rattle.hb_store.proofs.Facts.MadeLeaves.{AllFit, all_fit, fit_normal, fit_renamed, light_fit}
+use Rattle.hb_ops.proofs.Facts.MadeLeaves.{AllFit, all_fit, fit_normal, fit_renamed, light_fit}
 use Rattle.hb_store.proofs.Facts.MadePages.{FreeSpelled, WithinCapacity, capacity_small, taken_fit}
-use Rattle.hb_store.proofs.Grouped.{good_spelled}
+use Rattle.hb_store.proofs.Facts.Grouped.{good_spelled}
 use Rattle.hb_lemmas.proofs.Lists.{All-alone, All-behind, All-front}
 
 -- the cuts have their places

@@ -14,20 +14,12 @@ use Rattle.hb_ops.specs.declared.operations.Op.TheVariants.{Put, Del, Extract, P
 use Rattle.hb_ops.specs.Allocating.{allocated}
 use Rattle.hb_ops.specs.Extracting.{fresh_page, source_page, split_pages}
 use Rattle.hb_ops.specs.Merging.{kept_page, parent_page, released}
-use Rattle.hb_ops.specs.Operations.{IsAllowedOn, OpHas, change_of, reads_of}
+use Rattle.hb_ops.specs.Operations.{IsAllowedOn, change_of, reads_of}
 use Rattle.hb_log_codec.specs.Groups.{FitsOp}
 use Rattle.hb_store.specs.States.{IsSameLayout}
-use Rattle.hb_store.proofs.Facts.FilePages.{greatest}
+use Rattle.hb_ops.proofs.Facts.ReachedPages.{greatest}
 use Rattle.hb_store.specs.Replaying.{ComesAfter, HasLimits, IsPageOf}
 use Rattle.hb_ops.proofs.Facts.AllowedOps.{taken_is}
-
-pub op_has : (k : ℕ) (op : Op) → FitsOp k op → OpHas k op
-op_has k (Put id rec) fits = fits.1.attributes
-op_has k (Del id point) fits = fits.1
-op_has k (Extract source fresh path cuts free_after) fits = tt
-op_has k (Post parent at inner area) fits = (fits.is_area, fits.attributes)
-op_has k (Merge parent keep gone) fits = tt
-op_has k (Grow fresh free_after) fits = tt
 
 -- ---- what the file says of itself
 

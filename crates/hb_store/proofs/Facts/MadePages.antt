@@ -33,9 +33,10 @@ use Rattle.hb_log_codec.specs.Groups.{FitsOp}
 use Rattle.hb_store.specs.States.{IsGoodPage}
 use Rattle.hb_store.specs.Making.{AreReadable, HaveFittingParts, MakesGoodPages}
 use Rattle.hb_store.specs.Replaying.{HasLimits}
-use Rattle.hb_store.proofs.Facts.MadeLeaves.{AllFit, FitsIn, all_fit, fit_carved, fit_changed, fit_cut_through, fit_normal, fit_part, fit_reached, fit_renamed, fit_with_part, joined_fit, light_fit, without_fit}
+use Rattle.hb_ops.proofs.Facts.MadeLeaves.{AllFit, FitsIn, all_fit, fit_carved, fit_changed, fit_cut_through, fit_normal, fit_part, fit_reached, fit_renamed, fit_with_part, joined_fit, light_fit, without_fit}
 use Rattle.hb_store.proofs.MadeParts.{BoxesOfLeaves, PartsStand, cuts_few, cuts_fit, fits_tree, reached_box, records_weigh, steps_few, weight_some}
-use Rattle.hb_store.proofs.Facts.MadeMeta.{comes_after, op_has}
+use Rattle.hb_store.proofs.Facts.MadeMeta.{comes_after}
+use Rattle.hb_log_codec.proofs.Facts.OpParts.{op_has}
 
 -- what the laws of other crates say: a page within its capacities has a spelling and so has a free one, and the whole space is a box
 abbrev pub WithinCapacity : Type 0

@@ -7,13 +7,13 @@ use Rattle.hb_wal.proofs.Facts.AreaBytes.{end_zeros}
 use Rattle.hb_wal.specs.Frames.{HasFrames, IsPayload}
 use Rattle.hb_super.specs.Superblocks.{IsNewest}
 use Rattle.hb_layout.specs.declared.meta.Meta.{Meta}
-use Rattle.hb_ops.specs.Files.{FileState, page_of}
+use Rattle.hb_ops.specs.Files.{FileState, page_of, last_of}
 use Rattle.hb_ops.specs.Operations.{IsAllowed, IsLicensed, effect_of}
 use Rattle.hb_log_codec.specs.Groups.{Logged}
 use Rattle.hb_store.specs.Replay.{Replayed, untouched, after_group, MayFollow, replay, MayReplay}
 use Rattle.hb_layout.specs.Offsets.{file_size}
 use Rattle.hb_store.specs.Opening.{IsPageIn, OpensBy, log_bytes, place_bytes, SpellAll}
-use Rattle.hb_store.specs.Parts.{ArePageImagesOf, Leads, last_of}
+use Rattle.hb_store.specs.Parts.{ArePageImagesOf, Leads}
 
 -- groups after groups
 pub replay-append : (t : Replayed) (xs ys : List Logged) → replay t (xs ++ ys) ≡ replay (replay t xs) ys
@@ -53,10 +53,6 @@ Leads-append t s [] (next ∷ later) g leads may are allowed licensed = cc leads
 Leads-append t s (f ∷ gs) [] g leads may are allowed licensed = absurd leads
 Leads-append t s (f ∷ gs) (next ∷ later) g leads may are allowed licensed =
     (leads.0, leads.1, leads.2, leads.3, leads.4, Leads-append (after_group t f) next gs later g leads.5 may are allowed licensed)
-
-pub last_of-append : (s : FileState) (later : List FileState) (n : FileState) → last_of s (later ++ n ∷ []) ≡ n
-last_of-append s [] n = refl
-last_of-append s (next ∷ later) n = last_of-append next later n
 
 -- bytes that are the same at the superblock, the log area of the turn and the places of untouched pages open to the same file
 pub opens_elsewhere : (b c : List ℕ) (turn : ℕ) (said : Meta) (payloads : List (List ℕ)) (groups : List Logged) (s : FileState) → OpensBy b turn said payloads groups s

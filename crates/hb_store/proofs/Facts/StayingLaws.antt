@@ -4,8 +4,8 @@ use Rattle.std.proofs.lemmas.Bool.{cases_Bool}
 use Rattle.hb_frag.specs.declared.pages.Page.{Page}
 use Rattle.hb_ops.specs.declared.operations.Op.{Op}
 use Rattle.hb_store.specs.States.{StoreState, in_memory}
-use Rattle.hb_store.specs.Replay.{set_pages, has_page}
-use Rattle.hb_store.proofs.Facts.ReplayLists.{set_not}
+use Rattle.hb_ops.specs.SetPages.{set_pages, has_page}
+use Rattle.hb_ops.proofs.Facts.SetPages.{set_not}
 use Rattle.hb_store.specs.Calls.{Commits, change_here, NoneComes}
 
 -- a page that is there where none came was there as it is

@@ -4,13 +4,13 @@ use Rattle.hb_disk.specs.Model.{DiskModel}
 use Rattle.hb_wal.specs.Log.{Waiting}
 use Rattle.hb_layout.specs.declared.meta.Meta.{Meta}
 use Rattle.hb_super.specs.Superblocks.{next_turn}
-use Rattle.hb_ops.specs.Files.{FileState}
+use Rattle.hb_ops.specs.Files.{FileState, last_of}
 use Rattle.hb_log_codec.specs.Groups.{Logged, group_bytes}
 use Rattle.hb_store.specs.Replay.{Replayed}
 use Rattle.hb_store.specs.Opening.{OpensBy, OpensTo}
 use Rattle.hb_store.specs.States.{StoreState}
 use Rattle.hb_store.specs.Keeps.{StoreKeeps, OpensToEither}
-use Rattle.hb_store.specs.Parts.{Parts, Leads, OpensNext, last_of}
+use Rattle.hb_store.specs.Parts.{Parts, Leads, OpensNext}
 
 -- By the durable file's groups, or by those and all that wait. `OpensHere` and `OpensOn` say so of a store's parts.
 abbrev pub OpensHere : List ℕ → ℕ → Parts → FileState → Type 0

@@ -6,7 +6,7 @@ use Rattle.hb_core.specs.CoreSeen.{core_seen, core_disk}
 use Rattle.hb_core.specs.declared.counts.TidyCounts.{TidyCounts}
 use Rattle.hb_tidy.proofs.Ends.{ends_at_once, ends_by_err, ends_well}
 use Rattle.hb_tidy.proofs.Exits.{over_value}
-use Rattle.hb_tidy.proofs.Joined.{goes_next, goes_then, over_goes}
+use Rattle.hb_tidy.proofs.Facts.Joined.{goes_next, goes_then, over_goes}
 use Rattle.hb_tidy.proofs.PassParts.{Clean, passed_then}
 use Rattle.hb_tidy.proofs.Resting.{idle_rests}
 use Rattle.hb_tidy.proofs.RunsBegun.{goes_none}

@@ -1,5 +1,5 @@
-use Rattle.std.proofs.Common.{ap, subst, sym, ◌∙◌, arith}
-use Rattle.hb_core.specs.CoreSeen.{core_disk, core_seen}
+use Rattle.std.proofs.Common.{ap, subst, sym, arith}
+use Rattle.hb_core.specs.CoreSeen.{core_seen}
 use Rattle.hb_core_tests.proofs.Begun.{begun_over}
 use Rattle.hb_core_tests.specs.Begun.{IsBegunCore}
 use Rattle.hb_layout.specs.declared.meta.Meta.{Meta}
@@ -16,5 +16,5 @@ returns-in-Ok g c =
     let high = c.if-meta-eq0.false in
     record {
       begun = subst (λ (x : g.row.D.Denot). IsBegunCore (M x) (core_seen c.in-Ok.core)) (sym c.in-Ok.ensures.disk)
-          (begun_over (M c.args.store.disk) (held_by c.args.store) (core_seen c.in-Ok.core) c.args.script.lines c.args.script.steps c.requires.no_line c.requires.no_step c.in-Ok.ensures.seen c.requires.new c.meta-meta.ensures.store.memory.stands c.meta-meta.ensures.tied c.requires.sound (omega (arith, one, k)) (omega (arith, some, high)));
+          (begun_over (M c.args.store.disk) (held_by c.args.store) (core_seen c.in-Ok.core) c.args.script.lines c.args.script.steps c.requires.script c.in-Ok.ensures.seen c.requires.new c.meta-meta.ensures.store.memory.stands c.meta-meta.ensures.tied c.requires.sound (omega (arith, one, k)) (omega (arith, some, high)));
     }

@@ -1,5 +1,5 @@
 use Rattle.std.proofs.Common.{sym}
-use Rattle.hb_store.proofs.Fetched.{none_so}
+use Rattle.hb_store.proofs.Facts.Fetched.{none_so}
 use Rattle.hb_file_tests.proofs.Untold.{held_driven}
 use Rattle.hb_file_tests.proofs.stores.held.Goals as goal
 

@@ -4,7 +4,7 @@ use Rattle.hb_store.specs.Seen.{disk_of, held_by, seen_as, uses_of}
 use Rattle.hb_map.specs.declared.stops.MapStop.{MapStop}
 use Rattle.hb_map.specs.declared.stops.MapStop.TheVariants as stops
 use Rattle.hb_map.specs.Mapping.{Reads, map_stop_of}
-use Rattle.hb_map.proofs.Going.{not_crowded}
+use Rattle.hb_map.proofs.Facts.Going.{not_crowded}
 use Rattle.hb_map.proofs.Readings.{fetched_through, kept_through, memory_rightly, not_of_sink, not_sink_fault, not_stopped_by, of_the_file, stops_rightly}
 use Rattle.hb_map.proofs.pages.read_page.Goals as goal
 

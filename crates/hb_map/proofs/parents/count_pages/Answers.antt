@@ -1,6 +1,6 @@
 use Rattle.std.proofs.Common.{◌+◌, arith, sym, ◌∙◌}
 use Rattle.hb_store.specs.Seen.{disk_of, held_by}
-use Rattle.hb_store.specs.Parts.{last_of}
+use Rattle.hb_ops.specs.Files.{last_of}
 use Rattle.hb_map.specs.Map.{is_parent}
 use Rattle.hb_map.proofs.Countings.{all_counted, as_many_pages, counted_on, low_on}
 use Rattle.hb_map.proofs.Looks.{looks_on}

@@ -2,7 +2,7 @@ use Rattle.std.proofs.Common.{sym, subst, ◌∙◌, arith}
 use Rattle.std.proofs.lemmas.Result.{err_from_is_err_and}
 use Rattle.hb_page_codec.specs.Reading.{Fails, number_at}
 use Rattle.hb_page_codec.specs.ReadingFields.{axis_at}
-use Rattle.hb_page_codec.proofs.Depth.{tree_is, tree_shortens, number_shortens, axis_shortens, left_by}
+use Rattle.hb_page_codec.proofs.Facts.Depth.{tree_is, tree_shortens, number_shortens, axis_shortens, left_by}
 use Rattle.hb_page_codec.proofs.Facts.Refusals.{read_some}
 use Rattle.hb_page_codec.proofs.fragments.+fragments.Goals as goal
 

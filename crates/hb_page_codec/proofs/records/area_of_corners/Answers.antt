@@ -1,4 +1,4 @@
-use Rattle.hb_page_codec.proofs.Ordered.{is_between}
+use Rattle.hb_page_codec.proofs.Facts.Ordered.{is_between}
 use Rattle.hb_page_codec.proofs.records.area_of_corners.Goals as goal
 
 pub returns : goal.returns

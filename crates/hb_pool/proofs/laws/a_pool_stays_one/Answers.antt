@@ -1,4 +1,4 @@
-use Rattle.hb_pool.proofs.Pooled.{empty_pool, put_last_pool, in_place_pool, brought_pool}
+use Rattle.hb_pool.proofs.Facts.Pooled.{empty_pool, put_last_pool, in_place_pool, brought_pool}
 use Rattle.hb_pool.proofs.laws.a_pool_stays_one.Goals as goal
 
 pub returns-clause-none : goal.returns-clause-none

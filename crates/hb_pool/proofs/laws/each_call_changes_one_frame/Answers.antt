@@ -1,4 +1,4 @@
-use Rattle.hb_pool.proofs.Others.{last_changed, last_no_other, place_changed, place_no_other}
+use Rattle.hb_pool.proofs.Facts.Others.{last_changed, last_no_other, place_changed, place_no_other}
 use Rattle.hb_pool.proofs.laws.each_call_changes_one_frame.Goals as goal
 
 pub returns-clause-last : goal.returns-clause-last

@@ -1,4 +1,4 @@
-use Rattle.hb_pool.proofs.Pooled.{last_counts, place_counts, brought_counts}
+use Rattle.hb_pool.proofs.Facts.Pooled.{last_counts, place_counts, brought_counts}
 use Rattle.hb_pool.proofs.laws.each_call_counts_its_place.Goals as goal
 
 pub returns-clause-last : goal.returns-clause-last

@@ -1,4 +1,4 @@
-use Rattle.hb_pool.proofs.Others.{marked_pages_stay, none_goes}
+use Rattle.hb_pool.proofs.Facts.Others.{marked_pages_stay, none_goes}
 use Rattle.hb_pool.proofs.laws.only_pages_that_may_go_do.Goals as goal
 
 pub returns-clause-marked : goal.returns-clause-marked

@@ -1,4 +1,4 @@
-use Rattle.hb_pool.proofs.Told.{brought_told, last_told, place_told, frames_told}
+use Rattle.hb_pool.proofs.Facts.Told.{brought_told, last_told, place_told, frames_told}
 use Rattle.hb_pool.proofs.laws.the_order_is_told_without_bytes.Goals as goal
 
 pub returns-clause-brought : goal.returns-clause-brought

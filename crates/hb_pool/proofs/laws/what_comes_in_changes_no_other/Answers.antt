@@ -1,4 +1,4 @@
-use Rattle.hb_pool.proofs.Others.{came_in, no_other_came}
+use Rattle.hb_pool.proofs.Facts.Others.{came_in, no_other_came}
 use Rattle.hb_pool.proofs.laws.what_comes_in_changes_no_other.Goals as goal
 
 pub returns-clause-there : goal.returns-clause-there

@@ -1,6 +1,6 @@
 use Rattle.std.proofs.Common.{arith, ◌∙◌}
 use Rattle.hb_pool.specs.Frames.{may_go}
-use Rattle.hb_pool.proofs.Firsts.{place_within, left_there}
+use Rattle.hb_pool.proofs.Facts.Firsts.{place_within, left_there}
 use Rattle.hb_pool.proofs.pools.first_out.Goals as goal
 
 pub remove-requires : goal.remove-requires

@@ -1,5 +1,5 @@
 use Rattle.hb_pool.specs.Frames.{may_go}
-use Rattle.hb_pool.proofs.Firsts.{place_found, no_place_found}
+use Rattle.hb_pool.proofs.Facts.Firsts.{place_found, no_place_found}
 use Rattle.hb_pool.proofs.pools.first_place.Goals as goal
 
 pub returns-in-Some : goal.returns-in-Some

@@ -1,5 +1,5 @@
 use Rattle.hb_pool.specs.Frames.{has_id}
-use Rattle.hb_pool.proofs.Behind.{place_behind, no_place_behind}
+use Rattle.hb_pool.proofs.Facts.Behind.{place_behind, no_place_behind}
 use Rattle.hb_pool.proofs.pools.place_of.Goals as goal
 
 pub returns-in-Some : goal.returns-in-Some

@@ -1,6 +1,6 @@
 use Rattle.std.proofs.Common.{◌∙◌}
 use Rattle.hb_pool.specs.Frames.{has_id}
-use Rattle.hb_pool.proofs.Behind.{find_behind}
+use Rattle.hb_pool.proofs.Facts.Behind.{find_behind}
 use Rattle.hb_pool.proofs.pools.slot_of.Goals as goal
 
 pub returns : goal.returns

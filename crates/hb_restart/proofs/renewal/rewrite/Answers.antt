@@ -10,7 +10,7 @@ use Rattle.hb_ops.specs.Files.{FileState}
 use Rattle.hb_store.specs.Opening.{OpensTo}
 use Rattle.hb_store.specs.Keeps.{IsFresh}
 use Rattle.hb_store.specs.Turning.{StillOpens, IsHere, IsPlaced}
-use Rattle.hb_store.proofs.Turned.{still_to}
+use Rattle.hb_store.proofs.Facts.Turned.{still_to}
 use Rattle.hb_restart.specs.Renewing.{WritesAll}
 use Rattle.hb_layout.specs.Offsets.{file_size, page_offset}
 use Rattle.hb_restart.proofs.Facts.Beyond.{front_within}

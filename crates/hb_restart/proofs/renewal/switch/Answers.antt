@@ -11,7 +11,7 @@ use Rattle.hb_ops.specs.Files.{FileState}
 use Rattle.hb_store.specs.Opening.{OpensTo}
 use Rattle.hb_store.specs.Keeps.{IsFresh}
 use Rattle.hb_store.specs.Turning.{StillOpens, IsPlaced, MayTurn, OpensByEither}
-use Rattle.hb_store.proofs.Turned.{either_to, still_to}
+use Rattle.hb_store.proofs.Facts.Turned.{either_to, still_to}
 use Rattle.hb_restart.proofs.Renewed.{cleared_may, cleared_moments}
 use Rattle.hb_restart.proofs.RunsThen.{clear_synced, runs_clear, runs_given_up, runs_switch, runs_then}
 use Rattle.hb_restart.proofs.Facts.Beyond.{body_within}

@@ -1,13 +1,10 @@
-use Rattle.std.proofs.Common.{sym, ◌∙◌}
-use Rattle.std.proofs.lemmas.Bool.{false≢true}
+use Rattle.std.proofs.Common.{Bool, ◌||◌, ap, sym, ◌∙◌}
+use Rattle.hb_run.specs.CourseSeen.{course_seen}
+use Rattle.hb_run.specs.Turning.{is_done}
 use Rattle.hb_run.proofs.threads.work_off.Goals as goal
-use Rattle.hb_run.proofs.threads.work_off.Goals.{then-is_stopped-via-then-is_stopped, then-is_stopped-via-else-is_stopped+then-is_done}
 
-pub returns-then-is_stopped : goal.returns-then-is_stopped
-returns-then-is_stopped g c = record {
+pub returns-then-is_over : goal.returns-then-is_over
+returns-then-is_over g c = record {
   keeps = c.loop.invariant;
-  whole = λ runs. elim c.then-is_stopped.branch [
-    | then-is_stopped-via-then-is_stopped w ↦ absurd (false≢true (sym runs ∙ sym c.is_stopped.ensures ∙ w.if-is_stopped.true))
-    | then-is_stopped-via-else-is_stopped+then-is_done w ↦ sym w.is_done.ensures ∙ w.if-is_done.true
-  ];
+  whole = λ runs. ap (λ (b : Bool). b || is_done (course_seen g.D.Device.model g.K.Sink.model c.loop.course)) (sym runs) ∙ sym c.is_over.ensures ∙ c.if-is_over.true;
 }

@@ -1,5 +1,5 @@
 use Rattle.std.proofs.Common.{Some, ap, ◌∙◌}
-use Rattle.hb_sound.specs.declared.facts.Fact.{Fact}
+use Rattle.hb_sound.specs.declared.page_facts.Fact.{Fact}
 use Rattle.hb_sound.specs.Facts.{if_seen}
 use Rattle.hb_sound.proofs.covers.is_loose_fact.Goals as goal
 

@@ -4,7 +4,7 @@ use Rattle.hb_sound.proofs.MergeDirect.{merges_join_direct}
 use Rattle.hb_sound.proofs.MergeNames.{merges_rename}
 use Rattle.hb_sound.proofs.MergeSound.{merges_keep_sound}
 use Rattle.hb_sound.proofs.MergedLeaves.{MergeLaws}
-use Rattle.hb_sound.proofs.MergedPages.{merges_change_three}
+use Rattle.hb_sound.proofs.Facts.MergedPages.{merges_change_three}
 use Rattle.hb_sound.proofs.laws.a_merge_keeps_a_file_sound.Goals as goal
 use Rattle.hb_sound.proofs.laws.a_merge_keeps_a_file_sound.Goals.{After-changed_pages_are_well_made}
 

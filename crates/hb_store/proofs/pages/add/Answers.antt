@@ -2,7 +2,7 @@ use Rattle.std.proofs.Common.{ap, ◌∙◌}
 use Rattle.std.specs.Cmp.{nat_eq_equiv}
 use Rattle.std.specs.Prelude.{◌||◌, nat_eq}
 use Rattle.std.specs.HashSet.{contains}
-use Rattle.hb_store.proofs.Setting.{or_cond}
+use Rattle.hb_store.proofs.Facts.Setting.{or_cond}
 use Rattle.hb_store.proofs.pages.add.Goals as goal
 
 pub returns-clause-added : goal.returns-clause-added

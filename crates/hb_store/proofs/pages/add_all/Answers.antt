@@ -3,7 +3,7 @@ use Rattle.std.proofs.Math.Seq.{drop-cons}
 use Rattle.std.specs.Prelude.{◌||◌, nat_eq}
 use Rattle.std.specs.HashSet.{contains}
 use Rattle.hb_store.specs.Replay.{is_among}
-use Rattle.hb_store.proofs.Setting.{add_next}
+use Rattle.hb_store.proofs.Facts.Setting.{add_next}
 use Rattle.hb_store.proofs.pages.add_all.Goals as goal
 
 pub loop-id-preserved : goal.loop-id-preserved

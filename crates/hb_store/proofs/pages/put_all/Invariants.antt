@@ -3,7 +3,7 @@ use Rattle.std.specs.Prelude.{◌||◌, nat_eq}
 use Rattle.std.specs.HashSet.{contains, spare}
 use Rattle.hb_pool.specs.Frames.{use_of}
 use Rattle.hb_store.specs.Filling.{HaveRoom, PutsAll}
-use Rattle.hb_store.specs.Replay.{has_page}
+use Rattle.hb_ops.specs.SetPages.{has_page}
 use Rattle.hb_store.proofs.pages.put_all.Given as goal
 
 -- the pages so far were put, and there is a place for each of the others

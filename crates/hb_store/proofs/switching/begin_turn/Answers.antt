@@ -7,7 +7,7 @@ use Rattle.hb_ops.specs.Files.{FileState}
 use Rattle.hb_super.specs.Superblocks.{IsNewest, next_turn}
 use Rattle.hb_store.specs.Keeps.{IsFresh}
 use Rattle.hb_store.specs.Turning.{MayTurn, OpensByEither}
-use Rattle.hb_store.proofs.Turned.{sync_moments, super_fresh, super_moments, zeroed_moments, zeroed_ready}
+use Rattle.hb_store.proofs.Facts.Turned.{sync_moments, super_fresh, super_moments, zeroed_moments, zeroed_ready}
 use Rattle.hb_store.proofs.Turns.{area_zeroed, nine_ticks, on_ok_both, on_ok_each, on_ok_if, still_either, switch_failed, switch_wrote, turn_before}
 use Rattle.hb_store.proofs.switching.begin_turn.Goals as goal
 

@@ -6,7 +6,7 @@ use Rattle.hb_layout.specs.declared.meta.Meta.{Meta}
 use Rattle.hb_ops.specs.Files.{FileState}
 use Rattle.hb_ops.specs.Settled.{IsMergeable}
 use Rattle.hb_tidy.proofs.Exits.{not_ok, over_exit, over_value}
-use Rattle.hb_tidy.proofs.Joined.{over_then}
+use Rattle.hb_tidy.proofs.Facts.Joined.{over_then}
 use Rattle.hb_tidy.proofs.KnownFiles.{still_known}
 use Rattle.hb_tidy.proofs.OwedJobs.{fit_then}
 use Rattle.hb_tidy.proofs.Pairs.{NoneGoing, NotGoing, pairs_all, pairs_begin, pairs_next}

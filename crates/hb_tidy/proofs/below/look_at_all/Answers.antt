@@ -7,7 +7,7 @@ use Rattle.hb_ops.specs.Files.{FileState, live_page}
 use Rattle.hb_core.specs.CoreSeen.{core_seen, core_disk}
 use Rattle.hb_tidy.proofs.ChildrenSeen.{SeesAll, SeesBelow, leaves_begin, leaves_next}
 use Rattle.hb_tidy.proofs.Exits.{not_ok, over_exit, over_value}
-use Rattle.hb_tidy.proofs.Joined.{over_then}
+use Rattle.hb_tidy.proofs.Facts.Joined.{over_then}
 use Rattle.hb_tidy.proofs.KnownFiles.{still_known}
 use Rattle.hb_tidy.proofs.OwedJobs.{fit_then}
 use Rattle.hb_tidy.specs.Looking.{LooksOver}

@@ -11,7 +11,7 @@ use Rattle.hb_tidy.proofs.Belows.{refused_then}
 use Rattle.hb_tidy.proofs.ChildrenSeen.{child_owed, child_then}
 use Rattle.hb_tidy.proofs.ChildrenThere.{child_stands}
 use Rattle.hb_tidy.proofs.Exits.{not_ok, over_exit, over_value}
-use Rattle.hb_tidy.proofs.Joined.{over_known}
+use Rattle.hb_tidy.proofs.Facts.Joined.{over_known}
 use Rattle.hb_tidy.proofs.KnownFiles.{still_known}
 use Rattle.hb_tidy.proofs.OwedJobs.{added_fit}
 use Rattle.hb_tidy.proofs.PlacedLeaves.{leaf_attributes, stands_there}

@@ -11,7 +11,7 @@ use Rattle.hb_core.specs.CoreSeen.{core_seen, core_disk}
 use Rattle.hb_tidy.proofs.Belows.{refused_then}
 use Rattle.hb_tidy.proofs.CallsMade.{layout_of}
 use Rattle.hb_tidy.proofs.Exits.{not_ok, ok_is, over_exit, over_value}
-use Rattle.hb_tidy.proofs.Joined.{over_known}
+use Rattle.hb_tidy.proofs.Facts.Joined.{over_known}
 use Rattle.hb_tidy.proofs.OwedJobs.{added_fit}
 use Rattle.hb_tidy.proofs.Pairs.{never_true, pair_absent, pair_tried, pair_unnamed}
 use Rattle.hb_tidy.specs.declared.stops.TidyStop.TheVariants as stops

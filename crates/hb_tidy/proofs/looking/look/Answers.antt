@@ -6,7 +6,7 @@ use Rattle.hb_store.specs.Replaying.{IsPageOf}
 use Rattle.hb_store.specs.States.{IsGoodPage}
 use Rattle.hb_core.specs.CoreSeen.{core_seen, core_disk}
 use Rattle.hb_tidy.proofs.Exits.{over_exit, over_value}
-use Rattle.hb_tidy.proofs.Joined.{over_ok, over_then}
+use Rattle.hb_tidy.proofs.Facts.Joined.{over_ok, over_then}
 use Rattle.hb_tidy.proofs.LooksMade.{SawPage, sees_page, sees_value}
 use Rattle.hb_tidy.proofs.RunsBegun.{over_none}
 use Rattle.hb_tidy.specs.Looking.{NothingOf}

@@ -8,7 +8,7 @@ use Rattle.hb_store.specs.Fetching.{IsNoPage}
 use Rattle.hb_core.specs.CoreSeen.{core_seen, core_disk}
 use Rattle.hb_tidy.proofs.CallsMade.{nothing_looked}
 use Rattle.hb_tidy.proofs.Exits.{ok_is, over_exit, over_value}
-use Rattle.hb_tidy.proofs.Joined.{over_ok}
+use Rattle.hb_tidy.proofs.Facts.Joined.{over_ok}
 use Rattle.hb_tidy.proofs.KnownFiles.{IsFileOf, none_there, over_file}
 use Rattle.hb_tidy.specs.Looking.{NothingOf}
 use Rattle.hb_tidy.proofs.looking.named_page.Goals as goal

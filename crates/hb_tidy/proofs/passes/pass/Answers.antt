@@ -5,7 +5,7 @@ use Rattle.hb_ops.specs.Files.{live_page}
 use Rattle.hb_ops.specs.Sound.{FitsFile}
 use Rattle.hb_core.specs.CoreSeen.{core_seen, core_disk}
 use Rattle.hb_tidy.proofs.Exits.{over_exit, over_value}
-use Rattle.hb_tidy.proofs.Joined.{over_then}
+use Rattle.hb_tidy.proofs.Facts.Joined.{over_then}
 use Rattle.hb_tidy.proofs.KnownFiles.{still_known}
 use Rattle.hb_tidy.proofs.PassParts.{Clean, CleanUpTo, page_then, pages_all, pages_begin, pages_next}
 use Rattle.hb_tidy.specs.Finding.{HasGrown, IsTidy, IsTidyAt}

@@ -3,7 +3,7 @@ use Rattle.hb_layout.specs.declared.meta.Meta.{Meta}
 use Rattle.hb_core.specs.CoreSeen.{core_seen, core_disk}
 use Rattle.hb_core.specs.KeptFits.{JobFits}
 use Rattle.std.proofs.lemmas.List.Elements.{All-get_or}
-use Rattle.hb_tidy.proofs.Joined.{over_known, over_then}
+use Rattle.hb_tidy.proofs.Facts.Joined.{over_known, over_then}
 use Rattle.hb_tidy.proofs.JobLists.{no_first}
 use Rattle.hb_tidy.proofs.KnownFiles.{still_known}
 use Rattle.hb_tidy.proofs.RunsBegun.{over_none}

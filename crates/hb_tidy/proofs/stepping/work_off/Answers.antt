@@ -1,7 +1,7 @@
 use Rattle.std.proofs.Common.{inl, inr, refl, sym, ◌∙◌, arith}
 use Rattle.hb_core.specs.CoreSeen.{core_seen, core_disk}
 use Rattle.hb_tidy.proofs.Exits.{goes_exit, goes_value}
-use Rattle.hb_tidy.proofs.Joined.{goes_then}
+use Rattle.hb_tidy.proofs.Facts.Joined.{goes_then}
 use Rattle.hb_tidy.proofs.Resting.{is_somebody, worked_off_rests}
 use Rattle.hb_tidy.proofs.RunsBegun.{goes_none}
 use Rattle.hb_tidy.proofs.ToDo.{later_still}

@@ -1,5 +1,5 @@
 use Rattle.std.proofs.Common.{arith}
-use Rattle.hb_view.proofs.Decoded.{is_decoded, never_bad}
+use Rattle.hb_view.proofs.Facts.Decoded.{is_decoded, never_bad}
 use Rattle.hb_view.proofs.heads.page_of.Goals as goal
 
 pub returns-in-Ok-clause-value : goal.returns-in-Ok-clause-value

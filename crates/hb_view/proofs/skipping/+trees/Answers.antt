@@ -1,7 +1,7 @@
 use Rattle.std.proofs.Common.{sym, subst, arith}
 use Rattle.hb_page_codec.specs.Reading.{ReadsAs, number_at}
 use Rattle.hb_page_codec.specs.ReadingFields.{axis_at}
-use Rattle.hb_page_codec.proofs.Depth.{number_shortens, axis_shortens, left_by}
+use Rattle.hb_page_codec.proofs.Facts.Depth.{number_shortens, axis_shortens, left_by}
 use Rattle.hb_view.proofs.Skipped.{tree_skipped, tree_shorter}
 use Rattle.hb_view.proofs.skipping.+trees.Goals as goal
 

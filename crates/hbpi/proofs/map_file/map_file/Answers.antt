@@ -1,5 +1,5 @@
 use Rattle.std.proofs.Common.{inl, refl, sym, subst, ap, ◌∙◌}
-use Rattle.hb_map.proofs.Going.{new_may_go}
+use Rattle.hb_map.proofs.Facts.Going.{new_may_go}
 use Rattle.hb_store.specs.Seen.{disk_of, held_by, seen_as, uses_of}
 use Rattle.hbpi.proofs.MappedRuns.{map_ended}
 use Rattle.hbpi.proofs.RunsOf.{map_runs}

@@ -4,7 +4,7 @@ use Rattle.hb_core.specs.Taking.{begun_core}
 use Rattle.hb_layout.specs.declared.meta.Meta.{Meta}
 use Rattle.hb_set.proofs.Facts.ScriptLaws.{script_is_short}
 use Rattle.hb_store.specs.Seen.{held_by, seen_as}
-use Rattle.hbpi.proofs.Begins.{no_frame}
+use Rattle.hb_store.proofs.Facts.NoFrames.{no_frames}
 use Rattle.hb_set.specs.declared.scripts.Line.{Line}
 use Rattle.hbpi.specs.Schedules.{CameFrom, HasLineBox, IsScript}
 use Rattle.hbpi.proofs.starting.make_core.Goals as goal
@@ -33,6 +33,6 @@ returns-in-Ok-over-clause-made g c =
           actors = came.actors;
         });
         stands = c.meta.ensures.store.memory.stands;
-        core_is = c.in-Ok-over.ensures.seen ∙ ap (begun_core script.lines script.steps (seen_as store)) (no_frame (held_by store) c.requires.is_new c.meta.ensures.tied);
+        core_is = c.in-Ok-over.ensures.seen ∙ ap (begun_core script.lines script.steps (seen_as store)) (no_frames (held_by store) c.requires.is_new c.meta.ensures.tied);
       },
     )

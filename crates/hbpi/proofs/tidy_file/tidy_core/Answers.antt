@@ -1,7 +1,7 @@
 use Rattle.std.proofs.Common.{◌≡◌, None, sym, ◌∙◌}
 use Rattle.hb_core.specs.CoreSeen.{core_disk, core_seen}
 use Rattle.hb_disk.specs.Model.{DiskModel}
-use Rattle.hb_tidy.proofs.Joined.{may_then}
+use Rattle.hb_tidy.proofs.Facts.Joined.{may_then}
 use Rattle.hbpi.proofs.TidiedCore.{forced_badly, forced_well, stopped_so}
 use Rattle.hbpi.proofs.tidy_file.tidy_core.Goals as goal
 

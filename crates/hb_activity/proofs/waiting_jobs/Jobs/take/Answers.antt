@@ -1,5 +1,5 @@
 use Rattle.std.proofs.Common.{◌∙◌, sym}
-use Rattle.hb_activity.proofs.QueueParts.{none_of, some_of, leaves_first}
+use Rattle.hb_activity.proofs.Facts.QueueParts.{none_of, some_of, leaves_first}
 use Rattle.hb_activity.proofs.waiting_jobs.Jobs.take.Goals as goal
 
 pub returns-in_err-place-clause-none : goal.returns-in_err-place-clause-none

@@ -1,5 +1,5 @@
 use Rattle.std.proofs.Common.{refl}
-use Rattle.hb_core.proofs.Running.BetweenCalls.{job_waits}
+use Rattle.hb_core.proofs.Facts.BetweenCalls.{job_waits}
 use Rattle.hb_core.proofs.Running.Queueing.{added}
 use Rattle.hb_core.specs.CoreSeen.{core_disk, core_seen}
 use Rattle.hb_core.proofs.state.Core.add_job.Goals as goal

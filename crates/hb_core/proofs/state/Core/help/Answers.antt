@@ -1,5 +1,5 @@
 use Rattle.std.proofs.Common.{Ok, refl, sym, ap, ◌∙◌}
-use Rattle.hb_core.proofs.Running.BetweenCalls.{flusher_stands, help_touches, helped, is_flusher}
+use Rattle.hb_core.proofs.Facts.BetweenCalls.{flusher_stands, help_touches, helped, is_flusher}
 use Rattle.hb_core.proofs.Running.FlushTaken.{flush_failed, flushed_counts}
 use Rattle.hb_core.proofs.Running.ForcedShows.{with_held}
 use Rattle.hb_core.proofs.Running.StepTaken.{counted, flusher_step, with_taken}

@@ -6,7 +6,7 @@ use Rattle.hb_disk.specs.Calls.{ReadsOnly}
 use Rattle.hb_frag.specs.declared.pages.Page.{Page}
 use Rattle.hb_store.specs.Seen.{seen_as, uses_of}
 use Rattle.hb_core.specs.declared.copies.CopyStop.TheVariants as copies
-use Rattle.hb_core.proofs.Running.BetweenCalls.{copied_or_not, crowded_said, look_counts, memory_alone, no_crowd, no_fault, not_copied, not_copied_why, ok_never, reads_said, same_err, why_memory}
+use Rattle.hb_core.proofs.Facts.BetweenCalls.{copied_or_not, crowded_said, look_counts, memory_alone, no_crowd, no_fault, not_copied, not_copied_why, ok_never, reads_said, same_err, why_memory}
 use Rattle.hb_core.proofs.Running.Coming.{none_where}
 use Rattle.hb_core.specs.Between.{CopiesPage}
 use Rattle.hb_core.specs.CoreSeen.{core_disk, core_seen}

@@ -2,7 +2,7 @@ use Rattle.std.proofs.Common.{◌≡◌, ◌≤◌, get_or, sym, ap, ◌∙◌, 
 use Rattle.hb_space.specs.Boxes.{IsArea}
 use Rattle.hb_frag.specs.Nodes.{tree_of}
 use Rattle.hb_frag.specs.Trees.{Tip, Cut}
-use Rattle.hb_frag.proofs.Ways.{found_here, found_left, found_right}
+use Rattle.hb_frag.proofs.Facts.Ways.{found_here, found_left, found_right}
 use Rattle.hb_frag.proofs.fragments.Frag.+leaf_at.Goals as goal
 
 pub returns-in-Tip : goal.returns-in-Tip

@@ -2,7 +2,7 @@ use Rattle.std.proofs.Common.{◌≡◌, refl, sym, ap, ◌∙◌}
 use Rattle.hb_frag.specs.declared.paths.Side.TheVariants.{Left, Right}
 use Rattle.hb_frag.specs.Nodes.{tree_of}
 use Rattle.hb_frag.specs.Trees.{Tip, Cut}
-use Rattle.hb_frag.proofs.Ways.{first_step, no_step, part_left, part_right, part_tip, part_here}
+use Rattle.hb_frag.proofs.Facts.Ways.{first_step, no_step, part_left, part_right, part_tip, part_here}
 use Rattle.hb_frag.proofs.fragments.Frag.+part.Goals as goal
 
 pub returns-in-Tip : goal.returns-in-Tip

@@ -2,7 +2,7 @@ use Rattle.std.proofs.Common.{◌≡◌, sym, ap, subst, ◌∙◌}
 use Rattle.hb_frag.specs.Nodes.{tree_of}
 use Rattle.hb_frag.specs.Trees.{Tree, Tip, Cut}
 use Rattle.hb_frag.specs.Leaves.{leaves_of, siblings, first_named}
-use Rattle.hb_frag.proofs.Ways.{sibling_left, sibling_right}
+use Rattle.hb_frag.proofs.Facts.Ways.{sibling_left, sibling_right}
 use Rattle.hb_frag.proofs.fragments.Frag.+sibling_area.Goals as goal
 
 pub returns-in-Tip : goal.returns-in-Tip

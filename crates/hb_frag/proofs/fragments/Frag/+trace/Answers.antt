@@ -4,7 +4,7 @@ use Rattle.std.proofs.lemmas.Result.{on_ok_weaker}
 use Rattle.hb_frag.specs.Nodes.{tree_of}
 use Rattle.hb_frag.specs.Trees.{Tip, Cut}
 use Rattle.hb_frag.specs.Paths.{way_to}
-use Rattle.hb_frag.proofs.Ways.{way_left, way_right}
+use Rattle.hb_frag.proofs.Facts.Ways.{way_left, way_right}
 use Rattle.hb_frag.proofs.fragments.Frag.+trace.Goals as goal
 
 pub returns-in-Tip : goal.returns-in-Tip

@@ -1,7 +1,7 @@
 use Rattle.std.proofs.Common.{ℕ, ◌≡◌, ◌++◌, ◌∷◌, [], List, ap, ◌∙◌, arith}
 use Rattle.hb_pool.specs.Frames.{Frame, fresh}
 use Rattle.hb_pool.specs.Pools.{brought}
-use Rattle.hb_pool.proofs.Pooled.{kept_brought, room_there, room_to_bring, same_room}
+use Rattle.hb_pool.proofs.Facts.Pooled.{kept_brought, room_there, room_to_bring, same_room}
 use Rattle.hb_pool.proofs.pools.Pool.bring.Goals as goal
 
 pub make_room-block-requires : goal.make_room-block-requires

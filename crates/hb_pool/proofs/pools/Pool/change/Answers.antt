@@ -1,6 +1,6 @@
 use Rattle.std.proofs.Common.{ℕ, length, not, cond, ◌++◌, ◌∷◌, [], List, ap, ◌∙◌, arith}
 use Rattle.hb_pool.specs.Frames.{Frame, must_stay}
-use Rattle.hb_pool.proofs.Pooled.{kept_last, frame_pins, room_to_put}
+use Rattle.hb_pool.proofs.Facts.Pooled.{kept_last, frame_pins, room_to_put}
 use Rattle.hb_pool.proofs.pools.Pool.change.Goals as goal
 
 pub push_reserved-requires : goal.push_reserved-requires

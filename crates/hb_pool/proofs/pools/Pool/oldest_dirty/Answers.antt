@@ -3,8 +3,8 @@ use Rattle.std.specs.List.{find}
 use Rattle.std.specs.Option.{IsSomeAnd}
 use Rattle.hb_pool.specs.Frames.{Frame}
 use Rattle.hb_pool.specs.Pools.{frame_of}
-use Rattle.hb_pool.proofs.Firsts.{first_passes}
-use Rattle.hb_pool.proofs.Pooled.{dirty_there}
+use Rattle.hb_pool.proofs.Facts.Firsts.{first_passes}
+use Rattle.hb_pool.proofs.Facts.Pooled.{dirty_there}
 use Rattle.hb_pool.proofs.pools.Pool.oldest_dirty.Goals as goal
 
 pub returns-in-Some-clause-dirty : goal.returns-in-Some-clause-dirty

@@ -11,7 +11,8 @@ use Rattle.hb_store.specs.Filling.{HaveRoom, PutsAll}
 use Rattle.hb_store.specs.Held.{IsTied, StoreHeld}
 use Rattle.hb_store.specs.Inside.{memory_seen}
 use Rattle.hb_store.specs.Making.{MakesWell}
-use Rattle.hb_store.specs.Replay.{has_page, is_among}
+use Rattle.hb_store.specs.Replay.{is_among}
+use Rattle.hb_ops.specs.SetPages.{has_page}
 use Rattle.hb_store.specs.States.{IsMemory}
 use Rattle.hb_store.proofs.Committed.{memory_after}
 use Rattle.hb_store.proofs.Committing.{commits_then, made_well, spelled_pages, stays_then}

@@ -6,9 +6,9 @@ use Rattle.hb_store.specs.Calls.{read_here}
 use Rattle.hb_store.specs.Held.{StoreHeld}
 use Rattle.hb_store.specs.Making.{group_here}
 use Rattle.hb_store.specs.States.{IsMemory, in_memory, is_in_log}
-use Rattle.hb_store.proofs.Facts.Changed.{limits_of, reads_readable}
+use Rattle.hb_store.proofs.Facts.Changed.{limits_of}
 use Rattle.hb_store.proofs.Framed.{page_seen}
-use Rattle.hb_store.proofs.Grouped.{fits_group, if_both}
+use Rattle.hb_store.proofs.Facts.Grouped.{fits_group, if_both}
 use Rattle.hb_store.proofs.Held.{group_seen}
 use Rattle.hb_store.proofs.memory.Memory.group.Goals as goal
 
@@ -20,8 +20,7 @@ group_for-requires-clause-parts c =
     let st = c.args.self.now.state in
     let op = c.args.op.now in
     let is : IsMemory st = subst (λ (h : StoreHeld). IsMemory h.state) c.self.view_is c.self.invariant.memory in
-    c.what_is_made_can_be_written.ensures.parts op st.meta (read_here st op 0) (read_here st op 1) (read_here st op 2) (limits_of st.turn st.meta is.stands) c.requires.allowed
-    (reads_readable st is op)
+    c.what_is_made_can_be_written.ensures.fits (record { meta = st.meta; page = in_memory st }) op (limits_of st.turn st.meta is.stands) is.good c.requires.allowed
 
 pub returns-clause-bytes : goal.returns-clause-bytes
 returns-clause-bytes c =

@@ -1,6 +1,6 @@
 use Rattle.std.proofs.Common.{◌≡◌, ℕ, [], sym, subst, ap, ◌∙◌}
 use Rattle.hb_pool.specs.Pools.{IsPool}
-use Rattle.hb_pool.proofs.Pooled.{empty_pool}
+use Rattle.hb_pool.proofs.Facts.Pooled.{empty_pool}
 use Rattle.hb_wal.specs.Log.{LogState}
 use Rattle.hb_store.specs.Held.{StoreHeld}
 use Rattle.hb_store.specs.Inside.{AreSpelled}

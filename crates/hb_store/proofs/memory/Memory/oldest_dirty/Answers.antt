@@ -1,5 +1,5 @@
 use Rattle.std.proofs.Common.{sym, ap, subst, ◌∙◌}
-use Rattle.hb_pool.proofs.Told.{frames_told}
+use Rattle.hb_pool.proofs.Facts.Told.{frames_told}
 use Rattle.hb_store.specs.Held.{StoreHeld, oldest_dirty}
 use Rattle.hb_store.specs.Inside.{memory_seen}
 use Rattle.hb_store.specs.States.{is_dirty, is_in_log}

@@ -1,6 +1,6 @@
 use Rattle.std.proofs.Common.{sym, ap, ◌∙◌}
 use Rattle.hb_pool.specs.Pools.{places}
-use Rattle.hb_pool.proofs.Told.{frames_told}
+use Rattle.hb_pool.proofs.Facts.Told.{frames_told}
 use Rattle.hb_store.specs.Held.{StoreHeld}
 use Rattle.hb_store.proofs.memory.Memory.places.Goals as goal
 

@@ -3,7 +3,7 @@ use Rattle.hb_layout.specs.declared.meta.Meta.{Meta}
 use Rattle.hb_page_codec.proofs.Facts.PageLaws.{one_page}
 use Rattle.hb_store.specs.Fetching.{IsNoPage}
 use Rattle.hb_store.specs.Seen.{seen_as, uses_of}
-use Rattle.hb_store.proofs.Fetched.{none_so, none_there, sound_stops}
+use Rattle.hb_store.proofs.Facts.Fetched.{none_so, none_there, sound_stops}
 use Rattle.hb_store.proofs.store.Store.fetch.Goals.{then-id-eq0-via-then-id-eq0, then-id-eq0-via-else-id-eq0+then-id-high}
 use Rattle.hb_store.proofs.store.Store.fetch.Goals as goal
 

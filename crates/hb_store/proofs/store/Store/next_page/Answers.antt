@@ -3,8 +3,7 @@ use Rattle.std.proofs.lemmas.Result.{err_from_is_err_and}
 use Rattle.hb_frag.specs.declared.pages.Page.TheVariants.{Free}
 use Rattle.hb_layout.specs.declared.meta.Meta.{Meta}
 use Rattle.hb_ops.specs.Allocating.{Allocates}
-use Rattle.hb_ops.specs.Files.{page_of}
-use Rattle.hb_store.specs.Parts.{last_of}
+use Rattle.hb_ops.specs.Files.{page_of, last_of}
 use Rattle.hb_store.specs.Fetching.{IsCrowdedOut, MayFetch, MayUse}
 use Rattle.hb_store.specs.States.{in_memory}
 use Rattle.hb_store.specs.Seen.{seen_as, uses_of}

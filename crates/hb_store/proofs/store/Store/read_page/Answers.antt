@@ -11,7 +11,7 @@ use Rattle.hb_store.specs.Opening.{place_bytes}
 use Rattle.hb_store.specs.Seen.{seen_as, uses_of}
 use Rattle.hb_store.specs.States.{IsGoodPage}
 use Rattle.hb_store.proofs.Facts.LookLaws.{LooksUp-read}
-use Rattle.hb_store.proofs.Fetched.{placed_read, read_keeps, read_not}
+use Rattle.hb_store.proofs.Facts.Fetched.{placed_read, read_keeps, read_not}
 use Rattle.hb_store.proofs.store.Store.read_page.Goals as goal
 
 pub returns-in-Ok-page_in-clause-looks : goal.returns-in-Ok-page_in-clause-looks

@@ -1,0 +1,2 @@
+pub mod InTheWay
+pub mod KeyOrder
