@@ -38,7 +38,6 @@ pub record AsksPoster (st : StoreState) (activity : Activity) (id : ℕ) (free :
 
 -- Of the poster it is asked whether the row makes a page, and its answer is whether it does, if one is free.
 pub record AsksNumber (st : StoreState) (activity : Activity) (id : ℕ) : Type 0 where
-  pub layout : IsLayout st.meta
   pub page : LivePage
   pub live : live_here st id ≡ Some page
   pub made : FitsFile st.meta page

@@ -3,7 +3,8 @@ use Rattle.std.specs.Prelude.{◌≡◌, ◌⊎◌, ℕ, ◌-◌, ◌^◌, ◌�
 use Rattle.hb_ops.specs.declared.operations.Op.{Op}
 use Rattle.hb_store.specs.Calls.{KeepsAllButPages}
 use Rattle.hb_store.specs.States.{StoreState}
-use Rattle.hb_core.specs.Counts.{counted, one_more}
+use Rattle.hb_core.specs.Counts.{counted}
+use Rattle.hb_outside.specs.Memory.{next_count}
 use Rattle.hb_core.specs.CoreUpdates.{with_order_of_use, with_store}
 use Rattle.hb_core.specs.Performing.{DoesOp}
 use Rattle.hb_core.specs.Showing.{RunningCore}
@@ -30,12 +31,12 @@ CountsOp actor old new = (DoesNoOp old.store new.store × (new.done ≡ old.done
 
 -- A step is counted, too.
 pub record CountsStep (actor : ℕ) (old new : RunningCore) : Type 0 where
-  pub taken : new.taken ≡ one_more old.taken
+  pub taken : new.taken ≡ next_count old.taken
   pub done : CountsOp actor old new
 
 -- So is a flush that a caller asks for, which does no operation.
 pub record CountsFlush (old new : RunningCore) : Type 0 where
-  pub taken : new.taken ≡ one_more old.taken
+  pub taken : new.taken ≡ next_count old.taken
   pub done : new.done ≡ old.done
   pub no_op : DoesNoOp old.store new.store
 

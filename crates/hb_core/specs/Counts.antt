@@ -1,12 +1,9 @@
 -- The operations that a core counts, by their kinds.
-use Rattle.std.specs.Prelude.{ℕ, ◌+◌, ◌-◌, ◌^◌, ◌==◌, min, if◌then◌else◌, Option, Some, None}
+use Rattle.std.specs.Prelude.{ℕ, ◌==◌, if◌then◌else◌, Option, Some, None}
 use Rattle.hb_ops.specs.declared.operations.Op.{Op}
 use Rattle.hb_ops.specs.declared.operations.Op.TheVariants as ops
 use Rattle.hb_core.specs.declared.counts.TidyCounts.{TidyCounts}
-
--- one more, up to the last value of a count
-abbrev pub one_more : ℕ → ℕ
-one_more n = min (n + 1) (2 ^ 64 - 1)
+use Rattle.hb_outside.specs.Memory.{next_count}
 
 -- none was done yet
 abbrev pub no_counts : TidyCounts
@@ -17,10 +14,10 @@ no_counts = record { grown = 0; posted = 0; split = 0; merged = 0 }
 abbrev pub counted : ℕ → Op → TidyCounts → TidyCounts
 counted actor (ops.Put page rec) c = c
 counted actor (ops.Del page point) c = c
-counted actor (ops.Extract source fresh path cuts free_after) c = if actor == 17 then record c { split = one_more c.split } else c
-counted actor (ops.Post parent way inner area) c = record c { posted = one_more c.posted }
-counted actor (ops.Merge parent keep gone) c = record c { merged = one_more c.merged }
-counted actor (ops.Grow fresh free_after) c = record c { grown = one_more c.grown }
+counted actor (ops.Extract source fresh path cuts free_after) c = if actor == 17 then record c { split = next_count c.split } else c
+counted actor (ops.Post parent way inner area) c = record c { posted = next_count c.posted }
+counted actor (ops.Merge parent keep gone) c = record c { merged = next_count c.merged }
+counted actor (ops.Grow fresh free_after) c = record c { grown = next_count c.grown }
 
 abbrev pub counted_by : ℕ → Option Op → TidyCounts → TidyCounts
 counted_by actor None c = c

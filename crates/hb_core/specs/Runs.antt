@@ -16,6 +16,7 @@ use Rattle.hb_set.specs.Order.{Entry, result_of}
 use Rattle.hb_sound.specs.PointWalks.{IsPointOf}
 use Rattle.hb_store.specs.declared.stops.StopWhy.{StopWhy}
 use Rattle.hb_store.specs.declared.stops.StopWhy.TheVariants as stops
+use Rattle.hb_store.specs.Keeps.{PartsOpen}
 use Rattle.hb_store.specs.Opening.{OpensTo}
 use Rattle.hb_store.specs.States.{StoreState}
 use Rattle.hb_core.specs.FileLaws.{FilesStaySound}
@@ -106,3 +107,4 @@ pub record RunningLaws : Type 0 where
   pub files : FilesStaySound
   pub changes : StepsKeepAll
   pub images : ImagesHavePrefixes
+  pub opens : PartsOpen

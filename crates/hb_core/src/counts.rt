@@ -1,6 +1,7 @@
 //! How many operations of each kind a core has done.
 ghost use Rattle.std.specs.Prelude.{◌≡◌, ◌==◌, if◌then◌else◌};
-ghost use Rattle.hb_core.specs.Counts.{counted, no_counts, one_more};
+ghost use Rattle.hb_core.specs.Counts.{counted, no_counts};
+ghost use Rattle.hb_outside.specs.Memory.{next_count};
 
 use crate::state::POSTER;
 use hb_ops::Op;
@@ -46,7 +47,7 @@ impl TidyCounts {
     }
 
     fn with_growth(self) -> TidyCounts
-        ensures { result ≡ record self { grown = one_more self.grown } }
+        ensures { result ≡ record self { grown = next_count self.grown } }
     {
         TidyCounts {
             grown: self.grown.saturating_add(1),
@@ -57,7 +58,7 @@ impl TidyCounts {
     }
 
     fn with_posting(self) -> TidyCounts
-        ensures { result ≡ record self { posted = one_more self.posted } }
+        ensures { result ≡ record self { posted = next_count self.posted } }
     {
         TidyCounts {
             grown: self.grown,
@@ -68,7 +69,7 @@ impl TidyCounts {
     }
 
     fn with_split(self, actor: Actor) -> TidyCounts
-        ensures { result ≡ (if actor == 17 then record self { split = one_more self.split } else self) }
+        ensures { result ≡ (if actor == 17 then record self { split = next_count self.split } else self) }
     {
         if actor != POSTER {
             return self;
@@ -82,7 +83,7 @@ impl TidyCounts {
     }
 
     fn with_merge(self) -> TidyCounts
-        ensures { result ≡ record self { merged = one_more self.merged } }
+        ensures { result ≡ record self { merged = next_count self.merged } }
     {
         TidyCounts {
             grown: self.grown,

@@ -57,9 +57,8 @@ impl<D: Device> Core<D> {
         let page = self.decoded(id)?;
         let other = self.other(activity)?;
         let meta = self.store.meta();
-        let page = &page;
-        let latched = Latched { id, page, meta };
-        Ok(hb_poster::needs_number(self.alloc, activity, latched, other.as_ref()))
+        let above = other.as_ref();
+        Ok(hb_poster::needs_number(self.alloc, activity, &page, above, meta))
     }
 
     /// The other page that the row reads, with memory of its own: the half that left, or the parent.

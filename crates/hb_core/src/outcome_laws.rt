@@ -4,6 +4,8 @@
 ghost use Rattle.hb_core.specs.DamageLaws.{KeptStepIsOne, NoPageIsDamaged, StaysUndamaged};
 ghost use Rattle.hb_core.specs.OutcomeLaws.{AsideChangesNoFile, OutcomeIsOne, StateIsOne};
 
+use hb_store::what_is_made_can_be_written;
+
 /// Two steps of one actor from one machine say the same, and leave the lines, the answers, the stop and the
 /// clock the same, unless memory was refused to one of them, its device failed or a page was damaged. So it
 /// is over every disk. Over a disk that tells they also lead to machines that are one, with the same pages in
@@ -11,7 +13,9 @@ ghost use Rattle.hb_core.specs.OutcomeLaws.{AsideChangesNoFile, OutcomeIsOne, St
 pub fn a_step_has_one_outcome()
     ensures outcome { OutcomeIsOne }
     ensures state { StateIsOne }
-{}
+{
+    what_is_made_can_be_written();
+}
 
 /// A step that want of memory, a fault of the device or a damaged page has turned aside answers its actor's
 /// line `no memory` or `read fault`, drops the job that its worker has in work, or stops the machine. It
@@ -33,4 +37,6 @@ pub fn no_page_is_damaged()
 /// are one, unless memory was refused to one of them or its device failed.
 pub fn a_kept_step_is_one()
     ensures { KeptStepIsOne }
-{}
+{
+    what_is_made_can_be_written();
+}

@@ -7,6 +7,7 @@ use crate::file_laws::files_stay_sound;
 use crate::keeping_laws::steps_keep_all;
 use crate::machine_laws::machines_stay_kept;
 use crate::progress_laws::images_have_prefixes;
+use hb_store::bytes_open_by_parts;
 
 /// A step keeps what every machine keeps, and files sound; a list of steps keeps all that is kept over a disk
 /// that tells; and what a crash leaves there has a prefix of the order.
@@ -17,4 +18,5 @@ pub fn runs_go_on()
     files_stay_sound();
     steps_keep_all();
     images_have_prefixes();
+    bytes_open_by_parts();
 }

@@ -17,7 +17,6 @@ use Rattle.hb_lemmas.proofs.Options.{at_value, has_value, if_value, some_value}
 use Rattle.hb_ops.specs.Files.{FileState}
 use Rattle.hb_ops.specs.Sound.{IsSound}
 use Rattle.hb_restart.specs.Creation.{MakesStore}
-use Rattle.hb_restart.specs.Leaving.{OpensStore, RunsThrough}
 use Rattle.hb_restart.specs.NewFiles.{new_file}
 use Rattle.hb_restart.specs.declared.layout.Layout.{Layout}
 use Rattle.hb_set.proofs.Facts.ScriptLaws.{script_is_short}
@@ -81,10 +80,3 @@ begun_over d held core lines steps script is new stands tied kept one some =
 -- what the store of a new file keeps
 pub new_sound : (l : Layout) (d e : DiskModel) (store : StoreState) → IsSound (new_file l) → MakesStore l d e store → (IsSome e.told → IsSome d.told) → IfSome e.told (λ b. (s : FileState) × IsSound s × StoreKeeps e store s [])
 new_sound l d e store sound makes before = if_value e.told _ (λ b is. (new_file l, sound, makes.keeps (before (has_value e.told b is))))
-
--- and that of a file that was opened
-pub opened_sound : (d e : DiskModel) (store : StoreState) (count : ℕ) → OpensStore d e store count → RunsThrough store.meta.high d e → IfSome e.told (λ b. (s : FileState) × IsSound s × StoreKeeps e store s [])
-opened_sound d e store count opens through = if_value e.told _ (λ b is.
-    let was = some_value d.told (through.silent (has_value e.told b is)) in
-    let file = at_value d.told _ was.0 was.1 opens.file in
-    (file.0, file.2, file.4))

@@ -3,26 +3,16 @@ use Rattle.std.proofs.Common.{◌≡◌, ℕ, ◌+◌, ◌<◌, Bool, List, [], 
 use Rattle.std.specs.List.{flat_map}
 use Rattle.std.proofs.lemmas.List.{take_more}
 use Rattle.std.proofs.lemmas.Grind.{flat_map-append}
-use Rattle.hb_outside.specs.Calls.{Puts, PutsOn, SinkModel}
-use Rattle.hb_outside.proofs.Facts.PutLaws.{has_put_more}
+use Rattle.hb_outside.specs.Calls.{PutsOn, SinkModel}
 use Rattle.hb_set.specs.declared.commands.Reply.{Reply}
-use Rattle.hb_set.specs.declared.scripts.Answered.{Answered}
 use Rattle.hb_text.specs.Output.{answer_text, left_text, reply_text}
 pub use Rattle.hb_outside.proofs.Facts.PutLaws.{puts_none, puts_on, puts_off, puts_then}
-pub use Rattle.hb_drive.proofs.Facts.AnswerTexts.{has_put_none}
+pub use Rattle.hb_drive.proofs.Facts.AnswerTexts.{has_put_none, puts_given}
 
 -- the text of one answer
 pub puts_answer : {T E : Type 0} (so_far result : Result T E) (a b : SinkModel) (line at : ℕ) (reply : Reply) → PutsOn so_far (reply_text line reply) result a b
     → PutsOn so_far (flat_map answer_text (record { line = line; reply = reply; at = at } ∷ [])) result a b
 puts_answer so_far result a b line at reply put = subst (λ (t : List ℕ). PutsOn so_far t result a b) (sym (append-nil (reply_text line reply))) put
-
--- and of those that a step gave, behind those before
-pub puts_given : {T E : Type 0} (a b c : SinkModel) (so_far next : Result T E) (before answered given : List Answered) → answered ≡ before ++ given → Puts (flat_map answer_text before) so_far a b
-    → PutsOn so_far (flat_map answer_text given) next b c → Puts (flat_map answer_text answered) next a c
-puts_given a b c so_far next before answered given is put more =
-    let P : List ℕ → Type 0 = λ t. Puts t next a c in
-    subst P (sym (ap (flat_map answer_text) is ∙ flat_map-append answer_text before given))
-    (has_put_more a b c so_far next (flat_map answer_text before) (flat_map answer_text given) put more)
 
 -- the text of one line more that has no answer
 left_more : (stopped : Bool) (lines : List ℕ) (i line : ℕ) → i < length lines → line ≡ get_or lines i line

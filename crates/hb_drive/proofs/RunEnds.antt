@@ -1,6 +1,7 @@
 -- How a run ended, by what was put.
 use Rattle.std.proofs.Common.{◌≡◌, ℕ, Bool, true, false, List, ◌++◌, length, map, Option, Result, Ok, Err, is_some, refl, sym, ap, ◌∙◌, subst, append_assoc}
 use Rattle.std.specs.List.{flat_map}
+use Rattle.std.specs.Prelude.{IsErr, OnErr}
 use Rattle.std.specs.Result.{is_err}
 use Rattle.std.proofs.lemmas.Bool.{false≢true}
 use Rattle.std.proofs.lemmas.List.{length-map}
@@ -75,6 +76,11 @@ pub record PutRest {T E : Type 0} (early last : Result T E) (mid after : SinkMod
 not_unbegun : (end : End) (failed : Bool) (stop : Option StopWhy) (answers : List Answered) → IsEndOf end failed stop answers → end ≡ ends.NoMemory → ⊥
 not_unbegun end failed stop answers is same = subst (λ (x : End). IsEndOf x failed stop answers) same is
 
+-- what failed before leaves the sink
+unmoved : {T E : Type 0} (P Q : Type 0) (early : Result T E) → OnErr early (P × Q) → OnErr early P
+unmoved P Q (Ok x) left = tt
+unmoved P Q (Err e) left = left.0
+
 module _ {T E : Type 0} (d : DiskModel) (c : RunningCore) (m : Machine) (shows : ShowsMachine d c m) (answers : List Answered) (mid after : SinkModel) (early last : Result T E) (left : List ℕ) (failed : Bool) (end : End)
     (left_is : left ≡ left_numbers m) (more : PutRest early last mid after c left failed answers end) where
   same_rest : rest_text left more.stopped more.order more.settled ≡ rest_text (left_numbers m) (is_some m.stop) (numbers m) (settled_count m)
@@ -92,6 +98,7 @@ module _ {T E : Type 0} (d : DiskModel) (c : RunningCore) (m : Machine) (shows :
   pub leaves_end : LeavesEnd m early answers end mid after
   leaves_end = record {
     text = λ before put. ends_with before after last failed m.stop (run_text answers m) answers end (all_put before put) more.fails (subst (λ (o : Option StopWhy). IsEndOf end failed o answers) (sym shows.stop) more.ended);
+    silent = unmoved (after ≡ mid) (IsErr last) early more.put.left;
     begun = not_unbegun end failed c.stop answers more.ended;
     later = more.put.later;
   }

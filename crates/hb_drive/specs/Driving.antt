@@ -1,5 +1,5 @@
 -- What a schedule's run comes to: its steps, its answers, and the text that it writes.
-use Rattle.std.specs.Prelude.{◌≡◌, ◌≢◌, ◌≤◌, ℕ, Bool, true, false, List, [], map, Option, None, Some, Result, is_some}
+use Rattle.std.specs.Prelude.{◌≡◌, ◌≢◌, ◌≤◌, ℕ, Bool, true, false, List, [], map, Option, None, Some, OnErr, Result, is_some}
 use Rattle.std.specs.List.{flat_map}
 use Rattle.hb_disk.specs.Model.{DiskModel}
 use Rattle.hb_disk.specs.declared.traits.Device.{Ghosts}
@@ -49,6 +49,8 @@ pub record DrivesTo (m : Machine) (actors : List ℕ) (answers : List Answered) 
 -- It holds of whatever the sink had before the replies.
 pub record LeavesEnd {T E : Type 0} (m : Machine) (put : Result T E) (answers : List Answered) (end : End) (sink after : SinkModel) : Type 0 where
   pub text : (before : SinkModel) → Puts (flat_map answer_text answers) put before sink → EndsWith end before after (run_text answers m) answers m.stop
+  -- a sink that failed before is given nothing more
+  pub silent : OnErr put (after ≡ sink)
   pub begun : end ≢ ends.NoMemory
   pub later : sink.faults ≤ after.faults
 

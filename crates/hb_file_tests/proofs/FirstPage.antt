@@ -47,8 +47,8 @@ pub first_held : (st mid new : StoreState) (uses after last : List Use) → uses
 first_held st mid new uses after last none fetched same order then driven =
     let is : last ≡ put_last 1 pinned (use_fetched 1 []) = then ∙ ap (λ (l : List Use). put_last 1 pinned l) (order ∙ ap (λ (l : List Use). use_fetched 1 l) none) in
     subst (λ (s : StoreState). IsDrivenOnFirst s last) (sym same) (record {
-      running = fetched.rest.stopped ∙ driven.running;
-      marks = subst (λ (log : LogState). All IsEarly log.groups) (sym fetched.rest.log) driven.marks;
+      running = ap (λ (s : StoreState). s.stopped) fetched.rest ∙ driven.running;
+      marks = subst (λ (log : LogState). All IsEarly log.groups) (sym (ap (λ (s : StoreState). s.log) fetched.rest)) driven.marks;
       first = subst HoldsFirst (sym is) (record { there = refl; pinned = All-alone IsFast (pinned (fresh 1 (tt {0}) false)) (λ _. omega arith) });
     })
 

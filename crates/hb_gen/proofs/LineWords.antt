@@ -18,7 +18,8 @@ use Rattle.hb_text.specs.Operands.{lows, highs, pairs_are_ordered, values_read, 
 use Rattle.hb_text.specs.Output.{numbers_text}
 use Rattle.hb_text.proofs.Facts.NumberLaws.{numbers_are_decimal}
 use Rattle.hb_gen.specs.Spelling.{side_by_side, command_text}
-use Rattle.hb_gen.proofs.PlainWords.{IsPlain, all_visible, numbers_plain, numbers_length, spaced}
+use Rattle.hb_gen.proofs.PlainWords.{IsPlain, numbers_plain, numbers_length, spaced}
+use Rattle.hb_text.proofs.Facts.BodyLaws.{as_it_is}
 
 abbrev pub command_words : Command → List (List ℕ)
 command_words (Insert added) = codes "insert" ∷ (map decimal added.key ++ (61 ∷ added.body) ∷ [])
@@ -68,7 +69,7 @@ IsSaid k (Lookup point) = AreValues k point
 IsSaid k (Search area) = IsSaidBox k area
 
 verb_plain : (verb : List ℕ) → list_all (λ c. nat_le 33 c && nat_le c 126) verb ≡ true → 0 < length verb → IsPlain verb
-verb_plain verb visible some = record { some = some; visible = all_visible verb visible }
+verb_plain verb visible some = record { some = some; visible = as_it_is verb visible }
 
 last_plain : (words : List (List ℕ)) (word : List ℕ) → AllByRecursion IsPlain words → IsPlain word → AllByRecursion IsPlain (words ++ word ∷ [])
 last_plain [] word before last = (last, tt)

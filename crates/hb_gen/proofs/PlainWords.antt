@@ -8,7 +8,7 @@ use Rattle.std.proofs.lemmas.Bool.Decides.{nat_tests}
 use Rattle.std.proofs.lemmas.Bool.{and_parts}
 use Rattle.std.proofs.lemmas.Fmt.{decimal_nonempty, digits_decimal, length-decimal-le}
 use Rattle.std.proofs.lemmas.List.{length-append}
-use Rattle.hb_text.specs.BodyText.{IsVisible, is_visible}
+use Rattle.hb_text.specs.BodyText.{IsVisible}
 use Rattle.hb_text.specs.Output.{numbers_text}
 use Rattle.hb_text.specs.TextLaws.{HasNo}
 use Rattle.hb_text.specs.Words.{words_of, is_printable, is_empty}
@@ -19,12 +19,6 @@ use Rattle.hb_text.proofs.Facts.WordLaws.{words_come_back}
 pub record IsPlain (word : List ℕ) : Type 0 where
   pub some : 0 < length word
   pub visible : AllByRecursion IsVisible word
-
-pub all_visible : (word : List ℕ) → list_all is_visible word ≡ true → AllByRecursion IsVisible word
-all_visible [] e = tt
-all_visible (c ∷ word) e =
-    let parts = and_parts (is_visible c) (list_all is_visible word) e in
-    ((grind (arith, nat_tests, parts.0), grind (arith, nat_tests, parts.0)), all_visible word parts.1)
 
 digits_visible : (word : List ℕ) → list_all is_ascii_digit word ≡ true → AllByRecursion IsVisible word
 digits_visible [] e = tt

@@ -1,6 +1,7 @@
 -- What is said of a value that an option or a result has, where it has one.
 use Rattle.std.proofs.Common.{◌≡◌, Option, Some, None, IfSome, IsSome, is_some, Result, Ok, Err, OnOk, refl, sym, ap, subst, ◌∙◌}
 use Rattle.std.specs.Option.{option_and_then, option_map}
+use Rattle.hb_lemmas.specs.Options.{◌>>=◌}
 
 -- the value of an option that has one
 pub some_value : {X : Type 0} (o : Option X) → IsSome o → (x : X) × (o ≡ Some x)
@@ -53,3 +54,8 @@ on_ok_weaker (Err e) P Q f h = tt
 -- what two successes gave is the same
 pub same_Ok : {T E : Type 0} (x y : T) → ◌≡◌ {A = Result T E} (Ok x) (Ok y) → x ≡ y
 same_Ok x y e = cc
+
+-- what a step of reading gave was fed by a value
+pub bind_some : {A B : Type 0} (r : Option A) (f : A → Option B) (y : B) → (r >>= f) ≡ Some y → (x : A) × (r ≡ Some x) × (f x ≡ Some y)
+bind_some (Some x) f y e = (x, refl, e)
+bind_some None f y e = cc e

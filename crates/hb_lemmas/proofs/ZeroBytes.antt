@@ -5,14 +5,11 @@ use Rattle.std.specs.List.{list_all}
 use Rattle.std.proofs.Math.Dec.{eqb-suc-zero}
 use Rattle.std.specs.Int.Bits.{bit_or, or_zero_l}
 use Rattle.std.proofs.lemmas.Nat.{le_or_l}
+use Rattle.std.proofs.Math.Bool.{and-true}
 
 above : (a n : ℕ) → suc a ≤ n → (n == 0) ≡ false
 above a zero e = absurd (omega (arith, e))
 above a (suc n) e = eqb-suc-zero n
-
-and_true : (b : Bool) → (b && true) ≡ b
-and_true true = refl
-and_true false = refl
 
 pub or_is_zero : (a b : ℕ) → (bit_or a b == 0) ≡ ((a == 0) && (b == 0))
 or_is_zero zero b = ap (λ (n : ℕ). n == 0) (or_zero_l b)
@@ -25,7 +22,7 @@ and_assoc false b c = refl
 -- one byte more: whether those before it are zeros, and it
 next_all : (xs : List ℕ) (i : ℕ) → i < length xs
     → list_all (λ (b : ℕ). b == 0) (take (suc i) xs) ≡ (list_all (λ (b : ℕ). b == 0) (take i xs) && (get_or xs i 0 == 0))
-next_all (x ∷ xs) zero lt = and_true (x == 0)
+next_all (x ∷ xs) zero lt = and-true (x == 0)
 next_all (x ∷ xs) (suc i) lt = ap (λ (r : Bool). (x == 0) && r) (next_all xs i (omega (arith, lt))) ∙ and_assoc (x == 0) (list_all (λ (b : ℕ). b == 0) (take i xs)) (get_or xs i 0 == 0)
 next_all [] i lt = absurd (omega (arith, lt))
 

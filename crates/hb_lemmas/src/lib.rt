@@ -3,8 +3,8 @@
 //! The one contract: nothing here speaks of points, pages or disks. `proofs/` has a file for each kind
 //! of thing, and a lemma stands there in its most general form; what the library has already, as
 //! `and_parts`, `or_parts`, `cond-true`, `same_Some`, `All-append`, is cited from there. `specs/` has
-//! the two words that each crate uses: a number's bytes, and that a type crosses threads. The two functions
-//! are what crates would else have each a copy of.
+//! the words that several crates use: a number's bytes, one step of reading after another, and that a type crosses
+//! threads. The two functions are what crates would else have each a copy of.
 #![tactic(auto)]
 
 ghost use Rattle.std.specs.Prelude.{◌≡◌, ◌==◌};

@@ -7,15 +7,17 @@ use Rattle.hb_frag.specs.Grammar.{FitsRecord, point_bytes, record_bytes}
 use Rattle.hb_ops.specs.declared.operations.Op.{Op}
 use Rattle.hb_ops.specs.declared.operations.Op.TheVariants.{Put, Del, Extract, Post, Merge, Grow}
 use Rattle.hb_page_codec.specs.Exact.{AreBytes, IsExact}
-use Rattle.hb_page_codec.specs.Reading.{◌>>=◌, number_at}
+use Rattle.hb_page_codec.specs.Reading.{number_at}
 use Rattle.hb_page_codec.specs.ReadingFields.{area_at, point_at, record_at}
 use Rattle.hb_log_codec.specs.Groups.{FitsOp, cuts_bytes, op_bytes, path_bytes}
 use Rattle.hb_log_codec.specs.Fields.{cuts_at, del_at, extract_at, grow_at, merge_at, op_at, path_at, post_at, put_at}
 use Rattle.hb_log_codec.specs.ExactFields.{ExactFields}
 use Rattle.hb_log_codec.proofs.FieldLaws.{taken}
 use Rattle.hb_log_codec.proofs.PathLaws.{FewCuts, cuts_exact, path_exact}
-use Rattle.hb_page_codec.proofs.Facts.Fields.{bind_some, Takes, Takes-then, Takes-byte, AreBytes-rest}
+use Rattle.hb_page_codec.proofs.Facts.Fields.{Takes, Takes-then, Takes-byte, AreBytes-rest}
 use Rattle.std.proofs.lemmas.Option.{same_Some}
+use Rattle.hb_lemmas.proofs.Options.{bind_some}
+use Rattle.hb_lemmas.specs.Options.{◌>>=◌}
 
 -- two numbers at the front
 pub same_number : ExactFields → (m n : ℕ) (r s : List ℕ) → m < 2 ^ 32 → n < 2 ^ 32 → big_endian 4 m ++ r ≡ big_endian 4 n ++ s → (m ≡ n) × (r ≡ s)

@@ -7,13 +7,15 @@ use Rattle.hb_frag.specs.declared.paths.Side.{Side}
 use Rattle.hb_frag.specs.declared.paths.Side.TheVariants.{Left, Right}
 use Rattle.hb_ops.specs.declared.leaf_cuts.LeafCut.{LeafCut}
 use Rattle.hb_page_codec.specs.Exact.{AreBytes, IsExact}
-use Rattle.hb_page_codec.specs.Reading.{◌>>=◌, byte_at, many_at, number_at}
+use Rattle.hb_page_codec.specs.Reading.{byte_at, many_at, number_at}
 use Rattle.hb_log_codec.specs.Groups.{FitsLeafCut, cuts_bytes, leaf_cut_bytes, path_bytes, side_byte}
 use Rattle.hb_log_codec.specs.Fields.{cuts_at, leaf_cut_at, path_at, side_at}
 use Rattle.hb_log_codec.specs.ExactFields.{ExactFields}
 use Rattle.hb_log_codec.proofs.FieldLaws.{taken}
-use Rattle.hb_page_codec.proofs.Facts.Fields.{bind_some, Takes-then, many_take, many_again}
+use Rattle.hb_page_codec.proofs.Facts.Fields.{Takes-then, many_take, many_again}
 use Rattle.std.proofs.lemmas.Option.{same_Some}
+use Rattle.hb_lemmas.proofs.Options.{bind_some}
+use Rattle.hb_lemmas.specs.Options.{◌>>=◌}
 
 -- a side's byte, as a list
 abbrev pub one_side : Side → List ℕ

@@ -5,8 +5,9 @@ use Rattle.hb_frag.specs.declared.paths.Side.TheVariants.{Left, Right}
 use Rattle.hb_ops.specs.declared.leaf_cuts.LeafCut.{LeafCut}
 use Rattle.hb_ops.specs.declared.operations.Op.{Op}
 use Rattle.hb_ops.specs.declared.operations.Op.TheVariants.{Put, Del, Extract, Post, Merge, Grow}
-use Rattle.hb_page_codec.specs.Reading.{◌>>=◌, byte_at, many_at, number_at}
+use Rattle.hb_page_codec.specs.Reading.{byte_at, many_at, number_at}
 use Rattle.hb_page_codec.specs.ReadingFields.{area_at, point_at, record_at}
+use Rattle.hb_lemmas.specs.Options.{◌>>=◌}
 
 -- a step of a path, or a side of a cut
 abbrev pub side_at : List ℕ → Option (Side × List ℕ)

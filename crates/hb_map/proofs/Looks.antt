@@ -1,23 +1,23 @@
 -- Looks at pages one after the other, and what is said of the file and of a stop, seen from before.
-use Rattle.std.proofs.Common.{subst}
+use Rattle.std.proofs.Common.{◌∙◌, ap, refl, subst}
 use Rattle.hb_disk.specs.Model.{DiskModel}
 use Rattle.hb_disk.proofs.Facts.FaultLaws.{ReadsOnly-none, ReadsOnly-then}
 use Rattle.hb_layout.specs.declared.meta.Meta.{Meta}
 use Rattle.hb_ops.specs.Files.{FileState}
 use Rattle.hb_store.specs.Held.{StoreHeld}
 use Rattle.hb_store.proofs.Facts.LookLaws.{LooksUp-as}
-use Rattle.hb_store.proofs.Facts.PageOnlyLaws.{KeepsAllButPages-none, KeepsAllButPages-then}
 use Rattle.hb_map.specs.declared.stops.MapStop.{MapStop}
 use Rattle.hb_map.specs.Mapping.{LooksThrough, MayAllGo, NamesPage, OfSoundFile, StopsRightly}
+use Rattle.hb_store.specs.States.{StoreState}
 
 -- no look, and one look more behind those that didn't fail
 pub looks_none : {F : Type 0} (d : DiskModel) (a : StoreHeld) → (F → ⊥) → MayAllGo a.uses → LooksThrough F d d a a
-looks_none d a good go = record { looks = record { only = ReadsOnly-none d good; keeps = λ durable later keeps. keeps }; rest = KeepsAllButPages-none a.state; may_go = go }
+looks_none d a good go = record { looks = record { only = ReadsOnly-none d good; keeps = λ durable later keeps. keeps }; rest = refl; may_go = go }
 
 pub looks_then : {F G : Type 0} (d e f : DiskModel) (a b c : StoreHeld) → (F → ⊥) → LooksThrough F d e a b → LooksThrough G e f b c → LooksThrough G d f a c
 looks_then d e f a b c good one two = record {
   looks = record { only = ReadsOnly-then d e f good one.looks.only two.looks.only; keeps = λ durable later keeps. two.looks.keeps durable later (one.looks.keeps durable later keeps) };
-  rest = KeepsAllButPages-then a.state b.state c.state one.rest two.rest;
+  rest = two.rest ∙ ap (λ (s : StoreState). record s { pages = c.state.pages }) one.rest;
   may_go = two.may_go;
 }
 
@@ -33,7 +33,7 @@ of_file_both d a P Q R join one two durable later keeps sound = join _ (one dura
 
 pub stops_before : {F : Type 0} (d e : DiskModel) (a b : StoreHeld) (stop : MapStop) → LooksThrough F d e a b → StopsRightly e b stop → StopsRightly d a stop
 stops_before d e a b stop through rightly = record {
-  names = subst (λ (meta : Meta). NamesPage meta stop) through.rest.meta rightly.names;
+  names = subst (λ (meta : Meta). NamesPage meta stop) (ap (λ (s : StoreState). s.meta) through.rest) rightly.names;
   sound = λ durable later keeps sound. rightly.sound durable later (through.looks.keeps durable later keeps) sound;
 }
 

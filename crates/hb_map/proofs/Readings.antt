@@ -10,7 +10,7 @@ use Rattle.hb_layout.specs.declared.meta.Meta.{Meta}
 use Rattle.hb_layout.specs.Limits.{IsLayout}
 use Rattle.hb_ops.specs.Files.{FileState, page_of, last_of}
 use Rattle.hb_ops.specs.Sound.{IsSound}
-use Rattle.hb_store.specs.Calls.{Fetched, use_fetched}
+use Rattle.hb_store.specs.Calls.{Fetched, KeepsAllButPages, use_fetched}
 use Rattle.hb_store.specs.Fetching.{FetchesNot, IsNoPage, LooksUp}
 use Rattle.hb_store.specs.Held.{StoreHeld}
 use Rattle.hb_store.specs.Keeps.{StoreKeeps}
@@ -24,7 +24,6 @@ use Rattle.hb_map.specs.declared.stops.MapStop.{MapStop}
 use Rattle.hb_map.specs.declared.stops.MapStop.TheVariants as stops
 use Rattle.hb_map.specs.Mapping.{IsNoDamage, LooksThrough, MayAllGo, MayBePrinted, NamesPage, OfSoundFile, StopsRightly, map_stop_of}
 use Rattle.hb_map.proofs.Facts.Going.{still_go}
-use Rattle.hb_store.proofs.Facts.PageOnlyLaws.{KeepsAllButPages-same}
 
 -- a refusal of memory is no other stop
 pub not_stopped_by : {T : Type 0} (r : Result T MapStop) (stop : MapStop) → stop ≢ stops.NoMemory → IfErr r (λ s. s ≡ stops.NoMemory) → r ≡ Err stop → ⊥
@@ -73,7 +72,7 @@ pub kept_through : {T U : Type 0} (stop : FetchStop) (d e : DiskModel) (old new 
     new.state ≡ old.state → new.uses ≡ old.uses → LooksThrough (IsErrOf {T = U} (Err (map_stop_of stop)) stops.ReadFault) d e old new
 kept_through {T = T} {U = U} stop d e old new other go looks state uses = record {
   looks = LooksUp-as d e old.state new.state (λ failed. let same : stop ≡ fetches.ReadFault = cc (failed) in ap (λ (s : FetchStop). let e : Result U MapStop = Err (map_stop_of s) in e) same) (λ failed. let same : map_stop_of stop ≡ stops.ReadFault = cc (failed) in ap (λ (s : FetchStop). let e : Result T FetchStop = Err s in e) (read_only stop other same)) looks;
-  rest = KeepsAllButPages-same old.state _ state;
+  rest = subst (KeepsAllButPages old.state) (sym state) refl;
   may_go = subst MayAllGo (sym uses) go;
 }
 

@@ -25,6 +25,7 @@ use Rattle.hb_ops.proofs.Facts.Opened.{weight_changed}
 use Rattle.hb_ops.proofs.Facts.Tips.{parted}
 use Rattle.hb_ops.proofs.Facts.PlacedLaws.{placed}
 use Rattle.hb_lemmas.proofs.Orderings.{less_so}
+use Rattle.std.proofs.lemmas.List.Sums.{length-filter, count_by-le-length}
 
 module _ (p : List ℕ) (change : List Record → List Record) where
   -- the tree with the change
@@ -224,12 +225,6 @@ del_keeps point area records inside h =
       rising = AllPairs-filter Precedes stays records h.rising;
     }
 
-no_longer : (test : Record → Bool) (records : List Record) → length (filter test records) ≤ length records
-no_longer test [] = omega arith
-no_longer test (x ∷ xs) =
-    let rest = no_longer test xs in
-    elim (test x) as (λ b. length (cond b (x ∷ filter test xs) (filter test xs)) ≤ length (x ∷ xs)) [ true ↦ omega arith | false ↦ omega arith ]
-
 -- what a put and a delete make of a page is well made
 pub put_made : (meta : Meta) (page : LivePage) (rec : Record) → FitsPut meta page rec → FitsFile meta (put_page rec page)
 put_made meta page rec fits =
@@ -241,6 +236,8 @@ pub del_made : (meta : Meta) (page : LivePage) (point : List ℕ) → FitsDel me
 del_made meta page point fits =
     let records = fits.there.records in
     let changed = weight_changed page point records fits.there.area (without point) fits.made.well_cut fits.there.leaf in
-    let fewer = no_longer (λ (r : Record). is_ne (point_cmp r.key point)) records in
+    let stays : Record → Bool = λ r. is_ne (point_cmp r.key point) in
+    let counted = length-filter stays records in
+    let fewer = count_by-le-length stays records in
     let light = fits.made.filled.light in
     made_again meta page point records fits.there.area (without point) fits.made fits.there.leaf (omega arith) (λ area records inside h. del_keeps point area records inside h)

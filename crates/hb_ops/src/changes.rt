@@ -10,9 +10,9 @@ ghost use Rattle.hb_ops.specs.declared.changes.ChangeError.TheVariants.{Unfit, N
 
 use crate::allocations::allocated;
 use crate::edits::{delete, put};
-use crate::extracting::extract;
+use crate::extracting::{Part, extract};
 use crate::growing::{may_grow, new_root, raised};
-use crate::merging::{merge, released};
+use crate::merging::{Merging, merge, released};
 use crate::posting::post;
 use crate::{Meta, Op};
 use arrayvec::ArrayVec;
@@ -76,7 +76,7 @@ pub fn change(
         } => match first {
             None => Err(ChangeError::Unfit),
             Some(page) => {
-                let pages = extract(alloc, page, meta, *fresh, path, cuts, *free_after)?;
+                let pages = extract(alloc, page, meta, Part { path, cuts }, *fresh, *free_after)?;
                 Ok(split(meta, *source, *fresh, pages, *free_after))
             }
         },
@@ -91,7 +91,8 @@ pub fn change(
         },
         Op::Merge { parent, keep, gone } => match (first, second, third) {
             (Some(above), Some(kept), Some(going)) => {
-                let pages = merge(alloc, meta, *parent, *keep, *gone, above, kept, going)?;
+                let both = Merging { above, kept, going };
+                let pages = merge(alloc, meta, *parent, *keep, *gone, &both)?;
                 Ok(merged(meta, *parent, *keep, *gone, pages))
             }
             _ => Err(ChangeError::Unfit),

@@ -18,30 +18,36 @@ use hb_frag::{Frag, Leaf, LivePage, Node, Path, Side};
 use hb_space::{Area, NoMemory, Record, Records};
 use std::alloc::Global;
 
+/// The part of a page that leaves it: to which the path leads, and then the cuts.
+#[derive(Clone, Copy, Debug)]
+pub(crate) struct Part<'a> {
+    pub(crate) path: &'a Path,
+    pub(crate) cuts: &'a Cuts,
+}
+
 /// The page that is split and the page that is made, where that is allowed.
 pub(crate) fn extract(
     alloc: Global,
     page: &LivePage,
     meta: &Meta,
+    part: Part<'_>,
     fresh: u32,
-    path: &Path,
-    cuts: &Cuts,
     free_after: u32,
 ) -> Result<(LivePage, LivePage), ChangeError>
-    ensures allowed { IfOk result (λ pages. FitsExtract meta.now page.now fresh path.now cuts.now free_after) }
-    ensures effect { IfOk result (λ pages. (part : Tree × Extent)
-        × (part_at path.now page.now.frag page.now.area ≡ Some part)
-        × (pages.0 ≡ source_page fresh path.now cuts.now page.now part)
-        × (pages.1 ≡ fresh_page cuts.now page.now part)) }
-    ensures unfit { IsErrOf result Unfit → ¬ (FitsExtract meta.now page.now fresh path.now cuts.now free_after) }
-    ensures memory { IsErrOf result Starved → FitsExtract meta.now page.now fresh path.now cuts.now free_after }
+    ensures allowed { IfOk result (λ pages. FitsExtract meta.now page.now fresh part.entry.path.now part.entry.cuts.now free_after) }
+    ensures effect { IfOk result (λ pages. (leaving : Tree × Extent)
+        × (part_at part.entry.path.now page.now.frag page.now.area ≡ Some leaving)
+        × (pages.0 ≡ source_page fresh part.entry.path.now part.entry.cuts.now page.now leaving)
+        × (pages.1 ≡ fresh_page part.entry.cuts.now page.now leaving)) }
+    ensures unfit { IsErrOf result Unfit → ¬ (FitsExtract meta.now page.now fresh part.entry.path.now part.entry.cuts.now free_after) }
+    ensures memory { IsErrOf result Starved → FitsExtract meta.now page.now fresh part.entry.path.now part.entry.cuts.now free_after }
 {
     if !allocates(meta, fresh, free_after) {
         return Err(ChangeError::Unfit);
     }
-    match part_for(page, meta, path, cuts) {
+    match subtree_for(page, meta, part) {
         None => Err(ChangeError::Unfit),
-        Some((frag, area)) => match split(alloc, page, fresh, path, cuts, frag, area) {
+        Some((frag, area)) => match split(alloc, page, fresh, part, frag, area) {
             Ok(pages) => Ok(pages),
             Err(_) => Err(ChangeError::NoMemory),
         },
@@ -50,23 +56,18 @@ pub(crate) fn extract(
 
 // The part that leaves the page, with its box, before the cuts are made. `None` where none may
 // leave so, whatever number is taken.
-fn part_for<'a>(
-    page: &'a LivePage,
-    meta: &Meta,
-    path: &Path,
-    cuts: &Cuts,
-) -> Option<(&'a Frag, Area)>
+fn subtree_for<'a>(page: &'a LivePage, meta: &Meta, part: Part<'_>) -> Option<(&'a Frag, Area)>
     ensures { MatchOption result
-        ((part : Tree × Extent) → FitsFile meta.now page.now → ¬ (FitsPart path.now cuts.now page.now part))
-        (λ part. FitsFile meta.now page.now × FitsPart path.now cuts.now page.now (part.0.now, part.1)) }
+        ((leaving : Tree × Extent) → FitsFile meta.now page.now → ¬ (FitsPart part.entry.path.now part.entry.cuts.now page.now leaving))
+        (λ leaving. FitsFile meta.now page.now × FitsPart part.entry.path.now part.entry.cuts.now page.now (leaving.0.now, leaving.1)) }
 {
     if local_rule(page, meta).is_some() {
         return None;
     }
-    match page.subtree(path) {
+    match page.subtree(part.path) {
         None => None,
         Some((frag, area)) => {
-            if may_leave(page, path, cuts, frag, &area) {
+            if may_leave(page, part.path, part.cuts, frag, &area) {
                 Some((frag, area))
             } else {
                 None
@@ -208,26 +209,25 @@ fn split(
     alloc: Global,
     page: &LivePage,
     fresh: u32,
-    path: &Path,
-    cuts: &Cuts,
+    part: Part<'_>,
     frag: &Frag,
     area: Area,
 ) -> Result<(LivePage, LivePage), NoMemory>
-    requires inside { StaysInside path.now page.now.frag }
-    requires planes { cutting.PlanesCut cuts.now area }
-    ensures source { IfOk result (λ pages. pages.0 ≡ source_page fresh path.now cuts.now page.now (frag.now, area)) }
-    ensures fresh { IfOk result (λ pages. pages.1 ≡ fresh_page cuts.now page.now (frag.now, area)) }
+    requires inside { StaysInside part.path.now page.now.frag }
+    requires planes { cutting.PlanesCut part.cuts.now area }
+    ensures source { IfOk result (λ pages. pages.0 ≡ source_page fresh part.entry.path.now part.entry.cuts.now page.now (frag.now, area)) }
+    ensures fresh { IfOk result (λ pages. pages.1 ≡ fresh_page part.entry.cuts.now page.now (frag.now, area)) }
 {
-    let part = frag.copy(alloc)?;
-    let parted = cut_through(alloc, part, cuts.as_slice(), fresh)?;
+    let cuts = part.cuts.as_slice();
+    let parted = cut_through(alloc, frag.copy(alloc)?, cuts, fresh)?;
     let source = LivePage {
         level: page.level,
         area: page.area.copy(),
-        frag: page.frag.copy_with(alloc, path, parted.opened)?,
+        frag: page.frag.copy_with(alloc, part.path, parted.opened)?,
     };
     let made = LivePage {
         level: page.level,
-        area: reached_area(area, cuts.as_slice()),
+        area: reached_area(area, cuts),
         frag: parted.reached,
     };
     Ok((source, made))

@@ -16,50 +16,49 @@ use hb_frag::{Frag, LivePage, normal};
 use hb_space::NoMemory;
 use std::alloc::Global;
 
-/// The parent and the page to keep as they are afterwards, where the merge is allowed.
+/// Two pages that are to become one, the one to keep and the one to go, and their parent.
+#[derive(Clone, Copy, Debug)]
+pub(crate) struct Merging<'a> {
+    pub(crate) above: &'a LivePage,
+    pub(crate) kept: &'a LivePage,
+    pub(crate) going: &'a LivePage,
+}
+
+/// The parent and the page to keep as they are afterwards, where the merge is allowed; the numbers are those of the parent, the page to
+/// keep and the page to go.
 pub(crate) fn merge(
     alloc: Global,
     meta: &Meta,
     parent: u32,
     keep: u32,
     gone: u32,
-    above: &LivePage,
-    kept: &LivePage,
-    going: &LivePage,
+    pages: &Merging<'_>,
 ) -> Result<(LivePage, LivePage), ChangeError>
-    ensures allowed { IfOk result (λ made. FitsMerge meta.now parent keep gone above.now kept.now going.now) }
-    ensures effect { IfOk result (λ made. (made.0 ≡ parent_page keep gone above.now) × (made.1 ≡ kept_page gone kept.now going.now)) }
-    ensures unfit { IsErrOf result Unfit → ¬ (FitsMerge meta.now parent keep gone above.now kept.now going.now) }
-    ensures memory { IsErrOf result Starved → FitsMerge meta.now parent keep gone above.now kept.now going.now }
+    ensures allowed { IfOk result (λ made. FitsMerge meta.now parent keep gone pages.now.above.now pages.now.kept.now pages.now.going.now) }
+    ensures effect { IfOk result (λ made. (made.0 ≡ parent_page keep gone pages.now.above.now) × (made.1 ≡ kept_page gone pages.now.kept.now pages.now.going.now)) }
+    ensures unfit { IsErrOf result Unfit → ¬ (FitsMerge meta.now parent keep gone pages.now.above.now pages.now.kept.now pages.now.going.now) }
+    ensures memory { IsErrOf result Starved → FitsMerge meta.now parent keep gone pages.now.above.now pages.now.kept.now pages.now.going.now }
 {
-    if !fits(meta, parent, keep, gone, above, kept, going) {
+    if !fits(meta, parent, keep, gone, pages) {
         return Err(ChangeError::Unfit);
     }
-    match both_after(alloc, keep, gone, above, kept, going) {
+    match both_after(alloc, keep, gone, pages) {
         Ok(made) => Ok(made),
         Err(_) => Err(ChangeError::NoMemory),
     }
 }
 
 // Whether the two pages may become one.
-fn fits(
-    meta: &Meta,
-    parent: u32,
-    keep: u32,
-    gone: u32,
-    above: &LivePage,
-    kept: &LivePage,
-    going: &LivePage,
-) -> bool
-    ensures { IsTrue result ↔ FitsMerge meta.now parent keep gone above.now kept.now going.now }
+fn fits(meta: &Meta, parent: u32, keep: u32, gone: u32, pages: &Merging<'_>) -> bool
+    ensures { IsTrue result ↔ FitsMerge meta.now parent keep gone pages.now.above.now pages.now.kept.now pages.now.going.now }
 {
     if !are_others(parent, keep, gone) || meta.live == 0 {
         return false;
     }
-    if !are_well_made(meta, above, kept, going) {
+    if !are_well_made(meta, pages) {
         return false;
     }
-    are_named(keep, gone, above, kept, going) && may_merge(meta, gone, above, kept, going)
+    are_named(keep, gone, pages) && may_merge(meta, gone, pages)
 }
 
 // Whether the three pages have different numbers.
@@ -70,19 +69,19 @@ fn are_others(parent: u32, keep: u32, gone: u32) -> bool
 }
 
 // Whether each of the pages keeps the rules that speak of it alone.
-fn are_well_made(meta: &Meta, above: &LivePage, kept: &LivePage, going: &LivePage) -> bool
-    ensures { IsTrue result ↔ (FitsFile meta.now above.now × FitsFile meta.now kept.now × FitsFile meta.now going.now) }
+fn are_well_made(meta: &Meta, pages: &Merging<'_>) -> bool
+    ensures { IsTrue result ↔ (FitsFile meta.now pages.now.above.now × FitsFile meta.now pages.now.kept.now × FitsFile meta.now pages.now.going.now) }
 {
-    local_rule(above, meta).is_none()
-        && local_rule(kept, meta).is_none()
-        && local_rule(going, meta).is_none()
+    local_rule(pages.above, meta).is_none()
+        && local_rule(pages.kept, meta).is_none()
+        && local_rule(pages.going, meta).is_none()
 }
 
 // Whether the parent is one level above the two others, and names both.
-fn are_named(keep: u32, gone: u32, above: &LivePage, kept: &LivePage, going: &LivePage) -> bool
-    ensures { IsTrue result ↔ NamesBoth above.now keep kept.now gone going.now }
+fn are_named(keep: u32, gone: u32, pages: &Merging<'_>) -> bool
+    ensures { IsTrue result ↔ NamesBoth pages.now.above.now keep pages.now.kept.now gone pages.now.going.now }
 {
-    are_below(kept, going, above) && names_two(above, keep, gone)
+    are_below(pages.kept, pages.going, pages.above) && names_two(pages.above, keep, gone)
 }
 
 // Whether two pages are one level below another one.
@@ -107,13 +106,15 @@ fn is_below(page: &LivePage, above: &LivePage) -> bool
 }
 
 // Whether these pages may become one, which are well made.
-fn may_merge(meta: &Meta, gone: u32, above: &LivePage, kept: &LivePage, going: &LivePage) -> bool
-    requires above { FitsFile meta.now above.now }
-    requires kept { FitsFile meta.now kept.now }
-    requires going { FitsFile meta.now going.now }
-    ensures { IsTrue result ↔ MayMerge above.now kept.now gone going.now (capacity_of kept.now.level meta.now.dcap meta.now.icap) }
+fn may_merge(meta: &Meta, gone: u32, pages: &Merging<'_>) -> bool
+    requires above { FitsFile meta.now pages.now.above.now }
+    requires kept { FitsFile meta.now pages.now.kept.now }
+    requires going { FitsFile meta.now pages.now.going.now }
+    ensures { IsTrue result ↔ MayMerge pages.now.above.now pages.now.kept.now gone pages.now.going.now (capacity_of pages.now.kept.now.level meta.now.dcap meta.now.icap) }
 {
-    kept.sibling_area(gone).is_some() && above.directly(&going.area) && are_light(meta, kept, going)
+    pages.kept.sibling_area(gone).is_some()
+        && pages.above.directly(&pages.going.area)
+        && are_light(meta, pages.kept, pages.going)
 }
 
 // Whether two pages weigh at most three quarters of the capacity once they are one.
@@ -142,15 +143,13 @@ fn both_after(
     alloc: Global,
     keep: u32,
     gone: u32,
-    above: &LivePage,
-    kept: &LivePage,
-    going: &LivePage,
+    pages: &Merging<'_>,
 ) -> Result<(LivePage, LivePage), NoMemory>
-    ensures { IfOk result (λ made. (made.0 ≡ parent_page keep gone above.now) × (made.1 ≡ kept_page gone kept.now going.now)) }
+    ensures { IfOk result (λ made. (made.0 ≡ parent_page keep gone pages.now.above.now) × (made.1 ≡ kept_page gone pages.now.kept.now pages.now.going.now)) }
 {
-    let parent = parent_after(alloc, above, keep, gone)?;
-    let frag = taken_over(alloc, gone, kept, going)?;
-    Ok((parent, with_frag(kept, frag)))
+    let parent = parent_after(alloc, pages.above, keep, gone)?;
+    let frag = taken_over(alloc, gone, pages.kept, pages.going)?;
+    Ok((parent, with_frag(pages.kept, frag)))
 }
 
 // A page of the same level and box, with another inside.

@@ -17,7 +17,16 @@ use hb_frag::{Frag, Leaf, LivePage, Node, Path, carve, carved_weight, normal};
 use hb_space::{Area, NoMemory};
 use std::alloc::Global;
 
-/// The page in which the page `inner` is named, where that is allowed.
+// What is posted, and where.
+#[derive(Clone, Copy, Debug)]
+struct Posting<'a> {
+    at: &'a Path,
+    inner: u32,
+    area: &'a Area,
+}
+
+/// The page in which, at the child leaf to which the path leads, the page `inner` is named over what the leaf's box has in common with
+/// `area`, where that is allowed.
 pub(crate) fn post(
     alloc: Global,
     page: &LivePage,
@@ -32,9 +41,10 @@ pub(crate) fn post(
     ensures unfit { IsErrOf result Unfit → ¬ (FitsPost meta.now page.now at.now inner area.now) }
     ensures memory { IsErrOf result Starved → FitsPost meta.now page.now at.now inner area.now }
 {
-    match leaf_for(page, meta, at, inner, area) {
+    let posting = Posting { at, inner, area };
+    match leaf_for(page, meta, posting) {
         None => Err(ChangeError::Unfit),
-        Some((outer, leaf)) => match named(alloc, page, at, outer, &leaf, inner, area) {
+        Some((outer, leaf)) => match named(alloc, page, posting, outer, &leaf) {
             Ok(made) => Ok(made),
             Err(_) => Err(ChangeError::NoMemory),
         },
@@ -44,11 +54,11 @@ pub(crate) fn post(
 // The page that the child leaf names to which the path leads, and its box. `None` where the page
 // `inner` may not be named there.
 #[tactic(auto, using(crate::proofs::PostTests::posts_at, crate::proofs::PostTests::no_child))]
-fn leaf_for(page: &LivePage, meta: &Meta, at: &Path, inner: u32, area: &Area) -> Option<(u32, Area)>
-    requires attributes { length area.now.lo ≡ meta.now.k }
+fn leaf_for(page: &LivePage, meta: &Meta, posting: Posting<'_>) -> Option<(u32, Area)>
+    requires attributes { length posting.area.now.lo ≡ meta.now.k }
     ensures { MatchOption result
-        (¬ (FitsPost meta.now page.now at.now inner area.now))
-        (λ leaf. PostsAt meta.now page.now at.now inner area.now leaf.0 leaf.1) }
+        (¬ (FitsPost meta.now page.now posting.entry.at.now posting.entry.inner posting.entry.area.now))
+        (λ leaf. PostsAt meta.now page.now posting.entry.at.now posting.entry.inner posting.entry.area.now leaf.0 leaf.1) }
 {
     if local_rule(page, meta).is_some() {
         return None;
@@ -56,10 +66,10 @@ fn leaf_for(page: &LivePage, meta: &Meta, at: &Path, inner: u32, area: &Area) ->
     if page.level == 0 {
         return None;
     }
-    match child_at(page, at) {
+    match child_at(page, posting.at) {
         None => None,
         Some((outer, leaf)) => {
-            if may_name(page, meta, at, outer, &leaf, inner, area) {
+            if may_name(page, meta, posting, outer, &leaf) {
                 Some((outer, leaf))
             } else {
                 None
@@ -98,22 +108,15 @@ fn child_name(frag: &Frag) -> Option<u32>
 }
 
 // Whether the page `inner` may be named at the child leaf of this box that names `outer`.
-fn may_name(
-    page: &LivePage,
-    meta: &Meta,
-    at: &Path,
-    outer: u32,
-    leaf: &Area,
-    inner: u32,
-    area: &Area,
-) -> bool
+fn may_name(page: &LivePage, meta: &Meta, posting: Posting<'_>, outer: u32, leaf: &Area) -> bool
     requires made { FitsFile meta.now page.now }
     requires above { 0 < page.now.level }
-    requires leaf { IsChildAt at.now page.now outer leaf.now }
-    requires attributes { length area.now.lo ≡ meta.now.k }
-    ensures { IsTrue result ↔ FitsPost meta.now page.now at.now inner area.now }
+    requires leaf { IsChildAt posting.at.now page.now outer leaf.now }
+    requires attributes { length posting.area.now.lo ≡ meta.now.k }
+    ensures { IsTrue result ↔ FitsPost meta.now page.now posting.entry.at.now posting.entry.inner posting.entry.area.now }
 {
     a_carved_leaf_joins_others_only_whole();
+    let Posting { inner, area, .. } = posting;
     if outer == inner {
         return false;
     }
@@ -141,19 +144,17 @@ fn has_room(page: &LivePage, meta: &Meta, leaf: &Area, area: &Area) -> bool
 fn named(
     alloc: Global,
     page: &LivePage,
-    at: &Path,
+    posting: Posting<'_>,
     outer: u32,
     leaf: &Area,
-    inner: u32,
-    area: &Area,
 ) -> Result<LivePage, NoMemory>
-    requires leaf { IsChildAt at.now page.now outer leaf.now }
-    requires meets { Meets leaf.now area.now }
-    requires attributes { length area.now.lo ≡ length leaf.now.lo }
-    ensures { IfOk result (λ made. made ≡ post_page at.now inner area.now page.now) }
+    requires leaf { IsChildAt posting.at.now page.now outer leaf.now }
+    requires meets { Meets leaf.now posting.area.now }
+    requires attributes { length posting.area.now.lo ≡ length leaf.now.lo }
+    ensures { IfOk result (λ made. made ≡ post_page posting.entry.at.now posting.entry.inner posting.entry.area.now page.now) }
 {
-    let carved = carve(alloc, leaf, area, outer, inner)?;
-    let frag = page.frag.copy_with(alloc, at, carved)?;
+    let carved = carve(alloc, leaf, posting.area, outer, posting.inner)?;
+    let frag = page.frag.copy_with(alloc, posting.at, carved)?;
     Ok(LivePage {
         level: page.level,
         area: page.area.copy(),

@@ -12,12 +12,13 @@ use Rattle.hb_page_codec.specs.Reading.{Gives, number_at}
 use Rattle.hb_page_codec.specs.ReadingFields.{count_at, area_at}
 use Rattle.hb_page_codec.specs.ReadingPages.{head_at, page_of_bytes}
 use Rattle.hb_page_codec.specs.Weight.{IsLight}
-use Rattle.hb_page_codec.proofs.Facts.Fields.{bind_some, area_takes}
+use Rattle.hb_page_codec.proofs.Facts.Fields.{area_takes}
 use Rattle.hb_page_codec.proofs.Facts.PageLaws.{page_takes, page_again, has_spelling, head_takes}
 use Rattle.hb_page_codec.proofs.Facts.Weights.{is_light}
 use Rattle.hb_lemmas.proofs.Booleans.{unless_some}
 use Rattle.std.proofs.lemmas.Option.{same_Some}
 use Rattle.hb_page_codec.specs.Exact.{AreBytes}
+use Rattle.hb_lemmas.proofs.Options.{bind_some}
 
 pub is_found : (bytes : List ℕ) (r : Result Page PageError) → AreBytes bytes → Gives (λ x. x) r (page_of_bytes bytes) → IfOk r (λ page. SpellsPage bytes page)
 is_found bytes (Ok page) fits given = page_takes bytes page fits given

@@ -7,12 +7,14 @@ use Rattle.hb_space.specs.declared.records.Record.{Record}
 use Rattle.hb_frag.specs.declared.leaves.Leaf.TheVariants.{Records, Child, Sibling}
 use Rattle.hb_frag.specs.Trees.{Tree, Tip, Cut}
 use Rattle.hb_frag.specs.Grammar.{record_bytes, tree_bytes, FitsRecord, FitsTree}
-use Rattle.hb_page_codec.specs.Reading.{◌>>=◌, number_at}
+use Rattle.hb_page_codec.specs.Reading.{number_at}
 use Rattle.hb_page_codec.specs.ReadingFields.{records_at, record_at, count_at, axis_at}
 use Rattle.hb_page_codec.specs.ReadingPages.{cut_at, records_tip_at, node_at, tree_within, tree_at}
-use Rattle.hb_page_codec.proofs.Facts.Fields.{AreBytes-rest, Takes, Takes-then, Takes-byte, bind_some, wide_4, wide_8, number_takes, number_again, many_take, many_again, record_takes, record_again, records_room, count_takes, count_again, axis_takes, axis_again}
+use Rattle.hb_page_codec.proofs.Facts.Fields.{AreBytes-rest, Takes, Takes-then, Takes-byte, wide_4, wide_8, number_takes, number_again, many_take, many_again, record_takes, record_again, records_room, count_takes, count_again, axis_takes, axis_again}
 use Rattle.std.proofs.lemmas.Option.{same_Some}
 use Rattle.hb_page_codec.specs.Exact.{AreBytes}
+use Rattle.hb_lemmas.proofs.Options.{bind_some}
+use Rattle.hb_lemmas.specs.Options.{◌>>=◌}
 
 -- what a reader of trees reads is spelled so
 abbrev pub TakesTrees : ℕ → (List ℕ → Option (Tree × List ℕ)) → Type 0

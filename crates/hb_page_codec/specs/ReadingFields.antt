@@ -3,7 +3,8 @@ use Rattle.std.specs.Prelude.{ℕ, ◌+◌, ◌*◌, Bool, true, ◌&&◌, List,
 use Rattle.hb_space.specs.Boxes.{Area}
 use Rattle.hb_space.specs.declared.form.TheConstants.{BMAX}
 use Rattle.hb_space.specs.declared.records.Record.{Record}
-use Rattle.hb_page_codec.specs.Reading.{◌>>=◌, byte_at, number_at, many_at}
+use Rattle.hb_page_codec.specs.Reading.{byte_at, number_at, many_at}
+use Rattle.hb_lemmas.specs.Options.{◌>>=◌}
 
 -- a point of k values
 abbrev pub point_at : ℕ → List ℕ → Option (List ℕ × List ℕ)

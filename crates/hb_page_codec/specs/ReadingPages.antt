@@ -6,8 +6,9 @@ use Rattle.hb_frag.specs.declared.leaves.Leaf.TheVariants.{Records, Child, Sibli
 use Rattle.hb_frag.specs.declared.pages.Page.{Page}
 use Rattle.hb_frag.specs.declared.pages.Page.TheVariants.{Live, Free}
 use Rattle.hb_frag.specs.Trees.{Tree, Tip, Cut}
-use Rattle.hb_page_codec.specs.Reading.{◌>>=◌, number_at}
+use Rattle.hb_page_codec.specs.Reading.{number_at}
 use Rattle.hb_page_codec.specs.ReadingFields.{area_at, records_at, count_at, axis_at}
+use Rattle.hb_lemmas.specs.Options.{◌>>=◌}
 
 -- a cut behind its tag, where trees are read as given
 unfoldable pub cut_at : (List ℕ → Option (Tree × List ℕ)) → ℕ → List ℕ → Option (Tree × List ℕ)

@@ -1,29 +1,25 @@
 -- The operation that a row says is allowed on the page that the row is given.
-use Rattle.std.proofs.Common.{◌≡◌, inl, inr, ℕ, ◌≤◌, List, Some, refl, arith}
+use Rattle.std.proofs.Common.{inl, inr, ℕ, ◌≤◌, List, refl, arith}
 use Rattle.hb_space.specs.declared.records.Record.{Record}
-use Rattle.hb_frag.specs.declared.leaves.Leaf.TheVariants.{Records}
 use Rattle.hb_frag.specs.declared.pages.LivePage.{LivePage}
 use Rattle.hb_ops.specs.declared.operations.Op.TheVariants as ops
 use Rattle.hb_set.specs.declared.commands.Command.{Command}
 use Rattle.hb_set.specs.declared.commands.Command.TheVariants.{Insert, Delete, Lookup, Search}
 use Rattle.hb_set.specs.declared.scripts.Line.{Line}
-use Rattle.hb_activity.proofs.Facts.AllowedDeeds.{Shows, allocates, kind_at, none_shown, one_shown}
+use Rattle.hb_activity.proofs.Facts.AllowedDeeds.{Shows, allocates, none_shown, one_shown}
 use Rattle.hb_activity.specs.Deeds.{Deed}
 use Rattle.hb_activity.specs.OneDeed.{IsAllowedAlone, NumbersAreGiven}
 use Rattle.hb_activity.specs.Passing.{PartLeavesTo}
 use Rattle.hb_activity.specs.Sights.{Sight}
 use Rattle.hb_frag.specs.Leaves.{weight_of}
-use Rattle.hb_frag.specs.Paths.{part_at}
-use Rattle.hb_frag.specs.Trees.{Tree}
 use Rattle.hb_ops.specs.Recording.{put_page}
 use Rattle.hb_ops.specs.Sound.{FitsFile}
 use Rattle.hb_ops.specs.Standing.{StandsNot, StandsThere}
-use Rattle.hb_point.proofs.Facts.RecordLeaves.{put_weighs, any_at}
+use Rattle.hb_point.proofs.Facts.RecordLeaves.{put_weighs}
+use Rattle.hb_point.proofs.Facts.RecordOps.{del_fits, put_fits}
 use Rattle.hb_point.specs.SessionRows.{DoesThere}
 use Rattle.hb_point.specs.Laws.{CommandsAreAllowed, FullPagesAreHeavy, PutsAreAllowed, SplitsAreAllowed}
-use Rattle.hb_space.specs.Boxes.{Area}
-use Rattle.hb_split.proofs.Facts.Allowed.{is_allowed}
-use Rattle.hb_split.proofs.Facts.Ends.{is_thirds}
+use Rattle.hb_split.proofs.Facts.Allowed.{chosen_fits}
 use Rattle.hb_split.specs.Choosing.{IsChosen}
 
 pub full_pages_are_heavy : FullPagesAreHeavy
@@ -33,43 +29,17 @@ full_pages_are_heavy s line rec id page deed made least row = let weighs = put_w
 
 module _ (s : Sight) (id : ℕ) (page : LivePage) (made : FitsFile s.meta page) where
   put_allowed : (rec : Record) → StandsNot page rec.key → weight_of (put_page rec page).frag ≤ s.meta.dcap → IsAllowedAlone s id page (ops.Put id rec)
-  put_allowed rec absent room = record {
-    reads = refl;
-    allowed = record {
-      made = made;
-      level = kind_at s.meta page rec.key (record { leaf = Records absent.records; area = absent.area }) made absent.leaf;
-      absent = record { records = absent.records; area = absent.area; leaf = absent.leaf; keeps = absent.lack };
-      room = room;
-    };
-  }
+  put_allowed rec absent room = record { reads = refl; allowed = put_fits s.meta page rec made absent room }
 
   del_allowed : (p : List ℕ) (r : Record) → StandsThere page p r → IsAllowedAlone s id page (ops.Del id p)
-  del_allowed p r there = record {
-    reads = refl;
-    allowed = record {
-      made = made;
-      level = kind_at s.meta page p (record { leaf = Records there.records; area = there.area }) made there.leaf;
-      there = record { records = there.records; area = there.area; leaf = there.leaf; keeps = any_at there.records there.place r p there.among there.key };
-    };
-  }
+  del_allowed p r there = record { reads = refl; allowed = del_fits s.meta page p r made there }
 
   -- a part that is chosen may leave a page that weighs 6 or more
   pub split_allowed : (leaves : PartLeavesTo s (IsChosen page) page) → NumbersAreGiven s → 6 ≤ weight_of page.frag → IsAllowedAlone s id page (ops.Extract id leaves.fresh leaves.path leaves.cuts leaves.free_after)
-  split_allowed leaves given full =
-      let n = weight_of page.frag in
-      let chosen = leaves.chosen in
-      let parts : (q : Tree × Area) × (part_at leaves.path page.frag page.area ≡ Some q) × _ = (chosen.part, chosen.found, chosen.chosen) in
-      let thirds = is_thirds n page leaves.path leaves.cuts full refl chosen.way made.in_order parts in
-      let may = is_allowed n page leaves.path leaves.cuts full refl chosen.way made.in_order parts thirds in
-      record {
-        reads = refl;
-        allowed = record {
-          allocates = allocates s leaves.fresh leaves.free_after given leaves.free leaves.next;
-          made = made;
-          part = may.part;
-          fits = record { there = may.found; parted = may.parts; less = λ none bare. may.some (none, bare); own = may.own };
-        };
-      }
+  split_allowed leaves given full = record {
+    reads = refl;
+    allowed = chosen_fits s.meta page leaves.path leaves.cuts leaves.fresh leaves.free_after made leaves.chosen full (allocates s leaves.fresh leaves.free_after given leaves.free leaves.next);
+  }
 
   shown_there : (line : Line) (command : Command) (deed : Deed) → DoesThere s line command id page deed → Shows (IsAllowedAlone s id page) deed
   shown_there line (Insert rec) deed (inl row) = none_shown (IsAllowedAlone s id page) deed _ row.deed_is refl

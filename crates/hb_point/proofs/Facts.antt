@@ -3,3 +3,4 @@ pub mod RecordLeaves
 pub mod ChosenCuts
 pub mod OneCommand
 pub mod DeletedRecords
+pub mod RecordOps

@@ -3,5 +3,3 @@ pub mod AllowedPostings
 pub mod WalkExamples
 pub mod PostExamples
 pub mod SiblingLeaves
-pub mod LeavesAtPoints
-pub mod ParentWeights

@@ -1,5 +1,6 @@
 ghost use Rattle.std.specs.Prelude.{◌≡◌, ◌<◌, ◌↔◌, IsTrue, IfOk, OnErr};
 ghost use Rattle.std.specs.Option.{option_copied};
+ghost use Rattle.hb_ops.specs.Sound.{FitsFile};
 ghost use Rattle.hb_activity.specs.Deciding.{FitsFree, deed_of, given_pages, given_sight};
 ghost use Rattle.hb_poster.specs.Asks.{AsksMemory, MakesPage, MayBeAsked};
 ghost use Rattle.hb_poster.specs.PosterRows.{PosterRow};
@@ -9,6 +10,7 @@ use crate::posting::{lacks_room, look, look_again};
 use crate::walking::walk;
 use hb_activity::{Activity, Latched, Next};
 use hb_frag::LivePage;
+use hb_layout::Meta;
 use hb_space::NoMemory;
 use std::alloc::Global;
 
@@ -58,21 +60,22 @@ pub fn next(
 pub fn needs_number(
     alloc: Global,
     state: &Activity,
-    latched: Latched<'_>,
+    page: &LivePage,
     first: Option<&LivePage>,
+    meta: &Meta,
 ) -> bool
-    requires asked { MayBeAsked state.now latched.meta.now latched.page.now (option_copied first) }
+    requires made { FitsFile meta.now page.now }
+    requires asked { MayBeAsked state.now meta.now page.now (option_copied first) }
     ensures { IsTrue result
-        ↔ ((latched.entry.meta.now.live < latched.entry.meta.now.pages)
-        × MakesPage state.now latched.entry.meta.now latched.entry.page.now (option_copied first.entry)) }
+        ↔ ((meta.now.live < meta.now.pages) × MakesPage state.now meta.now page.now (option_copied first.entry)) }
 {
-    if latched.meta.pages <= latched.meta.live {
+    if meta.pages <= meta.live {
         return false;
     }
     match state {
-        Activity::PosterGrow { job } => may_grow(job, latched),
+        Activity::PosterGrow { job } => may_grow(job, page, meta),
         Activity::PosterAgain { job, .. } => match first {
-            Some(over) => lacks_room(alloc, job, over, latched),
+            Some(over) => lacks_room(alloc, job, over, page, meta),
             None => unreachable!(),
         },
         _ => false,

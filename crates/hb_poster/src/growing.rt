@@ -9,6 +9,7 @@ ghost use Rattle.hb_poster.specs.PosterRows.{MayGrow, PosterRow};
 
 use hb_activity::{Activity, Job, Latched, Next};
 use hb_frag::{Frag, Leaf, LivePage, Node};
+use hb_layout::Meta;
 use hb_layout::limits::HEIGHT_MAX;
 use hb_ops::Op;
 
@@ -19,7 +20,7 @@ pub(crate) fn grow(job: Job, root: Latched<'_>, free: Option<(u32, u32)>) -> Nex
     ensures { (pages : List (ℕ × OnePage)) → PosterRow (Activity.PosterGrow job)
         (given_sight root.entry.meta.now pages free) root.entry.id root.entry.page.now (deed_of (Activity.PosterGrow job) result) }
 {
-    if !may_grow(&job, root) {
+    if !may_grow(&job, root.page, root.meta) {
         return Next::moves(Activity::PosterIdle);
     }
     match free {
@@ -32,11 +33,10 @@ pub(crate) fn grow(job: Job, root: Latched<'_>, free: Option<(u32, u32)>) -> Nex
 
 /// Whether the file may get a level for the job: it is as high as the job's level, and the root
 /// gave a part of its box away.
-pub(crate) fn may_grow(job: &Job, root: Latched<'_>) -> bool
-    ensures { IsTrue result ↔ MayGrow (given_sight root.entry.meta.now [] None) job.now root.entry.page.now }
+pub(crate) fn may_grow(job: &Job, root: &LivePage, meta: &Meta) -> bool
+    ensures { IsTrue result ↔ MayGrow (given_sight meta.now [] None) job.now root.now }
 {
-    let height = root.meta.height;
-    height == job.level && height < HEIGHT_MAX && gave_away(root.page)
+    meta.height == job.level && meta.height < HEIGHT_MAX && gave_away(root)
 }
 
 // Whether the page gave a part of its box away.

@@ -9,9 +9,11 @@ ghost use Rattle.hb_poster.specs.Asks.{AsksMemory, LooksAgainBelow, LooksBelow, 
 ghost use Rattle.hb_poster.specs.PosterRows.{PosterRow, SplitsParent};
 ghost use Rattle.hb_terms.specs.Plans.{IsPlan};
 ghost use Rattle.hb_ops.specs.Owing.{LacksRoom};
+ghost use Rattle.hb_ops.specs.Sound.{FitsFile};
 
 use hb_activity::{Activity, Job, JobKind, Latched, Next, corner_of};
 use hb_frag::LivePage;
+use hb_layout::Meta;
 use hb_ops::Op;
 use hb_space::NoMemory;
 use hb_split::choose;
@@ -33,7 +35,7 @@ pub(crate) fn look(
         child.entry.id child.entry.page.now (deed_of (Activity.PosterChild job parent) next)) }
     ensures memory { OnErr result (PlansPosting child.entry.meta.now job over.now child.entry.page.now) }
 {
-    match plan_for(alloc, &job, over, child)? {
+    match plan_for(alloc, &job, over, child.page, child.meta)? {
         PostPlan::Nothing => Ok(Next::moves(Activity::PosterIdle)),
         PostPlan::Post { .. } | PostPlan::SplitFirst => {
             Ok(Next::moves(Activity::PosterPromote { job, parent }))
@@ -57,7 +59,7 @@ pub(crate) fn look_again(
         child.entry.id child.entry.page.now (deed_of (Activity.PosterAgain job parent) next)) }
     ensures memory { OnErr result (AsksMemory (Activity.PosterAgain job parent) child.entry.meta.now child.entry.page.now (Some over.now) free) }
 {
-    match plan_for(alloc, &job, over, child)? {
+    match plan_for(alloc, &job, over, child.page, child.meta)? {
         PostPlan::Nothing => Ok(Next::moves(Activity::PosterIdle)),
         PostPlan::Post { at, inner, area } => {
             let op = Op::Post {
@@ -77,12 +79,19 @@ pub(crate) fn look_again(
 
 /// Whether the parent has no room for what is to be posted. Memory is refused only where it has, and a
 /// posting is planned.
-#[tactic(auto, using(crate::proofs::ParentWeights::has_room))]
-pub(crate) fn lacks_room(alloc: Global, job: &Job, over: &LivePage, child: Latched<'_>) -> bool
-    requires { LooksBelow child.meta.now job.now over.now child.page.now }
-    ensures { IsTrue result ↔ LacksRoom over.now child.entry.page.now job.now.point child.entry.meta.now.icap }
+#[tactic(auto, using(crate::proofs::Facts::ParentWeights::has_room))]
+pub(crate) fn lacks_room(
+    alloc: Global,
+    job: &Job,
+    over: &LivePage,
+    child: &LivePage,
+    meta: &Meta,
+) -> bool
+    requires made { FitsFile meta.now child.now }
+    requires below { LooksBelow meta.now job.now over.now child.now }
+    ensures { IsTrue result ↔ LacksRoom over.now child.now job.now.point meta.now.icap }
 {
-    match plan_for(alloc, job, over, child) {
+    match plan_for(alloc, job, over, child, meta) {
         Ok(PostPlan::SplitFirst) => true,
         Ok(PostPlan::Nothing | PostPlan::Post { .. }) | Err(_) => false,
     }
@@ -93,13 +102,15 @@ fn plan_for(
     alloc: Global,
     job: &Job,
     over: &LivePage,
-    child: Latched<'_>,
+    child: &LivePage,
+    meta: &Meta,
 ) -> Result<PostPlan, NoMemory>
-    requires { LooksBelow child.meta.now job.now over.now child.page.now }
-    ensures plan { IfOk result (IsPlan over.now child.entry.page.now job.now.point child.entry.meta.now.icap) }
-    ensures memory { OnErr result (PlansPosting child.entry.meta.now job.now over.now child.entry.page.now) }
+    requires made { FitsFile meta.now child.now }
+    requires below { LooksBelow meta.now job.now over.now child.now }
+    ensures plan { IfOk result (IsPlan over.now child.now job.now.point meta.now.icap) }
+    ensures memory { OnErr result (PlansPosting meta.now job.now over.now child.now) }
 {
-    post_plan(alloc, over, child.page, &job.point, child.meta.icap)
+    post_plan(alloc, over, child, &job.point, meta.icap)
 }
 
 // The parent is split: the chosen part becomes a page of its own, whose posting one level up is a job,

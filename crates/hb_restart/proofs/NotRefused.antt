@@ -17,7 +17,7 @@ use Rattle.hb_store.specs.Opening.{OpensBy, OpensTo, IsPageIn, Shows, log_bytes,
 use Rattle.hb_store.specs.Replay.{Replayed, untouched, replay, after_group}
 use Rattle.hb_sound.specs.Names.{SoundBreaksNone}
 use Rattle.hb_restart.specs.Refusals.{IsUnsound, GoodIsNotRefused, HasLayout, LogSays, LacksPage}
-use Rattle.hb_restart.proofs.Numbered.{page_there_is}
+use Rattle.hb_ops.proofs.Facts.FilePages.{page_there}
 use Rattle.hb_restart.proofs.SoundFiles.{sound_names}
 use Rattle.hb_restart.specs.declared.faults.OpenFault.TheVariants as faults
 
@@ -48,7 +48,7 @@ least_size m = omega arith
 pub lacks_none : (b : List ℕ) (said : Meta) (t : Replayed) (s : FileState) (id : ℕ) → Shows b said t s → t.meta.high ≤ said.pages → LacksPage b said t id → ⊥
 lacks_none b said t s id shows few (least, most, (inl beyond)) = absurd (omega (arith, few, most, beyond))
 lacks_none b said t s id shows few (least, most, (inr none)) =
-    let there = page_there_is s.pages id least (let count = shows.count in omega (arith, count, most)) in
+    let there = page_there s.pages id least (let count = shows.count in omega (arith, count, most)) in
     none.1 there.0 (subst (λ (o : Option Page). IsPageIn b said id o there.0) none.0 (shows.each id there.0 there.1))
 
 -- where the groups of the log lead to a file, the bytes open to it

@@ -1,19 +1,13 @@
 -- A run of threads begins, and goes on by a turn.
-use Rattle.std.proofs.Common.{◌≡◌, ℕ, ◌+◌, ◌-◌, ◌≤◌, List, [], ◌∷◌, ◌++◌, length, IsSome, Result, Ok, sym, ap, ◌∙◌, subst, arith, length-append}
+use Rattle.std.proofs.Common.{◌≡◌, ℕ, ◌+◌, ◌-◌, ◌≤◌, List, [], ◌∷◌, ◌++◌, length, IsSome, Ok, sym, ap, ◌∙◌, subst, arith, length-append}
 use Rattle.std.specs.Coded.{le_prop}
-use Rattle.std.specs.List.{flat_map}
 use Rattle.std.proofs.Math.Logic.{∥∥₁_elim, ∥∥₁_map}
 use Rattle.std.proofs.lemmas.List.{length-map}
 use Rattle.std.proofs.lemmas.List.Sums.{count_by-le-length}
-use Rattle.std.proofs.lemmas.Grind.{flat_map-append}
 use Rattle.hb_disk.specs.Model.{DiskModel, IsDisk}
-use Rattle.hb_outside.specs.Calls.{SinkModel, Puts, PutsOn}
-use Rattle.hb_outside.specs.declared.traits.Failed.{Failed}
-use Rattle.hb_outside.proofs.Facts.PutLaws.{has_put_more}
 use Rattle.hb_set.specs.declared.scripts.Answered.{Answered}
 use Rattle.hb_set.specs.declared.scripts.Line.{Line}
 use Rattle.hb_space.specs.Actors.{IsActor}
-use Rattle.hb_text.specs.Output.{answer_text}
 use Rattle.hb_core.specs.declared.outcomes.Outcome.{Outcome}
 use Rattle.hb_core.specs.Machines.{Machine}
 use Rattle.hb_core.specs.Performing.{given_by}
@@ -23,7 +17,7 @@ use Rattle.hb_core.specs.Steps.{StepsTo}
 use Rattle.hb_core.specs.Touching.{Touches}
 use Rattle.hb_core.specs.Working.{MayStep}
 use Rattle.hb_core.proofs.Facts.RunSteps.{may_go_on, run_begins, run_by_step, run_of_step}
-use Rattle.hb_drive.proofs.Facts.AnswerTexts.{has_put_none}
+use Rattle.hb_drive.proofs.Facts.AnswerTexts.{has_put_none, puts_given}
 use Rattle.hb_run.specs.Beginnings.{Beginning}
 use Rattle.hb_run.specs.Courses.{Course, KeepsRun, ShowsLeft, TakesTurn}
 
@@ -87,13 +81,6 @@ room_on was now old given new taken left room more was_is now_is new_is same fit
     let long = ap (λ (l : List Answered). length l) new_is ∙ length-append old given in
     omega (arith, was_is, now_is, long, same, fits, has, grown)
 
-more_text : (b : SinkModel) (put later : Result (Unit {0}) Failed) (mid after : SinkModel) (answers given all : List Answered) → all ≡ answers ++ given → Puts (flat_map answer_text answers) put b mid
-    → PutsOn put (flat_map answer_text given) later mid after → Puts (flat_map answer_text all) later b after
-more_text b put later mid after answers given all is first more =
-    let P : List ℕ → Type 0 = λ t. Puts t later b after in
-    subst P (sym (ap (flat_map answer_text) is ∙ flat_map-append answer_text answers given))
-    (has_put_more b mid after put later (flat_map answer_text answers) (flat_map answer_text given) first more)
-
 count_on : (before given all left now lines : ℕ) → all ≡ before + given → given + now ≡ left → before + left ≡ lines → all + now ≡ lines
 count_on before given all left now lines is less kept = omega (arith, is, less, kept)
 
@@ -102,7 +89,7 @@ goes_on laws b actor outcome old new may disk disk_next keeps turn = record {
   begun = keeps.begun;
   actors = keeps.actors ++ actor ∷ [];
   runs = λ m begun. subst (λ (l : List Answered). HasRun b.disk m (keeps.actors ++ actor ∷ []) l new.disk new.core) (sym turn.answers) (run_on laws b old actor outcome turn.at new.disk new.core keeps took m begun);
-  text = more_text b.sink old.put new.put old.sink new.sink old.answers (given_by outcome turn.at) new.answers turn.answers keeps.text turn.written;
+  text = puts_given b.sink old.sink new.sink old.put new.put old.answers new.answers (given_by outcome turn.at) turn.answers keeps.text turn.written;
   left_is = λ m begun. count_on (length old.answers) (length (given_by outcome turn.at)) (length new.answers) old.left new.left (left_count m) many turn.left_is (keeps.left_is m begun);
 }
   where

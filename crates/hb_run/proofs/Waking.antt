@@ -9,6 +9,7 @@ use Rattle.hb_run.specs.Turning.{CountsMove, IsNews, is_done, is_due, is_so, job
 use Rattle.hb_run.specs.declared.turns.News.{News}
 use Rattle.hb_run.specs.declared.turns.Pause.{Pause}
 use Rattle.hb_run.specs.declared.turns.Pause.TheVariants as pauses
+use Rattle.std.proofs.Math.Bool.{and-true}
 
 second : (a b : Bool) → (a && b) ≡ true → b ≡ true
 second true b is = is
@@ -21,10 +22,6 @@ first false b is = absurd (false≢true is)
 or_true : (a : Bool) → (a || true) ≡ true
 or_true true = refl
 or_true false = refl
-
-and_true : (a : Bool) → (a && true) ≡ a
-and_true true = refl
-and_true false = refl
 
 -- what waits for two things, of which one has come
 come : (stopped none : Bool) → (not stopped && none) ≡ false → stopped ≡ false → none ≡ false
@@ -55,7 +52,7 @@ place_came place round s t r q was_coming false was gone = or_true (not ((s == t
 place_came place round s t r q was_coming true was gone =
     if_same s t (λ b. (not (b && (r == q)) || false) ≡ true)
     (λ same. if_same r q (λ b. (not (true && b) || false) ≡ true)
-    (λ also. absurd (false≢true (sym gone ∙ and_true (not (nat_lt place t) && (q == round)) ∙ ap (λ n. not (nat_lt place t) && (n == round)) (sym also) ∙ ap (λ n. not (nat_lt place n) && (r == round)) (sym same)
+    (λ also. absurd (false≢true (sym gone ∙ and-true (not (nat_lt place t) && (q == round)) ∙ ap (λ n. not (nat_lt place t) && (n == round)) (sym also) ∙ ap (λ n. not (nat_lt place n) && (r == round)) (sym same)
     ∙ first (not (nat_lt place s) && (r == round)) was_coming was)))
     (λ apart. refl))
     (λ apart. refl)

@@ -14,6 +14,7 @@ use Rattle.hb_sound.specs.Covers.{SeesTop}
 use Rattle.hb_sound.specs.Facts.{AreFactsOf, IsFactOf, IsSeenOf, if_next, if_seen, next_at, seen_at}
 use Rattle.hb_sound.specs.Told.{HasBoundedMeta, item_at, file_with}
 use Rattle.hb_sound.specs.Walks.{if_free, next_free}
+use Rattle.hb_ops.proofs.Facts.PageNumberLaws.{page_at-zero}
 
 page_slice : (list : List Page) (n : ℕ) → page_at list (suc n) ≡ slice_get list n
 page_slice [] n = refl
@@ -27,12 +28,8 @@ page_slice (first ∷ rest) (suc k) =
     ∙ ap (λ (n : ℕ). page_at rest n) less
     ∙ page_slice rest k
 
-pub page_none : (list : List Page) → page_at list 0 ≡ None
-page_none [] = refl
-page_none (first ∷ rest) = refl
-
 pub page_item : (list : List Page) (id : ℕ) → page_at list id ≡ item_at list id
-page_item list zero = page_none list
+page_item list zero = page_at-zero list
 page_item list (suc n) = page_slice list n
 
 -- a fact and its page, or neither

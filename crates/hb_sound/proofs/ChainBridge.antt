@@ -14,7 +14,8 @@ use Rattle.hb_sound.specs.Facts.{AreFactsOf, next_at}
 use Rattle.hb_sound.specs.Names.{NamesFree}
 use Rattle.hb_sound.specs.Told.{file_with}
 use Rattle.hb_sound.specs.Walks.{IsLeast, IsLeftOut, IsChainWalk, LeadsAlong, if_free, next_free}
-use Rattle.hb_sound.proofs.Bridge.{next_same, page_none}
+use Rattle.hb_sound.proofs.Bridge.{next_same}
+use Rattle.hb_ops.proofs.Facts.PageNumberLaws.{page_at-zero}
 
 contains_at : {X : Type 0} (x y : X) (xs : List X) (k : ℕ) → k < length (x ∷ xs) → slice_index_or (x ∷ xs) k y ≡ y → (x ≡ y) ⊎ Contains xs y
 contains_at {X} x y xs zero lt e = inl e
@@ -97,7 +98,7 @@ free_so (Some (pages.Live page)) n e = let never : None ≡ Some n = e in cc
 free_so (Some (pages.Free own)) n e = let is : own ≡ n = cc in ap (λ (m : ℕ). Some (pages.Free m)) is
 
 none_at_zero : (s : FileState) → next_free s 0 ≡ None
-none_at_zero s = ap if_free (page_none s.pages)
+none_at_zero s = ap if_free (page_at-zero s.pages)
 
 -- the chain of the file, and the walk
 leads_chain : (s : FileState) (head end : ℕ) (chain : List ℕ) → end ≡ 0 → LeadsAlong (next_free s) head chain end → IsChain s head chain

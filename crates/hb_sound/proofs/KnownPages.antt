@@ -16,6 +16,7 @@ use Rattle.hb_sound.specs.declared.rests.Rest.TheVariants.{Nothing, Lone, More}
 use Rattle.hb_sound.specs.Facts.{FindsBelow, if_seen, seen_at}
 use Rattle.hb_sound.specs.Links.{IsRestOf, Knows, KnowsTold}
 use Rattle.hb_sound.specs.Told.{GivesPage, item_at}
+use Rattle.hb_lemmas.proofs.Lists.{get-push_cases}
 
 -- an item of a list stays where it is when one more comes
 slice_later : {A : Type 0} (xs : List A) (x : A) (n : ℕ) (y : A) → slice_get xs n ≡ Some y → slice_get (xs ++ x ∷ []) n ≡ Some y
@@ -28,15 +29,9 @@ item_later {A} xs x zero y e = let never : None ≡ Some y = e in cc
 item_later {A} xs x (suc n) y e = slice_later xs x n y e
 
 -- and each item is one of before, or the one that came
-slice_end : {A : Type 0} (xs : List A) (x : A) (n : ℕ) (y : A) → slice_get (xs ++ x ∷ []) n ≡ Some y → (slice_get xs n ≡ Some y) ⊎ ((n ≡ length xs) × (x ≡ y))
-slice_end {A} [] x zero y e = inr (refl, cc)
-slice_end {A} [] x (suc n) y e = absurd (let never : None ≡ Some y = e in cc)
-slice_end {A} (z ∷ xs) x zero y e = inl e
-slice_end {A} (z ∷ xs) x (suc n) y e = elim (slice_end xs x n y e) [ inl before ↦ inl before | inr last ↦ inr (ap suc last.0, last.1) ]
-
 item_end : {A : Type 0} (xs : List A) (x : A) (id : ℕ) (y : A) → item_at (xs ++ x ∷ []) id ≡ Some y → (item_at xs id ≡ Some y) ⊎ ((id ≡ length xs + 1) × (x ≡ y))
 item_end {A} xs x zero y e = inl e
-item_end {A} xs x (suc n) y e = elim (slice_end xs x n y e) [
+item_end {A} xs x (suc n) y e = elim (get-push_cases xs x n y e) [
   | inl before ↦ inl before
   | inr last ↦ let at = last.0 in inr (omega (arith, at), last.1)
 ]

@@ -1,5 +1,5 @@
 -- The first page of the whole space of each level.
-use Rattle.std.proofs.Common.{◌≡◌, ◌≢◌, ◌⊎◌, inl, inr, ℕ, zero, suc, ◌+◌, ◌==◌, true, not, List, [], ◌∷◌, ◌++◌, length, Option, Some, None, slice_get, refl, sym, ap, ◌∙◌, subst, arith}
+use Rattle.std.proofs.Common.{◌≡◌, ◌≢◌, inl, inr, ℕ, ◌+◌, ◌==◌, true, not, List, [], ◌∷◌, ◌++◌, length, Option, Some, None, slice_get, refl, sym, ap, ◌∙◌, subst, arith}
 use Rattle.std.proofs.lemmas.Bool.{eq-eqb, false≢true, ne_eqb}
 use Rattle.hb_space.specs.Boxes.{Area}
 use Rattle.hb_sound.specs.declared.page_facts.Seen.{Seen}
@@ -10,14 +10,9 @@ use Rattle.hb_sound.specs.Covers.{AreFirsts, HasBox, IsLooseSeen, SeesSome}
 use Rattle.hb_sound.specs.Facts.{if_seen, seen_at}
 use Rattle.hb_sound.specs.Told.{item_at}
 use Rattle.hb_sound.specs.Walks.{IsLeast}
+use Rattle.hb_lemmas.proofs.Lists.{get-push_cases}
 
 -- an item of a list with one more at the end
-at_end : (xs : List ℕ) (x : ℕ) (n y : ℕ) → slice_get (xs ++ x ∷ []) n ≡ Some y → (slice_get xs n ≡ Some y) ⊎ ((n ≡ length xs) × (y ≡ x))
-at_end [] x zero y e = inr (refl, cc)
-at_end [] x (suc n) y e = absurd (let never : None ≡ Some y = e in cc)
-at_end (z ∷ xs) x zero y e = inl e
-at_end (z ∷ xs) x (suc n) y e = elim (at_end xs x n y e) [ inl before ↦ inl before | inr last ↦ inr (ap suc last.0, last.1) ]
-
 long_end : (xs : List ℕ) (x : ℕ) → length (xs ++ x ∷ []) ≡ length xs + 1
 long_end [] x = refl
 long_end (z ∷ xs) x = let rest = long_end xs x in omega (arith, rest)
@@ -26,12 +21,12 @@ pub firsts_on : (facts : List Fact) (level : ℕ) (whole : Area) (firsts : List 
     → IsLeast (SeesSome (HasBox level whole) facts) first → AreFirsts facts (level + 1) whole (firsts ++ first ∷ [])
 firsts_on facts level whole firsts first are is = (
   long_end firsts first ∙ ap (λ (n : ℕ). n + 1) are.0,
-  λ at item e. elim (at_end firsts first at item e) [
+  λ at item e. elim (get-push_cases firsts first at item e) [
     | inl before ↦ are.1 at item before
     | inr last ↦
         let Q : ℕ → Type 0 = λ n. IsLeast (SeesSome (HasBox n whole) facts) item in
         let P : ℕ → Type 0 = λ n. IsLeast (SeesSome (HasBox level whole) facts) n in
-        subst Q (sym (last.0 ∙ are.0)) (subst P (sym last.1) is)
+        subst Q (sym (last.0 ∙ are.0)) (subst P last.1 is)
   ],
 )
 

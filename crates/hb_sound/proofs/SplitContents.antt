@@ -1,5 +1,5 @@
 -- A split leaves the contents as they are: each record stands in a leaf before exactly where it does afterwards.
-use Rattle.std.proofs.Common.{◌≡◌, ℕ, ◌<◌, ◌≤◌, inl, inr, List, [], ◌∷◌, length, Option, Some, None, refl, sym, ap, subst, ◌∙◌, arith}
+use Rattle.std.proofs.Common.{◌≡◌, ℕ, ◌<◌, ◌≤◌, inl, inr, List, [], ◌∷◌, length, Some, refl, sym, ap, subst, ◌∙◌, arith}
 use Rattle.std.specs.FinMap as finite
 use Rattle.std.proofs.lemmas.Bool.{cases_eq}
 use Rattle.std.proofs.lemmas.Cmp.{nat_list_cmp_total}
@@ -28,6 +28,7 @@ use Rattle.std.proofs.lemmas.Option.{same_Some}
 use Rattle.hb_sound.proofs.SplitSound.{comes_from, split_sound}
 use Rattle.hb_sound.proofs.Widths.{width, width_between}
 use Rattle.hb_space.proofs.Facts.PointOrder.{exact_points}
+use Rattle.hb_lemmas.proofs.Options.{same_options}
 
 -- a record of a leaf of a page is one of the file
 pub in_file : (s : FileState) (id : ℕ) (page : LivePage) (r : Record) → live_page s id ≡ Some page → page.level ≡ 0 → AmongLeaves (leaves_of page.frag page.area) r → HasRecord s r
@@ -75,11 +76,6 @@ has_attributes : (s : FileState) (x : Extraction) (page source fresh : LivePage)
 has_attributes s x page source fresh made parts = let some = wide_has_some page.area (width fresh.area) parts.narrower in let k = made.fits.attributes in omega (arith, some, k)
 
 -- two sound files with the same records have the same contents
-same_options : {A : Type 0} (a b : Option A) → ((v : A) → a ≡ Some v → b ≡ Some v) → ((v : A) → b ≡ Some v → a ≡ Some v) → a ≡ b
-same_options (Some v) b there back = sym (there v refl)
-same_options None (Some v) there back = back v refl
-same_options None None there back = refl
-
 module _ (trees : TreeLaws) (space : SpaceLaws) (points : (a : Area) (p : List ℕ) → IsArea a → Holds a p → IsPoint p) (standing : RecordsAreContents) where
   has_body : (s : FileState) (r : Record) → IsSound s → 1 ≤ s.meta.k → s.meta.k ≤ KMAX → HasRecord s r → finite.get (contents_of s) r.key ≡ Some r.body
   has_body s r sound some few h =

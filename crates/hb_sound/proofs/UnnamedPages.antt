@@ -1,19 +1,16 @@
 -- How often a file counts the name of a sibling leaf, and that no leaf of a sound file names a page that isn't in use.
-use Rattle.std.proofs.Common.{◌≡◌, ℕ, zero, suc, ◌+◌, ◌≤◌, inl, inr, Bool, cond, List, [], ◌∷◌, slice_get, Some, refl, ap, subst, arith, eqb, eq-eqb}
+use Rattle.std.proofs.Common.{◌≡◌, ℕ, zero, suc, ◌+◌, ◌≤◌, inl, inr, Bool, cond, List, [], ◌∷◌, slice_get, Some, refl, ap, arith, eqb, eq-eqb}
 use Rattle.std.specs.List.{Contains}
-use Rattle.std.proofs.lemmas.List.Elements.{Contains-append_cases, Contains-append_left, Contains-append_right}
-use Rattle.hb_lemmas.proofs.Lists.{first_member, member_cases, only_one}
-use Rattle.hb_space.specs.Boxes.{Area, side_below, side_from}
-use Rattle.hb_frag.specs.declared.leaves.Leaf.{Leaf}
+use Rattle.hb_lemmas.proofs.Lists.{member_cases}
+use Rattle.hb_space.specs.Boxes.{Area}
 use Rattle.hb_frag.specs.declared.leaves.Leaf.TheVariants.{Child, Sibling}
 use Rattle.hb_frag.specs.declared.pages.LivePage.{LivePage}
 use Rattle.hb_frag.specs.declared.pages.Page.{Page}
 use Rattle.hb_frag.specs.declared.pages.Page.TheVariants.{Live, Free}
-use Rattle.hb_frag.specs.Leaves.{Placed, leaves, leaves_of, siblings_of}
-use Rattle.hb_frag.specs.Trees.{Tree, Tip, Cut}
+use Rattle.hb_frag.specs.Leaves.{leaves_of, siblings_of}
 use Rattle.hb_ops.specs.Files.{FileState, live_page}
 use Rattle.hb_ops.specs.Sound.{count_name, times_named}
-use Rattle.hb_ops.proofs.Facts.PlacedLaws.{leaf_is_sibling, placed}
+use Rattle.hb_ops.proofs.Facts.PlacedLaws.{leaf_is_sibling, placed_leaf}
 use Rattle.hb_sound.specs.LawsOfMerges.{FreePagesAreNotNamed}
 use Rattle.hb_sound.proofs.Facts.PagePlaces.{place_of}
 
@@ -41,17 +38,6 @@ named_some s id name page a live has =
     let few = page_counted s.pages here.0 page name here.2 in
     let some = counted_some name (siblings_of page) a has in
     omega (arith, few, some)
-
--- each leaf of a tree has a box
-placed_leaf : (t : Tree) (area : Area) (l : Leaf) → Contains (leaves t) l → (a : Area) × Contains (leaves_of t area) (placed l a)
-placed_leaf (Tip leaf) area l h = (area, subst (λ (m : Leaf). Contains (placed leaf area ∷ []) (placed m area)) (only_one leaf l h) (first_member (placed leaf area) []))
-placed_leaf (Cut axis value left right) area l h =
-    let below : List Placed = leaves_of left (side_below area axis value) in
-    let from : List Placed = leaves_of right (side_from area axis value) in
-    elim (Contains-append_cases (leaves left) (leaves right) l h) [
-      | inl here ↦ let w = placed_leaf left (side_below area axis value) l here in (w.0, Contains-append_left below from (placed l w.0) w.1)
-      | inr there ↦ let w = placed_leaf right (side_from area axis value) l there in (w.0, Contains-append_right below from (placed l w.0) w.1)
-    ]
 
 pub free_pages_are_not_named : FreePagesAreNotNamed
 free_pages_are_not_named s free id page sound vacant live = (

@@ -14,6 +14,7 @@ use Rattle.hb_split.specs.Steps.{AreOf}
 use Rattle.hb_split.proofs.Nexts.{differs}
 use Rattle.hb_split.proofs.Thirds.{both}
 use Rattle.hb_lemmas.proofs.Booleans.{if_below, if_same}
+use Rattle.std.proofs.lemmas.List.Sums.{length-filter, count_by-le-length}
 
 -- the last place up to a bound at which a count is still small
 last_small : (f : ℕ → ℕ) (l bound : ℕ) → f 0 ≤ l → (v : ℕ) × (f v ≤ l) × ((v ≡ bound) ⊎ (l < f (v + 1)))
@@ -103,10 +104,6 @@ off_is axis v (r ∷ rest) =
 abbrev pub LeavesFew : ℕ → ℕ → List Record → Type 0
 LeavesFew k l records = (axis value : ℕ) → MayCut k axis value records → (count_on Left axis value records ≤ l) ⊎ (count_on Right axis value records ≤ l)
 
-fewer : (p : Record → Bool) (records : List Record) → length (filter p records) ≤ length records
-fewer p [] = omega arith
-fewer p (r ∷ rest) = let h = fewer p rest in elim (p r) as (λ (b : Bool). length (cond b (r ∷ filter p rest) (filter p rest)) ≤ suc (length rest)) [ true ↦ omega (arith, h) | false ↦ omega (arith, h) ]
-
 -- then nearly all have one value in an attribute
 center : (k l axis : ℕ) (records : List Record) → axis < k → LeavesFew k l records → (v : ℕ) × (off axis v records ≤ 2 * l)
 center k l axis records lt few =
@@ -121,8 +118,9 @@ center k l axis records lt few =
       elim first.2 [
         | inl at ↦
             let whole : length records ≤ below axis v records = subst (λ (n : ℕ). length records ≤ below axis n records) (sym at) all in
-            let f = fewer (is_off axis v) records in
-            omega (arith, small, whole, f)
+            let counted = length-filter (is_off axis v) records in
+            let few = count_by-le-length (is_off axis v) records in
+            omega (arith, small, whole, counted, few)
         | inr gt ↦
             let second = last_small (λ n. below axis n records) (below axis (v + 1) records) b.0 (omega (arith, start)) in
             let w = second.0 in

@@ -2,7 +2,6 @@ pub mod FreshLaws
 pub mod ReplayLaws
 pub mod StayingLaws
 pub mod StayedDisks
-pub mod PageOnlyLaws
 pub mod StoreLaws
 pub mod Spellings
 pub mod MadeMeta

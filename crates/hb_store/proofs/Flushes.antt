@@ -33,4 +33,4 @@ module _ {T : Type 0} (result : Result T WriteFault) (d e : DiskModel) (old new 
 
 -- and if it has none nothing is done
 pub flushes_none : {T : Type 0} (x : T) (d : DiskModel) (held : StoreHeld) → oldest_dirty held.uses ≡ None → held.state.log.written ≡ 0 → FlushesHome (Ok x) d d held held
-flushes_none x d held none empty = subst (ByOldest (Ok x) d d held held) (sym none) (inr (empty, refl, ReadsOnly-none d (λ never. never), refl))
+flushes_none x d held none empty = subst (ByOldest (Ok x) d d held held) (sym none) (inr (empty, refl, record { only = ReadsOnly-none d (λ never. never); keeps = λ durable later keeps. keeps }, refl))

@@ -40,7 +40,7 @@ module _ (d : DiskModel) (st : StoreState) (durable : FileState) (later : List F
 pub head_allocates : (old new : StoreState) (next : ℕ) → IsMemory new → MayFetch old.meta.free old new → old.meta.live ≢ old.meta.pages → old.meta.free ≢ 0
     → in_memory new old.meta.free ≡ Some (Free next) → Allocates new.meta old.meta.free next
 head_allocates old new next is fetch few some there =
-    let same : new.meta ≡ old.meta = elim fetch [ inl e ↦ ap (λ (st : StoreState). st.meta) e | inr f ↦ f.rest.meta ] in
+    let same : new.meta ≡ old.meta = elim fetch [ inl e ↦ ap (λ (st : StoreState). st.meta) e | inr f ↦ ap (λ (st : StoreState). st.meta) f.rest ] in
     let few_now : new.meta.live ≢ new.meta.pages = subst (λ (m : Meta). m.live ≢ m.pages) (sym same) few in
     let some_now : new.meta.free ≢ 0 = subst (λ (m : Meta). m.free ≢ 0) (sym same) some in
     let at = is.good old.meta.free (Free next) there in

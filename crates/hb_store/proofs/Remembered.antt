@@ -184,7 +184,7 @@ module _ {T : Type 0} (turn : ℕ) (meta : Meta) (log : LogState) (s : bag.HashS
 
   pub fetched_then : Fetched id st after
   fetched_then = record {
-    rest = record { turn = refl; meta = refl; log = refl; in_log = refl; dirty = ap (λ (l : List ℕ). set.from_list {R = nat_cmp} l) (dirty_brought pool id bytes); stopped = refl };
+    rest = ap (λ (l : List ℕ). let st : StoreState = record after { dirty = set.from_list {R = nat_cmp} l } in st) (dirty_brought pool id bytes);
     there = ap (λ (o : Option Page). is_some o) (page_seen now id ∙ page_here);
     same = λ some. let never : false ≡ true = sym (ap (λ (o : Option Page). is_some o) (page_seen pool id ∙ ap page_had absent)) ∙ some in cc never;
     others = λ q other. none_comes turn meta meta log log s s stopped pool now q is (others pool id bytes false is absent place q other);

@@ -1,5 +1,5 @@
 -- What a store's switch is, once its calls are done, and where one of them failed.
-use Rattle.std.proofs.Common.{◌≡◌, ℕ, ◌+◌, ◌≤◌, false, [], Option, None, Result, Ok, Err, IsSome, refl, subst, arith}
+use Rattle.std.proofs.Common.{◌≡◌, ℕ, ◌+◌, ◌≤◌, false, List, [], Option, None, Result, Ok, Err, IsSome, refl, subst, arith}
 use Rattle.hb_disk.specs.Model.{DiskModel, IsDisk}
 use Rattle.hb_disk.specs.Calls.{Leaves}
 use Rattle.hb_disk.specs.Runs.{Rewrites}
@@ -27,6 +27,7 @@ use Rattle.hb_store.proofs.AfterForce.{written_fits}
 use Rattle.hb_store.proofs.SwitchKept.{keeps_switched, may_turn}
 use Rattle.hb_store.proofs.SwitchStopped.{keeps_not_switched}
 use Rattle.hb_store.proofs.Switched.{none_dirty}
+use Rattle.hb_store.proofs.Facts.StoreLaws.{StoreKeeps-idle}
 use Rattle.hb_store.proofs.Facts.Turned.{either_to, now_has}
 
 -- A store that may begin its next turn, and what the calls left, which were told the next turn and what the file says of itself.
@@ -34,6 +35,7 @@ pub record IsToTurn (d : DiskModel) (old : StoreHeld) : Type 0 where
   pub memory : IsMemory old.state
   pub tied : IsTied old.state old.uses
   pub may : MayWriteGroups d old.state
+  pub idle : old.state.log.groups ≡ []
   pub clean : oldest_dirty old.uses ≡ None
   pub room : file_size old.state.meta ≤ d.size
 
@@ -52,10 +54,10 @@ module _ (d e : DiskModel) (is_e : IsDisk e) (old : StoreHeld) (to_turn : IsToTu
     either : (durable : FileState) (keeps : StoreKeeps d old.state durable []) → Leaves d e (OpensByEither old.state.turn keeps.parts.said old.state.meta (written_pages keeps.parts).page durable)
     either durable keeps = turns.moments old.state.turn keeps.parts.said (written_pages keeps.parts).page durable turn_is (may durable keeps)
 
-    moments : (durable : FileState) → StoreKeeps d old.state durable [] → Leaves d e (λ c. OpensTo c durable)
-    moments durable keeps =
+    moments : (durable : FileState) (later : List FileState) → StoreKeeps d old.state durable later → Leaves d e (λ c. OpensTo c durable)
+    moments = StoreKeeps-idle d old.state (λ durable later. Leaves d e (λ c. OpensTo c durable)) to_turn.idle (λ durable keeps.
         Leaves-weaker d e (OpensByEither old.state.turn keeps.parts.said old.state.meta (written_pages keeps.parts).page durable) (λ c. OpensTo c durable)
-        (λ c opens. either_to old.state.turn keeps.parts.said old.state.meta (written_pages keeps.parts).page durable c opens) (either durable keeps)
+        (λ c opens. either_to old.state.turn keeps.parts.said old.state.meta (written_pages keeps.parts).page durable c opens) (either durable keeps))
 
     wrote : Rewrites (TornSwitch old.state.turn old.state.meta) 9 result d e
     wrote = turns.wrote old.state.turn turn_is
@@ -72,9 +74,9 @@ module _ (d e : DiskModel) (is_e : IsDisk e) (old : StoreHeld) (to_turn : IsToTu
       record {
         switched = refl;
         stopped = tt;
-        keeps = λ durable keeps.
+        keeps = StoreKeeps-idle d old.state (StoreKeeps e (switched_state old.state)) to_turn.idle (λ durable keeps.
             keeps_switched d old.state to_turn.memory to_turn.may.running clean durable keeps e is_e (omega (arith, same, room))
-            (subst (λ (n : ℕ). IsFresh e n old.state.meta durable) turn_is (fresh old.state.turn keeps.parts.said (written_pages keeps.parts).page durable turn_is (may durable keeps)));
+            (subst (λ (n : ℕ). IsFresh e n old.state.meta durable) turn_is (fresh old.state.turn keeps.parts.said (written_pages keeps.parts).page durable turn_is (may durable keeps))));
         moments = moments result turns;
         wrote = let done : Result Flushed WriteFault = Ok flushed.Switched in Rewrites-as result done (TornSwitch old.state.turn old.state.meta) 9 9 d e (λ failed. cc) (λ failed. cc) (omega arith) run;
         clock = clock;
@@ -89,11 +91,11 @@ module _ (d e : DiskModel) (is_e : IsDisk e) (old : StoreHeld) (to_turn : IsToTu
       record {
         switched = tt;
         stopped = (refl, refl);
-        keeps = λ durable keeps.
+        keeps = StoreKeeps-idle d old.state (StoreKeeps e (stopped_state old.state)) to_turn.idle (λ durable keeps.
             let told = some_value d.told keeps.disk.told in
             keeps_not_switched d e old.state to_turn.memory to_turn.may.running durable keeps run.became
             (now_has d e (OpensByEither old.state.turn keeps.parts.said old.state.meta (written_pages keeps.parts).page durable) is_e (either result turns durable keeps))
-            (written_fits d old.state.log keeps.parts.payloads (keeps.disk.running to_turn.may.running).logged told.0 told.1);
+            (written_fits d old.state.log keeps.parts.payloads (keeps.disk.running to_turn.may.running).logged told.0 told.1));
         moments = moments result turns;
         wrote = let done : Result Flushed WriteFault = Err stops in Rewrites-as result done (TornSwitch old.state.turn old.state.meta) 9 9 d e (λ failed. refl) (λ failed. refl) (omega arith) run;
         clock = λ tells. tt;

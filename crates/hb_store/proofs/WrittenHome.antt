@@ -27,7 +27,7 @@ use Rattle.hb_store.specs.States.{IsMemory, StoreState, in_memory, is_dirty}
 use Rattle.hb_store.specs.WritingHome.{WritesHome}
 use Rattle.hb_store.specs.declared.stops.WriteFault.{WriteFault}
 use Rattle.hb_store.proofs.Facts.PlaceWrites.{ok_tick, page_written}
-use Rattle.hb_store.proofs.Facts.StoreLaws.{StoreKeeps-alone, StoreKeeps-running}
+use Rattle.hb_store.proofs.Facts.StoreLaws.{StoreKeeps-idle, StoreKeeps-running}
 use Rattle.hb_store.proofs.HomeWrites.{images_home, keeps_home, keeps_not_home}
 
 -- the least recently used dirty page has the frame that is found first
@@ -93,20 +93,8 @@ module _ (d e : DiskModel) (is_disk : IsDisk d) (is_new : IsDisk e) (old : Store
     wrote_place : Rewrites (Torn (page_offset old.state.meta id) PAGE) 1 r d e
     wrote_place = Rewrites-write r at bytes (page_offset old.state.meta id) PAGE d e is_disk is_new (place_fits d old id at to_write bytes page spells) (omega (arith, to_write.here)) (omega (arith, to_write.here, spells.long)) writes
 
-    -- no group waits, so no file is to come
-    alone : (durable : FileState) (later : List FileState) → StoreKeeps d old.state durable later → later ≡ []
-    alone durable later keeps = StoreKeeps-alone d old.state durable later keeps to_write.idle
-
-    kept_alone : (new : StoreState) → ((durable : FileState) → StoreKeeps d old.state durable [] → StoreKeeps e new durable [])
-        → (durable : FileState) (later : List FileState) → StoreKeeps d old.state durable later → StoreKeeps e new durable later
-    kept_alone new kept durable later keeps =
-        let none = alone durable later keeps in
-        let Before : List FileState → Type 0 = λ l. StoreKeeps d old.state durable l in
-        let After : List FileState → Type 0 = λ l. StoreKeeps e new durable l in
-        subst After (sym none) (kept durable (subst Before none keeps))
-
-    moments_home : (durable : FileState) → StoreKeeps d old.state durable [] → Leaves d e (λ c. OpensTo c durable)
-    moments_home durable keeps =
+    moments_home : (durable : FileState) (later : List FileState) → StoreKeeps d old.state durable later → Leaves d e (λ c. OpensTo c durable)
+    moments_home = StoreKeeps-idle d old.state (λ durable later. Leaves d e (λ c. OpensTo c durable)) to_write.idle (λ durable keeps.
         let p = keeps.parts in
         let P : List ℕ → Type 0 = λ c. OpensTo c durable in
         Leaves-call r d d e P (Leaves-start d P is_disk (StoreKeeps-running d old.state durable [] keeps to_write.going)) writes.ticks
@@ -116,7 +104,7 @@ module _ (d e : DiskModel) (is_disk : IsDisk d) (is_new : IsDisk e) (old : Store
           payloads = p.payloads;
           groups = p.written;
           by = images_home d e old.state to_write.memory to_write.going to_write.idle id to_write.dirty durable keeps wrote_place.became c image;
-        })
+        }))
 
   -- it was written
   pub written_home : {T X E : Type 0} (x : T) (y : X) → Writes {T = X} {E = E} at bytes (Ok y) d e → WritesHome (Ok x) id d e old (cleaned_held id old)
@@ -126,7 +114,7 @@ module _ (d e : DiskModel) (is_disk : IsDisk d) (is_new : IsDisk e) (old : Store
       record {
         cleaned = refl;
         stopped = tt;
-        keeps = kept_alone r writes (cleaned_held id old).state (λ durable keeps.
+        keeps = StoreKeeps-idle d old.state (StoreKeeps e (cleaned_held id old).state) to_write.idle (λ durable keeps.
             let layout = keeps.memory.layout in
             keeps_home d e old.state to_write.memory to_write.going to_write.idle id to_write.dirty durable keeps run.became page has
             (page_written d e is_disk at bytes keeps.parts.said id page (to_write.here ∙ ap (λ (n : ℕ). 8192 + 2 * n + 4096 * (id - 1)) layout.log) spells
@@ -146,7 +134,7 @@ module _ (d e : DiskModel) (is_disk : IsDisk d) (is_new : IsDisk e) (old : Store
       record {
         cleaned = tt;
         stopped = (refl, refl);
-        keeps = kept_alone r writes (stopped_state old.state) (λ durable keeps. keeps_not_home d e old.state to_write.memory to_write.going to_write.idle id to_write.dirty durable keeps run.became);
+        keeps = StoreKeeps-idle d old.state (StoreKeeps e (stopped_state old.state)) to_write.idle (λ durable keeps. keeps_not_home d e old.state to_write.memory to_write.going to_write.idle id to_write.dirty durable keeps run.became);
         moments = moments_home r writes;
         wrote = Rewrites-as r (Err fault) (Torn (page_offset old.state.meta id) PAGE) 1 1 d e (λ h. h) (λ h. h) (omega arith) run;
         clock = λ told. tt;

@@ -1,5 +1,5 @@
 -- What a fetch and a commit do to what a store is seen as.
-use Rattle.std.specs.Prelude.{◌≡◌, ◌≢◌, ℕ, ◌-◌, ◌<◌, ◌≤◌, ◌||◌, false, true, IsTrue, List, [], ◌∷◌, ◌++◌, get_or, map, Option, IsSome, is_some, IsSomeAnd, ◌⊎◌, None, if◌then◌else◌}
+use Rattle.std.specs.Prelude.{◌≡◌, ◌≢◌, ℕ, ◌-◌, ◌<◌, ◌≤◌, ◌||◌, false, true, IsTrue, List, [], ◌∷◌, ◌++◌, get_or, map, Option, Some, IsSome, is_some, IsSomeAnd, ◌⊎◌, None, if◌then◌else◌}
 use Rattle.hb_space.specs.declared.form.TheConstants.{GROUP, PENDING}
 use Rattle.hb_frag.specs.declared.pages.LivePage.{LivePage}
 use Rattle.hb_frag.specs.declared.pages.Page.{Page}
@@ -32,14 +32,9 @@ StaysHere uses id = IsSomeAnd (frame_of uses id) (λ (u : Use). IsTrue (must_sta
 abbrev pub NoneComes : StoreState → StoreState → ℕ → Type 0
 NoneComes old new id = (in_memory new id ≡ in_memory old id) ⊎ ((in_memory new id ≡ None) × (is_dirty old id ≡ false))
 
--- all but the pages in memory is the same
-pub record KeepsAllButPages (old new : StoreState) : Type 0 where
-  pub turn : new.turn ≡ old.turn
-  pub meta : new.meta ≡ old.meta
-  pub log : new.log ≡ old.log
-  pub in_log : new.in_log ≡ old.in_log
-  pub dirty : new.dirty ≡ old.dirty
-  pub stopped : new.stopped ≡ old.stopped
+-- all but the pages in memory is as it was
+abbrev pub KeepsAllButPages : StoreState → StoreState → Type 0
+KeepsAllButPages old new = new ≡ record old { pages = new.pages }
 
 -- A fetch: the page of the number is in memory now, and no other page came.
 pub record Fetched (id : ℕ) (old new : StoreState) : Type 0 where
@@ -75,6 +70,10 @@ pub record Commits (op : Op) (mark : ℕ) (old new : StoreState) : Type 0 where
   pub group : List ℕ
   -- it waits behind the others, with its mark
   pub groups : new.log.groups ≡ old.log.groups ++ record { bytes = group; mark = mark } ∷ []
+
+-- A commit brings no page: one that is in memory then was there, or the operation made it.
+abbrev pub CommitsBringNone : Type 0
+CommitsBringNone = (op : Op) (mark : ℕ) (old new : StoreState) → Commits op mark old new → (id : ℕ) (page : Page) → in_memory new id ≡ Some page → set_pages (change_here old op).pages (in_memory old) id ≡ Some page
 
 -- The order of use once pages of these numbers were changed, one after the other: each is dirty and last; one that was in no
 -- frame came as in a fetch.

@@ -1,5 +1,5 @@
 -- What a store keeps of the disk: four records with a name each, joined; and a disk from which it may start.
-use Rattle.std.specs.Prelude.{◌≡◌, ◌⊎◌, ℕ, List, [], Some, IsSome}
+use Rattle.std.specs.Prelude.{◌≡◌, ◌⊎◌, ℕ, Bool, List, [], Some, IsSome}
 use Rattle.hb_disk.specs.Model.{DiskModel}
 use Rattle.hb_layout.specs.Offsets.{log_start}
 use Rattle.hb_layout.specs.declared.meta.Meta.{Meta}
@@ -9,7 +9,7 @@ use Rattle.hb_frag.specs.Grammar.{SpellsPage}
 use Rattle.hb_ops.specs.Files.{FileState, page_of, last_of}
 use Rattle.hb_store.specs.Opening.{OpensTo, place_bytes}
 use Rattle.hb_store.specs.States.{StoreState, in_memory, is_dirty, is_in_log}
-use Rattle.hb_store.specs.Parts.{Parts, IsRunning, IsDurable, IsWaiting, IsInLog, IsInMemory}
+use Rattle.hb_store.specs.Parts.{Parts, OpensByParts, IsRunning, IsDurable, IsWaiting, IsInLog, IsInMemory}
 
 -- What a store keeps over a disk that tells. `durable` is the durable file; `later` are the files after each group that
 -- waits. The last one is the store's file.
@@ -45,3 +45,7 @@ pub record IsFresh (d : DiskModel) (turn : ℕ) (meta : Meta) (s : FileState) : 
 -- An image opens to the durable file, or to the one after all groups that wait.
 abbrev pub OpensToEither : FileState → List FileState → List ℕ → Type 0
 OpensToEither durable later c = OpensTo c durable ⊎ OpensTo c (last_of durable later)
+
+-- Bytes that open by the parts of a store open so.
+abbrev pub PartsOpen : Type 0
+PartsOpen = (c : List ℕ) (turn : ℕ) (stopped : Bool) (p : Parts) (durable : FileState) (later : List FileState) → OpensByParts c turn stopped p durable later → OpensToEither durable later c

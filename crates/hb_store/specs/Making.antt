@@ -10,7 +10,7 @@ use Rattle.hb_ops.specs.declared.operations.Op.TheVariants.{Extract, Post}
 use Rattle.hb_ops.specs.Operations.{BoxesMatch, Change, IsAllowedOn, OpHas, change_of, reads_of}
 use Rattle.hb_log_codec.specs.Groups.{FitsGroup, FitsLeafCut, FitsOp, Logged}
 use Rattle.hb_store.specs.States.{AreGood, IsGoodPage, IsMemory, IsSameLayout, IsStanding, StoreState, in_memory, is_in_log}
-use Rattle.hb_store.specs.Calls.{IsAllowedHere, change_here, read_here}
+use Rattle.hb_store.specs.Calls.{CommitsBringNone, IsAllowedHere, change_here, read_here}
 use Rattle.hb_store.specs.Replay.{IsAllowedIn, Replayed, change_in, touched_read}
 use Rattle.hb_store.specs.Replaying.{ComesAfter, HasLimits, IsPageOf}
 
@@ -69,6 +69,12 @@ MakesGoodChanges = (t : Replayed) (op : Op) → HasLimits t.meta → AreGood t.m
 
 abbrev pub PartsFitOnGoodPages : Type 0
 PartsFitOnGoodPages = (t : Replayed) (op : Op) → HasLimits t.meta → AreGood t.meta t.page → IsAllowedIn t op → HasFittingParts op
+
+-- What is so of operations: these two, and what a commit leaves in memory.
+pub record OperationLaws : Type 0 where
+  pub changes : MakesGoodChanges
+  pub fits : PartsFitOnGoodPages
+  pub commits : CommitsBringNone
 
 -- What an operation changes: the layout stays, what the file says of itself still stands, good pages are good, and each
 -- changed page is one of the file then, and is good.

@@ -52,6 +52,14 @@ all_pages p = replay (untouched p.said) (p.written ++ p.waiting)
 abbrev pub OpensNext : List ℕ → ℕ → Meta → List (List ℕ) → List Logged → List Logged → FileState → Type 0
 OpensNext c turn said payloads written waiting next = OpensBy c turn said (payloads ++ flat_map group_bytes waiting ∷ []) (written ++ waiting) next
 
+-- Bytes open to the durable file; in a stopped store perhaps to the file after all groups that wait, as a failed force leaves it; and
+-- after a failed switch, in which none waits, perhaps to the durable file by the next turn's superblock, over a log without a frame.
+abbrev pub OpensByParts : List ℕ → ℕ → Bool → Parts → FileState → List FileState → Type 0
+OpensByParts c turn stopped p durable later =
+    OpensBy c turn p.said p.payloads p.written durable
+    ⊎ (IsTrue stopped × OpensNext c turn p.said p.payloads p.written p.waiting (last_of durable later))
+    ⊎ (IsTrue stopped × OpensBy c (next_turn turn) durable.meta [] [] durable)
+
 -- Both superblock places and the area are synced, and the area reads as the written frames and zeros. The place of the
 -- next turn has no body of that turn.
 pub record IsRunning (d : DiskModel) (turn : ℕ) (log : LogState) (payloads : List (List ℕ)) : Type 0 where
@@ -68,11 +76,8 @@ pub record IsDurable (d : DiskModel) (turn : ℕ) (log : LogState) (stopped : Bo
   pub told : IsSome d.told
   -- the log counts the bytes of the written frames
   pub count : length (frames p.payloads) ≡ log.written
-  -- every image opens to it; after a failed force perhaps to the one after all groups that wait; after a failed switch, in which none
-  -- waits, perhaps to it by the next turn's superblock, over a log without a frame
-  pub images : (c : List ℕ) → d.Image c → OpensBy c turn p.said p.payloads p.written durable
-      ⊎ (IsTrue stopped × OpensNext c turn p.said p.payloads p.written p.waiting (last_of durable later))
-      ⊎ (IsTrue stopped × OpensBy c (next_turn turn) durable.meta [] [] durable)
+  -- every image opens so
+  pub images : (c : List ℕ) → d.Image c → OpensByParts c turn stopped p durable later
   -- whatever stands behind the written frames, these groups and the places make it
   pub shows : (c : List ℕ) → d.Image c → Shows c p.said (written_pages p) durable
   -- in a store that was not stopped all is synced

@@ -36,9 +36,9 @@ pub record SwitchesTurn {T : Type 0} (result : Result T WriteFault) (d e : DiskM
   -- a fault stops the store
   pub stopped : OnErr result ((new.state ≡ stopped_state old.state) × (new.uses ≡ old.uses))
   -- the file stays, also after a fault
-  pub keeps : (durable : FileState) → StoreKeeps d old.state durable [] → StoreKeeps e new.state durable []
+  pub keeps : (durable : FileState) (later : List FileState) → StoreKeeps d old.state durable later → StoreKeeps e new.state durable later
   -- whatever a crash inside leaves opens to it
-  pub moments : (durable : FileState) → StoreKeeps d old.state durable [] → Leaves d e (λ c. OpensTo c durable)
+  pub moments : (durable : FileState) (later : List FileState) → StoreKeeps d old.state durable later → Leaves d e (λ c. OpensTo c durable)
   -- only the other log area and the other superblock's place change, in nine calls at most, and a fault is the disk's
   pub wrote : Rewrites (TornSwitch old.state.turn old.state.meta) 9 result d e
   -- nine calls, where it is done

@@ -1,11 +1,12 @@
 -- What it is to write the least recently used dirty page to its place, where no group waits.
 use Rattle.std.specs.Prelude.{◌≡◌, ◌≢◌, ◌⊎◌, ◌+◌, ◌<◌, ℕ, [], Some, None, IsOk, IsSome, MatchOption, OnErr, OnOk, Result, List}
 use Rattle.hb_disk.specs.Model.{DiskModel, Torn}
-use Rattle.hb_disk.specs.Calls.{Leaves, ReadsOnly}
+use Rattle.hb_disk.specs.Calls.{Leaves}
 use Rattle.hb_disk.specs.Runs.{Rewrites}
 use Rattle.hb_layout.specs.Offsets.{page_offset}
 use Rattle.hb_ops.specs.Files.{FileState}
 use Rattle.hb_space.specs.declared.form.TheConstants.{PAGE}
+use Rattle.hb_store.specs.Fetching.{LooksUp}
 use Rattle.hb_store.specs.Forced.{stopped_state}
 use Rattle.hb_store.specs.Held.{StoreHeld, cleaned_held, oldest_dirty}
 use Rattle.hb_store.specs.Keeps.{StoreKeeps}
@@ -24,7 +25,7 @@ pub record WritesHome {T : Type 0} (result : Result T WriteFault) (id : ℕ) (d 
   -- the file stays, also after a fault
   pub keeps : (durable : FileState) (later : List FileState) → StoreKeeps d old.state durable later → StoreKeeps e new.state durable later
   -- whatever a crash inside leaves opens to it
-  pub moments : (durable : FileState) → StoreKeeps d old.state durable [] → Leaves d e (λ c. OpensTo c durable)
+  pub moments : (durable : FileState) (later : List FileState) → StoreKeeps d old.state durable later → Leaves d e (λ c. OpensTo c durable)
   -- only that page's place changes, in one call, and a fault is the disk's
   pub wrote : Rewrites (Torn (page_offset old.state.meta id) PAGE) 1 result d e
   -- one call, where it is done
@@ -33,7 +34,7 @@ pub record WritesHome {T : Type 0} (result : Result T WriteFault) (id : ℕ) (d 
 -- What a flush is to do where no group waits, by its result: the least recently used dirty page; where none is dirty the next turn
 -- begins if the log has a frame, and else nothing is to be done.
 abbrev pub FlushesClean : {T : Type 0} → Result T WriteFault → DiskModel → DiskModel → StoreHeld → StoreHeld → Type 0
-FlushesClean result d e old new = ((0 < old.state.log.written) × SwitchesTurn result d e old new) ⊎ ((old.state.log.written ≡ 0) × IsOk result × ReadsOnly ⊥ d e × (new ≡ old))
+FlushesClean result d e old new = ((0 < old.state.log.written) × SwitchesTurn result d e old new) ⊎ ((old.state.log.written ≡ 0) × IsOk result × LooksUp ⊥ d e old.state new.state × (new ≡ old))
 
 abbrev pub FlushesHome : {T : Type 0} → Result T WriteFault → DiskModel → DiskModel → StoreHeld → StoreHeld → Type 0
 FlushesHome result d e old new = MatchOption (oldest_dirty old.uses) (FlushesClean result d e old new) (λ id. WritesHome result id d e old new)

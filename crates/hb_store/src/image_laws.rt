@@ -1,4 +1,5 @@
 //! What an image opens to.
+ghost use Rattle.hb_store.specs.Keeps.{PartsOpen};
 ghost use Rattle.hb_store.specs.Opening.{OpensToOne, OpensWhole};
 
 use hb_log_codec::laws::groups_are_read_in_one_way;
@@ -16,3 +17,8 @@ pub fn an_image_opens_to_one_file()
     one_superblock_is_newest();
     an_area_is_read_in_one_way();
 }
+
+/// Bytes that open by the parts of a store open to its durable file, or to the file after all groups that wait.
+pub fn bytes_open_by_parts()
+    ensures { PartsOpen }
+{}

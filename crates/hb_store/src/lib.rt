@@ -50,7 +50,7 @@ mod switching;
 mod threads;
 mod touched;
 
-pub use image_laws::an_image_opens_to_one_file;
+pub use image_laws::{an_image_opens_to_one_file, bytes_open_by_parts};
 pub use laws::{a_store_keeps_one_file, an_image_of_a_store_opens};
 pub use making::what_is_made_can_be_written;
 pub use reading::read_log;

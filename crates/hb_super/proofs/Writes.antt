@@ -21,6 +21,7 @@ use Rattle.hb_super.specs.Superblocks.{IsLegal, HasSuper, IsNewest, body_bytes, 
 use Rattle.hb_super.specs.Moments.{WriteLeaves, IsUncovered}
 use Rattle.hb_super.proofs.Supers.{gate_at, body_at, same_place, after_other}
 use Rattle.hb_super.proofs.Bodies.{known_body}
+use Rattle.hb_super.proofs.Newest.{never_both}
 
 -- there are 40 bytes of a body
 pub body_long : (turn : ℕ) (meta : Meta) → length (body_bytes turn meta) ≡ 40
@@ -51,9 +52,6 @@ places_apart turn old next = elim (cases_Bool (eqb (old % 2) 0)) [
 -- a turn of the same place as the next is the next, or comes before the old
 before_old : (turn old other : ℕ) → turn ≡ next_turn old → old ≤ 3 → other ≤ 3 → other % 2 ≢ old % 2 → other ≢ turn → old ≡ next_turn other
 before_old turn old other next old_fits other_fits differs not_it = omega (arith, next, old_fits, other_fits, differs, not_it)
-
-never_both : (turn old : ℕ) → turn ≡ next_turn old → old ≡ next_turn turn → ⊥
-never_both turn old next back = omega (arith, next, back)
 
 -- bytes with a frame in their place
 module _ (bytes : List ℕ) (turn : ℕ) (meta : Meta) (legal : IsLegal turn meta) (long : 8192 ≤ length bytes) where

@@ -5,13 +5,14 @@ use Rattle.hb_ops.specs.declared.operations.Op.{Op}
 use Rattle.hb_ops.specs.declared.operations.Op.TheVariants as ops
 use Rattle.hb_core.specs.BetweenLaws.{CountsStayWithin, HeightIsCounted}
 use Rattle.hb_core.specs.Counting.{CountsFlush, CountsOp, CountsStay, CountsStep, CountsWithin}
-use Rattle.hb_core.specs.Counts.{counted, one_more}
+use Rattle.hb_core.specs.Counts.{counted}
+use Rattle.hb_outside.specs.Memory.{next_count}
 use Rattle.hb_core.specs.Showing.{RunningCore}
 use Rattle.hb_core.specs.declared.counts.TidyCounts.{TidyCounts}
 use Rattle.hb_tidy.proofs.LiveCounted.{live_same}
 use Rattle.hb_tidy.specs.Counted.{AreAtMost, CountsRise, LiveIsCounted}
 
-one_up : (n taken : ℕ) → n ≤ taken → taken ≤ 2 ^ 64 - 1 → n ≤ one_more n
+one_up : (n taken : ℕ) → n ≤ taken → taken ≤ 2 ^ 64 - 1 → n ≤ next_count n
 one_up n taken few last = omega (arith, few, last)
 
 as_many : (n : ℕ) → n ≤ n
@@ -26,7 +27,7 @@ module _ (c : RunningCore) (within : CountsWithin c) where
   op_rises actor (ops.Del page point) = done_same c.done
   op_rises actor (ops.Extract source fresh path cuts free_after) = by (actor == 17)
     where
-      by : (b : Bool) → AreAtMost c.done (cond b (record c.done { split = one_more c.done.split }) c.done)
+      by : (b : Bool) → AreAtMost c.done (cond b (record c.done { split = next_count c.done.split }) c.done)
       by true = record { grown = as_many c.done.grown; posted = as_many c.done.posted; split = one_up c.done.split c.taken within.split within.last; merged = as_many c.done.merged }
       by false = done_same c.done
   op_rises actor (ops.Post parent way inner area) = record { grown = as_many c.done.grown; posted = one_up c.done.posted c.taken within.posted within.last; split = as_many c.done.split; merged = as_many c.done.merged }
@@ -43,10 +44,10 @@ with_all old new taken done within height live = record { taken = taken; grown =
 some_left : (grown taken : ℕ) → grown ≤ taken → taken < 2 ^ 64 - 1 → grown + 1 ≤ 2 ^ 64 - 1
 some_left grown taken few left = omega (arith, few, left)
 
-pub one_taken : (taken next : ℕ) → taken < 2 ^ 64 - 1 → next ≡ one_more taken → next ≡ taken + 1
+pub one_taken : (taken next : ℕ) → taken < 2 ^ 64 - 1 → next ≡ next_count taken → next ≡ taken + 1
 one_taken taken next left is = omega (arith, left, is)
 
-later_taken : (taken next : ℕ) → taken < 2 ^ 64 - 1 → next ≡ one_more taken → taken ≤ next
+later_taken : (taken next : ℕ) → taken < 2 ^ 64 - 1 → next ≡ next_count taken → taken ≤ next
 later_taken taken next left is = omega (arith, left, is)
 
 -- a step, a flush, and a call that counts nothing

@@ -33,6 +33,7 @@ use Rattle.hb_tidy.specs.Owed.{IsJobOwed}
 use Rattle.hb_tidy.specs.TidyFiles.{HasTidyFile, IsNoWork, TidyFilesAreLeftAlone}
 use Rattle.hb_tidy.specs.Tidying.{file_now}
 use Rattle.hb_tidy.specs.Working.{Breaks, Comes, Event, Happens, HasCause, Steps, Waits, WorksOff, steps_in}
+use Rattle.hb_store.specs.States.{StoreState}
 
 -- ---- no job is owed
 
@@ -163,7 +164,7 @@ no_more_later s m id next done (inl place) comes = inl (subst (λ (all : List Us
 no_more_later s m id next done (inr stopped) comes = inr (λ none. stopped (sym (ap (λ (x : Machine). x.stop) comes.rest) ∙ none))
 
 waiting_later : (m : Machine) (id : ℕ) (next : Machine) → m.store.log.groups ≡ [] → PageComes id m next → next.store.log.groups ≡ []
-waiting_later m id next none comes = ap (λ (log : _). log.groups) comes.brings.rest.log ∙ none
+waiting_later m id next none comes = ap (λ (s : StoreState). s.log.groups) comes.brings.rest ∙ none
 
 none_follow : (events : List Event) (s : FileState) (m new : Machine) → HasTidyFile s m → FlushesNoMore m → WorksOff events m new → steps_in events ≡ 0
 none_follow [] s m new done ended is = refl

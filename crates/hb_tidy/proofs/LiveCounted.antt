@@ -8,7 +8,8 @@ use Rattle.hb_core.proofs.Facts.EachRow.{each_op, each_row}
 use Rattle.hb_core.proofs.Facts.GivenUpLaws.{gives_up_nothing}
 use Rattle.hb_core.proofs.Facts.StepKinds.{FlushesMore, each_kind, ready_kind}
 use Rattle.hb_core.specs.Counting.{CountsOp, CountsStep, CountsWithin, DidOp}
-use Rattle.hb_core.specs.Counts.{counted, one_more}
+use Rattle.hb_core.specs.Counts.{counted}
+use Rattle.hb_outside.specs.Memory.{next_count}
 use Rattle.hb_core.specs.Forcing.{FailsToWrite, ForcesAll}
 use Rattle.hb_core.specs.KeptFits.{HaveClasses}
 use Rattle.hb_core.specs.Machines.{Machine, sight, with_disk}
@@ -132,9 +133,9 @@ module _ (m : Machine) (actor : ℕ) (outcome : Outcome) (new : Machine) (kind :
   worked (inl (by, way, so)) = still m new (ap (λ (x : Machine). x.store.meta) so.1)
   worked (inr (inl (free, unready, inl (waits, force)))) = forces outcomes.Helped force
   worked (inr (inl (free, unready, inr (none, rest)))) = ready_kind m outcome new (NoMore m new) none more rest
-  worked (inr (inr (free, ready, inl acts))) = performed acts.fetched acts.deed acts.brings.rest.meta (row_merges (with_disk acts.fetched m.files m.clock m) (m.activity actor) _ acts.deed acts.row kind) acts.performs
-  worked (inr (inr (free, ready, inr (inl gives)))) = performed gives.fetched _ gives.brings.rest.meta (none_only _ (gives_up_nothing gives.why (m.activity actor))) gives.performs
-  worked (inr (inr (free, ready, inr (inr bad)))) = still m new (ap (λ (x : Machine). x.store.meta) bad.stops ∙ bad.brings.rest.meta)
+  worked (inr (inr (free, ready, inl acts))) = performed acts.fetched acts.deed (ap (λ (s : StoreState). s.meta) acts.brings.rest) (row_merges (with_disk acts.fetched m.files m.clock m) (m.activity actor) _ acts.deed acts.row kind) acts.performs
+  worked (inr (inr (free, ready, inr (inl gives)))) = performed gives.fetched _ (ap (λ (s : StoreState). s.meta) gives.brings.rest) (none_only _ (gives_up_nothing gives.why (m.activity actor))) gives.performs
+  worked (inr (inr (free, ready, inr (inr bad)))) = still m new (ap (λ (x : Machine). x.store.meta) bad.stops ∙ ap (λ (s : StoreState). s.meta) bad.brings.rest)
 
   pub merger_makes_none : StepsTo m actor outcome new → NoMore m new
   merger_makes_none step =
@@ -161,13 +162,13 @@ live_same old new meta done =
 
 -- ---- a step
 
-one_up : (n taken : ℕ) → n ≤ taken → taken < 2 ^ 64 - 1 → one_more n ≡ n + 1
+one_up : (n taken : ℕ) → n ≤ taken → taken < 2 ^ 64 - 1 → next_count n ≡ n + 1
 one_up n taken low few = omega (arith, low, few)
 
 module _ (actor : ℕ) (old new : RunningCore) (within : CountsWithin old) (few : old.taken < 2 ^ 64 - 1) where
   -- by an operation, unless it is a split of an actor whose splits aren't counted
   by_done : (op : Op) (mark : ℕ) (did : DidOp op mark old.store new.store) → new.done ≡ counted actor op old.done → (actor ≡ 17) ⊎ (new.store.meta.live ≤ old.store.meta.live) → LiveIsCounted old new
-  by_done (ops.Put page rec) mark did done kind = by (live_done (ops.Put page rec) mark did.came new.store did.does) (ap (λ (x : Meta). x.live) did.rest.meta)
+  by_done (ops.Put page rec) mark did done kind = by (live_done (ops.Put page rec) mark did.came new.store did.does) (ap (λ (s : StoreState). s.meta.live) did.rest)
     where
       by : new.store.meta.live ≡ did.came.meta.live → did.came.meta.live ≡ old.store.meta.live → LiveIsCounted old new
       by made came =
@@ -175,7 +176,7 @@ module _ (actor : ℕ) (old new : RunningCore) (within : CountsWithin old) (few 
           let split = ap (λ (c : TidyCounts). c.split) done in
           let merged = ap (λ (c : TidyCounts). c.merged) done in
           omega (arith, made, came, grown, split, merged)
-  by_done (ops.Del page point) mark did done kind = by (live_done (ops.Del page point) mark did.came new.store did.does) (ap (λ (x : Meta). x.live) did.rest.meta)
+  by_done (ops.Del page point) mark did done kind = by (live_done (ops.Del page point) mark did.came new.store did.does) (ap (λ (s : StoreState). s.meta.live) did.rest)
     where
       by : new.store.meta.live ≡ did.came.meta.live → did.came.meta.live ≡ old.store.meta.live → LiveIsCounted old new
       by made came =
@@ -185,8 +186,8 @@ module _ (actor : ℕ) (old new : RunningCore) (within : CountsWithin old) (few 
           omega (arith, made, came, grown, split, merged)
   by_done (ops.Extract source fresh path cuts free_after) mark did done (inl is) =
       let made = live_done (ops.Extract source fresh path cuts free_after) mark did.came new.store did.does in
-      let came = ap (λ (x : Meta). x.live) did.rest.meta in
-      let counts : new.done ≡ record old.done { split = one_more old.done.split } = subst (λ (n : ℕ). new.done ≡ counted n (ops.Extract source fresh path cuts free_after) old.done) is done in
+      let came = ap (λ (s : StoreState). s.meta.live) did.rest in
+      let counts : new.done ≡ record old.done { split = next_count old.done.split } = subst (λ (n : ℕ). new.done ≡ counted n (ops.Extract source fresh path cuts free_after) old.done) is done in
       let grown = ap (λ (c : TidyCounts). c.grown) counts in
       let split = ap (λ (c : TidyCounts). c.split) counts in
       let merged = ap (λ (c : TidyCounts). c.merged) counts in
@@ -194,18 +195,18 @@ module _ (actor : ℕ) (old new : RunningCore) (within : CountsWithin old) (few 
       omega (arith, made, came, grown, split, merged, up)
   by_done (ops.Extract source fresh path cuts free_after) mark did done (inr no_more) =
       let made = live_done (ops.Extract source fresh path cuts free_after) mark did.came new.store did.does in
-      let came = ap (λ (x : Meta). x.live) did.rest.meta in
+      let came = ap (λ (s : StoreState). s.meta.live) did.rest in
       absurd (omega (arith, made, came, no_more))
   by_done (ops.Post parent way inner area) mark did done kind =
       let made = live_done (ops.Post parent way inner area) mark did.came new.store did.does in
-      let came = ap (λ (x : Meta). x.live) did.rest.meta in
+      let came = ap (λ (s : StoreState). s.meta.live) did.rest in
       let grown = ap (λ (c : TidyCounts). c.grown) done in
       let split = ap (λ (c : TidyCounts). c.split) done in
       let merged = ap (λ (c : TidyCounts). c.merged) done in
       omega (arith, made, came, grown, split, merged)
   by_done (ops.Merge parent keep gone) mark did done kind =
       let made = live_done (ops.Merge parent keep gone) mark did.came new.store did.does in
-      let came = ap (λ (x : Meta). x.live) did.rest.meta in
+      let came = ap (λ (s : StoreState). s.meta.live) did.rest in
       let grown = ap (λ (c : TidyCounts). c.grown) done in
       let split = ap (λ (c : TidyCounts). c.split) done in
       let merged = ap (λ (c : TidyCounts). c.merged) done in
@@ -213,7 +214,7 @@ module _ (actor : ℕ) (old new : RunningCore) (within : CountsWithin old) (few 
       omega (arith, made, came, grown, split, merged, up)
   by_done (ops.Grow fresh free_after) mark did done kind =
       let made = live_done (ops.Grow fresh free_after) mark did.came new.store did.does in
-      let came = ap (λ (x : Meta). x.live) did.rest.meta in
+      let came = ap (λ (s : StoreState). s.meta.live) did.rest in
       let grown = ap (λ (c : TidyCounts). c.grown) done in
       let split = ap (λ (c : TidyCounts). c.split) done in
       let merged = ap (λ (c : TidyCounts). c.merged) done in

@@ -176,7 +176,7 @@ module _ (looking : LookingKeepsAll) (m : Machine) (id : ℕ) (new : Machine) wh
       answered = ap (λ (x : Machine). x.answered) comes.rest;
       order = ap (λ (x : Machine). x.order) comes.rest;
     };
-    same = record { file = ap file_now comes.rest; meta = comes.brings.rest.meta };
+    same = record { file = ap file_now comes.rest; meta = ap (λ (s : StoreState). s.meta) comes.brings.rest };
     stop = λ stop. sym (ap (λ (x : Machine). x.stop) comes.rest) ∙ stop;
     activity = ap (λ (x : Machine). x.activity) comes.rest;
     keeps = λ n files all. looking n m files id new comes all;

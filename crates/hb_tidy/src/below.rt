@@ -12,7 +12,7 @@ ghost use Rattle.hb_tidy.specs.Looking.{LooksForJobs};
 ghost use Rattle.hb_tidy.specs.Placing.{HasPlacedChild, StandsBelow};
 
 use crate::TidyStop;
-use crate::finding::{Numbered, owe_job, owe_merge, owe_postings, stands_below};
+use crate::finding::{ChildLeaf, Numbered, owe_job, owe_merge, owe_postings, stands_below};
 use crate::listing::{Names, leaves_naming};
 use crate::looking::named_page;
 use hb_activity::{Job, JobKind};
@@ -109,15 +109,13 @@ fn look_into<D: Device>(
         (D.model (core_disk core.old)) (core_seen core.old) (D.model (core_disk core.new)) (core_seen core.new) }
 {
     let given = leaves_naming(alloc, &child.page, Names::Siblings)?;
-    owe_postings(
-        alloc,
-        core.meta(),
-        &parent.page,
-        &child.page,
+    let leaf = ChildLeaf {
+        meta: core.meta(),
+        parent: &parent.page,
+        child: &child.page,
         area,
-        given.as_slice(),
-        jobs,
-    )?;
+    };
+    owe_postings(alloc, &leaf, given.as_slice(), jobs)?;
     find_merges(core, parent, child, area, given.as_slice(), jobs)
 }
 
@@ -159,8 +157,9 @@ fn try_pair<D: Device>(
 {
     if parent.page.names(gone) {
         match named_page(core, gone)? {
-            Some(going) => {
-                owe_merge(core.meta(), parent, keep, area, gone, &going, jobs)?;
+            Some(page) => {
+                let going = Numbered { id: gone, page };
+                owe_merge(core.meta(), parent, keep, area, &going, jobs)?;
                 Ok(())
             }
             None => Ok(()),

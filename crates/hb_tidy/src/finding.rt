@@ -24,6 +24,15 @@ pub(crate) struct Numbered {
     pub(crate) page: LivePage,
 }
 
+/// A child leaf of a page in use: the page that it names, its box, and what the file says of itself.
+#[derive(Clone, Copy, Debug)]
+pub(crate) struct ChildLeaf<'a> {
+    pub(crate) meta: &'a Meta,
+    pub(crate) parent: &'a LivePage,
+    pub(crate) child: &'a LivePage,
+    pub(crate) area: &'a Area,
+}
+
 /// Whether a page is one level below another one, and has the box within its own.
 pub(crate) fn stands_below(parent: &LivePage, area: &Area, child: &LivePage) -> bool
     requires { length area.now.lo ≡ length child.now.area.lo }
@@ -32,27 +41,24 @@ pub(crate) fn stands_below(parent: &LivePage, area: &Area, child: &LivePage) -> 
     u16::from(child.level) + 1 == u16::from(parent.level) && area.within(&child.area)
 }
 
-/// Adds a job for each posting that the child owes to its parent at the leaf of this box: for each page to which it gave a part of
-/// that.
+/// Adds a job for each posting that the child owes to its parent at the leaf: for each of these pages, to which it gave a part of
+/// its box.
 ///
 /// # Errors
 ///
 /// `Full` where no page is free and the parent has no room for one of them.
 pub(crate) fn owe_postings(
     alloc: Global,
-    meta: &Meta,
-    parent: &LivePage,
-    child: &LivePage,
-    area: &Area,
+    leaf: &ChildLeaf<'_>,
     given: &[(u32, Area)],
     jobs: &mut Vec<Job>,
 ) -> Result<(), TidyStop>
-    requires stands { (name : ℕ) × StandsBelow meta.now parent.now name area.now child.now }
-    requires given { given.now ≡ siblings_of child.now }
-    ensures { AddsPostings result meta.now parent.now child.now area.now (All (λ sibling. ¬ (Meets area.now sibling.1)) given.now) jobs.old.items jobs.new.items }
+    requires stands { (name : ℕ) × StandsBelow leaf.now.meta.now leaf.now.parent.now name leaf.now.area.now leaf.now.child.now }
+    requires given { given.now ≡ siblings_of leaf.now.child.now }
+    ensures { AddsPostings result leaf.now.meta.now leaf.now.parent.now leaf.now.child.now leaf.now.area.now (All (λ sibling. ¬ (Meets leaf.now.area.now sibling.1)) given.now) jobs.old.items jobs.new.items }
 {
-    for leaf in given {
-        owe_given(alloc, meta, parent, child, area, &leaf.1, jobs)?;
+    for part in given {
+        owe_given(alloc, leaf, &part.1, jobs)?;
     }
     Ok(())
 }
@@ -60,18 +66,15 @@ pub(crate) fn owe_postings(
 /// Adds a job for the posting of a page to which the child gave this box, where it is owed at the leaf.
 fn owe_given(
     alloc: Global,
-    meta: &Meta,
-    parent: &LivePage,
-    child: &LivePage,
-    area: &Area,
+    leaf: &ChildLeaf<'_>,
     given: &Area,
     jobs: &mut Vec<Job>,
 ) -> Result<(), TidyStop>
-    requires { HasGiven meta.now parent.now area.now child.now given.now }
-    ensures { AddsPostings result meta.now parent.now child.now area.now (¬ (Meets area.now given.now)) jobs.old.items jobs.new.items }
+    requires { HasGiven leaf.now.meta.now leaf.now.parent.now leaf.now.area.now leaf.now.child.now given.now }
+    ensures { AddsPostings result leaf.now.meta.now leaf.now.parent.now leaf.now.child.now leaf.now.area.now (¬ (Meets leaf.now.area.now given.now)) jobs.old.items jobs.new.items }
 {
-    match area.common(given) {
-        Some(common) => owe_posting(alloc, meta, parent, child, area, common.lo(), jobs),
+    match leaf.area.common(given) {
+        Some(common) => owe_posting(alloc, leaf, common.lo(), jobs),
         None => Ok(()),
     }
 }
@@ -79,16 +82,19 @@ fn owe_given(
 /// Adds a job for the posting that is owed at the point.
 fn owe_posting(
     alloc: Global,
-    meta: &Meta,
-    parent: &LivePage,
-    child: &LivePage,
-    area: &Area,
+    leaf: &ChildLeaf<'_>,
     point: &Point,
     jobs: &mut Vec<Job>,
 ) -> Result<(), TidyStop>
-    requires { OwesAt meta.now parent.now area.now child.now point.now }
-    ensures { AddsPostings result meta.now parent.now child.now area.now ⊥ jobs.old.items jobs.new.items }
+    requires { OwesAt leaf.now.meta.now leaf.now.parent.now leaf.now.area.now leaf.now.child.now point.now }
+    ensures { AddsPostings result leaf.now.meta.now leaf.now.parent.now leaf.now.child.now leaf.now.area.now ⊥ jobs.old.items jobs.new.items }
 {
+    let ChildLeaf {
+        meta,
+        parent,
+        child,
+        ..
+    } = *leaf;
     if meta.live == meta.pages && is_split(&post_plan(alloc, parent, child, point, meta.icap)?) {
         return Err(TidyStop::Full);
     }
@@ -145,17 +151,16 @@ pub(crate) fn owe_merge(
     parent: &Numbered,
     keep: &Numbered,
     area: &Area,
-    gone: u32,
-    going: &LivePage,
+    going: &Numbered,
     jobs: &mut Vec<Job>,
 ) -> Result<(), NoMemory>
-    requires { IsChildPair meta.now parent.now.page keep.now.id area.now keep.now.page gone going.now }
+    requires { IsChildPair meta.now parent.now.page keep.now.id area.now keep.now.page going.now.id going.now.page }
     ensures added { OnOk result (HasAdded meta.now.k
-        (λ job. IsAtCorner Merge parent.now.page area.now job × FitsMerge meta.now parent.now.id keep.now.id gone parent.now.page keep.now.page going.now) jobs.old.items jobs.new.items) }
+        (λ job. IsAtCorner Merge parent.now.page area.now job × FitsMerge meta.now parent.now.id keep.now.id going.now.id parent.now.page keep.now.page going.now.page) jobs.old.items jobs.new.items) }
     ensures none { OnOk result (jobs.new.items ≡ [] → (jobs.old.items ≡ [])
-        × (¬ (FitsMerge meta.now parent.now.id keep.now.id gone parent.now.page keep.now.page going.now))) }
+        × (¬ (FitsMerge meta.now parent.now.id keep.now.id going.now.id parent.now.page keep.now.page going.now.page))) }
 {
-    if may_merge(meta, parent, keep, gone, going) {
+    if may_merge(meta, parent, keep, going) {
         owe_job(meta, JobKind::Merge, &parent.page, area, jobs)
     } else {
         Ok(())
@@ -163,24 +168,18 @@ pub(crate) fn owe_merge(
 }
 
 /// Whether two children of a parent may become one page.
-fn may_merge(meta: &Meta, parent: &Numbered, keep: &Numbered, gone: u32, going: &LivePage) -> bool
-    requires { (area : Area) × IsChildPair meta.now parent.now.page keep.now.id area keep.now.page gone going.now }
-    ensures { IsTrue result ↔ FitsMerge meta.now parent.now.id keep.now.id gone parent.now.page keep.now.page going.now }
+fn may_merge(meta: &Meta, parent: &Numbered, keep: &Numbered, going: &Numbered) -> bool
+    requires { (area : Area) × IsChildPair meta.now parent.now.page keep.now.id area keep.now.page going.now.id going.now.page }
+    ensures { IsTrue result ↔ FitsMerge meta.now parent.now.id keep.now.id going.now.id parent.now.page keep.now.page going.now.page }
 {
-    may_be_three(meta, parent, keep, gone, going) && plans_merge(meta, parent, keep, gone, going)
+    may_be_three(meta, parent, keep, going) && plans_merge(meta, parent, keep, going)
 }
 
 /// Whether these are three pages of a file that has some in use, the last two of them of one level.
-fn may_be_three(
-    meta: &Meta,
-    parent: &Numbered,
-    keep: &Numbered,
-    gone: u32,
-    going: &LivePage,
-) -> bool
-    ensures { IsTrue result ↔ ((0 < meta.now.live) × ((parent.now.id ≡ keep.now.id) → ⊥) × ((parent.now.id ≡ gone) → ⊥) × ((keep.now.id ≡ gone) → ⊥) × (going.now.level ≡ keep.now.page.level)) }
+fn may_be_three(meta: &Meta, parent: &Numbered, keep: &Numbered, going: &Numbered) -> bool
+    ensures { IsTrue result ↔ ((0 < meta.now.live) × ((parent.now.id ≡ keep.now.id) → ⊥) × ((parent.now.id ≡ going.now.id) → ⊥) × ((keep.now.id ≡ going.now.id) → ⊥) × (going.now.page.level ≡ keep.now.page.level)) }
 {
-    meta.live > 0 && are_three(parent.id, keep.id, gone) && going.level == keep.page.level
+    meta.live > 0 && are_three(parent.id, keep.id, going.id) && going.page.level == keep.page.level
 }
 
 /// Whether no two of the numbers are the same.
@@ -191,15 +190,15 @@ fn are_three(parent: u32, keep: u32, gone: u32) -> bool
 }
 
 /// Whether the plan for the two is that they become one.
-fn plans_merge(meta: &Meta, parent: &Numbered, keep: &Numbered, gone: u32, going: &LivePage) -> bool
-    requires { MayPlanMerge meta.now parent.now.page keep.now.page going.now }
-    ensures { IsTrue result ↔ MayMerge parent.now.page keep.now.page gone going.now (capacity_of keep.now.page.level meta.now.dcap meta.now.icap) }
+fn plans_merge(meta: &Meta, parent: &Numbered, keep: &Numbered, going: &Numbered) -> bool
+    requires { MayPlanMerge meta.now parent.now.page keep.now.page going.now.page }
+    ensures { IsTrue result ↔ MayMerge parent.now.page keep.now.page going.now.id going.now.page (capacity_of keep.now.page.level meta.now.dcap meta.now.icap) }
 {
     let cap = if keep.page.level == 0 {
         meta.dcap
     } else {
         meta.icap
     };
-    let plan = merge_plan(&parent.page, &keep.page, gone, going, cap);
+    let plan = merge_plan(&parent.page, &keep.page, going.id, &going.page, cap);
     plan == MergePlan::Merge
 }

@@ -5,12 +5,12 @@ use Rattle.std.proofs.lemmas.Bool.{eq-eqb, false≢true}
 use Rattle.hb_lemmas.proofs.Options.{some_value}
 use Rattle.hb_space.specs.declared.form.TheConstants.{PAGE}
 use Rattle.hb_frag.specs.declared.pages.Page.{Page}
-use Rattle.hb_page_codec.specs.Reading.{◌>>=◌}
 use Rattle.hb_page_codec.specs.ReadingFields.{area_at}
 use Rattle.hb_page_codec.specs.ReadingPages.{tree_at, head_at, live_at, fields_at, page_of_bytes}
 use Rattle.hb_view.specs.Behind.{behind, live_behind, fields_behind}
 use Rattle.hb_view.proofs.Skipped.{steps, behind_made, behind_then, name_skipped}
 use Rattle.hb_view.proofs.Headed.{spelled_long}
+use Rattle.hb_lemmas.specs.Options.{◌>>=◌}
 
 live_skipped : (bytes : List ℕ) → behind (live_at bytes) ≡ live_behind bytes
 unfolding live_at live_behind

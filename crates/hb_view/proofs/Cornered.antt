@@ -6,15 +6,16 @@ use Rattle.std.proofs.lemmas.List.{drop-drop, length-drop, take_all, ext_get_or}
 use Rattle.std.proofs.lemmas.Option.{same_Some}
 use Rattle.byteorder.specs.Endian.{big_number}
 use Rattle.hb_space.specs.Boxes.{Area}
-use Rattle.hb_page_codec.specs.Reading.{◌>>=◌, number_at, many_at}
+use Rattle.hb_page_codec.specs.Reading.{number_at, many_at}
 use Rattle.hb_page_codec.specs.ReadingFields.{point_at, area_at, area_between, are_ordered}
 use Rattle.hb_page_codec.proofs.Facts.Ordered.{ordered, ordered_test}
-use Rattle.hb_page_codec.proofs.Facts.Fields.{bind_some}
 use Rattle.hb_lemmas.proofs.Booleans.{when_some}
 use Rattle.hb_view.specs.Behind.{behind}
 use Rattle.hb_view.specs.Corners.{point_or, point_there, corners_there}
 use Rattle.hb_view.proofs.Skipped.{point_long, point_short}
 use Rattle.hb_view.proofs.Walked.{many_counted}
+use Rattle.hb_lemmas.proofs.Options.{bind_some}
+use Rattle.hb_lemmas.specs.Options.{◌>>=◌}
 
 -- ---- a point where there is room
 

@@ -5,7 +5,7 @@ use Rattle.std.proofs.lemmas.Bool.{eqb-true, eq-eqb}
 use Rattle.std.proofs.lemmas.List.{drop_at, drop-drop}
 use Rattle.std.proofs.lemmas.Option.{same_Some, some_pair_parts}
 use Rattle.hb_lemmas.proofs.Booleans.{when_some}
-use Rattle.hb_lemmas.proofs.Options.{some_value, has_value, not_none}
+use Rattle.hb_lemmas.proofs.Options.{some_value, has_value, not_none, bind_some}
 use Rattle.hb_space.specs.Points.{IsAttributeCount}
 use Rattle.hb_space.specs.Boxes.{Area, IsArea}
 use Rattle.hb_space.specs.declared.form.TheConstants.{PAGE, KMAX}
@@ -16,10 +16,10 @@ use Rattle.hb_frag.specs.Grammar.{point_bytes}
 use Rattle.hb_frag.specs.Trees.{Tree}
 use Rattle.hb_frag.specs.Leaves.{weight_of}
 use Rattle.hb_page_codec.specs.Exact.{AreBytes}
-use Rattle.hb_page_codec.specs.Reading.{◌>>=◌, number_at}
+use Rattle.hb_page_codec.specs.Reading.{number_at}
 use Rattle.hb_page_codec.specs.ReadingFields.{area_at}
 use Rattle.hb_page_codec.specs.ReadingPages.{tree_at, head_at, live_at, fields_at, page_of_bytes}
-use Rattle.hb_page_codec.proofs.Facts.Fields.{AreBytes-rest, bind_some, area_takes, length_point}
+use Rattle.hb_page_codec.proofs.Facts.Fields.{AreBytes-rest, area_takes, length_point}
 use Rattle.hb_page_codec.proofs.Facts.PageLaws.{head_takes, page_takes}
 use Rattle.hb_page_codec.proofs.Facts.Weights.{is_light}
 use Rattle.hb_view.proofs.Cornered.{has_corners}
@@ -27,6 +27,7 @@ use Rattle.hb_view.specs.Spelled.{page_or, page_spelled}
 use Rattle.hb_view.specs.Corners.{corners_there}
 use Rattle.hb_view.specs.Roots.{tree_or, tree_there}
 use Rattle.hb_view.specs.Views.{IsLive, IsLiveAnd}
+use Rattle.hb_lemmas.specs.Options.{◌>>=◌}
 
 -- where the fields of a page in use stand
 pub record LiveBytes (bytes : List ℕ) (page : LivePage) : Type 0 where

@@ -1,12 +1,13 @@
 -- Looking through the records at the front of bytes, one after the other.
 use Rattle.std.proofs.Common.{◌≡◌, ℕ, suc, ◌+◌, ◌-◌, ◌<◌, ◌≤◌, List, ◌∷◌, Option, Some, None, IsSome, inl, inr, refl, sym, ap, subst, ◌∙◌, arith}
 use Rattle.hb_space.specs.declared.records.Record.{Record}
-use Rattle.hb_page_codec.specs.Reading.{◌>>=◌, many_at}
+use Rattle.hb_page_codec.specs.Reading.{many_at}
 use Rattle.hb_page_codec.specs.ReadingFields.{record_at, records_at}
 use Rattle.hb_view.specs.Behind.{behind}
 use Rattle.hb_view.specs.Lists.{records_there, list_or, after_there, after_or}
 use Rattle.hb_view.specs.Views.{FindsAmong}
 use Rattle.std.proofs.lemmas.Option.{same_Some}
+use Rattle.hb_lemmas.specs.Options.{◌>>=◌}
 
 -- the first of some records, and the others
 pub record IsFirst (k m : ℕ) (bytes : List ℕ) (r : Record) (after : List ℕ) : Type 0 where

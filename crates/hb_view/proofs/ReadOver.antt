@@ -5,15 +5,15 @@ use Rattle.std.proofs.lemmas.List.{length-drop, drop-drop}
 use Rattle.std.proofs.lemmas.Option.{same_Some}
 use Rattle.byteorder.specs.Endian.{big_number}
 use Rattle.hb_lemmas.proofs.Booleans.{when_some, unless_some}
-use Rattle.hb_lemmas.proofs.Options.{some_value, has_value}
+use Rattle.hb_lemmas.proofs.Options.{some_value, has_value, bind_some}
 use Rattle.hb_frag.specs.Trees.{Tree}
-use Rattle.hb_page_codec.specs.Reading.{◌>>=◌, number_at}
+use Rattle.hb_page_codec.specs.Reading.{number_at}
 use Rattle.hb_page_codec.specs.ReadingFields.{axis_at}
 use Rattle.hb_page_codec.specs.ReadingPages.{tree_at}
-use Rattle.hb_page_codec.proofs.Facts.Fields.{bind_some}
 use Rattle.hb_view.specs.Behind.{behind, list_behind, cut_behind, name_behind, node_behind, rest_after}
 use Rattle.hb_view.specs.Roots.{rest_there, rest_or}
 use Rattle.hb_view.proofs.Skipped.{tree_skipped, tree_shorter}
+use Rattle.hb_lemmas.specs.Options.{◌>>=◌}
 
 -- what was read takes so many bytes
 record Takes (width : ℕ) (bytes after : List ℕ) : Type 0 where

@@ -3,16 +3,16 @@ use Rattle.std.proofs.Common.{◌≡◌, ℕ, zero, suc, ◌<◌, cond, ltb, Lis
 use Rattle.std.proofs.lemmas.Bool.{ltb-true}
 use Rattle.std.proofs.lemmas.Option.{same_Some}
 use Rattle.hb_lemmas.proofs.Booleans.{when_some}
-use Rattle.hb_lemmas.proofs.Options.{some_value, has_value}
+use Rattle.hb_lemmas.proofs.Options.{some_value, has_value, bind_some}
 use Rattle.hb_space.specs.declared.records.Record.{Record}
 use Rattle.hb_frag.specs.declared.leaves.Leaf.TheVariants as leaves
 use Rattle.hb_frag.specs.Trees.{Tree, Tip, Cut}
-use Rattle.hb_page_codec.specs.Reading.{◌>>=◌, byte_at, number_at}
+use Rattle.hb_page_codec.specs.Reading.{byte_at, number_at}
 use Rattle.hb_page_codec.specs.ReadingFields.{axis_at, count_at, records_at}
 use Rattle.hb_page_codec.specs.ReadingPages.{cut_at, records_tip_at, node_at, tree_at}
 use Rattle.hb_page_codec.proofs.Facts.Depth.{tree_is, tree_shortens, number_shortens, axis_shortens, left_by}
-use Rattle.hb_page_codec.proofs.Facts.Fields.{bind_some}
 use Rattle.hb_view.specs.Roots.{rest_there, tree_or, rest_or, RootSeen, SeenCut, SeenRecords, SeenChild, SeenSibling, root_at, IsSeenAt}
+use Rattle.hb_lemmas.specs.Options.{◌>>=◌}
 
 -- the root that is seen
 abbrev pub IsSeen : ℕ → List ℕ → Type 0

@@ -3,12 +3,13 @@ use Rattle.std.proofs.Common.{◌≡◌, ℕ, zero, suc, ◌+◌, ◌-◌, ◌*�
 use Rattle.std.proofs.lemmas.Bool.{cases_lt, le-ltb, lt-ltb}
 use Rattle.std.proofs.lemmas.List.{length-drop, drop-drop}
 use Rattle.hb_frag.specs.Trees.{Tree}
-use Rattle.hb_page_codec.specs.Reading.{◌>>=◌, number_at, many_at}
+use Rattle.hb_page_codec.specs.Reading.{number_at, many_at}
 use Rattle.hb_page_codec.specs.ReadingFields.{axis_at, body_at, count_at, point_at, record_at, records_at}
 use Rattle.hb_page_codec.specs.ReadingPages.{cut_at, records_tip_at, node_at, tree_at}
 use Rattle.hb_page_codec.proofs.Facts.Depth.{Leaves, tree_is, tree_shortens}
 use Rattle.std.proofs.lemmas.Option.{same_Some}
 use Rattle.hb_view.specs.Behind.{behind, record_behind, list_behind, cut_behind, name_behind, node_behind}
+use Rattle.hb_lemmas.specs.Options.{◌>>=◌}
 
 -- the bytes behind two things are those behind the second one
 pub behind_then : {A B : Type 0} (r : Option (A × List ℕ)) (f : A × List ℕ → Option (B × List ℕ)) (g : List ℕ → Option (List ℕ)) → ((x : A × List ℕ) → behind (f x) ≡ g x.1) → behind (r >>= f) ≡ (behind r >>= g)

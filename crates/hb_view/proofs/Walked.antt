@@ -10,13 +10,14 @@ use Rattle.hb_frag.specs.Trees.{Tree, Tip, Cut}
 use Rattle.hb_frag.specs.Leaves.{IsWellCut, first_at, leaves_of, records_of, weight_of}
 use Rattle.hb_frag.proofs.Facts.Ways.{found_here, found_left, found_right}
 use Rattle.hb_frag.proofs.Facts.Sides.{IsArea-side_below, IsArea-side_from}
-use Rattle.hb_page_codec.specs.Reading.{◌>>=◌, many_at}
-use Rattle.hb_page_codec.proofs.Facts.Fields.{bind_some}
+use Rattle.hb_page_codec.specs.Reading.{many_at}
 use Rattle.hb_page_codec.specs.ReadingFields.{record_at}
 use Rattle.hb_view.specs.declared.leaves.LeafView.{LeafView}
 use Rattle.hb_view.specs.Lists.{records_there, list_or}
 use Rattle.hb_view.specs.Roots.{tree_there, rest_there, IsCutAt, IsListAt}
 use Rattle.hb_view.specs.Views.{leaf_view, ShowsLeaf, TellsBody, FindsAmong}
+use Rattle.hb_lemmas.proofs.Options.{bind_some}
+use Rattle.hb_lemmas.specs.Options.{◌>>=◌}
 
 -- ---- the leaf at a point
 

@@ -4,11 +4,12 @@ use Rattle.hb_space.specs.declared.records.Record.{Record}
 use Rattle.hb_frag.specs.declared.leaves.Leaf.{Leaf}
 use Rattle.hb_frag.specs.declared.leaves.Leaf.TheVariants as leaves
 use Rattle.hb_frag.specs.Trees.{Tree, Tip, Cut}
-use Rattle.hb_page_codec.specs.Reading.{◌>>=◌, number_at}
+use Rattle.hb_page_codec.specs.Reading.{number_at}
 use Rattle.hb_page_codec.specs.ReadingFields.{axis_at, count_at, records_at}
 use Rattle.hb_page_codec.specs.ReadingPages.{tree_at}
 use Rattle.hb_view.specs.declared.roots.Root.{Root}
 use Rattle.hb_view.specs.declared.roots.Root.TheVariants as roots
+use Rattle.hb_lemmas.specs.Options.{◌>>=◌}
 
 -- the tree at the front of the bytes, where one stands there
 abbrev pub tree_or : Option (Tree × List ℕ) → Tree

@@ -1,3 +1,4 @@
 pub mod AreaBytes
 pub mod FrameCounts
+pub mod FrameHeads
 pub mod Marks

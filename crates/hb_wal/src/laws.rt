@@ -3,14 +3,10 @@
 ghost use Rattle.std.specs.Prelude.{◌≡◌, ◌↔◌, ◌⊎◌, ℕ, ◌<◌, ◌^◌, List, [], length, All};
 ghost use Rattle.hb_wal.specs.Frames.{frames, HasFrames, HasBadFrame, ReadsOneWay};
 
-use hb_outside::big_endian_law;
-
 /// An area is read in one way: its frames are determined, and so is whether a bad one follows them.
 pub fn an_area_is_read_in_one_way()
     ensures { ReadsOneWay }
-{
-    big_endian_law();
-}
+{}
 
 /// The bytes of the frames of a log are 0 exactly where it has no frame.
 pub fn nothing_is_written_where_no_frame_stands()

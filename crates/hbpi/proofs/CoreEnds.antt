@@ -4,7 +4,6 @@ use Rattle.hb_core.specs.Machines.{Machine}
 use Rattle.hb_core.specs.Runs.{HasRun}
 use Rattle.hb_core.specs.Showing.{RunningCore}
 use Rattle.hb_core.specs.Working.{MayStep}
-use Rattle.hb_core.specs.declared.endings.End.{End}
 use Rattle.hb_core.specs.declared.endings.End.TheVariants as ends
 use Rattle.hb_disk.specs.Model.{DiskModel}
 use Rattle.hb_layout.specs.Offsets.{file_size}
@@ -16,12 +15,13 @@ use Rattle.hb_set.specs.declared.scripts.Line.{Line}
 use Rattle.hbpi.proofs.Begins.{IsBegunHere, begins_script}
 use Rattle.hbpi.proofs.Beyond.{beyond_driven}
 use Rattle.hbpi.proofs.Opened.{is_opening}
-use Rattle.hbpi.proofs.Reopened.{kept_of, takes_before}
+use Rattle.hbpi.proofs.Reopened.{takes_before}
+use Rattle.hb_restart.proofs.Facts.KeptStores.{kept_of}
 use Rattle.hbpi.proofs.StepsTaken.{is_unbegun, run_beyond, takes_steps}
 use Rattle.hbpi.specs.Driven.{IsOpened, Manner}
 use Rattle.hbpi.specs.StepEnds.{Drove, RanEnds, StepsEnd}
 use Rattle.hbpi.specs.Drives.{TakesSteps}
-use Rattle.hbpi.specs.Handing.{HandsOver}
+use Rattle.hbpi.specs.Handing.{HandsOver, RunLeft}
 use Rattle.hbpi.specs.Outcome.{GetsLine, fault_line}
 use Rattle.hbpi.specs.Schedules.{CameFrom, CameNot}
 use Rattle.hbpi.specs.SeenRuns.{Seen, run_of}
@@ -33,11 +33,11 @@ use Rattle.hbpi.specs.declared.statuses.Status.TheVariants.{NoMemory}
 
 -- What is known of the calls over a core: its disk and what the run left of it, what it showed and what it answered; and, once the run is
 -- known to have gone so, how it ended.
-pub record RanCore {X : Type 0} (M : X → DiskModel) (by : Manner) (first over last : X) (core ran : RunningCore) (end : End) (given : List Answered) (d : DiskModel) (seen : Seen) (status : Status) : Type 0 where
-  pub unbegun : end ≡ ends.NoMemory → (ran ≡ core) × (over ≡ first) × (given ≡ []) × (status ≡ NoMemory) × GetsLine seen.sink_before seen.sink_after (fault_line status)
-  pub goes : end ≢ ends.NoMemory → (m : Machine) → MayStep (M first) core m → (actors : List ℕ) × (run : HasRun (M first) m actors given (M over) ran) × by.goes core.steps actors run.new
+pub record RanCore {X Y : Type 0} (M : X → DiskModel) (by : Manner) (first : X) (core : RunningCore) (left : RunLeft X Y) (last : X) (d : DiskModel) (seen : Seen) (status : Status) : Type 0 where
+  pub unbegun : left.end ≡ ends.NoMemory → (left.core ≡ core) × (left.disk ≡ first) × (left.answered ≡ []) × (status ≡ NoMemory) × GetsLine seen.sink_before seen.sink_after (fault_line status)
+  pub goes : left.end ≢ ends.NoMemory → (m : Machine) → MayStep (M first) core m → (actors : List ℕ) × (run : HasRun (M first) m actors left.answered (M left.disk) left.core) × by.goes core.steps actors run.new
       × (Drove by (run_of seen d (M last)) run.new → RanEnds by status (run_of seen d (M last)) run.new)
-  pub hands : HandsOver over last given seen.answered ran.order seen.order
+  pub hands : HandsOver left.disk last left.answered seen.answered left.core.order seen.order
 
 -- a machine that has taken no step, which a core shows that was made
 pub begins_here : (origin : Origin) (before after : SourceModel) (d e : DiskModel) (core : RunningCore) → (started : IsStarted origin before after d e core) → (m : Machine) × IsBegunHere e started.made.lines started.made.steps started.store m
@@ -64,9 +64,9 @@ no_room : (origin : Origin) (k : ℕ) (before after : SourceModel) (lines : List
 no_room (Text step_lines) k before after lines steps source came = source
 no_room (Drawn state count) k before after lines steps source came = (refl, came.2)
 
-module _ {X : Type 0} (M : X → DiskModel) (by : Manner) (first over last : X) (core ran : RunningCore) (end : End) (given : List Answered) (d : DiskModel) (seen : Seen) (status : Status)
-    (facts : RanCore M by first over last core ran end given d seen status) (laws : StartLaws) (started : IsStarted by.origin seen.source_before seen.source_after d (M first) core) where
-  ran_here : end ≢ ends.NoMemory → StepsEnd by (run_of seen d (M last)) status
+module _ {X Y : Type 0} (M : X → DiskModel) (by : Manner) (first : X) (core : RunningCore) (left : RunLeft X Y) (last : X) (d : DiskModel) (seen : Seen) (status : Status)
+    (facts : RanCore M by first core left last d seen status) (laws : StartLaws) (started : IsStarted by.origin seen.source_before seen.source_after d (M first) core) where
+  ran_here : left.end ≢ ends.NoMemory → StepsEnd by (run_of seen d (M last)) status
   ran_here some =
       let made = started.made in
       let store = started.store in
@@ -76,10 +76,10 @@ module _ {X : Type 0} (M : X → DiskModel) (by : Manner) (first over last : X) 
       let actors = went.0 in
       let run = went.1 in
       let new = run.new in
-      let takes : TakesSteps (M first) (M over) store.meta.k made.lines actors given ran.order new =
-      takes_steps (M first) (M over) made.lines made.steps actors store ran given here.0 laws.beginning laws.begun started.disk started.opens.is_new here.1 run in
-      let on_disk = subst (λ (x : X). TakesSteps (M first) (M x) store.meta.k made.lines actors given ran.order new) (sym facts.hands.disk_is) takes in
-      let with_order = subst (λ (o : List ℕ). TakesSteps (M first) (M last) store.meta.k made.lines actors given o new) (sym facts.hands.order_is) on_disk in
+      let takes : TakesSteps (M first) (M left.disk) store.meta.k made.lines actors left.answered left.core.order new =
+      takes_steps (M first) (M left.disk) made.lines made.steps actors store left.core left.answered here.0 laws.beginning laws.begun started.disk started.opens.is_new here.1 run in
+      let on_disk = subst (λ (x : X). TakesSteps (M first) (M x) store.meta.k made.lines actors left.answered left.core.order new) (sym facts.hands.disk_is) takes in
+      let with_order = subst (λ (o : List ℕ). TakesSteps (M first) (M last) store.meta.k made.lines actors left.answered o new) (sym facts.hands.order_is) on_disk in
       let with_answers = subst (λ (a : List Answered). TakesSteps (M first) (M last) store.meta.k made.lines actors a seen.order new) (sym facts.hands.answered_is) with_order in
       let opening = is_opening d (M first) store started.count started.disk started.opens started.through started.leaves in
       let drove : Drove by (run_of seen d (M last)) new = record {
@@ -94,7 +94,7 @@ module _ {X : Type 0} (M : X → DiskModel) (by : Manner) (first over last : X) 
       } in
       inr (inr (new, drove, went.3 drove))
 
-  did_not : end ≡ ends.NoMemory → StepsEnd by (run_of seen d (M last)) status
+  did_not : left.end ≡ ends.NoMemory → StepsEnd by (run_of seen d (M last)) status
   did_not none =
       let made = started.made in
       let still = facts.unbegun none in
@@ -111,17 +111,17 @@ module _ {X : Type 0} (M : X → DiskModel) (by : Manner) (first over last : X) 
       }))
 
   pub core_ends : StepsEnd by (run_of seen d (M last)) status
-  core_ends = elim (is_unbegun end) [ inl none ↦ did_not none | inr some ↦ ran_here some ]
+  core_ends = elim (is_unbegun left.end) [ inl none ↦ did_not none | inr some ↦ ran_here some ]
 
   -- what lies behind the file is as it was
   run_keeps : KeepsBeyond (file_size started.store.meta) (M first) (M last)
-  run_keeps = elim (is_unbegun end) [
+  run_keeps = elim (is_unbegun left.end) [
     | inl none ↦ subst (λ (x : X). KeepsBeyond (file_size started.store.meta) (M first) (M x)) (sym (facts.hands.disk_is ∙ (facts.unbegun none).1)) (beyond_none (file_size started.store.meta) (M first) started.disk)
     | inr some ↦
         let here = begins_here by.origin seen.source_before seen.source_after d (M first) core started in
         let may = may_core by.origin seen.source_before seen.source_after d (M first) core here.0 started here.1 in
         let run = (facts.goes some here.0 may).1 in
-        subst (λ (x : X). KeepsBeyond (file_size started.store.meta) (M first) (M x)) (sym facts.hands.disk_is) (run_beyond (M first) (M over) started.store here.0 here.1.may.shows.store run.in_file)
+        subst (λ (x : X). KeepsBeyond (file_size started.store.meta) (M first) (M x)) (sym facts.hands.disk_is) (run_beyond (M first) (M left.disk) started.store here.0 here.1.may.shows.store run.in_file)
   ]
 
   pub core_beyond : KeepsBeyondFile d (M last)

@@ -9,7 +9,7 @@ use Rattle.hb_core.specs.declared.endings.End.{End}
 use Rattle.hb_core.specs.declared.endings.End.TheVariants as ends
 use Rattle.hb_disk.specs.Model.{DiskModel}
 use Rattle.hb_drive.specs.Driving.{DrivesTo, EndsWith, run_text}
-use Rattle.hb_outside.specs.Calls.{SinkModel}
+use Rattle.hb_outside.specs.Calls.{SinkModel, SourceModel}
 use Rattle.hb_outside.specs.Streams.{Appends}
 use Rattle.hb_set.specs.declared.scripts.Answered.{Answered}
 use Rattle.hb_store.specs.declared.stops.StopWhy.TheVariants as stops
@@ -17,11 +17,11 @@ use Rattle.hbpi.proofs.CoreEnds.{RanCore}
 use Rattle.hbpi.proofs.RecordsLeft.{NumbersArePlaces, drawn_in_place, has_records}
 use Rattle.hbpi.specs.Counted.{counts_text, records_left}
 use Rattle.hbpi.specs.Driven.{GoesOnForAll, by_counting}
-use Rattle.hbpi.specs.Handing.{EndsCounting}
+use Rattle.hbpi.specs.Handing.{EndsCounting, GivenBack, RunLeft}
 use Rattle.hbpi.specs.StepEnds.{Drove, GetsOutput, RanEnds}
 use Rattle.hbpi.specs.Outcome.{GetsLine, fault_line}
 use Rattle.hbpi.specs.Saying.{IsSaid, SaysCounts}
-use Rattle.hbpi.specs.SeenRuns.{Run, Seen, run_of}
+use Rattle.hbpi.specs.SeenRuns.{Run, Seen, run_of, seen_by}
 use Rattle.hbpi.specs.Starts.{IsStarted, StartLaws}
 use Rattle.hbpi.specs.declared.origins.Origin.TheVariants.{Drawn}
 use Rattle.hbpi.specs.declared.statuses.Status.{Status}
@@ -75,51 +75,54 @@ counted_ends state count (ends.Stopped stops.WriteFault) run m text status outpu
 counted_ends state count (ends.Stopped (stops.Damaged page why)) run m text status output says went = fault_ends state count run m status _ says (λ put. (put, page, why, went.2, refl))
 
 -- What is known of the calls over a core: its disk and what the run left of it, and what became of the sink behind the run.
-pub record RanCounting {X : Type 0} (M : X → DiskModel) (first over last : X) (core ran : RunningCore) (end : End) (given answered : List Answered) (order : List ℕ) (records : ℕ) (sink put : SinkModel) (status : Status) : Type 0 where
-  pub unbegun : end ≡ ends.NoMemory → (ran ≡ core) × (over ≡ first) × (given ≡ [])
-  pub drives : end ≢ ends.NoMemory → (m : Machine) → MayStep (M first) core m → (actors : List ℕ) × (drives : DrivesTo m actors given (M first) (M over) ran end nowhere nowhere) × GoesOnForAll core.steps actors drives.run.new
-  pub ended : EndsCounting end (counts_text given (records_left ran.lines given records)) sink put over last given answered ran.order order status
+pub record RanCounting {X Y Z : Type 0} (M : X → DiskModel) (S : Z → SinkModel) (first : X) (core : RunningCore) (records : ℕ) (sink : Z) (left : RunLeft X Y) (back : GivenBack X Z) : Type 0 where
+  pub unbegun : left.end ≡ ends.NoMemory → (left.core ≡ core) × (left.disk ≡ first) × (left.answered ≡ [])
+  pub drives : left.end ≢ ends.NoMemory → (m : Machine) → MayStep (M first) core m → (actors : List ℕ) × (drives : DrivesTo m actors left.answered (M first) (M left.disk) left.core left.end nowhere nowhere) × GoesOnForAll core.steps actors drives.run.new
+  pub ended : EndsCounting S (counts_text left.answered (records_left left.core.lines left.answered records)) sink left back
 
-module _ {X : Type 0} (M : X → DiskModel) (state count : ℕ) (first over last : X) (core ran : RunningCore) (end : End) (given : List Answered) (records : ℕ) (d : DiskModel) (seen : Seen) (status : Status)
-    (facts : RanCounting M first over last core ran end given seen.answered seen.order records seen.sink_before seen.sink_after status) (laws : StartLaws) (started : IsStarted (Drawn state count) seen.source_before seen.source_after d (M first) core) (counted : records ≡ started.count) where
+module _ {X Y Z : Type 0} (M : X → DiskModel) (S : Z → SinkModel) (state count : ℕ) (first : X) (core : RunningCore) (records : ℕ) (sink : Z) (left : RunLeft X Y) (back : GivenBack X Z) (d : DiskModel) (before after : SourceModel)
+    (facts : RanCounting M S first core records sink left back) (laws : StartLaws) (started : IsStarted (Drawn state count) before after d (M first) core) (counted : records ≡ started.count) where
+  abbrev seen : Seen
+  seen = seen_by before after (S sink) (S back.sink) back.answered back.order
+
   abbrev whole : Run
-  whole = run_of seen d (M last)
+  whole = run_of seen d (M back.disk)
 
   -- the lines of the core are those that were drawn
-  in_place : (m : Machine) (actors : List ℕ) → MayStep (M first) core m → (drives : DrivesTo m actors given (M first) (M over) ran end nowhere nowhere) → (drives.run.new.lines ≡ ran.lines) × NumbersArePlaces ran.lines
+  in_place : (m : Machine) (actors : List ℕ) → MayStep (M first) core m → (drives : DrivesTo m actors left.answered (M first) (M left.disk) left.core left.end nowhere nowhere) → (drives.run.new.lines ≡ left.core.lines) × NumbersArePlaces left.core.lines
   in_place m actors may drives =
-      let same : ran.lines ≡ started.made.lines = run_keeps_lines (M first) (M over) m actors given core ran may.shows drives.run ∙ ap (λ (c : RunningCore). c.lines) started.made.core_is in
+      let same : left.core.lines ≡ started.made.lines = run_keeps_lines (M first) (M left.disk) m actors left.answered core left.core may.shows drives.run ∙ ap (λ (c : RunningCore). c.lines) started.made.core_is in
       let drawn = same ∙ started.made.came.0 in
       (drives.run.shows.lines, subst NumbersArePlaces (sym drawn) (drawn_in_place state count started.store.meta.k))
 
-  output : (m : Machine) (actors : List ℕ) → MayStep (M first) core m → (drives : DrivesTo m actors given (M first) (M over) ran end nowhere nowhere) → Drove (by_counting state count) whole drives.run.new → drives.run.new.stop ≡ None
-      → (by_counting state count).output whole drives.run.new (counts_text seen.answered (records_left ran.lines seen.answered started.count))
+  output : (m : Machine) (actors : List ℕ) → MayStep (M first) core m → (drives : DrivesTo m actors left.answered (M first) (M left.disk) left.core left.end nowhere nowhere) → Drove (by_counting state count) whole drives.run.new → drives.run.new.stop ≡ None
+      → (by_counting state count).output whole drives.run.new (counts_text seen.answered (records_left left.core.lines seen.answered started.count))
   output m actors may drives drove going =
       let lines = in_place m actors may drives in (
-        records_left ran.lines seen.answered started.count,
-        has_records laws (Drawn state count) seen.source_before seen.source_after d (M first) core started (M last) drove.k drove.lines ran.lines drove.actors seen.answered seen.order drives.run.new drove.takes lines.0 lines.1 (drove.goes going),
+        records_left left.core.lines seen.answered started.count,
+        has_records laws (Drawn state count) seen.source_before seen.source_after d (M first) core started (M back.disk) drove.k drove.lines left.core.lines drove.actors seen.answered seen.order drives.run.new drove.takes lines.0 lines.1 (drove.goes going),
         refl,
       )
 
-  pub counting_core : RanCore M (by_counting state count) first over last core ran end given d seen status
+  pub counting_core : RanCore M (by_counting state count) first core left back.disk d seen back.status
   counting_core = record {
     unbegun = λ none.
         let still = facts.unbegun none in
-        let says : SaysCounts ends.NoMemory (counts_text given (records_left ran.lines given records)) seen.sink_before seen.sink_after status =
-        subst (λ (x : End). SaysCounts x (counts_text given (records_left ran.lines given records)) seen.sink_before seen.sink_after status) none facts.ended.says in
+        let says : SaysCounts ends.NoMemory (counts_text left.answered (records_left left.core.lines left.answered records)) seen.sink_before seen.sink_after back.status =
+        subst (λ (x : End). SaysCounts x (counts_text left.answered (records_left left.core.lines left.answered records)) seen.sink_before seen.sink_after back.status) none facts.ended.says in
         (still.0, still.1, still.2, says.0, says.1);
     goes = λ some m may.
         let drove = facts.drives some m may in
         let new = drove.1.run.new in
-        let text : List Answered → ℕ → List ℕ = λ a n. counts_text a (records_left ran.lines a n) in
-        let same : text given records ≡ text seen.answered started.count = ap (λ (a : List Answered). text a records) (sym facts.ended.hands.answered_is) ∙ ap (text seen.answered) counted in (
+        let text : List Answered → ℕ → List ℕ = λ a n. counts_text a (records_left left.core.lines a n) in
+        let same : text left.answered records ≡ text seen.answered started.count = ap (λ (a : List Answered). text a records) (sym facts.ended.hands.answered_is) ∙ ap (text seen.answered) counted in (
           drove.0,
           drove.1.run,
           drove.2,
-          λ went. counted_ends state count end whole new (text seen.answered started.count) status
+          λ went. counted_ends state count left.end whole new (text seen.answered started.count) back.status
               (output m drove.0 may drove.1 went)
-              (subst (λ (t : List ℕ). SaysCounts end t seen.sink_before seen.sink_after status) same facts.ended.says)
-              (subst (λ (a : List Answered). EndsWith end nowhere nowhere (run_text a new) a new.stop) (sym facts.ended.hands.answered_is) drove.1.text),
+              (subst (λ (t : List ℕ). SaysCounts left.end t seen.sink_before seen.sink_after back.status) same facts.ended.says)
+              (subst (λ (a : List Answered). EndsWith left.end nowhere nowhere (run_text a new) a new.stop) (sym facts.ended.hands.answered_is) drove.1.text),
         );
     hands = facts.ended.hands;
   }

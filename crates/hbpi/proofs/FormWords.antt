@@ -5,8 +5,9 @@ use Rattle.std.specs.Str.{bytes_eq}
 use Rattle.std.proofs.lemmas.Bool.Decides.{nat_tests}
 use Rattle.hbpi.specs.declared.forms.Form.{Form}
 use Rattle.hbpi.specs.declared.forms.Form.TheVariants.{Create, Dry, Run, Drive, Check, Map, Tidy, Gen, Work}
-use Rattle.hbpi.specs.Forms.{◌>>=◌, FitsLimits, number_said, attributes_of, line_count_of, create_of, dry_of, gen_of, work_of, alone, form_from, form_of}
+use Rattle.hbpi.specs.Forms.{FitsLimits, number_said, attributes_of, line_count_of, create_of, dry_of, gen_of, work_of, alone, form_from, form_of}
 use Rattle.hb_lemmas.proofs.Booleans.{chosen}
+use Rattle.hb_lemmas.proofs.Options.{bind_some}
 
 pub create_short : (ws : List (List ℕ)) → length ws < 5 → create_of ws ≡ None
 create_short [] h = refl
@@ -38,11 +39,6 @@ gen_long (a ∷ b ∷ []) h = absurd (omega arith)
 gen_long (a ∷ b ∷ c ∷ []) h = absurd (omega arith)
 gen_long (a ∷ b ∷ c ∷ d ∷ ws) h = refl
 
--- what a step of reading gave was fed by a value
-fed : {A B : Type 0} (o : Option A) (f : A → Option B) (y : B) → (o >>= f) ≡ Some y → (x : A) × (o ≡ Some x) × (f x ≡ Some y)
-fed (Some x) f y e = (x, refl, e)
-fed None f y e = cc
-
 some_form : (f g : Form) → Some f ≡ Some g → f ≡ g
 some_form f g e = cc
 
@@ -54,7 +50,7 @@ some_number m n e = cc
 
 attributes_fit : (word : List ℕ) (k : ℕ) → attributes_of word ≡ Some k → (0 < k) × (k ≤ 4)
 attributes_fit word k e =
-    let n = fed (number_said word) (λ k. cond (nat_le 1 k && nat_le k 4) (Some k) None) k e in
+    let n = bind_some (number_said word) (λ k. cond (nat_le 1 k && nat_le k 4) (Some k) None) k e in
     elim (chosen (nat_le 1 n.0 && nat_le n.0 4) (Some n.0) None (Some k) n.2) [
       | inl fits ↦ let same = some_number n.0 k fits.1 in (grind (arith, nat_tests, fits.0, same), grind (arith, nat_tests, fits.0, same))
       | inr none ↦ cc (none.1)
@@ -62,7 +58,7 @@ attributes_fit word k e =
 
 lines_fit : (word : List ℕ) (n : ℕ) → line_count_of word ≡ Some n → n ≤ 1000000
 lines_fit word n e =
-    let m = fed (number_said word) (λ n. cond (nat_le n 1000000) (Some n) None) n e in
+    let m = bind_some (number_said word) (λ n. cond (nat_le n 1000000) (Some n) None) n e in
     elim (chosen (nat_le m.0 1000000) (Some m.0) None (Some n) m.2) [
       | inl fits ↦ let same = some_number m.0 n fits.1 in grind (arith, nat_tests, fits.0, same)
       | inr none ↦ cc (none.1)
@@ -71,7 +67,7 @@ lines_fit word n e =
 dry_fits : (words : List (List ℕ)) (form : Form) → dry_of words ≡ Some form → FitsLimits form
 dry_fits [] form e = cc
 dry_fits (word ∷ []) form e =
-    let k = fed (attributes_of word) (λ k. Some (Dry k)) form e in
+    let k = bind_some (attributes_of word) (λ k. Some (Dry k)) form e in
     fits_as (Dry k.0) form (attributes_fit word k.0 k.1) k.2
 dry_fits (a ∷ b ∷ words) form e = cc
 
@@ -82,11 +78,11 @@ create_fits (a ∷ b ∷ []) form e = cc
 create_fits (a ∷ b ∷ c ∷ []) form e = cc
 create_fits (a ∷ b ∷ c ∷ d ∷ []) form e = cc
 create_fits (a ∷ b ∷ c ∷ d ∷ i ∷ []) form e =
-    let one = fed (number_said a) _ form e in
-    let two = fed (number_said b) _ form one.2 in
-    let three = fed (number_said c) _ form two.2 in
-    let four = fed (number_said d) _ form three.2 in
-    let five = fed (number_said i) _ form four.2 in
+    let one = bind_some (number_said a) _ form e in
+    let two = bind_some (number_said b) _ form one.2 in
+    let three = bind_some (number_said c) _ form two.2 in
+    let four = bind_some (number_said d) _ form three.2 in
+    let five = bind_some (number_said i) _ form four.2 in
     fits_as (Create one.0 two.0 three.0 four.0 five.0) form tt five.2
 create_fits (a ∷ b ∷ c ∷ d ∷ i ∷ j ∷ words) form e = cc
 
@@ -95,9 +91,9 @@ gen_fits [] form e = cc
 gen_fits (a ∷ []) form e = cc
 gen_fits (a ∷ b ∷ []) form e = cc
 gen_fits (a ∷ b ∷ c ∷ []) form e =
-    let x = fed (number_said a) _ form e in
-    let n = fed (line_count_of b) _ form x.2 in
-    let k = fed (attributes_of c) _ form n.2 in
+    let x = bind_some (number_said a) _ form e in
+    let n = bind_some (line_count_of b) _ form x.2 in
+    let k = bind_some (attributes_of c) _ form n.2 in
     let fits = attributes_fit c k.0 k.1 in
     fits_as (Gen x.0 n.0 k.0) form (lines_fit b n.0 n.1, fits.0, fits.1) k.2
 gen_fits (a ∷ b ∷ c ∷ d ∷ words) form e = cc
@@ -106,8 +102,8 @@ work_fits : (words : List (List ℕ)) (form : Form) → work_of words ≡ Some f
 work_fits [] form e = cc
 work_fits (a ∷ []) form e = cc
 work_fits (a ∷ b ∷ []) form e =
-    let x = fed (number_said a) _ form e in
-    let n = fed (line_count_of b) _ form x.2 in
+    let x = bind_some (number_said a) _ form e in
+    let n = bind_some (line_count_of b) _ form x.2 in
     fits_as (Work x.0 n.0) form (lines_fit b n.0 n.1) n.2
 work_fits (a ∷ b ∷ c ∷ words) form e = cc
 

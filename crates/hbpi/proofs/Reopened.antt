@@ -1,24 +1,21 @@
 -- What is said of the steps of a store that was just opened, seen from before the opening.
-use Rattle.std.proofs.Common.{ℕ, ◌+◌, ◌≤◌, List, [], Option, None, IsSome, IfSome, refl, subst, arith}
+use Rattle.std.proofs.Common.{ℕ, ◌+◌, ◌≤◌, List, Option, None, IsSome, refl, subst, arith}
 use Rattle.hb_core.specs.Laws.{HasOnePage}
 use Rattle.hb_core.specs.Machines.{Machine}
 use Rattle.hb_core.specs.Runs.{CountsFaults, IsPrefixImage}
 use Rattle.hb_core.specs.SteppingLaws.{IsBegunOver}
 use Rattle.hb_disk.proofs.Facts.RunLaws.{Leaves-then, Leaves-weaker}
 use Rattle.hb_disk.specs.Model.{DiskModel}
-use Rattle.hb_lemmas.proofs.Options.{at_value, has_value, if_value, some_value}
+use Rattle.hb_lemmas.proofs.Options.{has_value}
 use Rattle.hb_ops.specs.Files.{FileState, contents_of}
 use Rattle.hb_ops.specs.Sound.{IsSound}
 use Rattle.hb_outside.specs.Streams.{Rose}
-use Rattle.hb_restart.specs.Leaving.{OpensStore, RunsThrough}
 use Rattle.hb_set.specs.Order.{Entry}
 use Rattle.hb_set.specs.declared.scripts.Answered.{Answered}
 use Rattle.hb_set.specs.declared.scripts.Line.{Line}
 use Rattle.hb_sound.specs.Laws.{NoPointIsHeldTwice, RootHasWalks}
 use Rattle.hb_sound.specs.PointWalks.{IsPointOf}
 use Rattle.hb_store.specs.Opening.{IsEven, OpensTo, OpensToOne}
-use Rattle.hb_store.specs.Keeps.{StoreKeeps}
-use Rattle.hb_store.specs.States.{StoreState}
 use Rattle.hb_store.specs.declared.stops.StopWhy.{StopWhy}
 use Rattle.hbpi.proofs.Opened.{IsOpening, from_before, late_before, silent_behind, tells_behind}
 use Rattle.hbpi.specs.Drives.{LeavesPrefixes, TakesSteps}
@@ -77,10 +74,3 @@ takes_before d m e k lines steps answered order after walks alone one opening ta
       )) takes.told;
   silent = λ none. takes.silent (silent_behind d m opening none);
 }
-
--- what the store keeps that was opened
-pub kept_of : (d m : DiskModel) (store : StoreState) (count : ℕ) → OpensStore d m store count → RunsThrough store.meta.high d m → IfSome m.told (λ b. (s : FileState) × IsSound s × StoreKeeps m store s [])
-kept_of d m store count opens through = if_value m.told _ (λ b is.
-    let from = some_value d.told (through.silent (has_value m.told b is)) in
-    let found = at_value d.told _ from.0 from.1 opens.file in
-    (found.0, found.2, found.4))

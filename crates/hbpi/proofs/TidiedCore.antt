@@ -1,6 +1,6 @@
 -- What the calls over a core come to: it is tidied, and flushed behind that.
 use Rattle.std.proofs.Common.{◌≡◌, ℕ, ◌+◌, ◌-◌, ◌^◌, List, [], Option, Some, None, IfSome, IsSome, Ok, Err, Result, option_map, refl, sym, ap, ◌∙◌, subst, arith}
-use Rattle.hb_core.proofs.Facts.RunDisks.{none_later}
+use Rattle.hb_store.proofs.Facts.StoreLaws.{StoreKeeps-alone}
 use Rattle.hb_core.specs.Between.{said_of_flush}
 use Rattle.hb_core.specs.Keeps.{HasSoundFile}
 use Rattle.hb_core.specs.Machines.{Files, Machine, current_file}
@@ -90,7 +90,7 @@ module _ (laws : RunningLaws) (d : DiskModel) (m : Machine) (e : DiskModel) (fir
           files = if_value went.new.files (FilesTidied m.store.meta (Ok counts)) (λ files is.
               let shown = went.shows.tells (tells_of f went.new files went.shows.silent is) in
               let same : shown.files ≡ files = cc (shown.told, is) in
-              let later = none_later f went.new.store files.durable files.later none (subst (λ (x : Files). StoreKeeps f went.new.store x.durable x.later) same shown.kept) in
+              let later = StoreKeeps-alone f went.new.store files.durable files.later (subst (λ (x : Files). StoreKeeps f went.new.store x.durable x.later) same shown.kept) none in
               let sound : HasSoundFile went.new files = at_value went.new.files (HasSoundFile went.new) files is went.goes_on.sound in
               durable_tidy m.store.meta counts files later (subst (λ (x : Meta). GrewBy m.store.meta x counts) (sym sound.meta) grew) (subst (λ (o : Option Files). IfSome (option_map current_file o) IsTidy) is tidy));
         },

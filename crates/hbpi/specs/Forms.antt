@@ -6,11 +6,7 @@ use Rattle.hb_space.specs.declared.form.TheConstants.{KMAX}
 use Rattle.hb_text.specs.Numbers.{number_read}
 use Rattle.hbpi.specs.declared.forms.Form.{Form}
 use Rattle.hbpi.specs.declared.forms.Form.TheVariants.{Create, Dry, Run, Drive, Check, Map, Tidy, Gen, Work}
-
-infixl 10 ◌>>=◌
-abbrev pub ◌>>=◌ : {A B : Type 0} → Option A → (A → Option B) → Option B
-(Some x) >>= f = f x
-None >>= f = None
+use Rattle.hb_lemmas.specs.Options.{◌>>=◌}
 
 -- a number word: decimal digits without a leading zero, at most 2 ^ 64 - 1
 abbrev pub number_said : List ℕ → Option ℕ

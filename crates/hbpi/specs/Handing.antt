@@ -1,5 +1,6 @@
 -- What a run gives back, whether it was refused or has come to its end.
 use Rattle.std.specs.Prelude.{◌≡◌, ℕ, List, []}
+use Rattle.hb_core.specs.Showing.{RunningCore}
 use Rattle.hb_core.specs.declared.endings.End.{End}
 use Rattle.hb_core.specs.declared.endings.End.TheVariants as ends
 use Rattle.hb_outside.specs.Calls.{SinkModel}
@@ -23,15 +24,31 @@ pub record HandsOver {X : Type 0} (over last : X) (given answered : List Answere
   pub answered_is : answered ≡ given
   pub order_is : order ≡ left
 
--- A run of a core that has put its replies is ended: the status is that of its end, and the fault line stands behind its output.
-pub record EndsText {X Y : Type 0} (S : Y → SinkModel) (end : End) (mid put : Y) (over last : X) (given answered : List Answered) (left order : List ℕ) (status : Status) : Type 0 where
-  pub hands : HandsOver over last given answered left order
-  pub status_is : status ≡ status_after end
-  pub silent : end ≡ ends.SinkFault → put ≡ mid
-  pub silent_done : end ≡ ends.Finished → put ≡ mid
-  pub line : GetsLine (S mid) (S put) (fault_line status)
+-- A run of a core that has stopped: how it ended, what its core shows, its disk, its sink, and the answers that were given.
+pub record RunLeft (X Y : Type 0) : Type 0 where
+  pub end : End
+  pub core : RunningCore
+  pub disk : X
+  pub sink : Y
+  pub answered : List Answered
 
--- So is one that has put none: it says its counts by this line.
-pub record EndsCounting {X : Type 0} (end : End) (text : List ℕ) (before after : SinkModel) (over last : X) (given answered : List Answered) (left order : List ℕ) (status : Status) : Type 0 where
-  pub hands : HandsOver over last given answered left order
-  pub says : SaysCounts end text before after status
+-- What is given back of it.
+pub record GivenBack (X Y : Type 0) : Type 0 where
+  pub status : Status
+  pub disk : X
+  pub sink : Y
+  pub answered : List Answered
+  pub order : List ℕ
+
+-- A run that has put its replies is ended: the status is that of its end, and the fault line stands behind its output.
+pub record EndsText {X Y : Type 0} (S : Y → SinkModel) (left : RunLeft X Y) (back : GivenBack X Y) : Type 0 where
+  pub hands : HandsOver left.disk back.disk left.answered back.answered left.core.order back.order
+  pub status_is : back.status ≡ status_after left.end
+  pub silent : left.end ≡ ends.SinkFault → back.sink ≡ left.sink
+  pub silent_done : left.end ≡ ends.Finished → back.sink ≡ left.sink
+  pub line : GetsLine (S left.sink) (S back.sink) (fault_line back.status)
+
+-- So is one that has put none: it says its counts by this line, on this sink.
+pub record EndsCounting {X Y Z : Type 0} (S : Z → SinkModel) (text : List ℕ) (sink : Z) (left : RunLeft X Y) (back : GivenBack X Z) : Type 0 where
+  pub hands : HandsOver left.disk back.disk left.answered back.answered left.core.order back.order
+  pub says : SaysCounts left.end text (S sink) (S back.sink) back.status

@@ -63,7 +63,8 @@ fn leave<K, D: Disk>(
 
 /// Writes the fault line behind the output of a run, and gives back what it leaves.
 pub(crate) fn finish<K: Sink, D: Disk>(ran: Ran<D, K>) -> Finished<K, D>
-    ensures { EndsText K.model ran.end ran.sink result.sink (core_disk ran.core) result.disk ran.answered.items result.answered.items (core_seen ran.core).order result.order.items result.status }
+    ensures { EndsText K.model (record { end = ran.end; core = core_seen ran.core; disk = core_disk ran.core; sink = ran.sink; answered = ran.answered.items })
+        (record { status = result.status; disk = result.disk; sink = result.sink; answered = result.answered.items; order = result.order.items }) }
 {
     let Ran {
         core,
@@ -101,7 +102,8 @@ pub(crate) fn finish_counting<K: Sink, D: Disk>(
     records: u64,
     mut sink: K,
 ) -> Finished<K, D>
-    ensures { EndsCounting ran.end (counts_text ran.answered.items (records_left (core_seen ran.core).lines ran.answered.items records)) (K.model sink) (K.model result.sink) (core_disk ran.core) result.disk ran.answered.items result.answered.items (core_seen ran.core).order result.order.items result.status }
+    ensures { EndsCounting K.model (counts_text ran.answered.items (records_left (core_seen ran.core).lines ran.answered.items records)) sink (record { end = ran.end; core = core_seen ran.core; disk = core_disk ran.core; sink = ran.sink; answered = ran.answered.items })
+        (record { status = result.status; disk = result.disk; sink = result.sink; answered = result.answered.items; order = result.order.items }) }
 {
     let Ran {
         core,

@@ -62,7 +62,7 @@ module _ (s : Scene) (may : ℕ → Type 0) (more : List (ℕ × Page)) (each : 
 
   pub come : Brings (machine_of s) may (store_of (bringing more s))
   come = record {
-    rest = record { turn = refl; meta = refl; log = refl; in_log = refl; dirty = refl; stopped = refl };
+    rest = refl;
     stays = λ id must there. stays_here id there;
     others = λ id there. inl (stays_here id there);
     only = λ id none there. only id (in_memory (store_of (bringing more s)) id) none refl there;

@@ -281,7 +281,7 @@ is_none_not some = cc
 -- no page has to come
 pub nothing_comes : (m : Machine) (may : ℕ → Type 0) → Brings m may m.store
 nothing_comes m may = record {
-  rest = record { turn = refl; meta = refl; log = refl; in_log = refl; dirty = refl; stopped = refl };
+  rest = refl;
   stays = λ id must there. refl;
   others = λ id there. inl refl;
   only = λ id none there. absurd (is_none_not (subst (λ (o : Option Page). IsSome o) none there));

@@ -299,4 +299,4 @@ module _ {D : Type 0} (model : D → DiskModel) (x y : D) (c : RunningCore) (st 
         by flushes.Forced some force clean = touched_forced model x y c (with_held st uses c) outcomes.Moved flushes.Forced moved_well (force some).0
         by (flushes.Written id) which force clean = touched_home model x y c (with_held st uses c) outcomes.Moved (flushes.Written id) id moved_well which (home_some (model x) (model y) (held_in c) now (Ok (flushes.Written id)) id which.1 (clean which.0))
         by flushes.Switched which force clean = touched_turn model x y c (with_held st uses c) outcomes.Moved flushes.Switched moved_well which (home_turn (model x) (model y) (held_in c) now (Ok flushes.Switched) (which.1, which.2) (clean which.0))
-        by flushes.Nothing which force clean = flush_idled_then model x y c st uses (home_none (model x) (model y) (held_in c) now (Ok flushes.Nothing) (which.1, which.2) (clean which.0)).0
+        by flushes.Nothing which force clean = flush_idled_then model x y c st uses (home_none (model x) (model y) (held_in c) now (Ok flushes.Nothing) (which.1, which.2) (clean which.0)).0.only

@@ -11,7 +11,8 @@ use Rattle.hb_store.specs.Calls.{read_here}
 use Rattle.hb_store.specs.States.{StoreState}
 use Rattle.hb_core.specs.declared.counts.TidyCounts.{TidyCounts}
 use Rattle.hb_core.specs.Counting.{CountsFlush, CountsOp, CountsStay, CountsStep, CountsWithin}
-use Rattle.hb_core.specs.Counts.{counted, one_more}
+use Rattle.hb_core.specs.Counts.{counted}
+use Rattle.hb_outside.specs.Memory.{next_count}
 use Rattle.hb_core.specs.Showing.{RunningCore}
 use Rattle.hb_core.specs.Taking.{begun_core}
 
@@ -23,21 +24,21 @@ pub record AreWithin (done : TidyCounts) (taken : ℕ) : Type 0 where
   pub split : done.split ≤ taken
   pub merged : done.merged ≤ taken
 
-rises : (n taken : ℕ) → n ≤ taken → one_more n ≤ one_more taken
+rises : (n taken : ℕ) → n ≤ taken → next_count n ≤ next_count taken
 rises n taken le = omega (arith, le)
 
-still : (n taken : ℕ) → taken ≤ 2 ^ 64 - 1 → n ≤ taken → n ≤ one_more taken
+still : (n taken : ℕ) → taken ≤ 2 ^ 64 - 1 → n ≤ taken → n ≤ next_count taken
 still n taken last le = omega (arith, last, le)
 
-all_still : (done : TidyCounts) (taken : ℕ) → taken ≤ 2 ^ 64 - 1 → AreWithin done taken → AreWithin done (one_more taken)
+all_still : (done : TidyCounts) (taken : ℕ) → taken ≤ 2 ^ 64 - 1 → AreWithin done taken → AreWithin done (next_count taken)
 all_still done taken last are = record { grown = still done.grown taken last are.grown; posted = still done.posted taken last are.posted; split = still done.split taken last are.split; merged = still done.merged taken last are.merged }
 
-one_rises : (actor : ℕ) (op : Op) (done : TidyCounts) (taken : ℕ) → taken ≤ 2 ^ 64 - 1 → AreWithin done taken → AreWithin (counted actor op done) (one_more taken)
+one_rises : (actor : ℕ) (op : Op) (done : TidyCounts) (taken : ℕ) → taken ≤ 2 ^ 64 - 1 → AreWithin done taken → AreWithin (counted actor op done) (next_count taken)
 one_rises actor (ops.Put page rec) done taken last are = all_still done taken last are
 one_rises actor (ops.Del page point) done taken last are = all_still done taken last are
 one_rises actor (ops.Extract source fresh path cuts free_after) done taken last are = by (actor == 17)
   where
-    by : (b : Bool) → AreWithin (cond b (record done { split = one_more done.split }) done) (one_more taken)
+    by : (b : Bool) → AreWithin (cond b (record done { split = next_count done.split }) done) (next_count taken)
     by true = let all = all_still done taken last are in record { grown = all.grown; posted = all.posted; split = rises done.split taken are.split; merged = all.merged }
     by false = all_still done taken last are
 one_rises actor (ops.Post parent way inner area) done taken last are = let all = all_still done taken last are in record { grown = all.grown; posted = rises done.posted taken are.posted; split = all.split; merged = all.merged }
@@ -52,7 +53,7 @@ so_within c done taken counts steps last are =
     let its : AreWithin c.done c.taken = subst (λ (x : TidyCounts). AreWithin x c.taken) (sym counts) (subst (AreWithin done) (sym steps) are) in
     record { last = subst (λ (n : ℕ). n ≤ 2 ^ 64 - 1) (sym steps) last; grown = its.grown; posted = its.posted; split = its.split; merged = its.merged }
 
-at_last : (taken : ℕ) → one_more taken ≤ 2 ^ 64 - 1
+at_last : (taken : ℕ) → next_count taken ≤ 2 ^ 64 - 1
 at_last taken = omega arith
 
 -- a core that has taken no step, a step, and a call that counts nothing
@@ -63,11 +64,11 @@ pub steps_within : (actor : ℕ) (old new : RunningCore) → CountsStep actor ol
 steps_within actor old new step within = by step.done
   where
     by : CountsOp actor old new → CountsWithin new
-    by (inl (none, done)) = so_within new old.done (one_more old.taken) done step.taken (at_last old.taken) (all_still old.done old.taken within.last (are_within old within))
-    by (inr (op, did, done)) = so_within new (counted actor op old.done) (one_more old.taken) done step.taken (at_last old.taken) (one_rises actor op old.done old.taken within.last (are_within old within))
+    by (inl (none, done)) = so_within new old.done (next_count old.taken) done step.taken (at_last old.taken) (all_still old.done old.taken within.last (are_within old within))
+    by (inr (op, did, done)) = so_within new (counted actor op old.done) (next_count old.taken) done step.taken (at_last old.taken) (one_rises actor op old.done old.taken within.last (are_within old within))
 
 pub flushes_within : (old new : RunningCore) → CountsFlush old new → CountsWithin old → CountsWithin new
-flushes_within old new flush within = so_within new old.done (one_more old.taken) flush.done flush.taken (at_last old.taken) (all_still old.done old.taken within.last (are_within old within))
+flushes_within old new flush within = so_within new old.done (next_count old.taken) flush.done flush.taken (at_last old.taken) (all_still old.done old.taken within.last (are_within old within))
 
 pub stays_within : (old new : RunningCore) → CountsStay old new → CountsWithin old → CountsWithin new
 stays_within old new stay within = so_within new old.done old.taken stay.done stay.taken within.last (are_within old within)
@@ -99,7 +100,7 @@ one_level actor (ops.Put page rec) done few = omega arith
 one_level actor (ops.Del page point) done few = omega arith
 one_level actor (ops.Extract source fresh path cuts free_after) done few = by (actor == 17)
   where
-    by : (b : Bool) → (cond b (record done { split = one_more done.split }) done).grown ≡ done.grown + 0
+    by : (b : Bool) → (cond b (record done { split = next_count done.split }) done).grown ≡ done.grown + 0
     by true = omega arith
     by false = omega arith
 one_level actor (ops.Post parent way inner area) done few = omega arith
@@ -117,6 +118,6 @@ height_counted actor old new step few = by step.done
         omega (arith, height, grown)
     by (inr (op, did, done)) =
         let made = ap (λ (x : Meta). x.height) did.does.commits.meta ∙ height_of_change op did.came.meta (read_here did.came op 0) (read_here did.came op 1) (read_here did.came op 2) in
-        let same = ap (λ (x : Meta). x.height) did.rest.meta in
+        let same = ap (λ (s : StoreState). s.meta.height) did.rest in
         let grown = ap (λ (c : TidyCounts). c.grown) done ∙ one_level actor op old.done few in
         omega (arith, made, same, grown)

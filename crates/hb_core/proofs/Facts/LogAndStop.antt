@@ -80,7 +80,7 @@ module _ (m : Machine) (actor : ℕ) (outcome : Outcome) (new : Machine) where
 
   meets : MeetsBadPage m actor outcome new → StepTells m outcome new
   meets bad = record {
-    size = ap (λ (x : Machine). file_size x.store.meta) bad.stops ∙ ap file_size bad.brings.rest.meta;
+    size = ap (λ (x : Machine). file_size x.store.meta) bad.stops ∙ ap file_size (ap (λ (s : StoreState). s.meta) bad.brings.rest);
     stop = inr (_, ap (λ (x : Machine). x.stop) bad.stops, bad.says);
   }
 
@@ -88,8 +88,8 @@ module _ (m : Machine) (actor : ℕ) (outcome : Outcome) (new : Machine) where
   worked (inl (by, way, so)) = stays (outcomes.Blocked by) so
   worked (inr (inl (free, unready, inl (waits, force)))) = forces outcomes.Helped force
   worked (inr (inl (free, unready, inr (none, rest)))) = ready_kind m outcome new (StepTells m outcome new) none more rest
-  worked (inr (inr (free, ready, inl acts))) = performed acts.fetched acts.deed acts.brings.rest.meta acts.performs
-  worked (inr (inr (free, ready, inr (inl gives)))) = performed gives.fetched _ gives.brings.rest.meta gives.performs
+  worked (inr (inr (free, ready, inl acts))) = performed acts.fetched acts.deed (ap (λ (s : StoreState). s.meta) acts.brings.rest) acts.performs
+  worked (inr (inr (free, ready, inr (inl gives)))) = performed gives.fetched _ (ap (λ (s : StoreState). s.meta) gives.brings.rest) gives.performs
   worked (inr (inr (free, ready, inr (inr bad)))) = meets bad
 
 pub step_tells : (m : Machine) (actor : ℕ) (outcome : Outcome) (new : Machine) → StepsTo m actor outcome new → StepTells m outcome new

@@ -42,10 +42,12 @@ use Rattle.hb_ops.specs.Files.{FileState, if_live, live_page, page_of}
 use Rattle.hb_ops.specs.Sound.{IsSound}
 use Rattle.hb_space.specs.Boxes.{whole_area}
 use Rattle.hb_ops.proofs.Facts.FilePages.{page_in_range, sound_head, sound_room}
+use Rattle.hb_store.specs.Calls.{CommitsBringNone}
 use Rattle.hb_store.specs.Fetching.{IsNoPage}
 use Rattle.hb_store.specs.States.{StoreState, in_memory}
 use Rattle.hb_ops.proofs.Facts.PageNumberLaws.{live_so}
 use Rattle.hb_lemmas.proofs.Options.{some_of_map, some_of_then}
+use Rattle.hb_core.proofs.Memory.NeededPages.{needs_room}
 
 -- what a disk that tells reads is never damaged
 no_bad_read : (files : Files) (st : StoreState) (id : ℕ) (why : Why) → IsBadRead (Some files) st id why → ⊥
@@ -119,7 +121,7 @@ module _ (m : Machine) (files : Files) (actor : ℕ) (may : IsActor actor) (fit 
   meta = has.meta
 
   same_k : fetched.meta.k ≡ m.store.meta.k
-  same_k = ap (λ (x : Meta). x.k) brings.rest.meta
+  same_k = ap (λ (s : StoreState). s.meta.k) brings.rest
 
   sound_now : IsSound (current_file files)
   sound_now = current_sound m.store files (files_hold m files has)
@@ -204,15 +206,6 @@ module _ (m : Machine) (files : Files) (actor : ℕ) (may : IsActor actor) (fit 
       (same_Some (wanted_page gone (known.page.level - 1) Exclusive) wanted (sym (ap (λ (o : Option LivePage). option_map (λ (page : LivePage). wanted_page gone (page.level - 1) Exclusive) o) known.live) ∙ wants)) asks
   there activity wanted asked is wants asks = cc
 
--- a step that takes a number for a page finds a page free
-has_room : (activity : Activity) (wanted : Option Wanted) (n : Machine) → NeedsNumber activity wanted n → n.store.meta.live < n.store.meta.pages
-has_room (at.SessionSplit line held) wanted n needs = needs
-has_room (at.PosterGrow job) None n needs = absurd needs
-has_room (at.PosterGrow job) (Some wanted) n needs = needs.0
-has_room (at.PosterAgain job parent) None n needs = absurd needs
-has_room (at.PosterAgain job parent) (Some wanted) n needs = needs.0
-has_room activity wanted n needs = absurd needs
-
 pub no_page_is_damaged : NoPageIsDamaged
 no_page_is_damaged m files actor outcome new may told fit has walks bad = by bad.bad
   where
@@ -231,7 +224,7 @@ no_page_is_damaged m files actor outcome new may told fit has walks bad = by bad
         ⊎ (NeedsNumber (m.activity actor) (wanted_by m actor) (with_disk bad.fetched m.files m.clock m) × IsBadHead m.files bad.fetched bad.page bad.why) → ⊥
     by (inl wanted) = by_wanted (wanted_by m actor) (asked_box (m.activity actor) bad.fetched) refl refl wanted
     by (inr (needs, head)) =
-        no_bad_head files bad.fetched holds bad.page bad.why (has_room (m.activity actor) (wanted_by m actor) (with_disk bad.fetched m.files m.clock m) needs)
+        no_bad_head files bad.fetched holds bad.page bad.why (needs_room (m.activity actor) (wanted_by m actor) (with_disk bad.fetched m.files m.clock m) needs)
         (subst (λ (o : Option Files). IsBadHead o bad.fetched bad.page bad.why) told head)
 
 -- ---- so only a write fault stops a machine
@@ -274,9 +267,9 @@ stays_undamaged m files actor outcome new may told fit has walks step = undamage
 
 -- ---- and of a machine that keeps all two steps lead to machines that are one
 
-pub kept_step_is_one : KeptStepIsOne
-kept_step_is_one n m files actor outcome other new next may keeps first second =
-    by (outcome_is_one m actor outcome other new next first second) (state_is_one m files actor outcome other new next keeps.told keeps.kept.pages_of_file keeps.kept.room_known first second)
+pub kept_step_is_one : CommitsBringNone → KeptStepIsOne
+kept_step_is_one commits n m files actor outcome other new next may keeps first second =
+    by (outcome_is_one m actor outcome other new next first second) (state_is_one commits m files actor outcome other new next keeps.told keeps.kept.pages_of_file keeps.kept.room_known first second)
   where
     refused : (said : Outcome) (after : Machine) → IsTurnedAside m actor said after → IsRefusedOrFails m actor said after
     refused said after (inl search) = inl search

@@ -8,8 +8,8 @@ use Rattle.hb_core.proofs.TwoSteps.SinglePlaces.{no_place, one_place, stands_lon
 use Rattle.hb_core.specs.KeptMachine.{CoreKeeps}
 use Rattle.hb_core.specs.KeptOrder.{StandsInOrder}
 use Rattle.hb_core.specs.Machines.{Files, Machine, settled_count}
-use Rattle.hb_core.specs.MomentLaws.{ImagesHavePrefixes}
-use Rattle.hb_core.specs.Runs.{CrashesTo, HoldsSince, IsPrefixImage}
+use Rattle.hb_core.proofs.Facts.RunDisks.{opens_kept}
+use Rattle.hb_core.specs.Runs.{CrashesTo, HoldsSince, IsPrefixImage, RunningLaws}
 use Rattle.hb_disk.proofs.Facts.RunLaws.{Leaves-then, Leaves-weaker}
 use Rattle.hb_disk.specs.Calls.{Leaves}
 use Rattle.hb_disk.specs.Model.{DiskModel, IsDisk}
@@ -17,7 +17,6 @@ use Rattle.hb_lemmas.proofs.Lists.{All-behind}
 use Rattle.hb_set.specs.Machine.{RecordSet}
 use Rattle.hb_set.specs.Order.{Entry}
 use Rattle.hb_set.specs.declared.scripts.Answered.{Answered}
-use Rattle.hb_store.proofs.Facts.StoreLaws.{StoreKeeps-opens}
 use Rattle.hb_store.specs.Keeps.{OpensToEither, StoreKeeps}
 
 -- The machine at the end of a run, and the one after a step more: both keep all that they should over a disk that tells.
@@ -37,12 +36,12 @@ pub record StepKeepsAll (n : RecordSet) (e f : DiskModel) (mid next : Machine) (
   pub timed : All (λ (a : Answered). a.at ≤ e.clock) answers
   pub timed_then : All (λ (a : Answered). a.at ≡ f.clock) given
 
-module _ (images : ImagesHavePrefixes) (n : RecordSet) (d e f : DiskModel) (mid next : Machine) (answers given : List Answered) (disk : IsDisk f) (step : StepKeepsAll n e f mid next answers given) (run : CrashesTo n d e mid answers) where
+module _ (laws : RunningLaws) (n : RecordSet) (d e f : DiskModel) (mid next : Machine) (answers given : List Answered) (disk : IsDisk f) (step : StepKeepsAll n e f mid next answers given) (run : CrashesTo n d e mid answers) where
   longer : (least : ℕ) (c : List ℕ) → IsPrefixImage n mid.order least c → IsPrefixImage n next.order least c
   longer least c image = subst (λ (es : List Entry). IsPrefixImage n es least c) (sym step.order) (prefix_longer n mid.order step.more least c image)
 
   opened : (least : ℕ) (c : List ℕ) → least ≤ settled_count mid → OpensToEither step.files.durable step.files.later c → IsPrefixImage n next.order least c
-  opened least c few opens = longer least c (prefix_less n mid.order least (settled_count mid) c few (settled_prefix images n mid step.files c step.keeps opens))
+  opened least c few opens = longer least c (prefix_less n mid.order least (settled_count mid) c few (settled_prefix laws.images n mid step.files c step.keeps opens))
 
   each_more : Leaves d f (IsPrefixImage n next.order 0)
   each_more =
@@ -71,7 +70,7 @@ module _ (images : ImagesHavePrefixes) (n : RecordSet) (d e f : DiskModel) (mid 
       let less = settled place stands in
       let now = disk.only_now c (subst (λ (t : ℕ). f.ImageSince t c) timed image) in
       prefix_less n next.order (place + 1) (settled_count next) c (omega (arith, less))
-      (settled_prefix images n next step.files_then c step.keeps_then (StoreKeeps-opens f next.store step.files_then.durable step.files_then.later step.kept_then c now))
+      (settled_prefix laws.images n next step.files_then c step.keeps_then (opens_kept laws.opens f next.store step.files_then.durable step.files_then.later step.kept_then c now))
 
   of_answers : (P : Answered → Type 0) → All P mid.answered → All P answers
   of_answers P all = All-behind P step.first answers (subst (λ (l : List Answered). All P l) step.among all)

@@ -1,6 +1,6 @@
 -- What a step leaves of the disk: only the file may read otherwise, and at each of its moments a crash leaves the durable file
 -- or the last one.
-use Rattle.std.proofs.Common.{◌≡◌, inl, inr, ℕ, zero, suc, ◌+◌, ◌*◌, ◌%◌, ◌≤◌, true, List, [], ◌∷◌, map, Option, Some, None, IsSome, refl, sym, ap, ◌∙◌, subst, arith}
+use Rattle.std.proofs.Common.{◌≡◌, inl, inr, ℕ, zero, suc, ◌+◌, ◌*◌, ◌%◌, ◌≤◌, true, List, Option, Some, None, IsSome, refl, sym, ap, ◌∙◌, subst, arith}
 use Rattle.std.specs.Option.{is_some}
 use Rattle.hb_core.proofs.Machines.FlushedFrames.{dirty_frame}
 use Rattle.hb_core.specs.KeptMachine.{MachineKeeps}
@@ -17,19 +17,14 @@ use Rattle.hb_disk.specs.Model.{DiskModel, IsDisk, Torn}
 use Rattle.hb_lemmas.proofs.Options.{has_value, not_none, some_value}
 use Rattle.hb_layout.specs.Offsets.{file_size, log_start, page_offset, slot_offset}
 use Rattle.hb_layout.specs.declared.meta.Meta.{Meta}
-use Rattle.hb_log_codec.specs.Groups.{Logged, group_bytes}
 use Rattle.hb_ops.specs.Files.{FileState}
 use Rattle.hb_pool.specs.Frames.{Use}
 use Rattle.hb_space.specs.declared.form.TheConstants.{PAGE}
 use Rattle.hb_store.specs.Held.{oldest_dirty}
 use Rattle.hb_store.specs.Opening.{OpensTo}
-use Rattle.hb_store.specs.Parts.{Leads, written_pages}
-use Rattle.hb_store.specs.Replay.{Replayed}
 use Rattle.hb_store.specs.States.{StoreState, in_memory}
 use Rattle.hb_store.specs.Switching.{TornSwitch}
-use Rattle.hb_wal.specs.Log.{Waiting}
-use Rattle.hb_store.proofs.Facts.StoreLaws.{StoreKeeps-opens}
-use Rattle.hb_store.specs.Keeps.{OpensToEither, StoreKeeps}
+use Rattle.hb_store.specs.Keeps.{OpensToEither, PartsOpen, StoreKeeps}
 use Rattle.std.proofs.lemmas.Option.{same_Some}
 
 -- ---- only bytes of the file are other ones
@@ -95,34 +90,24 @@ file_more d e f m mid size first next =
     (λ b c both. Torn-twice 0 (file_size m.store.meta) b both.0 c both.1 (subst (λ (n : ℕ). Torn 0 n both.0 c) size both.2))
     (Becomes-then (ChangesFile m.store) (ChangesFile mid.store) d e f first next)
 
--- ---- where no group waits no file is to come
+-- ---- what crashes leave
 
-leads_nowhere : (t : Replayed) (s : FileState) (waiting : List Logged) (later : List FileState) → waiting ≡ [] → Leads t s waiting later → later ≡ []
-leads_nowhere t s [] later none leads = leads
-leads_nowhere t s (g ∷ rest) later none leads = absurd cc
+-- what a crash leaves of a disk that a store keeps
+pub opens_kept : PartsOpen → (d : DiskModel) (st : StoreState) (durable : FileState) (later : List FileState) → StoreKeeps d st durable later → (c : List ℕ) → d.Image c → OpensToEither durable later c
+opens_kept opens d st durable later keeps c image = opens c st.turn st.stopped keeps.parts durable later (keeps.disk.images c image)
 
-none_spelled : (groups : List Waiting) (waiting : List Logged) → groups ≡ [] → map (λ (w : Waiting). w.bytes) groups ≡ map group_bytes waiting → waiting ≡ []
-none_spelled groups [] none is = refl
-none_spelled groups (g ∷ rest) none is = let never : [] ≡ group_bytes g ∷ map group_bytes rest = ap (λ (l : List Waiting). map (λ (w : Waiting). w.bytes) l) (sym none) ∙ is in absurd cc
+-- and while the step is taken
+pub moments_touched : PartsOpen → (e f : DiskModel) (old new : RunningCore) (outcome : Outcome) (durable : FileState) (later : List FileState) → IsDisk e → StoreKeeps e old.store durable later → Touches e old outcome f new → Leaves e f (OpensToEither durable later)
+moments_touched opens e f old new outcome durable later disk keeps touches = by touches
+  where
+    durable_so : Leaves e f (λ c. OpensTo c durable) → Leaves e f (OpensToEither durable later)
+    durable_so moments = Leaves-weaker e f (λ c. OpensTo c durable) (OpensToEither durable later) (λ c here. inl here) moments
 
-pub none_later : (d : DiskModel) (st : StoreState) (durable : FileState) (later : List FileState) → st.log.groups ≡ [] → StoreKeeps d st durable later → later ≡ []
-none_later d st durable later none keeps = leads_nowhere (written_pages keeps.parts) durable keeps.parts.waiting later (none_spelled st.log.groups keeps.parts.waiting none keeps.waits.spelled) keeps.waits.leads
-
-same_file : (e f : DiskModel) (durable : FileState) (later : List FileState) → later ≡ [] → Leaves e f (λ c. OpensTo c durable) → Leaves e f (OpensToEither durable later)
-same_file e f durable later none same =
-    subst (λ (l : List FileState). Leaves e f (OpensToEither durable l)) (sym none) (Leaves-weaker e f (λ c. OpensTo c durable) (OpensToEither durable []) (λ c opens. inl opens) same)
-
--- what crashes leave while the step is taken
-pub moments_touched : (e f : DiskModel) (old new : RunningCore) (outcome : Outcome) (durable : FileState) (later : List FileState) → IsDisk e → StoreKeeps e old.store durable later → Touches e old outcome f new → Leaves e f (OpensToEither durable later)
-moments_touched e f old new outcome durable later disk keeps (inl reads) =
-    Leaves-read e e f (OpensToEither durable later) (Leaves-start e (OpensToEither durable later) disk (StoreKeeps-opens e old.store durable later keeps)) reads.only.stays
-moments_touched e f old new outcome durable later disk keeps (inr (inl force)) = force.writes.moments durable later keeps
-moments_touched e f old new outcome durable later disk keeps (inr (inr (inl home))) =
-    let none = none_later e old.store durable later home.no_group keeps in
-    same_file e f durable later none (home.writes.moments durable (subst (λ (l : List FileState). StoreKeeps e old.store durable l) none keeps))
-moments_touched e f old new outcome durable later disk keeps (inr (inr (inr turns))) =
-    let none = none_later e old.store durable later turns.no_group keeps in
-    same_file e f durable later none (turns.switches.moments durable (subst (λ (l : List FileState). StoreKeeps e old.store durable l) none keeps))
+    by : Touches e old outcome f new → Leaves e f (OpensToEither durable later)
+    by (inl reads) = Leaves-read e e f (OpensToEither durable later) (Leaves-start e (OpensToEither durable later) disk (opens_kept opens e old.store durable later keeps)) reads.only.stays
+    by (inr (inl force)) = force.writes.moments durable later keeps
+    by (inr (inr (inl home))) = durable_so (home.writes.moments durable later keeps)
+    by (inr (inr (inr turns))) = durable_so (turns.switches.moments durable later keeps)
 
 -- ---- whether a disk tells
 

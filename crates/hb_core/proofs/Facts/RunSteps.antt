@@ -7,7 +7,7 @@ use Rattle.hb_core.proofs.Facts.LinesLeft.{left_after, left_more}
 use Rattle.hb_core.proofs.Facts.LogAndStop.{size_stands, step_tells}
 use Rattle.hb_core.proofs.Facts.PrefixImages.{prefix_less, settled_prefix}
 use Rattle.hb_core.proofs.Facts.RunCrashes.{crashes_more}
-use Rattle.hb_core.proofs.Facts.RunDisks.{file_more, file_touched, moments_touched, shows_them, told_before}
+use Rattle.hb_core.proofs.Facts.RunDisks.{file_more, file_touched, moments_touched, opens_kept, shows_them, told_before}
 use Rattle.hb_core.proofs.Facts.RunFaults.{faults_more}
 use Rattle.hb_core.proofs.Machines.GoingOn.{steps_go_on}
 use Rattle.hb_core.proofs.Memory.Moments.{answers_are_timed}
@@ -16,7 +16,6 @@ use Rattle.hb_core.proofs.Facts.Ways.{order_grows}
 use Rattle.hb_core.specs.Keeps.{HasSoundFile}
 use Rattle.hb_core.specs.KeptMachine.{CoreKeeps}
 use Rattle.hb_core.specs.Machines.{Files, Machine, settled_count}
-use Rattle.hb_core.specs.MomentLaws.{ImagesHavePrefixes}
 use Rattle.hb_core.specs.Performing.{given_by}
 use Rattle.hb_core.specs.Runs.{AreAnswers, ChangesFile, CountsFaults, CrashesTo, HasReadFault, HasRun, HoldsSince, IsPrefixImage, RunningLaws, left_count}
 use Rattle.hb_core.specs.Showing.{RunningCore, ShowsMachine}
@@ -38,7 +37,6 @@ use Rattle.hb_lemmas.proofs.Lists.{All-alone}
 use Rattle.hb_lemmas.proofs.Options.{has_value}
 use Rattle.hb_set.specs.Machine.{RecordSet}
 use Rattle.hb_set.specs.declared.scripts.Answered.{Answered}
-use Rattle.hb_store.proofs.Facts.StoreLaws.{StoreKeeps-opens}
 use Rattle.hb_store.specs.Keeps.{StoreKeeps}
 use Rattle.hb_store.specs.States.{StoreState}
 
@@ -50,11 +48,11 @@ no_fault_yet d m = record { reads = omega arith; writes = omega arith; read = λ
     nothing : HasReadFault [] → ⊥
     nothing (k, a, lt, at, is) = omega (arith, lt)
 
-crashes_begin : ImagesHavePrefixes → (d : DiskModel) (m : Machine) (c : RunningCore) → IsDisk d → ShowsMachine d c m → (n : RecordSet) (files : Files) → CoreKeeps n m files → CrashesTo n d d m []
-crashes_begin images d m c disk shows n files keeps =
+crashes_begin : RunningLaws → (d : DiskModel) (m : Machine) (c : RunningCore) → IsDisk d → ShowsMachine d c m → (n : RecordSet) (files : Files) → CoreKeeps n m files → CrashesTo n d d m []
+crashes_begin laws d m c disk shows n files keeps =
     let them = shows_them d c m files shows keeps.told in
     record {
-      each = Leaves-start d (IsPrefixImage n m.order 0) disk (λ bytes image. prefix_less n m.order 0 (settled_count m) bytes (omega arith) (settled_prefix images n m files bytes keeps (StoreKeeps-opens d m.store files.durable files.later them.kept bytes image)));
+      each = Leaves-start d (IsPrefixImage n m.order 0) disk (λ bytes image. prefix_less n m.order 0 (settled_count m) bytes (omega arith) (settled_prefix laws.images n m files bytes keeps (opens_kept laws.opens d m.store files.durable files.later them.kept bytes image)));
       since = All-nil (HoldsSince d n m);
     }
 
@@ -74,7 +72,7 @@ run_begins laws d m c disk may = record {
   left = begun_left (left_count m);
   faults = no_fault_yet d m;
   in_file = Becomes-read (ChangesFile m.store) d d disk (λ b bytes. Torn-itself 0 (file_size m.store.meta) b bytes) (Stays-same d);
-  crashes = crashes_begin laws.images d m c disk may.shows;
+  crashes = crashes_begin laws d m c disk may.shows;
 }
 
 -- ---- a step more
@@ -173,13 +171,13 @@ module _ (laws : RunningLaws) (d : DiskModel) (m : Machine) (actors : List ℕ) 
       let tells = tells_first shown_next.tells in
       let exactly = went.given_is.same shown_next.tells in
       let same = run.answers_are.same tells in
-      crashes_more laws.images n d e f mid next answers given disk_next
+      crashes_more laws n d e f mid next answers given disk_next
       (record {
         files = before.0;
         files_then = after.0;
         keeps = before.1.keeps;
         keeps_then = after.1.keeps;
-        moments = moments_touched e f old new outcome before.0.durable before.0.later disk (subst (λ (st : StoreState). StoreKeeps e st before.0.durable before.0.later) same_store shown.kept) went.touches;
+        moments = moments_touched laws.opens e f old new outcome before.0.durable before.0.later disk (subst (λ (st : StoreState). StoreKeeps e st before.0.durable before.0.later) same_store shown.kept) went.touches;
         kept_then = shown_next.kept;
         more = grown.0;
         order = grown.1;

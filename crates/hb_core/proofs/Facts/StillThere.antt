@@ -65,7 +65,7 @@ module _ (m : Machine) (may : ℕ → Type 0) (fetched : StoreState) (inside : H
 
   -- so it fits the file
   pub fetched_fits : (id : ℕ) (page : LivePage) → live_here fetched id ≡ Some page → FitsFile fetched.meta page
-  fetched_fits id page live = subst (λ (meta : Meta). FitsFile meta page) (sym brings.rest.meta) (fetched_good id page live).1
+  fetched_fits id page live = subst (λ (meta : Meta). FitsFile meta page) (sym (ap (λ (s : StoreState). s.meta) brings.rest)) (fetched_good id page live).1
 
 module _ (m : Machine) (actor : ℕ) (fetched : StoreState) (deed : Deed) (outcome : Outcome) (new : Machine) (performs : Performs m fetched actor deed outcome new) where
   pub own_next : new.activity actor ≡ deed.next

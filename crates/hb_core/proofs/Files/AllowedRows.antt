@@ -1,11 +1,9 @@
 -- The operation that a row says is allowed on the pages in memory.
-use Rattle.std.proofs.Common.{◌≡◌, inl, inr, ℕ, ◌<◌, ◌≤◌, Bool, cond, List, length, Option, Some, IsSome, refl, sym, ap, ◌∙◌, subst, arith, ne_eqb, IfSome, ◌⊎◌, ◌==◌, None}
-use Rattle.std.proofs.lemmas.Bool.{cases_lt}
-use Rattle.std.proofs.lemmas.List.Elements.{All-contains}
+use Rattle.std.proofs.Common.{◌≡◌, inl, inr, ℕ, ◌<◌, ◌≤◌, cond, List, Option, Some, refl, sym, ap, ◌∙◌, subst, arith, IfSome, ◌⊎◌, ◌==◌, None}
 use Rattle.hb_space.specs.declared.records.Record.{Record}
-use Rattle.hb_frag.specs.declared.leaves.Leaf.TheVariants.{Records, Child}
+use Rattle.hb_frag.specs.declared.leaves.Leaf.TheVariants.{Child}
 use Rattle.hb_frag.specs.declared.pages.LivePage.{LivePage}
-use Rattle.hb_frag.specs.declared.pages.Page.TheVariants.{Live, Free}
+use Rattle.hb_frag.specs.declared.pages.Page.TheVariants.{Free}
 use Rattle.hb_frag.specs.declared.paths.Side.{Side}
 use Rattle.hb_layout.specs.declared.meta.Meta.{Meta}
 use Rattle.hb_ops.specs.declared.operations.Op.{Op}
@@ -18,40 +16,35 @@ use Rattle.hb_activity.specs.declared.activities.Activity.TheVariants as at
 use Rattle.hb_activity.specs.Deeds.{Deed}
 use Rattle.hb_activity.specs.Passing.{PartLeavesTo}
 use Rattle.hb_activity.specs.Sights.{Sight}
+use Rattle.hb_core.proofs.Files.FitOps.{live_good}
 use Rattle.hb_core.proofs.Files.MergedPair.{merge_allowed}
 use Rattle.hb_core.proofs.Memory.BroughtPages.{both_there, must_hold}
 use Rattle.hb_core.proofs.Memory.KeptPages.{KeepsPages, brought, keeps_pages}
 use Rattle.hb_core.proofs.Memory.NextNumbers.{is_next_number}
-use Rattle.hb_point.proofs.Facts.RecordLeaves.{put_weighs, any_at}
+use Rattle.hb_point.proofs.Facts.RecordLeaves.{put_weighs}
+use Rattle.hb_point.proofs.Facts.RecordOps.{del_fits, put_fits}
 use Rattle.hb_core.specs.AllowedLaws.{AnyPage, HalfHasRoom, NamesItsPages, RowsAreAllowed}
 use Rattle.hb_core.specs.Asking.{wanted_by}
 use Rattle.hb_core.specs.Fetching.{Brings, MustStay}
 use Rattle.hb_core.specs.Keeps.{KnowsRoom, LacksRoomFor, LatchesFit}
 use Rattle.hb_core.specs.Machines.{Machine, with_disk, sight}
 use Rattle.hb_core.specs.Rows.{Row}
-use Rattle.hb_frag.proofs.Facts.CarvedKinds.{carved_light}
-use Rattle.hb_frag.proofs.Facts.Tiles.{first_tells, found_where_held, tiles_attributes}
-use Rattle.hb_frag.specs.Leaves.{Placed, leaves, leaves_of, weight_of}
-use Rattle.hb_frag.specs.Paths.{part_at}
-use Rattle.hb_frag.specs.Trees.{Tree}
+use Rattle.hb_frag.specs.Leaves.{leaves, weight_of}
 use Rattle.hb_ops.specs.Allocating.{Allocates}
 use Rattle.hb_ops.specs.Files.{if_live}
 use Rattle.hb_ops.specs.Operations.{IsAllowedOn}
-use Rattle.hb_ops.specs.Posting.{posted}
 use Rattle.hb_ops.specs.Recording.{put_page}
 use Rattle.hb_ops.specs.Standing.{StandsNot, StandsThere}
-use Rattle.hb_space.specs.Boxes.{Area, Holds, common_area}
-use Rattle.hb_split.proofs.Facts.Allowed.{is_allowed}
-use Rattle.hb_split.proofs.Facts.Ends.{is_thirds}
+use Rattle.hb_space.specs.Boxes.{Area}
+use Rattle.hb_split.proofs.Facts.Allowed.{chosen_fits}
 use Rattle.hb_split.specs.Choosing.{IsChosen}
 use Rattle.hb_store.specs.Calls.{IsAllowedHere}
 use Rattle.hb_store.specs.Fetching.{IsNext}
-use Rattle.hb_store.specs.States.{IsGoodPage, StoreState, in_memory}
-use Rattle.hb_terms.proofs.Facts.Owing.{planned_may_be, room_told}
+use Rattle.hb_store.specs.States.{StoreState, in_memory}
+use Rattle.hb_poster.proofs.Facts.ParentWeights.{heavy_parent}
+use Rattle.hb_terms.proofs.Facts.Owing.{plan_fits}
 use Rattle.hb_terms.specs.Plans.{IsPlan}
-use Rattle.hb_ops.specs.Owing.{LacksRoom}
 use Rattle.hb_core.proofs.Facts.EachRow.{each_op, each_row}
-use Rattle.hb_ops.proofs.Facts.PageNumberLaws.{live_so}
 use Rattle.hb_activity.proofs.Facts.AllowedDeeds.{kind_at}
 use Rattle.hb_space.specs.Actors.{IsActor}
 use Rattle.hb_lemmas.proofs.Booleans.{at_itself}
@@ -61,28 +54,14 @@ use Rattle.hb_latch.specs.declared.modes.Mode.TheVariants.{Exclusive}
 -- ---- each operation
 
 module _ (st : StoreState) (keeps : KeepsPages st) where
-  good_live : (id : ℕ) (page : LivePage) → if_live (in_memory st id) ≡ Some page → IsGoodPage st.meta (Live page)
-  good_live id page live = (keeps.framed id (Live page) (live_so (in_memory st id) page live)).2
-
   by_read : (op : Op) (id : ℕ) (page : LivePage) (second third : Option LivePage) → if_live (in_memory st id) ≡ Some page → IsAllowedOn op st.meta (Some page) second third → IsAllowedOn op st.meta (if_live (in_memory st id)) second third
   by_read op id page second third live allowed = subst (λ (o : Option LivePage). IsAllowedOn op st.meta o second third) (sym live) allowed
 
   pub put_allowed : (id : ℕ) (rec : Record) (page : LivePage) → if_live (in_memory st id) ≡ Some page → StandsNot page rec.key → weight_of (put_page rec page).frag ≤ st.meta.dcap → IsAllowedHere st (ops.Put id rec)
-  put_allowed id rec page live absent room =
-      by_read (ops.Put id rec) id page _ _ live (record {
-        made = (good_live id page live).1;
-        level = kind_at st.meta page rec.key (record { leaf = Records absent.records; area = absent.area }) (good_live id page live).1 absent.leaf;
-        absent = record { records = absent.records; area = absent.area; leaf = absent.leaf; keeps = absent.lack };
-        room = room;
-      })
+  put_allowed id rec page live absent room = by_read (ops.Put id rec) id page _ _ live (put_fits st.meta page rec (live_good st keeps.framed id page live).1 absent room)
 
   pub del_allowed : (id : ℕ) (p : List ℕ) (page : LivePage) (r : Record) → if_live (in_memory st id) ≡ Some page → StandsThere page p r → IsAllowedHere st (ops.Del id p)
-  del_allowed id p page r live there =
-      by_read (ops.Del id p) id page _ _ live (record {
-        made = (good_live id page live).1;
-        level = kind_at st.meta page p (record { leaf = Records there.records; area = there.area }) (good_live id page live).1 there.leaf;
-        there = record { records = there.records; area = there.area; leaf = there.leaf; keeps = any_at there.records there.place r p there.among there.key };
-      })
+  del_allowed id p page r live there = by_read (ops.Del id p) id page _ _ live (del_fits st.meta page p r (live_good st keeps.framed id page live).1 there)
 
   allocates : (fresh free_after : ℕ) → st.meta.live < st.meta.pages → IsNext st fresh free_after → Allocates st.meta fresh free_after
   allocates fresh free_after room next = record {
@@ -97,56 +76,17 @@ module _ (st : StoreState) (keeps : KeepsPages st) where
   -- a part that is chosen may leave a page that weighs 6 or more
   pub split_allowed : (id : ℕ) (page : LivePage) (s : Sight) (leaves : PartLeavesTo s (IsChosen page) page) → s.meta ≡ st.meta → IsNext st leaves.fresh leaves.free_after → if_live (in_memory st id) ≡ Some page → 6 ≤ weight_of page.frag → IsAllowedHere st (ops.Extract id leaves.fresh leaves.path leaves.cuts leaves.free_after)
   split_allowed id page s leaves meta next live full =
-      let good = good_live id page live in
-      let n = weight_of page.frag in
-      let chosen = leaves.chosen in
-      let parts : (q : Tree × Area) × (part_at leaves.path page.frag page.area ≡ Some q) × _ = (chosen.part, chosen.found, chosen.chosen) in
-      let thirds = is_thirds n page leaves.path leaves.cuts full refl chosen.way good.1.in_order parts in
-      let may = is_allowed n page leaves.path leaves.cuts full refl chosen.way good.1.in_order parts thirds in
-      by_read (ops.Extract id leaves.fresh leaves.path leaves.cuts leaves.free_after) id page _ _ live (record {
-        allocates = allocates leaves.fresh leaves.free_after (subst (λ (x : Meta). x.live < x.pages) meta leaves.free) next;
-        made = good.1;
-        part = may.part;
-        fits = record {
-          there = may.found;
-          parted = may.parts;
-          less = λ none bare. may.some (none, bare);
-          own = may.own;
-        };
-      })
+      by_read (ops.Extract id leaves.fresh leaves.path leaves.cuts leaves.free_after) id page _ _ live
+      (chosen_fits st.meta page leaves.path leaves.cuts leaves.fresh leaves.free_after (live_good st keeps.framed id page live).1 leaves.chosen full
+      (allocates leaves.fresh leaves.free_after (subst (λ (x : Meta). x.live < x.pages) meta leaves.free) next))
 
   -- what a plan posts may be posted
   pub post_allowed : (parent : ℕ) (path : List Side) (inner : ℕ) (area : Area) (page child : LivePage) (other : ℕ) (p : List ℕ) → if_live (in_memory st parent) ≡ Some page → if_live (in_memory st other) ≡ Some child → IsPlan page child p st.meta.icap (plans.Post path inner area) → IsAllowedHere st (ops.Post parent path inner area)
   post_allowed parent path inner area page child other p live child_live plan =
-      let good = good_live parent page live in
-      let good_child = good_live other child child_live in
-      let may = planned_may_be page child p st.meta.icap path inner area good.0.fits.1 good.1.well_cut good_child.0.fits.1 good_child.1.well_cut plan in
-      by_read (ops.Post parent path inner area) parent page _ _ live (record {
-        made = good.1;
-        above = kind_at st.meta page p (record { leaf = Child plan.outer; area = plan.leaf }) good.1 plan.owed.above;
-        outer = may.outer;
-        box = may.leaf;
-        leaf = may.place;
-        other = λ same. may.other (sym same);
-        meets = may.meets;
-        room = subst (λ (o : Option (Tree × Area)). weight_of (posted path inner area page.frag o) ≤ st.meta.icap) (sym may.place) may.room;
-      })
-
-  -- a parent that has no room weighs enough to be split
-  pub heavy_parent : (parent : ℕ) (page child : LivePage) (p : List ℕ) → if_live (in_memory st parent) ≡ Some page → LacksRoom page child p st.meta.icap → 6 ≤ weight_of page.frag
-  heavy_parent parent page child p live lacks =
-      let good = good_live parent page live in
-      let above = kind_at st.meta page p (record { leaf = Child lacks.outer; area = lacks.leaf }) good.1 lacks.owed.above in
-      let held : Holds page.area p = (found_where_held page.frag page.area p good.0.fits.1 good.1.well_cut).0 (subst (λ (o : Option Placed). IsSome o) (sym lacks.owed.above) refl) in
-      let there = ((first_tells page.frag page.area p (record { leaf = Child lacks.outer; area = lacks.leaf }) good.0.fits.1 good.1.well_cut).0 lacks.owed.above).0 in
-      let attributes : length lacks.leaf.lo ≡ length page.area.lo = All-contains (λ (l : Placed). length l.area.lo ≡ length page.area.lo) (leaves_of page.frag page.area) (record { leaf = Child lacks.outer; area = lacks.leaf }) (tiles_attributes page.frag page.area) there in
-      let light : weight_of page.frag ≤ st.meta.icap = subst (λ (b : Bool). weight_of page.frag ≤ cond b st.meta.dcap st.meta.icap) (ne_eqb page.level 0 (λ zero_level. omega (arith, above, zero_level))) good.1.filled.light in
-      let told = room_told page p lacks.outer lacks.inner st.meta.icap lacks.leaf lacks.area good.0.fits.1 good.1.well_cut held lacks.owed.above good.1.normal light lacks.owed.other in
-      let carve = carved_light lacks.leaf (common_area lacks.leaf lacks.area) lacks.outer lacks.inner (length lacks.leaf.lo) 0 in
-      elim (cases_lt (weight_of page.frag) 6) [
-        | inl light_page ↦ absurd (let room = told.1 (omega (arith, carve, light_page, attributes, good.1.fits.attributes, keeps.limits.layout.few_attributes, keeps.limits.layout.icap_least)) in omega (arith, room, lacks.heavy))
-        | inr full ↦ full
-      ]
+      let good = live_good st keeps.framed parent page live in
+      let good_child = live_good st keeps.framed other child child_live in
+      let above = kind_at st.meta page p (record { leaf = Child plan.outer; area = plan.leaf }) good.1 plan.owed.above in
+      by_read (ops.Post parent path inner area) parent page _ _ live (plan_fits st.meta page child p path inner area good.1 above good.0.fits.1 good_child.0.fits.1 good_child.1.well_cut plan)
 
 -- ---- the rows
 
@@ -168,7 +108,7 @@ module _ (m : Machine) (actor : ℕ) (may : ℕ → Type 0) (fetched : StoreStat
   stays_live id page now must live here = both_there m _ fetched brings id page now (inr must) live here
 
   dcap_same : m.store.meta.dcap ≡ fetched.meta.dcap
-  dcap_same = sym (ap (λ (m : Meta). m.dcap) brings.rest.meta)
+  dcap_same = sym (ap (λ (s : StoreState). s.meta.dcap) brings.rest)
 
   -- a page that lacks room for a record weighs enough to be split
   pub lacking_weighs : (held : ℕ) (p body : List ℕ) (page : LivePage) → MustStay m held → LacksRoomFor m held p body → if_live (in_memory fetched held) ≡ Some page → 6 ≤ weight_of page.frag
@@ -176,7 +116,7 @@ module _ (m : Machine) (actor : ℕ) (may : ℕ → Type 0) (fetched : StoreStat
       let rec : Record = record { key = p; body = body } in
       let now = stays_live held lacks.page page must lacks.live live in
       let same : lacks.page ≡ page = same_page lacks.page page (sym now ∙ live) in
-      let weighs = put_weighs lacks.page rec lacks.absent.records lacks.absent.area (good_live fetched keeps held lacks.page now).1.well_cut lacks.absent.leaf in
+      let weighs = put_weighs lacks.page rec lacks.absent.records lacks.absent.area (live_good fetched keeps.framed held lacks.page now).1.well_cut lacks.absent.leaf in
       let full : 6 ≤ weight_of lacks.page.frag = omega (arith, weighs, lacks.full, dcap_same, keeps.limits.layout.dcap_least) in
       subst (λ (q : LivePage). 6 ≤ weight_of q.frag) same full
     where
@@ -205,7 +145,7 @@ module _ (m : Machine) (actor : ℕ) (may : ℕ → Type 0) (fetched : StoreStat
         deletes = λ line held rest found p there command stands is names half. del_allowed fetched keeps its.page p page there hand.live stands;
         grows = λ job fresh free_after may free next is names half. grow_allowed fetched keeps fresh free_after free (is_next_number fetched fresh free_after next) may.below;
         posts = λ job parent above path inner area live plan is names half. post_allowed fetched keeps parent path inner area above page its.page job.point live hand.live plan;
-        parts = λ job parent above live plan leaves is names half. part_allowed parent above leaves live (heavy_parent fetched keeps parent above page job.point live plan);
+        parts = λ job parent above live plan leaves is names half. part_allowed parent above leaves live (heavy_parent fetched.meta above page job.point keeps.limits.layout (live_good fetched keeps.framed parent above live).1 plan);
         merges = λ job parent keep gone pair is names half. merge_allowed m actor may fetched keeps one fit names brings job parent keep gone its page pair is (asks ∙ wants) hand;
       }))
       row refl

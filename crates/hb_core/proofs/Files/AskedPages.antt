@@ -1,9 +1,8 @@
 -- What a step asks for is in a sound file: a page in use, of the level and the box that are asked for.
-use Rattle.std.proofs.Common.{◌≡◌, inl, inr, ℕ, zero, suc, ◌-◌, ◌==◌, IsTrue, true, false, cond, List, [], ◌∷◌, map, Option, Some, None, refl, sym, ap, ◌∙◌, subst, arith}
+use Rattle.std.proofs.Common.{◌≡◌, ℕ, zero, suc, ◌-◌, ◌==◌, IsTrue, true, false, cond, List, [], ◌∷◌, map, Option, Some, None, refl, sym, ap, ◌∙◌, subst, arith}
 use Rattle.std.specs.List.{Contains, slice_get}
 use Rattle.std.specs.Option.{option_and_then, option_map}
 use Rattle.std.proofs.lemmas.Bool.{eqb-true}
-use Rattle.std.proofs.lemmas.List.Elements.{Contains-append_cases, Contains-append_left, Contains-append_right}
 use Rattle.hb_frag.specs.declared.leaves.Leaf.{Leaf}
 use Rattle.hb_frag.specs.declared.leaves.Leaf.TheVariants.{Records, Child, Sibling}
 use Rattle.hb_frag.specs.declared.pages.LivePage.{LivePage}
@@ -16,12 +15,12 @@ use Rattle.hb_consol.specs.ConsolidatorRows.{names_child}
 use Rattle.hb_core.specs.Asking.{AskedBox, HasAskedBox, box_at, box_by_leaf, box_of_child, box_of_place, box_of_sibling, first_child_box}
 use Rattle.hb_frag.proofs.Facts.Tiles.{leaves_placed}
 use Rattle.hb_frag.specs.Leaves.{Placed, first_at, first_named, leaf_at, leaves, leaves_of, siblings_of}
-use Rattle.hb_frag.specs.Trees.{Tree, Tip, Cut}
+use Rattle.hb_frag.specs.Trees.{Tree}
 use Rattle.hb_ops.proofs.Facts.NamedChildren.{named_leaf}
 use Rattle.hb_ops.specs.Files.{FileState, live_page}
-use Rattle.hb_ops.proofs.Facts.PlacedLaws.{leaf_is_sibling, placed}
+use Rattle.hb_ops.proofs.Facts.PlacedLaws.{leaf_is_sibling, placed, placed_leaf}
 use Rattle.hb_ops.specs.Sound.{IsSound}
-use Rattle.hb_space.specs.Boxes.{Area, holds, side_below, side_from, whole_area}
+use Rattle.hb_space.specs.Boxes.{Area, holds, whole_area}
 
 pub record IsThere (s : FileState) (wanted : Wanted) (asked : AskedBox) : Type 0 where
   pub page : LivePage
@@ -162,18 +161,6 @@ place_among [] place x is = cc
 place_among (y ∷ xs) zero x is = (0, omega arith, let one : y ≡ x = cc in one)
 place_among (y ∷ xs) (suc place) x is = let more = place_among xs place x is in (suc more.0, omega (arith, more.1), more.2)
 
--- a leaf has a box
-pub leaf_with_box : (t : Tree) (area : Area) (leaf : Leaf) → Contains (leaves t) leaf → (b : Area) × Contains (leaves_of t area) (placed leaf b)
-leaf_with_box (Tip one) area leaf (zero, lt, e) = (area, (0, omega arith, ap (λ (l : Leaf). placed l area) e))
-leaf_with_box (Tip one) area leaf (suc k, lt, e) = absurd (omega (arith, lt))
-leaf_with_box (Cut axis value left right) area leaf has =
-    let below = leaves_of left (side_below area axis value) in
-    let from = leaves_of right (side_from area axis value) in
-    elim (Contains-append_cases (leaves left) (leaves right) leaf has) [
-      | inl l ↦ let one = leaf_with_box left (side_below area axis value) leaf l in (one.0, Contains-append_left below from (placed leaf one.0) one.1)
-      | inr r ↦ let one = leaf_with_box right (side_from area axis value) leaf r in (one.0, Contains-append_right below from (placed leaf one.0) one.1)
-    ]
-
 module _ (s : FileState) (sound : IsSound s) (id : ℕ) (page : LivePage) (live : live_page s id ≡ Some page) where
   -- a child of the parent, by its first leaf from the left
   pub named_child_there : (name : ℕ) (mode : Mode) (then : Option LivePage) (wanted : Wanted) (asked : AskedBox) → then ≡ Some page → wanted_page name (page.level - 1) mode ≡ wanted → box_of_child then name ≡ Some asked → IsThere s wanted asked
@@ -208,4 +195,4 @@ module _ (s : FileState) (sound : IsSound s) (id : ℕ) (page : LivePage) (live 
 
 -- a child that a page names, with the box of a leaf
 pub named_with_box : (page : LivePage) (name : ℕ) → IsTrue (names_child page name) → (b : Area) × Contains (leaves_of page.frag page.area) (placed (Child name) b)
-named_with_box page name named = leaf_with_box page.frag page.area (Child name) (named_leaf name (leaves page.frag) named)
+named_with_box page name named = placed_leaf page.frag page.area (Child name) (named_leaf name (leaves page.frag) named)

@@ -63,6 +63,10 @@ module _ (points : HeldArePoints) (meta : Meta) (page : LivePage) (good : IsGood
   pub leaf_fits_there : FitsIn (length page.area.lo) l.leaf
   leaf_fits_there = All-contains (λ (l : Placed). FitsIn (length page.area.lo) l.leaf) (leaves_of page.frag page.area) l (placed_fit (length page.area.lo) page.frag page.area (all_fit (length page.area.lo) page.frag good.0.fits.2)) at_leaf.0
 
+-- a page in use that is in memory is good
+pub live_good : (st : StoreState) → AreGood st.meta (in_memory st) → (id : ℕ) (page : LivePage) → if_live (in_memory st id) ≡ Some page → IsGoodPage st.meta (Live page)
+live_good st framed id page live = (framed id (Live page) (live_so (in_memory st id) page live)).2
+
 module _ (points : HeldArePoints) (parts : PartsFitOnGoodPages) (st : StoreState) (limits : HasLimits st.meta) (high : st.meta.high ≤ st.meta.pages) (framed : AreGood st.meta (in_memory st)) where
   -- numbers of pages are short
   number_fits : (id : ℕ) → id ≤ st.meta.pages → id < 2 ^ 32
@@ -70,9 +74,6 @@ module _ (points : HeldArePoints) (parts : PartsFitOnGoodPages) (st : StoreState
 
   page_fits : (id : ℕ) (page : Page) → (in_memory st) id ≡ Some page → id < 2 ^ 32
   page_fits id page there = number_fits id (let at = framed id page there in omega (arith, at.1, high))
-
-  good_live : (id : ℕ) (page : LivePage) → if_live (in_memory st id) ≡ Some page → IsGoodPage st.meta (Live page)
-  good_live id page live = (framed id (Live page) (live_so (in_memory st id) page live)).2
 
   -- the number that is taken, and the free head after it
   record TakesNumber (fresh free_after : ℕ) : Type 0 where
@@ -92,7 +93,7 @@ module _ (points : HeldArePoints) (parts : PartsFitOnGoodPages) (st : StoreState
   fits_put : (id : ℕ) (rec : Record) (o : Option LivePage) → if_live (in_memory st id) ≡ o → (second third : Option LivePage) → IsLicensedHere st (ops.Put id rec) → IsAllowedOn (ops.Put id rec) st.meta o second third → FitsOp st.meta.k (ops.Put id rec)
   fits_put id rec None is second third body allowed = absurd allowed
   fits_put id rec (Some page) is second third body allowed =
-      let good = good_live id page is in
+      let good = live_good st framed id page is in
       let at = allowed.absent in
       let l : Placed = record { leaf = Records at.records; area = at.area } in (
         page_fits id (Live page) (live_so (in_memory st id) page is),
@@ -106,7 +107,7 @@ module _ (points : HeldArePoints) (parts : PartsFitOnGoodPages) (st : StoreState
   fits_del : (id : ℕ) (p : List ℕ) (o : Option LivePage) → if_live (in_memory st id) ≡ o → (second third : Option LivePage) → IsAllowedOn (ops.Del id p) st.meta o second third → FitsOp st.meta.k (ops.Del id p)
   fits_del id p None is second third allowed = absurd allowed
   fits_del id p (Some page) is second third allowed =
-      let good = good_live id page is in
+      let good = live_good st framed id page is in
       let at = allowed.there in
       let l : Placed = record { leaf = Records at.records; area = at.area } in
       (page_fits id (Live page) (live_so (in_memory st id) page is), as_many points st.meta page good p l at.leaf, (point_there points st.meta page good p l at.leaf).fits)

@@ -1,5 +1,4 @@
 -- The operation of a row is allowed and licensed in the file, and every file stays sound.
-use Rattle.hb_core.proofs.Memory.CommitPages.{commit_there}
 use Rattle.std.proofs.Common.{◌≡◌, inl, inr, ℕ, ◌+◌, List, [], ◌∷◌, ◌++◌, length, All, Option, Some, None, IfSome, option_map, refl, sym, ap, ◌∙◌, subst, arith, length-append}
 use Rattle.std.proofs.lemmas.List.Elements.{All-append, All-cons, All-nil}
 use Rattle.hb_frag.specs.declared.pages.Page.{Page}
@@ -33,7 +32,7 @@ use Rattle.hb_ops.specs.Operations.{effect_of}
 use Rattle.hb_ops.specs.Sound.{IsSound}
 use Rattle.hb_sound.specs.LawsOfOperations.{OperationsKeepSound}
 use Rattle.hb_store.specs.Calls.{IsAllowedHere}
-use Rattle.hb_store.specs.Making.{MakesGoodChanges, PartsFitOnGoodPages}
+use Rattle.hb_store.specs.Making.{OperationLaws}
 use Rattle.hb_ops.proofs.Facts.FilePages.{last_of-append}
 use Rattle.hb_store.specs.States.{StoreState, in_memory}
 use Rattle.hb_wal.specs.Log.{Waiting}
@@ -82,9 +81,9 @@ pub brought_shown : (m : Machine) (files : Files) (may : ℕ → Type 0) (fetche
 brought_shown m files may fetched told brings holds = record {
   durable = holds.durable;
   later = holds.later;
-  each = holds.each ∙ sym (ap (λ (l : _). length l.groups) brings.rest.log);
-  layout = subst IsLayout (sym brings.rest.meta) holds.layout;
-  meta = holds.meta ∙ sym brings.rest.meta;
+  each = holds.each ∙ sym (ap (λ (s : StoreState). length s.log.groups) brings.rest);
+  layout = subst IsLayout (sym (ap (λ (s : StoreState). s.meta) brings.rest)) holds.layout;
+  meta = holds.meta ∙ sym (ap (λ (s : StoreState). s.meta) brings.rest);
   shown = λ id page there. by id page there (in_memory m.store id) refl;
 }
   where
@@ -92,7 +91,7 @@ brought_shown m files may fetched told brings holds = record {
     by id page there None none = subst (λ (o : Option Files). IfSome o (λ files. page_of (current_file files) id ≡ Some page)) told (brings.told id page none there)
     by id page there (Some old) some = holds.shown id page (sym (same_there m may fetched brings id old page (inl (told_files m files told)) some there) ∙ there)
 
-module _ (makes : MakesGoodChanges) (parts : PartsFitOnGoodPages) (points : HeldArePoints) where
+module _ (laws : OperationLaws) (points : HeldArePoints) where
   -- what is told of an operation makes it one that may be done in the file
   pub may_be_done : (st : StoreState) (files : Files) (op : Op) → KeepsPages st → FilesHold st files → IsLicensedHere st op → IsAllowedHere st op → MayBeDoneIn files op
   may_be_done st files op keeps holds tells allowed =
@@ -100,7 +99,7 @@ module _ (makes : MakesGoodChanges) (parts : PartsFitOnGoodPages) (points : Held
       record {
         allowed = allowed_in_file st (current_file files) keeps file op allowed;
         licensed = licensed_in_file st (current_file files) keeps file op tells;
-        attributes = has_in_file st (current_file files) keeps file op (fits_op points parts st keeps.limits keeps.high keeps.framed op tells allowed);
+        attributes = has_in_file st (current_file files) keeps file op (fits_op points laws.fits st keeps.limits keeps.high keeps.framed op tells allowed);
       }
 
   tells_some : (st : StoreState) (o : Option Op) (op : Op) → o ≡ Some op → Tells st o → IsLicensedHere st op
@@ -126,7 +125,7 @@ module _ (makes : MakesGoodChanges) (parts : PartsFitOnGoodPages) (points : Held
         let n = effect_of s op in
         let file = shows_file st files holds in
         let may = may_be_done st files op keeps holds tells does.allowed in
-        let well = change_is_well makes parts points st op keeps tells does.allowed in
+        let well = change_is_well laws points st op keeps tells does.allowed in
         let layout : IsLayout s.meta = subst IsLayout (sym holds.meta) holds.layout in
         let sound : IsSound n = keep_sound s op file.sound layout may.attributes may.allowed may.licensed in
         let last : last_of files.durable (files.later ++ n ∷ []) ≡ n = last_of-append files.durable files.later n in
@@ -139,7 +138,7 @@ module _ (makes : MakesGoodChanges) (parts : PartsFitOnGoodPages) (points : Held
           each = omega (arith, groups, more, holds.each);
           layout = subst IsLayout (sym does.commits.meta) well.after.limits.layout;
           meta = ap (λ (f : FileState). f.meta) last ∙ meta;
-          shown = λ id page there. ap (λ (f : FileState). page_of f id) last ∙ shown_after st s keeps file op does.allowed well id page (commit_there _ _ _ _ does.commits id page there);
+          shown = λ id page there. ap (λ (f : FileState). page_of f id) last ∙ shown_after st s keeps file op does.allowed well id page (laws.commits _ _ _ _ does.commits id page there);
         }
 
     -- What is to be shown of a step: there are files afterwards, and they hold.

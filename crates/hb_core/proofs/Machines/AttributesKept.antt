@@ -186,7 +186,7 @@ module _ (m : Machine) (actor : ℕ) (outcome : Outcome) (new : Machine) (kept :
       let now = with_disk does.fetched m.files m.clock m in
       let good : (id : ℕ) (page : LivePage) → live_here does.fetched id ≡ Some page → IsGoodPage m.store.meta (Live page) = λ id page live. fetched_good m _ does.fetched kept.pages_of_file does.brings id page live in
       let stands = fits.each actor in
-      performed does.fetched does.deed does.brings.rest.meta does.performs
+      performed does.fetched does.deed (ap (λ (s : StoreState). s.meta) does.brings.rest) does.performs
       (kept_fits k activity does.deed (hand_after now activity _ does.deed does.row) stands (boxes_after m.store.meta now good activity _ does.deed (record { boxes = stands.boxes; left = stands.left }) does.row))
       (row_adds k now (λ id page live. (good id page live).1.fits.attributes) activity _ does.deed (record { line = stands.line; boxes = stands.boxes; job = stands.job }) does.row)
 

@@ -23,8 +23,7 @@ use Rattle.hb_space.specs.Actors.{IsActor}
 use Rattle.hb_store.specs.Calls.{KeepsAllButPages}
 use Rattle.hb_store.specs.States.{StoreState, in_memory}
 use Rattle.hb_store.specs.declared.stops.StopWhy.{StopWhy}
-use Rattle.hb_store.proofs.Facts.PageOnlyLaws.{KeepsAllButPages-none}
-use Rattle.hb_wal.specs.Log.{LogState, Waiting, mark_of}
+use Rattle.hb_wal.specs.Log.{Waiting, mark_of}
 use Rattle.hb_core.proofs.Files.SoundFiles.{brought_shown, files_hold, has_sound_file}
 use Rattle.hb_core.proofs.Latches.LatchesStay.{same_latches, walk_latched}
 use Rattle.hb_core.proofs.Machines.AddedJobs.{JobsFit, added_fit}
@@ -87,7 +86,7 @@ module _ (m : Machine) (jobs : List Job) (st : StoreState) (uses : List Use) (st
     -- ---- the parts
 
     same_meta : m.store.meta ≡ st.meta
-    same_meta = sym rest.meta
+    same_meta = sym (ap (λ (s : StoreState). s.meta) rest)
 
     limits : MetaWithinLimits beside
     limits = record {
@@ -100,8 +99,8 @@ module _ (m : Machine) (jobs : List Job) (st : StoreState) (uses : List Use) (st
 
     in_place : LogInPlace beside
     in_place = record {
-      area = ap (λ (l : LogState). l.area) rest.log ∙ keeps.log_in_place.area ∙ ap (λ (t : ℕ). log_start t m.store.meta) (sym rest.turn) ∙ ap (log_start st.turn) same_meta;
-      len = ap (λ (l : LogState). l.len) rest.log ∙ keeps.log_in_place.len ∙ ap (λ (x : Meta). x.log) same_meta;
+      area = ap (λ (s : StoreState). s.log.area) rest ∙ keeps.log_in_place.area ∙ ap (λ (t : ℕ). log_start t m.store.meta) (sym (ap (λ (s : StoreState). s.turn) rest)) ∙ ap (log_start st.turn) same_meta;
+      len = ap (λ (s : StoreState). s.log.len) rest ∙ keeps.log_in_place.len ∙ ap (λ (x : Meta). x.log) same_meta;
     }
 
     bodies : LinesFit beside
@@ -174,14 +173,14 @@ module _ (m : Machine) (jobs : List Job) (st : StoreState) (uses : List Use) (st
     ]
       where
         same_height : m.store.meta.height ≤ st.meta.height
-        same_height = let same = ap (λ (x : Meta). x.height) rest.meta in omega (arith, same)
+        same_height = let same = ap (λ (s : StoreState). s.meta.height) rest in omega (arith, same)
 
     own_knows : (actor : ℕ) → IsActor actor → KnowsOf beside (m.activity actor)
     own_knows actor may = record {
-      splits = λ id line is. splits_again m beside (ap (λ (x : Meta). x.dcap) rest.meta) line id (λ page live. own_same actor id _ may (split_latched m.store (m.activity actor) line id is) ∙ live) (keeps.room_known.splits actor id line is);
+      splits = λ id line is. splits_again m beside (ap (λ (s : StoreState). s.meta.dcap) rest) line id (λ page live. own_same actor id _ may (split_latched m.store (m.activity actor) line id is) ∙ live) (keeps.room_known.splits actor id line is);
       puts = λ source fresh line is.
           let both = put_latched m.store (m.activity actor) line source fresh is in
-          puts_again m beside (ap (λ (x : Meta). x.dcap) rest.meta) line source fresh (λ page live. own_same actor source _ may both.0 ∙ live) (λ page live. own_same actor fresh _ may both.1 ∙ live) (keeps.room_known.puts actor source fresh line is);
+          puts_again m beside (ap (λ (s : StoreState). s.meta.dcap) rest) line source fresh (λ page live. own_same actor source _ may both.0 ∙ live) (λ page live. own_same actor fresh _ may both.1 ∙ live) (keeps.room_known.puts actor source fresh line is);
     }
 
     room : KnowsRoom beside
@@ -191,7 +190,7 @@ module _ (m : Machine) (jobs : List Job) (st : StoreState) (uses : List Use) (st
     ])
 
     same_groups : m.store.log.groups ≡ st.log.groups
-    same_groups = sym (ap (λ (l : LogState). l.groups) rest.log)
+    same_groups = sym (ap (λ (s : StoreState). s.log.groups) rest)
 
     marks : MarksRise beside
     marks = subst (λ (groups : List Waiting). MarksRise (record beside { store = record st { log = record st.log { groups = groups } } })) same_groups
@@ -254,7 +253,7 @@ module _ (m : Machine) (job : Job) (new : Machine) (fits : JobFits m.store.meta.
   waiting_fit all = added_fit m.store.meta.k (job ∷ []) m.jobs new.jobs (new.jobs, waits.adds, refl) (All-cons (JobFits m.store.meta.k) job [] fits (All-nil (JobFits m.store.meta.k))) all
 
   kept_waiting : MachineKeeps m → MachineKeeps (with_waiting new.jobs m)
-  kept_waiting keeps = beside_keeps m new.jobs m.store m.uses m.stop keeps (KeepsAllButPages-none m.store) (λ actor id mode holds there. refl) (waiting_fit keeps.attributes_fit.waiting) keeps.pages_of_file keeps.frames_fit keeps.runs
+  kept_waiting keeps = beside_keeps m new.jobs m.store m.uses m.stop keeps refl (λ actor id mode holds there. refl) (waiting_fit keeps.attributes_fit.waiting) keeps.pages_of_file keeps.frames_fit keeps.runs
 
   sound_waiting : (files : Files) → HasSoundFile m files → HasSoundFile (with_waiting new.jobs m) files
   sound_waiting files sound = has_sound_file (with_waiting new.jobs m) files (files_hold m files sound)
@@ -267,7 +266,7 @@ waiting_goes_on m job new fits waits goes_on = subst MayGoOn (sym waits.rest) (r
 
 pub waiting_keeps_all : WaitingKeepsAll
 waiting_keeps_all n m files job new fits waits all = subst (λ (x : Machine). CoreKeeps n x files) (sym waits.rest)
-    (beside_keeps_all m new.jobs m.store m.uses m.stop all.kept (KeepsAllButPages-none m.store) (λ actor id mode holds there. refl) n files all (kept_waiting m job new fits waits all.kept) (sound_waiting m job new fits waits files all.sound_file))
+    (beside_keeps_all m new.jobs m.store m.uses m.stop all.kept refl (λ actor id mode holds there. refl) n files all (kept_waiting m job new fits waits all.kept) (sound_waiting m job new fits waits files all.sound_file))
 
 -- ---- a page is looked at
 
@@ -286,7 +285,7 @@ module _ (m : Machine) (id : ℕ) (new : Machine) (looks : PageComes id m new) w
 
   kept_looked : MachineKeeps m → MachineKeeps looked
   kept_looked keeps = beside_keeps m m.jobs new.store new.uses m.stop keeps looks.brings.rest (λ actor q mode holds there. looks.brings.stays q (inl (actor, mode, holds)) there) keeps.attributes_fit.waiting (pages_looked keeps) (frames_looked keeps)
-      (λ running. looks.brings.rest.stopped ∙ keeps.runs running)
+      (λ running. (ap (λ (s : StoreState). s.stopped) looks.brings.rest) ∙ keeps.runs running)
 
   sound_looked : (files : Files) → m.files ≡ Some files → HasSoundFile m files → HasSoundFile looked files
   sound_looked files told sound = has_sound_file looked files (brought_shown m files (λ other. other ≡ id) new.store told looks.brings (files_hold m files sound))
@@ -305,7 +304,7 @@ looking_keeps_all n m files id new looks all = subst (λ (x : Machine). CoreKeep
 
 pub stopped_goes_on : (m : Machine) (why : StopWhy) → MayGoOn m → MayGoOn (stopped_for why m)
 stopped_goes_on m why goes_on = record {
-  kept = beside_keeps m m.jobs m.store m.uses (Some why) goes_on.kept (KeepsAllButPages-none m.store) (λ actor id mode holds there. refl) goes_on.kept.attributes_fit.waiting goes_on.kept.pages_of_file goes_on.kept.frames_fit (λ never. absurd (stops never));
+  kept = beside_keeps m m.jobs m.store m.uses (Some why) goes_on.kept refl (λ actor id mode holds there. refl) goes_on.kept.attributes_fit.waiting goes_on.kept.pages_of_file goes_on.kept.frames_fit (λ never. absurd (stops never));
   sound = if_value m.files (HasSoundFile (stopped_for why m)) (λ files told. has_sound_file (stopped_for why m) files (files_hold m files (at_value m.files (HasSoundFile m) files told goes_on.sound)));
 }
   where

@@ -5,7 +5,6 @@ use Rattle.std.proofs.lemmas.Bool.{cases_Bool, eqb-false, eqb-true}
 use Rattle.std.proofs.lemmas.Option.{none-some, same_Some}
 use Rattle.hb_lemmas.proofs.Booleans.{at_itself, if_same}
 use Rattle.hb_lemmas.proofs.Options.{has_value}
-use Rattle.hb_layout.specs.declared.meta.Meta.{Meta}
 use Rattle.hb_frag.specs.declared.pages.LivePage.{LivePage}
 use Rattle.hb_frag.specs.declared.pages.Page.TheVariants.{Free, Live}
 use Rattle.hb_frag.specs.Leaves.{DirectlyHolds}
@@ -115,7 +114,7 @@ module _ (m : Machine) (actor : ℕ) (may : ℕ → Type 0) (fetched : StoreStat
         | inl none ↦
             let behind = (next.from_behind (eqb-true fetched.meta.free 0 none)).0 in
             let within = (inside parts.held (Live used.0) used.1).1 in
-            let meta : fetched.meta.high ≡ m.store.meta.high = ap (λ (meta : Meta). meta.high) brings.rest.meta in
+            let meta : fetched.meta.high ≡ m.store.meta.high = ap (λ (s : StoreState). s.meta.high) brings.rest in
             omega (arith, same, behind, within, meta)
         | inr some ↦
             let head = (next.from_chain (eqb-false fetched.meta.free 0 some)).1 in

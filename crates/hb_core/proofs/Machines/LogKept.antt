@@ -8,7 +8,6 @@ use Rattle.hb_ops.specs.declared.operations.Op.{Op}
 use Rattle.hb_ops.specs.declared.operations.Op.TheVariants.{Del, Extract, Grow, Merge, Post, Put}
 use Rattle.hb_store.specs.Calls.{KeepsAllButPages, read_here}
 use Rattle.hb_store.specs.States.{StoreState}
-use Rattle.hb_wal.specs.Log.{LogState}
 use Rattle.hb_core.specs.declared.outcomes.Outcome.{Outcome}
 use Rattle.hb_core.specs.declared.outcomes.Outcome.TheVariants as outcomes
 use Rattle.hb_core.specs.Forcing.{FailsToWrite, ForcesAll, StaysSo}
@@ -26,11 +25,11 @@ pub record HasSameArea (old new : StoreState) : Type 0 where
   pub len : new.log.len ≡ old.log.len
   pub bytes : new.meta.log ≡ old.meta.log
 
+after_fetch : (old new : StoreState) → KeepsAllButPages old new → HasSameArea old new
+after_fetch old new keeps = record { turn = ap (λ (s : StoreState). s.turn) keeps; area = ap (λ (s : StoreState). s.log.area) keeps; len = ap (λ (s : StoreState). s.log.len) keeps; bytes = ap (λ (s : StoreState). s.meta.log) keeps }
+
 same_store : (old new : StoreState) → new ≡ old → HasSameArea old new
 same_store old new is = record { turn = ap (λ (s : StoreState). s.turn) is; area = ap (λ (s : StoreState). s.log.area) is; len = ap (λ (s : StoreState). s.log.len) is; bytes = ap (λ (s : StoreState). s.meta.log) is }
-
-after_fetch : (old new : StoreState) → KeepsAllButPages old new → HasSameArea old new
-after_fetch old new keeps = record { turn = keeps.turn; area = ap (λ (l : LogState). l.area) keeps.log; len = ap (λ (l : LogState). l.len) keeps.log; bytes = ap (λ (m : Meta). m.log) keeps.meta }
 
 and_then : (old mid new : StoreState) → HasSameArea old mid → HasSameArea mid new → HasSameArea old new
 and_then old mid new first next = record { turn = next.turn ∙ first.turn; area = next.area ∙ first.area; len = next.len ∙ first.len; bytes = next.bytes ∙ first.bytes }

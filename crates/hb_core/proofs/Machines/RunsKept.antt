@@ -54,8 +54,8 @@ module _ (m : Machine) (actor : ℕ) (outcome : Outcome) (new : Machine) (runs :
   worked (inl (by, way, so)) = stays (outcomes.Blocked by) so
   worked (inr (inl (free, unready, inl (waits, force)))) = forces outcomes.Helped force
   worked (inr (inl (free, unready, inr (none, rest)))) = ready_kind m outcome new (RunsWithStore new) none more rest
-  worked (inr (inr (free, ready, inl acts))) = performed acts.fetched acts.deed acts.brings.rest.stopped acts.performs
-  worked (inr (inr (free, ready, inr (inl gives)))) = performed gives.fetched _ gives.brings.rest.stopped gives.performs
+  worked (inr (inr (free, ready, inl acts))) = performed acts.fetched acts.deed (ap (λ (s : StoreState). s.stopped) acts.brings.rest) acts.performs
+  worked (inr (inr (free, ready, inr (inl gives)))) = performed gives.fetched _ (ap (λ (s : StoreState). s.stopped) gives.brings.rest) gives.performs
   worked (inr (inr (free, ready, inr (inr meets)))) = ended _ (ap (λ (n : Machine). n.stop) meets.stops)
 
 pub runs_stay : (m : Machine) (actor : ℕ) (outcome : Outcome) (new : Machine) → IsActor actor → MachineKeeps m → StepsTo m actor outcome new → RunsWithStore new

@@ -49,6 +49,10 @@ module _ (m : Machine) (may : ℕ → Type 0) (fetched : StoreState) (brings : B
   pub still_held : (actor id : ℕ) (mode : Mode) (page : Page) → mode_at m.latches actor id ≡ Some mode → in_memory m.store id ≡ Some page → in_memory fetched id ≡ Some page
   still_held actor id mode page holds was = brings.stays id (inl (actor, mode, holds)) (has_value (in_memory m.store id) page was) ∙ was
 
+  -- so a page in use stays that an actor has latched where it stands
+  pub own_there : (actor id : ℕ) (mode : Mode) (page : LivePage) → LatchesFit m → IsActor actor → mode_among id (latches_held m.store (m.activity actor)) ≡ Some mode → live_here m.store id ≡ Some page → live_here fetched id ≡ Some page
+  own_there actor id mode page fit may among live = ap if_live (still_held actor id mode (Live page) (fit.exact actor id may ∙ among) (live_so (in_memory m.store id) page live))
+
   -- a page that must stay does, and any other one stays or is gone, or has come again where the disk doesn't tell
   pub stays_or_left : (id : ℕ) (page : Page) → in_memory m.store id ≡ Some page → (in_memory fetched id ≡ Some page) ⊎ ((¬ (MustStay m id)) × ((in_memory fetched id ≡ None) ⊎ (m.files ≡ None)))
   stays_or_left id page was = elim (brings.others id (has_value (in_memory m.store id) page was)) [

@@ -37,9 +37,6 @@ commit_here op mark old new commits id there = elim (commit_pages op mark old ne
     nothing None some gone = cc
     nothing (Some page) some gone = cc
 
-pub commit_there : (op : Op) (mark : ℕ) (old new : StoreState) → Commits op mark old new → (id : ℕ) (page : Page) → in_memory new id ≡ Some page → set_pages (change_here old op).pages (in_memory old) id ≡ Some page
-commit_there op mark old new commits id page there = sym (commit_here op mark old new commits id (subst (λ (o : Option Page). IsSome o) (sym there) refl)) ∙ there
-
 -- and so are the pages that were changed
 pub made_pages : (op : Op) (mark : ℕ) (old new : StoreState) (changed : List (ℕ × Page)) → Commits op mark old new → (change_here old op).pages ≡ changed → (id : ℕ) → IsTrue (has_page id changed) → in_memory new id ≡ set_pages changed (in_memory old) id
 made_pages op mark old new changed commits are id among =

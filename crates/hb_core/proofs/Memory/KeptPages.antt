@@ -1,5 +1,4 @@
 -- After a step every page in memory is one of the file and good, and what the file says of itself is within its limits.
-use Rattle.hb_core.proofs.Memory.CommitPages.{commit_there}
 use Rattle.std.proofs.Common.{◌≡◌, ◌⊎◌, inl, inr, ℕ, ◌<◌, ◌≤◌, ◌^◌, Option, Some, None, refl, sym, ap, subst, arith}
 use Rattle.hb_frag.specs.declared.pages.Page.{Page}
 use Rattle.hb_layout.specs.declared.meta.Meta.{Meta}
@@ -23,7 +22,7 @@ use Rattle.hb_core.specs.Machines.{Machine}
 use Rattle.hb_core.specs.Performing.{MayDo, Performs}
 use Rattle.hb_core.specs.Steps.{StepsTo, Works}
 use Rattle.hb_store.specs.Calls.{IsAllowedHere, change_here}
-use Rattle.hb_store.specs.Making.{IsGoodChange, MakesGoodChanges, PartsFitOnGoodPages}
+use Rattle.hb_store.specs.Making.{IsGoodChange, OperationLaws}
 use Rattle.hb_store.specs.Replaying.{HasLimits}
 use Rattle.hb_store.specs.States.{AreGood, IsGoodPage, StoreState, in_memory}
 use Rattle.hb_ops.proofs.Facts.SetPages.{all_set}
@@ -49,7 +48,7 @@ meta_kept m keeps = record { layout = keeps.limits.layout; high = keeps.high; li
 -- what a fetch brings keeps it
 pub brought : (m : Machine) (may : ℕ → Type 0) (fetched : StoreState) → Brings m may fetched → KeepsPages m.store → KeepsPages fetched
 brought m may fetched brings keeps =
-    let meta : m.store.meta ≡ fetched.meta = sym brings.rest.meta in
+    let meta : m.store.meta ≡ fetched.meta = sym (ap (λ (s : StoreState). s.meta) brings.rest) in
     record {
       limits = subst HasLimits meta keeps.limits;
       high = subst (λ (meta : Meta). meta.high ≤ meta.pages) meta keeps.high;
@@ -63,10 +62,10 @@ brought m may fetched brings keeps =
     by id page (inr good) = good
 
 -- so what an operation makes, where it may be done
-module _ (makes : MakesGoodChanges) (parts : PartsFitOnGoodPages) (points : HeldArePoints) where
+module _ (laws : OperationLaws) (points : HeldArePoints) where
   pub change_is_well : (st : StoreState) (op : Op) → KeepsPages st → IsLicensedHere st op → IsAllowedHere st op → IsGoodChange st.meta (change_here st op)
   change_is_well st op keeps tells allowed =
-      makes (record { meta = st.meta; page = in_memory st }) op keeps.limits keeps.framed (fits_op points parts st keeps.limits keeps.high keeps.framed op tells allowed) allowed (boxes_told st op tells)
+      laws.changes (record { meta = st.meta; page = in_memory st }) op keeps.limits keeps.framed (fits_op points laws.fits st keeps.limits keeps.high keeps.framed op tells allowed) allowed (boxes_told st op tells)
 
   done : (op : Option Op) (mark : ℕ) (old new : StoreState) → KeepsPages old → Tells old op → MayDo op mark old new → KeepsPages new
   done None mark old new keeps tells same = subst KeepsPages (sym same) keeps
@@ -84,7 +83,7 @@ module _ (makes : MakesGoodChanges) (parts : PartsFitOnGoodPages) (points : Held
             (all_set (λ n p. (1 ≤ n) × (n ≤ change.meta.high) × IsGoodPage change.meta p) change.pages (in_memory old)
             (λ k d lt. let c = well.pages k d lt in (c.0.0, c.0.1, c.1))
             (λ n p is. let was = keeps.framed n p is in (was.0, omega (arith, was.1, after.rises), well.others p was.2))
-            id page (commit_there _ _ _ _ does.commits id page there));
+            id page (laws.commits _ _ _ _ does.commits id page there));
       }
 
   module _ (m : Machine) (actor : ℕ) (outcome : Outcome) (new : Machine) (may : IsActor actor) (latches : LatchesFit m) (fit : LinesFit m) (keeps : KeepsPages m.store) where

@@ -195,12 +195,12 @@ module _ (m : Machine) (actor : ℕ) (new : Machine) (id : ℕ) (was : in_memory
     as_before : MayMakePage (m.activity actor) × (fetched.meta.live < fetched.meta.pages) × IsNextNumber fetched id → Needed
     as_before (makes, free, number) = inr (
       makes,
-      subst (λ (meta : Meta). meta.live < meta.pages) brings.rest.meta free,
-      subst (λ (meta : Meta). ((id ≡ meta.free) × (id ≢ 0)) ⊎ ((meta.free ≡ 0) × (id ≡ meta.high + 1))) brings.rest.meta number,
+      subst (λ (meta : Meta). meta.live < meta.pages) (ap (λ (s : StoreState). s.meta) brings.rest) free,
+      subst (λ (meta : Meta). ((id ≡ meta.free) × (id ≢ 0)) ⊎ ((meta.free ≡ 0) × (id ≡ meta.high + 1))) (ap (λ (s : StoreState). s.meta) brings.rest) number,
     )
 
     head_needed : MayMakePage (m.activity actor) × (fetched.meta.live < fetched.meta.pages) → IsFreeHead m.store id → Needed
-    head_needed (makes, free) head = inr (makes, subst (λ (meta : Meta). meta.live < meta.pages) brings.rest.meta free, inl head)
+    head_needed (makes, free) head = inr (makes, subst (λ (meta : Meta). meta.live < meta.pages) (ap (λ (s : StoreState). s.meta) brings.rest) free, inl head)
 
     module _ (needs : may id → Needed) where
       brought : IsSome (in_memory fetched id) → Needed
@@ -290,3 +290,12 @@ pages_come_by_need m actor outcome new id step was comes =
     (λ deed rests performs. nothing_done m actor new id was comes deed.op _ rests.op performs.store)
     (worked m actor new id was comes outcome)
     step
+
+-- a number is needed only where a page is free
+pub needs_room : (activity : Activity) (wanted : Option Wanted) (n : Machine) → NeedsNumber activity wanted n → n.store.meta.live < n.store.meta.pages
+needs_room (at.SessionSplit line held) wanted n needs = needs
+needs_room (at.PosterGrow job) None n needs = absurd needs
+needs_room (at.PosterGrow job) (Some wanted) n needs = needs.0
+needs_room (at.PosterAgain job parent) None n needs = absurd needs
+needs_room (at.PosterAgain job parent) (Some wanted) n needs = needs.0
+needs_room activity wanted n needs = absurd needs

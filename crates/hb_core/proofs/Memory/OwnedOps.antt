@@ -5,7 +5,6 @@ use Rattle.hb_frag.specs.declared.pages.LivePage.{LivePage}
 use Rattle.hb_frag.specs.declared.pages.Page.{Page}
 use Rattle.hb_frag.specs.declared.pages.Page.TheVariants.{Live, Free}
 use Rattle.hb_space.specs.declared.records.Record.{Record}
-use Rattle.hb_layout.specs.declared.meta.Meta.{Meta}
 use Rattle.hb_ops.specs.declared.operations.Op.{Op}
 use Rattle.hb_ops.specs.declared.operations.Op.TheVariants as ops
 use Rattle.hb_set.specs.declared.commands.Command.{Command}
@@ -61,7 +60,7 @@ made_was_free m may fetched fresh free_after inside brings next = elim (cases_Bo
   | inl none ↦ λ page used.
       let behind = next.from_behind (eqb-true fetched.meta.free 0 none) in
       let within = inside fresh (Live page) used in
-      let meta : fetched.meta.high ≡ m.store.meta.high = ap (λ (meta : Meta). meta.high) brings.rest.meta in
+      let meta : fetched.meta.high ≡ m.store.meta.high = ap (λ (s : StoreState). s.meta.high) brings.rest in
       absurd (omega (arith, behind.0, within.1, meta))
   | inr some ↦ λ page used.
       let head = next.from_chain (eqb-false fetched.meta.free 0 some) in

@@ -81,9 +81,9 @@ module _ (m : Machine) (actor : ℕ) (outcome : Outcome) (new : Machine) (marks 
   worked (inl (by, way, so)) = stays (outcomes.Blocked by) so
   worked (inr (inl (free, unready, inl (waits, force)))) = forces outcomes.Helped force
   worked (inr (inl (free, unready, inr (none, rest)))) = ready_kind m outcome new (MarksRise new) none more_flushed rest
-  worked (inr (inr (free, ready, inl acts))) = performed acts.fetched acts.deed acts.brings.rest.log acts.performs
-  worked (inr (inr (free, ready, inr (inl gives)))) = performed gives.fetched _ gives.brings.rest.log gives.performs
-  worked (inr (inr (free, ready, inr (inr meets)))) = same (ap (λ (n : Machine). n.order) meets.stops) (ap (λ (n : Machine). n.store.log.groups) meets.stops ∙ ap (λ (log : LogState). log.groups) meets.brings.rest.log)
+  worked (inr (inr (free, ready, inl acts))) = performed acts.fetched acts.deed (ap (λ (s : StoreState). s.log) acts.brings.rest) acts.performs
+  worked (inr (inr (free, ready, inr (inl gives)))) = performed gives.fetched _ (ap (λ (s : StoreState). s.log) gives.brings.rest) gives.performs
+  worked (inr (inr (free, ready, inr (inr meets)))) = same (ap (λ (n : Machine). n.order) meets.stops) (ap (λ (n : Machine). n.store.log.groups) meets.stops ∙ ap (λ (s : StoreState). s.log.groups) meets.brings.rest)
 
 pub marks_rise_still : (m : Machine) (actor : ℕ) (outcome : Outcome) (new : Machine) → IsActor actor → MachineKeeps m → StepsTo m actor outcome new → MarksRise new
 marks_rise_still m actor outcome new may kept step =

@@ -1,5 +1,5 @@
 -- After a step each line that awaits its place, and each answered line of the order, stands there with its reply.
-use Rattle.std.proofs.Common.{◌≡◌, ◌⊎◌, inl, inr, ℕ, zero, suc, ◌==◌, Bool, cond, List, [], ◌∷◌, ◌++◌, length, get_or, All, Option, Some, None, refl, sym, ap, ◌∙◌, subst, append-nil}
+use Rattle.std.proofs.Common.{◌≡◌, ◌⊎◌, inl, inr, ℕ, ◌==◌, Bool, cond, List, [], ◌∷◌, ◌++◌, length, get_or, All, Option, Some, refl, sym, ap, ◌∙◌, subst, append-nil}
 use Rattle.std.specs.List.{slice_get}
 use Rattle.std.proofs.lemmas.Bool.{cases_Bool}
 use Rattle.std.proofs.lemmas.List.Elements.{All-append, All-cons, All-nil}
@@ -21,6 +21,7 @@ use Rattle.hb_core.specs.Performing.{Performs, given_by, outcome_of}
 use Rattle.hb_core.specs.Steps.{StepsTo, Works}
 use Rattle.hb_set.specs.Order.{Entry}
 use Rattle.hb_store.specs.States.{StoreState}
+use Rattle.hb_lemmas.proofs.Lists.{get-longer}
 
 abbrev pub StandsSomewhere : Machine → Answered → Type 0
 StandsSomewhere m a = StandsOutside a.reply ⊎ ((place : ℕ) × StandsInOrder m a.line a.reply place)
@@ -30,15 +31,6 @@ pub record KeepsReplies (m : Machine) : Type 0 where
   pub awaits : (actor number place : ℕ) (reply : Reply) → m.activity actor ≡ at.SessionAwait number reply place → StandsInOrder m number reply place
   pub answers : All (StandsSomewhere m) m.answered
 
--- what stands in an order stands in a longer one
-stands_in_front : (order more : List Entry) (place : ℕ) (entry : Entry) → slice_get order place ≡ Some entry → slice_get (order ++ more) place ≡ Some entry
-stands_in_front [] more place entry is = absurd (nothing entry is)
-  where
-    nothing : (entry : Entry) → None ≡ Some entry → ⊥
-    nothing entry is = cc
-stands_in_front (first ∷ order) more zero entry is = is
-stands_in_front (first ∷ order) more (suc place) entry is = stands_in_front order more place entry is
-
 pub stands_last : (order : List Entry) (entry : Entry) → slice_get (order ++ entry ∷ []) (length order) ≡ Some entry
 stands_last [] entry = refl
 stands_last (first ∷ order) entry = stands_last order entry
@@ -47,7 +39,7 @@ module _ (m : Machine) (actor : ℕ) (outcome : Outcome) (new : Machine) (keeps 
   stands_more : (more : List Entry) → new.order ≡ m.order ++ more → (number place : ℕ) (reply : Reply) → StandsInOrder m number reply place → StandsInOrder new number reply place
   stands_more more is number place reply stands = record {
     entry = stands.entry;
-    there = ap (λ (l : List Entry). slice_get l place) is ∙ stands_in_front m.order more place stands.entry stands.there;
+    there = ap (λ (l : List Entry). slice_get l place) is ∙ get-longer m.order more place stands.entry stands.there;
     number_is = stands.number_is;
     reply_is = stands.reply_is;
   }

@@ -33,6 +33,7 @@ use Rattle.hb_store.specs.Making.{group_here}
 use Rattle.hb_store.specs.States.{StoreState}
 use Rattle.hb_wal.proofs.Facts.Marks.{mark_inside}
 use Rattle.hb_wal.specs.Log.{LogState, Waiting, mark_of}
+use Rattle.std.proofs.lemmas.Option.{same_Some}
 
 -- ---- groups and the files before them
 
@@ -99,16 +100,10 @@ pub record KeepsMarks (n : RecordSet) (m new : Machine) (files : Files) : Type 0
   pub rising : AllPairs IsBelow new.store.log.groups
   pub rises : settled_count m ≤ settled_count new
 
-same_files : (a b : Files) (o : Option Files) → o ≡ Some a → o ≡ Some b → a ≡ b
-same_files a b o first second = by (sym first ∙ second)
-  where
-    by : Some a ≡ Some b → a ≡ b
-    by is = cc
-
 module _ (n : RecordSet) (m : Machine) (files : Files) (new : Machine) (files' : Files) (told : m.files ≡ Some files) (told' : new.files ≡ Some files') (sound : HasSoundFile m files) (legal : HasLegalOrder n m files) (pending : HasPendingPrefix n m files) where
   kept_as : (order : List Entry) (groups : List Waiting) (f : Files) → new.order ≡ order → new.store.log.groups ≡ groups → new.files ≡ Some f → FollowMarks n order f.durable groups f.later → AllPairs IsBelow groups → settled_count m ≤ mark_of groups (length order) → KeepsMarks n m new files'
   kept_as order groups f order_is groups_is files_are follows rising rises =
-      let is : f ≡ files' = same_files f files' new.files files_are told' in
+      let is : f ≡ files' = same_Some f files' (sym files_are ∙ told') in
       record {
         marks =
             subst (λ (x : Files). FollowMarks n new.order x.durable new.store.log.groups x.later) is
@@ -159,7 +154,7 @@ module _ (n : RecordSet) (m : Machine) (files : Files) (new : Machine) (files' :
     forced_all said (inr badly) = same (ap (λ (x : Machine). x.order) badly.1.stops) (ap (λ (x : Machine). x.store.log.groups) badly.1.stops) (ap (λ (x : Machine). x.files) badly.1.stops)
 
     met : MeetsBadPage m actor outcome new → KeepsMarks n m new files'
-    met meets = same (ap (λ (x : Machine). x.order) meets.stops) (ap (λ (x : Machine). x.store.log.groups) meets.stops ∙ ap (λ (log : LogState). log.groups) meets.brings.rest.log) (ap (λ (x : Machine). x.files) meets.stops)
+    met meets = same (ap (λ (x : Machine). x.order) meets.stops) (ap (λ (x : Machine). x.store.log.groups) meets.stops ∙ ap (λ (s : StoreState). s.log.groups) meets.brings.rest) (ap (λ (x : Machine). x.files) meets.stops)
 
     done : (op : Option Op) (fetched : StoreState) (more : List Entry) → fetched.log ≡ m.store.log → new.order ≡ m.order ++ more → new.files ≡ files_after op m.files → MayDo op (length m.order) fetched new.store → KeepsMarks n m new files'
     done None fetched more log order_is files_are does = grown more order_is (ap (λ (st : StoreState). st.log.groups) does ∙ ap (λ (log : LogState). log.groups) log) files_are
@@ -180,8 +175,8 @@ module _ (n : RecordSet) (m : Machine) (files : Files) (new : Machine) (files' :
     worked (inr (inl (free, unready, inl (waits, force)))) = forced_all outcomes.Helped force
     worked (inr (inl (free, unready, inr (none, rest)))) =
         ready_kind m outcome new (KeepsMarks n m new files') none flushed_more rest
-    worked (inr (inr (free, ready, inl acts))) = performed acts.fetched acts.deed acts.brings.rest.log acts.performs
-    worked (inr (inr (free, ready, inr (inl gives)))) = performed gives.fetched _ gives.brings.rest.log gives.performs
+    worked (inr (inr (free, ready, inl acts))) = performed acts.fetched acts.deed (ap (λ (s : StoreState). s.log) acts.brings.rest) acts.performs
+    worked (inr (inr (free, ready, inr (inl gives)))) = performed gives.fetched _ (ap (λ (s : StoreState). s.log) gives.brings.rest) gives.performs
     worked (inr (inr (free, ready, inr (inr meets)))) = met meets
 
     keeps_marks : StepsTo m actor outcome new → KeepsMarks n m new files'

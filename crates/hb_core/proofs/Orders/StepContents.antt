@@ -36,11 +36,12 @@ use Rattle.hb_set.specs.Order.{Entry}
 use Rattle.hb_sound.specs.Laws.{LackIsContents, StandingIsContents}
 use Rattle.hb_sound.specs.LawsOfOperations.{ContentsBecome, OperationsKeepContents}
 use Rattle.hb_space.specs.Points.{point_cmp}
-use Rattle.hb_store.specs.Making.{MakesGoodChanges, PartsFitOnGoodPages}
+use Rattle.hb_store.specs.Making.{OperationLaws}
 use Rattle.hb_ops.proofs.Facts.FilePages.{last_of-append}
 use Rattle.hb_store.specs.States.{StoreState}
 use Rattle.hb_space.proofs.Facts.PointOrder.{same_point}
 use Rattle.hb_core.proofs.Memory.BroughtPages.{told_files}
+use Rattle.std.proofs.lemmas.Option.{same_Some}
 
 -- ---- what an operation does
 
@@ -52,7 +53,7 @@ becomes_so s (ops.Post parent at inner area) becomes = becomes
 becomes_so s (ops.Merge parent keep gone) becomes = becomes
 becomes_so s (ops.Grow fresh free_after) becomes = becomes
 
-module _ (makes : MakesGoodChanges) (parts : PartsFitOnGoodPages) (points : HeldArePoints) (keep_contents : OperationsKeepContents) (standing : StandingIsContents) (lacking : LackIsContents)
+module _ (laws : OperationLaws) (points : HeldArePoints) (keep_contents : OperationsKeepContents) (standing : StandingIsContents) (lacking : LackIsContents)
     (m : Machine) (files : Files) (actor : ℕ) (outcome : Outcome) (new : Machine) (told : m.files ≡ Some files) (fit : LinesFit m) (keeps : KeepsPages m.store) (holds : FilesHold m.store files) where
   -- What is to be shown of a step: there are files afterwards, and their contents follow.
   abbrev pub Follows : Type 0
@@ -83,7 +84,7 @@ module _ (makes : MakesGoodChanges) (parts : PartsFitOnGoodPages) (points : Held
   becomes fetched (Some op) mark keeps holds tells does is =
       let s = current_file files in
       let file = shows_file fetched files holds in
-      let may = may_be_done makes parts points fetched files op keeps holds tells does.allowed in
+      let may = may_be_done laws points fetched files op keeps holds tells does.allowed in
       let layout : IsLayout s.meta = subst IsLayout (sym holds.meta) holds.layout in
       let last : last_of files.durable (files.later ++ effect_of s op ∷ []) ≡ effect_of s op = last_of-append files.durable files.later (effect_of s op) in (
         with_effect op files,
@@ -131,16 +132,12 @@ module _ (makes : MakesGoodChanges) (parts : PartsFitOnGoodPages) (points : Held
     works = λ none works. worked works;
   }) step
 
--- there are no other files
-same_files : (o : Option Files) (a b : Files) → o ≡ Some a → o ≡ Some b → a ≡ b
-same_files o a b first second = let both : Some a ≡ Some b = sym first ∙ second in let same : a ≡ b = cc in same
-
-module _ (makes : MakesGoodChanges) (parts : PartsFitOnGoodPages) (points : HeldArePoints) (keep_contents : OperationsKeepContents) (standing : StandingIsContents) (lacking : LackIsContents) where
+module _ (laws : OperationLaws) (points : HeldArePoints) (keep_contents : OperationsKeepContents) (standing : StandingIsContents) (lacking : LackIsContents) where
   pub contents_follow_order : ContentsFollowOrder
   contents_follow_order m files after actor outcome new told fit inside has step is =
       let keeps = keeps_pages m (sound_within_limits m files has) inside in
-      let goes = follows makes parts points keep_contents standing lacking m files actor outcome new told fit keeps (files_hold m files has) step in
-      subst (λ (f : Files). ContentsStep m actor new (contents_now files) (contents_now f)) (same_files new.files goes.0 after goes.1 is) goes.2
+      let goes = follows laws points keep_contents standing lacking m files actor outcome new told fit keeps (files_hold m files has) step in
+      subst (λ (f : Files). ContentsStep m actor new (contents_now files) (contents_now f)) (same_Some goes.0 after (sym goes.1 ∙ is)) goes.2
 
 -- ---- what it does under one point
 

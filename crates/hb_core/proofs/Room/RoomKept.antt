@@ -89,7 +89,7 @@ module _ (m : Machine) (actor : ℕ) (outcome : Outcome) (new : Machine) where
   by_force said (inr badly) = ap (λ (x : Machine). x.store.meta.dcap) badly.1.stops
 
   by_bad_page : MeetsBadPage m actor outcome new → SameCapacity m new
-  by_bad_page meets = ap (λ (x : Machine). x.store.meta.dcap) meets.stops ∙ ap (λ (x : Meta). x.dcap) meets.brings.rest.meta
+  by_bad_page meets = ap (λ (x : Machine). x.store.meta.dcap) meets.stops ∙ ap (λ (s : StoreState). s.meta.dcap) meets.brings.rest
 
   by_more : FlushesMore m outcome new → SameCapacity m new
   by_more (none, inl (page, oldest, due, quiet, well)) = ap (λ (x : Machine). x.store.meta.dcap) well.leaves
@@ -100,8 +100,8 @@ module _ (m : Machine) (actor : ℕ) (outcome : Outcome) (new : Machine) where
   by_work (inl (by, way, so)) = by_rest (outcomes.Blocked by) so
   by_work (inr (inl (free, unready, inl (waits, force)))) = by_force outcomes.Helped force
   by_work (inr (inl (free, unready, inr (none, rest)))) = ready_kind m outcome new (SameCapacity m new) none by_more rest
-  by_work (inr (inr (free, ready, inl acts))) = by_deed acts.fetched acts.deed acts.brings.rest.meta acts.performs
-  by_work (inr (inr (free, ready, inr (inl gives)))) = by_deed gives.fetched _ gives.brings.rest.meta gives.performs
+  by_work (inr (inr (free, ready, inl acts))) = by_deed acts.fetched acts.deed (ap (λ (s : StoreState). s.meta) acts.brings.rest) acts.performs
+  by_work (inr (inr (free, ready, inr (inl gives)))) = by_deed gives.fetched _ (ap (λ (s : StoreState). s.meta) gives.brings.rest) gives.performs
   by_work (inr (inr (free, ready, inr (inr meets)))) = by_bad_page meets
 
   pub capacity_stays : StepsTo m actor outcome new → SameCapacity m new

@@ -1,7 +1,7 @@
 -- Whose lock is against one, by the places of the activities; and what that says of the machine that a core shows.
 use Rattle.std.proofs.Common.{◌≡◌, ◌≢◌, inl, inr, ℕ, ◌+◌, ◌-◌, ◌<◌, ◌≤◌, List, length, get_or, slice_get, All, Option, Some, None, IfSome, IsSomeAnd, refl, sym, ap, ◌∙◌, subst, arith}
 use Rattle.std.proofs.lemmas.Bool.{cases_lt}
-use Rattle.std.proofs.lemmas.Option.{get_or_from_slice_get, slice_get-get_or, slice_get_within}
+use Rattle.std.proofs.lemmas.Option.{get_or_from_slice_get, slice_get_within}
 use Rattle.hb_activity.specs.BoxLocks.{lock_of}
 use Rattle.hb_activity.specs.declared.activities.Activity.{Activity}
 use Rattle.hb_boxlock.specs.declared.locks.BoxLock.{BoxLock}
@@ -27,9 +27,6 @@ NoneBefore activities actor lock n = (place : ℕ) → place < n → ¬ (IsAgain
 
 pub none_at_first : (activities : List Activity) (actor : ℕ) (lock : BoxLock) → NoneBefore activities actor lock 0
 none_at_first activities actor lock place lt = absurd (omega (arith, lt))
-
-pub read_there : (activities : List Activity) (place : ℕ) (activity : Activity) → activity ≡ get_or activities place activity → place < length activities → slice_get activities place ≡ Some activity
-read_there activities place activity is lt = slice_get-get_or activities place activity lt ∙ ap Some (sym is)
 
 pub boxes_there : (k : ℕ) (activities : List Activity) (place : ℕ) (activity : Activity) → HaveBoxes k activities → activity ≡ get_or activities place activity → place < length activities → IfSome (lock_of activity) (λ held. length held.area.lo ≡ k)
 boxes_there k activities place activity boxes is lt = subst (λ (a : Activity). IfSome (lock_of a) (λ held. length held.area.lo ≡ k)) (sym is) (boxes place activity lt)

@@ -166,7 +166,7 @@ module _ (d : DiskModel) (c : RunningCore) (m : Machine) (actor : ℕ) (free : O
   brings = any_brings m _ c.store has.brings
 
   meta : c.store.meta ≡ m.store.meta
-  meta = has.brings.rest.meta
+  meta = (ap (λ (s : StoreState). s.meta) has.brings.rest)
 
   few : c.store.meta.live ≤ c.store.meta.pages
   few = subst (λ (m : Meta). m.live ≤ m.pages) (sym meta) keeps.meta_within_limits.live

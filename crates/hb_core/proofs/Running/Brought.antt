@@ -22,7 +22,7 @@ use Rattle.hb_core.proofs.Running.ForcedShows.{shown_with}
 -- nothing came
 pub brings_none : (m : Machine) (may : ℕ → Type 0) (st : StoreState) → m.store ≡ st → Brings m may st
 brings_none m may st same = subst (Brings m may) same (record {
-  rest = record { turn = refl; meta = refl; log = refl; in_log = refl; dirty = refl; stopped = refl };
+  rest = refl;
   stays = λ id must there. refl;
   others = λ id there. inl refl;
   only = λ id none there. let page = some_value (in_memory m.store id) there in absurd (not_none (in_memory m.store id) page.0 page.1 none);
@@ -70,7 +70,7 @@ module _ (m : Machine) (d e : DiskModel) (c : RunningCore) (failed : Type 0) (st
     ]
 
     good_by : (q : ℕ) (page : Page) → in_memory st q ≡ Some page → (1 ≤ q) × (q ≤ m.store.meta.high) × IsGoodPage m.store.meta page
-    good_by q page there = subst (λ (meta : Meta). (1 ≤ q) × (q ≤ meta.high) × IsGoodPage meta page) came.rest.meta (memory.good q page there)
+    good_by q page there = subst (λ (meta : Meta). (1 ≤ q) × (q ≤ meta.high) × IsGoodPage meta page) (ap (λ (s : StoreState). s.meta) came.rest) (memory.good q page there)
 
     abbrev IsOfFile : ℕ → Page → Files → Type 0
     IsOfFile q page files = page_of (current_file files) q ≡ Some page
@@ -108,18 +108,11 @@ module _ (m : Machine) (may might : ℕ → Type 0) (st then : StoreState) (uses
   middle = with_uses uses (with_disk st m.files m.clock m)
 
   rest_joined : KeepsAllButPages m.store then
-  rest_joined = record {
-    turn = second.rest.turn ∙ first.rest.turn;
-    meta = second.rest.meta ∙ first.rest.meta;
-    log = second.rest.log ∙ first.rest.log;
-    in_log = second.rest.in_log ∙ first.rest.in_log;
-    dirty = second.rest.dirty ∙ first.rest.dirty;
-    stopped = second.rest.stopped ∙ first.rest.stopped;
-  }
+  rest_joined = second.rest ∙ ap (λ (s : StoreState). record s { pages = then.pages }) first.rest
 
   still_must : (id : ℕ) → MustStay m id → MustStay middle id
   still_must id (inl held) = inl held
-  still_must id (inr dirty) = inr (ap (λ (s : set.FinSet nat_cmp). set.contains s id) first.rest.dirty ∙ dirty)
+  still_must id (inr dirty) = inr (ap (λ (s : set.FinSet nat_cmp). set.contains s id) (ap (λ (s : StoreState). s.dirty) first.rest) ∙ dirty)
 
   must_not : (id : ℕ) → (MustStay middle id → ⊥) → MustStay m id → ⊥
   must_not id never must = never (still_must id must)
@@ -158,7 +151,7 @@ module _ (m : Machine) (may might : ℕ → Type 0) (st then : StoreState) (uses
 
   good_joined : (id : ℕ) (page : Page) → (in_memory st id ≡ Some page) ⊎ ((1 ≤ id) × (id ≤ st.meta.high) × IsGoodPage st.meta page) → (in_memory m.store id ≡ Some page) ⊎ Comes id page
   good_joined id page (inl was) = first.good id page was
-  good_joined id page (inr good) = inr (subst (λ (meta : Meta). (1 ≤ id) × (id ≤ meta.high) × IsGoodPage meta page) first.rest.meta good)
+  good_joined id page (inr good) = inr (subst (λ (meta : Meta). (1 ≤ id) × (id ≤ meta.high) × IsGoodPage meta page) (ap (λ (s : StoreState). s.meta) first.rest) good)
 
   abbrev Told : ℕ → Page → Type 0
   Told id page = IfSome m.files (λ files. page_of (current_file files) id ≡ Some page)

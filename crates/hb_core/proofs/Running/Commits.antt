@@ -95,12 +95,12 @@ module _ (d : DiskModel) (c : RunningCore) (m : Machine) (actor : ℕ) (may : Is
   made_ready = is_ready m actor (changes_file m actor c.store keeps brings op deed row is) work.ready
 
   ready_there : IsReady c.store
-  ready_there = subst (λ (log : LogState). (GROUP ≤ room_of log) × (pending_bytes log.groups ≤ PENDING - GROUP)) (sym brings.rest.log) made_ready.0
+  ready_there = subst (λ (log : LogState). (GROUP ≤ room_of log) × (pending_bytes log.groups ≤ PENDING - GROUP)) (sym (ap (λ (s : StoreState). s.log) brings.rest)) made_ready.0
 
   marks_there : All (λ (g : Waiting). g.mark ≤ length c.order) c.store.log.groups
   marks_there =
       let long : length c.order ≡ length m.order = sym (ap (λ (order : List ℕ). length order) shows.order) ∙ length-map m.order (λ (e : Entry). e.line.number) in
-      subst (λ (groups : List Waiting). All (λ (g : Waiting). g.mark ≤ length c.order) groups) (sym (ap (λ (log : LogState). log.groups) brings.rest.log))
+      subst (λ (groups : List Waiting). All (λ (g : Waiting). g.mark ≤ length c.order) groups) (sym (ap (λ (s : StoreState). s.log.groups) brings.rest))
       (subst (λ (n : ℕ). All (λ (g : Waiting). g.mark ≤ n) m.store.log.groups) (sym long) keeps.marks_rise.inside)
 
   module _ (done : RowsMayBeDone) (one_durable : (durable other : FileState) (later others : List FileState) → StoreKeeps d c.store durable later → StoreKeeps d c.store other others → durable ≡ other)
@@ -119,7 +119,7 @@ module _ (d : DiskModel) (c : RunningCore) (m : Machine) (actor : ℕ) (may : Is
 
     pub may_commit_row : HasFrameFor op c.store c.uses → MayCommit d c op
     may_commit_row place = record {
-      running = brings.rest.stopped ∙ keeps.runs work.runs;
+      running = ap (λ (s : StoreState). s.stopped) brings.rest ∙ keeps.runs work.runs;
       ready = ready_there;
       points = here.attributes;
       allowed = here.allowed;

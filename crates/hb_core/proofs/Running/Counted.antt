@@ -7,11 +7,10 @@ use Rattle.hb_store.specs.Calls.{KeepsAllButPages}
 use Rattle.hb_store.specs.Fetching.{MayFetch}
 use Rattle.hb_store.specs.Forced.{forced_state, stopped_state}
 use Rattle.hb_store.specs.States.{StoreState}
-use Rattle.hb_store.proofs.Facts.PageOnlyLaws.{KeepsAllButPages-none, KeepsAllButPages-same, KeepsAllButPages-then}
-use Rattle.hb_wal.specs.Log.{LogState}
 use Rattle.hb_core.specs.declared.outcomes.Outcome.{Outcome}
 use Rattle.hb_core.specs.Counting.{CountsNoOp, CountsOp, CountsPart, CountsStep, DidOp, DoesNoOp, OnlyBrings}
-use Rattle.hb_core.specs.Counts.{counted, counted_by, one_more}
+use Rattle.hb_core.specs.Counts.{counted, counted_by}
+use Rattle.hb_outside.specs.Memory.{next_count}
 use Rattle.hb_core.specs.Forcing.{FailsToWrite, FlushesOnce, ForcesAll}
 use Rattle.hb_core.specs.Machines.{Machine}
 use Rattle.hb_core.specs.Moving.{DoesDeed, with_standing}
@@ -23,7 +22,7 @@ use Rattle.hb_core.proofs.Running.StepTaken.{with_taken}
 -- ---- stores of which no operation made anything
 
 pub pages_may : (id : ℕ) (old new : StoreState) → MayFetch id old new → KeepsAllButPages old new
-pages_may id old new (inl same) = KeepsAllButPages-same old new same
+pages_may id old new (inl same) = subst (KeepsAllButPages old) (sym same) refl
 pages_may id old new (inr fetched) = fetched.rest
 
 pub no_op_still : (st : StoreState) → DoesNoOp st st
@@ -33,13 +32,13 @@ no_op_as : (old new : StoreState) → new ≡ old → DoesNoOp old new
 no_op_as old new is = subst (DoesNoOp old) (sym is) (no_op_still old)
 
 no_op_by_pages : (old new : StoreState) → KeepsAllButPages old new → DoesNoOp old new
-no_op_by_pages old new pages = record { meta = pages.meta; groups = inl (ap (λ (l : LogState). l.groups) pages.log) }
+no_op_by_pages old new pages = record { meta = ap (λ (s : StoreState). s.meta) pages; groups = inl (ap (λ (s : StoreState). s.log.groups) pages) }
 
 pages_then_no_op : (a b c : StoreState) → KeepsAllButPages a b → DoesNoOp b c → DoesNoOp a c
-pages_then_no_op a b c pages none = record { meta = none.meta ∙ pages.meta; groups = by none.groups }
+pages_then_no_op a b c pages none = record { meta = none.meta ∙ ap (λ (s : StoreState). s.meta) pages; groups = by none.groups }
   where
     by : (c.log.groups ≡ b.log.groups) ⊎ (c.log.groups ≡ []) → (c.log.groups ≡ a.log.groups) ⊎ (c.log.groups ≡ [])
-    by (inl same) = inl (same ∙ ap (λ (l : LogState). l.groups) pages.log)
+    by (inl same) = inl (same ∙ ap (λ (s : StoreState). s.log.groups) pages)
     by (inr forced) = inr forced
 
 -- ---- a flush
@@ -94,7 +93,7 @@ brings_then actor old mid new brings part = record { taken = part.taken ∙ ap (
     before : (op : Op) → DidOp op (length mid.order) mid.store new.store → DidOp op (length old.order) old.store new.store
     before op did = record {
       came = did.came;
-      rest = KeepsAllButPages-then old.store mid.store did.came brings.pages did.rest;
+      rest = did.rest ∙ ap (λ (s : StoreState). record s { pages = did.came.pages }) brings.pages;
       does = subst (λ (n : ℕ). DoesOp op n did.came new.store) same_order did.does;
     }
 
@@ -131,7 +130,7 @@ deed_part actor pins deed outcome old new does = record { taken = ap (λ (s : Ru
     )
     by (Some op) is = inr (
       op,
-      record { came = old.store; rest = KeepsAllButPages-none old.store; does = subst (λ (o : Option Op). MayDo o (length old.order) old.store new.store) is does.store },
+      record { came = old.store; rest = refl; does = subst (λ (o : Option Op). MayDo o (length old.order) old.store new.store) is does.store },
       does.counts ∙ ap (λ (o : Option Op). counted_by actor o old.done) is,
     )
 
@@ -167,10 +166,10 @@ merging_counts actor outcome old new (inr (job, next, kind, merging, does)) = de
 
 -- ---- a step, once it is counted
 
-pub counts_step : (actor taken : ℕ) (c new : RunningCore) → taken ≡ one_more c.taken → CountsPart actor (with_taken taken c) new → CountsStep actor c new
+pub counts_step : (actor taken : ℕ) (c new : RunningCore) → taken ≡ next_count c.taken → CountsPart actor (with_taken taken c) new → CountsStep actor c new
 counts_step actor taken c new is part = record { taken = part.taken ∙ is; done = part.done }
 
-pub counts_none : (actor taken : ℕ) (c new : RunningCore) → taken ≡ one_more c.taken → CountsNoOp (with_taken taken c) new → CountsStep actor c new
+pub counts_none : (actor taken : ℕ) (c new : RunningCore) → taken ≡ next_count c.taken → CountsNoOp (with_taken taken c) new → CountsStep actor c new
 counts_none actor taken c new is none = counts_step actor taken c new is (stays_part actor (with_taken taken c) new none)
 
 -- what is known of a result in both cases

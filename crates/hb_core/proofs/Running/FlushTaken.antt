@@ -57,8 +57,8 @@ module _ {D : Type 0} (model : D → DiskModel) (x y : D) (c : RunningCore) (m :
 
   pub flush_turned : {T : Type 0} (v : T) → (c.store.log.groups ≡ []) × (oldest_dirty c.uses ≡ None) × (0 < c.store.log.written) → FlushesHome (Ok v) (model x) (model y) (held_in c) now → Shown due
   flush_turned v which flushes =
-      let turned = turns_well (model x) (model y) c st uses m step.shows which.0 (which.1, which.2) v due (home_turn (model x) (model y) (held_in c) now (Ok v) (which.1, which.2) flushes) in
-      (turned.0, inr (none_waits which.0, inr (inl (old_now (model x) (model y) c st uses m step.shows which.0 (which.1, which.2), inl turned.1))), turned.2)
+      let turned = turns_well (model x) (model y) c st uses m step.shows (which.1, which.2) v due (home_turn (model x) (model y) (held_in c) now (Ok v) (which.1, which.2) flushes) in
+      (turned.0, inr (none_waits which.0, inr (inl (old_now (model x) (model y) c st uses m step.shows (which.1, which.2), inl turned.1))), turned.2)
 
   -- nothing was left to flush: the machine is shown as it was
   pub flush_idled : {T : Type 0} (v : T) → (c.store.log.groups ≡ []) × (oldest_dirty c.uses ≡ None) × (c.store.log.written ≡ 0) → FlushesHome (Ok v) (model x) (model y) (held_in c) now → Shown outcomes.Idle
@@ -67,7 +67,7 @@ module _ {D : Type 0} (model : D → DiskModel) (x y : D) (c : RunningCore) (m :
       let empty : m.store.log.written ≡ 0 = ap (λ (s : StoreState). s.log.written) step.shows.store ∙ which.2 in (
         m,
         inr (none_waits which.0, inr (inr ((ap oldest_dirty step.shows.uses ∙ which.1, empty), (refl, refl)))),
-        stayed_shown (model x) (model y) c st uses m step.shows nothing.0.stays nothing.1,
+        stayed_shown (model x) (model y) c st uses m step.shows nothing.0 nothing.1,
       )
 
   module _ (z : D) (after : RunningCore) (outcome : Outcome) (says : outcome ≡ outcomes.Stopped stops.WriteFault) (then : after ≡ with_stop stops.WriteFault (with_held st uses c)) (same : z ≡ y) where
@@ -92,7 +92,7 @@ module _ {D : Type 0} (model : D → DiskModel) (x y : D) (c : RunningCore) (m :
             let stopped = fails_home (model x) (model y) c st uses m step.shows id oldest fault writes in
             so stopped.0 (inr (none_waits none, inl (id, oldest_now (model x) (model y) c st uses m step.shows id oldest, inr stopped.1))) stopped.2
         | inr (clean, some, switches) ↦
-            let stopped = fails_turn (model x) (model y) c st uses m step.shows none (clean, some) fault switches in
-            so stopped.0 (inr (none_waits none, inr (inl (old_now (model x) (model y) c st uses m step.shows none (clean, some), inr stopped.1)))) stopped.2
+            let stopped = fails_turn (model x) (model y) c st uses m step.shows (clean, some) fault switches in
+            so stopped.0 (inr (none_waits none, inr (inl (old_now (model x) (model y) c st uses m step.shows (clean, some), inr stopped.1)))) stopped.2
       ]
     ]

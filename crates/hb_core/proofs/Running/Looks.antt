@@ -22,7 +22,7 @@ use Rattle.hb_activity.specs.Wanting.{CanLook, HasLeafAt, LooksIntoPage, looked_
 use Rattle.hb_store.specs.States.{IsGoodPage, StoreState, in_memory}
 use Rattle.hb_core.proofs.Latches.LatchesStay.{walk_latched}
 use Rattle.hb_core.proofs.Memory.BroughtPages.{still_held}
-use Rattle.hb_core.proofs.Walks.MergesKept.{named_again, place_latched}
+use Rattle.hb_core.proofs.Walks.MergesKept.{named_again, place_latched, known_at}
 use Rattle.hb_core.proofs.Walks.WalksKept.{IsAtParent, parent_latched}
 use Rattle.hb_core.specs.Asking.{looked_live, looked_page, wanted_by}
 use Rattle.hb_core.specs.Fetching.{Brings}
@@ -78,12 +78,9 @@ module _ (m : Machine) (actor : ℕ) (may : IsActor actor) (keeps : MachineKeeps
           }
 
   -- the pages that a consolidator holds
-  known_at : (activity : Activity) (place : AtParent) → m.activity actor ≡ activity → merging_at activity ≡ Some place → NamesKnown m.store place
-  known_at activity place is at_place = subst (λ (o : Option AtParent). IfSome o (NamesKnown m.store)) (ap merging_at is ∙ at_place) (keeps.walk_in_space.merging actor)
-
   merger_into : (activity : Activity) (place : AtParent) → m.activity actor ≡ activity → merging_at activity ≡ Some place → looked_at activity ≡ None → LooksInto m.store activity place.parent
   merger_into activity place is at_place none =
-      let known = known_at activity place is at_place in
+      let known = known_at m actor keeps.walk_in_space place (ap merging_at is ∙ at_place) in
       let latch = (place_latched m.store activity place at_place).parent in
       record { page = known.page; live = known.live; mode = latch.0; latched = latch.1; holds = subst (λ (o : Option (List ℕ)). IfSome o (Holds known.page.area)) (sym none) tt }
 
@@ -91,7 +88,7 @@ module _ (m : Machine) (actor : ℕ) (may : IsActor actor) (keeps : MachineKeeps
       → merging_at activity ≡ Some (record { job = job; parent = parent; known = names; pair = Some pair }) → looked_at activity ≡ None → LooksInto m.store activity pair.keep
   tries_into activity job parent names pair is at_place none =
       let place : AtParent = record { job = job; parent = parent; known = names; pair = Some pair } in
-      let kept = (known_at activity place is at_place).pair in
+      let kept = (known_at m actor keeps.walk_in_space place (ap merging_at is ∙ at_place)).pair in
       let latch = (place_latched m.store activity place at_place).pair pair refl in
       record { page = kept.page; live = kept.live; mode = latch.0; latched = latch.1; holds = subst (λ (o : Option (List ℕ)). IfSome o (Holds kept.page.area)) (sym none) tt }
 
@@ -182,7 +179,7 @@ module _ (m : Machine) (actor : ℕ) (may : IsActor actor) (keeps : MachineKeeps
   -- so it wants the same
   pub wants_same : wanted_in st (m.activity actor) ≡ wanted_by m actor
   wants_same =
-      ap (λ (meta : Meta). wanted_of (m.activity actor) meta (looked_live st (m.activity actor))) brings.rest.meta
+      ap (λ (meta : Meta). wanted_of (m.activity actor) meta (looked_live st (m.activity actor))) (ap (λ (s : StoreState). s.meta) brings.rest)
       ∙ ap (wanted_of (m.activity actor) m.store.meta) looked_stays
 
   -- and what a consolidator knows it knows still

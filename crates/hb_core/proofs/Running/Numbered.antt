@@ -57,6 +57,7 @@ use Rattle.hb_pool.specs.Pools.{places}
 use Rattle.hb_store.specs.Calls.{StaysHere, use_fetched}
 use Rattle.hb_store.specs.Held.{IsTied}
 use Rattle.hb_core.specs.Keeps.{HasSoundFile}
+use Rattle.hb_core.proofs.Memory.NeededPages.{needs_room}
 
 -- ---- the number that the store gives is the one of the machine
 
@@ -111,13 +112,6 @@ needs_moved now then (at.PosterGrow job) (Some wanted) move (room, root, hand, m
 needs_moved now then (at.PosterAgain job parent) (Some wanted) move (room, child, hand, (over, live, plan)) =
     (room_then now then move.meta room, child, move.hand wanted child refl hand, (over, move.look ∙ live, subst (λ (x : Meta). LacksRoom over child job.point x.icap) (sym move.meta) plan))
 needs_moved now then activity wanted move needs = absurd needs
-
--- it takes one only where one is free
-needs_room : (now : Machine) (activity : Activity) (wanted : Option Wanted) → NeedsNumber activity wanted now → now.store.meta.live < now.store.meta.pages
-needs_room now (at.SessionSplit line held) wanted needs = needs
-needs_room now (at.PosterGrow job) (Some wanted) (room, root, hand, may) = room
-needs_room now (at.PosterAgain job parent) (Some wanted) (room, child, hand, planned) = room
-needs_room now activity wanted needs = absurd needs
 
 -- a page is free, and the chain has one: then its head is what is needed
 pub numbered_so : (meta : Meta) (uses : List Use) → meta.live ≢ meta.pages → meta.free ≢ 0 → use_numbered meta uses ≡ use_fetched meta.free uses
@@ -201,11 +195,11 @@ module _ (m : Machine) (d : DiskModel) (c : RunningCore) (actor : ℕ) (come : H
   pinned_so = subst (λ (l : List Use). PinsMore (page_wanted (wanted_by m actor)) m.uses l) (sym come.uses) (more_number false m.store.meta (wanted_by m actor) m.uses come.may.goes_on.kept.frames_fit.tied.pool.distinct)
 
   pub must_then : (id : ℕ) → MustStay (with_memory c m) id → StaysHere c.uses id
-  must_then id must = must_here m c.store c.uses come.may.goes_on.kept come.brings.rest.dirty come.tied (λ q. let more = pinned_so.pins q in omega (arith, more)) id (as_before must)
+  must_then id must = must_here m c.store c.uses come.may.goes_on.kept (ap (λ (s : StoreState). s.dirty) come.brings.rest) come.tied (λ q. let more = pinned_so.pins q in omega (arith, more)) id (as_before must)
     where
       as_before : MustStay (with_memory c m) id → MustStay m id
       as_before (inl held) = inl held
-      as_before (inr dirty) = inr (ap (λ (s : set.FinSet nat_cmp). set.contains s id) (sym come.brings.rest.dirty) ∙ dirty)
+      as_before (inr dirty) = inr (ap (λ (s : set.FinSet nat_cmp). set.contains s id) (sym (ap (λ (s : StoreState). s.dirty) come.brings.rest)) ∙ dirty)
 
 module _ (m : Machine) (d : DiskModel) (c : RunningCore) (actor : ℕ) (latches : IsActor actor) (come : HasCome m actor d c) (needs : NeedsNumber (m.activity actor) (wanted_by m actor) (with_memory c m))
     (e : DiskModel) (failed : Type 0) (st : StoreState) (looks : LooksUp failed d e c.store st) (memory : IsMemory st) (came : MayFetch c.store.meta.free c.store st)
@@ -226,7 +220,7 @@ module _ (m : Machine) (d : DiskModel) (c : RunningCore) (actor : ℕ) (latches 
   ]
 
   free_meta : c.store.meta.free ≡ m.store.meta.free
-  free_meta = ap (λ (x : Meta). x.free) come.brings.rest.meta
+  free_meta = ap (λ (s : StoreState). s.meta.free) come.brings.rest
 
   shown_before : (files : Files) → m.files ≡ Some files → (id : ℕ) (page : Page) → in_memory m.store id ≡ Some page → page_of (current_file files) id ≡ Some page
   shown_before files told = (at_value m.files (HasSoundFile m) files told come.may.goes_on.sound).shown
@@ -245,7 +239,7 @@ module _ (m : Machine) (d : DiskModel) (c : RunningCore) (actor : ℕ) (latches 
   shown uses = shows_store now d e c failed st come.shows looks uses
 
   meta_then : st.meta ≡ c.store.meta
-  meta_then = second.rest.meta
+  meta_then = (ap (λ (s : StoreState). s.meta) second.rest)
 
   look_then : looked_live st activity ≡ looked_live c.store activity
   look_then = looked_stays m actor latches come.may.goes_on.kept _ st joined ∙ sym (looked_stays m actor latches come.may.goes_on.kept _ c.store come.brings)
@@ -283,7 +277,7 @@ module _ (m : Machine) (d : DiskModel) (c : RunningCore) (actor : ℕ) (latches 
 
   -- the order of use then
   used_so : (uses : List Use) → uses ≡ use_numbered c.store.meta c.uses → uses ≡ use_numbered m.store.meta (use_wanted (wanted_by m actor) m.uses)
-  used_so uses used = used ∙ ap (λ (x : Meta). use_numbered x c.uses) come.brings.rest.meta ∙ ap (use_numbered m.store.meta) come.uses
+  used_so uses used = used ∙ ap (λ (s : StoreState). use_numbered s.meta c.uses) come.brings.rest ∙ ap (use_numbered m.store.meta) come.uses
 
   -- a number is given
   given_number : (uses : List Use) → uses ≡ use_numbered c.store.meta c.uses → IsTied st uses → (fresh after : ℕ) → IsNext st fresh after → HasPages m actor (Some (fresh, after)) e (with_order_of_use uses (with_store st c))
@@ -299,7 +293,7 @@ module _ (m : Machine) (d : DiskModel) (c : RunningCore) (actor : ℕ) (latches 
 
   -- and one is, as a page is free
   some_free : c.store.meta.live ≢ c.store.meta.pages
-  some_free full = let room : c.store.meta.live < c.store.meta.pages = needs_room now activity (wanted_by m actor) needs in omega (arith, room, full)
+  some_free full = let room : c.store.meta.live < c.store.meta.pages = needs_room activity (wanted_by m actor) now needs in omega (arith, room, full)
 
   pub number_then : (uses : List Use) → uses ≡ use_numbered c.store.meta c.uses → IsTied st uses → (next : Option (ℕ × ℕ)) → IfSome next (λ p. IsNext st p.0 p.1) → (c.store.meta.live ≢ c.store.meta.pages → IsSome next)
       → HasPages m actor next e (with_order_of_use uses (with_store st c))
@@ -334,7 +328,7 @@ module _ (m : Machine) (d : DiskModel) (c : RunningCore) (actor : ℕ) (latches 
   free_then = ap (λ (x : Meta). x.free) meta_then
 
   lacks_head : free_now ≢ 0 → ¬ (IsNoPage c.store.meta free_now) → in_memory st free_now ≡ None → LacksNeeded m actor st
-  lacks_head some has absent = (free_now, inr (needs_then, (free_meta, some)), (λ lacks. has (subst (λ (x : Meta). IsNoPage x free_now) (sym come.brings.rest.meta) lacks)), absent)
+  lacks_head some has absent = (free_now, inr (needs_then, (free_meta, some)), (λ lacks. has (subst (λ (x : Meta). IsNoPage x free_now) (sym (ap (λ (s : StoreState). s.meta) come.brings.rest)) lacks)), absent)
 
   breaks_head : (rule : ℕ) → m.files ≡ None → free_now ≢ 0 → in_memory st free_now ≡ None → Breaks c.store.meta d free_now rule → IsBadHead m.files st free_now (Rule rule)
   breaks_head rule none some absent (inl (first, lacks)) =

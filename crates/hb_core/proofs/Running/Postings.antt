@@ -7,7 +7,6 @@ use Rattle.hb_frag.specs.declared.pages.LivePage.{LivePage}
 use Rattle.hb_frag.specs.Leaves.{Placed}
 use Rattle.hb_latch.specs.declared.modes.Mode.TheVariants.{Shared}
 use Rattle.hb_space.specs.Actors.{IsActor}
-use Rattle.hb_layout.specs.Limits.{IsLayout}
 use Rattle.hb_layout.specs.declared.meta.Meta.{Meta}
 use Rattle.hb_layout.specs.declared.limits.TheConstants.{HEIGHT_MAX}
 use Rattle.hb_lemmas.proofs.Options.{at_value, has_value, some_value}
@@ -38,6 +37,7 @@ use Rattle.hb_core.specs.Moving.{StandsAs}
 use Rattle.hb_core.specs.Rows.{IsAtHand}
 use Rattle.hb_core.specs.Showing.{RunningCore}
 use Rattle.hb_core.specs.Working.{HasCome, with_memory}
+use Rattle.hb_store.specs.States.{StoreState}
 
 -- the poster makes a page: for a level, or to split a parent
 abbrev pub MayMakeToPost : Activity → Type 0
@@ -107,7 +107,7 @@ module _ (m : Machine) (d : DiskModel) (c : RunningCore) (actor : ℕ) (latches 
               let asks = with_parent job parent same in
               let may_ask = subst (λ (a : Activity). MayBeAsked a m.store.meta page (Some asks.over)) (is ∙ same) asks.may in
               subst (λ (o : Option LivePage). MayBeAsked (at.PosterAgain job parent) c.store.meta page o) (sym asks.live)
-              (subst (λ (meta : Meta). MayBeAsked (at.PosterAgain job parent) meta page (Some asks.over)) (sym come.brings.rest.meta) may_ask)
+              (subst (λ (meta : Meta). MayBeAsked (at.PosterAgain job parent) meta page (Some asks.over)) (sym (ap (λ (s : StoreState). s.meta) come.brings.rest)) may_ask)
           by a same makes = absurd makes
 
       abbrev Needs : Activity → Type 0
@@ -170,7 +170,6 @@ module _ (m : Machine) (d : DiskModel) (c : RunningCore) (actor : ℕ) (latches 
   -- what the poster's decider is asked
   pub asks_number : AsksNumber c.store activity id
   asks_number = record {
-    layout = subst IsLayout (sym come.brings.rest.meta) come.may.goes_on.kept.meta_within_limits.layout;
     page = its_page.0;
     live = its_page.1;
     made = fetched_fits m (IsWantedPage (wanted_by m actor)) c.store come.may.goes_on.kept.pages_of_file come.brings id its_page.0 its_page.1;

@@ -1,5 +1,5 @@
 -- The pages that the operation of a row reads stay: the actor has latched them, or it is the wanted page, which is pinned for the step.
-use Rattle.std.proofs.Common.{◌≡◌, ◌⊎◌, inl, inr, ℕ, ◌==◌, ◌||◌, Bool, true, false, cond, List, Option, Some, None, IsTrue, refl, sym, ap, subst, ◌∙◌, arith}
+use Rattle.std.proofs.Common.{◌≡◌, ◌⊎◌, inl, inr, ℕ, ◌==◌, ◌||◌, Bool, false, cond, List, Option, Some, None, IsTrue, refl, sym, ap, subst, ◌∙◌, arith}
 use Rattle.std.specs.Option.{is_some}
 use Rattle.std.proofs.lemmas.Bool.{cases_Bool, eqb-true, false≢true}
 use Rattle.hb_disk.specs.Model.{DiskModel}
@@ -29,6 +29,7 @@ use Rattle.hb_core.specs.Rows.{Row}
 use Rattle.hb_core.specs.Showing.{RunningCore}
 use Rattle.hb_core.specs.Using.{page_wanted}
 use Rattle.hb_core.specs.Working.{HasPages, with_memory}
+use Rattle.hb_store.specs.States.{StoreState}
 
 module _ (m : Machine) (d : DiskModel) (c : RunningCore) (actor : ℕ) (free : Option (ℕ × ℕ)) (may : IsActor actor) (has : HasPages m actor free d c) where
   -- what is pinned then
@@ -37,11 +38,11 @@ module _ (m : Machine) (d : DiskModel) (c : RunningCore) (actor : ℕ) (free : O
       (more_number (is_some free) m.store.meta (wanted_by m actor) m.uses has.may.goes_on.kept.frames_fit.tied.pool.distinct)
 
   pub must_stays : (id : ℕ) → MustStay m id → StaysHere c.uses id
-  must_stays = must_here m c.store c.uses has.may.goes_on.kept has.brings.rest.dirty has.tied (λ q. let more = pinned_so.pins q in omega (arith, more))
+  must_stays = must_here m c.store c.uses has.may.goes_on.kept (ap (λ (s : StoreState). s.dirty) has.brings.rest) has.tied (λ q. let more = pinned_so.pins q in omega (arith, more))
 
   pub held_stays : (id : ℕ) (mode : Mode) → mode_among id (latches_held m.store (m.activity actor)) ≡ Some mode → StaysHere c.uses id
   held_stays id mode is =
-      must_here m c.store c.uses has.may.goes_on.kept has.brings.rest.dirty has.tied (λ q. let more = pinned_so.pins q in omega (arith, more)) id
+      must_here m c.store c.uses has.may.goes_on.kept (ap (λ (s : StoreState). s.dirty) has.brings.rest) has.tied (λ q. let more = pinned_so.pins q in omega (arith, more)) id
       (inl (actor, mode, has.may.goes_on.kept.latches_fit.exact actor id may ∙ is))
 
   abbrev ReadsStay : Option Op → Type 0

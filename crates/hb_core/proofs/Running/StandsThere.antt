@@ -27,8 +27,7 @@ use Rattle.hb_core.proofs.Memory.NextNumbers.{is_next_number}
 use Rattle.hb_core.proofs.Memory.OwnedOps.{made_was_free}
 use Rattle.hb_core.proofs.Facts.StillThere.{fetched_good}
 use Rattle.hb_core.proofs.Table.NextPlaces.{HasPlace, HoldsNothing, PartsFull, now, place_after}
-use Rattle.hb_core.proofs.Walks.AskedToMerge.{place_stays}
-use Rattle.hb_core.proofs.Walks.MergesKept.{HasMergePlace, merged_place}
+use Rattle.hb_core.proofs.Walks.MergesKept.{HasMergePlace, merged_place, place_stays}
 use Rattle.hb_core.specs.AllowedLaws.{AnyPage}
 use Rattle.hb_core.specs.Asking.{wanted_by}
 use Rattle.hb_core.specs.Fetching.{Brings}
@@ -164,7 +163,7 @@ module _ (m : Machine) (actor : ℕ) (fetched st : StoreState) (deed : Deed) (la
   pair_apart (inr (inr (inr (inr (inr (inl parts)))))) place pair at_place held = absurd (none_there place (ap (λ (d : Deed). merging_at d.next) parts.row.deed_is) at_place)
   pair_apart (inr (inr (inr (inr (inr (inr merges)))))) place pair at_place held =
       by (merged_place m actor fetched (fetched_good m AnyPage fetched keeps.pages_of_file brings) (λ place is. subst (λ (o : Option AtParent). IfSome o (NamesKnown m.store)) is (keeps.walk_in_space.merging actor))
-      (place_stays m actor fetched latches keeps brings) deed merges)
+      (place_stays m AnyPage fetched brings actor keeps.latches_fit latches) deed merges)
     where
       by : HoldsNothing deed.next ⊎ HasMergePlace fetched deed.next → place.parent ≢ pair.keep
       by (inl free) = absurd (none_there place free.merging at_place)

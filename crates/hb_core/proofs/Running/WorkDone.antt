@@ -121,7 +121,7 @@ module _ {D : Type 0} (model : D → DiskModel) (x y : D) (c after : RunningCore
       let deed : Deed = gives_up why (m.activity actor) in
       let done : DoesDeed actor pins deed outcome c after = does (m.activity actor) work.working (work.goes_on.kept.classes actor) is in
       let same_pins = came_stays (wanted_by m actor) m.store.meta m.uses c.uses work.goes_on.kept.frames_fit.tied.pool.distinct halts.used_is in
-      let stay : (id : ℕ) → MustStay m id → StaysHere c.uses id = must_here m c.store c.uses work.goes_on.kept halts.brings.rest.dirty halts.tied (λ q. let pins = same_pins.pins q in omega (arith, pins)) in
+      let stay : (id : ℕ) → MustStay m id → StaysHere c.uses id = must_here m c.store c.uses work.goes_on.kept (ap (λ (s : StoreState). s.dirty) halts.brings.rest) halts.tied (λ q. let pins = same_pins.pins q in omega (arith, pins)) in
       let none : deed.op ≡ None = no_operation why (idle_of (class_of (m.activity actor))) (hand_of (m.activity actor)) in
       let shown = deed_shows (model x) c after m actor deed outcome may halts.shows pins done stay work.goes_on.kept.lines_in_sequence (given_up_number m why (m.activity actor) work.working)
       (keeps_none (model x) c.store after.store _ deed.op none done.store) in (

@@ -1,11 +1,10 @@
 -- A core that writes the least recently used dirty page to its place, or finds nothing to write, shows what this makes of the machine.
-use Rattle.std.proofs.Common.{◌≡◌, ℕ, ◌+◌, List, Option, Some, None, IsOk, IsSome, Ok, Err, Result, refl, sym, ap, ◌∙◌, subst, ◌⊎◌, ◌<◌, inl, inr, [], arith}
+use Rattle.std.proofs.Common.{◌≡◌, ℕ, ◌+◌, List, Option, Some, None, IsOk, IsSome, Ok, Err, Result, refl, sym, ap, ◌∙◌, subst, ◌⊎◌, ◌<◌, inl, inr, arith}
 use Rattle.std.specs.Prelude.{MatchOption}
-use Rattle.hb_disk.specs.Calls.{ReadsOnly}
-use Rattle.hb_disk.specs.Model.{DiskModel, Stays}
-use Rattle.hb_ops.specs.Files.{FileState}
+use Rattle.hb_disk.specs.Model.{DiskModel}
 use Rattle.hb_pool.specs.Frames.{Use, clean}
 use Rattle.hb_pool.specs.Pools.{in_place}
+use Rattle.hb_store.specs.Fetching.{LooksUp}
 use Rattle.hb_store.specs.Held.{StoreHeld, cleaned_state, oldest_dirty}
 use Rattle.hb_store.specs.Keeps.{StoreKeeps}
 use Rattle.hb_store.specs.States.{StoreState}
@@ -13,7 +12,6 @@ use Rattle.hb_store.specs.Switching.{SwitchesTurn, switched_state}
 use Rattle.hb_store.specs.WritingHome.{FlushesClean, FlushesHome, WritesHome}
 use Rattle.hb_store.specs.declared.stops.StopWhy.TheVariants as stops
 use Rattle.hb_store.specs.declared.stops.WriteFault.{WriteFault}
-use Rattle.hb_store.proofs.Facts.StayedDisks.{keeps_read}
 use Rattle.hb_core.specs.declared.outcomes.Outcome.{Outcome}
 use Rattle.hb_core.specs.declared.outcomes.Outcome.TheVariants as outcomes
 use Rattle.hb_core.specs.Forcing.{BeginsTurn, FailsToWrite, HasDirtyPage, HasOldTurn, WritesOldest}
@@ -21,7 +19,6 @@ use Rattle.hb_core.specs.Machines.{Machine, with_disk, with_uses}
 use Rattle.hb_core.specs.Moving.{with_stop}
 use Rattle.hb_core.specs.Showing.{RunningCore, ShowsMachine}
 use Rattle.hb_core.specs.Touching.{held_in}
-use Rattle.hb_core.proofs.Facts.RunDisks.{none_later}
 use Rattle.hb_core.proofs.Running.ForcedShows.{fails_by, kept_before, shown_with, silent_before, told_before, with_held}
 
 module _ (d e : DiskModel) (c : RunningCore) (st : StoreState) (uses : List Use) (m : Machine) (shows : ShowsMachine d c m) where
@@ -30,8 +27,9 @@ module _ (d e : DiskModel) (c : RunningCore) (st : StoreState) (uses : List Use)
 
   -- ---- nothing was written
 
-  pub stayed_shown : Stays d e → now ≡ held_in c → ShowsMachine e (with_held st uses c) m
-  stayed_shown stays same =
+  pub stayed_shown : LooksUp ⊥ d e c.store st → now ≡ held_in c → ShowsMachine e (with_held st uses c) m
+  stayed_shown looks same =
+      let stays = looks.only.stays in
       let store : m.store ≡ st = shows.store ∙ ap (λ (h : StoreHeld). h.state) (sym same) in
       let used : m.uses ≡ uses = shows.uses ∙ ap (λ (h : StoreHeld). h.uses) (sym same) in
       shown_with d e c st uses m shows m.store m.uses m.files m.clock store used
@@ -40,7 +38,7 @@ module _ (d e : DiskModel) (c : RunningCore) (st : StoreState) (uses : List Use)
       record {
         files = had.files;
         told = had.told;
-        kept = keeps_read d e m.store had.files.durable had.files.later stays had.kept;
+        kept = subst (λ (s : StoreState). StoreKeeps e s had.files.durable had.files.later) (sym store) (looks.keeps had.files.durable had.files.later (kept_before d e c st uses m shows had));
         clock = had.clock ∙ sym stays.clock;
       })
       (λ untold. shows.silent (sym stays.told ∙ untold))
@@ -83,15 +81,9 @@ module _ (d e : DiskModel) (c : RunningCore) (st : StoreState) (uses : List Use)
 
   -- ---- the next turn began
 
-  module _ (none : c.store.log.groups ≡ []) (old : (oldest_dirty c.uses ≡ None) × (0 < c.store.log.written)) where
+  module _ (old : (oldest_dirty c.uses ≡ None) × (0 < c.store.log.written)) where
     pub old_now : HasOldTurn m
     old_now = (ap oldest_dirty shows.uses ∙ old.0, subst (λ (s : StoreState). 0 < s.log.written) (sym shows.store) old.1)
-
-    -- what holds where no file is to come holds of each list of those that are to come
-    keeps_then : ((durable : FileState) → StoreKeeps d c.store durable [] → StoreKeeps e st durable []) → (durable : FileState) (later : List FileState) → StoreKeeps d c.store durable later → StoreKeeps e st durable later
-    keeps_then keeps durable later kept =
-        let empty = none_later d c.store durable later none kept in
-        subst (λ (l : List FileState). StoreKeeps e st durable l) (sym empty) (keeps durable (subst (λ (l : List FileState). StoreKeeps d c.store durable l) empty kept))
 
     abbrev turned : Machine
     turned = with_disk (switched_state m.store) m.files (m.clock + 9) m
@@ -107,7 +99,7 @@ module _ (d e : DiskModel) (c : RunningCore) (st : StoreState) (uses : List Use)
           record {
             files = had.files;
             told = had.told;
-            kept = subst (λ (s : StoreState). StoreKeeps e s had.files.durable had.files.later) (sym store) (keeps_then switches.keeps had.files.durable had.files.later (kept_before d e c st uses m shows had));
+            kept = subst (λ (s : StoreState). StoreKeeps e s had.files.durable had.files.later) (sym store) (switches.keeps had.files.durable had.files.later (kept_before d e c st uses m shows had));
             clock = ap (λ (n : ℕ). n + 9) had.clock ∙ sym (switches.clock was);
           })
           (λ untold. shows.silent (silent_before _ d.told e.told switches.wrote.became.told untold)),
@@ -121,7 +113,7 @@ module _ (d e : DiskModel) (c : RunningCore) (st : StoreState) (uses : List Use)
 
     pub fails_turn : {T : Type 0} (fault : WriteFault) → SwitchesTurn {T = T} (Err fault) d e (held_in c) now
         → (new : Machine) × FailsToWrite m 9 (outcomes.Stopped stops.WriteFault) new × ShowsMachine e (with_stop stops.WriteFault (with_held st uses c)) new
-    fails_turn fault switches = fails_by d e c st uses m shows _ 9 switches.wrote.became switches.wrote.later switches.wrote.few switches.stopped.0 switches.stopped.1 (keeps_then switches.keeps)
+    fails_turn fault switches = fails_by d e c st uses m shows _ 9 switches.wrote.became switches.wrote.later switches.wrote.few switches.stopped.0 switches.stopped.1 switches.keeps
 
 -- ---- which of them it was
 
@@ -145,10 +137,10 @@ module _ {T : Type 0} (d e : DiskModel) (old new : StoreHeld) where
       by (inl (_, switches)) = switches
       by (inr (none, ok, reads, same)) = absurd (omega (arith, some, none))
 
-  pub home_none : (result : Result T WriteFault) → (oldest_dirty old.uses ≡ None) × (old.state.log.written ≡ 0) → FlushesHome result d e old new → ReadsOnly ⊥ d e × (new ≡ old)
+  pub home_none : (result : Result T WriteFault) → (oldest_dirty old.uses ≡ None) × (old.state.log.written ≡ 0) → FlushesHome result d e old new → LooksUp ⊥ d e old.state new.state × (new ≡ old)
   home_none result (is, none) flushes = by (flushes_clean result is flushes)
     where
-      by : FlushesClean result d e old new → ReadsOnly ⊥ d e × (new ≡ old)
+      by : FlushesClean result d e old new → LooksUp ⊥ d e old.state new.state × (new ≡ old)
       by (inl (some, _)) = absurd (omega (arith, some, none))
       by (inr (_, ok, reads, same)) = (reads, same)
 

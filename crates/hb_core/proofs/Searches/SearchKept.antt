@@ -141,7 +141,7 @@ module _ (points : HeldArePoints) (standing : StandingIsContents) (lacking : Lac
       let boxes : All (IsBoxOf k) (row.front ++ row.at_hand ∷ []) = subst (λ (r : List Area). All (IsBoxOf k) r) row.boxes left_boxes in
       let hand : IsBoxOf k row.at_hand = All-last (IsBoxOf k) row.front row.at_hand boxes in
       let good = (keeps.framed id _ (live_so (in_memory fetched id) page live)).2 in
-      let leaf = subst (λ (n : ℕ). IsLeafOf n row.records row.area) (ap (λ meta. meta.k) brings.rest.meta) (leaf_of fetched.meta page p row.records row.area good row.leaf) in
+      let leaf = subst (λ (n : ℕ). IsLeafOf n row.records row.area) (ap (λ meta. meta.k) (ap (λ (s : StoreState). s.meta) brings.rest)) (leaf_of fetched.meta page p row.records row.area good row.leaf) in
       let in_leaf = (leaf_box fetched.meta page p _ good row.leaf).1 in
       let in_hand : Holds row.at_hand p = subst (Holds row.at_hand) (goal_at_hand box rest row.front row.at_hand p row.boxes goal) (lo_held row.at_hand hand.0) in
       let so_far : Whole (row.front ++ row.at_hand ∷ []) = subst Whole row.boxes (exact actor line held rest found box walks command) in

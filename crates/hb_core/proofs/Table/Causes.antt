@@ -97,7 +97,7 @@ module _ (m : Machine) (actor number : ℕ) (reply : Reply) (new : Machine) (G :
     posts = λ deed idle takes performs. quiet deed (ap (λ (d : Deed). d.says) takes.deed_is) performs.says;
     merges = λ deed idle takes performs. quiet deed (ap (λ (d : Deed). d.says) takes.deed_is) performs.says;
     settles = λ other place given is less performs. settled other place given is (answered_with number other reply given performs.says);
-    does = λ acts. row_said (with_disk acts.fetched m.files m.clock m) acts.deed acts.brings.rest.meta (saying_of (with_disk acts.fetched m.files m.clock m) (m.activity actor) (wanted_by m actor) acts.deed acts.row) acts.performs.says;
+    does = λ acts. row_said (with_disk acts.fetched m.files m.clock m) acts.deed (ap (λ (s : StoreState). s.meta) acts.brings.rest) (saying_of (with_disk acts.fetched m.files m.clock m) (m.activity actor) (wanted_by m actor) acts.deed acts.row) acts.performs.says;
     gives = λ gives. gave_up gives.why (record { fetched = gives.fetched; brings = gives.brings; cause = gives.cause }) gives.performs.says;
   }) step
 

@@ -87,8 +87,8 @@ module _ (m : Machine) (actor : ℕ) (outcome : Outcome) (new : Machine) (G : Ty
   worked (inr (inl (free, unready, inl (waits, force)))) = forces outcomes.Helped force
   worked (inr (inl (free, unready, inr (none, rest)))) = ready_kind m outcome new G none more rest
   worked (inr (inr (free, ready, inl acts))) = shows.acts acts
-  worked (inr (inr (free, ready, inr (inl abandons)))) = shows.ends abandons.fetched _ abandons.brings.rest.meta (gives abandons.why (m.activity actor)) abandons.performs
-  worked (inr (inr (free, ready, inr (inr meets)))) = shows.keeps (meets_so m actor outcome new meets) (ap (λ (n : Machine). n.store.meta) meets.stops ∙ meets.brings.rest.meta)
+  worked (inr (inr (free, ready, inr (inl abandons)))) = shows.ends abandons.fetched _ (ap (λ (s : StoreState). s.meta) abandons.brings.rest) (gives abandons.why (m.activity actor)) abandons.performs
+  worked (inr (inr (free, ready, inr (inr meets)))) = shows.keeps (meets_so m actor outcome new meets) (ap (λ (n : Machine). n.store.meta) meets.stops ∙ ap (λ (s : StoreState). s.meta) meets.brings.rest)
 
   pub each_deed : StepsTo m actor outcome new → G
   each_deed step = each_step m actor outcome new G (record {

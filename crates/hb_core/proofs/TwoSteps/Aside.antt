@@ -117,10 +117,10 @@ module _ (m : Machine) (actor : ℕ) (outcome : Outcome) (new : Machine) where
 
   brought : (may : ℕ → Type 0) (fetched : StoreState) → Brings m may fetched → KeepsStore fetched
   brought may fetched brings = record {
-    meta = brings.rest.meta;
-    log = brings.rest.log;
-    in_log = brings.rest.in_log;
-    dirty = brings.rest.dirty;
+    meta = ap (λ (s : StoreState). s.meta) brings.rest;
+    log = ap (λ (s : StoreState). s.log) brings.rest;
+    in_log = ap (λ (s : StoreState). s.in_log) brings.rest;
+    dirty = ap (λ (s : StoreState). s.dirty) brings.rest;
     memory = λ id page must there. brings.stays id must (subst (λ (o : Option Page). IsSome o) (sym there) refl) ∙ there;
   }
 

@@ -29,7 +29,7 @@ use Rattle.hb_frag.specs.Leaves.{DirectlyHolds}
 use Rattle.hb_frag.specs.Rules.{AreInOrder}
 use Rattle.hb_ops.specs.Files.{if_live}
 use Rattle.hb_point.specs.SplitRows.{PutsInHalf}
-use Rattle.hb_store.specs.Calls.{KeepsAllButPages}
+use Rattle.hb_store.specs.Calls.{CommitsBringNone, KeepsAllButPages}
 use Rattle.hb_store.specs.States.{StoreState, in_memory}
 use Rattle.hb_core.proofs.Table.NextPlaces.{place_after}
 use Rattle.hb_ops.proofs.Facts.PageNumberLaws.{live_so}
@@ -59,7 +59,7 @@ module _ (m : Machine) (actor : ℕ) (outcome other : Outcome) (new next : Machi
   said_rows : DoesRow m actor outcome new → DoesRow m actor other next → ComesToSame outcome other new next
   said_rows row again =
       said_both row.fetched again.fetched row.deed again.deed
-      (rows_say_the_same m row.fetched again.fetched row.brings.rest.meta again.brings.rest.meta (m.activity actor) (wanted_by m actor) row.deed again.deed row.row again.row)
+      (rows_say_the_same m row.fetched again.fetched (ap (λ (s : StoreState). s.meta) row.brings.rest) (ap (λ (s : StoreState). s.meta) again.brings.rest) (m.activity actor) (wanted_by m actor) row.deed again.deed row.row again.row)
       row.performs again.performs
 
 pub outcome_is_one : OutcomeIsOne
@@ -118,20 +118,13 @@ module _ (m : Machine) (files : Files) (tells : m.files ≡ Some files) (may mig
 
   one_deed : (actor : ℕ) (d e : Deed) → HoldsPagesOfFile m → KnowsRoom m → Row (m.activity actor) (wanted_by m actor) m1 d → Row (m.activity actor) (wanted_by m actor) m2 e → d ≡ e
   one_deed actor d e inside knows row again =
-      one_row m f g (first.rest.meta ∙ sym second.rest.meta) agree (in_order inside) (m.activity actor) (wanted_by m actor) d e
+      one_row m f g ((ap (λ (s : StoreState). s.meta) first.rest) ∙ sym (ap (λ (s : StoreState). s.meta) second.rest)) agree (in_order inside) (m.activity actor) (wanted_by m actor) d e
       (λ line source fresh d e is a b. let has = knows.puts actor source fresh line is in one_put line source fresh d e a b has.0 has.1 has.2)
       row again
 
   -- what both left is the same
   alike : KeepsAllButPages f g
-  alike = record {
-    turn = second.rest.turn ∙ sym first.rest.turn;
-    meta = second.rest.meta ∙ sym first.rest.meta;
-    log = second.rest.log ∙ sym first.rest.log;
-    in_log = second.rest.in_log ∙ sym first.rest.in_log;
-    dirty = second.rest.dirty ∙ sym first.rest.dirty;
-    stopped = second.rest.stopped ∙ sym first.rest.stopped;
-  }
+  alike = second.rest ∙ ap (λ (s : StoreState). record s { pages = g.pages }) (sym first.rest)
 
   -- and so is the page at which a walk goes on
   same_here : (deed : Deed) (held : Option ℕ) → IfSome held (IsHereUnchanged m1 deed) → IfSome held (IsHereUnchanged m2 deed) → IfSome held (λ id. (deed.op ≡ None) × (live_here f id ≡ live_here g id))
@@ -142,10 +135,10 @@ module _ (m : Machine) (files : Files) (tells : m.files ≡ Some files) (may mig
         (live_so (in_memory f id) here.page here.live) (live_so (in_memory g id) there.page there.live)) ∙ sym (live_so (in_memory g id) there.page there.live)),
   )
 
-  one_by_row : (actor : ℕ) (deed : Deed) (outcome other : Outcome) (new next : Machine) → Row (m.activity actor) (wanted_by m actor) m1 deed → Row (m.activity actor) (wanted_by m actor) m2 deed
+  one_by_row : CommitsBringNone → (actor : ℕ) (deed : Deed) (outcome other : Outcome) (new next : Machine) → Row (m.activity actor) (wanted_by m actor) m1 deed → Row (m.activity actor) (wanted_by m actor) m2 deed
       → (one : Performs m f actor deed outcome new) → (two : Performs m g actor deed other next) → one.came ≡ two.came → one.pins ≡ two.pins → AreOne new next
-  one_by_row actor deed outcome other new next row again one two came pins =
-      one_performed f g alike agree m actor deed outcome other new next
+  one_by_row commits actor deed outcome other new next row again one two came pins =
+      one_performed f g alike agree commits m actor deed outcome other new next
       (same_here deed (walk_held deed.next) (walks_here m actor f deed (place_after m actor f (wanted_by m actor) deed refl row)) (walks_here m actor g deed (place_after m actor g (wanted_by m actor) deed refl again))) one two came pins
 
 -- ---- they lead to machines that are one
@@ -155,10 +148,10 @@ module _ (m : Machine) (actor : ℕ) (outcome other : Outcome) (new next : Machi
   nowhere deed None none = tt
   nowhere deed (Some id) none = absurd (let never : Some id ≡ None = none in cc)
 
-  one_by_deed : (d e : Deed) → d ≡ e → walk_held d.next ≡ None → PerformsAsItIs m actor d outcome new → PerformsAsItIs m actor e other next → AreOne new next
-  one_by_deed d e same walk first second =
+  one_by_deed : CommitsBringNone → (d e : Deed) → d ≡ e → walk_held d.next ≡ None → PerformsAsItIs m actor d outcome new → PerformsAsItIs m actor e other next → AreOne new next
+  one_by_deed commits d e same walk first second =
       let again : PerformsAsItIs m actor d other next = subst (λ (x : Deed). PerformsAsItIs m actor x other next) (sym same) second in
-      one_performed m.store m.store (record { turn = refl; meta = refl; log = refl; in_log = refl; dirty = refl; stopped = refl }) (λ id a b one two. same_Some a b (sym one ∙ two)) m actor d outcome other new next
+      one_performed m.store m.store refl (λ id a b one two. same_Some a b (sym one ∙ two)) commits m actor d outcome other new next
       (nowhere d (walk_held d.next) walk) first.0 again.0 (first.1 ∙ sym again.1) (first.2 ∙ sym again.2)
 
   -- a row's deed, with what came and was pinned for it
@@ -166,20 +159,20 @@ module _ (m : Machine) (actor : ℕ) (outcome other : Outcome) (new next : Machi
   RowDone fetched said after d =
       (p : Performs m fetched actor d said after) × (p.came ≡ use_number (takes_number d.op) m.store.meta (use_wanted (wanted_by m actor) m.uses)) × (p.pins ≡ page_wanted (wanted_by m actor) ++ pages_of (latches_held m.store (m.activity actor)))
 
-  one_by_rows : (files : Files) → m.files ≡ Some files → HoldsPagesOfFile m → KnowsRoom m → DoesRow m actor outcome new → DoesRow m actor other next → AreOne new next
-  one_by_rows files tells inside knows a b =
+  one_by_rows : CommitsBringNone → (files : Files) → m.files ≡ Some files → HoldsPagesOfFile m → KnowsRoom m → DoesRow m actor outcome new → DoesRow m actor other next → AreOne new next
+  one_by_rows commits files tells inside knows a b =
       let same = one_deed m files tells _ _ a.fetched b.fetched a.brings b.brings actor a.deed b.deed inside knows a.row b.row in
       let again : RowDone b.fetched other next a.deed = subst (RowDone b.fetched other next) (sym same) (b.performs, b.came, b.pins) in
-      one_by_row m files tells _ _ a.fetched b.fetched a.brings b.brings actor a.deed outcome other new next a.row
+      one_by_row m files tells _ _ a.fetched b.fetched a.brings b.brings commits actor a.deed outcome other new next a.row
       (subst (Row (m.activity actor) (wanted_by m actor) (with_disk b.fetched m.files m.clock m)) (sym same) b.row) a.performs
       again.0 (a.came ∙ sym again.1) (a.pins ∙ sym again.2)
 
-pub state_is_one : StateIsOne
-state_is_one m files actor outcome other new next tells inside knows first second =
+pub state_is_one : CommitsBringNone → StateIsOne
+state_is_one commits m files actor outcome other new next tells inside knows first second =
     both_steps m actor outcome other new next (IsTurnedAside m actor outcome new ⊎ IsTurnedAside m actor other next ⊎ AreOne new next) (record {
       first_aside = λ aside. inl aside;
       second_aside = λ aside. inr (inl aside);
       same = λ says is. inr (inr (one_of_same new next is));
-      deeds = λ d e is walk a b. inr (inr (one_by_deed m actor outcome other new next d e is walk a b));
-      rows = λ a b. inr (inr (one_by_rows m actor outcome other new next files tells inside knows a b));
+      deeds = λ d e is walk a b. inr (inr (one_by_deed m actor outcome other new next commits d e is walk a b));
+      rows = λ a b. inr (inr (one_by_rows m actor outcome other new next commits files tells inside knows a b));
     }) first second

@@ -1,11 +1,9 @@
 -- A deed that is done over two fetches from one machine leads to machines that are one.
-use Rattle.hb_store.proofs.Facts.StayingLaws.{Commits-there}
 use Rattle.std.proofs.Common.{◌≡◌, ◌⊎◌, inl, inr, ℕ, ◌==◌, Bool, true, false, cond, ◌||◌, ◌++◌, List, [], ◌∷◌, length, map, Option, Some, None, IfSome, refl, sym, ap, ◌∙◌, subst}
 use Rattle.std.proofs.lemmas.Bool.{cases_eq, false≢true}
 use Rattle.std.proofs.lemmas.Cmp.{nat_cmp_total}
 use Rattle.std.proofs.lemmas.Option.{same_Some}
 use Rattle.std.specs.Option.{is_some, option_and_then}
-use Rattle.std.specs.Ordering.{nat_cmp}
 use Rattle.std.specs.FinSet as set
 use Rattle.hb_frag.specs.declared.pages.LivePage.{LivePage}
 use Rattle.hb_frag.specs.declared.pages.Page.{Page}
@@ -30,7 +28,7 @@ use Rattle.hb_ops.specs.Files.{if_live}
 use Rattle.hb_ops.specs.Operations.{Change, IsAllowedOn, change_of, reads_of}
 use Rattle.hb_pool.specs.Frames.{Use}
 use Rattle.hb_pool.specs.Pools.{frame_of}
-use Rattle.hb_store.specs.Calls.{IsAllowedHere, KeepsAllButPages, change_here, read_here, use_changed}
+use Rattle.hb_store.specs.Calls.{CommitsBringNone, IsAllowedHere, KeepsAllButPages, change_here, read_here, use_changed}
 use Rattle.hb_store.specs.Making.{group_here, page_image_needed, page_images_needed}
 use Rattle.hb_store.specs.Replay.{is_among}
 use Rattle.hb_ops.specs.SetPages.{set_pages, has_page}
@@ -51,7 +49,7 @@ one_of_same new next is = subst (AreOne new) is (record {
   stop = refl;
   files = refl;
   clock = refl;
-  store = record { turn = refl; meta = refl; log = refl; in_log = refl; dirty = refl; stopped = refl };
+  store = refl;
   pages = λ id. refl;
   uses = refl;
 })
@@ -125,13 +123,13 @@ record AreAlike (new next : StoreState) : Type 0 where
 
 module _ (f g : StoreState) (alike : KeepsAllButPages f g) (agree : Agree f g) where
   same_meta : f.meta ≡ g.meta
-  same_meta = sym alike.meta
+  same_meta = sym (ap (λ (s : StoreState). s.meta) alike)
 
   same_in_log : (id : ℕ) → is_in_log f id ≡ is_in_log g id
-  same_in_log id = ap (λ (s : set.FinSet nat_cmp). set.contains s id) (sym alike.in_log)
+  same_in_log id = ap (λ (s : StoreState). is_in_log s id) (sym alike)
 
   same_dirty : (id : ℕ) → is_dirty f id ≡ is_dirty g id
-  same_dirty id = ap (λ (s : set.FinSet nat_cmp). set.contains s id) (sym alike.dirty)
+  same_dirty id = ap (λ (s : StoreState). is_dirty s id) (sym alike)
 
   -- a page that both have in use is the same
   same_there : (id : ℕ) (a b : LivePage) → live_here f id ≡ Some a → live_here g id ≡ Some b → in_memory f id ≡ in_memory g id
@@ -193,14 +191,14 @@ module _ (f g : StoreState) (alike : KeepsAllButPages f g) (agree : Agree f g) w
 
   -- ---- the stores afterwards
 
-  one_commit : (op : Op) (mark : ℕ) (new next : StoreState) → DoesOp op mark f new → DoesOp op mark g next → AreAlike new next
-  one_commit op mark new next first second =
+  one_commit : CommitsBringNone → (op : Op) (mark : ℕ) (new next : StoreState) → DoesOp op mark f new → DoesOp op mark g next → AreAlike new next
+  one_commit brings op mark new next first second =
       let one = first.commits in
       let two = second.commits in
       let reads = reads_alike op first.allowed second.allowed in
       let change : change_here f op ≡ change_here g op = same_change op reads in
       let groups : new.log.groups ≡ next.log.groups =
-      first.group ∙ ap (λ (l : List Waiting). l ++ record { bytes = group_bytes (group_here f op); mark = mark } ∷ []) (ap (λ (l : LogState). l.groups) (sym alike.log))
+      first.group ∙ ap (λ (l : List Waiting). l ++ record { bytes = group_bytes (group_here f op); mark = mark } ∷ []) (ap (λ (s : StoreState). s.log.groups) (sym alike))
       ∙ ap (λ (x : Logged). g.log.groups ++ record { bytes = group_bytes x; mark = mark } ∷ []) (same_group op reads) ∙ sym second.group in
       let in_log : (id : ℕ) → is_in_log new id ≡ is_in_log next id =
       λ id. one.in_log id ∙ ap (λ (c : Change). (has_page id c.pages || (is_among id (reads_of op) || is_in_log f id))) change
@@ -208,23 +206,24 @@ module _ (f g : StoreState) (alike : KeepsAllButPages f g) (agree : Agree f g) w
       let dirty : (id : ℕ) → is_dirty new id ≡ is_dirty next id =
       λ id. one.dirty id ∙ ap (λ (c : Change). (has_page id c.pages || is_dirty f id)) change ∙ ap (λ (b : Bool). (has_page id (change_here g op).pages || b)) (same_dirty id) ∙ sym (two.dirty id) in
       record {
-        rest = record {
-          turn = two.turn ∙ alike.turn ∙ sym one.turn;
-          meta = two.meta ∙ ap (λ (c : Change). c.meta) (sym change) ∙ sym one.meta;
-          log = sym (same_log new.log next.log (one.area ∙ ap (λ (l : LogState). l.area) (sym alike.log) ∙ sym two.area) (one.len ∙ ap (λ (l : LogState). l.len) (sym alike.log) ∙ sym two.len)
-              (one.written ∙ ap (λ (l : LogState). l.written) (sym alike.log) ∙ sym two.written) groups);
-          in_log = sym (set.same_set nat_cmp_total set.nat_cmp-IsAntisymmetric new.in_log next.in_log in_log);
-          dirty = sym (set.same_set nat_cmp_total set.nat_cmp-IsAntisymmetric new.dirty next.dirty dirty);
-          stopped = two.stopped ∙ alike.stopped ∙ sym one.stopped;
+        rest = λ i. record {
+          turn = (two.turn ∙ ap (λ (s : StoreState). s.turn) alike ∙ sym one.turn) i;
+          meta = (two.meta ∙ ap (λ (c : Change). c.meta) (sym change) ∙ sym one.meta) i;
+          log = sym (same_log new.log next.log (one.area ∙ ap (λ (s : StoreState). s.log.area) (sym alike) ∙ sym two.area) (one.len ∙ ap (λ (s : StoreState). s.log.len) (sym alike) ∙ sym two.len)
+              (one.written ∙ ap (λ (s : StoreState). s.log.written) (sym alike) ∙ sym two.written) groups) i;
+          pages = next.pages;
+          in_log = sym (set.same_set nat_cmp_total set.nat_cmp-IsAntisymmetric new.in_log next.in_log in_log) i;
+          dirty = sym (set.same_set nat_cmp_total set.nat_cmp-IsAntisymmetric new.dirty next.dirty dirty) i;
+          stopped = (two.stopped ∙ ap (λ (s : StoreState). s.stopped) alike ∙ sym one.stopped) i;
         };
         pages = λ id a b x y.
-            agree_set (change_here f op).pages (in_memory f) (in_memory g) agree id a b (Commits-there op mark f new one id a x)
-            (ap (λ (c : Change). set_pages c.pages (in_memory g) id) change ∙ Commits-there op mark g next two id b y);
+            agree_set (change_here f op).pages (in_memory f) (in_memory g) agree id a b (brings op mark f new one id a x)
+            (ap (λ (c : Change). set_pages c.pages (in_memory g) id) change ∙ brings op mark g next two id b y);
       }
 
-  one_done : (op : Option Op) (mark : ℕ) (new next : StoreState) → MayDo op mark f new → MayDo op mark g next → AreAlike new next
-  one_done None mark new next first second = subst (λ (st : StoreState). AreAlike st next) (sym first) (subst (AreAlike f) (sym second) (record { rest = alike; pages = agree }))
-  one_done (Some op) mark new next first second = one_commit op mark new next first second
+  one_done : CommitsBringNone → (op : Option Op) (mark : ℕ) (new next : StoreState) → MayDo op mark f new → MayDo op mark g next → AreAlike new next
+  one_done brings None mark new next first second = subst (λ (st : StoreState). AreAlike st next) (sym first) (subst (AreAlike f) (sym second) (record { rest = alike; pages = agree }))
+  one_done brings (Some op) mark new next first second = one_commit brings op mark new next first second
 
   -- ---- the latches afterwards, where a walk that goes on holds the same page
 
@@ -249,10 +248,10 @@ module _ (f g : StoreState) (alike : KeepsAllButPages f g) (agree : Agree f g) w
 
   -- A deed that is done on a machine over two such stores makes machines of it that are one, where the same pages came and were pinned:
   -- the order of use tells which pages are in memory.
-  pub one_performed : (m : Machine) (actor : ℕ) (deed : Deed) (outcome other : Outcome) (new next : Machine) → SameHere deed → (first : Performs m f actor deed outcome new) → (second : Performs m g actor deed other next)
+  pub one_performed : CommitsBringNone → (m : Machine) (actor : ℕ) (deed : Deed) (outcome other : Outcome) (new next : Machine) → SameHere deed → (first : Performs m f actor deed outcome new) → (second : Performs m g actor deed other next)
       → first.came ≡ second.came → first.pins ≡ second.pins → AreOne new next
-  one_performed m actor deed outcome other new next same first second came pins =
-      let stores = one_done deed.op (length m.order) new.store next.store first.store second.store in
+  one_performed brings m actor deed outcome other new next same first second came pins =
+      let stores = one_done brings deed.op (length m.order) new.store next.store first.store second.store in
       let latches = same_latches deed (length m.order) new.store next.store same first.store second.store in
       let uses : new.uses ≡ next.uses =
       first.uses ∙ ap (λ (ids : List ℕ). use_held ids (pages_of (latches_held new.store deed.next)) (use_done deed.op f first.came)) pins

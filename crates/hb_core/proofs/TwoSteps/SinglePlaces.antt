@@ -10,18 +10,13 @@ use Rattle.hb_core.specs.KeptOrder.{StandsInOrder, StandsOutside}
 use Rattle.hb_core.specs.Machines.{Machine}
 use Rattle.hb_set.specs.Machine.{RecordSet, found_or_missing, if_there, reply_of, set_after}
 use Rattle.hb_set.specs.Order.{AreReplies, Entry, IsLegalOrder, KeepsSessions, MayPrecede}
+use Rattle.hb_lemmas.proofs.Lists.{get-longer}
 
 -- what holds of each holds at a place
 at_place : {X : Type 0} (P : X → Type 0) (xs : List X) (i : ℕ) (x : X) → AllByRecursion P xs → slice_get xs i ≡ Some x → P x
 at_place P [] i x all is = cc
 at_place P (y ∷ xs) zero x all is = let same : y ≡ x = cc in subst P same all.0
 at_place P (y ∷ xs) (suc i) x all is = at_place P xs i x all.1 is
-
--- a longer list has the same at the places of a shorter one
-pub longer_has : {X : Type 0} (xs more : List X) (i : ℕ) (x : X) → slice_get xs i ≡ Some x → slice_get (xs ++ more) i ≡ Some x
-longer_has [] more i x is = cc
-longer_has (y ∷ xs) more zero x is = is
-longer_has (y ∷ xs) more (suc i) x is = longer_has xs more i x is
 
 -- no line stands twice
 same_place : (es : List Entry) (i j : ℕ) (a b : Entry) → KeepsSessions es → slice_get es i ≡ Some a → slice_get es j ≡ Some b → a.line.number ≡ b.line.number → i ≡ j
@@ -73,7 +68,7 @@ no_place n m number place reply legal outside stands = not_outside n m.order pla
 pub stands_longer : (m new : Machine) (more : List Entry) (number place : ℕ) (reply : Reply) → new.order ≡ m.order ++ more → StandsInOrder m number reply place → StandsInOrder new number reply place
 stands_longer m new more number place reply is stands = record {
   entry = stands.entry;
-  there = ap (λ (es : List Entry). slice_get es place) is ∙ longer_has m.order more place stands.entry stands.there;
+  there = ap (λ (es : List Entry). slice_get es place) is ∙ get-longer m.order more place stands.entry stands.there;
   number_is = stands.number_is;
   reply_is = stands.reply_is;
 }

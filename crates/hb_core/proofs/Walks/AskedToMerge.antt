@@ -10,11 +10,9 @@ use Rattle.hb_activity.specs.declared.activities.Activity.TheVariants as at
 use Rattle.hb_activity.specs.Classes.{job_in_work}
 use Rattle.hb_activity.specs.Walks.{walk_held, walk_point}
 use Rattle.hb_consol.specs.Asks.{HoldsBoth, MayAskToMerge}
-use Rattle.hb_lemmas.proofs.Options.{at_value}
 use Rattle.hb_store.specs.States.{StoreState}
-use Rattle.hb_core.proofs.Walks.AtHand.{own_there}
 use Rattle.hb_core.proofs.Walks.MayBeAsked.{pages_at_hand_fit, walks_stay_inside}
-use Rattle.hb_core.proofs.Walks.MergesKept.{PlaceStays, names_still, place_latched}
+use Rattle.hb_core.proofs.Walks.MergesKept.{known_at, names_still, place_stays}
 use Rattle.hb_core.proofs.Walks.WalkingWorkers.{walk_wants_above}
 use Rattle.hb_core.specs.AllowedLaws.{AnyPage}
 use Rattle.hb_core.specs.AskedLaws.{MergerWalksMayBeAsked, PairsMayBeAsked}
@@ -46,16 +44,8 @@ pair_apart st job parent names pair known same =
 
 module _ (m : Machine) (actor : ℕ) (fetched : StoreState) (may : IsActor actor) (keeps : MachineKeeps m) (brings : Brings m AnyPage fetched) where
   -- what the consolidator knows is still known once pages came
-  pub place_stays : (place : AtParent) → merging_at (m.activity actor) ≡ Some place → PlaceStays m.store fetched place
-  place_stays place at_place =
-      let latched = place_latched m.store (m.activity actor) place at_place in
-      record {
-        parent = λ page live. own_there m actor fetched may keeps brings place.parent latched.parent.0 page latched.parent.1 live;
-        pair = λ pair is page live. let latch = latched.pair pair is in own_there m actor fetched may keeps brings pair.keep latch.0 page latch.1 live;
-      }
-
   pub known_there : (place : AtParent) → merging_at (m.activity actor) ≡ Some place → NamesKnown fetched place
-  known_there place at_place = names_still m.store fetched place (at_value (merging_at (m.activity actor)) (NamesKnown m.store) place at_place (keeps.walk_in_space.merging actor)) (place_stays place at_place)
+  known_there place at_place = names_still m.store fetched place (known_at m actor keeps.walk_in_space place at_place) (place_stays m AnyPage fetched brings actor keeps.latches_fit may place at_place)
 
   fits : (id : ℕ) (page : LivePage) → live_here fetched id ≡ Some page → FitsFile m.store.meta page
   fits id page live = (pages_at_hand_fit m fetched id page keeps brings live).1

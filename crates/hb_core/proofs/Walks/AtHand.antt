@@ -23,17 +23,17 @@ use Rattle.hb_activity.specs.Walks.{goal_of, job_mode, session_mode, walk_held}
 use Rattle.hb_activity.specs.Wanting.{child_of, in_mode, named_child, named_page, walk_next, wanted_of, wanted_page}
 use Rattle.hb_consol.specs.ConsolidatorRows.{names_child}
 use Rattle.hb_core.proofs.Files.AskedPages.{first_among, first_sibling_among, leaf_of_place, place_among}
-use Rattle.hb_core.proofs.Memory.BroughtPages.{still_held}
+use Rattle.hb_core.proofs.Memory.BroughtPages.{own_there}
 use Rattle.hb_core.proofs.Latches.LatchesStay.{walk_latched}
 use Rattle.hb_core.proofs.Table.MergerMoves.{of_page}
-use Rattle.hb_core.proofs.Walks.MergesKept.{above_records, place_latched}
+use Rattle.hb_core.proofs.Walks.MergesKept.{above_records, place_latched, known_at}
 use Rattle.hb_core.proofs.Walks.Volumes.{sibling_fewer}
 use Rattle.hb_core.proofs.Walks.WalksKept.{IsAtParent, parent_latched}
 use Rattle.hb_core.specs.AllowedLaws.{AnyPage}
 use Rattle.hb_core.specs.Asking.{AskedBox, HasAskedBox, asked_box, box_at, box_by_leaf, box_of_place, box_of_sibling, looked_live, wanted_by}
 use Rattle.hb_core.specs.Fetching.{Brings}
 use Rattle.hb_core.specs.KeptMachine.{MachineKeeps}
-use Rattle.hb_core.specs.KeptMerges.{AtParent, NamesKnown, PairHeld, merging_at}
+use Rattle.hb_core.specs.KeptMerges.{AtParent, PairHeld, merging_at}
 use Rattle.hb_core.specs.MachineLaws.{NoPageIsLatchedTwice, WalksLeadOn}
 use Rattle.hb_core.specs.Machines.{Machine, live_here, with_disk}
 use Rattle.hb_core.specs.Performing.{latches_held, mode_among}
@@ -142,11 +142,8 @@ module _ (m : Machine) (actor : ℕ) (fetched : StoreState) (may : IsActor actor
   good_here id page live = (keeps.pages_of_file id (Live page) (live_so (in_memory m.store id) page live)).2
 
   -- a page that the actor holds stays
-  pub own_there : (id : ℕ) (mode : Mode) (page : LivePage) → mode_among id (latches_held m.store (m.activity actor)) ≡ Some mode → live_here m.store id ≡ Some page → live_here fetched id ≡ Some page
-  own_there id mode page among live = ap if_live (still_held m AnyPage fetched brings actor id mode (Live page) (keeps.latches_fit.exact actor id may ∙ among) (live_so (in_memory m.store id) page live))
-
   pub walked_there : (held : ℕ) (before : LivePage) → walk_held (m.activity actor) ≡ Some held → live_here m.store held ≡ Some before → live_here fetched held ≡ Some before
-  walked_there held before walks live = let latch = walk_latched (m.activity actor) m.store held before walks live in own_there held latch.0 before latch.1 live
+  walked_there held before walks live = let latch = walk_latched (m.activity actor) m.store held before walks live in own_there m AnyPage fetched brings actor held latch.0 before keeps.latches_fit may latch.1 live
 
   -- ---- what a walk finds
 
@@ -173,7 +170,7 @@ module _ (m : Machine) (actor : ℕ) (fetched : StoreState) (may : IsActor actor
 
     apart : (id : ℕ) (mode : Mode) (before : LivePage) → mode_among id (latches_held m.store (m.activity actor)) ≡ Some mode → live_here m.store id ≡ Some before → IsLater before page → id ≢ wanted.page
     apart id mode before among live later same =
-        never_later before page (same_Some before page (sym (own_there id mode before among live) ∙ ap (live_here fetched) same ∙ hand.live)) later
+        never_later before page (same_Some before page (sym (own_there m AnyPage fetched brings actor id mode before keeps.latches_fit may among live) ∙ ap (live_here fetched) same ∙ hand.live)) later
 
     -- an actor that walks
     of_walk : (held : ℕ) (its : ℕ → Mode) → walk_held (m.activity actor) ≡ Some held → mode_among wanted.page (walk_latch (Some held) (live_here m.store held) its) ≡ None
@@ -194,12 +191,9 @@ module _ (m : Machine) (actor : ℕ) (fetched : StoreState) (may : IsActor actor
         off_one parent its wanted.page [] (apart parent latch.0 one.0 latch.1 one.1 (inl lower))
 
     -- a consolidator at a parent
-    known_at : (place : AtParent) → merging_at (m.activity actor) ≡ Some place → NamesKnown m.store place
-    known_at place is = subst (λ (o : Option AtParent). IfSome o (NamesKnown m.store)) is (keeps.walk_in_space.merging actor)
-
-    above_it : (place : AtParent) → (is : merging_at (m.activity actor) ≡ Some place) → page.level < (known_at place is).page.level → place.parent ≢ wanted.page
+    above_it : (place : AtParent) → (is : merging_at (m.activity actor) ≡ Some place) → page.level < (known_at m actor keeps.walk_in_space place is).page.level → place.parent ≢ wanted.page
     above_it place is lower =
-        let known = known_at place is in
+        let known = known_at m actor keeps.walk_in_space place is in
         let latch = (place_latched m.store (m.activity actor) place is).parent in
         apart place.parent latch.0 known.page latch.1 known.live (inl lower)
 
@@ -211,7 +205,7 @@ module _ (m : Machine) (actor : ℕ) (fetched : StoreState) (may : IsActor actor
     kept_there : (place : AtParent) (pair : PairHeld) (kept : LivePage) → merging_at (m.activity actor) ≡ Some place → place.pair ≡ Some pair → live_here m.store pair.keep ≡ Some kept → live_here fetched pair.keep ≡ Some kept
     kept_there place pair kept is has live =
         let latch = (place_latched m.store (m.activity actor) place is).pair pair has in
-        own_there pair.keep latch.0 kept latch.1 live
+        own_there m AnyPage fetched brings actor pair.keep latch.0 kept keeps.latches_fit may latch.1 live
 
     off_both : (parent keep : ℕ) (its other : Mode) → parent ≢ wanted.page → keep ≢ wanted.page → mode_among wanted.page (latch_on parent its ∷ latch_on keep other ∷ []) ≡ None
     off_both parent keep its other above beside = off_one parent its wanted.page (latch_on keep other ∷ []) above ∙ off_one keep other wanted.page [] beside
@@ -236,14 +230,14 @@ module _ (m : Machine) (actor : ℕ) (fetched : StoreState) (may : IsActor actor
     alone (at.ConsolidatorPromote job parent keep gone) is wants box = inr (of_page parent (λ page. page.level) Exclusive (live_here m.store parent) wanted wants).0
     alone (at.ConsolidatorScan job parent child) is wants box =
         let place = at_place job parent (child ∷ []) None in
-        let known = known_at place (ap merging_at is) in
+        let known = known_at m actor keeps.walk_in_space place (ap merging_at is) in
         let named : IsTrue (names_child known.page child) = All-head (λ (id : ℕ). IsTrue (names_child known.page id)) child [] known.names in
         let lower = named_found m.store.meta known.page (good_here parent known.page known.live) page child Shared (live_here m.store parent) wanted known.live named wants hand.level in
         inl (off_one parent Update wanted.page [] (above_it place (ap merging_at is) lower))
     alone (at.ConsolidatorTry job parent keep gone leaf) is wants box =
         let pair : PairHeld = record { keep = keep; gone = gone; leaf = Some leaf } in
         let place = at_place job parent (keep ∷ gone ∷ []) (Some pair) in
-        let known = known_at place (ap merging_at is) in
+        let known = known_at m actor keeps.walk_in_space place (ap merging_at is) in
         let kept = known.pair.page in
         let same = same_Some (wanted_page gone kept.level Shared) wanted (ap (option_map (λ (page : LivePage). wanted_page gone page.level Shared)) (sym known.pair.live) ∙ wants) in
         let on : page.level ≡ kept.level = hand.level ∙ ap (λ (w : Wanted). w.level) (sym same) in
@@ -253,14 +247,14 @@ module _ (m : Machine) (actor : ℕ) (fetched : StoreState) (may : IsActor actor
         inl (off_both parent keep Update Shared (above_it place (ap merging_at is) lower) (beside_it place pair kept (ap merging_at is) refl known.pair.live later))
     alone (at.ConsolidatorKeep job parent keep gone) is wants box =
         let place = at_place job parent (keep ∷ gone ∷ []) None in
-        let known = known_at place (ap merging_at is) in
+        let known = known_at m actor keeps.walk_in_space place (ap merging_at is) in
         let named : IsTrue (names_child known.page keep) = All-head (λ (id : ℕ). IsTrue (names_child known.page id)) keep (gone ∷ []) known.names in
         let lower = named_found m.store.meta known.page (good_here parent known.page known.live) page keep Exclusive (live_here m.store parent) wanted known.live named wants hand.level in
         inl (off_one parent Exclusive wanted.page [] (above_it place (ap merging_at is) lower))
     alone (at.ConsolidatorDecide job parent keep gone) is wants box =
         let pair : PairHeld = record { keep = keep; gone = gone; leaf = None } in
         let place = at_place job parent (keep ∷ gone ∷ []) (Some pair) in
-        let known = known_at place (ap merging_at is) in
+        let known = known_at m actor keeps.walk_in_space place (ap merging_at is) in
         let kept = known.pair.page in
         let named : IsTrue (names_child known.page gone) = All-head (λ (id : ℕ). IsTrue (names_child known.page id)) gone [] (All-tail (λ (id : ℕ). IsTrue (names_child known.page id)) keep (gone ∷ []) known.names) in
         let lower = named_found m.store.meta known.page (good_here parent known.page known.live) page gone Exclusive (live_here m.store parent) wanted known.live named wants hand.level in

@@ -1,5 +1,5 @@
 -- The page that a step wants comes later than each one that its actor holds.
-use Rattle.std.proofs.Common.{◌≡◌, ◌⊎◌, inl, inr, ℕ, ◌==◌, ◌-◌, ◌<◌, true, false, cond, List, [], ◌∷◌, Option, Some, None, IfSome, IsSome, IsTrue, refl, sym, ap, ◌∙◌, subst, arith}
+use Rattle.std.proofs.Common.{◌≡◌, ◌⊎◌, inl, inr, ℕ, ◌==◌, ◌-◌, ◌<◌, true, false, cond, List, [], ◌∷◌, Option, Some, None, IsSome, IsTrue, refl, sym, ap, ◌∙◌, subst, arith}
 use Rattle.std.proofs.lemmas.Bool.{eqb-true}
 use Rattle.std.specs.List.{All, Contains, slice_get}
 use Rattle.std.proofs.lemmas.List.Elements.{All-head, All-tail}
@@ -20,7 +20,7 @@ use Rattle.hb_activity.specs.Waiting.{IsLater}
 use Rattle.hb_activity.specs.Walks.{goal_of, job_mode, session_mode, walk_held}
 use Rattle.hb_activity.specs.Wanting.{child_of, in_mode, named_child, named_page, walk_next, wanted_of, wanted_page}
 use Rattle.hb_consol.specs.ConsolidatorRows.{names_child}
-use Rattle.hb_core.proofs.Files.AskedPages.{first_among, first_sibling_among, leaf_with_box, named_with_box, place_among}
+use Rattle.hb_core.proofs.Files.AskedPages.{first_among, first_sibling_among, named_with_box, place_among}
 use Rattle.hb_core.proofs.Files.SoundFiles.{current_sound, files_hold}
 use Rattle.hb_core.proofs.Walks.Volumes.{sibling_fewer}
 use Rattle.hb_core.specs.Asking.{looked_live}
@@ -32,11 +32,12 @@ use Rattle.hb_core.specs.WaitingLaws.{ComesLater, Promotes, WantedComesLater, Wa
 use Rattle.hb_frag.specs.Leaves.{Placed, first_named, leaf_at, leaves, leaves_of, siblings_of}
 use Rattle.hb_space.specs.Actors.{IsActor}
 use Rattle.hb_ops.specs.Files.{FileState, if_live, live_page}
-use Rattle.hb_ops.proofs.Facts.PlacedLaws.{leaf_is_sibling, placed}
+use Rattle.hb_ops.proofs.Facts.PlacedLaws.{leaf_is_sibling, placed, placed_leaf}
 use Rattle.hb_ops.specs.Sound.{IsSound}
 use Rattle.hb_space.specs.Boxes.{Area, volume}
 use Rattle.hb_store.specs.States.{in_memory}
 use Rattle.hb_ops.proofs.Facts.PageNumberLaws.{live_so}
+use Rattle.hb_core.proofs.Walks.MergesKept.{known_at}
 
 -- ---- in a sound file the pages that a page names come later
 
@@ -88,7 +89,7 @@ module _ (s : FileState) (sound : IsSound s) (id : ℕ) (page : LivePage) (live 
   -- what a consolidator tries, and what it decides on
   pub tried_later : (name other place : ℕ) → slice_get (leaves page.frag) place ≡ Some (Sibling name) → name ≡ other → ComesLater s id other
   tried_later name other place there is =
-      let one = leaf_with_box page.frag page.area (Sibling name) (place_among (leaves page.frag) place (Sibling name) there) in
+      let one = placed_leaf page.frag page.area (Sibling name) (place_among (leaves page.frag) place (Sibling name) there) in
       sibling_later name other one.0 one.1 is
 
   pub given_later : (name other : ℕ) → IsSome (first_named name (siblings_of page)) → name ≡ other → ComesLater s id other
@@ -161,9 +162,6 @@ module _ (m : Machine) (files : Files) (actor id : ℕ) (mode : Mode) (wanted : 
   abbrev at_names : Job → ℕ → List ℕ → Option PairHeld → AtParent
   at_names job parent known pair = record { job = job; parent = parent; known = known; pair = pair }
 
-  known_at : {place : AtParent} → merging_at (m.activity actor) ≡ Some place → NamesKnown m.store place
-  known_at is = subst (λ (o : Option AtParent). IfSome o (NamesKnown m.store)) is (walks.merging actor)
-
   wanted_is : (name : ℕ) (level : LivePage → ℕ) (its : Mode) (o : Option LivePage) → option_map (λ (page : LivePage). wanted_page name (level page) its) o ≡ Some wanted → name ≡ wanted.page
   wanted_is name level its None wants = cc
   wanted_is name level its (Some page) wants = let same : wanted_page name (level page) its ≡ wanted = cc in ap (λ (w : Wanted). w.page) same
@@ -196,19 +194,19 @@ module _ (m : Machine) (files : Files) (actor id : ℕ) (mode : Mode) (wanted : 
   comes (at.PosterPromote job parent) is wants holds = of_promotion parent (live_here m.store parent) (subst (λ (a : Activity). Promotes a parent) (sym is) refl) wants holds
   comes (at.ConsolidatorPromote job parent keep gone) is wants holds = of_promotion parent (live_here m.store parent) (subst (λ (a : Activity). Promotes a parent) (sym is) refl) wants holds
   comes (at.ConsolidatorScan job parent child) is wants holds =
-      let known : NamesKnown m.store (at_names job parent (child ∷ []) None) = known_at (ap merging_at is) in
+      let known : NamesKnown m.store (at_names job parent (child ∷ []) None) = known_at m actor walks _ (ap merging_at is) in
       of_names job parent (child ∷ []) None Update known child (All-head (IsNamed known.page) child [] known.names) (wanted_is child (λ page. page.level - 1) Shared (live_here m.store parent) wants) holds
   comes (at.ConsolidatorTry job parent keep gone leaf) is wants holds =
-      let known : NamesKnown m.store (at_names job parent (keep ∷ gone ∷ []) (Some (record { keep = keep; gone = gone; leaf = Some leaf }))) = known_at (ap merging_at is) in
+      let known : NamesKnown m.store (at_names job parent (keep ∷ gone ∷ []) (Some (record { keep = keep; gone = gone; leaf = Some leaf }))) = known_at m actor walks _ (ap merging_at is) in
       let goes : gone ≡ wanted.page = wanted_is gone (λ page. page.level) Shared (live_here m.store keep) wants in
       of_both parent keep Update Shared (λ one. of_names job parent (keep ∷ gone ∷ []) _ Update known gone (second_named known.page keep gone known.names) goes one)
       (λ one. inl (subst (λ (q : ℕ). ComesLater (current_file files) q wanted.page) (one_among keep Shared id mode one).0
       (tried_later (current_file files) sound_now keep known.pair.page (in_file keep known.pair.page known.pair.live) gone wanted.page leaf known.pair.gave goes))) holds
   comes (at.ConsolidatorKeep job parent keep gone) is wants holds =
-      let known : NamesKnown m.store (at_names job parent (keep ∷ gone ∷ []) None) = known_at (ap merging_at is) in
+      let known : NamesKnown m.store (at_names job parent (keep ∷ gone ∷ []) None) = known_at m actor walks _ (ap merging_at is) in
       of_names job parent (keep ∷ gone ∷ []) None Exclusive known keep (All-head (IsNamed known.page) keep (gone ∷ []) known.names) (wanted_is keep (λ page. page.level - 1) Exclusive (live_here m.store parent) wants) holds
   comes (at.ConsolidatorDecide job parent keep gone) is wants holds =
-      let known : NamesKnown m.store (at_names job parent (keep ∷ gone ∷ []) (Some (record { keep = keep; gone = gone; leaf = None }))) = known_at (ap merging_at is) in
+      let known : NamesKnown m.store (at_names job parent (keep ∷ gone ∷ []) (Some (record { keep = keep; gone = gone; leaf = None }))) = known_at m actor walks _ (ap merging_at is) in
       let goes : gone ≡ wanted.page = wanted_is gone (λ page. page.level - 1) Exclusive (live_here m.store parent) wants in
       of_both parent keep Exclusive Exclusive (λ one. of_names job parent (keep ∷ gone ∷ []) _ Exclusive known gone (second_named known.page keep gone known.names) goes one)
       (λ one. inl (subst (λ (q : ℕ). ComesLater (current_file files) q wanted.page) (one_among keep Exclusive id mode one).0

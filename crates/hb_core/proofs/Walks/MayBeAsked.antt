@@ -42,7 +42,7 @@ use Rattle.hb_search.specs.Searching.{MaySearch, SearchesInside, StaysGathering}
 use Rattle.hb_store.specs.States.{IsGoodPage, StoreState}
 use Rattle.hb_core.proofs.Files.AskedPages.{place_among}
 use Rattle.hb_core.proofs.Facts.StillThere.{fetched_good}
-use Rattle.hb_core.proofs.Walks.AtHand.{good_here, own_there, walked_there}
+use Rattle.hb_core.proofs.Walks.AtHand.{good_here, walked_there}
 use Rattle.hb_core.proofs.Walks.WalkingWorkers.{walk_wants_above}
 use Rattle.hb_core.proofs.Walks.WalksKept.{IsAtParent, parent_latched}
 use Rattle.hb_core.specs.AllowedLaws.{AnyPage}
@@ -56,6 +56,7 @@ use Rattle.hb_core.specs.Machines.{Machine, live_here}
 use Rattle.hb_core.specs.Performing.{latches_held, mode_among}
 use Rattle.hb_lemmas.proofs.Options.{some_of_map}
 use Rattle.hb_core.proofs.Machines.AddedJobs.{goal_fits}
+use Rattle.hb_core.proofs.Memory.BroughtPages.{own_there}
 
 pub pages_at_hand_fit : PagesAtHandFit
 pages_at_hand_fit m fetched id page keeps brings live = (keeps.meta_within_limits.layout, (fetched_good m AnyPage fetched keeps.pages_of_file brings id page live).1)
@@ -137,7 +138,7 @@ module _ (m : Machine) (actor : ℕ) (fetched : StoreState) (may : IsActor actor
 
   module _ (wanted : Wanted) (page : LivePage) (p : List ℕ) (good : IsGoodPage m.store.meta (Live page)) (many : length p ≡ m.store.meta.k) (point : IsPoint p) where
     at_root : page.area ≡ whole_area fetched.meta.k → Holds page.area p
-    at_root box = whole_has m.store.meta page good p many fetched.meta.k (ap (λ (x : Meta). x.k) brings.rest.meta) point box
+    at_root box = whole_has m.store.meta page good p many fetched.meta.k (ap (λ (s : StoreState). s.meta.k) brings.rest) point box
 
     goes_on : (id : ℕ) (goal : Option (List ℕ)) (mode : ℕ → Mode) → StaysHeld id → goal ≡ Some p → in_mode mode (walk_next goal (Some id) m.store.meta (live_here m.store id)) ≡ Some wanted
         → IfSome (box_at (live_here fetched id) goal) (λ asked. HasAskedBox asked page.area) → Holds page.area p
@@ -204,7 +205,7 @@ splits_may_be_asked m actor fetched line held free may keeps brings is fits =
     by : (rec : Record) × (line.command ≡ Insert rec) × LacksRoomFor m held rec.key rec.body → AsksToSplit m actor fetched free held
     by (rec, command, lacks) = record {
       page = lacks.page;
-      live = own_there m actor fetched may keeps brings held Exclusive lacks.page (ap (λ (a : Activity). mode_among held (latches_held m.store a)) is ∙ latched_first held Exclusive []) lacks.live;
+      live = own_there m AnyPage fetched brings actor held Exclusive lacks.page keeps.latches_fit may (ap (λ (a : Activity). mode_among held (latches_held m.store a)) is ∙ latched_first held Exclusive []) lacks.live;
       may = subst (λ (a : Activity). MayAsk a m.store.meta free held lacks.page None) (sym is) (record { given = refl; rec = rec; command = command; absent = lacks.absent; full = lacks.full; number = fits });
     }
 
@@ -233,9 +234,9 @@ puts_may_be_asked m actor fetched line source fresh free may keeps brings is =
     by : (rec : Record) × (line.command ≡ Insert rec) × OneHasRoom m source fresh rec.key rec.body → AsksToPut m actor fetched free source fresh
     by (rec, command, one) = record {
       page = one.first;
-      live = own_there m actor fetched may keeps brings source Exclusive one.first (ap (λ (a : Activity). mode_among source (latches_held m.store a)) is ∙ latched_first source Exclusive (latch_on fresh Exclusive ∷ [])) one.first_live;
+      live = own_there m AnyPage fetched brings actor source Exclusive one.first keeps.latches_fit may (ap (λ (a : Activity). mode_among source (latches_held m.store a)) is ∙ latched_first source Exclusive (latch_on fresh Exclusive ∷ [])) one.first_live;
       other = one.second;
-      other_live = own_there m actor fetched may keeps brings fresh Exclusive one.second (ap (λ (a : Activity). mode_among fresh (latches_held m.store a)) is ∙ latched_second fresh source Exclusive) one.second_live;
+      other_live = own_there m AnyPage fetched brings actor fresh Exclusive one.second keeps.latches_fit may (ap (λ (a : Activity). mode_among fresh (latches_held m.store a)) is ∙ latched_second fresh source Exclusive) one.second_live;
       may = subst (λ (a : Activity). MayAsk a m.store.meta free source one.first (Some one.second)) (sym is) (record {
         given = refl;
         apart = halves_apart m source fresh rec.key rec.body one;
@@ -274,7 +275,7 @@ module _ (m : Machine) (actor : ℕ) (fetched : StoreState) (may : IsActor actor
       by : (over : LivePage) × (live_here m.store parent ≡ Some over) × (over.level ≡ job.level) × LeadsBelow over job → HasBoth
       by (over, was, level, (child, area, leaf)) =
           let latch = parent_latched m.store (m.activity actor) job parent stands in
-          let there = own_there m actor fetched may keeps brings parent latch.0 over latch.1 was in
+          let there = own_there m AnyPage fetched brings actor parent latch.0 over keeps.latches_fit may latch.1 was in
           let good = good_there m actor fetched may keeps brings parent over there in
           let held : Holds over.area job.point = first_held job.point over.frag over.area (record { leaf = Child child; area = area }) good.1.well_cut leaf in
           let many : length job.point ≡ m.store.meta.k = held.same ∙ good.1.fits.attributes in

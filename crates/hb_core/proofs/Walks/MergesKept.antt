@@ -36,6 +36,11 @@ use Rattle.hb_frag.specs.Rules.{BelongsAt}
 use Rattle.hb_space.specs.Boxes.{Area}
 use Rattle.hb_store.specs.States.{IsGoodPage, StoreState}
 use Rattle.hb_lemmas.proofs.Booleans.{at_itself}
+use Rattle.hb_core.proofs.Memory.BroughtPages.{own_there}
+use Rattle.hb_core.specs.Fetching.{Brings}
+use Rattle.hb_core.specs.Keeps.{LatchesFit, WalksInSpace}
+use Rattle.hb_space.specs.Actors.{IsActor}
+use Rattle.hb_lemmas.proofs.Options.{at_value}
 
 -- ---- in a memory that has its pages
 
@@ -221,6 +226,18 @@ pub record HasMergePlace (st : StoreState) (next : Activity) : Type 0 where
 -- a page that names a child is above the records
 pub above_records : (meta : Meta) (page : LivePage) (name : ℕ) → IsGoodPage meta (Live page) → IsTrue (names_child page name) → 0 < page.level
 above_records meta page name good named = All-contains (BelongsAt page.level) (leaves page.frag) (Child name) good.1.filled.kinds (named_leaf name (leaves page.frag) named)
+
+-- what a machine knows of the place of its actor, and that the pages of that place stay where they came into memory
+pub known_at : (m : Machine) (actor : ℕ) → WalksInSpace m → (place : AtParent) → merging_at (m.activity actor) ≡ Some place → NamesKnown m.store place
+known_at m actor walks place is = at_value (merging_at (m.activity actor)) (NamesKnown m.store) place is (walks.merging actor)
+
+pub place_stays : (m : Machine) (may : ℕ → Type 0) (fetched : StoreState) → Brings m may fetched → (actor : ℕ) → LatchesFit m → IsActor actor → (place : AtParent) → merging_at (m.activity actor) ≡ Some place → PlaceStays m.store fetched place
+place_stays m may fetched brings actor fit one place is =
+    let latched = place_latched m.store (m.activity actor) place is in
+    record {
+      parent = λ page live. own_there m may fetched brings actor place.parent latched.parent.0 page fit one latched.parent.1 live;
+      pair = λ pair pair_is page live. let latch = latched.pair pair pair_is in own_there m may fetched brings actor pair.keep latch.0 page fit one latch.1 live;
+    }
 
 -- What is known of the place stands in the memory before the step, and what came into memory has the same pages there.
 module _ (m : Machine) (actor : ℕ) (fetched : StoreState) (good : (id : ℕ) (page : LivePage) → live_here fetched id ≡ Some page → IsGoodPage m.store.meta (Live page))

@@ -20,9 +20,9 @@ use Rattle.std.specs.Option.{option_and_then}
 use Rattle.hb_frag.specs.declared.leaves.Leaf.{Leaf}
 use Rattle.hb_frag.specs.declared.leaves.Leaf.TheVariants.{Records, Child, Sibling}
 use Rattle.hb_activity.specs.Walks.{walk_held, walk_point}
-use Rattle.hb_core.proofs.Memory.BroughtPages.{still_held}
+use Rattle.hb_core.proofs.Memory.BroughtPages.{own_there}
 use Rattle.hb_core.proofs.Latches.LatchesStay.{walk_latched}
-use Rattle.hb_core.proofs.Walks.MergesKept.{HasMergePlace, PlaceStays, merged_place, named_again, none_named, place_latched}
+use Rattle.hb_core.proofs.Walks.MergesKept.{HasMergePlace, PlaceStays, merged_place, named_again, none_named, place_latched, known_at, place_stays}
 use Rattle.hb_core.proofs.Table.NextPlaces.{HasPlace, HoldsNothing, KeepsParent, MergesOn, TakesParent, WalksTo, nothing_given_up, now, place_after}
 use Rattle.hb_core.proofs.Facts.StepKinds.{each_kind, ready_kind}
 use Rattle.hb_core.proofs.Facts.StillThere.{fetched_good, may_or_not, nothing_done, other_holds, other_walks, own_next}
@@ -224,9 +224,6 @@ leads_on page p l there names = subst (λ (o : Option Placed). IsSome (option_an
 
 module _ (m : Machine) (actor : ℕ) (may : ℕ → Type 0) (fetched : StoreState) (latches : IsActor actor) (fit : LatchesFit m) (inside : HoldsPagesOfFile m) (walks : WalksInSpace m) (brings : Brings m may fetched) (deed : Deed) (outcome : Outcome) (new : Machine) (performs : Performs m fetched actor deed outcome new) where
   -- a page that the actor holds stays
-  own_there : (id : ℕ) (mode : Mode) (page : LivePage) → mode_among id (latches_held m.store (m.activity actor)) ≡ Some mode → live_here m.store id ≡ Some page → live_here fetched id ≡ Some page
-  own_there id mode page among live = ap if_live (still_held m may fetched brings actor id mode (Live page) (fit.exact actor id latches ∙ among) (live_so (in_memory m.store id) page live))
-
   walks_to : WalksTo fetched deed → StandsInSpace new.store deed.next
   walks_to to =
       let store = nothing_done deed.op _ fetched new.store to.nothing performs.store in
@@ -248,14 +245,6 @@ module _ (m : Machine) (actor : ℕ) (may : ℕ → Type 0) (fetched : StoreStat
       }
 
   -- the pages of a consolidator's place stay
-  brought_place : (place : AtParent) → merging_at (m.activity actor) ≡ Some place → PlaceStays m.store fetched place
-  brought_place place at_place =
-      let latched = place_latched m.store (m.activity actor) place at_place in
-      record {
-        parent = λ page live. own_there place.parent latched.parent.0 page latched.parent.1 live;
-        pair = λ pair is page live. let latch = latched.pair pair is in own_there pair.keep latch.0 page latch.1 live;
-      }
-
   takes_parent : TakesParent (now m actor fetched) deed → StandsInSpace new.store deed.next
   takes_parent takes =
       let store = nothing_done deed.op _ fetched new.store (ap (λ (d : Deed). d.op) takes.row.deed_is) performs.store in
@@ -275,13 +264,13 @@ module _ (m : Machine) (actor : ℕ) (may : ℕ → Type 0) (fetched : StoreStat
       let store = nothing_done deed.op _ fetched new.store keeps.nothing performs.store in
       let latch = parent_latched m.store (m.activity actor) keeps.job keeps.parent (at_parent_before keeps.job keeps.parent keeps.before) in
       same_parent deed.next keeps.job keeps.parent new.store (at_parent_after keeps.job keeps.parent keeps.after)
-      (moved_parent m.store new.store keeps.job keeps.parent (λ page live. ap (λ (st : StoreState). live_here st keeps.parent) store ∙ own_there keeps.parent latch.0 page latch.1 live)
+      (moved_parent m.store new.store keeps.job keeps.parent (λ page live. ap (λ (st : StoreState). live_here st keeps.parent) store ∙ own_there m may fetched brings actor keeps.parent latch.0 page fit latches latch.1 live)
       (walks.parents actor keeps.job keeps.parent (at_parent_before keeps.job keeps.parent keeps.before)))
 
   -- a consolidator knows what the parent names
   merged_in_space : MergesOn m actor (now m actor fetched) deed → StandsInSpace new.store deed.next
   merged_in_space merges = by (merged_place m actor fetched (fetched_good m may fetched inside brings)
-      (λ place is. subst (λ (o : Option AtParent). IfSome o (NamesKnown m.store)) is (walks.merging actor)) brought_place deed merges)
+      (known_at m actor walks) (place_stays m may fetched brings actor fit latches) deed merges)
     where
       store : new.store ≡ fetched
       store = nothing_done deed.op _ fetched new.store (ap (λ (d : Deed). d.op) merges.stays.is) performs.store

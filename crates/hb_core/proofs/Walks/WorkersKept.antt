@@ -156,11 +156,11 @@ module _ (m : Machine) (actor : ℕ) (outcome : Outcome) (new : Machine) (may : 
       (λ level. leads_on walks.page goes.job goes.leaf goes.area goes.at_point goes.names (goes.farther level)))
 
   acts : DoesRow m actor outcome new → WorkersStand new
-  acts does = performed does.fetched does.deed does.brings.rest.meta does.performs (by (walk_after m actor (with_disk does.fetched m.files m.clock m) _ does.deed refl does.row))
+  acts does = performed does.fetched does.deed (ap (λ (s : StoreState). s.meta) does.brings.rest) does.performs (by (walk_after m actor (with_disk does.fetched m.files m.clock m) _ does.deed refl does.row))
     where
       by : (walking_job does.deed.next ≡ None) ⊎ WalksOn m actor (with_disk does.fetched m.files m.clock m) does.deed → StandsByJob new.store does.deed.next
       by (inl none) = none_stands new.store does.deed.next none
-      by (inr walks) = walked does.fetched does.deed does.brings.rest.meta does.performs walks
+      by (inr walks) = walked does.fetched does.deed (ap (λ (s : StoreState). s.meta) does.brings.rest) does.performs walks
 
 pub workers_stand_still : (m : Machine) (actor : ℕ) (outcome : Outcome) (new : Machine) → IsActor actor → MachineKeeps m → StepsTo m actor outcome new → WorkersStand new
 workers_stand_still m actor outcome new may kept step = each_deed m actor outcome new (WorkersStand new) (record {

@@ -39,7 +39,7 @@ renamed_kind old new level (Records records) h = h
 renamed_kind old new level (Child page) h = h
 renamed_kind old new level (Sibling page) h = h
 
-renamed_kinds : (old new level : ℕ) (t : Tree) → All (BelongsAt level) (leaves t) → All (BelongsAt level) (leaves (renamed old new t))
+pub renamed_kinds : (old new level : ℕ) (t : Tree) → All (BelongsAt level) (leaves t) → All (BelongsAt level) (leaves (renamed old new t))
 renamed_kinds old new level (Tip leaf) h = All-cons (BelongsAt level) (renamed_leaf old new leaf) [] (renamed_kind old new level leaf (All-head (BelongsAt level) leaf [] h)) (All-nil (BelongsAt level))
 renamed_kinds old new level (Cut axis value left right) h =
     let both = (All-parts (BelongsAt level) (leaves left) (leaves right)).0 h in

@@ -61,3 +61,15 @@ pub leaf_is_sibling : (xs : List Placed) (name : ℕ) (a : Area) → Contains xs
 leaf_is_sibling [] name a (k, lt, e) = absurd (omega arith)
 leaf_is_sibling (x ∷ xs) name a (zero, lt, e) = first_is x.leaf x.area xs name a (ap (λ (l : Placed). l.leaf) e) (ap (λ (l : Placed). l.area) e)
 leaf_is_sibling (x ∷ xs) name a (suc k, lt, e) = is_sibling x.leaf x.area xs name a (leaf_is_sibling xs name a (k, omega arith, e))
+
+-- and each leaf of a tree has a box
+pub placed_leaf : (t : Tree) (area : Area) (leaf : Leaf) → Contains (leaves t) leaf → (b : Area) × Contains (leaves_of t area) (placed leaf b)
+placed_leaf (Tip one) area leaf (zero, lt, e) = (area, (0, omega arith, ap (λ (l : Leaf). placed l area) e))
+placed_leaf (Tip one) area leaf (suc k, lt, e) = absurd (omega (arith, lt))
+placed_leaf (Cut axis value left right) area leaf has =
+    let below = leaves_of left (side_below area axis value) in
+    let from = leaves_of right (side_from area axis value) in
+    elim (Contains-append_cases (leaves left) (leaves right) leaf has) [
+      | inl l ↦ let one = placed_leaf left (side_below area axis value) leaf l in (one.0, Contains-append_left below from (placed leaf one.0) one.1)
+      | inr r ↦ let one = placed_leaf right (side_from area axis value) leaf r in (one.0, Contains-append_right below from (placed leaf one.0) one.1)
+    ]

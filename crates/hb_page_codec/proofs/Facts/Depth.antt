@@ -4,9 +4,10 @@ use Rattle.std.specs.Prelude.{IfSome}
 use Rattle.std.proofs.lemmas.List.{length-drop}
 use Rattle.hb_space.specs.declared.form.TheConstants.{BMAX}
 use Rattle.hb_frag.specs.Trees.{Tree, Cut}
-use Rattle.hb_page_codec.specs.Reading.{◌>>=◌, byte_at, number_at, many_at}
+use Rattle.hb_page_codec.specs.Reading.{byte_at, number_at, many_at}
 use Rattle.hb_page_codec.specs.ReadingFields.{body_at, record_at, count_at, axis_at}
 use Rattle.hb_page_codec.specs.ReadingPages.{cut_at, records_tip_at, node_at, tree_within, tree_at}
+use Rattle.hb_lemmas.specs.Options.{◌>>=◌}
 
 -- behind what was read there are at most so many bytes
 abbrev pub Leaves : {A : Type 0} → Option (A × List ℕ) → ℕ → Type 0

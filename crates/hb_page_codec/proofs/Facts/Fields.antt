@@ -14,13 +14,15 @@ use Rattle.hb_space.specs.Boxes.{Area, IsArea}
 use Rattle.hb_space.specs.declared.form.TheConstants.{KMAX, BMAX}
 use Rattle.hb_space.specs.declared.records.Record.{Record}
 use Rattle.hb_frag.specs.Grammar.{point_bytes, record_bytes, FitsRecord}
-use Rattle.hb_page_codec.specs.Reading.{◌>>=◌, byte_at, number_at, many_at}
+use Rattle.hb_page_codec.specs.Reading.{byte_at, number_at, many_at}
 use Rattle.hb_page_codec.specs.ReadingFields.{point_at, are_ordered, area_between, area_at, body_at, record_at, count_at, axis_at}
 use Rattle.hb_page_codec.proofs.Spelled.{big_number-spelled}
 use Rattle.hb_page_codec.proofs.Facts.Ordered.{ordered, ordered_test}
 use Rattle.hb_lemmas.proofs.Booleans.{unless_some, when_some}
 use Rattle.hb_lemmas.proofs.Numbers.{length_big_endian}
 use Rattle.hb_page_codec.specs.Exact.{AreBytes}
+use Rattle.hb_lemmas.proofs.Options.{bind_some}
+use Rattle.hb_lemmas.specs.Options.{◌>>=◌}
 
 pub AreBytes-drop : (n : ℕ) (bytes : List ℕ) → AreBytes bytes → AreBytes (drop n bytes)
 AreBytes-drop n bytes h i = rw get_or-drop (h (n + i))
@@ -34,11 +36,6 @@ AreBytes-take n bytes h i =
 
 pub AreBytes-rest : (b : ℕ) (bytes : List ℕ) → AreBytes (b ∷ bytes) → AreBytes bytes
 AreBytes-rest b bytes h i = h (suc i)
-
--- the value of a step that gave something
-pub bind_some : {A B : Type 0} (r : Option A) (f : A → Option B) (y : B) → (r >>= f) ≡ Some y → (x : A) × (r ≡ Some x) × (f x ≡ Some y)
-bind_some (Some x) f y e = (x, refl, e)
-bind_some None f y e = absurd cc
 
 -- what was read from the front
 pub record Takes (bytes text rest : List ℕ) : Type 0 where

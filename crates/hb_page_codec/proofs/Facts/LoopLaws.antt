@@ -1,7 +1,8 @@
 -- Reading one thing after the other, as a loop does.
 use Rattle.std.proofs.Common.{◌≡◌, ℕ, suc, ◌-◌, ◌+◌, ◌≤◌, ◌<◌, List, [], ◌∷◌, ◌++◌, Option, Some, None, refl, sym, ap, ◌∙◌, append_assoc, arith}
 use Rattle.std.proofs.lemmas.List.{append-nil}
-use Rattle.hb_page_codec.specs.Reading.{◌>>=◌, many_at}
+use Rattle.hb_page_codec.specs.Reading.{many_at}
+use Rattle.hb_lemmas.specs.Options.{◌>>=◌}
 
 -- what was read before, and what is still read
 abbrev pub with_front : {A : Type 0} → List A → Option (List A × List ℕ) → Option (List A × List ℕ)

@@ -1,26 +1,24 @@
 -- The test for the corners of a box.
-use Rattle.std.proofs.Common.{◌≡◌, ℕ, zero, suc, ◌≤◌, true, false, cond, List, [], ◌∷◌, length, Option, Some, None, refl, sym, arith}
-use Rattle.std.specs.Prelude.{◌↔◌, IsSome, IfSome, EachIndex, slice_index}
+use Rattle.std.proofs.Common.{◌≡◌, ℕ, zero, suc, true, false, cond, List, [], ◌∷◌, length, Option, Some, None, refl, sym, arith}
+use Rattle.std.specs.Prelude.{◌↔◌, IsSome, IfSome}
 use Rattle.std.proofs.lemmas.Bool.{and_parts, and_from, le-leb, leb-true, false≢true}
 use Rattle.hb_space.specs.Boxes.{Area}
 use Rattle.hb_page_codec.specs.Reading.{ReadsAs}
 use Rattle.hb_page_codec.specs.ReadingFields.{are_ordered, area_between}
+use Rattle.hb_space.specs.Points.{AtMost}
 
-abbrev AreOrdered : List ℕ → List ℕ → Type 0
-AreOrdered lo hi = EachIndex lo (λ i. slice_index lo i ≤ slice_index hi i)
-
-pub ordered : (lo hi : List ℕ) → length lo ≡ length hi → are_ordered lo hi ≡ true → AreOrdered lo hi
+pub ordered : (lo hi : List ℕ) → length lo ≡ length hi → are_ordered lo hi ≡ true → AtMost lo hi
 ordered [] hi same e i lt = absurd (omega arith)
 ordered (l ∷ ls) [] same e i lt = absurd (omega arith)
 ordered (l ∷ ls) (h ∷ hs) same e zero lt = leb-true l h (and_parts _ _ e).0
 ordered (l ∷ ls) (h ∷ hs) same e (suc i) lt = ordered ls hs (omega arith) (and_parts _ _ e).1 i (omega arith)
 
-pub ordered_test : (lo hi : List ℕ) → length lo ≡ length hi → AreOrdered lo hi → are_ordered lo hi ≡ true
+pub ordered_test : (lo hi : List ℕ) → length lo ≡ length hi → AtMost lo hi → are_ordered lo hi ≡ true
 ordered_test [] hi same h = refl
 ordered_test (l ∷ ls) [] same h = absurd (omega arith)
 ordered_test (l ∷ ls) (k ∷ ks) same h = and_from _ _ (le-leb l k (h 0 (omega arith))) (ordered_test ls ks (omega arith) (λ i lt. h (suc i) (omega arith)))
 
-pub is_between : (lo hi : List ℕ) (made : Option Area) → length lo ≡ length hi → (IsSome made ↔ AreOrdered lo hi) → IfSome made (λ a. (a.lo ≡ lo) × (a.hi ≡ hi)) → ReadsAs (λ a. a) made (area_between lo hi)
+pub is_between : (lo hi : List ℕ) (made : Option Area) → length lo ≡ length hi → (IsSome made ↔ AtMost lo hi) → IfSome made (λ a. (a.lo ≡ lo) × (a.hi ≡ hi)) → ReadsAs (λ a. a) made (area_between lo hi)
 is_between lo hi (Some a) same is corners =
     let test = ordered_test lo hi same (is.0 refl) in
     rw (test, sym corners.0, sym corners.1) refl

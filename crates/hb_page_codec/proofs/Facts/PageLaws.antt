@@ -8,14 +8,16 @@ use Rattle.hb_space.specs.declared.form.TheConstants.{PAGE, KMAX}
 use Rattle.hb_frag.specs.declared.pages.Page.{Page}
 use Rattle.hb_frag.specs.declared.pages.Page.TheVariants.{Live, Free}
 use Rattle.hb_frag.specs.Grammar.{point_bytes, tree_bytes, page_fields, FitsTree, FitsPage, HasSpelling, SpellsPage}
-use Rattle.hb_page_codec.specs.Reading.{◌>>=◌, number_at}
+use Rattle.hb_page_codec.specs.Reading.{number_at}
 use Rattle.hb_page_codec.specs.ReadingFields.{area_at}
 use Rattle.hb_page_codec.specs.ReadingPages.{tree_at, head_at, live_at, fields_at, page_of_bytes}
-use Rattle.hb_page_codec.proofs.Facts.Fields.{AreBytes-rest, Takes, Takes-then, Takes-byte, bind_some, wide_4, number_takes, number_again, area_takes, area_again}
+use Rattle.hb_page_codec.proofs.Facts.Fields.{AreBytes-rest, Takes, Takes-then, Takes-byte, wide_4, number_takes, number_again, area_takes, area_again}
 use Rattle.hb_page_codec.proofs.TreeLaws.{tree_takes, tree_again}
 use Rattle.hb_lemmas.proofs.Booleans.{unless_some, when_some}
 use Rattle.std.proofs.lemmas.Option.{same_Some}
 use Rattle.hb_page_codec.specs.Exact.{AreBytes}
+use Rattle.hb_lemmas.proofs.Options.{bind_some}
+use Rattle.hb_lemmas.specs.Options.{◌>>=◌}
 
 -- bytes spell at most one page
 abbrev pub SpelledOnce : Type 0

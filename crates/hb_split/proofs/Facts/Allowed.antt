@@ -13,10 +13,14 @@ use Rattle.hb_frag.specs.Paths.{part_at}
 use Rattle.hb_frag.specs.Rules.{AreInOrder, IsSiblingTip}
 use Rattle.hb_ops.specs.Cutting.{going, half_area, is_on, other_side, records_in, reached, PartLeaves}
 use Rattle.hb_ops.specs.declared.leaf_cuts.LeafCut.{LeafCut}
-use Rattle.hb_split.specs.Choosing.{way_down, MayCut, AreChosen, IsThirds, MayLeave}
-use Rattle.hb_split.proofs.Facts.Ends.{at_end, of_page, records_held}
+use Rattle.hb_split.specs.Choosing.{way_down, MayCut, AreChosen, IsThirds, MayLeave, IsChosen}
+use Rattle.hb_split.proofs.Facts.Ends.{at_end, of_page, records_held, is_thirds}
 use Rattle.hb_split.proofs.Nexts.{parts}
 use Rattle.hb_ops.proofs.Facts.LeafHalfLaws.{holds_on, side_attributes}
+use Rattle.hb_layout.specs.declared.meta.Meta.{Meta}
+use Rattle.hb_ops.specs.Allocating.{Allocates}
+use Rattle.hb_ops.specs.Extracting.{FitsExtract}
+use Rattle.hb_ops.specs.Sound.{FitsFile}
 
 -- the plane of a chosen cut cuts the box that its records lie in
 plane_cuts : (k axis value : ℕ) (records : List Record) (a : Area) → length a.lo ≡ k → All (λ r. Holds a r.key) records → MayCut k axis value records → Cuts a axis value
@@ -79,4 +83,17 @@ is_allowed n page path cuts full e way ordered c t =
           let light = subst (Light n) (sym whole) bare in
           omega (arith, light, e, full);
       own = λ s. let w = light_tip (reached cuts t.part.0 t.part.1).0 s in omega (arith, w, u, e, full);
+    }
+
+-- so a page that weighs 6 or more may be split at what is chosen
+pub chosen_fits : (meta : Meta) (page : LivePage) (path : List Side) (cuts : List LeafCut) (fresh free_after : ℕ) → FitsFile meta page → IsChosen page path cuts → 6 ≤ weight_of page.frag → Allocates meta fresh free_after → FitsExtract meta page fresh path cuts free_after
+chosen_fits meta page path cuts fresh free_after made chosen full allocates =
+    let parts : (q : Tree × Area) × (part_at path page.frag page.area ≡ Some q) × _ = (chosen.part, chosen.found, chosen.chosen) in
+    let thirds = is_thirds (weight_of page.frag) page path cuts full refl chosen.way made.in_order parts in
+    let may = is_allowed (weight_of page.frag) page path cuts full refl chosen.way made.in_order parts thirds in
+    record {
+      allocates = allocates;
+      made = made;
+      part = may.part;
+      fits = record { there = may.found; parted = may.parts; less = λ none bare. may.some (none, bare); own = may.own };
     }

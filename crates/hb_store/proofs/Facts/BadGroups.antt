@@ -1,48 +1,15 @@
 -- Where the log of some bytes has a bad group it is the first one, and its frames are not read to an end.
-use Rattle.std.proofs.Common.{◌≡◌, ◌⊎◌, inl, inr, ℕ, ◌<◌, ◌^◌, List, [], ◌∷◌, ◌++◌, length, get_or, drop, All, sym, ap, subst, refl, ◌∙◌, append_assoc, length-append, arith}
+use Rattle.std.proofs.Common.{◌≡◌, ◌⊎◌, inl, inr, ℕ, ◌<◌, ◌^◌, List, [], ◌∷◌, ◌++◌, length, All, sym, ap, subst, refl, ◌∙◌, append_assoc, arith}
 use Rattle.std.proofs.lemmas.List.Elements.{All-head, All-tail}
-use Rattle.hb_lemmas.specs.Numbers.{big_endian}
-use Rattle.hb_disk.specs.Calls.{open_gate}
 use Rattle.hb_layout.specs.declared.meta.Meta.{Meta}
 use Rattle.hb_wal.specs.Frames.{frames, frame_bytes, IsPayload, IsEnd, IsBadFrame}
 use Rattle.hb_wal.specs.Reading.{BeginsFrame}
+use Rattle.hb_wal.proofs.Facts.FrameHeads.{head_of, no_frame_at_bad, no_head_at_end, same_frame}
 use Rattle.hb_log_codec.specs.Groups.{Logged, SpellsGroups}
 use Rattle.hb_store.proofs.Facts.Spellings.{OneList}
 use Rattle.hb_store.specs.Replay.{Replayed, MayReplay, replay, untouched}
 use Rattle.hb_store.proofs.Facts.ReplayLaws.{MayReplay-front, replay-append, MayReplay-back}
 use Rattle.hb_store.specs.Opening.{HasBadGroup, IsBadPayload, SpellAll}
-use Rattle.hb_lemmas.proofs.Numbers.{length_big_endian, same_number}
-use Rattle.hb_lemmas.proofs.Lists.{same_fronts}
-
--- ---- where a frame begins
-
--- a frame, by its gate, its length, and the bytes behind these
-head_of : (p xs : List ℕ) → frame_bytes p ++ xs ≡ open_gate ∷ big_endian 4 (length p) ++ (p ++ xs)
-head_of p xs = ap (λ (l : List ℕ). open_gate ∷ l) (append_assoc (big_endian 4 (length p)) p xs)
-
-same_head : (m n : ℕ) (xs ys : List ℕ) → m < 2 ^ 32 → n < 2 ^ 32 → open_gate ∷ big_endian 4 m ++ xs ≡ open_gate ∷ big_endian 4 n ++ ys → (m ≡ n) × (xs ≡ ys)
-same_head m n xs ys m_short n_short e = same_number m n xs ys m_short n_short (ap (λ (l : List ℕ). drop 1 l) e)
-
--- a frame tells its payload and what is behind it
-same_frame : (p q xs ys : List ℕ) → length p < 2 ^ 32 → length q < 2 ^ 32 → frame_bytes p ++ xs ≡ frame_bytes q ++ ys → (p ≡ q) × (xs ≡ ys)
-same_frame p q xs ys p_short q_short e =
-    let heads = same_head (length p) (length q) (p ++ xs) (q ++ ys) p_short q_short (sym (head_of p xs) ∙ e ∙ head_of q ys) in
-    same_fronts p q xs ys heads.0 heads.1
-
--- nothing begins at an end
-no_head_at_end : (n : ℕ) (xs rest : List ℕ) → IsEnd rest → rest ≡ open_gate ∷ big_endian 4 n ++ xs → ⊥
-no_head_at_end n xs [] end e = absurd (omega (arith, ap (λ (l : List ℕ). length l) e))
-no_head_at_end n xs (gate ∷ rest) (inl few) e = absurd (omega (arith, few, ap (λ (l : List ℕ). length l) e, length-append (big_endian 4 n) xs, length_big_endian 4 n))
-no_head_at_end n xs (gate ∷ rest) (inr closed) e = closed (ap (λ (l : List ℕ). get_or l 0 0) e)
-
--- a whole frame isn't a bad one
-no_bad_frame_here : (p xs rest : List ℕ) → IsPayload p → rest ≡ frame_bytes p ++ xs → IsBadFrame rest → ⊥
-no_bad_frame_here p xs rest fit e bad =
-    let heads = same_head bad.len (length p) bad.behind (p ++ xs) bad.fits fit.short (sym bad.bytes ∙ e ∙ head_of p xs) in
-    elim bad.bad [
-      | inl none ↦ absurd (omega (arith, none, heads.0, fit.some))
-      | inr few ↦ absurd (omega (arith, few, heads.0, ap (λ (l : List ℕ). length l) heads.1, length-append p xs))
-    ]
 
 -- ---- where reading stops
 
@@ -51,7 +18,7 @@ IsBadAt k t rest = IsBadFrame rest ⊎ ((payload : List ℕ) × BeginsFrame rest
 
 -- a frame whose groups may be replayed isn't bad
 no_bad_here : (k : ℕ) (t : Replayed) (p xs rest : List ℕ) (groups : List Logged) → IsPayload p → SpellsGroups k p groups → MayReplay t groups → rest ≡ frame_bytes p ++ xs → IsBadAt k t rest → ⊥
-no_bad_here k t p xs rest groups fit spells may e (inl bad) = no_bad_frame_here p xs rest fit e bad
+no_bad_here k t p xs rest groups fit spells may e (inl bad) = no_frame_at_bad p xs rest fit e bad
 no_bad_here k t p xs rest groups fit spells may e (inr bad) =
     let same = same_frame p bad.0 xs bad.1.behind fit.short bad.1.fits.short (sym e ∙ bad.1.bytes) in
     bad.2 groups (subst (λ q. SpellsGroups k q groups) same.0 spells) may

@@ -87,7 +87,7 @@ pub keeps_fetched : (d : DiskModel) (old new : StoreState) (durable : FileState)
     → ((page : Page) → in_memory new id ≡ Some page → page_of (last_of durable later) id ≡ Some page) → StoreKeeps d old durable later → StoreKeeps d new durable later
 keeps_fetched d old new durable later id fetched there k =
     let K : StoreState → Type 0 = λ st. StoreKeeps d st durable later in
-    subst K same (record {
+    subst K (sym fetched.rest) (record {
       parts = k.parts;
       disk = k.disk;
       waits = k.waits;
@@ -104,18 +104,6 @@ keeps_fetched d old new durable later id fetched there k =
         placed = k.memory.placed;
       };
     })
-  where
-    -- the old store with the new one's pages is the new one
-    same : ◌≡◌ {A = StoreState} (record { turn = old.turn; meta = old.meta; log = old.log; pages = new.pages; in_log = old.in_log; dirty = old.dirty; stopped = old.stopped }) new
-    same = λ i. record {
-      turn = sym fetched.rest.turn i;
-      meta = sym fetched.rest.meta i;
-      log = sym fetched.rest.log i;
-      pages = new.pages;
-      in_log = sym fetched.rest.in_log i;
-      dirty = sym fetched.rest.dirty i;
-      stopped = sym fetched.rest.stopped i;
-    }
 
 -- the page in a place is the file's, where it isn't in memory
 file_page : (d : DiskModel) (st : StoreState) (durable : FileState) (later : List FileState) (id : ℕ) → IsDisk d → StoreKeeps d st durable later → 1 ≤ id → id ≤ st.meta.high → (p : Page) × (page_of (last_of durable later) id ≡ Some p)

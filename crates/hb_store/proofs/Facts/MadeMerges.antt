@@ -16,7 +16,7 @@ use Rattle.hb_frag.specs.Leaves.{leaf_weight, leaves, weight_of}
 use Rattle.hb_frag.specs.Normal.{normal, one_leaf_or_cut}
 use Rattle.hb_frag.specs.NormalLaws.{SaysTheSame}
 use Rattle.hb_frag.specs.Paths.{sibling_way, with_part}
-use Rattle.hb_frag.specs.Renaming.{renamed, renamed_leaf}
+use Rattle.hb_frag.specs.Renaming.{renamed}
 use Rattle.hb_frag.specs.Rules.{BelongsAt, IsFilledRight, IsSiblingTip, capacity_of}
 use Rattle.hb_frag.specs.Grammar.{FitsLeaf, FitsTree, HasSpelling}
 use Rattle.hb_frag.proofs.Facts.Parts.{part_weighs}
@@ -35,7 +35,8 @@ use Rattle.hb_store.specs.States.{IsGoodPage}
 use Rattle.hb_ops.proofs.Facts.MadeLeaves.{AllFit, all_fit, fit_normal, fit_renamed, light_fit}
 use Rattle.hb_store.proofs.Facts.MadePages.{FreeSpelled, WithinCapacity, capacity_small, taken_fit}
 use Rattle.hb_store.proofs.Facts.Grouped.{good_spelled}
-use Rattle.hb_lemmas.proofs.Lists.{All-alone, All-behind, All-front}
+use Rattle.hb_lemmas.proofs.Lists.{All-behind, All-front}
+use Rattle.hb_ops.proofs.Facts.MergeMade.{renamed_kinds}
 
 -- the cuts have their places
 abbrev CutsFit : ℕ → Tree → Type 0
@@ -107,17 +108,6 @@ kinds_with level (Right ∷ path) (Cut axis value left right) other old new =
     let B : Leaf → Type 0 = BelongsAt level in
     All-append B (leaves left) (leaves (with_part path right other)) (All-front B (leaves left) (leaves right) old) (kinds_with level path right other (All-behind B (leaves left) (leaves right) old) new)
 
-kind_renamed : (level old new : ℕ) (leaf : Leaf) → BelongsAt level leaf → BelongsAt level (renamed_leaf old new leaf)
-kind_renamed level old new (Records records) h = h
-kind_renamed level old new (Child page) h = h
-kind_renamed level old new (Sibling page) h = h
-
-kinds_renamed : (level old new : ℕ) (t : Tree) → All (BelongsAt level) (leaves t) → All (BelongsAt level) (leaves (renamed old new t))
-kinds_renamed level old new (Tip leaf) h = All-alone (BelongsAt level) (renamed_leaf old new leaf) (kind_renamed level old new leaf (All-head (BelongsAt level) leaf [] h))
-kinds_renamed level old new (Cut axis value left right) h =
-    let B : Leaf → Type 0 = BelongsAt level in
-    All-append B (leaves (renamed old new left)) (leaves (renamed old new right)) (kinds_renamed level old new left (All-front B (leaves left) (leaves right) h)) (kinds_renamed level old new right (All-behind B (leaves left) (leaves right) h))
-
 -- ---- the pages
 
 -- a page of a file that can be written: its parts have their places
@@ -150,7 +140,7 @@ module _ (same : (t : Tree) → SaysTheSame t (normal t)) (within : WithinCapaci
       let fit : AllFit meta.k (normal t) = fit_normal meta.k t (fit_renamed meta.k gone keep few above.frag (all_fit meta.k above.frag tree)) in
       let lighter : weight_of (normal t) ≤ weight_of above.frag = omega (arith, said.weight, (renames gone keep above.frag).weight) in
       spelled_with meta above (normal t) limits has made (cuts_normal meta.k t (cuts_renamed meta.k gone keep above.frag (cuts_of meta.k above.frag tree))) fit (record {
-        kinds = said.kinds above.level (kinds_renamed above.level gone keep above.frag made.filled.kinds);
+        kinds = said.kinds above.level (renamed_kinds gone keep above.level above.frag made.filled.kinds);
         light = omega (arith, lighter, made.filled.light);
         own = own_normal t (own_renamed gone keep above.frag made.filled.own);
       })

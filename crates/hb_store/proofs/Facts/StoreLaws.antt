@@ -1,5 +1,5 @@
 -- What follows of what a store keeps: what its disk opens to, and how many files are to come.
-use Rattle.std.proofs.Common.{◌≡◌, ◌⊎◌, inl, inr, ℕ, Bool, false, IsTrue, List, [], ◌∷◌, ◌++◌, length, map, flat_map, refl, ap, ◌∙◌, arith}
+use Rattle.std.proofs.Common.{◌≡◌, ◌⊎◌, inl, inr, ℕ, Bool, false, IsTrue, List, [], ◌∷◌, ◌++◌, length, map, flat_map, refl, sym, ap, ◌∙◌, subst, arith}
 use Rattle.hb_disk.specs.Model.{DiskModel}
 use Rattle.hb_wal.specs.Log.{Waiting}
 use Rattle.hb_layout.specs.declared.meta.Meta.{Meta}
@@ -9,7 +9,7 @@ use Rattle.hb_log_codec.specs.Groups.{Logged, group_bytes}
 use Rattle.hb_store.specs.Replay.{Replayed}
 use Rattle.hb_store.specs.Opening.{OpensBy, OpensTo}
 use Rattle.hb_store.specs.States.{StoreState}
-use Rattle.hb_store.specs.Keeps.{StoreKeeps, OpensToEither}
+use Rattle.hb_store.specs.Keeps.{StoreKeeps, OpensToEither, PartsOpen}
 use Rattle.hb_store.specs.Parts.{Parts, Leads, OpensNext}
 
 -- By the durable file's groups, or by those and all that wait. `OpensHere` and `OpensOn` say so of a store's parts.
@@ -45,13 +45,15 @@ opens_turn : (c : List ℕ) (turn : ℕ) (said : Meta) (payloads : List (List �
 opens_turn c turn said payloads written waiting durable later (inl by) = opens_either c turn said payloads written waiting durable later by
 opens_turn c turn said payloads written waiting durable later (inr by) = inl (record { turn = next_turn turn; said = durable.meta; payloads = []; groups = []; by = by })
 
+pub opens_by_parts : PartsOpen
+opens_by_parts c turn stopped p durable later opens =
+    opens_turn c turn p.said p.payloads p.written p.waiting durable later
+    (by_turn (OpensHere c turn p durable) (OpensOn c turn p (last_of durable later)) (OpensAfter c turn durable) (IsTrue stopped) opens)
+
 -- Each image opens to the durable file, or to the one after all groups that wait.
 pub StoreKeeps-opens : (d : DiskModel) (st : StoreState) (durable : FileState) (later : List FileState) → StoreKeeps d st durable later
     → (c : List ℕ) → d.Image c → OpensToEither durable later c
-StoreKeeps-opens d st durable later keeps c image =
-    let p = keeps.parts in
-    opens_turn c st.turn p.said p.payloads p.written p.waiting durable later
-    (by_turn (OpensHere c st.turn p durable) (OpensOn c st.turn p (last_of durable later)) (OpensAfter c st.turn durable) (IsTrue st.stopped) (keeps.disk.images c image))
+StoreKeeps-opens d st durable later keeps c image = opens_by_parts c st.turn st.stopped keeps.parts durable later (keeps.disk.images c image)
 
 -- While the store runs, each image opens to the durable file: by the written groups, and so at all.
 pub StoreKeeps-by : (d : DiskModel) (st : StoreState) (durable : FileState) (later : List FileState) → (keeps : StoreKeeps d st durable later) → st.stopped ≡ false
@@ -87,3 +89,10 @@ none_left (next ∷ later) count = absurd (omega (arith, count))
 pub StoreKeeps-alone : (d : DiskModel) (st : StoreState) (durable : FileState) (later : List FileState) → StoreKeeps d st durable later → st.log.groups ≡ [] → later ≡ []
 StoreKeeps-alone d st durable later keeps none =
     none_left later (StoreKeeps-one d st durable later keeps ∙ ap (λ (l : List Waiting). length l) none)
+
+-- so what a step does to a store with no file to come it does to one in which no group waits
+pub StoreKeeps-idle : (d : DiskModel) (st : StoreState) (P : FileState → List FileState → Type 0) → st.log.groups ≡ [] → ((durable : FileState) → StoreKeeps d st durable [] → P durable [])
+    → (durable : FileState) (later : List FileState) → StoreKeeps d st durable later → P durable later
+StoreKeeps-idle d st P none alone durable later keeps =
+    let empty = StoreKeeps-alone d st durable later keeps none in
+    subst (P durable) (sym empty) (alone durable (subst (λ (l : List FileState). StoreKeeps d st durable l) empty keeps))

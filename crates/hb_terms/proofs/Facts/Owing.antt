@@ -10,7 +10,7 @@ use Rattle.hb_frag.specs.declared.leaves.Leaf.{Leaf}
 use Rattle.hb_frag.specs.declared.leaves.Leaf.TheVariants.{Records, Child, Sibling}
 use Rattle.hb_frag.specs.declared.pages.LivePage.{LivePage}
 use Rattle.hb_frag.specs.declared.paths.Side.{Side}
-use Rattle.hb_frag.specs.Trees.{Tip}
+use Rattle.hb_frag.specs.Trees.{Tree, Tip}
 use Rattle.hb_frag.specs.Leaves.{Placed, first_at, leaf_at, leaves_of, siblings, weight_of, WellCut}
 use Rattle.hb_frag.specs.Paths.{part_at, with_part, way_to}
 use Rattle.hb_frag.specs.Carving.{carved}
@@ -23,6 +23,9 @@ use Rattle.hb_terms.specs.Plans.{IsPlan}
 use Rattle.hb_ops.specs.Owing.{IsOwed, OwesNothing, posted_parent, Posts, LacksRoom, MayPost}
 use Rattle.hb_terms.specs.declared.plans.PostPlan.{PostPlan}
 use Rattle.hb_terms.specs.declared.plans.PostPlan.TheVariants.{Nothing, Post, SplitFirst}
+use Rattle.hb_layout.specs.declared.meta.Meta.{Meta}
+use Rattle.hb_ops.specs.Posting.{FitsPost, posted}
+use Rattle.hb_ops.specs.Sound.{FitsFile}
 
 -- two leaves that stand at one place are the same
 same_leaf : (o : Option Placed) (x y : Placed) → o ≡ Some x → o ≡ Some y → (x.leaf ≡ y.leaf) × (x.area ≡ y.area)
@@ -117,6 +120,21 @@ planned_may_be parent child p icap at inner area h cut k cut' plan =
       meets = Meets-from_point plan.leaf area p up.1 down.1;
       given = sibling_listed (leaves_of child.frag child.area) inner area down.0.0 down.0.1 down.0.2;
       room = subst Q (sym plan.way) plan.room;
+    }
+
+-- in a page of a level above 0 that keeps the rules of a page alone
+pub plan_fits : (meta : Meta) (parent child : LivePage) (p : List ℕ) (at : List Side) (inner : ℕ) (area : Area) → FitsFile meta parent → 0 < parent.level → IsArea parent.area → IsArea child.area → WellCut child → IsPlan parent child p meta.icap (Post at inner area) → FitsPost meta parent at inner area
+plan_fits meta parent child p at inner area made above h k cut' plan =
+    let may = planned_may_be parent child p meta.icap at inner area h made.well_cut k cut' plan in
+    record {
+      made = made;
+      above = above;
+      outer = may.outer;
+      box = may.leaf;
+      leaf = may.place;
+      other = λ same. may.other (sym same);
+      meets = may.meets;
+      room = subst (λ (o : Option (Tree × Area)). weight_of (posted at inner area parent.frag o) ≤ meta.icap) (sym may.place) may.room;
     }
 
 -- two plans are the same

@@ -80,7 +80,7 @@ digits_visible (c ∷ bytes) fits =
     let low : c % 16 < 16 = omega arith in
     (digit_visible (c / 16) _ high (digit_is (c / 16)), (digit_visible (c % 16) _ low (digit_is (c % 16)), digits_visible bytes (All-tail (λ (x : ℕ). x < 2 ^ 8) c bytes fits)))
 
-as_it_is : (bytes : List ℕ) → list_all is_visible bytes ≡ true → AllByRecursion IsVisible bytes
+pub as_it_is : (bytes : List ℕ) → list_all is_visible bytes ≡ true → AllByRecursion IsVisible bytes
 as_it_is [] all = tt
 as_it_is (c ∷ bytes) all =
     let parts = and_parts (is_visible c) (list_all is_visible bytes) all in

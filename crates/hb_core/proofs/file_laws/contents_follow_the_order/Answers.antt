@@ -4,8 +4,7 @@ use Rattle.hb_core.proofs.Orders.StepContents.{contents_follow_order, points_sta
 pub returns-clause-contents : goal.returns-clause-contents
 returns-clause-contents c =
     contents_follow_order
-    c.what_is_made_can_be_written.ensures.changes
-    c.what_is_made_can_be_written.ensures.fits
+    c.what_is_made_can_be_written.ensures.operations
     c.held_is_a_point.ensures
     c.operations_keep_a_file_sound.ensures.contents
     c.what_stands_is_what_the_contents_have.ensures.there

@@ -4,13 +4,11 @@ use Rattle.hb_core.proofs.Memory.KeptPages.{meta_stays_within_limits, pages_stay
 pub returns-clause-pages : goal.returns-clause-pages
 returns-clause-pages c =
     pages_stay_of_file
-    c.what_is_made_can_be_written.ensures.changes
-    c.what_is_made_can_be_written.ensures.fits
+    c.what_is_made_can_be_written.ensures.operations
     c.held_is_a_point.ensures
 
 pub returns-clause-within : goal.returns-clause-within
 returns-clause-within c =
     meta_stays_within_limits
-    c.what_is_made_can_be_written.ensures.changes
-    c.what_is_made_can_be_written.ensures.fits
+    c.what_is_made_can_be_written.ensures.operations
     c.held_is_a_point.ensures

@@ -4,6 +4,5 @@ use Rattle.hb_core.proofs.Files.SoundFiles.{rows_are_licensed}
 pub returns : goal.returns
 returns c =
     rows_are_licensed
-    c.what_is_made_can_be_written.ensures.changes
-    c.what_is_made_can_be_written.ensures.fits
+    c.what_is_made_can_be_written.ensures.operations
     c.held_is_a_point.ensures

@@ -1,7 +1,8 @@
 use Rattle.std.proofs.Common.{◌∙◌, ◌+◌, length, refl, sym, arith}
 use Rattle.std.proofs.lemmas.Bool.{false≢true}
-use Rattle.hb_core.proofs.Running.AgainstPlaces.{against_there, boxes_there, excludes_there, none_and_this, none_at_all, none_at_first, read_there}
+use Rattle.hb_core.proofs.Running.AgainstPlaces.{against_there, boxes_there, excludes_there, none_and_this, none_at_all, none_at_first}
 use Rattle.hb_core.proofs.locking.first_against.Goals as goal
+use Rattle.std.proofs.lemmas.Option.{slice_get_read}
 
 pub loop-place-init : goal.loop-place-init
 loop-place-init c = none_at_first c.args.activities.now c.args.actor c.args.lock.now
@@ -11,7 +12,7 @@ is_against-requires c = boxes_there (length c.args.lock.now.area.lo) c.args.acti
 
 pub returns-then-is_against-clause-least : goal.returns-then-is_against-clause-least
 returns-then-is_against-clause-least c =
-    let there = read_there c.args.activities.now c.loop-place.place c.index-activities-place.result c.index-activities-place.is c.loop-place-test.true in
+    let there = slice_get_read c.args.activities.now (length c.args.activities.now) c.loop-place.place c.index-activities-place.result refl c.loop-place-test.true c.index-activities-place.is in
     let against = c.is_against.ensures.0 c.if-is_against.true in
     record {
       place = c.loop-place.place;
@@ -22,7 +23,7 @@ returns-then-is_against-clause-least c =
 
 pub loop-place-preserved : goal.loop-place-preserved
 loop-place-preserved c = none_and_this c.args.activities.now c.args.actor c.args.lock.now c.loop-place.place c.loop-place.invariant (λ against.
-    let there = read_there c.args.activities.now c.loop-place.place c.index-activities-place.result c.index-activities-place.is c.loop-place-test.true in
+    let there = slice_get_read c.args.activities.now (length c.args.activities.now) c.loop-place.place c.index-activities-place.result refl c.loop-place-test.true c.index-activities-place.is in
     let excluded = excludes_there c.args.activities.now c.args.actor c.args.lock.now c.loop-place.place c.index-activities-place.result there against in
     false≢true (sym c.if-is_against.false ∙ c.is_against.ensures.1 (against.another, excluded)))
 

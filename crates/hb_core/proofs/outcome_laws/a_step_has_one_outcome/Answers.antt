@@ -5,4 +5,4 @@ pub returns-clause-outcome : goal.returns-clause-outcome
 returns-clause-outcome c = outcome_is_one
 
 pub returns-clause-state : goal.returns-clause-state
-returns-clause-state c = state_is_one
+returns-clause-state c = state_is_one c.what_is_made_can_be_written.ensures.operations.commits

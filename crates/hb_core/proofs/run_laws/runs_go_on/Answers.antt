@@ -6,4 +6,5 @@ returns c = record {
   files = c.files_stay_sound.ensures;
   changes = c.steps_keep_all.ensures.steps;
   images = c.images_have_prefixes.ensures;
+  opens = c.bytes_open_by_parts.ensures;
 }

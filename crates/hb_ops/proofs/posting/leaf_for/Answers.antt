@@ -12,7 +12,7 @@ returns-in-None c = λ fits. c.in-None.ensures fits.outer fits.box fits.leaf
 pub returns-then-may_name : goal.returns-then-may_name
 returns-then-may_name c =
     let fits = c.may_name.ensures.0 c.if-may_name.true in
-    posts_at c.args.meta.now c.args.page.now c.args.at.now c.args.inner c.args.area.now c.in-Some.outer c.in-Some.leaf c.in-Some.ensures fits.made c.requires.attributes fits
+    posts_at c.args.meta.now c.args.page.now c.args.posting.at.now c.args.posting.inner c.args.posting.area.now c.in-Some.outer c.in-Some.leaf c.in-Some.ensures fits.made c.requires.attributes fits
 
 pub returns-else-may_name : goal.returns-else-may_name
 returns-else-may_name c = λ fits. false≢true (sym c.if-may_name.false ∙ c.may_name.ensures.1 fits)

@@ -1,6 +1,6 @@
 use Rattle.std.proofs.Common.{subst, arith}
 use Rattle.std.proofs.lemmas.Grind.{common_steps}
-use Rattle.hb_poster.proofs.ParentWeights.{heavy_parent}
+use Rattle.hb_poster.proofs.Facts.ParentWeights.{heavy_parent}
 use Rattle.hb_poster.proofs.posting.look_again.Goals as goal
 use Rattle.hb_terms.specs.Plans.{IsPlan}
 

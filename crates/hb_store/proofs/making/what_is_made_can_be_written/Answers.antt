@@ -1,6 +1,7 @@
 use Rattle.hb_store.proofs.Facts.MadePages.{fitting_parts, good_pages}
 use Rattle.hb_store.proofs.Facts.MadeMerges.{writable_pages}
 use Rattle.hb_store.proofs.Facts.Changed.{good_change, parts_fit}
+use Rattle.hb_store.proofs.Facts.StayingLaws.{Commits-there}
 use Rattle.hb_store.proofs.making.what_is_made_can_be_written.Goals as goal
 
 pub returns-clause-pages : goal.returns-clause-pages
@@ -13,8 +14,5 @@ returns-clause-writable c = writable_pages c.normal_says_the_same.ensures.same c
 pub returns-clause-parts : goal.returns-clause-parts
 returns-clause-parts c = fitting_parts c.leaves_part_the_box.ensures.areas c.parts_are_stretches.ensures.cuts
 
-pub returns-clause-changes : goal.returns-clause-changes
-returns-clause-changes c = good_change (returns-clause-pages c)
-
-pub returns-clause-fits : goal.returns-clause-fits
-returns-clause-fits c = parts_fit (returns-clause-parts c)
+pub returns-clause-operations : goal.returns-clause-operations
+returns-clause-operations c = record { changes = good_change (returns-clause-pages c); fits = parts_fit (returns-clause-parts c); commits = Commits-there }

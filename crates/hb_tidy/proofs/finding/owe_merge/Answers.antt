@@ -18,7 +18,7 @@ returns-then-may_merge-clause-added c =
     let fits = c.if-may_merge.ensures.0 refl in
     on_ok_weaker c.owe_job.result _ _
     (added_weaker c.args.meta.now.k (IsAtCorner Merge c.args.parent.now.page c.args.area.now)
-    (λ (job : Job). IsAtCorner Merge c.args.parent.now.page c.args.area.now job × FitsMerge c.args.meta.now c.args.parent.now.id c.args.keep.now.id c.args.gone c.args.parent.now.page c.args.keep.now.page c.args.going.now)
+    (λ (job : Job). IsAtCorner Merge c.args.parent.now.page c.args.area.now job × FitsMerge c.args.meta.now c.args.parent.now.id c.args.keep.now.id c.args.going.now.id c.args.parent.now.page c.args.keep.now.page c.args.going.now.page)
     c.args.jobs.now.items c.owe_job.new.jobs.items (λ job at. (at, fits))) c.owe_job.ensures.added
 
 pub returns-else-may_merge-clause-added : goal.returns-else-may_merge-clause-added

@@ -10,38 +10,38 @@ use Rattle.hb_tidy.proofs.finding.owe_posting.Goals as goal
 use Rattle.hb_tidy.proofs.finding.owe_posting.Goals.{else-meta-via-else-meta, else-meta-via-then-meta+in_ok-post_plan+else-is_split}
 
 pub post_plan-requires-clause-parent_held : goal.post_plan-requires-clause-parent_held
-post_plan-requires-clause-parent_held c = parent_holds c.args.meta.now c.args.parent.now c.requires.name c.args.area.now c.args.child.now c.args.point.now c.requires.stands c.requires.held
+post_plan-requires-clause-parent_held c = parent_holds c.args.leaf.now.meta.now c.args.leaf.now.parent.now c.requires.name c.args.leaf.now.area.now c.args.leaf.now.child.now c.args.point.now c.requires.stands c.requires.held
 
 pub post_plan-requires-clause-child_held : goal.post_plan-requires-clause-child_held
-post_plan-requires-clause-child_held c = child_holds c.args.meta.now c.args.parent.now c.requires.name c.args.area.now c.args.child.now c.args.point.now c.requires.stands c.requires.held
+post_plan-requires-clause-child_held c = child_holds c.args.leaf.now.meta.now c.args.leaf.now.parent.now c.requires.name c.args.leaf.now.area.now c.args.leaf.now.child.now c.args.point.now c.requires.stands c.requires.held
 
 pub post_plan-requires-clause-child_leaf : goal.post_plan-requires-clause-child_leaf
-post_plan-requires-clause-child_leaf c = child_there c.args.meta.now c.args.parent.now c.requires.name c.args.area.now c.args.child.now c.args.point.now c.requires.stands c.requires.held
+post_plan-requires-clause-child_leaf c = child_there c.args.leaf.now.meta.now c.args.leaf.now.parent.now c.requires.name c.args.leaf.now.area.now c.args.leaf.now.child.now c.args.point.now c.requires.stands c.requires.held
 
 pub returns : goal.returns
 returns c =
     let stands = c.requires.stands in
     let name = c.requires.name in
-    let room : (c.args.meta.now.live ≢ c.args.meta.now.pages) ⊎ (¬ (LacksRoom c.args.parent.now c.args.child.now c.args.point.now c.args.meta.now.icap)) = elim c.else-meta.branch [
+    let room : (c.args.leaf.now.meta.now.live ≢ c.args.leaf.now.meta.now.pages) ⊎ (¬ (LacksRoom c.args.leaf.now.parent.now c.args.leaf.now.child.now c.args.point.now c.args.leaf.now.meta.now.icap)) = elim c.else-meta.branch [
       | else-meta-via-else-meta w ↦ inl w.if-meta.false
       | else-meta-via-then-meta+in_ok-post_plan+else-is_split w ↦ inr (λ lacks.
-          let tells = split_lacks c.args.parent.now c.args.child.now c.args.point.now c.args.meta.now.icap w.in_ok-post_plan.field-0 w.is_split.result w.in_ok-post_plan.ensures.plan w.is_split.ensures in
+          let tells = split_lacks c.args.leaf.now.parent.now c.args.leaf.now.child.now c.args.point.now c.args.leaf.now.meta.now.icap w.in_ok-post_plan.field-0 w.is_split.result w.in_ok-post_plan.ensures.plan w.is_split.ensures in
           never_true (sym w.if-is_split.false ∙ tells.1 lacks))
     ] in
     record {
-      added = added_one c.args.meta.now.k _ _ _ _ c.in_ok-add_job.ensures.added
+      added = added_one c.args.leaf.now.meta.now.k _ _ _ _ c.in_ok-add_job.ensures.added
           (record {
-            level = above_records c.args.meta.now c.args.parent.now name c.args.area.now stands.above_made stands.leaf;
-            point = ap (λ (p : List ℕ). length p) c.copy.ensures ∙ c.requires.held.same ∙ leaf_attributes c.args.meta.now c.args.parent.now name c.args.area.now stands.above_made stands.leaf;
+            level = above_records c.args.leaf.now.meta.now c.args.leaf.now.parent.now name c.args.leaf.now.area.now stands.above_made stands.leaf;
+            point = ap (λ (p : List ℕ). length p) c.copy.ensures ∙ c.requires.held.same ∙ leaf_attributes c.args.leaf.now.meta.now c.args.leaf.now.parent.now name c.args.leaf.now.area.now stands.above_made stands.leaf;
           })
           (record {
             kind = refl;
             level = refl;
-            held = subst (λ (p : List ℕ). Holds c.args.area.now p) (sym c.copy.ensures) c.requires.held;
+            held = subst (λ (p : List ℕ). Holds c.args.leaf.now.area.now p) (sym c.copy.ensures) c.requires.held;
             inner = c.requires.inner;
             given = c.requires.given;
             inside = subst (λ (p : List ℕ). Holds c.requires.inner.1 p) (sym c.copy.ensures) c.requires.inside;
-            room = subst (λ (p : List ℕ). (c.args.meta.now.live ≢ c.args.meta.now.pages) ⊎ (¬ (LacksRoom c.args.parent.now c.args.child.now p c.args.meta.now.icap))) (sym c.copy.ensures) room;
+            room = subst (λ (p : List ℕ). (c.args.leaf.now.meta.now.live ≢ c.args.leaf.now.meta.now.pages) ⊎ (¬ (LacksRoom c.args.leaf.now.parent.now c.args.leaf.now.child.now p c.args.leaf.now.meta.now.icap))) (sym c.copy.ensures) room;
           });
       none = λ empty. absurd (some_added c.args.jobs.now.items c.add_job.new.jobs.items _ c.in_ok-add_job.ensures.added empty);
       full = tt;

@@ -4,8 +4,8 @@ use Rattle.hb_tidy.specs.Owed.{HasAdded, IsPosting}
 use Rattle.hb_tidy.proofs.finding.owe_postings.Given as goal
 
 -- where no job was made, none of the leaves so far meets the box
-abbrev pub invariant-loop-leaf : goal.invariant-loop-leaf
-invariant-loop-leaf l = record {
-  added : HasAdded l.meta.k (IsPosting l.meta l.parent l.child l.area) l.fn.jobs.items l.jobs.items;
-  none : l.jobs.items ≡ [] → (l.fn.jobs.items ≡ []) × All (λ (sibling : ℕ × Area). ¬ (Meets l.area sibling.1)) (take l.leaf-index l.given);
+abbrev pub invariant-loop-part : goal.invariant-loop-part
+invariant-loop-part l = record {
+  added : HasAdded l.leaf.meta.now.k (IsPosting l.leaf.meta.now l.leaf.parent.now l.leaf.child.now l.leaf.area.now) l.fn.jobs.items l.jobs.items;
+  none : l.jobs.items ≡ [] → (l.fn.jobs.items ≡ []) × All (λ (sibling : ℕ × Area). ¬ (Meets l.leaf.area.now sibling.1)) (take l.part-index l.given);
 }

@@ -12,6 +12,7 @@ use Rattle.hbpi.proofs.StepsTaken.{are_actors}
 use Rattle.hbpi.proofs.TextEnds.{RanText, text_core}
 use Rattle.hbpi.proofs.Turned.{turned}
 use Rattle.hbpi.specs.Driven.{by_schedule}
+use Rattle.hbpi.specs.Handing.{GivenBack, RunLeft}
 use Rattle.hbpi.specs.SeenRuns.{seen_by}
 use Rattle.hbpi.specs.declared.forms.Form.TheVariants.{Drive}
 use Rattle.hbpi.proofs.drive_file.drive_file.Goals as goal
@@ -31,16 +32,17 @@ returns-in-Ok g c =
     let before = g.S.Source.model c.args.source.now in
     let after = g.S.Source.model c.start.new.source in
     let started = c.in-Ok.ensures.has.started in
-    let facts : RanText M S exactly (core_disk c.in-Ok.core) (core_disk c.drive.result.core) c.finish.result.disk c.args.sink c.drive.result.sink c.finish.result.sink (core_seen c.in-Ok.core) (core_seen c.drive.result.core)
-    c.drive.result.end c.drive.result.answered.items c.finish.result.answered.items c.finish.result.order.items c.finish.result.status = record {
+    let left : RunLeft g.row.D.Denot g.row.K.Denot = record { end = c.drive.result.end; core = core_seen c.drive.result.core; disk = core_disk c.drive.result.core; sink = c.drive.result.sink; answered = c.drive.result.answered.items } in
+    let back : GivenBack g.row.D.Denot g.row.K.Denot = record { status = c.finish.result.status; disk = c.finish.result.disk; sink = c.finish.result.sink; answered = c.finish.result.answered.items; order = c.finish.result.order.items } in
+    let facts : RanText M S exactly (core_disk c.in-Ok.core) c.args.sink (core_seen c.in-Ok.core) left back = record {
       unbegun = c.drive.ensures.unbegun;
       drives = λ some m may. ((core_seen c.in-Ok.core).steps, c.drive.ensures.runs some m may, refl);
       later = c.drive.ensures.later;
       ended = c.finish.ensures;
     } in
-    let ran = text_core M S true exactly _ _ _ _ _ _ _ _ _ _ _ _ _ facts (M c.args.disk) before after in
+    let ran = text_core M S true exactly _ _ _ _ _ facts (M c.args.disk) before after in
     runs_form M (Some Drive) (seen_by before after (S c.args.sink) (S c.finish.result.sink) c.finish.result.answered.items c.finish.result.order.items) c.args.disk c.finish.result.disk c.finish.result.status
-    (core_ends M by_schedule _ _ _ _ _ _ _ _ _ _ ran c.knows_laws.ensures started) tt (core_beyond M by_schedule _ _ _ _ _ _ _ _ _ _ ran c.knows_laws.ensures started) (λ leaves. absurd leaves)
+    (core_ends M by_schedule _ _ _ _ _ _ _ ran c.knows_laws.ensures started) tt (core_beyond M by_schedule _ _ _ _ _ _ _ ran c.knows_laws.ensures started) (λ leaves. absurd leaves)
 
 pub returns-in-Err : goal.returns-in-Err
 returns-in-Err g c =

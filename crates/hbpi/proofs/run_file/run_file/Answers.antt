@@ -8,6 +8,7 @@ use Rattle.hbpi.proofs.TextEnds.{RanText, text_core}
 use Rattle.hbpi.proofs.Turned.{turned}
 use Rattle.hbpi.proofs.WorkedOff.{ran_off}
 use Rattle.hbpi.specs.Driven.{GoesOnForAll, by_threads}
+use Rattle.hbpi.specs.Handing.{GivenBack, RunLeft}
 use Rattle.hbpi.specs.SeenRuns.{seen_by}
 use Rattle.hbpi.specs.declared.forms.Form.TheVariants as forms
 use Rattle.hbpi.proofs.run_file.run_file.Goals as goal
@@ -19,16 +20,17 @@ returns-in-Ok g c =
     let before = g.S.Source.model c.args.source.now in
     let after = g.S.Source.model c.start.new.source in
     let started = c.in-Ok.ensures.has.started in
-    let facts : RanText M S GoesOnForAll (core_disk c.in-Ok.core) (core_disk c.run.result.core) c.finish.result.disk c.args.sink c.run.result.sink c.finish.result.sink (core_seen c.in-Ok.core) (core_seen c.run.result.core)
-    c.run.result.end c.run.result.answered.items c.finish.result.answered.items c.finish.result.order.items c.finish.result.status = record {
+    let left : RunLeft g.row.D.Denot g.row.K.Denot = record { end = c.run.result.end; core = core_seen c.run.result.core; disk = core_disk c.run.result.core; sink = c.run.result.sink; answered = c.run.result.answered.items } in
+    let back : GivenBack g.row.D.Denot g.row.K.Denot = record { status = c.finish.result.status; disk = c.finish.result.disk; sink = c.finish.result.sink; answered = c.finish.result.answered.items; order = c.finish.result.order.items } in
+    let facts : RanText M S GoesOnForAll (core_disk c.in-Ok.core) c.args.sink (core_seen c.in-Ok.core) left back = record {
       unbegun = c.run.ensures.unbegun;
       drives = λ some m may. ran_off (c.run.ensures.runs some m may);
       later = c.run.ensures.later;
       ended = c.finish.ensures;
     } in
-    let ran = text_core M S false GoesOnForAll _ _ _ _ _ _ _ _ _ _ _ _ _ facts (M c.args.disk) before after in
+    let ran = text_core M S false GoesOnForAll _ _ _ _ _ facts (M c.args.disk) before after in
     runs_form M (Some forms.Run) (seen_by before after (S c.args.sink) (S c.finish.result.sink) c.finish.result.answered.items c.finish.result.order.items) c.args.disk c.finish.result.disk c.finish.result.status
-    (core_ends M by_threads _ _ _ _ _ _ _ _ _ _ ran c.knows_laws.ensures started) tt (core_beyond M by_threads _ _ _ _ _ _ _ _ _ _ ran c.knows_laws.ensures started) (λ leaves. absurd leaves)
+    (core_ends M by_threads _ _ _ _ _ _ _ ran c.knows_laws.ensures started) tt (core_beyond M by_threads _ _ _ _ _ _ _ ran c.knows_laws.ensures started) (λ leaves. absurd leaves)
 
 pub returns-in-Err : goal.returns-in-Err
 returns-in-Err g c =

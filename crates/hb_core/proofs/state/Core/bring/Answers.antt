@@ -10,7 +10,6 @@ use Rattle.hb_core.specs.Moving.{with_order_of_use, with_store}
 use Rattle.hb_core.specs.CoreSeen.{core_seen}
 use Rattle.hb_core.specs.Working.{Halts, IsWorking}
 use Rattle.hb_core.specs.declared.halts.Halt.{Halt}
-use Rattle.hb_store.proofs.Facts.PageOnlyLaws.{KeepsAllButPages-same}
 use Rattle.hb_core.proofs.Running.Coming.{failed_test, looks_as, looks_kept, may_be_pinned, may_let_go, none_where, not_crowded, passed, refused}
 use Rattle.hb_core.proofs.Running.StandsElsewhere.{stands_as}
 use Rattle.hb_core.proofs.state.Core.bring.Goals as goal
@@ -86,4 +85,4 @@ returns-in-Err-tested-clause-brings g c = record {
 }
 
 pub returns-in-Err-clause-brings : goal.returns-in-Err-clause-brings
-returns-in-Err-clause-brings g c = record { pages = KeepsAllButPages-same (seen_as c.args.self.now.store) (seen_as c.fetch.new.self) c.in-Err.ensures.kept.0; rest = refl }
+returns-in-Err-clause-brings g c = record { pages = subst (KeepsAllButPages (seen_as c.args.self.now.store)) (sym c.in-Err.ensures.kept.0) refl; rest = refl }

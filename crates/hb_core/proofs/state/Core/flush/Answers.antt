@@ -68,7 +68,7 @@ returns-in-Ok-Nothing g c =
           flush_idled g.D.Device.model (core_disk c.args.self.now) c.flush_step.new.self.disk (core_seen c.args.self.now) m c.args.due (seen_as c.flush_step.new.self) (uses_of c.flush_step.new.self) step
           c.in-Ok-Nothing.field-0 which flushes;
       touches = flush_idled_then g.D.Device.model (core_disk c.args.self.now) c.flush_step.new.self.disk (core_seen c.args.self.now) (seen_as c.flush_step.new.self) (uses_of c.flush_step.new.self)
-          (home_none (g.D.Device.model (core_disk c.args.self.now)) (g.D.Device.model c.flush_step.new.self.disk) (held_by c.args.self.now.store) (held_by c.flush_step.new.self) (Ok c.in-Ok-Nothing.field-0) (which.1, which.2) flushes).0;
+          (home_none (g.D.Device.model (core_disk c.args.self.now)) (g.D.Device.model c.flush_step.new.self.disk) (held_by c.args.self.now.store) (held_by c.flush_step.new.self) (Ok c.in-Ok-Nothing.field-0) (which.1, which.2) flushes).0.only;
       counts = flushed_counts (g.D.Device.model (core_disk c.args.self.now)) (g.D.Device.model c.flush_step.new.self.disk) (core_seen c.args.self.now) (with_held (seen_as c.flush_step.new.self) (uses_of c.flush_step.new.self) (core_seen c.args.self.now)) c.requires.may.0 c.args.due outcomes.Idle c.requires.may.1
           (flush_idled g.D.Device.model (core_disk c.args.self.now) c.flush_step.new.self.disk (core_seen c.args.self.now) c.requires.may.0 c.args.due (seen_as c.flush_step.new.self) (uses_of c.flush_step.new.self) c.requires.may.1
           c.in-Ok-Nothing.field-0 which flushes) refl refl;

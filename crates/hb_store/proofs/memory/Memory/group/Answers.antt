@@ -20,7 +20,7 @@ group_for-requires-clause-parts c =
     let st = c.args.self.now.state in
     let op = c.args.op.now in
     let is : IsMemory st = subst (λ (h : StoreHeld). IsMemory h.state) c.self.view_is c.self.invariant.memory in
-    c.what_is_made_can_be_written.ensures.fits (record { meta = st.meta; page = in_memory st }) op (limits_of st.turn st.meta is.stands) is.good c.requires.allowed
+    c.what_is_made_can_be_written.ensures.operations.fits (record { meta = st.meta; page = in_memory st }) op (limits_of st.turn st.meta is.stands) is.good c.requires.allowed
 
 pub returns-clause-bytes : goal.returns-clause-bytes
 returns-clause-bytes c =

@@ -17,7 +17,8 @@ use Rattle.hb_layout.specs.declared.meta.Meta.{Meta}
 use Rattle.hb_ops.specs.Sound.{FitsFile}
 use Rattle.hb_activity.specs.Passing.{LeadsBelow}
 use Rattle.hb_activity.specs.declared.jobs.Job.{Job}
-use Rattle.hb_poster.proofs.LeavesAtPoints.{kind_there, of_first}
+use Rattle.hb_activity.proofs.Facts.AllowedDeeds.{kind_at}
+use Rattle.hb_ops.proofs.Facts.Opened.{first_has}
 use Rattle.hb_space.specs.Boxes.{Area, common_area, side_below, side_from}
 use Rattle.hb_terms.proofs.Facts.Owing.{one_plan}
 use Rattle.hb_ops.specs.Owing.{LacksRoom}
@@ -27,7 +28,7 @@ use Rattle.hb_poster.specs.Asks.{PlansPosting}
 -- It is an index page, and weighs at most what such a page may.
 pub light_parent : (meta : Meta) (job : Job) (over : LivePage) → FitsFile meta over → LeadsBelow over job → weight_of over.frag ≤ meta.icap
 light_parent meta job over made leads =
-    let above = kind_there over job.point (record { leaf = Child leads.0; area = leads.1 }) made.filled.kinds leads.2 in
+    let above = kind_at meta over job.point (record { leaf = Child leads.0; area = leads.1 }) made leads.2 in
     subst (λ (b : Bool). weight_of over.frag ≤ cond b meta.dcap meta.icap) (ne_eqb over.level 0 (λ bottom. omega (arith, above, bottom))) made.filled.light
 
 -- the way to a point leads to a part
@@ -42,7 +43,7 @@ way_ends_somewhere p (Cut axis value left right) area = elim (nat_lt (slice_inde
 pub heavy_parent : (meta : Meta) (over child : LivePage) (p : List ℕ) → IsLayout meta → FitsFile meta over → LacksRoom over child p meta.icap → 6 ≤ weight_of over.frag
 heavy_parent meta over child p layout made lacks =
     let c = carved lacks.leaf lacks.area lacks.outer lacks.inner in
-    let attributes : length lacks.leaf.lo ≡ length over.area.lo = of_first (λ (l : Placed). length l.area.lo ≡ length over.area.lo) p (leaves_of over.frag over.area) _ (tiles_attributes over.frag over.area) lacks.owed.above in
+    let attributes : length lacks.leaf.lo ≡ length over.area.lo = first_has (λ (l : Placed). length l.area.lo ≡ length over.area.lo) p (leaves_of over.frag over.area) _ lacks.owed.above (tiles_attributes over.frag over.area) in
     let few = carved_light lacks.leaf (common_area lacks.leaf lacks.area) lacks.outer lacks.inner (length lacks.leaf.lo) 0 in
     let ends = way_ends_somewhere p over.frag over.area in
     let whole = part_weighs (way_to p over.frag) over.frag over.area ends.0 c ends.1 in

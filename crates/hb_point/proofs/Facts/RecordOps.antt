@@ -1,0 +1,27 @@
+-- When a put and a delete are allowed on a page that keeps the rules of a page alone.
+use Rattle.std.proofs.Common.{ℕ, ◌≤◌, List}
+use Rattle.hb_activity.proofs.Facts.AllowedDeeds.{kind_at}
+use Rattle.hb_frag.specs.Leaves.{weight_of}
+use Rattle.hb_frag.specs.declared.leaves.Leaf.TheVariants.{Records}
+use Rattle.hb_frag.specs.declared.pages.LivePage.{LivePage}
+use Rattle.hb_layout.specs.declared.meta.Meta.{Meta}
+use Rattle.hb_ops.specs.Recording.{FitsDel, FitsPut, put_page}
+use Rattle.hb_ops.specs.Sound.{FitsFile}
+use Rattle.hb_ops.specs.Standing.{StandsNot, StandsThere}
+use Rattle.hb_point.proofs.Facts.RecordLeaves.{any_at}
+use Rattle.hb_space.specs.declared.records.Record.{Record}
+
+pub put_fits : (meta : Meta) (page : LivePage) (rec : Record) → FitsFile meta page → StandsNot page rec.key → weight_of (put_page rec page).frag ≤ meta.dcap → FitsPut meta page rec
+put_fits meta page rec made absent room = record {
+  made = made;
+  level = kind_at meta page rec.key (record { leaf = Records absent.records; area = absent.area }) made absent.leaf;
+  absent = record { records = absent.records; area = absent.area; leaf = absent.leaf; keeps = absent.lack };
+  room = room;
+}
+
+pub del_fits : (meta : Meta) (page : LivePage) (p : List ℕ) (r : Record) → FitsFile meta page → StandsThere page p r → FitsDel meta page p
+del_fits meta page p r made there = record {
+  made = made;
+  level = kind_at meta page p (record { leaf = Records there.records; area = there.area }) made there.leaf;
+  there = record { records = there.records; area = there.area; leaf = there.leaf; keeps = any_at there.records there.place r p there.among there.key };
+}
