@@ -24,7 +24,7 @@ use Rattle.hb_log_codec.specs.declared.groups.Group.{Group}
 use Rattle.hb_log_codec.specs.declared.reading.GroupStop.{GroupStop}
 use Rattle.hb_log_codec.specs.declared.reading.GroupStop.TheVariants as stops
 use Rattle.std.proofs.lemmas.Option.{same_Some}
-use Rattle.hb_lemmas.proofs.Lists.{same_fronts}
+use Rattle.hb_lemmas.proofs.Lists.{same_fronts, same_first}
 use Rattle.hb_page_codec.proofs.Facts.PageLaws.{SpelledOnce}
 
 pub halves : (n : ℕ) (bytes front back : List ℕ) → front ≡ take n bytes → back ≡ drop n bytes → bytes ≡ front ++ back
@@ -128,13 +128,10 @@ module _ (f : ExactFields) (once : SpelledOnce) where
       → Begins (FitsGroup k) group_bytes bytes g after → (images ≡ g.images) × (rest ≡ op_bytes g.op ++ after)
   group_parts k count bytes behind images rest g after e so_far b =
       let whole : count ∷ behind ≡ group_bytes g ++ after = sym e ∙ b.parts in
-      let many : count ≡ length g.images = first_byte count (length g.images) _ _ whole in
+      let many : count ≡ length g.images = same_first count (length g.images) _ _ whole in
       let tails : page_images_bytes images ++ rest ≡ page_images_bytes g.images ++ (op_bytes g.op ++ after) =
       sym so_far.parts ∙ ap (λ (l : List ℕ). drop 1 l) whole ∙ append_assoc (page_images_bytes g.images) (op_bytes g.op) after in
       same_page_images f once images g.images rest (op_bytes g.op ++ after) so_far.fits.each b.fits.images (so_far.fits.many ∙ many) tails
-    where
-      first_byte : (a b : ℕ) (xs ys : List ℕ) → a ∷ xs ≡ b ∷ ys → a ≡ b
-      first_byte a b xs ys h = cc
 
   pub group_not_distinct : (k count : ℕ) (bytes behind : List ℕ) (images : List (ℕ × Page)) (rest : List ℕ) → bytes ≡ count ∷ behind → Begins (FitPageImages count) page_images_bytes behind images rest
       → (AllPairs (λ i j. i.0 ≢ j.0) images → ⊥) → BeginsNone (FitsGroup k) group_bytes bytes

@@ -103,6 +103,3 @@ pub not_of_sink : (stop : FetchStop) → map_stop_of stop ≡ stops.SinkFault �
 not_of_sink (fetches.Damaged page why) is = cc (is)
 not_of_sink fetches.ReadFault is = cc (is)
 not_of_sink fetches.Crowded is = cc (is)
-
-pub ok_no_err : {T E : Type 0} (x : T) (e : E) → ◌≡◌ {A = Result T E} (Ok x) (Err e) → ⊥
-ok_no_err x e is = cc (is)

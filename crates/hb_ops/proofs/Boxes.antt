@@ -2,16 +2,11 @@
 use Rattle.std.proofs.Common.{◌≡◌, ℕ, zero, suc, ◌<◌, ◌≤◌, true, false, List, [], ◌∷◌, length, get_or, EachIndex, IsTrue, refl, ap, arith, inl, inr}
 use Rattle.std.proofs.lemmas.Bool.{cases_eq, cases_lt, false≢true}
 use Rattle.std.proofs.lemmas.Bool.Decides.{nat_tests}
-use Rattle.std.proofs.lemmas.List.{length-set, get_or-set_other}
+use Rattle.std.proofs.lemmas.List.{length-set, get_or-set_other, get_or_past}
 use Rattle.std.proofs.lemmas.Grind.{get_or-set_at}
 use Rattle.hb_frag.proofs.Facts.OrderedLeaves.{held_below}
 use Rattle.hb_space.proofs.Facts.Boxes.{as_long}
 use Rattle.hb_space.specs.Boxes.{Area, Cuts, Holds, holds, is_between, side_below, side_from}
-
-past : (xs : List ℕ) (i : ℕ) → length xs ≤ i → get_or xs i 0 ≡ 0
-past [] i h = refl
-past (x ∷ xs) zero h = absurd (omega arith)
-past (x ∷ xs) (suc i) h = past xs i (omega arith)
 
 -- a point that passes the test lies in the box
 between : (lo hi p : List ℕ) → IsTrue (is_between lo hi p) → EachIndex p (λ i. (get_or lo i 0 ≤ get_or p i 0) × (get_or p i 0 ≤ get_or hi i 0))
@@ -35,7 +30,7 @@ not_held a p out = elim (holds a p) as (λ b. holds a p ≡ b → holds a p ≡ 
 in_hi : (a : Area) (axis value : ℕ) → Cuts a axis value → axis < length a.hi
 in_hi a axis value cuts = elim (cases_lt axis (length a.hi)) [
   | inl lt ↦ lt
-  | inr ge ↦ absurd (omega (arith, past a.hi axis ge, cuts.above_least, cuts.up_to_greatest))
+  | inr ge ↦ absurd (omega (arith, get_or_past a.hi axis 0 ge, cuts.above_least, cuts.up_to_greatest))
 ]
 
 -- what a side holds lies in the box, on that side

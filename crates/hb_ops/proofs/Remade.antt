@@ -16,11 +16,12 @@ use Rattle.hb_frag.specs.declared.pages.LivePage.{LivePage}
 use Rattle.hb_frag.specs.Trees.{Tree, Tip, Cut}
 use Rattle.hb_frag.specs.Leaves.{IsWellCut, Placed, WellCut, leaf_at, leaves, leaves_of, siblings, weight_of, with_leaf_at}
 use Rattle.hb_frag.specs.Rules.{AreAlike, BelongsAt, IsInOrder, IsNormal, IsSiblingTip, Precedes, capacity_of}
+use Rattle.hb_frag.proofs.Facts.NamesListed.{siblings-append}
 use Rattle.hb_layout.specs.declared.meta.Meta.{Meta}
 use Rattle.hb_ops.specs.Sound.{FitsFile}
 use Rattle.hb_ops.specs.Recording.{FitsDel, FitsPut, del_page, joined, on_records, page_with, put_page, without}
 use Rattle.hb_ops.proofs.Boxes.{held}
-use Rattle.hb_lemmas.proofs.Lists.{All-parts}
+use Rattle.hb_lemmas.proofs.Lists.{All-parts, only_one}
 use Rattle.hb_ops.proofs.Facts.Opened.{weight_changed}
 use Rattle.hb_ops.proofs.Facts.Tips.{parted}
 use Rattle.hb_ops.proofs.Facts.PlacedLaws.{placed}
@@ -38,14 +39,6 @@ module _ (p : List ℕ) (change : List Record → List Record) where
   cut_again (Cut axis value left right) area h = (h.0, cut_again left (side_below area axis value) h.1, cut_again right (side_from area axis value) h.2)
 
   -- its sibling leaves are those of before
-  siblings-append : (xs ys : List Placed) → siblings (xs ++ ys) ≡ siblings xs ++ siblings ys
-  siblings-append [] ys = refl
-  siblings-append (x ∷ xs) ys = elim x.leaf as (λ l. siblings (record { leaf = l; area = x.area } ∷ (xs ++ ys)) ≡ siblings (record { leaf = l; area = x.area } ∷ xs) ++ siblings ys) [
-    | Records records ↦ siblings-append xs ys
-    | Child page ↦ siblings-append xs ys
-    | Sibling page ↦ ap (λ (rest : List (ℕ × Area)). (page, x.area) ∷ rest) (siblings-append xs ys)
-  ]
-
   sibling_again : (b : Bool) (leaf : Leaf) (area : Area) → siblings (record { leaf = cond b (on_records change leaf) leaf; area = area } ∷ []) ≡ siblings (record { leaf = leaf; area = area } ∷ [])
   sibling_again false leaf area = refl
   sibling_again true (Records records) area = refl
@@ -63,14 +56,10 @@ module _ (p : List ℕ) (change : List Record → List Record) where
       ∙ sym (siblings-append (leaves_of left below) (leaves_of right from))
 
   -- and each of its child leaves is one of before
-  alone : (x y : Placed) → Contains (x ∷ []) y → x ≡ y
-  alone x y (zero, lt, e) = e
-  alone x y (suc k, lt, e) = absurd (omega arith)
-
   child_again : (b : Bool) (leaf : Leaf) (area : Area) (name : ℕ) (a : Area) → Contains (placed (cond b (on_records change leaf) leaf) area ∷ []) (placed (Child name) a) → Contains (placed leaf area ∷ []) (placed (Child name) a)
   child_again false leaf area name a h = h
   child_again true (Records records) area name a h =
-      let kinds : Records (change records) ≡ Child name = ap (λ (x : Placed). x.leaf) (alone (placed (Records (change records)) area) (placed (Child name) a) h) in
+      let kinds : Records (change records) ≡ Child name = ap (λ (x : Placed). x.leaf) (only_one (placed (Records (change records)) area) (placed (Child name) a) h) in
       absurd (let no : ⊥ = cc in no)
   child_again true (Child page) area name a h = h
   child_again true (Sibling page) area name a h = h

@@ -1,9 +1,9 @@
 -- What an audit's answer says of the bytes of a file that is opened.
-use Rattle.std.proofs.Common.{◌≡◌, inl, inr, ℕ, zero, suc, ◌+◌, ◌-◌, ◌*◌, ◌<◌, ◌≤◌, ◌^◌, List, [], ◌∷◌, length, take, drop, get_or, slice_get, All, Option, Some, None, IfSome, IfErr, Result, Ok, Err, refl, sym, ap, subst, ◌∙◌, arith, length-take}
+use Rattle.std.proofs.Common.{◌≡◌, inl, inr, ℕ, zero, suc, ◌+◌, ◌-◌, ◌*◌, ◌<◌, ◌≤◌, ◌^◌, List, length, take, drop, slice_get, All, Option, Some, None, IfSome, IfErr, Result, Ok, Err, refl, sym, ap, subst, ◌∙◌, arith, length-take}
 use Rattle.std.specs.Ordering.{nat_cmp}
 use Rattle.std.specs.BTreeMap.{BTreeMap, get}
 use Rattle.std.proofs.lemmas.Bool.{cases_lt}
-use Rattle.std.proofs.lemmas.List.{get_or-drop}
+use Rattle.std.proofs.lemmas.List.{get_or-drop, get_or_past}
 use Rattle.std.proofs.lemmas.List.Elements.{All-get_or}
 use Rattle.hb_outside.specs.Calls.{Counts}
 use Rattle.hb_disk.specs.Model.{DiskModel, Stays}
@@ -42,13 +42,8 @@ place_is_bytes said id b are = AreBytes-take 4096 (drop (8192 + 2 * said.log + 4
 pub disk_bytes : (b : List ℕ) → All (λ x. x < 2 ^ 8) b → AreBytes b
 disk_bytes b all i = elim (cases_lt i (length b)) [
   | inl less ↦ (let here = All-get_or (λ x. x < 2 ^ 8) b i 0 less all in omega (arith, here))
-  | inr most ↦ (let e = beyond b i most in omega (arith, e))
+  | inr most ↦ (let e = get_or_past b i 0 most in omega (arith, e))
 ]
-  where
-    beyond : (b : List ℕ) (i : ℕ) → length b ≤ i → get_or b i 0 ≡ 0
-    beyond [] i most = refl
-    beyond (x ∷ b) zero most = absurd (omega (arith, most))
-    beyond (x ∷ b) (suc i) most = beyond b i (omega (arith, most))
 
 module _ (exact : PagesAreExact) (b : List ℕ) (are : AreBytes b) (said meta : Meta) (same : IsSameLayout said meta) (touched : ℕ → Option Page) (t : Replayed) (meta_is : meta ≡ t.meta)
     (touched_is : (id : ℕ) → touched id ≡ t.page id) where

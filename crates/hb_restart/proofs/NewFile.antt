@@ -14,6 +14,7 @@ use Rattle.hb_frag.specs.Trees.{Tip}
 use Rattle.std.proofs.lemmas.Bool.{and_parts, leb-true}
 use Rattle.hb_frag.specs.declared.pages.LivePage.{LivePage}
 use Rattle.hb_frag.specs.Rules.{BelongsAt, IsInOrder}
+use Rattle.hb_frag.proofs.Facts.Kinds.{same_live}
 use Rattle.hb_layout.specs.Limits.{IsLayout}
 use Rattle.hb_ops.specs.Sound.{FitsFile, SiblingsMatch, ChildrenMatch, IsCovered, IsSound}
 use Rattle.hb_ops.specs.Files.{live_page}
@@ -24,7 +25,7 @@ use Rattle.hb_restart.specs.declared.faults.BadField.{BadField}
 use Rattle.hb_restart.specs.declared.faults.Field.{Field}
 use Rattle.hb_restart.specs.declared.layout.Layout.{Layout}
 use Rattle.hb_restart.proofs.NoChild.{no_child}
-use Rattle.hb_restart.proofs.Facts.LoneLaws.{live_alone, live_is, to_rooted, to_counted}
+use Rattle.hb_restart.proofs.Facts.LoneLaws.{live_alone, to_rooted, to_counted}
 
 replicate_point : (k x : ℕ) → 0 < k → k ≤ KMAX → x < 2 ^ 64 → IsPoint (replicate k x)
 replicate_point k x some few fits = record {
@@ -136,7 +137,7 @@ module _ (l : Layout) where
   new_live = record { level = 0; area = whole_area l.k; frag = Tip (Records []) }
 
   is_new : (id : ℕ) (page : LivePage) → live_page (new_file l) id ≡ Some page → new_live ≡ page
-  is_new id page e = live_is new_live page (live_alone (new_meta l) (Live new_live) id page e).1
+  is_new id page e = same_live new_live page (live_alone (new_meta l) (Live new_live) id page e).1
 
   new_siblings : SiblingsMatch (new_file l)
   new_siblings id page name area is h =

@@ -16,7 +16,7 @@ use Rattle.hb_ops.specs.Sound.{FitsFile, count_live, count_name, times_named}
 use Rattle.hb_sound.proofs.Extractions.{Extraction, FitsPart, LicensesExtraction, fresh_page, source_page}
 use Rattle.hb_ops.specs.Allocating.{Allocates, allocated}
 use Rattle.hb_sound.proofs.CutNames.{once}
-use Rattle.hb_sound.proofs.PageLists.{HasInstead, none_behind, put_behind, put_instead}
+use Rattle.hb_ops.proofs.Facts.PageLists.{HasInstead, none_behind, put_behind, put_instead}
 use Rattle.hb_ops.proofs.Facts.PageNumberLaws.{live_so}
 use Rattle.hb_sound.proofs.Facts.PagesParted.{fresh_narrower, names_parted, stems_child, stems_sibling}
 use Rattle.hb_ops.proofs.Facts.PartedPageLaws.{fresh_made, source_made}

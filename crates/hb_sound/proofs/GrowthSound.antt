@@ -17,7 +17,7 @@ use Rattle.hb_ops.specs.Allocating.{new_root}
 use Rattle.hb_sound.proofs.Facts.ExampleParts.{no_records}
 use Rattle.std.proofs.lemmas.List.Elements.{All-from_recursion}
 use Rattle.hb_sound.proofs.FileGrown.{IsGrown, comes_from, is_grown, stays_live}
-use Rattle.hb_sound.proofs.PageLists.{live_few}
+use Rattle.hb_ops.proofs.Facts.PageLists.{live_few}
 use Rattle.hb_ops.proofs.Facts.PlacedLaws.{placed}
 use Rattle.hb_sound.proofs.SplitChains.{head_there}
 use Rattle.hb_sound.proofs.SplitSound.{named_none}

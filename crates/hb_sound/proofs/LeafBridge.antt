@@ -14,11 +14,11 @@ use Rattle.hb_frag.specs.Trees.{Tree, Tip, Cut}
 use Rattle.hb_layout.specs.declared.meta.Meta.{Meta}
 use Rattle.hb_ops.proofs.Facts.KnownBoxes.{known_within}
 use Rattle.hb_ops.specs.Files.{FileState, live_page}
-use Rattle.hb_ops.specs.Sound.{ChildrenMatch, SiblingsMatch}
+use Rattle.hb_ops.specs.Sound.{ChildrenMatch, SiblingsMatch, HasBelow, HasSame}
 use Rattle.hb_sound.specs.declared.page_facts.Seen.{Seen}
 use Rattle.hb_sound.specs.declared.page_facts.Fact.{Fact}
 use Rattle.hb_sound.specs.declared.page_facts.Fact.TheVariants.{Live}
-use Rattle.hb_sound.specs.Names.{HasBelow, HasSame, MissesChild, MissesSibling, KeepsLocally}
+use Rattle.hb_sound.specs.Names.{MissesChild, MissesSibling, KeepsLocally}
 use Rattle.hb_sound.specs.Facts.{AreFactsOf, FindsBelow, FindsSame, SeesBelow, SeesSame, seen_at}
 use Rattle.hb_sound.specs.Links.{IsFirstUpTo, LosesChild, LosesSibling}
 use Rattle.hb_sound.specs.Told.{item_at, file_with}

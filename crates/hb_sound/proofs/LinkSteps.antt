@@ -1,6 +1,7 @@
 -- What the leaves of the pages name, page by page.
 use Rattle.std.proofs.Common.{◌≡◌, inl, inr, ℕ, ◌+◌, ◌<◌, List, [], ◌∷◌, ◌++◌, length, take, Option, Some, None, option_map, IfSome, slice_get, refl, sym, ap, ◌∙◌, subst, arith}
 use Rattle.std.proofs.lemmas.Bool.{cases_lt}
+use Rattle.hb_lemmas.proofs.Lists.{place_within}
 use Rattle.hb_space.specs.Boxes.{Area, side_below, side_from}
 use Rattle.hb_frag.specs.declared.leaves.Leaf.TheVariants.{Records, Child, Sibling}
 use Rattle.hb_frag.specs.declared.pages.LivePage.{LivePage}
@@ -24,7 +25,6 @@ use Rattle.hb_sound.proofs.Bridge.{page_item}
 use Rattle.hb_sound.proofs.Counts.{more_more, names_append}
 use Rattle.hb_sound.proofs.Firsts.{item_behind}
 use Rattle.hb_sound.proofs.ReadUp.{take_more}
-use Rattle.hb_sound.proofs.ToldPages.{slice_get_inside}
 use Rattle.hb_frag.proofs.Facts.NamesListed.{siblings-append}
 
 -- the first bad one after one more
@@ -136,7 +136,7 @@ by_page facts list n (pages.Free next) old new at links same =
 
 page_there : (facts : List Fact) (list : List Page) (n : ℕ) → length list ≡ length facts → n < length facts → (page : Page) × (page_at list (n + 1) ≡ Some page)
 page_there facts list n same lt =
-    let found = slice_get_inside list n (omega (arith, same, lt)) in
+    let found = place_within list n (omega (arith, same, lt)) in
     (found.0, page_item list (n + 1) ∙ item_behind list n ∙ found.1)
 
 -- one more page, where it is told

@@ -1,6 +1,7 @@
 -- The loose pages, found by a loop.
 use Rattle.std.proofs.Common.{◌≡◌, inr, ℕ, ◌+◌, ◌<◌, ◌≤◌, List, length, Option, Some, None, MatchOption, get_or, refl, sym, ap, ◌∙◌, subst, arith}
 use Rattle.std.proofs.lemmas.Option.{slice_get-get_or, slice_get_read}
+use Rattle.hb_lemmas.proofs.Lists.{place_within}
 use Rattle.hb_space.specs.Boxes.{Area, whole_area}
 use Rattle.hb_layout.specs.declared.meta.Meta.{Meta}
 use Rattle.hb_sound.specs.declared.page_facts.Fact.{Fact}
@@ -13,7 +14,6 @@ use Rattle.hb_sound.specs.Told.{item_at}
 use Rattle.hb_sound.specs.Walks.{IsLeast}
 use Rattle.hb_sound.proofs.Firsts.{found, item_behind, item_within, not_yet}
 use Rattle.hb_sound.proofs.Levels.{seen_fact}
-use Rattle.hb_sound.proofs.ToldPages.{slice_get_inside}
 
 pub loose_item : (facts : List Fact) (place : ℕ) (fact : Fact) → place < length facts → fact ≡ get_or facts place fact → item_at facts (place + 1) ≡ Some fact
 loose_item facts place fact within is = item_behind facts place ∙ slice_get_read facts (length facts) place fact refl within is
@@ -53,7 +53,7 @@ none_lacks : (facts : List Fact) (height : ℕ) (whole : Area) (firsts : List �
 none_lacks facts height whole firsts are lacks =
     let lt = lacks.1 in
     let long = are.0 in
-    let first = slice_get_inside firsts lacks.0 (omega (arith, lt, long)) in
+    let first = place_within firsts lacks.0 (omega (arith, lt, long)) in
     let least = are.1 lacks.0 first.0 first.1 in
     lacks.2 first.0 least.here
 

@@ -16,12 +16,11 @@ use Rattle.hb_ops.specs.LawsOfContents.{IsWellIn}
 use Rattle.hb_ops.specs.Merging.{released}
 use Rattle.hb_ops.specs.Operations.{effect_of}
 use Rattle.hb_ops.specs.Settled.{HasChild}
-use Rattle.hb_ops.specs.Sound.{AreWellMade, ChildrenMatch, FitsFile, IsSound}
+use Rattle.hb_ops.specs.Sound.{AreWellMade, ChildrenMatch, FitsFile, IsSound, HasBelow}
 use Rattle.hb_ops.proofs.Facts.PlacedLaws.{placed, sibling_is_leaf}
 use Rattle.hb_sound.specs.Laws.{SpaceLaws, TreeLaws}
 use Rattle.hb_sound.specs.LawsOfMerges.{MergesKeepSound}
 use Rattle.hb_sound.specs.LawsOfOperations.{MayBeDone}
-use Rattle.hb_sound.specs.Names.{HasBelow}
 use Rattle.hb_sound.proofs.MergedFile.{OtherPage, above_now, after as merged_file, comes_from, counted_again, covered_again, found, kept_now, named_gone, rooted_again, same_level, siblings_match, stays_live}
 use Rattle.hb_sound.proofs.MergedLeaves.{MergeLaws, NamesChild, child_from, kept_so, parent_child_from}
 use Rattle.hb_sound.proofs.Facts.MergedPages.{is_joined, joins, merged_so, Joins}

@@ -16,14 +16,13 @@ use Rattle.hb_ops.specs.declared.operations.Op.TheVariants.{Post}
 use Rattle.hb_ops.specs.Files.{FileState, contents_of, file_records, live_page, page_of, page_records}
 use Rattle.hb_ops.specs.Operations.{IsAllowedOn, change_of, effect_of, with_page, with_changed_pages}
 use Rattle.hb_ops.specs.Posting.{FitsPost, GaveAway, IsChildAt, post_page}
-use Rattle.hb_ops.specs.Sound.{IsSound}
+use Rattle.hb_ops.specs.Sound.{IsSound, HasBelow}
 use Rattle.hb_sound.specs.Laws.{SpaceLaws, TreeLaws}
-use Rattle.hb_sound.specs.Names.{HasBelow}
 use Rattle.hb_sound.specs.LawsOfOperations.{MayBeDone}
 use Rattle.hb_sound.specs.LawsOfPostings.{ChangesParent, NamesAt, PostingsChangeParent, PostingsKeepContents, PostingsKeepDirect, PostingsKeepSound, PostingsName}
 use Rattle.hb_sound.specs.PointWalks.{HasOn}
 use Rattle.hb_sound.proofs.GrowthKept.{contents_from, records-set}
-use Rattle.hb_sound.proofs.OneChanged.{IsLike, after as changed, new_live, others_stay, pair_of_new, pair_of_old, sound_again}
+use Rattle.hb_ops.proofs.Facts.OneChanged.{IsLike, after as changed, new_live, others_stay, pair_of_new, pair_of_old, sound_again}
 use Rattle.hb_sound.proofs.Facts.OneLevel.{same_page}
 use Rattle.hb_ops.proofs.Facts.PageNumberLaws.{in_range, live_so, place_of, with_page-there}
 use Rattle.hb_sound.proofs.Partition.{pages_have_boxes}

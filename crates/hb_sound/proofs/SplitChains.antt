@@ -10,7 +10,7 @@ use Rattle.hb_ops.specs.Sound.{IsChain, IsCounted, IsRooted, count_live}
 use Rattle.hb_sound.proofs.Extractions.{Extraction, LicensesExtraction}
 use Rattle.hb_ops.specs.Allocating.{Allocates, allocated}
 use Rattle.hb_sound.proofs.FileParted.{ArePartsOf, IsParted}
-use Rattle.hb_sound.proofs.PageLists.{live_few}
+use Rattle.hb_ops.proofs.Facts.PageLists.{live_few}
 use Rattle.hb_ops.proofs.Facts.PageNumberLaws.{in_range, live_so, place_of}
 use Rattle.std.proofs.lemmas.Option.{same_Some}
 

@@ -1,10 +1,11 @@
 -- Boxes, paths and cuts inside a page: a well-cut tree of leaves in their places has its place, and what leads into a
 -- light page is short.
-use Rattle.std.proofs.Common.{◌≡◌, ℕ, ◌+◌, ◌<◌, ◌≤◌, ◌^◌, max, not, Bool, true, false, cond, List, [], ◌∷◌, length, All, Some, refl, sym, ap, subst, ◌∙◌, arith}
+use Rattle.std.proofs.Common.{◌≡◌, ℕ, ◌+◌, ◌<◌, ◌≤◌, ◌^◌, max, List, [], ◌∷◌, length, All, Some, sym, ap, subst, ◌∙◌, arith}
 use Rattle.std.specs.Prelude.{slice_index}
 use Rattle.std.specs.List.{filter}
 use Rattle.std.proofs.lemmas.List.{length-set}
 use Rattle.std.proofs.lemmas.List.Elements.{All-cons, All-head, All-nil, All-tail}
+use Rattle.std.proofs.lemmas.Option.{same_Some}
 use Rattle.hb_space.specs.Boxes.{Area, Cuts, IsArea, side_below, side_from}
 use Rattle.hb_space.specs.declared.records.Record.{Record}
 use Rattle.hb_frag.specs.declared.leaves.Leaf.TheVariants.{Records, Child, Sibling}
@@ -16,8 +17,10 @@ use Rattle.hb_frag.specs.Paths.{part_at}
 use Rattle.hb_frag.specs.Laws.{IsPart}
 use Rattle.hb_frag.specs.Grammar.{FitsLeaf, FitsTree}
 use Rattle.hb_frag.proofs.Facts.Parts.{weight_cut}
+use Rattle.hb_frag.proofs.Facts.CarvedKinds.{some_weight}
 use Rattle.hb_ops.specs.declared.leaf_cuts.LeafCut.{LeafCut}
 use Rattle.hb_ops.specs.Cutting.{PartLeaves, area_on, going, half_area, is_on, other_side, reached, records_in}
+use Rattle.hb_ops.proofs.Facts.LeafHalfLaws.{both_halves}
 use Rattle.hb_log_codec.specs.Groups.{FitsLeafCut}
 use Rattle.hb_lemmas.proofs.Lists.{All-behind, All-front}
 
@@ -73,45 +76,18 @@ module _ (boxes : BoxesOfLeaves) where
 
 -- ---- how many steps a path has
 
-pub weight_some : (t : Tree) → 1 ≤ weight_of t
-weight_some (Tip (Records records)) = omega arith
-weight_some (Tip (Child page)) = omega arith
-weight_some (Tip (Sibling page)) = omega arith
-weight_some (Cut axis value left right) = omega (arith, weight_cut axis value left right, weight_some left)
-
 pub steps_few : (path : List Side) (t : Tree) (a : Area) (part : Tree × Area) → part_at path t a ≡ Some part → length path + weight_of part.0 ≤ weight_of t
 steps_few [] t a part there =
-    let same : t ≡ part.0 = first_is (t, a) part there in
-    let weighs = ap (λ (x : Tree). weight_of x) same in
+    let weighs = ap (λ (x : Tree × Area). weight_of x.0) (same_Some (t, a) part there) in
     omega (arith, weighs)
-  where
-    first_is : (x y : Tree × Area) → Some x ≡ Some y → x.0 ≡ y.0
-    first_is x y e = let same : x ≡ y = cc in ap (λ (z : Tree × Area). z.0) same
 steps_few (Left ∷ path) (Cut axis value left right) a part there =
-    omega (arith, weight_cut axis value left right, weight_some right, steps_few path left (side_below a axis value) part there)
+    omega (arith, weight_cut axis value left right, some_weight right, steps_few path left (side_below a axis value) part there)
 steps_few (Right ∷ path) (Cut axis value left right) a part there =
-    omega (arith, weight_cut axis value left right, weight_some left, steps_few path right (side_from a axis value) part there)
+    omega (arith, weight_cut axis value left right, some_weight left, steps_few path right (side_from a axis value) part there)
 steps_few (Left ∷ path) (Tip leaf) a part there = absurd cc
 steps_few (Right ∷ path) (Tip leaf) a part there = absurd cc
 
 -- ---- how many cuts part a leaf
-
-two_parts : (p q : Record → Bool) → ((r : Record) → q r ≡ not (p r)) → (xs : List Record) → length (filter p xs) + length (filter q xs) ≡ length xs
-two_parts p q other [] = refl
-two_parts p q other (x ∷ xs) =
-    let rest = two_parts p q other xs in
-    elim (p x) as (λ b. q x ≡ not b → length (cond b (x ∷ filter p xs) (filter p xs)) + length (cond (q x) (x ∷ filter q xs) (filter q xs)) ≡ length (x ∷ xs)) [
-      | true ↦ λ e. subst (λ (c : Bool). length (x ∷ filter p xs) + length (cond c (x ∷ filter q xs) (filter q xs)) ≡ length (x ∷ xs)) (sym e) (omega (arith, rest))
-      | false ↦ λ e. subst (λ (c : Bool). length (filter p xs) + length (cond c (x ∷ filter q xs) (filter q xs)) ≡ length (x ∷ xs)) (sym e) (omega (arith, rest))
-    ] (other x)
-
-sides_differ : (side : Side) (axis value : ℕ) (r : Record) → is_on (other_side side) axis value r ≡ not (is_on side axis value r)
-sides_differ Left axis value r = refl
-sides_differ Right axis value r = twice (is_on Left axis value r)
-  where
-    twice : (b : Bool) → b ≡ not (not b)
-    twice true = refl
-    twice false = refl
 
 -- each cut leaves at least one record
 pub cuts_few : (cuts : List LeafCut) (tree : Tree) (area : Area) → PartLeaves cuts tree area → length cuts + 1 ≤ max 1 (length (records_in tree))
@@ -122,7 +98,7 @@ cuts_few (cut ∷ cuts) tree area parted =
     let on_side = λ (side : Side) (xs : List Record). length (filter (is_on side cut.axis cut.value) xs) in
     let on : 0 < on_side cut.side (records_in tree) = subst (λ (xs : List Record). 0 < on_side cut.side xs) (sym same) one.on in
     let off : 0 < on_side (other_side cut.side) (records_in tree) = subst (λ (xs : List Record). 0 < on_side (other_side cut.side) xs) (sym same) one.off in
-    let both = two_parts (is_on cut.side cut.axis cut.value) (is_on (other_side cut.side) cut.axis cut.value) (sides_differ cut.side cut.axis cut.value) (records_in tree) in
+    let both = both_halves cut.side cut.axis cut.value (records_in tree) in
     let rest = cuts_few cuts (going cut tree) (half_area cut area) parted.1 in
     omega (arith, on, off, both, rest)
 

@@ -4,7 +4,7 @@ use Rattle.std.specs.Prelude.{◌⊎◌, IsSomeAnd}
 use Rattle.std.specs.Option.{is_some, option_map}
 use Rattle.std.proofs.lemmas.Bool.{cases_eq, eq-eqb, or_left, or_right}
 use Rattle.std.proofs.lemmas.List.Elements.{All-cons, All-head, All-nil, All-tail}
-use Rattle.hb_lemmas.proofs.Options.{some_value, not_none}
+use Rattle.hb_lemmas.proofs.Options.{some_value, not_none, none_so}
 use Rattle.hb_frag.specs.declared.pages.LivePage.{LivePage}
 use Rattle.hb_frag.specs.declared.pages.Page.{Page}
 use Rattle.hb_layout.specs.declared.meta.Meta.{Meta}
@@ -51,17 +51,13 @@ frame_staying uses id stays = by (frame_of uses id) refl stays
     by None is h = absurd h
     by (Some f) is h = (f, is, h)
 
-is_none_of : (o : Option Use) → is_some o ≡ false → o ≡ None
-is_none_of None e = refl
-is_none_of (Some f) e = cc e
-
 -- a page that was put stays
 put_stays : (uses : List Use) (id : ℕ) → IsPool uses → StaysHere (step id uses) id
 put_stays uses id is = elim (is_some (frame_of uses id)) as (λ b. is_some (frame_of uses id) ≡ b → StaysHere (stepped id uses b) id) [
   | true ↦ λ some.
       let f = some_value (frame_of uses id) some in
       stays_so (frame_of (put_last id (filled (tt {0})) uses) id) (filled (tt {0}) f.0) (last_changed uses id (filled (tt {0})) is (λ g. refl) ∙ ap (option_map (filled (tt {0}))) f.1) refl
-  | false ↦ λ none. stays_so (frame_of (brought id (tt {0}) true uses) id) (fresh id (tt {0}) true) (came_in uses id (tt {0}) true (is_none_of (frame_of uses id) none)) refl
+  | false ↦ λ none. stays_so (frame_of (brought id (tt {0}) true uses) id) (fresh id (tt {0}) true) (came_in uses id (tt {0}) true (none_so (frame_of uses id) none)) refl
 ] refl
 
 -- and each that stays does so still
@@ -175,11 +171,7 @@ have_room op st uses tied place = (
       by c (page_at (change_here st op).pages k d lt) (made_known op st.meta (read_here st op 0) (read_here st op 1) (read_here st op 2) k d lt),
 )
   where
-    no_page : (o : Option Page) → is_some o ≡ false → o ≡ None
-    no_page None e = refl
-    no_page (Some page) e = cc e
-
     by : (c : ℕ × Page) → IsTrue (has_page c.0 (change_here st op).pages) → IsKnown op c → HasRoom (fresh_of op) uses c.0
     by c there (inl read) = inl (place.reads c.0 read)
     by c there (inr new) =
-        inr (new, λ none. place.place c.0 there (no_page (in_memory st c.0) (tied.there c.0 ∙ ap (λ (n : ℕ). is_some (frame_of uses n)) new ∙ ap (λ (o : Option Use). is_some o) none)))
+        inr (new, λ none. place.place c.0 there (none_so (in_memory st c.0) (tied.there c.0 ∙ ap (λ (n : ℕ). is_some (frame_of uses n)) new ∙ ap (λ (o : Option Use). is_some o) none)))

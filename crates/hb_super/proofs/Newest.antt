@@ -7,7 +7,7 @@ use Rattle.hb_space.specs.declared.form.TheConstants.{PAGE}
 use Rattle.hb_disk.specs.Calls.{open_gate}
 use Rattle.hb_layout.specs.declared.meta.Meta.{Meta}
 use Rattle.hb_super.specs.Superblocks.{IsLegal, HasSuper, IsNewest, HasNone, body_bytes, next_turn, OneNewest}
-use Rattle.hb_super.proofs.Supers.{same_turn, after_other, alone}
+use Rattle.hb_super.proofs.Supers.{same_turn, after_other, alone, even, odd}
 use Rattle.hb_super.proofs.Bodies.{known_body}
 use Rattle.hb_lemmas.proofs.Decisions.{Known}
 
@@ -95,12 +95,6 @@ module _ (bytes : List ℕ) (place : ℕ) where
       ]
 
 module _ (bytes : List ℕ) where
-  -- a turn that doesn't stand in one place stands in the other
-  odd : (t : ℕ) → t % 2 ≢ 0 → t % 2 ≡ 1
-  odd t h = omega (arith, h)
-
-  even : (t : ℕ) → t % 2 ≢ 1 → t % 2 ≡ 0
-  even t h = omega (arith, h)
 
   neither : (Standing bytes 0 → ⊥) → (Standing bytes 1 → ⊥) → HasNone bytes
   neither first second t m has = elim (cases_Bool (eqb (t % 2) 0)) [

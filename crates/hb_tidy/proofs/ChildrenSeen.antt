@@ -6,6 +6,7 @@ use Rattle.hb_activity.specs.declared.jobs.Job.{Job}
 use Rattle.hb_frag.specs.declared.pages.LivePage.{LivePage}
 use Rattle.hb_frag.specs.Leaves.{siblings_of}
 use Rattle.hb_lemmas.proofs.Options.{not_none, some_value}
+use Rattle.hb_lemmas.proofs.Lists.{All-take_more}
 use Rattle.hb_ops.specs.Files.{FileState, live_page}
 use Rattle.hb_ops.specs.Settled.{HasChild, IsMergeable}
 use Rattle.hb_sound.proofs.Facts.OneLevel.{same_page}
@@ -13,7 +14,7 @@ use Rattle.hb_core.specs.Showing.{RunningCore}
 use Rattle.hb_tidy.specs.Finding.{BothLive}
 use Rattle.hb_tidy.proofs.CallsMade.{nothing_looked}
 use Rattle.hb_tidy.proofs.CleanPages.{below_is_tidy}
-use Rattle.hb_tidy.proofs.JobLists.{all_next, none_yet}
+use Rattle.hb_tidy.proofs.JobLists.{none_yet}
 use Rattle.hb_tidy.proofs.Facts.Joined.{over_ok, over_then, over_weaker}
 use Rattle.hb_tidy.proofs.KnownFiles.{IsFileOf, over_file}
 use Rattle.hb_tidy.proofs.OwedJobs.{added_are, finds_both, finds_less, finds_nothing, postings_owed}
@@ -80,7 +81,7 @@ module _ (parent : ℕ) (above : LivePage) where
       → LooksOver (λ s. live_page s parent ≡ Some above) (Ok (tt {0})) (SeesAll (take (i + 1) leaves) first after) d old f new
   leaves_next leaves i leaf first before after d e f old mid new lt is one two =
       over_then IsAbove (tt {0}) (SeesAll (take i leaves) first before) IsAbove (Ok (tt {0})) (SeesBelow leaf before after) (SeesAll (take (i + 1) leaves) first after) d e f old mid new one (λ s known said. known) two
-      (λ s w known said more. finds_both s _ _ _ first before after (λ so_far here. all_next (IsTidyBelow s parent) leaves i leaf lt is so_far here) said more)
+      (λ s w known said more. finds_both s _ _ _ first before after (λ so_far here. All-take_more (IsTidyBelow s parent) leaves i leaf lt is so_far here) said more)
 
   -- So nothing is found at the page, where these are all its child leaves.
   pub leaves_all : (leaves : List (ℕ × Area)) (first after : List Job) (d e : DiskModel) (old new : RunningCore) → leaves ≡ placed_children above → LooksOver (λ s. live_page s parent ≡ Some above) (Ok (tt {0})) (SeesAll leaves first after) d old e new

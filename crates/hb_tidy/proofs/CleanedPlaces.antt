@@ -5,6 +5,7 @@ use Rattle.std.specs.Set.{remove_key}
 use Rattle.std.proofs.lemmas.List.Elements.{All-append}
 use Rattle.std.proofs.lemmas.List.Sums.{sum_by-cons}
 use Rattle.std.proofs.lemmas.Map.Views.{All-remove_key}
+use Rattle.std.proofs.lemmas.Option.{same_Some}
 use Rattle.hb_lemmas.proofs.Lists.{All-alone, All-behind, All-front, All-one}
 use Rattle.hb_lemmas.proofs.Options.{some_of_map}
 use Rattle.hb_pool.proofs.Facts.Firsts.{All-changed, first_passes, first_there, first_within, none_counted}
@@ -62,13 +63,10 @@ pub record IsOldest (uses : List Use) (page : ℕ) : Type 0 where
   pub there : frame_of uses page ≡ Some frame
   pub dirty : frame.dirty ≡ true
 
-same_id : (x y : ℕ) → Some x ≡ Some y → x ≡ y
-same_id x y is = cc (is)
-
 pub oldest_there : (uses : List Use) (page : ℕ) → IsPool uses → oldest_dirty uses ≡ Some page → IsOldest uses page
 oldest_there uses page pool oldest =
     let first = some_of_map (λ (u : Use). u.id) (find (λ (u : Use). u.dirty) uses) page oldest in
-    let same : first.0.id ≡ page = same_id first.0.id page (sym (ap (option_map (λ (u : Use). u.id)) first.1) ∙ oldest) in
+    let same : first.0.id ≡ page = same_Some first.0.id page (sym (ap (option_map (λ (u : Use). u.id)) first.1) ∙ oldest) in
     record {
       frame = first.0;
       there = subst (λ (n : ℕ). frame_of uses n ≡ Some first.0) same (dirty_there uses first.0 pool first.1);

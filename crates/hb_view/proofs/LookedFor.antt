@@ -87,14 +87,11 @@ stops_right k bytes left right axis value area below above sought box r cut eb e
 
 -- ---- the one at a place
 
-none_more : (n : ℕ) → 0 + n ≡ n
-none_more n = omega arith
-
 one_more : (n m : ℕ) → suc n + m ≡ suc (n + m)
 one_more n m = omega arith
 
 get_behind : (xs ys : List Placed) (rest : ℕ) → slice_get (xs ++ ys) (length xs + rest) ≡ slice_get ys rest
-get_behind [] ys rest = ap (slice_get ys) (none_more rest)
+get_behind [] ys rest = let none : 0 + rest ≡ rest = omega arith in ap (slice_get ys) none
 get_behind (x ∷ xs) ys rest = ap (slice_get (x ∷ xs ++ ys)) (one_more (length xs) rest) ∙ get_behind xs ys rest
 
 pub place_right : (k : ℕ) (bytes left right : List ℕ) (axis value : ℕ) (area below above : Area) (place behind : ℕ) (view : LeafView) (box : Area) → IsCutAt k bytes axis value left → right ≡ rest_there k left → below ≡ side_below area axis value → above ≡ side_from area axis value

@@ -1,7 +1,9 @@
 -- The line that a session takes next, where others are answered.
-use Rattle.std.proofs.Common.{◌≡◌, ◌≢◌, ◌⊎◌, inl, inr, ℕ, zero, suc, ◌<◌, ◌==◌, ◌&&◌, ◌||◌, not, Bool, true, false, cond, List, [], ◌∷◌, ◌++◌, Option, Some, None, refl, sym, ap, ◌∙◌, subst, arith, ne_eqb}
+use Rattle.std.proofs.Common.{◌≡◌, ◌≢◌, ◌⊎◌, inl, inr, ℕ, zero, suc, ◌<◌, ◌==◌, ◌&&◌, ◌||◌, not, Bool, true, false, cond, List, [], ◌∷◌, ◌++◌, Option, Some, refl, sym, ap, ◌∙◌, subst, arith, ne_eqb}
 use Rattle.std.specs.List.{Contains}
 use Rattle.std.proofs.lemmas.Bool.{eq-eqb, eqb-true, false≢true, and_parts}
+use Rattle.std.proofs.lemmas.Option.{none-some}
+use Rattle.hb_lemmas.proofs.Booleans.{not_true}
 use Rattle.hb_set.specs.declared.scripts.Answered.{Answered}
 use Rattle.hb_set.specs.declared.scripts.Line.{Line}
 use Rattle.hb_point.specs.SessionRows.{is_answered, next_line}
@@ -12,10 +14,6 @@ pub record IsNextOf (session : ℕ) (answered : List Answered) (lines : List Lin
   pub among : Contains lines line
   pub own : line.session ≡ session
   pub open_yet : is_answered line.number answered ≡ false
-
-not_true : (b : Bool) → not b ≡ true → b ≡ false
-not_true true h = absurd (false≢true h)
-not_true false h = refl
 
 behind : (lines : List Line) (first line : Line) → Contains lines line → Contains (first ∷ lines) line
 behind lines first line (k, lt, e) = (suc k, omega arith, e)
@@ -31,10 +29,7 @@ taken session answered first line rest false test later is =
     record { among = behind rest first line next.among; own = next.own; open_yet = next.open_yet }
 
 pub next_is : (session : ℕ) (answered : List Answered) (lines : List Line) (line : Line) → next_line session answered lines ≡ Some line → IsNextOf session answered lines line
-next_is session answered [] line is = absurd (nothing line is)
-  where
-    nothing : (line : Line) → None ≡ Some line → ⊥
-    nothing line is = cc
+next_is session answered [] line is = absurd (none-some line is)
 next_is session answered (first ∷ rest) line is =
     taken session answered first line rest ((first.session == session) && not (is_answered first.number answered)) refl (next_is session answered rest line) is
 

@@ -56,9 +56,6 @@ crashes_begin laws d m c disk shows n files keeps =
       since = All-nil (HoldsSince d n m);
     }
 
-begun_left : (left : ℕ) → 0 + left ≡ left
-begun_left left = omega arith
-
 pub run_begins : RunningLaws → (d : DiskModel) (m : Machine) (c : RunningCore) → IsDisk d → MayStep d c m → HasRun d m [] [] d c
 run_begins laws d m c disk may = record {
   new = m;
@@ -69,7 +66,7 @@ run_begins laws d m c disk may = record {
   came = [];
   answered = sym (append-nil m.answered);
   answers_are = record { alike = refl; same = λ tells. refl };
-  left = begun_left (left_count m);
+  left = omega arith;
   faults = no_fault_yet d m;
   in_file = Becomes-read (ChangesFile m.store) d d disk (λ b bytes. Torn-itself 0 (file_size m.store.meta) b bytes) (Stays-same d);
   crashes = crashes_begin laws d m c disk may.shows;

@@ -1,5 +1,5 @@
 -- What a step leaves of the pages that actors hold between two steps.
-use Rattle.std.proofs.Common.{◌≡◌, ◌≢◌, ◌⊎◌, inl, inr, ℕ, nat_le, Bool, cond, Option, Some, None, refl, sym, ap, ◌∙◌, subst, leb-true, leb-false, arith}
+use Rattle.std.proofs.Common.{◌≡◌, ◌≢◌, ◌⊎◌, inl, inr, ℕ, nat_le, Bool, cond, Option, Some, None, refl, sym, ap, ◌∙◌, subst, leb-true, leb-false, arith, ne_eqb}
 use Rattle.std.proofs.lemmas.Bool.{cases_Bool, eq-eqb}
 use Rattle.hb_frag.specs.declared.pages.LivePage.{LivePage}
 use Rattle.hb_frag.specs.declared.pages.Page.TheVariants.{Live}
@@ -70,6 +70,9 @@ module _ (m : Machine) (may : ℕ → Type 0) (fetched : StoreState) (inside : H
 module _ (m : Machine) (actor : ℕ) (fetched : StoreState) (deed : Deed) (outcome : Outcome) (new : Machine) (performs : Performs m fetched actor deed outcome new) where
   pub own_next : new.activity actor ≡ deed.next
   own_next = performs.activity actor ∙ ap (λ (b : Bool). cond b deed.next (m.activity actor)) (eq-eqb actor actor refl)
+
+  pub others_next : (other : ℕ) → other ≢ actor → new.activity other ≡ m.activity other
+  others_next other another = performs.activity other ∙ ap (λ (b : Bool). cond b deed.next (m.activity other)) (ne_eqb other actor another)
 
 module _ (m : Machine) (actor : ℕ) (outcome : Outcome) (new : Machine) (latches : IsActor actor) (fit : LatchesFit m) (inside : HoldsPagesOfFile m) (step : StepsTo m actor outcome new) (other : ℕ) (another : other ≢ actor) (may : IsActor other) where
   -- another actor stands where it stood

@@ -1,5 +1,5 @@
 -- What is done in memory is done in the file: an operation is allowed and licensed there, and makes the same of it.
-use Rattle.std.proofs.Common.{◌≡◌, ◌≢◌, inl, inr, ℕ, ◌≤◌, List, length, get_or, All, Option, Some, None, IsSome, refl, sym, ap, ◌∙◌, subst, arith}
+use Rattle.std.proofs.Common.{◌≡◌, ◌≢◌, inl, inr, ℕ, List, length, get_or, All, Option, Some, None, IsSome, refl, sym, ap, ◌∙◌, subst, arith}
 use Rattle.std.proofs.lemmas.Bool.{cases_lt}
 use Rattle.std.proofs.lemmas.List.{get_or_past}
 use Rattle.hb_frag.specs.declared.leaves.Leaf.TheVariants.{Child}
@@ -30,7 +30,7 @@ use Rattle.hb_store.specs.Fetching.{IsNext}
 use Rattle.hb_ops.specs.SetPages.{set_pages}
 use Rattle.hb_store.specs.States.{StoreState, in_memory}
 use Rattle.hb_terms.proofs.Facts.Owing.{planned_may_be, way_ends_there}
-use Rattle.hb_lemmas.proofs.Options.{some_value}
+use Rattle.hb_lemmas.proofs.Options.{some_value, none_unless}
 use Rattle.hb_ops.proofs.Facts.AllowedOps.{reads_some}
 use Rattle.hb_ops.proofs.Facts.SetPages.{set_both}
 
@@ -41,12 +41,9 @@ pub record ShowsFile (st : StoreState) (s : FileState) : Type 0 where
   pub shown : (id : ℕ) (page : Page) → (in_memory st) id ≡ Some page → page_of s id ≡ Some page
 
 module _ (st : StoreState) (s : FileState) (keeps : KeepsPages st) (file : ShowsFile st s) (op : Op) (allowed : IsAllowedHere st op) where
-  none_at_zero : (o : Option Page) → ((page : Page) → o ≡ Some page → 1 ≤ 0) → o ≡ None
-  none_at_zero None h = refl
-  none_at_zero (Some page) h = absurd (omega (arith, h page refl))
 
   no_frame : (in_memory st) 0 ≡ None
-  no_frame = none_at_zero (in_memory st 0) (λ page e. (keeps.framed 0 page e).0)
+  no_frame = none_unless (in_memory st 0) (λ page e. let some = (keeps.framed 0 page e).0 in omega (arith, some))
 
   -- what the operation reads in memory is what it reads in the file
   read_file : (place : ℕ) → read_here st op place ≡ nth_read s op place

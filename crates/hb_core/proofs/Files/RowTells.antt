@@ -1,6 +1,7 @@
 -- What a row tells of the operation that it does, beyond what the pages that this reads tell.
 use Rattle.std.proofs.Common.{◌≡◌, ℕ, ◌-◌, List, Option, Some, None, IfSome, refl, sym, ap, ◌∙◌, subst, ◌≢◌, ◌⊎◌, inl, inr}
 use Rattle.std.specs.Option.{option_and_then}
+use Rattle.std.proofs.lemmas.Option.{same_Some}
 use Rattle.hb_space.specs.declared.records.Record.{Record}
 use Rattle.hb_frag.specs.declared.leaves.Leaf.{Leaf}
 use Rattle.hb_frag.specs.declared.leaves.Leaf.TheVariants.{Records, Child, Sibling}
@@ -100,14 +101,11 @@ module _ (m : Machine) (actor : ℕ) (may : ℕ → Type 0) (fetched : StoreStat
       nothing : (w : Wanted) → None ≡ Some w → ⊥
       nothing w is = cc
 
-      same_page : (a b : LivePage) → Some a ≡ Some b → a ≡ b
-      same_page a b is = cc
-
       by : (looked : Option LivePage) → if_live (in_memory m.store parent) ≡ looked → wanted_of (at.PosterAgain job parent) m.store.meta looked ≡ Some wanted → IsPlanned fetched parent path inner area
       by None is none = absurd (nothing wanted none)
       by (Some old) is some =
           let named = wants_child job.point old.level (leaf_at old job.point) wanted some in
-          let same : old ≡ page = same_page old page (sym (looked_page_stays job parent old page stands is live) ∙ live) in
+          let same : old ≡ page = same_Some old page (sym (looked_page_stays job parent old page stands is live) ∙ live) in
           record {
             page = page;
             live = live_so (in_memory fetched parent) page live;

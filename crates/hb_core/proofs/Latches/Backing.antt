@@ -3,6 +3,7 @@
 use Rattle.hb_core.proofs.Memory.CommitPages.{has_first, has_second, made_pages}
 use Rattle.std.proofs.Common.{◌≡◌, ◌⊎◌, inl, inr, ℕ, ◌==◌, Bool, cond, List, [], ◌∷◌, length, Option, Some, None, IsSome, IsTrue, refl, sym, ap, ◌∙◌, subst}
 use Rattle.std.proofs.lemmas.Bool.{cases_Bool, eq-eqb, eqb-true}
+use Rattle.std.proofs.lemmas.Option.{none-some}
 use Rattle.hb_space.specs.declared.records.Record.{Record}
 use Rattle.hb_frag.specs.declared.pages.LivePage.{LivePage}
 use Rattle.hb_frag.specs.declared.pages.Page.{Page}
@@ -102,10 +103,7 @@ pub record BackedIn (m : Machine) (actor : ℕ) (st : StoreState) (activity : Ac
 
 -- an activity that doesn't walk, or not yet; and one that holds nothing
 pub stands : (m : Machine) (actor : ℕ) (st : StoreState) (activity : Activity) → walk_held activity ≡ None → AreBacked m actor st (latches_held st activity) → BackedIn m actor st activity
-stands m actor st activity none backed = record { latches = backed; walk = λ held some. absurd (nowhere held (sym none ∙ some)) }
-  where
-    nowhere : (held : ℕ) → None ≡ Some held → ⊥
-    nowhere held is = cc
+stands m actor st activity none backed = record { latches = backed; walk = λ held some. absurd (none-some held (sym none ∙ some)) }
 
 pub rests : (m : Machine) (actor : ℕ) (st : StoreState) (activity : Activity) → walk_held activity ≡ None → latches_held st activity ≡ [] → BackedIn m actor st activity
 rests m actor st activity none nothing = stands m actor st activity none (subst (AreBacked m actor st) (sym nothing) (none_backed m actor st))

@@ -1,6 +1,7 @@
 -- After a step each actor holds the latches of its activity, on pages in use, and latches on one page go beside each other.
 use Rattle.std.proofs.Common.{◌≡◌, ◌≢◌, inl, inr, ℕ, ◌==◌, Bool, cond, List, [], Option, Some, None, IfSome, IsTrue, refl, sym, ap, ◌∙◌, subst}
 use Rattle.std.proofs.lemmas.Bool.{cases_Bool, eqb-true, eqb-false, eq-eqb, ne_eqb}
+use Rattle.hb_lemmas.proofs.Options.{at_value, if_value}
 use Rattle.hb_frag.specs.declared.pages.LivePage.{LivePage}
 use Rattle.hb_frag.specs.declared.pages.Page.TheVariants.{Live}
 use Rattle.hb_latch.specs.declared.modes.Mode.{Mode}
@@ -61,13 +62,6 @@ walk_latched (at.ConsolidatorWalk job (Some id)) st held page is live =
     let same : id ≡ held = cc in
     subst (λ (n : ℕ). Latched held (walk_latch (Some n) (live_here st n) (job_mode job))) (sym same) (one_latched held (live_here st held) (job_mode job) page live)
 walk_latched activity st held page is live = cc
-
-if_each : (o : Option Mode) (P : Mode → Type 0) → ((mode : Mode) → o ≡ Some mode → P mode) → IfSome o P
-if_each None P each = tt
-if_each (Some mode) P each = each mode refl
-
-if_that : (o : Option Mode) (P : Mode → Type 0) (mode : Mode) → IfSome o P → o ≡ Some mode → P mode
-if_that o P mode all is = subst (λ (o : Option Mode). IfSome o P) is all
 
 -- ---- a step
 
@@ -139,13 +133,13 @@ module _ (mutual_modes : (mode other : Mode) → goes_beside mode other ≡ goes
             let both = fit.compatible a b page differ in
             let mine = sym (rest a page (eqb-false a actor a_not)) ∙ first in
             let other = sym (rest b page (eqb-false b actor b_not)) ∙ second in
-            if_that (mode_at m.latches b page) (λ held. IsTrue (goes_beside mode held)) held (if_that (mode_at m.latches a page) (λ mode. IfSome (mode_at m.latches b page) (λ held. IsTrue (goes_beside mode held))) mode both mine) other
+            at_value (mode_at m.latches b page) (λ held. IsTrue (goes_beside mode held)) held other (at_value (mode_at m.latches a page) (λ mode. IfSome (mode_at m.latches b page) (λ held. IsTrue (goes_beside mode held))) mode mine both)
       ]
     ]
 
     deed_fits : LatchesFit new
     deed_fits = record {
-      compatible = λ a b page differ. if_each (mode_at new.latches a page) _ (λ mode first. if_each (mode_at new.latches b page) _ (λ held second. two_apart a b page mode held differ first second));
+      compatible = λ a b page differ. if_value (mode_at new.latches a page) _ (λ mode first. if_value (mode_at new.latches b page) _ (λ held second. two_apart a b page mode held differ first second));
       exact = λ a page may. elim (cases_Bool (a == actor)) [
         | inl a_is ↦
             let is = eqb-true a actor a_is in

@@ -2,6 +2,7 @@
 use Rattle.std.proofs.Common.{◌≡◌, inl, inr, ℕ, ◌≤◌, List, [], ◌++◌, Option, Some, None, IfSome, IsSome, refl, sym, ap, subst, ◌∙◌, arith}
 use Rattle.std.specs.List.{count_by}
 use Rattle.std.specs.Option.{is_some}
+use Rattle.std.proofs.lemmas.Option.{none-some}
 use Rattle.hb_lemmas.proofs.Options.{has_value, some_value}
 use Rattle.hb_latch.specs.declared.modes.Mode.{Mode}
 use Rattle.hb_activity.specs.declared.holding.Latch.{Latch}
@@ -127,10 +128,7 @@ module _ (m : Machine) (actor : ℕ) (outcome : Outcome) (new : Machine) (may : 
 
     -- one after which the actor holds nothing
     leaves_all : (latches_held new.store deed.next ≡ []) → performs.pins ≡ pages_of held → PinsMore [] m.uses performs.came → FitsNow new
-    leaves_all none pins more = deed_so [] pins more (none_once after none) (λ page mode is. absurd (nothing page mode (sym (ap (mode_among page) none) ∙ is)))
-      where
-        nothing : (page : ℕ) (mode : Mode) → mode_among page [] ≡ Some mode → ⊥
-        nothing page mode is = cc
+    leaves_all none pins more = deed_so [] pins more (none_once after none) (λ page mode is. absurd (none-some mode (sym (ap (mode_among page) none) ∙ is)))
 
   as_it_is : (deed : Deed) → ((st : StoreState) → latches_held st deed.next ≡ []) → PerformsAsItIs m actor deed outcome new → FitsNow new
   as_it_is deed none (performs, came, pins) = leaves_all m.store deed performs (none new.store) pins (subst (PinsMore [] m.uses) (sym came) (none_more m.uses single))

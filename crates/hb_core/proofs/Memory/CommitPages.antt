@@ -1,6 +1,7 @@
 -- The pages in memory after an operation: each is as the operation made it, or as it was; or it was none of these and left.
-use Rattle.std.proofs.Common.{◌≡◌, ◌⊎◌, inl, inr, ℕ, ◌==◌, ◌||◌, false, Bool, IsTrue, List, ◌∷◌, Option, Some, None, IsSome, refl, sym, ap, ◌∙◌, subst}
+use Rattle.std.proofs.Common.{◌≡◌, ◌⊎◌, inl, inr, ℕ, ◌==◌, ◌||◌, false, Bool, IsTrue, List, ◌∷◌, None, IsSome, refl, sym, ap, ◌∙◌, subst}
 use Rattle.std.proofs.lemmas.Bool.{cases_Bool, eq-eqb}
+use Rattle.hb_lemmas.proofs.Options.{not_there}
 use Rattle.hb_frag.specs.declared.pages.Page.{Page}
 use Rattle.hb_ops.specs.declared.operations.Op.{Op}
 use Rattle.hb_store.specs.Calls.{Commits, change_here, NoneComes}
@@ -30,12 +31,8 @@ commit_pages op mark old new commits id = elim (cases_Bool (has_page id (change_
 pub commit_here : (op : Op) (mark : ℕ) (old new : StoreState) → Commits op mark old new → (id : ℕ) → IsSome (in_memory new id) → IsSetBy op old new id
 commit_here op mark old new commits id there = elim (commit_pages op mark old new commits id) [
   | inl set ↦ set
-  | inr (off, gone) ↦ absurd (nothing (in_memory new id) there gone)
+  | inr (off, gone) ↦ absurd (not_there (in_memory new id) gone there)
 ]
-  where
-    nothing : (o : Option Page) → IsSome o → o ≡ None → ⊥
-    nothing None some gone = cc
-    nothing (Some page) some gone = cc
 
 -- and so are the pages that were changed
 pub made_pages : (op : Op) (mark : ℕ) (old new : StoreState) (changed : List (ℕ × Page)) → Commits op mark old new → (change_here old op).pages ≡ changed → (id : ℕ) → IsTrue (has_page id changed) → in_memory new id ≡ set_pages changed (in_memory old) id

@@ -4,6 +4,7 @@ use Rattle.std.specs.List.{Contains}
 use Rattle.std.specs.Option.{IsSomeAnd}
 use Rattle.std.proofs.lemmas.Bool.{cases_Bool, eq-eqb, eqb-true, eqb-false}
 use Rattle.std.proofs.lemmas.List.Elements.{All-append, All-cons, All-nil}
+use Rattle.std.proofs.lemmas.Option.{none-some}
 use Rattle.hb_set.specs.declared.commands.Reply.{Reply}
 use Rattle.hb_set.specs.declared.scripts.Answered.{Answered}
 use Rattle.hb_set.specs.declared.scripts.Line.{Line}
@@ -71,9 +72,6 @@ lines_in_sequence m sequence = record {
   earlier_first = sequence.earlier_first;
 }
 
-no_some : (number : ℕ) → None ≡ Some number → ⊥
-no_some number is = cc
-
 module _ (lines : List Line) (answered : List Answered) (activity : ℕ → Activity) (order : List Entry) (sequence : SequenceOf lines answered activity order) (actor : ℕ) (next : Activity) where
   -- what holds of each actor's activity, where it holds of the new one
   each_actor : (P : ℕ → Activity → Type 0) → P actor next → ((other : ℕ) → other ≢ actor → P other (activity other)) → (other : ℕ) → P other (with_activity actor next activity other)
@@ -91,7 +89,7 @@ module _ (lines : List Line) (answered : List Answered) (activity : ℕ → Acti
     where
       by : (is_answered entry.line.number answered ≡ true) ⊎ (awaited_number (activity entry.line.session) ≡ Some entry.line.number) → (is_answered entry.line.number answered ≡ true) ⊎ (awaited_number (with_activity actor next activity entry.line.session) ≡ Some entry.line.number)
       by (inl done) = inl done
-      by (inr waits) = inr (other_waits entry.line.session entry.line.number (λ same. no_some entry.line.number (sym none ∙ ap (λ (n : ℕ). awaited_number (activity n)) (sym same) ∙ waits)) waits)
+      by (inr waits) = inr (other_waits entry.line.session entry.line.number (λ same. none-some entry.line.number (sym none ∙ ap (λ (n : ℕ). awaited_number (activity n)) (sym same) ∙ waits)) waits)
 
   pub goes_on : awaited_number (activity actor) ≡ None → HandIsNext actor answered lines next → AwaitIsNext actor answered lines next → SequenceOf lines answered (with_activity actor next activity) order
   goes_on none hand await = record {
@@ -140,7 +138,7 @@ module _ (lines : List Line) (answered : List Answered) (activity : ℕ → Acti
     placed_more entry one = record { among = one.among; state = by one.state }
       where
         of_none : (e : Entry) → awaited_number (activity actor) ≡ None ⊎ (awaited_number (activity actor) ≡ Some line.number) → awaited_number (activity actor) ≡ Some e.line.number → line.number ≡ e.line.number
-        of_none e (inl none) some = absurd (no_some e.line.number (sym none ∙ some))
+        of_none e (inl none) some = absurd (none-some e.line.number (sym none ∙ some))
         of_none e (inr here) some = let both : Some line.number ≡ Some e.line.number = sym here ∙ some in cc
 
         by : (is_answered entry.line.number answered ≡ true) ⊎ (awaited_number (activity entry.line.session) ≡ Some entry.line.number)

@@ -1,8 +1,6 @@
 -- The line that a session takes: the first of its own among those that don't lie behind it.
-use Rattle.std.proofs.Common.{◌≡◌, ◌≢◌, ℕ, ◌+◌, ◌-◌, ◌<◌, ◌≤◌, ◌==◌, Bool, cond, List, [], take, drop, length, get_or, position, slice_get, slice_set, slice_index_or, All, Contains, Some, None, sym, ap, subst, ◌∙◌, inl, inr, arith}
-use Rattle.std.specs.List.{position_or_len}
-use Rattle.std.proofs.lemmas.Bool.{cases_lt, eqb-true, eqb-false}
-use Rattle.std.proofs.lemmas.Bool.Decides.{Decides-ltb}
+use Rattle.std.proofs.Common.{◌≡◌, ◌≢◌, ℕ, ◌+◌, ◌-◌, ◌<◌, ◌==◌, Bool, List, [], take, drop, length, get_or, position, slice_get, slice_set, slice_index_or, All, Contains, Some, None, sym, ap, subst, ◌∙◌, arith}
+use Rattle.std.proofs.lemmas.Bool.{eqb-true, eqb-false}
 use Rattle.std.proofs.lemmas.List.{get_or-drop, get_or-take, length-drop, length-take, take_rest}
 use Rattle.std.proofs.lemmas.List.Quantifiers.{position-Some}
 use Rattle.std.proofs.lemmas.List.Sums.{fails_before_first}
@@ -23,21 +21,13 @@ use Rattle.hb_set.specs.declared.commands.Reply.TheVariants as replies
 use Rattle.hb_core.specs.KeptFits.{LineFits}
 use Rattle.hb_core.proofs.Machines.LocksKept.{command_box}
 use Rattle.hb_activity.specs.BoxLocks.{lock_of_command}
+use Rattle.hb_activity.proofs.Facts.NoPlace.{none_before}
 use Rattle.hb_boxlock.specs.declared.locks.BoxLock.{BoxLock}
 use Rattle.hb_lemmas.proofs.Lists.{place_member}
 use Rattle.std.proofs.lemmas.List.Elements.{All-contains}
 
 abbrev is_of : ℕ → Line → Bool
 is_of actor line = line.session == actor
-
--- no place is found where no line is the session's
-none_before : (p : Line → Bool) (lines : List Line) → position p lines ≡ None → length lines ≤ position_or_len p lines
-none_before p lines none = elim (cases_lt (position_or_len p lines) (length lines)) [
-  | inl lt ↦
-      let some : position p lines ≡ Some (position_or_len p lines) = ap (λ b. cond b (Some (position_or_len p lines)) None) ((Decides-ltb (position_or_len p lines) (length lines)).1 lt) in
-      cc
-  | inr ge ↦ ge
-]
 
 none_among : (actor : ℕ) (lines : List Line) → position (is_of actor) lines ≡ None → All (λ (l : Line). l.session ≢ actor) lines
 none_among actor lines none k d lt =

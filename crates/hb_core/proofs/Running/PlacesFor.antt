@@ -2,6 +2,7 @@
 use Rattle.std.proofs.Common.{◌≡◌, inl, inr, ℕ, ◌+◌, ◌-◌, ◌<◌, ◌≤◌, ◌==◌, ◌||◌, Bool, true, false, List, cond, Option, Some, None, IsTrue, refl, arith}
 use Rattle.std.specs.Option.{is_some}
 use Rattle.std.proofs.lemmas.Bool.{cases_lt}
+use Rattle.hb_lemmas.proofs.Booleans.{one_at_most}
 use Rattle.hb_activity.specs.declared.wanting.Wanted.{Wanted}
 use Rattle.hb_layout.specs.declared.meta.Meta.{Meta}
 use Rattle.hb_pool.proofs.Facts.Pooled.{brought_counts, brought_pool, last_counts}
@@ -22,10 +23,6 @@ use Rattle.hb_core.specs.Using.{use_number, use_wanted}
 pub record HasAtLeast (least : ℕ) (uses : List Use) : Type 0 where
   pub pool : IsPool uses
   pub many : least ≤ places uses
-
-one_at_most : (b : Bool) → one_if b ≤ 1
-one_at_most true = omega arith
-one_at_most false = omega arith
 
 pub after_fetch : (least id : ℕ) (uses : List Use) → 1 ≤ least → HasAtLeast least uses → HasAtLeast least (use_fetched id uses)
 after_fetch least id uses some has = by (frame_of uses id) refl

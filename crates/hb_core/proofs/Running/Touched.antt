@@ -51,7 +51,10 @@ answered_well number reply none = record { no_read = none; no_write = λ never. 
 pub well_as : (outcome other : Outcome) → outcome ≡ other → IsWell other → IsWell outcome
 well_as outcome other is well = subst IsWell (sym is) well
 
-memory_reply : replies.NoMemory ≡ replies.ReadFault → ⊥
+pub same_stop : (a b : StopWhy) → outcomes.Stopped a ≡ outcomes.Stopped b → a ≡ b
+same_stop a b equal = cc equal
+
+pub memory_reply : replies.NoMemory ≡ replies.ReadFault → ⊥
 memory_reply never = cc
 
 pub full_reply : replies.Full ≡ replies.ReadFault → ⊥
@@ -155,9 +158,6 @@ module _ {D : Type 0} (model : D → DiskModel) (x y : D) (c after : RunningCore
     only = ReadsOnly-none (model x) (λ ends. subst EndsByRead says ends);
     no_write = λ fault. is ∙ ap Some (sym same ∙ same_stop said stops.WriteFault (sym says ∙ fault));
   })
-    where
-      same_stop : (a b : StopWhy) → outcomes.Stopped a ≡ outcomes.Stopped b → a ≡ b
-      same_stop a b equal = cc
 
   pub touched_forced : {T : Type 0} (v : T) → IsWell outcome → WritesGroups (Ok v) (model x) (model y) c.store after.store → Touches (model x) c outcome (model y) after
   touched_forced v well writes = inr (inl (record {

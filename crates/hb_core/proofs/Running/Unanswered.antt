@@ -6,7 +6,7 @@ use Rattle.std.proofs.lemmas.Bool.{false≢true}
 use Rattle.std.proofs.lemmas.List.{get_or-drop, get_or-take, length-drop, map-append, take_all}
 use Rattle.std.proofs.lemmas.List.Elements.{filter-append}
 use Rattle.std.proofs.lemmas.List.Sums.{count_by_more_no, count_by_more_yes}
-use Rattle.std.proofs.lemmas.Option.{get_or_from_slice_get, same_Some, slice_get-get_or, slice_get_read, slice_get_within}
+use Rattle.std.proofs.lemmas.Option.{get_or_from_slice_get, same_Some, slice_get-get_or, slice_get_read, slice_get_within, none-some}
 use Rattle.hb_disk.specs.Model.{DiskModel}
 use Rattle.hb_set.specs.declared.scripts.Answered.{Answered}
 use Rattle.hb_set.specs.declared.scripts.Line.{Line}
@@ -65,10 +65,7 @@ in_hand_open session answered lines (at.SessionAwait kept reply place) number in
     by : (o : Option Line) → next_line session answered lines ≡ o → IsSomeAnd o (λ (line : Line). line.number ≡ kept) → is_answered number answered ≡ false
     by None none never = absurd never
     by (Some line) next same = next_open session answered lines line number next (same ∙ same_Some kept number is)
-in_hand_open session answered lines other number in_hand awaited is = absurd (nothing number is)
-  where
-    nothing : (n : ℕ) → None ≡ Some n → ⊥
-    nothing n e = cc
+in_hand_open session answered lines other number in_hand awaited is = absurd (none-some number is)
 
 -- how far its session has come, as the code reads it
 far_so : (behinds : List ℕ) (session from : ℕ) → length behinds ≡ 16 → from ≡ session → 1 ≤ session → session ≤ 16 → slice_get behinds (session - 1) ≡ Some (get_or behinds (from - 1) 0)

@@ -1,6 +1,7 @@
 -- A core that writes the least recently used dirty page to its place, or finds nothing to write, shows what this makes of the machine.
 use Rattle.std.proofs.Common.{◌≡◌, ℕ, ◌+◌, List, Option, Some, None, IsOk, IsSome, Ok, Err, Result, refl, sym, ap, ◌∙◌, subst, ◌⊎◌, ◌<◌, inl, inr, arith}
 use Rattle.std.specs.Prelude.{MatchOption}
+use Rattle.hb_lemmas.proofs.Options.{was_some}
 use Rattle.hb_disk.specs.Model.{DiskModel}
 use Rattle.hb_pool.specs.Frames.{Use, clean}
 use Rattle.hb_pool.specs.Pools.{in_place}
@@ -19,7 +20,7 @@ use Rattle.hb_core.specs.Machines.{Machine, with_disk, with_uses}
 use Rattle.hb_core.specs.Moving.{with_stop}
 use Rattle.hb_core.specs.Showing.{RunningCore, ShowsMachine}
 use Rattle.hb_core.specs.Touching.{held_in}
-use Rattle.hb_core.proofs.Running.ForcedShows.{fails_by, kept_before, shown_with, silent_before, told_before, with_held}
+use Rattle.hb_core.proofs.Running.ForcedShows.{fails_by, kept_before, shown_with, silent_before, with_held}
 
 module _ (d e : DiskModel) (c : RunningCore) (st : StoreState) (uses : List Use) (m : Machine) (shows : ShowsMachine d c m) where
   abbrev pub now : StoreHeld
@@ -58,7 +59,7 @@ module _ (d e : DiskModel) (c : RunningCore) (st : StoreState) (uses : List Use)
       record { says = refl; leaves = refl },
       shown_with d e c st uses m shows (cleaned_state id m.store) (in_place id clean m.uses) m.files (m.clock + 1) store used
           (λ told.
-          let was = told_before d.told e.told writes.wrote.became.silent told in
+          let was = was_some d.told e.told writes.wrote.became.silent told in
           let had = shows.tells was in
           record {
             files = had.files;
@@ -94,7 +95,7 @@ module _ (d e : DiskModel) (c : RunningCore) (st : StoreState) (uses : List Use)
       record { says = refl; leaves = refl },
       shown_with d e c st uses m shows (switched_state m.store) m.uses m.files (m.clock + 9) store used
           (λ told.
-          let was = told_before d.told e.told switches.wrote.became.silent told in
+          let was = was_some d.told e.told switches.wrote.became.silent told in
           let had = shows.tells was in
           record {
             files = had.files;

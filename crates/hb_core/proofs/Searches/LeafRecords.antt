@@ -1,6 +1,5 @@
 -- A leaf of records of a page in memory has exactly the records of the contents in its box.
-use Rattle.std.proofs.Common.{◌↔◌, ◌≡◌, ◌≢◌, ◌⊎◌, inl, inr, ℕ, zero, suc, ◌<◌, List, [], ◌∷◌, get_or, length, refl, All, AllPairs, Contains, Some, None, sym, ap, ◌∙◌, subst, arith}
-use Rattle.std.specs.List.{slice_get}
+use Rattle.std.proofs.Common.{◌↔◌, ◌≡◌, ◌≢◌, ◌⊎◌, inl, inr, ℕ, List, [], ◌∷◌, refl, All, AllPairs, Contains, Some, None, sym, ap, ◌∙◌, subst, arith}
 use Rattle.std.specs.FinMap as map
 use Rattle.std.proofs.lemmas.List.Elements.{All-cons, All-contains, All-nil}
 use Rattle.hb_space.proofs.Facts.PointOrder.{not_itself}
@@ -19,7 +18,7 @@ use Rattle.hb_frag.specs.declared.pages.LivePage.{LivePage}
 use Rattle.hb_frag.specs.declared.pages.Page.TheVariants.{Live}
 use Rattle.hb_layout.specs.declared.meta.Meta.{Meta}
 use Rattle.hb_lemmas.proofs.Decisions.{known_list}
-use Rattle.hb_lemmas.proofs.Lists.{first_member, later_member, place_within}
+use Rattle.hb_lemmas.proofs.Lists.{first_member, later_member, member_place}
 use Rattle.hb_ops.proofs.Facts.Opened.{first_has}
 use Rattle.hb_ops.proofs.Facts.PageNumberLaws.{live_so}
 use Rattle.hb_ops.specs.Files.{FileState, contents_of, if_live, live_page}
@@ -28,15 +27,6 @@ use Rattle.hb_sound.specs.PointWalks.{IsPointOf}
 use Rattle.hb_space.specs.Boxes.{Area, Holds}
 use Rattle.hb_space.specs.declared.records.Record.{Record}
 use Rattle.hb_store.specs.States.{IsGoodPage, StoreState, in_memory}
-
--- where a member stands
-member_place : (records : List Record) (r : Record) → Contains records r → (place : ℕ) × (slice_get records place ≡ Some r)
-member_place records r (k, lt, is) = let there = place_within records k lt in (k, there.1 ∙ ap Some (by records k lt there.0 there.1 ∙ is))
-  where
-    by : (xs : List Record) (k : ℕ) → k < length xs → (x : Record) → slice_get xs k ≡ Some x → x ≡ get_or xs k r
-    by [] k lt x is = absurd (omega (arith, lt))
-    by (y ∷ xs) zero lt x is = cc
-    by (y ∷ xs) (suc k) lt x is = by xs k (omega (arith, lt)) x is
 
 -- a record of a point, or none of it
 of_point : (records : List Record) (p : List ℕ) → ((r : Record) × Contains records r × (r.key ≡ p)) ⊎ All (λ (r : Record). r.key ≢ p) records

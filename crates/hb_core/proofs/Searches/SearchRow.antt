@@ -64,10 +64,7 @@ same_line own line a b r s f g is = cc
 module _ (line : Line) (held : Option ℕ) (rest : List Area) (found : List Record) where
   -- what isn't a session's walk
   no_merger : (activity : Activity) → class_of activity ≡ Consolidators → activity ≡ at.SessionWalk line held rest found → ⊥
-  no_merger activity kind is = never (sym (ap class_of is) ∙ kind)
-    where
-      never : Sessions ≡ Consolidators → ⊥
-      never eq = cc
+  no_merger activity kind is = let classes : Sessions ≡ Consolidators = sym (ap class_of is) ∙ kind in cc classes
 
   abbrev Before : Activity → Deed → Type 0
   Before activity deed = deed.next ≡ at.SessionWalk line held rest found → IsWalkOf line activity

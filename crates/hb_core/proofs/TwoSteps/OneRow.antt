@@ -36,6 +36,7 @@ use Rattle.hb_frag.specs.Leaves.{IsPointer, Placed, weight_of}
 use Rattle.hb_frag.specs.Paths.{part_at}
 use Rattle.hb_frag.specs.Rules.{AreInOrder}
 use Rattle.hb_frag.specs.Trees.{Tree}
+use Rattle.hb_frag.proofs.Facts.Kinds.{same_live}
 use Rattle.hb_ops.specs.Cutting.{reached}
 use Rattle.hb_point.specs.SessionRows.{merges_due, DoesThere}
 use Rattle.hb_point.specs.SplitRows.{PutsInHalf, Splits}
@@ -67,9 +68,6 @@ there_records n line (Delete point) rest found id page p d goal (inr row) = subs
 there_records n line (Lookup point) rest found id page p d goal (inl row) = subst (MeetsRecords page) (same_Some point p goal) (row.there.records, row.there.area, row.there.leaf)
 there_records n line (Lookup point) rest found id page p d goal (inr row) = subst (MeetsRecords page) (same_Some point p goal) (row.absent.records, row.absent.area, row.absent.leaf)
 there_records n line (Search area) rest found id page p d goal row = (row.records, row.area, row.leaf)
-
-same_live : (a b : LivePage) → Live a ≡ Live b → a ≡ b
-same_live a b is = cc
 
 -- ---- the rows of sessions
 

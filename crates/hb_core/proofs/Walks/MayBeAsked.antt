@@ -40,7 +40,6 @@ use Rattle.hb_poster.specs.Asks.{LooksBelow, MayBeAsked}
 use Rattle.hb_space.proofs.Facts.Boxes.{Holds-within as holds_within}
 use Rattle.hb_search.specs.Searching.{MaySearch, SearchesInside, StaysGathering}
 use Rattle.hb_store.specs.States.{IsGoodPage, StoreState}
-use Rattle.hb_core.proofs.Files.AskedPages.{place_among}
 use Rattle.hb_core.proofs.Facts.StillThere.{fetched_good}
 use Rattle.hb_core.proofs.Walks.AtHand.{good_here, walked_there}
 use Rattle.hb_core.proofs.Walks.WalkingWorkers.{walk_wants_above}
@@ -55,6 +54,7 @@ use Rattle.hb_core.specs.KeptMachine.{MachineKeeps}
 use Rattle.hb_core.specs.Machines.{Machine, live_here}
 use Rattle.hb_core.specs.Performing.{latches_held, mode_among}
 use Rattle.hb_lemmas.proofs.Options.{some_of_map}
+use Rattle.hb_lemmas.proofs.Lists.{place_member}
 use Rattle.hb_core.proofs.Machines.AddedJobs.{goal_fits}
 use Rattle.hb_core.proofs.Memory.BroughtPages.{own_there}
 
@@ -67,7 +67,7 @@ box_of_goal : (k : ℕ) (rest : List Area) (place : ℕ) (p : List ℕ) → All 
 box_of_goal k rest place p boxes is =
     let one = some_of_map (λ (a : Area). a.lo) (slice_get rest place) p is in
     let same : one.0.lo ≡ p = same_Some one.0.lo p (sym (ap (option_map (λ (a : Area). a.lo)) one.1) ∙ is) in
-    let fits : IsBoxOf k one.0 = All-contains (IsBoxOf k) rest one.0 boxes (place_among rest place one.0 one.1) in
+    let fits : IsBoxOf k one.0 = All-contains (IsBoxOf k) rest one.0 boxes (place_member rest place one.0 one.1) in
     sym (ap (λ (q : List ℕ). length q) same) ∙ fits.1
 
 point_has : (k : ℕ) (activity : Activity) (p : List ℕ) → IfSome (line_in_hand activity) (LineFits k) → IfSome (job_in_work activity) (JobFits k) → All (IsBoxOf k) (boxes_left activity) → walk_point activity ≡ Some p → length p ≡ k

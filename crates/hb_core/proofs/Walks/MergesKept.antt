@@ -2,7 +2,7 @@
 use Rattle.std.proofs.Common.{◌≡◌, ◌⊎◌, inl, inr, ℕ, suc, ◌+◌, ◌-◌, ◌<◌, ◌==◌, not, ◌&&◌, ◌||◌, Bool, true, false, cond, List, [], ◌∷◌, filter, slice_get, All, Option, Some, None, IsSome, IfSome, IsTrue, option_map, refl, sym, ap, ◌∙◌, subst, arith}
 use Rattle.std.specs.List.{list_any}
 use Rattle.std.proofs.lemmas.Option.{same_Some}
-use Rattle.std.proofs.lemmas.Bool.{cases_Bool, eq-eqb}
+use Rattle.std.proofs.lemmas.Bool.{cases_Bool, eq-eqb, and_parts}
 use Rattle.std.proofs.lemmas.List.Elements.{All-cons, All-contains, All-head, All-nil}
 use Rattle.hb_frag.specs.declared.leaves.Leaf.{Leaf}
 use Rattle.hb_frag.specs.declared.leaves.Leaf.TheVariants.{Records, Child, Sibling}
@@ -208,13 +208,9 @@ pair_found parent from (Sibling page ∷ rest) gone leaf is = elim (cases_Bool (
       let two : ℕ × ℕ = (gone, leaf) in
       let found : Some one ≡ Some two = sym (ap (λ (b : Bool). cond b (Some (page, 0)) (one_on (pair_among parent (from - 1) rest))) here) ∙ is in
       let whole : one ≡ two = cc in
-      subst (λ (p : ℕ × ℕ). IsPair parent (Sibling page ∷ rest) p.0 p.1) whole (record { named = second (from == 0) (names_child parent page) here; at_place = refl })
+      subst (λ (p : ℕ × ℕ). IsPair parent (Sibling page ∷ rest) p.0 p.1) whole (record { named = (and_parts (from == 0) (names_child parent page) here).1; at_place = refl })
   | inr off ↦ pair_on parent (Sibling page) rest gone leaf (pair_among parent (from - 1) rest) (pair_found parent (from - 1) rest) (sym (ap (λ (b : Bool). cond b (Some (page, 0)) (one_on (pair_among parent (from - 1) rest))) off) ∙ is)
 ]
-  where
-    second : (a b : Bool) → (a && b) ≡ true → b ≡ true
-    second true b both = both
-    second false b both = cc
 
 -- ---- where a row leaves the consolidator
 

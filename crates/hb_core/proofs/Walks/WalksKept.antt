@@ -1,6 +1,6 @@
 -- After a step the page that a walk holds has the walk's point in its box, and the parent that a poster holds a child leaf there.
 use Rattle.std.proofs.Common.{◌≡◌, ◌≢◌, ◌⊎◌, inl, inr, ℕ, ◌==◌, Bool, cond, List, [], ◌∷◌, Option, Some, None, IfSome, IsSome, refl, sym, ap, ◌∙◌, subst}
-use Rattle.std.proofs.lemmas.Bool.{cases_Bool, eqb-true, eqb-false, eq-eqb, ne_eqb}
+use Rattle.std.proofs.lemmas.Bool.{cases_Bool, eqb-true, eqb-false, eq-eqb}
 use Rattle.hb_frag.specs.declared.pages.LivePage.{LivePage}
 use Rattle.hb_frag.specs.declared.pages.Page.TheVariants.{Live}
 use Rattle.hb_set.specs.declared.scripts.Line.{Line}
@@ -17,6 +17,7 @@ use Rattle.hb_activity.specs.Passing.{LeadsBelow}
 use Rattle.hb_activity.specs.Wanting.{named_page, onward_at}
 use Rattle.hb_frag.specs.Leaves.{IsPointer, Placed, leaf_at}
 use Rattle.std.specs.Option.{option_and_then}
+use Rattle.hb_lemmas.proofs.Options.{one_value}
 use Rattle.hb_frag.specs.declared.leaves.Leaf.{Leaf}
 use Rattle.hb_frag.specs.declared.leaves.Leaf.TheVariants.{Records, Child, Sibling}
 use Rattle.hb_activity.specs.Walks.{walk_held, walk_point}
@@ -25,7 +26,7 @@ use Rattle.hb_core.proofs.Latches.LatchesStay.{walk_latched}
 use Rattle.hb_core.proofs.Walks.MergesKept.{HasMergePlace, PlaceStays, merged_place, named_again, none_named, place_latched, known_at, place_stays}
 use Rattle.hb_core.proofs.Table.NextPlaces.{HasPlace, HoldsNothing, KeepsParent, MergesOn, TakesParent, WalksTo, nothing_given_up, now, place_after}
 use Rattle.hb_core.proofs.Facts.StepKinds.{each_kind, ready_kind}
-use Rattle.hb_core.proofs.Facts.StillThere.{fetched_good, may_or_not, nothing_done, other_holds, other_walks, own_next}
+use Rattle.hb_core.proofs.Facts.StillThere.{fetched_good, may_or_not, nothing_done, other_holds, other_walks, own_next, others_next}
 use Rattle.hb_core.proofs.Facts.Ways.{KeepsAllButDisk, forces_so, meets_so, stays_so, more_so}
 use Rattle.hb_core.specs.Fetching.{Brings}
 use Rattle.hb_core.specs.KeepingLaws.{WalksStayInSpace}
@@ -190,18 +191,6 @@ same_parent activity job parent st is has = record {
 
 -- ---- the actor that steps
 
-same_page : (o : Option LivePage) (page other : LivePage) → o ≡ Some page → o ≡ Some other → page ≡ other
-same_page o page other a b = by (sym a ∙ b)
-  where
-    by : Some page ≡ Some other → page ≡ other
-    by is = cc
-
-same_number : (o : Option ℕ) (id other : ℕ) → o ≡ Some id → o ≡ Some other → id ≡ other
-same_number o id other a b = by (sym a ∙ b)
-  where
-    by : Some id ≡ Some other → id ≡ other
-    by is = cc
-
 pub parent_latched : (st : StoreState) (activity : Activity) (job : Job) (parent : ℕ) → IsAtParent activity job parent → (mode : Mode) × (mode_among parent (latches_held st activity) ≡ Some mode)
 parent_latched st activity job parent is = by is
   where
@@ -231,14 +220,14 @@ module _ (m : Machine) (actor : ℕ) (may : ℕ → Type 0) (fetched : StoreStat
       let has : Holds to.page.area to.p = first_held to.p to.page.frag to.page.area to.placed good.1.well_cut to.leaf in
       record {
         held = λ held page on live.
-            let id = same_number (walk_held deed.next) to.id held to.held on in
+            let id = one_value (walk_held deed.next) to.id held to.held on in
             let live_then : live_here fetched held ≡ Some page = sym (ap (λ (st : StoreState). live_here st held) store) ∙ live in
-            let is = same_page (live_here fetched held) to.page page (ap (live_here fetched) (sym id) ∙ to.live) live_then in
+            let is = one_value (live_here fetched held) to.page page (ap (live_here fetched) (sym id) ∙ to.live) live_then in
             subst (λ (o : Option (List ℕ)). IfSome o (Holds page.area)) (sym to.point) (subst (λ (q : LivePage). Holds q.area to.p) is has);
         leads = λ held page on live.
-            let id = same_number (walk_held deed.next) to.id held to.held on in
+            let id = one_value (walk_held deed.next) to.id held to.held on in
             let live_then : live_here fetched held ≡ Some page = sym (ap (λ (st : StoreState). live_here st held) store) ∙ live in
-            let is = same_page (live_here fetched held) to.page page (ap (live_here fetched) (sym id) ∙ to.live) live_then in
+            let is = one_value (live_here fetched held) to.page page (ap (live_here fetched) (sym id) ∙ to.live) live_then in
             subst (λ (o : Option (List ℕ)). IfSome o (λ p. IsSome (onward_at page p))) (sym to.point) (subst (λ (q : LivePage). IsSome (onward_at q to.p)) is (leads_on to.page to.p to.placed to.leaf to.names));
         parents = λ job parent is. absurd (walks_have_none deed.next to.id job parent to.held is);
         merging = none_named new.store (merging_at deed.next) to.merging;
@@ -342,10 +331,7 @@ module _ (m : Machine) (actor : ℕ) (outcome : Outcome) (new : Machine) (latche
 
   -- a deed is done
   did : (fetched : StoreState) (deed : Deed) → Performs m fetched actor deed outcome new → StandsInSpace new.store deed.next → WalksInSpace new
-  did fetched deed performs own = with_own (subst (StandsInSpace new.store) (sym (own_next m actor fetched deed outcome new performs)) own) (λ other another. other_stood other another)
-    where
-      other_stood : (other : ℕ) → other ≢ actor → new.activity other ≡ m.activity other
-      other_stood other another = performs.activity other ∙ ap (λ (b : Bool). cond b deed.next (m.activity other)) (ne_eqb other actor another)
+  did fetched deed performs own = with_own (subst (StandsInSpace new.store) (sym (own_next m actor fetched deed outcome new performs)) own) (others_next m actor fetched deed outcome new performs)
 
   freed : (fetched : StoreState) (deed : Deed) → Performs m fetched actor deed outcome new → HoldsNothing deed.next → WalksInSpace new
   freed fetched deed performs free = did fetched deed performs (free_stands new.store deed.next free)

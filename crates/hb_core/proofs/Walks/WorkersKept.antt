@@ -1,6 +1,7 @@
 -- After a step a walking worker's job is below the file's height, and its page of the job's level or above it.
 use Rattle.std.proofs.Common.{◌≡◌, ◌≢◌, ◌⊎◌, inl, inr, ℕ, ◌<◌, ◌≤◌, ◌==◌, Option, Some, None, IfSome, refl, sym, ap, ◌∙◌, subst, arith}
 use Rattle.std.proofs.lemmas.Bool.{cases_Bool, eqb-true, eqb-false}
+use Rattle.std.proofs.lemmas.Option.{none-some}
 use Rattle.hb_frag.specs.declared.leaves.Leaf.{Leaf}
 use Rattle.hb_frag.specs.declared.leaves.Leaf.TheVariants.{Records, Child, Sibling}
 use Rattle.hb_frag.specs.declared.pages.LivePage.{LivePage}
@@ -52,12 +53,9 @@ stands_again old new held (Some job) grows back stands = record {
 begins : (st : StoreState) (job : Job) → job.level < st.meta.height → StandsAbove st None job
 begins st job below = record {
   below_height = below;
-  level = λ id page none live. absurd (nothing id none);
-  gave = λ id page none live same. absurd (nothing id none);
+  level = λ id page none live. absurd (none-some id none);
+  gave = λ id page none live same. absurd (none-some id none);
 }
-  where
-    nothing : (id : ℕ) → None ≡ Some id → ⊥
-    nothing id is = cc
 
 -- and one that goes on
 leads_on : (page : LivePage) (job : Job) (leaf : Leaf) (area : Area) → leaf_at page job.point ≡ Some (record { leaf = leaf; area = area }) → IsPointer leaf → ¬ (LeadsBelow page job) → GaveAwayAt page job.point

@@ -7,7 +7,7 @@ use Rattle.std.proofs.lemmas.Bool.{eq-eqb}
 use Rattle.std.proofs.lemmas.List.Elements.{All-append, All-nil}
 use Rattle.std.proofs.lemmas.List.Sums.{sum_by_push, count_by-le-length}
 use Rattle.std.proofs.lemmas.Map.Views.{All-remove_key}
-use Rattle.hb_lemmas.proofs.Booleans.{if_below, if_same}
+use Rattle.hb_lemmas.proofs.Booleans.{if_below, if_same, not_true, one_at_most}
 use Rattle.hb_lemmas.proofs.Lists.{All-alone}
 use Rattle.hb_lemmas.proofs.Options.{some_value}
 use Rattle.hb_space.specs.declared.form.TheConstants.{PAGE}
@@ -31,9 +31,6 @@ one_way : (b : Bool) → cond (not b) 1 0 + cond b 1 0 ≡ 1
 one_way true = refl
 one_way false = refl
 
-one_at_most : (b : Bool) → cond b 1 0 ≤ 1
-one_at_most b = elim b as (λ b. cond b 1 0 ≤ 1) [ true ↦ omega arith | false ↦ omega arith ]
-
 -- a frame that is pinned, or dirty, must stay
 pub pinned_stays : {B : Type 0} (f : Frame B) → 0 < f.pins → must_stay f ≡ true
 pinned_stays f some =
@@ -45,11 +42,6 @@ pinned_stays f some =
 
 pub dirty_stays : {B : Type 0} (f : Frame B) → f.dirty ≡ true → must_stay f ≡ true
 dirty_stays f is = ap (λ b. b || not (f.pins == 0)) is
-
--- and one that may go needn't
-free_needs_none : (b : Bool) → not b ≡ true → b ≡ false
-free_needs_none true e = absurd cc
-free_needs_none false e = refl
 
 or_false : (b : Bool) → (b || not (0 == 0)) ≡ b
 or_false true = refl
@@ -109,7 +101,7 @@ left_over pool old place =
     (λ none.
     let first = some_value (find may_go pool) (free_there pool place none) in
     let long = length_without may_go pool first.0 first.1 in
-    let free = free_needs_none (must_stay first.0) (first_passes may_go pool first.0 first.1) in
+    let free = not_true (must_stay first.0) (first_passes may_go pool first.0 first.1) in
     let less = count_without may_go must_stay pool first.0 first.1 in
     let gone : cond {A = ℕ} (must_stay first.0) 1 0 ≡ 0 = ap (λ b. cond {A = ℕ} b 1 0) free in
     record {

@@ -15,7 +15,7 @@ use Rattle.hb_ops.specs.Operations.{IsAllowed, IsAllowedOn, change_of, effect_of
 use Rattle.hb_ops.specs.Sound.{SiblingsMatch, count_live, count_name, times_named}
 use Rattle.hb_sound.specs.LawsOfMerges.{ChangesThree, MergesChangeThree}
 use Rattle.hb_sound.proofs.Facts.OneLevel.{same_page}
-use Rattle.hb_sound.proofs.PageLists.{HasInstead, put_instead}
+use Rattle.hb_ops.proofs.Facts.PageLists.{HasInstead, put_instead}
 use Rattle.hb_ops.proofs.Facts.PageNumberLaws.{live_so}
 
 -- a merge that is allowed has its three pages in use

@@ -5,14 +5,13 @@ use Rattle.std.specs.Option.{is_some, option_map, option_map_or}
 use Rattle.std.proofs.lemmas.Bool.{cases_eq}
 use Rattle.hb_space.specs.declared.form.TheConstants.{PAGE}
 use Rattle.hb_disk.specs.Model.{DiskModel, IsDisk, Stays}
-use Rattle.hb_lemmas.proofs.Options.{some_value}
-use Rattle.hb_frag.specs.declared.pages.LivePage.{LivePage}
+use Rattle.hb_lemmas.proofs.Options.{some_value, none_so}
 use Rattle.hb_frag.specs.declared.pages.Page.{Page}
 use Rattle.hb_frag.specs.declared.pages.Page.TheVariants.{Live}
 use Rattle.hb_frag.specs.Grammar.{SpellsPage}
 use Rattle.hb_layout.specs.declared.meta.Meta.{Meta}
 use Rattle.hb_ops.specs.Files.{FileState, if_live, page_of, last_of}
-use Rattle.hb_ops.specs.Sound.{BreaksFirst, FitsFile, IsSound}
+use Rattle.hb_ops.specs.Sound.{IsSound}
 use Rattle.hb_page_codec.proofs.Facts.PageLaws.{SpelledOnce}
 use Rattle.hb_layout.specs.Offsets.{page_offset}
 use Rattle.hb_store.specs.Opening.{place_bytes}
@@ -32,6 +31,7 @@ use Rattle.hb_store.specs.declared.stops.FetchStop.TheVariants as fetches
 use Rattle.hb_store.specs.declared.stops.Why.TheVariants.{Rule, Level, Extent}
 use Rattle.hb_store.proofs.Counted.{store_count}
 use Rattle.hb_ops.proofs.Facts.FilePages.{page_there}
+use Rattle.hb_ops.proofs.Facts.WellMade.{not_broken}
 
 -- ---- what was read
 
@@ -46,11 +46,7 @@ spelled_there (Some b) bytes place page spells read = subst (λ l. SpellsPage l 
 
 -- a page that isn't in memory has no frame, and isn't dirty
 pub no_frame : (st : StoreState) (uses : List Use) (id : ℕ) → IsTied st uses → in_memory st id ≡ None → frame_of uses id ≡ None
-no_frame st uses id tied none = by (frame_of uses id) (sym (tied.there id) ∙ ap (λ (o : Option Page). is_some o) none)
-  where
-    by : (o : Option Use) → is_some o ≡ false → o ≡ None
-    by None e = refl
-    by (Some f) e = cc e
+no_frame st uses id tied none = none_so (frame_of uses id) (sym (tied.there id) ∙ ap (λ (o : Option Page). is_some o) none)
 
 pub clean_outside : (st : StoreState) (uses : List Use) (id : ℕ) → IsTied st uses → in_memory st id ≡ None → is_dirty st id ≡ false
 clean_outside st uses id tied none = tied.marks id ∙ ap (λ (o : Option Use). option_map_or (λ (u : Use). u.dirty) o false) (no_frame st uses id tied none)
@@ -130,27 +126,12 @@ is_the_page once d st durable later id page disk k some high none there =
 
 -- ---- no page of a sound file is damaged
 
-fits_all : (rule : ℕ) (page : LivePage) (meta : Meta) → FitsFile meta page → BreaksFirst rule page meta → ⊥
-fits_all rule page meta fits breaks = elim breaks [
-  | inl three ↦ three.1 fits.fits
-  | inr rest ↦ elim rest [
-    | inl four ↦ four.2 fits.well_cut
-    | inr rest ↦ elim rest [
-      | inl five ↦ five.3 fits.filled
-      | inr rest ↦ elim rest [
-        | inl six ↦ six.4 fits.in_order
-        | inr ten ↦ ten.5 fits.normal
-      ]
-    ]
-  ]
-]
-
 not_damaged : SpelledOnce → (s : FileState) (id rule : ℕ) (p : Page) (bytes : List ℕ) → IsSound s → page_of s id ≡ Some p → SpellsPage bytes p → IsDamagedBy s.meta bytes rule → ⊥
 not_damaged once s id rule p bytes sound there spelled damaged = elim damaged [
   | inl none ↦ none.1 p spelled
   | inr one ↦
       let same : page_of s id ≡ Some (Live one.1) = there ∙ ap Some (once bytes p (Live one.1) spelled one.2) in
-      fits_all rule one.1 s.meta (sound.well_made id one.1 (ap if_live same)) one.3
+      not_broken rule one.1 s.meta one.3 (sound.well_made id one.1 (ap if_live same))
 ]
 
 pub sound_stop : SpelledOnce → (d : DiskModel) (st : StoreState) (durable : FileState) (later : List FileState) (id : ℕ) (stop : FetchStop) → IsDisk d → StoreKeeps d st durable later → 1 ≤ id → id ≤ st.meta.high → is_dirty st id ≡ false
@@ -198,8 +179,3 @@ pub sound_stops : {X : Type 0} (r : Result X FetchStop) → SpelledOnce → (d :
     → IfErr r (λ stop. (stop ≢ fetches.ReadFault) → (stop ≢ fetches.Crowded) → IsNoPage st.meta id)
 sound_stops (Ok x) once d st uses durable later id disk k some high tied none why sound = tt
 sound_stops (Err stop) once d st uses durable later id disk k some high tied none why sound = λ fault crowded. absurd (sound_stop once d st durable later id stop disk k some high (clean_outside st uses id tied none) why sound fault crowded)
-
--- where a look-up gave nothing the page isn't in memory
-pub none_so : {X : Type 0} (r m : Option X) → is_some r ≡ false → r ≡ m → m ≡ None
-none_so None m none is = sym is
-none_so (Some x) m none is = absurd cc

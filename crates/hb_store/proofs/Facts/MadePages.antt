@@ -17,6 +17,7 @@ use Rattle.hb_frag.specs.Renaming.{renamed}
 use Rattle.hb_frag.specs.Paths.{sibling_way, with_part}
 use Rattle.hb_frag.specs.Rules.{IsFilledRight, capacity_of}
 use Rattle.hb_frag.specs.Grammar.{FitsPage, FitsTree, HasSpelling}
+use Rattle.hb_frag.proofs.Facts.CarvedKinds.{some_weight}
 use Rattle.hb_layout.specs.declared.meta.Meta.{Meta}
 use Rattle.hb_ops.specs.declared.operations.Op.{Op}
 use Rattle.hb_ops.specs.declared.operations.Op.TheVariants.{Put, Del, Extract, Post, Merge, Grow}
@@ -34,7 +35,7 @@ use Rattle.hb_store.specs.States.{IsGoodPage}
 use Rattle.hb_store.specs.Making.{AreReadable, HaveFittingParts, MakesGoodPages}
 use Rattle.hb_store.specs.Replaying.{HasLimits}
 use Rattle.hb_ops.proofs.Facts.MadeLeaves.{AllFit, FitsIn, all_fit, fit_carved, fit_changed, fit_cut_through, fit_normal, fit_part, fit_reached, fit_renamed, fit_with_part, joined_fit, light_fit, without_fit}
-use Rattle.hb_store.proofs.MadeParts.{BoxesOfLeaves, PartsStand, cuts_few, cuts_fit, fits_tree, reached_box, records_weigh, steps_few, weight_some}
+use Rattle.hb_store.proofs.MadeParts.{BoxesOfLeaves, PartsStand, cuts_few, cuts_fit, fits_tree, reached_box, records_weigh, steps_few}
 use Rattle.hb_store.proofs.Facts.MadeMeta.{comes_after}
 use Rattle.hb_log_codec.proofs.Facts.OpParts.{op_has}
 
@@ -156,13 +157,13 @@ module _ (boxes : BoxesOfLeaves) (stand : PartsStand) where
       let light = light_page meta page limits allowed.made in
       let steps = steps_few path page.frag page.area part there in
       let is = (stand path page.frag page.area part there (readable.0 page refl).fits.1 allowed.made.well_cut).is_area in (
-        omega (arith, light, steps, weight_some part.0),
-        omega (arith, light, steps, cuts_few cuts part.0 part.1 allowed.fits.parted, records_weigh part.0, weight_some part.0),
+        omega (arith, light, steps, some_weight part.0),
+        omega (arith, light, steps, cuts_few cuts part.0 part.1 allowed.fits.parted, records_weigh part.0, some_weight part.0),
         cuts_fit boxes cuts part.0 part.1 allowed.fits.parted is,
       )
   fitting_parts (Post parent at inner area) meta None second third limits allowed readable = absurd allowed
   fitting_parts (Post parent at inner area) meta (Some page) second third limits allowed readable =
       let part : Tree × Area = (Tip (Child allowed.outer), allowed.box) in
-      omega (arith, light_page meta page limits allowed.made, steps_few at page.frag page.area part allowed.leaf, weight_some part.0)
+      omega (arith, light_page meta page limits allowed.made, steps_few at page.frag page.area part allowed.leaf, some_weight part.0)
   fitting_parts (Merge parent keep gone) meta first second third limits allowed readable = tt
   fitting_parts (Grow fresh free_after) meta first second third limits allowed readable = tt

@@ -1,7 +1,6 @@
 -- Who is owed a leaf of the parent, and whether there is room for it.
-use Rattle.std.proofs.Common.{◌≡◌, ◌≢◌, ℕ, zero, suc, ◌+◌, ◌<◌, ◌≤◌, ◌↔◌, inl, inr, List, [], ◌∷◌, length, get_or, Option, Some, IsSome, Result, Ok, Err, refl, sym, ap, subst, ◌∙◌, arith}
+use Rattle.std.proofs.Common.{◌≡◌, ◌≢◌, ℕ, zero, suc, ◌+◌, ◌<◌, ◌≤◌, ◌↔◌, inl, inr, List, [], ◌∷◌, length, get_or, Option, Some, IsSome, refl, sym, ap, subst, ◌∙◌, arith}
 use Rattle.std.specs.List.{Contains}
-use Rattle.std.specs.Result.{OnErr}
 use Rattle.std.proofs.lemmas.Bool.{cases_lt}
 use Rattle.std.proofs.lemmas.List.Elements.{All-contains, Contains-append_right}
 use Rattle.hb_space.specs.Boxes.{Area, IsArea, Holds}
@@ -37,11 +36,6 @@ owed_there parent child p outer inner above below leaf area h e k w =
     let P : Leaf → Type 0 = λ l. leaf_at parent p ≡ Some (record { leaf = l; area = leaf }) in
     let Q : Leaf → Type 0 = λ l. leaf_at child p ≡ Some (record { leaf = l; area = area }) in
     record { above = subst P e h; below = subst Q w.0 k; other = w.1 }
-
--- what holds anyway holds of an error
-pub on_err_anyway : {T E X : Type 0} (r : Result T E) → X → OnErr r X
-on_err_anyway (Ok v) x = tt
-on_err_anyway (Err e) x = x
 
 -- the child's leaf at the point names no other page as a sibling
 pub owes_nothing : (parent child : LivePage) (p : List ℕ) (outer : ℕ) (leaf area : Area) (there : Leaf) → leaf_at parent p ≡ Some (record { leaf = Child outer; area = leaf }) → leaf_at child p ≡ Some (record { leaf = there; area = area }) → ((inner : ℕ) → there ≡ Sibling inner → inner ≡ outer) → OwesNothing parent child p

@@ -8,7 +8,7 @@ use Rattle.hb_ops.specs.Files.{page_at}
 use Rattle.hb_ops.specs.Operations.{with_page}
 use Rattle.hb_ops.specs.Sound.{count_live, count_name, times_named}
 use Rattle.hb_ops.proofs.Facts.PageNumberLaws.{get-set_other, get-set_same, in_range, page_at-suc, page_at-zero, place_of, with_page-behind, with_page-there}
-use Rattle.hb_lemmas.proofs.Lists.{get-push_other}
+use Rattle.hb_lemmas.proofs.Lists.{get-push_other, get-push_last}
 
 -- what a page adds to the pages in use, and to the names
 abbrev pub lives : Page → ℕ
@@ -54,11 +54,6 @@ times-set id (x ∷ xs) (suc n) q new e =
     let one = times-cons id x xs in
     let two = times-cons id x (set xs n new) in
     omega (arith, rest, one, two)
-
--- one more page
-get-push_last : (pages : List Page) (new : Page) → slice_get (pages ++ (new ∷ [])) (length pages) ≡ Some new
-get-push_last [] new = refl
-get-push_last (x ∷ xs) new = get-push_last xs new
 
 count-push : (pages : List Page) (new : Page) → count_live (pages ++ (new ∷ [])) ≡ count_live pages + lives new
 count-push [] new = let one = count-cons new [] in omega (arith, one)
