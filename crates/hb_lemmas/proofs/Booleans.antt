@@ -21,11 +21,7 @@ pub cond-not : {A : Type 0} (b : Bool) (x y : A) → cond (not b) x y ≡ cond b
 cond-not true x y = refl
 cond-not false x y = refl
 
--- a test turned round, and twice
-pub not_true : (b : Bool) → not b ≡ true → b ≡ false
-not_true true e = cc e
-not_true false e = refl
-
+-- a test turned round twice
 pub twice_not : (b : Bool) → b ≡ not (not b)
 twice_not true = refl
 twice_not false = refl

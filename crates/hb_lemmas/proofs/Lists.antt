@@ -1,11 +1,11 @@
 -- Lists of any elements: what is true of each, of a whole and of its parts, what stands at a place, and tests of it.
-use Rattle.std.proofs.Common.{◌≡◌, ◌≢◌, ◌↔◌, ◌⊎◌, inl, inr, ℕ, zero, suc, ◌+◌, ◌<◌, Bool, true, false, IsTrue, cond, List, [], ◌∷◌, ◌++◌, length, take, drop, get_or, slice_set, slice_get, All, Contains, Some, refl, sym, ap, subst, ◌∙◌, length-append, arith}
+use Rattle.std.proofs.Common.{◌≡◌, ◌≢◌, ◌↔◌, ◌⊎◌, inl, inr, ℕ, zero, suc, ◌+◌, ◌<◌, Bool, true, false, IsTrue, cond, List, [], ◌∷◌, ◌++◌, length, take, drop, get_or, slice_set, slice_get, All, Contains, Some, refl, sym, ap, subst, ◌∙◌, arith}
 use Rattle.std.specs.List.{AllByRecursion, filter}
 use Rattle.std.proofs.Math.Seq.{take-append_seam}
 use Rattle.std.proofs.lemmas.Bool.{cases_Bool, false≢true}
-use Rattle.std.proofs.lemmas.List.{take_at, drop_at, set-get_or, set-set, take_more}
+use Rattle.std.proofs.lemmas.List.{take_at, drop_at, set-get_or, set-set, take-append-drop, take_more}
 use Rattle.std.proofs.lemmas.Option.{slice_get-get_or}
-use Rattle.std.proofs.lemmas.List.Elements.{All-from_recursion, recursion_from_All, All-append, All-cons, All-contains, All-contains_itself, All-head, All-nil, All-weaker}
+use Rattle.std.proofs.lemmas.List.Elements.{All-from_recursion, recursion_from_All, All-append, All-cons, All-contains, All-contains_itself, All-head, All-nil, All-weaker, Contains-append_right}
 
 -- ---- of each element
 
@@ -87,6 +87,10 @@ later_member x xs y h = (suc h.0, omega (arith, h.1), h.2)
 pub member_cases : {X : Type 0} (x : X) (xs : List X) (y : X) → Contains (x ∷ xs) y → (x ≡ y) ⊎ Contains xs y
 member_cases x xs y (zero, lt, e) = inl e
 member_cases x xs y (suc k, lt, e) = inr (k, omega arith, e)
+
+-- what stands behind a front is a member
+pub behind_front : {X : Type 0} (n : ℕ) (xs : List X) (x : X) → Contains (drop n xs) x → Contains xs x
+behind_front n xs x there = subst (λ (l : List _). Contains l x) (take-append-drop n xs) (Contains-append_right (take n xs) (drop n xs) x there)
 
 -- a filter leaves out, and keeps what passes
 pub filter_has : {X : Type 0} (p : X → Bool) (xs : List X) (x : X) → Contains (filter p xs) x → Contains xs x
@@ -174,14 +178,6 @@ same_fronts {X = X} a b r s long e = (
   sym (take_at a r (length a) refl) ∙ ap (λ (l : List X). take (length a) l) e ∙ take_at b s (length a) (sym long),
   sym (drop_at a r (length a) refl) ∙ ap (λ (l : List X). drop (length a) l) e ∙ drop_at b s (length a) (sym long),
 )
-
--- and two that end with one element each, the same of both
-pub same_ends : {X : Type 0} (xs ys : List X) (x y : X) → xs ++ x ∷ [] ≡ ys ++ y ∷ [] → (xs ≡ ys) × (x ≡ y)
-same_ends {X = X} xs ys x y e =
-    let long : length xs ≡ length ys = omega (arith, length-append xs (x ∷ []), length-append ys (y ∷ []), ap (λ (l : List X). length l) e) in
-    let both = same_fronts xs ys (x ∷ []) (y ∷ []) long e in
-    let last : x ∷ [] ≡ y ∷ [] = both.1 in
-    (both.0, let same : x ≡ y = cc last in same)
 
 -- the values that were copied into a longer list
 pub front_copied : {X : Type 0} (copied behind values : List X) (n : ℕ) → n ≡ length values → copied ≡ values → take n (copied ++ behind) ≡ values

@@ -1,6 +1,6 @@
 -- What is said of a value that an option or a result has, where it has one.
 use Rattle.std.proofs.Common.{◌≡◌, false, Option, Some, None, IfSome, IsSome, IsSomeAnd, is_some, Result, Ok, Err, OnErr, OnOk, refl, sym, ap, subst, ◌∙◌}
-use Rattle.std.proofs.lemmas.Option.{same_Some}
+use Rattle.std.proofs.lemmas.Option.{none-some, same_Some}
 use Rattle.std.specs.Option.{option_and_then, option_map}
 use Rattle.hb_lemmas.specs.Options.{◌>>=◌}
 
@@ -13,7 +13,7 @@ pub has_value : {X : Type 0} (o : Option X) (x : X) → o ≡ Some x → IsSome 
 has_value o x is = ap is_some is
 
 pub not_none : {X : Type 0} (o : Option X) (x : X) → o ≡ Some x → o ≡ None → ⊥
-not_none o x is none = let never : None ≡ Some x = sym none ∙ is in cc never
+not_none o x is none = none-some x (sym none ∙ is)
 
 -- one that has a value has no other
 pub one_value : {X : Type 0} (o : Option X) (x y : X) → o ≡ Some x → o ≡ Some y → x ≡ y
@@ -75,14 +75,20 @@ pub on_ok : {T E : Type 0} (r : Result T E) (P : Type 0) → P → OnOk r P
 on_ok (Ok v) P h = h
 on_ok (Err e) P h = tt
 
-pub on_ok_weaker : {T E : Type 0} (r : Result T E) (P Q : Type 0) → (P → Q) → OnOk r P → OnOk r Q
-on_ok_weaker (Ok v) P Q f h = f h
-on_ok_weaker (Err e) P Q f h = tt
+-- and what follows from two facts holds where both do
+pub on_ok_both : {T E P Q R : Type 0} (r : Result T E) → (P → Q → R) → OnOk r P → OnOk r Q → OnOk r R
+on_ok_both (Ok v) f p q = f p q
+on_ok_both (Err e) f p q = tt
 
 -- and what holds anyway holds of an error
 pub on_err : {T E P : Type 0} (r : Result T E) → P → OnErr r P
 on_err (Ok v) h = tt
 on_err (Err e) h = h
+
+-- nothing was made of nothing
+pub none_mapped : {A B : Type 0} (f : A → B) (o : Option A) → option_map f o ≡ None → o ≡ None
+none_mapped f None none = refl
+none_mapped f (Some x) none = cc none
 
 -- what two successes gave is the same
 pub same_Ok : {T E : Type 0} (x y : T) → ◌≡◌ {A = Result T E} (Ok x) (Ok y) → x ≡ y

@@ -1,5 +1,6 @@
 -- What the calls that begin a turn leave of a disk.
 use Rattle.std.proofs.Common.{◌≡◌, ℕ, ◌+◌, ◌≤◌, List, Option, Result, Ok, Err, IsErr, IsSome, OnOk, is_some, inl, subst, ap, ◌∙◌, arith}
+use Rattle.std.proofs.lemmas.Result.{on_ok_weaker}
 use Rattle.hb_disk.specs.Model.{DiskModel, IsDisk, Torn}
 use Rattle.hb_disk.specs.Calls.{Syncs, Then}
 use Rattle.hb_disk.specs.Runs.{Rewrites}
@@ -12,7 +13,7 @@ use Rattle.hb_layout.specs.Offsets.{log_start, slot_offset}
 use Rattle.hb_layout.specs.declared.meta.Meta.{Meta}
 use Rattle.hb_ops.specs.Files.{FileState}
 use Rattle.hb_super.specs.Superblocks.{next_turn}
-use Rattle.hb_lemmas.proofs.Options.{on_ok_weaker, some_value}
+use Rattle.hb_lemmas.proofs.Options.{some_value}
 use Rattle.hb_store.proofs.Facts.PlaceWrites.{ok_tick}
 use Rattle.hb_store.specs.Switching.{TornSwitch}
 use Rattle.hb_store.specs.Turning.{MayTurn, OpensByEither, StillOpens}
@@ -52,7 +53,7 @@ nine_ticks q r s v w old mid late new is_ok are_ok is_old syncs area len run sec
     let here : IsSome mid.told = ap is_some syncs.same ∙ tells in
     let one = ok_tick q v old mid is_ok is_old tells syncs.ticks in
     let two = ok_of r w (late.clock ≡ mid.clock + 2) are_ok (second here) in
-    on_ok_weaker s (new.clock ≡ late.clock + 6) (new.clock ≡ old.clock + 9) (λ six. omega (arith, one, two, six)) (third (Becomes-tells (Torn area len) mid late run.became here))
+    on_ok_weaker {P = new.clock ≡ late.clock + 6} {Q = new.clock ≡ old.clock + 9} s (λ six. omega (arith, one, two, six)) (third (Becomes-tells (Torn area len) mid late run.became here))
 
 module _ (before next : ℕ) (meta : Meta) (is : next ≡ next_turn before) (area : ℕ) (area_is : area ≡ log_start next meta) where
   as_switch : (b c e : List ℕ) → Torn area meta.log b c → Torn (slot_offset next) 41 c e → TornSwitch before meta b e

@@ -95,7 +95,6 @@ module _ (bytes : List ℕ) (place : ℕ) where
       ]
 
 module _ (bytes : List ℕ) where
-
   neither : (Standing bytes 0 → ⊥) → (Standing bytes 1 → ⊥) → HasNone bytes
   neither first second t m has = elim (cases_Bool (eqb (t % 2) 0)) [
     | inl here ↦ first (record { turn = t; said = m; there = has; here = eqb-true (t % 2) 0 here })

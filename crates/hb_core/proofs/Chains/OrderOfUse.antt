@@ -7,11 +7,10 @@ use Rattle.std.specs.Cmp.{nat_cmp_total, unsigned_tied}
 use Rattle.std.specs.Ordering.{nat_cmp}
 use Rattle.std.specs.FinMap as map
 use Rattle.std.specs.FinSet as set
-use Rattle.std.proofs.lemmas.Bool.{cases_Bool, eqb-true, leb-true}
+use Rattle.std.proofs.lemmas.Bool.{cases_Bool, eqb-true, leb-true, not-true}
 use Rattle.std.proofs.lemmas.List.Elements.{All-from_recursion}
 use Rattle.std.proofs.lemmas.List.Sums.{sum_by-cons}
 use Rattle.hb_lemmas.proofs.Options.{none_so}
-use Rattle.hb_lemmas.proofs.Booleans.{not_true}
 use Rattle.hb_frag.specs.declared.pages.Page.{Page}
 use Rattle.hb_pool.specs.declared.pools.TheConstants.{FRAMES}
 use Rattle.hb_pool.specs.Frames.{Use, has_id}
@@ -130,7 +129,7 @@ both_ways false false on back = refl
 
 same_is : (b c : Bool) → is_same b c ≡ true → b ≡ c
 same_is true c e = sym e
-same_is false c e = sym (not_true c e)
+same_is false c e = sym (not-true c e)
 
 frame_used : (uses : List Use) (q : ℕ) → is_some (frame_of uses q) ≡ is_used q uses
 frame_used [] q = refl
@@ -142,7 +141,7 @@ at_most_one (u ∷ rest) apart q =
     let counted = sum_by-cons (λ (y : Use). cond (has_id q y) 1 0) u rest in
     elim (cases_Bool (u.id == q)) [
       | inl here ↦
-          let off : is_used q rest ≡ false = subst (λ (n : ℕ). is_used n rest ≡ false) (eqb-true u.id q here) (not_true (is_used u.id rest) (and_first (not (is_used u.id rest)) (are_apart rest) apart)) in
+          let off : is_used q rest ≡ false = subst (λ (n : ℕ). is_used n rest ≡ false) (eqb-true u.id q here) (not-true (is_used u.id rest) (and_first (not (is_used u.id rest)) (are_apart rest) apart)) in
           let none : count_by (has_id q) rest ≡ 0 = none_counted (has_id q) rest (none_so (frame_of rest q) (frame_used rest q ∙ off)) in
           let one : cond {A = ℕ} (has_id q u) 1 0 ≡ 1 = ap (λ (b : Bool). cond {A = ℕ} b 1 0) here in
           omega (arith, counted, none, one)

@@ -94,7 +94,6 @@ module _ (d e : DiskModel) (c : RunningCore) (m : Machine) (id : ℕ) (step : Ma
 
   -- it came, or was there
   module _ (fetched : Fetched id c.store st) (used : uses ≡ use_fetched id c.uses) (stays : (q : ℕ) → StaysHere c.uses q → in_memory st q ≡ in_memory c.store q) (memory : IsMemory st) (tied : IsTied st uses) where
-
     brings_it : Brings m (λ other. other ≡ id) st
     brings_it = fetch_brings m d e c failed st step.shows looks id memory fetched (λ q must. stays q (shown_stays d c m step q must) ∙ ap (λ (x : StoreState). in_memory x q) (sym step.shows.store))
 

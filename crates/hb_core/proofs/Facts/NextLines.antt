@@ -1,9 +1,8 @@
 -- The line that a session takes next, where others are answered.
 use Rattle.std.proofs.Common.{◌≡◌, ◌≢◌, ◌⊎◌, inl, inr, ℕ, zero, suc, ◌<◌, ◌==◌, ◌&&◌, ◌||◌, not, Bool, true, false, cond, List, [], ◌∷◌, ◌++◌, Option, Some, refl, sym, ap, ◌∙◌, subst, arith, ne_eqb}
 use Rattle.std.specs.List.{Contains}
-use Rattle.std.proofs.lemmas.Bool.{eq-eqb, eqb-true, false≢true, and_parts}
+use Rattle.std.proofs.lemmas.Bool.{eq-eqb, eqb-true, false≢true, and_parts, not-true}
 use Rattle.std.proofs.lemmas.Option.{none-some}
-use Rattle.hb_lemmas.proofs.Booleans.{not_true}
 use Rattle.hb_set.specs.declared.scripts.Answered.{Answered}
 use Rattle.hb_set.specs.declared.scripts.Line.{Line}
 use Rattle.hb_point.specs.SessionRows.{is_answered, next_line}
@@ -23,7 +22,7 @@ taken : (session : ℕ) (answered : List Answered) (first line : Line) (rest : L
 taken session answered first line rest true test later is =
     let same : first ≡ line = cc in
     let parts = and_parts (first.session == session) (not (is_answered first.number answered)) test in
-    subst (IsNextOf session answered (first ∷ rest)) same (record { among = (zero, omega arith, refl); own = eqb-true first.session session parts.0; open_yet = not_true (is_answered first.number answered) parts.1 })
+    subst (IsNextOf session answered (first ∷ rest)) same (record { among = (zero, omega arith, refl); own = eqb-true first.session session parts.0; open_yet = not-true (is_answered first.number answered) parts.1 })
 taken session answered first line rest false test later is =
     let next = later is in
     record { among = behind rest first line next.among; own = next.own; open_yet = next.open_yet }

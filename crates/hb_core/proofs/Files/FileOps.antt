@@ -41,7 +41,6 @@ pub record ShowsFile (st : StoreState) (s : FileState) : Type 0 where
   pub shown : (id : ℕ) (page : Page) → (in_memory st) id ≡ Some page → page_of s id ≡ Some page
 
 module _ (st : StoreState) (s : FileState) (keeps : KeepsPages st) (file : ShowsFile st s) (op : Op) (allowed : IsAllowedHere st op) where
-
   no_frame : (in_memory st) 0 ≡ None
   no_frame = none_unless (in_memory st 0) (λ page e. let some = (keeps.framed 0 page e).0 in omega (arith, some))
 

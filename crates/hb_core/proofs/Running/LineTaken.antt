@@ -326,7 +326,6 @@ keeps_none d old new mark None none same = λ durable later keeps. subst (λ (s 
 keeps_none d old new mark (Some op) none same = absurd cc
 
 module _ (d : DiskModel) (c after : RunningCore) (m : Machine) (actor : ℕ) (may : IsActor actor) (step : MayStep d c m) where
-
   -- a deed of a machine as it is shown, that does nothing to the file
   pub deed_done : (deed : Deed) (outcome : Outcome) (pins : List ℕ) → pins ≡ pages_of (latches_held m.store (m.activity actor)) → deed.op ≡ None → NumberFate (m.activity actor) deed → DoesDeed actor pins deed outcome c after
       → (new : Machine) × PerformsAsItIs m actor deed outcome new × ShowsMachine d after new

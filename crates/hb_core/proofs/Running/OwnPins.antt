@@ -47,7 +47,6 @@ module _ (m : Machine) (actor : ℕ) (may : IsActor actor) (keeps : MachineKeeps
 
 -- the same of a core that shows the machine
 module _ (d : DiskModel) (c : RunningCore) (m : Machine) (actor : ℕ) (may : IsActor actor) (step : MayStep d c m) where
-
   pub walk_there : (activity : Activity) → StandsAs c actor activity → IsSome (walk_held activity) → IsSome (option_and_then (live_here c.store) (walk_held activity))
   walk_there activity stands =
       subst (λ (a : Activity). IsSome (walk_held a) → IsSome (option_and_then (live_here c.store) (walk_held a))) (stands_as d c m actor activity may step.shows stands)

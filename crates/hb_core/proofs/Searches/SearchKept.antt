@@ -2,7 +2,7 @@
 use Rattle.std.proofs.Common.{◌≡◌, ◌≢◌, ◌⊎◌, inl, inr, ℕ, ◌==◌, ◌++◌, Bool, true, false, cond, List, [], ◌∷◌, filter, option_map, length, All, Any, Option, Some, None, IfSome, refl, sym, ap, ◌∙◌, subst, append-nil, arith}
 use Rattle.std.specs.FinMap as map
 use Rattle.std.proofs.lemmas.Bool.{cases_Bool, eq-eqb, eqb-true, eqb-false, false≢true}
-use Rattle.std.proofs.lemmas.List.{length-append}
+use Rattle.std.proofs.lemmas.List.{length-append, same_from_push}
 use Rattle.std.proofs.lemmas.Option.{same_Some}
 use Rattle.hb_activity.specs.BoxLocks.{lock_of, lock_of_command}
 use Rattle.hb_activity.specs.Classes.{line_in_hand, line_of}
@@ -11,7 +11,7 @@ use Rattle.hb_activity.specs.Walks.{goal_of}
 use Rattle.hb_activity.specs.declared.activities.Activity.{Activity}
 use Rattle.hb_activity.specs.declared.activities.Activity.TheVariants as at
 use Rattle.hb_frag.specs.declared.pages.LivePage.{LivePage}
-use Rattle.hb_lemmas.proofs.Lists.{All-last, All-one, no_member, same_ends}
+use Rattle.hb_lemmas.proofs.Lists.{All-last, All-one, no_member}
 use Rattle.hb_ops.specs.Files.{contents_of}
 use Rattle.hb_point.specs.SessionRows.{WantsBoxes, boxes_ahead, taking}
 use Rattle.hb_search.specs.SearchRows.{Gathers, SearchGoesOn}
@@ -248,7 +248,7 @@ module _ (points : HeldArePoints) (standing : StandingIsContents) (lacking : Lac
 
     joins_it : (joins : Option Entry) → new.order ≡ m.order ++ if_some joins → (joins ≡ Some entry) ⊎ IsRight
     joins_it None order = inr (stays_not (order ∙ append-nil m.order))
-    joins_it (Some one) order = inl (ap Some (same_ends m.order m.order one entry (sym order ∙ grown)).1)
+    joins_it (Some one) order = inl (ap Some (same_from_push m.order m.order one entry (sym order ∙ grown)).1)
 
     acts : DoesRow m actor outcome new → IsRight
     acts does = elim (joins_it does.deed.joins does.performs.order) [ inl joins ↦ takes_right does entry joins wants | inr right ↦ right ]

@@ -119,7 +119,6 @@ walk_among held None its id mode is = absurd (none-some mode is)
 walk_among held (Some page) its id mode is = (one_among held (its page.level) id mode is).0
 
 module _ (m : Machine) (files : Files) (actor id : ℕ) (mode : Mode) (wanted : Wanted) (may : IsActor actor) (fit : LatchesFit m) (has : HasSoundFile m files) (walks : WalksInSpace m) where
-
   abbrev Comes : Type 0
   Comes = ComesLater (current_file files) id wanted.page ⊎ WantsItsOwn m actor id mode wanted
 

@@ -3,11 +3,11 @@ use Rattle.std.proofs.Common.{◌≡◌, ℕ, ◌+◌, ◌-◌, ◌<◌, ◌≤�
 use Rattle.std.specs.List.{find, count_by, position_or_len}
 use Rattle.std.specs.Option.{IsSomeAnd, option_to_list}
 use Rattle.std.specs.Set.{remove_key}
-use Rattle.std.proofs.lemmas.Bool.{eq-eqb}
+use Rattle.std.proofs.lemmas.Bool.{eq-eqb, not-true}
 use Rattle.std.proofs.lemmas.List.Elements.{All-append, All-nil}
 use Rattle.std.proofs.lemmas.List.Sums.{sum_by_push, count_by-le-length}
 use Rattle.std.proofs.lemmas.Map.Views.{All-remove_key}
-use Rattle.hb_lemmas.proofs.Booleans.{if_below, if_same, not_true, one_at_most}
+use Rattle.hb_lemmas.proofs.Booleans.{if_below, if_same, one_at_most}
 use Rattle.hb_lemmas.proofs.Lists.{All-alone}
 use Rattle.hb_lemmas.proofs.Options.{some_value}
 use Rattle.hb_space.specs.declared.form.TheConstants.{PAGE}
@@ -101,7 +101,7 @@ left_over pool old place =
     (λ none.
     let first = some_value (find may_go pool) (free_there pool place none) in
     let long = length_without may_go pool first.0 first.1 in
-    let free = not_true (must_stay first.0) (first_passes may_go pool first.0 first.1) in
+    let free = not-true (must_stay first.0) (first_passes may_go pool first.0 first.1) in
     let less = count_without may_go must_stay pool first.0 first.1 in
     let gone : cond {A = ℕ} (must_stay first.0) 1 0 ≡ 0 = ap (λ b. cond {A = ℕ} b 1 0) free in
     record {
