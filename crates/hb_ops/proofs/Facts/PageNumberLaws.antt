@@ -27,12 +27,6 @@ pub place_of : (pages : List Page) (id : ℕ) (page : Page) → page_at pages id
 place_of pages zero page e = let none = page_at-zero pages in cc
 place_of pages (suc n) page e = (n, refl, sym (page_at-suc pages n) ∙ e)
 
--- a place with a page is in range
-pub in_range : (pages : List Page) (n : ℕ) (page : Page) → slice_get pages n ≡ Some page → n < length pages
-in_range [] n page e = cc
-in_range (x ∷ xs) zero page e = omega arith
-in_range (x ∷ xs) (suc n) page e = let rest = in_range xs n page e in omega arith
-
 -- a list with another page at a place has that one there, and elsewhere what it had
 pub get-set_same : (pages : List Page) (n : ℕ) (new : Page) → n < length pages → slice_get (set pages n new) n ≡ Some new
 get-set_same [] n new lt = absurd (omega arith)
