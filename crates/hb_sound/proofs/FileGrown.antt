@@ -84,11 +84,8 @@ module _ (s : FileState) (x : Growth) (sound : IsSound s) (may : MayGrow s x) (l
 
 -- a page in use stays, and one in use afterwards was so before or is the new root
 module _ (s : FileState) (x : Growth) (grew : IsGrown s x) where
-  pub not_fresh : (id : ℕ) (page : LivePage) → live_page s id ≡ Some page → id ≢ x.fresh
-  not_fresh id page = not_vacant s x.fresh id page grew.vacant
-
   pub stays_live : (id : ℕ) (page : LivePage) → live_page s id ≡ Some page → live_page (grown s x) id ≡ Some page
-  stays_live id page live = ap if_live (grew.others id (not_fresh id page live)) ∙ live
+  stays_live id page live = ap if_live (grew.others id (not_vacant s x.fresh id page grew.vacant live)) ∙ live
 
   pub comes_from : (id : ℕ) (page : LivePage) → live_page (grown s x) id ≡ Some page → ((id ≡ x.fresh) × (page ≡ new_root s.meta)) ⊎ (live_page s id ≡ Some page)
   comes_from id page live = elim (cases_eq id x.fresh) [

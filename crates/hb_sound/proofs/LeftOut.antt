@@ -31,19 +31,16 @@ module _ (facts : List Fact) (flags : List Bool) (chain : List ℕ) (place : ℕ
   here : item_at facts (place + 1) ≡ Some fact
   here = item_read facts place fact within is
 
-  flag : item_at flags (place + 1) ≡ Some (get_or flags place d)
-  flag = item_got flags place d (omega (arith, within, same))
-
   left_here : IsFreeFact fact × (get_or flags place d ≡ false) → IsLeftOut (next_at facts) chain (place + 1)
   left_here free =
       let next = free_next fact free.0 in
-      ((next.0, ap if_next here ∙ next.1), λ h. absurd (let on = (chained (place + 1)).0 h in let never : Some true ≡ Some false = sym on ∙ flag ∙ ap (λ (b : Bool). Some b) free.1 in cc))
+      ((next.0, ap if_next here ∙ next.1), λ h. absurd (let on = (chained (place + 1)).0 h in let never : Some true ≡ Some false = sym on ∙ item_got flags place d (omega (arith, within, same)) ∙ ap (λ (b : Bool). Some b) free.1 in cc))
 
   left_there : IsLeftOut (next_at facts) chain (place + 1) → IsFreeFact fact
   left_there out = next_free fact out.0.0 (sym (ap if_next here) ∙ out.0.1)
 
   unflagged_there : IsLeftOut (next_at facts) chain (place + 1) → (get_or flags place d ≡ false → ⊥) → ⊥
-  unflagged_there out on = out.1 ((chained (place + 1)).1 (flag ∙ ap (λ (b : Bool). Some b) (by_flag (get_or flags place d) on)))
+  unflagged_there out on = out.1 ((chained (place + 1)).1 (item_got flags place d (omega (arith, within, same)) ∙ ap (λ (b : Bool). Some b) (by_flag (get_or flags place d) on)))
 
   pub left_found : IsFirstUpTo (IsLeftOut (next_at facts) chain) place None → IsFreeFact fact × (get_or flags place d ≡ false) → IsLeast (IsLeftOut (next_at facts) chain) (place + 1)
   left_found none free = found (IsLeftOut (next_at facts) chain) place none (left_here free)

@@ -16,18 +16,15 @@ use Rattle.hb_sound.proofs.Levels.{seen_fact}
 
 module _ (facts : List Fact) (named : List Times) (whole : Area) (place : ℕ) (fact : Fact) (d : Times)
     (within : place < length facts) (is : fact ≡ get_or facts place fact) (same : length named ≡ length facts) where
-  counted : item_at named (place + 1) ≡ Some (get_or named place d)
-  counted = item_got named place d (omega (arith, within, same))
-
   by_fact : (own : Fact) → item_at facts (place + 1) ≡ Some own → IsLooseFact facts whole (place + 1) (get_or named place d) own → SeesLoose facts named whole (place + 1)
-  by_fact (Live seen) e loose = (seen, get_or named place d, ap if_seen e, counted, loose)
+  by_fact (Live seen) e loose = (seen, get_or named place d, ap if_seen e, item_got named place d (omega (arith, within, same)), loose)
   by_fact (Free next) e loose = absurd loose
 
   loose_there : SeesLoose facts named whole (place + 1) → IsLooseFact facts whole (place + 1) (get_or named place d) fact
   loose_there sees =
       let own : Some fact ≡ Some (Live sees.0) = sym (item_read facts place fact within is) ∙ seen_fact (item_at facts (place + 1)) sees.0 sees.2 in
       let fact_is : Live sees.0 ≡ fact = cc in
-      let times_same : Some sees.1 ≡ Some (get_or named place d) = sym sees.3 ∙ counted in
+      let times_same : Some sees.1 ≡ Some (get_or named place d) = sym sees.3 ∙ item_got named place d (omega (arith, within, same)) in
       let times_is : sees.1 ≡ get_or named place d = cc in
       let T : Times → Type 0 = λ t. IsLooseSeen facts whole (place + 1) sees.0 t in
       let F : Fact → Type 0 = λ f. IsLooseFact facts whole (place + 1) (get_or named place d) f in

@@ -134,9 +134,6 @@ module _ (s : FileState) (x : Extraction) (pages : List Page) (page source fresh
       pub level : new.level ≡ old.level
       pub area : new.area ≡ old.area
 
-    pub not_fresh : (id : ℕ) (old : LivePage) → live_page s id ≡ Some old → id ≢ x.fresh
-    not_fresh id old = not_vacant s x.fresh id old parted.vacant
-
     pub stays_live : (id : ℕ) (old : LivePage) → live_page s id ≡ Some old → StaysLive id old
     stays_live id old live = elim (cases_eq id x.source) [
       | inl is ↦
@@ -147,7 +144,7 @@ module _ (s : FileState) (x : Extraction) (pages : List Page) (page source fresh
             level = parts.level ∙ ap (λ (q : LivePage). q.level) same;
             area = parts.area ∙ ap (λ (q : LivePage). q.area) same;
           }
-      | inr ne ↦ record { new = old; live = ap if_live (parted.others id ne (not_fresh id old live)) ∙ live; level = refl; area = refl }
+      | inr ne ↦ record { new = old; live = ap if_live (parted.others id ne (not_vacant s x.fresh id old parted.vacant live)) ∙ live; level = refl; area = refl }
     ]
 
     pub rooted_again : LicensesExtraction s x → IsRooted s → IsCounted s → IsRooted after

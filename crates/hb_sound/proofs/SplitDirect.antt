@@ -14,9 +14,9 @@ use Rattle.hb_ops.specs.Allocating.{Allocates, allocated}
 use Rattle.hb_sound.proofs.FileParted.{ArePartsOf, IsParted, after as parted_file, is_parted, parts_of}
 use Rattle.hb_ops.proofs.Facts.StemLaws.{PartLaws}
 use Rattle.hb_sound.proofs.Partition.{each_point_is_held, no_point_is_held_twice}
-use Rattle.hb_sound.proofs.SplitChains.{not_fresh}
 use Rattle.hb_sound.proofs.SplitSound.{comes_from, split_sound}
 use Rattle.hb_sound.proofs.HeldSomewhere.{on_level, under}
+use Rattle.hb_sound.proofs.Facts.PagePlaces.{not_vacant}
 use Rattle.hb_lemmas.proofs.Options.{one_value}
 
 module _ (trees : TreeLaws) (space : SpaceLaws) (s : FileState) (x : Extraction) (pages : List Page) (page source fresh : LivePage) (allocates : Allocates s.meta x.fresh x.free_after) (parted : IsParted s (record { meta = allocated s.meta x.fresh x.free_after; pages = pages }) x page source fresh) (parts : ArePartsOf s.meta x.fresh page source fresh) where
@@ -56,7 +56,7 @@ module _ (trees : TreeLaws) (space : SpaceLaws) (s : FileState) (x : Extraction)
         elim (cases_eq was.0 x.source) [
           | inl is ↦ under s page.level was.0 x.source p is was.1
           | inr ne ↦
-              let new = not_fresh s x pages page source fresh allocates parted parts was.0 was.1.page was.1.live in
+              let new = not_vacant s x.fresh was.0 was.1.page parted.vacant was.1.live in
               let now : HasOn after page.level p was.0 = record { page = was.1.page; live = ap if_live (parted.others was.0 ne new) ∙ was.1.live; on = was.1.on; direct = was.1.direct } in
               let same : was.0 ≡ id = no_point_is_held_twice trees space after page.level p was.0 id sound' point' now has in
               elim either [ inl is ↦ absurd (ne (same ∙ is)) | inr is ↦ absurd (new (same ∙ is)) ]
@@ -66,7 +66,7 @@ module _ (trees : TreeLaws) (space : SpaceLaws) (s : FileState) (x : Extraction)
     parts_direct = record {
       either = (forth, λ has. elim has [ inl one ↦ back x.source (inl refl) (source_on one) | inr two ↦ back x.fresh (inr refl) (fresh_on two) ]);
       not_both = λ one two.
-          not_fresh s x pages page source fresh allocates parted parts x.source page parted.live
+          not_vacant s x.fresh x.source page parted.vacant parted.live
           (no_point_is_held_twice trees space after page.level p x.source x.fresh sound' point' (source_on one) (fresh_on two));
     }
 

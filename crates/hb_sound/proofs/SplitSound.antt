@@ -17,11 +17,11 @@ use Rattle.hb_ops.specs.Allocating.{Allocates, allocated}
 use Rattle.hb_sound.proofs.CutNames.{once}
 use Rattle.hb_sound.proofs.FileParted.{ArePartsOf, IsParted, after as parted_file, is_parted, parts_of}
 use Rattle.hb_sound.proofs.Facts.OneLevel.{spread}
-use Rattle.hb_sound.proofs.Facts.PagePlaces.{live_there}
+use Rattle.hb_sound.proofs.Facts.PagePlaces.{live_there, not_vacant}
 use Rattle.hb_ops.proofs.Facts.StemLaws.{PartLaws}
 use Rattle.hb_sound.proofs.SiblingLeaves.{named_among}
 use Rattle.hb_ops.proofs.Facts.PlacedLaws.{placed}
-use Rattle.hb_sound.proofs.SplitChains.{counted_again, not_fresh, rooted_again, stays_live}
+use Rattle.hb_sound.proofs.SplitChains.{counted_again, rooted_again, stays_live}
 use Rattle.std.proofs.lemmas.Option.{same_Some}
 use Rattle.hb_sound.proofs.Widths.{width}
 
@@ -187,11 +187,11 @@ module _ (s : FileState) (x : Extraction) (pages : List Page) (page source fresh
       alone = alone_again h;
       not_named = λ id new live whole. elim (was_there id new live) [
         | inl w ↦ absurd (fresh_is_part new w.1 whole)
-        | inr was ↦ times_same id (not_fresh s x pages page source fresh allocates parted parts id was.old was.live) ∙ h.not_named id was.old was.live (sym was.area ∙ whole)
+        | inr was ↦ times_same id (not_vacant s x.fresh id was.old parted.vacant was.live) ∙ h.not_named id was.old was.live (sym was.area ∙ whole)
       ];
       named_once = λ id new live part. elim (was_there id new live) [
         | inl w ↦ ap (λ (n : ℕ). times_named n pages) w.0 ∙ fresh_named match
-        | inr was ↦ times_same id (not_fresh s x pages page source fresh allocates parted parts id was.old was.live) ∙ h.named_once id was.old was.live (λ whole. part (was.area ∙ whole))
+        | inr was ↦ times_same id (not_vacant s x.fresh id was.old parted.vacant was.live) ∙ h.named_once id was.old was.live (λ whole. part (was.area ∙ whole))
       ];
     }
 

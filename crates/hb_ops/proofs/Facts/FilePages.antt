@@ -8,8 +8,9 @@ use Rattle.hb_frag.specs.declared.pages.Page.TheVariants.{Live, Free}
 use Rattle.hb_ops.specs.Files.{FileState, last_of, page_at, page_of}
 use Rattle.hb_ops.specs.Operations.{with_page}
 use Rattle.hb_ops.specs.Sound.{IsChain, IsSound, count_live}
-use Rattle.hb_ops.proofs.Facts.PageNumberLaws.{get-set_other, get-set_same, page_at-suc, page_at-zero, with_page-behind, with_page-there}
+use Rattle.hb_ops.proofs.Facts.PageNumberLaws.{page_at-suc, page_at-zero, with_page-behind, with_page-there}
 use Rattle.hb_lemmas.proofs.Lists.{get-push_last, get-push_other}
+use Rattle.hb_space.proofs.Facts.Lists.{get-set_other, get-set_same}
 
 -- ---- numbers
 

@@ -8,8 +8,9 @@ use Rattle.hb_frag.specs.Leaves.{siblings_of}
 use Rattle.hb_ops.specs.Files.{page_at}
 use Rattle.hb_ops.specs.Operations.{with_page}
 use Rattle.hb_ops.specs.Sound.{count_live, count_name, times_named}
-use Rattle.hb_ops.proofs.Facts.PageNumberLaws.{get-set_other, get-set_same, page_at-suc, page_at-zero, place_of, with_page-behind, with_page-there}
+use Rattle.hb_ops.proofs.Facts.PageNumberLaws.{page_at-suc, page_at-zero, place_of, with_page-behind, with_page-there}
 use Rattle.hb_lemmas.proofs.Lists.{get-push_other, get-push_last}
+use Rattle.hb_space.proofs.Facts.Lists.{get-set_other, get-set_same}
 
 -- what a page adds to the pages in use, and to the names
 abbrev pub lives : Page → ℕ
