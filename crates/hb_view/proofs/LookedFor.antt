@@ -2,6 +2,7 @@
 -- many records the one at a point has.
 use Rattle.std.proofs.Common.{◌≡◌, ℕ, suc, ◌+◌, ◌<◌, ◌≤◌, ◌==◌, true, false, cond, List, [], ◌∷◌, ◌++◌, length, get_or, slice_get, Option, Some, None, refl, sym, ap, subst, ◌∙◌, length-append, arith}
 use Rattle.std.proofs.Math.Nat.{suc-add}
+use Rattle.std.proofs.lemmas.Option.{none-some}
 use Rattle.hb_space.specs.Boxes.{Area, IsArea, Holds, side_below, side_from}
 use Rattle.hb_space.proofs.Facts.Boxes.{Holds-side_below, Holds-side_from}
 use Rattle.hb_frag.specs.declared.leaves.Leaf.{Leaf}
@@ -50,10 +51,7 @@ none_step : (name : ℕ) (leaf : Leaf) (area : Area) (rest front back : List Pla
 none_step name (Records records) area rest front back later is = later is
 none_step name (Sibling page) area rest front back later is = later is
 none_step name (Child page) area rest front back later is =
-    elim (page == name) as (λ b. cond b (Some area) (first_child_box name rest) ≡ None → cond b (Some area) (first_child_box name front) ≡ first_child_box name back) [ true ↦ λ here. absurd (something here) | false ↦ λ there. later there ] is
-  where
-    something : Some area ≡ None → ⊥
-    something is = cc
+    elim (page == name) as (λ b. cond b (Some area) (first_child_box name rest) ≡ None → cond b (Some area) (first_child_box name front) ≡ first_child_box name back) [ true ↦ λ here. absurd (none-some area (sym here)) | false ↦ λ there. later there ] is
 
 child_behind : (name : ℕ) (xs ys : List Placed) → first_child_box name xs ≡ None → first_child_box name (xs ++ ys) ≡ first_child_box name ys
 child_behind name [] ys is = refl

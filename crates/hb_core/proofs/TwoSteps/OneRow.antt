@@ -32,7 +32,7 @@ use Rattle.hb_core.proofs.TwoSteps.OnePiece.{one_number}
 use Rattle.hb_point.proofs.Facts.ChosenCuts.{one_choice}
 use Rattle.hb_core.specs.Machines.{Machine, live_here, with_disk, sight}
 use Rattle.hb_core.specs.Rows.{DoesHere, Row, RowAlone, RowAt}
-use Rattle.hb_frag.specs.Leaves.{IsPointer, Placed, weight_of}
+use Rattle.hb_frag.specs.Leaves.{IsPointer, Placed, weight_of, leaf_at}
 use Rattle.hb_frag.specs.Paths.{part_at}
 use Rattle.hb_frag.specs.Rules.{AreInOrder}
 use Rattle.hb_frag.specs.Trees.{Tree}

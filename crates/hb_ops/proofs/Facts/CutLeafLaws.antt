@@ -8,7 +8,7 @@ use Rattle.hb_frag.specs.declared.leaves.Leaf.TheVariants.{Records, Sibling}
 use Rattle.hb_frag.specs.declared.paths.Side.{Side}
 use Rattle.hb_frag.specs.declared.paths.Side.TheVariants.{Left, Right}
 use Rattle.hb_frag.specs.Trees.{Tree, Tip}
-use Rattle.hb_frag.specs.Leaves.{Placed, IsWellCut, leaves_of}
+use Rattle.hb_frag.specs.Leaves.{Placed, IsWellCut, leaves_of, records_of}
 use Rattle.hb_frag.specs.Rules.{IsInOrder}
 use Rattle.hb_ops.specs.declared.leaf_cuts.LeafCut.{LeafCut}
 use Rattle.hb_ops.specs.Cutting.{PartLeaves, PartsLeaf, area_on, cut_through, cut_with, going, half_area, half_on, is_on, other_side, reached, staying}

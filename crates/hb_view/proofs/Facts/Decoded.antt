@@ -1,5 +1,5 @@
 -- What decoding the bytes of a view gives.
-use Rattle.std.proofs.Common.{◌≡◌, ℕ, List, IsSome, Result, Ok, Err, ◌⊎◌, inl, inr, sym, ap}
+use Rattle.std.proofs.Common.{◌≡◌, ℕ, List, IsSome, Result, Ok, Err, ◌⊎◌, sym, ap}
 use Rattle.hb_lemmas.proofs.Options.{some_value}
 use Rattle.hb_frag.specs.declared.pages.Page.{Page}
 use Rattle.hb_frag.specs.Grammar.{SpellsPage}
@@ -8,16 +8,11 @@ use Rattle.hb_page_codec.specs.ReadingPages.{page_of_bytes}
 use Rattle.hb_page_codec.specs.declared.errors.PageError.{PageError}
 use Rattle.hb_page_codec.specs.declared.errors.PageError.TheVariants as errors
 use Rattle.hb_page_codec.proofs.Facts.PageLaws.{page_takes, page_again}
+pub use Rattle.hb_page_codec.proofs.Facts.PageLaws.{decodes_nothing}
 use Rattle.hb_view.specs.Spelled.{page_or, page_spelled}
 
 pub is_decoded : (bytes : List ℕ) (page : Page) → SpellsPage bytes page → page ≡ page_spelled bytes
 is_decoded bytes page s = sym (ap page_or (page_again bytes page s))
-
--- bad bytes give no page
-pub decodes_nothing : (e : PageError) → e ≡ errors.BadPage → (page : Page)
-    → (◌≡◌ {A = Result Page PageError} (Err e) (Ok page)) ⊎ (◌≡◌ {A = Result Page PageError} (Err e) (Err errors.NoMemory)) → ⊥
-decodes_nothing e bad page (inl ok) = cc ok
-decodes_nothing e bad page (inr refused) = cc (bad, refused)
 
 -- bytes that spell a page are never refused as bad
 pub never_bad : (bytes : List ℕ) (e : PageError) → AreBytes bytes → IsSome (page_of_bytes bytes) → e ≡ errors.BadPage
