@@ -10,7 +10,7 @@ use Rattle.hb_ops.specs.Sound.{IsChain, IsCounted, IsRooted, count_live}
 use Rattle.hb_sound.proofs.Extractions.{Extraction, LicensesExtraction}
 use Rattle.hb_ops.specs.Allocating.{Allocates, allocated}
 use Rattle.hb_sound.proofs.FileParted.{ArePartsOf, IsParted}
-use Rattle.hb_sound.proofs.Facts.PagePlaces.{not_vacant}
+use Rattle.hb_sound.proofs.Facts.PagePlaces.{not_vacant, StaysLive}
 use Rattle.hb_ops.proofs.Facts.PageLists.{live_few}
 use Rattle.hb_ops.proofs.Facts.PageNumberLaws.{live_so, place_of}
 use Rattle.std.proofs.lemmas.Option.{same_Some, slice_get_within}
@@ -128,13 +128,7 @@ module _ (s : FileState) (x : Extraction) (pages : List Page) (page source fresh
 
   module _ (parts : ArePartsOf s.meta x.fresh page source fresh) where
     -- a page in use stays, with its level and its box
-    pub record StaysLive (id : ℕ) (old : LivePage) : Type 0 where
-      pub new : LivePage
-      pub live : live_page after id ≡ Some new
-      pub level : new.level ≡ old.level
-      pub area : new.area ≡ old.area
-
-    pub stays_live : (id : ℕ) (old : LivePage) → live_page s id ≡ Some old → StaysLive id old
+    pub stays_live : (id : ℕ) (old : LivePage) → live_page s id ≡ Some old → StaysLive after id old
     stays_live id old live = elim (cases_eq id x.source) [
       | inl is ↦
           let same : page ≡ old = same_Some page old (sym parted.live ∙ ap (live_page s) (sym is) ∙ live) in

@@ -47,4 +47,4 @@ pub lines_at_end : (text : List ℕ) → 0 < length text → position (λ c. eqb
 lines_at_end text some e =
     let h = not_made _ (position_or_len (λ c. eqb c 10) text) e in
     let past : length text ≤ position_or_len (λ c. eqb c 10) text = grind (arith, nat_tests, h) in
-    rw (take_rest (length text) text, drop_all (length text) text (omega arith)) (one_line text some past)
+    rw (take_rest text (length text), drop_all (length text) text (omega arith)) (one_line text some past)

@@ -36,6 +36,19 @@ no_wider (Free next ∷ rest) (suc n) page e = no_wider rest n page e
 pub page_no_wider : (s : FileState) (id : ℕ) (page : LivePage) → live_page s id ≡ Some page → width page.area ≤ total s.pages
 page_no_wider s id page e = let here = place_of s id page e in no_wider s.pages here.0 page here.2
 
+-- a page stays in use with its level and its box, and so it was
+pub record StaysLive (t : FileState) (id : ℕ) (old : LivePage) : Type 0 where
+  pub new : LivePage
+  pub live : live_page t id ≡ Some new
+  pub level : new.level ≡ old.level
+  pub area : new.area ≡ old.area
+
+pub record WasLive (s : FileState) (id : ℕ) (new : LivePage) : Type 0 where
+  pub old : LivePage
+  pub live : live_page s id ≡ Some old
+  pub level : new.level ≡ old.level
+  pub area : new.area ≡ old.area
+
 -- a page in use has not the number of one that isn't
 pub not_vacant : (s : FileState) (fresh id : ℕ) (page : LivePage) → ((q : LivePage) → live_page s fresh ≡ Some q → ⊥) → live_page s id ≡ Some page → id ≢ fresh
 not_vacant s fresh id page vacant live is = vacant page (ap (live_page s) (sym is) ∙ live)
