@@ -23,7 +23,7 @@ use Rattle.hb_log_codec.proofs.OpLaws.{op_again, op_exact}
 use Rattle.hb_log_codec.specs.declared.groups.Group.{Group}
 use Rattle.hb_log_codec.specs.declared.reading.GroupStop.{GroupStop}
 use Rattle.hb_log_codec.specs.declared.reading.GroupStop.TheVariants as stops
-use Rattle.std.proofs.lemmas.Option.{same_Some}
+use Rattle.std.proofs.lemmas.Option.{same_Some, none-some}
 use Rattle.hb_lemmas.proofs.Lists.{same_fronts, same_first}
 use Rattle.hb_page_codec.proofs.Facts.PageLaws.{SpelledOnce}
 
@@ -32,15 +32,12 @@ halves n bytes front back f b = sym (take-append-drop n bytes) ∙ (λ i. sym f 
 
 -- ---- operations
 
-none_some : {A : Type 0} (y : A) → None ≡ Some y → ⊥
-none_some y h = absurd cc
-
 pub op_found : ExactFields → {X : Type 0} (view : X → Op × List ℕ) (k : ℕ) → 0 < k → k ≤ KMAX → (bytes : List ℕ) (result : Result X GroupStop) → AreBytes bytes → GivesOrStops view result (op_at k bytes) → Finds (FitsOp k) op_bytes bytes view result
 op_found f view k some few bytes (Ok x) fits e =
     let taken = (op_exact f k some few).takes bytes (view x) fits e in
     record { fits = taken.1; parts = taken.0 }
 op_found f view k some few bytes (Err stops.NoMemory) fits e = tt
-op_found f view k some few bytes (Err stops.Bad) fits e = λ x rest b. none_some (x, rest) (sym e ∙ ap (op_at k) b.parts ∙ op_again f k x rest b.fits)
+op_found f view k some few bytes (Err stops.Bad) fits e = λ x rest b. none-some (x, rest) (sym e ∙ ap (op_at k) b.parts ∙ op_again f k x rest b.fits)
 
 -- ---- a page image
 

@@ -3,7 +3,7 @@ use Rattle.std.proofs.Common.{◌≡◌, ◌-◌, suc, true, List, [], ◌∷◌
 use Rattle.std.specs.List.{Contains, slice_get}
 use Rattle.std.proofs.lemmas.List.Elements.{All-contains, Contains-get_or, filter_passes}
 use Rattle.std.proofs.lemmas.List.Kept.{AllPairs-filter}
-use Rattle.std.proofs.lemmas.Option.{slice_get_past}
+use Rattle.std.proofs.lemmas.Option.{slice_get_past, none-some}
 use Rattle.hb_space.proofs.Facts.PointOrder.{not_itself}
 use Rattle.hb_frag.proofs.Facts.Tiles.{tiles_areas}
 use Rattle.hb_frag.specs.Leaves.{WellCut, leaf_at, leaves_of}
@@ -11,8 +11,9 @@ use Rattle.hb_frag.specs.Rules.{AreInOrder, IsInOrder}
 use Rattle.hb_frag.specs.declared.leaves.Leaf.TheVariants.{Records}
 use Rattle.hb_frag.specs.declared.pages.LivePage.{LivePage}
 use Rattle.hb_lemmas.proofs.Lists.{All-last, filter_has}
+use Rattle.hb_lemmas.proofs.Pairs.{pairs_append}
 use Rattle.hb_ops.proofs.Facts.Opened.{first_has}
-use Rattle.hb_search.proofs.StaysApart.{pairs_joined, stays_apart}
+use Rattle.hb_search.proofs.StaysApart.{stays_apart}
 use Rattle.hb_search.specs.Gathering.{IsLeafAhead}
 use Rattle.hb_search.specs.SearchRows.{records_within}
 use Rattle.hb_search.specs.Searching.{Differ, IsGathering}
@@ -23,12 +24,9 @@ use Rattle.hb_space.specs.declared.records.Record.{Record}
 abbrev no_areas : List Area
 no_areas = []
 
-nothing_there : (x : Area) → None ≡ Some x → ⊥
-nothing_there x same = cc
-
 -- the last of a list, and those in front of it
 last_splits : (xs : List Area) (x : Area) → slice_get xs (length xs - 1) ≡ Some x → (front : List Area) × (xs ≡ front ++ x ∷ [])
-last_splits [] x is = absurd (nothing_there x (sym (slice_get_past no_areas (0 - 1) (omega arith)) ∙ is))
+last_splits [] x is = absurd (none-some x (sym (slice_get_past no_areas (0 - 1) (omega arith)) ∙ is))
 last_splits (y ∷ []) x is =
     let first : Some y ≡ Some x = ap (slice_get (y ∷ [])) (let e : 0 ≡ length (y ∷ []) - 1 = omega arith in e) ∙ is in
     let same : y ≡ x = cc in
@@ -52,7 +50,7 @@ module _ (page : LivePage) (rest : List Area) (found records : List Record) (are
   taken = records_within at_hand records
 
   lies_in : (s : Record) → Contains taken s → Holds at_hand s.key
-  lies_in s there = Holds-from_test at_hand s.key is_area (attributes s (filter_has (λ r. holds at_hand r.key) records s there)) (All-contains (λ r. holds at_hand r.key ≡ true) taken s (filter_passes (λ r. holds at_hand r.key) records) there)
+  lies_in s there = Holds-from_test at_hand s.key (All-contains (λ r. holds at_hand r.key ≡ true) taken s (filter_passes (λ r. holds at_hand r.key) records) there)
 
   lies_out : (front : List Area) → rest ≡ front ++ at_hand ∷ [] → (r : Record) → Contains found r → ¬ (Holds at_hand r.key)
   lies_out front boxes r there = All-last (λ a. ¬ (Holds a r.key)) front at_hand (subst (λ (l : List Area). All (λ a. ¬ (Holds a r.key)) l) boxes (All-contains (λ s. All (λ a. ¬ (Holds a s.key)) rest) found r gathering.outside there))
@@ -65,7 +63,7 @@ module _ (page : LivePage) (rest : List Area) (found records : List Record) (are
   leaf_ahead =
       let split = last_splits rest at_hand is_last in
       let meets = Meets-from_point at_hand area at_hand.lo (lo_held at_hand is_area) inside in
-      let once = pairs_joined Differ found taken gathering.once (AllPairs-filter Differ (λ r. holds at_hand r.key) records (λ i j d less lt same. not_itself _ _ same (in_leaf.rising i j d less lt))) (across split.0 split.1) in
+      let once = pairs_append Differ found taken gathering.once (AllPairs-filter Differ (λ r. holds at_hand r.key) records (λ i j d less lt same. not_itself _ _ same (in_leaf.rising i j d less lt))) (across split.0 split.1) in
       record {
         front = split.0;
         at_hand = at_hand;

@@ -4,32 +4,14 @@ use Rattle.std.specs.List.{Contains}
 use Rattle.std.proofs.lemmas.List.Elements.{All-head, All-tail, Contains-get_or}
 use Rattle.std.proofs.lemmas.List.{get_or_default}
 use Rattle.std.proofs.lemmas.List.Kept.{AllPairs-cons}
-use Rattle.hb_lemmas.proofs.Lists.{All-front, All-last, All-parts}
+use Rattle.hb_lemmas.proofs.Lists.{All-front, All-last, All-parts, All-one}
+use Rattle.hb_lemmas.proofs.Pairs.{pairs_append, pairs_parts}
 use Rattle.hb_search.specs.Gathering.{boxes_then}
 use Rattle.hb_search.specs.Searching.{Differ, IsGathering}
 use Rattle.hb_space.proofs.Facts.Boxes.{Holds-common_area, IsArea-common_area, Within-common_area, lo_held}
 use Rattle.hb_space.proofs.Facts.Outside.{cover_from_pieces, disjoint_from_pieces}
 use Rattle.hb_space.specs.Boxes.{Area, Disjoint, Holds, IsArea, Meets, Within, common_area, pieces_outside}
 use Rattle.hb_space.specs.declared.records.Record.{Record}
-
-module _ {X : Type 0} (R : X → X → Type 0) where
-  pairs_front : (xs : List X) (x : X) → AllPairs R (xs ++ x ∷ []) → AllPairs R xs × All (λ y. R y x) xs
-  pairs_front [] x pairs = (λ i j d less lt. absurd (omega (arith, lt)), λ k d lt. absurd (omega (arith, lt)))
-  pairs_front (y ∷ ys) x pairs =
-      let first = λ (k : ℕ) (d : X) (lt : k < length (ys ++ x ∷ [])). pairs 0 (suc k) d (omega arith) (omega (arith, lt)) in
-      let parts = (All-parts (R y) ys (x ∷ [])).0 first in
-      let later = pairs_front ys x (λ i j d low high. pairs (suc i) (suc j) d (omega (arith, low)) (omega (arith, high))) in
-      (AllPairs-cons R y ys parts.0 later.0, joins y ys (All-head (R y) x [] parts.1) later.1)
-    where
-      joins : (y : X) (ys : List X) → R y x → All (λ z. R z x) ys → All (λ z. R z x) (y ∷ ys)
-      joins y ys one rest zero d lt = one
-      joins y ys one rest (suc k) d lt = rest k d (omega (arith, lt))
-
-  pub pairs_joined : (xs ys : List X) → AllPairs R xs → AllPairs R ys → All (λ x. All (R x) ys) xs → AllPairs R (xs ++ ys)
-  pairs_joined [] ys first second across = second
-  pairs_joined (x ∷ xs) ys first second across = AllPairs-cons R x (xs ++ ys)
-      ((All-parts (R x) xs ys).1 (λ k d lt. first 0 (suc k) d (omega arith) (omega (arith, lt)), All-head (λ r. All (R r) ys) x xs across))
-      (pairs_joined xs ys (λ i j d low high. first (suc i) (suc j) d (omega (arith, low)) (omega (arith, high))) second (All-tail (λ r. All (R r) ys) x xs across))
 
 module _ (front : List Area) (found taken : List Record) (at_hand area : Area) (gathering : IsGathering (front ++ at_hand ∷ []) found) (hand_is : IsArea at_hand) (leaf_is : IsArea area) (same : length at_hand.lo ≡ length area.lo) (meets : Meets at_hand area) (in_hand : (s : Record) → Contains taken s → Holds at_hand s.key) (in_leaf : (s : Record) → Contains taken s → Holds area s.key) where
   abbrev shared : Area
@@ -51,10 +33,12 @@ module _ (front : List Area) (found taken : List Record) (at_hand area : Area) (
   piece_at k d lt p inside = (cover_from_pieces at_hand area shared pieces p refl hand_is shared_is attributes inner (Holds-common_area at_hand area p hand_is leaf_is same)).0 (k, get_or pieces k d, lt, get_or_default pieces k (get_or pieces k d) d lt, inside)
 
   fronts : AllPairs Disjoint front × All (λ f. Disjoint f at_hand) front
-  fronts = pairs_front Disjoint front at_hand gathering.apart
+  fronts =
+      let parts = pairs_parts Disjoint front (at_hand ∷ []) gathering.apart in
+      (parts.0, λ k d lt. (All-one (Disjoint (get_or front k d)) at_hand).0 (parts.1 k d lt))
 
   apart_then : AllPairs Disjoint (front ++ pieces)
-  apart_then = pairs_joined Disjoint front pieces fronts.0 (disjoint_from_pieces at_hand shared pieces refl hand_is shared_is attributes inner) (λ i e low k d lt p in_front in_piece. fronts.1 i e low p in_front (piece_at k d lt p in_piece).0)
+  apart_then = pairs_append Disjoint front pieces fronts.0 (disjoint_from_pieces at_hand shared pieces refl hand_is shared_is attributes inner) (λ i e low k d lt p in_front in_piece. fronts.1 i e low p in_front (piece_at k d lt p in_piece).0)
 
   of_found : All (λ r. All (λ a. ¬ (Holds a r.key)) (front ++ pieces)) found
   of_found i e low =

@@ -98,10 +98,6 @@ none_above a hs n le above k d lt =
     let within : n + k < length hs = omega (arith, simp length-drop at lt) in
     rw get_or-drop (outside_above a.lo a.hi (get_or hs (n + k) d).value.key (leb-false _ _ (above (n + k) d (omega arith) within)))
 
--- what `hs[m..]` is
-pub rest_is : {T : Type 0} (xs : List T) (m : ℕ) → take (length xs - m) (drop m xs) ≡ drop m xs
-rest_is xs m = take_all (length xs - m) (drop m xs) (omega (arith, length-drop m xs))
-
 -- so the records between the two places are all that the box may hold
 pub filter_window : (a : Area) (hs rest : List (Box Record Global)) (m n : ℕ) → rest ≡ drop m hs → m ≤ length hs → n ≤ length rest
     → IsPartitionPoint (λ h. is_lt (point_cmp h.value.key a.lo) ≡ true) (λ h. is_lt (point_cmp h.value.key a.lo) ≡ false) hs m

@@ -26,9 +26,9 @@ use Rattle.hb_sound.specs.Facts.{AreFactsOf, if_seen, more, once_more, seen_at}
 use Rattle.hb_sound.specs.Told.{item_at, file_with}
 use Rattle.hb_sound.proofs.Bridge.{live_seen, page_item, seen_live}
 use Rattle.hb_lemmas.proofs.Lists.{only_one}
-use Rattle.hb_sound.proofs.LeafBridge.{known_area}
 use Rattle.hb_sound.proofs.Levels.{seen_fact}
 use Rattle.hb_ops.proofs.Facts.PlacedLaws.{placed}
+use Rattle.hb_ops.proofs.Facts.KnownBoxes.{known_area}
 
 -- how often sibling leaves name each page, as counts that go up to two
 abbrev pub IsNamedBy : List Fact → List Page → List Times → Type 0

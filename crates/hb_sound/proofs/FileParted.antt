@@ -88,9 +88,6 @@ pub record HasTaken (pages : List Page) (high fresh : ℕ) (new : LivePage) (aft
   pub numbered : length after ≡ max high fresh
 
 module _ (s : FileState) (x : Extraction) (page source fresh : LivePage) (numbered : length s.pages ≡ s.meta.high) (allocates : Allocates s.meta x.fresh x.free_after) (licensed : LicensesExtraction s x) (live : live_page s x.source ≡ Some page) where
-  was_live : page_of s x.source ≡ Some (Live page)
-  was_live = live_so (page_of s x.source) page live
-
   vacant : (q : LivePage) → live_page s x.fresh ≡ Some q → ⊥
   vacant q e = elim (cases_eq s.meta.free 0) [
     | inl none ↦
@@ -109,7 +106,7 @@ module _ (s : FileState) (x : Extraction) (page source fresh : LivePage) (number
   first = with_page x.source (Live source) s.pages
 
   put_source : HasInstead s.pages x.source (Live page) (Live source) first × (length first ≡ length s.pages)
-  put_source = put_instead s.pages x.source (Live page) (Live source) was_live
+  put_source = put_instead s.pages x.source (Live page) (Live source) (live_so (page_of s x.source) page live)
 
   put_fresh : HasTaken first s.meta.high x.fresh fresh (with_page x.fresh (Live fresh) first)
   put_fresh = elim (cases_eq s.meta.free 0) [

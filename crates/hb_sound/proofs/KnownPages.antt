@@ -16,17 +16,12 @@ use Rattle.hb_sound.specs.declared.rests.Rest.TheVariants.{Nothing, Lone, More}
 use Rattle.hb_sound.specs.Facts.{FindsBelow, if_seen, seen_at}
 use Rattle.hb_sound.specs.Links.{IsRestOf, Knows, KnowsTold}
 use Rattle.hb_sound.specs.Told.{GivesPage, item_at}
-use Rattle.hb_lemmas.proofs.Lists.{get-push_cases}
+use Rattle.hb_lemmas.proofs.Lists.{get-push_cases, get-longer}
 
 -- an item of a list stays where it is when one more comes
-slice_later : {A : Type 0} (xs : List A) (x : A) (n : ℕ) (y : A) → slice_get xs n ≡ Some y → slice_get (xs ++ x ∷ []) n ≡ Some y
-slice_later {A} [] x n y e = let never : None ≡ Some y = e in cc
-slice_later {A} (z ∷ xs) x zero y e = e
-slice_later {A} (z ∷ xs) x (suc n) y e = slice_later xs x n y e
-
 item_later : {A : Type 0} (xs : List A) (x : A) (id : ℕ) (y : A) → item_at xs id ≡ Some y → item_at (xs ++ x ∷ []) id ≡ Some y
 item_later {A} xs x zero y e = let never : None ≡ Some y = e in cc
-item_later {A} xs x (suc n) y e = slice_later xs x n y e
+item_later {A} xs x (suc n) y e = get-longer xs (x ∷ []) n y e
 
 -- and each item is one of before, or the one that came
 item_end : {A : Type 0} (xs : List A) (x : A) (id : ℕ) (y : A) → item_at (xs ++ x ∷ []) id ≡ Some y → (item_at xs id ≡ Some y) ⊎ ((id ≡ length xs + 1) × (x ≡ y))

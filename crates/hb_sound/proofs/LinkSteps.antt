@@ -23,7 +23,7 @@ use Rattle.hb_sound.specs.declared.pages.AuditStop.{AuditStop}
 use Rattle.hb_sound.specs.declared.pages.AuditStop.TheVariants as stops
 use Rattle.hb_sound.proofs.Bridge.{page_item}
 use Rattle.hb_sound.proofs.Counts.{more_more, names_append}
-use Rattle.hb_sound.proofs.Firsts.{item_behind}
+use Rattle.hb_sound.proofs.Firsts.{found, item_behind, pass_first}
 use Rattle.hb_sound.proofs.ReadUp.{take_more}
 use Rattle.hb_frag.proofs.Facts.NamesListed.{siblings-append}
 
@@ -32,28 +32,14 @@ pub next_first : (p : ℕ → Type 0) (good : Type 0) (n : ℕ) (first after : O
     → (good → ¬ (p (n + 1))) → (¬ good → p (n + 1)) → IsFirstUpTo p (n + 1) after
 next_first p good n None after is (inl keeps) none some =
     let Q : Option ℕ → Type 0 = λ o. IsFirstUpTo p (n + 1) o in
-    subst Q (sym keeps.1) (λ m le at. elim (cases_lt n m) [
-      | inl lt ↦ let e : m ≡ n + 1 = omega (arith, lt, le) in none keeps.0 (subst p e at)
-      | inr before ↦ is m before at
-    ])
+    subst Q (sym keeps.1) (pass_first p n None is (none keeps.0))
 next_first p good n (Some first) after is (inl keeps) none some =
     let Q : Option ℕ → Type 0 = λ o. IsFirstUpTo p (n + 1) o in subst Q (sym keeps.1) is
 next_first p good n None after is (inr breaks) none some =
     let Q : Option ℕ → Type 0 = λ o. IsFirstUpTo p (n + 1) o in
-    subst Q (sym breaks.1) (record {
-      here = some breaks.0;
-      least = λ m at. elim (cases_lt n m) [ inl lt ↦ omega (arith, lt) | inr before ↦ absurd (is m before at) ];
-    })
+    subst Q (sym breaks.1) (found p n is (some breaks.0))
 next_first p good n (Some first) after is (inr breaks) none some =
     let Q : Option ℕ → Type 0 = λ o. IsFirstUpTo p (n + 1) o in subst Q (sym breaks.1) is
-
--- a page that is free, or whose number is met, has no leaf that counts
-pub pass_first : (p : ℕ → Type 0) (n : ℕ) (first : Option ℕ) → IsFirstUpTo p n first → ¬ (p (n + 1)) → IsFirstUpTo p (n + 1) first
-pass_first p n None is off = λ m le at. elim (cases_lt n m) [
-  | inl lt ↦ let e : m ≡ n + 1 = omega (arith, lt, le) in off (subst p e at)
-  | inr before ↦ is m before at
-]
-pass_first p n (Some first) is off = is
 
 count_append : (id : ℕ) (xs ys : List (ℕ × Area)) → count_name id (xs ++ ys) ≡ count_name id xs + count_name id ys
 count_append id [] ys = omega arith

@@ -18,10 +18,10 @@ use Rattle.hb_sound.specs.Laws.{SpaceLaws, TreeLaws}
 use Rattle.hb_sound.specs.LawsOfMerges.{MergesChangeThree, MergesKeepSound, MergesRename, RenamesAt}
 use Rattle.hb_sound.proofs.DoneMerges.{merged}
 use Rattle.hb_sound.proofs.MergedLeaves.{MergeLaws}
-use Rattle.hb_sound.proofs.Facts.OneLevel.{same_page}
 use Rattle.hb_sound.proofs.Partition.{pages_have_boxes}
 use Rattle.hb_sound.proofs.PostedPage.{kept_same}
 use Rattle.hb_ops.proofs.Facts.PlacedLaws.{placed_is_leaf}
+use Rattle.hb_ops.specs.Files.{live_page}
 
 -- the leaf at a point, with its new name
 first_renamed : (old new : ℕ) (p : List ℕ) (xs : List Placed) → first_at p (map (renamed_place old new) xs) ≡ option_map (renamed_place old new) (first_at p xs)
@@ -70,7 +70,7 @@ module _ (trees : TreeLaws) (laws : MergeLaws) (meta : Meta) (keep gone : ℕ) (
 pub merges_rename : TreeLaws → SpaceLaws → MergeLaws → MergesKeepSound → MergesChangeThree → MergesRename
 merges_rename trees space laws sound changes s parent keep gone above p may live held =
     let m = merged sound changes s parent keep gone may in
-    let same : m.changes.above ≡ above = same_page s parent m.changes.above above m.changes.above_live live in
+    let same : m.changes.above ≡ above = one_value (live_page s parent) m.changes.above above m.changes.above_live live in
     let level : m.changes.kept.level + 1 ≡ above.level = m.fits.kept_level ∙ ap (λ (q : LivePage). q.level) same in
     renames_at trees laws s.meta keep gone above (may.sound.well_made parent above live) (omega (arith, level))
     (pages_have_boxes trees space s parent above may.sound may.some_attributes may.few_attributes live) p held

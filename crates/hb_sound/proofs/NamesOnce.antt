@@ -10,6 +10,7 @@ use Rattle.hb_ops.proofs.Facts.WellMade.{not_broken}
 use Rattle.hb_sound.specs.Names.{BreaksRule, MissesSibling, MissesChild, IsLoose, KeepsLocally, NamesFree, NamesIn, NamesLocal, NamesLoose}
 use Rattle.hb_sound.specs.Walks.{IsLeast, IsLeftOut, IsOnce, LeadsAlong, next_free}
 use Rattle.hb_sound.proofs.Facts.LeastLaws.{least_one}
+use Rattle.hb_sound.proofs.LocalBridge.{one_rule}
 
 abbrev no_number : List ℕ
 no_number = []
@@ -53,34 +54,6 @@ same_walk next seen (id ∷ rest) (name ∷ more) head end last once twice new f
     (let E : ℕ → Type 0 = λ n. seen last ⊎ Contains (n ∷ more) last ⊎ (next last ≡ None) in ends_behind next seen id more last (subst E (sym same) stopped)) in
     (ap (λ (n : ℕ). n ∷ rest) same ∙ ap (λ (l : List ℕ). name ∷ l) behind.0, behind.1)
 
--- a page breaks one rule first
-breaks_same : (r t : ℕ) (page : LivePage) (meta : Meta) → BreaksFirst r page meta → BreaksFirst t page meta → r ≡ t
-breaks_same r t page meta (inl a) (inl b) = a.0 ∙ sym b.0
-breaks_same r t page meta (inl a) (inr (inl b)) = absurd (a.1 b.1)
-breaks_same r t page meta (inl a) (inr (inr (inl b))) = absurd (a.1 b.1)
-breaks_same r t page meta (inl a) (inr (inr (inr (inl b)))) = absurd (a.1 b.1)
-breaks_same r t page meta (inl a) (inr (inr (inr (inr b)))) = absurd (a.1 b.1)
-breaks_same r t page meta (inr (inl a)) (inl b) = absurd (b.1 a.1)
-breaks_same r t page meta (inr (inl a)) (inr (inl b)) = a.0 ∙ sym b.0
-breaks_same r t page meta (inr (inl a)) (inr (inr (inl b))) = absurd (a.2 b.2)
-breaks_same r t page meta (inr (inl a)) (inr (inr (inr (inl b)))) = absurd (a.2 b.2)
-breaks_same r t page meta (inr (inl a)) (inr (inr (inr (inr b)))) = absurd (a.2 b.2)
-breaks_same r t page meta (inr (inr (inl a))) (inl b) = absurd (b.1 a.1)
-breaks_same r t page meta (inr (inr (inl a))) (inr (inl b)) = absurd (b.2 a.2)
-breaks_same r t page meta (inr (inr (inl a))) (inr (inr (inl b))) = a.0 ∙ sym b.0
-breaks_same r t page meta (inr (inr (inl a))) (inr (inr (inr (inl b)))) = absurd (a.3 b.3)
-breaks_same r t page meta (inr (inr (inl a))) (inr (inr (inr (inr b)))) = absurd (a.3 b.3)
-breaks_same r t page meta (inr (inr (inr (inl a)))) (inl b) = absurd (b.1 a.1)
-breaks_same r t page meta (inr (inr (inr (inl a)))) (inr (inl b)) = absurd (b.2 a.2)
-breaks_same r t page meta (inr (inr (inr (inl a)))) (inr (inr (inl b))) = absurd (b.3 a.3)
-breaks_same r t page meta (inr (inr (inr (inl a)))) (inr (inr (inr (inl b)))) = a.0 ∙ sym b.0
-breaks_same r t page meta (inr (inr (inr (inl a)))) (inr (inr (inr (inr b)))) = absurd (a.4 b.4)
-breaks_same r t page meta (inr (inr (inr (inr a)))) (inl b) = absurd (b.1 a.1)
-breaks_same r t page meta (inr (inr (inr (inr a)))) (inr (inl b)) = absurd (b.2 a.2)
-breaks_same r t page meta (inr (inr (inr (inr a)))) (inr (inr (inl b))) = absurd (b.3 a.3)
-breaks_same r t page meta (inr (inr (inr (inr a)))) (inr (inr (inr (inl b)))) = absurd (b.4 a.4)
-breaks_same r t page meta (inr (inr (inr (inr a)))) (inr (inr (inr (inr b)))) = a.0 ∙ sym b.0
-
 module _ (s : FileState) where
   -- of two rules that are named, neither is less
   same_local : (p q r t : ℕ) → NamesLocal s p r → NamesLocal s q t → (p ≡ q) × (r ≡ t)
@@ -102,7 +75,7 @@ module _ (s : FileState) where
       let breaks = names.1.here in
       elim (keeps p breaks.0 breaks.1) [
         | inl fits ↦ not_broken r breaks.0 s.meta breaks.2 fits
-        | inr ten ↦ absurd (let e = breaks_same r 10 breaks.0 s.meta breaks.2 ten in omega (arith, e, names.0))
+        | inr ten ↦ absurd (let e = one_rule breaks.0 s.meta r 10 breaks.2 ten in omega (arith, e, names.0))
       ]
 
   siblings_not : (p : ℕ) → SiblingsMatch s → MissesSibling s p → ⊥

@@ -10,16 +10,19 @@ use Rattle.std.proofs.lemmas.Grind.{flat_map-append}
 use Rattle.std.proofs.lemmas.List.Elements.{All-contains, recursion_from_All}
 use Rattle.std.proofs.lemmas.List.{get_or_default}
 use Rattle.hb_lemmas.proofs.Lists.{All-parts, whole}
+use Rattle.hb_lemmas.proofs.Pairs.{pairs_first, pairs_rest}
 use Rattle.hb_space.specs.Boxes.{Area, Cuts, Holds, IsArea, Within, side_below, side_from}
 use Rattle.hb_space.specs.Points.{IsPoint, point_cmp}
 use Rattle.hb_space.specs.declared.records.Record.{Record}
 use Rattle.hb_space.proofs.Facts.Boxes.{Holds-within}
+use Rattle.hb_space.proofs.Facts.PointOrder.{not_itself}
 use Rattle.hb_frag.proofs.Facts.Sides.{IsArea-side_below, IsArea-side_from, not_below, not_from}
 use Rattle.hb_frag.specs.declared.pages.Page.{Page}
 use Rattle.hb_frag.specs.declared.pages.Page.TheVariants.{Live, Free}
 use Rattle.hb_frag.specs.Trees.{Tree, Tip, Cut}
 use Rattle.hb_frag.specs.Leaves.{IsWellCut, Placed, leaves, leaves_of, records_of}
 use Rattle.hb_frag.specs.Rules.{IsInOrder, Precedes}
+use Rattle.hb_frag.proofs.Facts.OrderedLeaves.{sides_apart}
 use Rattle.hb_ops.specs.Files.{FileState, file_records, page_records}
 use Rattle.hb_ops.specs.Sound.{IsSound}
 use Rattle.hb_ops.proofs.Facts.Finds.{body-lacking, entry_of}
@@ -56,26 +59,12 @@ apart_joined (x ∷ xs) ys one two across = (
 )
 
 -- the records of a leaf
-no_less : (p q : List ℕ) → point_cmp p q ≡ Less → q ≡ p → ⊥
-no_less p q less same =
-    let tied : point_cmp p q ≡ Equal = ap (point_cmp p) same ∙ tied_itself nat_list_cmp_total p in
-    cc (less, tied)
-
-pairs_first : (x : Record) (xs : List Record) → AllPairs Precedes (x ∷ xs) → All (Differs x) xs
-pairs_first x xs pairs k d lt = no_less x.key (get_or xs k d).key (pairs zero (suc k) d (omega arith) (omega (arith, lt)))
-
 rises_apart : (records : List Record) → AllPairs Precedes records → AreApart records
 rises_apart [] pairs = tt
 rises_apart (x ∷ xs) pairs = (
-  recursion_from_All (Differs x) xs (pairs_first x xs pairs),
-  rises_apart xs (λ i j d less lt. pairs (suc i) (suc j) d (omega (arith, less)) (omega (arith, lt))),
+  recursion_from_All (Differs x) xs (λ k d lt same. not_itself x.key (get_or xs k d).key (sym same) (pairs_first Precedes x xs pairs k d lt)),
+  rises_apart xs (pairs_rest Precedes x xs pairs),
 )
-
-both_sides : (area : Area) (axis value : ℕ) (p : List ℕ) → IsArea area → Cuts area axis value → Holds (side_below area axis value) p → Holds (side_from area axis value) p → ⊥
-both_sides area axis value p box cut low high = elim (cases_lt (get_or p axis 0) value) [
-  | inl less ↦ not_from area axis value p cut less high
-  | inr more ↦ not_below area axis value p box cut more low
-]
 
 -- of a tree: those of one side of a cut have other points than those of the other side
 module _ (trees : TreeLaws) where
@@ -102,7 +91,7 @@ module _ (trees : TreeLaws) where
       let other = get_or (flat_map records_of (leaves right)) k d in
       let mine = held_by_tree left below low cut.1 parts.0 r has in
       let there = held_by_tree right from high cut.2 parts.1 other (k, lt, get_or_default (flat_map records_of (leaves right)) k other d lt) in
-      both_sides area axis value r.key box cut.0 mine (subst (λ (q : List ℕ). Holds from q) same there))) in
+      sides_apart area axis value r.key cut.0 mine (subst (λ (q : List ℕ). Holds from q) same there))) in
       subst AreApart (sym (flat_map-append records_of (leaves left) (leaves right))) apart
 
 first_place : (first : ℕ) → first + 0 ≡ first

@@ -11,7 +11,7 @@ use Rattle.hb_frag.specs.declared.pages.Page.{Page}
 use Rattle.hb_frag.specs.declared.pages.Page.TheVariants as pages
 use Rattle.hb_frag.specs.Trees.{Tree, Cut}
 use Rattle.hb_frag.specs.Leaves.{Placed, leaves, leaves_of, siblings}
-use Rattle.hb_lemmas.proofs.Lists.{each_member, only_one, place_within}
+use Rattle.hb_lemmas.proofs.Lists.{each_member, only_one, place_within, no_member}
 use Rattle.hb_ops.proofs.Facts.PlacedLaws.{leaf_is_sibling, placed, sibling_is_leaf}
 use Rattle.hb_ops.specs.Sound.{count_name}
 use Rattle.hb_sound.specs.declared.page_facts.Seen.{Seen}
@@ -98,10 +98,7 @@ module _ (facts : List Fact) (page : LivePage) where
   none_find : siblings all ≡ [] → FindsSiblings facts page
   none_find none = siblings_find (λ name area there.
       let Q : List (ℕ × Area) → Type 0 = λ l. Contains l (name, area) in
-      absurd (no_one (subst Q none there)))
-    where
-      no_one : {x : ℕ × Area} → Contains [] x → ⊥
-      no_one (k, lt, e) = omega (arith, lt)
+      absurd (no_member (name, area) (subst Q none there)))
 
   names_by : (other : ℕ) → names_in other (leaves page.frag) ≡ count_name other (siblings all)
   names_by other = names_are other page.frag page.area

@@ -14,10 +14,6 @@ use Rattle.hb_sound.proofs.Bridge.{to_rooted}
 use Rattle.hb_sound.proofs.ChainBridge.{not_counted, to_counted}
 use Rattle.hb_sound.proofs.LocalBridge.{keeps_local, to_local}
 
-pub ok_then : {T E P Q : Type 0} (r : Result T E) → (P → Q) → OnOk r P → OnOk r Q
-ok_then (Ok x) f h = f h
-ok_then (Err e) f h = tt
-
 pub err_then : {T E : Type 0} {P Q : E → Type 0} (r : Result T E) → ((e : E) → P e → Q e) → IfErr r P → IfErr r Q
 err_then (Ok x) f h = tt
 err_then (Err e) f h = f e h

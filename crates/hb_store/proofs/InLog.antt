@@ -10,8 +10,8 @@ use Rattle.hb_frag.specs.declared.pages.Page.{Page}
 use Rattle.hb_store.specs.Making.{page_image_needed, page_images_needed}
 use Rattle.hb_store.specs.Replay.{is_among}
 use Rattle.hb_ops.specs.SetPages.{set_pages, has_page}
-use Rattle.hb_ops.proofs.Facts.SetPages.{set_one-same, set_one-other}
 use Rattle.hb_lemmas.proofs.Options.{some_value, none_so}
+use Rattle.hb_lemmas.proofs.Booleans.{at_same, at_other}
 use Rattle.hb_store.proofs.Facts.Setting.{set_some}
 
 among_at : (ids : List ℕ) (place : ℕ) → place < length ids → is_among (get_or ids place 0) ids ≡ true
@@ -82,8 +82,8 @@ module _ (P : ℕ → Option Page) (I : ℕ → Bool) where
   read_with id q (Some p) false more among page is on there go T why =
       let U : ℕ → Option Page = λ r. cond (r == id) (Some p) (T r) in
       elim (cases_Bool (q == id)) [
-        | inl here ↦ go U (inl (set_one-same T id p q (eqb-true q id here) ∙ sym is ∙ ap P (sym (eqb-true q id here)) ∙ there))
-        | inr off ↦ go U (read_other q page among T U (set_one-other T id p q (eqb-false q id off)) (read_later id q page among T off why))
+        | inl here ↦ go U (inl (at_same q id (Some p) (T q) (eqb-true q id here) ∙ sym is ∙ ap P (sym (eqb-true q id here)) ∙ there))
+        | inr off ↦ go U (read_other q page among T U (at_other q id (Some p) (T q) (eqb-false q id off)) (read_later id q page among T off why))
       ]
 
   read_set : (ids : List ℕ) (q : ℕ) (page : Page) → P q ≡ Some page → (T : ℕ → Option Page) → IsRead q page (is_among q ids) T → set_pages (page_images_needed P I ids) T q ≡ Some page

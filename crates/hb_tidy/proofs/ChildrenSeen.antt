@@ -5,11 +5,10 @@ use Rattle.hb_space.specs.Boxes.{Area, Meets}
 use Rattle.hb_activity.specs.declared.jobs.Job.{Job}
 use Rattle.hb_frag.specs.declared.pages.LivePage.{LivePage}
 use Rattle.hb_frag.specs.Leaves.{siblings_of}
-use Rattle.hb_lemmas.proofs.Options.{not_none, some_value}
+use Rattle.hb_lemmas.proofs.Options.{not_none, some_value, one_value}
 use Rattle.hb_lemmas.proofs.Lists.{All-take_more}
 use Rattle.hb_ops.specs.Files.{FileState, live_page}
 use Rattle.hb_ops.specs.Settled.{HasChild, IsMergeable}
-use Rattle.hb_sound.proofs.Facts.OneLevel.{same_page}
 use Rattle.hb_core.specs.Showing.{RunningCore}
 use Rattle.hb_tidy.specs.Finding.{BothLive}
 use Rattle.hb_tidy.proofs.CallsMade.{nothing_looked}
@@ -48,7 +47,7 @@ module _ (parent : ℕ) (above : LivePage) where
       (λ s v known said. finds_both s (All (λ (sibling : ℕ × Area). ¬ (Meets area sibling.1)) given) ((gone : ℕ) → ¬ (IsMergeable s parent name gone)) (IsTidyBelow s parent (name, area)) first before after
       (λ posted last. record {
         posted = λ named live.
-            let same = same_page s name below named known.1.1 live in
+            let same = one_value (live_page s name) below named known.1.1 live in
             subst (λ (page : LivePage). All (λ (sibling : ℕ × Area). ¬ (Meets area sibling.1)) (siblings_of page)) same
             (subst (λ (ss : List (ℕ × Area)). All (λ (sibling : ℕ × Area). ¬ (Meets area sibling.1)) ss) is posted);
         none = last;

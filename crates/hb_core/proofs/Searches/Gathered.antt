@@ -62,7 +62,7 @@ some_or_none k [] p boxes long = inr (λ never. never)
 some_or_none k (a ∷ us) p boxes long =
     let box = All-head (IsBoxOf k) a us boxes in
     elim (cases_Bool (holds a p)) [
-      | inl test ↦ inl (inl (Holds-from_test a p box.0 (long ∙ sym box.1) test))
+      | inl test ↦ inl (inl (Holds-from_test a p test))
       | inr off ↦ elim (some_or_none k us p (All-tail (IsBoxOf k) a us boxes) long) [
         | inl later ↦ inl (inr later)
         | inr none ↦ inr (λ some. elim some [ inl here ↦ false≢true (sym off ∙ test-from_Holds a p box.0 here) | inr later ↦ none later ])
@@ -130,7 +130,7 @@ module _ (k : ℕ) (front : List Area) (at_hand : Area) (found records : List Re
   taken_in_hand r there =
       let is = filter_tells (λ (r : Record). holds at_hand r.key) records r there in
       let in_area = leaf.inside r is.0 in
-      (is.0, Holds-from_test at_hand r.key hand.0 (in_area.same ∙ sym as_long) is.1)
+      (is.0, Holds-from_test at_hand r.key is.1)
 
   -- a record that was found lies in none of the boxes
   none_holds : (r : Record) → Contains found r → SomeHolds (front ++ at_hand ∷ []) r.key → ⊥
@@ -192,7 +192,7 @@ module _ (k : ℕ) (front : List Area) (at_hand : Area) (found records : List Re
     taken : (r : Record) → IsAmong n r → Holds at_hand r.key → ¬ (SomeHolds pieces r.key) → Contains more r
     taken r among here none = elim (cases_Bool (holds area r.key)) [
       | inl test ↦
-          let leafy = Holds-from_test area r.key leaf.box.0 (here.same ∙ as_long) test in
+          let leafy = Holds-from_test area r.key test in
           filter_keeps (λ (r : Record). holds at_hand r.key) records r ((all_there r leafy).1 among) (test-from_Holds at_hand r.key hand.0 here)
       | inr off ↦ absurd (none ((piece_tells r.key).1 (here, λ in_both. false≢true (sym off ∙ test-from_Holds area r.key leaf.box.0 ((Holds-common_area at_hand area r.key hand.0 leaf.box.0 as_long).0 in_both).1))))
     ]

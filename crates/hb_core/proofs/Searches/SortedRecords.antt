@@ -14,7 +14,7 @@ use Rattle.hb_frag.proofs.Facts.RisingRecords.{Rise, ahead, in_front, rises, sam
 use Rattle.hb_frag.specs.Rules.{Precedes}
 use Rattle.hb_lemmas.proofs.Lists.{each_member, filter_has, filter_keeps, later_member, member_cases, no_member}
 use Rattle.hb_set.specs.Machine.{RecordSet, record_of, set_records}
-use Rattle.hb_space.proofs.Facts.Boxes.{Holds-from_test, as_long, test-from_Holds}
+use Rattle.hb_space.proofs.Facts.Boxes.{Holds-from_test, test-from_Holds}
 use Rattle.hb_space.proofs.Facts.PointOrder.{not_itself, same_point}
 use Rattle.hb_space.specs.Boxes.{Area, Holds, IsArea, holds}
 use Rattle.hb_space.specs.Points.{point_cmp}
@@ -99,7 +99,7 @@ reply_is n box found ordered area exact same rising =
     filter_keeps inside (set_records n) r ((among_records n r).0 is.0) (test-from_Holds box r.key area is.1)))
     (each_member (Contains ordered) (filter inside (set_records n)) (λ r there.
     let is = filter_tells inside (set_records n) r there in
-    Contains-permutation found ordered r same ((exact r).1 ((among_records n r).1 is.0, Holds-from_test box r.key area (as_long box.lo box.hi r.key is.1) is.1))))
+    Contains-permutation found ordered r same ((exact r).1 ((among_records n r).1 is.0, Holds-from_test box r.key is.1))))
   where
     inside : Record → Bool
     inside r = holds box r.key

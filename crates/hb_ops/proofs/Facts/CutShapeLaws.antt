@@ -28,7 +28,7 @@ after_sibling : (name : ℕ) (other : Tree) → AreAlike (Tip (Sibling name)) ot
 after_sibling name other h = h
 
 -- nor is a cut
-before_cut : (a v : ℕ) (l r other : Tree) → AreAlike other (Cut a v l r) → ⊥
+pub before_cut : (a v : ℕ) (l r other : Tree) → AreAlike other (Cut a v l r) → ⊥
 before_cut a v l r (Tip (Records records)) h = h
 before_cut a v l r (Tip (Child page)) h = h
 before_cut a v l r (Tip (Sibling page)) h = h

@@ -1,7 +1,7 @@
 -- What a page weighs once the record of a point is gone.
 use Rattle.std.proofs.Common.{◌≡◌, ℕ, ◌+◌, ◌-◌, ◌<◌, ◌≤◌, max, Bool, true, false, List, [], ◌∷◌, length, take, drop, AllPairs, Some, sym, ap, subst, ◌∙◌, arith, zero, suc, refl, inl, inr, ◌↔◌, ◌*◌, ◌/◌, IsTrue, nat_le}
 use Rattle.std.specs.List.{slice_get}
-use Rattle.std.proofs.lemmas.Bool.{cases_lt, le-leb, lt-leb}
+use Rattle.std.proofs.lemmas.Bool.{cases_lt, le-leb, lt-leb, false≢true}
 use Rattle.std.proofs.lemmas.List.{length-append, length-take, length-drop}
 use Rattle.std.proofs.lemmas.Option.{none-some}
 use Rattle.hb_frag.specs.Leaves.{leaf_at, weight_of}
@@ -63,11 +63,8 @@ told : (b : Bool) (weight cap : ℕ) → (IsTrue b ↔ (weight ≤ cap / 4)) →
 told true weight cap test = sym (le-leb (4 * weight) cap ((quarter weight cap).0 (test.0 refl)))
 told false weight cap test = elim (cases_lt cap (4 * weight)) [
   | inl above ↦ sym (lt-leb (4 * weight) cap above)
-  | inr le ↦ absurd (wrong (test.1 ((quarter weight cap).1 le)))
+  | inr le ↦ absurd (false≢true (test.1 ((quarter weight cap).1 le)))
 ]
-  where
-    wrong : IsTrue false → ⊥
-    wrong is = cc
 
 -- the tests of a page's weight before a record goes, where its leaf has others and where it has none
 pub thin_of_many : (b : Bool) (weight after cap : ℕ) → (IsTrue b ↔ (weight ≤ cap / 4 + 1)) → after + 1 ≡ weight → b ≡ nat_le (4 * after) cap
