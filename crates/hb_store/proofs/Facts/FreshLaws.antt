@@ -1,9 +1,10 @@
 -- From what bytes a store may start.
-use Rattle.std.proofs.Common.{◌≡◌, ℕ, ◌+◌, ◌-◌, ◌≤◌, List, [], length, get_or, take, drop, replicate, Some, IsSome, sym, ap, ◌∙◌, arith}
+use Rattle.std.proofs.Common.{◌≡◌, inl, ℕ, ◌+◌, ◌-◌, ◌≤◌, List, [], length, get_or, take, drop, replicate, Some, IsSome, sym, ap, ◌∙◌, arith}
 use Rattle.std.proofs.lemmas.List.{get_or-take, get_or-drop}
-use Rattle.hb_disk.specs.Model.{DiskModel, IsDisk}
+use Rattle.hb_disk.specs.Model.{DiskModel, IsDisk, Torn}
 use Rattle.hb_disk.specs.Calls.{IsSynced}
 use Rattle.hb_disk.proofs.Facts.SyncedLaws.{part_of}
+use Rattle.hb_disk.proofs.Facts.TornLaws.{Torn-elsewhere}
 use Rattle.hb_lemmas.proofs.Options.{some_value, at_value}
 use Rattle.hb_wal.specs.Frames.{range}
 use Rattle.hb_wal.specs.Forces.{HasLog}
@@ -17,6 +18,10 @@ use Rattle.hb_frag.specs.Grammar.{SpellsPage}
 use Rattle.hb_store.specs.Opening.{OpensBy, place_bytes}
 use Rattle.hb_store.specs.Keeps.{IsFresh}
 use Rattle.hb_store.proofs.Facts.ReplayLaws.{opens_fresh}
+
+-- what is torn behind both superblock places leaves them
+pub places_kept : (from m : ℕ) (b c : List ℕ) → 8192 ≤ from → Torn from m b c → take 8192 (drop 0 c) ≡ take 8192 (drop 0 b)
+places_kept from m b c low torn = Torn-elsewhere from m 0 8192 b c (inl low) torn
 
 -- Bytes that are the same in both superblock places have the same newest superblock.
 module _ (b c : List ℕ) (same : take 8192 (drop 0 c) ≡ take 8192 (drop 0 b)) where
