@@ -13,13 +13,15 @@ use Rattle.hb_view.specs.Spelled.{page_or, page_spelled}
 pub is_decoded : (bytes : List ℕ) (page : Page) → SpellsPage bytes page → page ≡ page_spelled bytes
 is_decoded bytes page s = sym (ap page_or (page_again bytes page s))
 
+-- bad bytes give no page
+pub decodes_nothing : (e : PageError) → e ≡ errors.BadPage → (page : Page)
+    → (◌≡◌ {A = Result Page PageError} (Err e) (Ok page)) ⊎ (◌≡◌ {A = Result Page PageError} (Err e) (Err errors.NoMemory)) → ⊥
+decodes_nothing e bad page (inl ok) = cc ok
+decodes_nothing e bad page (inr refused) = cc (bad, refused)
+
 -- bytes that spell a page are never refused as bad
 pub never_bad : (bytes : List ℕ) (e : PageError) → AreBytes bytes → IsSome (page_of_bytes bytes) → e ≡ errors.BadPage
     → ((page : Page) → SpellsPage bytes page → (◌≡◌ {A = Result Page PageError} (Err e) (Ok page)) ⊎ (◌≡◌ {A = Result Page PageError} (Err e) (Err errors.NoMemory))) → ⊥
 never_bad bytes e fits some bad only =
     let w = some_value (page_of_bytes bytes) some in
-    cases w.0 (only w.0 (page_takes bytes w.0 fits w.1))
-  where
-    cases : (page : Page) → (◌≡◌ {A = Result Page PageError} (Err e) (Ok page)) ⊎ (◌≡◌ {A = Result Page PageError} (Err e) (Err errors.NoMemory)) → ⊥
-    cases page (inl ok) = cc ok
-    cases page (inr refused) = cc (bad, refused)
+    decodes_nothing e bad w.0 (only w.0 (page_takes bytes w.0 fits w.1))
