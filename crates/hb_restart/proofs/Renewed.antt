@@ -17,7 +17,7 @@ use Rattle.hb_ops.specs.Files.{FileState, page_of}
 use Rattle.hb_store.specs.Opening.{IsPageIn, place_bytes}
 use Rattle.hb_store.specs.Turning.{StillOpens, IsHere, IsPlaced, IsPlacedTo, MayTurn}
 use Rattle.hb_store.proofs.Facts.Turned.{areas, now_has, still_place, still_torn}
-use Rattle.hb_restart.proofs.Numbered.{some_number}
+use Rattle.hb_ops.proofs.Facts.FilePages.{page_in_range}
 use Rattle.hb_store.proofs.Facts.PlaceWrites.{Tore, other_place, tore}
 use Rattle.hb_disk.proofs.Facts.RewriteLaws.{Becomes-tells}
 
@@ -74,7 +74,7 @@ module _ (turn next : ℕ) (said meta : Meta) (small : turn ≤ 3) (is : next �
             subst N (sym same) (subst S page_is there)
         | inr other ↦ λ b told.
             let S : List ℕ → Type 0 = λ l. SpellsPage l page in
-            subst S (sym (told_elsewhere old new tears.before b (page_offset meta id) PAGE (page_offset meta at) PAGE tears.was told (other_place meta id at (some_number s.pages id page is) first other) run))
+            subst S (sym (told_elsewhere old new tears.before b (page_offset meta id) PAGE (page_offset meta at) PAGE tears.was told (other_place meta id at (page_in_range s.pages id page is).0 first other) run))
             (placed.there id page (omega (arith, most, other, is_at)) is tears.before tears.was)
       ];
     }
@@ -98,7 +98,7 @@ module _ (turn next : ℕ) (said meta : Meta) (small : turn ≤ 3) (is : next �
   pub placed_none : (d : DiskModel) → IsHere d turn said meta touched s → IsPlacedTo 0 d turn said meta touched s
   placed_none d here = record {
     here = here;
-    there = λ id page most is b told. let least = some_number s.pages id page is in absurd (omega (arith, most, least));
+    there = λ id page most is b told. let range = page_in_range s.pages id page is in absurd (omega (arith, most, range.0));
   }
 
   -- What the place of the next turn hides is cleared.

@@ -9,6 +9,7 @@ use Rattle.hb_wal.specs.Frames.{HasFrames}
 use Rattle.hb_frag.specs.declared.pages.Page.{Page}
 use Rattle.hb_frag.specs.Grammar.{SpellsPage}
 use Rattle.hb_layout.specs.declared.meta.Meta.{Meta}
+use Rattle.hb_super.proofs.Facts.Gates.{newest_same}
 use Rattle.hb_ops.specs.Files.{FileState, last_of}
 use Rattle.hb_log_codec.specs.Groups.{Logged, FitsGroup, group_bytes}
 use Rattle.hb_store.specs.Replay.{Replayed, untouched, replay}
@@ -17,7 +18,7 @@ use Rattle.hb_store.specs.Opening.{OpensBy, Shows, IsPageIn, log_bytes, place_by
 use Rattle.hb_store.specs.Parts.{Leads, OpensNext}
 use Rattle.hb_store.proofs.Facts.ReplayLaws.{replay-append, Leads-replayed, MayReplay-append, SpellAll-append}
 use Rattle.hb_store.proofs.Shown.{Shows-leads}
-use Rattle.hb_store.proofs.Facts.FreshLaws.{IsNewest-elsewhere, places_kept}
+use Rattle.hb_store.proofs.Facts.FreshLaws.{places_kept}
 
 -- the area of a turn ends in front of the pages
 pub area_end : (turn : ℕ) (said : Meta) → log_start turn said + said.log ≤ 8192 + 2 * said.log
@@ -54,7 +55,7 @@ module _ (turn : ℕ) (said : Meta) (b c : List ℕ) (torn : Torn (log_start tur
     -- with the same frames to the same file
     pub opens_same : HasFrames (log_bytes turn said c) payloads → OpensBy c turn said payloads groups s
     opens_same framed = record {
-      newest = IsNewest-elsewhere b c front_kept turn said opens.newest;
+      newest = newest_same b c front_kept turn said opens.newest;
       fits = omega (arith, opens.fits, torn.as_long);
       framed = framed;
       spelled = opens.spelled;
@@ -66,7 +67,7 @@ module _ (turn : ℕ) (said : Meta) (b c : List ℕ) (torn : Torn (log_start tur
     pub opens_more : (gs : List Logged) (later : List FileState) → HasFrames (log_bytes turn said c) (payloads ++ flat_map group_bytes gs ∷ []) → All (FitsGroup said.k) gs
         → Leads (replay (untouched said) groups) s gs later → OpensNext c turn said payloads groups gs (last_of s later)
     opens_more gs later framed fits leads = record {
-      newest = IsNewest-elsewhere b c front_kept turn said opens.newest;
+      newest = newest_same b c front_kept turn said opens.newest;
       fits = omega (arith, opens.fits, torn.as_long);
       framed = framed;
       spelled = SpellAll-append said.k payloads (flat_map group_bytes gs ∷ []) groups gs opens.spelled (all_spelled said.k gs fits);

@@ -5,6 +5,7 @@ use Rattle.std.proofs.lemmas.List.Elements.{All-head, All-tail}
 use Rattle.hb_disk.specs.Model.{DiskModel, IsDisk}
 use Rattle.hb_lemmas.proofs.Lists.{same_fronts}
 use Rattle.hb_lemmas.proofs.Options.{some_value}
+use Rattle.hb_super.proofs.Facts.Gates.{never_both}
 use Rattle.hb_super.specs.Superblocks.{IsNewest, next_turn}
 use Rattle.hb_wal.specs.Frames.{frames, frame_bytes, ReadsOneWay}
 use Rattle.hb_layout.specs.declared.meta.Meta.{Meta}
@@ -50,10 +51,6 @@ pub record Tells (b : List ℕ) (turn written_bytes : ℕ) (said : Meta) (payloa
   pub count : length (frames payloads) ≡ written_bytes
   pub opens : OpensBy b turn said payloads written durable ⊎ OpensNext b turn said payloads written waiting next
   pub shows : Shows b said (replay (untouched said) written) durable
-
--- no turn is the one after itself
-other_turn : (turn : ℕ) → turn ≡ next_turn turn → ⊥
-other_turn turn same = absurd (omega (arith, same))
 
 module _ (once : SpelledOnce) (one : OneList) (group : OneGroup) (turns : OneTurn) (metas : OneMeta) (way : ReadsOneWay) where
   waiting_same : (k : ℕ) (xs ys : List Logged) → All (FitsGroup k) xs → All (FitsGroup k) ys → map group_bytes xs ≡ map group_bytes ys → xs ≡ ys
@@ -123,7 +120,9 @@ module _ (once : SpelledOnce) (one : OneList) (group : OneGroup) (turns : OneTur
 
     -- the superblock of the store's turn and that of the next one aren't both the newest
     not_after : (p : Parts) (s durable : FileState) (later : List FileState) → Here p durable later → OpensAfter b st.turn s → ⊥
-    not_after p s durable later here there = other_turn st.turn (turns b st.turn (next_turn st.turn) p.said s.meta (newest_here p durable later here) there.newest)
+    not_after p s durable later here there =
+        let same = turns b st.turn (next_turn st.turn) p.said s.meta (newest_here p durable later here) there.newest in
+        never_both st.turn st.turn same same
 
     -- the groups that wait fit the layout that the store has
     fits_store : (durable : FileState) (later : List FileState) → (keeps : StoreKeeps d st durable later) → All (FitsGroup st.meta.k) keeps.parts.waiting

@@ -151,15 +151,17 @@ sound_stop once d st durable later id stop disk k some high none why sound fault
     by_stop fetches.ReadFault holds fault memory p = fault refl
     by_stop fetches.Crowded holds fault memory p = memory refl
 
+-- the number of a page is not that of none
+pub page_not_none : (meta : Meta) (id : ℕ) → IsPageOf meta id → IsNoPage meta id → ⊥
+page_not_none meta id page (inl none) = absurd (omega (arith, page, none))
+page_not_none meta id page (inr beyond) = absurd (omega (arith, page, beyond))
+
 -- a number that is no page's has no page in memory
 pub none_there : (st : StoreState) (id : ℕ) → IsMemory st → IsSome (in_memory st id) → IsNoPage st.meta id → ⊥
 none_there st id is some none =
     let page = some_value (in_memory st id) some in
     let range = is.good id page.0 page.1 in
-    elim none [
-      | inl zero ↦ omega (arith, zero, range.0)
-      | inr above ↦ omega (arith, above, range.1)
-    ]
+    page_not_none st.meta id (range.0, range.1) none
 
 -- ---- a page that was read and held is the file's
 

@@ -17,6 +17,7 @@ use Rattle.hb_layout.specs.Offsets.{slot_offset, file_size, log_start, page_offs
 use Rattle.hb_super.specs.Superblocks.{IsNewest, next_turn}
 use Rattle.hb_super.specs.Moments.{WriteLeaves, IsUncovered, HasNoBody, HidesNoOther}
 use Rattle.hb_super.proofs.Facts.BodyLaws.{HasNoBody-other}
+use Rattle.hb_super.proofs.Facts.Gates.{newest_same}
 use Rattle.hb_layout.specs.declared.meta.Meta.{Meta}
 use Rattle.hb_ops.specs.Files.{FileState, page_of}
 use Rattle.hb_ops.proofs.Facts.FilePages.{page_in_range}
@@ -25,7 +26,7 @@ use Rattle.hb_store.specs.Opening.{OpensBy, OpensTo, log_bytes, place_bytes}
 use Rattle.hb_store.specs.Keeps.{IsFresh}
 use Rattle.hb_store.specs.Turning.{StillOpens, IsPlaced, MayTurn, OpensByEither}
 use Rattle.hb_store.proofs.Facts.ReplayLaws.{opens_elsewhere, opens_fresh}
-use Rattle.hb_store.proofs.Facts.FreshLaws.{HidesNoOther-elsewhere, IsNewest-elsewhere, IsFresh-from, places_kept}
+use Rattle.hb_store.proofs.Facts.FreshLaws.{HidesNoOther-elsewhere, IsFresh-from, places_kept}
 use Rattle.hb_store.proofs.Facts.PlaceWrites.{Tore, tore}
 use Rattle.hb_disk.proofs.Facts.RewriteLaws.{Becomes-tells}
 
@@ -121,7 +122,7 @@ module _ (turn next : ℕ) (said meta : Meta) (small : turn ≤ 3) (is : next �
   pub still_torn : (b c : List ℕ) (from m : ℕ) → 8192 ≤ from → StillOpens turn said meta touched s b → Torn from m b c → Apart (log_start turn meta) meta.log from m
       → ((id : ℕ) → 1 ≤ id → touched id ≡ None → Apart (page_offset meta id) PAGE from m) → StillOpens turn said meta touched s c
   still_torn b c from m low opens torn =
-      still_by b c from m opens torn (IsNewest-elsewhere b c (places_kept from m b c low torn) turn said opens.by.newest)
+      still_by b c from m opens torn (newest_same b c (places_kept from m b c low torn) turn said opens.by.newest)
 
   -- with the log area of the next turn torn
   pub still_area : (b c : List ℕ) → StillOpens turn said meta touched s b → Torn (log_start next meta) meta.log b c → StillOpens turn said meta touched s c
