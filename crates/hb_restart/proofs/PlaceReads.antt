@@ -1,5 +1,5 @@
 -- What is read in the place of a page.
-use Rattle.std.proofs.Common.{◌≡◌, ◌⊎◌, ℕ, ◌∙◌, List, Option, Some, None, IfSome, IfOk, Result, Ok, Err, refl, ap}
+use Rattle.std.proofs.Common.{◌≡◌, ◌⊎◌, inl, inr, ℕ, ◌∙◌, List, Option, Some, None, IfSome, IfOk, Result, Ok, Err, refl, ap}
 use Rattle.hb_frag.specs.declared.pages.Page.{Page}
 use Rattle.hb_frag.specs.Grammar.{SpellsPage}
 use Rattle.hb_layout.specs.declared.meta.Meta.{Meta}
@@ -8,7 +8,6 @@ use Rattle.hb_page_codec.specs.ReadingPages.{page_of_bytes}
 use Rattle.hb_page_codec.specs.declared.errors.PageError.{PageError}
 use Rattle.hb_page_codec.specs.declared.errors.PageError.TheVariants as errors
 use Rattle.hb_store.specs.Opening.{place_bytes}
-use Rattle.hb_view.proofs.Facts.Decoded.{decodes_nothing}
 
 -- the page that they are read as is that of its place
 pub page_read : {E : Type 0} (r : Result (Option Page) E) (told : Option (List ℕ)) (into : List ℕ) (meta : Meta) (id : ℕ) → IfOk r (λ page. page ≡ page_of_bytes into)
@@ -24,4 +23,8 @@ none_read exact bytes are none (Some page) is = absurd (none page ((exact bytes 
 
 pub bad_read : (exact : PagesAreExact) (bytes : List ℕ) → AreBytes bytes → (e : PageError) → e ≡ errors.BadPage
     → ((page : Page) → SpellsPage bytes page → (◌≡◌ {A = Result Page PageError} (Err e) (Ok page)) ⊎ (◌≡◌ {A = Result Page PageError} (Err e) (Err errors.NoMemory))) → None ≡ page_of_bytes bytes
-bad_read exact bytes are e is only = none_read exact bytes are (λ page spells. decodes_nothing e is page (only page spells)) (page_of_bytes bytes) refl
+bad_read exact bytes are e is only = none_read exact bytes are (λ page spells. never page (only page spells)) (page_of_bytes bytes) refl
+  where
+    never : (page : Page) → (◌≡◌ {A = Result Page PageError} (Err e) (Ok page)) ⊎ (◌≡◌ {A = Result Page PageError} (Err e) (Err errors.NoMemory)) → ⊥
+    never page (inl same) = cc (is, same)
+    never page (inr same) = cc (is, same)

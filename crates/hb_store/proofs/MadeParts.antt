@@ -39,11 +39,11 @@ greatest a axis value is cuts =
 pub fits_tree : (k : ℕ) (t : Tree) (a : Area) → IsArea a → IsWellCut t a → length a.lo ≡ k → All (FitsLeaf k) (leaves t) → FitsTree k t
 fits_tree k (Tip leaf) a is cut long fit = All-head (FitsLeaf k) leaf [] fit
 fits_tree k (Cut axis value left right) a is cut long fit = (
-      omega (arith, cut.0.attribute, long),
-      greatest a axis value is cut.0,
-      fits_tree k left (side_below a axis value) (IsArea-side_below a axis value is cut.0) cut.1 long (All-front (FitsLeaf k) (leaves left) (leaves right) fit),
-      fits_tree k right (side_from a axis value) (IsArea-side_from a axis value is cut.0) cut.2 (length-set a.lo axis value ∙ long) (All-behind (FitsLeaf k) (leaves left) (leaves right) fit),
-    )
+  omega (arith, cut.0.attribute, long),
+  greatest a axis value is cut.0,
+  fits_tree k left (side_below a axis value) (IsArea-side_below a axis value is cut.0) cut.1 long (All-front (FitsLeaf k) (leaves left) (leaves right) fit),
+  fits_tree k right (side_from a axis value) (IsArea-side_from a axis value is cut.0) cut.2 (length-set a.lo axis value ∙ long) (All-behind (FitsLeaf k) (leaves left) (leaves right) fit),
+)
 
 half_box : (side : Side) (axis value : ℕ) (a : Area) → IsArea a → Cuts a axis value → IsArea (area_on side axis value a)
 half_box Left axis value a is cuts = IsArea-side_below a axis value is cuts

@@ -1,5 +1,5 @@
 -- The group of an operation: which page images it has.
-use Rattle.std.proofs.Common.{◌≡◌, ◌≢◌, ℕ, zero, suc, ◌^◌, ◌<◌, ◌≤◌, Bool, true, false, List, [], ◌∷◌, ◌++◌, length, get_or, All, AllPairs, Option, Some, None, Result, Ok, Err, refl, arith}
+use Rattle.std.proofs.Common.{◌≡◌, ◌≢◌, ℕ, ◌^◌, ◌<◌, ◌≤◌, Bool, true, false, List, [], ◌∷◌, ◌++◌, length, get_or, All, AllPairs, Option, Some, None, Result, Ok, Err, refl, arith}
 use Rattle.std.specs.Option.{IfSome}
 use Rattle.std.specs.Result.{IfOk, OnOk}
 use Rattle.std.proofs.lemmas.List.{length-append}
