@@ -31,7 +31,7 @@ use Rattle.hb_restart.specs.Source.{touched_or, page_there, pages_from, told_pag
 use Rattle.hb_restart.specs.declared.faults.OpenFault.{OpenFault}
 use Rattle.hb_restart.specs.declared.faults.OpenFault.TheVariants as faults
 use Rattle.hb_restart.specs.declared.reading.LogRead.{LogRead}
-use Rattle.hb_restart.proofs.Numbered.{some_number}
+use Rattle.hb_ops.proofs.Facts.FilePages.{page_in_range}
 use Rattle.hb_ops.proofs.Facts.PageNumberLaws.{page_at-suc}
 use Rattle.hb_restart.proofs.Told.{front_at, shown_each, told_at, told_is, told_long}
 use Rattle.hb_page_codec.proofs.Facts.Fields.{AreBytes-take}
@@ -119,7 +119,7 @@ module _ (exact : PagesAreExact) (b : List ℕ) (are : AreBytes b) (said meta : 
         }
       where
         at : (id : ℕ) (p : Page) → page_of (file_of meta told) id ≡ Some p → ((k : ℕ) (q : Page) → slice_get (shown_pages front) k ≡ Some q → slice_get front k ≡ Some (Some q)) → IsPageIn b said id (t.page id) p
-        at zero p is each = absurd (let first = some_number (shown_pages front) zero p is in omega (arith, first))
+        at zero p is each = absurd (let range = page_in_range (shown_pages front) zero p is in omega (arith, range.0))
         at (suc k) p is each =
             let here = each k p (sym (page_at-suc (shown_pages front) k) ∙ is) in
             is_in (suc k) p (told_is page said.pages (suc k) (Some p) (front_at meta.high told k (Some p) here).1).2

@@ -1,5 +1,4 @@
 pub mod Facts
-pub mod Numbered
 pub mod NoChild
 pub mod NewFile
 pub mod Made

@@ -1,9 +1,7 @@
 -- What is read in the place of a page.
-use Rattle.std.proofs.Common.{◌≡◌, ◌⊎◌, inl, inr, ℕ, ◌∙◌, List, length, take, drop, Option, Some, None, IfSome, IfOk, Result, Ok, Err, refl, ap}
-use Rattle.hb_space.specs.declared.form.TheConstants.{PAGE}
+use Rattle.std.proofs.Common.{◌≡◌, ◌⊎◌, inl, inr, ℕ, ◌∙◌, List, Option, Some, None, IfSome, IfOk, Result, Ok, Err, refl, ap}
 use Rattle.hb_frag.specs.declared.pages.Page.{Page}
 use Rattle.hb_frag.specs.Grammar.{SpellsPage}
-use Rattle.hb_layout.specs.Offsets.{page_offset}
 use Rattle.hb_layout.specs.declared.meta.Meta.{Meta}
 use Rattle.hb_page_codec.specs.Exact.{AreBytes, PagesAreExact}
 use Rattle.hb_page_codec.specs.ReadingPages.{page_of_bytes}
@@ -11,13 +9,7 @@ use Rattle.hb_page_codec.specs.declared.errors.PageError.{PageError}
 use Rattle.hb_page_codec.specs.declared.errors.PageError.TheVariants as errors
 use Rattle.hb_store.specs.Opening.{place_bytes}
 
-pub place_read : (told : Option (List ℕ)) (into : List ℕ) (meta : Meta) (id at : ℕ) → at ≡ page_offset meta id → length into ≡ PAGE
-    → IfSome told (λ b. into ≡ take (length into) (drop at b)) → IfSome told (λ b. into ≡ place_bytes meta id b)
-place_read None into meta id at same long reads = tt
-place_read (Some b) into meta id at same long reads =
-    reads ∙ ap (λ (n : ℕ). take n (drop at b)) long ∙ ap (λ (n : ℕ). take PAGE (drop n b)) same
-
--- so the page that they are read as is that of its place
+-- the page that they are read as is that of its place
 pub page_read : {E : Type 0} (r : Result (Option Page) E) (told : Option (List ℕ)) (into : List ℕ) (meta : Meta) (id : ℕ) → IfOk r (λ page. page ≡ page_of_bytes into)
     → IfSome told (λ b. into ≡ place_bytes meta id b) → IfOk r (λ page. IfSome told (λ b. page ≡ page_of_bytes (place_bytes meta id b)))
 page_read (Ok page) (Some b) into meta id is place = is ∙ ap page_of_bytes place

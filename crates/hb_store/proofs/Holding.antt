@@ -1,5 +1,5 @@
 -- A page that a fetch holds, from what is known of the store before.
-use Rattle.std.proofs.Common.{◌≡◌, ℕ, ◌<◌, Bool, false, List, Option, Some, None, sym, subst, ap, ◌∙◌, refl}
+use Rattle.std.proofs.Common.{◌≡◌, ℕ, ◌<◌, Bool, false, List, Some, None, sym, subst, ap, ◌∙◌}
 use Rattle.std.specs.Prelude.{IsSomeAnd}
 use Rattle.std.specs.HashSet as bag
 use Rattle.hb_frag.specs.declared.pages.Page.{Page}
@@ -9,6 +9,7 @@ use Rattle.hb_wal.specs.Log.{LogState}
 use Rattle.hb_page_codec.specs.ReadingPages.{page_of_bytes}
 use Rattle.hb_pool.specs.Frames.{Frame}
 use Rattle.hb_pool.specs.Pools.{IsPool, brought, frame_of, places}
+use Rattle.hb_pool.proofs.Facts.Pooled.{value_and}
 use Rattle.hb_pool.proofs.Facts.Told.{brought_told, frames_told}
 use Rattle.hb_view.specs.Spelled.{page_or}
 use Rattle.hb_store.specs.Calls.{Fetched, StaysHere}
@@ -29,11 +30,7 @@ pub record Holds (id : ℕ) (bytes : List ℕ) (old new : StoreHeld) : Type 0 wh
   pub uses : new.uses ≡ brought id (tt {0}) false old.uses
 
 good_value : (meta : Meta) (bytes : List ℕ) → IsSomeAnd (page_of_bytes bytes) (λ page. SpellsPage bytes page × IsGoodPage meta page) → (page : Page) × (page_of_bytes bytes ≡ Some page) × SpellsPage bytes page × IsGoodPage meta page
-good_value meta bytes good = by (page_of_bytes bytes) refl good
-  where
-    by : (o : Option Page) → page_of_bytes bytes ≡ o → IsSomeAnd o (λ page. SpellsPage bytes page × IsGoodPage meta page) → (page : Page) × (page_of_bytes bytes ≡ Some page) × SpellsPage bytes page × IsGoodPage meta page
-    by None is h = absurd h
-    by (Some page) is h = (page, is, h.0, h.1)
+good_value meta bytes good = let v = value_and (page_of_bytes bytes) (λ page. SpellsPage bytes page × IsGoodPage meta page) good in (v.0, v.1, v.2.0, v.2.1)
 
 module _ {T : Type 0} (turn : ℕ) (meta : Meta) (log : LogState) (s : bag.HashSet ℕ T) (stopped : Bool) (pool new : List (Frame (List ℕ))) (old : StoreHeld) (id : ℕ) (bytes : List ℕ) (view : held_of turn meta log pool s stopped ≡ old)
     (mem : IsMemory (seen turn meta log s stopped pool)) (is : IsPool pool) (each : AreSpelled pool) (e : new ≡ brought id bytes false pool)

@@ -18,11 +18,7 @@ use Rattle.hb_store.proofs.Facts.PlaceWrites.{ok_tick}
 use Rattle.hb_store.specs.Switching.{TornSwitch}
 use Rattle.hb_store.specs.Turning.{MayTurn, OpensByEither, StillOpens}
 
--- what follows of two facts of a success, and what a success gives for each two values, or under a condition
-pub on_ok_both : {T E : Type 0} (r : Result T E) (P Q S : Type 0) → (P → Q → S) → OnOk r P → OnOk r Q → OnOk r S
-on_ok_both (Ok v) P Q S f p q = f p q
-on_ok_both (Err e) P Q S f p q = tt
-
+-- what a success gives for each two values, or under a condition
 pub on_ok_each : {T E X Y : Type 0} (r : Result T E) (P : X → Y → Type 0) → ((x : X) (y : Y) → OnOk r (P x y)) → OnOk r ((x : X) (y : Y) → P x y)
 on_ok_each (Ok v) P f = f
 on_ok_each (Err e) P f = tt

@@ -1,5 +1,6 @@
 -- Looks at the pages below a page, one child leaf after the other.
 use Rattle.std.proofs.Common.{◌≡◌, ℕ, ◌+◌, ◌<◌, List, [], All, length, get_or, take, Option, None, Some, IsSome, Result, Ok, refl, subst}
+use Rattle.std.proofs.lemmas.Bool.{false≢true}
 use Rattle.hb_disk.specs.Model.{DiskModel, IsDisk}
 use Rattle.hb_space.specs.Boxes.{Area, Meets}
 use Rattle.hb_activity.specs.declared.jobs.Job.{Job}
@@ -63,14 +64,11 @@ module _ (parent : ℕ) (above : LivePage) where
       over_then IsAbove (Some below) (λ seen s. IsSome seen × (live_page s name ≡ seen)) (BothLive parent above name below) r (SeesBelow (name, area) before after) (SeesBelow (name, area) before after) d e f old mid new
       one (λ s known said. (known, said.1)) two (λ s v known said more. more)
 
-  nobody : IsSome {T = LivePage} None → ⊥
-  nobody some = let one = some_value {X = LivePage} None some in not_none {X = LivePage} None one.0 one.1 refl
-
   -- it stands there over a disk that tells
   pub child_owed : (leaf : ℕ × Area) (before after : List Job) (d e : DiskModel) (old new : RunningCore) → LooksOver {T = Option LivePage} (λ s. live_page s parent ≡ Some above) (Ok None) (λ seen s. IsSome seen × (live_page s leaf.0 ≡ seen)) d old e new
       → LooksOver (λ s. live_page s parent ≡ Some above) (Ok (tt {0})) (SeesBelow leaf before after) d old e new
   child_owed leaf before after d e old new one =
-      over_ok {T = Option LivePage} IsAbove None (tt {0}) (λ seen s. IsSome seen × (live_page s leaf.0 ≡ seen)) (SeesBelow leaf before after) d e old new (λ s known said. absurd (nobody said.0)) one
+      over_ok {T = Option LivePage} IsAbove None (tt {0}) (λ seen s. IsSome seen × (live_page s leaf.0 ≡ seen)) (SeesBelow leaf before after) d e old new (λ s known said. absurd (false≢true said.0)) one
 
   pub leaves_begin : (leaves : List (ℕ × Area)) (jobs : List Job) (d : DiskModel) (c : RunningCore) → IsDisk d → MayTidy d c → LooksOver (λ s. live_page s parent ≡ Some above) (Ok (tt {0})) (SeesAll (take 0 leaves) jobs jobs) d c d c
   leaves_begin leaves jobs d c disk may = nothing_looked d c disk may (tt {0}) IsAbove (SeesAll (take 0 leaves) jobs jobs) (λ s known. finds_nothing s _ jobs (none_yet (IsTidyBelow s parent) leaves))

@@ -81,6 +81,3 @@ module _ (parent keep : ℕ) (above kept : LivePage) where
       let listed = gone_listed s parent keep gone above kept both.0 both.1 merge in
       All-contains (λ (leaf : ℕ × Area). ¬ (IsMergeable s parent keep leaf.0)) (siblings_of kept) (gone, listed.0) all listed.1 merge) said)
       one
-
-pub never_true : false ≡ true → ⊥
-never_true is = cc

@@ -26,6 +26,14 @@ some_of_and (Some x) P h = refl
 pub at_some_and : {X : Type 0} (o : Option X) (P : X → Type 0) (x : X) → o ≡ Some x → IsSomeAnd o P → P x
 at_some_and {X = X} o P x is h = let Q : Option X → Type 0 = λ v. IsSomeAnd v P in subst Q is h
 
+-- the value itself, and the other way
+pub value_and : {X : Type 0} (o : Option X) (P : X → Type 0) → IsSomeAnd o P → (x : X) × (o ≡ Some x) × P x
+value_and None P h = absurd h
+value_and (Some x) P h = (x, refl, h)
+
+pub some_and_at : {X : Type 0} (o : Option X) (P : X → Type 0) (x : X) → o ≡ Some x → P x → IsSomeAnd o P
+some_and_at {X = X} o P x is h = let Q : Option X → Type 0 = λ v. IsSomeAnd v P in subst Q (sym is) h
+
 -- one for a test that passes, and none for the other way round
 one_way : (b : Bool) → cond (not b) 1 0 + cond b 1 0 ≡ 1
 one_way true = refl

@@ -21,6 +21,7 @@ use Rattle.hb_store.specs.Replaying.{IsPageOf}
 use Rattle.hb_page_codec.specs.ReadingPages.{page_of_bytes}
 use Rattle.hb_pool.specs.Frames.{Use}
 use Rattle.hb_pool.specs.Pools.{frame_of}
+use Rattle.hb_pool.proofs.Facts.Pooled.{at_some_and}
 use Rattle.hb_store.specs.Keeps.{StoreKeeps}
 use Rattle.hb_store.specs.Calls.{Fetched}
 use Rattle.hb_store.proofs.Facts.StayingLaws.{was_there}
@@ -35,9 +36,9 @@ use Rattle.hb_ops.proofs.Facts.WellMade.{not_broken}
 
 -- ---- what was read
 
-pub placed_read : (d : DiskModel) (at : ℕ) (into : List ℕ) (meta : Meta) (id : ℕ) → IfSome d.told (λ b. into ≡ take (length into) (drop at b)) → length into ≡ PAGE → at ≡ page_offset meta id → IfSome d.told (λ b. into ≡ place_bytes meta id b)
-placed_read d at into meta id reads long place =
-    subst (λ n. IfSome d.told (λ b. into ≡ take n (drop (page_offset meta id) b))) long (subst (λ p. IfSome d.told (λ b. into ≡ take (length into) (drop p b))) place reads)
+pub placed_read : (told : Option (List ℕ)) (at : ℕ) (into : List ℕ) (meta : Meta) (id : ℕ) → IfSome told (λ b. into ≡ take (length into) (drop at b)) → length into ≡ PAGE → at ≡ page_offset meta id → IfSome told (λ b. into ≡ place_bytes meta id b)
+placed_read told at into meta id reads long place =
+    subst (λ n. IfSome told (λ b. into ≡ take n (drop (page_offset meta id) b))) long (subst (λ p. IfSome told (λ b. into ≡ take (length into) (drop p b))) place reads)
 
 -- the page that was read, where the disk tells
 pub spelled_there : (told : Option (List ℕ)) (bytes : List ℕ) (place : List ℕ → List ℕ) (page : Page) → SpellsPage bytes page → IfSome told (λ b. bytes ≡ place b) → IfSome told (λ b. SpellsPage (place b) page)
@@ -150,27 +151,26 @@ sound_stop once d st durable later id stop disk k some high none why sound fault
     by_stop fetches.ReadFault holds fault memory p = fault refl
     by_stop fetches.Crowded holds fault memory p = memory refl
 
+-- the number of a page is not that of none
+pub page_not_none : (meta : Meta) (id : ℕ) → IsPageOf meta id → IsNoPage meta id → ⊥
+page_not_none meta id page (inl none) = absurd (omega (arith, page, none))
+page_not_none meta id page (inr beyond) = absurd (omega (arith, page, beyond))
+
 -- a number that is no page's has no page in memory
 pub none_there : (st : StoreState) (id : ℕ) → IsMemory st → IsSome (in_memory st id) → IsNoPage st.meta id → ⊥
 none_there st id is some none =
     let page = some_value (in_memory st id) some in
     let range = is.good id page.0 page.1 in
-    elim none [
-      | inl zero ↦ omega (arith, zero, range.0)
-      | inr above ↦ omega (arith, above, range.1)
-    ]
+    page_not_none st.meta id (range.0, range.1) none
 
 -- ---- a page that was read and held is the file's
-
-spells_value : (meta : Meta) (bytes : List ℕ) (page : Page) → IsSomeAnd (page_of_bytes bytes) (λ page. SpellsPage bytes page × IsGoodPage meta page) → page_of_bytes bytes ≡ Some page → SpellsPage bytes page
-spells_value meta bytes page good read = let Q : Option Page → Type 0 = λ o. IsSomeAnd o (λ page. SpellsPage bytes page × IsGoodPage meta page) in (subst Q read good).0
 
 pub read_keeps : SpelledOnce → (d e : DiskModel) → IsDisk d → (st new : StoreState) (uses : List Use) (id : ℕ) (bytes : List ℕ) → IsTied st uses → in_memory st id ≡ None → IsPageOf st.meta id → Stays d e → Fetched id st new
     → in_memory new id ≡ page_of_bytes bytes → IsSomeAnd (page_of_bytes bytes) (λ page. SpellsPage bytes page × IsGoodPage st.meta page) → IfSome d.told (λ b. bytes ≡ place_bytes st.meta id b)
     → (durable : FileState) (later : List FileState) → StoreKeeps d st durable later → StoreKeeps e new durable later
 read_keeps once d e disk st new uses id bytes tied none at stays fetched there good read durable later k =
     keeps_fetched e st new durable later id fetched
-    (λ page is. is_the_page once d st durable later id page disk k at.0 at.1 (clean_outside st uses id tied none) (spelled_there d.told bytes (place_bytes st.meta id) page (spells_value st.meta bytes page good (sym there ∙ is)) read))
+    (λ page is. is_the_page once d st durable later id page disk k at.0 at.1 (clean_outside st uses id tied none) (spelled_there d.told bytes (place_bytes st.meta id) page (at_some_and (page_of_bytes bytes) (λ page. SpellsPage bytes page × IsGoodPage st.meta page) page (sym there ∙ is) good).0 read))
     (keeps_read d e st durable later stays k)
 
 -- no page of a sound file that isn't in memory stops a fetch but for a fault, or want of a place

@@ -1,6 +1,6 @@
 -- A page that is written to its place.
 use Rattle.std.proofs.Common.{◌≡◌, inl, inr, ℕ, ◌+◌, ◌≤◌, List, length, take, drop, Some, None, IfSome, IsSome, Result, Ok, IsErr, sym, ap, ◌∙◌, subst, arith}
-use Rattle.std.proofs.lemmas.Bool.{cases_lt}
+use Rattle.std.proofs.lemmas.Bool.{cases_lt, false≢true}
 use Rattle.std.proofs.lemmas.Option.{same_Some}
 use Rattle.std.proofs.Math.Nat.{eq-or-lt_of_le}
 use Rattle.hb_space.specs.declared.form.TheConstants.{PAGE}
@@ -24,12 +24,9 @@ other_place meta id at some first other = elim (cases_lt id at) [
 -- a call that succeeds is one tick
 pub ok_tick : {T E : Type 0} (r : Result T E) (v : T) (old new : DiskModel) → r ≡ Ok v → IsDisk old → IsSome old.told → Ticks r old new → new.clock ≡ old.clock + 1
 ok_tick {T = T} {E = E} r v old new ok is_old tells ticks = elim (eq-or-lt_of_le is_old.clock_fits) [
-  | inl at_end ↦ let Q : Result T E → Type 0 = λ q. IsErr q in absurd (never v (subst Q ok (ticks.ended tells at_end).0))
+  | inl at_end ↦ let Q : Result T E → Type 0 = λ q. IsErr q in absurd (false≢true (subst Q ok (ticks.ended tells at_end).0))
   | inr before ↦ ticks.tick tells before
 ]
-  where
-    never : (v : T) → IsErr {T = T} {E = E} (Ok v) → ⊥
-    never v e = cc
 
 -- what a read gives of the place then
 pub page_written : (old new : DiskModel) → IsDisk old → (at : ℕ) (bytes : List ℕ) (meta : Meta) (id : ℕ) (page : Page) → at ≡ page_offset meta id → SpellsPage bytes page → file_size meta ≤ old.size → 1 ≤ id → id ≤ meta.pages
