@@ -54,5 +54,5 @@ module _ (page : LivePage) (rest : List Area) (found records : List Record) (are
         meets = meets;
         keys = λ k d lt. attributes (get_or records k d) (Contains-get_or records k d lt);
         stays = stays_apart split.0 found records at_hand area (subst (λ (l : List Area). IsGathering l found) split.1 gathering) is_area leaf_is inside.same meets
-            (All-contains (λ r. Holds area r.key) records in_leaf.inside) (λ i j d less lt same. not_itself _ _ same (in_leaf.rising i j d less lt));
+            (λ r there. All-contains (λ s. Holds area s.key) records r in_leaf.inside there) (λ i j d less lt same. not_itself _ _ same (in_leaf.rising i j d less lt));
       }
