@@ -7,7 +7,7 @@ use Rattle.std.proofs.lemmas.List.{ext_get_or, get_or-set_same, get_or-set_other
 use Rattle.std.proofs.lemmas.List.Elements.{All-append, All-cons, All-contains, Contains-append_left, Contains-append_right}
 use Rattle.hb_space.specs.Boxes.{Area, IsArea, Holds, Meets, Within, Cuts, common_area, holds, side_below, side_from}
 use Rattle.hb_space.proofs.Facts.Boxes.{IsArea-common_area, Holds-common_area, Within-common_area, Holds-side_below, Holds-side_from, same_corners}
-use Rattle.hb_space.proofs.Facts.Lists.{length-zip_by, set_cases}
+use Rattle.hb_space.proofs.Facts.Lists.{length-zip_by}
 use Rattle.hb_frag.specs.declared.leaves.Leaf.TheVariants.{Child}
 use Rattle.hb_frag.specs.Trees.{Tree, Tip, Cut}
 use Rattle.hb_frag.specs.Leaves.{Placed, IsWellCut, first_at, leaves_of, weight_of}

@@ -24,3 +24,4 @@ pub mod ReachedPages
 pub mod MadeLeaves
 pub mod MergeMade
 pub mod WellMade
+pub mod JoinedParts

@@ -7,6 +7,7 @@ use Rattle.hb_page_codec.specs.Exact.{AreBytes, PagesAreExact}
 use Rattle.hb_page_codec.specs.ReadingPages.{page_of_bytes}
 use Rattle.hb_page_codec.specs.declared.errors.PageError.{PageError}
 use Rattle.hb_page_codec.specs.declared.errors.PageError.TheVariants as errors
+use Rattle.hb_page_codec.proofs.Facts.PageLaws.{decodes_nothing}
 use Rattle.hb_store.specs.Opening.{place_bytes}
 
 -- the page that they are read as is that of its place
@@ -23,8 +24,4 @@ none_read exact bytes are none (Some page) is = absurd (none page ((exact bytes 
 
 pub bad_read : (exact : PagesAreExact) (bytes : List ℕ) → AreBytes bytes → (e : PageError) → e ≡ errors.BadPage
     → ((page : Page) → SpellsPage bytes page → (◌≡◌ {A = Result Page PageError} (Err e) (Ok page)) ⊎ (◌≡◌ {A = Result Page PageError} (Err e) (Err errors.NoMemory))) → None ≡ page_of_bytes bytes
-bad_read exact bytes are e is only = none_read exact bytes are (λ page spells. never page (only page spells)) (page_of_bytes bytes) refl
-  where
-    never : (page : Page) → (◌≡◌ {A = Result Page PageError} (Err e) (Ok page)) ⊎ (◌≡◌ {A = Result Page PageError} (Err e) (Err errors.NoMemory)) → ⊥
-    never page (inl same) = cc (is, same)
-    never page (inr same) = cc (is, same)
+bad_read exact bytes are e is only = none_read exact bytes are (λ page spells. decodes_nothing e is page (only page spells)) (page_of_bytes bytes) refl

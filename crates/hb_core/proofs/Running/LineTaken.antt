@@ -14,6 +14,7 @@ use Rattle.hb_activity.specs.Deeds.{Deed, answers_now, takes_job}
 use Rattle.hb_disk.specs.Model.{DiskModel}
 use Rattle.hb_latch.specs.Tables.{LatchTable, mode_at}
 use Rattle.hb_space.specs.Actors.{IsActor}
+use Rattle.hb_space.proofs.Facts.Lists.{get-set_same, get-set_other}
 use Rattle.hb_lemmas.proofs.Booleans.{at_other, if_same}
 use Rattle.hb_ops.specs.declared.operations.Op.{Op}
 use Rattle.hb_point.specs.SessionRows.{boxes_ahead, next_line, taking}
@@ -44,7 +45,7 @@ use Rattle.hb_core.proofs.Running.DeedShows.{deed_shows}
 use Rattle.hb_core.proofs.Running.Frames.{shown_stays}
 use Rattle.hb_core.proofs.Running.LinesAhead.{next_ahead, none_ahead, turn_at_end, turn_with}
 use Rattle.hb_core.proofs.Running.NumbersInHand.{NumberFate, job_number, merging_job_number}
-use Rattle.hb_core.proofs.Running.StandsElsewhere.{apart, at_set, beside_set, shows_but, stand_then}
+use Rattle.hb_core.proofs.Running.StandsElsewhere.{apart, shows_but, stand_then}
 use Rattle.hb_core.proofs.Running.TurnsAfter.{TurnAt, answered_elsewhere, answered_here, has_turn, turn_at}
 
 -- ---- sessions
@@ -100,12 +101,12 @@ module _ (d : DiskModel) (c after : RunningCore) (m : Machine) (actor behind : �
   turns_with new k own others other n low high its = elim (cases_Bool (other == actor)) [
     | inl here ↦
         let same = eqb-true other actor here in
-        let at_own : slice_get (slice_set c.behind (actor - 1) k) (actor - 1) ≡ Some k = at_set c.behind (actor - 1) k (slice_get_within c.behind (actor - 1) behind there) in
+        let at_own : slice_get (slice_set c.behind (actor - 1) k) (actor - 1) ≡ Some k = get-set_same c.behind (actor - 1) k (slice_get_within c.behind (actor - 1) behind there) in
         let equal = same_Some k n (sym at_own ∙ ap (λ (o : ℕ). slice_get (slice_set c.behind (actor - 1) k) (o - 1)) (sym same) ∙ its) in
         subst (λ (o : ℕ). HasTurn new o n) (sym same) (subst (λ (o : ℕ). HasTurn new actor o) equal own)
     | inr off ↦
         let differ = eqb-false other actor off in
-        others other n low high differ (sym (beside_set c.behind (actor - 1) (other - 1) k (apart actor other may (record { from_1 = low; to_19 = omega (arith, high) }) differ)) ∙ its)
+        others other n low high differ (sym (get-set_other c.behind (actor - 1) (other - 1) k (apart actor other may (record { from_1 = low; to_19 = omega (arith, high) }) differ)) ∙ its)
   ]
 
   -- the same machine is shown where none was left, and all lie behind the session

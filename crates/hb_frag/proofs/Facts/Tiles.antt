@@ -1,10 +1,9 @@
 -- The boxes of a tree's leaves part its box.
 use Rattle.std.proofs.Common.{◌≡◌, ℕ, zero, suc, ◌<◌, ◌⊎◌, inl, inr, ◌↔◌, true, false, cond, List, [], ◌∷◌, ◌++◌, length, get_or, map, Some, IsSome, refl, sym, ap, subst, ◌∙◌, arith}
 use Rattle.std.specs.List.{All, Any, AllPairs, Contains}
-use Rattle.std.proofs.lemmas.Bool.{and_parts}
 use Rattle.std.proofs.lemmas.List.{map-append}
 use Rattle.std.proofs.lemmas.List.Elements.{All-append}
-use Rattle.hb_space.specs.Boxes.{Area, IsArea, Holds, Within, Disjoint, holds, is_between, side_below, side_from}
+use Rattle.hb_space.specs.Boxes.{Area, IsArea, Holds, Within, Disjoint, holds, side_below, side_from}
 use Rattle.hb_space.proofs.Facts.Boxes.{Holds-side_below, Holds-side_from, side_cover, Holds-from_test, Within-from_points}
 use Rattle.hb_frag.specs.declared.leaves.Leaf.{Leaf}
 use Rattle.hb_frag.specs.Trees.{Tree, Tip, Cut}

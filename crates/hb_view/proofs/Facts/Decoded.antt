@@ -7,8 +7,7 @@ use Rattle.hb_page_codec.specs.Exact.{AreBytes}
 use Rattle.hb_page_codec.specs.ReadingPages.{page_of_bytes}
 use Rattle.hb_page_codec.specs.declared.errors.PageError.{PageError}
 use Rattle.hb_page_codec.specs.declared.errors.PageError.TheVariants as errors
-use Rattle.hb_page_codec.proofs.Facts.PageLaws.{page_takes, page_again}
-pub use Rattle.hb_page_codec.proofs.Facts.PageLaws.{decodes_nothing}
+use Rattle.hb_page_codec.proofs.Facts.PageLaws.{page_takes, page_again, decodes_nothing}
 use Rattle.hb_view.specs.Spelled.{page_or, page_spelled}
 
 pub is_decoded : (bytes : List ℕ) (page : Page) → SpellsPage bytes page → page ≡ page_spelled bytes
