@@ -1,12 +1,12 @@
 -- Looks at the pages below a page, one child leaf after the other.
-use Rattle.std.proofs.Common.{◌≡◌, ℕ, ◌+◌, ◌<◌, List, [], All, length, get_or, take, Option, None, Some, IsSome, Result, Ok, refl, subst}
+use Rattle.std.proofs.Common.{◌≡◌, ℕ, ◌+◌, ◌<◌, List, [], All, length, get_or, take, Option, None, Some, IsSome, Result, Ok, subst}
 use Rattle.std.proofs.lemmas.Bool.{false≢true}
 use Rattle.hb_disk.specs.Model.{DiskModel, IsDisk}
 use Rattle.hb_space.specs.Boxes.{Area, Meets}
 use Rattle.hb_activity.specs.declared.jobs.Job.{Job}
 use Rattle.hb_frag.specs.declared.pages.LivePage.{LivePage}
 use Rattle.hb_frag.specs.Leaves.{siblings_of}
-use Rattle.hb_lemmas.proofs.Options.{not_none, some_value, one_value}
+use Rattle.hb_lemmas.proofs.Options.{one_value}
 use Rattle.hb_lemmas.proofs.Lists.{All-take_more}
 use Rattle.hb_ops.specs.Files.{FileState, live_page}
 use Rattle.hb_ops.specs.Settled.{HasChild, IsMergeable}

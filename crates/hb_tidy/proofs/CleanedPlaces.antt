@@ -1,15 +1,14 @@
 -- The order of use where no page is pinned: a flush of the oldest dirty page makes a place, and a page that comes takes none away.
-use Rattle.std.proofs.Common.{◌≡◌, ℕ, ◌+◌, ◌-◌, ◌<◌, ◌==◌, ◌||◌, not, if◌then◌else◌, Bool, true, false, cond, is_some, List, [], ◌∷◌, All, Option, Some, None, option_map, refl, sym, ap, ◌∙◌, subst, arith}
+use Rattle.std.proofs.Common.{◌≡◌, ℕ, ◌+◌, ◌-◌, ◌<◌, ◌==◌, ◌||◌, not, if◌then◌else◌, Bool, true, false, cond, is_some, List, [], ◌∷◌, All, Some, None, refl, ap, ◌∙◌, subst, arith}
 use Rattle.std.specs.List.{find, count_by, position_or_len}
 use Rattle.std.specs.Set.{remove_key}
 use Rattle.std.proofs.lemmas.List.Elements.{All-append}
 use Rattle.std.proofs.lemmas.List.Sums.{sum_by-cons}
 use Rattle.std.proofs.lemmas.Map.Views.{All-remove_key}
-use Rattle.std.proofs.lemmas.Option.{same_Some}
 use Rattle.hb_lemmas.proofs.Lists.{All-alone, All-behind, All-front, All-one}
 use Rattle.hb_lemmas.proofs.Options.{none_mapped}
-use Rattle.hb_pool.proofs.Facts.Firsts.{All-changed, first_passes, first_there, first_within, none_counted}
-use Rattle.hb_pool.proofs.Facts.Pooled.{brought_counts, dirty_stays, dirty_there, in_place_pool, place_counts}
+use Rattle.hb_pool.proofs.Facts.Firsts.{All-changed, first_there, first_within, none_counted}
+use Rattle.hb_pool.proofs.Facts.Pooled.{brought_counts, dirty_stays, in_place_pool, place_counts}
 use Rattle.hb_pool.specs.Frames.{Use, clean, fresh, has_id, may_go, must_stay}
 use Rattle.hb_pool.specs.Pools.{IsPool, brought, frame_of, in_place, places, with_room}
 use Rattle.hb_pool.specs.declared.pools.TheConstants.{FRAMES}
