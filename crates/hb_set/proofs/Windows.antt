@@ -1,5 +1,5 @@
 -- Which records a box may hold, by the order of points: those between two places.
-use Rattle.std.proofs.Common.{◌≡◌, ℕ, zero, suc, ◌+◌, ◌-◌, ◌<◌, ◌≤◌, Bool, true, false, cond, List, [], ◌∷◌, ◌++◌, length, get_or, take, drop, filter, append_assoc, Box, All, leb, refl, sym, ap, subst, ◌∙◌, inl, inr, arith, get_or-take, get_or-drop, length-take, length-drop}
+use Rattle.std.proofs.Common.{◌≡◌, ℕ, zero, suc, ◌+◌, ◌<◌, ◌≤◌, Bool, true, false, cond, List, [], ◌∷◌, ◌++◌, length, get_or, take, drop, filter, append_assoc, Box, All, leb, refl, sym, ap, subst, ◌∙◌, inl, inr, arith, get_or-take, get_or-drop, length-take, length-drop}
 use Rattle.std.specs.List.{AllWithin}
 use Rattle.std.specs.List.Sorted.{IsPartitionedBy, IsPartitionPoint}
 use Rattle.std.specs.FinMap.Entries.{below_all}
@@ -9,7 +9,7 @@ use Rattle.std.specs.declared.cmp.Ordering.{Ordering}
 use Rattle.std.specs.declared.cmp.Ordering.TheVariants.{Less}
 use Rattle.std.proofs.lemmas.Cmp.{nat_list_cmp_total, ranked, by_ranked}
 use Rattle.std.proofs.lemmas.Bool.{false≢true, cases_lt, lt-leb, le-leb, leb-true, leb-false, and_parts, and_left, and_right, and_from}
-use Rattle.std.proofs.lemmas.List.{take-append-drop, take_all, map-append, append-nil}
+use Rattle.std.proofs.lemmas.List.{take-append-drop, map-append, append-nil}
 use Rattle.std.proofs.lemmas.List.Elements.{filter-append, All-take, All-drop}
 use Rattle.hb_space.specs.Points.{point_cmp}
 use Rattle.hb_space.specs.Boxes.{Area, is_between, holds}

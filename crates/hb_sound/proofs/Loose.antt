@@ -1,5 +1,5 @@
 -- The loose pages, found by a loop.
-use Rattle.std.proofs.Common.{◌≡◌, inr, ℕ, ◌+◌, ◌<◌, ◌≤◌, List, length, Option, Some, None, MatchOption, get_or, refl, sym, ap, ◌∙◌, subst, arith}
+use Rattle.std.proofs.Common.{◌≡◌, inr, ℕ, ◌+◌, ◌<◌, ◌≤◌, List, length, Option, Some, None, MatchOption, get_or, sym, ap, ◌∙◌, subst, arith}
 use Rattle.hb_lemmas.proofs.Lists.{place_within}
 use Rattle.hb_space.specs.Boxes.{Area, whole_area}
 use Rattle.hb_layout.specs.declared.meta.Meta.{Meta}

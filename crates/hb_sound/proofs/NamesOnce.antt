@@ -2,10 +2,8 @@
 use Rattle.std.proofs.Common.{◌≡◌, ◌⊎◌, inl, inr, ℕ, List, [], ◌∷◌, Contains, Option, Some, None, refl, sym, ap, subst, ◌∙◌, arith}
 use Rattle.std.proofs.lemmas.Bool.{cases_lt}
 use Rattle.hb_lemmas.proofs.Lists.{later_member, member_cases}
-use Rattle.hb_frag.specs.declared.pages.LivePage.{LivePage}
-use Rattle.hb_layout.specs.declared.meta.Meta.{Meta}
 use Rattle.hb_ops.specs.Files.{FileState}
-use Rattle.hb_ops.specs.Sound.{BreaksFirst, SiblingsMatch, ChildrenMatch}
+use Rattle.hb_ops.specs.Sound.{SiblingsMatch, ChildrenMatch}
 use Rattle.hb_ops.proofs.Facts.WellMade.{not_broken}
 use Rattle.hb_sound.specs.Names.{BreaksRule, MissesSibling, MissesChild, IsLoose, KeepsLocally, NamesFree, NamesIn, NamesLocal, NamesLoose}
 use Rattle.hb_sound.specs.Walks.{IsLeast, IsLeftOut, IsOnce, LeadsAlong, next_free}

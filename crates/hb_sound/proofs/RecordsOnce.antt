@@ -3,20 +3,19 @@ use Rattle.std.proofs.Common.{◌≡◌, ◌≢◌, ℕ, zero, suc, ◌+◌, ◌
 use Rattle.std.specs.List.{AllByRecursion, Contains}
 use Rattle.std.specs.Option.{is_some}
 use Rattle.std.specs.FinMap as finite
-use Rattle.std.specs.declared.cmp.Ordering.TheVariants.{Less, Equal}
-use Rattle.std.proofs.lemmas.Bool.{cases_eq, cases_lt, eq-eqb, ne_eqb}
-use Rattle.std.proofs.lemmas.Cmp.{nat_list_cmp_total, tied_itself}
+use Rattle.std.proofs.lemmas.Bool.{cases_eq, eq-eqb, ne_eqb}
+use Rattle.std.proofs.lemmas.Cmp.{nat_list_cmp_total}
 use Rattle.std.proofs.lemmas.Grind.{flat_map-append}
 use Rattle.std.proofs.lemmas.List.Elements.{All-contains, recursion_from_All}
 use Rattle.std.proofs.lemmas.List.{get_or_default}
 use Rattle.hb_lemmas.proofs.Lists.{All-parts, whole}
 use Rattle.hb_lemmas.proofs.Pairs.{pairs_first, pairs_rest}
-use Rattle.hb_space.specs.Boxes.{Area, Cuts, Holds, IsArea, Within, side_below, side_from}
+use Rattle.hb_space.specs.Boxes.{Area, Holds, IsArea, Within, side_below, side_from}
 use Rattle.hb_space.specs.Points.{IsPoint, point_cmp}
 use Rattle.hb_space.specs.declared.records.Record.{Record}
 use Rattle.hb_space.proofs.Facts.Boxes.{Holds-within}
 use Rattle.hb_space.proofs.Facts.PointOrder.{not_itself}
-use Rattle.hb_frag.proofs.Facts.Sides.{IsArea-side_below, IsArea-side_from, not_below, not_from}
+use Rattle.hb_frag.proofs.Facts.Sides.{IsArea-side_below, IsArea-side_from}
 use Rattle.hb_frag.specs.declared.pages.Page.{Page}
 use Rattle.hb_frag.specs.declared.pages.Page.TheVariants.{Live, Free}
 use Rattle.hb_frag.specs.Trees.{Tree, Tip, Cut}

@@ -1,9 +1,9 @@
 -- A split parts what the page directly holds: on each level one page directly holds a point, before and afterwards, and only two pages differ.
-use Rattle.std.proofs.Common.{◌≡◌, ℕ, ◌<◌, ◌⊎◌, inl, inr, List, Some, refl, sym, ap, subst, ◌∙◌}
+use Rattle.std.proofs.Common.{◌≡◌, ℕ, ◌<◌, ◌⊎◌, inl, inr, List, refl, sym, ap, subst, ◌∙◌}
 use Rattle.std.proofs.lemmas.Bool.{cases_eq}
 use Rattle.hb_frag.specs.declared.pages.LivePage.{LivePage}
 use Rattle.hb_frag.specs.declared.pages.Page.{Page}
-use Rattle.hb_ops.specs.Files.{FileState, if_live, live_page}
+use Rattle.hb_ops.specs.Files.{FileState, if_live}
 use Rattle.hb_ops.specs.Operations.{effect_of}
 use Rattle.hb_ops.specs.Sound.{IsSound}
 use Rattle.hb_sound.specs.Laws.{SpaceLaws, TreeLaws}
@@ -17,7 +17,6 @@ use Rattle.hb_sound.proofs.Partition.{each_point_is_held, no_point_is_held_twice
 use Rattle.hb_sound.proofs.SplitSound.{comes_from, split_sound}
 use Rattle.hb_sound.proofs.HeldSomewhere.{on_level, under}
 use Rattle.hb_sound.proofs.Facts.PagePlaces.{not_vacant}
-use Rattle.hb_lemmas.proofs.Options.{one_value}
 
 module _ (trees : TreeLaws) (space : SpaceLaws) (s : FileState) (x : Extraction) (pages : List Page) (page source fresh : LivePage) (allocates : Allocates s.meta x.fresh x.free_after) (parted : IsParted s (record { meta = allocated s.meta x.fresh x.free_after; pages = pages }) x page source fresh) (parts : ArePartsOf s.meta x.fresh page source fresh) where
   abbrev after : FileState
