@@ -24,7 +24,7 @@ use Rattle.hb_consol.specs.ConsolidatorRows.{names_child}
 use Rattle.hb_core.proofs.Files.AskedPages.{IsThere, begun_there, given_there, held_there, named_child_there, named_there, named_with_box, placed_sibling_there, root_there}
 use Rattle.hb_core.proofs.Memory.BroughtPages.{both_there, told_files}
 use Rattle.hb_core.proofs.TwoSteps.OneOutcome.{outcome_is_one, state_is_one}
-use Rattle.hb_core.proofs.Files.SoundFiles.{FilesHold, brought_shown, current_sound, files_hold, file_sound, live_in_file}
+use Rattle.hb_core.proofs.Files.SoundFiles.{FilesHold, brought_shown, current_sound, files_hold}
 use Rattle.hb_core.proofs.Facts.StepKinds.{each_kind, FlushesMore, ready_kind}
 use Rattle.hb_core.specs.Acting.{IsBadWanted, MeetsBadPage, NeedsNumber}
 use Rattle.hb_core.specs.Asking.{AskedBox, HasAskedBox, IsNotAsked, asked_box, box_at, box_of_child, looked_live, wanted_by}
@@ -48,6 +48,7 @@ use Rattle.hb_store.specs.States.{StoreState}
 use Rattle.hb_ops.proofs.Facts.PageNumberLaws.{live_so}
 use Rattle.hb_lemmas.proofs.Options.{some_of_map, some_of_then}
 use Rattle.hb_core.proofs.Memory.NeededPages.{needs_room}
+use Rattle.hb_core.proofs.Facts.LaterPages.{file_sound, shown_live}
 
 -- what a disk that tells reads is never damaged
 no_bad_read : (files : Files) (st : StoreState) (id : ℕ) (why : Why) → IsBadRead (Some files) st id why → ⊥
@@ -141,7 +142,7 @@ module _ (m : Machine) (files : Files) (actor : ℕ) (may : IsActor actor) (fit 
   at_parent : (job : Job) (parent : ℕ) (wanted : Wanted) (asked : AskedBox) (page : LivePage) → live_here m.store parent ≡ Some page
       → in_mode (λ level. Shared) (option_and_then (λ (page : LivePage). child_of page job.point) (live_here m.store parent)) ≡ Some wanted → box_at (live_here fetched parent) (Some job.point) ≡ Some asked → IsThere (current_file files) wanted asked
   at_parent job parent wanted asked page live wants asks =
-      named_there (current_file files) (file_sound m files has) parent page (live_in_file m files has parent page live) job.point wanted asked
+      named_there (current_file files) (file_sound m files has) parent page (shown_live m.store (current_file files) has.shown parent page live) job.point wanted asked
       (subst (λ (o : Option LivePage). in_mode (λ level. Shared) (option_and_then (λ (page : LivePage). child_of page job.point) o) ≡ Some wanted) live wants)
       (subst (λ (o : Option LivePage). box_at o (Some job.point) ≡ Some asked) (still_asked parent page live (some_of_then _ (live_here fetched parent) asked asks)) asks)
 
@@ -149,7 +150,7 @@ module _ (m : Machine) (files : Files) (actor : ℕ) (may : IsActor actor) (fit 
       → box_at (live_here fetched id) goal ≡ Some asked → IsThere (current_file files) wanted asked
   walk_on id goal mode wanted asked is wants asks =
       let one = walk_page id is in
-      held_there (current_file files) (file_sound m files has) id one.0 (live_in_file m files has id one.0 one.1) mode m.store.meta goal (live_here m.store id) (live_here fetched id) wanted asked one.1
+      held_there (current_file files) (file_sound m files has) id one.0 (shown_live m.store (current_file files) has.shown id one.0 one.1) mode m.store.meta goal (live_here m.store id) (live_here fetched id) wanted asked one.1
       (still_asked id one.0 one.1 (some_of_then _ (live_here fetched id) asked asks)) wants asks
 
   walk_begins : (goal : Option (List ℕ)) (mode : ℕ → Mode) (wanted : Wanted) (asked : AskedBox) → in_mode mode (walk_next goal None m.store.meta None) ≡ Some wanted
@@ -161,7 +162,7 @@ module _ (m : Machine) (files : Files) (actor : ℕ) (may : IsActor actor) (fit 
       → box_of_child (live_here fetched parent) name ≡ Some asked → IsThere (current_file files) wanted asked
   by_child parent name mode None wanted asked is wants asks = cc
   by_child parent name mode (Some page) wanted asked is wants asks =
-      named_child_there (current_file files) (file_sound m files has) parent page (live_in_file m files has parent page is) name mode (live_here fetched parent) wanted asked (still_asked parent page is (asked_then _ _ (live_here fetched parent) asked asks))
+      named_child_there (current_file files) (file_sound m files has) parent page (shown_live m.store (current_file files) has.shown parent page is) name mode (live_here fetched parent) wanted asked (still_asked parent page is (asked_then _ _ (live_here fetched parent) asked asks))
       (same_Some (wanted_page name (page.level - 1) mode) wanted wants) asks
 
   abbrev at_parent_of : Job → ℕ → ℕ → ℕ → Option ℕ → AtParent
@@ -185,7 +186,7 @@ module _ (m : Machine) (files : Files) (actor : ℕ) (may : IsActor actor) (fit 
   there (at.ConsolidatorScan job parent child) wanted asked is wants asks = by_child parent child Shared (live_here m.store parent) wanted asked refl wants asks
   there (at.ConsolidatorTry job parent keep gone leaf) wanted asked is wants asks =
       let one = (at_pair job parent keep gone (Some leaf) (ap merging_at is)).1 in
-      placed_sibling_there (current_file files) (file_sound m files has) keep one.page (live_in_file m files has keep one.page one.live) gone leaf Shared (live_here fetched keep) wanted asked (still_asked keep one.page one.live (some_of_then _ (live_here fetched keep) asked asks)) one.gave
+      placed_sibling_there (current_file files) (file_sound m files has) keep one.page (shown_live m.store (current_file files) has.shown keep one.page one.live) gone leaf Shared (live_here fetched keep) wanted asked (still_asked keep one.page one.live (some_of_then _ (live_here fetched keep) asked asks)) one.gave
       (same_Some (wanted_page gone one.page.level Shared) wanted (sym (ap (λ (o : Option LivePage). option_map (λ (page : LivePage). wanted_page gone page.level Shared) o) one.live) ∙ wants)) asks
   there (at.ConsolidatorKeep job parent keep gone) wanted asked is wants asks = by_child parent keep Exclusive (live_here m.store parent) wanted asked refl wants asks
   there (at.ConsolidatorDecide job parent keep gone) wanted asked is wants asks =
@@ -193,9 +194,9 @@ module _ (m : Machine) (files : Files) (actor : ℕ) (may : IsActor actor) (fit 
       let known : NamesKnown m.store (at_parent_of job parent keep gone None) = subst (λ (o : Option AtParent). IfSome o (NamesKnown m.store)) (ap merging_at is) place in
       let pair = known.pair in
       let above = named_with_box known.page keep (All-head (λ (id : ℕ). IsTrue (names_child known.page id)) keep (gone ∷ []) known.names) in
-      let kept = (file_sound m files has).children parent known.page keep above.0 (live_in_file m files has parent known.page known.live) above.1 in
-      let same : kept.0 ≡ pair.page = same_Some kept.0 pair.page (sym kept.1 ∙ live_in_file m files has keep pair.page pair.live) in
-      given_there (current_file files) (file_sound m files has) keep pair.page (live_in_file m files has keep pair.page pair.live) gone (known.page.level - 1) Exclusive (live_here fetched keep) wanted asked
+      let kept = (file_sound m files has).children parent known.page keep above.0 (shown_live m.store (current_file files) has.shown parent known.page known.live) above.1 in
+      let same : kept.0 ≡ pair.page = same_Some kept.0 pair.page (sym kept.1 ∙ shown_live m.store (current_file files) has.shown keep pair.page pair.live) in
+      given_there (current_file files) (file_sound m files has) keep pair.page (shown_live m.store (current_file files) has.shown keep pair.page pair.live) gone (known.page.level - 1) Exclusive (live_here fetched keep) wanted asked
       (still_asked keep pair.page pair.live (asked_then _ _ (live_here fetched keep) asked asks)) (let level : pair.page.level ≡ kept.0.level = ap (λ (p : LivePage). p.level) (sym same) in omega (arith, level, kept.2))
       (same_Some (wanted_page gone (known.page.level - 1) Exclusive) wanted (sym (ap (λ (o : Option LivePage). option_map (λ (page : LivePage). wanted_page gone (page.level - 1) Exclusive) o) known.live) ∙ wants)) asks
   there activity wanted asked is wants asks = cc

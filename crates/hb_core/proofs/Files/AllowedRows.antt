@@ -95,7 +95,7 @@ module _ (st : StoreState) (keeps : KeepsPages st) where
 pub half_held : (m : Machine) (actor : ℕ) → IsActor actor → LatchesFit m → (line : Line) (source fresh half : ℕ) → m.activity actor ≡ at.SessionPut line source fresh → (half ≡ source) ⊎ (half ≡ fresh) → MustStay m half
 half_held m actor one fit line source fresh half is (inl first) =
     subst (MustStay m) (sym first) (must_hold m actor source (at.SessionPut line source fresh) Exclusive one fit is (at_itself source (Some Exclusive) (cond (fresh == source) (Some Exclusive) None)))
-half_held m actor one fit line source fresh half is (inr second) = subst (MustStay m) (sym second) (must_hold m actor fresh (at.SessionPut line source fresh) Exclusive one fit is (second_mode source fresh))
+half_held m actor one fit line source fresh half is (inr second) = subst (MustStay m) (sym second) (must_hold m actor fresh (at.SessionPut line source fresh) Exclusive one fit is (second_mode source fresh Exclusive))
 
 module _ (m : Machine) (actor : ℕ) (may : ℕ → Type 0) (fetched : StoreState) (keeps : KeepsPages fetched) (one : IsActor actor) (fit : LatchesFit m) (room : KnowsRoom m) (brings : Brings m may fetched) where
   abbrev pub m' : Machine

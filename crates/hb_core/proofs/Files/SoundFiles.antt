@@ -2,8 +2,6 @@
 use Rattle.std.proofs.Common.{◌≡◌, inl, inr, ℕ, ◌+◌, List, [], ◌∷◌, ◌++◌, length, All, Option, Some, None, IfSome, option_map, refl, sym, ap, ◌∙◌, subst, arith, length-append}
 use Rattle.std.proofs.lemmas.List.Elements.{All-append, All-cons, All-nil}
 use Rattle.hb_frag.specs.declared.pages.Page.{Page}
-use Rattle.hb_frag.specs.declared.pages.LivePage.{LivePage}
-use Rattle.hb_frag.specs.declared.pages.Page.TheVariants.{Live}
 use Rattle.hb_layout.specs.declared.meta.Meta.{Meta}
 use Rattle.hb_ops.specs.declared.operations.Op.{Op}
 use Rattle.hb_core.specs.declared.outcomes.Outcome.{Outcome}
@@ -25,18 +23,17 @@ use Rattle.hb_core.specs.FileLaws.{FilesStaySound, MayBeDoneIn, RowsAreLicensed}
 use Rattle.hb_core.specs.Forcing.{ForcesAll, StaysSo, forced_files, FailsToWrite}
 use Rattle.hb_core.specs.Keeps.{HasSoundFile}
 use Rattle.hb_core.specs.KeptLines.{LinesFit, MetaWithinLimits}
-use Rattle.hb_core.specs.Machines.{Files, Machine, current_file, live_here}
+use Rattle.hb_core.specs.Machines.{Files, Machine, current_file}
 use Rattle.hb_core.specs.Performing.{DoesOp, MayDo, Performs, files_after, with_effect}
 use Rattle.hb_core.specs.Steps.{Works}
 use Rattle.hb_layout.specs.Limits.{IsLayout}
-use Rattle.hb_ops.specs.Files.{FileState, page_of, last_of, live_page, if_live}
+use Rattle.hb_ops.specs.Files.{FileState, page_of, last_of}
 use Rattle.hb_ops.specs.Operations.{effect_of}
 use Rattle.hb_ops.specs.Sound.{IsSound}
 use Rattle.hb_sound.specs.LawsOfOperations.{OperationsKeepSound}
 use Rattle.hb_store.specs.Calls.{IsAllowedHere}
 use Rattle.hb_store.specs.Making.{OperationLaws}
 use Rattle.hb_ops.proofs.Facts.FilePages.{last_of-append}
-use Rattle.hb_ops.proofs.Facts.PageNumberLaws.{live_so}
 use Rattle.hb_store.specs.States.{StoreState, in_memory}
 use Rattle.hb_wal.specs.Log.{Waiting}
 
@@ -57,13 +54,6 @@ has_sound_file m files holds = record { durable = holds.durable; later = holds.l
 
 pub current_sound : (st : StoreState) (files : Files) → FilesHold st files → IsSound (current_file files)
 current_sound st files holds = last_sound files.durable files.later holds.durable holds.later
-
-pub file_sound : (m : Machine) (files : Files) → HasSoundFile m files → IsSound (current_file files)
-file_sound m files has = current_sound m.store files (files_hold m files has)
-
--- a page in memory is the file's
-pub live_in_file : (m : Machine) (files : Files) → HasSoundFile m files → (id : ℕ) (page : LivePage) → live_here m.store id ≡ Some page → live_page (current_file files) id ≡ Some page
-live_in_file m files has id page live = ap if_live (has.shown id (Live page) (live_so (in_memory m.store id) page live))
 
 pub shows_file : (st : StoreState) (files : Files) → FilesHold st files → ShowsFile st (current_file files)
 shows_file st files holds = record { sound = current_sound st files holds; meta = holds.meta; shown = holds.shown }

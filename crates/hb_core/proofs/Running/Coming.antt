@@ -171,6 +171,11 @@ told_or_not d c m P shows sound so = by d.told refl
         let kept = subst (λ (x : StoreState). StoreKeeps d x s.files.durable s.files.later) shows.store s.kept in
         inr (so s.files.durable s.files.later kept (at_value m.files (λ (files : Files). IsSound (current_file files)) s.files s.told sound))
 
+-- the page that is looked at comes, and what has to stay does
+pub looked_brings : (d e : DiskModel) (c : RunningCore) (m : Machine) (step : MayStep d c m) (failed : Type 0) (st : StoreState) (looks : LooksUp failed d e c.store st) (id : ℕ) → IsMemory st → Fetched id c.store st → ((q : ℕ) → StaysHere c.uses q → in_memory st q ≡ in_memory c.store q) → Brings m (λ q. q ≡ id) st
+looked_brings d e c m step failed st looks id memory fetched stays =
+    fetch_brings m d e c failed st step.shows looks id memory fetched (λ q must. stays q (shown_stays d c m step q must) ∙ ap (λ (x : StoreState). in_memory x q) (sym step.shows.store))
+
 module _ (m : Machine) (d : DiskModel) (c : RunningCore) (actor : ℕ) (latches : IsActor actor) (step : MayStep d c m) (work : MayWork m actor) where
   abbrev here : StoreState
   here = c.store
@@ -267,7 +272,7 @@ module _ (m : Machine) (d : DiskModel) (c : RunningCore) (actor : ℕ) (latches 
     module _ (e : DiskModel) (failed : Type 0) (st : StoreState) (looks : LooksUp failed d e c.store st) (memory : IsMemory st) (fetched : Fetched wanted.page c.store st)
         (stays : (id : ℕ) → StaysHere c.uses id → in_memory st id ≡ in_memory c.store id) where
       brings_it : Brings m (λ id. id ≡ wanted.page) st
-      brings_it = fetch_brings m d e c failed st step.shows looks wanted.page memory fetched (λ id must. stays id (shown_stays d c m step id must) ∙ ap (λ (x : StoreState). in_memory x id) (sym step.shows.store))
+      brings_it = looked_brings d e c m step failed st looks wanted.page memory fetched stays
 
       -- so that the core may look for the box
       pub looks_as : (stands : Activity) → StandsAs c actor stands → MayLook st stands

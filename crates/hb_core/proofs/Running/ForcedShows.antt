@@ -1,5 +1,5 @@
 -- A force of a core's store is a force of the machine that it shows, or stops it.
-use Rattle.std.proofs.Common.{◌≡◌, ◌≢◌, ◌⊎◌, inl, inr, ℕ, ◌+◌, ◌≤◌, false, List, [], ◌∷◌, Option, Some, None, IsOk, IsSome, IfSome, Ok, Err, refl, sym, ap, ◌∙◌, subst, arith}
+use Rattle.std.proofs.Common.{◌≡◌, ◌≢◌, ◌⊎◌, inl, inr, ℕ, ◌+◌, ◌≤◌, false, List, [], ◌∷◌, Option, Some, None, IsSome, IfSome, Ok, Err, refl, sym, ap, ◌∙◌, subst, arith}
 use Rattle.std.specs.Option.{option_map}
 use Rattle.hb_disk.specs.Model.{DiskModel}
 use Rattle.hb_lemmas.proofs.Options.{was_some, not_there}
@@ -21,6 +21,7 @@ use Rattle.hb_disk.specs.Calls.{Becomes}
 use Rattle.hb_pool.specs.Frames.{Use}
 use Rattle.hb_core.specs.Showing.{RunningCore, ShowsFiles, ShowsMachine}
 use Rattle.hb_core.specs.Working.{MayStep}
+use Rattle.std.proofs.lemmas.Bool.{false≢true}
 
 -- ---- where a disk tells its bytes
 
@@ -165,10 +166,7 @@ module _ (d e : DiskModel) (c : RunningCore) (st : StoreState) (uses : List Use)
   -- so a force that failed
   module _ {T : Type 0} (fault : WriteFault) (writes : WritesGroups {T = T} (Err fault) d e c.store st) (same_use : uses ≡ c.uses) where
     pub group_waits : m.store.log.groups ≢ []
-    group_waits none = no_ok (writes.nothing (sym (ap (λ (s : StoreState). s.log.groups) shows.store) ∙ none)).0
-      where
-        no_ok : IsOk {T = T} {E = WriteFault} (Err fault) → ⊥
-        no_ok is = cc
+    group_waits none = false≢true (writes.nothing (sym (ap (λ (s : StoreState). s.log.groups) shows.store) ∙ none)).0
 
     pub fails : (new : Machine) × FailsToWrite m 4 (outcomes.Stopped stops.WriteFault) new × ShowsMachine e (with_stop stops.WriteFault (with_held st uses c)) new
     fails = fails_by _ 4 writes.wrote.became writes.wrote.later writes.wrote.few writes.stopped same_use writes.keeps_stopped

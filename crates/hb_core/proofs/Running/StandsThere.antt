@@ -17,7 +17,7 @@ use Rattle.hb_activity.specs.Deeds.{Deed}
 use Rattle.hb_activity.specs.Holding.{latch_on, walk_latch}
 use Rattle.hb_activity.specs.Walks.{job_mode, session_mode, walk_held}
 use Rattle.hb_store.specs.States.{StoreState}
-use Rattle.hb_lemmas.proofs.Options.{at_value, has_value, if_value, some_value}
+use Rattle.hb_lemmas.proofs.Options.{at_value, has_value, if_value, some_value, not_none}
 use Rattle.hb_core.proofs.Latches.Beside.{beside_from}
 use Rattle.hb_core.proofs.Latches.MergerBacked.{every_row_backed}
 use Rattle.hb_core.proofs.Facts.StillThere.{fetched_good}
@@ -91,29 +91,23 @@ module _ (m : Machine) (actor : ℕ) (fetched st : StoreState) (deed : Deed) (la
   keeps = work.goes_on.kept
 
   -- of a consolidator's place its pair is apart
-  none_there : (place : AtParent) → merging_at deed.next ≡ None → merging_at deed.next ≡ Some place → ⊥
-  none_there place none some = by (sym none ∙ some)
-    where
-      by : None ≡ Some place → ⊥
-      by is = cc
-
   pair_apart : HasPlace m actor (now m actor fetched) deed → (place : AtParent) (pair : PairHeld) → merging_at deed.next ≡ Some place → place.pair ≡ Some pair → place.parent ≢ pair.keep
-  pair_apart (inl nothing) place pair at_place held = absurd (none_there place nothing.merging at_place)
-  pair_apart (inr (inl walks)) place pair at_place held = absurd (none_there place walks.merging at_place)
-  pair_apart (inr (inr (inl full))) place pair at_place held = absurd (none_there place (ap (λ (d : Deed). merging_at d.next) full.row.deed_is) at_place)
-  pair_apart (inr (inr (inr (inl takes)))) place pair at_place held = absurd (none_there place (ap (λ (d : Deed). merging_at d.next) takes.row.deed_is) at_place)
-  pair_apart (inr (inr (inr (inr (inl parent))))) place pair at_place held = absurd (none_there place (by parent.after) at_place)
+  pair_apart (inl nothing) place pair at_place held = absurd (not_none (merging_at deed.next) place at_place nothing.merging)
+  pair_apart (inr (inl walks)) place pair at_place held = absurd (not_none (merging_at deed.next) place at_place walks.merging)
+  pair_apart (inr (inr (inl full))) place pair at_place held = absurd (not_none (merging_at deed.next) place at_place (ap (λ (d : Deed). merging_at d.next) full.row.deed_is))
+  pair_apart (inr (inr (inr (inl takes)))) place pair at_place held = absurd (not_none (merging_at deed.next) place at_place (ap (λ (d : Deed). merging_at d.next) takes.row.deed_is))
+  pair_apart (inr (inr (inr (inr (inl parent))))) place pair at_place held = absurd (not_none (merging_at deed.next) place at_place (by parent.after))
     where
       by : (deed.next ≡ at.PosterPromote parent.job parent.parent) ⊎ (deed.next ≡ at.PosterAgain parent.job parent.parent) → merging_at deed.next ≡ None
       by (inl is) = ap merging_at is
       by (inr is) = ap merging_at is
-  pair_apart (inr (inr (inr (inr (inr (inl parts)))))) place pair at_place held = absurd (none_there place (ap (λ (d : Deed). merging_at d.next) parts.row.deed_is) at_place)
+  pair_apart (inr (inr (inr (inr (inr (inl parts)))))) place pair at_place held = absurd (not_none (merging_at deed.next) place at_place (ap (λ (d : Deed). merging_at d.next) parts.row.deed_is))
   pair_apart (inr (inr (inr (inr (inr (inr merges)))))) place pair at_place held =
       by (merged_place m actor fetched (fetched_good m AnyPage fetched keeps.pages_of_file brings) (λ place is. subst (λ (o : Option AtParent). IfSome o (NamesKnown m.store)) is (keeps.walk_in_space.merging actor))
       (place_stays m AnyPage fetched brings actor keeps.latches_fit latches) deed merges)
     where
       by : HoldsNothing deed.next ⊎ HasMergePlace fetched deed.next → place.parent ≢ pair.keep
-      by (inl free) = absurd (none_there place free.merging at_place)
+      by (inl free) = absurd (not_none (merging_at deed.next) place at_place free.merging)
       by (inr here) = known_apart fetched place pair (subst (NamesKnown fetched) (same_Some here.place place (sym here.is ∙ at_place)) here.named) held
 
   pub may_stand : MayDo deed.op (length m.order) fetched st → MayStand actor m.latches st deed.next

@@ -179,11 +179,5 @@ put_all d c m shown place first items shows is_shown high put =
     let same : shown ≡ m.lines = is_shown ∙ sym shows.lines in
     put ∙ ap (λ (l : List Line). first ++ numbers (has_none m) l) (take_all place m.lines (subst (λ (l : List Line). length l ≤ place) same high))
 
-pub few_more : (a b n : ℕ) → a ≤ n → b ≤ 1 → a + b ≤ n + 1
-few_more a b n few one = omega (arith, few, one)
-
 pub one_longer : (a b first n : ℕ) → a ≤ first + n → b ≤ a + 1 → b ≤ first + (n + 1)
 one_longer a b first n few one = omega (arith, few, one)
-
-pub still_room : (a b c : ℕ) → a ≤ b → b ≤ c → a ≤ c
-still_room a b c low high = omega (arith, low, high)

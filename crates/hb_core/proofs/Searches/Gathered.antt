@@ -1,9 +1,9 @@
 -- What a search has found so far, once it took a leaf's records: of the box at hand what lies outside the leaf's box remains.
-use Rattle.std.proofs.Common.{◌≡◌, ◌↔◌, ◌⊎◌, inl, inr, ℕ, zero, suc, List, [], ◌∷◌, ◌++◌, length, All, AllPairs, Any, Contains, sym, ◌∙◌, subst, arith}
+use Rattle.std.proofs.Common.{◌≡◌, ◌↔◌, ◌⊎◌, inl, inr, ℕ, List, [], ◌∷◌, ◌++◌, length, All, AllPairs, Any, Contains, sym, ◌∙◌, subst}
 use Rattle.std.proofs.lemmas.Bool.{cases_Bool, false≢true}
 use Rattle.std.proofs.lemmas.List.Elements.{All-append, All-contains, All-head, All-tail, Contains-append_cases, Contains-append_left, Contains-append_right}
-use Rattle.std.proofs.lemmas.List.Kept.{AllPairs-cons, AllPairs-filter}
-use Rattle.hb_lemmas.proofs.Lists.{All-front, All-last, each_member, filter_keeps, first_member, later_member}
+use Rattle.std.proofs.lemmas.List.Kept.{AllPairs-filter}
+use Rattle.hb_lemmas.proofs.Lists.{All-front, All-last, each_member, filter_keeps}
 use Rattle.hb_space.proofs.Facts.Boxes.{Holds-common_area, Holds-from_test, Holds-within, IsArea-common_area, Meets-from_point, Within-common_area, Within-from_points, test-from_Holds}
 use Rattle.hb_space.proofs.Facts.Lists.{length-zip_by}
 use Rattle.hb_space.proofs.Facts.Outside.{AllPairs-from_recursion, Any-from_recursion, Apart, Apart-append, Apart-pieces_outside, SomeHolds, SomeHolds-append_cases, SomeHolds-append_left, SomeHolds-append_right, SomeHolds-pieces_outside, holds_at, recursion_from_Any}
@@ -16,21 +16,7 @@ use Rattle.hb_core.specs.KeptFits.{IsBoxOf}
 use Rattle.hb_core.specs.KeptSearches.{HasFoundSoFar, IsAmong}
 use Rattle.hb_search.specs.SearchRows.{records_within}
 use Rattle.hb_search.specs.Searching.{Differ, IsGathering}
-
--- ---- lists in pairs
-
-pairs_first : {X : Type 0} (R : X → X → Type 0) (x : X) (xs : List X) → AllPairs R (x ∷ xs) → All (R x) xs
-pairs_first R x xs pairs k d lt = pairs zero (suc k) d (omega arith) (omega (arith, lt))
-
-pairs_later : {X : Type 0} (R : X → X → Type 0) (x : X) (xs : List X) → AllPairs R (x ∷ xs) → AllPairs R xs
-pairs_later R x xs pairs i j d low high = pairs (suc i) (suc j) d (omega (arith, low)) (omega (arith, high))
-
-pairs_append : {X : Type 0} (R : X → X → Type 0) (xs ys : List X) → AllPairs R xs → AllPairs R ys → ((x y : X) → Contains xs x → Contains ys y → R x y) → AllPairs R (xs ++ ys)
-pairs_append R [] ys first second across = second
-pairs_append {X} R (x ∷ xs) ys first second across =
-    AllPairs-cons R x (xs ++ ys)
-    (All-append (R x) xs ys (pairs_first R x xs first) (each_member (R x) ys (λ y there. across x y (first_member x xs) there)))
-    (pairs_append R xs ys (pairs_later R x xs first) second (λ z y here there. across z y (later_member x xs z here) there))
+use Rattle.hb_lemmas.proofs.Pairs.{pairs_first, pairs_rest, pairs_append}
 
 -- ---- boxes of which no two share a point
 
@@ -40,7 +26,7 @@ apart_of (a ∷ us) pairs = (
   λ p here later. (let w = Any-from_recursion us p later in
       let apart : Disjoint a w.1 = subst (Disjoint a) w.3 (pairs_first Disjoint a us pairs w.0 w.1 w.2) in
       apart p here w.4),
-  apart_of us (pairs_later Disjoint a us pairs),
+  apart_of us (pairs_rest Disjoint a us pairs),
 )
 
 apart_front : (us vs : List Area) → Apart (us ++ vs) → Apart us
@@ -138,7 +124,9 @@ module _ (k : ℕ) (front : List Area) (at_hand : Area) (found records : List Re
 
   once_after : AllPairs Differ (found ++ more)
   once_after = pairs_append Differ found more gathering.once (AllPairs-filter Differ (λ (r : Record). holds at_hand r.key) records leaf.once)
-      (λ r s here there same. none_holds r here (SomeHolds-append_right front (at_hand ∷ []) r.key (inl (subst (Holds at_hand) (sym same) (taken_in_hand s there).1))))
+      (each_member (λ (r : Record). All (Differ r) more) found
+      (λ r here. each_member (Differ r) more
+      (λ s there same. none_holds r here (SomeHolds-append_right front (at_hand ∷ []) r.key (inl (subst (Holds at_hand) (sym same) (taken_in_hand s there).1))))))
 
   -- what the boxes hold that remain, they held before
   held_before : (q : List ℕ) → SomeHolds (front ++ pieces) q → SomeHolds (front ++ at_hand ∷ []) q

@@ -1,10 +1,10 @@
 -- A leaf of records of a page in memory has exactly the records of the contents in its box.
-use Rattle.std.proofs.Common.{◌↔◌, ◌≡◌, ◌≢◌, ◌⊎◌, inl, inr, ℕ, List, [], ◌∷◌, refl, All, AllPairs, Contains, Some, None, sym, ap, ◌∙◌, subst, arith}
+use Rattle.std.proofs.Common.{◌↔◌, ◌≡◌, ◌≢◌, ◌⊎◌, inl, inr, ℕ, List, [], ◌∷◌, refl, All, AllPairs, Contains, Some, None, sym, ap, ◌∙◌, subst}
 use Rattle.std.specs.FinMap as map
 use Rattle.std.proofs.lemmas.List.Elements.{All-cons, All-contains, All-nil}
 use Rattle.hb_space.proofs.Facts.PointOrder.{not_itself}
 use Rattle.hb_core.proofs.Files.FileOps.{ShowsFile}
-use Rattle.hb_core.proofs.Files.FitOps.{HeldArePoints}
+use Rattle.hb_core.proofs.Files.FitOps.{HeldArePoints, live_good}
 use Rattle.hb_core.proofs.Machines.BoxesAhead.{leaf_box}
 use Rattle.hb_core.proofs.Memory.KeptPages.{KeepsPages}
 use Rattle.hb_core.proofs.Searches.Gathered.{IsLeafOf}
@@ -20,13 +20,13 @@ use Rattle.hb_layout.specs.declared.meta.Meta.{Meta}
 use Rattle.hb_lemmas.proofs.Decisions.{known_list}
 use Rattle.hb_lemmas.proofs.Lists.{first_member, later_member, member_place}
 use Rattle.hb_ops.proofs.Facts.Opened.{first_has}
-use Rattle.hb_ops.proofs.Facts.PageNumberLaws.{live_so}
-use Rattle.hb_ops.specs.Files.{FileState, contents_of, if_live, live_page}
+use Rattle.hb_ops.specs.Files.{FileState, contents_of, if_live}
 use Rattle.hb_sound.specs.Laws.{LackIsContents, StandingIsContents}
 use Rattle.hb_sound.specs.PointWalks.{IsPointOf}
 use Rattle.hb_space.specs.Boxes.{Area, Holds}
 use Rattle.hb_space.specs.declared.records.Record.{Record}
 use Rattle.hb_store.specs.States.{IsGoodPage, StoreState, in_memory}
+use Rattle.hb_core.proofs.Facts.LaterPages.{shown_live}
 
 -- a record of a point, or none of it
 of_point : (records : List Record) (p : List ℕ) → ((r : Record) × Contains records r × (r.key ≡ p)) ⊎ All (λ (r : Record). r.key ≢ p) records
@@ -57,10 +57,7 @@ leaf_of meta page p records area good there =
 module _ (points : HeldArePoints) (standing : StandingIsContents) (lacking : LackIsContents) (fetched : StoreState) (s : FileState) (keeps : KeepsPages fetched) (file : ShowsFile fetched s)
     (id : ℕ) (page : LivePage) (live : if_live (in_memory fetched id) ≡ Some page) (p : List ℕ) (records : List Record) (area : Area) (leaf : leaf_at page p ≡ Some (record { leaf = Records records; area = area })) where
   good : IsGoodPage fetched.meta (Live page)
-  good = (keeps.framed id (Live page) (live_so (in_memory fetched id) page live)).2
-
-  in_file : live_page s id ≡ Some page
-  in_file = ap if_live (file.shown id (Live page) (live_so (in_memory fetched id) page live))
+  good = live_good fetched keeps.framed id page live
 
   abbrev placed : Placed
   placed = record { leaf = Records records; area = area }
@@ -79,7 +76,7 @@ module _ (points : HeldArePoints) (standing : StandingIsContents) (lacking : Lac
   there : (r : Record) → Holds area r.key → Contains records r → IsAmong (contents_of s) r
   there r held has =
       let place = member_place records r has in
-      standing s r.key id page r file.sound (point_of r.key held) in_file (record { records = records; area = area; leaf = leaf_there r.key held; place = place.0; among = place.1; key = refl })
+      standing s r.key id page r file.sound (point_of r.key held) (shown_live fetched s file.shown id page live) (record { records = records; area = area; leaf = leaf_there r.key held; place = place.0; among = place.1; key = refl })
 
   same_record : (r x : Record) → x.key ≡ r.key → Some x.body ≡ Some r.body → x ≡ r
   same_record r x key body =
@@ -93,7 +90,7 @@ module _ (points : HeldArePoints) (standing : StandingIsContents) (lacking : Lac
         let body : Some x.body ≡ Some r.body = sym stands ∙ ap (map.get (contents_of s)) key ∙ among in
         subst (Contains records) (same_record r x key body) has
     | inr none ↦
-        let lacks = lacking s r.key id page file.sound (point_of r.key held) in_file (record { records = records; area = area; leaf = leaf_there r.key held; lack = none }) in
+        let lacks = lacking s r.key id page file.sound (point_of r.key held) (shown_live fetched s file.shown id page live) (record { records = records; area = area; leaf = leaf_there r.key held; lack = none }) in
         let nothing : None ≡ Some r.body = sym lacks ∙ among in
         cc
   ]

@@ -8,7 +8,7 @@ use Rattle.std.specs.declared.cmp.Ordering.{Ordering}
 use Rattle.std.specs.declared.cmp.Ordering.TheVariants.{Less, Equal, Greater}
 use Rattle.std.proofs.lemmas.Bool.{cases_Bool}
 use Rattle.std.proofs.lemmas.Cmp.{nat_list_cmp_total, tied_itself}
-use Rattle.std.proofs.lemmas.List.Elements.{All-cons, All-contains, All-nil, filter_passes}
+use Rattle.std.proofs.lemmas.List.Elements.{All-cons, All-contains, All-nil, filter_passes, All-filter}
 use Rattle.std.proofs.lemmas.List.Sorted.{Contains-permutation, IsPermutation-sym}
 use Rattle.hb_frag.proofs.Facts.RisingRecords.{Rise, ahead, in_front, rises, same_rising}
 use Rattle.hb_frag.specs.Rules.{Precedes}
@@ -104,12 +104,9 @@ reply_is n box found ordered area exact same rising =
     inside : Record → Bool
     inside r = holds box r.key
 
-    filtered_all : (x : Record) (xs : List Record) → All (Precedes x) xs → All (Precedes x) (filter inside xs)
-    filtered_all x xs up = each_member (Precedes x) (filter inside xs) (λ r there. All-contains (Precedes x) xs r up (filter_has inside xs r there))
-
     filtered_rise : (xs : List Record) → Rise xs → Rise (filter inside xs)
     filtered_rise [] up = tt
     filtered_rise (x ∷ xs) up = elim (inside x) as (λ b. Rise (cond b (x ∷ filter inside xs) (filter inside xs))) [
-      | true ↦ in_front x (filter inside xs) (filtered_all x xs (ahead x xs up)) (filtered_rise xs up.1)
+      | true ↦ in_front x (filter inside xs) (All-filter inside (Precedes x) xs (ahead x xs up)) (filtered_rise xs up.1)
       | false ↦ filtered_rise xs up.1
     ]

@@ -22,7 +22,6 @@ use Rattle.hb_activity.specs.Walks.{goal_of, job_mode, session_mode, walk_held}
 use Rattle.hb_activity.specs.Wanting.{child_of, in_mode, named_child, named_page, walk_next, wanted_of, wanted_page}
 use Rattle.hb_consol.specs.ConsolidatorRows.{names_child}
 use Rattle.hb_core.proofs.Files.AskedPages.{first_among, first_sibling_among, named_with_box}
-use Rattle.hb_core.proofs.Files.SoundFiles.{file_sound, live_in_file}
 use Rattle.hb_core.proofs.Walks.Volumes.{sibling_fewer}
 use Rattle.hb_core.specs.Asking.{looked_live}
 use Rattle.hb_core.specs.Keeps.{HasSoundFile, LatchesFit, WalksInSpace}
@@ -37,6 +36,7 @@ use Rattle.hb_ops.proofs.Facts.PlacedLaws.{leaf_is_sibling, placed, placed_leaf}
 use Rattle.hb_ops.specs.Sound.{IsSound}
 use Rattle.hb_space.specs.Boxes.{Area, volume}
 use Rattle.hb_core.proofs.Walks.MergesKept.{known_at}
+use Rattle.hb_core.proofs.Facts.LaterPages.{file_sound, shown_live}
 
 -- ---- in a sound file the pages that a page names come later
 
@@ -127,13 +127,13 @@ module _ (m : Machine) (files : Files) (actor id : ℕ) (mode : Mode) (wanted : 
   of_walk held goal its page walking wants holds =
       let one = fit.walking actor held may walking in
       inl (subst (λ (q : ℕ). ComesLater (current_file files) q wanted.page) (walk_among held page its id mode holds)
-      (walk_later (current_file files) (file_sound m files has) held one.0 (live_in_file m files has held one.0 (ap if_live one.1)) its m.store.meta goal (live_here m.store held) wanted (ap if_live one.1) wants))
+      (walk_later (current_file files) (file_sound m files has) held one.0 (shown_live m.store (current_file files) has.shown held one.0 (ap if_live one.1)) its m.store.meta goal (live_here m.store held) wanted (ap if_live one.1) wants))
 
   of_parent : (job : Job) (parent : ℕ) (its : Mode) (page : LivePage) → live_here m.store parent ≡ Some page → in_mode (λ level. Shared) (option_and_then (λ (page : LivePage). child_of page job.point) (live_here m.store parent)) ≡ Some wanted
       → mode_among id (latch_on parent its ∷ []) ≡ Some mode → Comes
   of_parent job parent its page live wants holds =
       inl (subst (λ (q : ℕ). ComesLater (current_file files) q wanted.page) (one_among parent its id mode holds).0
-      (below_later (current_file files) (file_sound m files has) parent page (live_in_file m files has parent page live) job.point (live_here m.store parent) wanted live wants))
+      (below_later (current_file files) (file_sound m files has) parent page (shown_live m.store (current_file files) has.shown parent page live) job.point (live_here m.store parent) wanted live wants))
 
   promoted : (parent : ℕ) (page : Option LivePage) → option_map (λ (page : LivePage). wanted_page parent page.level Exclusive) page ≡ Some wanted → parent ≡ wanted.page
   promoted parent None wants = cc
@@ -161,7 +161,7 @@ module _ (m : Machine) (files : Files) (actor id : ℕ) (mode : Mode) (wanted : 
   of_names job parent names pair its known name named is holds =
       let one = named_with_box known.page name named in
       inl (subst (λ (q : ℕ). ComesLater (current_file files) q wanted.page) (one_among parent its id mode holds).0
-      (child_later (current_file files) (file_sound m files has) parent known.page (live_in_file m files has parent known.page known.live) name wanted.page one.0 one.1 is))
+      (child_later (current_file files) (file_sound m files has) parent known.page (shown_live m.store (current_file files) has.shown parent known.page known.live) name wanted.page one.0 one.1 is))
 
   of_both : (parent keep : ℕ) (its other : Mode) → (mode_among id (latch_on parent its ∷ []) ≡ Some mode → Comes) → (mode_among id (latch_on keep other ∷ []) ≡ Some mode → Comes)
       → mode_among id (latch_on parent its ∷ latch_on keep other ∷ []) ≡ Some mode → Comes
@@ -191,7 +191,7 @@ module _ (m : Machine) (files : Files) (actor id : ℕ) (mode : Mode) (wanted : 
       let goes : gone ≡ wanted.page = wanted_is gone (λ page. page.level) Shared (live_here m.store keep) wants in
       of_both parent keep Update Shared (λ one. of_names job parent (keep ∷ gone ∷ []) _ Update known gone (second_named known.page keep gone known.names) goes one)
       (λ one. inl (subst (λ (q : ℕ). ComesLater (current_file files) q wanted.page) (one_among keep Shared id mode one).0
-      (tried_later (current_file files) (file_sound m files has) keep known.pair.page (live_in_file m files has keep known.pair.page known.pair.live) gone wanted.page leaf known.pair.gave goes))) holds
+      (tried_later (current_file files) (file_sound m files has) keep known.pair.page (shown_live m.store (current_file files) has.shown keep known.pair.page known.pair.live) gone wanted.page leaf known.pair.gave goes))) holds
   comes (at.ConsolidatorKeep job parent keep gone) is wants holds =
       let known : NamesKnown m.store (at_names job parent (keep ∷ gone ∷ []) None) = known_at m actor walks _ (ap merging_at is) in
       of_names job parent (keep ∷ gone ∷ []) None Exclusive known keep (All-head (IsNamed known.page) keep (gone ∷ []) known.names) (wanted_is keep (λ page. page.level - 1) Exclusive (live_here m.store parent) wants) holds
@@ -200,7 +200,7 @@ module _ (m : Machine) (files : Files) (actor id : ℕ) (mode : Mode) (wanted : 
       let goes : gone ≡ wanted.page = wanted_is gone (λ page. page.level - 1) Exclusive (live_here m.store parent) wants in
       of_both parent keep Exclusive Exclusive (λ one. of_names job parent (keep ∷ gone ∷ []) _ Exclusive known gone (second_named known.page keep gone known.names) goes one)
       (λ one. inl (subst (λ (q : ℕ). ComesLater (current_file files) q wanted.page) (one_among keep Exclusive id mode one).0
-      (given_later (current_file files) (file_sound m files has) keep known.pair.page (live_in_file m files has keep known.pair.page known.pair.live) gone wanted.page known.pair.gave goes))) holds
+      (given_later (current_file files) (file_sound m files has) keep known.pair.page (shown_live m.store (current_file files) has.shown keep known.pair.page known.pair.live) gone wanted.page known.pair.gave goes))) holds
   comes activity is wants holds = cc
 
 pub wanted_comes_later : WantedComesLater
