@@ -24,7 +24,7 @@ use Rattle.hb_core.specs.Working.{MayStep}
 use Rattle.hb_tidy.specs.declared.stops.TidyStop.{TidyStop}
 use Rattle.hb_tidy.specs.declared.stops.TidyStop.TheVariants as stops
 use Rattle.hb_tidy.proofs.LiveCounted.{live_then}
-use Rattle.hb_tidy.proofs.OneCall.{no_fault_in}
+use Rattle.hb_core.proofs.Facts.RunFaults.{no_fault_in}
 use Rattle.hb_tidy.proofs.Worked.{worked_as, worked_err, worked_then}
 use Rattle.hb_tidy.specs.Counted.{CountsRise}
 use Rattle.hb_tidy.specs.Going.{Does, Goes}
