@@ -2,7 +2,6 @@
 use Rattle.std.proofs.Common.{◌≡◌, ℕ, zero, suc, ◌<◌, List, [], ◌∷◌, Some, refl, sym, ap, ◌∙◌, subst, arith}
 use Rattle.std.specs.List.{slice_get}
 use Rattle.hb_space.specs.declared.records.Record.{Record}
-use Rattle.hb_frag.specs.declared.leaves.Leaf.TheVariants.{Records}
 use Rattle.hb_frag.specs.declared.pages.LivePage.{LivePage}
 use Rattle.hb_set.specs.declared.scripts.Line.{Line}
 use Rattle.hb_ops.specs.declared.operations.Op.TheVariants.{Del}
@@ -13,7 +12,7 @@ use Rattle.hb_activity.specs.Deeds.{takes_effect}
 use Rattle.hb_activity.specs.OneDeed.{IsOnly}
 use Rattle.hb_point.specs.SessionRows.{DoesThere, merges_due}
 use Rattle.hb_activity.specs.Sights.{Sight}
-use Rattle.hb_frag.specs.Leaves.{Placed, weight_of}
+use Rattle.hb_frag.specs.Leaves.{weight_of}
 use Rattle.hb_ops.specs.Recording.{put_page}
 use Rattle.hb_ops.specs.Standing.{StandsNot, StandsThere}
 use Rattle.hb_ops.proofs.Facts.Opened.{same_records}

@@ -7,16 +7,15 @@ use Rattle.std.specs.declared.cmp.Ordering.TheVariants.{Less, Equal, Greater}
 use Rattle.std.proofs.lemmas.Bool.{le-leb, leb-true, lt-ltb, ltb-true}
 use Rattle.std.proofs.lemmas.List.Elements.{All-cons, All-head, All-nil, All-tail}
 use Rattle.std.proofs.lemmas.Option.{same_Some, none-some}
-use Rattle.hb_frag.specs.declared.leaves.Leaf.TheVariants.{Records}
 use Rattle.hb_frag.specs.declared.pages.LivePage.{LivePage}
 use Rattle.hb_frag.specs.declared.pages.Page.{Page}
 use Rattle.hb_frag.specs.declared.pages.Page.TheVariants.{Live, Free}
-use Rattle.hb_frag.specs.Leaves.{Placed, WellCut, leaf_at, records_of, weight_of}
+use Rattle.hb_frag.specs.Leaves.{WellCut, leaf_at, weight_of}
 use Rattle.hb_layout.specs.declared.meta.Meta.{Meta}
 use Rattle.hb_ops.proofs.Facts.Opened.{weight_changed, placed_records}
 use Rattle.hb_ops.specs.Recording.{del_page, joined, put_page}
 use Rattle.hb_ops.specs.Standing.{StandsNot, StandsThere}
-use Rattle.hb_space.specs.Boxes.{Area, Holds}
+use Rattle.hb_space.specs.Boxes.{Holds}
 use Rattle.hb_space.specs.Points.{point_cmp}
 use Rattle.hb_space.specs.declared.records.Record.{Record}
 use Rattle.hb_space.proofs.Facts.PointOrder.{exact_points}

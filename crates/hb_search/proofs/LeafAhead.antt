@@ -1,5 +1,5 @@
 -- A search at a leaf of records: what it finds there is of other points than what it found before.
-use Rattle.std.proofs.Common.{◌≡◌, ◌-◌, suc, true, List, [], ◌∷◌, ◌++◌, length, get_or, All, Some, None, sym, ap, subst, ◌∙◌, arith}
+use Rattle.std.proofs.Common.{◌≡◌, ◌-◌, suc, true, List, [], ◌∷◌, ◌++◌, length, get_or, All, Some, sym, ap, subst, ◌∙◌, arith}
 use Rattle.std.specs.List.{Contains, slice_get}
 use Rattle.std.proofs.lemmas.List.Elements.{All-contains, Contains-get_or, filter_passes}
 use Rattle.std.proofs.lemmas.List.Kept.{AllPairs-filter}

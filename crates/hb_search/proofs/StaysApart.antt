@@ -1,9 +1,8 @@
 -- What remains of a search's boxes and what it found stay apart at a leaf of records.
-use Rattle.std.proofs.Common.{◌≡◌, ℕ, zero, suc, ◌<◌, List, [], ◌∷◌, ◌++◌, length, get_or, All, AllPairs, refl, arith}
+use Rattle.std.proofs.Common.{◌≡◌, ℕ, ◌<◌, List, [], ◌∷◌, ◌++◌, length, get_or, All, AllPairs, refl}
 use Rattle.std.specs.List.{Contains}
-use Rattle.std.proofs.lemmas.List.Elements.{All-head, All-tail, Contains-get_or}
+use Rattle.std.proofs.lemmas.List.Elements.{Contains-get_or}
 use Rattle.std.proofs.lemmas.List.{get_or_default}
-use Rattle.std.proofs.lemmas.List.Kept.{AllPairs-cons}
 use Rattle.hb_lemmas.proofs.Lists.{All-front, All-last, All-parts, All-one}
 use Rattle.hb_lemmas.proofs.Pairs.{pairs_append, pairs_parts}
 use Rattle.hb_search.specs.Gathering.{boxes_then}

@@ -6,7 +6,7 @@ use Rattle.hb_space.specs.declared.records.Record.{Record}
 use Rattle.hb_frag.specs.declared.leaves.Leaf.TheVariants.{Records}
 use Rattle.hb_frag.specs.declared.pages.LivePage.{LivePage}
 use Rattle.hb_ops.proofs.Facts.Opened.{first_has, same_records}
-use Rattle.hb_frag.specs.Leaves.{Placed, leaves_of}
+use Rattle.hb_frag.specs.Leaves.{leaves_of}
 use Rattle.hb_frag.specs.Rules.{AreInOrder, IsInOrder}
 use Rattle.hb_ops.specs.Standing.{StandsThere}
 use Rattle.hb_frag.proofs.Facts.RisingRecords.{one_among, rises}
