@@ -8,7 +8,7 @@ use Rattle.hb_lemmas.proofs.Lists.{not_empty}
 
 front_some : (xs ys : List (ℕ × Area)) → xs ≢ [] → xs ++ ys ≢ []
 front_some [] ys some none = some refl
-front_some (x ∷ xs) ys some = not_empty x (xs ++ ys)
+front_some (x ∷ xs) ys some none = not_empty x (xs ++ ys) none
 
 -- The left side has one.
 pub left_has : (xs ys : List Placed) (b : Bool) → (IsTrue b ↔ (siblings xs ≢ [])) → b ≡ true → IsTrue b ↔ (siblings (xs ++ ys) ≢ [])
