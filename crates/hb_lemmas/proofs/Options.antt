@@ -56,6 +56,21 @@ pub if_value : {X : Type 0} (o : Option X) (P : X → Type 0) → ((x : X) → o
 if_value None P h = tt
 if_value (Some x) P h = h x refl
 
+-- the value of which something is said, and the other way
+pub value_and : {X : Type 0} (o : Option X) (P : X → Type 0) → IsSomeAnd o P → (x : X) × (o ≡ Some x) × P x
+value_and None P h = absurd h
+value_and (Some x) P h = (x, refl, h)
+
+pub some_and_at : {X : Type 0} (o : Option X) (P : X → Type 0) (x : X) → o ≡ Some x → P x → IsSomeAnd o P
+some_and_at {X = X} o P x is h = let Q : Option X → Type 0 = λ v. IsSomeAnd v P in subst Q (sym is) h
+
+pub at_some_and : {X : Type 0} (o : Option X) (P : X → Type 0) (x : X) → o ≡ Some x → IsSomeAnd o P → P x
+at_some_and {X = X} o P x is h = let Q : Option X → Type 0 = λ v. IsSomeAnd v P in subst Q is h
+
+pub some_of_and : {X : Type 0} (o : Option X) (P : X → Type 0) → IsSomeAnd o P → IsSome o
+some_of_and None P h = absurd h
+some_of_and (Some x) P h = refl
+
 -- it can't be what it is not
 pub not_both : {X : Type 0} (o : Option X) (P : X → Type 0) → IsSomeAnd o (λ x. ¬ (P x)) → IfSome o P → ⊥
 not_both None P but all = but

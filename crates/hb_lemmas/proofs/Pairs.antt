@@ -3,7 +3,7 @@ use Rattle.std.proofs.Common.{zero, suc, List, [], ◌∷◌, ◌++◌, All, ari
 use Rattle.std.specs.List.{AllPairs}
 use Rattle.std.proofs.lemmas.List.Elements.{All-append, All-cons, All-head, All-nil, All-tail}
 use Rattle.std.proofs.lemmas.List.Kept.{AllPairs-cons}
-use Rattle.hb_lemmas.proofs.Lists.{All-parts, All-one}
+use Rattle.hb_lemmas.proofs.Lists.{All-parts}
 
 -- none has no pair
 pub pairs_none : {X : Type 0} (R : X → X → Type 0) → AllPairs R []
@@ -31,11 +31,3 @@ pairs_parts R (x ∷ xs) ys pairs =
     let firsts = (All-parts (R x) xs ys).0 (pairs_first R x (xs ++ ys) pairs) in
     let later = pairs_parts R xs ys (pairs_rest R x (xs ++ ys) pairs) in
     (AllPairs-cons R x xs firsts.0 later.0, All-cons (λ y. All (R y) ys) x xs firsts.1 later.1)
-
--- one element more
-pub pairs_push : {X : Type 0} (R : X → X → Type 0) (xs : List X) (x : X) → AllPairs R xs → All (λ y. R y x) xs → AllPairs R (xs ++ x ∷ [])
-pairs_push R [] x pairs low = AllPairs-cons R x [] (All-nil (R x)) pairs
-pairs_push R (y ∷ xs) x pairs low =
-    AllPairs-cons R y (xs ++ x ∷ [])
-    (All-append (R y) xs (x ∷ []) (pairs_first R y xs pairs) ((All-one (R y) x).1 (All-head (λ z. R z x) y xs low)))
-    (pairs_push R xs x (pairs_rest R y xs pairs) (All-tail (λ z. R z x) y xs low))

@@ -13,6 +13,5 @@ pub mod EachOnce
 pub mod SamePages
 pub mod Opened
 pub mod Recovered
-pub mod SoundFiles
 pub mod NotRefused
 pub mod OneRefusal

@@ -42,7 +42,6 @@ pub mod MergeDirect
 pub mod MergeContents
 pub mod MergeNames
 pub mod EachOperation
-mod NoneBroken
 mod Flagged
 mod LeftOut
 mod Levels

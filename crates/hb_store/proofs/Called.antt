@@ -5,7 +5,7 @@ use denote.Bor.{Bor}
 use Rattle.std.specs.Option.{is_some, option_copied, option_map}
 use Rattle.std.specs.HashSet as bag
 use Rattle.std.proofs.lemmas.Bool.{and_parts}
-use Rattle.hb_lemmas.proofs.Options.{has_value}
+use Rattle.hb_lemmas.proofs.Options.{has_value, some_and_at}
 use Rattle.hb_frag.specs.declared.pages.Page.{Page}
 use Rattle.hb_frag.specs.Grammar.{SpellsPage}
 use Rattle.hb_page_codec.specs.ReadingPages.{page_of_bytes}
@@ -16,7 +16,7 @@ use Rattle.hb_wal.specs.Log.{LogState}
 use Rattle.hb_pool.specs.Frames.{Frame, Use, clean, pinned, unpinned, use_of}
 use Rattle.hb_pool.specs.Pools.{IsPool, frame_of, in_place, put_last}
 use Rattle.hb_pool.proofs.Facts.Others.{last_changed, last_no_other, place_changed, place_no_other}
-use Rattle.hb_pool.proofs.Facts.Pooled.{frame_pins, in_place_pool, put_last_pool, some_and_at}
+use Rattle.hb_pool.proofs.Facts.Pooled.{frame_pins, in_place_pool, put_last_pool}
 use Rattle.hb_pool.proofs.Facts.Told.{last_told, place_told}
 use Rattle.hb_store.specs.Filling.{in_frame}
 use Rattle.hb_store.specs.Held.{cleaned_held, cleaned_state}

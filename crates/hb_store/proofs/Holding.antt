@@ -2,6 +2,7 @@
 use Rattle.std.proofs.Common.{◌≡◌, ℕ, ◌<◌, Bool, false, List, Some, None, sym, subst, ap, ◌∙◌}
 use Rattle.std.specs.Prelude.{IsSomeAnd}
 use Rattle.std.specs.HashSet as bag
+use Rattle.hb_lemmas.proofs.Options.{value_and}
 use Rattle.hb_frag.specs.declared.pages.Page.{Page}
 use Rattle.hb_frag.specs.Grammar.{SpellsPage}
 use Rattle.hb_layout.specs.declared.meta.Meta.{Meta}
@@ -9,7 +10,6 @@ use Rattle.hb_wal.specs.Log.{LogState}
 use Rattle.hb_page_codec.specs.ReadingPages.{page_of_bytes}
 use Rattle.hb_pool.specs.Frames.{Frame}
 use Rattle.hb_pool.specs.Pools.{IsPool, brought, frame_of, places}
-use Rattle.hb_pool.proofs.Facts.Pooled.{value_and}
 use Rattle.hb_pool.proofs.Facts.Told.{brought_told, frames_told}
 use Rattle.hb_view.specs.Spelled.{page_or}
 use Rattle.hb_store.specs.Calls.{Fetched, StaysHere}

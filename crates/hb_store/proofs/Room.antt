@@ -5,7 +5,7 @@ use Rattle.std.specs.Option.{is_some, option_map}
 use Rattle.std.proofs.lemmas.Bool.{cases_eq, eq-eqb, or_left, or_right}
 use Rattle.std.proofs.lemmas.List.Elements.{All-cons, All-head, All-nil, All-tail}
 use Rattle.hb_lemmas.proofs.Lists.{All-alone}
-use Rattle.hb_lemmas.proofs.Options.{some_value, not_none, none_so}
+use Rattle.hb_lemmas.proofs.Options.{some_value, not_none, none_so, some_and_at, value_and}
 use Rattle.hb_frag.specs.declared.pages.LivePage.{LivePage}
 use Rattle.hb_frag.specs.declared.pages.Page.{Page}
 use Rattle.hb_layout.specs.declared.meta.Meta.{Meta}
@@ -26,7 +26,7 @@ use Rattle.hb_ops.specs.Operations.{change_of, reads_of}
 use Rattle.hb_pool.specs.Frames.{Frame, Use, filled, fresh, must_stay, use_of}
 use Rattle.hb_pool.specs.Pools.{IsPool, brought, frame_of, places, put_last}
 use Rattle.hb_pool.proofs.Facts.Others.{came_in, last_changed, last_no_other, marked_pages_stay}
-use Rattle.hb_pool.proofs.Facts.Pooled.{last_counts, some_and_at, value_and}
+use Rattle.hb_pool.proofs.Facts.Pooled.{last_counts}
 use Rattle.hb_pool.proofs.Facts.Told.{frames_told}
 use Rattle.hb_store.specs.Calls.{HasFrameFor, StaysHere, change_here, read_here, use_changed}
 use Rattle.hb_store.specs.Filling.{HasRoom, HaveRoom}

@@ -30,7 +30,7 @@ use Rattle.hb_point.specs.SessionRows.{is_answered, next_line}
 use Rattle.hb_poster.specs.PosterRows.{IsPostingOf}
 use Rattle.hb_set.specs.Order.{AreRising, Entry}
 use Rattle.hb_store.specs.States.{StoreState}
-use Rattle.hb_lemmas.proofs.Options.{at_value}
+use Rattle.hb_lemmas.proofs.Options.{at_value, value_and}
 
 pub waits_none : (activity : Activity) → (Waits activity → ⊥) → awaited_number activity ≡ None
 waits_none (at.SessionAwait number reply place) none = absurd (none tt)
@@ -172,10 +172,6 @@ module _ (lines : List Line) (answered : List Answered) (activity : ℕ → Acti
 
 -- ---- steps
 
-pub some_such : (o : Option Line) (number : ℕ) → IsSomeAnd o (λ line. line.number ≡ number) → (line : Line) × (o ≡ Some line) × (line.number ≡ number)
-some_such None number never = absurd never
-some_such (Some line) number is = (line, refl, is)
-
 module _ (m : Machine) (actor : ℕ) (outcome : Outcome) (new : Machine) (sequence : LinesInSequence m) where
   stays : KeepsAllButDisk m new → LinesInSequence new
   stays keeps = lines_in_sequence new
@@ -259,7 +255,7 @@ sequence_stays m actor outcome new sequence step = each_step m actor outcome new
       quiet m actor outcome new sequence m.store deed (ap awaited_number idle) (ap (λ (d : Deed). given_by (outcome_of d.says) m.clock) takes.deed_is) (ap (λ (d : Deed). d.joins) takes.deed_is)
       (no_hand m actor outcome new sequence deed (took_merging m deed takes)) (merges_await_none m actor outcome new sequence deed takes) performs;
   settles = λ number place reply is settled performs.
-      let one = some_such (next_line actor m.answered m.lines) number (at_value (awaited_number (m.activity actor)) (λ number. IsSomeAnd (next_line actor m.answered m.lines) (λ line. line.number ≡ number)) number (ap awaited_number is) (sequence.awaited actor)) in
+      let one = value_and (next_line actor m.answered m.lines) (λ line. line.number ≡ number) (at_value (awaited_number (m.activity actor)) (λ number. IsSomeAnd (next_line actor m.answered m.lines) (λ line. line.number ≡ number)) number (ap awaited_number is) (sequence.awaited actor)) in
       answers m actor outcome new sequence m.store _ one.0 number reply refl refl refl (sym one.2) one.1 (inr (ap awaited_number is ∙ ap (λ (n : ℕ). Some n) (sym one.2))) performs;
   works = λ none works. worked m actor outcome new sequence (waits_none (m.activity actor) none) works;
 }) step

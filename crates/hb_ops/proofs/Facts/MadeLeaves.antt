@@ -15,7 +15,7 @@ use Rattle.hb_frag.specs.declared.paths.Side.{Side}
 use Rattle.hb_frag.specs.declared.paths.Side.TheVariants.{Left, Right}
 use Rattle.hb_frag.specs.Trees.{Tree, Tip, Cut}
 use Rattle.hb_frag.specs.Leaves.{leaf_weight, leaves, with_leaf_at}
-use Rattle.hb_frag.specs.Paths.{part_at, with_part}
+use Rattle.hb_frag.specs.Paths.{part_at}
 use Rattle.hb_frag.specs.Renaming.{renamed, renamed_leaf}
 use Rattle.hb_frag.specs.Carving.{carve_above, carve_below, carve_from}
 use Rattle.hb_frag.specs.Normal.{in_point_order, normal, one_leaf_or_cut, with_record_in_order}
@@ -94,15 +94,6 @@ fit_part k (Left ∷ path) (Cut axis value left right) area part there fit = fit
 fit_part k (Right ∷ path) (Cut axis value left right) area part there fit = fit_part k path right (side_from area axis value) part there (All-behind (FitsIn k) (leaves left) (leaves right) fit)
 fit_part k (Left ∷ path) (Tip leaf) area part there fit = absurd cc
 fit_part k (Right ∷ path) (Tip leaf) area part there fit = absurd cc
-
-pub fit_with_part : (k : ℕ) (path : List Side) (tree other : Tree) → AllFit k tree → AllFit k other → AllFit k (with_part path tree other)
-fit_with_part k [] tree other fit new = new
-fit_with_part k (Left ∷ path) (Cut axis value left right) other fit new =
-    All-append (FitsIn k) (leaves (with_part path left other)) (leaves right) (fit_with_part k path left other (All-front (FitsIn k) (leaves left) (leaves right) fit) new) (All-behind (FitsIn k) (leaves left) (leaves right) fit)
-fit_with_part k (Right ∷ path) (Cut axis value left right) other fit new =
-    All-append (FitsIn k) (leaves left) (leaves (with_part path right other)) (All-front (FitsIn k) (leaves left) (leaves right) fit) (fit_with_part k path right other (All-behind (FitsIn k) (leaves left) (leaves right) fit) new)
-fit_with_part k (Left ∷ path) (Tip leaf) other fit new = fit
-fit_with_part k (Right ∷ path) (Tip leaf) other fit new = fit
 
 -- ---- names that are exchanged
 

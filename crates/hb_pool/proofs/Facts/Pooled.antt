@@ -1,7 +1,7 @@
 -- What a pool keeps is kept where a page's frame is put last, is changed in its place, or comes in.
-use Rattle.std.proofs.Common.{◌≡◌, ℕ, ◌+◌, ◌-◌, ◌<◌, ◌≤◌, ◌==◌, nat_lt, Bool, true, false, not, ◌||◌, cond, List, [], ◌∷◌, ◌++◌, length, All, map, Option, Some, None, IsSome, refl, sym, ap, subst, ◌∙◌, arith, length-append, ne_eqb}
+use Rattle.std.proofs.Common.{◌≡◌, ℕ, ◌+◌, ◌-◌, ◌<◌, ◌≤◌, ◌==◌, nat_lt, Bool, true, false, not, ◌||◌, cond, List, [], ◌∷◌, ◌++◌, length, All, map, Some, None, IsSome, refl, sym, ap, subst, ◌∙◌, arith, length-append, ne_eqb}
 use Rattle.std.specs.List.{find, count_by, position_or_len}
-use Rattle.std.specs.Option.{IsSomeAnd, option_to_list}
+use Rattle.std.specs.Option.{option_to_list}
 use Rattle.std.specs.Set.{remove_key}
 use Rattle.std.proofs.lemmas.Bool.{eq-eqb, not-true}
 use Rattle.std.proofs.lemmas.List.Elements.{All-append, All-nil}
@@ -17,22 +17,6 @@ use Rattle.hb_pool.specs.Pools.{frame_of, put_last, in_place, with_room, brought
 use Rattle.hb_pool.specs.Laws.{StaysPool, StaysPoolWithAnother, CountsPlaces, CountsPlacesWithAnother}
 use Rattle.hb_pool.specs.Kept.{PoolKeeps}
 use Rattle.hb_pool.proofs.Facts.Firsts.{first_passes, first_there, first_within, length_without, count_without, length_changed, count_changed, All-changed, some_fails, none_counted, alone_first}
-
--- what is said of a value that is there
-pub some_of_and : {X : Type 0} (o : Option X) (P : X → Type 0) → IsSomeAnd o P → IsSome o
-some_of_and None P h = absurd h
-some_of_and (Some x) P h = refl
-
-pub at_some_and : {X : Type 0} (o : Option X) (P : X → Type 0) (x : X) → o ≡ Some x → IsSomeAnd o P → P x
-at_some_and {X = X} o P x is h = let Q : Option X → Type 0 = λ v. IsSomeAnd v P in subst Q is h
-
--- the value itself, and the other way
-pub value_and : {X : Type 0} (o : Option X) (P : X → Type 0) → IsSomeAnd o P → (x : X) × (o ≡ Some x) × P x
-value_and None P h = absurd h
-value_and (Some x) P h = (x, refl, h)
-
-pub some_and_at : {X : Type 0} (o : Option X) (P : X → Type 0) (x : X) → o ≡ Some x → P x → IsSomeAnd o P
-some_and_at {X = X} o P x is h = let Q : Option X → Type 0 = λ v. IsSomeAnd v P in subst Q (sym is) h
 
 -- one for a test that passes, and none for the other way round
 one_way : (b : Bool) → cond (not b) 1 0 + cond b 1 0 ≡ 1

@@ -5,7 +5,7 @@ use Rattle.std.specs.Option.{is_some, option_map, option_map_or}
 use Rattle.std.proofs.lemmas.Bool.{cases_eq}
 use Rattle.hb_space.specs.declared.form.TheConstants.{PAGE}
 use Rattle.hb_disk.specs.Model.{DiskModel, IsDisk, Stays}
-use Rattle.hb_lemmas.proofs.Options.{some_value, none_so}
+use Rattle.hb_lemmas.proofs.Options.{some_value, none_so, at_some_and}
 use Rattle.hb_frag.specs.declared.pages.Page.{Page}
 use Rattle.hb_frag.specs.declared.pages.Page.TheVariants.{Live}
 use Rattle.hb_frag.specs.Grammar.{SpellsPage}
@@ -21,7 +21,6 @@ use Rattle.hb_store.specs.Replaying.{IsPageOf}
 use Rattle.hb_page_codec.specs.ReadingPages.{page_of_bytes}
 use Rattle.hb_pool.specs.Frames.{Use}
 use Rattle.hb_pool.specs.Pools.{frame_of}
-use Rattle.hb_pool.proofs.Facts.Pooled.{at_some_and}
 use Rattle.hb_store.specs.Keeps.{StoreKeeps}
 use Rattle.hb_store.specs.Calls.{Fetched}
 use Rattle.hb_store.proofs.Facts.StayingLaws.{was_there}

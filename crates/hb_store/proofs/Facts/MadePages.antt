@@ -3,6 +3,7 @@ use Rattle.std.proofs.Common.{◌≡◌, ℕ, List, ◌<◌, ◌≤◌, ◌^◌,
 use Rattle.std.specs.List.{sum_by}
 use Rattle.std.proofs.lemmas.List.Sums.{sum-map}
 use Rattle.std.proofs.lemmas.List.Elements.{All-cons, All-head}
+use Rattle.hb_ops.proofs.Facts.JoinedParts.{with_leaves}
 use Rattle.hb_lemmas.proofs.Lists.{All-alone}
 use Rattle.hb_space.specs.declared.form.TheConstants.{KMAX}
 use Rattle.hb_space.specs.Boxes.{Area, IsArea, common_area, whole_area}
@@ -35,7 +36,7 @@ use Rattle.hb_log_codec.specs.Groups.{FitsOp}
 use Rattle.hb_store.specs.States.{IsGoodPage}
 use Rattle.hb_store.specs.Making.{AreReadable, HaveFittingParts, MakesGoodPages}
 use Rattle.hb_store.specs.Replaying.{HasLimits}
-use Rattle.hb_ops.proofs.Facts.MadeLeaves.{AllFit, FitsIn, all_fit, fit_carved, fit_changed, fit_cut_through, fit_normal, fit_part, fit_reached, fit_renamed, fit_with_part, joined_fit, light_fit, without_fit}
+use Rattle.hb_ops.proofs.Facts.MadeLeaves.{AllFit, FitsIn, all_fit, fit_carved, fit_changed, fit_cut_through, fit_normal, fit_part, fit_reached, fit_renamed, joined_fit, light_fit, without_fit}
 use Rattle.hb_store.proofs.MadeParts.{PartsStand, cuts_few, cuts_fit, fits_tree, reached_box, records_weigh, steps_few}
 use Rattle.hb_store.proofs.Facts.MadeMeta.{comes_after}
 use Rattle.hb_log_codec.proofs.Facts.OpParts.{op_has}
@@ -64,7 +65,7 @@ HasParts k (Free next) = next < 2 ^ 32
 -- the page to keep has what the page to go has
 pub taken_fit : (k gone : ℕ) (kept going : LivePage) → AllFit k kept.frag → AllFit k going.frag → (way : Option (List Side)) → AllFit k (taken_over kept going way)
 taken_fit k gone kept going old new None = old
-taken_fit k gone kept going old new (Some way) = fit_normal k (with_part way kept.frag going.frag) (fit_with_part k way kept.frag going.frag old new)
+taken_fit k gone kept going old new (Some way) = fit_normal k (with_part way kept.frag going.frag) (with_leaves (FitsIn k) way kept.frag going.frag old new)
 
 module _ (stand : PartsStand) where
   module _ (within : WithinCapacity) (free : FreeSpelled) (whole : WholeIsBox) where
@@ -105,7 +106,7 @@ module _ (stand : PartsStand) where
         let named : AllFit meta.k (Tip (Sibling fresh)) = All-alone (FitsIn meta.k) (Sibling fresh) fits.fresh_fits in
         subst (λ (o : Option (Tree × Area)). All (Parted meta.k) (split_pages source fresh path cuts page o)) (sym there)
         (All-cons (Parted meta.k) (source, Live (source_page fresh path cuts page part)) ((fresh, Live (fresh_page cuts page part)) ∷ [])
-        (old.0, fit_with_part meta.k path page.frag (cut_through cuts part.0 (Tip (Sibling fresh))) old.1 (fit_cut_through meta.k cuts part.0 (Tip (Sibling fresh)) part_fits named))
+        (old.0, with_leaves (FitsIn meta.k) path page.frag (cut_through cuts part.0 (Tip (Sibling fresh))) old.1 (fit_cut_through meta.k cuts part.0 (Tip (Sibling fresh)) part_fits named))
         (All-alone (Parted meta.k) (fresh, Live (fresh_page cuts page part)) (reached_box cuts part.0 part.1 allowed.fits.parted box, fit_reached meta.k cuts part.0 part.1 part_fits)))
     parts_made (Post parent at inner area) meta None second third limits fits allowed readable = absurd allowed
     parts_made (Post parent at inner area) meta (Some page) second third limits fits allowed readable =
@@ -117,7 +118,7 @@ module _ (stand : PartsStand) where
         All-alone (Parted meta.k) (parent, Live (post_page at inner area page)) (
           old.0,
           subst (λ (o : Option (Tree × Area)). AllFit meta.k (posted at inner area page.frag o)) (sym allowed.leaf)
-              (fit_normal meta.k (with_part at page.frag (carved box area outer inner)) (fit_with_part meta.k at page.frag (carved box area outer inner) old.1 made)),
+              (fit_normal meta.k (with_part at page.frag (carved box area outer inner)) (with_leaves (FitsIn meta.k) at page.frag (carved box area outer inner) old.1 made)),
         )
     parts_made (Merge parent keep gone) meta None second third limits fits allowed readable = absurd allowed
     parts_made (Merge parent keep gone) meta (Some above) None third limits fits allowed readable = absurd allowed

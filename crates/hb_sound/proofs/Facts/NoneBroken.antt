@@ -9,7 +9,8 @@ use Rattle.hb_sound.specs.Names.{BreaksRule, NamesIn, SoundBreaksNone}
 breaks_none : (s : FileState) (rule id : ℕ) → BreaksRule s rule id → IsSound s → ⊥
 breaks_none s rule id b sound = not_broken rule b.0 s.meta b.2 (sound.well_made id b.0 b.1)
 
-sound_in : (s : FileState) (id rule : ℕ) → NamesIn s id rule → IsSound s → ⊥
+-- a rule that a sound file is said to break
+pub sound_in : (s : FileState) (id rule : ℕ) → NamesIn s id rule → IsSound s → ⊥
 sound_in s id rule (inl one) sound = one.2 sound.rooted
 sound_in s id rule (inr (inl two)) sound = two.2 sound.counted
 sound_in s id rule (inr (inr (inl first))) sound = breaks_none s rule id first.2.1.here sound
