@@ -1,12 +1,13 @@
 -- What a pool keeps is kept where a page's frame is put last, is changed in its place, or comes in.
 use Rattle.std.proofs.Common.{◌≡◌, ℕ, ◌+◌, ◌-◌, ◌<◌, ◌≤◌, ◌==◌, nat_lt, Bool, true, false, not, ◌||◌, cond, List, [], ◌∷◌, ◌++◌, length, All, map, Some, None, IsSome, refl, sym, ap, subst, ◌∙◌, arith, length-append, ne_eqb}
 use Rattle.std.specs.List.{find, count_by, position_or_len}
-use Rattle.std.specs.Option.{option_to_list}
+use Rattle.std.specs.Option.{option_to_list, unwrap_or, option_map}
 use Rattle.std.specs.Set.{remove_key}
 use Rattle.std.proofs.lemmas.Bool.{eq-eqb, not-true}
 use Rattle.std.proofs.lemmas.List.Elements.{All-append, All-nil}
 use Rattle.std.proofs.lemmas.List.Sums.{sum_by_push, count_by-le-length}
 use Rattle.std.proofs.lemmas.Map.Views.{All-remove_key}
+use Rattle.std.proofs.lemmas.Map.Made.{sum_by-remove_key}
 use Rattle.hb_lemmas.proofs.Booleans.{if_below, if_same, one_at_most}
 use Rattle.hb_lemmas.proofs.Lists.{All-alone}
 use Rattle.hb_lemmas.proofs.Options.{some_value}
@@ -272,3 +273,12 @@ brought_counts pool id bytes dirty old place =
 -- the first dirty page is in its frame, where no two have one page
 pub dirty_there : {B : Type 0} (pool : List (Frame B)) (f : Frame B) → IsPool pool → find (λ g. g.dirty) pool ≡ Some f → frame_of pool f.id ≡ Some f
 dirty_there pool f old is = alone_first (λ g. g.dirty) (has_id f.id) pool f (eq-eqb f.id f.id refl) (old.distinct f.id) is
+
+-- where room is made for one frame, no more of any kind are left
+pub room_fewer : {B : Type 0} (p : Frame B → Bool) (frames : List (Frame B)) → count_by p (with_room frames) ≤ count_by p frames
+room_fewer p frames = elim (nat_lt (length frames) FRAMES) as (λ b. count_by p (cond b frames (remove_key may_go frames)) ≤ count_by p frames) [
+  | true ↦ omega arith
+  | false ↦
+      let less : count_by p (remove_key may_go frames) + unwrap_or (option_map (λ f. cond {A = ℕ} (p f) 1 0) (find may_go frames)) 0 ≡ count_by p frames = sum_by-remove_key (λ f. cond {A = ℕ} (p f) 1 0) may_go frames in
+      omega (arith, less)
+]
