@@ -15,6 +15,7 @@ use Rattle.hb_activity.specs.Sights.{Sight}
 use Rattle.hb_consol.specs.ConsolidatorRows.{IsMergingOf, Scans, pair_from, tries}
 use Rattle.hb_consol.specs.Examples.{OnItsWayToMerge, ScansByHand, TakesMergesByHand, WalksToMergeByHand, gave_the_end, names_three, page_four, gave_three, page_two}
 use Rattle.hb_frag.specs.Leaves.{Placed, leaf_at}
+use Rattle.hb_frag.proofs.Facts.Kinds.{child_or_sibling}
 use Rattle.hb_consol.proofs.Facts.OneMerging.{one_merging}
 
 -- ---- the job that is taken
@@ -30,9 +31,6 @@ takes_by_hand job = record {
 }
 
 -- ---- walking
-
-child_or_sibling : (a b : ℕ) → Sibling a ≡ Child b → ⊥
-child_or_sibling a b is = cc
 
 abbrev at_one : Placed
 at_one = record { leaf = Child 1; area = record { lo = 70 ∷ []; hi = 79 ∷ [] } }

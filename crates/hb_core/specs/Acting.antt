@@ -68,15 +68,13 @@ MayNeed m actor fetched id = IsWantedPage (wanted_by m actor) id ⊎ (NeedsNumbe
 abbrev pub LacksNeeded : Machine → ℕ → StoreState → Type 0
 LacksNeeded m actor fetched = (id : ℕ) × MayNeed m actor fetched id × (¬ (IsNoPage m.store.meta id)) × (in_memory fetched id ≡ None)
 
--- A row takes memory where it does an operation.
-abbrev pub TakesSome : Option Wanted → Machine → Activity → Type 0
-TakesSome wanted m activity = (deed : Deed) × Row activity wanted m deed × IsSome deed.op
-
--- Or it is given up: a page that it needs couldn't be read; or memory was refused, for a page that is decoded or for what the row takes.
+-- Or it is given up: a page that it needs couldn't be read; or memory was refused, for a page that is decoded or for what the row takes,
+-- which takes some where it does an operation.
 abbrev pub GivesUpFor : DropWhy → Machine → ℕ → StoreState → Type 0
 GivesUpFor drops.ReadFault m actor fetched = LacksNeeded m actor fetched
 GivesUpFor drops.NoMemory m actor fetched =
-    Decodes (wanted_by m actor) (with_disk fetched m.files m.clock m) (m.activity actor) ⊎ TakesSome (wanted_by m actor) (with_disk fetched m.files m.clock m) (m.activity actor)
+    Decodes (wanted_by m actor) (with_disk fetched m.files m.clock m) (m.activity actor)
+    ⊎ ((deed : Deed) × Row (m.activity actor) (wanted_by m actor) (with_disk fetched m.files m.clock m) deed × IsSome deed.op)
 
 pub record Abandons (m : Machine) (actor : ℕ) (outcome : Outcome) (new : Machine) : Type 0 where
   pub why : DropWhy

@@ -9,11 +9,12 @@ use Rattle.hb_set.specs.declared.scripts.Line.{Line}
 use Rattle.hb_activity.specs.declared.activities.Activity.TheVariants.{PosterIdle, SessionIdle}
 use Rattle.hb_core.specs.declared.outcomes.Outcome.{Outcome}
 use Rattle.hb_core.specs.declared.outcomes.Outcome.TheVariants.{Moved, Blocked, Answered}
-use Rattle.hb_core.specs.ChainOfPosting.{bare_root, posted_root, raised_meta, split_page}
+use Rattle.hb_core.specs.ChainOfPosting.{posted_root, raised_meta, split_page}
 use Rattle.hb_core.specs.ChainOfTwo.{lettered, lower_half, posts_at}
 use Rattle.hb_core.specs.Scenes.{Scene, StepsSaying, at_start, machine_of}
 use Rattle.hb_frag.specs.Trees.{Tip}
 use Rattle.hb_space.specs.Boxes.{side_below, whole_area}
+use Rattle.hb_poster.specs.Examples.{page_three as bare_root}
 
 -- session 1 looks 20 up, and session 2 deletes 30
 abbrev pub seeks_twenty : Line

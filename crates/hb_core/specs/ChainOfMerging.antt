@@ -17,13 +17,9 @@ use Rattle.hb_core.specs.declared.outcomes.Outcome.{Outcome}
 use Rattle.hb_core.specs.declared.outcomes.Outcome.TheVariants.{Moved, Idle}
 use Rattle.hb_core.specs.ChainOfPosting.{raised_meta}
 use Rattle.hb_poster.specs.Examples.{page_three as one_child}
-use Rattle.hb_sound.specs.LateFile.{late_record}
+use Rattle.hb_sound.specs.LateFile.{late_record as valued}
 use Rattle.hb_core.specs.Scenes.{Scene, StepsSaying, at_start, machine_of}
 use Rattle.hb_log_codec.specs.Groups.{group_bytes}
-
--- a record of one value, without a body
-abbrev pub valued : ℕ → Record
-valued = late_record
 
 -- page 1 of the whole space, which gave 40 to 59 to page 2; page 2 with these records; and page 3, their parent
 abbrev pub keeping_page : LivePage

@@ -14,7 +14,7 @@ use Rattle.hb_core.specs.ChainOfTwo.{lettered, line_meta, lower_half, posts_at, 
 use Rattle.hb_core.specs.Scenes.{Scene, StepsSaying, at_start, machine_of}
 use Rattle.hb_frag.specs.Trees.{Cut, Tip}
 use Rattle.hb_log_codec.specs.Groups.{group_bytes}
-use Rattle.hb_poster.specs.Examples.{page_three}
+use Rattle.hb_poster.specs.Examples.{page_three as bare_root}
 use Rattle.hb_space.specs.Boxes.{side_below, whole_area}
 
 -- the two halves of a page that was split at 40, and that the leaf of page 1 names page 2
@@ -28,10 +28,7 @@ halves = Live split_page ∷ Live lower_half ∷ []
 abbrev pub raised_meta : Meta
 raised_meta = record { k = 1; pages = 64; log = 65536; dcap = 6; icap = 32; root = 3; height = 2; high = 3; live = 3; free = 0 }
 
--- the root as it is made, and with a leaf to page 2
-abbrev pub bare_root : LivePage
-bare_root = page_three
-
+-- the root with a leaf to page 2, too
 abbrev pub posted_root : LivePage
 posted_root = record { level = 1; area = whole_area 1; frag = Cut 0 40 (Tip (Child 2)) (Tip (Child 1)) }
 

@@ -16,9 +16,9 @@ use Rattle.hb_activity.specs.declared.activities.Activity.TheVariants.{SessionId
 use Rattle.hb_core.specs.declared.outcomes.Outcome.{Outcome}
 use Rattle.hb_core.specs.declared.outcomes.Outcome.TheVariants.{Moved, Answered, Idle}
 use Rattle.hb_core.specs.ChainOfFreePage.{tight_meta}
-use Rattle.hb_core.specs.ChainOfMerging.{valued}
 use Rattle.hb_core.specs.ChainOfTwo.{posts_at}
 use Rattle.hb_core.specs.Scenes.{Scene, StepsSaying, at_start, machine_of}
+use Rattle.hb_sound.specs.LateFile.{late_record as valued}
 
 -- The pages as the inserts of 10, 20 and so on up to 110 leave them: page 1 gave what lies below 40 to page 2, and what lies from 60 on
 -- to page 3.

@@ -3,7 +3,6 @@ use Rattle.std.proofs.Common.{◌≡◌, ℕ, ◌≤◌, List, [], All, IfSome, 
 use Rattle.std.proofs.lemmas.List.Elements.{All-weaker}
 use Rattle.hb_core.proofs.Facts.BegunCores.{begins_over}
 use Rattle.hb_core.specs.Between.{CopiesPage}
-use Rattle.hb_core.specs.Counting.{CountsWithin}
 use Rattle.hb_core.specs.KeptFits.{LineFits}
 use Rattle.hb_core.specs.KeptLines.{HasLineBody}
 use Rattle.hb_core.specs.Machines.{Machine}
@@ -29,6 +28,7 @@ use Rattle.hb_store.specs.Held.{StoreHeld, IsTied}
 use Rattle.hb_store.specs.Keeps.{StoreKeeps}
 use Rattle.hb_store.specs.States.{IsNew, IsStanding, StoreState}
 use Rattle.hb_core_tests.specs.Begun.{IsBegunCore, IsFitLine, IsFitScript}
+use Rattle.hb_core.proofs.Facts.CountsKept.{begun_within}
 
 -- what was copied of a machine that goes on has a spelling
 pub copied_spelling : (id : ℕ) (page : Page) (d e : DiskModel) (old new : RunningCore) → IsBegunCore d old
@@ -51,10 +51,6 @@ fit_script lines steps script fit actors =
 
 -- ---- a store that was just made or opened
 
--- a core that has taken no step has counted nothing
-none_counted : (lines : List Line) (steps : List ℕ) (store : StoreState) → CountsWithin (begun_core lines steps store [])
-none_counted lines steps store = record { last = omega arith; grown = omega arith; posted = omega arith; split = omega arith; merged = omega arith }
-
 -- a core of a script over a store that has begun
 pub begun_over : (d : DiskModel) (held : StoreHeld) (core : RunningCore) (lines : List Line) (steps : List ℕ) → IsFitScript lines steps → core ≡ begun_core lines steps held.state held.uses → IsNew held.state.turn held.state.meta held.state → IsStanding held.state.turn held.state.meta → IsTied held.state held.uses
     → IfSome d.told (λ b. (s : FileState) × IsSound s × StoreKeeps d held.state s []) → held.state.meta.k ≡ 1 → 1 ≤ held.state.meta.high → IsBegunCore d core
@@ -71,7 +67,7 @@ begun_over d held core lines steps script is new stands tied kept one some =
     subst (IsBegunCore d) (sym begun) (record {
       may = (here.m, here.may, here.begun.runs);
       idle = refl;
-      counts = none_counted lines steps held.state;
+      counts = begun_within lines steps held.state [];
       actors = script.actors;
       attributes = one;
       some = some;

@@ -2,8 +2,7 @@
 use Rattle.std.proofs.Common.{◌≡◌, ◌⊎◌, inl, inr, ⊎_elim, ℕ, ◌+◌, ◌-◌, ◌^◌, ◌<◌, ◌≤◌, true, false, cond, List, [], ◌∷◌, ◌++◌, length, get_or, replicate, reverse, Option, Some, None, MatchOption, refl, sym, ap, ◌∙◌, subst, arith}
 use Rattle.std.specs.Prelude.{ltb, is_some}
 use Rattle.std.specs.List.{All}
-use Rattle.std.proofs.lemmas.Bool.{cases_eq}
-use Rattle.std.proofs.lemmas.Bool.Decides.{nat_tests}
+use Rattle.std.proofs.lemmas.Bool.{cases_eq, le-ltb}
 use Rattle.std.proofs.lemmas.List.{reverse-append, get_or-replicate, length-replicate}
 use Rattle.std.proofs.lemmas.List.Elements.{All-head, All-tail}
 use Rattle.hb_disk.specs.Model.{overwritten}
@@ -149,14 +148,11 @@ reach_of size rest earlier e is reach =
 pub reach_undone : (bytes now : List ℕ) (e : Event) (es : List Event) → now ≡ undone e.change bytes → LiesWithin e.change (length bytes) → AllLieWithin (length bytes) es → AllLieWithin (length now) es
 reach_undone bytes now e es is reach rest = subst (λ n. AllLieWithin n es) (sym (ap length is ∙ undone_long e.change bytes reach)) rest
 
-not_before : (call before : ℕ) → before ≤ call → ltb call before ≡ false
-not_before call before le = grind (arith, nat_tests)
-
 pub rewound_more : (before : ℕ) (bytes now : List ℕ) (rest earlier : List Event) (e : Event) → rest ≡ earlier ++ e ∷ [] → now ≡ undone e.change bytes → before ≤ e.call
     → rewound before now (reverse earlier) ≡ rewound before bytes (reverse rest)
 rewound_more before bytes now rest earlier e is undo le =
     ap (λ (l : List ℕ). rewound before l (reverse earlier)) undo
-    ∙ sym (ap (λ b. cond b (bytes, e ∷ reverse earlier) (rewound before (undone e.change bytes) (reverse earlier))) (not_before e.call before le))
+    ∙ sym (ap (λ b. cond b (bytes, e ∷ reverse earlier) (rewound before (undone e.change bytes) (reverse earlier))) (le-ltb e.call before le))
     ∙ ap (λ (es : List Event). rewound before bytes es) (sym (last_first rest earlier e is))
 
 pub synced_more : (bytes now : List ℕ) (rest earlier : List Event) (e : Event) → rest ≡ earlier ++ e ∷ [] → now ≡ undone e.change bytes → is_some (range_of e.change) ≡ true

@@ -10,12 +10,12 @@ use Rattle.std.proofs.lemmas.List.Folds.{find-append}
 use Rattle.std.proofs.lemmas.Map.Views.{All-remove_key}
 use Rattle.hb_pool.proofs.Facts.Others.{absent_left}
 use Rattle.hb_lemmas.proofs.Lists.{All-alone}
-use Rattle.hb_lemmas.proofs.Options.{some_value}
+use Rattle.hb_lemmas.proofs.Options.{some_value, at_some_and, some_of_and}
 use Rattle.hb_pool.specs.declared.pools.TheConstants.{FRAMES}
 use Rattle.hb_pool.specs.Frames.{Use, filled, fresh, has_id, may_go, must_stay, pinned}
 use Rattle.hb_pool.specs.Pools.{IsPool, brought, frame_of, put_last, with_room}
 use Rattle.hb_pool.proofs.Facts.Others.{came_in, last_changed, marked_pages_stay}
-use Rattle.hb_pool.proofs.Facts.Pooled.{at_some_and, dirty_stays, pinned_stays, some_of_and}
+use Rattle.hb_pool.proofs.Facts.Pooled.{dirty_stays, pinned_stays}
 use Rattle.hb_store.specs.Calls.{use_changed, use_fetched}
 use Rattle.hb_file_tests.specs.Driven.{AllStay, IsPinned}
 

@@ -3,11 +3,11 @@ use Rattle.std.proofs.Common.{◌≡◌, ◌≢◌, ℕ, zero, suc, ◌+◌, ◌
 use Rattle.std.specs.Prelude.{if◌then◌else◌}
 use Rattle.std.specs.List.{All, Contains}
 use Rattle.std.proofs.lemmas.Bool.{cases_lt}
-use Rattle.std.proofs.lemmas.List.{ext_get_or}
+use Rattle.std.proofs.lemmas.List.{ext_get_or, get_or-set_same, get_or-set_other}
 use Rattle.std.proofs.lemmas.List.Elements.{All-append, All-cons, All-contains, Contains-append_left, Contains-append_right}
 use Rattle.hb_space.specs.Boxes.{Area, IsArea, Holds, Meets, Within, Cuts, common_area, holds, side_below, side_from}
 use Rattle.hb_space.proofs.Facts.Boxes.{IsArea-common_area, Holds-common_area, Within-common_area, Holds-side_below, Holds-side_from, same_corners}
-use Rattle.hb_space.proofs.Facts.Lists.{length-zip_by, set_cases}
+use Rattle.hb_space.proofs.Facts.Lists.{length-zip_by}
 use Rattle.hb_frag.specs.declared.leaves.Leaf.TheVariants.{Child}
 use Rattle.hb_frag.specs.Trees.{Tree, Tip, Cut}
 use Rattle.hb_frag.specs.Leaves.{Placed, IsWellCut, first_at, leaves_of, weight_of}
@@ -18,13 +18,6 @@ use Rattle.hb_frag.proofs.Facts.Points.{way_ends}
 use Rattle.hb_frag.proofs.Facts.Tiles.{first_tells}
 use Rattle.hb_frag.proofs.Facts.CarvedKinds.{alone_or_cut, cuts_weigh_two}
 use Rattle.hb_lemmas.proofs.Lists.{only_one, All-alone}
-
--- a value that was put in its place, and those that stay
-at_set : (xs : List ℕ) (i v : ℕ) → i < length xs → get_or (set xs i v) i 0 ≡ v
-at_set xs i v l = elim (set_cases xs i v i l) [ inl w ↦ w.1 | inr w ↦ absurd (w.0 refl) ]
-
-off_set : (xs : List ℕ) (i v j : ℕ) → i < length xs → j ≢ i → get_or (set xs i v) j 0 ≡ get_or xs j 0
-off_set xs i v j l n = elim (set_cases xs i v j l) [ inl w ↦ absurd (n w.0) | inr w ↦ w.1 ]
 
 module _ (leaf area : Area) (outer inner : ℕ) (h : IsArea leaf) (k : IsArea area) (same : length area.lo ≡ length leaf.lo) (meets : Meets leaf area) where
   abbrev c : Area
@@ -115,10 +108,10 @@ module _ (leaf area : Area) (outer inner : ℕ) (h : IsArea leaf) (k : IsArea ar
               is_area = IsArea-side_from rest axis value r.is_area cuts;
               as_many = same-side_from rest axis value ∙ r.as_many;
               inside = λ p held. r.inside p ((Holds-side_from rest axis value p cuts).0 held).0;
-              done = λ i m. let d = r.done i m in let o = off_set rest.lo axis value i in_lo (omega arith) in (o ∙ d.0, d.1);
-              least = at_set rest.lo axis value in_lo;
+              done = λ i m. let d = r.done i m in let o = get_or-set_other rest.lo axis i value 0 (omega arith) in (o ∙ d.0, d.1);
+              least = get_or-set_same rest.lo axis value 0 in_lo;
               greatest = here.1;
-              ahead = λ i m. let d = r.ahead i (omega arith) in let o = off_set rest.lo axis value i in_lo (omega arith) in (o ∙ d.0, d.1);
+              ahead = λ i m. let d = r.ahead i (omega arith) in let o = get_or-set_other rest.lo axis i value 0 (omega arith) in (o ∙ d.0, d.1);
             } in
             rw (is_below _ _ low) (cut_below axis value t rest r.is_area r.inside cuts (omega arith) (omega arith) (goes_on (side_from rest axis value) half))
         | inr high ↦ rw (isnt_below _ _ high) (goes_on rest (record {
@@ -143,8 +136,8 @@ module _ (leaf area : Area) (outer inner : ℕ) (h : IsArea leaf) (k : IsArea ar
             let value = get_or c.hi axis 0 + 1 in
             let cuts : Cuts rest axis value = record { attribute = omega arith; above_least = omega (arith, r.least); up_to_greatest = omega (arith, r.greatest) } in
             let in_hi : axis < length rest.hi = omega (arith, r.is_area.same) in
-            let here : get_or (set rest.hi axis (value - 1)) axis 0 ≡ get_or c.hi axis 0 = at_set rest.hi axis (value - 1) in_hi ∙ omega arith in
-            let other = λ (i : ℕ) (n : i ≢ axis). off_set rest.hi axis (value - 1) i in_hi n in
+            let here : get_or (set rest.hi axis (value - 1)) axis 0 ≡ get_or c.hi axis 0 = get_or-set_same rest.hi axis (value - 1) 0 in_hi ∙ omega arith in
+            let other = λ (i : ℕ) (n : i ≢ axis). get_or-set_other rest.hi axis i (value - 1) 0 n in
             let more : IsRest (axis + 1) (side_below rest axis value) = record {
               is_area = IsArea-side_below rest axis value r.is_area cuts;
               as_many = r.as_many;
@@ -211,7 +204,7 @@ module _ (leaf area : Area) (outer inner : ℕ) (h : IsArea leaf) (k : IsArea ar
               let P : Placed → Type 0 = λ l. Holds l.area p in
               let there = (Holds-common_area leaf area p h k (sym same)).0 (subst P e w.1.held) in
               rw (held_test area p k there.1) (ap (λ l. l.leaf) e)
-          | inr e ↦ rw (failed_test area p k (held.same ∙ sym same) (λ there. e.1 p w.1.held there)) e.0
+          | inr e ↦ rw (failed_test area p (λ there. e.1 p w.1.held there)) e.0
         ],
       )
 

@@ -8,6 +8,7 @@ pub mod SayingTheSame
 pub mod Sides
 pub mod Tiles
 pub mod Direct
+pub mod Kinds
 pub mod OrderKept
 pub mod PointOrder
 pub mod Renamed

@@ -30,11 +30,10 @@ leaf_again (leaves.Sibling page) = refl
 abbrev Pair : Type 0
 Pair = List ℕ × List ℕ
 
-abbrev record_code : Coded Record
-record_code = code_by Pair (coded× (coded_list coded_ℕ) (coded_list coded_ℕ)) (λ r. (r.key, r.body)) (λ p. record { key = p.0; body = p.1 }) (λ r. refl)
-
 abbrev leaf_code : Coded Leaf
-leaf_code = code_by Parts (coded⊎ (coded_list record_code) (coded⊎ coded_ℕ coded_ℕ)) parts_of leaf_of leaf_again
+leaf_code =
+    let record_code : Coded Record = code_by Pair (coded× (coded_list coded_ℕ) (coded_list coded_ℕ)) (λ r. (r.key, r.body)) (λ p. record { key = p.0; body = p.1 }) (λ r. refl) in
+    code_by Parts (coded⊎ (coded_list record_code) (coded⊎ coded_ℕ coded_ℕ)) parts_of leaf_of leaf_again
 
 abbrev num : Gv → ℕ
 num gnil = 0

@@ -1,19 +1,16 @@
 -- One draw more: what was drawn so far, and what is still wanted, stay what is wanted in all.
 use Rattle.std.proofs.Common.{◌≡◌, ℕ, zero, suc, ◌+◌, ◌-◌, ◌*◌, ◌%◌, ◌<◌, ◌≤◌, List, [], ◌∷◌, ◌++◌, sym, ap, ◌∙◌, arith, append_assoc, append-nil}
 use Rattle.std.specs.Prelude.{EachIndex, slice_index}
+use Rattle.hb_lemmas.proofs.Numbers.{one_left}
 use Rattle.hb_gen.specs.Draws.{draw, next_state, state_behind}
 use Rattle.hb_gen.specs.Lines.{drawn_values, drawn_lows, drawn_highs}
-
--- of what is wanted behind i others, one comes first
-one_first : (k i : ℕ) → i < k → k - i ≡ suc (k - (i + 1))
-one_first k i more = omega arith
 
 none_left : (k i : ℕ) → k ≤ i → k - i ≡ 0
 none_left k i past = omega arith
 
 -- the states of what is still wanted
 pub state_after : (k i x y end : ℕ) → i < k → y ≡ next_state x → state_behind (k - i) x ≡ end → state_behind (k - (i + 1)) y ≡ end
-state_after k i x y end more y_is before = rw y_is (sym (ap (λ n. state_behind n x) (one_first k i more)) ∙ before)
+state_after k i x y end more y_is before = rw y_is (sym (ap (λ n. state_behind n x) (one_left k i more)) ∙ before)
 
 pub state_after_two : (k i x y end : ℕ) → i < k → y ≡ next_state (next_state x) → state_behind (2 * (k - i)) x ≡ end → state_behind (2 * (k - (i + 1))) y ≡ end
 state_after_two k i x y end more y_is before =
@@ -32,15 +29,15 @@ none_joins front rest all rest_is before = sym (ap (λ r. front ++ r) rest_is �
 module _ (k i x : ℕ) where
   pub value_added : (front new all : List ℕ) (y v : ℕ) → i < k → y ≡ next_state x → v ≡ draw x % 1000 → new ≡ front ++ v ∷ [] → front ++ drawn_values (k - i) x ≡ all → new ++ drawn_values (k - (i + 1)) y ≡ all
   value_added front new all y v more y_is v_is new_is before =
-      rw y_is (one_joins front new _ _ all _ v (ap (λ n. drawn_values n x) (one_first k i more)) v_is new_is before)
+      rw y_is (one_joins front new _ _ all _ v (ap (λ n. drawn_values n x) (one_left k i more)) v_is new_is before)
 
   pub low_added : (front new all : List ℕ) (y v : ℕ) → i < k → y ≡ next_state (next_state x) → v ≡ draw x % 1000 → new ≡ front ++ v ∷ [] → front ++ drawn_lows (k - i) x ≡ all → new ++ drawn_lows (k - (i + 1)) y ≡ all
   low_added front new all y v more y_is v_is new_is before =
-      rw y_is (one_joins front new _ _ all _ v (ap (λ n. drawn_lows n x) (one_first k i more)) v_is new_is before)
+      rw y_is (one_joins front new _ _ all _ v (ap (λ n. drawn_lows n x) (one_left k i more)) v_is new_is before)
 
   pub high_added : (front new all : List ℕ) (y v : ℕ) → i < k → y ≡ next_state (next_state x) → v ≡ draw x % 1000 + draw (next_state x) % 50 → new ≡ front ++ v ∷ [] → front ++ drawn_highs (k - i) x ≡ all → new ++ drawn_highs (k - (i + 1)) y ≡ all
   high_added front new all y v more y_is v_is new_is before =
-      rw y_is (one_joins front new _ _ all _ v (ap (λ n. drawn_highs n x) (one_first k i more)) v_is new_is before)
+      rw y_is (one_joins front new _ _ all _ v (ap (λ n. drawn_highs n x) (one_left k i more)) v_is new_is before)
 
   pub lows_made : (front all : List ℕ) → k ≤ i → front ++ drawn_lows (k - i) x ≡ all → front ≡ all
   lows_made front all past before = none_joins front _ all (ap (λ n. drawn_lows n x) (none_left k i past)) before

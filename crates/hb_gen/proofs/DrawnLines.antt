@@ -1,9 +1,10 @@
 -- The lines of the generator can be said by words.
-use Rattle.std.proofs.Common.{◌≡◌, ℕ, zero, suc, ◌+◌, ◌-◌, ◌*◌, ◌%◌, ◌<◌, ◌≤◌, ◌^◌, ◌==◌, Bool, true, false, cond, ◌∷◌, length, refl, ap, arith}
+use Rattle.std.proofs.Common.{◌≡◌, ℕ, zero, suc, ◌+◌, ◌-◌, ◌*◌, ◌%◌, ◌<◌, ◌≤◌, ◌^◌, ◌==◌, true, ◌∷◌, length, refl, ap, arith}
 use Rattle.std.specs.Prelude.{nat_le}
 use Rattle.std.specs.Fmt.{decimal}
 use Rattle.std.proofs.lemmas.Bool.Decides.{nat_tests}
 use Rattle.std.proofs.lemmas.Fmt.{length-decimal-le}
+use Rattle.hb_lemmas.proofs.Booleans.{either_way}
 use Rattle.hb_set.specs.declared.commands.Command.{Command}
 use Rattle.hb_set.specs.declared.commands.Command.TheVariants.{Insert, Delete, Lookup, Search}
 use Rattle.hb_text.specs.Operands.{lows, highs, pairs_are_ordered}
@@ -61,10 +62,6 @@ body_said number small =
     let short : length (decimal number) ≤ 20 = length-decimal-le 20 number (omega arith) (omega arith) small in
     record { few = omega arith; visible = (decimal_plain number small).visible }
 
-chosen_all : {T : Type 0} (P : T → Type 0) (b : Bool) (x y : T) → P x → P y → P (cond b x y)
-chosen_all P true x y px py = px
-chosen_all P false x y px py = py
-
 pub command_said : (k number session x : ℕ) → 0 < k → number < 2 ^ 64 → session ≤ 8 → IsSaid k (drawn_command k number session x)
 unfolding drawn_command
 command_said k number session x some small low =
@@ -73,9 +70,9 @@ command_said k number session x some small low =
     let delete : Command = Delete (drawn_point k session (next_state x)) in
     let lookup : Command = Lookup (drawn_point k session (next_state x)) in
     let within : Command = Search (record { lo = drawn_lows k (next_state x); hi = drawn_highs k (next_state x) }) in
-    chosen_all (IsSaid k) (nat_le (draw x % 10) 5) insert _ (point, body_said number small)
-    (chosen_all (IsSaid k) (draw x % 10 == 6) delete _ point
-    (chosen_all (IsSaid k) (nat_le (draw x % 10) 8) lookup within point (box_said k (next_state x))))
+    either_way (IsSaid k) (nat_le (draw x % 10) 5) insert _ (point, body_said number small)
+    (either_way (IsSaid k) (draw x % 10 == 6) delete _ point
+    (either_way (IsSaid k) (nat_le (draw x % 10) 8) lookup within point (box_said k (next_state x))))
 
 pub session_fits : (x : ℕ) → (1 ≤ drawn_session x) × (drawn_session x ≤ 8)
 session_fits x = (omega arith, omega arith)

@@ -1,15 +1,13 @@
 -- The words of a line's spelling, and that they say the line.
-use Rattle.std.proofs.Common.{◌≡◌, ℕ, ◌+◌, ◌*◌, ◌<◌, ◌≤◌, ◌^◌, ◌==◌, ◌&&◌, Bool, true, false, List, [], ◌∷◌, ◌++◌, length, take, drop, Ok, refl, sym, ap, ◌∙◌, arith, append-nil, append_assoc}
+use Rattle.std.proofs.Common.{◌≡◌, ℕ, ◌+◌, ◌*◌, ◌<◌, ◌≤◌, ◌^◌, ◌==◌, ◌&&◌, Bool, true, false, List, [], ◌∷◌, ◌++◌, length, Ok, refl, sym, ap, ◌∙◌, arith, append-nil, append_assoc}
 use Rattle.std.specs.Prelude.{map, codes, nat_le}
 use Rattle.std.specs.List.{AllByRecursion, list_all}
 use Rattle.std.specs.Fmt.{decimal}
 use Rattle.std.specs.Str.{bytes_eq}
-use Rattle.std.proofs.Math.Seq.{take-length}
-use Rattle.std.proofs.lemmas.Bool.Decides.{nat_tests}
 use Rattle.std.proofs.lemmas.Fmt.{decimal_digit}
 use Rattle.std.proofs.lemmas.Grind.{flat_map-append}
-use Rattle.std.proofs.lemmas.List.{length-append, length-map, take-append-le}
-use Rattle.std.proofs.lemmas.List.Prefix.{front_rest}
+use Rattle.std.proofs.lemmas.List.{length-append, length-map, take_at, drop_at}
+use Rattle.std.proofs.lemmas.Bool.{eq-eqb, le-leb}
 use Rattle.hb_set.specs.declared.commands.Command.{Command}
 use Rattle.hb_set.specs.declared.commands.Command.TheVariants.{Insert, Delete, Lookup, Search}
 use Rattle.hb_space.specs.Boxes.{Area}
@@ -97,18 +95,6 @@ unfolding values_read
 values_back [] below = refl
 values_back (n ∷ ns) below = rw ((numbers_are_decimal (decimal n) n below.0).1 refl, values_back ns below.1) refl
 
-same_number : (m n : ℕ) → m ≡ n → (m == n) ≡ true
-same_number m n e = grind (arith, nat_tests)
-
-at_most : (m n : ℕ) → m ≤ n → nat_le m n ≡ true
-at_most m n h = grind (arith, nat_tests)
-
-front_taken : (front rest : List (List ℕ)) (k : ℕ) → length front ≡ k → take k (front ++ rest) ≡ front
-front_taken front rest k e = rw (← e) (take-append-le (length front) front rest (omega arith) ∙ take-length front)
-
-front_dropped : (front rest : List (List ℕ)) (k : ℕ) → length front ≡ k → drop k (front ++ rest) ≡ rest
-front_dropped front rest k e = rw (← e) (front_rest (front ++ rest) front rest refl)
-
 as_many_words : (k : ℕ) (ns : List ℕ) → length ns ≡ k → length (map decimal ns) ≡ k
 as_many_words k ns e = length-map ns decimal ∙ e
 
@@ -119,14 +105,14 @@ command_back k (Insert added) said =
     let last : List (List ℕ) = (61 ∷ added.body) ∷ [] in
     let number = as_many_words k added.key said.0.number in
     let count : length (words ++ last) ≡ k + 1 = omega (arith, length-append words last, number) in
-    rw (same_number (length (words ++ last)) (k + 1) count, front_taken words last k number, front_dropped words last k number, values_back added.key said.0.below, at_most (length added.body) 32 said.1.few) refl
+    rw (eq-eqb (length (words ++ last)) (k + 1) count, take_at words last k number, drop_at words last k number, values_back added.key said.0.below, le-leb (length added.body) 32 said.1.few) refl
 command_back k (Delete point) said =
-    rw (same_number (length (map decimal point)) k (as_many_words k point said.number), values_back point said.below) refl
+    rw (eq-eqb (length (map decimal point)) k (as_many_words k point said.number), values_back point said.below) refl
 command_back k (Lookup point) said =
-    rw (same_number (length (map decimal point)) k (as_many_words k point said.number), values_back point said.below) refl
+    rw (eq-eqb (length (map decimal point)) k (as_many_words k point said.number), values_back point said.below) refl
 command_back k (Search area) said =
     let values = side_by_side area.lo area.hi in
-    rw (same_number (length (map decimal values)) (2 * k) (as_many_words (2 * k) values said.values.number), values_back values said.values.below, said.ordered, said.lower, said.upper) refl
+    rw (eq-eqb (length (map decimal values)) (2 * k) (as_many_words (2 * k) values said.values.number), values_back values said.values.below, said.ordered, said.lower, said.upper) refl
 
 -- the word of a session from 1 to 8: it is no `step`, and says that session
 pub no_step : (session : ℕ) → session < 10 → bytes_eq (decimal session) (codes "step") ≡ false

@@ -5,7 +5,7 @@ use Rattle.std.specs.Cmp.{ranked}
 use Rattle.std.specs.Ordering.{nat_cmp, ordering_then}
 use Rattle.std.specs.declared.cmp.Ordering.TheVariants.{Less, Equal, Greater}
 use Rattle.std.proofs.lemmas.Bool.Decides.{Decides-eqb}
-use Rattle.std.proofs.lemmas.Bool.{and_parts, false≢true, cases_lt}
+use Rattle.std.proofs.lemmas.Bool.{and_parts, false≢true, cases_lt, not-true}
 use Rattle.std.proofs.Common.{inl, inr}
 use Rattle.hb_latch.specs.declared.modes.Mode.{Mode}
 use Rattle.hb_latch.specs.declared.entries.Held.{Held}
@@ -63,12 +63,8 @@ against_so actor page mode h is =
     record {
       page_is = (Decides-eqb h.page page).0 parts.0;
       another = λ same. false≢true (sym (ap not ((Decides-eqb h.actor actor).1 same)) ∙ more.0);
-      apart = not_true (goes_beside mode h.mode) more.1;
+      apart = not-true (goes_beside mode h.mode) more.1;
     }
-  where
-    not_true : (b : Bool) → not b ≡ true → b ≡ false
-    not_true true e = absurd (false≢true e)
-    not_true false e = refl
 
 false_so : (b : Bool) → ¬ (b ≡ true) → b ≡ false
 false_so true n = absurd (n refl)

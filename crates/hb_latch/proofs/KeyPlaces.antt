@@ -8,7 +8,7 @@ use Rattle.std.specs.declared.cmp.Ordering.TheVariants.{Less, Equal, Greater}
 use Rattle.std.specs.FinMap.{find, put, is_sorted}
 use Rattle.std.specs.FinMap.Entries.{below_all, by_order}
 use Rattle.std.proofs.lemmas.Cmp.{tied_itself}
-use Rattle.std.proofs.lemmas.Bool.{and_parts, false≢true}
+use Rattle.std.proofs.lemmas.Bool.{and_parts}
 use Rattle.std.proofs.lemmas.List.Sorted.{searchable_from_sorted}
 use Rattle.std.proofs.Math.ListN.{set}
 use Rattle.hb_latch.specs.declared.modes.Mode.{Mode}
@@ -16,7 +16,7 @@ use Rattle.hb_latch.specs.declared.entries.Held.{Held}
 use Rattle.hb_latch.specs.Tables.{latch_cmp}
 use Rattle.hb_latch.specs.Entries.{key_of, table_entries, IsHeldAt, IsGapOf}
 use Rattle.hb_latch.proofs.Facts.KeyOrder.{latch_order, exact_keys, without}
-use Rattle.hb_lemmas.proofs.Orderings.{less_so}
+use Rattle.hb_lemmas.proofs.Orderings.{less_so, equal_so}
 
 -- their keys rise
 abbrev pub KeysRise : List Held → Type 0
@@ -144,8 +144,3 @@ place_found (h ∷ hs) p mode d is =
           let later = place_found hs p mode d found in
           (suc later.0, omega (arith, later.1), later.2, later.3)
     ] refl is
-  where
-    equal_so : (o : Ordering) → is_eq o ≡ true → o ≡ Equal
-    equal_so Less h = absurd (false≢true h)
-    equal_so Equal h = refl
-    equal_so Greater h = absurd (false≢true h)

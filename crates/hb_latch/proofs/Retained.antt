@@ -5,7 +5,7 @@ use Rattle.std.specs.FinMap as map
 use Rattle.std.specs.FinMap.Entries.{where_key, is_sorted-where_key, find-where_key}
 use Rattle.std.proofs.lemmas.List.Elements.{All-filter}
 use Rattle.std.proofs.lemmas.List.Sums.{sum_by-cons}
-use Rattle.hb_lemmas.proofs.Booleans.{cond-not}
+use Rattle.hb_lemmas.proofs.Booleans.{cond-not, T_true}
 use Rattle.hb_latch.specs.declared.entries.Held.{Held}
 use Rattle.hb_latch.specs.Tables.{LatchTable, latch_cmp, mode_at}
 use Rattle.hb_space.specs.Actors.{IsActor}
@@ -25,11 +25,7 @@ module _ (p : ℕ → Bool) where
   ]
 
   pub rise_left : (hs : List Held) → KeysRise hs → KeysRise (filter (λ h. p h.actor) hs)
-  rise_left hs rise = is_true _ (subst (λ es. T (map.is_sorted latch_cmp es)) (sym (entries_left hs)) (is_sorted-where_key latch_cmp (λ k. p k.0) (table_entries hs) (subst T (sym rise) tt)))
-    where
-      is_true : (b : Bool) → T b → b ≡ true
-      is_true true t = refl
-      is_true false t = absurd t
+  rise_left hs rise = T_true _ (subst (λ es. T (map.is_sorted latch_cmp es)) (sym (entries_left hs)) (is_sorted-where_key latch_cmp (λ k. p k.0) (table_entries hs) (subst T (sym rise) tt)))
 
   pub table_left : (hs : List Held) → KeysRise hs → table_of (filter (λ h. p h.actor) hs) ≡ map.retain_keys (table_of hs) (λ k. p k.0)
   table_left hs rise = map.same_map latch_order exact_keys _ _ (λ q.

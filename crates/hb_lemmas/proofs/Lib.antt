@@ -5,4 +5,5 @@ pub mod Lists
 pub mod Maps
 pub mod Numbers
 pub mod Orderings
+pub mod Pairs
 pub mod ZeroBytes

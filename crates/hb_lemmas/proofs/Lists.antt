@@ -1,10 +1,11 @@
 -- Lists of any elements: what is true of each, of a whole and of its parts, what stands at a place, and tests of it.
-use Rattle.std.proofs.Common.{◌≡◌, ◌≢◌, ◌↔◌, ◌⊎◌, inl, inr, ℕ, zero, suc, ◌<◌, Bool, true, false, IsTrue, cond, List, [], ◌∷◌, ◌++◌, length, take, drop, get_or, slice_set, slice_get, All, Contains, Some, refl, sym, ap, subst, ◌∙◌, length-append, arith}
+use Rattle.std.proofs.Common.{◌≡◌, ◌≢◌, ◌↔◌, ◌⊎◌, inl, inr, ℕ, zero, suc, ◌+◌, ◌<◌, Bool, true, false, IsTrue, cond, List, [], ◌∷◌, ◌++◌, length, take, drop, get_or, slice_set, slice_get, All, Contains, Some, refl, sym, ap, subst, ◌∙◌, arith}
 use Rattle.std.specs.List.{AllByRecursion, filter}
 use Rattle.std.proofs.Math.Seq.{take-append_seam}
 use Rattle.std.proofs.lemmas.Bool.{cases_Bool, false≢true}
-use Rattle.std.proofs.lemmas.List.{take_at, drop_at, set-get_or, set-set}
-use Rattle.std.proofs.lemmas.List.Elements.{All-from_recursion, recursion_from_All, All-append, All-cons, All-contains, All-contains_itself, All-head, All-nil, All-weaker}
+use Rattle.std.proofs.lemmas.List.{take_at, drop_at, set-get_or, set-set, take-append-drop, take_more}
+use Rattle.std.proofs.lemmas.Option.{slice_get-get_or}
+use Rattle.std.proofs.lemmas.List.Elements.{All-from_recursion, recursion_from_All, All-append, All-cons, All-contains, All-contains_itself, All-head, All-nil, All-weaker, Contains-append_right}
 
 -- ---- of each element
 
@@ -41,6 +42,12 @@ All-alone P x h = (All-one P x).1 h
 -- of the last element
 pub All-last : {X : Type 0} (P : X → Type 0) (front : List X) (last : X) → All P (front ++ last ∷ []) → P last
 All-last P front last h = (All-one P last).0 (All-behind P front (last ∷ []) h)
+
+-- of each so far, and of the next
+pub All-take_more : {X : Type 0} (P : X → Type 0) (xs : List X) (n : ℕ) (x : X) → n < length xs → x ≡ get_or xs n x → All P (take n xs) → P x → All P (take (n + 1) xs)
+All-take_more P xs n x less is all here =
+    subst (λ (ys : List _). All P ys) (sym (take_more xs n x less))
+    (All-append P (take n xs) (get_or xs n x ∷ []) all (All-alone P (get_or xs n x) (subst P is here)))
 
 -- what holds of each member holds of all
 pub each_member : {X : Type 0} (P : X → Type 0) (xs : List X) → ((x : X) → Contains xs x → P x) → All P xs
@@ -81,6 +88,10 @@ pub member_cases : {X : Type 0} (x : X) (xs : List X) (y : X) → Contains (x �
 member_cases x xs y (zero, lt, e) = inl e
 member_cases x xs y (suc k, lt, e) = inr (k, omega arith, e)
 
+-- what stands behind a front is a member
+pub behind_front : {X : Type 0} (n : ℕ) (xs : List X) (x : X) → Contains (drop n xs) x → Contains xs x
+behind_front n xs x there = subst (λ (l : List _). Contains l x) (take-append-drop n xs) (Contains-append_right (take n xs) (drop n xs) x there)
+
 -- a filter leaves out, and keeps what passes
 pub filter_has : {X : Type 0} (p : X → Bool) (xs : List X) (x : X) → Contains (filter p xs) x → Contains xs x
 filter_has p [] x h = h
@@ -114,6 +125,10 @@ place_member (y ∷ xs) (suc place) x is = later_member y xs x (place_member xs 
 
 pub at_place : {X : Type 0} (P : X → Type 0) (xs : List X) (place : ℕ) (x : X) → All P xs → slice_get xs place ≡ Some x → P x
 at_place P xs place x all is = All-contains P xs x all (place_member xs place x is)
+
+-- and each member stands somewhere
+pub member_place : {X : Type 0} (xs : List X) (x : X) → Contains xs x → (place : ℕ) × (slice_get xs place ≡ Some x)
+member_place xs x (place, lt, is) = (place, slice_get-get_or xs place x lt ∙ ap Some is)
 
 -- each place within the list has something
 pub place_within : {X : Type 0} (xs : List X) (n : ℕ) → n < length xs → (x : X) × (slice_get xs n ≡ Some x)
@@ -150,20 +165,19 @@ put_back xs changed at value d is = ap (λ (l : List ℕ). slice_set l at (get_o
 
 -- ---- fronts and ends
 
+-- a list that begins
+pub same_first : {X : Type 0} (x y : X) (xs ys : List X) → x ∷ xs ≡ y ∷ ys → x ≡ y
+same_first x y xs ys same = cc same
+
+pub not_empty : {X : Type 0} (x : X) (xs : List X) → x ∷ xs ≡ [] → ⊥
+not_empty x xs same = cc same
+
 -- two lists that begin with fronts of one length have the same front and the same rest
 pub same_fronts : {X : Type 0} (a b r s : List X) → length a ≡ length b → a ++ r ≡ b ++ s → (a ≡ b) × (r ≡ s)
 same_fronts {X = X} a b r s long e = (
   sym (take_at a r (length a) refl) ∙ ap (λ (l : List X). take (length a) l) e ∙ take_at b s (length a) (sym long),
   sym (drop_at a r (length a) refl) ∙ ap (λ (l : List X). drop (length a) l) e ∙ drop_at b s (length a) (sym long),
 )
-
--- and two that end with one element each, the same of both
-pub same_ends : {X : Type 0} (xs ys : List X) (x y : X) → xs ++ x ∷ [] ≡ ys ++ y ∷ [] → (xs ≡ ys) × (x ≡ y)
-same_ends {X = X} xs ys x y e =
-    let long : length xs ≡ length ys = omega (arith, length-append xs (x ∷ []), length-append ys (y ∷ []), ap (λ (l : List X). length l) e) in
-    let both = same_fronts xs ys (x ∷ []) (y ∷ []) long e in
-    let last : x ∷ [] ≡ y ∷ [] = both.1 in
-    (both.0, let same : x ≡ y = cc last in same)
 
 -- the values that were copied into a longer list
 pub front_copied : {X : Type 0} (copied behind values : List X) (n : ℕ) → n ≡ length values → copied ≡ values → take n (copied ++ behind) ≡ values

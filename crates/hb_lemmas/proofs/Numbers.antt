@@ -12,6 +12,10 @@ use Rattle.std.proofs.Math.ListN.{drop_of_length-le}
 use Rattle.hb_lemmas.specs.Numbers.{big_endian}
 use Rattle.hb_lemmas.proofs.Lists.{same_fronts}
 
+-- of what is left behind i others, one comes first
+pub one_left : (n i : ℕ) → i < n → n - i ≡ suc (n - (i + 1))
+one_left n i less = omega (arith, less)
+
 -- there are as many bytes as the width says
 pub length_big_endian : (width n : ℕ) → length (big_endian width n) ≡ width
 unfolding big_endian

@@ -16,7 +16,7 @@ use Rattle.hb_log_codec.specs.ExactFields.{ExactFields}
 use Rattle.hb_log_codec.proofs.OpLaws.{op_again, same_number}
 use Rattle.std.proofs.lemmas.Option.{same_Some}
 use Rattle.hb_page_codec.proofs.Facts.PageLaws.{zeros_left, SpelledOnce}
-use Rattle.hb_lemmas.proofs.Lists.{same_fronts}
+use Rattle.hb_lemmas.proofs.Lists.{same_fronts, same_first}
 
 -- The bytes of a page are its one spelling.
 pub spells_page_bytes : (page : Page) → HasSpelling page → SpellsPage (page_bytes page) page
@@ -69,13 +69,10 @@ module _ (f : ExactFields) (once : SpelledOnce) where
   same_group k x y r s x_fits y_fits e =
       let tails : page_images_bytes x.images ++ (op_bytes x.op ++ r) ≡ page_images_bytes y.images ++ (op_bytes y.op ++ s) =
       sym (append_assoc (page_images_bytes x.images) (op_bytes x.op) r) ∙ ap (λ (l : List ℕ). drop 1 l) e ∙ append_assoc (page_images_bytes y.images) (op_bytes y.op) s in
-      let counts : length x.images ≡ length y.images = first_byte (length x.images) (length y.images) _ _ e in
+      let counts : length x.images ≡ length y.images = same_first (length x.images) (length y.images) _ _ e in
       let images = same_page_images x.images y.images (op_bytes x.op ++ r) (op_bytes y.op ++ s) x_fits.images y_fits.images counts tails in
       let ops = same_op f k x.op y.op r s x_fits.op y_fits.op images.1 in
       (λ i. record { images = images.0 i; op = ops.0 i }, ops.1)
-    where
-      first_byte : (a b : ℕ) (xs ys : List ℕ) → a ∷ xs ≡ b ∷ ys → a ≡ b
-      first_byte a b xs ys h = cc
 
   all_same : (k : ℕ) (xs ys : List Logged) → All (FitsGroup k) xs → All (FitsGroup k) ys → flat_map group_bytes xs ≡ flat_map group_bytes ys → xs ≡ ys
   all_same k [] [] x_fit y_fit e = refl

@@ -1,5 +1,5 @@
 -- What the readers of page images, operations and groups find, step by step.
-use Rattle.std.proofs.Common.{◌≡◌, ◌≢◌, ◌⊎◌, inl, inr, ℕ, ◌+◌, ◌-◌, ◌<◌, ◌≤◌, List, [], ◌∷◌, ◌++◌, length, map, take, drop, All, Some, None, Result, Ok, Err, refl, sym, ap, subst, ◌∙◌, append_assoc, length-append, arith}
+use Rattle.std.proofs.Common.{◌≡◌, ◌≢◌, ◌⊎◌, inl, inr, ℕ, ◌+◌, ◌-◌, ◌<◌, ◌≤◌, List, [], ◌∷◌, ◌++◌, length, map, take, drop, All, Some, Result, Ok, Err, refl, sym, ap, subst, ◌∙◌, append_assoc, length-append, arith}
 use Rattle.std.specs.Prelude.{AllPairs}
 use Rattle.std.specs.List.{flat_map}
 use Rattle.std.proofs.lemmas.List.{take_at, drop_at, take-append-drop, length-take, length-drop, map-append, flat_map_more}
@@ -23,8 +23,8 @@ use Rattle.hb_log_codec.proofs.OpLaws.{op_again, op_exact}
 use Rattle.hb_log_codec.specs.declared.groups.Group.{Group}
 use Rattle.hb_log_codec.specs.declared.reading.GroupStop.{GroupStop}
 use Rattle.hb_log_codec.specs.declared.reading.GroupStop.TheVariants as stops
-use Rattle.std.proofs.lemmas.Option.{same_Some}
-use Rattle.hb_lemmas.proofs.Lists.{same_fronts}
+use Rattle.std.proofs.lemmas.Option.{same_Some, none-some}
+use Rattle.hb_lemmas.proofs.Lists.{same_fronts, same_first}
 use Rattle.hb_page_codec.proofs.Facts.PageLaws.{SpelledOnce}
 
 pub halves : (n : ℕ) (bytes front back : List ℕ) → front ≡ take n bytes → back ≡ drop n bytes → bytes ≡ front ++ back
@@ -32,15 +32,12 @@ halves n bytes front back f b = sym (take-append-drop n bytes) ∙ (λ i. sym f 
 
 -- ---- operations
 
-none_some : {A : Type 0} (y : A) → None ≡ Some y → ⊥
-none_some y h = absurd cc
-
 pub op_found : ExactFields → {X : Type 0} (view : X → Op × List ℕ) (k : ℕ) → 0 < k → k ≤ KMAX → (bytes : List ℕ) (result : Result X GroupStop) → AreBytes bytes → GivesOrStops view result (op_at k bytes) → Finds (FitsOp k) op_bytes bytes view result
 op_found f view k some few bytes (Ok x) fits e =
     let taken = (op_exact f k some few).takes bytes (view x) fits e in
     record { fits = taken.1; parts = taken.0 }
 op_found f view k some few bytes (Err stops.NoMemory) fits e = tt
-op_found f view k some few bytes (Err stops.Bad) fits e = λ x rest b. none_some (x, rest) (sym e ∙ ap (op_at k) b.parts ∙ op_again f k x rest b.fits)
+op_found f view k some few bytes (Err stops.Bad) fits e = λ x rest b. none-some (x, rest) (sym e ∙ ap (op_at k) b.parts ∙ op_again f k x rest b.fits)
 
 -- ---- a page image
 
@@ -128,13 +125,10 @@ module _ (f : ExactFields) (once : SpelledOnce) where
       → Begins (FitsGroup k) group_bytes bytes g after → (images ≡ g.images) × (rest ≡ op_bytes g.op ++ after)
   group_parts k count bytes behind images rest g after e so_far b =
       let whole : count ∷ behind ≡ group_bytes g ++ after = sym e ∙ b.parts in
-      let many : count ≡ length g.images = first_byte count (length g.images) _ _ whole in
+      let many : count ≡ length g.images = same_first count (length g.images) _ _ whole in
       let tails : page_images_bytes images ++ rest ≡ page_images_bytes g.images ++ (op_bytes g.op ++ after) =
       sym so_far.parts ∙ ap (λ (l : List ℕ). drop 1 l) whole ∙ append_assoc (page_images_bytes g.images) (op_bytes g.op) after in
       same_page_images f once images g.images rest (op_bytes g.op ++ after) so_far.fits.each b.fits.images (so_far.fits.many ∙ many) tails
-    where
-      first_byte : (a b : ℕ) (xs ys : List ℕ) → a ∷ xs ≡ b ∷ ys → a ≡ b
-      first_byte a b xs ys h = cc
 
   pub group_not_distinct : (k count : ℕ) (bytes behind : List ℕ) (images : List (ℕ × Page)) (rest : List ℕ) → bytes ≡ count ∷ behind → Begins (FitPageImages count) page_images_bytes behind images rest
       → (AllPairs (λ i j. i.0 ≢ j.0) images → ⊥) → BeginsNone (FitsGroup k) group_bytes bytes

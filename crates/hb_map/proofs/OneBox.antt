@@ -5,13 +5,14 @@ use Rattle.std.proofs.lemmas.Bool.{cases_eq}
 use Rattle.std.proofs.lemmas.List.Sums.{sum_by-append, sum_by-cons}
 use Rattle.std.proofs.lemmas.List.Elements.{All-from_recursion, recursion_from_All}
 use Rattle.hb_space.specs.Boxes.{Area, IsArea, holds}
+use Rattle.hb_space.proofs.Facts.Boxes.{Holds-from_test}
 use Rattle.hb_frag.specs.declared.pages.LivePage.{LivePage}
 use Rattle.hb_frag.specs.declared.pages.Page.{Page}
 use Rattle.hb_frag.specs.declared.pages.Page.TheVariants.{Live, Free}
 use Rattle.hb_frag.specs.Leaves.{DirectlyHolds, Placed, leaves_of, siblings}
 use Rattle.hb_frag.specs.Rules.{BelongsAt}
 use Rattle.hb_frag.proofs.Facts.Sides.{held_test}
-use Rattle.hb_frag.proofs.Facts.Tiles.{held_from_test, leaves_placed, tiles_areas}
+use Rattle.hb_frag.proofs.Facts.Tiles.{leaves_placed, tiles_areas}
 use Rattle.hb_ops.specs.Files.{FileState, live_page}
 use Rattle.hb_ops.specs.Sound.{IsSound}
 use Rattle.hb_sound.specs.Laws.{EachPointIsHeld, NoPointIsHeldTwice, PagesHaveBoxes}
@@ -101,7 +102,7 @@ module _ (boxes : PagesHaveBoxes) (s : FileState) (p : List ℕ) (sound : IsSoun
                   page = page;
                   live = live;
                   on = on;
-                  direct = record { inside = held_from_test page.area p box test; not_given = All-from_recursion (HoldsNot p) _ (none_holds p (siblings (leaves_of page.frag page.area)) (holes_are_boxes id page live) no_hole) };
+                  direct = record { inside = Holds-from_test page.area p test; not_given = All-from_recursion (HoldsNot p) _ (none_holds p (siblings (leaves_of page.frag page.area)) (holes_are_boxes id page live) no_hole) };
                 })
               ]
         ] refl

@@ -1,5 +1,5 @@
 -- What it comes to that a page was fetched and copied, or wasn't.
-use Rattle.std.proofs.Common.{◌≡◌, ◌≢◌, ℕ, ◌<◌, ◌≤◌, ◌^◌, ◌==◌, true, false, cond, List, Some, Result, Ok, Err, refl, sym, ap, subst, ◌∙◌, arith, inl, inr}
+use Rattle.std.proofs.Common.{◌≡◌, ◌≢◌, ℕ, ◌<◌, ◌≤◌, ◌^◌, ◌==◌, true, false, cond, List, Some, Result, Ok, Err, refl, sym, ap, subst, ◌∙◌, arith}
 use Rattle.std.specs.Result.{IfErr, IfOk, IsErrOf}
 use Rattle.hb_disk.specs.Model.{DiskModel}
 use Rattle.hb_frag.specs.declared.pages.Page.{Page}
@@ -20,6 +20,7 @@ use Rattle.hb_store.specs.declared.stops.FetchStop.{FetchStop}
 use Rattle.hb_store.specs.declared.stops.FetchStop.TheVariants as fetches
 use Rattle.hb_store.specs.declared.stops.Why.TheVariants.{Rule, Level, Extent}
 use Rattle.hb_store.proofs.Facts.LookLaws.{LooksUp-as}
+use Rattle.hb_store.proofs.Facts.Fetched.{page_not_none}
 use Rattle.hb_map.specs.declared.stops.MapStop.{MapStop}
 use Rattle.hb_map.specs.declared.stops.MapStop.TheVariants as stops
 use Rattle.hb_map.specs.Mapping.{IsNoDamage, LooksThrough, MayAllGo, MayBePrinted, NamesPage, OfSoundFile, StopsRightly, map_stop_of}
@@ -76,10 +77,6 @@ kept_through {T = T} {U = U} stop d e old new other go looks state uses = record
   may_go = subst MayAllGo (sym uses) go;
 }
 
-not_of_file : (meta : Meta) (id : ℕ) → IsPageOf meta id → IsNoPage meta id → ⊥
-not_of_file meta id page (inl none) = absurd (omega (arith, page, none))
-not_of_file meta id page (inr beyond) = absurd (omega (arith, page, beyond))
-
 names_it : (meta : Meta) (d : DiskModel) (id : ℕ) (stop : FetchStop) → IsPageOf meta id → FetchesNot meta d id stop → NamesPage meta (map_stop_of stop)
 names_it meta d id (fetches.Damaged page (Rule rule)) there why = (omega (arith, why.0, there.0), omega (arith, why.0, there.1))
 names_it meta d id (fetches.Damaged page (Level asked found)) there why = why
@@ -88,7 +85,7 @@ names_it meta d id fetches.ReadFault there why = tt
 names_it meta d id fetches.Crowded there why = tt
 
 no_damage : (meta : Meta) (id : ℕ) (stop : FetchStop) → IsPageOf meta id → ((stop ≢ fetches.ReadFault) → (stop ≢ fetches.Crowded) → IsNoPage meta id) → IsNoDamage (map_stop_of stop)
-no_damage meta id (fetches.Damaged page why) there says = absurd (not_of_file meta id there (says (λ is. cc (is)) (λ is. cc (is))))
+no_damage meta id (fetches.Damaged page why) there says = absurd (page_not_none meta id there (says (λ is. cc (is)) (λ is. cc (is))))
 no_damage meta id fetches.ReadFault there says = tt
 no_damage meta id fetches.Crowded there says = tt
 
@@ -103,6 +100,3 @@ pub not_of_sink : (stop : FetchStop) → map_stop_of stop ≡ stops.SinkFault �
 not_of_sink (fetches.Damaged page why) is = cc (is)
 not_of_sink fetches.ReadFault is = cc (is)
 not_of_sink fetches.Crowded is = cc (is)
-
-pub ok_no_err : {T E : Type 0} (x : T) (e : E) → ◌≡◌ {A = Result T E} (Ok x) (Err e) → ⊥
-ok_no_err x e is = cc (is)

@@ -1,9 +1,10 @@
 -- A carved leaf: its cuts cut its box, and its leaves name pages one level down.
-use Rattle.std.proofs.Common.{◌≡◌, ℕ, zero, suc, ◌+◌, ◌-◌, ◌<◌, ◌≤◌, min, max, Bool, true, false, cond, List, [], ◌∷◌, length, get_or, All, refl, arith, nat_lt}
+use Rattle.std.proofs.Common.{◌≡◌, ℕ, zero, suc, ◌+◌, ◌-◌, ◌<◌, ◌≤◌, min, max, true, false, cond, List, [], ◌∷◌, length, get_or, All, refl, arith, nat_lt}
 use Rattle.std.proofs.lemmas.Bool.{ltb-true}
 use Rattle.std.proofs.lemmas.List.{length-set, get_or-set_other}
 use Rattle.std.proofs.lemmas.List.Elements.{All-append, All-cons, All-nil}
 use Rattle.std.proofs.lemmas.Grind.{get_or-set_at}
+use Rattle.hb_lemmas.proofs.Booleans.{either_way}
 use Rattle.hb_space.specs.Boxes.{Area, Meets, common_area, side_below, side_from, zip_by}
 use Rattle.hb_frag.specs.declared.leaves.Leaf.TheVariants.{Child}
 use Rattle.hb_frag.specs.Carving.{carve_above, carve_below, carve_from, carved}
@@ -108,11 +109,6 @@ carved_well_cut leaf area outer inner same meets =
     (λ i lt. let e = zip_max leaf.lo area.lo i lt same in let m = meets i lt in omega (arith, e, m))
     (length leaf.lo) 0 leaf (omega arith) (record { as_many = refl; least = λ i more. refl; greatest = λ i more. refl })
 
--- what holds of both trees holds of the one that is chosen
-either_tree : (P : Tree → Type 0) (b : Bool) (t u : Tree) → P t → P u → P (cond b t u)
-either_tree P true t u one other = one
-either_tree P false t u one other = other
-
 module _ (level : ℕ) (above : 0 < level) (leaf c : Area) (outer inner : ℕ) where
   abbrev Below : Tree → Type 0
   Below t = All (BelongsAt level) (leaves t)
@@ -126,8 +122,8 @@ module _ (level : ℕ) (above : 0 < level) (leaf c : Area) (outer inner : ℕ) w
       let t = carve_from n (axis + 1) leaf c outer inner in
       let a = carve_above axis leaf c outer t in
       let rest : Below t = all_below n (axis + 1) in
-      let above_it : Below a = either_tree Below (nat_lt (get_or c.hi axis 0) (get_or leaf.hi axis 0)) (Cut axis (get_or c.hi axis 0 + 1) t (Tip (Child outer))) t (All-append (BelongsAt level) (leaves t) (leaves (Tip (Child outer))) rest (of_child outer)) rest in
-      either_tree Below (nat_lt (get_or leaf.lo axis 0) (get_or c.lo axis 0)) (Cut axis (get_or c.lo axis 0) (Tip (Child outer)) a) a (All-append (BelongsAt level) (leaves (Tip (Child outer))) (leaves a) (of_child outer) above_it) above_it
+      let above_it : Below a = either_way Below (nat_lt (get_or c.hi axis 0) (get_or leaf.hi axis 0)) (Cut axis (get_or c.hi axis 0 + 1) t (Tip (Child outer))) t (All-append (BelongsAt level) (leaves t) (leaves (Tip (Child outer))) rest (of_child outer)) rest in
+      either_way Below (nat_lt (get_or leaf.lo axis 0) (get_or c.lo axis 0)) (Cut axis (get_or c.lo axis 0) (Tip (Child outer)) a) a (All-append (BelongsAt level) (leaves (Tip (Child outer))) (leaves a) (of_child outer) above_it) above_it
 
 pub carved_below : (level : ℕ) (leaf area : Area) (outer inner : ℕ) → 0 < level → All (BelongsAt level) (leaves (carved leaf area outer inner))
 carved_below level leaf area outer inner above = all_below level above leaf (common_area leaf area) outer inner (length leaf.lo) 0
@@ -142,8 +138,8 @@ all_own leaf c outer inner (suc n) axis =
     let t = carve_from n (axis + 1) leaf c outer inner in
     let a = carve_above axis leaf c outer t in
     let rest : IsOwn t = all_own leaf c outer inner n (axis + 1) in
-    let above_it : IsOwn a = either_tree IsOwn (nat_lt (get_or c.hi axis 0) (get_or leaf.hi axis 0)) (Cut axis (get_or c.hi axis 0 + 1) t (Tip (Child outer))) t (λ lone. lone) rest in
-    either_tree IsOwn (nat_lt (get_or leaf.lo axis 0) (get_or c.lo axis 0)) (Cut axis (get_or c.lo axis 0) (Tip (Child outer)) a) a (λ lone. lone) above_it
+    let above_it : IsOwn a = either_way IsOwn (nat_lt (get_or c.hi axis 0) (get_or leaf.hi axis 0)) (Cut axis (get_or c.hi axis 0 + 1) t (Tip (Child outer))) t (λ lone. lone) rest in
+    either_way IsOwn (nat_lt (get_or leaf.lo axis 0) (get_or c.lo axis 0)) (Cut axis (get_or c.lo axis 0) (Tip (Child outer)) a) a (λ lone. lone) above_it
 
 pub carved_own : (leaf area : Area) (outer inner : ℕ) → ¬ (IsSiblingTip (carved leaf area outer inner))
 carved_own leaf area outer inner = all_own leaf (common_area leaf area) outer inner (length leaf.lo) 0

@@ -2,6 +2,7 @@
 use Rattle.std.proofs.Common.{◌≡◌, ◌≢◌, ◌↔◌, IsTrue, ℕ, zero, suc, ◌+◌, ◌<◌, Bool, true, false, ◌&&◌, cond, List, [], ◌∷◌, length, get_or, take, drop, filter, Some, refl, sym, ap, subst, ◌∙◌, arith}
 use Rattle.std.proofs.Math.Numerals.{add-one}
 use Rattle.std.proofs.lemmas.Bool.{false≢true}
+use Rattle.std.proofs.lemmas.List.{drop_more}
 use Rattle.hb_space.specs.Boxes.{Area, Cuts, side_below, side_from}
 use Rattle.hb_space.specs.declared.records.Record.{Record}
 use Rattle.hb_frag.specs.declared.leaves.Leaf.TheVariants.{Records}
@@ -47,11 +48,6 @@ next_records cuts place d rs lt =
     ∙ (λ i. filter (λ r. next_test cuts place d r lt i) rs)
     ∙ twice (goes_on (take place cuts)) (is_on_at (get_or cuts place d)) rs
 
-drop_at : (cuts : List LeafCut) (place : ℕ) (d : LeafCut) → place < length cuts → drop place cuts ≡ get_or cuts place d ∷ drop (place + 1) cuts
-drop_at [] place d lt = absurd (omega arith)
-drop_at (cut ∷ cuts) zero d lt = refl
-drop_at (cut ∷ cuts) (suc place) d lt = drop_at cuts place d (omega arith) ∙ ap (λ (n : ℕ). get_or cuts place d ∷ drop n (cut ∷ cuts)) (let e : suc (place + 1) ≡ suc place + 1 = omega arith in e)
-
 -- all records go on where there is no cut
 all_go_on : (rs : List Record) → filter (goes_on []) rs ≡ rs
 all_go_on [] = refl
@@ -71,7 +67,7 @@ one_more_cut cuts place d rs area lt plane on off =
     let some = filter (goes_on (take place cuts)) rs in
     let same = next_records cuts place d rs lt in
     let rest = drop (place + 1) cuts in
-    let both = drop_at cuts place d lt in (
+    let both = drop_more cuts place d lt in (
       λ h. subst (λ (cs : List LeafCut). PartLeaves cs (Tip (Records some)) area) (sym both)
           (record { records = some; leaf = refl; plane = plane; on = on; off = off }, subst (λ (xs : List Record). PartLeaves rest (Tip (Records xs)) (half_area cut area)) same h),
       λ h. subst (λ (xs : List Record). PartLeaves rest (Tip (Records xs)) (half_area cut area)) (sym same)

@@ -18,6 +18,10 @@ pub mod FilePages
 pub mod KnownBoxes
 pub mod NamedChildren
 pub mod SetPages
+pub mod PageLists
+pub mod OneChanged
 pub mod ReachedPages
 pub mod MadeLeaves
 pub mod MergeMade
+pub mod WellMade
+pub mod JoinedParts

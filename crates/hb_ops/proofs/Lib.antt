@@ -1,6 +1,5 @@
 pub mod Facts
 pub mod Orders
-pub mod Boxes
 pub mod Pages
 pub mod Remade
 pub mod Sound

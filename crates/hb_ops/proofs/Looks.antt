@@ -3,7 +3,6 @@ use Rattle.std.proofs.Common.{◌≡◌, ◌≢◌, ℕ, zero, suc, ◌<◌, Boo
 use Rattle.std.specs.FinMap as finite
 use Rattle.std.specs.Option.{option_or}
 use Rattle.std.specs.Ordering.{eq_by_cmp, is_eq}
-use Rattle.std.specs.declared.cmp.Ordering.TheVariants.{Less}
 use Rattle.std.proofs.lemmas.Cmp.{nat_list_cmp_total, tied_itself}
 use Rattle.std.proofs.lemmas.List.Elements.{recursion_from_All}
 use Rattle.hb_space.specs.Points.{point_cmp}
@@ -12,7 +11,7 @@ use Rattle.hb_ops.specs.Standing.{AbsenceIsContents, RecordsAreContents}
 use Rattle.hb_ops.proofs.Facts.Contents.{around}
 use Rattle.hb_ops.proofs.Facts.Finds.{absent, body_at, body-append, body-lacking, contents, get-contents}
 use Rattle.hb_ops.proofs.Facts.Opened.{rising_at}
-use Rattle.hb_space.proofs.Facts.PointOrder.{other_point}
+use Rattle.hb_space.proofs.Facts.PointOrder.{other_point, not_itself}
 
 -- a point equals itself
 own : (p : List ℕ) → eq_by_cmp point_cmp p p ≡ true
@@ -35,17 +34,13 @@ at_place [] k r d e = cc
 at_place (x ∷ xs) zero r d e = (omega arith, cc)
 at_place (x ∷ xs) (suc k) r d e = let rest = at_place xs k r d e in (omega (arith, rest.0), rest.1)
 
--- records before one of a rising list have other points
-lesser : (p q : List ℕ) → point_cmp p q ≡ Less → p ≡ q → ⊥
-lesser p q less same = cc (sym less ∙ ap (λ (x : List ℕ). point_cmp x q) same ∙ tied_itself nat_list_cmp_total q)
-
 pub records_are_contents : RecordsAreContents
 records_are_contents s id page p r live made level others stands =
     let here = around s id p page stands.records stands.area live level made.well_cut made.in_order stands.leaf others in
     let rising = rising_at page p stands.records stands.area made.in_order stands.leaf in
     let before : (i : ℕ) (d : Record) → i < stands.place → (get_or stands.records i d).key ≢ p = λ i d lt same.
     let at = at_place stands.records stands.place r d stands.among in
-    lesser (get_or stands.records i d).key (get_or stands.records stands.place d).key (rising i stands.place d lt at.0) (same ∙ sym (ap (λ (r : Record). r.key) at.1 ∙ stands.key)) in
+    not_itself (get_or stands.records i d).key (get_or stands.records stands.place d).key (same ∙ sym (ap (λ (r : Record). r.key) at.1 ∙ stands.key)) (rising i stands.place d lt at.0) in
     ap (λ (rs : List Record). finite.get (contents rs) p) here.is
     ∙ get-contents (here.before ++ (stands.records ++ here.after)) p
     ∙ body-append p here.before (stands.records ++ here.after)

@@ -1,18 +1,16 @@
 -- A page in which another one is named is well made again.
-use Rattle.std.proofs.Common.{◌≡◌, ℕ, ◌<◌, ◌≤◌, ◌==◌, Bool, true, false, cond, List, [], ◌∷◌, length, All, refl, sym, subst, ◌∙◌, arith, ne_eqb}
+use Rattle.std.proofs.Common.{◌≡◌, ℕ, ◌<◌, ◌≤◌, Bool, cond, List, [], length, All, refl, sym, subst, ◌∙◌, arith, ne_eqb}
 use Rattle.std.proofs.lemmas.List.Elements.{All-append, All-cons, All-head, All-nil}
 use Rattle.hb_space.specs.Boxes.{Area, Holds, side_below, side_from}
-use Rattle.hb_frag.specs.declared.leaves.Leaf.{Leaf}
 use Rattle.hb_frag.specs.declared.leaves.Leaf.TheVariants.{Records, Child, Sibling}
 use Rattle.hb_frag.specs.declared.pages.LivePage.{LivePage}
 use Rattle.hb_frag.specs.declared.paths.Side.{Side}
-use Rattle.hb_frag.specs.declared.paths.Side.TheVariants.{Left, Right}
 use Rattle.hb_frag.specs.Carving.{carved}
 use Rattle.hb_frag.specs.Leaves.{leaves, leaves_of, weight_of}
-use Rattle.hb_frag.specs.Normal.{normal, one_leaf_or_cut}
+use Rattle.hb_frag.specs.Normal.{normal}
 use Rattle.hb_frag.specs.NormalLaws.{SaysTheSame}
 use Rattle.hb_frag.specs.Paths.{with_part}
-use Rattle.hb_frag.specs.Rules.{BelongsAt, IsInOrder, IsNormal, IsSiblingTip}
+use Rattle.hb_frag.specs.Rules.{BelongsAt, IsInOrder, IsNormal}
 use Rattle.hb_frag.specs.Trees.{Tree, Tip, Cut}
 use Rattle.hb_layout.specs.declared.meta.Meta.{Meta}
 use Rattle.hb_ops.specs.Posting.{FitsPost, post_page}
@@ -22,23 +20,12 @@ use Rattle.hb_lemmas.proofs.Lists.{All-parts}
 use Rattle.hb_ops.proofs.Facts.PathLaws.{with_own, well_cut_again}
 use Rattle.hb_ops.proofs.PostTests.{leaf_attributes, page_named, the_tree}
 use Rattle.hb_ops.proofs.Facts.PlacedLaws.{placed}
+use Rattle.hb_ops.proofs.Facts.JoinedParts.{normal_own, with_leaves}
 
 -- what the laws of joined leaves say
 pub record JoinLaws : Type 0 where
   pub no_alike : (t : Tree) → IsNormal (normal t)
   pub same : (t : Tree) → SaysTheSame t (normal t)
-
--- what holds of the leaves of a tree and of another one holds where the one stands in the other
-pub with_leaves : (P : Leaf → Type 0) (path : List Side) (t other : Tree) → All P (leaves t) → All P (leaves other) → All P (leaves (with_part path t other))
-with_leaves P [] t other old new = new
-with_leaves P (Left ∷ path) (Tip leaf) other old new = old
-with_leaves P (Right ∷ path) (Tip leaf) other old new = old
-with_leaves P (Left ∷ path) (Cut axis value left right) other old new =
-    let both = (All-parts P (leaves left) (leaves right)).0 old in
-    All-append P (leaves (with_part path left other)) (leaves right) (with_leaves P path left other both.0 new) both.1
-with_leaves P (Right ∷ path) (Cut axis value left right) other old new =
-    let both = (All-parts P (leaves left) (leaves right)).0 old in
-    All-append P (leaves left) (leaves (with_part path right other)) both.0 (with_leaves P path right other both.1 new)
 
 -- above level 0 there are no records to be in order
 pub order_above : (level : ℕ) (t : Tree) (area : Area) → 0 < level → All (BelongsAt level) (leaves t) → All IsInOrder (leaves_of t area)
@@ -50,23 +37,6 @@ order_above level (Cut axis value left right) area above kinds =
     let below = side_below area axis value in
     let from = side_from area axis value in
     All-append IsInOrder (leaves_of left below) (leaves_of right from) (order_above level left below above both.0) (order_above level right from above both.1)
-
--- joining makes no lone sibling leaf
-joined_own : (axis value : ℕ) (left right : Tree) → IsSiblingTip (one_leaf_or_cut axis value left right) → ⊥
-joined_own axis value (Tip (Records records)) (Tip (Records others)) lone = lone
-joined_own axis value (Tip (Records records)) (Tip (Child page)) lone = lone
-joined_own axis value (Tip (Records records)) (Tip (Sibling page)) lone = lone
-joined_own axis value (Tip (Records records)) (Cut a v l r) lone = lone
-joined_own axis value (Tip (Child page)) (Tip (Records others)) lone = lone
-joined_own axis value (Tip (Child page)) (Tip (Child other)) lone = elim (page == other) as (λ b. IsSiblingTip (cond b (Tip (Child page)) (Cut axis value (Tip (Child page)) (Tip (Child other)))) → ⊥) [ true ↦ λ l. l | false ↦ λ l. l ] lone
-joined_own axis value (Tip (Child page)) (Tip (Sibling other)) lone = lone
-joined_own axis value (Tip (Child page)) (Cut a v l r) lone = lone
-joined_own axis value (Tip (Sibling page)) right lone = lone
-joined_own axis value (Cut a v l r) right lone = lone
-
-pub normal_own : (t : Tree) → IsSiblingTip (normal t) → IsSiblingTip t
-normal_own (Tip leaf) lone = lone
-normal_own (Cut axis value left right) lone = absurd (joined_own axis value (normal left) (normal right) lone)
 
 pub post_made : JoinLaws → (meta : Meta) (page : LivePage) (at : List Side) (inner : ℕ) (area : Area) → length area.lo ≡ meta.k → FitsPost meta page at inner area → FitsFile meta (post_page at inner area page)
 post_made laws meta page at inner area attributes fits =

@@ -1,5 +1,5 @@
 -- A page whose leaf at a point has its records changed: what stays, and when it is well made again.
-use Rattle.std.proofs.Common.{◌≡◌, ℕ, zero, suc, ◌<◌, ◌≤◌, Bool, true, false, cond, List, [], ◌∷◌, ◌++◌, length, get_or, filter, All, AllPairs, Contains, Some, refl, sym, ap, subst, ◌∙◌, arith, inl, inr, eq-eqb}
+use Rattle.std.proofs.Common.{◌≡◌, ℕ, ◌<◌, ◌≤◌, Bool, true, false, cond, List, [], ◌∷◌, ◌++◌, length, get_or, filter, All, AllPairs, Contains, Some, refl, sym, ap, subst, ◌∙◌, arith, inl, inr, eq-eqb}
 use Rattle.std.specs.Ordering.{is_gt, is_lt, is_ne, ordering_reverse}
 use Rattle.std.specs.declared.cmp.Ordering.{Ordering}
 use Rattle.std.specs.declared.cmp.Ordering.TheVariants.{Less, Equal, Greater}
@@ -10,21 +10,24 @@ use Rattle.std.proofs.lemmas.List.Kept.{AllPairs-cons, AllPairs-filter}
 use Rattle.hb_space.specs.Points.{point_cmp}
 use Rattle.hb_space.specs.Boxes.{Area, Holds, holds, side_below, side_from}
 use Rattle.hb_space.specs.declared.records.Record.{Record}
+use Rattle.hb_space.proofs.Facts.Boxes.{Holds-from_test}
 use Rattle.hb_frag.specs.declared.leaves.Leaf.{Leaf}
 use Rattle.hb_frag.specs.declared.leaves.Leaf.TheVariants.{Records, Child, Sibling}
 use Rattle.hb_frag.specs.declared.pages.LivePage.{LivePage}
 use Rattle.hb_frag.specs.Trees.{Tree, Tip, Cut}
 use Rattle.hb_frag.specs.Leaves.{IsWellCut, Placed, WellCut, leaf_at, leaves, leaves_of, siblings, weight_of, with_leaf_at}
 use Rattle.hb_frag.specs.Rules.{AreAlike, BelongsAt, IsInOrder, IsNormal, IsSiblingTip, Precedes, capacity_of}
+use Rattle.hb_frag.proofs.Facts.NamesListed.{siblings-append}
 use Rattle.hb_layout.specs.declared.meta.Meta.{Meta}
 use Rattle.hb_ops.specs.Sound.{FitsFile}
 use Rattle.hb_ops.specs.Recording.{FitsDel, FitsPut, del_page, joined, on_records, page_with, put_page, without}
-use Rattle.hb_ops.proofs.Boxes.{held}
-use Rattle.hb_lemmas.proofs.Lists.{All-parts}
+use Rattle.hb_lemmas.proofs.Lists.{All-parts, only_one}
 use Rattle.hb_ops.proofs.Facts.Opened.{weight_changed}
 use Rattle.hb_ops.proofs.Facts.Tips.{parted}
 use Rattle.hb_ops.proofs.Facts.PlacedLaws.{placed}
+use Rattle.hb_ops.proofs.Facts.CutShapeLaws.{before_cut}
 use Rattle.hb_lemmas.proofs.Orderings.{less_so}
+use Rattle.hb_lemmas.proofs.Pairs.{pairs_append}
 use Rattle.std.proofs.lemmas.List.Sums.{length-filter, count_by-le-length}
 
 module _ (p : List ℕ) (change : List Record → List Record) where
@@ -38,14 +41,6 @@ module _ (p : List ℕ) (change : List Record → List Record) where
   cut_again (Cut axis value left right) area h = (h.0, cut_again left (side_below area axis value) h.1, cut_again right (side_from area axis value) h.2)
 
   -- its sibling leaves are those of before
-  siblings-append : (xs ys : List Placed) → siblings (xs ++ ys) ≡ siblings xs ++ siblings ys
-  siblings-append [] ys = refl
-  siblings-append (x ∷ xs) ys = elim x.leaf as (λ l. siblings (record { leaf = l; area = x.area } ∷ (xs ++ ys)) ≡ siblings (record { leaf = l; area = x.area } ∷ xs) ++ siblings ys) [
-    | Records records ↦ siblings-append xs ys
-    | Child page ↦ siblings-append xs ys
-    | Sibling page ↦ ap (λ (rest : List (ℕ × Area)). (page, x.area) ∷ rest) (siblings-append xs ys)
-  ]
-
   sibling_again : (b : Bool) (leaf : Leaf) (area : Area) → siblings (record { leaf = cond b (on_records change leaf) leaf; area = area } ∷ []) ≡ siblings (record { leaf = leaf; area = area } ∷ [])
   sibling_again false leaf area = refl
   sibling_again true (Records records) area = refl
@@ -63,14 +58,10 @@ module _ (p : List ℕ) (change : List Record → List Record) where
       ∙ sym (siblings-append (leaves_of left below) (leaves_of right from))
 
   -- and each of its child leaves is one of before
-  alone : (x y : Placed) → Contains (x ∷ []) y → x ≡ y
-  alone x y (zero, lt, e) = e
-  alone x y (suc k, lt, e) = absurd (omega arith)
-
   child_again : (b : Bool) (leaf : Leaf) (area : Area) (name : ℕ) (a : Area) → Contains (placed (cond b (on_records change leaf) leaf) area ∷ []) (placed (Child name) a) → Contains (placed leaf area ∷ []) (placed (Child name) a)
   child_again false leaf area name a h = h
   child_again true (Records records) area name a h =
-      let kinds : Records (change records) ≡ Child name = ap (λ (x : Placed). x.leaf) (alone (placed (Records (change records)) area) (placed (Child name) a) h) in
+      let kinds : Records (change records) ≡ Child name = ap (λ (x : Placed). x.leaf) (only_one (placed (Records (change records)) area) (placed (Child name) a) h) in
       absurd (let no : ⊥ = cc in no)
   child_again true (Child page) area name a h = h
   child_again true (Sibling page) area name a h = h
@@ -115,12 +106,8 @@ module _ (p : List ℕ) (change : List Record → List Record) where
 
   alike_again : (left right : Tree) (a b : Area) → AreAlike (remade left a) (remade right b) → AreAlike left right
   alike_again (Tip l) (Tip r) a b h = alike_left (holds a p) l r (alike_right (holds b p) (cond (holds a p) (on_records change l) l) r h)
-  alike_again (Tip l) (Cut axis value left right) a b h = absurd (no_cut (cond (holds a p) (on_records change l) l) h)
-    where
-      no_cut : (l : Leaf) → AreAlike (Tip l) (Cut axis value (remade left (side_below b axis value)) (remade right (side_from b axis value))) → ⊥
-      no_cut (Records records) h = h
-      no_cut (Child page) h = h
-      no_cut (Sibling page) h = h
+  alike_again (Tip l) (Cut axis value left right) a b h =
+      absurd (before_cut axis value (remade left (side_below b axis value)) (remade right (side_from b axis value)) (Tip (cond (holds a p) (on_records change l) l)) h)
   alike_again (Cut axis value left right) other a b h = absurd h
 
   pub normal_again : (tree : Tree) (area : Area) → IsNormal tree → IsNormal (remade tree area)
@@ -137,7 +124,7 @@ module _ (p : List ℕ) (change : List Record → List Record) where
       let here : IsInOrder (record { leaf = leaf; area = area }) = All-head IsInOrder (record { leaf = leaf; area = area }) [] h in
       All-cons IsInOrder (record { leaf = cond (holds area p) (on_records change leaf) leaf; area = area }) []
       (elim (holds area p) as (λ b. holds area p ≡ b → IsInOrder (record { leaf = cond b (on_records change leaf) leaf; area = area })) [
-        | true ↦ λ t. of_leaf leaf area (held area p t) here
+        | true ↦ λ t. of_leaf leaf area (Holds-from_test area p t) here
         | false ↦ λ f. here
       ] refl)
       (λ k d lt. absurd (omega arith))
@@ -176,20 +163,6 @@ made_again meta page p records area change made e light keeps = record {
   normal = normal_again p change page.frag page.area made.normal;
 }
 
--- lists of rising records, one behind the other
-rise_first : (x : Record) (xs : List Record) → AllPairs Precedes (x ∷ xs) → All (Precedes x) xs
-rise_first x xs h k d lt = h zero (suc k) d (omega arith) (omega arith)
-
-rise_later : (x : Record) (xs : List Record) → AllPairs Precedes (x ∷ xs) → AllPairs Precedes xs
-rise_later x xs h i j d lt in_range = h (suc i) (suc j) d (omega arith) (omega arith)
-
-rise_append : (xs ys : List Record) → AllPairs Precedes xs → AllPairs Precedes ys → All (λ (x : Record). All (Precedes x) ys) xs → AllPairs Precedes (xs ++ ys)
-rise_append [] ys h k across = k
-rise_append (x ∷ xs) ys h k across =
-    AllPairs-cons Precedes x (xs ++ ys)
-    (All-append (Precedes x) xs ys (rise_first x xs h) (All-head (λ (x : Record). All (Precedes x) ys) x xs across))
-    (rise_append xs ys (rise_later x xs h) k (All-tail (λ (x : Record). All (Precedes x) ys) x xs across))
-
 greater_so : (o : Ordering) → is_gt o ≡ true → o ≡ Greater
 greater_so Less h = absurd (false≢true h)
 greater_so Equal h = absurd (false≢true h)
@@ -203,7 +176,7 @@ joined_rise rec records rise =
     let greater = filter is_greater records in
     let below : (k : ℕ) (d : Record) → k < length lesser → Precedes (get_or lesser k d) rec = λ k d lt. less_so _ (filter_passes is_lesser records k d lt) in
     let above : All (Precedes rec) greater = λ k d lt. nat_list_cmp_total.antisymm rec.key (get_or greater k d).key ∙ ap ordering_reverse (greater_so _ (filter_passes is_greater records k d lt)) in
-    rise_append lesser (rec ∷ greater) (AllPairs-filter Precedes is_lesser records rise)
+    pairs_append Precedes lesser (rec ∷ greater) (AllPairs-filter Precedes is_lesser records rise)
     (AllPairs-cons Precedes rec greater above (AllPairs-filter Precedes is_greater records rise))
     (λ k d lt. All-cons (Precedes (get_or lesser k d)) rec greater (below k d lt) (λ j e in_range. nat_list_cmp_total.trans (get_or lesser k d).key rec.key (get_or greater j e).key (below k d lt) (above j e in_range)))
 

@@ -42,10 +42,6 @@ pub record Change : Type 0 where
   pub meta : Meta
   pub pages : List (ℕ × Page)
 
--- nothing changes
-abbrev pub no_change : Meta → Change
-no_change meta = record { meta = meta; pages = [] }
-
 abbrev pub change_of : Op → Meta → Option LivePage → Option LivePage → Option LivePage → Change
 change_of (Put id rec) meta (Some page) second third = record { meta = meta; pages = (id, Live (put_page rec page)) ∷ [] }
 change_of (Del id point) meta (Some page) second third = record { meta = meta; pages = (id, Live (del_page point page)) ∷ [] }
@@ -62,7 +58,7 @@ change_of (Grow fresh free_after) meta first second third = record {
   meta = raised (allocated meta fresh free_after) fresh;
   pages = (fresh, Live (new_root meta)) ∷ [];
 }
-change_of op meta first second third = no_change meta
+change_of op meta first second third = record { meta = meta; pages = [] }
 
 -- the live page that an operation reads at a place of its list
 abbrev pub nth_read : FileState → Op → ℕ → Option LivePage

@@ -46,15 +46,22 @@ pub record IsCounted (s : FileState) : Type 0 where
 abbrev pub AreWellMade : FileState → Type 0
 AreWellMade s = (id : ℕ) (page : LivePage) → live_page s id ≡ Some page → FitsFile s.meta page
 
+-- a page in use of this level, with this box
+abbrev pub HasSame : FileState → ℕ → ℕ → Area → Type 0
+HasSame s level name area = (named : LivePage) × (live_page s name ≡ Some named) × (named.level ≡ level) × (named.area ≡ area)
+
 -- S7: a sibling leaf names a page in use of the same level, with exactly the leaf's box
 abbrev pub SiblingsMatch : FileState → Type 0
-SiblingsMatch s = (id : ℕ) (page : LivePage) (name : ℕ) (area : Area) → live_page s id ≡ Some page → Contains (siblings_of page) (name, area) →
-    (named : LivePage) × (live_page s name ≡ Some named) × (named.level ≡ page.level) × (named.area ≡ area)
+SiblingsMatch s = (id : ℕ) (page : LivePage) (name : ℕ) (area : Area) → live_page s id ≡ Some page → Contains (siblings_of page) (name, area) → HasSame s page.level name area
+
+-- a page in use one level down from this one, whose box has this one within it
+abbrev pub HasBelow : FileState → ℕ → ℕ → Area → Type 0
+HasBelow s level name area = (named : LivePage) × (live_page s name ≡ Some named) × (named.level + 1 ≡ level) × Within area named.area
 
 -- S8: a child leaf names a page in use one level down, whose box has the leaf's box within it
 abbrev pub ChildrenMatch : FileState → Type 0
 ChildrenMatch s = (id : ℕ) (page : LivePage) (name : ℕ) (area : Area) → live_page s id ≡ Some page → Contains (leaves_of page.frag page.area) (record { leaf = Child name; area = area }) →
-    (named : LivePage) × (live_page s name ≡ Some named) × (named.level + 1 ≡ page.level) × Within area named.area
+    HasBelow s page.level name area
 
 -- how often sibling leaves of a list of pages name a page
 abbrev pub count_name : ℕ → List (ℕ × Area) → ℕ

@@ -22,18 +22,6 @@ Wrote-then old at front mid place back new end a b = record {
 pub Wrote-nothing : (old : List ℕ) (at : ℕ) → Wrote old at [] old at
 Wrote-nothing old at = record { behind = omega arith; front = sym (append-nil (take at old)) }
 
--- there is room for the next one of a list
-pub room_for : {A : Type 0} (f : A → List ℕ) (xs : List A) (i : ℕ) (d : A) → i < length xs → length (flat_map f (take i xs)) + length (f (get_or xs i d)) ≤ length (flat_map f xs)
-room_for f [] i d lt = absurd (omega arith)
-room_for f (x ∷ xs) zero d lt =
-    let all : length (flat_map f (x ∷ xs)) ≡ length (f x) + length (flat_map f xs) = ap length (flat_map-cons f x xs) ∙ length-append (f x) (flat_map f xs) in
-    omega (arith, all)
-room_for f (x ∷ xs) (suc i) d lt =
-    let all : length (flat_map f (x ∷ xs)) ≡ length (f x) + length (flat_map f xs) = ap length (flat_map-cons f x xs) ∙ length-append (f x) (flat_map f xs) in
-    let some : length (flat_map f (x ∷ take i xs)) ≡ length (f x) + length (flat_map f (take i xs)) = ap length (flat_map-cons f x (take i xs)) ∙ length-append (f x) (flat_map f (take i xs)) in
-    let more = room_for f xs i d (omega arith) in
-    omega (arith, all, some, more)
-
 flat_map_step : {A : Type 0} (f : A → List ℕ) (xs : List A) (i : ℕ) (d : A) → i < length xs → flat_map f (take (suc i) xs) ≡ flat_map f (take i xs) ++ f (get_or xs i d)
 flat_map_step f [] i d lt = absurd (omega arith)
 flat_map_step f (x ∷ xs) zero d lt = flat_map-cons f x [] ∙ append-nil (f x)

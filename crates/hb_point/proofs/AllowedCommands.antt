@@ -8,8 +8,7 @@ use Rattle.hb_set.specs.declared.commands.Command.TheVariants.{Insert, Delete, L
 use Rattle.hb_set.specs.declared.scripts.Line.{Line}
 use Rattle.hb_activity.proofs.Facts.AllowedDeeds.{Shows, allocates, none_shown, one_shown}
 use Rattle.hb_activity.specs.Deeds.{Deed}
-use Rattle.hb_activity.specs.OneDeed.{IsAllowedAlone, NumbersAreGiven}
-use Rattle.hb_activity.specs.Passing.{PartLeavesTo}
+use Rattle.hb_activity.specs.OneDeed.{IsAllowedAlone}
 use Rattle.hb_activity.specs.Sights.{Sight}
 use Rattle.hb_frag.specs.Leaves.{weight_of}
 use Rattle.hb_ops.specs.Recording.{put_page}
@@ -18,9 +17,8 @@ use Rattle.hb_ops.specs.Standing.{StandsNot, StandsThere}
 use Rattle.hb_point.proofs.Facts.RecordLeaves.{put_weighs}
 use Rattle.hb_point.proofs.Facts.RecordOps.{del_fits, put_fits}
 use Rattle.hb_point.specs.SessionRows.{DoesThere}
-use Rattle.hb_point.specs.Laws.{CommandsAreAllowed, FullPagesAreHeavy, PutsAreAllowed, SplitsAreAllowed}
+use Rattle.hb_point.specs.Laws.{CommandsAreAllowed, FullPagesAreHeavy, SplitsAreAllowed, PutsAreAllowed}
 use Rattle.hb_split.proofs.Facts.Allowed.{chosen_fits}
-use Rattle.hb_split.specs.Choosing.{IsChosen}
 
 pub full_pages_are_heavy : FullPagesAreHeavy
 full_pages_are_heavy s line rec id page deed made least row = let weighs = put_weighs page rec row.absent.records row.absent.area made.well_cut row.absent.leaf in omega (arith, weighs, row.full, least)
@@ -33,13 +31,6 @@ module _ (s : Sight) (id : ℕ) (page : LivePage) (made : FitsFile s.meta page) 
 
   del_allowed : (p : List ℕ) (r : Record) → StandsThere page p r → IsAllowedAlone s id page (ops.Del id p)
   del_allowed p r there = record { reads = refl; allowed = del_fits s.meta page p r made there }
-
-  -- a part that is chosen may leave a page that weighs 6 or more
-  pub split_allowed : (leaves : PartLeavesTo s (IsChosen page) page) → NumbersAreGiven s → 6 ≤ weight_of page.frag → IsAllowedAlone s id page (ops.Extract id leaves.fresh leaves.path leaves.cuts leaves.free_after)
-  split_allowed leaves given full = record {
-    reads = refl;
-    allowed = chosen_fits s.meta page leaves.path leaves.cuts leaves.fresh leaves.free_after made leaves.chosen full (allocates s leaves.fresh leaves.free_after given leaves.free leaves.next);
-  }
 
   shown_there : (line : Line) (command : Command) (deed : Deed) → DoesThere s line command id page deed → Shows (IsAllowedAlone s id page) deed
   shown_there line (Insert rec) deed (inl row) = none_shown (IsAllowedAlone s id page) deed _ row.deed_is refl
@@ -57,7 +48,11 @@ pub commands_are_allowed : CommandsAreAllowed
 commands_are_allowed s line command id page deed op made row is = shown_there s id page made line command deed row op is
 
 pub splits_are_allowed : SplitsAreAllowed
-splits_are_allowed s line held deed op row given made full is = one_shown (IsAllowedAlone s held row.page) deed _ _ row.deed_is refl (split_allowed s held row.page made row.leaves given full) op is
+splits_are_allowed s line held deed op row given made full is =
+    let leaves = row.leaves in
+    let one = allocates s leaves.fresh leaves.free_after given leaves.free leaves.next in
+    one_shown (IsAllowedAlone s held row.page) deed _ (ops.Extract held leaves.fresh leaves.path leaves.cuts leaves.free_after) row.deed_is refl
+    (record { reads = refl; allowed = chosen_fits s.meta row.page leaves.path leaves.cuts leaves.fresh leaves.free_after made leaves.chosen full one }) op is
 
 pub puts_are_allowed : PutsAreAllowed
 puts_are_allowed s line source fresh deed op row made absent room is = one_shown (IsAllowedAlone s row.half row.page) deed _ _ row.deed_is refl (put_allowed s row.half row.page made row.rec absent room) op is

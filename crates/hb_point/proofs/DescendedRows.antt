@@ -1,7 +1,7 @@
 -- The rows of a walk that reads its page from the bytes.
 use Rattle.std.proofs.Common.{◌≡◌, ◌⊎◌, inl, inr, ℕ, ◌*◌, ◌<◌, ◌≤◌, Bool, true, false, cond, nat_le, List, [], ◌∷◌, Option, Some, None, IsTrue, refl, sym, ap, subst, ◌∙◌, arith}
 use Rattle.std.specs.Option.{MatchOption}
-use Rattle.std.proofs.lemmas.Bool.{cases_lt}
+use Rattle.std.proofs.lemmas.Bool.{cases_lt, false≢true}
 use Rattle.hb_activity.specs.declared.activities.Activity.{Activity}
 use Rattle.hb_activity.specs.declared.activities.Activity.TheVariants as at
 use Rattle.hb_activity.specs.declared.deciding.Fate.{Fate}
@@ -70,17 +70,14 @@ module _ (v : Page) (meta : Meta) (number session id : ℕ) (next : Next) where
       line : Line
       line = line_with number session (Insert rec)
 
-      never : false ≡ true → ⊥
-      never is = cc
-
       by : (page : LivePage) → HasLeafOfRecords meta page rec.key → StandsNot page rec.key → (IsTrue room → weight_of (put_page rec page).frag ≤ meta.dcap) × (weight_of (put_page rec page).frag ≤ meta.dcap → IsTrue room) → (b : Bool) → room ≡ b → DoesBy meta line id page next
       by page has absent test true is pages free =
           subst (DoesThere (given_sight meta pages free) line (Insert rec) id page) (sym (effect_so line next replies.Done (Some (Put id rec)) [] (puts is))) (only_inserts (given_sight meta pages free) line id page rec absent (test.0 is)).done
       by page has absent test false is pages free = elim (cases_lt meta.dcap (weight_of (put_page rec page).frag)) [
         | inl full ↦
-            subst (DoesThere (given_sight meta pages free) line (Insert rec) id page) (sym (deed_so line next (at.SessionSplit line id) None [] fates.GoesOn (splits (λ t. never (sym is ∙ t)))))
+            subst (DoesThere (given_sight meta pages free) line (Insert rec) id page) (sym (deed_so line next (at.SessionSplit line id) None [] fates.GoesOn (splits (λ t. false≢true (sym is ∙ t)))))
             (only_splits (given_sight meta pages free) line id page rec (records_below meta page rec.key has.records.records has.records.area has.made has.records.leaf) absent full).done
-        | inr le ↦ absurd (never (sym is ∙ test.1 le))
+        | inr le ↦ absurd (false≢true (sym is ∙ test.1 le))
       ]
 
   pub takes_record : (p : List ℕ) (thin : Bool) → IsLiveAnd v (λ page. (found : Record) × StandsThere page p found) → IsLiveAnd v (λ page. thin ≡ nat_le (4 * weight_of (del_page p page).frag) meta.dcap) →

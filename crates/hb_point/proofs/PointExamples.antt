@@ -2,7 +2,6 @@
 use Rattle.std.proofs.Common.{◌≡◌, ℕ, zero, suc, ◌<◌, List, [], ◌∷◌, Some, refl, sym, ap, ◌∙◌, subst, arith}
 use Rattle.std.specs.List.{slice_get}
 use Rattle.hb_space.specs.declared.records.Record.{Record}
-use Rattle.hb_frag.specs.declared.leaves.Leaf.TheVariants.{Records}
 use Rattle.hb_frag.specs.declared.pages.LivePage.{LivePage}
 use Rattle.hb_set.specs.declared.scripts.Line.{Line}
 use Rattle.hb_ops.specs.declared.operations.Op.TheVariants.{Del}
@@ -12,11 +11,11 @@ use Rattle.hb_activity.specs.declared.jobs.Job.{Job}
 use Rattle.hb_activity.specs.Deeds.{takes_effect}
 use Rattle.hb_activity.specs.OneDeed.{IsOnly}
 use Rattle.hb_point.specs.SessionRows.{DoesThere, merges_due}
-use Rattle.hb_activity.proofs.Facts.OneLeaf.{records_of_leaf, same_leaf}
 use Rattle.hb_activity.specs.Sights.{Sight}
-use Rattle.hb_frag.specs.Leaves.{Placed, weight_of}
+use Rattle.hb_frag.specs.Leaves.{weight_of}
 use Rattle.hb_ops.specs.Recording.{put_page}
 use Rattle.hb_ops.specs.Standing.{StandsNot, StandsThere}
+use Rattle.hb_ops.proofs.Facts.Opened.{same_records}
 use Rattle.hb_point.proofs.Facts.OneCommand.{only_deletes, only_found, only_inserts, only_misses, only_nothing, only_splits, only_twin}
 use Rattle.hb_point.specs.Examples.{DeletesByHand, InsertsByHand, LookupsByHand, five_records, rec_at, six_records, thin_page, two_records}
 use Rattle.std.proofs.lemmas.List.Elements.{All-from_recursion}
@@ -66,8 +65,7 @@ second_of_two (suc (suc place)) other is key = absurd (let no : ⊥ = cc in no)
 
 one_twenty : (other : Record) → StandsThere two_records (20 ∷ 5 ∷ []) other → other ≡ rec_at (20 ∷ 5 ∷ []) 2
 one_twenty other there =
-    let same = same_leaf two_records (20 ∷ 5 ∷ []) (record { leaf = Records there.records; area = there.area }) (record { leaf = Records of_two; area = _ }) there.leaf refl in
-    let records = records_of_leaf there.records of_two (ap (λ (x : Placed). x.leaf) same) in
+    let records = same_records two_records (20 ∷ 5 ∷ []) there.records of_two there.area _ there.leaf refl in
     second_of_two there.place other (ap (λ (l : List Record). slice_get l there.place) (sym records) ∙ there.among) there.key
 
 pub inserts_by_hand : (s : Sight) (line : Line) → InsertsByHand s line

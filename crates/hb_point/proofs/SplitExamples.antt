@@ -24,6 +24,7 @@ use Rattle.hb_point.proofs.Facts.ChosenCuts.{one_choice}
 use Rattle.hb_point.proofs.PointExamples.{of_six}
 use Rattle.hb_point.specs.Examples.{PutsByHand, SplitsByHand, at_forty, given_half, kept_half, rec_at, six_records}
 use Rattle.hb_point.specs.SplitRows.{PutsInHalf, SplitsOrFull}
+use Rattle.hb_point.proofs.Facts.RecordOps.{insert_of}
 use Rattle.hb_space.proofs.Facts.Intervals.{below_all, held, interval, top}
 use Rattle.hb_space.specs.Boxes.{Area, Holds}
 use Rattle.hb_split.specs.Choosing.{AreChosen, IsBest, IsChosen, MayCut, NotBehind, heavier_count}
@@ -139,9 +140,6 @@ below_not_given h = below_all 40 39 top (omega arith) h.inside
 from_not_kept : DirectlyHolds kept_half (40 ∷ []) → ⊥
 from_not_kept h = All-head (NotGiven 40) (9, interval 40 top) [] h.not_given (held 40 40 top (omega arith) (omega arith))
 
-same_rec : (a b : Record) → Insert a ≡ Insert b → a ≡ b
-same_rec a b is = cc
-
 module _ (s : Sight) (line : Line) (kept : s.page_at 5 ≡ Some kept_half) (given : s.page_at 9 ≡ Some given_half) where
   abbrev put_deed : ℕ → Record → Deed
   put_deed half rec = takes_effect s.place line replies.Done (Some (Put half rec)) []
@@ -153,10 +151,10 @@ module _ (s : Sight) (line : Line) (kept : s.page_at 5 ≡ Some kept_half) (give
   }
     where
       by : (other : Deed) (row : PutsInHalf s line 5 9 other) → (row.half ≡ 5) ⊎ (row.half ≡ 9) → other ≡ put_deed 5 (rec_at (39 ∷ []) 2)
-      by other row (inl five) = row.deed_is ∙ ap (λ (n : ℕ). put_deed n row.rec) five ∙ ap (put_deed 5) (same_rec row.rec (rec_at (39 ∷ []) 2) (sym row.command ∙ command))
+      by other row (inl five) = row.deed_is ∙ ap (λ (n : ℕ). put_deed n row.rec) five ∙ ap (put_deed 5) (insert_of row.rec (rec_at (39 ∷ []) 2) (sym row.command ∙ command))
       by other row (inr nine) =
           let page : row.page ≡ given_half = same_Some row.page given_half (sym row.live ∙ ap s.page_at nine ∙ given) in
-          let rec = same_rec row.rec (rec_at (39 ∷ []) 2) (sym row.command ∙ command) in
+          let rec = insert_of row.rec (rec_at (39 ∷ []) 2) (sym row.command ∙ command) in
           absurd (below_not_given (subst (λ (r : Record). DirectlyHolds given_half r.key) rec (subst (λ (q : LivePage). DirectlyHolds q row.rec.key) page row.holds)))
 
   puts_from : line.command ≡ Insert (rec_at (40 ∷ []) 2) → IsOnly (PutsInHalf s line 5 9) (put_deed 9 (rec_at (40 ∷ []) 2))
@@ -168,9 +166,9 @@ module _ (s : Sight) (line : Line) (kept : s.page_at 5 ≡ Some kept_half) (give
       by : (other : Deed) (row : PutsInHalf s line 5 9 other) → (row.half ≡ 5) ⊎ (row.half ≡ 9) → other ≡ put_deed 9 (rec_at (40 ∷ []) 2)
       by other row (inl five) =
           let page : row.page ≡ kept_half = same_Some row.page kept_half (sym row.live ∙ ap s.page_at five ∙ kept) in
-          let rec = same_rec row.rec (rec_at (40 ∷ []) 2) (sym row.command ∙ command) in
+          let rec = insert_of row.rec (rec_at (40 ∷ []) 2) (sym row.command ∙ command) in
           absurd (from_not_kept (subst (λ (r : Record). DirectlyHolds kept_half r.key) rec (subst (λ (q : LivePage). DirectlyHolds q row.rec.key) page row.holds)))
-      by other row (inr nine) = row.deed_is ∙ ap (λ (n : ℕ). put_deed n row.rec) nine ∙ ap (put_deed 9) (same_rec row.rec (rec_at (40 ∷ []) 2) (sym row.command ∙ command))
+      by other row (inr nine) = row.deed_is ∙ ap (λ (n : ℕ). put_deed n row.rec) nine ∙ ap (put_deed 9) (insert_of row.rec (rec_at (40 ∷ []) 2) (sym row.command ∙ command))
 
 pub splits_by_hand : (s : Sight) (line : Line) → SplitsByHand s line
 splits_by_hand s line = record { free = free_split s line; none_free = no_split s line }

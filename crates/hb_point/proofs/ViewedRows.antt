@@ -6,17 +6,16 @@ use Rattle.std.specs.declared.cmp.Ordering.{Ordering}
 use Rattle.std.specs.declared.cmp.Ordering.TheVariants.{Less, Equal, Greater}
 use Rattle.std.proofs.lemmas.Bool.{le-leb, leb-true, lt-ltb, ltb-true}
 use Rattle.std.proofs.lemmas.List.Elements.{All-cons, All-head, All-nil, All-tail}
-use Rattle.std.proofs.lemmas.Option.{same_Some}
-use Rattle.hb_frag.specs.declared.leaves.Leaf.TheVariants.{Records}
+use Rattle.std.proofs.lemmas.Option.{same_Some, none-some}
 use Rattle.hb_frag.specs.declared.pages.LivePage.{LivePage}
 use Rattle.hb_frag.specs.declared.pages.Page.{Page}
 use Rattle.hb_frag.specs.declared.pages.Page.TheVariants.{Live, Free}
-use Rattle.hb_frag.specs.Leaves.{Placed, WellCut, leaf_at, records_of, weight_of}
+use Rattle.hb_frag.specs.Leaves.{WellCut, leaf_at, weight_of}
 use Rattle.hb_layout.specs.declared.meta.Meta.{Meta}
-use Rattle.hb_ops.proofs.Facts.Opened.{weight_changed}
+use Rattle.hb_ops.proofs.Facts.Opened.{weight_changed, placed_records}
 use Rattle.hb_ops.specs.Recording.{del_page, joined, put_page}
 use Rattle.hb_ops.specs.Standing.{StandsNot, StandsThere}
-use Rattle.hb_space.specs.Boxes.{Area, Holds}
+use Rattle.hb_space.specs.Boxes.{Holds}
 use Rattle.hb_space.specs.Points.{point_cmp}
 use Rattle.hb_space.specs.declared.records.Record.{Record}
 use Rattle.hb_space.proofs.Facts.PointOrder.{exact_points}
@@ -41,31 +40,22 @@ so_both (Free next) P Q R f h k = absurd h
 
 among_none : (p : List ℕ) (records : List Record) → FindsAmong p records None → All (λ r. r.key ≢ p) records
 among_none p [] h = All-nil (λ (r : Record). r.key ≢ p)
-among_none p (r ∷ rest) (inl here) = absurd (never here.1)
-  where
-    never : None ≡ Some r.body → ⊥
-    never is = cc
+among_none p (r ∷ rest) (inl here) = absurd (none-some r.body here.1)
 among_none p (r ∷ rest) (inr later) = All-cons (λ (r : Record). r.key ≢ p) r rest later.0 (among_none p rest later.1)
 
 among_some : (p : List ℕ) (records : List Record) (body : List ℕ) → FindsAmong p records (Some body) → (found : Record) × (place : ℕ) × (slice_get records place ≡ Some found) × (found.key ≡ p) × (found.body ≡ body)
-among_some p [] body h = absurd (never h)
-  where
-    never : Some body ≡ None → ⊥
-    never is = cc
+among_some p [] body h = absurd (none-some body (sym h))
 among_some p (r ∷ rest) body (inl here) = (r, zero, refl, here.0, sym (same_Some body r.body here.1))
 among_some p (r ∷ rest) body (inr later) = let there = among_some p rest body later.1 in (there.0, suc there.1, there.2, there.3, there.4)
 
--- the records of the leaf that was looked into
-same_leaf : (page : LivePage) (p : List ℕ) (records : List Record) (area : Area) (placed : Placed) → leaf_at page p ≡ Some (record { leaf = Records records; area = area }) → leaf_at page p ≡ Some placed → records_of placed.leaf ≡ records
-same_leaf page p records area placed is there = ap (λ (l : Placed). records_of l.leaf) (same_Some placed (record { leaf = Records records; area = area }) (sym there ∙ is))
-
+-- so what was read in the leaf that was looked into
 stands : (meta : Meta) (p : List ℕ) (body : Option (List ℕ)) (page : LivePage) → HasLeafOfRecords meta page p → TellsBody p (leaf_at page p) body → StandsIn page p body
 stands meta p None page has tells =
     let records = has.records in
-    record { records = records.records; area = records.area; leaf = records.leaf; lack = among_none p records.records (subst (λ (rs : List Record). FindsAmong p rs None) (same_leaf page p records.records records.area tells.placed records.leaf tells.found) tells.among) }
+    record { records = records.records; area = records.area; leaf = records.leaf; lack = among_none p records.records (subst (λ (rs : List Record). FindsAmong p rs None) (ap placed_records (sym tells.found ∙ records.leaf)) tells.among) }
 stands meta p (Some body) page has tells =
     let records = has.records in
-    let there = among_some p records.records body (subst (λ (rs : List Record). FindsAmong p rs (Some body)) (same_leaf page p records.records records.area tells.placed records.leaf tells.found) tells.among) in
+    let there = among_some p records.records body (subst (λ (rs : List Record). FindsAmong p rs (Some body)) (ap placed_records (sym tells.found ∙ records.leaf)) tells.among) in
     (there.0, record { records = records.records; area = records.area; leaf = records.leaf; place = there.1; among = there.2; key = there.3 }, there.4)
 
 pub stands_in : (v : Page) (meta : Meta) (p : List ℕ) (body : Option (List ℕ)) → HasRecordsIn meta v p → IsLiveAnd v (λ page. TellsBody p (leaf_at page p) body) → IsLiveAnd v (λ page. StandsIn page p body)
@@ -130,7 +120,7 @@ absent_for : (page : LivePage) (p : List ℕ) (rec : Record) → rec.key ≡ p �
 absent_for page p rec same = subst (λ (q : List ℕ). StandsNot page q) (sym same)
 
 count_is : (page : LivePage) (p : List ℕ) (absent : StandsNot page p) (count : ℕ) → CountsLeaf (leaf_at page p) count → count ≡ length absent.records
-count_is page p absent count counts = counts.counted ∙ ap (λ (rs : List Record). length rs) (same_leaf page p absent.records absent.area counts.placed absent.leaf counts.found)
+count_is page p absent count counts = counts.counted ∙ ap (λ (rs : List Record). length rs) (ap placed_records (sym counts.found ∙ absent.leaf))
 
 room_first : (meta : Meta) (p : List ℕ) (page : LivePage) (count weight : ℕ) (room : Bool) → count ≡ 0 → (IsTrue room → weight ≤ meta.dcap) × (weight ≤ meta.dcap → IsTrue room) → WellCut page → StandsNot page p → CountsLeaf (leaf_at page p) count → weight ≡ weight_of page.frag → TellsRoom page meta p room
 room_first meta p page count weight room none test cut absent counts weighs rec same =
@@ -167,7 +157,7 @@ module _ (v : Page) (meta : Meta) (p : List ℕ) (count weight : ℕ) (thin : Bo
 
   by_count : ((page : LivePage) (has : HasLeafOfRecords meta page p) (found : Record) → StandsThere page p found → count ≡ length has.records.records → weight ≡ weight_of page.frag → TellsThin page) → IsLiveAnd v TellsThin
   by_count f = so_both v (λ page. HasLeafOfRecords meta page p × ((found : Record) × StandsThere page p found)) (λ page. CountsLeaf (leaf_at page p) count × (weight ≡ weight_of page.frag)) TellsThin
-      (λ page h k. f page h.0 h.1.0 h.1.1 (k.0.counted ∙ ap (λ (rs : List Record). length rs) (same_leaf page p h.0.records.records h.0.records.area k.0.placed h.0.records.leaf k.0.found)) k.1)
+      (λ page h k. f page h.0 h.1.0 h.1.1 (k.0.counted ∙ ap (λ (rs : List Record). length rs) (ap placed_records (sym k.0.found ∙ h.0.records.leaf))) k.1)
       (so_both v (λ page. HasLeafOfRecords meta page p) (λ page. (found : Record) × StandsThere page p found) (λ page. HasLeafOfRecords meta page p × ((found : Record) × StandsThere page p found)) (λ page a b. (a, b)) has there)
       (so_both v (λ page. CountsLeaf (leaf_at page p) count) (λ page. weight ≡ weight_of page.frag) (λ page. CountsLeaf (leaf_at page p) count × (weight ≡ weight_of page.frag)) (λ page a b. (a, b)) counts weighs)
 

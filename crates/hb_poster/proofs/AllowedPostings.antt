@@ -1,5 +1,5 @@
 -- The operations of the poster are allowed on the pages that its rows are given.
-use Rattle.std.proofs.Common.{◌≡◌, inl, inr, ℕ, ◌≤◌, List, [], None, refl, subst}
+use Rattle.std.proofs.Common.{◌≡◌, inl, inr, ℕ, List, [], None, refl, subst}
 use Rattle.hb_frag.specs.declared.leaves.Leaf.TheVariants.{Child}
 use Rattle.hb_frag.specs.declared.pages.LivePage.{LivePage}
 use Rattle.hb_frag.specs.declared.paths.Side.{Side}
@@ -11,15 +11,12 @@ use Rattle.hb_activity.specs.declared.jobs.Job.{Job}
 use Rattle.hb_activity.proofs.Facts.AllowedDeeds.{Shows, allocates, kind_at, none_shown, one_shown}
 use Rattle.hb_activity.specs.Deeds.{Deed}
 use Rattle.hb_activity.specs.OneDeed.{IsAllowedAlone, NumbersAreGiven}
-use Rattle.hb_activity.specs.Passing.{PartLeavesTo}
 use Rattle.hb_activity.specs.Sights.{Sight}
-use Rattle.hb_frag.specs.Leaves.{weight_of}
 use Rattle.hb_ops.specs.Operations.{IsAllowedOn, reads_of}
 use Rattle.hb_poster.specs.PosterRows.{DoesPlan}
 use Rattle.hb_poster.specs.Laws.{ArePagesAtHand, GrowthIsAllowed, IsOfChild, PostingsAreAllowed, PostingsAreOfTheChild}
 use Rattle.hb_space.specs.Boxes.{Area}
 use Rattle.hb_split.proofs.Facts.Allowed.{chosen_fits}
-use Rattle.hb_split.specs.Choosing.{IsChosen}
 use Rattle.hb_poster.proofs.Facts.ParentWeights.{heavy_parent}
 use Rattle.hb_terms.proofs.Facts.Owing.{plan_fits, planned_may_be}
 use Rattle.hb_terms.specs.Plans.{IsPlan}
@@ -30,13 +27,6 @@ growth_is_allowed s job root deed op row given is =
     (refl, record { allocates = allocates s row.fresh row.free_after given row.free row.next; height = row.may.below }) op is
 
 module _ (s : Sight) (id : ℕ) (page child : LivePage) (hand : ArePagesAtHand s page child) (p : List ℕ) where
-  -- a part that is chosen may leave a page that weighs 6 or more
-  split_allowed : (leaves : PartLeavesTo s (IsChosen page) page) → NumbersAreGiven s → 6 ≤ weight_of page.frag → IsAllowedAlone s id page (ops.Extract id leaves.fresh leaves.path leaves.cuts leaves.free_after)
-  split_allowed leaves given full = record {
-    reads = refl;
-    allowed = chosen_fits s.meta page leaves.path leaves.cuts leaves.fresh leaves.free_after hand.above leaves.chosen full (allocates s leaves.fresh leaves.free_after given leaves.free leaves.next);
-  }
-
   -- what a plan posts may be posted
   post_allowed : (path : List Side) (inner : ℕ) (area : Area) → IsPlan page child p s.meta.icap (plans.Post path inner area) → IsAllowedAlone s id page (ops.Post id path inner area)
   post_allowed path inner area plan =
@@ -53,7 +43,12 @@ module _ (s : Sight) (id : ℕ) (page child : LivePage) (hand : ArePagesAtHand s
   plan_allowed job plans.Nothing deed given plan is = none_shown (IsAllowedAlone s id page) deed _ is refl
   plan_allowed job (plans.Post path inner area) deed given plan is = one_shown (IsAllowedAlone s id page) deed _ _ is refl (post_allowed path inner area plan)
   plan_allowed job plans.SplitFirst deed given plan (inl row) = none_shown (IsAllowedAlone s id page) deed _ row.deed_is refl
-  plan_allowed job plans.SplitFirst deed given plan (inr row) = one_shown (IsAllowedAlone s id page) deed _ _ row.deed_is refl (split_allowed row.leaves given (heavy_parent s.meta page child p hand.layout hand.above plan))
+  plan_allowed job plans.SplitFirst deed given plan (inr row) =
+      let leaves = row.leaves in
+      let full = heavy_parent s.meta page child p hand.layout hand.above plan in
+      let one = allocates s leaves.fresh leaves.free_after given leaves.free leaves.next in
+      one_shown (IsAllowedAlone s id page) deed _ (ops.Extract id leaves.fresh leaves.path leaves.cuts leaves.free_after) row.deed_is refl
+      (record { reads = refl; allowed = chosen_fits s.meta page leaves.path leaves.cuts leaves.fresh leaves.free_after hand.above leaves.chosen full one })
 
   -- what an operation posts
   abbrev OfChild : Op → Type 0

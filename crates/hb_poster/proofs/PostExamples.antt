@@ -1,6 +1,7 @@
 -- The poster's rows at its parent that were worked out by hand.
-use Rattle.std.proofs.Common.{◌≡◌, ◌≢◌, inl, inr, ℕ, ◌+◌, ◌<◌, List, [], ◌∷◌, Some, refl, sym, ap, ◌∙◌, subst, arith}
+use Rattle.std.proofs.Common.{◌≡◌, inl, inr, ℕ, ◌+◌, List, [], ◌∷◌, Some, refl, sym, ap, ◌∙◌, subst, arith}
 use Rattle.std.proofs.lemmas.Option.{same_Some}
+use Rattle.std.proofs.Math.Nat.{ne_of_gt}
 use Rattle.hb_space.specs.declared.records.Record.{Record}
 use Rattle.hb_frag.specs.declared.leaves.Leaf.TheVariants.{Records, Child, Sibling}
 use Rattle.hb_frag.specs.declared.pages.LivePage.{LivePage}
@@ -38,14 +39,11 @@ to_39 = record { lo = 0 ∷ []; hi = 39 ∷ [] }
 abbrev posting : PostPlan
 posting = plans.Post [] 2 to_39
 
-another : (inner outer : ℕ) → outer < inner → inner ≢ outer
-another inner outer less is = omega (arith, less, is)
-
 plan_of_ten : (icap : ℕ) → icap ≡ 32 → IsPlan page_three page_one (10 ∷ []) icap posting
 plan_of_ten icap is = record {
   outer = 1;
   leaf = page_three.area;
-  owed = record { above = refl; below = refl; other = another 2 1 (omega arith) };
+  owed = record { above = refl; below = refl; other = ne_of_gt {a = 2} {b = 1} (omega arith) };
   way = refl;
   room = let w : weight_of (posted_parent page_three (10 ∷ []) 1 2 page_three.area to_39) ≡ 2 = refl in omega (arith, w, is);
 }
@@ -70,7 +68,7 @@ plan_of_six icap is = record {
   inner = 2;
   leaf = to_79;
   area = to_39;
-  owed = record { above = refl; below = refl; other = another 2 1 (omega arith) };
+  owed = record { above = refl; below = refl; other = ne_of_gt {a = 2} {b = 1} (omega arith) };
   heavy = let w : weight_of (posted_parent six_children (10 ∷ []) 1 2 to_79 to_39) ≡ 7 = refl in omega (arith, w, is);
 }
 

@@ -14,6 +14,7 @@ use Rattle.hb_activity.specs.OneDeed.{IsOnly}
 use Rattle.hb_activity.specs.Passing.{LeadsBelow, PassesOn}
 use Rattle.hb_activity.specs.Sights.{Sight}
 use Rattle.hb_frag.specs.Leaves.{Placed, leaf_at}
+use Rattle.hb_frag.proofs.Facts.Kinds.{child_or_sibling}
 use Rattle.hb_poster.specs.Examples.{AtRoot, GrowsByHand, OnItsWay, TakesByHand, WalksByHand, gave_none, gave_some}
 use Rattle.hb_poster.specs.PosterRows.{IsPostingOf, MayGrow}
 use Rattle.hb_space.specs.Boxes.{Area}
@@ -95,9 +96,6 @@ module _ (job : Job) where
       only : (other : Deed) → OnItsWay job page other → other ≡ deed
       only other (inl row) = absurd (farther row.level (row.child, row.area, row.leaf))
       only other (inr row) = one_pass page job.point (PosterWalk job (Some 3)) other deed row.passes on
-
-child_or_sibling : (a b : ℕ) → Sibling a ≡ Child b → ⊥
-child_or_sibling a b is = cc
 
 abbrev at_sibling : Placed
 at_sibling = record { leaf = Sibling 7; area = record { lo = 40 ∷ []; hi = 18446744073709551615 ∷ [] } }

@@ -1,9 +1,9 @@
 -- What an audit's answer says of the bytes of a file that is opened.
-use Rattle.std.proofs.Common.{◌≡◌, inl, inr, ℕ, zero, suc, ◌+◌, ◌-◌, ◌*◌, ◌<◌, ◌≤◌, ◌^◌, List, [], ◌∷◌, length, take, drop, get_or, slice_get, All, Option, Some, None, IfSome, IfErr, Result, Ok, Err, refl, sym, ap, subst, ◌∙◌, arith, length-take}
+use Rattle.std.proofs.Common.{◌≡◌, inl, inr, ℕ, zero, suc, ◌+◌, ◌-◌, ◌*◌, ◌<◌, ◌≤◌, ◌^◌, List, length, take, drop, slice_get, All, Option, Some, None, IfSome, IfErr, Result, Ok, Err, refl, sym, ap, subst, ◌∙◌, arith, length-take}
 use Rattle.std.specs.Ordering.{nat_cmp}
 use Rattle.std.specs.BTreeMap.{BTreeMap, get}
 use Rattle.std.proofs.lemmas.Bool.{cases_lt}
-use Rattle.std.proofs.lemmas.List.{get_or-drop}
+use Rattle.std.proofs.lemmas.List.{get_or-drop, get_or_past}
 use Rattle.std.proofs.lemmas.List.Elements.{All-get_or}
 use Rattle.hb_outside.specs.Calls.{Counts}
 use Rattle.hb_disk.specs.Model.{DiskModel, Stays}
@@ -31,7 +31,7 @@ use Rattle.hb_restart.specs.Source.{touched_or, page_there, pages_from, told_pag
 use Rattle.hb_restart.specs.declared.faults.OpenFault.{OpenFault}
 use Rattle.hb_restart.specs.declared.faults.OpenFault.TheVariants as faults
 use Rattle.hb_restart.specs.declared.reading.LogRead.{LogRead}
-use Rattle.hb_restart.proofs.Numbered.{some_number}
+use Rattle.hb_ops.proofs.Facts.FilePages.{page_in_range}
 use Rattle.hb_ops.proofs.Facts.PageNumberLaws.{page_at-suc}
 use Rattle.hb_restart.proofs.Told.{front_at, shown_each, told_at, told_is, told_long}
 use Rattle.hb_page_codec.proofs.Facts.Fields.{AreBytes-take}
@@ -42,13 +42,8 @@ place_is_bytes said id b are = AreBytes-take 4096 (drop (8192 + 2 * said.log + 4
 pub disk_bytes : (b : List ℕ) → All (λ x. x < 2 ^ 8) b → AreBytes b
 disk_bytes b all i = elim (cases_lt i (length b)) [
   | inl less ↦ (let here = All-get_or (λ x. x < 2 ^ 8) b i 0 less all in omega (arith, here))
-  | inr most ↦ (let e = beyond b i most in omega (arith, e))
+  | inr most ↦ (let e = get_or_past b i 0 most in omega (arith, e))
 ]
-  where
-    beyond : (b : List ℕ) (i : ℕ) → length b ≤ i → get_or b i 0 ≡ 0
-    beyond [] i most = refl
-    beyond (x ∷ b) zero most = absurd (omega (arith, most))
-    beyond (x ∷ b) (suc i) most = beyond b i (omega (arith, most))
 
 module _ (exact : PagesAreExact) (b : List ℕ) (are : AreBytes b) (said meta : Meta) (same : IsSameLayout said meta) (touched : ℕ → Option Page) (t : Replayed) (meta_is : meta ≡ t.meta)
     (touched_is : (id : ℕ) → touched id ≡ t.page id) where
@@ -124,7 +119,7 @@ module _ (exact : PagesAreExact) (b : List ℕ) (are : AreBytes b) (said meta : 
         }
       where
         at : (id : ℕ) (p : Page) → page_of (file_of meta told) id ≡ Some p → ((k : ℕ) (q : Page) → slice_get (shown_pages front) k ≡ Some q → slice_get front k ≡ Some (Some q)) → IsPageIn b said id (t.page id) p
-        at zero p is each = absurd (let first = some_number (shown_pages front) zero p is in omega (arith, first))
+        at zero p is each = absurd (let range = page_in_range (shown_pages front) zero p is in omega (arith, range.0))
         at (suc k) p is each =
             let here = each k p (sym (page_at-suc (shown_pages front) k) ∙ is) in
             is_in (suc k) p (told_is page said.pages (suc k) (Some p) (front_at meta.high told k (Some p) here).1).2

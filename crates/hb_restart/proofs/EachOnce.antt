@@ -6,7 +6,7 @@ use Rattle.hb_space.specs.declared.form.TheConstants.{PAGE}
 use Rattle.hb_disk.specs.Model.{DiskModel, IsDisk, Torn}
 use Rattle.hb_disk.specs.Calls.{Ticks, Becomes}
 use Rattle.hb_disk.proofs.Facts.RunLaws.{one_tick}
-use Rattle.hb_disk.proofs.Facts.TornLaws.{Torn-elsewhere}
+use Rattle.hb_disk.proofs.Facts.SyncedLaws.{told_elsewhere}
 use Rattle.hb_lemmas.proofs.Options.{has_value}
 use Rattle.std.proofs.lemmas.Option.{same_Some}
 use Rattle.hb_frag.specs.declared.pages.Page.{Page}
@@ -105,8 +105,7 @@ module _ (from : ℕ) (bytes : List ℕ) (meta : Meta) (touched : ℕ → Option
     -- the place of another page is as it was
     elsewhere : (id : ℕ) → 1 ≤ id → (id ≡ at → ⊥) → (c : List ℕ) → new.told ≡ Some c → place_bytes meta id c ≡ place_bytes meta id tears.before
     elsewhere id some other c told =
-        ap (λ (l : List ℕ). place_bytes meta id l) (same_Some c tears.after (sym told ∙ tears.is))
-        ∙ Torn-elsewhere (page_offset meta at) PAGE (page_offset meta id) PAGE tears.before tears.after (other_place meta id at some (omega (arith, is_at)) other) tears.torn
+        told_elsewhere old new tears.before c (page_offset meta id) PAGE (page_offset meta at) PAGE tears.was told (other_place meta id at some (omega (arith, is_at)) other) run
 
     elsewhere_spelled : (id : ℕ) (page : Page) → 1 ≤ id → (id ≡ at → ⊥) → SpellsPage (place_bytes meta id tears.before) page → (c : List ℕ) → new.told ≡ Some c → SpellsPage (place_bytes meta id c) page
     elsewhere_spelled id page some other spells c told = let S : List ℕ → Type 0 = λ l. SpellsPage l page in subst S (sym (elsewhere id some other c told)) spells
@@ -166,9 +165,7 @@ module _ (from : ℕ) (bytes : List ℕ) (meta : Meta) (touched : ℕ → Option
     front = tore old new 0 (page_offset meta 1) stands.tells run
 
     page_kept : (id : ℕ) (c : List ℕ) → new.told ≡ Some c → place_bytes meta id c ≡ place_bytes meta id front.before
-    page_kept id c told =
-        ap (λ (l : List ℕ). place_bytes meta id l) (same_Some c front.after (sym told ∙ front.is))
-        ∙ Torn-elsewhere 0 (page_offset meta 1) (page_offset meta id) PAGE front.before front.after (inr (omega arith)) front.torn
+    page_kept id c told = told_elsewhere old new front.before c (page_offset meta id) PAGE 0 (page_offset meta 1) front.was told (inr (omega arith)) run
 
     pub behind_all : WritesEachOnce from bytes meta touched new
     behind_all = record {

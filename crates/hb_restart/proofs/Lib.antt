@@ -1,5 +1,4 @@
 pub mod Facts
-pub mod Numbered
 pub mod NoChild
 pub mod NewFile
 pub mod Made
@@ -14,6 +13,5 @@ pub mod EachOnce
 pub mod SamePages
 pub mod Opened
 pub mod Recovered
-pub mod SoundFiles
 pub mod NotRefused
 pub mod OneRefusal

@@ -6,6 +6,8 @@ use Rattle.hb_space.specs.Boxes.{IsArea, whole_area, Holds}
 use Rattle.hb_space.specs.Points.{IsPoint}
 use Rattle.hb_space.specs.declared.form.TheConstants.{KMAX, ICAP_MIN}
 use Rattle.hb_lemmas.specs.Numbers.{big_endian}
+use Rattle.hb_lemmas.proofs.Numbers.{length_big_endian}
+use Rattle.hb_lemmas.proofs.Options.{none_so}
 use Rattle.hb_frag.specs.declared.leaves.Leaf.TheVariants.{Records, Child}
 use Rattle.hb_frag.specs.declared.pages.Page.TheVariants.{Live}
 use Rattle.hb_frag.specs.Leaves.{leaves_of, siblings_of}
@@ -14,6 +16,7 @@ use Rattle.hb_frag.specs.Trees.{Tip}
 use Rattle.std.proofs.lemmas.Bool.{and_parts, leb-true}
 use Rattle.hb_frag.specs.declared.pages.LivePage.{LivePage}
 use Rattle.hb_frag.specs.Rules.{BelongsAt, IsInOrder}
+use Rattle.hb_frag.proofs.Facts.Kinds.{same_live}
 use Rattle.hb_layout.specs.Limits.{IsLayout}
 use Rattle.hb_ops.specs.Sound.{FitsFile, SiblingsMatch, ChildrenMatch, IsCovered, IsSound}
 use Rattle.hb_ops.specs.Files.{live_page}
@@ -24,7 +27,7 @@ use Rattle.hb_restart.specs.declared.faults.BadField.{BadField}
 use Rattle.hb_restart.specs.declared.faults.Field.{Field}
 use Rattle.hb_restart.specs.declared.layout.Layout.{Layout}
 use Rattle.hb_restart.proofs.NoChild.{no_child}
-use Rattle.hb_restart.proofs.Facts.LoneLaws.{live_alone, live_is, to_rooted, to_counted}
+use Rattle.hb_restart.proofs.Facts.LoneLaws.{live_alone, to_rooted, to_counted}
 
 replicate_point : (k x : ℕ) → 0 < k → k ≤ KMAX → x < 2 ^ 64 → IsPoint (replicate k x)
 replicate_point k x some few fits = record {
@@ -46,13 +49,9 @@ whole_is_area k some few = record {
   ordered = λ i lt. replicate_at_most k i (2 ^ 64 - 1);
 }
 
-long_number : (x : ℕ) → length (big_endian 8 x) ≡ 8
-unfolding big_endian
-long_number x = refl
-
 long_point : (k x : ℕ) → length (point_bytes (replicate k x)) ≡ 8 * k
 long_point zero x = refl
-long_point (suc k) x = let rest = long_point k x in omega (arith, length-append (big_endian 8 x) (point_bytes (replicate k x)), long_number x, rest)
+long_point (suc k) x = let rest = long_point k x in omega (arith, length-append (big_endian 8 x) (point_bytes (replicate k x)), length_big_endian 8 x, rest)
 
 -- an empty leaf: its tag and its count
 empty_leaf : length (leaf_bytes (Records [])) ≡ 3
@@ -111,10 +110,6 @@ layout_is l none =
       few_levels = omega arith;
     }
 
-pub is_none : {X : Type 0} (o : Option X) → IsNone o → o ≡ None
-is_none None e = refl
-is_none (Some x) e = cc
-
 -- the page of a new file keeps all rules that speak of it alone
 page_fits : (l : Layout) → IsLayout (new_meta l) → FitsFile (new_meta l) (record { level = 0; area = whole_area l.k; frag = Tip (Records []) })
 page_fits l is = record {
@@ -136,7 +131,7 @@ module _ (l : Layout) where
   new_live = record { level = 0; area = whole_area l.k; frag = Tip (Records []) }
 
   is_new : (id : ℕ) (page : LivePage) → live_page (new_file l) id ≡ Some page → new_live ≡ page
-  is_new id page e = live_is new_live page (live_alone (new_meta l) (Live new_live) id page e).1
+  is_new id page e = same_live new_live page (live_alone (new_meta l) (Live new_live) id page e).1
 
   new_siblings : SiblingsMatch (new_file l)
   new_siblings id page name area is h =
@@ -161,7 +156,7 @@ module _ (l : Layout) where
 -- a new file is sound
 pub new_is_sound : (l : Layout) → IsNone (layout_fault l) → IsSound (new_file l)
 new_is_sound l none =
-    let is = layout_is l (is_none (layout_fault l) none) in
+    let is = layout_is l (none_so (layout_fault l) none) in
     record {
       rooted = to_rooted (new_meta l) (new_live l) refl is.some_pages refl (omega arith) (omega arith) refl refl;
       counted = to_counted (new_meta l) (new_live l) refl refl;

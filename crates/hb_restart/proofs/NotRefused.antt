@@ -15,10 +15,9 @@ use Rattle.hb_store.proofs.Facts.Spellings.{OneList, same_spelled}
 use Rattle.hb_layout.specs.Offsets.{file_size}
 use Rattle.hb_store.specs.Opening.{OpensBy, OpensTo, IsPageIn, Shows, log_bytes, SpellAll, OpensToOne, OpensWhole}
 use Rattle.hb_store.specs.Replay.{Replayed, untouched, replay, after_group}
-use Rattle.hb_sound.specs.Names.{SoundBreaksNone}
 use Rattle.hb_restart.specs.Refusals.{IsUnsound, GoodIsNotRefused, HasLayout, LogSays, LacksPage}
 use Rattle.hb_ops.proofs.Facts.FilePages.{page_there}
-use Rattle.hb_restart.proofs.SoundFiles.{sound_names}
+use Rattle.hb_sound.proofs.Facts.NoneBroken.{sound_in}
 use Rattle.hb_restart.specs.declared.faults.OpenFault.TheVariants as faults
 
 -- operations keep how many pages a file may have
@@ -69,7 +68,7 @@ opens_so b turn said groups s layout log shows = record {
 }
 
 module _ (once : OneList) (turns : (bytes : List ℕ) (t s : ℕ) (m n : Meta) → IsNewest bytes t m → IsNewest bytes s n → t ≡ s) (saids : (bytes : List ℕ) (t s : ℕ) (m n : Meta) → IsNewest bytes t m → IsNewest bytes s n → m ≡ n)
-    (one_way : ReadsOneWay) (one : OpensToOne) (whole : OpensWhole) (law : SoundBreaksNone) where
+    (one_way : ReadsOneWay) (one : OpensToOne) (whole : OpensWhole) where
   -- the groups of the log are those by which the bytes open
   shown : (b : List ℕ) (s : FileState) (turn : ℕ) (said : Meta) (groups : List Logged) → OpensTo b s → HasLayout b turn said → LogSays b turn said groups → Shows b said (replay (untouched said) groups) s
   shown b s turn said groups opens layout log =
@@ -93,7 +92,7 @@ module _ (once : OneList) (turns : (bytes : List ℕ) (t s : ℕ) (m n : Meta) �
         lacks_none b said (replay (untouched said) groups) s page shows (omega (arith, high, pages, most, kept)) hole.1.here
     | inr broken ↦
         let other : OpensTo b broken.1 = opens_so b turn said groups broken.1 layout log broken.2 in
-        sound_names law broken.1 page rule broken.3 (subst IsSound (sym (one b broken.1 s other opens)) sound)
+        sound_in broken.1 page rule broken.3 (subst IsSound (sym (one b broken.1 s other opens)) sound)
   ]
 
   pub not_refused : GoodIsNotRefused

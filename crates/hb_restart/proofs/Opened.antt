@@ -3,7 +3,7 @@ use Rattle.std.proofs.Common.{◌≡◌, ℕ, ◌+◌, ◌≤◌, List, Option, 
 use Rattle.hb_disk.specs.Model.{DiskModel, IsDisk}
 use Rattle.hb_disk.specs.Calls.{Leaves, OnlyReads, ReadsOnly}
 use Rattle.hb_disk.proofs.Facts.RunLaws.{Leaves-read, Leaves-start, OnlyReads-read}
-use Rattle.hb_lemmas.proofs.Options.{if_value}
+use Rattle.hb_lemmas.proofs.Options.{if_value, was_some}
 use Rattle.hb_frag.specs.declared.pages.Page.{Page}
 use Rattle.hb_layout.specs.Offsets.{file_size}
 use Rattle.hb_layout.specs.declared.meta.Meta.{Meta}
@@ -20,7 +20,6 @@ use Rattle.hb_restart.specs.Beyond.{KeepsBeyond}
 use Rattle.hb_restart.specs.Found.{IsFoundIn}
 use Rattle.hb_restart.proofs.EachOnce.{also_all, also_each}
 use Rattle.hb_restart.proofs.Facts.Beyond.{beyond_found, beyond_looked}
-use Rattle.hb_store.proofs.Facts.PlaceWrites.{told_before}
 use Rattle.hb_restart.proofs.Recovered.{recovered_even, recovered_late, recovered_late_on, recovered_time}
 use Rattle.hb_restart.proofs.RunsThen.{faults_read, faults_then}
 use Rattle.hb_restart.proofs.SamePages.{each_way, reads_write_none}
@@ -67,7 +66,7 @@ module _ (once : OneList) (turns : (bytes : List ℕ) (t s : ℕ) (m n : Meta) �
       × ((c : List ℕ) → new.ImageSince (mid.clock + 1) c → OpensTo c s))
       → IfSome mid.told (λ b. IsFoundIn b turn meta touched count → WritesAll (mid.clock + 1) b meta touched new) → Runs (meta.high + 12) (file_size meta) F mid new → RunsThrough meta.high old new
   runs_through next is renewed all run = record {
-    silent = λ tells. let Q : Option (List ℕ) → Type 0 = λ o. IsSome o in subst Q only.stays.told (told_before mid.told new.told run.beyond.silent tells);
+    silent = λ tells. let Q : Option (List ℕ) → Type 0 = λ o. IsSome o in subst Q only.stays.told (was_some mid.told new.told run.beyond.silent tells);
     late = recovered_late old mid new reads turn meta touched count found next is renewed;
     once = each_way once turns saids one_way (λ n b meta touched. WritesAll n b meta touched new) (λ n b meta touched pages same. also_all n b meta touched pages same new) old mid reads turn meta touched count found all;
     least = recovered_time old mid new reads turn meta touched count found all;

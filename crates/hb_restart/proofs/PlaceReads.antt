@@ -1,23 +1,16 @@
 -- What is read in the place of a page.
-use Rattle.std.proofs.Common.{◌≡◌, ◌⊎◌, inl, inr, ℕ, ◌∙◌, List, length, take, drop, Option, Some, None, IfSome, IfOk, Result, Ok, Err, refl, ap}
-use Rattle.hb_space.specs.declared.form.TheConstants.{PAGE}
+use Rattle.std.proofs.Common.{◌≡◌, ◌⊎◌, ℕ, ◌∙◌, List, Option, Some, None, IfSome, IfOk, Result, Ok, Err, refl, ap}
 use Rattle.hb_frag.specs.declared.pages.Page.{Page}
 use Rattle.hb_frag.specs.Grammar.{SpellsPage}
-use Rattle.hb_layout.specs.Offsets.{page_offset}
 use Rattle.hb_layout.specs.declared.meta.Meta.{Meta}
 use Rattle.hb_page_codec.specs.Exact.{AreBytes, PagesAreExact}
 use Rattle.hb_page_codec.specs.ReadingPages.{page_of_bytes}
 use Rattle.hb_page_codec.specs.declared.errors.PageError.{PageError}
 use Rattle.hb_page_codec.specs.declared.errors.PageError.TheVariants as errors
+use Rattle.hb_page_codec.proofs.Facts.PageLaws.{decodes_nothing}
 use Rattle.hb_store.specs.Opening.{place_bytes}
 
-pub place_read : (told : Option (List ℕ)) (into : List ℕ) (meta : Meta) (id at : ℕ) → at ≡ page_offset meta id → length into ≡ PAGE
-    → IfSome told (λ b. into ≡ take (length into) (drop at b)) → IfSome told (λ b. into ≡ place_bytes meta id b)
-place_read None into meta id at same long reads = tt
-place_read (Some b) into meta id at same long reads =
-    reads ∙ ap (λ (n : ℕ). take n (drop at b)) long ∙ ap (λ (n : ℕ). take PAGE (drop n b)) same
-
--- so the page that they are read as is that of its place
+-- the page that they are read as is that of its place
 pub page_read : {E : Type 0} (r : Result (Option Page) E) (told : Option (List ℕ)) (into : List ℕ) (meta : Meta) (id : ℕ) → IfOk r (λ page. page ≡ page_of_bytes into)
     → IfSome told (λ b. into ≡ place_bytes meta id b) → IfOk r (λ page. IfSome told (λ b. page ≡ page_of_bytes (place_bytes meta id b)))
 page_read (Ok page) (Some b) into meta id is place = is ∙ ap page_of_bytes place
@@ -31,8 +24,4 @@ none_read exact bytes are none (Some page) is = absurd (none page ((exact bytes 
 
 pub bad_read : (exact : PagesAreExact) (bytes : List ℕ) → AreBytes bytes → (e : PageError) → e ≡ errors.BadPage
     → ((page : Page) → SpellsPage bytes page → (◌≡◌ {A = Result Page PageError} (Err e) (Ok page)) ⊎ (◌≡◌ {A = Result Page PageError} (Err e) (Err errors.NoMemory))) → None ≡ page_of_bytes bytes
-bad_read exact bytes are e is only = none_read exact bytes are (λ page spells. never page (only page spells)) (page_of_bytes bytes) refl
-  where
-    never : (page : Page) → (◌≡◌ {A = Result Page PageError} (Err e) (Ok page)) ⊎ (◌≡◌ {A = Result Page PageError} (Err e) (Err errors.NoMemory)) → ⊥
-    never page (inl same) = cc (is, same)
-    never page (inr same) = cc (is, same)
+bad_read exact bytes are e is only = none_read exact bytes are (λ page spells. decodes_nothing e is page (only page spells)) (page_of_bytes bytes) refl

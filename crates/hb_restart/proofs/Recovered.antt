@@ -3,7 +3,7 @@ use Rattle.std.proofs.Common.{◌≡◌, ℕ, ◌+◌, ◌≤◌, List, length, 
 use Rattle.hb_disk.specs.Model.{DiskModel, IsDisk}
 use Rattle.hb_disk.specs.Calls.{Leaves, OnlyReads}
 use Rattle.hb_disk.proofs.Facts.RunLaws.{Leaves-start, Leaves-read, Leaves-then}
-use Rattle.hb_lemmas.proofs.Options.{some_value, at_value, if_value, has_value}
+use Rattle.hb_lemmas.proofs.Options.{some_value, at_value, if_value, has_value, was_some}
 use Rattle.hb_super.specs.Superblocks.{next_turn}
 use Rattle.hb_frag.specs.declared.pages.Page.{Page}
 use Rattle.hb_layout.specs.declared.meta.Meta.{Meta}
@@ -13,7 +13,6 @@ use Rattle.hb_store.specs.Opening.{OpensTo, IsEven}
 use Rattle.hb_store.specs.Keeps.{IsFresh}
 use Rattle.hb_restart.specs.Found.{IsFoundIn}
 use Rattle.hb_restart.specs.Renewing.{WritesAll}
-use Rattle.hb_store.proofs.Facts.PlaceWrites.{told_before}
 use Rattle.hb_restart.proofs.SyncedRuns.{found_to}
 
 module _ (old mid new : DiskModel) (reads : OnlyReads old mid) (turn : ℕ) (meta : Meta) (touched : ℕ → Option Page) (count : ℕ)
@@ -63,7 +62,7 @@ module _ (old mid new : DiskModel) (reads : OnlyReads old mid) (turn : ℕ) (met
 
     pub recovered_fresh : (mid.told ≡ None → new.told ≡ None) → IsSome new.told → (s : FileState) × IsFresh new next meta s
     recovered_fresh silent tells =
-        let b = some_value mid.told (told_before mid.told new.told silent tells) in
+        let b = some_value mid.told (was_some mid.told new.told silent tells) in
         let told : old.told ≡ Some b.0 = sym reads.stays.told ∙ b.1 in
         ((found_at b.0 told).file, fresh_at b.0 told)
 

@@ -1,14 +1,12 @@
 -- A file that was found goes on to open while its touched pages are written to their places, and until its next turn may begin.
-use Rattle.std.proofs.Common.{◌≡◌, inl, inr, ℕ, ◌+◌, ◌*◌, ◌-◌, ◌≤◌, List, take, drop, Option, Some, None, IfSome, Result, sym, ap, ◌∙◌, subst, arith}
+use Rattle.std.proofs.Common.{◌≡◌, inl, inr, ℕ, ◌+◌, ◌*◌, ◌-◌, ◌≤◌, List, take, drop, Option, Some, None, IfSome, Result, sym, ◌∙◌, subst, arith}
 use Rattle.std.proofs.lemmas.Bool.{cases_eq}
 use Rattle.hb_space.specs.declared.form.TheConstants.{PAGE}
 use Rattle.hb_disk.specs.Model.{DiskModel, IsDisk, Torn}
 use Rattle.hb_disk.specs.Calls.{Ticks, Leaves, Becomes, IsSynced}
 use Rattle.hb_disk.proofs.Facts.RunLaws.{Leaves-start, Leaves-call, Leaves-weaker}
 use Rattle.hb_lemmas.proofs.Options.{at_value}
-use Rattle.std.proofs.lemmas.Option.{same_Some}
-use Rattle.hb_disk.proofs.Facts.SyncedLaws.{IsSynced-elsewhere}
-use Rattle.hb_disk.proofs.Facts.TornLaws.{Torn-elsewhere}
+use Rattle.hb_disk.proofs.Facts.SyncedLaws.{IsSynced-elsewhere, told_elsewhere}
 use Rattle.hb_frag.specs.declared.pages.Page.{Page}
 use Rattle.hb_frag.specs.Grammar.{SpellsPage}
 use Rattle.hb_layout.specs.Offsets.{slot_offset, page_offset}
@@ -19,7 +17,7 @@ use Rattle.hb_ops.specs.Files.{FileState, page_of}
 use Rattle.hb_store.specs.Opening.{IsPageIn, place_bytes}
 use Rattle.hb_store.specs.Turning.{StillOpens, IsHere, IsPlaced, IsPlacedTo, MayTurn}
 use Rattle.hb_store.proofs.Facts.Turned.{areas, now_has, still_place, still_torn}
-use Rattle.hb_restart.proofs.Numbered.{some_number}
+use Rattle.hb_ops.proofs.Facts.FilePages.{page_in_range}
 use Rattle.hb_store.proofs.Facts.PlaceWrites.{Tore, other_place, tore}
 use Rattle.hb_disk.proofs.Facts.RewriteLaws.{Becomes-tells}
 
@@ -76,10 +74,8 @@ module _ (turn next : ℕ) (said meta : Meta) (small : turn ≤ 3) (is : next �
             subst N (sym same) (subst S page_is there)
         | inr other ↦ λ b told.
             let S : List ℕ → Type 0 = λ l. SpellsPage l page in
-            let B : List ℕ → Type 0 = λ l. SpellsPage (place_bytes meta id l) page in
-            let same : tears.after ≡ b = same_Some tears.after b (sym tears.is ∙ told) in
-            subst B same (subst S (sym (Torn-elsewhere (page_offset meta at) PAGE (page_offset meta id) PAGE tears.before tears.after (other_place meta id at (some_number s.pages id page is) first other) tears.torn))
-            (placed.there id page (omega (arith, most, other, is_at)) is tears.before tears.was))
+            subst S (sym (told_elsewhere old new tears.before b (page_offset meta id) PAGE (page_offset meta at) PAGE tears.was told (other_place meta id at (page_in_range s.pages id page is).0 first other) run))
+            (placed.there id page (omega (arith, most, other, is_at)) is tears.before tears.was)
       ];
     }
       where
@@ -102,7 +98,7 @@ module _ (turn next : ℕ) (said meta : Meta) (small : turn ≤ 3) (is : next �
   pub placed_none : (d : DiskModel) → IsHere d turn said meta touched s → IsPlacedTo 0 d turn said meta touched s
   placed_none d here = record {
     here = here;
-    there = λ id page most is b told. let least = some_number s.pages id page is in absurd (omega (arith, most, least));
+    there = λ id page most is b told. let range = page_in_range s.pages id page is in absurd (omega (arith, most, range.0));
   }
 
   -- What the place of the next turn hides is cleared.
@@ -120,8 +116,7 @@ module _ (turn next : ℕ) (said meta : Meta) (small : turn ≤ 3) (is : next �
     same_place_bytes : (b : List ℕ) → new.told ≡ Some b → (id : ℕ) → place_bytes meta id b ≡ place_bytes meta id clears.before
     same_place_bytes b told id =
         let h = (areas turn next meta small is).place in
-        ap (λ (l : List ℕ). place_bytes meta id l) (same_Some b clears.after (sym told ∙ clears.is))
-        ∙ Torn-elsewhere (slot_offset next + 1) 40 (page_offset meta id) PAGE clears.before clears.after (inr (omega (arith, h))) clears.torn
+        told_elsewhere old new clears.before b (page_offset meta id) PAGE (slot_offset next + 1) 40 clears.was told (inr (omega (arith, h))) run
 
     pub cleared_may : IfSome new.told (λ b. HidesNoOther b next meta) → IsSynced new 0 8192 → MayTurn new turn said meta touched s
     cleared_may hidden synced = record {

@@ -1,5 +1,6 @@
 -- What the audit is told of a file that is opened.
 use Rattle.std.proofs.Common.{◌≡◌, ◌⊎◌, inl, inr, ℕ, zero, suc, ◌+◌, ◌<◌, ◌≤◌, List, [], ◌∷◌, length, take, slice_get, Option, Some, None, IfSome, Result, Ok, Err, IfOk, refl, sym, ap, ◌∙◌, arith}
+use Rattle.std.proofs.lemmas.Option.{same_Some, slice_get_within}
 use Rattle.hb_frag.specs.declared.pages.Page.{Page}
 use Rattle.hb_frag.specs.declared.pages.Page.TheVariants.{Live, Free}
 use Rattle.hb_layout.specs.declared.meta.Meta.{Meta}
@@ -10,7 +11,6 @@ use Rattle.hb_sound.specs.Told.{CoversFile, GivesPage, item_at, shown_pages}
 use Rattle.hb_store.specs.States.{IsSameLayout}
 use Rattle.hb_store.specs.Opening.{place_bytes}
 use Rattle.hb_restart.specs.Source.{touched_or, page_there, page_weight, pages_from, told_pages}
-use Rattle.hb_restart.proofs.Numbered.{within}
 
 pub told_long : (page : ℕ → Option Page) (id n : ℕ) → length (pages_from page id n) ≡ n
 told_long page id zero = refl
@@ -27,15 +27,12 @@ pub told_at : (page : ℕ → Option Page) (n id : ℕ) → 1 ≤ id → id ≤ 
 told_at page n zero some most = absurd (omega (arith, some))
 told_at page n (suc k) some most = told_slice page 1 n k (omega (arith, most)) ∙ ap (λ (m : ℕ). Some (page m)) (let e : 1 + k ≡ suc k = omega arith in e)
 
-the_some : (x y : Option Page) → Some x ≡ Some y → x ≡ y
-the_some x y e = cc (e)
-
 pub told_is : (page : ℕ → Option Page) (n id : ℕ) (there : Option Page) → item_at (pages_from page 1 n) id ≡ Some there → (1 ≤ id) × (id ≤ n) × (page id ≡ there)
 told_is page n zero there e = absurd (let never : None ≡ Some there = e in cc)
 told_is page n (suc k) there e =
-    let most = within (pages_from page 1 n) k there e in
+    let most = slice_get_within (pages_from page 1 n) k there e in
     let long = told_long page 1 n in
-    (omega arith, omega (arith, most, long), the_some (page (suc k)) there (sym (told_at page n (suc k) (omega arith) (omega (arith, most, long))) ∙ e))
+    (omega arith, omega (arith, most, long), same_Some (page (suc k)) there (sym (told_at page n (suc k) (omega arith) (omega (arith, most, long))) ∙ e))
 
 -- what a source gives
 pub gives_touched : (o : Option (List ℕ)) (said : Meta) (touched : ℕ → Option Page) (id : ℕ) (page : Page) → touched id ≡ Some page → GivesPage (told_pages o said touched) id (Some page)

@@ -3,7 +3,7 @@
 ghost use Rattle.hb_restart.specs.Refusals.{GoodIsNotRefused, IsRefusedOnce};
 
 use hb_log_codec::laws::groups_are_read_in_one_way;
-use hb_sound::{a_sound_file_breaks_no_rule, one_rule_is_named};
+use hb_sound::one_rule_is_named;
 use hb_store::an_image_opens_to_one_file;
 use hb_super::laws::one_superblock_is_newest;
 use hb_wal::laws::an_area_is_read_in_one_way;
@@ -16,7 +16,6 @@ pub fn a_good_file_is_not_refused()
     one_superblock_is_newest();
     an_area_is_read_in_one_way();
     an_image_opens_to_one_file();
-    a_sound_file_breaks_no_rule();
 }
 
 /// Bytes are refused in one way: the tests come in one order, and each has one answer.

@@ -101,9 +101,6 @@ goes_on laws b actor outcome old new may disk disk_next keeps turn = record {
 
 -- ---- it begins
 
-count_first : (given left count : ℕ) → given ≡ 0 → left ≡ count → given + left ≡ count
-count_first given left count none is = omega (arith, none, is)
-
 pub begins : (laws : RunningLaws) (b : Beginning) (answers : List Answered) (room left : ℕ) → IsDisk b.disk → ((m : Machine) × MayStep b.disk b.core m) → answers ≡ [] → ((m : Machine) → MayStep b.disk b.core m → left ≡ left_count m)
     → KeepsRun b (record { disk = b.disk; core = b.core; sink = b.sink; put = Ok (tt {0}); answers = answers; room = room; left = left })
 begins laws b answers room left disk may none left_is = record {
@@ -111,7 +108,7 @@ begins laws b answers room left disk may none left_is = record {
   actors = [];
   runs = λ m begun. subst (λ (l : List Answered). HasRun b.disk m [] l b.disk b.core) (sym none) (run_begins laws b.disk m b.core disk begun);
   text = has_put_none b.sink answers none;
-  left_is = λ m begun. count_first (length answers) left (left_count m) no_answer (left_is m begun);
+  left_is = λ m begun. let same = left_is m begun in omega (arith, no_answer, same);
 }
   where
     no_answer : length answers ≡ 0

@@ -1,7 +1,7 @@
 -- Whoever waited for what a turn brought is rung.
 use Rattle.std.proofs.Common.{◌≡◌, ℕ, ◌==◌, nat_lt, Bool, true, false, not, ◌||◌, ◌&&◌, List, is_some, refl, sym, ap, ◌∙◌}
 use Rattle.std.specs.List.{slice_get}
-use Rattle.std.proofs.lemmas.Bool.{false≢true}
+use Rattle.std.proofs.lemmas.Bool.{false≢true, and_parts}
 use Rattle.hb_activity.specs.declared.jobs.JobKind.TheVariants.{Post, Merge}
 use Rattle.hb_lemmas.proofs.Booleans.{if_same}
 use Rattle.hb_run.specs.Courses.{Course}
@@ -10,10 +10,6 @@ use Rattle.hb_run.specs.declared.turns.News.{News}
 use Rattle.hb_run.specs.declared.turns.Pause.{Pause}
 use Rattle.hb_run.specs.declared.turns.Pause.TheVariants as pauses
 use Rattle.std.proofs.Math.Bool.{and-true}
-
-second : (a b : Bool) → (a && b) ≡ true → b ≡ true
-second true b is = is
-second false b is = absurd (false≢true is)
 
 first : (a b : Bool) → (a && b) ≡ true → a ≡ true
 first true b is = refl
@@ -74,7 +70,7 @@ module _ (mover : ℕ) (moved : Bool) (before after : List ℕ) (coming_before c
       rung news.stopped (news.moved && (news.place == place)) (λ runs.
       ap (λ (b : Bool). b && (news.place == place)) tells.moved_is
       ∙ ap (λ (n : ℕ). moved && (n == place)) tells.place_is
-      ∙ moved_on place count (second (not (is_some old.core.stop)) (is_so count (slice_get before place)) was) (come (is_some new.core.stop) (is_so count (slice_get after place)) gone (sym tells.stopped ∙ runs)))
+      ∙ moved_on place count (and_parts (not (is_some old.core.stop)) (is_so count (slice_get before place)) was).1 (come (is_some new.core.stop) (is_so count (slice_get after place)) gone (sym tells.stopped ∙ runs)))
   wakes_all (pauses.NoJob Post) was gone =
       rung news.stopped news.posts (λ runs. tells.posts ∙ job_came (jobs_left Post new.core == 0) (is_done new) (come (is_some new.core.stop) ((jobs_left Post new.core == 0) && not (is_done new)) gone (sym tells.stopped ∙ runs)))
   wakes_all (pauses.NoJob Merge) was gone =
@@ -83,5 +79,5 @@ module _ (mover : ℕ) (moved : Bool) (before after : List ℕ) (coming_before c
       rung news.stopped news.flushes (λ runs. tells.flushes ∙ due_came (new.left == 0) (is_due new.core) (come (is_some new.core.stop) (not (new.left == 0) && not (is_due new.core)) gone (sym tells.stopped ∙ runs)))
   wakes_all (pauses.Unsettled place round) was gone =
       rung news.stopped news.settles (λ runs. tells.settles ∙ place_came place round (settled_of old.core) (settled_of new.core) (round_of old.core) (round_of new.core) coming_before coming
-      (second (not (is_some old.core.stop)) ((not (nat_lt place (settled_of old.core)) && (round_of old.core == round)) && coming_before) was)
+      (and_parts (not (is_some old.core.stop)) ((not (nat_lt place (settled_of old.core)) && (round_of old.core == round)) && coming_before) was).1
       (come (is_some new.core.stop) ((not (nat_lt place (settled_of new.core)) && (round_of new.core == round)) && coming) gone (sym tells.stopped ∙ runs)))

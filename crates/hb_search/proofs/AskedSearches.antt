@@ -4,6 +4,7 @@ use Rattle.std.specs.Prelude.{MatchOption}
 use Rattle.std.specs.Result.{IfOk, OnErr}
 use Rattle.std.specs.declared.result.Result.{Result}
 use Rattle.std.specs.declared.result.Result.TheVariants.{Ok, Err}
+use Rattle.std.proofs.lemmas.List.{same_from_push}
 use Rattle.hb_activity.specs.Deciding.{deed_of, given_pages, given_sight}
 use Rattle.hb_activity.specs.Passing.{PassesOn, posts_owed}
 use Rattle.hb_activity.specs.Walks.{MeetsRecords, goal_of}
@@ -16,7 +17,6 @@ use Rattle.hb_frag.specs.declared.leaves.Leaf.{Leaf}
 use Rattle.hb_frag.specs.declared.leaves.Leaf.TheVariants.{Records}
 use Rattle.hb_frag.specs.declared.pages.LivePage.{LivePage}
 use Rattle.hb_layout.specs.declared.meta.Meta.{Meta}
-use Rattle.hb_lemmas.proofs.Lists.{same_ends}
 use Rattle.hb_search.specs.Gathering.{GathersBy, GoesOnBy, IsLeafAhead, SearchesBy, boxes_then}
 use Rattle.hb_search.specs.SearchRows.{Gathers}
 use Rattle.hb_search.specs.Searching.{IsGathering, SearchRow, StaysGathering}
@@ -71,7 +71,7 @@ meets_records (Err why) page goal p records area is there = subst (λ (o : Optio
 
 -- the last box that is taken is the one at hand
 pub taken_last : (rest held front left : List Area) (at_hand taken : Area) → held ≡ rest → held ≡ left ++ taken ∷ [] → rest ≡ front ++ at_hand ∷ [] → (left ≡ front) × (taken ≡ at_hand)
-taken_last rest held front left at_hand taken same is boxes = same_ends left front taken at_hand (sym is ∙ same ∙ boxes)
+taken_last rest held front left at_hand taken same is boxes = same_from_push left front taken at_hand (sym is ∙ same ∙ boxes)
 
 pub boxes_so : (front left boxes : List Area) (at_hand taken area : Area) → (left ≡ front) × (taken ≡ at_hand) → boxes ≡ left ++ pieces_outside taken (common_area taken area) → boxes ≡ boxes_then front at_hand area
 boxes_so front left boxes at_hand taken area same is = is ∙ ap (λ (l : List Area). l ++ pieces_outside taken (common_area taken area)) same.0 ∙ ap (λ (a : Area). front ++ pieces_outside a (common_area a area)) same.1

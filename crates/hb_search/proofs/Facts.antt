@@ -2,3 +2,4 @@
 pub mod BeginsApart
 pub mod OneOrder
 pub mod OneSearch
+pub mod StaysApart

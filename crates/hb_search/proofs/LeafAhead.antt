@@ -1,34 +1,28 @@
 -- A search at a leaf of records: what it finds there is of other points than what it found before.
-use Rattle.std.proofs.Common.{◌≡◌, ◌-◌, suc, true, List, [], ◌∷◌, ◌++◌, length, get_or, All, Some, None, sym, ap, subst, ◌∙◌, arith}
+use Rattle.std.proofs.Common.{◌≡◌, ◌-◌, suc, List, [], ◌∷◌, ◌++◌, length, get_or, Some, sym, ap, subst, ◌∙◌, arith}
 use Rattle.std.specs.List.{Contains, slice_get}
-use Rattle.std.proofs.lemmas.List.Elements.{All-contains, Contains-get_or, filter_passes}
-use Rattle.std.proofs.lemmas.List.Kept.{AllPairs-filter}
-use Rattle.std.proofs.lemmas.Option.{slice_get_past}
+use Rattle.std.proofs.lemmas.List.Elements.{All-contains, Contains-get_or}
+use Rattle.std.proofs.lemmas.Option.{slice_get_past, none-some}
 use Rattle.hb_space.proofs.Facts.PointOrder.{not_itself}
 use Rattle.hb_frag.proofs.Facts.Tiles.{tiles_areas}
 use Rattle.hb_frag.specs.Leaves.{WellCut, leaf_at, leaves_of}
 use Rattle.hb_frag.specs.Rules.{AreInOrder, IsInOrder}
 use Rattle.hb_frag.specs.declared.leaves.Leaf.TheVariants.{Records}
 use Rattle.hb_frag.specs.declared.pages.LivePage.{LivePage}
-use Rattle.hb_lemmas.proofs.Lists.{All-last, filter_has}
 use Rattle.hb_ops.proofs.Facts.Opened.{first_has}
-use Rattle.hb_search.proofs.StaysApart.{pairs_joined, stays_apart}
+use Rattle.hb_search.proofs.Facts.StaysApart.{stays_apart}
 use Rattle.hb_search.specs.Gathering.{IsLeafAhead}
-use Rattle.hb_search.specs.SearchRows.{records_within}
-use Rattle.hb_search.specs.Searching.{Differ, IsGathering}
-use Rattle.hb_space.proofs.Facts.Boxes.{Holds-from_test, Meets-from_point, lo_held}
-use Rattle.hb_space.specs.Boxes.{Area, Holds, IsArea, holds}
+use Rattle.hb_search.specs.Searching.{IsGathering}
+use Rattle.hb_space.proofs.Facts.Boxes.{Meets-from_point, lo_held}
+use Rattle.hb_space.specs.Boxes.{Area, Holds, IsArea}
 use Rattle.hb_space.specs.declared.records.Record.{Record}
 
 abbrev no_areas : List Area
 no_areas = []
 
-nothing_there : (x : Area) → None ≡ Some x → ⊥
-nothing_there x same = cc
-
 -- the last of a list, and those in front of it
 last_splits : (xs : List Area) (x : Area) → slice_get xs (length xs - 1) ≡ Some x → (front : List Area) × (xs ≡ front ++ x ∷ [])
-last_splits [] x is = absurd (nothing_there x (sym (slice_get_past no_areas (0 - 1) (omega arith)) ∙ is))
+last_splits [] x is = absurd (none-some x (sym (slice_get_past no_areas (0 - 1) (omega arith)) ∙ is))
 last_splits (y ∷ []) x is =
     let first : Some y ≡ Some x = ap (slice_get (y ∷ [])) (let e : 0 ≡ length (y ∷ []) - 1 = omega arith in e) ∙ is in
     let same : y ≡ x = cc in
@@ -48,24 +42,10 @@ module _ (page : LivePage) (rest : List Area) (found records : List Record) (are
   attributes : (r : Record) → Contains records r → length r.key ≡ length at_hand.lo
   attributes r there = (All-contains (λ s. Holds area s.key) records r in_leaf.inside there).same ∙ sym inside.same
 
-  abbrev taken : List Record
-  taken = records_within at_hand records
-
-  lies_in : (s : Record) → Contains taken s → Holds at_hand s.key
-  lies_in s there = Holds-from_test at_hand s.key is_area (attributes s (filter_has (λ r. holds at_hand r.key) records s there)) (All-contains (λ r. holds at_hand r.key ≡ true) taken s (filter_passes (λ r. holds at_hand r.key) records) there)
-
-  lies_out : (front : List Area) → rest ≡ front ++ at_hand ∷ [] → (r : Record) → Contains found r → ¬ (Holds at_hand r.key)
-  lies_out front boxes r there = All-last (λ a. ¬ (Holds a r.key)) front at_hand (subst (λ (l : List Area). All (λ a. ¬ (Holds a r.key)) l) boxes (All-contains (λ s. All (λ a. ¬ (Holds a s.key)) rest) found r gathering.outside there))
-
-  across : (front : List Area) → rest ≡ front ++ at_hand ∷ [] → All (λ r. All (Differ r) taken) found
-  across front boxes k d lt i e within same =
-      lies_out front boxes (get_or found k d) (Contains-get_or found k d lt) (subst (Holds at_hand) (sym same) (lies_in (get_or taken i e) (Contains-get_or taken i e within)))
-
   pub leaf_ahead : IsLeafAhead rest found records area
   leaf_ahead =
       let split = last_splits rest at_hand is_last in
       let meets = Meets-from_point at_hand area at_hand.lo (lo_held at_hand is_area) inside in
-      let once = pairs_joined Differ found taken gathering.once (AllPairs-filter Differ (λ r. holds at_hand r.key) records (λ i j d less lt same. not_itself _ _ same (in_leaf.rising i j d less lt))) (across split.0 split.1) in
       record {
         front = split.0;
         at_hand = at_hand;
@@ -73,5 +53,6 @@ module _ (page : LivePage) (rest : List Area) (found records : List Record) (are
         same = inside.same;
         meets = meets;
         keys = λ k d lt. attributes (get_or records k d) (Contains-get_or records k d lt);
-        stays = stays_apart split.0 found taken at_hand area (subst (λ (l : List Area). IsGathering l found) split.1 gathering) is_area leaf_is inside.same meets lies_in (λ s there. All-contains (λ r. Holds area r.key) records s in_leaf.inside (filter_has (λ r. holds at_hand r.key) records s there)) once;
+        stays = stays_apart split.0 found records at_hand area (subst (λ (l : List Area). IsGathering l found) split.1 gathering) is_area leaf_is inside.same meets
+            (λ r there. All-contains (λ s. Holds area s.key) records r in_leaf.inside there) (λ i j d less lt same. not_itself _ _ same (in_leaf.rising i j d less lt));
       }

@@ -1,6 +1,5 @@
 pub mod Facts
 pub mod SearchExamples
 pub mod Sorted
-pub mod StaysApart
 pub mod LeafAhead
 pub mod AskedSearches

@@ -1,9 +1,9 @@
 -- Records of different points that were sorted rise.
-use Rattle.std.proofs.Common.{◌≡◌, zero, suc, Bool, false, List, [], ◌∷◌, get_or, All, AllPairs, refl, sym, ap, ◌∙◌, arith}
+use Rattle.std.proofs.Common.{◌≡◌, Bool, false, List, [], ◌∷◌, get_or, AllPairs, refl, sym, ap, ◌∙◌, arith}
 use denote.Param.Members.{Mut}
 use denote.Ref.{Bor}
 use Rattle.std.specs.Fn.{Called}
-use Rattle.std.specs.List.{AllByRecursion, IsDistinct}
+use Rattle.std.specs.List.{IsDistinct}
 use Rattle.std.specs.List.Sorted.{IsPermutation, IsSortedBy, IsSortedByClosure}
 use Rattle.std.specs.Ordering.{eq_by_cmp, is_eq, is_lt, ordering_reverse}
 use Rattle.std.specs.Cmp.{eq_by_cmp_equiv}
@@ -11,7 +11,7 @@ use Rattle.std.specs.declared.cmp.Ordering.{Ordering}
 use Rattle.std.specs.declared.cmp.Ordering.TheVariants.{Less, Equal, Greater}
 use Rattle.std.proofs.lemmas.Bool.{false≢true}
 use Rattle.std.proofs.lemmas.Cmp.{nat_list_cmp_total}
-use Rattle.std.proofs.lemmas.List.Elements.{All-from_recursion, All-head, All-tail}
+use Rattle.std.proofs.lemmas.List.Elements.{All-from_recursion, recursion_from_All}
 use Rattle.std.proofs.lemmas.List.Kept.{AllPairs-cons}
 use Rattle.std.proofs.lemmas.List.Sorted.{answers_always, sorted_far}
 use Rattle.std.proofs.lemmas.Map.Keys.{IsDistinct-IsPermutation}
@@ -21,26 +21,23 @@ use Rattle.hb_search.specs.Searching.{Differ}
 use Rattle.hb_space.proofs.Facts.PointOrder.{other_point, turned}
 use Rattle.hb_space.specs.Points.{point_cmp}
 use Rattle.hb_space.specs.declared.records.Record.{Record}
+use Rattle.hb_lemmas.proofs.Pairs.{pairs_first, pairs_none, pairs_rest}
 
 -- whether two records are of one point
 abbrev same_place : Record → Record → Bool
 same_place r s = eq_by_cmp point_cmp r.key s.key
 
-by_recursion : {X : Type 0} (P : X → Type 0) (xs : List X) → All P xs → AllByRecursion P xs
-by_recursion P [] all = tt
-by_recursion P (x ∷ xs) all = (All-head P x xs all, by_recursion P xs (All-tail P x xs all))
-
 distinct_of : (xs : List Record) → AllPairs Differ xs → IsDistinct same_place xs
 unfolding IsDistinct
 distinct_of [] pairs = tt
 distinct_of (r ∷ rest) pairs = (
-  by_recursion (λ s. same_place r s ≡ false) rest (λ k d lt. other_point r.key (get_or rest k d).key (pairs zero (suc k) d (omega arith) (omega (arith, lt)))),
-  distinct_of rest (λ i j d low high. pairs (suc i) (suc j) d (omega (arith, low)) (omega (arith, high))),
+  recursion_from_All (λ s. same_place r s ≡ false) rest (λ k d lt. other_point r.key (get_or rest k d).key (pairs_first Differ r rest pairs k d lt)),
+  distinct_of rest (pairs_rest Differ r rest pairs),
 )
 
 pairs_of : (xs : List Record) → IsDistinct same_place xs → AllPairs (λ r s. same_place r s ≡ false) xs
 unfolding IsDistinct
-pairs_of [] distinct = λ i j d less lt. absurd (omega (arith, lt))
+pairs_of [] distinct = pairs_none (λ r s. same_place r s ≡ false)
 pairs_of (r ∷ rest) distinct = AllPairs-cons (λ r s. same_place r s ≡ false) r rest (All-from_recursion (λ s. same_place r s ≡ false) rest distinct.0) (pairs_of rest distinct.1)
 
 less_is_left : (o : Ordering) → is_lt (ordering_reverse o) ≡ false → is_eq o ≡ false → o ≡ Less

@@ -1,5 +1,5 @@
 -- Which records a box may hold, by the order of points: those between two places.
-use Rattle.std.proofs.Common.{◌≡◌, ℕ, zero, suc, ◌+◌, ◌-◌, ◌<◌, ◌≤◌, Bool, true, false, cond, List, [], ◌∷◌, ◌++◌, length, get_or, take, drop, filter, append_assoc, Box, All, leb, refl, sym, ap, subst, ◌∙◌, inl, inr, arith, get_or-take, get_or-drop, length-take, length-drop}
+use Rattle.std.proofs.Common.{◌≡◌, ℕ, zero, suc, ◌+◌, ◌<◌, ◌≤◌, Bool, true, false, cond, List, [], ◌∷◌, ◌++◌, length, get_or, take, drop, filter, append_assoc, Box, All, leb, refl, sym, ap, subst, ◌∙◌, inl, inr, arith, get_or-take, get_or-drop, length-take, length-drop}
 use Rattle.std.specs.List.{AllWithin}
 use Rattle.std.specs.List.Sorted.{IsPartitionedBy, IsPartitionPoint}
 use Rattle.std.specs.FinMap.Entries.{below_all}
@@ -9,7 +9,7 @@ use Rattle.std.specs.declared.cmp.Ordering.{Ordering}
 use Rattle.std.specs.declared.cmp.Ordering.TheVariants.{Less}
 use Rattle.std.proofs.lemmas.Cmp.{nat_list_cmp_total, ranked, by_ranked}
 use Rattle.std.proofs.lemmas.Bool.{false≢true, cases_lt, lt-leb, le-leb, leb-true, leb-false, and_parts, and_left, and_right, and_from}
-use Rattle.std.proofs.lemmas.List.{take-append-drop, take_all, map-append, append-nil}
+use Rattle.std.proofs.lemmas.List.{take-append-drop, map-append, append-nil}
 use Rattle.std.proofs.lemmas.List.Elements.{filter-append, All-take, All-drop}
 use Rattle.hb_space.specs.Points.{point_cmp}
 use Rattle.hb_space.specs.Boxes.{Area, is_between, holds}
@@ -97,10 +97,6 @@ none_above : (a : Area) (hs : List (Box Record Global)) (n : ℕ) → n ≤ leng
 none_above a hs n le above k d lt =
     let within : n + k < length hs = omega (arith, simp length-drop at lt) in
     rw get_or-drop (outside_above a.lo a.hi (get_or hs (n + k) d).value.key (leb-false _ _ (above (n + k) d (omega arith) within)))
-
--- what `hs[m..]` is
-pub rest_is : {T : Type 0} (xs : List T) (m : ℕ) → take (length xs - m) (drop m xs) ≡ drop m xs
-rest_is xs m = take_all (length xs - m) (drop m xs) (omega (arith, length-drop m xs))
 
 -- so the records between the two places are all that the box may hold
 pub filter_window : (a : Area) (hs rest : List (Box Record Global)) (m n : ℕ) → rest ≡ drop m hs → m ≤ length hs → n ≤ length rest

@@ -1,6 +1,5 @@
 -- From the facts of the pages to the pages.
-use Rattle.std.proofs.Common.{◌≡◌, ℕ, zero, suc, ◌+◌, ◌-◌, ◌==◌, Bool, false, cond, List, [], ◌∷◌, length, Option, Some, None, slice_get, refl, sym, ap, ◌∙◌, subst, arith}
-use Rattle.std.proofs.lemmas.Bool.{ne_eqb}
+use Rattle.std.proofs.Common.{◌≡◌, ℕ, zero, suc, ◌+◌, List, [], ◌∷◌, length, Option, Some, None, slice_get, refl, sym, ap, ◌∙◌, subst}
 use Rattle.hb_frag.specs.declared.pages.LivePage.{LivePage}
 use Rattle.hb_frag.specs.declared.pages.Page.{Page}
 use Rattle.hb_frag.specs.declared.pages.Page.TheVariants as pages
@@ -14,23 +13,11 @@ use Rattle.hb_sound.specs.Covers.{SeesTop}
 use Rattle.hb_sound.specs.Facts.{AreFactsOf, IsFactOf, IsSeenOf, if_next, if_seen, next_at, seen_at}
 use Rattle.hb_sound.specs.Told.{HasBoundedMeta, item_at, file_with}
 use Rattle.hb_sound.specs.Walks.{if_free, next_free}
-use Rattle.hb_ops.proofs.Facts.PageNumberLaws.{page_at-zero}
-
-page_slice : (list : List Page) (n : ℕ) → page_at list (suc n) ≡ slice_get list n
-page_slice [] n = refl
-page_slice (first ∷ rest) zero = refl
-page_slice (first ∷ rest) (suc k) =
-    let not_zero : (suc (suc k) == 0) ≡ false = ne_eqb (suc (suc k)) 0 (λ q. omega (arith, q)) in
-    let not_one : (suc (suc k) == 1) ≡ false = ne_eqb (suc (suc k)) 1 (λ q. omega (arith, q)) in
-    let less : suc (suc k) - 1 ≡ suc k = omega arith in
-    ap (λ (b : Bool). cond b None (cond (suc (suc k) == 1) (Some first) (page_at rest (suc (suc k) - 1)))) not_zero
-    ∙ ap (λ (b : Bool). cond b (Some first) (page_at rest (suc (suc k) - 1))) not_one
-    ∙ ap (λ (n : ℕ). page_at rest n) less
-    ∙ page_slice rest k
+use Rattle.hb_ops.proofs.Facts.PageNumberLaws.{page_at-zero, page_at-suc}
 
 pub page_item : (list : List Page) (id : ℕ) → page_at list id ≡ item_at list id
 page_item list zero = page_at-zero list
-page_item list (suc n) = page_slice list n
+page_item list (suc n) = page_at-suc list n
 
 -- a fact and its page, or neither
 abbrev pub AreBoth : Meta → Option Fact → Option Page → Type 0

@@ -1,7 +1,8 @@
 -- Rule 2: from the walk over the facts to the chain of the file.
-use Rattle.std.proofs.Common.{◌≡◌, ◌⊎◌, inl, inr, ℕ, zero, suc, ◌<◌, ◌≤◌, List, [], ◌∷◌, ◌++◌, length, Contains, Option, Some, None, slice_index_or, refl, sym, ap, ◌∙◌, subst, arith}
+use Rattle.std.proofs.Common.{◌≡◌, ◌⊎◌, inl, inr, ℕ, zero, suc, ◌<◌, ◌≤◌, List, [], ◌∷◌, ◌++◌, length, Contains, Option, Some, None, refl, sym, ap, ◌∙◌, subst, arith}
 use Rattle.std.proofs.lemmas.Bool.{cases_eq}
 use Rattle.std.proofs.lemmas.List.Elements.{Contains-append_right}
+use Rattle.hb_lemmas.proofs.Lists.{member_cases}
 use Rattle.hb_frag.specs.declared.pages.Page.{Page}
 use Rattle.hb_frag.specs.declared.pages.Page.TheVariants as pages
 use Rattle.hb_layout.specs.declared.meta.Meta.{Meta}
@@ -17,19 +18,12 @@ use Rattle.hb_sound.specs.Walks.{IsLeast, IsLeftOut, IsChainWalk, LeadsAlong, if
 use Rattle.hb_sound.proofs.Bridge.{next_same}
 use Rattle.hb_ops.proofs.Facts.PageNumberLaws.{page_at-zero}
 
-contains_at : {X : Type 0} (x y : X) (xs : List X) (k : ℕ) → k < length (x ∷ xs) → slice_index_or (x ∷ xs) k y ≡ y → (x ≡ y) ⊎ Contains xs y
-contains_at {X} x y xs zero lt e = inl e
-contains_at {X} x y xs (suc k) lt e = inr (k, omega (arith, lt), e)
-
-pub contains_cases : {X : Type 0} (x y : X) (xs : List X) → Contains (x ∷ xs) y → (x ≡ y) ⊎ Contains xs y
-contains_cases {X} x y xs h = contains_at x y xs h.0 h.1 h.2
-
 -- a number that can't be missing is there
 contained : (xs : List ℕ) (id : ℕ) → ¬ (¬ (Contains xs id)) → Contains xs id
 contained [] id there = absurd (there (λ h. omega (arith, h.1)))
 contained (x ∷ xs) id there = elim (cases_eq x id) [
   | inl here ↦ let Q : ℕ → Type 0 = λ n. Contains (x ∷ xs) n in subst Q here (0, omega arith, refl)
-  | inr other ↦ Contains-append_right (x ∷ []) xs id (contained xs id (λ off. there (λ h. elim (contains_cases {X = ℕ} x id xs h) [ inl e ↦ other e | inr behind ↦ off behind ])))
+  | inr other ↦ Contains-append_right (x ∷ []) xs id (contained xs id (λ off. there (λ h. elim (member_cases x xs id h) [ inl e ↦ other e | inr behind ↦ off behind ])))
 ]
 
 -- two walks from one number: the longer goes on where the shorter ends
@@ -68,7 +62,7 @@ no_circle (suc n) next id first circle whole few none round all =
 -- a walk that meets its end again has a circle
 circle_of : (next : ℕ → Option ℕ) (head end : ℕ) (chain : List ℕ) → LeadsAlong next head chain end → Contains chain end → (first : ℕ) × (circle : List ℕ) × LeadsAlong next end (first ∷ circle) end
 circle_of next head end [] leads h = absurd (omega (arith, h.1))
-circle_of next head end (id ∷ chain) leads h = elim (contains_cases {X = ℕ} id end chain h) [
+circle_of next head end (id ∷ chain) leads h = elim (member_cases id chain end h) [
   | inl here ↦ let Q : ℕ → Type 0 = λ n. LeadsAlong next n (id ∷ chain) end in (id, chain, subst Q (leads.0 ∙ here) leads)
   | inr behind ↦ circle_of next leads.1 end chain leads.3 behind
 ]

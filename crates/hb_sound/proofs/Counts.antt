@@ -1,12 +1,13 @@
 -- Counts of names up to two.
 use Rattle.std.proofs.Common.{◌≡◌, inl, inr, ℕ, zero, suc, ◌+◌, ◌≤◌, ◌==◌, Bool, true, false, if◌then◌else◌, List, [], ◌∷◌, ◌++◌, length, Option, Some, None, option_map, slice_get, slice_set, refl, sym, ap, ◌∙◌, arith}
-use Rattle.std.proofs.lemmas.Option.{slice_get_past}
+use Rattle.std.proofs.lemmas.Option.{slice_get_past, slice_get_within}
 use Rattle.std.proofs.lemmas.Bool.{cases_eq, eq-eqb, ne_eqb}
 use Rattle.hb_frag.specs.declared.leaves.Leaf.{Leaf}
 use Rattle.hb_frag.specs.declared.leaves.Leaf.TheVariants.{Records, Child, Sibling}
 use Rattle.hb_sound.specs.declared.names.Times.{Times}
 use Rattle.hb_sound.specs.Facts.{more, names_in, once_more}
 use Rattle.hb_sound.specs.Told.{item_at}
+use Rattle.hb_space.proofs.Facts.Lists.{get-set_other, get-set_same}
 
 pub names_append : (id : ℕ) (xs ys : List Leaf) → names_in id (xs ++ ys) ≡ names_in id xs + names_in id ys
 names_append id [] ys = omega arith
@@ -25,18 +26,6 @@ pub more_map : (a b : ℕ) (o : Option Times) → option_map (more a) (option_ma
 more_map a b None = refl
 more_map a b (Some t) = ap (λ (x : Times). Some x) (more_more a b t)
 
-pub get_set_same : {A : Type 0} (xs : List A) (n : ℕ) (x y : A) → slice_get xs n ≡ Some y → slice_get (slice_set xs n x) n ≡ Some x
-get_set_same {A} [] n x y e = let never : None ≡ Some y = e in cc
-get_set_same {A} (z ∷ xs) zero x y e = refl
-get_set_same {A} (z ∷ xs) (suc n) x y e = get_set_same xs n x y e
-
-pub get_set_other : {A : Type 0} (xs : List A) (n k : ℕ) (x : A) → ¬ (k ≡ n) → slice_get (slice_set xs n x) k ≡ slice_get xs k
-get_set_other {A} [] n k x other = refl
-get_set_other {A} (z ∷ xs) zero zero x other = absurd (other refl)
-get_set_other {A} (z ∷ xs) zero (suc k) x other = refl
-get_set_other {A} (z ∷ xs) (suc n) zero x other = refl
-get_set_other {A} (z ∷ xs) (suc n) (suc k) x other = get_set_other xs n k x (λ e. other (ap suc e))
-
 pub none_more : (o : Option Times) → option_map (more 0) o ≡ o
 none_more None = refl
 none_more (Some t) = refl
@@ -50,11 +39,11 @@ one_more named place times id (suc n) is here = elim (cases_eq n place) [
       let e : (id == suc n) ≡ true = eq-eqb id (suc n) (omega (arith, is, same)) in
       let there : slice_get named n ≡ Some times = ap (λ (k : ℕ). slice_get named k) same ∙ here in
       let put : slice_get (slice_set named place (once_more times)) n ≡ Some (once_more times) =
-      ap (λ (k : ℕ). slice_get (slice_set named place (once_more times)) k) same ∙ get_set_same named place (once_more times) times here in
+      ap (λ (k : ℕ). slice_get (slice_set named place (once_more times)) k) same ∙ get-set_same named place (once_more times) (slice_get_within named place times here) in
       put ∙ sym (ap (λ (b : Bool). option_map (more (if b then 1 else 0)) (slice_get named n)) e ∙ ap (option_map (more 1)) there)
   | inr apart ↦
       let e : (id == suc n) ≡ false = ne_eqb id (suc n) (λ q. apart (omega (arith, is, q))) in
-      get_set_other named place n (once_more times) apart
+      get-set_other named place n (once_more times) apart
       ∙ sym (ap (λ (b : Bool). option_map (more (if b then 1 else 0)) (slice_get named n)) e ∙ none_more (slice_get named n))
 ]
 

@@ -14,21 +14,21 @@ use Rattle.hb_frag.specs.Rules.{Fits, IsFilledRight, IsSiblingTip}
 use Rattle.hb_frag.specs.Trees.{Tree, Tip, Cut}
 use Rattle.hb_layout.specs.declared.meta.Meta.{Meta}
 use Rattle.hb_ops.specs.Files.{FileState, if_live, live_page}
-use Rattle.hb_ops.specs.Sound.{BreaksFirst, FitsFile, IsCovered, SiblingsMatch, count_name, times_named}
+use Rattle.hb_ops.specs.Sound.{BreaksFirst, FitsFile, IsCovered, SiblingsMatch, count_name, times_named, HasSame}
 use Rattle.hb_sound.specs.declared.page_facts.Seen.{Seen}
 use Rattle.hb_sound.specs.declared.page_facts.Fact.{Fact}
 use Rattle.hb_sound.specs.declared.page_facts.Fact.TheVariants.{Live, Free}
 use Rattle.hb_sound.specs.declared.names.Times.{Times}
 use Rattle.hb_sound.specs.declared.names.Times.TheVariants.{Never, Once, Often}
-use Rattle.hb_sound.specs.Names.{HasSame, IsLoose, LacksFirst, KeepsSix, NamesLoose}
+use Rattle.hb_sound.specs.Names.{IsLoose, LacksFirst, KeepsSix, NamesLoose}
 use Rattle.hb_sound.specs.Covers.{AreBelow, HasBox, IsCoverBreak, LacksLevel, SeesSome, SeesLoose}
 use Rattle.hb_sound.specs.Facts.{AreFactsOf, if_seen, more, once_more, seen_at}
 use Rattle.hb_sound.specs.Told.{item_at, file_with}
 use Rattle.hb_sound.proofs.Bridge.{live_seen, page_item, seen_live}
 use Rattle.hb_lemmas.proofs.Lists.{only_one}
-use Rattle.hb_sound.proofs.LeafBridge.{known_area}
 use Rattle.hb_sound.proofs.Levels.{seen_fact}
 use Rattle.hb_ops.proofs.Facts.PlacedLaws.{placed}
+use Rattle.hb_ops.proofs.Facts.KnownBoxes.{known_area}
 
 -- how often sibling leaves name each page, as counts that go up to two
 abbrev pub IsNamedBy : List Fact → List Page → List Times → Type 0

@@ -1,6 +1,7 @@
 pub mod ExampleParts
 pub mod LeastLaws
 pub mod MergedPages
+pub mod NoneBroken
 pub mod OneLevel
 pub mod PagePlaces
 pub mod PagesParted

@@ -15,9 +15,10 @@ use Rattle.hb_ops.specs.Allocating.{new_root, raised, allocated}
 use Rattle.hb_sound.proofs.Extractions.{Extraction}
 use Rattle.hb_sound.proofs.FileParted.{IsParted, is_parted}
 use Rattle.hb_ops.proofs.Facts.FilePages.{chain_kept}
-use Rattle.hb_ops.proofs.Facts.PageNumberLaws.{in_range, live_so, place_of, with_page-there}
+use Rattle.hb_ops.proofs.Facts.PageNumberLaws.{live_so, place_of, with_page-there}
 use Rattle.hb_sound.proofs.SplitChains.{counted_again, high_fits}
-use Rattle.std.proofs.lemmas.Option.{same_Some}
+use Rattle.hb_sound.proofs.Facts.PagePlaces.{not_vacant}
+use Rattle.std.proofs.lemmas.Option.{same_Some, slice_get_within}
 
 -- a page put where it stands already changes nothing
 set_same : (pages : List Page) (n : ℕ) (q : Page) → slice_get pages n ≡ Some q → set pages n q ≡ pages
@@ -28,7 +29,7 @@ set_same (x ∷ xs) (suc n) q e = ap (λ (ys : List Page). x ∷ ys) (set_same x
 put_same : (s : FileState) (id : ℕ) (q : Page) → page_of s id ≡ Some q → with_page id q s.pages ≡ s.pages
 put_same s id q e =
     let here = place_of s.pages id q e in
-    ap (λ (m : ℕ). with_page m q s.pages) here.1 ∙ with_page-there s.pages here.0 q (in_range s.pages here.0 q here.2) ∙ set_same s.pages here.0 q here.2
+    ap (λ (m : ℕ). with_page m q s.pages) here.1 ∙ with_page-there s.pages here.0 q (slice_get_within s.pages here.0 q here.2) ∙ set_same s.pages here.0 q here.2
 
 -- a chain is one of the pages, whatever the file says of itself
 counted_raised : (meta : Meta) (root : ℕ) (pages : List Page) → IsCounted (record { meta = meta; pages = pages }) → IsCounted (record { meta = raised meta root; pages = pages })
@@ -83,11 +84,8 @@ module _ (s : FileState) (x : Growth) (sound : IsSound s) (may : MayGrow s x) (l
 
 -- a page in use stays, and one in use afterwards was so before or is the new root
 module _ (s : FileState) (x : Growth) (grew : IsGrown s x) where
-  pub not_fresh : (id : ℕ) (page : LivePage) → live_page s id ≡ Some page → id ≢ x.fresh
-  not_fresh id page live e = grew.vacant page (ap (live_page s) (sym e) ∙ live)
-
   pub stays_live : (id : ℕ) (page : LivePage) → live_page s id ≡ Some page → live_page (grown s x) id ≡ Some page
-  stays_live id page live = ap if_live (grew.others id (not_fresh id page live)) ∙ live
+  stays_live id page live = ap if_live (grew.others id (not_vacant s x.fresh id page grew.vacant live)) ∙ live
 
   pub comes_from : (id : ℕ) (page : LivePage) → live_page (grown s x) id ≡ Some page → ((id ≡ x.fresh) × (page ≡ new_root s.meta)) ⊎ (live_page s id ≡ Some page)
   comes_from id page live = elim (cases_eq id x.fresh) [

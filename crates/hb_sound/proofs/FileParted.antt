@@ -16,7 +16,7 @@ use Rattle.hb_ops.specs.Sound.{FitsFile, count_live, count_name, times_named}
 use Rattle.hb_sound.proofs.Extractions.{Extraction, FitsPart, LicensesExtraction, fresh_page, source_page}
 use Rattle.hb_ops.specs.Allocating.{Allocates, allocated}
 use Rattle.hb_sound.proofs.CutNames.{once}
-use Rattle.hb_sound.proofs.PageLists.{HasInstead, none_behind, put_behind, put_instead}
+use Rattle.hb_ops.proofs.Facts.PageLists.{HasInstead, none_behind, put_behind, put_instead}
 use Rattle.hb_ops.proofs.Facts.PageNumberLaws.{live_so}
 use Rattle.hb_sound.proofs.Facts.PagesParted.{fresh_narrower, names_parted, stems_child, stems_sibling}
 use Rattle.hb_ops.proofs.Facts.PartedPageLaws.{fresh_made, source_made}
@@ -88,9 +88,6 @@ pub record HasTaken (pages : List Page) (high fresh : ℕ) (new : LivePage) (aft
   pub numbered : length after ≡ max high fresh
 
 module _ (s : FileState) (x : Extraction) (page source fresh : LivePage) (numbered : length s.pages ≡ s.meta.high) (allocates : Allocates s.meta x.fresh x.free_after) (licensed : LicensesExtraction s x) (live : live_page s x.source ≡ Some page) where
-  was_live : page_of s x.source ≡ Some (Live page)
-  was_live = live_so (page_of s x.source) page live
-
   vacant : (q : LivePage) → live_page s x.fresh ≡ Some q → ⊥
   vacant q e = elim (cases_eq s.meta.free 0) [
     | inl none ↦
@@ -109,7 +106,7 @@ module _ (s : FileState) (x : Extraction) (page source fresh : LivePage) (number
   first = with_page x.source (Live source) s.pages
 
   put_source : HasInstead s.pages x.source (Live page) (Live source) first × (length first ≡ length s.pages)
-  put_source = put_instead s.pages x.source (Live page) (Live source) was_live
+  put_source = put_instead s.pages x.source (Live page) (Live source) (live_so (page_of s x.source) page live)
 
   put_fresh : HasTaken first s.meta.high x.fresh fresh (with_page x.fresh (Live fresh) first)
   put_fresh = elim (cases_eq s.meta.free 0) [

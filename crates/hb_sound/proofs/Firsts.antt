@@ -1,6 +1,6 @@
 -- The first number of which something holds, found by a loop.
-use Rattle.std.proofs.Common.{◌≡◌, inl, inr, ℕ, zero, suc, ◌+◌, ◌<◌, ◌≤◌, List, length, Some, None, slice_get, get_or, refl, sym, ap, ◌∙◌, subst, arith}
-use Rattle.std.proofs.lemmas.Option.{slice_get_read, slice_get_within}
+use Rattle.std.proofs.Common.{◌≡◌, inl, inr, ℕ, zero, suc, ◌+◌, ◌<◌, ◌≤◌, List, length, Some, None, slice_get, get_or, refl, sym, ap, ◌∙◌, subst, arith, Option}
+use Rattle.std.proofs.lemmas.Option.{slice_get_read, slice_get_within, slice_get-get_or}
 use Rattle.std.proofs.lemmas.Bool.{cases_lt}
 use Rattle.hb_sound.specs.declared.page_facts.Fact.{Fact}
 use Rattle.hb_sound.specs.Covers.{SeesSome}
@@ -13,6 +13,13 @@ pub item_behind : {A : Type 0} (list : List A) (place : ℕ) → item_at list (p
 item_behind {A} list place =
     let one : place + 1 ≡ suc place = omega arith in
     ap (λ (n : ℕ). item_at list n) one
+
+-- and the item that is read there
+pub item_got : {A : Type 0} (list : List A) (place : ℕ) (d : A) → place < length list → item_at list (place + 1) ≡ Some (get_or list place d)
+item_got list place d within = item_behind list place ∙ slice_get-get_or list place d within
+
+pub item_read : {A : Type 0} (list : List A) (place : ℕ) (item : A) → place < length list → item ≡ get_or list place item → item_at list (place + 1) ≡ Some item
+item_read list place item within is = item_behind list place ∙ slice_get_read list (length list) place item refl within is
 
 -- a number of an item is at most the length
 pub item_within : {A : Type 0} (list : List A) (id : ℕ) (item : A) → item_at list id ≡ Some item → id ≤ length list
@@ -32,14 +39,13 @@ found p n none here = record {
       | inr le ↦ absurd (none m le at)
     ]
 
--- not yet
-pub not_yet : (p : ℕ → Type 0) (n : ℕ) → IsFirstUpTo p n None → ¬ (p (n + 1)) → IsFirstUpTo p (n + 1) None
-not_yet p n none not_here m le at = elim (cases_lt n m) [
-  | inr at_most ↦ none m at_most at
-  | inl lt ↦
-      let e : m ≡ n + 1 = omega (arith, lt, le) in
-      not_here (subst p e at)
+-- not yet, or before
+pub pass_first : (p : ℕ → Type 0) (n : ℕ) (first : Option ℕ) → IsFirstUpTo p n first → ¬ (p (n + 1)) → IsFirstUpTo p (n + 1) first
+pass_first p n None is off = λ m le at. elim (cases_lt n m) [
+  | inl lt ↦ let e : m ≡ n + 1 = omega (arith, lt, le) in off (subst p e at)
+  | inr before ↦ is m before at
 ]
+pass_first p n (Some first) is off = is
 
 -- none before the first number
 pub none_yet : (q : Fact → Type 0) (facts : List Fact) → IsFirstUpTo (SeesSome q facts) 0 None
@@ -67,7 +73,7 @@ found_here q facts place fact within is none holds = found (SeesSome q facts) pl
 pub still_none : (q : Fact → Type 0) (facts : List Fact) (place : ℕ) (fact : Fact) → place < length facts → fact ≡ get_or facts place fact
     → IsFirstUpTo (SeesSome q facts) place None → ¬ (q fact) → IsFirstUpTo (SeesSome q facts) (place + 1) None
 still_none q facts place fact within is none fails =
-    not_yet (SeesSome q facts) place none (λ sees. fails (seen_there q facts place fact (read_here facts place fact within is) sees))
+    pass_first (SeesSome q facts) place None none (λ sees. fails (seen_there q facts place fact (read_here facts place fact within is) sees))
 
 pub none_left : (q : Fact → Type 0) (facts : List Fact) (n : ℕ) → length facts ≤ n → IsFirstUpTo (SeesSome q facts) n None → (id : ℕ) → ¬ (SeesSome q facts id)
 none_left q facts n all none id sees =

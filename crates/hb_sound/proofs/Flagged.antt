@@ -2,11 +2,12 @@
 use Rattle.std.proofs.Common.{◌≡◌, inl, inr, ℕ, zero, suc, ◌+◌, ◌-◌, ◌<◌, ◌≤◌, Bool, true, false, List, [], ◌∷◌, ◌++◌, Contains, Option, Some, None, slice_get, slice_set, refl, sym, ◌∙◌, subst, arith}
 use Rattle.std.proofs.lemmas.Bool.{cases_eq}
 use Rattle.std.proofs.lemmas.List.Elements.{Contains-append_cases, Contains-append_left, Contains-append_right}
+use Rattle.std.proofs.lemmas.Option.{slice_get_within}
 use Rattle.hb_sound.specs.Covers.{IsChained}
 use Rattle.hb_sound.specs.Told.{item_at}
 use Rattle.hb_sound.specs.Walks.{IsOnce, LeadsAlong}
-use Rattle.hb_sound.proofs.Counts.{get_set_other, get_set_same}
 use Rattle.hb_lemmas.proofs.Lists.{only_one}
+use Rattle.hb_space.proofs.Facts.Lists.{get-set_other, get-set_same}
 
 -- how many flags aren't set
 abbrev pub unflagged : List Bool → ℕ
@@ -33,11 +34,11 @@ item_set_same flags zero x y e = let never : None ≡ Some y = e in cc
 item_set_same flags (suc place) x y e =
     let same : place ≡ suc place - 1 = omega arith in
     let Q : ℕ → Type 0 = λ n. slice_get (slice_set flags n x) place ≡ Some x in
-    subst Q same (get_set_same flags place x y e)
+    subst Q same (get-set_same flags place x (slice_get_within flags place y e))
 
 item_set_other : (flags : List Bool) (id other : ℕ) (x : Bool) → 1 ≤ id → ¬ (other ≡ id) → item_at (slice_set flags (id - 1) x) other ≡ item_at flags other
 item_set_other flags id zero x some apart = refl
-item_set_other flags id (suc k) x some apart = get_set_other flags (id - 1) k x (λ e. apart (omega (arith, e, some)))
+item_set_other flags id (suc k) x some apart = get-set_other flags (id - 1) k x (λ e. apart (omega (arith, e, some)))
 
 -- a chain with one more number
 leads_on : (next : ℕ → Option ℕ) (head : ℕ) (chain : List ℕ) (id following : ℕ) → LeadsAlong next head chain id → next id ≡ Some following → LeadsAlong next head (chain ++ id ∷ []) following

@@ -11,10 +11,10 @@ use Rattle.hb_sound.specs.Laws.{SpaceLaws, TreeLaws, FullyPostedWalksAreShort}
 use Rattle.hb_ops.specs.Settled.{AllPosted}
 use Rattle.hb_sound.specs.PointWalks.{IsWalk, LeadsOn, Sees}
 use Rattle.hb_sound.proofs.HeldSomewhere.{leaf_there}
-use Rattle.hb_sound.proofs.Facts.OneLevel.{same_page}
 use Rattle.hb_sound.proofs.Partition.{whole_holds, whole_is_area}
 use Rattle.hb_sound.proofs.WalksDown.{belongs, child_below, no_sibling}
 use Rattle.hb_space.proofs.Facts.Boxes.{Meets-from_point}
+use Rattle.hb_lemmas.proofs.Options.{one_value}
 
 module _ (laws : TreeLaws) (s : FileState) (made : AreWellMade s) (match : SiblingsMatch s) (children : ChildrenMatch s) (covered : IsCovered s) (area : IsArea (whole_area s.meta.k)) (p : List ℕ) (posted : AllPosted s) (last : ℕ) (records : List Record) (ends : Sees s p last (Records records)) where
   abbrev Falls : List ℕ → Type 0
@@ -23,13 +23,13 @@ module _ (laws : TreeLaws) (s : FileState) (made : AreWellMade s) (match : Sibli
   at_end : Falls []
   at_end id page live direct walk =
       let bottom : ends.page.level ≡ 0 = belongs laws s made match children covered area p last ends.page (Records records) ends.area ends.live ends.there in
-      let same = same_page s last page ends.page (subst (λ (n : ℕ). live_page s n ≡ Some page) walk live) ends.live in
+      let same = one_value (live_page s last) page ends.page (subst (λ (n : ℕ). live_page s n ≡ Some page) walk live) ends.live in
       let level = ap (λ (q : LivePage). q.level) same in
       omega (arith, bottom, level)
 
   one_step : (next : ℕ) (rest : List ℕ) → Falls rest → (id : ℕ) (page : LivePage) → live_page s id ≡ Some page → DirectlyHolds page p → LeadsOn s p id next → IsWalk s p next rest last → suc (length rest) ≡ page.level
   one_step next rest again id page live direct (inl sees) walk =
-      let same = same_page s id page sees.page live sees.live in
+      let same = one_value (live_page s id) page sees.page live sees.live in
       let level = ap (λ (q : LivePage). q.level) same in
       let child = child_below laws s made match children covered area p id sees.page next sees.area sees.live sees.there in
       let there = leaf_there laws s made match covered area p id sees.page (Child next) sees.area sees.live sees.there in
@@ -42,7 +42,7 @@ module _ (laws : TreeLaws) (s : FileState) (made : AreWellMade s) (match : Sibli
       let down = child.below in
       omega (arith, behind, down, level)
   one_step next rest again id page live direct (inr sees) walk =
-      let same = same_page s id page sees.page live sees.live in
+      let same = one_value (live_page s id) page sees.page live sees.live in
       absurd (no_sibling laws s made match children covered area p id sees.page next sees.area sees.live (subst (λ (q : LivePage). DirectlyHolds q p) same direct) sees.there)
 
   pub falls : (rest : List ℕ) → Falls rest

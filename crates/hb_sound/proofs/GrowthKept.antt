@@ -14,14 +14,14 @@ use Rattle.hb_frag.specs.declared.pages.Page.TheVariants.{Live, Free}
 use Rattle.hb_ops.specs.Files.{FileState, file_records, if_live, page_records}
 use Rattle.hb_ops.specs.Operations.{with_page}
 use Rattle.hb_ops.specs.Sound.{IsSound}
-use Rattle.hb_ops.proofs.Facts.PageNumberLaws.{in_range, place_of, with_page-behind, with_page-there}
+use Rattle.hb_ops.proofs.Facts.PageNumberLaws.{place_of, with_page-behind, with_page-there}
 use Rattle.hb_sound.specs.Laws.{SpaceLaws}
 use Rattle.hb_sound.proofs.Growths.{Growth, LicensesGrowth, MayGrow, growth, grown}
 use Rattle.hb_sound.specs.LawsOfOperations.{GrowthKeepsContents, GrowthKeepsDirect}
 use Rattle.hb_ops.specs.Allocating.{new_root}
 use Rattle.std.proofs.lemmas.List.Elements.{All-from_recursion}
 use Rattle.hb_sound.proofs.FileGrown.{comes_from, is_grown, stays_live}
-use Rattle.std.proofs.lemmas.Option.{same_Some}
+use Rattle.std.proofs.lemmas.Option.{same_Some, slice_get_within}
 
 -- a page in place of one with the same records
 pub records-set : (pages : List Page) (n : ℕ) (was now : Page) → slice_get pages n ≡ Some was → page_records now ≡ page_records was → flat_map page_records (set pages n now) ≡ flat_map page_records pages
@@ -51,7 +51,7 @@ module _ (s : FileState) (x : Growth) (sound : IsSound s) (may : MayGrow s x) (l
     | inr some ↦
         let here = place_of s.pages x.fresh (Free x.free_after) (licensed some) in
         ap (λ (m : ℕ). flat_map page_records (with_page m new s.pages)) here.1
-        ∙ ap (flat_map page_records) (with_page-there s.pages here.0 new (in_range s.pages here.0 (Free x.free_after) here.2))
+        ∙ ap (flat_map page_records) (with_page-there s.pages here.0 new (slice_get_within s.pages here.0 (Free x.free_after) here.2))
         ∙ records-set s.pages here.0 (Free x.free_after) new here.2 no_records
   ]
 

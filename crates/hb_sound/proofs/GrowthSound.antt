@@ -9,7 +9,7 @@ use Rattle.hb_frag.specs.declared.pages.LivePage.{LivePage}
 use Rattle.hb_frag.specs.Leaves.{Placed, leaves_of, siblings_of}
 use Rattle.hb_frag.specs.Rules.{BelongsAt, IsInOrder, capacity_of}
 use Rattle.hb_ops.specs.Files.{FileState, if_live, live_page}
-use Rattle.hb_ops.specs.Sound.{AreWellMade, ChildrenMatch, FitsFile, IsCovered, IsRooted, IsSound, SiblingsMatch, times_named}
+use Rattle.hb_ops.specs.Sound.{AreWellMade, ChildrenMatch, FitsFile, IsCovered, IsRooted, IsSound, SiblingsMatch, times_named, HasBelow}
 use Rattle.hb_space.proofs.Facts.Boxes.{Within-self}
 use Rattle.hb_sound.proofs.Growths.{Growth, growth, grown}
 use Rattle.hb_sound.specs.LawsOfOperations.{GrowthKeepsSound}
@@ -17,7 +17,7 @@ use Rattle.hb_ops.specs.Allocating.{new_root}
 use Rattle.hb_sound.proofs.Facts.ExampleParts.{no_records}
 use Rattle.std.proofs.lemmas.List.Elements.{All-from_recursion}
 use Rattle.hb_sound.proofs.FileGrown.{IsGrown, comes_from, is_grown, stays_live}
-use Rattle.hb_sound.proofs.PageLists.{live_few}
+use Rattle.hb_ops.proofs.Facts.PageLists.{live_few}
 use Rattle.hb_ops.proofs.Facts.PlacedLaws.{placed}
 use Rattle.hb_sound.proofs.SplitChains.{head_there}
 use Rattle.hb_sound.proofs.SplitSound.{named_none}
@@ -92,10 +92,7 @@ module _ (s : FileState) (x : Growth) (grew : IsGrown s x) where
   ]
 
   -- and one child leaf, of the whole space, which the old root has
-  abbrev ChildIn : ℕ → ℕ → Area → Type 0
-  ChildIn level name area = (named : LivePage) × (live_page after name ≡ Some named) × (named.level + 1 ≡ level) × Within area named.area
-
-  children_of_root : IsRooted s → (name : ℕ) (area : Area) → Contains (placed (Child s.meta.root) (whole_area s.meta.k) ∷ []) (placed (Child name) area) → ChildIn s.meta.height name area
+  children_of_root : IsRooted s → (name : ℕ) (area : Area) → Contains (placed (Child s.meta.root) (whole_area s.meta.k) ∷ []) (placed (Child name) area) → HasBelow after s.meta.height name area
   children_of_root h name area (zero, lt, e) =
       let leaf = ap (λ (l : Placed). l.leaf) e in
       let same : s.meta.root ≡ name = cc in
@@ -105,7 +102,7 @@ module _ (s : FileState) (x : Growth) (grew : IsGrown s x) where
 
   children_match : IsRooted s → ChildrenMatch s → ChildrenMatch after
   children_match rooted h id page name area live has = elim (comes_from s x grew id page live) [
-    | inl w ↦ subst (λ (q : LivePage). Contains (leaves_of q.frag q.area) (placed (Child name) area) → ChildIn q.level name area) (sym w.1) (children_of_root rooted name area) has
+    | inl w ↦ subst (λ (q : LivePage). Contains (leaves_of q.frag q.area) (placed (Child name) area) → HasBelow after q.level name area) (sym w.1) (children_of_root rooted name area) has
     | inr was ↦
         let m = h id page name area was has in
         (m.0, stays_live s x grew name m.0 m.1, m.2, m.3)

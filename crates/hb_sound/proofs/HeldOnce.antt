@@ -14,6 +14,7 @@ use Rattle.hb_sound.specs.Laws.{TreeLaws}
 use Rattle.hb_sound.specs.PointWalks.{HasOn}
 use Rattle.hb_sound.proofs.Facts.OneLevel.{holds_where_leaf, page_area, sibling_there, spread}
 use Rattle.hb_ops.proofs.Facts.PlacedLaws.{leaf_is_sibling, placed}
+use Rattle.hb_lemmas.proofs.Options.{one_value}
 
 -- the page that a sibling leaf names
 abbrev sibling_name : Leaf → Option ℕ
@@ -45,9 +46,6 @@ none_later s p id n (suc m) lt e = elim (cases_eq m n) [
   | inl is ↦ ap (λ (k : ℕ). next_of s p (after s p id k)) is ∙ e
   | inr ne ↦ ap (λ (o : Option ℕ). next_of s p o) (none_later s p id n m (omega (arith, ne)) e)
 ]
-
-same_number : (x y : ℕ) (o : Option ℕ) → o ≡ Some x → o ≡ Some y → x ≡ y
-same_number x y o e f = cc
 
 module _ (laws : TreeLaws) (s : FileState) (made : AreWellMade s) (match : SiblingsMatch s) (covered : IsCovered s) (area : IsArea (whole_area s.meta.k)) (p : List ℕ) where
   -- at a page that directly holds the point it stops
@@ -92,6 +90,6 @@ module _ (laws : TreeLaws) (s : FileState) (made : AreWellMade s) (match : Sibli
           | inl lt ↦ absurd (not_before id other n.0 m.0 one n.1 m.1 lt)
           | inr ge ↦ elim (cases_lt m.0 n.0) [
             | inl lt ↦ absurd (not_before other id m.0 n.0 two m.1 n.1 lt)
-            | inr le ↦ let same : n.0 ≡ m.0 = omega (arith, ge, le) in same_number id other (after s p first m.0) (ap (after s p first) (sym same) ∙ n.1) m.1
+            | inr le ↦ let same : n.0 ≡ m.0 = omega (arith, ge, le) in one_value (after s p first m.0) id other (ap (after s p first) (sym same) ∙ n.1) m.1
           ]
         ]

@@ -14,6 +14,8 @@ use Rattle.hb_sound.specs.PointWalks.{HasOn, IsWalk}
 use Rattle.hb_sound.proofs.Facts.OneLevel.{narrower, page_area, sibling_there}
 use Rattle.hb_ops.proofs.Facts.PlacedLaws.{leaf_is_sibling, placed}
 use Rattle.hb_sound.proofs.Widths.{width}
+use Rattle.hb_sound.specs.LawsOfOperations.{HasDirectly}
+use Rattle.hb_lemmas.proofs.Options.{one_value}
 
 -- a walk from the page to one of the level that directly holds the point
 pub record WalksOn (s : FileState) (level : ℕ) (p : List ℕ) (id : ℕ) : Type 0 where
@@ -22,8 +24,13 @@ pub record WalksOn (s : FileState) (level : ℕ) (p : List ℕ) (id : ℕ) : Typ
   pub walk : IsWalk s p id rest last
   pub has : HasOn s level p last
 
-pub same_leaf : (x y : Placed) → Some x ≡ Some y → x.leaf ≡ y.leaf
-same_leaf x y e = let same : x ≡ y = cc in ap (λ (l : Placed). l.leaf) same
+-- a page that directly holds a point does so under any name of its number
+pub under : (f : FileState) (level id other : ℕ) (p : List ℕ) → id ≡ other → HasOn f level p id → HasDirectly f other p
+under f level id other p is has = (has.page, ap (live_page f) (sym is) ∙ has.live, has.direct)
+
+-- and on its level
+pub on_level : (f : FileState) (id : ℕ) (page : LivePage) (level : ℕ) (p : List ℕ) → live_page f id ≡ Some page → page.level ≡ level → HasDirectly f id p → HasOn f level p id
+on_level f id page level p live level_is has = record { page = has.0; live = has.1; on = ap (λ (q : LivePage). q.level) (one_value (live_page f id) has.0 page has.1 live) ∙ level_is; direct = has.2 }
 
 module _ (laws : TreeLaws) (s : FileState) (made : AreWellMade s) (match : SiblingsMatch s) (covered : IsCovered s) (area : IsArea (whole_area s.meta.k)) (p : List ℕ) where
   -- the leaf at a point is one of the page's, and its box holds the point
@@ -37,7 +44,7 @@ module _ (laws : TreeLaws) (s : FileState) (made : AreWellMade s) (match : Sibli
     not_given = λ k d lt there.
         let x = get_or (siblings_of page) k d in
         let is = sibling_there laws s made match covered area id page x.0 x.1 p live (Contains-get_or (siblings_of page) k d lt) there in
-        other x.0 (same_leaf (placed leaf b) (placed (Sibling x.0) x.1) (sym e ∙ is));
+        other x.0 (ap (λ (l : Placed). l.leaf) (one_value (leaf_at page p) (placed leaf b) (placed (Sibling x.0) x.1) e is));
   }
 
   -- and there is a leaf at each point of its box

@@ -1,5 +1,5 @@
 -- What is known of the pages that were read stays known while more of them are read.
-use Rattle.std.proofs.Common.{◌≡◌, ◌⊎◌, inl, inr, ℕ, zero, suc, ◌+◌, List, [], ◌∷◌, ◌++◌, length, Option, Some, None, IfSome, slice_get, refl, sym, ap, ◌∙◌, subst, arith}
+use Rattle.std.proofs.Common.{◌≡◌, ◌⊎◌, inl, inr, ℕ, zero, suc, ◌+◌, List, [], ◌∷◌, ◌++◌, length, Option, Some, None, IfSome, refl, sym, ap, ◌∙◌, subst, arith}
 use Rattle.std.proofs.lemmas.List.Elements.{All-weaker}
 use Rattle.hb_space.specs.Boxes.{Area}
 use Rattle.hb_frag.specs.declared.leaves.Leaf.{Leaf}
@@ -16,17 +16,12 @@ use Rattle.hb_sound.specs.declared.rests.Rest.TheVariants.{Nothing, Lone, More}
 use Rattle.hb_sound.specs.Facts.{FindsBelow, if_seen, seen_at}
 use Rattle.hb_sound.specs.Links.{IsRestOf, Knows, KnowsTold}
 use Rattle.hb_sound.specs.Told.{GivesPage, item_at}
-use Rattle.hb_lemmas.proofs.Lists.{get-push_cases}
+use Rattle.hb_lemmas.proofs.Lists.{get-push_cases, get-longer}
 
 -- an item of a list stays where it is when one more comes
-slice_later : {A : Type 0} (xs : List A) (x : A) (n : ℕ) (y : A) → slice_get xs n ≡ Some y → slice_get (xs ++ x ∷ []) n ≡ Some y
-slice_later {A} [] x n y e = let never : None ≡ Some y = e in cc
-slice_later {A} (z ∷ xs) x zero y e = e
-slice_later {A} (z ∷ xs) x (suc n) y e = slice_later xs x n y e
-
 item_later : {A : Type 0} (xs : List A) (x : A) (id : ℕ) (y : A) → item_at xs id ≡ Some y → item_at (xs ++ x ∷ []) id ≡ Some y
 item_later {A} xs x zero y e = let never : None ≡ Some y = e in cc
-item_later {A} xs x (suc n) y e = slice_later xs x n y e
+item_later {A} xs x (suc n) y e = get-longer xs (x ∷ []) n y e
 
 -- and each item is one of before, or the one that came
 item_end : {A : Type 0} (xs : List A) (x : A) (id : ℕ) (y : A) → item_at (xs ++ x ∷ []) id ≡ Some y → (item_at xs id ≡ Some y) ⊎ ((id ≡ length xs + 1) × (x ≡ y))

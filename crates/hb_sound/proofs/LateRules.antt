@@ -1,5 +1,6 @@
 -- The rules 7 to 10: what the tests of the facts say of the file.
-use Rattle.std.proofs.Common.{◌≡◌, inl, inr, ℕ, List, [], ◌∷◌, length, take, option_map, Option, Some, None, MatchOption, refl, sym, ap, ◌∙◌, subst, arith}
+use Rattle.std.proofs.Common.{◌≡◌, inl, inr, ℕ, List, length, take, option_map, Option, Some, None, MatchOption, refl, sym, ap, ◌∙◌, subst, arith}
+use Rattle.std.proofs.lemmas.List.{take_all}
 use Rattle.hb_frag.specs.declared.pages.Page.{Page}
 use Rattle.hb_layout.specs.declared.meta.Meta.{Meta}
 use Rattle.hb_ops.specs.Files.{FileState}
@@ -18,10 +19,6 @@ use Rattle.hb_sound.proofs.CoverBridge.{IsNamedBy, are_below, to_covered, to_loo
 use Rattle.hb_sound.proofs.LeafBridge.{children_match, least_child, least_sibling, siblings_match}
 use Rattle.hb_sound.proofs.LocalBridge.{breaks_seen, least_breaks}
 
-take_all : {A : Type 0} (xs : List A) → take (length xs) xs ≡ xs
-take_all {A} [] = refl
-take_all {A} (x ∷ xs) = ap (λ (l : List A). x ∷ l) (take_all xs)
-
 -- the bad page of a rule, by what was found of it
 first_at : (p : ℕ → Type 0) (n : ℕ) (o : Option ℕ) (id : ℕ) → o ≡ Some id → IsFirstUpTo p n o → IsLeast p id
 first_at p n o id e is = let Q : Option ℕ → Type 0 = λ x. IsFirstUpTo p n x in subst Q e is
@@ -36,7 +33,7 @@ module _ (meta : Meta) (facts : List Fact) (links : Links) (list : List Page) (a
 
   named_by : IsNamedBy facts list links.named.items
   named_by id =
-      let all : take (length facts) list ≡ list = ap (λ (n : ℕ). take n list) (sym (same_length meta facts list are)) ∙ take_all list in
+      let all : take (length facts) list ≡ list = ap (λ (n : ℕ). take n list) (sym (same_length meta facts list are)) ∙ take_all (length list) list (omega arith) in
       of_links.named id ∙ ap (λ (l : List Page). option_map (λ (fact : Fact). more (times_named id l) Never) (item_at facts id)) all
 
   pub seventh : (id : ℕ) → links.sibling ≡ Some id → NamesIn file id 7

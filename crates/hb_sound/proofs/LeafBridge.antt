@@ -12,20 +12,20 @@ use Rattle.hb_frag.specs.Leaves.{Placed, leaves_of}
 use Rattle.hb_frag.specs.Rules.{Fits}
 use Rattle.hb_frag.specs.Trees.{Tree, Tip, Cut}
 use Rattle.hb_layout.specs.declared.meta.Meta.{Meta}
-use Rattle.hb_ops.proofs.Facts.KnownBoxes.{known_within}
+use Rattle.hb_ops.proofs.Facts.KnownBoxes.{known_within, known_area}
 use Rattle.hb_ops.specs.Files.{FileState, live_page}
-use Rattle.hb_ops.specs.Sound.{ChildrenMatch, SiblingsMatch}
+use Rattle.hb_ops.specs.Sound.{ChildrenMatch, SiblingsMatch, HasBelow, HasSame}
 use Rattle.hb_sound.specs.declared.page_facts.Seen.{Seen}
 use Rattle.hb_sound.specs.declared.page_facts.Fact.{Fact}
 use Rattle.hb_sound.specs.declared.page_facts.Fact.TheVariants.{Live}
-use Rattle.hb_sound.specs.Names.{HasBelow, HasSame, MissesChild, MissesSibling, KeepsLocally}
+use Rattle.hb_sound.specs.Names.{MissesChild, MissesSibling, KeepsLocally}
 use Rattle.hb_sound.specs.Facts.{AreFactsOf, FindsBelow, FindsSame, SeesBelow, SeesSame, seen_at}
 use Rattle.hb_sound.specs.Links.{IsFirstUpTo, LosesChild, LosesSibling}
 use Rattle.hb_sound.specs.Told.{item_at, file_with}
 use Rattle.hb_sound.specs.Walks.{IsLeast}
 use Rattle.hb_sound.proofs.Bridge.{live_seen, seen_live}
 use Rattle.hb_sound.proofs.Firsts.{item_within}
-use Rattle.hb_lemmas.proofs.Decisions.{Known, both, known_list}
+use Rattle.hb_lemmas.proofs.Decisions.{Known, both}
 use Rattle.hb_lemmas.proofs.Lists.{only_one, first_member}
 use Rattle.hb_sound.proofs.Levels.{seen_fact}
 use Rattle.hb_sound.proofs.LocalBridge.{fits}
@@ -42,15 +42,6 @@ leaf_attributes (Cut axis value left right) area leaf a h =
       | inl here ↦ leaf_attributes left below leaf a here
       | inr here ↦ leaf_attributes right from leaf a here ∙ length-set area.lo axis value
     ]
-
-abbrev box : List ℕ → List ℕ → Area
-box lo hi = record { lo = lo; hi = hi }
-
-pub known_area : (a b : Area) → Known (a ≡ b)
-known_area a b = elim (both (known_list a.lo b.lo) (known_list a.hi b.hi)) [
-  | inl is ↦ inl (ap (λ (lo : List ℕ). box lo a.hi) is.0 ∙ ap (λ (hi : List ℕ). box b.lo hi) is.1)
-  | inr fails ↦ inr (λ e. fails (ap (λ (x : Area). x.lo) e, ap (λ (x : Area). x.hi) e))
-]
 
 known_same : (o : Option Seen) (level : ℕ) (area : Area) → Known ((seen : Seen) × (o ≡ Some seen) × (seen.level ≡ level) × (seen.area ≡ area))
 known_same None level area = inr (λ h. let never : None ≡ Some h.0 = h.1 in cc)

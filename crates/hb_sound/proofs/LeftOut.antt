@@ -1,6 +1,5 @@
 -- The free pages that the chain leaves out.
 use Rattle.std.proofs.Common.{◌≡◌, inl, inr, ℕ, ◌+◌, ◌<◌, ◌≤◌, Bool, true, false, List, length, Option, Some, None, MatchOption, get_or, refl, sym, ap, ◌∙◌, arith}
-use Rattle.std.proofs.lemmas.Option.{slice_get-get_or, slice_get_read}
 use Rattle.hb_sound.specs.declared.page_facts.Fact.{Fact}
 use Rattle.hb_sound.specs.declared.page_facts.Fact.TheVariants.{Live, Free}
 use Rattle.hb_layout.specs.declared.meta.Meta.{Meta}
@@ -9,7 +8,7 @@ use Rattle.hb_sound.specs.Facts.{if_next, next_at}
 use Rattle.hb_sound.specs.Links.{IsFirstUpTo}
 use Rattle.hb_sound.specs.Told.{item_at}
 use Rattle.hb_sound.specs.Walks.{IsLeast, IsLeftOut, IsChainWalk}
-use Rattle.hb_sound.proofs.Firsts.{found, item_behind, item_within, not_yet}
+use Rattle.hb_sound.proofs.Firsts.{found, item_got, item_read, item_within, pass_first}
 
 free_next : (fact : Fact) → IsFreeFact fact → (n : ℕ) × (if_next (Some fact) ≡ Some n)
 free_next (Live seen) free = absurd free
@@ -30,28 +29,25 @@ by_flag false off = absurd (off refl)
 module _ (facts : List Fact) (flags : List Bool) (chain : List ℕ) (place : ℕ) (fact : Fact) (d : Bool)
     (within : place < length facts) (is : fact ≡ get_or facts place fact) (same : length flags ≡ length facts) (chained : IsChained chain flags) where
   here : item_at facts (place + 1) ≡ Some fact
-  here = item_behind facts place ∙ slice_get_read facts (length facts) place fact refl within is
-
-  flag : item_at flags (place + 1) ≡ Some (get_or flags place d)
-  flag = item_behind flags place ∙ slice_get-get_or flags place d (omega (arith, within, same))
+  here = item_read facts place fact within is
 
   left_here : IsFreeFact fact × (get_or flags place d ≡ false) → IsLeftOut (next_at facts) chain (place + 1)
   left_here free =
       let next = free_next fact free.0 in
-      ((next.0, ap if_next here ∙ next.1), λ h. absurd (let on = (chained (place + 1)).0 h in let never : Some true ≡ Some false = sym on ∙ flag ∙ ap (λ (b : Bool). Some b) free.1 in cc))
+      ((next.0, ap if_next here ∙ next.1), λ h. absurd (let on = (chained (place + 1)).0 h in let never : Some true ≡ Some false = sym on ∙ item_got flags place d (omega (arith, within, same)) ∙ ap (λ (b : Bool). Some b) free.1 in cc))
 
   left_there : IsLeftOut (next_at facts) chain (place + 1) → IsFreeFact fact
   left_there out = next_free fact out.0.0 (sym (ap if_next here) ∙ out.0.1)
 
   unflagged_there : IsLeftOut (next_at facts) chain (place + 1) → (get_or flags place d ≡ false → ⊥) → ⊥
-  unflagged_there out on = out.1 ((chained (place + 1)).1 (flag ∙ ap (λ (b : Bool). Some b) (by_flag (get_or flags place d) on)))
+  unflagged_there out on = out.1 ((chained (place + 1)).1 (item_got flags place d (omega (arith, within, same)) ∙ ap (λ (b : Bool). Some b) (by_flag (get_or flags place d) on)))
 
   pub left_found : IsFirstUpTo (IsLeftOut (next_at facts) chain) place None → IsFreeFact fact × (get_or flags place d ≡ false) → IsLeast (IsLeftOut (next_at facts) chain) (place + 1)
   left_found none free = found (IsLeftOut (next_at facts) chain) place none (left_here free)
 
   pub left_not_yet : IsFirstUpTo (IsLeftOut (next_at facts) chain) place None → ¬ (IsFreeFact fact × (get_or flags place d ≡ false))
       → IsFirstUpTo (IsLeftOut (next_at facts) chain) (place + 1) None
-  left_not_yet none not_free = not_yet (IsLeftOut (next_at facts) chain) place none (λ out. unflagged_there out (λ off. not_free (left_there out, off)))
+  left_not_yet none not_free = pass_first (IsLeftOut (next_at facts) chain) place None none (λ out. unflagged_there out (λ off. not_free (left_there out, off)))
 
 pub none_left_out : (facts : List Fact) (chain : List ℕ) (n : ℕ) → length facts ≤ n → IsFirstUpTo (IsLeftOut (next_at facts) chain) n None → (id : ℕ) → ¬ (IsLeftOut (next_at facts) chain id)
 none_left_out facts chain n all none id out =

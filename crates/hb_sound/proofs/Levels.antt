@@ -1,6 +1,7 @@
 -- The first page of the whole space of each level.
 use Rattle.std.proofs.Common.{◌≡◌, ◌≢◌, inl, inr, ℕ, ◌+◌, ◌==◌, true, not, List, [], ◌∷◌, ◌++◌, length, Option, Some, None, slice_get, refl, sym, ap, ◌∙◌, subst, arith}
 use Rattle.std.proofs.lemmas.Bool.{eq-eqb, false≢true, ne_eqb}
+use Rattle.std.proofs.lemmas.List.{length_push}
 use Rattle.hb_space.specs.Boxes.{Area}
 use Rattle.hb_sound.specs.declared.page_facts.Seen.{Seen}
 use Rattle.hb_sound.specs.declared.page_facts.Fact.{Fact}
@@ -12,15 +13,10 @@ use Rattle.hb_sound.specs.Told.{item_at}
 use Rattle.hb_sound.specs.Walks.{IsLeast}
 use Rattle.hb_lemmas.proofs.Lists.{get-push_cases}
 
--- an item of a list with one more at the end
-long_end : (xs : List ℕ) (x : ℕ) → length (xs ++ x ∷ []) ≡ length xs + 1
-long_end [] x = refl
-long_end (z ∷ xs) x = let rest = long_end xs x in omega (arith, rest)
-
 pub firsts_on : (facts : List Fact) (level : ℕ) (whole : Area) (firsts : List ℕ) (first : ℕ) → AreFirsts facts level whole firsts
     → IsLeast (SeesSome (HasBox level whole) facts) first → AreFirsts facts (level + 1) whole (firsts ++ first ∷ [])
 firsts_on facts level whole firsts first are is = (
-  long_end firsts first ∙ ap (λ (n : ℕ). n + 1) are.0,
+  length_push firsts first ∙ ap (λ (n : ℕ). n + 1) are.0,
   λ at item e. elim (get-push_cases firsts first at item e) [
     | inl before ↦ are.1 at item before
     | inr last ↦

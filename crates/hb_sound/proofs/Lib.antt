@@ -21,7 +21,6 @@ pub mod Extractions
 pub mod Growths
 pub mod CutWidths
 pub mod CutNames
-pub mod PageLists
 pub mod FileParted
 pub mod SplitChains
 pub mod SplitSound
@@ -33,7 +32,6 @@ pub mod GrowthSound
 pub mod GrowthKept
 pub mod GrowthSteps
 pub mod PostedPage
-pub mod OneChanged
 pub mod PostSound
 pub mod MergedLeaves
 pub mod UnnamedPages
@@ -44,7 +42,6 @@ pub mod MergeDirect
 pub mod MergeContents
 pub mod MergeNames
 pub mod EachOperation
-mod NoneBroken
 mod Flagged
 mod LeftOut
 mod Levels

@@ -1,6 +1,6 @@
 -- What the leaves of the pages name, page by page.
 use Rattle.std.proofs.Common.{◌≡◌, inl, inr, ℕ, ◌+◌, ◌<◌, List, [], ◌∷◌, ◌++◌, length, take, Option, Some, None, option_map, IfSome, slice_get, refl, sym, ap, ◌∙◌, subst, arith}
-use Rattle.std.proofs.lemmas.Bool.{cases_lt}
+use Rattle.hb_lemmas.proofs.Lists.{place_within}
 use Rattle.hb_space.specs.Boxes.{Area, side_below, side_from}
 use Rattle.hb_frag.specs.declared.leaves.Leaf.TheVariants.{Records, Child, Sibling}
 use Rattle.hb_frag.specs.declared.pages.LivePage.{LivePage}
@@ -22,9 +22,8 @@ use Rattle.hb_sound.specs.declared.pages.AuditStop.{AuditStop}
 use Rattle.hb_sound.specs.declared.pages.AuditStop.TheVariants as stops
 use Rattle.hb_sound.proofs.Bridge.{page_item}
 use Rattle.hb_sound.proofs.Counts.{more_more, names_append}
-use Rattle.hb_sound.proofs.Firsts.{item_behind}
+use Rattle.hb_sound.proofs.Firsts.{found, item_behind, pass_first}
 use Rattle.hb_sound.proofs.ReadUp.{take_more}
-use Rattle.hb_sound.proofs.ToldPages.{slice_get_inside}
 use Rattle.hb_frag.proofs.Facts.NamesListed.{siblings-append}
 
 -- the first bad one after one more
@@ -32,28 +31,14 @@ pub next_first : (p : ℕ → Type 0) (good : Type 0) (n : ℕ) (first after : O
     → (good → ¬ (p (n + 1))) → (¬ good → p (n + 1)) → IsFirstUpTo p (n + 1) after
 next_first p good n None after is (inl keeps) none some =
     let Q : Option ℕ → Type 0 = λ o. IsFirstUpTo p (n + 1) o in
-    subst Q (sym keeps.1) (λ m le at. elim (cases_lt n m) [
-      | inl lt ↦ let e : m ≡ n + 1 = omega (arith, lt, le) in none keeps.0 (subst p e at)
-      | inr before ↦ is m before at
-    ])
+    subst Q (sym keeps.1) (pass_first p n None is (none keeps.0))
 next_first p good n (Some first) after is (inl keeps) none some =
     let Q : Option ℕ → Type 0 = λ o. IsFirstUpTo p (n + 1) o in subst Q (sym keeps.1) is
 next_first p good n None after is (inr breaks) none some =
     let Q : Option ℕ → Type 0 = λ o. IsFirstUpTo p (n + 1) o in
-    subst Q (sym breaks.1) (record {
-      here = some breaks.0;
-      least = λ m at. elim (cases_lt n m) [ inl lt ↦ omega (arith, lt) | inr before ↦ absurd (is m before at) ];
-    })
+    subst Q (sym breaks.1) (found p n is (some breaks.0))
 next_first p good n (Some first) after is (inr breaks) none some =
     let Q : Option ℕ → Type 0 = λ o. IsFirstUpTo p (n + 1) o in subst Q (sym breaks.1) is
-
--- a page that is free, or whose number is met, has no leaf that counts
-pub pass_first : (p : ℕ → Type 0) (n : ℕ) (first : Option ℕ) → IsFirstUpTo p n first → ¬ (p (n + 1)) → IsFirstUpTo p (n + 1) first
-pass_first p n None is off = λ m le at. elim (cases_lt n m) [
-  | inl lt ↦ let e : m ≡ n + 1 = omega (arith, lt, le) in off (subst p e at)
-  | inr before ↦ is m before at
-]
-pass_first p n (Some first) is off = is
 
 count_append : (id : ℕ) (xs ys : List (ℕ × Area)) → count_name id (xs ++ ys) ≡ count_name id xs + count_name id ys
 count_append id [] ys = omega arith
@@ -136,7 +121,7 @@ by_page facts list n (pages.Free next) old new at links same =
 
 page_there : (facts : List Fact) (list : List Page) (n : ℕ) → length list ≡ length facts → n < length facts → (page : Page) × (page_at list (n + 1) ≡ Some page)
 page_there facts list n same lt =
-    let found = slice_get_inside list n (omega (arith, same, lt)) in
+    let found = place_within list n (omega (arith, same, lt)) in
     (found.0, page_item list (n + 1) ∙ item_behind list n ∙ found.1)
 
 -- one more page, where it is told

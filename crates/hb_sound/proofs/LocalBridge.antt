@@ -8,6 +8,7 @@ use Rattle.hb_frag.specs.Rules.{AreInOrder, Fits, IsFilledRight}
 use Rattle.hb_layout.specs.declared.meta.Meta.{Meta}
 use Rattle.hb_ops.specs.Files.{FileState}
 use Rattle.hb_ops.specs.Sound.{BreaksFirst}
+use Rattle.hb_ops.proofs.Facts.WellMade.{not_broken}
 use Rattle.hb_sound.specs.declared.page_facts.Fact.{Fact}
 use Rattle.hb_sound.specs.declared.page_facts.Fact.TheVariants.{Live, Free}
 use Rattle.hb_sound.specs.Names.{BreaksRule, KeepsLocally, NamesLocal}
@@ -17,7 +18,6 @@ use Rattle.hb_sound.specs.Told.{item_at, file_with}
 use Rattle.hb_sound.specs.Walks.{IsLeast}
 use Rattle.hb_sound.proofs.Bridge.{live_seen, seen_live}
 use Rattle.hb_sound.proofs.Levels.{seen_fact}
-use Rattle.hb_sound.proofs.NoneBroken.{not_broken}
 
 -- the rules that the broken one stands behind are kept
 module _ (page : LivePage) (meta : Meta) where

@@ -21,12 +21,12 @@ use Rattle.hb_sound.specs.Laws.{SpaceLaws, TreeLaws}
 use Rattle.hb_sound.specs.LawsOfMerges.{MergesChangeThree, MergesKeepContents, MergesKeepSound}
 use Rattle.hb_sound.proofs.DoneMerges.{IsMerged, TakesOver, is_gone, merged, stays, takes_over}
 use Rattle.hb_sound.proofs.MergedLeaves.{MergeLaws}
-use Rattle.hb_sound.proofs.Facts.OneLevel.{same_page}
 use Rattle.hb_sound.proofs.Facts.RecordsParted.{AmongLeaves, ShareRecords}
 use Rattle.hb_sound.proofs.RecordsStand.{HasRecord, in_leaf}
 use Rattle.hb_sound.proofs.SplitContents.{among_of, in_file, same_contents}
 use Rattle.hb_ops.proofs.Facts.PlacedLaws.{placed, placed_is_leaf}
 use Rattle.hb_lemmas.proofs.Lists.{only_one}
+use Rattle.hb_lemmas.proofs.Options.{one_value}
 
 -- a record of a leaf is one of all leaves' records
 in_all : (ls : List Leaf) (leaf : Leaf) (r : Record) → Contains ls leaf → Contains (records_of leaf) r → Contains (flat_map records_of ls) r
@@ -106,7 +106,7 @@ module _ (laws : MergeLaws) (gone : ℕ) (kept going : LivePage) (takes : TakesO
 -- a record of a page is one of a page under the same number
 same_among : (s : FileState) (r : Record) (h : HasRecord s r) (id : ℕ) (page : LivePage) → h.id ≡ id → live_page s id ≡ Some page → (page.level ≡ 0) × AmongLeaves (leaves_of page.frag page.area) r
 same_among s r h id page is live =
-    let same : h.page ≡ page = same_page s id h.page page (ap (live_page s) (sym is) ∙ h.live) live in
+    let same : h.page ≡ page = one_value (live_page s id) h.page page (ap (live_page s) (sym is) ∙ h.live) live in
     (ap (λ (q : LivePage). q.level) (sym same) ∙ h.level, subst (λ (q : LivePage). AmongLeaves (leaves_of q.frag q.area) r) same (among_of s r h))
 
 module _ (s t : FileState) (parent keep gone : ℕ) (m : IsMerged s t parent keep gone) (share : ShareRecords (kept_page gone m.changes.kept m.changes.going) m.changes.kept m.changes.going) where

@@ -13,21 +13,15 @@ use Rattle.hb_sound.specs.LawsOfOperations.{HasDirectly}
 use Rattle.hb_sound.specs.PointWalks.{HasOn, IsPointOf}
 use Rattle.hb_sound.proofs.DoneMerges.{IsMerged, is_gone, merged, stays}
 use Rattle.hb_sound.proofs.MergedLeaves.{MergeLaws, siblings_stay}
-use Rattle.hb_sound.proofs.Facts.OneLevel.{same_page}
 use Rattle.hb_sound.proofs.Partition.{each_point_is_held, no_point_is_held_twice}
 use Rattle.hb_sound.proofs.PostSound.{direct_again}
-
--- a page that directly holds a point does so under any name of its number
-under : (f : FileState) (level id other : ℕ) (p : List ℕ) → id ≡ other → HasOn f level p id → HasDirectly f other p
-under f level id other p is has = (has.page, ap (live_page f) (sym is) ∙ has.live, has.direct)
-
-on_level : (f : FileState) (id : ℕ) (page : LivePage) (level : ℕ) (p : List ℕ) → live_page f id ≡ Some page → page.level ≡ level → HasDirectly f id p → HasOn f level p id
-on_level f id page level p live level_is has = record { page = has.0; live = has.1; on = ap (λ (q : LivePage). q.level) (same_page f id has.0 page has.1 live) ∙ level_is; direct = has.2 }
+use Rattle.hb_sound.proofs.HeldSomewhere.{on_level, under}
+use Rattle.hb_lemmas.proofs.Options.{one_value}
 
 -- a page like another one under the same number directly holds what that one did
 like_it : (f g : FileState) (id : ℕ) (page now : LivePage) (level : ℕ) (p : List ℕ) → live_page f id ≡ Some page → live_page g id ≡ Some now → now.level ≡ page.level → now.area ≡ page.area → siblings_of now ≡ siblings_of page → HasOn f level p id → HasOn g level p id
 like_it f g id page now level p live later same_level area siblings has =
-    let same : has.page ≡ page = same_page f id has.page page has.live live in
+    let same : has.page ≡ page = one_value (live_page f id) has.page page has.live live in
     record {
       page = now;
       live = later;

@@ -2,6 +2,7 @@
 use Rattle.std.proofs.Common.{◌≡◌, ℕ, ◌+◌, ◌<◌, true, false, cond, List, [], ◌∷◌, map, Some, refl, sym, ap, subst, ◌∙◌, arith}
 use Rattle.std.specs.Option.{option_map}
 use Rattle.std.proofs.lemmas.List.Elements.{All-contains}
+use Rattle.hb_lemmas.proofs.Options.{one_value, some_value}
 use Rattle.hb_ops.proofs.Facts.MergeMade.{renamed_kind}
 use Rattle.hb_space.specs.Boxes.{IsArea, Holds, holds}
 use Rattle.hb_frag.specs.declared.pages.LivePage.{LivePage}
@@ -17,10 +18,10 @@ use Rattle.hb_sound.specs.Laws.{SpaceLaws, TreeLaws}
 use Rattle.hb_sound.specs.LawsOfMerges.{MergesChangeThree, MergesKeepSound, MergesRename, RenamesAt}
 use Rattle.hb_sound.proofs.DoneMerges.{merged}
 use Rattle.hb_sound.proofs.MergedLeaves.{MergeLaws}
-use Rattle.hb_sound.proofs.Facts.OneLevel.{same_page}
 use Rattle.hb_sound.proofs.Partition.{pages_have_boxes}
-use Rattle.hb_sound.proofs.PostedPage.{kept_same, same_first, some_of}
+use Rattle.hb_sound.proofs.PostedPage.{kept_same}
 use Rattle.hb_ops.proofs.Facts.PlacedLaws.{placed_is_leaf}
+use Rattle.hb_ops.specs.Files.{live_page}
 
 -- the leaf at a point, with its new name
 first_renamed : (old new : ℕ) (p : List ℕ) (xs : List Placed) → first_at p (map (renamed_place old new) xs) ≡ option_map (renamed_place old new) (first_at p xs)
@@ -36,7 +37,7 @@ module _ (trees : TreeLaws) (laws : MergeLaws) (meta : Meta) (keep gone : ℕ) (
   between = renamed gone keep above.frag
 
   before : (x : Placed) × (leaf_at above p ≡ Some x)
-  before = some_of (leaf_at above p) ((trees.some above.frag above.area p box made.well_cut).1 held)
+  before = some_value (leaf_at above p) ((trees.some above.frag above.area p box made.well_cut).1 held)
 
   well_cut : IsWellCut between above.area
   well_cut = ((laws.renames gone keep above.frag).cuts above.area).1 made.well_cut
@@ -45,7 +46,7 @@ module _ (trees : TreeLaws) (laws : MergeLaws) (meta : Meta) (keep gone : ℕ) (
   keeps = (laws.same between).points above.area p box well_cut held
 
   mid_is : keeps.before ≡ renamed_place gone keep before.0
-  mid_is = same_first (first_at p (leaves_of between above.area)) keeps.before (renamed_place gone keep before.0) keeps.old_leaf
+  mid_is = one_value (first_at p (leaves_of between above.area)) keeps.before (renamed_place gone keep before.0) keeps.old_leaf
       (ap (first_at p) ((laws.renames gone keep above.frag).leaves above.area) ∙ first_renamed gone keep p (leaves_of above.frag above.area) ∙ ap (option_map (renamed_place gone keep)) before.1)
 
   name_is : keeps.before.leaf ≡ renamed_leaf gone keep before.0.leaf
@@ -69,7 +70,7 @@ module _ (trees : TreeLaws) (laws : MergeLaws) (meta : Meta) (keep gone : ℕ) (
 pub merges_rename : TreeLaws → SpaceLaws → MergeLaws → MergesKeepSound → MergesChangeThree → MergesRename
 merges_rename trees space laws sound changes s parent keep gone above p may live held =
     let m = merged sound changes s parent keep gone may in
-    let same : m.changes.above ≡ above = same_page s parent m.changes.above above m.changes.above_live live in
+    let same : m.changes.above ≡ above = one_value (live_page s parent) m.changes.above above m.changes.above_live live in
     let level : m.changes.kept.level + 1 ≡ above.level = m.fits.kept_level ∙ ap (λ (q : LivePage). q.level) same in
     renames_at trees laws s.meta keep gone above (may.sound.well_made parent above live) (omega (arith, level))
     (pages_have_boxes trees space s parent above may.sound may.some_attributes may.few_attributes live) p held

@@ -16,20 +16,19 @@ use Rattle.hb_ops.specs.LawsOfContents.{IsWellIn}
 use Rattle.hb_ops.specs.Merging.{released}
 use Rattle.hb_ops.specs.Operations.{effect_of}
 use Rattle.hb_ops.specs.Settled.{HasChild}
-use Rattle.hb_ops.specs.Sound.{AreWellMade, ChildrenMatch, FitsFile, IsSound}
+use Rattle.hb_ops.specs.Sound.{AreWellMade, ChildrenMatch, FitsFile, IsSound, HasBelow}
 use Rattle.hb_ops.proofs.Facts.PlacedLaws.{placed, sibling_is_leaf}
 use Rattle.hb_sound.specs.Laws.{SpaceLaws, TreeLaws}
 use Rattle.hb_sound.specs.LawsOfMerges.{MergesKeepSound}
 use Rattle.hb_sound.specs.LawsOfOperations.{MayBeDone}
-use Rattle.hb_sound.specs.Names.{HasBelow}
 use Rattle.hb_sound.proofs.MergedFile.{OtherPage, above_now, after as merged_file, comes_from, counted_again, covered_again, found, kept_now, named_gone, rooted_again, same_level, siblings_match, stays_live}
 use Rattle.hb_sound.proofs.MergedLeaves.{MergeLaws, NamesChild, child_from, kept_so, parent_child_from}
 use Rattle.hb_sound.proofs.Facts.MergedPages.{is_joined, joins, merged_so, Joins}
-use Rattle.hb_sound.proofs.Facts.OneLevel.{same_page}
 use Rattle.hb_sound.proofs.OneParent.{no_other_parent}
 use Rattle.hb_sound.proofs.Partition.{pages_have_boxes}
 use Rattle.hb_sound.proofs.PostedPage.{capacity_above}
 use Rattle.hb_sound.proofs.PostSound.{within_by_corners}
+use Rattle.hb_lemmas.proofs.Options.{one_value}
 
 module _ (trees : TreeLaws) (space : SpaceLaws) (laws : MergeLaws) (s : FileState) (parent keep gone : ℕ) (done : MayBeDone s (Merge parent keep gone)) where
   may : Joins s parent keep gone
@@ -119,7 +118,7 @@ module _ (trees : TreeLaws) (space : SpaceLaws) (laws : MergeLaws) (s : FileStat
   below_kept : (p : List ℕ) → NamesChild may.above gone p → HoldsBelow may.above.level keep p
   below_kept p w =
       let m = sound.children parent may.above gone w.area may.above_live w.has in
-      let same : m.0 ≡ may.going = same_page s gone m.0 may.going m.1 may.gone_live in
+      let same : m.0 ≡ may.going = one_value (live_page s gone) m.0 may.going m.1 may.gone_live in
       let long : length w.area.lo ≡ length may.above.area.lo =
       All-contains (λ (l : Placed). length l.area.lo ≡ length may.above.area.lo) (leaves_of may.above.frag may.above.area) (placed (Child gone) w.area) (trees.attributes may.above.frag may.above.area) w.has in
       let inside : Holds m.0.area p = Holds-within w.area m.0.area p (long ∙ attributes_of parent may.above may.above_live ∙ sym (attributes_of gone m.0 m.1)) m.3 w.held in
@@ -142,7 +141,7 @@ module _ (trees : TreeLaws) (space : SpaceLaws) (laws : MergeLaws) (s : FileStat
   not_down : (by : ℕ) (page : LivePage) (name : ℕ) (p : List ℕ) → live_page s by ≡ Some page → page.level ≡ may.going.level → NamesChild page name p → name ≢ gone
   not_down by page name p live level w is =
       let m = sound.children by page name w.area live w.has in
-      let same : m.0 ≡ may.going = same_page s gone m.0 may.going (ap (live_page s) (sym is) ∙ m.1) may.gone_live in
+      let same : m.0 ≡ may.going = one_value (live_page s gone) m.0 may.going (ap (live_page s) (sym is) ∙ m.1) may.gone_live in
       let at = ap (λ (q : LivePage). q.level) same in
       let down = m.2 in
       absurd (omega (arith, level, at, down))
@@ -162,7 +161,7 @@ module _ (trees : TreeLaws) (space : SpaceLaws) (laws : MergeLaws) (s : FileStat
   by_corners height name a box holds =
       let low = holds a.lo (lo_held a box) in
       let high = holds a.hi (hi_held a box) in
-      let same : high.named ≡ low.named = same_page after name high.named low.named high.there low.there in
+      let same : high.named ≡ low.named = one_value (live_page after name) high.named low.named high.there low.there in
       (low.named, low.there, low.level, within_by_corners a low.named.area box low.inside (subst (λ (q : LivePage). Holds q.area a.hi) same high.inside))
 
   leaf_box : (page : LivePage) (name : ℕ) (a : Area) → IsArea page.area → FitsFile s.meta page → Contains (leaves_of page.frag page.area) (placed (Child name) a) → IsArea a

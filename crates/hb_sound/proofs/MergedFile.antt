@@ -18,6 +18,7 @@ use Rattle.hb_sound.proofs.CutNames.{once}
 use Rattle.hb_sound.proofs.MergedLeaves.{MergeLaws, kept_so, names_again, siblings_from, siblings_stay}
 use Rattle.hb_sound.proofs.Facts.MergedPages.{IsJoined, Joins, after as joined_file, gone_box, is_joined}
 use Rattle.hb_sound.proofs.UnnamedPages.{named_some}
+use Rattle.hb_sound.proofs.Facts.PagePlaces.{StaysLive, WasLive}
 
 module _ (trees : TreeLaws) (laws : MergeLaws) (s : FileState) (parent keep gone : ℕ) (may : Joins s parent keep gone) (sound : IsSound s) where
   abbrev pub after : FileState
@@ -97,13 +98,7 @@ module _ (trees : TreeLaws) (laws : MergeLaws) (s : FileState) (parent keep gone
   ]
 
   -- it was in use with its level and its box
-  pub record WasLive (id : ℕ) (new : LivePage) : Type 0 where
-    pub old : LivePage
-    pub live : live_page s id ≡ Some old
-    pub level : new.level ≡ old.level
-    pub area : new.area ≡ old.area
-
-  pub was_live : (id : ℕ) (new : LivePage) → live_page after id ≡ Some new → WasLive id new
+  pub was_live : (id : ℕ) (new : LivePage) → live_page after id ≡ Some new → WasLive s id new
   was_live id new live = elim (comes_from id new live) [
     | inl w ↦ record {
       old = may.above;
@@ -123,13 +118,7 @@ module _ (trees : TreeLaws) (laws : MergeLaws) (s : FileState) (parent keep gone
   ]
 
   -- and each page of before stays in use but that one
-  pub record StaysLive (id : ℕ) (old : LivePage) : Type 0 where
-    pub new : LivePage
-    pub live : live_page after id ≡ Some new
-    pub level : new.level ≡ old.level
-    pub area : new.area ≡ old.area
-
-  pub stays_live : (id : ℕ) (old : LivePage) → live_page s id ≡ Some old → id ≢ gone → StaysLive id old
+  pub stays_live : (id : ℕ) (old : LivePage) → live_page s id ≡ Some old → id ≢ gone → StaysLive after id old
   stays_live id old live not = elim (cases_eq id parent) [
     | inl is ↦
         let same : may.above ≡ old = same_Some may.above old (sym may.above_live ∙ ap (live_page s) (sym is) ∙ live) in

@@ -1,20 +1,14 @@
 -- Of the rules one is named first, for one page.
 use Rattle.std.proofs.Common.{◌≡◌, ◌⊎◌, inl, inr, ℕ, List, [], ◌∷◌, Contains, Option, Some, None, refl, sym, ap, subst, ◌∙◌, arith}
 use Rattle.std.proofs.lemmas.Bool.{cases_lt}
-use Rattle.std.proofs.lemmas.List.Elements.{Contains-append_right}
-use Rattle.hb_frag.specs.declared.pages.LivePage.{LivePage}
-use Rattle.hb_layout.specs.declared.meta.Meta.{Meta}
+use Rattle.hb_lemmas.proofs.Lists.{later_member, member_cases}
 use Rattle.hb_ops.specs.Files.{FileState}
-use Rattle.hb_ops.specs.Sound.{BreaksFirst, SiblingsMatch, ChildrenMatch}
+use Rattle.hb_ops.specs.Sound.{SiblingsMatch, ChildrenMatch}
+use Rattle.hb_ops.proofs.Facts.WellMade.{not_broken}
 use Rattle.hb_sound.specs.Names.{BreaksRule, MissesSibling, MissesChild, IsLoose, KeepsLocally, NamesFree, NamesIn, NamesLocal, NamesLoose}
 use Rattle.hb_sound.specs.Walks.{IsLeast, IsLeftOut, IsOnce, LeadsAlong, next_free}
-use Rattle.hb_sound.proofs.ChainBridge.{contains_cases}
-use Rattle.hb_sound.proofs.NoneBroken.{not_broken}
 use Rattle.hb_sound.proofs.Facts.LeastLaws.{least_one}
-
--- a number behind the first of a list
-later : (x : ℕ) (xs : List ℕ) (n : ℕ) → Contains xs n → Contains (x ∷ xs) n
-later x xs n there = Contains-append_right (x ∷ []) xs n there
+use Rattle.hb_sound.proofs.LocalBridge.{one_rule}
 
 abbrev no_number : List ℕ
 no_number = []
@@ -34,7 +28,7 @@ goes_on next seen id rest head end is also following step fresh (inr (inr none))
 ends_behind : (next : ℕ → Option ℕ) (seen : ℕ → Type 0) (id : ℕ) (rest : List ℕ) (end : ℕ) → seen end ⊎ Contains (id ∷ rest) end ⊎ (next end ≡ None)
     → (seen end ⊎ (end ≡ id)) ⊎ Contains rest end ⊎ (next end ≡ None)
 ends_behind next seen id rest end (inl before) = inl (inl before)
-ends_behind next seen id rest end (inr (inl there)) = elim (contains_cases {X = ℕ} id end rest there) [ inl is ↦ inl (inr (sym is)) | inr behind ↦ inr (inl behind) ]
+ends_behind next seen id rest end (inr (inl there)) = elim (member_cases id rest end there) [ inl is ↦ inl (inr (sym is)) | inr behind ↦ inr (inl behind) ]
 ends_behind next seen id rest end (inr (inr none)) = inr (inr none)
 
 -- Two walks from one number on, of which neither comes to a number that was seen, are the same.
@@ -52,39 +46,11 @@ same_walk next seen (id ∷ rest) (name ∷ more) head end last once twice new f
     let L : ℕ → Type 0 = λ n. LeadsAlong next n rest end in
     let S : ℕ → Type 0 = λ n. seen n ⊎ (n ≡ id) in
     let behind = same_walk next S rest more also.1 end last once.1 twice.1
-    (λ n there met. elim met [ inl before ↦ new n (later id rest n there) before | inr is ↦ once.0 (subst (Contains rest) is there) ])
-    (λ n there met. elim met [ inl before ↦ fresh n (later name more n there) before | inr is ↦ twice.0 (subst (Contains more) (is ∙ same) there) ])
+    (λ n there met. elim met [ inl before ↦ new n (later_member id rest n there) before | inr is ↦ once.0 (subst (Contains rest) is there) ])
+    (λ n there met. elim met [ inl before ↦ fresh n (later_member name more n there) before | inr is ↦ twice.0 (subst (Contains more) (is ∙ same) there) ])
     (subst L following leads.3) also.3 (ends_behind next seen id rest end ended)
     (let E : ℕ → Type 0 = λ n. seen last ⊎ Contains (n ∷ more) last ⊎ (next last ≡ None) in ends_behind next seen id more last (subst E (sym same) stopped)) in
     (ap (λ (n : ℕ). n ∷ rest) same ∙ ap (λ (l : List ℕ). name ∷ l) behind.0, behind.1)
-
--- a page breaks one rule first
-breaks_same : (r t : ℕ) (page : LivePage) (meta : Meta) → BreaksFirst r page meta → BreaksFirst t page meta → r ≡ t
-breaks_same r t page meta (inl a) (inl b) = a.0 ∙ sym b.0
-breaks_same r t page meta (inl a) (inr (inl b)) = absurd (a.1 b.1)
-breaks_same r t page meta (inl a) (inr (inr (inl b))) = absurd (a.1 b.1)
-breaks_same r t page meta (inl a) (inr (inr (inr (inl b)))) = absurd (a.1 b.1)
-breaks_same r t page meta (inl a) (inr (inr (inr (inr b)))) = absurd (a.1 b.1)
-breaks_same r t page meta (inr (inl a)) (inl b) = absurd (b.1 a.1)
-breaks_same r t page meta (inr (inl a)) (inr (inl b)) = a.0 ∙ sym b.0
-breaks_same r t page meta (inr (inl a)) (inr (inr (inl b))) = absurd (a.2 b.2)
-breaks_same r t page meta (inr (inl a)) (inr (inr (inr (inl b)))) = absurd (a.2 b.2)
-breaks_same r t page meta (inr (inl a)) (inr (inr (inr (inr b)))) = absurd (a.2 b.2)
-breaks_same r t page meta (inr (inr (inl a))) (inl b) = absurd (b.1 a.1)
-breaks_same r t page meta (inr (inr (inl a))) (inr (inl b)) = absurd (b.2 a.2)
-breaks_same r t page meta (inr (inr (inl a))) (inr (inr (inl b))) = a.0 ∙ sym b.0
-breaks_same r t page meta (inr (inr (inl a))) (inr (inr (inr (inl b)))) = absurd (a.3 b.3)
-breaks_same r t page meta (inr (inr (inl a))) (inr (inr (inr (inr b)))) = absurd (a.3 b.3)
-breaks_same r t page meta (inr (inr (inr (inl a)))) (inl b) = absurd (b.1 a.1)
-breaks_same r t page meta (inr (inr (inr (inl a)))) (inr (inl b)) = absurd (b.2 a.2)
-breaks_same r t page meta (inr (inr (inr (inl a)))) (inr (inr (inl b))) = absurd (b.3 a.3)
-breaks_same r t page meta (inr (inr (inr (inl a)))) (inr (inr (inr (inl b)))) = a.0 ∙ sym b.0
-breaks_same r t page meta (inr (inr (inr (inl a)))) (inr (inr (inr (inr b)))) = absurd (a.4 b.4)
-breaks_same r t page meta (inr (inr (inr (inr a)))) (inl b) = absurd (b.1 a.1)
-breaks_same r t page meta (inr (inr (inr (inr a)))) (inr (inl b)) = absurd (b.2 a.2)
-breaks_same r t page meta (inr (inr (inr (inr a)))) (inr (inr (inl b))) = absurd (b.3 a.3)
-breaks_same r t page meta (inr (inr (inr (inr a)))) (inr (inr (inr (inl b)))) = absurd (b.4 a.4)
-breaks_same r t page meta (inr (inr (inr (inr a)))) (inr (inr (inr (inr b)))) = a.0 ∙ sym b.0
 
 module _ (s : FileState) where
   -- of two rules that are named, neither is less
@@ -107,7 +73,7 @@ module _ (s : FileState) where
       let breaks = names.1.here in
       elim (keeps p breaks.0 breaks.1) [
         | inl fits ↦ not_broken r breaks.0 s.meta breaks.2 fits
-        | inr ten ↦ absurd (let e = breaks_same r 10 breaks.0 s.meta breaks.2 ten in omega (arith, e, names.0))
+        | inr ten ↦ absurd (let e = one_rule breaks.0 s.meta r 10 breaks.2 ten in omega (arith, e, names.0))
       ]
 
   siblings_not : (p : ℕ) → SiblingsMatch s → MissesSibling s p → ⊥

@@ -8,10 +8,12 @@ use Rattle.hb_frag.specs.Leaves.{DirectlyCovers, DirectlyHolds, Placed, leaf_at,
 use Rattle.hb_sound.specs.Laws.{SpaceLaws, TreeLaws, NoOtherParent}
 use Rattle.hb_sound.specs.PointWalks.{IsPointOf}
 use Rattle.hb_sound.proofs.HeldSomewhere.{holds_directly}
-use Rattle.hb_sound.proofs.Facts.OneLevel.{holds_where_leaf, page_area, same_page}
+use Rattle.hb_sound.proofs.Facts.OneLevel.{holds_where_leaf, page_area}
 use Rattle.hb_sound.proofs.Partition.{no_point_is_held_twice}
 use Rattle.hb_ops.proofs.Facts.PlacedLaws.{placed}
+use Rattle.hb_ops.specs.Files.{live_page}
 use Rattle.hb_space.proofs.Facts.Boxes.{Holds-within, Meets-from_point, lo_held}
+use Rattle.hb_lemmas.proofs.Options.{one_value}
 
 -- a page that directly holds a box directly holds each point of it
 directly_at : (page : LivePage) (a : Area) (p : List ℕ) → length a.lo ≡ length page.area.lo → DirectlyCovers page a → Holds a p → DirectlyHolds page p
@@ -35,7 +37,7 @@ no_other_parent trees space s id parent other page above holder area sound some 
     let inside = holds_where_leaf trees s sound.well_made sound.siblings sound.covered whole other holder p (Child id) area live_other there in
     let direct = holds_directly trees s sound.well_made sound.siblings sound.covered whole p other holder (Child id) area live_other inside there (λ name f. let no : ⊥ = cc in no) in
     let m = sound.children other holder id area live_other child in
-    let named = same_page s id m.0 page m.1 live in
+    let named = one_value (live_page s id) m.0 page m.1 live in
     let within : Within area page.area = subst (λ (q : LivePage). Within area q.area) named m.3 in
     let fits = (sound.well_made id page live).fits.attributes in
     let of_page = Holds-within area page.area p (as_many ∙ well.fits.attributes ∙ sym fits) within held in

@@ -4,18 +4,17 @@ use Rattle.hb_space.specs.declared.records.Record.{Record}
 use Rattle.hb_frag.specs.declared.leaves.Leaf.{Leaf}
 use Rattle.hb_frag.specs.declared.leaves.Leaf.TheVariants.{Records, Child, Sibling}
 use Rattle.hb_frag.specs.declared.pages.LivePage.{LivePage}
-use Rattle.hb_frag.specs.Leaves.{leaf_at}
-use Rattle.hb_ops.specs.Files.{FileState}
+use Rattle.hb_frag.specs.Leaves.{leaf_at, Placed}
+use Rattle.hb_ops.specs.Files.{FileState, live_page}
 use Rattle.hb_sound.specs.Laws.{WalksAreOne}
 use Rattle.hb_sound.specs.PointWalks.{IsWalk, LeadsOn, Sees}
-use Rattle.hb_sound.proofs.HeldSomewhere.{same_leaf}
-use Rattle.hb_sound.proofs.Facts.OneLevel.{same_page}
 use Rattle.hb_ops.proofs.Facts.PlacedLaws.{placed}
+use Rattle.hb_lemmas.proofs.Options.{one_value}
 
 one_leaf : (s : FileState) (p : List ℕ) (id : ℕ) (a b : Leaf) → Sees s p id a → Sees s p id b → a ≡ b
 one_leaf s p id a b x y =
-    let same = same_page s id x.page y.page x.live y.live in
-    same_leaf (placed a x.area) (placed b y.area) (sym x.there ∙ ap (λ (q : LivePage). leaf_at q p) same ∙ y.there)
+    let same = one_value (live_page s id) x.page y.page x.live y.live in
+    ap (λ (l : Placed). l.leaf) (one_value (leaf_at x.page p) (placed a x.area) (placed b y.area) x.there (ap (λ (q : LivePage). leaf_at q p) same ∙ y.there))
 
 -- a page whose leaf at the point has records leads nowhere
 leads_nowhere : (s : FileState) (p : List ℕ) (id next : ℕ) (records : List Record) → Sees s p id (Records records) → LeadsOn s p id next → ⊥

@@ -19,9 +19,10 @@ use Rattle.hb_sound.proofs.WalksDown.{responsible_for, walks_down}
 use Rattle.hb_sound.proofs.WalkSteps.{step_leads}
 use Rattle.hb_ops.proofs.Facts.PlacedLaws.{placed}
 use Rattle.hb_sound.proofs.HeldSomewhere.{found}
-use Rattle.hb_sound.proofs.Facts.OneLevel.{page_area, same_page}
+use Rattle.hb_sound.proofs.Facts.OneLevel.{page_area}
 use Rattle.hb_sound.proofs.Widths.{width}
 use Rattle.hb_ops.proofs.Facts.Contents.{del_on, put_on}
+use Rattle.hb_lemmas.proofs.Options.{one_value}
 
 module _ (trees : TreeLaws) (space : SpaceLaws) where
   pub whole_is_area : (s : FileState) (p : List ℕ) → IsPointOf s p → IsArea (whole_area s.meta.k)
@@ -62,7 +63,7 @@ module _ (trees : TreeLaws) (space : SpaceLaws) where
   is_responsible s p id page records b sound h live e = responsible_for trees s sound.well_made sound.siblings sound.children sound.covered (whole_is_area s p h) p id page records b live e
 
   on_level_0 : (s : FileState) (p : List ℕ) (id : ℕ) (page : LivePage) → live_page s id ≡ Some page → IsResponsible s p id → page.level ≡ 0
-  on_level_0 s p id page live here = ap (λ (q : LivePage). q.level) (same_page s id page here.page live here.live) ∙ here.on
+  on_level_0 s p id page live here = ap (λ (q : LivePage). q.level) (one_value (live_page s id) page here.page live here.live) ∙ here.on
 
   pub standing_is_contents : RecordsAreContents → StandingIsContents
   standing_is_contents there s p id page r sound h live stands =

@@ -16,21 +16,20 @@ use Rattle.hb_ops.specs.declared.operations.Op.TheVariants.{Post}
 use Rattle.hb_ops.specs.Files.{FileState, contents_of, file_records, live_page, page_of, page_records}
 use Rattle.hb_ops.specs.Operations.{IsAllowedOn, change_of, effect_of, with_page, with_changed_pages}
 use Rattle.hb_ops.specs.Posting.{FitsPost, GaveAway, IsChildAt, post_page}
-use Rattle.hb_ops.specs.Sound.{IsSound}
+use Rattle.hb_ops.specs.Sound.{IsSound, HasBelow}
 use Rattle.hb_sound.specs.Laws.{SpaceLaws, TreeLaws}
-use Rattle.hb_sound.specs.Names.{HasBelow}
 use Rattle.hb_sound.specs.LawsOfOperations.{MayBeDone}
 use Rattle.hb_sound.specs.LawsOfPostings.{ChangesParent, NamesAt, PostingsChangeParent, PostingsKeepContents, PostingsKeepDirect, PostingsKeepSound, PostingsName}
 use Rattle.hb_sound.specs.PointWalks.{HasOn}
 use Rattle.hb_sound.proofs.GrowthKept.{contents_from, records-set}
-use Rattle.hb_sound.proofs.OneChanged.{IsLike, after as changed, new_live, others_stay, pair_of_new, pair_of_old, sound_again}
-use Rattle.hb_sound.proofs.Facts.OneLevel.{same_page}
-use Rattle.hb_ops.proofs.Facts.PageNumberLaws.{in_range, live_so, place_of, with_page-there}
+use Rattle.hb_ops.proofs.Facts.OneChanged.{IsLike, after as changed, new_live, others_stay, pair_of_new, pair_of_old, sound_again}
+use Rattle.hb_ops.proofs.Facts.PageNumberLaws.{live_so, place_of, with_page-there}
 use Rattle.hb_sound.proofs.Partition.{pages_have_boxes}
 use Rattle.hb_sound.proofs.PostedPage.{PostLaws, SaysAsBefore, keeps, leaf_there, names_at, new as posted_page, new_cut, new_made, origin, posted_so, siblings_stay}
 use Rattle.hb_ops.proofs.Facts.PlacedLaws.{placed}
-use Rattle.std.proofs.lemmas.Option.{same_Some}
+use Rattle.std.proofs.lemmas.Option.{same_Some, slice_get_within}
 use Rattle.hb_space.proofs.Facts.Boxes.{Holds-within, hi_held, lo_held}
+use Rattle.hb_lemmas.proofs.Options.{one_value}
 
 -- the same box and sibling leaves directly hold the same points
 pub direct_again : (was now : LivePage) (p : List ℕ) → now.area ≡ was.area → siblings_of now ≡ siblings_of was → DirectlyHolds was p → DirectlyHolds now p
@@ -86,11 +85,11 @@ module _ (trees : TreeLaws) (space : SpaceLaws) (laws : PostLaws) (s : FileState
   given_has : (p : List ℕ) → Holds area p → HoldsBelow inner p
   given_has p held =
       let gave : GaveAway s parent at inner area = may.licensed in
-      let same : gave.page ≡ page = same_page s parent gave.page page gave.live live in
+      let same : gave.page ≡ page = one_value (live_page s parent) gave.page page gave.live live in
       let gave_leaf : IsChildAt at page gave.outer gave.box = subst (λ (q : LivePage). IsChildAt at q gave.outer gave.box) same gave.leaf in
       let outer : gave.outer ≡ fits.outer = child_name (part_at at page.frag page.area) gave.outer fits.outer gave.box fits.box gave_leaf fits.leaf in
       let below = may.sound.children parent page fits.outer fits.box live (leaf_there trees laws s.meta page at inner area page_box may.has.0 may.has.1 fits) in
-      let child : gave.child ≡ below.0 = same_page s gave.outer gave.child below.0 gave.named (ap (live_page s) outer ∙ below.1) in
+      let child : gave.child ≡ below.0 = one_value (live_page s gave.outer) gave.child below.0 gave.named (ap (live_page s) outer ∙ below.1) in
       let m = may.sound.siblings gave.outer gave.child inner area gave.named gave.gave in
       record {
         named = m.0;
@@ -132,7 +131,7 @@ module _ (trees : TreeLaws) (space : SpaceLaws) (laws : PostLaws) (s : FileState
       let box : IsArea a = All-contains (λ (l : Placed). IsArea l.area) (leaves_of new.frag new.area) (placed (Child name) a) (trees.areas new.frag new.area page_box cut) has in
       let low = at_point name a has a.lo (lo_held a box) in
       let high = at_point name a has a.hi (hi_held a box) in
-      let same : high.named ≡ low.named = same_page s name high.named low.named high.there low.there in
+      let same : high.named ≡ low.named = one_value (live_page s name) high.named low.named high.there low.there in
       (low.named, low.there, low.level, within_by_corners a low.named.area box low.inside (subst (λ (q : LivePage). Holds q.area a.hi) same high.inside))
 
   like : IsLike page new
@@ -180,7 +179,7 @@ module _ (trees : TreeLaws) (space : SpaceLaws) (laws : PostLaws) (s : FileState
 
   pub posting_names : (q : LivePage) (p : List ℕ) → live_page s parent ≡ Some q → Holds q.area p → NamesAt q (post_page at inner area q) at inner area p
   posting_names q p there held =
-      let same : page ≡ q = same_page s parent page q live there in
+      let same : page ≡ q = one_value (live_page s parent) page q live there in
       let here : Holds page.area p = subst (λ (r : LivePage). Holds r.area p) (sym same) held in
       subst (λ (r : LivePage). NamesAt r (post_page at inner area r) at inner area p) same
       (subst (λ (r : LivePage). NamesAt page r at inner area p) (sym page_so) (names_at trees laws s.meta page at inner area page_box may.has.0 may.has.1 fits p here))
@@ -193,7 +192,7 @@ module _ (trees : TreeLaws) (space : SpaceLaws) (laws : PostLaws) (s : FileState
   same_records =
       let here = place_of s.pages parent (Live page) (live_so (page_of s parent) page live) in
       ap (λ (m : ℕ). flat_map page_records (with_page m (Live new) s.pages)) here.1
-      ∙ ap (flat_map page_records) (with_page-there s.pages here.0 (Live new) (in_range s.pages here.0 (Live page) here.2))
+      ∙ ap (flat_map page_records) (with_page-there s.pages here.0 (Live new) (slice_get_within s.pages here.0 (Live page) here.2))
       ∙ records-set s.pages here.0 (Live page) (Live new) here.2 (no_records new fits.above ∙ sym (no_records page fits.above))
 
   pub posting_contents : contents_of (effect_of s (Post parent at inner area)) ≡ contents_of s

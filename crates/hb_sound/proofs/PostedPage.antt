@@ -1,5 +1,5 @@
 -- The page in which another one is named: what each point's leaf names, whom its sibling leaves name, and that it is well made.
-use Rattle.std.proofs.Common.{◌≡◌, ℕ, zero, suc, ◌<◌, ◌≤◌, ◌↔◌, ◌⊎◌, inl, inr, Bool, cond, List, [], ◌∷◌, ◌++◌, length, Option, Some, None, IsSome, refl, sym, ap, subst, ◌∙◌, arith, ne_eqb}
+use Rattle.std.proofs.Common.{◌≡◌, ℕ, zero, suc, ◌<◌, ◌≤◌, ◌↔◌, ◌⊎◌, inl, inr, Bool, cond, List, [], ◌∷◌, ◌++◌, length, Option, Some, refl, sym, ap, subst, ◌∙◌, arith, ne_eqb}
 use Rattle.std.specs.List.{All, Contains}
 use Rattle.std.proofs.lemmas.List.Elements.{All-contains, Contains-append_cases, Contains-append_left, Contains-append_right}
 use Rattle.hb_space.specs.Boxes.{Area, IsArea, Holds, Meets, Within, common_area}
@@ -24,6 +24,7 @@ use Rattle.hb_sound.specs.LawsOfPostings.{NamesAt}
 use Rattle.hb_sound.proofs.Facts.ExampleParts.{no_records}
 use Rattle.hb_ops.proofs.Facts.PlacedLaws.{each_leaf, placed, placed_is_leaf}
 use Rattle.hb_lemmas.proofs.Lists.{each_member}
+use Rattle.hb_lemmas.proofs.Options.{one_value, some_value}
 use Rattle.hb_ops.proofs.Facts.PathLaws.{well_cut_again}
 use Rattle.hb_space.proofs.Facts.Boxes.{Holds-within}
 use Rattle.hb_frag.proofs.Facts.NamesListed.{siblings-append}
@@ -46,13 +47,6 @@ kept_same level above (Child page) (Sibling other) on kept = absurd kept
 kept_same level above (Sibling page) (Records others) on kept = absurd kept
 kept_same level above (Sibling page) (Child other) on kept = absurd kept
 kept_same level above (Sibling page) (Sibling other) on kept = ap Sibling (sym kept)
-
-pub some_of : (o : Option Placed) → IsSome o → (x : Placed) × (o ≡ Some x)
-some_of None is = absurd (let no : ⊥ = cc in no)
-some_of (Some x) is = (x, refl)
-
-pub same_first : (o : Option Placed) (x y : Placed) → o ≡ Some x → o ≡ Some y → x ≡ y
-same_first o x y e f = cc
 
 siblings-between : (front middle other behind : List Placed) → siblings middle ≡ siblings other → siblings ((front ++ middle) ++ behind) ≡ siblings ((front ++ other) ++ behind)
 siblings-between front middle other behind e =
@@ -216,7 +210,7 @@ module _ (trees : TreeLaws) (laws : PostLaws) (meta : Meta) (page : LivePage) (a
         let w = carves.points p here in
         let has = (trees.only carving box p w.0 box_box carves.cuts).0 w.1 in
         let first = (trees.only opened page.area p w.0 page_box opened_cut).1 (goes_between w.0 has.0, has.1) in
-        subst (Contains middle) (same_first (first_at p between) w.0 mid first keeps.old_leaf) has.0
+        subst (Contains middle) (one_value (first_at p between) w.0 mid first keeps.old_leaf) has.0
 
     in_box : Contains middle mid → Holds box p
     in_box m = Holds-within mid.area box p
@@ -251,7 +245,7 @@ module _ (trees : TreeLaws) (laws : PostLaws) (meta : Meta) (page : LivePage) (a
 
     pub names_at : NamesAt page new at inner area p
     names_at =
-        let before = some_of (leaf_at page p) ((trees.some page.frag page.area p page_box fits.made.well_cut).1 held) in
+        let before = some_value (leaf_at page p) ((trees.some page.frag page.area p page_box fits.made.well_cut).1 held) in
         record {
           outer = outer;
           box = box;
@@ -263,6 +257,6 @@ module _ (trees : TreeLaws) (laws : PostLaws) (meta : Meta) (page : LivePage) (a
           given = new_given;
           kept = λ not. elim origin [
             | inl w ↦ absurd (not (w.1, w.2))
-            | inr w ↦ w.leaf ∙ ap (λ (l : Placed). l.leaf) (same_first (leaf_at page p) w.was before.0 (was_first w.was w.has w.here) before.1)
+            | inr w ↦ w.leaf ∙ ap (λ (l : Placed). l.leaf) (one_value (leaf_at page p) w.was before.0 (was_first w.was w.has w.here) before.1)
           ];
         }

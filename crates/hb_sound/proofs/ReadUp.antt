@@ -1,6 +1,7 @@
 -- Reading the pages one by one, where they are told.
 use Rattle.std.proofs.Common.{◌≡◌, ◌⊎◌, inl, inr, ℕ, zero, suc, ◌+◌, ◌<◌, ◌≤◌, List, [], ◌∷◌, ◌++◌, length, take, Option, Some, None, IfSome, slice_get, refl, sym, ap, ◌∙◌, subst, arith}
 use Rattle.std.proofs.lemmas.Bool.{cases_lt}
+use Rattle.hb_lemmas.proofs.Lists.{place_within}
 use Rattle.hb_frag.specs.declared.pages.Page.{Page}
 use Rattle.hb_layout.specs.declared.meta.Meta.{Meta}
 use Rattle.hb_sound.specs.declared.page_facts.Fact.{Fact}
@@ -10,7 +11,6 @@ use Rattle.hb_sound.specs.Told.{CoversFile, IsHole, IsWholeFile, file_of, item_a
 use Rattle.hb_sound.specs.Walks.{IsLeast}
 use Rattle.hb_sound.proofs.Firsts.{item_behind}
 use Rattle.hb_sound.proofs.KnownPages.{knows_more, knows_none}
-use Rattle.hb_sound.proofs.ToldPages.{slice_get_inside}
 
 -- no hole so far, and these are the facts of the pages so far
 pub record IsReadTo (meta : Meta) (told : List (Option Page)) (n : ℕ) (facts : List Fact) : Type 0 where
@@ -51,7 +51,7 @@ pub read_more : (meta : Meta) (told : List (Option Page)) (n : ℕ) (facts : Lis
     → ((page : Page) → item_at told (n + 1) ≡ Some (Some page) → Knows facts fact page)
     → IsReadTo meta told (n + 1) (facts ++ fact ∷ [])
 read_more meta told n facts fact covers read count within is there knows =
-    let found = slice_get_inside told n (omega (arith, covers, within)) in
+    let found = place_within told n (omega (arith, covers, within)) in
     let at : item_at told (n + 1) ≡ Some found.0 = item_behind told n ∙ found.1 in
     let page = some_page found.0 (λ e. there (at ∙ ap (λ (o : Option Page). Some o) e)) in
     let here : slice_get told n ≡ Some (Some page.0) = found.1 ∙ ap (λ (o : Option Page). Some o) page.1 in
@@ -119,7 +119,3 @@ pub if_hole : (o : Option (List (Option Page))) (meta : Meta) (n : ℕ) (facts :
     → IfSome o (λ told. (meta.pages < n + 1) ⊎ (n + 1 ≤ length told → item_at told (n + 1) ≡ Some None)) → IfSome o (λ told. IsLeast (IsHole meta told) (n + 1))
 if_hole None meta n facts covers read within broken = tt
 if_hole (Some told) meta n facts covers read within broken = first_hole meta told n facts covers read within broken
-
-pub long_more : {A : Type 0} (xs : List A) (x : A) → length (xs ++ x ∷ []) ≡ length xs + 1
-long_more {A} [] x = refl
-long_more {A} (y ∷ xs) x = let rest = long_more xs x in omega (arith, rest)

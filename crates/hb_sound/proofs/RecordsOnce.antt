@@ -3,22 +3,25 @@ use Rattle.std.proofs.Common.{◌≡◌, ◌≢◌, ℕ, zero, suc, ◌+◌, ◌
 use Rattle.std.specs.List.{AllByRecursion, Contains}
 use Rattle.std.specs.Option.{is_some}
 use Rattle.std.specs.FinMap as finite
-use Rattle.std.specs.declared.cmp.Ordering.TheVariants.{Less, Equal}
-use Rattle.std.proofs.lemmas.Bool.{cases_eq, cases_lt, eq-eqb, ne_eqb}
-use Rattle.std.proofs.lemmas.Cmp.{nat_list_cmp_total, tied_itself}
+use Rattle.std.proofs.lemmas.Bool.{cases_eq, eq-eqb, ne_eqb}
+use Rattle.std.proofs.lemmas.Cmp.{nat_list_cmp_total}
 use Rattle.std.proofs.lemmas.Grind.{flat_map-append}
 use Rattle.std.proofs.lemmas.List.Elements.{All-contains, recursion_from_All}
-use Rattle.hb_lemmas.proofs.Lists.{All-parts}
-use Rattle.hb_space.specs.Boxes.{Area, Cuts, Holds, IsArea, Within, side_below, side_from}
+use Rattle.std.proofs.lemmas.List.{get_or_default}
+use Rattle.hb_lemmas.proofs.Lists.{All-parts, whole}
+use Rattle.hb_lemmas.proofs.Pairs.{pairs_first, pairs_rest}
+use Rattle.hb_space.specs.Boxes.{Area, Holds, IsArea, Within, side_below, side_from}
 use Rattle.hb_space.specs.Points.{IsPoint, point_cmp}
 use Rattle.hb_space.specs.declared.records.Record.{Record}
 use Rattle.hb_space.proofs.Facts.Boxes.{Holds-within}
-use Rattle.hb_frag.proofs.Facts.Sides.{IsArea-side_below, IsArea-side_from, not_below, not_from}
+use Rattle.hb_space.proofs.Facts.PointOrder.{not_itself}
+use Rattle.hb_frag.proofs.Facts.Sides.{IsArea-side_below, IsArea-side_from}
 use Rattle.hb_frag.specs.declared.pages.Page.{Page}
 use Rattle.hb_frag.specs.declared.pages.Page.TheVariants.{Live, Free}
 use Rattle.hb_frag.specs.Trees.{Tree, Tip, Cut}
 use Rattle.hb_frag.specs.Leaves.{IsWellCut, Placed, leaves, leaves_of, records_of}
 use Rattle.hb_frag.specs.Rules.{IsInOrder, Precedes}
+use Rattle.hb_frag.proofs.Facts.OrderedLeaves.{sides_apart}
 use Rattle.hb_ops.specs.Files.{FileState, file_records, page_records}
 use Rattle.hb_ops.specs.Sound.{IsSound}
 use Rattle.hb_ops.proofs.Facts.Finds.{body-lacking, entry_of}
@@ -47,44 +50,20 @@ as_many (r ∷ rest) apart =
     let later = as_many rest apart.1 in
     omega (arith, new, later)
 
--- lists joined
-all_joined : (P : Record → Type 0) (xs ys : List Record) → AllByRecursion P xs → AllByRecursion P ys → AllByRecursion P (xs ++ ys)
-all_joined P [] ys one two = two
-all_joined P (x ∷ xs) ys one two = (one.0, all_joined P xs ys one.1 two)
-
 apart_joined : (xs ys : List Record) → AreApart xs → AreApart ys → ((r : Record) → Contains xs r → AllByRecursion (Differs r) ys) → AreApart (xs ++ ys)
 apart_joined [] ys one two across = two
 apart_joined (x ∷ xs) ys one two across = (
-  all_joined (Differs x) xs ys one.0 (across x (zero, omega arith, refl)),
+  whole (Differs x) xs ys one.0 (across x (zero, omega arith, refl)),
   apart_joined xs ys one.1 two (λ r has. across r (suc has.0, (let lt = has.1 in omega (arith, lt)), has.2)),
 )
 
 -- the records of a leaf
-no_less : (p q : List ℕ) → point_cmp p q ≡ Less → q ≡ p → ⊥
-no_less p q less same =
-    let tied : point_cmp p q ≡ Equal = ap (point_cmp p) same ∙ tied_itself nat_list_cmp_total p in
-    cc (less, tied)
-
-pairs_first : (x : Record) (xs : List Record) → AllPairs Precedes (x ∷ xs) → All (Differs x) xs
-pairs_first x xs pairs k d lt = no_less x.key (get_or xs k d).key (pairs zero (suc k) d (omega arith) (omega (arith, lt)))
-
 rises_apart : (records : List Record) → AllPairs Precedes records → AreApart records
 rises_apart [] pairs = tt
 rises_apart (x ∷ xs) pairs = (
-  recursion_from_All (Differs x) xs (pairs_first x xs pairs),
-  rises_apart xs (λ i j d less lt. pairs (suc i) (suc j) d (omega (arith, less)) (omega (arith, lt))),
+  recursion_from_All (Differs x) xs (λ k d lt same. not_itself x.key (get_or xs k d).key (sym same) (pairs_first Precedes x xs pairs k d lt)),
+  rises_apart xs (pairs_rest Precedes x xs pairs),
 )
-
-get_or_same : (xs : List Record) (k : ℕ) (c d : Record) → k < length xs → get_or xs k c ≡ get_or xs k d
-get_or_same [] k c d lt = absurd (omega (arith, lt))
-get_or_same (x ∷ xs) zero c d lt = refl
-get_or_same (x ∷ xs) (suc k) c d lt = get_or_same xs k c d (omega (arith, lt))
-
-both_sides : (area : Area) (axis value : ℕ) (p : List ℕ) → IsArea area → Cuts area axis value → Holds (side_below area axis value) p → Holds (side_from area axis value) p → ⊥
-both_sides area axis value p box cut low high = elim (cases_lt (get_or p axis 0) value) [
-  | inl less ↦ not_from area axis value p cut less high
-  | inr more ↦ not_below area axis value p box cut more low
-]
 
 -- of a tree: those of one side of a cut have other points than those of the other side
 module _ (trees : TreeLaws) where
@@ -110,8 +89,8 @@ module _ (trees : TreeLaws) where
       (λ r has. recursion_from_All (Differs r) (flat_map records_of (leaves right)) (λ k d lt same.
       let other = get_or (flat_map records_of (leaves right)) k d in
       let mine = held_by_tree left below low cut.1 parts.0 r has in
-      let there = held_by_tree right from high cut.2 parts.1 other (k, lt, get_or_same (flat_map records_of (leaves right)) k other d lt) in
-      both_sides area axis value r.key box cut.0 mine (subst (λ (q : List ℕ). Holds from q) same there))) in
+      let there = held_by_tree right from high cut.2 parts.1 other (k, lt, get_or_default (flat_map records_of (leaves right)) k other d lt) in
+      sides_apart area axis value r.key cut.0 mine (subst (λ (q : List ℕ). Holds from q) same there))) in
       subst AreApart (sym (flat_map-append records_of (leaves left) (leaves right))) apart
 
 first_place : (first : ℕ) → first + 0 ≡ first
@@ -147,7 +126,7 @@ module _ (trees : TreeLaws) (space : SpaceLaws) (points : (a : Area) (p : List �
   rest_lacks : (pages : List Page) (first n : ℕ) (q : Page) (r : Record) → n < first → slice_get s.pages n ≡ Some q → Contains (page_records q) r → ((m : ℕ) (x : Page) → slice_get pages m ≡ Some x → slice_get s.pages (first + m) ≡ Some x) → AllByRecursion (Differs r) (flat_map page_records pages)
   rest_lacks [] first n q r less here has at = tt
   rest_lacks (x ∷ rest) first n q r less here has at =
-      all_joined (Differs r) (page_records x) (flat_map page_records rest)
+      whole (Differs r) (page_records x) (flat_map page_records rest)
       (recursion_from_All (Differs r) (page_records x) (other_lacks n first q x r here (subst (λ (i : ℕ). slice_get s.pages i ≡ Some x) (first_place first) (at zero x refl)) (λ same. omega (arith, same, less)) has))
       (rest_lacks rest (suc first) n q r (omega (arith, less)) here has (λ m y e. subst (λ (i : ℕ). slice_get s.pages i ≡ Some y) (next_place first m) (at (suc m) y e)))
 

@@ -1,5 +1,5 @@
 -- Where the records of a file stand: what its contents have under a point is the body of a record of some leaf, and the other way round.
-use Rattle.std.proofs.Common.{◌≡◌, ℕ, zero, suc, ◌==◌, inl, inr, Bool, true, false, cond, List, [], ◌∷◌, map, flat_map, length, slice_get, Some, refl, sym, ap, subst, ◌∙◌, arith, eq-eqb, ne_eqb}
+use Rattle.std.proofs.Common.{◌≡◌, ℕ, zero, suc, ◌==◌, inl, inr, Bool, true, false, cond, List, [], ◌∷◌, map, flat_map, length, slice_get, Some, refl, sym, subst, ◌∙◌, arith, eq-eqb, ne_eqb}
 use Rattle.std.specs.List.{Contains}
 use Rattle.std.specs.Ordering.{eq_by_cmp}
 use Rattle.std.specs.FinMap as finite
@@ -26,6 +26,7 @@ use Rattle.hb_sound.specs.PointWalks.{IsPointOf}
 use Rattle.hb_sound.proofs.Facts.PagePlaces.{live_there}
 use Rattle.hb_ops.proofs.Facts.PlacedLaws.{placed}
 use Rattle.hb_lemmas.proofs.Orderings.{equal_so}
+use Rattle.hb_lemmas.proofs.Lists.{member_place}
 use Rattle.hb_space.proofs.Facts.PointOrder.{exact_points}
 use Rattle.hb_ops.proofs.Facts.Finds.{body_at, entry_of}
 
@@ -117,14 +118,8 @@ contents_stand s q body e =
     let w = in_page s.pages g.rec g.has in
     record { rec = g.rec; has = of_page s w.place w.page g.rec w.there w.has; key = g.key; value = g.value }
 
--- a record of a leaf stands at its point
-slice_of : (rs : List Record) (r : Record) → Contains rs r → (place : ℕ) × (slice_get rs place ≡ Some r)
-slice_of [] r (k, lt, e) = absurd (omega arith)
-slice_of (x ∷ rs) r (zero, lt, e) = (zero, ap (λ (y : Record). Some y) e)
-slice_of (x ∷ rs) r (suc k, lt, e) = let w = slice_of rs r (k, omega arith, e) in (suc w.0, w.1)
-
 stands_from : (page : LivePage) (r : Record) (leaf : Leaf) (area : Area) → leaf_at page r.key ≡ Some (placed leaf area) → Contains (records_of leaf) r → StandsThere page r.key r
-stands_from page r (Records records) area at has = let w = slice_of records r has in record { records = records; area = area; leaf = at; place = w.0; among = w.1; key = refl }
+stands_from page r (Records records) area at has = let w = member_place records r has in record { records = records; area = area; leaf = at; place = w.0; among = w.1; key = refl }
 stands_from page r (Child name) area at (k, lt, e) = absurd (omega arith)
 stands_from page r (Sibling name) area at (k, lt, e) = absurd (omega arith)
 

@@ -11,7 +11,7 @@ use Rattle.hb_frag.specs.declared.pages.Page.{Page}
 use Rattle.hb_frag.specs.declared.pages.Page.TheVariants as pages
 use Rattle.hb_frag.specs.Trees.{Tree, Cut}
 use Rattle.hb_frag.specs.Leaves.{Placed, leaves, leaves_of, siblings}
-use Rattle.hb_lemmas.proofs.Lists.{each_member, only_one}
+use Rattle.hb_lemmas.proofs.Lists.{each_member, only_one, place_within, no_member}
 use Rattle.hb_ops.proofs.Facts.PlacedLaws.{leaf_is_sibling, placed, sibling_is_leaf}
 use Rattle.hb_ops.specs.Sound.{count_name}
 use Rattle.hb_sound.specs.declared.page_facts.Seen.{Seen}
@@ -27,7 +27,6 @@ use Rattle.hb_sound.proofs.Counts.{none_more}
 use Rattle.hb_sound.proofs.Levels.{seen_fact}
 use Rattle.hb_sound.proofs.LinkSteps.{names_are}
 use Rattle.hb_frag.proofs.Facts.NamesListed.{siblings-append}
-use Rattle.hb_sound.proofs.ToldPages.{slice_get_inside}
 
 module _ (facts : List Fact) (level : ℕ) (before : List Placed) where
   -- the first sibling leaf
@@ -99,10 +98,7 @@ module _ (facts : List Fact) (page : LivePage) where
   none_find : siblings all ≡ [] → FindsSiblings facts page
   none_find none = siblings_find (λ name area there.
       let Q : List (ℕ × Area) → Type 0 = λ l. Contains l (name, area) in
-      absurd (no_one (subst Q none there)))
-    where
-      no_one : {x : ℕ × Area} → Contains [] x → ⊥
-      no_one (k, lt, e) = omega (arith, lt)
+      absurd (no_member (name, area) (subst Q none there)))
 
   names_by : (other : ℕ) → names_in other (leaves page.frag) ≡ count_name other (siblings all)
   names_by other = names_are other page.frag page.area
@@ -176,7 +172,7 @@ free_told (Some told) facts id links some within none = λ page there known.
   where
     fact_there : (facts : List Fact) (id : ℕ) → 1 ≤ id → id ≤ length facts → (fact : Fact) × (item_at facts id ≡ Some fact)
     fact_there facts zero some within = absurd (omega (arith, some))
-    fact_there facts (suc place) some within = slice_get_inside facts place (omega (arith, within))
+    fact_there facts (suc place) some within = place_within facts place (omega (arith, within))
 
     by_page : (fact : Fact) (page : Page) → if_seen (Some fact) ≡ None → Knows facts fact page → AddsPage facts id page links links
     by_page (Live seen) page e knows = absurd (let never : Some seen ≡ None = e in cc)

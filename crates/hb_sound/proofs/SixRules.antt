@@ -1,5 +1,5 @@
 -- The rules 1 to 6: what the tests of the facts say of the file.
-use Rattle.std.proofs.Common.{◌≡◌, inl, inr, ℕ, ◌≤◌, List, length, Some, None, Result, Ok, Err, OnOk, IfErr, refl, sym, subst}
+use Rattle.std.proofs.Common.{◌≡◌, inl, inr, ℕ, ◌≤◌, List, length, Some, None, Result, Ok, Err, IfErr, refl, sym, subst}
 use Rattle.hb_frag.specs.declared.pages.Page.{Page}
 use Rattle.hb_layout.specs.declared.meta.Meta.{Meta}
 use Rattle.hb_sound.specs.declared.page_facts.Fact.{Fact}
@@ -13,10 +13,6 @@ use Rattle.hb_sound.specs.Stops.{OnBroken}
 use Rattle.hb_sound.proofs.Bridge.{to_rooted}
 use Rattle.hb_sound.proofs.ChainBridge.{not_counted, to_counted}
 use Rattle.hb_sound.proofs.LocalBridge.{keeps_local, to_local}
-
-pub ok_then : {T E P Q : Type 0} (r : Result T E) → (P → Q) → OnOk r P → OnOk r Q
-ok_then (Ok x) f h = f h
-ok_then (Err e) f h = tt
 
 pub err_then : {T E : Type 0} {P Q : E → Type 0} (r : Result T E) → ((e : E) → P e → Q e) → IfErr r P → IfErr r Q
 err_then (Ok x) f h = tt

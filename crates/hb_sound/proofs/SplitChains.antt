@@ -10,9 +10,11 @@ use Rattle.hb_ops.specs.Sound.{IsChain, IsCounted, IsRooted, count_live}
 use Rattle.hb_sound.proofs.Extractions.{Extraction, LicensesExtraction}
 use Rattle.hb_ops.specs.Allocating.{Allocates, allocated}
 use Rattle.hb_sound.proofs.FileParted.{ArePartsOf, IsParted}
-use Rattle.hb_sound.proofs.PageLists.{live_few}
-use Rattle.hb_ops.proofs.Facts.PageNumberLaws.{in_range, live_so, place_of}
-use Rattle.std.proofs.lemmas.Option.{same_Some}
+use Rattle.hb_sound.proofs.Facts.PagePlaces.{not_vacant, StaysLive}
+use Rattle.hb_ops.proofs.Facts.PageLists.{live_few}
+use Rattle.hb_ops.proofs.Facts.PageNumberLaws.{live_so, place_of}
+use Rattle.std.proofs.lemmas.Option.{same_Some, slice_get_within}
+use Rattle.hb_lemmas.proofs.Lists.{later_member}
 
 -- a chain is told by its head
 same_length : (s : FileState) (head : ℕ) (chain other : List ℕ) → IsChain s head chain → IsChain s head other → length chain ≡ length other
@@ -54,15 +56,12 @@ pub head_there : (s : FileState) (head : ℕ) (chain : List ℕ) → IsChain s h
 head_there s head [] h = omega (arith, h)
 head_there s head (id ∷ chain) h =
     let here = place_of s.pages id (Free h.2) h.3 in
-    let lt = in_range s.pages here.0 (Free h.2) here.2 in
+    let lt = slice_get_within s.pages here.0 (Free h.2) here.2 in
     omega (arith, h.0, here.1, lt)
 
 module _ (s : FileState) (x : Extraction) (pages : List Page) (page source fresh : LivePage) (allocates : Allocates s.meta x.fresh x.free_after) (parted : IsParted s (record { meta = allocated s.meta x.fresh x.free_after; pages = pages }) x page source fresh) where
   abbrev pub after : FileState
   after = record { meta = allocated s.meta x.fresh x.free_after; pages = pages }
-
-  was_live : page_of s x.source ≡ Some (Live page)
-  was_live = live_so (page_of s x.source) page parted.live
 
   -- a page that is free afterwards was free, and isn't the new one
   free_was : (id next : ℕ) → page_of after id ≡ Some (Free next) → (page_of s id ≡ Some (Free next)) × (id ≢ x.fresh)
@@ -77,17 +76,14 @@ module _ (s : FileState) (x : Extraction) (pages : List Page) (page source fresh
   -- and a free page but the new one stays
   free_stays : (id next : ℕ) → page_of s id ≡ Some (Free next) → id ≢ x.fresh → page_of after id ≡ Some (Free next)
   free_stays id next e new = elim (cases_eq id x.source) [
-    | inl is ↦ let both : Some (Live page) ≡ Some (Free next) = sym was_live ∙ ap (page_of s) (sym is) ∙ e in absurd (let no : ⊥ = cc in no)
+    | inl is ↦ let both : Some (Live page) ≡ Some (Free next) = sym (live_so (page_of s x.source) page parted.live) ∙ ap (page_of s) (sym is) ∙ e in absurd (let no : ⊥ = cc in no)
     | inr ne ↦ parted.others id ne new ∙ e
   ]
-
-  further : (i id : ℕ) (chain : List ℕ) → Contains chain id → Contains (i ∷ chain) id
-  further i id chain h = (suc h.0, omega (arith, h.1), h.2)
 
   chain_stays : (head : ℕ) (chain : List ℕ) → IsChain s head chain → (Contains chain x.fresh → ⊥) → IsChain after head chain
   chain_stays head [] h none = h
   chain_stays head (id ∷ chain) h none =
-      (h.0, h.1, h.2, free_stays id h.2 h.3 (λ e. none (zero, omega arith, e)), chain_stays h.2 chain h.4 (λ has. none (further id x.fresh chain has)))
+      (h.0, h.1, h.2, free_stays id h.2 h.3 (λ e. none (zero, omega arith, e)), chain_stays h.2 chain h.4 (λ has. none (later_member id chain x.fresh has)))
 
   live_one_more : s.meta.live ≡ count_live s.pages → after.meta.live ≡ count_live after.pages
   live_one_more e = let more = parted.counted in omega (arith, e, more)
@@ -132,16 +128,7 @@ module _ (s : FileState) (x : Extraction) (pages : List Page) (page source fresh
 
   module _ (parts : ArePartsOf s.meta x.fresh page source fresh) where
     -- a page in use stays, with its level and its box
-    pub record StaysLive (id : ℕ) (old : LivePage) : Type 0 where
-      pub new : LivePage
-      pub live : live_page after id ≡ Some new
-      pub level : new.level ≡ old.level
-      pub area : new.area ≡ old.area
-
-    pub not_fresh : (id : ℕ) (old : LivePage) → live_page s id ≡ Some old → id ≢ x.fresh
-    not_fresh id old live e = parted.vacant old (ap (live_page s) (sym e) ∙ live)
-
-    pub stays_live : (id : ℕ) (old : LivePage) → live_page s id ≡ Some old → StaysLive id old
+    pub stays_live : (id : ℕ) (old : LivePage) → live_page s id ≡ Some old → StaysLive after id old
     stays_live id old live = elim (cases_eq id x.source) [
       | inl is ↦
           let same : page ≡ old = same_Some page old (sym parted.live ∙ ap (live_page s) (sym is) ∙ live) in
@@ -151,7 +138,7 @@ module _ (s : FileState) (x : Extraction) (pages : List Page) (page source fresh
             level = parts.level ∙ ap (λ (q : LivePage). q.level) same;
             area = parts.area ∙ ap (λ (q : LivePage). q.area) same;
           }
-      | inr ne ↦ record { new = old; live = ap if_live (parted.others id ne (not_fresh id old live)) ∙ live; level = refl; area = refl }
+      | inr ne ↦ record { new = old; live = ap if_live (parted.others id ne (not_vacant s x.fresh id old parted.vacant live)) ∙ live; level = refl; area = refl }
     ]
 
     pub rooted_again : LicensesExtraction s x → IsRooted s → IsCounted s → IsRooted after

@@ -23,10 +23,10 @@ use Rattle.hb_ops.proofs.Facts.StemLaws.{PartLaws}
 use Rattle.hb_sound.proofs.Partition.{pages_have_boxes, standing_is_contents}
 use Rattle.hb_sound.proofs.Facts.RecordsParted.{AmongLeaves, ShareRecords, share_records}
 use Rattle.hb_sound.proofs.RecordsStand.{HasRecord, contents_stand, stands_at}
-use Rattle.hb_sound.proofs.SplitChains.{not_fresh}
 use Rattle.std.proofs.lemmas.Option.{same_Some}
 use Rattle.hb_sound.proofs.SplitSound.{comes_from, split_sound}
 use Rattle.hb_sound.proofs.Widths.{width, width_between}
+use Rattle.hb_sound.proofs.Facts.PagePlaces.{not_vacant}
 use Rattle.hb_space.proofs.Facts.PointOrder.{exact_points}
 use Rattle.hb_lemmas.proofs.Options.{same_options}
 
@@ -52,7 +52,7 @@ module _ (s : FileState) (x : Extraction) (pages : List Page) (page source fresh
     | inl is ↦
         let same : h.page ≡ page = same_Some h.page page (sym h.live ∙ ap (live_page s) is ∙ parted.live) in
         of_source r (ap (λ (q : LivePage). q.level) (sym same) ∙ h.level) (subst (λ (q : LivePage). AmongLeaves (leaves_of q.frag q.area) r) same (among_of s r h))
-    | inr ne ↦ in_file after h.id h.page r (ap if_live (parted.others h.id ne (not_fresh s x pages page source fresh allocates parted parts h.id h.page h.live)) ∙ h.live) h.level (among_of s r h)
+    | inr ne ↦ in_file after h.id h.page r (ap if_live (parted.others h.id ne (not_vacant s x.fresh h.id h.page parted.vacant h.live)) ∙ h.live) h.level (among_of s r h)
   ]
 
   pub record_was : (r : Record) → HasRecord after r → HasRecord s r

@@ -1,9 +1,9 @@
 -- A split parts what the page directly holds: on each level one page directly holds a point, before and afterwards, and only two pages differ.
-use Rattle.std.proofs.Common.{◌≡◌, ℕ, ◌<◌, ◌⊎◌, inl, inr, List, Some, refl, sym, ap, subst, ◌∙◌}
+use Rattle.std.proofs.Common.{◌≡◌, ℕ, ◌<◌, ◌⊎◌, inl, inr, List, refl, sym, ap, subst, ◌∙◌}
 use Rattle.std.proofs.lemmas.Bool.{cases_eq}
 use Rattle.hb_frag.specs.declared.pages.LivePage.{LivePage}
 use Rattle.hb_frag.specs.declared.pages.Page.{Page}
-use Rattle.hb_ops.specs.Files.{FileState, if_live, live_page}
+use Rattle.hb_ops.specs.Files.{FileState, if_live}
 use Rattle.hb_ops.specs.Operations.{effect_of}
 use Rattle.hb_ops.specs.Sound.{IsSound}
 use Rattle.hb_sound.specs.Laws.{SpaceLaws, TreeLaws}
@@ -12,11 +12,11 @@ use Rattle.hb_sound.specs.LawsOfOperations.{ArePartedAt, HasDirectly, SplitsPart
 use Rattle.hb_sound.specs.PointWalks.{HasOn, IsPointOf}
 use Rattle.hb_ops.specs.Allocating.{Allocates, allocated}
 use Rattle.hb_sound.proofs.FileParted.{ArePartsOf, IsParted, after as parted_file, is_parted, parts_of}
-use Rattle.hb_sound.proofs.Facts.OneLevel.{same_page}
 use Rattle.hb_ops.proofs.Facts.StemLaws.{PartLaws}
 use Rattle.hb_sound.proofs.Partition.{each_point_is_held, no_point_is_held_twice}
-use Rattle.hb_sound.proofs.SplitChains.{not_fresh}
 use Rattle.hb_sound.proofs.SplitSound.{comes_from, split_sound}
+use Rattle.hb_sound.proofs.HeldSomewhere.{on_level, under}
+use Rattle.hb_sound.proofs.Facts.PagePlaces.{not_vacant}
 
 module _ (trees : TreeLaws) (space : SpaceLaws) (s : FileState) (x : Extraction) (pages : List Page) (page source fresh : LivePage) (allocates : Allocates s.meta x.fresh x.free_after) (parted : IsParted s (record { meta = allocated s.meta x.fresh x.free_after; pages = pages }) x page source fresh) (parts : ArePartsOf s.meta x.fresh page source fresh) where
   abbrev after : FileState
@@ -30,38 +30,32 @@ module _ (trees : TreeLaws) (space : SpaceLaws) (s : FileState) (x : Extraction)
     lt = (sound.well_made x.source page parted.live).fits.level
 
     -- what one of the two pages directly holds, by the level
-    on_level : (f : FileState) (id : ℕ) (q : LivePage) → live_page f id ≡ Some q → q.level ≡ page.level → HasDirectly f id p → HasOn f page.level p id
-    on_level f id q live level has = record { page = has.0; live = has.1; on = ap (λ (r : LivePage). r.level) (same_page f id has.0 q has.1 live) ∙ level; direct = has.2 }
-
     before_on : HasDirectly s x.source p → HasOn s page.level p x.source
-    before_on has = on_level s x.source page parted.live refl has
+    before_on has = on_level s x.source page page.level p parted.live refl has
 
     source_on : HasDirectly after x.source p → HasOn after page.level p x.source
-    source_on has = on_level after x.source source (ap if_live parted.source_now) parts.level has
+    source_on has = on_level after x.source source page.level p (ap if_live parted.source_now) parts.level has
 
     fresh_on : HasDirectly after x.fresh p → HasOn after page.level p x.fresh
-    fresh_on has = on_level after x.fresh fresh (ap if_live parted.fresh_now) parts.fresh_level has
-
-    directly : (f : FileState) (id other : ℕ) → id ≡ other → HasOn f page.level p id → HasDirectly f other p
-    directly f id other is has = (has.page, ap (live_page f) (sym is) ∙ has.live, has.direct)
+    fresh_on has = on_level after x.fresh fresh page.level p (ap if_live parted.fresh_now) parts.fresh_level has
 
     forth : HasDirectly s x.source p → HasDirectly after x.source p ⊎ HasDirectly after x.fresh p
     forth has =
         let now = each_point_is_held trees space after page.level p sound' point' lt in
         elim (comes_from s x pages page source fresh allocates parted parts now.0 now.1.page now.1.live) [
-          | inl both ↦ elim both [ inl w ↦ inr (directly after now.0 x.fresh w.0 now.1) | inr w ↦ inl (directly after now.0 x.source w.1 now.1) ]
+          | inl both ↦ elim both [ inl w ↦ inr (under after page.level now.0 x.fresh p w.0 now.1) | inr w ↦ inl (under after page.level now.0 x.source p w.1 now.1) ]
           | inr was ↦
               let had : HasOn s page.level p now.0 = record { page = now.1.page; live = was; on = now.1.on; direct = now.1.direct } in
-              inl (directly after now.0 x.source (no_point_is_held_twice trees space s page.level p now.0 x.source sound point had (before_on has)) now.1)
+              inl (under after page.level now.0 x.source p (no_point_is_held_twice trees space s page.level p now.0 x.source sound point had (before_on has)) now.1)
         ]
 
     back : (id : ℕ) → (id ≡ x.source) ⊎ (id ≡ x.fresh) → HasOn after page.level p id → HasDirectly s x.source p
     back id either has =
         let was = each_point_is_held trees space s page.level p sound point lt in
         elim (cases_eq was.0 x.source) [
-          | inl is ↦ directly s was.0 x.source is was.1
+          | inl is ↦ under s page.level was.0 x.source p is was.1
           | inr ne ↦
-              let new = not_fresh s x pages page source fresh allocates parted parts was.0 was.1.page was.1.live in
+              let new = not_vacant s x.fresh was.0 was.1.page parted.vacant was.1.live in
               let now : HasOn after page.level p was.0 = record { page = was.1.page; live = ap if_live (parted.others was.0 ne new) ∙ was.1.live; on = was.1.on; direct = was.1.direct } in
               let same : was.0 ≡ id = no_point_is_held_twice trees space after page.level p was.0 id sound' point' now has in
               elim either [ inl is ↦ absurd (ne (same ∙ is)) | inr is ↦ absurd (new (same ∙ is)) ]
@@ -71,7 +65,7 @@ module _ (trees : TreeLaws) (space : SpaceLaws) (s : FileState) (x : Extraction)
     parts_direct = record {
       either = (forth, λ has. elim has [ inl one ↦ back x.source (inl refl) (source_on one) | inr two ↦ back x.fresh (inr refl) (fresh_on two) ]);
       not_both = λ one two.
-          not_fresh s x pages page source fresh allocates parted parts x.source page parted.live
+          not_vacant s x.fresh x.source page parted.vacant parted.live
           (no_point_is_held_twice trees space after page.level p x.source x.fresh sound' point' (source_on one) (fresh_on two));
     }
 

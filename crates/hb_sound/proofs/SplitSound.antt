@@ -9,7 +9,7 @@ use Rattle.hb_frag.specs.declared.pages.Page.{Page}
 use Rattle.hb_frag.specs.Leaves.{leaves_of, siblings_of}
 use Rattle.hb_ops.specs.Files.{FileState, if_live, live_page}
 use Rattle.hb_ops.specs.Operations.{effect_of}
-use Rattle.hb_ops.specs.Sound.{AreWellMade, ChildrenMatch, FitsFile, IsCovered, IsSound, SiblingsMatch, times_named}
+use Rattle.hb_ops.specs.Sound.{AreWellMade, ChildrenMatch, FitsFile, IsCovered, IsSound, SiblingsMatch, times_named, HasSame, HasBelow}
 use Rattle.hb_sound.specs.Laws.{TreeLaws}
 use Rattle.hb_sound.specs.LawsOfOperations.{ChangesTwo, SplitsChangeTwo, SplitsKeepSound}
 use Rattle.hb_sound.proofs.Extractions.{Extraction, LicensesExtraction, MayExtract, extracted_so, fresh_page, may_extract, source_page, split_of, with_fields}
@@ -17,11 +17,11 @@ use Rattle.hb_ops.specs.Allocating.{Allocates, allocated}
 use Rattle.hb_sound.proofs.CutNames.{once}
 use Rattle.hb_sound.proofs.FileParted.{ArePartsOf, IsParted, after as parted_file, is_parted, parts_of}
 use Rattle.hb_sound.proofs.Facts.OneLevel.{spread}
-use Rattle.hb_sound.proofs.Facts.PagePlaces.{live_there}
+use Rattle.hb_sound.proofs.Facts.PagePlaces.{live_there, not_vacant, WasLive}
 use Rattle.hb_ops.proofs.Facts.StemLaws.{PartLaws}
 use Rattle.hb_sound.proofs.SiblingLeaves.{named_among}
 use Rattle.hb_ops.proofs.Facts.PlacedLaws.{placed}
-use Rattle.hb_sound.proofs.SplitChains.{counted_again, not_fresh, rooted_again, stays_live}
+use Rattle.hb_sound.proofs.SplitChains.{counted_again, rooted_again, stays_live}
 use Rattle.std.proofs.lemmas.Option.{same_Some}
 use Rattle.hb_sound.proofs.Widths.{width}
 
@@ -60,13 +60,7 @@ module _ (s : FileState) (x : Extraction) (pages : List Page) (page source fresh
   ]
 
   -- all but the new one were there, with their level and their box
-  record WasLive (id : ℕ) (new : LivePage) : Type 0 where
-    old : LivePage
-    live : live_page s id ≡ Some old
-    level : new.level ≡ old.level
-    area : new.area ≡ old.area
-
-  was_there : (id : ℕ) (new : LivePage) → live_page after id ≡ Some new → ((id ≡ x.fresh) × (new ≡ fresh)) ⊎ WasLive id new
+  was_there : (id : ℕ) (new : LivePage) → live_page after id ≡ Some new → ((id ≡ x.fresh) × (new ≡ fresh)) ⊎ WasLive s id new
   was_there id new live = elim (comes_from id new live) [
     | inl both ↦ elim both [
       | inl w ↦ inl w
@@ -90,55 +84,49 @@ module _ (s : FileState) (x : Extraction) (pages : List Page) (page source fresh
   ]
 
   -- what a sibling leaf of before names is there
-  abbrev SiblingIn : FileState → ℕ → ℕ → Area → Type 0
-  SiblingIn f level name area = (named : LivePage) × (live_page f name ≡ Some named) × (named.level ≡ level) × (named.area ≡ area)
-
-  sibling_stays : (level name : ℕ) (area : Area) → SiblingIn s level name area → SiblingIn after level name area
+  sibling_stays : (level name : ℕ) (area : Area) → HasSame s level name area → HasSame after level name area
   sibling_stays level name area m =
       let again = stays_live s x pages page source fresh allocates parted parts name m.0 m.1 in
       (again.new, again.live, again.level ∙ m.2, again.area ∙ m.3)
 
-  siblings_of_source : SiblingsMatch s → (name : ℕ) (area : Area) → Contains (siblings_of source) (name, area) → SiblingIn after source.level name area
+  siblings_of_source : SiblingsMatch s → (name : ℕ) (area : Area) → Contains (siblings_of source) (name, area) → HasSame after source.level name area
   siblings_of_source h name area has = elim (parts.siblings name area has) [
     | inl new ↦ (fresh, ap (live_page after) new.0 ∙ fresh_live, parts.fresh_level ∙ sym parts.level, sym new.1)
-    | inr old ↦ subst (λ (level : ℕ). SiblingIn after level name area) (sym parts.level) (sibling_stays page.level name area (h x.source page name area parted.live old))
+    | inr old ↦ subst (λ (level : ℕ). HasSame after level name area) (sym parts.level) (sibling_stays page.level name area (h x.source page name area parted.live old))
   ]
 
-  siblings_of_fresh : SiblingsMatch s → (name : ℕ) (area : Area) → Contains (siblings_of fresh) (name, area) → SiblingIn after fresh.level name area
-  siblings_of_fresh h name area has = subst (λ (level : ℕ). SiblingIn after level name area) (sym parts.fresh_level) (sibling_stays page.level name area (h x.source page name area parted.live (parts.fresh_siblings name area has)))
+  siblings_of_fresh : SiblingsMatch s → (name : ℕ) (area : Area) → Contains (siblings_of fresh) (name, area) → HasSame after fresh.level name area
+  siblings_of_fresh h name area has = subst (λ (level : ℕ). HasSame after level name area) (sym parts.fresh_level) (sibling_stays page.level name area (h x.source page name area parted.live (parts.fresh_siblings name area has)))
 
   siblings_match : SiblingsMatch s → SiblingsMatch after
   siblings_match h id new name area live has = elim (comes_from id new live) [
     | inl both ↦ elim both [
-      | inl w ↦ subst (λ (q : LivePage). Contains (siblings_of q) (name, area) → SiblingIn after q.level name area) (sym w.1) (siblings_of_fresh h name area) has
-      | inr w ↦ subst (λ (q : LivePage). Contains (siblings_of q) (name, area) → SiblingIn after q.level name area) (sym w.0) (siblings_of_source h name area) has
+      | inl w ↦ subst (λ (q : LivePage). Contains (siblings_of q) (name, area) → HasSame after q.level name area) (sym w.1) (siblings_of_fresh h name area) has
+      | inr w ↦ subst (λ (q : LivePage). Contains (siblings_of q) (name, area) → HasSame after q.level name area) (sym w.0) (siblings_of_source h name area) has
     ]
     | inr was ↦ sibling_stays new.level name area (h id new name area was has)
   ]
 
   -- and what a child leaf names
-  abbrev ChildIn : FileState → ℕ → ℕ → Area → Type 0
-  ChildIn f level name area = (named : LivePage) × (live_page f name ≡ Some named) × (named.level + 1 ≡ level) × Within area named.area
-
   abbrev HasChild : LivePage → ℕ → Area → Type 0
   HasChild q name area = Contains (leaves_of q.frag q.area) (placed (Child name) area)
 
-  child_stays : (level name : ℕ) (area : Area) → ChildIn s level name area → ChildIn after level name area
+  child_stays : (level name : ℕ) (area : Area) → HasBelow s level name area → HasBelow after level name area
   child_stays level name area m =
       let again = stays_live s x pages page source fresh allocates parted parts name m.0 m.1 in
       (again.new, again.live, ap (λ (k : ℕ). k + 1) again.level ∙ m.2, subst (λ (a : Area). Within area a) (sym again.area) m.3)
 
-  children_of_source : ChildrenMatch s → (name : ℕ) (area : Area) → HasChild source name area → ChildIn after source.level name area
-  children_of_source h name area has = subst (λ (level : ℕ). ChildIn after level name area) (sym parts.level) (child_stays page.level name area (h x.source page name area parted.live (parts.children name area has)))
+  children_of_source : ChildrenMatch s → (name : ℕ) (area : Area) → HasChild source name area → HasBelow after source.level name area
+  children_of_source h name area has = subst (λ (level : ℕ). HasBelow after level name area) (sym parts.level) (child_stays page.level name area (h x.source page name area parted.live (parts.children name area has)))
 
-  children_of_fresh : ChildrenMatch s → (name : ℕ) (area : Area) → HasChild fresh name area → ChildIn after fresh.level name area
-  children_of_fresh h name area has = subst (λ (level : ℕ). ChildIn after level name area) (sym parts.fresh_level) (child_stays page.level name area (h x.source page name area parted.live (parts.fresh_children name area has)))
+  children_of_fresh : ChildrenMatch s → (name : ℕ) (area : Area) → HasChild fresh name area → HasBelow after fresh.level name area
+  children_of_fresh h name area has = subst (λ (level : ℕ). HasBelow after level name area) (sym parts.fresh_level) (child_stays page.level name area (h x.source page name area parted.live (parts.fresh_children name area has)))
 
   children_match : ChildrenMatch s → ChildrenMatch after
   children_match h id new name area live has = elim (comes_from id new live) [
     | inl both ↦ elim both [
-      | inl w ↦ subst (λ (q : LivePage). HasChild q name area → ChildIn after q.level name area) (sym w.1) (children_of_fresh h name area) has
-      | inr w ↦ subst (λ (q : LivePage). HasChild q name area → ChildIn after q.level name area) (sym w.0) (children_of_source h name area) has
+      | inl w ↦ subst (λ (q : LivePage). HasChild q name area → HasBelow after q.level name area) (sym w.1) (children_of_fresh h name area) has
+      | inr w ↦ subst (λ (q : LivePage). HasChild q name area → HasBelow after q.level name area) (sym w.0) (children_of_source h name area) has
     ]
     | inr was ↦ child_stays new.level name area (h id new name area was has)
   ]
@@ -187,11 +175,11 @@ module _ (s : FileState) (x : Extraction) (pages : List Page) (page source fresh
       alone = alone_again h;
       not_named = λ id new live whole. elim (was_there id new live) [
         | inl w ↦ absurd (fresh_is_part new w.1 whole)
-        | inr was ↦ times_same id (not_fresh s x pages page source fresh allocates parted parts id was.old was.live) ∙ h.not_named id was.old was.live (sym was.area ∙ whole)
+        | inr was ↦ times_same id (not_vacant s x.fresh id was.old parted.vacant was.live) ∙ h.not_named id was.old was.live (sym was.area ∙ whole)
       ];
       named_once = λ id new live part. elim (was_there id new live) [
         | inl w ↦ ap (λ (n : ℕ). times_named n pages) w.0 ∙ fresh_named match
-        | inr was ↦ times_same id (not_fresh s x pages page source fresh allocates parted parts id was.old was.live) ∙ h.named_once id was.old was.live (λ whole. part (was.area ∙ whole))
+        | inr was ↦ times_same id (not_vacant s x.fresh id was.old parted.vacant was.live) ∙ h.named_once id was.old was.live (λ whole. part (was.area ∙ whole))
       ];
     }
 

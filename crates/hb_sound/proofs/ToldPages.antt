@@ -1,5 +1,6 @@
 -- What is read of a page, where it is told.
-use Rattle.std.proofs.Common.{◌≡◌, ◌⊎◌, inr, ℕ, zero, suc, ◌<◌, ◌≤◌, List, [], ◌∷◌, length, slice_get, Option, Some, None, IfSome, refl, sym, ap, ◌∙◌, subst, arith}
+use Rattle.std.proofs.Common.{◌≡◌, ◌⊎◌, inr, ℕ, zero, suc, ◌<◌, ◌≤◌, List, length, Option, Some, None, IfSome, sym, ap, ◌∙◌, subst, arith}
+use Rattle.hb_lemmas.proofs.Lists.{place_within}
 use Rattle.hb_frag.specs.declared.pages.Page.{Page}
 use Rattle.hb_layout.specs.declared.meta.Meta.{Meta}
 use Rattle.hb_sound.specs.declared.page_facts.Fact.{Fact}
@@ -19,11 +20,6 @@ pub told_there : (o : Option (List (Option Page))) (id : ℕ) (page : Page) → 
 told_there None id page gives = tt
 told_there (Some told) id page gives = λ e. let same : Some page ≡ None = gives None e in cc
 
-pub slice_get_inside : {A : Type 0} (xs : List A) (n : ℕ) → n < length xs → (x : A) × (slice_get xs n ≡ Some x)
-slice_get_inside {A} [] n lt = absurd (omega (arith, lt))
-slice_get_inside {A} (x ∷ xs) zero lt = (x, refl)
-slice_get_inside {A} (x ∷ xs) (suc n) lt = slice_get_inside xs n (omega (arith, lt))
-
 pub told_hole : (o : Option (List (Option Page))) (id pages : ℕ) → 1 ≤ id → GivesPage o id None
     → IfSome o (λ told. (pages < id) ⊎ (id ≤ length told → item_at told id ≡ Some None))
 told_hole None id pages some gives = tt
@@ -32,6 +28,6 @@ told_hole (Some told) id pages some gives = inr (λ within. there told id some w
     there : (told : List (Option Page)) (id : ℕ) → 1 ≤ id → id ≤ length told → GivesPage (Some told) id None → item_at told id ≡ Some None
     there told zero some within gives = absurd (omega (arith, some))
     there told (suc place) some within gives =
-        let is = slice_get_inside told place (omega (arith, within)) in
+        let is = place_within told place (omega (arith, within)) in
         let e : None ≡ is.0 = gives is.0 is.1 in
         is.1 ∙ ap (λ (x : Option Page). Some x) (sym e)

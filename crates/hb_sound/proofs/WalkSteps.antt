@@ -11,13 +11,14 @@ use Rattle.hb_ops.specs.Sound.{AreWellMade, ChildrenMatch, IsCovered, SiblingsMa
 use Rattle.hb_sound.specs.Laws.{TreeLaws}
 use Rattle.hb_sound.specs.PointWalks.{LeadsFurther, LeadsOn, Sees}
 use Rattle.hb_sound.proofs.HeldSomewhere.{leaf_there}
-use Rattle.hb_sound.proofs.Facts.OneLevel.{narrower, page_area, same_page}
+use Rattle.hb_sound.proofs.Facts.OneLevel.{narrower, page_area}
 use Rattle.hb_ops.proofs.Facts.PlacedLaws.{leaf_is_sibling, placed}
 use Rattle.hb_sound.proofs.WalksDown.{child_below}
 use Rattle.hb_sound.proofs.Widths.{width}
+use Rattle.hb_lemmas.proofs.Options.{one_value}
 
 seen_in : (s : FileState) (p : List ℕ) (id : ℕ) (leaf : Leaf) (page : LivePage) → live_page s id ≡ Some page → (x : Sees s p id leaf) → leaf_at page p ≡ Some (placed leaf x.area)
-seen_in s p id leaf page live x = ap (λ (q : LivePage). leaf_at q p) (same_page s id page x.page live x.live) ∙ x.there
+seen_in s p id leaf page live x = ap (λ (q : LivePage). leaf_at q p) (one_value (live_page s id) page x.page live x.live) ∙ x.there
 
 module _ (laws : TreeLaws) (s : FileState) (made : AreWellMade s) (match : SiblingsMatch s) (children : ChildrenMatch s) (covered : IsCovered s) (area : IsArea (whole_area s.meta.k)) (p : List ℕ) where
   pub step_leads : (id next : ℕ) (page : LivePage) → live_page s id ≡ Some page → LeadsOn s p id next → LeadsFurther s p page next

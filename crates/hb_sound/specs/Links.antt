@@ -1,5 +1,5 @@
 -- What the leaves of the pages name, by the facts of the pages, and what the first reading leaves of that to the second.
-use Rattle.std.specs.Prelude.{◌≡◌, ◌⊎◌, ℕ, ◌≤◌, List, length, All, take, option_map, vec_len, Option, Some, None, Result, IfErr, IfSome, IsErrOf, OnOk, ◌∷◌, []}
+use Rattle.std.specs.Prelude.{◌≡◌, ◌⊎◌, ℕ, ◌≤◌, List, length, All, take, option_map, vec_len, Option, Some, None, Result, IfErr, IfSome, OnOk, ◌∷◌, []}
 use Rattle.hb_frag.specs.declared.pages.LivePage.{LivePage}
 use Rattle.hb_frag.specs.declared.pages.Page.{Page}
 use Rattle.hb_frag.specs.declared.pages.Page.TheVariants as pages
@@ -10,8 +10,6 @@ use Rattle.hb_sound.specs.declared.page_facts.Fact.{Fact}
 use Rattle.hb_sound.specs.declared.links.Links.{Links}
 use Rattle.hb_sound.specs.declared.names.Times.TheVariants.{Never}
 use Rattle.hb_sound.specs.declared.pages.AuditStop.{AuditStop}
-use Rattle.hb_sound.specs.declared.pages.AuditStop.TheVariants.{Failed}
-use Rattle.hb_sound.specs.Asking.{Asks, PagesModel}
 use Rattle.hb_sound.specs.Facts.{FindsBelow, FindsSame, more, names_in}
 use Rattle.hb_sound.specs.Stops.{OnBroken}
 use Rattle.hb_sound.specs.Told.{item_at}
@@ -78,15 +76,14 @@ abbrev pub AddsPage : List Fact → ℕ → Page → Links → Links → Type 0
 AddsPage facts id (pages.Live page) old new = Adds facts id page old new
 AddsPage facts id (pages.Free next) old new = new ≡ old
 
--- What reading the page of this number for its links did.
-pub record ReadsLinks {S : Type 0} (model : S → PagesModel) (may_become : S → S → Type 0) (facts : List Fact) (id : ℕ) (known : List (Option Page) → Page → Type 0) (result : Result (Unit {0}) AuditStop) (before after : S) (old new : Links) : Type 0 where
+-- What reading the page of this number for its links did, by the pages that are told.
+pub record ReadsLinks (pages : Option (List (Option Page))) (facts : List Fact) (id : ℕ) (known : List (Option Page) → Page → Type 0) (result : Result (Unit {0}) AuditStop) (old new : Links) : Type 0 where
   -- the page that is told under it was added, where this is known of it
-  pub adds : OnOk result (IfSome (model before).told (λ told. (page : Page) → item_at told id ≡ Some (Some page) → known told page → AddsPage facts id page old new))
+  pub adds : OnOk result (IfSome pages (λ told. (page : Page) → item_at told id ≡ Some (Some page) → known told page → AddsPage facts id page old new))
   -- it is broken only where a cut of that page doesn't cut
-  pub never : IfErr result (OnBroken (λ _ _. IfSome (model before).told (λ told. (page : Page) → item_at told id ≡ Some (Some page) → IsCut page → ⊥)))
+  pub never : IfErr result (OnBroken (λ _ _. IfSome pages (λ told. (page : Page) → item_at told id ≡ Some (Some page) → IsCut page → ⊥)))
   -- as many pages are counted
   pub same : vec_len new.named ≡ vec_len old.named
-  pub asks : Asks model may_become (IsErrOf result Failed) before after
 
 -- the page under the number has a leaf that names no page as its rule wants it
 abbrev pub LosesSibling : List Fact → List Page → ℕ → Type 0

@@ -1,13 +1,13 @@
 -- What breaks each rule, the first rule that a file breaks, and the page that the audit names for it. Page 0 stands for the file.
-use Rattle.std.specs.Prelude.{◌≡◌, ◌⊎◌, ℕ, ◌<◌, ◌≤◌, List, length, Option, Some, ◌≢◌, ◌+◌, Contains}
+use Rattle.std.specs.Prelude.{◌≡◌, ◌⊎◌, ℕ, ◌<◌, ◌≤◌, List, length, Option, Some, ◌≢◌, Contains}
 use Rattle.hb_frag.specs.declared.pages.LivePage.{LivePage}
 use Rattle.hb_frag.specs.declared.pages.Page.{Page}
 use Rattle.hb_layout.specs.declared.meta.Meta.{Meta}
 use Rattle.hb_ops.specs.Files.{FileState, file_records, live_page}
-use Rattle.hb_ops.specs.Sound.{BreaksFirst, FitsFile, IsRooted, IsCounted, SiblingsMatch, ChildrenMatch, IsCovered, IsSound, times_named}
+use Rattle.hb_ops.specs.Sound.{BreaksFirst, FitsFile, IsRooted, IsCounted, SiblingsMatch, ChildrenMatch, IsCovered, IsSound, times_named, HasSame, HasBelow}
 use Rattle.hb_sound.specs.Told.{IsHole, IsWholeFile, file_of}
 use Rattle.hb_sound.specs.Walks.{IsLeast, IsChainWalk, IsLeftOut, next_free}
-use Rattle.hb_space.specs.Boxes.{Area, Within, whole_area}
+use Rattle.hb_space.specs.Boxes.{Area, whole_area}
 use Rattle.hb_frag.specs.declared.leaves.Leaf.TheVariants.{Child}
 use Rattle.hb_frag.specs.Leaves.{leaves_of, siblings_of}
 
@@ -15,20 +15,12 @@ use Rattle.hb_frag.specs.Leaves.{leaves_of, siblings_of}
 abbrev pub BreaksRule : FileState → ℕ → ℕ → Type 0
 BreaksRule s rule id = (page : LivePage) × (live_page s id ≡ Some page) × BreaksFirst rule page s.meta
 
--- S7: a page in use of this level, with this box
-abbrev pub HasSame : FileState → ℕ → ℕ → Area → Type 0
-HasSame s level name area = (named : LivePage) × (live_page s name ≡ Some named) × (named.level ≡ level) × (named.area ≡ area)
-
--- a sibling leaf of the page names none
+-- S7: a sibling leaf of the page names none of its level with the leaf's box
 abbrev pub MissesSibling : FileState → ℕ → Type 0
 MissesSibling s id = (page : LivePage) × (live_page s id ≡ Some page) × (name : ℕ) × (area : Area)
     × Contains (siblings_of page) (name, area) × (¬ (HasSame s page.level name area))
 
--- S8: a page in use one level down from this one, whose box has this one within it
-abbrev pub HasBelow : FileState → ℕ → ℕ → Area → Type 0
-HasBelow s level name area = (named : LivePage) × (live_page s name ≡ Some named) × (named.level + 1 ≡ level) × Within area named.area
-
--- a child leaf of the page names none
+-- S8: a child leaf of the page names none one level down with the leaf's box within its own
 abbrev pub MissesChild : FileState → ℕ → Type 0
 MissesChild s id = (page : LivePage) × (live_page s id ≡ Some page) × (name : ℕ) × (area : Area)
     × Contains (leaves_of page.frag page.area) (record { leaf = Child name; area = area }) × (¬ (HasBelow s page.level name area))

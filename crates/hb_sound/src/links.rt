@@ -165,7 +165,8 @@ impl Links {
         pages: &mut P,
         id: u32,
     ) -> Result<(), AuditStop>
-        ensures { ReadsLinks P.model P.asked facts.now id (λ _ _. Unit {0}) result pages.old pages.new self.old self.new }
+        ensures links { ReadsLinks (P.model pages.old).told facts.now id (λ _ _. Unit {0}) result self.old self.new }
+        ensures asks { Asks P.model P.asked (IsErrOf result Failed) pages.old pages.new }
     {
         match pages.page(id)? {
             Some(Page::Live(page)) => {
@@ -200,7 +201,8 @@ impl Links {
         pages: &mut P,
         id: u32,
     ) -> Result<(), AuditStop>
-        ensures { ReadsLinks P.model P.asked facts.now id (λ _ page. Knows facts.now (SeenLive seen.now) page) result pages.old pages.new self.old self.new }
+        ensures links { ReadsLinks (P.model pages.old).told facts.now id (λ _ page. Knows facts.now (SeenLive seen.now) page) result self.old self.new }
+        ensures asks { Asks P.model P.asked (IsErrOf result Failed) pages.old pages.new }
     {
         match &seen.rest {
             Rest::Nothing => Ok(()),
@@ -220,7 +222,8 @@ impl Links {
         place: u32,
     ) -> Result<(), AuditStop>
         requires { place < length facts.now.list.now }
-        ensures { ReadsLinks P.model P.asked facts.now.list.now (place + 1) (λ told _. KnowsTold facts.now.list.now told) result pages.old pages.new self.old self.new }
+        ensures links { ReadsLinks (P.model pages.old).told facts.now.list.now (place + 1) (λ told _. KnowsTold facts.now.list.now told) result self.old self.new }
+        ensures asks { Asks P.model P.asked (IsErrOf result Failed) pages.old pages.new }
     {
         let id = place + 1;
         match seen_in(facts.list, id) {

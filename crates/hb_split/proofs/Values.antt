@@ -2,7 +2,7 @@
 use Rattle.std.proofs.Common.{◌≡◌, ℕ, zero, suc, ◌+◌, ◌-◌, ◌<◌, ◌≤◌, inl, inr, max, Bool, true, false, cond, nat_lt, List, [], ◌∷◌, length, map, filter, get_or, slice_index, Option, Some, None, refl, sym, ap, ◌∙◌, arith, subst}
 use Rattle.std.specs.List.Sorted.{IsPermutation}
 use Rattle.std.proofs.lemmas.Bool.{cases_lt, lt-ltb, le-ltb}
-use Rattle.std.proofs.lemmas.List.{length-map, get_or-map}
+use Rattle.std.proofs.lemmas.List.{length-map, get_or-map, get_or_default}
 use Rattle.std.proofs.lemmas.List.Sums.{length-filter}
 use Rattle.std.proofs.lemmas.List.Sorted.{Contains-permutation, IsPermutation-sym, length_permutation, sum_by-IsPermutation, IsNonDecreasingBy-from_sort}
 use Rattle.hb_space.specs.declared.records.Record.{Record}
@@ -54,11 +54,6 @@ found v (x ∷ xs) up = elim (cases_lt x v) [
       )
   | inr ge ↦ (0, record { inside = omega arith; under = λ j lt. absurd (omega (arith, lt)); from = λ j le lt. let h = up 0 j (omega arith) lt in omega (arith, h, ge) })
 ]
-
-get_or_any : (xs : List ℕ) (i d e : ℕ) → i < length xs → get_or xs i d ≡ get_or xs i e
-get_or_any [] i d e lt = absurd (omega (arith, lt))
-get_or_any (x ∷ xs) zero d e lt = refl
-get_or_any (x ∷ xs) (suc i) d e lt = get_or_any xs i d e (omega (arith, lt))
 
 -- a step has as many values below its own as stand in front of it
 at_step : (values : List ℕ) (at : ℕ) → Rises values → IsStep values at → EndsBelow (get_or values at 0) values at
@@ -117,12 +112,12 @@ module _ (axis : ℕ) (records : List Record) (values : List ℕ) (a : AreValues
   among : (k : ℕ) (r : Record) → k < length records → get_or records k r ≡ r → (i : ℕ) × (i < length values) × (get_or values i 0 ≡ key_of axis r)
   among k r lt e =
       let there = Contains-permutation (map (key_of axis) records) values (key_of axis r) a.same (k, omega (arith, lt, length-map records (key_of axis)), get_or-map (key_of axis) records k r (key_of axis r) lt ∙ ap (key_of axis) e) in
-      (there.0, there.1, get_or_any values there.0 0 (key_of axis r) there.1 ∙ there.2)
+      (there.0, there.1, get_or_default values there.0 0 (key_of axis r) there.1 ∙ there.2)
 
   holder : (i : ℕ) → i < length values → (k : ℕ) × (r : Record) × (k < length records) × (get_or records k r ≡ r) × (key_of axis r ≡ get_or values i 0)
   holder i lt =
       let v = get_or values i 0 in
-      let there = Contains-permutation values (map (key_of axis) records) v (IsPermutation-sym (map (key_of axis) records) values a.same) (i, lt, get_or_any values i v 0 lt) in
+      let there = Contains-permutation values (map (key_of axis) records) v (IsPermutation-sym (map (key_of axis) records) values a.same) (i, lt, get_or_default values i v 0 lt) in
       let r = pick (key_of axis) records there.0 v (omega (arith, there.1, length-map records (key_of axis))) in
       (there.0, r.0, r.1, r.2, r.3 ∙ there.2)
 

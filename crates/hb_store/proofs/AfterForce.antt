@@ -32,7 +32,7 @@ use Rattle.hb_store.specs.Parts.{Parts, Leads, OpensNext, written_pages}
 use Rattle.hb_store.specs.Forced.{stopped_state, forced_state, with_log}
 use Rattle.hb_wal.proofs.Facts.AreaBytes.{end_zeros}
 use Rattle.hb_store.proofs.Facts.StoreLaws.{OpensAfter, OpensHere, OpensOn, opens_either, StoreKeeps-by}
-use Rattle.hb_store.proofs.AreaTorn.{places_kept, spelled_kept, shows_kept, opens_same, opens_more}
+use Rattle.hb_store.proofs.AreaTorn.{front_kept, spelled_kept, shows_kept, opens_same, opens_more}
 
 -- the bytes of the groups that wait, one after the other, are those that spell them
 joined_spells : (groups : List Waiting) (waiting : List Logged) → map (λ w. w.bytes) groups ≡ map group_bytes waiting → waiting_bytes groups ≡ flat_map group_bytes waiting
@@ -156,7 +156,7 @@ module _ (d : DiskModel) (is_disk : IsDisk d) (st : StoreState) (is : IsMemory s
     no_body e tells =
         let B : List ℕ → Type 0 = λ l. HasNoBody l (next_turn st.turn) in
         subst B (same_Some after.0 e (sym after.1 ∙ tells))
-        (HasNoBody-elsewhere b after.0 (next_turn st.turn) (places_kept st.turn p.said b after.0 (torn_there b after.0 after.2)) ((keeps.disk.running going).no_body b told))
+        (HasNoBody-elsewhere b after.0 (next_turn st.turn) (front_kept st.turn p.said b after.0 (torn_there b after.0 after.2)) ((keeps.disk.running going).no_body b told))
 
     place_synced : IsSynced new (slot_offset st.turn) PAGE
     place_synced = IsSynced-part new 0 8192 (slot_offset st.turn) PAGE (omega arith) (omega arith) places_synced

@@ -1,5 +1,5 @@
 -- A log area that was torn: what stands outside it, and what the bytes open to by the frames that it has then.
-use Rattle.std.proofs.Common.{◌≡◌, inl, inr, ℕ, ◌+◌, ◌*◌, ◌%◌, ◌≤◌, List, [], ◌∷◌, ◌++◌, flat_map, take, drop, All, Option, Some, None, refl, sym, subst, arith}
+use Rattle.std.proofs.Common.{◌≡◌, inr, ℕ, ◌+◌, ◌*◌, ◌%◌, ◌≤◌, List, [], ◌∷◌, ◌++◌, flat_map, take, drop, All, Option, Some, None, refl, sym, subst, arith}
 use Rattle.std.proofs.Math.Nat.{mul-le-mul_right}
 use Rattle.std.proofs.lemmas.List.{append-nil}
 use Rattle.hb_space.specs.declared.form.TheConstants.{PAGE}
@@ -9,6 +9,7 @@ use Rattle.hb_wal.specs.Frames.{HasFrames}
 use Rattle.hb_frag.specs.declared.pages.Page.{Page}
 use Rattle.hb_frag.specs.Grammar.{SpellsPage}
 use Rattle.hb_layout.specs.declared.meta.Meta.{Meta}
+use Rattle.hb_super.proofs.Facts.Gates.{newest_same}
 use Rattle.hb_ops.specs.Files.{FileState, last_of}
 use Rattle.hb_log_codec.specs.Groups.{Logged, FitsGroup, group_bytes}
 use Rattle.hb_store.specs.Replay.{Replayed, untouched, replay}
@@ -17,7 +18,7 @@ use Rattle.hb_store.specs.Opening.{OpensBy, Shows, IsPageIn, log_bytes, place_by
 use Rattle.hb_store.specs.Parts.{Leads, OpensNext}
 use Rattle.hb_store.proofs.Facts.ReplayLaws.{replay-append, Leads-replayed, MayReplay-append, SpellAll-append}
 use Rattle.hb_store.proofs.Shown.{Shows-leads}
-use Rattle.hb_store.proofs.Facts.FreshLaws.{IsNewest-elsewhere}
+use Rattle.hb_store.proofs.Facts.FreshLaws.{places_kept}
 
 -- the area of a turn ends in front of the pages
 pub area_end : (turn : ℕ) (said : Meta) → log_start turn said + said.log ≤ 8192 + 2 * said.log
@@ -30,8 +31,8 @@ all_spelled : (k : ℕ) (gs : List Logged) → All (FitsGroup k) gs → SpellAll
 all_spelled k gs fits = (gs, [], sym (append-nil gs), record { fits = fits; bytes_are = refl }, refl)
 
 module _ (turn : ℕ) (said : Meta) (b c : List ℕ) (torn : Torn (log_start turn said) said.log b c) where
-  pub places_kept : take 8192 (drop 0 c) ≡ take 8192 (drop 0 b)
-  places_kept = Torn-elsewhere (log_start turn said) said.log 0 8192 b c (inl (omega arith)) torn
+  pub front_kept : take 8192 (drop 0 c) ≡ take 8192 (drop 0 b)
+  front_kept = places_kept (log_start turn said) said.log b c (omega arith) torn
 
   pub page_kept : (id : ℕ) → place_bytes said id c ≡ place_bytes said id b
   page_kept id = Torn-elsewhere (log_start turn said) said.log (page_offset said id) PAGE b c (inr (omega (arith, area_end turn said))) torn
@@ -54,7 +55,7 @@ module _ (turn : ℕ) (said : Meta) (b c : List ℕ) (torn : Torn (log_start tur
     -- with the same frames to the same file
     pub opens_same : HasFrames (log_bytes turn said c) payloads → OpensBy c turn said payloads groups s
     opens_same framed = record {
-      newest = IsNewest-elsewhere b c places_kept turn said opens.newest;
+      newest = newest_same b c front_kept turn said opens.newest;
       fits = omega (arith, opens.fits, torn.as_long);
       framed = framed;
       spelled = opens.spelled;
@@ -66,7 +67,7 @@ module _ (turn : ℕ) (said : Meta) (b c : List ℕ) (torn : Torn (log_start tur
     pub opens_more : (gs : List Logged) (later : List FileState) → HasFrames (log_bytes turn said c) (payloads ++ flat_map group_bytes gs ∷ []) → All (FitsGroup said.k) gs
         → Leads (replay (untouched said) groups) s gs later → OpensNext c turn said payloads groups gs (last_of s later)
     opens_more gs later framed fits leads = record {
-      newest = IsNewest-elsewhere b c places_kept turn said opens.newest;
+      newest = newest_same b c front_kept turn said opens.newest;
       fits = omega (arith, opens.fits, torn.as_long);
       framed = framed;
       spelled = SpellAll-append said.k payloads (flat_map group_bytes gs ∷ []) groups gs opens.spelled (all_spelled said.k gs fits);

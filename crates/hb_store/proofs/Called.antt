@@ -5,7 +5,7 @@ use denote.Bor.{Bor}
 use Rattle.std.specs.Option.{is_some, option_copied, option_map}
 use Rattle.std.specs.HashSet as bag
 use Rattle.std.proofs.lemmas.Bool.{and_parts}
-use Rattle.hb_lemmas.proofs.Options.{has_value}
+use Rattle.hb_lemmas.proofs.Options.{has_value, some_and_at}
 use Rattle.hb_frag.specs.declared.pages.Page.{Page}
 use Rattle.hb_frag.specs.Grammar.{SpellsPage}
 use Rattle.hb_page_codec.specs.ReadingPages.{page_of_bytes}
@@ -25,15 +25,12 @@ use Rattle.hb_store.specs.States.{IsMemory, StoreState, is_dirty, is_in_log}
 use Rattle.hb_store.proofs.Framed.{frame_and, held_of, mark_of, mark_seen}
 use Rattle.hb_store.proofs.Remembered.{changed_marks, changed_pages, changed_spelled, cleaned_marks, good_there, memory_over, seen, seen_cleaned, seen_same}
 
-and_value : (o : Option (Frame (List ℕ))) (f : Frame (List ℕ)) (P : Frame (List ℕ) → Type 0) → o ≡ Some f → P f → IsSomeAnd o P
-and_value o f P is h = let Q : Option (Frame (List ℕ)) → Type 0 = λ p. IsSomeAnd p P in subst Q (sym is) h
-
 -- what is said of the use of a page's frame is said of the frame
 pub frame_pinned : (pool : List (Frame (List ℕ))) (id : ℕ) → IsSomeAnd (frame_of (map use_of pool) id) (λ (u : Use). u.pins < 255) → IsSomeAnd (frame_of pool id) (λ (f : Frame (List ℕ)). f.pins < 255)
-frame_pinned pool id there = let f = frame_and pool id (λ (u : Use). u.pins < 255) there in and_value (frame_of pool id) f.0 (λ (f : Frame (List ℕ)). f.pins < 255) f.1 f.2
+frame_pinned pool id there = let f = frame_and pool id (λ (u : Use). u.pins < 255) there in some_and_at (frame_of pool id) (λ (f : Frame (List ℕ)). f.pins < 255) f.0 f.1 f.2
 
 pub frame_unpinned : (pool : List (Frame (List ℕ))) (id : ℕ) → IsSomeAnd (frame_of (map use_of pool) id) (λ (u : Use). 0 < u.pins) → IsSomeAnd (frame_of pool id) (λ (f : Frame (List ℕ)). 0 < f.pins)
-frame_unpinned pool id there = let f = frame_and pool id (λ (u : Use). 0 < u.pins) there in and_value (frame_of pool id) f.0 (λ (f : Frame (List ℕ)). 0 < f.pins) f.1 f.2
+frame_unpinned pool id there = let f = frame_and pool id (λ (u : Use). 0 < u.pins) there in some_and_at (frame_of pool id) (λ (f : Frame (List ℕ)). 0 < f.pins) f.0 f.1 f.2
 
 marked_there : (o : Option (Frame (List ℕ))) → mark_of o ≡ true → (f : Frame (List ℕ)) × (o ≡ Some f) × (f.dirty ≡ true)
 marked_there None on = cc on
@@ -55,7 +52,7 @@ module _ {T : Type 0} (turn : ℕ) (meta : Meta) (log : LogState) (s : bag.HashS
 
   module _ (mem : IsMemory (seen turn meta log s stopped pool)) (is : IsPool pool) (each : AreSpelled pool) (id : ℕ) where
     pub dirty_frame : IsTrue (is_dirty (seen turn meta log s stopped pool) id) → IsSomeAnd (frame_of pool id) (λ (f : Frame (List ℕ)). IsTrue f.dirty)
-    dirty_frame on = let f = marked_there (frame_of pool id) (sym (mark_seen pool id is) ∙ on) in and_value (frame_of pool id) f.0 (λ (f : Frame (List ℕ)). IsTrue f.dirty) f.1 f.2
+    dirty_frame on = let f = marked_there (frame_of pool id) (sym (mark_seen pool id is) ∙ on) in some_and_at (frame_of pool id) (λ (f : Frame (List ℕ)). IsTrue f.dirty) f.0 f.1 f.2
 
     pub frame_dirty : IsSomeAnd (frame_of pool id) (λ (f : Frame (List ℕ)). IsTrue f.dirty) → IsTrue (is_dirty (seen turn meta log s stopped pool) id)
     frame_dirty there = mark_seen pool id is ∙ marked_so (frame_of pool id) there

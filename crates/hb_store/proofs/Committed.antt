@@ -1,13 +1,13 @@
 -- A store keeps its disk once an operation was done in memory and its group waits.
-use Rattle.std.proofs.Common.{◌≡◌, inl, inr, ℕ, ◌+◌, ◌*◌, ◌%◌, ◌≤◌, Bool, false, List, [], ◌∷◌, ◌++◌, length, get_or, map, All, Option, Some, None, IsSome, IsTrue, Result, Ok, Err, refl, sym, ap, ◌∙◌, subst, arith}
+use Rattle.std.proofs.Common.{◌≡◌, inl, inr, ℕ, ◌+◌, ◌*◌, ◌%◌, ◌≤◌, Bool, false, List, [], ◌∷◌, ◌++◌, length, get_or, map, All, Option, Some, None, IsSome, IsTrue, Result, Ok, Err, sym, ap, ◌∙◌, subst, arith}
 use Rattle.std.specs.Prelude.{◌||◌, OnErr, OnOk}
 use Rattle.std.specs.Option.{is_some}
-use Rattle.std.proofs.lemmas.Bool.{or_parts, cases_Bool, cases_lt, or_cases, or_left, or_right}
-use Rattle.std.proofs.lemmas.List.{get_or_past, map-append}
+use Rattle.std.proofs.lemmas.Bool.{or_parts, cases_Bool, or_cases, or_left, or_right}
+use Rattle.std.proofs.lemmas.List.{map-append}
 use Rattle.std.proofs.lemmas.List.Elements.{All-append, All-cons, All-nil}
 use Rattle.hb_disk.specs.Model.{DiskModel, IsDisk}
 use Rattle.hb_disk.specs.Calls.{IsSynced}
-use Rattle.hb_lemmas.proofs.Options.{some_value}
+use Rattle.hb_lemmas.proofs.Options.{some_value, none_so, none_unless}
 use Rattle.hb_wal.specs.Log.{LogState, Waiting}
 use Rattle.hb_wal.specs.Forces.{HasLog}
 use Rattle.hb_frag.specs.declared.pages.Page.{Page}
@@ -33,11 +33,11 @@ use Rattle.hb_ops.proofs.Facts.SetPages.{set_not, all_set, set_both}
 use Rattle.hb_store.proofs.Facts.StayingLaws.{Commits-there}
 use Rattle.hb_store.proofs.Facts.Changed.{reads_numbered, same_size}
 use Rattle.hb_ops.proofs.Facts.ReachedPages.{Reaches, pages_set}
-use Rattle.hb_ops.proofs.Facts.AllowedOps.{reads_some, same_change, same_allowed}
+use Rattle.hb_ops.proofs.Facts.AllowedOps.{reads_some, same_change, same_allowed, reads_alike}
 use Rattle.hb_store.proofs.Shown.{Shows-leads}
 use Rattle.hb_store.proofs.Facts.Grouped.{all_needed}
 use Rattle.hb_store.proofs.Facts.Setting.{among_all, has_all, set_some}
-use Rattle.hb_store.proofs.InLog.{in_log_all, none_of, read_page}
+use Rattle.hb_store.proofs.InLog.{in_log_all, read_page}
 use Rattle.hb_ops.proofs.Facts.PageNumberLaws.{page_at-zero}
 
 -- a log that lies and is written as another has the same on the disk
@@ -156,17 +156,13 @@ module _ (st new : StoreState) (op : Op) (mark : ℕ) (well : MakesWell op st) (
     agree : (q : ℕ) (page : Page) → in_memory st q ≡ Some page → IsTrue (is_in_log st q) → t.page q ≡ Some page
     agree q page is on = agree_at q page (t.page q) (sym (touched_too q) ∙ on) (shows.each q page (keeps.memory.cached q page is))
 
-    none_at_zero : (o : Option Page) → ((page : Page) → o ≡ Some page → 1 ≤ 0) → o ≡ None
-    none_at_zero None h = refl
-    none_at_zero (Some page) h = absurd (omega (arith, h page refl))
-
     no_page : in_memory st 0 ≡ None
-    no_page = none_at_zero (in_memory st 0) (λ page e. (well.memory.good 0 page e).0)
+    no_page = none_unless (in_memory st 0) (λ page e. let some = (well.memory.good 0 page e).0 in omega (arith, some))
 
     untouched_zero : t.page 0 ≡ None
     untouched_zero = elim (cases_Bool (is_in_log st 0)) [
       | inl on ↦ absurd (omega (arith, (well.memory.in_file 0 on).0))
-      | inr off ↦ none_of (t.page 0) (sym (touched_too 0) ∙ off)
+      | inr off ↦ none_so (t.page 0) (sym (touched_too 0) ∙ off)
     ]
 
     reads : All (λ id. IsSome (in_memory st id)) (reads_of op)
@@ -177,12 +173,7 @@ module _ (st new : StoreState) (op : Op) (mark : ℕ) (well : MakesWell op st) (
     read_touched place = ap if_live (sym (read_page (in_memory st) (is_in_log st) (reads_of op) place t.page no_page untouched_zero agree reads))
 
     read_file : (place : ℕ) → read_here st op place ≡ nth_read s op place
-    read_file place = elim (cases_lt place (length (reads_of op))) [
-      | inl lt ↦ let q = get_or (reads_of op) place 0 in ap if_live (in_file_at s q (in_memory st q) (reads place 0 lt) (keeps.memory.cached q))
-      | inr le ↦
-          let past : get_or (reads_of op) place 0 ≡ 0 = get_or_past (reads_of op) place 0 le in
-          subst (λ (n : ℕ). if_live (in_memory st n) ≡ if_live (page_of s n)) (sym past) (ap if_live no_page ∙ ap if_live (sym (page_at-zero s.pages)))
-    ]
+    read_file = reads_alike op (in_memory st) (page_of s) no_page (page_at-zero s.pages) (λ place lt. let q = get_or (reads_of op) place 0 in in_file_at s q (in_memory st q) (reads place 0 lt) (keeps.memory.cached q))
 
     meta_file : st.meta ≡ s.meta
     meta_file = sym keeps.memory.meta_is

@@ -17,3 +17,4 @@ pub mod Grouped
 pub mod Setting
 pub mod Turned
 pub mod NoFrames
+pub mod Oldest

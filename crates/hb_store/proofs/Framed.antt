@@ -11,6 +11,7 @@ use Rattle.std.specs.FinSet as set
 use Rattle.std.specs.HashSet as bag
 use Rattle.std.proofs.lemmas.List.Sums.{sum_by-cons}
 use Rattle.hb_lemmas.proofs.Maps.{get-from_list}
+use Rattle.hb_lemmas.proofs.Options.{none_mapped}
 use Rattle.hb_frag.specs.declared.pages.Page.{Page}
 use Rattle.hb_layout.specs.declared.meta.Meta.{Meta}
 use Rattle.hb_wal.specs.Log.{LogState}
@@ -141,8 +142,4 @@ frame_and frames id P there =
     by (Some f) is h = (f, is, h)
 
 pub none_framed : (frames : List (Frame (List ℕ))) (id : ℕ) → in_frame frames id ≡ None → frame_of frames id ≡ None
-none_framed frames id none = by (frame_of frames id) none
-  where
-    by : (o : Option (Frame (List ℕ))) → option_map (λ (f : Frame (List ℕ)). page_spelled f.bytes) o ≡ None → o ≡ None
-    by None e = refl
-    by (Some f) e = cc e
+none_framed frames id none = none_mapped (λ (f : Frame (List ℕ)). page_spelled f.bytes) (frame_of frames id) none

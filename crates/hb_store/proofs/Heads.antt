@@ -10,6 +10,7 @@ use Rattle.hb_store.specs.States.{IsMemory, StoreState, in_memory}
 use Rattle.hb_store.specs.Keeps.{StoreKeeps}
 use Rattle.hb_store.specs.Fetching.{MayFetch, IsNoPage}
 use Rattle.hb_store.proofs.Counted.{store_count}
+use Rattle.hb_store.proofs.Facts.Fetched.{page_not_none}
 use Rattle.hb_ops.proofs.Facts.FilePages.{page_in_range, sound_head, sound_room}
 
 -- ---- in a store
@@ -21,10 +22,7 @@ module _ (d : DiskModel) (st : StoreState) (durable : FileState) (later : List F
       let s = last_of durable later in
       let range = page_in_range s.pages head (Free next) is in
       let high : length s.pages ≡ st.meta.high = store_count d st durable later disk keeps ∙ ap (λ (m : Meta). m.high) keeps.memory.meta_is in
-      λ no. elim no [
-        | inl zero ↦ absurd (omega (arith, range.0, zero))
-        | inr above ↦ absurd (omega (arith, range.1, high, above))
-      ]
+      page_not_none st.meta head (range.0, omega (arith, range.1, high))
 
   pub head_free : IsSound (last_of durable later) → st.meta.free ≢ 0 → (next : ℕ) × (page_of (last_of durable later) st.meta.free ≡ Some (Free next))
   head_free sound =

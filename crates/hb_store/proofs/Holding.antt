@@ -1,7 +1,8 @@
 -- A page that a fetch holds, from what is known of the store before.
-use Rattle.std.proofs.Common.{◌≡◌, ℕ, ◌<◌, Bool, false, List, Option, Some, None, sym, subst, ap, ◌∙◌, refl}
+use Rattle.std.proofs.Common.{◌≡◌, ℕ, ◌<◌, Bool, false, List, Some, None, sym, subst, ap, ◌∙◌}
 use Rattle.std.specs.Prelude.{IsSomeAnd}
 use Rattle.std.specs.HashSet as bag
+use Rattle.hb_lemmas.proofs.Options.{value_and}
 use Rattle.hb_frag.specs.declared.pages.Page.{Page}
 use Rattle.hb_frag.specs.Grammar.{SpellsPage}
 use Rattle.hb_layout.specs.declared.meta.Meta.{Meta}
@@ -29,11 +30,7 @@ pub record Holds (id : ℕ) (bytes : List ℕ) (old new : StoreHeld) : Type 0 wh
   pub uses : new.uses ≡ brought id (tt {0}) false old.uses
 
 good_value : (meta : Meta) (bytes : List ℕ) → IsSomeAnd (page_of_bytes bytes) (λ page. SpellsPage bytes page × IsGoodPage meta page) → (page : Page) × (page_of_bytes bytes ≡ Some page) × SpellsPage bytes page × IsGoodPage meta page
-good_value meta bytes good = by (page_of_bytes bytes) refl good
-  where
-    by : (o : Option Page) → page_of_bytes bytes ≡ o → IsSomeAnd o (λ page. SpellsPage bytes page × IsGoodPage meta page) → (page : Page) × (page_of_bytes bytes ≡ Some page) × SpellsPage bytes page × IsGoodPage meta page
-    by None is h = absurd h
-    by (Some page) is h = (page, is, h.0, h.1)
+good_value meta bytes good = let v = value_and (page_of_bytes bytes) (λ page. SpellsPage bytes page × IsGoodPage meta page) good in (v.0, v.1, v.2.0, v.2.1)
 
 module _ {T : Type 0} (turn : ℕ) (meta : Meta) (log : LogState) (s : bag.HashSet ℕ T) (stopped : Bool) (pool new : List (Frame (List ℕ))) (old : StoreHeld) (id : ℕ) (bytes : List ℕ) (view : held_of turn meta log pool s stopped ≡ old)
     (mem : IsMemory (seen turn meta log s stopped pool)) (is : IsPool pool) (each : AreSpelled pool) (e : new ≡ brought id bytes false pool)

@@ -1,5 +1,5 @@
 -- What a store keeps once the page of a number was written to its place, or perhaps not, where no group waits.
-use Rattle.std.proofs.Common.{◌≡◌, inl, inr, ℕ, ◌+◌, ◌*◌, ◌-◌, ◌≤◌, Bool, true, false, IsTrue, List, [], ◌∷◌, ◌++◌, map, take, drop, replicate, Option, Some, None, refl, sym, ap, ◌∙◌, subst, arith}
+use Rattle.std.proofs.Common.{◌≡◌, inl, inr, ℕ, ◌+◌, ◌*◌, ◌-◌, ◌≤◌, Bool, true, false, IsTrue, List, [], ◌∷◌, ◌++◌, map, replicate, Option, Some, None, refl, sym, ap, ◌∙◌, subst, arith}
 use Rattle.std.specs.Prelude.{not, ◌&&◌}
 use Rattle.std.specs.Option.{is_some}
 use Rattle.std.specs.Ordering.{nat_cmp, eq_by_cmp}
@@ -20,6 +20,7 @@ use Rattle.hb_wal.specs.Forces.{HasLog}
 use Rattle.hb_wal.specs.Log.{Waiting}
 use Rattle.hb_super.specs.Superblocks.{next_turn}
 use Rattle.hb_super.proofs.Facts.BodyLaws.{HasNoBody-elsewhere}
+use Rattle.hb_super.proofs.Facts.Gates.{newest_same}
 use Rattle.hb_layout.specs.Offsets.{log_start, page_offset, slot_offset}
 use Rattle.hb_frag.specs.declared.pages.Page.{Page}
 use Rattle.hb_frag.specs.Grammar.{SpellsPage}
@@ -35,7 +36,7 @@ use Rattle.hb_store.specs.Replay.{Replayed, replay, untouched}
 use Rattle.hb_store.specs.States.{IsMemory, StoreState, in_memory, is_dirty, is_in_log}
 use Rattle.hb_store.proofs.AfterForce.{area_there, len_there, written_fits}
 use Rattle.hb_store.proofs.AreaTorn.{area_end}
-use Rattle.hb_store.proofs.Facts.FreshLaws.{IsNewest-elsewhere}
+use Rattle.hb_store.proofs.Facts.FreshLaws.{places_kept}
 use Rattle.hb_store.proofs.Facts.PlaceWrites.{Tore, becomes_there, other_place, tore}
 use Rattle.hb_store.proofs.Facts.ReplayLaws.{opens_elsewhere}
 use Rattle.hb_store.proofs.Facts.StoreLaws.{StoreKeeps-by}
@@ -101,9 +102,6 @@ module _ (d e : DiskModel) (st : StoreState) (is : IsMemory st) (going : st.stop
   there = becomes_there d e (page_offset st.meta id) PAGE p.said id (ap (λ (n : ℕ). 8192 + 2 * n + 4096 * (id - 1)) keeps.memory.layout.log) refl run
 
   module _ (b c : List ℕ) (torn : Torn (page_offset p.said id) PAGE b c) where
-    places_kept : take 8192 (drop 0 c) ≡ take 8192 (drop 0 b)
-    places_kept = Torn-elsewhere (page_offset p.said id) PAGE 0 8192 b c (inl (omega arith)) torn
-
     page_kept : (q : ℕ) (page : Page) → page_of durable q ≡ Some page → (q ≡ id → ⊥) → place_bytes p.said q c ≡ place_bytes p.said q b
     page_kept q page has other =
         Torn-elsewhere (page_offset p.said id) PAGE (page_offset p.said q) PAGE b c (other_place p.said q id (page_in_range durable.pages q page has).0 some_number other) torn
@@ -113,7 +111,7 @@ module _ (d e : DiskModel) (st : StoreState) (is : IsMemory st) (going : st.stop
 
     opens_still : OpensBy b st.turn p.said p.payloads p.written durable → OpensBy c st.turn p.said p.payloads p.written durable
     opens_still opens =
-        opens_elsewhere b c st.turn p.said p.payloads p.written durable opens (IsNewest-elsewhere b c places_kept st.turn p.said opens.newest) torn.as_long
+        opens_elsewhere b c st.turn p.said p.payloads p.written durable opens (newest_same b c (places_kept (page_offset p.said id) PAGE b c (omega arith) torn) st.turn p.said opens.newest) torn.as_long
         (Torn-elsewhere (page_offset p.said id) PAGE (log_start st.turn p.said) p.said.log b c (inl (omega (arith, area_end st.turn p.said))) torn)
         (λ q page has none. page_kept q page has (not_untouched q none))
 

@@ -10,8 +10,8 @@ use Rattle.hb_frag.specs.declared.pages.Page.{Page}
 use Rattle.hb_store.specs.Making.{page_image_needed, page_images_needed}
 use Rattle.hb_store.specs.Replay.{is_among}
 use Rattle.hb_ops.specs.SetPages.{set_pages, has_page}
-use Rattle.hb_ops.proofs.Facts.SetPages.{set_one-same, set_one-other}
-use Rattle.hb_lemmas.proofs.Options.{some_value}
+use Rattle.hb_lemmas.proofs.Options.{some_value, none_so}
+use Rattle.hb_lemmas.proofs.Booleans.{at_same, at_other}
 use Rattle.hb_store.proofs.Facts.Setting.{set_some}
 
 among_at : (ids : List ℕ) (place : ℕ) → place < length ids → is_among (get_or ids place 0) ids ≡ true
@@ -19,10 +19,6 @@ among_at [] place lt = absurd (omega (arith, lt))
 among_at (id ∷ rest) zero lt = ap (λ (b : Bool). b || is_among id rest) (eq-eqb id id refl)
 among_at (id ∷ rest) (suc place) lt =
     ap (λ (b : Bool). (get_or rest place 0 == id) || b) (among_at rest place (omega (arith, lt))) ∙ or_right (get_or rest place 0 == id) true refl
-
-pub none_of : (o : Option Page) → is_some o ≡ false → o ≡ None
-none_of None e = refl
-none_of (Some page) e = cc e
 
 -- P are pages in memory, and I says which of them are in the log.
 module _ (P : ℕ → Option Page) (I : ℕ → Bool) where
@@ -86,8 +82,8 @@ module _ (P : ℕ → Option Page) (I : ℕ → Bool) where
   read_with id q (Some p) false more among page is on there go T why =
       let U : ℕ → Option Page = λ r. cond (r == id) (Some p) (T r) in
       elim (cases_Bool (q == id)) [
-        | inl here ↦ go U (inl (set_one-same T id p q (eqb-true q id here) ∙ sym is ∙ ap P (sym (eqb-true q id here)) ∙ there))
-        | inr off ↦ go U (read_other q page among T U (set_one-other T id p q (eqb-false q id off)) (read_later id q page among T off why))
+        | inl here ↦ go U (inl (at_same q id (Some p) (T q) (eqb-true q id here) ∙ sym is ∙ ap P (sym (eqb-true q id here)) ∙ there))
+        | inr off ↦ go U (read_other q page among T U (at_other q id (Some p) (T q) (eqb-false q id off)) (read_later id q page among T off why))
       ]
 
   read_set : (ids : List ℕ) (q : ℕ) (page : Page) → P q ≡ Some page → (T : ℕ → Option Page) → IsRead q page (is_among q ids) T → set_pages (page_images_needed P I ids) T q ≡ Some page
@@ -113,5 +109,5 @@ module _ (P : ℕ → Option Page) (I : ℕ → Bool) where
         let images = page_images_needed P I ids in
         let off : is_some (set_pages images T 0) ≡ false =
         set_some images T 0 ∙ ap (λ (b : Bool). b || is_some (T 0)) (not_needed ids 0 none) ∙ ap (λ (o : Option Page). is_some o) untouched in
-        subst (λ (n : ℕ). set_pages images T n ≡ P n) (sym past) (none_of (set_pages images T 0) off ∙ sym none)
+        subst (λ (n : ℕ). set_pages images T n ≡ P n) (sym past) (none_so (set_pages images T 0) off ∙ sym none)
   ]

@@ -1,117 +1,81 @@
 -- Boxes, paths and cuts inside a page: a well-cut tree of leaves in their places has its place, and what leads into a
 -- light page is short.
-use Rattle.std.proofs.Common.{◌≡◌, ℕ, ◌+◌, ◌<◌, ◌≤◌, ◌^◌, max, not, Bool, true, false, cond, List, [], ◌∷◌, length, All, Some, refl, sym, ap, subst, ◌∙◌, arith}
+use Rattle.std.proofs.Common.{◌≡◌, ℕ, ◌+◌, ◌<◌, ◌≤◌, ◌^◌, max, List, [], ◌∷◌, length, All, Some, sym, ap, subst, ◌∙◌, arith}
 use Rattle.std.specs.Prelude.{slice_index}
 use Rattle.std.specs.List.{filter}
 use Rattle.std.proofs.lemmas.List.{length-set}
-use Rattle.std.proofs.lemmas.List.Elements.{All-cons, All-head, All-nil, All-tail}
+use Rattle.std.proofs.lemmas.List.Elements.{All-cons, All-head, All-nil}
+use Rattle.std.proofs.lemmas.Option.{same_Some}
 use Rattle.hb_space.specs.Boxes.{Area, Cuts, IsArea, side_below, side_from}
 use Rattle.hb_space.specs.declared.records.Record.{Record}
 use Rattle.hb_frag.specs.declared.leaves.Leaf.TheVariants.{Records, Child, Sibling}
 use Rattle.hb_frag.specs.declared.paths.Side.{Side}
 use Rattle.hb_frag.specs.declared.paths.Side.TheVariants.{Left, Right}
 use Rattle.hb_frag.specs.Trees.{Tree, Tip, Cut}
-use Rattle.hb_frag.specs.Leaves.{IsWellCut, Placed, leaves, leaves_of, weight_of}
+use Rattle.hb_frag.specs.Leaves.{IsWellCut, leaves, weight_of}
 use Rattle.hb_frag.specs.Paths.{part_at}
 use Rattle.hb_frag.specs.Laws.{IsPart}
 use Rattle.hb_frag.specs.Grammar.{FitsLeaf, FitsTree}
 use Rattle.hb_frag.proofs.Facts.Parts.{weight_cut}
+use Rattle.hb_frag.proofs.Facts.Sides.{IsArea-side_below, IsArea-side_from}
+use Rattle.hb_frag.proofs.Facts.CarvedKinds.{some_weight}
 use Rattle.hb_ops.specs.declared.leaf_cuts.LeafCut.{LeafCut}
 use Rattle.hb_ops.specs.Cutting.{PartLeaves, area_on, going, half_area, is_on, other_side, reached, records_in}
+use Rattle.hb_ops.proofs.Facts.LeafHalfLaws.{both_halves}
 use Rattle.hb_log_codec.specs.Groups.{FitsLeafCut}
 use Rattle.hb_lemmas.proofs.Lists.{All-behind, All-front}
 
--- what hb_frag's laws say of the boxes of leaves, and of parts
-abbrev pub BoxesOfLeaves : Type 0
-BoxesOfLeaves = (t : Tree) (a : Area) → IsArea a → IsWellCut t a → All (λ l. IsArea l.area) (leaves_of t a)
-
+-- what hb_frag's laws say of parts
 abbrev pub PartsStand : Type 0
 PartsStand = (path : List Side) (t : Tree) (a : Area) (part : Tree × Area) → part_at path t a ≡ Some part → IsArea a → IsWellCut t a → IsPart path t a part
 
 -- ---- boxes
 
-module _ (boxes : BoxesOfLeaves) where
-  side_boxes : (a : Area) (axis value : ℕ) → IsArea a → Cuts a axis value → IsArea (side_below a axis value) × IsArea (side_from a axis value)
-  side_boxes a axis value is cuts =
-      let P = λ (l : Placed). IsArea l.area in
-      let below : Placed = record { leaf = Child 0; area = side_below a axis value } in
-      let from : Placed = record { leaf = Child 0; area = side_from a axis value } in
-      let all : All P (below ∷ from ∷ []) = boxes (Cut axis value (Tip (Child 0)) (Tip (Child 0))) a is (cuts, tt, tt) in
-      (All-head P below (from ∷ []) all, All-head P from [] (All-tail P below (from ∷ []) all))
+greatest : (a : Area) (axis value : ℕ) → IsArea a → Cuts a axis value → value < 2 ^ 64
+greatest a axis value is cuts =
+    let top : slice_index a.hi axis < 2 ^ 64 = is.hi_point.fits axis 0 (omega (arith, cuts.attribute, is.same)) in
+    omega (arith, cuts.up_to_greatest, top)
 
-  greatest : (a : Area) (axis value : ℕ) → IsArea a → Cuts a axis value → value < 2 ^ 64
-  greatest a axis value is cuts =
-      let top : slice_index a.hi axis < 2 ^ 64 = is.hi_point.fits axis 0 (omega (arith, cuts.attribute, is.same)) in
-      omega (arith, cuts.up_to_greatest, top)
+pub fits_tree : (k : ℕ) (t : Tree) (a : Area) → IsArea a → IsWellCut t a → length a.lo ≡ k → All (FitsLeaf k) (leaves t) → FitsTree k t
+fits_tree k (Tip leaf) a is cut long fit = All-head (FitsLeaf k) leaf [] fit
+fits_tree k (Cut axis value left right) a is cut long fit = (
+  omega (arith, cut.0.attribute, long),
+  greatest a axis value is cut.0,
+  fits_tree k left (side_below a axis value) (IsArea-side_below a axis value is cut.0) cut.1 long (All-front (FitsLeaf k) (leaves left) (leaves right) fit),
+  fits_tree k right (side_from a axis value) (IsArea-side_from a axis value is cut.0) cut.2 (length-set a.lo axis value ∙ long) (All-behind (FitsLeaf k) (leaves left) (leaves right) fit),
+)
 
-  pub fits_tree : (k : ℕ) (t : Tree) (a : Area) → IsArea a → IsWellCut t a → length a.lo ≡ k → All (FitsLeaf k) (leaves t) → FitsTree k t
-  fits_tree k (Tip leaf) a is cut long fit = All-head (FitsLeaf k) leaf [] fit
-  fits_tree k (Cut axis value left right) a is cut long fit =
-      let both = side_boxes a axis value is cut.0 in (
-        omega (arith, cut.0.attribute, long),
-        greatest a axis value is cut.0,
-        fits_tree k left (side_below a axis value) both.0 cut.1 long (All-front (FitsLeaf k) (leaves left) (leaves right) fit),
-        fits_tree k right (side_from a axis value) both.1 cut.2 (length-set a.lo axis value ∙ long) (All-behind (FitsLeaf k) (leaves left) (leaves right) fit),
-      )
+half_box : (side : Side) (axis value : ℕ) (a : Area) → IsArea a → Cuts a axis value → IsArea (area_on side axis value a)
+half_box Left axis value a is cuts = IsArea-side_below a axis value is cuts
+half_box Right axis value a is cuts = IsArea-side_from a axis value is cuts
 
-  half_box : (side : Side) (axis value : ℕ) (a : Area) → IsArea a → Cuts a axis value → IsArea (area_on side axis value a)
-  half_box Left axis value a is cuts = (side_boxes a axis value is cuts).0
-  half_box Right axis value a is cuts = (side_boxes a axis value is cuts).1
+pub reached_box : (cuts : List LeafCut) (tree : Tree) (area : Area) → PartLeaves cuts tree area → IsArea area → IsArea (reached cuts tree area).1
+reached_box [] tree area parted is = is
+reached_box (cut ∷ cuts) tree area parted is =
+    reached_box cuts (going cut tree) (half_area cut area) parted.1 (half_box cut.side cut.axis cut.value area is parted.0.plane)
 
-  pub reached_box : (cuts : List LeafCut) (tree : Tree) (area : Area) → PartLeaves cuts tree area → IsArea area → IsArea (reached cuts tree area).1
-  reached_box [] tree area parted is = is
-  reached_box (cut ∷ cuts) tree area parted is =
-      reached_box cuts (going cut tree) (half_area cut area) parted.1 (half_box cut.side cut.axis cut.value area is parted.0.plane)
-
-  pub cuts_fit : (cuts : List LeafCut) (tree : Tree) (area : Area) → PartLeaves cuts tree area → IsArea area → All FitsLeafCut cuts
-  cuts_fit [] tree area parted is = All-nil FitsLeafCut
-  cuts_fit (cut ∷ cuts) tree area parted is =
-      let plane = parted.0.plane in
-      All-cons FitsLeafCut cut cuts
-      (record { axis = omega (arith, plane.attribute, is.lo_point.few); value = greatest area cut.axis cut.value is plane })
-      (cuts_fit cuts (going cut tree) (half_area cut area) parted.1 (half_box cut.side cut.axis cut.value area is plane))
+pub cuts_fit : (cuts : List LeafCut) (tree : Tree) (area : Area) → PartLeaves cuts tree area → IsArea area → All FitsLeafCut cuts
+cuts_fit [] tree area parted is = All-nil FitsLeafCut
+cuts_fit (cut ∷ cuts) tree area parted is =
+    let plane = parted.0.plane in
+    All-cons FitsLeafCut cut cuts
+    (record { axis = omega (arith, plane.attribute, is.lo_point.few); value = greatest area cut.axis cut.value is plane })
+    (cuts_fit cuts (going cut tree) (half_area cut area) parted.1 (half_box cut.side cut.axis cut.value area is plane))
 
 -- ---- how many steps a path has
 
-pub weight_some : (t : Tree) → 1 ≤ weight_of t
-weight_some (Tip (Records records)) = omega arith
-weight_some (Tip (Child page)) = omega arith
-weight_some (Tip (Sibling page)) = omega arith
-weight_some (Cut axis value left right) = omega (arith, weight_cut axis value left right, weight_some left)
-
 pub steps_few : (path : List Side) (t : Tree) (a : Area) (part : Tree × Area) → part_at path t a ≡ Some part → length path + weight_of part.0 ≤ weight_of t
 steps_few [] t a part there =
-    let same : t ≡ part.0 = first_is (t, a) part there in
-    let weighs = ap (λ (x : Tree). weight_of x) same in
+    let weighs = ap (λ (x : Tree × Area). weight_of x.0) (same_Some (t, a) part there) in
     omega (arith, weighs)
-  where
-    first_is : (x y : Tree × Area) → Some x ≡ Some y → x.0 ≡ y.0
-    first_is x y e = let same : x ≡ y = cc in ap (λ (z : Tree × Area). z.0) same
 steps_few (Left ∷ path) (Cut axis value left right) a part there =
-    omega (arith, weight_cut axis value left right, weight_some right, steps_few path left (side_below a axis value) part there)
+    omega (arith, weight_cut axis value left right, some_weight right, steps_few path left (side_below a axis value) part there)
 steps_few (Right ∷ path) (Cut axis value left right) a part there =
-    omega (arith, weight_cut axis value left right, weight_some left, steps_few path right (side_from a axis value) part there)
+    omega (arith, weight_cut axis value left right, some_weight left, steps_few path right (side_from a axis value) part there)
 steps_few (Left ∷ path) (Tip leaf) a part there = absurd cc
 steps_few (Right ∷ path) (Tip leaf) a part there = absurd cc
 
 -- ---- how many cuts part a leaf
-
-two_parts : (p q : Record → Bool) → ((r : Record) → q r ≡ not (p r)) → (xs : List Record) → length (filter p xs) + length (filter q xs) ≡ length xs
-two_parts p q other [] = refl
-two_parts p q other (x ∷ xs) =
-    let rest = two_parts p q other xs in
-    elim (p x) as (λ b. q x ≡ not b → length (cond b (x ∷ filter p xs) (filter p xs)) + length (cond (q x) (x ∷ filter q xs) (filter q xs)) ≡ length (x ∷ xs)) [
-      | true ↦ λ e. subst (λ (c : Bool). length (x ∷ filter p xs) + length (cond c (x ∷ filter q xs) (filter q xs)) ≡ length (x ∷ xs)) (sym e) (omega (arith, rest))
-      | false ↦ λ e. subst (λ (c : Bool). length (filter p xs) + length (cond c (x ∷ filter q xs) (filter q xs)) ≡ length (x ∷ xs)) (sym e) (omega (arith, rest))
-    ] (other x)
-
-sides_differ : (side : Side) (axis value : ℕ) (r : Record) → is_on (other_side side) axis value r ≡ not (is_on side axis value r)
-sides_differ Left axis value r = refl
-sides_differ Right axis value r = twice (is_on Left axis value r)
-  where
-    twice : (b : Bool) → b ≡ not (not b)
-    twice true = refl
-    twice false = refl
 
 -- each cut leaves at least one record
 pub cuts_few : (cuts : List LeafCut) (tree : Tree) (area : Area) → PartLeaves cuts tree area → length cuts + 1 ≤ max 1 (length (records_in tree))
@@ -122,7 +86,7 @@ cuts_few (cut ∷ cuts) tree area parted =
     let on_side = λ (side : Side) (xs : List Record). length (filter (is_on side cut.axis cut.value) xs) in
     let on : 0 < on_side cut.side (records_in tree) = subst (λ (xs : List Record). 0 < on_side cut.side xs) (sym same) one.on in
     let off : 0 < on_side (other_side cut.side) (records_in tree) = subst (λ (xs : List Record). 0 < on_side (other_side cut.side) xs) (sym same) one.off in
-    let both = two_parts (is_on cut.side cut.axis cut.value) (is_on (other_side cut.side) cut.axis cut.value) (sides_differ cut.side cut.axis cut.value) (records_in tree) in
+    let both = both_halves cut.side cut.axis cut.value (records_in tree) in
     let rest = cuts_few cuts (going cut tree) (half_area cut area) parted.1 in
     omega (arith, on, off, both, rest)
 

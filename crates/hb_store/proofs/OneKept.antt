@@ -1,10 +1,11 @@
 -- What a store keeps is determined by the store and its disk.
-use Rattle.std.proofs.Common.{◌≡◌, ◌⊎◌, inl, inr, ℕ, IsTrue, Some, ◌+◌, List, [], ◌∷◌, ◌++◌, length, map, flat_map, take, All, refl, sym, ap, ◌∙◌, subst, arith, length-append}
+use Rattle.std.proofs.Common.{◌≡◌, ◌⊎◌, inl, inr, ℕ, IsTrue, Some, ◌+◌, List, [], ◌∷◌, ◌++◌, length, map, flat_map, All, refl, sym, ap, ◌∙◌, subst, arith, length-append}
 use Rattle.std.proofs.lemmas.Grind.{flat_map-append}
-use Rattle.std.proofs.lemmas.List.{take_at}
 use Rattle.std.proofs.lemmas.List.Elements.{All-head, All-tail}
 use Rattle.hb_disk.specs.Model.{DiskModel, IsDisk}
+use Rattle.hb_lemmas.proofs.Lists.{same_fronts}
 use Rattle.hb_lemmas.proofs.Options.{some_value}
+use Rattle.hb_super.proofs.Facts.Gates.{never_both}
 use Rattle.hb_super.specs.Superblocks.{IsNewest, next_turn}
 use Rattle.hb_wal.specs.Frames.{frames, frame_bytes, ReadsOneWay}
 use Rattle.hb_layout.specs.declared.meta.Meta.{Meta}
@@ -23,10 +24,8 @@ use Rattle.hb_store.proofs.OneFile.{OneTurn, OneMeta, one_file, same_shown}
 -- ---- lists
 
 -- lists that are the same with as many behind each
-same_fronts : {A : Type 0} (xs ys more others : List A) → length more ≡ length others → xs ++ more ≡ ys ++ others → xs ≡ ys
-same_fronts xs ys more others count e =
-    let long : length xs ≡ length ys = omega (arith, count, ap (λ l. length l) e, length-append xs more, length-append ys others) in
-    sym (take_at xs more (length xs) refl) ∙ ap (λ l. take (length xs) l) e ∙ take_at ys others (length xs) (sym long)
+same_before : {A : Type 0} (xs ys more others : List A) → length more ≡ length others → xs ++ more ≡ ys ++ others → xs ≡ ys
+same_before xs ys more others count e = (same_fronts xs ys more others (omega (arith, count, ap (λ l. length l) e, length-append xs more, length-append ys others)) e).0
 
 -- no list of payloads has as many bytes of frames as that list with one payload more
 longer : (p q : List (List ℕ)) (x : List ℕ) → length (frames p) ≡ length (frames q) → p ≡ q ++ x ∷ [] → ⊥
@@ -52,10 +51,6 @@ pub record Tells (b : List ℕ) (turn written_bytes : ℕ) (said : Meta) (payloa
   pub count : length (frames payloads) ≡ written_bytes
   pub opens : OpensBy b turn said payloads written durable ⊎ OpensNext b turn said payloads written waiting next
   pub shows : Shows b said (replay (untouched said) written) durable
-
--- no turn is the one after itself
-other_turn : (turn : ℕ) → turn ≡ next_turn turn → ⊥
-other_turn turn same = absurd (omega (arith, same))
 
 module _ (once : SpelledOnce) (one : OneList) (group : OneGroup) (turns : OneTurn) (metas : OneMeta) (way : ReadsOneWay) where
   waiting_same : (k : ℕ) (xs ys : List Logged) → All (FitsGroup k) xs → All (FitsGroup k) ys → map group_bytes xs ≡ map group_bytes ys → xs ≡ ys
@@ -92,7 +87,7 @@ module _ (once : SpelledOnce) (one : OneList) (group : OneGroup) (turns : OneTur
       written_same p q xs ys gs hs s u m n long count (inr here) (inl there) =
           absurd (longer q p (flat_map group_bytes gs) (sym long) (sym (payloads_same (p ++ flat_map group_bytes gs ∷ []) q (xs ++ gs) ys m u here there)))
       written_same p q xs ys gs hs s u m n long count (inr here) (inr there) =
-          same_fronts xs ys gs hs count (groups_same (p ++ flat_map group_bytes gs ∷ []) (q ++ flat_map group_bytes hs ∷ []) (xs ++ gs) (ys ++ hs) m n here there)
+          same_before xs ys gs hs count (groups_same (p ++ flat_map group_bytes gs ∷ []) (q ++ flat_map group_bytes hs ∷ []) (xs ++ gs) (ys ++ hs) m n here there)
 
     module _ (n : ℕ) (said : Meta) (p q : List (List ℕ)) (xs ys gs hs : List Logged) (s u next other : FileState) (waiting_is : gs ≡ hs)
         (here : Tells b turn n said p xs gs s next) (there : Tells b turn n said q ys hs u other) where
@@ -125,7 +120,9 @@ module _ (once : SpelledOnce) (one : OneList) (group : OneGroup) (turns : OneTur
 
     -- the superblock of the store's turn and that of the next one aren't both the newest
     not_after : (p : Parts) (s durable : FileState) (later : List FileState) → Here p durable later → OpensAfter b st.turn s → ⊥
-    not_after p s durable later here there = other_turn st.turn (turns b st.turn (next_turn st.turn) p.said s.meta (newest_here p durable later here) there.newest)
+    not_after p s durable later here there =
+        let same = turns b st.turn (next_turn st.turn) p.said s.meta (newest_here p durable later here) there.newest in
+        never_both st.turn st.turn same same
 
     -- the groups that wait fit the layout that the store has
     fits_store : (durable : FileState) (later : List FileState) → (keeps : StoreKeeps d st durable later) → All (FitsGroup st.meta.k) keeps.parts.waiting

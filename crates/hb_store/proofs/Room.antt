@@ -1,10 +1,11 @@
 -- There is a place for each page that an operation changes.
 use Rattle.std.proofs.Common.{◌≡◌, inl, inr, ℕ, zero, suc, ◌<◌, ◌==◌, Bool, true, false, cond, List, [], ◌∷◌, length, get_or, map, All, Option, Some, None, IsTrue, refl, sym, ap, subst, ◌∙◌, arith}
-use Rattle.std.specs.Prelude.{◌⊎◌, IsSomeAnd}
+use Rattle.std.specs.Prelude.{◌⊎◌}
 use Rattle.std.specs.Option.{is_some, option_map}
 use Rattle.std.proofs.lemmas.Bool.{cases_eq, eq-eqb, or_left, or_right}
 use Rattle.std.proofs.lemmas.List.Elements.{All-cons, All-head, All-nil, All-tail}
-use Rattle.hb_lemmas.proofs.Options.{some_value, not_none}
+use Rattle.hb_lemmas.proofs.Lists.{All-alone}
+use Rattle.hb_lemmas.proofs.Options.{some_value, not_none, none_so, some_and_at, value_and}
 use Rattle.hb_frag.specs.declared.pages.LivePage.{LivePage}
 use Rattle.hb_frag.specs.declared.pages.Page.{Page}
 use Rattle.hb_layout.specs.declared.meta.Meta.{Meta}
@@ -41,27 +42,19 @@ step id uses = use_changed (id ∷ []) uses
 abbrev stepped : ℕ → List Use → Bool → List Use
 stepped id uses b = cond b (put_last id (filled (tt {0})) uses) (brought id (tt {0}) true uses)
 
-stays_so : (o : Option Use) (f : Use) → o ≡ Some f → must_stay f ≡ true → IsSomeAnd o (λ (u : Use). IsTrue (must_stay u))
-stays_so o f is stays = let Q : Option Use → Type 0 = λ p. IsSomeAnd p (λ (u : Use). IsTrue (must_stay u)) in subst Q (sym is) stays
+abbrev Stays : Use → Type 0
+Stays u = IsTrue (must_stay u)
 
 frame_staying : (uses : List Use) (id : ℕ) → StaysHere uses id → (f : Use) × (frame_of uses id ≡ Some f) × (must_stay f ≡ true)
-frame_staying uses id stays = by (frame_of uses id) refl stays
-  where
-    by : (o : Option Use) → frame_of uses id ≡ o → IsSomeAnd o (λ (u : Use). IsTrue (must_stay u)) → (f : Use) × (frame_of uses id ≡ Some f) × (must_stay f ≡ true)
-    by None is h = absurd h
-    by (Some f) is h = (f, is, h)
-
-is_none_of : (o : Option Use) → is_some o ≡ false → o ≡ None
-is_none_of None e = refl
-is_none_of (Some f) e = cc e
+frame_staying uses id stays = value_and (frame_of uses id) Stays stays
 
 -- a page that was put stays
 put_stays : (uses : List Use) (id : ℕ) → IsPool uses → StaysHere (step id uses) id
 put_stays uses id is = elim (is_some (frame_of uses id)) as (λ b. is_some (frame_of uses id) ≡ b → StaysHere (stepped id uses b) id) [
   | true ↦ λ some.
       let f = some_value (frame_of uses id) some in
-      stays_so (frame_of (put_last id (filled (tt {0})) uses) id) (filled (tt {0}) f.0) (last_changed uses id (filled (tt {0})) is (λ g. refl) ∙ ap (option_map (filled (tt {0}))) f.1) refl
-  | false ↦ λ none. stays_so (frame_of (brought id (tt {0}) true uses) id) (fresh id (tt {0}) true) (came_in uses id (tt {0}) true (is_none_of (frame_of uses id) none)) refl
+      some_and_at (frame_of (put_last id (filled (tt {0})) uses) id) Stays (filled (tt {0}) f.0) (last_changed uses id (filled (tt {0})) is (λ g. refl) ∙ ap (option_map (filled (tt {0}))) f.1) refl
+  | false ↦ λ none. some_and_at (frame_of (brought id (tt {0}) true uses) id) Stays (fresh id (tt {0}) true) (came_in uses id (tt {0}) true (none_so (frame_of uses id) none)) refl
 ] refl
 
 -- and each that stays does so still
@@ -71,8 +64,8 @@ still_stays uses id other is stays = elim (cases_eq other id) [
   | inr apart ↦
       let f = frame_staying uses other stays in
       elim (is_some (frame_of uses id)) as (λ b. StaysHere (stepped id uses b) other) [
-        | true ↦ stays_so (frame_of (put_last id (filled (tt {0})) uses) other) f.0 (last_no_other uses id other (filled (tt {0})) apart (λ g. refl) ∙ f.1) f.2
-        | false ↦ stays_so (frame_of (brought id (tt {0}) true uses) other) f.0 (marked_pages_stay uses id other (tt {0}) true f.0 f.1 f.2) f.2
+        | true ↦ some_and_at (frame_of (put_last id (filled (tt {0})) uses) other) Stays f.0 (last_no_other uses id other (filled (tt {0})) apart (λ g. refl) ∙ f.1) f.2
+        | false ↦ some_and_at (frame_of (brought id (tt {0}) true uses) other) Stays f.0 (marked_pages_stay uses id other (tt {0}) true f.0 f.1 f.2) f.2
       ]
 ]
 
@@ -128,38 +121,35 @@ IsKnown op c = IsTrue (is_among c.0 (reads_of op)) ⊎ (c.0 ≡ fresh_of op)
 itself : (id : ℕ) (rest : List ℕ) → IsTrue (is_among id (id ∷ rest))
 itself id rest = or_left (id == id) (is_among id rest) (eq-eqb id id refl)
 
-alone : (op : Op) (c : ℕ × Page) → IsKnown op c → All (IsKnown op) (c ∷ [])
-alone op c h = All-cons (IsKnown op) c [] h (All-nil (IsKnown op))
-
 split_known : (source fresh : ℕ) (path : List Side) (cuts : List LeafCut) (free_after : ℕ) (page : LivePage) (part : Option (Tree × Area)) → All (IsKnown (Extract source fresh path cuts free_after)) (split_pages source fresh path cuts page part)
 split_known source fresh path cuts free_after page None = All-nil (IsKnown (Extract source fresh path cuts free_after))
 split_known source fresh path cuts free_after page (Some part) =
     let K = IsKnown (Extract source fresh path cuts free_after) in
     let first : ℕ × Page = (source, Live (source_page fresh path cuts page part)) in
     let second : ℕ × Page = (fresh, Live (fresh_page cuts page part)) in
-    All-cons K first (second ∷ []) (inl (itself source [])) (All-cons K second [] (inr refl) (All-nil K))
+    All-cons K first (second ∷ []) (inl (itself source [])) (All-alone K second (inr refl))
 
 merge_known : (parent keep gone : ℕ) (a b c : Page) → All (IsKnown (Merge parent keep gone)) ((parent, a) ∷ (keep, b) ∷ (gone, c) ∷ [])
 merge_known parent keep gone a b c =
     let K = IsKnown (Merge parent keep gone) in
     let second : IsTrue (is_among keep (parent ∷ keep ∷ gone ∷ [])) = or_right (keep == parent) (is_among keep (keep ∷ gone ∷ [])) (itself keep (gone ∷ [])) in
     let third : IsTrue (is_among gone (parent ∷ keep ∷ gone ∷ [])) = or_right (gone == parent) (is_among gone (keep ∷ gone ∷ [])) (or_right (gone == keep) (is_among gone (gone ∷ [])) (itself gone [])) in
-    All-cons K (parent, a) ((keep, b) ∷ (gone, c) ∷ []) (inl (itself parent (keep ∷ gone ∷ []))) (All-cons K (keep, b) ((gone, c) ∷ []) (inl second) (All-cons K (gone, c) [] (inl third) (All-nil K)))
+    All-cons K (parent, a) ((keep, b) ∷ (gone, c) ∷ []) (inl (itself parent (keep ∷ gone ∷ []))) (All-cons K (keep, b) ((gone, c) ∷ []) (inl second) (All-alone K (gone, c) (inl third)))
 
 made_known : (op : Op) (meta : Meta) (first second third : Option LivePage) → All (IsKnown op) (change_of op meta first second third).pages
 made_known (Put id rec) meta None second third = All-nil (IsKnown (Put id rec))
-made_known (Put id rec) meta (Some page) second third = alone (Put id rec) (id, Live (put_page rec page)) (inl (itself id []))
+made_known (Put id rec) meta (Some page) second third = All-alone (IsKnown (Put id rec)) (id, Live (put_page rec page)) (inl (itself id []))
 made_known (Del id point) meta None second third = All-nil (IsKnown (Del id point))
-made_known (Del id point) meta (Some page) second third = alone (Del id point) (id, Live (del_page point page)) (inl (itself id []))
+made_known (Del id point) meta (Some page) second third = All-alone (IsKnown (Del id point)) (id, Live (del_page point page)) (inl (itself id []))
 made_known (Extract source fresh path cuts free_after) meta None second third = All-nil (IsKnown (Extract source fresh path cuts free_after))
 made_known (Extract source fresh path cuts free_after) meta (Some page) second third = split_known source fresh path cuts free_after page (part_at path page.frag page.area)
 made_known (Post parent at inner area) meta None second third = All-nil (IsKnown (Post parent at inner area))
-made_known (Post parent at inner area) meta (Some page) second third = alone (Post parent at inner area) (parent, Live (post_page at inner area page)) (inl (itself parent []))
+made_known (Post parent at inner area) meta (Some page) second third = All-alone (IsKnown (Post parent at inner area)) (parent, Live (post_page at inner area page)) (inl (itself parent []))
 made_known (Merge parent keep gone) meta None second third = All-nil (IsKnown (Merge parent keep gone))
 made_known (Merge parent keep gone) meta (Some above) None third = All-nil (IsKnown (Merge parent keep gone))
 made_known (Merge parent keep gone) meta (Some above) (Some kept) None = All-nil (IsKnown (Merge parent keep gone))
 made_known (Merge parent keep gone) meta (Some above) (Some kept) (Some going) = merge_known parent keep gone (Live (parent_page keep gone above)) (Live (kept_page gone kept going)) (Free meta.free)
-made_known (Grow fresh free_after) meta first second third = alone (Grow fresh free_after) (fresh, Live (new_root meta)) (inr refl)
+made_known (Grow fresh free_after) meta first second third = All-alone (IsKnown (Grow fresh free_after)) (fresh, Live (new_root meta)) (inr refl)
 
 page_at : (pages : List (ℕ × Page)) (k : ℕ) (d : ℕ × Page) → k < length pages → IsTrue (has_page (get_or pages k d).0 pages)
 page_at [] k d lt = absurd (omega (arith, lt))
@@ -175,11 +165,7 @@ have_room op st uses tied place = (
       by c (page_at (change_here st op).pages k d lt) (made_known op st.meta (read_here st op 0) (read_here st op 1) (read_here st op 2) k d lt),
 )
   where
-    no_page : (o : Option Page) → is_some o ≡ false → o ≡ None
-    no_page None e = refl
-    no_page (Some page) e = cc e
-
     by : (c : ℕ × Page) → IsTrue (has_page c.0 (change_here st op).pages) → IsKnown op c → HasRoom (fresh_of op) uses c.0
     by c there (inl read) = inl (place.reads c.0 read)
     by c there (inr new) =
-        inr (new, λ none. place.place c.0 there (no_page (in_memory st c.0) (tied.there c.0 ∙ ap (λ (n : ℕ). is_some (frame_of uses n)) new ∙ ap (λ (o : Option Use). is_some o) none)))
+        inr (new, λ none. place.place c.0 there (none_so (in_memory st c.0) (tied.there c.0 ∙ ap (λ (n : ℕ). is_some (frame_of uses n)) new ∙ ap (λ (o : Option Use). is_some o) none)))

@@ -12,7 +12,6 @@ use Rattle.hb_ops.specs.Operations.{Change, IsAllowed, change_of, effect_of, nth
 use Rattle.hb_log_codec.specs.Groups.{Logged}
 use Rattle.hb_store.specs.Replay.{IsAllowedIn, MayFollow, Replayed, after_group, after_op, change_in, replay, touched_read, with_page_images}
 use Rattle.hb_ops.specs.SetPages.{set_pages}
-use Rattle.hb_ops.proofs.Facts.SetPages.{set_one-same, set_one-other}
 use Rattle.hb_store.specs.Opening.{IsPageIn, Shows}
 use Rattle.hb_store.specs.Parts.{ArePageImagesOf, Leads}
 use Rattle.hb_store.proofs.Counting.{HasCount, effect_count, effect_reaches}
@@ -20,6 +19,7 @@ use Rattle.hb_ops.proofs.Facts.ReachedPages.{pages_set}
 use Rattle.hb_ops.proofs.Facts.AllowedOps.{reads_some, same_change}
 use Rattle.hb_store.proofs.Touches.{change_by_first}
 use Rattle.hb_lemmas.proofs.Options.{some_value}
+use Rattle.hb_lemmas.proofs.Booleans.{at_same, at_other}
 
 module _ (bytes : List ℕ) (said : Meta) where
   -- pages set among the touched ones are those of a file in which they were set
@@ -44,11 +44,11 @@ module _ (bytes : List ℕ) (said : Meta) where
           let here : q ≡ id = eqb-true q id at_it in
           let same_is : Some same ≡ Some page = sym (ap (page_of s) here ∙ there) ∙ is in
           let Q : Option Page → Type 0 = λ o. IsPageIn bytes said q o page in
-          subst Q (sym (set_one-same t.page id same q here)) (let e : same ≡ page = cc in e)
+          subst Q (sym (at_same q id (Some same) (t.page q) here)) (let e : same ≡ page = cc in e)
       | inr off ↦
           let ne : q ≢ id = eqb-false q id off in
           let Q : Option Page → Type 0 = λ o. IsPageIn bytes said q o page in
-          subst Q (sym (set_one-other t.page id same q ne)) (shows.each q page is)
+          subst Q (sym (at_other q id (Some same) (t.page q) ne)) (shows.each q page is)
     ];
   }
 

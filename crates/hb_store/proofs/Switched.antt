@@ -1,11 +1,12 @@
 -- What a store has in memory, and what is seen of it, once the next turn has begun.
-use Rattle.std.proofs.Common.{◌≡◌, ℕ, Bool, true, false, cond, List, [], ◌∷◌, map, Option, Some, None, refl, sym, ap, ◌∙◌, arith}
+use Rattle.std.proofs.Common.{◌≡◌, ℕ, Bool, true, false, cond, List, [], ◌∷◌, map, Some, None, refl, sym, ap, ◌∙◌, arith}
 use Rattle.std.specs.Prelude.{find}
-use Rattle.std.specs.Option.{option_map, option_map_or}
+use Rattle.std.specs.Option.{option_map_or}
 use Rattle.std.specs.Ordering.{nat_cmp}
 use Rattle.std.specs.FinMap as finite
 use Rattle.std.specs.FinSet as set
 use Rattle.std.specs.HashSet as bag
+use Rattle.hb_lemmas.proofs.Options.{none_mapped}
 use Rattle.hb_layout.specs.Offsets.{log_start}
 use Rattle.hb_layout.specs.declared.meta.Meta.{Meta}
 use Rattle.hb_wal.specs.Log.{LogState}
@@ -17,10 +18,6 @@ use Rattle.hb_store.specs.Inside.{dirty_in, pages_in}
 use Rattle.hb_store.specs.States.{IsMemory, IsStanding, StoreState, is_dirty}
 use Rattle.hb_store.specs.Switching.{switched_state}
 use Rattle.hb_store.proofs.Framed.{held_of}
-
-none_mapped : {A B : Type 0} (f : A → B) (o : Option A) → option_map f o ≡ None → o ≡ None
-none_mapped f None e = refl
-none_mapped f (Some x) e = cc e
 
 -- where no frame is dirty, that of a page isn't
 none_marked : (uses : List Use) → find (λ (u : Use). u.dirty) uses ≡ None → (id : ℕ) → option_map_or (λ (u : Use). u.dirty) (frame_of uses id) false ≡ false

@@ -1,9 +1,9 @@
 -- What images and operations make of touched pages.
-use Rattle.std.proofs.Common.{◌≡◌, ℕ, ◌<◌, ◌≤◌, true, false, cond, eqb, List, [], ◌∷◌, length, get_or, All, Option, Some, None, Result, Ok, Err, refl, sym, ap, subst, ◌∙◌, arith}
-use Rattle.std.specs.Prelude.{OnErr, OnOk}
+use Rattle.std.proofs.Common.{◌≡◌, ℕ, ◌<◌, ◌≤◌, true, false, cond, eqb, List, [], ◌∷◌, length, get_or, All, Option, Some, None, refl, sym, ap, subst, ◌∙◌, arith}
 use Rattle.std.specs.List.{remove}
 use Rattle.std.proofs.lemmas.Bool.{eqb-true}
 use Rattle.std.proofs.lemmas.List.Elements.{All-head, All-tail}
+use Rattle.std.proofs.lemmas.Option.{same_Some}
 use Rattle.hb_frag.specs.declared.pages.LivePage.{LivePage}
 use Rattle.hb_frag.specs.declared.pages.Page.{Page}
 use Rattle.hb_frag.specs.declared.pages.Page.TheVariants.{Live}
@@ -31,13 +31,10 @@ set_one one t its good id page e =
     elim (eqb id one.0) as (λ b. eqb id one.0 ≡ b → cond b (Some one.1) (t.page id) ≡ Some page → IsPageOf t.meta id × HasSpelling page) [
       | true ↦ λ here found. (
         subst (λ n. IsPageOf t.meta n) (sym (eqb-true id one.0 here)) good.0,
-        subst HasSpelling (some_is found) good.1,
+        subst HasSpelling (same_Some one.1 page found) good.1,
       )
       | false ↦ λ other found. its id page found
     ] refl e
-  where
-    some_is : {x y : Page} → Some x ≡ Some y → x ≡ y
-    some_is h = cc
 
 pub set_its : (pages : List (ℕ × Page)) (t : Replayed) → AreItsPages t → All (IsGood t.meta) pages → AreItsPages (with_pages pages t)
 set_its [] t its good = its
@@ -96,13 +93,3 @@ pub set_next : (items : List (ℕ × Page)) (x : ℕ × Page) (left : List (ℕ 
 set_next [] x left t u total some first rest one all = absurd (omega (arith, some))
 set_next (y ∷ ys) x left t u total some first rest one all =
     (λ i. with_pages (rest i) (one i)) ∙ ap (λ (z : ℕ × Page). with_pages ys (with_pages (z ∷ []) t)) first ∙ all
-
--- a result with a weaker clause
-pub on_both : {X E P Q R : Type 0} (r : Result X E) → (P → Q → R) → OnOk r P → OnOk r Q → OnOk r R
-on_both (Ok x) f h k = f h k
-on_both (Err e) f h k = tt
-
--- what holds anyway
-pub on_err : {X E P : Type 0} (r : Result X E) → P → OnErr r P
-on_err (Ok x) h = tt
-on_err (Err e) h = h

@@ -1,5 +1,6 @@
 -- What the calls that begin a turn leave of a disk.
 use Rattle.std.proofs.Common.{◌≡◌, ℕ, ◌+◌, ◌≤◌, List, Option, Result, Ok, Err, IsErr, IsSome, OnOk, is_some, inl, subst, ap, ◌∙◌, arith}
+use Rattle.std.proofs.lemmas.Result.{on_ok_weaker}
 use Rattle.hb_disk.specs.Model.{DiskModel, IsDisk, Torn}
 use Rattle.hb_disk.specs.Calls.{Syncs, Then}
 use Rattle.hb_disk.specs.Runs.{Rewrites}
@@ -12,16 +13,12 @@ use Rattle.hb_layout.specs.Offsets.{log_start, slot_offset}
 use Rattle.hb_layout.specs.declared.meta.Meta.{Meta}
 use Rattle.hb_ops.specs.Files.{FileState}
 use Rattle.hb_super.specs.Superblocks.{next_turn}
-use Rattle.hb_lemmas.proofs.Options.{on_ok_weaker, some_value}
+use Rattle.hb_lemmas.proofs.Options.{some_value}
 use Rattle.hb_store.proofs.Facts.PlaceWrites.{ok_tick}
 use Rattle.hb_store.specs.Switching.{TornSwitch}
 use Rattle.hb_store.specs.Turning.{MayTurn, OpensByEither, StillOpens}
 
--- what follows of two facts of a success, and what a success gives for each two values, or under a condition
-pub on_ok_both : {T E : Type 0} (r : Result T E) (P Q S : Type 0) → (P → Q → S) → OnOk r P → OnOk r Q → OnOk r S
-on_ok_both (Ok v) P Q S f p q = f p q
-on_ok_both (Err e) P Q S f p q = tt
-
+-- what a success gives for each two values, or under a condition
 pub on_ok_each : {T E X Y : Type 0} (r : Result T E) (P : X → Y → Type 0) → ((x : X) (y : Y) → OnOk r (P x y)) → OnOk r ((x : X) (y : Y) → P x y)
 on_ok_each (Ok v) P f = f
 on_ok_each (Err e) P f = tt
@@ -52,7 +49,7 @@ nine_ticks q r s v w old mid late new is_ok are_ok is_old syncs area len run sec
     let here : IsSome mid.told = ap is_some syncs.same ∙ tells in
     let one = ok_tick q v old mid is_ok is_old tells syncs.ticks in
     let two = ok_of r w (late.clock ≡ mid.clock + 2) are_ok (second here) in
-    on_ok_weaker s (new.clock ≡ late.clock + 6) (new.clock ≡ old.clock + 9) (λ six. omega (arith, one, two, six)) (third (Becomes-tells (Torn area len) mid late run.became here))
+    on_ok_weaker {P = new.clock ≡ late.clock + 6} {Q = new.clock ≡ old.clock + 9} s (λ six. omega (arith, one, two, six)) (third (Becomes-tells (Torn area len) mid late run.became here))
 
 module _ (before next : ℕ) (meta : Meta) (is : next ≡ next_turn before) (area : ℕ) (area_is : area ≡ log_start next meta) where
   as_switch : (b c e : List ℕ) → Torn area meta.log b c → Torn (slot_offset next) 41 c e → TornSwitch before meta b e

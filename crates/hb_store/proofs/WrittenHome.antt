@@ -1,24 +1,18 @@
 -- What it is to write the page of a number to its place, from what the disk's write did.
-use Rattle.std.proofs.Common.{◌≡◌, ℕ, ◌+◌, ◌*◌, ◌-◌, ◌≤◌, true, false, IsTrue, List, [], length, Option, Some, None, Result, Ok, Err, refl, sym, ap, ◌∙◌, subst, arith}
-use Rattle.std.specs.Prelude.{find}
-use Rattle.std.specs.Option.{is_some, option_map, option_map_or}
-use Rattle.std.proofs.lemmas.Option.{same_Some}
+use Rattle.std.proofs.Common.{◌≡◌, ℕ, ◌+◌, ◌*◌, ◌-◌, ◌≤◌, true, false, IsTrue, List, [], length, Option, Some, None, Result, Ok, Err, refl, sym, ap, ◌∙◌, arith}
+use Rattle.std.specs.Option.{is_some, option_map_or}
 use Rattle.hb_space.specs.declared.form.TheConstants.{PAGE}
 use Rattle.hb_disk.specs.Model.{DiskModel, IsDisk, Torn}
 use Rattle.hb_disk.specs.Calls.{Leaves, Writes}
 use Rattle.hb_disk.specs.Runs.{Rewrites}
 use Rattle.hb_disk.proofs.Facts.RewriteLaws.{Rewrites-as, Rewrites-write}
 use Rattle.hb_disk.proofs.Facts.RunLaws.{Leaves-call, Leaves-start}
-use Rattle.hb_lemmas.proofs.Options.{some_of_map}
 use Rattle.hb_layout.specs.Offsets.{file_size, page_offset}
 use Rattle.hb_layout.specs.declared.meta.Meta.{Meta}
 use Rattle.hb_frag.specs.declared.pages.Page.{Page}
 use Rattle.hb_frag.specs.Grammar.{SpellsPage}
 use Rattle.hb_ops.specs.Files.{FileState}
 use Rattle.hb_pool.specs.Frames.{Use}
-use Rattle.hb_pool.specs.Pools.{IsPool, frame_of}
-use Rattle.hb_pool.proofs.Facts.Firsts.{first_passes}
-use Rattle.hb_pool.proofs.Facts.Pooled.{dirty_there}
 use Rattle.hb_store.specs.Forced.{MayWriteGroups, stopped_state}
 use Rattle.hb_store.specs.Held.{IsTied, StoreHeld, cleaned_held, oldest_dirty}
 use Rattle.hb_store.specs.Keeps.{StoreKeeps}
@@ -26,19 +20,12 @@ use Rattle.hb_store.specs.Opening.{OpensTo}
 use Rattle.hb_store.specs.States.{IsMemory, StoreState, in_memory, is_dirty}
 use Rattle.hb_store.specs.WritingHome.{WritesHome}
 use Rattle.hb_store.specs.declared.stops.WriteFault.{WriteFault}
+use Rattle.hb_store.proofs.Facts.Oldest.{oldest_frame}
 use Rattle.hb_store.proofs.Facts.PlaceWrites.{ok_tick, page_written}
 use Rattle.hb_store.proofs.Facts.StoreLaws.{StoreKeeps-idle, StoreKeeps-running}
 use Rattle.hb_store.proofs.HomeWrites.{images_home, keeps_home, keeps_not_home}
 
--- the least recently used dirty page has the frame that is found first
-oldest_frame : (uses : List Use) → IsPool uses → (id : ℕ) → oldest_dirty uses ≡ Some id → (u : Use) × (frame_of uses id ≡ Some u) × IsTrue u.dirty
-oldest_frame uses pool id oldest =
-    let first = some_of_map (λ (u : Use). u.id) (find (λ (u : Use). u.dirty) uses) id oldest in
-    let same : first.0.id ≡ id = same_Some first.0.id id (sym (ap (option_map (λ (u : Use). u.id)) first.1) ∙ oldest) in
-    let F : ℕ → Type 0 = λ n. frame_of uses n ≡ Some first.0 in
-    (first.0, subst F same (dirty_there uses first.0 pool first.1), first_passes (λ (u : Use). u.dirty) uses first.0 first.1)
-
--- so it is dirty, and in memory
+-- the least recently used dirty page is dirty, and in memory
 pub oldest_is_dirty : (st : StoreState) (uses : List Use) → IsTied st uses → (id : ℕ) → oldest_dirty uses ≡ Some id → IsTrue (is_dirty st id)
 oldest_is_dirty st uses tied id oldest =
     let frame = oldest_frame uses tied.pool id oldest in

@@ -11,11 +11,11 @@ use Rattle.hb_lemmas.proofs.Options.{at_value, of_value, if_value}
 use Rattle.std.proofs.lemmas.Option.{same_Some}
 use Rattle.hb_disk.proofs.Facts.BecomesLaws.{told_written}
 use Rattle.hb_disk.proofs.Facts.RewriteLaws.{Rewrites-write, Rewrites-sync, Rewrites-torn, WritesThrough-synced}
-use Rattle.hb_disk.proofs.Facts.SyncedLaws.{part_of}
 use Rattle.hb_layout.specs.declared.meta.Meta.{Meta}
 use Rattle.hb_layout.specs.Offsets.{slot_offset}
 use Rattle.hb_super.specs.Superblocks.{IsLegal, IsNewest, body_bytes, next_turn}
 use Rattle.hb_super.specs.Moments.{NoOther, HidesNoOther, IsOther, HidesOther, ClearLeaves}
+use Rattle.hb_super.proofs.Facts.Gates.{gate_part, newest_same}
 use Rattle.hb_super.proofs.Supers.{gate_at, body_at, same_place, other_parity}
 use Rattle.hb_super.proofs.Bodies.{one_body}
 use Rattle.hb_super.proofs.Writes.{place_fits, places_apart, next_apart}
@@ -75,35 +75,19 @@ module _ (d one : DiskModel) (is_disk : IsDisk d) (is_one : IsDisk one) (room : 
       (λ b told. told_written zeroed v (slot_offset turn + 1) (replicate 40 0) d one b ok told writes)
       (Rewrites-torn zeroed synced (slot_offset turn + 1) 40 1 1 d one new v ok zero_wrote (Rewrites-sync synced (slot_offset turn + 1) 40 one new is_one syncs))
 
--- the same place of lists that have the same in the first two pages
-place_part : (xs ys : List ℕ) → take 8192 (drop 0 xs) ≡ take 8192 (drop 0 ys) → (turn : ℕ) → take 41 (drop (slot_offset turn) xs) ≡ take 41 (drop (slot_offset turn) ys)
-place_part xs ys same turn = part_of 0 8192 (slot_offset turn) 41 xs ys (omega arith) (place_fits turn) same
+module _ (b : List ℕ) (old : ℕ) (said : Meta) (newest : IsNewest b old said) (turn : ℕ) (next : turn ≡ next_turn old) where
+  body_apart : Apart (slot_offset old) 41 (slot_offset turn + 1) 40
+  body_apart = elim (places_apart turn old next) [ inl front ↦ inl (omega (arith, front)) | inr behind ↦ inr (omega (arith, behind)) ]
 
--- its gate
-gate_part : (xs ys : List ℕ) → take 8192 (drop 0 xs) ≡ take 8192 (drop 0 ys) → (turn : ℕ) → get_or xs (slot_offset turn) 0 ≡ get_or ys (slot_offset turn) 0
-gate_part xs ys same turn =
-    sym (gate_at xs (slot_offset turn)) ∙ ap (λ (l : List ℕ). get_or l 0 0) (place_part xs ys same turn) ∙ gate_at ys (slot_offset turn)
-
-module _ (b : List ℕ) (old : ℕ) (said : Meta) (newest : IsNewest b old said) where
-  pub newest_same : (c : List ℕ) → take 8192 (drop 0 c) ≡ take 8192 (drop 0 b) → IsNewest c old said
-  newest_same c same = record {
-    there = same_place b c old said (place_part c b same old) newest.there;
-    newer = λ other m has differs. newest.newer other m (same_place c b other m (sym (place_part c b same other)) has) differs;
+  -- what is torn behind a closed gate is no superblock
+  pub newest_torn : (c : List ℕ) → get_or b (slot_offset turn) 0 ≢ open_gate → Torn (slot_offset turn + 1) 40 b c → IsNewest c old said
+  newest_torn c closed torn = record {
+    there = same_place b c old said (Torn-elsewhere (slot_offset turn + 1) 40 (slot_offset old) 41 b c body_apart torn) newest.there;
+    newer = λ other m has differs.
+        let parity : turn % 2 ≡ other % 2 = other_parity turn old other (next_apart turn old next) differs in
+        absurd (closed (sym (Torn-same (slot_offset turn + 1) 40 b c torn (slot_offset turn) (inl (omega arith)))
+        ∙ ap (λ (p : ℕ). get_or c (PAGE * p) 0) parity ∙ has.gate));
   }
-
-  module _ (turn : ℕ) (next : turn ≡ next_turn old) where
-    body_apart : Apart (slot_offset old) 41 (slot_offset turn + 1) 40
-    body_apart = elim (places_apart turn old next) [ inl front ↦ inl (omega (arith, front)) | inr behind ↦ inr (omega (arith, behind)) ]
-
-    -- what is torn behind a closed gate is no superblock
-    pub newest_torn : (c : List ℕ) → get_or b (slot_offset turn) 0 ≢ open_gate → Torn (slot_offset turn + 1) 40 b c → IsNewest c old said
-    newest_torn c closed torn = record {
-      there = same_place b c old said (Torn-elsewhere (slot_offset turn + 1) 40 (slot_offset old) 41 b c body_apart torn) newest.there;
-      newer = λ other m has differs.
-          let parity : turn % 2 ≡ other % 2 = other_parity turn old other (next_apart turn old next) differs in
-          absurd (closed (sym (Torn-same (slot_offset turn + 1) 40 b c torn (slot_offset turn) (inl (omega arith)))
-          ∙ ap (λ (p : ℕ). get_or c (PAGE * p) 0) parity ∙ has.gate));
-    }
 
 module _ (d one : DiskModel) (is_disk : IsDisk d) (reads : OnlyReads d one) (old : ℕ) (said : Meta) (turn : ℕ) (next : turn ≡ next_turn old) (synced : IsSynced d 0 8192)
     (b : List ℕ) (told : d.told ≡ Some b) (newest : IsNewest b old said) where
@@ -111,7 +95,7 @@ module _ (d one : DiskModel) (is_disk : IsDisk d) (reads : OnlyReads d one) (old
   Left = ClearLeaves d old said turn
 
   image_newest : (a : List ℕ) → d.Image a → IsNewest a old said
-  image_newest a image = newest_same b old said newest a (synced.each b a told image)
+  image_newest a image = newest_same b a (synced.each b a told image) old said newest
 
   pub read_left : Leaves d one Left
   read_left = Leaves-read d d one Left (Leaves-start d Left is_disk (λ c image. record {

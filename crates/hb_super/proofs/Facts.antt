@@ -1,2 +1,3 @@
 pub mod BodyLaws
 pub mod ClearLaws
+pub mod Gates

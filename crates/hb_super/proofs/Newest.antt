@@ -1,14 +1,14 @@
 -- That one superblock is the newest, and what a place has.
-use Rattle.std.proofs.Common.{◌≡◌, ◌≢◌, ◌⊎◌, inl, inr, ℕ, ◌+◌, ◌*◌, ◌%◌, ◌^◌, ◌<◌, ◌≤◌, List, take, drop, slice_range, get_or, sym, ap, ◌∙◌, subst, arith}
+use Rattle.std.proofs.Common.{◌≡◌, ◌≢◌, ◌⊎◌, inl, inr, ℕ, ◌+◌, ◌*◌, ◌%◌, ◌≤◌, List, take, drop, get_or, sym, ap, ◌∙◌, subst, arith}
 use Rattle.std.proofs.Math.Dec.{eqb}
 use Rattle.std.proofs.lemmas.Bool.{cases_Bool, eqb-true, eqb-false}
-use Rattle.hb_lemmas.specs.Numbers.{big_endian}
 use Rattle.hb_space.specs.declared.form.TheConstants.{PAGE}
 use Rattle.hb_disk.specs.Calls.{open_gate}
 use Rattle.hb_layout.specs.declared.meta.Meta.{Meta}
 use Rattle.hb_super.specs.Superblocks.{IsLegal, HasSuper, IsNewest, HasNone, body_bytes, next_turn, OneNewest}
-use Rattle.hb_super.proofs.Supers.{same_turn, after_other, alone}
-use Rattle.hb_super.proofs.Bodies.{known_body}
+use Rattle.hb_super.proofs.Supers.{same_turn, after_other, alone, even, odd}
+use Rattle.hb_super.proofs.Facts.Gates.{never_both}
+use Rattle.hb_super.proofs.Bodies.{known_body, one_body}
 use Rattle.hb_lemmas.proofs.Decisions.{Known}
 
 pub next_or_before : (t s : ℕ) → t ≤ 3 → s ≤ 3 → t % 2 ≢ s % 2 → (t ≡ next_turn s) ⊎ (s ≡ next_turn t)
@@ -17,32 +17,12 @@ next_or_before t s t_fits s_fits apart = elim (cases_Bool (eqb t (next_turn s)))
   | inr not_next ↦ inr (omega (arith, t_fits, s_fits, apart, eqb-false t (next_turn s) not_next))
 ]
 
-pub never_both : (t s : ℕ) → t ≡ next_turn s → s ≡ next_turn t → ⊥
-never_both t s next back = omega (arith, next, back)
-
--- what a body says is said by no other
-pub same_said : ((width m n : ℕ) → m < 256 ^ width → n < 256 ^ width → big_endian width m ≡ big_endian width n → m ≡ n)
-    → (t : ℕ) (m n : Meta) → IsLegal t m → IsLegal t n → body_bytes t m ≡ body_bytes t n → m ≡ n
-unfolding big_endian
-same_said injective t m n first second same =
-    let part : (from to : ℕ) → slice_range (body_bytes t m) from to ≡ slice_range (body_bytes t n) from to = λ from to. ap (λ (l : List ℕ). slice_range l from to) same in
-    let at : (i : ℕ) → get_or (body_bytes t m) i 0 ≡ get_or (body_bytes t n) i 0 = λ i. ap (λ (l : List ℕ). get_or l i 0) same in
-    let pages = injective 4 m.pages n.pages (omega (arith, first.layout.few_pages)) (omega (arith, second.layout.few_pages)) (part 12 16) in
-    let log = injective 4 m.log n.log (omega (arith, first.layout.log_limit)) (omega (arith, second.layout.log_limit)) (part 16 20) in
-    let dcap = injective 2 m.dcap n.dcap (omega (arith, first.layout.dcap_most)) (omega (arith, second.layout.dcap_most)) (part 20 22) in
-    let icap = injective 2 m.icap n.icap (omega (arith, first.layout.icap_most)) (omega (arith, second.layout.icap_most)) (part 22 24) in
-    let root = injective 4 m.root n.root first.numbers.root second.numbers.root (part 24 28) in
-    let high = injective 4 m.high n.high first.numbers.high second.numbers.high (part 28 32) in
-    let live = injective 4 m.live n.live first.numbers.live second.numbers.live (part 32 36) in
-    let free = injective 4 m.free n.free first.numbers.free second.numbers.free (part 36 40) in
-    λ i. record { k = at 10 i; pages = pages i; log = log i; dcap = dcap i; icap = icap i; root = root i; height = at 11 i; high = high i; live = live i; free = free i }
-
-pub one_said : ((width m n : ℕ) → m < 256 ^ width → n < 256 ^ width → big_endian width m ≡ big_endian width n → m ≡ n)
-    → (bytes : List ℕ) (t s : ℕ) (m n : Meta) → t % 2 ≡ s % 2 → HasSuper bytes t m → HasSuper bytes s n → m ≡ n
-one_said injective bytes t s m n same first second =
+-- a place says one thing
+pub one_said : (bytes : List ℕ) (t s : ℕ) (m n : Meta) → t % 2 ≡ s % 2 → HasSuper bytes t m → HasSuper bytes s n → m ≡ n
+one_said bytes t s m n same first second =
     let turn : t ≡ s = same_turn bytes t s m n same first second in
     let other : HasSuper bytes t n = subst (λ (u : ℕ). HasSuper bytes u n) (sym turn) second in
-    same_said injective t m n first.legal other.legal (sym first.body ∙ other.body)
+    one_body t m n first.legal other.legal (sym first.body ∙ other.body)
 
 -- the superblock of a place
 pub record Standing (bytes : List ℕ) (place : ℕ) : Type 0 where
@@ -95,13 +75,6 @@ module _ (bytes : List ℕ) (place : ℕ) where
       ]
 
 module _ (bytes : List ℕ) where
-  -- a turn that doesn't stand in one place stands in the other
-  odd : (t : ℕ) → t % 2 ≢ 0 → t % 2 ≡ 1
-  odd t h = omega (arith, h)
-
-  even : (t : ℕ) → t % 2 ≢ 1 → t % 2 ≡ 0
-  even t h = omega (arith, h)
-
   neither : (Standing bytes 0 → ⊥) → (Standing bytes 1 → ⊥) → HasNone bytes
   neither first second t m has = elim (cases_Bool (eqb (t % 2) 0)) [
     | inl here ↦ first (record { turn = t; said = m; there = has; here = eqb-true (t % 2) 0 here })

@@ -31,15 +31,19 @@ after_other bytes t s m n here there apart next = record {
   newer = λ other said has differs. next ∙ ap next_turn (same_turn bytes s other n said (other_parity s t other (λ e. apart (sym e)) differs) there has);
 }
 
+-- a turn that doesn't stand in one place stands in the other
+pub odd : (t : ℕ) → t % 2 ≢ 0 → t % 2 ≡ 1
+odd t differs = omega (arith, differs)
+
+pub even : (t : ℕ) → t % 2 ≢ 1 → t % 2 ≡ 0
+even t differs = omega (arith, differs)
+
 -- one that stands alone is the newest
 pub alone : (bytes : List ℕ) (t : ℕ) (m : Meta) → HasSuper bytes t m → ((s : ℕ) (n : Meta) → HasSuper bytes s n → s % 2 ≢ t % 2 → ⊥) → IsNewest bytes t m
 alone bytes t m here none = record { there = here; newer = λ other said has differs. absurd (none other said has differs) }
 
 pub first_alone : (bytes : List ℕ) (said : ℕ × Meta) → StandsInPlace 0 (Some said) bytes → StandsInPlace 1 None bytes → IsNewest bytes said.0 said.1
 first_alone bytes said one none = alone bytes said.0 said.1 one.0 (λ s n has differs. none s n has (odd s (λ e. differs (e ∙ sym one.1))))
-  where
-    odd : (s : ℕ) → s % 2 ≢ 0 → s % 2 ≡ 1
-    odd s differs = omega (arith, differs)
 
 pub second_alone : (bytes : List ℕ) (found : Option (ℕ × Meta)) → StandsInPlace 0 None bytes → StandsInPlace 1 found bytes → NewestIs found bytes
 second_alone bytes None none one = λ s n has. either s (λ e. none s n has e) (λ e. one s n has e)
@@ -47,17 +51,11 @@ second_alone bytes None none one = λ s n has. either s (λ e. none s n has e) (
     either : (s : ℕ) → s % 2 ≢ 0 → s % 2 ≢ 1 → ⊥
     either s even odd = omega (arith, even, odd)
 second_alone bytes (Some said) none one = alone bytes said.0 said.1 one.0 (λ s n has differs. none s n has (even s (λ e. differs (e ∙ sym one.1))))
-  where
-    even : (s : ℕ) → s % 2 ≢ 1 → s % 2 ≡ 0
-    even s differs = omega (arith, differs)
 
 -- the gate and the body of a place in its first bytes
 module _ (bytes : List ℕ) (at : ℕ) where
   pub gate_at : get_or (take 41 (drop at bytes)) 0 0 ≡ get_or bytes at 0
-  gate_at = get_or-take 41 (drop at bytes) 0 0 (omega arith) ∙ get_or-drop at bytes 0 0 ∙ ap (λ (i : ℕ). get_or bytes i 0) (plus_none at)
-    where
-      plus_none : (i : ℕ) → i + 0 ≡ i
-      plus_none i = omega arith
+  gate_at = get_or-take 41 (drop at bytes) 0 0 (omega arith) ∙ get_or-drop at bytes 0 0 ∙ ap (λ (i : ℕ). get_or bytes i 0) (let none : at + 0 ≡ at = omega arith in none)
 
   pub body_at : drop 1 (take 41 (drop at bytes)) ≡ take 40 (drop (at + 1) bytes)
   body_at = drop-take 1 40 (drop at bytes) ∙ ap (λ (l : List ℕ). take 40 l) (drop-drop 1 at bytes)

@@ -21,7 +21,7 @@ use Rattle.hb_super.specs.Superblocks.{IsLegal, HasSuper, IsNewest, body_bytes, 
 use Rattle.hb_super.specs.Moments.{WriteLeaves, IsUncovered}
 use Rattle.hb_super.proofs.Supers.{gate_at, body_at, same_place, after_other}
 use Rattle.hb_super.proofs.Bodies.{known_body}
-use Rattle.hb_super.proofs.Newest.{never_both}
+use Rattle.hb_super.proofs.Facts.Gates.{never_both}
 
 -- there are 40 bytes of a body
 pub body_long : (turn : ℕ) (meta : Meta) → length (body_bytes turn meta) ≡ 40

@@ -2,10 +2,11 @@
 use Rattle.std.proofs.Common.{◌≡◌, ℕ, suc, ◌+◌, ◌-◌, ◌<◌, ◌≤◌, true, false, not, cond, eqb, List, [], ◌∷◌, length, take, drop, Some, None, refl, sym, ap, ◌∙◌, arith}
 use Rattle.std.specs.List.{onto_first, position, position_or_len}
 use Rattle.std.proofs.Math.Numerals.{add-one}
-use Rattle.std.proofs.lemmas.List.{drop_all}
+use Rattle.std.proofs.lemmas.List.{drop_all, take_rest}
 use Rattle.std.proofs.lemmas.Bool.Decides.{nat_tests}
+use Rattle.std.proofs.lemmas.Option.{cond_some}
 use Rattle.hb_text.specs.Words.{lines_of}
-use Rattle.hb_text.proofs.WordCuts.{made, not_made, take_rest}
+use Rattle.hb_text.proofs.WordCuts.{not_made}
 
 -- a text with a line feed is its first line, and the lines behind that line feed
 cut_at : (text : List ℕ) (at : ℕ) → position_or_len (λ c. eqb c 10) text ≡ at → at < length text → lines_of text ≡ take at text ∷ lines_of (drop (at + 1) text)
@@ -34,9 +35,9 @@ none_cut c (d ∷ text) h =
 
 pub lines_at_feed : (text : List ℕ) (at : ℕ) → position (λ c. eqb c 10) text ≡ Some at → lines_of text ≡ take at text ∷ lines_of (take (length text - (at + 1)) (drop (at + 1) text))
 lines_at_feed text at e =
-    let h = made _ (position_or_len (λ c. eqb c 10) text) at e in
+    let h = cond_some _ (position_or_len (λ c. eqb c 10) text) at e in
     let within : at < length text = grind (arith, nat_tests, h.0, h.1) in
-    cut_at text at h.1 within ∙ ap (λ rest. take at text ∷ lines_of rest) (sym (take_rest (at + 1) text))
+    cut_at text at h.1 within ∙ ap (λ rest. take at text ∷ lines_of rest) (sym (take_rest text (at + 1)))
 
 one_line : (text : List ℕ) → 0 < length text → length text ≤ position_or_len (λ c. eqb c 10) text → lines_of text ≡ text ∷ []
 one_line [] some h = absurd (omega arith)
@@ -46,4 +47,4 @@ pub lines_at_end : (text : List ℕ) → 0 < length text → position (λ c. eqb
 lines_at_end text some e =
     let h = not_made _ (position_or_len (λ c. eqb c 10) text) e in
     let past : length text ≤ position_or_len (λ c. eqb c 10) text = grind (arith, nat_tests, h) in
-    rw (take_rest (length text) text, drop_all (length text) text (omega arith)) (one_line text some past)
+    rw (take_rest text (length text), drop_all (length text) text (omega arith)) (one_line text some past)

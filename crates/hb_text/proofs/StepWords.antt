@@ -6,13 +6,14 @@ use Rattle.std.proofs.lemmas.Bool.Decides.{nat_tests}
 use Rattle.std.proofs.lemmas.List.{length-append, length-replicate}
 use Rattle.std.proofs.lemmas.List.Splits.{length-slice_split}
 use Rattle.std.proofs.lemmas.Bool.{and_parts}
+use Rattle.std.proofs.lemmas.Option.{cond_some}
 use Rattle.hb_text.specs.declared.numbers.NumberFault.{NumberFault}
 use Rattle.hb_text.specs.declared.rules.TextRule.TheVariants.{BadStep}
 use Rattle.hb_text.specs.Numbers.{is_number, number_read}
 use Rattle.hb_text.specs.StepWords.{actor_of, count_number, repeated, steps_of_parts, word_steps, joined_steps, steps_of, within_schedule, steps_read}
 use Rattle.hb_text.specs.Steps.{left_after, then_left, steps_left}
 use Rattle.hb_lemmas.proofs.Booleans.{chosen}
-use Rattle.hb_text.proofs.WordCuts.{cut_at, cut_nowhere, made}
+use Rattle.hb_text.proofs.WordCuts.{cut_at, cut_nowhere}
 
 abbrev parts : List ℕ → List (List ℕ)
 parts word = slice_split (λ c. eqb c 120) word
@@ -32,7 +33,7 @@ digits_of (c ∷ d ∷ rest) e = (and_parts (nat_lt 48 c) (list_all is_ascii_dig
 no_count : (w : List ℕ) (j : ℕ) → position (λ c. eqb c 120) w ≡ Some j → count_number (number_read w) ≡ None
 no_count w j e = elim (is_number w) as (λ b. is_number w ≡ b → count_number (number_read w) ≡ None) [
   | true ↦ λ is.
-      let h = made _ (position_or_len (λ c. eqb c 120) w) j e in
+      let h = cond_some _ (position_or_len (λ c. eqb c 120) w) j e in
       let within : position_or_len (λ c. eqb c 120) w < length w = grind (arith, nat_tests, h.0) in
       absurd (omega (arith, within, no_x w (digits_of w is)))
   | false ↦ λ not. rw not refl

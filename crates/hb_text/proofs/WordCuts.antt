@@ -1,31 +1,23 @@
 -- Where a line is cut into words.
 use Rattle.std.proofs.Common.{◌≡◌, ℕ, suc, ◌+◌, ◌-◌, ◌<◌, ◌≤◌, Bool, true, false, not, cond, eqb, List, [], ◌∷◌, length, take, drop, Some, None, refl, sym, ap, ◌∙◌, arith}
 use Rattle.std.specs.List.{onto_first, position, position_or_len, count_by, slice_split}
-use Rattle.std.proofs.Math.Seq.{take-length}
-use Rattle.std.proofs.lemmas.List.{length-drop}
+use Rattle.std.proofs.lemmas.List.{take_rest}
 use Rattle.std.proofs.lemmas.Bool.Decides.{nat_tests}
 use Rattle.std.proofs.lemmas.List.Splits.{slice_split_first, length-slice_split}
+use Rattle.std.proofs.lemmas.Option.{cond_some}
 use Rattle.hb_text.specs.Words.{words_of}
-
--- an option that a test makes tells the test and the value
-pub made : (b : Bool) (n at : ℕ) → cond b (Some n) None ≡ Some at → (b ≡ true) × (n ≡ at)
-made true n at e = (refl, cc)
-made false n at e = cc
 
 pub not_made : (b : Bool) (n : ℕ) → cond b (Some n) None ≡ None → b ≡ false
 not_made true n e = cc
 not_made false n e = refl
 
-pub take_rest : (n : ℕ) (xs : List ℕ) → take (length xs - n) (drop n xs) ≡ drop n xs
-take_rest n xs = ap (λ m. take m (drop n xs)) (sym (length-drop n xs)) ∙ take-length (drop n xs)
-
 -- a list that is cut at each byte of a kind: where it has one, and where it has none
 pub cut_at : (byte : ℕ) (line : List ℕ) (at : ℕ) → position (λ c. eqb c byte) line ≡ Some at → slice_split (λ c. eqb c byte) line ≡ take at line ∷ slice_split (λ c. eqb c byte) (take (length line - (at + 1)) (drop (at + 1) line))
 cut_at byte line at e =
-    let h = made _ (position_or_len (λ c. eqb c byte) line) at e in
+    let h = cond_some _ (position_or_len (λ c. eqb c byte) line) at e in
     let within : position_or_len (λ c. eqb c byte) line < length line = grind (arith, nat_tests, h.0) in
     slice_split_first (λ c. eqb c byte) line 0 within ∙ ap (λ n. take n line ∷ slice_split (λ c. eqb c byte) (drop (n + 1) line)) h.1
-    ∙ ap (λ rest. take at line ∷ slice_split (λ c. eqb c byte) rest) (sym (take_rest (at + 1) line))
+    ∙ ap (λ rest. take at line ∷ slice_split (λ c. eqb c byte) rest) (sym (take_rest line (at + 1)))
 
 none_cut : (byte : ℕ) (line : List ℕ) → length line ≤ position_or_len (λ c. eqb c byte) line → slice_split (λ c. eqb c byte) line ≡ line ∷ []
 none_cut byte [] h = refl

@@ -4,7 +4,7 @@ use Rattle.std.specs.Result.{IfErr, IfOk}
 use Rattle.std.proofs.Math.Nat.{eq-or-lt_of_le}
 use Rattle.hb_disk.proofs.Facts.RunLaws.{OnlyReads-none}
 use Rattle.hb_disk.specs.Model.{DiskModel, IsDisk}
-use Rattle.hb_lemmas.proofs.Options.{at_value}
+use Rattle.hb_lemmas.proofs.Options.{at_value, not_none}
 use Rattle.hb_activity.specs.declared.dropping.DropWhy.TheVariants as drops
 use Rattle.hb_activity.specs.declared.jobs.Job.{Job}
 use Rattle.hb_layout.specs.Limits.{IsLayout}
@@ -55,9 +55,6 @@ runs_all d c m may shows = shows.shows.stop ∙ sym may.runs.1.shows.stop ∙ ma
 -- what the file says of itself is within its limits
 pub layout_of : (d : DiskModel) (c : RunningCore) → MayTidy d c → IsLayout c.store.meta
 layout_of d c may = subst (λ (st : StoreState). IsLayout st.meta) may.runs.1.shows.store may.runs.1.goes_on.kept.meta_within_limits.layout
-
-never_both : (stop : Option StopWhy) → stop ≡ None → stop ≡ Some whys.WriteFault → ⊥
-never_both stop none fault = let never : None ≡ Some whys.WriteFault = sym none ∙ fault in cc
 
 below_last : (taken : ℕ) → taken ≤ 2 ^ 64 - 1 → (taken ≡ 2 ^ 64 - 1 → ⊥) → taken < 2 ^ 64 - 1
 below_last taken last ne = elim (eq-or-lt_of_le last) [ inl same ↦ absurd (ne same) | inr less ↦ less ]
@@ -111,7 +108,7 @@ module _ (d : DiskModel) (old : RunningCore) (actor : ℕ) (outcome : Outcome) (
 
   module _ (result : Result (Unit {0}) TidyStop) (went : EndsCall new result) where
     stopped_cause : (m : Machine) (shows : MayStep d old m) (t : HasTidied d m e new) (why : StopWhy) → new.stop ≡ Some why → StopsTidying (stop_by why) d e new t.new
-    stopped_cause m shows t whys.WriteFault is = (t.faults.write (t.shows.stop ∙ is) (never_both m.stop (runs_all d old m may shows)), t.shows.stop ∙ is)
+    stopped_cause m shows t whys.WriteFault is = (t.faults.write (t.shows.stop ∙ is) (λ stopped. not_none m.stop whys.WriteFault stopped (runs_all d old m may shows)), t.shows.stop ∙ is)
     stopped_cause m shows t (whys.Damaged page why) is = (never_damaged m shows page why is, t.shows.stop ∙ is)
 
     pub cause : (m : Machine) (shows : MayStep d old m) (t : HasTidied d m e new) → IfErr result (λ stop. StopsTidying stop d e new t.new)

@@ -1,19 +1,20 @@
 -- Looks at the pages below a page, one child leaf after the other.
-use Rattle.std.proofs.Common.{◌≡◌, ℕ, ◌+◌, ◌<◌, List, [], All, length, get_or, take, Option, None, Some, IsSome, Result, Ok, refl, subst}
+use Rattle.std.proofs.Common.{◌≡◌, ℕ, ◌+◌, ◌<◌, List, [], All, length, get_or, take, Option, None, Some, IsSome, Result, Ok, subst}
+use Rattle.std.proofs.lemmas.Bool.{false≢true}
 use Rattle.hb_disk.specs.Model.{DiskModel, IsDisk}
 use Rattle.hb_space.specs.Boxes.{Area, Meets}
 use Rattle.hb_activity.specs.declared.jobs.Job.{Job}
 use Rattle.hb_frag.specs.declared.pages.LivePage.{LivePage}
 use Rattle.hb_frag.specs.Leaves.{siblings_of}
-use Rattle.hb_lemmas.proofs.Options.{not_none, some_value}
+use Rattle.hb_lemmas.proofs.Options.{one_value}
+use Rattle.hb_lemmas.proofs.Lists.{All-take_more}
 use Rattle.hb_ops.specs.Files.{FileState, live_page}
 use Rattle.hb_ops.specs.Settled.{HasChild, IsMergeable}
-use Rattle.hb_sound.proofs.Facts.OneLevel.{same_page}
 use Rattle.hb_core.specs.Showing.{RunningCore}
 use Rattle.hb_tidy.specs.Finding.{BothLive}
 use Rattle.hb_tidy.proofs.CallsMade.{nothing_looked}
 use Rattle.hb_tidy.proofs.CleanPages.{below_is_tidy}
-use Rattle.hb_tidy.proofs.JobLists.{all_next, none_yet}
+use Rattle.hb_tidy.proofs.JobLists.{none_yet}
 use Rattle.hb_tidy.proofs.Facts.Joined.{over_ok, over_then, over_weaker}
 use Rattle.hb_tidy.proofs.KnownFiles.{IsFileOf, over_file}
 use Rattle.hb_tidy.proofs.OwedJobs.{added_are, finds_both, finds_less, finds_nothing, postings_owed}
@@ -47,7 +48,7 @@ module _ (parent : ℕ) (above : LivePage) where
       (λ s v known said. finds_both s (All (λ (sibling : ℕ × Area). ¬ (Meets area sibling.1)) given) ((gone : ℕ) → ¬ (IsMergeable s parent name gone)) (IsTidyBelow s parent (name, area)) first before after
       (λ posted last. record {
         posted = λ named live.
-            let same = same_page s name below named known.1.1 live in
+            let same = one_value (live_page s name) below named known.1.1 live in
             subst (λ (page : LivePage). All (λ (sibling : ℕ × Area). ¬ (Meets area sibling.1)) (siblings_of page)) same
             (subst (λ (ss : List (ℕ × Area)). All (λ (sibling : ℕ × Area). ¬ (Meets area sibling.1)) ss) is posted);
         none = last;
@@ -63,14 +64,11 @@ module _ (parent : ℕ) (above : LivePage) where
       over_then IsAbove (Some below) (λ seen s. IsSome seen × (live_page s name ≡ seen)) (BothLive parent above name below) r (SeesBelow (name, area) before after) (SeesBelow (name, area) before after) d e f old mid new
       one (λ s known said. (known, said.1)) two (λ s v known said more. more)
 
-  nobody : IsSome {T = LivePage} None → ⊥
-  nobody some = let one = some_value {X = LivePage} None some in not_none {X = LivePage} None one.0 one.1 refl
-
   -- it stands there over a disk that tells
   pub child_owed : (leaf : ℕ × Area) (before after : List Job) (d e : DiskModel) (old new : RunningCore) → LooksOver {T = Option LivePage} (λ s. live_page s parent ≡ Some above) (Ok None) (λ seen s. IsSome seen × (live_page s leaf.0 ≡ seen)) d old e new
       → LooksOver (λ s. live_page s parent ≡ Some above) (Ok (tt {0})) (SeesBelow leaf before after) d old e new
   child_owed leaf before after d e old new one =
-      over_ok {T = Option LivePage} IsAbove None (tt {0}) (λ seen s. IsSome seen × (live_page s leaf.0 ≡ seen)) (SeesBelow leaf before after) d e old new (λ s known said. absurd (nobody said.0)) one
+      over_ok {T = Option LivePage} IsAbove None (tt {0}) (λ seen s. IsSome seen × (live_page s leaf.0 ≡ seen)) (SeesBelow leaf before after) d e old new (λ s known said. absurd (false≢true said.0)) one
 
   pub leaves_begin : (leaves : List (ℕ × Area)) (jobs : List Job) (d : DiskModel) (c : RunningCore) → IsDisk d → MayTidy d c → LooksOver (λ s. live_page s parent ≡ Some above) (Ok (tt {0})) (SeesAll (take 0 leaves) jobs jobs) d c d c
   leaves_begin leaves jobs d c disk may = nothing_looked d c disk may (tt {0}) IsAbove (SeesAll (take 0 leaves) jobs jobs) (λ s known. finds_nothing s _ jobs (none_yet (IsTidyBelow s parent) leaves))
@@ -80,7 +78,7 @@ module _ (parent : ℕ) (above : LivePage) where
       → LooksOver (λ s. live_page s parent ≡ Some above) (Ok (tt {0})) (SeesAll (take (i + 1) leaves) first after) d old f new
   leaves_next leaves i leaf first before after d e f old mid new lt is one two =
       over_then IsAbove (tt {0}) (SeesAll (take i leaves) first before) IsAbove (Ok (tt {0})) (SeesBelow leaf before after) (SeesAll (take (i + 1) leaves) first after) d e f old mid new one (λ s known said. known) two
-      (λ s w known said more. finds_both s _ _ _ first before after (λ so_far here. all_next (IsTidyBelow s parent) leaves i leaf lt is so_far here) said more)
+      (λ s w known said more. finds_both s _ _ _ first before after (λ so_far here. All-take_more (IsTidyBelow s parent) leaves i leaf lt is so_far here) said more)
 
   -- So nothing is found at the page, where these are all its child leaves.
   pub leaves_all : (leaves : List (ℕ × Area)) (first after : List Job) (d e : DiskModel) (old new : RunningCore) → leaves ≡ placed_children above → LooksOver (λ s. live_page s parent ≡ Some above) (Ok (tt {0})) (SeesAll leaves first after) d old e new

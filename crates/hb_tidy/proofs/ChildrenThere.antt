@@ -1,12 +1,11 @@
 -- The page that a child leaf names: over a disk that tells it stands there.
 use Rattle.std.proofs.Common.{◌≡◌, ◌+◌, ℕ, Option, None, Some, IfSome, IsSome, Ok, refl, subst}
 use Rattle.hb_disk.specs.Model.{DiskModel}
-use Rattle.hb_lemmas.proofs.Options.{has_value, not_none}
+use Rattle.hb_lemmas.proofs.Options.{has_value, not_none, one_value}
 use Rattle.hb_space.specs.Boxes.{Area, Within}
 use Rattle.hb_frag.specs.declared.pages.LivePage.{LivePage}
 use Rattle.hb_ops.specs.Files.{FileState, live_page}
 use Rattle.hb_ops.specs.Settled.{HasChild}
-use Rattle.hb_sound.proofs.Facts.OneLevel.{same_page}
 use Rattle.hb_core.specs.Showing.{RunningCore}
 use Rattle.hb_tidy.proofs.Facts.Joined.{over_known, over_ok}
 use Rattle.hb_tidy.proofs.KnownFiles.{IsFileOf, over_file}
@@ -42,7 +41,7 @@ module _ (parent : ℕ) (above : LivePage) (name : ℕ) where
       (over_ok {U = Option LivePage} (λ s. IsFileOf old s × IsAbove s) (Some page) None Was IsThere d e old new
       (λ s known said.
       let there = known.0.sound.children parent above name area known.1 leaf in
-      let same = same_page s name there.0 page there.1 said in
+      let same = one_value (live_page s name) there.0 page there.1 said in
       absurd (elsewhere (subst (λ (p : LivePage). (p.level + 1 ≡ above.level) × Within area p.area) same (there.2, there.3))))
       (over_known (λ s. IsFileOf old s × IsAbove s) (Ok (Some page)) Was d e old new one))
 

@@ -4,7 +4,7 @@ use Rattle.std.specs.List.{Contains}
 use Rattle.std.proofs.lemmas.List.Elements.{All-contains}
 use Rattle.std.proofs.Math.Nat.{eq-or-lt_of_le}
 use Rattle.std.proofs.lemmas.Bool.{cases_lt}
-use Rattle.hb_lemmas.proofs.Options.{not_none}
+use Rattle.hb_lemmas.proofs.Options.{not_none, one_value}
 use Rattle.hb_space.specs.Boxes.{Area}
 use Rattle.hb_frag.specs.declared.leaves.Leaf.TheVariants.{Child}
 use Rattle.hb_frag.specs.declared.pages.LivePage.{LivePage}
@@ -14,7 +14,6 @@ use Rattle.hb_ops.specs.Files.{FileState, live_page}
 use Rattle.hb_ops.specs.Merging.{FitsMerge}
 use Rattle.hb_ops.specs.Settled.{HasChild, IsMergeable}
 use Rattle.hb_sound.proofs.Facts.MergedPages.{joins, named_box}
-use Rattle.hb_sound.proofs.Facts.OneLevel.{same_page}
 use Rattle.hb_core.specs.Showing.{RunningCore}
 use Rattle.hb_tidy.proofs.KnownFiles.{IsFileOf, none_there}
 use Rattle.hb_tidy.proofs.PlacedLeaves.{child_listed, named_over}
@@ -30,8 +29,8 @@ fits_known s parent keep gone above kept above_live kept_live may =
     let are = joins s parent keep gone may in (
       are.going,
       are.gone_live,
-      subst (λ (p : LivePage). FitsMerge s.meta parent keep gone p kept are.going) (same_page s parent are.above above are.above_live above_live)
-          (subst (λ (k : LivePage). FitsMerge s.meta parent keep gone are.above k are.going) (same_page s keep are.kept kept are.kept_live kept_live) are.fits),
+      subst (λ (p : LivePage). FitsMerge s.meta parent keep gone p kept are.going) (one_value (live_page s parent) are.above above are.above_live above_live)
+          (subst (λ (k : LivePage). FitsMerge s.meta parent keep gone are.above k are.going) (one_value (live_page s keep) are.kept kept are.kept_live kept_live) are.fits),
     )
 
 -- the page to go is one to which the page to keep gave a box
@@ -48,7 +47,7 @@ not_mergeable c s parent keep gone above kept going file above_live kept_live go
     let fits = fits_known s parent keep gone above kept above_live kept_live may in
     unfit
     (subst (λ (meta : Meta). FitsMerge meta parent keep gone above kept going) file.meta
-    (subst (λ (g : LivePage). FitsMerge s.meta parent keep gone above kept g) (same_page s gone fits.0 going fits.1 gone_live) fits.2))
+    (subst (λ (g : LivePage). FitsMerge s.meta parent keep gone above kept g) (one_value (live_page s gone) fits.0 going fits.1 gone_live) fits.2))
 
 -- ---- a page of a number
 
@@ -63,12 +62,12 @@ unused_is_tidy s id none = record {
 pub below_is_tidy : (s : FileState) (id : ℕ) (page : LivePage) → live_page s id ≡ Some page → All (IsTidyBelow s id) (placed_children page) → IsTidyAt s id
 below_is_tidy s id page live all = record {
   posted = λ name other named area other_live leaf named_live.
-      let same = same_page s id other page other_live live in
+      let same = one_value (live_page s id) other page other_live live in
       let listed = child_listed (leaves_of page.frag page.area) name area (subst (λ (p : LivePage). HasChild p name area) same leaf) in
       (All-contains (IsTidyBelow s id) (placed_children page) (name, area) all listed).posted named named_live;
   none = λ keep gone may.
       let are = joins s id keep gone may in
-      let same = same_page s id are.above page are.above_live live in
+      let same = one_value (live_page s id) are.above page are.above_live live in
       let over = named_over page keep (subst (λ (p : LivePage). Contains (leaves p.frag) (Child keep)) same are.fits.names_kept) in
       (All-contains (IsTidyBelow s id) (placed_children page) (keep, over.0) all over.1).none gone may;
 }

@@ -1,17 +1,18 @@
 -- The order of use where no page is pinned: a flush of the oldest dirty page makes a place, and a page that comes takes none away.
-use Rattle.std.proofs.Common.{◌≡◌, ℕ, ◌+◌, ◌-◌, ◌<◌, ◌==◌, ◌||◌, not, if◌then◌else◌, Bool, true, false, cond, is_some, List, [], ◌∷◌, All, Option, Some, None, option_map, refl, sym, ap, ◌∙◌, subst, arith}
+use Rattle.std.proofs.Common.{◌≡◌, ℕ, ◌+◌, ◌-◌, ◌<◌, ◌==◌, ◌||◌, not, if◌then◌else◌, Bool, true, false, cond, is_some, List, [], ◌∷◌, All, Some, None, refl, ap, ◌∙◌, subst, arith}
 use Rattle.std.specs.List.{find, count_by, position_or_len}
 use Rattle.std.specs.Set.{remove_key}
 use Rattle.std.proofs.lemmas.List.Elements.{All-append}
 use Rattle.std.proofs.lemmas.List.Sums.{sum_by-cons}
 use Rattle.std.proofs.lemmas.Map.Views.{All-remove_key}
 use Rattle.hb_lemmas.proofs.Lists.{All-alone, All-behind, All-front, All-one}
-use Rattle.hb_lemmas.proofs.Options.{some_of_map}
-use Rattle.hb_pool.proofs.Facts.Firsts.{All-changed, first_passes, first_there, first_within, none_counted}
-use Rattle.hb_pool.proofs.Facts.Pooled.{brought_counts, dirty_stays, dirty_there, in_place_pool, place_counts}
+use Rattle.hb_lemmas.proofs.Options.{none_mapped}
+use Rattle.hb_pool.proofs.Facts.Firsts.{All-changed, first_there, first_within, none_counted}
+use Rattle.hb_pool.proofs.Facts.Pooled.{brought_counts, dirty_stays, in_place_pool, place_counts}
 use Rattle.hb_pool.specs.Frames.{Use, clean, fresh, has_id, may_go, must_stay}
 use Rattle.hb_pool.specs.Pools.{IsPool, brought, frame_of, in_place, places, with_room}
 use Rattle.hb_pool.specs.declared.pools.TheConstants.{FRAMES}
+use Rattle.hb_store.proofs.Facts.Oldest.{oldest_frame}
 use Rattle.hb_store.specs.Calls.{use_fetched}
 use Rattle.hb_store.specs.Held.{oldest_dirty}
 
@@ -47,13 +48,9 @@ none_stay (u ∷ rest) free none = by u.dirty refl (none_stay rest (All-behind (
 no_frames : (n : ℕ) → n ≡ 0 → FRAMES - n ≡ 0 → ⊥
 no_frames n none full = omega (arith, none, full)
 
-nothing_found : (o : Option Use) → option_map (λ (u : Use). u.id) o ≡ None → o ≡ None
-nothing_found None none = refl
-nothing_found (Some u) none = cc (none)
-
 pub some_dirty : (uses : List Use) → AreUnpinned uses → places uses ≡ 0 → oldest_dirty uses ≡ None → ⊥
 some_dirty uses free full none =
-    no_frames (count_by must_stay uses) (none_stay uses free (none_counted (λ (u : Use). u.dirty) uses (nothing_found (find (λ (u : Use). u.dirty) uses) none))) full
+    no_frames (count_by must_stay uses) (none_stay uses free (none_counted (λ (u : Use). u.dirty) uses (none_mapped (λ (u : Use). u.id) (find (λ (u : Use). u.dirty) uses) none))) full
 
 -- ---- where the oldest dirty one is written there is one
 
@@ -62,18 +59,9 @@ pub record IsOldest (uses : List Use) (page : ℕ) : Type 0 where
   pub there : frame_of uses page ≡ Some frame
   pub dirty : frame.dirty ≡ true
 
-same_id : (x y : ℕ) → Some x ≡ Some y → x ≡ y
-same_id x y is = cc (is)
-
 pub oldest_there : (uses : List Use) (page : ℕ) → IsPool uses → oldest_dirty uses ≡ Some page → IsOldest uses page
 oldest_there uses page pool oldest =
-    let first = some_of_map (λ (u : Use). u.id) (find (λ (u : Use). u.dirty) uses) page oldest in
-    let same : first.0.id ≡ page = same_id first.0.id page (sym (ap (option_map (λ (u : Use). u.id)) first.1) ∙ oldest) in
-    record {
-      frame = first.0;
-      there = subst (λ (n : ℕ). frame_of uses n ≡ Some first.0) same (dirty_there uses first.0 pool first.1);
-      dirty = first_passes (λ (u : Use). u.dirty) uses first.0 first.1;
-    }
+    let first = oldest_frame uses pool page oldest in record { frame = first.0; there = first.1; dirty = first.2 }
 
 module _ (uses : List Use) (page : ℕ) (pool : IsPool uses) (free : AreUnpinned uses) (oldest : IsOldest uses page) where
   its_pins : oldest.frame.pins ≡ 0

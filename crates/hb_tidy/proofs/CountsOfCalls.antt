@@ -1,5 +1,6 @@
 -- What one call makes of the counts of a core.
 use Rattle.std.proofs.Common.{◌≡◌, inl, inr, ℕ, ◌+◌, ◌-◌, ◌^◌, ◌<◌, ◌≤◌, ◌==◌, Bool, true, false, cond, refl, sym, ap, subst, arith}
+use Rattle.std.proofs.Math.Nat.{le_refl}
 use Rattle.hb_layout.specs.declared.meta.Meta.{Meta}
 use Rattle.hb_ops.specs.declared.operations.Op.{Op}
 use Rattle.hb_ops.specs.declared.operations.Op.TheVariants as ops
@@ -15,11 +16,8 @@ use Rattle.hb_tidy.specs.Counted.{AreAtMost, CountsRise, LiveIsCounted}
 one_up : (n taken : ℕ) → n ≤ taken → taken ≤ 2 ^ 64 - 1 → n ≤ next_count n
 one_up n taken few last = omega (arith, few, last)
 
-as_many : (n : ℕ) → n ≤ n
-as_many n = omega arith
-
 done_same : (done : TidyCounts) → AreAtMost done done
-done_same done = record { grown = as_many done.grown; posted = as_many done.posted; split = as_many done.split; merged = as_many done.merged }
+done_same done = record { grown = le_refl done.grown; posted = le_refl done.posted; split = le_refl done.split; merged = le_refl done.merged }
 
 module _ (c : RunningCore) (within : CountsWithin c) where
   op_rises : (actor : ℕ) (op : Op) → AreAtMost c.done (counted actor op c.done)
@@ -28,11 +26,11 @@ module _ (c : RunningCore) (within : CountsWithin c) where
   op_rises actor (ops.Extract source fresh path cuts free_after) = by (actor == 17)
     where
       by : (b : Bool) → AreAtMost c.done (cond b (record c.done { split = next_count c.done.split }) c.done)
-      by true = record { grown = as_many c.done.grown; posted = as_many c.done.posted; split = one_up c.done.split c.taken within.split within.last; merged = as_many c.done.merged }
+      by true = record { grown = le_refl c.done.grown; posted = le_refl c.done.posted; split = one_up c.done.split c.taken within.split within.last; merged = le_refl c.done.merged }
       by false = done_same c.done
-  op_rises actor (ops.Post parent way inner area) = record { grown = as_many c.done.grown; posted = one_up c.done.posted c.taken within.posted within.last; split = as_many c.done.split; merged = as_many c.done.merged }
-  op_rises actor (ops.Merge parent keep gone) = record { grown = as_many c.done.grown; posted = as_many c.done.posted; split = as_many c.done.split; merged = one_up c.done.merged c.taken within.merged within.last }
-  op_rises actor (ops.Grow fresh free_after) = record { grown = one_up c.done.grown c.taken within.grown within.last; posted = as_many c.done.posted; split = as_many c.done.split; merged = as_many c.done.merged }
+  op_rises actor (ops.Post parent way inner area) = record { grown = le_refl c.done.grown; posted = one_up c.done.posted c.taken within.posted within.last; split = le_refl c.done.split; merged = le_refl c.done.merged }
+  op_rises actor (ops.Merge parent keep gone) = record { grown = le_refl c.done.grown; posted = le_refl c.done.posted; split = le_refl c.done.split; merged = one_up c.done.merged c.taken within.merged within.last }
+  op_rises actor (ops.Grow fresh free_after) = record { grown = one_up c.done.grown c.taken within.grown within.last; posted = le_refl c.done.posted; split = le_refl c.done.split; merged = le_refl c.done.merged }
 
   counted_rises : (actor : ℕ) (new : RunningCore) → CountsOp actor c new → AreAtMost c.done new.done
   counted_rises actor new (inl (none, done)) = subst (λ (x : TidyCounts). AreAtMost c.done x) (sym done) (done_same c.done)
@@ -76,4 +74,4 @@ stay_rises laws old new stay meta within =
     (live_same old new meta stay.done)
 
 pub same_rises : (c : RunningCore) → CountsWithin c → CountsRise c c
-same_rises c within = with_all c c (as_many c.taken) (done_same c.done) within refl (live_same c c refl refl)
+same_rises c within = with_all c c (le_refl c.taken) (done_same c.done) within refl (live_same c c refl refl)

@@ -1,5 +1,6 @@
 -- How a tidying ends.
 use Rattle.std.proofs.Common.{◌≡◌, ◌-◌, ◌^◌, ◌<◌, [], Option, None, Some, IfSome, Result, Ok, Err, refl, sym, ap, ◌∙◌, subst, arith}
+use Rattle.hb_lemmas.proofs.Options.{if_value}
 use Rattle.hb_disk.proofs.Facts.RunLaws.{OnlyReads-none}
 use Rattle.hb_disk.specs.Model.{DiskModel, IsDisk}
 use Rattle.hb_ops.specs.Files.{FileState}
@@ -66,15 +67,11 @@ clean_file : (o : Option FileState) (c : RunningCore) → c.jobs ≡ [] → IfSo
 clean_file None c none clean = tt
 clean_file (Some s) c none clean = clean none
 
-pub nothing_known : (o : Option FileState) → IfSome o NothingOf
-nothing_known None = tt
-nothing_known (Some s) = tt
-
 module _ (d e f : DiskModel) (old mid new : RunningCore) (counts : TidyCounts) (goes : Goes {T = Unit {0}} (Ok (tt {0})) d old e mid) (looks : LooksOver NothingOf (Ok (tt {0})) (Clean IsTidy new) e mid f new) (may : MayTidy f new) (none : new.jobs ≡ []) (is : new.done ≡ added old.done counts) where
   pub ends_well : (m : Machine) → MayStep d old m → Ended (Ok counts) d old f new m
   ends_well m shows =
       let first = goes.does m shows in
-      let last = looks.looks first.run.new (may_then d e m mid first.run) (nothing_known (file_now first.run.new)) in
+      let last = looks.looks first.run.new (may_then d e m mid first.run) (if_value (file_now first.run.new) NothingOf (λ s is. tt)) in
       let t = tidied_then d e f m mid new first.run last.does.run in
       let same = tidied_then_new d e f m mid new first.run last.does.run in
       let file = ap file_now same ∙ last.same.file in

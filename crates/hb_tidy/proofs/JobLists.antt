@@ -1,18 +1,11 @@
 -- Lists of jobs, and of leaves that were gone over.
-use Rattle.std.proofs.Common.{◌≡◌, ℕ, ◌+◌, ◌<◌, ◌≤◌, ◌==◌, true, false, List, [], ◌∷◌, ◌++◌, All, length, get_or, take, refl, sym, ap, ◌∙◌, subst, arith}
+use Rattle.std.proofs.Common.{◌≡◌, ℕ, ◌+◌, ◌≤◌, ◌==◌, true, false, List, [], ◌∷◌, ◌++◌, All, length, take, refl, sym, ap, ◌∙◌, arith}
 use Rattle.std.proofs.lemmas.Bool.{eqb-false, eqb-true}
-use Rattle.std.proofs.lemmas.List.{take_more}
-use Rattle.std.proofs.lemmas.List.Elements.{All-append, All-nil}
-use Rattle.hb_lemmas.proofs.Lists.{All-alone}
+use Rattle.std.proofs.lemmas.List.Elements.{All-nil}
 
 -- what holds of the first items of a list
 pub none_yet : {X : Type 0} (P : X → Type 0) (xs : List X) → All P (take 0 xs)
 none_yet P xs = All-nil P
-
-pub all_next : {X : Type 0} (P : X → Type 0) (xs : List X) (i : ℕ) (x : X) → i < length xs → x ≡ get_or xs i x → All P (take i xs) → P x → All P (take (i + 1) xs)
-all_next P xs i x lt is all here =
-    subst (λ (ys : List _). All P ys) (sym (take_more xs i x lt))
-    (All-append P (take i xs) (get_or xs i x ∷ []) all (All-alone P (get_or xs i x) (subst P is here)))
 
 -- a list of no items
 pub no_items : {X : Type 0} (xs : List X) (n : ℕ) → n ≡ length xs → (n == 0) ≡ true → xs ≡ []

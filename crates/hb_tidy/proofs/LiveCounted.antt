@@ -1,5 +1,6 @@
 -- How many pages are in use, by the operations that are counted.
 use Rattle.std.proofs.Common.{◌≡◌, ◌⊎◌, inl, inr, ℕ, ◌+◌, ◌-◌, ◌^◌, ◌<◌, ◌≤◌, Option, Some, None, refl, sym, ap, ◌∙◌, subst, arith}
+use Rattle.std.proofs.Math.Nat.{sub-add_cancel}
 use Rattle.hb_activity.specs.Classes.{Consolidators, class_of}
 use Rattle.hb_activity.specs.Deeds.{Deed}
 use Rattle.hb_activity.specs.declared.activities.Activity.{Activity}
@@ -42,9 +43,6 @@ MakesLive (ops.Post parent way inner area) meta live = live ≡ meta.live
 MakesLive (ops.Merge parent keep gone) meta live = live + 1 ≡ meta.live
 MakesLive (ops.Grow fresh free_after) meta live = live ≡ meta.live + 1
 
-less_one : (n : ℕ) → 1 ≤ n → (n - 1) + 1 ≡ n
-less_one n some = omega (arith, some)
-
 live_of_op : (op : Op) (meta : Meta) (first second third : Option LivePage) → IsAllowedOn op meta first second third → MakesLive op meta (change_of op meta first second third).meta.live
 live_of_op (ops.Put page rec) meta (Some one) second third allowed = refl
 live_of_op (ops.Put page rec) meta None second third allowed = absurd allowed
@@ -54,7 +52,7 @@ live_of_op (ops.Extract source fresh path cuts free_after) meta (Some one) secon
 live_of_op (ops.Extract source fresh path cuts free_after) meta None second third allowed = absurd allowed
 live_of_op (ops.Post parent way inner area) meta (Some one) second third allowed = refl
 live_of_op (ops.Post parent way inner area) meta None second third allowed = absurd allowed
-live_of_op (ops.Merge parent keep gone) meta (Some above) (Some kept) (Some going) allowed = less_one meta.live allowed.some_live
+live_of_op (ops.Merge parent keep gone) meta (Some above) (Some kept) (Some going) allowed = sub-add_cancel allowed.some_live
 live_of_op (ops.Merge parent keep gone) meta None second third allowed = absurd allowed
 live_of_op (ops.Merge parent keep gone) meta (Some above) None third allowed = absurd allowed
 live_of_op (ops.Merge parent keep gone) meta (Some above) (Some kept) None allowed = absurd allowed

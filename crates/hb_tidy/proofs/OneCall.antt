@@ -18,6 +18,7 @@ use Rattle.hb_store.specs.declared.stops.StopWhy.TheVariants as whys
 use Rattle.hb_store.specs.declared.stops.Why.{Why}
 use Rattle.hb_store.specs.declared.stops.Why.TheVariants.{Rule, Level, Extent}
 use Rattle.hb_core.proofs.Facts.LogAndStop.{size_stands}
+use Rattle.hb_core.proofs.Facts.RunFaults.{no_fault_in}
 use Rattle.hb_core.proofs.Facts.RunSteps.{run_begins, run_of_step, steps_so}
 use Rattle.hb_core.specs.Between.{CopiesPage, LetsWait, PageComes}
 use Rattle.hb_core.specs.BetweenLaws.{LookingKeepsAll, WaitingKeepsAll}
@@ -26,7 +27,7 @@ use Rattle.hb_core.specs.KeptFits.{JobFits}
 use Rattle.hb_core.specs.KeptMachine.{CoreKeeps, MachineKeeps}
 use Rattle.hb_core.specs.Machines.{Files, Machine, stopped_for}
 use Rattle.hb_core.specs.Performing.{given_by}
-use Rattle.hb_core.specs.Runs.{ChangesFile, HasReadFault, HasRun, HoldsSince, IsPrefixImage, RunningLaws}
+use Rattle.hb_core.specs.Runs.{ChangesFile, HasRun, HoldsSince, IsPrefixImage, RunningLaws}
 use Rattle.hb_core.specs.Showing.{RunningCore, ShowsMachine}
 use Rattle.hb_core.specs.Steps.{StepsInSequence, StepsTo}
 use Rattle.hb_core.specs.Touching.{Touches}
@@ -37,9 +38,6 @@ use Rattle.hb_core.specs.declared.outcomes.Outcome.{Outcome}
 use Rattle.hb_tidy.proofs.Workers.{IsWorker, LinesStand, is_actor, worker_stands}
 use Rattle.hb_tidy.specs.Looking.{FileStays}
 use Rattle.hb_tidy.specs.Tidying.{HasTidied, KeepsSet, file_now}
-
-pub no_fault_in : HasReadFault [] → ⊥
-no_fault_in (k, a, lt, at, is) = omega (arith, lt)
 
 -- ---- a step
 

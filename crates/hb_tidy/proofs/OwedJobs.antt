@@ -1,8 +1,8 @@
 -- Jobs that were added to a list, and that the file owes them.
 use Rattle.std.proofs.Common.{◌≡◌, inl, inr, ℕ, List, [], ◌∷◌, ◌++◌, All, Option, Some, Result, sym, ap, ◌∙◌, subst, append-nil, append_assoc}
 use Rattle.std.proofs.lemmas.List.Elements.{All-append, All-nil, All-weaker}
+use Rattle.std.proofs.lemmas.Result.{on_ok_weaker}
 use Rattle.hb_lemmas.proofs.Lists.{All-alone}
-use Rattle.hb_lemmas.proofs.Options.{on_ok_weaker}
 use Rattle.hb_activity.specs.declared.jobs.Job.{Job}
 use Rattle.hb_activity.specs.declared.jobs.JobKind.TheVariants.{Merge}
 use Rattle.hb_space.specs.Boxes.{Area}
@@ -54,7 +54,7 @@ fit_then old mid first before after same one two all =
 pub postings_weaker : {T : Type 0} (r : Result T TidyStop) (meta : Meta) (parent child : LivePage) (area : Area) (P Q : Type 0) (before after : List Job) → (P → Q) → AddsPostings r meta parent child area P before after → AddsPostings r meta parent child area Q before after
 postings_weaker r meta parent child area P Q before after imp one = record {
   added = one.added;
-  none = on_ok_weaker r (after ≡ [] → (before ≡ []) × P) (after ≡ [] → (before ≡ []) × Q) (λ none empty. let all = none empty in (all.0, imp all.1)) one.none;
+  none = on_ok_weaker {P = after ≡ [] → (before ≡ []) × P} {Q = after ≡ [] → (before ≡ []) × Q} r (λ none empty. let all = none empty in (all.0, imp all.1)) one.none;
   full = one.full;
 }
 

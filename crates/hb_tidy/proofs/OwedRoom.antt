@@ -1,5 +1,6 @@
 -- Room for a posting, by the plan for it; and three pages that fit, by the plan for two of them.
-use Rattle.std.proofs.Common.{◌≡◌, ◌↔◌, ℕ, ◌+◌, ◌<◌, ◌≤◌, Bool, IsTrue, List, Contains, Some, refl, sym, ap, ◌∙◌, arith}
+use Rattle.std.proofs.Common.{◌≡◌, ◌↔◌, ℕ, ◌+◌, ◌<◌, ◌≤◌, Bool, IsTrue, List, Contains, refl, sym, ap, ◌∙◌, arith}
+use Rattle.std.proofs.lemmas.Option.{same_Some}
 use Rattle.hb_space.specs.Boxes.{Area}
 use Rattle.hb_frag.specs.declared.leaves.Leaf.TheVariants.{Child, Sibling}
 use Rattle.hb_frag.specs.declared.pages.LivePage.{LivePage}
@@ -20,16 +21,13 @@ use Rattle.hb_tidy.specs.Placing.{StandsBelow}
 pub nothing_lacks : (parent child : LivePage) (p : List ℕ) (icap : ℕ) → OwesNothing parent child p → LacksRoom parent child p icap → ⊥
 nothing_lacks parent child p icap none lacks = none lacks.outer lacks.inner lacks.leaf lacks.area lacks.owed
 
-same_leaf : (x y : Placed) → Some x ≡ Some y → x ≡ y
-same_leaf x y is = cc (is)
-
 too_heavy : (w v icap : ℕ) → w ≡ v → w ≤ icap → icap < v → ⊥
 too_heavy w v icap same light heavy = omega (arith, same, light, heavy)
 
 pub posts_lacks : (parent child : LivePage) (p : List ℕ) (icap : ℕ) (at : List Side) (inner : ℕ) (area : Area) → Posts parent child p icap at inner area → LacksRoom parent child p icap → ⊥
 posts_lacks parent child p icap at inner area posts lacks =
-    let above : record { leaf = Child posts.outer; area = posts.leaf } ≡ record { leaf = Child lacks.outer; area = lacks.leaf } = same_leaf _ _ (sym posts.owed.above ∙ lacks.owed.above) in
-    let below : record { leaf = Sibling inner; area = area } ≡ record { leaf = Sibling lacks.inner; area = lacks.area } = same_leaf _ _ (sym posts.owed.below ∙ lacks.owed.below) in
+    let above : record { leaf = Child posts.outer; area = posts.leaf } ≡ record { leaf = Child lacks.outer; area = lacks.leaf } = same_Some _ _ (sym posts.owed.above ∙ lacks.owed.above) in
+    let below : record { leaf = Sibling inner; area = area } ≡ record { leaf = Sibling lacks.inner; area = lacks.area } = same_Some _ _ (sym posts.owed.below ∙ lacks.owed.below) in
     let outer : posts.outer ≡ lacks.outer = let child = ap (λ (x : Placed). x.leaf) above in cc (child) in
     let leaf : posts.leaf ≡ lacks.leaf = ap (λ (x : Placed). x.area) above in
     let inner_same : inner ≡ lacks.inner = let sibling = ap (λ (x : Placed). x.leaf) below in cc (sibling) in

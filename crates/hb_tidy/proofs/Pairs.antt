@@ -1,9 +1,10 @@
 -- Looks at the pages that one page gave boxes to, whether it may take one over.
-use Rattle.std.proofs.Common.{◌≡◌, ℕ, ◌+◌, ◌<◌, true, false, List, [], All, length, get_or, take, Option, None, Some, Ok}
+use Rattle.std.proofs.Common.{◌≡◌, ℕ, ◌+◌, ◌<◌, List, [], All, length, get_or, take, Option, None, Some, Ok}
 use Rattle.std.specs.List.{Contains}
 use Rattle.std.proofs.lemmas.List.Elements.{All-contains}
 use Rattle.hb_disk.specs.Model.{DiskModel, IsDisk}
 use Rattle.hb_lemmas.proofs.Options.{not_none}
+use Rattle.hb_lemmas.proofs.Lists.{All-take_more}
 use Rattle.hb_space.specs.Boxes.{Area}
 use Rattle.hb_activity.specs.declared.jobs.Job.{Job}
 use Rattle.hb_activity.specs.declared.jobs.JobKind.TheVariants.{Merge}
@@ -17,7 +18,7 @@ use Rattle.hb_core.specs.Showing.{RunningCore}
 use Rattle.hb_tidy.specs.Finding.{BothLive}
 use Rattle.hb_tidy.proofs.CallsMade.{nothing_looked}
 use Rattle.hb_tidy.proofs.CleanPages.{fits_known, gone_listed, not_mergeable}
-use Rattle.hb_tidy.proofs.JobLists.{all_next, none_yet}
+use Rattle.hb_tidy.proofs.JobLists.{none_yet}
 use Rattle.hb_tidy.proofs.Facts.Joined.{over_known, over_ok, over_then, over_weaker}
 use Rattle.hb_tidy.proofs.KnownFiles.{IsFileOf, over_file}
 use Rattle.hb_tidy.proofs.OwedJobs.{added_are, finds_both, finds_less, finds_nothing, merges_owed}
@@ -68,7 +69,7 @@ module _ (parent keep : ℕ) (above kept : LivePage) where
       → LooksOver (BothLive parent above keep kept) (Ok (tt {0})) (NoneGoing (take (i + 1) given) first after) d old f new
   pairs_next given i leaf first before after d e f old mid new lt is one two =
       over_then Both (tt {0}) (NoneGoing (take i given) first before) Both (Ok (tt {0})) (NotGoing leaf.0 before after) (NoneGoing (take (i + 1) given) first after) d e f old mid new one (λ s both said. both) two
-      (λ s w both said more. finds_both s _ _ _ first before after (λ so_far here. all_next (λ (leaf : ℕ × Area). ¬ (IsMergeable s parent keep leaf.0)) given i leaf lt is so_far here) said more)
+      (λ s w both said more. finds_both s _ _ _ first before after (λ so_far here. All-take_more (λ (leaf : ℕ × Area). ¬ (IsMergeable s parent keep leaf.0)) given i leaf lt is so_far here) said more)
 
   -- So no page may go, where these are all to which the page to keep gave a box.
   pub pairs_all : (before after : List Job) (d e : DiskModel) (old new : RunningCore) → LooksOver (BothLive parent above keep kept) (Ok (tt {0})) (NoneGoing (siblings_of kept) before after) d old e new
@@ -80,6 +81,3 @@ module _ (parent keep : ℕ) (above kept : LivePage) where
       let listed = gone_listed s parent keep gone above kept both.0 both.1 merge in
       All-contains (λ (leaf : ℕ × Area). ¬ (IsMergeable s parent keep leaf.0)) (siblings_of kept) (gone, listed.0) all listed.1 merge) said)
       one
-
-pub never_true : false ≡ true → ⊥
-never_true is = cc

@@ -5,7 +5,7 @@ use Rattle.std.proofs.lemmas.Bool.{cases_lt}
 use Rattle.hb_disk.specs.Model.{DiskModel, IsDisk}
 use Rattle.hb_activity.specs.declared.jobs.Job.{Job}
 use Rattle.hb_activity.specs.declared.jobs.JobKind.TheVariants.{Post}
-use Rattle.hb_lemmas.proofs.Options.{not_none}
+use Rattle.hb_lemmas.proofs.Options.{not_none, one_value}
 use Rattle.hb_frag.specs.declared.pages.LivePage.{LivePage}
 use Rattle.hb_frag.specs.Leaves.{siblings_of}
 use Rattle.hb_layout.specs.declared.limits.TheConstants.{HEIGHT_MAX}
@@ -13,7 +13,6 @@ use Rattle.hb_layout.specs.Limits.{IsLayout}
 use Rattle.hb_layout.specs.declared.meta.Meta.{Meta}
 use Rattle.hb_ops.specs.Files.{FileState, live_page}
 use Rattle.hb_ops.specs.Settled.{HasLoneRoot}
-use Rattle.hb_sound.proofs.Facts.OneLevel.{same_page}
 use Rattle.hb_core.specs.Showing.{RunningCore}
 use Rattle.hb_tidy.proofs.CallsMade.{nothing_looked}
 use Rattle.hb_tidy.proofs.CleanPages.{file_is_tidy, tidy_at_next, tidy_at_none, unused_is_tidy}
@@ -116,7 +115,7 @@ root_there more P d e f old mid new one two =
 pub root_alone : (root : LivePage) (d : DiskModel) (c : RunningCore) → IsDisk d → MayTidy d c → siblings_of root ≡ [] → LooksOver (λ s. live_page s s.meta.root ≡ Some root) (Ok (tt {0})) (Clean HasLoneRoot c) d c d c
 root_alone root d c disk may none =
     nothing_looked d c disk may (tt {0}) (λ s. live_page s s.meta.root ≡ Some root) (Clean HasLoneRoot c)
-    (λ s known empty page live. subst (λ (p : LivePage). siblings_of p ≡ []) (same_page s s.meta.root root page known live) none)
+    (λ s known empty page live. subst (λ (p : LivePage). siblings_of p ≡ []) (one_value (live_page s s.meta.root) root page known live) none)
 
 -- the greatest height, and a lesser one
 pub is_most : (meta : Meta) → IsLayout meta → HEIGHT_MAX ≤ meta.height → meta.height ≡ HEIGHT_MAX

@@ -4,6 +4,7 @@ use Rattle.std.specs.Prelude.{count_by}
 use Rattle.std.specs.List.{Contains}
 use Rattle.std.proofs.lemmas.List.Elements.{Contains-append_left, Contains-append_right, Contains-push}
 use Rattle.std.proofs.lemmas.List.Sums.{sum_by-cons}
+use Rattle.hb_lemmas.proofs.Lists.{no_member}
 use Rattle.hb_activity.proofs.Facts.QueueParts.{kind_so}
 use Rattle.hb_activity.specs.Classes.{class_of}
 use Rattle.hb_activity.specs.Queue.{AddsJob, is_of}
@@ -92,10 +93,7 @@ no_more_room n full none = omega (arith, full, none)
 
 -- Some job waits then.
 pub adds_some : (job : Job) (old new : List Job) → AddsJob job old new → new ≡ [] → ⊥
-adds_some job old new (inl (among, same)) none = never (subst (λ (jobs : List Job). Contains jobs job) (sym same ∙ none) among)
-  where
-    never : Contains [] job → ⊥
-    never (k, lt, is) = omega (arith, lt)
+adds_some job old new (inl (among, same)) none = no_member job (subst (λ (jobs : List Job). Contains jobs job) (sym same ∙ none) among)
 adds_some job old new (inr (inl (apart, room, is))) none =
     let long = length-append {A = Job} old (job ∷ []) in
     let empty = ap (λ (jobs : List Job). length jobs) (sym is ∙ none) in

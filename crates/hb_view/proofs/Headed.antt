@@ -15,6 +15,7 @@ use Rattle.hb_frag.specs.declared.pages.Page.TheVariants.{Live, Free}
 use Rattle.hb_frag.specs.Grammar.{point_bytes}
 use Rattle.hb_frag.specs.Trees.{Tree}
 use Rattle.hb_frag.specs.Leaves.{weight_of}
+use Rattle.hb_frag.proofs.Facts.Kinds.{same_free, same_live}
 use Rattle.hb_page_codec.specs.Exact.{AreBytes}
 use Rattle.hb_page_codec.specs.Reading.{number_at}
 use Rattle.hb_page_codec.specs.ReadingFields.{area_at}
@@ -51,20 +52,6 @@ pub record FreeBytes (bytes : List ℕ) (next : ℕ) : Type 0 where
 
 same_page : (p q : Page) (y z : List ℕ) → ◌≡◌ {A = Option (Page × List ℕ)} (Some (p, y)) (Some (q, z)) → p ≡ q
 same_page p q y z e = (some_pair_parts p q y z e).0
-
-same_live : (m page : LivePage) → Live m ≡ Live page → m ≡ page
-same_live m page e = ap live_or e
-  where
-    live_or : Page → LivePage
-    live_or (Live p) = p
-    live_or (Free next) = m
-
-same_free : (m n : ℕ) → Free m ≡ Free n → m ≡ n
-same_free m n e = ap next_or e
-  where
-    next_or : Page → ℕ
-    next_or (Live p) = 0
-    next_or (Free next) = next
 
 -- ---- in front of the tree
 

@@ -8,6 +8,8 @@ use Rattle.hb_view.specs.Lists.{records_there, list_or, after_there, after_or}
 use Rattle.hb_view.specs.Views.{FindsAmong}
 use Rattle.std.proofs.lemmas.Option.{same_Some}
 use Rattle.hb_lemmas.specs.Options.{◌>>=◌}
+use Rattle.hb_lemmas.proofs.Numbers.{one_left}
+use Rattle.hb_lemmas.proofs.Options.{not_there}
 
 -- the first of some records, and the others
 pub record IsFirst (k m : ℕ) (bytes : List ℕ) (r : Record) (after : List ℕ) : Type 0 where
@@ -28,9 +30,6 @@ is_first k m bytes r after there e =
     parted : (o : Option (List Record × List ℕ)) → IsSome (o >>= with_first) → IsSome o × (list_or (o >>= with_first) ≡ r ∷ list_or o) × (after_or (o >>= with_first) ≡ after_or o)
     parted None h = cc
     parted (Some x) h = (refl, refl, refl)
-
-one_left : (count i : ℕ) → i < count → count - i ≡ suc (count - (i + 1))
-one_left count i lt = omega arith
 
 -- what is found among those that are left is found among all
 abbrev pub FindsOn : List ℕ → List Record → List Record → Type 0
@@ -62,11 +61,7 @@ pub none_missing : (k count i : ℕ) (rest : List ℕ) → i < count → IsSome 
 unfolding many_at
 none_missing k count i rest lt there none =
     let next : records_at k (count - i) rest ≡ None = ap (λ n. records_at k n rest) (one_left count i lt) ∙ rw none refl in
-    never (records_at k (count - i) rest) there next
-  where
-    never : (o : Option (List Record × List ℕ)) → IsSome o → o ≡ None → ⊥
-    never None there none = cc
-    never (Some x) there none = cc
+    not_there (records_at k (count - i) rest) next there
 
 pub none_left : (k count i : ℕ) (rest p : List ℕ) (all : List Record) → count ≤ i → FindsOn p (records_there k (count - i) rest) all → FindsAmong p all None
 unfolding many_at

@@ -1,6 +1,8 @@
 -- What a walk over a tree of bytes says of its leaves: which of them names a page first, which stands at a place, and how
 -- many records the one at a point has.
-use Rattle.std.proofs.Common.{◌≡◌, ℕ, suc, ◌+◌, ◌<◌, ◌≤◌, ◌==◌, true, false, cond, List, [], ◌∷◌, ◌++◌, length, get_or, slice_get, Option, Some, None, refl, sym, ap, subst, ◌∙◌, length-append, arith}
+use Rattle.std.proofs.Common.{◌≡◌, ℕ, ◌+◌, ◌<◌, ◌≤◌, ◌==◌, true, false, cond, List, [], ◌∷◌, ◌++◌, length, get_or, slice_get, Option, Some, None, refl, sym, ap, subst, ◌∙◌, length-append, arith}
+use Rattle.std.proofs.Math.Nat.{suc-add}
+use Rattle.std.proofs.lemmas.Option.{none-some}
 use Rattle.hb_space.specs.Boxes.{Area, IsArea, Holds, side_below, side_from}
 use Rattle.hb_space.proofs.Facts.Boxes.{Holds-side_below, Holds-side_from}
 use Rattle.hb_frag.specs.declared.leaves.Leaf.{Leaf}
@@ -49,10 +51,7 @@ none_step : (name : ℕ) (leaf : Leaf) (area : Area) (rest front back : List Pla
 none_step name (Records records) area rest front back later is = later is
 none_step name (Sibling page) area rest front back later is = later is
 none_step name (Child page) area rest front back later is =
-    elim (page == name) as (λ b. cond b (Some area) (first_child_box name rest) ≡ None → cond b (Some area) (first_child_box name front) ≡ first_child_box name back) [ true ↦ λ here. absurd (something here) | false ↦ λ there. later there ] is
-  where
-    something : Some area ≡ None → ⊥
-    something is = cc
+    elim (page == name) as (λ b. cond b (Some area) (first_child_box name rest) ≡ None → cond b (Some area) (first_child_box name front) ≡ first_child_box name back) [ true ↦ λ here. absurd (none-some area (sym here)) | false ↦ λ there. later there ] is
 
 child_behind : (name : ℕ) (xs ys : List Placed) → first_child_box name xs ≡ None → first_child_box name (xs ++ ys) ≡ first_child_box name ys
 child_behind name [] ys is = refl
@@ -87,15 +86,9 @@ stops_right k bytes left right axis value area below above sought box r cut eb e
 
 -- ---- the one at a place
 
-none_more : (n : ℕ) → 0 + n ≡ n
-none_more n = omega arith
-
-one_more : (n m : ℕ) → suc n + m ≡ suc (n + m)
-one_more n m = omega arith
-
 get_behind : (xs ys : List Placed) (rest : ℕ) → slice_get (xs ++ ys) (length xs + rest) ≡ slice_get ys rest
-get_behind [] ys rest = ap (slice_get ys) (none_more rest)
-get_behind (x ∷ xs) ys rest = ap (slice_get (x ∷ xs ++ ys)) (one_more (length xs) rest) ∙ get_behind xs ys rest
+get_behind [] ys rest = let none : 0 + rest ≡ rest = omega arith in ap (slice_get ys) none
+get_behind (x ∷ xs) ys rest = ap (slice_get (x ∷ xs ++ ys)) (suc-add (length xs) rest) ∙ get_behind xs ys rest
 
 pub place_right : (k : ℕ) (bytes left right : List ℕ) (axis value : ℕ) (area below above : Area) (place behind : ℕ) (view : LeafView) (box : Area) → IsCutAt k bytes axis value left → right ≡ rest_there k left → below ≡ side_below area axis value → above ≡ side_from area axis value
     → place ≡ length (leaves_of (tree_there k left) below) + behind → ShowsLeaf (slice_get (leaves_of (tree_there k right) above) behind) view box → ShowsLeaf (slice_get (leaves_of (tree_there k bytes) area) place) view box

@@ -5,8 +5,7 @@ use Rattle.hb_space.specs.declared.records.Record.{Record}
 use Rattle.hb_frag.specs.Trees.{Tree}
 use Rattle.hb_view.specs.Corners.{corners_there}
 use Rattle.hb_view.specs.Lists.{records_there, after_there}
-use Rattle.hb_view.specs.Roots.{IsSeenAt, rest_there, sight_of, tree_there}
-use Rattle.hb_view.specs.declared.roots.Root.{Root}
+use Rattle.hb_view.specs.Roots.{rest_there, tree_there}
 use Rattle.hb_view.specs.declared.trees.Inside.{Inside}
 use Rattle.hb_view.specs.declared.trees.ListView.{ListView}
 use Rattle.hb_view.specs.declared.trees.TreeView.{TreeView}
@@ -17,10 +16,6 @@ tree_seen view = tree_there view.k.number view.bytes.now
 -- the bytes behind it
 abbrev pub rest_seen : TreeView → List ℕ
 rest_seen view = rest_there view.k.number view.bytes.now
-
--- its root
-abbrev pub HasRoot : TreeView → Root → Type 0
-HasRoot view root = IsSeenAt view.k.number view.bytes.now (sight_of root)
 
 abbrev pub area_seen : Inside → Area
 area_seen inside = corners_there inside.tree.k.number inside.corners.now

@@ -1,7 +1,6 @@
 //! The root of a tree, from the front of bytes.
 ghost use Rattle.hb_page_codec.specs.Reading.{ReadsAs};
-ghost use Rattle.hb_view.specs.Roots.{sight_of, root_at};
-ghost use Rattle.hb_view.specs.Seen.{HasRoot};
+ghost use Rattle.hb_view.specs.Roots.{IsSeenAt, sight_of, root_at};
 
 use crate::trees::TreeView;
 use hb_page_codec::{axis_of, count_of, u32_of, u64_of};
@@ -62,7 +61,7 @@ fn root_read(k: Attributes, bytes: &[u8]) -> Option<Root<'_>>
 
 /// The root of a tree.
 pub(crate) fn root_of<'a>(tree: &TreeView<'a>) -> Root<'a>
-    ensures { HasRoot tree.now result }
+    ensures { IsSeenAt tree.now.k.number tree.now.bytes.now (sight_of result) }
 {
     match root_read(tree.k, tree.bytes) {
         Some(root) => root,

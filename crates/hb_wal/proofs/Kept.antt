@@ -6,8 +6,8 @@ use Rattle.std.proofs.lemmas.Bool.{eqb-false}
 use Rattle.std.proofs.lemmas.List.{take_at, drop_at, take-append-drop, nil_from_length}
 use Rattle.std.proofs.lemmas.List.Elements.{All-nil, All-push}
 use Rattle.std.proofs.lemmas.List.Quantifiers.{all_pairs_push}
-use Rattle.byteorder.specs.Numbers.{length-bytes_high_first}
 use Rattle.hb_lemmas.specs.Numbers.{big_endian}
+use Rattle.hb_lemmas.proofs.Numbers.{length_big_endian}
 use Rattle.hb_space.specs.declared.form.TheConstants.{PENDING}
 use Rattle.hb_wal.specs.Frames.{frames, frame_bytes, frame_body}
 use Rattle.hb_wal.specs.declared.groups.Group.{Group}
@@ -46,26 +46,21 @@ module _ (w : Inside) (keeps : Keeps w) where
       ap (λ (l : List ℕ). waiting_of l (w.groups.items ++ g ∷ [])) after
       ∙ waiting-push (drop 4 w.bytes.items) group w.groups.items g rest long
 
--- four bytes spell a length
-pub four_bytes : (n : ℕ) → length (big_endian 4 n) ≡ 4
-unfolding big_endian
-four_bytes n = length-bytes_high_first 4 n
-
 -- The bytes when a group joins behind the others, with the length of all in front.
 module _ (w : Inside) (keeps : Keeps w) (group : List ℕ) (g : Group) (long : length group ≡ g.len) (len : ℕ) (bytes : List ℕ) (is : bytes ≡ (big_endian 4 len ++ drop 4 w.bytes.items) ++ group) where
   regrouped : bytes ≡ big_endian 4 len ++ (drop 4 w.bytes.items ++ group)
   regrouped = is ∙ append_assoc (big_endian 4 len) (drop 4 w.bytes.items) group
 
   pub joined_rest : drop 4 bytes ≡ drop 4 w.bytes.items ++ group
-  joined_rest = ap (λ (l : List ℕ). drop 4 l) regrouped ∙ drop_at (big_endian 4 len) (drop 4 w.bytes.items ++ group) 4 (four_bytes len)
+  joined_rest = ap (λ (l : List ℕ). drop 4 l) regrouped ∙ drop_at (big_endian 4 len) (drop 4 w.bytes.items ++ group) 4 (length_big_endian 4 len)
 
   pub joined_front : len ≡ total_of w.groups.items + g.len → take 4 bytes ≡ big_endian 4 (total_of (w.groups.items ++ g ∷ []))
   joined_front count =
-      ap (λ (l : List ℕ). take 4 l) regrouped ∙ take_at (big_endian 4 len) (drop 4 w.bytes.items ++ group) 4 (four_bytes len)
+      ap (λ (l : List ℕ). take 4 l) regrouped ∙ take_at (big_endian 4 len) (drop 4 w.bytes.items ++ group) 4 (length_big_endian 4 len)
       ∙ ap (big_endian 4) (count ∙ sym (total-push w.groups.items g))
 
   pub joined_length : length bytes ≡ 4 + total_of (w.groups.items ++ g ∷ [])
-  joined_length = omega (arith, ap (λ (l : List ℕ). length l) regrouped, length-append (big_endian 4 len) (drop 4 w.bytes.items ++ group), length-append (drop 4 w.bytes.items) group, four_bytes len, rest w keeps, long, total-push w.groups.items g)
+  joined_length = omega (arith, ap (λ (l : List ℕ). length l) regrouped, length-append (big_endian 4 len) (drop 4 w.bytes.items ++ group), length-append (drop 4 w.bytes.items) group, length_big_endian 4 len, rest w keeps, long, total-push w.groups.items g)
 
 -- whether a group waits, by their count
 pub some_groups : (n : ℕ) (groups : List Group) → n ≡ length groups → eqb n 0 ≡ false → groups ≢ []
@@ -80,7 +75,7 @@ body_is w keeps waits =
 
 -- a frame has five bytes more than its payload
 pub length-frame : (payload : List ℕ) → length (frames (payload ∷ [])) ≡ 5 + length payload
-length-frame payload = omega (arith, length-append (frame_bytes payload) [], length-append (big_endian 4 (length payload)) payload, four_bytes (length payload))
+length-frame payload = omega (arith, length-append (frame_bytes payload) [], length-append (big_endian 4 (length payload)) payload, length_big_endian 4 (length payload))
 
 -- a frame of them all fits the area
 pub frame_fits : (log : LogState) → log.groups ≢ [] → IsLog log → log.written + (5 + pending_bytes log.groups) ≤ log.len

@@ -1,5 +1,5 @@
 -- How a run ends that has counted its replies, of which a core was made.
-use Rattle.std.proofs.Common.{◌≡◌, ◌≢◌, inl, inr, ℕ, List, [], Option, Some, None, refl, sym, ap, subst, ◌∙◌, append-nil, arith}
+use Rattle.std.proofs.Common.{◌≡◌, ◌≢◌, inl, inr, ℕ, List, [], None, refl, sym, ap, subst, ◌∙◌, arith}
 use Rattle.hb_core.proofs.Facts.RunLines.{run_keeps_lines}
 use Rattle.hb_core.specs.Machines.{Machine}
 use Rattle.hb_core.specs.Runs.{HasReadFault}
@@ -10,7 +10,7 @@ use Rattle.hb_core.specs.declared.endings.End.TheVariants as ends
 use Rattle.hb_disk.specs.Model.{DiskModel}
 use Rattle.hb_drive.specs.Driving.{DrivesTo, EndsWith, run_text}
 use Rattle.hb_outside.specs.Calls.{SinkModel, SourceModel}
-use Rattle.hb_outside.specs.Streams.{Appends}
+use Rattle.hb_outside.proofs.Facts.PutLaws.{Appends-none}
 use Rattle.hb_set.specs.declared.scripts.Answered.{Answered}
 use Rattle.hb_store.specs.declared.stops.StopWhy.TheVariants as stops
 use Rattle.hbpi.proofs.CoreEnds.{RanCore}
@@ -31,14 +31,9 @@ use Rattle.hbpi.specs.declared.statuses.Status.TheVariants.{Done, Usage, BadText
 abbrev pub nowhere : SinkModel
 nowhere = record { written = None; faults = 0 }
 
--- a sink to which nothing was appended
-appends_none : (written : Option (List ℕ)) → Appends written written []
-appends_none None = refl
-appends_none (Some bytes) = ap (λ (b : List ℕ). Some b) (sym (append-nil bytes))
-
 -- a fault line alone
 alone_put : (before after : SinkModel) (status : Status) → GetsLine before after (fault_line status) → GetsOutput before after [] status
-alone_put before after status line = record { between = before; whole = appends_none before.written; same = refl; line = line }
+alone_put before after status line = record { between = before; whole = Appends-none before.written; same = refl; line = line }
 
 -- a line that was said, where it ended well
 said_ends : (state count : ℕ) (run : Run) (m : Machine) (text : List ℕ) (status : Status) → (by_counting state count).output run m text → m.stop ≡ None → ¬ (HasReadFault run.seen.answered)

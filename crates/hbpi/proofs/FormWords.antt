@@ -3,6 +3,7 @@ use Rattle.std.proofs.Common.{◌≡◌, ℕ, ◌<◌, ◌≤◌, inl, inr, cond
 use Rattle.std.specs.Prelude.{nat_le, codes}
 use Rattle.std.specs.Str.{bytes_eq}
 use Rattle.std.proofs.lemmas.Bool.Decides.{nat_tests}
+use Rattle.std.proofs.lemmas.Option.{same_Some}
 use Rattle.hbpi.specs.declared.forms.Form.{Form}
 use Rattle.hbpi.specs.declared.forms.Form.TheVariants.{Create, Dry, Run, Drive, Check, Map, Tidy, Gen, Work}
 use Rattle.hbpi.specs.Forms.{FitsLimits, number_said, attributes_of, line_count_of, create_of, dry_of, gen_of, work_of, alone, form_from, form_of}
@@ -39,20 +40,14 @@ gen_long (a ∷ b ∷ []) h = absurd (omega arith)
 gen_long (a ∷ b ∷ c ∷ []) h = absurd (omega arith)
 gen_long (a ∷ b ∷ c ∷ d ∷ ws) h = refl
 
-some_form : (f g : Form) → Some f ≡ Some g → f ≡ g
-some_form f g e = cc
-
 fits_as : (f g : Form) → FitsLimits f → Some f ≡ Some g → FitsLimits g
-fits_as f g fits e = subst FitsLimits (some_form f g e) fits
-
-some_number : (m n : ℕ) → Some m ≡ Some n → m ≡ n
-some_number m n e = cc
+fits_as f g fits e = subst FitsLimits (same_Some f g e) fits
 
 attributes_fit : (word : List ℕ) (k : ℕ) → attributes_of word ≡ Some k → (0 < k) × (k ≤ 4)
 attributes_fit word k e =
     let n = bind_some (number_said word) (λ k. cond (nat_le 1 k && nat_le k 4) (Some k) None) k e in
     elim (chosen (nat_le 1 n.0 && nat_le n.0 4) (Some n.0) None (Some k) n.2) [
-      | inl fits ↦ let same = some_number n.0 k fits.1 in (grind (arith, nat_tests, fits.0, same), grind (arith, nat_tests, fits.0, same))
+      | inl fits ↦ let same = same_Some n.0 k fits.1 in (grind (arith, nat_tests, fits.0, same), grind (arith, nat_tests, fits.0, same))
       | inr none ↦ cc (none.1)
     ]
 
@@ -60,7 +55,7 @@ lines_fit : (word : List ℕ) (n : ℕ) → line_count_of word ≡ Some n → n 
 lines_fit word n e =
     let m = bind_some (number_said word) (λ n. cond (nat_le n 1000000) (Some n) None) n e in
     elim (chosen (nat_le m.0 1000000) (Some m.0) None (Some n) m.2) [
-      | inl fits ↦ let same = some_number m.0 n fits.1 in grind (arith, nat_tests, fits.0, same)
+      | inl fits ↦ let same = same_Some m.0 n fits.1 in grind (arith, nat_tests, fits.0, same)
       | inr none ↦ cc (none.1)
     ]
 

@@ -3,7 +3,7 @@ use Rattle.std.proofs.Common.{◌≡◌, ◌≢◌, ◌≤◌, ℕ, List, [], �
 use Rattle.std.specs.Result.{IfErr, IsErrOf}
 use Rattle.hb_disk.specs.Model.{DiskModel}
 use Rattle.hb_layout.specs.declared.meta.Meta.{Meta}
-use Rattle.hb_lemmas.proofs.Options.{at_value}
+use Rattle.hb_lemmas.proofs.Options.{at_value, ok_not_err}
 use Rattle.hb_map.specs.Map.{head_text, map_text, pages_text}
 use Rattle.hb_map.specs.Mapping.{LooksThrough, OfSoundFile, PutsText, StopsRightly}
 use Rattle.hb_map.specs.declared.stops.MapStop.{MapStop}
@@ -31,9 +31,6 @@ of_disk (Err stops.NoMemory) is = cc (is)
 
 to_disk : {T : Type 0} (result : Result T MapStop) → IsErrOf result stops.ReadFault → map_status result ≡ DiskFault
 to_disk result is = ap map_status is
-
-not_err : {T : Type 0} (done : T) (stop : MapStop) → ◌≡◌ {A = Result T MapStop} (Ok done) (Err stop) → ⊥
-not_err done stop is = cc (is)
 
 other_err : {T : Type 0} (a b : MapStop) → a ≢ b → ◌≡◌ {A = Result T MapStop} (Err a) (Err b) → ⊥
 other_err a b other is = let same : a ≡ b = cc in other same
@@ -73,7 +70,7 @@ module _ (d m e : DiskModel) (old new : StoreHeld) (count : ℕ) (seen : Seen) (
 
   maps_with : (result : Result (Unit {0}) MapStop) (text : List ℕ) → PutMap result d m e old new count seen mid → PutsText text result seen.sink_before.written mid.written → MapsWith (map_status result) (run_of seen d e) old.state.meta text
   maps_with (Ok done) text facts puts =
-      subst (λ (k : SinkModel). Appends seen.sink_before.written k.written text × (k.faults ≡ seen.sink_before.faults)) (sym (facts.silent_done refl)) (puts.done, facts.counts.no_fault (not_err done stops.SinkFault))
+      subst (λ (k : SinkModel). Appends seen.sink_before.written k.written text × (k.faults ≡ seen.sink_before.faults)) (sym (facts.silent_done refl)) (puts.done, facts.counts.no_fault (ok_not_err done stops.SinkFault))
   maps_with (Err stops.SinkFault) text facts puts =
       subst (λ (k : SinkModel). AppendsFront seen.sink_before.written k.written text × Rose seen.sink_before.faults k.faults × (seen.sink_before.faults ≤ k.faults)) (sym (facts.silent refl)) (puts.tried, facts.counts.cause refl, facts.counts.later)
   maps_with (Err stops.ReadFault) text facts puts = (

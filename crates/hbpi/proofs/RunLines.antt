@@ -2,8 +2,6 @@
 use Rattle.std.proofs.Common.{◌≡◌, ℕ, ◌+◌, ◌<◌, ◌≤◌, List, [], ◌∷◌, ◌++◌, length, take, get_or, All, refl, sym, ap, subst, ◌∙◌, arith}
 use Rattle.std.specs.FinMap as finite
 use Rattle.std.proofs.lemmas.List.{take_more, take_all, length-take-le, map-append}
-use Rattle.std.proofs.lemmas.List.Elements.{All-append}
-use Rattle.hb_lemmas.proofs.Lists.{All-alone}
 use Rattle.hb_set.specs.declared.scripts.Line.{Line}
 use Rattle.hb_set.specs.declared.scripts.Answered.{Answered}
 use Rattle.hb_set.specs.declared.commands.Reply.{Reply}
@@ -17,10 +15,6 @@ use Rattle.hbpi.specs.Outcome.{IsDryRun}
 -- the lines up to one more
 pub one_line_more : (lines : List Line) (i : ℕ) (l : Line) → i < length lines → l ≡ get_or lines i l → take (i + 1) lines ≡ take i lines ++ l ∷ []
 one_line_more lines i l lt at = take_more lines i l lt ∙ ap (λ x. take i lines ++ x ∷ []) (sym at)
-
--- and what holds of each line so far, and of this one
-pub each_more : (P : Line → Type 0) (lines : List Line) (i : ℕ) (l : Line) → i < length lines → l ≡ get_or lines i l → P l → All P (take i lines) → All P (take (i + 1) lines)
-each_more P lines i l lt at holds each = subst (All P) (sym (one_line_more lines i l lt at)) (All-append P (take i lines) (l ∷ []) each (All-alone P l holds))
 
 pub each_line : (P : Line → Type 0) (lines : List Line) (i : ℕ) → length lines ≤ i → All P (take i lines) → All P lines
 each_line P lines i past each = subst (All P) (take_all i lines past) each

@@ -1,7 +1,10 @@
 -- Two lists of which each element of the one has its like in the other have as many that pass.
-use Rattle.std.proofs.Common.{◌≡◌, ◌⊎◌, inl, inr, ℕ, zero, suc, ◌+◌, Bool, false, cond, List, [], ◌∷◌, refl, sym, ap, ◌∙◌, subst, arith}
+use Rattle.std.proofs.Common.{◌≡◌, ◌⊎◌, inl, inr, ℕ, zero, ◌+◌, Bool, false, cond, List, [], ◌∷◌, refl, sym, ap, ◌∙◌, arith}
 use Rattle.std.specs.Prelude.{AllPairs, All, Contains, count_by}
+use Rattle.std.proofs.lemmas.List.Elements.{All-contains}
 use Rattle.std.proofs.lemmas.List.Sums.{sum_by-cons}
+use Rattle.hb_lemmas.proofs.Lists.{later_member, member_cases, no_member}
+use Rattle.hb_lemmas.proofs.Pairs.{pairs_first, pairs_rest}
 
 -- an element stands in a list
 abbrev pub In : {X : Type 0} → X → List X → Type 0
@@ -9,31 +12,27 @@ In x [] = ⊥
 In x (y ∷ ys) = (y ≡ x) ⊎ In x ys
 
 pub contained : {X : Type 0} (xs : List X) (x : X) → Contains xs x → In x xs
-contained [] x (k, lt, e) = absurd (omega (arith, lt))
-contained (y ∷ ys) x (zero, lt, e) = inl e
-contained (y ∷ ys) x (suc k, lt, e) = inr (contained ys x (k, omega (arith, lt), e))
+contained [] x there = no_member x there
+contained (y ∷ ys) x there = elim (member_cases y ys x there) [ inl is ↦ inl is | inr later ↦ inr (contained ys x later) ]
+
+get_in : {X : Type 0} (xs : List X) (x : X) → In x xs → Contains xs x
+get_in [] x none = absurd none
+get_in (y ∷ ys) x (inl is) = (zero, omega arith, is)
+get_in (y ∷ ys) x (inr later) = later_member y ys x (get_in ys x later)
 
 pub each_in : {X : Type 0} (P : X → Type 0) (xs : List X) → All P xs → (x : X) → In x xs → P x
-each_in P [] all x none = absurd none
-each_in P (y ∷ ys) all x (inl is) = subst P is (all zero y (omega arith))
-each_in P (y ∷ ys) all x (inr later) = each_in P ys (λ k d lt. all (suc k) d (omega (arith, lt))) x later
+each_in P xs all x there = All-contains P xs x all (get_in xs x there)
 
 -- no two have one key
 abbrev pub AreApart : {X : Type 0} → (X → ℕ) → List X → Type 0
 AreApart key [] = Unit {0}
 AreApart {X = X} key (x ∷ xs) = ((y : X) → In y xs → key x ≡ key y → ⊥) × AreApart key xs
 
-get_in : {X : Type 0} (xs : List X) (x : X) → In x xs → Contains xs x
-get_in [] x none = absurd none
-get_in (y ∷ ys) x (inl is) = (zero, omega arith, is)
-get_in (y ∷ ys) x (inr later) = let there = get_in ys x later in (suc there.0, omega (arith, there.1), there.2)
-
 pub apart : {X : Type 0} (key : X → ℕ) (xs : List X) → AllPairs (λ (x : X) (y : X). key x ≡ key y → ⊥) xs → AreApart key xs
 apart key [] pairs = tt
 apart {X = X} key (x ∷ xs) pairs = (
-  λ y later same. let there = get_in xs y later in
-      subst (λ (z : X). key x ≡ key z → ⊥) there.2 (pairs zero (suc there.0) y (omega arith) (omega (arith, there.1))) same,
-  apart key xs (λ i j d lt fits. pairs (suc i) (suc j) d (omega (arith, lt)) (omega (arith, fits))),
+  each_in (λ (y : X). key x ≡ key y → ⊥) xs (pairs_first (λ (x : X) (y : X). key x ≡ key y → ⊥) x xs pairs),
+  apart key xs (pairs_rest (λ (x : X) (y : X). key x ≡ key y → ⊥) x xs pairs),
 )
 
 -- two with one key are one

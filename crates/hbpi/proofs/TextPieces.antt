@@ -4,9 +4,6 @@ use Rattle.std.proofs.lemmas.List.{drop_all, take_all, length-take-le}
 use Rattle.hbpi.specs.Taking.{TakesPiece, TakesSoFar, IsAtEnd}
 use Rattle.hbpi.specs.Outcome.{IsTextOf, IsWholeText, greatest_text}
 
-some_same : {A : Type 0} (x y : A) → Some x ≡ Some y → x ≡ y
-some_same x y e = cc
-
 -- nothing was taken yet
 pub none_taken : (left : Option (List ℕ)) → TakesSoFar left left []
 none_taken None = refl

@@ -1,6 +1,7 @@
 -- That a row's operation is allowed: the parts that rows have in common.
 use Rattle.std.proofs.Common.{◌≡◌, ℕ, ◌<◌, List, [], All, Some, None, sym, ap, ◌∙◌, subst, arith}
 use Rattle.std.proofs.lemmas.List.Elements.{All-append, All-cons, All-head, All-nil}
+use Rattle.std.proofs.lemmas.Option.{none-some, same_Some}
 use Rattle.hb_frag.specs.declared.pages.LivePage.{LivePage}
 use Rattle.hb_layout.specs.declared.meta.Meta.{Meta}
 use Rattle.hb_frag.specs.Leaves.{Placed, leaf_at, leaves, leaves_of}
@@ -43,13 +44,7 @@ abbrev pub Shows : (Op → Type 0) → Deed → Type 0
 Shows P deed = (op : Op) → deed.op ≡ Some op → P op
 
 pub none_shown : (P : Op → Type 0) (deed other : Deed) → deed ≡ other → other.op ≡ None → Shows P deed
-none_shown P deed other is none op some = absurd (nothing op (sym none ∙ sym (ap (λ (d : Deed). d.op) is) ∙ some))
-  where
-    nothing : (op : Op) → None ≡ Some op → ⊥
-    nothing op is = cc
+none_shown P deed other is none op some = absurd (none-some op (sym none ∙ sym (ap (λ (d : Deed). d.op) is) ∙ some))
 
 pub one_shown : (P : Op → Type 0) (deed other : Deed) (op : Op) → deed ≡ other → other.op ≡ Some op → P op → Shows P deed
-one_shown P deed other op is some has another said = subst P (same op another (sym some ∙ sym (ap (λ (d : Deed). d.op) is) ∙ said)) has
-  where
-    same : (a b : Op) → Some a ≡ Some b → a ≡ b
-    same a b is = cc
+one_shown P deed other op is some has another said = subst P (same_Some op another (sym some ∙ sym (ap (λ (d : Deed). d.op) is) ∙ said)) has

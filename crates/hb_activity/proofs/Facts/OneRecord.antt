@@ -5,16 +5,14 @@ use Rattle.hb_lemmas.proofs.Lists.{place_member}
 use Rattle.hb_space.specs.declared.records.Record.{Record}
 use Rattle.hb_frag.specs.declared.leaves.Leaf.TheVariants.{Records}
 use Rattle.hb_frag.specs.declared.pages.LivePage.{LivePage}
-use Rattle.hb_ops.proofs.Facts.Opened.{first_has}
-use Rattle.hb_activity.proofs.Facts.OneLeaf.{records_of_leaf, same_leaf}
-use Rattle.hb_frag.specs.Leaves.{Placed, leaves_of}
+use Rattle.hb_ops.proofs.Facts.Opened.{first_has, same_records}
+use Rattle.hb_frag.specs.Leaves.{leaves_of}
 use Rattle.hb_frag.specs.Rules.{AreInOrder, IsInOrder}
 use Rattle.hb_ops.specs.Standing.{StandsThere}
 use Rattle.hb_frag.proofs.Facts.RisingRecords.{one_among, rises}
 
 pub one_stands : (page : LivePage) (p : List ℕ) (r s : Record) → AreInOrder page → StandsThere page p r → StandsThere page p s → r ≡ s
 one_stands page p r s order a b =
-    let same = same_leaf page p (record { leaf = Records a.records; area = a.area }) (record { leaf = Records b.records; area = b.area }) a.leaf b.leaf in
-    let records = records_of_leaf a.records b.records (ap (λ (x : Placed). x.leaf) same) in
+    let records = same_records page p a.records b.records a.area b.area a.leaf b.leaf in
     let up = (first_has IsInOrder p (leaves_of page.frag page.area) (record { leaf = Records b.records; area = b.area }) b.leaf order).rising in
     one_among b.records r s (rises b.records up) (place_member b.records a.place r (ap (λ (l : List Record). slice_get l a.place) (sym records) ∙ a.among)) (place_member b.records b.place s b.among) (a.key ∙ sym b.key)

@@ -9,7 +9,7 @@ use Rattle.hb_activity.specs.declared.jobs.Job.{Job}
 use Rattle.hb_activity.specs.declared.wanting.Wanted.{Wanted}
 use Rattle.hb_activity.specs.declared.activities.Activity.{Activity}
 use Rattle.hb_activity.specs.Deeds.{Deed}
-use Rattle.hb_core.proofs.Chains.BuiltSteps.{IsClearIn, IsUsedSo, MayBeIn, after, at_hand, came_in, came_is, is_none_not, live_in, memory_is, performed_using, pins_are, pins_in, wanted_in, wanted_is, way_free}
+use Rattle.hb_core.proofs.Chains.BuiltSteps.{IsClearIn, IsUsedSo, MayBeIn, after, at_hand, came_in, came_is, live_in, memory_is, performed_using, pins_are, pins_in, wanted_in, wanted_is, way_free}
 use Rattle.hb_core.proofs.Chains.OrderOfUse.{is_tied, tied}
 use Rattle.hb_core.proofs.Chains.WrittenTables.{entry_append, entry_at, entry_has, or_else, or_stays}
 use Rattle.hb_core.specs.Acting.{takes_number}
@@ -25,6 +25,7 @@ use Rattle.hb_ops.specs.Files.{page_of, last_of}
 use Rattle.hb_pool.specs.Frames.{Use}
 use Rattle.hb_store.specs.Held.{IsTied}
 use Rattle.hb_store.specs.States.{IsGoodPage, in_memory}
+use Rattle.std.proofs.lemmas.Bool.{false≢true}
 
 abbrev pub bringing : List (ℕ × Page) → Scene → Scene
 bringing more s = record s { pages = s.pages ++ more }
@@ -48,7 +49,7 @@ module _ (s : Scene) (may : ℕ → Type 0) (more : List (ℕ × Page)) (each : 
   came id page none there = entry_has (MayCome s may) more each id page (sym (lacks id none) ∙ there)
 
   only : (id : ℕ) (o : Option Page) → in_memory (store_of s) id ≡ None → in_memory (store_of (bringing more s)) id ≡ o → IsSome o → may id
-  only id None none is some = absurd (is_none_not some)
+  only id None none is some = absurd (false≢true some)
   only id (Some page) none is some = (came id page none is).needed
 
   stays_here : (id : ℕ) → IsSome (in_memory (store_of s) id) → in_memory (store_of (bringing more s)) id ≡ in_memory (store_of s) id

@@ -1,7 +1,7 @@
 -- A step is built: the machine after a deed, and that the deed is done so.
 use Rattle.std.proofs.Common.{◌≡◌, ◌≢◌, inl, inr, ℕ, nat_le, ◌<◌, ◌≤◌, ◌++◌, false, List, [], ◌∷◌, Contains, length, get_or, Option, Some, None, IfSome, IsSome, IsSomeAnd, IsTrue, refl, sym, ap, ◌∙◌, subst, arith, map}
 use mathlib.Core.Path.{fun_ext}
-use Rattle.std.proofs.lemmas.Bool.{leb-true}
+use Rattle.std.proofs.lemmas.Bool.{leb-true, false≢true}
 use Rattle.std.specs.Prelude.{◌||◌, ◌+◌, ◌*◌, ◌%◌}
 use Rattle.std.specs.FinMap as finite
 use Rattle.hb_space.specs.declared.form.TheConstants.{PAGE}
@@ -275,16 +275,13 @@ granted s actor (Some w) clear = grants actor w.page w.mode s.latched clear
 pub way_free : (s : Scene) (actor : ℕ) → IsClearIn s actor → HasWayFree (machine_of s) actor
 way_free s actor clear = subst (λ (o : Option Wanted). IfSome o (λ w. IsGrantable (finite.from_entries s.latched) actor w.page w.mode)) (sym (wanted_is s actor)) (granted s actor (wanted_in s actor) clear)
 
-pub is_none_not : IsSome {T = Page} None → ⊥
-is_none_not some = cc
-
 -- no page has to come
 pub nothing_comes : (m : Machine) (may : ℕ → Type 0) → Brings m may m.store
 nothing_comes m may = record {
   rest = refl;
   stays = λ id must there. refl;
   others = λ id there. inl refl;
-  only = λ id none there. absurd (is_none_not (subst (λ (o : Option Page). IsSome o) none there));
+  only = λ id none there. absurd (false≢true (subst (λ (o : Option Page). IsSome o) none there));
   good = λ id page there. inl there;
   told = λ id page none there. absurd (let no : ⊥ = cc in no);
 }

@@ -17,7 +17,7 @@ use Rattle.hb_activity.specs.declared.jobs.JobKind.TheVariants.{Merge}
 use Rattle.hb_activity.specs.declared.activities.Activity.TheVariants as at
 use Rattle.hb_consol.specs.ConsolidatorRows.{ends_merging}
 use Rattle.hb_core.specs.Asking.{box_of_child, box_of_place, box_of_sibling}
-use Rattle.hb_core.specs.ChainOfMerging.{MergeIsGivenUp, PairBecomesOne, going_page, joined_page, keeping_page, merges_at, merging_before, one_to_go, three_to_go, two_children, valued}
+use Rattle.hb_core.specs.ChainOfMerging.{MergeIsGivenUp, PairBecomesOne, going_page, joined_page, keeping_page, merges_at, merging_before, one_to_go, three_to_go, two_children}
 use Rattle.hb_poster.specs.Examples.{page_three as one_child}
 use Rattle.hb_core.specs.ChainOfPosting.{raised_meta}
 use Rattle.hb_core.specs.Performing.{ChangesQueue}
@@ -27,6 +27,7 @@ use Rattle.hb_core.specs.Steps.{TakesMerging}
 use Rattle.hb_core.proofs.Chains.BuiltSteps.{after_as_it_is, after, at_hand, has_room, live_is, none_waits, one_joins, only_looks, performed, queued, wanted_in, works}
 use Rattle.hb_lemmas.specs.Numbers.{big_endian}
 use Rattle.hb_sound.proofs.Facts.ExampleParts.{in_order, no_records, none_given}
+use Rattle.hb_sound.specs.LateFile.{late_record as valued}
 use Rattle.hb_space.proofs.Facts.Intervals.{cuts, held, interval, top, within}
 use Rattle.std.proofs.lemmas.List.Elements.{All-from_recursion}
 use Rattle.hb_frag.specs.declared.pages.Page.{Page}

@@ -18,7 +18,7 @@ use Rattle.hb_activity.specs.Deeds.{Deed, does, moves_to, takes_job}
 use Rattle.hb_activity.specs.Queue.{LeavesFirst}
 use Rattle.hb_core.proofs.Chains.BuiltSteps.{after_as_it_is, after, at_hand, has_room, live_in, live_is, none_waits, one_joins, only_looks, performed, wanted_in, works, queued}
 use Rattle.hb_core.specs.Asking.{asked_box, box_at}
-use Rattle.hb_core.specs.ChainOfPosting.{OnePosting, bare_root, posted_root, posting_before, raised_meta, split_page}
+use Rattle.hb_core.specs.ChainOfPosting.{OnePosting, posted_root, posting_before, raised_meta, split_page}
 use Rattle.hb_core.specs.ChainOfTwo.{lower_half, posts_at}
 use Rattle.hb_core.specs.Performing.{ChangesQueue}
 use Rattle.hb_core.specs.Rows.{IsAtHand, Row}
@@ -31,6 +31,7 @@ use Rattle.hb_ops.specs.Posting.{FitsPost}
 use Rattle.hb_ops.specs.Sound.{FitsFile}
 use Rattle.hb_lemmas.specs.Numbers.{big_endian}
 use Rattle.hb_poster.specs.PosterRows.{ends_job}
+use Rattle.hb_poster.specs.Examples.{page_three as bare_root}
 use Rattle.hb_sound.proofs.Facts.ExampleParts.{no_records}
 use Rattle.hb_space.proofs.Facts.Intervals.{interval, top, within}
 use Rattle.hb_space.specs.Boxes.{Meets, side_below, whole_area}

@@ -18,7 +18,6 @@ use Rattle.hb_activity.specs.declared.activities.Activity.TheVariants.{SessionSp
 use Rattle.hb_activity.specs.declared.jobs.Job.{Job}
 use Rattle.hb_core.specs.Asking.{box_at}
 use Rattle.hb_core.specs.ChainOfFreePage.{tight_meta}
-use Rattle.hb_core.specs.ChainOfMerging.{valued}
 use Rattle.hb_core.specs.ChainOfThreePages.{FullGoesOn, deletes_110, five_high, full_high, high_page, inserts_120, middle_page, postings_owed, three_before, low_page, other_high}
 use Rattle.hb_core.specs.ChainOfTwo.{posts_at}
 use Rattle.hb_core.specs.Rows.{Row}
@@ -30,6 +29,7 @@ use Rattle.hb_core.proofs.Chains.FlushedSteps.{forced_scene, forces}
 use Rattle.hb_core.proofs.Chains.ChainOfTwoParts.{differ}
 use Rattle.hb_point.specs.SessionRows.{taking}
 use Rattle.hb_sound.proofs.Facts.ExampleParts.{each_has, in_order}
+use Rattle.hb_sound.specs.LateFile.{late_record as valued}
 use Rattle.hb_space.proofs.Facts.Intervals.{held, interval, top}
 use Rattle.std.proofs.lemmas.List.Elements.{All-from_recursion}
 use Rattle.hb_frag.specs.declared.pages.Page.{Page}

@@ -7,9 +7,10 @@ use Rattle.std.specs.Cmp.{nat_cmp_total, unsigned_tied}
 use Rattle.std.specs.Ordering.{nat_cmp}
 use Rattle.std.specs.FinMap as map
 use Rattle.std.specs.FinSet as set
-use Rattle.std.proofs.lemmas.Bool.{cases_Bool, eqb-true, leb-true}
+use Rattle.std.proofs.lemmas.Bool.{cases_Bool, eqb-true, leb-true, not-true}
 use Rattle.std.proofs.lemmas.List.Elements.{All-from_recursion}
 use Rattle.std.proofs.lemmas.List.Sums.{sum_by-cons}
+use Rattle.hb_lemmas.proofs.Options.{none_so}
 use Rattle.hb_frag.specs.declared.pages.Page.{Page}
 use Rattle.hb_pool.specs.declared.pools.TheConstants.{FRAMES}
 use Rattle.hb_pool.specs.Frames.{Use, has_id}
@@ -121,10 +122,6 @@ have_pages pages (u ∷ rest) = is_some (entry_at u.id pages) && have_pages page
 abbrev pub is_tied : Scene → List Use → Bool
 is_tied s uses = (nat_le (length uses) FRAMES && (are_apart uses && are_pinned uses)) && ((are_marked s.dirty uses && have_frames s.dirty uses) && (pages_used s.pages uses && have_pages s.pages uses))
 
-not_true : (b : Bool) → not b ≡ true → b ≡ false
-not_true true e = absurd (let no : ⊥ = cc in no)
-not_true false e = refl
-
 both_ways : (b c : Bool) → (b ≡ true → c ≡ true) → (c ≡ true → b ≡ true) → b ≡ c
 both_ways true c on back = sym (on refl)
 both_ways false true on back = back refl
@@ -132,15 +129,11 @@ both_ways false false on back = refl
 
 same_is : (b c : Bool) → is_same b c ≡ true → b ≡ c
 same_is true c e = sym e
-same_is false c e = sym (not_true c e)
+same_is false c e = sym (not-true c e)
 
 frame_used : (uses : List Use) (q : ℕ) → is_some (frame_of uses q) ≡ is_used q uses
 frame_used [] q = refl
 frame_used (u ∷ rest) q = elim (u.id == q) as (λ b. is_some (cond b (Some u) (frame_of rest q)) ≡ (b || is_used q rest)) [ true ↦ refl | false ↦ frame_used rest q ]
-
-no_frame : (o : Option Use) → is_some o ≡ false → o ≡ None
-no_frame None e = refl
-no_frame (Some u) e = absurd (let no : ⊥ = cc in no)
 
 at_most_one : (uses : List Use) → are_apart uses ≡ true → (q : ℕ) → count_by (has_id q) uses ≤ 1
 at_most_one [] apart q = omega arith
@@ -148,8 +141,8 @@ at_most_one (u ∷ rest) apart q =
     let counted = sum_by-cons (λ (y : Use). cond (has_id q y) 1 0) u rest in
     elim (cases_Bool (u.id == q)) [
       | inl here ↦
-          let off : is_used q rest ≡ false = subst (λ (n : ℕ). is_used n rest ≡ false) (eqb-true u.id q here) (not_true (is_used u.id rest) (and_first (not (is_used u.id rest)) (are_apart rest) apart)) in
-          let none : count_by (has_id q) rest ≡ 0 = none_counted (has_id q) rest (no_frame (frame_of rest q) (frame_used rest q ∙ off)) in
+          let off : is_used q rest ≡ false = subst (λ (n : ℕ). is_used n rest ≡ false) (eqb-true u.id q here) (not-true (is_used u.id rest) (and_first (not (is_used u.id rest)) (are_apart rest) apart)) in
+          let none : count_by (has_id q) rest ≡ 0 = none_counted (has_id q) rest (none_so (frame_of rest q) (frame_used rest q ∙ off)) in
           let one : cond {A = ℕ} (has_id q u) 1 0 ≡ 1 = ap (λ (b : Bool). cond {A = ℕ} b 1 0) here in
           omega (arith, counted, none, one)
       | inr off ↦

@@ -10,6 +10,8 @@ use Rattle.std.specs.declared.cmp.Ordering.{Ordering}
 use Rattle.std.specs.declared.cmp.Ordering.TheVariants.{Less, Equal, Greater}
 use Rattle.std.specs.FinMap as map
 use Rattle.std.specs.FinSet as set
+use Rattle.std.proofs.lemmas.Option.{same_Some}
+use Rattle.hb_lemmas.proofs.Options.{not_both as none_so_and}
 use Rattle.hb_frag.specs.declared.pages.Page.{Page}
 use Rattle.hb_latch.specs.declared.modes.Mode.{Mode}
 use Rattle.hb_activity.specs.declared.holding.Latch.{Latch}
@@ -82,9 +84,6 @@ entry_answers q (e ∷ es) = ap (cond (q == e.0) (Some e.1)) (entry_answers q es
 pub entry_set : {X : Type 0} (k : ℕ) (x : X) (es : List (ℕ × X)) (q : ℕ) → entry_at q (set_entry k x es) ≡ cond (q == k) (Some x) (entry_at q es)
 entry_set k x es q = sym (entry_answers q (set_entry k x es)) ∙ answers_set Some None k x es q ∙ ap (cond (q == k) (Some x)) (entry_answers q es)
 
-some_same : {X : Type 0} (x y : X) → Some x ≡ Some y → x ≡ y
-some_same x y e = cc
-
 -- a list behind another one
 abbrev pub or_else : {X : Type 0} → Option X → Option X → Option X
 or_else None other = other
@@ -108,7 +107,7 @@ entry_has P [] each q x is = absurd (let no : ⊥ = cc in no)
 entry_has P (e ∷ es) each q x is = elim (cases_Bool (q == e.0)) [
   | inl here ↦
       let same : Some e.1 ≡ Some x = sym (ap (λ (b : Bool). cond b (Some e.1) (entry_at q es)) here) ∙ is in
-      subst P (λ i. (sym (eqb-true q e.0 here) i, some_same e.1 x same i)) each.0
+      subst P (λ i. (sym (eqb-true q e.0 here) i, same_Some e.1 x same i)) each.0
   | inr off ↦ entry_has P es each.1 q x (sym (ap (λ (b : Bool). cond b (Some e.1) (entry_at q es)) off) ∙ is)
 ]
 
@@ -306,11 +305,6 @@ grants actor page mode es clear other another =
     subst (λ (o : Option Mode). IfSome o (λ held. IsTrue (goes_beside mode held))) (sym (table_has es other page))
     (go_beside (is_another actor) page mode es clear other (another_is actor other another))
 
--- this one is, in a mode that conflicts, and none before it
-not_beside : (mode : Mode) (o : Option Mode) → IsSomeAnd o (λ held. ¬ (IsTrue (goes_beside mode held))) → IfSome o (λ held. IsTrue (goes_beside mode held)) → ⊥
-not_beside mode None some all = some
-not_beside mode (Some held) some all = some all
-
 pub hinders : (actor page : ℕ) (mode held : Mode) (by : ℕ) (es : LatchList) → by ≢ actor → mode_in by page es ≡ Some held → goes_beside mode held ≡ false
     → IsTrue (is_clear (is_earlier by actor) page mode es) → IsLeastInTheWay (map.from_entries es) actor page mode by
 hinders actor page mode held by es another has conflict clear = record {
@@ -318,7 +312,7 @@ hinders actor page mode held by es another has conflict clear = record {
     another = another;
     conflict = subst (λ (o : Option Mode). IsSomeAnd o (λ (h : Mode). ¬ (IsTrue (goes_beside mode h)))) (sym (table_has es by page ∙ has)) (λ on. let no : ⊥ = cc in no);
   };
-  least = λ earlier less keeps. not_beside mode (mode_in earlier page es)
+  least = λ earlier less keeps. none_so_and (mode_in earlier page es) (λ held. IsTrue (goes_beside mode held))
       (subst (λ (o : Option Mode). IsSomeAnd o (λ (h : Mode). ¬ (IsTrue (goes_beside mode h)))) (table_has es earlier page) keeps.conflict)
       (go_beside (is_earlier by actor) page mode es clear earlier (λ i. lt-ltb earlier by less i && another_is actor earlier keeps.another i));
 }

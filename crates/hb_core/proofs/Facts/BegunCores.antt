@@ -1,7 +1,6 @@
 -- A core that has taken no step shows a machine that has taken none.
 use Rattle.hb_core.proofs.Running.Begun.{begun_shows}
-use Rattle.std.proofs.Common.{◌≡◌, ℕ, ◌≤◌, List, [], All, Option, Some, None, IfSome, IsSome, is_some, refl, ap, subst, arith}
-use Rattle.std.proofs.lemmas.List.Elements.{All-nil}
+use Rattle.std.proofs.Common.{◌≡◌, ℕ, List, [], All, Option, Some, None, IfSome, IsSome, is_some, refl, ap, subst}
 use Rattle.std.specs.FinMap as map
 use Rattle.hb_activity.specs.Classes.{idle_of}
 use Rattle.hb_core.proofs.Machines.Beginnings.{beginning_keeps, beginning_keeps_all}
@@ -18,13 +17,12 @@ use Rattle.hb_frag.specs.declared.pages.Page.{Page}
 use Rattle.hb_latch.specs.Tables.{latch_cmp}
 use Rattle.hb_lemmas.proofs.Options.{has_value, not_none}
 use Rattle.hb_ops.specs.Files.{FileState}
-use Rattle.hb_pool.specs.Frames.{Use}
-use Rattle.hb_pool.specs.Pools.{IsPool}
 use Rattle.hb_ops.specs.Sound.{IsSound}
 use Rattle.hb_set.specs.Order.{AreRising}
 use Rattle.hb_set.specs.declared.scripts.Line.{Line}
 use Rattle.hb_store.specs.Keeps.{StoreKeeps}
 use Rattle.hb_store.specs.States.{IsNew, IsStanding, StoreState, in_memory}
+use Rattle.hb_pool.proofs.Facts.Pooled.{empty_pool}
 
 -- ---- the machine
 
@@ -60,10 +58,6 @@ pub record KeepsSound (d : DiskModel) (store : StoreState) (s : FileState) : Typ
   pub kept : StoreKeeps d store s []
   pub sound : IsSound s
 
--- no frame is used
-pool_of_none : IsPool {B = Unit {0}} []
-pool_of_none = record { few = omega arith; distinct = λ id. omega arith; pins = All-nil (λ (u : Use). u.pins ≤ 255) }
-
 module _ (lines : List Line) (store : StoreState) (may : MayBegin lines store) (files : Option Files) (clock : ℕ) where
   abbrev m : Machine
   m = begun_machine lines store files clock
@@ -83,7 +77,7 @@ module _ (lines : List Line) (store : StoreState) (may : MayBegin lines store) (
     no_order = refl;
     runs = refl;
     store = record { stands = may.stands; log = may.new.log_is; none_in_log = may.new.none_in_log; none_dirty = may.new.none_dirty; runs = may.new.running; pages = λ id page is. absurd (no_page id page is) };
-    tied = record { pool = pool_of_none; there = λ id. ap is_some (may.new.no_page id); marks = may.new.none_dirty };
+    tied = record { pool = empty_pool; there = λ id. ap is_some (may.new.no_page id); marks = may.new.none_dirty };
     unpinned = λ id. refl;
   }
 

@@ -34,15 +34,13 @@ use Rattle.hb_core.specs.declared.copies.CopyStop.{CopyStop}
 use Rattle.hb_core.specs.declared.copies.CopyStop.TheVariants as copies
 use Rattle.hb_core.specs.declared.outcomes.Outcome.TheVariants as outcomes
 use Rattle.hb_core.proofs.Machines.BesideSteps.{looking_goes_on, stopped_goes_on, waiting_goes_on}
-use Rattle.hb_core.proofs.Running.Brought.{fetch_brings, shows_store}
-use Rattle.hb_core.proofs.Running.Coming.{sound_where_told, told_or_not}
+use Rattle.hb_core.proofs.Running.Brought.{shows_store}
+use Rattle.hb_core.proofs.Running.Coming.{sound_where_told, told_or_not, looked_brings}
 use Rattle.hb_core.proofs.Running.FlushTaken.{flush_forced, flush_idled, flush_turned, flush_written}
 use Rattle.hb_core.proofs.Running.ForcedShows.{shown_stopped, with_held}
-use Rattle.hb_core.proofs.Running.Frames.{must_here}
 use Rattle.hb_core.proofs.Running.Touched.{flush_idled_then, moved_well, touched_forced, touched_home, touched_turn}
 use Rattle.hb_core.proofs.Running.WrittenShows.{home_none, home_some, home_turn}
 use Rattle.hb_core.specs.Between.{CopiesPage, FailsToLook, IsNotCopied, LetsWait, PageComes, said_of_flush, with_waiting}
-use Rattle.hb_core.specs.Fetching.{Brings, MustStay}
 use Rattle.hb_core.specs.Forcing.{Flushes}
 use Rattle.hb_core.specs.Keeps.{HasSoundFile}
 use Rattle.hb_core.specs.KeptFits.{JobFits}
@@ -94,15 +92,9 @@ module _ (d e : DiskModel) (c : RunningCore) (m : Machine) (id : ℕ) (step : Ma
 
   -- it came, or was there
   module _ (fetched : Fetched id c.store st) (used : uses ≡ use_fetched id c.uses) (stays : (q : ℕ) → StaysHere c.uses q → in_memory st q ≡ in_memory c.store q) (memory : IsMemory st) (tied : IsTied st uses) where
-    must_now : (q : ℕ) → MustStay m q → StaysHere c.uses q
-    must_now q must = subst (λ (l : List Use). StaysHere l q) step.shows.uses (must_here m m.store m.uses step.goes_on.kept refl step.goes_on.kept.frames_fit.tied (λ p. omega arith) q must)
-
-    brings_it : Brings m (λ other. other ≡ id) st
-    brings_it = fetch_brings m d e c failed st step.shows looks id memory fetched (λ q must. stays q (must_now q must) ∙ ap (λ (x : StoreState). in_memory x q) (sym step.shows.store))
-
     looks_there : PageComes id m looked
     looks_there = record {
-      brings = brings_it;
+      brings = looked_brings d e c m step failed st looks id memory fetched stays;
       there = fetched.there;
       tied = tied;
       uses = used ∙ ap (use_fetched id) (sym step.shows.uses);

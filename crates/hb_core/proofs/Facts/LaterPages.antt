@@ -18,17 +18,25 @@ use Rattle.hb_core.specs.Keeps.{HasSoundFile}
 use Rattle.hb_core.specs.Laws.{WalksGoFurther}
 use Rattle.hb_core.specs.Machines.{Files, Machine, current_file, live_here}
 use Rattle.hb_frag.specs.Leaves.{Placed, leaf_at}
-use Rattle.hb_ops.specs.Files.{FileState, if_live, live_page, last_of}
+use Rattle.hb_ops.specs.Files.{FileState, if_live, live_page, last_of, page_of}
 use Rattle.hb_ops.specs.Sound.{IsSound}
 use Rattle.hb_sound.specs.Laws.{StepsLeadFurther}
 use Rattle.hb_sound.specs.PointWalks.{LeadsOn}
-use Rattle.hb_store.specs.States.{in_memory}
+use Rattle.hb_store.specs.States.{in_memory, StoreState}
 use Rattle.hb_ops.proofs.Facts.PageNumberLaws.{live_so}
+use Rattle.hb_frag.specs.declared.pages.Page.{Page}
 
 -- the last file is sound
 pub last_sound : (s : FileState) (later : List FileState) → IsSound s → All IsSound later → IsSound (last_of s later)
 last_sound s [] sound all = sound
 last_sound s (next ∷ later) sound all = last_sound next later (All-head IsSound next later all) (All-tail IsSound next later all)
+
+pub file_sound : (m : Machine) (files : Files) → HasSoundFile m files → IsSound (current_file files)
+file_sound m files has = last_sound files.durable files.later has.durable has.later
+
+-- a page in use that is in memory is the file's, where the file shows what is in memory
+pub shown_live : (st : StoreState) (s : FileState) → ((id : ℕ) (page : Page) → in_memory st id ≡ Some page → page_of s id ≡ Some page) → (id : ℕ) (page : LivePage) → live_here st id ≡ Some page → live_page s id ≡ Some page
+shown_live st s shown id page live = ap if_live (shown id (Live page) (live_so (in_memory st id) page live))
 
 -- what is wanted is the page that the next of a walk is
 wants_next : (mode : ℕ → Mode) (next : Option (ℕ × ℕ)) (wanted : Wanted) → in_mode mode next ≡ Some wanted → (level : ℕ) × (next ≡ Some (wanted.page, level))
@@ -61,31 +69,25 @@ walk_leads s p held page meta mode wanted looked is live wants =
     names_it s p held page wanted.page next.0 (leaf_at page p) live refl onward
 
 module _ (further : StepsLeadFurther) (m : Machine) (files : Files) (held : ℕ) (page : LivePage) (p : List ℕ) (wanted : Wanted) (keeps : HasSoundFile m files) (live : live_here m.store held ≡ Some page) where
-  in_file : live_page (current_file files) held ≡ Some page
-  in_file = ap if_live (keeps.shown held (Live page) (live_so (in_memory m.store held) page live))
-
   leads : (activity : Activity) → walk_held activity ≡ Some held → walk_point activity ≡ Some p → wanted_of activity m.store.meta (looked_live m.store activity) ≡ Some wanted → LeadsOn (current_file files) p held wanted.page
   leads (at.SessionWalk line (Some id) rest found) holds goal wants =
       let same : id ≡ held = cc in
-      walk_leads (current_file files) p held page m.store.meta (session_mode line.command) wanted (live_here m.store held) live in_file
+      walk_leads (current_file files) p held page m.store.meta (session_mode line.command) wanted (live_here m.store held) live (shown_live m.store (current_file files) keeps.shown held page live)
       (subst (λ (n : ℕ). in_mode (session_mode line.command) (walk_next (Some p) (Some n) m.store.meta (live_here m.store n)) ≡ Some wanted) same
       (subst (λ (o : Option (List ℕ)). in_mode (session_mode line.command) (walk_next o (Some id) m.store.meta (live_here m.store id)) ≡ Some wanted) goal wants))
   leads (at.PosterWalk job (Some id)) holds goal wants =
       let same : id ≡ held = cc in
-      walk_leads (current_file files) p held page m.store.meta (job_mode job) wanted (live_here m.store held) live in_file
+      walk_leads (current_file files) p held page m.store.meta (job_mode job) wanted (live_here m.store held) live (shown_live m.store (current_file files) keeps.shown held page live)
       (subst (λ (n : ℕ). in_mode (job_mode job) (walk_next (Some p) (Some n) m.store.meta (live_here m.store n)) ≡ Some wanted) same
       (subst (λ (o : Option (List ℕ)). in_mode (job_mode job) (walk_next o (Some id) m.store.meta (live_here m.store id)) ≡ Some wanted) goal wants))
   leads (at.ConsolidatorWalk job (Some id)) holds goal wants =
       let same : id ≡ held = cc in
-      walk_leads (current_file files) p held page m.store.meta (job_mode job) wanted (live_here m.store held) live in_file
+      walk_leads (current_file files) p held page m.store.meta (job_mode job) wanted (live_here m.store held) live (shown_live m.store (current_file files) keeps.shown held page live)
       (subst (λ (n : ℕ). in_mode (job_mode job) (walk_next (Some p) (Some n) m.store.meta (live_here m.store n)) ≡ Some wanted) same
       (subst (λ (o : Option (List ℕ)). in_mode (job_mode job) (walk_next o (Some id) m.store.meta (live_here m.store id)) ≡ Some wanted) goal wants))
   leads activity holds goal wants = cc
 
 pub walks_go_further : StepsLeadFurther → WalksGoFurther
 walks_go_further further m files actor held page p wanted keeps point holds goal live wants =
-    let there = in_file further m files held page p wanted keeps live in
-    further (current_file files) p held wanted.page page (sound_now m files keeps) point there (leads further m files held page p wanted keeps live (m.activity actor) holds goal wants)
-  where
-    sound_now : (m : Machine) (files : Files) → HasSoundFile m files → IsSound (current_file files)
-    sound_now m files keeps = last_sound files.durable files.later keeps.durable keeps.later
+    let there = shown_live m.store (current_file files) keeps.shown held page live in
+    further (current_file files) p held wanted.page page (file_sound m files keeps) point there (leads further m files held page p wanted keeps live (m.activity actor) holds goal wants)

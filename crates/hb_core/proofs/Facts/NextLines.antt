@@ -1,11 +1,13 @@
 -- The line that a session takes next, where others are answered.
-use Rattle.std.proofs.Common.{◌≡◌, ◌≢◌, ◌⊎◌, inl, inr, ℕ, zero, suc, ◌<◌, ◌==◌, ◌&&◌, ◌||◌, not, Bool, true, false, cond, List, [], ◌∷◌, ◌++◌, Option, Some, None, refl, sym, ap, ◌∙◌, subst, arith, ne_eqb}
+use Rattle.std.proofs.Common.{◌≡◌, ◌≢◌, ◌⊎◌, inl, inr, ℕ, zero, suc, ◌<◌, ◌==◌, ◌&&◌, ◌||◌, not, Bool, true, false, cond, List, [], ◌∷◌, ◌++◌, Option, Some, refl, sym, ap, ◌∙◌, subst, arith, ne_eqb}
 use Rattle.std.specs.List.{Contains}
-use Rattle.std.proofs.lemmas.Bool.{eq-eqb, eqb-true, false≢true, and_parts}
+use Rattle.std.proofs.lemmas.Bool.{eq-eqb, eqb-true, false≢true, and_parts, not-true, not-false, or_left, or_right}
+use Rattle.std.proofs.lemmas.Option.{none-some}
 use Rattle.hb_set.specs.declared.scripts.Answered.{Answered}
 use Rattle.hb_set.specs.declared.scripts.Line.{Line}
 use Rattle.hb_point.specs.SessionRows.{is_answered, next_line}
 use Rattle.hb_set.specs.Order.{AreRising, IsAbove}
+use Rattle.hb_lemmas.proofs.Lists.{later_member}
 
 -- a line of the script, of the session, without an answer
 pub record IsNextOf (session : ℕ) (answered : List Answered) (lines : List Line) (line : Line) : Type 0 where
@@ -13,28 +15,18 @@ pub record IsNextOf (session : ℕ) (answered : List Answered) (lines : List Lin
   pub own : line.session ≡ session
   pub open_yet : is_answered line.number answered ≡ false
 
-not_true : (b : Bool) → not b ≡ true → b ≡ false
-not_true true h = absurd (false≢true h)
-not_true false h = refl
-
-behind : (lines : List Line) (first line : Line) → Contains lines line → Contains (first ∷ lines) line
-behind lines first line (k, lt, e) = (suc k, omega arith, e)
-
 taken : (session : ℕ) (answered : List Answered) (first line : Line) (rest : List Line) (b : Bool) → ((first.session == session) && not (is_answered first.number answered)) ≡ b
     → (next_line session answered rest ≡ Some line → IsNextOf session answered rest line) → cond b (Some first) (next_line session answered rest) ≡ Some line → IsNextOf session answered (first ∷ rest) line
 taken session answered first line rest true test later is =
     let same : first ≡ line = cc in
     let parts = and_parts (first.session == session) (not (is_answered first.number answered)) test in
-    subst (IsNextOf session answered (first ∷ rest)) same (record { among = (zero, omega arith, refl); own = eqb-true first.session session parts.0; open_yet = not_true (is_answered first.number answered) parts.1 })
+    subst (IsNextOf session answered (first ∷ rest)) same (record { among = (zero, omega arith, refl); own = eqb-true first.session session parts.0; open_yet = not-true (is_answered first.number answered) parts.1 })
 taken session answered first line rest false test later is =
     let next = later is in
-    record { among = behind rest first line next.among; own = next.own; open_yet = next.open_yet }
+    record { among = later_member first rest line next.among; own = next.own; open_yet = next.open_yet }
 
 pub next_is : (session : ℕ) (answered : List Answered) (lines : List Line) (line : Line) → next_line session answered lines ≡ Some line → IsNextOf session answered lines line
-next_is session answered [] line is = absurd (nothing line is)
-  where
-    nothing : (line : Line) → None ≡ Some line → ⊥
-    nothing line is = cc
+next_is session answered [] line is = absurd (none-some line is)
 next_is session answered (first ∷ rest) line is =
     taken session answered first line rest ((first.session == session) && not (is_answered first.number answered)) refl (next_is session answered rest line) is
 
@@ -60,10 +52,6 @@ same_line (x ∷ lines) a b rising (suc k, lt, e) (zero, gt, f) same =
 same_line (x ∷ lines) a b rising (suc k, lt, e) (suc j, gt, f) same = same_line lines a b rising.1 (k, omega (arith, lt), e) (j, omega (arith, gt), f) same
 
 -- an earlier line of the session was answered
-not_false : (b : Bool) → not b ≡ false → b ≡ true
-not_false true h = refl
-not_false false h = absurd (false≢true (sym h))
-
 second_false : (a b : Bool) → a ≡ true → (a && b) ≡ false → b ≡ false
 second_false true b h e = e
 second_false false b h e = absurd (false≢true h)
@@ -82,7 +70,7 @@ earlier_at session answered x line first rest true test rising (suc k, lt, e) ow
     absurd (omega (arith, less, above, line_number))
 earlier_at session answered x line first rest false test rising (zero, lt, e) own less later is =
     let mine : (x.session == session) ≡ true = eq-eqb x.session session (ap (λ (l : Line). l.session) e ∙ own) in
-    let done = not_false (is_answered x.number answered) (second_false (x.session == session) (not (is_answered x.number answered)) mine test) in
+    let done = not-false (is_answered x.number answered) (second_false (x.session == session) (not (is_answered x.number answered)) mine test) in
     subst (λ (l : Line). is_answered l.number answered ≡ true) e done
 earlier_at session answered x line first rest false test rising (suc k, lt, e) own less later is = later is (k, omega (arith, lt), e)
 
@@ -106,19 +94,11 @@ pub answered_more : (number : ℕ) (answered : List Answered) (a : Answered) →
 answered_more number [] a = or_false (a.line == number)
 answered_more number (x ∷ answered) a = ap (λ (b : Bool). (x.line == number) || b) (answered_more number answered a) ∙ or_assoc (x.line == number) (is_answered number answered) (a.line == number)
 
-true_or : (a b : Bool) → a ≡ true → (a || b) ≡ true
-true_or true b h = refl
-true_or false b h = absurd (false≢true h)
-
 pub still_answered : (number : ℕ) (answered : List Answered) (a : Answered) → is_answered number answered ≡ true → is_answered number (answered ++ a ∷ []) ≡ true
-still_answered number answered a is = answered_more number answered a ∙ true_or (is_answered number answered) (a.line == number) is
+still_answered number answered a is = answered_more number answered a ∙ or_left (is_answered number answered) (a.line == number) is
 
 pub now_answered : (number : ℕ) (answered : List Answered) (a : Answered) → a.line ≡ number → is_answered number (answered ++ a ∷ []) ≡ true
-now_answered number answered a is = answered_more number answered a ∙ by (is_answered number answered) (eq-eqb a.line number is)
-  where
-    by : (b : Bool) → (a.line == number) ≡ true → (b || (a.line == number)) ≡ true
-    by true e = refl
-    by false e = e
+now_answered number answered a is = answered_more number answered a ∙ or_right (is_answered number answered) (a.line == number) (eq-eqb a.line number is)
 
 -- what is answered was so before, or by this one
 pub answered_before : (number : ℕ) (answered : List Answered) (a : Answered) → is_answered number (answered ++ a ∷ []) ≡ true → (is_answered number answered ≡ true) ⊎ (a.line ≡ number)
@@ -143,4 +123,4 @@ next_stays session answered a (x ∷ lines) apart =
     and_later (x.session == session) (not (is_answered x.number (answered ++ a ∷ []))) (not (is_answered x.number answered))
     (λ own. ap not (unanswered_same x.number answered a (apart x (zero, omega arith, refl) (eqb-true x.session session own)))) in
     ap (λ (b : Bool). cond b (Some x) (next_line session (answered ++ a ∷ []) lines)) here
-    ∙ ap (λ (o : Option Line). cond ((x.session == session) && not (is_answered x.number answered)) (Some x) o) (next_stays session answered a lines (λ line there own. apart line (behind lines x line there) own))
+    ∙ ap (λ (o : Option Line). cond ((x.session == session) && not (is_answered x.number answered)) (Some x) o) (next_stays session answered a lines (λ line there own. apart line (later_member x lines line there) own))

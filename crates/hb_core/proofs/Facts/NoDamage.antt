@@ -38,16 +38,17 @@ use Rattle.hb_core.specs.OutcomeLaws.{AreOne, ComesToSame, IsTurnedAside}
 use Rattle.hb_core.specs.Performing.{Performs}
 use Rattle.hb_core.specs.Steps.{StepsTo, Works}
 use Rattle.hb_space.specs.Actors.{IsActor}
-use Rattle.hb_ops.specs.Files.{FileState, if_live, live_page, page_of}
+use Rattle.hb_ops.specs.Files.{FileState, if_live, page_of}
 use Rattle.hb_ops.specs.Sound.{IsSound}
 use Rattle.hb_space.specs.Boxes.{whole_area}
 use Rattle.hb_ops.proofs.Facts.FilePages.{page_in_range, sound_head, sound_room}
 use Rattle.hb_store.specs.Calls.{CommitsBringNone}
 use Rattle.hb_store.specs.Fetching.{IsNoPage}
-use Rattle.hb_store.specs.States.{StoreState, in_memory}
+use Rattle.hb_store.specs.States.{StoreState}
 use Rattle.hb_ops.proofs.Facts.PageNumberLaws.{live_so}
 use Rattle.hb_lemmas.proofs.Options.{some_of_map, some_of_then}
 use Rattle.hb_core.proofs.Memory.NeededPages.{needs_room}
+use Rattle.hb_core.proofs.Facts.LaterPages.{file_sound, shown_live}
 
 -- what a disk that tells reads is never damaged
 no_bad_read : (files : Files) (st : StoreState) (id : ℕ) (why : Why) → IsBadRead (Some files) st id why → ⊥
@@ -123,12 +124,6 @@ module _ (m : Machine) (files : Files) (actor : ℕ) (may : IsActor actor) (fit 
   same_k : fetched.meta.k ≡ m.store.meta.k
   same_k = ap (λ (s : StoreState). s.meta.k) brings.rest
 
-  sound_now : IsSound (current_file files)
-  sound_now = current_sound m.store files (files_hold m files has)
-
-  in_file : (id : ℕ) (page : LivePage) → live_here m.store id ≡ Some page → live_page (current_file files) id ≡ Some page
-  in_file id page live = ap if_live (has.shown id (Live page) (live_so (in_memory m.store id) page live))
-
   -- the page into which the step looks is there as it was
   still_asked : (id : ℕ) (page : LivePage) → live_here m.store id ≡ Some page → (now : LivePage) × (live_here fetched id ≡ Some now) → live_here fetched id ≡ Some page
   still_asked id page live (now, is) = both_there m needs fetched brings id page now (inl (told_files m files told)) live is
@@ -147,7 +142,7 @@ module _ (m : Machine) (files : Files) (actor : ℕ) (may : IsActor actor) (fit 
   at_parent : (job : Job) (parent : ℕ) (wanted : Wanted) (asked : AskedBox) (page : LivePage) → live_here m.store parent ≡ Some page
       → in_mode (λ level. Shared) (option_and_then (λ (page : LivePage). child_of page job.point) (live_here m.store parent)) ≡ Some wanted → box_at (live_here fetched parent) (Some job.point) ≡ Some asked → IsThere (current_file files) wanted asked
   at_parent job parent wanted asked page live wants asks =
-      named_there (current_file files) sound_now parent page (in_file parent page live) job.point wanted asked
+      named_there (current_file files) (file_sound m files has) parent page (shown_live m.store (current_file files) has.shown parent page live) job.point wanted asked
       (subst (λ (o : Option LivePage). in_mode (λ level. Shared) (option_and_then (λ (page : LivePage). child_of page job.point) o) ≡ Some wanted) live wants)
       (subst (λ (o : Option LivePage). box_at o (Some job.point) ≡ Some asked) (still_asked parent page live (some_of_then _ (live_here fetched parent) asked asks)) asks)
 
@@ -155,19 +150,19 @@ module _ (m : Machine) (files : Files) (actor : ℕ) (may : IsActor actor) (fit 
       → box_at (live_here fetched id) goal ≡ Some asked → IsThere (current_file files) wanted asked
   walk_on id goal mode wanted asked is wants asks =
       let one = walk_page id is in
-      held_there (current_file files) sound_now id one.0 (in_file id one.0 one.1) mode m.store.meta goal (live_here m.store id) (live_here fetched id) wanted asked one.1
+      held_there (current_file files) (file_sound m files has) id one.0 (shown_live m.store (current_file files) has.shown id one.0 one.1) mode m.store.meta goal (live_here m.store id) (live_here fetched id) wanted asked one.1
       (still_asked id one.0 one.1 (some_of_then _ (live_here fetched id) asked asks)) wants asks
 
   walk_begins : (goal : Option (List ℕ)) (mode : ℕ → Mode) (wanted : Wanted) (asked : AskedBox) → in_mode mode (walk_next goal None m.store.meta None) ≡ Some wanted
       → Some (record { area = whole_area fetched.meta.k; exact = true }) ≡ Some asked → IsThere (current_file files) wanted asked
-  walk_begins goal mode wanted asked wants asks = begun_there (current_file files) sound_now mode m.store.meta fetched.meta.k goal None wanted asked meta same_k wants asks
+  walk_begins goal mode wanted asked wants asks = begun_there (current_file files) (file_sound m files has) mode m.store.meta fetched.meta.k goal None wanted asked meta same_k wants asks
 
   -- a child of the parent that a consolidator holds
   by_child : (parent name : ℕ) (mode : Mode) (above : Option LivePage) (wanted : Wanted) (asked : AskedBox) → live_here m.store parent ≡ above → option_map (λ (page : LivePage). wanted_page name (page.level - 1) mode) above ≡ Some wanted
       → box_of_child (live_here fetched parent) name ≡ Some asked → IsThere (current_file files) wanted asked
   by_child parent name mode None wanted asked is wants asks = cc
   by_child parent name mode (Some page) wanted asked is wants asks =
-      named_child_there (current_file files) sound_now parent page (in_file parent page is) name mode (live_here fetched parent) wanted asked (still_asked parent page is (asked_then _ _ (live_here fetched parent) asked asks))
+      named_child_there (current_file files) (file_sound m files has) parent page (shown_live m.store (current_file files) has.shown parent page is) name mode (live_here fetched parent) wanted asked (still_asked parent page is (asked_then _ _ (live_here fetched parent) asked asks))
       (same_Some (wanted_page name (page.level - 1) mode) wanted wants) asks
 
   abbrev at_parent_of : Job → ℕ → ℕ → ℕ → Option ℕ → AtParent
@@ -184,14 +179,14 @@ module _ (m : Machine) (files : Files) (actor : ℕ) (may : IsActor actor) (fit 
   there (at.ConsolidatorWalk job None) wanted asked is wants asks = walk_begins (Some job.point) (job_mode job) wanted asked wants asks
   there (at.ConsolidatorWalk job (Some id)) wanted asked is wants asks = walk_on id (Some job.point) (job_mode job) wanted asked (ap walk_held is) wants asks
   there (at.PosterGrow job) wanted asked is wants asks =
-      root_there (current_file files) sound_now m.store.meta fetched.meta.k (m.store.meta.height - 1) Exclusive wanted asked meta same_k refl
+      root_there (current_file files) (file_sound m files has) m.store.meta fetched.meta.k (m.store.meta.height - 1) Exclusive wanted asked meta same_k refl
       (same_Some (wanted_page m.store.meta.root (m.store.meta.height - 1) Exclusive) wanted wants) (same_Some (record { area = whole_area fetched.meta.k; exact = true }) asked asks)
   there (at.PosterChild job parent) wanted asked is wants asks = let one = walks.parents actor job parent (inl is) in at_parent job parent wanted asked one.0 one.1 wants asks
   there (at.PosterAgain job parent) wanted asked is wants asks = let one = walks.parents actor job parent (inr (inr is)) in at_parent job parent wanted asked one.0 one.1 wants asks
   there (at.ConsolidatorScan job parent child) wanted asked is wants asks = by_child parent child Shared (live_here m.store parent) wanted asked refl wants asks
   there (at.ConsolidatorTry job parent keep gone leaf) wanted asked is wants asks =
       let one = (at_pair job parent keep gone (Some leaf) (ap merging_at is)).1 in
-      placed_sibling_there (current_file files) sound_now keep one.page (in_file keep one.page one.live) gone leaf Shared (live_here fetched keep) wanted asked (still_asked keep one.page one.live (some_of_then _ (live_here fetched keep) asked asks)) one.gave
+      placed_sibling_there (current_file files) (file_sound m files has) keep one.page (shown_live m.store (current_file files) has.shown keep one.page one.live) gone leaf Shared (live_here fetched keep) wanted asked (still_asked keep one.page one.live (some_of_then _ (live_here fetched keep) asked asks)) one.gave
       (same_Some (wanted_page gone one.page.level Shared) wanted (sym (ap (λ (o : Option LivePage). option_map (λ (page : LivePage). wanted_page gone page.level Shared) o) one.live) ∙ wants)) asks
   there (at.ConsolidatorKeep job parent keep gone) wanted asked is wants asks = by_child parent keep Exclusive (live_here m.store parent) wanted asked refl wants asks
   there (at.ConsolidatorDecide job parent keep gone) wanted asked is wants asks =
@@ -199,9 +194,9 @@ module _ (m : Machine) (files : Files) (actor : ℕ) (may : IsActor actor) (fit 
       let known : NamesKnown m.store (at_parent_of job parent keep gone None) = subst (λ (o : Option AtParent). IfSome o (NamesKnown m.store)) (ap merging_at is) place in
       let pair = known.pair in
       let above = named_with_box known.page keep (All-head (λ (id : ℕ). IsTrue (names_child known.page id)) keep (gone ∷ []) known.names) in
-      let kept = sound_now.children parent known.page keep above.0 (in_file parent known.page known.live) above.1 in
-      let same : kept.0 ≡ pair.page = same_Some kept.0 pair.page (sym kept.1 ∙ in_file keep pair.page pair.live) in
-      given_there (current_file files) sound_now keep pair.page (in_file keep pair.page pair.live) gone (known.page.level - 1) Exclusive (live_here fetched keep) wanted asked
+      let kept = (file_sound m files has).children parent known.page keep above.0 (shown_live m.store (current_file files) has.shown parent known.page known.live) above.1 in
+      let same : kept.0 ≡ pair.page = same_Some kept.0 pair.page (sym kept.1 ∙ shown_live m.store (current_file files) has.shown keep pair.page pair.live) in
+      given_there (current_file files) (file_sound m files has) keep pair.page (shown_live m.store (current_file files) has.shown keep pair.page pair.live) gone (known.page.level - 1) Exclusive (live_here fetched keep) wanted asked
       (still_asked keep pair.page pair.live (asked_then _ _ (live_here fetched keep) asked asks)) (let level : pair.page.level ≡ kept.0.level = ap (λ (p : LivePage). p.level) (sym same) in omega (arith, level, kept.2))
       (same_Some (wanted_page gone (known.page.level - 1) Exclusive) wanted (sym (ap (λ (o : Option LivePage). option_map (λ (page : LivePage). wanted_page gone (page.level - 1) Exclusive) o) known.live) ∙ wants)) asks
   there activity wanted asked is wants asks = cc

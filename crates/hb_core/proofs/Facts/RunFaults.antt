@@ -36,8 +36,11 @@ fault_in (x ∷ answers) given (suc k, a, lt, at, is) = by (fault_in answers giv
     by (inl (j, b, less, there, fault)) = inl (suc j, b, omega (arith, less), there, fault)
     by (inr later) = inr later
 
+pub no_fault_in : HasReadFault [] → ⊥
+no_fault_in (k, a, lt, at, is) = omega (arith, lt)
+
 in_none : (given : List Answered) → map without_clock given ≡ [] → HasReadFault given → ⊥
-in_none [] alike (k, a, lt, at, is) = omega (arith, lt)
+in_none [] alike has = no_fault_in has
 in_none (x ∷ given) alike has = cc alike
 
 in_one : (number : ℕ) (reply : Reply) (given : List Answered) → map without_clock given ≡ record { line = number; reply = reply; at = 0 } ∷ [] → HasReadFault given → reply ≡ replies.ReadFault

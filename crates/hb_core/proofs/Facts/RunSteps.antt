@@ -1,5 +1,5 @@
 -- A run of a core: it begins, and goes on by a step.
-use Rattle.std.proofs.Common.{◌≡◌, ℕ, ◌+◌, ◌≤◌, List, [], ◌∷◌, ◌++◌, All, Option, Some, None, IfSome, IsSome, refl, sym, ap, ◌∙◌, subst, arith, append-nil, append_assoc}
+use Rattle.std.proofs.Common.{◌≡◌, ℕ, ◌≤◌, List, [], ◌∷◌, ◌++◌, All, Option, Some, None, IfSome, IsSome, refl, sym, ap, ◌∙◌, subst, arith, append-nil, append_assoc}
 use Rattle.std.proofs.lemmas.List.{append_cancel_left}
 use Rattle.std.proofs.lemmas.List.Elements.{All-append, All-nil, All-weaker}
 use Rattle.hb_core.proofs.Facts.AnswersGiven.{answers_more, given_at, given_now}
@@ -8,7 +8,7 @@ use Rattle.hb_core.proofs.Facts.LogAndStop.{size_stands, step_tells}
 use Rattle.hb_core.proofs.Facts.PrefixImages.{prefix_less, settled_prefix}
 use Rattle.hb_core.proofs.Facts.RunCrashes.{crashes_more}
 use Rattle.hb_core.proofs.Facts.RunDisks.{file_more, file_touched, moments_touched, opens_kept, shows_them, told_before}
-use Rattle.hb_core.proofs.Facts.RunFaults.{faults_more}
+use Rattle.hb_core.proofs.Facts.RunFaults.{faults_more, no_fault_in}
 use Rattle.hb_core.proofs.Machines.GoingOn.{steps_go_on}
 use Rattle.hb_core.proofs.Memory.Moments.{answers_are_timed}
 use Rattle.hb_core.proofs.Orders.PendingKept.{grown_by}
@@ -17,7 +17,7 @@ use Rattle.hb_core.specs.Keeps.{HasSoundFile}
 use Rattle.hb_core.specs.KeptMachine.{CoreKeeps}
 use Rattle.hb_core.specs.Machines.{Files, Machine, settled_count}
 use Rattle.hb_core.specs.Performing.{given_by}
-use Rattle.hb_core.specs.Runs.{AreAnswers, ChangesFile, CountsFaults, CrashesTo, HasReadFault, HasRun, HoldsSince, IsPrefixImage, RunningLaws, left_count}
+use Rattle.hb_core.specs.Runs.{AreAnswers, ChangesFile, CountsFaults, CrashesTo, HasRun, HoldsSince, IsPrefixImage, RunningLaws, left_count}
 use Rattle.hb_core.specs.Showing.{RunningCore, ShowsMachine}
 use Rattle.hb_core.specs.Steps.{StepsInSequence, StepsTo}
 use Rattle.hb_core.specs.SteppingLaws.{IsBetween}
@@ -43,10 +43,7 @@ use Rattle.hb_store.specs.States.{StoreState}
 -- ---- it begins
 
 no_fault_yet : (d : DiskModel) (m : Machine) → CountsFaults d d [] m.stop m.stop
-no_fault_yet d m = record { reads = omega arith; writes = omega arith; read = λ has. absurd (nothing has); write = λ stop begun. absurd (begun stop) }
-  where
-    nothing : HasReadFault [] → ⊥
-    nothing (k, a, lt, at, is) = omega (arith, lt)
+no_fault_yet d m = record { reads = omega arith; writes = omega arith; read = λ has. absurd (no_fault_in has); write = λ stop begun. absurd (begun stop) }
 
 crashes_begin : RunningLaws → (d : DiskModel) (m : Machine) (c : RunningCore) → IsDisk d → ShowsMachine d c m → (n : RecordSet) (files : Files) → CoreKeeps n m files → CrashesTo n d d m []
 crashes_begin laws d m c disk shows n files keeps =
@@ -55,9 +52,6 @@ crashes_begin laws d m c disk shows n files keeps =
       each = Leaves-start d (IsPrefixImage n m.order 0) disk (λ bytes image. prefix_less n m.order 0 (settled_count m) bytes (omega arith) (settled_prefix laws.images n m files bytes keeps (opens_kept laws.opens d m.store files.durable files.later them.kept bytes image)));
       since = All-nil (HoldsSince d n m);
     }
-
-begun_left : (left : ℕ) → 0 + left ≡ left
-begun_left left = omega arith
 
 pub run_begins : RunningLaws → (d : DiskModel) (m : Machine) (c : RunningCore) → IsDisk d → MayStep d c m → HasRun d m [] [] d c
 run_begins laws d m c disk may = record {
@@ -69,7 +63,7 @@ run_begins laws d m c disk may = record {
   came = [];
   answered = sym (append-nil m.answered);
   answers_are = record { alike = refl; same = λ tells. refl };
-  left = begun_left (left_count m);
+  left = omega arith;
   faults = no_fault_yet d m;
   in_file = Becomes-read (ChangesFile m.store) d d disk (λ b bytes. Torn-itself 0 (file_size m.store.meta) b bytes) (Stays-same d);
   crashes = crashes_begin laws d m c disk may.shows;

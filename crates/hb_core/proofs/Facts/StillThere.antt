@@ -1,14 +1,12 @@
 -- What a step leaves of the pages that actors hold between two steps.
-use Rattle.std.proofs.Common.{◌≡◌, ◌≢◌, ◌⊎◌, inl, inr, ℕ, nat_le, Bool, cond, Option, Some, None, refl, sym, ap, ◌∙◌, subst, leb-true, leb-false, arith}
-use Rattle.std.proofs.lemmas.Bool.{cases_Bool, eq-eqb}
+use Rattle.std.proofs.Common.{◌≡◌, ◌≢◌, ◌⊎◌, inl, inr, ℕ, nat_le, Some, sym, ap, ◌∙◌, subst, leb-true, leb-false, arith}
+use Rattle.std.proofs.lemmas.Bool.{cases_Bool}
 use Rattle.hb_frag.specs.declared.pages.LivePage.{LivePage}
 use Rattle.hb_frag.specs.declared.pages.Page.TheVariants.{Live}
-use Rattle.hb_ops.specs.declared.operations.Op.{Op}
 use Rattle.hb_latch.specs.declared.modes.Mode.{Mode}
 use Rattle.hb_layout.specs.declared.meta.Meta.{Meta}
 use Rattle.hb_activity.specs.declared.activities.Activity.{Activity}
 use Rattle.hb_core.specs.declared.outcomes.Outcome.{Outcome}
-use Rattle.hb_activity.specs.Deeds.{Deed}
 use Rattle.hb_activity.specs.Walks.{walk_held}
 use Rattle.hb_core.proofs.Latches.LatchesStay.{walk_latched}
 use Rattle.hb_core.proofs.Memory.OwnPages.{held_pages_stay}
@@ -17,7 +15,7 @@ use Rattle.hb_core.specs.Fetching.{Brings}
 use Rattle.hb_core.specs.KeepingLaws.{NobodyElseComes, NobodyElseLatches}
 use Rattle.hb_core.specs.Keeps.{HoldsPagesOfFile, LatchesFit}
 use Rattle.hb_core.specs.Machines.{Machine, live_here}
-use Rattle.hb_core.specs.Performing.{MayDo, Performs, latches_held, mode_among}
+use Rattle.hb_core.specs.Performing.{latches_held, mode_among}
 use Rattle.hb_core.specs.Steps.{StepsTo}
 use Rattle.hb_latch.specs.Tables.{mode_at}
 use Rattle.hb_space.specs.Actors.{IsActor}
@@ -51,10 +49,6 @@ nobody_else_latches m actor outcome new may nobody step other page none =
     let another : other ≢ actor = λ same. none (subst IsActor (sym same) may) in
     (others_stay m actor outcome new step other another).1 page ∙ nobody other page none
 
--- where nothing is done, the memory is what was fetched
-pub nothing_done : (op : Option Op) (mark : ℕ) (fetched new : StoreState) → op ≡ None → MayDo op mark fetched new → new ≡ fetched
-nothing_done op mark fetched new none done = subst (λ (o : Option Op). MayDo o mark fetched new) none done
-
 module _ (m : Machine) (may : ℕ → Type 0) (fetched : StoreState) (inside : HoldsPagesOfFile m) (brings : Brings m may fetched) where
   -- what is in memory after a fetch keeps the rules that speak of a page alone
   pub fetched_good : (id : ℕ) (page : LivePage) → live_here fetched id ≡ Some page → IsGoodPage m.store.meta (Live page)
@@ -66,10 +60,6 @@ module _ (m : Machine) (may : ℕ → Type 0) (fetched : StoreState) (inside : H
   -- so it fits the file
   pub fetched_fits : (id : ℕ) (page : LivePage) → live_here fetched id ≡ Some page → FitsFile fetched.meta page
   fetched_fits id page live = subst (λ (meta : Meta). FitsFile meta page) (sym (ap (λ (s : StoreState). s.meta) brings.rest)) (fetched_good id page live).1
-
-module _ (m : Machine) (actor : ℕ) (fetched : StoreState) (deed : Deed) (outcome : Outcome) (new : Machine) (performs : Performs m fetched actor deed outcome new) where
-  pub own_next : new.activity actor ≡ deed.next
-  own_next = performs.activity actor ∙ ap (λ (b : Bool). cond b deed.next (m.activity actor)) (eq-eqb actor actor refl)
 
 module _ (m : Machine) (actor : ℕ) (outcome : Outcome) (new : Machine) (latches : IsActor actor) (fit : LatchesFit m) (inside : HoldsPagesOfFile m) (step : StepsTo m actor outcome new) (other : ℕ) (another : other ≢ actor) (may : IsActor other) where
   -- another actor stands where it stood

@@ -1,5 +1,5 @@
 -- Each step does a deed of its actor, or leaves all but the disk as it was.
-use Rattle.std.proofs.Common.{◌≡◌, ◌⊎◌, inl, inr, ℕ, ◌++◌, Bool, cond, List, [], ◌∷◌, Option, Some, None, IsSome, refl, sym, ap, ◌∙◌, subst, ne_eqb, append-nil}
+use Rattle.std.proofs.Common.{◌≡◌, ◌⊎◌, inl, inr, ℕ, ◌++◌, List, [], ◌∷◌, Option, Some, None, IsSome, refl, sym, ap, ◌∙◌, subst, append-nil, ◌≢◌}
 use Rattle.hb_frag.specs.declared.pages.Page.{Page}
 use Rattle.hb_activity.specs.declared.activities.Activity.{Activity}
 use Rattle.hb_core.specs.declared.outcomes.Outcome.{Outcome}
@@ -10,13 +10,26 @@ use Rattle.hb_core.specs.Acting.{MeetsBadPage}
 use Rattle.hb_core.specs.Fetching.{MustStay}
 use Rattle.hb_core.specs.Forcing.{BeginsTurn, FailsToWrite, ForcesAll, StaysSo, WritesOldest}
 use Rattle.hb_core.specs.Laws.{OrderGrows, OthersStay}
-use Rattle.hb_core.specs.Machines.{Machine, if_some}
-use Rattle.hb_core.specs.Performing.{Performs, given_by, outcome_of}
+use Rattle.hb_core.specs.Machines.{Machine, if_some, with_activity}
+use Rattle.hb_core.specs.Performing.{Performs, given_by, outcome_of, MayDo}
 use Rattle.hb_core.specs.Steps.{Works, StepsTo}
 use Rattle.hb_latch.specs.Tables.{LatchTable, mode_at}
 use Rattle.hb_set.specs.Order.{Entry}
 use Rattle.hb_store.specs.States.{StoreState, in_memory}
 use Rattle.hb_set.specs.declared.scripts.Answered.{Answered}
+use Rattle.hb_lemmas.proofs.Booleans.{at_itself, at_other}
+use Rattle.hb_ops.specs.declared.operations.Op.{Op}
+
+-- where nothing is done, the memory is what was fetched
+pub nothing_done : (op : Option Op) (mark : ℕ) (fetched new : StoreState) → op ≡ None → MayDo op mark fetched new → new ≡ fetched
+nothing_done op mark fetched new none done = subst (λ (o : Option Op). MayDo o mark fetched new) none done
+
+-- the actor of a deed stands where this leaves it, each other one where it stood
+pub own_next : (actor : ℕ) (next : Activity) (old new : ℕ → Activity) → ((other : ℕ) → new other ≡ with_activity actor next old other) → new actor ≡ next
+own_next actor next old new stood = stood actor ∙ at_itself actor next (old actor)
+
+pub others_next : (actor : ℕ) (next : Activity) (old new : ℕ → Activity) → ((other : ℕ) → new other ≡ with_activity actor next old other) → (other : ℕ) → other ≢ actor → new other ≡ old other
+others_next actor next old new stood other another = stood other ∙ at_other other actor next (old other) another
 
 -- All but the disk is as it was, and what has to stay in memory is there.
 pub record KeepsAllButDisk (m new : Machine) : Type 0 where
@@ -98,7 +111,7 @@ others_stay m actor outcome new step other another = by (way_of m actor outcome 
     by : HasWay m actor outcome new → (new.activity other ≡ m.activity other) × ((page : ℕ) → mode_at new.latches other page ≡ mode_at m.latches other page)
     by (inl keeps) = (ap (λ (all : ℕ → Activity). all other) keeps.activity, λ page. ap (λ (table : LatchTable). mode_at table other page) keeps.latches)
     by (inr (fetched, deed, performs)) = (
-      performs.activity other ∙ ap (λ (b : Bool). cond b deed.next (m.activity other)) (ne_eqb other actor another),
+      others_next actor deed.next m.activity new.activity performs.activity other another,
       λ page. performs.latches.others other page another,
     )
 

@@ -1,5 +1,6 @@
 -- The operation that a row says is allowed on the pages in memory.
 use Rattle.std.proofs.Common.{◌≡◌, inl, inr, ℕ, ◌<◌, ◌≤◌, cond, List, Option, Some, refl, sym, ap, ◌∙◌, subst, arith, IfSome, ◌⊎◌, ◌==◌, None}
+use Rattle.std.proofs.lemmas.Option.{same_Some}
 use Rattle.hb_space.specs.declared.records.Record.{Record}
 use Rattle.hb_frag.specs.declared.leaves.Leaf.TheVariants.{Child}
 use Rattle.hb_frag.specs.declared.pages.LivePage.{LivePage}
@@ -94,7 +95,7 @@ module _ (st : StoreState) (keeps : KeepsPages st) where
 pub half_held : (m : Machine) (actor : ℕ) → IsActor actor → LatchesFit m → (line : Line) (source fresh half : ℕ) → m.activity actor ≡ at.SessionPut line source fresh → (half ≡ source) ⊎ (half ≡ fresh) → MustStay m half
 half_held m actor one fit line source fresh half is (inl first) =
     subst (MustStay m) (sym first) (must_hold m actor source (at.SessionPut line source fresh) Exclusive one fit is (at_itself source (Some Exclusive) (cond (fresh == source) (Some Exclusive) None)))
-half_held m actor one fit line source fresh half is (inr second) = subst (MustStay m) (sym second) (must_hold m actor fresh (at.SessionPut line source fresh) Exclusive one fit is (second_mode source fresh))
+half_held m actor one fit line source fresh half is (inr second) = subst (MustStay m) (sym second) (must_hold m actor fresh (at.SessionPut line source fresh) Exclusive one fit is (second_mode source fresh Exclusive))
 
 module _ (m : Machine) (actor : ℕ) (may : ℕ → Type 0) (fetched : StoreState) (keeps : KeepsPages fetched) (one : IsActor actor) (fit : LatchesFit m) (room : KnowsRoom m) (brings : Brings m may fetched) where
   abbrev pub m' : Machine
@@ -115,13 +116,10 @@ module _ (m : Machine) (actor : ℕ) (may : ℕ → Type 0) (fetched : StoreStat
   lacking_weighs held p body page must lacks live =
       let rec : Record = record { key = p; body = body } in
       let now = stays_live held lacks.page page must lacks.live live in
-      let same : lacks.page ≡ page = same_page lacks.page page (sym now ∙ live) in
+      let same : lacks.page ≡ page = same_Some lacks.page page (sym now ∙ live) in
       let weighs = put_weighs lacks.page rec lacks.absent.records lacks.absent.area (live_good fetched keeps.framed held lacks.page now).1.well_cut lacks.absent.leaf in
       let full : 6 ≤ weight_of lacks.page.frag = omega (arith, weighs, lacks.full, dcap_same, keeps.limits.layout.dcap_least) in
       subst (λ (q : LivePage). 6 ≤ weight_of q.frag) same full
-    where
-      same_page : (a b : LivePage) → Some a ≡ Some b → a ≡ b
-      same_page a b is = cc
 
   shown_put : (line : Line) (source fresh half : ℕ) (rec : Record) (put_into : LivePage) → (half ≡ source) ⊎ (half ≡ fresh) → if_live (in_memory fetched half) ≡ Some put_into → m.activity actor ≡ at.SessionPut line source fresh → HalfHasRoom m actor (ops.Put half rec) → IsAllowedHere fetched (ops.Put half rec)
   shown_put line source fresh half rec put_into either put_live is has =

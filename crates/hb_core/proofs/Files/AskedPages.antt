@@ -3,6 +3,7 @@ use Rattle.std.proofs.Common.{◌≡◌, ℕ, zero, suc, ◌-◌, ◌==◌, IsTr
 use Rattle.std.specs.List.{Contains, slice_get}
 use Rattle.std.specs.Option.{option_and_then, option_map}
 use Rattle.std.proofs.lemmas.Bool.{eqb-true}
+use Rattle.hb_lemmas.proofs.Lists.{place_member, later_member}
 use Rattle.hb_frag.specs.declared.leaves.Leaf.{Leaf}
 use Rattle.hb_frag.specs.declared.leaves.Leaf.TheVariants.{Records, Child, Sibling}
 use Rattle.hb_frag.specs.declared.pages.LivePage.{LivePage}
@@ -119,18 +120,14 @@ module _ (s : FileState) (sound : IsSound s) where
 
 -- ---- the pages that a consolidator asks for
 
--- what stands behind a leaf stands behind it with that leaf in front
-behind : (y : Placed) (xs : List Placed) (x : Placed) → Contains xs x → Contains (y ∷ xs) x
-behind y xs x among = (suc among.0, omega (arith, among.1), among.2)
-
 first_child_at : (name : ℕ) (leaf : Leaf) (b : Area) (xs : List Placed) (area : Area) → (first_child_box name xs ≡ Some area → Contains xs (placed (Child name) area))
     → first_child_box name (placed leaf b ∷ xs) ≡ Some area → Contains (placed leaf b ∷ xs) (placed (Child name) area)
-first_child_at name (Records records) b xs area later e = behind (placed (Records records) b) xs (placed (Child name) area) (later e)
-first_child_at name (Sibling page) b xs area later e = behind (placed (Sibling page) b) xs (placed (Child name) area) (later e)
+first_child_at name (Records records) b xs area later e = later_member (placed (Records records) b) xs (placed (Child name) area) (later e)
+first_child_at name (Sibling page) b xs area later e = later_member (placed (Sibling page) b) xs (placed (Child name) area) (later e)
 first_child_at name (Child page) b xs area later e =
     elim (page == name) as (λ t. (page == name) ≡ t → cond t (Some b) (first_child_box name xs) ≡ Some area → Contains (placed (Child page) b ∷ xs) (placed (Child name) area)) [
       | true ↦ λ same e. (0, omega arith, let one : b ≡ area = cc in ap (λ (n : ℕ). placed (Child n) b) (eqb-true page name same) ∙ ap (placed (Child name)) one)
-      | false ↦ λ other e. behind (placed (Child page) b) xs (placed (Child name) area) (later e)
+      | false ↦ λ other e. later_member (placed (Child page) b) xs (placed (Child name) area) (later e)
     ] refl e
 
 -- the box of the first child leaf of a name is one of such a leaf
@@ -156,11 +153,6 @@ get_mapped (x ∷ xs) (suc place) leaf l is placed_is = get_mapped xs place leaf
 pub leaf_of_place : (t : Tree) (area : Area) (place : ℕ) (leaf : Leaf) (l : Placed) → slice_get (leaves t) place ≡ Some leaf → slice_get (leaves_of t area) place ≡ Some l → leaf ≡ l.leaf
 leaf_of_place t area place leaf l is placed_is = get_mapped (leaves_of t area) place leaf l (ap (λ (ls : List Leaf). slice_get ls place) (leaves_placed t area) ∙ is) placed_is
 
-pub place_among : {A : Type 0} (xs : List A) (place : ℕ) (x : A) → slice_get xs place ≡ Some x → Contains xs x
-place_among [] place x is = cc
-place_among (y ∷ xs) zero x is = (0, omega arith, let one : y ≡ x = cc in one)
-place_among (y ∷ xs) (suc place) x is = let more = place_among xs place x is in (suc more.0, omega (arith, more.1), more.2)
-
 module _ (s : FileState) (sound : IsSound s) (id : ℕ) (page : LivePage) (live : live_page s id ≡ Some page) where
   -- a child of the parent, by its first leaf from the left
   pub named_child_there : (name : ℕ) (mode : Mode) (then : Option LivePage) (wanted : Wanted) (asked : AskedBox) → then ≡ Some page → wanted_page name (page.level - 1) mode ≡ wanted → box_of_child then name ≡ Some asked → IsThere s wanted asked
@@ -179,7 +171,7 @@ module _ (s : FileState) (sound : IsSound s) (id : ℕ) (page : LivePage) (live 
       by None is asks = cc
       by (Some l) is asks =
           let leaf : Sibling name ≡ l.leaf = leaf_of_place page.frag page.area place (Sibling name) l there is in
-          let among : Contains (leaves_of page.frag page.area) (placed (Sibling name) l.area) = subst (λ (x : Leaf). Contains (leaves_of page.frag page.area) (placed x l.area)) (sym leaf) (place_among (leaves_of page.frag page.area) place l is) in
+          let among : Contains (leaves_of page.frag page.area) (placed (Sibling name) l.area) = subst (λ (x : Leaf). Contains (leaves_of page.frag page.area) (placed x l.area)) (sym leaf) (place_member (leaves_of page.frag page.area) place l is) in
           let box : box_by_leaf (placed (Sibling name) l.area) ≡ Some asked = subst (λ (x : Leaf). box_by_leaf (placed x l.area) ≡ Some asked) (sym leaf) asks in
           sibling_there s sound id page live name l.area mode wanted asked among wants (let same : record { area = l.area; exact = true } ≡ asked = cc in same)
 

@@ -1,7 +1,5 @@
 -- What is done in memory is done in the file: an operation is allowed and licensed there, and makes the same of it.
-use Rattle.std.proofs.Common.{◌≡◌, ◌≢◌, inl, inr, ℕ, ◌≤◌, List, length, get_or, All, Option, Some, None, IsSome, refl, sym, ap, ◌∙◌, subst, arith}
-use Rattle.std.proofs.lemmas.Bool.{cases_lt}
-use Rattle.std.proofs.lemmas.List.{get_or_past}
+use Rattle.std.proofs.Common.{◌≡◌, ◌≢◌, ℕ, List, length, get_or, All, Option, Some, None, IsSome, refl, sym, ap, ◌∙◌, subst, arith}
 use Rattle.hb_frag.specs.declared.leaves.Leaf.TheVariants.{Child}
 use Rattle.hb_frag.specs.declared.pages.LivePage.{LivePage}
 use Rattle.hb_frag.specs.declared.pages.Page.{Page}
@@ -30,8 +28,8 @@ use Rattle.hb_store.specs.Fetching.{IsNext}
 use Rattle.hb_ops.specs.SetPages.{set_pages}
 use Rattle.hb_store.specs.States.{StoreState, in_memory}
 use Rattle.hb_terms.proofs.Facts.Owing.{planned_may_be, way_ends_there}
-use Rattle.hb_lemmas.proofs.Options.{some_value}
-use Rattle.hb_ops.proofs.Facts.AllowedOps.{reads_some}
+use Rattle.hb_lemmas.proofs.Options.{some_value, none_unless}
+use Rattle.hb_ops.proofs.Facts.AllowedOps.{reads_some, reads_alike}
 use Rattle.hb_ops.proofs.Facts.SetPages.{set_both}
 
 -- What a store has of a sound file: its words about itself, and its pages in frames.
@@ -41,25 +39,15 @@ pub record ShowsFile (st : StoreState) (s : FileState) : Type 0 where
   pub shown : (id : ℕ) (page : Page) → (in_memory st) id ≡ Some page → page_of s id ≡ Some page
 
 module _ (st : StoreState) (s : FileState) (keeps : KeepsPages st) (file : ShowsFile st s) (op : Op) (allowed : IsAllowedHere st op) where
-  none_at_zero : (o : Option Page) → ((page : Page) → o ≡ Some page → 1 ≤ 0) → o ≡ None
-  none_at_zero None h = refl
-  none_at_zero (Some page) h = absurd (omega (arith, h page refl))
-
   no_frame : (in_memory st) 0 ≡ None
-  no_frame = none_at_zero (in_memory st 0) (λ page e. (keeps.framed 0 page e).0)
+  no_frame = none_unless (in_memory st 0) (λ page e. let some = (keeps.framed 0 page e).0 in omega (arith, some))
 
   -- what the operation reads in memory is what it reads in the file
   read_file : (place : ℕ) → read_here st op place ≡ nth_read s op place
-  read_file place = elim (cases_lt place (length (reads_of op))) [
-    | inl lt ↦
-        let there = reads_some op st.meta (in_memory st) allowed place 0 lt in
-        let q = get_or (reads_of op) place 0 in
-        let found = some_value (in_memory st q) there in
-        ap if_live (found.1 ∙ sym (file.shown q found.0 found.1))
-    | inr le ↦
-        let past : get_or (reads_of op) place 0 ≡ 0 = get_or_past (reads_of op) place 0 le in
-        subst (λ (n : ℕ). if_live (in_memory st n) ≡ if_live (page_of s n)) (sym past) (ap if_live no_frame ∙ ap if_live (sym (page_at-zero s.pages)))
-  ]
+  read_file = reads_alike op (in_memory st) (page_of s) no_frame (page_at-zero s.pages) (λ place lt.
+      let q = get_or (reads_of op) place 0 in
+      let found = some_value (in_memory st q) (reads_some op st.meta (in_memory st) allowed place 0 lt) in
+      found.1 ∙ sym (file.shown q found.0 found.1))
 
   pub allowed_in_file : IsAllowed s op
   allowed_in_file =

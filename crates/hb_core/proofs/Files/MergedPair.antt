@@ -5,7 +5,6 @@ use Rattle.std.specs.Option.{option_map}
 use Rattle.std.proofs.lemmas.Option.{same_Some}
 use Rattle.std.proofs.lemmas.List.Elements.{All-head, All-tail}
 use Rattle.hb_frag.specs.declared.pages.LivePage.{LivePage}
-use Rattle.hb_frag.specs.declared.pages.Page.TheVariants.{Live}
 use Rattle.hb_latch.specs.declared.modes.Mode.TheVariants.{Exclusive}
 use Rattle.hb_ops.specs.declared.operations.Op.TheVariants as ops
 use Rattle.hb_activity.specs.declared.jobs.Job.{Job}
@@ -34,20 +33,17 @@ use Rattle.hb_frag.specs.Rules.{capacity_of}
 use Rattle.hb_ops.specs.Merging.{FitsMerge, MayMerge}
 use Rattle.hb_ops.specs.Operations.{IsAllowedOn}
 use Rattle.hb_store.specs.Calls.{IsAllowedHere}
-use Rattle.hb_store.specs.States.{IsGoodPage, StoreState, in_memory}
-use Rattle.hb_ops.proofs.Facts.PageNumberLaws.{live_so}
+use Rattle.hb_store.specs.States.{StoreState}
 use Rattle.hb_space.specs.Actors.{IsActor}
 use Rattle.hb_lemmas.proofs.Booleans.{at_itself}
 use Rattle.hb_core.proofs.Memory.OwnedOps.{second_mode}
 use Rattle.hb_core.specs.Performing.{latches_held, mode_among}
+use Rattle.hb_core.proofs.Files.FitOps.{live_good}
 
 module _ (m : Machine) (actor : ℕ) (may : ℕ → Type 0) (fetched : StoreState) (keeps : KeepsPages fetched) (one : IsActor actor) (fit : LatchesFit m) (walks : WalksInSpace m) (brings : Brings m may fetched) (job : Job) (parent keep gone : ℕ) (wanted : Wanted) (page : LivePage)
     (pair : MergesPair (sight (with_disk fetched m.files m.clock m)) parent keep gone page) (is : m.activity actor ≡ at.ConsolidatorDecide job parent keep gone) (wants : wanted_by m actor ≡ Some wanted) (hand : IsAtHand (with_disk fetched m.files m.clock m) (m.activity actor) wanted page) where
   abbrev place : AtParent
   place = record { job = job; parent = parent; known = keep ∷ gone ∷ []; pair = Some (record { keep = keep; gone = gone; leaf = None }) }
-
-  good : (id : ℕ) (page : LivePage) → live_here fetched id ≡ Some page → IsGoodPage fetched.meta (Live page)
-  good id page live = (keeps.framed id (Live page) (live_so (in_memory fetched id) page live)).2
 
   -- what is known of the parent and of the page to keep
   known : NamesKnown m.store place
@@ -64,7 +60,7 @@ module _ (m : Machine) (actor : ℕ) (may : ℕ → Type 0) (fetched : StoreStat
   above_is = same_page parent known.page pair.above (held parent (at_itself parent (Some Exclusive) (cond (keep == parent) (Some Exclusive) None))) known.live pair.above_live
 
   kept_is : known.pair.page ≡ pair.kept
-  kept_is = same_page keep known.pair.page pair.kept (held keep (second_mode parent keep)) known.pair.live pair.kept_live
+  kept_is = same_page keep known.pair.page pair.kept (held keep (second_mode parent keep Exclusive)) known.pair.live pair.kept_live
 
   names : (id : ℕ) → IsTrue (names_child known.page id) → IsTrue (names_child pair.above id)
   names id named = subst (λ (q : LivePage). IsTrue (names_child q id)) above_is named
@@ -86,7 +82,7 @@ module _ (m : Machine) (actor : ℕ) (may : ℕ → Type 0) (fetched : StoreStat
       let so : wanted_of deciding m.store.meta (looked_live m.store deciding) ≡ Some wanted = subst (λ (a : Activity). wanted_of a m.store.meta (looked_live m.store a) ≡ Some wanted) is wants in
       let same : wanted_page gone (known.page.level - 1) Exclusive ≡ wanted = same_Some (wanted_page gone (known.page.level - 1) Exclusive) wanted (ap (option_map (λ (page : LivePage). wanted_page gone (page.level - 1) Exclusive)) (sym known.live) ∙ so) in
       let level : known.page.level - 1 ≡ wanted.level = ap (λ (w : Wanted). w.level) same in
-      let some : 0 < pair.above.level = above_records fetched.meta pair.above keep (good parent pair.above pair.above_live) names_kept in
+      let some : 0 < pair.above.level = above_records fetched.meta pair.above keep (live_good fetched keeps.framed parent pair.above pair.above_live) names_kept in
       let over : known.page.level ≡ pair.above.level = ap (λ (q : LivePage). q.level) above_is in
       let on = hand.level in
       omega (arith, level, some, over, on)
@@ -109,7 +105,7 @@ module _ (m : Machine) (actor : ℕ) (may : ℕ → Type 0) (fetched : StoreStat
   later =
       let box = gone_box m actor fetched job parent keep gone wanted page pair is wants hand in
       let level : page.level ≡ pair.kept.level = omega (arith, kept_level, gone_level) in
-      sibling_found fetched.meta pair.kept (good keep pair.kept pair.kept_live) page gone page.area (first_sibling_among gone _ page.area box) level refl
+      sibling_found fetched.meta pair.kept (live_good fetched keeps.framed keep pair.kept pair.kept_live) page gone page.area (first_sibling_among gone _ page.area box) level refl
 
   two : keep ≢ gone
   two same = never_later pair.kept page (numbered keep gone pair.kept page pair.kept_live here same) later
@@ -121,9 +117,9 @@ module _ (m : Machine) (actor : ℕ) (may : ℕ → Type 0) (fetched : StoreStat
     others = (others_kept, others_gone);
     two = two;
     some_live = pair.live;
-    above_made = (good parent pair.above pair.above_live).1;
-    kept_made = (good keep pair.kept pair.kept_live).1;
-    gone_made = (good gone page here).1;
+    above_made = (live_good fetched keeps.framed parent pair.above pair.above_live).1;
+    kept_made = (live_good fetched keeps.framed keep pair.kept pair.kept_live).1;
+    gone_made = (live_good fetched keeps.framed gone page here).1;
     kept_level = kept_level;
     gone_level = gone_level;
     names_kept = named_leaf keep (leaves pair.above.frag) names_kept;

@@ -1,6 +1,7 @@
 -- What a row tells of the operation that it does, beyond what the pages that this reads tell.
 use Rattle.std.proofs.Common.{◌≡◌, ℕ, ◌-◌, List, Option, Some, None, IfSome, refl, sym, ap, ◌∙◌, subst, ◌≢◌, ◌⊎◌, inl, inr}
 use Rattle.std.specs.Option.{option_and_then}
+use Rattle.std.proofs.lemmas.Option.{same_Some, none-some}
 use Rattle.hb_space.specs.declared.records.Record.{Record}
 use Rattle.hb_frag.specs.declared.leaves.Leaf.{Leaf}
 use Rattle.hb_frag.specs.declared.leaves.Leaf.TheVariants.{Records, Child, Sibling}
@@ -60,18 +61,12 @@ tells_none st op none = subst (Tells st) (sym none) tt
 -- the child that a poster wants is the one that the parent's leaf names
 wants_child : (p : List ℕ) (level : ℕ) (o : Option Placed) (wanted : Wanted) → in_mode (λ level. Shared) (option_and_then (λ (placed : Placed). named_child level placed.leaf) o) ≡ Some wanted
     → (area : Area) × (o ≡ Some (record { leaf = Child wanted.page; area = area }))
-wants_child p level None wanted is = absurd (nothing wanted is)
-  where
-    nothing : (wanted : Wanted) → None ≡ Some wanted → ⊥
-    nothing wanted is = cc
+wants_child p level None wanted is = absurd (none-some wanted is)
 wants_child p level (Some placed) wanted is = by placed.leaf refl is
   where
-    nothing : (wanted : Wanted) → None ≡ Some wanted → ⊥
-    nothing wanted is = cc
-
     by : (leaf : Leaf) → placed.leaf ≡ leaf → in_mode (λ level. Shared) (named_child level leaf) ≡ Some wanted → (area : Area) × (Some placed ≡ Some (record { leaf = Child wanted.page; area = area }))
-    by (Records records) leaf_is none = absurd (nothing wanted none)
-    by (Sibling page) leaf_is none = absurd (nothing wanted none)
+    by (Records records) leaf_is none = absurd (none-some wanted none)
+    by (Sibling page) leaf_is none = absurd (none-some wanted none)
     by (Child page) leaf_is some =
         let same : wanted_page page (level - 1) Shared ≡ wanted = cc in
         (placed.area, ap (λ (l : Leaf). Some (record { leaf = l; area = placed.area })) (leaf_is ∙ ap (λ (w : Wanted). Child w.page) same))
@@ -97,17 +92,11 @@ module _ (m : Machine) (actor : ℕ) (may : ℕ → Type 0) (fetched : StoreStat
       → if_live (in_memory fetched wanted.page) ≡ Some child → if_live (in_memory fetched parent) ≡ Some page → Posts page child job.point fetched.meta.icap path inner area → IsPlanned fetched parent path inner area
   planned job parent wanted child page path inner area stands wants child_live live posts = by (if_live (in_memory m.store parent)) refl wants
     where
-      nothing : (w : Wanted) → None ≡ Some w → ⊥
-      nothing w is = cc
-
-      same_page : (a b : LivePage) → Some a ≡ Some b → a ≡ b
-      same_page a b is = cc
-
       by : (looked : Option LivePage) → if_live (in_memory m.store parent) ≡ looked → wanted_of (at.PosterAgain job parent) m.store.meta looked ≡ Some wanted → IsPlanned fetched parent path inner area
-      by None is none = absurd (nothing wanted none)
+      by None is none = absurd (none-some wanted none)
       by (Some old) is some =
           let named = wants_child job.point old.level (leaf_at old job.point) wanted some in
-          let same : old ≡ page = same_page old page (sym (looked_page_stays job parent old page stands is live) ∙ live) in
+          let same : old ≡ page = same_Some old page (sym (looked_page_stays job parent old page stands is live) ∙ live) in
           record {
             page = page;
             live = live_so (in_memory fetched parent) page live;

@@ -1,14 +1,13 @@
 -- Where the latches of an activity come from: each was held before, or is the one that the step wanted, or is on a page that
 -- was in no use. And each is on a page in use.
-use Rattle.hb_core.proofs.Memory.CommitPages.{has_first, has_second, made_pages}
-use Rattle.std.proofs.Common.{◌≡◌, ◌⊎◌, inl, inr, ℕ, ◌==◌, Bool, cond, List, [], ◌∷◌, length, Option, Some, None, IsSome, IsTrue, refl, sym, ap, ◌∙◌, subst}
+use Rattle.hb_core.proofs.Memory.CommitPages.{has_first, has_second, split_sets}
+use Rattle.std.proofs.Common.{◌≡◌, ◌⊎◌, inl, inr, ℕ, ◌==◌, Bool, cond, List, [], ◌∷◌, length, Option, Some, None, IsSome, refl, sym, ap, ◌∙◌, subst}
 use Rattle.std.proofs.lemmas.Bool.{cases_Bool, eq-eqb, eqb-true}
+use Rattle.std.proofs.lemmas.Option.{none-some, same_Some}
 use Rattle.hb_space.specs.declared.records.Record.{Record}
 use Rattle.hb_frag.specs.declared.pages.LivePage.{LivePage}
 use Rattle.hb_frag.specs.declared.pages.Page.{Page}
 use Rattle.hb_frag.specs.declared.pages.Page.TheVariants.{Live}
-use Rattle.hb_ops.specs.declared.operations.Op.{Op}
-use Rattle.hb_ops.specs.declared.operations.Op.TheVariants as ops
 use Rattle.hb_set.specs.declared.commands.Command.{Command}
 use Rattle.hb_set.specs.declared.commands.Command.TheVariants.{Insert}
 use Rattle.hb_set.specs.declared.scripts.Line.{Line}
@@ -31,22 +30,21 @@ use Rattle.hb_core.specs.Fetching.{Brings}
 use Rattle.hb_core.specs.Keeps.{HoldsPagesOfFile, LatchesFit}
 use Rattle.hb_core.specs.KeptMerges.{IsMerging}
 use Rattle.hb_core.specs.Machines.{Machine, with_disk, sight}
-use Rattle.hb_core.specs.Performing.{DoesOp, MayDo, latches_held, mode_among}
+use Rattle.hb_core.specs.Performing.{MayDo, latches_held, mode_among}
 use Rattle.hb_core.specs.Rows.{Row, RowAt}
-use Rattle.hb_frag.specs.Trees.{Tree}
 use Rattle.hb_latch.specs.Tables.{mode_at}
 use Rattle.hb_space.specs.Actors.{IsActor}
-use Rattle.hb_ops.specs.Extracting.{fresh_page, source_page, split_pages}
+use Rattle.hb_ops.specs.Extracting.{fresh_page, source_page}
 use Rattle.hb_ops.specs.Files.{if_live}
-use Rattle.hb_ops.specs.Operations.{change_of}
 use Rattle.hb_point.specs.SplitRows.{Splits}
 use Rattle.hb_space.specs.Boxes.{Area}
-use Rattle.hb_store.specs.Calls.{change_here, read_here}
-use Rattle.hb_ops.specs.SetPages.{set_pages, has_page}
+use Rattle.hb_ops.specs.SetPages.{set_pages}
 use Rattle.hb_store.specs.States.{StoreState, in_memory}
 use Rattle.hb_core.proofs.Table.MergerMoves.{of_page}
 use Rattle.hb_core.proofs.Facts.EachRow.{each_row}
 use Rattle.hb_ops.proofs.Facts.PageNumberLaws.{live_so}
+use Rattle.hb_core.proofs.Facts.Ways.{nothing_done}
+use Rattle.hb_lemmas.proofs.Booleans.{at_itself}
 
 -- the latch that a step wants, with nobody in the way
 pub record IsWantedFreely (m : Machine) (actor page : ℕ) (mode : Mode) : Type 0 where
@@ -77,19 +75,17 @@ one_backed m actor st id mode backed page asked is = elim (cases_Bool (id == pag
       let same : Some mode ≡ Some asked = sym (ap (λ (b : Bool). cond b (Some mode) None) here) ∙ is in
       let mode_same : mode ≡ asked = cc in
       subst (λ (n : ℕ). IsBacked m actor st n asked) (eqb-true id page here) (subst (IsBacked m actor st id) mode_same backed)
-  | inr off ↦ let never : None ≡ Some asked = sym (ap (λ (b : Bool). cond b (Some mode) None) off) ∙ is in absurd (nothing asked never)
+  | inr off ↦ let never : None ≡ Some asked = sym (ap (λ (b : Bool). cond b (Some mode) None) off) ∙ is in absurd (none-some asked never)
 ]
-  where
-    nothing : (asked : Mode) → None ≡ Some asked → ⊥
-    nothing asked is = cc
 
-two_backed : (m : Machine) (actor : ℕ) (st : StoreState) (first second : ℕ) → IsBacked m actor st first Exclusive → IsBacked m actor st second Exclusive → AreBacked m actor st (latch_on first Exclusive ∷ latch_on second Exclusive ∷ [])
-two_backed m actor st first second a b page asked is = elim (cases_Bool (first == page)) [
+-- two latches: the second one counts where it is on another page
+pub both_backed : (m : Machine) (actor : ℕ) (st : StoreState) (first second : ℕ) (mode other : Mode) → IsBacked m actor st first mode → IsBacked m actor st second other → AreBacked m actor st (latch_on first mode ∷ latch_on second other ∷ [])
+both_backed m actor st first second mode other a b page asked is = elim (cases_Bool (first == page)) [
   | inl here ↦
-      let same : Some Exclusive ≡ Some asked = sym (ap (λ (c : Bool). cond c (Some Exclusive) (mode_among page (latch_on second Exclusive ∷ []))) here) ∙ is in
-      let mode_same : Exclusive ≡ asked = cc in
+      let same : Some mode ≡ Some asked = sym (ap (λ (c : Bool). cond c (Some mode) (mode_among page (latch_on second other ∷ []))) here) ∙ is in
+      let mode_same : mode ≡ asked = cc in
       subst (λ (n : ℕ). IsBacked m actor st n asked) (eqb-true first page here) (subst (IsBacked m actor st first) mode_same a)
-  | inr off ↦ one_backed m actor st second Exclusive b page asked (sym (ap (λ (c : Bool). cond c (Some Exclusive) (mode_among page (latch_on second Exclusive ∷ []))) off) ∙ is)
+  | inr off ↦ one_backed m actor st second other b page asked (sym (ap (λ (c : Bool). cond c (Some mode) (mode_among page (latch_on second other ∷ []))) off) ∙ is)
 ]
 
 pub walk_backed : (m : Machine) (actor : ℕ) (st : StoreState) (id : ℕ) (page : LivePage) (mode : ℕ → Mode) → if_live (in_memory st id) ≡ Some page → IsBacked m actor st id (mode page.level) → AreBacked m actor st (walk_latch (Some id) (if_live (in_memory st id)) mode)
@@ -102,10 +98,7 @@ pub record BackedIn (m : Machine) (actor : ℕ) (st : StoreState) (activity : Ac
 
 -- an activity that doesn't walk, or not yet; and one that holds nothing
 pub stands : (m : Machine) (actor : ℕ) (st : StoreState) (activity : Activity) → walk_held activity ≡ None → AreBacked m actor st (latches_held st activity) → BackedIn m actor st activity
-stands m actor st activity none backed = record { latches = backed; walk = λ held some. absurd (nowhere held (sym none ∙ some)) }
-  where
-    nowhere : (held : ℕ) → None ≡ Some held → ⊥
-    nowhere held is = cc
+stands m actor st activity none backed = record { latches = backed; walk = λ held some. absurd (none-some held (sym none ∙ some)) }
 
 pub rests : (m : Machine) (actor : ℕ) (st : StoreState) (activity : Activity) → walk_held activity ≡ None → latches_held st activity ≡ [] → BackedIn m actor st activity
 rests m actor st activity none nothing = stands m actor st activity none (subst (AreBacked m actor st) (sym nothing) (none_backed m actor st))
@@ -114,21 +107,18 @@ rests m actor st activity none nothing = stands m actor st activity none (subst 
 pub goes : (m : Machine) (actor : ℕ) (st : StoreState) (activity : Activity) (id : ℕ) (page : LivePage) → walk_held activity ≡ Some id → in_memory st id ≡ Some (Live page) → AreBacked m actor st (latches_held st activity) → BackedIn m actor st activity
 goes m actor st activity id page at_id there backed = record {
   latches = backed;
-  walk = λ held some. (page, ap (in_memory st) (sym (some_is held id (sym at_id ∙ some))) ∙ there);
+  walk = λ held some. (page, ap (in_memory st) (sym (same_Some id held (sym at_id ∙ some))) ∙ there);
 }
-  where
-    some_is : (held id : ℕ) → Some id ≡ Some held → id ≡ held
-    some_is held id is = cc
 
 -- ---- the pages of a split are in use
 
 split_in_use : (source fresh : ℕ) (a b : LivePage) (page_in : ℕ → Option Page) → ((live : LivePage) × (set_pages ((source, Live a) ∷ (fresh, Live b) ∷ []) page_in source ≡ Some (Live live))) × ((live : LivePage) × (set_pages ((source, Live a) ∷ (fresh, Live b) ∷ []) page_in fresh ≡ Some (Live live)))
-split_in_use source fresh a b page_in = (first, (b, ap (λ (c : Bool). cond c (Some (Live b)) (cond (fresh == source) (Some (Live a)) (page_in fresh))) (eq-eqb fresh fresh refl)))
+split_in_use source fresh a b page_in = (first, (b, at_itself fresh (Some (Live b)) (cond (fresh == source) (Some (Live a)) (page_in fresh))))
   where
     first : (live : LivePage) × (set_pages ((source, Live a) ∷ (fresh, Live b) ∷ []) page_in source ≡ Some (Live live))
     first = elim (cases_Bool (source == fresh)) [
       | inl here ↦ (b, ap (λ (c : Bool). cond c (Some (Live b)) (cond (source == source) (Some (Live a)) (page_in source))) here)
-      | inr off ↦ (a, ap (λ (c : Bool). cond c (Some (Live b)) (cond (source == source) (Some (Live a)) (page_in source))) off ∙ ap (λ (c : Bool). cond c (Some (Live a)) (page_in source)) (eq-eqb source source refl))
+      | inr off ↦ (a, ap (λ (c : Bool). cond c (Some (Live b)) (cond (source == source) (Some (Live a)) (page_in source))) off ∙ at_itself source (Some (Live a)) (page_in source))
     ]
 
 -- ---- the rows
@@ -152,9 +142,6 @@ module _ (m : Machine) (actor : ℕ) (may : ℕ → Type 0) (fetched : StoreStat
 
   pub own_mode : (activity : Activity) (page : ℕ) (mode : Mode) → m.activity actor ≡ activity → mode_among page (latches_held m.store activity) ≡ Some mode → mode_at m.latches actor page ≡ Some mode
   own_mode activity page mode is among = fit.exact actor page latches ∙ subst (λ (a : Activity). mode_among page (latches_held m.store a) ≡ Some mode) (sym is) among
-
-  same_first : (id : ℕ) (mode : Mode) → cond (id == id) (Some mode) None ≡ Some mode
-  same_first id mode = ap (λ (b : Bool). cond b (Some mode) None) (eq-eqb id id refl)
 
   -- the page that was latched
   module _ (wanted : Wanted) (page : LivePage) (wants : wanted_by m actor ≡ Some wanted) (live : if_live (in_memory fetched wanted.page) ≡ Some page) (level : page.level ≡ wanted.level) (none : new ≡ fetched) where
@@ -207,50 +194,26 @@ module _ (m : Machine) (actor : ℕ) (may : ℕ → Type 0) (fetched : StoreStat
         let both = of_page parent (λ page. page.level) Exclusive (looked_live m.store promote) wanted so in
         stands m actor new (at.PosterAgain job parent) refl (subst (λ (n : ℕ). AreBacked m actor new (latch_on n Exclusive ∷ [])) both.0 (one_backed m actor new wanted.page Exclusive (at_hand Exclusive both.1)))
 
-  -- where nothing is done, the memory is what was fetched
-  nothing_done : (deed other : Deed) → deed ≡ other → other.op ≡ None → MayDo deed.op (length m.order) fetched new → new ≡ fetched
-  nothing_done deed other is none done = by (ap (λ (d : Deed). d.op) is ∙ none)
-    where
-      by : deed.op ≡ None → new ≡ fetched
-      by so = subst (λ (o : Option Op). MayDo o (length m.order) fetched new) so done
-
   -- ---- the poster
 
   parent_stays : (job : Job) (parent : ℕ) → m.activity actor ≡ at.PosterChild job parent → new ≡ fetched → BackedIn m actor new (at.PosterPromote job parent)
-  parent_stays job parent is none = stands m actor new (at.PosterPromote job parent) refl (one_backed m actor new parent Update (held_backed parent Update none (own_mode (at.PosterChild job parent) parent Update is (same_first parent Update))))
+  parent_stays job parent is none = stands m actor new (at.PosterPromote job parent) refl (one_backed m actor new parent Update (held_backed parent Update none (own_mode (at.PosterChild job parent) parent Update is (at_itself parent (Some Update) None))))
 
   -- ---- both halves of a split
 
   module _ (line : Line) (held : ℕ) (deed : Deed) (is : m.activity actor ≡ at.SessionSplit line held) (row : Splits (sight m') line held deed) (done : MayDo deed.op (length m.order) fetched new) where
-    abbrev split : Op
-    split = ops.Extract held row.leaves.fresh row.leaves.path row.leaves.cuts row.leaves.free_after
-
-    does : DoesOp split (length m.order) fetched new
-    does = subst (λ (d : Deed). MayDo d.op (length m.order) fetched new) row.deed_is done
-
     abbrev source : LivePage
     source = source_page row.leaves.fresh row.leaves.path row.leaves.cuts row.page row.leaves.part
 
     abbrev made : LivePage
     made = fresh_page row.leaves.cuts row.page row.leaves.part
 
-    abbrev changed : List (ℕ × Page)
-    changed = split_pages held row.leaves.fresh row.leaves.path row.leaves.cuts row.page (Some row.leaves.part)
-
-    changed_are : (change_here fetched split).pages ≡ changed
-    changed_are =
-        ap (λ (o : Option LivePage). (change_of split fetched.meta o (read_here fetched split 1) (read_here fetched split 2)).pages) row.live
-        ∙ ap (λ (o : Option (Tree × Area)). split_pages held row.leaves.fresh row.leaves.path row.leaves.cuts row.page o) row.leaves.there
-
-    pages_are : (id : ℕ) → IsTrue (has_page id changed) → in_memory new id ≡ set_pages changed (in_memory fetched) id
-    pages_are = made_pages _ _ _ _ changed does.commits changed_are
-
     backed_split : Backed deed
     backed_split =
         let used = split_in_use held row.leaves.fresh source made (in_memory fetched) in
-        backed_deed deed _ row.deed_is (stands m actor new _ refl (two_backed m actor new held row.leaves.fresh
-        (record { from = inl (own_mode (at.SessionSplit line held) held Exclusive is (same_first held Exclusive)); live = used.0.0; there = pages_are held (has_first held (Live source) ((row.leaves.fresh, Live made) ∷ [])) ∙ used.0.1 })
-        (record { from = inr (inr (made_was_free m may fetched row.leaves.fresh row.leaves.free_after inside brings (is_next_number fetched row.leaves.fresh row.leaves.free_after row.leaves.next))); live = used.1.0; there = pages_are row.leaves.fresh (has_second held row.leaves.fresh (Live source) (Live made) []) ∙ used.1.1 })))
+        backed_deed deed _ row.deed_is (stands m actor new _ refl (both_backed m actor new held row.leaves.fresh Exclusive Exclusive
+        (record { from = inl (own_mode (at.SessionSplit line held) held Exclusive is (at_itself held (Some Exclusive) None)); live = used.0.0; there = split_sets m' line held deed row (length m.order) new done held (has_first held (Live source) ((row.leaves.fresh, Live made) ∷ [])) ∙ used.0.1 })
+        (record { from = inr (inr (made_was_free m may fetched row.leaves.fresh row.leaves.free_after inside brings (is_next_number fetched row.leaves.fresh row.leaves.free_after row.leaves.next))); live = used.1.0; there = split_sets m' line held deed row (length m.order) new done row.leaves.fresh (has_second held row.leaves.fresh (Live source) (Live made) []) ∙ used.1.1 })))
 
   -- ---- every row
 
@@ -287,6 +250,6 @@ module _ (m : Machine) (actor : ℕ) (may : ℕ → Type 0) (fetched : StoreStat
         parts = λ job parent above live plan leaves is done. rests m actor new _ refl refl;
         walks_to_merge = λ job held leaf farther row is done. merges its page (wants ∙ at_hand) hand.live hand.level (at.ConsolidatorWalk job held) _ done tt is
             (inr (record { farther = farther; passes = record { leaf = leaf; area = row.area; at_point = row.at_point; names = row.names; deed_is = refl } }));
-        merges = λ activity deed kind row stays is done. merges its page (wants ∙ at_hand) hand.live hand.level activity deed (nothing_done deed _ stays.is refl done) kind is row;
+        merges = λ activity deed kind row stays is done. merges its page (wants ∙ at_hand) hand.live hand.level activity deed (nothing_done deed.op _ fetched new (ap (λ (d : Deed). d.op) stays.is) done) kind is row;
         merges_two = λ job parent keep gone pair is done. rests m actor new _ refl refl;
       }) row refl done

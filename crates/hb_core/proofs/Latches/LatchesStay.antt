@@ -1,6 +1,7 @@
 -- After a step each actor holds the latches of its activity, on pages in use, and latches on one page go beside each other.
-use Rattle.std.proofs.Common.{◌≡◌, ◌≢◌, inl, inr, ℕ, ◌==◌, Bool, cond, List, [], Option, Some, None, IfSome, IsTrue, refl, sym, ap, ◌∙◌, subst}
-use Rattle.std.proofs.lemmas.Bool.{cases_Bool, eqb-true, eqb-false, eq-eqb, ne_eqb}
+use Rattle.std.proofs.Common.{◌≡◌, ◌≢◌, inl, inr, ℕ, ◌==◌, List, [], Option, Some, None, IfSome, IsTrue, refl, sym, ap, ◌∙◌, subst}
+use Rattle.std.proofs.lemmas.Bool.{cases_Bool, eqb-true, eqb-false}
+use Rattle.hb_lemmas.proofs.Options.{at_value, if_value}
 use Rattle.hb_frag.specs.declared.pages.LivePage.{LivePage}
 use Rattle.hb_frag.specs.declared.pages.Page.TheVariants.{Live}
 use Rattle.hb_latch.specs.declared.modes.Mode.{Mode}
@@ -20,7 +21,7 @@ use Rattle.hb_core.proofs.Table.GivenUp.{idle_latches, idle_walks, given_up_is}
 use Rattle.hb_core.proofs.Latches.MergerBacked.{every_row_backed}
 use Rattle.hb_core.proofs.Memory.OwnPages.{held_pages_stay}
 use Rattle.hb_core.proofs.Facts.StepKinds.{each_kind, ready_kind}
-use Rattle.hb_core.proofs.Facts.Ways.{KeepsAllButDisk, forces_so, meets_so, stays_so, more_so}
+use Rattle.hb_core.proofs.Facts.Ways.{KeepsAllButDisk, forces_so, meets_so, stays_so, more_so, own_next, others_next}
 use Rattle.hb_core.specs.Asking.{wanted_by}
 use Rattle.hb_core.specs.GivingUp.{gives_up}
 use Rattle.hb_core.specs.Keeps.{HoldsPagesOfFile, LatchesFit}
@@ -33,6 +34,7 @@ use Rattle.hb_latch.specs.Tables.{AreCompatible, LatchTable, mode_at}
 use Rattle.hb_space.specs.Actors.{IsActor}
 use Rattle.hb_ops.specs.Files.{if_live}
 use Rattle.hb_store.specs.States.{StoreState, in_memory}
+use Rattle.hb_lemmas.proofs.Booleans.{at_itself}
 
 -- ---- what the latches of an activity are, in another memory that has its page
 
@@ -48,7 +50,7 @@ Latched page latches = (mode : Mode) × (mode_among page latches ≡ Some mode)
 
 one_latched : (held : ℕ) (o : Option LivePage) (mode : ℕ → Mode) (page : LivePage) → o ≡ Some page → Latched held (walk_latch (Some held) o mode)
 one_latched held o mode page is = subst (λ (o : Option LivePage). (one : Mode) × (mode_among held (walk_latch (Some held) o mode) ≡ Some one)) (sym is)
-    (mode page.level, ap (λ (b : Bool). cond b (Some (mode page.level)) None) (eq-eqb held held refl))
+    (mode page.level, at_itself held (Some (mode page.level)) None)
 
 pub walk_latched : (activity : Activity) (st : StoreState) (held : ℕ) (page : LivePage) → walk_held activity ≡ Some held → live_here st held ≡ Some page → Latched held (latches_held st activity)
 walk_latched (at.SessionWalk line (Some id) rest found) st held page is live =
@@ -61,13 +63,6 @@ walk_latched (at.ConsolidatorWalk job (Some id)) st held page is live =
     let same : id ≡ held = cc in
     subst (λ (n : ℕ). Latched held (walk_latch (Some n) (live_here st n) (job_mode job))) (sym same) (one_latched held (live_here st held) (job_mode job) page live)
 walk_latched activity st held page is live = cc
-
-if_each : (o : Option Mode) (P : Mode → Type 0) → ((mode : Mode) → o ≡ Some mode → P mode) → IfSome o P
-if_each None P each = tt
-if_each (Some mode) P each = each mode refl
-
-if_that : (o : Option Mode) (P : Mode → Type 0) (mode : Mode) → IfSome o P → o ≡ Some mode → P mode
-if_that o P mode all is = subst (λ (o : Option Mode). IfSome o P) is all
 
 -- ---- a step
 
@@ -116,12 +111,6 @@ module _ (mutual_modes : (mode other : Mode) → goes_beside mode other ≡ goes
   -- a deed is done
   module _ (deed : Deed) (own : (page : ℕ) → mode_at new.latches actor page ≡ mode_among page (latches_held new.store deed.next)) (rest : (other page : ℕ) → other ≢ actor → mode_at new.latches other page ≡ mode_at m.latches other page)
       (stood : (other : ℕ) → new.activity other ≡ with_activity actor deed.next m.activity other) (backed : BackedIn m actor new.store deed.next) where
-    own_activity : new.activity actor ≡ deed.next
-    own_activity = stood actor ∙ ap (λ (b : Bool). cond b deed.next (m.activity actor)) (eq-eqb actor actor refl)
-
-    others_activity : (other : ℕ) → other ≢ actor → new.activity other ≡ m.activity other
-    others_activity other another = stood other ∙ ap (λ (b : Bool). cond b deed.next (m.activity other)) (ne_eqb other actor another)
-
     beside : (other page : ℕ) (mode held : Mode) → other ≢ actor → mode_at new.latches actor page ≡ Some mode → mode_at new.latches other page ≡ Some held → IsTrue (goes_beside mode held)
     beside other page mode held another mine holds =
         beside_from m actor fit other page mode held another (backed.latches page mode (sym (own page) ∙ mine)).from (sym (rest other page another) ∙ holds)
@@ -139,18 +128,18 @@ module _ (mutual_modes : (mode other : Mode) → goes_beside mode other ≡ goes
             let both = fit.compatible a b page differ in
             let mine = sym (rest a page (eqb-false a actor a_not)) ∙ first in
             let other = sym (rest b page (eqb-false b actor b_not)) ∙ second in
-            if_that (mode_at m.latches b page) (λ held. IsTrue (goes_beside mode held)) held (if_that (mode_at m.latches a page) (λ mode. IfSome (mode_at m.latches b page) (λ held. IsTrue (goes_beside mode held))) mode both mine) other
+            at_value (mode_at m.latches b page) (λ held. IsTrue (goes_beside mode held)) held other (at_value (mode_at m.latches a page) (λ mode. IfSome (mode_at m.latches b page) (λ held. IsTrue (goes_beside mode held))) mode mine both)
       ]
     ]
 
     deed_fits : LatchesFit new
     deed_fits = record {
-      compatible = λ a b page differ. if_each (mode_at new.latches a page) _ (λ mode first. if_each (mode_at new.latches b page) _ (λ held second. two_apart a b page mode held differ first second));
+      compatible = λ a b page differ. if_value (mode_at new.latches a page) _ (λ mode first. if_value (mode_at new.latches b page) _ (λ held second. two_apart a b page mode held differ first second));
       exact = λ a page may. elim (cases_Bool (a == actor)) [
         | inl a_is ↦
             let is = eqb-true a actor a_is in
-            subst (λ (n : ℕ). mode_at new.latches n page ≡ mode_among page (latches_held new.store (new.activity n))) (sym is) (own page ∙ sym (ap (λ (next : Activity). mode_among page (latches_held new.store next)) own_activity))
-        | inr a_not ↦ let another = eqb-false a actor a_not in others_exact a page another may (rest a page another) (others_activity a another)
+            subst (λ (n : ℕ). mode_at new.latches n page ≡ mode_among page (latches_held new.store (new.activity n))) (sym is) (own page ∙ sym (ap (λ (next : Activity). mode_among page (latches_held new.store next)) (own_next actor deed.next m.activity new.activity stood)))
+        | inr a_not ↦ let another = eqb-false a actor a_not in others_exact a page another may (rest a page another) (others_next actor deed.next m.activity new.activity stood a another)
       ];
       used = λ a page mode holds. elim (cases_Bool (a == actor)) [
         | inl a_is ↦
@@ -162,10 +151,10 @@ module _ (mutual_modes : (mode other : Mode) → goes_beside mode other ≡ goes
       walking = λ a held may walks. elim (cases_Bool (a == actor)) [
         | inl a_is ↦
             let is = eqb-true a actor a_is in
-            backed.walk held (ap walk_held (sym own_activity ∙ ap new.activity (sym is)) ∙ walks)
+            backed.walk held (ap walk_held (sym (own_next actor deed.next m.activity new.activity stood) ∙ ap new.activity (sym is)) ∙ walks)
         | inr a_not ↦
             let another = eqb-false a actor a_not in
-            let both = others_walk a held another may (ap walk_held (sym (others_activity a another)) ∙ walks) in
+            let both = others_walk a held another may (ap walk_held (sym (others_next actor deed.next m.activity new.activity stood a another)) ∙ walks) in
             (both.0, both.2)
       ];
     }
@@ -186,26 +175,23 @@ module _ (mutual_modes : (mode other : Mode) → goes_beside mode other ≡ goes
   rested : (fetched : StoreState) (deed : Deed) → Performs m fetched actor deed outcome new → walk_held deed.next ≡ None → latches_held new.store deed.next ≡ [] → LatchesFit new
   rested fetched deed performs none nothing = fits fetched deed performs (rests m actor new.store deed.next none nothing)
 
-  kept : KeepsAllButDisk m new → LatchesFit new
-  kept keeps = disk_alone mutual_modes m actor outcome new latches fit inside step keeps
-
   worked : Works m actor outcome new → LatchesFit new
-  worked (inl (by, way, so)) = kept (stays_so m actor outcome new (outcomes.Blocked by) so)
-  worked (inr (inl (free, unready, inl (waits, force)))) = kept (forces_so m actor outcome new outcomes.Helped force)
+  worked (inl (by, way, so)) = disk_alone mutual_modes m actor outcome new latches fit inside step (stays_so m actor outcome new (outcomes.Blocked by) so)
+  worked (inr (inl (free, unready, inl (waits, force)))) = disk_alone mutual_modes m actor outcome new latches fit inside step (forces_so m actor outcome new outcomes.Helped force)
   worked (inr (inl (free, unready, inr (none, rest)))) =
-      ready_kind m outcome new (LatchesFit new) none (λ more. kept (more_so m actor outcome new more)) rest
+      ready_kind m outcome new (LatchesFit new) none (λ more. disk_alone mutual_modes m actor outcome new latches fit inside step (more_so m actor outcome new more)) rest
   worked (inr (inr (free, ready, inl acts))) =
       fits acts.fetched acts.deed acts.performs
       (every_row_backed m actor _ acts.fetched new.store latches fit inside free acts.brings (wanted_by m actor) acts.deed refl acts.performs.store acts.row)
   worked (inr (inr (free, ready, inr (inl gives)))) = fits gives.fetched _ gives.performs (given_up m actor new.store gives.why (m.activity actor))
-  worked (inr (inr (free, ready, inr (inr meets)))) = kept (meets_so m actor outcome new meets)
+  worked (inr (inr (free, ready, inr (inr meets)))) = disk_alone mutual_modes m actor outcome new latches fit inside step (meets_so m actor outcome new meets)
 
 pub latches_stay_fit : ((mode other : Mode) → goes_beside mode other ≡ goes_beside other mode) → LatchesStayFit
 latches_stay_fit mutual_modes m actor outcome new latches fit inside step =
     each_kind m actor outcome new (LatchesFit new)
-    (λ said quiet so. kept mutual_modes m actor outcome new latches fit inside step (stays_so m actor outcome new said so))
-    (λ said quiet force. kept mutual_modes m actor outcome new latches fit inside step (forces_so m actor outcome new said force))
-    (λ more. kept mutual_modes m actor outcome new latches fit inside step (more_so m actor outcome new more))
+    (λ said quiet so. disk_alone mutual_modes m actor outcome new latches fit inside step (stays_so m actor outcome new said so))
+    (λ said quiet force. disk_alone mutual_modes m actor outcome new latches fit inside step (forces_so m actor outcome new said force))
+    (λ more. disk_alone mutual_modes m actor outcome new latches fit inside step (more_so m actor outcome new more))
     (λ deed outright performs. rested mutual_modes m actor outcome new latches fit inside step m.store deed performs outright.walk (outright.latches new.store))
     (worked mutual_modes m actor outcome new latches fit inside step)
     step

@@ -1,6 +1,6 @@
 -- Where the latches of a consolidator come from, after each of its rows: each was held before, or is the one that the step wanted.
-use Rattle.std.proofs.Common.{◌≡◌, inl, inr, ℕ, ◌==◌, Bool, cond, [], ◌∷◌, length, Option, Some, None, refl, sym, ap, ◌∙◌, subst}
-use Rattle.std.proofs.lemmas.Bool.{cases_Bool, eq-eqb, eqb-true}
+use Rattle.std.proofs.Common.{◌≡◌, inl, inr, ℕ, Bool, cond, [], ◌∷◌, length, Option, Some, None, refl, sym, ap, ◌∙◌, subst}
+use Rattle.std.proofs.lemmas.Bool.{eq-eqb}
 use Rattle.hb_frag.specs.declared.pages.LivePage.{LivePage}
 use Rattle.hb_latch.specs.declared.modes.Mode.{Mode}
 use Rattle.hb_latch.specs.declared.modes.Mode.TheVariants.{Shared, Update, Exclusive}
@@ -16,7 +16,7 @@ use Rattle.hb_activity.specs.Walks.{job_mode}
 use Rattle.hb_activity.specs.Wanting.{walk_next, wanted_of}
 use Rattle.hb_consol.specs.ConsolidatorRows.{after_try, children_of, one_behind, scans, tries}
 use Rattle.hb_consol.specs.MergeRows.{DoesMerge, after_keep}
-use Rattle.hb_core.proofs.Latches.Backing.{AreBacked, Backed, BackedIn, IsBacked, at_hand, backed_deed, backed_row, goes, held_backed, live_now, one_backed, own_mode, rests, stands, there_now, walk_backed}
+use Rattle.hb_core.proofs.Latches.Backing.{AreBacked, Backed, BackedIn, IsBacked, at_hand, backed_deed, backed_row, goes, held_backed, live_now, one_backed, own_mode, rests, stands, there_now, walk_backed, both_backed}
 use Rattle.hb_core.proofs.Table.MergerMoves.{of_page}
 use Rattle.hb_activity.proofs.Facts.HeldLatches.{in_its_mode}
 use Rattle.hb_core.specs.Asking.{HasWayFree, looked_live, wanted_by}
@@ -31,23 +31,7 @@ use Rattle.hb_space.specs.Actors.{IsActor}
 use Rattle.hb_ops.specs.Files.{if_live}
 use Rattle.hb_space.specs.Boxes.{Area}
 use Rattle.hb_store.specs.States.{StoreState, in_memory}
-
--- Two latches: the second one counts where it is on another page.
-both_backed : (m : Machine) (actor : ℕ) (st : StoreState) (first second : ℕ) (mode other : Mode) → IsBacked m actor st first mode → IsBacked m actor st second other → AreBacked m actor st (latch_on first mode ∷ latch_on second other ∷ [])
-both_backed m actor st first second mode other a b page asked is = elim (cases_Bool (first == page)) [
-  | inl here ↦
-      let same : Some mode ≡ Some asked = sym (ap (λ (c : Bool). cond c (Some mode) (mode_among page (latch_on second other ∷ []))) here) ∙ is in
-      let mode_same : mode ≡ asked = cc in
-      subst (λ (n : ℕ). IsBacked m actor st n asked) (eqb-true first page here) (subst (IsBacked m actor st first) mode_same a)
-  | inr off ↦ one_backed m actor st second other b page asked (sym (ap (λ (c : Bool). cond c (Some mode) (mode_among page (latch_on second other ∷ []))) off) ∙ is)
-]
-
--- the first of two latches is held
-first_held : (first second : ℕ) (mode other : Mode) → mode_among first (latch_on first mode ∷ latch_on second other ∷ []) ≡ Some mode
-first_held first second mode other = ap (λ (b : Bool). cond b (Some mode) (mode_among first (latch_on second other ∷ []))) (eq-eqb first first refl)
-
-one_held : (first : ℕ) (mode : Mode) → mode_among first (latch_on first mode ∷ []) ≡ Some mode
-one_held first mode = ap (λ (b : Bool). cond b (Some mode) None) (eq-eqb first first refl)
+use Rattle.hb_lemmas.proofs.Booleans.{at_itself}
 
 module _ (m : Machine) (actor : ℕ) (may : ℕ → Type 0) (fetched : StoreState) (new : StoreState) (latches : IsActor actor) (fit : LatchesFit m) (inside : HoldsPagesOfFile m) (free : HasWayFree m actor) (brings : Brings m may fetched)
     (wanted : Wanted) (page : LivePage) (wants : wanted_by m actor ≡ Some wanted) (live : if_live (in_memory fetched wanted.page) ≡ Some page) (level : page.level ≡ wanted.level) (none : new ≡ fetched) where
@@ -61,11 +45,8 @@ module _ (m : Machine) (actor : ℕ) (may : ℕ → Type 0) (fetched : StoreStat
   backs deed other is backed = backed_deed m actor may fetched new latches fit inside free brings deed other is backed
 
   -- the latch at hand, and one that was held
-  latched : (mode : Mode) → wanted.mode ≡ mode → IsBacked m actor new wanted.page mode
-  latched mode is = at_hand m actor may fetched new latches fit inside free brings wanted page wants live level none mode is
-
   latched_on : (id : ℕ) (mode : Mode) → (wanted.page ≡ id) × (wanted.mode ≡ mode) → IsBacked m actor new id mode
-  latched_on id mode is = subst (λ (n : ℕ). IsBacked m actor new n mode) is.0 (latched mode is.1)
+  latched_on id mode is = subst (λ (n : ℕ). IsBacked m actor new n mode) is.0 (at_hand m actor may fetched new latches fit inside free brings wanted page wants live level none mode is.1)
 
   held : (activity : Activity) (id : ℕ) (mode : Mode) → m.activity actor ≡ activity → mode_among id (latches_held m.store activity) ≡ Some mode → IsBacked m actor new id mode
   held activity id mode is among = held_backed m actor may fetched new latches fit inside free brings id mode none (own_mode m actor may fetched new latches fit inside free brings activity id mode is among)
@@ -97,7 +78,7 @@ module _ (m : Machine) (actor : ℕ) (may : ℕ → Type 0) (fetched : StoreStat
   plan_next job parent keep gone leaf above kept plan is = by plan
     where
       parent_stays : IsBacked m actor new parent Update
-      parent_stays = held (at.ConsolidatorTry job parent keep gone leaf) parent Update is (first_held parent keep Update Shared)
+      parent_stays = held (at.ConsolidatorTry job parent keep gone leaf) parent Update is (at_itself parent (Some Update) (mode_among parent (latch_on keep Shared ∷ [])))
 
       by : (plan : MergePlan) → Backs (after_try job parent keep gone leaf above kept plan)
       by plans.Merge = stands m actor new (at.ConsolidatorPromote job parent keep gone) refl (one_backed m actor new parent Update parent_stays)
@@ -109,7 +90,7 @@ module _ (m : Machine) (actor : ℕ) (may : ℕ → Type 0) (fetched : StoreStat
   keep_next job parent keep gone None is = rests m actor new _ refl refl
   keep_next job parent keep gone (Some area) is =
       let keeping : Activity = at.ConsolidatorKeep job parent keep gone in
-      stands m actor new (at.ConsolidatorDecide job parent keep gone) refl (both_backed m actor new parent keep Exclusive Exclusive (held keeping parent Exclusive is (one_held parent Exclusive))
+      stands m actor new (at.ConsolidatorDecide job parent keep gone) refl (both_backed m actor new parent keep Exclusive Exclusive (held keeping parent Exclusive is (at_itself parent (Some Exclusive) None))
       (latched_on keep Exclusive (of_page keep _ Exclusive (looked_live m.store keeping) wanted (wants_as keeping is))))
 
   -- ---- the rows
@@ -123,19 +104,19 @@ module _ (m : Machine) (actor : ℕ) (may : ℕ → Type 0) (fetched : StoreStat
   decides_so job parent keep gone above plans.TooHeavy deed is = backs deed _ is (rests m actor new _ refl refl)
 
   arrives : (job : Job) (on : Option ℕ) → m.activity actor ≡ at.ConsolidatorWalk job on → page.level ≡ job.level → IsBacked m actor new wanted.page Update
-  arrives job on is same = latched Update (walk_mode job on is ∙ ap (λ (b : Bool). cond b Update Shared) (eq-eqb page.level job.level same))
+  arrives job on is same = at_hand m actor may fetched new latches fit inside free brings wanted page wants live level none Update (walk_mode job on is ∙ ap (λ (b : Bool). cond b Update Shared) (eq-eqb page.level job.level same))
 
   goes_on : (job : Job) (on : Option ℕ) → m.activity actor ≡ at.ConsolidatorWalk job on → BackedIn m actor new (at.ConsolidatorWalk job (Some wanted.page))
   goes_on job on is =
       goes m actor new (at.ConsolidatorWalk job (Some wanted.page)) wanted.page page refl (there_now m actor may fetched new latches fit inside free brings wanted page wants live level none)
-      (walk_backed m actor new wanted.page page (job_mode job) (live_now m actor may fetched new latches fit inside free brings wanted page wants live level none) (latched (job_mode job page.level) (walk_mode job on is)))
+      (walk_backed m actor new wanted.page page (job_mode job) (live_now m actor may fetched new latches fit inside free brings wanted page wants live level none) (at_hand m actor may fetched new latches fit inside free brings wanted page wants live level none (job_mode job page.level) (walk_mode job on is)))
 
   pub merger_backed : (activity : Activity) (deed : Deed) → IsMerging activity → m.activity actor ≡ activity → RowAt activity (sight m') wanted.page page deed → Backs deed
   merger_backed (at.ConsolidatorWalk job on) deed kind is (inl row) = backs deed _ row.deed_is (scan_next job wanted.page _ (arrives job on is row.level))
   merger_backed (at.ConsolidatorWalk job on) deed kind is (inr row) = backs deed _ row.passes.deed_is (goes_on job on is)
   merger_backed (at.ConsolidatorScan job parent child) deed kind is row =
       let scan : Activity = at.ConsolidatorScan job parent child in
-      let parent_stays = held scan parent Update is (one_held parent Update) in
+      let parent_stays = held scan parent Update is (at_itself parent (Some Update) None) in
       backs deed _ row.deed_is (try_next job parent child row.above _ parent_stays (both_backed m actor new parent child Update Shared parent_stays (latched_on child Shared (of_page child _ Shared (looked_live m.store scan) wanted (wants_as scan is)))))
   merger_backed (at.ConsolidatorTry job parent keep gone leaf) deed kind is row = backs deed _ row.deed_is (plan_next job parent keep gone leaf row.has.above row.has.kept row.has.plan is)
   merger_backed (at.ConsolidatorPromote job parent keep gone) deed kind is row =

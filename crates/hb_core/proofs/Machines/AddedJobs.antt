@@ -30,7 +30,6 @@ use Rattle.hb_frag.proofs.Facts.Sides.{same-side_from}
 use Rattle.hb_frag.specs.Leaves.{weight_of}
 use Rattle.hb_frag.specs.Paths.{part_at}
 use Rattle.hb_frag.specs.Trees.{Tree, Tip, Cut}
-use Rattle.hb_ops.specs.Cutting.{area_on}
 use Rattle.hb_ops.specs.Merging.{parent_page}
 use Rattle.hb_ops.specs.Recording.{del_page}
 use Rattle.hb_point.specs.SessionRows.{merges_due}
@@ -76,10 +75,6 @@ part_as_many (Left ∷ path) (Cut axis value left right) area part is = part_as_
 part_as_many (Right ∷ path) (Cut axis value left right) area part is = part_as_many path right (side_from area axis value) part is ∙ same-side_from area axis value
 part_as_many (Left ∷ path) (Tip leaf) area part is = cc
 part_as_many (Right ∷ path) (Tip leaf) area part is = cc
-
-side_as_many : (side : Side) (axis value : ℕ) (area : Area) → length (area_on side axis value area).lo ≡ length area.lo
-side_as_many Left axis value area = refl
-side_as_many Right axis value area = same-side_from area axis value
 
 corner_as_many : (s : Sight) (choice : List Side → List LeafCut → Type 0) (page : LivePage) (leaves : PartLeavesTo s choice page) → length (corner_of leaves) ≡ length page.area.lo
 corner_as_many s choice page leaves = reached_attributes leaves.cuts leaves.part.0 leaves.part.1 ∙ part_as_many leaves.path page.frag page.area leaves.part leaves.there

@@ -1,5 +1,5 @@
 -- After a step the points and boxes of lines, jobs and boxes that remain have as many attributes as the file.
-use Rattle.std.proofs.Common.{◌≡◌, ◌≢◌, ◌⊎◌, inl, inr, ℕ, List, [], ◌∷◌, All, Option, Some, IfSome, refl, sym, ap, subst}
+use Rattle.std.proofs.Common.{◌≡◌, ◌≢◌, ◌⊎◌, inl, inr, ℕ, List, [], All, Option, Some, IfSome, refl, sym, ap, subst}
 use Rattle.std.proofs.lemmas.List.Elements.{All-cons, All-nil}
 use Rattle.hb_frag.specs.declared.pages.LivePage.{LivePage}
 use Rattle.hb_frag.specs.declared.pages.Page.TheVariants.{Live}
@@ -11,7 +11,7 @@ use Rattle.hb_activity.specs.declared.jobs.Job.{Job}
 use Rattle.hb_activity.specs.declared.activities.Activity.{Activity}
 use Rattle.hb_activity.specs.declared.activities.Activity.TheVariants as at
 use Rattle.hb_core.specs.declared.outcomes.Outcome.{Outcome}
-use Rattle.hb_activity.specs.Classes.{Empty, Hand, HasLine, hand_of, job_in_work, job_of, line_in_hand, line_of}
+use Rattle.hb_activity.specs.Classes.{Empty, Hand, hand_of, job_in_work, job_of, line_in_hand, line_of}
 use Rattle.hb_activity.specs.Deeds.{Deed}
 use Rattle.hb_activity.specs.Queue.{LeavesBy}
 use Rattle.hb_consol.specs.ConsolidatorRows.{IsMergingOf}
@@ -20,7 +20,7 @@ use Rattle.hb_core.proofs.Machines.BoxesAhead.{BoxesFit, HasBoxLeft, WalksAsSess
 use Rattle.hb_core.proofs.Table.DeedKinds.{EndsHand, each_again, each_deed}
 use Rattle.hb_core.proofs.Orders.LinesFit.{line_taken}
 use Rattle.hb_core.proofs.Memory.MetaKept.{deed_keeps_meta}
-use Rattle.hb_core.proofs.Table.NextHands.{KeepsHand, hand_after}
+use Rattle.hb_core.proofs.Table.NextHands.{KeepsHand, hand_after, no_line}
 use Rattle.hb_core.proofs.Facts.StillThere.{fetched_good}
 use Rattle.hb_core.proofs.Facts.Ways.{KeepsAllButDisk}
 use Rattle.hb_core.specs.Acting.{DoesRow}
@@ -33,6 +33,7 @@ use Rattle.hb_space.specs.Actors.{IsActor}
 use Rattle.hb_point.specs.SessionRows.{WantsBoxes, boxes_ahead, taking}
 use Rattle.hb_poster.specs.PosterRows.{IsPostingOf}
 use Rattle.hb_store.specs.States.{IsGoodPage, StoreState}
+use Rattle.hb_lemmas.proofs.Lists.{not_empty}
 
 -- what one activity has of it
 pub record StandsFit (k : ℕ) (activity : Activity) : Type 0 where
@@ -78,10 +79,7 @@ fit_again k m same all = by (subst (λ (n : ℕ). FitsAll n m) (sym same) all)
 
 -- a session that walks has a line in hand
 walk_has_line : (activity : Activity) → WalksAsSession activity → hand_of activity ≡ Empty → ⊥
-walk_has_line (at.SessionWalk line held rest found) walks none = nothing none
-  where
-    nothing : HasLine line ≡ Empty → ⊥
-    nothing is = cc
+walk_has_line (at.SessionWalk line held rest found) walks none = no_line line none
 walk_has_line activity walks none = absurd walks
 
 -- with nothing in hand
@@ -122,10 +120,7 @@ ahead_some : (command : Command) → WantsBoxes command → boxes_ahead command 
 ahead_some (Insert rec) wants = absurd wants
 ahead_some (Delete point) wants = absurd wants
 ahead_some (Lookup point) wants = absurd wants
-ahead_some (Search area) wants = λ none. nothing none
-  where
-    nothing : area ∷ [] ≡ [] → ⊥
-    nothing is = cc
+ahead_some (Search area) wants = not_empty area []
 
 taking_fits : (k : ℕ) (line : Line) → LineFits k line → StandsFit k (taking line).next
 taking_fits k line fits = record { line = fits; boxes = ahead_fit k line.command fits.command; left = ahead_some line.command; job = tt }

@@ -1,10 +1,10 @@
 -- A machine that has taken no step keeps what every machine keeps; and there is one over each sound file.
-use Rattle.std.proofs.Common.{◌≡◌, ◌≢◌, ◌⊎◌, inl, inr, ℕ, ◌<◌, ◌≤◌, ◌==◌, Bool, false, cond, List, [], length, All, AllPairs, Option, Some, None, is_some, IfSome, IsTrue, refl, sym, ap, ◌∙◌, subst, arith}
+use Rattle.std.proofs.Common.{◌≡◌, ◌≢◌, ◌⊎◌, inl, inr, ℕ, ◌<◌, ◌≤◌, ◌==◌, cond, List, [], length, All, AllPairs, Option, Some, None, is_some, IfSome, IsTrue, refl, sym, ap, ◌∙◌, subst, arith}
 use Rattle.std.specs.Prelude.{IsSomeAnd}
 use Rattle.std.specs.FinMap as map
 use Rattle.std.specs.FinSet as set
 use Rattle.std.specs.Ordering.{nat_cmp}
-use Rattle.std.proofs.lemmas.Bool.{cases_Bool, eqb-true}
+use Rattle.std.proofs.lemmas.Bool.{cases_Bool, eqb-true, cond-false}
 use Rattle.std.proofs.lemmas.List.Elements.{All-nil}
 use Rattle.hb_frag.specs.declared.pages.Page.{Page}
 use Rattle.hb_latch.specs.declared.modes.Mode.{Mode}
@@ -45,9 +45,7 @@ use Rattle.hb_core.proofs.Machines.FramesKept.{frames_begun}
 use Rattle.hb_core.proofs.Table.DeedKinds.{idle_kind}
 use Rattle.hb_core.proofs.Orders.ShortOrder.{AreOfTwo}
 use Rattle.hb_core.proofs.Orders.SingleAnswers.{AreToTwo}
-
-no_pairs : {X : Type 0} (R : X → X → Type 0) → AllPairs R []
-no_pairs R i j d lt inside = absurd (omega (arith, inside))
+use Rattle.hb_lemmas.proofs.Pairs.{pairs_none}
 
 -- ---- an actor with nothing in hand
 
@@ -93,23 +91,17 @@ holds_or_not held = record { session = λ is. cc; poster = λ is. cc; consolidat
 nobodys_kind : (actor : ℕ) → ¬ (IsActor actor) → class_for actor ≡ Sessions
 nobodys_kind actor none = elim (cases_Bool (actor == 17)) [
   | inl is ↦ absurd (none (one 17 (eqb-true actor 17 is) (omega arith) (omega arith)))
-  | inr off ↦ first off ∙ elim (cases_Bool (actor == 18)) [
+  | inr off ↦ cond-false (actor == 17) Posters (cond (actor == 18) Consolidators (cond (actor == 19) Flushers Sessions)) off ∙ elim (cases_Bool (actor == 18)) [
     | inl is ↦ absurd (none (one 18 (eqb-true actor 18 is) (omega arith) (omega arith)))
-    | inr other ↦ second other ∙ elim (cases_Bool (actor == 19)) [
+    | inr other ↦ cond-false (actor == 18) Consolidators (cond (actor == 19) Flushers Sessions) other ∙ elim (cases_Bool (actor == 19)) [
       | inl is ↦ absurd (none (one 19 (eqb-true actor 19 is) (omega arith) (omega arith)))
-      | inr last ↦ ap (λ (b : Bool). cond b Flushers Sessions) last
+      | inr last ↦ cond-false (actor == 19) Flushers Sessions last
     ]
   ]
 ]
   where
     one : (n : ℕ) → actor ≡ n → 1 ≤ n → n ≤ 19 → IsActor actor
     one n is low high = subst IsActor (sym is) (record { from_1 = low; to_19 = high })
-
-    first : (actor == 17) ≡ false → class_for actor ≡ cond (actor == 18) Consolidators (cond (actor == 19) Flushers Sessions)
-    first off = ap (λ (b : Bool). cond b Posters (cond (actor == 18) Consolidators (cond (actor == 19) Flushers Sessions))) off
-
-    second : (actor == 18) ≡ false → cond (actor == 18) Consolidators (cond (actor == 19) Flushers Sessions) ≡ cond (actor == 19) Flushers Sessions
-    second off = ap (λ (b : Bool). cond b Consolidators (cond (actor == 19) Flushers Sessions)) off
 
 -- ---- what it keeps
 
@@ -169,7 +161,7 @@ module _ (m : Machine) (begun : IsBegun m) where
 
   order_begins : OrderIsShort m
   order_begins = record {
-    once = subst (λ (l : List Entry). AllPairs AreOfTwo l) (sym begun.no_order) (no_pairs AreOfTwo);
+    once = subst (λ (l : List Entry). AllPairs AreOfTwo l) (sym begun.no_order) (pairs_none AreOfTwo);
     few = let none = ap length begun.no_order in omega (arith, none);
   }
 
@@ -182,7 +174,7 @@ module _ (m : Machine) (begun : IsBegun m) where
 
   answers_begin : AnswersAreSingle m
   answers_begin = record {
-    once = subst (λ (l : List Answered). AllPairs AreToTwo l) (sym begun.unanswered) (no_pairs AreToTwo);
+    once = subst (λ (l : List Answered). AllPairs AreToTwo l) (sym begun.unanswered) (pairs_none AreToTwo);
     outside = all_answers (λ (a : Answered). StandsOutside a.reply → All (λ (e : Entry). e.line.number ≢ a.line) m.order);
   }
 
@@ -220,7 +212,7 @@ module _ (m : Machine) (begun : IsBegun m) where
   no_lock actor lock is = of_each (λ a. lock_of a ≡ Some lock → ⊥) (record { session = λ some. cc; poster = λ some. cc; consolidator = λ some. cc; flusher = λ some. cc }) actor is
 
   groups_rise : AllPairs NoLater m.store.log.groups
-  groups_rise = subst (λ (l : List Waiting). AllPairs NoLater l) (sym no_group) (no_pairs NoLater)
+  groups_rise = subst (λ (l : List Waiting). AllPairs NoLater l) (sym no_group) (pairs_none NoLater)
 
   pub begins : MachineKeeps m
   begins = record {

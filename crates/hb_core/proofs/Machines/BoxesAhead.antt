@@ -28,7 +28,8 @@ use Rattle.hb_space.proofs.Facts.Boxes.{lo_held}
 use Rattle.hb_space.specs.Boxes.{Area, Holds, IsArea, common_area, pieces_outside}
 use Rattle.hb_store.specs.States.{IsGoodPage}
 use Rattle.hb_core.proofs.Facts.EachRow.{Searches, each_row}
-use Rattle.hb_lemmas.proofs.Lists.{All-last, All-front}
+use Rattle.hb_lemmas.proofs.Lists.{All-last, All-front, not_empty}
+use Rattle.std.proofs.lemmas.Option.{same_Some}
 
 -- a search that walks has a box left
 abbrev pub HasBoxLeft : Activity → Type 0
@@ -77,10 +78,7 @@ goal_at_hand area rest front last p is goal =
     let whole : goal_of (Search area) (front ++ last ∷ []) ≡ Some p = subst (λ (r : List Area). goal_of (Search area) r ≡ Some p) is goal in
     let long = length-append {A = Area} front (last ∷ []) in
     let there = last_there front last (length (front ++ last ∷ []) - 1) (omega (arith, long)) in
-    by (sym (ap (option_map (λ (a : Area). a.lo)) there) ∙ whole)
-  where
-    by : Some last.lo ≡ Some p → last.lo ≡ p
-    by same = cc
+    same_Some last.lo p (sym (ap (option_map (λ (a : Area). a.lo)) there) ∙ whole)
 
 -- which one is left to it
 pub record HasLast (rest : List Area) : Type 0 where
@@ -88,14 +86,11 @@ pub record HasLast (rest : List Area) : Type 0 where
   pub last : Area
   pub is : rest ≡ front ++ last ∷ []
 
-not_nothing : (a : Area) (rest : List Area) → a ∷ rest ≢ []
-not_nothing a rest is = cc
-
 pub has_last : (rest : List Area) → rest ≢ [] → HasLast rest
 has_last [] some = absurd (some refl)
 has_last (a ∷ []) some = record { front = []; last = a; is = refl }
 has_last (a ∷ b ∷ rest) some =
-    let behind = has_last (b ∷ rest) (not_nothing b rest) in
+    let behind = has_last (b ∷ rest) (not_empty b rest) in
     record { front = a ∷ behind.front; last = behind.last; is = ap (λ (l : List Area). a ∷ l) behind.is }
 
 pub corner_ahead : (command : Command) (rest : List Area) (ends : HasLast rest) → WantsBoxes command → goal_of command rest ≡ Some ends.last.lo
@@ -128,10 +123,7 @@ search_goes_on meta line held rest found page area others more good fits row =
     let box = leaf_box meta page row.p _ good row.leaf in
     let inside : Holds row.at_hand row.p = subst (Holds row.at_hand) (goal_at_hand row.whole_box rest row.front row.at_hand row.p row.whole row.goal) (lo_held row.at_hand hand.0) in
     let left = All-append (IsBoxOf k) row.front (pieces_outside row.at_hand (common_area row.at_hand row.area)) (All-front (IsBoxOf k) row.front (row.at_hand ∷ []) whole) (pieces_are_boxes k row.at_hand row.area row.p hand box.0 inside box.1) in
-    record { boxes = subst (λ (l : List Area). All (IsBoxOf k) l) (sym row.left) left; left = λ wants none. some none }
-  where
-    some : area ∷ others ≡ [] → ⊥
-    some none = cc
+    record { boxes = subst (λ (l : List Area). All (IsBoxOf k) l) (sym row.left) left; left = λ wants none. not_empty area others none }
 
 pub boxes_after : (meta : Meta) (now : Machine) (good : (id : ℕ) (page : LivePage) → (sight now).page_at id ≡ Some page → IsGoodPage meta (Live page)) (activity : Activity) (wanted : Option Wanted) (deed : Deed) → BoxesFit meta.k activity → Row activity wanted now deed → BoxesFit meta.k deed.next
 boxes_after meta now good activity wanted deed fits row = each_row now (λ activity deed. BoxesFit meta.k activity → BoxesFit meta.k deed.next) activity wanted deed

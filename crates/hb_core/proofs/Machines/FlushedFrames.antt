@@ -13,6 +13,7 @@ use Rattle.hb_pool.proofs.Facts.Others.{place_changed, place_no_other}
 use Rattle.hb_pool.proofs.Facts.Pooled.{dirty_there, frame_pins, in_place_pool}
 use Rattle.hb_store.specs.Held.{IsTied, cleaned_state, oldest_dirty}
 use Rattle.hb_store.specs.States.{StoreState, in_memory, is_dirty}
+use Rattle.std.proofs.lemmas.Option.{same_Some}
 
 -- the frames of a store are those of another one with its pages and marks
 pub tied_again : (old new : StoreState) (uses : List Use) → ((id : ℕ) → in_memory new id ≡ in_memory old id) → ((id : ℕ) → is_dirty new id ≡ is_dirty old id) → IsTied old uses → IsTied new uses
@@ -31,11 +32,8 @@ module _ (st : StoreState) (uses : List Use) (tied : IsTied st uses) (page : ℕ
   pub dirty_frame : (u : Use) × (frame_of uses page ≡ Some u)
   dirty_frame =
       let first = some_of_map (λ (u : Use). u.id) (find (λ (u : Use). u.dirty) uses) page oldest in
-      let its : first.0.id ≡ page = same (first.0.id) (sym (ap (option_map (λ (u : Use). u.id)) first.1) ∙ oldest) in
+      let its : first.0.id ≡ page = same_Some first.0.id page (sym (ap (option_map (λ (u : Use). u.id)) first.1) ∙ oldest) in
       (first.0, ap (frame_of uses) (sym its) ∙ dirty_there uses first.0 tied.pool first.1)
-    where
-      same : (id : ℕ) → Some id ≡ Some page → id ≡ page
-      same id is = cc
 
   frame_here : frame_of (in_place page clean uses) page ≡ option_map clean (frame_of uses page)
   frame_here = place_changed uses page clean tied.pool (λ u. refl)

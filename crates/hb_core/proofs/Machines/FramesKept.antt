@@ -2,6 +2,7 @@
 use Rattle.std.proofs.Common.{◌≡◌, inl, inr, ℕ, ◌≤◌, List, [], ◌++◌, Option, Some, None, IfSome, IsSome, refl, sym, ap, subst, ◌∙◌, arith}
 use Rattle.std.specs.List.{count_by}
 use Rattle.std.specs.Option.{is_some}
+use Rattle.std.proofs.lemmas.Option.{none-some}
 use Rattle.hb_lemmas.proofs.Options.{has_value, some_value}
 use Rattle.hb_latch.specs.declared.modes.Mode.{Mode}
 use Rattle.hb_activity.specs.declared.holding.Latch.{Latch}
@@ -30,11 +31,11 @@ use Rattle.hb_core.proofs.Machines.HoldersMoved.{IsLatched, holders_moved, none_
 use Rattle.hb_core.proofs.Machines.LatchesApart.{AreOnce, known_apart, latches_once, none_once, puts_apart}
 use Rattle.hb_core.proofs.Machines.PinCounts.{IsSingle, cleaned_pins, one_if}
 use Rattle.hb_core.proofs.Machines.PinsFollow.{AreThere, PinsMore, came_stays, deed_pins, found_counted, more_number, none_more, times}
-use Rattle.hb_core.proofs.Facts.StillThere.{own_next}
 use Rattle.hb_core.proofs.Table.NextPlaces.{nothing_given_up, place_after}
 use Rattle.hb_core.proofs.Facts.StepKinds.{FlushesMore, each_kind_so, ready_kind}
 use Rattle.hb_core.proofs.Walks.WalksKept.{walks_stay_in_space}
 use Rattle.hb_space.specs.Actors.{IsActor}
+use Rattle.hb_core.proofs.Facts.Ways.{own_next}
 
 abbrev FitsNow : Machine → Type 0
 FitsNow m = FramesFit m.store m.uses m.latches
@@ -127,10 +128,7 @@ module _ (m : Machine) (actor : ℕ) (outcome : Outcome) (new : Machine) (may : 
 
     -- one after which the actor holds nothing
     leaves_all : (latches_held new.store deed.next ≡ []) → performs.pins ≡ pages_of held → PinsMore [] m.uses performs.came → FitsNow new
-    leaves_all none pins more = deed_so [] pins more (none_once after none) (λ page mode is. absurd (nothing page mode (sym (ap (mode_among page) none) ∙ is)))
-      where
-        nothing : (page : ℕ) (mode : Mode) → mode_among page [] ≡ Some mode → ⊥
-        nothing page mode is = cc
+    leaves_all none pins more = deed_so [] pins more (none_once after none) (λ page mode is. absurd (none-some mode (sym (ap (mode_among page) none) ∙ is)))
 
   as_it_is : (deed : Deed) → ((st : StoreState) → latches_held st deed.next ≡ []) → PerformsAsItIs m actor deed outcome new → FitsNow new
   as_it_is deed none (performs, came, pins) = leaves_all m.store deed performs (none new.store) pins (subst (PinsMore [] m.uses) (sym came) (none_more m.uses single))
@@ -146,7 +144,7 @@ module _ (m : Machine) (actor : ℕ) (outcome : Outcome) (new : Machine) (may : 
         let deed = acts.deed in
         let place = place_after m actor acts.fetched (wanted_by m actor) deed refl acts.row in
         let walks = walks_stay_in_space m actor outcome new may keeps.latches_fit keeps.pages_of_file keeps.nobody_else keeps.walk_in_space step in
-        let merging : IfSome (merging_at deed.next) (NamesKnown new.store) = subst (λ (a : Activity). IfSome (merging_at a) (NamesKnown new.store)) (own_next m actor acts.fetched deed outcome new acts.performs) (walks.merging actor) in
+        let merging : IfSome (merging_at deed.next) (NamesKnown new.store) = subst (λ (a : Activity). IfSome (merging_at a) (NamesKnown new.store)) (own_next actor deed.next m.activity new.activity acts.performs.activity) (walks.merging actor) in
         let backed = every_row_backed m actor _ acts.fetched new.store may keeps.latches_fit keeps.pages_of_file free acts.brings (wanted_by m actor) deed refl acts.performs.store acts.row in
         deed_so acts.fetched deed acts.performs (page_wanted (wanted_by m actor)) acts.pins
         (subst (PinsMore (page_wanted (wanted_by m actor)) m.uses) (sym acts.came) (more_number _ m.store.meta (wanted_by m actor) m.uses single))

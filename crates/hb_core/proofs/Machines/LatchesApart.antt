@@ -5,6 +5,7 @@ use Rattle.std.proofs.lemmas.Bool.{cases_Bool, eqb-false, eqb-true}
 use Rattle.std.proofs.lemmas.Option.{none-some, same_Some}
 use Rattle.hb_lemmas.proofs.Booleans.{at_itself, if_same}
 use Rattle.hb_lemmas.proofs.Options.{has_value}
+use Rattle.hb_lemmas.proofs.Lists.{not_empty}
 use Rattle.hb_frag.specs.declared.pages.LivePage.{LivePage}
 use Rattle.hb_frag.specs.declared.pages.Page.TheVariants.{Free, Live}
 use Rattle.hb_frag.specs.Leaves.{DirectlyHolds}
@@ -118,21 +119,16 @@ module _ (m : Machine) (actor : ℕ) (may : ℕ → Type 0) (fetched : StoreStat
             omega (arith, same, behind, within, meta)
         | inr some ↦
             let head = (next.from_chain (eqb-false fetched.meta.free 0 some)).1 in
-            free_is_not_live leaves.free_after used.0 (sym head ∙ ap (in_memory fetched) (sym same) ∙ stays)
+            let free : Some (Free leaves.free_after) ≡ Some (Live used.0) = sym head ∙ ap (in_memory fetched) (sym same) ∙ stays in
+            cc free
       ]
-    where
-      free_is_not_live : (next : ℕ) (page : LivePage) → Some (Free next) ≡ Some (Live page) → ⊥
-      free_is_not_live next page is = cc
 
   -- two numbers of one activity
   put_is : (a b : Line) (p q r s : ℕ) → at.SessionPut a p q ≡ at.SessionPut b r s → (p ≡ r) × (q ≡ s)
   put_is a b p q r s is = (cc, cc)
 
   pub puts_apart : HasPlace m actor (now m actor fetched) deed → PutsApart deed.next
-  puts_apart (inl free) line source fresh is same = some source (latch_on fresh Exclusive ∷ []) (sym (ap (latches_held m.store) is) ∙ free.latches m.store)
-    where
-      some : (id : ℕ) (rest : List Latch) → latch_on id Exclusive ∷ rest ≡ [] → ⊥
-      some id rest is = cc
+  puts_apart (inl free) line source fresh is same = not_empty (latch_on source Exclusive) (latch_on fresh Exclusive ∷ []) (sym (ap (latches_held m.store) is) ∙ free.latches m.store)
   puts_apart (inr (inl to)) line source fresh is same = none-some to.id (sym (ap walk_held is) ∙ to.held)
   puts_apart (inr (inr (inl full))) line source fresh is same = off full.line full.id (sym (ap (λ (d : Deed). d.next) full.row.deed_is) ∙ is)
     where

@@ -6,13 +6,10 @@ use Rattle.std.proofs.lemmas.Bool.{eqb-true, eqb-false}
 use Rattle.hb_activity.specs.declared.activities.Activity.{Activity}
 use Rattle.hb_activity.specs.declared.activities.Activity.TheVariants as at
 use Rattle.hb_boxlock.specs.declared.locks.BoxLock.{BoxLock}
-use Rattle.hb_activity.specs.declared.jobs.Job.{Job}
 use Rattle.hb_activity.specs.BoxLocks.{lock_of, lock_of_command}
 use Rattle.hb_activity.specs.Classes.{Hand, hand_of, line_in_hand, line_of}
 use Rattle.hb_activity.specs.Deeds.{Deed}
-use Rattle.hb_consol.specs.ConsolidatorRows.{IsMergingOf}
 use Rattle.hb_point.specs.SessionRows.{next_line, taking}
-use Rattle.hb_poster.specs.PosterRows.{IsPostingOf}
 use Rattle.hb_set.specs.declared.commands.Command.{Command}
 use Rattle.hb_set.specs.declared.commands.Command.TheVariants.{Insert, Delete, Lookup, Search}
 use Rattle.hb_set.specs.declared.scripts.Line.{Line}
@@ -21,7 +18,7 @@ use Rattle.hb_store.specs.declared.stops.StopWhy.{StopWhy}
 use Rattle.hb_store.specs.States.{StoreState}
 use Rattle.hb_core.specs.declared.outcomes.Outcome.{Outcome}
 use Rattle.hb_core.specs.declared.outcomes.Outcome.TheVariants as outcomes
-use Rattle.hb_core.proofs.Orders.LinesFit.{line_taken}
+use Rattle.hb_core.proofs.Orders.LinesFit.{line_taken, took_job, took_merging}
 use Rattle.hb_core.proofs.Table.DeedKinds.{EndsHand, each_deed}
 use Rattle.hb_core.proofs.Table.NextHands.{KeepsHand, hand_after}
 use Rattle.hb_core.proofs.Facts.Ways.{KeepsAllButDisk}
@@ -36,6 +33,7 @@ use Rattle.hb_core.specs.Machines.{Machine, with_activity, with_disk}
 use Rattle.hb_core.specs.Performing.{Performs}
 use Rattle.hb_core.specs.Steps.{BeginsLine, StepsAs, StepsTo, TakesJob, TakesMerging}
 use Rattle.hb_space.proofs.Facts.Boxes.{Meets-back}
+use Rattle.std.proofs.lemmas.Option.{none-some, same_Some}
 
 -- ---- the lock of an activity is that of the line in its hand
 
@@ -63,16 +61,6 @@ lock_is (at.ConsolidatorKeep job parent keep gone) = refl
 lock_is (at.ConsolidatorDecide job parent keep gone) = refl
 lock_is at.Flusher = refl
 
--- a worker that took its job has no line
-pub posting_hand : (job : Job) (height : ℕ) (next : Activity) → IsPostingOf job height next → line_in_hand next ≡ None
-posting_hand job height next (inl (above, is)) = ap line_in_hand is
-posting_hand job height next (inr (inl (same, is))) = ap line_in_hand is
-posting_hand job height next (inr (inr (below, is))) = ap line_in_hand is
-
-pub merging_hand : (job : Job) (height : ℕ) (next : Activity) → IsMergingOf job height next → line_in_hand next ≡ None
-merging_hand job height next (inl (above, is)) = ap line_in_hand is
-merging_hand job height next (inr (below, is)) = ap line_in_hand is
-
 -- a box of as many attributes as the file
 pub command_box : (k : ℕ) (command : Command) → CommandFits k command → length (lock_of_command command).area.lo ≡ k
 command_box k (Insert rec) fits = fits
@@ -81,14 +69,8 @@ command_box k (Lookup point) fits = fits
 command_box k (Search area) fits = fits.1
 
 hand_box : (k : ℕ) (o : Option Line) (lock : BoxLock) → IfSome o (LineFits k) → option_map (λ (line : Line). lock_of_command line.command) o ≡ Some lock → length lock.area.lo ≡ k
-hand_box k None lock fits is = absurd (none is)
-  where
-    none : None ≡ Some lock → ⊥
-    none nothing = cc
-hand_box k (Some line) lock fits is = subst (λ (l : BoxLock). length l.area.lo ≡ k) (same is) (command_box k line.command fits.command)
-  where
-    same : Some (lock_of_command line.command) ≡ Some lock → lock_of_command line.command ≡ lock
-    same eq = cc
+hand_box k None lock fits is = absurd (none-some lock is)
+hand_box k (Some line) lock fits is = subst (λ (l : BoxLock). length l.area.lo ≡ k) (same_Some (lock_of_command line.command) lock is) (command_box k line.command fits.command)
 
 pub lock_box : (m : Machine) → MachineKeeps m → (actor : ℕ) (lock : BoxLock) → lock_of (m.activity actor) ≡ Some lock → length lock.area.lo ≡ m.store.meta.k
 lock_box m kept actor lock is = hand_box m.store.meta.k (line_in_hand (m.activity actor)) lock (kept.attributes_fit.in_hand actor) (sym (lock_is (m.activity actor)) ∙ is)
@@ -168,10 +150,7 @@ module _ (m : Machine) (actor : ℕ) (outcome : Outcome) (new : Machine) (kept :
 
   -- who has no line in hand has no lock
   no_lock : (next : Activity) → line_in_hand next ≡ None → MayLock next
-  no_lock next none lock is = absurd (never (sym (ap (option_map (λ (line : Line). lock_of_command line.command)) none) ∙ sym (lock_is next) ∙ is))
-    where
-      never : None ≡ Some lock → ⊥
-      never nothing = cc
+  no_lock next none lock is = absurd (none-some lock (sym (ap (option_map (λ (line : Line). lock_of_command line.command)) none) ∙ sym (lock_is next) ∙ is))
 
   same_lock : (next : Activity) → hand_of next ≡ hand_of (m.activity actor) → MayLock next
   same_lock next same lock is = inl (lock_is (m.activity actor) ∙ ap lock_in_hand (sym same) ∙ sym (lock_is next) ∙ is)
@@ -183,10 +162,7 @@ module _ (m : Machine) (actor : ℕ) (outcome : Outcome) (new : Machine) (kept :
   stays keeps = subst (λ (all : ℕ → Activity). (a b : ℕ) (lock held : BoxLock) → a ≢ b → lock_of (all a) ≡ Some lock → lock_of (all b) ≡ Some held → Meets lock.area held.area → IsTrue lock.shared × IsTrue held.shared) (sym keeps.activity) kept.box_locks_fit
 
   taken_lock : (line : Line) → LineFits m.store.meta.k line → HasBoxFree m actor (lock_of_command line.command) → MayLock (taking line).next
-  taken_lock line fits free lock is = inr (subst (λ (l : BoxLock). HasBoxFree m actor l × (length l.area.lo ≡ m.store.meta.k)) (same is) (free, command_box m.store.meta.k line.command fits.command))
-    where
-      same : Some (lock_of_command line.command) ≡ Some lock → lock_of_command line.command ≡ lock
-      same eq = cc
+  taken_lock line fits free lock is = inr (subst (λ (l : BoxLock). HasBoxFree m actor l × (length l.area.lo ≡ m.store.meta.k)) (same_Some (lock_of_command line.command) lock is) (free, command_box m.store.meta.k line.command fits.command))
 
   takes : StepsTo m actor outcome new → (line : Line) → m.activity actor ≡ at.SessionIdle → next_line actor m.answered m.lines ≡ Some line → Performs m m.store actor (taking line) outcome new → BoxLocksFit new
   takes step line idle next performs = elim (begins_free m actor outcome new line idle next step) [
@@ -199,10 +175,10 @@ module _ (m : Machine) (actor : ℕ) (outcome : Outcome) (new : Machine) (kept :
   performed fetched deed performs may = locks_again deed.next performs.activity may
 
   posts : (deed : Deed) → TakesJob m deed → Performs m m.store actor deed outcome new → BoxLocksFit new
-  posts deed taken performs = performed m.store deed performs (no_lock deed.next (ap (λ (d : Deed). line_in_hand d.next) taken.deed_is ∙ posting_hand taken.job m.store.meta.height taken.next taken.posting))
+  posts deed taken performs = performed m.store deed performs (no_lock deed.next (took_job m deed taken))
 
   merges : (deed : Deed) → TakesMerging m deed → Performs m m.store actor deed outcome new → BoxLocksFit new
-  merges deed taken performs = performed m.store deed performs (no_lock deed.next (ap (λ (d : Deed). line_in_hand d.next) taken.deed_is ∙ merging_hand taken.job m.store.meta.height taken.next taken.merging))
+  merges deed taken performs = performed m.store deed performs (no_lock deed.next (took_merging m deed taken))
 
   acts : DoesRow m actor outcome new → BoxLocksFit new
   acts does = performed does.fetched does.deed does.performs (by_hand does.deed (hand_after (with_disk does.fetched m.files m.clock m) (m.activity actor) _ does.deed does.row))

@@ -6,6 +6,7 @@ use Rattle.std.specs.Set.{remove_key}
 use Rattle.std.proofs.lemmas.Bool.{false≢true, eqb-true, eq-eqb}
 use Rattle.std.proofs.lemmas.List.Sums.{sum_by-append, sum_by-cons, sum_by_push}
 use Rattle.std.proofs.lemmas.Map.Made.{sum_by-remove_key}
+use Rattle.hb_pool.proofs.Facts.Pooled.{room_fewer}
 use Rattle.hb_lemmas.proofs.Booleans.{if_same}
 use Rattle.hb_pool.specs.declared.pools.TheConstants.{FRAMES}
 use Rattle.hb_pool.specs.Frames.{Use, has_id, may_go, fresh, filled, pinned, unpinned, clean}
@@ -220,12 +221,6 @@ room_sum q uses = elim (nat_lt (length uses) FRAMES) as (λ b. sum_by (pins_if q
     gone : (o : Option Use) → find may_go uses ≡ o → if_there (pins_if q) o ≡ 0
     gone None is = refl
     gone (Some u) is = ap (λ n. cond {A = ℕ} (has_id q u) n 0) (goes_unpinned u (first_passes may_go uses u is)) ∙ elim (has_id q u) as (λ b. cond {A = ℕ} b 0 0 ≡ 0) [ true ↦ refl | false ↦ refl ]
-
-room_fewer : (p : Use → Bool) (uses : List Use) → count_by p (with_room uses) ≤ count_by p uses
-room_fewer p uses = elim (nat_lt (length uses) FRAMES) as (λ b. count_by p (cond b uses (remove_key may_go uses)) ≤ count_by p uses) [
-  | true ↦ omega arith
-  | false ↦ let less : count_by p (remove_key may_go uses) + if_there (λ u. one_if (p u)) (find may_go uses) ≡ count_by p uses = sum_by-remove_key (λ u. one_if (p u)) may_go uses in omega (arith, less)
-]
 
 pub brought_single : (id : ℕ) (dirty : Bool) (uses : List Use) → IsSingle uses → frame_of uses id ≡ None → IsSingle (brought id (tt {0}) dirty uses)
 brought_single id dirty uses single absent k =

@@ -119,6 +119,10 @@ more_number takes meta wanted uses single =
     let more = more_wanted wanted uses single in
     more_stay (page_wanted wanted) uses (use_wanted wanted uses) _ more (stay_number takes meta (use_wanted wanted uses) more.single)
 
+-- so in what is that order of use
+pub pinned_more : (takes : Bool) (meta : Meta) (wanted : Option Wanted) (old uses : List Use) → uses ≡ use_number takes meta (use_wanted wanted old) → IsSingle old → PinsMore (page_wanted wanted) old uses
+pinned_more takes meta wanted old uses is single = subst (PinsMore (page_wanted wanted) old) (sym is) (more_number takes meta wanted old single)
+
 count_unpinned : (k : ℕ) (ids : List ℕ) (uses : List Use) → count_by (has_id k) (unpin_each ids uses) ≡ count_by (has_id k) uses
 count_unpinned k [] uses = refl
 count_unpinned k (id ∷ rest) uses = count_unpinned k rest (in_place id unpinned uses) ∙ count_in_place k id unpinned (λ u. refl) uses

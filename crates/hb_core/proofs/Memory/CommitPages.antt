@@ -1,12 +1,24 @@
 -- The pages in memory after an operation: each is as the operation made it, or as it was; or it was none of these and left.
-use Rattle.std.proofs.Common.{◌≡◌, ◌⊎◌, inl, inr, ℕ, ◌==◌, ◌||◌, false, Bool, IsTrue, List, ◌∷◌, Option, Some, None, IsSome, refl, sym, ap, ◌∙◌, subst}
+use Rattle.std.proofs.Common.{◌≡◌, ◌⊎◌, inl, inr, ℕ, ◌==◌, ◌||◌, false, Bool, IsTrue, List, ◌∷◌, None, IsSome, refl, sym, ap, ◌∙◌, subst, Option, Some}
 use Rattle.std.proofs.lemmas.Bool.{cases_Bool, eq-eqb}
+use Rattle.hb_lemmas.proofs.Options.{not_there}
 use Rattle.hb_frag.specs.declared.pages.Page.{Page}
 use Rattle.hb_ops.specs.declared.operations.Op.{Op}
-use Rattle.hb_store.specs.Calls.{Commits, change_here, NoneComes}
+use Rattle.hb_ops.specs.declared.operations.Op.TheVariants as ops
+use Rattle.hb_store.specs.Calls.{Commits, change_here, NoneComes, read_here}
 use Rattle.hb_ops.specs.SetPages.{set_pages, has_page}
 use Rattle.hb_ops.proofs.Facts.SetPages.{set_not}
 use Rattle.hb_store.specs.States.{StoreState, in_memory}
+use Rattle.hb_space.specs.Boxes.{Area}
+use Rattle.hb_frag.specs.Trees.{Tree}
+use Rattle.hb_frag.specs.declared.pages.LivePage.{LivePage}
+use Rattle.hb_set.specs.declared.scripts.Line.{Line}
+use Rattle.hb_activity.specs.Deeds.{Deed}
+use Rattle.hb_point.specs.SplitRows.{Splits}
+use Rattle.hb_core.specs.Machines.{Machine, sight}
+use Rattle.hb_core.specs.Performing.{DoesOp, MayDo}
+use Rattle.hb_ops.specs.Extracting.{split_pages}
+use Rattle.hb_ops.specs.Operations.{change_of}
 
 -- the memory is as the pages were set
 abbrev pub IsSetBy : Op → StoreState → StoreState → ℕ → Type 0
@@ -30,12 +42,8 @@ commit_pages op mark old new commits id = elim (cases_Bool (has_page id (change_
 pub commit_here : (op : Op) (mark : ℕ) (old new : StoreState) → Commits op mark old new → (id : ℕ) → IsSome (in_memory new id) → IsSetBy op old new id
 commit_here op mark old new commits id there = elim (commit_pages op mark old new commits id) [
   | inl set ↦ set
-  | inr (off, gone) ↦ absurd (nothing (in_memory new id) there gone)
+  | inr (off, gone) ↦ absurd (not_there (in_memory new id) gone there)
 ]
-  where
-    nothing : (o : Option Page) → IsSome o → o ≡ None → ⊥
-    nothing None some gone = cc
-    nothing (Some page) some gone = cc
 
 -- and so are the pages that were changed
 pub made_pages : (op : Op) (mark : ℕ) (old new : StoreState) (changed : List (ℕ × Page)) → Commits op mark old new → (change_here old op).pages ≡ changed → (id : ℕ) → IsTrue (has_page id changed) → in_memory new id ≡ set_pages changed (in_memory old) id
@@ -50,3 +58,24 @@ has_second first id a b rest = elim (cases_Bool (id == first)) [
   | inl here ↦ ap (λ (c : Bool). c || has_page id ((id, b) ∷ rest)) here
   | inr off ↦ ap (λ (c : Bool). c || has_page id ((id, b) ∷ rest)) off ∙ has_first id b rest
 ]
+
+-- ---- a split
+
+module _ (m : Machine) (line : Line) (held : ℕ) (deed : Deed) (row : Splits (sight m) line held deed) where
+  abbrev split : Op
+  split = ops.Extract held row.leaves.fresh row.leaves.path row.leaves.cuts row.leaves.free_after
+
+  abbrev changed : List (ℕ × Page)
+  changed = split_pages held row.leaves.fresh row.leaves.path row.leaves.cuts row.page (Some row.leaves.part)
+
+  changed_are : (change_here m.store split).pages ≡ changed
+  changed_are =
+      ap (λ (o : Option LivePage). (change_of split m.store.meta o (read_here m.store split 1) (read_here m.store split 2)).pages) row.live
+      ∙ ap (λ (o : Option (Tree × Area)). split_pages held row.leaves.fresh row.leaves.path row.leaves.cuts row.page o) row.leaves.there
+
+  pub split_done : (mark : ℕ) (new : StoreState) → MayDo deed.op mark m.store new → DoesOp split mark m.store new
+  split_done mark new done = subst (λ (d : Deed). MayDo d.op mark m.store new) row.deed_is done
+
+  -- it sets both its pages
+  pub split_sets : (mark : ℕ) (new : StoreState) → MayDo deed.op mark m.store new → (id : ℕ) → IsTrue (has_page id changed) → in_memory new id ≡ set_pages changed (in_memory m.store) id
+  split_sets mark new done = made_pages split mark m.store new changed (split_done mark new done).commits changed_are

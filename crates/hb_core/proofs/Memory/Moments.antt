@@ -16,6 +16,7 @@ use Rattle.hb_store.specs.Held.{oldest_dirty}
 use Rattle.hb_store.specs.States.{StoreState}
 use Rattle.hb_wal.specs.Forces.{calls_of_force}
 use Rattle.hb_wal.specs.Log.{Waiting}
+use Rattle.hb_lemmas.proofs.Lists.{not_empty}
 
 -- what a step does to both
 pub record Times (m : Machine) (outcome : Outcome) (new : Machine) : Type 0 where
@@ -41,10 +42,7 @@ module _ (m : Machine) (actor : ℕ) (outcome : Outcome) (new : Machine) where
 
   forces_well : (groups : List Waiting) → m.store.log.groups ≡ groups → new.clock ≡ m.clock + calls_of_force groups → MovesClock m new
   forces_well [] none clock = inl (omega (arith, clock))
-  forces_well (first ∷ rest) some clock = inr (inl (λ empty. waits first rest (sym some ∙ empty), (omega (arith, clock), omega (arith, clock))))
-    where
-      waits : (first : Waiting) (rest : List Waiting) → first ∷ rest ≡ [] → ⊥
-      waits first rest is = cc
+  forces_well (first ∷ rest) some clock = inr (inl (λ empty. not_empty first rest (sym some ∙ empty), (omega (arith, clock), omega (arith, clock))))
 
   forced : (said : Outcome) → given_by said new.clock ≡ [] → ForcesAll m said outcome new → Times m outcome new
   forced said none (inl well) = record {

@@ -1,6 +1,7 @@
 -- A step brings no page into memory but the one that it wants, or the one of the number that a page takes that it makes.
 use Rattle.std.proofs.Common.{◌≡◌, ◌≢◌, ◌⊎◌, inl, inr, ℕ, ◌+◌, ◌<◌, ◌==◌, Option, Some, None, IsSome, IsTrue, refl, sym, ap, ◌∙◌, subst}
 use Rattle.std.proofs.lemmas.Bool.{cases_Bool, eqb-false, eqb-true, false≢true}
+use Rattle.hb_lemmas.proofs.Options.{not_there}
 use Rattle.hb_frag.specs.declared.pages.LivePage.{LivePage}
 use Rattle.hb_frag.specs.declared.pages.Page.{Page}
 use Rattle.hb_layout.specs.declared.meta.Meta.{Meta}
@@ -33,11 +34,6 @@ use Rattle.hb_store.specs.Fetching.{IsNext}
 use Rattle.hb_ops.specs.SetPages.{set_pages}
 use Rattle.hb_store.specs.States.{StoreState, in_memory}
 use Rattle.hb_core.proofs.Facts.EachRow.{each_op, each_row}
-
--- What isn't there isn't some page.
-none_there : (o : Option Page) → o ≡ None → IsSome o → ⊥
-none_there None none there = cc
-none_there (Some page) none there = cc
 
 live_is_some : (o : Option Page) (page : LivePage) → if_live o ≡ Some page → IsSome o
 live_is_some None page live = cc
@@ -182,7 +178,7 @@ well_made st activity (ops.Grow fresh free_after) id well made = (well.0, well.1
 module _ (m : Machine) (actor : ℕ) (new : Machine) (id : ℕ) (was : in_memory m.store id ≡ None) (comes : IsSome (in_memory new.store id)) where
   -- nothing came where the memory is the same there
   came_not : {A : Type 0} → in_memory new.store id ≡ in_memory m.store id → A
-  came_not same = absurd (none_there (in_memory new.store id) (same ∙ was) comes)
+  came_not same = absurd (not_there (in_memory new.store id) (same ∙ was) comes)
 
   same_machine : {A : Type 0} → new ≡ m → A
   same_machine is = came_not (ap (λ (n : Machine). in_memory n.store id) is)

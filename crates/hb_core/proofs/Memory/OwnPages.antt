@@ -32,6 +32,7 @@ use Rattle.hb_space.specs.Actors.{IsActor}
 use Rattle.hb_store.specs.Calls.{change_here, read_here}
 use Rattle.hb_ops.specs.SetPages.{set_pages}
 use Rattle.hb_store.specs.States.{StoreState, in_memory}
+use Rattle.std.proofs.lemmas.Option.{none-some}
 
 module _ (m : Machine) (actor : ℕ) (latches : IsActor actor) (fit : LatchesFit m) (inside : HoldsPagesOfFile m) (new : Machine) (id : ℕ) (page : LivePage) (used : IsInUse m id page) where
   abbrev pub Goal : Type 0
@@ -59,11 +60,8 @@ module _ (m : Machine) (actor : ℕ) (latches : IsActor actor) (fit : LatchesFit
   left : (op : Op) (fetched : StoreState) → Stays (Some op) fetched → Remains fetched → HasLeft op fetched new.store id → Goal
   left op fetched stay there (off, gone) = inr (inl (λ must. by must there, inl gone))
     where
-      nothing : None ≡ Some (Live page) → ⊥
-      nothing is = cc
-
       by : MustStay m id → Remains fetched → ⊥
-      by must (inl is) = nothing (sym gone ∙ stay id must off ∙ is)
+      by must (inl is) = none-some (Live page) (sym gone ∙ stay id must off ∙ is)
       by must (inr (may, why)) = may must
 
   done : (op : Option Op) (mark : ℕ) (fetched : StoreState) → Remains fetched → OwnsTargets m actor op → Stays op fetched → MayDo op mark fetched new.store → Goal

@@ -37,6 +37,7 @@ use Rattle.hb_store.specs.States.{StoreState, in_memory}
 use Rattle.hb_core.proofs.Facts.EachRow.{each_op, each_row}
 use Rattle.hb_activity.proofs.Facts.HeldLatches.{in_its_mode}
 use Rattle.hb_lemmas.proofs.Booleans.{at_itself}
+use Rattle.hb_latch.specs.declared.modes.Mode.{Mode}
 
 -- Each page that an operation changes the actor has for itself, or it was in no use.
 -- Over a disk that doesn't tell, a page that was in use and need not stay may have come again as a free one.
@@ -85,10 +86,10 @@ made_is_free m may fetched actor fresh free_after inside brings next = inr (made
 pub held_alone : (m : Machine) (actor id : ℕ) → IsActor actor → LatchesFit m → mode_among id (latches_held m.store (m.activity actor)) ≡ Some Exclusive → IsFreeFor m actor id
 held_alone m actor id may fit is = inl (inl (fit.exact actor id may ∙ is))
 
-pub second_mode : (first id : ℕ) → cond (first == id) (Some Exclusive) (cond (id == id) (Some Exclusive) None) ≡ Some Exclusive
-second_mode first id = elim (cases_Bool (first == id)) [
-  | inl here ↦ ap (λ (b : Bool). cond b (Some Exclusive) (cond (id == id) (Some Exclusive) None)) here
-  | inr off ↦ ap (λ (b : Bool). cond b (Some Exclusive) (cond (id == id) (Some Exclusive) None)) off ∙ at_itself id (Some Exclusive) None
+pub second_mode : (first id : ℕ) (mode : Mode) → cond (first == id) (Some mode) (cond (id == id) (Some mode) None) ≡ Some mode
+second_mode first id mode = elim (cases_Bool (first == id)) [
+  | inl here ↦ ap (λ (b : Bool). cond b (Some mode) (cond (id == id) (Some mode) None)) here
+  | inr off ↦ ap (λ (b : Bool). cond b (Some mode) (cond (id == id) (Some mode) None)) off ∙ at_itself id (Some mode) None
 ]
 
 held_by : (m : Machine) (actor id : ℕ) (activity : Activity) → IsActor actor → LatchesFit m → m.activity actor ≡ activity → mode_among id (latches_held m.store activity) ≡ Some Exclusive → IsFreeFor m actor id
@@ -144,7 +145,7 @@ module _ (m : Machine) (actor : ℕ) (may : ℕ → Type 0) (fetched : StoreStat
 
   own_half : (line : Line) (source fresh half id : ℕ) → m.activity actor ≡ at.SessionPut line source fresh → (half ≡ source) ⊎ (half ≡ fresh) → id ≡ half → IsFreeFor m actor id
   own_half line source fresh half id is (inl first) same = own (at.SessionPut line source fresh) source id is (at_itself source (Some Exclusive) (cond (fresh == source) (Some Exclusive) None)) (same ∙ first)
-  own_half line source fresh half id is (inr second) same = own (at.SessionPut line source fresh) fresh id is (second_mode source fresh) (same ∙ second)
+  own_half line source fresh half id is (inr second) same = own (at.SessionPut line source fresh) fresh id is (second_mode source fresh Exclusive) (same ∙ second)
 
   own_parts : (activity : Activity) (page fresh free_after : ℕ) → m.activity actor ≡ activity → mode_among page (latches_held m.store activity) ≡ Some Exclusive → (sight m').next ≡ Some (fresh, free_after) → (id : ℕ) → (id ≡ page) ⊎ (id ≡ fresh) → IsFreeFor m actor id
   own_parts activity page fresh free_after is mode next id (inl same) = own activity page id is mode same
@@ -153,7 +154,7 @@ module _ (m : Machine) (actor : ℕ) (may : ℕ → Type 0) (fetched : StoreStat
   -- the three pages of a merge: two are held, and the one that goes is the one that the step latches
   own_three : (job : Job) (parent keep gone : ℕ) (wanted : Wanted) → m.activity actor ≡ at.ConsolidatorDecide job parent keep gone → wanted_by m actor ≡ Some wanted → (id : ℕ) → (id ≡ parent) ⊎ (id ≡ keep) ⊎ (id ≡ gone) → IsFreeFor m actor id
   own_three job parent keep gone wanted is wants id (inl same) = own (at.ConsolidatorDecide job parent keep gone) parent id is (at_itself parent (Some Exclusive) (cond (keep == parent) (Some Exclusive) None)) same
-  own_three job parent keep gone wanted is wants id (inr (inl same)) = own (at.ConsolidatorDecide job parent keep gone) keep id is (second_mode parent keep) same
+  own_three job parent keep gone wanted is wants id (inr (inl same)) = own (at.ConsolidatorDecide job parent keep gone) keep id is (second_mode parent keep Exclusive) same
   own_three job parent keep gone wanted is wants id (inr (inr same)) =
       let named = decides_page m actor job parent keep gone wanted is wants in
       like m actor id gone same (inl (inr (record { wanted = wanted; wants = wants; page = named.0; mode = named.1; free = free })))

@@ -2,6 +2,7 @@
 use Rattle.std.proofs.Common.{◌≡◌, inl, inr, ℕ, ◌==◌, ◌&&◌, not, true, false, Bool, cond, List, [], ◌∷◌, All, Option, Some, None, IfSome, sym, ap, ◌∙◌, subst}
 use Rattle.std.proofs.lemmas.Bool.{cases_Bool}
 use Rattle.std.proofs.lemmas.List.Elements.{All-head, All-tail}
+use Rattle.std.proofs.lemmas.Option.{none-some}
 use Rattle.hb_set.specs.declared.scripts.Answered.{Answered}
 use Rattle.hb_set.specs.declared.scripts.Line.{Line}
 use Rattle.hb_activity.specs.declared.activities.Activity.{Activity}
@@ -28,10 +29,7 @@ taken_or P first line later false here there is = there is
 
 -- what holds of every line holds of the one that a session takes
 pub line_taken : (P : Line → Type 0) (session : ℕ) (answered : List Answered) (lines : List Line) → All P lines → (line : Line) → next_line session answered lines ≡ Some line → P line
-line_taken P session answered [] all line is = absurd (nothing line is)
-  where
-    nothing : (line : Line) → None ≡ Some line → ⊥
-    nothing line is = cc
+line_taken P session answered [] all line is = absurd (none-some line is)
 line_taken P session answered (first ∷ rest) all line is =
     taken_or P first line (next_line session answered rest) ((first.session == session) && not (is_answered first.number answered)) (All-head P first rest all) (line_taken P session answered rest (All-tail P first rest all) line) is
 

@@ -6,7 +6,7 @@ use Rattle.hb_ops.specs.declared.operations.Op.{Op}
 use Rattle.hb_core.specs.declared.outcomes.Outcome.{Outcome}
 use Rattle.hb_core.specs.declared.outcomes.Outcome.TheVariants as outcomes
 use Rattle.hb_activity.specs.Deeds.{Deed}
-use Rattle.hb_core.proofs.Orders.PendingKept.{IsBelow, none_rising, rising_one_more}
+use Rattle.hb_core.proofs.Orders.PendingKept.{IsBelow}
 use Rattle.hb_core.proofs.Facts.StepKinds.{FlushesMore, each_kind, ready_kind}
 use Rattle.hb_core.specs.Forcing.{FailsToWrite, ForcesAll, StaysSo}
 use Rattle.hb_core.specs.KeptMachine.{MachineKeeps}
@@ -20,6 +20,8 @@ use Rattle.hb_set.specs.Order.{Entry}
 use Rattle.hb_store.specs.Making.{group_here}
 use Rattle.hb_store.specs.States.{StoreState}
 use Rattle.hb_wal.specs.Log.{LogState, Waiting}
+use Rattle.hb_lemmas.proofs.Pairs.{pairs_none}
+use Rattle.std.proofs.lemmas.List.Quantifiers.{all_pairs_push}
 
 abbrev pub IsInside : ℕ → Waiting → Type 0
 IsInside most g = g.mark ≤ most
@@ -49,7 +51,7 @@ module _ (m : Machine) (actor : ℕ) (outcome : Outcome) (new : Machine) (marks 
   joined more group mark order_is groups_are =
       let long = length-append {A = Entry} m.order more in
       rise_as (m.order ++ more) (m.store.log.groups ++ group ∷ []) order_is groups_are
-      (rising_one_more m.store.log.groups group (subst (λ (k : ℕ). All (IsInside k) m.store.log.groups) (sym mark) marks.inside) marks.rising)
+      (all_pairs_push IsBelow m.store.log.groups group marks.rising (subst (λ (k : ℕ). All (IsInside k) m.store.log.groups) (sym mark) marks.inside))
       (All-push (IsInside (length (m.order ++ more))) m.store.log.groups group (inside_longer more) (omega (arith, mark, long)))
 
   stays : (said : Outcome) → StaysSo m said outcome new → MarksRise new
@@ -60,7 +62,7 @@ module _ (m : Machine) (actor : ℕ) (outcome : Outcome) (new : Machine) (marks 
 
   forces : (said : Outcome) → ForcesAll m said outcome new → MarksRise new
   forces said (inl (says, is)) =
-      rise_as m.order [] (ap (λ (n : Machine). n.order) is) (ap (λ (n : Machine). n.store.log.groups) is) none_rising (All-nil (IsInside (length m.order)))
+      rise_as m.order [] (ap (λ (n : Machine). n.order) is) (ap (λ (n : Machine). n.store.log.groups) is) (pairs_none IsBelow) (All-nil (IsInside (length m.order)))
   forces said (inr badly) = fails badly.1
 
   more_flushed : FlushesMore m outcome new → MarksRise new

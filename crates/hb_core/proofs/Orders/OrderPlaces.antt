@@ -1,5 +1,5 @@
 -- After a step each line that awaits its place, and each answered line of the order, stands there with its reply.
-use Rattle.std.proofs.Common.{◌≡◌, ◌⊎◌, inl, inr, ℕ, ◌==◌, Bool, cond, List, [], ◌∷◌, ◌++◌, length, get_or, All, Option, Some, refl, sym, ap, ◌∙◌, subst, append-nil}
+use Rattle.std.proofs.Common.{◌≡◌, ◌⊎◌, inl, inr, ℕ, ◌==◌, Bool, cond, List, [], ◌∷◌, ◌++◌, length, get_or, All, Option, refl, sym, ap, ◌∙◌, subst, append-nil}
 use Rattle.std.specs.List.{slice_get}
 use Rattle.std.proofs.lemmas.Bool.{cases_Bool}
 use Rattle.std.proofs.lemmas.List.Elements.{All-append, All-cons, All-nil}
@@ -21,7 +21,8 @@ use Rattle.hb_core.specs.Performing.{Performs, given_by, outcome_of}
 use Rattle.hb_core.specs.Steps.{StepsTo, Works}
 use Rattle.hb_set.specs.Order.{Entry}
 use Rattle.hb_store.specs.States.{StoreState}
-use Rattle.hb_lemmas.proofs.Lists.{get-longer}
+use Rattle.hb_lemmas.proofs.Lists.{get-push_last}
+use Rattle.hb_core.proofs.TwoSteps.SinglePlaces.{stands_longer}
 
 abbrev pub StandsSomewhere : Machine → Answered → Type 0
 StandsSomewhere m a = StandsOutside a.reply ⊎ ((place : ℕ) × StandsInOrder m a.line a.reply place)
@@ -31,28 +32,16 @@ pub record KeepsReplies (m : Machine) : Type 0 where
   pub awaits : (actor number place : ℕ) (reply : Reply) → m.activity actor ≡ at.SessionAwait number reply place → StandsInOrder m number reply place
   pub answers : All (StandsSomewhere m) m.answered
 
-pub stands_last : (order : List Entry) (entry : Entry) → slice_get (order ++ entry ∷ []) (length order) ≡ Some entry
-stands_last [] entry = refl
-stands_last (first ∷ order) entry = stands_last order entry
-
 module _ (m : Machine) (actor : ℕ) (outcome : Outcome) (new : Machine) (keeps : KeepsReplies m) where
-  stands_more : (more : List Entry) → new.order ≡ m.order ++ more → (number place : ℕ) (reply : Reply) → StandsInOrder m number reply place → StandsInOrder new number reply place
-  stands_more more is number place reply stands = record {
-    entry = stands.entry;
-    there = ap (λ (l : List Entry). slice_get l place) is ∙ get-longer m.order more place stands.entry stands.there;
-    number_is = stands.number_is;
-    reply_is = stands.reply_is;
-  }
-
   somewhere_more : (more : List Entry) → new.order ≡ m.order ++ more → (a : Answered) → StandsSomewhere m a → StandsSomewhere new a
   somewhere_more more is a (inl outside) = inl outside
-  somewhere_more more is a (inr (place, stands)) = inr (place, stands_more more is a.line place a.reply stands)
+  somewhere_more more is a (inr (place, stands)) = inr (place, stands_longer m new more a.line place a.reply is stands)
 
   stays : KeepsAllButDisk m new → KeepsReplies new
   stays all =
       let order : new.order ≡ m.order ++ [] = all.order ∙ sym (append-nil m.order) in
       record {
-        awaits = λ other number place reply is. stands_more [] order number place reply (keeps.awaits other number place reply (sym (ap (λ (f : ℕ → Activity). f other) all.activity) ∙ is));
+        awaits = λ other number place reply is. stands_longer m new [] number place reply order (keeps.awaits other number place reply (sym (ap (λ (f : ℕ → Activity). f other) all.activity) ∙ is));
         answers = subst (λ (l : List Answered). All (StandsSomewhere new) l) (sym all.answered) (λ i d lt. somewhere_more [] order (get_or m.answered i d) (keeps.answers i d lt));
       }
 
@@ -61,7 +50,7 @@ module _ (m : Machine) (actor : ℕ) (outcome : Outcome) (new : Machine) (keeps 
   done fetched deed performs given own = record {
     awaits = λ other number place reply is. elim (cases_Bool (other == actor)) [
       | inl here ↦ own number place reply (sym (performs.activity other ∙ ap (λ (b : Bool). cond b deed.next (m.activity other)) here) ∙ is)
-      | inr off ↦ stands_more (if_some deed.joins) performs.order number place reply (keeps.awaits other number place reply (sym (performs.activity other ∙ ap (λ (b : Bool). cond b deed.next (m.activity other)) off) ∙ is))
+      | inr off ↦ stands_longer m new (if_some deed.joins) number place reply performs.order (keeps.awaits other number place reply (sym (performs.activity other ∙ ap (λ (b : Bool). cond b deed.next (m.activity other)) off) ∙ is))
     ];
     answers = subst (λ (l : List Answered). All (StandsSomewhere new) l) (sym performs.answered)
         (All-append (StandsSomewhere new) m.answered (given_by (outcome_of deed.says) m.clock) (λ i d lt. somewhere_more (if_some deed.joins) performs.order (get_or m.answered i d) (keeps.answers i d lt)) given);
@@ -100,7 +89,7 @@ module _ (m : Machine) (actor : ℕ) (outcome : Outcome) (new : Machine) (keeps 
       let same = awaits_same deed.next deed.next takes.line.number number (length m.order) place takes.reply reply takes.next is in
       record {
         entry = entry;
-        there = ap (λ (l : List Entry). slice_get l place) order ∙ ap (λ (n : ℕ). slice_get (m.order ++ entry ∷ []) n) (sym same.1) ∙ stands_last m.order entry;
+        there = ap (λ (l : List Entry). slice_get l place) order ∙ ap (λ (n : ℕ). slice_get (m.order ++ entry ∷ []) n) (sym same.1) ∙ get-push_last m.order entry;
         number_is = same.0;
         reply_is = same.2;
       })
@@ -124,6 +113,6 @@ module _ (m : Machine) (actor : ℕ) (outcome : Outcome) (new : Machine) (keeps 
     refuses = λ line idle next boxes performs. answered m.store _ line.number replies.NoMemory performs refl refl (inl tt);
     posts = λ deed idle takes performs. quiet m.store deed performs (ap (λ (d : Deed). given_by (outcome_of d.says) m.clock) takes.deed_is) (post_waits_never m deed takes);
     merges = λ deed idle takes performs. quiet m.store deed performs (ap (λ (d : Deed). given_by (outcome_of d.says) m.clock) takes.deed_is) (merge_waits_never m deed takes);
-    settles = λ number place reply is settled performs. answered m.store _ number reply performs refl refl (inr (place, stands_more [] performs.order number place reply (keeps.awaits actor number place reply is)));
+    settles = λ number place reply is settled performs. answered m.store _ number reply performs refl refl (inr (place, stands_longer m new [] number place reply performs.order (keeps.awaits actor number place reply is)));
     works = λ none works. worked works;
   }) step

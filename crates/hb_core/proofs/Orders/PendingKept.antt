@@ -1,10 +1,9 @@
 -- After a step the file before each group that waits has the set after as many entries of the order as its mark says, marks
 -- don't fall, and each answered entry stands below the oldest one's.
 use Rattle.hb_core.proofs.Orders.OrderPlaces.{StandsSomewhere}
-use Rattle.std.proofs.Common.{◌≡◌, ◌⊎◌, inl, inr, ℕ, suc, ◌<◌, ◌≤◌, List, [], ◌∷◌, ◌++◌, length, take, get_or, All, AllPairs, Option, Some, None, option_map, refl, sym, ap, ◌∙◌, subst, arith, append-nil}
+use Rattle.std.proofs.Common.{◌≡◌, ◌⊎◌, inl, inr, ℕ, ◌<◌, ◌≤◌, List, [], ◌∷◌, ◌++◌, length, take, get_or, All, AllPairs, Option, Some, None, option_map, refl, sym, ap, ◌∙◌, subst, arith, append-nil}
 use Rattle.std.proofs.lemmas.List.{length-append, take_all, take-append-le}
-use Rattle.std.proofs.lemmas.List.Elements.{All-append, All-cons, All-nil, All-push}
-use Rattle.std.proofs.lemmas.List.Kept.{AllPairs-cons}
+use Rattle.std.proofs.lemmas.List.Elements.{All-append, All-cons, All-nil}
 use Rattle.hb_ops.specs.declared.operations.Op.{Op}
 use Rattle.hb_set.specs.declared.commands.Reply.{Reply}
 use Rattle.hb_set.specs.declared.scripts.Answered.{Answered}
@@ -34,6 +33,8 @@ use Rattle.hb_store.specs.States.{StoreState}
 use Rattle.hb_wal.proofs.Facts.Marks.{mark_inside}
 use Rattle.hb_wal.specs.Log.{LogState, Waiting, mark_of}
 use Rattle.std.proofs.lemmas.Option.{same_Some}
+use Rattle.hb_lemmas.proofs.Pairs.{pairs_none}
+use Rattle.std.proofs.lemmas.List.Quantifiers.{all_pairs_push}
 
 -- ---- groups and the files before them
 
@@ -66,19 +67,6 @@ marks_inside n order before (group ∷ rest) (next ∷ later) (low, has, follows
 
 abbrev pub IsBelow : Waiting → Waiting → Type 0
 IsBelow g h = g.mark ≤ h.mark
-
-pub none_rising : AllPairs IsBelow []
-none_rising = λ i j d less inside. absurd (omega (arith, inside))
-
-pub rising_rest : (first : Waiting) (rest : List Waiting) → AllPairs IsBelow (first ∷ rest) → AllPairs IsBelow rest
-rising_rest first rest rising = λ i j d less inside. rising (suc i) (suc j) d (omega (arith, less)) (omega (arith, inside))
-
-pub rising_one_more : (groups : List Waiting) (last : Waiting) → All (λ (g : Waiting). g.mark ≤ last.mark) groups → AllPairs IsBelow groups → AllPairs IsBelow (groups ++ last ∷ [])
-rising_one_more [] last low rising = AllPairs-cons IsBelow last [] (All-nil (IsBelow last)) rising
-rising_one_more (first ∷ rest) last low rising =
-    let firsts : All (IsBelow first) rest = λ k d lt. rising 0 (suc k) d (omega arith) (omega (arith, lt)) in
-    let behind = rising_one_more rest last (λ k d lt. low (suc k) d (omega (arith, lt))) (rising_rest first rest rising) in
-    AllPairs-cons IsBelow first (rest ++ last ∷ []) (All-push (IsBelow first) rest last firsts (low 0 first (omega arith))) behind
 
 -- the oldest mark never falls
 later_mark : (groups : List Waiting) (now then : ℕ) → now ≤ then → mark_of groups now ≤ mark_of groups then
@@ -129,7 +117,7 @@ module _ (n : RecordSet) (m : Machine) (files : Files) (new : Machine) (files' :
   -- the groups are forced, and none waits
   forced : new.order ≡ m.order → new.store.log.groups ≡ [] → new.files ≡ option_map forced_files m.files → KeepsMarks n m new files'
   forced order_is groups_are files_are =
-      kept_as m.order [] (forced_files files) order_is groups_are (files_are ∙ ap (option_map forced_files) told) tt none_rising (mark_inside m.store.log.groups (length m.order) low)
+      kept_as m.order [] (forced_files files) order_is groups_are (files_are ∙ ap (option_map forced_files) told) tt (pairs_none IsBelow) (mark_inside m.store.log.groups (length m.order) low)
 
   -- a group joins those that wait
   joined : (more : List Entry) (group : Waiting) (op : Op) → group.mark ≡ length m.order → new.order ≡ m.order ++ more → new.store.log.groups ≡ m.store.log.groups ++ group ∷ [] → new.files ≡ option_map (with_effect op) m.files → KeepsMarks n m new files'
@@ -142,7 +130,7 @@ module _ (n : RecordSet) (m : Machine) (files : Files) (new : Machine) (files' :
       let below : All (λ (g : Waiting). g.mark ≤ group.mark) m.store.log.groups = subst (λ (k : ℕ). All (λ (g : Waiting). g.mark ≤ k) m.store.log.groups) (sym mark) low in
       kept_as (m.order ++ more) (m.store.log.groups ++ group ∷ []) (with_effect op files) order_is groups_are (files_are ∙ ap (option_map (with_effect op)) told)
       (follows_one_more n (m.order ++ more) files.durable m.store.log.groups files.later group _ sound.each inside has follows)
-      (rising_one_more m.store.log.groups group below pending.rising)
+      (all_pairs_push IsBelow m.store.log.groups group pending.rising below)
       (joined_mark m.store.log.groups group (length m.order) (length (m.order ++ more)) mark)
 
   module _ (actor : ℕ) (outcome : Outcome) where

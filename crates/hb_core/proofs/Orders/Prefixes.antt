@@ -3,7 +3,7 @@ use Rattle.std.proofs.Common.{◌≡◌, ◌⊎◌, inl, inr, ℕ, ◌<◌, ◌�
 use Rattle.std.proofs.lemmas.List.{take_all}
 use Rattle.std.proofs.lemmas.List.Elements.{All-cons, All-nil, All-weaker}
 use Rattle.hb_set.specs.declared.scripts.Answered.{Answered}
-use Rattle.hb_core.proofs.Orders.PendingKept.{IsBelow, marks_inside, next_mark, rising_rest}
+use Rattle.hb_core.proofs.Orders.PendingKept.{IsBelow, marks_inside, next_mark}
 use Rattle.hb_core.specs.KeepingLaws.{FilesHavePrefixes, IsAfterLonger, IsAmongFirst}
 use Rattle.hb_core.specs.KeptOrder.{FollowMarks, StandsInOrder, StandsOutside}
 use Rattle.hb_core.specs.Machines.{settled_count}
@@ -11,6 +11,7 @@ use Rattle.hb_ops.specs.Files.{FileState, contents_of, last_of}
 use Rattle.hb_set.specs.Machine.{RecordSet}
 use Rattle.hb_set.specs.Order.{Entry, result_of}
 use Rattle.hb_wal.specs.Log.{Waiting, mark_of}
+use Rattle.hb_lemmas.proofs.Pairs.{pairs_rest}
 
 -- a file has the set after so many entries
 pub record HasFirst (n : RecordSet) (order : List Entry) (s : FileState) (low count : ℕ) : Type 0 where
@@ -41,7 +42,7 @@ later_files n order low before (group ∷ rest) (next ∷ later) (inside, has, f
     let further : low ≤ mark_of rest (length order) = omega (arith, above, rises) in
     let shorter : length later ≡ length rest = omega (arith, same) in
     All-cons (HasSome n order low) next later (mark_of rest (length order), first_file n order low next rest later follows shorter result further)
-    (later_files n order low next rest later follows (rising_rest group rest rising) shorter result further)
+    (later_files n order low next rest later follows (pairs_rest IsBelow group rest rising) shorter result further)
 
 pub files_have_prefixes : FilesHavePrefixes
 files_have_prefixes n m files sound legal pending =

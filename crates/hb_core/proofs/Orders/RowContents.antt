@@ -18,7 +18,7 @@ use Rattle.hb_activity.specs.declared.activities.Activity.TheVariants as at
 use Rattle.hb_activity.specs.Classes.{line_in_hand}
 use Rattle.hb_activity.specs.Deeds.{Deed}
 use Rattle.hb_core.proofs.Files.FileOps.{ShowsFile}
-use Rattle.hb_core.proofs.Files.FitOps.{HeldArePoints, as_many, point_there}
+use Rattle.hb_core.proofs.Files.FitOps.{HeldArePoints, as_many, point_there, live_good}
 use Rattle.hb_core.proofs.Memory.KeptPages.{KeepsPages}
 use Rattle.hb_core.specs.ContentsLaws.{TakesEffectOn}
 use Rattle.hb_core.specs.Machines.{Machine, with_disk}
@@ -107,7 +107,7 @@ module _ (points : HeldArePoints) (standing : StandingIsContents) (lacking : Lac
 
   point_of : (id : ℕ) (page : LivePage) (p : List ℕ) (l : Placed) → if_live (in_memory fetched id) ≡ Some page → leaf_at page p ≡ Some l → IsPointOf s p
   point_of id page p l live there =
-      let good = (keeps.framed id (Live page) (live_so (in_memory fetched id) page live)).2 in
+      let good = live_good fetched keeps.framed id page live in
       record {
         point = point_there points fetched.meta page good p l there;
         attributes = as_many points fetched.meta page good p l there ∙ sym (ap (λ (m : Meta). m.k) file.meta);

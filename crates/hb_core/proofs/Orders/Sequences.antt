@@ -4,6 +4,7 @@ use Rattle.std.specs.List.{Contains}
 use Rattle.std.specs.Option.{IsSomeAnd}
 use Rattle.std.proofs.lemmas.Bool.{cases_Bool, eq-eqb, eqb-true, eqb-false}
 use Rattle.std.proofs.lemmas.List.Elements.{All-append, All-cons, All-nil}
+use Rattle.std.proofs.lemmas.Option.{none-some}
 use Rattle.hb_set.specs.declared.commands.Reply.{Reply}
 use Rattle.hb_set.specs.declared.scripts.Answered.{Answered}
 use Rattle.hb_set.specs.declared.scripts.Line.{Line}
@@ -29,7 +30,7 @@ use Rattle.hb_point.specs.SessionRows.{is_answered, next_line}
 use Rattle.hb_poster.specs.PosterRows.{IsPostingOf}
 use Rattle.hb_set.specs.Order.{AreRising, Entry}
 use Rattle.hb_store.specs.States.{StoreState}
-use Rattle.hb_lemmas.proofs.Options.{at_value}
+use Rattle.hb_lemmas.proofs.Options.{at_value, value_and}
 
 pub waits_none : (activity : Activity) → (Waits activity → ⊥) → awaited_number activity ≡ None
 waits_none (at.SessionAwait number reply place) none = absurd (none tt)
@@ -71,9 +72,6 @@ lines_in_sequence m sequence = record {
   earlier_first = sequence.earlier_first;
 }
 
-no_some : (number : ℕ) → None ≡ Some number → ⊥
-no_some number is = cc
-
 module _ (lines : List Line) (answered : List Answered) (activity : ℕ → Activity) (order : List Entry) (sequence : SequenceOf lines answered activity order) (actor : ℕ) (next : Activity) where
   -- what holds of each actor's activity, where it holds of the new one
   each_actor : (P : ℕ → Activity → Type 0) → P actor next → ((other : ℕ) → other ≢ actor → P other (activity other)) → (other : ℕ) → P other (with_activity actor next activity other)
@@ -91,7 +89,7 @@ module _ (lines : List Line) (answered : List Answered) (activity : ℕ → Acti
     where
       by : (is_answered entry.line.number answered ≡ true) ⊎ (awaited_number (activity entry.line.session) ≡ Some entry.line.number) → (is_answered entry.line.number answered ≡ true) ⊎ (awaited_number (with_activity actor next activity entry.line.session) ≡ Some entry.line.number)
       by (inl done) = inl done
-      by (inr waits) = inr (other_waits entry.line.session entry.line.number (λ same. no_some entry.line.number (sym none ∙ ap (λ (n : ℕ). awaited_number (activity n)) (sym same) ∙ waits)) waits)
+      by (inr waits) = inr (other_waits entry.line.session entry.line.number (λ same. none-some entry.line.number (sym none ∙ ap (λ (n : ℕ). awaited_number (activity n)) (sym same) ∙ waits)) waits)
 
   pub goes_on : awaited_number (activity actor) ≡ None → HandIsNext actor answered lines next → AwaitIsNext actor answered lines next → SequenceOf lines answered (with_activity actor next activity) order
   goes_on none hand await = record {
@@ -140,7 +138,7 @@ module _ (lines : List Line) (answered : List Answered) (activity : ℕ → Acti
     placed_more entry one = record { among = one.among; state = by one.state }
       where
         of_none : (e : Entry) → awaited_number (activity actor) ≡ None ⊎ (awaited_number (activity actor) ≡ Some line.number) → awaited_number (activity actor) ≡ Some e.line.number → line.number ≡ e.line.number
-        of_none e (inl none) some = absurd (no_some e.line.number (sym none ∙ some))
+        of_none e (inl none) some = absurd (none-some e.line.number (sym none ∙ some))
         of_none e (inr here) some = let both : Some line.number ≡ Some e.line.number = sym here ∙ some in cc
 
         by : (is_answered entry.line.number answered ≡ true) ⊎ (awaited_number (activity entry.line.session) ≡ Some entry.line.number)
@@ -173,10 +171,6 @@ module _ (lines : List Line) (answered : List Answered) (activity : ℕ → Acti
     }
 
 -- ---- steps
-
-pub some_such : (o : Option Line) (number : ℕ) → IsSomeAnd o (λ line. line.number ≡ number) → (line : Line) × (o ≡ Some line) × (line.number ≡ number)
-some_such None number never = absurd never
-some_such (Some line) number is = (line, refl, is)
 
 module _ (m : Machine) (actor : ℕ) (outcome : Outcome) (new : Machine) (sequence : LinesInSequence m) where
   stays : KeepsAllButDisk m new → LinesInSequence new
@@ -261,7 +255,7 @@ sequence_stays m actor outcome new sequence step = each_step m actor outcome new
       quiet m actor outcome new sequence m.store deed (ap awaited_number idle) (ap (λ (d : Deed). given_by (outcome_of d.says) m.clock) takes.deed_is) (ap (λ (d : Deed). d.joins) takes.deed_is)
       (no_hand m actor outcome new sequence deed (took_merging m deed takes)) (merges_await_none m actor outcome new sequence deed takes) performs;
   settles = λ number place reply is settled performs.
-      let one = some_such (next_line actor m.answered m.lines) number (at_value (awaited_number (m.activity actor)) (λ number. IsSomeAnd (next_line actor m.answered m.lines) (λ line. line.number ≡ number)) number (ap awaited_number is) (sequence.awaited actor)) in
+      let one = value_and (next_line actor m.answered m.lines) (λ line. line.number ≡ number) (at_value (awaited_number (m.activity actor)) (λ number. IsSomeAnd (next_line actor m.answered m.lines) (λ line. line.number ≡ number)) number (ap awaited_number is) (sequence.awaited actor)) in
       answers m actor outcome new sequence m.store _ one.0 number reply refl refl refl (sym one.2) one.1 (inr (ap awaited_number is ∙ ap (λ (n : ℕ). Some n) (sym one.2))) performs;
   works = λ none works. worked m actor outcome new sequence (waits_none (m.activity actor) none) works;
 }) step

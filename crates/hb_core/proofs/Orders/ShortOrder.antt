@@ -17,6 +17,7 @@ use Rattle.hb_core.specs.Steps.{StepsTo}
 use Rattle.hb_space.specs.Actors.{IsActor}
 use Rattle.hb_point.specs.SessionRows.{is_answered, next_line}
 use Rattle.hb_set.specs.Order.{Entry}
+use Rattle.std.proofs.lemmas.Option.{none-some}
 
 -- two entries are of different lines
 abbrev pub AreOfTwo : Entry → Entry → Type 0
@@ -77,7 +78,7 @@ next_not_placed m actor line sequence next none k d lt = by (get_or m.order k d)
     by : (e : Entry) → IsInSequence m e → e.line.number ≢ line.number
     by e one same = elim one.state [
       | inl done ↦ false≢true (sym own.open_yet ∙ ap (λ (n : ℕ). is_answered n m.answered) (sym same) ∙ done)
-      | inr waits ↦ nothing (sym none ∙ ap (λ (n : ℕ). awaited_number (m.activity n)) (sym own.own ∙ sym session) ∙ waits)
+      | inr waits ↦ none-some e.line.number (sym none ∙ ap (λ (n : ℕ). awaited_number (m.activity n)) (sym own.own ∙ sym session) ∙ waits)
     ]
       where
         own : IsNextOf actor m.answered m.lines line
@@ -85,9 +86,6 @@ next_not_placed m actor line sequence next none k d lt = by (get_or m.order k d)
 
         session : e.line.session ≡ line.session
         session = ap (λ (l : Line). l.session) (same_line m.lines e.line line sequence.rising one.among own.among same)
-
-        nothing : None ≡ Some e.line.number → ⊥
-        nothing is = cc
 
 module _ (m : Machine) (actor : ℕ) (new : Machine) (sequence : LinesInSequence m) (once : AllPairs AreOfTwo m.order) where
   still_once : LinesAfter m actor new → AllPairs AreOfTwo new.order

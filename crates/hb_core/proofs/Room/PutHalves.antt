@@ -20,6 +20,7 @@ use Rattle.hb_core.specs.Machines.{Machine, live_here, with_disk, sight}
 use Rattle.hb_core.specs.Rows.{Row}
 use Rattle.hb_frag.specs.Leaves.{DirectlyHolds}
 use Rattle.hb_point.specs.SplitRows.{PutsInHalf}
+use Rattle.hb_point.proofs.Facts.RecordOps.{insert_of}
 use Rattle.hb_store.specs.States.{StoreState}
 use Rattle.hb_core.proofs.Files.AllowedRows.{half_held}
 
@@ -30,9 +31,6 @@ pub record IsPutOf (half other : ℕ) (rec same : Record) : Type 0 where
 
 put_of : (half other : ℕ) (rec same : Record) → Put half rec ≡ Put other same → IsPutOf half other rec same
 put_of half other rec same is = record { where_it_goes = cc; what_goes = cc }
-
-pub insert_of : (rec same : Record) → Insert rec ≡ Insert same → rec ≡ same
-insert_of rec same is = cc
 
 module _ (m : Machine) (fetched : StoreState) (brings : Brings m AnyPage fetched) (line : Line) (source fresh : ℕ) (deed : Deed) (row : PutsInHalf (sight (with_disk fetched m.files m.clock m)) line source fresh deed) (held : (half : ℕ) → (half ≡ source) ⊎ (half ≡ fresh) → MustStay m half) where
   -- the page that holds the point is the one that the machine knows

@@ -1,6 +1,6 @@
 -- After a step a page that is to be split lacks room for its insert, and of the two halves of a split one has room.
-use Rattle.std.proofs.Common.{◌≡◌, ◌≢◌, ◌⊎◌, inl, inr, ℕ, ◌==◌, ◌<◌, ◌≤◌, Bool, cond, List, [], ◌∷◌, length, Option, Some, None, refl, sym, ap, ◌∙◌, subst, true, false}
-use Rattle.std.proofs.lemmas.Bool.{cases_Bool, eq-eqb, eqb-true, eqb-false, ne_eqb}
+use Rattle.std.proofs.Common.{◌≡◌, ◌≢◌, ◌⊎◌, inl, inr, ℕ, ◌==◌, ◌<◌, ◌≤◌, cond, List, [], ◌∷◌, length, Option, Some, None, refl, sym, ap, ◌∙◌, subst}
+use Rattle.std.proofs.lemmas.Bool.{cases_Bool, eqb-true, eqb-false}
 use Rattle.std.proofs.lemmas.Option.{none-some}
 use Rattle.hb_space.specs.declared.records.Record.{Record}
 use Rattle.hb_layout.specs.declared.limits.TheConstants.{DCAP_MIN}
@@ -13,7 +13,6 @@ use Rattle.hb_set.specs.declared.commands.Command.TheVariants.{Insert}
 use Rattle.hb_set.specs.declared.scripts.Line.{Line}
 use Rattle.hb_latch.specs.declared.modes.Mode.TheVariants.{Exclusive}
 use Rattle.hb_activity.specs.declared.jobs.Job.{Job}
-use Rattle.hb_activity.specs.declared.holding.Latch.{Latch}
 use Rattle.hb_activity.specs.declared.activities.Activity.{Activity}
 use Rattle.hb_activity.specs.declared.activities.Activity.TheVariants as at
 use Rattle.hb_core.specs.declared.outcomes.Outcome.{Outcome}
@@ -26,8 +25,8 @@ use Rattle.hb_core.proofs.Table.NextPlaces.{HasPlace, HoldsNothing, KeepsParent,
 use Rattle.hb_core.proofs.Room.SplitHalves.{one_has_room, takes_full}
 use Rattle.hb_core.proofs.Room.SplitHome.{RoomLaws}
 use Rattle.hb_core.proofs.Facts.StepKinds.{each_kind, FlushesMore, ready_kind}
-use Rattle.hb_core.proofs.Facts.StillThere.{may_or_not, other_holds, own_next}
-use Rattle.hb_core.proofs.Facts.Ways.{KeepsAllButDisk, forces_so, meets_so, stays_so, more_so}
+use Rattle.hb_core.proofs.Facts.StillThere.{may_or_not, other_holds}
+use Rattle.hb_core.proofs.Facts.Ways.{KeepsAllButDisk, forces_so, meets_so, stays_so, more_so, own_next, others_next}
 use Rattle.hb_core.specs.Acting.{MeetsBadPage}
 use Rattle.hb_core.specs.Fetching.{Brings, MustStay}
 use Rattle.hb_core.specs.Forcing.{ForcesAll, StaysSo}
@@ -47,6 +46,7 @@ use Rattle.hb_store.specs.States.{StoreState, in_memory}
 use Rattle.hb_core.proofs.Table.MergerMoves.{no_line}
 use Rattle.hb_ops.proofs.Facts.PageNumberLaws.{live_so}
 use Rattle.hb_lemmas.proofs.Booleans.{at_itself}
+use Rattle.hb_lemmas.proofs.Lists.{not_empty}
 use Rattle.hb_core.proofs.Memory.OwnedOps.{second_mode}
 use Rattle.hb_core.proofs.Memory.BroughtPages.{must_hold}
 
@@ -175,17 +175,11 @@ knows_none : (m : Machine) (activity : Activity) → ((held : ℕ) (line : Line)
 knows_none m activity split put = record { splits = λ held line is. absurd (split held line is); puts = λ source fresh line is. absurd (put source fresh line is) }
 
 pub free_knows : (m : Machine) (activity : Activity) → HoldsNothing activity → KnowsOf m activity
-free_knows m activity free = knows_none m activity (λ held line is. some held [] (sym (ap (latches_held m.store) is) ∙ free.latches m.store)) (λ source fresh line is. some source (latch_on fresh Exclusive ∷ []) (sym (ap (latches_held m.store) is) ∙ free.latches m.store))
-  where
-    some : (id : ℕ) (rest : List Latch) → latch_on id Exclusive ∷ rest ≡ [] → ⊥
-    some id rest is = cc
+free_knows m activity free = knows_none m activity (λ held line is. not_empty (latch_on held Exclusive) [] (sym (ap (latches_held m.store) is) ∙ free.latches m.store)) (λ source fresh line is. not_empty (latch_on source Exclusive) (latch_on fresh Exclusive ∷ []) (sym (ap (latches_held m.store) is) ∙ free.latches m.store))
 
 -- an actor that has no line in hand splits nothing
 handless_knows : (m : Machine) (activity : Activity) → line_in_hand activity ≡ None → KnowsOf m activity
-handless_knows m activity none = knows_none m activity (λ held line is. some line (sym none ∙ ap line_in_hand is)) (λ source fresh line is. some line (sym none ∙ ap line_in_hand is))
-  where
-    some : (line : Line) → None ≡ Some line → ⊥
-    some line is = cc
+handless_knows m activity none = knows_none m activity (λ held line is. none-some line (sym none ∙ ap line_in_hand is)) (λ source fresh line is. none-some line (sym none ∙ ap line_in_hand is))
 
 walk_knows : (m : Machine) (activity : Activity) (id : ℕ) → walk_held activity ≡ Some id → KnowsOf m activity
 walk_knows m activity id walks = knows_none m activity (λ held line is. none-some id (sym (ap walk_held is) ∙ walks)) (λ source fresh line is. none-some id (sym (ap walk_held is) ∙ walks))
@@ -203,20 +197,13 @@ again_knows m job parent = knows_none m (at.PosterAgain job parent) (λ held lin
 
 -- its pages are held exclusively
 pub split_latched : (st : StoreState) (activity : Activity) (line : Line) (held : ℕ) → activity ≡ at.SessionSplit line held → mode_among held (latches_held st activity) ≡ Some Exclusive
-split_latched st activity line held is = ap (λ (a : Activity). mode_among held (latches_held st a)) is ∙ ap (λ (b : Bool). cond b (Some Exclusive) None) (eq-eqb held held refl)
+split_latched st activity line held is = ap (λ (a : Activity). mode_among held (latches_held st a)) is ∙ at_itself held (Some Exclusive) None
 
 pub put_latched : (st : StoreState) (activity : Activity) (line : Line) (source fresh : ℕ) → activity ≡ at.SessionPut line source fresh → (mode_among source (latches_held st activity) ≡ Some Exclusive) × (mode_among fresh (latches_held st activity) ≡ Some Exclusive)
 put_latched st activity line source fresh is = (
-  ap (λ (a : Activity). mode_among source (latches_held st a)) is ∙ ap (λ (b : Bool). cond b (Some Exclusive) (mode_among source (latch_on fresh Exclusive ∷ []))) (eq-eqb source source refl),
-  ap (λ (a : Activity). mode_among fresh (latches_held st a)) is ∙ either (source == fresh) ∙ refl,
+  ap (λ (a : Activity). mode_among source (latches_held st a)) is ∙ at_itself source (Some Exclusive) (mode_among source (latch_on fresh Exclusive ∷ [])),
+  ap (λ (a : Activity). mode_among fresh (latches_held st a)) is ∙ second_mode source fresh Exclusive,
 )
-  where
-    last : mode_among fresh (latch_on fresh Exclusive ∷ []) ≡ Some Exclusive
-    last = ap (λ (b : Bool). cond b (Some Exclusive) None) (eq-eqb fresh fresh refl)
-
-    either : (b : Bool) → cond b (Some Exclusive) (mode_among fresh (latch_on fresh Exclusive ∷ [])) ≡ Some Exclusive
-    either true = refl
-    either false = last
 
 split_knows : (m : Machine) (line : Line) (held : ℕ) → LacksRoom m line held → KnowsOf m (at.SessionSplit line held)
 split_knows m line held lacks = record { splits = λ other_held other is. moved other other_held (parts line other held other_held is); puts = λ source fresh other is. absurd (never source fresh other is) }
@@ -294,7 +281,7 @@ module _ (laws : RoomLaws) (least : DCAP_MIN ≡ 6) (m : Machine) (actor : ℕ) 
     puts = λ source fresh line is.
         puts_again m new capacity line source fresh
         (λ page live. other_holds m actor outcome new latches fit inside step other another may (at.SessionPut line source fresh) source Exclusive page is (at_itself source (Some Exclusive) (cond (fresh == source) (Some Exclusive) None)) live)
-        (λ page live. other_holds m actor outcome new latches fit inside step other another may (at.SessionPut line source fresh) fresh Exclusive page is (second_mode source fresh) live)
+        (λ page live. other_holds m actor outcome new latches fit inside step other another may (at.SessionPut line source fresh) fresh Exclusive page is (second_mode source fresh Exclusive) live)
         (knows.puts other source fresh line is);
   }
 
@@ -324,10 +311,7 @@ module _ (laws : RoomLaws) (least : DCAP_MIN ≡ 6) (m : Machine) (actor : ℕ) 
       still id page among live = ap if_live (keeps.memory id (Live page) (inl (actor, Exclusive, fit.exact actor id latches ∙ among)) (live_so (in_memory m.store id) page live))
 
   did : (fetched : StoreState) (deed : Deed) → Performs m fetched actor deed outcome new → KnowsOf new deed.next → KnowsRoom new
-  did fetched deed performs own = with_own (knows_as new (new.activity actor) deed.next (own_next m actor fetched deed outcome new performs) own) (λ other another. stood other another)
-    where
-      stood : (other : ℕ) → other ≢ actor → new.activity other ≡ m.activity other
-      stood other another = performs.activity other ∙ ap (λ (b : Bool). cond b deed.next (m.activity other)) (ne_eqb other actor another)
+  did fetched deed performs own = with_own (knows_as new (new.activity actor) deed.next (own_next actor deed.next m.activity new.activity performs.activity) own) (others_next actor deed.next m.activity new.activity performs.activity)
 
   freed : (fetched : StoreState) (deed : Deed) → Performs m fetched actor deed outcome new → HoldsNothing deed.next → KnowsRoom new
   freed fetched deed performs free = did fetched deed performs (free_knows new deed.next free)

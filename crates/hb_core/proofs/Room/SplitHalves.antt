@@ -1,7 +1,7 @@
 -- A page that is to be split lacks room for its insert, and of its two halves one has room.
-use Rattle.hb_core.proofs.Memory.CommitPages.{has_first, has_second, made_pages}
+use Rattle.hb_core.proofs.Memory.CommitPages.{has_first, has_second, split_sets, split_done}
 use Rattle.hb_core.proofs.Memory.NextNumbers.{is_next_number}
-use Rattle.std.proofs.Common.{◌≡◌, ◌≢◌, ◌⊎◌, inl, inr, ℕ, ◌==◌, ◌*◌, ◌<◌, ◌≤◌, ◌+◌, Bool, cond, List, [], ◌∷◌, length, Option, Some, IsTrue, refl, sym, ap, ◌∙◌, subst, arith}
+use Rattle.std.proofs.Common.{◌≡◌, ◌≢◌, ◌⊎◌, inl, inr, ℕ, ◌==◌, ◌*◌, ◌<◌, ◌≤◌, ◌+◌, Bool, cond, List, [], ◌∷◌, length, Option, Some, refl, sym, ap, ◌∙◌, subst, arith}
 use Rattle.std.proofs.lemmas.Bool.{eq-eqb, ne_eqb}
 use Rattle.std.proofs.lemmas.Option.{same_Some}
 use Rattle.hb_space.specs.declared.records.Record.{Record}
@@ -9,7 +9,6 @@ use Rattle.hb_layout.specs.declared.limits.TheConstants.{DCAP_MIN}
 use Rattle.hb_layout.specs.declared.meta.Meta.{Meta}
 use Rattle.hb_frag.specs.declared.leaves.Leaf.TheVariants.{Sibling}
 use Rattle.hb_frag.specs.declared.pages.LivePage.{LivePage}
-use Rattle.hb_frag.specs.declared.pages.Page.{Page}
 use Rattle.hb_frag.specs.declared.pages.Page.TheVariants.{Live}
 use Rattle.hb_ops.specs.declared.operations.Op.{Op}
 use Rattle.hb_ops.specs.declared.operations.Op.TheVariants as ops
@@ -21,19 +20,19 @@ use Rattle.hb_core.proofs.Memory.OwnedOps.{made_was_free}
 use Rattle.hb_core.proofs.Room.SplitHome.{IsHome, RoomLaws, holds_directly, never_both, one_is_home}
 use Rattle.hb_core.proofs.Room.SplitWeights.{both_have_room, parted_weighs}
 use Rattle.hb_point.proofs.Facts.RecordLeaves.{put_weighs}
-use Rattle.hb_core.proofs.Facts.StillThere.{fetched_good, nothing_done}
+use Rattle.hb_core.proofs.Facts.StillThere.{fetched_good}
 use Rattle.hb_core.specs.Fetching.{Brings, MustStay}
 use Rattle.hb_core.specs.KeptLines.{MetaWithinLimits}
 use Rattle.hb_core.specs.Keeps.{HasRoomFor, HoldsPagesOfFile, LacksRoomFor, OneHasRoom}
 use Rattle.hb_core.specs.Machines.{Machine, live_here, sight}
-use Rattle.hb_core.specs.Performing.{DoesOp, MayDo}
+use Rattle.hb_core.specs.Performing.{MayDo}
 use Rattle.hb_frag.specs.Leaves.{DirectlyHolds, weight_of}
 use Rattle.hb_frag.specs.Rules.{capacity_of}
 use Rattle.hb_frag.specs.Trees.{Tree, Tip}
 use Rattle.hb_ops.specs.Cutting.{cut_through, reached}
-use Rattle.hb_ops.specs.Extracting.{FitsExtract, FitsPart, fresh_page, source_page, split_pages}
+use Rattle.hb_ops.specs.Extracting.{FitsExtract, FitsPart, fresh_page, source_page}
 use Rattle.hb_ops.specs.Files.{if_live}
-use Rattle.hb_ops.specs.Operations.{IsAllowedOn, change_of}
+use Rattle.hb_ops.specs.Operations.{IsAllowedOn}
 use Rattle.hb_ops.specs.Recording.{put_page}
 use Rattle.hb_ops.specs.Sound.{FitsFile}
 use Rattle.hb_ops.specs.Standing.{StandsNot}
@@ -41,10 +40,10 @@ use Rattle.hb_point.specs.SplitRows.{Splits}
 use Rattle.hb_space.specs.Boxes.{Area, IsArea}
 use Rattle.hb_split.proofs.Facts.Ends.{is_thirds}
 use Rattle.hb_split.specs.Choosing.{IsThirds}
-use Rattle.hb_store.specs.Calls.{change_here, read_here}
-use Rattle.hb_ops.specs.SetPages.{set_pages, has_page}
+use Rattle.hb_store.specs.Calls.{read_here}
 use Rattle.hb_store.specs.States.{IsGoodPage, StoreState, in_memory}
 use Rattle.hb_ops.proofs.Facts.PageNumberLaws.{live_so}
+use Rattle.hb_core.proofs.Facts.Ways.{nothing_done}
 
 -- ---- a page that lacks room
 
@@ -76,9 +75,6 @@ module _ (m : Machine) (actor : ℕ) (may : ℕ → Type 0) (fetched : StoreStat
   abbrev split : Op
   split = ops.Extract held row.leaves.fresh row.leaves.path row.leaves.cuts row.leaves.free_after
 
-  does : DoesOp split (length m.order) fetched new.store
-  does = subst (λ (d : Deed). MayDo d.op (length m.order) fetched new.store) row.deed_is done
-
   abbrev page : LivePage
   page = row.page
 
@@ -106,7 +102,7 @@ module _ (m : Machine) (actor : ℕ) (may : ℕ → Type 0) (fetched : StoreStat
 
   -- the part may leave
   allowed : FitsExtract fetched.meta page row.leaves.fresh row.leaves.path row.leaves.cuts row.leaves.free_after
-  allowed = subst (λ (o : Option LivePage). IsAllowedOn split fetched.meta o (read_here fetched split 1) (read_here fetched split 2)) row.live does.allowed
+  allowed = subst (λ (o : Option LivePage). IsAllowedOn split fetched.meta o (read_here fetched split 1) (read_here fetched split 2)) row.live (split_done (now m actor fetched) line held deed row (length m.order) new.store done).allowed
 
   same_part : allowed.part ≡ row.leaves.part
   same_part = same_Some allowed.part row.leaves.part (sym allowed.fits.there ∙ row.leaves.there)
@@ -131,29 +127,18 @@ module _ (m : Machine) (actor : ℕ) (may : ℕ → Type 0) (fetched : StoreStat
   abbrev made : LivePage
   made = fresh_page row.leaves.cuts page row.leaves.part
 
-  abbrev changed : List (ℕ × Page)
-  changed = split_pages held row.leaves.fresh row.leaves.path row.leaves.cuts page (Some row.leaves.part)
-
-  changed_are : (change_here fetched split).pages ≡ changed
-  changed_are =
-      ap (λ (o : Option LivePage). (change_of split fetched.meta o (read_here fetched split 1) (read_here fetched split 2)).pages) row.live
-      ∙ ap (λ (o : Option (Tree × Area)). split_pages held row.leaves.fresh row.leaves.path row.leaves.cuts page o) row.leaves.there
-
-  frame_is : (id : ℕ) → IsTrue (has_page id changed) → (in_memory new.store) id ≡ set_pages changed (in_memory fetched) id
-  frame_is = made_pages _ _ _ _ changed does.commits changed_are
-
   apart : held ≢ row.leaves.fresh
   apart same = (made_was_free m may fetched row.leaves.fresh row.leaves.free_after inside brings (is_next_number fetched row.leaves.fresh row.leaves.free_after row.leaves.next) page (subst (λ (n : ℕ). (in_memory m.store) n ≡ Some (Live page)) same (live_so (in_memory m.store held) page live_before))).0 (subst (MustStay m) same must)
 
   source_there : live_here new.store held ≡ Some source
   source_there =
-      ap if_live (frame_is held (has_first held (Live source) ((row.leaves.fresh, Live made) ∷ [])))
+      ap if_live (split_sets (now m actor fetched) line held deed row (length m.order) new.store done held (has_first held (Live source) ((row.leaves.fresh, Live made) ∷ [])))
       ∙ ap (λ (b : Bool). if_live (cond b (Some (Live made)) (cond (held == held) (Some (Live source)) (in_memory fetched held)))) (ne_eqb held row.leaves.fresh apart)
       ∙ ap (λ (b : Bool). if_live (cond b (Some (Live source)) (in_memory fetched held))) (eq-eqb held held refl)
 
   made_there : live_here new.store row.leaves.fresh ≡ Some made
   made_there =
-      ap if_live (frame_is row.leaves.fresh (has_second held row.leaves.fresh (Live source) (Live made) []))
+      ap if_live (split_sets (now m actor fetched) line held deed row (length m.order) new.store done row.leaves.fresh (has_second held row.leaves.fresh (Live source) (Live made) []))
       ∙ ap (λ (b : Bool). if_live (cond b (Some (Live made)) (cond (row.leaves.fresh == held) (Some (Live source)) (in_memory fetched row.leaves.fresh)))) (eq-eqb row.leaves.fresh row.leaves.fresh refl)
 
   -- what they weigh

@@ -3,7 +3,7 @@ use Rattle.std.proofs.Common.{◌≡◌, inl, inr, ℕ, ◌==◌, cond, Result, 
 use Rattle.std.specs.FinMap as finite
 use Rattle.std.proofs.lemmas.Bool.{cases_lt, false≢true}
 use Rattle.std.proofs.lemmas.List.{get_or-replicate}
-use Rattle.std.proofs.lemmas.Option.{get_or_from_slice_get, slice_get-get_or, slice_get_within}
+use Rattle.std.proofs.lemmas.Option.{get_or_from_slice_get, slice_get-get_or, slice_get_within, none-some}
 use Rattle.hb_disk.specs.Model.{DiskModel}
 use Rattle.hb_latch.specs.Tables.{LatchTable, latch_cmp, mode_at}
 use Rattle.hb_space.specs.Actors.{IsActor}
@@ -79,12 +79,9 @@ turn_so m session behind begun there =
     subst (HasTurn m session) zero_so (record {
       few = omega arith;
       front = λ k d lt. absurd (omega (arith, lt));
-      back = λ k d lt. λ own. (no_answer m (get_or m.lines k d) begun.unanswered, λ e. nothing (get_or m.lines k d).number (sym (ap number_in_hand (begun.idle session) ∙ empty_hand (class_for session)) ∙ e));
+      back = λ k d lt. λ own. (no_answer m (get_or m.lines k d) begun.unanswered, λ e. none-some (get_or m.lines k d).number (sym (ap number_in_hand (begun.idle session) ∙ empty_hand (class_for session)) ∙ e));
     })
   where
-    nothing : (n : ℕ) → None ≡ Some n → ⊥
-    nothing n e = cc
-
     zero_so : 0 ≡ behind
     zero_so = sym (get_or-replicate 16 (session - 1) 0 0 (slice_get_within (replicate 16 0) (session - 1) behind there)) ∙ get_or_from_slice_get (replicate 16 0) (session - 1) behind 0 there
 

@@ -9,7 +9,6 @@ use Rattle.hb_frag.specs.declared.pages.LivePage.{LivePage}
 use Rattle.hb_frag.specs.declared.pages.Page.{Page}
 use Rattle.hb_frag.specs.declared.pages.Page.TheVariants.{Live, Free}
 use Rattle.hb_frag.specs.Leaves.{Placed, WellCut, leaf_at}
-use Rattle.hb_ops.proofs.Facts.PageNumberLaws.{live_so}
 use Rattle.hb_ops.specs.Files.{if_live}
 use Rattle.hb_view.specs.Views.{IsLive, IsLiveAnd}
 use Rattle.hb_space.specs.Boxes.{Area, Holds}
@@ -23,11 +22,9 @@ use Rattle.hb_core.specs.Asking.{AskedBox, asked_box, box_at, box_by_leaf, box_o
 use Rattle.hb_core.specs.Looking.{MayLook}
 use Rattle.hb_core.specs.Machines.{live_here}
 use Rattle.hb_core.specs.Working.{IsWorking}
+use Rattle.hb_core.proofs.Files.FitOps.{live_good}
 
 module _ (st : StoreState) (memory : IsMemory st) where
-  good_page : (id : ℕ) (page : LivePage) → live_here st id ≡ Some page → IsGoodPage st.meta (Live page)
-  good_page id page live = (memory.good id (Live page) (live_so (in_memory st id) page live)).2
-
   by_leaf : (leaf : Leaf) (area : Area) (p : List ℕ) → length p ≡ st.meta.k → Holds area p → HasMany st.meta.k (box_by_leaf (record { leaf = leaf; area = area }))
   by_leaf (Records records) area p many has = tt
   by_leaf (Child page) area p many has = sym has.same ∙ many
@@ -44,12 +41,12 @@ module _ (st : StoreState) (memory : IsMemory st) where
 
   in_page_of : (id : ℕ) (p : Option (List ℕ)) (o : Option LivePage) → live_here st id ≡ o → IfSome o (λ page. IfSome p (HasLeafAt page)) → HasMany st.meta.k (box_at o p)
   in_page_of id p None is has = tt
-  in_page_of id p (Some page) is has = in_page page p (good_page id page is) has
+  in_page_of id p (Some page) is has = in_page page p (live_good st memory.good id page is) has
 
   -- a leaf of a page that is named
   by_name : (id : ℕ) (box : Option LivePage → Option AskedBox) (o : Option LivePage) → live_here st id ≡ o → HasMany st.meta.k (box None) → ((page : LivePage) → length page.area.lo ≡ st.meta.k → HasMany st.meta.k (box (Some page))) → HasMany st.meta.k (box o)
   by_name id box None is none some = none
-  by_name id box (Some page) is none some = some page (good_page id page is).1.fits.attributes
+  by_name id box (Some page) is none some = some page (live_good st memory.good id page is).1.fits.attributes
 
   of_whole : length {A = ℕ} (replicate st.meta.k 0) ≡ st.meta.k
   of_whole = length-replicate st.meta.k 0

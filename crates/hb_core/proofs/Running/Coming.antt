@@ -40,14 +40,14 @@ use Rattle.hb_core.specs.declared.halts.Halt.TheVariants.{Stops}
 use Rattle.hb_core.proofs.Files.SoundFiles.{current_sound, files_hold}
 use Rattle.hb_core.proofs.Machines.PinsFollow.{more_number}
 use Rattle.hb_core.proofs.Running.Brought.{brings_none, brings_wider, fetch_brings, shows_again, shows_store}
-use Rattle.hb_core.proofs.Running.Frames.{may_pin, must_here}
+use Rattle.hb_core.proofs.Running.Frames.{may_pin, shown_stays, shown_tied}
 use Rattle.hb_core.proofs.Running.Pins.{one_itself, pinned_frame, tied_unpinned}
 use Rattle.hb_core.proofs.Running.LeafBoxes.{Asks, child_asks_there, place_asks_there, sibling_asks_there}
 use Rattle.hb_core.proofs.Running.Looks.{may_look, names_stay, wants_same}
 use Rattle.hb_core.proofs.Running.StandsElsewhere.{shows_but, stands_as}
 use Rattle.hb_core.specs.Acting.{IsBadWanted, LacksNeeded, MayNeed}
 use Rattle.hb_core.specs.Asking.{AskedBox, IsNotAsked, asked_box, box_at, box_by_leaf, box_of_child, box_of_place, box_of_sibling, wanted_by, whole_box}
-use Rattle.hb_core.specs.Fetching.{Brings, IsDamaged, IsWantedPage, MustStay}
+use Rattle.hb_core.specs.Fetching.{Brings, IsDamaged, IsWantedPage}
 use Rattle.hb_core.specs.Keeps.{HasSoundFile}
 use Rattle.hb_core.specs.KeptMerges.{NamesKnown, merging_at}
 use Rattle.hb_core.specs.Looking.{FailsTest, IsOfOtherLevel, MayLook, PassesTest, wanted_in}
@@ -171,19 +171,17 @@ told_or_not d c m P shows sound so = by d.told refl
         let kept = subst (λ (x : StoreState). StoreKeeps d x s.files.durable s.files.later) shows.store s.kept in
         inr (so s.files.durable s.files.later kept (at_value m.files (λ (files : Files). IsSound (current_file files)) s.files s.told sound))
 
+-- the page that is looked at comes, and what has to stay does
+pub looked_brings : (d e : DiskModel) (c : RunningCore) (m : Machine) (step : MayStep d c m) (failed : Type 0) (st : StoreState) (looks : LooksUp failed d e c.store st) (id : ℕ) → IsMemory st → Fetched id c.store st → ((q : ℕ) → StaysHere c.uses q → in_memory st q ≡ in_memory c.store q) → Brings m (λ q. q ≡ id) st
+looked_brings d e c m step failed st looks id memory fetched stays =
+    fetch_brings m d e c failed st step.shows looks id memory fetched (λ q must. stays q (shown_stays d c m step q must) ∙ ap (λ (x : StoreState). in_memory x q) (sym step.shows.store))
+
 module _ (m : Machine) (d : DiskModel) (c : RunningCore) (actor : ℕ) (latches : IsActor actor) (step : MayStep d c m) (work : MayWork m actor) where
   abbrev here : StoreState
   here = c.store
 
   abbrev activity : Activity
   activity = m.activity actor
-
-  tied_now : IsTied c.store c.uses
-  tied_now = subst (λ (l : List Use). IsTied c.store l) step.shows.uses (subst (λ (st : StoreState). IsTied st m.uses) step.shows.store work.goes_on.kept.frames_fit.tied)
-
-  -- a page that somebody holds, or that is dirty, stays
-  must_now : (id : ℕ) → MustStay m id → StaysHere c.uses id
-  must_now id must = subst (λ (l : List Use). StaysHere l id) step.shows.uses (must_here m m.store m.uses work.goes_on.kept refl work.goes_on.kept.frames_fit.tied (λ q. omega arith) id must)
 
   -- no page is wanted
   pub none_wanted : wanted_by m actor ≡ None → HasCome m actor d c
@@ -193,7 +191,7 @@ module _ (m : Machine) (d : DiskModel) (c : RunningCore) (actor : ℕ) (latches 
     shows = shows_again d c m step.shows;
     at_hand = subst (λ (o : Option Wanted). IfSome o (λ wanted. (page : LivePage) × IsAtHand (with_memory c m) (m.activity actor) wanted page)) (sym none) tt;
     uses = sym step.shows.uses ∙ ap (λ (o : Option Wanted). use_wanted o m.uses) (sym none);
-    tied = tied_now;
+    tied = shown_tied d c m step;
   }
 
   module _ (wanted : Wanted) (wants : wanted_by m actor ≡ Some wanted) where
@@ -261,7 +259,7 @@ module _ (m : Machine) (d : DiskModel) (c : RunningCore) (actor : ℕ) (latches 
           shows = shows_but e (with_order_of_use uses (with_store st c)) (with_uses uses (with_disk st m.files m.clock m)) actor latches (shows_store m d e c failed st step.shows looks uses);
           cause = subst (λ (x : StoreState). IsHalt m actor x halt) same (refused_by none stop halt is not_there (sound_or_untold stop sound));
           used_is = inl (kept.1 ∙ sym step.shows.uses);
-          tied = subst (λ (l : List Use). IsTied st l) (sym kept.1) (subst (λ (x : StoreState). IsTied x c.uses) (sym kept.0) tied_now);
+          tied = subst (λ (l : List Use). IsTied st l) (sym kept.1) (subst (λ (x : StoreState). IsTied x c.uses) (sym kept.0) (shown_tied d c m step));
         }
 
     -- ---- it is fetched, and pinned
@@ -274,7 +272,7 @@ module _ (m : Machine) (d : DiskModel) (c : RunningCore) (actor : ℕ) (latches 
     module _ (e : DiskModel) (failed : Type 0) (st : StoreState) (looks : LooksUp failed d e c.store st) (memory : IsMemory st) (fetched : Fetched wanted.page c.store st)
         (stays : (id : ℕ) → StaysHere c.uses id → in_memory st id ≡ in_memory c.store id) where
       brings_it : Brings m (λ id. id ≡ wanted.page) st
-      brings_it = fetch_brings m d e c failed st step.shows looks wanted.page memory fetched (λ id must. stays id (must_now id must) ∙ ap (λ (x : StoreState). in_memory x id) (sym step.shows.store))
+      brings_it = looked_brings d e c m step failed st looks wanted.page memory fetched stays
 
       -- so that the core may look for the box
       pub looks_as : (stands : Activity) → StandsAs c actor stands → MayLook st stands

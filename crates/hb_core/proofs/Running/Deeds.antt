@@ -33,7 +33,7 @@ use Rattle.hb_core.specs.Working.{IsWorking}
 use Rattle.hb_core.specs.KeptFits.{class_for}
 use Rattle.hb_core.proofs.Table.DeedKinds.{line_is_sessions}
 use Rattle.hb_core.proofs.Table.GivenUp.{given_up_is, idle_latches}
-use Rattle.std.proofs.lemmas.Option.{same_Some}
+use Rattle.std.proofs.lemmas.Option.{same_Some, none-some}
 
 -- a deed, by what became of the store, the order of use, the jobs, the latches and the counts
 pub does_deed : (actor : ℕ) (pins : List ℕ) (deed : Deed) (outcome : Outcome) (old new : RunningCore) (store : StoreState) (uses : List Use) (left jobs : List Job) (latches : LatchTable) (counts : TidyCounts)
@@ -181,23 +181,17 @@ line_given_up actor pins why state idle number reply old new works class is repl
     just_stands actor pins (answers_now line.number (reply_for why)) (outcomes.Answered number reply) old new
     (ap (λ (n : ℕ). outcomes.Answered n reply) same ∙ ap (outcomes.Answered line.number) reply_is) refl refl refl refl refl tied (can, tt)
     (subst (λ (a : Activity). StandsNow actor pins a old new) stood stands))
-    (λ job hand. absurd (none_there number (is ∙ ap number_of hand)))
-    (λ hand. absurd (none_there number (is ∙ ap number_of hand)))
-  where
-    none_there : (n : ℕ) → Some n ≡ None → ⊥
-    none_there n e = cc
+    (λ job hand. absurd (none-some number (sym (is ∙ ap number_of hand))))
+    (λ hand. absurd (none-some number (sym (is ∙ ap number_of hand))))
 
 pub job_given_up : (actor : ℕ) (pins : List ℕ) (why : DropWhy) (state idle : Activity) (old new : RunningCore) → IsWorking state → class_of state ≡ class_for actor → None ≡ number_of (hand_of state) → idle ≡ idle_of (class_for actor)
     → IsTied old.store old.uses → CanUnpin pins old.uses → StandsNow actor pins idle old new → DoesDeed actor pins (gives_up why state) (outcomes.Dropped why) old new
 job_given_up actor pins why state idle old new works class is idle_is tied can stands =
     given_up_is (λ (deed : Deed). DoesDeed actor pins deed (outcomes.Dropped why) old new) why state
-    (λ line hand. absurd (none_there line.number (is ∙ ap number_of hand)))
+    (λ line hand. absurd (none-some line.number (is ∙ ap number_of hand)))
     (λ job hand. just_stands actor pins (drops_job why (idle_of (class_of state))) (outcomes.Dropped why) old new refl refl refl refl refl refl tied (can_idle old.store (class_of state) pins old.uses can) stood)
     (λ hand. absurd (never state works hand))
   where
-    none_there : (n : ℕ) → None ≡ Some n → ⊥
-    none_there n e = cc
-
     stood : StandsNow actor pins (idle_of (class_of state)) old new
     stood = subst (λ (a : Activity). StandsNow actor pins a old new) (idle_is ∙ ap idle_of (sym class)) stands
 

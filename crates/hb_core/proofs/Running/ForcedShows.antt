@@ -1,8 +1,8 @@
 -- A force of a core's store is a force of the machine that it shows, or stops it.
-use Rattle.std.proofs.Common.{◌≡◌, ◌≢◌, ◌⊎◌, inl, inr, ℕ, ◌+◌, ◌≤◌, false, List, [], ◌∷◌, Option, Some, None, IsOk, IsSome, IfSome, Ok, Err, refl, sym, ap, ◌∙◌, subst, arith}
+use Rattle.std.proofs.Common.{◌≡◌, ◌≢◌, ◌⊎◌, inl, inr, ℕ, ◌+◌, ◌≤◌, false, List, [], ◌∷◌, Option, Some, None, IsSome, IfSome, Ok, Err, refl, sym, ap, ◌∙◌, subst, arith}
 use Rattle.std.specs.Option.{option_map}
 use Rattle.hb_disk.specs.Model.{DiskModel}
-use Rattle.hb_lemmas.proofs.Options.{not_none, some_value}
+use Rattle.hb_lemmas.proofs.Options.{was_some, not_there}
 use Rattle.hb_ops.specs.Files.{FileState, last_of}
 use Rattle.hb_store.specs.Forced.{MayWriteGroups, WritesGroups, forced_state, stopped_state}
 use Rattle.hb_store.specs.Keeps.{StoreKeeps}
@@ -21,12 +21,9 @@ use Rattle.hb_disk.specs.Calls.{Becomes}
 use Rattle.hb_pool.specs.Frames.{Use}
 use Rattle.hb_core.specs.Showing.{RunningCore, ShowsFiles, ShowsMachine}
 use Rattle.hb_core.specs.Working.{MayStep}
+use Rattle.std.proofs.lemmas.Bool.{false≢true}
 
 -- ---- where a disk tells its bytes
-
-pub told_before : {X : Type 0} (before after : Option X) → (before ≡ None → after ≡ None) → IsSome after → IsSome before
-told_before {X = X} None after silent told = subst (λ (o : Option X). IsSome o) (silent refl) told
-told_before (Some x) after silent told = refl
 
 pub silent_before : {X : Type 0} (R : X → X → Type 0) (before after : Option X) → IfSome before (λ b. (c : X) × (after ≡ Some c) × R b c) → after ≡ None → before ≡ None
 silent_before R None after tells none = refl
@@ -35,9 +32,6 @@ silent_before R (Some x) after tells none = let never : None ≡ Some tells.0 = 
 told_or_not : {X : Type 0} (o : Option X) → (o ≡ None) ⊎ IsSome o
 told_or_not None = inl refl
 told_or_not (Some x) = inr refl
-
-untold : {X : Type 0} (o : Option X) → o ≡ None → IsSome o → ⊥
-untold o none told = let had = some_value o told in not_none o had.0 had.1 none
 
 -- ---- where no group waits
 
@@ -117,7 +111,7 @@ module _ (d e : DiskModel) (c : RunningCore) (st : StoreState) (uses : List Use)
 
   module _ {T : Type 0} (v : T) (writes : WritesGroups (Ok v) d e c.store st) (same_use : uses ≡ c.uses) where
     was_told : IsSome e.told → IsSome d.told
-    was_told told = told_before d.told e.told writes.wrote.became.silent told
+    was_told told = was_some d.told e.told writes.wrote.became.silent told
 
     same : forced_state m.store ≡ st
     same = ap forced_state shows.store ∙ sym writes.forced
@@ -149,7 +143,7 @@ module _ (d e : DiskModel) (c : RunningCore) (st : StoreState) (uses : List Use)
       record { clock = clock; from = from; few = few; says = refl; stops = refl },
       shown_stopped stops.WriteFault e (with_held st uses c) (failed clock m) (shown_with d e c st uses m shows (stopped_state m.store) m.uses m.files clock same (shows.uses ∙ sym same_use)
           (λ told.
-          let was = told_before d.told e.told became.silent told in
+          let was = was_some d.told e.told became.silent told in
           let had = shows.tells was in
           record {
             files = had.files;
@@ -165,17 +159,14 @@ module _ (d e : DiskModel) (c : RunningCore) (st : StoreState) (uses : List Use)
 
     pub fails_by : (new : Machine) × FailsToWrite m most (outcomes.Stopped stops.WriteFault) new × ShowsMachine e (with_stop stops.WriteFault (with_held st uses c)) new
     fails_by = elim (told_or_not d.told) [
-      | inl none ↦ stops_at m.clock (omega arith) (omega arith) (λ told. absurd (untold d.told none told))
+      | inl none ↦ stops_at m.clock (omega arith) (omega arith) (λ told. absurd (not_there d.told none told))
       | inr told ↦ stops_at e.clock (subst (λ (n : ℕ). n ≤ e.clock) (sym (shows.tells told).clock) later) (subst (λ (n : ℕ). e.clock ≤ n + most) (sym (shows.tells told).clock) (few told)) (λ told. refl)
     ]
 
   -- so a force that failed
   module _ {T : Type 0} (fault : WriteFault) (writes : WritesGroups {T = T} (Err fault) d e c.store st) (same_use : uses ≡ c.uses) where
     pub group_waits : m.store.log.groups ≢ []
-    group_waits none = no_ok (writes.nothing (sym (ap (λ (s : StoreState). s.log.groups) shows.store) ∙ none)).0
-      where
-        no_ok : IsOk {T = T} {E = WriteFault} (Err fault) → ⊥
-        no_ok is = cc
+    group_waits none = false≢true (writes.nothing (sym (ap (λ (s : StoreState). s.log.groups) shows.store) ∙ none)).0
 
     pub fails : (new : Machine) × FailsToWrite m 4 (outcomes.Stopped stops.WriteFault) new × ShowsMachine e (with_stop stops.WriteFault (with_held st uses c)) new
     fails = fails_by _ 4 writes.wrote.became writes.wrote.later writes.wrote.few writes.stopped same_use writes.keeps_stopped

@@ -26,6 +26,9 @@ use Rattle.hb_core.specs.Fetching.{MustStay}
 use Rattle.hb_core.specs.KeptMachine.{MachineKeeps}
 use Rattle.hb_core.specs.Machines.{Machine}
 use Rattle.hb_core.specs.Using.{actors, holders, page_wanted, pins_of}
+use Rattle.hb_core.specs.Showing.{RunningCore}
+use Rattle.hb_core.specs.Working.{MayStep}
+use Rattle.hb_disk.specs.Model.{DiskModel}
 
 -- ---- which pages stay
 
@@ -67,6 +70,14 @@ must_here m st uses keeps same tied more id (inl (actor, mode, holds)) =
     let least = more id in
     pinned_here uses id (omega (arith, counts, pins, least))
 must_here m st uses keeps same tied more id (inr dirty) = dirty_here st uses id tied (ap (λ (s : set.FinSet nat_cmp). set.contains s id) same ∙ dirty)
+
+-- the same of a core that shows the machine
+module _ (d : DiskModel) (c : RunningCore) (m : Machine) (step : MayStep d c m) where
+  pub shown_tied : IsTied c.store c.uses
+  shown_tied = subst (λ (l : List Use). IsTied c.store l) step.shows.uses (subst (λ (s : StoreState). IsTied s m.uses) step.shows.store step.goes_on.kept.frames_fit.tied)
+
+  pub shown_stays : (id : ℕ) → MustStay m id → StaysHere c.uses id
+  shown_stays id must = subst (λ (l : List Use). StaysHere l id) step.shows.uses (must_here m m.store m.uses step.goes_on.kept refl step.goes_on.kept.frames_fit.tied (λ q. omega arith) id must)
 
 -- ---- few pins
 

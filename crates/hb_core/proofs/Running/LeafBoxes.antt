@@ -10,9 +10,10 @@ use Rattle.hb_frag.specs.declared.leaves.Leaf.TheVariants.{Records, Child, Sibli
 use Rattle.hb_frag.specs.declared.pages.LivePage.{LivePage}
 use Rattle.hb_frag.specs.Leaves.{Placed, first_named, leaves, leaves_of, siblings_of}
 use Rattle.hb_lemmas.proofs.Booleans.{at_itself}
+use Rattle.hb_lemmas.proofs.Lists.{place_member}
 use Rattle.hb_ops.proofs.Facts.PlacedLaws.{placed, sibling_is_leaf}
 use Rattle.hb_consol.specs.ConsolidatorRows.{names_child}
-use Rattle.hb_core.proofs.Files.AskedPages.{first_sibling_among, named_with_box, place_among}
+use Rattle.hb_core.proofs.Files.AskedPages.{first_sibling_among, named_with_box}
 use Rattle.hb_core.specs.Asking.{AskedBox, box_by_leaf, box_of_child, box_of_place, box_of_sibling, first_child_box}
 
 -- ---- how many attributes it has
@@ -53,7 +54,7 @@ module _ (k : ℕ) where
     where
       by : (o : Option Placed) → slice_get (leaves_of page.frag page.area) place ≡ o → HasMany (option_and_then box_by_leaf o)
       by None is = tt
-      by (Some l) is = leaf_many l.leaf l.area (All-contains IsMany (leaves_of page.frag page.area) l (all_many page many) (place_among (leaves_of page.frag page.area) place l is))
+      by (Some l) is = leaf_many l.leaf l.area (All-contains IsMany (leaves_of page.frag page.area) l (all_many page many) (place_member (leaves_of page.frag page.area) place l is))
 
   pub sibling_many : (page : LivePage) (name : ℕ) → length page.area.lo ≡ k → HasMany (box_of_sibling (Some page) name)
   sibling_many page name many = by (first_named name (siblings_of page)) refl

@@ -14,6 +14,7 @@ use Rattle.hb_activity.specs.Deeds.{Deed, answers_now, takes_job}
 use Rattle.hb_disk.specs.Model.{DiskModel}
 use Rattle.hb_latch.specs.Tables.{LatchTable, mode_at}
 use Rattle.hb_space.specs.Actors.{IsActor}
+use Rattle.hb_space.proofs.Facts.Lists.{get-set_same, get-set_other}
 use Rattle.hb_lemmas.proofs.Booleans.{at_other, if_same}
 use Rattle.hb_ops.specs.declared.operations.Op.{Op}
 use Rattle.hb_point.specs.SessionRows.{boxes_ahead, next_line, taking}
@@ -24,14 +25,12 @@ use Rattle.hb_set.specs.declared.commands.Reply.TheVariants as replies
 use Rattle.hb_set.specs.declared.scripts.Answered.{Answered}
 use Rattle.hb_set.specs.declared.scripts.Line.{Line}
 use Rattle.hb_pool.specs.Frames.{Use}
-use Rattle.hb_store.specs.Calls.{StaysHere}
 use Rattle.hb_store.specs.Keeps.{StoreKeeps}
 use Rattle.hb_store.specs.States.{StoreState}
 use Rattle.hb_core.specs.declared.outcomes.Outcome.{Outcome}
 use Rattle.hb_core.specs.declared.outcomes.Outcome.TheVariants as outcomes
 use Rattle.hb_core.specs.Forcing.{StaysSo}
 use Rattle.hb_core.specs.KeptFits.{class_for}
-use Rattle.hb_core.specs.Fetching.{MustStay}
 use Rattle.hb_core.specs.Machines.{Machine, with_activity, with_disk, with_uses}
 use Rattle.hb_core.specs.Moving.{DoesDeed, KeepsFilesBy, with_standing}
 use Rattle.hb_core.specs.Performing.{MayDo, Performs, PerformsAsItIs, Relatches, latches_held, mode_among}
@@ -43,10 +42,10 @@ use Rattle.hb_core.specs.Working.{MayStep, with_memory}
 use Rattle.hb_core.proofs.Facts.NextLines.{next_is}
 use Rattle.hb_core.proofs.Running.AgainstPlaces.{box_in_the_way, has_box_free}
 use Rattle.hb_core.proofs.Running.DeedShows.{deed_shows}
-use Rattle.hb_core.proofs.Running.Frames.{must_here}
+use Rattle.hb_core.proofs.Running.Frames.{shown_stays}
 use Rattle.hb_core.proofs.Running.LinesAhead.{next_ahead, none_ahead, turn_at_end, turn_with}
 use Rattle.hb_core.proofs.Running.NumbersInHand.{NumberFate, job_number, merging_job_number}
-use Rattle.hb_core.proofs.Running.StandsElsewhere.{apart, at_set, beside_set, shows_but, stand_then}
+use Rattle.hb_core.proofs.Running.StandsElsewhere.{apart, shows_but, stand_then}
 use Rattle.hb_core.proofs.Running.TurnsAfter.{TurnAt, answered_elsewhere, answered_here, has_turn, turn_at}
 
 -- ---- sessions
@@ -102,12 +101,12 @@ module _ (d : DiskModel) (c after : RunningCore) (m : Machine) (actor behind : �
   turns_with new k own others other n low high its = elim (cases_Bool (other == actor)) [
     | inl here ↦
         let same = eqb-true other actor here in
-        let at_own : slice_get (slice_set c.behind (actor - 1) k) (actor - 1) ≡ Some k = at_set c.behind (actor - 1) k (slice_get_within c.behind (actor - 1) behind there) in
+        let at_own : slice_get (slice_set c.behind (actor - 1) k) (actor - 1) ≡ Some k = get-set_same c.behind (actor - 1) k (slice_get_within c.behind (actor - 1) behind there) in
         let equal = same_Some k n (sym at_own ∙ ap (λ (o : ℕ). slice_get (slice_set c.behind (actor - 1) k) (o - 1)) (sym same) ∙ its) in
         subst (λ (o : ℕ). HasTurn new o n) (sym same) (subst (λ (o : ℕ). HasTurn new actor o) equal own)
     | inr off ↦
         let differ = eqb-false other actor off in
-        others other n low high differ (sym (beside_set c.behind (actor - 1) (other - 1) k (apart actor other may (record { from_1 = low; to_19 = omega (arith, high) }) differ)) ∙ its)
+        others other n low high differ (sym (get-set_other c.behind (actor - 1) (other - 1) k (apart actor other may (record { from_1 = low; to_19 = omega (arith, high) }) differ)) ∙ its)
   ]
 
   -- the same machine is shown where none was left, and all lie behind the session
@@ -328,15 +327,12 @@ keeps_none d old new mark None none same = λ durable later keeps. subst (λ (s 
 keeps_none d old new mark (Some op) none same = absurd cc
 
 module _ (d : DiskModel) (c after : RunningCore) (m : Machine) (actor : ℕ) (may : IsActor actor) (step : MayStep d c m) where
-  own_stays : (id : ℕ) → MustStay m id → StaysHere c.uses id
-  own_stays id must = subst (λ (l : List Use). StaysHere l id) step.shows.uses (must_here m m.store m.uses step.goes_on.kept refl step.goes_on.kept.frames_fit.tied (λ q. omega arith) id must)
-
   -- a deed of a machine as it is shown, that does nothing to the file
   pub deed_done : (deed : Deed) (outcome : Outcome) (pins : List ℕ) → pins ≡ pages_of (latches_held m.store (m.activity actor)) → deed.op ≡ None → NumberFate (m.activity actor) deed → DoesDeed actor pins deed outcome c after
       → (new : Machine) × PerformsAsItIs m actor deed outcome new × ShowsMachine d after new
   deed_done deed outcome pins held none fate does =
       subst (λ (s : StoreState). (new : Machine) × ((p : Performs m s actor deed outcome new) × (p.came ≡ m.uses) × (p.pins ≡ pages_of (latches_held m.store (m.activity actor)))) × ShowsMachine d after new) (sym step.shows.store)
-      (let done = deed_shows d c after m actor deed outcome may (shows_pages d c m actor may step.shows) pins does own_stays step.goes_on.kept.lines_in_sequence fate
+      (let done = deed_shows d c after m actor deed outcome may (shows_pages d c m actor may step.shows) pins does (shown_stays d c m step) step.goes_on.kept.lines_in_sequence fate
       (keeps_none d c.store after.store (length c.order) deed.op none does.store) in
       (done.0, (done.1.0, done.1.1 ∙ sym step.shows.uses, done.1.2 ∙ held), done.2))
 

@@ -1,6 +1,6 @@
 -- The next line of a session, and its turn once that is taken.
 use Rattle.std.proofs.Common.{◌≡◌, ◌≢◌, ◌⊎◌, inl, inr, ℕ, zero, suc, ◌<◌, ◌≤◌, ◌+◌, ◌==◌, ◌&&◌, not, Bool, true, false, cond, List, [], ◌∷◌, ◌++◌, length, take, drop, slice_get, All, Some, None, refl, sym, ap, ◌∙◌, subst, arith, length-append}
-use Rattle.std.proofs.lemmas.Bool.{eq-eqb, eqb-true, false≢true}
+use Rattle.std.proofs.lemmas.Bool.{eq-eqb, eqb-true, false≢true, false_from_ne_true}
 use Rattle.std.proofs.lemmas.List.{append_assoc, drop_all, drop_at, length-take-le, take-append-drop, take_all, take_at}
 use Rattle.std.proofs.lemmas.List.Elements.{All-append, All-contains, All-head, All-tail, All-weaker}
 use Rattle.std.proofs.lemmas.Option.{slice_get_within}
@@ -37,14 +37,10 @@ none_next session answered (x ∷ lines) passed =
     (passed_over (x.session == session) (is_answered x.number answered) (λ own. All-head (IsPassed answered session) x lines passed (eqb-true x.session session own)))
     ∙ none_next session answered lines (All-tail (IsPassed answered session) x lines passed)
 
-untrue : (b : Bool) → (b ≡ true → ⊥) → b ≡ false
-untrue true not = absurd (not refl)
-untrue false not = refl
-
 next_here : (session : ℕ) (answered : List Answered) (line : Line) (rest : List Line) → line.session ≡ session → (is_answered line.number answered ≡ true → ⊥) → next_line session answered (line ∷ rest) ≡ Some line
 next_here session answered line rest own left =
     ap (λ (b : Bool). cond (b && not (is_answered line.number answered)) (Some line) (next_line session answered rest)) (eq-eqb line.session session own)
-    ∙ ap (λ (b : Bool). cond (not b) (Some line) (next_line session answered rest)) (untrue (is_answered line.number answered) left)
+    ∙ ap (λ (b : Bool). cond (not b) (Some line) (next_line session answered rest)) (false_from_ne_true (is_answered line.number answered) left)
 
 -- ---- where the next line stands
 

@@ -1,14 +1,12 @@
 -- What a decider said may be performed: its operation may be committed, its actor may stand as it says, a line that joins the order has room,
 -- and the pages that came are those that the row needs.
-use Rattle.std.proofs.Common.{◌≡◌, ◌⊎◌, inl, inr, ℕ, ◌<◌, List, length, Option, IsSome, IsTrue, IfSome, refl, sym, ap, ◌∙◌, subst, arith, ◌++◌, None, Some}
+use Rattle.std.proofs.Common.{◌≡◌, ◌⊎◌, inl, inr, ℕ, ◌<◌, List, length, Option, IsSome, IsTrue, IfSome, refl, sym, ap, subst, arith, ◌++◌, None, Some}
 use Rattle.std.proofs.lemmas.Bool.{false≢true}
-use Rattle.std.proofs.lemmas.List.{length-map}
 use Rattle.hb_disk.specs.Model.{DiskModel}
 use Rattle.hb_latch.specs.Tables.{LatchTable}
 use Rattle.hb_space.specs.Actors.{IsActor}
 use Rattle.hb_ops.specs.declared.operations.Op.{Op}
 use Rattle.hb_ops.specs.Files.{FileState}
-use Rattle.hb_set.specs.Order.{Entry}
 use Rattle.hb_set.specs.declared.scripts.Line.{Line}
 use Rattle.hb_activity.specs.declared.activities.Activity.{Activity}
 use Rattle.hb_activity.specs.declared.activities.Activity.TheVariants as at
@@ -50,6 +48,7 @@ use Rattle.hb_core.specs.Performing.{MayDo}
 use Rattle.hb_core.specs.Rows.{Row}
 use Rattle.hb_core.specs.Showing.{RunningCore}
 use Rattle.hb_core.specs.Working.{HasPages, with_memory}
+use Rattle.hb_core.proofs.Running.StandsElsewhere.{shown_length}
 
 -- a line joins the order in the code just where it does in the deed
 joined_alike : (then : Activity) (fate : Fate) (hand : Hand) → IsSome (joins_order (number_of hand) then fate) → IsSome (joined_by hand then fate)
@@ -76,14 +75,11 @@ module _ (d : DiskModel) (c : RunningCore) (m : Machine) (actor : ℕ) (free : O
   came : Brings m AnyPage c.store
   came = brings d c m actor free may has
 
-  as_long : length m.order ≡ length c.order
-  as_long = sym (length-map m.order (λ (e : Entry). e.line.number)) ∙ ap (λ (order : List ℕ). length order) has.shows.order
-
   pub stands_after : (st : StoreState) → MayDo next.op (length c.order) c.store st → MayStand actor c.latches st (placed_at (length c.order) next.then)
   stands_after st done =
-      let here = may_stand m actor c.store st deed may has.may came row_there (subst (λ (n : ℕ). MayDo next.op n c.store st) (sym as_long) done) in
+      let here = may_stand m actor c.store st deed may has.may came row_there (subst (λ (n : ℕ). MayDo next.op n c.store st) (sym (shown_length d c (with_memory c m) has.shows)) done) in
       subst (λ (table : LatchTable). MayStand actor table st (placed_at (length c.order) next.then)) has.shows.latches
-      (subst (λ (n : ℕ). MayStand actor m.latches st (placed_at n next.then)) as_long here)
+      (subst (λ (n : ℕ). MayStand actor m.latches st (placed_at n next.then)) (shown_length d c (with_memory c m) has.shows) here)
 
   -- the actor has nothing in hand meanwhile
   elsewhere : (op : Op) (idle : Activity) → MayCommit d c op → MayCommit d (with_standing actor idle c) op
@@ -103,8 +99,8 @@ module _ (d : DiskModel) (c : RunningCore) (m : Machine) (actor : ℕ) (free : O
   pub hold_after : (st : StoreState) → MayDo next.op (length c.order) c.store st → IsTied st (use_done next.op c.store c.uses)
       → CanMovePins (page_wanted (wanted_by m actor) ++ pages_of (latches_held m.store (m.activity actor))) (pages_of (latches_held st (placed_at (length c.order) next.then))) (use_done next.op c.store c.uses)
   hold_after st done tied =
-      subst (λ (n : ℕ). CanMovePins (page_wanted (wanted_by m actor) ++ pages_of (latches_held m.store (m.activity actor))) (pages_of (latches_held st (placed_at n next.then))) (use_done next.op c.store c.uses)) as_long
-      (can_go_over m d c actor free may has deed row_there st (subst (λ (n : ℕ). MayDo next.op n c.store st) (sym as_long) done) (use_done next.op c.store c.uses) refl tied)
+      subst (λ (n : ℕ). CanMovePins (page_wanted (wanted_by m actor) ++ pages_of (latches_held m.store (m.activity actor))) (pages_of (latches_held st (placed_at n next.then))) (use_done next.op c.store c.uses)) (shown_length d c (with_memory c m) has.shows)
+      (can_go_over m d c actor free may has deed row_there st (subst (λ (n : ℕ). MayDo next.op n c.store st) (sym (shown_length d c (with_memory c m) has.shows)) done) (use_done next.op c.store c.uses) refl tied)
 
   pub may_commit_then : (idle : Activity) → RowsMayBeDone → ((durable other : FileState) (later others : List FileState) → StoreKeeps d c.store durable later → StoreKeeps d c.store other others → durable ≡ other)
       → ((durable other : FileState) (later others : List FileState) → StoreKeeps d c.store durable later → StoreKeeps d c.store other others → later ≡ others) → IfSome next.op (MayCommit d (with_standing actor idle c))
@@ -115,7 +111,7 @@ module _ (d : DiskModel) (c : RunningCore) (m : Machine) (actor : ℕ) (free : O
   has_room line is joins =
       let joined = joined_alike next.then next.fate (hand_of (m.activity actor)) (subst (λ (o : Option ℕ). IsSome (joins_order o next.then next.fate)) is joins) in
       let room = joining_has_room m actor has.may.goes_on.kept c.store deed row_there joined in
-      subst (λ (lines : List Line). length c.order < length lines) has.shows.lines (subst (λ (n : ℕ). n < length m.lines) as_long room)
+      subst (λ (lines : List Line). length c.order < length lines) has.shows.lines (subst (λ (n : ℕ). n < length m.lines) (shown_length d c (with_memory c m) has.shows) room)
 
   -- a number was given only where the row takes one
   pub brings_as_row : Brings m (λ id. IsWantedPage (wanted_by m actor) id ⊎ (IsTrue (takes_number next.op) × IsFreeHead m.store id)) c.store

@@ -1,9 +1,7 @@
 -- The line that a session takes: the first of its own among those that don't lie behind it.
-use Rattle.std.proofs.Common.{◌≡◌, ◌≢◌, ℕ, ◌+◌, ◌-◌, ◌<◌, ◌≤◌, ◌==◌, Bool, cond, List, [], take, drop, length, get_or, position, slice_get, slice_set, slice_index_or, All, Contains, Some, None, sym, ap, subst, ◌∙◌, inl, inr, arith}
-use Rattle.std.specs.List.{position_or_len}
-use Rattle.std.proofs.lemmas.Bool.{cases_lt, eqb-true, eqb-false}
-use Rattle.std.proofs.lemmas.Bool.Decides.{Decides-ltb}
-use Rattle.std.proofs.lemmas.List.{get_or-drop, get_or-take, length-drop, length-take, take_rest}
+use Rattle.std.proofs.Common.{◌≡◌, ◌≢◌, ℕ, ◌+◌, ◌-◌, ◌<◌, ◌==◌, Bool, List, [], take, drop, length, get_or, position, slice_get, slice_set, slice_index_or, All, Some, None, sym, ap, subst, ◌∙◌, arith}
+use Rattle.std.proofs.lemmas.Bool.{eqb-true, eqb-false}
+use Rattle.std.proofs.lemmas.List.{get_or-drop, get_or-take, length-take, take_rest}
 use Rattle.std.proofs.lemmas.List.Quantifiers.{position-Some}
 use Rattle.std.proofs.lemmas.List.Sums.{fails_before_first}
 use Rattle.std.proofs.lemmas.Option.{get_or_from_slice_get, slice_get-get_or}
@@ -23,21 +21,13 @@ use Rattle.hb_set.specs.declared.commands.Reply.TheVariants as replies
 use Rattle.hb_core.specs.KeptFits.{LineFits}
 use Rattle.hb_core.proofs.Machines.LocksKept.{command_box}
 use Rattle.hb_activity.specs.BoxLocks.{lock_of_command}
+use Rattle.hb_activity.proofs.Facts.NoPlace.{none_before}
 use Rattle.hb_boxlock.specs.declared.locks.BoxLock.{BoxLock}
-use Rattle.hb_lemmas.proofs.Lists.{place_member}
+use Rattle.hb_lemmas.proofs.Lists.{place_member, behind_front}
 use Rattle.std.proofs.lemmas.List.Elements.{All-contains}
 
 abbrev is_of : ℕ → Line → Bool
 is_of actor line = line.session == actor
-
--- no place is found where no line is the session's
-none_before : (p : Line → Bool) (lines : List Line) → position p lines ≡ None → length lines ≤ position_or_len p lines
-none_before p lines none = elim (cases_lt (position_or_len p lines) (length lines)) [
-  | inl lt ↦
-      let some : position p lines ≡ Some (position_or_len p lines) = ap (λ b. cond b (Some (position_or_len p lines)) None) ((Decides-ltb (position_or_len p lines) (length lines)).1 lt) in
-      cc
-  | inr ge ↦ ge
-]
 
 none_among : (actor : ℕ) (lines : List Line) → position (is_of actor) lines ≡ None → All (λ (l : Line). l.session ≢ actor) lines
 none_among actor lines none k d lt =
@@ -126,8 +116,5 @@ refuses_line actor session behind place line outcome old new same there next fre
 -- the boxes of all locks have as many attributes as that of the line
 pub as_many_boxes : (k actor behind place : ℕ) (line : Line) (lock : BoxLock) (core : RunningCore) → HaveBoxes k core.activities → All (LineFits k) core.lines → IsNextLine actor behind place line core → lock ≡ lock_of_command line.command → HaveBoxes (length lock.area.lo) core.activities
 as_many_boxes k actor behind place line lock core boxes lines next is =
-    let fits : LineFits k line = All-contains (LineFits k) core.lines line lines (drop_has behind core.lines line (place_member (drop behind core.lines) place line next.there)) in
+    let fits : LineFits k line = All-contains (LineFits k) core.lines line lines (behind_front behind core.lines line (place_member (drop behind core.lines) place line next.there)) in
     subst (λ (n : ℕ). HaveBoxes n core.activities) (sym (ap (λ (l : BoxLock). length l.area.lo) is ∙ command_box k line.command fits.command)) boxes
-  where
-    drop_has : (n : ℕ) (lines : List Line) (line : Line) → Contains (drop n lines) line → Contains lines line
-    drop_has n lines line (i, lt, same) = (n + i, omega (arith, lt, length-drop n lines), sym (get_or-drop n lines i line) ∙ same)

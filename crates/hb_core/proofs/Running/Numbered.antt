@@ -32,7 +32,7 @@ use Rattle.hb_store.specs.declared.stops.Why.TheVariants.{Rule, Level, Extent}
 use Rattle.hb_core.specs.Moving.{with_order_of_use, with_store}
 use Rattle.hb_activity.specs.declared.dropping.DropWhy.TheVariants as drops
 use Rattle.hb_core.specs.declared.halts.Halt.TheVariants.{GivesUp, Stops}
-use Rattle.hb_core.proofs.Machines.PinsFollow.{PinsMore, more_number}
+use Rattle.hb_core.proofs.Machines.PinsFollow.{pinned_more}
 use Rattle.hb_core.proofs.Running.Brought.{brings_joined, brings_none, brings_numbered, brings_wider, fetch_brings, shows_store}
 use Rattle.hb_core.proofs.Running.Frames.{must_here, wanted_here}
 use Rattle.hb_core.proofs.Running.PlacesFor.{after_wanted, is_ready}
@@ -48,7 +48,7 @@ use Rattle.hb_core.specs.Rows.{IsAtHand}
 use Rattle.hb_core.specs.Showing.{RunningCore, ShowsMachine}
 use Rattle.hb_core.specs.Stopping.{IsHaltOf}
 use Rattle.hb_core.specs.Touching.{IsReadHalt}
-use Rattle.hb_core.specs.Using.{page_wanted, use_wanted}
+use Rattle.hb_core.specs.Using.{use_wanted}
 use Rattle.hb_core.specs.Working.{HasCome, HasPages, HaltsPinned, IsHalt, with_memory}
 use Rattle.hb_core.specs.declared.halts.Halt.{Halt}
 use Rattle.hb_frag.specs.declared.pages.Page.{Page}
@@ -191,11 +191,8 @@ head_not_crowded m d c actor come needs (some, absent, none) =
 
 -- What stays while the head of the free chain comes: what somebody holds, what is dirty, and the wanted page.
 module _ (m : Machine) (d : DiskModel) (c : RunningCore) (actor : ℕ) (come : HasCome m actor d c) where
-  pinned_so : PinsMore (page_wanted (wanted_by m actor)) m.uses c.uses
-  pinned_so = subst (λ (l : List Use). PinsMore (page_wanted (wanted_by m actor)) m.uses l) (sym come.uses) (more_number false m.store.meta (wanted_by m actor) m.uses come.may.goes_on.kept.frames_fit.tied.pool.distinct)
-
   pub must_then : (id : ℕ) → MustStay (with_memory c m) id → StaysHere c.uses id
-  must_then id must = must_here m c.store c.uses come.may.goes_on.kept (ap (λ (s : StoreState). s.dirty) come.brings.rest) come.tied (λ q. let more = pinned_so.pins q in omega (arith, more)) id (as_before must)
+  must_then id must = must_here m c.store c.uses come.may.goes_on.kept (ap (λ (s : StoreState). s.dirty) come.brings.rest) come.tied (λ q. let more = (pinned_more false m.store.meta (wanted_by m actor) m.uses c.uses come.uses come.may.goes_on.kept.frames_fit.tied.pool.distinct).pins q in omega (arith, more)) id (as_before must)
     where
       as_before : MustStay (with_memory c m) id → MustStay m id
       as_before (inl held) = inl held
@@ -246,7 +243,7 @@ module _ (m : Machine) (d : DiskModel) (c : RunningCore) (actor : ℕ) (latches 
 
   -- the wanted page is there as it was
   live_then : (wanted : Wanted) (page : LivePage) → wanted_by m actor ≡ Some wanted → live_here c.store wanted.page ≡ Some page → live_here st wanted.page ≡ Some page
-  live_then wanted page is live = ap if_live (stays wanted.page (wanted_here (wanted_by m actor) m.uses c.uses (pinned_so m d c actor come) wanted is)) ∙ live
+  live_then wanted page is live = ap if_live (stays wanted.page (wanted_here (wanted_by m actor) m.uses c.uses (pinned_more false m.store.meta (wanted_by m actor) m.uses c.uses come.uses come.may.goes_on.kept.frames_fit.tied.pool.distinct) wanted is)) ∙ live
 
   move : NeedsMove now then activity (wanted_by m actor)
   move = record {

@@ -3,6 +3,7 @@ use Rattle.std.proofs.Common.{◌≡◌, ◌⊎◌, inl, inr, ℕ, List, Option,
 use Rattle.std.specs.List.{Contains}
 use Rattle.std.specs.Option.{IsSomeAnd, option_map}
 use Rattle.std.proofs.lemmas.Option.{same_Some}
+use Rattle.hb_lemmas.proofs.Options.{value_and}
 use Rattle.hb_set.specs.declared.commands.Reply.{Reply}
 use Rattle.hb_set.specs.declared.scripts.Answered.{Answered}
 use Rattle.hb_set.specs.declared.scripts.Line.{Line}
@@ -14,7 +15,6 @@ use Rattle.hb_activity.specs.declared.wanting.Wanted.{Wanted}
 use Rattle.hb_activity.specs.Classes.{line_in_hand}
 use Rattle.hb_activity.specs.Deeds.{Answers, Deed, answers_now, takes_job}
 use Rattle.hb_core.proofs.Facts.NextLines.{next_is}
-use Rattle.hb_core.proofs.Orders.Sequences.{some_such}
 use Rattle.hb_core.proofs.Table.LineFates.{LineFate, Waits, fate_given_up, fate_row}
 use Rattle.hb_core.proofs.Facts.StepKinds.{IsQuiet}
 use Rattle.hb_core.specs.GivingUp.{gives_up}
@@ -98,7 +98,7 @@ own_line : (session : ℕ) (answered : List Answered) (lines : List Line) (activ
 own_line session answered lines (at.SessionWalk line held rest found) hand await number is = (line, hand, same_Some line.number number is)
 own_line session answered lines (at.SessionSplit line held) hand await number is = (line, hand, same_Some line.number number is)
 own_line session answered lines (at.SessionPut line source fresh) hand await number is = (line, hand, same_Some line.number number is)
-own_line session answered lines (at.SessionAwait own reply place) hand await number is = some_such (next_line session answered lines) number (subst (λ (n : ℕ). IsSomeAnd (next_line session answered lines) (λ line. line.number ≡ n)) (same_Some own number is) await)
+own_line session answered lines (at.SessionAwait own reply place) hand await number is = value_and (next_line session answered lines) (λ line. line.number ≡ number) (subst (λ (n : ℕ). IsSomeAnd (next_line session answered lines) (λ line. line.number ≡ n)) (same_Some own number is) await)
 own_line session answered lines other hand await number is = let never : None ≡ Some number = is in cc
 
 pub line_of_number : (m : Machine) (actor : ℕ) → LinesInSequence m → (number : ℕ) → number_in_hand (m.activity actor) ≡ Some number → (line : Line) × Contains m.lines line × (line.session ≡ actor) × (line.number ≡ number)

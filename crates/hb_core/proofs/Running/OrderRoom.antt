@@ -19,6 +19,7 @@ use Rattle.hb_core.specs.KeptMachine.{MachineKeeps}
 use Rattle.hb_core.specs.KeptSequence.{awaited_number}
 use Rattle.hb_core.specs.Machines.{Machine, with_disk}
 use Rattle.hb_core.specs.Rows.{Row}
+use Rattle.std.proofs.lemmas.Bool.{false≢true}
 
 -- whoever has a line in hand waits for no place
 none_awaited : (activity : Activity) (line : Line) → line_in_hand activity ≡ Some line → awaited_number activity ≡ None
@@ -52,10 +53,7 @@ module _ (m : Machine) (actor : ℕ) (keeps : MachineKeeps m) where
   joining_has_room fetched deed row joins = by (fate_row m fetched (m.activity actor) (wanted_by m actor) deed row)
     where
       none_joins : deed.joins ≡ None → ⊥
-      none_joins none = nothing (subst (λ (o : Option Entry). IsSome o) none joins)
-        where
-          nothing : IsSome {T = Entry} None → ⊥
-          nothing is = cc
+      none_joins none = false≢true (subst (λ (o : Option Entry). IsSome o) none joins)
 
       by : LineFate m (m.activity actor) deed → length m.order < length m.lines
       by (inl goes) = absurd (none_joins goes.joins)

@@ -9,7 +9,6 @@ use Rattle.hb_lemmas.proofs.Options.{has_value, some_value}
 use Rattle.hb_ops.specs.Files.{if_live}
 use Rattle.hb_pool.specs.Frames.{Use}
 use Rattle.hb_space.specs.Actors.{IsActor}
-use Rattle.hb_store.specs.Held.{IsTied}
 use Rattle.hb_store.specs.States.{StoreState}
 use Rattle.hb_core.specs.KeptMachine.{MachineKeeps}
 use Rattle.hb_core.specs.Machines.{Machine, live_here}
@@ -48,9 +47,6 @@ module _ (m : Machine) (actor : ℕ) (may : IsActor actor) (keeps : MachineKeeps
 
 -- the same of a core that shows the machine
 module _ (d : DiskModel) (c : RunningCore) (m : Machine) (actor : ℕ) (may : IsActor actor) (step : MayStep d c m) where
-  pub tied_now : IsTied c.store c.uses
-  tied_now = subst (λ (l : List Use). IsTied c.store l) step.shows.uses (subst (λ (s : StoreState). IsTied s m.uses) step.shows.store step.goes_on.kept.frames_fit.tied)
-
   pub walk_there : (activity : Activity) → StandsAs c actor activity → IsSome (walk_held activity) → IsSome (option_and_then (live_here c.store) (walk_held activity))
   walk_there activity stands =
       subst (λ (a : Activity). IsSome (walk_held a) → IsSome (option_and_then (live_here c.store) (walk_held a))) (stands_as d c m actor activity may step.shows stands)

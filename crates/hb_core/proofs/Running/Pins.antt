@@ -4,7 +4,7 @@ use Rattle.std.proofs.Common.{◌≡◌, ◌≢◌, inl, inr, ℕ, ◌+◌, ◌-
 use Rattle.std.specs.Option.{IsSomeAnd, is_some, option_map, option_map_or}
 use Rattle.std.proofs.lemmas.Bool.{cases_Bool, eq-eqb, eqb-true, eqb-false}
 use Rattle.std.proofs.lemmas.Option.{same_Some}
-use Rattle.hb_lemmas.proofs.Options.{some_value}
+use Rattle.hb_lemmas.proofs.Options.{some_value, value_and}
 use Rattle.hb_pool.proofs.Facts.Others.{last_changed, last_no_other, place_changed, place_no_other}
 use Rattle.hb_pool.proofs.Facts.Pooled.{frame_pins, in_place_pool, put_last_pool}
 use Rattle.hb_pool.specs.Frames.{Use, pinned, unpinned}
@@ -40,11 +40,6 @@ few_pins uses id there few = by (frame_of uses id) there few
     by : (o : Option Use) → IsSome o → option_map_or (λ (u : Use). u.pins) o 0 < 255 → IsSomeAnd o (λ (u : Use). u.pins < 255)
     by None there few = absurd cc
     by (Some u) there few = few
-
--- the frame that has what is said
-pub at_frame : {P : Use → Type 0} (o : Option Use) → IsSomeAnd o P → (u : Use) × (o ≡ Some u) × P u
-at_frame None so = absurd so
-at_frame (Some u) so = (u, refl, so)
 
 -- ---- the pages in frames, and their marks, stay
 
@@ -110,7 +105,7 @@ can_unpin (id ∷ rest) uses pool enough =
     let own = enough id in
     let first = times_first id rest in
     let here = pinned_frame uses id (omega (arith, own, first)) in
-    let u = at_frame (frame_of uses id) here in (
+    let u = value_and (frame_of uses id) _ here in (
       here,
       can_unpin rest (in_place id unpinned uses) (unpinned_pool uses id u.0 pool u.1)
           (λ q. let less = unpinned_pins id q uses pool.distinct in let all = enough q in omega (arith, less, all)),
@@ -119,13 +114,13 @@ can_unpin (id ∷ rest) uses pool enough =
 pub tied_unpinned : (st : StoreState) (pages : List ℕ) (uses : List Use) → IsTied st uses → CanUnpin pages uses → IsTied st (unpin_each pages uses)
 tied_unpinned st [] uses tied can = tied
 tied_unpinned st (id ∷ rest) uses tied (here, can) =
-    let u = at_frame (frame_of uses id) here in
+    let u = value_and (frame_of uses id) _ here in
     tied_unpinned st rest (in_place id unpinned uses) (tied_alike st uses (in_place id unpinned uses) tied (unpinned_pool uses id u.0 tied.pool u.1) (unpinned_marks uses id tied.pool)) can
 
 pub pins_unpinned : (pages : List ℕ) (uses : List Use) → IsPool uses → CanUnpin pages uses → (q : ℕ) → pins_of (unpin_each pages uses) q ≡ pins_of uses q - times q pages
 pins_unpinned [] uses pool can q = omega arith
 pins_unpinned (id ∷ rest) uses pool (here, can) q =
-    let u = at_frame (frame_of uses id) here in
+    let u = value_and (frame_of uses id) _ here in
     let later = pins_unpinned rest (in_place id unpinned uses) (unpinned_pool uses id u.0 pool u.1) can q in
     let less = unpinned_pins id q uses pool.distinct in
     omega (arith, later, less)
@@ -133,13 +128,13 @@ pins_unpinned (id ∷ rest) uses pool (here, can) q =
 pub marks_unpinned : (pages : List ℕ) (uses : List Use) → IsPool uses → CanUnpin pages uses → SameMarks uses (unpin_each pages uses)
 marks_unpinned [] uses pool can q = refl
 marks_unpinned (id ∷ rest) uses pool (here, can) q =
-    let u = at_frame (frame_of uses id) here in
+    let u = value_and (frame_of uses id) _ here in
     marks_unpinned rest (in_place id unpinned uses) (unpinned_pool uses id u.0 pool u.1) can q ∙ unpinned_marks uses id pool q
 
 pub pool_unpinned : (pages : List ℕ) (uses : List Use) → IsPool uses → CanUnpin pages uses → IsPool (unpin_each pages uses)
 pool_unpinned [] uses pool can = pool
 pool_unpinned (id ∷ rest) uses pool (here, can) =
-    let u = at_frame (frame_of uses id) here in
+    let u = value_and (frame_of uses id) _ here in
     pool_unpinned rest (in_place id unpinned uses) (unpinned_pool uses id u.0 pool u.1) can
 
 pub can_pin : (pages : List ℕ) (uses : List Use) → IsPool uses → ((q : ℕ) → 0 < times q pages → IsSome (frame_of uses q)) → ((q : ℕ) → pins_of uses q + times q pages ≤ 255) → CanPin pages uses
@@ -149,7 +144,7 @@ can_pin (id ∷ rest) uses pool there few =
     let first = times_first id rest in
     let some : IsSome (frame_of uses id) = there id (omega (arith, first)) in
     let here = few_pins uses id some (omega (arith, own, first)) in
-    let u = at_frame (frame_of uses id) here in (
+    let u = value_and (frame_of uses id) _ here in (
       here,
       can_pin rest (put_last id pinned uses) (pinned_pool uses id u.0 pool u.1 u.2)
           (λ q among. same_there uses (put_last id pinned uses) (pinned_marks uses id pool) q (there q (omega (arith, among))))
@@ -159,7 +154,7 @@ can_pin (id ∷ rest) uses pool there few =
 pub tied_pinned : (st : StoreState) (pages : List ℕ) (uses : List Use) → IsTied st uses → CanPin pages uses → IsTied st (pin_each pages uses)
 tied_pinned st [] uses tied can = tied
 tied_pinned st (id ∷ rest) uses tied (here, can) =
-    let u = at_frame (frame_of uses id) here in
+    let u = value_and (frame_of uses id) _ here in
     tied_pinned st rest (put_last id pinned uses) (tied_alike st uses (put_last id pinned uses) tied (pinned_pool uses id u.0 tied.pool u.1 u.2) (pinned_marks uses id tied.pool)) can
 
 -- so the frames stay those of the pages in memory

@@ -2,6 +2,8 @@
 use Rattle.std.proofs.Common.{◌≡◌, inl, inr, ℕ, ◌+◌, ◌-◌, ◌<◌, ◌≤◌, ◌==◌, ◌||◌, Bool, true, false, List, cond, Option, Some, None, IsTrue, refl, arith}
 use Rattle.std.specs.Option.{is_some}
 use Rattle.std.proofs.lemmas.Bool.{cases_lt}
+use Rattle.hb_lemmas.proofs.Options.{value_and}
+use Rattle.hb_lemmas.proofs.Booleans.{one_at_most}
 use Rattle.hb_activity.specs.declared.wanting.Wanted.{Wanted}
 use Rattle.hb_layout.specs.declared.meta.Meta.{Meta}
 use Rattle.hb_pool.proofs.Facts.Pooled.{brought_counts, brought_pool, last_counts}
@@ -12,7 +14,7 @@ use Rattle.hb_store.specs.Calls.{use_fetched}
 use Rattle.hb_wal.specs.Log.{pending_bytes, room_of}
 use Rattle.hb_core.proofs.Machines.PinCounts.{one_if}
 use Rattle.hb_core.proofs.Running.Frames.{may_pin}
-use Rattle.hb_core.proofs.Running.Pins.{at_frame, pinned_pool}
+use Rattle.hb_core.proofs.Running.Pins.{pinned_pool}
 use Rattle.hb_core.specs.KeptMachine.{MachineKeeps}
 use Rattle.hb_core.specs.Machines.{Machine}
 use Rattle.hb_core.specs.Steps.{IsUnready, MayChange, may_change_file}
@@ -22,10 +24,6 @@ use Rattle.hb_core.specs.Using.{use_number, use_wanted}
 pub record HasAtLeast (least : ℕ) (uses : List Use) : Type 0 where
   pub pool : IsPool uses
   pub many : least ≤ places uses
-
-one_at_most : (b : Bool) → one_if b ≤ 1
-one_at_most true = omega arith
-one_at_most false = omega arith
 
 pub after_fetch : (least id : ℕ) (uses : List Use) → 1 ≤ least → HasAtLeast least uses → HasAtLeast least (use_fetched id uses)
 after_fetch least id uses some has = by (frame_of uses id) refl
@@ -43,7 +41,7 @@ after_wanted m keeps None some = record { pool = keeps.frames_fit.tied.pool; man
 after_wanted m keeps (Some wanted) some =
     let fetched : List Use = use_fetched wanted.page m.uses in
     let has : HasAtLeast 3 fetched = after_fetch 3 wanted.page m.uses (omega arith) (record { pool = keeps.frames_fit.tied.pool; many = some }) in
-    let u = at_frame (frame_of fetched wanted.page) (may_pin m keeps wanted.page fetched refl) in
+    let u = value_and (frame_of fetched wanted.page) _ (may_pin m keeps wanted.page fetched refl) in
     let counts : places (put_last wanted.page pinned fetched) + one_if (must_stay (pinned u.0)) ≡ places fetched + one_if (must_stay u.0) = last_counts fetched wanted.page pinned u.0 has.pool u.1 in
     let more = one_at_most (must_stay (pinned u.0)) in
     let many = has.many in

@@ -1,20 +1,16 @@
 -- The jobs that a core lets wait.
-use Rattle.std.proofs.Common.{◌≡◌, ◌≢◌, ◌⊎◌, inl, inr, ◌↔◌, ℕ, ◌<◌, ◌≤◌, ◌==◌, Bool, true, false, IsTrue, List, [], ◌∷◌, ◌++◌, take, drop, length, Contains, slice_index_or, refl, sym, ap, subst, ◌∙◌, arith}
-use Rattle.std.specs.Bool.{Decides, OnFalse}
-use Rattle.std.proofs.lemmas.Bool.{cases_Bool, cases_lt, false≢true}
-use Rattle.std.proofs.lemmas.Bool.Decides.{Decides-eqb}
-use Rattle.std.proofs.lemmas.Slice.Eq.{bytes_eq-Decides}
+use Rattle.std.proofs.Common.{◌≡◌, ◌⊎◌, inl, inr, ◌↔◌, ℕ, ◌<◌, ◌≤◌, ◌==◌, Bool, true, false, IsTrue, List, [], ◌∷◌, ◌++◌, take, drop, length, Contains, slice_index_or, refl, ap, subst, ◌∙◌, arith}
+use Rattle.std.specs.Bool.{OnFalse}
+use Rattle.std.proofs.lemmas.Bool.{cases_lt, false≢true, cases_eq}
 use Rattle.hb_activity.specs.declared.jobs.Job.{Job}
 use Rattle.hb_activity.specs.declared.jobs.JobKind.{JobKind}
 use Rattle.hb_activity.specs.declared.jobs.JobKind.TheVariants.{Post, Merge}
 use Rattle.hb_activity.specs.declared.waiting_jobs.TheConstants.{JOBS}
 use Rattle.hb_activity.specs.Queue.{AddsJob, AddsJobs}
 use Rattle.hb_lemmas.proofs.Lists.{first_member, later_member, member_cases, no_member}
+use Rattle.hb_lemmas.proofs.Decisions.{Known, both, known_list}
 
-decided : {P : Type 0} (b : Bool) → Decides b P → P ⊎ (P → ⊥)
-decided b tells = elim (cases_Bool b) [ inl so ↦ inl (tells.0 so) | inr off ↦ inr (λ p. false≢true (sym off ∙ tells.1 p)) ]
-
-same_kind : (k l : JobKind) → (k ≡ l) ⊎ (k ≢ l)
+same_kind : (k l : JobKind) → Known (k ≡ l)
 same_kind Post Post = inl refl
 same_kind Post Merge = inr (λ e. cc)
 same_kind Merge Post = inr (λ e. cc)
@@ -25,20 +21,14 @@ alike a b kind level point =
     ap (λ (k : JobKind). record a { kind = k }) kind ∙ ap (λ (l : ℕ). record a { kind = b.kind; level = l }) level
     ∙ ap (λ (p : List ℕ). record b { point = p }) point
 
-same_job : (a b : Job) → (a ≡ b) ⊎ (a ≢ b)
-same_job a b = elim (same_kind a.kind b.kind) [
-  | inl kind ↦ elim (decided (a.level == b.level) (Decides-eqb a.level b.level)) [
-    | inl level ↦ elim (decided _ (bytes_eq-Decides a.point b.point)) [
-      | inl point ↦ inl (alike a b kind level point)
-      | inr off ↦ inr (λ e. off (ap (λ (j : Job). j.point) e))
-    ]
-    | inr off ↦ inr (λ e. off (ap (λ (j : Job). j.level) e))
-  ]
-  | inr off ↦ inr (λ e. off (ap (λ (j : Job). j.kind) e))
+same_job : (a b : Job) → Known (a ≡ b)
+same_job a b = elim (both (same_kind a.kind b.kind) (both (cases_eq a.level b.level) (known_list a.point b.point))) [
+  | inl (kind, (level, point)) ↦ inl (alike a b kind level point)
+  | inr off ↦ inr (λ e. off (ap (λ (j : Job). j.kind) e, (ap (λ (j : Job). j.level) e, ap (λ (j : Job). j.point) e)))
 ]
 
 -- a job waits or it doesn't
-waits_or_not : (jobs : List Job) (job : Job) → Contains jobs job ⊎ (Contains jobs job → ⊥)
+waits_or_not : (jobs : List Job) (job : Job) → Known (Contains jobs job)
 waits_or_not [] job = inr (no_member job)
 waits_or_not (x ∷ jobs) job = elim (same_job x job) [
   | inl same ↦ inl (subst (Contains (x ∷ jobs)) same (first_member x jobs))

@@ -1,5 +1,5 @@
 -- The pages that the operation of a row reads stay: the actor has latched them, or it is the wanted page, which is pinned for the step.
-use Rattle.std.proofs.Common.{◌≡◌, ◌⊎◌, inl, inr, ℕ, ◌==◌, ◌||◌, Bool, false, cond, List, Option, Some, None, IsTrue, refl, sym, ap, subst, ◌∙◌, arith}
+use Rattle.std.proofs.Common.{◌≡◌, ◌⊎◌, inl, inr, ℕ, ◌==◌, ◌||◌, Bool, false, cond, Option, Some, None, IsTrue, refl, sym, ap, subst, ◌∙◌, arith}
 use Rattle.std.specs.Option.{is_some}
 use Rattle.std.proofs.lemmas.Bool.{cases_Bool, eqb-true, false≢true}
 use Rattle.hb_disk.specs.Model.{DiskModel}
@@ -12,12 +12,11 @@ use Rattle.hb_latch.specs.declared.modes.Mode.TheVariants.{Exclusive}
 use Rattle.hb_lemmas.proofs.Booleans.{at_itself}
 use Rattle.hb_ops.specs.Operations.{reads_of}
 use Rattle.hb_ops.specs.declared.operations.Op.{Op}
-use Rattle.hb_pool.specs.Frames.{Use}
 use Rattle.hb_space.specs.Actors.{IsActor}
 use Rattle.hb_store.specs.Calls.{StaysHere}
 use Rattle.hb_store.specs.Replay.{is_among}
 use Rattle.hb_core.proofs.Files.PairAtHand.{decides_page}
-use Rattle.hb_core.proofs.Machines.PinsFollow.{PinsMore, more_number}
+use Rattle.hb_core.proofs.Machines.PinsFollow.{PinsMore, pinned_more}
 use Rattle.hb_core.proofs.Memory.OwnedOps.{second_mode}
 use Rattle.hb_core.proofs.Running.Frames.{must_here, wanted_here}
 use Rattle.hb_core.proofs.Facts.EachRow.{each_op, each_row}
@@ -34,8 +33,7 @@ use Rattle.hb_store.specs.States.{StoreState}
 module _ (m : Machine) (d : DiskModel) (c : RunningCore) (actor : ℕ) (free : Option (ℕ × ℕ)) (may : IsActor actor) (has : HasPages m actor free d c) where
   -- what is pinned then
   pub pinned_so : PinsMore (page_wanted (wanted_by m actor)) m.uses c.uses
-  pinned_so = subst (λ (l : List Use). PinsMore (page_wanted (wanted_by m actor)) m.uses l) (sym has.uses)
-      (more_number (is_some free) m.store.meta (wanted_by m actor) m.uses has.may.goes_on.kept.frames_fit.tied.pool.distinct)
+  pinned_so = pinned_more (is_some free) m.store.meta (wanted_by m actor) m.uses c.uses has.uses has.may.goes_on.kept.frames_fit.tied.pool.distinct
 
   pub must_stays : (id : ℕ) → MustStay m id → StaysHere c.uses id
   must_stays = must_here m c.store c.uses has.may.goes_on.kept (ap (λ (s : StoreState). s.dirty) has.brings.rest) has.tied (λ q. let more = pinned_so.pins q in omega (arith, more))
@@ -82,7 +80,7 @@ module _ (m : Machine) (d : DiskModel) (c : RunningCore) (actor : ℕ) (free : O
             full = λ line held none is. tt;
             splits = λ line held page live leaves is id. one held id (own (at.SessionSplit line held) held is (at_itself held (Some Exclusive) None));
             puts = λ line source fresh rec command half either page live is id. one half id
-                (half_stays (at.SessionPut line source fresh) source fresh half is refl either (at_itself source (Some Exclusive) (cond (fresh == source) (Some Exclusive) None)) (second_mode source fresh));
+                (half_stays (at.SessionPut line source fresh) source fresh half is refl either (at_itself source (Some Exclusive) (cond (fresh == source) (Some Exclusive) None)) (second_mode source fresh Exclusive));
           })
           (λ its page at_hand hand. each_op (sight (with_memory c m)) its.page page Shown (record {
             none = λ activity is. tt;
@@ -94,7 +92,7 @@ module _ (m : Machine) (d : DiskModel) (c : RunningCore) (actor : ℕ) (free : O
             merges = λ job parent keep gone pair is id among.
                 let named = decides_page m actor job parent keep gone its is (wanted ∙ at_hand) in
                 more parent id _ (own (at.ConsolidatorDecide job parent keep gone) parent is (at_itself parent (Some Exclusive) (cond (keep == parent) (Some Exclusive) None)))
-                (more keep id _ (own (at.ConsolidatorDecide job parent keep gone) keep is (second_mode parent keep))
+                (more keep id _ (own (at.ConsolidatorDecide job parent keep gone) keep is (second_mode parent keep Exclusive))
                 (one gone id (subst (StaysHere c.uses) named.0 (wanted_here (wanted_by m actor) m.uses c.uses pinned_so its (wanted ∙ at_hand))))) among;
           }))
           row refl

@@ -40,7 +40,7 @@ use Rattle.hb_core.proofs.Running.Pins.{can_unpin, tied_unpinned}
 use Rattle.hb_core.proofs.Machines.PinsFollow.{PinsMore, more_number}
 use Rattle.hb_core.specs.KeptMachine.{MachineKeeps}
 use Rattle.hb_core.proofs.Running.ReadsStay.{must_stays}
-use Rattle.hb_core.proofs.Running.StandsElsewhere.{shown_length, shows_but, stands_as}
+use Rattle.hb_core.proofs.Running.StandsElsewhere.{shows_but, stands_as}
 use Rattle.hb_core.proofs.Running.TakesNumbers.{needs_what_it_takes, takes_what_it_needs}
 
 set_twice : {X : Type 0} (xs : List X) (n : ℕ) (x y : X) → slice_set (slice_set xs n x) n y ≡ slice_set xs n y
@@ -106,9 +106,6 @@ module _ (d : DiskModel) (c : RunningCore) (m : Machine) (actor : ℕ) (free : O
   shows_idled : ShowsBut d idled actor (with_memory idled m)
   shows_idled = subst (λ (l : List Activity). ShowsMachine d (record c { activities = l }) (with_memory c m))
       (sym (set_twice c.activities (actor - 1) (idle_of (class_for actor)) (m.activity actor))) (shows_but d c (with_memory c m) actor may pages.shows)
-
-  pub same_length : length c.order ≡ length m.order
-  same_length = sym (shown_length d c (with_memory c m) pages.shows)
 
   abbrev Needs : Type 0
   Needs = NeedsNumber (m.activity actor) (wanted_by m actor) (with_memory c m)

@@ -30,7 +30,8 @@ use Rattle.hb_core.specs.Rows.{Row}
 use Rattle.hb_core.specs.Showing.{RunningCore, ShowsMachine}
 use Rattle.hb_core.specs.Working.{HaltsPinned, HasPages, with_memory}
 use Rattle.hb_core.proofs.Running.MayPerform.{has_room, hold_after, may_commit_then, stands_after}
-use Rattle.hb_core.proofs.Running.RowsDone.{op_refused, row_done, row_refused, same_length}
+use Rattle.hb_core.proofs.Running.RowsDone.{op_refused, row_done, row_refused}
+use Rattle.hb_core.proofs.Running.StandsElsewhere.{shown_length}
 
 -- two facts of what a call gave
 pub ok_both : {A E : Type 0} (r : Result A E) (P Q R : A → Type 0) → ((x : A) → P x → Q x → R x) → IfOk r P → IfOk r Q → IfOk r R
@@ -58,7 +59,7 @@ module _ {D : Type 0} (model : D → DiskModel) (x y : D) (c between : RunningCo
   pub order_few : length between.lines < 2 ^ 32 → length between.order < 2 ^ 32
   order_few few =
       let here : length c.lines < 2 ^ 32 = subst (λ (s : RunningCore). length s.lines < 2 ^ 32) rest few in
-      let long : length c.order ≡ length m.order = same_length (model x) c m actor free may pages in
+      let long : length c.order ≡ length m.order = sym (shown_length (model x) c (with_memory c m) pages.shows) in
       let all : length m.lines ≡ length c.lines = ap (λ (l : List Line). length l) pages.shows.lines in
       subst (λ (s : RunningCore). length s.order < 2 ^ 32) (sym rest) (omega (arith, here, long, all, pages.may.goes_on.kept.order_short.few))
 
@@ -99,7 +100,7 @@ module _ {D : Type 0} (model : D → DiskModel) (x y : D) (c between : RunningCo
           let core : RunningCore = with_standing actor (idle_of (class_for actor)) c in
           let of_idled : DoesDeed actor pins (placed (length c.order) (deed_of (m.activity actor) next)) outcome core after =
           subst (λ (s : RunningCore). DoesDeed actor pins (placed (length s.order) (deed_of (m.activity actor) next)) outcome s after) rest (does (m.activity actor) is) in
-          let long : length c.order ≡ length m.order = same_length (model x) c m actor free may pages in
+          let long : length c.order ≡ length m.order = sym (shown_length (model x) c (with_memory c m) pages.shows) in
           let kept : KeepsFilesBy next.op (model x) c.store (model x) after.store =
           subst (λ (k : D). KeepsFilesBy next.op (model x) c.store (model k) after.store) (then ∙ same)
           (subst (λ (k : D). KeepsFilesBy next.op (model k) c.store (model z) after.store) same

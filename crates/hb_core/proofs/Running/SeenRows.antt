@@ -19,7 +19,7 @@ use Rattle.hb_poster.specs.Asks.{MakesPage, MayBeAsked}
 use Rattle.hb_poster.specs.PosterRows.{PosterRow}
 use Rattle.hb_search.specs.Searching.{SearchRow}
 use Rattle.hb_store.specs.States.{StoreState}
-use Rattle.std.proofs.lemmas.Option.{same_Some}
+use Rattle.std.proofs.lemmas.Option.{same_Some, none-some}
 use Rattle.hb_core.proofs.Running.LiftedMerges.{lifted_merger}
 use Rattle.hb_core.proofs.Running.LiftedRows.{IsSeenIn, lifted_point, lifted_poster, lifted_search}
 use Rattle.hb_core.specs.AskingDeciders.{AsksPoint, AsksPoster, HasPointRow, HasPosterRow, HasSearchRow, sight_in}
@@ -131,16 +131,14 @@ pair_there f (at.ConsolidatorTry job parent keep gone leaf) id page (Some above)
 pair_there f (at.ConsolidatorDecide job parent keep gone) id page (Some above) (Some kept) live is has = (sym is, (sym has, (live, tt)))
 pair_there f activity id page first second live is has = (live, tt)
 
+-- no number is given where none is
+pub no_number : (st : StoreState) (number : ℕ × ℕ) → None ≡ Some number → next_of st ≡ Some number
+no_number st number is = absurd (none-some number is)
+
 module _ (st : StoreState) (activity : Activity) (n : ℕ) (id : ℕ) (page : LivePage) (first second : Option LivePage) (meta : Meta) (is_id : id ≡ n) (live : live_here st id ≡ Some page) (other : first ≡ other_page st activity) (kept : second ≡ second_page st activity)
     (is_meta : meta ≡ st.meta) where
-  no_number : (number : ℕ × ℕ) → None ≡ Some number → next_of st ≡ Some number
-  no_number number is = absurd (nothing is)
-    where
-      nothing : None ≡ Some number → ⊥
-      nothing is = cc
-
   pair_shown : (place : ℕ) → IsSeenIn (sight_in st place) (given_sight meta (pages_given activity id page first second) None)
-  pair_shown place = record { meta = is_meta; pages = among_there (live_here st) (pages_given activity id page first second) (pair_there (live_here st) activity id page first second live other kept); next = no_number }
+  pair_shown place = record { meta = is_meta; pages = among_there (live_here st) (pages_given activity id page first second) (pair_there (live_here st) activity id page first second live other kept); next = no_number st }
 
   one_page : (asked : LivePage) → live_here st n ≡ Some asked → asked ≡ page
   one_page asked there = same_Some asked page (sym there ∙ (under_number st id n page is_id live))

@@ -17,18 +17,11 @@ use Rattle.hb_point.specs.SessionRows.{PointRow}
 use Rattle.hb_search.specs.SearchRows.{Gathers}
 use Rattle.hb_search.specs.Searching.{SearchRow}
 use Rattle.hb_store.specs.States.{StoreState}
-use Rattle.hb_core.proofs.Running.SeenRows.{point_said, search_said}
+use Rattle.hb_core.proofs.Running.SeenRows.{no_number, point_said, search_said}
 use Rattle.hb_core.specs.AskingDeciders.{AsksPoint, AsksSearcher, HasPointRow, HasSearchRow}
 use Rattle.hb_core.specs.Looking.{other_page}
-use Rattle.hb_core.specs.Machines.{live_here, next_of}
+use Rattle.hb_core.specs.Machines.{live_here}
 use Rattle.hb_core.specs.Moving.{placed}
-
--- no number is given where none is
-pub no_number : (st : StoreState) (number : ℕ × ℕ) → None ≡ Some number → next_of st ≡ Some number
-no_number st number is = absurd (nothing is)
-  where
-    nothing : None ≡ Some number → ⊥
-    nothing is = cc
 
 -- ---- a search
 

@@ -6,22 +6,10 @@ use Rattle.hb_disk.specs.Model.{DiskModel}
 use Rattle.hb_lemmas.proofs.Booleans.{if_same}
 use Rattle.hb_set.specs.Order.{Entry}
 use Rattle.hb_space.specs.Actors.{IsActor}
+use Rattle.hb_space.proofs.Facts.Lists.{get-set_same, get-set_other}
 use Rattle.hb_core.specs.Machines.{Machine, with_activity}
 use Rattle.hb_core.specs.Moving.{StandsAs, with_standing}
 use Rattle.hb_core.specs.Showing.{RunningCore, ShowsMachine}
-
--- a list with another element at a place has that one there, and elsewhere what it had
-pub at_set : {X : Type 0} (xs : List X) (n : ℕ) (new : X) → n < length xs → slice_get (slice_set xs n new) n ≡ Some new
-at_set [] n new lt = absurd (omega (arith, lt))
-at_set (x ∷ xs) zero new lt = refl
-at_set (x ∷ xs) (suc n) new lt = at_set xs n new (omega (arith, lt))
-
-pub beside_set : {X : Type 0} (xs : List X) (n m : ℕ) (new : X) → m ≢ n → slice_get (slice_set xs n new) m ≡ slice_get xs m
-beside_set [] n m new ne = refl
-beside_set (x ∷ xs) zero zero new ne = absurd (ne refl)
-beside_set (x ∷ xs) zero (suc m) new ne = refl
-beside_set (x ∷ xs) (suc n) zero new ne = refl
-beside_set (x ∷ xs) (suc n) (suc m) new ne = beside_set xs n m new (λ e. ne (ap suc e))
 
 -- what stands there already stands there
 pub set_as_it_was : {X : Type 0} (xs : List X) (n : ℕ) (x : X) → slice_get xs n ≡ Some x → slice_set xs n x ≡ xs
@@ -47,8 +35,8 @@ module _ (activities : List Activity) (of : ℕ → Activity) (actor : ℕ) (bef
   pub stand_then : ((other : ℕ) → IsActor other → slice_get (slice_set activities (actor - 1) before) (other - 1) ≡ Some (of other))
       → (other : ℕ) → IsActor other → slice_get (slice_set activities (actor - 1) next) (other - 1) ≡ Some (with_activity actor next of other)
   stand_then stands other its = if_same other actor (λ b. slice_get (slice_set activities (actor - 1) next) (other - 1) ≡ Some (cond b next (of other)))
-      (λ same. ap (λ (n : ℕ). slice_get (slice_set activities (actor - 1) next) (n - 1)) same ∙ at_set activities (actor - 1) next within)
-      (λ off. beside_set activities (actor - 1) (other - 1) next (apart actor other may its off) ∙ sym (beside_set activities (actor - 1) (other - 1) before (apart actor other may its off)) ∙ stands other its)
+      (λ same. ap (λ (n : ℕ). slice_get (slice_set activities (actor - 1) next) (n - 1)) same ∙ get-set_same activities (actor - 1) next within)
+      (λ off. get-set_other activities (actor - 1) (other - 1) next (apart actor other may its off) ∙ sym (get-set_other activities (actor - 1) (other - 1) before (apart actor other may its off)) ∙ stands other its)
 
 -- A core that shows a machine stands as it stands.
 pub stands_so : (d : DiskModel) (c : RunningCore) (m : Machine) (actor : ℕ) → IsActor actor → ShowsMachine d c m → with_standing actor (m.activity actor) c ≡ c

@@ -1,7 +1,6 @@
 -- Where a row's deed is done, its actor may stand as the deed says: nobody is in the way of its latches, and they are on different pages.
-use Rattle.std.proofs.Common.{◌≡◌, ◌≢◌, ◌⊎◌, inl, inr, ℕ, zero, suc, Bool, cond, [], ◌∷◌, length, Option, Some, None, IfSome, IsSome, IsTrue, refl, sym, ap, ◌∙◌, subst, arith}
+use Rattle.std.proofs.Common.{◌≡◌, ◌≢◌, ◌⊎◌, inl, inr, ℕ, zero, suc, [], ◌∷◌, length, Option, Some, None, IfSome, IsSome, IsTrue, refl, sym, ap, ◌∙◌, subst, arith}
 use Rattle.std.specs.Option.{option_and_then}
-use Rattle.std.proofs.lemmas.Bool.{eq-eqb}
 use Rattle.std.proofs.lemmas.Option.{same_Some}
 use Rattle.hb_frag.specs.declared.pages.LivePage.{LivePage}
 use Rattle.hb_latch.specs.declared.modes.Mode.{Mode}
@@ -12,21 +11,17 @@ use Rattle.hb_space.specs.Actors.{IsActor}
 use Rattle.hb_ops.specs.Files.{if_live}
 use Rattle.hb_set.specs.declared.scripts.Line.{Line}
 use Rattle.hb_activity.specs.declared.holding.Latch.{Latch}
-use Rattle.hb_activity.specs.declared.jobs.Job.{Job}
 use Rattle.hb_activity.specs.declared.activities.Activity.{Activity}
 use Rattle.hb_activity.specs.declared.activities.Activity.TheVariants as at
-use Rattle.hb_activity.specs.Classes.{Consolidators, Sessions, class_of}
 use Rattle.hb_activity.specs.Deeds.{Deed}
 use Rattle.hb_activity.specs.Holding.{latch_on, walk_latch}
 use Rattle.hb_activity.specs.Walks.{job_mode, session_mode, walk_held}
-use Rattle.hb_store.specs.States.{StoreState, in_memory}
-use Rattle.hb_lemmas.proofs.Options.{at_value, has_value, if_value, some_value}
+use Rattle.hb_store.specs.States.{StoreState}
+use Rattle.hb_lemmas.proofs.Options.{at_value, has_value, if_value, some_value, not_none}
 use Rattle.hb_core.proofs.Latches.Beside.{beside_from}
 use Rattle.hb_core.proofs.Latches.MergerBacked.{every_row_backed}
-use Rattle.hb_core.proofs.Memory.NextNumbers.{is_next_number}
-use Rattle.hb_core.proofs.Memory.OwnedOps.{made_was_free}
 use Rattle.hb_core.proofs.Facts.StillThere.{fetched_good}
-use Rattle.hb_core.proofs.Table.NextPlaces.{HasPlace, HoldsNothing, PartsFull, now, place_after}
+use Rattle.hb_core.proofs.Table.NextPlaces.{HasPlace, HoldsNothing, now, place_after}
 use Rattle.hb_core.proofs.Walks.MergesKept.{HasMergePlace, merged_place, place_stays}
 use Rattle.hb_core.specs.AllowedLaws.{AnyPage}
 use Rattle.hb_core.specs.Asking.{wanted_by}
@@ -35,9 +30,10 @@ use Rattle.hb_core.specs.KeptMachine.{MachineKeeps}
 use Rattle.hb_core.specs.KeptMerges.{AtParent, KeepsPair, NamesKnown, PairHeld, merging_at}
 use Rattle.hb_core.specs.Machines.{Machine, live_here, with_disk}
 use Rattle.hb_core.specs.Moving.{AreApart, MayStand}
-use Rattle.hb_core.specs.Performing.{MayDo, latches_held, mode_among}
+use Rattle.hb_core.specs.Performing.{MayDo, latches_held}
 use Rattle.hb_core.specs.Rows.{Row}
 use Rattle.hb_core.specs.Working.{MayWork}
+use Rattle.hb_core.proofs.Machines.LatchesApart.{puts_apart}
 
 -- ---- latches on different pages
 
@@ -94,79 +90,24 @@ module _ (m : Machine) (actor : ℕ) (fetched st : StoreState) (deed : Deed) (la
   keeps : MachineKeeps m
   keeps = work.goes_on.kept
 
-  -- the half that leaves gets a number that no page in use has
-  parts_apart : PartsFull m actor (now m actor fetched) deed → (line : Line) (source fresh : ℕ) → deed.next ≡ at.SessionPut line source fresh → source ≢ fresh
-  parts_apart parts line source fresh next same =
-      let leaves = parts.row.leaves in
-      let puts : at.SessionPut parts.line parts.held leaves.fresh ≡ at.SessionPut line source fresh = sym (ap (λ (d : Deed). d.next) parts.row.deed_is) ∙ next in
-      let one : parts.held ≡ leaves.fresh = both parts.line line parts.held leaves.fresh source fresh puts same in
-      let among : mode_among parts.held (latches_held m.store (at.SessionSplit parts.line parts.held)) ≡ Some Exclusive = ap (λ (b : Bool). cond b (Some Exclusive) None) (eq-eqb parts.held parts.held refl) in
-      let holds = keeps.latches_fit.exact actor parts.held latches ∙ ap (λ (a : Activity). mode_among parts.held (latches_held m.store a)) parts.before ∙ among in
-      let used = keeps.latches_fit.used actor parts.held Exclusive holds in
-      (made_was_free m AnyPage fetched leaves.fresh leaves.free_after keeps.pages_of_file brings (is_next_number fetched leaves.fresh leaves.free_after leaves.next) used.0 (ap (in_memory m.store) (sym one) ∙ used.1)).0
-      (inl (actor, Exclusive, ap (mode_at m.latches actor) (sym one) ∙ holds))
-    where
-      both : (line other : Line) (a b source fresh : ℕ) → at.SessionPut line a b ≡ at.SessionPut other source fresh → source ≡ fresh → a ≡ b
-      both line other a b source fresh is same = cc
-
-  put_apart : HasPlace m actor (now m actor fetched) deed → (line : Line) (source fresh : ℕ) → deed.next ≡ at.SessionPut line source fresh → source ≢ fresh
-  put_apart (inl nothing) line source fresh next = absurd (some (sym (ap (latches_held st) next) ∙ nothing.latches st))
-    where
-      some : latch_on source Exclusive ∷ latch_on fresh Exclusive ∷ [] ≡ [] → ⊥
-      some is = cc
-  put_apart (inr (inl walks)) line source fresh next = absurd (never (sym (ap walk_held next) ∙ walks.held))
-    where
-      never : None ≡ Some walks.id → ⊥
-      never is = cc
-  put_apart (inr (inr (inl full))) line source fresh next = absurd (never full.line full.id (sym (ap (λ (d : Deed). d.next) full.row.deed_is) ∙ next))
-    where
-      never : (other : Line) (id : ℕ) → at.SessionSplit other id ≡ at.SessionPut line source fresh → ⊥
-      never other id is = cc
-  put_apart (inr (inr (inr (inl takes)))) line source fresh next = absurd (never takes.job takes.id (sym (ap (λ (d : Deed). d.next) takes.row.deed_is) ∙ next))
-    where
-      never : (job : Job) (id : ℕ) → at.PosterChild job id ≡ at.SessionPut line source fresh → ⊥
-      never job id is = cc
-  put_apart (inr (inr (inr (inr (inl parent))))) line source fresh next = absurd (by parent.job parent.parent parent.after)
-    where
-      by : (job : Job) (id : ℕ) → (deed.next ≡ at.PosterPromote job id) ⊎ (deed.next ≡ at.PosterAgain job id) → ⊥
-      by job id (inl is) = promotes (sym is ∙ next)
-        where
-          promotes : at.PosterPromote job id ≡ at.SessionPut line source fresh → ⊥
-          promotes is = cc
-      by job id (inr is) = again (sym is ∙ next)
-        where
-          again : at.PosterAgain job id ≡ at.SessionPut line source fresh → ⊥
-          again is = cc
-  put_apart (inr (inr (inr (inr (inr (inl parts)))))) line source fresh next = parts_apart parts line source fresh next
-  put_apart (inr (inr (inr (inr (inr (inr merges)))))) line source fresh next = absurd (never (sym (ap class_of next) ∙ ap (λ (d : Deed). class_of d.next) merges.stays.is ∙ merges.stays.after.kind))
-    where
-      never : Sessions ≡ Consolidators → ⊥
-      never is = cc
-
   -- of a consolidator's place its pair is apart
-  none_there : (place : AtParent) → merging_at deed.next ≡ None → merging_at deed.next ≡ Some place → ⊥
-  none_there place none some = by (sym none ∙ some)
-    where
-      by : None ≡ Some place → ⊥
-      by is = cc
-
   pair_apart : HasPlace m actor (now m actor fetched) deed → (place : AtParent) (pair : PairHeld) → merging_at deed.next ≡ Some place → place.pair ≡ Some pair → place.parent ≢ pair.keep
-  pair_apart (inl nothing) place pair at_place held = absurd (none_there place nothing.merging at_place)
-  pair_apart (inr (inl walks)) place pair at_place held = absurd (none_there place walks.merging at_place)
-  pair_apart (inr (inr (inl full))) place pair at_place held = absurd (none_there place (ap (λ (d : Deed). merging_at d.next) full.row.deed_is) at_place)
-  pair_apart (inr (inr (inr (inl takes)))) place pair at_place held = absurd (none_there place (ap (λ (d : Deed). merging_at d.next) takes.row.deed_is) at_place)
-  pair_apart (inr (inr (inr (inr (inl parent))))) place pair at_place held = absurd (none_there place (by parent.after) at_place)
+  pair_apart (inl nothing) place pair at_place held = absurd (not_none (merging_at deed.next) place at_place nothing.merging)
+  pair_apart (inr (inl walks)) place pair at_place held = absurd (not_none (merging_at deed.next) place at_place walks.merging)
+  pair_apart (inr (inr (inl full))) place pair at_place held = absurd (not_none (merging_at deed.next) place at_place (ap (λ (d : Deed). merging_at d.next) full.row.deed_is))
+  pair_apart (inr (inr (inr (inl takes)))) place pair at_place held = absurd (not_none (merging_at deed.next) place at_place (ap (λ (d : Deed). merging_at d.next) takes.row.deed_is))
+  pair_apart (inr (inr (inr (inr (inl parent))))) place pair at_place held = absurd (not_none (merging_at deed.next) place at_place (by parent.after))
     where
       by : (deed.next ≡ at.PosterPromote parent.job parent.parent) ⊎ (deed.next ≡ at.PosterAgain parent.job parent.parent) → merging_at deed.next ≡ None
       by (inl is) = ap merging_at is
       by (inr is) = ap merging_at is
-  pair_apart (inr (inr (inr (inr (inr (inl parts)))))) place pair at_place held = absurd (none_there place (ap (λ (d : Deed). merging_at d.next) parts.row.deed_is) at_place)
+  pair_apart (inr (inr (inr (inr (inr (inl parts)))))) place pair at_place held = absurd (not_none (merging_at deed.next) place at_place (ap (λ (d : Deed). merging_at d.next) parts.row.deed_is))
   pair_apart (inr (inr (inr (inr (inr (inr merges)))))) place pair at_place held =
       by (merged_place m actor fetched (fetched_good m AnyPage fetched keeps.pages_of_file brings) (λ place is. subst (λ (o : Option AtParent). IfSome o (NamesKnown m.store)) is (keeps.walk_in_space.merging actor))
       (place_stays m AnyPage fetched brings actor keeps.latches_fit latches) deed merges)
     where
       by : HoldsNothing deed.next ⊎ HasMergePlace fetched deed.next → place.parent ≢ pair.keep
-      by (inl free) = absurd (none_there place free.merging at_place)
+      by (inl free) = absurd (not_none (merging_at deed.next) place at_place free.merging)
       by (inr here) = known_apart fetched place pair (subst (NamesKnown fetched) (same_Some here.place place (sym here.is ∙ at_place)) here.named) held
 
   pub may_stand : MayDo deed.op (length m.order) fetched st → MayStand actor m.latches st deed.next
@@ -178,6 +119,6 @@ module _ (m : Machine) (actor : ℕ) (fetched st : StoreState) (deed : Deed) (la
             let held = some_value (walk_held deed.next) walks in
             let there = backed.walk held.0 held.1 in
             subst (λ (o : Option ℕ). IsSome (option_and_then (live_here st) o)) (sym held.1) (has_value (live_here st held.0) there.0 (ap if_live there.1));
-        apart = apart_by st deed.next (put_apart (place_after m actor fetched (wanted_by m actor) deed refl row)) (pair_apart (place_after m actor fetched (wanted_by m actor) deed refl row));
+        apart = apart_by st deed.next (puts_apart m actor AnyPage fetched latches keeps.latches_fit keeps.pages_of_file brings deed (place_after m actor fetched (wanted_by m actor) deed refl row)) (pair_apart (place_after m actor fetched (wanted_by m actor) deed refl row));
         free = λ page mode among other another. if_value (mode_at m.latches other page) (λ (held : Mode). IsTrue (goes_beside mode held)) (λ held holds. beside_from m actor keeps.latches_fit other page mode held another (backed.latches page mode among).from holds);
       }

@@ -1,5 +1,5 @@
 -- What a step does to the disk: nothing, a force, a page that is written to its place, or the beginning of the log's next turn.
-use Rattle.std.proofs.Common.{◌≡◌, ◌≢◌, inl, inr, ℕ, ◌<◌, arith, List, [], None, Some, IsOk, Ok, Err, refl, sym, ap, ◌∙◌, subst}
+use Rattle.std.proofs.Common.{◌≡◌, ◌≢◌, inl, inr, ℕ, ◌<◌, arith, List, [], None, Some, Ok, Err, refl, sym, ap, ◌∙◌, subst}
 use Rattle.hb_activity.specs.declared.activities.Activity.TheVariants as at
 use Rattle.hb_disk.specs.Calls.{ReadsOnly}
 use Rattle.hb_disk.specs.Model.{DiskModel, Torn}
@@ -27,6 +27,7 @@ use Rattle.hb_core.specs.Touching.{EndsByRead, Touches, held_in}
 use Rattle.hb_core.specs.Working.{MayStep}
 use Rattle.hb_core.proofs.Running.ForcedShows.{waits_or_not, with_held}
 use Rattle.hb_core.proofs.Running.WrittenShows.{home_failed}
+use Rattle.std.proofs.lemmas.Bool.{false≢true}
 
 -- an outcome for which no read and no write failed
 pub record IsWell (outcome : Outcome) : Type 0 where
@@ -51,7 +52,10 @@ answered_well number reply none = record { no_read = none; no_write = λ never. 
 pub well_as : (outcome other : Outcome) → outcome ≡ other → IsWell other → IsWell outcome
 well_as outcome other is well = subst IsWell (sym is) well
 
-memory_reply : replies.NoMemory ≡ replies.ReadFault → ⊥
+pub same_stop : (a b : StopWhy) → outcomes.Stopped a ≡ outcomes.Stopped b → a ≡ b
+same_stop a b equal = cc equal
+
+pub memory_reply : replies.NoMemory ≡ replies.ReadFault → ⊥
 memory_reply never = cc
 
 pub full_reply : replies.Full ≡ replies.ReadFault → ⊥
@@ -91,7 +95,7 @@ as_unit v d e old new writes = record {
 
 as_failed : {T : Type 0} (fault : WriteFault) (d e : DiskModel) (old new : StoreState) → WritesGroups {T = T} (Err fault) d e old new → WritesGroups {T = Unit {0}} (Err fault) d e old new
 as_failed {T = T} fault d e old new writes = record {
-  nothing = λ none. (absurd (never (writes.nothing none).0), (writes.nothing none).1);
+  nothing = λ none. (absurd (false≢true (writes.nothing none).0), (writes.nothing none).1);
   forced = tt;
   stopped = writes.stopped;
   keeps_forced = λ durable later keeps. tt;
@@ -100,9 +104,6 @@ as_failed {T = T} fault d e old new writes = record {
   wrote = Rewrites-as {T = T} (Err fault) (Err fault) (Torn old.log.area old.log.len) 4 4 d e (λ failed. refl) (λ failed. refl) (omega arith) writes.wrote;
   clock = writes.clock;
 }
-  where
-    never : IsOk {T = T} {E = WriteFault} (Err fault) → ⊥
-    never is = cc
 
 home_as_unit : {T : Type 0} (v : T) (id : ℕ) (d e : DiskModel) (old new : StoreHeld) → WritesHome (Ok v) id d e old new → WritesHome {T = Unit {0}} (Ok tt) id d e old new
 home_as_unit v id d e old new writes = record {
@@ -155,9 +156,6 @@ module _ {D : Type 0} (model : D → DiskModel) (x y : D) (c after : RunningCore
     only = ReadsOnly-none (model x) (λ ends. subst EndsByRead says ends);
     no_write = λ fault. is ∙ ap Some (sym same ∙ same_stop said stops.WriteFault (sym says ∙ fault));
   })
-    where
-      same_stop : (a b : StopWhy) → outcomes.Stopped a ≡ outcomes.Stopped b → a ≡ b
-      same_stop a b equal = cc
 
   pub touched_forced : {T : Type 0} (v : T) → IsWell outcome → WritesGroups (Ok v) (model x) (model y) c.store after.store → Touches (model x) c outcome (model y) after
   touched_forced v well writes = inr (inl (record {

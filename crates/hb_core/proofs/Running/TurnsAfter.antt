@@ -2,14 +2,14 @@
 use Rattle.std.proofs.Common.{◌≡◌, ◌≢◌, ◌⊎◌, inl, inr, ℕ, ◌≤◌, true, cond, List, [], ◌∷◌, ◌++◌, length, take, drop, All, Option, Some, None, refl, sym, ap, ◌∙◌, subst, append-nil}
 use Rattle.std.specs.List.{Contains}
 use Rattle.std.proofs.lemmas.List.{take-append-drop}
-use Rattle.std.proofs.lemmas.List.Elements.{All-contains, Contains-append_left, Contains-append_right}
+use Rattle.std.proofs.lemmas.List.Elements.{All-contains, Contains-append_left}
 use Rattle.std.proofs.lemmas.Option.{same_Some}
 use Rattle.hb_set.specs.declared.scripts.Answered.{Answered}
 use Rattle.hb_set.specs.declared.scripts.Line.{Line}
 use Rattle.hb_activity.specs.declared.activities.Activity.{Activity}
 use Rattle.hb_activity.specs.Deeds.{Deed, Says}
 use Rattle.hb_lemmas.proofs.Booleans.{if_same}
-use Rattle.hb_lemmas.proofs.Lists.{each_member}
+use Rattle.hb_lemmas.proofs.Lists.{each_member, behind_front}
 use Rattle.hb_core.proofs.Facts.NextLines.{answered_before, now_answered, same_line, still_answered}
 use Rattle.hb_core.proofs.Running.NumbersInHand.{NumberFate}
 use Rattle.hb_core.specs.Machines.{Machine, with_activity}
@@ -41,9 +41,6 @@ module _ (lines : List Line) (behind : ℕ) where
   pub in_front : (line : Line) → Contains (take behind lines) line → Contains lines line
   in_front line there = subst (λ (l : List Line). Contains l line) (take-append-drop behind lines) (Contains-append_left (take behind lines) (drop behind lines) line there)
 
-  pub in_back : (line : Line) → Contains (drop behind lines) line → Contains lines line
-  in_back line there = subst (λ (l : List Line). Contains l line) (take-append-drop behind lines) (Contains-append_right (take behind lines) (drop behind lines) line there)
-
 module _ (lines : List Line) (answered : List Answered) (a : Answered) where
   more_dealt : (before after : Option ℕ) (session behind : ℕ) → ((line : Line) → Contains lines line → Dealt answered before session line → Dealt (answered ++ a ∷ []) after session line)
       → ((line : Line) → Contains lines line → ToCome answered before session line → ToCome (answered ++ a ∷ []) after session line)
@@ -53,7 +50,7 @@ module _ (lines : List Line) (answered : List Answered) (a : Answered) where
     front = each_member (Dealt (answered ++ a ∷ []) after session) (take behind lines)
         (λ line there. front line (in_front lines behind line there) (All-contains (Dealt answered before session) (take behind lines) line turn.front there));
     back = each_member (ToCome (answered ++ a ∷ []) after session) (drop behind lines)
-        (λ line there. back line (in_back lines behind line there) (All-contains (ToCome answered before session) (drop behind lines) line turn.back there));
+        (λ line there. back line (behind_front behind lines line there) (All-contains (ToCome answered before session) (drop behind lines) line turn.back there));
   }
 
   -- a line of another session was answered

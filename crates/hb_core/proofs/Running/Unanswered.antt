@@ -6,7 +6,7 @@ use Rattle.std.proofs.lemmas.Bool.{false≢true}
 use Rattle.std.proofs.lemmas.List.{get_or-drop, get_or-take, length-drop, map-append, take_all}
 use Rattle.std.proofs.lemmas.List.Elements.{filter-append}
 use Rattle.std.proofs.lemmas.List.Sums.{count_by_more_no, count_by_more_yes}
-use Rattle.std.proofs.lemmas.Option.{get_or_from_slice_get, same_Some, slice_get-get_or, slice_get_read, slice_get_within}
+use Rattle.std.proofs.lemmas.Option.{get_or_from_slice_get, same_Some, slice_get-get_or, slice_get_read, slice_get_within, none-some}
 use Rattle.hb_disk.specs.Model.{DiskModel}
 use Rattle.hb_set.specs.declared.scripts.Answered.{Answered}
 use Rattle.hb_set.specs.declared.scripts.Line.{Line}
@@ -65,10 +65,7 @@ in_hand_open session answered lines (at.SessionAwait kept reply place) number in
     by : (o : Option Line) → next_line session answered lines ≡ o → IsSomeAnd o (λ (line : Line). line.number ≡ kept) → is_answered number answered ≡ false
     by None none never = absurd never
     by (Some line) next same = next_open session answered lines line number next (same ∙ same_Some kept number is)
-in_hand_open session answered lines other number in_hand awaited is = absurd (nothing number is)
-  where
-    nothing : (n : ℕ) → None ≡ Some n → ⊥
-    nothing n e = cc
+in_hand_open session answered lines other number in_hand awaited is = absurd (none-some number is)
 
 -- how far its session has come, as the code reads it
 far_so : (behinds : List ℕ) (session from : ℕ) → length behinds ≡ 16 → from ≡ session → 1 ≤ session → session ≤ 16 → slice_get behinds (session - 1) ≡ Some (get_or behinds (from - 1) 0)
@@ -182,11 +179,5 @@ put_all d c m shown place first items shows is_shown high put =
     let same : shown ≡ m.lines = is_shown ∙ sym shows.lines in
     put ∙ ap (λ (l : List Line). first ++ numbers (has_none m) l) (take_all place m.lines (subst (λ (l : List Line). length l ≤ place) same high))
 
-pub few_more : (a b n : ℕ) → a ≤ n → b ≤ 1 → a + b ≤ n + 1
-few_more a b n few one = omega (arith, few, one)
-
 pub one_longer : (a b first n : ℕ) → a ≤ first + n → b ≤ a + 1 → b ≤ first + (n + 1)
 one_longer a b first n few one = omega (arith, few, one)
-
-pub still_room : (a b c : ℕ) → a ≤ b → b ≤ c → a ≤ c
-still_room a b c low high = omega (arith, low, high)

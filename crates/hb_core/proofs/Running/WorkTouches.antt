@@ -22,7 +22,7 @@ use Rattle.hb_core.specs.Performing.{outcome_of}
 use Rattle.hb_core.specs.Showing.{RunningCore}
 use Rattle.hb_core.specs.Touching.{EndsByRead, IsReadHalt, Touches}
 use Rattle.hb_core.specs.Working.{IsHalt, IsWorking}
-use Rattle.hb_core.proofs.Running.Touched.{IsWell, answered_well, full_reply, moved_well, well_as}
+use Rattle.hb_core.proofs.Running.Touched.{IsWell, answered_well, full_reply, moved_well, well_as, memory_reply, same_stop}
 use Rattle.hb_core.proofs.Table.RowFates.{IsFullRow, IsQuietRow, saying_of}
 use Rattle.hb_store.specs.States.{StoreState}
 
@@ -52,10 +52,7 @@ pub record IsGivenUpFor (why : DropWhy) (outcome : Outcome) : Type 0 where
   pub no_write : ¬ (outcome ≡ outcomes.Stopped stops.WriteFault)
 
 answered_for : (number : ℕ) (why : DropWhy) → IsGivenUpFor why (outcomes.Answered number (reply_for why))
-answered_for number drops.NoMemory = record { ends = λ is. absurd (other is); says = λ is. absurd (memory_reads_not is); no_write = λ never. cc }
-  where
-    other : replies.NoMemory ≡ replies.ReadFault → ⊥
-    other never = cc
+answered_for number drops.NoMemory = record { ends = λ is. absurd (memory_reply is); says = λ is. absurd (memory_reads_not is); no_write = λ never. cc }
 answered_for number drops.ReadFault = record { ends = λ is. refl; says = λ is. refl; no_write = λ never. cc }
 
 dropped_for : (why : DropWhy) → IsGivenUpFor why (outcomes.Dropped why)
@@ -96,8 +93,5 @@ module _ (d e : DiskModel) (c after : RunningCore) (outcome : Outcome) where
     no_write = λ fault. absurd (no_fault why cause (same_stop why stops.WriteFault (sym says ∙ fault)));
   })
     where
-      same_stop : (a b : StopWhy) → outcomes.Stopped a ≡ outcomes.Stopped b → a ≡ b
-      same_stop a b equal = cc
-
       no_fault : (why : StopWhy) → IsHalt m actor st (Stops why) → why ≡ stops.WriteFault → ⊥
       no_fault why cause is = subst (λ (w : StopWhy). IsHalt m actor st (Stops w)) is cause

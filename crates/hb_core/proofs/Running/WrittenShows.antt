@@ -1,6 +1,7 @@
 -- A core that writes the least recently used dirty page to its place, or finds nothing to write, shows what this makes of the machine.
-use Rattle.std.proofs.Common.{◌≡◌, ℕ, ◌+◌, List, Option, Some, None, IsOk, IsSome, Ok, Err, Result, refl, sym, ap, ◌∙◌, subst, ◌⊎◌, ◌<◌, inl, inr, arith}
+use Rattle.std.proofs.Common.{◌≡◌, ℕ, ◌+◌, List, Option, Some, None, IsSome, Ok, Err, Result, refl, sym, ap, ◌∙◌, subst, ◌⊎◌, ◌<◌, inl, inr, arith}
 use Rattle.std.specs.Prelude.{MatchOption}
+use Rattle.hb_lemmas.proofs.Options.{was_some}
 use Rattle.hb_disk.specs.Model.{DiskModel}
 use Rattle.hb_pool.specs.Frames.{Use, clean}
 use Rattle.hb_pool.specs.Pools.{in_place}
@@ -19,7 +20,8 @@ use Rattle.hb_core.specs.Machines.{Machine, with_disk, with_uses}
 use Rattle.hb_core.specs.Moving.{with_stop}
 use Rattle.hb_core.specs.Showing.{RunningCore, ShowsMachine}
 use Rattle.hb_core.specs.Touching.{held_in}
-use Rattle.hb_core.proofs.Running.ForcedShows.{fails_by, kept_before, shown_with, silent_before, told_before, with_held}
+use Rattle.hb_core.proofs.Running.ForcedShows.{fails_by, kept_before, shown_with, silent_before, with_held}
+use Rattle.std.proofs.lemmas.Bool.{false≢true}
 
 module _ (d e : DiskModel) (c : RunningCore) (st : StoreState) (uses : List Use) (m : Machine) (shows : ShowsMachine d c m) where
   abbrev pub now : StoreHeld
@@ -58,7 +60,7 @@ module _ (d e : DiskModel) (c : RunningCore) (st : StoreState) (uses : List Use)
       record { says = refl; leaves = refl },
       shown_with d e c st uses m shows (cleaned_state id m.store) (in_place id clean m.uses) m.files (m.clock + 1) store used
           (λ told.
-          let was = told_before d.told e.told writes.wrote.became.silent told in
+          let was = was_some d.told e.told writes.wrote.became.silent told in
           let had = shows.tells was in
           record {
             files = had.files;
@@ -94,7 +96,7 @@ module _ (d e : DiskModel) (c : RunningCore) (st : StoreState) (uses : List Use)
       record { says = refl; leaves = refl },
       shown_with d e c st uses m shows (switched_state m.store) m.uses m.files (m.clock + 9) store used
           (λ told.
-          let was = told_before d.told e.told switches.wrote.became.silent told in
+          let was = was_some d.told e.told switches.wrote.became.silent told in
           let had = shows.tells was in
           record {
             files = had.files;
@@ -116,9 +118,6 @@ module _ (d e : DiskModel) (c : RunningCore) (st : StoreState) (uses : List Use)
     fails_turn fault switches = fails_by d e c st uses m shows _ 9 switches.wrote.became switches.wrote.later switches.wrote.few switches.stopped.0 switches.stopped.1 switches.keeps
 
 -- ---- which of them it was
-
-no_ok : (T : Type 0) (fault : WriteFault) → IsOk {T = T} {E = WriteFault} (Err fault) → ⊥
-no_ok T fault is = cc
 
 module _ {T : Type 0} (d e : DiskModel) (old new : StoreHeld) where
   abbrev Home : Result T WriteFault → Option ℕ → Type 0
@@ -152,7 +151,7 @@ module _ {T : Type 0} (d e : DiskModel) (old new : StoreHeld) where
     where
       turned : oldest_dirty old.uses ≡ None → FlushesClean {T = T} (Err fault) d e old new → (oldest_dirty old.uses ≡ None) × (0 < old.state.log.written) × SwitchesTurn {T = T} (Err fault) d e old new
       turned is (inl (some, switches)) = (is, some, switches)
-      turned is (inr (none, ok, reads, same)) = absurd (no_ok T fault ok)
+      turned is (inr (none, ok, reads, same)) = absurd (false≢true ok)
 
       by : (o : Option ℕ) → oldest_dirty old.uses ≡ o
           → ((id : ℕ) × (oldest_dirty old.uses ≡ Some id) × WritesHome {T = T} (Err fault) id d e old new)

@@ -1,12 +1,11 @@
 -- What a search has found so far, once it took a leaf's records: of the box at hand what lies outside the leaf's box remains.
-use Rattle.std.proofs.Common.{◌≡◌, ◌↔◌, ◌⊎◌, inl, inr, ℕ, zero, suc, List, [], ◌∷◌, ◌++◌, length, All, AllPairs, Any, Contains, sym, ◌∙◌, subst, arith}
+use Rattle.std.proofs.Common.{◌≡◌, ◌↔◌, ◌⊎◌, inl, inr, ℕ, List, [], ◌∷◌, ◌++◌, length, All, AllPairs, Any, Contains, sym, ◌∙◌, subst}
 use Rattle.std.proofs.lemmas.Bool.{cases_Bool, false≢true}
 use Rattle.std.proofs.lemmas.List.Elements.{All-append, All-contains, All-head, All-tail, Contains-append_cases, Contains-append_left, Contains-append_right}
-use Rattle.std.proofs.lemmas.List.Kept.{AllPairs-cons, AllPairs-filter}
-use Rattle.hb_lemmas.proofs.Lists.{All-front, All-last, each_member, filter_keeps, first_member, later_member}
+use Rattle.hb_lemmas.proofs.Lists.{All-front, All-last, each_member, filter_keeps}
 use Rattle.hb_space.proofs.Facts.Boxes.{Holds-common_area, Holds-from_test, Holds-within, IsArea-common_area, Meets-from_point, Within-common_area, Within-from_points, test-from_Holds}
 use Rattle.hb_space.proofs.Facts.Lists.{length-zip_by}
-use Rattle.hb_space.proofs.Facts.Outside.{AllPairs-from_recursion, Any-from_recursion, Apart, Apart-append, Apart-pieces_outside, SomeHolds, SomeHolds-append_cases, SomeHolds-append_left, SomeHolds-append_right, SomeHolds-pieces_outside, holds_at, recursion_from_Any}
+use Rattle.hb_space.proofs.Facts.Outside.{Any-from_recursion, Apart, SomeHolds, SomeHolds-append_cases, SomeHolds-append_left, SomeHolds-append_right, SomeHolds-pieces_outside, holds_at, recursion_from_Any}
 use Rattle.hb_space.specs.Boxes.{Area, Disjoint, Holds, IsArea, Within, common_area, holds, pieces_outside}
 use Rattle.hb_space.specs.declared.records.Record.{Record}
 use Rattle.hb_set.specs.Machine.{RecordSet}
@@ -14,23 +13,10 @@ use Rattle.hb_core.proofs.Machines.PieceBoxes.{pieces_are_boxes}
 use Rattle.hb_core.proofs.Searches.SortedRecords.{filter_tells}
 use Rattle.hb_core.specs.KeptFits.{IsBoxOf}
 use Rattle.hb_core.specs.KeptSearches.{HasFoundSoFar, IsAmong}
+use Rattle.hb_search.proofs.Facts.StaysApart.{stays_apart}
 use Rattle.hb_search.specs.SearchRows.{records_within}
 use Rattle.hb_search.specs.Searching.{Differ, IsGathering}
-
--- ---- lists in pairs
-
-pairs_first : {X : Type 0} (R : X → X → Type 0) (x : X) (xs : List X) → AllPairs R (x ∷ xs) → All (R x) xs
-pairs_first R x xs pairs k d lt = pairs zero (suc k) d (omega arith) (omega (arith, lt))
-
-pairs_later : {X : Type 0} (R : X → X → Type 0) (x : X) (xs : List X) → AllPairs R (x ∷ xs) → AllPairs R xs
-pairs_later R x xs pairs i j d low high = pairs (suc i) (suc j) d (omega (arith, low)) (omega (arith, high))
-
-pairs_append : {X : Type 0} (R : X → X → Type 0) (xs ys : List X) → AllPairs R xs → AllPairs R ys → ((x y : X) → Contains xs x → Contains ys y → R x y) → AllPairs R (xs ++ ys)
-pairs_append R [] ys first second across = second
-pairs_append {X} R (x ∷ xs) ys first second across =
-    AllPairs-cons R x (xs ++ ys)
-    (All-append (R x) xs ys (pairs_first R x xs first) (each_member (R x) ys (λ y there. across x y (first_member x xs) there)))
-    (pairs_append R xs ys (pairs_later R x xs first) second (λ z y here there. across z y (later_member x xs z here) there))
+use Rattle.hb_lemmas.proofs.Pairs.{pairs_first, pairs_rest}
 
 -- ---- boxes of which no two share a point
 
@@ -40,12 +26,8 @@ apart_of (a ∷ us) pairs = (
   λ p here later. (let w = Any-from_recursion us p later in
       let apart : Disjoint a w.1 = subst (Disjoint a) w.3 (pairs_first Disjoint a us pairs w.0 w.1 w.2) in
       apart p here w.4),
-  apart_of us (pairs_later Disjoint a us pairs),
+  apart_of us (pairs_rest Disjoint a us pairs),
 )
-
-apart_front : (us vs : List Area) → Apart (us ++ vs) → Apart us
-apart_front [] vs apart = tt
-apart_front (a ∷ us) vs apart = (λ p here later. apart.0 p here (SomeHolds-append_left us vs p later), apart_front us vs apart.1)
 
 apart_across : (us vs : List Area) → Apart (us ++ vs) → (p : List ℕ) → SomeHolds us p → SomeHolds vs p → ⊥
 apart_across [] vs apart p never there = never
@@ -62,18 +44,12 @@ some_or_none k [] p boxes long = inr (λ never. never)
 some_or_none k (a ∷ us) p boxes long =
     let box = All-head (IsBoxOf k) a us boxes in
     elim (cases_Bool (holds a p)) [
-      | inl test ↦ inl (inl (Holds-from_test a p box.0 (long ∙ sym box.1) test))
+      | inl test ↦ inl (inl (Holds-from_test a p test))
       | inr off ↦ elim (some_or_none k us p (All-tail (IsBoxOf k) a us boxes) long) [
         | inl later ↦ inl (inr later)
         | inr none ↦ inr (λ some. elim some [ inl here ↦ false≢true (sym off ∙ test-from_Holds a p box.0 here) | inr later ↦ none later ])
       ]
     ]
-
--- no box of the list holds a point that none does
-none_of : (us : List Area) (p : List ℕ) → All (λ (a : Area). ¬ (Holds a p)) us → SomeHolds us p → ⊥
-none_of [] p none never = never
-none_of (a ∷ us) p none (inl here) = All-head (λ (a : Area). ¬ (Holds a p)) a us none here
-none_of (a ∷ us) p none (inr later) = none_of us p (All-tail (λ (a : Area). ¬ (Holds a p)) a us none) later
 
 -- ---- a search at a leaf
 
@@ -119,26 +95,12 @@ module _ (k : ℕ) (front : List Area) (at_hand : Area) (found records : List Re
   all_apart : Apart (front ++ at_hand ∷ [])
   all_apart = apart_of (front ++ at_hand ∷ []) gathering.apart
 
-  apart_after : AllPairs Disjoint (front ++ pieces)
-  apart_after =
-      AllPairs-from_recursion (front ++ pieces)
-      (Apart-append front pieces (apart_front front (at_hand ∷ []) all_apart) (Apart-pieces_outside at_hand both hand.0 both_is both_long both_within)
-      (λ q here there. apart_across front (at_hand ∷ []) all_apart q here (inl ((piece_tells q).0 there).0)))
-
   -- a record that is taken lies in the box at hand
   taken_in_hand : (r : Record) → Contains more r → Contains records r × Holds at_hand r.key
   taken_in_hand r there =
       let is = filter_tells (λ (r : Record). holds at_hand r.key) records r there in
       let in_area = leaf.inside r is.0 in
-      (is.0, Holds-from_test at_hand r.key hand.0 (in_area.same ∙ sym as_long) is.1)
-
-  -- a record that was found lies in none of the boxes
-  none_holds : (r : Record) → Contains found r → SomeHolds (front ++ at_hand ∷ []) r.key → ⊥
-  none_holds r there some = none_of (front ++ at_hand ∷ []) r.key (All-contains (λ (r : Record). All (λ (a : Area). ¬ (Holds a r.key)) (front ++ at_hand ∷ [])) found r gathering.outside there) some
-
-  once_after : AllPairs Differ (found ++ more)
-  once_after = pairs_append Differ found more gathering.once (AllPairs-filter Differ (λ (r : Record). holds at_hand r.key) records leaf.once)
-      (λ r s here there same. none_holds r here (SomeHolds-append_right front (at_hand ∷ []) r.key (inl (subst (Holds at_hand) (sym same) (taken_in_hand s there).1))))
+      (is.0, Holds-from_test at_hand r.key is.1)
 
   -- what the boxes hold that remain, they held before
   held_before : (q : List ℕ) → SomeHolds (front ++ pieces) q → SomeHolds (front ++ at_hand ∷ []) q
@@ -154,15 +116,8 @@ module _ (k : ℕ) (front : List Area) (at_hand : Area) (found records : List Re
     | inr piece ↦ ((piece_tells q).0 piece).1 ((Holds-common_area at_hand area q hand.0 leaf.box.0 as_long).1 (here, leafy))
   ]
 
-  outside_after : All (λ (r : Record). All (λ (a : Area). ¬ (Holds a r.key)) (front ++ pieces)) (found ++ more)
-  outside_after = each_member (λ (r : Record). All (λ (a : Area). ¬ (Holds a r.key)) (front ++ pieces)) (found ++ more) (λ r there.
-      each_member (λ (a : Area). ¬ (Holds a r.key)) (front ++ pieces) (λ a among held. elim (Contains-append_cases found more r there) [
-        | inl old ↦ none_holds r old (held_before r.key (some_by_member (front ++ pieces) a r.key among held))
-        | inr new ↦ (let is = taken_in_hand r new in none_after r.key is.1 (leaf.inside r is.0) (some_by_member (front ++ pieces) a r.key among held))
-      ]))
-
   pub gathering_after : IsGathering (front ++ pieces) (found ++ more)
-  gathering_after = record { apart = apart_after; once = once_after; outside = outside_after }
+  gathering_after = stays_apart front found records at_hand area gathering hand.0 leaf.box.0 as_long (Meets-from_point at_hand area p in_hand in_leaf) leaf.inside leaf.once
 
   -- ---- by the contents of a file
 
@@ -192,7 +147,7 @@ module _ (k : ℕ) (front : List Area) (at_hand : Area) (found records : List Re
     taken : (r : Record) → IsAmong n r → Holds at_hand r.key → ¬ (SomeHolds pieces r.key) → Contains more r
     taken r among here none = elim (cases_Bool (holds area r.key)) [
       | inl test ↦
-          let leafy = Holds-from_test area r.key leaf.box.0 (here.same ∙ as_long) test in
+          let leafy = Holds-from_test area r.key test in
           filter_keeps (λ (r : Record). holds at_hand r.key) records r ((all_there r leafy).1 among) (test-from_Holds at_hand r.key hand.0 here)
       | inr off ↦ absurd (none ((piece_tells r.key).1 (here, λ in_both. false≢true (sym off ∙ test-from_Holds area r.key leaf.box.0 ((Holds-common_area at_hand area r.key hand.0 leaf.box.0 as_long).0 in_both).1))))
     ]

@@ -1,5 +1,5 @@
 -- After a step the boxes that remain of a search share no point, and its records are of different points outside of them.
-use Rattle.std.proofs.Common.{◌≡◌, inl, inr, ℕ, List, [], ◌∷◌, ◌++◌, filter, All, Option, Some, None, refl, sym, ap, ◌∙◌, subst, arith}
+use Rattle.std.proofs.Common.{◌≡◌, inl, inr, ℕ, List, [], ◌∷◌, ◌++◌, filter, All, Option, Some, None, refl, sym, ap, subst, arith}
 use Rattle.std.proofs.lemmas.List.Elements.{All-nil}
 use Rattle.hb_activity.specs.Classes.{line_in_hand, line_of}
 use Rattle.hb_activity.specs.Deeds.{Deed}
@@ -21,7 +21,6 @@ use Rattle.hb_space.specs.declared.records.Record.{Record}
 use Rattle.hb_store.specs.States.{IsGoodPage, StoreState}
 use Rattle.hb_core.specs.declared.outcomes.Outcome.{Outcome}
 use Rattle.hb_core.proofs.Machines.BoxesAhead.{goal_at_hand, leaf_box}
-use Rattle.hb_core.proofs.Machines.LocksKept.{merging_hand, posting_hand}
 use Rattle.hb_core.proofs.Facts.StillThere.{fetched_good}
 use Rattle.hb_core.proofs.Searches.Gathered.{gathering_after}
 use Rattle.hb_core.proofs.Searches.LeafRecords.{leaf_of}
@@ -40,6 +39,7 @@ use Rattle.hb_core.specs.Machines.{Machine, live_here, sight, with_disk}
 use Rattle.hb_core.specs.Performing.{Performs}
 use Rattle.hb_core.specs.Rows.{Row}
 use Rattle.hb_core.specs.Steps.{StepsTo, TakesJob, TakesMerging}
+use Rattle.hb_core.proofs.Orders.LinesFit.{took_job, took_merging}
 
 -- ---- who has nothing, and a search that begins
 
@@ -145,10 +145,10 @@ module _ (m : Machine) (actor : ℕ) (outcome : Outcome) (new : Machine) (kept :
   keeps stays = subst (λ (all : ℕ → Activity). (other : ℕ) → StaysGathering (all other)) (sym stays.activity) kept.searches_gather
 
   posts : (deed : Deed) → TakesJob m deed → Performs m m.store actor deed outcome new → SearchesGather new
-  posts deed taken performs = performed m.store deed performs (no_line_gathers deed.next (ap (λ (d : Deed). line_in_hand d.next) taken.deed_is ∙ posting_hand taken.job m.store.meta.height taken.next taken.posting))
+  posts deed taken performs = performed m.store deed performs (no_line_gathers deed.next (took_job m deed taken))
 
   merges : (deed : Deed) → TakesMerging m deed → Performs m m.store actor deed outcome new → SearchesGather new
-  merges deed taken performs = performed m.store deed performs (no_line_gathers deed.next (ap (λ (d : Deed). line_in_hand d.next) taken.deed_is ∙ merging_hand taken.job m.store.meta.height taken.next taken.merging))
+  merges deed taken performs = performed m.store deed performs (no_line_gathers deed.next (took_merging m deed taken))
 
   acts : DoesRow m actor outcome new → SearchesGather new
   acts does = performed does.fetched does.deed does.performs

@@ -1,11 +1,10 @@
 -- A leaf of records of a page in memory has exactly the records of the contents in its box.
-use Rattle.std.proofs.Common.{◌↔◌, ◌≡◌, ◌≢◌, ◌⊎◌, inl, inr, ℕ, zero, suc, ◌<◌, List, [], ◌∷◌, get_or, length, refl, All, AllPairs, Contains, Some, None, sym, ap, ◌∙◌, subst, arith}
-use Rattle.std.specs.List.{slice_get}
+use Rattle.std.proofs.Common.{◌↔◌, ◌≡◌, ◌≢◌, ◌⊎◌, inl, inr, ℕ, List, [], ◌∷◌, refl, All, AllPairs, Contains, Some, None, sym, ap, ◌∙◌, subst}
 use Rattle.std.specs.FinMap as map
 use Rattle.std.proofs.lemmas.List.Elements.{All-cons, All-contains, All-nil}
 use Rattle.hb_space.proofs.Facts.PointOrder.{not_itself}
 use Rattle.hb_core.proofs.Files.FileOps.{ShowsFile}
-use Rattle.hb_core.proofs.Files.FitOps.{HeldArePoints}
+use Rattle.hb_core.proofs.Files.FitOps.{HeldArePoints, live_good}
 use Rattle.hb_core.proofs.Machines.BoxesAhead.{leaf_box}
 use Rattle.hb_core.proofs.Memory.KeptPages.{KeepsPages}
 use Rattle.hb_core.proofs.Searches.Gathered.{IsLeafOf}
@@ -19,24 +18,15 @@ use Rattle.hb_frag.specs.declared.pages.LivePage.{LivePage}
 use Rattle.hb_frag.specs.declared.pages.Page.TheVariants.{Live}
 use Rattle.hb_layout.specs.declared.meta.Meta.{Meta}
 use Rattle.hb_lemmas.proofs.Decisions.{known_list}
-use Rattle.hb_lemmas.proofs.Lists.{first_member, later_member, place_within}
+use Rattle.hb_lemmas.proofs.Lists.{first_member, later_member, member_place}
 use Rattle.hb_ops.proofs.Facts.Opened.{first_has}
-use Rattle.hb_ops.proofs.Facts.PageNumberLaws.{live_so}
-use Rattle.hb_ops.specs.Files.{FileState, contents_of, if_live, live_page}
+use Rattle.hb_ops.specs.Files.{FileState, contents_of, if_live}
 use Rattle.hb_sound.specs.Laws.{LackIsContents, StandingIsContents}
 use Rattle.hb_sound.specs.PointWalks.{IsPointOf}
 use Rattle.hb_space.specs.Boxes.{Area, Holds}
 use Rattle.hb_space.specs.declared.records.Record.{Record}
 use Rattle.hb_store.specs.States.{IsGoodPage, StoreState, in_memory}
-
--- where a member stands
-member_place : (records : List Record) (r : Record) → Contains records r → (place : ℕ) × (slice_get records place ≡ Some r)
-member_place records r (k, lt, is) = let there = place_within records k lt in (k, there.1 ∙ ap Some (by records k lt there.0 there.1 ∙ is))
-  where
-    by : (xs : List Record) (k : ℕ) → k < length xs → (x : Record) → slice_get xs k ≡ Some x → x ≡ get_or xs k r
-    by [] k lt x is = absurd (omega (arith, lt))
-    by (y ∷ xs) zero lt x is = cc
-    by (y ∷ xs) (suc k) lt x is = by xs k (omega (arith, lt)) x is
+use Rattle.hb_core.proofs.Facts.LaterPages.{shown_live}
 
 -- a record of a point, or none of it
 of_point : (records : List Record) (p : List ℕ) → ((r : Record) × Contains records r × (r.key ≡ p)) ⊎ All (λ (r : Record). r.key ≢ p) records
@@ -67,10 +57,7 @@ leaf_of meta page p records area good there =
 module _ (points : HeldArePoints) (standing : StandingIsContents) (lacking : LackIsContents) (fetched : StoreState) (s : FileState) (keeps : KeepsPages fetched) (file : ShowsFile fetched s)
     (id : ℕ) (page : LivePage) (live : if_live (in_memory fetched id) ≡ Some page) (p : List ℕ) (records : List Record) (area : Area) (leaf : leaf_at page p ≡ Some (record { leaf = Records records; area = area })) where
   good : IsGoodPage fetched.meta (Live page)
-  good = (keeps.framed id (Live page) (live_so (in_memory fetched id) page live)).2
-
-  in_file : live_page s id ≡ Some page
-  in_file = ap if_live (file.shown id (Live page) (live_so (in_memory fetched id) page live))
+  good = live_good fetched keeps.framed id page live
 
   abbrev placed : Placed
   placed = record { leaf = Records records; area = area }
@@ -89,7 +76,7 @@ module _ (points : HeldArePoints) (standing : StandingIsContents) (lacking : Lac
   there : (r : Record) → Holds area r.key → Contains records r → IsAmong (contents_of s) r
   there r held has =
       let place = member_place records r has in
-      standing s r.key id page r file.sound (point_of r.key held) in_file (record { records = records; area = area; leaf = leaf_there r.key held; place = place.0; among = place.1; key = refl })
+      standing s r.key id page r file.sound (point_of r.key held) (shown_live fetched s file.shown id page live) (record { records = records; area = area; leaf = leaf_there r.key held; place = place.0; among = place.1; key = refl })
 
   same_record : (r x : Record) → x.key ≡ r.key → Some x.body ≡ Some r.body → x ≡ r
   same_record r x key body =
@@ -103,7 +90,7 @@ module _ (points : HeldArePoints) (standing : StandingIsContents) (lacking : Lac
         let body : Some x.body ≡ Some r.body = sym stands ∙ ap (map.get (contents_of s)) key ∙ among in
         subst (Contains records) (same_record r x key body) has
     | inr none ↦
-        let lacks = lacking s r.key id page file.sound (point_of r.key held) in_file (record { records = records; area = area; leaf = leaf_there r.key held; lack = none }) in
+        let lacks = lacking s r.key id page file.sound (point_of r.key held) (shown_live fetched s file.shown id page live) (record { records = records; area = area; leaf = leaf_there r.key held; lack = none }) in
         let nothing : None ≡ Some r.body = sym lacks ∙ among in
         cc
   ]

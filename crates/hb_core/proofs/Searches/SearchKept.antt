@@ -1,9 +1,9 @@
 -- After a step each search has found exactly what it should so far; and where one takes effect, its reply is the machine's.
-use Rattle.std.proofs.Common.{◌≡◌, ◌≢◌, ◌⊎◌, inl, inr, ℕ, ◌==◌, ◌++◌, Bool, true, false, cond, List, [], ◌∷◌, filter, option_map, length, All, Any, Option, Some, None, IfSome, refl, sym, ap, ◌∙◌, subst, append-nil, arith}
+use Rattle.std.proofs.Common.{◌≡◌, ◌≢◌, ◌⊎◌, inl, inr, ℕ, ◌==◌, ◌++◌, true, false, List, [], ◌∷◌, filter, option_map, length, All, Any, Option, Some, None, IfSome, refl, sym, ap, ◌∙◌, subst, append-nil, arith}
 use Rattle.std.specs.FinMap as map
-use Rattle.std.proofs.lemmas.Bool.{cases_Bool, eq-eqb, eqb-true, eqb-false, false≢true}
-use Rattle.std.proofs.lemmas.List.{length-append}
-use Rattle.std.proofs.lemmas.Option.{same_Some}
+use Rattle.std.proofs.lemmas.Bool.{cases_Bool, eqb-true, eqb-false, false≢true}
+use Rattle.std.proofs.lemmas.List.{length-append, same_from_push}
+use Rattle.std.proofs.lemmas.Option.{same_Some, none-some}
 use Rattle.hb_activity.specs.BoxLocks.{lock_of, lock_of_command}
 use Rattle.hb_activity.specs.Classes.{line_in_hand, line_of}
 use Rattle.hb_activity.specs.Deeds.{Deed}
@@ -11,7 +11,7 @@ use Rattle.hb_activity.specs.Walks.{goal_of}
 use Rattle.hb_activity.specs.declared.activities.Activity.{Activity}
 use Rattle.hb_activity.specs.declared.activities.Activity.TheVariants as at
 use Rattle.hb_frag.specs.declared.pages.LivePage.{LivePage}
-use Rattle.hb_lemmas.proofs.Lists.{All-last, All-one, no_member, same_ends}
+use Rattle.hb_lemmas.proofs.Lists.{All-last, All-one, no_member}
 use Rattle.hb_ops.specs.Files.{contents_of}
 use Rattle.hb_point.specs.SessionRows.{WantsBoxes, boxes_ahead, taking}
 use Rattle.hb_search.specs.SearchRows.{Gathers, SearchGoesOn}
@@ -25,12 +25,11 @@ use Rattle.hb_sound.specs.Laws.{LackIsContents, StandingIsContents}
 use Rattle.hb_space.proofs.Facts.Boxes.{Meets-from_point, Within-self, lo_held}
 use Rattle.hb_space.specs.Boxes.{Area, Holds, Within, common_area, holds, pieces_outside, point_area}
 use Rattle.hb_space.specs.declared.records.Record.{Record}
-use Rattle.hb_ops.proofs.Facts.PageNumberLaws.{live_so}
-use Rattle.hb_store.specs.States.{StoreState, in_memory}
-use Rattle.hb_core.proofs.Files.FitOps.{HeldArePoints}
+use Rattle.hb_store.specs.States.{StoreState}
+use Rattle.hb_core.proofs.Files.FitOps.{HeldArePoints, live_good}
 use Rattle.hb_core.proofs.Files.SoundFiles.{brought_shown, files_hold, shows_file, sound_within_limits}
 use Rattle.hb_core.proofs.Machines.BoxesAhead.{goal_at_hand, leaf_box}
-use Rattle.hb_core.proofs.Machines.LocksKept.{lock_is, merging_hand, posting_hand}
+use Rattle.hb_core.proofs.Machines.LocksKept.{lock_is}
 use Rattle.hb_core.proofs.Memory.KeptPages.{brought, keeps_pages}
 use Rattle.hb_core.proofs.Searches.Gathered.{IsLeafOf, gathered}
 use Rattle.hb_core.proofs.Searches.GatheringKept.{gathering_begins}
@@ -40,7 +39,7 @@ use Rattle.hb_core.proofs.Searches.SortedRecords.{reply_is}
 use Rattle.hb_core.proofs.Table.DeedKinds.{each_deed}
 use Rattle.hb_core.proofs.Table.LineFates.{given_up_joins_nothing}
 use Rattle.hb_core.proofs.Table.StepSays.{each_saying}
-use Rattle.hb_core.proofs.Facts.Ways.{KeepsAllButDisk, others_stay}
+use Rattle.hb_core.proofs.Facts.Ways.{KeepsAllButDisk, others_stay, own_next}
 use Rattle.hb_core.specs.Acting.{DoesRow}
 use Rattle.hb_core.specs.Asking.{wanted_by}
 use Rattle.hb_core.specs.Fetching.{Brings}
@@ -55,6 +54,8 @@ use Rattle.hb_core.specs.Performing.{Performs}
 use Rattle.hb_core.specs.Rows.{Row}
 use Rattle.hb_core.specs.Steps.{StepsTo}
 use Rattle.hb_core.specs.declared.outcomes.Outcome.{Outcome}
+use Rattle.hb_lemmas.proofs.Options.{not_none}
+use Rattle.hb_core.proofs.Orders.LinesFit.{took_job, took_merging}
 
 -- ---- a search that begins, and one whose box's points stay as they are
 
@@ -140,7 +141,7 @@ module _ (points : HeldArePoints) (standing : StandingIsContents) (lacking : Lac
       let file = shows_file fetched files (brought_shown m files may fetched told brings (files_hold m files has)) in
       let boxes : All (IsBoxOf k) (row.front ++ row.at_hand ∷ []) = subst (λ (r : List Area). All (IsBoxOf k) r) row.boxes left_boxes in
       let hand : IsBoxOf k row.at_hand = All-last (IsBoxOf k) row.front row.at_hand boxes in
-      let good = (keeps.framed id _ (live_so (in_memory fetched id) page live)).2 in
+      let good = live_good fetched keeps.framed id page live in
       let leaf = subst (λ (n : ℕ). IsLeafOf n row.records row.area) (ap (λ meta. meta.k) (ap (λ (s : StoreState). s.meta) brings.rest)) (leaf_of fetched.meta page p row.records row.area good row.leaf) in
       let in_leaf = (leaf_box fetched.meta page p _ good row.leaf).1 in
       let in_hand : Holds row.at_hand p = subst (Holds row.at_hand) (goal_at_hand box rest row.front row.at_hand p row.boxes goal) (lo_held row.at_hand hand.0) in
@@ -163,10 +164,7 @@ module _ (points : HeldArePoints) (standing : StandingIsContents) (lacking : Lac
         where
           no_any : (q : List ℕ) → Any (λ (a : Area). Holds a q) [] → ⊥
           no_any q some = absurd (omega (arith, some.2))
-      by (a ∷ boxes) more is so_far = absurd (none (sym (ap (λ (d : Deed). d.joins) is) ∙ joins))
-        where
-          none : None ≡ Some entry → ⊥
-          none nothing = cc
+      by (a ∷ boxes) more is so_far = absurd (none-some entry (sym (ap (λ (d : Deed). d.joins) is) ∙ joins))
 
   -- where it walks on, what it has found is exact still
   pub walks_right : {fetched : StoreState} {may : ℕ → Type 0} → Brings m may fetched → (id : ℕ) (page : LivePage) (p : List ℕ) (deed : Deed) (other : Line) (held' : Option ℕ) (rest' : List Area) (found' : List Record) → live_here fetched id ≡ Some page → goal_of (Search box) rest ≡ Some p
@@ -215,19 +213,13 @@ module _ (points : HeldArePoints) (standing : StandingIsContents) (lacking : Lac
   search_box (Delete point) never = absurd never
   search_box (Lookup point) never = absurd never
 
-  no_join : (entry : Entry) (o : Option Entry) → o ≡ None → o ≡ Some entry → ⊥
-  no_join entry o none some = never (sym none ∙ some)
-    where
-      never : None ≡ Some entry → ⊥
-      never nothing = cc
-
   takes_right : (does : DoesRow m actor outcome new) (entry : Entry) → does.deed.joins ≡ Some entry → WantsBoxes entry.line.command → entry.reply ≡ reply_of entry.line.command (contents_now files)
   takes_right does entry joins wants =
       let before = joined_before entry wants (now does.fetched) (m.activity actor) (wanted_by m actor) does.deed does.row joins in
       let command = search_box entry.line.command wants in
       let row = walk_row (now does.fetched) entry.line before.held before.rest before.found command.0 (wanted_by m actor) does.deed command.1 (subst (λ (a : Activity). Row a (wanted_by m actor) (now does.fetched) does.deed) before.is does.row) in
       elim row.goes [
-        | inl passes ↦ absurd (no_join entry does.deed.joins passes.joins joins)
+        | inl passes ↦ absurd (not_none does.deed.joins entry joins passes.joins)
         | inr gathers ↦ replies_right points standing lacking m files actor told kept has exact entry.line before.held before.rest before.found command.0 before.is command.1 does.brings row.id row.page row.p does.deed entry row.live row.goal gathers joins
       ]
 
@@ -248,7 +240,7 @@ module _ (points : HeldArePoints) (standing : StandingIsContents) (lacking : Lac
 
     joins_it : (joins : Option Entry) → new.order ≡ m.order ++ if_some joins → (joins ≡ Some entry) ⊎ IsRight
     joins_it None order = inr (stays_not (order ∙ append-nil m.order))
-    joins_it (Some one) order = inl (ap Some (same_ends m.order m.order one entry (sym order ∙ grown)).1)
+    joins_it (Some one) order = inl (ap Some (same_from_push m.order m.order one entry (sym order ∙ grown)).1)
 
     acts : DoesRow m actor outcome new → IsRight
     acts does = elim (joins_it does.deed.joins does.performs.order) [ inl joins ↦ takes_right does entry joins wants | inr right ↦ right ]
@@ -278,8 +270,8 @@ module _ (points : HeldArePoints) (standing : StandingIsContents) (lacking : Lac
     own_moved hand so_far = moved (contents_now files) (contents_now after) box rest found (λ q inside. own_agrees m files after actor outcome new kept stays line box hand command q) so_far
 
     module _ (walks : new.activity actor ≡ at.SessionWalk line held rest found) where
-      own_next : {fetched : StoreState} (deed : Deed) → Performs m fetched actor deed outcome new → deed.next ≡ at.SessionWalk line held rest found
-      own_next deed performs = sym (performs.activity actor ∙ ap (λ (b : Bool). cond b deed.next (m.activity actor)) (eq-eqb actor actor refl)) ∙ walks
+      own_now : {fetched : StoreState} (deed : Deed) → Performs m fetched actor deed outcome new → deed.next ≡ at.SessionWalk line held rest found
+      own_now deed performs = sym (own_next actor deed.next m.activity new.activity performs.activity) ∙ walks
 
       keeps : KeepsAllButDisk m new → Exact
       keeps same =
@@ -296,25 +288,22 @@ module _ (points : HeldArePoints) (standing : StandingIsContents) (lacking : Lac
 
       -- who has no line in hand doesn't walk for one
       no_walk : (next : Activity) → line_in_hand next ≡ None → next ≡ at.SessionWalk line held rest found → Exact
-      no_walk next none is = absurd (never (sym none ∙ ap line_in_hand is))
-        where
-          never : None ≡ Some line → ⊥
-          never nothing = cc
+      no_walk next none is = absurd (none-some line (sym none ∙ ap line_in_hand is))
 
       does_row : DoesRow m actor outcome new → Exact
       does_row does =
-          let next = own_next does.deed does.performs in
+          let next = own_now does.deed does.performs in
           let before = walked_before line held rest found (now does.fetched) (m.activity actor) (wanted_by m actor) does.deed does.row next in
           own_moved (ap line_in_hand before.is) (walks_on does line line before.held held before.rest rest before.found found box before.is command next)
 
       pub own_exact : StepsTo m actor outcome new → Exact
       own_exact step = each_deed m actor outcome new Exact (record {
         keeps = λ same meta. keeps same;
-        takes = λ taken idle next performs. begins taken (own_next (taking taken) performs);
-        posts = λ deed idle taken performs. no_walk deed.next (ap (λ (d : Deed). line_in_hand d.next) taken.deed_is ∙ posting_hand taken.job m.store.meta.height taken.next taken.posting) (own_next deed performs);
-        merges = λ deed idle taken performs. no_walk deed.next (ap (λ (d : Deed). line_in_hand d.next) taken.deed_is ∙ merging_hand taken.job m.store.meta.height taken.next taken.merging) (own_next deed performs);
+        takes = λ taken idle next performs. begins taken (own_now (taking taken) performs);
+        posts = λ deed idle taken performs. no_walk deed.next (took_job m deed taken) (own_now deed performs);
+        merges = λ deed idle taken performs. no_walk deed.next (took_merging m deed taken) (own_now deed performs);
         acts = does_row;
-        ends = λ fetched deed meta ended performs. no_walk deed.next (ap line_of ended.hand) (own_next deed performs);
+        ends = λ fetched deed meta ended performs. no_walk deed.next (ap line_of ended.hand) (own_now deed performs);
       }) step
 
     pub other_exact : (other : ℕ) → other ≢ actor → new.activity other ≡ at.SessionWalk line held rest found → StepsTo m actor outcome new → Exact

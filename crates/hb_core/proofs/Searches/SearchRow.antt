@@ -21,6 +21,7 @@ use Rattle.hb_core.proofs.Facts.EachRow.{each_row}
 use Rattle.hb_core.proofs.Table.MergerMoves.{StaysMerger}
 use Rattle.hb_core.specs.Machines.{Machine, live_here, sight}
 use Rattle.hb_core.specs.Rows.{DoesHere, Row}
+use Rattle.std.proofs.lemmas.Option.{none-some, same_Some}
 
 -- a walk passes on with what it has
 pub record PassesWith (line : Line) (rest : List Area) (found : List Record) (id : ℕ) (deed : Deed) : Type 0 where
@@ -64,10 +65,7 @@ same_line own line a b r s f g is = cc
 module _ (line : Line) (held : Option ℕ) (rest : List Area) (found : List Record) where
   -- what isn't a session's walk
   no_merger : (activity : Activity) → class_of activity ≡ Consolidators → activity ≡ at.SessionWalk line held rest found → ⊥
-  no_merger activity kind is = never (sym (ap class_of is) ∙ kind)
-    where
-      never : Sessions ≡ Consolidators → ⊥
-      never eq = cc
+  no_merger activity kind is = let classes : Sessions ≡ Consolidators = sym (ap class_of is) ∙ kind in cc classes
 
   abbrev Before : Activity → Deed → Type 0
   Before activity deed = deed.next ≡ at.SessionWalk line held rest found → IsWalkOf line activity
@@ -106,41 +104,38 @@ module _ (entry : Entry) (wants : WantsBoxes entry.line.command) where
   abbrev Joined : Activity → Deed → Type 0
   Joined activity deed = deed.joins ≡ Some entry → IsWalkOf entry.line activity
 
-  no_entry : None ≡ Some entry → ⊥
-  no_entry is = cc
-
   entry_line : (one : Entry) → Some one ≡ Some entry → one.line ≡ entry.line
-  entry_line one is = let same : one ≡ entry = cc in ap (λ (e : Entry). e.line) same
+  entry_line one is = ap (λ (e : Entry). e.line) (same_Some one entry is)
 
   no_insert : (own : Line) (rec : Record) → own ≡ entry.line → own.command ≡ Insert rec → ⊥
   no_insert own rec same command = subst WantsBoxes (ap (λ (l : Line). l.command) (sym same) ∙ command) wants
 
   merged : (activity : Activity) (deed : Deed) → StaysMerger activity deed → Joined activity deed
-  merged activity deed stays joins = absurd (no_entry (sym (ap (λ (d : Deed). d.joins) stays.is) ∙ joins))
+  merged activity deed stays joins = absurd (none-some entry (sym (ap (λ (d : Deed). d.joins) stays.is) ∙ joins))
 
   pub joined_before : (now : Machine) (activity : Activity) (wanted : Option Wanted) (deed : Deed) → Row activity wanted now deed → deed.joins ≡ Some entry → IsWalkOf entry.line activity
   joined_before now activity wanted deed row = each_row now Joined activity wanted deed
       (record {
-        full = λ own page none joins. absurd (no_entry joins);
-        splits = λ own page there live leaves joins. absurd (no_entry joins);
+        full = λ own page none joins. absurd (none-some entry joins);
+        splits = λ own page there live leaves joins. absurd (none-some entry joins);
         puts = λ own source fresh rec command half either page live joins. absurd (no_insert own rec (entry_line _ joins) command);
       })
       (λ its page has_wanted hand. record {
-        passes = λ own had left has p goal leaf row joins. absurd (no_entry joins);
+        passes = λ own had left has p goal leaf row joins. absurd (none-some entry joins);
         only_replies = λ own had left has reply alone joins. walk_of own entry.line had left has (entry_line _ joins);
         inserts = λ own had left has rec command absent room joins. walk_of own entry.line had left has (entry_line _ joins);
-        lacks_room = λ own had left has rec command level absent full joins. absurd (no_entry joins);
+        lacks_room = λ own had left has rec command level absent full joins. absurd (none-some entry joins);
         deletes = λ own had left has p there command stands joins. walk_of own entry.line had left has (entry_line _ joins);
-        searches = λ own had left has area others more row joins. absurd (no_entry joins);
-        grows = λ job fresh free_after may free number joins. absurd (no_entry joins);
-        ends = λ activity job kind hand joins. absurd (no_entry joins);
-        arrives = λ job had child area level leaf joins. absurd (no_entry joins);
-        walks = λ job had leaf farther row joins. absurd (no_entry joins);
-        looks = λ job parent joins. absurd (no_entry joins);
-        promotes = λ job parent joins. absurd (no_entry joins);
-        posts = λ job parent above path inner area live plan joins. absurd (no_entry joins);
-        parts = λ job parent above live plan leaves joins. absurd (no_entry joins);
-        walks_to_merge = λ job had leaf farther row joins. absurd (no_entry joins);
+        searches = λ own had left has area others more row joins. absurd (none-some entry joins);
+        grows = λ job fresh free_after may free number joins. absurd (none-some entry joins);
+        ends = λ activity job kind hand joins. absurd (none-some entry joins);
+        arrives = λ job had child area level leaf joins. absurd (none-some entry joins);
+        walks = λ job had leaf farther row joins. absurd (none-some entry joins);
+        looks = λ job parent joins. absurd (none-some entry joins);
+        promotes = λ job parent joins. absurd (none-some entry joins);
+        posts = λ job parent above path inner area live plan joins. absurd (none-some entry joins);
+        parts = λ job parent above live plan leaves joins. absurd (none-some entry joins);
+        walks_to_merge = λ job had leaf farther row joins. absurd (none-some entry joins);
         merges = λ activity deed kind row stays. merged activity deed stays;
-        merges_two = λ job parent keep gone pair joins. absurd (no_entry joins);
+        merges_two = λ job parent keep gone pair joins. absurd (none-some entry joins);
       }) row

@@ -8,13 +8,13 @@ use Rattle.std.specs.declared.cmp.Ordering.{Ordering}
 use Rattle.std.specs.declared.cmp.Ordering.TheVariants.{Less, Equal, Greater}
 use Rattle.std.proofs.lemmas.Bool.{cases_Bool}
 use Rattle.std.proofs.lemmas.Cmp.{nat_list_cmp_total, tied_itself}
-use Rattle.std.proofs.lemmas.List.Elements.{All-cons, All-contains, All-nil, filter_passes}
+use Rattle.std.proofs.lemmas.List.Elements.{All-cons, All-contains, All-nil, filter_passes, All-filter}
 use Rattle.std.proofs.lemmas.List.Sorted.{Contains-permutation, IsPermutation-sym}
 use Rattle.hb_frag.proofs.Facts.RisingRecords.{Rise, ahead, in_front, rises, same_rising}
 use Rattle.hb_frag.specs.Rules.{Precedes}
 use Rattle.hb_lemmas.proofs.Lists.{each_member, filter_has, filter_keeps, later_member, member_cases, no_member}
 use Rattle.hb_set.specs.Machine.{RecordSet, record_of, set_records}
-use Rattle.hb_space.proofs.Facts.Boxes.{Holds-from_test, as_long, test-from_Holds}
+use Rattle.hb_space.proofs.Facts.Boxes.{Holds-from_test, test-from_Holds}
 use Rattle.hb_space.proofs.Facts.PointOrder.{not_itself, same_point}
 use Rattle.hb_space.specs.Boxes.{Area, Holds, IsArea, holds}
 use Rattle.hb_space.specs.Points.{point_cmp}
@@ -99,17 +99,14 @@ reply_is n box found ordered area exact same rising =
     filter_keeps inside (set_records n) r ((among_records n r).0 is.0) (test-from_Holds box r.key area is.1)))
     (each_member (Contains ordered) (filter inside (set_records n)) (λ r there.
     let is = filter_tells inside (set_records n) r there in
-    Contains-permutation found ordered r same ((exact r).1 ((among_records n r).1 is.0, Holds-from_test box r.key area (as_long box.lo box.hi r.key is.1) is.1))))
+    Contains-permutation found ordered r same ((exact r).1 ((among_records n r).1 is.0, Holds-from_test box r.key is.1))))
   where
     inside : Record → Bool
     inside r = holds box r.key
 
-    filtered_all : (x : Record) (xs : List Record) → All (Precedes x) xs → All (Precedes x) (filter inside xs)
-    filtered_all x xs up = each_member (Precedes x) (filter inside xs) (λ r there. All-contains (Precedes x) xs r up (filter_has inside xs r there))
-
     filtered_rise : (xs : List Record) → Rise xs → Rise (filter inside xs)
     filtered_rise [] up = tt
     filtered_rise (x ∷ xs) up = elim (inside x) as (λ b. Rise (cond b (x ∷ filter inside xs) (filter inside xs))) [
-      | true ↦ in_front x (filter inside xs) (filtered_all x xs (ahead x xs up)) (filtered_rise xs up.1)
+      | true ↦ in_front x (filter inside xs) (All-filter inside (Precedes x) xs (ahead x xs up)) (filtered_rise xs up.1)
       | false ↦ filtered_rise xs up.1
     ]

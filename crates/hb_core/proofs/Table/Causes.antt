@@ -1,7 +1,6 @@
 -- Why a line is refused, why a job ends, and what a step says of lines and jobs.
-use Rattle.std.proofs.Common.{◌≡◌, ◌⊎◌, inl, inr, ℕ, Bool, cond, List, Option, Some, None, IsSomeAnd, refl, sym, ap, ◌∙◌, subst, ◌≤◌, arith}
+use Rattle.std.proofs.Common.{◌≡◌, ◌⊎◌, inl, inr, ℕ, List, Option, Some, None, IsSomeAnd, refl, sym, ap, ◌∙◌, subst, ◌≤◌, arith}
 use Rattle.std.specs.List.{Contains}
-use Rattle.std.proofs.lemmas.Bool.{eq-eqb}
 use Rattle.std.proofs.lemmas.Option.{same_Some}
 use Rattle.hb_set.specs.declared.commands.Reply.{Reply}
 use Rattle.hb_set.specs.declared.commands.Reply.TheVariants as replies
@@ -35,6 +34,7 @@ use Rattle.hb_point.specs.SessionRows.{WantsBoxes, next_line}
 use Rattle.hb_poster.specs.PosterRows.{IsPostingOf}
 use Rattle.hb_store.specs.States.{StoreState}
 use Rattle.hb_lemmas.proofs.Options.{at_value}
+use Rattle.hb_core.proofs.Facts.Ways.{own_next}
 
 -- what an outcome answers, and what it drops
 answered_with : (number other : ℕ) (reply given : Reply) → outcomes.Answered number reply ≡ outcomes.Answered other given → (number ≡ other) × (reply ≡ given)
@@ -213,9 +213,6 @@ drops_by_cause m actor why new step = each_saying m actor (outcomes.Dropped why)
 -- ---- a job that leaves those that wait
 
 -- what a deed that takes a job leaves of the others
-own_place : (m : Machine) (fetched : StoreState) (actor : ℕ) (deed : Deed) (outcome : Outcome) (new : Machine) → Performs m fetched actor deed outcome new → new.activity actor ≡ deed.next
-own_place m fetched actor deed outcome new performs = performs.activity actor ∙ ap (λ (b : Bool). cond b deed.next (m.activity actor)) (eq-eqb actor actor refl)
-
 row_takes_nothing : (m : Machine) (activity : Activity) (deed : Deed) → RowSaying m activity deed → deed.takes ≡ None
 row_takes_nothing m activity deed (inl goes) = goes.takes
 row_takes_nothing m activity deed (inr row) = ap (λ (d : Deed). d.takes) row.deed_is
@@ -264,7 +261,7 @@ module _ (m : Machine) (actor : ℕ) (outcome : Outcome) (new : Machine) (job : 
           let same = same_Some takes.job job (sym (ap (λ (d : Deed). d.takes) takes.deed_is) ∙ taken) in
           inr (
             inl (idle, ap (λ (j : Job). j.kind) (sym same) ∙ takes.kind),
-            posting takes.job takes.next takes.posting idle (own_place m m.store actor deed outcome new performs ∙ ap (λ (d : Deed). d.next) takes.deed_is) same,
+            posting takes.job takes.next takes.posting idle (own_next actor deed.next m.activity new.activity performs.activity ∙ ap (λ (d : Deed). d.next) takes.deed_is) same,
           )
 
   merges : (deed : Deed) → m.activity actor ≡ at.ConsolidatorIdle → TakesMerging m deed → Performs m m.store actor deed outcome new → Left
@@ -276,7 +273,7 @@ module _ (m : Machine) (actor : ℕ) (outcome : Outcome) (new : Machine) (job : 
           let same = same_Some takes.job job (sym (ap (λ (d : Deed). d.takes) takes.deed_is) ∙ taken) in
           inr (
             inr (idle, ap (λ (j : Job). j.kind) (sym same) ∙ takes.kind),
-            merging takes.job takes.next takes.merging idle (own_place m m.store actor deed outcome new performs ∙ ap (λ (d : Deed). d.next) takes.deed_is) same,
+            merging takes.job takes.next takes.merging idle (own_next actor deed.next m.activity new.activity performs.activity ∙ ap (λ (d : Deed). d.next) takes.deed_is) same,
           )
 
 pub jobs_leave_to_workers : JobsLeaveToWorkers
@@ -331,7 +328,7 @@ module _ (m : Machine) (actor : ℕ) (job : Job) (outcome : Outcome) (new : Mach
       back (inr full) adds = inr (inr (inr (record { does = does; wanted = has.its; wants = has.wants; page = has.page; live = has.live; cause = inr (adds, full) })))
 
       by : JobFate (with_disk does.fetched m.files m.clock m) (m.activity actor) job has.page does.deed → Ended
-      by (inl stays) = inl (ap job_in_work (own_place m does.fetched actor does.deed outcome new does.performs) ∙ stays)
+      by (inl stays) = inl (ap job_in_work (own_next actor does.deed.next m.activity new.activity does.performs.activity) ∙ stays)
       by (inr (inl adds)) = back (joins_or_full does.deed.adds job does.performs.jobs.left new.jobs does.performs.jobs.adds adds) adds
       by (inr (inr ends)) = inr (inr (inr (record { does = does; wanted = has.its; wants = has.wants; page = has.page; live = has.live; cause = inl ends })))
 

@@ -1,12 +1,11 @@
 -- Which lines are answered `no memory`: a search, and an insert or a delete in a step that may change the file. A lookup never is.
 use Rattle.std.proofs.Common.{◌≡◌, inl, inr, ℕ, ◌==◌, ◌&&◌, false, true, List, Option, Some, None, IsSome, IsSomeAnd, IsTrue, refl, sym, ap, ◌∙◌, subst}
-use Rattle.std.specs.Option.{is_some, option_map_or}
-use Rattle.std.proofs.lemmas.Bool.{eq-eqb, false≢true}
+use Rattle.std.specs.Option.{option_map_or}
+use Rattle.std.proofs.lemmas.Bool.{eq-eqb}
 use Rattle.std.proofs.lemmas.Option.{none-some, same_Some}
 use Rattle.hb_space.specs.declared.records.Record.{Record}
 use Rattle.hb_space.specs.Boxes.{Area}
 use Rattle.hb_frag.specs.declared.pages.LivePage.{LivePage}
-use Rattle.hb_ops.specs.declared.operations.Op.{Op}
 use Rattle.hb_set.specs.declared.commands.Command.{Command}
 use Rattle.hb_set.specs.declared.commands.Command.TheVariants.{Insert, Delete, Lookup, Search}
 use Rattle.hb_set.specs.declared.commands.Reply.TheVariants as replies
@@ -33,10 +32,11 @@ use Rattle.hb_core.proofs.Table.Causes.{answering, kept_inside, memory_full, mem
 use Rattle.hb_core.proofs.Facts.EachRow.{each_row}
 use Rattle.hb_frag.specs.declared.leaves.Leaf.TheVariants.{Records}
 use Rattle.hb_frag.specs.Leaves.{leaf_at}
-use Rattle.hb_lemmas.proofs.Options.{at_value}
+use Rattle.hb_lemmas.proofs.Options.{at_value, not_there}
 use Rattle.hb_point.proofs.Facts.RecordLeaves.{records_below}
 use Rattle.hb_point.specs.SessionRows.{WantsBoxes, next_line}
 use Rattle.hb_store.specs.States.{StoreState}
+use Rattle.hb_ops.specs.declared.operations.Op.{Op}
 
 module _ (m : Machine) (actor : ℕ) where
   abbrev Takes : Line → Type 0
@@ -82,44 +82,41 @@ module _ (m : Machine) (actor : ℕ) where
     abbrev TakesBy : Activity → Deed → Type 0
     TakesBy activity deed = m.activity actor ≡ activity → IsSome deed.op → (line : Line) → line_in_hand activity ≡ Some line → Takes line
 
-    no_op : (op : Option Op) → op ≡ None → IsSome op → ⊥
-    no_op op is some = false≢true (ap (λ (o : Option Op). is_some o) (sym is) ∙ some)
-
     its : (line own : Line) → Some own ≡ Some line → Takes own → Takes line
     its line own same takes = subst Takes (same_Some own line same) takes
 
     row_takes : (wanted : Option Wanted) (deed : Deed) → wanted_by m actor ≡ wanted → Row (m.activity actor) wanted here deed → TakesBy (m.activity actor) deed
     row_takes wanted deed wants row = each_row here TakesBy (m.activity actor) wanted deed
         (record {
-          full = λ line held none is some. absurd (no_op None refl some);
+          full = λ line held none is some. absurd (not_there {X = Op} None refl some);
           splits = λ line held page live leaves is some own hand. let has = keeps.room_known.splits actor held line is in its own line hand (insert_takes line has.0 has.1 (may_as (at.SessionSplit line held) is refl));
           puts = λ line source fresh rec command half either page live is some own hand. its own line hand (insert_takes line rec command (may_as (at.SessionPut line source fresh) is refl));
         })
         (λ w page at_hand hand. record {
-          passes = λ line held rest found p goal leaf row is some. absurd (no_op None refl some);
-          only_replies = λ line held rest found reply alone is some. absurd (no_op None refl some);
+          passes = λ line held rest found p goal leaf row is some. absurd (not_there {X = Op} None refl some);
+          only_replies = λ line held rest found reply alone is some. absurd (not_there {X = Op} None refl some);
           inserts = λ line held rest found rec command absent room is some own has.
               let walk : Activity = at.SessionWalk line held rest found in
               its own line has (insert_takes line rec command (may_as walk is
               (ap (λ (c : Command). may_change c && option_map_or (λ (w : Wanted). w.level == 0) (wanted_of walk m.store.meta (looked_live m.store walk)) false) command
               ∙ bottom walk w is (wants ∙ at_hand) (wanted_level w page rec.key absent.records absent.area hand.live hand.level absent.leaf))));
-          lacks_room = λ line held rest found rec command level absent full is some. absurd (no_op None refl some);
+          lacks_room = λ line held rest found rec command level absent full is some. absurd (not_there {X = Op} None refl some);
           deletes = λ line held rest found p there command stands is some own has.
               let walk : Activity = at.SessionWalk line held rest found in
               its own line has (delete_takes line p command (may_as walk is
               (ap (λ (c : Command). may_change c && option_map_or (λ (w : Wanted). w.level == 0) (wanted_of walk m.store.meta (looked_live m.store walk)) false) command
               ∙ bottom walk w is (wants ∙ at_hand) (wanted_level w page p stands.records stands.area hand.live hand.level stands.leaf))));
-          searches = λ line held rest found area others more row is some. absurd (no_op None refl some);
+          searches = λ line held rest found area others more row is some. absurd (not_there {X = Op} None refl some);
           grows = λ job fresh free_after may free next is some own has. absurd (none-some own has);
-          ends = λ activity job kind hand is some. absurd (no_op None refl some);
-          arrives = λ job held child area level leaf is some. absurd (no_op None refl some);
-          walks = λ job held leaf farther row is some. absurd (no_op None refl some);
-          looks = λ job parent is some. absurd (no_op None refl some);
-          promotes = λ job parent is some. absurd (no_op None refl some);
+          ends = λ activity job kind hand is some. absurd (not_there {X = Op} None refl some);
+          arrives = λ job held child area level leaf is some. absurd (not_there {X = Op} None refl some);
+          walks = λ job held leaf farther row is some. absurd (not_there {X = Op} None refl some);
+          looks = λ job parent is some. absurd (not_there {X = Op} None refl some);
+          promotes = λ job parent is some. absurd (not_there {X = Op} None refl some);
           posts = λ job parent above path inner area live plan is some own has. absurd (none-some own has);
           parts = λ job parent above live plan leaves is some own has. absurd (none-some own has);
-          walks_to_merge = λ job held leaf farther row is some. absurd (no_op None refl some);
-          merges = λ activity deed kind row stays is some. absurd (no_op deed.op (ap (λ (d : Deed). d.op) stays.is) some);
+          walks_to_merge = λ job held leaf farther row is some. absurd (not_there {X = Op} None refl some);
+          merges = λ activity deed kind row stays is some. absurd (not_there deed.op (ap (λ (d : Deed). d.op) stays.is) some);
           merges_two = λ job parent keep gone pair is some own has. absurd (none-some own has);
         }) row
 

@@ -1,7 +1,7 @@
 -- Each row of a consolidator that neither walks on nor merges moves it to its next page or its end, and does nothing to the file.
 use Rattle.std.proofs.Common.{◌≡◌, ◌⊎◌, inl, inr, ℕ, ◌<◌, [], Option, Some, None, option_map, refl, sym, ap, ◌∙◌}
+use Rattle.std.proofs.lemmas.Option.{none-some}
 use Rattle.hb_frag.specs.declared.pages.LivePage.{LivePage}
-use Rattle.hb_ops.specs.declared.operations.Op.{Op}
 use Rattle.hb_ops.specs.declared.operations.Op.TheVariants as ops
 use Rattle.hb_terms.specs.declared.merging.MergePlan.{MergePlan}
 use Rattle.hb_terms.specs.declared.merging.MergePlan.TheVariants as plans
@@ -98,10 +98,7 @@ pub record MergesPair (s : Sight) (parent keep gone : ℕ) (page : LivePage) : T
 
 -- a decision that does nothing to the file drops the job
 pub decided : (s : Sight) (job : Job) (parent keep gone : ℕ) (above : LivePage) (plan : MergePlan) (deed : Deed) → deed.op ≡ None → DoesMerge s job parent keep gone above plan deed → deed ≡ ends_merging
-decided s job parent keep gone above plans.Merge deed none (inl row) = absurd (something (ops.Merge parent keep gone) (sym none ∙ ap (λ (d : Deed). d.op) row.deed_is))
-  where
-    something : (op : Op) → None ≡ Some op → ⊥
-    something op is = cc
+decided s job parent keep gone above plans.Merge deed none (inl row) = absurd (none-some (ops.Merge parent keep gone) (sym none ∙ ap (λ (d : Deed). d.op) row.deed_is))
 decided s job parent keep gone above plans.Merge deed none (inr row) = row.deed_is
 decided s job parent keep gone above plans.NotContained deed none is = is
 decided s job parent keep gone above plans.ManyParents deed none is = is

@@ -2,12 +2,21 @@
 use Rattle.std.proofs.Common.{◌≡◌, ◌⊎◌, inl, inr, Option, refl, sym, ap, ◌∙◌}
 use Rattle.hb_activity.specs.declared.wanting.Wanted.{Wanted}
 use Rattle.hb_activity.specs.declared.activities.Activity.{Activity}
-use Rattle.hb_activity.specs.Classes.{Empty, HasJob, class_of, hand_of}
+use Rattle.hb_activity.specs.Classes.{Empty, HasJob, class_of, hand_of, HasLine}
 use Rattle.hb_activity.specs.Deeds.{Deed}
 use Rattle.hb_core.specs.Machines.{Machine}
 use Rattle.hb_core.specs.Rows.{Row}
 use Rattle.hb_core.proofs.Table.MergerMoves.{StaysMerger}
 use Rattle.hb_core.proofs.Facts.EachRow.{each_row}
+use Rattle.hb_set.specs.declared.scripts.Line.{Line}
+use Rattle.hb_activity.specs.declared.jobs.Job.{Job}
+
+-- a hand with a line or a job isn't empty
+pub no_line : (line : Line) → HasLine line ≡ Empty → ⊥
+no_line line is = cc
+
+pub no_job : (job : Job) → HasJob job ≡ Empty → ⊥
+no_job job is = cc
 
 pub record KeepsHand (activity : Activity) (deed : Deed) : Type 0 where
   pub kind : class_of deed.next ≡ class_of activity

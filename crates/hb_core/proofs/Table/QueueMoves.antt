@@ -2,6 +2,7 @@
 use Rattle.std.proofs.Common.{◌≡◌, ◌⊎◌, inl, inr, ◌≤◌, zero, suc, List, ◌∷◌, ◌++◌, length, Option, Some, None, sym, ap, ◌∙◌, subst, arith, []}
 use Rattle.std.specs.List.{Contains}
 use Rattle.std.proofs.lemmas.List.Elements.{Contains-append_cases, Contains-append_left, Contains-append_right, Contains-push}
+use Rattle.hb_lemmas.proofs.Lists.{member_cases}
 use Rattle.hb_activity.specs.declared.jobs.Job.{Job}
 use Rattle.hb_activity.specs.declared.waiting_jobs.TheConstants.{JOBS}
 use Rattle.hb_activity.specs.Queue.{AddsJob, AddsJobs, LeavesBy, LeavesFirst}
@@ -42,11 +43,6 @@ joins_or_full [] job old new adds (k, lt, e) = absurd (omega (arith, lt))
 joins_or_full (first ∷ rest) job old new (more, adds, others) (zero, lt, e) = joins_first job rest old more new (subst (λ (j : Job). AddsJob j old more) e adds) others
 joins_or_full (first ∷ rest) job old new (more, adds, others) (suc k, lt, e) = joins_or_full rest job more new others (k, omega (arith, lt), e)
 
--- who waits stays as another one is taken, or is that one
-cons_cases : (first job : Job) (rest : List Job) → Contains (first ∷ rest) job → (first ≡ job) ⊎ Contains rest job
-cons_cases first job rest (zero, lt, e) = inl e
-cons_cases first job rest (suc k, lt, e) = inr (k, omega (arith, lt), e)
-
 first_left : (taken job : Job) (old left : List Job) → LeavesFirst taken.kind old taken left → Contains old job → Contains left job ⊎ (taken ≡ job)
 first_left taken job old left leaves waits = by (Contains-append_cases leaves.front (taken ∷ leaves.behind) job (subst (λ (l : List Job). Contains l job) leaves.whole waits))
   where
@@ -59,7 +55,7 @@ first_left taken job old left leaves waits = by (Contains-append_cases leaves.fr
 
     by : Contains leaves.front job ⊎ Contains (taken ∷ leaves.behind) job → Contains left job ⊎ (taken ≡ job)
     by (inl front) = inl (kept (Contains-append_left leaves.front leaves.behind job front))
-    by (inr rest) = by_rest (cons_cases taken job leaves.behind rest)
+    by (inr rest) = by_rest (member_cases taken leaves.behind job rest)
 
 pub left_or_taken : (takes : Option Job) (job : Job) (old left : List Job) → LeavesBy takes old left → Contains old job → Contains left job ⊎ (takes ≡ Some job)
 left_or_taken None job old left is waits = inl (subst (λ (l : List Job). Contains l job) (sym is) waits)

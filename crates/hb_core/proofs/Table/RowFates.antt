@@ -3,6 +3,7 @@
 use Rattle.std.proofs.Common.{◌≡◌, ◌⊎◌, inl, inr, ℕ, ◌+◌, zero, suc, List, ◌∷◌, Option, Some, None, refl, sym, ap, ◌∙◌, subst, arith, []}
 use Rattle.std.specs.List.{Contains}
 use Rattle.std.proofs.lemmas.Option.{same_Some}
+use Rattle.hb_lemmas.proofs.Lists.{first_member}
 use Rattle.hb_frag.specs.declared.pages.LivePage.{LivePage}
 use Rattle.hb_set.specs.declared.commands.Reply.TheVariants as replies
 use Rattle.hb_set.specs.declared.scripts.Line.{Line}
@@ -77,9 +78,6 @@ saying_of m activity wanted deed row = each_row m (RowSaying m) activity wanted 
 abbrev pub JobFate : Machine → Activity → Job → LivePage → Deed → Type 0
 JobFate m activity job page deed = (job_in_work deed.next ≡ Some job) ⊎ Contains deed.adds job ⊎ EndsAt activity m page
 
-first_of : (job : Job) (rest : List Job) → Contains (job ∷ rest) job
-first_of job rest = (zero, omega arith, refl)
-
 second_of : (first job : Job) (rest : List Job) → Contains (first ∷ job ∷ rest) job
 second_of first job rest = (suc zero, omega arith, refl)
 
@@ -100,7 +98,7 @@ module _ (m : Machine) (page : LivePage) where
 
   fate_plan : (job : Job) (parent : ℕ) (above : LivePage) (live : live_here m.store parent ≡ Some above) (plan : PostPlan) (planned : IsPlan above page job.point m.store.meta.icap plan) (deed : Deed) → DoesPlan (sight m) job parent above plan deed → JobFate m (at.PosterAgain job parent) job page deed
   fate_plan job parent above live plans.Nothing planned deed is = inr (inr (inl (above, live, planned)))
-  fate_plan job parent above live (plans.Post way inner area) planned deed is = back (at.PosterAgain job parent) job deed _ is (first_of job [])
+  fate_plan job parent above live (plans.Post way inner area) planned deed is = back (at.PosterAgain job parent) job deed _ is (first_member job [])
   fate_plan job parent above live plans.SplitFirst planned deed (inl row) = inr (inr (inr ((above, live, planned), row.none_free)))
   fate_plan job parent above live plans.SplitFirst planned deed (inr row) = back (at.PosterAgain job parent) job deed _ row.deed_is (second_of _ job [])
 
@@ -134,14 +132,14 @@ module _ (m : Machine) (page : LivePage) where
 
   -- a pair that was decided on
   fate_decided : (job : Job) (parent keep gone : ℕ) (has : HasMergePlan (sight m) parent keep gone page) (plan : MergePlan) → has.plan ≡ plan → (deed : Deed) → DoesMerge (sight m) job parent keep gone has.above plan deed → JobFate m (at.ConsolidatorDecide job parent keep gone) job page deed
-  fate_decided job parent keep gone has merging.Merge plan_is deed (inl row) = back (at.ConsolidatorDecide job parent keep gone) job deed _ row.deed_is (first_of job _)
+  fate_decided job parent keep gone has merging.Merge plan_is deed (inl row) = back (at.ConsolidatorDecide job parent keep gone) job deed _ row.deed_is (first_member job _)
   fate_decided job parent keep gone has merging.Merge plan_is deed (inr row) = inr (inr (inr row.none_live))
   fate_decided job parent keep gone has merging.NotContained plan_is deed is = inr (inr (inl (has, λ merges. let never : merging.NotContained ≡ merging.Merge = sym plan_is ∙ merges in cc)))
   fate_decided job parent keep gone has merging.ManyParents plan_is deed is = inr (inr (inl (has, λ merges. let never : merging.ManyParents ≡ merging.Merge = sym plan_is ∙ merges in cc)))
   fate_decided job parent keep gone has merging.TooHeavy plan_is deed is = inr (inr (inl (has, λ merges. let never : merging.TooHeavy ≡ merging.Merge = sym plan_is ∙ merges in cc)))
 
   fate_at : (activity : Activity) (job : Job) (id : ℕ) (deed : Deed) → job_in_work activity ≡ Some job → RowAt activity (sight m) id page deed → JobFate m activity job page deed
-  fate_at (at.PosterGrow own) job id deed work (inl row) = back (at.PosterGrow own) job deed _ row.deed_is (subst (λ (j : Job). Contains (own ∷ []) j) (same_Some own job work) (first_of own []))
+  fate_at (at.PosterGrow own) job id deed work (inl row) = back (at.PosterGrow own) job deed _ row.deed_is (subst (λ (j : Job). Contains (own ∷ []) j) (same_Some own job work) (first_member own []))
   fate_at (at.PosterGrow own) job id deed work (inr row) = inr (inr row.why)
   fate_at (at.PosterWalk own held) job id deed work (inl row) = stays (at.PosterWalk own held) job deed _ row.deed_is work
   fate_at (at.PosterWalk own held) job id deed work (inr row) = stays (at.PosterWalk own held) job deed _ row.passes.deed_is work

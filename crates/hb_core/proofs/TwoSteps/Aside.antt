@@ -26,6 +26,7 @@ use Rattle.hb_core.specs.Performing.{ChangesQueue, MayDo, Performs, files_after,
 use Rattle.hb_core.specs.Rows.{Row, RowAlone}
 use Rattle.hb_set.specs.Order.{Entry}
 use Rattle.hb_store.specs.States.{StoreState, in_memory}
+use Rattle.hb_core.proofs.Table.NextHands.{no_line, no_job}
 
 -- A deed that does nothing to the file, the queue and the order.
 record IsAside (m : Machine) (actor : ℕ) (deed : Deed) : Type 0 where
@@ -69,12 +70,6 @@ module _ (m : Machine) (actor : ℕ) (fetched : StoreState) where
     pub numbers : (wanted : Option Wanted) → NeedsNumber activity wanted now → ⊥
     pub decodes : (wanted : Option Wanted) → Decodes wanted now activity → ⊥
     pub rows : (deed : Deed) → RowAlone activity (sight now) deed → ⊥
-
-  no_line : (line : Line) → HasLine line ≡ Empty → ⊥
-  no_line line is = cc
-
-  no_job : (job : Job) → HasJob job ≡ Empty → ⊥
-  no_job job is = cc
 
   needs_nothing : (activity : Activity) → hand_of activity ≡ Empty → NeedsNothing activity
   needs_nothing (at.SessionWalk line held rest found) empty = absurd (no_line line empty)

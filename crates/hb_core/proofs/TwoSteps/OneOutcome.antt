@@ -29,11 +29,11 @@ use Rattle.hb_frag.specs.Leaves.{DirectlyHolds}
 use Rattle.hb_frag.specs.Rules.{AreInOrder}
 use Rattle.hb_ops.specs.Files.{if_live}
 use Rattle.hb_point.specs.SplitRows.{PutsInHalf}
+use Rattle.hb_point.proofs.Facts.RecordOps.{insert_of}
 use Rattle.hb_store.specs.Calls.{CommitsBringNone, KeepsAllButPages}
 use Rattle.hb_store.specs.States.{StoreState, in_memory}
 use Rattle.hb_core.proofs.Table.NextPlaces.{place_after}
 use Rattle.hb_ops.proofs.Facts.PageNumberLaws.{live_so}
-use Rattle.hb_core.proofs.Room.PutHalves.{insert_of}
 
 -- ---- they say the same
 

@@ -3,9 +3,8 @@ use Rattle.std.proofs.Common.{ap, ◌≡◌, ◌≢◌, ◌⊎◌, inl, inr, ℕ
 use Rattle.std.specs.Prelude.{MatchOption}
 use Rattle.std.specs.List.{Contains}
 use Rattle.std.proofs.lemmas.Bool.{cases_lt}
-use Rattle.std.proofs.lemmas.Option.{same_Some}
 use Rattle.std.proofs.lemmas.List.Elements.{All-contains, Contains-append_right, Contains-get_or}
-use Rattle.hb_latch.specs.declared.modes.Mode.{Mode}
+use Rattle.hb_lemmas.proofs.Options.{one_value, not_both, not_none}
 use Rattle.hb_set.specs.declared.commands.Reply.{Reply}
 use Rattle.hb_set.specs.declared.scripts.Line.{Line}
 use Rattle.hb_activity.specs.declared.jobs.Job.{Job}
@@ -53,13 +52,9 @@ module _ (table : LatchTable) (actor : ℕ) where
     ]
   ]
 
-  clash_at : (mode : Mode) (held : Option Mode) → IsSomeAnd held (λ h. ¬ (IsTrue (goes_beside mode h))) → IfSome held (λ h. IsTrue (goes_beside mode h)) → ⊥
-  clash_at mode None conflict beside = conflict
-  clash_at mode (Some h) conflict beside = conflict beside
-
   not_free : (wanted : Option Wanted) (by : ℕ) → IsSomeAnd wanted (λ w. IsLeastInTheWay table actor w.page w.mode by) → IfSome wanted (λ w. IsGrantable table actor w.page w.mode) → ⊥
   not_free None by none free = none
-  not_free (Some w) by least free = clash_at w.mode (mode_at table by w.page) least.keeps.conflict (free by least.keeps.another)
+  not_free (Some w) by least free = not_both (mode_at table by w.page) (λ held. IsTrue (goes_beside w.mode held)) least.keeps.conflict (free by least.keeps.another)
 
 one_in_the_way : (m : Machine) (actor : ℕ) (lock : BoxLock) (by other : ℕ) → IsBoxInTheWay m actor lock by → IsBoxInTheWay m actor lock other → by ≡ other
 one_in_the_way m actor lock by other first second = elim (cases_lt by other) [
@@ -84,13 +79,6 @@ merging_holds_nothing job height next (inr (below, is)) = ap walk_held is
 in_nine : (m : Machine) (most : ℕ) (outcome : Outcome) (new : Machine) → most ≤ 9 → FailsToWrite m most outcome new → FailsToWrite m 9 outcome new
 in_nine m most outcome new less fails = record { clock = fails.clock; from = fails.from; few = omega (arith, fails.few, less); says = fails.says; stops = fails.stops }
 
--- the oldest dirty page is one, or there is none
-one_page : (o : Option ℕ) (page other : ℕ) → o ≡ Some page → o ≡ Some other → page ≡ other
-one_page o page other first second = same_Some page other (sym first ∙ second)
-
-no_page : (o : Option ℕ) (page : ℕ) → o ≡ Some page → o ≡ None → ⊥
-no_page o page some none = let never : Some page ≡ None = sym some ∙ none in cc
-
 -- What is to be shown of two steps.
 pub record ShowsBoth (m : Machine) (actor : ℕ) (outcome other : Outcome) (new next : Machine) (G : Type 0) : Type 0 where
   pub first_aside : IsTurnedAside m actor outcome new → G
@@ -111,7 +99,7 @@ module _ (m : Machine) (actor : ℕ) (outcome other : Outcome) (new next : Machi
   -- two that write the oldest dirty page, or begin the next turn
   both_write : (due : Outcome) (page again : ℕ) → HasDirtyPage m page → HasDirtyPage m again → WritesOldest m page due outcome new → WritesOldest m again due other next → G
   both_write due page again oldest oldest_too first second =
-      let same = one_page (oldest_dirty m.uses) page again oldest oldest_too in
+      let same = one_value (oldest_dirty m.uses) page again oldest oldest_too in
       shows.same (first.says ∙ sym second.says)
       (first.leaves ∙ ap (λ (page : ℕ). with_uses (in_place page clean m.uses) (with_disk (cleaned_state page m.store) m.files (m.clock + 1) m)) same ∙ sym second.leaves)
 
@@ -130,12 +118,12 @@ module _ (m : Machine) (actor : ℕ) (outcome other : Outcome) (new next : Machi
   both_rest due A B both first (inl (page, oldest, inr fails)) = second_failed 1 (omega arith) fails
   both_rest due A B both first (inr (inl (old, inr fails))) = second_failed 9 (omega arith) fails
   both_rest due A B both (inl (page, oldest, inl first)) (inl (again, oldest_too, inl second)) = both_write due page again oldest oldest_too first second
-  both_rest due A B both (inl (page, oldest, inl first)) (inr (inl (old, inl second))) = absurd (no_page (oldest_dirty m.uses) page oldest old.0)
-  both_rest due A B both (inl (page, oldest, inl first)) (inr (inr (flushed, second))) = absurd (no_page (oldest_dirty m.uses) page oldest flushed.0)
-  both_rest due A B both (inr (inl (old, inl first))) (inl (page, oldest, inl second)) = absurd (no_page (oldest_dirty m.uses) page oldest old.0)
+  both_rest due A B both (inl (page, oldest, inl first)) (inr (inl (old, inl second))) = absurd (not_none (oldest_dirty m.uses) page oldest old.0)
+  both_rest due A B both (inl (page, oldest, inl first)) (inr (inr (flushed, second))) = absurd (not_none (oldest_dirty m.uses) page oldest flushed.0)
+  both_rest due A B both (inr (inl (old, inl first))) (inl (page, oldest, inl second)) = absurd (not_none (oldest_dirty m.uses) page oldest old.0)
   both_rest due A B both (inr (inl (old, inl first))) (inr (inl (old_too, inl second))) = both_turn due first second
   both_rest due A B both (inr (inl (old, inl first))) (inr (inr (flushed, second))) = absurd (let some = old.1 in let none = flushed.1 in omega (arith, some, none))
-  both_rest due A B both (inr (inr (flushed, first))) (inl (page, oldest, inl second)) = absurd (no_page (oldest_dirty m.uses) page oldest flushed.0)
+  both_rest due A B both (inr (inr (flushed, first))) (inl (page, oldest, inl second)) = absurd (not_none (oldest_dirty m.uses) page oldest flushed.0)
   both_rest due A B both (inr (inr (flushed, first))) (inr (inl (old, inl second))) = absurd (let some = old.1 in let none = flushed.1 in omega (arith, some, none))
   both_rest due A B both (inr (inr (flushed, first))) (inr (inr (flushed_too, second))) = both first second
 

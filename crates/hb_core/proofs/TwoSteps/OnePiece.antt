@@ -5,6 +5,7 @@ use Rattle.std.proofs.lemmas.List.Elements.{All-head, All-tail}
 use Rattle.hb_layout.specs.declared.meta.Meta.{Meta}
 use Rattle.hb_frag.specs.declared.pages.Page.{Page}
 use Rattle.hb_frag.specs.declared.pages.Page.TheVariants.{Free}
+use Rattle.hb_frag.proofs.Facts.Kinds.{same_free}
 use Rattle.hb_activity.specs.declared.jobs.Job.{Job}
 use Rattle.hb_activity.specs.declared.jobs.JobKind.{JobKind}
 use Rattle.hb_activity.specs.declared.jobs.JobKind.TheVariants.{Post, Merge}
@@ -90,9 +91,6 @@ one_queue deed old new other first second =
     one_adding deed.adds second.left new other (subst (λ (l : List Job). AddsJobs deed.adds l new) (one_left deed.takes old first.left second.left first.takes second.takes) first.adds) second.adds
 
 -- ---- the next number
-
-same_free : (a b : ℕ) → Free a ≡ Free b → a ≡ b
-same_free a b is = cc
 
 one_next : (f g : StoreState) (fresh other after later : ℕ) → f.meta ≡ g.meta → ((id : ℕ) (a b : Page) → in_memory f id ≡ Some a → in_memory g id ≡ Some b → a ≡ b)
     → IsNext f fresh after → IsNext g other later → (fresh ≡ other) × (after ≡ later)

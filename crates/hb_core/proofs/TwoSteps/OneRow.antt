@@ -32,10 +32,11 @@ use Rattle.hb_core.proofs.TwoSteps.OnePiece.{one_number}
 use Rattle.hb_point.proofs.Facts.ChosenCuts.{one_choice}
 use Rattle.hb_core.specs.Machines.{Machine, live_here, with_disk, sight}
 use Rattle.hb_core.specs.Rows.{DoesHere, Row, RowAlone, RowAt}
-use Rattle.hb_frag.specs.Leaves.{IsPointer, Placed, weight_of}
+use Rattle.hb_frag.specs.Leaves.{IsPointer, Placed, weight_of, leaf_at}
 use Rattle.hb_frag.specs.Paths.{part_at}
 use Rattle.hb_frag.specs.Rules.{AreInOrder}
 use Rattle.hb_frag.specs.Trees.{Tree}
+use Rattle.hb_frag.proofs.Facts.Kinds.{same_live}
 use Rattle.hb_ops.specs.Cutting.{reached}
 use Rattle.hb_point.specs.SessionRows.{merges_due, DoesThere}
 use Rattle.hb_point.specs.SplitRows.{PutsInHalf, Splits}
@@ -46,16 +47,17 @@ use Rattle.hb_split.specs.Choosing.{AreChosen, IsChosen}
 use Rattle.hb_store.specs.States.{StoreState, in_memory}
 use Rattle.hb_terms.specs.Plans.{IsPlan}
 use Rattle.hb_ops.proofs.Facts.PageNumberLaws.{live_so}
-use Rattle.hb_activity.proofs.Facts.OneLeaf.{one_pass, same_leaf}
+use Rattle.hb_activity.proofs.Facts.OneLeaf.{one_pass}
 use Rattle.hb_point.proofs.Facts.OneCommand.{one_command}
 use Rattle.hb_search.proofs.Facts.OneSearch.{searches_have_one_deed}
 use Rattle.hb_ops.specs.Recording.{put_page}
+use Rattle.hb_lemmas.proofs.Options.{one_value}
 
 -- ---- the leaf at a point
 
 no_pointer : (page : LivePage) (p : List ℕ) (n : Machine) (next : Activity) (d : Deed) → MeetsRecords page p → PassesOn page p next d → ⊥
 no_pointer page p n next d (records, area, leaf) row =
-    let same = same_leaf page p (record { leaf = row.leaf; area = row.area }) (record { leaf = Records records; area = area }) row.at_point leaf in
+    let same = one_value (leaf_at page p) (record { leaf = row.leaf; area = row.area }) (record { leaf = Records records; area = area }) row.at_point leaf in
     subst IsPointer (ap (λ (x : Placed). x.leaf) same) row.names
 
 there_records : (n : Machine) (line : Line) (command : Command) (rest : List Area) (found : List Record) (id : ℕ) (page : LivePage) (p : List ℕ) (d : Deed) → goal_of command rest ≡ Some p → DoesHere (sight n) line command rest found id page p d → MeetsRecords page p
@@ -67,9 +69,6 @@ there_records n line (Delete point) rest found id page p d goal (inr row) = subs
 there_records n line (Lookup point) rest found id page p d goal (inl row) = subst (MeetsRecords page) (same_Some point p goal) (row.there.records, row.there.area, row.there.leaf)
 there_records n line (Lookup point) rest found id page p d goal (inr row) = subst (MeetsRecords page) (same_Some point p goal) (row.absent.records, row.absent.area, row.absent.leaf)
 there_records n line (Search area) rest found id page p d goal row = (row.records, row.area, row.leaf)
-
-same_live : (a b : LivePage) → Live a ≡ Live b → a ≡ b
-same_live a b is = cc
 
 -- ---- the rows of sessions
 

@@ -35,6 +35,7 @@ use Rattle.hb_ops.specs.SetPages.{set_pages, has_page}
 use Rattle.hb_store.specs.States.{StoreState, in_memory, is_dirty, is_in_log}
 use Rattle.hb_wal.specs.Log.{LogState, Waiting}
 use Rattle.hb_ops.proofs.Facts.PageNumberLaws.{live_so}
+use Rattle.hb_core.proofs.Facts.Ways.{nothing_done}
 
 -- ---- machines that are the same
 
@@ -233,13 +234,10 @@ module _ (f g : StoreState) (alike : KeepsAllButPages f g) (agree : Agree f g) w
   same_latches : (deed : Deed) (mark : ℕ) (new next : StoreState) → SameHere deed → MayDo deed.op mark f new → MayDo deed.op mark g next → latches_held new deed.next ≡ latches_held next deed.next
   same_latches deed mark new next same first second = ap (held_of deed.next) (looked (walk_held deed.next) same)
     where
-      left : (old now : StoreState) → deed.op ≡ None → MayDo deed.op mark old now → now ≡ old
-      left old now none done = subst (λ (o : Option Op). MayDo o mark old now) none done
-
       looked : (held : Option ℕ) → IfSome held (λ id. (deed.op ≡ None) × (live_here f id ≡ live_here g id)) → option_and_then (live_here new) held ≡ option_and_then (live_here next) held
       looked None nothing = refl
       looked (Some id) (none, here) =
-          ap (λ (st : StoreState). live_here st id) (left f new none first) ∙ here ∙ sym (ap (λ (st : StoreState). live_here st id) (left g next none second))
+          ap (λ (st : StoreState). live_here st id) (nothing_done deed.op mark f new none first) ∙ here ∙ sym (ap (λ (st : StoreState). live_here st id) (nothing_done deed.op mark g next none second))
 
   -- an operation changes the same pages, and so the order of use in the same way
   one_use : (op : Option Op) (mark : ℕ) (new next : StoreState) (came : List Use) → MayDo op mark f new → MayDo op mark g next → use_done op f came ≡ use_done op g came

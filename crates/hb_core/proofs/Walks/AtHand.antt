@@ -5,6 +5,7 @@ use Rattle.std.specs.Option.{option_and_then, option_map}
 use Rattle.std.proofs.lemmas.Bool.{ne_eqb}
 use Rattle.std.proofs.lemmas.Option.{same_Some}
 use Rattle.std.proofs.lemmas.List.Elements.{All-contains, All-head, All-tail}
+use Rattle.hb_lemmas.proofs.Lists.{place_member}
 use Rattle.hb_frag.specs.declared.leaves.Leaf.{Leaf}
 use Rattle.hb_frag.specs.declared.leaves.Leaf.TheVariants.{Records, Child, Sibling}
 use Rattle.hb_frag.specs.declared.pages.LivePage.{LivePage}
@@ -22,7 +23,7 @@ use Rattle.hb_activity.specs.Waiting.{IsLater}
 use Rattle.hb_activity.specs.Walks.{goal_of, job_mode, session_mode, walk_held}
 use Rattle.hb_activity.specs.Wanting.{child_of, in_mode, named_child, named_page, walk_next, wanted_of, wanted_page}
 use Rattle.hb_consol.specs.ConsolidatorRows.{names_child}
-use Rattle.hb_core.proofs.Files.AskedPages.{first_among, first_sibling_among, leaf_of_place, place_among}
+use Rattle.hb_core.proofs.Files.AskedPages.{first_among, first_sibling_among, leaf_of_place}
 use Rattle.hb_core.proofs.Memory.BroughtPages.{own_there}
 use Rattle.hb_core.proofs.Latches.LatchesStay.{walk_latched}
 use Rattle.hb_core.proofs.Table.MergerMoves.{of_page}
@@ -116,7 +117,7 @@ module _ (meta : Meta) (held : LivePage) (good : IsGoodPage meta (Live held)) (p
   tried_found name place then is there on box =
       let at_place = placed_at (leaves_of held.frag held.area) place (Sibling name) (ap (λ (ls : List Leaf). slice_get ls place) (leaves_placed held.frag held.area) ∙ there) in
       let leaf : Sibling name ≡ at_place.0.leaf = leaf_of_place held.frag held.area place (Sibling name) at_place.0 there at_place.1 in
-      let among : Contains (leaves_of held.frag held.area) (placed (Sibling name) at_place.0.area) = subst (λ (x : Leaf). Contains (leaves_of held.frag held.area) (placed x at_place.0.area)) (sym leaf) (place_among (leaves_of held.frag held.area) place at_place.0 at_place.1) in
+      let among : Contains (leaves_of held.frag held.area) (placed (Sibling name) at_place.0.area) = subst (λ (x : Leaf). Contains (leaves_of held.frag held.area) (placed x at_place.0.area)) (sym leaf) (place_member (leaves_of held.frag held.area) place at_place.0 at_place.1) in
       let found : HasBox (option_and_then box_by_leaf (Some at_place.0)) = subst (λ (o : Option Placed). HasBox (option_and_then box_by_leaf o)) at_place.1 (subst (λ (o : Option LivePage). HasBox (box_of_place o place)) is box) in
       let exact : HasBox (box_by_leaf (placed (Sibling name) at_place.0.area)) = subst (λ (x : Leaf). HasBox (box_by_leaf (placed x at_place.0.area))) (sym leaf) found in
       sibling_found name at_place.0.area (leaf_is_sibling (leaves_of held.frag held.area) name at_place.0.area among) on exact

@@ -4,10 +4,11 @@ use Rattle.std.proofs.lemmas.Bool.{eqb-true}
 use Rattle.std.specs.List.{All, Contains, slice_get}
 use Rattle.std.proofs.lemmas.List.Elements.{All-head, All-tail}
 use Rattle.std.specs.Option.{option_and_then, option_map}
+use Rattle.std.proofs.lemmas.Option.{none-some}
+use Rattle.hb_lemmas.proofs.Lists.{place_member}
 use Rattle.hb_frag.specs.declared.leaves.Leaf.{Leaf}
 use Rattle.hb_frag.specs.declared.leaves.Leaf.TheVariants.{Records, Child, Sibling}
 use Rattle.hb_frag.specs.declared.pages.LivePage.{LivePage}
-use Rattle.hb_frag.specs.declared.pages.Page.TheVariants.{Live}
 use Rattle.hb_layout.specs.declared.meta.Meta.{Meta}
 use Rattle.hb_latch.specs.declared.modes.Mode.{Mode}
 use Rattle.hb_latch.specs.declared.modes.Mode.TheVariants.{Shared, Update, Exclusive}
@@ -20,8 +21,7 @@ use Rattle.hb_activity.specs.Waiting.{IsLater}
 use Rattle.hb_activity.specs.Walks.{goal_of, job_mode, session_mode, walk_held}
 use Rattle.hb_activity.specs.Wanting.{child_of, in_mode, named_child, named_page, walk_next, wanted_of, wanted_page}
 use Rattle.hb_consol.specs.ConsolidatorRows.{names_child}
-use Rattle.hb_core.proofs.Files.AskedPages.{first_among, first_sibling_among, named_with_box, place_among}
-use Rattle.hb_core.proofs.Files.SoundFiles.{current_sound, files_hold}
+use Rattle.hb_core.proofs.Files.AskedPages.{first_among, first_sibling_among, named_with_box}
 use Rattle.hb_core.proofs.Walks.Volumes.{sibling_fewer}
 use Rattle.hb_core.specs.Asking.{looked_live}
 use Rattle.hb_core.specs.Keeps.{HasSoundFile, LatchesFit, WalksInSpace}
@@ -35,9 +35,8 @@ use Rattle.hb_ops.specs.Files.{FileState, if_live, live_page}
 use Rattle.hb_ops.proofs.Facts.PlacedLaws.{leaf_is_sibling, placed, placed_leaf}
 use Rattle.hb_ops.specs.Sound.{IsSound}
 use Rattle.hb_space.specs.Boxes.{Area, volume}
-use Rattle.hb_store.specs.States.{in_memory}
-use Rattle.hb_ops.proofs.Facts.PageNumberLaws.{live_so}
 use Rattle.hb_core.proofs.Walks.MergesKept.{known_at}
+use Rattle.hb_core.proofs.Facts.LaterPages.{file_sound, shown_live}
 
 -- ---- in a sound file the pages that a page names come later
 
@@ -89,7 +88,7 @@ module _ (s : FileState) (sound : IsSound s) (id : ℕ) (page : LivePage) (live 
   -- what a consolidator tries, and what it decides on
   pub tried_later : (name other place : ℕ) → slice_get (leaves page.frag) place ≡ Some (Sibling name) → name ≡ other → ComesLater s id other
   tried_later name other place there is =
-      let one = placed_leaf page.frag page.area (Sibling name) (place_among (leaves page.frag) place (Sibling name) there) in
+      let one = placed_leaf page.frag page.area (Sibling name) (place_member (leaves page.frag) place (Sibling name) there) in
       sibling_later name other one.0 one.1 is
 
   pub given_later : (name other : ℕ) → IsSome (first_named name (siblings_of page)) → name ≡ other → ComesLater s id other
@@ -108,9 +107,6 @@ IsNamed page name = IsTrue (names_child page name)
 second_named : (page : LivePage) (first second : ℕ) → All (IsNamed page) (first ∷ second ∷ []) → IsNamed page second
 second_named page first second all = All-head (IsNamed page) second [] (All-tail (IsNamed page) first (second ∷ []) all)
 
-none_among : (id : ℕ) (mode : Mode) → mode_among id [] ≡ Some mode → ⊥
-none_among id mode is = cc
-
 one_among : (page : ℕ) (its : Mode) (id : ℕ) (mode : Mode) → mode_among id (latch_on page its ∷ []) ≡ Some mode → (page ≡ id) × (its ≡ mode)
 one_among page its id mode is =
     elim (page == id) as (λ b. (page == id) ≡ b → cond b (Some its) None ≡ Some mode → (page ≡ id) × (its ≡ mode)) [
@@ -119,16 +115,10 @@ one_among page its id mode is =
     ] refl is
 
 walk_among : (held : ℕ) (page : Option LivePage) (its : ℕ → Mode) (id : ℕ) (mode : Mode) → mode_among id (walk_latch (Some held) page its) ≡ Some mode → held ≡ id
-walk_among held None its id mode is = absurd (none_among id mode is)
+walk_among held None its id mode is = absurd (none-some mode is)
 walk_among held (Some page) its id mode is = (one_among held (its page.level) id mode is).0
 
 module _ (m : Machine) (files : Files) (actor id : ℕ) (mode : Mode) (wanted : Wanted) (may : IsActor actor) (fit : LatchesFit m) (has : HasSoundFile m files) (walks : WalksInSpace m) where
-  sound_now : IsSound (current_file files)
-  sound_now = current_sound m.store files (files_hold m files has)
-
-  in_file : (q : ℕ) (page : LivePage) → live_here m.store q ≡ Some page → live_page (current_file files) q ≡ Some page
-  in_file q page live = ap if_live (has.shown q (Live page) (live_so (in_memory m.store q) page live))
-
   abbrev Comes : Type 0
   Comes = ComesLater (current_file files) id wanted.page ⊎ WantsItsOwn m actor id mode wanted
 
@@ -137,13 +127,13 @@ module _ (m : Machine) (files : Files) (actor id : ℕ) (mode : Mode) (wanted : 
   of_walk held goal its page walking wants holds =
       let one = fit.walking actor held may walking in
       inl (subst (λ (q : ℕ). ComesLater (current_file files) q wanted.page) (walk_among held page its id mode holds)
-      (walk_later (current_file files) sound_now held one.0 (in_file held one.0 (ap if_live one.1)) its m.store.meta goal (live_here m.store held) wanted (ap if_live one.1) wants))
+      (walk_later (current_file files) (file_sound m files has) held one.0 (shown_live m.store (current_file files) has.shown held one.0 (ap if_live one.1)) its m.store.meta goal (live_here m.store held) wanted (ap if_live one.1) wants))
 
   of_parent : (job : Job) (parent : ℕ) (its : Mode) (page : LivePage) → live_here m.store parent ≡ Some page → in_mode (λ level. Shared) (option_and_then (λ (page : LivePage). child_of page job.point) (live_here m.store parent)) ≡ Some wanted
       → mode_among id (latch_on parent its ∷ []) ≡ Some mode → Comes
   of_parent job parent its page live wants holds =
       inl (subst (λ (q : ℕ). ComesLater (current_file files) q wanted.page) (one_among parent its id mode holds).0
-      (below_later (current_file files) sound_now parent page (in_file parent page live) job.point (live_here m.store parent) wanted live wants))
+      (below_later (current_file files) (file_sound m files has) parent page (shown_live m.store (current_file files) has.shown parent page live) job.point (live_here m.store parent) wanted live wants))
 
   promoted : (parent : ℕ) (page : Option LivePage) → option_map (λ (page : LivePage). wanted_page parent page.level Exclusive) page ≡ Some wanted → parent ≡ wanted.page
   promoted parent None wants = cc
@@ -171,7 +161,7 @@ module _ (m : Machine) (files : Files) (actor id : ℕ) (mode : Mode) (wanted : 
   of_names job parent names pair its known name named is holds =
       let one = named_with_box known.page name named in
       inl (subst (λ (q : ℕ). ComesLater (current_file files) q wanted.page) (one_among parent its id mode holds).0
-      (child_later (current_file files) sound_now parent known.page (in_file parent known.page known.live) name wanted.page one.0 one.1 is))
+      (child_later (current_file files) (file_sound m files has) parent known.page (shown_live m.store (current_file files) has.shown parent known.page known.live) name wanted.page one.0 one.1 is))
 
   of_both : (parent keep : ℕ) (its other : Mode) → (mode_among id (latch_on parent its ∷ []) ≡ Some mode → Comes) → (mode_among id (latch_on keep other ∷ []) ≡ Some mode → Comes)
       → mode_among id (latch_on parent its ∷ latch_on keep other ∷ []) ≡ Some mode → Comes
@@ -182,13 +172,13 @@ module _ (m : Machine) (files : Files) (actor id : ℕ) (mode : Mode) (wanted : 
       ] first holds
 
   comes : (activity : Activity) → m.activity actor ≡ activity → wanted_of activity m.store.meta (looked_live m.store activity) ≡ Some wanted → mode_among id (latches_held m.store activity) ≡ Some mode → Comes
-  comes (at.SessionWalk line None rest found) is wants holds = absurd (none_among id mode holds)
+  comes (at.SessionWalk line None rest found) is wants holds = absurd (none-some mode holds)
   comes (at.SessionWalk line (Some held) rest found) is wants holds = of_walk held (goal_of line.command rest) (session_mode line.command) (live_here m.store held) (ap walk_held is) wants holds
-  comes (at.PosterWalk job None) is wants holds = absurd (none_among id mode holds)
+  comes (at.PosterWalk job None) is wants holds = absurd (none-some mode holds)
   comes (at.PosterWalk job (Some held)) is wants holds = of_walk held (Some job.point) (job_mode job) (live_here m.store held) (ap walk_held is) wants holds
-  comes (at.ConsolidatorWalk job None) is wants holds = absurd (none_among id mode holds)
+  comes (at.ConsolidatorWalk job None) is wants holds = absurd (none-some mode holds)
   comes (at.ConsolidatorWalk job (Some held)) is wants holds = of_walk held (Some job.point) (job_mode job) (live_here m.store held) (ap walk_held is) wants holds
-  comes (at.PosterGrow job) is wants holds = absurd (none_among id mode holds)
+  comes (at.PosterGrow job) is wants holds = absurd (none-some mode holds)
   comes (at.PosterChild job parent) is wants holds = let one = walks.parents actor job parent (inl is) in of_parent job parent Update one.0 one.1 wants holds
   comes (at.PosterAgain job parent) is wants holds = let one = walks.parents actor job parent (inr (inr is)) in of_parent job parent Exclusive one.0 one.1 wants holds
   comes (at.PosterPromote job parent) is wants holds = of_promotion parent (live_here m.store parent) (subst (λ (a : Activity). Promotes a parent) (sym is) refl) wants holds
@@ -201,7 +191,7 @@ module _ (m : Machine) (files : Files) (actor id : ℕ) (mode : Mode) (wanted : 
       let goes : gone ≡ wanted.page = wanted_is gone (λ page. page.level) Shared (live_here m.store keep) wants in
       of_both parent keep Update Shared (λ one. of_names job parent (keep ∷ gone ∷ []) _ Update known gone (second_named known.page keep gone known.names) goes one)
       (λ one. inl (subst (λ (q : ℕ). ComesLater (current_file files) q wanted.page) (one_among keep Shared id mode one).0
-      (tried_later (current_file files) sound_now keep known.pair.page (in_file keep known.pair.page known.pair.live) gone wanted.page leaf known.pair.gave goes))) holds
+      (tried_later (current_file files) (file_sound m files has) keep known.pair.page (shown_live m.store (current_file files) has.shown keep known.pair.page known.pair.live) gone wanted.page leaf known.pair.gave goes))) holds
   comes (at.ConsolidatorKeep job parent keep gone) is wants holds =
       let known : NamesKnown m.store (at_names job parent (keep ∷ gone ∷ []) None) = known_at m actor walks _ (ap merging_at is) in
       of_names job parent (keep ∷ gone ∷ []) None Exclusive known keep (All-head (IsNamed known.page) keep (gone ∷ []) known.names) (wanted_is keep (λ page. page.level - 1) Exclusive (live_here m.store parent) wants) holds
@@ -210,7 +200,7 @@ module _ (m : Machine) (files : Files) (actor id : ℕ) (mode : Mode) (wanted : 
       let goes : gone ≡ wanted.page = wanted_is gone (λ page. page.level - 1) Exclusive (live_here m.store parent) wants in
       of_both parent keep Exclusive Exclusive (λ one. of_names job parent (keep ∷ gone ∷ []) _ Exclusive known gone (second_named known.page keep gone known.names) goes one)
       (λ one. inl (subst (λ (q : ℕ). ComesLater (current_file files) q wanted.page) (one_among keep Exclusive id mode one).0
-      (given_later (current_file files) sound_now keep known.pair.page (in_file keep known.pair.page known.pair.live) gone wanted.page known.pair.gave goes))) holds
+      (given_later (current_file files) (file_sound m files has) keep known.pair.page (shown_live m.store (current_file files) has.shown keep known.pair.page known.pair.live) gone wanted.page known.pair.gave goes))) holds
   comes activity is wants holds = cc
 
 pub wanted_comes_later : WantedComesLater

@@ -1,8 +1,7 @@
 -- The deciders may be asked at the page that a kept machine's step has at hand.
-use Rattle.std.proofs.Common.{◌≡◌, ◌≢◌, ◌⊎◌, inl, inr, ℕ, ◌≤◌, ◌==◌, Bool, true, false, cond, List, [], ◌∷◌, length, Option, Some, None, MatchOption, IfSome, refl, sym, ap, ◌∙◌, subst, arith}
+use Rattle.std.proofs.Common.{◌≡◌, ◌≢◌, ◌⊎◌, inl, inr, ℕ, ◌≤◌, List, [], ◌∷◌, length, Option, Some, None, MatchOption, IfSome, refl, sym, ap, ◌∙◌, subst, arith}
 use Rattle.std.specs.List.{All, slice_get}
 use Rattle.std.specs.Option.{option_and_then, option_map}
-use Rattle.std.proofs.lemmas.Bool.{eq-eqb}
 use Rattle.std.proofs.lemmas.Option.{same_Some}
 use Rattle.std.proofs.lemmas.List.Elements.{All-contains}
 use Rattle.hb_space.specs.Boxes.{Area, Holds, whole_area}
@@ -24,7 +23,6 @@ use Rattle.hb_ops.proofs.Facts.Tips.{first_held}
 use Rattle.hb_ops.proofs.Facts.PlacedLaws.{placed}
 use Rattle.hb_set.specs.declared.commands.Command.{Command}
 use Rattle.hb_set.specs.declared.commands.Command.TheVariants.{Insert, Delete, Lookup, Search}
-use Rattle.hb_activity.specs.declared.holding.Latch.{Latch}
 use Rattle.hb_activity.specs.declared.jobs.Job.{Job}
 use Rattle.hb_activity.specs.declared.wanting.Wanted.{Wanted}
 use Rattle.hb_activity.specs.declared.activities.Activity.{Activity}
@@ -40,7 +38,6 @@ use Rattle.hb_poster.specs.Asks.{LooksBelow, MayBeAsked}
 use Rattle.hb_space.proofs.Facts.Boxes.{Holds-within as holds_within}
 use Rattle.hb_search.specs.Searching.{MaySearch, SearchesInside, StaysGathering}
 use Rattle.hb_store.specs.States.{IsGoodPage, StoreState}
-use Rattle.hb_core.proofs.Files.AskedPages.{place_among}
 use Rattle.hb_core.proofs.Facts.StillThere.{fetched_good}
 use Rattle.hb_core.proofs.Walks.AtHand.{good_here, walked_there}
 use Rattle.hb_core.proofs.Walks.WalkingWorkers.{walk_wants_above}
@@ -55,8 +52,11 @@ use Rattle.hb_core.specs.KeptMachine.{MachineKeeps}
 use Rattle.hb_core.specs.Machines.{Machine, live_here}
 use Rattle.hb_core.specs.Performing.{latches_held, mode_among}
 use Rattle.hb_lemmas.proofs.Options.{some_of_map}
+use Rattle.hb_lemmas.proofs.Lists.{place_member}
 use Rattle.hb_core.proofs.Machines.AddedJobs.{goal_fits}
 use Rattle.hb_core.proofs.Memory.BroughtPages.{own_there}
+use Rattle.hb_lemmas.proofs.Booleans.{at_itself}
+use Rattle.hb_core.proofs.Memory.OwnedOps.{second_mode}
 
 pub pages_at_hand_fit : PagesAtHandFit
 pages_at_hand_fit m fetched id page keeps brings live = (keeps.meta_within_limits.layout, (fetched_good m AnyPage fetched keeps.pages_of_file brings id page live).1)
@@ -67,7 +67,7 @@ box_of_goal : (k : ℕ) (rest : List Area) (place : ℕ) (p : List ℕ) → All 
 box_of_goal k rest place p boxes is =
     let one = some_of_map (λ (a : Area). a.lo) (slice_get rest place) p is in
     let same : one.0.lo ≡ p = same_Some one.0.lo p (sym (ap (option_map (λ (a : Area). a.lo)) one.1) ∙ is) in
-    let fits : IsBoxOf k one.0 = All-contains (IsBoxOf k) rest one.0 boxes (place_among rest place one.0 one.1) in
+    let fits : IsBoxOf k one.0 = All-contains (IsBoxOf k) rest one.0 boxes (place_member rest place one.0 one.1) in
     sym (ap (λ (q : List ℕ). length q) same) ∙ fits.1
 
 point_has : (k : ℕ) (activity : Activity) (p : List ℕ) → IfSome (line_in_hand activity) (LineFits k) → IfSome (job_in_work activity) (JobFits k) → All (IsBoxOf k) (boxes_left activity) → walk_point activity ≡ Some p → length p ≡ k
@@ -117,9 +117,6 @@ module _ (meta : Meta) (page : LivePage) (good : IsGoodPage meta (Live page)) (p
 -- ---- what a step has at hand
 
 module _ (m : Machine) (actor : ℕ) (fetched : StoreState) (may : IsActor actor) (keeps : MachineKeeps m) (brings : Brings m AnyPage fetched) where
-  good_there : (id : ℕ) (page : LivePage) → live_here fetched id ≡ Some page → IsGoodPage m.store.meta (Live page)
-  good_there id page live = fetched_good m AnyPage fetched keeps.pages_of_file brings id page live
-
   -- the point of a walk has the file's number of attributes
   as_many : (p : List ℕ) → walk_point (m.activity actor) ≡ Some p → length p ≡ m.store.meta.k
   as_many p is = point_has m.store.meta.k (m.activity actor) p (keeps.attributes_fit.in_hand actor) (keeps.attributes_fit.in_work actor) (keeps.attributes_fit.boxes actor) is
@@ -157,7 +154,7 @@ module _ (m : Machine) (actor : ℕ) (fetched : StoreState) (may : IsActor actor
 
 pub walks_stay_inside : WalksStayInside
 walks_stay_inside m actor fetched wanted page p may keeps brings is point wants hand =
-    inside m actor fetched may keeps brings wanted page p (good_there m actor fetched may keeps brings wanted.page page hand.live) (as_many m actor fetched may keeps brings p is) point (m.activity actor) (stays_held m actor fetched may keeps brings) is wants hand.box
+    inside m actor fetched may keeps brings wanted page p (fetched_good m AnyPage fetched keeps.pages_of_file brings wanted.page page hand.live) (as_many m actor fetched may keeps brings p is) point (m.activity actor) (stays_held m actor fetched may keeps brings) is wants hand.box
 
 -- ---- a walk of a command on a point
 
@@ -187,17 +184,6 @@ searches_may_be_asked m actor fetched line held rest found wanted page p may kee
 
 -- ---- a page that is split, and its halves
 
-latched_first : (id : ℕ) (mode : Mode) (rest : List Latch) → mode_among id (latch_on id mode ∷ rest) ≡ Some mode
-latched_first id mode rest = ap (λ (b : Bool). cond b (Some mode) (mode_among id rest)) (eq-eqb id id refl)
-
--- of two latches in the same mode, the second one
-latched_second : (id other : ℕ) (mode : Mode) → mode_among id (latch_on other mode ∷ latch_on id mode ∷ []) ≡ Some mode
-latched_second id other mode =
-    elim (other == id) as (λ b. cond b (Some mode) (mode_among id (latch_on id mode ∷ [])) ≡ Some mode) [
-      | true ↦ refl
-      | false ↦ latched_first id mode []
-    ]
-
 pub splits_may_be_asked : SplitsMayBeAsked
 splits_may_be_asked m actor fetched line held free may keeps brings is fits =
     by (keeps.room_known.splits actor held line is)
@@ -205,7 +191,7 @@ splits_may_be_asked m actor fetched line held free may keeps brings is fits =
     by : (rec : Record) × (line.command ≡ Insert rec) × LacksRoomFor m held rec.key rec.body → AsksToSplit m actor fetched free held
     by (rec, command, lacks) = record {
       page = lacks.page;
-      live = own_there m AnyPage fetched brings actor held Exclusive lacks.page keeps.latches_fit may (ap (λ (a : Activity). mode_among held (latches_held m.store a)) is ∙ latched_first held Exclusive []) lacks.live;
+      live = own_there m AnyPage fetched brings actor held Exclusive lacks.page keeps.latches_fit may (ap (λ (a : Activity). mode_among held (latches_held m.store a)) is ∙ at_itself held (Some Exclusive) None) lacks.live;
       may = subst (λ (a : Activity). MayAsk a m.store.meta free held lacks.page None) (sym is) (record { given = refl; rec = rec; command = command; absent = lacks.absent; full = lacks.full; number = fits });
     }
 
@@ -234,9 +220,9 @@ puts_may_be_asked m actor fetched line source fresh free may keeps brings is =
     by : (rec : Record) × (line.command ≡ Insert rec) × OneHasRoom m source fresh rec.key rec.body → AsksToPut m actor fetched free source fresh
     by (rec, command, one) = record {
       page = one.first;
-      live = own_there m AnyPage fetched brings actor source Exclusive one.first keeps.latches_fit may (ap (λ (a : Activity). mode_among source (latches_held m.store a)) is ∙ latched_first source Exclusive (latch_on fresh Exclusive ∷ [])) one.first_live;
+      live = own_there m AnyPage fetched brings actor source Exclusive one.first keeps.latches_fit may (ap (λ (a : Activity). mode_among source (latches_held m.store a)) is ∙ at_itself source (Some Exclusive) (mode_among source (latch_on fresh Exclusive ∷ []))) one.first_live;
       other = one.second;
-      other_live = own_there m AnyPage fetched brings actor fresh Exclusive one.second keeps.latches_fit may (ap (λ (a : Activity). mode_among fresh (latches_held m.store a)) is ∙ latched_second fresh source Exclusive) one.second_live;
+      other_live = own_there m AnyPage fetched brings actor fresh Exclusive one.second keeps.latches_fit may (ap (λ (a : Activity). mode_among fresh (latches_held m.store a)) is ∙ second_mode source fresh Exclusive) one.second_live;
       may = subst (λ (a : Activity). MayAsk a m.store.meta free source one.first (Some one.second)) (sym is) (record {
         given = refl;
         apart = halves_apart m source fresh rec.key rec.body one;
@@ -276,7 +262,7 @@ module _ (m : Machine) (actor : ℕ) (fetched : StoreState) (may : IsActor actor
       by (over, was, level, (child, area, leaf)) =
           let latch = parent_latched m.store (m.activity actor) job parent stands in
           let there = own_there m AnyPage fetched brings actor parent latch.0 over keeps.latches_fit may latch.1 was in
-          let good = good_there m actor fetched may keeps brings parent over there in
+          let good = fetched_good m AnyPage fetched keeps.pages_of_file brings parent over there in
           let held : Holds over.area job.point = first_held job.point over.frag over.area (record { leaf = Child child; area = area }) good.1.well_cut leaf in
           let many : length job.point ≡ m.store.meta.k = held.same ∙ good.1.fits.attributes in
           record {
@@ -287,7 +273,7 @@ module _ (m : Machine) (actor : ℕ) (fetched : StoreState) (may : IsActor actor
               made = good.1;
               leads = (child, area, leaf);
               held = held;
-              below = below m.store.meta page (good_there m actor fetched may keeps brings wanted.page page live) job.point many over good (live_here fetched parent) child area there leaf box;
+              below = below m.store.meta page (fetched_good m AnyPage fetched keeps.pages_of_file brings wanted.page page live) job.point many over good (live_here fetched parent) child area there leaf box;
             };
           }
 

@@ -1,8 +1,8 @@
 -- The parent at which a consolidator stands names the pages that it knows, after each of its rows, and while another one steps.
 use Rattle.std.proofs.Common.{◌≡◌, ◌⊎◌, inl, inr, ℕ, suc, ◌+◌, ◌-◌, ◌<◌, ◌==◌, not, ◌&&◌, ◌||◌, Bool, true, false, cond, List, [], ◌∷◌, filter, slice_get, All, Option, Some, None, IsSome, IfSome, IsTrue, option_map, refl, sym, ap, ◌∙◌, subst, arith}
 use Rattle.std.specs.List.{list_any}
-use Rattle.std.proofs.lemmas.Option.{same_Some}
-use Rattle.std.proofs.lemmas.Bool.{cases_Bool, eq-eqb}
+use Rattle.std.proofs.lemmas.Option.{same_Some, none-some}
+use Rattle.std.proofs.lemmas.Bool.{cases_Bool, eq-eqb, and_parts}
 use Rattle.std.proofs.lemmas.List.Elements.{All-cons, All-contains, All-head, All-nil}
 use Rattle.hb_frag.specs.declared.leaves.Leaf.{Leaf}
 use Rattle.hb_frag.specs.declared.leaves.Leaf.TheVariants.{Records, Child, Sibling}
@@ -40,7 +40,7 @@ use Rattle.hb_core.proofs.Memory.BroughtPages.{own_there}
 use Rattle.hb_core.specs.Fetching.{Brings}
 use Rattle.hb_core.specs.Keeps.{LatchesFit, WalksInSpace}
 use Rattle.hb_space.specs.Actors.{IsActor}
-use Rattle.hb_lemmas.proofs.Options.{at_value}
+use Rattle.hb_lemmas.proofs.Options.{at_value, one_value}
 
 -- ---- in a memory that has its pages
 
@@ -81,10 +81,7 @@ latched_as st activity job parent known pair place is first second =
     subst (PlaceLatched st activity) same (record { parent = first; pair = second })
 
 no_pair : (Goal : PairHeld → Type 0) (held : PairHeld) → None ≡ Some held → Goal held
-no_pair Goal held is = absurd (nothing is)
-  where
-    nothing : None ≡ Some held → ⊥
-    nothing is = cc
+no_pair Goal held is = absurd (none-some held is)
 
 -- one of two latches is on the second page
 second_mode : (first id : ℕ) (mode other : Mode) → (found : Mode) × (mode_among id (latch_on first mode ∷ latch_on id other ∷ []) ≡ Some found)
@@ -99,10 +96,7 @@ pair_latched st activity pair held latch is =
     subst (λ (p : PairHeld). (mode : Mode) × (mode_among p.keep (latches_held st activity) ≡ Some mode)) same latch
 
 nowhere : (st : StoreState) (activity : Activity) (place : AtParent) → None ≡ Some place → PlaceLatched st activity place
-nowhere st activity place is = absurd (nothing is)
-  where
-    nothing : None ≡ Some place → ⊥
-    nothing is = cc
+nowhere st activity place is = absurd (none-some place is)
 
 pub place_latched : (st : StoreState) (activity : Activity) (place : AtParent) → merging_at activity ≡ Some place → PlaceLatched st activity place
 place_latched st (at.ConsolidatorScan job parent child) place is = latched_as st (at.ConsolidatorScan job parent child) job parent _ _ place is (Update, at_itself parent (Some Update) None) (no_pair _)
@@ -157,19 +151,13 @@ module _ (id : ℕ) where
   ] some
 
   first_listed : (names : List ℕ) → first_one names ≡ Some id → list_any is_it names ≡ true
-  first_listed [] none = absurd (nothing none)
-    where
-      nothing : None ≡ Some id → ⊥
-      nothing is = cc
+  first_listed [] none = absurd (none-some id none)
   first_listed (name ∷ rest) is =
       let same : name ≡ id = cc in
       ap (λ (b : Bool). b || list_any is_it rest) (eq-eqb name id same)
 
   behind_listed : (child : ℕ) (names : List ℕ) → one_behind child names ≡ Some id → list_any is_it names ≡ true
-  behind_listed child [] none = absurd (nothing none)
-    where
-      nothing : None ≡ Some id → ⊥
-      nothing is = cc
+  behind_listed child [] none = absurd (none-some id none)
   behind_listed child (name ∷ rest) is = later (elim (name == child) as (λ b. cond b (first_one rest) (one_behind child rest) ≡ Some id → list_any is_it rest ≡ true) [
     | true ↦ λ here. first_listed rest here
     | false ↦ λ there. behind_listed child rest there
@@ -183,11 +171,8 @@ pub record IsPair (parent : LivePage) (ls : List Leaf) (gone leaf : ℕ) : Type 
   pub named : IsTrue (names_child parent gone)
   pub at_place : slice_get ls leaf ≡ Some (Sibling gone)
 
-no_pair_there : (pair : ℕ × ℕ) → None ≡ Some pair → ⊥
-no_pair_there pair is = cc
-
 pair_on : (parent : LivePage) (first : Leaf) (rest : List Leaf) (gone leaf : ℕ) (o : Option (ℕ × ℕ)) → ((gone leaf : ℕ) → o ≡ Some (gone, leaf) → IsPair parent rest gone leaf) → one_on o ≡ Some (gone, leaf) → IsPair parent (first ∷ rest) gone leaf
-pair_on parent first rest gone leaf None later is = absurd (no_pair_there (gone, leaf) is)
+pair_on parent first rest gone leaf None later is = absurd (none-some (gone, leaf) is)
 pair_on parent first rest gone leaf (Some (page, place)) later is =
     let one : ℕ × ℕ = (page, place + 1) in
     let two : ℕ × ℕ = (gone, leaf) in
@@ -199,7 +184,7 @@ pair_on parent first rest gone leaf (Some (page, place)) later is =
     next n = omega arith
 
 pair_found : (parent : LivePage) (from : ℕ) (ls : List Leaf) (gone leaf : ℕ) → pair_among parent from ls ≡ Some (gone, leaf) → IsPair parent ls gone leaf
-pair_found parent from [] gone leaf is = absurd (no_pair_there (gone, leaf) is)
+pair_found parent from [] gone leaf is = absurd (none-some (gone, leaf) is)
 pair_found parent from (Records records ∷ rest) gone leaf is = pair_on parent (Records records) rest gone leaf (pair_among parent (from - 1) rest) (pair_found parent (from - 1) rest) is
 pair_found parent from (Child page ∷ rest) gone leaf is = pair_on parent (Child page) rest gone leaf (pair_among parent (from - 1) rest) (pair_found parent (from - 1) rest) is
 pair_found parent from (Sibling page ∷ rest) gone leaf is = elim (cases_Bool ((from == 0) && names_child parent page)) [
@@ -208,13 +193,9 @@ pair_found parent from (Sibling page ∷ rest) gone leaf is = elim (cases_Bool (
       let two : ℕ × ℕ = (gone, leaf) in
       let found : Some one ≡ Some two = sym (ap (λ (b : Bool). cond b (Some (page, 0)) (one_on (pair_among parent (from - 1) rest))) here) ∙ is in
       let whole : one ≡ two = cc in
-      subst (λ (p : ℕ × ℕ). IsPair parent (Sibling page ∷ rest) p.0 p.1) whole (record { named = second (from == 0) (names_child parent page) here; at_place = refl })
+      subst (λ (p : ℕ × ℕ). IsPair parent (Sibling page ∷ rest) p.0 p.1) whole (record { named = (and_parts (from == 0) (names_child parent page) here).1; at_place = refl })
   | inr off ↦ pair_on parent (Sibling page) rest gone leaf (pair_among parent (from - 1) rest) (pair_found parent (from - 1) rest) (sym (ap (λ (b : Bool). cond b (Some (page, 0)) (one_on (pair_among parent (from - 1) rest))) off) ∙ is)
 ]
-  where
-    second : (a b : Bool) → (a && b) ≡ true → b ≡ true
-    second true b both = both
-    second false b both = cc
 
 -- ---- where a row leaves the consolidator
 
@@ -258,9 +239,6 @@ module _ (m : Machine) (actor : ℕ) (fetched : StoreState) (good : (id : ℕ) (
   abbrev IsParent : Job → ℕ → LivePage → Type 0
   IsParent job parent above = (live_here fetched parent ≡ Some above) × (above.level ≡ job.level)
 
-  one_page : (above other : LivePage) (parent : ℕ) → live_here fetched parent ≡ Some above → live_here fetched parent ≡ Some other → above ≡ other
-  one_page above other parent a b = same_Some above other (sym a ∙ b)
-
   scan_lands : (job : Job) (parent : ℕ) (above : LivePage) (child : Option ℕ) → IsParent job parent above → ((id : ℕ) → child ≡ Some id → IsTrue (names_child above id)) → Lands (scans job parent child).next
   scan_lands job parent above None is named = idle
   scan_lands job parent above (Some child) (live, level) named = inr (record {
@@ -296,7 +274,7 @@ module _ (m : Machine) (actor : ℕ) (fetched : StoreState) (good : (id : ℕ) (
       → IsParent job parent above × All (λ id. IsTrue (names_child above id)) names
   known_as job parent names pair above is live =
       let named = before _ is in
-      let same = one_page named.page above parent named.live live in
+      let same = one_value (live_here fetched parent) named.page above named.live live in
       ((live, ap (λ (q : LivePage). q.level) (sym same) ∙ named.level), subst (λ (q : LivePage). All (λ id. IsTrue (names_child q id)) names) same named.names)
 
   plan_lands : (job : Job) (parent keep gone leaf : ℕ) (above kept : LivePage) (plan : MergePlan) → m.activity actor ≡ at.ConsolidatorTry job parent keep gone leaf → live_here fetched parent ≡ Some above → live_here fetched keep ≡ Some kept → Lands (after_try job parent keep gone leaf above kept plan).next
@@ -308,8 +286,8 @@ module _ (m : Machine) (actor : ℕ) (fetched : StoreState) (good : (id : ℕ) (
       below : kept.level + 1 ≡ above.level
       below =
           let named : NamesKnown fetched (record { job = job; parent = parent; known = keep ∷ gone ∷ []; pair = Some (record { keep = keep; gone = gone; leaf = Some leaf }) }) = before _ (ap merging_at is) in
-          let over : named.page.level ≡ above.level = ap (λ (q : LivePage). q.level) (one_page named.page above parent named.live live) in
-          let same : named.pair.page.level ≡ kept.level = ap (λ (q : LivePage). q.level) (one_page named.pair.page kept keep named.pair.live kept_live) in
+          let over : named.page.level ≡ above.level = ap (λ (q : LivePage). q.level) (one_value (live_here fetched parent) named.page above named.live live) in
+          let same : named.pair.page.level ≡ kept.level = ap (λ (q : LivePage). q.level) (one_value (live_here fetched keep) named.pair.page kept named.pair.live kept_live) in
           let one = named.pair.level in
           omega (arith, over, same, one)
 
@@ -326,7 +304,7 @@ module _ (m : Machine) (actor : ℕ) (fetched : StoreState) (good : (id : ℕ) (
   stood : (job : Job) (parent : ℕ) (names : List ℕ) (pair : Option PairHeld) (above : LivePage) → merging_at (m.activity actor) ≡ knows job parent names pair → live_here fetched parent ≡ Some above → live_here m.store parent ≡ Some above
   stood job parent names pair above is live =
       let named = known _ is in
-      named.live ∙ ap (λ (q : LivePage). Some q) (one_page named.page above parent ((stays _ is).parent named.page named.live) live)
+      named.live ∙ ap (λ (q : LivePage). Some q) (one_value (live_here fetched parent) named.page above ((stays _ is).parent named.page named.live) live)
 
   -- a page that is at hand as a child of the parent is one level below it
   one_below : (activity : Activity) (id named : ℕ) (mode : Mode) (page above : LivePage) → m.activity actor ≡ activity → AsksFor m actor id page
@@ -364,10 +342,7 @@ module _ (m : Machine) (actor : ℕ) (fetched : StoreState) (good : (id : ℕ) (
 
   -- a walk that goes on holds a page, and so doesn't arrive
   stays_none : (id : ℕ) (activity : Activity) (deed : Deed) → StaysMerger activity deed → walk_held deed.next ≡ Some id → ⊥
-  stays_none id activity deed stays walks = nothing (sym (ap (λ (d : Deed). walk_held d.next) stays.is ∙ stays.after.walk) ∙ walks)
-    where
-      nothing : None ≡ Some id → ⊥
-      nothing is = cc
+  stays_none id activity deed stays walks = none-some id (sym (ap (λ (d : Deed). walk_held d.next) stays.is ∙ stays.after.walk) ∙ walks)
 
   lands : (activity : Activity) (id : ℕ) (page : LivePage) (deed : Deed) → m.activity actor ≡ activity → AsksFor m actor id page → live_here fetched id ≡ Some page → IsMerging activity → RowAt activity (sight here) id page deed → StaysMerger activity deed → Lands deed.next
   lands (at.ConsolidatorWalk job held) id page deed is asks live kind (inl row) stays =

@@ -1,6 +1,6 @@
 -- No circle of actors waits.
 use Rattle.std.proofs.Common.{◌≡◌, ◌⊎◌, inl, inr, ℕ, IsTrue, List, [], ◌∷◌, Option, Some, None, IfSome, IsSomeAnd, refl, sym, ap, ◌∙◌, subst}
-use Rattle.std.proofs.lemmas.Option.{same_Some}
+use Rattle.std.proofs.lemmas.Option.{same_Some, none-some}
 use Rattle.hb_frag.specs.declared.pages.LivePage.{LivePage}
 use Rattle.hb_latch.specs.declared.modes.Mode.{Mode}
 use Rattle.hb_latch.specs.declared.modes.Mode.TheVariants.{Update}
@@ -28,6 +28,7 @@ use Rattle.hb_boxlock.specs.declared.locks.BoxLock.{BoxLock}
 use Rattle.hb_point.specs.SessionRows.{next_line}
 use Rattle.hb_set.specs.declared.scripts.Line.{Line}
 use Rattle.hb_store.specs.States.{StoreState}
+use Rattle.hb_lemmas.proofs.Options.{not_none}
 
 -- an actor waits for another one's latch, and so on, to the last
 abbrev pub AwaitsLatch : Machine → ℕ → ℕ → Type 0
@@ -61,10 +62,7 @@ held_there (Some held) mode conflict = (held, refl)
 module _ (m : Machine) (files : Files) (fit : LatchesFit m) (has : HasSoundFile m files) (nobody : HasNobodyElse m) (walks : WalksInSpace m) where
   -- who wants a page is one of the actors
   idle_wants : (actor : ℕ) (wanted : Wanted) (activity : Activity) → activity ≡ at.SessionIdle → wanted_of activity m.store.meta (looked_live m.store activity) ≡ Some wanted → ⊥
-  idle_wants actor wanted activity is wants = none (subst (λ (a : Activity). wanted_of a m.store.meta (looked_live m.store a) ≡ Some wanted) is wants)
-    where
-      none : None ≡ Some wanted → ⊥
-      none nothing = cc
+  idle_wants actor wanted activity is wants = none-some wanted (subst (λ (a : Activity). wanted_of a m.store.meta (looked_live m.store a) ≡ Some wanted) is wants)
 
   wants_may : (actor : ℕ) (wanted : Wanted) → wanted_by m actor ≡ Some wanted → IsActor actor
   wants_may actor wanted wants = elim (may_or_not actor) [
@@ -140,15 +138,12 @@ module _ (m : Machine) (files : Files) (fit : LatchesFit m) (has : HasSoundFile 
 
 module _ (m : Machine) (fit : LatchesFit m) (nobody : HasNobodyElse m) (none_else : HasNoOtherLatches m) where
   idle_holds : (st : StoreState) (page : ℕ) (held : Mode) (activity : Activity) → activity ≡ at.SessionIdle → mode_among page (latches_held st activity) ≡ Some held → ⊥
-  idle_holds st page held activity idle holds = none (subst (λ (a : Activity). mode_among page (latches_held st a) ≡ Some held) idle holds)
-    where
-      none : None ≡ Some held → ⊥
-      none nothing = cc
+  idle_holds st page held activity idle holds = none-some held (subst (λ (a : Activity). mode_among page (latches_held st a) ≡ Some held) idle holds)
 
   holder_stands : (actor page : ℕ) (held : Mode) → mode_at m.latches actor page ≡ Some held → m.activity actor ≡ at.SessionIdle → ⊥
   holder_stands actor page held holds idle = elim (may_or_not actor) [
     | inl may ↦ idle_holds m.store page held (m.activity actor) idle (sym (fit.exact actor page may) ∙ holds)
-    | inr none ↦ let nothing : None ≡ Some held = sym (none_else actor page none) ∙ holds in cc
+    | inr none ↦ absurd (not_none (mode_at m.latches actor page) held holds (none_else actor page none))
   ]
 
   idle_locks : (lock : BoxLock) (activity : Activity) → activity ≡ at.SessionIdle → IsSomeAnd (lock_of activity) (Excludes lock) → ⊥

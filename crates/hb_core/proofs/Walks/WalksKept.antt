@@ -1,6 +1,6 @@
 -- After a step the page that a walk holds has the walk's point in its box, and the parent that a poster holds a child leaf there.
-use Rattle.std.proofs.Common.{◌≡◌, ◌≢◌, ◌⊎◌, inl, inr, ℕ, ◌==◌, Bool, cond, List, [], ◌∷◌, Option, Some, None, IfSome, IsSome, refl, sym, ap, ◌∙◌, subst}
-use Rattle.std.proofs.lemmas.Bool.{cases_Bool, eqb-true, eqb-false, eq-eqb, ne_eqb}
+use Rattle.std.proofs.Common.{◌≡◌, ◌≢◌, ◌⊎◌, inl, inr, ℕ, ◌==◌, List, [], Option, Some, None, IfSome, IsSome, refl, sym, ap, ◌∙◌, subst}
+use Rattle.std.proofs.lemmas.Bool.{cases_Bool, eqb-true, eqb-false}
 use Rattle.hb_frag.specs.declared.pages.LivePage.{LivePage}
 use Rattle.hb_frag.specs.declared.pages.Page.TheVariants.{Live}
 use Rattle.hb_set.specs.declared.scripts.Line.{Line}
@@ -17,6 +17,7 @@ use Rattle.hb_activity.specs.Passing.{LeadsBelow}
 use Rattle.hb_activity.specs.Wanting.{named_page, onward_at}
 use Rattle.hb_frag.specs.Leaves.{IsPointer, Placed, leaf_at}
 use Rattle.std.specs.Option.{option_and_then}
+use Rattle.hb_lemmas.proofs.Options.{one_value, not_none}
 use Rattle.hb_frag.specs.declared.leaves.Leaf.{Leaf}
 use Rattle.hb_frag.specs.declared.leaves.Leaf.TheVariants.{Records, Child, Sibling}
 use Rattle.hb_activity.specs.Walks.{walk_held, walk_point}
@@ -25,8 +26,8 @@ use Rattle.hb_core.proofs.Latches.LatchesStay.{walk_latched}
 use Rattle.hb_core.proofs.Walks.MergesKept.{HasMergePlace, PlaceStays, merged_place, named_again, none_named, place_latched, known_at, place_stays}
 use Rattle.hb_core.proofs.Table.NextPlaces.{HasPlace, HoldsNothing, KeepsParent, MergesOn, TakesParent, WalksTo, nothing_given_up, now, place_after}
 use Rattle.hb_core.proofs.Facts.StepKinds.{each_kind, ready_kind}
-use Rattle.hb_core.proofs.Facts.StillThere.{fetched_good, may_or_not, nothing_done, other_holds, other_walks, own_next}
-use Rattle.hb_core.proofs.Facts.Ways.{KeepsAllButDisk, forces_so, meets_so, stays_so, more_so}
+use Rattle.hb_core.proofs.Facts.StillThere.{fetched_good, may_or_not, other_holds, other_walks}
+use Rattle.hb_core.proofs.Facts.Ways.{KeepsAllButDisk, forces_so, meets_so, stays_so, more_so, nothing_done, own_next, others_next}
 use Rattle.hb_core.specs.Fetching.{Brings}
 use Rattle.hb_core.specs.KeepingLaws.{WalksStayInSpace}
 use Rattle.hb_core.specs.Keeps.{HasNobodyElse, HoldsPagesOfFile, LatchesFit, WalksInSpace}
@@ -40,6 +41,9 @@ use Rattle.hb_ops.specs.Files.{if_live}
 use Rattle.hb_space.specs.Boxes.{Holds}
 use Rattle.hb_store.specs.States.{StoreState, in_memory}
 use Rattle.hb_ops.proofs.Facts.PageNumberLaws.{live_so}
+use Rattle.std.proofs.lemmas.Option.{none-some}
+use Rattle.hb_lemmas.proofs.Lists.{not_empty}
+use Rattle.hb_lemmas.proofs.Booleans.{at_itself}
 
 abbrev pub IsAtParent : Activity → Job → ℕ → Type 0
 IsAtParent activity job parent = (activity ≡ at.PosterChild job parent) ⊎ (activity ≡ at.PosterPromote job parent) ⊎ (activity ≡ at.PosterAgain job parent)
@@ -76,39 +80,24 @@ stands_again activity old new stands walk parent merges = record {
 
 -- ---- an activity that holds no page of a walk, and no parent
 
-no_walk : (activity : Activity) (held : ℕ) → walk_held activity ≡ None → walk_held activity ≡ Some held → ⊥
-no_walk activity held none some = nowhere (sym none ∙ some)
-  where
-    nowhere : None ≡ Some held → ⊥
-    nowhere is = cc
-
 no_parent : (st : StoreState) (activity : Activity) (job : Job) (parent : ℕ) → latches_held st activity ≡ [] → IsAtParent activity job parent → ⊥
-no_parent st activity job parent none (inl is) = some (sym (ap (latches_held st) is) ∙ none)
-  where
-    some : latch_on parent Update ∷ [] ≡ [] → ⊥
-    some is = cc
-no_parent st activity job parent none (inr (inl is)) = some (sym (ap (latches_held st) is) ∙ none)
-  where
-    some : latch_on parent Update ∷ [] ≡ [] → ⊥
-    some is = cc
-no_parent st activity job parent none (inr (inr is)) = some (sym (ap (latches_held st) is) ∙ none)
-  where
-    some : latch_on parent Exclusive ∷ [] ≡ [] → ⊥
-    some is = cc
+no_parent st activity job parent none (inl is) = not_empty (latch_on parent Update) [] (sym (ap (latches_held st) is) ∙ none)
+no_parent st activity job parent none (inr (inl is)) = not_empty (latch_on parent Update) [] (sym (ap (latches_held st) is) ∙ none)
+no_parent st activity job parent none (inr (inr is)) = not_empty (latch_on parent Exclusive) [] (sym (ap (latches_held st) is) ∙ none)
 
 pub free_stands : (st : StoreState) (activity : Activity) → HoldsNothing activity → StandsInSpace st activity
 free_stands st activity free = record {
-  held = λ held page walks live. absurd (no_walk activity held free.walk walks);
-  leads = λ held page walks live. absurd (no_walk activity held free.walk walks);
+  held = λ held page walks live. absurd (not_none (walk_held activity) held walks free.walk);
+  leads = λ held page walks live. absurd (not_none (walk_held activity) held walks free.walk);
   parents = λ job parent is. absurd (no_parent st activity job parent (free.latches st) is);
   merging = none_named st (merging_at activity) free.merging;
 }
 
 -- a walk has no parent
 walks_have_none : (activity : Activity) (id : ℕ) (job : Job) (parent : ℕ) → walk_held activity ≡ Some id → IsAtParent activity job parent → ⊥
-walks_have_none activity id job parent walks (inl is) = no_walk activity id (ap walk_held is) walks
-walks_have_none activity id job parent walks (inr (inl is)) = no_walk activity id (ap walk_held is) walks
-walks_have_none activity id job parent walks (inr (inr is)) = no_walk activity id (ap walk_held is) walks
+walks_have_none activity id job parent walks (inl is) = not_none (walk_held activity) id walks (ap walk_held is)
+walks_have_none activity id job parent walks (inr (inl is)) = not_none (walk_held activity) id walks (ap walk_held is)
+walks_have_none activity id job parent walks (inr (inr is)) = not_none (walk_held activity) id walks (ap walk_held is)
 
 -- a poster at a parent merges nothing
 poster_merges_not : (activity : Activity) (job : Job) (parent : ℕ) → IsAtParent activity job parent → merging_at activity ≡ None
@@ -119,20 +108,17 @@ poster_merges_not activity job parent (inr (inr is)) = ap merging_at is
 -- a consolidator at a parent walks no more, and is no poster
 merges_in_space : (st : StoreState) (activity : Activity) (place : AtParent) → walk_held activity ≡ None → merging_at activity ≡ Some place → NamesKnown st place → StandsInSpace st activity
 merges_in_space st activity place still is named = record {
-  held = λ held page walks live. absurd (no_walk activity held still walks);
-  leads = λ held page walks live. absurd (no_walk activity held still walks);
-  parents = λ job parent at_parent. absurd (nowhere (sym (poster_merges_not activity job parent at_parent) ∙ is));
+  held = λ held page walks live. absurd (not_none (walk_held activity) held walks still);
+  leads = λ held page walks live. absurd (not_none (walk_held activity) held walks still);
+  parents = λ job parent at_parent. absurd (none-some place (sym (poster_merges_not activity job parent at_parent) ∙ is));
   merging = subst (λ (o : Option AtParent). IfSome o (NamesKnown st)) (sym is) named;
 }
-  where
-    nowhere : None ≡ Some place → ⊥
-    nowhere is = cc
 
 -- a session that splits a page, or has split it, has none either
 split_stands : (st : StoreState) (activity : Activity) (line : Line) (held : ℕ) → activity ≡ at.SessionSplit line held → StandsInSpace st activity
 split_stands st activity line held is = subst (StandsInSpace st) (sym is) (record {
-  held = λ id page walks live. absurd (no_walk (at.SessionSplit line held) id refl walks);
-  leads = λ id page walks live. absurd (no_walk (at.SessionSplit line held) id refl walks);
+  held = λ id page walks live. absurd (none-some id walks);
+  leads = λ id page walks live. absurd (none-some id walks);
   parents = λ job parent at_parent. absurd (never job parent at_parent);
   merging = tt;
 })
@@ -144,8 +130,8 @@ split_stands st activity line held is = subst (StandsInSpace st) (sym is) (recor
 
 put_stands : (st : StoreState) (activity : Activity) (line : Line) (source fresh : ℕ) → activity ≡ at.SessionPut line source fresh → StandsInSpace st activity
 put_stands st activity line source fresh is = subst (StandsInSpace st) (sym is) (record {
-  held = λ id page walks live. absurd (no_walk (at.SessionPut line source fresh) id refl walks);
-  leads = λ id page walks live. absurd (no_walk (at.SessionPut line source fresh) id refl walks);
+  held = λ id page walks live. absurd (none-some id walks);
+  leads = λ id page walks live. absurd (none-some id walks);
   parents = λ job parent at_parent. absurd (never job parent at_parent);
   merging = tt;
 })
@@ -190,28 +176,13 @@ same_parent activity job parent st is has = record {
 
 -- ---- the actor that steps
 
-same_page : (o : Option LivePage) (page other : LivePage) → o ≡ Some page → o ≡ Some other → page ≡ other
-same_page o page other a b = by (sym a ∙ b)
-  where
-    by : Some page ≡ Some other → page ≡ other
-    by is = cc
-
-same_number : (o : Option ℕ) (id other : ℕ) → o ≡ Some id → o ≡ Some other → id ≡ other
-same_number o id other a b = by (sym a ∙ b)
-  where
-    by : Some id ≡ Some other → id ≡ other
-    by is = cc
-
 pub parent_latched : (st : StoreState) (activity : Activity) (job : Job) (parent : ℕ) → IsAtParent activity job parent → (mode : Mode) × (mode_among parent (latches_held st activity) ≡ Some mode)
 parent_latched st activity job parent is = by is
   where
-    one : (mode : Mode) → mode_among parent (latch_on parent mode ∷ []) ≡ Some mode
-    one mode = ap (λ (b : Bool). cond b (Some mode) None) (eq-eqb parent parent refl)
-
     by : IsAtParent activity job parent → (mode : Mode) × (mode_among parent (latches_held st activity) ≡ Some mode)
-    by (inl is) = (Update, ap (λ (a : Activity). mode_among parent (latches_held st a)) is ∙ one Update)
-    by (inr (inl is)) = (Update, ap (λ (a : Activity). mode_among parent (latches_held st a)) is ∙ one Update)
-    by (inr (inr is)) = (Exclusive, ap (λ (a : Activity). mode_among parent (latches_held st a)) is ∙ one Exclusive)
+    by (inl is) = (Update, ap (λ (a : Activity). mode_among parent (latches_held st a)) is ∙ at_itself parent (Some Update) None)
+    by (inr (inl is)) = (Update, ap (λ (a : Activity). mode_among parent (latches_held st a)) is ∙ at_itself parent (Some Update) None)
+    by (inr (inr is)) = (Exclusive, ap (λ (a : Activity). mode_among parent (latches_held st a)) is ∙ at_itself parent (Some Exclusive) None)
 
 -- a leaf that names a page leads on to that
 leads_on : (page : LivePage) (p : List ℕ) (l : Placed) → leaf_at page p ≡ Some l → IsPointer l.leaf → IsSome (onward_at page p)
@@ -231,14 +202,14 @@ module _ (m : Machine) (actor : ℕ) (may : ℕ → Type 0) (fetched : StoreStat
       let has : Holds to.page.area to.p = first_held to.p to.page.frag to.page.area to.placed good.1.well_cut to.leaf in
       record {
         held = λ held page on live.
-            let id = same_number (walk_held deed.next) to.id held to.held on in
+            let id = one_value (walk_held deed.next) to.id held to.held on in
             let live_then : live_here fetched held ≡ Some page = sym (ap (λ (st : StoreState). live_here st held) store) ∙ live in
-            let is = same_page (live_here fetched held) to.page page (ap (live_here fetched) (sym id) ∙ to.live) live_then in
+            let is = one_value (live_here fetched held) to.page page (ap (live_here fetched) (sym id) ∙ to.live) live_then in
             subst (λ (o : Option (List ℕ)). IfSome o (Holds page.area)) (sym to.point) (subst (λ (q : LivePage). Holds q.area to.p) is has);
         leads = λ held page on live.
-            let id = same_number (walk_held deed.next) to.id held to.held on in
+            let id = one_value (walk_held deed.next) to.id held to.held on in
             let live_then : live_here fetched held ≡ Some page = sym (ap (λ (st : StoreState). live_here st held) store) ∙ live in
-            let is = same_page (live_here fetched held) to.page page (ap (live_here fetched) (sym id) ∙ to.live) live_then in
+            let is = one_value (live_here fetched held) to.page page (ap (live_here fetched) (sym id) ∙ to.live) live_then in
             subst (λ (o : Option (List ℕ)). IfSome o (λ p. IsSome (onward_at page p))) (sym to.point) (subst (λ (q : LivePage). IsSome (onward_at q to.p)) is (leads_on to.page to.p to.placed to.leaf to.names));
         parents = λ job parent is. absurd (walks_have_none deed.next to.id job parent to.held is);
         merging = none_named new.store (merging_at deed.next) to.merging;
@@ -342,10 +313,7 @@ module _ (m : Machine) (actor : ℕ) (outcome : Outcome) (new : Machine) (latche
 
   -- a deed is done
   did : (fetched : StoreState) (deed : Deed) → Performs m fetched actor deed outcome new → StandsInSpace new.store deed.next → WalksInSpace new
-  did fetched deed performs own = with_own (subst (StandsInSpace new.store) (sym (own_next m actor fetched deed outcome new performs)) own) (λ other another. other_stood other another)
-    where
-      other_stood : (other : ℕ) → other ≢ actor → new.activity other ≡ m.activity other
-      other_stood other another = performs.activity other ∙ ap (λ (b : Bool). cond b deed.next (m.activity other)) (ne_eqb other actor another)
+  did fetched deed performs own = with_own (subst (StandsInSpace new.store) (sym (own_next actor deed.next m.activity new.activity performs.activity)) own) (others_next actor deed.next m.activity new.activity performs.activity)
 
   freed : (fetched : StoreState) (deed : Deed) → Performs m fetched actor deed outcome new → HoldsNothing deed.next → WalksInSpace new
   freed fetched deed performs free = did fetched deed performs (free_stands new.store deed.next free)

@@ -1,6 +1,7 @@
 -- After a step a walking worker's job is below the file's height, and its page of the job's level or above it.
 use Rattle.std.proofs.Common.{◌≡◌, ◌≢◌, ◌⊎◌, inl, inr, ℕ, ◌<◌, ◌≤◌, ◌==◌, Option, Some, None, IfSome, refl, sym, ap, ◌∙◌, subst, arith}
 use Rattle.std.proofs.lemmas.Bool.{cases_Bool, eqb-true, eqb-false}
+use Rattle.std.proofs.lemmas.Option.{none-some, same_Some}
 use Rattle.hb_frag.specs.declared.leaves.Leaf.{Leaf}
 use Rattle.hb_frag.specs.declared.leaves.Leaf.TheVariants.{Records, Child, Sibling}
 use Rattle.hb_frag.specs.declared.pages.LivePage.{LivePage}
@@ -16,9 +17,9 @@ use Rattle.hb_consol.specs.ConsolidatorRows.{IsMergingOf}
 use Rattle.hb_core.proofs.Table.DeedKinds.{each_again, each_deed}
 use Rattle.hb_core.proofs.Latches.LatchesStay.{walk_latched}
 use Rattle.hb_core.proofs.Memory.MetaKept.{deed_keeps_meta}
-use Rattle.hb_core.proofs.Facts.StillThere.{may_or_not, nothing_done, other_walks}
+use Rattle.hb_core.proofs.Facts.StillThere.{may_or_not, other_walks}
 use Rattle.hb_core.proofs.Walks.WalkingWorkers.{WalksAsWorker, WalksOn, empty_has_none, walk_after, walk_wants_above}
-use Rattle.hb_core.proofs.Facts.Ways.{KeepsAllButDisk}
+use Rattle.hb_core.proofs.Facts.Ways.{KeepsAllButDisk, nothing_done}
 use Rattle.hb_core.specs.Acting.{DoesRow}
 use Rattle.hb_core.specs.KeptFits.{GaveAwayAt, StandsAbove, WorkersStand, walking_job}
 use Rattle.hb_core.specs.KeptMachine.{MachineKeeps}
@@ -52,12 +53,9 @@ stands_again old new held (Some job) grows back stands = record {
 begins : (st : StoreState) (job : Job) → job.level < st.meta.height → StandsAbove st None job
 begins st job below = record {
   below_height = below;
-  level = λ id page none live. absurd (nothing id none);
-  gave = λ id page none live same. absurd (nothing id none);
+  level = λ id page none live. absurd (none-some id none);
+  gave = λ id page none live same. absurd (none-some id none);
 }
-  where
-    nothing : (id : ℕ) → None ≡ Some id → ⊥
-    nothing id is = cc
 
 -- and one that goes on
 leads_on : (page : LivePage) (job : Job) (leaf : Leaf) (area : Area) → leaf_at page job.point ≡ Some (record { leaf = leaf; area = area }) → IsPointer leaf → ¬ (LeadsBelow page job) → GaveAwayAt page job.point
@@ -72,14 +70,8 @@ goes_on st job id page live below above gave = record {
   gave = λ other now holds there. subst (λ (q : LivePage). q.level ≡ job.level → GaveAwayAt q job.point) (same other now holds there) gave;
 }
   where
-    same_number : (other : ℕ) → Some id ≡ Some other → id ≡ other
-    same_number other is = cc
-
-    same_page : (now : LivePage) → Some page ≡ Some now → page ≡ now
-    same_page now is = cc
-
     same : (other : ℕ) (now : LivePage) → Some id ≡ Some other → live_here st other ≡ Some now → page ≡ now
-    same other now holds there = same_page now (sym live ∙ ap (live_here st) (same_number other holds) ∙ there)
+    same other now holds there = same_Some page now (sym live ∙ ap (live_here st) (same_Some id other holds) ∙ there)
 
 walker_stands : (st : StoreState) (activity : Activity) (job : Job) (held : Option ℕ) → WalksAsWorker activity job held → StandsAbove st held job → StandsByJob st activity
 walker_stands st activity job held (inl is) stands = subst (StandsByJob st) (sym is) stands

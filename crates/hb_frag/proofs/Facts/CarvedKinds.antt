@@ -1,5 +1,6 @@
 -- What a carved leaf is, whatever the boxes.
-use Rattle.std.proofs.Common.{◌≡◌, ◌≢◌, ℕ, zero, suc, ◌+◌, ◌*◌, ◌≤◌, Bool, true, false, cond, ◌⊎◌, inl, inr, [], ◌∷◌, ◌++◌, get_or, refl, sym, ap, ◌∙◌, arith, nat_lt}
+use Rattle.std.proofs.Common.{◌≡◌, ◌≢◌, ℕ, zero, suc, ◌+◌, ◌*◌, ◌≤◌, ◌⊎◌, inl, inr, [], ◌∷◌, ◌++◌, get_or, refl, sym, ap, ◌∙◌, arith, nat_lt}
+use Rattle.hb_lemmas.proofs.Booleans.{one_at_most, either_way}
 use Rattle.hb_space.specs.Boxes.{Area, side_below, side_from}
 use Rattle.hb_frag.specs.declared.leaves.Leaf.TheVariants.{Records, Child, Sibling}
 use Rattle.hb_frag.specs.Trees.{Tree, Tip, Cut}
@@ -15,12 +16,8 @@ pub carve_by_cases : (P : Tree → Type 0) (r c : Area) (outer inner : ℕ) → 
 carve_by_cases P r c outer inner new below above zero axis = new
 carve_by_cases P r c outer inner new below above (suc n) axis =
     let rest = carve_by_cases P r c outer inner new below above n (axis + 1) in
-    let first = one_more (nat_lt (get_or c.hi axis 0) (get_or r.hi axis 0)) (Cut axis (get_or c.hi axis 0 + 1) (carve_from n (axis + 1) r c outer inner) (Tip (Child outer))) (carve_from n (axis + 1) r c outer inner) (above axis _ _ rest) rest in
-    one_more (nat_lt (get_or r.lo axis 0) (get_or c.lo axis 0)) (Cut axis (get_or c.lo axis 0) (Tip (Child outer)) (carve_above axis r c outer (carve_from n (axis + 1) r c outer inner))) (carve_above axis r c outer (carve_from n (axis + 1) r c outer inner)) (below axis _ _ first) first
-  where
-    one_more : (b : Bool) (s t : Tree) → P s → P t → P (cond b s t)
-    one_more true s t h k = h
-    one_more false s t h k = k
+    let first = either_way P (nat_lt (get_or c.hi axis 0) (get_or r.hi axis 0)) (Cut axis (get_or c.hi axis 0 + 1) (carve_from n (axis + 1) r c outer inner) (Tip (Child outer))) (carve_from n (axis + 1) r c outer inner) (above axis _ _ rest) rest in
+    either_way P (nat_lt (get_or r.lo axis 0) (get_or c.lo axis 0)) (Cut axis (get_or c.lo axis 0) (Tip (Child outer)) (carve_above axis r c outer (carve_from n (axis + 1) r c outer inner))) (carve_above axis r c outer (carve_from n (axis + 1) r c outer inner)) (below axis _ _ first) first
 
 -- it is the new child alone, or it has a cut
 abbrev pub HasCuts : Tree → Type 0
@@ -57,17 +54,13 @@ pub carved_normal : (r c : Area) (outer inner n axis : ℕ) → inner ≢ outer 
 carved_normal r c outer inner n axis other = (differs r c outer inner other n axis).is_normal
 
 -- at most two cuts for each attribute
-at_most_one : (b : Bool) → cond b 1 0 ≤ 1
-at_most_one true = omega arith
-at_most_one false = omega arith
-
 pub carved_light : (r c : Area) (outer inner n axis : ℕ) → weight_of (carve_from n axis r c outer inner) ≤ 2 * n + 1
 carved_light r c outer inner zero axis = omega arith
 carved_light r c outer inner (suc n) axis =
     let rest = carved_light r c outer inner n (axis + 1) in
     let step = weight_step n axis r c outer inner in
-    let above = at_most_one (nat_lt (get_or c.hi axis 0) (get_or r.hi axis 0)) in
-    let below = at_most_one (nat_lt (get_or r.lo axis 0) (get_or c.lo axis 0)) in
+    let above = one_at_most (nat_lt (get_or c.hi axis 0) (get_or r.hi axis 0)) in
+    let below = one_at_most (nat_lt (get_or r.lo axis 0) (get_or c.lo axis 0)) in
     omega arith
 
 -- each leaf weighs at least 1

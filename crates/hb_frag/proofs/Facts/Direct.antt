@@ -1,7 +1,7 @@
 -- What a page directly holds, point by point.
 use Rattle.std.proofs.Common.{◌≡◌, ℕ, zero, suc, ◌↔◌, List, [], ◌∷◌, length, get_or, sym, ◌∙◌, arith}
 use Rattle.std.specs.List.{All}
-use Rattle.std.proofs.lemmas.List.Elements.{All-cons}
+use Rattle.std.proofs.lemmas.List.Elements.{All-cons, All-nil}
 use Rattle.hb_space.specs.Boxes.{Area, IsArea, Holds}
 use Rattle.hb_space.proofs.Facts.Boxes.{Meets-from_point, point_from_meeting, Within-from_points, Holds-within}
 use Rattle.hb_frag.specs.declared.leaves.Leaf.{Leaf}
@@ -16,11 +16,8 @@ siblings_step Q (Records records) area xs h rest = rest
 siblings_step Q (Child page) area xs h rest = rest
 siblings_step Q (Sibling page) area xs h rest = All-cons (λ s. Q s.1) (page, area) (siblings xs) h rest
 
-none_of : (Q : Area → Type 0) → All (λ (s : ℕ × Area). Q s.1) []
-none_of Q k d lt = absurd (omega arith)
-
 siblings_all : (Q : Area → Type 0) (xs : List Placed) → All (λ l. Q l.area) xs → All (λ s. Q s.1) (siblings xs)
-siblings_all Q [] h = none_of Q
+siblings_all Q [] h = All-nil (λ s. Q s.1)
 siblings_all Q (x ∷ xs) h = siblings_step Q x.leaf x.area xs (h zero x (omega arith)) (siblings_all Q xs (λ j d l. h (suc j) d (omega arith)))
 
 pub direct_by_points : (page : LivePage) (a : Area) → IsArea page.area → WellCut page → IsArea a → length a.lo ≡ length page.area.lo → DirectlyCovers page a ↔ ((p : List ℕ) → Holds a p → DirectlyHolds page p)

@@ -1,5 +1,5 @@
 -- Two records leaves whose points rise are one whose points do, once a plane has parted their boxes.
-use Rattle.std.proofs.Common.{◌≡◌, ◌≢◌, ℕ, zero, suc, ◌<◌, ◌≤◌, ◌-◌, inl, inr, true, false, cond, List, [], ◌∷◌, ◌++◌, length, get_or, refl, sym, ap, subst, ◌∙◌, arith}
+use Rattle.std.proofs.Common.{◌≡◌, ◌≢◌, ℕ, zero, suc, ◌<◌, ◌≤◌, ◌-◌, inl, inr, true, false, cond, List, [], ◌∷◌, ◌++◌, length, get_or, refl, ap, ◌∙◌, arith}
 use Rattle.std.specs.List.{All, AllByRecursion, AllPairs}
 use Rattle.std.specs.Ordering.{is_gt, ordering_reverse}
 use Rattle.std.specs.declared.cmp.Ordering.{Ordering}
@@ -15,12 +15,14 @@ use Rattle.hb_space.specs.Boxes.{Area, Holds, Cuts, side_below, side_from}
 use Rattle.hb_space.specs.declared.records.Record.{Record}
 use Rattle.hb_space.proofs.Facts.Boxes.{Holds-side_from}
 use Rattle.hb_space.proofs.Facts.Lists.{set_cases}
+use Rattle.hb_space.proofs.Facts.PointOrder.{not_itself}
 use Rattle.hb_frag.specs.declared.leaves.Leaf.TheVariants.{Records}
 use Rattle.hb_frag.specs.Rules.{Precedes, IsInOrder}
 use Rattle.hb_frag.specs.Normal.{with_record_in_order, in_point_order}
 use Rattle.hb_frag.proofs.Facts.PointOrder.{order_permutes}
 use Rattle.hb_frag.proofs.Facts.RisingRecords.{Rise, rising}
 use Rattle.hb_lemmas.proofs.Lists.{All-alone}
+use Rattle.hb_lemmas.proofs.Pairs.{pairs_first, pairs_rest}
 
 -- the order of two points, told by the test
 less_from_test : (p q : List ℕ) → is_gt (point_cmp q p) ≡ true → point_cmp p q ≡ Less
@@ -38,14 +40,6 @@ less_unless_same p q n t = cases (point_cmp p q) refl
     cases Less e = e
     cases Equal e = absurd (n (exact_bytes p q e))
     cases Greater e = absurd (let no : true ≡ false = rw e at t in cc)
-
-differ_where_less : (r s : Record) → Precedes r s → r.key ≢ s.key
-differ_where_less r s h e =
-    let P : List ℕ → Type 0 = λ k. point_cmp r.key k ≡ Less in
-    let own : point_cmp r.key r.key ≡ Less = subst P (sym e) h in
-    let back = nat_list_cmp_total.antisymm r.key r.key in
-    let no : Less ≡ Greater = sym own ∙ back ∙ ap ordering_reverse own in
-    cc
 
 -- records of other points than one, and lists in which no point stands twice
 abbrev Apart : Record → List Record → Type 0
@@ -90,15 +84,15 @@ rises_order [] h = tt
 rises_order (r ∷ xs) h = rises_put r (in_point_order xs) (rises_order xs h.1) (apart_order r xs h.0)
 
 -- pairs of places
-apart_after : (r : Record) (xs : List Record) → ((k : ℕ) (d : Record) → k < length xs → Precedes r (get_or xs k d)) → Apart r xs
+apart_after : (r : Record) (xs : List Record) → All (Precedes r) xs → Apart r xs
 apart_after r [] h = tt
-apart_after r (x ∷ xs) h = (differ_where_less r x (h zero x (omega arith)), apart_after r xs (λ k d l. h (suc k) d (omega arith)))
+apart_after r (x ∷ xs) h = (λ same. not_itself r.key x.key same (h zero x (omega arith)), apart_after r xs (λ k d l. h (suc k) d (omega arith)))
 
 apart_pairs : (xs : List Record) → AllPairs Precedes xs → AllApart xs
 apart_pairs [] h = tt
 apart_pairs (x ∷ xs) h = (
-  apart_after x xs (λ k d l. h zero (suc k) d (omega arith) (omega arith)),
-  apart_pairs xs (λ i j d before l. h (suc i) (suc j) d (omega arith) (omega arith)),
+  apart_after x xs (pairs_first Precedes x xs h),
+  apart_pairs xs (pairs_rest Precedes x xs h),
 )
 
 -- what lies below a plane and what lies from it on have no point in common
@@ -140,6 +134,10 @@ held_below a axis value p cuts s =
       },
       omega (arith, (s.between axis (omega (arith, s.same, cuts.attribute))).1, get_or-set_same a.hi axis (value - 1) 0 in_hi, cuts.above_least),
     )
+
+-- so no point lies on both sides
+pub sides_apart : (a : Area) (axis value : ℕ) (p : List ℕ) → Cuts a axis value → Holds (side_below a axis value) p → Holds (side_from a axis value) p → ⊥
+sides_apart a axis value p cuts low high = omega (arith, (held_below a axis value p cuts low).1, ((Holds-side_from a axis value p cuts).0 high).1)
 
 pub order_of_both : (axis value : ℕ) (xs ys : List Record) (a : Area) → Cuts a axis value → All IsInOrder (record { leaf = Records xs; area = side_below a axis value } ∷ record { leaf = Records ys; area = side_from a axis value } ∷ []) → All IsInOrder (record { leaf = Records (in_point_order (xs ++ ys)); area = a } ∷ [])
 order_of_both axis value xs ys a cuts k =

@@ -1,5 +1,5 @@
 -- Records in the order of their points, and that a stable sort gives that order.
-use Rattle.std.proofs.Common.{◌≡◌, ℕ, zero, suc, ◌+◌, ◌<◌, Bool, true, false, cond, not, List, [], ◌∷◌, length, get_or, refl, sym, ap, subst, ◌∙◌, arith}
+use Rattle.std.proofs.Common.{◌≡◌, ℕ, zero, suc, ◌+◌, ◌<◌, Bool, true, false, cond, List, [], ◌∷◌, length, get_or, refl, sym, ap, subst, ◌∙◌, arith}
 use Rattle.std.specs.List.{filter}
 use denote.Param.Members.{Mut}
 use denote.Ref.{Bor}
@@ -9,7 +9,7 @@ use Rattle.std.specs.Cmp.{IsStrictWeakOrder}
 use Rattle.std.specs.Fn.{Called}
 use Rattle.std.specs.declared.cmp.Ordering.{Ordering}
 use Rattle.std.specs.declared.cmp.Ordering.TheVariants.{Less, Equal, Greater}
-use Rattle.std.proofs.lemmas.Bool.{and_parts}
+use Rattle.std.proofs.lemmas.Bool.{and_parts, not-true}
 use Rattle.std.proofs.lemmas.Cmp.{nat_list_cmp_total}
 use Rattle.std.proofs.lemmas.List.Sorted.{ranks_by, sorted_far, answers_always, IsPermutation-refl, IsPermutation-sym, IsPermutation-cons, IsPermutation-trans, IsPermutation-middle}
 use Rattle.hb_space.specs.Points.{point_cmp}
@@ -47,11 +47,7 @@ module _ {X : Type 0} (lt : X → X → Bool) (o : IsStrictWeakOrder lt) where
   not_itself x = elim (lt x x) as (λ b. (b ≡ true → lt x x ≡ false) → lt x x ≡ b → lt x x ≡ false) [ true ↦ λ f e. f refl | false ↦ λ f e. e ] (o.one_way x x) refl
 
   tie_parts : (x y : X) → ties lt x y ≡ true → (lt x y ≡ false) × (lt y x ≡ false)
-  tie_parts x y t = let w = and_parts _ _ t in (negated (lt x y) w.0, negated (lt y x) w.1)
-    where
-      negated : (b : Bool) → not b ≡ true → b ≡ false
-      negated true e = cc
-      negated false e = refl
+  tie_parts x y t = let w = and_parts _ _ t in (not-true (lt x y) w.0, not-true (lt y x) w.1)
 
   tied : (x y : X) → lt x y ≡ false → lt y x ≡ false → ties lt x y ≡ true
   tied x y h k = rw (h, k) refl

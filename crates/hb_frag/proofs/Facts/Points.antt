@@ -22,7 +22,7 @@ first_behind p (x ∷ xs) ys h = grind (arith, first_behind p xs ys)
 
 -- a box that doesn't hold the point has no leaf there
 pub none_outside : (t : Tree) (area : Area) (p : List ℕ) → IsArea area → IsWellCut t area → length p ≡ length area.lo → (Holds area p → ⊥) → first_at p (leaves_of t area) ≡ None
-none_outside (Tip leaf) area p h cut e outside = rw (failed_test area p h e outside)
+none_outside (Tip leaf) area p h cut e outside = rw (failed_test area p outside)
 none_outside (Cut axis value left right) area p h cut e outside =
     let below = none_outside left (side_below area axis value) p (IsArea-side_below area axis value h cut.0) cut.1 e (outside_below area axis value p h cut.0 outside) in
     let from = none_outside right (side_from area axis value) p (IsArea-side_from area axis value h cut.0) cut.2 (e ∙ sym (same-side_from area axis value)) (outside_from area axis value p cut.0 outside) in
@@ -30,7 +30,7 @@ none_outside (Cut axis value left right) area p h cut e outside =
 
 -- and no leaf that would change
 pub kept_outside : (t : Tree) (area : Area) (p : List ℕ) (change : Leaf → Leaf) → IsArea area → IsWellCut t area → length p ≡ length area.lo → (Holds area p → ⊥) → with_leaf_at p change t area ≡ t
-kept_outside (Tip leaf) area p change h cut e outside = rw (failed_test area p h e outside)
+kept_outside (Tip leaf) area p change h cut e outside = rw (failed_test area p outside)
 kept_outside (Cut axis value left right) area p change h cut e outside =
     let below = kept_outside left (side_below area axis value) p change (IsArea-side_below area axis value h cut.0) cut.1 e (outside_below area axis value p h cut.0 outside) in
     let from = kept_outside right (side_from area axis value) p change (IsArea-side_from area axis value h cut.0) cut.2 (e ∙ sym (same-side_from area axis value)) (outside_from area axis value p cut.0 outside) in

@@ -1,10 +1,11 @@
 -- Records in rising order, by recursion: there and back, one of them for each point, and one list for the same records.
-use Rattle.std.proofs.Common.{◌≡◌, inl, inr, zero, suc, List, [], ◌∷◌, get_or, All, AllPairs, refl, sym, ap, ◌∙◌, arith}
+use Rattle.std.proofs.Common.{◌≡◌, inl, inr, List, [], ◌∷◌, get_or, All, AllPairs, refl, sym, ap, ◌∙◌}
 use Rattle.std.specs.List.{AllByRecursion, Contains}
 use Rattle.std.proofs.lemmas.Cmp.{nat_list_cmp_total}
-use Rattle.std.proofs.lemmas.List.Elements.{All-contains, All-from_recursion, All-head, All-tail, Contains-get_or}
+use Rattle.std.proofs.lemmas.List.Elements.{All-contains, All-from_recursion, All-head, All-tail, Contains-get_or, recursion_from_All}
 use Rattle.std.proofs.lemmas.List.Kept.{AllPairs-cons}
 use Rattle.hb_lemmas.proofs.Lists.{member_cases, no_member}
+use Rattle.hb_lemmas.proofs.Pairs.{pairs_first, pairs_rest, pairs_none}
 use Rattle.hb_space.proofs.Facts.PointOrder.{not_itself}
 use Rattle.hb_space.specs.declared.records.Record.{Record}
 use Rattle.hb_frag.specs.Rules.{Precedes}
@@ -18,19 +19,15 @@ pub ahead : (r : Record) (rest : List Record) → Rise (r ∷ rest) → All (Pre
 ahead r rest up = All-from_recursion (Precedes r) rest up.0
 
 pub in_front : (r : Record) (rest : List Record) → All (Precedes r) rest → Rise rest → Rise (r ∷ rest)
-in_front r rest all up = (each rest all, up)
-  where
-    each : (xs : List Record) → All (Precedes r) xs → AllByRecursion (Precedes r) xs
-    each [] all = tt
-    each (x ∷ xs) all = (All-head (Precedes r) x xs all, each xs (All-tail (Precedes r) x xs all))
+in_front r rest all up = (recursion_from_All (Precedes r) rest all, up)
 
 pub rising : (records : List Record) → Rise records → AllPairs Precedes records
-rising [] up = λ i j d less lt. absurd (omega (arith, lt))
+rising [] up = pairs_none Precedes
 rising (r ∷ rest) up = AllPairs-cons Precedes r rest (ahead r rest up) (rising rest up.1)
 
 pub rises : (records : List Record) → AllPairs Precedes records → Rise records
 rises [] pairs = tt
-rises (r ∷ rest) pairs = in_front r rest (λ k d lt. pairs zero (suc k) d (omega arith) (omega (arith, lt))) (rises rest (λ i j d low high. pairs (suc i) (suc j) d (omega (arith, low)) (omega (arith, high))))
+rises (r ∷ rest) pairs = in_front r rest (pairs_first Precedes r rest pairs) (rises rest (pairs_rest Precedes r rest pairs))
 
 -- of two records one doesn't come before the other both ways
 pub never_both_ways : (r s : Record) → Precedes r s → Precedes s r → ⊥

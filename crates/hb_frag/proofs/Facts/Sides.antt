@@ -10,10 +10,9 @@ use Rattle.hb_space.proofs.Facts.Boxes.{test-from_Holds, Holds-from_test, Holds-
 pub held_test : (a : Area) (p : List ℕ) → IsArea a → Holds a p → holds a p ≡ true
 held_test a p h in_box = test-from_Holds a p h in_box
 
-pub failed_test : (a : Area) (p : List ℕ) → IsArea a → length p ≡ length a.lo → (Holds a p → ⊥) → holds a p ≡ false
-failed_test a p h e outside =
-    let tells = Holds-from_test a p h e in
-    elim (holds a p) as (λ b. (b ≡ true → Holds a p) → b ≡ false) [ true ↦ λ held. absurd (outside (held refl)) | false ↦ λ held. refl ] tells
+pub failed_test : (a : Area) (p : List ℕ) → (Holds a p → ⊥) → holds a p ≡ false
+failed_test a p outside =
+    elim (holds a p) as (λ b. (b ≡ true → Holds a p) → b ≡ false) [ true ↦ λ held. absurd (outside (held refl)) | false ↦ λ held. refl ] (Holds-from_test a p)
 
 -- each side is a box of as many attributes
 pub IsArea-side_below : (a : Area) (axis value : ℕ) → IsArea a → Cuts a axis value → IsArea (side_below a axis value)

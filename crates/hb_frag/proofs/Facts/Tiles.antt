@@ -1,10 +1,9 @@
 -- The boxes of a tree's leaves part its box.
 use Rattle.std.proofs.Common.{◌≡◌, ℕ, zero, suc, ◌<◌, ◌⊎◌, inl, inr, ◌↔◌, true, false, cond, List, [], ◌∷◌, ◌++◌, length, get_or, map, Some, IsSome, refl, sym, ap, subst, ◌∙◌, arith}
 use Rattle.std.specs.List.{All, Any, AllPairs, Contains}
-use Rattle.std.proofs.lemmas.Bool.{and_parts}
 use Rattle.std.proofs.lemmas.List.{map-append}
 use Rattle.std.proofs.lemmas.List.Elements.{All-append}
-use Rattle.hb_space.specs.Boxes.{Area, IsArea, Holds, Within, Disjoint, holds, is_between, side_below, side_from}
+use Rattle.hb_space.specs.Boxes.{Area, IsArea, Holds, Within, Disjoint, holds, side_below, side_from}
 use Rattle.hb_space.proofs.Facts.Boxes.{Holds-side_below, Holds-side_from, side_cover, Holds-from_test, Within-from_points}
 use Rattle.hb_frag.specs.declared.leaves.Leaf.{Leaf}
 use Rattle.hb_frag.specs.Trees.{Tree, Tip, Cut}
@@ -119,24 +118,12 @@ tiles_attributes (Cut axis value left right) area =
     All-append (λ l. length l.area.lo ≡ length area.lo) (leaves_of left (side_below area axis value)) (leaves_of right (side_from area axis value)) below
     (λ k d lt. from k d lt ∙ same-side_from area axis value)
 
--- a test that a point passes says that it has as many attributes
-same_from_test : (lo hi p : List ℕ) → is_between lo hi p ≡ true → length p ≡ length lo
-same_from_test [] [] [] t = refl
-same_from_test [] [] (x ∷ xs) t = absurd (cc)
-same_from_test [] (g ∷ gs) p t = absurd (cc)
-same_from_test (l ∷ ls) [] p t = absurd (cc)
-same_from_test (l ∷ ls) (g ∷ gs) [] t = absurd (cc)
-same_from_test (l ∷ ls) (g ∷ gs) (x ∷ xs) t = ap suc (same_from_test ls gs xs (and_parts _ _ t).1)
-
-pub held_from_test : (a : Area) (p : List ℕ) → IsArea a → holds a p ≡ true → Holds a p
-held_from_test a p h t = Holds-from_test a p h (same_from_test a.lo a.hi p t) t
-
 -- the first leaf at a point is the one whose box holds it
 first_is : (xs : List Placed) (p : List ℕ) (w : Placed) → All (λ l. IsArea l.area) xs → first_at p xs ≡ Some w → Contains xs w × Holds w.area p
 first_is [] p w h e = absurd (cc)
 first_is (x ∷ xs) p w h e =
     let rest = first_is xs p w (λ k d lt. h (suc k) d (omega arith)) in
-    let here = held_from_test x.area p (h zero x (omega arith)) in
+    let here = Holds-from_test x.area p in
     elim (holds x.area p) as (λ b. (b ≡ true → Holds x.area p) → cond b (Some x) (first_at p xs) ≡ Some w → Contains (x ∷ xs) w × Holds w.area p) [
       | true ↦ λ here e.
           let same : x ≡ w = cc in
@@ -152,7 +139,7 @@ only_first (x ∷ xs) p w h apart zero lt e held =
     rw (held_test x.area p (h zero x (omega arith)) (subst P (sym e) held)) (ap Some e)
 only_first (x ∷ xs) p w h apart (suc k) lt e held =
     let rest = only_first xs p w (λ j d l. h (suc j) d (omega arith)) apart.1 k (omega arith) e held in
-    let here = held_from_test x.area p (h zero x (omega arith)) in
+    let here = Holds-from_test x.area p in
     let P : Placed → Type 0 = λ l. Holds l.area p in
     let later : SomeLeaf p xs = some_at p xs k w (omega arith) (subst P (sym e) held) in
     elim (holds x.area p) as (λ b. (b ≡ true → Holds x.area p) → cond b (Some x) (first_at p xs) ≡ Some w) [
@@ -171,7 +158,7 @@ some_first : (xs : List Placed) (p : List ℕ) → All (λ l. IsArea l.area) xs 
 some_first [] p h = (λ t. absurd (cc), λ w. absurd w)
 some_first (x ∷ xs) p h =
     let rest = some_first xs p (λ j d l. h (suc j) d (omega arith)) in
-    let here = held_from_test x.area p (h zero x (omega arith)) in
+    let here = Holds-from_test x.area p in
     let back = held_test x.area p (h zero x (omega arith)) in
     elim (holds x.area p) as (λ b. (b ≡ true → Holds x.area p) → (Holds x.area p → b ≡ true) → IsSome (cond b (Some x) (first_at p xs)) ↔ SomeLeaf p (x ∷ xs)) [
       | true ↦ λ here back. (λ t. inl (here refl), λ w. refl)

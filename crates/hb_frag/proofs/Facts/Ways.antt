@@ -1,7 +1,7 @@
 -- What one step down a cut says of the whole tree.
 use Rattle.std.proofs.Common.{◌≡◌, ℕ, ◌<◌, ◌≤◌, ◌-◌, ◌↔◌, List, [], ◌∷◌, ◌++◌, length, get_or, take, drop, Option, Some, None, IsSome, refl, sym, ap, subst, ◌∙◌, arith}
 use Rattle.std.specs.Option.{MatchOption}
-use Rattle.std.proofs.lemmas.List.{append_assoc}
+use Rattle.std.proofs.lemmas.List.{append_assoc, take_all}
 use denote.Bor.{Bor}
 use Rattle.hb_space.specs.Boxes.{Area, IsArea, Holds, side_below, side_from}
 use Rattle.hb_frag.specs.declared.leaves.Leaf.{Leaf}
@@ -14,16 +14,12 @@ use Rattle.hb_frag.proofs.Facts.NamesListed.{siblings-append, named_in_front, na
 use Rattle.hb_frag.proofs.Facts.Sides.{held_test, is_below, isnt_below}
 use Rattle.hb_frag.proofs.Facts.Points.{going_left, going_right}
 
-take_whole : (xs : List Side) → take (length xs) xs ≡ xs
-take_whole [] = refl
-take_whole (x ∷ xs) = ap (λ rest. x ∷ rest) (take_whole xs)
-
 -- steps of which this is the first one
 pub first_step : (d s : Side) (path : List Side) → 1 ≤ length path → get_or path 0 d ≡ s → path ≡ s ∷ take (length path - 1) (drop 1 path)
 first_step d s [] h e = absurd (omega arith)
 first_step d s (x ∷ xs) h e =
     let n : length (x ∷ xs) - 1 ≡ length xs = omega arith in
-    ap (λ y. y ∷ xs) e ∙ ap (λ rest. s ∷ rest) (sym (ap (λ k. take k xs) n ∙ take_whole xs))
+    ap (λ y. y ∷ xs) e ∙ ap (λ rest. s ∷ rest) (sym (ap (λ k. take k xs) n ∙ take_all (length xs) xs (omega arith)))
 
 pub no_step : (path : List Side) → length path < 1 → path ≡ []
 no_step [] h = refl

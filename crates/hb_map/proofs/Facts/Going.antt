@@ -1,14 +1,13 @@
 -- Pages that may all go stay such pages where another one comes that may.
-use Rattle.std.proofs.Common.{◌≡◌, ℕ, ◌≤◌, Bool, true, false, cond, List, [], ◌∷◌, length, nat_lt, Option, Some, refl, sym, ap, ◌∙◌, arith}
+use Rattle.std.proofs.Common.{◌≡◌, ℕ, true, false, cond, List, [], ◌∷◌, Option, Some, refl, sym, ap, ◌∙◌, arith}
 use Rattle.std.specs.List.{count_by, find}
 use Rattle.std.specs.Option.{is_some}
-use Rattle.std.specs.Set.{remove_key}
 use Rattle.std.proofs.lemmas.Bool.{eq-eqb, false≢true}
-use Rattle.std.proofs.lemmas.List.Sums.{sum_by-append, sum_by-cons}
+use Rattle.std.proofs.lemmas.List.Sums.{sum_by-append}
+use Rattle.hb_pool.proofs.Facts.Pooled.{room_fewer}
 use Rattle.hb_frag.specs.declared.pages.Page.{Page}
 use Rattle.hb_layout.specs.declared.meta.Meta.{Meta}
-use Rattle.hb_pool.specs.declared.pools.TheConstants.{FRAMES}
-use Rattle.hb_pool.specs.Frames.{Use, fresh, has_id, may_go, must_stay}
+use Rattle.hb_pool.specs.Frames.{Use, fresh, has_id, must_stay}
 use Rattle.hb_pool.specs.Pools.{brought, frame_of, with_room}
 use Rattle.hb_store.specs.Calls.{use_fetched}
 use Rattle.hb_store.specs.Fetching.{IsCrowdedOut}
@@ -16,27 +15,10 @@ use Rattle.hb_store.specs.Held.{IsTied}
 use Rattle.hb_store.specs.States.{IsNew, StoreState, in_memory}
 use Rattle.hb_map.specs.Mapping.{MayAllGo}
 
-fewer : (test : Use → Bool) (uses : List Use) → count_by must_stay (remove_key test uses) ≤ count_by must_stay uses
-fewer test [] = omega arith
-fewer test (u ∷ rest) =
-    let one = sum_by-cons (λ (u : Use). cond (must_stay u) 1 0) u rest in
-    let two = sum_by-cons (λ (u : Use). cond (must_stay u) 1 0) u (remove_key test rest) in
-    let less = fewer test rest in
-    elim (test u) as (λ b. count_by must_stay (cond b rest (u ∷ remove_key test rest)) ≤ count_by must_stay (u ∷ rest)) [
-      | true ↦ omega (arith, one)
-      | false ↦ omega (arith, one, two, less)
-    ]
-
-room_fewer : (uses : List Use) → count_by must_stay (with_room uses) ≤ count_by must_stay uses
-room_fewer uses = elim (nat_lt (length uses) FRAMES) as (λ b. count_by must_stay (cond b uses (remove_key may_go uses)) ≤ count_by must_stay uses) [
-  | true ↦ omega arith
-  | false ↦ fewer may_go uses
-]
-
 pub still_go : (id : ℕ) (uses : List Use) → MayAllGo uses → MayAllGo (use_fetched id uses)
 still_go id uses go =
     let both = sum_by-append (λ (u : Use). cond (must_stay u) 1 0) (with_room uses) (fresh id (tt {0}) false ∷ []) in
-    let less = room_fewer uses in
+    let less = room_fewer must_stay uses in
     let new : count_by must_stay (brought id (tt {0}) false uses) ≡ 0 = omega (arith, both, less, go) in
     elim (is_some (frame_of uses id)) as (λ b. MayAllGo (cond b uses (brought id (tt {0}) false uses))) [ true ↦ go | false ↦ new ]
 

@@ -1,8 +1,9 @@
 -- What is allowed of an operation, whatever it is: the page number that it takes, the highest page behind it, and the pages
 -- that it reads.
-use Rattle.std.proofs.Common.{◌≡◌, ◌≢◌, inl, inr, ℕ, ◌+◌, ◌≤◌, eqb, [], ◌∷◌, get_or, All, Option, Some, None, IsSome, refl, sym, subst, ◌∙◌, arith}
-use Rattle.std.proofs.lemmas.Bool.{cases_Bool, eqb-true, eqb-false}
+use Rattle.std.proofs.Common.{◌≡◌, ◌≢◌, inl, inr, ℕ, ◌+◌, ◌≤◌, eqb, [], ◌∷◌, get_or, All, Option, Some, None, IsSome, refl, sym, subst, ◌∙◌, arith, ◌<◌, length, ap}
+use Rattle.std.proofs.lemmas.Bool.{cases_Bool, eqb-true, eqb-false, cases_lt}
 use Rattle.std.proofs.lemmas.List.Elements.{All-cons, All-nil}
+use Rattle.std.proofs.lemmas.List.{get_or_past}
 use Rattle.hb_frag.specs.declared.pages.LivePage.{LivePage}
 use Rattle.hb_frag.specs.declared.pages.Page.{Page}
 use Rattle.hb_layout.specs.declared.meta.Meta.{Meta}
@@ -93,3 +94,10 @@ reads_some (Extract source fresh path cuts free_after) meta f h = one_read (Extr
 reads_some (Post parent at inner area) meta f h = one_read (Post parent at inner area) meta f (if_live (f 0)) (if_live (f 0)) parent (λ never. never) h
 reads_some (Merge parent keep gone) meta f h = three_read parent keep gone meta f (if_live (f parent)) (if_live (f keep)) (if_live (f gone)) refl refl refl h
 reads_some (Grow fresh free_after) meta f h = All-nil (λ (n : ℕ). IsSome (f n))
+
+-- pages that agree where it reads, and of which none has the number 0, are read alike
+pub reads_alike : (op : Op) (f g : ℕ → Option Page) → f 0 ≡ None → g 0 ≡ None → ((place : ℕ) → place < length (reads_of op) → f (get_or (reads_of op) place 0) ≡ g (get_or (reads_of op) place 0)) → (place : ℕ) → read_by f op place ≡ read_by g op place
+reads_alike op f g none nothing agree place = elim (cases_lt place (length (reads_of op))) [
+  | inl lt ↦ ap if_live (agree place lt)
+  | inr le ↦ subst (λ (n : ℕ). if_live (f n) ≡ if_live (g n)) (sym (get_or_past (reads_of op) place 0 le)) (ap if_live (none ∙ sym nothing))
+]

@@ -4,6 +4,7 @@ use Rattle.std.specs.List.{AllByRecursion}
 use Rattle.std.specs.FinMap as finite
 use Rattle.std.proofs.lemmas.List.Concat.{flat_map-append}
 use Rattle.std.proofs.lemmas.List.Elements.{recursion_from_All}
+use Rattle.std.proofs.lemmas.Option.{slice_get_within}
 use Rattle.hb_space.specs.Boxes.{Area}
 use Rattle.hb_space.specs.declared.records.Record.{Record}
 use Rattle.hb_frag.specs.declared.leaves.Leaf.{Leaf}
@@ -22,7 +23,7 @@ use Rattle.hb_ops.specs.LawsOfContents.{DelTakesOne, LonePage, OthersLack, PutAd
 use Rattle.hb_ops.proofs.Facts.Finds.{absent, contents, del_done, put_done, there}
 use Rattle.hb_lemmas.proofs.Lists.{whole}
 use Rattle.hb_ops.proofs.Pages.{Lack, stands_among}
-use Rattle.hb_ops.proofs.Facts.PageNumberLaws.{in_range, live_so, page_at-suc, place_of, with_page-there}
+use Rattle.hb_ops.proofs.Facts.PageNumberLaws.{live_so, page_at-suc, place_of, with_page-there}
 use Rattle.hb_ops.proofs.Facts.Tips.{LeafLacks, parted}
 
 -- the records of leaves that lack the point
@@ -63,7 +64,7 @@ around s id p page records area live level cut order leaf others =
           ∙ regrouped among.before (flat_map records_of at.before) records (flat_map records_of at.after) among.after;
       changed = λ change.
           ap (λ (n : ℕ). flat_map page_records (with_page n (Live (page_with p change page)) s.pages)) here.1
-          ∙ ap (flat_map page_records) (with_page-there s.pages here.0 (Live (page_with p change page)) (in_range s.pages here.0 (Live page) here.2))
+          ∙ ap (flat_map page_records) (with_page-there s.pages here.0 (Live (page_with p change page)) (slice_get_within s.pages here.0 (Live page) here.2))
           ∙ among.changed (Live (page_with p change page))
           ∙ ap (λ (rs : List Record). among.before ++ (rs ++ among.after)) (in_page (page_with p change page) level ∙ ap (flat_map records_of) (at.changed (on_records change)) ∙ flat_map-append records_of at.before (Records (change records) ∷ at.after))
           ∙ regrouped among.before (flat_map records_of at.before) (change records) (flat_map records_of at.after) among.after;
@@ -123,5 +124,5 @@ del_takes_one s id point allowed has others =
 pub lone_page : LonePage
 lone_page s point one other page ne e =
     let here = place_of s.pages other page e in
-    let lt = in_range s.pages here.0 page here.2 in
+    let lt = slice_get_within s.pages here.0 page here.2 in
     absurd (ne (omega (arith, here.1)))

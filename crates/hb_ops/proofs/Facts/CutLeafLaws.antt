@@ -8,7 +8,7 @@ use Rattle.hb_frag.specs.declared.leaves.Leaf.TheVariants.{Records, Sibling}
 use Rattle.hb_frag.specs.declared.paths.Side.{Side}
 use Rattle.hb_frag.specs.declared.paths.Side.TheVariants.{Left, Right}
 use Rattle.hb_frag.specs.Trees.{Tree, Tip}
-use Rattle.hb_frag.specs.Leaves.{Placed, IsWellCut, leaves_of}
+use Rattle.hb_frag.specs.Leaves.{Placed, IsWellCut, leaves_of, records_of}
 use Rattle.hb_frag.specs.Rules.{IsInOrder}
 use Rattle.hb_ops.specs.declared.leaf_cuts.LeafCut.{LeafCut}
 use Rattle.hb_ops.specs.Cutting.{PartLeaves, PartsLeaf, area_on, cut_through, cut_with, going, half_area, half_on, is_on, other_side, reached, staying}
@@ -29,10 +29,6 @@ pub record IsShareOf (old : List Placed) (x : Placed) : Type 0 where
 -- a leaf comes from old ones: it is one, or a share of one
 abbrev pub StemsFrom : List Placed → Placed → Type 0
 StemsFrom old x = Contains old x ⊎ IsShareOf old x
-
--- a leaf with records has these alone
-same_records : (xs ys : List Record) → Records ys ≡ Records xs → ys ≡ xs
-same_records xs ys e = cc
 
 -- what stems from a half of a leaf stems from the leaf
 from_records : (side : Side) (axis value : ℕ) (area : Area) (records : List Record) → Cuts area axis value → (x : Placed) → StemsFrom (placed (Records (filter (is_on side axis value) records)) (area_on side axis value area) ∷ []) x → StemsFrom (placed (Records records) area ∷ []) x
@@ -55,7 +51,7 @@ from_records side axis value area records cuts x stems =
         all = records;
         area = area;
         there = (zero, omega arith, refl);
-        some = λ r has. filter_has (is_on side axis value) records r (subst (λ (rs : List Record). Contains rs r) (same_records half w.all (sym (ap (λ (l : Placed). l.leaf) is))) (w.some r has));
+        some = λ r has. filter_has (is_on side axis value) records r (subst (λ (rs : List Record). Contains rs r) (ap (λ (l : Placed). records_of l.leaf) (sym is)) (w.some r has));
         in_order = λ h. w.in_order (subst IsInOrder is (half_in_order side axis value area records cuts h));
       })
     ]

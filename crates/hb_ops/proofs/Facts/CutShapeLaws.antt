@@ -11,6 +11,7 @@ use Rattle.hb_ops.specs.declared.leaf_cuts.LeafCut.{LeafCut}
 use Rattle.hb_ops.specs.Cutting.{PartLeaves, PartsLeaf, cut_through, cut_with, going, half_area, reached, staying}
 use Rattle.hb_ops.proofs.Facts.LeafHalfLaws.{both_halves}
 use Rattle.hb_frag.proofs.Facts.Parts.{weight_cut}
+use Rattle.hb_frag.proofs.Facts.CarvedKinds.{some_weight}
 
 -- a tree that is like none beside it
 abbrev pub LikeNone : Tree → Type 0
@@ -27,7 +28,7 @@ after_sibling : (name : ℕ) (other : Tree) → AreAlike (Tip (Sibling name)) ot
 after_sibling name other h = h
 
 -- nor is a cut
-before_cut : (a v : ℕ) (l r other : Tree) → AreAlike other (Cut a v l r) → ⊥
+pub before_cut : (a v : ℕ) (l r other : Tree) → AreAlike other (Cut a v l r) → ⊥
 before_cut a v l r (Tip (Records records)) h = h
 before_cut a v l r (Tip (Child page)) h = h
 before_cut a v l r (Tip (Sibling page)) h = h
@@ -78,13 +79,6 @@ pub weight_with : (side : Side) (axis value : ℕ) (on off : Tree) → weight_of
 weight_with Left axis value on off = weight_cut axis value on off
 weight_with Right axis value on off = let w = weight_cut axis value off on in omega (arith, w)
 
--- a tree weighs 1 at least
-pub weighs_some : (t : Tree) → 1 ≤ weight_of t
-weighs_some (Tip (Records records)) = omega arith
-weighs_some (Tip (Child page)) = omega arith
-weighs_some (Tip (Sibling page)) = omega arith
-weighs_some (Cut axis value left right) = let l = weighs_some left in let w = weight_cut axis value left right in omega (arith, l, w)
-
 -- both halves together weigh what the leaf weighs
 pub halves_weigh : (cut : LeafCut) (tree : Tree) (area : Area) → PartsLeaf cut tree area → weight_of (going cut tree) + weight_of (staying cut tree) ≡ weight_of tree
 halves_weigh cut tree area h =
@@ -96,7 +90,7 @@ halves_weigh cut tree area h =
 
 -- what stays is no heavier than the leaf
 pub through_weighs : (fresh : ℕ) (cuts : List LeafCut) (tree : Tree) (area : Area) → PartLeaves cuts tree area → weight_of (cut_through cuts tree (Tip (Sibling fresh))) ≤ weight_of tree
-through_weighs fresh [] tree area h = let some = weighs_some tree in omega (arith, some)
+through_weighs fresh [] tree area h = let some = some_weight tree in omega (arith, some)
 through_weighs fresh (cut ∷ cuts) tree area h =
     let rest = through_weighs fresh cuts (going cut tree) (half_area cut area) h.1 in
     let both = halves_weigh cut tree area h.0 in

@@ -2,24 +2,23 @@
 use Rattle.std.proofs.Common.{◌≡◌, ◌≢◌, inl, inr, ℕ, zero, suc, ◌+◌, ◌-◌, ◌<◌, ◌≤◌, max, true, false, cond, eqb, List, [], ◌∷◌, ◌++◌, length, set, Contains, Option, Some, None, IsSome, refl, sym, ap, subst, ◌∙◌, arith, length-append}
 use Rattle.std.proofs.Math.ListN.{length-set}
 use Rattle.std.proofs.lemmas.Bool.{cases_lt, eqb-true, eqb-false, ne_eqb}
+use Rattle.std.proofs.lemmas.Option.{none-some}
 use Rattle.hb_frag.specs.declared.pages.Page.{Page}
 use Rattle.hb_frag.specs.declared.pages.Page.TheVariants.{Live, Free}
 use Rattle.hb_ops.specs.Files.{FileState, last_of, page_at, page_of}
 use Rattle.hb_ops.specs.Operations.{with_page}
 use Rattle.hb_ops.specs.Sound.{IsChain, IsSound, count_live}
-use Rattle.hb_ops.proofs.Facts.PageNumberLaws.{get-set_other, get-set_same, page_at-suc, page_at-zero, with_page-behind, with_page-there}
+use Rattle.hb_ops.proofs.Facts.PageNumberLaws.{page_at-suc, page_at-zero, with_page-behind, with_page-there}
 use Rattle.hb_lemmas.proofs.Lists.{get-push_last, get-push_other}
+use Rattle.hb_space.proofs.Facts.Lists.{get-set_other, get-set_same}
 
 -- ---- numbers
 
-no_page : {p : Page} → None ≡ Some p → ⊥
-no_page e = absurd cc
-
 pub page_in_range : (pages : List Page) (id : ℕ) (p : Page) → page_at pages id ≡ Some p → (1 ≤ id) × (id ≤ length pages)
-page_in_range [] id p e = absurd (no_page e)
+page_in_range [] id p e = absurd (none-some p e)
 page_in_range (x ∷ xs) id p e =
     elim (eqb id 0) as (λ b. eqb id 0 ≡ b → cond b None (cond (eqb id 1) (Some x) (page_at xs (id - 1))) ≡ Some p → (1 ≤ id) × (id ≤ length (x ∷ xs))) [
-      | true ↦ λ here found. absurd (no_page found)
+      | true ↦ λ here found. absurd (none-some p found)
       | false ↦ λ some found. elim (eqb id 1) as (λ b. eqb id 1 ≡ b → cond b (Some x) (page_at xs (id - 1)) ≡ Some p → (1 ≤ id) × (id ≤ length (x ∷ xs))) [
         | true ↦ λ one _. let e : id ≡ 1 = eqb-true id 1 one in (omega (arith, e), omega (arith, e))
         | false ↦ λ more behind. let in_rest = page_in_range xs (id - 1) p behind in (omega (arith, in_rest.0), omega (arith, in_rest.0, in_rest.1))

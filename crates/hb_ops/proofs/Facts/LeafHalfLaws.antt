@@ -1,10 +1,11 @@
 -- A records leaf that a plane parts: each half lies in its side of the box and in order, and both together have its records.
-use Rattle.std.proofs.Common.{◌≡◌, ℕ, zero, suc, ◌+◌, ◌-◌, ◌<◌, ◌⊎◌, inl, inr, Bool, true, false, not, List, [], ◌∷◌, length, get_or, set, filter, refl, sym, ap, ◌∙◌, arith}
+use Rattle.std.proofs.Common.{◌≡◌, ℕ, zero, suc, ◌+◌, ◌-◌, ◌<◌, ◌⊎◌, inl, inr, true, List, [], ◌∷◌, length, get_or, set, filter, refl, sym, ap, ◌∙◌, arith}
 use Rattle.std.proofs.lemmas.Bool.{ltb-false, ltb-true, not-true}
 use Rattle.std.proofs.lemmas.List.{length-set}
 use Rattle.std.proofs.lemmas.List.Elements.{All-filter, filter_passes}
 use Rattle.std.proofs.lemmas.List.Filters.{length-filter_both}
 use Rattle.std.proofs.lemmas.List.Kept.{AllPairs-filter}
+use Rattle.hb_lemmas.proofs.Booleans.{twice_not}
 use Rattle.hb_space.specs.Boxes.{Area, Cuts, Holds}
 use Rattle.hb_space.specs.declared.records.Record.{Record}
 use Rattle.hb_frag.specs.declared.leaves.Leaf.TheVariants.{Records}
@@ -59,12 +60,7 @@ half_in_order side axis value a records cuts h = record {
   rising = AllPairs-filter Precedes (is_on side axis value) records h.rising;
 }
 
--- each record lies on one side
-twice_not : (b : Bool) → b ≡ not (not b)
-twice_not true = refl
-twice_not false = refl
-
--- so both halves have as many records as the leaf
+-- each record lies on one side, so both halves have as many as the leaf
 pub both_halves : (side : Side) (axis value : ℕ) (records : List Record) → length (filter (is_on side axis value) records) + length (filter (is_on (other_side side) axis value) records) ≡ length records
 both_halves Left axis value records = length-filter_both (is_on Left axis value) (is_on Right axis value) (λ r. refl) records
 both_halves Right axis value records = length-filter_both (is_on Right axis value) (is_on Left axis value) (λ r. twice_not (is_on Left axis value r)) records

@@ -5,6 +5,7 @@ use Rattle.std.specs.Prelude.{slice_index}
 use Rattle.std.specs.Ordering.{is_lt, is_gt, is_ne}
 use Rattle.std.proofs.lemmas.List.Sums.{sum_by-append}
 use Rattle.std.proofs.lemmas.List.Elements.{All-append, All-cons, All-filter, All-head, All-nil, All-tail}
+use Rattle.std.proofs.lemmas.Option.{same_Some}
 use Rattle.hb_space.specs.Boxes.{Area, holds, side_below, side_from}
 use Rattle.hb_space.specs.Points.{point_cmp}
 use Rattle.hb_space.specs.declared.records.Record.{Record}
@@ -14,7 +15,7 @@ use Rattle.hb_frag.specs.declared.paths.Side.{Side}
 use Rattle.hb_frag.specs.declared.paths.Side.TheVariants.{Left, Right}
 use Rattle.hb_frag.specs.Trees.{Tree, Tip, Cut}
 use Rattle.hb_frag.specs.Leaves.{leaf_weight, leaves, with_leaf_at}
-use Rattle.hb_frag.specs.Paths.{part_at, with_part}
+use Rattle.hb_frag.specs.Paths.{part_at}
 use Rattle.hb_frag.specs.Renaming.{renamed, renamed_leaf}
 use Rattle.hb_frag.specs.Carving.{carve_above, carve_below, carve_from}
 use Rattle.hb_frag.specs.Normal.{in_point_order, normal, one_leaf_or_cut, with_record_in_order}
@@ -88,23 +89,11 @@ without_fit k point records all = All-filter (λ (r : Record). is_ne (point_cmp 
 -- ---- a part, and another one in its place
 
 pub fit_part : (k : ℕ) (path : List Side) (tree : Tree) (area : Area) (part : Tree × Area) → part_at path tree area ≡ Some part → AllFit k tree → AllFit k part.0
-fit_part k [] tree area part there fit = let same : tree ≡ part.0 = first_is (tree, area) part there in subst (AllFit k) same fit
-  where
-    first_is : (x y : Tree × Area) → Some x ≡ Some y → x.0 ≡ y.0
-    first_is x y e = let same : x ≡ y = cc in ap (λ (z : Tree × Area). z.0) same
+fit_part k [] tree area part there fit = let same : tree ≡ part.0 = ap (λ (x : Tree × Area). x.0) (same_Some (tree, area) part there) in subst (AllFit k) same fit
 fit_part k (Left ∷ path) (Cut axis value left right) area part there fit = fit_part k path left (side_below area axis value) part there (All-front (FitsIn k) (leaves left) (leaves right) fit)
 fit_part k (Right ∷ path) (Cut axis value left right) area part there fit = fit_part k path right (side_from area axis value) part there (All-behind (FitsIn k) (leaves left) (leaves right) fit)
 fit_part k (Left ∷ path) (Tip leaf) area part there fit = absurd cc
 fit_part k (Right ∷ path) (Tip leaf) area part there fit = absurd cc
-
-pub fit_with_part : (k : ℕ) (path : List Side) (tree other : Tree) → AllFit k tree → AllFit k other → AllFit k (with_part path tree other)
-fit_with_part k [] tree other fit new = new
-fit_with_part k (Left ∷ path) (Cut axis value left right) other fit new =
-    All-append (FitsIn k) (leaves (with_part path left other)) (leaves right) (fit_with_part k path left other (All-front (FitsIn k) (leaves left) (leaves right) fit) new) (All-behind (FitsIn k) (leaves left) (leaves right) fit)
-fit_with_part k (Right ∷ path) (Cut axis value left right) other fit new =
-    All-append (FitsIn k) (leaves left) (leaves (with_part path right other)) (All-front (FitsIn k) (leaves left) (leaves right) fit) (fit_with_part k path right other (All-behind (FitsIn k) (leaves left) (leaves right) fit) new)
-fit_with_part k (Left ∷ path) (Tip leaf) other fit new = fit
-fit_with_part k (Right ∷ path) (Tip leaf) other fit new = fit
 
 -- ---- names that are exchanged
 

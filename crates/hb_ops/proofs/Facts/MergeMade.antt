@@ -22,7 +22,8 @@ use Rattle.hb_ops.specs.Merging.{FitsMerge, kept_page, parent_page, taken_over}
 use Rattle.hb_ops.specs.Sound.{FitsFile}
 use Rattle.hb_ops.proofs.Facts.PathLaws.{well_cut_again, with_own}
 use Rattle.hb_ops.proofs.Facts.StemLaws.{PartLaws}
-use Rattle.hb_ops.proofs.PostMade.{JoinLaws, normal_own, order_above, with_leaves}
+use Rattle.hb_ops.proofs.PostMade.{JoinLaws, order_above}
+use Rattle.hb_ops.proofs.Facts.JoinedParts.{normal_own, with_leaves}
 
 -- what holds of the placed leaves of a tree and of a part holds where the part stands in the tree
 with_places : PartLaws → (P : Placed → Type 0) (path : List Side) (t : Tree) (area : Area) (w : Tree × Area) (other : Tree) → part_at path t area ≡ Some w → All P (leaves_of t area) → All P (leaves_of other w.1) → All P (leaves_of (with_part path t other) area)
@@ -46,7 +47,7 @@ renamed_kinds old new level (Cut axis value left right) h =
     All-append (BelongsAt level) (leaves (renamed old new left)) (leaves (renamed old new right)) (renamed_kinds old new level left both.0) (renamed_kinds old new level right both.1)
 
 -- and is a sibling leaf only where it was one
-renamed_own : (old new : ℕ) (t : Tree) → IsSiblingTip (renamed old new t) → IsSiblingTip t
+pub renamed_own : (old new : ℕ) (t : Tree) → IsSiblingTip (renamed old new t) → IsSiblingTip t
 renamed_own old new (Tip (Records records)) lone = lone
 renamed_own old new (Tip (Child page)) lone = lone
 renamed_own old new (Tip (Sibling page)) lone = lone

@@ -13,9 +13,9 @@ use Rattle.hb_frag.specs.Trees.{Tree, Tip, Cut}
 use Rattle.hb_frag.specs.Leaves.{IsWellCut, Placed, WellCut, first_at, leaf_at, leaf_weight, leaves_of, records_of, weight_of, with_leaf_at}
 use Rattle.hb_frag.specs.Paths.{StaysInside, way_to}
 use Rattle.hb_frag.specs.Rules.{AreInOrder, IsInOrder, Precedes, capacity_of}
+use Rattle.hb_frag.proofs.Facts.OrderedLeaves.{sides_apart}
 use Rattle.hb_layout.specs.declared.meta.Meta.{Meta}
 use Rattle.hb_ops.specs.Recording.{HasGap, HasPlace, IsAt, IsGapFor, IsOpenAt, FitsDel, FitsPut, joined, on_records, page_with, put_page}
-use Rattle.hb_ops.proofs.Boxes.{apart}
 use Rattle.hb_ops.proofs.Facts.Places.{gap_lacks, joined_at, place_has}
 use Rattle.hb_ops.proofs.Facts.Tips.{first_append, first_held, parted, tip_at, unchanged}
 
@@ -30,7 +30,7 @@ first_has P p (x ∷ xs) placed e all = elim (holds x.area p) as (λ b. cond b (
 pub rising_at : (page : LivePage) (p : List ℕ) (records : List Record) (area : Area) → AreInOrder page → leaf_at page p ≡ Some (record { leaf = Records records; area = area }) → AllPairs Precedes records
 rising_at page p records area order e = (first_has IsInOrder p (leaves_of page.frag page.area) (record { leaf = Records records; area = area }) e order).rising
 
-abbrev placed_records : Option Placed → List Record
+abbrev pub placed_records : Option Placed → List Record
 placed_records None = []
 placed_records (Some placed) = records_of placed.leaf
 
@@ -146,12 +146,12 @@ same_change p f g (Cut axis value left right) area placed cut e same =
     let from = side_from area axis value in
     elim (first_append p (leaves_of left below) (leaves_of right from) placed e) [
       | inl l ↦
-          let out : ¬ (Holds from p) = λ h. apart area axis value p cut.0 (first_held p left below placed cut.1 l) h in
+          let out : ¬ (Holds from p) = λ h. sides_apart area axis value p cut.0 (first_held p left below placed cut.1 l) h in
           let one = same_change p f g left below placed cut.1 l same in
           let other : with_leaf_at p f right from ≡ with_leaf_at p g right from = unchanged p f right from cut.2 out ∙ sym (unchanged p g right from cut.2 out) in
           λ i. Cut axis value (one i) (other i)
       | inr r ↦
-          let out : ¬ (Holds below p) = λ h. apart area axis value p cut.0 h (first_held p right from placed cut.2 r) in
+          let out : ¬ (Holds below p) = λ h. sides_apart area axis value p cut.0 h (first_held p right from placed cut.2 r) in
           let one : with_leaf_at p f left below ≡ with_leaf_at p g left below = unchanged p f left below cut.1 out ∙ sym (unchanged p g left below cut.1 out) in
           let other = same_change p f g right from placed cut.2 r same in
           λ i. Cut axis value (one i) (other i)

@@ -1,5 +1,5 @@
 -- The pages of a file by their numbers.
-use Rattle.std.proofs.Common.{◌≡◌, ◌≢◌, ℕ, zero, suc, ◌+◌, ◌-◌, ◌<◌, ◌==◌, Bool, cond, List, [], ◌∷◌, ◌++◌, length, set, slice_get, Option, Some, None, refl, sym, ap, ◌∙◌, arith, ne_eqb, lt-ltb, le-ltb, nat_lt}
+use Rattle.std.proofs.Common.{◌≡◌, ℕ, zero, suc, ◌+◌, ◌-◌, ◌<◌, ◌==◌, Bool, cond, List, [], ◌∷◌, ◌++◌, length, set, slice_get, Option, Some, None, refl, sym, ap, ◌∙◌, arith, ne_eqb, lt-ltb, le-ltb, nat_lt}
 use Rattle.std.proofs.lemmas.Bool.{eq-eqb}
 use Rattle.hb_frag.specs.declared.pages.LivePage.{LivePage}
 use Rattle.hb_frag.specs.declared.pages.Page.{Page}
@@ -26,25 +26,6 @@ page_at-suc (page ∷ rest) (suc n) =
 pub place_of : (pages : List Page) (id : ℕ) (page : Page) → page_at pages id ≡ Some page → (n : ℕ) × (id ≡ suc n) × (slice_get pages n ≡ Some page)
 place_of pages zero page e = let none = page_at-zero pages in cc
 place_of pages (suc n) page e = (n, refl, sym (page_at-suc pages n) ∙ e)
-
--- a place with a page is in range
-pub in_range : (pages : List Page) (n : ℕ) (page : Page) → slice_get pages n ≡ Some page → n < length pages
-in_range [] n page e = cc
-in_range (x ∷ xs) zero page e = omega arith
-in_range (x ∷ xs) (suc n) page e = let rest = in_range xs n page e in omega arith
-
--- a list with another page at a place has that one there, and elsewhere what it had
-pub get-set_same : (pages : List Page) (n : ℕ) (new : Page) → n < length pages → slice_get (set pages n new) n ≡ Some new
-get-set_same [] n new lt = absurd (omega arith)
-get-set_same (x ∷ xs) zero new lt = refl
-get-set_same (x ∷ xs) (suc n) new lt = get-set_same xs n new (omega arith)
-
-pub get-set_other : (pages : List Page) (n m : ℕ) (new : Page) → m ≢ n → slice_get (set pages n new) m ≡ slice_get pages m
-get-set_other [] n m new ne = refl
-get-set_other (x ∷ xs) zero zero new ne = absurd (ne refl)
-get-set_other (x ∷ xs) zero (suc m) new ne = refl
-get-set_other (x ∷ xs) (suc n) zero new ne = refl
-get-set_other (x ∷ xs) (suc n) (suc m) new ne = get-set_other xs n m new (λ e. ne (ap suc e))
 
 -- another page at the place of one that is there
 pub with_page-there : (pages : List Page) (n : ℕ) (new : Page) → n < length pages → with_page (suc n) new pages ≡ set pages n new

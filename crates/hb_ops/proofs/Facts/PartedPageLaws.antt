@@ -9,13 +9,14 @@ use Rattle.hb_frag.specs.Trees.{Tree, Tip}
 use Rattle.hb_frag.specs.Leaves.{Placed, leaves_of, weight_of}
 use Rattle.hb_frag.specs.Paths.{part_at, with_part}
 use Rattle.hb_frag.specs.Rules.{BelongsAt, IsInOrder, IsSiblingTip}
+use Rattle.hb_frag.proofs.Facts.CarvedKinds.{some_weight}
 use Rattle.hb_layout.specs.declared.meta.Meta.{Meta}
 use Rattle.hb_ops.specs.Sound.{FitsFile}
 use Rattle.hb_ops.specs.Extracting.{FitsPart, fresh_page, source_page}
 use Rattle.hb_ops.specs.declared.leaf_cuts.LeafCut.{LeafCut}
 use Rattle.hb_ops.specs.Cutting.{cut_through}
 use Rattle.hb_ops.proofs.Facts.CutLeafLaws.{reached_attributes, reached_well_cut, through_well_cut}
-use Rattle.hb_ops.proofs.Facts.CutShapeLaws.{not_lone_end, reached_normal, reached_weighs, through_like_none, through_normal, through_weighs, weighs_some}
+use Rattle.hb_ops.proofs.Facts.CutShapeLaws.{not_lone_end, reached_normal, reached_weighs, through_like_none, through_normal, through_weighs}
 use Rattle.hb_ops.proofs.Facts.PathLaws.{not_lone_again, normal_again, part_has, well_cut_again}
 use Rattle.hb_lemmas.proofs.Lists.{each_member}
 use Rattle.hb_ops.proofs.Facts.PlacedLaws.{each_leaf}
@@ -33,7 +34,7 @@ module _ (laws : PartLaws) (meta : Meta) (fresh_id : ℕ) (path : List Side) (cu
   part_light : weight_of part.0 ≤ weight_of page.frag
   part_light =
       let w = laws.weight path page.frag page.area part (Tip (Sibling 0)) fits.there in
-      let some = weighs_some (with_part path page.frag (Tip (Sibling 0))) in
+      let some = some_weight (with_part path page.frag (Tip (Sibling 0))) in
       let one : weight_of (Tip (Sibling 0)) ≡ 1 = refl in
       omega (arith, w, some, one)
 

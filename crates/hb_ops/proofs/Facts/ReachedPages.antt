@@ -6,8 +6,9 @@ use Rattle.hb_frag.specs.declared.pages.Page.{Page}
 use Rattle.hb_ops.specs.Files.{page_at}
 use Rattle.hb_ops.specs.Operations.{with_page, with_changed_pages}
 use Rattle.hb_ops.specs.SetPages.{set_pages}
-use Rattle.hb_ops.proofs.Facts.SetPages.{set_one-same, set_one-other, set_pages-same}
+use Rattle.hb_ops.proofs.Facts.SetPages.{set_pages-same}
 use Rattle.hb_ops.proofs.Facts.FilePages.{HasSet, sets_page}
+use Rattle.hb_lemmas.proofs.Booleans.{at_same, at_other}
 
 -- ---- several pages, one after the other
 
@@ -31,10 +32,10 @@ module _ (one : ℕ × Page) (rest : List (ℕ × Page)) (file : List Page) (rea
   one_at q = elim (cases_Bool (q == one.0)) [
     | inl here ↦
         let same : q ≡ one.0 = eqb-true q one.0 here in
-        ap (page_at (with_page one.0 one.1 file)) same ∙ first_set.there ∙ sym (set_one-same (page_at file) one.0 one.1 q same)
+        ap (page_at (with_page one.0 one.1 file)) same ∙ first_set.there ∙ sym (at_same q one.0 (Some one.1) (page_at file q) same)
     | inr off ↦
         let ne : q ≢ one.0 = eqb-false q one.0 off in
-        first_set.others q ne ∙ sym (set_one-other (page_at file) one.0 one.1 q ne)
+        first_set.others q ne ∙ sym (at_other q one.0 (Some one.1) (page_at file q) ne)
   ]
 
 pub pages_set : (pages : List (ℕ × Page)) (file : List Page) → All (Reaches (length file)) pages → (q : ℕ) → page_at (with_changed_pages pages file) q ≡ set_pages pages (page_at file) q

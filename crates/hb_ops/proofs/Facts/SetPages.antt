@@ -1,20 +1,10 @@
 -- Pages by their numbers: what setting one of them makes of touched pages.
-use Rattle.std.proofs.Common.{◌≡◌, ◌≢◌, inl, inr, ℕ, ◌==◌, Bool, true, false, cond, List, [], ◌∷◌, All, Option, Some, refl, sym, ap, ◌∙◌, subst, ne_eqb}
-use Rattle.std.proofs.Math.Dec.{eqb}
+use Rattle.std.proofs.Common.{◌≡◌, inl, inr, ℕ, ◌==◌, Bool, true, false, cond, List, [], ◌∷◌, All, Option, Some, refl, sym, ap, ◌∙◌, subst}
 use Rattle.std.proofs.lemmas.Bool.{cases_Bool, eqb-true, eqb-false, or_parts}
 use Rattle.hb_frag.specs.declared.pages.Page.{Page}
 use Rattle.hb_ops.specs.SetPages.{set_pages, has_page}
 use Rattle.std.proofs.lemmas.List.Elements.{All-head, All-tail}
-
--- what is found under a number once another page is set under one
-pub set_one-same : (page : ℕ → Option Page) (id : ℕ) (new : Page) (q : ℕ) → q ≡ id → cond (q == id) (Some new) (page q) ≡ Some new
-set_one-same page id new q e = ap (λ (b : Bool). cond b (Some new) (page q)) (eqb-same q id e)
-  where
-    eqb-same : (a b : ℕ) → a ≡ b → eqb a b ≡ true
-    eqb-same a b e = elim (cases_Bool (eqb a b)) [ inl here ↦ here | inr other ↦ absurd (eqb-false a b other e) ]
-
-pub set_one-other : (page : ℕ → Option Page) (id : ℕ) (new : Page) (q : ℕ) → q ≢ id → cond (q == id) (Some new) (page q) ≡ page q
-set_one-other page id new q ne = ap (λ (b : Bool). cond b (Some new) (page q)) (ne_eqb q id ne)
+use Rattle.hb_lemmas.proofs.Booleans.{at_same, at_other}
 
 -- a page that isn't one of those that were set is as before
 pub set_not : (pages : List (ℕ × Page)) (f : ℕ → Option Page) (q : ℕ) → has_page q pages ≡ false → set_pages pages f q ≡ f q
@@ -38,10 +28,10 @@ all_set P (one ∷ rest) f set others q page e =
     (λ r other is. elim (cases_Bool (r == one.0)) [
       | inl here ↦
           let same : r ≡ one.0 = eqb-true r one.0 here in
-          let page_is : Some one.1 ≡ Some other = sym (set_one-same f one.0 one.1 r same) ∙ is in
+          let page_is : Some one.1 ≡ Some other = sym (at_same r one.0 (Some one.1) (f r) same) ∙ is in
           let page_same : one.1 ≡ other = cc in
           subst (λ (n : ℕ). P n other) (sym same) (subst (λ (p : Page). P one.0 p) page_same (All-head C one rest set))
-      | inr off ↦ others r other (sym (set_one-other f one.0 one.1 r (eqb-false r one.0 off)) ∙ is)
+      | inr off ↦ others r other (sym (at_other r one.0 (Some one.1) (f r) (eqb-false r one.0 off)) ∙ is)
     ]) q page e
 
 -- pages that others have too are so once the same were set in both

@@ -2,14 +2,15 @@
 use Rattle.std.proofs.Common.{◌≡◌, ◌≢◌, ℕ, Bool, true, false, cond, IsTrue, List, [], ◌∷◌, ◌++◌, Some, None, refl, sym, ap, subst, ◌∙◌, ◌⊎◌, inl, inr, append_assoc}
 use Rattle.std.specs.List.{AllByRecursion}
 use Rattle.std.proofs.lemmas.List.Elements.{recursion_from_All}
-use Rattle.hb_frag.proofs.Facts.OrderedLeaves.{held_below}
+use Rattle.hb_frag.proofs.Facts.OrderedLeaves.{held_below, sides_apart}
 use Rattle.hb_space.specs.Boxes.{Area, Holds, holds, side_below, side_from}
 use Rattle.hb_space.specs.declared.records.Record.{Record}
+use Rattle.hb_space.proofs.Facts.Boxes.{Holds-from_test, Holds-side_from}
 use Rattle.hb_frag.specs.declared.leaves.Leaf.{Leaf}
 use Rattle.hb_frag.specs.Trees.{Tree, Tip, Cut}
 use Rattle.hb_frag.specs.Leaves.{Placed, IsWellCut, first_at, leaves, leaves_of, records_of, with_leaf_at}
 use Rattle.hb_frag.specs.Rules.{IsInOrder}
-use Rattle.hb_ops.proofs.Boxes.{apart, held, in_from, not_held}
+use Rattle.hb_frag.proofs.Facts.Sides.{failed_test}
 use Rattle.hb_lemmas.proofs.Lists.{parts, whole}
 
 -- no record of the leaf has the point
@@ -35,19 +36,19 @@ tip_at p leaf area placed e =
 
 -- the point of a leaf lies in the box of the tree
 pub first_held : (p : List ℕ) (tree : Tree) (area : Area) (placed : Placed) → IsWellCut tree area → first_at p (leaves_of tree area) ≡ Some placed → Holds area p
-first_held p (Tip leaf) area placed cut e = held area p (tip_at p leaf area placed e).0
+first_held p (Tip leaf) area placed cut e = Holds-from_test area p (tip_at p leaf area placed e).0
 first_held p (Cut axis value left right) area placed cut e =
     elim (first_append p (leaves_of left (side_below area axis value)) (leaves_of right (side_from area axis value)) placed e) [
       | inl l ↦ (held_below area axis value p cut.0 (first_held p left (side_below area axis value) placed cut.1 l)).0
-      | inr r ↦ (in_from area axis value p cut.0 (first_held p right (side_from area axis value) placed cut.2 r)).0
+      | inr r ↦ ((Holds-side_from area axis value p cut.0).0 (first_held p right (side_from area axis value) placed cut.2 r)).0
     ]
 
 -- a tree outside whose box the point lies stays
 pub unchanged : (p : List ℕ) (change : Leaf → Leaf) (tree : Tree) (area : Area) → IsWellCut tree area → ¬ (Holds area p) → with_leaf_at p change tree area ≡ tree
-unchanged p change (Tip leaf) area cut out = ap (λ (b : Bool). Tip (cond b (change leaf) leaf)) (not_held area p out)
+unchanged p change (Tip leaf) area cut out = ap (λ (b : Bool). Tip (cond b (change leaf) leaf)) (failed_test area p out)
 unchanged p change (Cut axis value left right) area cut out =
     let l = unchanged p change left (side_below area axis value) cut.1 (λ h. out (held_below area axis value p cut.0 h).0) in
-    let r = unchanged p change right (side_from area axis value) cut.2 (λ h. out (in_from area axis value p cut.0 h).0) in
+    let r = unchanged p change right (side_from area axis value) cut.2 (λ h. out ((Holds-side_from area axis value p cut.0).0 h).0) in
     λ i. Cut axis value (l i) (r i)
 
 -- and none of its records has the point
@@ -61,7 +62,7 @@ lacks p (Cut axis value left right) area cut order out =
     let both = parts IsInOrder (leaves_of left (side_below area axis value)) (leaves_of right (side_from area axis value)) order in
     whole (LeafLacks p) (leaves left) (leaves right)
     (lacks p left (side_below area axis value) cut.1 both.0 (λ h. out (held_below area axis value p cut.0 h).0))
-    (lacks p right (side_from area axis value) cut.2 both.1 (λ h. out (in_from area axis value p cut.0 h).0))
+    (lacks p right (side_from area axis value) cut.2 both.1 (λ h. out ((Holds-side_from area axis value p cut.0).0 h).0))
 
 -- The leaves from the left are some, the one at the point, and some: a change there changes that one. Where records lie
 -- in the boxes of their leaves, no other leaf has the point.
@@ -91,7 +92,7 @@ parted p (Cut axis value left right) area placed cut e =
     elim (first_append p (leaves_of left below) (leaves_of right from) placed e) [
       | inl l ↦
           let there = parted p left below placed cut.1 l in
-          let out : ¬ (Holds from p) = λ h. apart area axis value p cut.0 (first_held p left below placed cut.1 l) h in
+          let out : ¬ (Holds from p) = λ h. sides_apart area axis value p cut.0 (first_held p left below placed cut.1 l) h in
           record {
             before = there.before;
             after = there.after ++ leaves right;
@@ -107,7 +108,7 @@ parted p (Cut axis value left right) area placed cut e =
           }
       | inr r ↦
           let there = parted p right from placed cut.2 r in
-          let out : ¬ (Holds below p) = λ h. apart area axis value p cut.0 h (first_held p right from placed cut.2 r) in
+          let out : ¬ (Holds below p) = λ h. sides_apart area axis value p cut.0 h (first_held p right from placed cut.2 r) in
           record {
             before = leaves left ++ there.before;
             after = there.after;

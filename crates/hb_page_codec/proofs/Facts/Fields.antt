@@ -2,7 +2,7 @@
 use Rattle.std.proofs.Common.{◌≡◌, ℕ, zero, suc, ◌+◌, ◌*◌, ◌^◌, ◌<◌, ◌≤◌, false, cond, ltb, List, [], ◌∷◌, ◌++◌, length, take, drop, All, Option, Some, None, refl, sym, ap, subst, ◌∙◌, append_assoc, arith, inl, inr}
 use Rattle.std.specs.List.{flat_map, AllByRecursion}
 use Rattle.std.proofs.lemmas.Bool.{cases_lt, ltb-false, le-ltb, lt-ltb, ltb-true}
-use Rattle.std.proofs.lemmas.List.{take_at, drop_at, take-append-drop, length-append, length-take, get_or-drop, get_or-take, get_or_past}
+use Rattle.std.proofs.lemmas.List.{take_at, drop_at, take-append-drop, length-append, length-take, get_or-drop, get_or-take, get_or_past, length-take-le}
 use Rattle.std.proofs.lemmas.List.Concat.{flat_map-cons}
 use Rattle.std.proofs.lemmas.List.Elements.{All-from_recursion, recursion_from_All, All-from_get_or}
 use Rattle.std.proofs.lemmas.Option.{some_pair_parts, same_Some}
@@ -86,15 +86,12 @@ wide_8 = record {
   below = λ bytes fits. omega (arith, fits 0, fits 1, fits 2, fits 3, fits 4, fits 5, fits 6, fits 7);
 }
 
-split_off : (width : ℕ) (bytes : List ℕ) → width ≤ length bytes → length (take width bytes) ≡ width
-split_off width bytes le = omega (arith, length-take width bytes)
-
 -- a number reads no byte behind it
 front_alone : (width limit : ℕ) → IsWide width limit → (bytes : List ℕ) → width ≤ length bytes → AreBytes bytes → big_number width bytes ≡ big_number width (take width bytes)
 front_alone width limit wide bytes le fits =
     let front = take width bytes in
     let n = big_number width front in
-    let back = wide.back front (split_off width bytes le) (AreBytes-take width bytes fits) in
+    let back = wide.back front (length-take-le width bytes le) (AreBytes-take width bytes fits) in
     let small : n < 256 ^ width = rw wide.whole (wide.below front (AreBytes-take width bytes fits)) in
     ap (big_number width) (sym (take-append-drop width bytes) ∙ ap (λ (x : List ℕ). x ++ drop width bytes) (sym back)) ∙ big_number-spelled width n (drop width bytes) small
 
@@ -103,7 +100,7 @@ number_takes width limit wide bytes x fits e =
     let g = unless_some (ltb (length bytes) width) (Some (big_number width bytes, drop width bytes)) x e in
     let le : width ≤ length bytes = ltb-false _ _ g.0 in
     let alone = front_alone width limit wide bytes le fits in
-    let spelled : big_endian width (big_number width bytes) ≡ take width bytes = ap (big_endian width) alone ∙ wide.back (take width bytes) (split_off width bytes le) (AreBytes-take width bytes fits) in
+    let spelled : big_endian width (big_number width bytes) ≡ take width bytes = ap (big_endian width) alone ∙ wide.back (take width bytes) (length-take-le width bytes le) (AreBytes-take width bytes fits) in
     let parts : bytes ≡ big_endian width (big_number width bytes) ++ drop width bytes = sym (take-append-drop width bytes) ∙ ap (λ (t : List ℕ). t ++ drop width bytes) (sym spelled) in
     subst (λ (y : ℕ × List ℕ). Takes bytes (big_endian width y.0) y.1 × (y.0 < limit)) (same_Some (big_number width bytes, drop width bytes) x g.1) (record { parts = parts; rest_fits = AreBytes-drop width bytes fits }, wide.below bytes fits)
 
@@ -200,7 +197,7 @@ body_takes bytes x fits e =
     let count = byte_takes bytes a.0 fits a.1 in
     let few : n ≤ BMAX = ltb-false _ _ g.0 in
     let room : n ≤ length rest = ltb-false _ _ h.0 in
-    let len : length (take n rest) ≡ n = split_off n rest room in
+    let len : length (take n rest) ≡ n = length-take-le n rest room in
     let body_fits = AreBytes-take n rest count.0.rest_fits in
     let second : Takes rest (take n rest) (drop n rest) = record { parts = sym (take-append-drop n rest); rest_fits = AreBytes-drop n rest count.0.rest_fits } in
     let both = Takes-then bytes (n ∷ []) rest (take n rest) (drop n rest) count.0 second in

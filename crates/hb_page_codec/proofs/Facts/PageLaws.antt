@@ -1,5 +1,5 @@
 -- A page that is read is the page that was spelled, and what was spelled is read again.
-use Rattle.std.proofs.Common.{◌≡◌, ℕ, zero, suc, ◌+◌, ◌-◌, ◌^◌, ◌<◌, ◌≤◌, true, false, cond, eqb, ltb, List, [], ◌∷◌, ◌++◌, length, Some, None, refl, sym, ap, subst, ◌∙◌, append_assoc, length-append, arith}
+use Rattle.std.proofs.Common.{◌≡◌, ℕ, zero, suc, ◌+◌, ◌-◌, ◌^◌, ◌<◌, ◌≤◌, true, false, cond, eqb, ltb, List, [], ◌∷◌, ◌++◌, length, Some, None, refl, sym, ap, subst, ◌∙◌, append_assoc, length-append, arith, ◌⊎◌, inl, inr, Result, Ok, Err}
 use Rattle.std.specs.Prelude.{◌↔◌, replicate}
 use Rattle.std.specs.List.{list_all}
 use Rattle.std.proofs.lemmas.Bool.{eqb-true, eq-eqb, ltb-false, le-ltb, and_parts}
@@ -16,6 +16,8 @@ use Rattle.hb_page_codec.proofs.TreeLaws.{tree_takes, tree_again}
 use Rattle.hb_lemmas.proofs.Booleans.{unless_some, when_some}
 use Rattle.std.proofs.lemmas.Option.{same_Some}
 use Rattle.hb_page_codec.specs.Exact.{AreBytes}
+use Rattle.hb_page_codec.specs.declared.errors.PageError.{PageError}
+use Rattle.hb_page_codec.specs.declared.errors.PageError.TheVariants as errors
 use Rattle.hb_lemmas.proofs.Options.{bind_some}
 use Rattle.hb_lemmas.specs.Options.{◌>>=◌}
 
@@ -158,3 +160,9 @@ has_spelling page = (
   ),
   λ s. record { fits = s.1.fits; short = omega (arith, zeros_left s.0 page s.1) },
 )
+
+-- bad bytes give no page
+pub decodes_nothing : (e : PageError) → e ≡ errors.BadPage → (page : Page)
+    → (◌≡◌ {A = Result Page PageError} (Err e) (Ok page)) ⊎ (◌≡◌ {A = Result Page PageError} (Err e) (Err errors.NoMemory)) → ⊥
+decodes_nothing e bad page (inl ok) = cc ok
+decodes_nothing e bad page (inr refused) = cc (bad, refused)

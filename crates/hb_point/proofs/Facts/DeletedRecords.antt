@@ -1,8 +1,9 @@
 -- What a page weighs once the record of a point is gone.
-use Rattle.std.proofs.Common.{◌≡◌, ℕ, ◌+◌, ◌-◌, ◌<◌, ◌≤◌, max, Bool, true, false, List, [], ◌∷◌, length, take, drop, AllPairs, Some, None, sym, ap, subst, ◌∙◌, arith, zero, suc, refl, inl, inr, ◌↔◌, ◌*◌, ◌/◌, IsTrue, nat_le}
+use Rattle.std.proofs.Common.{◌≡◌, ℕ, ◌+◌, ◌-◌, ◌<◌, ◌≤◌, max, Bool, true, false, List, [], ◌∷◌, length, take, drop, AllPairs, Some, sym, ap, subst, ◌∙◌, arith, zero, suc, refl, inl, inr, ◌↔◌, ◌*◌, ◌/◌, IsTrue, nat_le}
 use Rattle.std.specs.List.{slice_get}
-use Rattle.std.proofs.lemmas.Bool.{cases_lt, le-leb, lt-leb}
+use Rattle.std.proofs.lemmas.Bool.{cases_lt, le-leb, lt-leb, false≢true}
 use Rattle.std.proofs.lemmas.List.{length-append, length-take, length-drop}
+use Rattle.std.proofs.lemmas.Option.{none-some}
 use Rattle.hb_frag.specs.Leaves.{leaf_at, weight_of}
 use Rattle.hb_frag.specs.Rules.{Precedes}
 use Rattle.hb_frag.specs.declared.leaves.Leaf.TheVariants.{Records}
@@ -16,12 +17,9 @@ use Rattle.hb_ops.specs.Standing.{StandsThere}
 use Rattle.hb_space.specs.Boxes.{Area}
 use Rattle.hb_space.specs.declared.records.Record.{Record}
 
-nothing : (r : Record) → None ≡ Some r → ⊥
-nothing r is = cc
-
 -- the record of the point stands at its place
 pub is_at : (records : List Record) (place : ℕ) (r : Record) (p : List ℕ) → slice_get records place ≡ Some r → r.key ≡ p → IsAt records p place
-is_at [] place r p is key = absurd (nothing r is)
+is_at [] place r p is key = absurd (none-some r is)
 is_at (x ∷ records) zero r p is key = let same : x ≡ r = cc in record { in_range = omega arith; same_point = λ d. ap (λ (q : Record). q.key) same ∙ key }
 is_at (x ∷ records) (suc place) r p is key =
     let rest = is_at records place r p is key in
@@ -65,11 +63,8 @@ told : (b : Bool) (weight cap : ℕ) → (IsTrue b ↔ (weight ≤ cap / 4)) →
 told true weight cap test = sym (le-leb (4 * weight) cap ((quarter weight cap).0 (test.0 refl)))
 told false weight cap test = elim (cases_lt cap (4 * weight)) [
   | inl above ↦ sym (lt-leb (4 * weight) cap above)
-  | inr le ↦ absurd (wrong (test.1 ((quarter weight cap).1 le)))
+  | inr le ↦ absurd (false≢true (test.1 ((quarter weight cap).1 le)))
 ]
-  where
-    wrong : IsTrue false → ⊥
-    wrong is = cc
 
 -- the tests of a page's weight before a record goes, where its leaf has others and where it has none
 pub thin_of_many : (b : Bool) (weight after cap : ℕ) → (IsTrue b ↔ (weight ≤ cap / 4 + 1)) → after + 1 ≡ weight → b ≡ nat_le (4 * after) cap

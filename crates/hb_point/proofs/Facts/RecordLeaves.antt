@@ -1,5 +1,5 @@
 -- A page whose leaf at a point has records: its level, whether it has room, and what it weighs with one more.
-use Rattle.std.proofs.Common.{◌≡◌, inl, inr, ℕ, ◌+◌, ◌<◌, ◌≤◌, Bool, true, false, cond, List, [], ◌∷◌, length, Some, arith, zero, suc, Any, None}
+use Rattle.std.proofs.Common.{◌≡◌, inl, inr, ℕ, ◌+◌, ◌<◌, ◌≤◌, Bool, true, false, cond, List, [], ◌∷◌, length, Some, arith, zero, suc, Any}
 use Rattle.std.specs.List.{Contains, filter, slice_get}
 use Rattle.std.specs.Ordering.{is_gt, is_lt}
 use Rattle.std.specs.declared.cmp.Ordering.{Ordering}
@@ -7,6 +7,7 @@ use Rattle.std.specs.declared.cmp.Ordering.TheVariants.{Less, Equal, Greater}
 use Rattle.std.proofs.lemmas.Bool.{cases_lt}
 use Rattle.std.proofs.lemmas.List.{length-append}
 use Rattle.std.proofs.lemmas.List.Elements.{All-contains, All-contains_itself}
+use Rattle.std.proofs.lemmas.Option.{none-some}
 use Rattle.hb_ops.proofs.Facts.Opened.{first_has, weight_changed}
 use Rattle.hb_frag.specs.Leaves.{WellCut, leaf_at, leaves, leaves_of, weight_of}
 use Rattle.hb_frag.specs.Rules.{BelongsAt}
@@ -83,9 +84,6 @@ full_page_weighs meta page rec layout made absent full =
 
 -- the record at a place is one of the point
 pub any_at : (records : List Record) (place : ℕ) (r : Record) (p : List ℕ) → slice_get records place ≡ Some r → r.key ≡ p → Any (λ (r : Record). r.key ≡ p) records
-any_at [] place r p is key = absurd (nothing r is)
-  where
-    nothing : (r : Record) → None ≡ Some r → ⊥
-    nothing r is = cc
+any_at [] place r p is key = absurd (none-some r is)
 any_at (x ∷ records) zero r p is key = let same : x ≡ r = cc in (0, r, omega arith, same, key)
 any_at (x ∷ records) (suc place) r p is key = let rest = any_at records place r p is key in (suc rest.0, rest.1, omega (arith, rest.2), rest.3, rest.4)

@@ -1,5 +1,5 @@
 -- When a put and a delete are allowed on a page that keeps the rules of a page alone.
-use Rattle.std.proofs.Common.{ℕ, ◌≤◌, List}
+use Rattle.std.proofs.Common.{◌≡◌, ℕ, ◌≤◌, List}
 use Rattle.hb_activity.proofs.Facts.AllowedDeeds.{kind_at}
 use Rattle.hb_frag.specs.Leaves.{weight_of}
 use Rattle.hb_frag.specs.declared.leaves.Leaf.TheVariants.{Records}
@@ -10,6 +10,11 @@ use Rattle.hb_ops.specs.Sound.{FitsFile}
 use Rattle.hb_ops.specs.Standing.{StandsNot, StandsThere}
 use Rattle.hb_point.proofs.Facts.RecordLeaves.{any_at}
 use Rattle.hb_space.specs.declared.records.Record.{Record}
+use Rattle.hb_set.specs.declared.commands.Command.TheVariants.{Insert}
+
+-- what is inserted is one record
+pub insert_of : (rec same : Record) → Insert rec ≡ Insert same → rec ≡ same
+insert_of rec same is = cc is
 
 pub put_fits : (meta : Meta) (page : LivePage) (rec : Record) → FitsFile meta page → StandsNot page rec.key → weight_of (put_page rec page).frag ≤ meta.dcap → FitsPut meta page rec
 put_fits meta page rec made absent room = record {

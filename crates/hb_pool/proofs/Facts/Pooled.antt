@@ -1,13 +1,14 @@
 -- What a pool keeps is kept where a page's frame is put last, is changed in its place, or comes in.
-use Rattle.std.proofs.Common.{◌≡◌, ℕ, ◌+◌, ◌-◌, ◌<◌, ◌≤◌, ◌==◌, nat_lt, Bool, true, false, not, ◌||◌, cond, List, [], ◌∷◌, ◌++◌, length, All, map, Option, Some, None, IsSome, refl, sym, ap, subst, ◌∙◌, arith, length-append, ne_eqb}
+use Rattle.std.proofs.Common.{◌≡◌, ℕ, ◌+◌, ◌-◌, ◌<◌, ◌≤◌, ◌==◌, nat_lt, Bool, true, false, not, ◌||◌, cond, List, [], ◌∷◌, ◌++◌, length, All, map, Some, None, IsSome, refl, sym, ap, subst, ◌∙◌, arith, length-append, ne_eqb}
 use Rattle.std.specs.List.{find, count_by, position_or_len}
-use Rattle.std.specs.Option.{IsSomeAnd, option_to_list}
+use Rattle.std.specs.Option.{option_to_list, unwrap_or, option_map}
 use Rattle.std.specs.Set.{remove_key}
-use Rattle.std.proofs.lemmas.Bool.{eq-eqb}
+use Rattle.std.proofs.lemmas.Bool.{eq-eqb, not-true}
 use Rattle.std.proofs.lemmas.List.Elements.{All-append, All-nil}
 use Rattle.std.proofs.lemmas.List.Sums.{sum_by_push, count_by-le-length}
 use Rattle.std.proofs.lemmas.Map.Views.{All-remove_key}
-use Rattle.hb_lemmas.proofs.Booleans.{if_below, if_same}
+use Rattle.std.proofs.lemmas.Map.Made.{sum_by-remove_key}
+use Rattle.hb_lemmas.proofs.Booleans.{if_below, if_same, one_at_most}
 use Rattle.hb_lemmas.proofs.Lists.{All-alone}
 use Rattle.hb_lemmas.proofs.Options.{some_value}
 use Rattle.hb_space.specs.declared.form.TheConstants.{PAGE}
@@ -18,21 +19,10 @@ use Rattle.hb_pool.specs.Laws.{StaysPool, StaysPoolWithAnother, CountsPlaces, Co
 use Rattle.hb_pool.specs.Kept.{PoolKeeps}
 use Rattle.hb_pool.proofs.Facts.Firsts.{first_passes, first_there, first_within, length_without, count_without, length_changed, count_changed, All-changed, some_fails, none_counted, alone_first}
 
--- what is said of a value that is there
-pub some_of_and : {X : Type 0} (o : Option X) (P : X → Type 0) → IsSomeAnd o P → IsSome o
-some_of_and None P h = absurd h
-some_of_and (Some x) P h = refl
-
-pub at_some_and : {X : Type 0} (o : Option X) (P : X → Type 0) (x : X) → o ≡ Some x → IsSomeAnd o P → P x
-at_some_and {X = X} o P x is h = let Q : Option X → Type 0 = λ v. IsSomeAnd v P in subst Q is h
-
 -- one for a test that passes, and none for the other way round
 one_way : (b : Bool) → cond (not b) 1 0 + cond b 1 0 ≡ 1
 one_way true = refl
 one_way false = refl
-
-one_at_most : (b : Bool) → cond b 1 0 ≤ 1
-one_at_most b = elim b as (λ b. cond b 1 0 ≤ 1) [ true ↦ omega arith | false ↦ omega arith ]
 
 -- a frame that is pinned, or dirty, must stay
 pub pinned_stays : {B : Type 0} (f : Frame B) → 0 < f.pins → must_stay f ≡ true
@@ -45,11 +35,6 @@ pinned_stays f some =
 
 pub dirty_stays : {B : Type 0} (f : Frame B) → f.dirty ≡ true → must_stay f ≡ true
 dirty_stays f is = ap (λ b. b || not (f.pins == 0)) is
-
--- and one that may go needn't
-free_needs_none : (b : Bool) → not b ≡ true → b ≡ false
-free_needs_none true e = absurd cc
-free_needs_none false e = refl
 
 or_false : (b : Bool) → (b || not (0 == 0)) ≡ b
 or_false true = refl
@@ -109,7 +94,7 @@ left_over pool old place =
     (λ none.
     let first = some_value (find may_go pool) (free_there pool place none) in
     let long = length_without may_go pool first.0 first.1 in
-    let free = free_needs_none (must_stay first.0) (first_passes may_go pool first.0 first.1) in
+    let free = not-true (must_stay first.0) (first_passes may_go pool first.0 first.1) in
     let less = count_without may_go must_stay pool first.0 first.1 in
     let gone : cond {A = ℕ} (must_stay first.0) 1 0 ≡ 0 = ap (λ b. cond {A = ℕ} b 1 0) free in
     record {
@@ -288,3 +273,12 @@ brought_counts pool id bytes dirty old place =
 -- the first dirty page is in its frame, where no two have one page
 pub dirty_there : {B : Type 0} (pool : List (Frame B)) (f : Frame B) → IsPool pool → find (λ g. g.dirty) pool ≡ Some f → frame_of pool f.id ≡ Some f
 dirty_there pool f old is = alone_first (λ g. g.dirty) (has_id f.id) pool f (eq-eqb f.id f.id refl) (old.distinct f.id) is
+
+-- where room is made for one frame, no more of any kind are left
+pub room_fewer : {B : Type 0} (p : Frame B → Bool) (frames : List (Frame B)) → count_by p (with_room frames) ≤ count_by p frames
+room_fewer p frames = elim (nat_lt (length frames) FRAMES) as (λ b. count_by p (cond b frames (remove_key may_go frames)) ≤ count_by p frames) [
+  | true ↦ omega arith
+  | false ↦
+      let less : count_by p (remove_key may_go frames) + unwrap_or (option_map (λ f. cond {A = ℕ} (p f) 1 0) (find may_go frames)) 0 ≡ count_by p frames = sum_by-remove_key (λ f. cond {A = ℕ} (p f) 1 0) may_go frames in
+      omega (arith, less)
+]

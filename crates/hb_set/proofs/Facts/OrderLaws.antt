@@ -1,6 +1,6 @@
 -- What follows from the definitions of legal orders.
 use Rattle.std.proofs.Common.{◌≡◌, List, [], ◌∷◌, ◌++◌, refl, sym, ap, subst, ◌∙◌}
-use Rattle.std.specs.List.{AllByRecursion}
+use Rattle.hb_lemmas.proofs.Lists.{parts}
 use Rattle.hb_set.specs.declared.scripts.Line.{Line}
 use Rattle.hb_set.specs.Machine.{RecordSet, reply_of, set_after}
 use Rattle.hb_set.specs.Laws.{OneAnswer, PartsAreLegal, ResultIsByParts, RepliesAreByParts, RepliesGrow, ResultGrows}
@@ -36,15 +36,11 @@ pub replies_joined : RepliesAreByParts
 replies_joined m [] ys p q = q
 replies_joined m (x ∷ xs) ys p q = (p.0, replies_joined (set_after x.line.command m) xs ys p.1 q)
 
-all_cut : (P : Entry → Type 0) (xs ys : List Entry) → AllByRecursion P (xs ++ ys) → AllByRecursion P xs
-all_cut P [] ys h = tt
-all_cut P (x ∷ xs) ys h = (h.0, all_cut P xs ys h.1)
-
 pub sessions_cut : (xs ys : List Entry) → KeepsSessions (xs ++ ys) → KeepsSessions xs × KeepsSessions ys
 sessions_cut [] ys h = (tt, h)
 sessions_cut (x ∷ xs) ys h =
     let rest = sessions_cut xs ys h.1 in
-    ((all_cut (MayPrecede x) xs ys h.0, rest.0), rest.1)
+    (((parts (MayPrecede x) xs ys h.0).0, rest.0), rest.1)
 
 pub legal_cut : PartsAreLegal
 legal_cut m xs ys h =

@@ -3,7 +3,7 @@ use Rattle.std.proofs.Common.{◌≡◌, ◌≢◌, ◌⊎◌, inl, inr, ℕ, ze
 use Rattle.std.specs.List.{AllByRecursion}
 use Rattle.std.proofs.lemmas.List.Elements.{All-contains}
 use Rattle.std.proofs.lemmas.Bool.{cases_eq}
-use Rattle.hb_space.specs.Boxes.{Area, Holds, Within, whole_area}
+use Rattle.hb_space.specs.Boxes.{Area, Holds, whole_area}
 use Rattle.hb_space.specs.declared.records.Record.{Record}
 use Rattle.hb_frag.specs.declared.leaves.Leaf.{Leaf}
 use Rattle.hb_frag.specs.declared.leaves.Leaf.TheVariants.{Records, Child, Sibling}
@@ -14,7 +14,7 @@ use Rattle.hb_frag.proofs.Facts.RisingRecords.{Rise, rising}
 use Rattle.hb_frag.specs.Rules.{IsInOrder}
 use Rattle.hb_layout.specs.declared.meta.Meta.{Meta}
 use Rattle.hb_ops.specs.Files.{FileState, live_page, page_of}
-use Rattle.hb_ops.specs.Sound.{ChildrenMatch, IsCovered, IsCounted, SiblingsMatch, count_live, times_named}
+use Rattle.hb_ops.specs.Sound.{ChildrenMatch, IsCovered, IsCounted, SiblingsMatch, count_live, times_named, HasSame, HasBelow}
 use Rattle.hb_sound.proofs.Facts.PagePlaces.{place_of}
 use Rattle.hb_ops.proofs.Facts.PageNumberLaws.{page_at-suc, page_at-zero}
 use Rattle.std.proofs.lemmas.List.Elements.{All-from_recursion}
@@ -62,14 +62,14 @@ module _ (meta : Meta) (pages : List LivePage) where
 -- what a leaf that names a page says of that page
 module _ (s : FileState) (level : ℕ) where
   abbrev pub SiblingIsThere : ℕ × Area → Type 0
-  SiblingIsThere x = (named : LivePage) × (live_page s x.0 ≡ Some named) × (named.level ≡ level) × (named.area ≡ x.1)
+  SiblingIsThere x = HasSame s level x.0 x.1
 
   abbrev pub ChildIsThere : Placed → Type 0
   ChildIsThere x = names x.leaf x.area
     where
       names : Leaf → Area → Type 0
       names (Records records) area = Unit {0}
-      names (Child name) area = (named : LivePage) × (live_page s name ≡ Some named) × (named.level + 1 ≡ level) × Within area named.area
+      names (Child name) area = HasBelow s level name area
       names (Sibling name) area = Unit {0}
 
 module _ (meta : Meta) (pages : List LivePage) where

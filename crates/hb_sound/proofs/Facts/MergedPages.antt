@@ -14,9 +14,9 @@ use Rattle.hb_ops.specs.Merging.{FitsMerge, kept_page, parent_page, released}
 use Rattle.hb_ops.specs.Operations.{IsAllowed, IsAllowedOn, change_of, effect_of, with_changed_pages, with_page}
 use Rattle.hb_ops.specs.Sound.{SiblingsMatch, count_live, count_name, times_named}
 use Rattle.hb_sound.specs.LawsOfMerges.{ChangesThree, MergesChangeThree}
-use Rattle.hb_sound.proofs.Facts.OneLevel.{same_page}
-use Rattle.hb_sound.proofs.PageLists.{HasInstead, put_instead}
+use Rattle.hb_ops.proofs.Facts.PageLists.{HasInstead, put_instead}
 use Rattle.hb_ops.proofs.Facts.PageNumberLaws.{live_so}
+use Rattle.hb_lemmas.proofs.Options.{one_value}
 
 -- a merge that is allowed has its three pages in use
 pub record Joins (s : FileState) (parent keep gone : ℕ) : Type 0 where
@@ -117,7 +117,7 @@ module _ (s : FileState) (parent keep gone : ℕ) (may : Joins s parent keep gon
   gone_box match =
       let found = named_box gone (siblings_of may.kept) may.fits.may.given in
       let named = match keep may.kept gone found.0 may.kept_live found.2 in
-      let same : found.0 ≡ may.going.area = sym named.3 ∙ ap (λ (q : LivePage). q.area) (same_page s gone named.0 may.going named.1 may.gone_live) in
+      let same : found.0 ≡ may.going.area = sym named.3 ∙ ap (λ (q : LivePage). q.area) (one_value (live_page s gone) named.0 may.going named.1 may.gone_live) in
       (found.1 ∙ ap (λ (a : Area). Some a) same, subst (λ (a : Area). Contains (siblings_of may.kept) (gone, a)) same found.2)
 
   pub changes_three : SiblingsMatch s → ChangesThree s (effect_of s (Merge parent keep gone)) parent keep gone

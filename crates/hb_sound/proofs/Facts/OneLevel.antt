@@ -10,10 +10,12 @@ use Rattle.hb_frag.specs.Leaves.{Placed, leaf_at, leaves_of, siblings_of}
 use Rattle.hb_ops.specs.Files.{FileState, live_page}
 use Rattle.hb_ops.specs.Sound.{AreWellMade, IsCovered, SiblingsMatch}
 pub use Rattle.hb_sound.specs.Laws.{TreeLaws}
-use Rattle.hb_sound.proofs.Facts.PagePlaces.{areas_same, live_there, page_no_wider, total}
+use Rattle.hb_sound.proofs.Facts.PagePlaces.{live_there, page_no_wider, total}
 use Rattle.hb_sound.proofs.SiblingLeaves.{named_among}
 use Rattle.hb_ops.proofs.Facts.PlacedLaws.{placed, sibling_is_leaf}
+use Rattle.hb_ops.proofs.Facts.KnownBoxes.{known_area}
 use Rattle.hb_sound.proofs.Widths.{sibling_narrower, width}
+use Rattle.hb_lemmas.proofs.Options.{one_value}
 
 -- the page is named by a sibling leaf of a page of its level, which is wider
 pub record IsNamed (s : FileState) (id : ℕ) (page : LivePage) : Type 0 where
@@ -23,9 +25,6 @@ pub record IsNamed (s : FileState) (id : ℕ) (page : LivePage) : Type 0 where
   pub level : namer.level ≡ page.level
   pub names : Contains (siblings_of namer) (id, page.area)
   pub wider : width page.area < width namer.area
-
-pub same_page : (s : FileState) (id : ℕ) (page other : LivePage) → live_page s id ≡ Some page → live_page s id ≡ Some other → page ≡ other
-same_page s id page other e f = cc
 
 module _ (laws : TreeLaws) (s : FileState) (made : AreWellMade s) (match : SiblingsMatch s) (covered : IsCovered s) where
   abbrev whole : Area
@@ -43,7 +42,7 @@ module _ (laws : TreeLaws) (s : FileState) (made : AreWellMade s) (match : Sibli
       let w = named_among id s.pages (omega (arith, once)) in
       let here = live_there s w.place w.page w.there in
       let m = match (suc w.place) w.page id w.area here w.names in
-      let same : m.0 ≡ page = same_page s id m.0 page m.1 live in
+      let same : m.0 ≡ page = one_value (live_page s id) m.0 page m.1 live in
       let area : w.area ≡ page.area = sym m.3 ∙ ap (λ (q : LivePage). q.area) same in
       let names : Contains (siblings_of w.page) (id, page.area) = subst (λ (a : Area). Contains (siblings_of w.page) (id, a)) area w.names in
       record {
@@ -61,11 +60,11 @@ module _ (laws : TreeLaws) (s : FileState) (made : AreWellMade s) (match : Sibli
     pub goes_on : (id : ℕ) (page : LivePage) (w : IsNamed s id page) → live_page s id ≡ Some page → P w.by w.namer → P id page
 
   spread_within : (P : ℕ → LivePage → Type 0) → Spreads P → (n id : ℕ) (page : LivePage) → live_page s id ≡ Some page → total s.pages ≤ n + width page.area → P id page
-  spread_within P spreads zero id page live near = elim (areas_same page.area whole) [
+  spread_within P spreads zero id page live near = elim (known_area page.area whole) [
     | inl is ↦ spreads.begins id page live is
     | inr ne ↦ let w = namer_of id page live ne in let most = page_no_wider s w.by w.namer w.live in absurd (omega (arith, w.wider, most))
   ]
-  spread_within P spreads (suc n) id page live near = elim (areas_same page.area whole) [
+  spread_within P spreads (suc n) id page live near = elim (known_area page.area whole) [
     | inl is ↦ spreads.begins id page live is
     | inr ne ↦ let w = namer_of id page live ne in spreads.goes_on id page w live (spread_within P spreads n w.by w.namer w.live (omega (arith, w.wider)))
   ]

@@ -1,7 +1,5 @@
 -- The pages of a file by their places, and how wide they can be.
-use Rattle.std.proofs.Common.{◌≡◌, ◌≢◌, ℕ, zero, suc, ◌+◌, ◌≤◌, ◌⊎◌, inl, inr, List, [], ◌∷◌, slice_get, Some, refl, sym, ap, ◌∙◌, arith}
-use Rattle.std.proofs.lemmas.Bool.{cases_eq}
-use Rattle.hb_space.specs.Boxes.{Area}
+use Rattle.std.proofs.Common.{◌≡◌, ◌≢◌, ℕ, zero, suc, ◌+◌, ◌≤◌, List, [], ◌∷◌, slice_get, Some, refl, sym, ap, ◌∙◌, arith}
 use Rattle.hb_frag.specs.declared.pages.LivePage.{LivePage}
 use Rattle.hb_frag.specs.declared.pages.Page.{Page}
 use Rattle.hb_frag.specs.declared.pages.Page.TheVariants.{Live, Free}
@@ -36,24 +34,19 @@ no_wider (Free next ∷ rest) (suc n) page e = no_wider rest n page e
 pub page_no_wider : (s : FileState) (id : ℕ) (page : LivePage) → live_page s id ≡ Some page → width page.area ≤ total s.pages
 page_no_wider s id page e = let here = place_of s id page e in no_wider s.pages here.0 page here.2
 
--- whether two boxes are the same
-lists_same : (xs ys : List ℕ) → (xs ≡ ys) ⊎ (xs ≢ ys)
-lists_same [] [] = inl refl
-lists_same [] (y ∷ ys) = inr (λ e. let no : ⊥ = cc in no)
-lists_same (x ∷ xs) [] = inr (λ e. let no : ⊥ = cc in no)
-lists_same (x ∷ xs) (y ∷ ys) = elim (cases_eq x y) [
-  | inl is ↦ elim (lists_same xs ys) [ inl rest ↦ inl (let e : (x ∷ xs) ≡ (y ∷ ys) = cc in e) | inr ne ↦ inr (λ e. ne (let same : xs ≡ ys = cc in same)) ]
-  | inr ne ↦ inr (λ e. ne (let same : x ≡ y = cc in same))
-]
+-- a page stays in use with its level and its box, and so it was
+pub record StaysLive (t : FileState) (id : ℕ) (old : LivePage) : Type 0 where
+  pub new : LivePage
+  pub live : live_page t id ≡ Some new
+  pub level : new.level ≡ old.level
+  pub area : new.area ≡ old.area
 
-pub areas_same : (a b : Area) → (a ≡ b) ⊎ (a ≢ b)
-areas_same a b = elim (lists_same a.lo b.lo) [
-  | inl lo ↦ elim (lists_same a.hi b.hi) [
-    | inl hi ↦
-        let with_lo : List ℕ → Area = λ x. record { lo = x; hi = a.hi } in
-        let with_hi : List ℕ → Area = λ x. record { lo = b.lo; hi = x } in
-        inl (ap with_lo lo ∙ ap with_hi hi)
-    | inr ne ↦ inr (λ e. ne (ap (λ (x : Area). x.hi) e))
-  ]
-  | inr ne ↦ inr (λ e. ne (ap (λ (x : Area). x.lo) e))
-]
+pub record WasLive (s : FileState) (id : ℕ) (new : LivePage) : Type 0 where
+  pub old : LivePage
+  pub live : live_page s id ≡ Some old
+  pub level : new.level ≡ old.level
+  pub area : new.area ≡ old.area
+
+-- a page in use has not the number of one that isn't
+pub not_vacant : (s : FileState) (fresh id : ℕ) (page : LivePage) → ((q : LivePage) → live_page s fresh ≡ Some q → ⊥) → live_page s id ≡ Some page → id ≢ fresh
+not_vacant s fresh id page vacant live is = vacant page (ap (live_page s) (sym is) ∙ live)

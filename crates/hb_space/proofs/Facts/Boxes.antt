@@ -105,14 +105,27 @@ same_from_within a b ha hb e v w =
     let l' : k < length a.lo = omega (arith, ha.same) in
     omega (arith, (v k l').1, (w k (omega (arith, e))).1)))
 
--- the test holds exactly where the point lies in the box
-pub between-from_test : (lo hi p : List ℕ) → length lo ≡ length hi → length p ≡ length lo → IsTrue (is_between lo hi p) → EachIndex p (λ i. (get_or lo i 0 ≤ get_or p i 0) × (get_or p i 0 ≤ get_or hi i 0))
-between-from_test lo hi [] e f t i h = absurd (omega arith)
-between-from_test [] hi (x ∷ xs) e f t i h = absurd (omega arith)
-between-from_test (l ∷ ls) [] (x ∷ xs) e f t i h = absurd (omega arith)
-between-from_test (l ∷ ls) (g ∷ gs) (x ∷ xs) e f t zero h = grind (arith, nat_tests)
-between-from_test (l ∷ ls) (g ∷ gs) (x ∷ xs) e f t (suc i) h =
-    between-from_test ls gs xs (omega arith) (omega arith) (grind (arith, nat_tests)) i (omega arith)
+-- a test that holds says that there are as many values
+pub as_long : (lo hi p : List ℕ) → IsTrue (is_between lo hi p) → length p ≡ length lo
+as_long [] [] [] t = refl
+as_long [] [] (x ∷ xs) t = absurd (false≢true t)
+as_long [] (h ∷ hs) p t = absurd (false≢true t)
+as_long (l ∷ ls) [] p t = absurd (false≢true t)
+as_long (l ∷ ls) (h ∷ hs) [] t = absurd (false≢true t)
+as_long (l ∷ ls) (h ∷ hs) (x ∷ xs) t =
+    let rest : IsTrue (is_between ls hs xs) = grind (arith, nat_tests) in
+    let same = as_long ls hs xs rest in omega arith
+
+-- it holds exactly where the point lies in the box
+between-from_test : (lo hi p : List ℕ) → IsTrue (is_between lo hi p) → EachIndex p (λ i. (get_or lo i 0 ≤ get_or p i 0) × (get_or p i 0 ≤ get_or hi i 0))
+between-from_test lo hi [] t i lt = absurd (omega arith)
+between-from_test [] [] (x ∷ xs) t i lt = absurd (false≢true t)
+between-from_test [] (h ∷ hs) (x ∷ xs) t i lt = absurd (false≢true t)
+between-from_test (l ∷ ls) [] (x ∷ xs) t i lt = absurd (false≢true t)
+between-from_test (l ∷ ls) (h ∷ hs) (x ∷ xs) t zero lt = grind (arith, nat_tests)
+between-from_test (l ∷ ls) (h ∷ hs) (x ∷ xs) t (suc i) lt =
+    let rest : IsTrue (is_between ls hs xs) = grind (arith, nat_tests) in
+    between-from_test ls hs xs rest i (omega arith)
 
 pub test-from_between : (lo hi p : List ℕ) → length lo ≡ length hi → length p ≡ length lo → EachIndex p (λ i. (get_or lo i 0 ≤ get_or p i 0) × (get_or p i 0 ≤ get_or hi i 0)) → IsTrue (is_between lo hi p)
 test-from_between [] [] [] e f h = refl
@@ -125,8 +138,8 @@ test-from_between (l ∷ ls) (g ∷ gs) (x ∷ xs) e f h =
     let rest = test-from_between ls gs xs (omega arith) (omega arith) (λ i k. h (suc i) (omega arith)) in
     grind (arith, nat_tests)
 
-pub Holds-from_test : (a : Area) (p : List ℕ) → IsArea a → length p ≡ length a.lo → IsTrue (holds a p) → Holds a p
-Holds-from_test a p h e t = record { same = e; between = between-from_test a.lo a.hi p h.same e t }
+pub Holds-from_test : (a : Area) (p : List ℕ) → IsTrue (holds a p) → Holds a p
+Holds-from_test a p t = record { same = as_long a.lo a.hi p t; between = between-from_test a.lo a.hi p t }
 
 pub test-from_Holds : (a : Area) (p : List ℕ) → IsArea a → Holds a p → IsTrue (holds a p)
 test-from_Holds a p h in_box = test-from_between a.lo a.hi p h.same in_box.same in_box.between
@@ -140,7 +153,7 @@ same_tests false false f g = refl
 -- whatever tells the points of the box answers as the test
 pub test_is_holds : (a : Area) (p : List ℕ) (r : Bool) → IsArea a → length p ≡ length a.lo → (IsTrue r ↔ Holds a p) → r ≡ holds a p
 test_is_holds a p r h e tells =
-    same_tests r (holds a p) (λ t. test-from_Holds a p h (tells.0 t)) (λ t. tells.1 (Holds-from_test a p h e t))
+    same_tests r (holds a p) (λ t. test-from_Holds a p h (tells.0 t)) (λ t. tells.1 (Holds-from_test a p t))
 
 -- which points they hold
 pub Holds-side_below : (a : Area) (axis value : ℕ) (p : List ℕ) → IsArea a → Cuts a axis value → Holds (side_below a axis value) p ↔ (Holds a p × (get_or p axis 0 < value))
@@ -231,14 +244,3 @@ Within-self a i lt = (omega arith, omega arith)
 
 pub Meets-back : (a b : Area) → length a.lo ≡ length b.lo → Meets a b → Meets b a
 Meets-back a b same meets i lt = let one = meets i (omega (arith, same, lt)) in omega (arith, one)
-
--- a test that holds says that there are as many values
-pub as_long : (lo hi p : List ℕ) → IsTrue (is_between lo hi p) → length p ≡ length lo
-as_long [] [] [] t = refl
-as_long [] [] (x ∷ xs) t = absurd (false≢true t)
-as_long [] (h ∷ hs) p t = absurd (false≢true t)
-as_long (l ∷ ls) [] p t = absurd (false≢true t)
-as_long (l ∷ ls) (h ∷ hs) [] t = absurd (false≢true t)
-as_long (l ∷ ls) (h ∷ hs) (x ∷ xs) t =
-    let rest : IsTrue (is_between ls hs xs) = grind (arith, nat_tests) in
-    let same = as_long ls hs xs rest in omega arith

@@ -1,5 +1,5 @@
 -- Lists of numbers, place by place.
-use Rattle.std.proofs.Common.{Result, Ok, Err, ◌≡◌, ℕ, zero, suc, ◌<◌, ◌≤◌, ◌+◌, ◌^◌, List, [], ◌∷◌, ◌++◌, length, get_or, set, take, replicate, ◌⊎◌, inl, inr, ◌≢◌, refl, ap, sym, ◌∙◌, arith, min, max}
+use Rattle.std.proofs.Common.{Result, Ok, Err, ◌≡◌, ℕ, zero, suc, ◌<◌, ◌≤◌, ◌+◌, ◌^◌, List, [], ◌∷◌, ◌++◌, length, get_or, set, take, replicate, ◌⊎◌, inl, inr, ◌≢◌, refl, ap, sym, ◌∙◌, arith, min, max, slice_get, Some}
 use Rattle.std.proofs.lemmas.List.{take_more, take_all, take_at, take-replicate, length-set, get_or-set_other}
 use Rattle.std.proofs.lemmas.Grind.{get_or-set_at}
 use Rattle.std.specs.Result.{IsOk, OnOk}
@@ -75,3 +75,16 @@ set_written held values rest i v same =
 pub on_ok : {T E : Type 0} (r : Result T E) (P : Type 0) → IsOk r → OnOk r P → P
 on_ok (Ok x) P some h = h
 on_ok (Err e) P some h = absurd (false≢true some)
+
+-- a list with another item at a place has that one there, and elsewhere what it had
+pub get-set_same : {X : Type 0} (xs : List X) (n : ℕ) (new : X) → n < length xs → slice_get (set xs n new) n ≡ Some new
+get-set_same [] n new lt = absurd (omega (arith, lt))
+get-set_same (x ∷ xs) zero new lt = refl
+get-set_same (x ∷ xs) (suc n) new lt = get-set_same xs n new (omega (arith, lt))
+
+pub get-set_other : {X : Type 0} (xs : List X) (n m : ℕ) (new : X) → m ≢ n → slice_get (set xs n new) m ≡ slice_get xs m
+get-set_other [] n m new ne = refl
+get-set_other (x ∷ xs) zero zero new ne = absurd (ne refl)
+get-set_other (x ∷ xs) zero (suc m) new ne = refl
+get-set_other (x ∷ xs) (suc n) zero new ne = refl
+get-set_other (x ∷ xs) (suc n) (suc m) new ne = get-set_other xs n m new (λ e. ne (ap suc e))

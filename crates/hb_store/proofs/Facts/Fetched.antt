@@ -5,14 +5,13 @@ use Rattle.std.specs.Option.{is_some, option_map, option_map_or}
 use Rattle.std.proofs.lemmas.Bool.{cases_eq}
 use Rattle.hb_space.specs.declared.form.TheConstants.{PAGE}
 use Rattle.hb_disk.specs.Model.{DiskModel, IsDisk, Stays}
-use Rattle.hb_lemmas.proofs.Options.{some_value}
-use Rattle.hb_frag.specs.declared.pages.LivePage.{LivePage}
+use Rattle.hb_lemmas.proofs.Options.{some_value, none_so, at_some_and}
 use Rattle.hb_frag.specs.declared.pages.Page.{Page}
 use Rattle.hb_frag.specs.declared.pages.Page.TheVariants.{Live}
 use Rattle.hb_frag.specs.Grammar.{SpellsPage}
 use Rattle.hb_layout.specs.declared.meta.Meta.{Meta}
 use Rattle.hb_ops.specs.Files.{FileState, if_live, page_of, last_of}
-use Rattle.hb_ops.specs.Sound.{BreaksFirst, FitsFile, IsSound}
+use Rattle.hb_ops.specs.Sound.{IsSound}
 use Rattle.hb_page_codec.proofs.Facts.PageLaws.{SpelledOnce}
 use Rattle.hb_layout.specs.Offsets.{page_offset}
 use Rattle.hb_store.specs.Opening.{place_bytes}
@@ -32,12 +31,13 @@ use Rattle.hb_store.specs.declared.stops.FetchStop.TheVariants as fetches
 use Rattle.hb_store.specs.declared.stops.Why.TheVariants.{Rule, Level, Extent}
 use Rattle.hb_store.proofs.Counted.{store_count}
 use Rattle.hb_ops.proofs.Facts.FilePages.{page_there}
+use Rattle.hb_ops.proofs.Facts.WellMade.{not_broken}
 
 -- ---- what was read
 
-pub placed_read : (d : DiskModel) (at : ℕ) (into : List ℕ) (meta : Meta) (id : ℕ) → IfSome d.told (λ b. into ≡ take (length into) (drop at b)) → length into ≡ PAGE → at ≡ page_offset meta id → IfSome d.told (λ b. into ≡ place_bytes meta id b)
-placed_read d at into meta id reads long place =
-    subst (λ n. IfSome d.told (λ b. into ≡ take n (drop (page_offset meta id) b))) long (subst (λ p. IfSome d.told (λ b. into ≡ take (length into) (drop p b))) place reads)
+pub placed_read : (told : Option (List ℕ)) (at : ℕ) (into : List ℕ) (meta : Meta) (id : ℕ) → IfSome told (λ b. into ≡ take (length into) (drop at b)) → length into ≡ PAGE → at ≡ page_offset meta id → IfSome told (λ b. into ≡ place_bytes meta id b)
+placed_read told at into meta id reads long place =
+    subst (λ n. IfSome told (λ b. into ≡ take n (drop (page_offset meta id) b))) long (subst (λ p. IfSome told (λ b. into ≡ take (length into) (drop p b))) place reads)
 
 -- the page that was read, where the disk tells
 pub spelled_there : (told : Option (List ℕ)) (bytes : List ℕ) (place : List ℕ → List ℕ) (page : Page) → SpellsPage bytes page → IfSome told (λ b. bytes ≡ place b) → IfSome told (λ b. SpellsPage (place b) page)
@@ -46,11 +46,7 @@ spelled_there (Some b) bytes place page spells read = subst (λ l. SpellsPage l 
 
 -- a page that isn't in memory has no frame, and isn't dirty
 pub no_frame : (st : StoreState) (uses : List Use) (id : ℕ) → IsTied st uses → in_memory st id ≡ None → frame_of uses id ≡ None
-no_frame st uses id tied none = by (frame_of uses id) (sym (tied.there id) ∙ ap (λ (o : Option Page). is_some o) none)
-  where
-    by : (o : Option Use) → is_some o ≡ false → o ≡ None
-    by None e = refl
-    by (Some f) e = cc e
+no_frame st uses id tied none = none_so (frame_of uses id) (sym (tied.there id) ∙ ap (λ (o : Option Page). is_some o) none)
 
 pub clean_outside : (st : StoreState) (uses : List Use) (id : ℕ) → IsTied st uses → in_memory st id ≡ None → is_dirty st id ≡ false
 clean_outside st uses id tied none = tied.marks id ∙ ap (λ (o : Option Use). option_map_or (λ (u : Use). u.dirty) o false) (no_frame st uses id tied none)
@@ -130,27 +126,12 @@ is_the_page once d st durable later id page disk k some high none there =
 
 -- ---- no page of a sound file is damaged
 
-fits_all : (rule : ℕ) (page : LivePage) (meta : Meta) → FitsFile meta page → BreaksFirst rule page meta → ⊥
-fits_all rule page meta fits breaks = elim breaks [
-  | inl three ↦ three.1 fits.fits
-  | inr rest ↦ elim rest [
-    | inl four ↦ four.2 fits.well_cut
-    | inr rest ↦ elim rest [
-      | inl five ↦ five.3 fits.filled
-      | inr rest ↦ elim rest [
-        | inl six ↦ six.4 fits.in_order
-        | inr ten ↦ ten.5 fits.normal
-      ]
-    ]
-  ]
-]
-
 not_damaged : SpelledOnce → (s : FileState) (id rule : ℕ) (p : Page) (bytes : List ℕ) → IsSound s → page_of s id ≡ Some p → SpellsPage bytes p → IsDamagedBy s.meta bytes rule → ⊥
 not_damaged once s id rule p bytes sound there spelled damaged = elim damaged [
   | inl none ↦ none.1 p spelled
   | inr one ↦
       let same : page_of s id ≡ Some (Live one.1) = there ∙ ap Some (once bytes p (Live one.1) spelled one.2) in
-      fits_all rule one.1 s.meta (sound.well_made id one.1 (ap if_live same)) one.3
+      not_broken rule one.1 s.meta one.3 (sound.well_made id one.1 (ap if_live same))
 ]
 
 pub sound_stop : SpelledOnce → (d : DiskModel) (st : StoreState) (durable : FileState) (later : List FileState) (id : ℕ) (stop : FetchStop) → IsDisk d → StoreKeeps d st durable later → 1 ≤ id → id ≤ st.meta.high → is_dirty st id ≡ false
@@ -169,27 +150,26 @@ sound_stop once d st durable later id stop disk k some high none why sound fault
     by_stop fetches.ReadFault holds fault memory p = fault refl
     by_stop fetches.Crowded holds fault memory p = memory refl
 
+-- the number of a page is not that of none
+pub page_not_none : (meta : Meta) (id : ℕ) → IsPageOf meta id → IsNoPage meta id → ⊥
+page_not_none meta id page (inl none) = absurd (omega (arith, page, none))
+page_not_none meta id page (inr beyond) = absurd (omega (arith, page, beyond))
+
 -- a number that is no page's has no page in memory
 pub none_there : (st : StoreState) (id : ℕ) → IsMemory st → IsSome (in_memory st id) → IsNoPage st.meta id → ⊥
 none_there st id is some none =
     let page = some_value (in_memory st id) some in
     let range = is.good id page.0 page.1 in
-    elim none [
-      | inl zero ↦ omega (arith, zero, range.0)
-      | inr above ↦ omega (arith, above, range.1)
-    ]
+    page_not_none st.meta id (range.0, range.1) none
 
 -- ---- a page that was read and held is the file's
-
-spells_value : (meta : Meta) (bytes : List ℕ) (page : Page) → IsSomeAnd (page_of_bytes bytes) (λ page. SpellsPage bytes page × IsGoodPage meta page) → page_of_bytes bytes ≡ Some page → SpellsPage bytes page
-spells_value meta bytes page good read = let Q : Option Page → Type 0 = λ o. IsSomeAnd o (λ page. SpellsPage bytes page × IsGoodPage meta page) in (subst Q read good).0
 
 pub read_keeps : SpelledOnce → (d e : DiskModel) → IsDisk d → (st new : StoreState) (uses : List Use) (id : ℕ) (bytes : List ℕ) → IsTied st uses → in_memory st id ≡ None → IsPageOf st.meta id → Stays d e → Fetched id st new
     → in_memory new id ≡ page_of_bytes bytes → IsSomeAnd (page_of_bytes bytes) (λ page. SpellsPage bytes page × IsGoodPage st.meta page) → IfSome d.told (λ b. bytes ≡ place_bytes st.meta id b)
     → (durable : FileState) (later : List FileState) → StoreKeeps d st durable later → StoreKeeps e new durable later
 read_keeps once d e disk st new uses id bytes tied none at stays fetched there good read durable later k =
     keeps_fetched e st new durable later id fetched
-    (λ page is. is_the_page once d st durable later id page disk k at.0 at.1 (clean_outside st uses id tied none) (spelled_there d.told bytes (place_bytes st.meta id) page (spells_value st.meta bytes page good (sym there ∙ is)) read))
+    (λ page is. is_the_page once d st durable later id page disk k at.0 at.1 (clean_outside st uses id tied none) (spelled_there d.told bytes (place_bytes st.meta id) page (at_some_and (page_of_bytes bytes) (λ page. SpellsPage bytes page × IsGoodPage st.meta page) page (sym there ∙ is) good).0 read))
     (keeps_read d e st durable later stays k)
 
 -- no page of a sound file that isn't in memory stops a fetch but for a fault, or want of a place
@@ -198,8 +178,3 @@ pub sound_stops : {X : Type 0} (r : Result X FetchStop) → SpelledOnce → (d :
     → IfErr r (λ stop. (stop ≢ fetches.ReadFault) → (stop ≢ fetches.Crowded) → IsNoPage st.meta id)
 sound_stops (Ok x) once d st uses durable later id disk k some high tied none why sound = tt
 sound_stops (Err stop) once d st uses durable later id disk k some high tied none why sound = λ fault crowded. absurd (sound_stop once d st durable later id stop disk k some high (clean_outside st uses id tied none) why sound fault crowded)
-
--- where a look-up gave nothing the page isn't in memory
-pub none_so : {X : Type 0} (r m : Option X) → is_some r ≡ false → r ≡ m → m ≡ None
-none_so None m none is = sym is
-none_so (Some x) m none is = absurd cc

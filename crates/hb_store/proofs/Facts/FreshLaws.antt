@@ -1,15 +1,16 @@
 -- From what bytes a store may start.
-use Rattle.std.proofs.Common.{◌≡◌, ℕ, ◌+◌, ◌-◌, ◌≤◌, List, [], length, get_or, take, drop, replicate, Some, IsSome, sym, ap, ◌∙◌, arith}
-use Rattle.std.proofs.lemmas.List.{get_or-take, get_or-drop}
-use Rattle.hb_disk.specs.Model.{DiskModel, IsDisk}
+use Rattle.std.proofs.Common.{◌≡◌, inl, ℕ, ◌+◌, ◌-◌, ◌≤◌, List, [], length, take, drop, replicate, Some, IsSome, sym, ap, ◌∙◌, arith}
+use Rattle.hb_disk.specs.Model.{DiskModel, IsDisk, Torn}
 use Rattle.hb_disk.specs.Calls.{IsSynced}
 use Rattle.hb_disk.proofs.Facts.SyncedLaws.{part_of}
+use Rattle.hb_disk.proofs.Facts.TornLaws.{Torn-elsewhere}
 use Rattle.hb_lemmas.proofs.Options.{some_value, at_value}
 use Rattle.hb_wal.specs.Frames.{range}
 use Rattle.hb_wal.specs.Forces.{HasLog}
 use Rattle.hb_layout.specs.Offsets.{slot_offset, log_start, file_size}
-use Rattle.hb_super.specs.Superblocks.{HasSuper, IsNewest, next_turn}
+use Rattle.hb_super.specs.Superblocks.{IsNewest, next_turn}
 use Rattle.hb_super.specs.Moments.{HasNoBody, HidesNoOther}
+use Rattle.hb_super.proofs.Facts.Gates.{gate_part}
 use Rattle.hb_layout.specs.declared.meta.Meta.{Meta}
 use Rattle.hb_ops.specs.Files.{FileState, page_of}
 use Rattle.hb_frag.specs.declared.pages.Page.{Page}
@@ -18,31 +19,14 @@ use Rattle.hb_store.specs.Opening.{OpensBy, place_bytes}
 use Rattle.hb_store.specs.Keeps.{IsFresh}
 use Rattle.hb_store.proofs.Facts.ReplayLaws.{opens_fresh}
 
--- Bytes that are the same in both superblock places have the same newest superblock.
-module _ (b c : List ℕ) (same : take 8192 (drop 0 c) ≡ take 8192 (drop 0 b)) where
-  gate_same : (turn : ℕ) → get_or c (slot_offset turn) 0 ≡ get_or b (slot_offset turn) 0
-  gate_same turn =
-      let at : (l : List ℕ) → get_or (take 1 (drop (slot_offset turn) l)) 0 0 ≡ get_or l (slot_offset turn) 0
-      = λ l. get_or-take 1 (drop (slot_offset turn) l) 0 0 (omega arith) ∙ get_or-drop (slot_offset turn) l 0 0
-      ∙ ap (λ (k : ℕ). get_or l k 0) (let e : slot_offset turn + 0 ≡ slot_offset turn = omega arith in e) in
-      sym (at c) ∙ ap (λ (l : List ℕ). get_or l 0 0) (part_of 0 8192 (slot_offset turn) 1 c b (omega arith) (omega arith) same) ∙ at b
+-- what is torn behind both superblock places leaves them
+pub places_kept : (from m : ℕ) (b c : List ℕ) → 8192 ≤ from → Torn from m b c → take 8192 (drop 0 c) ≡ take 8192 (drop 0 b)
+places_kept from m b c low torn = Torn-elsewhere from m 0 8192 b c (inl low) torn
 
-  body_same : (turn : ℕ) → take 40 (drop (slot_offset turn + 1) c) ≡ take 40 (drop (slot_offset turn + 1) b)
-  body_same turn = part_of 0 8192 (slot_offset turn + 1) 40 c b (omega arith) (omega arith) same
-
-  pub HasSuper-elsewhere : (turn : ℕ) (meta : Meta) → HasSuper b turn meta → HasSuper c turn meta
-  HasSuper-elsewhere turn meta has = record { legal = has.legal; gate = gate_same turn ∙ has.gate; body = body_same turn ∙ has.body }
-
--- and hide no other body behind a closed gate
+-- and bytes that are the same in both hide no other body behind a closed gate
 pub HidesNoOther-elsewhere : (b c : List ℕ) → take 8192 (drop 0 c) ≡ take 8192 (drop 0 b) → (turn : ℕ) (meta : Meta) → HidesNoOther b turn meta → HidesNoOther c turn meta
 HidesNoOther-elsewhere b c same turn meta hides closed said legal body =
-    hides (λ opened. closed (gate_same b c same turn ∙ opened)) said legal (sym (body_same b c same turn) ∙ body)
-
-pub IsNewest-elsewhere : (b c : List ℕ) → take 8192 (drop 0 c) ≡ take 8192 (drop 0 b) → (turn : ℕ) (meta : Meta) → IsNewest b turn meta → IsNewest c turn meta
-IsNewest-elsewhere b c same turn meta newest = record {
-  there = HasSuper-elsewhere b c same turn meta newest.there;
-  newer = λ other said has apart. newest.newer other said (HasSuper-elsewhere c b (sym same) other said has) apart;
-}
+    hides (λ opened. closed (gate_part c b same turn ∙ opened)) said legal (part_of 0 8192 (slot_offset turn + 1) 40 b c (omega arith) (omega arith) (sym same) ∙ body)
 
 -- A store may start from a disk of such a size whose images all have this superblock, a log of zeros and these pages.
 pub IsFresh-from : (d : DiskModel) → IsDisk d → IsSome d.told → (turn : ℕ) (meta : Meta) (s : FileState) → file_size meta ≤ d.size → s.meta ≡ meta → length s.pages ≡ meta.high

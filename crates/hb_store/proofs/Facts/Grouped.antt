@@ -1,10 +1,12 @@
 -- The group of an operation: which page images it has.
-use Rattle.std.proofs.Common.{◌≡◌, ◌≢◌, ℕ, zero, suc, ◌^◌, ◌<◌, ◌≤◌, Bool, true, false, List, [], ◌∷◌, ◌++◌, length, get_or, All, AllPairs, Option, Some, None, Result, Ok, Err, refl, arith}
+use Rattle.std.proofs.Common.{◌≡◌, ◌≢◌, ℕ, ◌^◌, ◌<◌, ◌≤◌, Bool, true, false, List, [], ◌∷◌, ◌++◌, length, get_or, All, AllPairs, Option, Some, None, Result, Ok, Err, refl, arith}
 use Rattle.std.specs.Option.{IfSome}
 use Rattle.std.specs.Result.{IfOk, OnOk}
 use Rattle.std.proofs.lemmas.List.{length-append}
 use Rattle.std.proofs.lemmas.List.Elements.{All-append, All-cons, All-head, All-nil, All-tail}
 use Rattle.std.proofs.lemmas.List.Kept.{AllPairs-cons}
+use Rattle.hb_lemmas.proofs.Lists.{All-alone}
+use Rattle.hb_lemmas.proofs.Pairs.{pairs_first, pairs_none, pairs_rest}
 use Rattle.hb_frag.specs.declared.pages.LivePage.{LivePage}
 use Rattle.hb_frag.specs.declared.pages.Page.{Page}
 use Rattle.hb_frag.specs.declared.pages.Page.TheVariants.{Live, Free}
@@ -38,7 +40,7 @@ module _ (P : ℕ → Option Page) (I : ℕ → Bool) where
       one : (o : Option Page) (b : Bool) → P id ≡ o → All Q (page_image_needed id o b)
       one None b e = All-nil Q
       one (Some page) true e = All-nil Q
-      one (Some page) false e = let R = λ (id : ℕ). (page : Page) → P id ≡ Some page → Q (id, page) in All-cons Q (id, page) [] (All-head R id rest h page e) (All-nil Q)
+      one (Some page) false e = let R = λ (id : ℕ). (page : Page) → P id ≡ Some page → Q (id, page) in All-alone Q (id, page) (All-head R id rest h page e)
 
   few_at : (id : ℕ) (o : Option Page) (b : Bool) → length (page_image_needed id o b) ≤ 1
   few_at id None b = omega arith
@@ -58,11 +60,12 @@ module _ (P : ℕ → Option Page) (I : ℕ → Bool) where
   distinct_with id rest (Some page) false first later = AllPairs-cons Apart (id, page) rest (first page refl) later
 
   distinct_needed : (ids : List ℕ) → AllPairs (λ i j. i ≢ j) ids → AllPairs Apart (page_images_needed P I ids)
-  distinct_needed [] h = λ i j d lt in_range. absurd (omega (arith, in_range))
+  distinct_needed [] h = pairs_none Apart
   distinct_needed (id ∷ rest) h =
+      let N : ℕ → ℕ → Type 0 = λ i j. i ≢ j in
       distinct_with id (page_images_needed P I rest) (P id) (I id)
-      (λ page e. all_needed (Apart (id, page)) rest (λ k d lt other is. h zero (suc k) d (omega arith) (omega (arith, lt))))
-      (distinct_needed rest (λ i j d lt in_range. h (suc i) (suc j) d (omega (arith, lt)) (omega (arith, in_range))))
+      (λ page e. all_needed (Apart (id, page)) rest (λ k d lt other is. pairs_first N id rest h k d lt))
+      (distinct_needed rest (pairs_rest N id rest h))
 
 -- an operation reads few pages, each once
 pub few_reads : (op : Op) → length (reads_of op) ≤ 3
@@ -74,13 +77,13 @@ few_reads (Merge parent keep gone) = omega arith
 few_reads (Grow fresh free_after) = omega arith
 
 one_apart : (id : ℕ) → AllPairs (λ i j. i ≢ j) (id ∷ [])
-one_apart id = λ i j d lt in_range. absurd (omega (arith, lt, in_range))
+one_apart id = let R : ℕ → ℕ → Type 0 = λ i j. i ≢ j in AllPairs-cons R id [] (All-nil (R id)) (pairs_none R)
 
 three_apart : (a b c : ℕ) → a ≢ b → a ≢ c → b ≢ c → AllPairs (λ i j. i ≢ j) (a ∷ b ∷ c ∷ [])
 three_apart a b c ab ac bc =
     let R : ℕ → ℕ → Type 0 = λ i j. i ≢ j in
-    AllPairs-cons R a (b ∷ c ∷ []) (All-cons (R a) b (c ∷ []) ab (All-cons (R a) c [] ac (All-nil (R a))))
-    (AllPairs-cons R b (c ∷ []) (All-cons (R b) c [] bc (All-nil (R b))) (one_apart c))
+    AllPairs-cons R a (b ∷ c ∷ []) (All-cons (R a) b (c ∷ []) ab (All-alone (R a) c ac))
+    (AllPairs-cons R b (c ∷ []) (All-alone (R b) c bc) (one_apart c))
 
 pub distinct_reads : (op : Op) (meta : Meta) (first second third : Option LivePage) → IsAllowedOn op meta first second third → AllPairs (λ i j. i ≢ j) (reads_of op)
 distinct_reads (Put page rec) meta first second third allowed = one_apart page
@@ -91,7 +94,7 @@ distinct_reads (Merge parent keep gone) meta None second third allowed = absurd 
 distinct_reads (Merge parent keep gone) meta (Some above) None third allowed = absurd allowed
 distinct_reads (Merge parent keep gone) meta (Some above) (Some kept) None allowed = absurd allowed
 distinct_reads (Merge parent keep gone) meta (Some above) (Some kept) (Some going) allowed = three_apart parent keep gone allowed.others.0 allowed.others.1 allowed.two
-distinct_reads (Grow fresh free_after) meta first second third allowed = λ i j d lt in_range. absurd (omega (arith, in_range))
+distinct_reads (Grow fresh free_after) meta first second third allowed = pairs_none (λ i j. i ≢ j)
 
 small_high : (turn : ℕ) (meta : Meta) → IsStanding turn meta → meta.high < 2 ^ 32
 small_high turn meta h = omega (arith, h.high, h.layout.few_pages)

@@ -1,23 +1,21 @@
 -- The pages that a merge makes can be written, whether or not the boxes match.
-use Rattle.std.proofs.Common.{◌≡◌, ℕ, ◌*◌, ◌<◌, ◌≤◌, ◌^◌, ◌==◌, true, false, cond, List, [], ◌∷◌, length, get_or, All, Option, Some, None, refl, sym, subst, arith}
+use Rattle.std.proofs.Common.{◌≡◌, ℕ, ◌*◌, ◌<◌, ◌≤◌, ◌^◌, List, [], ◌∷◌, length, get_or, All, Option, Some, None, refl, sym, subst, arith}
 use Rattle.std.specs.List.{sum_by}
 use Rattle.std.proofs.lemmas.List.Sums.{sum-map}
-use Rattle.std.proofs.lemmas.List.Elements.{All-append, All-cons, All-head, All-nil}
-use Rattle.hb_frag.specs.declared.leaves.Leaf.{Leaf}
-use Rattle.hb_frag.specs.declared.leaves.Leaf.TheVariants.{Records, Child, Sibling}
+use Rattle.std.proofs.lemmas.List.Elements.{All-cons, All-head, All-nil}
+use Rattle.hb_frag.specs.declared.leaves.Leaf.TheVariants.{Sibling}
 use Rattle.hb_frag.specs.declared.pages.LivePage.{LivePage}
 use Rattle.hb_frag.specs.declared.pages.Page.{Page}
 use Rattle.hb_frag.specs.declared.pages.Page.TheVariants.{Live, Free}
 use Rattle.hb_frag.specs.declared.paths.Side.{Side}
 use Rattle.hb_frag.specs.declared.paths.Side.TheVariants.{Left, Right}
-use Rattle.hb_space.specs.declared.records.Record.{Record}
 use Rattle.hb_frag.specs.Trees.{Tree, Tip, Cut}
 use Rattle.hb_frag.specs.Leaves.{leaf_weight, leaves, weight_of}
-use Rattle.hb_frag.specs.Normal.{normal, one_leaf_or_cut}
+use Rattle.hb_frag.specs.Normal.{normal}
 use Rattle.hb_frag.specs.NormalLaws.{SaysTheSame}
 use Rattle.hb_frag.specs.Paths.{sibling_way, with_part}
 use Rattle.hb_frag.specs.Renaming.{renamed}
-use Rattle.hb_frag.specs.Rules.{BelongsAt, IsFilledRight, IsSiblingTip, capacity_of}
+use Rattle.hb_frag.specs.Rules.{BelongsAt, IsFilledRight, capacity_of}
 use Rattle.hb_frag.specs.Grammar.{FitsLeaf, FitsTree, HasSpelling}
 use Rattle.hb_frag.proofs.Facts.Parts.{part_weighs}
 use Rattle.hb_frag.proofs.Facts.Renamed.{renames}
@@ -36,7 +34,8 @@ use Rattle.hb_ops.proofs.Facts.MadeLeaves.{AllFit, all_fit, fit_normal, fit_rena
 use Rattle.hb_store.proofs.Facts.MadePages.{FreeSpelled, WithinCapacity, capacity_small, taken_fit}
 use Rattle.hb_store.proofs.Facts.Grouped.{good_spelled}
 use Rattle.hb_lemmas.proofs.Lists.{All-behind, All-front}
-use Rattle.hb_ops.proofs.Facts.MergeMade.{renamed_kinds}
+use Rattle.hb_ops.proofs.Facts.MergeMade.{renamed_kinds, renamed_own}
+use Rattle.hb_ops.proofs.Facts.JoinedParts.{joined_so, normal_own, with_leaves}
 
 -- the cuts have their places
 abbrev CutsFit : ℕ → Tree → Type 0
@@ -63,50 +62,10 @@ cuts_renamed : (k old new : ℕ) (t : Tree) → CutsFit k t → CutsFit k (renam
 cuts_renamed k old new (Tip leaf) fits = tt
 cuts_renamed k old new (Cut axis value left right) fits = (fits.0, fits.1, cuts_renamed k old new left fits.2, cuts_renamed k old new right fits.3)
 
--- what holds of a cut, and of each leaf that has records or names a child, holds where two sides are joined
-module _ (P : Tree → Type 0) (records_so : (records : List Record) → P (Tip (Records records))) (child_so : (page : ℕ) → P (Tip (Child page))) (axis value : ℕ) where
-  joined_so : (left right : Tree) → P (Cut axis value left right) → P (one_leaf_or_cut axis value left right)
-  joined_so (Tip (Records xs)) (Tip (Records ys)) h = records_so _
-  joined_so (Tip (Records xs)) (Tip (Child other)) h = h
-  joined_so (Tip (Records xs)) (Tip (Sibling other)) h = h
-  joined_so (Tip (Records xs)) (Cut a v t u) h = h
-  joined_so (Tip (Child page)) (Tip (Records ys)) h = h
-  joined_so (Tip (Child page)) (Tip (Child other)) h =
-      elim (page == other) as (λ b. P (cond b (Tip (Child page)) (Cut axis value (Tip (Child page)) (Tip (Child other))))) [ true ↦ child_so page | false ↦ h ]
-  joined_so (Tip (Child page)) (Tip (Sibling other)) h = h
-  joined_so (Tip (Child page)) (Cut a v t u) h = h
-  joined_so (Tip (Sibling page)) right h = h
-  joined_so (Cut a v t u) right h = h
-
 cuts_normal : (k : ℕ) (t : Tree) → CutsFit k t → CutsFit k (normal t)
 cuts_normal k (Tip leaf) fits = tt
 cuts_normal k (Cut axis value left right) fits =
     joined_so (CutsFit k) (λ records. tt) (λ page. tt) axis value (normal left) (normal right) (fits.0, fits.1, cuts_normal k left fits.2, cuts_normal k right fits.3)
-
--- ---- no lone sibling leaf is made
-
-own_normal : (t : Tree) → ¬ (IsSiblingTip t) → ¬ (IsSiblingTip (normal t))
-own_normal (Tip leaf) own = own
-own_normal (Cut axis value left right) own = joined_so (λ t. ¬ (IsSiblingTip t)) (λ records lone. lone) (λ page lone. lone) axis value (normal left) (normal right) (λ lone. lone)
-
-own_renamed : (old new : ℕ) (t : Tree) → ¬ (IsSiblingTip t) → ¬ (IsSiblingTip (renamed old new t))
-own_renamed old new (Tip (Records records)) own = λ lone. lone
-own_renamed old new (Tip (Child page)) own = λ lone. lone
-own_renamed old new (Tip (Sibling page)) own = own
-own_renamed old new (Cut axis value left right) own = λ lone. lone
-
--- ---- each leaf is of the right kind
-
-kinds_with : (level : ℕ) (path : List Side) (t other : Tree) → All (BelongsAt level) (leaves t) → All (BelongsAt level) (leaves other) → All (BelongsAt level) (leaves (with_part path t other))
-kinds_with level [] t other old new = new
-kinds_with level (Left ∷ path) (Tip leaf) other old new = old
-kinds_with level (Right ∷ path) (Tip leaf) other old new = old
-kinds_with level (Left ∷ path) (Cut axis value left right) other old new =
-    let B : Leaf → Type 0 = BelongsAt level in
-    All-append B (leaves (with_part path left other)) (leaves right) (kinds_with level path left other (All-front B (leaves left) (leaves right) old) new) (All-behind B (leaves left) (leaves right) old)
-kinds_with level (Right ∷ path) (Cut axis value left right) other old new =
-    let B : Leaf → Type 0 = BelongsAt level in
-    All-append B (leaves left) (leaves (with_part path right other)) (All-front B (leaves left) (leaves right) old) (kinds_with level path right other (All-behind B (leaves left) (leaves right) old) new)
 
 -- ---- the pages
 
@@ -142,7 +101,7 @@ module _ (same : (t : Tree) → SaysTheSame t (normal t)) (within : WithinCapaci
       spelled_with meta above (normal t) limits has made (cuts_normal meta.k t (cuts_renamed meta.k gone keep above.frag (cuts_of meta.k above.frag tree))) fit (record {
         kinds = said.kinds above.level (renamed_kinds gone keep above.level above.frag made.filled.kinds);
         light = omega (arith, lighter, made.filled.light);
-        own = own_normal t (own_renamed gone keep above.frag made.filled.own);
+        own = λ lone. made.filled.own (renamed_own gone keep above.frag (normal_own t lone));
       })
 
   -- the page to keep, with what the page to go has where its sibling leaf stood
@@ -159,12 +118,12 @@ module _ (same : (t : Tree) → SaysTheSame t (normal t)) (within : WithinCapaci
       let level : going.level ≡ kept.level = omega (arith, fits.kept_level, fits.gone_level) in
       let lighter : weight_of (normal t) ≤ merged_weight kept going = omega (arith, said.weight, weighs) in
       let few = quarter_less (capacity_of kept.level meta.dcap meta.icap) (merged_weight kept going) fits.may.light in
-      let kinds = kinds_with kept.level way kept.frag going.frag fits.kept_made.filled.kinds (subst (λ (n : ℕ). All (BelongsAt n) (leaves going.frag)) level fits.gone_made.filled.kinds) in
+      let kinds = with_leaves (BelongsAt kept.level) way kept.frag going.frag fits.kept_made.filled.kinds (subst (λ (n : ℕ). All (BelongsAt n) (leaves going.frag)) level fits.gone_made.filled.kinds) in
       spelled_with meta kept (normal t) limits has fits.kept_made (cuts_normal meta.k t (cuts_with meta.k way kept.frag going.frag (cuts_of meta.k kept.frag old) (cuts_of meta.k going.frag new)))
       (taken_fit meta.k gone kept going (all_fit meta.k kept.frag old) (all_fit meta.k going.frag new) (Some way)) (record {
         kinds = said.kinds kept.level kinds;
         light = omega (arith, lighter, few);
-        own = own_normal t (with_own way kept.frag kept.area (Tip (Sibling gone), leads.box) going.frag leads.part fits.gone_made.filled.own);
+        own = λ lone. with_own way kept.frag kept.area (Tip (Sibling gone), leads.box) going.frag leads.part fits.gone_made.filled.own (normal_own t lone);
       })
 
   -- ---- what an allowed operation makes

@@ -1,5 +1,6 @@
 -- What a file says of itself after an allowed operation, and the numbers of the pages that change.
 use Rattle.std.proofs.Common.{◌≡◌, ℕ, ◌<◌, ◌≤◌, ◌^◌, List, [], ◌∷◌, All, max, Option, Some, None, refl, sym, subst, ◌∙◌, arith}
+use Rattle.std.proofs.Math.Nat.{max-eq_left}
 use Rattle.std.proofs.lemmas.List.Elements.{All-cons, All-head, All-nil, All-tail}
 use Rattle.hb_space.specs.Boxes.{Area}
 use Rattle.hb_frag.specs.declared.pages.LivePage.{LivePage}
@@ -167,9 +168,6 @@ made_numbered (Grow fresh free_after) meta first second third allowed reads =
 
 -- ---- the highest page
 
-one_greatest : (high id : ℕ) → id ≤ high → max high id ≡ high
-one_greatest high id le = omega (arith, le)
-
 split_greatest : (high source fresh : ℕ) (path : List Side) (cuts : List LeafCut) (page : LivePage) (part : Tree × Area) → source ≤ high → greatest high (split_pages source fresh path cuts page (Some part)) ≡ max high fresh
 split_greatest high source fresh path cuts page part le = omega (arith, le)
 
@@ -180,15 +178,15 @@ three_greatest high a b c a_le b_le c_le = omega (arith, a_le, b_le, c_le)
 pub grown_high : (op : Op) (meta : Meta) (first second third : Option LivePage) → IsAllowedOn op meta first second third → All (IsPageOf meta) (reads_of op)
     → greatest meta.high (change_of op meta first second third).pages ≡ (change_of op meta first second third).meta.high
 grown_high (Put id rec) meta None second third allowed reads = absurd allowed
-grown_high (Put id rec) meta (Some page) second third allowed reads = one_greatest meta.high id (All-head (IsPageOf meta) id [] reads).1
+grown_high (Put id rec) meta (Some page) second third allowed reads = max-eq_left (All-head (IsPageOf meta) id [] reads).1
 grown_high (Del id point) meta None second third allowed reads = absurd allowed
-grown_high (Del id point) meta (Some page) second third allowed reads = one_greatest meta.high id (All-head (IsPageOf meta) id [] reads).1
+grown_high (Del id point) meta (Some page) second third allowed reads = max-eq_left (All-head (IsPageOf meta) id [] reads).1
 grown_high (Extract source fresh path cuts free_after) meta None second third allowed reads = absurd allowed
 grown_high (Extract source fresh path cuts free_after) meta (Some page) second third allowed reads =
     subst (λ (o : Option (Tree × Area)). greatest meta.high (split_pages source fresh path cuts page o) ≡ max meta.high fresh) (sym allowed.fits.there)
     (split_greatest meta.high source fresh path cuts page allowed.part (All-head (IsPageOf meta) source [] reads).1)
 grown_high (Post parent at inner area) meta None second third allowed reads = absurd allowed
-grown_high (Post parent at inner area) meta (Some page) second third allowed reads = one_greatest meta.high parent (All-head (IsPageOf meta) parent [] reads).1
+grown_high (Post parent at inner area) meta (Some page) second third allowed reads = max-eq_left (All-head (IsPageOf meta) parent [] reads).1
 grown_high (Merge parent keep gone) meta None second third allowed reads = absurd allowed
 grown_high (Merge parent keep gone) meta (Some above) None third allowed reads = absurd allowed
 grown_high (Merge parent keep gone) meta (Some above) (Some kept) None allowed reads = absurd allowed

@@ -1,13 +1,13 @@
 -- A page that is written to its place.
-use Rattle.std.proofs.Common.{◌≡◌, inl, inr, ℕ, ◌+◌, ◌≤◌, List, length, take, drop, Option, Some, None, IfSome, IsSome, Result, Ok, IsErr, refl, sym, ap, ◌∙◌, subst, arith}
-use Rattle.std.proofs.lemmas.Bool.{cases_lt}
+use Rattle.std.proofs.Common.{◌≡◌, inl, inr, ℕ, ◌+◌, ◌≤◌, List, length, take, drop, Some, None, IfSome, IsSome, Result, Ok, IsErr, sym, ap, ◌∙◌, subst, arith}
+use Rattle.std.proofs.lemmas.Bool.{cases_lt, false≢true}
 use Rattle.std.proofs.lemmas.Option.{same_Some}
 use Rattle.std.proofs.Math.Nat.{eq-or-lt_of_le}
 use Rattle.hb_space.specs.declared.form.TheConstants.{PAGE}
 use Rattle.hb_disk.specs.Model.{DiskModel, IsDisk, overwritten, Torn}
 use Rattle.hb_disk.specs.Calls.{Apart, Becomes, Ticks}
 use Rattle.hb_disk.proofs.Facts.OverwrittenLaws.{overwritten-reads}
-use Rattle.hb_lemmas.proofs.Options.{at_value, some_value, has_value}
+use Rattle.hb_lemmas.proofs.Options.{at_value, some_value, has_value, was_some}
 use Rattle.hb_frag.specs.declared.pages.Page.{Page}
 use Rattle.hb_frag.specs.Grammar.{SpellsPage}
 use Rattle.hb_layout.specs.declared.meta.Meta.{Meta}
@@ -21,27 +21,19 @@ other_place meta id at some first other = elim (cases_lt id at) [
   | inr most ↦ inr (omega (arith, most, other, some, first))
 ]
 
--- a disk that tells did so before
-pub told_before : {X : Type 0} (old new : Option X) → (old ≡ None → new ≡ None) → IsSome new → IsSome old
-told_before None new silent some = let none = silent refl in cc
-told_before (Some x) new silent some = refl
-
 -- a call that succeeds is one tick
 pub ok_tick : {T E : Type 0} (r : Result T E) (v : T) (old new : DiskModel) → r ≡ Ok v → IsDisk old → IsSome old.told → Ticks r old new → new.clock ≡ old.clock + 1
 ok_tick {T = T} {E = E} r v old new ok is_old tells ticks = elim (eq-or-lt_of_le is_old.clock_fits) [
-  | inl at_end ↦ let Q : Result T E → Type 0 = λ q. IsErr q in absurd (never v (subst Q ok (ticks.ended tells at_end).0))
+  | inl at_end ↦ let Q : Result T E → Type 0 = λ q. IsErr q in absurd (false≢true (subst Q ok (ticks.ended tells at_end).0))
   | inr before ↦ ticks.tick tells before
 ]
-  where
-    never : (v : T) → IsErr {T = T} {E = E} (Ok v) → ⊥
-    never v e = cc
 
 -- what a read gives of the place then
 pub page_written : (old new : DiskModel) → IsDisk old → (at : ℕ) (bytes : List ℕ) (meta : Meta) (id : ℕ) (page : Page) → at ≡ page_offset meta id → SpellsPage bytes page → file_size meta ≤ old.size → 1 ≤ id → id ≤ meta.pages
     → (old.told ≡ None → new.told ≡ None) → IfSome old.told (λ b. new.told ≡ Some (overwritten b at bytes))
     → (b : List ℕ) → new.told ≡ Some b → SpellsPage (place_bytes meta id b) page
 page_written old new is_old at bytes meta id page here spells room some most silent written b told =
-    let before = some_value old.told (told_before old.told new.told silent (has_value new.told b told)) in
+    let before = some_value old.told (was_some old.told new.told silent (has_value new.told b told)) in
     let after = overwritten before.0 at bytes in
     let same : after ≡ b = same_Some after b (sym (at_value old.told (λ x. new.told ≡ Some (overwritten x at bytes)) before.0 before.1 written) ∙ told) in
     let fits : at + length bytes ≤ length before.0 = omega (arith, here, spells.long, room, some, most, is_old.long before.0 (is_old.as_read before.0 before.1)) in

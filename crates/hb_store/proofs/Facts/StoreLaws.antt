@@ -1,5 +1,6 @@
 -- What follows of what a store keeps: what its disk opens to, and how many files are to come.
-use Rattle.std.proofs.Common.{◌≡◌, ◌⊎◌, inl, inr, ℕ, Bool, false, IsTrue, List, [], ◌∷◌, ◌++◌, length, map, flat_map, refl, sym, ap, ◌∙◌, subst, arith}
+use Rattle.std.proofs.Common.{◌≡◌, ◌⊎◌, inl, inr, ℕ, Bool, false, IsTrue, List, [], ◌∷◌, ◌++◌, length, map, flat_map, sym, ap, ◌∙◌, subst, arith}
+use Rattle.std.proofs.lemmas.List.{nil_from_length}
 use Rattle.hb_disk.specs.Model.{DiskModel}
 use Rattle.hb_wal.specs.Log.{Waiting}
 use Rattle.hb_layout.specs.declared.meta.Meta.{Meta}
@@ -82,13 +83,9 @@ count_both (w ∷ groups) (g ∷ waiting) t s (next ∷ later) same leads =
 pub StoreKeeps-one : (d : DiskModel) (st : StoreState) (durable : FileState) (later : List FileState) → StoreKeeps d st durable later → length later ≡ length st.log.groups
 StoreKeeps-one d st durable later keeps = count_both st.log.groups keeps.parts.waiting _ durable later keeps.waits.spelled keeps.waits.leads
 
-none_left : (later : List FileState) → length later ≡ 0 → later ≡ []
-none_left [] count = refl
-none_left (next ∷ later) count = absurd (omega (arith, count))
-
 pub StoreKeeps-alone : (d : DiskModel) (st : StoreState) (durable : FileState) (later : List FileState) → StoreKeeps d st durable later → st.log.groups ≡ [] → later ≡ []
 StoreKeeps-alone d st durable later keeps none =
-    none_left later (StoreKeeps-one d st durable later keeps ∙ ap (λ (l : List Waiting). length l) none)
+    nil_from_length later (StoreKeeps-one d st durable later keeps ∙ ap (λ (l : List Waiting). length l) none)
 
 -- so what a step does to a store with no file to come it does to one in which no group waits
 pub StoreKeeps-idle : (d : DiskModel) (st : StoreState) (P : FileState → List FileState → Type 0) → st.log.groups ≡ [] → ((durable : FileState) → StoreKeeps d st durable [] → P durable [])

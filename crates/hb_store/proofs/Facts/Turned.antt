@@ -7,7 +7,7 @@ use Rattle.hb_disk.specs.Calls.{Ticks, Syncs, Leaves, Becomes, Apart}
 use Rattle.hb_disk.proofs.Facts.RunLaws.{Leaves-start, Leaves-call, Leaves-then, Leaves-weaker}
 use Rattle.hb_lemmas.proofs.Options.{at_value, of_value, has_value, some_value}
 use Rattle.std.proofs.lemmas.Option.{same_Some}
-use Rattle.hb_disk.proofs.Facts.SyncedLaws.{IsSynced-durable}
+use Rattle.hb_disk.proofs.Facts.SyncedLaws.{IsSynced-durable, told_elsewhere}
 use Rattle.hb_disk.proofs.Facts.TornLaws.{Torn-elsewhere}
 use Rattle.hb_disk.proofs.Facts.OverwrittenLaws.{overwritten-reads}
 use Rattle.hb_frag.specs.declared.pages.Page.{Page}
@@ -17,6 +17,7 @@ use Rattle.hb_layout.specs.Offsets.{slot_offset, file_size, log_start, page_offs
 use Rattle.hb_super.specs.Superblocks.{IsNewest, next_turn}
 use Rattle.hb_super.specs.Moments.{WriteLeaves, IsUncovered, HasNoBody, HidesNoOther}
 use Rattle.hb_super.proofs.Facts.BodyLaws.{HasNoBody-other}
+use Rattle.hb_super.proofs.Facts.Gates.{newest_same}
 use Rattle.hb_layout.specs.declared.meta.Meta.{Meta}
 use Rattle.hb_ops.specs.Files.{FileState, page_of}
 use Rattle.hb_ops.proofs.Facts.FilePages.{page_in_range}
@@ -25,7 +26,7 @@ use Rattle.hb_store.specs.Opening.{OpensBy, OpensTo, log_bytes, place_bytes}
 use Rattle.hb_store.specs.Keeps.{IsFresh}
 use Rattle.hb_store.specs.Turning.{StillOpens, IsPlaced, MayTurn, OpensByEither}
 use Rattle.hb_store.proofs.Facts.ReplayLaws.{opens_elsewhere, opens_fresh}
-use Rattle.hb_store.proofs.Facts.FreshLaws.{HidesNoOther-elsewhere, IsNewest-elsewhere, IsFresh-from}
+use Rattle.hb_store.proofs.Facts.FreshLaws.{HidesNoOther-elsewhere, IsFresh-from, places_kept}
 use Rattle.hb_store.proofs.Facts.PlaceWrites.{Tore, tore}
 use Rattle.hb_disk.proofs.Facts.RewriteLaws.{Becomes-tells}
 
@@ -121,7 +122,7 @@ module _ (turn next : ℕ) (said meta : Meta) (small : turn ≤ 3) (is : next �
   pub still_torn : (b c : List ℕ) (from m : ℕ) → 8192 ≤ from → StillOpens turn said meta touched s b → Torn from m b c → Apart (log_start turn meta) meta.log from m
       → ((id : ℕ) → 1 ≤ id → touched id ≡ None → Apart (page_offset meta id) PAGE from m) → StillOpens turn said meta touched s c
   still_torn b c from m low opens torn =
-      still_by b c from m opens torn (IsNewest-elsewhere b c (Torn-elsewhere from m 0 8192 b c (inl low) torn) turn said opens.by.newest)
+      still_by b c from m opens torn (newest_same b c (places_kept from m b c low torn) turn said opens.by.newest)
 
   -- with the log area of the next turn torn
   pub still_area : (b c : List ℕ) → StillOpens turn said meta touched s b → Torn (log_start next meta) meta.log b c → StillOpens turn said meta touched s c
@@ -227,12 +228,10 @@ module _ (turn next : ℕ) (said meta : Meta) (small : turn ≤ 3) (is : next �
           places = IsSynced-durable new 0 8192 durable;
         };
         there = λ id page most is b told.
-            let same : tears.after ≡ b = same_Some tears.after b (sym tears.is ∙ told) in
             let S : List ℕ → Type 0 = λ l. SpellsPage l page in
-            let B : List ℕ → Type 0 = λ l. SpellsPage (place_bytes meta id l) page in
             let h = lies.next_high in
-            subst B same (subst S (sym (Torn-elsewhere (log_start next meta) meta.log (page_offset meta id) PAGE tears.before tears.after (inr (omega (arith, h))) (at_area tears.before tears.after tears.torn)))
-            (may.placed.there id page most is tears.before (sym syncs.same ∙ tears.was)));
+            subst S (sym (told_elsewhere mid new tears.before b (page_offset meta id) PAGE area meta.log tears.was told (inr (omega (arith, h, area_is))) run))
+            (may.placed.there id page most is tears.before (sym syncs.same ∙ tears.was));
       };
       alone = λ b c told image. at_value new.told (λ b. (c : List ℕ) → new.Image c → c ≡ b) b told durable c image;
       zeroed = λ b told.
@@ -248,7 +247,7 @@ module _ (turn next : ℕ) (said meta : Meta) (small : turn ≤ 3) (is : next �
           let N : List ℕ → Type 0 = λ l. HidesNoOther l next meta in
           let H : ℕ → Type 0 = λ n. HidesNoOther tears.before n meta in
           subst N (same_Some tears.after b (sym tears.is ∙ told))
-          (HidesNoOther-elsewhere tears.before tears.after (Torn-elsewhere area meta.log 0 8192 tears.before tears.after (inl low) tears.torn) next meta
+          (HidesNoOther-elsewhere tears.before tears.after (places_kept area meta.log tears.before tears.after low tears.torn) next meta
           (subst H (sym is) (may.hides tears.before (sym syncs.same ∙ tears.was))));
     }
       where

@@ -1,7 +1,6 @@
 -- Who is owed a leaf of the parent, and whether there is room for it.
-use Rattle.std.proofs.Common.{◌≡◌, ◌≢◌, ℕ, zero, suc, ◌+◌, ◌<◌, ◌≤◌, ◌↔◌, inl, inr, List, [], ◌∷◌, length, get_or, Option, Some, IsSome, Result, Ok, Err, refl, sym, ap, subst, ◌∙◌, arith}
+use Rattle.std.proofs.Common.{◌≡◌, ◌≢◌, ℕ, zero, suc, ◌+◌, ◌<◌, ◌≤◌, ◌↔◌, inl, inr, List, [], ◌∷◌, length, get_or, Option, Some, IsSome, refl, sym, ap, subst, ◌∙◌, arith}
 use Rattle.std.specs.List.{Contains}
-use Rattle.std.specs.Result.{OnErr}
 use Rattle.std.proofs.lemmas.Bool.{cases_lt}
 use Rattle.std.proofs.lemmas.List.Elements.{All-contains, Contains-append_right}
 use Rattle.hb_space.specs.Boxes.{Area, IsArea, Holds}
@@ -26,10 +25,7 @@ use Rattle.hb_terms.specs.declared.plans.PostPlan.TheVariants.{Nothing, Post, Sp
 use Rattle.hb_layout.specs.declared.meta.Meta.{Meta}
 use Rattle.hb_ops.specs.Posting.{FitsPost, posted}
 use Rattle.hb_ops.specs.Sound.{FitsFile}
-
--- two leaves that stand at one place are the same
-same_leaf : (o : Option Placed) (x y : Placed) → o ≡ Some x → o ≡ Some y → (x.leaf ≡ y.leaf) × (x.area ≡ y.area)
-same_leaf o x y h k = let e : x ≡ y = cc in (ap (λ (l : Placed). l.leaf) e, ap (λ (l : Placed). l.area) e)
+use Rattle.hb_lemmas.proofs.Options.{one_value}
 
 -- what two leaves that were looked at say of who is owed one
 pub owed_there : (parent child : LivePage) (p : List ℕ) (outer inner : ℕ) (above below : Leaf) (leaf area : Area) → leaf_at parent p ≡ Some (record { leaf = above; area = leaf }) → above ≡ Child outer → leaf_at child p ≡ Some (record { leaf = below; area = area }) → (below ≡ Sibling inner) × (inner ≢ outer) → IsOwed parent child p outer inner leaf area
@@ -38,16 +34,11 @@ owed_there parent child p outer inner above below leaf area h e k w =
     let Q : Leaf → Type 0 = λ l. leaf_at child p ≡ Some (record { leaf = l; area = area }) in
     record { above = subst P e h; below = subst Q w.0 k; other = w.1 }
 
--- what holds anyway holds of an error
-pub on_err_anyway : {T E X : Type 0} (r : Result T E) → X → OnErr r X
-on_err_anyway (Ok v) x = tt
-on_err_anyway (Err e) x = x
-
 -- the child's leaf at the point names no other page as a sibling
 pub owes_nothing : (parent child : LivePage) (p : List ℕ) (outer : ℕ) (leaf area : Area) (there : Leaf) → leaf_at parent p ≡ Some (record { leaf = Child outer; area = leaf }) → leaf_at child p ≡ Some (record { leaf = there; area = area }) → ((inner : ℕ) → there ≡ Sibling inner → inner ≡ outer) → OwesNothing parent child p
 owes_nothing parent child p outer leaf area there above below named outer' inner leaf' area' o =
-    let names : Child outer ≡ Child outer' = (same_leaf (leaf_at parent p) (record { leaf = Child outer; area = leaf }) (record { leaf = Child outer'; area = leaf' }) above o.above).0 in
-    let sibling : there ≡ Sibling inner = (same_leaf (leaf_at child p) (record { leaf = there; area = area }) (record { leaf = Sibling inner; area = area' }) below o.below).0 in
+    let names : Child outer ≡ Child outer' = ap (λ (l : Placed). l.leaf) (one_value (leaf_at parent p) (record { leaf = Child outer; area = leaf }) (record { leaf = Child outer'; area = leaf' }) above o.above) in
+    let sibling : there ≡ Sibling inner = ap (λ (l : Placed). l.leaf) (one_value (leaf_at child p) (record { leaf = there; area = area }) (record { leaf = Sibling inner; area = area' }) below o.below) in
     let same : outer ≡ outer' = cc in
     o.other (named inner sibling ∙ same)
 
@@ -140,13 +131,13 @@ plan_fits meta parent child p at inner area made above h k cut' plan =
 -- two plans are the same
 not_both : (parent child : LivePage) (p : List ℕ) (icap outer inner : ℕ) (leaf area : Area) (outer' inner' : ℕ) (leaf' area' : Area) → IsOwed parent child p outer inner leaf area → IsOwed parent child p outer' inner' leaf' area' → weight_of (posted_parent parent p outer inner leaf area) ≤ icap → icap < weight_of (posted_parent parent p outer' inner' leaf' area') → ⊥
 not_both parent child p icap outer inner leaf area outer' inner' leaf' area' h k room heavy =
-    let up = same_leaf (leaf_at parent p) (record { leaf = Child outer; area = leaf }) (record { leaf = Child outer'; area = leaf' }) h.above k.above in
-    let down = same_leaf (leaf_at child p) (record { leaf = Sibling inner; area = area }) (record { leaf = Sibling inner'; area = area' }) h.below k.below in
-    let names = up.0 in
-    let givens = down.0 in
+    let up = one_value (leaf_at parent p) (record { leaf = Child outer; area = leaf }) (record { leaf = Child outer'; area = leaf' }) h.above k.above in
+    let down = one_value (leaf_at child p) (record { leaf = Sibling inner; area = area }) (record { leaf = Sibling inner'; area = area' }) h.below k.below in
+    let names : Child outer ≡ Child outer' = ap (λ (l : Placed). l.leaf) up in
+    let givens : Sibling inner ≡ Sibling inner' = ap (λ (l : Placed). l.leaf) down in
     let o : outer ≡ outer' = cc in
     let i : inner ≡ inner' = cc in
-    let e : posted_parent parent p outer inner leaf area ≡ posted_parent parent p outer' inner' leaf' area' = λ j. posted_parent parent p (o j) (i j) (up.1 j) (down.1 j) in
+    let e : posted_parent parent p outer inner leaf area ≡ posted_parent parent p outer' inner' leaf' area' = λ j. posted_parent parent p (o j) (i j) (up j).area (down j).area in
     let w = ap weight_of e in
     omega arith
 
@@ -156,11 +147,11 @@ one_plan parent child p icap Nothing (Post at inner area) h k = absurd (h k.oute
 one_plan parent child p icap Nothing SplitFirst h k = absurd (h k.outer k.inner k.leaf k.area k.owed)
 one_plan parent child p icap (Post at inner area) Nothing h k = absurd (k h.outer inner h.leaf area h.owed)
 one_plan parent child p icap (Post at inner area) (Post at' inner' area') h k =
-    let down = same_leaf (leaf_at child p) (record { leaf = Sibling inner; area = area }) (record { leaf = Sibling inner'; area = area' }) h.owed.below k.owed.below in
-    let names = down.0 in
+    let down = one_value (leaf_at child p) (record { leaf = Sibling inner; area = area }) (record { leaf = Sibling inner'; area = area' }) h.owed.below k.owed.below in
+    let names : Sibling inner ≡ Sibling inner' = ap (λ (l : Placed). l.leaf) down in
     let i : inner ≡ inner' = cc in
     let w : at ≡ at' = h.way ∙ sym k.way in
-    λ j. Post (w j) (i j) (down.1 j)
+    λ j. Post (w j) (i j) (down j).area
 one_plan parent child p icap (Post at inner area) SplitFirst h k = absurd (not_both parent child p icap h.outer inner h.leaf area k.outer k.inner k.leaf k.area h.owed k.owed h.room k.heavy)
 one_plan parent child p icap SplitFirst Nothing h k = absurd (k h.outer h.inner h.leaf h.area h.owed)
 one_plan parent child p icap SplitFirst (Post at inner area) h k = absurd (not_both parent child p icap k.outer inner k.leaf area h.outer h.inner h.leaf h.area k.owed h.owed k.room h.heavy)

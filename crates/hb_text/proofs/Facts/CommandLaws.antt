@@ -13,7 +13,8 @@ use Rattle.hb_text.specs.Operands.{or_fault, values_read, lows, highs, pairs_are
 use Rattle.std.proofs.lemmas.Bool.Decides.{nat_tests}
 use Rattle.std.proofs.lemmas.List.{length-take}
 use Rattle.hb_lemmas.proofs.Booleans.{chosen}
-use Rattle.hb_text.proofs.Facts.ReadingLaws.{bound, ok_same}
+use Rattle.hb_lemmas.proofs.Options.{same_Ok}
+use Rattle.hb_text.proofs.Facts.ReadingLaws.{bound}
 
 -- as many values as words
 values_length : (words : List (List ℕ)) (values : List ℕ) → values_read words ≡ Ok values → length values ≡ length words
@@ -53,7 +54,7 @@ operands_attributes verbs.Search k words command count e =
     let values = bound (values_read words) box_read area.0 area.1 in
     let same : Search area.0 ≡ command = cc (area.2) in
     rw (← same) (elim (chosen (pairs_are_ordered values.0) (Ok (record { lo = lows values.0; hi = highs values.0 })) (Err EmptyBox) (Ok area.0) values.2) [
-      | inl ordered ↦ ap (λ (a : Area). length a.lo) (sym (ok_same _ _ ordered.1)) ∙ half_of values.0 k (values_length words values.0 values.1 ∙ count)
+      | inl ordered ↦ ap (λ (a : Area). length a.lo) (sym (same_Ok _ _ ordered.1)) ∙ half_of values.0 k (values_length words values.0 values.1 ∙ count)
       | inr empty ↦ cc (empty.1)
     ])
 

@@ -14,7 +14,7 @@ use Rattle.hb_text.specs.Operands.{command_read}
 use Rattle.hb_text.specs.StepWords.{session_number}
 use Rattle.std.proofs.lemmas.Bool.Decides.{nat_tests}
 use Rattle.hb_lemmas.proofs.Booleans.{chosen}
-use Rattle.hb_text.proofs.Facts.ReadingLaws.{ok_same}
+use Rattle.hb_lemmas.proofs.Options.{same_Ok}
 use Rattle.std.proofs.lemmas.Option.{same_Some}
 use Rattle.hb_text.proofs.Facts.CommandLaws.{command_attributes}
 
@@ -33,7 +33,7 @@ FitsLine k number said = AllByRecursion (λ l. IsLineFor k l × (l.number ≡ nu
 command_fits : (k number session : ℕ) (read : Result Command TextRule) (said : Said) → 1 ≤ number → number ≤ 1000000 → 1 ≤ session → session ≤ 16 → ((command : Command) → read ≡ Ok command → attributes command ≡ k) → says_command number session read ≡ Ok said → FitsLine k number said
 command_fits k number session (Err rule) said n_from n_to s_from s_to fits e = cc
 command_fits k number session (Ok command) said n_from n_to s_from s_to fits e =
-    rw (← ok_same _ _ e) ((record { number_from = n_from; number_to = n_to; session_from = s_from; session_to = s_to; attributes_are = fits command refl }, refl), tt)
+    rw (← same_Ok _ _ e) ((record { number_from = n_from; number_to = n_to; session_from = s_from; session_to = s_to; attributes_are = fits command refl }, refl), tt)
 
 pub session_line_fits : (k number : ℕ) (session : Option ℕ) (words : List (List ℕ)) (said : Said) → 1 ≤ number → number ≤ 1000000 → ((s : ℕ) → session ≡ Some s → (1 ≤ s) × (s ≤ 16)) → session_read k number session words ≡ Ok said → FitsLine k number said
 session_line_fits k number None words said n_from n_to s_fits e = cc
@@ -44,7 +44,7 @@ session_line_fits k number (Some session) words said n_from n_to s_fits e =
 -- a step line says no command
 no_command : (k number : ℕ) (read : Result (List ℕ) TextRule) (said : Said) → says_steps read ≡ Ok said → FitsLine k number said
 no_command k number (Err rule) said e = cc
-no_command k number (Ok steps) said e = rw (← ok_same _ _ e) tt
+no_command k number (Ok steps) said e = rw (← same_Ok _ _ e) tt
 
 pub steps_fit : (k number : ℕ) (may : Bool) (read : Result (List ℕ) TextRule) (said : Said) → (if may then says_steps read else Err BadStep) ≡ Ok said → FitsLine k number said
 steps_fit k number true read said e = no_command k number read said e

@@ -16,7 +16,8 @@ use Rattle.hb_text.specs.Words.{words_of, lines_of, is_empty, is_printable}
 use Rattle.hb_text.specs.StepWords.{session_of, steps_read}
 use Rattle.std.proofs.lemmas.Bool.Decides.{nat_tests}
 use Rattle.hb_lemmas.proofs.Booleans.{chosen}
-use Rattle.hb_text.proofs.Facts.ReadingLaws.{bound, ok_same, at_line_ok}
+use Rattle.hb_lemmas.proofs.Options.{same_Ok}
+use Rattle.hb_text.proofs.Facts.ReadingLaws.{bound, at_line_ok}
 use Rattle.hb_text.proofs.Facts.LineLaws.{session_fits, FitsLine, session_line_fits, steps_fit}
 
 -- whether step lines are allowed
@@ -40,7 +41,7 @@ module _ (allowed : Bool) where
       elim (chosen (nat_lt 1000000 number) (Err TooMany) some (Ok said) e) [
         | inl many ↦ cc (many.1)
         | inr few ↦ elim (chosen (is_empty line) (Ok (record { line = None; steps = [] })) short (Ok said) few.1) [
-          | inl none ↦ rw (← ok_same _ _ none.1) tt
+          | inl none ↦ rw (← same_Ok _ _ none.1) tt
           | inr filled ↦ elim (chosen (nat_lt LINE (length line)) (Err LongLine) plain (Ok said) filled.1) [
             | inl long ↦ cc (long.1)
             | inr fit ↦ elim (chosen (not (list_all is_printable line)) (Err BadByte) spaced (Ok said) fit.1) [
@@ -78,11 +79,11 @@ module _ (allowed : Bool) where
 
   lines_fit : (k taken number : ℕ) (lines : List (List ℕ)) (reading : Reading) → 1 ≤ number → lines_read allowed k taken number lines ≡ Ok reading → IsScriptFrom k number reading.lines
   unfolding lines_read
-  lines_fit k taken number [] reading n_from e = rw (← ok_same _ _ e) (record { lines = tt; from = tt; rising = tt })
+  lines_fit k taken number [] reading n_from e = rw (← same_Ok _ _ e) (record { lines = tt; from = tt; rising = tt })
   lines_fit k taken number (line ∷ lines) reading n_from e =
       let said = bound (at_line number (line_read allowed k taken number line)) _ reading e in
       let more = bound (lines_read allowed k (taken + length said.0.steps) (number + 1) lines) _ reading said.2 in
-      rw (← ok_same _ _ more.2) (one_more k number said.0.line more.0.lines
+      rw (← same_Ok _ _ more.2) (one_more k number said.0.line more.0.lines
       (line_fits k taken number line said.0 n_from (at_line_ok number _ said.0 said.1))
       (lines_fit k (taken + length said.0.steps) (number + 1) lines more.0 (omega arith) more.1))
 

@@ -15,7 +15,8 @@ use Rattle.hb_text.specs.StepWords.{steps_of, within_schedule, steps_read, sessi
 use Rattle.hb_text.specs.Operands.{command_read}
 use Rattle.hb_text.specs.Words.{words_of, lines_of, is_empty, is_printable}
 use Rattle.hb_lemmas.proofs.Booleans.{chosen}
-use Rattle.hb_text.proofs.Facts.ReadingLaws.{bound, at_line_ok, ok_same}
+use Rattle.hb_lemmas.proofs.Options.{same_Ok}
+use Rattle.hb_text.proofs.Facts.ReadingLaws.{bound, at_line_ok}
 use Rattle.hb_text.proofs.Facts.ActorLaws.{IsActor, AreActors, all_append, words_actors}
 
 -- the steps of a line: actors, within the schedule, and none where step lines aren't allowed
@@ -31,7 +32,7 @@ within_fits : (taken : ℕ) (read : Option (List ℕ)) (steps : List ℕ) → ((
 within_fits taken None steps f e = cc
 within_fits taken (Some said) steps f e = elim (chosen (nat_le (taken + length said) 10000000) (Ok said) (Err BadStep) (Ok steps) e) [
   | inl fits ↦
-      let same : said ≡ steps = ok_same _ _ fits.1 in
+      let same : said ≡ steps = same_Ok _ _ fits.1 in
       let few : taken + length said ≤ 10000000 = grind (arith, nat_tests, fits.0) in
       (subst AreActors same (f said refl), subst (λ (s : List ℕ). taken + length s ≤ 10000000) same few)
   | inr many ↦ cc (many.1)
@@ -45,13 +46,13 @@ said_steps : (allowed : Bool) (taken : ℕ) (words : List (List ℕ)) (read : Re
 said_steps false taken words read said is e = cc
 said_steps true taken words (Err rule) said is e = cc
 said_steps true taken words (Ok steps) said is e =
-    let same : steps ≡ said.steps = ap (λ (s : Said). s.steps) (ok_same _ _ e) in
+    let same : steps ≡ said.steps = ap (λ (s : Said). s.steps) (same_Ok _ _ e) in
     let fits = read_fits taken words steps (sym is) in
     subst (FitsSchedule true taken) same (record { actors = fits.0; few = λ h. fits.1; none = λ e. cc })
 
 command_steps : (number session : ℕ) (read : Result Command TextRule) (said : Said) → says_command number session read ≡ Ok said → said.steps ≡ []
 command_steps number session (Err rule) said e = cc
-command_steps number session (Ok command) said e = sym (ap (λ (s : Said). s.steps) (ok_same _ _ e))
+command_steps number session (Ok command) said e = sym (ap (λ (s : Said). s.steps) (same_Ok _ _ e))
 
 session_steps : (k number : ℕ) (session : Option ℕ) (words : List (List ℕ)) (said : Said) → session_read k number session words ≡ Ok said → said.steps ≡ []
 session_steps k number None words said e = cc
@@ -77,7 +78,7 @@ module _ (allowed : Bool) where
       elim (chosen (nat_lt 1000000 number) (Err TooMany) some (Ok said) e) [
         | inl many ↦ cc (many.1)
         | inr few ↦ elim (chosen (is_empty line) (Ok (record { line = None; steps = [] })) short (Ok said) few.1) [
-          | inl none ↦ subst (FitsSchedule allowed taken) (ap (λ (s : Said). s.steps) (ok_same _ _ none.1)) (no_steps allowed taken)
+          | inl none ↦ subst (FitsSchedule allowed taken) (ap (λ (s : Said). s.steps) (same_Ok _ _ none.1)) (no_steps allowed taken)
           | inr filled ↦ elim (chosen (nat_lt LINE (length line)) (Err LongLine) plain (Ok said) filled.1) [
             | inl long ↦ cc (long.1)
             | inr fit ↦ elim (chosen (not (list_all is_printable line)) (Err BadByte) spaced (Ok said) fit.1) [
@@ -96,13 +97,13 @@ module _ (allowed : Bool) where
 
   lines_schedule : (k taken number : ℕ) (lines : List (List ℕ)) (reading : Reading) → lines_read allowed k taken number lines ≡ Ok reading → FitsSchedule allowed taken reading.steps
   unfolding lines_read
-  lines_schedule k taken number [] reading e = subst (FitsSchedule allowed taken) (ap (λ (r : Reading). r.steps) (ok_same _ _ e)) (no_steps allowed taken)
+  lines_schedule k taken number [] reading e = subst (FitsSchedule allowed taken) (ap (λ (r : Reading). r.steps) (same_Ok _ _ e)) (no_steps allowed taken)
   lines_schedule k taken number (line ∷ lines) reading e =
       let said = bound (at_line number (line_read allowed k taken number line)) _ reading e in
       let more = bound (lines_read allowed k (taken + length said.0.steps) (number + 1) lines) _ reading said.2 in
       let one = line_schedule k taken number line said.0 (at_line_ok number _ said.0 said.1) in
       let rest = lines_schedule k (taken + length said.0.steps) (number + 1) lines more.0 more.1 in
-      let same : said.0.steps ++ more.0.steps ≡ reading.steps = ap (λ (r : Reading). r.steps) (ok_same _ _ more.2) in
+      let same : said.0.steps ++ more.0.steps ≡ reading.steps = ap (λ (r : Reading). r.steps) (same_Ok _ _ more.2) in
       subst (FitsSchedule allowed taken) same (record {
         actors = all_append said.0.steps more.0.steps one.actors rest.actors;
         few = λ h. omega (arith, length-append said.0.steps more.0.steps, rest.few (one.few h));

@@ -2,6 +2,7 @@
 use Rattle.std.proofs.Common.{◌≡◌, List, [], Option, Some, None, IfSome, Result, Ok, Err, refl, sym, ◌∙◌, subst, arith}
 use Rattle.std.specs.Result.{IfErr, IfOk}
 use Rattle.std.proofs.lemmas.List.Elements.{All-nil}
+use Rattle.hb_lemmas.proofs.Options.{if_value}
 use Rattle.hb_disk.proofs.Facts.RewriteLaws.{Becomes-tells}
 use Rattle.hb_disk.proofs.Facts.RunLaws.{Leaves-then}
 use Rattle.hb_disk.specs.Calls.{Leaves}
@@ -23,7 +24,7 @@ use Rattle.hb_core.specs.Working.{MayStep}
 use Rattle.hb_tidy.specs.declared.stops.TidyStop.{TidyStop}
 use Rattle.hb_tidy.specs.declared.stops.TidyStop.TheVariants as stops
 use Rattle.hb_tidy.proofs.LiveCounted.{live_then}
-use Rattle.hb_tidy.proofs.OneCall.{no_fault_in}
+use Rattle.hb_core.proofs.Facts.RunFaults.{no_fault_in}
 use Rattle.hb_tidy.proofs.Worked.{worked_as, worked_err, worked_then}
 use Rattle.hb_tidy.specs.Counted.{CountsRise}
 use Rattle.hb_tidy.specs.Going.{Does, Goes}
@@ -258,15 +259,11 @@ over_known knows r says d e old new one = over_weaker NothingOf knows r says say
 -- a look is a call
 pub over_goes : {T : Type 0} (r : Result T TidyStop) (says : T → FileState → Type 0) (d e : DiskModel) (old new : RunningCore) → LooksOver NothingOf r says d old e new → Goes r d old e new
 over_goes r says d e old new one = record {
-  does = λ m may. (one.looks m may (anything (file_now m))).does;
+  does = λ m may. (one.looks m may (if_value (file_now m) NothingOf (λ s is. tt))).does;
   counts = one.counts;
   spent = one.spent;
   may = one.may;
 }
-  where
-    anything : (o : Option FileState) → IfSome o NothingOf
-    anything None = tt
-    anything (Some s) = tt
 
 -- a call that ended well goes on
 pub goes_next : (v : Unit {0}) (r : Result (Unit {0}) TidyStop) (d e f : DiskModel) (old mid new : RunningCore) → Goes (Ok v) d old e mid → Goes r e mid f new → r ≡ Ok v → Goes (Ok v) d old f new

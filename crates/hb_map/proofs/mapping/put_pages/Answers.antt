@@ -1,9 +1,9 @@
 use Rattle.std.proofs.Common.{◌+◌, ◌++◌, get_or, arith, ◌∙◌}
 use Rattle.std.proofs.lemmas.Bool.{false≢true}
+use Rattle.hb_lemmas.proofs.Options.{ok_not_err}
 use Rattle.hb_outside.proofs.Facts.PutLaws.{Appends-both, Appends-front}
 use Rattle.hb_map.specs.Map.{page_text}
 use Rattle.hb_map.proofs.Looks.{looks_on}
-use Rattle.hb_map.proofs.Readings.{ok_no_err}
 use Rattle.hb_map.proofs.Texts.{longer_front, stopped}
 use Rattle.hb_map.proofs.WholeMaps.{page_behind, page_next}
 use Rattle.hb_map.proofs.mapping.put_pages.Goals as goal
@@ -26,7 +26,7 @@ loop-place-preserved g c =
     let inv = c.loop-place.invariant in
     let text = page_text (c.loop-place.place + 1) (get_or c.args.parents.now c.loop-place.place 0) c.in_ok-page.page in
     record {
-      through = looks_on _ _ _ _ _ _ (λ is. ok_no_err _ _ is) inv.through c.in_ok-page.ensures.reads.through;
+      through = looks_on _ _ _ _ _ _ (λ is. ok_not_err _ _ is) inv.through c.in_ok-page.ensures.reads.through;
       high = inv.high;
       few = inv.few;
       faults = c.in_ok-put_page.ensures.counts.no_fault (λ e. false≢true e) ∙ inv.faults;

@@ -1,17 +1,17 @@
 use Rattle.std.proofs.Common.{◌+◌, arith, sym, ◌∙◌}
+use Rattle.hb_lemmas.proofs.Options.{ok_not_err}
 use Rattle.hb_store.specs.Seen.{disk_of, held_by}
 use Rattle.hb_ops.specs.Files.{last_of}
 use Rattle.hb_map.specs.Map.{is_parent}
 use Rattle.hb_map.proofs.Countings.{all_counted, as_many_pages, counted_on, low_on}
 use Rattle.hb_map.proofs.Looks.{looks_on}
-use Rattle.hb_map.proofs.Readings.{ok_no_err}
 use Rattle.hb_map.proofs.parents.count_pages.Goals as goal
 
 pub loop-place-preserved : goal.loop-place-preserved
 loop-place-preserved g c =
     let inv = c.loop-place.invariant in
     record {
-      through = looks_on _ _ _ _ _ _ (λ is. ok_no_err _ _ is) inv.through c.in_ok-page.ensures.reads.through;
+      through = looks_on _ _ _ _ _ _ (λ is. ok_not_err _ _ is) inv.through c.in_ok-page.ensures.reads.through;
       high = inv.high;
       few = inv.few;
       long = c.count_page.ensures.long ∙ inv.long;

@@ -1,8 +1,9 @@
 use Rattle.std.proofs.Common.{◌≡◌, List, ℕ, length, ap, subst, slice_index_or, arith}
 use Rattle.std.specs.List.{flat_map}
+use Rattle.std.proofs.lemmas.List.Folds.{length-flat_map-take}
 use Rattle.hb_lemmas.specs.Numbers.{big_endian}
 use Rattle.hb_page_codec.specs.Writing.{Wrote}
-use Rattle.hb_page_codec.proofs.Writes.{room_for, Wrote-next, Wrote-nothing, wrote_all}
+use Rattle.hb_page_codec.proofs.Writes.{Wrote-next, Wrote-nothing, wrote_all}
 use Rattle.hb_page_codec.proofs.encoding.put_point.Goals as goal
 use Rattle.hb_lemmas.proofs.Numbers.{length_big_endian}
 
@@ -10,7 +11,7 @@ pub put_u64-end-requires : goal.put_u64-end-requires
 put_u64-end-requires c =
     let xs = c.values-value-items.result.now in
     let i = c.loop-value.value-index in
-    let room = room_for (big_endian 8) xs i 0 c.loop-value-test.true in
+    let room = length-flat_map-take (big_endian 8) xs i 0 c.loop-value-test.true in
     let all : length (flat_map (big_endian 8) xs) ≡ length (flat_map (big_endian 8) c.args.point.now) = ap (λ (p : List ℕ). length (flat_map (big_endian 8) p)) c.values-value-items.ensures.value in
     omega (arith, room, all, length_big_endian 8 (slice_index_or xs i 0), c.requires, c.loop-value.invariant.behind, c.loop-value.auto.into)
 

@@ -1,15 +1,16 @@
 use Rattle.std.proofs.Common.{length, ap, subst, arith}
+use Rattle.std.proofs.lemmas.List.Folds.{length-flat_map-take}
 use Rattle.hb_space.specs.declared.records.Record.{Record}
 use Rattle.hb_frag.specs.Grammar.{record_bytes}
 use Rattle.hb_page_codec.specs.Writing.{Wrote}
-use Rattle.hb_page_codec.proofs.Writes.{room_for, Wrote-next, Wrote-nothing, wrote_all}
+use Rattle.hb_page_codec.proofs.Writes.{Wrote-next, Wrote-nothing, wrote_all}
 use Rattle.hb_page_codec.proofs.encoding.put_records.Goals as goal
 
 pub put_record-end-requires : goal.put_record-end-requires
 put_record-end-requires c =
     let xs = c.args.records.now in
     let r = c.entry-item.result in
-    let room = room_for record_bytes xs c.loop-entry.entry-index r c.loop-entry-test.true in
+    let room = length-flat_map-take record_bytes xs c.loop-entry.entry-index r c.loop-entry-test.true in
     let size = ap (λ (e : Record). length (record_bytes e)) c.entry-item.is in
     omega (arith, room, size, c.requires, c.loop-entry.invariant.behind, c.loop-entry.auto.into)
 

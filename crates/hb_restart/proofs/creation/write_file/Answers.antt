@@ -1,7 +1,7 @@
 use Rattle.std.proofs.Common.{◌≡◌, ◌≢◌, ℕ, ◌≤◌, ◌∙◌, ◌∷◌, List, get_or, Some, IfSome, IsSome, length, ap, is_err, arith}
 use Rattle.hb_disk.specs.Model.{Torn, overwritten}
 use Rattle.hb_disk.specs.Calls.{open_gate}
-use Rattle.hb_lemmas.proofs.Options.{at_value, some_value}
+use Rattle.hb_lemmas.proofs.Options.{at_value, some_value, was_some}
 use Rattle.hb_frag.specs.declared.pages.Page.{Page}
 use Rattle.hb_frag.specs.Grammar.{SpellsPage}
 use Rattle.hb_super.specs.Superblocks.{IsNewest, body_bytes}
@@ -11,7 +11,6 @@ use Rattle.hb_restart.specs.Creation.{IsLaidOut}
 use Rattle.hb_restart.specs.NewFiles.{lone}
 use Rattle.hb_disk.proofs.Facts.RewriteLaws.{Rewrites-as, Rewrites-torn, Rewrites-weaker}
 use Rattle.hb_disk.proofs.Facts.TornLaws.{Torn-wider}
-use Rattle.hb_store.proofs.Facts.PlaceWrites.{told_before}
 use Rattle.hb_restart.proofs.Made.{frame_long, on_ok_three, made_fresh}
 use Rattle.hb_restart.proofs.creation.write_file.Goals as goal
 
@@ -26,7 +25,7 @@ pub write_first_super-requires-clause-closed : goal.write_first_super-requires-c
 write_first_super-requires-clause-closed g c = λ tells x image opened.
     let d = g.D.Device.model c.args.disk.now in
     let one = g.D.Device.model c.lay_out.new.disk in
-    let before = some_value d.told (told_before d.told one.told c.lay_out.ensures.wrote.became.silent tells) in
+    let before = some_value d.told (was_some d.told one.told c.lay_out.ensures.wrote.became.silent tells) in
     let laid = at_value d.told (λ b. (e : List ℕ) × (one.told ≡ Some e) × IsLaidOut e c.args.meta.now c.args.page.now) before.0 before.1 c.in_ok-lay_out.ensures.laid in
     let same : x ≡ laid.0 = at_value one.told (λ b. (e : List ℕ) → one.Image e → e ≡ b) laid.0 laid.1 c.in_ok-lay_out.ensures.lasts x image in
     let zero_is : get_or x 0 0 ≡ 0 = ap (λ (l : List ℕ). get_or l 0 0) same ∙ laid.2.places.first in

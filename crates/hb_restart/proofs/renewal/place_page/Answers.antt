@@ -1,7 +1,8 @@
 use Rattle.std.proofs.Common.{◌≡◌, ◌+◌, ℕ, List, Some, refl, sym, arith}
 use Rattle.std.specs.Ordering.{nat_cmp}
 use Rattle.std.specs.BTreeMap.{get}
-use Rattle.hb_lemmas.proofs.Options.{not_none, on_ok_weaker}
+use Rattle.std.proofs.lemmas.Result.{on_ok_weaker}
+use Rattle.hb_lemmas.proofs.Options.{not_none}
 use Rattle.hb_super.specs.Superblocks.{next_turn}
 use Rattle.hb_layout.specs.declared.meta.Meta.{Meta}
 use Rattle.hb_layout.specs.Offsets.{file_size, page_offset}
@@ -42,8 +43,7 @@ returns-in-Some-clause-placed g c =
     let new = g.D.Device.model c.write_page.new.disk in
     let found = c.args.found.now in
     let touched = get nat_cmp found.touched in
-    on_ok_weaker c.write_page.result ((b : List ℕ) → new.told ≡ Some b → SpellsPage (place_bytes found.meta c.args.id b) c.in-Some.page.now)
-    ((said : Meta) (s : FileState) (before : ℕ) → before + 1 ≡ c.args.id → IsPlacedTo before d found.turn said found.meta touched s → IsPlacedTo c.args.id new found.turn said found.meta touched s)
+    on_ok_weaker {P = (b : List ℕ) → new.told ≡ Some b → SpellsPage (place_bytes found.meta c.args.id b) c.in-Some.page.now} {Q = (said : Meta) (s : FileState) (before : ℕ) → before + 1 ≡ c.args.id → IsPlacedTo before d found.turn said found.meta touched s → IsPlacedTo c.args.id new found.turn said found.meta touched s} c.write_page.result
     (λ there said s before is placed.
     placed_there found.turn (next_turn found.turn) said found.meta c.requires.renewable.lies.legal.turn_fits refl touched s c.write_page.result d new (g.met.D.Device.is_disk c.args.disk.now) placed.here
     c.args.id c.requires.some (not_none (touched c.args.id) c.in-Some.page.now (sym c.in-Some.ensures.value)) c.write_page.ensures.ticks c.write_page.ensures.place

@@ -1,7 +1,8 @@
 use Rattle.std.proofs.Common.{◌≡◌, ℕ, ◌+◌, List, Some, IfSome, IsErr, ap, is_err, ◌∙◌, arith}
 use Rattle.std.specs.Ordering.{nat_cmp}
 use Rattle.std.specs.BTreeMap.{get}
-use Rattle.hb_lemmas.proofs.Options.{has_value, if_value, on_ok_weaker}
+use Rattle.std.proofs.lemmas.Result.{on_ok_weaker}
+use Rattle.hb_lemmas.proofs.Options.{has_value, if_value}
 use Rattle.hb_super.specs.Superblocks.{next_turn}
 use Rattle.hb_layout.specs.declared.meta.Meta.{Meta}
 use Rattle.hb_ops.specs.Files.{FileState}
@@ -39,8 +40,7 @@ returns-clause-renewed g c =
     let meta = c.args.found.now.meta in
     let touched = get nat_cmp c.args.found.now.touched in
     let count = c.args.found.now.count in
-    on_ok_weaker c.rewrite.result ((said : Meta) (s : FileState) → IsHere mid turn said meta touched s → IsFresh new (next_turn turn) meta s)
-    (IfSome d.told (λ b. IsFoundIn b turn meta touched count → (s : FileState) → OpensTo b s → IsFresh new (next_turn turn) meta s × ((x : List ℕ) → new.ImageSince (d.clock + 1) x → OpensTo x s)))
+    on_ok_weaker {P = (said : Meta) (s : FileState) → IsHere mid turn said meta touched s → IsFresh new (next_turn turn) meta s} {Q = IfSome d.told (λ b. IsFoundIn b turn meta touched count → (s : FileState) → OpensTo b s → IsFresh new (next_turn turn) meta s × ((x : List ℕ) → new.ImageSince (d.clock + 1) x → OpensTo x s))} c.rewrite.result
     (synced_renewed c.sync.result c.in_ok-sync.field-0 c.in_ok-sync.was d mid new (g.met.D.Device.is_disk c.args.disk.now)
     c.sync.ensures c.sync.ensures.ticks turn meta touched count c.an_image_opens_to_one_file.ensures.one c.rewrite.ensures.moments)
     c.rewrite.ensures.fresh
@@ -89,8 +89,7 @@ returns-clause-all g c =
     let meta = c.args.found.now.meta in
     let touched = get nat_cmp c.args.found.now.touched in
     let count = c.args.found.now.count in
-    on_ok_weaker c.rewrite.result ((said : Meta) (s : FileState) (b : List ℕ) → IsHere mid turn said meta touched s → mid.told ≡ Some b → WritesAll mid.clock b meta touched new)
-    (IfSome d.told (λ b. IsFoundIn b turn meta touched count → WritesAll (d.clock + 1) b meta touched new))
+    on_ok_weaker {P = (said : Meta) (s : FileState) (b : List ℕ) → IsHere mid turn said meta touched s → mid.told ≡ Some b → WritesAll mid.clock b meta touched new} {Q = IfSome d.told (λ b. IsFoundIn b turn meta touched count → WritesAll (d.clock + 1) b meta touched new)} c.rewrite.result
     (synced_counted c.sync.result c.in_ok-sync.field-0 c.in_ok-sync.was d mid new (g.met.D.Device.is_disk c.args.disk.now)
     c.sync.ensures c.sync.ensures.ticks turn meta touched count c.an_image_opens_to_one_file.ensures.one c.rewrite.ensures.moments (λ n b. WritesAll n b meta touched new))
     c.rewrite.ensures.all

@@ -1,8 +1,9 @@
 use Rattle.std.proofs.Common.{◌≡◌, ◌+◌, ℕ, List, Option, Some, IsErr, ap, is_err, arith}
 use Rattle.std.specs.Ordering.{nat_cmp}
 use Rattle.std.specs.BTreeMap.{get}
+use Rattle.std.proofs.lemmas.Result.{on_ok_weaker}
 use Rattle.hb_disk.proofs.Facts.RunLaws.{Leaves-weaker, Leaves-then}
-use Rattle.hb_lemmas.proofs.Options.{on_ok, on_ok_weaker}
+use Rattle.hb_lemmas.proofs.Options.{on_ok}
 use Rattle.hb_super.specs.Superblocks.{next_turn}
 use Rattle.hb_frag.specs.declared.pages.Page.{Page}
 use Rattle.hb_layout.specs.declared.meta.Meta.{Meta}
@@ -44,8 +45,7 @@ returns-clause-fresh g c =
     let turn = c.args.found.now.turn in
     let meta = c.args.found.now.meta in
     let touched = get nat_cmp c.args.found.now.touched in
-    on_ok_weaker c.switch.result ((said : Meta) (touched : ℕ → Option Page) (s : FileState) → IsPlaced mid turn said meta touched s → IsFresh new (next_turn turn) meta s)
-    ((said : Meta) (s : FileState) → IsHere d turn said meta touched s → IsFresh new (next_turn turn) meta s)
+    on_ok_weaker {P = (said : Meta) (touched : ℕ → Option Page) (s : FileState) → IsPlaced mid turn said meta touched s → IsFresh new (next_turn turn) meta s} {Q = (said : Meta) (s : FileState) → IsHere d turn said meta touched s → IsFresh new (next_turn turn) meta s} c.switch.result
     (λ fresh said s here. fresh said touched s (c.in_ok-place_pages.ensures.placed said s here))
     c.switch.ensures.fresh
 

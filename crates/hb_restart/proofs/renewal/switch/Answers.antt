@@ -1,7 +1,7 @@
 use Rattle.std.proofs.Common.{◌≡◌, ℕ, Option, ap, is_err, subst, arith}
+use Rattle.std.proofs.lemmas.Result.{on_ok_weaker}
 use Rattle.hb_disk.proofs.Facts.FaultLaws.{not_failed}
 use Rattle.hb_disk.proofs.Facts.RunLaws.{Leaves-weaker, Leaves-then}
-use Rattle.hb_lemmas.proofs.Options.{on_ok_weaker}
 use Rattle.hb_super.proofs.Facts.ClearLaws.{cleared_place}
 use Rattle.hb_super.specs.Superblocks.{next_turn}
 use Rattle.hb_frag.specs.declared.pages.Page.{Page}
@@ -60,8 +60,7 @@ returns-clause-fresh g c =
     let is_d = g.met.D.Device.is_disk c.args.disk.now in
     let is_mid = g.met.D.Device.is_disk c.clear_hidden.new.disk in
     let place = cleared_place next d mid c.clear_hidden.result is_d c.clear_hidden.ensures.did in
-    on_ok_weaker c.begin_turn.result ((before : ℕ) (said : Meta) (touched : ℕ → Option Page) (s : FileState) → next ≡ next_turn before → MayTurn mid before said meta touched s → IsFresh new next meta s)
-    ((said : Meta) (touched : ℕ → Option Page) (s : FileState) → IsPlaced d turn said meta touched s → IsFresh new (next_turn turn) meta s)
+    on_ok_weaker {P = (before : ℕ) (said : Meta) (touched : ℕ → Option Page) (s : FileState) → next ≡ next_turn before → MayTurn mid before said meta touched s → IsFresh new next meta s} {Q = (said : Meta) (touched : ℕ → Option Page) (s : FileState) → IsPlaced d turn said meta touched s → IsFresh new (next_turn turn) meta s} c.begin_turn.result
     (λ fresh said touched s placed.
     let left = c.clear_hidden.ensures.moments turn said c.turn_after-next.ensures placed.here.places in
     let synced = clear_synced c.clear_hidden.result c.in_ok-clear_hidden.field-0 next 0 8192 d mid c.in_ok-clear_hidden.was c.clear_hidden.ensures.did placed.here.places in

@@ -1,6 +1,6 @@
 use Rattle.std.proofs.Common.{◌≡◌, ℕ, List, Some, IfSome, length, arith}
+use Rattle.std.proofs.lemmas.Result.{on_ok_weaker}
 use Rattle.hb_disk.specs.Model.{overwritten}
-use Rattle.hb_lemmas.proofs.Options.{on_ok_weaker}
 use Rattle.hb_disk.proofs.Facts.BecomesLaws.{Becomes-write}
 use Rattle.hb_frag.specs.Grammar.{SpellsPage}
 use Rattle.hb_store.specs.Opening.{place_bytes}
@@ -13,8 +13,7 @@ returns-clause-there g c =
     let new = g.D.Device.model c.write.new.self in
     let meta = c.args.meta.now in
     let bytes = c.encode.new.into in
-    on_ok_weaker c.write.result (IfSome d.told (λ b. new.told ≡ Some (overwritten b c.page_offset.result bytes)))
-    ((b : List ℕ) → new.told ≡ Some b → SpellsPage (place_bytes meta c.args.id b) c.args.page.now)
+    on_ok_weaker {P = IfSome d.told (λ b. new.told ≡ Some (overwritten b c.page_offset.result bytes))} {Q = (b : List ℕ) → new.told ≡ Some b → SpellsPage (place_bytes meta c.args.id b) c.args.page.now} c.write.result
     (page_written d new (g.met.D.Device.is_disk c.args.disk.now) c.page_offset.result bytes meta c.args.id c.args.page.now c.page_offset.ensures c.encode.ensures c.requires.has.room c.requires.has.some c.requires.has.most
     c.write.ensures.silent)
     c.write.ensures.written

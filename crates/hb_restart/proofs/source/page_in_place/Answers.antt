@@ -1,6 +1,7 @@
 use Rattle.std.proofs.Common.{refl, arith}
 use Rattle.hb_disk.proofs.Facts.FaultLaws.{ReadsOnly-as}
-use Rattle.hb_restart.proofs.PlaceReads.{page_read, place_read}
+use Rattle.hb_store.proofs.Facts.Fetched.{placed_read}
+use Rattle.hb_restart.proofs.PlaceReads.{page_read}
 use Rattle.hb_restart.proofs.source.page_in_place.Goals as goal
 
 pub returns-in-Ok-clause-there : goal.returns-in-Ok-clause-there
@@ -9,7 +10,7 @@ returns-in-Ok-clause-there g c =
     let meta = c.args.meta.now in
     let into = c.read.new.into in
     page_read c.spelled.result told into meta c.args.id c.spelled.ensures.page
-    (place_read told into meta c.args.id c.page_offset.result c.page_offset.ensures (omega (arith, c.told-into, c.read.auto.into)) c.in-Ok.ensures.bytes)
+    (placed_read told c.page_offset.result into meta c.args.id c.in-Ok.ensures.bytes (omega (arith, c.told-into, c.read.auto.into)) c.page_offset.ensures)
 
 pub returns-in-Ok-clause-only : goal.returns-in-Ok-clause-only
 returns-in-Ok-clause-only g c =

@@ -1,13 +1,14 @@
 use Rattle.std.proofs.Common.{◌≡◌, ◌∙◌, List, ℕ, subst}
 use Rattle.std.specs.declared.cmp.Ordering.TheVariants.{Less}
+use Rattle.std.proofs.lemmas.List.{take_rest}
 use Rattle.hb_space.specs.Points.{point_cmp}
-use Rattle.hb_set.proofs.Windows.{outside_least, outside_greatest, rest_is}
+use Rattle.hb_set.proofs.Windows.{outside_least, outside_greatest}
 use Rattle.hb_set.proofs.search.limit_behind.Goals as goal
 
 pub returns-then-value-least : goal.returns-then-value-least
 returns-then-value-least c q after before =
     let least : c.values-least.result.now ≡ c.args.area.now.lo = c.values-least.ensures.value ∙ c.lo.ensures.value in
-    let is = rw (rest_is c.values-least.result.now c.loop-axis.axis, c.values-values.ensures.value, least) at c.joined.ensures in
+    let is = rw (take_rest c.values-least.result.now c.loop-axis.axis, c.values-values.ensures.value, least) at c.joined.ensures in
     outside_least c.loop-axis.axis c.args.area.now.lo c.args.area.now.hi c.args.outside.now q (rw c.values-values.ensures.value at c.loop-axis-test.true) after (subst (λ (ls : List ℕ). point_cmp q ls ≡ Less) is before)
 
 pub returns-then-greatest-axis : goal.returns-then-greatest-axis

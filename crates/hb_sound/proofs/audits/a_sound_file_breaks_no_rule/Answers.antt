@@ -1,4 +1,4 @@
-use Rattle.hb_sound.proofs.NoneBroken.{sound_breaks_none}
+use Rattle.hb_sound.proofs.Facts.NoneBroken.{sound_breaks_none}
 use Rattle.hb_sound.proofs.audits.a_sound_file_breaks_no_rule.Goals as goal
 
 pub returns : goal.returns

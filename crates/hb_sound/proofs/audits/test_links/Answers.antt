@@ -1,12 +1,12 @@
 use Rattle.std.proofs.Common.{ℕ, List, length}
-use Rattle.std.proofs.lemmas.Result.{err_from_is_err_and}
+use Rattle.std.proofs.lemmas.Result.{err_from_is_err_and, on_ok_weaker}
 use Rattle.hb_frag.specs.declared.pages.Page.{Page}
 use Rattle.hb_sound.specs.Facts.{AreFactsOf}
 use Rattle.hb_sound.specs.Links.{AreLinks}
 use Rattle.hb_sound.specs.Names.{KeepsSix, NamesIn}
 use Rattle.hb_sound.specs.Told.{file_with}
 use Rattle.hb_sound.proofs.LateRules.{eighth, ninth, none_ten, seventh, some_ten, sound, tenth}
-use Rattle.hb_sound.proofs.SixRules.{err_then, ok_then, on_broken_at}
+use Rattle.hb_sound.proofs.SixRules.{err_then, on_broken_at}
 use Rattle.hb_sound.proofs.audits.test_links.Goals as goal
 
 pub returns-in_err-none_for-clause-names : goal.returns-in_err-none_for-clause-names
@@ -52,7 +52,7 @@ returns-clause-sound c =
     let meta = c.args.facts.now.meta.now in
     let facts = c.args.facts.now.list.now in
     let links = c.args.links.now in
-    ok_then c.none_for-4.result
+    on_ok_weaker c.none_for-4.result
     (λ e list are kept of_links.
     sound meta facts links list are kept of_links c.in_ok-none_for.ensures.ok c.in_ok-none_for-2.ensures.ok c.in_ok-cover_break.field-0
     (λ below. rw (c.deref.ensures.value) at (c.in_ok-cover_break.ensures below)) c.in_ok-none_for-3.ensures.ok

@@ -1,13 +1,13 @@
 use Rattle.std.proofs.Common.{inl, ℕ, List, Option, refl, sym, ◌∙◌, subst}
 use Rattle.std.proofs.lemmas.Bool.{false≢true}
-use Rattle.std.proofs.lemmas.Result.{err_from_is_err_and}
+use Rattle.std.proofs.lemmas.Result.{err_from_is_err_and, on_ok_weaker}
 use Rattle.hb_frag.specs.declared.pages.Page.{Page}
 use Rattle.hb_sound.specs.Covers.{IsFreeBreak}
 use Rattle.hb_sound.specs.Facts.{AreFactsOf}
 use Rattle.hb_sound.specs.Names.{NamesIn}
 use Rattle.hb_sound.specs.Told.{file_with}
 use Rattle.hb_sound.proofs.Bridge.{from_rooted}
-use Rattle.hb_sound.proofs.SixRules.{err_then, free_named, local_named, ok_then, on_broken_at, six_kept}
+use Rattle.hb_sound.proofs.SixRules.{err_then, free_named, local_named, on_broken_at, six_kept}
 use Rattle.hb_sound.proofs.audits.test_pages.Goals as goal
 
 pub returns-then-not-is_rooted-clause-names : goal.returns-then-not-is_rooted-clause-names
@@ -28,7 +28,7 @@ pub returns-clause-keeps : goal.returns-clause-keeps
 returns-clause-keeps c =
     let rooted = c.is_rooted.ensures.rooted.0 c.if-not-is_rooted.false in
     let B : Option ℕ → Type 0 = λ o. IsFreeBreak c.args.facts.now.meta.now c.args.facts.now.list.now o in
-    ok_then c.test_alone.result (six_kept c.args.facts.now.meta.now c.args.facts.now.list.now c.args.facts.now.each.count rooted.0 rooted.1 (subst B c.in_ok-none_for.ensures.ok c.in_ok-free_break.ensures)) c.test_alone.ensures.ok
+    on_ok_weaker c.test_alone.result (six_kept c.args.facts.now.meta.now c.args.facts.now.list.now c.args.facts.now.each.count rooted.0 rooted.1 (subst B c.in_ok-none_for.ensures.ok c.in_ok-free_break.ensures)) c.test_alone.ensures.ok
 
 pub returns-clause-names : goal.returns-clause-names
 returns-clause-names c =

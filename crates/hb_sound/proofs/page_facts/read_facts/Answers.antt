@@ -1,5 +1,6 @@
 use Rattle.std.proofs.Common.{◌≡◌, inr, ◌+◌, ◌∷◌, [], List, Option, Some, None, IfSome, All, length, ap, sym, subst, arith}
 use Rattle.std.proofs.lemmas.List.Elements.{All-append, All-cons, All-nil}
+use Rattle.std.proofs.lemmas.List.{length_push}
 use Rattle.hb_frag.specs.declared.pages.Page.{Page}
 use Rattle.hb_sound.specs.declared.page_facts.Fact.{Fact}
 use Rattle.hb_sound.specs.Facts.{IsFactOf}
@@ -7,7 +8,7 @@ use Rattle.hb_sound.specs.RecordCounts.{IsLightFact}
 use Rattle.hb_sound.specs.Links.{Knows}
 use Rattle.hb_sound.specs.Told.{item_at}
 use Rattle.hb_sound.proofs.Asking.{asks_as, asks_on}
-use Rattle.hb_sound.proofs.ReadUp.{IsReadTo, if_more, long_more}
+use Rattle.hb_sound.proofs.ReadUp.{IsReadTo, if_more}
 use Rattle.hb_sound.proofs.page_facts.read_facts.Goals as goal
 
 pub loop-place-preserved : goal.loop-place-preserved
@@ -17,7 +18,7 @@ loop-place-preserved g c =
     let fact = c.in_ok-fact.fact in
     let items = c.in_ok-keep.ensures in
     let id = c.loop-place.place + 1 in
-    let long = long_more c.loop-place.facts.items fact in
+    let long = length_push c.loop-place.facts.items fact in
     let longer = ap (λ (l : List Fact). length l) items in
     let before = c.loop-place.facts.ok.0 in
     let after = c.keep.new.facts.ok.0 in

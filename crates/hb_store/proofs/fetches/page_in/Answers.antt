@@ -1,5 +1,5 @@
 use Rattle.std.proofs.Common.{arith}
-use Rattle.hb_lemmas.proofs.Options.{on_ok_weaker}
+use Rattle.std.proofs.lemmas.Result.{on_ok_weaker}
 use Rattle.hb_store.proofs.Checked.{breaks_holds, can_be_written, good_read, no_page_holds}
 use Rattle.hb_store.proofs.fetches.page_in.Goals as goal
 
@@ -7,7 +7,7 @@ pub good_page-requires : goal.good_page-requires
 good_page-requires c = record { spelled = can_be_written c.args.bytes.now c.in-Some.view (λ i. omega (arith, c.type_inv.bytes i)) c.in-Some.ensures }
 
 pub returns-in-Some-clause-good : goal.returns-in-Some-clause-good
-returns-in-Some-clause-good c = on_ok_weaker c.good_page.result _ _ (good_read c.args.meta.now c.args.bytes.now c.in-Some.view (λ i. omega (arith, c.type_inv.bytes i)) c.in-Some.ensures) c.good_page.ensures.good
+returns-in-Some-clause-good c = on_ok_weaker c.good_page.result (good_read c.args.meta.now c.args.bytes.now c.in-Some.view (λ i. omega (arith, c.type_inv.bytes i)) c.in-Some.ensures) c.good_page.ensures.good
 
 pub returns-in-Some-clause-why : goal.returns-in-Some-clause-why
 returns-in-Some-clause-why c = breaks_holds c.good_page.result c.args.meta.now c.args.bytes.now c.args.id c.in-Some.view (λ i. omega (arith, c.type_inv.bytes i)) c.in-Some.ensures c.good_page.ensures.broken

@@ -3,12 +3,13 @@ use Rattle.hb_disk.proofs.Facts.RunLaws.{Leaves-then}
 use Rattle.hb_disk.proofs.Facts.RewriteLaws.{Rewrites-sync}
 use Rattle.hb_frag.specs.declared.pages.Page.{Page}
 use Rattle.hb_layout.specs.declared.meta.Meta.{Meta}
+use Rattle.hb_lemmas.proofs.Options.{on_ok_both}
 use Rattle.hb_ops.specs.Files.{FileState}
 use Rattle.hb_super.specs.Superblocks.{IsNewest, next_turn}
 use Rattle.hb_store.specs.Keeps.{IsFresh}
 use Rattle.hb_store.specs.Turning.{MayTurn, OpensByEither}
 use Rattle.hb_store.proofs.Facts.Turned.{sync_moments, super_fresh, super_moments, zeroed_moments, zeroed_ready}
-use Rattle.hb_store.proofs.Turns.{area_zeroed, nine_ticks, on_ok_both, on_ok_each, on_ok_if, still_either, switch_failed, switch_wrote, turn_before}
+use Rattle.hb_store.proofs.Turns.{area_zeroed, nine_ticks, on_ok_each, on_ok_if, still_either, switch_failed, switch_wrote, turn_before}
 use Rattle.hb_store.proofs.switching.begin_turn.Goals as goal
 
 pub returns-in_err-sync-clause-moments : goal.returns-in_err-sync-clause-moments
@@ -63,9 +64,10 @@ returns-clause-fresh g c =
     let is_two = g.met.D.Device.is_disk c.zero_area.new.disk in
     let meta = c.args.meta.now in
     let next = c.args.turn in
-    on_ok_both c.write_super.result (IfSome new.told (λ b. (x : List ℕ) → new.Image x → x ≡ b))
-    ((before : ℕ) (said : Meta) → next ≡ next_turn before → IfSome two.told (λ b. IsNewest b before said → IfSome new.told (λ x. IsNewest x next meta)))
-    ((before : ℕ) (said : Meta) (touched : ℕ → Option Page) (s : FileState) → next ≡ next_turn before → MayTurn d before said meta touched s → IsFresh new next meta s)
+    on_ok_both {P = IfSome new.told (λ b. (x : List ℕ) → new.Image x → x ≡ b)}
+    {Q = (before : ℕ) (said : Meta) → next ≡ next_turn before → IfSome two.told (λ b. IsNewest b before said → IfSome new.told (λ x. IsNewest x next meta))}
+    {R = (before : ℕ) (said : Meta) (touched : ℕ → Option Page) (s : FileState) → next ≡ next_turn before → MayTurn d before said meta touched s → IsFresh new next meta s}
+    c.write_super.result
     (λ durable newest before said touched s is may.
     let small = turn_before d is_d before said meta touched s may in
     let zeroed = zeroed_ready before next said meta small is touched s c.sync.result c.zero_area.result d one two is_d is_one is_two

@@ -6,4 +6,4 @@ pub returns-clause-turn : goal.returns-clause-turn
 returns-clause-turn c = same_turn
 
 pub returns-clause-said : goal.returns-clause-said
-returns-clause-said c = one_said c.big_endian_law.ensures.injective
+returns-clause-said c = one_said

@@ -1,4 +1,5 @@
-use Rattle.hb_super.proofs.Newest.{next_or_before, never_both}
+use Rattle.hb_super.proofs.Facts.Gates.{never_both}
+use Rattle.hb_super.proofs.Newest.{next_or_before}
 use Rattle.hb_super.proofs.laws.one_turn_is_newer.Goals as goal
 
 pub returns-clause-one : goal.returns-clause-one

@@ -1,4 +1,5 @@
 use Rattle.std.proofs.Common.{◌≡◌, [], Option, None, Some, Ok, refl, sym, ◌∙◌, subst}
+use Rattle.std.proofs.lemmas.Bool.{false≢true}
 use Rattle.hb_activity.specs.declared.jobs.Job.{Job}
 use Rattle.hb_activity.specs.declared.jobs.JobKind.TheVariants.{Merge}
 use Rattle.hb_frag.specs.declared.pages.LivePage.{LivePage}
@@ -13,7 +14,7 @@ use Rattle.hb_tidy.proofs.CallsMade.{layout_of}
 use Rattle.hb_tidy.proofs.Exits.{not_ok, ok_is, over_exit, over_value}
 use Rattle.hb_tidy.proofs.Facts.Joined.{over_known}
 use Rattle.hb_tidy.proofs.OwedJobs.{added_fit}
-use Rattle.hb_tidy.proofs.Pairs.{never_true, pair_absent, pair_tried, pair_unnamed}
+use Rattle.hb_tidy.proofs.Pairs.{pair_absent, pair_tried, pair_unnamed}
 use Rattle.hb_tidy.specs.declared.stops.TidyStop.TheVariants as stops
 use Rattle.hb_tidy.specs.Finding.{BothLive}
 use Rattle.hb_tidy.specs.Looking.{NothingOf}
@@ -91,6 +92,6 @@ pub returns-else-names : goal.returns-else-names
 returns-else-names g c =
     record {
       looks = pair_unnamed c.args.parent.now.id c.args.keep.now.id c.args.parent.now.page c.args.keep.now.page c.args.gone c.args.jobs.now.items (g.D.Device.model (core_disk c.args.core.now)) (core_seen c.args.core.now)
-          (g.met.D.Device.is_disk (core_disk c.args.core.now)) c.requires.may (λ has. never_true (c.if-names.ensures.1 has));
+          (g.met.D.Device.is_disk (core_disk c.args.core.now)) c.requires.may (λ has. false≢true (c.if-names.ensures.1 has));
       fit = λ all. all;
     }

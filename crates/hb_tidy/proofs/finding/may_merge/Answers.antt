@@ -1,6 +1,6 @@
 use Rattle.std.proofs.Common.{refl, sym, ◌∙◌}
+use Rattle.std.proofs.lemmas.Bool.{false≢true}
 use Rattle.hb_tidy.proofs.OwedRoom.{fit_three, three_fit}
-use Rattle.hb_tidy.proofs.Pairs.{never_true}
 use Rattle.hb_tidy.proofs.finding.may_merge.Goals as goal
 
 pub plans_merge-requires : goal.plans_merge-requires
@@ -14,6 +14,6 @@ returns-then-may_be_three c = (
 
 pub returns-else-may_be_three : goal.returns-else-may_be_three
 returns-else-may_be_three c = (
-  λ yes. absurd (never_true (sym c.if-may_be_three.false ∙ yes)),
-  λ fits. absurd (never_true (c.if-may_be_three.ensures.1 (fit_three c.args.meta.now c.args.parent.now.id c.args.keep.now.id c.args.going.now.id c.args.parent.now.page c.args.keep.now.page c.args.going.now.page fits))),
+  λ yes. absurd (false≢true (sym c.if-may_be_three.false ∙ yes)),
+  λ fits. absurd (false≢true (c.if-may_be_three.ensures.1 (fit_three c.args.meta.now c.args.parent.now.id c.args.keep.now.id c.args.going.now.id c.args.parent.now.page c.args.keep.now.page c.args.going.now.page fits))),
 )

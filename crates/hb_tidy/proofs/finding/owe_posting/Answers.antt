@@ -1,10 +1,10 @@
 use Rattle.std.proofs.Common.{◌≢◌, ◌⊎◌, inl, inr, ℕ, List, length, refl, ap, ◌∙◌, subst, sym}
+use Rattle.std.proofs.lemmas.Bool.{false≢true}
 use Rattle.hb_ops.specs.Owing.{LacksRoom}
 use Rattle.hb_space.specs.Boxes.{Holds}
 use Rattle.hb_tidy.proofs.JobLists.{some_added}
 use Rattle.hb_tidy.proofs.OwedJobs.{added_one}
 use Rattle.hb_tidy.proofs.OwedRoom.{split_lacks}
-use Rattle.hb_tidy.proofs.Pairs.{never_true}
 use Rattle.hb_tidy.proofs.PlacedLeaves.{above_records, child_holds, child_there, leaf_attributes, parent_holds}
 use Rattle.hb_tidy.proofs.finding.owe_posting.Goals as goal
 use Rattle.hb_tidy.proofs.finding.owe_posting.Goals.{else-meta-via-else-meta, else-meta-via-then-meta+in_ok-post_plan+else-is_split}
@@ -26,7 +26,7 @@ returns c =
       | else-meta-via-else-meta w ↦ inl w.if-meta.false
       | else-meta-via-then-meta+in_ok-post_plan+else-is_split w ↦ inr (λ lacks.
           let tells = split_lacks c.args.leaf.now.parent.now c.args.leaf.now.child.now c.args.point.now c.args.leaf.now.meta.now.icap w.in_ok-post_plan.field-0 w.is_split.result w.in_ok-post_plan.ensures.plan w.is_split.ensures in
-          never_true (sym w.if-is_split.false ∙ tells.1 lacks))
+          false≢true (sym w.if-is_split.false ∙ tells.1 lacks))
     ] in
     record {
       added = added_one c.args.leaf.now.meta.now.k _ _ _ _ c.in_ok-add_job.ensures.added

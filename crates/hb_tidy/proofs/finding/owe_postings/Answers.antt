@@ -1,8 +1,9 @@
 use Rattle.std.proofs.Common.{◌≡◌, ℕ, ◌≤◌, List, [], All, length, get_or, arith, rules, sym, subst}
 use Rattle.std.specs.List.{Contains}
 use Rattle.std.proofs.lemmas.List.{take_all}
+use Rattle.hb_lemmas.proofs.Lists.{All-take_more}
 use Rattle.hb_space.specs.Boxes.{Area, Meets}
-use Rattle.hb_tidy.proofs.JobLists.{all_next, none_yet}
+use Rattle.hb_tidy.proofs.JobLists.{none_yet}
 use Rattle.hb_tidy.proofs.OwedJobs.{added_none, added_then}
 use Rattle.hb_tidy.proofs.finding.owe_postings.Goals as goal
 
@@ -28,7 +29,7 @@ loop-part-preserved c = record {
       let before = c.loop-part.invariant.none here.0 in
       let x : ℕ × Area = (c.part-item.result.0, c.part-item.result.1) in
       let is : x ≡ get_or c.args.given.now c.loop-part.part-index x = search rules in
-      (before.0, all_next (λ (s : ℕ × Area). ¬ (Meets c.args.leaf.now.area.now s.1)) c.args.given.now c.loop-part.part-index x (omega arith) is before.1 here.1);
+      (before.0, All-take_more (λ (s : ℕ × Area). ¬ (Meets c.args.leaf.now.area.now s.1)) c.args.given.now c.loop-part.part-index x (omega arith) is before.1 here.1);
 }
 
 pub returns : goal.returns

@@ -1,11 +1,11 @@
 use Rattle.std.proofs.Common.{length, sym, ap, ◌∙◌}
 use Rattle.std.proofs.lemmas.Bool.{false≢true, ne_eqb}
 use Rattle.std.proofs.lemmas.Result.{IfOk-weaker, on_err_weaker}
+use Rattle.hb_lemmas.proofs.Options.{on_err}
 use Rattle.hb_activity.specs.declared.activities.Activity.{Activity}
 use Rattle.hb_activity.specs.Deciding.{deed_of}
 use Rattle.hb_core.proofs.Running.Decided.{decided_merger, decided_poster, decided_search, decided_session, may_ask_merger, may_ask_poster, may_ask_searcher, may_ask_session}
 use Rattle.hb_core.proofs.Running.DecodedFor.{merger_decodes, poster_decodes, search_decodes, session_decodes}
-use Rattle.hb_terms.proofs.Facts.Owing.{on_err_anyway}
 use Rattle.hb_core.specs.CoreSeen.{core_disk, core_seen}
 use Rattle.hb_core.specs.Moving.{placed}
 use Rattle.hb_core.specs.Showing.{RunningCore}
@@ -52,7 +52,7 @@ returns-then-actor-eq-POSTER-clause-row g c =
 
 pub returns-then-actor-eq-POSTER-clause-memory : goal.returns-then-actor-eq-POSTER-clause-memory
 returns-then-actor-eq-POSTER-clause-memory g c =
-    on_err_anyway c.ask_poster.result (λ m has.
+    on_err c.ask_poster.result (λ m has.
     poster_decodes (g.D.Device.model (core_disk c.args.self.now)) (core_seen c.args.self.now) m c.args.actor c.args.free c.requires.actor has c.replace-state.result c.replace-state.ensures.old c.if-actor-eq-POSTER.true)
 
 pub returns-else-actor-eq-CONSOLIDATOR-clause-row : goal.returns-else-actor-eq-CONSOLIDATOR-clause-row
@@ -82,5 +82,5 @@ returns-then-actor-eq-CONSOLIDATOR-clause-row g c =
 
 pub returns-then-actor-eq-CONSOLIDATOR-clause-memory : goal.returns-then-actor-eq-CONSOLIDATOR-clause-memory
 returns-then-actor-eq-CONSOLIDATOR-clause-memory g c =
-    on_err_anyway c.ask_merger.result (λ m has.
+    on_err c.ask_merger.result (λ m has.
     merger_decodes (g.D.Device.model (core_disk c.args.self.now)) (core_seen c.args.self.now) m c.args.actor c.args.free c.requires.actor has c.replace-state.result c.replace-state.ensures.old c.if-actor-eq-CONSOLIDATOR.true)

@@ -1,5 +1,5 @@
 use Rattle.std.proofs.lemmas.Result.{IfOk-weaker}
-use Rattle.hb_terms.proofs.Facts.Owing.{on_err_anyway}
+use Rattle.hb_lemmas.proofs.Options.{on_err}
 use Rattle.hb_core.specs.CoreSeen.{core_disk, core_seen}
 use Rattle.hb_core.proofs.Running.Postings.{asks_number, makes_to_post, number_decodes, number_said}
 use Rattle.hb_core.proofs.state.Core.needs_number.Goals as goal
@@ -18,6 +18,6 @@ returns-in-PosterGrow-clause-needs g c =
 
 pub returns-in-PosterGrow-clause-memory : goal.returns-in-PosterGrow-clause-memory
 returns-in-PosterGrow-clause-memory g c =
-    on_err_anyway c.makes_page.result (λ m come.
+    on_err c.makes_page.result (λ m come.
     number_decodes m (g.D.Device.model (core_disk c.args.self.now)) (core_seen c.args.self.now) c.args.actor c.requires.actor come c.activity-activity.result.now c.activity-activity.ensures
     (makes_to_post c.activity-activity.result.now c.in-PosterGrow.is) c.args.wanted (c.requires.wanted m come) c.page_of.result c.page_of.ensures)

@@ -1,16 +1,12 @@
-use Rattle.std.proofs.Common.{◌≡◌, Some, Option, IsSome, refl, sym, subst}
+use Rattle.std.proofs.Common.{refl}
 use Rattle.std.proofs.lemmas.Bool.{false≢true}
 use Rattle.hb_latch.specs.declared.entries.Held.{Held}
-use Rattle.hb_latch.specs.declared.modes.Mode.{Mode}
-use Rattle.hb_latch.specs.declared.modes.Mode.TheVariants.{Update, Exclusive}
+use Rattle.hb_latch.specs.declared.modes.Mode.TheVariants.{Exclusive}
 use Rattle.hb_latch.proofs.TableViews.{held_in, table_set}
 use Rattle.hb_latch.proofs.KeptEdits.{kept_set}
 use Rattle.hb_latch.proofs.Conflicts.{named_least, named_refused, none_named, no_one}
 use Rattle.hb_latch.proofs.latches.Latches.promote.Goals as goal
-
--- what is held for update is held
-held : (o : Option Mode) → o ≡ Some Update → IsSome o
-held o is = subst (λ (x : Option Mode). IsSome x) (sym is) refl
+use Rattle.hb_lemmas.proofs.Options.{has_value}
 
 pub returns-in-Some-clause-granted : goal.returns-in-Some-clause-granted
 returns-in-Some-clause-granted c =
@@ -22,12 +18,12 @@ returns-in-Some-clause-refused c = rw (← c.self.view_is) (named_least _ _ _ Ex
 
 pub replace-requires : goal.replace-requires
 replace-requires c =
-    let at = held_in _ _ _ (c.args.actor, c.args.page) _ c.as_slice-2.ensures.value c.self.view_is c.self.invariant.rising c.place_of-place.ensures.found (held _ c.requires) in
+    let at = held_in _ _ _ (c.args.actor, c.args.page) _ c.as_slice-2.ensures.value c.self.view_is c.self.invariant.rising c.place_of-place.ensures.found (has_value _ _ c.requires) in
     at.in_range
 
 pub invariant_of-self : goal.invariant_of-self
 invariant_of-self c =
-    let at = held_in _ _ _ (c.args.actor, c.args.page) _ c.as_slice-2.ensures.value c.self.view_is c.self.invariant.rising c.place_of-place.ensures.found (held _ c.requires) in
+    let at = held_in _ _ _ (c.args.actor, c.args.page) _ c.as_slice-2.ensures.value c.self.view_is c.self.invariant.rising c.place_of-place.ensures.found (has_value _ _ c.requires) in
     let latch : Held = record { actor = c.args.actor; page = c.args.page; mode = Exclusive } in
     rw c.replace.ensures (kept_set _ latch _ c.self.invariant at)
 
@@ -38,6 +34,6 @@ returns-clause-granted c =
 
 pub returns-clause-taken : goal.returns-clause-taken
 returns-clause-taken c =
-    let at = held_in _ _ _ (c.args.actor, c.args.page) _ c.as_slice-2.ensures.value c.self.view_is c.self.invariant.rising c.place_of-place.ensures.found (held _ c.requires) in
+    let at = held_in _ _ _ (c.args.actor, c.args.page) _ c.as_slice-2.ensures.value c.self.view_is c.self.invariant.rising c.place_of-place.ensures.found (has_value _ _ c.requires) in
     let latch : Held = record { actor = c.args.actor; page = c.args.page; mode = Exclusive } in
     rw (c.replace.ensures, ← c.self.view_is) (table_set _ latch _ c.self.invariant.rising at)

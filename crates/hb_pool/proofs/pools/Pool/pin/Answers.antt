@@ -1,7 +1,8 @@
 use Rattle.std.proofs.Common.{ℕ, length, ◌<◌, not, cond, ◌++◌, ◌∷◌, [], List, ap, ◌∙◌, arith}
+use Rattle.hb_lemmas.proofs.Options.{at_some_and}
 use Rattle.hb_pool.specs.Frames.{Frame, must_stay, pinned}
 use Rattle.hb_pool.specs.Pools.{frame_of}
-use Rattle.hb_pool.proofs.Facts.Pooled.{at_some_and, frame_page, kept_last, pinned_stays, room_to_put}
+use Rattle.hb_pool.proofs.Facts.Pooled.{frame_page, kept_last, pinned_stays, room_to_put}
 use Rattle.hb_pool.proofs.pools.Pool.pin.Goals as goal
 
 pub pin-requires : goal.pin-requires

@@ -1,8 +1,9 @@
 use Rattle.std.proofs.Common.{◌<◌, not, cond, refl, ap, ◌∙◌, arith}
+use Rattle.hb_lemmas.proofs.Options.{some_of_and, at_some_and}
 use Rattle.hb_pool.specs.Frames.{has_id, must_stay, unpinned}
 use Rattle.hb_pool.specs.Pools.{frame_of}
 use Rattle.hb_pool.proofs.Facts.Firsts.{place_within, taken_there, changed_there}
-use Rattle.hb_pool.proofs.Facts.Pooled.{some_of_and, at_some_and, frame_page, frame_pins, kept_changed, one_fits, pinned_stays}
+use Rattle.hb_pool.proofs.Facts.Pooled.{frame_page, frame_pins, kept_changed, one_fits, pinned_stays}
 use Rattle.hb_pool.proofs.pools.Pool.unpin.Goals as goal
 
 pub index_mut-slot-requires : goal.index_mut-slot-requires

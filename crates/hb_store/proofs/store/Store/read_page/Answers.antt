@@ -21,7 +21,7 @@ returns-in-Ok-page_in-clause-looks g c =
     let st = seen_as c.args.self.now in
     let place = place_bytes st.meta c.args.id in
     let at : c.page_offset-place.result ≡ page_offset st.meta c.args.id = c.page_offset-place.ensures ∙ ap (λ (m : Meta). page_offset m c.args.id) c.meta.ensures.meta in
-    let read : IfSome d.told (λ b. c.read.new.into ≡ place b) = placed_read d c.page_offset-place.result c.read.new.into st.meta c.args.id c.in-Ok.ensures.bytes c.read.auto.into at in
+    let read : IfSome d.told (λ b. c.read.new.into ≡ place b) = placed_read d.told c.page_offset-place.result c.read.new.into st.meta c.args.id c.in-Ok.ensures.bytes c.read.auto.into at in
     let good = subst (λ (m : Meta). IsSomeAnd (page_of_bytes c.read.new.into) (λ page. SpellsPage c.read.new.into page × IsGoodPage m page)) c.meta-in-Ok.ensures.meta c.in-Ok-page_in.ensures.good in
     let only = c.in-Ok.ensures.only in
     record {
@@ -36,7 +36,7 @@ returns-in-Err-page_in-clause-why g c =
     let meta = (seen_as c.args.self.now).meta in
     let place = place_bytes meta c.args.id in
     let at : c.page_offset-place.result ≡ page_offset meta c.args.id = c.page_offset-place.ensures ∙ ap (λ (m : Meta). page_offset m c.args.id) c.meta.ensures.meta in
-    let read : IfSome d.told (λ b. c.read.new.into ≡ place b) = placed_read d c.page_offset-place.result c.read.new.into meta c.args.id c.in-Ok.ensures.bytes c.read.auto.into at in
+    let read : IfSome d.told (λ b. c.read.new.into ≡ place b) = placed_read d.told c.page_offset-place.result c.read.new.into meta c.args.id c.in-Ok.ensures.bytes c.read.auto.into at in
     let why : HoldsNot meta (Some c.read.new.into) c.args.id c.in-Err-page_in.stop = subst (λ (m : Meta). HoldsNot m (Some c.read.new.into) c.args.id c.in-Err-page_in.stop) c.meta-in-Ok.ensures.meta c.in-Err-page_in.ensures.why in
     read_not {X = Unit {0}} (Err c.in-Err-page_in.stop) d.told c.read.new.into place meta c.args.id why read
 

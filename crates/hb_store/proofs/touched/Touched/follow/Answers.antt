@@ -1,9 +1,10 @@
 use Rattle.std.proofs.Common.{All, refl, sym, subst, ◌∙◌}
 use Rattle.std.proofs.lemmas.Result.{on_ok_weaker}
+use Rattle.hb_lemmas.proofs.Options.{on_ok_both}
 use Rattle.hb_log_codec.specs.Reading.{logged}
 use Rattle.hb_store.specs.Replay.{IsAllowedIn, MayFollow, Replayed, after_op}
 use Rattle.hb_store.specs.Replaying.{HasLimits, IsPageOf, ReplaysOn, replayed_of}
-use Rattle.hb_store.proofs.Touches.{group_leads, on_both}
+use Rattle.hb_store.proofs.Touches.{group_leads}
 use Rattle.hb_store.proofs.touched.Touched.follow.Goals as goal
 
 pub apply-requires-clause-limits : goal.apply-requires-clause-limits
@@ -27,7 +28,7 @@ returns-clause-leads c =
     let g = logged c.args.group in
     let range : All (λ i. IsPageOf t.meta i.0) g.images = subst (λ l. All (λ i. IsPageOf t.meta i.0) l) c.as_slice.ensures.value (c.if-not-has_all.ensures.0 refl) in
     let may : IsAllowedIn (replayed_of c.set_all.new.self) g.op → MayFollow t g = λ allowed. record { images = range; allowed = subst (λ u. IsAllowedIn u g.op) c.in_ok-set_all.ensures allowed } in
-    on_both c.apply.result
+    on_ok_both c.apply.result
     (λ allowed same. subst (ReplaysOn t) (sym (same ∙ (λ i. after_op (c.in_ok-set_all.ensures i) g.op)))
     (group_leads c.what_is_made_can_be_written.ensures.writable t g c.requires.goes_on c.requires.fits (may allowed)))
     c.apply.ensures.allowed c.apply.ensures.effect

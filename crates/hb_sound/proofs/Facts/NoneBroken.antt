@@ -1,23 +1,16 @@
 -- A sound file breaks no rule.
 use Rattle.std.proofs.Common.{inl, inr, ℕ}
-use Rattle.hb_frag.specs.declared.pages.LivePage.{LivePage}
-use Rattle.hb_layout.specs.declared.meta.Meta.{Meta}
 use Rattle.hb_ops.specs.Files.{FileState}
-use Rattle.hb_ops.specs.Sound.{BreaksFirst, FitsFile, IsSound}
+use Rattle.hb_ops.specs.Sound.{IsSound}
+use Rattle.hb_ops.proofs.Facts.WellMade.{not_broken}
 use Rattle.hb_sound.specs.Told.{file_of}
 use Rattle.hb_sound.specs.Names.{BreaksRule, NamesIn, SoundBreaksNone}
-
-pub not_broken : (rule : ℕ) (page : LivePage) (meta : Meta) → BreaksFirst rule page meta → FitsFile meta page → ⊥
-not_broken rule page meta (inl three) fits = three.1 fits.fits
-not_broken rule page meta (inr (inl four)) fits = four.2 fits.well_cut
-not_broken rule page meta (inr (inr (inl five))) fits = five.3 fits.filled
-not_broken rule page meta (inr (inr (inr (inl six)))) fits = six.4 fits.in_order
-not_broken rule page meta (inr (inr (inr (inr ten)))) fits = ten.5 fits.normal
 
 breaks_none : (s : FileState) (rule id : ℕ) → BreaksRule s rule id → IsSound s → ⊥
 breaks_none s rule id b sound = not_broken rule b.0 s.meta b.2 (sound.well_made id b.0 b.1)
 
-sound_in : (s : FileState) (id rule : ℕ) → NamesIn s id rule → IsSound s → ⊥
+-- a rule that a sound file is said to break
+pub sound_in : (s : FileState) (id rule : ℕ) → NamesIn s id rule → IsSound s → ⊥
 sound_in s id rule (inl one) sound = one.2 sound.rooted
 sound_in s id rule (inr (inl two)) sound = two.2 sound.counted
 sound_in s id rule (inr (inr (inl first))) sound = breaks_none s rule id first.2.1.here sound

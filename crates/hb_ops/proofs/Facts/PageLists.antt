@@ -1,14 +1,16 @@
 -- The pages of a file with another page under a number: one in place of a page in use, or one in use in place of a free page or behind the last.
 use Rattle.std.proofs.Common.{◌≡◌, ◌≢◌, ℕ, zero, suc, ◌+◌, ◌≤◌, List, [], ◌∷◌, ◌++◌, length, set, slice_get, Some, None, refl, sym, ap, subst, ◌∙◌, arith}
 use Rattle.std.proofs.lemmas.List.{length-append, length-set}
+use Rattle.std.proofs.lemmas.Option.{slice_get_within}
 use Rattle.hb_frag.specs.declared.pages.Page.{Page}
 use Rattle.hb_frag.specs.declared.pages.Page.TheVariants.{Live, Free}
 use Rattle.hb_frag.specs.Leaves.{siblings_of}
 use Rattle.hb_ops.specs.Files.{page_at}
 use Rattle.hb_ops.specs.Operations.{with_page}
 use Rattle.hb_ops.specs.Sound.{count_live, count_name, times_named}
-use Rattle.hb_ops.proofs.Facts.PageNumberLaws.{get-set_other, get-set_same, in_range, page_at-suc, page_at-zero, place_of, with_page-behind, with_page-there}
-use Rattle.hb_lemmas.proofs.Lists.{get-push_other}
+use Rattle.hb_ops.proofs.Facts.PageNumberLaws.{page_at-suc, page_at-zero, place_of, with_page-behind, with_page-there}
+use Rattle.hb_lemmas.proofs.Lists.{get-push_other, get-push_last}
+use Rattle.hb_space.proofs.Facts.Lists.{get-set_other, get-set_same}
 
 -- what a page adds to the pages in use, and to the names
 abbrev pub lives : Page → ℕ
@@ -55,11 +57,6 @@ times-set id (x ∷ xs) (suc n) q new e =
     let two = times-cons id x (set xs n new) in
     omega (arith, rest, one, two)
 
--- one more page
-get-push_last : (pages : List Page) (new : Page) → slice_get (pages ++ (new ∷ [])) (length pages) ≡ Some new
-get-push_last [] new = refl
-get-push_last (x ∷ xs) new = get-push_last xs new
-
 count-push : (pages : List Page) (new : Page) → count_live (pages ++ (new ∷ [])) ≡ count_live pages + lives new
 count-push [] new = let one = count-cons new [] in omega (arith, one)
 count-push (x ∷ xs) new =
@@ -85,7 +82,7 @@ pub record HasInstead (pages : List Page) (id : ℕ) (was now : Page) (after : L
 
 instead : (pages : List Page) (n : ℕ) (was now : Page) → slice_get pages n ≡ Some was → HasInstead pages (suc n) was now (set pages n now)
 instead pages n was now e = record {
-  there = page_at-suc (set pages n now) n ∙ get-set_same pages n now (in_range pages n was e);
+  there = page_at-suc (set pages n now) n ∙ get-set_same pages n now (slice_get_within pages n was e);
   others = others;
   counted = count-set pages n was now e;
   times = λ name. times-set name pages n was now e;
@@ -98,7 +95,7 @@ instead pages n was now e = record {
 pub put_instead : (pages : List Page) (id : ℕ) (was now : Page) → page_at pages id ≡ Some was → HasInstead pages id was now (with_page id now pages) × (length (with_page id now pages) ≡ length pages)
 put_instead pages id was now e =
     let here = place_of pages id was e in
-    let is : with_page id now pages ≡ set pages here.0 now = ap (λ (m : ℕ). with_page m now pages) here.1 ∙ with_page-there pages here.0 now (in_range pages here.0 was here.2) in (
+    let is : with_page id now pages ≡ set pages here.0 now = ap (λ (m : ℕ). with_page m now pages) here.1 ∙ with_page-there pages here.0 now (slice_get_within pages here.0 was here.2) in (
       subst (λ (after : List Page). HasInstead pages id was now after) (sym is)
           (subst (λ (m : ℕ). HasInstead pages m was now (set pages here.0 now)) (sym here.1) (instead pages here.0 was now here.2)),
       ap length is ∙ length-set pages here.0 now,

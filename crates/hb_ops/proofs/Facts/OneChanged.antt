@@ -9,9 +9,8 @@ use Rattle.hb_frag.specs.declared.pages.Page.TheVariants.{Live, Free}
 use Rattle.hb_frag.specs.Leaves.{leaves_of, siblings_of}
 use Rattle.hb_ops.specs.Files.{FileState, if_live, live_page, page_of}
 use Rattle.hb_ops.specs.Operations.{with_page}
-use Rattle.hb_ops.specs.Sound.{ChildrenMatch, FitsFile, IsCounted, IsCovered, IsRooted, IsSound, SiblingsMatch, count_name, times_named}
-use Rattle.hb_sound.specs.Names.{HasBelow}
-use Rattle.hb_sound.proofs.PageLists.{HasInstead, put_instead}
+use Rattle.hb_ops.specs.Sound.{ChildrenMatch, FitsFile, IsCounted, IsCovered, IsRooted, IsSound, SiblingsMatch, count_name, times_named, HasBelow}
+use Rattle.hb_ops.proofs.Facts.PageLists.{HasInstead, put_instead}
 use Rattle.hb_ops.proofs.Facts.FilePages.{chain_kept}
 use Rattle.hb_ops.proofs.Facts.PageNumberLaws.{live_so}
 use Rattle.hb_ops.proofs.Facts.PlacedLaws.{placed}
