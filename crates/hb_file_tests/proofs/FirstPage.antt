@@ -154,23 +154,19 @@ clean_fast id (u ∷ rest) all = elim (u.id == id) as (λ b. All IsFast (cond b 
 clean_first : (id : ℕ) (uses : List Use) → HoldsFirst uses → HoldsFirst (in_place id clean uses)
 clean_first id uses held = record { there = clean_there id uses ∙ held.there; pinned = clean_fast id uses held.pinned }
 
--- what a call gave that was done
-abbrev done_with : {T : Type 0} → T → Result T WriteFault
-done_with t = Ok t
-
 abbrev IsOn : StoreHeld → Type 0
 IsOn held = IsDrivenOnFirst held.state held.uses
 
-module _ {T : Type 0} (t : T) (d e : DiskModel) (old new : StoreHeld) (driven : IsDrivenOnFirst old.state old.uses) where
-  home_first : old.state.log.groups ≡ [] → FlushesHome (done_with t) d e old new → IsOn new
+module _ (d e : DiskModel) (old new : StoreHeld) (driven : IsDrivenOnFirst old.state old.uses) where
+  home_first : old.state.log.groups ≡ [] → FlushesHome (Ok tt) d e old new → IsOn new
   home_first none home = by (oldest_dirty old.uses) home
     where
-      by : (o : Option ℕ) → MatchOption o (FlushesClean (done_with t) d e old new) (λ id. WritesHome (done_with t) id d e old new) → IsOn new
+      by : (o : Option ℕ) → MatchOption o (FlushesClean (Ok tt) d e old new) (λ id. WritesHome (Ok tt) id d e old new) → IsOn new
       by None (inl (some, switches)) = subst IsOn (sym switches.switched) (record { running = driven.running; marks = All-nil IsEarly; first = driven.first })
       by None (inr (empty, ok, reads, same)) = subst IsOn (sym same) driven
       by (Some id) writes = subst IsOn (sym writes.cleaned) (record { running = driven.running; marks = driven.marks; first = clean_first id old.uses driven.first })
 
-  pub first_flushed : (old.state.log.groups ≢ [] → WritesGroups (done_with t) d e old.state new.state × (new.uses ≡ old.uses)) → (old.state.log.groups ≡ [] → FlushesHome (done_with t) d e old new) → IsDrivenOnFirst new.state new.uses
+  pub first_flushed : (old.state.log.groups ≢ [] → WritesGroups (Ok tt) d e old.state new.state × (new.uses ≡ old.uses)) → (old.state.log.groups ≡ [] → FlushesHome (Ok tt) d e old new) → IsDrivenOnFirst new.state new.uses
   first_flushed forces cleans = by old.state.log.groups refl
     where
       by : (groups : List Waiting) → old.state.log.groups ≡ groups → IsDrivenOnFirst new.state new.uses
