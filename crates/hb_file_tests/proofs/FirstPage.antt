@@ -1,5 +1,5 @@
 -- That page 1 stays in memory, pinned, through changes of it and flushes.
-use Rattle.std.proofs.Common.{◌≡◌, ◌≢◌, inl, inr, ℕ, ◌<◌, ◌≤◌, ◌==◌, Bool, true, false, cond, List, [], ◌∷◌, ◌++◌, map, All, Option, Some, None, IsSome, IsTrue, Result, Ok, refl, sym, ap, ◌∙◌, subst, arith}
+use Rattle.std.proofs.Common.{◌≡◌, ◌≢◌, inl, inr, ℕ, ◌<◌, ◌≤◌, ◌==◌, Bool, true, false, cond, List, [], ◌∷◌, map, All, Option, Some, None, IsSome, IsTrue, Ok, refl, sym, ap, ◌∙◌, subst, arith}
 use Rattle.std.specs.Prelude.{IsSomeAnd, MatchOption}
 use Rattle.std.specs.List.{find}
 use Rattle.std.specs.Option.{is_some, option_or, option_to_list}
@@ -15,7 +15,7 @@ use Rattle.hb_wal.specs.Log.{LogState, Waiting}
 use Rattle.hb_ops.specs.declared.operations.Op.{Op}
 use Rattle.hb_ops.specs.Operations.{reads_of}
 use Rattle.hb_pool.specs.Frames.{Use, clean, filled, fresh, has_id, must_stay, pinned}
-use Rattle.hb_pool.specs.Pools.{brought, change_first, frame_of, in_place, put_last, with_room}
+use Rattle.hb_pool.specs.Pools.{brought, frame_of, in_place, put_last, with_room}
 use Rattle.hb_pool.proofs.Facts.Firsts.{first_passes}
 use Rattle.hb_pool.proofs.Facts.Others.{last_no_other, marked_pages_stay}
 use Rattle.hb_pool.proofs.Facts.Pooled.{pinned_stays}
@@ -25,7 +25,6 @@ use Rattle.hb_store.specs.Forced.{WritesGroups, forced_state}
 use Rattle.hb_store.specs.Held.{StoreHeld, oldest_dirty}
 use Rattle.hb_store.specs.Replay.{is_among}
 use Rattle.hb_store.specs.WritingHome.{FlushesClean, FlushesHome, WritesHome}
-use Rattle.hb_store.specs.declared.stops.WriteFault.{WriteFault}
 use Rattle.hb_file_tests.specs.Driven.{HoldsFirst, IsDrivenHere, IsDrivenOnFirst}
 use Rattle.hb_file_tests.proofs.Staying.{found_all, room_all}
 

@@ -1,5 +1,5 @@
 -- What tests use of a store: over a disk that tells nothing no licence is owed, and each call leaves a driven store driven.
-use Rattle.std.proofs.Common.{◌≡◌, ◌≢◌, inl, inr, ℕ, ◌<◌, ◌≤◌, ◌==◌, Bool, true, false, cond, List, [], ◌∷◌, All, Option, Some, None, IsSome, IsTrue, Result, Ok, refl, sym, ap, ◌∙◌, subst, arith}
+use Rattle.std.proofs.Common.{◌≡◌, ◌≢◌, inl, inr, ℕ, ◌<◌, ◌≤◌, ◌==◌, Bool, true, false, cond, List, [], ◌∷◌, All, Option, Some, None, IsSome, IsTrue, Ok, refl, sym, ap, ◌∙◌, subst, arith}
 use Rattle.std.specs.Prelude.{IsSomeAnd, MatchOption}
 use Rattle.std.proofs.lemmas.Bool.{eq-eqb, or_right}
 use Rattle.std.proofs.lemmas.List.Elements.{All-append, All-nil}
@@ -22,7 +22,6 @@ use Rattle.hb_store.specs.Fetching.{MayFetch, use_numbered}
 use Rattle.hb_store.specs.Forced.{WritesGroups, forced_state}
 use Rattle.hb_store.specs.Held.{IsTied, StoreHeld, oldest_dirty}
 use Rattle.hb_store.specs.WritingHome.{FlushesClean, FlushesHome, WritesHome}
-use Rattle.hb_store.specs.declared.stops.WriteFault.{WriteFault}
 use Rattle.hb_store.proofs.Facts.Fetched.{no_frame}
 use Rattle.hb_store.proofs.Facts.Setting.{among_all}
 use Rattle.hb_file_tests.specs.Driven.{AllStay, FewPins, IsDrivenHere, IsPinned}

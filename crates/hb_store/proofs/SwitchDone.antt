@@ -20,8 +20,6 @@ use Rattle.hb_store.specs.Parts.{written_pages}
 use Rattle.hb_store.specs.States.{IsMemory, is_dirty}
 use Rattle.hb_store.specs.Switching.{SwitchesTurn, TornSwitch, switched_state}
 use Rattle.hb_store.specs.Turning.{MayTurn, OpensByEither}
-use Rattle.hb_store.specs.declared.stops.Flushed.{Flushed}
-use Rattle.hb_store.specs.declared.stops.Flushed.TheVariants as flushed
 use Rattle.hb_store.specs.declared.stops.WriteFault.{WriteFault}
 use Rattle.hb_store.proofs.AfterForce.{written_fits}
 use Rattle.hb_store.proofs.SwitchKept.{keeps_switched, may_turn}

@@ -1,10 +1,9 @@
 -- What a step does to the disk: nothing, a force, a page that is written to its place, or the beginning of the log's next turn.
-use Rattle.std.proofs.Common.{◌≡◌, ◌≢◌, inl, inr, ℕ, ◌<◌, arith, List, [], None, Some, Ok, Err, refl, sym, ap, ◌∙◌, subst}
+use Rattle.std.proofs.Common.{◌≡◌, ◌≢◌, inl, inr, ℕ, ◌<◌, List, [], None, Some, Ok, Err, refl, sym, ap, ◌∙◌, subst}
 use Rattle.hb_activity.specs.declared.activities.Activity.TheVariants as at
 use Rattle.hb_disk.specs.Calls.{ReadsOnly}
-use Rattle.hb_disk.specs.Model.{DiskModel, Torn}
+use Rattle.hb_disk.specs.Model.{DiskModel}
 use Rattle.hb_disk.proofs.Facts.FaultLaws.{ReadsOnly-neither, ReadsOnly-none}
-use Rattle.hb_disk.proofs.Facts.RewriteLaws.{Rewrites-as}
 use Rattle.hb_set.specs.declared.commands.Reply.{Reply}
 use Rattle.hb_set.specs.declared.commands.Reply.TheVariants as replies
 use Rattle.hb_pool.specs.Frames.{Use}
@@ -27,7 +26,6 @@ use Rattle.hb_core.specs.Touching.{EndsByRead, Touches, held_in}
 use Rattle.hb_core.specs.Working.{MayStep}
 use Rattle.hb_core.proofs.Running.ForcedShows.{waits_or_not, with_held}
 use Rattle.hb_core.proofs.Running.WrittenShows.{home_failed}
-use Rattle.std.proofs.lemmas.Bool.{false≢true}
 
 -- an outcome for which no read and no write failed
 pub record IsWell (outcome : Outcome) : Type 0 where

@@ -9,8 +9,6 @@ use Rattle.hb_store.specs.Keeps.{IsFresh}
 use Rattle.hb_store.specs.Seen.{held_by}
 use Rattle.hb_store.specs.Switching.{SwitchesTurn}
 use Rattle.hb_store.specs.Turning.{MayTurn}
-use Rattle.hb_store.specs.declared.stops.Flushed.{Flushed}
-use Rattle.hb_store.specs.declared.stops.Flushed.TheVariants.{Switched}
 use Rattle.hb_store.specs.declared.stops.WriteFault.{WriteFault}
 use Rattle.hb_store.proofs.SwitchDone.{IsToTurn, Turns, not_switched_so, switched_so}
 use Rattle.hb_store.proofs.store.Store.switch.Goals as goal

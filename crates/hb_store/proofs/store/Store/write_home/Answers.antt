@@ -3,8 +3,6 @@ use Rattle.hb_store.specs.Forced.{stopped_state}
 use Rattle.hb_store.specs.Held.{StoreHeld}
 use Rattle.hb_store.specs.Seen.{held_by}
 use Rattle.hb_store.specs.WritingHome.{WritesHome}
-use Rattle.hb_store.specs.declared.stops.Flushed.{Flushed}
-use Rattle.hb_store.specs.declared.stops.Flushed.TheVariants.{Written}
 use Rattle.hb_store.specs.declared.stops.WriteFault.{WriteFault}
 use Rattle.hb_store.proofs.WrittenHome.{is_to_write, not_written_home, oldest_is_dirty, oldest_is_there, oldest_number, place_fits, written_home}
 use Rattle.hb_store.proofs.store.Store.write_home.Goals as goal
