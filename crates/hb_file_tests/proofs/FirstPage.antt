@@ -1,5 +1,5 @@
 -- That page 1 stays in memory, pinned, through changes of it and flushes.
-use Rattle.std.proofs.Common.{◌≡◌, ◌≢◌, inl, inr, ℕ, ◌<◌, ◌≤◌, ◌==◌, Bool, true, false, cond, List, [], ◌∷◌, ◌++◌, map, All, Option, Some, None, IsSome, IsTrue, Result, Ok, refl, sym, ap, ◌∙◌, subst, arith}
+use Rattle.std.proofs.Common.{◌≡◌, ◌≢◌, inl, inr, ℕ, ◌<◌, ◌≤◌, ◌==◌, Bool, true, false, cond, List, [], ◌∷◌, map, All, Option, Some, None, IsSome, IsTrue, Ok, refl, sym, ap, ◌∙◌, subst, arith}
 use Rattle.std.specs.Prelude.{IsSomeAnd, MatchOption}
 use Rattle.std.specs.List.{find}
 use Rattle.std.specs.Option.{is_some, option_or, option_to_list}
@@ -15,7 +15,7 @@ use Rattle.hb_wal.specs.Log.{LogState, Waiting}
 use Rattle.hb_ops.specs.declared.operations.Op.{Op}
 use Rattle.hb_ops.specs.Operations.{reads_of}
 use Rattle.hb_pool.specs.Frames.{Use, clean, filled, fresh, has_id, must_stay, pinned}
-use Rattle.hb_pool.specs.Pools.{brought, change_first, frame_of, in_place, put_last, with_room}
+use Rattle.hb_pool.specs.Pools.{brought, frame_of, in_place, put_last, with_room}
 use Rattle.hb_pool.proofs.Facts.Firsts.{first_passes}
 use Rattle.hb_pool.proofs.Facts.Others.{last_no_other, marked_pages_stay}
 use Rattle.hb_pool.proofs.Facts.Pooled.{pinned_stays}
@@ -25,7 +25,6 @@ use Rattle.hb_store.specs.Forced.{WritesGroups, forced_state}
 use Rattle.hb_store.specs.Held.{StoreHeld, oldest_dirty}
 use Rattle.hb_store.specs.Replay.{is_among}
 use Rattle.hb_store.specs.WritingHome.{FlushesClean, FlushesHome, WritesHome}
-use Rattle.hb_store.specs.declared.stops.WriteFault.{WriteFault}
 use Rattle.hb_file_tests.specs.Driven.{HoldsFirst, IsDrivenHere, IsDrivenOnFirst}
 use Rattle.hb_file_tests.proofs.Staying.{found_all, room_all}
 
@@ -154,23 +153,19 @@ clean_fast id (u ∷ rest) all = elim (u.id == id) as (λ b. All IsFast (cond b 
 clean_first : (id : ℕ) (uses : List Use) → HoldsFirst uses → HoldsFirst (in_place id clean uses)
 clean_first id uses held = record { there = clean_there id uses ∙ held.there; pinned = clean_fast id uses held.pinned }
 
--- what a call gave that was done
-abbrev done_with : {T : Type 0} → T → Result T WriteFault
-done_with t = Ok t
-
 abbrev IsOn : StoreHeld → Type 0
 IsOn held = IsDrivenOnFirst held.state held.uses
 
-module _ {T : Type 0} (t : T) (d e : DiskModel) (old new : StoreHeld) (driven : IsDrivenOnFirst old.state old.uses) where
-  home_first : old.state.log.groups ≡ [] → FlushesHome (done_with t) d e old new → IsOn new
+module _ (d e : DiskModel) (old new : StoreHeld) (driven : IsDrivenOnFirst old.state old.uses) where
+  home_first : old.state.log.groups ≡ [] → FlushesHome (Ok tt) d e old new → IsOn new
   home_first none home = by (oldest_dirty old.uses) home
     where
-      by : (o : Option ℕ) → MatchOption o (FlushesClean (done_with t) d e old new) (λ id. WritesHome (done_with t) id d e old new) → IsOn new
+      by : (o : Option ℕ) → MatchOption o (FlushesClean (Ok tt) d e old new) (λ id. WritesHome (Ok tt) id d e old new) → IsOn new
       by None (inl (some, switches)) = subst IsOn (sym switches.switched) (record { running = driven.running; marks = All-nil IsEarly; first = driven.first })
       by None (inr (empty, ok, reads, same)) = subst IsOn (sym same) driven
       by (Some id) writes = subst IsOn (sym writes.cleaned) (record { running = driven.running; marks = driven.marks; first = clean_first id old.uses driven.first })
 
-  pub first_flushed : (old.state.log.groups ≢ [] → WritesGroups (done_with t) d e old.state new.state × (new.uses ≡ old.uses)) → (old.state.log.groups ≡ [] → FlushesHome (done_with t) d e old new) → IsDrivenOnFirst new.state new.uses
+  pub first_flushed : (old.state.log.groups ≢ [] → WritesGroups (Ok tt) d e old.state new.state × (new.uses ≡ old.uses)) → (old.state.log.groups ≡ [] → FlushesHome (Ok tt) d e old new) → IsDrivenOnFirst new.state new.uses
   first_flushed forces cleans = by old.state.log.groups refl
     where
       by : (groups : List Waiting) → old.state.log.groups ≡ groups → IsDrivenOnFirst new.state new.uses

@@ -1,5 +1,5 @@
 -- What tests use of a store: over a disk that tells nothing no licence is owed, and each call leaves a driven store driven.
-use Rattle.std.proofs.Common.{◌≡◌, ◌≢◌, inl, inr, ℕ, ◌<◌, ◌≤◌, ◌==◌, Bool, true, false, cond, List, [], ◌∷◌, All, Option, Some, None, IsSome, IsTrue, Result, Ok, refl, sym, ap, ◌∙◌, subst, arith}
+use Rattle.std.proofs.Common.{◌≡◌, ◌≢◌, inl, inr, ℕ, ◌<◌, ◌≤◌, ◌==◌, Bool, true, false, cond, List, [], ◌∷◌, All, Option, Some, None, IsSome, IsTrue, Ok, refl, sym, ap, ◌∙◌, subst, arith}
 use Rattle.std.specs.Prelude.{IsSomeAnd, MatchOption}
 use Rattle.std.proofs.lemmas.Bool.{eq-eqb, or_right}
 use Rattle.std.proofs.lemmas.List.Elements.{All-append, All-nil}
@@ -22,7 +22,6 @@ use Rattle.hb_store.specs.Fetching.{MayFetch, use_numbered}
 use Rattle.hb_store.specs.Forced.{WritesGroups, forced_state}
 use Rattle.hb_store.specs.Held.{IsTied, StoreHeld, oldest_dirty}
 use Rattle.hb_store.specs.WritingHome.{FlushesClean, FlushesHome, WritesHome}
-use Rattle.hb_store.specs.declared.stops.WriteFault.{WriteFault}
 use Rattle.hb_store.proofs.Facts.Fetched.{no_frame}
 use Rattle.hb_store.proofs.Facts.Setting.{among_all}
 use Rattle.hb_file_tests.specs.Driven.{AllStay, FewPins, IsDrivenHere, IsPinned}
@@ -148,22 +147,18 @@ forced st new uses after same order driven =
       stay = driven.stay;
     }))
 
--- what a call gave that was done
-abbrev done_with : {T : Type 0} → T → Result T WriteFault
-done_with t = Ok t
-
-home_runs : {T : Type 0} (t : T) (d e : DiskModel) (old new : StoreHeld) → FlushesHome (done_with t) d e old new → old.state.stopped ≡ false → new.state.stopped ≡ false
-home_runs t d e old new home runs = by (oldest_dirty old.uses) home
+home_runs : (d e : DiskModel) (old new : StoreHeld) → FlushesHome (Ok tt) d e old new → old.state.stopped ≡ false → new.state.stopped ≡ false
+home_runs d e old new home runs = by (oldest_dirty old.uses) home
   where
-    by : (o : Option ℕ) → MatchOption o (FlushesClean (done_with t) d e old new) (λ id. WritesHome (done_with t) id d e old new) → new.state.stopped ≡ false
+    by : (o : Option ℕ) → MatchOption o (FlushesClean (Ok tt) d e old new) (λ id. WritesHome (Ok tt) id d e old new) → new.state.stopped ≡ false
     by None (inl (some, switches)) = ap (λ (h : StoreHeld). h.state.stopped) switches.switched ∙ runs
     by None (inr (empty, ok, reads, same)) = ap (λ (h : StoreHeld). h.state.stopped) same ∙ runs
     by (Some id) writes = ap (λ (h : StoreHeld). h.state.stopped) writes.cleaned ∙ runs
 
-pub flushed_runs : {T : Type 0} (t : T) (d e : DiskModel) (old new : StoreHeld) → (old.state.log.groups ≢ [] → WritesGroups (done_with t) d e old.state new.state × (new.uses ≡ old.uses)) → (old.state.log.groups ≡ [] → FlushesHome (done_with t) d e old new)
+pub flushed_runs : (d e : DiskModel) (old new : StoreHeld) → (old.state.log.groups ≢ [] → WritesGroups (Ok tt) d e old.state new.state × (new.uses ≡ old.uses)) → (old.state.log.groups ≡ [] → FlushesHome (Ok tt) d e old new)
     → old.state.stopped ≡ false → new.state.stopped ≡ false
-flushed_runs t d e old new forces cleans runs = by old.state.log.groups refl
+flushed_runs d e old new forces cleans runs = by old.state.log.groups refl
   where
     by : (groups : List Waiting) → old.state.log.groups ≡ groups → new.state.stopped ≡ false
-    by [] none = home_runs t d e old new (cleans none) runs
+    by [] none = home_runs d e old new (cleans none) runs
     by (g ∷ rest) some = ap (λ (s : StoreState). s.stopped) ((forces (λ none. let never : g ∷ rest ≡ [] = sym some ∙ none in cc never)).0.forced) ∙ runs

@@ -1,27 +1,26 @@
 -- No two records of a sound file have one point, so the contents have as many.
-use Rattle.std.proofs.Common.{◌≡◌, ◌≢◌, ℕ, zero, suc, ◌+◌, ◌<◌, ◌≤◌, inl, inr, Bool, cond, List, [], ◌∷◌, ◌++◌, map, flat_map, length, get_or, slice_get, All, AllPairs, Some, None, refl, sym, ap, subst, ◌∙◌, arith, append-nil}
-use Rattle.std.specs.List.{AllByRecursion, Contains}
+use Rattle.std.proofs.Common.{◌≡◌, ◌≢◌, ℕ, zero, suc, ◌+◌, ◌<◌, ◌≤◌, inl, inr, Bool, cond, List, [], ◌∷◌, map, flat_map, length, get_or, slice_get, All, AllPairs, Some, None, refl, sym, ap, subst, ◌∙◌, arith, append-nil}
+use Rattle.std.specs.List.{Contains}
 use Rattle.std.specs.Option.{is_some}
 use Rattle.std.specs.FinMap as finite
 use Rattle.std.proofs.lemmas.Bool.{cases_eq, eq-eqb, ne_eqb}
 use Rattle.std.proofs.lemmas.Cmp.{nat_list_cmp_total}
 use Rattle.std.proofs.lemmas.Grind.{flat_map-append}
-use Rattle.std.proofs.lemmas.List.Elements.{All-contains, recursion_from_All}
+use Rattle.std.proofs.lemmas.List.Elements.{All-append, All-contains, All-nil, recursion_from_All}
 use Rattle.std.proofs.lemmas.List.{get_or_default}
-use Rattle.hb_lemmas.proofs.Lists.{All-parts, whole}
-use Rattle.hb_lemmas.proofs.Pairs.{pairs_first, pairs_rest}
+use Rattle.hb_lemmas.proofs.Lists.{All-parts, each_member}
+use Rattle.hb_lemmas.proofs.Pairs.{pairs_append, pairs_first, pairs_none, pairs_rest}
 use Rattle.hb_space.specs.Boxes.{Area, Holds, IsArea, Within, side_below, side_from}
 use Rattle.hb_space.specs.Points.{IsPoint, point_cmp}
 use Rattle.hb_space.specs.declared.records.Record.{Record}
 use Rattle.hb_space.proofs.Facts.Boxes.{Holds-within}
-use Rattle.hb_space.proofs.Facts.PointOrder.{not_itself}
 use Rattle.hb_frag.proofs.Facts.Sides.{IsArea-side_below, IsArea-side_from}
 use Rattle.hb_frag.specs.declared.pages.Page.{Page}
 use Rattle.hb_frag.specs.declared.pages.Page.TheVariants.{Live, Free}
 use Rattle.hb_frag.specs.Trees.{Tree, Tip, Cut}
 use Rattle.hb_frag.specs.Leaves.{IsWellCut, Placed, leaves, leaves_of, records_of}
-use Rattle.hb_frag.specs.Rules.{IsInOrder, Precedes}
-use Rattle.hb_frag.proofs.Facts.OrderedLeaves.{sides_apart}
+use Rattle.hb_frag.specs.Rules.{IsInOrder}
+use Rattle.hb_frag.proofs.Facts.OrderedLeaves.{Differs, rising_differ, sides_apart}
 use Rattle.hb_ops.specs.Files.{FileState, file_records, page_records}
 use Rattle.hb_ops.specs.Sound.{IsSound}
 use Rattle.hb_ops.proofs.Facts.Finds.{body-lacking, entry_of}
@@ -32,38 +31,15 @@ use Rattle.hb_sound.proofs.Facts.PagePlaces.{live_there}
 use Rattle.hb_sound.proofs.Partition.{is_responsible, pages_have_boxes, records_are_at_home}
 use Rattle.hb_sound.proofs.RecordsStand.{in_leaf, of_page, of_page_id, stands_at}
 
--- no two of these records have one point
-abbrev Differs : Record → Record → Type 0
-Differs r other = other.key ≢ r.key
-
-abbrev AreApart : List Record → Type 0
-AreApart [] = Unit {0}
-AreApart (r ∷ rest) = AllByRecursion (Differs r) rest × AreApart rest
-
--- then the contents have as many
-as_many : (records : List Record) → AreApart records → finite.len (finite.from_entries {R = point_cmp} (map entry_of records)) ≡ length records
+-- where no two records have one point the contents have as many
+as_many : (records : List Record) → AllPairs Differs records → finite.len (finite.from_entries {R = point_cmp} (map entry_of records)) ≡ length records
 as_many [] apart = finite.len-empty point_cmp (List ℕ)
 as_many (r ∷ rest) apart =
     let rest_map = finite.from_entries {R = point_cmp} (map entry_of rest) in
-    let none : finite.get rest_map r.key ≡ None = finite.get-from_entries nat_list_cmp_total (map entry_of rest) r.key ∙ body-lacking r.key rest apart.0 in
+    let none : finite.get rest_map r.key ≡ None = finite.get-from_entries nat_list_cmp_total (map entry_of rest) r.key ∙ body-lacking r.key rest (recursion_from_All (Differs r) rest (pairs_first Differs r rest apart)) in
     let new = finite.len-insert nat_list_cmp_total rest_map r.key r.body ∙ ap (λ o. cond (is_some o) (finite.len rest_map) (finite.len rest_map + 1)) none in
-    let later = as_many rest apart.1 in
+    let later = as_many rest (pairs_rest Differs r rest apart) in
     omega (arith, new, later)
-
-apart_joined : (xs ys : List Record) → AreApart xs → AreApart ys → ((r : Record) → Contains xs r → AllByRecursion (Differs r) ys) → AreApart (xs ++ ys)
-apart_joined [] ys one two across = two
-apart_joined (x ∷ xs) ys one two across = (
-  whole (Differs x) xs ys one.0 (across x (zero, omega arith, refl)),
-  apart_joined xs ys one.1 two (λ r has. across r (suc has.0, (let lt = has.1 in omega (arith, lt)), has.2)),
-)
-
--- the records of a leaf
-rises_apart : (records : List Record) → AllPairs Precedes records → AreApart records
-rises_apart [] pairs = tt
-rises_apart (x ∷ xs) pairs = (
-  recursion_from_All (Differs x) xs (λ k d lt same. not_itself x.key (get_or xs k d).key (sym same) (pairs_first Precedes x xs pairs k d lt)),
-  rises_apart xs (pairs_rest Precedes x xs pairs),
-)
 
 -- of a tree: those of one side of a cut have other points than those of the other side
 module _ (trees : TreeLaws) where
@@ -75,23 +51,23 @@ module _ (trees : TreeLaws) where
       let same : length w.0.area.lo ≡ length area.lo = All-contains (λ (l : Placed). length l.area.lo ≡ length area.lo) (leaves_of t area) w.0 (trees.attributes t area) w.1 in
       Holds-within w.0.area area r.key same within inside
 
-  tree_apart : (t : Tree) (area : Area) → IsArea area → IsWellCut t area → All IsInOrder (leaves_of t area) → AreApart (flat_map records_of (leaves t))
+  tree_apart : (t : Tree) (area : Area) → IsArea area → IsWellCut t area → All IsInOrder (leaves_of t area) → AllPairs Differs (flat_map records_of (leaves t))
   tree_apart (Tip leaf) area box cut order =
-      subst AreApart (sym (append-nil (records_of leaf))) (rises_apart (records_of leaf) (order zero (record { leaf = leaf; area = area }) (omega arith)).rising)
+      subst (AllPairs Differs) (sym (append-nil (records_of leaf))) (rising_differ (records_of leaf) (order zero (record { leaf = leaf; area = area }) (omega arith)).rising)
   tree_apart (Cut axis value left right) area box cut order =
       let below = side_below area axis value in
       let from = side_from area axis value in
       let low = IsArea-side_below area axis value box cut.0 in
       let high = IsArea-side_from area axis value box cut.0 in
       let parts = (All-parts IsInOrder (leaves_of left below) (leaves_of right from)).0 order in
-      let apart = apart_joined (flat_map records_of (leaves left)) (flat_map records_of (leaves right))
+      let apart = pairs_append Differs (flat_map records_of (leaves left)) (flat_map records_of (leaves right))
       (tree_apart left below low cut.1 parts.0) (tree_apart right from high cut.2 parts.1)
-      (λ r has. recursion_from_All (Differs r) (flat_map records_of (leaves right)) (λ k d lt same.
+      (each_member (λ r. All (Differs r) (flat_map records_of (leaves right))) (flat_map records_of (leaves left)) (λ r has k d lt same.
       let other = get_or (flat_map records_of (leaves right)) k d in
       let mine = held_by_tree left below low cut.1 parts.0 r has in
       let there = held_by_tree right from high cut.2 parts.1 other (k, lt, get_or_default (flat_map records_of (leaves right)) k other d lt) in
       sides_apart area axis value r.key cut.0 mine (subst (λ (q : List ℕ). Holds from q) same there))) in
-      subst AreApart (sym (flat_map-append records_of (leaves left) (leaves right))) apart
+      subst (AllPairs Differs) (sym (flat_map-append records_of (leaves left) (leaves right))) apart
 
 first_place : (first : ℕ) → first + 0 ≡ first
 first_place first = omega arith
@@ -101,15 +77,15 @@ next_place first m = omega arith
 
 -- of a page, and of all pages
 module _ (trees : TreeLaws) (space : SpaceLaws) (points : (a : Area) (p : List ℕ) → IsArea a → Holds a p → IsPoint p) (s : FileState) (sound : IsSound s) (some : 1 ≤ s.meta.k) (few : s.meta.k ≤ 4) where
-  page_apart : (n : ℕ) (q : Page) → slice_get s.pages n ≡ Some q → AreApart (page_records q)
-  page_apart n (Free next) there = tt
+  page_apart : (n : ℕ) (q : Page) → slice_get s.pages n ≡ Some q → AllPairs Differs (page_records q)
+  page_apart n (Free next) there = pairs_none Differs
   page_apart n (Live page) there =
       let live = live_there s n page there in
       let made = sound.well_made (suc n) page live in
       let box = pages_have_boxes trees space s (suc n) page sound some few live in
       elim (cases_eq page.level 0) [
-        | inl on ↦ subst (λ (b : Bool). AreApart (cond b (flat_map records_of (leaves page.frag)) [])) (sym (eq-eqb page.level 0 on)) (tree_apart trees page.frag page.area box made.well_cut made.in_order)
-        | inr above ↦ subst (λ (b : Bool). AreApart (cond b (flat_map records_of (leaves page.frag)) [])) (sym (ne_eqb page.level 0 above)) tt
+        | inl on ↦ subst (λ (b : Bool). AllPairs Differs (cond b (flat_map records_of (leaves page.frag)) [])) (sym (eq-eqb page.level 0 on)) (tree_apart trees page.frag page.area box made.well_cut made.in_order)
+        | inr above ↦ subst (λ (b : Bool). AllPairs Differs (cond b (flat_map records_of (leaves page.frag)) [])) (sym (ne_eqb page.level 0 above)) (pairs_none Differs)
       ]
 
   -- another page lacks the point of a record
@@ -123,19 +99,20 @@ module _ (trees : TreeLaws) (space : SpaceLaws) (points : (a : Area) (p : List �
       numbers : (m n id : ℕ) → suc m ≡ id → id ≡ suc n → m ≡ n
       numbers m n id same is = omega (arith, same, is)
 
-  rest_lacks : (pages : List Page) (first n : ℕ) (q : Page) (r : Record) → n < first → slice_get s.pages n ≡ Some q → Contains (page_records q) r → ((m : ℕ) (x : Page) → slice_get pages m ≡ Some x → slice_get s.pages (first + m) ≡ Some x) → AllByRecursion (Differs r) (flat_map page_records pages)
-  rest_lacks [] first n q r less here has at = tt
+  rest_lacks : (pages : List Page) (first n : ℕ) (q : Page) (r : Record) → n < first → slice_get s.pages n ≡ Some q → Contains (page_records q) r → ((m : ℕ) (x : Page) → slice_get pages m ≡ Some x → slice_get s.pages (first + m) ≡ Some x) → All (Differs r) (flat_map page_records pages)
+  rest_lacks [] first n q r less here has at = All-nil (Differs r)
   rest_lacks (x ∷ rest) first n q r less here has at =
-      whole (Differs r) (page_records x) (flat_map page_records rest)
-      (recursion_from_All (Differs r) (page_records x) (other_lacks n first q x r here (subst (λ (i : ℕ). slice_get s.pages i ≡ Some x) (first_place first) (at zero x refl)) (λ same. omega (arith, same, less)) has))
+      All-append (Differs r) (page_records x) (flat_map page_records rest)
+      (other_lacks n first q x r here (subst (λ (i : ℕ). slice_get s.pages i ≡ Some x) (first_place first) (at zero x refl)) (λ same. omega (arith, same, less)) has)
       (rest_lacks rest (suc first) n q r (omega (arith, less)) here has (λ m y e. subst (λ (i : ℕ). slice_get s.pages i ≡ Some y) (next_place first m) (at (suc m) y e)))
 
-  all_apart : (pages : List Page) (first : ℕ) → ((m : ℕ) (x : Page) → slice_get pages m ≡ Some x → slice_get s.pages (first + m) ≡ Some x) → AreApart (flat_map page_records pages)
-  all_apart [] first at = tt
+  all_apart : (pages : List Page) (first : ℕ) → ((m : ℕ) (x : Page) → slice_get pages m ≡ Some x → slice_get s.pages (first + m) ≡ Some x) → AllPairs Differs (flat_map page_records pages)
+  all_apart [] first at = pairs_none Differs
   all_apart (q ∷ rest) first at =
       let here : slice_get s.pages first ≡ Some q = subst (λ (i : ℕ). slice_get s.pages i ≡ Some q) (first_place first) (at zero q refl) in
       let later : (m : ℕ) (x : Page) → slice_get rest m ≡ Some x → slice_get s.pages (suc first + m) ≡ Some x = λ m x e. subst (λ (i : ℕ). slice_get s.pages i ≡ Some x) (next_place first m) (at (suc m) x e) in
-      apart_joined (page_records q) (flat_map page_records rest) (page_apart first q here) (all_apart rest (suc first) later) (λ r has. rest_lacks rest (suc first) first q r (omega arith) here has later)
+      pairs_append Differs (page_records q) (flat_map page_records rest) (page_apart first q here) (all_apart rest (suc first) later)
+      (each_member (λ r. All (Differs r) (flat_map page_records rest)) (page_records q) (λ r has. rest_lacks rest (suc first) first q r (omega arith) here has later))
 
 pub records_stand_once : TreeLaws → SpaceLaws → ((a : Area) (p : List ℕ) → IsArea a → Holds a p → IsPoint p) → RecordsStandOnce
 records_stand_once trees space points s sound some few = as_many (file_records s) (all_apart trees space points s sound some few s.pages 0 (λ m x e. subst (λ (i : ℕ). slice_get s.pages i ≡ Some x) (zero_place m) e))

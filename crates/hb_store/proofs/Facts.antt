@@ -10,7 +10,6 @@ pub mod MadeMerges
 pub mod Changed
 pub mod LookLaws
 pub mod BadGroups
-pub mod OtherAnswers
 pub mod PlaceWrites
 pub mod Fetched
 pub mod Grouped

@@ -20,7 +20,7 @@ pub due_switch : (result : Result Flushed WriteFault) (held : StoreHeld) → hel
 due_switch (Ok flushed) held none clean some is = subst (IsDue held) (sym is) (none, clean, some)
 due_switch (Err fault) held none clean some is = tt
 
-module _ {T : Type 0} (result : Result T WriteFault) (d e : DiskModel) (old new : StoreHeld) where
+module _ (result : Result (Unit {0}) WriteFault) (d e : DiskModel) (old new : StoreHeld) where
   abbrev ByOldest : Option ℕ → Type 0
   ByOldest oldest = MatchOption oldest (FlushesClean result d e old new) (λ id. WritesHome result id d e old new)
 
@@ -32,5 +32,5 @@ module _ {T : Type 0} (result : Result T WriteFault) (d e : DiskModel) (old new 
   flushes_switch none some switches = subst ByOldest (sym none) (inl (some, switches))
 
 -- and if it has none nothing is done
-pub flushes_none : {T : Type 0} (x : T) (d : DiskModel) (held : StoreHeld) → oldest_dirty held.uses ≡ None → held.state.log.written ≡ 0 → FlushesHome (Ok x) d d held held
-flushes_none x d held none empty = subst (ByOldest (Ok x) d d held held) (sym none) (inr (empty, refl, record { only = ReadsOnly-none d (λ never. never); keeps = λ durable later keeps. keeps }, refl))
+pub flushes_none : (d : DiskModel) (held : StoreHeld) → oldest_dirty held.uses ≡ None → held.state.log.written ≡ 0 → FlushesHome (Ok tt) d d held held
+flushes_none d held none empty = subst (ByOldest (Ok tt) d d held held) (sym none) (inr (empty, refl, record { only = ReadsOnly-none d (λ never. never); keeps = λ durable later keeps. keeps }, refl))

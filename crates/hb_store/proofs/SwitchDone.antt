@@ -20,8 +20,6 @@ use Rattle.hb_store.specs.Parts.{written_pages}
 use Rattle.hb_store.specs.States.{IsMemory, is_dirty}
 use Rattle.hb_store.specs.Switching.{SwitchesTurn, TornSwitch, switched_state}
 use Rattle.hb_store.specs.Turning.{MayTurn, OpensByEither}
-use Rattle.hb_store.specs.declared.stops.Flushed.{Flushed}
-use Rattle.hb_store.specs.declared.stops.Flushed.TheVariants as flushed
 use Rattle.hb_store.specs.declared.stops.WriteFault.{WriteFault}
 use Rattle.hb_store.proofs.AfterForce.{written_fits}
 use Rattle.hb_store.proofs.SwitchKept.{keeps_switched, may_turn}
@@ -65,7 +63,7 @@ module _ (d e : DiskModel) (is_e : IsDisk e) (old : StoreHeld) (to_turn : IsToTu
   -- once they are done
   pub switched_so : {T : Type 0} (v : T) → Turns (Ok v) turn old.state.meta d e
       → ((before : ℕ) (said : Meta) (touched : ℕ → Option Page) (s : FileState) → turn ≡ next_turn before → MayTurn d before said old.state.meta touched s → IsFresh e turn old.state.meta s)
-      → (IsSome d.told → e.clock ≡ d.clock + 9) → SwitchesTurn {T = Flushed} (Ok flushed.Switched) d e old (record { state = switched_state old.state; uses = old.uses })
+      → (IsSome d.told → e.clock ≡ d.clock + 9) → SwitchesTurn (Ok tt) d e old (record { state = switched_state old.state; uses = old.uses })
   switched_so {T = T} v turns fresh clock =
       let result : Result T DiskFault = Ok v in
       let run = wrote result turns in
@@ -78,13 +76,13 @@ module _ (d e : DiskModel) (is_e : IsDisk e) (old : StoreHeld) (to_turn : IsToTu
             keeps_switched d old.state to_turn.memory to_turn.may.running clean durable keeps e is_e (omega (arith, same, room))
             (subst (λ (n : ℕ). IsFresh e n old.state.meta durable) turn_is (fresh old.state.turn keeps.parts.said (written_pages keeps.parts).page durable turn_is (may durable keeps))));
         moments = moments result turns;
-        wrote = let done : Result Flushed WriteFault = Ok flushed.Switched in Rewrites-as result done (TornSwitch old.state.turn old.state.meta) 9 9 d e (λ failed. cc) (λ failed. cc) (omega arith) run;
+        wrote = let done : Result (Unit {0}) WriteFault = Ok tt in Rewrites-as result done (TornSwitch old.state.turn old.state.meta) 9 9 d e (λ failed. cc) (λ failed. cc) (omega arith) run;
         clock = clock;
       }
 
   -- and where one failed
   pub not_switched_so : {T : Type 0} (fault : DiskFault) (stops : WriteFault) → Turns {T = T} (Err fault) turn old.state.meta d e
-      → SwitchesTurn {T = Flushed} (Err stops) d e old (record { state = stopped_state old.state; uses = old.uses })
+      → SwitchesTurn (Err stops) d e old (record { state = stopped_state old.state; uses = old.uses })
   not_switched_so {T = T} fault stops turns =
       let result : Result T DiskFault = Err fault in
       let run = wrote result turns in
@@ -97,6 +95,6 @@ module _ (d e : DiskModel) (is_e : IsDisk e) (old : StoreHeld) (to_turn : IsToTu
             (now_has d e (OpensByEither old.state.turn keeps.parts.said old.state.meta (written_pages keeps.parts).page durable) is_e (either result turns durable keeps))
             (written_fits d old.state.log keeps.parts.payloads (keeps.disk.running to_turn.may.running).logged told.0 told.1));
         moments = moments result turns;
-        wrote = let done : Result Flushed WriteFault = Err stops in Rewrites-as result done (TornSwitch old.state.turn old.state.meta) 9 9 d e (λ failed. refl) (λ failed. refl) (omega arith) run;
+        wrote = let failed : Result (Unit {0}) WriteFault = Err stops in Rewrites-as result failed (TornSwitch old.state.turn old.state.meta) 9 9 d e (λ failed. refl) (λ failed. refl) (omega arith) run;
         clock = λ tells. tt;
       }

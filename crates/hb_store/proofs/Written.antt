@@ -29,11 +29,11 @@ module _ (d e : DiskModel) (is_disk : IsDisk d) (is_new : IsDisk e) (st : StoreS
   moments durable later keeps = moments_open d is_disk st is going durable later keeps e (inside keeps.disk.told keeps.parts.payloads (keeps.disk.running going).logged)
 
   -- it was written
-  pub written_so : {T X E : Type 0} (x : T) (y : X) → (st.log.groups ≡ [] → Stays d e) → log ≡ after_force st.log
+  pub written_so : {X E : Type 0} (y : X) → (st.log.groups ≡ [] → Stays d e) → log ≡ after_force st.log
       → ((payloads : List (List ℕ)) → HasLog d st.log payloads → HasLog e log (payloads ++ forced st.log.groups))
       → (IsSome d.told → e.clock ≡ d.clock + calls_of_force st.log.groups) → Rewrites {T = X} {E = E} (Torn st.log.area st.log.len) 4 (Ok y) d e
-      → WritesGroups (Ok x) d e st (with_log log st)
-  written_so x y nothing is_forced has clock wrote = record {
+      → WritesGroups (Ok tt) d e st (with_log log st)
+  written_so y nothing is_forced has clock wrote = record {
     nothing = λ none. (refl, nothing none);
     forced = ap (λ (l : LogState). with_log l st) is_forced;
     stopped = tt;
@@ -50,8 +50,8 @@ module _ (d e : DiskModel) (is_disk : IsDisk d) (is_new : IsDisk e) (st : StoreS
   }
 
   -- a fault stopped the store
-  pub written_not : {T X E : Type 0} (fault : WriteFault) (y : E) → (st.log.groups ≡ [] → ⊥) → log ≡ st.log → Rewrites {T = X} {E = E} (Torn st.log.area st.log.len) 4 (Err y) d e
-      → WritesGroups {T = T} (Err fault) d e st (stopped_state (with_log log st))
+  pub written_not : {X E : Type 0} (fault : WriteFault) (y : E) → (st.log.groups ≡ [] → ⊥) → log ≡ st.log → Rewrites {T = X} {E = E} (Torn st.log.area st.log.len) 4 (Err y) d e
+      → WritesGroups (Err fault) d e st (stopped_state (with_log log st))
   written_not fault y some kept wrote = record {
     nothing = λ none. absurd (some none);
     forced = tt;

@@ -94,9 +94,10 @@ module _ (d e : DiskModel) (is_disk : IsDisk d) (is_new : IsDisk e) (old : Store
         }))
 
   -- it was written
-  pub written_home : {T X E : Type 0} (x : T) (y : X) → Writes {T = X} {E = E} at bytes (Ok y) d e → WritesHome (Ok x) id d e old (cleaned_held id old)
-  written_home {T = T} {X = X} {E = E} x y writes =
+  pub written_home : {X E : Type 0} (y : X) → Writes {T = X} {E = E} at bytes (Ok y) d e → WritesHome (Ok tt) id d e old (cleaned_held id old)
+  written_home {X = X} {E = E} y writes =
       let r : Result X E = Ok y in
+      let done : Result (Unit {0}) WriteFault = Ok tt in
       let run = wrote_place r writes in
       record {
         cleaned = refl;
@@ -108,21 +109,22 @@ module _ (d e : DiskModel) (is_disk : IsDisk d) (is_new : IsDisk e) (old : Store
             (omega (arith, to_write.room, layout.log, layout.pages)) (file_page d old id at to_write).0
             (omega (arith, most d old id at to_write, layout.pages)) writes.silent writes.written));
         moments = moments_home r writes;
-        wrote = Rewrites-as r (Ok x) (Torn (page_offset old.state.meta id) PAGE) 1 1 d e (λ h. h) (λ h. h) (omega arith) run;
+        wrote = Rewrites-as r done (Torn (page_offset old.state.meta id) PAGE) 1 1 d e (λ h. h) (λ h. h) (omega arith) run;
         clock = λ told. ok_tick r y d e refl is_disk told writes.ticks;
       }
 
   -- a fault stopped the store
-  pub not_written_home : {T X E : Type 0} (fault : WriteFault) (y : E) → Writes {T = X} {E = E} at bytes (Err y) d e
-      → WritesHome {T = T} (Err fault) id d e old (record { state = stopped_state old.state; uses = old.uses })
-  not_written_home {T = T} {X = X} {E = E} fault y writes =
+  pub not_written_home : {X E : Type 0} (fault : WriteFault) (y : E) → Writes {T = X} {E = E} at bytes (Err y) d e
+      → WritesHome (Err fault) id d e old (record { state = stopped_state old.state; uses = old.uses })
+  not_written_home {X = X} {E = E} fault y writes =
       let r : Result X E = Err y in
+      let failed : Result (Unit {0}) WriteFault = Err fault in
       let run = wrote_place r writes in
       record {
         cleaned = tt;
         stopped = (refl, refl);
         keeps = StoreKeeps-idle d old.state (StoreKeeps e (stopped_state old.state)) to_write.idle (λ durable keeps. keeps_not_home d e old.state to_write.memory to_write.going to_write.idle id to_write.dirty durable keeps run.became);
         moments = moments_home r writes;
-        wrote = Rewrites-as r (Err fault) (Torn (page_offset old.state.meta id) PAGE) 1 1 d e (λ h. h) (λ h. h) (omega arith) run;
+        wrote = Rewrites-as r failed (Torn (page_offset old.state.meta id) PAGE) 1 1 d e (λ h. h) (λ h. h) (omega arith) run;
         clock = λ told. tt;
       }

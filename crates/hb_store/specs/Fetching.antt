@@ -17,7 +17,7 @@ use Rattle.hb_ops.specs.Files.{FileState}
 use Rattle.hb_store.specs.Keeps.{StoreKeeps}
 use Rattle.hb_pool.specs.Frames.{Use}
 use Rattle.hb_pool.specs.Pools.{places}
-use Rattle.hb_store.specs.Calls.{Fetched, use_fetched}
+use Rattle.hb_store.specs.Calls.{Fetched, StaysHere, use_fetched}
 use Rattle.hb_store.specs.declared.stops.FetchStop.TheVariants.{Damaged}
 
 -- the number is of no page of the file
@@ -67,6 +67,12 @@ MayFetch id old new = (new ≡ old) ⊎ Fetched id old new
 -- the same, said of the order of use
 abbrev pub MayUse : ℕ → List Use → List Use → Type 0
 MayUse id uses after = (after ≡ uses) ⊎ (after ≡ use_fetched id uses)
+
+-- What a call does that fetches this page at most: a page that is dirty or pinned is there as it was.
+pub record MayBring (id : ℕ) (old new : StoreState) (uses after : List Use) : Type 0 where
+  pub fetched : MayFetch id old new
+  pub used : MayUse id uses after
+  pub stays : (q : ℕ) → StaysHere uses q → in_memory new q ≡ in_memory old q
 
 -- the page isn't in memory, and there is no place for it
 abbrev pub IsCrowdedOut : ℕ → StoreState → List Use → Type 0

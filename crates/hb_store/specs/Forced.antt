@@ -1,5 +1,5 @@
 -- What a store and its files are once the groups that wait were written to the log, and what it is to write them.
-use Rattle.std.specs.Prelude.{◌≡◌, ◌+◌, false, true, List, [], IsOk, IsSome, OnErr, OnOk, Result}
+use Rattle.std.specs.Prelude.{◌≡◌, ◌+◌, false, true, List, [], IsOk, IsSome, OnErr, OnOk, Result, Ok, Err}
 use Rattle.hb_disk.specs.Model.{DiskModel, Stays, Torn}
 use Rattle.hb_disk.specs.Calls.{Leaves}
 use Rattle.hb_disk.specs.Runs.{Rewrites}
@@ -26,8 +26,13 @@ pub record MayWriteGroups (d : DiskModel) (st : StoreState) : Type 0 where
   pub running : st.stopped ≡ false
   pub kept : IsSome d.told → (durable : FileState) × (later : List FileState) × StoreKeeps d st durable later
 
+-- a call that writes, whatever it gives once it is done
+abbrev pub done : {T : Type 0} → Result T WriteFault → Result (Unit {0}) WriteFault
+done (Ok x) = Ok tt
+done (Err fault) = Err fault
+
 -- What it is to write the groups that wait to the log, by its result.
-pub record WritesGroups {T : Type 0} (result : Result T WriteFault) (d e : DiskModel) (old new : StoreState) : Type 0 where
+pub record WritesGroups (result : Result (Unit {0}) WriteFault) (d e : DiskModel) (old new : StoreState) : Type 0 where
   -- where none waits it is done, and the disk stays
   pub nothing : old.log.groups ≡ [] → IsOk result × Stays d e
   -- once they are written none waits

@@ -30,7 +30,7 @@ pub record TornSwitch (turn : ℕ) (meta : Meta) (before after : List ℕ) : Typ
   pub place : Torn (slot_offset (next_turn turn)) 41 between after
 
 -- The next turn begins, by its result.
-pub record SwitchesTurn {T : Type 0} (result : Result T WriteFault) (d e : DiskModel) (old new : StoreHeld) : Type 0 where
+pub record SwitchesTurn (result : Result (Unit {0}) WriteFault) (d e : DiskModel) (old new : StoreHeld) : Type 0 where
   -- once it has begun the pages in memory and their order stay
   pub switched : OnOk result (new ≡ record { state = switched_state old.state; uses = old.uses })
   -- a fault stops the store

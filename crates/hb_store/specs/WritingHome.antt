@@ -17,7 +17,7 @@ use Rattle.hb_store.specs.declared.stops.Flushed.TheVariants.{Forced, Written, S
 use Rattle.hb_store.specs.declared.stops.WriteFault.{WriteFault}
 
 -- The page of this number is written to its place, by its result.
-pub record WritesHome {T : Type 0} (result : Result T WriteFault) (id : ℕ) (d e : DiskModel) (old new : StoreHeld) : Type 0 where
+pub record WritesHome (result : Result (Unit {0}) WriteFault) (id : ℕ) (d e : DiskModel) (old new : StoreHeld) : Type 0 where
   -- once it is written it is clean
   pub cleaned : OnOk result (new ≡ cleaned_held id old)
   -- a fault stops the store
@@ -33,10 +33,10 @@ pub record WritesHome {T : Type 0} (result : Result T WriteFault) (id : ℕ) (d 
 
 -- What a flush is to do where no group waits, by its result: the least recently used dirty page; where none is dirty the next turn
 -- begins if the log has a frame, and else nothing is to be done.
-abbrev pub FlushesClean : {T : Type 0} → Result T WriteFault → DiskModel → DiskModel → StoreHeld → StoreHeld → Type 0
+abbrev pub FlushesClean : Result (Unit {0}) WriteFault → DiskModel → DiskModel → StoreHeld → StoreHeld → Type 0
 FlushesClean result d e old new = ((0 < old.state.log.written) × SwitchesTurn result d e old new) ⊎ ((old.state.log.written ≡ 0) × IsOk result × LooksUp ⊥ d e old.state new.state × (new ≡ old))
 
-abbrev pub FlushesHome : {T : Type 0} → Result T WriteFault → DiskModel → DiskModel → StoreHeld → StoreHeld → Type 0
+abbrev pub FlushesHome : Result (Unit {0}) WriteFault → DiskModel → DiskModel → StoreHeld → StoreHeld → Type 0
 FlushesHome result d e old new = MatchOption (oldest_dirty old.uses) (FlushesClean result d e old new) (λ id. WritesHome result id d e old new)
 
 -- which of the four a flush does

@@ -5,8 +5,8 @@ ghost use Rattle.hb_ops.specs.Allocating.{Allocates, NamesNext};
 ghost use Rattle.hb_ops.specs.Files.{FileState, page_of, last_of};
 ghost use Rattle.hb_ops.specs.Sound.{IsSound};
 ghost use Rattle.hb_store.specs.States.{IsMemory, in_memory};
-ghost use Rattle.hb_store.specs.Fetching.{IsCrowdedOut, LooksUp, IsDamage, IsNext, IsNoHead, MayFetch, MayUse, NeedsNoRead, use_numbered};
-ghost use Rattle.hb_store.specs.Calls.{StaysHere, use_fetched};
+ghost use Rattle.hb_store.specs.Fetching.{IsCrowdedOut, LooksUp, IsDamage, IsNext, IsNoHead, MayBring, NeedsNoRead, use_numbered};
+ghost use Rattle.hb_store.specs.Calls.{use_fetched};
 ghost use Rattle.hb_store.specs.Keeps.{StoreKeeps};
 ghost use Rattle.hb_store.specs.Seen.{seen_as, uses_of};
 ghost use Rattle.hb_store.specs.declared.stops.FetchStop.TheVariants.{Crowded, Damaged, ReadFault};
@@ -31,11 +31,8 @@ impl<D: Device> Store<D> {
         ensures allocates { IfOk result (λ page. IfSome page (λ p. Allocates (seen_as self.new).meta p.0 p.1)) }
         ensures names { (durable : FileState) (later : List FileState) → StoreKeeps (D.model self.old.disk) (seen_as self.old) durable later →
             IfOk result (λ page. IfSome page (λ p. NamesNext (last_of durable later) p.0 p.1)) }
-        ensures fetches { MayFetch (seen_as self.old).meta.free (seen_as self.old) (seen_as self.new) }
+        ensures brings { MayBring (seen_as self.old).meta.free (seen_as self.old) (seen_as self.new) (uses_of self.old) (uses_of self.new) }
         ensures uses { OnOk result (uses_of self.new ≡ use_numbered (seen_as self.old).meta (uses_of self.old)) }
-        ensures may_use { MayUse (seen_as self.old).meta.free (uses_of self.old) (uses_of self.new) }
-        // a page that is dirty or pinned is there as it was
-        ensures stays { (q : ℕ) → StaysHere (uses_of self.old) q → in_memory (seen_as self.new) q ≡ in_memory (seen_as self.old) q }
         ensures crowded { IsErrOf result Crowded → ((seen_as self.old).meta.free ≢ 0) × IsCrowdedOut (seen_as self.old).meta.free (seen_as self.old) (uses_of self.old) }
         // without a read nothing changes, and only damage stops it
         ensures unread { NeedsNoRead (seen_as self.old) → (self.new.disk ≡ self.old.disk) × (seen_as self.new ≡ seen_as self.old) × (uses_of self.new ≡ uses_of self.old) }
@@ -66,10 +63,8 @@ impl<D: Device> Store<D> {
     fn free_head(&mut self, head: u32) -> Result<u32, FetchStop>
         ensures named { IfOk result (λ next. in_memory (seen_as self.new) head ≡ Some (Free next)) }
         ensures memory { OnOk result (IsMemory (seen_as self.new)) }
-        ensures fetches { MayFetch head (seen_as self.old) (seen_as self.new) }
+        ensures brings { MayBring head (seen_as self.old) (seen_as self.new) (uses_of self.old) (uses_of self.new) }
         ensures uses { OnOk result (uses_of self.new ≡ use_fetched head (uses_of self.old)) }
-        ensures may_use { MayUse head (uses_of self.old) (uses_of self.new) }
-        ensures stays { (q : ℕ) → StaysHere (uses_of self.old) q → in_memory (seen_as self.new) q ≡ in_memory (seen_as self.old) q }
         ensures crowded { IsErrOf result Crowded → IsCrowdedOut head (seen_as self.old) (uses_of self.old) }
         ensures unread { IsSome (in_memory (seen_as self.old) head) → (self.new.disk ≡ self.old.disk) × (seen_as self.new ≡ seen_as self.old) × (uses_of self.new ≡ uses_of self.old) }
         ensures damage { IsSome (in_memory (seen_as self.old) head) → IfErr result IsDamage }

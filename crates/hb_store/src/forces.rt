@@ -1,5 +1,5 @@
 ghost use Rattle.std.specs.Prelude.{◌≡◌, ◌≢◌, ◌↔◌, [], IfOk, IsTrue, None, Some};
-ghost use Rattle.hb_store.specs.Forced.{MayWriteGroups, WritesGroups};
+ghost use Rattle.hb_store.specs.Forced.{MayWriteGroups, WritesGroups, done};
 ghost use Rattle.hb_store.specs.Held.{oldest_dirty};
 ghost use Rattle.hb_store.specs.Switching.{SwitchesTurn};
 ghost use Rattle.hb_store.specs.WritingHome.{FlushesHome, IsDue, WritesHome};
@@ -35,8 +35,8 @@ impl<D: Device> Store<D> {
     pub fn flush_step(&mut self) -> Result<Flushed, WriteFault>
         requires { MayWriteGroups (D.model self.old.disk) (seen_as self.old) }
         ensures which { IfOk result (IsDue (held_by self.old)) }
-        ensures forces { (seen_as self.old).log.groups ≢ [] → WritesGroups result (D.model self.old.disk) (D.model self.new.disk) (seen_as self.old) (seen_as self.new) × (uses_of self.new ≡ uses_of self.old) }
-        ensures cleans { (seen_as self.old).log.groups ≡ [] → FlushesHome result (D.model self.old.disk) (D.model self.new.disk) (held_by self.old) (held_by self.new) }
+        ensures forces { (seen_as self.old).log.groups ≢ [] → WritesGroups (done result) (D.model self.old.disk) (D.model self.new.disk) (seen_as self.old) (seen_as self.new) × (uses_of self.new ≡ uses_of self.old) }
+        ensures cleans { (seen_as self.old).log.groups ≡ [] → FlushesHome (done result) (D.model self.old.disk) (D.model self.new.disk) (held_by self.old) (held_by self.new) }
     {
         if !self.is_idle() {
             self.force()?;
@@ -55,7 +55,7 @@ impl<D: Device> Store<D> {
         requires waits { (seen_as self.old).log.groups ≡ [] }
         requires oldest { oldest_dirty (uses_of self.old) ≡ Some id }
         ensures says { IfOk result (λ flushed. flushed ≡ Flushed.Written id) }
-        ensures writes { WritesHome result id (D.model self.old.disk) (D.model self.new.disk) (held_by self.old) (held_by self.new) }
+        ensures writes { WritesHome (done result) id (D.model self.old.disk) (D.model self.new.disk) (held_by self.old) (held_by self.new) }
     {
         let memory = &mut self.memory;
         let place = page_offset(memory.meta(), id);
@@ -81,7 +81,7 @@ impl<D: Device> Store<D> {
         requires waits { (seen_as self.old).log.groups ≡ [] }
         requires clean { oldest_dirty (uses_of self.old) ≡ None }
         ensures says { IfOk result (λ flushed. flushed ≡ Flushed.Switched) }
-        ensures switches { SwitchesTurn result (D.model self.old.disk) (D.model self.new.disk) (held_by self.old) (held_by self.new) }
+        ensures switches { SwitchesTurn (done result) (D.model self.old.disk) (D.model self.new.disk) (held_by self.old) (held_by self.new) }
     {
         let memory = &mut self.memory;
         match begin_turn(&mut self.disk, memory.next_turn(), memory.meta()) {

@@ -1,7 +1,7 @@
 //! What an allowed operation makes.
 ghost use Rattle.hb_store.specs.Making.{HaveFittingParts, MakesGoodPages, MakesWritablePages, OperationLaws};
 
-use hb_frag::laws::{leaves_part_the_box, normal_says_the_same, parts_are_stretches};
+use hb_frag::laws::{normal_says_the_same, parts_are_stretches};
 use hb_ops::changed_pages_are_well_made;
 use hb_page_codec::laws::page_within_capacity_has_spelling;
 use hb_space::laws::whole_space_holds_every_point;
@@ -17,7 +17,6 @@ pub fn what_is_made_can_be_written()
 {
     changed_pages_are_well_made();
     page_within_capacity_has_spelling();
-    leaves_part_the_box();
     parts_are_stretches();
     normal_says_the_same();
     whole_space_holds_every_point();

@@ -271,24 +271,24 @@ module _ {D : Type 0} (model : D → DiskModel) (x y : D) (c : RunningCore) (st 
   abbrev now : StoreHeld
   now = record { state = st; uses = uses }
 
-  module _ (flushed : Flushed) (due : IsDue (held_in c) flushed) (forced : c.store.log.groups ≢ [] → WritesGroups (Ok flushed) (model x) (model y) c.store st × (uses ≡ c.uses)) (cleaned : c.store.log.groups ≡ [] → FlushesHome (Ok flushed) (model x) (model y) (held_in c) now) where
+  module _ (flushed : Flushed) (due : IsDue (held_in c) flushed) (forced : c.store.log.groups ≢ [] → WritesGroups (Ok tt) (model x) (model y) c.store st × (uses ≡ c.uses)) (cleaned : c.store.log.groups ≡ [] → FlushesHome (Ok tt) (model x) (model y) (held_in c) now) where
     abbrev Flushed_by : Flushed → Machine → Type 0
     Flushed_by f m = (new : Machine) × Flushes m (said_of_flush (Ok f)) new × ShowsMachine (model y) (with_held st uses c) new
 
     pub helped : (m : Machine) → MayStep (model x) c m → Flushed_by flushed m
     helped m step = by flushed due forced cleaned
       where
-        by : (f : Flushed) → IsDue (held_in c) f → (c.store.log.groups ≢ [] → WritesGroups (Ok f) (model x) (model y) c.store st × (uses ≡ c.uses)) → (c.store.log.groups ≡ [] → FlushesHome (Ok f) (model x) (model y) (held_in c) now) → Flushed_by f m
-        by flushes.Forced some force clean = flush_forced model x y c m outcomes.Moved st uses step flushes.Forced some (force some)
-        by (flushes.Written id) which force clean = flush_written model x y c m outcomes.Moved st uses step (flushes.Written id) id which (clean which.0)
-        by flushes.Switched which force clean = flush_turned model x y c m outcomes.Moved st uses step flushes.Switched which (clean which.0)
-        by flushes.Nothing which force clean = flush_idled model x y c m outcomes.Moved st uses step flushes.Nothing which (clean which.0)
+        by : (f : Flushed) → IsDue (held_in c) f → (c.store.log.groups ≢ [] → WritesGroups (Ok tt) (model x) (model y) c.store st × (uses ≡ c.uses)) → (c.store.log.groups ≡ [] → FlushesHome (Ok tt) (model x) (model y) (held_in c) now) → Flushed_by f m
+        by flushes.Forced some force clean = flush_forced model x y c m outcomes.Moved st uses step some (force some)
+        by (flushes.Written id) which force clean = flush_written model x y c m outcomes.Moved st uses step id which (clean which.0)
+        by flushes.Switched which force clean = flush_turned model x y c m outcomes.Moved st uses step which (clean which.0)
+        by flushes.Nothing which force clean = flush_idled model x y c m outcomes.Moved st uses step which (clean which.0)
 
     pub help_touches : Touches (model x) c (said_of_flush (Ok flushed)) (model y) (with_held st uses c)
     help_touches = by flushed due forced cleaned
       where
-        by : (f : Flushed) → IsDue (held_in c) f → (c.store.log.groups ≢ [] → WritesGroups (Ok f) (model x) (model y) c.store st × (uses ≡ c.uses)) → (c.store.log.groups ≡ [] → FlushesHome (Ok f) (model x) (model y) (held_in c) now) → Touches (model x) c (said_of_flush (Ok f)) (model y) (with_held st uses c)
-        by flushes.Forced some force clean = touched_forced model x y c (with_held st uses c) outcomes.Moved flushes.Forced moved_well (force some).0
-        by (flushes.Written id) which force clean = touched_home model x y c (with_held st uses c) outcomes.Moved (flushes.Written id) id moved_well which (home_some (model x) (model y) (held_in c) now (Ok (flushes.Written id)) id which.1 (clean which.0))
-        by flushes.Switched which force clean = touched_turn model x y c (with_held st uses c) outcomes.Moved flushes.Switched moved_well which (home_turn (model x) (model y) (held_in c) now (Ok flushes.Switched) (which.1, which.2) (clean which.0))
-        by flushes.Nothing which force clean = flush_idled_then model x y c st uses (home_none (model x) (model y) (held_in c) now (Ok flushes.Nothing) (which.1, which.2) (clean which.0)).0.only
+        by : (f : Flushed) → IsDue (held_in c) f → (c.store.log.groups ≢ [] → WritesGroups (Ok tt) (model x) (model y) c.store st × (uses ≡ c.uses)) → (c.store.log.groups ≡ [] → FlushesHome (Ok tt) (model x) (model y) (held_in c) now) → Touches (model x) c (said_of_flush (Ok f)) (model y) (with_held st uses c)
+        by flushes.Forced some force clean = touched_forced model x y c (with_held st uses c) outcomes.Moved moved_well (force some).0
+        by (flushes.Written id) which force clean = touched_home model x y c (with_held st uses c) outcomes.Moved id moved_well which (home_some (model x) (model y) (held_in c) now (Ok tt) id which.1 (clean which.0))
+        by flushes.Switched which force clean = touched_turn model x y c (with_held st uses c) outcomes.Moved moved_well which (home_turn (model x) (model y) (held_in c) now (Ok tt) (which.1, which.2) (clean which.0))
+        by flushes.Nothing which force clean = flush_idled_then model x y c st uses (home_none (model x) (model y) (held_in c) now (Ok tt) (which.1, which.2) (clean which.0)).0.only

@@ -45,25 +45,25 @@ module _ {D : Type 0} (model : D → DiskModel) (x y : D) (c : RunningCore) (m :
   none_waits : c.store.log.groups ≡ [] → m.store.log.groups ≡ []
   none_waits none = ap (λ (s : StoreState). s.log.groups) step.shows.store ∙ none
 
-  pub flush_forced : {T : Type 0} (v : T) → c.store.log.groups ≢ [] → WritesGroups (Ok v) (model x) (model y) c.store st × (uses ≡ c.uses) → Shown due
-  flush_forced v some writes =
-      let forced = forces (model x) (model y) c st uses m step.shows v writes.0 writes.1 due in
+  pub flush_forced : c.store.log.groups ≢ [] → WritesGroups (Ok tt) (model x) (model y) c.store st × (uses ≡ c.uses) → Shown due
+  flush_forced some writes =
+      let forced = forces (model x) (model y) c st uses m step.shows writes.0 writes.1 due in
       (forced.0, inl (some_waits some, forced.1), forced.2)
 
-  pub flush_written : {T : Type 0} (v : T) (id : ℕ) → (c.store.log.groups ≡ []) × (oldest_dirty c.uses ≡ Some id) → FlushesHome (Ok v) (model x) (model y) (held_in c) now → Shown due
-  flush_written v id which flushes =
-      let written = writes_well (model x) (model y) c st uses m step.shows id which.1 v due (home_some (model x) (model y) (held_in c) now (Ok v) id which.1 flushes) in
+  pub flush_written : (id : ℕ) → (c.store.log.groups ≡ []) × (oldest_dirty c.uses ≡ Some id) → FlushesHome (Ok tt) (model x) (model y) (held_in c) now → Shown due
+  flush_written id which flushes =
+      let written = writes_well (model x) (model y) c st uses m step.shows id which.1 due (home_some (model x) (model y) (held_in c) now (Ok tt) id which.1 flushes) in
       (written.0, inr (none_waits which.0, inl (id, oldest_now (model x) (model y) c st uses m step.shows id which.1, inl written.1)), written.2)
 
-  pub flush_turned : {T : Type 0} (v : T) → (c.store.log.groups ≡ []) × (oldest_dirty c.uses ≡ None) × (0 < c.store.log.written) → FlushesHome (Ok v) (model x) (model y) (held_in c) now → Shown due
-  flush_turned v which flushes =
-      let turned = turns_well (model x) (model y) c st uses m step.shows (which.1, which.2) v due (home_turn (model x) (model y) (held_in c) now (Ok v) (which.1, which.2) flushes) in
+  pub flush_turned : (c.store.log.groups ≡ []) × (oldest_dirty c.uses ≡ None) × (0 < c.store.log.written) → FlushesHome (Ok tt) (model x) (model y) (held_in c) now → Shown due
+  flush_turned which flushes =
+      let turned = turns_well (model x) (model y) c st uses m step.shows (which.1, which.2) due (home_turn (model x) (model y) (held_in c) now (Ok tt) (which.1, which.2) flushes) in
       (turned.0, inr (none_waits which.0, inr (inl (old_now (model x) (model y) c st uses m step.shows (which.1, which.2), inl turned.1))), turned.2)
 
   -- nothing was left to flush: the machine is shown as it was
-  pub flush_idled : {T : Type 0} (v : T) → (c.store.log.groups ≡ []) × (oldest_dirty c.uses ≡ None) × (c.store.log.written ≡ 0) → FlushesHome (Ok v) (model x) (model y) (held_in c) now → Shown outcomes.Idle
-  flush_idled v which flushes =
-      let nothing = home_none (model x) (model y) (held_in c) now (Ok v) (which.1, which.2) flushes in
+  pub flush_idled : (c.store.log.groups ≡ []) × (oldest_dirty c.uses ≡ None) × (c.store.log.written ≡ 0) → FlushesHome (Ok tt) (model x) (model y) (held_in c) now → Shown outcomes.Idle
+  flush_idled which flushes =
+      let nothing = home_none (model x) (model y) (held_in c) now (Ok tt) (which.1, which.2) flushes in
       let empty : m.store.log.written ≡ 0 = ap (λ (s : StoreState). s.log.written) step.shows.store ∙ which.2 in (
         m,
         inr (none_waits which.0, inr (inr ((ap oldest_dirty step.shows.uses ∙ which.1, empty), (refl, refl)))),
@@ -81,7 +81,7 @@ module _ {D : Type 0} (model : D → DiskModel) (x y : D) (c : RunningCore) (m :
       subst (λ (k : D). ShowsMachine (model k) after new) (sym same) (subst (λ (s : RunningCore). ShowsMachine (model y) s new) (sym then) shows),
     )
 
-    pub flush_failed : {T : Type 0} (fault : WriteFault) → (c.store.log.groups ≢ [] → WritesGroups {T = T} (Err fault) (model x) (model y) c.store st × (uses ≡ c.uses)) → (c.store.log.groups ≡ [] → FlushesHome {T = T} (Err fault) (model x) (model y) (held_in c) now) → Stopped
+    pub flush_failed : (fault : WriteFault) → (c.store.log.groups ≢ [] → WritesGroups (Err fault) (model x) (model y) c.store st × (uses ≡ c.uses)) → (c.store.log.groups ≡ [] → FlushesHome (Err fault) (model x) (model y) (held_in c) now) → Stopped
     flush_failed fault forced cleaned = elim (waits_or_not c.store.log.groups) [
       | inr some ↦
           let writes = forced some in

@@ -109,7 +109,7 @@ module _ (d e : DiskModel) (c : RunningCore) (st : StoreState) (uses : List Use)
 
   -- ---- a force that is done, which leaves the order of use
 
-  module _ {T : Type 0} (v : T) (writes : WritesGroups (Ok v) d e c.store st) (same_use : uses ≡ c.uses) where
+  module _ (writes : WritesGroups (Ok tt) d e c.store st) (same_use : uses ≡ c.uses) where
     was_told : IsSome e.told → IsSome d.told
     was_told told = was_some d.told e.told writes.wrote.became.silent told
 
@@ -164,7 +164,7 @@ module _ (d e : DiskModel) (c : RunningCore) (st : StoreState) (uses : List Use)
     ]
 
   -- so a force that failed
-  module _ {T : Type 0} (fault : WriteFault) (writes : WritesGroups {T = T} (Err fault) d e c.store st) (same_use : uses ≡ c.uses) where
+  module _ (fault : WriteFault) (writes : WritesGroups (Err fault) d e c.store st) (same_use : uses ≡ c.uses) where
     pub group_waits : m.store.log.groups ≢ []
     group_waits none = false≢true (writes.nothing (sym (ap (λ (s : StoreState). s.log.groups) shows.store) ∙ none)).0
 

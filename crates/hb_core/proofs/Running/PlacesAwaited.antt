@@ -64,13 +64,13 @@ module _ {D : Type 0} (model : D → DiskModel) (x y : D) (c : RunningCore) (m :
   not_settled : settled ≤ place → settled_count m ≤ place
   not_settled le = subst (λ (n : ℕ). n ≤ place) (is_settled ∙ sym (same_settled (model x) c m step.shows)) le
 
-  pub await_forced : {T : Type 0} (v : T) (st : StoreState) (uses : List Use) → settled ≤ place → WritesGroups (Ok v) (model x) (model y) c.store st → uses ≡ c.uses
+  pub await_forced : (st : StoreState) (uses : List Use) → settled ≤ place → WritesGroups (Ok tt) (model x) (model y) c.store st → uses ≡ c.uses
       → (new : Machine) × AwaitsPlace m actor number reply place outcomes.Moved new × ShowsMachine (model y) (with_held st uses c) new
-  await_forced v st uses le writes same_use =
-      let forced = forces (model x) (model y) c st uses m step.shows v writes same_use outcomes.Moved in
+  await_forced st uses le writes same_use =
+      let forced = forces (model x) (model y) c st uses m step.shows writes same_use outcomes.Moved in
       (forced.0, inr (not_settled le, forced.1), forced.2)
 
-  pub await_failed : {T : Type 0} (fault : WriteFault) (st : StoreState) (uses : List Use) (z : D) (after : RunningCore) (outcome : Outcome) → settled ≤ place → WritesGroups {T = T} (Err fault) (model x) (model y) c.store st → uses ≡ c.uses
+  pub await_failed : (fault : WriteFault) (st : StoreState) (uses : List Use) (z : D) (after : RunningCore) (outcome : Outcome) → settled ≤ place → WritesGroups (Err fault) (model x) (model y) c.store st → uses ≡ c.uses
       → outcome ≡ outcomes.Stopped stops.WriteFault → after ≡ with_stop stops.WriteFault (with_held st uses c) → z ≡ y → (new : Machine) × AwaitsPlace m actor number reply place outcome new × ShowsMachine (model z) after new
   await_failed fault st uses z after outcome le writes same_use says then same =
       let stopped = fails (model x) (model y) c st uses m step.shows fault writes same_use in

@@ -1,10 +1,9 @@
 -- What a step does to the disk: nothing, a force, a page that is written to its place, or the beginning of the log's next turn.
-use Rattle.std.proofs.Common.{◌≡◌, ◌≢◌, inl, inr, ℕ, ◌<◌, arith, List, [], None, Some, Ok, Err, refl, sym, ap, ◌∙◌, subst}
+use Rattle.std.proofs.Common.{◌≡◌, ◌≢◌, inl, inr, ℕ, ◌<◌, List, [], None, Some, Ok, Err, refl, sym, ap, ◌∙◌, subst}
 use Rattle.hb_activity.specs.declared.activities.Activity.TheVariants as at
 use Rattle.hb_disk.specs.Calls.{ReadsOnly}
-use Rattle.hb_disk.specs.Model.{DiskModel, Torn}
+use Rattle.hb_disk.specs.Model.{DiskModel}
 use Rattle.hb_disk.proofs.Facts.FaultLaws.{ReadsOnly-neither, ReadsOnly-none}
-use Rattle.hb_disk.proofs.Facts.RewriteLaws.{Rewrites-as}
 use Rattle.hb_set.specs.declared.commands.Reply.{Reply}
 use Rattle.hb_set.specs.declared.commands.Reply.TheVariants as replies
 use Rattle.hb_pool.specs.Frames.{Use}
@@ -27,7 +26,6 @@ use Rattle.hb_core.specs.Touching.{EndsByRead, Touches, held_in}
 use Rattle.hb_core.specs.Working.{MayStep}
 use Rattle.hb_core.proofs.Running.ForcedShows.{waits_or_not, with_held}
 use Rattle.hb_core.proofs.Running.WrittenShows.{home_failed}
-use Rattle.std.proofs.lemmas.Bool.{false≢true}
 
 -- an outcome for which no read and no write failed
 pub record IsWell (outcome : Outcome) : Type 0 where
@@ -80,71 +78,6 @@ pub kept_well : (d : DiskModel) (c : RunningCore) (m : Machine) (actor number pl
 kept_well d c m actor number place reply step is =
     answered_well number reply (λ (fault : reply ≡ replies.ReadFault). step.goes_on.kept.replies_stand.inside actor number place reply is (subst StandsOutside (sym fault) tt))
 
--- the same force, of which something else came
-as_unit : {T : Type 0} (v : T) (d e : DiskModel) (old new : StoreState) → WritesGroups (Ok v) d e old new → WritesGroups {T = Unit {0}} (Ok tt) d e old new
-as_unit v d e old new writes = record {
-  nothing = λ none. (refl, (writes.nothing none).1);
-  forced = writes.forced;
-  stopped = tt;
-  keeps_forced = writes.keeps_forced;
-  keeps_stopped = λ durable later keeps. tt;
-  moments = writes.moments;
-  wrote = Rewrites-as (Ok v) (Ok tt) (Torn old.log.area old.log.len) 4 4 d e (λ failed. cc) (λ failed. cc) (omega arith) writes.wrote;
-  clock = writes.clock;
-}
-
-as_failed : {T : Type 0} (fault : WriteFault) (d e : DiskModel) (old new : StoreState) → WritesGroups {T = T} (Err fault) d e old new → WritesGroups {T = Unit {0}} (Err fault) d e old new
-as_failed {T = T} fault d e old new writes = record {
-  nothing = λ none. (absurd (false≢true (writes.nothing none).0), (writes.nothing none).1);
-  forced = tt;
-  stopped = writes.stopped;
-  keeps_forced = λ durable later keeps. tt;
-  keeps_stopped = writes.keeps_stopped;
-  moments = writes.moments;
-  wrote = Rewrites-as {T = T} (Err fault) (Err fault) (Torn old.log.area old.log.len) 4 4 d e (λ failed. refl) (λ failed. refl) (omega arith) writes.wrote;
-  clock = writes.clock;
-}
-
-home_as_unit : {T : Type 0} (v : T) (id : ℕ) (d e : DiskModel) (old new : StoreHeld) → WritesHome (Ok v) id d e old new → WritesHome {T = Unit {0}} (Ok tt) id d e old new
-home_as_unit v id d e old new writes = record {
-  cleaned = writes.cleaned;
-  stopped = tt;
-  keeps = writes.keeps;
-  moments = writes.moments;
-  wrote = Rewrites-as (Ok v) (Ok tt) _ 1 1 d e (λ failed. cc) (λ failed. cc) (omega arith) writes.wrote;
-  clock = writes.clock;
-}
-
-home_as_failed : {T : Type 0} (fault : WriteFault) (id : ℕ) (d e : DiskModel) (old new : StoreHeld) → WritesHome {T = T} (Err fault) id d e old new → WritesHome {T = Unit {0}} (Err fault) id d e old new
-home_as_failed {T = T} fault id d e old new writes = record {
-  cleaned = tt;
-  stopped = writes.stopped;
-  keeps = writes.keeps;
-  moments = writes.moments;
-  wrote = Rewrites-as {T = T} (Err fault) (Err fault) _ 1 1 d e (λ failed. refl) (λ failed. refl) (omega arith) writes.wrote;
-  clock = writes.clock;
-}
-
-turn_as_unit : {T : Type 0} (v : T) (d e : DiskModel) (old new : StoreHeld) → SwitchesTurn (Ok v) d e old new → SwitchesTurn {T = Unit {0}} (Ok tt) d e old new
-turn_as_unit v d e old new switches = record {
-  switched = switches.switched;
-  stopped = tt;
-  keeps = switches.keeps;
-  moments = switches.moments;
-  wrote = Rewrites-as (Ok v) (Ok tt) _ 9 9 d e (λ failed. cc) (λ failed. cc) (omega arith) switches.wrote;
-  clock = switches.clock;
-}
-
-turn_as_failed : {T : Type 0} (fault : WriteFault) (d e : DiskModel) (old new : StoreHeld) → SwitchesTurn {T = T} (Err fault) d e old new → SwitchesTurn {T = Unit {0}} (Err fault) d e old new
-turn_as_failed {T = T} fault d e old new switches = record {
-  switched = tt;
-  stopped = switches.stopped;
-  keeps = switches.keeps;
-  moments = switches.moments;
-  wrote = Rewrites-as {T = T} (Err fault) (Err fault) _ 9 9 d e (λ failed. refl) (λ failed. refl) (omega arith) switches.wrote;
-  clock = switches.clock;
-}
-
 module _ {D : Type 0} (model : D → DiskModel) (x y : D) (c after : RunningCore) (outcome : Outcome) where
   -- the disk as it was
   pub untouched : IsWell outcome → y ≡ x → Touches (model x) c outcome (model y) after
@@ -157,41 +90,41 @@ module _ {D : Type 0} (model : D → DiskModel) (x y : D) (c after : RunningCore
     no_write = λ fault. is ∙ ap Some (sym same ∙ same_stop said stops.WriteFault (sym says ∙ fault));
   })
 
-  pub touched_forced : {T : Type 0} (v : T) → IsWell outcome → WritesGroups (Ok v) (model x) (model y) c.store after.store → Touches (model x) c outcome (model y) after
-  touched_forced v well writes = inr (inl (record {
+  pub touched_forced : IsWell outcome → WritesGroups (Ok tt) (model x) (model y) c.store after.store → Touches (model x) c outcome (model y) after
+  touched_forced well writes = inr (inl (record {
     result = Ok tt;
-    writes = as_unit v (model x) (model y) c.store after.store writes;
+    writes = writes;
     says = (λ failed. cc, λ fault. absurd (well.no_write fault));
     no_read = well.no_read;
   }))
 
-  pub touched_failed : {T : Type 0} (fault : WriteFault) → outcome ≡ outcomes.Stopped stops.WriteFault → WritesGroups {T = T} (Err fault) (model x) (model y) c.store after.store → Touches (model x) c outcome (model y) after
+  pub touched_failed : (fault : WriteFault) → outcome ≡ outcomes.Stopped stops.WriteFault → WritesGroups (Err fault) (model x) (model y) c.store after.store → Touches (model x) c outcome (model y) after
   touched_failed fault says writes = inr (inl (record {
     result = Err fault;
-    writes = as_failed fault (model x) (model y) c.store after.store writes;
+    writes = writes;
     says = (λ failed. says, λ is. refl);
     no_read = λ ends. subst EndsByRead says ends;
   }))
 
-  pub touched_home : {T : Type 0} (v : T) (id : ℕ) → IsWell outcome → (c.store.log.groups ≡ []) × (oldest_dirty c.uses ≡ Some id) → WritesHome (Ok v) id (model x) (model y) (held_in c) (held_in after) → Touches (model x) c outcome (model y) after
-  touched_home v id well which writes = inr (inr (inl (record {
+  pub touched_home : (id : ℕ) → IsWell outcome → (c.store.log.groups ≡ []) × (oldest_dirty c.uses ≡ Some id) → WritesHome (Ok tt) id (model x) (model y) (held_in c) (held_in after) → Touches (model x) c outcome (model y) after
+  touched_home id well which writes = inr (inr (inl (record {
     result = Ok tt;
     no_group = which.0;
     page = id;
     oldest = which.1;
-    writes = home_as_unit v id (model x) (model y) (held_in c) (held_in after) writes;
+    writes = writes;
     says = (λ failed. cc, λ fault. absurd (well.no_write fault));
     no_read = well.no_read;
   })))
 
-  pub touched_home_failed : {T : Type 0} (fault : WriteFault) (id : ℕ) → outcome ≡ outcomes.Stopped stops.WriteFault → (c.store.log.groups ≡ []) × (oldest_dirty c.uses ≡ Some id)
-      → WritesHome {T = T} (Err fault) id (model x) (model y) (held_in c) (held_in after) → Touches (model x) c outcome (model y) after
+  pub touched_home_failed : (fault : WriteFault) (id : ℕ) → outcome ≡ outcomes.Stopped stops.WriteFault → (c.store.log.groups ≡ []) × (oldest_dirty c.uses ≡ Some id)
+      → WritesHome (Err fault) id (model x) (model y) (held_in c) (held_in after) → Touches (model x) c outcome (model y) after
   touched_home_failed fault id says which writes = inr (inr (inl (record {
     result = Err fault;
     no_group = which.0;
     page = id;
     oldest = which.1;
-    writes = home_as_failed fault id (model x) (model y) (held_in c) (held_in after) writes;
+    writes = writes;
     says = (λ failed. says, λ is. refl);
     no_read = λ ends. subst EndsByRead says ends;
   })))
@@ -199,24 +132,24 @@ module _ {D : Type 0} (model : D → DiskModel) (x y : D) (c after : RunningCore
   abbrev BeganTurn : Type 0
   BeganTurn = (c.store.log.groups ≡ []) × (oldest_dirty c.uses ≡ None) × (0 < c.store.log.written)
 
-  pub touched_turn : {T : Type 0} (v : T) → IsWell outcome → BeganTurn → SwitchesTurn (Ok v) (model x) (model y) (held_in c) (held_in after) → Touches (model x) c outcome (model y) after
-  touched_turn v well which switches = inr (inr (inr (record {
+  pub touched_turn : IsWell outcome → BeganTurn → SwitchesTurn (Ok tt) (model x) (model y) (held_in c) (held_in after) → Touches (model x) c outcome (model y) after
+  touched_turn well which switches = inr (inr (inr (record {
     result = Ok tt;
     no_group = which.0;
     clean = which.1;
     some = which.2;
-    switches = turn_as_unit v (model x) (model y) (held_in c) (held_in after) switches;
+    switches = switches;
     says = (λ failed. cc, λ fault. absurd (well.no_write fault));
     no_read = well.no_read;
   })))
 
-  pub touched_turn_failed : {T : Type 0} (fault : WriteFault) → outcome ≡ outcomes.Stopped stops.WriteFault → BeganTurn → SwitchesTurn {T = T} (Err fault) (model x) (model y) (held_in c) (held_in after) → Touches (model x) c outcome (model y) after
+  pub touched_turn_failed : (fault : WriteFault) → outcome ≡ outcomes.Stopped stops.WriteFault → BeganTurn → SwitchesTurn (Err fault) (model x) (model y) (held_in c) (held_in after) → Touches (model x) c outcome (model y) after
   touched_turn_failed fault says which switches = inr (inr (inr (record {
     result = Err fault;
     no_group = which.0;
     clean = which.1;
     some = which.2;
-    switches = turn_as_failed fault (model x) (model y) (held_in c) (held_in after) switches;
+    switches = switches;
     says = (λ failed. says, λ is. refl);
     no_read = λ ends. subst EndsByRead says ends;
   })))
@@ -228,27 +161,27 @@ module _ {D : Type 0} (model : D → DiskModel) (x y : D) (c : RunningCore) (st 
   now = record { state = st; uses = uses }
 
   -- a force that failed, and a core that is stopped then
-  pub failed_then : (z : D) (after : RunningCore) (outcome : Outcome) {T : Type 0} (fault : WriteFault) → WritesGroups {T = T} (Err fault) (model x) (model y) c.store st
+  pub failed_then : (z : D) (after : RunningCore) (outcome : Outcome) (fault : WriteFault) → WritesGroups (Err fault) (model x) (model y) c.store st
       → outcome ≡ outcomes.Stopped stops.WriteFault → after ≡ with_stop stops.WriteFault (with_held st uses c) → z ≡ y → Touches (model x) c outcome (model z) after
-  failed_then z after outcome {T = T} fault writes says then same =
+  failed_then z after outcome fault writes says then same =
       subst (λ (k : D). Touches (model x) c outcome (model k) after) (sym same)
-      (touched_failed model x y c after outcome fault says (subst (λ (s : StoreState). WritesGroups {T = T} (Err fault) (model x) (model y) c.store s) (sym (ap (λ (s : RunningCore). s.store) then)) writes))
+      (touched_failed model x y c after outcome fault says (subst (λ (s : StoreState). WritesGroups (Err fault) (model x) (model y) c.store s) (sym (ap (λ (s : RunningCore). s.store) then)) writes))
 
-  home_failed_then : (z : D) (after : RunningCore) (outcome : Outcome) {T : Type 0} (fault : WriteFault) (id : ℕ) → (c.store.log.groups ≡ []) × (oldest_dirty c.uses ≡ Some id) → WritesHome {T = T} (Err fault) id (model x) (model y) (held_in c) now
+  home_failed_then : (z : D) (after : RunningCore) (outcome : Outcome) (fault : WriteFault) (id : ℕ) → (c.store.log.groups ≡ []) × (oldest_dirty c.uses ≡ Some id) → WritesHome (Err fault) id (model x) (model y) (held_in c) now
       → outcome ≡ outcomes.Stopped stops.WriteFault → after ≡ with_stop stops.WriteFault (with_held st uses c) → z ≡ y → Touches (model x) c outcome (model z) after
-  home_failed_then z after outcome {T = T} fault id which writes says then same =
+  home_failed_then z after outcome fault id which writes says then same =
       subst (λ (k : D). Touches (model x) c outcome (model k) after) (sym same)
-      (touched_home_failed model x y c after outcome fault id says which (subst (λ (h : StoreHeld). WritesHome {T = T} (Err fault) id (model x) (model y) (held_in c) h) (sym (ap held_in then)) writes))
+      (touched_home_failed model x y c after outcome fault id says which (subst (λ (h : StoreHeld). WritesHome (Err fault) id (model x) (model y) (held_in c) h) (sym (ap held_in then)) writes))
 
-  turn_failed_then : (z : D) (after : RunningCore) (outcome : Outcome) {T : Type 0} (fault : WriteFault) → (c.store.log.groups ≡ []) × (oldest_dirty c.uses ≡ None) × (0 < c.store.log.written) → SwitchesTurn {T = T} (Err fault) (model x) (model y) (held_in c) now
+  turn_failed_then : (z : D) (after : RunningCore) (outcome : Outcome) (fault : WriteFault) → (c.store.log.groups ≡ []) × (oldest_dirty c.uses ≡ None) × (0 < c.store.log.written) → SwitchesTurn (Err fault) (model x) (model y) (held_in c) now
       → outcome ≡ outcomes.Stopped stops.WriteFault → after ≡ with_stop stops.WriteFault (with_held st uses c) → z ≡ y → Touches (model x) c outcome (model z) after
-  turn_failed_then z after outcome {T = T} fault which switches says then same =
+  turn_failed_then z after outcome fault which switches says then same =
       subst (λ (k : D). Touches (model x) c outcome (model k) after) (sym same)
-      (touched_turn_failed model x y c after outcome fault says which (subst (λ (h : StoreHeld). SwitchesTurn {T = T} (Err fault) (model x) (model y) (held_in c) h) (sym (ap held_in then)) switches))
+      (touched_turn_failed model x y c after outcome fault says which (subst (λ (h : StoreHeld). SwitchesTurn (Err fault) (model x) (model y) (held_in c) h) (sym (ap held_in then)) switches))
 
   -- whichever of them failed
-  pub flush_failed_then : (z : D) (after : RunningCore) (outcome : Outcome) {T : Type 0} (fault : WriteFault) → (c.store.log.groups ≢ [] → WritesGroups {T = T} (Err fault) (model x) (model y) c.store st × (uses ≡ c.uses))
-      → (c.store.log.groups ≡ [] → FlushesHome {T = T} (Err fault) (model x) (model y) (held_in c) now)
+  pub flush_failed_then : (z : D) (after : RunningCore) (outcome : Outcome) (fault : WriteFault) → (c.store.log.groups ≢ [] → WritesGroups (Err fault) (model x) (model y) c.store st × (uses ≡ c.uses))
+      → (c.store.log.groups ≡ [] → FlushesHome (Err fault) (model x) (model y) (held_in c) now)
       → outcome ≡ outcomes.Stopped stops.WriteFault → after ≡ with_stop stops.WriteFault (with_held st uses c) → z ≡ y → Touches (model x) c outcome (model z) after
   flush_failed_then z after outcome fault forced cleaned says then same = elim (waits_or_not c.store.log.groups) [
     | inr some ↦ failed_then z after outcome fault (forced some).0 says then same

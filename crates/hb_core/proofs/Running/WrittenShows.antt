@@ -54,8 +54,8 @@ module _ (d e : DiskModel) (c : RunningCore) (st : StoreState) (uses : List Use)
     abbrev written : Machine
     written = with_uses (in_place id clean m.uses) (with_disk (cleaned_state id m.store) m.files (m.clock + 1) m)
 
-    pub writes_well : {T : Type 0} (v : T) (due : Outcome) → WritesHome (Ok v) id d e (held_in c) now → (new : Machine) × WritesOldest m id due due new × ShowsMachine e (with_held st uses c) new
-    writes_well v due writes = (
+    pub writes_well : (due : Outcome) → WritesHome (Ok tt) id d e (held_in c) now → (new : Machine) × WritesOldest m id due due new × ShowsMachine e (with_held st uses c) new
+    writes_well due writes = (
       written,
       record { says = refl; leaves = refl },
       shown_with d e c st uses m shows (cleaned_state id m.store) (in_place id clean m.uses) m.files (m.clock + 1) store used
@@ -77,7 +77,7 @@ module _ (d e : DiskModel) (c : RunningCore) (st : StoreState) (uses : List Use)
         used : in_place id clean m.uses ≡ uses
         used = ap (in_place id clean) shows.uses ∙ ap (λ (h : StoreHeld). h.uses) (sym writes.cleaned)
 
-    pub fails_home : {T : Type 0} (fault : WriteFault) → WritesHome {T = T} (Err fault) id d e (held_in c) now
+    pub fails_home : (fault : WriteFault) → WritesHome (Err fault) id d e (held_in c) now
         → (new : Machine) × FailsToWrite m 1 (outcomes.Stopped stops.WriteFault) new × ShowsMachine e (with_stop stops.WriteFault (with_held st uses c)) new
     fails_home fault writes = fails_by d e c st uses m shows _ 1 writes.wrote.became writes.wrote.later writes.wrote.few writes.stopped.0 writes.stopped.1 writes.keeps
 
@@ -90,8 +90,8 @@ module _ (d e : DiskModel) (c : RunningCore) (st : StoreState) (uses : List Use)
     abbrev turned : Machine
     turned = with_disk (switched_state m.store) m.files (m.clock + 9) m
 
-    pub turns_well : {T : Type 0} (v : T) (due : Outcome) → SwitchesTurn (Ok v) d e (held_in c) now → (new : Machine) × BeginsTurn m due due new × ShowsMachine e (with_held st uses c) new
-    turns_well v due switches = (
+    pub turns_well : (due : Outcome) → SwitchesTurn (Ok tt) d e (held_in c) now → (new : Machine) × BeginsTurn m due due new × ShowsMachine e (with_held st uses c) new
+    turns_well due switches = (
       turned,
       record { says = refl; leaves = refl },
       shown_with d e c st uses m shows (switched_state m.store) m.uses m.files (m.clock + 9) store used
@@ -113,30 +113,30 @@ module _ (d e : DiskModel) (c : RunningCore) (st : StoreState) (uses : List Use)
         used : m.uses ≡ uses
         used = shows.uses ∙ ap (λ (h : StoreHeld). h.uses) (sym switches.switched)
 
-    pub fails_turn : {T : Type 0} (fault : WriteFault) → SwitchesTurn {T = T} (Err fault) d e (held_in c) now
+    pub fails_turn : (fault : WriteFault) → SwitchesTurn (Err fault) d e (held_in c) now
         → (new : Machine) × FailsToWrite m 9 (outcomes.Stopped stops.WriteFault) new × ShowsMachine e (with_stop stops.WriteFault (with_held st uses c)) new
     fails_turn fault switches = fails_by d e c st uses m shows _ 9 switches.wrote.became switches.wrote.later switches.wrote.few switches.stopped.0 switches.stopped.1 switches.keeps
 
 -- ---- which of them it was
 
-module _ {T : Type 0} (d e : DiskModel) (old new : StoreHeld) where
-  abbrev Home : Result T WriteFault → Option ℕ → Type 0
+module _ (d e : DiskModel) (old new : StoreHeld) where
+  abbrev Home : Result (Unit {0}) WriteFault → Option ℕ → Type 0
   Home result oldest = MatchOption oldest (FlushesClean result d e old new) (λ id. WritesHome result id d e old new)
 
-  pub home_some : (result : Result T WriteFault) (id : ℕ) → oldest_dirty old.uses ≡ Some id → FlushesHome result d e old new → WritesHome result id d e old new
+  pub home_some : (result : Result (Unit {0}) WriteFault) (id : ℕ) → oldest_dirty old.uses ≡ Some id → FlushesHome result d e old new → WritesHome result id d e old new
   home_some result id is flushes = subst (Home result) is flushes
 
-  flushes_clean : (result : Result T WriteFault) → oldest_dirty old.uses ≡ None → FlushesHome result d e old new → FlushesClean result d e old new
+  flushes_clean : (result : Result (Unit {0}) WriteFault) → oldest_dirty old.uses ≡ None → FlushesHome result d e old new → FlushesClean result d e old new
   flushes_clean result is flushes = subst (Home result) is flushes
 
-  pub home_turn : (result : Result T WriteFault) → (oldest_dirty old.uses ≡ None) × (0 < old.state.log.written) → FlushesHome result d e old new → SwitchesTurn result d e old new
+  pub home_turn : (result : Result (Unit {0}) WriteFault) → (oldest_dirty old.uses ≡ None) × (0 < old.state.log.written) → FlushesHome result d e old new → SwitchesTurn result d e old new
   home_turn result (is, some) flushes = by (flushes_clean result is flushes)
     where
       by : FlushesClean result d e old new → SwitchesTurn result d e old new
       by (inl (_, switches)) = switches
       by (inr (none, ok, reads, same)) = absurd (omega (arith, some, none))
 
-  pub home_none : (result : Result T WriteFault) → (oldest_dirty old.uses ≡ None) × (old.state.log.written ≡ 0) → FlushesHome result d e old new → LooksUp ⊥ d e old.state new.state × (new ≡ old)
+  pub home_none : (result : Result (Unit {0}) WriteFault) → (oldest_dirty old.uses ≡ None) × (old.state.log.written ≡ 0) → FlushesHome result d e old new → LooksUp ⊥ d e old.state new.state × (new ≡ old)
   home_none result (is, none) flushes = by (flushes_clean result is flushes)
     where
       by : FlushesClean result d e old new → LooksUp ⊥ d e old.state new.state × (new ≡ old)
@@ -144,17 +144,17 @@ module _ {T : Type 0} (d e : DiskModel) (old new : StoreHeld) where
       by (inr (_, ok, reads, same)) = (reads, same)
 
   -- one that failed wrote a page, or began a turn
-  pub home_failed : (fault : WriteFault) → FlushesHome {T = T} (Err fault) d e old new
-      → ((id : ℕ) × (oldest_dirty old.uses ≡ Some id) × WritesHome {T = T} (Err fault) id d e old new)
-      ⊎ ((oldest_dirty old.uses ≡ None) × (0 < old.state.log.written) × SwitchesTurn {T = T} (Err fault) d e old new)
+  pub home_failed : (fault : WriteFault) → FlushesHome (Err fault) d e old new
+      → ((id : ℕ) × (oldest_dirty old.uses ≡ Some id) × WritesHome (Err fault) id d e old new)
+      ⊎ ((oldest_dirty old.uses ≡ None) × (0 < old.state.log.written) × SwitchesTurn (Err fault) d e old new)
   home_failed fault flushes = by (oldest_dirty old.uses) refl
     where
-      turned : oldest_dirty old.uses ≡ None → FlushesClean {T = T} (Err fault) d e old new → (oldest_dirty old.uses ≡ None) × (0 < old.state.log.written) × SwitchesTurn {T = T} (Err fault) d e old new
+      turned : oldest_dirty old.uses ≡ None → FlushesClean (Err fault) d e old new → (oldest_dirty old.uses ≡ None) × (0 < old.state.log.written) × SwitchesTurn (Err fault) d e old new
       turned is (inl (some, switches)) = (is, some, switches)
       turned is (inr (none, ok, reads, same)) = absurd (false≢true ok)
 
       by : (o : Option ℕ) → oldest_dirty old.uses ≡ o
-          → ((id : ℕ) × (oldest_dirty old.uses ≡ Some id) × WritesHome {T = T} (Err fault) id d e old new)
-          ⊎ ((oldest_dirty old.uses ≡ None) × (0 < old.state.log.written) × SwitchesTurn {T = T} (Err fault) d e old new)
+          → ((id : ℕ) × (oldest_dirty old.uses ≡ Some id) × WritesHome (Err fault) id d e old new)
+          ⊎ ((oldest_dirty old.uses ≡ None) × (0 < old.state.log.written) × SwitchesTurn (Err fault) d e old new)
       by None is = inr (turned is (flushes_clean (Err fault) is flushes))
       by (Some id) is = inl (id, is, subst (Home (Err fault)) is flushes)

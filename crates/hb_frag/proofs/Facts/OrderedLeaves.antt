@@ -1,5 +1,5 @@
 -- Two records leaves whose points rise are one whose points do, once a plane has parted their boxes.
-use Rattle.std.proofs.Common.{◌≡◌, ◌≢◌, ℕ, zero, suc, ◌<◌, ◌≤◌, ◌-◌, inl, inr, true, false, cond, List, [], ◌∷◌, ◌++◌, length, get_or, refl, ap, ◌∙◌, arith}
+use Rattle.std.proofs.Common.{◌≡◌, ◌≢◌, ℕ, zero, ◌<◌, ◌≤◌, ◌-◌, inl, inr, true, false, cond, List, [], ◌∷◌, ◌++◌, length, get_or, refl, ap, sym, ◌∙◌, arith}
 use Rattle.std.specs.List.{All, AllByRecursion, AllPairs}
 use Rattle.std.specs.Ordering.{is_gt, ordering_reverse}
 use Rattle.std.specs.declared.cmp.Ordering.{Ordering}
@@ -7,7 +7,7 @@ use Rattle.std.specs.declared.cmp.Ordering.TheVariants.{Less, Equal, Greater}
 use Rattle.std.proofs.lemmas.Bool.{cases_lt}
 use Rattle.std.proofs.lemmas.List.{get_or-set_same, get_or_past}
 use Rattle.std.proofs.lemmas.Cmp.{nat_list_cmp_total}
-use Rattle.std.proofs.lemmas.List.Elements.{All-append}
+use Rattle.std.proofs.lemmas.List.Elements.{All-append, recursion_from_All}
 use Rattle.std.proofs.lemmas.Map.Lookups.{exact_bytes}
 use Rattle.std.proofs.lemmas.List.Sorted.{All-permutation}
 use Rattle.hb_space.specs.Points.{point_cmp}
@@ -22,7 +22,7 @@ use Rattle.hb_frag.specs.Normal.{with_record_in_order, in_point_order}
 use Rattle.hb_frag.proofs.Facts.PointOrder.{order_permutes}
 use Rattle.hb_frag.proofs.Facts.RisingRecords.{Rise, rising}
 use Rattle.hb_lemmas.proofs.Lists.{All-alone}
-use Rattle.hb_lemmas.proofs.Pairs.{pairs_first, pairs_rest}
+use Rattle.hb_lemmas.proofs.Pairs.{pairs_append, pairs_first, pairs_rest}
 
 -- the order of two points, told by the test
 less_from_test : (p q : List ℕ) → is_gt (point_cmp q p) ≡ true → point_cmp p q ≡ Less
@@ -33,22 +33,21 @@ less_from_test p q t = nat_list_cmp_total.antisymm p q ∙ turned (point_cmp q p
     turned Equal t = cc
     turned Greater t = refl
 
-less_unless_same : (p q : List ℕ) → p ≢ q → is_gt (point_cmp p q) ≡ false → point_cmp p q ≡ Less
+less_unless_same : (p q : List ℕ) → q ≢ p → is_gt (point_cmp p q) ≡ false → point_cmp p q ≡ Less
 less_unless_same p q n t = cases (point_cmp p q) refl
   where
     cases : (r : Ordering) → point_cmp p q ≡ r → point_cmp p q ≡ Less
     cases Less e = e
-    cases Equal e = absurd (n (exact_bytes p q e))
+    cases Equal e = absurd (n (sym (exact_bytes p q e)))
     cases Greater e = absurd (let no : true ≡ false = rw e at t in cc)
 
--- records of other points than one, and lists in which no point stands twice
-abbrev Apart : Record → List Record → Type 0
-Apart r [] = Unit {0}
-Apart r (s ∷ xs) = (r.key ≢ s.key) × Apart r xs
+-- two records of other points
+abbrev pub Differs : Record → Record → Type 0
+Differs r s = s.key ≢ r.key
 
-abbrev AllApart : List Record → Type 0
-AllApart [] = Unit {0}
-AllApart (r ∷ xs) = Apart r xs × AllApart xs
+-- and one that differs from each of some
+abbrev Apart : Record → List Record → Type 0
+Apart r xs = AllByRecursion (Differs r) xs
 
 each_after_put : (z r : Record) (xs : List Record) → AllByRecursion (Precedes z) xs → Precedes z r → AllByRecursion (Precedes z) (with_record_in_order r xs)
 each_after_put z r [] h k = (k, tt)
@@ -61,7 +60,7 @@ each_after_then : (r s : Record) (xs : List Record) → Precedes r s → AllByRe
 each_after_then r s [] h k = tt
 each_after_then r s (x ∷ xs) h k = (nat_list_cmp_total.trans r.key s.key x.key h k.0, each_after_then r s xs h k.1)
 
-apart_put : (z r : Record) (xs : List Record) → Apart z xs → z.key ≢ r.key → Apart z (with_record_in_order r xs)
+apart_put : (z r : Record) (xs : List Record) → Apart z xs → Differs z r → Apart z (with_record_in_order r xs)
 apart_put z r [] h k = (k, tt)
 apart_put z r (s ∷ xs) h k = elim (is_gt (point_cmp r.key s.key)) as (λ b. Apart z (cond b (s ∷ with_record_in_order r xs) (r ∷ s ∷ xs))) [
   | true ↦ (h.0, apart_put z r xs h.1 k)
@@ -79,21 +78,13 @@ rises_put r (s ∷ xs) h k = elim (is_gt (point_cmp r.key s.key)) as (λ b. is_g
   | false ↦ λ e. let less = less_unless_same r.key s.key k.0 e in ((less, each_after_then r s xs less h.0), h)
 ] refl
 
-rises_order : (xs : List Record) → AllApart xs → Rise (in_point_order xs)
+rises_order : (xs : List Record) → AllPairs Differs xs → Rise (in_point_order xs)
 rises_order [] h = tt
-rises_order (r ∷ xs) h = rises_put r (in_point_order xs) (rises_order xs h.1) (apart_order r xs h.0)
+rises_order (r ∷ xs) h = rises_put r (in_point_order xs) (rises_order xs (pairs_rest Differs r xs h)) (apart_order r xs (recursion_from_All (Differs r) xs (pairs_first Differs r xs h)))
 
--- pairs of places
-apart_after : (r : Record) (xs : List Record) → All (Precedes r) xs → Apart r xs
-apart_after r [] h = tt
-apart_after r (x ∷ xs) h = (λ same. not_itself r.key x.key same (h zero x (omega arith)), apart_after r xs (λ k d l. h (suc k) d (omega arith)))
-
-apart_pairs : (xs : List Record) → AllPairs Precedes xs → AllApart xs
-apart_pairs [] h = tt
-apart_pairs (x ∷ xs) h = (
-  apart_after x xs (pairs_first Precedes x xs h),
-  apart_pairs xs (pairs_rest Precedes x xs h),
-)
+-- where they rise no point stands twice
+pub rising_differ : (xs : List Record) → AllPairs Precedes xs → AllPairs Differs xs
+rising_differ xs rise i j d less inside same = not_itself (get_or xs i d).key (get_or xs j d).key (sym same) (rise i j d less inside)
 
 -- what lies below a plane and what lies from it on have no point in common
 module _ (axis value : ℕ) where
@@ -103,20 +94,11 @@ module _ (axis value : ℕ) where
   abbrev High : Record → Type 0
   High r = value ≤ get_or r.key axis 0
 
-  apart_behind : (r : Record) (xs ys : List Record) → Apart r xs → Low r → All High ys → Apart r (xs ++ ys)
-  apart_behind r [] [] h low high = tt
-  apart_behind r [] (y ∷ ys) h low high = (
-    λ e. let far : value ≤ get_or y.key axis 0 = high zero y (omega arith) in absurd (omega (arith, ap (λ k. get_or k axis 0) e)),
-    apart_behind r [] ys h low (λ k d l. high (suc k) d (omega arith)),
-  )
-  apart_behind r (x ∷ xs) ys h low high = (h.0, apart_behind r xs ys h.1 low high)
-
-  both_apart : (xs ys : List Record) → AllApart xs → AllApart ys → All Low xs → All High ys → AllApart (xs ++ ys)
-  both_apart [] ys h k low high = k
-  both_apart (x ∷ xs) ys h k low high = (
-    apart_behind x xs ys h.0 (low zero x (omega arith)) high,
-    both_apart xs ys h.1 k (λ i d l. low (suc i) d (omega arith)) high,
-  )
+  both_apart : (xs ys : List Record) → AllPairs Differs xs → AllPairs Differs ys → All Low xs → All High ys → AllPairs Differs (xs ++ ys)
+  both_apart xs ys one two low high = pairs_append Differs xs ys one two (λ i d lt k e less same.
+      let below : get_or (get_or xs i d).key axis 0 < value = low i d lt in
+      let from : value ≤ get_or (get_or ys k e).key axis 0 = high k e less in
+      absurd (omega (arith, below, from, ap (λ p. get_or p axis 0) same)))
 
 -- what the part below a plane holds, the box holds below the plane
 pub held_below : (a : Area) (axis value : ℕ) (p : List ℕ) → Cuts a axis value → Holds (side_below a axis value) p → Holds a p × (get_or p axis 0 < value)
@@ -146,7 +128,7 @@ order_of_both axis value xs ys a cuts k =
     let right = k 1 (record { leaf = Records ys; area = side_from a axis value }) (omega arith) in
     let below = λ (p : List ℕ) (held : Holds (side_below a axis value) p). held_below a axis value p cuts held in
     let from = λ (p : List ℕ) (held : Holds (side_from a axis value) p). (Holds-side_from a axis value p cuts).0 held in
-    let apart = both_apart axis value xs ys (apart_pairs xs left.rising) (apart_pairs ys right.rising) (λ i d l. (below (get_or xs i d).key (left.inside i d l)).1) (λ i d l. (from (get_or ys i d).key (right.inside i d l)).1) in
+    let apart = both_apart axis value xs ys (rising_differ xs left.rising) (rising_differ ys right.rising) (λ i d l. (below (get_or xs i d).key (left.inside i d l)).1) (λ i d l. (from (get_or ys i d).key (right.inside i d l)).1) in
     All-alone IsInOrder (record { leaf = Records zs; area = a }) (record {
       inside = All-permutation (λ r. Holds a r.key) (xs ++ ys) zs (order_permutes (xs ++ ys))
           (All-append (λ r. Holds a r.key) xs ys (λ i d l. (below (get_or xs i d).key (left.inside i d l)).0) (λ i d l. (from (get_or ys i d).key (right.inside i d l)).0));

@@ -36,8 +36,8 @@ pub returns-in-Ok : goal.returns-in-Ok
 returns-in-Ok g c = record {
   steps = λ m step number reply runs is.
       await_forced g.D.Device.model (core_disk c.args.self.now) c.force.new.self.disk (core_seen c.args.self.now) m c.args.actor number c.args.place c.settled.result reply step c.settled.ensures
-      c.in-Ok.field-0 (seen_as c.force.new.self) (uses_of c.force.new.self) c.if-place-settled.false c.in-Ok.ensures.writes c.in-Ok.ensures.uses;
-  touches = touched_forced g.D.Device.model (core_disk c.args.self.now) c.force.new.self.disk (core_seen c.args.self.now) _ outcomes.Moved c.in-Ok.field-0 moved_well c.in-Ok.ensures.writes;
+      (seen_as c.force.new.self) (uses_of c.force.new.self) c.if-place-settled.false c.in-Ok.ensures.writes c.in-Ok.ensures.uses;
+  touches = touched_forced g.D.Device.model (core_disk c.args.self.now) c.force.new.self.disk (core_seen c.args.self.now) _ outcomes.Moved moved_well c.in-Ok.ensures.writes;
   counts = record { stay = record { taken = refl; done = refl }; no_op = forced_no_op (core_seen c.args.self.now).store (seen_as c.force.new.self) c.in-Ok.ensures.writes.forced };
 }
 

@@ -22,11 +22,11 @@ returns-in-Ok-Forced g c =
     record {
       steps = λ m step runs.
           flush_forced g.D.Device.model (core_disk c.args.self.now) c.flush_step.new.self.disk (core_seen c.args.self.now) m c.args.due (seen_as c.flush_step.new.self) (uses_of c.flush_step.new.self) step
-          c.in-Ok-Forced.field-0 which (c.in-Ok-Forced.ensures.forces which);
-      touches = touched_forced g.D.Device.model (core_disk c.args.self.now) c.flush_step.new.self.disk (core_seen c.args.self.now) _ c.args.due c.in-Ok-Forced.field-0 (due_well c.args.due c.requires.due) (c.in-Ok-Forced.ensures.forces which).0;
+          which (c.in-Ok-Forced.ensures.forces which);
+      touches = touched_forced g.D.Device.model (core_disk c.args.self.now) c.flush_step.new.self.disk (core_seen c.args.self.now) _ c.args.due (due_well c.args.due c.requires.due) (c.in-Ok-Forced.ensures.forces which).0;
       counts = flushed_counts (g.D.Device.model (core_disk c.args.self.now)) (g.D.Device.model c.flush_step.new.self.disk) (core_seen c.args.self.now) (with_held (seen_as c.flush_step.new.self) (uses_of c.flush_step.new.self) (core_seen c.args.self.now)) c.requires.may.0 c.args.due c.args.due c.requires.may.1
           (flush_forced g.D.Device.model (core_disk c.args.self.now) c.flush_step.new.self.disk (core_seen c.args.self.now) c.requires.may.0 c.args.due (seen_as c.flush_step.new.self) (uses_of c.flush_step.new.self) c.requires.may.1
-          c.in-Ok-Forced.field-0 which (c.in-Ok-Forced.ensures.forces which)) refl refl;
+          which (c.in-Ok-Forced.ensures.forces which)) refl refl;
     }
 
 pub returns-in-Ok-Written : goal.returns-in-Ok-Written
@@ -36,12 +36,12 @@ returns-in-Ok-Written g c =
     record {
       steps = λ m step runs.
           flush_written g.D.Device.model (core_disk c.args.self.now) c.flush_step.new.self.disk (core_seen c.args.self.now) m c.args.due (seen_as c.flush_step.new.self) (uses_of c.flush_step.new.self) step
-          c.in-Ok-Written.field-0 _ which flushes;
-      touches = touched_home g.D.Device.model (core_disk c.args.self.now) c.flush_step.new.self.disk (core_seen c.args.self.now) _ c.args.due c.in-Ok-Written.field-0 _ (due_well c.args.due c.requires.due) which
-          (home_some (g.D.Device.model (core_disk c.args.self.now)) (g.D.Device.model c.flush_step.new.self.disk) (held_by c.args.self.now.store) (held_by c.flush_step.new.self) (Ok c.in-Ok-Written.field-0) _ which.1 flushes);
+          _ which flushes;
+      touches = touched_home g.D.Device.model (core_disk c.args.self.now) c.flush_step.new.self.disk (core_seen c.args.self.now) _ c.args.due _ (due_well c.args.due c.requires.due) which
+          (home_some (g.D.Device.model (core_disk c.args.self.now)) (g.D.Device.model c.flush_step.new.self.disk) (held_by c.args.self.now.store) (held_by c.flush_step.new.self) (Ok tt) _ which.1 flushes);
       counts = flushed_counts (g.D.Device.model (core_disk c.args.self.now)) (g.D.Device.model c.flush_step.new.self.disk) (core_seen c.args.self.now) (with_held (seen_as c.flush_step.new.self) (uses_of c.flush_step.new.self) (core_seen c.args.self.now)) c.requires.may.0 c.args.due c.args.due c.requires.may.1
           (flush_written g.D.Device.model (core_disk c.args.self.now) c.flush_step.new.self.disk (core_seen c.args.self.now) c.requires.may.0 c.args.due (seen_as c.flush_step.new.self) (uses_of c.flush_step.new.self) c.requires.may.1
-          c.in-Ok-Written.field-0 _ which flushes) refl refl;
+          _ which flushes) refl refl;
     }
 
 pub returns-in-Ok-Switched : goal.returns-in-Ok-Switched
@@ -51,12 +51,12 @@ returns-in-Ok-Switched g c =
     record {
       steps = λ m step runs.
           flush_turned g.D.Device.model (core_disk c.args.self.now) c.flush_step.new.self.disk (core_seen c.args.self.now) m c.args.due (seen_as c.flush_step.new.self) (uses_of c.flush_step.new.self) step
-          c.in-Ok-Switched.field-0 which flushes;
-      touches = touched_turn g.D.Device.model (core_disk c.args.self.now) c.flush_step.new.self.disk (core_seen c.args.self.now) _ c.args.due c.in-Ok-Switched.field-0 (due_well c.args.due c.requires.due) which
-          (home_turn (g.D.Device.model (core_disk c.args.self.now)) (g.D.Device.model c.flush_step.new.self.disk) (held_by c.args.self.now.store) (held_by c.flush_step.new.self) (Ok c.in-Ok-Switched.field-0) (which.1, which.2) flushes);
+          which flushes;
+      touches = touched_turn g.D.Device.model (core_disk c.args.self.now) c.flush_step.new.self.disk (core_seen c.args.self.now) _ c.args.due (due_well c.args.due c.requires.due) which
+          (home_turn (g.D.Device.model (core_disk c.args.self.now)) (g.D.Device.model c.flush_step.new.self.disk) (held_by c.args.self.now.store) (held_by c.flush_step.new.self) (Ok tt) (which.1, which.2) flushes);
       counts = flushed_counts (g.D.Device.model (core_disk c.args.self.now)) (g.D.Device.model c.flush_step.new.self.disk) (core_seen c.args.self.now) (with_held (seen_as c.flush_step.new.self) (uses_of c.flush_step.new.self) (core_seen c.args.self.now)) c.requires.may.0 c.args.due c.args.due c.requires.may.1
           (flush_turned g.D.Device.model (core_disk c.args.self.now) c.flush_step.new.self.disk (core_seen c.args.self.now) c.requires.may.0 c.args.due (seen_as c.flush_step.new.self) (uses_of c.flush_step.new.self) c.requires.may.1
-          c.in-Ok-Switched.field-0 which flushes) refl refl;
+          which flushes) refl refl;
     }
 
 pub returns-in-Ok-Nothing : goal.returns-in-Ok-Nothing
@@ -66,12 +66,12 @@ returns-in-Ok-Nothing g c =
     record {
       steps = λ m step runs.
           flush_idled g.D.Device.model (core_disk c.args.self.now) c.flush_step.new.self.disk (core_seen c.args.self.now) m c.args.due (seen_as c.flush_step.new.self) (uses_of c.flush_step.new.self) step
-          c.in-Ok-Nothing.field-0 which flushes;
+          which flushes;
       touches = flush_idled_then g.D.Device.model (core_disk c.args.self.now) c.flush_step.new.self.disk (core_seen c.args.self.now) (seen_as c.flush_step.new.self) (uses_of c.flush_step.new.self)
-          (home_none (g.D.Device.model (core_disk c.args.self.now)) (g.D.Device.model c.flush_step.new.self.disk) (held_by c.args.self.now.store) (held_by c.flush_step.new.self) (Ok c.in-Ok-Nothing.field-0) (which.1, which.2) flushes).0.only;
+          (home_none (g.D.Device.model (core_disk c.args.self.now)) (g.D.Device.model c.flush_step.new.self.disk) (held_by c.args.self.now.store) (held_by c.flush_step.new.self) (Ok tt) (which.1, which.2) flushes).0.only;
       counts = flushed_counts (g.D.Device.model (core_disk c.args.self.now)) (g.D.Device.model c.flush_step.new.self.disk) (core_seen c.args.self.now) (with_held (seen_as c.flush_step.new.self) (uses_of c.flush_step.new.self) (core_seen c.args.self.now)) c.requires.may.0 c.args.due outcomes.Idle c.requires.may.1
           (flush_idled g.D.Device.model (core_disk c.args.self.now) c.flush_step.new.self.disk (core_seen c.args.self.now) c.requires.may.0 c.args.due (seen_as c.flush_step.new.self) (uses_of c.flush_step.new.self) c.requires.may.1
-          c.in-Ok-Nothing.field-0 which flushes) refl refl;
+          which flushes) refl refl;
     }
 
 pub returns-in-Err : goal.returns-in-Err

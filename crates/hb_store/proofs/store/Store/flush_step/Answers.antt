@@ -1,8 +1,8 @@
 use Rattle.std.proofs.Common.{◌≡◌, ◌∙◌, ◌<◌, arith, sym}
 use Rattle.std.proofs.lemmas.Bool.{false≢true}
 use Rattle.std.proofs.lemmas.Result.{err_from_is_err_and}
-use Rattle.hb_store.specs.Seen.{held_by, seen_as}
-use Rattle.hb_store.proofs.Facts.OtherAnswers.{WritesGroups-err, WritesGroups-ok}
+use Rattle.hb_store.specs.Forced.{done}
+use Rattle.hb_store.specs.Seen.{held_by}
 use Rattle.hb_store.proofs.Flushes.{due_home, due_switch, flushes_none, flushes_oldest, flushes_switch}
 use Rattle.hb_store.proofs.store.Store.flush_step.Goals as goal
 
@@ -12,7 +12,7 @@ returns-then-not-is_idle-clause-which g c = λ none. false≢true (sym c.if-not-
 
 pub returns-then-not-is_idle-clause-forces : goal.returns-then-not-is_idle-clause-forces
 returns-then-not-is_idle-clause-forces g c = λ some. (
-  WritesGroups-ok (g.D.Device.model c.args.self.now.disk) (g.D.Device.model c.force.new.self.disk) (seen_as c.args.self.now) (seen_as c.force.new.self) _ _ c.in_ok-force.ensures.writes,
+  c.in_ok-force.ensures.writes,
   c.in_ok-force.ensures.uses,
 )
 
@@ -28,7 +28,7 @@ pub returns-in_err-force-clause-forces : goal.returns-in_err-force-clause-forces
 returns-in_err-force-clause-forces g c =
     let p = err_from_is_err_and c.from_residual.result c.from_residual.ensures.1 in
     λ some. (
-      rw (p.1, p.2) (WritesGroups-err (g.D.Device.model c.args.self.now.disk) (g.D.Device.model c.force.new.self.disk) (seen_as c.args.self.now) (seen_as c.force.new.self) _ c.in_err-force.ensures.writes),
+      rw (p.1, p.2) c.in_err-force.ensures.writes,
       c.in_err-force.ensures.uses,
     )
 
@@ -45,7 +45,7 @@ returns-in-Some-clause-forces g c = λ some. absurd (some (c.is_idle.ensures.0 c
 
 pub returns-in-Some-clause-cleans : goal.returns-in-Some-clause-cleans
 returns-in-Some-clause-cleans g c = λ none.
-    flushes_oldest c.write_home.result (g.D.Device.model c.args.self.now.disk) (g.D.Device.model c.write_home.new.self.disk) (held_by c.args.self.now) (held_by c.write_home.new.self) c.in-Some.id
+    flushes_oldest (done c.write_home.result) (g.D.Device.model c.args.self.now.disk) (g.D.Device.model c.write_home.new.self.disk) (held_by c.args.self.now) (held_by c.write_home.new.self) c.in-Some.id
     (sym c.in-Some.ensures.oldest) c.write_home.ensures.writes
 
 -- none is, and the log has a frame
@@ -61,7 +61,7 @@ pub returns-in-None-clause-cleans : goal.returns-in-None-clause-cleans
 returns-in-None-clause-cleans g c =
     let some : 0 < c.args.self.now.memory.state.log.written = omega (arith, c.if-written-gt0.true, c.written.ensures) in
     λ none.
-    flushes_switch c.switch.result (g.D.Device.model c.args.self.now.disk) (g.D.Device.model c.switch.new.self.disk) (held_by c.args.self.now) (held_by c.switch.new.self)
+    flushes_switch (done c.switch.result) (g.D.Device.model c.args.self.now.disk) (g.D.Device.model c.switch.new.self.disk) (held_by c.args.self.now) (held_by c.switch.new.self)
     (sym c.in-None.ensures.oldest) some c.switch.ensures.switches
 
 -- the log has none either
@@ -78,4 +78,4 @@ returns-in-None-2-clause-forces g c = λ some. absurd (some (c.is_idle.ensures.0
 pub returns-in-None-2-clause-cleans : goal.returns-in-None-2-clause-cleans
 returns-in-None-2-clause-cleans g c =
     let empty : c.args.self.now.memory.state.log.written ≡ 0 = omega (arith, c.if-written-gt0.false, c.written.ensures) in
-    λ none. flushes_none _ (g.D.Device.model c.args.self.now.disk) (held_by c.args.self.now) (sym c.in-None-2.ensures.oldest) empty
+    λ none. flushes_none (g.D.Device.model c.args.self.now.disk) (held_by c.args.self.now) (sym c.in-None-2.ensures.oldest) empty

@@ -45,7 +45,7 @@ returns-in-Ok-clause-writes g c =
     let seen = (memory_seen c.memory.inside).state in
     let going : seen.stopped ≡ false = ap (λ (h : StoreHeld). h.state.stopped) c.memory.view_is ∙ c.requires.running in
     subst (λ (h : StoreHeld). WritesGroups (Ok tt) d new h.state (with_log log seen)) c.memory.view_is
-    (written_so d new (g.met.D.Device.is_disk c.args.self.now.disk) (g.met.D.Device.is_disk c.force.new.disk) seen c.memory.invariant.memory going log c.force.ensures.moments tt _
+    (written_so d new (g.met.D.Device.is_disk c.args.self.now.disk) (g.met.D.Device.is_disk c.force.new.disk) seen c.memory.invariant.memory going log c.force.ensures.moments _
     (λ none. (c.in-Ok.ensures.nothing none).1) c.in-Ok.ensures.forced c.in-Ok.ensures.log c.in-Ok.ensures.clock c.in-Ok.ensures.wrote)
 
 pub returns-in-Err-clause-writes : goal.returns-in-Err-clause-writes

@@ -4,7 +4,7 @@ use Rattle.hb_frag.specs.declared.pages.Page.TheVariants.{Free}
 use Rattle.hb_layout.specs.declared.meta.Meta.{Meta}
 use Rattle.hb_ops.specs.Allocating.{Allocates}
 use Rattle.hb_ops.specs.Files.{page_of, last_of}
-use Rattle.hb_store.specs.Fetching.{IsCrowdedOut, MayFetch, MayUse}
+use Rattle.hb_store.specs.Fetching.{IsCrowdedOut, MayBring, MayFetch}
 use Rattle.hb_store.specs.States.{in_memory}
 use Rattle.hb_store.specs.Seen.{seen_as, uses_of}
 use Rattle.hb_store.proofs.Facts.LookLaws.{LooksUp-none, LooksUp-as, LooksUp-stop}
@@ -29,7 +29,7 @@ returns-then-meta-ne0-clause-allocates g c =
     let head_is : c.meta-meta.result.now.free ≡ self.memory.state.meta.free = ap (λ (m : Meta). m.free) same in
     let some : self.memory.state.meta.free ≢ 0 = omega (arith, c.if-meta-ne0.true, head_is) in
     let few : self.memory.state.meta.live ≢ self.memory.state.meta.pages = omega (arith, c.if-meta.false, ap (λ (m : Meta). m.live) same, ap (λ (m : Meta). m.pages) same) in
-    let fetches : MayFetch self.memory.state.meta.free (seen_as self) (seen_as new) = subst (λ (id : ℕ). MayFetch id (seen_as self) (seen_as new)) head_is c.free_head.ensures.fetches in
+    let fetches : MayFetch self.memory.state.meta.free (seen_as self) (seen_as new) = subst (λ (id : ℕ). MayFetch id (seen_as self) (seen_as new)) head_is c.free_head.ensures.brings.fetched in
     subst (λ (id : ℕ). Allocates new.memory.state.meta id c.in_ok-next.next) (sym head_is)
     (head_allocates (seen_as self) (seen_as new) c.in_ok-next.next c.in_ok-next.ensures.memory fetches few some (ap (in_memory (seen_as new)) (sym head_is) ∙ c.in_ok-next.ensures.named))
 
@@ -59,12 +59,9 @@ returns-then-meta-ne0-clause-looks g c =
 pub returns-then-meta-2-clause-looks : goal.returns-then-meta-2-clause-looks
 returns-then-meta-2-clause-looks g c = LooksUp-none (g.D.Device.model c.args.self.now.disk) (seen_as c.args.self.now) (λ is. cc (is, c.damaged.ensures))
 
-pub returns-in_err-next-clause-may_use : goal.returns-in_err-next-clause-may_use
-returns-in_err-next-clause-may_use g c =
-    subst (λ (id : ℕ). MayUse id (uses_of c.args.self.now) (uses_of c.free_head.new.self)) (ap (λ (m : Meta). m.free) c.meta-meta.ensures.meta) c.free_head.ensures.may_use
-
-pub returns-in_err-next-clause-stays : goal.returns-in_err-next-clause-stays
-returns-in_err-next-clause-stays g c = c.free_head.ensures.stays
+pub returns-in_err-next-clause-brings : goal.returns-in_err-next-clause-brings
+returns-in_err-next-clause-brings g c =
+    subst (λ (id : ℕ). MayBring id (seen_as c.args.self.now) (seen_as c.free_head.new.self) (uses_of c.args.self.now) (uses_of c.free_head.new.self)) (ap (λ (m : Meta). m.free) c.meta-meta.ensures.meta) c.free_head.ensures.brings
 
 pub returns-in_err-next-clause-crowded : goal.returns-in_err-next-clause-crowded
 returns-in_err-next-clause-crowded g c =
@@ -74,9 +71,6 @@ returns-in_err-next-clause-crowded g c =
     let p = err_from_is_err_and c.from_residual.result c.from_residual.ensures.1 in
     λ is. (some, subst (λ (id : ℕ). IsCrowdedOut id (seen_as self) (uses_of self)) head_is (c.in_err-next.ensures.crowded (cc (is, p.1, p.2))))
 
-pub returns-then-meta-ne0-clause-may_use : goal.returns-then-meta-ne0-clause-may_use
-returns-then-meta-ne0-clause-may_use g c =
-    subst (λ (id : ℕ). MayUse id (uses_of c.args.self.now) (uses_of c.free_head.new.self)) (ap (λ (m : Meta). m.free) c.meta-meta.ensures.meta) c.free_head.ensures.may_use
-
-pub returns-then-meta-ne0-clause-stays : goal.returns-then-meta-ne0-clause-stays
-returns-then-meta-ne0-clause-stays g c = c.free_head.ensures.stays
+pub returns-then-meta-ne0-clause-brings : goal.returns-then-meta-ne0-clause-brings
+returns-then-meta-ne0-clause-brings g c =
+    subst (λ (id : ℕ). MayBring id (seen_as c.args.self.now) (seen_as c.free_head.new.self) (uses_of c.args.self.now) (uses_of c.free_head.new.self)) (ap (λ (m : Meta). m.free) c.meta-meta.ensures.meta) c.free_head.ensures.brings
