@@ -107,9 +107,3 @@ told_on_ok (Ok v) (Ok w) P alike h = h
 told_on_ok (Ok v) (Err f) P alike h = tt
 told_on_ok (Err e) (Ok w) P alike h = absurd alike
 told_on_ok (Err e) (Err f) P alike h = tt
-
-pub told_on_err : {T E F : Type 0} (done : Result T E) (r : Result T F) (P : Type 0) → Alike done r → OnErr done P → OnErr r P
-told_on_err (Ok v) (Ok w) P alike h = tt
-told_on_err (Ok v) (Err f) P alike h = absurd alike
-told_on_err (Err e) (Ok w) P alike h = tt
-told_on_err (Err e) (Err f) P alike h = h

@@ -41,6 +41,10 @@ pub record IsFilledRight (page : LivePage) (dcap icap : ℕ) : Type 0 where
 abbrev pub Precedes : Record → Record → Type 0
 Precedes r s = point_cmp r.key s.key ≡ Less
 
+-- a record of another point than that one
+abbrev pub Differ : Record → Record → Type 0
+Differ r s = s.key ≢ r.key
+
 -- a leaf's records lie in its box, and their points rise
 pub record IsInOrder (placed : Placed) : Type 0 where
   pub inside : All (λ r. Holds placed.area r.key) (records_of placed.leaf)

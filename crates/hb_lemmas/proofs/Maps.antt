@@ -1,5 +1,5 @@
 -- Maps by numbers.
-use Rattle.std.proofs.Common.{◌≡◌, ℕ, cond, List, [], ◌∷◌, Bool, Some, refl, ap, ◌∙◌}
+use Rattle.std.proofs.Common.{◌≡◌, ℕ, cond, List, [], ◌∷◌, Some, refl, ◌∙◌}
 use Rattle.std.specs.Prelude.{nat_eq}
 use Rattle.std.specs.Map.{lookup}
 use Rattle.std.specs.Ordering.{nat_cmp}
@@ -14,7 +14,3 @@ found (e ∷ es) q = λ i. cond (unsigned_tied q e.0 i) (Some e.1) (found es q i
 -- so is it in a map that was made of a list
 pub get-from_list : {X : Type 0} (es : List (ℕ × X)) (q : ℕ) → map.get (map.from_entries {R = nat_cmp} es) q ≡ lookup (nat_eq q) es
 get-from_list es q = map.get-from_entries nat_cmp_total es q ∙ found es q
-
--- what is asked for after it was put under its number, or under another one
-pub get-put : {X : Type 0} (id q : ℕ) (x : X) (m : map.FinMap nat_cmp X) → map.get (map.insert m id x) q ≡ cond (nat_eq q id) (Some x) (map.get m q)
-get-put id q x m = map.get-insert nat_cmp_total m id x q ∙ ap (λ (b : Bool). cond b (Some x) (map.get m q)) (unsigned_tied q id)

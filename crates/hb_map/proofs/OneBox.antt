@@ -44,10 +44,6 @@ sum_one f (q ∷ rest) (suc place) page there one none =
     let later = sum_one f rest place page there one (λ n r there apart. none (suc n) r there (λ same. apart (omega (arith, same)))) in
     omega (arith, whole, here, later)
 
--- how many boxes of a page with records hold the point, and all pages together
-in_page : List ℕ → Page → ℕ
-in_page p q = count_by (λ (a : Area). holds a p) (record_boxes q)
-
 over_pages : (p : List ℕ) (pages : List Page) → count_by (λ (a : Area). holds a p) (flat_map record_boxes pages) ≡ sum_by (λ (q : Page). count_by (λ (a : Area). holds a p) (record_boxes q)) pages
 over_pages p [] = refl
 over_pages p (q ∷ rest) =

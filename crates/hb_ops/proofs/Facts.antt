@@ -1,6 +1,5 @@
 pub mod CutLeafLaws
 pub mod CutShapeLaws
-pub mod LeafBoxLaws
 pub mod LeafHalfLaws
 pub mod PageNumberLaws
 pub mod PartedPageLaws

@@ -47,11 +47,6 @@ pass_first p n None is off = λ m le at. elim (cases_lt n m) [
 ]
 pass_first p n (Some first) is off = is
 
--- none before the first number
-pub none_yet : (q : Fact → Type 0) (facts : List Fact) → IsFirstUpTo (SeesSome q facts) 0 None
-none_yet q facts zero le sees = absurd (let never : None ≡ Some sees.0 = sees.1 in cc)
-none_yet q facts (suc n) le sees = absurd (omega (arith, le))
-
 -- what is seen behind a place
 pub seen_here : (q : Fact → Type 0) (facts : List Fact) (place : ℕ) (fact : Fact) → slice_get facts place ≡ Some fact → q fact → SeesSome q facts (place + 1)
 seen_here q facts place fact e holds = (fact, item_behind facts place ∙ e, holds)

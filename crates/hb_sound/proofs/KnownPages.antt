@@ -57,11 +57,6 @@ module _ (facts : List Fact) (x : Fact) where
   knows_later (Free next) (pages.Live page) knows = absurd knows
   knows_later (Free next) (pages.Free other) knows = tt
 
--- none is known yet
-pub knows_none : (told : List (Option Page)) → KnowsTold [] told
-knows_none told zero fact page at there = let never : None ≡ Some fact = at in cc
-knows_none told (suc n) fact page at there = let never : None ≡ Some fact = at in cc
-
 -- one more is
 pub knows_more : (facts : List Fact) (told : List (Option Page)) (n : ℕ) (fact : Fact) → length facts ≡ n → KnowsTold facts told
     → ((page : Page) → item_at told (n + 1) ≡ Some (Some page) → Knows facts fact page) → KnowsTold (facts ++ fact ∷ []) told

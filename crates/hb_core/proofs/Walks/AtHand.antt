@@ -1,5 +1,5 @@
 -- The page that a step latches comes later than those that its actor holds, over every disk. So it is none of them.
-use Rattle.std.proofs.Common.{◌≡◌, ◌≢◌, ◌⊎◌, inl, inr, ℕ, zero, suc, ◌-◌, ◌<◌, Bool, true, cond, List, [], ◌∷◌, map, Option, Some, None, IfSome, IsSome, IsTrue, refl, sym, ap, ◌∙◌, subst, arith}
+use Rattle.std.proofs.Common.{◌≡◌, ◌≢◌, ◌⊎◌, inl, inr, ℕ, zero, suc, ◌-◌, ◌<◌, Bool, cond, List, [], ◌∷◌, map, Option, Some, None, IfSome, IsSome, IsTrue, refl, sym, ap, ◌∙◌, subst, arith}
 use Rattle.std.specs.List.{Contains, slice_get}
 use Rattle.std.specs.Option.{option_and_then, option_map}
 use Rattle.std.proofs.lemmas.Bool.{ne_eqb}
@@ -31,7 +31,7 @@ use Rattle.hb_core.proofs.Walks.MergesKept.{above_records, place_latched, known_
 use Rattle.hb_core.proofs.Walks.Volumes.{sibling_fewer}
 use Rattle.hb_core.proofs.Walks.WalksKept.{IsAtParent, parent_latched}
 use Rattle.hb_core.specs.AllowedLaws.{AnyPage}
-use Rattle.hb_core.specs.Asking.{AskedBox, HasAskedBox, asked_box, box_at, box_by_leaf, box_of_place, box_of_sibling, looked_live, wanted_by}
+use Rattle.hb_core.specs.Asking.{AskedBox, HasAskedBox, asked_box, box_at, box_by_leaf, box_of_place, box_of_sibling, looked_live, this_box, wanted_by}
 use Rattle.hb_core.specs.Fetching.{Brings}
 use Rattle.hb_core.specs.KeptMachine.{MachineKeeps}
 use Rattle.hb_core.specs.KeptMerges.{AtParent, PairHeld, merging_at}
@@ -125,7 +125,7 @@ module _ (meta : Meta) (held : LivePage) (good : IsGoodPage meta (Live held)) (p
   given_found : (name : ℕ) (then : Option LivePage) → then ≡ Some held → IsSome (first_named name (siblings_of held)) → page.level ≡ held.level → HasBox (box_of_sibling then name) → IsLater held page
   given_found name then is gave on box = by (first_named name (siblings_of held)) refl gave (subst (λ (o : Option LivePage). HasBox (box_of_sibling o name)) is box)
     where
-      by : (o : Option Area) → first_named name (siblings_of held) ≡ o → IsSome o → HasBox (option_map (λ (area : Area). record { area = area; exact = true }) o) → IsLater held page
+      by : (o : Option Area) → first_named name (siblings_of held) ≡ o → IsSome o → HasBox (option_map this_box o) → IsLater held page
       by None found some box = cc
       by (Some area) found some box = sibling_found name area (first_sibling_among name (siblings_of held) area found) on box
 
