@@ -1,5 +1,5 @@
 -- The rules that a live page keeps by itself. The number of each is the one that a refusal names.
-use Rattle.std.specs.Prelude.{◌≡◌, ℕ, ◌<◌, ◌≤◌, ◌==◌, if◌then◌else◌, length, All, AllPairs}
+use Rattle.std.specs.Prelude.{◌≡◌, ℕ, ◌<◌, ◌≤◌, ◌==◌, if◌then◌else◌, length, All, AllPairs, ◌≢◌}
 use Rattle.std.specs.declared.cmp.Ordering.TheVariants.{Less}
 use Rattle.hb_space.specs.Points.{point_cmp}
 use Rattle.hb_space.specs.Boxes.{Holds}

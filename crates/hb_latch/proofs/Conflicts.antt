@@ -5,7 +5,7 @@ use Rattle.std.specs.Cmp.{ranked}
 use Rattle.std.specs.Ordering.{nat_cmp, ordering_then}
 use Rattle.std.specs.declared.cmp.Ordering.TheVariants.{Less, Equal, Greater}
 use Rattle.std.proofs.lemmas.Bool.Decides.{Decides-eqb}
-use Rattle.std.proofs.lemmas.Bool.{and_parts, false≢true, cases_lt, not-true}
+use Rattle.std.proofs.lemmas.Bool.{and_parts, false≢true, cases_lt, not-true, false_from_ne_true}
 use Rattle.std.proofs.Common.{inl, inr}
 use Rattle.hb_latch.specs.declared.modes.Mode.{Mode}
 use Rattle.hb_latch.specs.declared.entries.Held.{Held}
@@ -66,14 +66,10 @@ against_so actor page mode h is =
       apart = not-true (goes_beside mode h.mode) more.1;
     }
 
-false_so : (b : Bool) → ¬ (b ≡ true) → b ≡ false
-false_so true n = absurd (n refl)
-false_so false n = refl
-
 conflicts_so : (actor page : ℕ) (mode : Mode) (h : Held) → IsAgainst actor page mode h → conflicts actor page mode h ≡ true
 conflicts_so actor page mode h a =
     ap (λ b. b && (not (h.actor == actor) && not (goes_beside mode h.mode))) ((Decides-eqb h.page page).1 a.page_is)
-    ∙ ap (λ b. not b && not (goes_beside mode h.mode)) (false_so (h.actor == actor) (λ same. a.another ((Decides-eqb h.actor actor).0 same)))
+    ∙ ap (λ b. not b && not (goes_beside mode h.mode)) (false_from_ne_true (h.actor == actor) (λ same. a.another ((Decides-eqb h.actor actor).0 same)))
     ∙ ap not a.apart
 
 -- the actors don't fall along the latches
@@ -110,7 +106,7 @@ against_at hs actor page mode other d rise keeps =
             conflicts_so actor page mode (get_or hs at.0 d) (record {
               page_is = ap (λ (k : ℕ × ℕ). k.1) at.2;
               another = λ same. keeps.another (sym (ap (λ (k : ℕ × ℕ). k.0) at.2) ∙ same);
-              apart = ap (goes_beside mode) at.3 ∙ false_so _ apart;
+              apart = ap (goes_beside mode) at.3 ∙ false_from_ne_true _ apart;
             }),
           )
     ] refl keeps.conflict
@@ -192,8 +188,3 @@ named_nobody hs actor page mode rise grantable =
       | None ↦ λ found. refl
       | Some h ↦ λ found. absurd (refused hs actor page mode h rise found grantable)
     ] refl
-
--- who isn't someone is no one
-pub no_one : (r o : Option ℕ) → r ≡ o → ((x : ℕ) → r ≡ Some x → ⊥) → None ≡ o
-no_one None o is none = is
-no_one (Some x) o is none = absurd (none x refl)

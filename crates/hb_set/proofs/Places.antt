@@ -7,12 +7,12 @@ use Rattle.std.specs.declared.alloc.Global.{Global}
 use Rattle.std.specs.declared.cmp.Ordering.TheVariants.{Less, Greater}
 use Rattle.std.specs.FinMap.{find, put}
 use Rattle.std.specs.FinMap.Entries.{below_all, by_order}
-use Rattle.std.proofs.lemmas.Cmp.{nat_list_cmp_total, tied_itself}
+use Rattle.std.proofs.lemmas.Cmp.{nat_list_cmp_total}
 use Rattle.std.proofs.lemmas.Bool.{and_parts}
 use Rattle.std.proofs.lemmas.List.Sorted.{searchable_from_sorted}
 use Rattle.hb_space.specs.Points.{point_cmp}
 use Rattle.hb_space.specs.declared.records.Record.{Record}
-use Rattle.hb_space.proofs.Facts.PointOrder.{turned, exact_points}
+use Rattle.hb_space.proofs.Facts.PointOrder.{turned, exact_points, alike}
 use Rattle.hb_lemmas.proofs.Orderings.{less_so}
 use Rattle.hb_set.proofs.Facts.MachineLaws.{entries_without}
 use Rattle.hb_set.specs.Kept.{entries_behind, PointsRise, IsHandleAt, IsHandleGapFor}
@@ -60,9 +60,6 @@ above_first p q h = ap is_eq (turned q p Greater h)
 below_first : (p q : List ℕ) → point_cmp q p ≡ Less → eq_by_cmp point_cmp p q ≡ false
 below_first p q h = ap is_eq (turned q p Less h)
 
-tied_first : (p q : List ℕ) → q ≡ p → eq_by_cmp point_cmp p q ≡ true
-tied_first p q h = subst (λ (x : List ℕ). eq_by_cmp point_cmp p x ≡ true) (sym h) (ap is_eq (tied_itself nat_list_cmp_total p))
-
 -- before the place of the point stand lesser ones
 lesser_first : (h : Box Record Global) (hs : List (Box Record Global)) (p : List ℕ) (i : ℕ) → PointsRise (h ∷ hs) → IsHandleAt (h ∷ hs) p (suc i) → point_cmp h.value.key p ≡ Less
 lesser_first h hs p i r at = subst (λ (x : List ℕ). point_cmp h.value.key x ≡ Less) (at.same_point h) (rise_at (h ∷ hs) r zero (suc i) h (omega arith) at.in_range)
@@ -70,7 +67,7 @@ lesser_first h hs p i r at = subst (λ (x : List ℕ). point_cmp h.value.key x �
 -- the body under the point is the one at its place
 pub find_at : (hs : List (Box Record Global)) (p : List ℕ) (i : ℕ) (d : Box Record Global) → PointsRise hs → IsHandleAt hs p i → find point_cmp p (entries_behind hs) ≡ Some (get_or hs i d).value.body
 find_at [] p i d r at = absurd (omega (arith, at.in_range))
-find_at (h ∷ hs) p zero d r at = ap (λ b. cond b (Some h.value.body) (find point_cmp p (entries_behind hs))) (tied_first p h.value.key (at.same_point d))
+find_at (h ∷ hs) p zero d r at = ap (λ b. cond b (Some h.value.body) (find point_cmp p (entries_behind hs))) (alike p h.value.key (sym (at.same_point d)))
 find_at (h ∷ hs) p (suc i) d r at =
     ap (λ b. cond b (Some h.value.body) (find point_cmp p (entries_behind hs))) (below_first p h.value.key (lesser_first h hs p i r at))
     ∙ find_at hs p i d (and_parts _ _ r).1 (at_tail h hs p i at)
@@ -109,7 +106,7 @@ without_below p (h ∷ hs) b =
 pub without_at : (hs : List (Box Record Global)) (p : List ℕ) (i : ℕ) → PointsRise hs → IsHandleAt hs p i → entries_without p (entries_behind hs) ≡ entries_behind (remove hs i)
 without_at [] p i r at = absurd (omega (arith, at.in_range))
 without_at (h ∷ hs) p zero r at =
-    ap (kept_first (entries_without p (entries_behind hs)) h) (tied_first p h.value.key (at.same_point h))
+    ap (kept_first (entries_without p (entries_behind hs)) h) (alike p h.value.key (sym (at.same_point h)))
     ∙ without_below p hs (subst (λ (x : List ℕ). below_all point_cmp x (entries_behind hs) ≡ true) (at.same_point h) (and_parts _ _ r).0)
 without_at (h ∷ hs) p (suc i) r at =
     ap (kept_first (entries_without p (entries_behind hs)) h) (below_first p h.value.key (lesser_first h hs p i r at))

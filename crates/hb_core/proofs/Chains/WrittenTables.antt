@@ -2,7 +2,7 @@
 use Rattle.std.proofs.Common.{◌≡◌, ◌≢◌, inl, inr, ℕ, ◌==◌, Bool, true, false, cond, not, List, [], ◌∷◌, ◌++◌, Option, Some, None, IfSome, IsSome, IsSomeAnd, IsTrue, refl, sym, ap, ◌∙◌, subst, ne_eqb}
 use mathlib.Core.Path.{fun_ext}
 use Rattle.std.specs.Prelude.{◌&&◌, ◌||◌, if◌then◌else◌, nat_lt}
-use Rattle.std.proofs.lemmas.Bool.{cases_Bool, eqb-true, eqb-false, eq-eqb, lt-ltb}
+use Rattle.std.proofs.lemmas.Bool.{cases_Bool, eqb-true, eqb-false, eq-eqb, lt-ltb, and_parts}
 use Rattle.std.specs.List.{AllByRecursion, list_any}
 use Rattle.std.specs.Ordering.{nat_cmp, eq_by_cmp, is_eq, ordering_then}
 use Rattle.std.specs.Cmp.{nat_cmp_total, unsigned_tied}
@@ -264,12 +264,10 @@ is_clear asked page mode [] = true
 is_clear asked page mode (one ∷ rest) = (not (asked one.0.0) || (not (page == one.0.1) || goes_beside mode one.1)) && is_clear asked page mode rest
 
 pub and_first : (a b : Bool) → IsTrue (a && b) → IsTrue a
-and_first true b e = refl
-and_first false b e = e
+and_first a b both = (and_parts a b both).0
 
 pub and_second : (a b : Bool) → IsTrue (a && b) → IsTrue b
-and_second true b e = e
-and_second false b e = absurd (let no : ⊥ = cc in no)
+and_second a b both = (and_parts a b both).1
 
 left_off : (a b : Bool) → a ≡ true → IsTrue (not a || b) → IsTrue b
 left_off true b is e = e

@@ -1,9 +1,9 @@
 -- What a step asks for is in a sound file: a page in use, of the level and the box that are asked for.
-use Rattle.std.proofs.Common.{◌≡◌, ℕ, zero, suc, ◌-◌, ◌==◌, IsTrue, true, false, cond, List, [], ◌∷◌, map, Option, Some, None, refl, sym, ap, ◌∙◌, subst, arith}
+use Rattle.std.proofs.Common.{◌≡◌, ℕ, suc, ◌-◌, ◌==◌, IsTrue, true, false, cond, List, [], ◌∷◌, Option, Some, None, refl, sym, ap, ◌∙◌, subst, arith}
 use Rattle.std.specs.List.{Contains, slice_get}
 use Rattle.std.specs.Option.{option_and_then, option_map}
 use Rattle.std.proofs.lemmas.Bool.{eqb-true}
-use Rattle.hb_lemmas.proofs.Lists.{place_member, later_member}
+use Rattle.hb_lemmas.proofs.Lists.{place_member, later_member, mapped_place}
 use Rattle.hb_frag.specs.declared.leaves.Leaf.{Leaf}
 use Rattle.hb_frag.specs.declared.leaves.Leaf.TheVariants.{Records, Child, Sibling}
 use Rattle.hb_frag.specs.declared.pages.LivePage.{LivePage}
@@ -145,13 +145,8 @@ first_sibling_among name (x ∷ xs) area is =
     ] refl is
 
 -- the leaf of a place, without its box and with it
-get_mapped : (xs : List Placed) (place : ℕ) (leaf : Leaf) (l : Placed) → slice_get (map (λ (x : Placed). x.leaf) xs) place ≡ Some leaf → slice_get xs place ≡ Some l → leaf ≡ l.leaf
-get_mapped [] place leaf l is placed_is = cc
-get_mapped (x ∷ xs) zero leaf l is placed_is = let one : x.leaf ≡ leaf = cc in let same : x ≡ l = cc in sym one ∙ ap (λ (p : Placed). p.leaf) same
-get_mapped (x ∷ xs) (suc place) leaf l is placed_is = get_mapped xs place leaf l is placed_is
-
-pub leaf_of_place : (t : Tree) (area : Area) (place : ℕ) (leaf : Leaf) (l : Placed) → slice_get (leaves t) place ≡ Some leaf → slice_get (leaves_of t area) place ≡ Some l → leaf ≡ l.leaf
-leaf_of_place t area place leaf l is placed_is = get_mapped (leaves_of t area) place leaf l (ap (λ (ls : List Leaf). slice_get ls place) (leaves_placed t area) ∙ is) placed_is
+pub leaf_of_place : (t : Tree) (area : Area) (place : ℕ) (leaf : Leaf) → slice_get (leaves t) place ≡ Some leaf → (l : Placed) × (slice_get (leaves_of t area) place ≡ Some l) × (l.leaf ≡ leaf)
+leaf_of_place t area place leaf is = mapped_place (λ (l : Placed). l.leaf) (leaves_of t area) place leaf (ap (λ (ls : List Leaf). slice_get ls place) (leaves_placed t area) ∙ is)
 
 module _ (s : FileState) (sound : IsSound s) (id : ℕ) (page : LivePage) (live : live_page s id ≡ Some page) where
   -- a child of the parent, by its first leaf from the left
@@ -165,15 +160,12 @@ module _ (s : FileState) (sound : IsSound s) (id : ℕ) (page : LivePage) (live 
   -- a page to which the page gave a part of its box, by the leaf at a place
   pub placed_sibling_there : (name place : ℕ) (mode : Mode) (then : Option LivePage) (wanted : Wanted) (asked : AskedBox) → then ≡ Some page → slice_get (leaves page.frag) place ≡ Some (Sibling name)
       → wanted_page name page.level mode ≡ wanted → box_of_place then place ≡ Some asked → IsThere s wanted asked
-  placed_sibling_there name place mode then wanted asked is there wants asks = by (slice_get (leaves_of page.frag page.area) place) refl (subst (λ (o : Option LivePage). box_of_place o place ≡ Some asked) is asks)
-    where
-      by : (o : Option Placed) → slice_get (leaves_of page.frag page.area) place ≡ o → option_and_then box_by_leaf o ≡ Some asked → IsThere s wanted asked
-      by None is asks = cc
-      by (Some l) is asks =
-          let leaf : Sibling name ≡ l.leaf = leaf_of_place page.frag page.area place (Sibling name) l there is in
-          let among : Contains (leaves_of page.frag page.area) (placed (Sibling name) l.area) = subst (λ (x : Leaf). Contains (leaves_of page.frag page.area) (placed x l.area)) (sym leaf) (place_member (leaves_of page.frag page.area) place l is) in
-          let box : box_by_leaf (placed (Sibling name) l.area) ≡ Some asked = subst (λ (x : Leaf). box_by_leaf (placed x l.area) ≡ Some asked) (sym leaf) asks in
-          sibling_there s sound id page live name l.area mode wanted asked among wants (let same : this_box l.area ≡ asked = cc in same)
+  placed_sibling_there name place mode then wanted asked is there wants asks =
+      let l = leaf_of_place page.frag page.area place (Sibling name) there in
+      let among : Contains (leaves_of page.frag page.area) (placed (Sibling name) l.0.area) = subst (λ (x : Leaf). Contains (leaves_of page.frag page.area) (placed x l.0.area)) l.2 (place_member (leaves_of page.frag page.area) place l.0 l.1) in
+      let found : box_by_leaf l.0 ≡ Some asked = subst (λ (o : Option Placed). option_and_then box_by_leaf o ≡ Some asked) l.1 (subst (λ (o : Option LivePage). box_of_place o place ≡ Some asked) is asks) in
+      let box : box_by_leaf (placed (Sibling name) l.0.area) ≡ Some asked = subst (λ (x : Leaf). box_by_leaf (placed x l.0.area) ≡ Some asked) l.2 found in
+      sibling_there s sound id page live name l.0.area mode wanted asked among wants (let same : this_box l.0.area ≡ asked = cc in same)
 
   -- and by its first sibling leaf to that page
   pub given_there : (name : ℕ) (level : ℕ) (mode : Mode) (then : Option LivePage) (wanted : Wanted) (asked : AskedBox) → then ≡ Some page → page.level ≡ level → wanted_page name level mode ≡ wanted → box_of_sibling then name ≡ Some asked → IsThere s wanted asked

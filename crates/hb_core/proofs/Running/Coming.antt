@@ -1,5 +1,5 @@
 -- The wanted page comes and is the one that was asked for, or the step halts.
-use Rattle.std.proofs.Common.{◌≡◌, ◌≢◌, ◌⊎◌, inl, inr, ℕ, false, List, [], ◌∷◌, Option, Some, None, IfSome, IsSome, IsTrue, refl, sym, ap, ◌∙◌, subst, arith, ◌<◌}
+use Rattle.std.proofs.Common.{◌≡◌, ◌≢◌, ◌⊎◌, inl, inr, ℕ, false, List, [], ◌∷◌, Option, Some, None, IfSome, IsTrue, refl, sym, ap, ◌∙◌, subst, arith, ◌<◌}
 use Rattle.std.specs.Option.{IsSomeAnd, option_and_then, option_map, MatchOption}
 use Rattle.std.proofs.lemmas.List.Elements.{All-head}
 use Rattle.std.proofs.lemmas.Option.{same_Some}
@@ -60,10 +60,6 @@ use Rattle.hb_core.specs.Rows.{IsAtHand}
 use Rattle.hb_core.specs.Showing.{RunningCore, ShowsMachine}
 use Rattle.hb_core.specs.Stopping.{IsHaltOf}
 use Rattle.hb_core.specs.Working.{HasCome, Halts, IsHalt, IsWorking, MayStep, MayWork}
-
-pub none_where : {T : Type 0} (o : Option T) → (IsSome o → ⊥) → o ≡ None
-none_where None never = refl
-none_where (Some x) never = absurd (never refl)
 
 -- what a call that reads did, it did still after one that changes no page and no disk
 pub looks_kept : {failed : Type 0} {d e f : DiskModel} {old middle st : StoreState} → f ≡ e → st ≡ middle → LooksUp failed d e old middle → LooksUp failed d f old st

@@ -1,10 +1,10 @@
 -- The box of a leaf of a page: how many attributes it has, and that it is there.
-use Rattle.std.proofs.Common.{◌≡◌, ℕ, zero, suc, ◌==◌, true, false, cond, List, [], ◌∷◌, length, map, Option, Some, None, IsSome, IfSome, IsTrue, refl, ap, ◌∙◌, arith}
+use Rattle.std.proofs.Common.{◌≡◌, ℕ, zero, suc, ◌==◌, true, false, cond, List, [], ◌∷◌, length, Option, Some, None, IsSome, IfSome, IsTrue, refl, ap, ◌∙◌, arith}
 use Rattle.std.specs.List.{All, Contains, slice_get}
 use Rattle.std.specs.Option.{option_and_then, option_map}
 use Rattle.std.proofs.lemmas.List.Elements.{All-contains, All-head, All-tail, All-weaker}
 use Rattle.hb_space.specs.Boxes.{Area}
-use Rattle.hb_frag.proofs.Facts.Tiles.{leaves_placed, tiles_attributes}
+use Rattle.hb_frag.proofs.Facts.Tiles.{tiles_attributes}
 use Rattle.hb_frag.specs.declared.leaves.Leaf.{Leaf}
 use Rattle.hb_frag.specs.declared.leaves.Leaf.TheVariants.{Records, Child, Sibling}
 use Rattle.hb_frag.specs.declared.pages.LivePage.{LivePage}
@@ -13,7 +13,7 @@ use Rattle.hb_lemmas.proofs.Booleans.{at_itself}
 use Rattle.hb_lemmas.proofs.Lists.{place_member}
 use Rattle.hb_ops.proofs.Facts.PlacedLaws.{placed, sibling_is_leaf}
 use Rattle.hb_consol.specs.ConsolidatorRows.{names_child}
-use Rattle.hb_core.proofs.Files.AskedPages.{first_sibling_among, named_with_box}
+use Rattle.hb_core.proofs.Files.AskedPages.{first_sibling_among, named_with_box, leaf_of_place}
 use Rattle.hb_core.specs.declared.asking.BoxTest.{BoxTest}
 use Rattle.hb_core.specs.declared.asking.BoxTest.TheVariants.{Around}
 use Rattle.hb_core.specs.Asking.{AskedBox, around_box, box_by_leaf, box_of_child, box_of_place, box_of_sibling, first_child_box, this_box}
@@ -87,15 +87,10 @@ child_asks_there page name named =
     let box = some_child name (leaves_of page.frag page.area) leaf.0 leaf.1 in
     (around_box box.0, ap (option_map around_box) box.1)
 
-leaf_there : (xs : List Placed) (place : ℕ) (leaf : Leaf) → slice_get (map (λ (x : Placed). x.leaf) xs) place ≡ Some leaf → (b : Area) × (slice_get xs place ≡ Some (placed leaf b))
-leaf_there [] place leaf is = cc
-leaf_there (x ∷ xs) zero leaf is = let same : x.leaf ≡ leaf = cc in (x.area, ap (λ (l : Leaf). Some (placed l x.area)) same)
-leaf_there (x ∷ xs) (suc place) leaf is = leaf_there xs place leaf is
-
 pub place_asks_there : (page : LivePage) (place name : ℕ) → slice_get (leaves page.frag) place ≡ Some (Sibling name) → Asks (box_of_place (Some page) place)
 place_asks_there page place name is =
-    let there = leaf_there (leaves_of page.frag page.area) place (Sibling name) (ap (λ (ls : List Leaf). slice_get ls place) (leaves_placed page.frag page.area) ∙ is) in
-    (this_box there.0, ap (option_and_then box_by_leaf) there.1)
+    let l = leaf_of_place page.frag page.area place (Sibling name) is in
+    (this_box l.0.area, ap (option_and_then box_by_leaf) l.1 ∙ ap (λ (x : Leaf). box_by_leaf (placed x l.0.area)) l.2)
 
 pub sibling_asks_there : (page : LivePage) (name : ℕ) → IsSome (first_named name (siblings_of page)) → Asks (box_of_sibling (Some page) name)
 sibling_asks_there page name some = by (first_named name (siblings_of page)) some

@@ -1,6 +1,6 @@
 -- The order of points: which compare alike, and what the other way round compares as.
 use Rattle.std.proofs.Common.{◌≡◌, ◌≢◌, true, false, List, ℕ, refl, sym, ap, subst, ◌∙◌}
-use Rattle.std.specs.Ordering.{eq_by_cmp, ordering_reverse}
+use Rattle.std.specs.Ordering.{eq_by_cmp, ordering_reverse, is_eq}
 use Rattle.std.specs.declared.cmp.Ordering.{Ordering}
 use Rattle.std.specs.declared.cmp.Ordering.TheVariants.{Less, Equal}
 use Rattle.std.specs.FinMap.{IsAntisymmetric, nat_cmp-IsAntisymmetric, slice_cmp-IsAntisymmetric}
@@ -14,6 +14,9 @@ exact_points = slice_cmp-IsAntisymmetric nat_cmp-IsAntisymmetric
 
 pub same_point : (p q : List ℕ) → eq_by_cmp point_cmp p q ≡ true → p ≡ q
 same_point p q h = exact_points p q (equal_so _ h)
+
+pub alike : (p q : List ℕ) → p ≡ q → eq_by_cmp point_cmp p q ≡ true
+alike p q same = subst (λ (x : List ℕ). eq_by_cmp point_cmp p x ≡ true) same (ap is_eq (tied_itself nat_list_cmp_total p))
 
 pub other_point : (p q : List ℕ) → p ≢ q → eq_by_cmp point_cmp p q ≡ false
 other_point p q n = elim (eq_by_cmp point_cmp p q) as (λ b. eq_by_cmp point_cmp p q ≡ b → eq_by_cmp point_cmp p q ≡ false) [ true ↦ λ t. absurd (n (same_point p q t)) | false ↦ λ f. f ] refl

@@ -1,11 +1,12 @@
-use Rattle.std.proofs.Common.{refl, arith}
+use Rattle.std.proofs.Common.{refl, arith, sym, ◌∙◌}
 use Rattle.std.proofs.lemmas.Bool.{false≢true}
 use Rattle.hb_latch.specs.declared.entries.Held.{Held}
 use Rattle.hb_latch.proofs.TableViews.{gap_in, share_in, table_insert}
 use Rattle.hb_latch.proofs.Shares.{has_room}
 use Rattle.hb_latch.proofs.KeptEdits.{kept_insert}
-use Rattle.hb_latch.proofs.Conflicts.{named_least, named_refused, none_named, no_one}
+use Rattle.hb_latch.proofs.Conflicts.{named_least, named_refused, none_named}
 use Rattle.hb_latch.proofs.latches.Latches.try_take.Goals as goal
+use Rattle.hb_lemmas.proofs.Options.{none_unless}
 
 pub returns-in-Some-clause-granted : goal.returns-in-Some-clause-granted
 returns-in-Some-clause-granted c =
@@ -30,7 +31,7 @@ invariant_of-self c =
 
 pub returns-clause-granted : goal.returns-clause-granted
 returns-clause-granted c =
-    let free = none_named c.self.inside.held.items c.args.actor c.args.page c.args.mode c.self.invariant.rising (rw c.as_slice.ensures.value at (no_one _ _ c.in_the_way.ensures c.in_default.not-Some)) in
+    let free = none_named c.self.inside.held.items c.args.actor c.args.page c.args.mode c.self.invariant.rising (rw c.as_slice.ensures.value at (sym (none_unless _ c.in_default.not-Some) ∙ c.in_the_way.ensures)) in
     (λ yes. rw (← c.self.view_is) free, λ grantable. refl)
 
 pub returns-clause-taken : goal.returns-clause-taken
