@@ -5,6 +5,7 @@ pub mod PageNumberLaws
 pub mod PartedPageLaws
 pub mod PathLaws
 pub mod PlacedLaws
+pub mod Volumes
 pub mod StemLaws
 pub mod Opened
 pub mod Tips

@@ -97,5 +97,5 @@ walks_go_further further m files actor held page p wanted keeps point holds goal
     further (current_file files) p held wanted.page page (file_sound m files keeps) point there (leads further m files held page p wanted keeps live (m.activity actor) holds goal wants)
 
 -- the places that are settled are the machine's
-same_settled : (d : DiskModel) (c : RunningCore) (m : Machine) → ShowsMachine d c m → settled_count m ≡ mark_of c.store.log.groups (length c.order)
+pub same_settled : (d : DiskModel) (c : RunningCore) (m : Machine) → ShowsMachine d c m → settled_count m ≡ mark_of c.store.log.groups (length c.order)
 same_settled d c m shows = ap (λ (s : StoreState). mark_of s.log.groups (length m.order)) shows.store ∙ ap (mark_of c.store.log.groups) (shown_length d c m shows)

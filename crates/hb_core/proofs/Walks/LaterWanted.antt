@@ -22,7 +22,7 @@ use Rattle.hb_activity.specs.Walks.{goal_of, job_mode, session_mode, walk_held}
 use Rattle.hb_activity.specs.Wanting.{child_of, in_mode, named_child, named_page, walk_next, wanted_of, wanted_page}
 use Rattle.hb_consol.specs.ConsolidatorRows.{names_child}
 use Rattle.hb_core.proofs.Files.AskedPages.{first_among, first_sibling_among, named_with_box}
-use Rattle.hb_core.proofs.Walks.Volumes.{sibling_fewer}
+use Rattle.hb_ops.proofs.Facts.Volumes.{sibling_fewer}
 use Rattle.hb_core.specs.Asking.{looked_live}
 use Rattle.hb_core.specs.Keeps.{HasSoundFile, LatchesFit, WalksInSpace}
 use Rattle.hb_core.specs.KeptMerges.{AtParent, NamesKnown, PairHeld, merging_at}

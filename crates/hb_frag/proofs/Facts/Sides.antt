@@ -5,6 +5,7 @@ use Rattle.std.proofs.lemmas.Bool.Decides.{nat_tests}
 use Rattle.hb_space.specs.Boxes.{Area, IsArea, Holds, Cuts, holds, side_below, side_from}
 use Rattle.hb_space.proofs.Facts.Lists.{set_cases, IsPoint-set}
 use Rattle.hb_space.proofs.Facts.Boxes.{Holds-from_test, Holds-side_below, Holds-side_from}
+pub use Rattle.hb_space.proofs.Facts.Boxes.{test-from_Holds as held_test}
 
 -- a box that doesn't hold the point fails its test
 pub failed_test : (a : Area) (p : List ℕ) → (Holds a p → ⊥) → holds a p ≡ false

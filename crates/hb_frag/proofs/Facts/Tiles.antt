@@ -2,7 +2,7 @@
 use Rattle.std.proofs.Common.{◌≡◌, ℕ, zero, suc, ◌<◌, ◌⊎◌, inl, inr, ◌↔◌, true, false, cond, List, [], ◌∷◌, ◌++◌, length, get_or, map, Some, IsSome, refl, sym, ap, subst, ◌∙◌, arith}
 use Rattle.std.specs.List.{All, Any, AllPairs, Contains}
 use Rattle.std.proofs.lemmas.List.{map-append}
-use Rattle.std.proofs.lemmas.List.Elements.{All-append}
+use Rattle.std.proofs.lemmas.List.Elements.{All-append, All-head}
 use Rattle.hb_space.specs.Boxes.{Area, IsArea, Holds, Within, Disjoint, holds, side_below, side_from}
 use Rattle.hb_space.proofs.Facts.Boxes.{Holds-side_below, Holds-side_from, side_cover, Holds-from_test, Within-from_points, test-from_Holds}
 use Rattle.hb_frag.specs.declared.leaves.Leaf.{Leaf}
@@ -10,7 +10,7 @@ use Rattle.hb_frag.specs.Trees.{Tree, Tip, Cut}
 use Rattle.hb_frag.specs.Leaves.{Placed, IsWellCut, first_at, leaves_of, leaves, with_leaf_at}
 use Rattle.hb_frag.specs.Laws.{changed_at}
 use Rattle.hb_frag.proofs.Facts.Sides.{IsArea-side_below, IsArea-side_from, same-side_from}
-use Rattle.hb_lemmas.proofs.Lists.{All-alone}
+use Rattle.hb_lemmas.proofs.Lists.{All-alone, All-parts}
 
 -- some leaf's box holds the point
 abbrev pub SomeLeaf : List ℕ → List Placed → Type 0
@@ -183,6 +183,13 @@ leaves_placed (Cut axis value left right) area =
     let below = leaves_placed left (side_below area axis value) in
     let from = leaves_placed right (side_from area axis value) in
     rw (map-append (λ (l : Placed). l.leaf) (leaves_of left (side_below area axis value)) (leaves_of right (side_from area axis value))) (cc (below, from))
+
+-- what all leaves are, they are with their boxes
+pub placed_all : (P : Leaf → Type 0) (t : Tree) (area : Area) → All P (leaves t) → All (λ (l : Placed). P l.leaf) (leaves_of t area)
+placed_all P (Tip leaf) area all = All-alone (λ (l : Placed). P l.leaf) (record { leaf = leaf; area = area }) (All-head P leaf [] all)
+placed_all P (Cut axis value left right) area all =
+    let both = (All-parts P (leaves left) (leaves right)).0 all in
+    All-append (λ (l : Placed). P l.leaf) (leaves_of left (side_below area axis value)) (leaves_of right (side_from area axis value)) (placed_all P left (side_below area axis value) both.0) (placed_all P right (side_from area axis value) both.1)
 
 -- a change at a point changes the leaf there, and no cut
 pub leaves_changed : (t : Tree) (area : Area) (p : List ℕ) (change : Leaf → Leaf) → leaves_of (with_leaf_at p change t area) area ≡ map (changed_at p change) (leaves_of t area)
