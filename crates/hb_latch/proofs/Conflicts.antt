@@ -12,8 +12,9 @@ use Rattle.hb_latch.specs.declared.entries.Held.{Held}
 use Rattle.hb_latch.specs.Modes.{goes_beside}
 use Rattle.hb_latch.specs.Tables.{latch_cmp, mode_at, IsGrantable, KeepsFrom, IsLeastInTheWay}
 use Rattle.hb_latch.specs.Entries.{key_of, conflicts}
-use Rattle.hb_latch.proofs.KeyPlaces.{KeysRise, rise_at, place_found}
-use Rattle.hb_latch.proofs.TableViews.{table_of, get_is, get_at}
+use Rattle.hb_latch.proofs.TableViews.{table_of, mode_of, KeysRise}
+use Rattle.hb_lemmas.proofs.SortedEntries.{get_at, get_is, place_found, rise_at}
+use Rattle.hb_latch.proofs.Facts.KeyOrder.{latch_order, exact_keys}
 
 -- the first that passes: it passes, and none before it does
 pub record IsFirstAt (p : Held → Bool) (hs : List Held) (h : Held) : Type 0 where
@@ -83,14 +84,14 @@ first_rises k l less =
 
 actors_rise : (hs : List Held) (i j : ℕ) (d : Held) → KeysRise hs → i ≤ j → j < length hs → (get_or hs i d).actor ≤ (get_or hs j d).actor
 actors_rise hs i j d rise le in_range = elim (cases_lt i j) [
-  | inl lt ↦ first_rises (key_of (get_or hs i d)) (key_of (get_or hs j d)) (rise_at hs rise i j d lt in_range)
+  | inl lt ↦ first_rises (key_of (get_or hs i d)) (key_of (get_or hs j d)) (rise_at latch_order key_of mode_of hs rise i j d lt in_range)
   | inr ge ↦ let same : i ≡ j = omega arith in omega (arith, ap (λ (k : ℕ). (get_or hs k d).actor) same)
 ]
 
 -- a latch at a place, as the table tells it
 get_place : (hs : List Held) (page : ℕ) (h : Held) (i : ℕ) → KeysRise hs → i < length hs → ((d : Held) → get_or hs i d ≡ h) → h.page ≡ page → mode_at (table_of hs) h.actor page ≡ Some h.mode
 get_place hs page h i rise in_range is page_is =
-    get_at hs (h.actor, page) i h rise (record { in_range = in_range; same_key = λ d. ap key_of (is d) ∙ ap (λ (p : ℕ). (h.actor, p)) page_is })
+    get_at latch_order key_of mode_of hs (h.actor, page) i h rise (record { in_range = in_range; same_key = λ d. ap key_of (is d) ∙ ap (λ (p : ℕ). (h.actor, p)) page_is })
     ∙ ap (λ (x : Held). Some x.mode) (is h)
 
 -- who keeps the actor from the page has a latch in the list that conflicts
@@ -99,7 +100,7 @@ against_at hs actor page mode other d rise keeps =
     elim (mode_at (table_of hs) other page) as (λ o. mode_at (table_of hs) other page ≡ o → IsSomeAnd o (λ held. ¬ (IsTrue (goes_beside mode held))) → (i : ℕ) × (i < length hs) × (key_of (get_or hs i d) ≡ (other, page)) × (conflicts actor page mode (get_or hs i d) ≡ true)) [
       | None ↦ λ is no. absurd no
       | Some held ↦ λ is apart.
-          let at = place_found hs (other, page) held d (sym (get_is hs (other, page) rise) ∙ is) in (
+          let at = place_found latch_order key_of mode_of exact_keys hs (other, page) held d (sym (get_is latch_order key_of mode_of hs (other, page) rise) ∙ is) in (
             at.0,
             at.1,
             at.2,

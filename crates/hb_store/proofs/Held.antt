@@ -1,9 +1,8 @@
 -- Numbers as they are held in memory, and as contracts see them.
-use Rattle.std.proofs.Common.{◌≡◌, ℕ, List, [], ◌∷◌, map, false, refl, sym, ap, ◌∙◌}
-use Rattle.std.specs.Prelude.{nat_eq, ◌||◌}
-use Rattle.std.specs.List.{list_any}
-use Rattle.std.specs.Ordering.{nat_cmp, eq_by_cmp}
-use Rattle.std.specs.Cmp.{nat_cmp_total, unsigned_tied}
+use Rattle.std.proofs.Common.{◌≡◌, ℕ, List, [], map, false, sym, ap, ◌∙◌}
+use Rattle.std.specs.Prelude.{nat_eq}
+use Rattle.std.specs.Ordering.{nat_cmp}
+use Rattle.std.specs.Cmp.{nat_cmp_total}
 use Rattle.std.specs.FinMap as finite
 use Rattle.std.specs.FinSet as set
 use Rattle.std.specs.HashSet as bag
@@ -19,10 +18,7 @@ use Rattle.hb_store.specs.Inside.{dirty_in, pages_in}
 use Rattle.hb_store.specs.Making.{group_here, page_images_needed}
 use Rattle.hb_store.specs.States.{StoreState, in_memory, new_state}
 use Rattle.hb_store.proofs.Framed.{held_of}
-
-any_same : (ks : List ℕ) (q : ℕ) → list_any (eq_by_cmp nat_cmp q) ks ≡ list_any (nat_eq q) ks
-any_same [] q = refl
-any_same (k ∷ ks) q = λ i. unsigned_tied q k i || any_same ks q i
+use Rattle.hb_lemmas.proofs.Maps.{any_same}
 
 module _ {S : Type 0} where
   abbrev pub set_of : bag.HashSet ℕ S → set.FinSet nat_cmp

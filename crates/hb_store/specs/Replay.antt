@@ -1,5 +1,5 @@
 -- What the groups of a log make of the pages that they touch.
-use Rattle.std.specs.Prelude.{ℕ, ◌≤◌, ◌==◌, List, [], ◌∷◌, get_or, All, Option, None, Bool, false, ◌||◌}
+use Rattle.std.specs.Prelude.{ℕ, ◌≤◌, ◌==◌, List, [], ◌∷◌, get_or, All, Option, None, Bool}
 use Rattle.hb_frag.specs.declared.pages.LivePage.{LivePage}
 use Rattle.hb_frag.specs.declared.pages.Page.{Page}
 use Rattle.hb_layout.specs.declared.meta.Meta.{Meta}
@@ -8,6 +8,7 @@ use Rattle.hb_ops.specs.Files.{if_live}
 use Rattle.hb_ops.specs.SetPages.{set_pages}
 use Rattle.hb_ops.specs.Operations.{Change, IsAllowedOn, change_of, reads_of}
 use Rattle.hb_log_codec.specs.Groups.{Logged}
+use Rattle.std.specs.List.{list_any}
 
 -- What the file says of itself, and the pages that were touched so far.
 pub record Replayed : Type 0 where
@@ -20,8 +21,7 @@ untouched meta = record { meta = meta; page = λ id. None }
 
 -- whether a number is one of these
 abbrev pub is_among : ℕ → List ℕ → Bool
-is_among q [] = false
-is_among q (id ∷ rest) = (q == id) || is_among q rest
+is_among q ids = list_any (λ id. q == id) ids
 
 abbrev pub with_page_images : Replayed → Logged → Replayed
 with_page_images t g = record { meta = t.meta; page = set_pages g.images t.page }

@@ -3,7 +3,7 @@ use Rattle.std.proofs.Common.{◌≡◌, ℕ, suc, ◌-◌, ◌==◌, IsTrue, tr
 use Rattle.std.specs.List.{Contains, slice_get}
 use Rattle.std.specs.Option.{option_and_then, option_map}
 use Rattle.std.proofs.lemmas.Bool.{eqb-true}
-use Rattle.hb_lemmas.proofs.Lists.{place_member, later_member, mapped_place}
+use Rattle.hb_lemmas.proofs.Lists.{place_member, mapped_place}
 use Rattle.hb_frag.specs.declared.leaves.Leaf.{Leaf}
 use Rattle.hb_frag.specs.declared.leaves.Leaf.TheVariants.{Records, Child, Sibling}
 use Rattle.hb_frag.specs.declared.pages.LivePage.{LivePage}
@@ -15,11 +15,11 @@ use Rattle.hb_activity.specs.Wanting.{child_of, in_mode, named_child, named_page
 use Rattle.hb_consol.specs.ConsolidatorRows.{names_child}
 use Rattle.hb_core.specs.Asking.{AskedBox, HasAskedBox, around_box, box_at, box_by_leaf, box_of_child, box_of_place, box_of_sibling, first_child_box, this_box}
 use Rattle.hb_frag.proofs.Facts.Tiles.{leaves_placed}
-use Rattle.hb_frag.specs.Leaves.{Placed, first_at, first_named, leaf_at, leaves, leaves_of, siblings_of}
+use Rattle.hb_frag.specs.Leaves.{Placed, first_at, first_named, leaf_at, leaves, leaves_of, siblings_of, children}
 use Rattle.hb_frag.specs.Trees.{Tree}
 use Rattle.hb_ops.proofs.Facts.NamedChildren.{named_leaf}
 use Rattle.hb_ops.specs.Files.{FileState, live_page}
-use Rattle.hb_ops.proofs.Facts.PlacedLaws.{leaf_is_sibling, placed, placed_leaf}
+use Rattle.hb_ops.proofs.Facts.PlacedLaws.{leaf_is_sibling, placed, placed_leaf, listed_child}
 use Rattle.hb_ops.specs.Sound.{IsSound}
 use Rattle.hb_space.specs.Boxes.{Area, holds, whole_area}
 
@@ -120,29 +120,18 @@ module _ (s : FileState) (sound : IsSound s) where
 
 -- ---- the pages that a consolidator asks for
 
-first_child_at : (name : ℕ) (leaf : Leaf) (b : Area) (xs : List Placed) (area : Area) → (first_child_box name xs ≡ Some area → Contains xs (placed (Child name) area))
-    → first_child_box name (placed leaf b ∷ xs) ≡ Some area → Contains (placed leaf b ∷ xs) (placed (Child name) area)
-first_child_at name (Records records) b xs area later e = later_member (placed (Records records) b) xs (placed (Child name) area) (later e)
-first_child_at name (Sibling page) b xs area later e = later_member (placed (Sibling page) b) xs (placed (Child name) area) (later e)
-first_child_at name (Child page) b xs area later e =
-    elim (page == name) as (λ t. (page == name) ≡ t → cond t (Some b) (first_child_box name xs) ≡ Some area → Contains (placed (Child page) b ∷ xs) (placed (Child name) area)) [
-      | true ↦ λ same e. (0, omega arith, let one : b ≡ area = cc in ap (λ (n : ℕ). placed (Child n) b) (eqb-true page name same) ∙ ap (placed (Child name)) one)
-      | false ↦ λ other e. later_member (placed (Child page) b) xs (placed (Child name) area) (later e)
-    ] refl e
-
--- the box of the first child leaf of a name is one of such a leaf
-first_child_among : (name : ℕ) (xs : List Placed) (area : Area) → first_child_box name xs ≡ Some area → Contains xs (placed (Child name) area)
-first_child_among name [] area is = cc
-first_child_among name (x ∷ xs) area is = first_child_at name x.leaf x.area xs area (first_child_among name xs area) is
-
--- the first box of a name is one of a sibling leaf
-pub first_sibling_among : (name : ℕ) (xs : List (ℕ × Area)) (area : Area) → first_named name xs ≡ Some area → Contains xs (name, area)
-first_sibling_among name [] area is = cc
-first_sibling_among name (x ∷ xs) area is =
+-- the first box of a name is one of the boxes
+pub first_box_among : (name : ℕ) (xs : List (ℕ × Area)) (area : Area) → first_named name xs ≡ Some area → Contains xs (name, area)
+first_box_among name [] area is = cc
+first_box_among name (x ∷ xs) area is =
     elim (x.0 == name) as (λ t. (x.0 == name) ≡ t → cond t (Some x.1) (first_named name xs) ≡ Some area → Contains (x ∷ xs) (name, area)) [
       | true ↦ λ same e. (0, omega arith, let one : x.1 ≡ area = cc in λ i. (eqb-true x.0 name same i, one i))
-      | false ↦ λ other e. let more = first_sibling_among name xs area e in (suc more.0, omega (arith, more.1), more.2)
+      | false ↦ λ other e. let more = first_box_among name xs area e in (suc more.0, omega (arith, more.1), more.2)
     ] refl is
+
+-- so the box of the first child leaf of a name is one of such a leaf
+pub first_child_among : (name : ℕ) (xs : List Placed) (area : Area) → first_child_box name xs ≡ Some area → Contains xs (placed (Child name) area)
+first_child_among name xs area is = listed_child xs name area (first_box_among name (children xs) area is)
 
 -- the leaf of a place, without its box and with it
 pub leaf_of_place : (t : Tree) (area : Area) (place : ℕ) (leaf : Leaf) → slice_get (leaves t) place ≡ Some leaf → (l : Placed) × (slice_get (leaves_of t area) place ≡ Some l) × (l.leaf ≡ leaf)
@@ -174,7 +163,7 @@ module _ (s : FileState) (sound : IsSound s) (id : ℕ) (page : LivePage) (live 
       by : (o : Option Area) → first_named name (siblings_of page) ≡ o → option_map this_box o ≡ Some asked → IsThere s wanted asked
       by None is asks = cc
       by (Some area) is asks =
-          let named = sound.siblings id page name area live (first_sibling_among name (siblings_of page) area is) in
+          let named = sound.siblings id page name area live (first_box_among name (siblings_of page) area is) in
           found s sound name level mode wanted (this_box area) asked named.0 wants (let same : this_box area ≡ asked = cc in same) named.1 (named.2 ∙ on) named.3
 
 -- a child that a page names, with the box of a leaf

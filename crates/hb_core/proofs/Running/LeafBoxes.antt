@@ -2,7 +2,7 @@
 use Rattle.std.proofs.Common.{◌≡◌, ℕ, zero, suc, ◌==◌, true, false, cond, List, [], ◌∷◌, length, Option, Some, None, IsSome, IfSome, IsTrue, refl, ap, ◌∙◌, arith}
 use Rattle.std.specs.List.{All, Contains, slice_get}
 use Rattle.std.specs.Option.{option_and_then, option_map}
-use Rattle.std.proofs.lemmas.List.Elements.{All-contains, All-head, All-tail, All-weaker}
+use Rattle.std.proofs.lemmas.List.Elements.{All-contains, All-weaker}
 use Rattle.hb_space.specs.Boxes.{Area}
 use Rattle.hb_frag.proofs.Facts.Tiles.{tiles_attributes}
 use Rattle.hb_frag.specs.declared.leaves.Leaf.{Leaf}
@@ -13,10 +13,11 @@ use Rattle.hb_lemmas.proofs.Booleans.{at_itself}
 use Rattle.hb_lemmas.proofs.Lists.{place_member}
 use Rattle.hb_ops.proofs.Facts.PlacedLaws.{placed, sibling_is_leaf}
 use Rattle.hb_consol.specs.ConsolidatorRows.{names_child}
-use Rattle.hb_core.proofs.Files.AskedPages.{first_sibling_among, named_with_box, leaf_of_place}
+use Rattle.hb_core.proofs.Files.AskedPages.{first_box_among, named_with_box, leaf_of_place, first_child_among}
 use Rattle.hb_core.specs.declared.asking.BoxTest.{BoxTest}
 use Rattle.hb_core.specs.declared.asking.BoxTest.TheVariants.{Around}
 use Rattle.hb_core.specs.Asking.{AskedBox, around_box, box_by_leaf, box_of_child, box_of_place, box_of_sibling, first_child_box, this_box}
+use Rattle.hb_lemmas.proofs.Options.{if_value}
 
 -- ---- how many attributes it has
 
@@ -31,13 +32,7 @@ module _ (k : ℕ) where
   all_many page many = All-weaker (λ (l : Placed). length l.area.lo ≡ length page.area.lo) IsMany (λ l long. long ∙ many) (leaves_of page.frag page.area) (tiles_attributes page.frag page.area)
 
   first_many : (name : ℕ) (xs : List Placed) → All IsMany xs → IfSome (first_child_box name xs) (λ area. length area.lo ≡ k)
-  first_many name [] all = tt
-  first_many name (x ∷ xs) all = by x.leaf x.area (All-head IsMany x xs all) (first_many name xs (All-tail IsMany x xs all))
-    where
-      by : (leaf : Leaf) (area : Area) → length area.lo ≡ k → IfSome (first_child_box name xs) (λ area. length area.lo ≡ k) → IfSome (first_child_box name (placed leaf area ∷ xs)) (λ area. length area.lo ≡ k)
-      by (Records records) area here later = later
-      by (Sibling page) area here later = later
-      by (Child page) area here later = elim (page == name) as (λ b. IfSome (cond b (Some area) (first_child_box name xs)) (λ area. length area.lo ≡ k)) [ true ↦ here | false ↦ later ]
+  first_many name xs all = if_value (first_child_box name xs) (λ area. length area.lo ≡ k) (λ area is. All-contains IsMany xs (placed (Child name) area) all (first_child_among name xs area is))
 
   with_test : (test : BoxTest) (o : Option Area) → IfSome o (λ area. length area.lo ≡ k) → HasMany (option_map (λ (area : Area). record { area = area; test = test }) o)
   with_test test None many = tt
@@ -63,7 +58,7 @@ module _ (k : ℕ) where
     where
       by : (o : Option Area) → first_named name (siblings_of page) ≡ o → HasMany (option_map this_box o)
       by None is = tt
-      by (Some area) is = All-contains IsMany (leaves_of page.frag page.area) (placed (Sibling name) area) (all_many page many) (sibling_is_leaf (leaves_of page.frag page.area) name area (first_sibling_among name (siblings_of page) area is))
+      by (Some area) is = All-contains IsMany (leaves_of page.frag page.area) (placed (Sibling name) area) (all_many page many) (sibling_is_leaf (leaves_of page.frag page.area) name area (first_box_among name (siblings_of page) area is))
 
 -- ---- that it is there
 

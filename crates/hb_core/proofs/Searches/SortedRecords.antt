@@ -14,11 +14,13 @@ use Rattle.hb_frag.specs.Rules.{Precedes}
 use Rattle.hb_lemmas.proofs.Lists.{each_member, filter_has, filter_keeps, later_member, member_cases, no_member}
 use Rattle.hb_set.specs.Machine.{RecordSet, record_of, set_records}
 use Rattle.hb_space.proofs.Facts.Boxes.{Holds-from_test, test-from_Holds}
-use Rattle.hb_space.proofs.Facts.PointOrder.{not_itself, same_point, alike}
+use Rattle.hb_space.proofs.Facts.PointOrder.{not_itself, same_point}
 use Rattle.hb_space.specs.Boxes.{Area, Holds, IsArea, holds}
 use Rattle.hb_space.specs.Points.{point_cmp}
 use Rattle.hb_space.specs.declared.records.Record.{Record}
 use Rattle.hb_core.specs.KeptSearches.{IsAmong}
+use Rattle.hb_lemmas.proofs.Orderings.{alike}
+use Rattle.std.proofs.lemmas.Cmp.{nat_list_cmp_total}
 
 -- ---- what a filter keeps
 
@@ -70,7 +72,7 @@ member_found : (es : List (List ℕ × List ℕ)) (r : Record) → Rise (map rec
 member_found [] r up there = absurd (no_member r there)
 member_found (e ∷ es) r up there = elim (member_cases (record_of e) (map record_of es) r there) [
   | inl same ↦
-      let tied = alike r.key e.0 (ap (λ (s : Record). s.key) (sym same)) in
+      let tied = alike nat_list_cmp_total r.key e.0 (ap (λ (s : Record). s.key) (sym same)) in
       ap (λ (b : Bool). cond b (Some e.1) (find point_cmp r.key es)) tied ∙ ap (λ (s : Record). Some s.body) same
   | inr later ↦ elim (cases_Bool (eq_by_cmp point_cmp r.key e.0)) [
     | inl here ↦ absurd (not_itself e.0 r.key (sym (same_point r.key e.0 here)) (All-contains (Precedes (record_of e)) (map record_of es) r (ahead (record_of e) (map record_of es) up) later))

@@ -23,7 +23,7 @@ use Rattle.hb_activity.specs.Waiting.{IsLater}
 use Rattle.hb_activity.specs.Walks.{goal_of, job_mode, session_mode, walk_held}
 use Rattle.hb_activity.specs.Wanting.{child_of, in_mode, named_child, named_page, walk_next, wanted_of, wanted_page}
 use Rattle.hb_consol.specs.ConsolidatorRows.{names_child}
-use Rattle.hb_core.proofs.Files.AskedPages.{first_among, first_sibling_among, leaf_of_place}
+use Rattle.hb_core.proofs.Files.AskedPages.{first_among, first_box_among, leaf_of_place}
 use Rattle.hb_core.proofs.Memory.BroughtPages.{own_there}
 use Rattle.hb_core.proofs.Latches.LatchesStay.{walk_latched}
 use Rattle.hb_core.proofs.Table.MergerMoves.{of_page}
@@ -120,7 +120,7 @@ module _ (meta : Meta) (held : LivePage) (good : IsGoodPage meta (Live held)) (p
     where
       by : (o : Option Area) → first_named name (siblings_of held) ≡ o → IsSome o → HasBox (option_map this_box o) → IsLater held page
       by None found some box = cc
-      by (Some area) found some box = sibling_found name area (first_sibling_among name (siblings_of held) area found) on box
+      by (Some area) found some box = sibling_found name area (first_box_among name (siblings_of held) area found) on box
 
 -- ---- the latches of an actor
 
