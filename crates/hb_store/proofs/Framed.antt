@@ -137,6 +137,9 @@ pub frame_and : (frames : List (Frame (List ℕ))) (id : ℕ) (P : Use → Type 
 frame_and frames id P there =
     by (frame_of frames id) refl (let Q : Option Use → Type 0 = λ o. IsSomeAnd o P in subst Q ((frames_told frames).0 id) there)
   where
+    by : (o : Option (Frame (List ℕ))) → frame_of frames id ≡ o → IsSomeAnd (option_map use_of o) P → (f : Frame (List ℕ)) × (frame_of frames id ≡ Some f) × P (use_of f)
+    by None is h = absurd h
+    by (Some f) is h = (f, is, h)
 
 pub none_framed : (frames : List (Frame (List ℕ))) (id : ℕ) → in_frame frames id ≡ None → frame_of frames id ≡ None
 none_framed frames id none = none_mapped (λ (f : Frame (List ℕ)). page_spelled f.bytes) (frame_of frames id) none
