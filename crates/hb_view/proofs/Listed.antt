@@ -3,11 +3,12 @@ use Rattle.std.proofs.Common.{◌≡◌, ℕ, suc, ◌+◌, ◌-◌, ◌<◌, �
 use Rattle.hb_space.specs.declared.records.Record.{Record}
 use Rattle.hb_page_codec.specs.Reading.{many_at}
 use Rattle.hb_page_codec.specs.ReadingFields.{record_at, records_at}
-use Rattle.hb_view.specs.Lists.{records_there, list_or, after_there, after_or}
+use Rattle.hb_view.specs.Lists.{records_there, after_there}
 use Rattle.hb_view.specs.Views.{FindsAmong}
 use Rattle.hb_lemmas.specs.Options.{◌>>=◌}
 use Rattle.hb_lemmas.proofs.Numbers.{one_left}
 use Rattle.hb_lemmas.proofs.Options.{not_there}
+use Rattle.hb_view.specs.Behind.{after_or, list_or}
 
 -- the first of some records, and the others
 pub record IsFirst (k m : ℕ) (bytes : List ℕ) (r : Record) (after : List ℕ) : Type 0 where

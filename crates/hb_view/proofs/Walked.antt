@@ -13,11 +13,12 @@ use Rattle.hb_frag.proofs.Facts.Sides.{IsArea-side_below, IsArea-side_from}
 use Rattle.hb_page_codec.specs.Reading.{many_at}
 use Rattle.hb_page_codec.specs.ReadingFields.{record_at}
 use Rattle.hb_view.specs.declared.leaves.LeafView.{LeafView}
-use Rattle.hb_view.specs.Lists.{records_there, list_or}
+use Rattle.hb_view.specs.Lists.{records_there}
 use Rattle.hb_view.specs.Roots.{tree_there, rest_there, IsCutAt, IsListAt}
 use Rattle.hb_view.specs.Views.{leaf_view, ShowsLeaf, TellsBody, FindsAmong}
 use Rattle.hb_lemmas.proofs.Options.{bind_some}
 use Rattle.hb_lemmas.specs.Options.{◌>>=◌}
+use Rattle.hb_view.specs.Behind.{list_or}
 
 -- ---- the leaf at a point
 

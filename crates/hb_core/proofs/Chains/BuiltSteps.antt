@@ -5,7 +5,7 @@ use Rattle.std.proofs.lemmas.Bool.{leb-true}
 use Rattle.std.specs.Prelude.{◌||◌, ◌+◌, ◌*◌, ◌%◌}
 use Rattle.std.specs.FinMap as finite
 use Rattle.hb_space.specs.declared.form.TheConstants.{PAGE}
-use Rattle.std.specs.Option.{option_and_then}
+use Rattle.std.specs.Option.{option_and_then, option_to_list}
 use Rattle.hb_frag.specs.declared.pages.LivePage.{LivePage}
 use Rattle.hb_frag.specs.declared.pages.Page.{Page}
 use Rattle.hb_ops.specs.declared.operations.Op.{Op}
@@ -24,7 +24,7 @@ use Rattle.hb_activity.specs.Wanting.{wanted_of}
 use Rattle.hb_core.proofs.Chains.WrittenTables.{add_numbers, add_pages, among_in_log, entry_at, grants, hinders, is_another, is_clear, is_earlier, map_has, mode_in, pages_set, relatched, relatches, set_all, set_entry, set_has, standing_set, among_pages}
 use Rattle.hb_core.specs.Acting.{takes_number}
 use Rattle.hb_core.specs.Asking.{AskedBox, HasAskedBox, HasWayFree, asked_box, looked_page, wanted_by}
-use Rattle.hb_core.specs.Machines.{Files, if_some, live_here}
+use Rattle.hb_core.specs.Machines.{Files, live_here}
 use Rattle.hb_core.specs.Performing.{DoesOp, MayDo, Performs, Relatches, files_after, given_by, ChangesQueue, outcome_of, PerformsAsItIs, latches_held}
 use Rattle.hb_core.specs.Rows.{IsAtHand, Row}
 use Rattle.hb_core.specs.Scenes.{Scene, machine_of, standing, store_of, uses_in}
@@ -162,7 +162,7 @@ after pages actor deed jobs s = let t = once_done deed.op s in record t {
   at_work = set_entry actor deed.next s.at_work;
   latched = relatched actor (held_in t deed.next) s.latched;
   jobs = jobs;
-  order = s.order ++ if_some deed.joins;
+  order = s.order ++ option_to_list deed.joins;
   pages = pages;
 }
 
