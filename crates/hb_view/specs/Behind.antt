@@ -4,6 +4,7 @@ use Rattle.std.specs.Prelude.{ℕ, zero, suc, List, [], ◌∷◌, Option, Some,
 use Rattle.hb_page_codec.specs.Reading.{number_at}
 use Rattle.hb_page_codec.specs.ReadingFields.{area_at, axis_at, body_at, count_at, point_at, records_at}
 use Rattle.hb_page_codec.specs.ReadingPages.{head_at, tree_at}
+use Rattle.hb_lemmas.specs.Options.{◌>>=◌}
 
 -- the bytes behind what was read
 abbrev pub behind : {A : Type 0} → Option (A × List ℕ) → Option (List ℕ)

@@ -10,6 +10,7 @@ use Rattle.hb_page_codec.specs.ReadingPages.{tree_at}
 use Rattle.hb_view.specs.declared.roots.Root.{Root}
 use Rattle.hb_view.specs.declared.roots.Root.TheVariants as roots
 use Rattle.hb_view.specs.Behind.{after_or}
+use Rattle.hb_lemmas.specs.Options.{◌>>=◌}
 
 -- the tree at the front of the bytes, where one stands there
 abbrev pub tree_or : Option (Tree × List ℕ) → Tree
