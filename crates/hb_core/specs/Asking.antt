@@ -1,7 +1,6 @@
 -- Which page a step asks for, and what it tests of that page before it latches it.
 use Rattle.std.specs.Prelude.{◌≡◌, ◌≢◌, ℕ, List, slice_get, Option, Some, None, IfSome, IsSomeAnd}
 use Rattle.std.specs.Option.{option_and_then, option_map}
-use Rattle.hb_frag.specs.declared.leaves.Leaf.{Leaf}
 use Rattle.hb_frag.specs.declared.leaves.Leaf.TheVariants.{Records, Child, Sibling}
 use Rattle.hb_frag.specs.declared.pages.LivePage.{LivePage}
 use Rattle.hb_frag.specs.declared.pages.Page.{Page}
@@ -24,6 +23,7 @@ use Rattle.hb_space.specs.Boxes.{Area, Within, whole_area}
 use Rattle.hb_store.specs.States.{StoreState}
 use Rattle.hb_view.specs.declared.leaves.LeafView.{LeafView}
 use Rattle.hb_view.specs.declared.leaves.LeafView.TheVariants as views
+use Rattle.hb_view.specs.Views.{leaf_view}
 
 -- The page into which the next step of an activity looks to tell which latch it wants: the one that a walk holds, the
 -- page to keep where a merge is tried, or the parent.
@@ -60,20 +60,14 @@ this_box area = record { area = area; test = Exactly }
 abbrev pub around_box : Area → AskedBox
 around_box area = record { area = area; test = Around }
 
--- the page that a leaf names: a sibling has the leaf's box, a child has it within its own
-abbrev pub box_by_leaf : Placed → Option AskedBox
-box_by_leaf placed = by placed.leaf placed.area
-  where
-    by : Leaf → Area → Option AskedBox
-    by (Records records) area = None
-    by (Child page) area = Some (around_box area)
-    by (Sibling page) area = Some (this_box area)
-
--- so by a leaf that was seen without its records, and its box
+-- the page that a leaf names, which was seen without its records: a sibling has the leaf's box, a child has it within its own
 abbrev pub box_by_view : LeafView → Area → Option AskedBox
 box_by_view views.Records area = None
 box_by_view (views.Child page) area = Some (around_box area)
 box_by_view (views.Sibling page) area = Some (this_box area)
+
+abbrev pub box_by_leaf : Placed → Option AskedBox
+box_by_leaf placed = box_by_view (leaf_view placed.leaf) placed.area
 
 -- the page that a page's leaf at a point names
 abbrev pub box_at : Option LivePage → Option (List ℕ) → Option AskedBox

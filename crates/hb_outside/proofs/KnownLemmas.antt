@@ -3,7 +3,7 @@ use Rattle.std.proofs.Common.{ℕ, ◌+◌, ◌-◌, List, ◌++◌, length, tak
 use Rattle.std.proofs.lemmas.List.{take-append-drop, take_rest}
 use Rattle.std.proofs.Math.Seq.{take-add}
 use Rattle.std.specs.Io.KnownBytes.{Keeps, Appends}
-use Rattle.hb_outside.specs.Streams.{AppendsFront}
+use Rattle.hb_outside.specs.Told.{AppendsSome}
 
 -- writes one after another
 pub Appends-Appends : (a b c : Option (List ℕ)) (front back : List ℕ) → Appends a b front → Appends b c back → Appends a c (front ++ back)
@@ -27,5 +27,5 @@ Appends-more a b c piece at n h k =
     subst (λ (bytes : List ℕ). Appends a c bytes) (sym (take-add at n piece)) (Appends-Appends a b c (take at piece) (take n (drop at piece)) h rest)
 
 -- what was written so far is a front of the piece
-pub AppendsFront-taken : (a b : Option (List ℕ)) (piece : List ℕ) (at : ℕ) → Appends a b (take at piece) → AppendsFront a b piece
-AppendsFront-taken a b piece at h = (take at piece, (drop at piece, take-append-drop at piece), h)
+pub AppendsSome-front : (a b : Option (List ℕ)) (piece : List ℕ) (at : ℕ) → Appends a b (take at piece) → AppendsSome a b piece
+AppendsSome-front a b piece at h = (take at piece, (drop at piece, take-append-drop at piece), h)

@@ -3,8 +3,7 @@ ghost use Rattle.std.specs.Prelude.{◌≡◌, None, Some, IsTrue, IsSome, IfSom
 ghost use Rattle.std.specs.Io.KnownBytes.{Appends as WriterAppends, Keeps};
 ghost use Rattle.hb_outside.specs.Calls.{Puts};
 ghost use Rattle.hb_outside.specs.Memory.{next_count};
-ghost use Rattle.hb_outside.specs.Told.{told_sink};
-ghost use Rattle.hb_outside.specs.Streams.{AppendsFront};
+ghost use Rattle.hb_outside.specs.Told.{told_sink, AppendsSome};
 
 use crate::traits::{Failed, Sink};
 use std::io::{ErrorKind, Write};
@@ -93,7 +92,7 @@ impl<W: Write> Sink for WriteSink<W> {
         ensures wrote { OnOk result
             (WriterAppends (W.contents self.old.inner) (W.contents self.new.inner) piece.now) }
         ensures front { OnErr result
-            (AppendsFront (W.contents self.old.inner) (W.contents self.new.inner) piece.now) }
+            (AppendsSome (W.contents self.old.inner) (W.contents self.new.inner) piece.now) }
 
         // Each failed call is counted, and no other.
         ensures fault { OnErr result (self.new.faults ≡ next_count self.old.faults) }
@@ -111,7 +110,7 @@ fn write_piece<W: Write>(writer: &mut W, piece: &[u8]) -> Result<(), Failed>
     ensures ok { OnOk result
         (WriterAppends (W.contents writer.old) (W.contents writer.new) piece.now) }
     ensures failed { OnErr result
-        (AppendsFront (W.contents writer.old) (W.contents writer.new) piece.now) }
+        (AppendsSome (W.contents writer.old) (W.contents writer.new) piece.now) }
 {
     let mut at = 0;
     for _ in 0..u64::MAX {

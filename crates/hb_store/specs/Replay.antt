@@ -8,7 +8,7 @@ use Rattle.hb_ops.specs.Files.{if_live}
 use Rattle.hb_ops.specs.SetPages.{set_pages}
 use Rattle.hb_ops.specs.Operations.{Change, IsAllowedOn, change_of, reads_of}
 use Rattle.hb_log_codec.specs.Groups.{Logged}
-use Rattle.std.specs.List.{list_any}
+use Rattle.std.specs.List.{list_any, fold}
 
 -- What the file says of itself, and the pages that were touched so far.
 pub record Replayed : Type 0 where
@@ -50,8 +50,7 @@ pub record MayFollow (t : Replayed) (g : Logged) : Type 0 where
   pub allowed : IsAllowedIn (with_page_images t g) g.op
 
 abbrev pub replay : Replayed → List Logged → Replayed
-replay t [] = t
-replay t (g ∷ rest) = replay (after_group t g) rest
+replay t groups = fold after_group t groups
 
 -- each group may be replayed after those before it
 abbrev pub MayReplay : Replayed → List Logged → Type 0

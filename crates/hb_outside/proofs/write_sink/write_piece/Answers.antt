@@ -1,7 +1,7 @@
 use Rattle.std.proofs.Common.{length, take, drop, ◌+◌, ◌-◌, arith, rules}
 use Rattle.std.proofs.lemmas.List.{length-take, length-drop}
 use Rattle.std.specs.Io.KnownBytes.{Appends}
-use Rattle.hb_outside.proofs.KnownLemmas.{AppendsFront-taken, Appends-Keeps, Appends-more}
+use Rattle.hb_outside.proofs.KnownLemmas.{AppendsSome-front, Appends-Keeps, Appends-more}
 use Rattle.hb_outside.proofs.write_sink.write_piece.Goals as goal
 use Rattle.hb_outside.proofs.write_sink.write_piece.Goals.{in-Ok, in-Err}
 
@@ -11,11 +11,11 @@ returns-in-Ok-eq0-clause-failed g c =
     let piece = c.args.piece.now in
     let n = c.in-Ok-eq0.field-0 in
     let wrote : Appends (contents c.loop.writer) (contents c.write.new.self) (take n (take (length piece - c.loop.at) (drop c.loop.at piece))) = search rules in
-    AppendsFront-taken _ _ piece (c.loop.at + n) (Appends-more (contents c.args.writer.now) (contents c.loop.writer) _ piece c.loop.at n c.loop.invariant.written wrote)
+    AppendsSome-front _ _ piece (c.loop.at + n) (Appends-more (contents c.args.writer.now) (contents c.loop.writer) _ piece c.loop.at n c.loop.invariant.written wrote)
 
 pub returns-in-Err-2-clause-failed : goal.returns-in-Err-2-clause-failed
 returns-in-Err-2-clause-failed g c =
-    AppendsFront-taken _ _ c.args.piece.now c.loop.at
+    AppendsSome-front _ _ c.args.piece.now c.loop.at
     (Appends-Keeps _ (g.W.Write.contents c.loop.writer) _ _ c.loop.invariant.written c.in-Err-2.ensures.bytes)
 
 pub loop-preserved : goal.loop-preserved
@@ -34,4 +34,4 @@ loop-preserved g c =
     ]
 
 pub returns-clause-failed : goal.returns-clause-failed
-returns-clause-failed g c = AppendsFront-taken _ _ c.args.piece.now c.loop.at c.loop.invariant.written
+returns-clause-failed g c = AppendsSome-front _ _ c.args.piece.now c.loop.at c.loop.invariant.written
