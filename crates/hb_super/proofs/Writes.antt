@@ -90,7 +90,7 @@ pub framed_wrote : {T E : Type 0} (r : Result T E) (d new : DiskModel) (turn : �
     → WritesThrough (λ b. overwritten b at (open_gate ∷ bytes)) (Torn at (1 + length bytes)) 4 r d new
     → WritesThrough (λ b. overwritten b (slot_offset turn) (open_gate ∷ body_bytes turn meta)) (Torn (slot_offset turn) 41) 4 r d new
 framed_wrote r d new turn meta at bytes at_is bytes_are wrote =
-    subst (λ (n : ℕ). WritesThrough (λ b. overwritten b (slot_offset turn) (open_gate ∷ body_bytes turn meta)) (Torn (slot_offset turn) n) 4 r d new) (frame_long turn meta)
+    subst (λ (n : ℕ). WritesThrough (λ b. overwritten b (slot_offset turn) (open_gate ∷ body_bytes turn meta)) (Torn (slot_offset turn) n) 4 r d new) (let long : 1 + length (body_bytes turn meta) ≡ 41 = omega (arith, frame_long turn meta) in long)
     (subst (λ (place : ℕ). WritesThrough (λ b. overwritten b place (open_gate ∷ body_bytes turn meta)) (Torn place (1 + length (body_bytes turn meta))) 4 r d new) at_is
     (subst (λ (body : List ℕ). WritesThrough (λ b. overwritten b at (open_gate ∷ body)) (Torn at (1 + length body)) 4 r d new) bytes_are wrote))
 
@@ -172,7 +172,7 @@ module _ (d : DiskModel) (is_disk : IsDisk d) (room : 8192 ≤ d.size) (turn : �
     framed_left : (a e c : List ℕ) → d.Image a → Torn place 1 a e → FrameOrNot place body e c → Left c
     framed_left a e c image torn framed =
         let e_long : 8192 ≤ length e = omega (arith, torn.as_long, long a image) in
-        let elsewhere : Torn place 41 e c = subst (λ (n : ℕ). Torn place n e c) (frame_long turn meta) framed.elsewhere in
+        let elsewhere : Torn place 41 e c = subst (λ (n : ℕ). Torn place n e c) (let long : 1 + length (body_bytes turn meta) ≡ 41 = omega (arith, frame_long turn meta) in long) framed.elsewhere in
         let wide : Torn place 41 a c = Torn-twice place 41 a e c (Torn-wider place 1 place 41 a e (omega arith) (omega arith) torn) elsewhere in
         elim (cases_Bool (eqb (get_or c place 0) open_gate)) [
           | inl is_open ↦

@@ -13,7 +13,7 @@ use Rattle.hb_restart.proofs.Facts.Beyond.{beyond_then}
 
 -- a log area is a part of its file
 pub log_inside : (turn at : ℕ) (meta : Meta) → at ≡ log_start turn meta → at + meta.log ≤ file_size meta
-log_inside turn at meta is = let low = log_within turn meta in let front = front_within meta in omega (arith, is, low, front)
+log_inside turn at meta is = let low = log_within turn 1 meta in let front = front_within meta in omega (arith, is, low, front)
 
 -- a run over the file that was opened, seen from before the opening
 pub beyond_driven : (d m e : DiskModel) (meta : Meta) → IfSome d.told (λ b. (turn : ℕ) (said : Meta) → IsNewest b turn said → IsSameLayout said meta) → KeepsBeyondFile d m → KeepsBeyond (file_size meta) m e → KeepsBeyondFile d e

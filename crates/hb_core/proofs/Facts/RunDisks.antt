@@ -44,7 +44,7 @@ written_there m id keeps oldest =
     (low, omega (arith, high, most))
 
 log_inside : (turn : ℕ) (meta : Meta) → log_start turn meta + meta.log ≤ file_size meta
-log_inside turn meta = let low = log_within turn meta in let front = front_within meta in omega (arith, low, front)
+log_inside turn meta = let low = log_within turn 1 meta in let front = front_within meta in omega (arith, low, front)
 
 -- the other log area and the other superblock's place lie in the file
 turn_inside : (turn : ℕ) (meta : Meta) (b c : List ℕ) → TornSwitch turn meta b c → Torn 0 (file_size meta) b c
@@ -62,7 +62,7 @@ file_touched e f old new outcome m disk keeps store used (inr (inl force)) =
 file_touched e f old new outcome m disk keeps store used (inr (inr (inl home))) =
     let there = written_there m home.page keeps (ap oldest_dirty used ∙ home.oldest) in
     Becomes-weaker (Torn (page_offset m.store.meta home.page) PAGE) (ChangesFile m.store) e f
-    (λ b c torn. Torn-wider (page_offset m.store.meta home.page) PAGE 0 (file_size m.store.meta) b c (omega arith) (page_within m.store.meta home.page there.0 there.1) torn)
+    (λ b c torn. Torn-wider (page_offset m.store.meta home.page) PAGE 0 (file_size m.store.meta) b c (omega arith) (page_within home.page m.store.meta there.0 there.1) torn)
     (subst (λ (st : StoreState). Becomes (Torn (page_offset st.meta home.page) PAGE) e f) (sym store) home.writes.wrote.became)
 file_touched e f old new outcome m disk keeps store used (inr (inr (inr turns))) =
     Becomes-weaker (TornSwitch m.store.turn m.store.meta) (ChangesFile m.store) e f (turn_inside m.store.turn m.store.meta)

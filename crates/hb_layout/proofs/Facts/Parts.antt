@@ -2,6 +2,7 @@
 use Rattle.std.proofs.Common.{ℕ, zero, suc, ◌+◌, ◌*◌, ◌-◌, ◌%◌, ◌≤◌, arith}
 use Rattle.hb_layout.specs.Offsets.{file_size, log_start, page_offset, slot_offset}
 use Rattle.hb_layout.specs.declared.meta.Meta.{Meta}
+use Rattle.hb_space.specs.declared.form.TheConstants.{PAGE}
 
 -- the area of either turn
 by_bit : (bit log rest : ℕ) → bit ≤ 1 → 8192 + bit * log + log ≤ 8192 + 2 * log + rest
@@ -9,8 +10,8 @@ by_bit zero log rest low = omega arith
 by_bit (suc zero) log rest low = omega arith
 by_bit (suc (suc n)) log rest low = absurd (omega (arith, low))
 
-pub log_within : (turn : ℕ) (meta : Meta) → log_start turn meta + meta.log ≤ page_offset meta 1
-log_within turn meta = by_bit (turn % 2) meta.log (4096 * (1 - 1)) (omega arith)
+pub log_within : (turn id : ℕ) (meta : Meta) → log_start turn meta + meta.log ≤ page_offset meta id
+log_within turn id meta = by_bit (turn % 2) meta.log (4096 * (id - 1)) (omega arith)
 
 -- a superblock has 41 bytes
 pub super_within : (turn : ℕ) (meta : Meta) → slot_offset turn + 41 ≤ page_offset meta 1
@@ -19,5 +20,5 @@ super_within turn meta = let low : turn % 2 ≤ 1 = omega arith in omega (arith,
 pub front_within : (meta : Meta) → page_offset meta 1 ≤ file_size meta
 front_within meta = omega arith
 
-pub page_within : (meta : Meta) (id : ℕ) → 1 ≤ id → id ≤ meta.pages → page_offset meta id + 4096 ≤ file_size meta
-page_within meta id some most = omega (arith, some, most)
+pub page_within : (id : ℕ) (meta : Meta) → 1 ≤ id → id ≤ meta.pages → page_offset meta id + PAGE ≤ file_size meta
+page_within id meta some most = omega (arith, some, most)

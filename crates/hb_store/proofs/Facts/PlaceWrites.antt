@@ -71,7 +71,7 @@ tore old new at n tells run =
 pub switch_within : (turn : ℕ) (meta : Meta) (b c : List ℕ) → TornSwitch turn meta b c → Torn 0 (page_offset meta 1) b c
 switch_within turn meta b c torn =
     let n = page_offset meta 1 in
-    let area = log_within (next_turn turn) meta in
+    let area = log_within (next_turn turn) 1 meta in
     let place = super_within (next_turn turn) meta in
     Torn-twice 0 n b torn.between c
     (Torn-wider (log_start (next_turn turn) meta) meta.log 0 n b torn.between (omega arith) (omega (arith, area)) torn.area)

@@ -64,7 +64,7 @@ returns-in-Some-clause-run g c =
     let meta = c.args.found.now.meta in
     record {
       beyond = beyond_wider (page_offset meta c.args.id) 4096 (file_size meta) d new
-          (page_within meta c.args.id c.requires.some (let most = c.requires.most in let few = c.requires.renewable.bounded.high in omega (arith, most, few))) c.write_page.ensures.place;
+          (page_within c.args.id meta c.requires.some (let most = c.requires.most in let few = c.requires.renewable.bounded.high in omega (arith, most, few))) c.write_page.ensures.place;
       few = one_tick c.write_page.result d new (g.met.D.Device.is_disk c.args.disk.now) c.write_page.ensures.ticks;
       faults = faults_write d new c.write_page.ensures.faults;
     }
