@@ -3,7 +3,8 @@ use Rattle.hb_frag.specs.declared.pages.Page.{Page}
 use Rattle.hb_sound.specs.Told.{GivesPage}
 use Rattle.hb_sound.proofs.ToldPages.{told_hole, told_so, told_there}
 use Rattle.hb_sound.proofs.page_facts.read_fact.Goals as goal
-use Rattle.hb_sound.specs.Facts.{IsFactOf, Knows}
+use Rattle.hb_sound.specs.Facts.{IsFactOf}
+use Rattle.hb_sound.specs.Links.{Knows}
 
 pub returns-in-Some-clause-fact : goal.returns-in-Some-clause-fact
 returns-in-Some-clause-fact g c =
