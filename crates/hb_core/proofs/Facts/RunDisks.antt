@@ -62,7 +62,7 @@ file_touched e f old new outcome m disk keeps store used (inr (inl force)) =
 file_touched e f old new outcome m disk keeps store used (inr (inr (inl home))) =
     let there = written_there m home.page keeps (ap oldest_dirty used ∙ home.oldest) in
     Becomes-weaker (Torn (page_offset m.store.meta home.page) PAGE) (ChangesFile m.store) e f
-    (λ b c torn. Torn-wider (page_offset m.store.meta home.page) PAGE 0 (file_size m.store.meta) b c (omega arith) (page_within home.page m.store.meta there.0 there.1) torn)
+    (λ b c torn. Torn-wider (page_offset m.store.meta home.page) PAGE 0 (file_size m.store.meta) b c (omega arith) (omega (arith, page_within home.page m.store.meta there.0 there.1)) torn)
     (subst (λ (st : StoreState). Becomes (Torn (page_offset st.meta home.page) PAGE) e f) (sym store) home.writes.wrote.became)
 file_touched e f old new outcome m disk keeps store used (inr (inr (inr turns))) =
     Becomes-weaker (TornSwitch m.store.turn m.store.meta) (ChangesFile m.store) e f (turn_inside m.store.turn m.store.meta)
