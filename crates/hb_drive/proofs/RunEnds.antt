@@ -79,7 +79,7 @@ module _ {T E : Type 0} (d : DiskModel) (c : RunningCore) (m : Machine) (shows :
     (left_is : left ≡ left_numbers m) (more : PutRest early last mid after c left failed answers end) where
   same_rest : rest_text left more.stopped more.order more.settled ≡ rest_text (left_numbers m) (is_some m.stop) (numbers m) (settled_count m)
   same_rest = rest_is m left more.order more.stopped more.settled left_is
-      (more.stop_is ∙ ap (λ (o : Option StopWhy). is_some o) (sym shows.stop)) (more.order_is ∙ sym shows.order) (more.settled_is ∙ same_settled d c m shows)
+      (more.stop_is ∙ ap (λ (o : Option StopWhy). is_some o) (sym shows.stop)) (more.order_is ∙ sym shows.order) (more.settled_is ∙ sym (same_settled d c m shows))
 
   all_put : (before : SinkModel) → Puts (flat_map answer_text answers) early before mid → Puts (run_text answers m) last before after
   all_put before put =
